@@ -1,0 +1,10 @@
+pub mod BytesLemmas
+pub mod Lists
+pub mod Growth
+pub mod Nodes
+pub mod Balance
+pub mod Births
+pub mod Lookup
+pub mod Held
+pub mod Paths
+pub mod Limits

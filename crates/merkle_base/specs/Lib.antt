@@ -1,0 +1,12 @@
+pub mod Tree
+pub mod Forest
+pub mod Heights
+pub mod Laws
+pub mod Held
+pub mod Places
+pub mod Bytes
+pub mod DigestLaws
+pub mod Bagging
+pub mod Hashing
+pub mod Digests
+pub mod Root

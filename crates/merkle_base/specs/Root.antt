@@ -1,0 +1,47 @@
+-- The root of a list.
+use Rattle.std.specs.Prelude.{ℕ, zero, suc, ◌-◌, List, [], ◌∷◌, ◌++◌, Option, Some, None, length, take, drop, fold}
+use Rattle.std.specs.Option.{option_map_or}
+use Rattle.std.specs.Int.{to_be_bytes, w64}
+use Rattle.merkle_base.specs.declared.family.Bagging.{Bagging}
+use Rattle.merkle_base.specs.declared.family.Bagging.TheVariants.{ForwardFold, BackwardFold}
+use Rattle.merkle_base.specs.Bagging.{bagging_byte}
+use Rattle.merkle_base.specs.Hashing.{Hashing}
+use Rattle.merkle_base.specs.Digests.{peak_digests}
+
+-- the last peak, which takes in the others right to left, if there is one
+abbrev pub bag : {D : Type 0} → (D → D → D) → List D → Option D
+bag f [] = None
+bag f (peak ∷ more) = option_map_or (λ b. Some (f peak b)) (bag f more) (Some peak)
+
+-- acc, which takes in the bag of the peaks, if there are any
+abbrev pub with_bag : {D : Type 0} → (D → D → D) → D → List D → D
+with_bag f acc peaks = option_map_or (f acc) (bag f peaks) acc
+
+-- the one digest that stands for the peaks, if there are any: all folded left to right,
+-- or the first max(inactive, 1) so and the others right to left
+abbrev pub folded : {D : Type 0} → (D → D → D) → Bagging → ℕ → List D → Option D
+folded f bagging inactive [] = None
+folded f ForwardFold inactive (first ∷ others) = Some (fold f first others)
+folded f BackwardFold inactive (first ∷ others) =
+    Some (with_bag f (fold f first (take (inactive - 1) others)) (drop (inactive - 1) others))
+
+-- the inactive count, unless it is zero
+abbrev pub inactive_bytes : ℕ → List ℕ
+inactive_bytes zero = []
+inactive_bytes (suc k) = to_be_bytes w64 (suc k)
+
+-- what a root hashes: the family's byte, the bagging's, the leaf count, and where there are peaks the inactive count
+-- unless it is zero, and the folded digest
+abbrev pub root_string : {D : Type 0} → Hashing D → ℕ → Bagging → (leaves inactive : ℕ) → Option D → List ℕ
+root_string h domain bagging leaves inactive None = domain ∷ bagging_byte bagging ∷ to_be_bytes w64 leaves
+root_string h domain bagging leaves inactive (Some d) =
+    domain ∷ bagging_byte bagging ∷ to_be_bytes w64 leaves ++ (inactive_bytes inactive ++ h.bytes d)
+
+-- the root over the digests of peaks, of which the first so many are folded apart, with an inactive count written
+abbrev pub peaks_root : {D : Type 0} → Hashing D → ℕ → Bagging → (leaves to_fold inactive : ℕ) → List D → D
+peaks_root h domain bagging leaves to_fold inactive peaks =
+    h.hash (root_string h domain bagging leaves inactive (folded h.fold bagging to_fold peaks))
+
+-- the root of a list for an inactive count
+abbrev pub list_root : {D : Type 0} → Hashing D → (List ℕ → List ℕ) → ℕ → Bagging → List D → ℕ → D
+list_root h rule domain bagging X k = peaks_root h domain bagging (length X) k k (peak_digests h rule X)

@@ -1,0 +1,113 @@
+//! Families of Merkle structures: a merge rule, and the forest that it grows.
+ghost use Rattle.std.specs.Prelude.{◌≡◌, ◌≢◌, ◌<◌, ◌≤◌, ◌↔◌, ℕ, List, IsTrue, IfSome, IfNone};
+ghost use Rattle.merkle_base.specs.Bagging.{bagging_byte};
+ghost use Rattle.merkle_base.specs.Forest.{size};
+ghost use Rattle.merkle_base.specs.Heights.{IsLawful, parent_heights};
+ghost use Rattle.merkle_base.specs.Places.{IsSize, ArePeaks, HasInner, AreChildren, IsHeightAt};
+
+use crate::listed::Listed;
+use crate::location::Location;
+use crate::position::Position;
+use std::fmt::Debug;
+
+/// A family of append-only Merkle structures.
+///
+/// A family is its merge rule: adding leaf n puts the leaf at the next position, and then the rule says which peaks are
+/// merged, each merge giving one node at the next position. Every call answers what the forest that so grows has.
+/// Positions and node counts are `Position`s, leaf indices and leaf counts are `Location`s.
+pub trait Family: Copy + Debug + Default {
+    /// The byte that each root of the family begins with.
+    const DOMAIN: u8;
+
+    /// The greatest node count.
+    const MAX_NODES: u64;
+
+    /// The greatest leaf count.
+    const MAX_LEAVES: u64;
+
+    /// The peaks with their heights, oldest first.
+    type Peaks: Iterator<Item = (Position<Self>, u32)> + Listed;
+
+    /// The heights of the parents that come with a leaf, in the order of the merges.
+    type ParentHeights: Iterator<Item = u32> + Listed;
+
+    ghost DOMAIN: { ℕ };
+
+    ghost MAX_NODES: { ℕ };
+
+    ghost MAX_LEAVES: { ℕ };
+
+    // from the peak heights with a new leaf, newest first, to the merges: indices from the newest peak, one after another
+    ghost rule: { List ℕ → List ℕ };
+
+    /// The position of the leaf at a location, which is the node count of that many leaves.
+    ///
+    /// The location is at most [`MAX_LEAVES`](Family::MAX_LEAVES).
+    fn location_to_position(location: Location<Self>) -> Position<Self>
+        requires { location ≤ MAX_LEAVES }
+        ensures { result ≡ size rule location };
+
+    /// The location of the leaf at a position, which is the leaf count of that many nodes; `None` exactly where no leaf
+    /// count has that many.
+    ///
+    /// The position is at most [`MAX_NODES`](Family::MAX_NODES).
+    fn position_to_location(position: Position<Self>) -> Option<Location<Self>>
+        requires { position ≤ MAX_NODES }
+        ensures found { IfSome result (λ n. (n ≤ MAX_LEAVES) × (size rule n ≡ position)) }
+        ensures none { IfNone result ((n : ℕ) → size rule n ≢ position) };
+
+    /// Whether some leaf count up to the greatest one has that many nodes.
+    fn is_valid_size(nodes: Position<Self>) -> bool
+        ensures { IsTrue result ↔ IsSize rule MAX_LEAVES nodes };
+
+    /// The peaks of that many nodes with their heights, oldest first.
+    ///
+    /// The node count is a valid size.
+    fn peaks(nodes: Position<Self>) -> Self::Peaks
+        requires { IsSize rule MAX_LEAVES nodes }
+        ensures { ArePeaks rule MAX_LEAVES nodes (Self.Peaks.left result) };
+
+    /// The left and the right child of the node at a position.
+    ///
+    /// There is a merged node of that height at the position.
+    fn children(position: Position<Self>, height: u32) -> (Position<Self>, Position<Self>)
+        requires { HasInner rule MAX_LEAVES position height }
+        ensures { AreChildren rule position result.0 result.1 };
+
+    /// The heights of the parents that come with the leaf at a location, in the order of the merges.
+    ///
+    /// The location is below [`MAX_LEAVES`](Family::MAX_LEAVES).
+    fn parent_heights(leaves: Location<Self>) -> Self::ParentHeights
+        requires { leaves < MAX_LEAVES }
+        ensures { Self.ParentHeights.left result ≡ parent_heights rule leaves };
+
+    /// The height of the node at a position.
+    ///
+    /// The position is below [`MAX_NODES`](Family::MAX_NODES).
+    fn pos_to_height(position: Position<Self>) -> u32
+        requires { position < MAX_NODES }
+        ensures { IsHeightAt rule position result };
+
+    ghost lawful: { IsLawful rule MAX_LEAVES MAX_NODES };
+}
+
+/// How the peaks' digests are folded to one.
+#[derive(Clone, Copy, PartialEq, Eq, Debug)]
+pub enum Bagging {
+    /// All left to right, from the oldest peak on.
+    ForwardFold,
+    /// The inactive ones left to right, and then the others right to left.
+    BackwardFold,
+}
+
+impl Bagging {
+    /// The byte that a root's string has for it.
+    pub fn domain(self) -> u8
+        ensures { result ≡ bagging_byte self }
+    {
+        match self {
+            Bagging::ForwardFold => 0,
+            Bagging::BackwardFold => 1,
+        }
+    }
+}
