@@ -1,0 +1,4 @@
+//! Digests of nodes and roots, and proofs against roots.
+#![tactic(auto)]
+
+pub mod hasher;
