@@ -1,5 +1,5 @@
 -- What a hasher computes.
-use Rattle.std.specs.Prelude.{◌≡◌, ℕ, Bool, List}
+use Rattle.std.specs.Prelude.{◌≡◌, ℕ, Bool, List, Decides}
 
 -- the functions of a hasher and of its digests; `empty` stands where a list has no entry
 pub record Hashing (D : Type 0) : Type 0 where
@@ -16,6 +16,10 @@ pub record Hashing (D : Type 0) : Type 0 where
   -- whether two digests are equal
   pub same : D → D → Bool
   pub empty : D
+
+-- `same` says of any two digests whether they are equal
+abbrev pub TellsApart : {D : Type 0} → Hashing D → Type 0
+TellsApart {D} h = (a b : D) → Decides (h.same a b) (a ≡ b)
 
 -- its digests have these bytes, this equality and this empty one
 pub record IsOver {D : Type 0} (h : Hashing D) (spelled : D → List ℕ) (equal : D → D → Bool) (none : D) : Type 0 where

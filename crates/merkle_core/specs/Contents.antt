@@ -1,0 +1,34 @@
+-- What a `Mem` is to its callers, when it agrees with a list, and what pruning keeps of it.
+use Rattle.std.specs.Prelude.{◌≡◌, ℕ, ◌≤◌, List, length, Bool, Option, None, cond, nat_lt, nat_le, ◌||◌, ◌==◌, slice_get, flat_map}
+use Rattle.std.specs.List.{list_any}
+use Rattle.std.specs.Option.{option_to_list}
+use Rattle.merkle_base.specs.Forest.{size}
+use Rattle.merkle_base.specs.Hashing.{Hashing}
+use Rattle.merkle_base.specs.Digests.{node_digests}
+use Rattle.merkle_base.specs.Places.{peak_positions}
+
+pub record Contents (D : Type 0) : Type 0 where
+  -- the location that it was pruned to
+  pub boundary : ℕ
+  -- the number of nodes, the pruned ones counted
+  pub size : ℕ
+  -- the node at a position, if it is held
+  pub node : ℕ → Option D
+
+-- whether position p is kept when all before location b is pruned: it stands at b or after it, or is a peak of b leaves
+abbrev pub is_kept : (List ℕ → List ℕ) → ℕ → ℕ → Bool
+is_kept rule b p = nat_le (size rule b) p || list_any (λ q. p == q) (peak_positions rule b)
+
+-- it has the leaves of X and holds exactly the kept positions, each with its digest
+pub record Agrees {D : Type 0} (h : Hashing D) (rule : List ℕ → List ℕ) (c : Contents D) (X : List D) : Type 0 where
+  pub sized : c.size ≡ size rule (length X)
+  pub bounded : c.boundary ≤ length X
+  pub holds : (p : ℕ) → c.node p ≡ cond (is_kept rule c.boundary p) (slice_get (node_digests h rule X) p) None
+
+-- pruned to b; at or below the boundary nothing changes
+abbrev pub pruned : {D : Type 0} → (List ℕ → List ℕ) → ℕ → Contents D → Contents D
+pruned rule b c = cond (nat_lt c.boundary b) (record { boundary = b; size = c.size; node = λ p. cond (is_kept rule b p) (c.node p) None }) c
+
+-- the digests held at the peaks of n leaves, oldest first
+abbrev pub held_peaks : {D : Type 0} → (List ℕ → List ℕ) → ℕ → Contents D → List D
+held_peaks rule n c = flat_map (λ p. option_to_list (c.node p)) (peak_positions rule n)

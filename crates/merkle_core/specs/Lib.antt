@@ -1,0 +1,11 @@
+pub mod Contents
+pub mod Recorded
+pub mod Replay
+pub mod Stands
+pub mod Read
+pub mod Collision
+pub mod Needed
+pub mod Completed
+pub mod Shows
+pub mod Based
+pub mod Store

@@ -1,0 +1,166 @@
+//! What holds of structures that agree with a list, and of batches that stand on lists.
+//!
+//! Each function is empty. Its contract is a law of the definitions in `specs/`.
+ghost use Rattle.std.specs.Prelude.{◌≡◌, ℕ, suc, ◌+◌, ◌-◌, [], ◌++◌, ◌==◌, cond, slice_set, take, map, ◌<◌, ◌≤◌, ◌⊎◌, List, ◌∷◌, length, drop, true, Bool, Some, Ok, Err, slice_get, None, Option, false, is_some, nat_eq};
+ghost use Rattle.std.specs.FinMap.{get};
+ghost use Rattle.std.specs.Option.{option_or};
+ghost use Rattle.std.specs.List.{IsDistinct, list_any};
+ghost use Rattle.merkle_base.specs.Tree.{Tree, leaf, join, position, height, IsUnder};
+ghost use Rattle.merkle_base.specs.Forest.{forest, size};
+ghost use Rattle.merkle_base.specs.Hashing.{Hashing, TellsApart};
+ghost use Rattle.merkle_base.specs.Digests.{node_digests, peak_digests};
+ghost use Rattle.merkle_core.specs.Contents.{Contents, Agrees, is_kept, pruned, held_peaks};
+ghost use Rattle.merkle_core.specs.Recorded.{Recorded, Chain, records, after};
+ghost use Rattle.merkle_core.specs.Replay.{laid, all_laid, matched, applied};
+ghost use Rattle.merkle_core.specs.Stands.{StandsOn, last_list, edited, is_touched, IsStep};
+ghost use Rattle.merkle_core.specs.Read.{newest, read_over};
+ghost use Rattle.merkle_core.specs.Shows.{Shows};
+ghost use Rattle.merkle_core.specs.Based.{IsBased};
+ghost use Rattle.merkle_core.specs.Needed.{computed, level, is_computed, passes, total, IsUsed, IsNeeded};
+ghost use Rattle.merkle_core.specs.Completed.{IsCompleted};
+ghost use Rattle.merkle_core.specs.Collision.{Collide};
+
+/// What is kept at a later boundary is kept at an earlier one.
+pub fn keeping()
+    ensures kept { (rule : List ℕ → List ℕ) → (a b p : ℕ) → a ≤ b → size rule a ≤ size rule b → is_kept rule b p ≡ true → is_kept rule a p ≡ true }
+{}
+
+/// Agreement is kept by what a `Mem` does.
+pub fn agreement<D>()
+    ensures replayed { (h : Hashing D) → (rule : List ℕ → List ℕ) → (rs : List (Recorded D)) → (X : List D) → (ls : List (List D)) → (c : Contents D)
+        → StandsOn h rule rs (X ∷ ls) → Agrees h rule c X → Agrees h rule (all_laid rs c) (last_list (X ∷ ls)) }
+    ensures pruned { (h : Hashing D) → (rule : List ℕ → List ℕ) → (b : ℕ) → (X : List D) → (c : Contents D) → b ≤ length X → Agrees h rule c X → Agrees h rule (pruned rule b c) X }
+{}
+
+/// Prune then apply equals apply then prune, whatever the records are.
+pub fn commuting<D>()
+    ensures same { (a b : Contents D) → a.boundary ≡ b.boundary → a.size ≡ b.size → ((p : ℕ) → a.node p ≡ b.node p) → a ≡ b }
+    ensures commutes { (same : D → D → Bool) → (rule : List ℕ → List ℕ) → (n b : ℕ) → (k : Chain D) → (c : Contents D) → c.size ≡ size rule n → b ≤ n
+        → applied same rule n k (pruned rule b c) ≡ elim (applied same rule n k c) [ Ok a ↦ Ok (pruned rule b a) | Err e ↦ Err e ] }
+{}
+
+/// Two lists of one length with the same peak digests are equal, or collide at a node.
+pub fn collision<D>()
+    ensures collides { (h : Hashing D) → (rule : List ℕ → List ℕ) → TellsApart h → (X Y : List D) → length X ≡ length Y → peak_digests h rule X ≡ peak_digests h rule Y → (X ≡ Y) ⊎ Collide h rule X Y }
+{}
+
+// A batch that stands on lists is accepted at one of them, with the length and the peak digests of the `Mem`'s list: the `Mem` then agrees with
+// the last list, or the two lists collide at a node.
+pub fn acceptance<D>()
+    ensures accepted { (h : Hashing D) → (rule : List ℕ → List ℕ) → TellsApart h → (k : Chain D) → (ls : List (List D)) → (c : Contents D) → (X : List D) → (i : ℕ)
+        → StandsOn h rule (records k) ls → Agrees h rule c X → matched h.same c.size (held_peaks rule (length X) c) k ≡ Some i
+        → (Z : List D) × (slice_get ls i ≡ Some Z) × (length X ≡ length Z) × (peak_digests h rule X ≡ peak_digests h rule Z)
+        × (X ≡ Z → Agrees h rule (all_laid (drop i (records k)) c) (last_list ls)) × ((X ≡ Z → ⊥) → Collide h rule X Z) }
+    ensures applied { (h : Hashing D) → (rule : List ℕ → List ℕ) → TellsApart h → (k : Chain D) → (ls : List (List D)) → (c d : Contents D) → (X : List D)
+        → StandsOn h rule (records k) ls → Agrees h rule c X → applied h.same rule (length X) k c ≡ Ok d
+        → Agrees h rule d (last_list ls)
+        ⊎ ((i : ℕ) × (Z : List D) × (slice_get ls i ≡ Some Z) × (length X ≡ length Z) × (peak_digests h rule X ≡ peak_digests h rule Z) × Collide h rule X Z) }
+    ensures accepts { (h : Hashing D) → (rule : List ℕ → List ℕ) → TellsApart h → (k : Chain D) → (ls : List (List D)) → (c : Contents D) → (X : List D) → (i : ℕ)
+        → StandsOn h rule (records k) ls → slice_get ls i ≡ Some X → i ≤ length k.ancestors → Agrees h rule c X → is_some (matched h.same c.size (held_peaks rule (length X) c) k) ≡ true }
+    ensures peaks { (h : Hashing D) → (rule : List ℕ → List ℕ) → (c : Contents D) → (X : List D) → Agrees h rule c X → held_peaks rule (length X) c ≡ peak_digests h rule X }
+{}
+
+/// What is read through the records of a batch that stands on lists, and below them from a base that agrees with one of those lists.
+pub fn reading<D>()
+    ensures newest { (h : Hashing D) → (rule : List ℕ → List ℕ) → (rs : List (Recorded D)) → (X : List D) → (ls : List (List D)) → (p : ℕ) → StandsOn h rule rs (X ∷ ls)
+        → slice_get (node_digests h rule (last_list (X ∷ ls))) p ≡ option_or (newest rs p) (slice_get (node_digests h rule X) p) }
+    ensures right { (h : Hashing D) → (rule : List ℕ → List ℕ) → (rs : List (Recorded D)) → (X : List D) → (ls : List (List D)) → (base : Contents D) → IsBased h rule rs X ls base
+        → (p : ℕ) → (d : D) → read_over rs base p ≡ Some d
+        → slice_get (node_digests h rule (last_list (X ∷ ls))) p ≡ Some d }
+    ensures answered { (h : Hashing D) → (rule : List ℕ → List ℕ) → (rs : List (Recorded D)) → (X : List D) → (ls : List (List D)) → (base : Contents D) → IsBased h rule rs X ls base
+        → (p : ℕ) → is_kept rule base.boundary p ≡ true
+        → read_over rs base p ≡ slice_get (node_digests h rule (last_list (X ∷ ls))) p }
+{}
+
+/// What the digests of an edited list are computed from.
+pub fn computing<D>()
+    ensures made { (h : Hashing D) → (rule : List ℕ → List ℕ) → (Y : List D) → (p : ℕ) → (l r : Tree) → (a b : D) → slice_get (forest rule (length Y)).nodes p ≡ Some (join p l r)
+        → slice_get (node_digests h rule Y) (position l) ≡ Some a → slice_get (node_digests h rule Y) (position r) ≡ Some b → slice_get (node_digests h rule Y) p ≡ Some (h.node p a b) }
+    ensures unchanged { (h : Hashing D) → (rule : List ℕ → List ℕ) → (r : Recorded D) → (X : List D) → (p : ℕ) → (t : Tree) → slice_get (forest rule (length X)).nodes p ≡ Some t
+        → is_touched (get r.overwritten) t ≡ false → slice_get (node_digests h rule (edited rule r X)) p ≡ slice_get (node_digests h rule X) p }
+    ensures used { (rule : List ℕ → List ℕ) → (m : ℕ → Option D) → (b n e : ℕ) → b ≤ n → n ≤ e → ((k : ℕ) → is_some (m (size rule k)) ≡ true → b ≤ k)
+        → (t : Tree) → IsUsed rule m n e t → is_kept rule b (position t) ≡ true }
+{}
+
+/// What the calls of a batch do to its list, n being the number of leaves with those that it appended.
+pub fn editing<D>()
+    ensures length { (rule : List ℕ → List ℕ) → (r : Recorded D) → (X : List D) → (n : ℕ) → r.before ≡ size rule (length X) → length X ≤ n → r.before + length r.appended ≡ size rule n
+        → length (edited rule r X) ≡ n }
+    ensures added { (rule : List ℕ → List ℕ) → (r s : Recorded D) → (X : List D) → (n : ℕ) → (d : D) → (more : List D) → r.before ≡ size rule (length X) → length X ≤ n
+        → r.before + length r.appended ≡ size rule n → size rule n + 1 + length more ≡ size rule (suc n)
+        → s.before ≡ r.before → s.overwritten ≡ r.overwritten → s.appended ≡ r.appended ++ d ∷ more → edited rule s X ≡ edited rule r X ++ d ∷ [] }
+    ensures overwritten { (rule : List ℕ → List ℕ) → (r s : Recorded D) → (X : List D) → (k : ℕ) → (d : D) → r.before ≡ size rule (length X) → k < length X
+        → s.before ≡ r.before → s.appended ≡ r.appended → ((p : ℕ) → get s.overwritten p ≡ cond (p == size rule k) (Some d) (get r.overwritten p)) → edited rule s X ≡ slice_set (edited rule r X) k d }
+    ensures replaced { (rule : List ℕ → List ℕ) → (r s : Recorded D) → (X : List D) → (n k : ℕ) → (d : D) → r.before ≡ size rule (length X) → length X ≤ k → k < n
+        → r.before + length r.appended ≡ size rule n → s.before ≡ r.before → s.overwritten ≡ r.overwritten → s.appended ≡ slice_set r.appended (size rule k - r.before) d
+        → edited rule s X ≡ slice_set (edited rule r X) k d }
+{}
+
+/// What merkleizing makes: s of the pending record r, n leaves in all.
+pub fn completing<D>()
+    ensures step { (h : Hashing D) → (rule : List ℕ → List ℕ) → (r s : Recorded D) → (X : List D) → (n : ℕ) → r.before ≡ size rule (length X) → length X ≤ n
+        → r.before + length r.appended ≡ size rule n → IsCompleted h rule r s X → IsStep h rule s X (edited rule r X) }
+    ensures stands { (h : Hashing D) → (rule : List ℕ → List ℕ) → (rs : List (Recorded D)) → (X : List D) → (ls : List (List D)) → (r : Recorded D) → (Y : List D)
+        → StandsOn h rule rs (X ∷ ls) → IsStep h rule r (last_list (X ∷ ls)) Y → StandsOn h rule (rs ++ r ∷ []) (X ∷ ls ++ Y ∷ []) × (last_list (X ∷ ls ++ Y ∷ []) ≡ Y) }
+    ensures forgets { (h : Hashing D) → (rule : List ℕ → List ℕ) → (rs : List (Recorded D)) → (ls : List (List D)) → (i : ℕ) → (X : List D) → StandsOn h rule rs ls → slice_get ls i ≡ Some X
+        → (more : List (List D)) × StandsOn h rule (drop i rs) (X ∷ more) × (last_list (X ∷ more) ≡ last_list ls) }
+    ensures splits { (h : Hashing D) → (rule : List ℕ → List ℕ) → (rs : List (Recorded D)) → (r : Recorded D) → (X : List D) → (ls : List (List D)) → StandsOn h rule (rs ++ r ∷ []) (X ∷ ls)
+        → (more : List (List D)) × StandsOn h rule rs (X ∷ more) × IsStep h rule r (last_list (X ∷ more)) (last_list (X ∷ ls)) }
+    ensures still { (h : Hashing D) → (rule : List ℕ → List ℕ) → (r : Recorded D) → (X : List D) → r.before ≡ size rule (length X) → r.appended ≡ [] → ((p : ℕ) → get r.overwritten p ≡ None)
+        → r.peaks_before ≡ peak_digests h rule X → r.peaks_after ≡ peak_digests h rule X → IsStep h rule r X X }
+    ensures no_change { (h : Hashing D) → (rule : List ℕ → List ℕ) → (r : Recorded D) → (X Y : List D) → IsStep h rule r X Y → r.appended ≡ [] → ((p : ℕ) → get r.overwritten p ≡ None) → Y ≡ X }
+    ensures needed_right { (h : Hashing D) → (rule : List ℕ → List ℕ) → (rs : List (Recorded D)) → (X : List D) → (ls : List (List D)) → (base : Contents D) → IsBased h rule rs X ls base
+        → (r : Recorded D) → (e : ℕ) → (t : Tree) → (d : D)
+        → IsNeeded rule (get r.overwritten) (length (last_list (X ∷ ls))) e t → read_over rs base (position t) ≡ Some d
+        → slice_get (node_digests h rule (edited rule r (last_list (X ∷ ls)))) (position t) ≡ Some d }
+    ensures none_missing { (h : Hashing D) → (rule : List ℕ → List ℕ) → (rs : List (Recorded D)) → (X : List D) → (ls : List (List D)) → (base : Contents D) → IsBased h rule rs X ls base
+        → (r : Recorded D) → (e : ℕ) → length (last_list (X ∷ ls)) ≤ e
+        → ((k : ℕ) → is_some (get r.overwritten (size rule k)) ≡ true → base.boundary ≤ k) → (t : Tree)
+        → IsNeeded rule (get r.overwritten) (length (last_list (X ∷ ls))) e t → (d : D) × (read_over rs base (position t) ≡ Some d) }
+{}
+
+/// A used node t, read from what the batch has so far (`own`, right wherever it has a digest, and with one for t if t is new or dirty), then from the kept records, then from the base.
+pub fn gathering<D>()
+    ensures right { (h : Hashing D) → (rule : List ℕ → List ℕ) → (rs : List (Recorded D)) → (X : List D) → (ls : List (List D)) → (base : Contents D) → IsBased h rule rs X ls base
+        → (r : Recorded D) → (e : ℕ)
+        → (own : ℕ → Option D) → ((p : ℕ) → (d : D) → own p ≡ Some d → slice_get (node_digests h rule (edited rule r (last_list (X ∷ ls)))) p ≡ Some d)
+        → (t : Tree) → IsUsed rule (get r.overwritten) (length (last_list (X ∷ ls))) e t
+        → ((size rule (length (last_list (X ∷ ls))) ≤ position t) ⊎ (is_touched (get r.overwritten) t ≡ true) → is_some (own (position t)) ≡ true)
+        → (d : D) → option_or (own (position t)) (read_over rs base (position t)) ≡ Some d
+        → slice_get (node_digests h rule (edited rule r (last_list (X ∷ ls)))) (position t) ≡ Some d }
+    ensures missing { (rule : List ℕ → List ℕ) → (m : ℕ → Option D) → (n e : ℕ) → (own : ℕ → Option D) → (t : Tree) → IsUsed rule m n e t
+        → ((size rule n ≤ position t) ⊎ (is_touched m t ≡ true) → is_some (own (position t)) ≡ true) → own (position t) ≡ None → IsNeeded rule m n e t }
+{}
+
+/// How many nodes a batch computes: a list without repetition of their positions is as long, and so are the levels together.
+pub fn counting<D>()
+    ensures listed { (rule : List ℕ → List ℕ) → (m : ℕ → Option D) → (n e : ℕ) → (ps : List ℕ) → IsDistinct nat_eq ps
+        → ((p : ℕ) → list_any (nat_eq p) ps ≡ passes (is_computed rule m n) (slice_get (forest rule e).nodes p)) → length ps ≡ length (computed rule m n e) }
+    ensures levels { (rule : List ℕ → List ℕ) → (m : ℕ → Option D) → (n e k : ℕ) → ((p : ℕ) → (t : Tree) → slice_get (forest rule e).nodes p ≡ Some t → is_computed rule m n t ≡ true → height t < k)
+        → total (λ h. length (level rule m n e h)) k ≡ length (computed rule m n e) }
+{}
+
+/// What a proof of leaves at or after the boundary reads is kept: the peaks, and the children of each node over such a leaf.
+pub fn proving()
+    ensures peaks { (rule : List ℕ → List ℕ) → (b n i : ℕ) → (t : Tree) → b ≤ n → slice_get (forest rule n).peaks i ≡ Some t → is_kept rule b (position t) ≡ true }
+    ensures siblings { (rule : List ℕ → List ℕ) → (b n p q k : ℕ) → (l r : Tree) → b ≤ n → slice_get (forest rule n).nodes p ≡ Some (join p l r) → IsUnder (leaf q k) (join p l r) → b ≤ k
+        → (is_kept rule b (position l) ≡ true) × (is_kept rule b (position r) ≡ true) }
+{}
+
+/// What is shown: by an empty and by an agreeing `Mem`, by a batch, and of the first entries of a list.
+pub fn showing<D>()
+    ensures empty { (h : Hashing D) → (rule : List ℕ → List ℕ) → Agrees h rule (record { boundary = 0; size = 0; node = λ p. None }) [] }
+    ensures agrees { (h : Hashing D) → (rule : List ℕ → List ℕ) → (c : Contents D) → (X : List D) → Agrees h rule c X → Shows h rule c.size c.node X }
+    ensures batch { (h : Hashing D) → (rule : List ℕ → List ℕ) → (k : Chain D) → (X : List D) → (ls : List (List D)) → StandsOn h rule (records k) (X ∷ ls)
+        → Shows h rule (after k.own) (newest (records k)) (last_list (X ∷ ls)) }
+    ensures taken { (h : Hashing D) → (rule : List ℕ → List ℕ) → (X : List D) → (n p : ℕ) → (t : Tree) → n ≤ length X → slice_get (forest rule n).nodes p ≡ Some t
+        → slice_get (node_digests h rule (take n X)) p ≡ slice_get (node_digests h rule X) p }
+{}
+
+/// The dirty nodes are those over an overwritten leaf, and what is used is new, dirty or needed.
+pub fn marking<D>()
+    ensures over { (m : ℕ → Option D) → (t : Tree) → (q k : ℕ) → IsUnder (leaf q k) t → is_some (m q) ≡ true → is_touched m t ≡ true }
+    ensures under { (m : ℕ → Option D) → (t : Tree) → is_touched m t ≡ true → (q k : ℕ) × IsUnder (leaf q k) t × (is_some (m q) ≡ true) }
+    ensures sources { (rule : List ℕ → List ℕ) → (m : ℕ → Option D) → (n e : ℕ) → (t : Tree) → IsUsed rule m n e t
+        → (size rule n ≤ position t) ⊎ ((is_touched m t ≡ true) ⊎ IsNeeded rule m n e t) }
+{}

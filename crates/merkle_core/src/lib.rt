@@ -1,0 +1,4 @@
+//! Merkle structures in memory, changed by speculative batches.
+#![tactic(auto)]
+
+pub mod laws;
