@@ -8,3 +8,5 @@ pub mod Lookup
 pub mod Held
 pub mod Paths
 pub mod Limits
+pub mod Parents
+pub mod PeakLists

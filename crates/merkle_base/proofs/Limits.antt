@@ -28,3 +28,7 @@ lawful_height rule max_leaves max_nodes law n p t l e =
 pub lawful_position : (rule : List ℕ → List ℕ) (max_leaves max_nodes : ℕ) → IsLawful rule max_leaves max_nodes → (n p : ℕ) (t : Tree) → n ≤ max_leaves → slice_get (forest rule n).nodes p ≡ Some t → p < max_nodes
 lawful_position rule max_leaves max_nodes law n p t l e =
     omega (arith, get_below (forest rule n).nodes p t e, size_le rule n max_leaves l, law.full)
+
+-- the greatest leaf count is below 2 ^ 63
+pub lawful_leaves : (rule : List ℕ → List ℕ) (max_leaves max_nodes : ℕ) → IsLawful rule max_leaves max_nodes → max_leaves < 2 ^ 63
+lawful_leaves rule max_leaves max_nodes law = omega (arith, size_large rule max_leaves, law.full, law.small)

@@ -1,6 +1,7 @@
 //! Digests, and the plain hash functions that give them.
 ghost use Rattle.std.specs.Prelude.{◌≡◌, ◌+◌, ◌^◌, ◌<◌, ◌≤◌, ◌↔◌, ◌==◌, ◌++◌, ◌∷◌, [], ℕ, List, IsTrue, MatchOption, length, fold, bit_xor, replicate};
 ghost use Rattle.std.proofs.Common.{rules, ap};
+ghost use Rattle.std.specs.Mem.{type_size};
 ghost use Rattle.merkle_base.specs.Bytes.{joined_parts};
 ghost use Rattle.merkle_base.specs.DigestLaws.{same_sized, bytes_eq, xor_of, length-sha256, no_bytes, length-no_bytes};
 ghost use Rattle.sha2.specs.Sha256.{sha256};
@@ -36,6 +37,8 @@ pub trait Digest: Copy + Eq + Debug {
     /// The digest with these bytes, or `None` where there is none.
     fn from_bytes(spelling: &[u8]) -> Option<Self>
         ensures { MatchOption result (¬ Spells spelling.now) (λ d. bytes d ≡ spelling.now) };
+
+    ghost small: { type_size Self.row < 2 ^ 32 };
 
     ghost nonempty: { 1 ≤ SIZE };
 
@@ -98,6 +101,8 @@ impl Digest for Sha256Digest {
             Err(_) => None,
         }
     }
+
+    ghost small = { Prim.search rules };
 
     ghost nonempty = { Prim.search rules };
 
@@ -165,6 +170,8 @@ impl Digest for Xor8Digest {
             _ => None,
         }
     }
+
+    ghost small = { Prim.search rules };
 
     ghost nonempty = { Prim.search rules };
 

@@ -17,3 +17,4 @@ pub mod Applied
 pub mod Children
 pub mod Bases
 pub mod Stored
+pub mod TruthFacts

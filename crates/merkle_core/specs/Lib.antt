@@ -9,3 +9,8 @@ pub mod Completed
 pub mod Shows
 pub mod Based
 pub mod Store
+pub mod Pending
+pub mod Whole
+pub mod Truth
+pub mod Gaps
+pub mod HeldPeaks

@@ -1,0 +1,9 @@
+-- Why a node wasn't computed, as the error that a caller sees.
+use Rattle.merkle_base.specs.declared.error.Error.{Error}
+use Rattle.merkle_base.specs.declared.error.Error.TheVariants as error
+use Rattle.merkle_core.specs.declared.merkleize.Gap.{Gap}
+use Rattle.merkle_core.specs.declared.merkleize.Gap.TheVariants.{Missing, OutOfMemory}
+
+abbrev pub error_of : {F : Type 0} → Gap F → Error F
+error_of (Missing position) = error.MissingNode position
+error_of OutOfMemory = error.OutOfMemory

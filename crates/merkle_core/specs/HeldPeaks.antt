@@ -1,0 +1,8 @@
+-- What is held at a list of positions.
+use Rattle.std.specs.Prelude.{ℕ, List, flat_map}
+use Rattle.std.specs.Option.{option_to_list}
+use Rattle.merkle_core.specs.Contents.{Contents}
+
+-- the digests held at these positions, in their order
+abbrev pub held_at : {D : Type 0} → Contents D → List ℕ → List D
+held_at c ps = flat_map (λ p. option_to_list (c.node p)) ps

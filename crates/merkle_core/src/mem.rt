@@ -1,0 +1,159 @@
+//! Merkle structures in memory.
+ghost use Rattle.std.specs.Prelude.{◌≡◌, ◌<◌, ◌≤◌, ℕ, [], take, length, OnErr, IfOk, IsOkUnless};
+ghost use Rattle.merkle_base.specs.Places.{ArePeaks};
+ghost use Rattle.merkle_base.specs.Forest.{size};
+ghost use Rattle.merkle_base.specs.Root.{peaks_root};
+ghost use Rattle.merkle_core.specs.Store.{node, contents, whole_store};
+ghost use Rattle.merkle_core.specs.Contents.{held_peaks};
+
+use crate::batch::{MerkleizedBatch, UnmerkleizedBatch};
+use merkle_base::digest::Digest;
+use merkle_base::error::Error;
+use merkle_base::family::Family;
+use merkle_base::location::Location;
+use merkle_base::position::Position;
+use merkle_proof::hasher::Hasher;
+use std::alloc::Global;
+use std::marker::Model;
+
+/// The greatest number of peaks of a family's structure.
+const MAX_PEAKS: usize = 64;
+
+// The first so many digests.
+fn front<D>(digests: &[D; MAX_PEAKS], count: usize) -> &[D]
+    requires { count ≤ MAX_PEAKS }
+    ensures { result.now ≡ take count digests.now }
+{
+    &digests[..count]
+}
+
+/// A Merkle structure in memory: every node of it, changed by batches.
+///
+/// To a contract it is its pruning boundary, its node count and the nodes that it holds.
+#[derive(Debug, Drop)]
+pub struct Mem<F: Family, D: Digest> {
+    // the nodes by position
+    nodes: Vec<D>,
+    leaves: Location<F>,
+}
+
+impl<F: Family, D: Digest> Model for Mem<F, D> {
+    ghost use Rattle.std.specs.Prelude.{length};
+    ghost use Rattle.merkle_core.specs.Store.{Store, store_code, whole_store};
+
+    ghost Value = { Store D };
+
+    ghost coded = { store_code D.code };
+
+    ghost use Rattle.merkle_core.specs.Whole.{IsCounted};
+
+    ghost view = { λ m. whole_store m.nodes.items (length m.nodes.items) };
+
+    ghost invariant = { λ m. IsCounted F.rule F.MAX_LEAVES m.leaves (length m.nodes.items) };
+}
+
+impl<F: Family, D: Digest> Mem<F, D> {
+    /// The structure of no leaves.
+    pub fn new(alloc: Global) -> Self
+        ensures { result ≡ whole_store [] 0 }
+    {
+        Mem {
+            nodes: Vec::new(alloc),
+            leaves: Location::new(0),
+        }
+    }
+
+    /// The number of nodes.
+    pub fn size(&self) -> Position<F>
+        ensures { result ≡ self.now.size }
+    {
+        Position::from(self.nodes.len())
+    }
+
+    /// The number of leaves.
+    pub fn leaves(&self) -> Location<F>
+        ensures sized { size F.rule result ≡ self.now.size }
+        ensures bounded { result ≤ F.MAX_LEAVES }
+    {
+        self.leaves
+    }
+
+    /// The digest of the node at a position, or `None` where none is held.
+    pub fn get_node(&self, position: Position<F>) -> Option<D>
+        ensures { result ≡ node self.now position }
+    {
+        self.nodes.get(position.as_u64() as usize).copied()
+    }
+
+    /// The peaks with their heights, oldest first.
+    pub fn peak_iterator(&self) -> F::Peaks
+        ensures { ArePeaks F.rule F.MAX_LEAVES self.now.size (F.Peaks.left result) }
+    {
+        F::peaks(Position::from(self.nodes.len()))
+    }
+
+    // Writes the digests of the peaks, oldest first, and answers their number.
+    fn write_peaks(&self, digests: &mut [D; MAX_PEAKS]) -> usize
+        ensures few { result ≤ MAX_PEAKS }
+        ensures held { (n : ℕ) → n ≤ F.MAX_LEAVES → size F.rule n ≡ self.now.size → take result digests.new ≡ held_peaks F.rule n (contents self.now) }
+    {
+        let _leaves = self.leaves();
+        let mut count = 0;
+        for (position, _) in self.peak_iterator() {
+            if let Some(digest) = self.get_node(position) {
+                digests[count] = digest;
+                count += 1;
+            }
+        }
+        count
+    }
+
+    /// The root for a number of inactive peaks, which are the oldest ones.
+    ///
+    /// Refused with `InvalidInactivePeaks` exactly where that number exceeds the number of peaks.
+    pub fn root<H: Hasher<F, Digest = D>>(&self, hasher: &H, inactive: usize) -> Result<D, Error<F>>
+        ensures ok { (n : ℕ) → n ≤ F.MAX_LEAVES → size F.rule n ≡ self.now.size → let peaks = held_peaks F.rule n (contents self.now) in inactive ≤ length peaks → result ≡ Ok (peaks_root (H.hashing hasher.now) F.DOMAIN (H.bagging_of hasher.now) n inactive inactive peaks) }
+        ensures err { (n : ℕ) → n ≤ F.MAX_LEAVES → size F.rule n ≡ self.now.size → let peaks = held_peaks F.rule n (contents self.now) in length peaks < inactive → result ≡ Err (Error.InvalidInactivePeaks inactive (length peaks)) }
+    {
+        let mut digests = [D::EMPTY; MAX_PEAKS];
+        let count = self.write_peaks(&mut digests);
+        hasher.root(self.leaves(), inactive, front(&digests, count))
+    }
+
+    /// A batch without changes, forked from this structure.
+    ///
+    /// Refused with `OutOfMemory`.
+    pub fn new_batch(&self) -> Result<UnmerkleizedBatch<F, D>, Error<F>>
+        ensures forked { IfOk result (λ b. (n : ℕ) → n ≤ F.MAX_LEAVES → size F.rule n ≡ self.now.size → b ≡ record { leaves_before = n; peaks_before = held_peaks F.rule n (contents self.now); added = [] }) }
+        ensures refused { IsOkUnless result Error.OutOfMemory }
+    {
+        let mut digests = [D::EMPTY; MAX_PEAKS];
+        let count = self.write_peaks(&mut digests);
+        Ok(UnmerkleizedBatch::forked(
+            *self.nodes.allocator(),
+            self.leaves,
+            front(&digests, count),
+        )?)
+    }
+
+    /// Applies a batch.
+    ///
+    /// Accepted exactly where the size and the peak digests are those from which the batch was forked. Refused else with
+    /// `StaleBatch` of the size from which the batch was forked and the size that is found, and then with `OutOfMemory`;
+    /// nothing is changed by a refusal.
+    pub fn apply_batch(&mut self, batch: &MerkleizedBatch<F, D>) -> Result<(), Error<F>>
+        ensures unchanged { OnErr result (self.new ≡ self.old) }
+    {
+        let mut digests = [D::EMPTY; MAX_PEAKS];
+        let count = self.write_peaks(&mut digests);
+        if !batch.begins_at(self.size(), front(&digests, count)) {
+            return Err(Error::StaleBatch {
+                expected: batch.size_before,
+                actual: self.size(),
+            });
+        }
+        self.nodes.extend_from_slice(&batch.appended)?;
+        self.leaves = batch.leaves;
+        Ok(())
+    }
+}
