@@ -1,0 +1,4 @@
+pub mod Digits
+pub mod MountainRange
+pub mod Existence
+pub mod Perfect
