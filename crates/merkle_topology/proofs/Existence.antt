@@ -10,7 +10,8 @@ use Rattle.merkle_base.proofs.Nodes.{node_stays, leaf_here, size_le, size_lt}
 use Rattle.merkle_base.proofs.Balance.{balanced_count, node_balanced}
 use Rattle.merkle_base.proofs.Births.{forest_born}
 use Rattle.merkle_base.proofs.Lookup.{get_append_add, index_map}
-use Rattle.merkle_topology.proofs.MountainRange.{mmr_equal, mmr_parents, mmr_born, pow_split}
+use Rattle.merkle_topology.proofs.MountainRange.{mmr_equal, mmr_parents, mmr_born}
+use Rattle.merkle_topology.specs.RangeLawful.{pow_split}
 
 get_exists : (ts : List Tree) (j : ℕ) → j < length ts → (t : Tree) × (slice_get ts j ≡ Some t)
 get_exists [] j l = absurd (omega arith)

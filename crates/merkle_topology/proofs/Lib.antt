@@ -2,3 +2,4 @@ pub mod Digits
 pub mod MountainRange
 pub mod Existence
 pub mod Perfect
+pub mod LeafCounts

@@ -1,5 +1,5 @@
 -- The trees of a Mountain Range, oldest first, are each the highest that the nodes left hold.
-use Rattle.std.proofs.Common.{◌≡◌, ℕ, zero, suc, ◌+◌, ◌*◌, ◌^◌, ◌-◌, ◌<◌, ◌≤◌, List, [], ◌∷◌, ◌++◌, map, reverse, append_assoc, append-nil, arith, refl, sym, ap, inl, inr, ◌∙◌, ◌⊎◌, pow-suc, pow_pos, pow_mono, leb, cond, subst}
+use Rattle.std.proofs.Common.{◌≡◌, ◌≢◌, ℕ, zero, suc, ◌+◌, ◌*◌, ◌^◌, ◌-◌, ◌%◌, ◌<◌, ◌≤◌, List, [], ◌∷◌, ◌++◌, map, reverse, append_assoc, append-nil, arith, refl, sym, ap, inl, inr, ◌∙◌, ◌⊎◌, pow-suc, pow_pos, pow_mono, leb, cond, subst}
 use Rattle.std.proofs.lemmas.Bool.Decides.{leb_tells}
 use Rattle.std.proofs.lemmas.List.{map-append, reverse-append}
 use Rattle.merkle_base.specs.Tree.{Tree, position, height}
@@ -9,7 +9,8 @@ use Rattle.merkle_base.proofs.Balance.{heights_forest}
 use Rattle.merkle_base.proofs.Limits.{log_below}
 use Rattle.merkle_topology.specs.Mmr.{carries, AscendsFrom, Stacked}
 use Rattle.merkle_topology.specs.Perfect.{tallest, first_trees, trees_from}
-use Rattle.merkle_topology.proofs.MountainRange.{mmr_stacked, mmr_ascends}
+use Rattle.merkle_topology.proofs.MountainRange.{mmr_stacked}
+use Rattle.merkle_topology.specs.RangeLawful.{mmr_ascends}
 
 pub tallest_is : (k h nodes : ℕ) → h ≤ k → 2 ^ suc h ≤ nodes + 1 → nodes + 1 < 2 ^ suc (suc h) → tallest k nodes ≡ h
 unfolding tallest
@@ -88,3 +89,36 @@ trees_forest n =
     let none : size carries n ≡ size carries n + 0 = omega arith in
     ap (trees_from 0) none ∙ trees_stacked 0 (size carries n) 0 (forest carries n).peaks (mmr_stacked n) up (omega arith)
     ∙ ap (λ (xs : List (ℕ × ℕ)). map placed (peaks_of carries n) ++ xs) (trees_none (size carries n)) ∙ append-nil (map placed (peaks_of carries n))
+
+-- twice half the power, in 64 bits
+abbrev pub doubled : ℕ → ℕ
+doubled exponent = 2 * 2 ^ (exponent - 1) % 18446744073709551616
+
+-- What the first tree is like where a power of two is at most the nodes and one more, and its double is not.
+pub record IsFirst (next left exponent : ℕ) : Type 0 where
+  pub some : 1 ≤ exponent
+  pub nodes : 2 ≤ doubled exponent
+  pub fits : doubled exponent ≤ left + 1
+  pub first : trees_from next left ≡ (next + (doubled exponent - 1) - 1, exponent - 1) ∷ trees_from (next + (doubled exponent - 1)) (left - (doubled exponent - 1))
+
+pub first_tree : (next left exponent : ℕ) → left ≢ 0 → left ≤ 9223372036854775807 → 2 ^ exponent ≤ left + 1 → left + 1 < 2 * 2 ^ exponent → IsFirst next left exponent
+first_tree next left zero some small low high = absurd (omega arith)
+first_tree next left (suc h) some small low high =
+    let p : 2 ^ suc h ≡ 2 ^ h * 2 = pow-suc 2 h in
+    let q : 2 ^ suc (suc h) ≡ 2 ^ suc h * 2 = pow-suc 2 (suc h) in
+    let big : 0 < 2 ^ h = pow_pos h in
+    let z : suc h - 1 ≡ h = omega arith in
+    let w : doubled (suc h) ≡ 2 ^ suc h = rw z (omega arith) in
+    let a : next + 2 ^ suc h - 2 ≡ next + (doubled (suc h) - 1) - 1 = omega (arith, w) in
+    let b : next + 2 ^ suc h - 1 ≡ next + (doubled (suc h) - 1) = omega (arith, w) in
+    let c : left + 1 - 2 ^ suc h ≡ left - (doubled (suc h) - 1) = omega (arith, w) in
+    record {
+      some = omega arith;
+      nodes = omega (arith, w);
+      fits = omega (arith, w);
+      first = trees_first next left h low (omega arith)
+      ∙ ap (λ (x : ℕ). (x, h) ∷ trees_from (next + 2 ^ suc h - 1) (left + 1 - 2 ^ suc h)) a
+      ∙ ap (λ (x : ℕ). (next + (doubled (suc h) - 1) - 1, x) ∷ trees_from (next + 2 ^ suc h - 1) (left + 1 - 2 ^ suc h)) (sym z)
+      ∙ ap (λ (x : ℕ). (next + (doubled (suc h) - 1) - 1, suc h - 1) ∷ trees_from x (left + 1 - 2 ^ suc h)) b
+      ∙ ap (λ (x : ℕ). (next + (doubled (suc h) - 1) - 1, suc h - 1) ∷ trees_from (next + (doubled (suc h) - 1)) x) c;
+    }

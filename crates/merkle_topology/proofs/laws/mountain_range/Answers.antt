@@ -7,7 +7,8 @@ use Rattle.merkle_base.proofs.Nodes.{node_anywhere}
 use Rattle.merkle_base.proofs.Balance.{node_balanced, balanced_count}
 use Rattle.merkle_topology.proofs.Digits.{ends_trailing}
 use Rattle.merkle_topology.proofs.Existence.{mmr_exists}
-use Rattle.merkle_topology.proofs.MountainRange.{mmr_lawful, mmr_size, mmr_parents, mmr_peak_count, mmr_ascends, mmr_children, mmr_position, mmr_born, mmr_equal}
+use Rattle.merkle_topology.specs.RangeLawful.{mmr_lawful, mmr_size, mmr_peak_count, mmr_ascends}
+use Rattle.merkle_topology.proofs.MountainRange.{mmr_parents, mmr_children, mmr_position, mmr_born, mmr_equal}
 use Rattle.merkle_topology.proofs.laws.mountain_range.Goals as goal
 
 pub returns : goal.returns
