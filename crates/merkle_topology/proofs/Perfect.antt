@@ -101,7 +101,7 @@ pub record IsFirst (next left exponent : ℕ) : Type 0 where
   pub fits : doubled exponent ≤ left + 1
   pub first : trees_from next left ≡ (next + (doubled exponent - 1) - 1, exponent - 1) ∷ trees_from (next + (doubled exponent - 1)) (left - (doubled exponent - 1))
 
-pub first_tree : (next left exponent : ℕ) → left ≢ 0 → left ≤ 9223372036854775807 → 2 ^ exponent ≤ left + 1 → left + 1 < 2 * 2 ^ exponent → IsFirst next left exponent
+pub first_tree : (next left exponent : ℕ) → left ≢ 0 → next + left < 2 ^ 63 → 2 ^ exponent ≤ left + 1 → left + 1 < 2 * 2 ^ exponent → IsFirst next left exponent
 first_tree next left zero some small low high = absurd (omega arith)
 first_tree next left (suc h) some small low high =
     let p : 2 ^ suc h ≡ 2 ^ h * 2 = pow-suc 2 h in

@@ -2,7 +2,7 @@
 //!
 //! So each peak is higher than the newer ones, and n leaves have a peak for each binary one of n. A node comes with the
 //! last leaf under it, right after its right child.
-ghost use Rattle.std.specs.Prelude.{◌≡◌, ◌≢◌, ◌+◌, ◌*◌, ◌<◌, ◌≤◌, ◌↔◌, ℕ, IsTrue, IfSome, IfNone, []};
+ghost use Rattle.std.specs.Prelude.{◌≡◌, ◌≢◌, ◌+◌, ◌^◌, ◌<◌, ◌≤◌, ◌↔◌, ℕ, IsTrue, IfSome, IfNone, List, []};
 ghost use Rattle.std.specs.Iterator.{YieldsFirst, item_count};
 ghost use Rattle.std.specs.List.{range_with_len};
 ghost use Rattle.merkle_base.specs.Forest.{size};
@@ -17,6 +17,7 @@ use merkle_base::family;
 use merkle_base::listed::Listed;
 use merkle_base::location;
 use merkle_base::position;
+use std::marker::Model;
 
 /// The greatest node count.
 const MAX_NODES: u64 = 9223372036854775807;
@@ -44,7 +45,13 @@ pub struct PeakIterator {
     next: u64,
     // the nodes from there on
     left: u64,
-    ghost bounded: { next + left ≤ 9223372036854775807 },
+    ghost bounded: { next + left < 2 ^ 63 },
+}
+
+impl Model for PeakIterator {
+    ghost Value = { List (ℕ × ℕ) };
+
+    ghost view = { λ s. trees_from s.next s.left };
 }
 
 impl PeakIterator {
@@ -52,8 +59,8 @@ impl PeakIterator {
     ///
     /// The node count is a valid size.
     pub fn new(nodes: Position) -> Self
-        requires { IsSize carries 4611686018427387904 nodes }
-        ensures { ArePeaks carries 4611686018427387904 nodes (trees_from result.next result.left) }
+        requires { IsSize carries MAX_LEAVES nodes }
+        ensures { ArePeaks carries MAX_LEAVES nodes result }
     {
         PeakIterator {
             next: 0,
@@ -63,7 +70,7 @@ impl PeakIterator {
 }
 
 impl Default for PeakIterator {
-    ghost is_default = { λ s. trees_from s.next s.left ≡ [] };
+    ghost is_default = { λ s. s ≡ [] };
 
     /// No peaks.
     fn default() -> Self {
@@ -74,9 +81,9 @@ impl Default for PeakIterator {
 impl Iterator for PeakIterator {
     type Item = (Position, u32);
 
-    ghost next_gives = { YieldsFirst (λ s. trees_from s.next s.left) };
+    ghost next_gives = { YieldsFirst (λ s. s) };
 
-    ghost remaining = { item_count (λ s. trees_from s.next s.left) };
+    ghost remaining = { item_count (λ s. s) };
 
     fn next(&mut self) -> Option<(Position, u32)> {
         if self.left == 0 {
@@ -91,7 +98,7 @@ impl Iterator for PeakIterator {
 }
 
 impl Listed for PeakIterator {
-    ghost left = { λ s. trees_from s.next s.left };
+    ghost left = { λ s. s };
 
     ghost may_go = { λ _. tt };
 
@@ -108,12 +115,18 @@ pub struct ParentHeights {
     ghost bounded: { next + left ≤ 65 },
 }
 
+impl Model for ParentHeights {
+    ghost Value = { List ℕ };
+
+    ghost view = { λ s. range_with_len s.next s.left };
+}
+
 impl Iterator for ParentHeights {
     type Item = u32;
 
-    ghost next_gives = { YieldsFirst (λ s. range_with_len s.next s.left) };
+    ghost next_gives = { YieldsFirst (λ s. s) };
 
-    ghost remaining = { item_count (λ s. range_with_len s.next s.left) };
+    ghost remaining = { item_count (λ s. s) };
 
     fn next(&mut self) -> Option<u32> {
         if self.left == 0 {
@@ -127,7 +140,7 @@ impl Iterator for ParentHeights {
 }
 
 impl Listed for ParentHeights {
-    ghost left = { λ s. range_with_len s.next s.left };
+    ghost left = { λ s. s };
 
     ghost may_go = { λ _. tt };
 
@@ -138,7 +151,7 @@ impl Listed for ParentHeights {
 
 /// The node count of that many leaves.
 fn node_count(leaves: u64) -> u64
-    requires { leaves ≤ 4611686018427387904 }
+    requires { leaves ≤ MAX_LEAVES }
     ensures { result ≡ size carries leaves }
 {
     2 * leaves - u64::from(leaves.count_ones())
@@ -146,8 +159,8 @@ fn node_count(leaves: u64) -> u64
 
 /// The greatest leaf count that has no more than so many nodes.
 fn leaf_count_within(nodes: u64) -> u64
-    requires { nodes ≤ 9223372036854775807 }
-    ensures limit { result ≤ 4611686018427387904 }
+    requires { nodes ≤ MAX_NODES }
+    ensures limit { result ≤ MAX_LEAVES }
     ensures within { size carries result ≤ nodes }
     ensures greatest { nodes < size carries (result + 1) }
 {
@@ -182,15 +195,15 @@ impl family::Family for Family {
     ghost rule = { carries };
 
     fn location_to_position(location: Location) -> Position
-        requires { location ≤ 4611686018427387904 }
+        requires { location ≤ MAX_LEAVES }
         ensures { result ≡ size carries location }
     {
         Position::new(node_count(location.as_u64()))
     }
 
     fn position_to_location(position: Position) -> Option<Location>
-        requires { position ≤ 9223372036854775807 }
-        ensures found { IfSome result (λ n. (n ≤ 4611686018427387904) × (size carries n ≡ position)) }
+        requires { position ≤ MAX_NODES }
+        ensures found { IfSome result (λ n. (n ≤ MAX_LEAVES) × (size carries n ≡ position)) }
         ensures none { IfNone result ((n : ℕ) → size carries n ≢ position) }
     {
         let leaves = leaf_count_within(position.as_u64());
@@ -202,29 +215,29 @@ impl family::Family for Family {
     }
 
     fn is_valid_size(nodes: Position) -> bool
-        ensures { IsTrue result ↔ IsSize carries 4611686018427387904 nodes }
+        ensures { IsTrue result ↔ IsSize carries MAX_LEAVES nodes }
     {
         let nodes = nodes.as_u64();
         nodes <= MAX_NODES && node_count(leaf_count_within(nodes)) == nodes
     }
 
     fn peaks(nodes: Position) -> PeakIterator
-        requires { IsSize carries 4611686018427387904 nodes }
-        ensures { ArePeaks carries 4611686018427387904 nodes (trees_from result.next result.left) }
+        requires { IsSize carries MAX_LEAVES nodes }
+        ensures { ArePeaks carries MAX_LEAVES nodes result }
     {
         PeakIterator::new(nodes)
     }
 
     fn children(position: Position, height: u32) -> (Position, Position)
-        requires { HasInner carries 4611686018427387904 position height }
+        requires { HasInner carries MAX_LEAVES position height }
         ensures { AreChildren carries position result.0 result.1 }
     {
         (position - (1 << height), position - 1)
     }
 
     fn parent_heights(leaves: Location) -> ParentHeights
-        requires { leaves < 4611686018427387904 }
-        ensures { range_with_len result.next result.left ≡ parent_heights carries leaves }
+        requires { leaves < MAX_LEAVES }
+        ensures { result ≡ parent_heights carries leaves }
     {
         ParentHeights {
             next: 1,
@@ -233,7 +246,7 @@ impl family::Family for Family {
     }
 
     fn pos_to_height(position: Position) -> u32
-        requires { position < 9223372036854775807 }
+        requires { position < MAX_NODES }
         ensures { IsHeightAt carries position result }
     {
         let nodes = position.as_u64();
