@@ -44,7 +44,7 @@ mmr_height_below n p l a b =
     let low : t.0 < 63 = log_below t.0 63 (n + 1) (omega (arith, t.2.1)) (omega arith) in (
       omega arith,
       λ w x e. sym (height_at carries (suc n) (mmr_equal (suc n)) n k w x (omega arith) (omega arith) (rw at e)
-      ∙ ap (λ (hs : List ℕ). slice_index (0 ∷ hs) k) t.1 ∙ get_or-range_with_len 0 (suc t.0) k 0 below ∙ omega arith),
+          ∙ ap (λ (hs : List ℕ). slice_index (0 ∷ hs) k) t.1 ∙ get_or-range_with_len 0 (suc t.0) k 0 below ∙ omega arith),
     )
 
 -- how far a node of the Mountain Range stands after the leaf with which it comes is its height, and it is below 63

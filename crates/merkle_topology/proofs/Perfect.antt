@@ -75,10 +75,10 @@ trees_stacked k s m (t ∷ ts) st a l =
     let next : r + 2 ^ suc h - 1 ≡ s = omega (arith, st.2.1) in
     let left : more + 1 - 2 ^ suc h ≡ m = omega arith in
     let step : trees_from r more ≡ placed t ∷ trees_from s m =
-        first ∙ ap (λ (p : ℕ). (p, h) ∷ trees_from (r + 2 ^ suc h - 1) (more + 1 - 2 ^ suc h)) at
-        ∙ ap (λ (q : ℕ). placed t ∷ trees_from q (more + 1 - 2 ^ suc h)) next ∙ ap (λ (q : ℕ). placed t ∷ trees_from s q) left in
+    first ∙ ap (λ (p : ℕ). (p, h) ∷ trees_from (r + 2 ^ suc h - 1) (more + 1 - 2 ^ suc h)) at
+    ∙ ap (λ (q : ℕ). placed t ∷ trees_from q (more + 1 - 2 ^ suc h)) next ∙ ap (λ (q : ℕ). placed t ∷ trees_from s q) left in
     let turned : map placed (reverse (t ∷ ts)) ≡ map placed (reverse ts) ++ placed t ∷ [] =
-        ap (map placed) (reverse-append (t ∷ []) ts) ∙ map-append placed (reverse ts) (t ∷ []) in
+    ap (map placed) (reverse-append (t ∷ []) ts) ∙ map-append placed (reverse ts) (t ∷ []) in
     ap (trees_from 0) all ∙ older ∙ ap (λ (xs : List (ℕ × ℕ)). map placed (reverse ts) ++ xs) step
     ∙ sym (append_assoc (map placed (reverse ts)) (placed t ∷ []) (trees_from s m)) ∙ ap (λ (xs : List (ℕ × ℕ)). xs ++ trees_from s m) (sym turned)
 
@@ -117,8 +117,8 @@ first_tree next left (suc h) some small low high =
       nodes = omega (arith, w);
       fits = omega (arith, w);
       first = trees_first next left h low (omega arith)
-      ∙ ap (λ (x : ℕ). (x, h) ∷ trees_from (next + 2 ^ suc h - 1) (left + 1 - 2 ^ suc h)) a
-      ∙ ap (λ (x : ℕ). (next + (doubled (suc h) - 1) - 1, x) ∷ trees_from (next + 2 ^ suc h - 1) (left + 1 - 2 ^ suc h)) (sym z)
-      ∙ ap (λ (x : ℕ). (next + (doubled (suc h) - 1) - 1, suc h - 1) ∷ trees_from x (left + 1 - 2 ^ suc h)) b
-      ∙ ap (λ (x : ℕ). (next + (doubled (suc h) - 1) - 1, suc h - 1) ∷ trees_from (next + (doubled (suc h) - 1)) x) c;
+          ∙ ap (λ (x : ℕ). (x, h) ∷ trees_from (next + 2 ^ suc h - 1) (left + 1 - 2 ^ suc h)) a
+          ∙ ap (λ (x : ℕ). (next + (doubled (suc h) - 1) - 1, x) ∷ trees_from (next + 2 ^ suc h - 1) (left + 1 - 2 ^ suc h)) (sym z)
+          ∙ ap (λ (x : ℕ). (next + (doubled (suc h) - 1) - 1, suc h - 1) ∷ trees_from x (left + 1 - 2 ^ suc h)) b
+          ∙ ap (λ (x : ℕ). (next + (doubled (suc h) - 1) - 1, suc h - 1) ∷ trees_from (next + (doubled (suc h) - 1)) x) c;
     }

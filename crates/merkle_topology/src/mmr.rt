@@ -12,11 +12,8 @@ ghost use Rattle.merkle_topology.specs.Mmr.{carries};
 ghost use Rattle.merkle_topology.specs.Perfect.{trees_from};
 ghost use Rattle.merkle_topology.specs.RangeLawful.{mmr_lawful};
 
-use merkle_base::error;
-use merkle_base::family;
 use merkle_base::listed::Listed;
-use merkle_base::location;
-use merkle_base::position;
+use merkle_base::{error, family, location, position};
 use std::marker::Model;
 
 /// The greatest node count.
@@ -179,7 +176,9 @@ fn leaf_count_within(nodes: u64) -> u64
 
 impl family::Family for Family {
     const DOMAIN: u8 = 0;
+
     const MAX_NODES: u64 = MAX_NODES;
+
     const MAX_LEAVES: u64 = MAX_LEAVES;
 
     type Peaks = PeakIterator;
