@@ -6,7 +6,7 @@ use Rattle.merkle_base.specs.Tree.{Tree, leaf, height, first_leaf, width}
 use Rattle.merkle_base.specs.Forest.{forest, size}
 use Rattle.merkle_topology.specs.Mmr.{carries}
 use Rattle.merkle_base.proofs.Lists.{get_below}
-use Rattle.merkle_base.proofs.Nodes.{node_stays, leaf_here, size_le, size_lt}
+use Rattle.merkle_base.proofs.Nodes.{node_stays, leaf_here, size_le}
 use Rattle.merkle_base.proofs.Balance.{balanced_count, node_balanced}
 use Rattle.merkle_base.proofs.Births.{forest_born}
 use Rattle.merkle_base.proofs.Lookup.{get_append_add, index_map}

@@ -1,10 +1,8 @@
 -- The one leaf count at a position, and the heights that stand above it.
-use Rattle.std.proofs.Common.{◌≡◌, ℕ, zero, suc, ◌+◌, ◌-◌, ◌*◌, ◌^◌, ◌<◌, ◌≤◌, ◌⊎◌, List, ◌∷◌, length, Some, slice_get, slice_index, arith, sym, ap, inl, inr, ◌∙◌, subst, eqb, true}
+use Rattle.std.proofs.Common.{◌≡◌, ℕ, suc, ◌+◌, ◌-◌, ◌<◌, ◌≤◌, ◌⊎◌, List, ◌∷◌, length, slice_index, arith, sym, ap, inl, inr, ◌∙◌, subst, eqb, true}
 use Rattle.std.proofs.lemmas.Bool.{eqb-true, eq-eqb}
-use Rattle.std.specs.List.{range_with_len}
 use Rattle.std.proofs.lemmas.List.FromFn.{get_or-range_with_len, length-range_with_len}
-use Rattle.merkle_base.specs.Tree.{Tree, height}
-use Rattle.merkle_base.specs.Forest.{forest, size}
+use Rattle.merkle_base.specs.Forest.{size}
 use Rattle.merkle_base.specs.Heights.{parent_heights}
 use Rattle.merkle_base.specs.Places.{IsSize, IsHeightAt}
 use Rattle.merkle_base.proofs.Nodes.{size_le, size_lt}

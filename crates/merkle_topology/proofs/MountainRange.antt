@@ -1,19 +1,17 @@
 -- The formulas of the Mountain Range.
-use Rattle.std.proofs.Common.{◌≡◌, ℕ, zero, suc, ◌+◌, ◌*◌, ◌^◌, ◌-◌, ◌<◌, ◌≤◌, List, [], ◌∷◌, ◌++◌, length, map, length-append, append_assoc, append-nil, Some, slice_get, arith, refl, sym, ap, inl, inr, ◌∙◌, subst, pow-suc, pow-add, pow_pos}
+use Rattle.std.proofs.Common.{◌≡◌, ℕ, zero, suc, ◌+◌, ◌*◌, ◌^◌, ◌<◌, ◌≤◌, List, [], ◌∷◌, ◌++◌, length, map, length-append, append_assoc, append-nil, Some, slice_get, arith, refl, sym, ap, inl, inr, ◌∙◌, subst, pow-suc}
 use Rattle.std.specs.List.{AllByRecursion, range_with_len}
-use Rattle.std.specs.Int.RustNames.{count_ones}
-use Rattle.std.proofs.lemmas.Nat.{ones_cat, ones-le}
 use Rattle.std.proofs.lemmas.Bool.Decides.{eqb_tells}
 use Rattle.merkle_base.specs.Tree.{Tree, leaf, join, position, height, first_leaf, width, IsUnder, IsBuilt, IsBalanced}
 use Rattle.merkle_base.specs.Forest.{Forest, planted, joined, joined_peaks, merged, all_merged, forest, size, Covers, IsUnderOne}
-use Rattle.merkle_base.specs.Heights.{EqualAt, raised, all_raised, AreEqualMerges, born_heights, peak_heights, parent_heights, IsLawful, MergesEqual, weight}
+use Rattle.merkle_base.specs.Heights.{EqualAt, AreEqualMerges, born_heights, peak_heights, parent_heights, MergesEqual, weight}
 use Rattle.merkle_topology.specs.Mmr.{carries, carries_from, AscendsFrom, IsPostorder, Stacked, IsBornAt}
 use Rattle.merkle_topology.specs.Digits.{EndsInOnes}
-use Rattle.merkle_topology.specs.RangeLawful.{carries_equal, mmr_ascends, mmr_weight, pow_split, ascends_multiple}
+use Rattle.merkle_topology.specs.RangeLawful.{carries_equal, mmr_ascends, mmr_weight, ascends_multiple}
 use Rattle.merkle_base.proofs.Growth.{forest_grown, grown_planted}
 use Rattle.merkle_base.proofs.Lists.{get_below}
 use Rattle.merkle_base.proofs.Balance.{heights_forest, heights_joined, peaks_balanced, covers_weight}
-use Rattle.merkle_base.proofs.Births.{leaf_at, size_peaks, get_append_cases, all_get}
+use Rattle.merkle_base.proofs.Births.{leaf_at, get_append_cases, all_get}
 use Rattle.merkle_base.proofs.Nodes.{node_built, size_le, no_node}
 
 -- ---- the parents

@@ -1,4 +1,4 @@
-use Rattle.std.proofs.Common.{◌≡◌, Some, slice_get, refl, ap, ◌∙◌, arith, subst, sym, ℕ}
+use Rattle.std.proofs.Common.{◌≡◌, Some, slice_get, refl, arith, subst, sym, ℕ}
 use Rattle.merkle_base.specs.Tree.{Tree, leaf, join, height}
 use Rattle.merkle_base.specs.Forest.{forest}
 use Rattle.merkle_topology.specs.Mmr.{carries}

@@ -1,4 +1,4 @@
-use Rattle.std.proofs.Common.{◌≡◌, ap, sym, ◌∙◌, arith, w64}
+use Rattle.std.proofs.Common.{ap, sym, ◌∙◌, arith, w64}
 use Rattle.std.specs.Int.{trailing_ones}
 use Rattle.std.specs.List.{range_with_len}
 use Rattle.merkle_topology.proofs.Digits.{ends_trailing}

@@ -1,5 +1,4 @@
 use Rattle.std.proofs.Common.{ap, sym, ◌∙◌, arith}
-use Rattle.merkle_base.specs.Forest.{size}
 use Rattle.merkle_base.proofs.Nodes.{size_le}
 use Rattle.merkle_topology.specs.Mmr.{carries}
 use Rattle.merkle_topology.specs.Perfect.{trees_from}
