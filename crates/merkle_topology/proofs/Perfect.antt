@@ -24,12 +24,6 @@ pow_large : (k : ℕ) → k + 1 ≤ 2 ^ k
 pow_large zero = omega arith
 pow_large (suc k) = omega (arith, pow_large k, pow-suc 2 k)
 
--- some tree is the highest
-pub tallest_fits : (k m : ℕ) → 2 ^ suc (tallest k (suc m)) ≤ suc m + 1
-unfolding tallest
-tallest_fits zero m = omega arith
-tallest_fits (suc k) m = elim (leb_tells (2 ^ suc (suc k)) (suc m + 1)) [ inl e ↦ rw e.0 e.1 | inr e ↦ rw e.0 (tallest_fits k m) ]
-
 -- no more trees come than there are nodes
 first_same : (j k next left : ℕ) → left ≤ j → left ≤ k → first_trees j next left ≡ first_trees k next left
 unfolding first_trees

@@ -107,7 +107,9 @@ impl Listed for PeakIterator {
 /// The heights of the parents that come with a leaf, in the order of the merges: 1, 2, and so on.
 #[derive(Debug, Drop)]
 pub struct ParentHeights {
+    // the next height
     next: u32,
+    // how many are left
     left: u32,
     ghost bounded: { next + left ≤ 65 },
 }
