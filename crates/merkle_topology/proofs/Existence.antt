@@ -1,0 +1,68 @@
+-- A node stands over every stretch of 2 ^ h leaves from a multiple of 2 ^ h on, once the leaf with which it comes is there.
+use Rattle.std.proofs.Common.{◌≡◌, ℕ, zero, suc, ◌+◌, ◌*◌, ◌^◌, ◌-◌, ◌<◌, ◌≤◌, ◌⊎◌, List, [], ◌∷◌, length, Some, slice_get, slice_index, arith, refl, sym, ap, inl, inr, ◌∙◌, pow-suc, pow_pos, le_of_mul-le-mul_right, le_antisymm, le_of_eq}
+use Rattle.std.proofs.lemmas.List.{length-map}
+use Rattle.std.proofs.lemmas.List.FromFn.{get_or-range_with_len, length-range_with_len}
+use Rattle.merkle_base.specs.Tree.{Tree, leaf, height, first_leaf, width}
+use Rattle.merkle_base.specs.Forest.{forest, size}
+use Rattle.merkle_topology.specs.Mmr.{carries}
+use Rattle.merkle_base.proofs.Lists.{get_below}
+use Rattle.merkle_base.proofs.Nodes.{node_stays, leaf_here, size_le}
+use Rattle.merkle_base.proofs.Balance.{balanced_count, node_balanced}
+use Rattle.merkle_base.proofs.Births.{forest_born}
+use Rattle.merkle_base.proofs.Lookup.{get_append_add, index_map}
+use Rattle.merkle_topology.proofs.MountainRange.{mmr_equal, mmr_parents, mmr_born}
+use Rattle.merkle_topology.specs.RangeLawful.{pow_split}
+
+get_exists : (ts : List Tree) (j : ℕ) → j < length ts → (t : Tree) × (slice_get ts j ≡ Some t)
+get_exists [] j l = absurd (omega arith)
+get_exists (t ∷ ts) zero l = (t, refl)
+get_exists (t ∷ ts) (suc j) l = get_exists ts j (omega arith)
+
+either : (a b : ℕ) → (a ≤ b) ⊎ (b < a)
+either a b = grind arith
+
+pub mul_cancel : (a b c : ℕ) → 0 < c → a * c ≡ b * c → a ≡ b
+mul_cancel a b c p e = le_antisymm (le_of_mul-le-mul_right (le_of_eq e) p) (le_of_mul-le-mul_right (le_of_eq (sym e)) p)
+
+-- where an odd multiple of 2 ^ k is a multiple of 2 ^ j, j is at most k
+odd_below : (r c j k : ℕ) → (2 * r + 1) * 2 ^ k ≡ c * 2 ^ j → j ≤ k
+odd_below r c j k e = elim (either j k) [
+  | inl l ↦ l
+  | inr g ↦
+      (let d : 2 ^ j ≡ 2 ^ (j - suc k) * 2 ^ suc k = pow_split (suc k) j g in
+      let q : ℕ = 2 ^ (j - suc k) in
+      let f : c * 2 ^ j ≡ c * (q * (2 ^ k * 2)) = ap (λ (x : ℕ). c * x) (d ∙ ap (λ (x : ℕ). q * x) (pow-suc 2 k)) in
+      let same : 2 * r + 1 ≡ 2 * (c * q) = mul_cancel (2 * r + 1) (2 * (c * q)) (2 ^ k) (pow_pos k) (e ∙ f ∙ omega arith) in
+      absurd (omega arith))
+]
+
+mmr_over : (n s a j : ℕ) → s ≡ a * 2 ^ suc j → s + 2 ^ suc j ≤ n → (p : ℕ) × (t : Tree) × (slice_get (forest carries n).nodes p ≡ Some t) × (first_leaf t ≡ s) × (height t ≡ suc j)
+mmr_over n s a j e l =
+    let x : ℕ = s + 2 ^ suc j - 1 in
+    let w : 0 < 2 ^ suc j = pow_pos (suc j) in
+    let up : x + 1 ≡ s + 2 ^ suc j = omega arith in
+    let k = mmr_parents x in
+    let b = forest_born carries (suc x) (mmr_equal (suc x)) x (omega arith) in
+    let enough : suc j ≤ k.0 = odd_below k.2.0 (a + 1) (suc j) k.0 (sym k.2.1 ∙ up ∙ omega arith) in
+    let count : length b.0 ≡ k.0 = sym (length-map b.0 height) ∙ ap length (b.2 ∙ k.1) ∙ length-range_with_len 1 k.0 in
+    let g = get_exists b.0 j (omega (arith, count)) in
+    let p : ℕ = size carries x + suc j in
+    let here : slice_get (forest carries (suc x)).nodes p ≡ Some g.0 = rw b.1 (get_append_add (forest carries x).nodes (leaf (size carries x) x ∷ b.0) (suc j) ∙ g.1) in
+    let hi : height g.0 ≡ suc j = index_map b.0 j g.0 g.1 ∙ ap (λ (hs : List ℕ). slice_index hs j) (b.2 ∙ k.1) ∙ get_or-range_with_len 1 k.0 j 0 (omega arith) ∙ omega arith in
+    let m = mmr_born (suc x) p g.0 here in
+    let c : width g.0 ≡ 2 ^ suc j = balanced_count g.0 (node_balanced carries (suc x) (mmr_equal (suc x)) (suc x) p g.0 (omega arith) here) ∙ ap (λ (y : ℕ). 2 ^ y) hi in
+    let end : first_leaf g.0 + width g.0 ≡ suc x = ends (first_leaf g.0 + width g.0) x p (omega arith) (get_below (forest carries (suc x)).nodes p g.0 here) m.present m.absent in
+    (p, g.0, node_stays carries (suc x) n p g.0 (omega arith) here, omega arith, hi)
+  where
+    ends : (b x p : ℕ) → size carries x ≤ p → p < size carries (suc x) → p < size carries b → ((c : ℕ) → c < b → size carries c ≤ p) → b ≡ suc x
+    ends b x p low high present absent = elim (either b x) [
+      | inl l ↦ absurd (omega (arith, size_le carries b x l))
+      | inr g ↦ elim (either b (suc x)) [
+        | inl l ↦ omega arith
+        | inr h ↦ absurd (omega (arith, absent (suc x) h))
+      ]
+    ]
+
+pub mmr_exists : (n s a h : ℕ) → s ≡ a * 2 ^ h → s + 2 ^ h ≤ n → (p : ℕ) × (t : Tree) × (slice_get (forest carries n).nodes p ≡ Some t) × (first_leaf t ≡ s) × (height t ≡ h)
+mmr_exists n s a zero e l = (size carries s, leaf (size carries s) s, leaf_here carries s n (omega arith), refl, refl)
+mmr_exists n s a (suc j) e l = mmr_over n s a j e l

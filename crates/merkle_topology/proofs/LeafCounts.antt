@@ -1,0 +1,59 @@
+-- The one leaf count at a position, and the heights that stand above it.
+use Rattle.std.proofs.Common.{◌≡◌, ℕ, suc, ◌+◌, ◌-◌, ◌<◌, ◌≤◌, ◌⊎◌, List, ◌∷◌, length, slice_index, arith, sym, ap, inl, inr, ◌∙◌, subst, eqb, true}
+use Rattle.std.proofs.lemmas.Bool.{eqb-true, eq-eqb}
+use Rattle.std.proofs.lemmas.List.FromFn.{get_or-range_with_len, length-range_with_len}
+use Rattle.merkle_base.specs.Forest.{size}
+use Rattle.merkle_base.specs.Heights.{parent_heights}
+use Rattle.merkle_base.specs.Places.{IsSize, IsHeightAt}
+use Rattle.merkle_base.proofs.Nodes.{size_le, size_lt}
+use Rattle.merkle_base.proofs.Lookup.{size_suc, height_at}
+use Rattle.merkle_base.proofs.Limits.{log_below}
+use Rattle.merkle_topology.specs.Mmr.{carries}
+use Rattle.merkle_topology.specs.RangeLawful.{mmr_lawful}
+use Rattle.merkle_topology.proofs.MountainRange.{mmr_equal, mmr_parents}
+
+-- a size from one leaf count's up to the next one's is that leaf count's
+pub size_only : (rule : List ℕ → List ℕ) (low n p : ℕ) → size rule low ≤ p → p < size rule (low + 1) → size rule n ≡ p → n ≡ low
+size_only rule low n p a b e = elim (three n low) [
+  | inl l ↦ absurd (omega (arith, size_lt rule n low l))
+  | inr h ↦ elim h [ inl d ↦ d | inr g ↦ absurd (omega (arith, size_le rule (low + 1) n (omega arith))) ]
+]
+  where
+    three : (a b : ℕ) → (a < b) ⊎ ((a ≡ b) ⊎ (b < a))
+    three a b = grind arith
+
+-- the test that a leaf count found by a search has that many nodes
+pub size_tested : (rule : List ℕ → List ℕ) (max_leaves low count nodes p : ℕ) → nodes ≡ p → low ≤ max_leaves → count ≡ size rule low → size rule low ≤ nodes → nodes < size rule (low + 1) →
+    (eqb count nodes ≡ true → IsSize rule max_leaves p) × (IsSize rule max_leaves p → eqb count nodes ≡ true)
+size_tested rule max_leaves low count nodes p same l e a b = (
+  λ t. (low, l, sym e ∙ eqb-true count nodes t ∙ same),
+  λ s. eq-eqb count nodes (e ∙ ap (size rule) (sym (size_only rule low s.0 nodes a b (s.2 ∙ sym same))) ∙ s.2 ∙ sym same),
+)
+
+mmr_height_below : (n p : ℕ) → n < 4611686018427387904 → size carries n ≤ p → p < size carries (n + 1) → (p - size carries n < 63) × IsHeightAt carries p (p - size carries n)
+mmr_height_below n p l a b =
+    let k : ℕ = p - size carries n in
+    let at : size carries n + k ≡ p = omega arith in
+    let next : n + 1 ≡ suc n = omega arith in
+    let up : p < size carries (suc n) = subst (λ (m : ℕ). p < size carries m) next b in
+    let t = mmr_parents n in
+    let count : length (parent_heights carries n) ≡ t.0 = ap length t.1 ∙ length-range_with_len 1 t.0 in
+    let below : k < suc t.0 = omega (arith, size_suc carries (suc n) (mmr_equal (suc n)) n (omega arith)) in
+    let low : t.0 < 63 = log_below t.0 63 (n + 1) (omega (arith, t.2.1)) (omega arith) in (
+      omega arith,
+      λ w x e. sym (height_at carries (suc n) (mmr_equal (suc n)) n k w x (omega arith) (omega arith) (rw at e)
+          ∙ ap (λ (hs : List ℕ). slice_index (0 ∷ hs) k) t.1 ∙ get_or-range_with_len 0 (suc t.0) k 0 below ∙ omega arith),
+    )
+
+-- how far a node of the Mountain Range stands after the leaf with which it comes is its height, and it is below 63
+pub mmr_height : (n p : ℕ) → p < 9223372036854775807 → n ≤ 4611686018427387904 → size carries n ≤ p → p < size carries (n + 1) → (p - size carries n < 63) × IsHeightAt carries p (p - size carries n)
+mmr_height n p low l a b = mmr_height_below n p (below n l a) a b
+  where
+    below : (n : ℕ) → n ≤ 4611686018427387904 → size carries n ≤ p → n < 4611686018427387904
+    below n l a = elim (either n l) [
+      | inl h ↦ h
+      | inr e ↦ absurd (omega (arith, ap (size carries) e, mmr_lawful.full))
+    ]
+      where
+        either : (n : ℕ) → n ≤ 4611686018427387904 → (n < 4611686018427387904) ⊎ (n ≡ 4611686018427387904)
+        either n l = grind arith

@@ -1,0 +1,8 @@
+use Rattle.std.proofs.Common.{refl}
+use Rattle.merkle_base.specs.Forest.{forest}
+use Rattle.merkle_base.specs.Heights.{peak_heights}
+use Rattle.merkle_topology.proofs.laws.worked_rows.Goals as goal
+
+pub returns : goal.returns
+unfolding forest peak_heights
+returns c = record { range_positions = refl; range_peaks = refl; range_parents = refl }

@@ -1,0 +1,258 @@
+//! The Merkle Mountain Range: when a leaf comes, the two newest peaks are merged while they have equal height.
+//!
+//! So each peak is higher than the newer ones, and n leaves have a peak for each binary one of n. A node comes with the
+//! last leaf under it, right after its right child.
+ghost use Rattle.std.specs.Prelude.{◌≡◌, ◌≢◌, ◌+◌, ◌^◌, ◌<◌, ◌≤◌, ◌↔◌, ℕ, IsTrue, IfSome, IfNone, List, []};
+ghost use Rattle.std.specs.Iterator.{YieldsFirst, item_count};
+ghost use Rattle.std.specs.List.{range_with_len};
+ghost use Rattle.merkle_base.specs.Forest.{size};
+ghost use Rattle.merkle_base.specs.Heights.{parent_heights};
+ghost use Rattle.merkle_base.specs.Places.{IsSize, ArePeaks, HasInner, AreChildren, IsHeightAt};
+ghost use Rattle.merkle_topology.specs.Mmr.{carries};
+ghost use Rattle.merkle_topology.specs.Perfect.{trees_from};
+ghost use Rattle.merkle_topology.specs.RangeLawful.{mmr_lawful};
+
+use merkle_base::listed::Listed;
+use merkle_base::{error, family, location, position};
+use std::marker::Model;
+
+/// The greatest node count.
+const MAX_NODES: u64 = 9223372036854775807;
+
+/// The greatest leaf count, which has that many nodes.
+const MAX_LEAVES: u64 = 4611686018427387904;
+
+/// The Mountain Range.
+#[derive(Clone, Copy, Debug, Default, PartialEq, Eq)]
+pub struct Family;
+
+/// A node index or a node count of the Mountain Range.
+pub type Position = position::Position<Family>;
+
+/// A leaf index or a leaf count of the Mountain Range.
+pub type Location = location::Location<Family>;
+
+/// Why a call was refused.
+pub type Error = error::Error<Family>;
+
+/// The peaks of a node count with their heights, oldest first.
+#[derive(Debug, Drop)]
+pub struct PeakIterator {
+    // the position at which the next tree begins
+    next: u64,
+    // the nodes from there on
+    left: u64,
+    ghost bounded: { next + left < 2 ^ 63 },
+}
+
+impl Model for PeakIterator {
+    ghost Value = { List (ℕ × ℕ) };
+
+    ghost view = { λ s. trees_from s.next s.left };
+}
+
+impl PeakIterator {
+    /// The peaks of that many nodes.
+    ///
+    /// The node count is a valid size.
+    pub fn new(nodes: Position) -> Self
+        requires { IsSize carries MAX_LEAVES nodes }
+        ensures { ArePeaks carries MAX_LEAVES nodes result }
+    {
+        PeakIterator {
+            next: 0,
+            left: nodes.as_u64(),
+        }
+    }
+}
+
+impl Default for PeakIterator {
+    ghost is_default = { λ s. s ≡ [] };
+
+    /// No peaks.
+    fn default() -> Self {
+        PeakIterator { next: 0, left: 0 }
+    }
+}
+
+impl Iterator for PeakIterator {
+    type Item = (Position, u32);
+
+    ghost next_gives = { YieldsFirst (λ s. s) };
+
+    ghost remaining = { item_count (λ s. s) };
+
+    fn next(&mut self) -> Option<(Position, u32)> {
+        if self.left == 0 {
+            return None;
+        }
+        let height = (self.left + 1).ilog2() - 1;
+        let nodes = (2 << height) - 1;
+        self.next += nodes;
+        self.left -= nodes;
+        Some((Position::new(self.next - 1), height))
+    }
+}
+
+impl Listed for PeakIterator {
+    ghost left = { λ s. s };
+
+    ghost may_go = { λ _. tt };
+
+    ghost gives_first = { λ _ _ _ h. h };
+
+    ghost ends = { λ _. tt };
+}
+
+/// The heights of the parents that come with a leaf, in the order of the merges: 1, 2, and so on.
+#[derive(Debug, Drop)]
+pub struct ParentHeights {
+    // the next height
+    next: u32,
+    // how many are left
+    left: u32,
+    ghost bounded: { next + left ≤ 65 },
+}
+
+impl Model for ParentHeights {
+    ghost Value = { List ℕ };
+
+    ghost view = { λ s. range_with_len s.next s.left };
+}
+
+impl Iterator for ParentHeights {
+    type Item = u32;
+
+    ghost next_gives = { YieldsFirst (λ s. s) };
+
+    ghost remaining = { item_count (λ s. s) };
+
+    fn next(&mut self) -> Option<u32> {
+        if self.left == 0 {
+            return None;
+        }
+        let height = self.next;
+        self.next += 1;
+        self.left -= 1;
+        Some(height)
+    }
+}
+
+impl Listed for ParentHeights {
+    ghost left = { λ s. s };
+
+    ghost may_go = { λ _. tt };
+
+    ghost gives_first = { λ _ _ _ h. h };
+
+    ghost ends = { λ _. tt };
+}
+
+/// The node count of that many leaves.
+fn node_count(leaves: u64) -> u64
+    requires { leaves ≤ MAX_LEAVES }
+    ensures { result ≡ size carries leaves }
+{
+    2 * leaves - u64::from(leaves.count_ones())
+}
+
+/// The greatest leaf count that has no more than so many nodes.
+fn leaf_count_within(nodes: u64) -> u64
+    requires { nodes ≤ MAX_NODES }
+    ensures limit { result ≤ MAX_LEAVES }
+    ensures within { size carries result ≤ nodes }
+    ensures greatest { nodes < size carries (result + 1) }
+{
+    let mut low = 0;
+    let mut high = MAX_LEAVES;
+    while low < high {
+        let middle = high - (high - low) / 2;
+        if node_count(middle) <= nodes {
+            low = middle;
+        } else {
+            high = middle - 1;
+        }
+    }
+    low
+}
+
+impl family::Family for Family {
+    const DOMAIN: u8 = 0;
+
+    const MAX_NODES: u64 = MAX_NODES;
+
+    const MAX_LEAVES: u64 = MAX_LEAVES;
+
+    type Peaks = PeakIterator;
+
+    type ParentHeights = ParentHeights;
+
+    ghost DOMAIN = { 0 };
+
+    ghost MAX_NODES = { 9223372036854775807 };
+
+    ghost MAX_LEAVES = { 4611686018427387904 };
+
+    ghost rule = { carries };
+
+    fn location_to_position(location: Location) -> Position
+        requires { location ≤ MAX_LEAVES }
+        ensures { result ≡ size carries location }
+    {
+        Position::new(node_count(location.as_u64()))
+    }
+
+    fn position_to_location(position: Position) -> Option<Location>
+        requires { position ≤ MAX_NODES }
+        ensures found { IfSome result (λ n. (n ≤ MAX_LEAVES) × (size carries n ≡ position)) }
+        ensures none { IfNone result ((n : ℕ) → size carries n ≢ position) }
+    {
+        let leaves = leaf_count_within(position.as_u64());
+        if node_count(leaves) == position.as_u64() {
+            Some(Location::new(leaves))
+        } else {
+            None
+        }
+    }
+
+    fn is_valid_size(nodes: Position) -> bool
+        ensures { IsTrue result ↔ IsSize carries MAX_LEAVES nodes }
+    {
+        let nodes = nodes.as_u64();
+        nodes <= MAX_NODES && node_count(leaf_count_within(nodes)) == nodes
+    }
+
+    fn peaks(nodes: Position) -> PeakIterator
+        requires { IsSize carries MAX_LEAVES nodes }
+        ensures { ArePeaks carries MAX_LEAVES nodes result }
+    {
+        PeakIterator::new(nodes)
+    }
+
+    fn children(position: Position, height: u32) -> (Position, Position)
+        requires { HasInner carries MAX_LEAVES position height }
+        ensures { AreChildren carries position result.0 result.1 }
+    {
+        (position - (1 << height), position - 1)
+    }
+
+    fn parent_heights(leaves: Location) -> ParentHeights
+        requires { leaves < MAX_LEAVES }
+        ensures { result ≡ parent_heights carries leaves }
+    {
+        ParentHeights {
+            next: 1,
+            left: leaves.as_u64().trailing_ones(),
+        }
+    }
+
+    fn pos_to_height(position: Position) -> u32
+        requires { position < MAX_NODES }
+        ensures { IsHeightAt carries position result }
+    {
+        let nodes = position.as_u64();
+        (nodes - node_count(leaf_count_within(nodes))) as u32
+    }
+
+    ghost lawful = { mmr_lawful };
+}
