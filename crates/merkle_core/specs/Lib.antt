@@ -14,3 +14,4 @@ pub mod Whole
 pub mod Truth
 pub mod Gaps
 pub mod HeldPeaks
+pub mod Refusals

@@ -140,7 +140,7 @@ pub struct MerkleizedBatch<F: Family, D: Digest> {
 
 impl<F: Family, D: Digest> Model for MerkleizedBatch<F, D> {
     ghost use Rattle.std.specs.Prelude.{◌+◌, [], length};
-    ghost use Rattle.std.specs.FinMap.{empty};
+    ghost use Rattle.std.specs.FinMap.{from_entries};
     ghost use Rattle.merkle_core.specs.Recorded.{Chain, chain_code};
 
     ghost Value = { Chain D };
@@ -149,7 +149,7 @@ impl<F: Family, D: Digest> Model for MerkleizedBatch<F, D> {
 
     ghost use Rattle.merkle_core.specs.Whole.{IsCounted};
 
-    ghost view = { λ b. record { base_size = b.size_before; boundary = 0; ancestors = []; own = record { before = b.size_before; peaks_before = b.peaks_before.items; appended = b.appended.items; overwritten = empty; peaks_after = b.peaks_after.items } } };
+    ghost view = { λ b. record { base_size = b.size_before; boundary = 0; ancestors = []; own = record { before = b.size_before; peaks_before = b.peaks_before.items; appended = b.appended.items; overwritten = from_entries []; peaks_after = b.peaks_after.items } } };
 
     ghost invariant = { λ b. IsCounted F.rule F.MAX_LEAVES b.leaves (b.size_before + length b.appended.items) };
 }

@@ -1,10 +1,12 @@
 //! Merkle structures in memory.
-ghost use Rattle.std.specs.Prelude.{◌≡◌, ◌<◌, ◌≤◌, ℕ, [], take, length, OnErr, IfOk, IsOkUnless};
+ghost use Rattle.std.specs.Prelude.{◌≡◌, ◌<◌, ◌≤◌, ℕ, [], Err, None, Ok, is_some, take, true, length, OnErr, OnOk, IfOk, IsOkUnless};
 ghost use Rattle.merkle_base.specs.Places.{ArePeaks};
 ghost use Rattle.merkle_base.specs.Forest.{size};
 ghost use Rattle.merkle_base.specs.Root.{peaks_root};
 ghost use Rattle.merkle_core.specs.Store.{node, contents, whole_store};
 ghost use Rattle.merkle_core.specs.Contents.{held_peaks};
+ghost use Rattle.merkle_core.specs.Replay.{applied, matched, refusal};
+ghost use Rattle.merkle_core.specs.Refusals.{error_of};
 
 use crate::batch::{MerkleizedBatch, UnmerkleizedBatch};
 use merkle_base::digest::Digest;
@@ -143,6 +145,9 @@ impl<F: Family, D: Digest> Mem<F, D> {
     /// nothing is changed by a refusal.
     pub fn apply_batch(&mut self, batch: &MerkleizedBatch<F, D>) -> Result<(), Error<F>>
         ensures unchanged { OnErr result (self.new ≡ self.old) }
+        ensures done { OnOk result ((n : ℕ) → n ≤ F.MAX_LEAVES → size F.rule n ≡ self.old.size → applied D.eq F.rule n batch.now (contents self.old) ≡ Ok (contents self.new)) }
+        ensures accepted { (n : ℕ) → n ≤ F.MAX_LEAVES → size F.rule n ≡ self.old.size → is_some (matched D.eq self.old.size (held_peaks F.rule n (contents self.old)) batch.now) ≡ true → IsOkUnless result Error.OutOfMemory }
+        ensures refused { (n : ℕ) → n ≤ F.MAX_LEAVES → size F.rule n ≡ self.old.size → matched D.eq self.old.size (held_peaks F.rule n (contents self.old)) batch.now ≡ None → result ≡ Err (error_of (refusal self.old.size batch.now)) }
     {
         let mut digests = [D::EMPTY; MAX_PEAKS];
         let count = self.write_peaks(&mut digests);

@@ -6,3 +6,6 @@ write_peaks-count-requires g c = omega (arith, g.met.D.Digest.small)
 
 pub front-requires : goal.front-requires
 front-requires g c = (omega (arith, g.met.D.Digest.small), c.write_peaks-count.ensures.few)
+
+pub returns-clause-done : goal.returns-clause-done
+returns-clause-done g c = ?

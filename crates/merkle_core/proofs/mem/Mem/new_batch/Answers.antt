@@ -1,4 +1,5 @@
-use Rattle.std.proofs.Common.{arith}
+use Rattle.std.proofs.Common.{◌≡◌, ℕ, [], arith, ap, sym, ◌∙◌}
+use Rattle.merkle_base.proofs.Nodes.{size_inj}
 use Rattle.merkle_core.proofs.mem.Mem.new_batch.Goals as goal
 
 pub write_peaks-count-requires : goal.write_peaks-count-requires
@@ -8,4 +9,7 @@ pub front-requires : goal.front-requires
 front-requires g c = (omega (arith, g.met.D.Digest.small), c.write_peaks-count.ensures.few)
 
 pub returns-clause-forked : goal.returns-clause-forked
-returns-clause-forked g c = ?
+returns-clause-forked g c = λ n within sized.
+    let same : c.self.inside.leaves ≡ n = size_inj g.F.Family.rule c.self.inside.leaves n (c.self.invariant.sized ∙ ap (λ s. s.size) c.self.view_is ∙ sym sized) in
+    let held = c.front.ensures ∙ c.write_peaks-count.ensures.held n within sized in
+    c.in_ok-forked.ensures ∙ ap (λ m. record { leaves_before = m; peaks_before = c.front.result.now; added = [] }) same ∙ ap (λ peaks. record { leaves_before = n; peaks_before = peaks; added = [] }) held

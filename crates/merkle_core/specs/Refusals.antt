@@ -1,0 +1,8 @@
+-- Why a batch isn't applied, as the error that a caller sees.
+use Rattle.merkle_base.specs.declared.error.Error.{Error}
+use Rattle.merkle_base.specs.declared.error.Error.TheVariants as error
+use Rattle.merkle_core.specs.Replay.{Refusal, AncestorDropped, StaleBatch}
+
+abbrev pub error_of : {F : Type 0} → Refusal → Error F
+error_of (AncestorDropped expected actual) = error.AncestorDropped expected actual
+error_of (StaleBatch expected actual) = error.StaleBatch expected actual
