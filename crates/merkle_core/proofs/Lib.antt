@@ -18,3 +18,4 @@ pub mod Children
 pub mod Bases
 pub mod Stored
 pub mod TruthFacts
+pub mod Wholes

@@ -1,7 +1,14 @@
 //! Merkle structures in memory, changed by speculative batches.
+//!
+//! A [`Mem`](mem::Mem) holds the nodes of a structure. A batch is forked from it, takes leaves, is merkleized and applied.
+//! The modules of the crates below stand here too, under their own names.
 #![tactic(auto)]
 
 pub mod batch;
 pub mod laws;
 pub mod mem;
 mod merkleize;
+pub mod mmr;
+
+pub use merkle_base::{digest, error, family, location, position};
+pub use merkle_proof::hasher;

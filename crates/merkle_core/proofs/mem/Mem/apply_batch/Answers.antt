@@ -1,4 +1,8 @@
-use Rattle.std.proofs.Common.{arith}
+use Rattle.std.proofs.Common.{◌≡◌, ◌++◌, true, arith, ap, sym, ◌∙◌}
+use Rattle.merkle_core.specs.Contents.{held_peaks}
+use Rattle.merkle_core.specs.Replay.{begins_at}
+use Rattle.merkle_core.specs.Store.{contents}
+use Rattle.merkle_core.proofs.Wholes.{applied_whole}
 use Rattle.merkle_core.proofs.mem.Mem.apply_batch.Goals as goal
 
 pub write_peaks-count-requires : goal.write_peaks-count-requires
@@ -8,4 +12,8 @@ pub front-requires : goal.front-requires
 front-requires g c = (omega (arith, g.met.D.Digest.small), c.write_peaks-count.ensures.few)
 
 pub returns-clause-done : goal.returns-clause-done
-returns-clause-done g c = ?
+returns-clause-done g c = λ n within sized.
+    let before = c.batch.inside in
+    let begins = ? in
+    applied_whole g.D.PartialEq.eq g.F.Family.rule n c.args.self.now c.args.batch.now c.self.inside.nodes.items before.appended.items c.extend_from_slice.new.self.items before.size_before before.peaks_before.items before.peaks_after.items
+    c.self.view_is c.batch.view_is begins (c.in_ok-extend_from_slice.ensures.items ∙ ap (λ xs. c.self.inside.nodes.items ++ xs) c.deref.ensures.value)

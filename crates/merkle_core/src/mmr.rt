@@ -1,0 +1,15 @@
+//! The Merkle Mountain Range, with the names of this crate at it.
+
+pub use merkle_topology::mmr::{Error, Family, Location, ParentHeights, PeakIterator, Position};
+
+/// A Mountain Range in memory.
+pub type Mmr<D> = crate::mem::Mem<Family, D>;
+
+/// A batch of leaves to be added to a Mountain Range.
+pub type UnmerkleizedBatch<D> = crate::batch::UnmerkleizedBatch<Family, D>;
+
+/// A batch of a Mountain Range with its nodes computed.
+pub type MerkleizedBatch<D> = crate::batch::MerkleizedBatch<Family, D>;
+
+/// The hasher over a plain one.
+pub type StandardHasher<H> = merkle_proof::hasher::Standard<H>;

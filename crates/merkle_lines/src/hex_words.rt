@@ -1,0 +1,62 @@
+//! Bytes as words of hexadecimal digits.
+ghost use Rattle.std.specs.Prelude.{◌≡◌, ◌↔◌, IsTrue, IfOk, IsErrOf, IsOkUnless, Ok};
+ghost use Rattle.std.specs.String.{string_bytes};
+ghost use Rattle.hex.specs.Hex.{decode_of, encode_lower, is_hex_digit};
+ghost use Rattle.merkle_lines.specs.Words.{IsHexWord};
+
+use hex::FromHexError;
+use merkle_core::error::OutOfMemory;
+use std::alloc::Global;
+
+/// Why a word gave no bytes.
+#[derive(Clone, Copy, Debug, PartialEq, Eq)]
+pub enum HexError {
+    /// The word is no even number of hexadecimal digits.
+    Syntax,
+    /// A request for memory was refused.
+    OutOfMemory,
+}
+
+fn is_digit(byte: u8) -> bool
+    ensures { result ≡ is_hex_digit byte }
+{
+    matches!(byte, b'0'..=b'9' | b'A'..=b'F' | b'a'..=b'f')
+}
+
+/// Whether the word is an even number of hexadecimal digits, of either case.
+pub fn is_hex_word(word: &str) -> bool
+    ensures { IsTrue result ↔ IsHexWord word.now }
+{
+    word.len() % 2 == 0 && word.as_bytes().iter().all(|byte| is_digit(*byte))
+}
+
+/// The bytes that the word spells, two digits for each. The word without digits spells none.
+///
+/// Refused with `Syntax` exactly where the word is no even number of hexadecimal digits, and else with `OutOfMemory`
+/// alone.
+pub fn read_hex(alloc: Global, word: &str) -> Result<Vec<u8>, HexError>
+    ensures value { IfOk result (λ bytes. decode_of word.now ≡ Ok bytes.items) }
+    ensures spelled { IsHexWord word.now → IsOkUnless result HexError.OutOfMemory }
+    ensures syntax { IsErrOf result HexError.Syntax ↔ ¬ (IsHexWord word.now) }
+{
+    if !is_hex_word(word) {
+        return Err(HexError::Syntax);
+    }
+    match hex::decode(alloc, word) {
+        Ok(bytes) => Ok(bytes),
+        Err(e) => match e {
+            FromHexError::OutOfMemory => Err(HexError::OutOfMemory),
+            _ => unreachable!(),
+        },
+    }
+}
+
+/// The bytes in lower case digits, two for each, which [`read_hex`] reads back.
+///
+/// Refused where a request for memory is.
+pub fn write_hex(alloc: Global, bytes: &[u8]) -> Result<String, OutOfMemory>
+    ensures digits { IfOk result (λ text. string_bytes text ≡ encode_lower bytes.now) }
+    ensures reads_back { IfOk result (λ text. decode_of (string_bytes text) ≡ Ok bytes.now) }
+{
+    hex::encode(alloc, bytes).map_err(|_| OutOfMemory)
+}

@@ -1,0 +1,9 @@
+//! The lines of the program `merkle`: commands, their answers, and the loop that reads and writes them.
+#![tactic(auto)]
+
+mod command;
+pub mod hex_words;
+pub mod run;
+mod session;
+#[cfg(test)]
+mod tests;

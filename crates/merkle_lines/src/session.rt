@@ -1,0 +1,199 @@
+//! The structure that the lines work on, and their answers.
+
+use crate::command::{Command, FamilyName, HashName, Request};
+use crate::hex_words::{HexError, read_hex, write_hex};
+use merkle_core::batch::UnmerkleizedBatch;
+use merkle_core::digest::{Digest, PlainHasher, Sha256Plain, Xor8};
+use merkle_core::error::{Error, OutOfMemory};
+use merkle_core::family::{Bagging, Family};
+use merkle_core::hasher::Standard;
+use merkle_core::mem::Mem;
+use merkle_core::mmr;
+use std::alloc::Global;
+use std::fmt;
+
+/// What is printed for a line.
+#[derive(Debug, Drop)]
+pub enum Answer {
+    /// The line did its work, and has nothing to tell.
+    Done,
+    /// The location of the leaf that was added.
+    Added(u64),
+    /// The structure after a commit.
+    Committed { leaves: u64, size: u64 },
+    /// A digest in hexadecimal digits.
+    Digest(String),
+    /// The name of what was wrong.
+    Fault(&'static str),
+}
+
+impl fmt::Display for Answer {
+    fn fmt<W: fmt::Write>(&self, f: &mut fmt::Formatter<W>) -> fmt::Result {
+        match self {
+            Answer::Done => write!(f, "ok"),
+            Answer::Added(location) => write!(f, "ok {location}"),
+            Answer::Committed { leaves, size } => write!(f, "ok {leaves} {size}"),
+            Answer::Digest(digits) => write!(f, "{digits}"),
+            Answer::Fault(name) => write!(f, "error {name}"),
+        }
+    }
+}
+
+// The value of a result; without one, the function's answer is the error's name. This is no `?`, since that passes the
+// error to `From::from`, and the check has no rule for a call that takes an `Error` by value.
+macro_rules! or_fault {
+    ($result:expr) => {
+        match $result {
+            Ok(value) => value,
+            Err(error) => return Answer::Fault(error.name()),
+        }
+    };
+}
+
+// An error that stops a request.
+trait Named {
+    // The name that is printed for it.
+    fn name(&self) -> &'static str;
+}
+
+impl Named for HexError {
+    fn name(&self) -> &'static str {
+        match self {
+            HexError::Syntax => "Syntax",
+            HexError::OutOfMemory => "OutOfMemory",
+        }
+    }
+}
+
+impl Named for OutOfMemory {
+    fn name(&self) -> &'static str {
+        "OutOfMemory"
+    }
+}
+
+impl<F> Named for Error<F> {
+    fn name(&self) -> &'static str {
+        match self {
+            Error::NonLeaf(_) => "NonLeaf",
+            Error::PositionOverflow(_) => "PositionOverflow",
+            Error::LocationOverflow(_) => "LocationOverflow",
+            Error::Empty => "Empty",
+            Error::RangeOutOfBounds(_) => "RangeOutOfBounds",
+            Error::InvalidSize(_) => "InvalidSize",
+            Error::LeafOutOfBounds(_) => "LeafOutOfBounds",
+            Error::DuplicateLocation(_) => "DuplicateLocation",
+            Error::UnsortedLocation(_) => "UnsortedLocation",
+            Error::ElementPruned(_) => "ElementPruned",
+            Error::CompressedDigest(_) => "CompressedDigest",
+            Error::InvalidPinnedNodes => "InvalidPinnedNodes",
+            Error::StaleBatch { .. } => "StaleBatch",
+            Error::AncestorDropped { .. } => "AncestorDropped",
+            Error::InvalidProof => "InvalidProof",
+            Error::InvalidInactivePeaks { .. } => "InvalidInactivePeaks",
+            Error::RootMismatch => "RootMismatch",
+            Error::MissingNode(_) => "MissingNode",
+            Error::DataCorrupted(_) => "DataCorrupted",
+            Error::BitOutOfBounds(..) => "BitOutOfBounds",
+            Error::OutOfMemory => "OutOfMemory",
+        }
+    }
+}
+
+/// A structure of one family and hash, with its pending batch.
+#[derive(Drop)]
+pub struct Structure<F: Family, H: PlainHasher> {
+    hasher: Standard<H>,
+    committed: Mem<F, H::Digest>,
+    pending: Option<UnmerkleizedBatch<F, H::Digest>>,
+}
+
+impl<F: Family, H: PlainHasher> Structure<F, H> {
+    // The empty structure, without a pending batch.
+    fn new(alloc: Global, bagging: Bagging) -> Self {
+        Structure {
+            hasher: Standard::new(bagging),
+            committed: Mem::new(alloc),
+            pending: None,
+        }
+    }
+
+    // The pending batch, which so is gone where the request is refused; without one, a new batch.
+    fn take_pending(&mut self) -> Result<UnmerkleizedBatch<F, H::Digest>, Error<F>> {
+        match self.pending.take() {
+            Some(batch) => Ok(batch),
+            None => self.committed.new_batch(),
+        }
+    }
+
+    fn add(&mut self, alloc: Global, digits: &str) -> Answer {
+        let batch = or_fault!(self.take_pending());
+        let element = or_fault!(read_hex(alloc, digits));
+        let location = batch.leaves();
+        self.pending = Some(or_fault!(batch.add(&self.hasher, element.as_slice())));
+        Answer::Added(location.as_u64())
+    }
+
+    fn commit(&mut self) -> Answer {
+        let batch = or_fault!(self.take_pending());
+        let merkleized = or_fault!(batch.merkleize(&self.committed, &self.hasher));
+        or_fault!(self.committed.apply_batch(&merkleized));
+        Answer::Committed {
+            leaves: self.committed.leaves().as_u64(),
+            size: self.committed.size().as_u64(),
+        }
+    }
+
+    fn root(&self, alloc: Global, inactive: usize) -> Answer {
+        let root = or_fault!(self.committed.root(&self.hasher, inactive));
+        Answer::Digest(or_fault!(write_hex(alloc, root.as_bytes())))
+    }
+
+    fn answer(&mut self, alloc: Global, request: Request<'_>) -> Answer {
+        match request {
+            Request::Add(digits) => self.add(alloc, digits),
+            Request::Commit => self.commit(),
+            Request::Root(inactive) => self.root(alloc, inactive),
+        }
+    }
+}
+
+/// What the lines so far have made.
+#[derive(Drop)]
+pub enum Session {
+    /// No structure, before the first `new`.
+    Absent,
+    MmrSha256(Structure<mmr::Family, Sha256Plain>),
+    MmrXor8(Structure<mmr::Family, Xor8>),
+}
+
+impl Session {
+    fn open(alloc: Global, family: FamilyName, bagging: Bagging, hash: HashName) -> Session {
+        match (family, hash) {
+            (FamilyName::Mmr, HashName::Sha256) => {
+                Session::MmrSha256(Structure::new(alloc, bagging))
+            }
+            (FamilyName::Mmr, HashName::Xor8) => Session::MmrXor8(Structure::new(alloc, bagging)),
+        }
+    }
+
+    /// Does what the line says, and answers it.
+    ///
+    /// A refused `add` or `commit` leaves no pending batch, and the committed structure as it was.
+    pub fn answer(&mut self, alloc: Global, command: Command<'_>) -> Answer {
+        match command {
+            Command::New {
+                family,
+                bagging,
+                hash,
+            } => {
+                *self = Session::open(alloc, family, bagging, hash);
+                Answer::Done
+            }
+            Command::Ask(request) => match self {
+                Session::Absent => Answer::Fault("NoStructure"),
+                Session::MmrSha256(structure) => structure.answer(alloc, request),
+                Session::MmrXor8(structure) => structure.answer(alloc, request),
+            },
+        }
+    }
+}

@@ -1,0 +1,289 @@
+use crate::hex_words::{HexError, is_hex_word, read_hex, write_hex};
+use crate::run::{RunError, run};
+use std::alloc::Global;
+use std::io;
+use std::process::Abort;
+use std::test::Fail;
+
+// The lines have these answers, and the run ends well.
+fn check(rt: &impl Abort, alloc: Global, lines: &[u8], answers: &str) {
+    let mut reader = lines;
+    let mut written = Vec::new(alloc);
+    assert_eq!(rt; run(alloc, &mut reader, &mut written), Ok(()));
+    assert!(rt; written.as_slice() == answers.as_bytes(), "{lines:?}");
+}
+
+#[test]
+fn sessions(rt: HostRuntime) {
+    for (lines, answers) in [
+        ("", ""),
+        (
+            "new mmr forward xor8\nadd 01\nadd 02\nadd 04\ncommit\nroot 0\nroot 3\nroot 1\n",
+            "ok\nok 0\nok 1\nok 2\nok 3 4\n04\nerror InvalidInactivePeaks\n05\n",
+        ),
+        (
+            "new mmr backward xor8\nadd 01\nadd 02\nadd 04\ncommit\nroot 0\nroot 1\n",
+            "ok\nok 0\nok 1\nok 2\nok 3 4\n05\n04\n",
+        ),
+        // empty structures, and a last line that nothing ends
+        (
+            "new mmr forward xor8\nroot 0\nroot 1\nroot 18446744073709551615\ncommit\nroot 0",
+            "ok\n00\nerror InvalidInactivePeaks\nerror InvalidInactivePeaks\nok 0 0\n00\n",
+        ),
+        ("new mmr backward xor8\nroot 0", "ok\n01\n"),
+        // with SHA-256: an empty structure's root is that of ten zero bytes
+        (
+            "new mmr forward\nroot 0\n",
+            "ok\n01d448afd928065458cf670b60f5a594d735af0172c8d67f22a81680132681ca\n",
+        ),
+        (
+            "new mmr forward\nadd 01\nadd 02\nadd -\ncommit\nroot 0\n",
+            "ok\nok 0\nok 1\nok 2\nok 3 4\n4d59fcb5def453158354599a0e9251e54092456e526800f31649968f36ea6e45\n",
+        ),
+        // the root is the committed structure's, and `new` drops the pending batch
+        (
+            "new mmr forward xor8\nadd -\nroot 0\ncommit\nadd ff\nnew mmr forward xor8\ncommit\n",
+            "ok\nok 0\n00\nok 1 1\nok 1\nok\nok 0 0\n",
+        ),
+        // a malformed line keeps the pending batch, and an `add` after a commit begins another
+        (
+            "new mmr forward xor8\nadd aB\nadd 0\nnew mmr\nadd Cd\ncommit\nroot 0\nadd 00\ncommit\n",
+            "ok\nok 0\nerror Syntax\nerror Syntax\nok 1\nok 2 3\n67\nok 2\nok 3 4\n",
+        ),
+        // a structure is asked for where the line is well-formed
+        (
+            "commit\nadd 01\nroot 0\nadd 0\nnew mmr forward xor8\ncommit\n",
+            "error NoStructure\nerror NoStructure\nerror NoStructure\nerror Syntax\nok\nok 0 0\n",
+        ),
+    ] {
+        check(&rt, rt.alloc(), lines.as_bytes(), answers);
+    }
+}
+
+const MALFORMED: [&[u8]; 44] = [
+    b"\n",
+    b" \n",
+    b"new\n",
+    b"new mmr\n",
+    b"new mmb forward\n",
+    b"new mmb backward xor8\n",
+    b"new mmr forwards\n",
+    b"new mmr forward xor9\n",
+    b"new mmr forward sha256\n",
+    b"new mmr forward \n",
+    b"new mmr forward xor8 \n",
+    b"new mmr forward xor8 xor8\n",
+    b"new  mmr forward\n",
+    b"New mmr forward\n",
+    b"add\n",
+    b"add \n",
+    b"add 0\n",
+    b"add 0g\n",
+    b"add  01\n",
+    b"add 01 \n",
+    b" add 01\n",
+    b"add 01 02\n",
+    b"add --\n",
+    b"add\t01\n",
+    b"add 01\r\n",
+    b"add 01\0\n",
+    b"add \xc3\xa9\n",
+    b"add \xff\n",
+    b"\xc3\xa9\n",
+    b"commit x\n",
+    b"commit \n",
+    b"commits",
+    b"root\n",
+    b"root 00\n",
+    b"root 01\n",
+    b"root 18446744073709551616\n",
+    b"root +5\n",
+    b"root -5\n",
+    b"root -\n",
+    b"root 0x0\n",
+    b"root 0 0\n",
+    b"update 0 01\n",
+    b"prune 0\n",
+    b"check 0 00",
+];
+
+#[test]
+fn malformed_lines(rt: HostRuntime) {
+    for line in MALFORMED {
+        check(&rt, rt.alloc(), line, "error Syntax\n");
+    }
+}
+
+#[test]
+fn long_lines(rt: HostRuntime) -> Result<(), Fail> {
+    let zeros = vec![in rt.alloc(); b'0'; 9998]?;
+    let mut lines = Vec::new(rt.alloc());
+    lines.extend_from_slice(b"new mmr forward xor8\nadd ")?;
+    lines.extend_from_slice(zeros.as_slice())?;
+    lines.extend_from_slice(b"5a\n11")?;
+    lines.extend_from_slice(zeros.as_slice())?;
+    lines.extend_from_slice(b"\nroot 11")?;
+    lines.extend_from_slice(zeros.as_slice())?;
+    lines.extend_from_slice(b"\ncommit\nroot 0\n")?;
+    check(
+        &rt,
+        rt.alloc(),
+        lines.as_slice(),
+        "ok\nok 0\nerror Syntax\nerror Syntax\nok 1 1\n5b\n",
+    );
+    Ok(())
+}
+
+const LINES: &[u8] = b"new mmr forward xor8\nadd 01\nadd 02\nadd 04\ncommit\nroot 0\nroot 3";
+
+const ANSWERS: &[u8] = b"ok\nok 0\nok 1\nok 2\nok 3 4\n04\nerror InvalidInactivePeaks\n";
+
+// A reader in memory that gives few bytes at a time. Each call with an odd number of calls left is interrupted, and the
+// one with none left fails.
+#[derive(Drop)]
+struct FailingReader<'a> {
+    rest: &'a [u8],
+    calls: usize,
+}
+
+impl io::Read for FailingReader<'_> {
+    fn read(&mut self, buf: &mut [u8]) -> io::Result<usize> {
+        if self.calls == 0 {
+            return Err(io::Error::from(io::ErrorKind::TimedOut));
+        }
+        self.calls -= 1;
+        if self.calls % 2 == 0 {
+            return Err(io::Error::from(io::ErrorKind::Interrupted));
+        }
+        let count = buf.len().min(self.rest.len()).min(5);
+        let (front, back) = self.rest.split_at(count);
+        buf[..count].copy_from_slice(front);
+        self.rest = back;
+        Ok(count)
+    }
+}
+
+// A writer in memory that takes few bytes at a time. The call with none left fails.
+#[derive(Drop)]
+struct FailingWriter {
+    bytes: [u8; 128],
+    len: usize,
+    calls: usize,
+}
+
+impl FailingWriter {
+    fn new(calls: usize) -> FailingWriter {
+        FailingWriter {
+            bytes: [0; 128],
+            len: 0,
+            calls,
+        }
+    }
+
+    fn written(&self) -> &[u8] {
+        if self.len <= 128 {
+            &self.bytes[..self.len]
+        } else {
+            &[]
+        }
+    }
+}
+
+impl io::Write for FailingWriter {
+    fn write(&mut self, buf: &[u8]) -> io::Result<usize> {
+        if self.calls == 0 || self.len >= 128 {
+            return Err(io::Error::from(io::ErrorKind::BrokenPipe));
+        }
+        self.calls -= 1;
+        let count = buf.len().min(3).min(128 - self.len);
+        self.bytes[self.len..self.len + count].copy_from_slice(&buf[..count]);
+        self.len += count;
+        Ok(count)
+    }
+
+    fn flush(&mut self) -> io::Result<()> {
+        if self.calls == 0 {
+            return Err(io::Error::from(io::ErrorKind::BrokenPipe));
+        }
+        self.calls -= 1;
+        Ok(())
+    }
+}
+
+#[test]
+fn each_read_fails_in_turn(rt: HostRuntime) {
+    let mut is_whole = false;
+    for tried in 0..100 {
+        let mut reader = FailingReader {
+            rest: LINES,
+            calls: tried,
+        };
+        let mut writer = FailingWriter::new(1000);
+        let result = run(rt.alloc(), &mut reader, &mut writer);
+        assert!(rt; ANSWERS.starts_with(writer.written()), "{tried} reads");
+        if result.is_ok() {
+            assert!(rt; ANSWERS == writer.written());
+            is_whole = tried > 10;
+            break;
+        }
+        assert_eq!(rt; result, Err(RunError::ReadFailed), "{tried} reads");
+    }
+    assert!(rt; is_whole);
+}
+
+#[test]
+fn each_write_fails_in_turn(rt: HostRuntime) {
+    let mut is_whole = false;
+    for tried in 0..200 {
+        let mut reader = FailingReader {
+            rest: LINES,
+            calls: 1000,
+        };
+        let mut writer = FailingWriter::new(tried);
+        let result = run(rt.alloc(), &mut reader, &mut writer);
+        assert!(rt; ANSWERS.starts_with(writer.written()), "{tried} writes");
+        if result.is_ok() {
+            assert!(rt; ANSWERS == writer.written());
+            is_whole = tried > 10;
+            break;
+        }
+        assert_eq!(rt; result, Err(RunError::WriteFailed), "{tried} writes");
+    }
+    assert!(rt; is_whole);
+}
+
+#[test]
+fn texts(rt: HostRuntime) -> Result<(), Fail> {
+    for (error, text) in [
+        (RunError::ReadFailed, "merkle: read failed"),
+        (RunError::WriteFailed, "merkle: write failed"),
+        (RunError::OutOfMemory, "merkle: out of memory"),
+    ] {
+        let shown = error.to_string(rt.alloc())?;
+        assert_eq!(rt; shown.as_str(), text);
+    }
+    Ok(())
+}
+
+#[test]
+fn hex_words(rt: HostRuntime) -> Result<(), Fail> {
+    for word in ["0", "012", "0g", "g0", "-", " ", "0 ", "+1", "\u{e9}"] {
+        assert!(rt; !is_hex_word(word), "{word}");
+        assert!(rt;
+            read_hex(rt.alloc(), word) == Err(HexError::Syntax),
+            "{word}"
+        );
+    }
+    for (word, spelled, shown) in [
+        ("", [].as_slice(), ""),
+        ("00", [0].as_slice(), "00"),
+        ("00fFAb", [0, 255, 171].as_slice(), "00ffab"),
+    ] {
+        assert!(rt; is_hex_word(word), "{word}");
+        let bytes = read_hex(rt.alloc(), word).expect(&rt, "bytes");
+        assert!(rt; bytes.as_slice() == spelled, "{word}");
+        let text = write_hex(rt.alloc(), bytes.as_slice()).expect(&rt, "text");
+        assert_eq!(rt; text.as_str(), shown);
+    }
+    Ok(())
+}
