@@ -19,7 +19,7 @@ pub flat_same : {A B : Type 0} (f g : A → List B) (xs : List A) → ((i : ℕ)
 flat_same f g [] e = refl
 flat_same f g (x ∷ xs) e = ap (λ ys. ys ++ flat_map f xs) (e 0 x refl) ∙ ap (λ ys. g x ++ ys) (flat_same f g xs (λ i y d. e (suc i) y d))
 
-same_contents : {D : Type 0} (b s t : ℕ) (f g : ℕ → Option D) → s ≡ t → ((p : ℕ) → f p ≡ g p) → ◌≡◌ {A = Contents D} (record { boundary = b; size = s; node = f }) (record { boundary = b; size = t; node = g })
+pub same_contents : {D : Type 0} (b s t : ℕ) (f g : ℕ → Option D) → s ≡ t → ((p : ℕ) → f p ≡ g p) → ◌≡◌ {A = Contents D} (record { boundary = b; size = s; node = f }) (record { boundary = b; size = t; node = g })
 same_contents b s t f g e k = λ i. record { boundary = b; size = e i; node = λ p. k p i }
 
 -- the peaks of n leaves are kept at each earlier boundary

@@ -6,7 +6,7 @@ use Rattle.std.proofs.lemmas.Bool.{cases_lt, lt-ltb, le-ltb}
 use Rattle.merkle_base.proofs.Lookup.{get_append_add}
 use Rattle.merkle_core.specs.Contents.{Contents, held_peaks}
 use Rattle.merkle_core.specs.Recorded.{Recorded, Chain}
-use Rattle.merkle_core.specs.Replay.{over, laid, begins_at, applied}
+use Rattle.merkle_core.specs.Replay.{over, laid, begins_at, matched, applied}
 use Rattle.merkle_core.specs.Store.{Store, node, contents, stored_of, whole_store}
 use Rattle.merkle_core.proofs.Edits.{get_left}
 use Rattle.merkle_core.proofs.Pruning.{same_contents}
@@ -51,4 +51,4 @@ module _ {D : Type 0} where
   applied_whole same rule n s b ns appended new before pb pa es eb begins en =
       let P : Store D → Chain D → Type 0 = λ t k. begins_at same t.size (held_peaks rule n (contents t)) k.own ≡ true → applied same rule n k (contents t) ≡ Ok (contents (whole_store new (length new))) in
       subst (λ t. P t b) es (subst (λ k. P (whole_store ns (length ns)) k) eb
-        (λ h. rw h (ap Ok (laid_whole ns appended before pb pa ∙ ap (λ xs. contents (whole_store xs (length xs))) (sym en))))) begins
+      (λ h. rw (applied, matched, h) (ap Ok (laid_whole ns appended before pb pa ∙ ap (λ xs. contents (whole_store xs (length xs))) (sym en))))) begins

@@ -43,7 +43,11 @@ impl<F: Family, D: Digest> Model for UnmerkleizedBatch<F, D> {
 
 impl<F: Family, D: Digest> UnmerkleizedBatch<F, D> {
     // A batch without changes, forked from a structure of so many leaves with these peaks, oldest first.
-    pub(crate) fn forked(alloc: Global, leaves: Location<F>, peaks: &[D]) -> Result<Self, AllocError>
+    pub(crate) fn forked(
+        alloc: Global,
+        leaves: Location<F>,
+        peaks: &[D],
+    ) -> Result<Self, AllocError>
         requires { leaves ≤ F.MAX_LEAVES }
         ensures { IfOk result (λ b. b ≡ record { leaves_before = leaves; peaks_before = peaks.now; added = [] }) }
     {
@@ -95,7 +99,11 @@ impl<F: Family, D: Digest> UnmerkleizedBatch<F, D> {
     ///
     /// Refused with `MissingNode` of a position that is needed and that the base doesn't hold, or with `OutOfMemory`; the
     /// batch is gone then.
-    pub fn merkleize<H: Hasher<F, Digest = D>>(self, base: &Mem<F, D>, hasher: &H) -> Result<Rc<MerkleizedBatch<F, D>>, Error<F>>
+    pub fn merkleize<H: Hasher<F, Digest = D>>(
+        self,
+        base: &Mem<F, D>,
+        hasher: &H,
+    ) -> Result<Rc<MerkleizedBatch<F, D>>, Error<F>>
         ensures fork { IfOk result (λ b. (b.value.base_size ≡ size F.rule self.leaves_before) × (b.value.own.before ≡ size F.rule self.leaves_before) × (b.value.own.peaks_before ≡ self.peaks_before)) }
         ensures counted { IfOk result (λ b. after b.value.own ≡ size F.rule (leaf_total self)) }
     {

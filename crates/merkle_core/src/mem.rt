@@ -131,11 +131,7 @@ impl<F: Family, D: Digest> Mem<F, D> {
     {
         let mut digests = [D::EMPTY; MAX_PEAKS];
         let count = self.write_peaks(&mut digests);
-        Ok(UnmerkleizedBatch::forked(
-            *self.nodes.allocator(),
-            self.leaves,
-            front(&digests, count),
-        )?)
+        Ok(UnmerkleizedBatch::forked(*self.nodes.allocator(), self.leaves, front(&digests, count))?)
     }
 
     /// Applies a batch.

@@ -60,7 +60,12 @@ impl<F> From<Gap<F>> for Error<F> {
 }
 
 // The node at a position: one of those appended after `size_before`, or else one of the base's.
-fn read_node<F: Family, D: Digest>(base: &Mem<F, D>, size_before: Position<F>, appended: &[D], position: Position<F>) -> Result<D, Gap<F>>
+fn read_node<F: Family, D: Digest>(
+    base: &Mem<F, D>,
+    size_before: Position<F>,
+    appended: &[D],
+    position: Position<F>,
+) -> Result<D, Gap<F>>
     ensures right { IfOk result (λ d. (truth : ℕ → D) → ReadsTrue (node base.now) size_before truth → appended.now ≡ truths truth size_before (length appended.now) → d ≡ truth position) }
     ensures missing { IfErr result (λ e. (e ≡ Gap.Missing position) × ((position < size_before → node base.now position ≡ None) × (size_before ≤ position → size_before + length appended.now ≤ position))) }
 {
@@ -78,7 +83,14 @@ fn read_node<F: Family, D: Digest>(base: &Mem<F, D>, size_before: Position<F>, a
 }
 
 // Appends the leaf at a location and the parents that come with it.
-fn append_leaf<F: Family, D: Digest, H: Hasher<F, Digest = D>>(base: &Mem<F, D>, hasher: &H, size_before: Position<F>, leaf: Location<F>, digest: D, appended: &mut Vec<D>) -> Result<(), Gap<F>>
+fn append_leaf<F: Family, D: Digest, H: Hasher<F, Digest = D>>(
+    base: &Mem<F, D>,
+    hasher: &H,
+    size_before: Position<F>,
+    leaf: Location<F>,
+    digest: D,
+    appended: &mut Vec<D>,
+) -> Result<(), Gap<F>>
     requires below { leaf < F.MAX_LEAVES }
     requires counted { size_before + length appended.old.items ≡ size F.rule leaf }
     ensures counted { OnOk result (size_before + length appended.new.items ≡ size F.rule (suc leaf)) }
@@ -96,7 +108,13 @@ fn append_leaf<F: Family, D: Digest, H: Hasher<F, Digest = D>>(base: &Mem<F, D>,
 }
 
 /// The nodes that come with leaves from a location on, over a base that holds the nodes before them.
-pub(crate) fn append_leaves<F: Family, D: Digest, H: Hasher<F, Digest = D>>(alloc: Global, base: &Mem<F, D>, hasher: &H, leaves_before: Location<F>, added: &[D]) -> Result<Vec<D>, Gap<F>>
+pub(crate) fn append_leaves<F: Family, D: Digest, H: Hasher<F, Digest = D>>(
+    alloc: Global,
+    base: &Mem<F, D>,
+    hasher: &H,
+    leaves_before: Location<F>,
+    added: &[D],
+) -> Result<Vec<D>, Gap<F>>
     requires { leaves_before + length added.now ≤ F.MAX_LEAVES }
     ensures counted { IfOk result (λ v. size F.rule leaves_before + length v.items ≡ size F.rule (leaves_before + length added.now)) }
     ensures right { IfOk result (λ v. (truth : ℕ → D) → IsTruth (H.hashing hasher.now) F.rule F.MAX_LEAVES truth → ReadsTrue (node base.now) (size F.rule leaves_before) truth → LeavesAre truth F.rule leaves_before added.now → v.items ≡ truths truth (size F.rule leaves_before) (length v.items)) }
@@ -112,7 +130,13 @@ pub(crate) fn append_leaves<F: Family, D: Digest, H: Hasher<F, Digest = D>>(allo
 }
 
 /// The digests of the peaks of so many leaves, oldest first, from the appended nodes and a base that holds those before.
-pub(crate) fn read_peaks<F: Family, D: Digest>(alloc: Global, base: &Mem<F, D>, size_before: Position<F>, appended: &[D], leaves: Location<F>) -> Result<Vec<D>, Gap<F>>
+pub(crate) fn read_peaks<F: Family, D: Digest>(
+    alloc: Global,
+    base: &Mem<F, D>,
+    size_before: Position<F>,
+    appended: &[D],
+    leaves: Location<F>,
+) -> Result<Vec<D>, Gap<F>>
     requires { leaves ≤ F.MAX_LEAVES }
     ensures right { IfOk result (λ v. (truth : ℕ → D) → ReadsTrue (node base.now) size_before truth → appended.now ≡ truths truth size_before (length appended.now) → v.items ≡ map truth (peak_positions F.rule leaves)) }
 {

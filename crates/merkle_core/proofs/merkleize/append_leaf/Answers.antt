@@ -53,11 +53,14 @@ loop-height-preserved g c =
     let at : c.add-position.result ≡ before + length items = omega (arith, c.len.ensures, c.loop-height.appended.ok, c.add-position.ensures) in
     let place : size rule c.args.leaf + 1 + length k.0 ≡ c.add-position.result = omega (arith, k.2, at) in
     let inner : HasInner rule max c.add-position.result c.in-Some.height =
-        subst (λ (p : ℕ). HasInner rule max p c.in-Some.height) place (parent_there rule max g.met.F.Family.lawful.equal c.args.leaf c.requires.below k.0 c.in-Some.height left whole) in (
+    subst (λ (p : ℕ). HasInner rule max p c.in-Some.height) place (parent_there rule max g.met.F.Family.lawful.equal c.args.leaf c.requires.below k.0 c.in-Some.height left whole) in (
       g.met.F.ParentHeights.Listed.may_go c.next.new.self,
       g.met.F.ParentHeights.Listed.ends c.next.new.self,
-      (k.0 ++ c.in-Some.height ∷ [], append_assoc k.0 (c.in-Some.height ∷ []) left ∙ whole,
-        omega (arith, k.2, ap length pushed, length-append items (digest ∷ []), length-append k.0 (c.in-Some.height ∷ []))),
+      (
+        k.0 ++ c.in-Some.height ∷ [],
+        append_assoc k.0 (c.in-Some.height ∷ []) left ∙ whole,
+        omega (arith, k.2, ap length pushed, length-append items (digest ∷ []), length-append k.0 (c.in-Some.height ∷ [])),
+      ),
       λ truth it reads is same.
           (let now = c.loop-height.invariant.3 truth it reads is same in
           let read = c.deref.ensures.value ∙ now ∙ ap (λ xs. truths truth before (length xs)) (sym c.deref.ensures.value) in
@@ -65,8 +68,8 @@ loop-height-preserved g c =
           let l = c.in_ok-left.ensures.right truth reads read in
           let r = c.in_ok-right.ensures.right truth reads read_again in
           let made : digest ≡ truth c.add-position.result =
-              c.node_digest.ensures ∙ ap (λ d. h.node c.add-position.result d c.in_ok-right.right) l ∙ ap (λ d. h.node c.add-position.result (truth c.children-left.result.0) d) r
-              ∙ sym (truth_joined h rule truth max it c.add-position.result c.in-Some.height c.children-left.result.0 c.children-left.result.1 inner c.children-left.ensures) in
+          c.node_digest.ensures ∙ ap (λ d. h.node c.add-position.result d c.in_ok-right.right) l ∙ ap (λ d. h.node c.add-position.result (truth c.children-left.result.0) d) r
+          ∙ sym (truth_joined h rule truth max it c.add-position.result c.in-Some.height c.children-left.result.0 c.children-left.result.1 inner c.children-left.ensures) in
           pushed ∙ truths_more truth before items digest now (made ∙ ap truth at) ∙ ap (λ xs. truths truth before (length xs)) (sym pushed)),
     )
 

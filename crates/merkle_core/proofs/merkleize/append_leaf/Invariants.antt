@@ -10,7 +10,7 @@ invariant-loop-height g l =
     (goal.iterator-loop-height g).can_next l.height-iterator
     × (goal.iterator-loop-height g).is_finite l.height-iterator
     × ((done : List ℕ)
-        × (done ++ g.F.ParentHeights.Listed.left l.height-iterator ≡ parent_heights g.F.Family.rule l.fn.leaf)
-        × (l.size_before + length l.appended.items ≡ size g.F.Family.rule l.fn.leaf + 1 + length done))
+    × (done ++ g.F.ParentHeights.Listed.left l.height-iterator ≡ parent_heights g.F.Family.rule l.fn.leaf)
+    × (l.size_before + length l.appended.items ≡ size g.F.Family.rule l.fn.leaf + 1 + length done))
     × ((truth : ℕ → g.row.D.Denot) → IsTruth (g.H.Hasher.hashing l.hasher) g.F.Family.rule g.F.Family.MAX_LEAVES truth → ReadsTrue (node l.base) l.size_before truth → l.fn.digest ≡ truth (size g.F.Family.rule l.fn.leaf)
-        → l.fn.appended.items ≡ truths truth l.size_before (length l.fn.appended.items) → l.appended.items ≡ truths truth l.size_before (length l.appended.items))
+    → l.fn.appended.items ≡ truths truth l.size_before (length l.fn.appended.items) → l.appended.items ≡ truths truth l.size_before (length l.appended.items))

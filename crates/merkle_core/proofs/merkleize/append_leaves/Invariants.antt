@@ -10,4 +10,4 @@ invariant-loop-digest g l =
     × (l.size_before ≡ size g.F.Family.rule l.fn.leaves_before)
     × (l.size_before + length l.appended.items ≡ size g.F.Family.rule l.leaf)
     × ((truth : ℕ → g.row.D.Denot) → IsTruth (g.H.Hasher.hashing l.hasher) g.F.Family.rule g.F.Family.MAX_LEAVES truth → ReadsTrue (node l.base) l.size_before truth → LeavesAre truth g.F.Family.rule l.fn.leaves_before l.added
-        → l.appended.items ≡ truths truth l.size_before (length l.appended.items))
+    → l.appended.items ≡ truths truth l.size_before (length l.appended.items))

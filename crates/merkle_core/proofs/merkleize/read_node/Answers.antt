@@ -12,6 +12,6 @@ returns-in-Some-clause-right g c = λ truth reads same. elim c.if-lt.branch [
   | else-lt w ↦ (let past : c.args.size_before ≤ c.args.position = search rules in
       let index : c.args.size_before + w.as_u64.result ≡ c.args.position = omega (arith, w.as_u64.ensures, w.sub.ensures) in
       let got : slice_get c.args.appended.now w.as_u64.result ≡ Some c.in-Some.digest =
-          sym (get_reads c.args.appended.now w.as_u64.result w.get.result w.get.ensures.lookup) ∙ sym w.copied-read.ensures ∙ sym w.read-is ∙ c.in-Some.is in
+      sym (get_reads c.args.appended.now w.as_u64.result w.get.result w.get.ensures.lookup) ∙ sym w.copied-read.ensures ∙ sym w.read-is ∙ c.in-Some.is in
       truths_get truth c.args.size_before (length c.args.appended.now) w.as_u64.result c.in-Some.digest (sym (ap (λ xs. slice_get xs w.as_u64.result) same) ∙ got) ∙ ap truth index)
 ]

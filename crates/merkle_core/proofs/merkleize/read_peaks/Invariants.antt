@@ -9,4 +9,4 @@ invariant-loop-position g l =
     (goal.iterator-loop-position g).can_next l.position-iterator
     × (goal.iterator-loop-position g).is_finite l.position-iterator
     × ((truth : ℕ → g.row.D.Denot) → ReadsTrue (node l.base) l.size_before truth → l.appended ≡ truths truth l.size_before (length l.appended)
-        → l.digests.items ++ map truth (map (λ q. q.0) (g.F.Peaks.Listed.left l.position-iterator)) ≡ map truth (peak_positions g.F.Family.rule l.fn.leaves))
+    → l.digests.items ++ map truth (map (λ q. q.0) (g.F.Peaks.Listed.left l.position-iterator)) ≡ map truth (peak_positions g.F.Family.rule l.fn.leaves))

@@ -12,4 +12,4 @@ invariant-loop-position g l =
     × (length l.digests ≡ 64)
     × (l.count + length (g.F.Peaks.Listed.left l.position-iterator) ≤ 64)
     × ((n : ℕ) → n ≤ g.F.Family.MAX_LEAVES → size g.F.Family.rule n ≡ l.self.size
-        → take l.count l.digests ++ held_at (contents l.self) (map (λ q. q.0) (g.F.Peaks.Listed.left l.position-iterator)) ≡ held_peaks g.F.Family.rule n (contents l.self))
+    → take l.count l.digests ++ held_at (contents l.self) (map (λ q. q.0) (g.F.Peaks.Listed.left l.position-iterator)) ≡ held_peaks g.F.Family.rule n (contents l.self))
