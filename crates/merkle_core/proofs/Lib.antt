@@ -19,3 +19,5 @@ pub mod Bases
 pub mod Stored
 pub mod TruthFacts
 pub mod Wholes
+pub mod Small
+pub mod Merkleized

@@ -17,7 +17,7 @@ module _ {D : Type 0} where
   pub node_whole : (ns : List D) (s p : ℕ) → node (whole_store ns s) p ≡ slice_get ns p
   node_whole ns s p = held_from [] 0 ns p (omega arith) refl ∙ (let z : p - 0 ≡ p = omega arith in ap (slice_get ns) z)
 
-  over_none : (o : Option D) → over None o ≡ o
+  pub over_none : (o : Option D) → over None o ≡ o
   over_none None = refl
   over_none (Some d) = refl
 

@@ -15,3 +15,4 @@ pub mod Truth
 pub mod Gaps
 pub mod HeldPeaks
 pub mod Refusals
+pub mod Rows

@@ -1,8 +1,11 @@
 //! Speculative batches: leaves to be added, and the nodes and peaks that follow from them.
-ghost use Rattle.std.specs.Prelude.{◌≡◌, ◌+◌, ◌<◌, ◌≤◌, ◌⊎◌, [], IfOk, IfErr};
+ghost use Rattle.std.specs.Prelude.{◌≡◌, ◌<◌, ◌≤◌, ◌⊎◌, List, [], ◌∷◌, IfOk, IfErr};
 ghost use Rattle.merkle_base.specs.Forest.{size};
-ghost use Rattle.merkle_core.specs.Pending.{leaf_total, with_leaf};
-ghost use Rattle.merkle_core.specs.Recorded.{after};
+ghost use Rattle.merkle_core.specs.Contents.{Agrees};
+ghost use Rattle.merkle_core.specs.Pending.{IsForkedFrom, leaf_total, pending_list, with_leaf};
+ghost use Rattle.merkle_core.specs.Recorded.{after, records};
+ghost use Rattle.merkle_core.specs.Stands.{StandsOn};
+ghost use Rattle.merkle_core.specs.Store.{contents};
 ghost use Rattle.merkle_core.specs.Replay.{begins_at};
 
 use crate::mem::Mem;
@@ -106,6 +109,10 @@ impl<F: Family, D: Digest> UnmerkleizedBatch<F, D> {
     ) -> Result<Rc<MerkleizedBatch<F, D>>, Error<F>>
         ensures fork { IfOk result (λ b. (b.value.base_size ≡ size F.rule self.leaves_before) × (b.value.own.before ≡ size F.rule self.leaves_before) × (b.value.own.peaks_before ≡ self.peaks_before)) }
         ensures counted { IfOk result (λ b. after b.value.own ≡ size F.rule (leaf_total self)) }
+
+        // Where it was forked from a structure of a list, and the base agrees with that list, it stands on the list and on
+        // the list with the added leaves.
+        ensures stands { IfOk result (λ b. (X : List D) → IsForkedFrom (H.hashing hasher.now) F.rule self X → Agrees (H.hashing hasher.now) F.rule (contents base.now) X → StandsOn (H.hashing hasher.now) F.rule (records b.value) (X ∷ pending_list self X ∷ [])) }
     {
         let UnmerkleizedBatch {
             leaves_before,

@@ -19,6 +19,12 @@ ghost use Rattle.merkle_core.specs.Based.{IsBased};
 ghost use Rattle.merkle_core.specs.Needed.{computed, level, is_computed, passes, total, IsUsed, IsNeeded};
 ghost use Rattle.merkle_core.specs.Completed.{IsCompleted};
 ghost use Rattle.merkle_core.specs.Collision.{Collide};
+ghost use Rattle.std.specs.List.{range_with_len};
+ghost use Rattle.merkle_base.specs.Root.{list_root};
+ghost use Rattle.merkle_base.specs.declared.family.Bagging.TheVariants.{ForwardFold, BackwardFold};
+ghost use Rattle.merkle_topology.specs.Mmr.{carries};
+ghost use Rattle.merkle_core.specs.Rows.{xor, first_record, second_record, second_batch, nothing, at_two, five, change};
+ghost use Rattle.merkle_core.specs.Replay.{refusal, AncestorDropped, StaleBatch};
 
 /// What is kept at a later boundary is kept at an earlier one.
 pub fn keeping()
@@ -163,4 +169,32 @@ pub fn marking<D>()
     ensures under { (m : ℕ → Option D) → (t : Tree) → is_touched m t ≡ true → (q k : ℕ) × IsUnder (leaf q k) t × (is_some (m q) ≡ true) }
     ensures sources { (rule : List ℕ → List ℕ) → (m : ℕ → Option D) → (n e : ℕ) → (t : Tree) → IsUsed rule m n e t
         → (size rule n ≤ position t) ⊎ ((is_touched m t ≡ true) ⊎ IsNeeded rule m n e t) }
+{}
+
+/// The definitions on small cases, by computing.
+pub fn worked_rows()
+    ensures leaves { xor.leaf 0 (1 ∷ []) ∷ xor.leaf 1 (2 ∷ []) ∷ xor.leaf 3 (4 ∷ []) ∷ [] ≡ 1 ∷ 3 ∷ 7 ∷ [] }
+    ensures digests { node_digests xor carries (1 ∷ 3 ∷ 7 ∷ []) ≡ 1 ∷ 3 ∷ 0 ∷ 7 ∷ [] }
+    ensures peaks { peak_digests xor carries (1 ∷ 3 ∷ 7 ∷ []) ≡ 0 ∷ 7 ∷ [] }
+    ensures forward_root { list_root xor carries 0 ForwardFold (1 ∷ 3 ∷ 7 ∷ []) 0 ≡ 4 }
+    ensures forward_root_one { list_root xor carries 0 ForwardFold (1 ∷ 3 ∷ 7 ∷ []) 1 ≡ 5 }
+    ensures backward_root { list_root xor carries 0 BackwardFold (1 ∷ 3 ∷ 7 ∷ []) 0 ≡ 5 }
+    ensures backward_root_one { list_root xor carries 0 BackwardFold (1 ∷ 3 ∷ 7 ∷ []) 1 ≡ 4 }
+    ensures empty_root { (list_root xor carries 0 ForwardFold [] 0 ≡ 0) × (list_root xor carries 0 BackwardFold [] 0 ≡ 1) }
+    ensures count_leaf { computed carries (at_two 25 25) 15 15 ≡ [] }
+    ensures count_eight { map position (computed carries (at_two 0 22) 15 16) ≡ 2 ∷ 6 ∷ 14 ∷ 24 ∷ 27 ∷ 28 ∷ 29 ∷ 30 ∷ [] }
+    ensures count_three { map position (computed carries (at_two 0 1) 4 6) ≡ 2 ∷ 6 ∷ 9 ∷ [] }
+    ensures count_all { length (computed {D = ℕ} carries (λ p. Some 0) 8 8) ≡ 7 }
+    ensures count_new { length (computed {D = ℕ} carries (λ p. None) 0 2) ≡ 1 }
+    ensures edit { edited carries second_record (1 ∷ 3 ∷ []) ≡ 17 ∷ 3 ∷ 7 ∷ [] }
+    ensures reads { map (newest (first_record ∷ second_record ∷ [])) (range_with_len 0 5) ≡ Some 17 ∷ Some 3 ∷ Some 16 ∷ Some 7 ∷ None ∷ [] }
+    ensures matched { matched xor.same 0 [] second_batch ≡ Some 0 }
+    ensures matched_later { matched xor.same 3 (0 ∷ []) second_batch ≡ Some 1 }
+    ensures stale { (matched xor.same 4 (16 ∷ 7 ∷ []) second_batch ≡ None) × (refusal 4 second_batch ≡ StaleBatch 0 4) }
+    ensures dropped { refusal 0 (record { base_size = 0; boundary = 0; ancestors = []; own = second_record }) ≡ AncestorDropped 4 0 }
+    ensures applies { map (all_laid (first_record ∷ second_record ∷ []) nothing).node (range_with_len 0 5) ≡ Some 17 ∷ Some 3 ∷ Some 16 ∷ Some 7 ∷ None ∷ [] }
+    ensures prunes { map (laid change (pruned carries 4 five)).node (range_with_len 0 9) ≡ None ∷ None ∷ None ∷ None ∷ None ∷ None ∷ Some 19 ∷ Some 2 ∷ None ∷ [] }
+    ensures stands { StandsOn xor carries (first_record ∷ second_record ∷ []) ([] ∷ (1 ∷ 3 ∷ []) ∷ (17 ∷ 3 ∷ 7 ∷ []) ∷ []) }
+    ensures needs { IsNeeded carries (at_two 0 0) 2 2 (leaf 1 1) }
+    ensures collide { Collide xor carries (1 ∷ 3 ∷ []) (2 ∷ 0 ∷ []) }
 {}
