@@ -57,7 +57,7 @@ module _ {D : Type 0} (h : Hashing D) (rule : List ℕ → List ℕ) (max_leaves
       let old = get_mapped (digest_at h X) (forest rule (length X)).nodes p d shown in
       let front : take (length X) (X ++ added) ≡ X = take-append_seam X added in
       let now : slice_get (node_digests h rule (X ++ added)) p ≡ Some d =
-          sym (taken h rule (X ++ added) (length X) p old.0 (omega (arith, length-append X added)) old.1) ∙ ap (λ xs. slice_get (node_digests h rule xs) p) front ∙ shown in
+      sym (taken h rule (X ++ added) (length X) p old.0 (omega (arith, length-append X added)) old.1) ∙ ap (λ xs. slice_get (node_digests h rule xs) p) front ∙ shown in
       let new = get_mapped (digest_at h (X ++ added)) (forest rule (length (X ++ added))).nodes p d now in
       new.2 ∙ sym (truth_at (length (X ++ added)) p new.0 long new.1)
 
@@ -89,7 +89,7 @@ module _ {D : Type 0} (h : Hashing D) (rule : List ℕ → List ℕ) (max_leaves
       let f = truth_of h rule max_leaves (X ++ added) in
       let b : ℕ = size rule (length X) in
       let parts : truths f 0 b ++ truths f b (length ds) ≡ truths f 0 (b + length ds) =
-          (let z : 0 + b ≡ b = omega arith in ap (λ (k : ℕ). truths f 0 b ++ truths f k (length ds)) (sym z) ∙ sym (map-append f (range_with_len 0 b) (range_with_len (0 + b) (length ds))) ∙ ap (map f) (range-add 0 b (length ds))) in
+      (let z : 0 + b ≡ b = omega arith in ap (λ (k : ℕ). truths f 0 b ++ truths f k (length ds)) (sym z) ∙ sym (map-append f (range_with_len 0 b) (range_with_len (0 + b) (length ds))) ∙ ap (map f) (range-add 0 b (length ds))) in
       let whole : truths f 0 b ++ truths f b (length ds) ≡ node_digests h rule (X ++ added) = parts ∙ ap (truths f 0) counted ∙ truths_whole in
       same ∙ sym (drop-append_seam (truths f 0 b) (truths f b (length ds))) ∙ ap (λ (k : ℕ). drop k (truths f 0 b ++ truths f b (length ds))) (length-map-range_with_len f 0 b) ∙ ap (drop b) whole
 

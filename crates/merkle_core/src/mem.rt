@@ -1,10 +1,15 @@
 //! Merkle structures in memory.
-ghost use Rattle.std.specs.Prelude.{◌≡◌, ◌<◌, ◌≤◌, ℕ, [], Err, None, Ok, is_some, take, true, length, OnErr, OnOk, IfOk, IsOkUnless};
-ghost use Rattle.merkle_base.specs.Places.{ArePeaks};
+ghost use Rattle.std.specs.Prelude.{◌≡◌, ◌<◌, ◌≤◌, ◌⊎◌, ℕ, List, [], Err, None, Ok, is_some, take, true, length, OnErr, OnOk, IfOk, IsOkUnless};
+ghost use Rattle.merkle_base.specs.Places.{ArePeaks, peaks_of};
 ghost use Rattle.merkle_base.specs.Forest.{size};
-ghost use Rattle.merkle_base.specs.Root.{peaks_root};
+ghost use Rattle.merkle_base.specs.Root.{list_root, peaks_root};
 ghost use Rattle.merkle_core.specs.Store.{node, contents, whole_store};
-ghost use Rattle.merkle_core.specs.Contents.{held_peaks};
+ghost use Rattle.merkle_base.specs.Hashing.{Hashing, TellsApart};
+ghost use Rattle.merkle_core.specs.Collision.{CollidesWithOne};
+ghost use Rattle.merkle_core.specs.Contents.{Agrees, held_peaks};
+ghost use Rattle.merkle_core.specs.Pending.{IsForkedFrom};
+ghost use Rattle.merkle_core.specs.Recorded.{records};
+ghost use Rattle.merkle_core.specs.Stands.{StandsOn, last_list};
 ghost use Rattle.merkle_core.specs.Replay.{applied, matched, refusal};
 ghost use Rattle.merkle_core.specs.Refusals.{error_of};
 
@@ -57,7 +62,8 @@ impl<F: Family, D: Digest> Model for Mem<F, D> {
 impl<F: Family, D: Digest> Mem<F, D> {
     /// The structure of no leaves.
     pub fn new(alloc: Global) -> Self
-        ensures { result ≡ whole_store [] 0 }
+        ensures empty { result ≡ whole_store [] 0 }
+        ensures agrees { (h : Hashing D) → Agrees h F.rule (contents result) [] }
     {
         Mem {
             nodes: Vec::new(alloc),
@@ -116,6 +122,10 @@ impl<F: Family, D: Digest> Mem<F, D> {
     pub fn root<H: Hasher<F, Digest = D>>(&self, hasher: &H, inactive: usize) -> Result<D, Error<F>>
         ensures ok { (n : ℕ) → n ≤ F.MAX_LEAVES → size F.rule n ≡ self.now.size → let peaks = held_peaks F.rule n (contents self.now) in inactive ≤ length peaks → result ≡ Ok (peaks_root (H.hashing hasher.now) F.DOMAIN (H.bagging_of hasher.now) n inactive inactive peaks) }
         ensures err { (n : ℕ) → n ≤ F.MAX_LEAVES → size F.rule n ≡ self.now.size → let peaks = held_peaks F.rule n (contents self.now) in length peaks < inactive → result ≡ Err (Error.InvalidInactivePeaks inactive (length peaks)) }
+
+        // It is the root of every list that the structure agrees with.
+        ensures listed { (X : List D) → Agrees (H.hashing hasher.now) F.rule (contents self.now) X → inactive ≤ length (peaks_of F.rule (length X)) → result ≡ Ok (list_root (H.hashing hasher.now) F.rule F.DOMAIN (H.bagging_of hasher.now) X inactive) }
+        ensures too_many { (X : List D) → Agrees (H.hashing hasher.now) F.rule (contents self.now) X → length (peaks_of F.rule (length X)) < inactive → result ≡ Err (Error.InvalidInactivePeaks inactive (length (peaks_of F.rule (length X)))) }
     {
         let mut digests = [D::EMPTY; MAX_PEAKS];
         let count = self.write_peaks(&mut digests);
@@ -127,6 +137,7 @@ impl<F: Family, D: Digest> Mem<F, D> {
     /// Refused with `OutOfMemory`.
     pub fn new_batch(&self) -> Result<UnmerkleizedBatch<F, D>, Error<F>>
         ensures forked { IfOk result (λ b. (n : ℕ) → n ≤ F.MAX_LEAVES → size F.rule n ≡ self.now.size → b ≡ record { leaves_before = n; peaks_before = held_peaks F.rule n (contents self.now); added = [] }) }
+        ensures of_list { IfOk result (λ b. (h : Hashing D) → (X : List D) → Agrees h F.rule (contents self.now) X → IsForkedFrom h F.rule b X) }
         ensures refused { IsOkUnless result Error.OutOfMemory }
     {
         let mut digests = [D::EMPTY; MAX_PEAKS];
@@ -144,6 +155,10 @@ impl<F: Family, D: Digest> Mem<F, D> {
         ensures done { OnOk result ((n : ℕ) → n ≤ F.MAX_LEAVES → size F.rule n ≡ self.old.size → applied D.eq F.rule n batch.now (contents self.old) ≡ Ok (contents self.new)) }
         ensures accepted { (n : ℕ) → n ≤ F.MAX_LEAVES → size F.rule n ≡ self.old.size → is_some (matched D.eq self.old.size (held_peaks F.rule n (contents self.old)) batch.now) ≡ true → IsOkUnless result Error.OutOfMemory }
         ensures refused { (n : ℕ) → n ≤ F.MAX_LEAVES → size F.rule n ≡ self.old.size → matched D.eq self.old.size (held_peaks F.rule n (contents self.old)) batch.now ≡ None → result ≡ Err (error_of (refusal self.old.size batch.now)) }
+
+        // Where the structure agreed with a list and the batch stands on lists, it agrees with the last of them, or the list
+        // and one of those have the same length and peak digests and collide at a node.
+        ensures agrees { OnOk result ((h : Hashing D) → (X : List D) → (ls : List (List D)) → TellsApart h → h.same ≡ D.eq → Agrees h F.rule (contents self.old) X → StandsOn h F.rule (records batch.now) ls → Agrees h F.rule (contents self.new) (last_list ls) ⊎ CollidesWithOne h F.rule X ls) }
     {
         let mut digests = [D::EMPTY; MAX_PEAKS];
         let count = self.write_peaks(&mut digests);

@@ -38,7 +38,7 @@ returns-clause-stands g c = λ X forked agrees.
     let reads : ReadsTrue (node base) (size rule n) truth = subst (λ (m : ℕ). ReadsTrue (node base) (size rule m) truth) (sym old) (truth_read h rule max X added fits (contents base) agrees) in
     let told : c.deref.result.now ≡ added = c.deref.ensures.value in
     let leaves : LeavesAre truth rule n c.deref.result.now =
-        subst (λ (m : ℕ). LeavesAre truth rule m c.deref.result.now) (sym old) (subst (λ ds. LeavesAre truth rule (length X) ds) (sym told) (truth_leaves h rule max X added fits)) in
+    subst (λ (m : ℕ). LeavesAre truth rule m c.deref.result.now) (sym old) (subst (λ ds. LeavesAre truth rule (length X) ds) (sym told) (truth_leaves h rule max X added fits)) in
     let right : items ≡ truths truth (size rule n) (length items) = c.in_ok-appended.ensures.right truth (truth_is h rule max X added fits) reads leaves in
     let total : n + length c.deref.result.now ≡ length (X ++ added) = omega (arith, old, ap length told, length-append X added) in
     let counted : size rule (length X) + length items ≡ size rule (length (X ++ added)) = omega (arith, c.in_ok-appended.ensures.counted, ap (size rule) old, ap (size rule) total) in
@@ -51,12 +51,12 @@ returns-clause-stands g c = λ X forked agrees.
           (let slice = w.deref-else-is_empty.ensures.value in
           let from : ReadsTrue (node base) c.location_to_position-size_before.result truth = subst (λ (m : ℕ). ReadsTrue (node base) m truth) (sym c.location_to_position-size_before.ensures) reads in
           let held : w.deref-else-is_empty.result.now ≡ truths truth c.location_to_position-size_before.result (length w.deref-else-is_empty.result.now) =
-              slice ∙ right ∙ ap (λ (m : ℕ). truths truth m (length items)) (sym c.location_to_position-size_before.ensures)
-              ∙ ap (λ ds. truths truth c.location_to_position-size_before.result (length ds)) (sym slice) in
+          slice ∙ right ∙ ap (λ (m : ℕ). truths truth m (length items)) (sym c.location_to_position-size_before.ensures)
+          ∙ ap (λ ds. truths truth c.location_to_position-size_before.result (length ds)) (sym slice) in
           let leaves_are : c.add-leaves.result ≡ length (X ++ added) = omega (arith, c.add-leaves.ensures, c.len.ensures, c.self.inside.added.ok, old, length-append X added) in
           ap (λ v. v.items) w.peaks_after-is ∙ w.in_ok-peaks_after-2.ensures.right truth from held ∙ ap (λ (m : ℕ). map truth (peak_positions rule m)) leaves_are ∙ peaks_whole h rule max X added fits)
     ] in
     let made : c.in_ok-new.field-0.value ≡ lone (appending (size rule (length X)) c.self.inside.peaks_before.items items c.if-is_empty.peaks_after.items) =
-        c.in_ok-new.ensures.ok ∙ ap (λ (m : ℕ). lone (appending m c.self.inside.peaks_before.items items c.if-is_empty.peaks_after.items)) start in
+    c.in_ok-new.ensures.ok ∙ ap (λ (m : ℕ). lone (appending m c.self.inside.peaks_before.items items c.if-is_empty.peaks_after.items)) start in
     subst (λ l. StandsOn h rule (records c.in_ok-new.field-0.value) (X ∷ l ∷ [])) list
     (subst (λ b. StandsOn h rule (records b) (X ∷ (X ++ added) ∷ [])) (sym made) (stands_whole h rule X added items c.self.inside.peaks_before.items c.if-is_empty.peaks_after.items peaks after same))
