@@ -32,11 +32,12 @@ claim_of h c X p ds = claim h c X p ds (drop (length (outer c p)) ds)
 abbrev pub HonestAccepted : Type 0 → Type 0
 HonestAccepted D = (h : Hashing D) (c : ℕ → Bool) (X Y : ℕ → D) (p : Plan) → ((i : ℕ) → c i ≡ true → Y i ≡ X i) → value h (claim_of h c Y p (honest_digests h X c p)) ≡ plan_digest h X p
 
--- a location of a tree and of a plan
+-- a location of a tree
 abbrev pub InTree : Tree → ℕ → Type 0
 InTree (leaf p i) j = i ≡ j
 InTree (join p l r) j = InTree l j ⊎ InTree r j
 
+-- the same of a plan
 abbrev pub InPlan : Plan → ℕ → Type 0
 InPlan (peak t) j = InTree t j
 InPlan (folding place l r) j = InPlan l j ⊎ InPlan r j

@@ -3,10 +3,12 @@ use Rattle.std.specs.Prelude.{◌≡◌, ◌≢◌, List, [], ◌∷◌, ◌⊎�
 use Rattle.merkle_proof.specs.Expression.{Place, Argument, digest_of_argument, Input, Expression, inputs, value, Holds, Alike, Agree}
 use Rattle.merkle_base.specs.Hashing.{Hashing}
 
+-- x is one of the elements
 abbrev pub Member : {X : Type 0} → List X → X → Type 0
 Member [] x = ⊥
 Member (y ∷ ys) x = (y ≡ x) ⊎ Member ys x
 
+-- a place, and the two arguments
 pub record Collision (D : Type 0) : Type 0 where
   pub place : Place
   pub claimed : Argument D

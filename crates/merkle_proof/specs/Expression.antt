@@ -20,6 +20,7 @@ hashed_at h Join l r = h.fold l r
 hashed_at h (PrefixFold i) l r = h.fold l r
 hashed_at h (SuffixFold i) l r = h.fold l r
 
+-- the digest of an argument at a place
 abbrev pub digest_of_argument : {D : Type 0} → Hashing D → Place → Argument D → D
 digest_of_argument h place (Pair l r) = hashed_at h place l r
 digest_of_argument h place (Bytes b) = h.hash b
@@ -35,6 +36,7 @@ pub data Expression (D : Type 0) : Type 0 where
   hashed : Place → Expression D → Expression D → Expression D
   told : D → Expression D → Expression D
 
+-- the digest that comes about
 abbrev pub value : {D : Type 0} → Hashing D → Expression D → D
 value h (given d) = d
 value h (hashed place l r) = hashed_at h place (value h l) (value h r)
@@ -52,6 +54,7 @@ visited h (given d) = []
 visited h (hashed place l r) = record { place = place; argument = Pair (value h l) (value h r) } ∷ visited h l ++ visited h r
 visited h (told d e) = visited h e
 
+-- whether a node is hashed there
 abbrev pub is_node : Place → Bool
 is_node Root = false
 is_node Join = false

@@ -4,6 +4,7 @@ use Rattle.merkle_proof.specs.Expression.{Place, Root, Join, PrefixFold, SuffixF
 use Rattle.merkle_base.specs.Hashing.{Hashing}
 use Rattle.merkle_proof.specs.Collision.{Collision, Collides, Laws}
 
+-- whether two places are one
 abbrev pub same_place : Place → Place → Bool
 same_place Root Root = true
 same_place Join Join = true
@@ -12,6 +13,7 @@ same_place (SuffixFold i) (SuffixFold j) = i == j
 same_place (Node p) (Node q) = p == q
 same_place _ _ = false
 
+-- whether two arguments are one
 abbrev pub same_argument : {D : Type 0} → Hashing D → Argument D → Argument D → Bool
 same_argument h (Pair a b) (Pair c d) = h.same a c && h.same b d
 same_argument h (Bytes a) (Bytes b) = bytes_eq a b
@@ -45,5 +47,6 @@ pub record IsFirstCollision {D : Type 0} (h : Hashing D) (xs ys : List (Input D)
   pub split : ys ≡ before ++ record { place = c.place; argument = c.listed } ∷ after
   pub none_before : (d : Collision D) → Collides h xs before d → ⊥
 
+-- the search finds the first collision, or there is none
 abbrev pub FindsFirst : Type 0 → Type 0
 FindsFirst D = (h : Hashing D) → Laws h → (xs ys : List (Input D)) → MatchOption (first_collision h xs ys) ((c : Collision D) → Collides h xs ys c → ⊥) (λ c. IsFirstCollision h xs ys c)

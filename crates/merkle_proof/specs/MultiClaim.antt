@@ -20,19 +20,17 @@ abbrev pub multi_tree : {D : Type 0} → Hashing D → (ℕ → Option D) → (�
 multi_tree h a c X (leaf p i) = cond (c i) (also (a p) (given (X i))) (given (or_empty h (a p)))
 multi_tree h a c X (join p l r) = cond (tree_meets c l || tree_meets c r) (also (a p) (hashed (Node p) (multi_tree h a c X l) (multi_tree h a c X r))) (given (or_empty h (a p)))
 
+-- the same of a plan: each fold is computed
 abbrev pub multi_claim : {D : Type 0} → Hashing D → (ℕ → Option D) → (ℕ → Bool) → (ℕ → D) → Plan → Expression D
 multi_claim h a c X (peak t) = multi_tree h a c X t
 multi_claim h a c X (folding place l r) = hashed place (multi_claim h a c X l) (multi_claim h a c X r)
-
-abbrev pub position_of : Tree → ℕ
-position_of (leaf p i) = p
-position_of (join p l r) = p
 
 -- what is told at a tree's position is its digest, and so below it, down to the nodes under which no chosen location lies
 abbrev pub TellsTree : {D : Type 0} → Hashing D → (ℕ → Option D) → (ℕ → Bool) → (ℕ → D) → Tree → Type 0
 TellsTree h a c X (leaf p i) = IfSome (a p) (λ d. d ≡ X i)
 TellsTree h a c X (join p l r) = IfSome (a p) (λ d. d ≡ tree_digest h X (join p l r)) × cond (tree_meets c l || tree_meets c r) (TellsTree h a c X l × TellsTree h a c X r) (Unit {0})
 
+-- the same of each peak
 abbrev pub Tells : {D : Type 0} → Hashing D → (ℕ → Option D) → (ℕ → Bool) → (ℕ → D) → Plan → Type 0
 Tells h a c X (peak t) = TellsTree h a c X t
 Tells h a c X (folding place l r) = Tells h a c X l × Tells h a c X r
@@ -42,10 +40,12 @@ abbrev pub SameTree : {D : Type 0} → (ℕ → Bool) → (ℕ → D) → (ℕ �
 SameTree c X Y (leaf p i) = c i ≡ true → Y i ≡ X i
 SameTree c X Y (join p l r) = SameTree c X Y l × SameTree c X Y r
 
+-- the same of each peak
 abbrev pub SameLeaves : {D : Type 0} → (ℕ → Bool) → (ℕ → D) → (ℕ → D) → Plan → Type 0
 SameLeaves c X Y (peak t) = SameTree c X Y t
 SameLeaves c X Y (folding place l r) = SameLeaves c X Y l × SameLeaves c X Y r
 
+-- what holds and has the list's value tells the list's digests, or collides with the list
 abbrev pub NoOtherMulti : Type 0 → Type 0
 NoOtherMulti D = (h : Hashing D) → Laws h → (a : ℕ → Option D) (c : ℕ → Bool) (X Y : ℕ → D) (p : Plan) → Holds h (multi_claim h a c Y p) → value h (multi_claim h a c Y p) ≡ plan_digest h X p
     → (Tells h a c X p × SameLeaves c X Y p) ⊎ ((k : Collision D) × Collides h (inputs h (multi_claim h a c Y p)) (inputs h (full X p)) k)

@@ -18,6 +18,7 @@ use Rattle.merkle_proof.specs.Table.{digest_for, digest_at_position}
 abbrev pub one_leaf_nodes : ℕ → List Tree → List Tree
 one_leaf_nodes i ts = flat_map (siblings (λ j. nat_eq j i)) ts
 
+-- whether one of them stands at p
 abbrev pub is_one_leaf_position : List Tree → ℕ → ℕ → Bool
 is_one_leaf_position ts p i = list_any (λ t. nat_eq (position t) p) (one_leaf_nodes i ts)
 
@@ -32,9 +33,11 @@ pub record MultiInput (D : Type 0) : Type 0 where
   pub digests : List D
   pub elements : List (ℕ × D)
 
+-- the locations of its elements
 abbrev pub locations_in : {D : Type 0} → MultiInput D → List ℕ
 locations_in r = map (λ e. e.0) r.elements
 
+-- their leaf digests
 abbrev pub leaves_in : {D : Type 0} → MultiInput D → List D
 leaves_in r = map (λ e. e.1) r.elements
 
@@ -43,6 +46,7 @@ abbrev pub multi_on : {D : Type 0} → Setting D → MultiInput D → Plan → E
 multi_on s r p = multi_claim s.hashing (digest_for (multi_positions s r.leaves (locations_in r)) r.digests) (λ i. list_any (nat_eq i) (locations_in r))
     (λ i. unwrap_or (digest_for (locations_in r) (leaves_in r) i) s.hashing.empty) p
 
+-- what the check computes, if there are peaks
 abbrev pub multi_expression : {D : Type 0} → Setting D → MultiInput D → Option (Expression D)
 multi_expression s r = option_map (multi_on s r) (whole s.bagging r.inactive (peaks_of s.rule r.leaves))
 
@@ -51,6 +55,7 @@ abbrev pub AllHolds : {D : Type 0} → Setting D → Option (Expression D) → T
 AllHolds s None = Unit {0}
 AllHolds s (Some e) = Holds s.hashing e
 
+-- an accepted input with elements
 pub record AcceptsMultiSome {D : Type 0} (s : Setting D) (r : MultiInput D) (root : D) : Type 0 where
   pub some : 0 < length r.elements
   pub ascend : AscendsFrom 0 (locations_in r)
@@ -61,12 +66,14 @@ pub record AcceptsMultiSome {D : Type 0} (s : Setting D) (r : MultiInput D) (roo
   pub redundant : AllHolds s (multi_expression s r)
   pub root_is : root_of s r.leaves r.inactive (multi_expression s r) ≡ root
 
+-- the empty proof of no elements
 pub record IsEmptyMulti {D : Type 0} (r : MultiInput D) : Type 0 where
   pub elements : r.elements ≡ []
   pub leaves : r.leaves ≡ 0
   pub inactive : r.inactive ≡ 0
   pub digests : r.digests ≡ []
 
+-- an accepted input
 abbrev pub AcceptsMulti : {D : Type 0} → Setting D → MultiInput D → D → Type 0
 AcceptsMulti s r root = AcceptsMultiSome s r root ⊎ (IsEmptyMulti r × (root_of s 0 0 None ≡ root))
 
@@ -80,16 +87,20 @@ pub record IsHonestMultiSome {D : Type 0} (s : Setting D) (xs : List D) (k : ℕ
   pub digests : r.digests ≡ map (digest_at_position s xs) (multi_positions s (length xs) (locations_in r))
   pub elements : leaves_in r ≡ map (leaf_of s.hashing xs) (locations_in r)
 
+-- an honest input: with elements, or the empty one of the empty list
 abbrev pub IsHonestMulti : {D : Type 0} → Setting D → List D → ℕ → MultiInput D → Type 0
 IsHonestMulti s xs k r = IsHonestMultiSome s xs k r ⊎ (IsEmptyMulti r × (xs ≡ []))
 
+-- a collision of a multi input with the list
 abbrev pub MultiCollides : {D : Type 0} → Setting D → MultiInput D → List D → ℕ → Type 0
 MultiCollides {D = D} s r xs k = (c : Collision D) × Collides s.hashing (all_inputs s r.leaves r.inactive (multi_expression s r)) (all_inputs s (length xs) k (list_expression s (leaf_of s.hashing xs) (length xs) k)) c
 
+-- the honest inputs are accepted
 abbrev pub HonestMultiIsAccepted : Type 0 → Type 0
 HonestMultiIsAccepted D = (s : Setting D) (size max_nodes : ℕ) → Sound s size max_nodes → (xs : List D) (k : ℕ) → length xs ≤ s.max_leaves → k ≤ length (peaks_of s.rule (length xs)) → (r : MultiInput D)
     → IsHonestMulti s xs k r → AcceptsMulti s r (plan_root s xs k)
 
+-- and no others, but for collisions
 abbrev pub AcceptedMultiIsHonest : Type 0 → Type 0
 AcceptedMultiIsHonest D = (s : Setting D) (size max_nodes : ℕ) → Sound s size max_nodes → (xs : List D) (k : ℕ) → length xs ≤ s.max_leaves → k ≤ length (peaks_of s.rule (length xs)) → (r : MultiInput D)
     → AcceptsMulti s r (plan_root s xs k) → IsHonestMulti s xs k r ⊎ MultiCollides s r xs k

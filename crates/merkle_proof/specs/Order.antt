@@ -10,11 +10,12 @@ use Rattle.merkle_proof.specs.Check.{inputs_of}
 use Rattle.merkle_proof.specs.Collision.{Member}
 use Rattle.merkle_proof.specs.Exact.{IsMap}
 
--- prefix folds from n down to 1; n suffix folds from i up
+-- prefix folds from n down to 1
 abbrev pub down : ℕ → List Place
 down zero = []
 down (suc n) = PrefixFold (suc n) ∷ down n
 
+-- n suffix folds from i up
 abbrev pub up : ℕ → ℕ → List Place
 up i zero = []
 up i (suc n) = SuffixFold i ∷ up (suc i) n
@@ -29,6 +30,7 @@ abbrev pub node_places : Tree → List Place
 node_places (leaf p i) = []
 node_places (join p l r) = Node p ∷ node_places l ++ node_places r
 
+-- the places of a list's inputs: the folds, and then the nodes of each peak
 abbrev pub PlacesInOrder : Type 0 → Type 0
 PlacesInOrder D = (h : Hashing D) (X : ℕ → D) (bagging : Bagging) (k : ℕ) (t : Tree) (ts : List Tree)
     → map (λ (i : Input D). i.place) (inputs_of h (option_map (full X) (whole bagging k (t ∷ ts)))) ≡ fold_places bagging k (suc (length ts)) ++ flat_map node_places (t ∷ ts)

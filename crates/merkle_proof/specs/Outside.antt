@@ -20,14 +20,17 @@ abbrev pub folded_prefix : Bagging → ℕ → List Tree → List Tree
 folded_prefix ForwardFold k before = before
 folded_prefix BackwardFold k before = take k before
 
+-- the peaks before the range that stand alone
 abbrev pub single_before : Bagging → ℕ → List Tree → List Tree
 single_before ForwardFold k before = []
 single_before BackwardFold k before = drop k before
 
+-- those after it that do
 abbrev pub single_after : Bagging → ℕ → ℕ → List Tree → List Tree
 single_after ForwardFold k met after = after
 single_after BackwardFold k met after = take (k - met) after
 
+-- the peaks after the range that are folded
 abbrev pub folded_suffix : Bagging → ℕ → ℕ → List Tree → List Tree
 folded_suffix ForwardFold k met after = []
 folded_suffix BackwardFold k met after = drop (k - met) after
@@ -41,15 +44,17 @@ layout bagging k before over after =
     ++ (map peak (single_after bagging k met after)
     ++ bag_all (met + (k - met)) (folded_suffix bagging k met after)))
 
--- no chosen location lies under any; one lies under each
+-- no chosen location lies under any
 abbrev pub Unmet : (ℕ → Bool) → List Tree → Type 0
 Unmet c [] = Unit {0}
 Unmet c (t ∷ ts) = (tree_meets c t ≡ false) × Unmet c ts
 
+-- one lies under each
 abbrev pub Met : (ℕ → Bool) → List Tree → Type 0
 Met c [] = Unit {0}
 Met c (t ∷ ts) = (tree_meets c t ≡ true) × Met c ts
 
+-- the plan has these outer parts and these inner nodes
 abbrev pub HasLayout : (ℕ → Bool) → List Plan → List Tree → Option Plan → Type 0
 HasLayout c os is None = ⊥
 HasLayout c os is (Some p) = (outer c p ≡ os) × (inner c p ≡ is)

@@ -32,19 +32,21 @@ whole bagging k [] = None
 whole ForwardFold k (t ∷ ts) = Some (forward (peak t) 1 ts)
 whole BackwardFold k (t ∷ ts) = Some (join_bag (forward (peak t) 1 (take (pred k) ts)) (suc (pred k)) (drop (pred k) ts))
 
--- the expression of a tree and of a plan, with X the leaf digest at each location
+-- the expression of a tree, with X the leaf digest at each location
 abbrev pub node_expression : {D : Type 0} → (ℕ → D) → Tree → Expression D
 node_expression X (leaf p i) = given (X i)
 node_expression X (join p l r) = hashed (Node p) (node_expression X l) (node_expression X r)
 
+-- the expression of a plan
 abbrev pub full : {D : Type 0} → (ℕ → D) → Plan → Expression D
 full X (peak t) = node_expression X t
 full X (folding place l r) = hashed place (full X l) (full X r)
 
--- the digest of a tree and of a plan
+-- the digest of a tree
 abbrev pub tree_digest : {D : Type 0} → Hashing D → (ℕ → D) → Tree → D
 tree_digest h X t = value h (node_expression X t)
 
+-- the digest of a plan
 abbrev pub plan_digest : {D : Type 0} → Hashing D → (ℕ → D) → Plan → D
 plan_digest h X p = value h (full X p)
 
@@ -53,6 +55,7 @@ abbrev pub tree_meets : (ℕ → Bool) → Tree → Bool
 tree_meets c (leaf p i) = c i
 tree_meets c (join p l r) = tree_meets c l || tree_meets c r
 
+-- the same of a plan
 abbrev pub meets : (ℕ → Bool) → Plan → Bool
 meets c (peak t) = tree_meets c t
 meets c (folding place l r) = meets c l || meets c r

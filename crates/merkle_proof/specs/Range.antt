@@ -11,26 +11,31 @@ use Rattle.merkle_proof.specs.Outside.{layout}
 use Rattle.merkle_proof.specs.Check.{Setting, root_of, all_inputs, list_expression, RangeInput, range_expression}
 use Rattle.merkle_base.specs.Places.{peaks_of}
 
+-- whether i lies in a..b
 abbrev pub in_range : ℕ → ℕ → ℕ → Bool
 in_range a b i = nat_le a i && nat_lt i b
 
+-- the location after the last leaf
 abbrev pub end_leaf : Tree → ℕ
 end_leaf t = first_leaf t + width t
 
--- of some peaks those wholly before the range a..b, those that overlap it, and those wholly after it
+-- of some peaks those wholly before the range a..b
 abbrev pub wholly_before : ℕ → List Tree → List Tree
 wholly_before a ts = filter (λ t. nat_le (end_leaf t) a) ts
 
+-- those that overlap it
 abbrev pub overlapping : ℕ → ℕ → List Tree → List Tree
 overlapping a b ts = filter (λ t. nat_lt (first_leaf t) b && nat_lt a (end_leaf t)) ts
 
+-- those wholly after it
 abbrev pub wholly_after : ℕ → List Tree → List Tree
 wholly_after b ts = filter (λ t. nat_le b (first_leaf t)) ts
 
--- the peaks and folds of peaks whose digests a proof of a..b begins with, and the path siblings that follow
+-- the peaks and folds of peaks whose digests a proof of a..b begins with
 abbrev pub range_parts : Bagging → ℕ → ℕ → ℕ → List Tree → List Plan
 range_parts bagging k a b ts = layout bagging k (wholly_before a ts) (overlapping a b ts) (wholly_after b ts)
 
+-- the path siblings that follow
 abbrev pub range_siblings : ℕ → ℕ → List Tree → List Tree
 range_siblings a b ts = flat_map (siblings (in_range a b)) (overlapping a b ts)
 
@@ -44,6 +49,7 @@ range_digests s xs k a b =
     map (plan_digest s.hashing (leaf_of s.hashing xs)) (range_parts s.bagging k a b (peaks_of s.rule (length xs)))
     ++ map (tree_digest s.hashing (leaf_of s.hashing xs)) (range_siblings a b (peaks_of s.rule (length xs)))
 
+-- the location after the last element
 abbrev pub end_of : {D : Type 0} → RangeInput D → ℕ
 end_of r = r.start + length r.elements
 
@@ -64,6 +70,7 @@ pub record IsEmptyInput {D : Type 0} (r : RangeInput D) : Type 0 where
   pub inactive : r.inactive ≡ 0
   pub digests : r.digests ≡ []
 
+-- an accepted input: with elements, or the empty one
 abbrev pub Accepts : {D : Type 0} → Setting D → RangeInput D → D → Type 0
 Accepts s r root = AcceptsSome s r root ⊎ (IsEmptyInput r × (root_of s 0 0 None ≡ root))
 
@@ -76,6 +83,7 @@ pub record IsHonestSome {D : Type 0} (s : Setting D) (xs : List D) (k : ℕ) (r 
   pub digests : r.digests ≡ range_digests s xs k r.start (end_of r)
   pub elements : r.elements ≡ take (length r.elements) (drop r.start xs)
 
+-- an honest input: with elements, or the empty one of the empty list
 abbrev pub IsHonestRange : {D : Type 0} → Setting D → List D → ℕ → RangeInput D → Type 0
 IsHonestRange s xs k r = IsHonestSome s xs k r ⊎ (IsEmptyInput r × (xs ≡ []))
 

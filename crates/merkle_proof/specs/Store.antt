@@ -20,13 +20,14 @@ sub_siblings h c d X (join p l r) ds = cond (tree_meets d l || tree_meets d r)
     (sub_siblings h c d X l ds ++ sub_siblings h c d X r (drop (length (siblings c l)) ds))
     (value h (tree_claim h c X (join p l r) ds) ∷ [])
 
--- the same of the maximal parts of a plan, and of the nodes within its peaks
+-- the same of the maximal parts of a plan
 abbrev pub sub_outer : {D : Type 0} → Hashing D → (ℕ → Bool) → (ℕ → Bool) → (ℕ → D) → Plan → List D → List D → List D
 sub_outer h c d X (peak t) os is = cond (tree_meets d t) [] (value h (claim h c X (peak t) os is) ∷ [])
 sub_outer h c d X (folding place l r) os is = cond (meets d l || meets d r)
     (sub_outer h c d X l os is ++ sub_outer h c d X r (drop (length (outer c l)) os) (drop (length (inner c l)) is))
     (value h (claim h c X (folding place l r) os is) ∷ [])
 
+-- the same of the nodes within its peaks
 abbrev pub sub_inner : {D : Type 0} → Hashing D → (ℕ → Bool) → (ℕ → Bool) → (ℕ → D) → Plan → List D → List D → List D
 sub_inner h c d X (peak t) os is = cond (tree_meets d t) (sub_siblings h c d X t is) []
 sub_inner h c d X (folding place l r) os is = cond (meets d l || meets d r)

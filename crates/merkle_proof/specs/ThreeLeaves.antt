@@ -7,6 +7,7 @@ use Rattle.merkle_proof.specs.Plan.{Plan, full, peak, honest_digests, forward}
 use Rattle.merkle_proof.specs.Claim.{claim_of}
 use Rattle.merkle_proof.specs.FirstCollision.{first_collision}
 
+-- the exclusive or of what is hashed
 abbrev pub xor_hashing : Hashing ℕ
 xor_hashing = record { leaf = λ p e. 0; node = λ p l r. bit_xor p (bit_xor l r); fold = λ a b. bit_xor a b; hash = λ bs. 0; bytes = λ d. d ∷ []; same = nat_eq; empty = 0 }
 
@@ -14,9 +15,11 @@ xor_hashing = record { leaf = λ p e. 0; node = λ p l r. bit_xor p (bit_xor l r
 abbrev pub three : ℕ → ℕ
 three i = get_or (1 ∷ 3 ∷ 7 ∷ []) i 0
 
+-- their peaks, folded
 abbrev pub plan_of_three : Plan
 plan_of_three = forward (peak (join 2 (leaf 0 0) (leaf 1 1))) 1 (leaf 3 2 ∷ [])
 
+-- the honest digests, and the collision of the swapped ones
 abbrev pub ThreeLeaves : Type 0
 ThreeLeaves = record {
   honest : honest_digests xor_hashing three (λ i. nat_lt i 1) plan_of_three ≡ 7 ∷ 3 ∷ [];

@@ -11,16 +11,19 @@ use Rattle.merkle_proof.specs.Extract.{extracted}
 use Rattle.merkle_proof.specs.Multiproof.{MultiInput, multi_expression, AcceptsMulti, IsHonestMultiSome, IsHonestMulti}
 use Rattle.merkle_proof.specs.Pinned.{honest_pins, pinned_expression, AcceptsPinned, IsHonestPinned}
 
--- all that is hashed for a list, for a range input, for a multi input and for a pinned input
+-- all that is hashed for a list
 abbrev pub list_inputs : {D : Type 0} → Setting D → List D → ℕ → List (Input D)
 list_inputs s xs k = all_inputs s (length xs) k (list_expression s (leaf_of s.hashing xs) (length xs) k)
 
+-- all that is hashed for a range input
 abbrev pub range_inputs : {D : Type 0} → Setting D → RangeInput D → List (Input D)
 range_inputs s r = all_inputs s r.leaves r.inactive (range_expression s r)
 
+-- for a multi input
 abbrev pub multi_inputs : {D : Type 0} → Setting D → MultiInput D → List (Input D)
 multi_inputs s r = all_inputs s r.leaves r.inactive (multi_expression s r)
 
+-- for a pinned input
 abbrev pub pinned_inputs : {D : Type 0} → Setting D → RangeInput D → List D → List (Input D)
 pinned_inputs s r pins = all_inputs s r.leaves r.inactive (pinned_expression s r pins)
 
