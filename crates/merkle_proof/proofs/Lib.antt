@@ -24,3 +24,14 @@ pub mod Verdicts
 pub mod PairsOnce
 pub mod ClearMulti
 pub mod ClearPinned
+pub mod Spans
+pub mod Comparisons
+pub mod Walks
+pub mod Grouping
+pub mod PeakLoop
+pub mod PeakValues
+pub mod ForwardValues
+pub mod ForwardRoot
+pub mod RangeRoot
+pub mod HasherLaws
+pub mod GivenLeaves

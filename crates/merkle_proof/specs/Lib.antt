@@ -22,3 +22,7 @@ pub mod Multiproof
 pub mod Pinned
 pub mod Store
 pub mod Verdict
+pub mod Subtrees
+pub mod Walk
+pub mod GroupedPeaks
+pub mod Input
