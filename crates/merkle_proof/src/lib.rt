@@ -1,4 +1,8 @@
 //! Digests of nodes and roots, and proofs against roots.
 #![tactic(auto)]
 
+mod groups;
 pub mod hasher;
+pub mod laws;
+pub mod proof;
+mod subtree;

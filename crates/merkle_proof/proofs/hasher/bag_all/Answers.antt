@@ -1,6 +1,5 @@
-use Rattle.std.proofs.Common.{◌≡◌, ◌<◌, Some, None, drop, arith, ap, sym, ◌∙◌}
+use Rattle.std.proofs.Common.{Some, arith, ap, sym, ◌∙◌}
 use Rattle.std.specs.Option.{option_map_or}
-use Rattle.merkle_base.specs.Root.{bag}
 use Rattle.merkle_proof.proofs.BagLemmas.{bag_step}
 use Rattle.merkle_proof.proofs.hasher.bag_all.Goals as goal
 

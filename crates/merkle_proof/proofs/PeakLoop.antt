@@ -1,0 +1,117 @@
+-- A walk over the peaks, oldest first.
+use Rattle.std.proofs.Common.{◌≡◌, ℕ, ◌+◌, ◌<◌, ◌≤◌, List, [], ◌∷◌, ◌++◌, map, filter, take, length, get_or, zero, suc, Bool, true, false, cond, reverse, Some, slice_get, arith, refl, ap, sym, ◌∙◌, subst, append-nil, append_assoc, add-one}
+use Rattle.std.specs.List.{AllByRecursion, flat_map}
+use Rattle.std.proofs.lemmas.List.{map-append}
+use Rattle.merkle_proof.specs.declared.subtree.Subtree.{Subtree}
+use Rattle.merkle_proof.specs.Subtrees.{Means}
+use Rattle.merkle_proof.specs.Plan.{siblings}
+use Rattle.merkle_base.specs.Tree.{Tree, position, height, first_leaf, width, IsBuilt}
+use Rattle.merkle_base.specs.Forest.{forest}
+use Rattle.merkle_base.proofs.Growth.{forest_grown, built_at}
+use Rattle.merkle_base.proofs.Nodes.{node_stays}
+use Rattle.merkle_proof.proofs.PeakGroups.{Spans, covers_spans, all_reverse}
+use Rattle.merkle_proof.specs.Subtrees.{Stands}
+use Rattle.merkle_proof.specs.declared.groups.Groups.{Groups}
+use Rattle.merkle_proof.specs.GroupedPeaks.{HoldsGroups}
+use Rattle.merkle_proof.specs.Subtrees.{AreNodes}
+use Rattle.merkle_proof.specs.Subtrees.{subtree_of}
+
+cons_head : {A : Type 0} (x y : A) (xs ys : List A) → x ∷ xs ≡ y ∷ ys → x ≡ y
+cons_head x y xs ys e = cc
+
+cons_tail : {A : Type 0} (x y : A) (xs ys : List A) → x ∷ xs ≡ y ∷ ys → xs ≡ ys
+cons_tail x y xs ys e = cc
+
+-- what a peak iterator gives of a peak
+abbrev pub placed : Tree → ℕ × ℕ
+placed t = (position t, height t)
+
+-- the peaks that are left begin at leaf s, and the others are grouped
+pub record Walked {F : Type 0} (rule : List ℕ → List ℕ) (m n a b : ℕ) (left : List (ℕ × ℕ)) (s : ℕ) (g : Groups F) : Type 0 where
+  pub done : List Tree
+  pub rest : List Tree
+  pub all : reverse (forest rule n).peaks ≡ done ++ rest
+  pub left_is : left ≡ map placed rest
+  pub spans : Spans s n rest
+  pub at : AreNodes rule m rest
+  pub held : HoldsGroups a b g done
+
+all_map : (P Q : Tree → Type 0) → ((t : Tree) → P t → Q t) → (ts : List Tree) → AllByRecursion P ts → AllByRecursion Q ts
+all_map P Q f [] h = tt
+all_map P Q f (t ∷ ts) h = (f t h.0, all_map P Q f ts h.1)
+
+pub peaks_at : (rule : List ℕ → List ℕ) (m n : ℕ) → n ≤ m → AreNodes rule m (reverse (forest rule n).peaks)
+peaks_at rule m n l = all_map (IsBuilt (forest rule n).nodes) _ (λ t h. node_stays rule n m (position t) t l (built_at (forest rule n).nodes t h)) (reverse (forest rule n).peaks) (all_reverse (IsBuilt (forest rule n).nodes) (forest rule n).peaks (forest_grown rule n).built)
+
+pub walk_begins : {F : Type 0} (rule : List ℕ → List ℕ) (m n a b : ℕ) (left : List (ℕ × ℕ)) (g : Groups F) → n ≤ m → left ≡ map placed (reverse (forest rule n).peaks) → HoldsGroups a b g [] → Walked rule m n a b left 0 g
+walk_begins rule m n a b left g l e h = record {
+  done = [];
+  rest = reverse (forest rule n).peaks;
+  all = refl;
+  left_is = e;
+  spans = covers_spans n (forest rule n).peaks (forest_grown rule n).covers;
+  at = peaks_at rule m n l;
+  held = h;
+}
+
+-- the next peak
+pub next_peak : {F : Type 0} (rule : List ℕ → List ℕ) (m n a b : ℕ) (left : List (ℕ × ℕ)) (s : ℕ) (g : Groups F) → Walked rule m n a b left s g → (p h : ℕ) (more : List (ℕ × ℕ)) → left ≡ (p, h) ∷ more
+    → (t : Tree) × Stands rule m p h s t × ((g' : Groups F) → ((done : List Tree) → HoldsGroups a b g done → HoldsGroups a b g' (done ++ t ∷ [])) → (s' : ℕ) → s' ≡ first_leaf t + width t → Walked rule m n a b more s' g')
+next_peak {F = F} rule m n a b left s g w p h more e = step w.rest w.all (sym e ∙ w.left_is) w.spans w.at
+  where
+    step : (rest : List Tree) → reverse (forest rule n).peaks ≡ w.done ++ rest → (p, h) ∷ more ≡ map placed rest → Spans s n rest → AreNodes rule m rest
+        → (t : Tree) × Stands rule m p h s t × ((g' : Groups F) → ((done : List Tree) → HoldsGroups a b g done → HoldsGroups a b g' (done ++ t ∷ [])) → (s' : ℕ) → s' ≡ first_leaf t + width t → Walked rule m n a b more s' g')
+    step [] all l spans at = absurd (cc)
+    step (t ∷ ts) all l spans at =
+        let x : p ≡ position t = ap (λ q. q.0) (cons_head (p, h) (placed t) more (map placed ts) l) in
+        let y : h ≡ height t = ap (λ q. q.1) (cons_head (p, h) (placed t) more (map placed ts) l) in
+        let z : more ≡ map placed ts = cons_tail (p, h) (placed t) more (map placed ts) l in (
+          t,
+          record { at = subst (λ (q : ℕ). slice_get (forest rule m).nodes q ≡ Some t) (sym x) at.0; height_is = sym y; first_is = spans.0 },
+          λ g' f s' u. record {
+            done = w.done ++ t ∷ [];
+            rest = ts;
+            all = all ∙ sym (append_assoc w.done (t ∷ []) ts);
+            left_is = z;
+            spans = subst (λ (q : ℕ). Spans q n ts) (sym (u ∙ ap (λ (q : ℕ). q + width t) spans.0)) spans.1;
+            at = at.1;
+            held = f w.done w.held;
+          },
+        )
+
+pub walk_ends : {F : Type 0} (rule : List ℕ → List ℕ) (m n a b : ℕ) (left : List (ℕ × ℕ)) (s : ℕ) (g : Groups F) → Walked rule m n a b left s g → left ≡ [] → HoldsGroups a b g (reverse (forest rule n).peaks)
+walk_ends rule m n a b left s g w e = step w.rest w.all (sym e ∙ w.left_is)
+  where
+    step : (rest : List Tree) → reverse (forest rule n).peaks ≡ w.done ++ rest → [] ≡ map placed rest → HoldsGroups a b g (reverse (forest rule n).peaks)
+    step [] all l = subst (HoldsGroups a b g) (sym (all ∙ append-nil w.done)) w.held
+    step (t ∷ ts) all l = absurd (cc)
+
+pub filter_nodes : (P : Tree → Type 0) (p : Tree → Bool) (ts : List Tree) → AllByRecursion P ts → AllByRecursion P (filter p ts)
+filter_nodes P p [] h = tt
+filter_nodes P p (t ∷ ts) h = both (p t) (filter_nodes P p ts h.1)
+  where
+    both : (b : Bool) → AllByRecursion P (filter p ts) → AllByRecursion P (cond b (t ∷ filter p ts) (filter p ts))
+    both true k = (h.0, k)
+    both false k = k
+
+-- element i of the subtrees of some nodes means node i
+pub element_means : {F : Type 0} (rule : List ℕ → List ℕ) (m : ℕ) (xs : List (Subtree F)) (ts : List Tree) → xs ≡ map subtree_of ts → AreNodes rule m ts → (i : ℕ) → i < length xs → (d : Subtree F)
+    → (t : Tree) × Means rule m (get_or xs i d) t × (take (i + 1) ts ≡ take i ts ++ t ∷ [])
+element_means {F = F} rule m xs ts e h i l d = subst (λ ys. (i < length ys) → (t : Tree) × Means rule m (get_or ys i d) t × (take (i + 1) ts ≡ take i ts ++ t ∷ [])) (sym e) (step ts i h) l
+  where
+    one : (t : Tree) (ts : List Tree) → take (0 + 1) (t ∷ ts) ≡ take 0 (t ∷ ts) ++ t ∷ []
+    one t ts = refl
+
+    step : (ts : List Tree) (i : ℕ) → AreNodes rule m ts → i < length (map (subtree_of {F = F}) ts) → (t : Tree) × Means rule m (get_or (map subtree_of ts) i d) t × (take (i + 1) ts ≡ take i ts ++ t ∷ [])
+    step [] i h l = absurd (omega arith)
+    step (t ∷ ts) zero h l = (t, record { at = h.0; height_is = refl; first_is = refl }, one t ts)
+    step (t ∷ ts) (suc i) h l = let w = step ts i h.1 (omega arith) in (w.0, w.1, ap (λ n. take n (t ∷ ts)) (add-one (suc i)) ∙ ap (λ z. t ∷ z) (ap (λ n. take n ts) (sym (add-one i)) ∙ w.2))
+
+flat_push : (c : ℕ → Bool) (ts : List Tree) (t : Tree) → flat_map (siblings c) (ts ++ t ∷ []) ≡ flat_map (siblings c) ts ++ siblings c t
+flat_push c [] t = append-nil (siblings c t)
+flat_push c (u ∷ ts) t = ap (λ z. siblings c u ++ z) (flat_push c ts t) ∙ sym (append_assoc (siblings c u) (flat_map (siblings c) ts) (siblings c t))
+
+-- the siblings of one more tree
+pub more_siblings : (c : ℕ → Bool) (ts us : List Tree) (t : Tree) (xs ys : List ℕ) → us ≡ ts ++ t ∷ [] → xs ≡ map position (flat_map (siblings c) ts) → ys ≡ xs ++ map position (siblings c t) → ys ≡ map position (flat_map (siblings c) us)
+more_siblings c ts us t xs ys u e f =
+    f ∙ ap (λ z. z ++ map position (siblings c t)) e ∙ sym (map-append position (flat_map (siblings c) ts) (siblings c t)) ∙ ap (map position) (sym (flat_push c ts t)) ∙ ap (λ z. map position (flat_map (siblings c) z)) (sym u)

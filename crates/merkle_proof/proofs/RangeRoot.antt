@@ -1,0 +1,130 @@
+-- The root that a proof and elements lead to.
+use Rattle.std.proofs.Common.{◌≡◌, ◌≢◌, ℕ, ◌+◌, ◌<◌, ◌≤◌, true, Bool, List, [], ◌∷◌, ◌++◌, length, length-append, take, drop, refl, ap, sym, ◌∙◌, subst, arith, inl, inr}
+use Rattle.std.specs.List.{flat_map}
+use Rattle.std.specs.Borrow.{Bor}
+use Rattle.std.proofs.lemmas.List.{length-map, length-reverse}
+use Rattle.merkle_base.specs.Tree.{Tree, height, position}
+use Rattle.merkle_base.specs.Forest.{forest}
+use Rattle.merkle_base.specs.Heights.{IsLawful}
+use Rattle.merkle_base.specs.Hashing.{Hashing}
+use Rattle.merkle_base.specs.Places.{peaks_of}
+use Rattle.merkle_base.specs.Root.{peaks_root}
+use Rattle.merkle_base.specs.declared.family.Bagging.{Bagging}
+use Rattle.merkle_base.specs.declared.family.Bagging.TheVariants.{ForwardFold}
+use Rattle.merkle_base.proofs.Balance.{heights_forest}
+use Rattle.merkle_base.proofs.Growth.{forest_grown}
+use Rattle.merkle_proof.specs.Plan.{siblings}
+use Rattle.merkle_proof.specs.Outside.{fold_all}
+use Rattle.merkle_proof.specs.Check.{Setting, RangeInput, chosen, leaf_given}
+use Rattle.merkle_proof.specs.Range.{in_range, wholly_before, overlapping, wholly_after, end_of, Accepts}
+use Rattle.merkle_proof.specs.Walk.{bytes_of, leaf_from, peak_values, ArePeakDigests}
+use Rattle.merkle_proof.specs.Input.{setting, input_of, HasShape, IsComputed}
+use Rattle.merkle_proof.specs.Subtrees.{subtree_of}
+use Rattle.merkle_proof.specs.GroupedPeaks.{HoldsGroups}
+use Rattle.merkle_proof.specs.declared.proof.Proof.{Proof}
+use Rattle.merkle_proof.specs.declared.groups.Groups.{Groups}
+use Rattle.merkle_proof.proofs.PeakGroups.{covers_spans, groups, some_over}
+use Rattle.merkle_proof.proofs.GivenLeaves.{values_chosen, length-leaf_digests, leaf_in_range}
+use Rattle.merkle_proof.proofs.ForwardRoot.{forward_root, forward_counts}
+
+-- groups have as many peaks as there are
+pub group_count : {F : Type 0} (rule : List ℕ → List ℕ) (a b n : ℕ) (g : Groups F) → a < b → HoldsGroups a b g (peaks_of rule n) → length g.before.items + length g.overlapping.items + length g.after.items ≡ length (peaks_of rule n)
+group_count {F} rule a b n g l held =
+    let ts = peaks_of rule n in
+    let split = groups a b 0 n ts l (covers_spans n (forest rule n).peaks (forest_grown rule n).covers) in
+    omega (
+      arith,
+      ap length held.before,
+      ap length held.over,
+      ap length held.after,
+      length-map (wholly_before a ts) (subtree_of {F = F}),
+      length-map (overlapping a b ts) (subtree_of {F = F}),
+      length-map (wholly_after b ts) position,
+      ap length split,
+      length-append (wholly_before a ts) (overlapping a b ts ++ wholly_after b ts),
+      length-append (overlapping a b ts) (wholly_after b ts),
+    )
+
+-- and these are few
+pub few_peaks : (rule : List ℕ → List ℕ) (max_leaves max_nodes n : ℕ) → IsLawful rule max_leaves max_nodes → n ≤ max_leaves → length (peaks_of rule n) ≤ 64
+few_peaks rule max_leaves max_nodes n law l = omega (arith, length-reverse (forest rule n).peaks, length-map (forest rule n).peaks height, ap length (heights_forest rule n), law.few n l)
+
+-- the digests of peaks read the leaves at chosen locations alone
+other_leaves : {D : Type 0} (h : Hashing D) (c : ℕ → Bool) (X Y : ℕ → D) (ts : List Tree) (m n : ℕ) (ds all : List D) → ((i : ℕ) → c i ≡ true → X i ≡ Y i) → ArePeakDigests h c X ts m n ds all → ArePeakDigests h c Y ts m n ds all
+other_leaves h c X Y ts m n ds all e w = record {
+  digests = w.digests ∙ ap (λ z. take m ds ++ (z ++ take n (drop m ds))) (values_chosen h c X Y e ts (drop (m + n) ds));
+  count = w.count;
+}
+
+none_joined : {A : Type 0} (xs ys zs : List A) → length (xs ++ (ys ++ zs)) ≡ 0 → length ys ≡ 0
+none_joined xs ys zs e = omega (arith, e, length-append xs (ys ++ zs), length-append ys zs)
+
+no_peaks : {D : Type 0} (h : Hashing D) (c : ℕ → Bool) (X : ℕ → D) (ts : List Tree) (ds : List D) → length (peak_values h c X ts ds) ≡ 0 → ts ≡ []
+no_peaks h c X [] ds e = refl
+no_peaks h c X (t ∷ ts) ds e = absurd (omega arith)
+
+module _ {F D P Q : Type 0} (h : Hashing D) (bagging : Bagging) (rule : List ℕ → List ℕ) (max_leaves domain : ℕ) (p : Proof F D P Q) (a b : ℕ) (es : List (Bor (List ℕ))) (some : 0 < length es) (end_is : b ≡ a + length es) where
+  abbrev at_setting : Setting D
+  at_setting = setting h bagging rule max_leaves domain
+
+  abbrev input : RangeInput D
+  input = input_of h rule p a (bytes_of es)
+
+  pub element_count : length input.elements ≡ length es
+  element_count = length-leaf_digests h rule a (bytes_of es) ∙ length-map es (λ e. e.now)
+
+  end_same : b ≡ end_of input
+  end_same = omega (arith, end_is, element_count)
+
+  given_leaves : (i : ℕ) → chosen input i ≡ true → leaf_from h rule a (bytes_of es) i ≡ leaf_given h input i
+  given_leaves i m = leaf_in_range h rule (bytes_of es) a (end_of input) (omega (arith, length-leaf_digests h rule a (bytes_of es))) i m
+
+  -- what the digests of the peaks are to the input
+  module _ (forwards : bagging ≡ ForwardFold) (within : b ≤ p.leaves) (m n : ℕ) (m_is : m ≡ length (fold_all (wholly_before a (peaks_of rule p.leaves)))) (n_is : n ≡ length (wholly_after b (peaks_of rule p.leaves))) where
+    abbrev AreDigests : ℕ → (ℕ → D) → ℕ → ℕ → List D → Type 0
+    AreDigests z X i j all = ArePeakDigests h (in_range a z) X (overlapping a z (peaks_of rule p.leaves)) i j p.digests.items all
+
+    some_given : 0 < length input.elements
+    some_given = omega (arith, some, element_count)
+
+    within_given : end_of input ≤ p.leaves
+    within_given = omega (arith, within, end_same)
+
+    as_input : (all : List D) → AreDigests b (leaf_from h rule a (bytes_of es)) m n all
+        → AreDigests (end_of input) (leaf_given h input) (length (fold_all (wholly_before a (peaks_of rule p.leaves)))) (length (wholly_after (end_of input) (peaks_of rule p.leaves))) all
+    as_input all w =
+        let X = leaf_from h rule a (bytes_of es) in
+        let one : AreDigests b X (length (fold_all (wholly_before a (peaks_of rule p.leaves)))) (length (wholly_after b (peaks_of rule p.leaves))) all = subst (λ i. AreDigests b X i (length (wholly_after b (peaks_of rule p.leaves))) all) m_is (subst (λ j. AreDigests b X m j all) n_is w) in
+        let two = subst (λ z. AreDigests z X (length (fold_all (wholly_before a (peaks_of rule p.leaves)))) (length (wholly_after z (peaks_of rule p.leaves))) all) end_same one in
+        other_leaves h (chosen input) X (leaf_given h input) _ _ _ p.digests.items all given_leaves two
+
+    pub computed : p.leaves ≤ max_leaves → p.inactive_peaks ≤ length (peaks_of rule p.leaves) → (all : List D) → AreDigests b (leaf_from h rule a (bytes_of es)) m n all → (d : D)
+        → d ≡ peaks_root h domain bagging p.leaves 0 p.inactive_peaks all → IsComputed at_setting input d
+    computed few low all w d is =
+        let v = as_input all w in (
+          record {
+            some = some_given;
+            within = within_given;
+            leaves = few;
+            inactive = low;
+            counts = v.count ∙ ap (λ z. z + length (flat_map (siblings (chosen input)) (overlapping a (end_of input) (peaks_of rule p.leaves)))) (sym (forward_counts at_setting input forwards some_given within_given));
+          },
+          is ∙ forward_root at_setting input forwards some_given within_given 0 all v,
+        )
+
+    pub misshapen : length p.digests.items ≢ m + n + length (flat_map (siblings (in_range a b)) (overlapping a b (peaks_of rule p.leaves))) → ¬ HasShape at_setting input
+    misshapen differ shape =
+        let e = shape.counts ∙ ap (λ z. z + length (flat_map (siblings (chosen input)) (overlapping a (end_of input) (peaks_of rule p.leaves)))) (forward_counts at_setting input forwards some_given within_given) in
+        let f : length p.digests.items ≡ length (fold_all (wholly_before a (peaks_of rule p.leaves))) + length (wholly_after b (peaks_of rule p.leaves)) + length (flat_map (siblings (in_range a b)) (overlapping a b (peaks_of rule p.leaves))) =
+        subst (λ z. length p.digests.items ≡ length (fold_all (wholly_before a (peaks_of rule p.leaves))) + length (wholly_after z (peaks_of rule p.leaves)) + length (flat_map (siblings (in_range a z)) (overlapping a z (peaks_of rule p.leaves)))) (sym end_same) e in
+        differ (omega (arith, f, m_is, n_is))
+
+    pub never_empty : (all : List D) → AreDigests b (leaf_from h rule a (bytes_of es)) m n all → length all ≡ 0 → ⊥
+    never_empty all w e =
+        some_over a b 0 p.leaves (peaks_of rule p.leaves) (omega (arith, some, end_is)) (covers_spans p.leaves (forest rule p.leaves).peaks (forest_grown rule p.leaves).covers) (omega arith) (omega (arith, some, end_is, within))
+        (no_peaks h (in_range a b) (leaf_from h rule a (bytes_of es)) _ _ (none_joined (take m p.digests.items) _ _ (sym (ap length w.digests) ∙ e)))
+
+-- an input with elements whose counts are wrong isn't accepted
+pub refused : {D : Type 0} (s : Setting D) (r : RangeInput D) (root : D) → 0 < length r.elements → ¬ HasShape s r → ¬ Accepts s r root
+refused s r root some wrong (inl ok) = wrong (record { some = ok.some; within = ok.within; leaves = ok.leaves; inactive = ok.inactive; counts = ok.counts })
+refused s r root some wrong (inr ok) = absurd (omega (arith, some, ap length ok.0.elements))

@@ -1,0 +1,81 @@
+-- What a check hashes, as a tree: every place, the digests that it takes there, and the digests that the proof gives.
+use Rattle.merkle_base.specs.Hashing.{Hashing}
+use Rattle.std.specs.Prelude.{◌≡◌, ℕ, Bool, true, false, not, List, [], ◌∷◌, ◌++◌, filter}
+
+-- where a hash is computed
+pub data Place : Type 0 where
+  Root Join : Place
+  PrefixFold SuffixFold Node : ℕ → Place
+
+-- what is hashed there: two digests, or at the root a byte string
+pub data Argument (D : Type 0) : Type 0 where
+  Pair : D → D → Argument D
+  Bytes : List ℕ → Argument D
+
+-- the digest of two digests at a place
+abbrev pub hashed_at : {D : Type 0} → Hashing D → Place → D → D → D
+hashed_at h (Node p) l r = h.node p l r
+hashed_at h Root l r = h.fold l r
+hashed_at h Join l r = h.fold l r
+hashed_at h (PrefixFold i) l r = h.fold l r
+hashed_at h (SuffixFold i) l r = h.fold l r
+
+-- the digest of an argument at a place
+abbrev pub digest_of_argument : {D : Type 0} → Hashing D → Place → Argument D → D
+digest_of_argument h place (Pair l r) = hashed_at h place l r
+digest_of_argument h place (Bytes b) = h.hash b
+
+-- an argument at its place
+pub record Input (D : Type 0) : Type 0 where
+  pub place : Place
+  pub argument : Argument D
+
+-- how a digest comes about: given, hashed of two others at a place, or hashed and also told by the proof
+pub data Expression (D : Type 0) : Type 0 where
+  given : D → Expression D
+  hashed : Place → Expression D → Expression D → Expression D
+  told : D → Expression D → Expression D
+
+-- the digest that comes about
+abbrev pub value : {D : Type 0} → Hashing D → Expression D → D
+value h (given d) = d
+value h (hashed place l r) = hashed_at h place (value h l) (value h r)
+value h (told d e) = value h e
+
+-- each digest that the proof tells beside what is computed is the one that is computed
+abbrev pub Holds : {D : Type 0} → Hashing D → Expression D → Type 0
+Holds h (given d) = Unit {0}
+Holds h (hashed place l r) = Holds h l × Holds h r
+Holds h (told d e) = (d ≡ value h e) × Holds h e
+
+-- every input, each before those below it, the left side before the right
+abbrev pub visited : {D : Type 0} → Hashing D → Expression D → List (Input D)
+visited h (given d) = []
+visited h (hashed place l r) = record { place = place; argument = Pair (value h l) (value h r) } ∷ visited h l ++ visited h r
+visited h (told d e) = visited h e
+
+-- whether a node is hashed there
+abbrev pub is_node : Place → Bool
+is_node Root = false
+is_node Join = false
+is_node (PrefixFold i) = false
+is_node (SuffixFold i) = false
+is_node (Node p) = true
+
+-- the inputs in order: the folds, and then the nodes
+abbrev pub inputs : {D : Type 0} → Hashing D → Expression D → List (Input D)
+inputs h e = filter (λ i. not (is_node i.place)) (visited h e) ++ filter (λ i. is_node i.place) (visited h e)
+
+-- two expressions of one computation, each with some parts given
+pub data Alike {D : Type 0} : Expression D → Expression D → Type 0 where
+  cut_left : (d : D) (e : Expression D) → Alike (given d) e
+  cut_right : (e : Expression D) (d : D) → Alike e (given d)
+  both : (place : Place) {l l' r r' : Expression D} → Alike l l' → Alike r r' → Alike (hashed place l r) (hashed place l' r')
+  told_left : (d : D) {e f : Expression D} → Alike e f → Alike (told d e) f
+
+-- what is given or told on one side is the value on the other
+abbrev pub Agree : {D : Type 0} (h : Hashing D) {e f : Expression D} → Alike e f → Type 0
+Agree h (cut_left d e) = d ≡ value h e
+Agree h (cut_right e d) = value h e ≡ d
+Agree h (both place a b) = Agree h a × Agree h b
+Agree h (told_left d {f = f} a) = (d ≡ value h f) × Agree h a

@@ -1,0 +1,53 @@
+-- The pairs of positions and digests that a check of a range computes or is given.
+use Rattle.std.specs.Prelude.{◌≡◌, ℕ, Bool, cond, ◌||◌, ◌⊎◌, ◌≤◌, ◌+◌, List, [], ◌∷◌, ◌++◌, length, drop, slice_get, Some}
+use Rattle.std.specs.List.{AllByRecursion}
+use Rattle.merkle_base.specs.Tree.{Tree, leaf, join, position}
+use Rattle.merkle_base.specs.Forest.{forest}
+use Rattle.merkle_proof.specs.Expression.{value}
+use Rattle.merkle_base.specs.Hashing.{Hashing}
+use Rattle.merkle_proof.specs.Plan.{tree_meets, siblings, tree_digest}
+use Rattle.merkle_proof.specs.Claim.{next, tree_claim}
+use Rattle.merkle_proof.specs.Outside.{fold_all, folded_prefix, single_before, single_after}
+use Rattle.merkle_proof.specs.Check.{Setting, RangeInput, leaf_given}
+use Rattle.merkle_base.specs.Places.{peaks_of}
+use Rattle.merkle_proof.specs.Range.{in_range, wholly_before, overlapping, wholly_after, range_parts, end_of, leaf_of, AcceptsSome, plan_root, Sound, RangeCollides}
+
+-- the pairs below a node that overlaps the range: those of its left child, those of its right child, the left child, the right child; ds: the digests for its siblings
+abbrev pub inner_pairs : {D : Type 0} → Hashing D → (ℕ → Bool) → (ℕ → D) → Tree → List D → List (ℕ × D)
+inner_pairs h c X (leaf p i) ds = []
+inner_pairs h c X (join p l r) ds = cond (tree_meets c l || tree_meets c r)
+    (inner_pairs h c X l ds ++ (inner_pairs h c X r (drop (length (siblings c l)) ds)
+    ++ ((position l, value h (tree_claim h c X l ds)) ∷ (position r, value h (tree_claim h c X r (drop (length (siblings c l)) ds))) ∷ [])))
+    []
+
+-- the pairs of overlapping peaks, each after those below it
+abbrev pub over_pairs : {D : Type 0} → Hashing D → (ℕ → Bool) → (ℕ → D) → List Tree → List D → List (ℕ × D)
+over_pairs h c X [] ds = []
+over_pairs h c X (t ∷ ts) ds = inner_pairs h c X t ds ++ ((position t, value h (tree_claim h c X t ds)) ∷ over_pairs h c X ts (drop (length (siblings c t)) ds))
+
+-- the pairs of peaks that the proof gives, one digest for each
+abbrev pub single_pairs : {D : Type 0} → Hashing D → List Tree → List D → List (ℕ × D)
+single_pairs h [] ds = []
+single_pairs h (t ∷ ts) ds = (position t, next h ds) ∷ single_pairs h ts (drop 1 ds)
+
+-- the individual peaks before, the overlapping peaks, the individual peaks after
+abbrev pub extracted : {D : Type 0} → Setting D → RangeInput D → List (ℕ × D)
+extracted s r =
+    let ts = peaks_of s.rule r.leaves in
+    let before = wholly_before r.start ts in
+    let over = overlapping r.start (end_of r) ts in
+    let after = wholly_after (end_of r) ts in
+    let folded = length (fold_all (folded_prefix s.bagging r.inactive before)) in
+    let single = single_before s.bagging r.inactive before in
+    single_pairs s.hashing single (drop folded r.digests)
+    ++ (over_pairs s.hashing (in_range r.start (end_of r)) (leaf_given s.hashing r) over (drop (length (range_parts s.bagging r.inactive r.start (end_of r) ts)) r.digests)
+    ++ single_pairs s.hashing (single_after s.bagging r.inactive (length before + length over) after) (drop (length single) (drop folded r.digests)))
+
+-- a position of the list's forest with its digest
+abbrev pub IsNodePair : {D : Type 0} → Setting D → List D → (ℕ × D) → Type 0
+IsNodePair s xs x = (t : Tree) × (slice_get (forest s.rule (length xs)).nodes x.0 ≡ Some t) × (x.1 ≡ tree_digest s.hashing (leaf_of s.hashing xs) t)
+
+-- each pair of an accepted input is one, or there is a collision
+abbrev pub ExtractsNodes : Type 0 → Type 0
+ExtractsNodes D = (s : Setting D) (size max_nodes : ℕ) → Sound s size max_nodes → (xs : List D) (k : ℕ) → length xs ≤ s.max_leaves → k ≤ length (peaks_of s.rule (length xs)) → (r : RangeInput D)
+    → AcceptsSome s r (plan_root s xs k) → AllByRecursion (IsNodePair s xs) (extracted s r) ⊎ RangeCollides s r xs k

@@ -1,0 +1,34 @@
+-- What the checks of a proof are given.
+use Rattle.std.specs.Prelude.{◌≡◌, ℕ, suc, ◌+◌, ◌<◌, ◌≤◌, List, [], ◌∷◌, length}
+use Rattle.merkle_base.specs.Forest.{size}
+use Rattle.merkle_base.specs.Hashing.{Hashing}
+use Rattle.merkle_base.specs.declared.family.Bagging.{Bagging}
+use Rattle.merkle_base.specs.Places.{peaks_of}
+use Rattle.merkle_proof.specs.Check.{Setting, RangeInput, root_of, range_expression}
+use Rattle.merkle_proof.specs.Range.{end_of, range_parts, range_siblings}
+use Rattle.merkle_proof.specs.declared.proof.Proof.{Proof}
+
+-- what is fixed for a hasher's value and a family
+abbrev pub setting : {D : Type 0} → Hashing D → Bagging → (List ℕ → List ℕ) → (max_leaves domain : ℕ) → Setting D
+setting h bagging rule max_leaves domain = record { hashing = h; rule = rule; max_leaves = max_leaves; bagging = bagging; domain = domain }
+
+-- the leaf digests of elements from location a on
+abbrev pub leaf_digests : {D : Type 0} → Hashing D → (List ℕ → List ℕ) → ℕ → List (List ℕ) → List D
+leaf_digests h rule a [] = []
+leaf_digests h rule a (e ∷ es) = h.leaf (size rule a) e ∷ leaf_digests h rule (suc a) es
+
+-- a proof with the elements from location a on
+abbrev pub input_of : {F D Peaks Heights : Type 0} → Hashing D → (List ℕ → List ℕ) → Proof F D Peaks Heights → ℕ → List (List ℕ) → RangeInput D
+input_of h rule p a es = record { leaves = p.leaves; inactive = p.inactive_peaks; digests = p.digests.items; start = a; elements = leaf_digests h rule a es }
+
+-- the counts of an input with elements are right
+pub record HasShape {D : Type 0} (s : Setting D) (r : RangeInput D) : Type 0 where
+  pub some : 0 < length r.elements
+  pub within : end_of r ≤ r.leaves
+  pub leaves : r.leaves ≤ s.max_leaves
+  pub inactive : r.inactive ≤ length (peaks_of s.rule r.leaves)
+  pub counts : length r.digests ≡ length (range_parts s.bagging r.inactive r.start (end_of r) (peaks_of s.rule r.leaves)) + length (range_siblings r.start (end_of r) (peaks_of s.rule r.leaves))
+
+-- the root that an input leads to
+abbrev pub IsComputed : {D : Type 0} → Setting D → RangeInput D → D → Type 0
+IsComputed s r d = HasShape s r × (d ≡ root_of s r.leaves r.inactive (range_expression s r))

@@ -1,0 +1,112 @@
+-- A range check by the table of the layout: what it accepts, and what is honest.
+use Rattle.std.specs.Prelude.{◌≡◌, ℕ, Bool, ◌&&◌, ◌⊎◌, ◌≤◌, ◌<◌, ◌+◌, nat_le, nat_lt, List, [], ◌++◌, length, map, flat_map, filter, take, drop, get_or, None}
+use Rattle.merkle_base.specs.Tree.{Tree, first_leaf, width}
+use Rattle.merkle_base.specs.Heights.{IsLawful}
+use Rattle.merkle_base.specs.Hashing.{Hashing}
+use Rattle.merkle_proof.specs.Collision.{Collision, Collides, Laws}
+use Rattle.merkle_proof.specs.RootString.{ByteLaws}
+use Rattle.merkle_proof.specs.Plan.{Plan, siblings, plan_digest, tree_digest}
+use Rattle.merkle_base.specs.declared.family.Bagging.{Bagging}
+use Rattle.merkle_proof.specs.Outside.{layout}
+use Rattle.merkle_proof.specs.Check.{Setting, root_of, all_inputs, list_expression, RangeInput, range_expression}
+use Rattle.merkle_base.specs.Places.{peaks_of}
+
+-- whether i lies in a..b
+abbrev pub in_range : ℕ → ℕ → ℕ → Bool
+in_range a b i = nat_le a i && nat_lt i b
+
+-- the location after the last leaf
+abbrev pub end_leaf : Tree → ℕ
+end_leaf t = first_leaf t + width t
+
+-- of some peaks those wholly before the range a..b
+abbrev pub wholly_before : ℕ → List Tree → List Tree
+wholly_before a ts = filter (λ t. nat_le (end_leaf t) a) ts
+
+-- those that overlap it
+abbrev pub overlapping : ℕ → ℕ → List Tree → List Tree
+overlapping a b ts = filter (λ t. nat_lt (first_leaf t) b && nat_lt a (end_leaf t)) ts
+
+-- those wholly after it
+abbrev pub wholly_after : ℕ → List Tree → List Tree
+wholly_after b ts = filter (λ t. nat_le b (first_leaf t)) ts
+
+-- the peaks and folds of peaks whose digests a proof of a..b begins with
+abbrev pub range_parts : Bagging → ℕ → ℕ → ℕ → List Tree → List Plan
+range_parts bagging k a b ts = layout bagging k (wholly_before a ts) (overlapping a b ts) (wholly_after b ts)
+
+-- the path siblings that follow
+abbrev pub range_siblings : ℕ → ℕ → List Tree → List Tree
+range_siblings a b ts = flat_map (siblings (in_range a b)) (overlapping a b ts)
+
+-- a list's leaf digests by location
+abbrev pub leaf_of : {D : Type 0} → Hashing D → List D → ℕ → D
+leaf_of h xs i = get_or xs i h.empty
+
+-- the digests of a proof of a..b
+abbrev pub range_digests : {D : Type 0} → Setting D → List D → ℕ → ℕ → ℕ → List D
+range_digests s xs k a b =
+    map (plan_digest s.hashing (leaf_of s.hashing xs)) (range_parts s.bagging k a b (peaks_of s.rule (length xs)))
+    ++ map (tree_digest s.hashing (leaf_of s.hashing xs)) (range_siblings a b (peaks_of s.rule (length xs)))
+
+-- the location after the last element
+abbrev pub end_of : {D : Type 0} → RangeInput D → ℕ
+end_of r = r.start + length r.elements
+
+-- an accepted input with elements
+pub record AcceptsSome {D : Type 0} (s : Setting D) (r : RangeInput D) (root : D) : Type 0 where
+  pub some : 0 < length r.elements
+  pub within : end_of r ≤ r.leaves
+  pub leaves : r.leaves ≤ s.max_leaves
+  pub inactive : r.inactive ≤ length (peaks_of s.rule r.leaves)
+  pub counts : length r.digests ≡ length (range_parts s.bagging r.inactive r.start (end_of r) (peaks_of s.rule r.leaves)) + length (range_siblings r.start (end_of r) (peaks_of s.rule r.leaves))
+  pub root_is : root_of s r.leaves r.inactive (range_expression s r) ≡ root
+
+-- the empty proof of no elements
+pub record IsEmptyInput {D : Type 0} (r : RangeInput D) : Type 0 where
+  pub elements : r.elements ≡ []
+  pub start : r.start ≡ 0
+  pub leaves : r.leaves ≡ 0
+  pub inactive : r.inactive ≡ 0
+  pub digests : r.digests ≡ []
+
+-- an accepted input: with elements, or the empty one
+abbrev pub Accepts : {D : Type 0} → Setting D → RangeInput D → D → Type 0
+Accepts s r root = AcceptsSome s r root ⊎ (IsEmptyInput r × (root_of s 0 0 None ≡ root))
+
+-- the honest proof of a nonempty range of a list, with its leaves
+pub record IsHonestSome {D : Type 0} (s : Setting D) (xs : List D) (k : ℕ) (r : RangeInput D) : Type 0 where
+  pub some : 0 < length r.elements
+  pub within : end_of r ≤ length xs
+  pub leaves : r.leaves ≡ length xs
+  pub inactive : r.inactive ≡ k
+  pub digests : r.digests ≡ range_digests s xs k r.start (end_of r)
+  pub elements : r.elements ≡ take (length r.elements) (drop r.start xs)
+
+-- an honest input: with elements, or the empty one of the empty list
+abbrev pub IsHonestRange : {D : Type 0} → Setting D → List D → ℕ → RangeInput D → Type 0
+IsHonestRange s xs k r = IsHonestSome s xs k r ⊎ (IsEmptyInput r × (xs ≡ []))
+
+-- the root of a list for k, and all that is hashed for it
+abbrev pub plan_root : {D : Type 0} → Setting D → List D → ℕ → D
+plan_root s xs k = root_of s (length xs) k (list_expression s (leaf_of s.hashing xs) (length xs) k)
+
+-- what the family, the hasher and its digests keep
+pub record Sound {D : Type 0} (s : Setting D) (size max_nodes : ℕ) : Type 0 where
+  pub laws : Laws s.hashing
+  pub bytes : ByteLaws s.hashing size
+  pub lawful : IsLawful s.rule s.max_leaves max_nodes
+
+-- a collision of a range input with the list
+abbrev pub RangeCollides : {D : Type 0} → Setting D → RangeInput D → List D → ℕ → Type 0
+RangeCollides {D = D} s r xs k = (c : Collision D) × Collides s.hashing (all_inputs s r.leaves r.inactive (range_expression s r)) (all_inputs s (length xs) k (list_expression s (leaf_of s.hashing xs) (length xs) k)) c
+
+-- the honest inputs are accepted
+abbrev pub HonestIsAccepted : Type 0 → Type 0
+HonestIsAccepted D = (s : Setting D) (size max_nodes : ℕ) → Sound s size max_nodes → (xs : List D) (k : ℕ) → length xs ≤ s.max_leaves → k ≤ length (peaks_of s.rule (length xs)) → (r : RangeInput D)
+    → IsHonestRange s xs k r → Accepts s r (plan_root s xs k)
+
+-- and no others, but for collisions
+abbrev pub AcceptedIsHonest : Type 0 → Type 0
+AcceptedIsHonest D = (s : Setting D) (size max_nodes : ℕ) → Sound s size max_nodes → (xs : List D) (k : ℕ) → length xs ≤ s.max_leaves → k ≤ length (peaks_of s.rule (length xs)) → (r : RangeInput D)
+    → Accepts s r (plan_root s xs k) → IsHonestRange s xs k r ⊎ RangeCollides s r xs k

@@ -1,0 +1,86 @@
+//! The peaks of a forest by where they stand to a range.
+ghost use Rattle.std.specs.Prelude.{◌≡◌, ◌<◌, ◌≤◌, ◌++◌, [], ◌∷◌, ℕ, List, map, length, IfOk};
+ghost use Rattle.std.specs.List.{flat_map};
+ghost use Rattle.merkle_base.specs.Tree.{Tree, position};
+ghost use Rattle.merkle_base.specs.Places.{peaks_of};
+ghost use Rattle.merkle_proof.specs.Plan.{siblings};
+ghost use Rattle.merkle_proof.specs.Outside.{fold_all};
+ghost use Rattle.merkle_proof.specs.Range.{in_range, wholly_before};
+ghost use Rattle.merkle_proof.specs.Subtrees.{Means, AreNodes, subtree_of};
+ghost use Rattle.merkle_proof.specs.GroupedPeaks.{HoldsGroups};
+
+use crate::subtree::Subtree;
+use merkle_base::family::Family;
+use merkle_base::location::Location;
+use merkle_base::position::Position;
+use std::alloc::{AllocError, Global};
+use std::ops::Range;
+
+/// The peaks before a range, those that overlap it, and the positions of those after it, each oldest first.
+#[derive(Drop)]
+pub(crate) struct Groups<F> {
+    pub(crate) before: Vec<Subtree<F>>,
+    pub(crate) overlapping: Vec<Subtree<F>>,
+    pub(crate) after: Vec<Position<F>>,
+}
+
+impl<F: Family> Groups<F> {
+    /// Appends a peak to its group.
+    fn put(&mut self, peak: Subtree<F>, range: &Range<Location<F>>) -> Result<(), AllocError>
+        requires node { (t : Tree) × Means F.rule F.MAX_LEAVES peak t }
+        requires some { range.now.start < range.now.end }
+        ensures { IfOk result (λ _. (done : List Tree) (t : Tree) → Means F.rule F.MAX_LEAVES peak t → HoldsGroups range.now.start range.now.end self.old done → HoldsGroups range.now.start range.now.end self.new (done ++ t ∷ [])) }
+    {
+        if peak.leaf_end() <= range.start {
+            self.before.push(peak)?;
+        } else if peak.first_leaf >= range.end {
+            self.after.push(peak.position)?;
+        } else {
+            self.overlapping.push(peak)?;
+        }
+        Ok(())
+    }
+
+    /// The groups of the peaks of that many leaves.
+    pub(crate) fn of_peaks(
+        alloc: Global,
+        leaves: Location<F>,
+        range: &Range<Location<F>>,
+    ) -> Result<Self, AllocError>
+        requires some { range.now.start < range.now.end }
+        requires small { leaves ≤ F.MAX_LEAVES }
+        ensures { IfOk result (λ gs. HoldsGroups range.now.start range.now.end gs (peaks_of F.rule leaves)) }
+    {
+        let mut groups = Groups {
+            before: Vec::new(alloc),
+            overlapping: Vec::new(alloc),
+            after: Vec::new(alloc),
+        };
+        let mut first_leaf = Location::new(0);
+        for (position, height) in F::peaks(F::location_to_position(leaves)) {
+            let peak = Subtree {
+                position,
+                height,
+                first_leaf,
+            };
+            first_leaf = peak.leaf_end();
+            groups.put(peak, range)?;
+        }
+        Ok(groups)
+    }
+
+    /// The number of peaks.
+    pub(crate) fn count(&self) -> usize
+        requires { (a : ℕ) × (b : ℕ) × (n : ℕ) × (a < b) × (n ≤ F.MAX_LEAVES) × HoldsGroups a b self.now (peaks_of F.rule n) }
+        ensures { (a b n : ℕ) → a < b → HoldsGroups a b self.now (peaks_of F.rule n) → result ≡ length (peaks_of F.rule n) }
+    {
+        self.before.len() + self.overlapping.len() + self.after.len()
+    }
+
+    /// How many digests stand for the peaks before the range, where these are folded: one, if there are any.
+    pub(crate) fn folded_count(&self) -> usize
+        ensures { (a b : ℕ) (ts : List Tree) → HoldsGroups a b self.now ts → result ≡ length (fold_all (wholly_before a ts)) }
+    {
+        if self.before.is_empty() { 0 } else { 1 }
+    }
+}
