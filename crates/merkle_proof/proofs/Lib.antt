@@ -33,5 +33,6 @@ pub mod PeakValues
 pub mod ForwardValues
 pub mod ForwardRoot
 pub mod RangeRoot
+pub mod BuiltDigests
 pub mod HasherLaws
 pub mod GivenLeaves

@@ -26,3 +26,5 @@ pub mod Subtrees
 pub mod Walk
 pub mod GroupedPeaks
 pub mod Input
+pub mod RangePlans
+pub mod Reading
