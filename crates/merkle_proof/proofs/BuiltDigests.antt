@@ -115,7 +115,7 @@ reads_at s n a b =
     (all_append P (wholly_after b ts) (range_siblings a b ts) (filter_nodes P _ ts at) (all_siblings_at (forest s.rule n).nodes (in_range a b) (overlapping a b ts) (filter_nodes (IsBuilt (forest s.rule n).nodes) _ ts (peaks_built s n))))
 
 module _ {D : Type 0} (h : Hashing D) (X : ℕ → D) where
-  fold_forward : (acc : Plan) (i : ℕ) (ts : List Tree) → fold h.fold (plan_digest h X acc) (map (tree_digest h X) ts) ≡ plan_digest h X (forward acc i ts)
+  pub fold_forward : (acc : Plan) (i : ℕ) (ts : List Tree) → fold h.fold (plan_digest h X acc) (map (tree_digest h X) ts) ≡ plan_digest h X (forward acc i ts)
   fold_forward acc i [] = refl
   fold_forward acc i (t ∷ ts) = fold_forward (folding (PrefixFold i) acc (peak t)) (suc i) ts
 

@@ -34,5 +34,6 @@ pub mod ForwardValues
 pub mod ForwardRoot
 pub mod RangeRoot
 pub mod BuiltDigests
+pub mod ListRoots
 pub mod HasherLaws
 pub mod GivenLeaves

@@ -28,3 +28,4 @@ pub mod GroupedPeaks
 pub mod Input
 pub mod RangePlans
 pub mod Reading
+pub mod ListRoot
