@@ -33,5 +33,7 @@ pub mod PeakValues
 pub mod ForwardValues
 pub mod ForwardRoot
 pub mod RangeRoot
+pub mod BuiltDigests
+pub mod ListRoots
 pub mod HasherLaws
 pub mod GivenLeaves

@@ -112,6 +112,7 @@ flat_push c [] t = append-nil (siblings c t)
 flat_push c (u ∷ ts) t = ap (λ z. siblings c u ++ z) (flat_push c ts t) ∙ sym (append_assoc (siblings c u) (flat_map (siblings c) ts) (siblings c t))
 
 -- the siblings of one more tree
-pub more_siblings : (c : ℕ → Bool) (ts us : List Tree) (t : Tree) (xs ys : List ℕ) → us ≡ ts ++ t ∷ [] → xs ≡ map position (flat_map (siblings c) ts) → ys ≡ xs ++ map position (siblings c t) → ys ≡ map position (flat_map (siblings c) us)
-more_siblings c ts us t xs ys u e f =
-    f ∙ ap (λ z. z ++ map position (siblings c t)) e ∙ sym (map-append position (flat_map (siblings c) ts) (siblings c t)) ∙ ap (map position) (sym (flat_push c ts t)) ∙ ap (λ z. map position (flat_map (siblings c) z)) (sym u)
+pub more_siblings : (c : ℕ → Bool) (ts us : List Tree) (t : Tree) (out xs ys : List ℕ) → us ≡ ts ++ t ∷ [] → xs ≡ out ++ map position (flat_map (siblings c) ts) → ys ≡ xs ++ map position (siblings c t) → ys ≡ out ++ map position (flat_map (siblings c) us)
+more_siblings c ts us t out xs ys u e f =
+    f ∙ ap (λ z. z ++ map position (siblings c t)) e ∙ append_assoc out (map position (flat_map (siblings c) ts)) (map position (siblings c t))
+    ∙ ap (λ z. out ++ z) (sym (map-append position (flat_map (siblings c) ts) (siblings c t)) ∙ ap (map position) (sym (flat_push c ts t)) ∙ ap (λ z. map position (flat_map (siblings c) z)) (sym u))

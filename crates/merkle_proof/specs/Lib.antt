@@ -26,3 +26,6 @@ pub mod Subtrees
 pub mod Walk
 pub mod GroupedPeaks
 pub mod Input
+pub mod RangePlans
+pub mod Reading
+pub mod ListRoot

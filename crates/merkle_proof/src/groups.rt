@@ -8,6 +8,7 @@ ghost use Rattle.merkle_proof.specs.Outside.{fold_all};
 ghost use Rattle.merkle_proof.specs.Range.{in_range, wholly_before};
 ghost use Rattle.merkle_proof.specs.Subtrees.{Means, AreNodes, subtree_of};
 ghost use Rattle.merkle_proof.specs.GroupedPeaks.{HoldsGroups};
+ghost use Rattle.merkle_proof.specs.RangePlans.{nodes_read};
 
 use crate::subtree::Subtree;
 use merkle_base::family::Family;
@@ -83,4 +84,40 @@ impl<F: Family> Groups<F> {
     {
         if self.before.is_empty() { 0 } else { 1 }
     }
+
+    /// The positions of the peaks before the range, of those after it, and of the maximal nodes outside it under the
+    /// others, left to right.
+    pub(crate) fn outside(
+        &self,
+        alloc: Global,
+        range: &Range<Location<F>>,
+    ) -> Result<Vec<Position<F>>, AllocError>
+        requires some { range.now.start < range.now.end }
+        requires groups { (n : ℕ) × (n ≤ F.MAX_LEAVES) × HoldsGroups range.now.start range.now.end self.now (peaks_of F.rule n) }
+        ensures { IfOk result (λ v. (n : ℕ) → n ≤ F.MAX_LEAVES → HoldsGroups range.now.start range.now.end self.now (peaks_of F.rule n) → v.items ≡ map position (nodes_read F.rule n range.now.start range.now.end)) }
+    {
+        let mut all = Vec::new(alloc);
+        for peak in &self.before {
+            all.push(peak.position)?;
+        }
+        all.extend_from_slice(&self.after)?;
+        append_siblings(&self.overlapping, range, &mut all)?;
+        Ok(all)
+    }
+}
+
+// Appends the positions of the maximal nodes outside the range under the peaks, left to right.
+fn append_siblings<F: Family>(
+    peaks: &[Subtree<F>],
+    range: &Range<Location<F>>,
+    out: &mut Vec<Position<F>>,
+) -> Result<(), AllocError>
+    requires nodes { (ts : List Tree) × (peaks.now ≡ map subtree_of ts) × AreNodes F.rule F.MAX_LEAVES ts }
+    requires some { range.now.start < range.now.end }
+    ensures { IfOk result (λ _. (ts : List Tree) → peaks.now ≡ map subtree_of ts → AreNodes F.rule F.MAX_LEAVES ts → out.new.items ≡ out.old.items ++ map position (flat_map (siblings (in_range range.now.start range.now.end)) ts)) }
+{
+    for peak in peaks {
+        peak.collect_siblings(range, out)?;
+    }
+    Ok(())
 }

@@ -182,8 +182,12 @@ fn hash_four<F: Family, T: Hasher<F>>(
     hasher.hash(&[a, b, c, d])
 }
 
-// The fold of the peaks onto the start, left to right.
-fn fold_all<F: Family, T: Hasher<F>>(hasher: &T, start: T::Digest, peaks: &[T::Digest]) -> T::Digest
+/// The fold of the peaks onto the start, left to right.
+pub(crate) fn fold_all<F: Family, T: Hasher<F>>(
+    hasher: &T,
+    start: T::Digest,
+    peaks: &[T::Digest],
+) -> T::Digest
     ensures { result ≡ fold (T.hashing hasher.now).fold start peaks.now }
 {
     let mut acc = start;

@@ -9,6 +9,7 @@ ghost use Rattle.merkle_proof.specs.Complete.{HonestMultiAccepted, HonestPinsAcc
 ghost use Rattle.merkle_proof.specs.Exact.{SamePeaks, HonestNeverCollides};
 ghost use Rattle.merkle_proof.specs.Extract.{ExtractsNodes};
 ghost use Rattle.merkle_proof.specs.FirstCollision.{FindsFirst};
+ghost use Rattle.merkle_proof.specs.ListRoot.{RootsAgree};
 ghost use Rattle.merkle_proof.specs.MultiClaim.{NoOtherMulti};
 ghost use Rattle.merkle_proof.specs.Multiproof.{HonestMultiIsAccepted, AcceptedMultiIsHonest, AtMost122};
 ghost use Rattle.merkle_proof.specs.Order.{PlacesInOrder, PlacesOnce};
@@ -143,4 +144,9 @@ pub fn verdicts<D>()
 
     // Nor has an honest pinned input.
     ensures pinned { HonestPinnedIsClear D }
+{}
+
+/// The root over the plan of a list's peaks is the list's root, for every inactive count and both baggings.
+pub fn roots<D>()
+    ensures { RootsAgree D }
 {}

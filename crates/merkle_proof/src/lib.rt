@@ -5,4 +5,6 @@ mod groups;
 pub mod hasher;
 pub mod laws;
 pub mod proof;
+pub mod range_plan;
+mod reading;
 mod subtree;

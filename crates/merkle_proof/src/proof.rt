@@ -4,9 +4,10 @@ ghost use Rattle.std.specs.List.{flat_map};
 ghost use Rattle.merkle_base.specs.declared.family.Bagging.TheVariants.{ForwardFold};
 ghost use Rattle.merkle_base.specs.Tree.{Tree};
 ghost use Rattle.merkle_base.specs.Places.{peaks_of};
+ghost use Rattle.merkle_base.specs.Root.{list_root};
 ghost use Rattle.merkle_proof.specs.Plan.{siblings};
 ghost use Rattle.merkle_proof.specs.Check.{root_of, range_expression};
-ghost use Rattle.merkle_proof.specs.Range.{in_range, Accepts, IsHonestRange, IsEmptyInput, RangeCollides, plan_root};
+ghost use Rattle.merkle_proof.specs.Range.{in_range, Accepts, IsHonestRange, IsEmptyInput, RangeCollides};
 ghost use Rattle.merkle_proof.specs.Subtrees.{AreNodes, subtree_of};
 ghost use Rattle.merkle_proof.specs.Walk.{bytes_of, leaf_from, peak_values, ArePeaksWalked, ArePeakDigests};
 ghost use Rattle.merkle_proof.specs.Input.{setting, input_of, HasShape, IsComputed};
@@ -205,8 +206,8 @@ impl<F: Family, D: Digest> Proof<F, D> {
     ) -> Result<bool, OutOfMemory>
         requires forward { H.bagging_of hasher.now ≡ ForwardFold }
         ensures exact { let h = H.hashing hasher.now in IfOk result (λ b. IsTrue b ↔ Accepts (setting h (H.bagging_of hasher.now) F.rule F.MAX_LEAVES F.DOMAIN) (input_of h F.rule self.now location (element.now ∷ [])) root.now) }
-        ensures honest { let h = H.hashing hasher.now in let s = setting h (H.bagging_of hasher.now) F.rule F.MAX_LEAVES F.DOMAIN in IfOk result (λ b. (xs : _) (k : ℕ) → length xs ≤ F.MAX_LEAVES → k ≤ length (peaks_of F.rule (length xs)) → plan_root s xs k ≡ root.now → IsHonestRange s xs k (input_of h F.rule self.now location (element.now ∷ [])) → IsTrue b) }
-        ensures sound { let h = H.hashing hasher.now in let s = setting h (H.bagging_of hasher.now) F.rule F.MAX_LEAVES F.DOMAIN in let r = input_of h F.rule self.now location (element.now ∷ []) in IfOk result (λ b. IsTrue b → (xs : _) (k : ℕ) → length xs ≤ F.MAX_LEAVES → k ≤ length (peaks_of F.rule (length xs)) → plan_root s xs k ≡ root.now → IsHonestRange s xs k r ⊎ RangeCollides s r xs k) }
+        ensures honest { let h = H.hashing hasher.now in let s = setting h (H.bagging_of hasher.now) F.rule F.MAX_LEAVES F.DOMAIN in IfOk result (λ b. (xs : _) (k : ℕ) → length xs ≤ F.MAX_LEAVES → k ≤ length (peaks_of F.rule (length xs)) → list_root h F.rule F.DOMAIN (H.bagging_of hasher.now) xs k ≡ root.now → IsHonestRange s xs k (input_of h F.rule self.now location (element.now ∷ [])) → IsTrue b) }
+        ensures sound { let h = H.hashing hasher.now in let s = setting h (H.bagging_of hasher.now) F.rule F.MAX_LEAVES F.DOMAIN in let r = input_of h F.rule self.now location (element.now ∷ []) in IfOk result (λ b. IsTrue b → (xs : _) (k : ℕ) → length xs ≤ F.MAX_LEAVES → k ≤ length (peaks_of F.rule (length xs)) → list_root h F.rule F.DOMAIN (H.bagging_of hasher.now) xs k ≡ root.now → IsHonestRange s xs k r ⊎ RangeCollides s r xs k) }
     {
         self.verify_range(hasher, &[element], location, root)
     }

@@ -1,0 +1,196 @@
+-- The digests of a built proof, from those that were read.
+use Rattle.std.proofs.Common.{◌≡◌, ℕ, suc, ◌-◌, ◌<◌, ◌≤◌, Bool, cond, List, [], ◌∷◌, ◌++◌, ◌||◌, length, map, take, drop, take_at, drop_at, append_assoc, refl, ap, ap₂, sym, ◌∙◌, subst, arith, Option, Some, fold, slice_get, inl, inr, ◌⊎◌, ◌≢◌, ⊎_elim}
+use Rattle.std.specs.List.{AllZip, AllByRecursion, flat_map}
+use Rattle.std.specs.Option.{option_to_list}
+use Rattle.std.proofs.lemmas.List.{map-append, length-map, length-take-le, length-drop, take_all}
+use Rattle.merkle_base.specs.Tree.{Tree, leaf, join, position, IsBuilt}
+use Rattle.merkle_base.specs.Forest.{forest}
+use Rattle.merkle_base.specs.Hashing.{Hashing}
+use Rattle.merkle_base.specs.Digests.{digest_at}
+use Rattle.merkle_base.specs.Places.{peaks_of}
+use Rattle.merkle_base.specs.Root.{folded}
+use Rattle.merkle_base.specs.declared.family.Bagging.TheVariants.{ForwardFold}
+use Rattle.merkle_base.proofs.Nodes.{all_append}
+use Rattle.merkle_proof.specs.Expression.{PrefixFold}
+use Rattle.merkle_proof.specs.Plan.{Plan, peak, folding, forward, siblings, tree_meets, tree_digest, plan_digest}
+use Rattle.merkle_proof.specs.Outside.{layout}
+use Rattle.merkle_proof.specs.Check.{Setting}
+use Rattle.merkle_proof.specs.Range.{in_range, wholly_before, overlapping, wholly_after, range_parts, range_siblings, range_digests, leaf_of, end_of, IsHonestRange}
+use Rattle.merkle_proof.specs.RangePlans.{both_read, part_read, nodes_read, AnswersList, LeafRange, IsBuiltProof, IsFirstMissing, IsBuildRefusal, list_input}
+use Rattle.merkle_proof.specs.Reading.{unread_error}
+use Rattle.merkle_proof.specs.declared.reading.Unread.{Unread}
+use Rattle.merkle_proof.specs.declared.reading.Unread.TheVariants as unread
+use Rattle.merkle_base.specs.declared.error.Error.{Error}
+use Rattle.merkle_base.specs.declared.error.Error.TheVariants as error
+use Rattle.merkle_proof.specs.Subtrees.{AreNodes, subtree_of}
+use Rattle.merkle_proof.specs.GroupedPeaks.{HoldsGroups}
+use Rattle.merkle_proof.specs.declared.groups.Groups.{Groups}
+use Rattle.merkle_proof.specs.declared.subtree.Subtree.{Subtree}
+use Rattle.merkle_proof.specs.declared.proof.Proof.{Proof}
+use Rattle.merkle_proof.proofs.Claims.{by_test}
+use Rattle.merkle_proof.proofs.PeakGroups.{peaks_built}
+use Rattle.merkle_proof.proofs.PeakLoop.{filter_nodes, peaks_at}
+
+positions_are : (F : Type 0) (ts : List Tree) → map (λ (s : Subtree F). s.position) (map subtree_of ts) ≡ map position ts
+positions_are F [] = refl
+positions_are F (t ∷ ts) = ap (λ z. position t ∷ z) (positions_are F ts)
+
+-- what is listed of groups is what is read
+pub listed_outside : {F : Type 0} (a b i : ℕ) (g : Groups F) (ts : List Tree) (xs ys zs : List ℕ) → HoldsGroups a b g ts → length g.before.items ≤ i → xs ≡ map (λ s. s.position) (take i g.before.items) → ys ≡ xs ++ g.after.items
+    → zs ≡ ys ++ map position (flat_map (siblings (in_range a b)) (overlapping a b ts)) → zs ≡ map position (wholly_before a ts ++ (wholly_after b ts ++ flat_map (siblings (in_range a b)) (overlapping a b ts)))
+listed_outside {F} a b i g ts xs ys zs held l x y z =
+    let before = wholly_before a ts in let after = wholly_after b ts in let inside = flat_map (siblings (in_range a b)) (overlapping a b ts) in
+    let first : xs ≡ map position before = x ∙ ap (map (λ s. s.position)) (take_all i g.before.items l ∙ held.before) ∙ positions_are F before in
+    z ∙ ap (λ w. w ++ map position inside) (y ∙ ap₂ ◌++◌ first held.after) ∙ append_assoc (map position before) (map position after) (map position inside)
+    ∙ sym (map-append position before (after ++ inside) ∙ ap (λ w. map position before ++ w) (map-append position after inside))
+
+cons_head : {A : Type 0} (x y : A) (xs ys : List A) → x ∷ xs ≡ y ∷ ys → x ≡ y
+cons_head x y xs ys e = cc
+
+cons_tail : {A : Type 0} (x y : A) (xs ys : List A) → x ∷ xs ≡ y ∷ ys → xs ≡ ys
+cons_tail x y xs ys e = cc
+
+module _ {D : Type 0} (h : Hashing D) (node : ℕ → Option D) where
+  abbrev at_node : Tree → Option D
+  at_node t = node (position t)
+
+  -- answers that agree with a function
+  pub agreed : (answered : ℕ → Option D → Type 0) → ((p : ℕ) (r : Option D) → answered p r → r ≡ node p) → (ts : List Tree) (ds : List D) → AllZip (λ p d. answered p (Some d)) (map position ts) ds → map at_node ts ≡ map Some ds
+  agreed answered agree [] [] z = refl
+  agreed answered agree [] (d ∷ ds) z = absurd z
+  agreed answered agree (t ∷ ts) [] z = absurd z
+  agreed answered agree (t ∷ ts) (d ∷ ds) z = ap₂ (λ x y. x ∷ y) (sym (agree (position t) (Some d) z.0)) (agreed answered agree ts ds z.1)
+
+  split_read : (us vs : List Tree) (ds : List D) → map at_node (us ++ vs) ≡ map Some ds → (map at_node us ≡ map Some (take (length us) ds)) × (map at_node vs ≡ map Some (drop (length us) ds))
+  split_read [] vs ds e = (refl, e)
+  split_read (u ∷ us) vs [] e = absurd (cc)
+  split_read (u ∷ us) vs (d ∷ ds) e =
+      let w = split_read us vs ds (cons_tail _ _ _ _ e) in
+      (ap₂ (λ x y. x ∷ y) (cons_head _ _ _ _ e) w.0, w.1)
+
+  forward_read : (acc : Plan) (v : D) (i : ℕ) (ts : List Tree) (ds : List D) → part_read h node acc ≡ Some v → map at_node ts ≡ map Some ds → part_read h node (forward acc i ts) ≡ Some (fold h.fold v ds)
+  forward_read acc v i [] [] e f = e
+  forward_read acc v i [] (d ∷ ds) e f = absurd (cc)
+  forward_read acc v i (t ∷ ts) [] e f = absurd (cc)
+  forward_read acc v i (t ∷ ts) (d ∷ ds) e f =
+      forward_read (folding (PrefixFold i) acc (peak t)) (h.fold v d) (suc i) ts ds (ap₂ (both_read h.fold) e (cons_head _ _ _ _ f)) (cons_tail _ _ _ _ f)
+
+  singles_read : (ts : List Tree) → map (part_read h node) (map peak ts ++ []) ≡ map at_node ts
+  singles_read [] = refl
+  singles_read (t ∷ ts) = ap (λ z. at_node t ∷ z) (singles_read ts)
+
+  -- what is read, with the peaks before the range folded, is the layout
+  pub built_forward : (k : ℕ) (before over after inside : List Tree) (ds : List D) → map at_node (before ++ (after ++ inside)) ≡ map Some ds
+      → map Some (option_to_list (folded h.fold ForwardFold 0 (take (length before) ds)) ++ drop (length before) ds) ≡ map (part_read h node) (layout ForwardFold k before over after) ++ map at_node inside
+  built_forward k [] over after inside ds e = sym e ∙ map-append at_node after inside ∙ ap (λ z. z ++ map at_node inside) (sym (singles_read after))
+  built_forward k (b ∷ bs) over after inside [] e = absurd (cc)
+  built_forward k (b ∷ bs) over after inside (d ∷ ds) e =
+      let w = split_read bs (after ++ inside) ds (cons_tail _ _ _ _ e) in
+      let first : part_read h node (forward (peak b) 1 bs) ≡ Some (fold h.fold d (take (length bs) ds)) = forward_read (peak b) d 1 bs (take (length bs) ds) (cons_head _ _ _ _ e) w.0 in
+      ap₂ (λ x y. x ∷ y) (sym first) (sym w.1 ∙ map-append at_node after inside ∙ ap (λ z. z ++ map at_node inside) (sym (singles_read after)))
+
+-- the digest of a list at a node, by location
+pub digest_at_is : {D : Type 0} (h : Hashing D) (xs : List D) (t : Tree) → digest_at h xs t ≡ tree_digest h (leaf_of h xs) t
+digest_at_is h xs (leaf p i) = refl
+digest_at_is h xs (join p l r) = ap₂ (h.node p) (digest_at_is h xs l) (digest_at_is h xs r)
+
+-- the path siblings stand in the forest
+siblings_at : (ns : List Tree) (c : ℕ → Bool) (t : Tree) → IsBuilt ns t → AllByRecursion (λ u. slice_get ns (position u) ≡ Some u) (siblings c t)
+siblings_at ns c (leaf p i) w = by_test (λ b. AllByRecursion (λ u. slice_get ns (position u) ≡ Some u) (cond b [] (leaf p i ∷ []))) (c i) (λ _. tt) (λ _. (w, tt))
+siblings_at ns c (join p l r) w =
+    by_test (λ b. AllByRecursion (λ u. slice_get ns (position u) ≡ Some u) (cond b (siblings c l ++ siblings c r) (join p l r ∷ []))) (tree_meets c l || tree_meets c r)
+    (λ _. all_append (λ u. slice_get ns (position u) ≡ Some u) (siblings c l) (siblings c r) (siblings_at ns c l w.4) (siblings_at ns c r w.5)) (λ _. (w.0, tt))
+
+all_siblings_at : (ns : List Tree) (c : ℕ → Bool) (ts : List Tree) → AllByRecursion (IsBuilt ns) ts → AllByRecursion (λ u. slice_get ns (position u) ≡ Some u) (flat_map (siblings c) ts)
+all_siblings_at ns c [] w = tt
+all_siblings_at ns c (t ∷ ts) w = all_append (λ u. slice_get ns (position u) ≡ Some u) (siblings c t) (flat_map (siblings c) ts) (siblings_at ns c t w.0) (all_siblings_at ns c ts w.1)
+
+-- so does all that is read
+pub reads_at : {D : Type 0} (s : Setting D) (n a b : ℕ) → AreNodes s.rule n (nodes_read s.rule n a b)
+reads_at s n a b =
+    let ts = peaks_of s.rule n in
+    let P : Tree → Type 0 = λ u. slice_get (forest s.rule n).nodes (position u) ≡ Some u in
+    let at = peaks_at s.rule n n (omega arith) in
+    all_append P (wholly_before a ts) (wholly_after b ts ++ range_siblings a b ts) (filter_nodes P _ ts at)
+    (all_append P (wholly_after b ts) (range_siblings a b ts) (filter_nodes P _ ts at) (all_siblings_at (forest s.rule n).nodes (in_range a b) (overlapping a b ts) (filter_nodes (IsBuilt (forest s.rule n).nodes) _ ts (peaks_built s n))))
+
+module _ {D : Type 0} (h : Hashing D) (X : ℕ → D) where
+  pub fold_forward : (acc : Plan) (i : ℕ) (ts : List Tree) → fold h.fold (plan_digest h X acc) (map (tree_digest h X) ts) ≡ plan_digest h X (forward acc i ts)
+  fold_forward acc i [] = refl
+  fold_forward acc i (t ∷ ts) = fold_forward (folding (PrefixFold i) acc (peak t)) (suc i) ts
+
+  single_digests : (ts : List Tree) → map (plan_digest h X) (map peak ts ++ []) ≡ map (tree_digest h X) ts
+  single_digests [] = refl
+  single_digests (t ∷ ts) = ap (λ z. tree_digest h X t ∷ z) (single_digests ts)
+
+  digests_after : (after inside : List Tree) → map (tree_digest h X) (after ++ inside) ≡ map (plan_digest h X) (map peak after ++ []) ++ map (tree_digest h X) inside
+  digests_after after inside = map-append (tree_digest h X) after inside ∙ ap (λ z. z ++ map (tree_digest h X) inside) (sym (single_digests after))
+
+  -- a list's digests, with the peaks before the range folded, are the honest ones
+  honest_forward : (k : ℕ) (before over after inside : List Tree)
+      → option_to_list (folded h.fold ForwardFold 0 (map (tree_digest h X) before)) ++ map (tree_digest h X) (after ++ inside) ≡ map (plan_digest h X) (layout ForwardFold k before over after) ++ map (tree_digest h X) inside
+  honest_forward k [] over after inside = digests_after after inside
+  honest_forward k (b ∷ bs) over after inside = ap₂ (λ x y. x ∷ y) (fold_forward (peak b) 1 bs) (digests_after after inside)
+
+list_answers : {D : Type 0} (h : Hashing D) (rule : List ℕ → List ℕ) (xs : List D) (answered : ℕ → Option D → Type 0) → AnswersList h rule xs answered → (ts : List Tree) → AreNodes rule (length xs) ts → (ds : List D)
+    → AllZip (λ p d. answered p (Some d)) (map position ts) ds → ds ≡ map (tree_digest h (leaf_of h xs)) ts
+list_answers h rule xs answered right [] at [] z = refl
+list_answers h rule xs answered right [] at (d ∷ ds) z = absurd z
+list_answers h rule xs answered right (t ∷ ts) at [] z = absurd z
+list_answers h rule xs answered right (t ∷ ts) at (d ∷ ds) z =
+    ap₂ (λ x y. x ∷ y) (right (position t) t d at.0 z.0 ∙ digest_at_is h xs t) (list_answers h rule xs answered right ts at.1 ds z.1)
+
+module _ {F D P Q : Type 0} (s : Setting D) (forwards : s.bagging ≡ ForwardFold) (answered : ℕ → Option D → Type 0) (p : Proof F D P Q) (k n a b : ℕ) (ds : List D) (leaves_are : p.leaves ≡ n) (inactive_are : p.inactive_peaks ≡ k)
+    (few : k ≤ length (peaks_of s.rule n)) (read : AllZip (λ q d. answered q (Some d)) (map position (nodes_read s.rule n a b)) ds)
+    (digests_are : p.digests.items ≡ option_to_list (folded s.hashing.fold ForwardFold 0 (take (length (wholly_before a (peaks_of s.rule n))) ds)) ++ drop (length (wholly_before a (peaks_of s.rule n))) ds) where
+  abbrev peaks : List Tree
+  peaks = peaks_of s.rule n
+
+  -- the proof is built over a function that agrees with the answers
+  pub is_built : (node : ℕ → Option D) → ((q : ℕ) (r : Option D) → answered q r → r ≡ node q) → IsBuiltProof s node k (record { leaves = n; start = a; end = b }) p
+  is_built node agree = record {
+    leaves = leaves_are;
+    inactive = inactive_are;
+    few = few;
+    digests = ap (map Some) digests_are
+        ∙ built_forward s.hashing node k (wholly_before a peaks) (overlapping a b peaks) (wholly_after b peaks) (range_siblings a b peaks) ds (agreed s.hashing node answered agree (nodes_read s.rule n a b) ds read)
+        ∙ ap (λ z. map (part_read s.hashing node) (range_parts z k a b peaks) ++ map (λ t. node (position t)) (range_siblings a b peaks)) (sym forwards);
+  }
+
+  -- the digests of the honest proof
+  honest_digests_are : (xs : List D) → length xs ≡ n → AnswersList s.hashing s.rule xs answered → p.digests.items ≡ range_digests s xs k a b
+  honest_digests_are xs long right =
+      let T = tree_digest s.hashing (leaf_of s.hashing xs) in
+      let before = wholly_before a peaks in let after = wholly_after b peaks in let inside = range_siblings a b peaks in
+      let at : AreNodes s.rule (length xs) (nodes_read s.rule n a b) = subst (λ m. AreNodes s.rule m (nodes_read s.rule n a b)) (sym long) (reads_at s n a b) in
+      let all : ds ≡ map T before ++ map T (after ++ inside) = list_answers s.hashing s.rule xs answered right (nodes_read s.rule n a b) at ds read ∙ map-append T before (after ++ inside) in
+      let front : take (length before) ds ≡ map T before = ap (take (length before)) all ∙ take_at (map T before) (map T (after ++ inside)) (length before) (length-map before T) in
+      let back : drop (length before) ds ≡ map T (after ++ inside) = ap (drop (length before)) all ∙ drop_at (map T before) (map T (after ++ inside)) (length before) (length-map before T) in
+      digests_are ∙ ap₂ (λ x y. option_to_list (folded s.hashing.fold ForwardFold 0 x) ++ y) front back
+      ∙ honest_forward s.hashing (leaf_of s.hashing xs) k before (overlapping a b peaks) after inside
+      ∙ ap₂ (λ z m. map (plan_digest s.hashing (leaf_of s.hashing xs)) (range_parts z k a b (peaks_of s.rule m)) ++ map T (range_siblings a b (peaks_of s.rule m))) (sym forwards) (sym long)
+
+  pub is_honest : a < b → b ≤ n → (xs : List D) → length xs ≡ n → AnswersList s.hashing s.rule xs answered → IsHonestRange s xs k (list_input p xs a b)
+  is_honest less within xs long right =
+      let count : length (take (b - a) (drop a xs)) ≡ b - a = length-take-le (b - a) (drop a xs) (omega (arith, less, within, long, length-drop a xs)) in
+      let ends : b ≡ end_of (list_input p xs a b) = omega (arith, count, less) in
+      inl (record {
+        some = omega (arith, count, less);
+        within = omega (arith, count, less, within, long);
+        leaves = leaves_are ∙ sym long;
+        inactive = inactive_are;
+        digests = honest_digests_are xs long right ∙ ap (range_digests s xs k a) ends;
+        elements = ap (λ m. take m (drop a xs)) (sym count);
+      })
+
+no_memory : {F : Type 0} (u : Unread F) → (u ≡ unread.OutOfMemory → ⊥) ⊎ (u ≡ unread.OutOfMemory)
+no_memory (unread.Missing p) = inl (λ e. cc)
+no_memory unread.OutOfMemory = inr refl
+
+-- why a plan isn't built, from why its nodes weren't read
+pub build_refused : {F D : Type 0} (rule : List ℕ → List ℕ) (r : LeafRange) (k : ℕ) (answered : ℕ → Option D → Type 0) (ps : List ℕ) → ps ≡ map position (nodes_read rule r.leaves r.start r.end) → k ≤ length (peaks_of rule r.leaves) → (u : Unread F) → (e : Error F) → e ≡ unread_error u
+    → (u ≢ unread.OutOfMemory → (q : ℕ) × (u ≡ unread.Missing q) × IsFirstMissing answered ps q) → e ≢ error.OutOfMemory → IsBuildRefusal rule r k answered e
+build_refused {F} {D} rule r k answered ps at few u e is missing other = ⊎_elim found (λ z. absurd (other (is ∙ ap (unread_error {F = F}) z))) (no_memory u)
+  where
+    found : (u ≡ unread.OutOfMemory → ⊥) → IsBuildRefusal rule r k answered e
+    found n = let w = missing n in inr (few, (w.0, is ∙ ap (unread_error {F = F}) w.1, subst (λ z. IsFirstMissing answered z w.0) at w.2))

@@ -1,0 +1,74 @@
+-- What a range proof reads, and what it is made of.
+use Rattle.std.specs.Prelude.{◌≡◌, ℕ, ◌≤◌, ◌<◌, ◌⊎◌, List, ◌∷◌, ◌++◌, map, length, Option, Some, None, slice_get, take, drop, ◌-◌}
+use Rattle.std.specs.List.{AllZip}
+use Rattle.merkle_base.specs.Tree.{Tree, position}
+use Rattle.merkle_base.specs.Forest.{forest}
+use Rattle.merkle_base.specs.Hashing.{Hashing}
+use Rattle.merkle_base.specs.Digests.{digest_at}
+use Rattle.merkle_base.specs.Places.{peaks_of}
+use Rattle.merkle_base.specs.declared.error.Error.{Error}
+use Rattle.merkle_base.specs.declared.error.Error.TheVariants.{Empty, RangeOutOfBounds, LocationOverflow, InvalidProof, ElementPruned}
+use Rattle.merkle_proof.specs.Expression.{hashed_at}
+use Rattle.merkle_proof.specs.Plan.{Plan, peak, folding}
+use Rattle.merkle_proof.specs.Check.{Setting, RangeInput}
+use Rattle.merkle_proof.specs.Range.{wholly_before, wholly_after, range_parts, range_siblings}
+use Rattle.merkle_proof.specs.declared.proof.Proof.{Proof}
+
+-- a range of a number of leaves
+pub record LeafRange : Type 0 where
+  pub leaves : ℕ
+  pub start : ℕ
+  pub end : ℕ
+
+-- the nodes that a proof of a..b reads, in order: the peaks before the range, those after it, and the path siblings
+abbrev pub nodes_read : (List ℕ → List ℕ) → (n a b : ℕ) → List Tree
+nodes_read rule n a b = wholly_before a (peaks_of rule n) ++ (wholly_after b (peaks_of rule n) ++ range_siblings a b (peaks_of rule n))
+
+-- the range has leaves, there are that many leaves and peaks, and these nodes are read, of which the first so many are peaks before the range
+pub record IsPlan (rule : List ℕ → List ℕ) (max_leaves n a b peaks before : ℕ) (reads : List ℕ) : Type 0 where
+  pub some : a < b
+  pub within : b ≤ n
+  pub small : n ≤ max_leaves
+  pub peaks_are : peaks ≡ length (peaks_of rule n)
+  pub before_are : before ≡ length (wholly_before a (peaks_of rule n))
+  pub reads_are : reads ≡ map position (nodes_read rule n a b)
+
+-- why there is no plan: the range is empty, or ends past the leaves, or these are too many
+abbrev pub IsRefusal : {F : Type 0} → (max_leaves n a b : ℕ) → Error F → Type 0
+IsRefusal max_leaves n a b e = ((b ≤ a) × (e ≡ Empty)) ⊎ (((a < b) × (n < b) × (e ≡ RangeOutOfBounds b)) ⊎ ((a < b) × (b ≤ n) × (max_leaves < n) × (e ≡ LocationOverflow n)))
+
+-- something is answered at each of the positions before p, and nothing at p
+abbrev pub IsFirstMissing : {D : Type 0} → (ℕ → Option D → Type 0) → List ℕ → ℕ → Type 0
+IsFirstMissing {D} answered ps p = (done : List ℕ) × (rest : List ℕ) × (ds : List D) × (ps ≡ done ++ p ∷ rest) × AllZip (λ q d. answered q (Some d)) done ds × answered p None
+
+-- why a plan isn't built: more peaks are called inactive than there are, or a node is missing
+abbrev pub IsBuildRefusal : {F D : Type 0} → (List ℕ → List ℕ) → LeafRange → ℕ → (ℕ → Option D → Type 0) → Error F → Type 0
+IsBuildRefusal rule r k answered e =
+    ((length (peaks_of rule r.leaves) < k) × (e ≡ InvalidProof))
+    ⊎ ((k ≤ length (peaks_of rule r.leaves)) × ((p : ℕ) × (e ≡ ElementPruned p) × IsFirstMissing answered (map position (nodes_read rule r.leaves r.start r.end)) p))
+
+-- a function of two digests, where both are there
+abbrev pub both_read : {D : Type 0} → (D → D → D) → Option D → Option D → Option D
+both_read f None y = None
+both_read f (Some x) None = None
+both_read f (Some x) (Some y) = Some (f x y)
+
+-- the digest of a part of a root, over the digests that stand at the positions of its peaks
+abbrev pub part_read : {D : Type 0} → Hashing D → (ℕ → Option D) → Plan → Option D
+part_read h node (peak t) = node (position t)
+part_read h node (folding place l r) = both_read (hashed_at h place) (part_read h node l) (part_read h node r)
+
+-- the proof has the digests of the layout, over those that stand at the positions of nodes
+pub record IsBuiltProof {F D Peaks Heights : Type 0} (s : Setting D) (node : ℕ → Option D) (k : ℕ) (r : LeafRange) (p : Proof F D Peaks Heights) : Type 0 where
+  pub leaves : p.leaves ≡ r.leaves
+  pub inactive : p.inactive_peaks ≡ k
+  pub few : k ≤ length (peaks_of s.rule r.leaves)
+  pub digests : map Some p.digests.items ≡ map (part_read s.hashing node) (range_parts s.bagging k r.start r.end (peaks_of s.rule r.leaves)) ++ map (λ t. node (position t)) (range_siblings r.start r.end (peaks_of s.rule r.leaves))
+
+-- each answer at the position of a node is the list's digest at it
+abbrev pub AnswersList : {D : Type 0} → Hashing D → (List ℕ → List ℕ) → List D → (ℕ → Option D → Type 0) → Type 0
+AnswersList {D} h rule xs answered = (p : ℕ) (t : Tree) (d : D) → slice_get (forest rule (length xs)).nodes p ≡ Some t → answered p (Some d) → d ≡ digest_at h xs t
+
+-- a proof with the leaves of a list from a on up to b
+abbrev pub list_input : {F D Peaks Heights : Type 0} → Proof F D Peaks Heights → List D → (a b : ℕ) → RangeInput D
+list_input p xs a b = record { leaves = p.leaves; inactive = p.inactive_peaks; digests = p.digests.items; start = a; elements = take (b - a) (drop a xs) }

@@ -1,0 +1,131 @@
+//! Plans of range proofs: which nodes a proof reads, and the proof made of what stands there.
+ghost use Rattle.std.specs.Prelude.{◌≡◌, ◌≢◌, ◌<◌, ◌≤◌, ◌++◌, [], ◌∷◌, ◌⊎◌, ℕ, List, Option, Some, take, drop, length, IfOk, IfErr};
+ghost use Rattle.std.specs.Option.{option_to_list};
+ghost use Rattle.merkle_base.specs.Root.{folded};
+ghost use Rattle.merkle_base.specs.declared.family.Bagging.TheVariants.{ForwardFold};
+ghost use Rattle.merkle_proof.specs.Input.{setting};
+ghost use Rattle.merkle_proof.specs.Range.{IsHonestRange};
+ghost use Rattle.merkle_proof.specs.RangePlans.{IsRefusal, IsBuildRefusal, IsBuiltProof, AnswersList, list_input};
+
+use crate::groups::Groups;
+use crate::hasher::{Hasher, fold_all};
+use crate::proof::Proof;
+use crate::reading::read_nodes;
+use merkle_base::error::Error;
+use merkle_base::family::Family;
+use merkle_base::location::Location;
+use merkle_base::position::Position;
+use std::alloc::Global;
+use std::marker::Model;
+use std::ops::Range;
+
+/// What a proof of a range of leaves reads.
+///
+/// To a contract it is the range, and the number of leaves of the list.
+#[derive(Debug, Drop)]
+pub struct RangePlan<F: Family> {
+    leaves: Location<F>,
+    range: Range<Location<F>>,
+    // the number of peaks
+    peaks: usize,
+    // how many of the positions are peaks before the range
+    before: usize,
+    // what is read, in order
+    reads: Vec<Position<F>>,
+}
+
+impl<F: Family> Model for RangePlan<F> {
+    ghost use Rattle.merkle_proof.specs.RangePlans.{LeafRange, IsPlan};
+
+    ghost Value = { LeafRange };
+
+    ghost view = { λ p. record { leaves = p.leaves; start = p.range.start; end = p.range.end } };
+
+    ghost invariant = { λ p. IsPlan F.rule F.MAX_LEAVES p.leaves p.range.start p.range.end p.peaks p.before p.reads.items };
+}
+
+impl<F: Family> RangePlan<F> {
+    /// The plan of a proof of a range of a list of that many leaves.
+    ///
+    /// Refused, in this order: with `Empty` where the range has no leaves, with `RangeOutOfBounds` of its end where that
+    /// is past the leaves, with `LocationOverflow` where there are more leaves than the family has, and with
+    /// `OutOfMemory`.
+    pub fn new(
+        alloc: Global,
+        leaves: Location<F>,
+        range: Range<Location<F>>,
+    ) -> Result<Self, Error<F>>
+        ensures ok { IfOk result (λ p. p ≡ record { leaves = leaves; start = range.start; end = range.end }) }
+        ensures within { IfOk result (λ _. (range.start < range.end) × (range.end ≤ leaves) × (leaves ≤ F.MAX_LEAVES)) }
+        ensures err { IfErr result (λ e. e ≢ Error.OutOfMemory → IsRefusal F.MAX_LEAVES leaves range.start range.end e) }
+    {
+        if range.start >= range.end {
+            return Err(Error::Empty);
+        }
+        if range.end > leaves {
+            return Err(Error::RangeOutOfBounds(range.end));
+        }
+        if !leaves.is_valid() {
+            return Err(Error::LocationOverflow(leaves));
+        }
+        let groups = Groups::of_peaks(alloc, leaves, &range)?;
+        let peaks = groups.count();
+        let before = groups.before.len();
+        let reads = groups.outside(alloc, &range)?;
+        Ok(RangePlan {
+            leaves,
+            range,
+            peaks,
+            before,
+            reads,
+        })
+    }
+
+    /// The proof over the digests that `get_node` answers at positions, with a number of peaks that count as inactive.
+    ///
+    /// Where each answer is the digest of a list at that node, the proof is the honest one of the range. Refused, in this
+    /// order: with `InvalidProof` where the number exceeds that of the peaks; with `ElementPruned` of the first node
+    /// that is missing, of the peaks before the range, the peaks after it, and the path siblings; and with
+    /// `OutOfMemory` wherever there is no memory.
+    pub fn build<H: Hasher<F>, G: Fn(Position<F>) -> Option<H::Digest>>(
+        self,
+        hasher: &H,
+        inactive: usize,
+        get_node: G,
+    ) -> Result<Proof<F, H::Digest>, Error<F>>
+    where
+        G: Drop,
+        requires forward { H.bagging_of hasher.now ≡ ForwardFold }
+        requires reads { G.IsAlwaysCallable get_node }
+        ensures built { (node : ℕ → Option H.Digest) → ((p : ℕ) (r : Option H.Digest) → G.post get_node p r → r ≡ node p) → IfOk result (λ p. IsBuiltProof (setting (H.hashing hasher.now) (H.bagging_of hasher.now) F.rule F.MAX_LEAVES F.DOMAIN) node inactive self p) }
+        ensures honest { (xs : List H.Digest) → length xs ≡ self.leaves → AnswersList (H.hashing hasher.now) F.rule xs (G.post get_node) → IfOk result (λ p. IsHonestRange (setting (H.hashing hasher.now) (H.bagging_of hasher.now) F.rule F.MAX_LEAVES F.DOMAIN) xs inactive (list_input p xs self.start self.end)) }
+        ensures err { IfErr result (λ e. e ≢ Error.OutOfMemory → IsBuildRefusal F.rule self inactive (G.post get_node) e) }
+    {
+        if inactive > self.peaks {
+            return Err(Error::InvalidProof);
+        }
+        let alloc = *self.reads.allocator();
+        let all = read_nodes(alloc, &self.reads, &get_node)?;
+        Ok(Proof {
+            leaves: self.leaves,
+            inactive_peaks: inactive,
+            digests: fold_front(hasher, self.before, all),
+        })
+    }
+}
+
+// The digests with the first so many folded to one, if there are any.
+fn fold_front<F: Family, H: Hasher<F>>(
+    hasher: &H,
+    count: usize,
+    mut digests: Vec<H::Digest>,
+) -> Vec<H::Digest>
+    requires { count ≤ length digests.items }
+    ensures { result.items ≡ option_to_list (folded (H.hashing hasher.now).fold ForwardFold 0 (take count digests.items)) ++ drop count digests.items }
+{
+    if count > 1 {
+        digests[0] = fold_all(hasher, digests[0], &digests[1..count]);
+        digests.drain(1..count);
+    }
+    digests
+}
