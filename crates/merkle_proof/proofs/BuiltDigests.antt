@@ -17,7 +17,7 @@ use Rattle.merkle_proof.specs.Outside.{layout}
 use Rattle.merkle_proof.specs.Check.{Setting}
 use Rattle.merkle_proof.specs.Range.{in_range, wholly_before, overlapping, wholly_after, range_parts, range_siblings, range_digests, leaf_of, end_of, IsHonestRange}
 use Rattle.merkle_proof.specs.RangePlans.{both_read, part_read, nodes_read, AnswersList, LeafRange, IsBuiltProof, IsFirstMissing, IsBuildRefusal, list_input}
-use Rattle.merkle_proof.specs.Reading.{unread_error}
+use Rattle.merkle_proof.specs.ReadErrors.{unread_error}
 use Rattle.merkle_proof.specs.declared.reading.Unread.{Unread}
 use Rattle.merkle_proof.specs.declared.reading.Unread.TheVariants as unread
 use Rattle.merkle_base.specs.declared.error.Error.{Error}

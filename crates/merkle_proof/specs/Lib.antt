@@ -27,5 +27,5 @@ pub mod Walk
 pub mod GroupedPeaks
 pub mod Input
 pub mod RangePlans
-pub mod Reading
+pub mod ReadErrors
 pub mod ListRoot

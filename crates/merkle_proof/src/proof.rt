@@ -19,7 +19,6 @@ use merkle_base::digest::Digest;
 use merkle_base::error::{OutOfMemory, ReconstructionError};
 use merkle_base::family::Family;
 use merkle_base::location::Location;
-use std::alloc::Global;
 use std::ops::Range;
 
 /// A proof that elements are leaves of the list behind a root.
@@ -57,43 +56,6 @@ fn reconstruct_peaks<F: Family, H: Hasher<F>>(
     Ok(())
 }
 
-// The digests of all that a root folds: the given ones before, those of the peaks that overlap the range, and the given
-// ones after.
-fn peak_digests<F: Family, H: Hasher<F>>(
-    alloc: Global,
-    hasher: &H,
-    range: &Range<Location<F>>,
-    elements: &[&[u8]],
-    peaks: &[Subtree<F>],
-    before: usize,
-    after: usize,
-    digests: &[H::Digest],
-) -> Result<Vec<H::Digest>, ReconstructionError>
-    requires nodes { (ts : List Tree) × (peaks.now ≡ map subtree_of ts) × AreNodes F.rule F.MAX_LEAVES ts }
-    requires some { range.now.start < range.now.end }
-    requires all { range.now.end ≤ range.now.start + length elements.now }
-    ensures ok { IfOk result (λ v. (ts : List Tree) → peaks.now ≡ map subtree_of ts → AreNodes F.rule F.MAX_LEAVES ts → ArePeakDigests (H.hashing hasher.now) (in_range range.now.start range.now.end) (leaf_from (H.hashing hasher.now) F.rule range.now.start (bytes_of elements.now)) ts before after digests.now v.items) }
-    ensures err { IfErr result (λ e. e ≢ ReconstructionError.OutOfMemory → (ts : List Tree) → peaks.now ≡ map subtree_of ts → AreNodes F.rule F.MAX_LEAVES ts → length digests.now ≢ before + after + length (flat_map (siblings (in_range range.now.start range.now.end)) ts)) }
-{
-    let Some((before, others)) = digests.split_at_checked(before) else {
-        return Err(ReconstructionError::MissingDigests);
-    };
-    let Some((after, mut siblings)) = others.split_at_checked(after) else {
-        return Err(ReconstructionError::MissingDigests);
-    };
-    let Ok(mut all) = before.to_vec(alloc) else {
-        return Err(ReconstructionError::OutOfMemory);
-    };
-    reconstruct_peaks(hasher, range, elements, peaks, &mut siblings, &mut all)?;
-    if !siblings.is_empty() {
-        return Err(ReconstructionError::ExtraDigests);
-    }
-    let Ok(()) = all.extend_from_slice(after) else {
-        return Err(ReconstructionError::OutOfMemory);
-    };
-    Ok(all)
-}
-
 impl<F: Family, D: Digest> Proof<F, D> {
     // The location after that many leaves from `start` on.
     fn end_from(&self, start: Location<F>, count: usize) -> Result<Location<F>, ReconstructionError>
@@ -107,6 +69,42 @@ impl<F: Family, D: Digest> Proof<F, D> {
             Some(end) if end <= self.leaves => Ok(end),
             _ => Err(ReconstructionError::InvalidEndLoc),
         }
+    }
+
+    // The digests of all that the root folds: the given ones before, those of the peaks that overlap the range, and the
+    // given ones after.
+    fn peak_digests<H: Hasher<F, Digest = D>>(
+        &self,
+        hasher: &H,
+        range: &Range<Location<F>>,
+        elements: &[&[u8]],
+        peaks: &[Subtree<F>],
+        before: usize,
+        after: usize,
+    ) -> Result<Vec<D>, ReconstructionError>
+        requires nodes { (ts : List Tree) × (peaks.now ≡ map subtree_of ts) × AreNodes F.rule F.MAX_LEAVES ts }
+        requires some { range.now.start < range.now.end }
+        requires all { range.now.end ≤ range.now.start + length elements.now }
+        ensures ok { IfOk result (λ v. (ts : List Tree) → peaks.now ≡ map subtree_of ts → AreNodes F.rule F.MAX_LEAVES ts → ArePeakDigests (H.hashing hasher.now) (in_range range.now.start range.now.end) (leaf_from (H.hashing hasher.now) F.rule range.now.start (bytes_of elements.now)) ts before after self.now.digests.items v.items) }
+        ensures err { IfErr result (λ e. e ≢ ReconstructionError.OutOfMemory → (ts : List Tree) → peaks.now ≡ map subtree_of ts → AreNodes F.rule F.MAX_LEAVES ts → length self.now.digests.items ≢ before + after + length (flat_map (siblings (in_range range.now.start range.now.end)) ts)) }
+    {
+        let Some((before, others)) = self.digests.split_at_checked(before) else {
+            return Err(ReconstructionError::MissingDigests);
+        };
+        let Some((after, mut siblings)) = others.split_at_checked(after) else {
+            return Err(ReconstructionError::MissingDigests);
+        };
+        let Ok(mut all) = before.to_vec(*self.digests.allocator()) else {
+            return Err(ReconstructionError::OutOfMemory);
+        };
+        reconstruct_peaks(hasher, range, elements, peaks, &mut siblings, &mut all)?;
+        if !siblings.is_empty() {
+            return Err(ReconstructionError::ExtraDigests);
+        }
+        let Ok(()) = all.extend_from_slice(after) else {
+            return Err(ReconstructionError::OutOfMemory);
+        };
+        Ok(all)
     }
 
     // The root that the elements from `start` on lead to.
@@ -130,15 +128,13 @@ impl<F: Family, D: Digest> Proof<F, D> {
         if self.inactive_peaks > groups.count() {
             return Err(ReconstructionError::InvalidProof);
         }
-        let peaks = peak_digests(
-            alloc,
+        let peaks = self.peak_digests(
             hasher,
             &range,
             elements,
             &groups.overlapping,
             groups.folded_count(),
             groups.after.len(),
-            &self.digests,
         )?;
         match hasher.root_with_folded_peaks(self.leaves, 0, self.inactive_peaks, &peaks) {
             Some(root) => Ok(root),

@@ -1,6 +1,7 @@
 //! Plans of range proofs: which nodes a proof reads, and the proof made of what stands there.
 ghost use Rattle.std.specs.Prelude.{◌≡◌, ◌≢◌, ◌<◌, ◌≤◌, ◌++◌, [], ◌∷◌, ◌⊎◌, ℕ, List, Option, Some, take, drop, length, IfOk, IfErr};
 ghost use Rattle.std.specs.Option.{option_to_list};
+ghost use Rattle.merkle_base.specs.Places.{peaks_of};
 ghost use Rattle.merkle_base.specs.Root.{folded};
 ghost use Rattle.merkle_base.specs.declared.family.Bagging.TheVariants.{ForwardFold};
 ghost use Rattle.merkle_proof.specs.Input.{setting};
@@ -99,6 +100,7 @@ impl<F: Family> RangePlan<F> {
         requires reads { G.IsAlwaysCallable get_node }
         ensures built { (node : ℕ → Option H.Digest) → ((p : ℕ) (r : Option H.Digest) → G.post get_node p r → r ≡ node p) → IfOk result (λ p. IsBuiltProof (setting (H.hashing hasher.now) (H.bagging_of hasher.now) F.rule F.MAX_LEAVES F.DOMAIN) node inactive self p) }
         ensures honest { (xs : List H.Digest) → length xs ≡ self.leaves → AnswersList (H.hashing hasher.now) F.rule xs (G.post get_node) → IfOk result (λ p. IsHonestRange (setting (H.hashing hasher.now) (H.bagging_of hasher.now) F.rule F.MAX_LEAVES F.DOMAIN) xs inactive (list_input p xs self.start self.end)) }
+        ensures fits { IfOk result (λ _. (self.start < self.end) × (self.end ≤ self.leaves) × (self.leaves ≤ F.MAX_LEAVES) × (inactive ≤ length (peaks_of F.rule self.leaves))) }
         ensures err { IfErr result (λ e. e ≢ Error.OutOfMemory → IsBuildRefusal F.rule self inactive (G.post get_node) e) }
     {
         if inactive > self.peaks {

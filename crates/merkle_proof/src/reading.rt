@@ -20,7 +20,7 @@ pub(crate) enum Unread<F> {
 
 impl<F> From<Unread<F>> for Error<F> {
     ghost use Rattle.std.specs.Prelude.{◌≡◌};
-    ghost use Rattle.merkle_proof.specs.Reading.{unread_error};
+    ghost use Rattle.merkle_proof.specs.ReadErrors.{unread_error};
 
     ghost from_gives = { λ u e. e ≡ unread_error u };
 

@@ -1,11 +1,10 @@
-use Rattle.std.proofs.Common.{◌≡◌, ◌≤◌, ◌<◌, ◌+◌, arith, refl, sym, ap, ◌∙◌, subst, length}
+use Rattle.std.proofs.Common.{◌≡◌, ◌≤◌, ◌<◌, ◌+◌, arith, refl, sym, ap, ◌∙◌, length}
 use Rattle.std.proofs.lemmas.Result.{err_from_is_err_and}
 use Rattle.std.proofs.lemmas.List.{length-map}
 use Rattle.merkle_base.specs.Tree.{position}
 use Rattle.merkle_base.specs.Places.{peaks_of}
 use Rattle.merkle_base.specs.Root.{peaks_root}
-use Rattle.merkle_proof.specs.Range.{in_range, overlapping, wholly_after}
-use Rattle.merkle_proof.specs.Walk.{bytes_of, leaf_from, ArePeakDigests}
+use Rattle.merkle_proof.specs.Range.{overlapping, wholly_after}
 use Rattle.merkle_proof.proofs.PeakLoop.{peaks_at, filter_nodes}
 use Rattle.merkle_proof.proofs.RangeRoot.{element_count, computed, misshapen, never_empty}
 use Rattle.merkle_proof.proofs.proof.Proof.reconstruct_root.Goals as goal
@@ -36,7 +35,7 @@ returns-in_err-peaks-clause-err g c =
     rw (p.1, p.2) (λ n.
     misshapen h (g.H.Hasher.bagging_of c.args.hasher.now) g.F.Family.rule g.F.Family.MAX_LEAVES g.F.Family.DOMAIN c.args.self.now a b c.args.elements.now c.requires.some end.0 c.requires.forward end.1
     c.folded_count.result c.len.result (c.folded_count.ensures a b ts held) n_is
-    (λ e. c.in_err-peaks.ensures.err n (overlapping a b ts) (c.deref.ensures.value ∙ held.over) (filter_nodes _ _ _ (peaks_at g.F.Family.rule g.F.Family.MAX_LEAVES c.args.self.now.leaves end.2)) (ap length c.deref-2.ensures.value ∙ e)))
+    (λ e. c.in_err-peaks.ensures.err n (overlapping a b ts) (c.deref.ensures.value ∙ held.over) (filter_nodes _ _ _ (peaks_at g.F.Family.rule g.F.Family.MAX_LEAVES c.args.self.now.leaves end.2)) e))
 
 pub unreachable-requires : goal.unreachable-requires
 unreachable-requires g c =
@@ -47,14 +46,13 @@ unreachable-requires g c =
     let held = c.in-Ok.ensures in
     let n_is : c.len.result ≡ length (wholly_after b ts) = omega (arith, c.len.ensures, ap length held.after, length-map (wholly_after b ts) position) in
     let all = c.in_ok-peaks.peaks.items in
-    let w = subst (λ z. ArePeakDigests h (in_range a b) (leaf_from h g.F.Family.rule a (bytes_of c.args.elements.now)) (overlapping a b ts) c.folded_count.result c.len.result z all) c.deref-2.ensures.value
-    (c.in_ok-peaks.ensures.ok (overlapping a b ts) (c.deref.ensures.value ∙ held.over) (filter_nodes _ _ _ (peaks_at g.F.Family.rule g.F.Family.MAX_LEAVES c.args.self.now.leaves end.2))) in
+    let w = c.in_ok-peaks.ensures.ok (overlapping a b ts) (c.deref.ensures.value ∙ held.over) (filter_nodes _ _ _ (peaks_at g.F.Family.rule g.F.Family.MAX_LEAVES c.args.self.now.leaves end.2)) in
     c.in-None.ensures (
       omega arith,
       λ e. absurd (
           never_empty h (g.H.Hasher.bagging_of c.args.hasher.now) g.F.Family.rule g.F.Family.MAX_LEAVES g.F.Family.DOMAIN c.args.self.now a b c.args.elements.now c.requires.some end.0 c.requires.forward end.1
           c.folded_count.result c.len.result (c.folded_count.ensures a b ts held) n_is
-          all w (sym (ap length c.deref-3.ensures.value) ∙ e)),
+          all w (sym (ap length c.deref-2.ensures.value) ∙ e)),
     )
 
 pub returns-clause-ok : goal.returns-clause-ok
@@ -68,9 +66,8 @@ returns-clause-ok g c =
     let all = c.in_ok-peaks.peaks.items in
     let less : a < b = omega (arith, end.0, c.requires.some) in
     let low : c.args.self.now.inactive_peaks ≤ length ts = omega (arith, c.if-self-count.false, c.count.ensures a b c.args.self.now.leaves less held) in
-    let w = subst (λ z. ArePeakDigests h (in_range a b) (leaf_from h g.F.Family.rule a (bytes_of c.args.elements.now)) (overlapping a b ts) c.folded_count.result c.len.result z all) c.deref-2.ensures.value
-    (c.in_ok-peaks.ensures.ok (overlapping a b ts) (c.deref.ensures.value ∙ held.over) (filter_nodes _ _ _ (peaks_at g.F.Family.rule g.F.Family.MAX_LEAVES c.args.self.now.leaves end.2))) in
+    let w = c.in_ok-peaks.ensures.ok (overlapping a b ts) (c.deref.ensures.value ∙ held.over) (filter_nodes _ _ _ (peaks_at g.F.Family.rule g.F.Family.MAX_LEAVES c.args.self.now.leaves end.2)) in
     computed h (g.H.Hasher.bagging_of c.args.hasher.now) g.F.Family.rule g.F.Family.MAX_LEAVES g.F.Family.DOMAIN c.args.self.now a b c.args.elements.now c.requires.some end.0 c.requires.forward end.1
     c.folded_count.result c.len.result (c.folded_count.ensures a b ts held) n_is
     end.2 low all w c.in-Some.root
-    (c.in-Some.ensures.1 ∙ ap (peaks_root h g.F.Family.DOMAIN (g.H.Hasher.bagging_of c.args.hasher.now) c.args.self.now.leaves 0 c.args.self.now.inactive_peaks) c.deref-3.ensures.value)
+    (c.in-Some.ensures.1 ∙ ap (peaks_root h g.F.Family.DOMAIN (g.H.Hasher.bagging_of c.args.hasher.now) c.args.self.now.leaves 0 c.args.self.now.inactive_peaks) c.deref-2.ensures.value)

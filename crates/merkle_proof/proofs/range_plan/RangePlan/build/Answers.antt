@@ -1,4 +1,4 @@
-use Rattle.std.proofs.Common.{◌≡◌, ◌≤◌, ◌++◌, Some, take, drop, length, length-append, arith, refl, sym, subst, ap, ◌∙◌}
+use Rattle.std.proofs.Common.{◌≡◌, ◌≤◌, ◌<◌, ◌++◌, Some, take, drop, length, length-append, arith, refl, sym, subst, ap, ◌∙◌}
 use Rattle.std.specs.List.{AllZip}
 use Rattle.std.specs.Option.{option_to_list}
 use Rattle.std.proofs.lemmas.Result.{err_from_is_err_and}
@@ -59,3 +59,9 @@ returns-clause-honest g c = λ xs long right.
     let at : length xs ≡ n = long ∙ sym (ap (λ (r : LeafRange). r.leaves) c.self.view_is) in
     subst (λ (r : LeafRange). IsHonestRange s xs c.args.inactive (list_input p xs r.start r.end)) c.self.view_is
     (is_honest s c.requires.forward (given.G-post g c.args.get_node) p c.args.inactive n a b c.in_ok-all.all.items refl refl few read front i.some i.within xs at right)
+
+pub returns-clause-fits : goal.returns-clause-fits
+returns-clause-fits g c =
+    let i = c.self.invariant in
+    let few : c.args.inactive ≤ length (peaks_of g.F.Family.rule c.self.inside.leaves) = omega (arith, c.if-inactive-self.false, i.peaks_are) in
+    subst (λ (r : LeafRange). (r.start < r.end) × (r.end ≤ r.leaves) × (r.leaves ≤ g.F.Family.MAX_LEAVES) × (c.args.inactive ≤ length (peaks_of g.F.Family.rule r.leaves))) c.self.view_is (i.some, i.within, i.small, few)
