@@ -21,3 +21,4 @@ pub mod TruthFacts
 pub mod Wholes
 pub mod Small
 pub mod Merkleized
+pub mod HonestReads

@@ -15,4 +15,5 @@ pub mod Truth
 pub mod Gaps
 pub mod HeldPeaks
 pub mod Refusals
+pub mod ProofRefusals
 pub mod Rows

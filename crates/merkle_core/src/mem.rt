@@ -1,5 +1,5 @@
 //! Merkle structures in memory.
-ghost use Rattle.std.specs.Prelude.{◌≡◌, ◌<◌, ◌≤◌, ◌⊎◌, ℕ, List, [], Err, None, Ok, is_some, take, true, length, OnErr, OnOk, IfOk, IsOkUnless};
+ghost use Rattle.std.specs.Prelude.{◌≡◌, ◌≢◌, ◌+◌, ◌<◌, ◌≤◌, ◌⊎◌, ℕ, List, [], Err, None, Ok, is_some, take, true, length, OnErr, OnOk, IfOk, IfErr, IsOkUnless};
 ghost use Rattle.merkle_base.specs.Places.{ArePeaks, peaks_of};
 ghost use Rattle.merkle_base.specs.Forest.{size};
 ghost use Rattle.merkle_base.specs.Root.{list_root, peaks_root};
@@ -12,6 +12,11 @@ ghost use Rattle.merkle_core.specs.Recorded.{records};
 ghost use Rattle.merkle_core.specs.Stands.{StandsOn, last_list};
 ghost use Rattle.merkle_core.specs.Replay.{applied, matched, refusal};
 ghost use Rattle.merkle_core.specs.Refusals.{error_of};
+ghost use Rattle.merkle_core.specs.ProofRefusals.{IsProofRefusal};
+ghost use Rattle.merkle_base.specs.declared.family.Bagging.TheVariants.{ForwardFold};
+ghost use Rattle.merkle_proof.specs.Input.{setting};
+ghost use Rattle.merkle_proof.specs.Range.{IsHonestRange};
+ghost use Rattle.merkle_proof.specs.RangePlans.{IsBuildRefusal, list_input};
 
 use crate::batch::{MerkleizedBatch, UnmerkleizedBatch};
 use merkle_base::digest::Digest;
@@ -20,6 +25,8 @@ use merkle_base::family::Family;
 use merkle_base::location::Location;
 use merkle_base::position::Position;
 use merkle_proof::hasher::Hasher;
+use merkle_proof::proof::Proof;
+use merkle_proof::range_plan::RangePlan;
 use std::alloc::Global;
 use std::marker::Model;
 
@@ -130,6 +137,53 @@ impl<F: Family, D: Digest> Mem<F, D> {
         let mut digests = [D::EMPTY; MAX_PEAKS];
         let count = self.write_peaks(&mut digests);
         hasher.root(self.leaves(), inactive, front(&digests, count))
+    }
+
+    // The proof of a plan, over the nodes that are held.
+    fn build_proof<H: Hasher<F, Digest = D>>(
+        &self,
+        plan: RangePlan<F>,
+        hasher: &H,
+        inactive: usize,
+    ) -> Result<Proof<F, D>, Error<F>>
+        requires forward { H.bagging_of hasher.now ≡ ForwardFold }
+        ensures honest { (X : List D) → length X ≡ plan.leaves → Agrees (H.hashing hasher.now) F.rule (contents self.now) X → IfOk result (λ p. IsHonestRange (setting (H.hashing hasher.now) (H.bagging_of hasher.now) F.rule F.MAX_LEAVES F.DOMAIN) X inactive (list_input p X plan.start plan.end)) }
+        ensures err { IfErr result (λ e. e ≢ Error.OutOfMemory → IsBuildRefusal F.rule plan inactive (λ p r. r ≡ node self.now p) e) }
+    {
+        plan.build(hasher, inactive, |position| self.get_node(position))
+    }
+
+    /// The proof of the leaf at a location, with a number of peaks that count as inactive.
+    ///
+    /// Refused, in this order: with `LocationOverflow` where no list has such a location, with `LeafOutOfBounds` where
+    /// there is no such leaf, with `InvalidProof` where the number exceeds that of the peaks, and with `ElementPruned` of
+    /// the first node that is missing, of the peaks before the leaf, the peaks after it, and the path siblings. Refused
+    /// with `OutOfMemory` wherever there is no memory.
+    pub fn proof<H: Hasher<F, Digest = D>>(
+        &self,
+        hasher: &H,
+        location: Location<F>,
+        inactive: usize,
+    ) -> Result<Proof<F, D>, Error<F>>
+        requires forward { H.bagging_of hasher.now ≡ ForwardFold }
+
+        // It is the honest proof of every list that the structure agrees with.
+        ensures honest { (X : List D) → Agrees (H.hashing hasher.now) F.rule (contents self.now) X → IfOk result (λ p. location < length X × IsHonestRange (setting (H.hashing hasher.now) (H.bagging_of hasher.now) F.rule F.MAX_LEAVES F.DOMAIN) X inactive (list_input p X location (location + 1))) }
+        ensures given { (h : Hashing D) → (X : List D) → Agrees h F.rule (contents self.now) X → self.now.boundary ≤ location → location < length X → inactive ≤ length (peaks_of F.rule (length X)) → IsOkUnless result Error.OutOfMemory }
+        ensures err { (n : ℕ) → n ≤ F.MAX_LEAVES → size F.rule n ≡ self.now.size → IfErr result (λ e. e ≢ Error.OutOfMemory → IsProofRefusal F.rule F.MAX_LEAVES n location inactive (node self.now) e) }
+    {
+        let leaves = self.leaves();
+        if !location.is_valid_index() {
+            return Err(Error::LocationOverflow(location));
+        }
+        if location >= leaves {
+            return Err(Error::LeafOutOfBounds(location));
+        }
+        let alloc = *self.nodes.allocator();
+        match RangePlan::new(alloc, leaves, location..location + 1) {
+            Ok(plan) => self.build_proof(plan, hasher, inactive),
+            Err(error) => Err(error),
+        }
     }
 
     /// A batch without changes, forked from this structure.

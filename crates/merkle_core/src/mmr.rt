@@ -13,3 +13,6 @@ pub type MerkleizedBatch<D> = crate::batch::MerkleizedBatch<Family, D>;
 
 /// The hasher over a plain one.
 pub type StandardHasher<H> = merkle_proof::hasher::Standard<H>;
+
+/// A proof of leaves of a Mountain Range.
+pub type Proof<D> = merkle_proof::proof::Proof<Family, D>;

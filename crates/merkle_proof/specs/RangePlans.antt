@@ -38,8 +38,13 @@ abbrev pub IsRefusal : {F : Type 0} → (max_leaves n a b : ℕ) → Error F →
 IsRefusal max_leaves n a b e = ((b ≤ a) × (e ≡ Empty)) ⊎ (((a < b) × (n < b) × (e ≡ RangeOutOfBounds b)) ⊎ ((a < b) × (b ≤ n) × (max_leaves < n) × (e ≡ LocationOverflow n)))
 
 -- something is answered at each of the positions before p, and nothing at p
-abbrev pub IsFirstMissing : {D : Type 0} → (ℕ → Option D → Type 0) → List ℕ → ℕ → Type 0
-IsFirstMissing {D} answered ps p = (done : List ℕ) × (rest : List ℕ) × (ds : List D) × (ps ≡ done ++ p ∷ rest) × AllZip (λ q d. answered q (Some d)) done ds × answered p None
+pub record IsFirstMissing {D : Type 0} (answered : ℕ → Option D → Type 0) (ps : List ℕ) (p : ℕ) : Type 0 where
+  pub before : List ℕ
+  pub after : List ℕ
+  pub digests : List D
+  pub split : ps ≡ before ++ p ∷ after
+  pub read : AllZip (λ q d. answered q (Some d)) before digests
+  pub missing : answered p None
 
 -- why a plan isn't built: more peaks are called inactive than there are, or a node is missing
 abbrev pub IsBuildRefusal : {F D : Type 0} → (List ℕ → List ℕ) → LeafRange → ℕ → (ℕ → Option D → Type 0) → Error F → Type 0

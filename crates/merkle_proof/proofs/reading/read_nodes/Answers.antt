@@ -20,4 +20,4 @@ returns-in_default-get_node-clause-err g c = λ _.
     let i = c.loop-position.position-index in
     let xs = c.args.positions.now in
     let split = split_at xs i c.position-item.result c.loop-position-test.true ∙ ap (λ p. take i xs ++ p ∷ drop (suc i) xs) (sym c.position-item.is) in
-    (c.position-item.result, refl, (take i xs, drop (suc i) xs, c.loop-position.all.items, split, c.loop-position.invariant, c.in_default-get_node.ensures))
+    (c.position-item.result, refl, record { before = take i xs; after = drop (suc i) xs; digests = c.loop-position.all.items; split = split; read = c.loop-position.invariant; missing = c.in_default-get_node.ensures })

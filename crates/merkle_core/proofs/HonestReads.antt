@@ -1,0 +1,119 @@
+-- What a proof reads from a structure that agrees with a list.
+use Rattle.std.proofs.Common.{inl, inr, ◌≡◌, ◌≢◌, ℕ, suc, ◌+◌, ◌<◌, ◌≤◌, ◌⊎◌, List, [], ◌∷◌, ◌++◌, length, map, Bool, true, false, cond, Option, Some, None, slice_get, refl, ap, sym, ◌∙◌, subst, arith, ⊎_elim}
+use Rattle.std.proofs.lemmas.Bool.{le-leb}
+use Rattle.std.specs.Prelude.{nat_le, ◌||◌}
+use Rattle.std.specs.List.{AllZip}
+use Rattle.merkle_base.specs.Tree.{Tree, position}
+use Rattle.merkle_base.specs.Forest.{forest, size}
+use Rattle.merkle_base.specs.Hashing.{Hashing}
+use Rattle.merkle_base.specs.Digests.{digest_at, node_digests}
+use Rattle.merkle_base.specs.Places.{peaks_of}
+use Rattle.merkle_base.specs.declared.error.Error.{Error}
+use Rattle.merkle_base.specs.declared.error.Error.TheVariants.{NonLeaf, PositionOverflow, LocationOverflow, Empty, RangeOutOfBounds, InvalidSize, LeafOutOfBounds, DuplicateLocation, UnsortedLocation, ElementPruned, CompressedDigest, InvalidPinnedNodes, StaleBatch, AncestorDropped, InvalidProof, InvalidInactivePeaks, RootMismatch, MissingNode, DataCorrupted, BitOutOfBounds, OutOfMemory}
+use Rattle.merkle_base.specs.declared.family.Bagging.TheVariants.{ForwardFold}
+use Rattle.merkle_base.proofs.Lookup.{size_zero}
+use Rattle.merkle_proof.specs.Check.{Setting}
+use Rattle.merkle_proof.specs.Input.{setting}
+use Rattle.merkle_proof.specs.Subtrees.{AreNodes}
+use Rattle.merkle_proof.specs.RangePlans.{LeafRange, AnswersList, IsFirstMissing, IsRefusal, IsBuildRefusal, nodes_read}
+use Rattle.merkle_proof.proofs.BuiltDigests.{reads_at}
+use Rattle.merkle_core.specs.Contents.{Contents, Agrees, is_kept}
+use Rattle.merkle_core.proofs.Items.{by_test}
+use Rattle.merkle_core.proofs.Kept.{get_map}
+
+some_is : {X : Type 0} (x y : X) → Some x ≡ Some y → x ≡ y
+some_is x y e = cc
+
+kept_some : {X : Type 0} (b : Bool) (o : Option X) (x : X) → Some x ≡ cond b o None → o ≡ Some x
+kept_some true o x e = sym e
+kept_some false o x e = absurd (cc)
+
+-- what is held at a node is the list's digest there
+pub answers_list : {D : Type 0} (h : Hashing D) (rule : List ℕ → List ℕ) (c : Contents D) (X : List D) → Agrees h rule c X → AnswersList h rule X (λ p r. r ≡ c.node p)
+answers_list h rule c X agrees p t d at is =
+    some_is d (digest_at h X t)
+    (sym (kept_some (is_kept rule c.boundary p) (slice_get (node_digests h rule X) p) d (is ∙ agrees.holds p)) ∙ get_map (digest_at h X) (forest rule (length X)).nodes p t at)
+
+-- of positions of nodes each is that of one
+position_of_node : (rule : List ℕ → List ℕ) (n : ℕ) (ts : List Tree) → AreNodes rule n ts → (done rest : List ℕ) (p : ℕ) → map position ts ≡ done ++ p ∷ rest → (t : Tree) × (slice_get (forest rule n).nodes p ≡ Some t)
+position_of_node rule n [] at [] rest p e = absurd (cc)
+position_of_node rule n [] at (d ∷ done) rest p e = absurd (cc)
+position_of_node rule n (t ∷ ts) at [] rest p e = let same : position t ≡ p = cc in (t, subst (λ q. slice_get (forest rule n).nodes q ≡ Some t) same at.0)
+position_of_node rule n (t ∷ ts) at (d ∷ done) rest p e = let more : map position ts ≡ done ++ p ∷ rest = cc in position_of_node rule n ts at.1 done rest p more
+
+-- where nothing is pruned nothing that a proof reads is missing
+pub none_missing : {D : Type 0} (s : Setting D) (h : Hashing D) (c : Contents D) (X : List D) → Agrees h s.rule c X → c.boundary ≡ 0 → (a b p : ℕ) → IsFirstMissing (λ q r. r ≡ c.node q) (map position (nodes_read s.rule (length X) a b)) p → ⊥
+none_missing s h c X agrees whole a b p missing =
+    let t = position_of_node s.rule (length X) (nodes_read s.rule (length X) a b) (reads_at s (length X) a b) missing.before missing.after p missing.split in
+    let kept : is_kept s.rule c.boundary p ≡ true = ap (λ z. is_kept s.rule z p) whole ∙ (let low : size s.rule 0 ≤ p = omega (arith, size_zero s.rule) in rw (is_kept, le-leb (size s.rule 0) p low) refl) in
+    let held : c.node p ≡ Some (digest_at h X t.0) = agrees.holds p ∙ ap (λ b. cond b (slice_get (node_digests h s.rule X) p) None) kept ∙ get_map (digest_at h X) (forest s.rule (length X)).nodes p t.0 t.1 in
+    let none : Some (digest_at h X t.0) ≡ None = sym held ∙ sym missing.missing in absurd (cc)
+
+-- whether an error is want of memory
+pub is_memory : {F : Type 0} (e : Error F) → (e ≡ OutOfMemory → ⊥) ⊎ (e ≡ OutOfMemory)
+is_memory (NonLeaf a) = inl (λ e. cc)
+is_memory (PositionOverflow a) = inl (λ e. cc)
+is_memory (LocationOverflow a) = inl (λ e. cc)
+is_memory Empty = inl (λ e. cc)
+is_memory (RangeOutOfBounds a) = inl (λ e. cc)
+is_memory (InvalidSize a) = inl (λ e. cc)
+is_memory (LeafOutOfBounds a) = inl (λ e. cc)
+is_memory (DuplicateLocation a) = inl (λ e. cc)
+is_memory (UnsortedLocation a) = inl (λ e. cc)
+is_memory (ElementPruned a) = inl (λ e. cc)
+is_memory (CompressedDigest a) = inl (λ e. cc)
+is_memory InvalidPinnedNodes = inl (λ e. cc)
+is_memory (StaleBatch a b) = inl (λ e. cc)
+is_memory (AncestorDropped a b) = inl (λ e. cc)
+is_memory InvalidProof = inl (λ e. cc)
+is_memory (InvalidInactivePeaks a b) = inl (λ e. cc)
+is_memory RootMismatch = inl (λ e. cc)
+is_memory (MissingNode a) = inl (λ e. cc)
+is_memory (DataCorrupted a) = inl (λ e. cc)
+is_memory (BitOutOfBounds a b) = inl (λ e. cc)
+is_memory OutOfMemory = inr refl
+
+-- the proof of a leaf is refused for want of memory alone
+pub only_memory : {F D : Type 0} (h : Hashing D) (rule : List ℕ → List ℕ) (c : Contents D) (X : List D) → Agrees h rule c X → c.boundary ≡ 0 → (i k : ℕ) → k ≤ length (peaks_of rule (length X)) → (e : Error F)
+    → (e ≢ OutOfMemory → IsBuildRefusal rule (record { leaves = length X; start = i; end = i + 1 }) k (λ p r. r ≡ c.node p) e) → e ≡ OutOfMemory
+only_memory {F} {D} h rule c X agrees whole i k few e refused = elim (is_memory e) [
+  | inr is ↦ is
+  | inl other ↦ absurd (elim (refused other) [
+    | inl x ↦ (let no : length (peaks_of rule (length X)) < k = x.0 in omega (arith, no, few))
+    | inr x ↦ none_missing (setting h ForwardFold rule 0 0) h c X agrees whole i (i + 1) x.1.0 x.1.2
+  ])
+]
+
+-- a plan of one leaf of a lawful count is not refused
+pub one_leaf_planned : {F : Type 0} (m n i b : ℕ) (e : Error F) → i < n → n ≤ m → b ≡ i + 1 → IsRefusal m n i b e → ⊥
+one_leaf_planned m n i b e less within next refused = elim refused [
+  | inl x ↦ (let no : b ≤ i = x.0 in omega (arith, no, next))
+  | inr x ↦ elim x [ inl y ↦ (let no : n < b = y.1 in omega (arith, no, less, next)) | inr y ↦ (let no : m < n = y.2 in omega (arith, no, within)) ]
+]
+
+zip_weaker : {A B : Type 0} (P Q : A → B → Type 0) → ((a : A) (b : B) → P a b → Q a b) → (xs : List A) (ys : List B) → AllZip P xs ys → AllZip Q xs ys
+zip_weaker P Q weaker [] [] z = tt
+zip_weaker P Q weaker [] (b ∷ ys) z = absurd z
+zip_weaker P Q weaker (a ∷ xs) [] z = absurd z
+zip_weaker P Q weaker (a ∷ xs) (b ∷ ys) z = (weaker a b z.0, zip_weaker P Q weaker xs ys z.1)
+
+-- refusals over answers that say more
+pub refused_by : {F D : Type 0} (rule : List ℕ → List ℕ) (r : LeafRange) (k : ℕ) (A B : ℕ → Option D → Type 0) → (e : Error F) → IsBuildRefusal rule r k A e → ((p : ℕ) (o : Option D) → A p o → B p o) → IsBuildRefusal rule r k B e
+refused_by rule r k A B e refused means = elim refused [
+  | inl x ↦ inl x
+  | inr x ↦ (let m = x.1.2 in inr (
+    x.0,
+    (
+      x.1.0,
+      x.1.1,
+      record {
+        before = m.before;
+        after = m.after;
+        digests = m.digests;
+        split = m.split;
+        read = zip_weaker (λ q d. A q (Some d)) (λ q d. B q (Some d)) (λ q d. means q (Some d)) m.before m.digests m.read;
+        missing = means x.1.0 None m.missing;
+      },
+    ),
+  ))
+]

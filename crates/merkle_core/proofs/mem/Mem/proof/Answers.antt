@@ -1,0 +1,76 @@
+use Rattle.std.proofs.Common.{◌≡◌, ◌≢◌, ◌+◌, ◌<◌, ◌≤◌, ◌⊎◌, ℕ, List, Option, length, arith, ap, sym, ◌∙◌, refl, inl, inr, subst}
+use Rattle.std.proofs.lemmas.Bool.{false≢true}
+use Rattle.std.proofs.lemmas.Result.{IfErr-weaker, IfOk-weaker}
+use Rattle.merkle_base.specs.Forest.{size}
+use Rattle.merkle_base.specs.Places.{peaks_of}
+use Rattle.merkle_base.proofs.Nodes.{size_inj}
+use Rattle.merkle_base.proofs.Limits.{lawful_leaves}
+use Rattle.merkle_core.specs.Store.{node, contents}
+use Rattle.merkle_core.specs.ProofRefusals.{IsProofRefusal}
+use Rattle.merkle_core.proofs.HonestReads.{is_memory, only_memory, one_leaf_planned}
+use Rattle.merkle_proof.specs.Input.{setting}
+use Rattle.merkle_proof.specs.Range.{IsHonestRange}
+use Rattle.merkle_proof.specs.RangePlans.{LeafRange, IsBuildRefusal, list_input}
+use Rattle.merkle_proof.proofs.Comparisons.{ge_yes, ge_no}
+use Rattle.merkle_core.proofs.mem.Mem.proof.Goals as goal
+
+pub returns-then-not-is_valid_index-clause-given : goal.returns-then-not-is_valid_index-clause-given
+returns-then-not-is_valid_index-clause-given g c = λ h X agrees low less few.
+    let leaves : c.leaves-leaves.result ≡ length X = size_inj g.F.Family.rule c.leaves-leaves.result (length X) (c.leaves-leaves.ensures.sized ∙ agrees.sized) in
+    absurd (false≢true (c.if-not-is_valid_index.ensures.1 (omega (arith, leaves, less, c.leaves-leaves.ensures.bounded))))
+
+pub returns-then-ge-clause-given : goal.returns-then-ge-clause-given
+returns-then-ge-clause-given g c = λ h X agrees low less few.
+    let leaves : c.leaves-leaves.result ≡ length X = size_inj g.F.Family.rule c.leaves-leaves.result (length X) (c.leaves-leaves.ensures.sized ∙ agrees.sized) in
+    let past : c.leaves-leaves.result ≤ c.args.location = ge_yes c.args.location c.leaves-leaves.result (sym c.ge.ensures ∙ c.if-ge.true) in
+    absurd (omega (arith, leaves, past, less))
+
+pub returns-then-ge-clause-err : goal.returns-then-ge-clause-err
+returns-then-ge-clause-err g c = λ n within sized _.
+    let leaves : c.leaves-leaves.result ≡ n = size_inj g.F.Family.rule c.leaves-leaves.result n (c.leaves-leaves.ensures.sized ∙ sym sized) in
+    let past : c.leaves-leaves.result ≤ c.args.location = ge_yes c.args.location c.leaves-leaves.result (sym c.ge.ensures ∙ c.if-ge.true) in
+    inr (inl (c.if-not-is_valid_index.ensures.0 refl, omega (arith, leaves, past), refl))
+
+pub add-requires : goal.add-requires
+add-requires g c =
+    let below : c.args.location < c.leaves-leaves.result = ge_no c.args.location c.leaves-leaves.result (sym c.ge.ensures ∙ c.if-ge.false) in
+    omega (arith, below, c.leaves-leaves.ensures.bounded, lawful_leaves g.F.Family.rule g.F.Family.MAX_LEAVES g.F.Family.MAX_NODES g.met.F.Family.lawful)
+
+pub returns-in-Ok-clause-honest : goal.returns-in-Ok-clause-honest
+returns-in-Ok-clause-honest g c = λ X agrees.
+    let h = g.H.Hasher.hashing c.args.hasher.now in
+    let s = setting h (g.H.Hasher.bagging_of c.args.hasher.now) g.F.Family.rule g.F.Family.MAX_LEAVES g.F.Family.DOMAIN in
+    let below : c.args.location < c.leaves-leaves.result = ge_no c.args.location c.leaves-leaves.result (sym c.ge.ensures ∙ c.if-ge.false) in
+    let leaves : c.leaves-leaves.result ≡ length X = size_inj g.F.Family.rule c.leaves-leaves.result (length X) (c.leaves-leaves.ensures.sized ∙ agrees.sized) in
+    let plan : c.in-Ok.plan ≡ record { leaves = c.leaves-leaves.result; start = c.args.location; end = c.args.location + 1 } = c.in-Ok.ensures.ok ∙ ap (λ e. record { leaves = c.leaves-leaves.result; start = c.args.location; end = e }) c.add.ensures in
+    IfOk-weaker c.build_proof.result _ _ (λ p honest. (omega (arith, below, leaves), subst (λ (r : LeafRange). IsHonestRange s X c.args.inactive (list_input p X r.start r.end)) plan honest))
+    (c.build_proof.ensures.honest X (sym leaves ∙ sym (ap (λ (r : LeafRange). r.leaves) plan)) agrees)
+
+pub returns-in-Ok-clause-given : goal.returns-in-Ok-clause-given
+returns-in-Ok-clause-given g c = λ h X agrees low less few.
+    let leaves : c.leaves-leaves.result ≡ length X = size_inj g.F.Family.rule c.leaves-leaves.result (length X) (c.leaves-leaves.ensures.sized ∙ agrees.sized) in
+    let plan : c.in-Ok.plan ≡ record { leaves = length X; start = c.args.location; end = c.args.location + 1 } =
+    c.in-Ok.ensures.ok ∙ ap (λ e. record { leaves = c.leaves-leaves.result; start = c.args.location; end = e }) c.add.ensures ∙ ap (λ m. record { leaves = m; start = c.args.location; end = c.args.location + 1 }) leaves in
+    IfErr-weaker c.build_proof.result _ _ (λ e refused. only_memory h g.F.Family.rule (contents c.args.self.now) X agrees (sym (ap (λ s. s.boundary) c.self.view_is)) c.args.location c.args.inactive few e
+    (λ other. subst (λ r. IsBuildRefusal g.F.Family.rule r c.args.inactive (λ p o. o ≡ node c.args.self.now p) e) plan (refused other))) c.build_proof.ensures.err
+
+pub returns-in-Ok-clause-err : goal.returns-in-Ok-clause-err
+returns-in-Ok-clause-err g c = λ n within sized.
+    let below : c.args.location < c.leaves-leaves.result = ge_no c.args.location c.leaves-leaves.result (sym c.ge.ensures ∙ c.if-ge.false) in
+    let leaves : c.leaves-leaves.result ≡ n = size_inj g.F.Family.rule c.leaves-leaves.result n (c.leaves-leaves.ensures.sized ∙ sym sized) in
+    let plan : c.in-Ok.plan ≡ record { leaves = n; start = c.args.location; end = c.args.location + 1 } =
+    c.in-Ok.ensures.ok ∙ ap (λ e. record { leaves = c.leaves-leaves.result; start = c.args.location; end = e }) c.add.ensures ∙ ap (λ m. record { leaves = m; start = c.args.location; end = c.args.location + 1 }) leaves in
+    IfErr-weaker c.build_proof.result _ _ (λ e refused other. inr (inr (omega (arith, below, leaves), subst (λ r. IsBuildRefusal g.F.Family.rule r c.args.inactive (λ p o. o ≡ node c.args.self.now p) e) plan (refused other)))) c.build_proof.ensures.err
+
+pub returns-in-Err-clause-given : goal.returns-in-Err-clause-given
+returns-in-Err-clause-given g c = λ h X agrees low less few.
+    let below : c.args.location < c.leaves-leaves.result = ge_no c.args.location c.leaves-leaves.result (sym c.ge.ensures ∙ c.if-ge.false) in
+    elim (is_memory c.in-Err.error) [
+      | inr is ↦ is
+      | inl other ↦ absurd (one_leaf_planned g.F.Family.MAX_LEAVES c.leaves-leaves.result c.args.location c.add.result c.in-Err.error below c.leaves-leaves.ensures.bounded c.add.ensures (c.in-Err.ensures.err other))
+    ]
+
+pub returns-in-Err-clause-err : goal.returns-in-Err-clause-err
+returns-in-Err-clause-err g c = λ n within sized other.
+    let below : c.args.location < c.leaves-leaves.result = ge_no c.args.location c.leaves-leaves.result (sym c.ge.ensures ∙ c.if-ge.false) in
+    absurd (one_leaf_planned g.F.Family.MAX_LEAVES c.leaves-leaves.result c.args.location c.add.result c.in-Err.error below c.leaves-leaves.ensures.bounded c.add.ensures (c.in-Err.ensures.err other))
