@@ -1,0 +1,3 @@
+pub mod Flat
+pub mod FlatLawful
+pub mod Masked
