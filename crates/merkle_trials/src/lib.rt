@@ -6,3 +6,5 @@
 
 pub mod flat;
 pub mod keyed;
+#[cfg(test)]
+mod tests;
