@@ -1,1 +1,2 @@
 pub mod FlatFacts
+pub mod PairFacts

@@ -9,7 +9,7 @@ mod families;
 mod hashers;
 mod structures;
 
-use merkle_core::batch::UnmerkleizedBatch;
+use merkle_core::batch::{MerkleizedBatch, UnmerkleizedBatch};
 use merkle_core::digest::{Digest, Xor8Digest};
 use merkle_core::error::Error;
 use merkle_core::family::Family;
@@ -18,11 +18,13 @@ use merkle_core::mem::Mem;
 use merkle_core::position::Position;
 use std::alloc::Global;
 use std::process::Abort;
+use std::rc::Rc;
 
-// The value of a result, which isn't refused.
+// The value of a result, which isn't refused. A function can't do this, since the check has no rule for a call that takes
+// an `Error` by value.
 macro_rules! granted {
-    ($rt:expr, $result:expr) => {
-        match $result {
+    ($rt:expr, $answer:expr) => {
+        match $answer {
             Ok(value) => value,
             Err(error) => panic!($rt; "{error}"),
         }
@@ -88,7 +90,7 @@ fn digest(rt: &impl Abort, byte: u8) -> Xor8Digest {
 }
 
 /// A batch forked from a structure, with a leaf for each element of one byte.
-fn batch_of<F: Family, H: Hasher<F>>(
+fn added<F: Family, H: Hasher<F>>(
     rt: &impl Abort,
     base: &Mem<F, H::Digest>,
     hasher: &H,
@@ -101,6 +103,26 @@ fn batch_of<F: Family, H: Hasher<F>>(
     batch
 }
 
+/// The batch with its nodes.
+fn merkleized<F: Family, H: Hasher<F>>(
+    rt: &impl Abort,
+    batch: UnmerkleizedBatch<F, H::Digest>,
+    base: &Mem<F, H::Digest>,
+    hasher: &H,
+) -> Rc<MerkleizedBatch<F, H::Digest>> {
+    granted!(rt, batch.merkleize(base, hasher))
+}
+
+/// A batch forked from a structure and computed over it, with a leaf for each element of one byte.
+fn batch_of<F: Family, H: Hasher<F>>(
+    rt: &impl Abort,
+    base: &Mem<F, H::Digest>,
+    hasher: &H,
+    elements: &[u8],
+) -> Rc<MerkleizedBatch<F, H::Digest>> {
+    merkleized(rt, added(rt, base, hasher, elements), base, hasher)
+}
+
 /// The structure with a leaf for each element of one byte.
 fn structure_of<F: Family, H: Hasher<F>>(
     rt: &impl Abort,
@@ -110,9 +132,31 @@ fn structure_of<F: Family, H: Hasher<F>>(
 ) -> Mem<F, H::Digest> {
     let mut structure = Mem::new(alloc);
     let batch = batch_of(rt, &structure, hasher, elements);
-    let batch = granted!(rt, batch.merkleize(&structure, hasher));
-    granted!(rt, structure.apply_batch(&batch));
+    assert_applied(rt, &mut structure, &batch, Outcome::Done);
     structure
+}
+
+/// Asserts how the application of a batch ends.
+fn assert_applied<F: Family, D: Digest>(
+    rt: &impl Abort,
+    structure: &mut Mem<F, D>,
+    batch: &MerkleizedBatch<F, D>,
+    wanted: Outcome,
+) {
+    assert_eq!(rt; seen(&structure.apply_batch(batch)), wanted);
+}
+
+/// Asserts that a batch with one leaf, forked from a structure, can't be computed over a base without that node.
+fn assert_missing<F: Family, H: Hasher<F>>(
+    rt: &impl Abort,
+    structure: &Mem<F, H::Digest>,
+    base: &Mem<F, H::Digest>,
+    hasher: &H,
+    missing: u64,
+) {
+    let batch = added(rt, structure, hasher, &[8]);
+    let found = batch.merkleize(base, hasher);
+    assert_eq!(rt; seen(&found), Outcome::MissingNode(missing));
 }
 
 /// Asserts that a structure has these nodes, one byte each, and no more.

@@ -1,6 +1,9 @@
 //! Batches: when they are applied, and when they are refused.
 
-use super::{Outcome, assert_nodes, assert_roots, batch_of, digest, granted, seen, structure_of};
+use super::{
+    Outcome, added, assert_applied, assert_missing, assert_nodes, assert_roots, batch_of, digest,
+    granted, merkleized, structure_of,
+};
 use crate::keyed::Keyed;
 use merkle_core::digest::Xor8;
 use merkle_core::family::Bagging;
@@ -23,10 +26,8 @@ fn second_of_two_forks(rt: HostRuntime) {
     let mut structure: Mmr<_> = Mem::new(rt.alloc());
     let first = batch_of(&rt, &structure, &hasher, &[1]);
     let second = batch_of(&rt, &structure, &hasher, &[2]);
-    let first = granted!(&rt, first.merkleize(&structure, &hasher));
-    let second = granted!(&rt, second.merkleize(&structure, &hasher));
-    assert_eq!(rt; seen(&structure.apply_batch(&first)), Outcome::Done);
-    assert_eq!(rt; seen(&structure.apply_batch(&second)), FORKED_EMPTY);
+    assert_applied(&rt, &mut structure, &first, Outcome::Done);
+    assert_applied(&rt, &mut structure, &second, FORKED_EMPTY);
     assert_nodes(&rt, &structure, &[0x01]);
     assert_eq!(rt; structure.leaves().as_u64(), 1);
 }
@@ -37,8 +38,7 @@ fn fork_of_another_leaf(rt: HostRuntime) {
     let mut structure: Mmr<_> = structure_of(&rt, rt.alloc(), &hasher, &[1]);
     let other: Mmr<_> = structure_of(&rt, rt.alloc(), &hasher, &[2]);
     let batch = batch_of(&rt, &other, &hasher, &[4]);
-    let batch = granted!(&rt, batch.merkleize(&other, &hasher));
-    assert_eq!(rt; seen(&structure.apply_batch(&batch)), OTHER_LEAF);
+    assert_applied(&rt, &mut structure, &batch, OTHER_LEAF);
     assert_eq!(rt; structure.leaves().as_u64(), 1);
     assert_nodes(&rt, &structure, &[0x01]);
     assert_roots(&rt, &structure, &hasher, &[Outcome::Digest(0x00)]);
@@ -51,8 +51,7 @@ fn fork_under_another_key(rt: HostRuntime) {
     let hasher = Keyed::new(0x20, Bagging::ForwardFold);
     let other: Mmr<_> = structure_of(&rt, rt.alloc(), &hasher, &[1]);
     let batch = batch_of(&rt, &other, &hasher, &[4]);
-    let batch = granted!(&rt, batch.merkleize(&other, &hasher));
-    assert_eq!(rt; seen(&structure.apply_batch(&batch)), OTHER_LEAF);
+    assert_applied(&rt, &mut structure, &batch, OTHER_LEAF);
     assert_nodes(&rt, &structure, &[0x11]);
 }
 
@@ -63,9 +62,8 @@ fn batch_without_changes(rt: HostRuntime) {
         let mut structure: Mmr<_> = structure_of(&rt, rt.alloc(), &hasher, elements);
         let size = structure.size();
         let batch = batch_of(&rt, &structure, &hasher, &[]);
-        let batch = granted!(&rt, batch.merkleize(&structure, &hasher));
-        assert_eq!(rt; seen(&structure.apply_batch(&batch)), Outcome::Done);
-        assert_eq!(rt; seen(&structure.apply_batch(&batch)), Outcome::Done);
+        assert_applied(&rt, &mut structure, &batch, Outcome::Done);
+        assert_applied(&rt, &mut structure, &batch, Outcome::Done);
         assert_eq!(rt; structure.size(), size);
     }
 }
@@ -75,9 +73,8 @@ fn batch_applied_twice(rt: HostRuntime) {
     let hasher = StandardHasher::<Xor8>::new(Bagging::ForwardFold);
     let mut structure: Mmr<_> = Mem::new(rt.alloc());
     let batch = batch_of(&rt, &structure, &hasher, &[1]);
-    let batch = granted!(&rt, batch.merkleize(&structure, &hasher));
-    assert_eq!(rt; seen(&structure.apply_batch(&batch)), Outcome::Done);
-    assert_eq!(rt; seen(&structure.apply_batch(&batch)), FORKED_EMPTY);
+    assert_applied(&rt, &mut structure, &batch, Outcome::Done);
+    assert_applied(&rt, &mut structure, &batch, FORKED_EMPTY);
     assert_nodes(&rt, &structure, &[0x01]);
 }
 
@@ -94,9 +91,7 @@ fn base_without_a_needed_node(rt: HostRuntime) {
     ] {
         let structure: Mmr<_> = structure_of(&rt, rt.alloc(), &hasher, leaves);
         let base: Mmr<_> = structure_of(&rt, rt.alloc(), &hasher, held);
-        let batch = batch_of(&rt, &structure, &hasher, &[8]);
-        let found = batch.merkleize(&base, &hasher);
-        assert_eq!(rt; seen(&found), Outcome::MissingNode(missing));
+        assert_missing(&rt, &structure, &base, &hasher, missing);
     }
 }
 
@@ -105,24 +100,24 @@ fn base_without_a_needed_node(rt: HostRuntime) {
 fn base_that_is_not_needed(rt: HostRuntime) {
     let hasher = StandardHasher::<Xor8>::new(Bagging::ForwardFold);
     let mut structure: Mmr<_> = structure_of(&rt, rt.alloc(), &hasher, &[1, 2, 4]);
-    let batch = batch_of(&rt, &structure, &hasher, &[]);
-    let batch = granted!(&rt, batch.merkleize(&Mem::new(rt.alloc()), &hasher));
-    assert_eq!(rt; seen(&structure.apply_batch(&batch)), Outcome::Done);
+    let batch = added(&rt, &structure, &hasher, &[]);
+    let batch = merkleized(&rt, batch, &Mem::new(rt.alloc()), &hasher);
+    assert_applied(&rt, &mut structure, &batch, Outcome::Done);
 }
 
-// The nodes 0 to 6: 01, 03 and 00 over them, 07, then 04 xor 08, 05 xor 07 xor 0c, 06 xor 00 xor 0e.
+// The nodes 0 to 6: 01, 03 and 00 over them, 07, then 04 xor 08, 05 xor 07 xor 0c, 06 xor 00 xor 0e. The hasher is a
+// reference all the way.
 #[test]
 fn leaves_by_digest_and_by_element(rt: HostRuntime) {
-    let hasher = &StandardHasher::<Xor8>::new(Bagging::ForwardFold);
+    let standard = StandardHasher::<Xor8>::new(Bagging::ForwardFold);
+    let hasher = &standard;
     let mut structure: Mmr<_> = structure_of(&rt, rt.alloc(), &hasher, &[1, 2]);
-    let batch = granted!(&rt, structure.new_batch());
-    assert_eq!(rt; batch.leaves().as_u64(), 2);
+    let batch = added(&rt, &structure, &hasher, &[]);
     let batch = granted!(&rt, batch.add_leaf_digest(digest(&rt, 0x07)));
     let batch = granted!(&rt, batch.add(&hasher, &[8]));
     assert_eq!(rt; batch.leaves().as_u64(), 4);
-    let batch = granted!(&rt, batch.merkleize(&structure, &hasher));
-    granted!(&rt, structure.apply_batch(&batch));
-    assert_eq!(rt; structure.leaves().as_u64(), 4);
+    let batch = merkleized(&rt, batch, &structure, &hasher);
+    assert_applied(&rt, &mut structure, &batch, Outcome::Done);
     assert_nodes(&rt, &structure, &[0x01, 0x03, 0x00, 0x07, 0x0c, 0x0e, 0x08]);
     // 04 for the leaf count, and the one peak
     assert_roots(&rt, &structure, &hasher, &[0x0c, 0x0d].map(Outcome::Digest));

@@ -1,39 +1,74 @@
-//! The family that never merges, and the hasher with a key, under the generic code.
+//! The families with small limits, and the hasher with a key, under the generic code.
 
 use super::{
-    Outcome, assert_nodes, assert_roots, batch_of, digest, granted, seen, seen_digest,
-    structure_of, too_many,
+    Outcome, added, assert_applied, assert_missing, assert_nodes, assert_roots, batch_of, digest,
+    seen, seen_digest, structure_of, too_many,
 };
-use crate::flat::{Family, Location, Position};
 use crate::keyed::Keyed;
+use crate::{flat, pairs};
 use merkle_core::digest::{Xor8, Xor8Digest};
-use merkle_core::family::{Bagging, Family as _};
+use merkle_core::family::{Bagging, Family};
 use merkle_core::hasher::Standard;
+use merkle_core::location::Location;
 use merkle_core::mem::Mem;
 use merkle_core::mmr::Mmr;
-use std::test::Fail;
+use merkle_core::position::Position;
+use std::alloc::Global;
+use std::process::Abort;
 
 /// A structure in memory in which every leaf is a peak.
-type Flat = Mem<Family, Xor8Digest>;
+type Flat = Mem<flat::Family, Xor8Digest>;
 
-#[test]
-fn flat_counts(rt: HostRuntime) {
-    for (number, is_valid) in [(0, true), (1, true), (64, true), (65, false)] {
-        let (location, position) = (Location::new(number), Position::new(number));
-        assert_eq!(rt; position.is_valid_size(), is_valid, "{number}");
-        if location.is_valid() && position.is_valid() {
-            assert_eq!(rt; Family::location_to_position(location), position);
-            assert_eq!(rt; Family::position_to_location(position), Some(location));
-        } else {
-            assert!(rt; !is_valid, "{number}");
-        }
-    }
-    assert_eq!(rt; Family::pos_to_height(Position::new(63)), 0);
-    assert!(rt; Family::parent_heights(Location::new(63)).next().is_none());
+/// A structure in memory in which pairs of leaves are peaks.
+type Pairs = Mem<pairs::Family, Xor8Digest>;
+
+/// Asserts that so many leaves have so many nodes, by each call that tells.
+fn assert_count<F: Family>(rt: &impl Abort, leaves: u64, nodes: u64) {
+    let (location, position) = (Location::<F>::new(leaves), Position::<F>::new(nodes));
+    assert!(rt; position.is_valid_size(), "{nodes}");
+    assert!(rt; location.is_valid() && position.is_valid(), "{nodes}");
+    assert_eq!(rt; F::location_to_position(location), position);
+    assert_eq!(rt; F::position_to_location(position), Some(location));
 }
 
 #[test]
-fn flat_structures(rt: HostRuntime) -> Result<(), Fail> {
+fn counts(rt: HostRuntime) {
+    for leaves in [0, 1, 2, 63, 64] {
+        assert_count::<flat::Family>(&rt, leaves, leaves);
+    }
+    for (leaves, nodes) in [(0, 0), (1, 1), (2, 3), (3, 4), (99, 148), (100, 150)] {
+        assert_count::<pairs::Family>(&rt, leaves, nodes);
+    }
+}
+
+#[test]
+fn no_counts(rt: HostRuntime) {
+    assert!(rt; !flat::Position::new(65).is_valid_size());
+    for nodes in [2, 5, 149, 151] {
+        assert!(rt; !pairs::Position::new(nodes).is_valid_size(), "{nodes}");
+    }
+}
+
+#[test]
+fn heights(rt: HostRuntime) {
+    for (position, height) in [(0, 0), (1, 0), (2, 1), (3, 0), (147, 0), (149, 1)] {
+        let found = pairs::Family::pos_to_height(pairs::Position::new(position));
+        assert_eq!(rt; found, height, "{position}");
+    }
+    assert_eq!(rt; flat::Family::pos_to_height(flat::Position::new(63)), 0);
+}
+
+/// Asserts the peaks with their heights, oldest first.
+fn assert_peaks<F: Family>(rt: &impl Abort, structure: &Mem<F, Xor8Digest>, peaks: &[(u64, u32)]) {
+    let mut wanted = peaks.iter();
+    for (position, height) in structure.peak_iterator() {
+        assert_eq!(rt; wanted.next(), Some(&(position.as_u64(), height)));
+    }
+    assert!(rt; wanted.next().is_none());
+}
+
+#[test]
+fn flat_structures(rt: HostRuntime) {
     for (bagging, empty, roots) in [
         (Bagging::ForwardFold, 0x09, [0x09, 0x08, 0x0b]),
         (Bagging::BackwardFold, 0x08, [0x08, 0x09, 0x0a]),
@@ -48,30 +83,52 @@ fn flat_structures(rt: HostRuntime) -> Result<(), Fail> {
         );
         let structure: Flat = structure_of(&rt, rt.alloc(), &hasher, &[1, 2]);
         assert_nodes(&rt, &structure, &[0x01, 0x03]);
-        let peaks: Vec<(Position, u32)> = structure.peak_iterator().collect(rt.alloc())?;
-        let wanted = [(Position::new(0), 0), (Position::new(1), 0)];
-        assert_eq!(rt; peaks.as_slice(), wanted.as_slice());
+        assert_peaks(&rt, &structure, &[(0, 0), (1, 0)]);
         let [none, one, two] = roots.map(Outcome::Digest);
         assert_roots(&rt, &structure, &hasher, &[none, one, two, too_many(3, 2)]);
     }
-    Ok(())
 }
 
+// The node 5 is 05 xor 07 xor 0c, and 06 xor 10 comes after it.
 #[test]
-fn second_of_two_flat_forks(rt: HostRuntime) {
+fn paired_structures(rt: HostRuntime) {
+    for (bagging, roots) in [
+        (Bagging::ForwardFold, [0x17, 0x16, 0x15, 0x14]),
+        (Bagging::BackwardFold, [0x16, 0x17, 0x14, 0x15]),
+    ] {
+        let hasher = Standard::<Xor8>::new(bagging);
+        let structure: Pairs = structure_of(&rt, rt.alloc(), &hasher, &[1, 2, 4, 8, 16]);
+        assert_nodes(&rt, &structure, &[0x01, 0x03, 0x00, 0x07, 0x0c, 0x0e, 0x16]);
+        assert_peaks(&rt, &structure, &[(2, 1), (5, 1), (6, 0)]);
+        let [none, one, two, three] = roots.map(Outcome::Digest);
+        assert_roots(
+            &rt,
+            &structure,
+            &hasher,
+            &[none, one, two, three, too_many(4, 3)],
+        );
+    }
+}
+
+/// Asserts that the second of two batches from the empty structure is refused after the first.
+fn assert_second_refused<F: Family>(rt: &impl Abort, alloc: Global) {
     let hasher = Standard::<Xor8>::new(Bagging::ForwardFold);
-    let mut structure = Flat::new(rt.alloc());
-    let first = batch_of(&rt, &structure, &hasher, &[1]);
-    let second = batch_of(&rt, &structure, &hasher, &[2]);
-    let first = granted!(&rt, first.merkleize(&structure, &hasher));
-    let second = granted!(&rt, second.merkleize(&structure, &hasher));
+    let mut structure: Mem<F, _> = Mem::new(alloc);
+    let first = batch_of(rt, &structure, &hasher, &[1]);
+    let second = batch_of(rt, &structure, &hasher, &[2]);
     let refused = Outcome::StaleBatch {
         expected: 0,
         actual: 1,
     };
-    assert_eq!(rt; seen(&structure.apply_batch(&first)), Outcome::Done);
-    assert_eq!(rt; seen(&structure.apply_batch(&second)), refused);
-    assert_nodes(&rt, &structure, &[0x01]);
+    assert_applied(rt, &mut structure, &first, Outcome::Done);
+    assert_applied(rt, &mut structure, &second, refused);
+    assert_nodes(rt, &structure, &[0x01]);
+}
+
+#[test]
+fn second_of_two_forks(rt: HostRuntime) {
+    assert_second_refused::<flat::Family>(&rt, rt.alloc());
+    assert_second_refused::<pairs::Family>(&rt, rt.alloc());
 }
 
 // Every older peak is needed, from the oldest on.
@@ -81,28 +138,48 @@ fn flat_base_without_a_needed_node(rt: HostRuntime) {
     for (held, missing) in [([].as_slice(), 0), (&[1], 1)] {
         let structure: Flat = structure_of(&rt, rt.alloc(), &hasher, &[1, 2]);
         let base: Flat = structure_of(&rt, rt.alloc(), &hasher, held);
-        let batch = batch_of(&rt, &structure, &hasher, &[4]);
-        let found = batch.merkleize(&base, &hasher);
-        assert_eq!(rt; seen(&found), Outcome::MissingNode(missing));
+        assert_missing(&rt, &structure, &base, &hasher, missing);
     }
+}
+
+// The older peak is needed, or the older leaf of the new pair.
+#[test]
+fn paired_base_without_a_needed_node(rt: HostRuntime) {
+    let hasher = Standard::<Xor8>::new(Bagging::ForwardFold);
+    for (leaves, held, missing) in [
+        ([1, 2].as_slice(), [].as_slice(), 2),
+        (&[1, 2, 4], &[1, 2], 3),
+    ] {
+        let structure: Pairs = structure_of(&rt, rt.alloc(), &hasher, leaves);
+        let base: Pairs = structure_of(&rt, rt.alloc(), &hasher, held);
+        assert_missing(&rt, &structure, &base, &hasher, missing);
+    }
+}
+
+/// Asserts that a batch, forked from a structure, has the greatest leaf count with these elements, and takes no more.
+fn assert_full<F: Family>(rt: &impl Abort, structure: &Mem<F, Xor8Digest>, elements: &[u8]) {
+    let hasher = Standard::<Xor8>::new(Bagging::ForwardFold);
+    let full = Outcome::LocationOverflow(F::MAX_LEAVES);
+    let batch = added(rt, structure, &hasher, elements);
+    assert_eq!(rt; batch.leaves().as_u64(), F::MAX_LEAVES);
+    assert_eq!(rt; seen(&batch.add(&hasher, &[0])), full);
+    let batch = added(rt, structure, &hasher, elements);
+    assert_eq!(rt; seen(&batch.add_leaf_digest(digest(rt, 0))), full);
+}
+
+/// Asserts that with these elements, in one batch or in a structure, there is no place for another.
+fn assert_limit<F: Family>(rt: &impl Abort, alloc: Global, elements: &[u8]) {
+    assert_full::<F>(rt, &Mem::new(alloc), elements);
+    let hasher = Standard::<Xor8>::new(Bagging::ForwardFold);
+    let structure: Mem<F, _> = structure_of(rt, alloc, &hasher, elements);
+    assert_eq!(rt; structure.leaves().as_u64(), F::MAX_LEAVES);
+    assert_full::<F>(rt, &structure, &[]);
 }
 
 #[test]
 fn no_leaf_past_the_greatest_count(rt: HostRuntime) {
-    let full = Outcome::LocationOverflow(64);
-    let hasher = Standard::<Xor8>::new(Bagging::ForwardFold);
-    let mut structure = Flat::new(rt.alloc());
-    for elements in [[0; 64].as_slice(), &[]] {
-        let batch = batch_of(&rt, &structure, &hasher, elements);
-        assert_eq!(rt; batch.leaves().as_u64(), 64);
-        assert_eq!(rt; seen(&batch.add(&hasher, &[0])), full);
-        let batch = batch_of(&rt, &structure, &hasher, elements);
-        assert_eq!(rt; seen(&batch.add_leaf_digest(digest(&rt, 0))), full);
-        let batch = batch_of(&rt, &structure, &hasher, elements);
-        let batch = granted!(&rt, batch.merkleize(&structure, &hasher));
-        granted!(&rt, structure.apply_batch(&batch));
-        assert_eq!(rt; structure.leaves().as_u64(), 64);
-    }
+    assert_limit::<flat::Family>(&rt, rt.alloc(), &[0; 64]);
+    assert_limit::<pairs::Family>(&rt, rt.alloc(), &[0; 100]);
 }
 
 // The element 00 at position p has the digest p, and the exclusive or of 0 to 63 is 0.
