@@ -1,0 +1,5 @@
+pub mod Flat
+pub mod FlatLawful
+pub mod Masked
+pub mod Pairs
+pub mod PairsLawful
