@@ -7,6 +7,7 @@
 mod batches;
 mod families;
 mod hashers;
+mod proofs;
 mod structures;
 
 use merkle_core::batch::{MerkleizedBatch, UnmerkleizedBatch};
@@ -42,6 +43,8 @@ enum Outcome {
     StaleBatch { expected: u64, actual: u64 },
     MissingNode(u64),
     LocationOverflow(u64),
+    LeafOutOfBounds(u64),
+    InvalidProof,
     Other,
 }
 
@@ -62,6 +65,8 @@ fn refusal<F: Family>(error: &Error<F>) -> Outcome {
         },
         Error::MissingNode(position) => Outcome::MissingNode(position.as_u64()),
         Error::LocationOverflow(location) => Outcome::LocationOverflow(location.as_u64()),
+        Error::LeafOutOfBounds(location) => Outcome::LeafOutOfBounds(location.as_u64()),
+        Error::InvalidProof => Outcome::InvalidProof,
         _ => Outcome::Other,
     }
 }
