@@ -1,5 +1,5 @@
 -- The nodes and the peaks of the family that never merges.
-use Rattle.std.proofs.Common.{◌≡◌, ℕ, zero, suc, ◌+◌, ◌-◌, ◌<◌, List, [], ◌∷◌, ◌++◌, map, reverse, Some, slice_get, arith, refl, sym, ap, inl, inr, ◌∙◌}
+use Rattle.std.proofs.Common.{◌≡◌, ℕ, zero, suc, ◌+◌, ◌-◌, ◌<◌, List, [], ◌∷◌, ◌++◌, map, reverse, Some, slice_get, arith, refl, ap, inl, inr, ◌∙◌}
 use Rattle.std.proofs.lemmas.List.{map-append, reverse-append}
 use Rattle.merkle_base.specs.Tree.{Tree, leaf, height}
 use Rattle.merkle_base.specs.Forest.{forest, size}

@@ -1,5 +1,5 @@
 -- Why the family that never merges is lawful. The lemmas stand here, since the law of an `impl` cites nothing of `proofs`.
-use Rattle.std.proofs.Common.{◌≡◌, ℕ, zero, suc, ◌+◌, ◌*◌, ◌≤◌, length, arith, refl}
+use Rattle.std.proofs.Common.{◌≡◌, ℕ, zero, suc, length, arith, refl}
 use Rattle.merkle_base.specs.Forest.{size}
 use Rattle.merkle_base.specs.Heights.{peak_heights, IsLawful}
 use Rattle.merkle_base.proofs.Births.{size_peaks}

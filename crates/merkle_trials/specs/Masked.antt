@@ -1,5 +1,5 @@
 -- What the hasher with a key computes.
-use Rattle.std.specs.Prelude.{ℕ, List, ◌∷◌}
+use Rattle.std.specs.Prelude.{ℕ, ◌∷◌}
 use Rattle.merkle_base.specs.Hashing.{Hashing}
 
 -- the digest of the key and a digest's bytes

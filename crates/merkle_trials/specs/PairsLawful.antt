@@ -1,5 +1,5 @@
 -- Why the family of pairs is lawful. The lemmas stand here, since the law of an `impl` cites nothing of `proofs`.
-use Rattle.std.proofs.Common.{◌≡◌, ℕ, zero, suc, ◌+◌, ◌*◌, ◌≤◌, ◌⊎◌, List, [], ◌∷◌, length, arith, refl, ap, sym, ◌∙◌, inl, inr, subst}
+use Rattle.std.proofs.Common.{◌≡◌, ℕ, zero, suc, ◌+◌, ◌*◌, ◌≤◌, ◌⊎◌, List, [], ◌∷◌, length, arith, refl, ap, inl, inr}
 use Rattle.merkle_base.specs.Forest.{size}
 use Rattle.merkle_base.specs.Heights.{AreEqualMerges, peak_heights, IsLawful}
 use Rattle.merkle_base.proofs.Births.{size_peaks}

@@ -1,7 +1,7 @@
 //! A hasher whose digests depend on its value.
-ghost use Rattle.std.specs.Prelude.{◌≡◌, ◌∷◌, [], ⊤};
+ghost use Rattle.std.specs.Prelude.{◌≡◌, ◌∷◌, []};
 ghost use Rattle.std.proofs.Common.{refl, rules};
-ghost use Rattle.merkle_trials.specs.Masked.{keyed, masked};
+ghost use Rattle.merkle_trials.specs.Masked.{keyed};
 
 use merkle_base::digest::{Digest, PlainHasher, Xor8, Xor8Digest};
 use merkle_base::family::{Bagging, Family};

@@ -119,7 +119,9 @@ fn roots_with_folded_peaks(rt: HostRuntime) {
         let leaves = Location::new(leaves);
         let found = hasher.root_with_folded_peaks(leaves, to_fold, committed, peaks);
         assert_eq!(rt; found, root, "{to_fold} to fold");
-        let found = (&hasher).root_with_folded_peaks(leaves, to_fold, committed, peaks);
+        let found = Hasher::<Family>::root_with_folded_peaks(
+            &&hasher, leaves, to_fold, committed, peaks,
+        );
         assert_eq!(rt; found, root, "{to_fold} to fold");
     }
 }
@@ -128,34 +130,40 @@ fn joined(left: Sha256Digest, right: Sha256Digest) -> Sha256Digest {
     Sha256Plain::hash(&[left.as_bytes(), right.as_bytes()])
 }
 
-/// The root of 15 leaves for a number of inactive peaks that isn't 0, over the one digest that stands for the peaks.
-fn root_over(bagging: Bagging, inactive: u8, folded: Sha256Digest) -> Sha256Digest {
+/// The root of 15 leaves under the family's and the bagging's byte, for a number of inactive peaks that isn't 0, over the
+/// one digest that stands for the peaks.
+fn root_over(head: [u8; 2], inactive: u8, folded: Sha256Digest) -> Sha256Digest {
     let leaves = [0, 0, 0, 0, 0, 0, 0, 15];
     let inactive = [0, 0, 0, 0, 0, 0, 0, inactive];
-    Sha256Plain::hash(&[
-        &[0, bagging.domain()],
-        &leaves,
-        &inactive,
-        folded.as_bytes(),
-    ])
+    Sha256Plain::hash(&[&head, &leaves, &inactive, folded.as_bytes()])
 }
 
 #[test]
 fn order_of_folding(rt: HostRuntime) {
     let [a, b, c, d] = [b"a", b"b", b"c", b"d"].map(|part| Sha256Plain::hash(&[part]));
     let from_left = joined(joined(joined(a, b), c), d);
-    for (bagging, inactive, folded) in [
-        (Bagging::ForwardFold, 1, from_left),
-        (Bagging::ForwardFold, 4, from_left),
-        (Bagging::BackwardFold, 1, joined(a, joined(b, joined(c, d)))),
-        (Bagging::BackwardFold, 2, joined(joined(a, b), joined(c, d))),
-        (Bagging::BackwardFold, 3, from_left),
-        (Bagging::BackwardFold, 4, from_left),
+    for (bagging, head, inactive, folded) in [
+        (Bagging::ForwardFold, [0, 0], 1, from_left),
+        (Bagging::ForwardFold, [0, 0], 4, from_left),
+        (
+            Bagging::BackwardFold,
+            [0, 1],
+            1,
+            joined(a, joined(b, joined(c, d))),
+        ),
+        (
+            Bagging::BackwardFold,
+            [0, 1],
+            2,
+            joined(joined(a, b), joined(c, d)),
+        ),
+        (Bagging::BackwardFold, [0, 1], 3, from_left),
+        (Bagging::BackwardFold, [0, 1], 4, from_left),
     ] {
         let hasher = StandardHasher::<Sha256Plain>::new(bagging);
         let leaves: Location = Location::new(15);
         let found = hasher.root(leaves, usize::from(inactive), &[a, b, c, d]);
-        let root = root_over(bagging, inactive, folded);
+        let root = root_over(head, inactive, folded);
         assert!(rt;
             matches!(&found, Ok(found) if *found == root),
             "{inactive} inactive"
