@@ -31,7 +31,7 @@ parent_there rule max_leaves equal n l done h rest e =
     let b = forest_born rule max_leaves equal n l in
     let k = tree_of_height b.0 done h rest (b.2 ∙ sym e) in
     let there : slice_get (forest rule (suc n)).nodes (size rule n + suc (length done)) ≡ Some k.0 =
-        ap (λ (ns : List Tree). slice_get ns (size rule n + suc (length done))) b.1 ∙ get_append_add (forest rule n).nodes (leaf (size rule n) n ∷ b.0) (suc (length done)) ∙ k.1 in
+    ap (λ (ns : List Tree). slice_get ns (size rule n + suc (length done))) b.1 ∙ get_append_add (forest rule n).nodes (leaf (size rule n) n ∷ b.0) (suc (length done)) ∙ k.1 in
     let place : size rule n + suc (length done) ≡ size rule n + 1 + length done = omega arith in
     let here : slice_get (forest rule (suc n)).nodes (size rule n + 1 + length done) ≡ Some k.0 = ap (slice_get (forest rule (suc n)).nodes) (sym place) ∙ there in
     (suc n, k.0, omega (arith, l), here, k.2, omega (arith, k.2, inner_above rule n (size rule n + 1 + length done) k.0 here (omega arith)))

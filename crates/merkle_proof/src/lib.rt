@@ -8,3 +8,5 @@ pub mod proof;
 pub mod range_plan;
 mod reading;
 mod subtree;
+#[cfg(test)]
+mod tests;

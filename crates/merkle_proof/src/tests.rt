@@ -1,0 +1,27 @@
+use crate::hasher::Standard;
+use merkle_base::digest::{Digest, Sha256Plain, Xor8};
+use merkle_base::family::Bagging;
+use std::test::Fail;
+
+// The SHA-256 digest of `abc`, from FIPS 180-4.
+const OF_ABC: [u8; 32] = [
+    0xba, 0x78, 0x16, 0xbf, 0x8f, 0x01, 0xcf, 0xea, 0x41, 0x41, 0x40, 0xde, 0x5d, 0xae, 0x22, 0x23,
+    0xb0, 0x03, 0x61, 0xa3, 0x96, 0x17, 0x7a, 0x9c, 0xb4, 0x10, 0xff, 0x61, 0xf2, 0x00, 0x15, 0xad,
+];
+
+#[test]
+fn standard_hashers(rt: HostRuntime) -> Result<(), Fail> {
+    for bagging in [Bagging::ForwardFold, Bagging::BackwardFold] {
+        let long = Standard::<Sha256Plain>::new(bagging);
+        assert_eq!(rt; long.root_bagging(), bagging);
+        assert_eq!(rt; long.clone()?.root_bagging(), bagging);
+        assert_eq!(rt; long.hash(&[b"a", b"bc"]).as_bytes(), OF_ABC.as_slice());
+        assert_eq!(rt; long.digest(b"abc").as_bytes(), OF_ABC.as_slice());
+        let short = Standard::<Xor8>::new(bagging);
+        assert_eq!(rt; short.root_bagging(), bagging);
+        assert_eq!(rt; short.hash(&[&[1, 2], &[4]]).as_bytes(), [7].as_slice());
+        assert_eq!(rt; short.digest(&[1, 2, 4]).as_bytes(), [7].as_slice());
+        assert_eq!(rt; short.digest(&[]).as_bytes(), [0].as_slice());
+    }
+    Ok(())
+}
