@@ -1,8 +1,8 @@
 -- The parents that come with a leaf.
-use Rattle.std.proofs.Common.{◌≡◌, ℕ, zero, suc, ◌+◌, ◌<◌, ◌≤◌, ◌⊎◌, List, [], ◌∷◌, ◌++◌, length, map, Some, slice_get, arith, refl, ap, sym, ◌∙◌, length-append}
+use Rattle.std.proofs.Common.{◌≡◌, ℕ, suc, ◌+◌, ◌<◌, List, [], ◌∷◌, ◌++◌, length, map, Some, slice_get, arith, refl, ap, sym, ◌∙◌, length-append}
 use Rattle.merkle_base.specs.Tree.{Tree, leaf, join, height}
 use Rattle.merkle_base.specs.Forest.{forest, size}
-use Rattle.merkle_base.specs.Heights.{IsLawful, MergesEqual, parent_heights}
+use Rattle.merkle_base.specs.Heights.{MergesEqual, parent_heights}
 use Rattle.merkle_base.specs.Places.{HasInner}
 use Rattle.merkle_base.proofs.Births.{forest_born, leaf_at}
 use Rattle.merkle_base.proofs.Growth.{forest_grown}

@@ -1,6 +1,6 @@
 -- What the laws of the digests rest on.
-use Rattle.std.specs.Prelude.{◌≡◌, ◌↔◌, ℕ, List, length, IsTrue, true, false, Bool, nat_eq}
-use Rattle.std.proofs.Common.{rules, subst, ap, sym, eqb, refl}
+use Rattle.std.specs.Prelude.{◌≡◌, ◌↔◌, ℕ, List, length, IsTrue}
+use Rattle.std.proofs.Common.{rules, subst, ap, eqb, refl}
 use Rattle.std.proofs.Math.Nat.{ℕ_set}
 use Rattle.std.specs.Cmp.Lexicographic.{pointwise}
 use Rattle.std.specs.Prelude.{fold, bit_xor, replicate}

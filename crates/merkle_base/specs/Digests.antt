@@ -1,6 +1,6 @@
 -- The digests of a list of leaf digests, at the nodes of its forest.
 use Rattle.std.specs.Prelude.{ℕ, List, map, reverse, length, slice_index_or}
-use Rattle.merkle_base.specs.Tree.{Tree, leaf, join, position}
+use Rattle.merkle_base.specs.Tree.{Tree, leaf, join}
 use Rattle.merkle_base.specs.Forest.{forest}
 use Rattle.merkle_base.specs.Hashing.{Hashing}
 

@@ -1,7 +1,6 @@
 -- What a proof reads from a structure that agrees with a list.
-use Rattle.std.proofs.Common.{inl, inr, ◌≡◌, ◌≢◌, ℕ, suc, ◌+◌, ◌<◌, ◌≤◌, ◌⊎◌, List, [], ◌∷◌, ◌++◌, length, map, Bool, true, false, cond, Option, Some, None, slice_get, refl, ap, sym, ◌∙◌, subst, arith, ⊎_elim}
+use Rattle.std.proofs.Common.{inl, inr, ◌≡◌, ◌≢◌, ℕ, ◌+◌, ◌<◌, ◌≤◌, ◌⊎◌, List, [], ◌∷◌, ◌++◌, length, map, Bool, true, false, cond, Option, Some, None, slice_get, refl, ap, sym, ◌∙◌, subst, arith}
 use Rattle.std.proofs.lemmas.Bool.{le-leb}
-use Rattle.std.specs.Prelude.{nat_le, ◌||◌}
 use Rattle.std.specs.List.{AllZip}
 use Rattle.merkle_base.specs.Tree.{Tree, position}
 use Rattle.merkle_base.specs.Forest.{forest, size}
@@ -18,7 +17,6 @@ use Rattle.merkle_proof.specs.Subtrees.{AreNodes}
 use Rattle.merkle_proof.specs.RangePlans.{LeafRange, AnswersList, IsFirstMissing, IsRefusal, IsBuildRefusal, nodes_read}
 use Rattle.merkle_proof.proofs.BuiltDigests.{reads_at}
 use Rattle.merkle_core.specs.Contents.{Contents, Agrees, is_kept}
-use Rattle.merkle_core.proofs.Items.{by_test}
 use Rattle.merkle_core.proofs.Kept.{get_map}
 
 some_is : {X : Type 0} (x y : X) → Some x ≡ Some y → x ≡ y

@@ -1,5 +1,5 @@
 -- Nodes and peaks that are what they must be make a batch that stands on lists.
-use Rattle.std.proofs.Common.{◌≡◌, ℕ, zero, suc, ◌+◌, ◌-◌, ◌<◌, ◌≤◌, List, [], ◌∷◌, ◌++◌, length, map, reverse, drop, take, Bool, true, false, Option, Some, None, slice_get, get_or, cond, is_some, arith, refl, sym, ap, inl, inr, ◌∙◌, subst, length-append, append-nil}
+use Rattle.std.proofs.Common.{◌≡◌, ℕ, suc, ◌+◌, ◌-◌, ◌<◌, ◌≤◌, List, [], ◌∷◌, ◌++◌, length, map, drop, take, false, Some, None, slice_get, cond, is_some, arith, refl, sym, ap, inl, inr, ◌∙◌, length-append}
 use Rattle.std.specs.Option.{option_map_or}
 use Rattle.std.specs.FinMap.{get, from_entries, get-from_entries}
 use Rattle.std.specs.Cmp.{nat_cmp_total}
@@ -20,9 +20,9 @@ use Rattle.merkle_base.proofs.Lists.{get_below}
 use Rattle.merkle_base.proofs.Lookup.{get_append_add, peak_node}
 use Rattle.merkle_base.proofs.Nodes.{node_built, node_stays, leaf_here, size_le, range-add}
 use Rattle.merkle_core.specs.Contents.{Contents, Agrees}
-use Rattle.merkle_core.specs.Recorded.{Recorded, Chain, records}
+use Rattle.merkle_core.specs.Recorded.{records}
 use Rattle.merkle_core.specs.Replay.{over}
-use Rattle.merkle_core.specs.Stands.{edited, is_touched, IsStep, StandsOn}
+use Rattle.merkle_core.specs.Stands.{edited, is_touched, StandsOn}
 use Rattle.merkle_core.specs.Truth.{IsTruth, LeavesAre, ReadsTrue, truths}
 use Rattle.merkle_core.proofs.Items.{get_drop, get_reversed}
 use Rattle.merkle_core.proofs.Kept.{get_mapped}

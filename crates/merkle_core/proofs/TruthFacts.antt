@@ -1,14 +1,12 @@
 -- Lists of the digests that positions must have.
-use Rattle.std.proofs.Common.{◌≡◌, ℕ, suc, ◌+◌, ◌-◌, ◌<◌, ◌≤◌, List, [], ◌∷◌, ◌++◌, length, map, Some, slice_get, arith, refl, ap, sym, ◌∙◌, length-append, zero}
-use Rattle.std.specs.List.{range_with_len}
-use Rattle.std.proofs.lemmas.List.FromFn.{map-range_with_len_more, length-map-range_with_len}
+use Rattle.std.proofs.Common.{◌≡◌, ℕ, suc, ◌+◌, ◌<◌, List, [], ◌∷◌, ◌++◌, length, Some, slice_get, arith, refl, ap, sym, ◌∙◌, length-append, zero}
+use Rattle.std.proofs.lemmas.List.FromFn.{map-range_with_len_more}
 use Rattle.merkle_base.specs.Tree.{Tree, leaf, join, position, height as tree_height}
 use Rattle.merkle_base.specs.Forest.{forest}
 use Rattle.merkle_base.specs.Hashing.{Hashing}
 use Rattle.merkle_base.specs.Places.{HasInner, AreChildren}
 use Rattle.merkle_base.proofs.Growth.{forest_grown}
 use Rattle.merkle_core.specs.Truth.{IsTruth, truths}
-use Rattle.merkle_base.proofs.Lists.{get_below}
 
 module _ {D : Type 0} (truth : ℕ → D) where
   -- one digest more

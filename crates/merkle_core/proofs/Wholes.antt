@@ -1,13 +1,13 @@
 -- A structure that holds all its nodes, and a batch without ancestors.
-use Rattle.std.proofs.Common.{◌≡◌, ◌≢◌, ℕ, ◌+◌, ◌-◌, ◌<◌, ◌≤◌, List, [], ◌∷◌, ◌++◌, length, Bool, true, Option, Some, None, Ok, slice_get, cond, nat_lt, arith, refl, ap, sym, ◌∙◌, subst, inl, inr, length-append}
-use Rattle.std.specs.FinMap.{get, from_entries, get-from_entries}
+use Rattle.std.proofs.Common.{◌≡◌, ℕ, ◌+◌, ◌-◌, List, [], ◌++◌, length, Bool, true, Option, Some, None, Ok, slice_get, arith, refl, ap, sym, ◌∙◌, subst, inl, inr, length-append}
+use Rattle.std.specs.FinMap.{from_entries, get-from_entries}
 use Rattle.std.specs.Cmp.{nat_cmp_total}
 use Rattle.std.proofs.lemmas.Bool.{cases_lt, lt-ltb, le-ltb}
 use Rattle.merkle_base.proofs.Lookup.{get_append_add}
-use Rattle.merkle_core.specs.Contents.{Contents, held_peaks}
+use Rattle.merkle_core.specs.Contents.{held_peaks}
 use Rattle.merkle_core.specs.Recorded.{Recorded, Chain}
 use Rattle.merkle_core.specs.Replay.{over, laid, begins_at, matched, applied}
-use Rattle.merkle_core.specs.Store.{Store, node, contents, stored_of, whole_store}
+use Rattle.merkle_core.specs.Store.{Store, node, contents, whole_store}
 use Rattle.merkle_core.proofs.Edits.{get_left}
 use Rattle.merkle_core.proofs.Pruning.{same_contents}
 use Rattle.merkle_core.proofs.Stored.{held_from}

@@ -84,7 +84,7 @@ fn assert_proved<F: Family, H: Hasher<F, Digest = Xor8Digest>>(
     );
 }
 
-/// Asserts that each leaf of a structure with these elements is proved, for 0 inactive peaks and for all of them.
+/// Asserts that each leaf of a structure with these elements is proved, for 0 inactive peaks and for 1.
 fn assert_all_proved<F: Family, H: Hasher<F, Digest = Xor8Digest>>(
     rt: &impl Abort,
     structure: &Mem<F, Xor8Digest>,
@@ -93,10 +93,9 @@ fn assert_all_proved<F: Family, H: Hasher<F, Digest = Xor8Digest>>(
 )
     requires { H.bagging_of hasher.now ≡ ForwardFold }
 {
-    let peaks = structure.peak_iterator().count();
     for (location, element) in elements.iter().enumerate() {
         assert_proved(rt, structure, hasher, *element, location as u64, 0);
-        assert_proved(rt, structure, hasher, *element, location as u64, peaks);
+        assert_proved(rt, structure, hasher, *element, location as u64, 1);
     }
 }
 

@@ -1,4 +1,4 @@
-use Rattle.std.proofs.Common.{◌≡◌, ℕ, suc, ◌+◌, length, Some, slice_get, arith, ap, sym, ◌∙◌, refl}
+use Rattle.std.proofs.Common.{◌≡◌, ℕ, suc, length, Some, slice_get, arith, ap, sym, ◌∙◌, refl}
 use Rattle.std.proofs.lemmas.Option.{slice_get_read}
 use Rattle.merkle_base.specs.Forest.{size}
 use Rattle.merkle_base.proofs.Limits.{lawful_leaves}

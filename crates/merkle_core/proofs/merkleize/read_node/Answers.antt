@@ -1,5 +1,4 @@
-use Rattle.std.proofs.Common.{rules, ◌≡◌, ◌+◌, ◌-◌, ◌<◌, ◌≤◌, ℕ, length, Some, slice_get, arith, sym, ap, ◌∙◌}
-use Rattle.merkle_core.specs.Truth.{truths}
+use Rattle.std.proofs.Common.{rules, ◌≡◌, ◌+◌, ◌<◌, ◌≤◌, length, Some, slice_get, arith, sym, ap, ◌∙◌}
 use Rattle.merkle_core.proofs.Stored.{get_reads}
 use Rattle.merkle_core.proofs.TruthFacts.{truths_get}
 use Rattle.merkle_core.proofs.merkleize.read_node.Goals as goal

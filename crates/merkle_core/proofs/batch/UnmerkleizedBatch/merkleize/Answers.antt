@@ -4,7 +4,7 @@ use Rattle.merkle_base.specs.Digests.{peak_digests}
 use Rattle.merkle_base.specs.Places.{peak_positions}
 use Rattle.merkle_base.proofs.Limits.{lawful_leaves}
 use Rattle.merkle_core.specs.Pending.{pending_list}
-use Rattle.merkle_core.specs.Recorded.{Chain, records}
+use Rattle.merkle_core.specs.Recorded.{records}
 use Rattle.merkle_core.specs.Stands.{StandsOn}
 use Rattle.merkle_core.specs.Store.{contents, node}
 use Rattle.merkle_core.specs.Truth.{LeavesAre, ReadsTrue, truths}

@@ -1,4 +1,4 @@
-use Rattle.std.proofs.Common.{rules, ◌≡◌, List, Option, length}
+use Rattle.std.proofs.Common.{rules, ◌≡◌}
 use Rattle.std.proofs.lemmas.Result.{IfErr-weaker}
 use Rattle.merkle_core.specs.Store.{node, contents}
 use Rattle.merkle_core.proofs.HonestReads.{answers_list, refused_by}

@@ -1,4 +1,4 @@
-use Rattle.std.proofs.Common.{◌≡◌, ℕ, [], length, arith, ap, sym, ◌∙◌}
+use Rattle.std.proofs.Common.{◌≡◌, [], length, arith, ap, sym, ◌∙◌}
 use Rattle.merkle_base.proofs.Nodes.{size_inj}
 use Rattle.merkle_core.specs.Store.{contents}
 use Rattle.merkle_core.proofs.Accepted.{peaks_agree}

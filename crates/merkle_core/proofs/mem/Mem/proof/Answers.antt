@@ -1,12 +1,9 @@
-use Rattle.std.proofs.Common.{◌≡◌, ◌≢◌, ◌+◌, ◌<◌, ◌≤◌, ◌⊎◌, ℕ, List, Option, length, arith, ap, sym, ◌∙◌, refl, inl, inr, subst}
+use Rattle.std.proofs.Common.{◌≡◌, ◌+◌, ◌<◌, ◌≤◌, length, arith, ap, sym, ◌∙◌, refl, inl, inr, subst}
 use Rattle.std.proofs.lemmas.Bool.{false≢true}
 use Rattle.std.proofs.lemmas.Result.{IfErr-weaker, IfOk-weaker}
-use Rattle.merkle_base.specs.Forest.{size}
-use Rattle.merkle_base.specs.Places.{peaks_of}
 use Rattle.merkle_base.proofs.Nodes.{size_inj}
 use Rattle.merkle_base.proofs.Limits.{lawful_leaves}
 use Rattle.merkle_core.specs.Store.{node, contents}
-use Rattle.merkle_core.specs.ProofRefusals.{IsProofRefusal}
 use Rattle.merkle_core.proofs.HonestReads.{is_memory, only_memory, one_leaf_planned}
 use Rattle.merkle_proof.specs.Input.{setting}
 use Rattle.merkle_proof.specs.Range.{IsHonestRange}

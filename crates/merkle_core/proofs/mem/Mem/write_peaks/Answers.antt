@@ -1,6 +1,5 @@
-use Rattle.std.proofs.Common.{rules, ◌≡◌, ◌≤◌, ℕ, List, map, length, arith, ap, sym, ◌∙◌}
+use Rattle.std.proofs.Common.{rules, map, length, arith, ap, ◌∙◌}
 use Rattle.std.proofs.lemmas.List.{length-map}
-use Rattle.merkle_base.specs.Forest.{size}
 use Rattle.merkle_base.specs.Places.{peaks_of, placed}
 use Rattle.merkle_base.proofs.PeakLists.{first-placed, few_peaks}
 use Rattle.merkle_core.specs.HeldPeaks.{held_at}
