@@ -33,19 +33,23 @@ answers_list h rule c X agrees p t d at is =
     (sym (kept_some (is_kept rule c.boundary p) (slice_get (node_digests h rule X) p) d (is ∙ agrees.holds p)) ∙ get_map (digest_at h X) (forest rule (length X)).nodes p t at)
 
 -- of positions of nodes each is that of one
-position_of_node : (rule : List ℕ → List ℕ) (n : ℕ) (ts : List Tree) → AreNodes rule n ts → (done rest : List ℕ) (p : ℕ) → map position ts ≡ done ++ p ∷ rest → (t : Tree) × (slice_get (forest rule n).nodes p ≡ Some t)
+pub position_of_node : (rule : List ℕ → List ℕ) (n : ℕ) (ts : List Tree) → AreNodes rule n ts → (done rest : List ℕ) (p : ℕ) → map position ts ≡ done ++ p ∷ rest → (t : Tree) × (slice_get (forest rule n).nodes p ≡ Some t)
 position_of_node rule n [] at [] rest p e = absurd (cc)
 position_of_node rule n [] at (d ∷ done) rest p e = absurd (cc)
 position_of_node rule n (t ∷ ts) at [] rest p e = let same : position t ≡ p = cc in (t, subst (λ q. slice_get (forest rule n).nodes q ≡ Some t) same at.0)
 position_of_node rule n (t ∷ ts) at (d ∷ done) rest p e = let more : map position ts ≡ done ++ p ∷ rest = cc in position_of_node rule n ts at.1 done rest p more
 
--- where nothing is pruned nothing that a proof reads is missing
+-- where nothing is pruned each node is held
+pub held_whole : {D : Type 0} (h : Hashing D) (rule : List ℕ → List ℕ) (c : Contents D) (X : List D) → Agrees h rule c X → c.boundary ≡ 0 → (p : ℕ) (t : Tree) → slice_get (forest rule (length X)).nodes p ≡ Some t → c.node p ≡ Some (digest_at h X t)
+held_whole h rule c X agrees whole p t there =
+    let kept : is_kept rule c.boundary p ≡ true = ap (λ z. is_kept rule z p) whole ∙ (let low : size rule 0 ≤ p = omega (arith, size_zero rule) in rw (is_kept, le-leb (size rule 0) p low) refl) in
+    agrees.holds p ∙ ap (λ b. cond b (slice_get (node_digests h rule X) p) None) kept ∙ get_map (digest_at h X) (forest rule (length X)).nodes p t there
+
+-- nothing that a proof reads is missing there
 pub none_missing : {D : Type 0} (s : Setting D) (h : Hashing D) (c : Contents D) (X : List D) → Agrees h s.rule c X → c.boundary ≡ 0 → (a b p : ℕ) → IsFirstMissing (λ q r. r ≡ c.node q) (map position (nodes_read s.rule (length X) a b)) p → ⊥
 none_missing s h c X agrees whole a b p missing =
     let t = position_of_node s.rule (length X) (nodes_read s.rule (length X) a b) (reads_at s (length X) a b) missing.before missing.after p missing.split in
-    let kept : is_kept s.rule c.boundary p ≡ true = ap (λ z. is_kept s.rule z p) whole ∙ (let low : size s.rule 0 ≤ p = omega (arith, size_zero s.rule) in rw (is_kept, le-leb (size s.rule 0) p low) refl) in
-    let held : c.node p ≡ Some (digest_at h X t.0) = agrees.holds p ∙ ap (λ b. cond b (slice_get (node_digests h s.rule X) p) None) kept ∙ get_map (digest_at h X) (forest s.rule (length X)).nodes p t.0 t.1 in
-    let none : Some (digest_at h X t.0) ≡ None = sym held ∙ sym missing.missing in absurd (cc)
+    let none : Some (digest_at h X t.0) ≡ None = sym (held_whole h s.rule c X agrees whole p t.0 t.1) ∙ sym missing.missing in absurd (cc)
 
 -- whether an error is want of memory
 pub is_memory : {F : Type 0} (e : Error F) → (e ≡ OutOfMemory → ⊥) ⊎ (e ≡ OutOfMemory)

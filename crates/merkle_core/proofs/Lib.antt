@@ -22,3 +22,4 @@ pub mod Wholes
 pub mod Small
 pub mod Merkleized
 pub mod HonestReads
+pub mod GapFacts

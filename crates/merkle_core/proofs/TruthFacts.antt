@@ -6,6 +6,7 @@ use Rattle.merkle_base.specs.Forest.{forest}
 use Rattle.merkle_base.specs.Hashing.{Hashing}
 use Rattle.merkle_base.specs.Places.{HasInner, AreChildren}
 use Rattle.merkle_base.proofs.Growth.{forest_grown}
+use Rattle.merkle_base.proofs.Nodes.{node_built}
 use Rattle.merkle_core.specs.Truth.{IsTruth, truths}
 
 module _ {D : Type 0} (truth : ℕ → D) where
@@ -32,3 +33,16 @@ truth_joined {D} h rule truth max_leaves it p height l r inner children = by_tre
         let there : slice_get (forest rule inner.0).nodes p ≡ Some (join p a b) = e ∙ ap (λ (y : ℕ). Some (join y a b)) same in
         let k = children inner.0 a b there in
         it inner.0 p a b inner.2 there ∙ ap (λ x. h.node p (truth x) (truth (position b))) (sym k.0) ∙ ap (λ x. h.node p (truth l) (truth x)) (sym k.1)
+
+-- children stand before their parent
+pub children_before : (rule : List ℕ → List ℕ) (max_leaves p height l r : ℕ) → HasInner rule max_leaves p height → AreChildren rule p l r → (l < p) × (r < p)
+children_before rule max_leaves p height l r inner children = by_tree inner.1 inner.3 inner.4 inner.5
+  where
+    by_tree : (t : Tree) → slice_get (forest rule inner.0).nodes p ≡ Some t → tree_height t ≡ height → 0 < height → (l < p) × (r < p)
+    by_tree (leaf q k) e d some = absurd (omega (arith, d, some))
+    by_tree (join q a b) e d some =
+        let same : q ≡ p = (forest_grown rule inner.0).placed p (join q a b) e in
+        let there : slice_get (forest rule inner.0).nodes p ≡ Some (join p a b) = e ∙ ap (λ (y : ℕ). Some (join y a b)) same in
+        let k = children inner.0 a b there in
+        let built = node_built rule inner.0 p (join q a b) e in
+        (omega (arith, k.0, built.1, same), omega (arith, k.1, built.2, same))

@@ -1,4 +1,5 @@
 -- Why a node wasn't computed, as the error that a caller sees.
+use Rattle.std.specs.Prelude.{◌≡◌, ℕ, ◌<◌, Option, None}
 use Rattle.merkle_base.specs.declared.error.Error.{Error}
 use Rattle.merkle_base.specs.declared.error.Error.TheVariants as error
 use Rattle.merkle_core.specs.declared.merkleize.Gap.{Gap}
@@ -7,3 +8,7 @@ use Rattle.merkle_core.specs.declared.merkleize.Gap.TheVariants.{Missing, OutOfM
 abbrev pub error_of : {F : Type 0} → Gap F → Error F
 error_of (Missing position) = error.MissingNode position
 error_of OutOfMemory = error.OutOfMemory
+
+-- nothing is held at a position before n that is named
+abbrev pub IsGapBelow : {F D : Type 0} → (ℕ → Option D) → ℕ → Gap F → Type 0
+IsGapBelow node n e = (p : ℕ) × (e ≡ Missing p) × (p < n) × (node p ≡ None)

@@ -1,11 +1,12 @@
 //! Speculative batches: leaves to be added, and the nodes and peaks that follow from them.
-ghost use Rattle.std.specs.Prelude.{◌≡◌, ◌<◌, ◌≤◌, ◌⊎◌, List, [], ◌∷◌, IfOk, IfErr};
+ghost use Rattle.std.specs.Prelude.{◌≡◌, ◌<◌, ◌≤◌, ◌⊎◌, ℕ, List, [], ◌∷◌, None, length, IfOk, IfErr, IsOkUnless};
 ghost use Rattle.merkle_base.specs.Forest.{size};
+ghost use Rattle.merkle_base.specs.Hashing.{Hashing};
 ghost use Rattle.merkle_core.specs.Contents.{Agrees};
 ghost use Rattle.merkle_core.specs.Pending.{IsForkedFrom, leaf_total, pending_list, with_leaf};
 ghost use Rattle.merkle_core.specs.Recorded.{after, records};
 ghost use Rattle.merkle_core.specs.Stands.{StandsOn};
-ghost use Rattle.merkle_core.specs.Store.{contents};
+ghost use Rattle.merkle_core.specs.Store.{contents, node};
 ghost use Rattle.merkle_core.specs.Replay.{begins_at};
 
 use crate::mem::Mem;
@@ -100,8 +101,8 @@ impl<F: Family, D: Digest> UnmerkleizedBatch<F, D> {
 
     /// Computes the nodes and peaks that follow from the added leaves, over a structure that holds the nodes before them.
     ///
-    /// Refused with `MissingNode` of a position that is needed and that the base doesn't hold, or with `OutOfMemory`; the
-    /// batch is gone then.
+    /// Refused with `MissingNode` of a position before the fork's size that is needed and that the base doesn't hold, or
+    /// with `OutOfMemory`; the batch is gone then.
     pub fn merkleize<H: Hasher<F, Digest = D>>(
         self,
         base: &Mem<F, D>,
@@ -109,6 +110,8 @@ impl<F: Family, D: Digest> UnmerkleizedBatch<F, D> {
     ) -> Result<Rc<MerkleizedBatch<F, D>>, Error<F>>
         ensures fork { IfOk result (λ b. (b.value.base_size ≡ size F.rule self.leaves_before) × (b.value.own.before ≡ size F.rule self.leaves_before) × (b.value.own.peaks_before ≡ self.peaks_before)) }
         ensures counted { IfOk result (λ b. after b.value.own ≡ size F.rule (leaf_total self)) }
+        ensures refused { IfErr result (λ e. (e ≡ Error.OutOfMemory) ⊎ ((p : ℕ) × (e ≡ Error.MissingNode p) × (p < size F.rule self.leaves_before) × (node base.now p ≡ None))) }
+        ensures given { (h : Hashing D) → (X : List D) → length X ≡ self.leaves_before → Agrees h F.rule (contents base.now) X → base.now.boundary ≡ 0 → IsOkUnless result Error.OutOfMemory }
 
         // Where it was forked from a structure of a list, and the base agrees with that list, it stands on the list and on
         // the list with the added leaves.

@@ -1,8 +1,9 @@
 //! The nodes and peaks that follow from added leaves.
-ghost use Rattle.std.specs.Prelude.{◌≡◌, ◌+◌, ◌<◌, ◌≤◌, ℕ, suc, None, length, map, IfOk, IfErr, OnOk};
+ghost use Rattle.std.specs.Prelude.{◌≡◌, ◌≢◌, ◌+◌, ◌<◌, ◌≤◌, ℕ, suc, None, length, map, IfOk, IfErr, OnOk};
 ghost use Rattle.merkle_base.specs.Forest.{size};
 ghost use Rattle.merkle_core.specs.Store.{node};
 ghost use Rattle.merkle_base.specs.Places.{peak_positions};
+ghost use Rattle.merkle_core.specs.Gaps.{IsGapBelow};
 ghost use Rattle.merkle_core.specs.Truth.{IsTruth, LeavesAre, ReadsTrue, truths};
 
 use crate::mem::Mem;
@@ -94,6 +95,7 @@ fn append_leaf<F: Family, D: Digest, H: Hasher<F, Digest = D>>(
     requires below { leaf < F.MAX_LEAVES }
     requires counted { size_before + length appended.old.items ≡ size F.rule leaf }
     ensures counted { OnOk result (size_before + length appended.new.items ≡ size F.rule (suc leaf)) }
+    ensures missing { IfErr result (λ e. e ≢ Gap.OutOfMemory → IsGapBelow (node base.now) size_before e) }
     ensures right { OnOk result ((truth : ℕ → D) → IsTruth (H.hashing hasher.now) F.rule F.MAX_LEAVES truth → ReadsTrue (node base.now) size_before truth → digest ≡ truth (size F.rule leaf) → appended.old.items ≡ truths truth size_before (length appended.old.items) → appended.new.items ≡ truths truth size_before (length appended.new.items)) }
 {
     appended.push(digest)?;
@@ -117,6 +119,7 @@ pub(crate) fn append_leaves<F: Family, D: Digest, H: Hasher<F, Digest = D>>(
 ) -> Result<Vec<D>, Gap<F>>
     requires { leaves_before + length added.now ≤ F.MAX_LEAVES }
     ensures counted { IfOk result (λ v. size F.rule leaves_before + length v.items ≡ size F.rule (leaves_before + length added.now)) }
+    ensures missing { IfErr result (λ e. e ≢ Gap.OutOfMemory → IsGapBelow (node base.now) (size F.rule leaves_before) e) }
     ensures right { IfOk result (λ v. (truth : ℕ → D) → IsTruth (H.hashing hasher.now) F.rule F.MAX_LEAVES truth → ReadsTrue (node base.now) (size F.rule leaves_before) truth → LeavesAre truth F.rule leaves_before added.now → v.items ≡ truths truth (size F.rule leaves_before) (length v.items)) }
 {
     let size_before = F::location_to_position(leaves_before);
@@ -138,6 +141,7 @@ pub(crate) fn read_peaks<F: Family, D: Digest>(
     leaves: Location<F>,
 ) -> Result<Vec<D>, Gap<F>>
     requires { leaves ≤ F.MAX_LEAVES }
+    ensures missing { IfErr result (λ e. e ≢ Gap.OutOfMemory → size_before + length appended.now ≡ size F.rule leaves → IsGapBelow (node base.now) size_before e) }
     ensures right { IfOk result (λ v. (truth : ℕ → D) → ReadsTrue (node base.now) size_before truth → appended.now ≡ truths truth size_before (length appended.now) → v.items ≡ map truth (peak_positions F.rule leaves)) }
 {
     let mut digests = Vec::new(alloc);

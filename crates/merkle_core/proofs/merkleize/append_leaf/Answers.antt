@@ -1,3 +1,6 @@
+use Rattle.std.proofs.lemmas.Result.{err_from_is_err_and}
+use Rattle.merkle_core.specs.Gaps.{IsGapBelow}
+use Rattle.merkle_core.specs.Store.{node}
 use Rattle.std.proofs.Common.{◌≡◌, ℕ, suc, ◌+◌, [], ◌∷◌, ◌++◌, length, arith, ap, sym, ◌∙◌, subst, append_assoc, length-append}
 use Rattle.merkle_base.specs.Forest.{size}
 use Rattle.merkle_base.specs.Heights.{parent_heights}
@@ -5,7 +8,8 @@ use Rattle.merkle_base.specs.Places.{HasInner}
 use Rattle.merkle_base.proofs.Nodes.{size_le}
 use Rattle.merkle_base.proofs.Parents.{parent_there, parents_fit}
 use Rattle.merkle_core.specs.Truth.{truths}
-use Rattle.merkle_core.proofs.TruthFacts.{truths_more, truth_joined}
+use Rattle.merkle_core.proofs.GapFacts.{gap_below}
+use Rattle.merkle_core.proofs.TruthFacts.{truths_more, truth_joined, children_before}
 use Rattle.merkle_core.proofs.merkleize.append_leaf.Goals as goal
 
 pub loop-height-init : goal.loop-height-init
@@ -83,3 +87,33 @@ returns-clause-counted g c =
 
 pub returns-clause-right : goal.returns-clause-right
 returns-clause-right g c = c.loop-height.invariant.3
+
+pub returns-in_err-left-clause-missing : goal.returns-in_err-left-clause-missing
+returns-in_err-left-clause-missing g c =
+    let rule = g.F.Family.rule in
+    let max = g.F.Family.MAX_LEAVES in
+    let k = c.loop-height.invariant.2 in
+    let y = g.met.F.ParentHeights.Listed.gives_first _ _ _ c.in-Some.ensures.steps in
+    let at : c.add-position.result ≡ c.args.size_before + length c.loop-height.appended.items = omega (arith, c.len.ensures, c.loop-height.appended.ok, c.add-position.ensures) in
+    let place : size rule c.args.leaf + 1 + length k.0 ≡ c.add-position.result = omega (arith, k.2, at) in
+    let inner : HasInner rule max c.add-position.result c.in-Some.height =
+    subst (λ (p : ℕ). HasInner rule max p c.in-Some.height) place (parent_there rule max g.met.F.Family.lawful.equal c.args.leaf c.requires.below k.0 c.in-Some.height (g.F.ParentHeights.Listed.left c.next.new.self) (ap (λ xs. k.0 ++ xs) (sym y) ∙ k.1)) in
+    let below = children_before rule max c.add-position.result c.in-Some.height c.children-left.result.0 c.children-left.result.1 inner c.children-left.ensures in
+    let p = err_from_is_err_and c.from_residual-in_err-left.result c.from_residual-in_err-left.ensures.1 in
+    rw p.1 (λ _. subst (λ e. IsGapBelow (node c.args.base.now) c.args.size_before e) (sym p.2)
+    (gap_below (node c.args.base.now) c.args.size_before (length c.deref.result.now) c.children-left.result.0 c.in_err-left.field-0.0 c.in_err-left.ensures.missing (omega (arith, below.0, at, ap length c.deref.ensures.value))))
+
+pub returns-in_err-right-clause-missing : goal.returns-in_err-right-clause-missing
+returns-in_err-right-clause-missing g c =
+    let rule = g.F.Family.rule in
+    let max = g.F.Family.MAX_LEAVES in
+    let k = c.loop-height.invariant.2 in
+    let y = g.met.F.ParentHeights.Listed.gives_first _ _ _ c.in-Some.ensures.steps in
+    let at : c.add-position.result ≡ c.args.size_before + length c.loop-height.appended.items = omega (arith, c.len.ensures, c.loop-height.appended.ok, c.add-position.ensures) in
+    let place : size rule c.args.leaf + 1 + length k.0 ≡ c.add-position.result = omega (arith, k.2, at) in
+    let inner : HasInner rule max c.add-position.result c.in-Some.height =
+    subst (λ (p : ℕ). HasInner rule max p c.in-Some.height) place (parent_there rule max g.met.F.Family.lawful.equal c.args.leaf c.requires.below k.0 c.in-Some.height (g.F.ParentHeights.Listed.left c.next.new.self) (ap (λ xs. k.0 ++ xs) (sym y) ∙ k.1)) in
+    let below = children_before rule max c.add-position.result c.in-Some.height c.children-left.result.0 c.children-left.result.1 inner c.children-left.ensures in
+    let p = err_from_is_err_and c.from_residual-in_err-right.result c.from_residual-in_err-right.ensures.1 in
+    rw p.1 (λ _. subst (λ e. IsGapBelow (node c.args.base.now) c.args.size_before e) (sym p.2)
+    (gap_below (node c.args.base.now) c.args.size_before (length c.deref-in-loop-height.result.now) c.children-left.result.1 c.in_err-right.field-0.0 c.in_err-right.ensures.missing (omega (arith, below.1, at, ap length c.deref-in-loop-height.ensures.value))))

@@ -1,7 +1,10 @@
-use Rattle.std.proofs.Common.{◌≡◌, ℕ, suc, length, Some, slice_get, arith, ap, sym, ◌∙◌, refl}
+use Rattle.std.proofs.Common.{◌≡◌, ℕ, suc, length, Some, slice_get, arith, ap, sym, ◌∙◌, refl, subst}
+use Rattle.std.proofs.lemmas.Result.{err_from_is_err_and}
 use Rattle.std.proofs.lemmas.Option.{slice_get_read}
 use Rattle.merkle_base.specs.Forest.{size}
 use Rattle.merkle_base.proofs.Limits.{lawful_leaves}
+use Rattle.merkle_core.specs.Gaps.{IsGapBelow}
+use Rattle.merkle_core.specs.Store.{node}
 use Rattle.merkle_core.specs.Truth.{truths}
 use Rattle.merkle_core.proofs.merkleize.append_leaves.Goals as goal
 
@@ -28,3 +31,9 @@ returns-clause-right g c = λ truth it reads are.
     let same = c.loop-digest.invariant.1 in
     c.loop-digest.invariant.3 truth it (λ p d below read. reads p d (omega (arith, below, same)) read) are
     ∙ ap (λ (p : ℕ). truths truth p (length c.loop-digest.appended.items)) same
+
+pub returns-in_err-append_leaf-clause-missing : goal.returns-in_err-append_leaf-clause-missing
+returns-in_err-append_leaf-clause-missing g c =
+    let p = err_from_is_err_and c.from_residual.result c.from_residual.ensures.1 in
+    rw p.1 (λ other. subst (λ e. IsGapBelow (node c.args.base.now) (size g.F.Family.rule c.args.leaves_before) e) (sym p.2)
+    (subst (λ (n : ℕ). IsGapBelow (node c.args.base.now) n c.in_err-append_leaf.field-0.0) c.loop-digest.invariant.1 (c.in_err-append_leaf.ensures.missing (λ z. other (p.2 ∙ z)))))

@@ -1,5 +1,5 @@
-use Rattle.std.proofs.Common.{◌≡◌, ◌++◌, ℕ, map, length}
-use Rattle.merkle_base.specs.Places.{peak_positions}
+use Rattle.std.proofs.Common.{◌≡◌, ◌++◌, ℕ, List, map, length}
+use Rattle.merkle_base.specs.Places.{peak_positions, peaks_of, placed}
 use Rattle.merkle_core.specs.Store.{node}
 use Rattle.merkle_core.specs.Truth.{ReadsTrue, truths}
 use Rattle.merkle_core.proofs.merkleize.read_peaks.Given as goal
@@ -8,5 +8,6 @@ abbrev pub invariant-loop-position : goal.invariant-loop-position
 invariant-loop-position g l =
     (goal.iterator-loop-position g).can_next l.position-iterator
     × (goal.iterator-loop-position g).is_finite l.position-iterator
+    × ((done : List (ℕ × ℕ)) × (done ++ g.F.Peaks.Listed.left l.position-iterator ≡ map placed (peaks_of g.F.Family.rule l.fn.leaves)))
     × ((truth : ℕ → g.row.D.Denot) → ReadsTrue (node l.base) l.size_before truth → l.appended ≡ truths truth l.size_before (length l.appended)
     → l.digests.items ++ map truth (map (λ q. q.0) (g.F.Peaks.Listed.left l.position-iterator)) ≡ map truth (peak_positions g.F.Family.rule l.fn.leaves))

@@ -7,6 +7,9 @@ use Rattle.merkle_core.specs.Pending.{pending_list}
 use Rattle.merkle_core.specs.Recorded.{records}
 use Rattle.merkle_core.specs.Stands.{StandsOn}
 use Rattle.merkle_core.specs.Store.{contents, node}
+use Rattle.std.proofs.lemmas.Result.{err_from_is_err_and}
+use Rattle.merkle_core.specs.Gaps.{error_of}
+use Rattle.merkle_core.proofs.GapFacts.{memory_alone}
 use Rattle.merkle_core.specs.Truth.{LeavesAre, ReadsTrue, truths}
 use Rattle.merkle_core.proofs.Merkleized.{truth_of, truth_is, truth_read, truth_leaves, appended_whole, peaks_whole, stands_whole}
 use Rattle.merkle_core.proofs.Wholes.{appending, lone}
@@ -60,3 +63,19 @@ returns-clause-stands g c = λ X forked agrees.
     c.in_ok-new.ensures.ok ∙ ap (λ (m : ℕ). lone (appending m c.self.inside.peaks_before.items items c.if-is_empty.peaks_after.items)) start in
     subst (λ l. StandsOn h rule (records c.in_ok-new.field-0.value) (X ∷ l ∷ [])) list
     (subst (λ b. StandsOn h rule (records b) (X ∷ (X ++ added) ∷ [])) (sym made) (stands_whole h rule X added items c.self.inside.peaks_before.items c.if-is_empty.peaks_after.items peaks after same))
+
+pub returns-in_err-appended-clause-given : goal.returns-in_err-appended-clause-given
+returns-in_err-appended-clause-given g c = λ h X long agrees whole.
+    let p = err_from_is_err_and c.from_residual.result c.from_residual.ensures.1 in
+    let sized : size g.F.Family.rule c.self.inside.leaves_before ≡ size g.F.Family.rule (length X) = ap (size g.F.Family.rule) (ap (λ b. b.leaves_before) c.self.view_is ∙ sym long) in
+    rw p.1 (p.2 ∙ ap error_of (memory_alone h g.F.Family.rule (contents c.args.base.now) X agrees whole (size g.F.Family.rule c.self.inside.leaves_before) sized c.in_err-appended.field-0.0 c.in_err-appended.ensures.missing))
+
+pub returns-in_err-peaks_after-2-clause-given : goal.returns-in_err-peaks_after-2-clause-given
+returns-in_err-peaks_after-2-clause-given g c = λ h X long agrees whole.
+    let rule = g.F.Family.rule in
+    let p = err_from_is_err_and c.from_residual-in_err-peaks_after-2.result c.from_residual-in_err-peaks_after-2.ensures.1 in
+    let start : c.location_to_position-size_before.result ≡ size rule (length X) = c.location_to_position-size_before.ensures ∙ ap (size rule) (ap (λ b. b.leaves_before) c.self.view_is ∙ sym long) in
+    let total : c.self.inside.leaves_before + length c.deref.result.now ≡ c.add-leaves.result = omega (arith, c.add-leaves.ensures, c.len.ensures, c.self.inside.added.ok, ap length c.deref.ensures.value) in
+    let counted : c.location_to_position-size_before.result + length c.deref-else-is_empty.result.now ≡ size rule c.add-leaves.result =
+    omega (arith, c.location_to_position-size_before.ensures, ap length c.deref-else-is_empty.ensures.value, c.in_ok-appended.ensures.counted, ap (size rule) total) in
+    rw p.1 (p.2 ∙ ap error_of (memory_alone h rule (contents c.args.base.now) X agrees whole c.location_to_position-size_before.result start c.in_err-peaks_after-2.field-0.0 (λ other. c.in_err-peaks_after-2.ensures.missing other counted)))
