@@ -7,6 +7,7 @@
 mod batches;
 mod families;
 mod hashers;
+mod plans;
 mod proofs;
 mod structures;
 
@@ -44,6 +45,9 @@ enum Outcome {
     MissingNode(u64),
     LocationOverflow(u64),
     LeafOutOfBounds(u64),
+    Empty,
+    RangeOutOfBounds(u64),
+    ElementPruned(u64),
     InvalidProof,
     Other,
 }
@@ -66,6 +70,9 @@ fn refusal<F: Family>(error: &Error<F>) -> Outcome {
         Error::MissingNode(position) => Outcome::MissingNode(position.as_u64()),
         Error::LocationOverflow(location) => Outcome::LocationOverflow(location.as_u64()),
         Error::LeafOutOfBounds(location) => Outcome::LeafOutOfBounds(location.as_u64()),
+        Error::Empty => Outcome::Empty,
+        Error::RangeOutOfBounds(location) => Outcome::RangeOutOfBounds(location.as_u64()),
+        Error::ElementPruned(position) => Outcome::ElementPruned(position.as_u64()),
         Error::InvalidProof => Outcome::InvalidProof,
         _ => Outcome::Other,
     }
