@@ -1,11 +1,17 @@
 -- What a family is asked about positions, and what it answers.
-use Rattle.std.specs.Prelude.{◌≡◌, ℕ, ◌<◌, ◌≤◌, List, map, reverse, Some, slice_get}
-use Rattle.merkle_base.specs.Tree.{Tree, join, position, height}
+use Rattle.std.specs.Prelude.{◌≡◌, ℕ, ◌<◌, ◌≤◌, nat_le, List, map, reverse, filter, length, Some, slice_get}
+use Rattle.merkle_base.specs.Tree.{Tree, join, position, height, end_leaf}
 use Rattle.merkle_base.specs.Forest.{forest, size}
 
 -- p is the number of nodes of some forest up to the limit
 abbrev pub IsSize : (List ℕ → List ℕ) → ℕ → ℕ → Type 0
 IsSize rule max_leaves p = (n : ℕ) × (n ≤ max_leaves) × (size rule n ≡ p)
+
+-- of such numbers of nodes q is the greatest that is not above p
+pub record IsNearestSize (rule : List ℕ → List ℕ) (max_leaves p q : ℕ) : Type 0 where
+  pub valid : IsSize rule max_leaves q
+  pub within : q ≤ p
+  pub greatest : (r : ℕ) → IsSize rule max_leaves r → r ≤ p → r ≤ q
 
 -- the peaks of n leaves, oldest first
 abbrev pub peaks_of : (List ℕ → List ℕ) → ℕ → List Tree
@@ -14,6 +20,14 @@ peaks_of rule n = reverse (forest rule n).peaks
 -- their positions
 abbrev pub peak_positions : (List ℕ → List ℕ) → ℕ → List ℕ
 peak_positions rule n = map position (peaks_of rule n)
+
+-- of some peaks those whose leaves all lie before a location
+abbrev pub wholly_before : ℕ → List Tree → List Tree
+wholly_before a ts = filter (λ t. nat_le (end_leaf t) a) ts
+
+-- how many peaks of n leaves have all their leaves below the floor
+abbrev pub inactive_peaks : (List ℕ → List ℕ) → ℕ → ℕ → ℕ
+inactive_peaks rule n floor = length (wholly_before floor (peaks_of rule n))
 
 -- where a node stands, and how high it is
 abbrev pub placed : Tree → ℕ × ℕ

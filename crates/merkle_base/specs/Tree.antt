@@ -23,6 +23,10 @@ abbrev pub width : Tree → ℕ
 width (leaf p n) = 1
 width (join p l r) = width l + width r
 
+-- the location after the last leaf
+abbrev pub end_leaf : Tree → ℕ
+end_leaf t = first_leaf t + width t
+
 -- the locations of the leaves, from left to right
 abbrev pub locations : Tree → List ℕ
 locations (leaf p n) = n ∷ []

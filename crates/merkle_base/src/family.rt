@@ -1,14 +1,18 @@
 //! Families of Merkle structures: a merge rule, and the forest that it grows.
-ghost use Rattle.std.specs.Prelude.{◌≡◌, ◌≢◌, ◌<◌, ◌≤◌, ◌↔◌, ℕ, List, IsTrue, IfSome, IfNone};
+ghost use Rattle.std.specs.Prelude.{◌≡◌, ◌≢◌, ◌<◌, ◌≤◌, ◌↔◌, ℕ, List, IsTrue, IfSome, IfNone, length};
 ghost use Rattle.merkle_base.specs.Bagging.{bagging_byte};
 ghost use Rattle.merkle_base.specs.Forest.{size};
 ghost use Rattle.merkle_base.specs.Heights.{IsLawful, parent_heights};
-ghost use Rattle.merkle_base.specs.Places.{IsSize, ArePeaks, HasInner, AreChildren, IsHeightAt};
+ghost use Rattle.merkle_base.specs.Places.{IsSize, IsNearestSize, ArePeaks, HasInner, AreChildren, IsHeightAt, inactive_peaks, peak_positions};
 
 use crate::listed::Listed;
 use crate::location::Location;
+use crate::pins::NodesToPin;
 use crate::position::Position;
 use std::fmt::Debug;
+
+/// No leaf count has more nodes to pin.
+pub const MAX_PINNED_NODES: usize = 64;
 
 /// A family of append-only Merkle structures.
 ///
@@ -60,12 +64,42 @@ pub trait Family: Copy + Debug + Default {
     fn is_valid_size(nodes: Position<Self>) -> bool
         ensures { IsTrue result ↔ IsSize rule MAX_LEAVES nodes };
 
+    /// The largest valid size that is not above a node count.
+    ///
+    /// The node count is at most [`MAX_NODES`](Family::MAX_NODES).
+    fn to_nearest_size(nodes: Position<Self>) -> Position<Self>
+        requires { nodes ≤ MAX_NODES }
+        ensures { IsNearestSize rule MAX_LEAVES nodes result };
+
     /// The peaks of that many nodes with their heights, oldest first.
     ///
     /// The node count is a valid size.
     fn peaks(nodes: Position<Self>) -> Self::Peaks
         requires { IsSize rule MAX_LEAVES nodes }
         ensures { ArePeaks rule MAX_LEAVES nodes (Self.Peaks.left result) };
+
+    /// How many of the oldest peaks of a leaf count have all their leaves below a floor.
+    ///
+    /// The leaf count is at most [`MAX_LEAVES`](Family::MAX_LEAVES); any location is a floor.
+    final fn inactive_peaks(leaves: Location<Self>, floor: Location<Self>) -> usize
+        requires { leaves ≤ MAX_LEAVES }
+        ensures { result ≡ inactive_peaks rule leaves floor }
+    {
+        count_inactive(leaves, floor)
+    }
+
+    /// The positions of the nodes to pin where the leaves before a location are pruned: its peaks, oldest first.
+    ///
+    /// The location is at most [`MAX_LEAVES`](Family::MAX_LEAVES).
+    final fn nodes_to_pin(location: Location<Self>) -> NodesToPin<Self>
+        requires { location ≤ MAX_LEAVES }
+        ensures peaks { result ≡ peak_positions rule location }
+        ensures few { length result ≤ MAX_PINNED_NODES }
+    {
+        NodesToPin {
+            peaks: Self::peaks(Self::location_to_position(location)),
+        }
+    }
 
     /// The left and the right child of the node at a position.
     ///
@@ -89,6 +123,23 @@ pub trait Family: Copy + Debug + Default {
         ensures { IsHeightAt rule position result };
 
     ghost lawful: { IsLawful rule MAX_LEAVES MAX_NODES };
+}
+
+// How many of the oldest peaks of a leaf count have all their leaves below a floor.
+fn count_inactive<F: Family>(leaves: Location<F>, floor: Location<F>) -> usize
+    requires { leaves ≤ F.MAX_LEAVES }
+    ensures { result ≡ inactive_peaks F.rule leaves floor }
+{
+    let mut count = 0;
+    let mut end_leaf = 0;
+    for (_, height) in F::peaks(F::location_to_position(leaves)) {
+        end_leaf += 1u64 << height;
+        if end_leaf > floor.as_u64() {
+            return count;
+        }
+        count += 1;
+    }
+    count
 }
 
 /// How the peaks' digests are folded to one.

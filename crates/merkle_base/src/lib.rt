@@ -10,6 +10,7 @@ pub mod family;
 pub mod laws;
 pub mod listed;
 pub mod location;
+pub mod pins;
 pub mod position;
 #[cfg(test)]
 mod tests;

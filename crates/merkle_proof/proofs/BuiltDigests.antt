@@ -7,7 +7,7 @@ use Rattle.merkle_base.specs.Tree.{Tree, leaf, join, position, IsBuilt}
 use Rattle.merkle_base.specs.Forest.{forest}
 use Rattle.merkle_base.specs.Hashing.{Hashing}
 use Rattle.merkle_base.specs.Digests.{digest_at}
-use Rattle.merkle_base.specs.Places.{peaks_of}
+use Rattle.merkle_base.specs.Places.{peaks_of, wholly_before}
 use Rattle.merkle_base.specs.Root.{folded}
 use Rattle.merkle_base.specs.declared.family.Bagging.TheVariants.{ForwardFold}
 use Rattle.merkle_base.proofs.Nodes.{all_append}
@@ -15,7 +15,7 @@ use Rattle.merkle_proof.specs.Expression.{PrefixFold}
 use Rattle.merkle_proof.specs.Plan.{Plan, peak, folding, forward, siblings, tree_meets, tree_digest, plan_digest}
 use Rattle.merkle_proof.specs.Outside.{layout}
 use Rattle.merkle_proof.specs.Check.{Setting}
-use Rattle.merkle_proof.specs.Range.{in_range, wholly_before, overlapping, wholly_after, range_parts, range_siblings, range_digests, leaf_of, end_of, IsHonestRange}
+use Rattle.merkle_proof.specs.Range.{in_range, overlapping, wholly_after, range_parts, range_siblings, range_digests, leaf_of, end_of, IsHonestRange}
 use Rattle.merkle_proof.specs.RangePlans.{both_read, part_read, nodes_read, AnswersList, LeafRange, IsBuiltProof, IsFirstMissing, IsBuildRefusal, list_input}
 use Rattle.merkle_proof.specs.ReadErrors.{unread_error}
 use Rattle.merkle_proof.specs.declared.reading.Unread.{Unread}

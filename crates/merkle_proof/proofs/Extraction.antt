@@ -14,8 +14,8 @@ use Rattle.merkle_base.specs.declared.family.Bagging.TheVariants.{ForwardFold, B
 use Rattle.merkle_proof.specs.Claim.{next, tree_claim}
 use Rattle.merkle_proof.specs.Outside.{fold_all, bag_all, folded_prefix, single_before, single_after, folded_suffix, layout}
 use Rattle.merkle_proof.specs.Check.{Setting, RangeInput, leaf_given, chosen}
-use Rattle.merkle_base.specs.Places.{peaks_of}
-use Rattle.merkle_proof.specs.Range.{wholly_before, overlapping, wholly_after, range_parts, range_siblings, end_of, leaf_of, IsHonestSome}
+use Rattle.merkle_base.specs.Places.{peaks_of, wholly_before}
+use Rattle.merkle_proof.specs.Range.{overlapping, wholly_after, range_parts, range_siblings, end_of, leaf_of, IsHonestSome}
 use Rattle.merkle_proof.specs.Extract.{inner_pairs, over_pairs, single_pairs, extracted, IsNodePair, ExtractsNodes}
 use Rattle.merkle_proof.proofs.Claims.{by_test, split_left, split_right, tree_honest}
 use Rattle.merkle_proof.proofs.PeakGroups.{peaks_built}

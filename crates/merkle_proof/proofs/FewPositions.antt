@@ -3,7 +3,7 @@ use Rattle.std.proofs.Common.{◌≡◌, ℕ, suc, Bool, true, false, cond, ◌|
 use Rattle.std.specs.List.{AllByRecursion, list_any, range_with_len}
 use Rattle.std.proofs.lemmas.Bool.{eqb-true, ne_eqb, eq-eqb}
 use Rattle.std.proofs.lemmas.List.{length-map, length-reverse, reverse-append}
-use Rattle.merkle_base.specs.Tree.{Tree, leaf, join, position, height, first_leaf, width, IsBuilt, IsBalanced}
+use Rattle.merkle_base.specs.Tree.{Tree, leaf, join, position, height, first_leaf, width, IsBuilt, IsBalanced, end_leaf}
 use Rattle.merkle_base.specs.Forest.{forest, size}
 use Rattle.merkle_base.specs.Heights.{peak_heights}
 use Rattle.merkle_base.proofs.Lists.{get_below}
@@ -13,11 +13,11 @@ use Rattle.merkle_proof.specs.Collision.{Member}
 use Rattle.merkle_proof.specs.Order.{Distinct}
 use Rattle.merkle_proof.specs.Plan.{tree_meets, siblings}
 use Rattle.merkle_base.specs.Places.{peaks_of}
-use Rattle.merkle_proof.specs.Range.{end_leaf}
 use Rattle.merkle_proof.specs.Multiproof.{one_leaf_nodes, is_one_leaf_position, multi_positions, AtMost122}
 use Rattle.merkle_proof.proofs.NoCollisions.{member_split}
 use Rattle.merkle_proof.proofs.Collisions.{member_left, member_right}
-use Rattle.merkle_proof.proofs.PeakGroups.{Spans, peaks_span, peaks_built, all_reverse}
+use Rattle.merkle_proof.proofs.PeakGroups.{peaks_span, peaks_built}
+use Rattle.merkle_base.proofs.PeakLists.{Spans, all_reverse}
 use Rattle.merkle_proof.proofs.OutsideNodes.{le_or_lt}
 use Rattle.merkle_proof.proofs.PlacesOnce.{member_map}
 use Rattle.merkle_proof.proofs.ListedDigests.{filtered_member, member_any, distinct_filter, distinct_range}

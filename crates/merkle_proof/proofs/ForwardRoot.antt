@@ -3,7 +3,7 @@ use Rattle.std.proofs.Common.{◌≡◌, ℕ, ◌+◌, ◌<◌, ◌≤◌, Bool,
 use Rattle.std.proofs.lemmas.List.{length-map}
 use Rattle.merkle_base.specs.Tree.{Tree}
 use Rattle.merkle_base.specs.Hashing.{Hashing}
-use Rattle.merkle_base.specs.Places.{peaks_of}
+use Rattle.merkle_base.specs.Places.{peaks_of, wholly_before}
 use Rattle.merkle_base.specs.Root.{folded, peaks_root, root_string}
 use Rattle.merkle_base.specs.declared.family.Bagging.TheVariants.{ForwardFold}
 use Rattle.merkle_proof.specs.Expression.{Expression, value}
@@ -11,7 +11,7 @@ use Rattle.merkle_proof.specs.Plan.{Plan, peak, whole, forward, outer}
 use Rattle.merkle_proof.specs.Claim.{claim_of}
 use Rattle.merkle_proof.specs.Outside.{fold_all, layout, Met, Unmet}
 use Rattle.merkle_proof.specs.Check.{Setting, RangeInput, chosen, leaf_given, range_expression, root_of}
-use Rattle.merkle_proof.specs.Range.{wholly_before, overlapping, wholly_after, range_parts, end_of}
+use Rattle.merkle_proof.specs.Range.{overlapping, wholly_after, range_parts, end_of}
 use Rattle.merkle_proof.specs.Walk.{peak_values, ArePeakDigests}
 use Rattle.merkle_proof.proofs.PeakGroups.{peaks_span, peaks_built, groups, some_over, unmet_before, unmet_after, met_over}
 use Rattle.merkle_proof.proofs.OutsideNodes.{outside_is_layout}

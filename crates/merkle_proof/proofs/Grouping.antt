@@ -2,16 +2,18 @@
 use Rattle.std.proofs.Common.{◌≡◌, ℕ, Bool, true, false, cond, ◌&&◌, nat_le, nat_lt, ◌<◌, ◌≤◌, List, [], ◌∷◌, ◌++◌, map, filter, ap, ap₂, sym, ◌∙◌, append-nil, le-leb, lt-ltb, le-ltb, Result, Ok, Err, IfOk}
 use Rattle.std.proofs.lemmas.Bool.{lt-leb}
 use Rattle.std.proofs.lemmas.List.{map-append}
-use Rattle.merkle_base.specs.Tree.{Tree, position, height, first_leaf}
+use Rattle.merkle_base.specs.Tree.{Tree, position, height, first_leaf, end_leaf}
 use Rattle.merkle_base.proofs.Growth.{forest_grown}
 use Rattle.merkle_proof.specs.Plan.{tree_meets, siblings}
-use Rattle.merkle_proof.specs.Range.{end_leaf, wholly_before, overlapping, wholly_after}
-use Rattle.merkle_proof.proofs.PeakGroups.{filter_yes, filter_no, and_no, and_not, and_yes}
+use Rattle.merkle_proof.specs.Range.{overlapping, wholly_after}
+use Rattle.merkle_proof.proofs.PeakGroups.{and_no, and_not, and_yes}
+use Rattle.merkle_base.proofs.PeakLists.{filter_yes, filter_no}
 use Rattle.merkle_proof.specs.Subtrees.{Stands}
 use Rattle.merkle_proof.specs.declared.subtree.Subtree.{Subtree}
 use Rattle.merkle_proof.specs.Subtrees.{subtree_of}
 use Rattle.merkle_proof.specs.Subtrees.{Means}
 use Rattle.merkle_proof.proofs.Walks.{siblings_unmet}
+use Rattle.merkle_base.specs.Places.{wholly_before}
 
 -- a weaker fact of the same result
 pub if_ok : {T E : Type 0} {P Q : T → Type 0} (r : Result T E) → ((x : T) → P x → Q x) → IfOk r P → IfOk r Q

@@ -15,7 +15,8 @@ use Rattle.merkle_base.specs.Places.{peaks_of}
 use Rattle.merkle_proof.specs.Table.{digest_for}
 use Rattle.merkle_proof.proofs.Claims.{by_test, false≢true}
 use Rattle.merkle_proof.proofs.ListChecks.{root_tells}
-use Rattle.merkle_proof.proofs.PeakGroups.{Spans, peaks_span}
+use Rattle.merkle_proof.proofs.PeakGroups.{peaks_span}
+use Rattle.merkle_base.proofs.PeakLists.{Spans}
 use Rattle.merkle_proof.proofs.Extraction.{all_take, all_drop}
 use Rattle.merkle_proof.specs.RootString.{ByteLaws, SameFolded}
 use Rattle.merkle_base.specs.Root.{root_string}

@@ -2,7 +2,7 @@
 use Rattle.std.proofs.Common.{◌≡◌, ℕ, zero, suc, Bool, cond, ◌||◌, ◌+◌, ◌-◌, ◌≤◌, ◌<◌, List, [], ◌∷◌, ◌++◌, inl, inr, refl, ap, sym, ◌∙◌, subst, ⊎_elim, arith, length, map, take, drop, Some, slice_get}
 use Rattle.std.specs.List.{AllByRecursion}
 use Rattle.std.proofs.lemmas.List.{map-append}
-use Rattle.merkle_base.specs.Tree.{Tree, leaf, join, position, first_leaf, width, IsUnder, IsBuilt}
+use Rattle.merkle_base.specs.Tree.{Tree, leaf, join, position, first_leaf, width, IsUnder, IsBuilt, end_leaf}
 use Rattle.merkle_base.specs.Forest.{forest}
 use Rattle.merkle_base.proofs.Growth.{built_at, under_itself}
 use Rattle.merkle_base.proofs.Nodes.{built_under}
@@ -16,8 +16,8 @@ use Rattle.merkle_base.specs.declared.family.Bagging.TheVariants.{ForwardFold, B
 use Rattle.merkle_proof.specs.Claim.{tree_claim}
 use Rattle.merkle_proof.specs.Outside.{single_before, single_after}
 use Rattle.merkle_proof.specs.Check.{leaf_given}
-use Rattle.merkle_base.specs.Places.{peaks_of}
-use Rattle.merkle_proof.specs.Range.{end_leaf, end_of, in_range, wholly_before, overlapping, wholly_after}
+use Rattle.merkle_base.specs.Places.{peaks_of, wholly_before}
+use Rattle.merkle_proof.specs.Range.{end_of, in_range, overlapping, wholly_after}
 use Rattle.merkle_proof.specs.Extract.{inner_pairs, over_pairs, single_pairs}
 use Rattle.merkle_proof.specs.Verdict.{ExtractsOnce}
 use Rattle.merkle_proof.proofs.NoCollisions.{member_split}
@@ -25,7 +25,8 @@ use Rattle.merkle_proof.proofs.Collisions.{member_left, member_right}
 use Rattle.merkle_proof.proofs.Extraction.{all_filter, all_single_before, all_single_after}
 use Rattle.merkle_proof.proofs.PlacesOnce.{distinct_append}
 use Rattle.merkle_proof.proofs.Claims.{by_test}
-use Rattle.merkle_proof.proofs.PeakGroups.{Spans, peaks_span, peaks_built, groups}
+use Rattle.merkle_proof.proofs.PeakGroups.{peaks_span, peaks_built, groups}
+use Rattle.merkle_base.proofs.PeakLists.{Spans}
 use Rattle.merkle_proof.proofs.Verdicts.{apart_under, one_node, later, built_in}
 
 module _ {D : Type 0} (ns : List Tree) (h : Hashing D) (c : ℕ → Bool) (Y : ℕ → D) where

@@ -3,34 +3,18 @@ use Rattle.std.proofs.Common.{◌≡◌, ℕ, Bool, true, false, cond, ◌&&◌,
 use Rattle.std.specs.List.{AllByRecursion}
 use Rattle.std.proofs.lemmas.List.{reverse-append}
 use Rattle.std.proofs.lemmas.Bool.{lt-leb}
-use Rattle.merkle_base.specs.Tree.{Tree, leaf, join, first_leaf, width, IsBuilt}
+use Rattle.merkle_base.specs.Tree.{Tree, leaf, join, first_leaf, width, IsBuilt, end_leaf}
 use Rattle.merkle_base.specs.Forest.{forest, Covers}
 use Rattle.merkle_base.proofs.Growth.{forest_grown}
+use Rattle.merkle_base.proofs.PeakLists.{Spans, covers_spans, all_reverse, filter_yes, filter_no, none_before}
 use Rattle.merkle_base.proofs.Nodes.{width_pos, all_append}
 use Rattle.merkle_proof.specs.Plan.{whole, tree_meets, siblings}
 use Rattle.merkle_proof.specs.Outside.{layout, Unmet, Met, HasLayout}
 use Rattle.merkle_proof.specs.Check.{Setting}
-use Rattle.merkle_base.specs.Places.{peaks_of}
-use Rattle.merkle_proof.specs.Range.{in_range, end_leaf, wholly_before, overlapping, wholly_after, range_parts, range_siblings}
+use Rattle.merkle_base.specs.Places.{peaks_of, wholly_before}
+use Rattle.merkle_proof.specs.Range.{in_range, overlapping, wholly_after, range_parts, range_siblings}
 use Rattle.merkle_proof.proofs.Claims.{by_test}
 use Rattle.merkle_proof.proofs.OutsideNodes.{outside_is_layout, le_or_lt}
-
--- peaks, the oldest first, that reach from o to n without gap or overlap
-abbrev pub Spans : ℕ → ℕ → List Tree → Type 0
-Spans o n [] = o ≡ n
-Spans o n (t ∷ ts) = (first_leaf t ≡ o) × Spans (o + width t) n ts
-
-pub spans_append : (o m n : ℕ) (xs ys : List Tree) → Spans o m xs → Spans m n ys → Spans o n (xs ++ ys)
-spans_append o m n [] ys u v = subst (λ z. Spans z n ys) (sym u) v
-spans_append o m n (x ∷ xs) ys u v = (u.0, spans_append (o + width x) m n xs ys u.1 v)
-
-pub covers_spans : (n : ℕ) (ts : List Tree) → Covers n ts → Spans 0 n (reverse ts)
-covers_spans n [] c = sym c
-covers_spans n (t ∷ ts) c = subst (Spans 0 n) (sym (reverse-append (t ∷ []) ts)) (spans_append 0 (first_leaf t) n (reverse ts) (t ∷ []) (covers_spans (first_leaf t) ts c.1) (refl, c.0))
-
-pub all_reverse : (P : Tree → Type 0) (ts : List Tree) → AllByRecursion P ts → AllByRecursion P (reverse ts)
-all_reverse P [] h = tt
-all_reverse P (t ∷ ts) h = subst (AllByRecursion P) (sym (reverse-append (t ∷ []) ts)) (all_append P (reverse ts) (t ∷ []) (all_reverse P ts h.1) (h.0, tt))
 
 pub peaks_span : {D : Type 0} (s : Setting D) (n : ℕ) → Spans 0 n (peaks_of s.rule n)
 peaks_span s n = covers_spans n (forest s.rule n).peaks (forest_grown s.rule n).covers
@@ -49,12 +33,6 @@ and_not false b e = refl
 pub and_yes : (a b : Bool) → a ≡ true → b ≡ true → a && b ≡ true
 and_yes a b e f = ap₂ ◌&&◌ e f
 
-pub filter_yes : (p : Tree → Bool) (t : Tree) (ts : List Tree) → p t ≡ true → filter p (t ∷ ts) ≡ t ∷ filter p ts
-filter_yes p t ts e = ap (λ z. cond z (t ∷ filter p ts) (filter p ts)) e
-
-pub filter_no : (p : Tree → Bool) (t : Tree) (ts : List Tree) → p t ≡ false → filter p (t ∷ ts) ≡ filter p ts
-filter_no p t ts e = ap (λ z. cond z (t ∷ filter p ts) (filter p ts)) e
-
 module _ (a b : ℕ) where
   abbrev is_before : Tree → Bool
   is_before t = nat_le (end_leaf t) a
@@ -64,10 +42,6 @@ module _ (a b : ℕ) where
 
   abbrev is_after : Tree → Bool
   is_after t = nat_le b (first_leaf t)
-
-  none_before : (o n : ℕ) (ts : List Tree) → Spans o n ts → a < o → wholly_before a ts ≡ []
-  none_before o n [] c l = refl
-  none_before o n (t ∷ ts) c l = filter_no is_before t ts (lt-leb (end_leaf t) a (omega (arith, c.0))) ∙ none_before (o + width t) n ts c.1 (omega arith)
 
   none_over : (o n : ℕ) (ts : List Tree) → Spans o n ts → b ≤ o → overlapping a b ts ≡ []
   none_over o n [] c l = refl
@@ -90,11 +64,11 @@ module _ (a b : ℕ) where
           (ap₂ ◌++◌ (filter_no is_over t ts (and_not _ _ (le-ltb a (end_leaf t) x))) (filter_no is_after t ts (lt-leb b (first_leaf t) (omega (arith, pos, x))))))
 
       after : b ≤ first_leaf t → t ∷ ts ≡ wholly_before a (t ∷ ts) ++ (overlapping a b (t ∷ ts) ++ wholly_after b (t ∷ ts))
-      after x = sym (ap₂ ◌++◌ (none_before o n (t ∷ ts) c (omega (arith, c.0))) (ap₂ ◌++◌ (none_over o n (t ∷ ts) c (omega (arith, c.0))) (all_after o n (t ∷ ts) c (omega (arith, c.0)))))
+      after x = sym (ap₂ ◌++◌ (none_before a o n (t ∷ ts) c (omega (arith, c.0))) (ap₂ ◌++◌ (none_over o n (t ∷ ts) c (omega (arith, c.0))) (all_after o n (t ∷ ts) c (omega (arith, c.0)))))
 
       over : ts ≡ wholly_before a ts ++ (overlapping a b ts ++ wholly_after b ts) → a < end_leaf t → first_leaf t < b → t ∷ ts ≡ wholly_before a (t ∷ ts) ++ (overlapping a b (t ∷ ts) ++ wholly_after b (t ∷ ts))
-      over e y x = ap (λ z. t ∷ z) (e ∙ ap (λ z. z ++ (overlapping a b ts ++ wholly_after b ts)) (none_before (o + width t) n ts c.1 (omega (arith, c.0, y))))
-          ∙ sym (ap₂ ◌++◌ (filter_no is_before t ts (lt-leb (end_leaf t) a y) ∙ none_before (o + width t) n ts c.1 (omega (arith, c.0, y)))
+      over e y x = ap (λ z. t ∷ z) (e ∙ ap (λ z. z ++ (overlapping a b ts ++ wholly_after b ts)) (none_before a (o + width t) n ts c.1 (omega (arith, c.0, y))))
+          ∙ sym (ap₂ ◌++◌ (filter_no is_before t ts (lt-leb (end_leaf t) a y) ∙ none_before a (o + width t) n ts c.1 (omega (arith, c.0, y)))
           (ap₂ ◌++◌ (filter_yes is_over t ts (and_yes _ _ (lt-ltb (first_leaf t) b x) (lt-ltb a (end_leaf t) y))) (filter_no is_after t ts (lt-leb b (first_leaf t) x))))
 
   -- some peak overlaps the range

@@ -9,7 +9,7 @@ use Rattle.merkle_base.specs.Tree.{Tree, position, height, first_leaf, width, Is
 use Rattle.merkle_base.specs.Forest.{forest}
 use Rattle.merkle_base.proofs.Growth.{forest_grown, built_at}
 use Rattle.merkle_base.proofs.Nodes.{node_stays}
-use Rattle.merkle_proof.proofs.PeakGroups.{Spans, covers_spans, all_reverse}
+use Rattle.merkle_base.proofs.PeakLists.{Spans, covers_spans, all_reverse}
 use Rattle.merkle_proof.specs.Subtrees.{Stands}
 use Rattle.merkle_proof.specs.declared.groups.Groups.{Groups}
 use Rattle.merkle_proof.specs.GroupedPeaks.{HoldsGroups}

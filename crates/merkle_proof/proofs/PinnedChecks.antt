@@ -3,7 +3,7 @@ use Rattle.std.proofs.Common.{◌≡◌, ℕ, zero, suc, Bool, true, false, cond
 use Rattle.std.specs.List.{AllByRecursion}
 use Rattle.std.proofs.lemmas.Bool.{ne_eqb}
 use Rattle.std.proofs.lemmas.List.{length-map, get_or-take, reverse-append}
-use Rattle.merkle_base.specs.Tree.{Tree, leaf, join, position, first_leaf, width, IsUnder, IsBuilt}
+use Rattle.merkle_base.specs.Tree.{Tree, leaf, join, position, first_leaf, width, IsUnder, IsBuilt, end_leaf}
 use Rattle.merkle_base.specs.Forest.{forest, size}
 use Rattle.merkle_base.proofs.Growth.{forest_grown, built_at, IsBuilt-front}
 use Rattle.merkle_base.proofs.Nodes.{forest_prefix, first_under, end_under, width_pos, peak_of}
@@ -20,13 +20,14 @@ use Rattle.merkle_proof.specs.MultiClaim.{or_empty}
 use Rattle.merkle_proof.specs.PinnedClaim.{pinned_of, PinsTree, PinsPlan, PinsAll, PinsTrees}
 use Rattle.merkle_proof.specs.Outside.{fold_all, bag_all, layout, Unmet, HasLayout}
 use Rattle.merkle_proof.specs.Check.{Setting, root_of, list_expression, RangeInput, chosen, leaf_given}
-use Rattle.merkle_base.specs.Places.{peaks_of}
-use Rattle.merkle_proof.specs.Range.{in_range, end_leaf, end_of, wholly_before, overlapping, wholly_after, range_parts, range_siblings, leaf_of, plan_root, Sound, IsHonestSome}
+use Rattle.merkle_base.specs.Places.{peaks_of, wholly_before}
+use Rattle.merkle_proof.specs.Range.{in_range, end_of, overlapping, wholly_after, range_parts, range_siblings, leaf_of, plan_root, Sound, IsHonestSome}
 use Rattle.merkle_proof.specs.Table.{digest_for, digest_of}
 use Rattle.merkle_proof.specs.Pinned.{pin_positions, pinned_on, AcceptsPinnedSome, honest_pins, PinnedCollides, HonestPinnedIsAccepted, AcceptedPinnedIsHonest, PinsAreOldPeaks}
 use Rattle.merkle_proof.proofs.NoCollisions.{member_split}
 use Rattle.merkle_proof.proofs.Claims.{by_test, false≢true}
-use Rattle.merkle_proof.proofs.PeakGroups.{Spans, peaks_span, peaks_built, meets_not, meets_yes, range_layout, groups}
+use Rattle.merkle_proof.proofs.PeakGroups.{peaks_span, peaks_built, meets_not, meets_yes, range_layout, groups}
+use Rattle.merkle_base.proofs.PeakLists.{Spans}
 use Rattle.merkle_proof.proofs.OutsideNodes.{le_or_lt, bag_unmet, unmet_take, unmet_drop}
 use Rattle.merkle_proof.proofs.Extraction.{all_filter, all_take, all_drop}
 use Rattle.merkle_proof.proofs.RangeChecks.{covers, tree_in, small_leaves, small_inactive, honest_leaves, honest_some, elements_are}

@@ -3,7 +3,7 @@ use Rattle.std.proofs.Common.{◌≡◌, ℕ, suc, true, ◌+◌, ◌-◌, ◌�
 use Rattle.std.specs.List.{AllByRecursion}
 use Rattle.std.proofs.Math.Nat.{add-sub_cancel_left}
 use Rattle.std.proofs.lemmas.List.{length-map, length-reverse, get_or-take, get_or-drop, length-take-le, length-drop}
-use Rattle.merkle_base.specs.Tree.{Tree, leaf, join, height, first_leaf, width, IsBuilt}
+use Rattle.merkle_base.specs.Tree.{Tree, leaf, join, height, first_leaf, width, IsBuilt, end_leaf}
 use Rattle.merkle_base.specs.Forest.{forest, size}
 use Rattle.merkle_base.specs.Heights.{IsLawful}
 use Rattle.merkle_base.proofs.Nodes.{size_le}
@@ -17,9 +17,10 @@ use Rattle.merkle_proof.specs.Claim.{InTree, claim_of}
 use Rattle.merkle_proof.specs.Outside.{HasLayout}
 use Rattle.merkle_proof.specs.Check.{Setting, root_of, all_inputs, list_expression, RangeInput, chosen, leaf_given, range_expression, Counts, HasHonestDigests, RangeAccepts, IsHonest, Covers}
 use Rattle.merkle_base.specs.Places.{peaks_of}
-use Rattle.merkle_proof.specs.Range.{end_leaf, end_of, range_parts, range_siblings, leaf_of, range_digests, AcceptsSome, IsEmptyInput, IsHonestSome, plan_root, Sound, RangeCollides, HonestIsAccepted, AcceptedIsHonest}
+use Rattle.merkle_proof.specs.Range.{end_of, range_parts, range_siblings, leaf_of, range_digests, AcceptsSome, IsEmptyInput, IsHonestSome, plan_root, Sound, RangeCollides, HonestIsAccepted, AcceptedIsHonest}
 use Rattle.merkle_proof.proofs.ListChecks.{was_chosen, no_other_range, honest_range_accepted, root_tells}
-use Rattle.merkle_proof.proofs.PeakGroups.{Spans, peaks_span, peaks_built, range_layout}
+use Rattle.merkle_proof.proofs.PeakGroups.{peaks_span, peaks_built, range_layout}
+use Rattle.merkle_base.proofs.PeakLists.{Spans}
 use Rattle.merkle_proof.proofs.OutsideNodes.{le_or_lt}
 
 -- a tree has the locations of its span, and no others

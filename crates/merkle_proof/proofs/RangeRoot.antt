@@ -7,7 +7,7 @@ use Rattle.merkle_base.specs.Tree.{Tree, height, position}
 use Rattle.merkle_base.specs.Forest.{forest}
 use Rattle.merkle_base.specs.Heights.{IsLawful}
 use Rattle.merkle_base.specs.Hashing.{Hashing}
-use Rattle.merkle_base.specs.Places.{peaks_of}
+use Rattle.merkle_base.specs.Places.{peaks_of, wholly_before}
 use Rattle.merkle_base.specs.Root.{peaks_root}
 use Rattle.merkle_base.specs.declared.family.Bagging.{Bagging}
 use Rattle.merkle_base.specs.declared.family.Bagging.TheVariants.{ForwardFold}
@@ -16,14 +16,15 @@ use Rattle.merkle_base.proofs.Growth.{forest_grown}
 use Rattle.merkle_proof.specs.Plan.{siblings}
 use Rattle.merkle_proof.specs.Outside.{fold_all}
 use Rattle.merkle_proof.specs.Check.{Setting, RangeInput, chosen, leaf_given}
-use Rattle.merkle_proof.specs.Range.{in_range, wholly_before, overlapping, wholly_after, end_of, Accepts}
+use Rattle.merkle_proof.specs.Range.{in_range, overlapping, wholly_after, end_of, Accepts}
 use Rattle.merkle_proof.specs.Walk.{bytes_of, leaf_from, peak_values, ArePeakDigests}
 use Rattle.merkle_proof.specs.Input.{setting, input_of, HasShape, IsComputed}
 use Rattle.merkle_proof.specs.Subtrees.{subtree_of}
 use Rattle.merkle_proof.specs.GroupedPeaks.{HoldsGroups}
 use Rattle.merkle_proof.specs.declared.proof.Proof.{Proof}
 use Rattle.merkle_proof.specs.declared.groups.Groups.{Groups}
-use Rattle.merkle_proof.proofs.PeakGroups.{covers_spans, groups, some_over}
+use Rattle.merkle_proof.proofs.PeakGroups.{groups, some_over}
+use Rattle.merkle_base.proofs.PeakLists.{covers_spans}
 use Rattle.merkle_proof.proofs.GivenLeaves.{values_chosen, length-leaf_digests, leaf_in_range}
 use Rattle.merkle_proof.proofs.ForwardRoot.{forward_root, forward_counts}
 

@@ -2,7 +2,7 @@
 use Rattle.std.proofs.Common.{◌≡◌, ℕ, Bool, true, false, ◌&&◌, ◌||◌, nat_le, nat_lt, nat_eq, ◌+◌, ◌≤◌, ◌<◌, List, [], ◌∷◌, ◌⊎◌, inl, inr, refl, ap, sym, ◌∙◌, subst, ⊎_elim, arith, length, flat_map, Option, Some, MatchOption, slice_get, Decides, le-leb, lt-ltb, leb-true, ltb-true}
 use Rattle.std.specs.List.{AllByRecursion}
 use Rattle.std.proofs.lemmas.Bool.{eqb-true, eq-eqb}
-use Rattle.merkle_base.specs.Tree.{Tree, leaf, join, position, first_leaf, width, IsUnder, IsBuilt}
+use Rattle.merkle_base.specs.Tree.{Tree, leaf, join, position, first_leaf, width, IsUnder, IsBuilt, end_leaf}
 use Rattle.merkle_base.specs.Forest.{forest}
 use Rattle.merkle_base.proofs.Growth.{built_at}
 use Rattle.merkle_base.proofs.Nodes.{first_under, end_under, width_pos, built_under}
@@ -14,14 +14,15 @@ use Rattle.merkle_proof.specs.FirstCollision.{first_collision, IsFirstCollision}
 use Rattle.merkle_proof.specs.Order.{node_places, Distinct}
 use Rattle.merkle_proof.specs.Check.{Setting}
 use Rattle.merkle_base.specs.Places.{peaks_of}
-use Rattle.merkle_proof.specs.Range.{end_leaf, leaf_of}
+use Rattle.merkle_proof.specs.Range.{leaf_of}
 use Rattle.merkle_proof.specs.Verdict.{Verdicts, CheckDecides}
 use Rattle.merkle_proof.proofs.NoCollisions.{member_split}
 use Rattle.merkle_proof.proofs.PlacesOnce.{distinct_append}
 use Rattle.merkle_proof.proofs.FirstCollisions.{finds_first}
 use Rattle.merkle_proof.proofs.Audits.{none_shows, no_collision}
 use Rattle.merkle_proof.proofs.ClearRange.{honest_is_clear}
-use Rattle.merkle_proof.proofs.PeakGroups.{Spans, peaks_span, peaks_built}
+use Rattle.merkle_proof.proofs.PeakGroups.{peaks_span, peaks_built}
+use Rattle.merkle_base.proofs.PeakLists.{Spans}
 use Rattle.merkle_proof.proofs.RangeChecks.{accepted_is_honest, old_honest}
 use Rattle.merkle_proof.proofs.Multiproofs.{accepted_multi_is_honest}
 use Rattle.merkle_proof.proofs.PinnedChecks.{accepted_pinned_is_honest}

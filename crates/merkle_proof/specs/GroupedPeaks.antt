@@ -1,9 +1,10 @@
 -- The peaks of a forest by where they stand to a range.
 use Rattle.std.specs.Prelude.{◌≡◌, ℕ, List, map}
 use Rattle.merkle_base.specs.Tree.{Tree, position}
-use Rattle.merkle_proof.specs.Range.{wholly_before, overlapping, wholly_after}
+use Rattle.merkle_proof.specs.Range.{overlapping, wholly_after}
 use Rattle.merkle_proof.specs.Subtrees.{subtree_of}
 use Rattle.merkle_proof.specs.declared.groups.Groups.{Groups}
+use Rattle.merkle_base.specs.Places.{wholly_before}
 
 -- the groups are those of the peaks ts and the range a..b
 pub record HoldsGroups {F : Type 0} (a b : ℕ) (g : Groups F) (ts : List Tree) : Type 0 where

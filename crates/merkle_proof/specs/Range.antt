@@ -1,6 +1,6 @@
 -- A range check by the table of the layout: what it accepts, and what is honest.
 use Rattle.std.specs.Prelude.{◌≡◌, ℕ, Bool, ◌&&◌, ◌⊎◌, ◌≤◌, ◌<◌, ◌+◌, nat_le, nat_lt, List, [], ◌++◌, length, map, flat_map, filter, take, drop, get_or, None}
-use Rattle.merkle_base.specs.Tree.{Tree, first_leaf, width}
+use Rattle.merkle_base.specs.Tree.{Tree, first_leaf, end_leaf}
 use Rattle.merkle_base.specs.Heights.{IsLawful}
 use Rattle.merkle_base.specs.Hashing.{Hashing}
 use Rattle.merkle_proof.specs.Collision.{Collision, Collides, Laws}
@@ -9,21 +9,13 @@ use Rattle.merkle_proof.specs.Plan.{Plan, siblings, plan_digest, tree_digest}
 use Rattle.merkle_base.specs.declared.family.Bagging.{Bagging}
 use Rattle.merkle_proof.specs.Outside.{layout}
 use Rattle.merkle_proof.specs.Check.{Setting, root_of, all_inputs, list_expression, RangeInput, range_expression}
-use Rattle.merkle_base.specs.Places.{peaks_of}
+use Rattle.merkle_base.specs.Places.{peaks_of, wholly_before}
 
 -- whether i lies in a..b
 abbrev pub in_range : ℕ → ℕ → ℕ → Bool
 in_range a b i = nat_le a i && nat_lt i b
 
--- the location after the last leaf
-abbrev pub end_leaf : Tree → ℕ
-end_leaf t = first_leaf t + width t
-
--- of some peaks those wholly before the range a..b
-abbrev pub wholly_before : ℕ → List Tree → List Tree
-wholly_before a ts = filter (λ t. nat_le (end_leaf t) a) ts
-
--- those that overlap it
+-- of some peaks those that overlap the range a..b
 abbrev pub overlapping : ℕ → ℕ → List Tree → List Tree
 overlapping a b ts = filter (λ t. nat_lt (first_leaf t) b && nat_lt a (end_leaf t)) ts
 

@@ -5,13 +5,13 @@ use Rattle.merkle_base.specs.Tree.{Tree, position}
 use Rattle.merkle_base.specs.Forest.{forest}
 use Rattle.merkle_base.specs.Hashing.{Hashing}
 use Rattle.merkle_base.specs.Digests.{digest_at}
-use Rattle.merkle_base.specs.Places.{peaks_of}
+use Rattle.merkle_base.specs.Places.{peaks_of, wholly_before}
 use Rattle.merkle_base.specs.declared.error.Error.{Error}
 use Rattle.merkle_base.specs.declared.error.Error.TheVariants.{Empty, RangeOutOfBounds, LocationOverflow, InvalidProof, ElementPruned}
 use Rattle.merkle_proof.specs.Expression.{hashed_at}
 use Rattle.merkle_proof.specs.Plan.{Plan, peak, folding}
 use Rattle.merkle_proof.specs.Check.{Setting, RangeInput}
-use Rattle.merkle_proof.specs.Range.{wholly_before, wholly_after, range_parts, range_siblings}
+use Rattle.merkle_proof.specs.Range.{wholly_after, range_parts, range_siblings}
 use Rattle.merkle_proof.specs.declared.proof.Proof.{Proof}
 
 -- a range of a number of leaves

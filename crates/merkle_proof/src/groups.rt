@@ -2,10 +2,10 @@
 ghost use Rattle.std.specs.Prelude.{◌≡◌, ◌<◌, ◌≤◌, ◌++◌, [], ◌∷◌, ℕ, List, map, length, IfOk};
 ghost use Rattle.std.specs.List.{flat_map};
 ghost use Rattle.merkle_base.specs.Tree.{Tree, position};
-ghost use Rattle.merkle_base.specs.Places.{peaks_of};
+ghost use Rattle.merkle_base.specs.Places.{peaks_of, wholly_before};
 ghost use Rattle.merkle_proof.specs.Plan.{siblings};
 ghost use Rattle.merkle_proof.specs.Outside.{fold_all};
-ghost use Rattle.merkle_proof.specs.Range.{in_range, wholly_before};
+ghost use Rattle.merkle_proof.specs.Range.{in_range};
 ghost use Rattle.merkle_proof.specs.Subtrees.{Means, AreNodes, subtree_of};
 ghost use Rattle.merkle_proof.specs.GroupedPeaks.{HoldsGroups};
 ghost use Rattle.merkle_proof.specs.RangePlans.{nodes_read};

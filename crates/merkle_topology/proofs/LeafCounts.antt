@@ -1,10 +1,10 @@
 -- The one leaf count at a position, and the heights that stand above it.
-use Rattle.std.proofs.Common.{◌≡◌, ℕ, suc, ◌+◌, ◌-◌, ◌<◌, ◌≤◌, ◌⊎◌, List, ◌∷◌, length, slice_index, arith, sym, ap, inl, inr, ◌∙◌, subst, eqb, true}
+use Rattle.std.proofs.Common.{◌≡◌, ℕ, suc, ◌+◌, ◌-◌, ◌<◌, ◌≤◌, ◌⊎◌, List, ◌∷◌, length, slice_index, arith, refl, sym, ap, inl, inr, ◌∙◌, subst, eqb, true}
 use Rattle.std.proofs.lemmas.Bool.{eqb-true, eq-eqb}
 use Rattle.std.proofs.lemmas.List.FromFn.{get_or-range_with_len, length-range_with_len}
 use Rattle.merkle_base.specs.Forest.{size}
 use Rattle.merkle_base.specs.Heights.{parent_heights}
-use Rattle.merkle_base.specs.Places.{IsSize, IsHeightAt}
+use Rattle.merkle_base.specs.Places.{IsSize, IsNearestSize, IsHeightAt}
 use Rattle.merkle_base.proofs.Nodes.{size_le, size_lt}
 use Rattle.merkle_base.proofs.Lookup.{size_suc, height_at}
 use Rattle.merkle_base.proofs.Limits.{log_below}
@@ -29,6 +29,20 @@ size_tested rule max_leaves low count nodes p same l e a b = (
   λ t. (low, l, sym e ∙ eqb-true count nodes t ∙ same),
   λ s. eq-eqb count nodes (e ∙ ap (size rule) (sym (size_only rule low s.0 nodes a b (s.2 ∙ sym same))) ∙ s.2 ∙ sym same),
 )
+
+-- the size of the greatest leaf count that has no more nodes than that
+pub size_nearest : (rule : List ℕ → List ℕ) (max_leaves low p : ℕ) → low ≤ max_leaves → size rule low ≤ p → p < size rule (low + 1) → IsNearestSize rule max_leaves p (size rule low)
+size_nearest rule max_leaves low p l a b = record {
+  valid = (low, l, refl);
+  within = a;
+  greatest = λ r s m. elim (either low s.0) [
+    | inl g ↦ absurd (omega (arith, size_le rule (low + 1) s.0 (omega (arith, g)), s.2))
+    | inr g ↦ omega (arith, size_le rule s.0 low g, s.2)
+  ];
+}
+  where
+    either : (a b : ℕ) → (a < b) ⊎ (b ≤ a)
+    either a b = grind arith
 
 mmr_height_below : (n p : ℕ) → n < 4611686018427387904 → size carries n ≤ p → p < size carries (n + 1) → (p - size carries n < 63) × IsHeightAt carries p (p - size carries n)
 mmr_height_below n p l a b =

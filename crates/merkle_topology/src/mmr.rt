@@ -7,7 +7,7 @@ ghost use Rattle.std.specs.Iterator.{YieldsFirst, item_count};
 ghost use Rattle.std.specs.List.{range_with_len};
 ghost use Rattle.merkle_base.specs.Forest.{size};
 ghost use Rattle.merkle_base.specs.Heights.{parent_heights};
-ghost use Rattle.merkle_base.specs.Places.{IsSize, ArePeaks, HasInner, AreChildren, IsHeightAt};
+ghost use Rattle.merkle_base.specs.Places.{IsSize, IsNearestSize, ArePeaks, HasInner, AreChildren, IsHeightAt};
 ghost use Rattle.merkle_topology.specs.Mmr.{carries};
 ghost use Rattle.merkle_topology.specs.Perfect.{trees_from};
 ghost use Rattle.merkle_topology.specs.RangeLawful.{mmr_lawful};
@@ -63,6 +63,16 @@ impl PeakIterator {
             next: 0,
             left: nodes.as_u64(),
         }
+    }
+
+    /// The largest valid size that is not above a node count.
+    ///
+    /// The node count is at most 2^63 - 1.
+    pub fn to_nearest_size(nodes: Position) -> Position
+        requires { nodes ≤ MAX_NODES }
+        ensures { IsNearestSize carries MAX_LEAVES nodes result }
+    {
+        Position::new(node_count(leaf_count_within(nodes.as_u64())))
     }
 }
 
@@ -220,6 +230,13 @@ impl family::Family for Family {
     {
         let nodes = nodes.as_u64();
         nodes <= MAX_NODES && node_count(leaf_count_within(nodes)) == nodes
+    }
+
+    fn to_nearest_size(nodes: Position) -> Position
+        requires { nodes ≤ MAX_NODES }
+        ensures { IsNearestSize carries MAX_LEAVES nodes result }
+    {
+        PeakIterator::to_nearest_size(nodes)
     }
 
     fn peaks(nodes: Position) -> PeakIterator

@@ -5,11 +5,11 @@ use Rattle.std.proofs.lemmas.Result.{err_from_is_err_and}
 use Rattle.std.proofs.lemmas.List.{length-map}
 use Rattle.std.proofs.lemmas.Slice.Zip.{AllZip-long}
 use Rattle.merkle_base.specs.Tree.{position}
-use Rattle.merkle_base.specs.Places.{peaks_of}
+use Rattle.merkle_base.specs.Places.{peaks_of, wholly_before}
 use Rattle.merkle_base.specs.Root.{folded}
 use Rattle.merkle_base.specs.declared.family.Bagging.TheVariants.{ForwardFold}
 use Rattle.merkle_proof.specs.Input.{setting}
-use Rattle.merkle_proof.specs.Range.{wholly_before, wholly_after, range_siblings, IsHonestRange}
+use Rattle.merkle_proof.specs.Range.{wholly_after, range_siblings, IsHonestRange}
 use Rattle.merkle_proof.specs.RangePlans.{LeafRange, nodes_read, IsBuiltProof, IsBuildRefusal, list_input}
 use Rattle.merkle_proof.specs.declared.proof.Proof.{Proof}
 use Rattle.merkle_proof.proofs.BuiltDigests.{is_built, is_honest, build_refused}
