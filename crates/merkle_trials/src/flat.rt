@@ -5,7 +5,7 @@ ghost use Rattle.std.specs.Prelude.{◌≡◌, ◌≢◌, ◌+◌, ◌<◌, ◌�
 ghost use Rattle.std.specs.Iterator.{YieldsFirst, item_count};
 ghost use Rattle.merkle_base.specs.Forest.{size};
 ghost use Rattle.merkle_base.specs.Heights.{parent_heights};
-ghost use Rattle.merkle_base.specs.Places.{IsSize, ArePeaks, AreChildren, IsHeightAt};
+ghost use Rattle.merkle_base.specs.Places.{IsSize, IsNearestSize, ArePeaks, AreChildren, IsHeightAt};
 ghost use Rattle.merkle_trials.specs.Flat.{never, leaves_from};
 ghost use Rattle.merkle_trials.specs.FlatLawful.{flat_lawful};
 
@@ -138,6 +138,13 @@ impl family::Family for Family {
         ensures { IsTrue result ↔ IsSize never 64 nodes }
     {
         nodes.as_u64() <= MOST
+    }
+
+    fn to_nearest_size(nodes: Position) -> Position
+        requires { nodes ≤ 64 }
+        ensures { IsNearestSize never 64 nodes result }
+    {
+        nodes
     }
 
     fn peaks(nodes: Position) -> PeakIterator

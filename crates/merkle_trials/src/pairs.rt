@@ -5,7 +5,7 @@ ghost use Rattle.std.specs.Prelude.{◌≡◌, ◌≢◌, ◌+◌, ◌<◌, ◌�
 ghost use Rattle.std.specs.Iterator.{YieldsFirst, item_count};
 ghost use Rattle.merkle_base.specs.Forest.{size};
 ghost use Rattle.merkle_base.specs.Heights.{parent_heights};
-ghost use Rattle.merkle_base.specs.Places.{IsSize, ArePeaks, HasInner, AreChildren, IsHeightAt};
+ghost use Rattle.merkle_base.specs.Places.{IsSize, IsNearestSize, ArePeaks, HasInner, AreChildren, IsHeightAt};
 ghost use Rattle.merkle_trials.specs.Pairs.{pairing, pairs_from};
 ghost use Rattle.merkle_trials.specs.PairsLawful.{pairs_lawful};
 
@@ -162,6 +162,17 @@ impl family::Family for Family {
             false
         } else {
             nodes <= MAX_NODES
+        }
+    }
+
+    fn to_nearest_size(nodes: Position) -> Position
+        requires { nodes ≤ 150 }
+        ensures { IsNearestSize pairing 100 nodes result }
+    {
+        if nodes.as_u64() % 3 == 2 {
+            nodes - 1
+        } else {
+            nodes
         }
     }
 

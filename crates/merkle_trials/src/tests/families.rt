@@ -50,6 +50,67 @@ fn no_counts(rt: HostRuntime) {
 }
 
 #[test]
+fn nearest_sizes(rt: HostRuntime) {
+    for (nodes, nearest) in [
+        (0, 0),
+        (1, 1),
+        (2, 1),
+        (3, 3),
+        (5, 4),
+        (149, 148),
+        (150, 150),
+    ] {
+        let found = pairs::Family::to_nearest_size(pairs::Position::new(nodes));
+        assert_eq!(rt; found.as_u64(), nearest, "{nodes}");
+    }
+    let found = flat::Family::to_nearest_size(flat::Position::new(64));
+    assert_eq!(rt; found.as_u64(), 64);
+}
+
+/// Asserts how many of the oldest peaks of five leaves have all their leaves below a floor.
+fn assert_inactive<F: Family>(rt: &impl Abort, floor: u64, count: usize) {
+    let leaves = Location::<F>::new(5);
+    assert!(rt; leaves.is_valid());
+    let found = F::inactive_peaks(leaves, Location::new(floor));
+    assert_eq!(rt; found, count, "{floor}");
+}
+
+#[test]
+fn inactive_peaks(rt: HostRuntime) {
+    for (floor, count) in [
+        (0, 0),
+        (1, 0),
+        (2, 1),
+        (3, 1),
+        (4, 2),
+        (5, 3),
+        (u64::MAX, 3),
+    ] {
+        assert_inactive::<pairs::Family>(&rt, floor, count);
+    }
+    for (floor, count) in [(0, 0), (1, 1), (4, 4), (5, 5), (6, 5)] {
+        assert_inactive::<flat::Family>(&rt, floor, count);
+    }
+}
+
+/// Asserts the positions to pin for five leaves, in order.
+fn assert_pins<F: Family>(rt: &impl Abort, positions: &[u64]) {
+    let location = Location::<F>::new(5);
+    assert!(rt; location.is_valid());
+    let mut expected = positions.iter();
+    for position in F::nodes_to_pin(location) {
+        assert_eq!(rt; expected.next().copied(), Some(position.as_u64()));
+    }
+    assert!(rt; expected.next().is_none());
+}
+
+#[test]
+fn nodes_to_pin(rt: HostRuntime) {
+    assert_pins::<pairs::Family>(&rt, &[2, 5, 6]);
+    assert_pins::<flat::Family>(&rt, &[0, 1, 2, 3, 4]);
+}
+
+#[test]
 fn heights(rt: HostRuntime) {
     for (position, height) in [(0, 0), (1, 0), (2, 1), (3, 0), (147, 0), (149, 1)] {
         let found = pairs::Family::pos_to_height(pairs::Position::new(position));
