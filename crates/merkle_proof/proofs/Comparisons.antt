@@ -1,5 +1,5 @@
 -- What comparisons of numbers tell.
-use Rattle.std.proofs.Common.{◌≡◌, ℕ, ◌<◌, ◌≤◌, true, false, rules, is_le, is_ge, nat_cmp}
+use Rattle.std.proofs.Common.{◌≡◌, ℕ, ◌<◌, ◌≤◌, true, false, rules, is_le, is_ge, is_lt, nat_cmp}
 use Rattle.std.specs.Cmp.Rules.{comparing}
 
 pub le_yes : (a b : ℕ) → is_le (nat_cmp a b) ≡ true → a ≤ b
@@ -19,3 +19,9 @@ ge_yes a b e = search (comparing, rules, e)
 
 pub ge_no : (a b : ℕ) → is_ge (nat_cmp a b) ≡ false → a < b
 ge_no a b e = search (comparing, rules, e)
+
+pub lt_yes : (a b : ℕ) → is_lt (nat_cmp a b) ≡ true → a < b
+lt_yes a b e = search (comparing, rules, e)
+
+pub lt_no : (a b : ℕ) → is_lt (nat_cmp a b) ≡ false → b ≤ a
+lt_no a b e = search (comparing, rules, e)

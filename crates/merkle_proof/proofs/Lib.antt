@@ -37,3 +37,4 @@ pub mod BuiltDigests
 pub mod ListRoots
 pub mod HasherLaws
 pub mod GivenLeaves
+pub mod PathSteps

@@ -29,3 +29,4 @@ pub mod Input
 pub mod RangePlans
 pub mod ReadErrors
 pub mod ListRoot
+pub mod Path

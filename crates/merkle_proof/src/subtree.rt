@@ -15,7 +15,7 @@ use std::alloc::AllocError;
 use std::ops::Range;
 
 /// A node of a forest: where it stands, its height, and its first leaf.
-#[derive_where(Clone, Copy)]
+#[derive_where(Clone, Copy, Debug)]
 pub(crate) struct Subtree<F> {
     pub(crate) position: Position<F>,
     pub(crate) height: u32,

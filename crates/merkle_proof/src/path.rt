@@ -1,0 +1,105 @@
+//! The path from a node, mostly a peak, down to a leaf.
+ghost use Rattle.std.specs.Prelude.{◌≡◌, length};
+ghost use Rattle.std.specs.Iterator.{YieldsFirst, item_count};
+ghost use Rattle.merkle_proof.specs.Path.{StandsOver, IsPath};
+
+use crate::subtree::Subtree;
+use merkle_base::family::Family;
+use merkle_base::listed::Listed;
+use merkle_base::location::Location;
+use merkle_base::position::Position;
+use std::iter;
+use std::marker::Model;
+
+/// The merged nodes from a node down to a leaf, the node itself first.
+///
+/// Each item is the node's position, the position of its other child, which is the one that the path doesn't go through,
+/// and the node's height. There are as many items as the first node is high, so a leaf gives none. In the forest
+///
+/// ```text
+///          6
+///        /   \
+///       2     5
+///      / \   / \
+///     0   1 3   4
+/// ```
+///
+/// the path from the node 6 to the leaf at location 2, which stands at position 3, is `(6, 2, 2)` and `(5, 4, 1)`.
+#[derive(Debug, Drop)]
+pub struct Iterator<F: Family> {
+    // where the rest of the path begins
+    node: Subtree<F>,
+    // the location of the leaf where it ends
+    target: Location<F>,
+}
+
+impl<F: Family> Model for Iterator<F> {
+    ghost use Rattle.std.specs.Prelude.{ℕ, List, slice_get};
+    ghost use Rattle.merkle_base.specs.Forest.{forest};
+    ghost use Rattle.merkle_proof.specs.Path.{path_from, StandsOver};
+
+    ghost Value = { List (ℕ × ℕ × ℕ) };
+
+    ghost view = { λ s. path_from s.target (slice_get (forest F.rule F.MAX_LEAVES).nodes s.node.position) };
+
+    ghost invariant = { λ s. StandsOver F.rule F.MAX_LEAVES s.node.position s.node.height s.node.first_leaf s.target };
+}
+
+impl<F: Family> Iterator<F> {
+    /// The path from the node at a position down to the leaf at a location.
+    ///
+    /// There is a node at the position, of that height, whose first leaf is at the given location, and the target is one
+    /// of its leaves.
+    pub fn new(
+        peak_pos: Position<F>,
+        height: u32,
+        first_leaf_loc: Location<F>,
+        target_loc: Location<F>,
+    ) -> Self
+        requires { StandsOver F.rule F.MAX_LEAVES peak_pos height first_leaf_loc target_loc }
+        ensures path { IsPath F.rule peak_pos target_loc result }
+        ensures count { length result ≡ height }
+    {
+        Iterator {
+            node: Subtree {
+                position: peak_pos,
+                height,
+                first_leaf: first_leaf_loc,
+            },
+            target: target_loc,
+        }
+    }
+}
+
+impl<F: Family> iter::Iterator for Iterator<F> {
+    type Item = (Position<F>, Position<F>, u32);
+
+    ghost next_gives = { YieldsFirst (λ s. s) };
+
+    ghost remaining = { item_count (λ s. s) };
+
+    fn next(&mut self) -> Option<(Position<F>, Position<F>, u32)> {
+        let node = self.node;
+        if node.height == 0 {
+            return None;
+        }
+        let (left, right) = node.children();
+        if self.target < right.first_leaf {
+            self.node = left;
+            Some((node.position, right.position, node.height))
+        } else {
+            self.node = right;
+            Some((node.position, left.position, node.height))
+        }
+    }
+}
+
+impl<F: Family> Listed for Iterator<F> {
+    ghost left = { λ s. s };
+
+    ghost may_go = { λ _. tt };
+
+    ghost gives_first = { λ _ _ _ h. h };
+
+    ghost ends = { λ _. tt };
+}
