@@ -11,4 +11,4 @@ mod merkleize;
 pub mod mmr;
 
 pub use merkle_base::{digest, error, family, location, position};
-pub use merkle_proof::{hasher, proof};
+pub use merkle_proof::{hasher, path, proof};

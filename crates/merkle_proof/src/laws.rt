@@ -14,6 +14,7 @@ ghost use Rattle.merkle_proof.specs.MultiClaim.{NoOtherMulti};
 ghost use Rattle.merkle_proof.specs.Multiproof.{HonestMultiIsAccepted, AcceptedMultiIsHonest, AtMost122};
 ghost use Rattle.merkle_proof.specs.Order.{PlacesInOrder, PlacesOnce};
 ghost use Rattle.merkle_proof.specs.Outside.{OutsideIsLayout};
+ghost use Rattle.merkle_proof.specs.Path.{PathHasSiblings};
 ghost use Rattle.merkle_proof.specs.Pinned.{HonestPinnedIsAccepted, AcceptedPinnedIsHonest, PinsAreOldPeaks};
 ghost use Rattle.merkle_proof.specs.PinnedClaim.{NoOtherPins};
 ghost use Rattle.merkle_proof.specs.Range.{HonestIsAccepted, AcceptedIsHonest};
@@ -76,6 +77,11 @@ pub fn told_digests<D>()
 /// The parts of a plan outside a range are those of the layout, in its order.
 pub fn outside_nodes()
     ensures { OutsideIsLayout }
+{}
+
+/// The other children on the path to a leaf are the nodes beside it that its proof needs, from the top down.
+pub fn paths()
+    ensures { PathHasSiblings }
 {}
 
 /// What holds of range checks against a list given by its leaf at each location, and of two checks against one root.
