@@ -1,2 +1,3 @@
 pub mod FlatFacts
 pub mod PairFacts
+pub mod PathCases

@@ -7,6 +7,7 @@
 mod batches;
 mod families;
 mod hashers;
+mod paths;
 mod plans;
 mod proofs;
 mod structures;
