@@ -1,6 +1,5 @@
 -- A path, step by step.
-use Rattle.std.proofs.Common.{◌≡◌, ◌≢◌, ℕ, ◌+◌, ◌<◌, ◌≤◌, cond, List, [], ◌∷◌, length, slice_get, arith, refl, ap, ap₂, sym, ◌∙◌, lt-ltb, ⊎_elim}
-use Rattle.std.proofs.Common.{◌++◌, map, subst, inl, inr}
+use Rattle.std.proofs.Common.{◌≡◌, ◌≢◌, ℕ, ◌+◌, ◌<◌, ◌≤◌, cond, List, [], ◌∷◌, length, ◌++◌, map, slice_get, arith, refl, ap, ap₂, sym, subst, ◌∙◌, lt-ltb, inl, inr, ⊎_elim}
 use Rattle.std.specs.List.Sorted.{IsPermutation}
 use Rattle.std.proofs.lemmas.Bool.{le-ltb}
 use Rattle.std.proofs.lemmas.List.{map-append}
@@ -19,6 +18,7 @@ use Rattle.merkle_proof.proofs.OutsideNodes.{le_or_lt}
 use Rattle.merkle_proof.proofs.PeakGroups.{meets_not, meets_yes}
 use Rattle.merkle_proof.proofs.Walks.{siblings_unmet, siblings_join, siblings_inside}
 
+-- ---- the items
 path_left : (k p : ℕ) (l r : Tree) → k < first_leaf r → path k (join p l r) ≡ (p, position r, height (join p l r)) ∷ path k l
 path_left k p l r b = ap (λ z. cond z ((p, position r, height (join p l r)) ∷ path k l) ((p, position l, height (join p l r)) ∷ path k r)) (lt-ltb k (first_leaf r) b)
 
@@ -39,18 +39,20 @@ path_length k (join p l r) b = ⊎_elim
 
 module _ (rule : List ℕ → List ℕ) (m : ℕ) where
   -- the node stands in the greatest forest too
-  pub in_greatest : (p h s k : ℕ) (w : StandsOver rule m p h s k) → Stands rule m p h s w.node
+  in_greatest : (p h s k : ℕ) (w : StandsOver rule m p h s k) → Stands rule m p h s w.node
   in_greatest p h s k w = record { at = node_stays rule w.leaves m p w.node w.few w.stands.at; height_is = w.stands.height_is; first_is = w.stands.first_is }
 
   from_node : (p h s k : ℕ) (t : Tree) → Stands rule m p h s t → path_from k (slice_get (forest rule m).nodes p) ≡ path k t
   from_node p h s k t w = ap (path_from k) w.at
 
+  -- so the path from there is the path in every forest
   pub is_path : (p h s k : ℕ) → StandsOver rule m p h s k → IsPath rule p k (path_from k (slice_get (forest rule m).nodes p))
   is_path p h s k w = λ n t e. from_node p h s k w.node (in_greatest p h s k w) ∙ ap (path k) (same_position rule w.leaves n p w.node t w.stands.at e)
 
   pub path_ends : (p h s k : ℕ) → StandsOver rule m p h s k → h ≡ 0 → path_from k (slice_get (forest rule m).nodes p) ≡ []
   path_ends p h s k w z = from_node p h s k w.node (in_greatest p h s k w) ∙ path_leaf k h w.node w.stands.height_is z
 
+  -- of a lawful rule it has as many items as its first node is high
   pub path_count : (max_nodes : ℕ) → IsLawful rule m max_nodes → (p h s k : ℕ) → StandsOver rule m p h s k → length (path_from k (slice_get (forest rule m).nodes p)) ≡ h
   path_count max_nodes law p h s k w =
       let v = in_greatest p h s k w in
@@ -120,6 +122,7 @@ siblings_right ns k p l r h low high =
 abbrev others : ℕ → Tree → List ℕ
 others k t = map (λ x. x.1) (path k t)
 
+-- the path goes right: the left child is the first sibling; it goes left: the right child is the last one
 beside : (ns : List Tree) (k : ℕ) (t : Tree) → IsBuilt ns t → first_leaf t ≤ k → k < first_leaf t + width t → IsPermutation (others k t) (map position (siblings (in_range k (k + 1)) t))
 beside ns k (leaf p n) h low high = subst (λ z. IsPermutation {X = ℕ} [] (map position z)) (sym (siblings_inside k (k + 1) ns (leaf p n) h (omega (arith, high)) (omega (arith, low)))) (IsPermutation-refl [])
 beside ns k (join p l r) h low high = ⊎_elim
