@@ -120,7 +120,7 @@ impl<F> Location<F> {
     pub fn as_u64(self) -> u64
         ensures { result ≡ self }
     {
-        self.index
+        u64::from(self)
     }
 
     /// The difference, or `None` below zero.
@@ -294,7 +294,7 @@ impl<F> fmt::Display for Location<F> {
 
 impl<F> fmt::Debug for Location<F> {
     fn fmt<W: fmt::Write>(&self, f: &mut fmt::Formatter<W>) -> fmt::Result {
-        write!(f, "Location({})", self.index)
+        fmt::Display::fmt(self, f)
     }
 }
 

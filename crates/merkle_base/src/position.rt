@@ -121,7 +121,7 @@ impl<F> Position<F> {
     pub fn as_u64(self) -> u64
         ensures { result ≡ self }
     {
-        self.index
+        u64::from(self)
     }
 
     /// The difference, or `None` below zero.
@@ -302,7 +302,7 @@ impl<F> fmt::Display for Position<F> {
 
 impl<F> fmt::Debug for Position<F> {
     fn fmt<W: fmt::Write>(&self, f: &mut fmt::Formatter<W>) -> fmt::Result {
-        write!(f, "Position({})", self.index)
+        fmt::Display::fmt(self, f)
     }
 }
 
