@@ -326,11 +326,11 @@ impl<F: Family, H: PlainHasher> Hasher<F> for Standard<H> {
     ghost bagging_of = { λ s. s };
 
     fn hash(&self, parts: &[&[u8]]) -> H::Digest {
-        H::hash(parts)
+        Standard::hash(self, parts)
     }
 
     fn root_bagging(&self) -> Bagging {
-        self.bagging
+        Standard::root_bagging(self)
     }
 
     fn node_digest(&self, position: Position<F>, left: &H::Digest, right: &H::Digest) -> H::Digest
@@ -367,7 +367,7 @@ impl<F: Family, H: PlainHasher> Hasher<F> for Standard<H> {
     }
 
     fn digest(&self, bytes: &[u8]) -> H::Digest {
-        H::hash(&[bytes])
+        Standard::digest(self, bytes)
     }
 
     fn fold(&self, acc: &H::Digest, peak: &H::Digest) -> H::Digest {
