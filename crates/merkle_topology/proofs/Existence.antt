@@ -1,17 +1,19 @@
 -- A node stands over every stretch of 2 ^ h leaves from a multiple of 2 ^ h on, once the leaf with which it comes is there.
-use Rattle.std.proofs.Common.{◌≡◌, ℕ, zero, suc, ◌+◌, ◌*◌, ◌^◌, ◌-◌, ◌<◌, ◌≤◌, ◌⊎◌, List, [], ◌∷◌, length, Some, slice_get, slice_index, arith, refl, sym, ap, inl, inr, ◌∙◌, pow-suc, pow_pos, le_of_mul-le-mul_right, le_antisymm, le_of_eq}
+use Rattle.std.proofs.Common.{◌≡◌, ℕ, zero, suc, ◌+◌, ◌*◌, ◌^◌, ◌-◌, ◌<◌, ◌≤◌, ◌⊎◌, List, [], ◌∷◌, length, Some, slice_get, slice_index, arith, refl, sym, ap, inl, inr, ◌∙◌, pow-suc, pow_pos}
 use Rattle.std.proofs.lemmas.List.{length-map}
 use Rattle.std.proofs.lemmas.List.FromFn.{get_or-range_with_len, length-range_with_len}
 use Rattle.merkle_base.specs.Tree.{Tree, leaf, height, first_leaf, width}
 use Rattle.merkle_base.specs.Forest.{forest, size}
 use Rattle.merkle_topology.specs.Mmr.{carries}
+use Rattle.merkle_topology.specs.Mmb.{newest_pair, root_position, birth_leaf}
 use Rattle.merkle_base.proofs.Lists.{get_below}
-use Rattle.merkle_base.proofs.Nodes.{node_stays, leaf_here, size_le}
+use Rattle.merkle_base.proofs.Nodes.{node_stays, leaf_here, size_le, size_inj}
 use Rattle.merkle_base.proofs.Balance.{balanced_count, node_balanced}
 use Rattle.merkle_base.proofs.Births.{forest_born}
 use Rattle.merkle_base.proofs.Lookup.{get_append_add, index_map}
 use Rattle.merkle_topology.proofs.MountainRange.{mmr_equal, mmr_parents, mmr_born}
-use Rattle.merkle_topology.specs.RangeLawful.{pow_split}
+use Rattle.merkle_topology.proofs.MountainBelt.{mmb_equal, mmb_parents, mmb_placed}
+use Rattle.merkle_topology.proofs.OddMultiples.{odd_below, odd_no_power}
 
 get_exists : (ts : List Tree) (j : ℕ) → j < length ts → (t : Tree) × (slice_get ts j ≡ Some t)
 get_exists [] j l = absurd (omega arith)
@@ -21,21 +23,7 @@ get_exists (t ∷ ts) (suc j) l = get_exists ts j (omega arith)
 either : (a b : ℕ) → (a ≤ b) ⊎ (b < a)
 either a b = grind arith
 
-pub mul_cancel : (a b c : ℕ) → 0 < c → a * c ≡ b * c → a ≡ b
-mul_cancel a b c p e = le_antisymm (le_of_mul-le-mul_right (le_of_eq e) p) (le_of_mul-le-mul_right (le_of_eq (sym e)) p)
-
--- where an odd multiple of 2 ^ k is a multiple of 2 ^ j, j is at most k
-odd_below : (r c j k : ℕ) → (2 * r + 1) * 2 ^ k ≡ c * 2 ^ j → j ≤ k
-odd_below r c j k e = elim (either j k) [
-  | inl l ↦ l
-  | inr g ↦
-      (let d : 2 ^ j ≡ 2 ^ (j - suc k) * 2 ^ suc k = pow_split (suc k) j g in
-      let q : ℕ = 2 ^ (j - suc k) in
-      let f : c * 2 ^ j ≡ c * (q * (2 ^ k * 2)) = ap (λ (x : ℕ). c * x) (d ∙ ap (λ (x : ℕ). q * x) (pow-suc 2 k)) in
-      let same : 2 * r + 1 ≡ 2 * (c * q) = mul_cancel (2 * r + 1) (2 * (c * q)) (2 ^ k) (pow_pos k) (e ∙ f ∙ omega arith) in
-      absurd (omega arith))
-]
-
+-- ---- the range
 mmr_over : (n s a j : ℕ) → s ≡ a * 2 ^ suc j → s + 2 ^ suc j ≤ n → (p : ℕ) × (t : Tree) × (slice_get (forest carries n).nodes p ≡ Some t) × (first_leaf t ≡ s) × (height t ≡ suc j)
 mmr_over n s a j e l =
     let x : ℕ = s + 2 ^ suc j - 1 in
@@ -66,3 +54,34 @@ mmr_over n s a j e l =
 pub mmr_exists : (n s a h : ℕ) → s ≡ a * 2 ^ h → s + 2 ^ h ≤ n → (p : ℕ) × (t : Tree) × (slice_get (forest carries n).nodes p ≡ Some t) × (first_leaf t ≡ s) × (height t ≡ h)
 mmr_exists n s a zero e l = (size carries s, leaf (size carries s) s, leaf_here carries s n (omega arith), refl, refl)
 mmr_exists n s a (suc j) e l = mmr_over n s a j e l
+
+-- ---- the belt
+mmb_over : (n s a j : ℕ) → s ≡ a * 2 ^ suc j → birth_leaf s (suc j) < n → (p : ℕ) × (t : Tree) × (slice_get (forest newest_pair n).nodes p ≡ Some t) × (first_leaf t ≡ s) × (height t ≡ suc j)
+mmb_over n s a j e l =
+    let x : ℕ = s + 3 * 2 ^ j - 2 in
+    let w : 0 < 2 ^ j = pow_pos j in
+    let two : 2 ^ suc j ≡ 2 ^ j * 2 = pow-suc 2 j in
+    let twice : s ≡ a * (2 ^ j * 2) = e ∙ ap (λ (y : ℕ). a * y) two in
+    let odd : x + 2 ≡ (2 * (a + 1) + 1) * 2 ^ j = omega arith in
+    let b = forest_born newest_pair (suc x) (mmb_equal (suc x)) x (omega arith) in
+    elim (mmb_parents x) [
+      | inl h ↦ absurd (odd_no_power (a + 1) j h.1.0 (omega arith) (sym odd ∙ h.1.1))
+      | inr h ↦
+          (let ends : (2 * h.2.0 + 1) * 2 ^ h.0 ≡ x + 2 = sym h.2.1 ∙ omega arith in
+          let up : j ≤ h.0 = odd_below h.2.0 (2 * (a + 1) + 1) j h.0 (ends ∙ odd) in
+          let down : h.0 ≤ j = odd_below (a + 1) (2 * h.2.0 + 1) h.0 j (sym odd ∙ sym ends) in
+          let same : h.0 ≡ j = omega arith in
+          let count : length b.0 ≡ 1 = sym (length-map b.0 height) ∙ ap length (b.2 ∙ h.1) in
+          let g = get_exists b.0 0 (omega (arith, count)) in
+          let p : ℕ = size newest_pair x + 1 in
+          let here : slice_get (forest newest_pair (suc x)).nodes p ≡ Some g.0 = rw b.1 (get_append_add (forest newest_pair x).nodes (leaf (size newest_pair x) x ∷ b.0) 1 ∙ g.1) in
+          let hi : height g.0 ≡ suc j = index_map b.0 0 g.0 g.1 ∙ ap (λ (hs : List ℕ). slice_index hs 0) (b.2 ∙ h.1) ∙ ap suc same in
+          let m = mmb_placed (suc x) p g.0 here in
+          let root : size newest_pair x + 1 ≡ size newest_pair (first_leaf g.0 + 3 * 2 ^ j - 2) + 1 = m.position ∙ ap (root_position (first_leaf g.0)) hi in
+          let at : x ≡ first_leaf g.0 + 3 * 2 ^ j - 2 = size_inj newest_pair x (first_leaf g.0 + 3 * 2 ^ j - 2) (omega (arith, root)) in
+          (p, g.0, node_stays newest_pair (suc x) n p g.0 l here, omega arith, hi))
+    ]
+
+pub mmb_exists : (n s a h : ℕ) → s ≡ a * 2 ^ h → birth_leaf s h < n → (p : ℕ) × (t : Tree) × (slice_get (forest newest_pair n).nodes p ≡ Some t) × (first_leaf t ≡ s) × (height t ≡ h)
+mmb_exists n s a zero e l = (size newest_pair s, leaf (size newest_pair s) s, leaf_here newest_pair s n l, refl, refl)
+mmb_exists n s a (suc j) e l = mmb_over n s a j e l

@@ -1,15 +1,16 @@
 //! What holds of the forests that the families grow.
 //!
 //! Each function is empty. Its contract is a law of the definitions in `specs/`.
-ghost use Rattle.std.specs.Prelude.{◌≡◌, ℕ, ◌+◌, ◌-◌, ◌*◌, ◌^◌, ◌<◌, ◌≤◌, List, [], ◌∷◌, map, length, slice_get, Some, count_ones};
-ghost use Rattle.std.specs.Int.{trailing_ones};
+ghost use Rattle.std.specs.Prelude.{◌≡◌, ◌≢◌, ℕ, ◌+◌, ◌-◌, ◌*◌, ◌^◌, ◌<◌, ◌≤◌, ◌⊎◌, List, [], ◌∷◌, map, length, slice_get, slice_index, Some, count_ones};
+ghost use Rattle.std.specs.Int.{bit_at, trailing_ones};
 ghost use Rattle.std.specs.List.{range_with_len};
 ghost use Rattle.std.proofs.Common.{w64};
-ghost use Rattle.merkle_base.specs.Tree.{Tree, height, first_leaf};
+ghost use Rattle.merkle_base.specs.Tree.{Tree, join, position, height, first_leaf};
 ghost use Rattle.merkle_base.specs.Forest.{forest, size};
 ghost use Rattle.merkle_base.specs.Heights.{IsLawful, peak_heights, parent_heights};
 ghost use Rattle.merkle_base.specs.Places.{placed, peaks_of};
 ghost use Rattle.merkle_topology.specs.Mmr.{carries, AscendsFrom, IsPostorder};
+ghost use Rattle.merkle_topology.specs.Mmb.{newest_pair, birth_leaf, root_position};
 
 /// The Mountain Range: its merges are lawful, and its counts and places have formulas.
 pub fn mountain_range()
@@ -33,9 +34,49 @@ pub fn mountain_range()
     ensures range_has { (n s a h : ℕ) → s ≡ a * 2 ^ h → s + 2 ^ h ≤ n → (p : ℕ) × (t : Tree) × (slice_get (forest carries n).nodes p ≡ Some t) × (first_leaf t ≡ s) × (height t ≡ h) }
 {}
 
+/// The Mountain Belt: its merge is lawful, and its counts and places have formulas.
+pub fn mountain_belt()
+    ensures lawful { IsLawful newest_pair (2 ^ 62 + 30) (2 ^ 63 - 2) }
+
+    // Here k is the binary logarithm of n + 1.
+    ensures size { (n k : ℕ) → 2 ^ k ≤ n + 1 → n + 1 < 2 ^ (k + 1) → size newest_pair n ≡ 2 * n - k }
+
+    // No parent comes with leaf n where n + 2 is a power of two, and else one.
+    ensures parents { (n : ℕ) → n + 2 < 2 ^ 64 →
+        ((parent_heights newest_pair n ≡ []) × ((k : ℕ) × (n + 2 ≡ 2 ^ k)))
+        ⊎ ((parent_heights newest_pair n ≡ (trailing_ones w64 (n + 1) + 1) ∷ []) × ((k : ℕ) → n + 2 ≢ 2 ^ k)) }
+
+    // There are as many peaks as the binary logarithm of n + 1.
+    ensures peaks { (n : ℕ) → (2 ^ length (peak_heights newest_pair n) ≤ n + 1) × (n + 1 < 2 ^ (length (peak_heights newest_pair n) + 1)) }
+
+    // Peak i, counted from the newest, has height i, and one more where bit i of n + 1 is set; so an older peak is no lower.
+    ensures heights { (n i : ℕ) → i < length (peak_heights newest_pair n) → slice_index (peak_heights newest_pair n) i ≡ i + bit_at (n + 1) i }
+    ensures older { (n i : ℕ) → i + 1 < length (peak_heights newest_pair n) → slice_index (peak_heights newest_pair n) i ≤ slice_index (peak_heights newest_pair n) (i + 1) }
+    ensures children { (n p : ℕ) → (a b : Tree) → slice_get (forest newest_pair n).nodes p ≡ Some (join p a b)
+        → (position a ≡ root_position (first_leaf a) (height a)) × (position b ≡ root_position (first_leaf a + 2 ^ height a) (height a)) }
+    ensures place { (n p : ℕ) → (t : Tree) → slice_get (forest newest_pair n).nodes p ≡ Some t → p ≡ root_position (first_leaf t) (height t) }
+
+    // A node comes with its birth leaf.
+    ensures birth { (n p : ℕ) → (t : Tree) → slice_get (forest newest_pair n).nodes p ≡ Some t
+        → (slice_get (forest newest_pair (birth_leaf (first_leaf t) (height t) + 1)).nodes p ≡ Some t) × ((m : ℕ) → m ≤ birth_leaf (first_leaf t) (height t) → size newest_pair m ≤ p) }
+    ensures aligned { (n p : ℕ) → (t : Tree) → slice_get (forest newest_pair n).nodes p ≡ Some t → (a : ℕ) × (first_leaf t ≡ a * 2 ^ height t) }
+
+    // Over each stretch of 2 ^ h leaves from a multiple of 2 ^ h on stands a node, once its birth leaf is there.
+    ensures belt_has { (n s a h : ℕ) → s ≡ a * 2 ^ h → birth_leaf s h < n → (p : ℕ) × (t : Tree) × (slice_get (forest newest_pair n).nodes p ≡ Some t) × (first_leaf t ≡ s) × (height t ≡ h) }
+{}
+
 /// The definitions on small numbers, by computing.
 pub fn worked_rows()
     ensures range_positions { map (size carries) (range_with_len 0 16) ≡ 0 ∷ 1 ∷ 3 ∷ 4 ∷ 7 ∷ 8 ∷ 10 ∷ 11 ∷ 15 ∷ 16 ∷ 18 ∷ 19 ∷ 22 ∷ 23 ∷ 25 ∷ 26 ∷ [] }
     ensures range_peaks { map placed (peaks_of carries 11) ≡ (14, 3) ∷ (17, 1) ∷ (18, 0) ∷ [] }
     ensures range_parents { map (parent_heights carries) (range_with_len 0 8) ≡ [] ∷ (1 ∷ []) ∷ [] ∷ (1 ∷ 2 ∷ []) ∷ [] ∷ (1 ∷ []) ∷ [] ∷ (1 ∷ 2 ∷ 3 ∷ []) ∷ [] }
+    ensures belt_positions { map (size newest_pair) (range_with_len 0 16) ≡ 0 ∷ 1 ∷ 3 ∷ 4 ∷ 6 ∷ 8 ∷ 10 ∷ 11 ∷ 13 ∷ 15 ∷ 17 ∷ 19 ∷ 21 ∷ 23 ∷ 25 ∷ 26 ∷ [] }
+    ensures belt_peaks_8 { map placed (peaks_of newest_pair 8) ≡ (7, 2) ∷ (9, 1) ∷ (12, 1) ∷ [] }
+    ensures belt_peaks_11 { map placed (peaks_of newest_pair 11) ≡ (18, 3) ∷ (16, 1) ∷ (17, 0) ∷ [] }
+    ensures belt_parents { map (parent_heights newest_pair) (range_with_len 0 16)
+        ≡ [] ∷ (1 ∷ []) ∷ [] ∷ (1 ∷ []) ∷ (2 ∷ []) ∷ (1 ∷ []) ∷ [] ∷ (1 ∷ []) ∷ (2 ∷ []) ∷ (1 ∷ []) ∷ (3 ∷ []) ∷ (1 ∷ []) ∷ (2 ∷ []) ∷ (1 ∷ []) ∷ [] ∷ (1 ∷ []) ∷ [] }
+
+    // Leaf 9 comes where two pairs are equal, and the newer one is merged.
+    ensures belt_pairs { (0 ∷ peak_heights newest_pair 9 ≡ 0 ∷ 0 ∷ 2 ∷ 2 ∷ []) × (peak_heights newest_pair 10 ≡ 1 ∷ 2 ∷ 2 ∷ []) }
+    ensures belt_root { root_position 4 2 ≡ 14 }
 {}

@@ -5,4 +5,14 @@ use Rattle.merkle_topology.proofs.laws.worked_rows.Goals as goal
 
 pub returns : goal.returns
 unfolding forest peak_heights
-returns c = record { range_positions = refl; range_peaks = refl; range_parents = refl }
+returns c = record {
+  range_positions = refl;
+  range_peaks = refl;
+  range_parents = refl;
+  belt_positions = refl;
+  belt_peaks_8 = refl;
+  belt_peaks_11 = refl;
+  belt_parents = refl;
+  belt_pairs = (refl, refl);
+  belt_root = refl;
+}

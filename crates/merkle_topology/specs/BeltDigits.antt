@@ -1,0 +1,23 @@
+-- The peak heights of the Mountain Belt count in binary: n leaves have the digits of n + 1 without its highest one.
+use Rattle.std.specs.Prelude.{ℕ, zero, suc, ◌+◌, ◌*◌, Bool, true, false, cond, List, [], ◌∷◌}
+
+-- one more, where digits stand lowest first under a highest one that is left out
+abbrev pub increment : List Bool → List Bool
+increment [] = false ∷ []
+increment (false ∷ bs) = true ∷ bs
+increment (true ∷ bs) = false ∷ increment bs
+
+-- the digits of n + 1
+unfoldable pub digits_after : ℕ → List Bool
+digits_after zero = []
+digits_after (suc n) = increment (digits_after n)
+
+-- the number with these digits
+abbrev pub value : List Bool → ℕ
+value [] = 1
+value (b ∷ bs) = cond b 1 0 + 2 * value bs
+
+-- height k + i at index i, and one more where digit i is set
+abbrev pub spread : ℕ → List Bool → List ℕ
+spread k [] = []
+spread k (b ∷ bs) = cond b (suc k) k ∷ spread (suc k) bs
