@@ -15,7 +15,7 @@ use Rattle.merkle_topology.proofs.MountainRange.{mmr_equal, mmr_parents, mmr_bor
 use Rattle.merkle_topology.proofs.MountainBelt.{mmb_equal, mmb_parents, mmb_placed}
 use Rattle.merkle_topology.proofs.OddMultiples.{odd_below, odd_no_power}
 
-get_exists : (ts : List Tree) (j : ℕ) → j < length ts → (t : Tree) × (slice_get ts j ≡ Some t)
+pub get_exists : (ts : List Tree) (j : ℕ) → j < length ts → (t : Tree) × (slice_get ts j ≡ Some t)
 get_exists [] j l = absurd (omega arith)
 get_exists (t ∷ ts) zero l = (t, refl)
 get_exists (t ∷ ts) (suc j) l = get_exists ts j (omega arith)

@@ -22,6 +22,16 @@ size_only rule low n p a b e = elim (three n low) [
     three : (a b : ℕ) → (a < b) ⊎ ((a ≡ b) ⊎ (b < a))
     three a b = grind arith
 
+-- a position between the same two sizes came with the same leaf
+pub leaf_only : (rule : List ℕ → List ℕ) (low n p : ℕ) → size rule low ≤ p → p < size rule (low + 1) → size rule n ≤ p → p < size rule (n + 1) → low ≡ n
+leaf_only rule low n p a b c d = elim (three low n) [
+  | inl l ↦ absurd (omega (arith, size_le rule (low + 1) n (omega arith)))
+  | inr h ↦ elim h [ inl e ↦ e | inr g ↦ absurd (omega (arith, size_le rule (n + 1) low (omega arith))) ]
+]
+  where
+    three : (a b : ℕ) → (a < b) ⊎ ((a ≡ b) ⊎ (b < a))
+    three a b = grind arith
+
 -- the test that a leaf count found by a search has that many nodes
 pub size_tested : (rule : List ℕ → List ℕ) (max_leaves low count nodes p : ℕ) → nodes ≡ p → low ≤ max_leaves → count ≡ size rule low → size rule low ≤ nodes → nodes < size rule (low + 1) →
     (eqb count nodes ≡ true → IsSize rule max_leaves p) × (IsSize rule max_leaves p → eqb count nodes ≡ true)

@@ -3,5 +3,7 @@ pub mod OddMultiples
 pub mod MountainRange
 pub mod MountainBelt
 pub mod Existence
+pub mod BeltPeaks
 pub mod Perfect
 pub mod LeafCounts
+pub mod BeltNodes

@@ -1,6 +1,8 @@
 -- Odd multiples of powers of two.
-use Rattle.std.proofs.Common.{◌≡◌, ℕ, suc, ◌+◌, ◌*◌, ◌^◌, ◌-◌, ◌<◌, ◌≤◌, ◌⊎◌, arith, sym, ap, inl, inr, ◌∙◌, pow-suc, pow_pos, pow_mono, mul-le-mul_right, le_of_mul-le-mul_right, le_antisymm, le_of_eq}
-use Rattle.merkle_topology.specs.RangeLawful.{pow_split}
+use Rattle.std.proofs.Common.{◌≡◌, ◌≢◌, ℕ, suc, ◌+◌, ◌*◌, ◌^◌, ◌-◌, ◌<◌, ◌≤◌, ◌⊎◌, arith, sym, ap, inl, inr, ◌∙◌, pow-suc, pow_pos, pow_mono, mul-le-mul_right, le_of_mul-le-mul_right, le_antisymm, le_of_eq}
+use Rattle.std.specs.Int.RustNames.{count_ones}
+use Rattle.std.proofs.lemmas.Nat.{ones_cat, zero_from_ones}
+use Rattle.merkle_topology.specs.RangeLawful.{pow_split, ones_shift, ones_pow}
 
 either : (a b : ℕ) → (a ≤ b) ⊎ (b < a)
 either a b = grind arith
@@ -28,3 +30,11 @@ odd_no_power r j k p e =
     let q : 2 * 2 ^ j ≤ 2 * r * 2 ^ j = mul-le-mul_right (2 ^ j) (omega arith) in
     let z : (2 * r + 1) * 2 ^ j ≡ 2 * r * 2 ^ j + 2 ^ j = omega arith in
     omega (arith, pow_pos j)
+
+-- such a number has two ones or more
+pub odd_ones : (r j : ℕ) → 0 < r → count_ones ((2 * r + 1) * 2 ^ j) ≢ 1
+odd_ones r j p e =
+    let twice : 2 * r + 1 ≡ r * 2 ^ 1 + 1 = omega arith in
+    let more : count_ones (2 * r + 1) ≡ count_ones r + count_ones 1 = ap count_ones twice ∙ ones_cat 1 r 1 (omega arith) in
+    let none : count_ones r ≡ 0 = omega (arith, e, ones_shift j (2 * r + 1), more, ones_pow 0) in
+    omega (arith, zero_from_ones r none)

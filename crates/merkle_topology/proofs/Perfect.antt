@@ -20,7 +20,7 @@ tallest_is (suc k) h nodes l low high = elim (leb_tells (2 ^ suc (suc k)) (nodes
   | inr e ↦ (let b : suc h < suc (suc k) = log_below (suc h) (suc (suc k)) (nodes + 1) low e.1 in rw e.0 (tallest_is k h nodes (omega arith) low high))
 ]
 
-pow_large : (k : ℕ) → k + 1 ≤ 2 ^ k
+pub pow_large : (k : ℕ) → k + 1 ≤ 2 ^ k
 pow_large zero = omega arith
 pow_large (suc k) = omega (arith, pow_large k, pow-suc 2 k)
 

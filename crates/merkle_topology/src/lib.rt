@@ -5,6 +5,7 @@
 #![tactic(auto)]
 
 pub mod laws;
+pub mod mmb;
 pub mod mmr;
 #[cfg(test)]
 mod tests;

@@ -1,0 +1,307 @@
+//! The Merkle Mountain Belt: when a leaf comes, the newest adjacent pair of peaks of equal height is merged, if there is one.
+//!
+//! So one parent at most comes with a leaf, and n leaves have as many peaks as the binary logarithm of n + 1. Peak i,
+//! counted from the newest, has height i, and one more where bit i of n + 1 is set.
+ghost use Rattle.std.specs.Prelude.{◌≡◌, ◌≢◌, ◌+◌, ◌^◌, ◌<◌, ◌≤◌, ◌↔◌, ℕ, IsTrue, IfSome, IfNone, List, [], ◌∷◌, length, Some};
+ghost use Rattle.std.specs.Iterator.{YieldsFirst, item_count};
+ghost use Rattle.std.specs.Option.{option_to_list};
+ghost use Rattle.merkle_base.specs.Forest.{size};
+ghost use Rattle.merkle_base.specs.Heights.{parent_heights};
+ghost use Rattle.merkle_base.specs.Places.{IsSize, ArePeaks, HasInner, AreChildren, IsHeightAt};
+ghost use Rattle.merkle_topology.specs.Mmb.{newest_pair, birth_leaf, root_position, newest_peaks, PeaksLeft};
+ghost use Rattle.merkle_topology.specs.BeltLawful.{mmb_lawful};
+
+use merkle_base::listed::Listed;
+use merkle_base::{error, family, location, position};
+use std::marker::Model;
+
+/// The greatest node count.
+const MAX_NODES: u64 = 9223372036854775806;
+
+/// The greatest leaf count, which has that many nodes.
+const MAX_LEAVES: u64 = 4611686018427387934;
+
+/// The Mountain Belt.
+#[derive(Clone, Copy, Debug, Default, PartialEq, Eq)]
+pub struct Family;
+
+/// A node index or a node count of the Mountain Belt.
+pub type Position = position::Position<Family>;
+
+/// A leaf index or a leaf count of the Mountain Belt.
+pub type Location = location::Location<Family>;
+
+/// Why a call was refused.
+pub type Error = error::Error<Family>;
+
+/// The peaks of a node count with their heights, oldest first.
+#[derive(Debug, Drop)]
+pub struct PeakIterator {
+    // the leaf count
+    leaves: u64,
+    // how many of its peaks are left, the newest ones
+    left: u32,
+    ghost valid: { leaves ≤ 4611686018427387934 },
+    ghost enough: { 2 ^ left ≤ leaves + 1 },
+}
+
+impl Model for PeakIterator {
+    ghost Value = { PeaksLeft };
+
+    ghost view = { λ s. record { leaves = s.leaves; left = newest_peaks s.left s.leaves } };
+}
+
+impl PeakIterator {
+    /// The peaks of that many nodes.
+    ///
+    /// The node count is a valid size.
+    pub fn new(nodes: Position) -> Self
+        requires { IsSize newest_pair MAX_LEAVES nodes }
+        ensures leaves { size newest_pair result.leaves ≡ nodes }
+        ensures peaks { ArePeaks newest_pair MAX_LEAVES nodes result.left }
+    {
+        let leaves = leaf_count_within(nodes.as_u64());
+        PeakIterator {
+            leaves,
+            left: (leaves + 1).ilog2(),
+        }
+    }
+
+    /// The leaf count of the node count that it was made for.
+    pub fn leaves(&self) -> Location
+        ensures { result ≡ self.now.leaves }
+    {
+        Location::new(self.leaves)
+    }
+}
+
+impl Default for PeakIterator {
+    ghost is_default = { λ s. s ≡ record { leaves = 0; left = [] } };
+
+    /// No peaks, of no leaves.
+    fn default() -> Self {
+        PeakIterator { leaves: 0, left: 0 }
+    }
+}
+
+impl Iterator for PeakIterator {
+    type Item = (Position, u32);
+
+    ghost next_gives = { λ s r t. YieldsFirst (λ p. p.left) s r t × (t.leaves ≡ s.leaves) };
+
+    ghost remaining = { item_count (λ s. s.left) };
+
+    fn next(&mut self) -> Option<(Position, u32)> {
+        if self.left == 0 {
+            return None;
+        }
+        self.left -= 1;
+        Some(peak(self.leaves, self.left))
+    }
+
+    fn size_hint(&self) -> (usize, Option<usize>)
+        ensures { result ≡ (length self.now.left, Some (length self.now.left)) }
+    {
+        let left = self.left as usize;
+        (left, Some(left))
+    }
+}
+
+impl ExactSizeIterator for PeakIterator {
+    fn len(&self) -> usize {
+        self.left as usize
+    }
+}
+
+impl Listed for PeakIterator {
+    ghost left = { λ s. s.left };
+
+    ghost may_go = { λ _. tt };
+
+    ghost gives_first = { λ _ _ _ h. h.0 };
+
+    ghost ends = { λ _. tt };
+}
+
+/// The height of the parent that comes with a leaf, if one does.
+#[derive(Debug, Drop)]
+pub struct ParentHeights {
+    height: Option<u32>,
+}
+
+impl Model for ParentHeights {
+    ghost Value = { List ℕ };
+
+    ghost view = { λ s. option_to_list s.height };
+}
+
+impl Iterator for ParentHeights {
+    type Item = u32;
+
+    ghost next_gives = { YieldsFirst (λ s. s) };
+
+    ghost remaining = { item_count (λ s. s) };
+
+    fn next(&mut self) -> Option<u32> {
+        self.height.take()
+    }
+}
+
+impl Listed for ParentHeights {
+    ghost left = { λ s. s };
+
+    ghost may_go = { λ _. tt };
+
+    ghost gives_first = { λ _ _ _ h. h };
+
+    ghost ends = { λ _. tt };
+}
+
+/// The node count of that many leaves.
+fn node_count(leaves: u64) -> u64
+    requires { leaves ≤ MAX_LEAVES }
+    ensures { result ≡ size newest_pair leaves }
+{
+    2 * leaves - u64::from((leaves + 1).ilog2())
+}
+
+/// The greatest leaf count that has no more than so many nodes.
+fn leaf_count_within(nodes: u64) -> u64
+    requires { nodes ≤ MAX_NODES }
+    ensures limit { result ≤ MAX_LEAVES }
+    ensures within { size newest_pair result ≤ nodes }
+    ensures greatest { nodes < size newest_pair (result + 1) }
+{
+    let mut low = 0;
+    let mut high = MAX_LEAVES;
+    while low < high {
+        let middle = high - (high - low) / 2;
+        if node_count(middle) <= nodes {
+            low = middle;
+        } else {
+            high = middle - 1;
+        }
+    }
+    low
+}
+
+/// The position of the node of a height over the leaves from one on, which comes with its birth leaf.
+fn root_position(first: u64, height: u32) -> u64
+    requires { birth_leaf first height ≤ MAX_LEAVES }
+    ensures { result ≡ root_position first height }
+{
+    if height == 0 {
+        return node_count(first);
+    }
+    node_count(first + (3 << (height - 1)) - 2) + 1
+}
+
+/// A peak of so many leaves with its height, by its index from the newest.
+///
+/// There are more peaks than the index says.
+fn peak(leaves: u64, index: u32) -> (Position, u32)
+    requires valid { leaves ≤ MAX_LEAVES }
+    requires there { 2 ^ (index + 1) ≤ leaves + 1 }
+    ensures { newest_peaks (index + 1) leaves ≡ result ∷ newest_peaks index leaves }
+{
+    let digits = (leaves + 1) >> index;
+    let height = index + (digits % 2) as u32;
+    let end = (digits - 1) << index;
+    let first = end - (1 << height);
+    (Position::new(root_position(first, height)), height)
+}
+
+impl family::Family for Family {
+    const DOMAIN: u8 = 1;
+
+    const MAX_NODES: u64 = MAX_NODES;
+
+    const MAX_LEAVES: u64 = MAX_LEAVES;
+
+    type Peaks = PeakIterator;
+
+    type ParentHeights = ParentHeights;
+
+    ghost DOMAIN = { 1 };
+
+    ghost MAX_NODES = { 9223372036854775806 };
+
+    ghost MAX_LEAVES = { 4611686018427387934 };
+
+    ghost rule = { newest_pair };
+
+    fn location_to_position(location: Location) -> Position
+        requires { location ≤ MAX_LEAVES }
+        ensures { result ≡ size newest_pair location }
+    {
+        Position::new(node_count(location.as_u64()))
+    }
+
+    fn position_to_location(position: Position) -> Option<Location>
+        requires { position ≤ MAX_NODES }
+        ensures found { IfSome result (λ n. (n ≤ MAX_LEAVES) × (size newest_pair n ≡ position)) }
+        ensures none { IfNone result ((n : ℕ) → size newest_pair n ≢ position) }
+    {
+        let leaves = leaf_count_within(position.as_u64());
+        if node_count(leaves) == position.as_u64() {
+            Some(Location::new(leaves))
+        } else {
+            None
+        }
+    }
+
+    fn is_valid_size(nodes: Position) -> bool
+        ensures { IsTrue result ↔ IsSize newest_pair MAX_LEAVES nodes }
+    {
+        let nodes = nodes.as_u64();
+        nodes <= MAX_NODES && node_count(leaf_count_within(nodes)) == nodes
+    }
+
+    fn peaks(nodes: Position) -> PeakIterator
+        requires { IsSize newest_pair MAX_LEAVES nodes }
+        ensures { ArePeaks newest_pair MAX_LEAVES nodes result.left }
+    {
+        PeakIterator::new(nodes)
+    }
+
+    fn children(position: Position, height: u32) -> (Position, Position)
+        requires { HasInner newest_pair MAX_LEAVES position height }
+        ensures { AreChildren newest_pair position result.0 result.1 }
+    {
+        let birth = leaf_count_within(position.as_u64());
+        let below = height - 1;
+        let first = birth + 2 - (3 << below);
+        (
+            Position::new(root_position(first, below)),
+            Position::new(root_position(first + (1 << below), below)),
+        )
+    }
+
+    fn parent_heights(leaves: Location) -> ParentHeights
+        requires { leaves < MAX_LEAVES }
+        ensures { result ≡ parent_heights newest_pair leaves }
+    {
+        let leaves = leaves.as_u64();
+        let height = if (leaves + 2).is_power_of_two() {
+            None
+        } else {
+            Some((leaves + 1).trailing_ones() + 1)
+        };
+        ParentHeights { height }
+    }
+
+    fn pos_to_height(position: Position) -> u32
+        requires { position < MAX_NODES }
+        ensures { IsHeightAt newest_pair position result }
+    {
+        let nodes = position.as_u64();
+        let birth = leaf_count_within(nodes);
+        if node_count(birth) == nodes {
+            0
+        } else {
+            (birth + 1).trailing_ones() + 1
+        }
+    }
+
+    ghost lawful = { mmb_lawful };
+}
