@@ -7,7 +7,7 @@ ghost use Rattle.std.specs.Iterator.{YieldsFirst, item_count};
 ghost use Rattle.std.specs.Option.{option_to_list};
 ghost use Rattle.merkle_base.specs.Forest.{size};
 ghost use Rattle.merkle_base.specs.Heights.{parent_heights};
-ghost use Rattle.merkle_base.specs.Places.{IsSize, ArePeaks, HasInner, AreChildren, IsHeightAt};
+ghost use Rattle.merkle_base.specs.Places.{IsSize, IsNearestSize, ArePeaks, HasInner, AreChildren, IsHeightAt};
 ghost use Rattle.merkle_topology.specs.Mmb.{newest_pair, birth_leaf, root_position, newest_peaks, PeaksLeft};
 ghost use Rattle.merkle_topology.specs.BeltLawful.{mmb_lawful};
 
@@ -65,6 +65,16 @@ impl PeakIterator {
             leaves,
             left: (leaves + 1).ilog2(),
         }
+    }
+
+    /// The largest valid size that is not above a node count.
+    ///
+    /// The node count is at most 2^63 - 2.
+    pub fn to_nearest_size(nodes: Position) -> Position
+        requires { nodes ≤ MAX_NODES }
+        ensures { IsNearestSize newest_pair MAX_LEAVES nodes result }
+    {
+        Position::new(node_count(leaf_count_within(nodes.as_u64())))
     }
 
     /// The leaf count of the node count that it was made for.
@@ -255,6 +265,13 @@ impl family::Family for Family {
     {
         let nodes = nodes.as_u64();
         nodes <= MAX_NODES && node_count(leaf_count_within(nodes)) == nodes
+    }
+
+    fn to_nearest_size(nodes: Position) -> Position
+        requires { nodes ≤ MAX_NODES }
+        ensures { IsNearestSize newest_pair MAX_LEAVES nodes result }
+    {
+        PeakIterator::to_nearest_size(nodes)
     }
 
     fn peaks(nodes: Position) -> PeakIterator
