@@ -1,5 +1,5 @@
 -- The peaks of the Mountain Belt, counted from the newest: where each has its leaves, and so where it stands.
-use Rattle.std.proofs.Common.{◌≡◌, ℕ, zero, suc, ◌+◌, ◌*◌, ◌^◌, ◌-◌, ◌/◌, ◌%◌, ◌<◌, ◌≤◌, Bool, true, false, List, [], ◌∷◌, ◌++◌, length, map, reverse, take, Some, slice_get, slice_index, unwrap_or, Option, arith, refl, sym, ap, ◌∙◌, pow-suc}
+use Rattle.std.proofs.Common.{◌≡◌, ℕ, zero, suc, ◌+◌, ◌*◌, ◌^◌, ◌-◌, ◌/◌, ◌%◌, ◌<◌, ◌≤◌, Bool, true, false, List, [], ◌∷◌, ◌++◌, length, map, reverse, take, Some, slice_get, slice_index, unwrap_or, Option, arith, sym, ap, ◌∙◌, pow-suc}
 use Rattle.std.proofs.Math.Nat.{div-one}
 use Rattle.std.proofs.Math.Seq.{take-suc, take-length}
 use Rattle.std.proofs.lemmas.List.{length-map, length-reverse, length-take-le, reverse-append}
@@ -152,6 +152,3 @@ newest_all k n low high =
     let c = mmb_peak_count n in
     let e : k ≡ length (forest newest_pair n).peaks = same_log k (length (peak_heights newest_pair n)) (n + 1) low high c.0 c.1 ∙ sym (length-peaks n) in
     ap (λ (x : ℕ). newest_peaks x n) e ∙ ap (λ (ts : List Tree). map placed (reverse ts)) (take-length (forest newest_pair n).peaks)
-
-pub newest_none : (n : ℕ) → newest_peaks 0 n ≡ []
-newest_none n = refl

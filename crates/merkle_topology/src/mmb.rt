@@ -112,7 +112,7 @@ impl Iterator for PeakIterator {
     fn size_hint(&self) -> (usize, Option<usize>)
         ensures { result ≡ (length self.now.left, Some (length self.now.left)) }
     {
-        let left = self.left as usize;
+        let left = self.len();
         (left, Some(left))
     }
 }

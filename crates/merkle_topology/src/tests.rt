@@ -1,13 +1,8 @@
-use crate::mmr;
-use crate::mmr::PeakIterator;
-use merkle_base::error::Error;
+mod mmb;
+mod mmr;
+
 use merkle_base::family::Family;
 use merkle_base::position::Position;
-use std::test::Fail;
-
-const MAX_NODES: u64 = 9223372036854775807;
-
-const MAX_LEAVES: u64 = 4611686018427387904;
 
 /// Whether so many nodes have these peaks at these heights, oldest first.
 fn has_peaks<F: Family>(nodes: u64, peaks: &[(u64, u32)]) -> bool {
@@ -23,99 +18,4 @@ fn has_peaks<F: Family>(nodes: u64, peaks: &[(u64, u32)]) -> bool {
         }
     }
     wanted.next().is_none()
-}
-
-#[test]
-fn range_positions(rt: HostRuntime) {
-    let positions = [0, 1, 3, 4, 7, 8, 10, 11, 15, 16, 18, 19, 22, 23, 25, 26];
-    let mut location = mmr::Location::new(0);
-    for position in positions {
-        assert!(rt; location.is_valid());
-        let found = mmr::Family::location_to_position(location);
-        assert_eq!(rt; found.as_u64(), position, "{location}");
-        location = location.saturating_add(1);
-    }
-}
-
-#[test]
-fn range_locations(rt: HostRuntime) {
-    let rows = [
-        (MAX_NODES, Some(MAX_LEAVES)),
-        (MAX_NODES - 1, None),
-        (MAX_NODES - 62, None),
-        (MAX_NODES - 63, Some(MAX_LEAVES - 1)),
-    ];
-    for (position, location) in rows {
-        let position = mmr::Position::new(position);
-        assert!(rt; position.is_valid());
-        let found = mmr::Family::position_to_location(position);
-        assert_eq!(rt; found, location.map(mmr::Location::new), "{position}");
-    }
-}
-
-#[test]
-fn range_sizes(rt: HostRuntime) {
-    for (nodes, valid) in [(u64::MAX, false), (MAX_NODES, true), (MAX_NODES + 1, false)] {
-        assert_eq!(rt; mmr::Position::new(nodes).is_valid_size(), valid, "{nodes}");
-    }
-}
-
-#[test]
-fn range_sums(rt: HostRuntime) {
-    let most = mmr::Position::new(MAX_NODES);
-    assert_eq!(rt; mmr::Position::new(u64::MAX).saturating_add(1), most);
-    assert_eq!(rt;
-        mmr::Position::new(10).checked_add(5),
-        Some(mmr::Position::new(15))
-    );
-    assert_eq!(rt; most.checked_add(1), None);
-    assert_eq!(rt;
-        mmr::Position::new(MAX_NODES - 10).checked_add(10),
-        Some(most)
-    );
-}
-
-#[test]
-fn range_peaks(rt: HostRuntime) {
-    assert!(rt; has_peaks::<mmr::Family>(0, &[]));
-    assert!(rt; has_peaks::<mmr::Family>(19, &[(14, 3), (17, 1), (18, 0)]));
-    assert!(rt; has_peaks::<mmr::Family>(MAX_NODES, &[(MAX_NODES - 1, 62)]));
-    assert!(rt; PeakIterator::default().next().is_none());
-}
-
-#[test]
-fn range_conversions(rt: HostRuntime) {
-    let location = mmr::Location::new(MAX_LEAVES + 1);
-    let refused = mmr::Position::try_from(location);
-    assert!(rt; matches!(&refused, Err(Error::LocationOverflow(found)) if *found == location));
-    let position = mmr::Position::new(2);
-    let refused = mmr::Location::try_from(position);
-    assert!(rt; matches!(&refused, Err(Error::NonLeaf(found)) if *found == position));
-    let position = mmr::Position::new(MAX_NODES + 1);
-    let refused = mmr::Location::try_from(position);
-    assert!(rt; matches!(&refused, Err(Error::PositionOverflow(found)) if *found == position));
-}
-
-#[test]
-fn range_heights(rt: HostRuntime) {
-    let mut position = mmr::Position::new(0);
-    for height in [0, 0, 1, 0, 0, 1, 2, 0] {
-        assert!(rt; position.is_valid_index());
-        assert_eq!(rt; mmr::Family::pos_to_height(position), height, "{position}");
-        position = position.saturating_add(1);
-    }
-}
-
-#[test]
-fn range_parents(rt: HostRuntime) -> Result<(), Fail> {
-    let heights: Vec<u32> = mmr::Family::parent_heights(mmr::Location::new(3)).collect(rt.alloc())?;
-    assert_eq!(rt; heights.as_slice(), [1, 2].as_slice());
-    Ok(())
-}
-
-#[test]
-fn range_children(rt: HostRuntime) {
-    let (left, right) = mmr::Family::children(mmr::Position::new(6), 2);
-    assert_eq!(rt; left.as_u64(), 2);
-    assert_eq!(rt; right.as_u64(), 5);
 }
