@@ -8,6 +8,7 @@ pub mod batch;
 pub mod laws;
 pub mod mem;
 mod merkleize;
+pub mod mmb;
 pub mod mmr;
 
 pub use merkle_base::{digest, error, family, location, position};

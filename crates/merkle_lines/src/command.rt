@@ -10,8 +10,10 @@ use std::str::Split;
 /// The families.
 #[derive(Clone, Copy, Debug)]
 pub enum FamilyName {
-    /// The Mountain Range family.
+    /// The Mountain Range.
     Mmr,
+    /// The Mountain Belt.
+    Mmb,
 }
 
 /// The plain hashes.
@@ -83,6 +85,7 @@ fn read_element(word: &str) -> Option<&str> {
 fn read_new<'a>(words: &mut Split<'a, char>) -> Option<Command<'a>> {
     let family = match words.next()? {
         "mmr" => FamilyName::Mmr,
+        "mmb" => FamilyName::Mmb,
         _ => return None,
     };
     let bagging = match words.next()? {

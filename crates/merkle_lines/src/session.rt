@@ -8,7 +8,7 @@ use merkle_core::error::{Error, OutOfMemory};
 use merkle_core::family::{Bagging, Family};
 use merkle_core::hasher::Standard;
 use merkle_core::mem::Mem;
-use merkle_core::mmr;
+use merkle_core::{mmb, mmr};
 use std::alloc::Global;
 use std::fmt;
 
@@ -164,6 +164,8 @@ pub enum Session {
     Absent,
     MmrSha256(Structure<mmr::Family, Sha256Plain>),
     MmrXor8(Structure<mmr::Family, Xor8>),
+    MmbSha256(Structure<mmb::Family, Sha256Plain>),
+    MmbXor8(Structure<mmb::Family, Xor8>),
 }
 
 impl Session {
@@ -173,6 +175,10 @@ impl Session {
                 Session::MmrSha256(Structure::new(alloc, bagging))
             }
             (FamilyName::Mmr, HashName::Xor8) => Session::MmrXor8(Structure::new(alloc, bagging)),
+            (FamilyName::Mmb, HashName::Sha256) => {
+                Session::MmbSha256(Structure::new(alloc, bagging))
+            }
+            (FamilyName::Mmb, HashName::Xor8) => Session::MmbXor8(Structure::new(alloc, bagging)),
         }
     }
 
@@ -193,6 +199,8 @@ impl Session {
                 Session::Absent => Answer::Fault("NoStructure"),
                 Session::MmrSha256(structure) => structure.answer(alloc, request),
                 Session::MmrXor8(structure) => structure.answer(alloc, request),
+                Session::MmbSha256(structure) => structure.answer(alloc, request),
+                Session::MmbXor8(structure) => structure.answer(alloc, request),
             },
         }
     }

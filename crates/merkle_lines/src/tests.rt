@@ -25,6 +25,15 @@ fn sessions(rt: HostRuntime) {
             "new mmr backward xor8\nadd 01\nadd 02\nadd 04\ncommit\nroot 0\nroot 1\n",
             "ok\nok 0\nok 1\nok 2\nok 3 4\n05\n04\n",
         ),
+        // the Mountain Belt keeps two peaks where the Range merges to one
+        (
+            "new mmb forward xor8\nadd 01\nadd 02\nadd 04\ncommit\nroot 0\nroot 1\n",
+            "ok\nok 0\nok 1\nok 2\nok 3 4\n05\n04\n",
+        ),
+        (
+            "new mmb forward xor8\nadd 01\nadd 02\nadd 03\nadd 04\nadd 05\ncommit\nroot 0\n",
+            "ok\nok 0\nok 1\nok 2\nok 3\nok 4\nok 5 8\n05\n",
+        ),
         // empty structures, and a last line that nothing ends
         (
             "new mmr forward xor8\nroot 0\nroot 1\nroot 18446744073709551615\ncommit\nroot 0",
@@ -65,8 +74,8 @@ const MALFORMED: [&[u8]; 44] = [
     b" \n",
     b"new\n",
     b"new mmr\n",
-    b"new mmb forward\n",
-    b"new mmb backward xor8\n",
+    b"new mmx forward\n",
+    b"new mmb backward xor9\n",
     b"new mmr forwards\n",
     b"new mmr forward xor9\n",
     b"new mmr forward sha256\n",

@@ -2,7 +2,9 @@ mod mmb;
 mod mmr;
 
 use merkle_base::family::Family;
+use merkle_base::location::Location;
 use merkle_base::position::Position;
+use std::process::Abort;
 
 /// Whether so many nodes have these peaks at these heights, oldest first.
 fn has_peaks<F: Family>(nodes: u64, peaks: &[(u64, u32)]) -> bool {
@@ -18,4 +20,25 @@ fn has_peaks<F: Family>(nodes: u64, peaks: &[(u64, u32)]) -> bool {
         }
     }
     wanted.next().is_none()
+}
+
+/// Asserts how many of the oldest peaks of a leaf count have all their leaves below each floor.
+fn assert_inactive<F: Family>(rt: &impl Abort, leaves: u64, rows: &[(u64, usize)]) {
+    let leaves = Location::<F>::new(leaves);
+    assert!(rt; leaves.is_valid());
+    for (floor, count) in rows {
+        let found = F::inactive_peaks(leaves, Location::new(*floor));
+        assert_eq!(rt; found, *count, "{floor}");
+    }
+}
+
+/// Asserts the positions to pin where the leaves before a location are pruned.
+fn assert_pins<F: Family>(rt: &impl Abort, location: u64, positions: &[u64]) {
+    let location = Location::<F>::new(location);
+    assert!(rt; location.is_valid());
+    let mut wanted = positions.iter();
+    for position in F::nodes_to_pin(location) {
+        assert_eq!(rt; wanted.next().copied(), Some(position.as_u64()));
+    }
+    assert!(rt; wanted.next().is_none());
 }

@@ -1,6 +1,6 @@
 //! The Mountain Belt.
 
-use super::has_peaks;
+use super::{assert_inactive, assert_pins, has_peaks};
 use crate::mmb;
 use crate::mmb::PeakIterator;
 use merkle_base::error::Error;
@@ -215,4 +215,20 @@ fn children(rt: HostRuntime) {
     let (left, right) = mmb::Family::children(mmb::Position::new(5), 1);
     assert_eq!(rt; left.as_u64(), 3);
     assert_eq!(rt; right.as_u64(), 4);
+}
+
+#[test]
+fn inactive_peaks(rt: HostRuntime) {
+    let rows = [(0, 0), (3, 0), (4, 1), (5, 1), (6, 2), (8, 3)];
+    assert_inactive::<mmb::Family>(&rt, 8, &rows);
+    assert_inactive::<mmb::Family>(&rt, 0, &[(0, 0), (1, 0)]);
+    assert_inactive::<mmb::Family>(&rt, MAX_LEAVES, &[(MAX_LEAVES, 62), (u64::MAX, 62)]);
+}
+
+#[test]
+fn nodes_to_pin(rt: HostRuntime) {
+    assert_pins::<mmb::Family>(&rt, 0, &[]);
+    assert_pins::<mmb::Family>(&rt, 4, &[2, 5]);
+    assert_pins::<mmb::Family>(&rt, 5, &[7, 6]);
+    assert_pins::<mmb::Family>(&rt, 11, &[18, 16, 17]);
 }

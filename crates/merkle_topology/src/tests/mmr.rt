@@ -1,6 +1,6 @@
 //! The Mountain Range.
 
-use super::has_peaks;
+use super::{assert_inactive, assert_pins, has_peaks};
 use crate::mmr;
 use crate::mmr::PeakIterator;
 use merkle_base::error::Error;
@@ -121,4 +121,27 @@ fn children(rt: HostRuntime) {
     let (left, right) = mmr::Family::children(mmr::Position::new(6), 2);
     assert_eq!(rt; left.as_u64(), 2);
     assert_eq!(rt; right.as_u64(), 5);
+}
+
+#[test]
+fn inactive_peaks(rt: HostRuntime) {
+    let rows = [
+        (0, 0),
+        (7, 0),
+        (8, 1),
+        (9, 1),
+        (10, 2),
+        (11, 3),
+        (u64::MAX, 3),
+    ];
+    assert_inactive::<mmr::Family>(&rt, 11, &rows);
+    assert_inactive::<mmr::Family>(&rt, 0, &[(0, 0), (1, 0)]);
+    assert_inactive::<mmr::Family>(&rt, MAX_LEAVES, &[(MAX_LEAVES - 1, 0), (MAX_LEAVES, 1)]);
+}
+
+#[test]
+fn nodes_to_pin(rt: HostRuntime) {
+    assert_pins::<mmr::Family>(&rt, 0, &[]);
+    assert_pins::<mmr::Family>(&rt, 4, &[6]);
+    assert_pins::<mmr::Family>(&rt, 11, &[14, 17, 18]);
 }
