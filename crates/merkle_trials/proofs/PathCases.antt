@@ -4,6 +4,7 @@ use Rattle.merkle_base.specs.Tree.{Tree, leaf, join}
 use Rattle.merkle_base.specs.Forest.{forest}
 use Rattle.merkle_proof.specs.Path.{StandsOver}
 use Rattle.merkle_topology.specs.Mmr.{carries}
+use Rattle.merkle_topology.specs.Mmb.{newest_pair}
 use Rattle.merkle_trials.specs.Pairs.{pairing}
 
 abbrev six : Tree
@@ -42,3 +43,13 @@ pair_at = refl
 
 pub over_pair : StandsOver pairing 100 5 1 2 3
 over_pair = record { leaves = 4; node = second_pair; few = omega arith; stands = record { at = pair_at; height_is = refl; first_is = refl }; after = omega arith; before = omega arith }
+
+abbrev seven : Tree
+seven = join 7 (join 2 (leaf 0 0) (leaf 1 1)) (join 5 (leaf 3 2) (leaf 4 3))
+
+seven_at : slice_get (forest newest_pair 5).nodes 7 ≡ Some seven
+unfolding forest
+seven_at = refl
+
+pub over_seven : StandsOver newest_pair 4611686018427387934 7 2 0 3
+over_seven = record { leaves = 5; node = seven; few = omega arith; stands = record { at = seven_at; height_is = refl; first_is = refl }; after = omega arith; before = omega arith }

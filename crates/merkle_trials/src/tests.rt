@@ -5,6 +5,7 @@
 //! inactive peaks and the peaks.
 
 mod batches;
+mod belts;
 mod families;
 mod hashers;
 mod paths;

@@ -4,9 +4,9 @@ ghost use Rattle.std.specs.Prelude.{◌<◌};
 use crate::pairs;
 use merkle_core::family::Family;
 use merkle_core::location::Location;
-use merkle_core::mmr;
 use merkle_core::path::Iterator;
 use merkle_core::position::Position;
+use merkle_core::{mmb, mmr};
 use std::process::Abort;
 use std::test::Fail;
 
@@ -51,6 +51,14 @@ fn node_under_a_peak(rt: HostRuntime) {
     let (node, first, target) = (Position::new(13), Location::new(4), Location::new(6));
     let path = Iterator::<mmr::Family>::new(node, 2, first, target);
     assert_path(&rt, path, &[(13, 9, 2), (12, 11, 1)]);
+}
+
+// The Mountain Belt has the node 7 over its first four leaves once there are five.
+#[test]
+fn leaf_of_the_belt(rt: HostRuntime) {
+    let (node, first, target) = (Position::new(7), Location::new(0), Location::new(3));
+    let path = Iterator::<mmb::Family>::new(node, 2, first, target);
+    assert_path(&rt, path, &[(7, 2, 2), (5, 3, 1)]);
 }
 
 #[test]

@@ -85,7 +85,7 @@ fn assert_proved<F: Family, H: Hasher<F, Digest = Xor8Digest>>(
 }
 
 /// Asserts that each leaf of a structure with these elements is proved, for 0 inactive peaks and for 1.
-fn assert_all_proved<F: Family, H: Hasher<F, Digest = Xor8Digest>>(
+pub(super) fn assert_all_proved<F: Family, H: Hasher<F, Digest = Xor8Digest>>(
     rt: &impl Abort,
     structure: &Mem<F, Xor8Digest>,
     hasher: &H,
