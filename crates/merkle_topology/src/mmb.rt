@@ -276,7 +276,8 @@ impl family::Family for Family {
 
     fn peaks(nodes: Position) -> PeakIterator
         requires { IsSize newest_pair MAX_LEAVES nodes }
-        ensures { ArePeaks newest_pair MAX_LEAVES nodes result.left }
+        ensures leaves { size newest_pair result.leaves ≡ nodes }
+        ensures peaks { ArePeaks newest_pair MAX_LEAVES nodes result.left }
     {
         PeakIterator::new(nodes)
     }
