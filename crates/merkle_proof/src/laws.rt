@@ -79,7 +79,7 @@ pub fn outside_nodes()
     ensures { OutsideIsLayout }
 {}
 
-/// The other children on the path to a leaf are the nodes beside it that its proof needs, from the top down.
+/// The other children on the path to a leaf are the siblings that a proof of that leaf needs, from the top down.
 pub fn paths()
     ensures { PathHasSiblings }
 {}
