@@ -217,8 +217,8 @@ fn peak(leaves: u64, index: u32) -> (Position, u32)
     let digits = (leaves + 1) >> index;
     let height = index + (digits % 2) as u32;
     let end = (digits - 1) << index;
-    let first = end - (1 << height);
-    (Position::new(root_position(first, height)), height)
+    let position = root_position(end - (1 << height), height);
+    (Position::new(position), height)
 }
 
 impl family::Family for Family {
@@ -289,10 +289,9 @@ impl family::Family for Family {
         let birth = leaf_count_within(position.as_u64());
         let below = height - 1;
         let first = birth + 2 - (3 << below);
-        (
-            Position::new(root_position(first, below)),
-            Position::new(root_position(first + (1 << below), below)),
-        )
+        let left = root_position(first, below);
+        let right = root_position(first + (1 << below), below);
+        (Position::new(left), Position::new(right))
     }
 
     fn parent_heights(leaves: Location) -> ParentHeights

@@ -18,17 +18,17 @@ overflow_sub-end c = (mmb_peak c.args.leaves c.args.index (there c.args.leaves c
 pub overflow_shl-end : goal.overflow_shl-end
 overflow_shl-end c = omega (arith, (peak_fits c.args.leaves c.args.index c.requires.valid (there c.args.leaves c.args.index c.requires.there)).index)
 
-pub overflow_shl-first : goal.overflow_shl-first
-overflow_shl-first c = omega (arith, (peak_fits c.args.leaves c.args.index c.requires.valid (there c.args.leaves c.args.index c.requires.there)).height)
+pub overflow_shl-height : goal.overflow_shl-height
+overflow_shl-height c = omega (arith, (peak_fits c.args.leaves c.args.index c.requires.valid (there c.args.leaves c.args.index c.requires.there)).height)
 
-pub overflow_sub-first : goal.overflow_sub-first
-overflow_sub-first c =
+pub overflow_sub-end-2 : goal.overflow_sub-end-2
+overflow_sub-end-2 c =
     let low = there c.args.leaves c.args.index c.requires.there in
     let k = peak_fits c.args.leaves c.args.index c.requires.valid low in
     rw (k.end, k.width) (mmb_peak c.args.leaves c.args.index low).fits
 
-pub root_position-requires : goal.root_position-requires
-root_position-requires c =
+pub root_position-position-requires : goal.root_position-position-requires
+root_position-position-requires c =
     let low = there c.args.leaves c.args.index c.requires.there in
     let k = peak_fits c.args.leaves c.args.index c.requires.valid low in
     rw (k.end, k.width) (omega (arith, (mmb_peak c.args.leaves c.args.index low).birth, c.requires.valid))
@@ -37,7 +37,7 @@ pub returns : goal.returns
 returns c =
     let low = there c.args.leaves c.args.index c.requires.there in
     let k = peak_fits c.args.leaves c.args.index c.requires.valid low in
-    let same = rw (k.end, k.width) at c.root_position.ensures in
+    let same = rw (k.end, k.width) at c.root_position-position.ensures in
     let e : c.args.index + 1 ≡ suc c.args.index = omega arith in
     ap (λ (x : ℕ). newest_peaks x c.args.leaves) e ∙ (mmb_peak c.args.leaves c.args.index low).first
     ∙ ap (λ (p : ℕ). (p, peak_height c.args.leaves c.args.index) ∷ newest_peaks c.args.index c.args.leaves) (sym (c.new.ensures ∙ same))

@@ -26,8 +26,8 @@ overflow_sub-first c =
     let k = inner c.args.position c.args.height c.as_u64.result c.leaf_count_within-birth.result c.requires c.as_u64.ensures f.limit f.within f.greatest in
     rw k.three k.start
 
-pub root_position-requires : goal.root_position-requires
-root_position-requires c =
+pub root_position-left-requires : goal.root_position-left-requires
+root_position-left-requires c =
     let f = c.leaf_count_within-birth.ensures in
     let k = inner c.args.position c.args.height c.as_u64.result c.leaf_count_within-birth.result c.requires c.as_u64.ensures f.limit f.within f.greatest in
     rw k.three k.left_birth
@@ -37,8 +37,8 @@ overflow_shl-below c =
     let f = c.leaf_count_within-birth.ensures in
     omega (arith, (inner c.args.position c.args.height c.as_u64.result c.leaf_count_within-birth.result c.requires c.as_u64.ensures f.limit f.within f.greatest).low)
 
-pub root_position-requires-2 : goal.root_position-requires-2
-root_position-requires-2 c =
+pub root_position-right-requires : goal.root_position-right-requires
+root_position-right-requires c =
     let f = c.leaf_count_within-birth.ensures in
     let k = inner c.args.position c.args.height c.as_u64.result c.leaf_count_within-birth.result c.requires c.as_u64.ensures f.limit f.within f.greatest in
     rw (k.three, k.one) k.right_birth
@@ -48,6 +48,6 @@ returns c = λ n a b e.
     let f = c.leaf_count_within-birth.ensures in
     let k = inner c.args.position c.args.height c.as_u64.result c.leaf_count_within-birth.result c.requires c.as_u64.ensures f.limit f.within f.greatest in
     let r = k.children n a b e in
-    let left = rw k.three at c.root_position.ensures in
-    let right = rw (k.three, k.one) at c.root_position-2.ensures in
+    let left = rw k.three at c.root_position-left.ensures in
+    let right = rw (k.three, k.one) at c.root_position-right.ensures in
     (c.new.ensures ∙ left ∙ r.0, c.new-2.ensures ∙ right ∙ r.1)
