@@ -16,7 +16,7 @@ ghost use Rattle.merkle_core.specs.ProofRefusals.{IsProofRefusal};
 ghost use Rattle.merkle_base.specs.declared.family.Bagging.TheVariants.{ForwardFold};
 ghost use Rattle.merkle_proof.specs.Input.{setting};
 ghost use Rattle.merkle_proof.specs.Range.{IsHonestRange};
-ghost use Rattle.merkle_proof.specs.RangePlans.{IsBuildRefusal, list_input};
+ghost use Rattle.merkle_proof.specs.RangePlans.{IsBuildRefusal, IsBuiltProof, list_input};
 
 use crate::batch::{MerkleizedBatch, UnmerkleizedBatch};
 use merkle_base::digest::Digest;
@@ -147,6 +147,7 @@ impl<F: Family, D: Digest> Mem<F, D> {
         inactive: usize,
     ) -> Result<Proof<F, D>, Error<F>>
         requires forward { H.bagging_of hasher.now ≡ ForwardFold }
+        ensures built { IfOk result (λ p. IsBuiltProof (setting (H.hashing hasher.now) (H.bagging_of hasher.now) F.rule F.MAX_LEAVES F.DOMAIN) (node self.now) inactive plan p) }
         ensures honest { (X : List D) → length X ≡ plan.leaves → Agrees (H.hashing hasher.now) F.rule (contents self.now) X → IfOk result (λ p. IsHonestRange (setting (H.hashing hasher.now) (H.bagging_of hasher.now) F.rule F.MAX_LEAVES F.DOMAIN) X inactive (list_input p X plan.start plan.end)) }
         ensures err { IfErr result (λ e. e ≢ Error.OutOfMemory → IsBuildRefusal F.rule plan inactive (λ p r. r ≡ node self.now p) e) }
     {
@@ -166,6 +167,7 @@ impl<F: Family, D: Digest> Mem<F, D> {
         inactive: usize,
     ) -> Result<Proof<F, D>, Error<F>>
         requires forward { H.bagging_of hasher.now ≡ ForwardFold }
+        ensures built { (n : ℕ) → n ≤ F.MAX_LEAVES → size F.rule n ≡ self.now.size → IfOk result (λ p. location < n × IsBuiltProof (setting (H.hashing hasher.now) (H.bagging_of hasher.now) F.rule F.MAX_LEAVES F.DOMAIN) (node self.now) inactive (record { leaves = n; start = location; end = location + 1 }) p) }
 
         // It is the honest proof of every list that the structure agrees with.
         ensures honest { (X : List D) → Agrees (H.hashing hasher.now) F.rule (contents self.now) X → IfOk result (λ p. location < length X × IsHonestRange (setting (H.hashing hasher.now) (H.bagging_of hasher.now) F.rule F.MAX_LEAVES F.DOMAIN) X inactive (list_input p X location (location + 1))) }

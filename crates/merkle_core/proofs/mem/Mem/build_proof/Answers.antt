@@ -4,6 +4,9 @@ use Rattle.merkle_core.specs.Store.{node, contents}
 use Rattle.merkle_core.proofs.HonestReads.{answers_list, refused_by}
 use Rattle.merkle_core.proofs.mem.Mem.build_proof.Goals as goal
 
+pub returns-clause-built : goal.returns-clause-built
+returns-clause-built g c = c.build.ensures.built (node c.args.self.now) (λ p r answered. search rules)
+
 pub returns-clause-honest : goal.returns-clause-honest
 returns-clause-honest g c = λ X long agrees. c.build.ensures.honest X long (λ p t d at answered. answers_list (g.H.Hasher.hashing c.args.hasher.now) g.F.Family.rule (contents c.args.self.now) X agrees p t d at (search rules))
 

@@ -7,7 +7,7 @@ use Rattle.merkle_core.specs.Store.{node, contents}
 use Rattle.merkle_core.proofs.HonestReads.{is_memory, only_memory, one_leaf_planned}
 use Rattle.merkle_proof.specs.Input.{setting}
 use Rattle.merkle_proof.specs.Range.{IsHonestRange}
-use Rattle.merkle_proof.specs.RangePlans.{LeafRange, IsBuildRefusal, list_input}
+use Rattle.merkle_proof.specs.RangePlans.{LeafRange, IsBuildRefusal, IsBuiltProof, list_input}
 use Rattle.merkle_proof.proofs.Comparisons.{ge_yes, ge_no}
 use Rattle.merkle_core.proofs.mem.Mem.proof.Goals as goal
 
@@ -32,6 +32,15 @@ pub add-requires : goal.add-requires
 add-requires g c =
     let below : c.args.location < c.leaves-leaves.result = ge_no c.args.location c.leaves-leaves.result (sym c.ge.ensures ∙ c.if-ge.false) in
     omega (arith, below, c.leaves-leaves.ensures.bounded, lawful_leaves g.F.Family.rule g.F.Family.MAX_LEAVES g.F.Family.MAX_NODES g.met.F.Family.lawful)
+
+pub returns-in-Ok-clause-built : goal.returns-in-Ok-clause-built
+returns-in-Ok-clause-built g c = λ n within sized.
+    let s = setting (g.H.Hasher.hashing c.args.hasher.now) (g.H.Hasher.bagging_of c.args.hasher.now) g.F.Family.rule g.F.Family.MAX_LEAVES g.F.Family.DOMAIN in
+    let below : c.args.location < c.leaves-leaves.result = ge_no c.args.location c.leaves-leaves.result (sym c.ge.ensures ∙ c.if-ge.false) in
+    let leaves : c.leaves-leaves.result ≡ n = size_inj g.F.Family.rule c.leaves-leaves.result n (c.leaves-leaves.ensures.sized ∙ sym sized) in
+    let plan : c.in-Ok.plan ≡ record { leaves = n; start = c.args.location; end = c.args.location + 1 } =
+    c.in-Ok.ensures.ok ∙ ap (λ e. record { leaves = c.leaves-leaves.result; start = c.args.location; end = e }) c.add.ensures ∙ ap (λ m. record { leaves = m; start = c.args.location; end = c.args.location + 1 }) leaves in
+    IfOk-weaker c.build_proof.result _ _ (λ p built. (omega (arith, below, leaves), subst (λ (r : LeafRange). IsBuiltProof s (node c.args.self.now) c.args.inactive r p) plan built)) c.build_proof.ensures.built
 
 pub returns-in-Ok-clause-honest : goal.returns-in-Ok-clause-honest
 returns-in-Ok-clause-honest g c = λ X agrees.
