@@ -4,6 +4,7 @@ pub mod Heights
 pub mod Laws
 pub mod Held
 pub mod Places
+pub mod Grafting
 pub mod Bytes
 pub mod DigestLaws
 pub mod Bagging

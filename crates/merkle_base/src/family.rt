@@ -3,6 +3,8 @@ ghost use Rattle.std.specs.Prelude.{◌≡◌, ◌≢◌, ◌<◌, ◌≤◌, �
 ghost use Rattle.merkle_base.specs.Bagging.{bagging_byte};
 ghost use Rattle.merkle_base.specs.Forest.{size};
 ghost use Rattle.merkle_base.specs.Heights.{IsLawful, parent_heights};
+ghost use Rattle.merkle_base.specs.Grafting.{HasChunk, AreChunkPeaks, IsNode, IsBirthSize, AreCoordinates};
+ghost use Rattle.merkle_base.specs.Tree.{Tree, first_leaf};
 ghost use Rattle.merkle_base.specs.Places.{IsSize, IsNearestSize, ArePeaks, HasInner, AreChildren, IsHeightAt, inactive_peaks, peak_positions};
 
 use crate::listed::Listed;
@@ -123,6 +125,61 @@ pub trait Family: Copy + Debug + Default {
         ensures { IsHeightAt rule position result };
 
     ghost lawful: { IsLawful rule MAX_LEAVES MAX_NODES };
+}
+
+/// A family whose nodes are told by a height and a first leaf, so that other structures can be grafted on their roots.
+///
+/// A node of height h is over 2^h leaves, from a multiple of 2^h on. Chunk number i of a grafting height g is the 2^g
+/// leaves from i * 2^g on.
+pub trait Graftable: Family {
+    /// The maximal nodes inside a chunk with their heights, left to right.
+    type ChunkPeaks: Iterator<Item = (Position<Self>, u32)> + Listed;
+
+    // by formula, from the first leaf and the height: a node's position, and the least leaf count that has it
+    ghost root: { ℕ → ℕ → ℕ };
+
+    ghost birth: { ℕ → ℕ → ℕ };
+
+    /// The maximal nodes whose leaves all lie in a chunk, with their heights, left to right.
+    ///
+    /// The node count is a valid size, of at least as many leaves as the chunk ends at.
+    fn chunk_peaks(nodes: Position<Self>, chunk_idx: u64, grafting_height: u32) -> Self::ChunkPeaks
+        requires { HasChunk Self.rule Self.MAX_LEAVES nodes chunk_idx grafting_height }
+        ensures { AreChunkPeaks Self.rule Self.MAX_LEAVES nodes chunk_idx grafting_height (Self.ChunkPeaks.left result) };
+
+    /// The position of the node of a height over the leaves from a location on.
+    ///
+    /// The height is at most 62, and the position at most [`MAX_NODES`](Family::MAX_NODES). Where the location isn't a
+    /// multiple of 2^height, or no leaf count has the node, the answer is the formula's, and stands for no node.
+    fn subtree_root_position(leaf_start: Location<Self>, height: u32) -> Position<Self>
+        requires low { height ≤ 62 }
+        requires within { root leaf_start height ≤ Self.MAX_NODES }
+        ensures formula { result ≡ root leaf_start height }
+        ensures node { (p : ℕ) (t : Tree) → IsNode Self.rule Self.MAX_LEAVES p height t → first_leaf t ≡ leaf_start → result ≡ p };
+
+    /// The first leaf of the node of a height at a position.
+    ///
+    /// The position is what [`subtree_root_position`](Graftable::subtree_root_position) answers for some location and
+    /// the height.
+    fn leftmost_leaf(position: Position<Self>, height: u32) -> Location<Self>
+        requires low { height ≤ 62 }
+        requires within { position ≤ Self.MAX_NODES }
+        requires some { (s : ℕ) × (root s height ≡ position) }
+        ensures formula { root result height ≡ position }
+        ensures node { (t : Tree) → IsNode Self.rule Self.MAX_LEAVES position height t → result ≡ first_leaf t };
+
+    /// The least leaf count that has the node of a height at a position.
+    ///
+    /// The position is what [`subtree_root_position`](Graftable::subtree_root_position) answers for some location and
+    /// the height.
+    fn peak_birth_size(position: Position<Self>, height: u32) -> u64
+        requires low { height ≤ 62 }
+        requires within { position ≤ Self.MAX_NODES }
+        requires some { (s : ℕ) × (root s height ≡ position) }
+        ensures formula { (s : ℕ) → root s height ≡ position → result ≡ birth s height }
+        ensures node { (t : Tree) → IsNode Self.rule Self.MAX_LEAVES position height t → IsBirthSize Self.rule position result };
+
+    ghost coordinates: { AreCoordinates Self.rule Self.MAX_LEAVES root birth };
 }
 
 // How many of the oldest peaks of a leaf count have all their leaves below a floor.
