@@ -10,7 +10,7 @@ use Rattle.std.proofs.lemmas.Bool.Decides.{nat_tests}
 use Rattle.std.specs.Cmp.{nat_cmp_total}
 use Rattle.std.specs.FinMap.{get, get-from_entries, get-empty, find}
 use Rattle.merkle_base.specs.Forest.{forest}
-use Rattle.merkle_topology.specs.Mmr.{carries}
+use Rattle.merkle_forests.specs.Mmr.{carries}
 use Rattle.merkle_core.specs.Stands.{edited, is_touched, IsStep, StandsOn}
 use Rattle.merkle_base.specs.Digests.{digest_at}
 use Rattle.merkle_core.specs.Contents.{pruned}

@@ -22,7 +22,7 @@ ghost use Rattle.merkle_core.specs.Collision.{Collide};
 ghost use Rattle.std.specs.List.{range_with_len};
 ghost use Rattle.merkle_base.specs.Root.{list_root};
 ghost use Rattle.merkle_base.specs.declared.family.Bagging.TheVariants.{ForwardFold, BackwardFold};
-ghost use Rattle.merkle_topology.specs.Mmr.{carries};
+ghost use Rattle.merkle_forests.specs.Mmr.{carries};
 ghost use Rattle.merkle_core.specs.Rows.{xor, first_record, second_record, second_batch, nothing, at_two, five, change};
 ghost use Rattle.merkle_core.specs.Replay.{refusal, AncestorDropped, StaleBatch};
 

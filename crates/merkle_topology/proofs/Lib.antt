@@ -1,8 +1,3 @@
-pub mod Digits
-pub mod OddMultiples
-pub mod MountainRange
-pub mod MountainBelt
-pub mod Existence
 pub mod BeltPeaks
 pub mod Perfect
 pub mod LeafCounts

@@ -1,10 +1,8 @@
-//! The families: merge rules with closed formulas.
+//! The families: merge rules with closed formulas, as code.
 //!
-//! `specs/` has the rules, and the words that the laws of a family need. The module [`laws`] states what holds of their
-//! forests.
+//! The rules and the theory of their forests stand in the crate below.
 #![tactic(auto)]
 
-pub mod laws;
 pub mod mmb;
 pub mod mmr;
 #[cfg(test)]

@@ -8,8 +8,9 @@ ghost use Rattle.std.specs.Option.{option_to_list};
 ghost use Rattle.merkle_base.specs.Forest.{size};
 ghost use Rattle.merkle_base.specs.Heights.{parent_heights};
 ghost use Rattle.merkle_base.specs.Places.{IsSize, IsNearestSize, ArePeaks, HasInner, AreChildren, IsHeightAt};
-ghost use Rattle.merkle_topology.specs.Mmb.{newest_pair, birth_leaf, root_position, newest_peaks, PeaksLeft};
-ghost use Rattle.merkle_topology.specs.BeltLawful.{mmb_lawful};
+ghost use Rattle.merkle_forests.specs.Mmb.{newest_pair, birth_leaf, root_position, newest_peaks};
+ghost use Rattle.merkle_topology.specs.BeltIterators.{PeaksLeft};
+ghost use Rattle.merkle_forests.proofs.BeltLawful.{mmb_lawful};
 
 use merkle_base::listed::Listed;
 use merkle_base::{error, family, location, position};

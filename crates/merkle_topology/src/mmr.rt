@@ -8,9 +8,9 @@ ghost use Rattle.std.specs.List.{range_with_len};
 ghost use Rattle.merkle_base.specs.Forest.{size};
 ghost use Rattle.merkle_base.specs.Heights.{parent_heights};
 ghost use Rattle.merkle_base.specs.Places.{IsSize, IsNearestSize, ArePeaks, HasInner, AreChildren, IsHeightAt};
-ghost use Rattle.merkle_topology.specs.Mmr.{carries};
+ghost use Rattle.merkle_forests.specs.Mmr.{carries};
 ghost use Rattle.merkle_topology.specs.Perfect.{trees_from};
-ghost use Rattle.merkle_topology.specs.RangeLawful.{mmr_lawful};
+ghost use Rattle.merkle_forests.proofs.RangeLawful.{mmr_lawful};
 
 use merkle_base::listed::Listed;
 use merkle_base::{error, family, location, position};

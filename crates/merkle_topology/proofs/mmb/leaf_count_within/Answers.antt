@@ -1,8 +1,8 @@
 use Rattle.std.proofs.Common.{arith}
 use Rattle.merkle_base.proofs.Nodes.{size_step}
 use Rattle.merkle_base.proofs.Lookup.{size_zero}
-use Rattle.merkle_topology.specs.Mmb.{newest_pair}
-use Rattle.merkle_topology.specs.BeltLawful.{mmb_lawful}
+use Rattle.merkle_forests.specs.Mmb.{newest_pair}
+use Rattle.merkle_forests.proofs.BeltLawful.{mmb_lawful}
 use Rattle.merkle_topology.proofs.mmb.leaf_count_within.Goals as goal
 
 pub loop-low-init : goal.loop-low-init

@@ -1,7 +1,7 @@
 use Rattle.std.proofs.Common.{◌+◌, ◌*◌, ◌-◌, ◌^◌, arith, pow_pos}
 use Rattle.merkle_base.proofs.Nodes.{size_le}
-use Rattle.merkle_topology.specs.Mmb.{newest_pair}
-use Rattle.merkle_topology.specs.BeltLawful.{mmb_lawful}
+use Rattle.merkle_forests.specs.Mmb.{newest_pair}
+use Rattle.merkle_forests.proofs.BeltLawful.{mmb_lawful}
 use Rattle.merkle_topology.proofs.BeltNodes.{root_inner}
 use Rattle.merkle_topology.proofs.mmb.root_position.Goals as goal
 

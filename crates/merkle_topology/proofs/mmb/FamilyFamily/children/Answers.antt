@@ -2,8 +2,8 @@ use Rattle.std.proofs.Common.{◌≡◌, ◌<◌, ◌≤◌, ◌+◌, ℕ, arith
 use Rattle.merkle_base.specs.Forest.{size}
 use Rattle.merkle_base.specs.Places.{HasInner}
 use Rattle.merkle_base.proofs.Limits.{lawful_position}
-use Rattle.merkle_topology.specs.Mmb.{newest_pair}
-use Rattle.merkle_topology.specs.BeltLawful.{mmb_lawful}
+use Rattle.merkle_forests.specs.Mmb.{newest_pair}
+use Rattle.merkle_forests.proofs.BeltLawful.{mmb_lawful}
 use Rattle.merkle_topology.proofs.BeltNodes.{mmb_inner, IsInner}
 use Rattle.merkle_topology.proofs.mmb.FamilyFamily.children.Goals as goal
 

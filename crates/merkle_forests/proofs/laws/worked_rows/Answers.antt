@@ -1,7 +1,7 @@
 use Rattle.std.proofs.Common.{refl}
 use Rattle.merkle_base.specs.Forest.{forest}
 use Rattle.merkle_base.specs.Heights.{peak_heights}
-use Rattle.merkle_topology.proofs.laws.worked_rows.Goals as goal
+use Rattle.merkle_forests.proofs.laws.worked_rows.Goals as goal
 
 pub returns : goal.returns
 unfolding forest peak_heights

@@ -5,9 +5,9 @@ use Rattle.std.proofs.lemmas.Bool.Decides.{eqb_tells}
 use Rattle.merkle_base.specs.Tree.{Tree, leaf, join, position, height, first_leaf, width, IsUnder, IsBuilt, IsBalanced}
 use Rattle.merkle_base.specs.Forest.{Forest, planted, joined, joined_peaks, merged, all_merged, forest, size, Covers, IsUnderOne}
 use Rattle.merkle_base.specs.Heights.{EqualAt, AreEqualMerges, born_heights, peak_heights, parent_heights, MergesEqual, weight}
-use Rattle.merkle_topology.specs.Mmr.{carries, carries_from, AscendsFrom, IsPostorder, Stacked, IsBornAt}
-use Rattle.merkle_topology.specs.Digits.{EndsInOnes}
-use Rattle.merkle_topology.specs.RangeLawful.{carries_equal, mmr_ascends, mmr_weight, ascends_multiple}
+use Rattle.merkle_forests.specs.Mmr.{carries, carries_from, AscendsFrom, IsPostorder, Stacked, IsBornAt}
+use Rattle.merkle_forests.specs.Digits.{EndsInOnes}
+use Rattle.merkle_forests.proofs.RangeLawful.{carries_equal, mmr_ascends, mmr_weight, ascends_multiple}
 use Rattle.merkle_base.proofs.Growth.{forest_grown, grown_planted}
 use Rattle.merkle_base.proofs.Lists.{get_below}
 use Rattle.merkle_base.proofs.Balance.{heights_forest, heights_joined, peaks_balanced, covers_weight}

@@ -9,8 +9,8 @@ ghost use Rattle.merkle_base.specs.Tree.{Tree, join, position, height, first_lea
 ghost use Rattle.merkle_base.specs.Forest.{forest, size};
 ghost use Rattle.merkle_base.specs.Heights.{IsLawful, peak_heights, parent_heights};
 ghost use Rattle.merkle_base.specs.Places.{placed, peaks_of};
-ghost use Rattle.merkle_topology.specs.Mmr.{carries, AscendsFrom, IsPostorder};
-ghost use Rattle.merkle_topology.specs.Mmb.{newest_pair, birth_leaf, root_position};
+ghost use Rattle.merkle_forests.specs.Mmr.{carries, AscendsFrom, IsPostorder};
+ghost use Rattle.merkle_forests.specs.Mmb.{newest_pair, birth_leaf, root_position};
 
 /// The Mountain Range: its merges are lawful, and its counts and places have formulas.
 pub fn mountain_range()

@@ -2,7 +2,7 @@
 use Rattle.std.proofs.Common.{◌≡◌, ℕ, ◌+◌, ◌*◌, ◌^◌, ◌-◌, ◌<◌, ◌⊎◌, inl, inr, arith, ap, ◌∙◌, pow_pos, w64}
 use Rattle.std.specs.Int.{bit_at, trailing_ones}
 use Rattle.std.proofs.lemmas.Nat.Bits.{bit_at_lowest, bit_at_cat_low, bit_at_cat_high, bit_at_ones, bit_at-trailing_ones}
-use Rattle.merkle_topology.specs.Digits.{EndsInOnes}
+use Rattle.merkle_forests.specs.Digits.{EndsInOnes}
 
 ends_split : (t n : ℕ) → (e : EndsInOnes t n) → n ≡ 2 * e.0 * 2 ^ t + (2 ^ t - 1)
 ends_split t n e = omega (arith, e.1, pow_pos t)

@@ -2,13 +2,13 @@ use Rattle.std.proofs.Common.{◌≡◌, ℕ, ◌+◌, ◌^◌, ◌<◌, ◌≤�
 use Rattle.merkle_base.specs.Forest.{size}
 use Rattle.merkle_base.specs.Tree.{height, first_leaf}
 use Rattle.merkle_base.specs.Heights.{peak_heights}
-use Rattle.merkle_topology.specs.Mmb.{newest_pair, birth_leaf}
-use Rattle.merkle_topology.specs.BeltLawful.{mmb_lawful, mmb_size, mmb_peak_count}
+use Rattle.merkle_forests.specs.Mmb.{newest_pair, birth_leaf}
+use Rattle.merkle_forests.proofs.BeltLawful.{mmb_lawful, mmb_size, mmb_peak_count}
 use Rattle.merkle_base.proofs.Nodes.{node_anywhere}
-use Rattle.merkle_topology.proofs.Digits.{ends_trailing}
-use Rattle.merkle_topology.proofs.Existence.{mmb_exists}
-use Rattle.merkle_topology.proofs.MountainBelt.{mmb_parents, mmb_peak_height, mmb_older, mmb_placed, mmb_children, size_root}
-use Rattle.merkle_topology.proofs.laws.mountain_belt.Goals as goal
+use Rattle.merkle_forests.proofs.Digits.{ends_trailing}
+use Rattle.merkle_forests.proofs.Existence.{mmb_exists}
+use Rattle.merkle_forests.proofs.MountainBelt.{mmb_parents, mmb_peak_height, mmb_older, mmb_placed, mmb_children, size_root}
+use Rattle.merkle_forests.proofs.laws.mountain_belt.Goals as goal
 
 pub returns : goal.returns
 returns c = record {

@@ -5,16 +5,16 @@ use Rattle.std.proofs.lemmas.Nat.Bits.{bit_at-suc, bit_at_lowest, bit_at-lt}
 use Rattle.merkle_base.specs.Tree.{Tree, leaf, join, position, height, first_leaf, IsBalanced}
 use Rattle.merkle_base.specs.Forest.{Forest, planted, joined, all_merged, forest, size}
 use Rattle.merkle_base.specs.Heights.{EqualAt, raised, AreEqualMerges, born_heights, peak_heights, parent_heights, MergesEqual, weight}
-use Rattle.merkle_topology.specs.Mmb.{newest_pair, pair_from, birth_leaf, root_position}
-use Rattle.merkle_topology.specs.BeltDigits.{digits_after, value, spread}
-use Rattle.merkle_topology.specs.Digits.{EndsInOnes}
-use Rattle.merkle_topology.specs.BeltLawful.{pair_equal, eqb_same, eqb_suc, mmb_heights, digits_value, value_low, length-spread}
+use Rattle.merkle_forests.specs.Mmb.{newest_pair, pair_from, birth_leaf, root_position}
+use Rattle.merkle_forests.specs.BeltDigits.{digits_after, value, spread}
+use Rattle.merkle_forests.specs.Digits.{EndsInOnes}
+use Rattle.merkle_forests.proofs.BeltLawful.{pair_equal, eqb_same, eqb_suc, mmb_heights, digits_value, value_low, length-spread}
 use Rattle.merkle_base.proofs.Growth.{forest_grown, grown_planted, built_at}
 use Rattle.merkle_base.proofs.Lists.{get_push_cases, get_below}
 use Rattle.merkle_base.proofs.Balance.{heights_forest, peaks_balanced, node_balanced, balanced_count}
 use Rattle.merkle_base.proofs.Births.{joined_born}
 use Rattle.merkle_base.proofs.Nodes.{no_node, node_built, size_le}
-use Rattle.merkle_topology.proofs.OddMultiples.{odd_no_power}
+use Rattle.merkle_forests.proofs.OddMultiples.{odd_no_power}
 
 -- ---- the peaks' heights
 -- peak i from the newest has height i, and one more where bit i of n + 1 is set

@@ -2,14 +2,14 @@ use Rattle.std.proofs.Common.{◌≡◌, ℕ, ◌+◌, ◌^◌, ◌<◌, suc, ap
 use Rattle.std.specs.List.{range_with_len}
 use Rattle.merkle_base.specs.Forest.{size}
 use Rattle.merkle_base.specs.Tree.{height, first_leaf, width}
-use Rattle.merkle_topology.specs.Mmr.{carries}
+use Rattle.merkle_forests.specs.Mmr.{carries}
 use Rattle.merkle_base.proofs.Nodes.{node_anywhere}
 use Rattle.merkle_base.proofs.Balance.{node_balanced, balanced_count}
-use Rattle.merkle_topology.proofs.Digits.{ends_trailing}
-use Rattle.merkle_topology.proofs.Existence.{mmr_exists}
-use Rattle.merkle_topology.specs.RangeLawful.{mmr_lawful, mmr_size, mmr_peak_count, mmr_ascends}
-use Rattle.merkle_topology.proofs.MountainRange.{mmr_parents, mmr_children, mmr_position, mmr_born, mmr_equal}
-use Rattle.merkle_topology.proofs.laws.mountain_range.Goals as goal
+use Rattle.merkle_forests.proofs.Digits.{ends_trailing}
+use Rattle.merkle_forests.proofs.Existence.{mmr_exists}
+use Rattle.merkle_forests.proofs.RangeLawful.{mmr_lawful, mmr_size, mmr_peak_count, mmr_ascends}
+use Rattle.merkle_forests.proofs.MountainRange.{mmr_parents, mmr_children, mmr_position, mmr_born, mmr_equal}
+use Rattle.merkle_forests.proofs.laws.mountain_range.Goals as goal
 
 pub returns : goal.returns
 returns c = record {

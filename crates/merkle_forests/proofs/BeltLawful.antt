@@ -6,8 +6,8 @@ use Rattle.merkle_base.specs.Forest.{size}
 use Rattle.merkle_base.specs.Heights.{raised, all_raised, AreEqualMerges, peak_heights, IsLawful}
 use Rattle.merkle_base.proofs.Births.{size_peaks}
 use Rattle.merkle_base.proofs.Limits.{log_below}
-use Rattle.merkle_topology.specs.Mmb.{newest_pair, pair_from}
-use Rattle.merkle_topology.specs.BeltDigits.{increment, digits_after, value, spread}
+use Rattle.merkle_forests.specs.Mmb.{newest_pair, pair_from}
+use Rattle.merkle_forests.specs.BeltDigits.{increment, digits_after, value, spread}
 
 -- ---- the merges of the rule
 equal_merges_suc : (is : List ℕ) (h : ℕ) (hs : List ℕ) → AreEqualMerges is hs → AreEqualMerges (map suc is) (h ∷ hs)

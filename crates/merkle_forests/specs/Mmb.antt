@@ -26,8 +26,3 @@ root_position s (suc h) = size newest_pair (s + 3 * 2 ^ h - 2) + 1
 -- the newest so many peaks of n leaves with their heights, oldest first
 abbrev pub newest_peaks : (count n : ℕ) → List (ℕ × ℕ)
 newest_peaks count n = map placed (reverse (take count (forest newest_pair n).peaks))
-
--- What an iterator over the peaks of some leaves shows: how many leaves there are, and the peaks that are left.
-pub record PeaksLeft : Type 0 where
-  pub leaves : ℕ
-  pub left : List (ℕ × ℕ)

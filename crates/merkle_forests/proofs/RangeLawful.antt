@@ -6,7 +6,7 @@ use Rattle.std.proofs.lemmas.Bool.Decides.{eqb_tells}
 use Rattle.merkle_base.specs.Forest.{size}
 use Rattle.merkle_base.specs.Heights.{EqualAt, raised, all_raised, AreEqualMerges, peak_heights, IsLawful, weight}
 use Rattle.merkle_base.proofs.Births.{size_peaks}
-use Rattle.merkle_topology.specs.Mmr.{carries, carries_from, AscendsFrom}
+use Rattle.merkle_forests.specs.Mmr.{carries, carries_from, AscendsFrom}
 
 -- ---- the merges of the rule
 -- each merge is of two equal peaks

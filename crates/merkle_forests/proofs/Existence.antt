@@ -4,16 +4,16 @@ use Rattle.std.proofs.lemmas.List.{length-map}
 use Rattle.std.proofs.lemmas.List.FromFn.{get_or-range_with_len, length-range_with_len}
 use Rattle.merkle_base.specs.Tree.{Tree, leaf, height, first_leaf, width}
 use Rattle.merkle_base.specs.Forest.{forest, size}
-use Rattle.merkle_topology.specs.Mmr.{carries}
-use Rattle.merkle_topology.specs.Mmb.{newest_pair, root_position, birth_leaf}
+use Rattle.merkle_forests.specs.Mmr.{carries}
+use Rattle.merkle_forests.specs.Mmb.{newest_pair, root_position, birth_leaf}
 use Rattle.merkle_base.proofs.Lists.{get_below}
 use Rattle.merkle_base.proofs.Nodes.{node_stays, leaf_here, size_le, size_inj}
 use Rattle.merkle_base.proofs.Balance.{balanced_count, node_balanced}
 use Rattle.merkle_base.proofs.Births.{forest_born}
 use Rattle.merkle_base.proofs.Lookup.{get_append_add, index_map}
-use Rattle.merkle_topology.proofs.MountainRange.{mmr_equal, mmr_parents, mmr_born}
-use Rattle.merkle_topology.proofs.MountainBelt.{mmb_equal, mmb_parents, mmb_placed}
-use Rattle.merkle_topology.proofs.OddMultiples.{odd_below, odd_no_power}
+use Rattle.merkle_forests.proofs.MountainRange.{mmr_equal, mmr_parents, mmr_born}
+use Rattle.merkle_forests.proofs.MountainBelt.{mmb_equal, mmb_parents, mmb_placed}
+use Rattle.merkle_forests.proofs.OddMultiples.{odd_below, odd_no_power}
 
 pub get_exists : (ts : List Tree) (j : ℕ) → j < length ts → (t : Tree) × (slice_get ts j ≡ Some t)
 get_exists [] j l = absurd (omega arith)

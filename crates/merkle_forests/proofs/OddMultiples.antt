@@ -2,7 +2,7 @@
 use Rattle.std.proofs.Common.{◌≡◌, ◌≢◌, ℕ, suc, ◌+◌, ◌*◌, ◌^◌, ◌-◌, ◌<◌, ◌≤◌, ◌⊎◌, arith, sym, ap, inl, inr, ◌∙◌, pow-suc, pow_pos, pow_mono, mul-le-mul_right, le_of_mul-le-mul_right, le_antisymm, le_of_eq}
 use Rattle.std.specs.Int.RustNames.{count_ones}
 use Rattle.std.proofs.lemmas.Nat.{ones_cat, zero_from_ones}
-use Rattle.merkle_topology.specs.RangeLawful.{pow_split, ones_shift, ones_pow}
+use Rattle.merkle_forests.proofs.RangeLawful.{pow_split, ones_shift, ones_pow}
 
 either : (a b : ℕ) → (a ≤ b) ⊎ (b < a)
 either a b = grind arith

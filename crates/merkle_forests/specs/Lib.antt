@@ -1,0 +1,4 @@
+pub mod Digits
+pub mod Mmr
+pub mod Mmb
+pub mod BeltDigits
