@@ -5,3 +5,4 @@ pub mod BeltLawful
 pub mod MountainRange
 pub mod MountainBelt
 pub mod Existence
+pub mod Coordinates

@@ -23,6 +23,10 @@ abbrev pub root_position : (s h : ℕ) → ℕ
 root_position s zero = size newest_pair s
 root_position s (suc h) = size newest_pair (s + 3 * 2 ^ h - 2) + 1
 
+-- the least leaf count that has it
+abbrev pub belt_birth : (s h : ℕ) → ℕ
+belt_birth s h = birth_leaf s h + 1
+
 -- the newest so many peaks of n leaves with their heights, oldest first
 abbrev pub newest_peaks : (count n : ℕ) → List (ℕ × ℕ)
 newest_peaks count n = map placed (reverse (take count (forest newest_pair n).peaks))

@@ -1,5 +1,6 @@
 -- The Merkle Mountain Range.
-use Rattle.std.specs.Prelude.{◌≡◌, ℕ, suc, ◌+◌, ◌*◌, ◌≤◌, ◌^◌, cond, eqb, List, [], ◌∷◌}
+use Rattle.std.specs.Prelude.{◌≡◌, ℕ, suc, ◌+◌, ◌-◌, ◌*◌, ◌≤◌, ◌^◌, cond, eqb, List, [], ◌∷◌}
+use Rattle.merkle_base.specs.Forest.{size}
 use Rattle.merkle_base.specs.Tree.{Tree, leaf, join, position, height, first_leaf, width}
 
 -- the merges where the newest peak has height h and hs are the heights of the older ones
@@ -30,3 +31,11 @@ Stacked s (t ∷ ts) = (position t + 1 ≡ s) × IsPostorder t × ((r : ℕ) × 
 -- a tree over leaves up to n, from a multiple of its own number of leaves on
 abbrev pub IsBornAt : ℕ → Tree → Type 0
 IsBornAt n t = (first_leaf t + width t ≡ n) × ((a : ℕ) × (first_leaf t ≡ a * 2 ^ height t))
+
+-- the position of the node of height h over the leaves from s on
+abbrev pub range_root : (s h : ℕ) → ℕ
+range_root s h = size carries s + 2 ^ (h + 1) - 2
+
+-- the least leaf count that has it
+abbrev pub range_birth : (s h : ℕ) → ℕ
+range_birth s h = s + 2 ^ h

@@ -9,8 +9,9 @@ ghost use Rattle.merkle_base.specs.Tree.{Tree, join, position, height, first_lea
 ghost use Rattle.merkle_base.specs.Forest.{forest, size};
 ghost use Rattle.merkle_base.specs.Heights.{IsLawful, peak_heights, parent_heights};
 ghost use Rattle.merkle_base.specs.Places.{placed, peaks_of};
-ghost use Rattle.merkle_forests.specs.Mmr.{carries, AscendsFrom, IsPostorder};
-ghost use Rattle.merkle_forests.specs.Mmb.{newest_pair, birth_leaf, root_position};
+ghost use Rattle.merkle_base.specs.Grafting.{AreCoordinates};
+ghost use Rattle.merkle_forests.specs.Mmr.{carries, AscendsFrom, IsPostorder, range_root, range_birth};
+ghost use Rattle.merkle_forests.specs.Mmb.{newest_pair, birth_leaf, root_position, belt_birth};
 
 /// The Mountain Range: its merges are lawful, and its counts and places have formulas.
 pub fn mountain_range()
@@ -32,6 +33,7 @@ pub fn mountain_range()
 
     // Over each stretch of 2 ^ h leaves from a multiple of 2 ^ h on stands a node.
     ensures range_has { (n s a h : ℕ) → s ≡ a * 2 ^ h → s + 2 ^ h ≤ n → (p : ℕ) × (t : Tree) × (slice_get (forest carries n).nodes p ≡ Some t) × (first_leaf t ≡ s) × (height t ≡ h) }
+    ensures coordinates { AreCoordinates carries (2 ^ 62) range_root range_birth }
 {}
 
 /// The Mountain Belt: its merge is lawful, and its counts and places have formulas.
@@ -63,6 +65,7 @@ pub fn mountain_belt()
 
     // Over each stretch of 2 ^ h leaves from a multiple of 2 ^ h on stands a node, once its birth leaf is there.
     ensures belt_has { (n s a h : ℕ) → s ≡ a * 2 ^ h → birth_leaf s h < n → (p : ℕ) × (t : Tree) × (slice_get (forest newest_pair n).nodes p ≡ Some t) × (first_leaf t ≡ s) × (height t ≡ h) }
+    ensures coordinates { AreCoordinates newest_pair (2 ^ 62 + 30) root_position belt_birth }
 {}
 
 /// The definitions on small numbers, by computing.

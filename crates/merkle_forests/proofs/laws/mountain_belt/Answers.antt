@@ -8,6 +8,7 @@ use Rattle.merkle_base.proofs.Nodes.{node_anywhere}
 use Rattle.merkle_forests.proofs.Digits.{ends_trailing}
 use Rattle.merkle_forests.proofs.Existence.{mmb_exists}
 use Rattle.merkle_forests.proofs.MountainBelt.{mmb_parents, mmb_peak_height, mmb_older, mmb_placed, mmb_children, size_root}
+use Rattle.merkle_forests.proofs.Coordinates.{mmb_coordinates}
 use Rattle.merkle_forests.proofs.laws.mountain_belt.Goals as goal
 
 pub returns : goal.returns
@@ -33,4 +34,5 @@ returns c = record {
       ));
   aligned = λ n p t e. (mmb_placed n p t e).aligned;
   belt_has = mmb_exists;
+  coordinates = mmb_coordinates;
 }

@@ -9,6 +9,7 @@ use Rattle.merkle_forests.proofs.Digits.{ends_trailing}
 use Rattle.merkle_forests.proofs.Existence.{mmr_exists}
 use Rattle.merkle_forests.proofs.RangeLawful.{mmr_lawful, mmr_size, mmr_peak_count, mmr_ascends}
 use Rattle.merkle_forests.proofs.MountainRange.{mmr_parents, mmr_children, mmr_position, mmr_born, mmr_equal}
+use Rattle.merkle_forests.proofs.Coordinates.{mmr_coordinates}
 use Rattle.merkle_forests.proofs.laws.mountain_range.Goals as goal
 
 pub returns : goal.returns
@@ -27,4 +28,5 @@ returns c = record {
       ));
   aligned = λ n p t e. (mmr_born n p t e).aligned;
   range_has = mmr_exists;
+  coordinates = mmr_coordinates;
 }
