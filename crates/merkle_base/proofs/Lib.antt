@@ -10,3 +10,4 @@ pub mod Paths
 pub mod Limits
 pub mod Parents
 pub mod PeakLists
+pub mod Chunks

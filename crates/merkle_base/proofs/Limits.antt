@@ -7,7 +7,7 @@ use Rattle.merkle_base.proofs.Lists.{get_below}
 use Rattle.merkle_base.proofs.Nodes.{size_le}
 use Rattle.merkle_base.proofs.Lookup.{height_bound, size_large}
 
-le_or_lt : (a b : ℕ) → (b ≤ a) ⊎ (a < b)
+pub le_or_lt : (a b : ℕ) → (b ≤ a) ⊎ (a < b)
 le_or_lt a b = grind arith
 
 pub log_below : (a b n : ℕ) → 2 ^ a ≤ n → n < 2 ^ b → a < b

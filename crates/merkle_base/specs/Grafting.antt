@@ -1,5 +1,5 @@
 -- The nodes of a forest by first leaf and height, and those inside a chunk of leaves.
-use Rattle.std.specs.Prelude.{◌≡◌, ℕ, Bool, ◌&&◌, ◌+◌, ◌*◌, ◌^◌, ◌<◌, ◌≤◌, nat_le, cond, List, [], ◌∷◌, ◌++◌, map, Some, slice_get}
+use Rattle.std.specs.Prelude.{◌≡◌, ℕ, zero, suc, Bool, ◌&&◌, ◌+◌, ◌*◌, ◌^◌, ◌<◌, ◌≤◌, nat_le, leb, cond, List, [], ◌∷◌, ◌++◌, map, Some, slice_get}
 use Rattle.std.specs.List.{flat_map}
 use Rattle.merkle_base.specs.Tree.{Tree, leaf, join, height, first_leaf, end_leaf}
 use Rattle.merkle_base.specs.Forest.{forest, size}
@@ -36,6 +36,12 @@ IsNode rule max_leaves p h t = (n : ℕ) × (n ≤ max_leaves) × (slice_get (fo
 abbrev pub IsBirthSize : (List ℕ → List ℕ) → ℕ → ℕ → Type 0
 IsBirthSize rule p n = (p < size rule n) × ((m : ℕ) → m < n → size rule m ≤ p)
 
+-- By formula, the positions and heights of what stands over the 2 ^ h leaves from s on in the forest of n leaves, left to right:
+-- their own node where it has come, and else the left half's node and what stands over the right half.
+abbrev pub stretch_nodes : (root birth : ℕ → ℕ → ℕ) → (n s h : ℕ) → List (ℕ × ℕ)
+stretch_nodes root birth n s zero = (root s 0, 0) ∷ []
+stretch_nodes root birth n s (suc h) = cond (leb (birth s (suc h)) n) ((root s (suc h), suc h) ∷ []) ((root s h, h) ∷ stretch_nodes root birth n (s + 2 ^ h) h)
+
 -- What formulas tell of a family's nodes: the node of height h over the leaves from s on stands at `root s h`, and comes with leaf count
 -- `birth s h`.
 pub record AreCoordinates (rule : List ℕ → List ℕ) (max_leaves : ℕ) (root birth : ℕ → ℕ → ℕ) : Type 0 where
@@ -45,5 +51,7 @@ pub record AreCoordinates (rule : List ℕ → List ℕ) (max_leaves : ℕ) (roo
   pub born : (n p : ℕ) (t : Tree) → n ≤ max_leaves → slice_get (forest rule n).nodes p ≡ Some t → IsBirthSize rule p (birth (first_leaf t) (height t))
   -- over each stretch of 2 ^ h leaves from a multiple of 2 ^ h on stands a node, from that leaf count on
   pub there : (n s a h : ℕ) → n ≤ max_leaves → s ≡ a * 2 ^ h → birth s h ≤ n → (p : ℕ) × (t : Tree) × (slice_get (forest rule n).nodes p ≡ Some t) × (first_leaf t ≡ s) × (height t ≡ h)
+  -- that leaf count is before the end of the stretch twice as wide
+  pub soon : (s h : ℕ) → birth s h < s + 2 ^ suc h
   -- position and height tell the first leaf
   pub once : (s r h : ℕ) → root s h ≡ root r h → s ≡ r

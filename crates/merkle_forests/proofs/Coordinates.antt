@@ -1,5 +1,5 @@
 -- Both families tell a node's position and birth by formulas of its first leaf and height.
-use Rattle.std.proofs.Common.{◌≡◌, ℕ, zero, suc, ◌+◌, ◌-◌, ◌*◌, ◌^◌, ◌<◌, ◌≤◌, List, Some, slice_get, arith, sym, ap, subst, ◌∙◌, pow_pos, pow-suc}
+use Rattle.std.proofs.Common.{◌≡◌, ℕ, zero, suc, ◌+◌, ◌-◌, ◌*◌, ◌^◌, ◌<◌, Some, slice_get, arith, ap, subst, pow_pos, pow-suc}
 use Rattle.merkle_base.specs.Tree.{Tree, height, first_leaf, width}
 use Rattle.merkle_base.specs.Forest.{forest, size}
 use Rattle.merkle_base.specs.Grafting.{AreCoordinates, IsBirthSize}
@@ -26,6 +26,7 @@ mmr_coordinates = record {
   aligned = λ n p t l e. (mmr_born n p t e).aligned;
   born = λ n p t l e. range_born n p t e;
   there = λ n s a h l e b. mmr_exists n s a h e b;
+  soon = λ s h. omega (arith, pow-suc 2 h, pow_pos h);
   once = range_once;
 }
 
@@ -39,11 +40,16 @@ belt_once : (s r h : ℕ) → root_position s h ≡ root_position r h → s ≡ 
 belt_once s r zero e = size_inj newest_pair s r e
 belt_once s r (suc h) e = omega (arith, pow_pos h, size_inj newest_pair (s + 3 * 2 ^ h - 2) (r + 3 * 2 ^ h - 2) (omega (arith, e)))
 
+belt_soon : (s h : ℕ) → belt_birth s h < s + 2 ^ suc h
+belt_soon s zero = omega arith
+belt_soon s (suc h) = omega (arith, pow-suc 2 h, pow-suc 2 (suc h), pow_pos h)
+
 pub mmb_coordinates : AreCoordinates newest_pair (2 ^ 62 + 30) root_position belt_birth
 mmb_coordinates = record {
   place = λ n p t l e. (mmb_placed n p t e).position;
   aligned = λ n p t l e. (mmb_placed n p t e).aligned;
   born = λ n p t l e. belt_born n p t e;
   there = λ n s a h l e b. mmb_exists n s a h e (omega (arith, b));
+  soon = belt_soon;
   once = belt_once;
 }
