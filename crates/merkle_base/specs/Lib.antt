@@ -6,6 +6,8 @@ pub mod Held
 pub mod Places
 pub mod Grafting
 pub mod Bytes
+pub mod Spelling
+pub mod SpellingLaws
 pub mod DigestLaws
 pub mod Bagging
 pub mod Hashing

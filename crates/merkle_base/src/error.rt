@@ -151,3 +151,9 @@ pub enum DecodeError {
 #[derive(Debug, Drop, Error)]
 #[error("out of memory")]
 pub struct OutOfMemory;
+
+impl From<AllocError> for OutOfMemory {
+    fn from(_: AllocError) -> Self {
+        OutOfMemory
+    }
+}

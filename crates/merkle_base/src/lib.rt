@@ -4,6 +4,7 @@
 //! each of its nodes, and the root of a list. `proofs/` has the theory of forests, which the module [`laws`] states.
 #![tactic(auto)]
 
+pub mod codec;
 pub mod digest;
 pub mod error;
 pub mod family;
