@@ -11,6 +11,7 @@ pub mod family;
 pub mod laws;
 pub mod listed;
 pub mod location;
+pub mod pending;
 pub mod pins;
 pub mod position;
 #[cfg(test)]

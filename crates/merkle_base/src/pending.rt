@@ -1,0 +1,117 @@
+//! Pending chunks: what a grafted structure keeps of a chunk whose subtree isn't whole yet.
+ghost use Rattle.std.specs.Prelude.{◌≡◌, ◌≢◌, ◌++◌, [], ℕ, List, Option, None, Ok, IfOk, IfErr, IsOk, IsErrOf, OnOk, OnErr, MatchOption, refl, ⊤};
+ghost use Rattle.std.specs.Option.{option_copied};
+
+use crate::codec::{EncodeSize, Read, Write};
+use crate::digest::Digest;
+use crate::error::{DecodeError, OutOfMemory};
+use std::alloc::Global;
+use std::fmt::Debug;
+
+/// A pending chunk: it holds a digest, or none.
+///
+/// It is known by what it holds. Each pending chunk is read back from the bytes that it is written as.
+pub trait PendingChunk<D>: Clone + Debug + Eq + Write + Read<Cfg = ()> {
+    // the digest that it holds, if any
+    ghost held: { Self → Option D };
+
+    /// The digest that it holds, if any.
+    fn as_ref(&self) -> Option<&D>
+        ensures { option_copied result ≡ held self.now };
+
+    /// The pending chunk that holds the digest, or none.
+    ///
+    /// # Errors
+    ///
+    /// `Invalid` where no pending chunk of this type holds it.
+    fn try_from_option(option: Option<D>) -> Result<Self, DecodeError>
+        ensures ok { IfOk result (λ x. held x ≡ option) }
+        ensures refused { IfErr result (λ e. (e ≡ DecodeError.Invalid) × ((x : Self) → held x ≢ option)) };
+
+    ghost one_holds: { (x y : Self) → held x ≡ held y → x ≡ y };
+
+    ghost same_spelling: { (x : Self) → Self.spelled_by x ≡ Self.spelling x };
+
+    ghost all_within: { (x : Self) → Self.within tt x };
+}
+
+/// The pending chunk of a family that has none: it holds no digest and is spelled by no bytes.
+#[derive(Clone, Copy, PartialEq, Eq, Debug, Default)]
+pub struct Unused;
+
+impl EncodeSize for Unused {
+    ghost spelling = { λ _. [] };
+
+    fn encode_size(&self) -> usize {
+        0
+    }
+
+    ghost one_spelling = { λ _ _ _ _ e. (refl, e) };
+}
+
+impl Write for Unused {
+    fn write(&self, _out: &mut Vec<u8>) -> Result<(), OutOfMemory> {
+        Ok(())
+    }
+}
+
+impl Read for Unused {
+    type Cfg = ();
+
+    ghost spelled_by = { λ _. [] };
+
+    ghost within = { λ _ _. ⊤ };
+
+    ghost refuses = { λ _ _ _. ⊥ };
+
+    fn read(_alloc: Global, _input: &mut &[u8], _cfg: &()) -> Result<Self, DecodeError> {
+        Ok(Unused)
+    }
+
+    ghost refused_spells_none = { λ _ _ _ h. Prim.absurd h };
+
+    ghost one_refusal = { λ _ _ _ _ h. Prim.absurd h };
+}
+
+impl<D: Drop> PendingChunk<D> for Unused {
+    ghost held = { λ _. None };
+
+    fn as_ref(&self) -> Option<&D> {
+        None
+    }
+
+    fn try_from_option(option: Option<D>) -> Result<Self, DecodeError>
+        ensures { MatchOption option (IsOk result) (λ _. IsErrOf result DecodeError.Invalid) }
+    {
+        match option {
+            Some(_) => Err(DecodeError::Invalid),
+            None => Ok(Unused),
+        }
+    }
+
+    ghost one_holds = { λ _ _ _. refl };
+
+    ghost same_spelling = { λ _. refl };
+
+    ghost all_within = { λ _. tt };
+}
+
+impl<D: Digest> PendingChunk<D> for Option<D> {
+    ghost held = { λ x. x };
+
+    fn as_ref(&self) -> Option<&D> {
+        Option::as_ref(self)
+    }
+
+    fn try_from_option(option: Option<D>) -> Result<Self, DecodeError>
+        ensures { result ≡ Ok option }
+    {
+        Ok(option)
+    }
+
+    ghost one_holds = { λ _ _ e. e };
+
+    ghost same_spelling = { λ _. refl };
+
+    ghost all_within = { λ _. tt };
+}
