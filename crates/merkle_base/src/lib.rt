@@ -5,6 +5,8 @@
 #![tactic(auto)]
 
 pub mod codec;
+#[cfg(test)]
+mod codec_tests;
 pub mod digest;
 pub mod error;
 pub mod family;
