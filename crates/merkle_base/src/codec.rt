@@ -67,7 +67,8 @@ pub trait Read: Sized {
     ghost one_refusal: { (cfg : Self.Cfg) (b : List ℕ) (e f : DecodeError) → refuses cfg b e → refuses cfg b f → e ≢ DecodeError.OutOfMemory → f ≢ DecodeError.OutOfMemory → e ≡ f };
 }
 
-// The digest that the bytes begin with, and the bytes after it.
+// The digest that the bytes begin with, and the bytes after it: `EndOfBuffer` where there are too few bytes, `Invalid`
+// where the first so many are no digest's.
 fn read_digest<D: Digest>(bytes: &[u8]) -> Result<(D, &[u8]), DecodeError>
     ensures ok { IfOk result (λ p. bytes.now ≡ D.bytes p.0 ++ p.1.now) }
     ensures refused { IfErr result (λ e. IsDigestRefusal D.SIZE D.Spells bytes.now e) }
@@ -81,6 +82,7 @@ fn read_digest<D: Digest>(bytes: &[u8]) -> Result<(D, &[u8]), DecodeError>
     }
 }
 
+/// `00` for none; `01` and then the digest's bytes for a digest.
 impl<D: Digest> EncodeSize for Option<D> {
     ghost spelling = { option_spelling D.bytes };
 
@@ -116,6 +118,13 @@ impl<D: Digest> Read for Option<D> {
 
     ghost refuses = { λ _ b e. IsOptionRefusal D.SIZE D.Spells b e };
 
+    /// The option of a digest whose spelling the bytes begin with, which are left without it.
+    ///
+    /// # Errors
+    ///
+    /// In this order: `EndOfBuffer` where there is no first byte, `Invalid` where it is neither `00` nor `01`,
+    /// `EndOfBuffer` where fewer than [`SIZE`](Digest::SIZE) bytes follow the `01`, `Invalid` where those that follow are
+    /// no digest's. The slice is then unchanged. No memory is requested.
     fn read(_alloc: Global, input: &mut &[u8], _cfg: &()) -> Result<Self, DecodeError> {
         let Some((first, rest)) = input.split_first() else {
             return Err(DecodeError::EndOfBuffer);

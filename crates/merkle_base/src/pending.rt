@@ -64,6 +64,7 @@ impl Read for Unused {
 
     ghost refuses = { λ _ _ _. ⊥ };
 
+    /// Nothing is read, and nothing is refused.
     fn read(_alloc: Global, _input: &mut &[u8], _cfg: &()) -> Result<Self, DecodeError> {
         Ok(Unused)
     }
@@ -80,6 +81,7 @@ impl<D: Drop> PendingChunk<D> for Unused {
         None
     }
 
+    /// No pending chunk holds a digest: one is refused with `Invalid`.
     fn try_from_option(option: Option<D>) -> Result<Self, DecodeError>
         ensures { MatchOption option (IsOk result) (λ _. IsErrOf result DecodeError.Invalid) }
     {
@@ -103,6 +105,7 @@ impl<D: Digest> PendingChunk<D> for Option<D> {
         Option::as_ref(self)
     }
 
+    /// The option itself: nothing is refused.
     fn try_from_option(option: Option<D>) -> Result<Self, DecodeError>
         ensures { result ≡ Ok option }
     {
