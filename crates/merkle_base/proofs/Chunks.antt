@@ -8,10 +8,10 @@ use Rattle.std.proofs.lemmas.Bool.Decides.{leb_tells}
 use Rattle.std.proofs.lemmas.List.{map-append, reverse-append}
 use Rattle.std.proofs.lemmas.Nat.{pow-add}
 use Rattle.merkle_base.specs.Tree.{Tree, leaf, join, position, height, first_leaf, width, end_leaf, IsUnder, IsBuilt}
-use Rattle.merkle_base.specs.Forest.{forest, IsUnderOne}
+use Rattle.merkle_base.specs.Forest.{forest, size, IsUnderOne}
 use Rattle.merkle_base.specs.Heights.{MergesEqual}
 use Rattle.merkle_base.specs.Places.{placed, peaks_of}
-use Rattle.merkle_base.specs.Grafting.{is_inside, maximal_inside, nodes_inside, stretch_nodes, AreCoordinates}
+use Rattle.merkle_base.specs.Grafting.{is_inside, maximal_inside, nodes_inside, stretch_nodes, IsNode, IsBirthSize, AreCoordinates}
 use Rattle.merkle_base.proofs.Growth.{forest_grown, built_at, under_itself}
 use Rattle.merkle_base.proofs.Nodes.{width_pos, first_under, end_under, built_under}
 use Rattle.merkle_base.proofs.Balance.{balanced_count, node_balanced}
@@ -206,6 +206,23 @@ seam_multiple b m h e s l =
     (m * 2 ^ (h - e), s ∙ ap (λ (x : ℕ). m * 2 ^ x) (sym d) ∙ ap (λ (x : ℕ). m * x) (pow-add 2 (h - e) e) ∙ omega arith)
 
 module _ (rule : List ℕ → List ℕ) (max_leaves : ℕ) (equal : MergesEqual rule max_leaves) (root birth : ℕ → ℕ → ℕ) (formulas : AreCoordinates rule max_leaves root birth) where
+  -- a node stands where its first leaf and height say, and they are the only ones that say so
+  pub root_node : (s p h : ℕ) (t : Tree) → IsNode rule max_leaves p h t → first_leaf t ≡ s → root s h ≡ p
+  root_node s p h t k e = ap (λ (x : ℕ). root x h) (sym e) ∙ ap (root (first_leaf t)) (sym k.3) ∙ sym (formulas.place k.0 p t k.1 k.2)
+
+  pub first_leaf_once : (s p h : ℕ) (t : Tree) → root s h ≡ p → IsNode rule max_leaves p h t → s ≡ first_leaf t
+  first_leaf_once s p h t e k = formulas.once s (first_leaf t) h (e ∙ sym (root_node (first_leaf t) p h t k refl))
+
+  pub birth_least : (s p h : ℕ) (t : Tree) → root s h ≡ p → IsNode rule max_leaves p h t → IsBirthSize rule p (birth s h)
+  birth_least s p h t e k =
+      subst (IsBirthSize rule p) (ap (birth (first_leaf t)) k.3 ∙ ap (λ (x : ℕ). birth x h) (sym (first_leaf_once s p h t e k))) (formulas.born k.0 p t k.1 k.2)
+
+  -- a root that has come stands below the node count
+  pub root_below : (n s a h : ℕ) → n ≤ max_leaves → s ≡ a * 2 ^ h → birth s h ≤ n → root s h < size rule n
+  root_below n s a h l e b =
+      let k = formulas.there n s a h l e b in
+      omega (arith, root_node s k.0 h k.1 (n, l, k.2, k.4) k.3, get_below (forest rule n).nodes k.0 k.1 k.2)
+
   -- what stands over a stretch from the leaf count on that the formula tells
   pub nodes_inside_born : (n s a h : ℕ) → n ≤ max_leaves → s ≡ a * 2 ^ h → birth s h ≤ n → map placed (nodes_inside rule n s (s + 2 ^ h)) ≡ (root s h, h) ∷ []
   nodes_inside_born n s a h l e b =

@@ -2,3 +2,4 @@ pub mod BeltPeaks
 pub mod Perfect
 pub mod LeafCounts
 pub mod BeltNodes
+pub mod RangeRoots

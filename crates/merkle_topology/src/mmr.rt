@@ -2,14 +2,18 @@
 //!
 //! So each peak is higher than the newer ones, and n leaves have a peak for each binary one of n. A node comes with the
 //! last leaf under it, right after its right child.
-ghost use Rattle.std.specs.Prelude.{◌≡◌, ◌≢◌, ◌+◌, ◌^◌, ◌<◌, ◌≤◌, ◌↔◌, ℕ, IsTrue, IfSome, IfNone, List, []};
+ghost use Rattle.std.specs.Prelude.{◌≡◌, ◌≢◌, ◌+◌, ◌-◌, ◌^◌, ◌<◌, ◌≤◌, ◌↔◌, ℕ, IsTrue, IfSome, IfNone, List, []};
 ghost use Rattle.std.specs.Iterator.{YieldsFirst, item_count};
 ghost use Rattle.std.specs.List.{range_with_len};
+ghost use Rattle.std.specs.Option.{option_to_list};
 ghost use Rattle.merkle_base.specs.Forest.{size};
+ghost use Rattle.merkle_base.specs.Grafting.{HasChunk, AreChunkPeaks, IsNode, IsBirthSize};
 ghost use Rattle.merkle_base.specs.Heights.{parent_heights};
 ghost use Rattle.merkle_base.specs.Places.{IsSize, IsNearestSize, ArePeaks, HasInner, AreChildren, IsHeightAt};
-ghost use Rattle.merkle_forests.specs.Mmr.{carries};
+ghost use Rattle.merkle_base.specs.Tree.{Tree, first_leaf};
+ghost use Rattle.merkle_forests.specs.Mmr.{carries, range_root, range_birth};
 ghost use Rattle.merkle_topology.specs.Perfect.{trees_from};
+ghost use Rattle.merkle_forests.proofs.Coordinates.{mmr_coordinates};
 ghost use Rattle.merkle_forests.proofs.RangeLawful.{mmr_lawful};
 
 use merkle_base::listed::Listed;
@@ -158,6 +162,40 @@ impl Listed for ParentHeights {
     ghost ends = { λ _. tt };
 }
 
+/// The node over a chunk with its height: its own one, which comes with the chunk's last leaf.
+#[derive(Debug, Drop)]
+pub struct ChunkPeaks {
+    peak: Option<(Position, u32)>,
+}
+
+impl Model for ChunkPeaks {
+    ghost Value = { List (ℕ × ℕ) };
+
+    ghost view = { λ s. option_to_list s.peak };
+}
+
+impl Iterator for ChunkPeaks {
+    type Item = (Position, u32);
+
+    ghost next_gives = { YieldsFirst (λ s. s) };
+
+    ghost remaining = { item_count (λ s. s) };
+
+    fn next(&mut self) -> Option<(Position, u32)> {
+        self.peak.take()
+    }
+}
+
+impl Listed for ChunkPeaks {
+    ghost left = { λ s. s };
+
+    ghost may_go = { λ _. tt };
+
+    ghost gives_first = { λ _ _ _ h. h };
+
+    ghost ends = { λ _. tt };
+}
+
 /// The node count of that many leaves.
 fn node_count(leaves: u64) -> u64
     requires { leaves ≤ MAX_LEAVES }
@@ -184,6 +222,36 @@ fn leaf_count_within(nodes: u64) -> u64
         }
     }
     low
+}
+
+/// The nodes under a root of a height, without itself.
+fn nodes_below(height: u32) -> u64
+    requires { height ≤ 62 }
+    ensures { result + 2 ≡ 2 ^ (height + 1) }
+{
+    (2 << height) - 2
+}
+
+/// The position of the node of a height over the leaves from one on.
+fn root_position(first: u64, height: u32) -> u64
+    requires low { height ≤ 62 }
+    requires within { range_root first height ≤ MAX_NODES }
+    ensures { result ≡ range_root first height }
+{
+    node_count(first) + nodes_below(height)
+}
+
+/// The first leaf of the node of a height at a position.
+///
+/// The position is what [`root_position`] answers for some leaf and the height.
+fn first_below(position: u64, height: u32) -> u64
+    requires low { height ≤ 62 }
+    requires within { position ≤ MAX_NODES }
+    requires some { (s : ℕ) × (range_root s height ≡ position) }
+    ensures limit { result ≤ MAX_LEAVES }
+    ensures root { range_root result height ≡ position }
+{
+    leaf_count_within(position - nodes_below(height))
 }
 
 impl family::Family for Family {
@@ -272,4 +340,54 @@ impl family::Family for Family {
     }
 
     ghost lawful = { mmr_lawful };
+}
+
+impl family::Graftable for Family {
+    type ChunkPeaks = ChunkPeaks;
+
+    ghost root = { range_root };
+
+    ghost birth = { range_birth };
+
+    fn chunk_peaks(nodes: Position, chunk_idx: u64, grafting_height: u32) -> ChunkPeaks
+        requires { HasChunk carries MAX_LEAVES nodes chunk_idx grafting_height }
+        ensures { AreChunkPeaks carries MAX_LEAVES nodes chunk_idx grafting_height result }
+    {
+        let first = chunk_idx << grafting_height;
+        let root = root_position(first, grafting_height);
+        ChunkPeaks {
+            peak: Some((Position::new(root), grafting_height)),
+        }
+    }
+
+    fn subtree_root_position(leaf_start: Location, height: u32) -> Position
+        requires low { height ≤ 62 }
+        requires within { range_root leaf_start height ≤ MAX_NODES }
+        ensures formula { result ≡ range_root leaf_start height }
+        ensures node { (p : ℕ) (t : Tree) → IsNode carries MAX_LEAVES p height t → first_leaf t ≡ leaf_start → result ≡ p }
+    {
+        Position::new(root_position(leaf_start.as_u64(), height))
+    }
+
+    fn leftmost_leaf(position: Position, height: u32) -> Location
+        requires low { height ≤ 62 }
+        requires within { position ≤ MAX_NODES }
+        requires some { (s : ℕ) × (range_root s height ≡ position) }
+        ensures formula { range_root result height ≡ position }
+        ensures node { (t : Tree) → IsNode carries MAX_LEAVES position height t → result ≡ first_leaf t }
+    {
+        Location::new(first_below(position.as_u64(), height))
+    }
+
+    fn peak_birth_size(position: Position, height: u32) -> u64
+        requires low { height ≤ 62 }
+        requires within { position ≤ MAX_NODES }
+        requires some { (s : ℕ) × (range_root s height ≡ position) }
+        ensures formula { (s : ℕ) → range_root s height ≡ position → result ≡ range_birth s height }
+        ensures node { (t : Tree) → IsNode carries MAX_LEAVES position height t → IsBirthSize carries position result }
+    {
+        first_below(position.as_u64(), height) + (1 << height)
+    }
+
+    ghost coordinates = { mmr_coordinates };
 }

@@ -1,0 +1,12 @@
+use Rattle.std.proofs.Common.{◌-◌, arith, ap, sym, ◌∙◌}
+use Rattle.merkle_forests.specs.Mmr.{carries, range_root}
+use Rattle.merkle_topology.proofs.LeafCounts.{size_only}
+use Rattle.merkle_topology.proofs.RangeRoots.{doubled_pos}
+use Rattle.merkle_topology.proofs.mmr.first_below.Goals as goal
+
+pub returns-clause-root : goal.returns-clause-root
+returns-clause-root c =
+    let k = c.requires.some in
+    let f = c.leaf_count_within.ensures in
+    let same = size_only carries c.leaf_count_within.result k.0 (c.args.position - c.nodes_below.result) f.within f.greatest (omega (arith, k.1, c.nodes_below.ensures, doubled_pos c.args.height)) in
+    ap (λ s. range_root s c.args.height) (sym same) ∙ k.1
