@@ -22,24 +22,13 @@ use Rattle.merkle_topology.proofs.LeafCounts.{leaf_only}
 use Rattle.merkle_topology.proofs.BeltPeaks.{birth_below}
 
 -- ---- roots
--- What holds of a root above leaves whose birth leaf is within the limit.
-pub record IsRoot (s h : ℕ) : Type 0 where
-  pub low : h - 1 < 62
-  pub fits : 3 * 2 ^ (h - 1) % 18446744073709551616 ≡ 3 * 2 ^ (h - 1)
-  pub birth : birth_leaf s h ≡ s + 3 * 2 ^ (h - 1) - 2
-  pub at : root_position s h ≡ size newest_pair (s + 3 * 2 ^ (h - 1) - 2) + 1
-
-pub root_inner : (s h : ℕ) → h ≢ 0 → birth_leaf s h ≤ 4611686018427387934 → IsRoot s h
-root_inner s zero some l = absurd (some refl)
-root_inner s (suc k) some l =
+-- a merged node whose birth leaf fits 63 bits has a height of at most 62
+pub root_low : (s h : ℕ) → h ≢ 0 → birth_leaf s h < 9223372036854775808 → h - 1 < 62
+root_low s zero some l = absurd (some refl)
+root_low s (suc k) some l =
     let z : suc k - 1 ≡ k = omega arith in
     let p : 0 < 2 ^ k = pow_pos k in
-    record {
-      low = log_below (suc k - 1) 62 (2 ^ k) (rw z (omega arith)) (omega arith);
-      fits = rw z (omega arith);
-      birth = rw z refl;
-      at = rw z refl;
-    }
+    log_below (suc k - 1) 62 (2 ^ k) (rw z (omega arith)) (omega arith)
 
 -- ---- children
 -- What holds of the children of a merged node of height h at p, where birth is the last leaf count of no more than p nodes.

@@ -3,3 +3,4 @@ pub mod Perfect
 pub mod LeafCounts
 pub mod BeltNodes
 pub mod RangeRoots
+pub mod BeltRoots

@@ -2,15 +2,18 @@
 //!
 //! So one parent at most comes with a leaf, and n leaves have as many peaks as the binary logarithm of n + 1. Peak i,
 //! counted from the newest, has height i, and one more where bit i of n + 1 is set.
-ghost use Rattle.std.specs.Prelude.{◌≡◌, ◌≢◌, ◌+◌, ◌^◌, ◌<◌, ◌≤◌, ◌↔◌, ℕ, IsTrue, IfSome, IfNone, List, [], ◌∷◌, length, Some};
+ghost use Rattle.std.specs.Prelude.{◌≡◌, ◌≢◌, ◌+◌, ◌^◌, ◌<◌, ◌≤◌, ◌↔◌, ℕ, IsTrue, IfSome, IfNone, List, [], ◌∷◌, length, cond, Some};
 ghost use Rattle.std.specs.Iterator.{YieldsFirst, item_count};
 ghost use Rattle.std.specs.Option.{option_to_list};
 ghost use Rattle.merkle_base.specs.Forest.{size};
+ghost use Rattle.merkle_base.specs.Grafting.{HasChunk, AreChunkPeaks, IsNode, IsBirthSize, stretch_nodes};
 ghost use Rattle.merkle_base.specs.Heights.{parent_heights};
 ghost use Rattle.merkle_base.specs.Places.{IsSize, IsNearestSize, ArePeaks, HasInner, AreChildren, IsHeightAt};
-ghost use Rattle.merkle_forests.specs.Mmb.{newest_pair, birth_leaf, root_position, newest_peaks};
+ghost use Rattle.merkle_base.specs.Tree.{Tree, first_leaf};
+ghost use Rattle.merkle_forests.specs.Mmb.{newest_pair, birth_leaf, root_position, belt_birth, newest_peaks};
 ghost use Rattle.merkle_topology.specs.BeltIterators.{PeaksLeft};
 ghost use Rattle.merkle_forests.proofs.BeltLawful.{mmb_lawful};
+ghost use Rattle.merkle_forests.proofs.Coordinates.{mmb_coordinates};
 
 use merkle_base::listed::Listed;
 use merkle_base::{error, family, location, position};
@@ -168,6 +171,62 @@ impl Listed for ParentHeights {
     ghost ends = { λ _. tt };
 }
 
+/// The maximal nodes inside a chunk with their heights, left to right.
+///
+/// A stretch of leaves has its own node, or, before that one comes, the node of its left half and those of its right half.
+#[derive(Debug, Drop)]
+pub struct ChunkPeaks {
+    // the leaf count
+    leaves: u64,
+    // the first leaf of the stretch that the items left are over
+    first: u64,
+    // its height
+    height: u32,
+    // whether items are left
+    left: bool,
+    ghost valid: { leaves ≤ 4611686018427387934 },
+    ghost within: { first + 2 ^ height ≤ leaves },
+}
+
+impl Model for ChunkPeaks {
+    ghost Value = { List (ℕ × ℕ) };
+
+    ghost view = { λ s. cond s.left (stretch_nodes root_position belt_birth s.leaves s.first s.height) [] };
+}
+
+impl Iterator for ChunkPeaks {
+    type Item = (Position, u32);
+
+    ghost next_gives = { YieldsFirst (λ s. s) };
+
+    ghost remaining = { item_count (λ s. s) };
+
+    fn next(&mut self) -> Option<(Position, u32)> {
+        if !self.left {
+            return None;
+        }
+        if birth_leaf(self.first, self.height) < self.leaves {
+            self.left = false;
+            let root = root_position(self.first, self.height);
+            return Some((Position::new(root), self.height));
+        }
+        self.height -= 1;
+        let root = root_position(self.first, self.height);
+        self.first += 1 << self.height;
+        Some((Position::new(root), self.height))
+    }
+}
+
+impl Listed for ChunkPeaks {
+    ghost left = { λ s. s };
+
+    ghost may_go = { λ _. tt };
+
+    ghost gives_first = { λ _ _ _ h. h };
+
+    ghost ends = { λ _. tt };
+}
+
 /// The node count of that many leaves.
 fn node_count(leaves: u64) -> u64
     requires { leaves ≤ MAX_LEAVES }
@@ -196,15 +255,57 @@ fn leaf_count_within(nodes: u64) -> u64
     low
 }
 
+/// The leaf with which the node of a height over the leaves from one on comes.
+fn birth_leaf(first: u64, height: u32) -> u64
+    requires { birth_leaf first height < 2 ^ 63 }
+    ensures { result ≡ birth_leaf first height }
+{
+    if height == 0 {
+        return first;
+    }
+    first + (3 << (height - 1)) - 2
+}
+
 /// The position of the node of a height over the leaves from one on, which comes with its birth leaf.
 fn root_position(first: u64, height: u32) -> u64
     requires { birth_leaf first height ≤ MAX_LEAVES }
     ensures { result ≡ root_position first height }
 {
+    let leaf = node_count(birth_leaf(first, height));
     if height == 0 {
-        return node_count(first);
+        return leaf;
     }
-    node_count(first + (3 << (height - 1)) - 2) + 1
+    leaf + 1
+}
+
+/// The birth leaf of the node of a height at a position.
+///
+/// The position is what [`root_position`] answers for some leaf and the height.
+fn birth_leaf_of(position: u64, height: u32) -> u64
+    requires within { position ≤ MAX_NODES }
+    requires some { (s : ℕ) × (root_position s height ≡ position) }
+    ensures limit { result ≤ MAX_LEAVES }
+    ensures birth { (s : ℕ) → root_position s height ≡ position → result ≡ birth_leaf s height }
+{
+    if height == 0 {
+        return leaf_count_within(position);
+    }
+    leaf_count_within(position - 1)
+}
+
+/// The first leaf of the node of a height at a position.
+///
+/// The position is what [`root_position`] answers for some leaf and the height.
+fn first_below(position: u64, height: u32) -> u64
+    requires within { position ≤ MAX_NODES }
+    requires some { (s : ℕ) × (root_position s height ≡ position) }
+    ensures { root_position result height ≡ position }
+{
+    let birth = birth_leaf_of(position, height);
+    if height == 0 {
+        return birth;
+    }
+    birth + 2 - (3 << (height - 1))
 }
 
 /// A peak of so many leaves with its height, by its index from the newest.
@@ -322,4 +423,55 @@ impl family::Family for Family {
     }
 
     ghost lawful = { mmb_lawful };
+}
+
+impl family::Graftable for Family {
+    type ChunkPeaks = ChunkPeaks;
+
+    ghost root = { root_position };
+
+    ghost birth = { belt_birth };
+
+    fn chunk_peaks(nodes: Position, chunk_idx: u64, grafting_height: u32) -> ChunkPeaks
+        requires { HasChunk newest_pair MAX_LEAVES nodes chunk_idx grafting_height }
+        ensures { AreChunkPeaks newest_pair MAX_LEAVES nodes chunk_idx grafting_height result }
+    {
+        ChunkPeaks {
+            leaves: leaf_count_within(nodes.as_u64()),
+            first: chunk_idx << grafting_height,
+            height: grafting_height,
+            left: true,
+        }
+    }
+
+    fn subtree_root_position(leaf_start: Location, height: u32) -> Position
+        requires low { height ≤ 62 }
+        requires within { root_position leaf_start height ≤ MAX_NODES }
+        ensures formula { result ≡ root_position leaf_start height }
+        ensures node { (p : ℕ) (t : Tree) → IsNode newest_pair MAX_LEAVES p height t → first_leaf t ≡ leaf_start → result ≡ p }
+    {
+        Position::new(root_position(leaf_start.as_u64(), height))
+    }
+
+    fn leftmost_leaf(position: Position, height: u32) -> Location
+        requires low { height ≤ 62 }
+        requires within { position ≤ MAX_NODES }
+        requires some { (s : ℕ) × (root_position s height ≡ position) }
+        ensures formula { root_position result height ≡ position }
+        ensures node { (t : Tree) → IsNode newest_pair MAX_LEAVES position height t → result ≡ first_leaf t }
+    {
+        Location::new(first_below(position.as_u64(), height))
+    }
+
+    fn peak_birth_size(position: Position, height: u32) -> u64
+        requires low { height ≤ 62 }
+        requires within { position ≤ MAX_NODES }
+        requires some { (s : ℕ) × (root_position s height ≡ position) }
+        ensures formula { (s : ℕ) → root_position s height ≡ position → result ≡ belt_birth s height }
+        ensures node { (t : Tree) → IsNode newest_pair MAX_LEAVES position height t → IsBirthSize newest_pair position result }
+    {
+        birth_leaf_of(position.as_u64(), height) + 1
+    }
+
+    ghost coordinates = { mmb_coordinates };
 }

@@ -162,7 +162,7 @@ impl Listed for ParentHeights {
     ghost ends = { λ _. tt };
 }
 
-/// The node over a chunk with its height: its own one, which comes with the chunk's last leaf.
+/// The maximal nodes inside a chunk with their heights: the chunk's own node alone, which comes with its last leaf.
 #[derive(Debug, Drop)]
 pub struct ChunkPeaks {
     peak: Option<(Position, u32)>,

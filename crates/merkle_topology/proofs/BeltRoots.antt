@@ -1,0 +1,86 @@
+-- Roots of the Mountain Belt by first leaf and height, and what stands over a stretch of leaves, in 64 bits.
+use Rattle.std.proofs.Common.{◌≡◌, ◌≢◌, ℕ, zero, suc, ◌+◌, ◌-◌, ◌*◌, ◌%◌, ◌^◌, ◌<◌, ◌≤◌, Bool, true, cond, [], ◌∷◌, arith, refl, sym, inl, inr, pow-suc, pow_pos}
+use Rattle.std.proofs.lemmas.Bool.Decides.{leb_tells}
+use Rattle.std.proofs.lemmas.Nat.{one_shl}
+use Rattle.merkle_base.specs.Forest.{size}
+use Rattle.merkle_base.specs.Grafting.{stretch_nodes}
+use Rattle.merkle_base.proofs.Nodes.{size_le, size_step}
+use Rattle.merkle_base.proofs.Limits.{le_or_lt, log_below}
+use Rattle.merkle_forests.specs.Mmb.{newest_pair, birth_leaf, root_position, belt_birth}
+use Rattle.merkle_forests.proofs.BeltLawful.{mmb_lawful}
+use Rattle.merkle_forests.proofs.Coordinates.{mmb_coordinates}
+use Rattle.merkle_topology.proofs.LeafCounts.{size_only}
+
+-- a leaf count that has no more nodes than the greatest one has is within the limit
+leaves_within : (s : ℕ) → size newest_pair s ≤ 9223372036854775806 → s ≤ 4611686018427387934
+leaves_within s l = elim (le_or_lt 4611686018427387934 s) [
+  | inl a ↦ a
+  | inr b ↦ absurd (omega (arith, size_step newest_pair 4611686018427387934, size_le newest_pair 4611686018427387935 s b, mmb_lawful.full))
+]
+
+-- so is the birth leaf of a root that stands within the limit
+pub birth_within : (s h : ℕ) → root_position s h ≤ 9223372036854775806 → birth_leaf s h ≤ 4611686018427387934
+birth_within s zero l = leaves_within s l
+birth_within s (suc h) l = leaves_within (s + 3 * 2 ^ h - 2) (omega (arith, l))
+
+-- a search for the last leaf count of no more nodes finds the birth leaf
+pub birth_found_leaf : (s h p n : ℕ) → h ≡ 0 → root_position s h ≡ p → size newest_pair n ≤ p → p < size newest_pair (n + 1) → n ≡ birth_leaf s h
+birth_found_leaf s zero p n z e a b = sym (size_only newest_pair n s p a b e)
+birth_found_leaf s (suc h) p n z e a b = absurd (omega (arith, z))
+
+pub birth_found : (s h p n : ℕ) → h ≢ 0 → root_position s h ≡ p → size newest_pair n ≤ p - 1 → p - 1 < size newest_pair (n + 1) → n ≡ birth_leaf s h
+birth_found s zero p n some e a b = absurd (some refl)
+birth_found s (suc h) p n some e a b = sym (size_only newest_pair n (s + 3 * 2 ^ h - 2) (p - 1) a b (omega (arith, e)))
+
+-- ---- a stretch of leaves
+pub stretch_birth : (n s h : ℕ) → n ≤ 4611686018427387934 → s + 2 ^ h ≤ n → birth_leaf s h < 9223372036854775808
+stretch_birth n s zero l w = omega (arith, l, w)
+stretch_birth n s (suc h) l w = omega (arith, l, w, pow-suc 2 h)
+
+-- What holds of a stretch whose own node has not come.
+pub record IsHalved (n s h : ℕ) : Type 0 where
+  pub some : 1 ≤ h
+  pub low : h - 1 < 62
+  pub one : 1 * 2 ^ (h - 1) % 18446744073709551616 ≡ 2 ^ (h - 1)
+  pub birth : birth_leaf s (h - 1) < n
+  pub within : s + 2 ^ (h - 1) + 2 ^ (h - 1) ≤ n
+  pub first : stretch_nodes root_position belt_birth n s h ≡ (root_position s (h - 1), h - 1) ∷ stretch_nodes root_position belt_birth n (s + 2 ^ (h - 1)) (h - 1)
+
+pub stretch_halved : (n s h : ℕ) → n ≤ 4611686018427387934 → s + 2 ^ h ≤ n → n ≤ birth_leaf s h → IsHalved n s h
+stretch_halved n s zero l w b = absurd (omega (arith, w, b))
+stretch_halved n s (suc k) l w b =
+    let z : suc k - 1 ≡ k = omega arith in
+    let two : 2 ^ suc k ≡ 2 ^ k * 2 = pow-suc 2 k in
+    let low : suc k < 63 = log_below (suc k) 63 n (omega (arith, w)) (omega (arith, l)) in
+    record {
+      some = omega arith;
+      low = omega (arith, low);
+      one = rw z (one_shl k 64 (omega (arith, low)));
+      birth = rw z (omega (arith, mmb_coordinates.soon s k, w));
+      within = rw z (omega (arith, two, w));
+      first = rw z (halves n s k b);
+    }
+  where
+    halves : (n s k : ℕ) → n ≤ birth_leaf s (suc k) → stretch_nodes root_position belt_birth n s (suc k) ≡ (root_position s k, k) ∷ stretch_nodes root_position belt_birth n (s + 2 ^ k) k
+    halves n s k b = elim (leb_tells (belt_birth s (suc k)) n) [
+      | inl w ↦ absurd (omega (arith, b, w.1))
+      | inr w ↦ rw w.0 refl
+    ]
+
+-- what is left after its first item, in 64 bits
+pub stretch_first : (left : Bool) (n s h : ℕ) → left ≡ true → IsHalved n s h →
+    cond left (stretch_nodes root_position belt_birth n s h) []
+    ≡ (root_position s (h - 1), h - 1) ∷ cond left (stretch_nodes root_position belt_birth n (s + 1 * 2 ^ (h - 1) % 18446744073709551616) (h - 1)) []
+stretch_first left n s h e k = rw (e, k.one) k.first
+
+-- ---- a chunk
+-- What holds of chunk i of 2 ^ h leaves each, of n leaves.
+pub record IsWithin (n i h : ℕ) : Type 0 where
+  pub low : h < 63
+  pub first : i * 2 ^ h % 18446744073709551616 ≡ i * 2 ^ h
+  pub end : i * 2 ^ h + 2 ^ h ≤ n
+
+pub chunk_within : (n i h : ℕ) → n ≤ 4611686018427387934 → (i + 1) * 2 ^ h ≤ n → IsWithin n i h
+chunk_within n i h l w =
+    let end : i * 2 ^ h + 2 ^ h ≤ n = omega (arith, w) in
+    record { low = log_below h 63 n (omega arith) (omega arith); first = omega (arith, pow_pos h); end = end }

@@ -1,0 +1,14 @@
+use Rattle.std.proofs.Common.{◌≡◌, ◌+◌, arith, subst, sym, ◌∙◌}
+use Rattle.merkle_base.specs.Grafting.{IsBirthSize}
+use Rattle.merkle_base.proofs.Chunks.{birth_least}
+use Rattle.merkle_forests.specs.Mmb.{newest_pair, root_position, belt_birth}
+use Rattle.merkle_forests.proofs.Coordinates.{mmb_coordinates}
+use Rattle.merkle_forests.proofs.MountainBelt.{mmb_equal}
+use Rattle.merkle_topology.proofs.mmb.FamilyGraftable.peak_birth_size.Goals as goal
+
+pub returns-clause-node : goal.returns-clause-node
+returns-clause-node c = λ t k.
+    let s = c.requires.some in
+    let told = c.birth_leaf_of.ensures.birth s.0 (s.1 ∙ sym c.as_u64.ensures) in
+    let same : belt_birth s.0 c.args.height ≡ c.birth_leaf_of.result + 1 = omega (arith, told) in
+    subst (IsBirthSize newest_pair c.args.position) same (birth_least newest_pair 4611686018427387934 (mmb_equal 4611686018427387934) root_position belt_birth mmb_coordinates s.0 c.args.position c.args.height t s.1 k)
