@@ -1,27 +1,19 @@
 -- Roots of the Mountain Belt by first leaf and height, and what stands over a stretch of leaves, in 64 bits.
-use Rattle.std.proofs.Common.{◌≡◌, ◌≢◌, ℕ, zero, suc, ◌+◌, ◌-◌, ◌*◌, ◌%◌, ◌^◌, ◌<◌, ◌≤◌, Bool, true, cond, [], ◌∷◌, arith, refl, sym, inl, inr, pow-suc, pow_pos}
+use Rattle.std.proofs.Common.{◌≡◌, ◌≢◌, ℕ, zero, suc, ◌+◌, ◌-◌, ◌*◌, ◌%◌, ◌^◌, ◌<◌, ◌≤◌, Bool, true, cond, [], ◌∷◌, arith, refl, sym, inl, inr, pow-suc}
 use Rattle.std.proofs.lemmas.Bool.Decides.{leb_tells}
 use Rattle.std.proofs.lemmas.Nat.{one_shl}
 use Rattle.merkle_base.specs.Forest.{size}
 use Rattle.merkle_base.specs.Grafting.{stretch_nodes}
-use Rattle.merkle_base.proofs.Nodes.{size_le, size_step}
-use Rattle.merkle_base.proofs.Limits.{le_or_lt, log_below}
+use Rattle.merkle_base.proofs.Limits.{log_below}
 use Rattle.merkle_forests.specs.Mmb.{newest_pair, birth_leaf, root_position, belt_birth}
 use Rattle.merkle_forests.proofs.BeltLawful.{mmb_lawful}
 use Rattle.merkle_forests.proofs.Coordinates.{mmb_coordinates}
-use Rattle.merkle_topology.proofs.LeafCounts.{size_only}
+use Rattle.merkle_topology.proofs.LeafCounts.{size_only, leaves_within}
 
--- a leaf count that has no more nodes than the greatest one has is within the limit
-leaves_within : (s : ℕ) → size newest_pair s ≤ 9223372036854775806 → s ≤ 4611686018427387934
-leaves_within s l = elim (le_or_lt 4611686018427387934 s) [
-  | inl a ↦ a
-  | inr b ↦ absurd (omega (arith, size_step newest_pair 4611686018427387934, size_le newest_pair 4611686018427387935 s b, mmb_lawful.full))
-]
-
--- so is the birth leaf of a root that stands within the limit
+-- the birth leaf of a root that stands within the limit is within the limit
 pub birth_within : (s h : ℕ) → root_position s h ≤ 9223372036854775806 → birth_leaf s h ≤ 4611686018427387934
-birth_within s zero l = leaves_within s l
-birth_within s (suc h) l = leaves_within (s + 3 * 2 ^ h - 2) (omega (arith, l))
+birth_within s zero l = leaves_within newest_pair 4611686018427387934 s (omega (arith, l, mmb_lawful.full))
+birth_within s (suc h) l = leaves_within newest_pair 4611686018427387934 (s + 3 * 2 ^ h - 2) (omega (arith, l, mmb_lawful.full))
 
 -- a search for the last leaf count of no more nodes finds the birth leaf
 pub birth_found_leaf : (s h p n : ℕ) → h ≡ 0 → root_position s h ≡ p → size newest_pair n ≤ p → p < size newest_pair (n + 1) → n ≡ birth_leaf s h
@@ -72,15 +64,3 @@ pub stretch_first : (left : Bool) (n s h : ℕ) → left ≡ true → IsHalved n
     cond left (stretch_nodes root_position belt_birth n s h) []
     ≡ (root_position s (h - 1), h - 1) ∷ cond left (stretch_nodes root_position belt_birth n (s + 1 * 2 ^ (h - 1) % 18446744073709551616) (h - 1)) []
 stretch_first left n s h e k = rw (e, k.one) k.first
-
--- ---- a chunk
--- What holds of chunk i of 2 ^ h leaves each, of n leaves.
-pub record IsWithin (n i h : ℕ) : Type 0 where
-  pub low : h < 63
-  pub first : i * 2 ^ h % 18446744073709551616 ≡ i * 2 ^ h
-  pub end : i * 2 ^ h + 2 ^ h ≤ n
-
-pub chunk_within : (n i h : ℕ) → n ≤ 4611686018427387934 → (i + 1) * 2 ^ h ≤ n → IsWithin n i h
-chunk_within n i h l w =
-    let end : i * 2 ^ h + 2 ^ h ≤ n = omega (arith, w) in
-    record { low = log_below h 63 n (omega arith) (omega arith); first = omega (arith, pow_pos h); end = end }

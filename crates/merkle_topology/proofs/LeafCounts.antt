@@ -7,7 +7,7 @@ use Rattle.merkle_base.specs.Heights.{parent_heights}
 use Rattle.merkle_base.specs.Places.{IsSize, IsNearestSize, IsHeightAt}
 use Rattle.merkle_base.proofs.Nodes.{size_le, size_lt}
 use Rattle.merkle_base.proofs.Lookup.{size_suc, height_at}
-use Rattle.merkle_base.proofs.Limits.{log_below}
+use Rattle.merkle_base.proofs.Limits.{le_or_lt, log_below}
 use Rattle.merkle_forests.specs.Mmr.{carries}
 use Rattle.merkle_forests.proofs.RangeLawful.{mmr_lawful}
 use Rattle.merkle_forests.proofs.MountainRange.{mmr_equal, mmr_parents}
@@ -31,6 +31,10 @@ leaf_only rule low n p a b c d = elim (three low n) [
   where
     three : (a b : ℕ) → (a < b) ⊎ ((a ≡ b) ⊎ (b < a))
     three a b = grind arith
+
+-- a leaf count that has no more nodes than the greatest one is within the limit
+pub leaves_within : (rule : List ℕ → List ℕ) (max_leaves n : ℕ) → size rule n ≤ size rule max_leaves → n ≤ max_leaves
+leaves_within rule max_leaves n l = elim (le_or_lt max_leaves n) [ inl a ↦ a | inr b ↦ absurd (omega (arith, size_lt rule max_leaves n b)) ]
 
 -- the test that a leaf count found by a search has that many nodes
 pub size_tested : (rule : List ℕ → List ℕ) (max_leaves low count nodes p : ℕ) → nodes ≡ p → low ≤ max_leaves → count ≡ size rule low → size rule low ≤ nodes → nodes < size rule (low + 1) →

@@ -4,3 +4,4 @@ pub mod LeafCounts
 pub mod BeltNodes
 pub mod RangeRoots
 pub mod BeltRoots
+pub mod ChunkNumbers

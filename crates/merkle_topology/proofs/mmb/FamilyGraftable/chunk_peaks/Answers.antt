@@ -8,19 +8,19 @@ use Rattle.merkle_forests.proofs.Coordinates.{mmb_coordinates}
 use Rattle.merkle_forests.proofs.MountainBelt.{mmb_equal}
 use Rattle.merkle_forests.proofs.BeltLawful.{mmb_lawful}
 use Rattle.merkle_topology.proofs.LeafCounts.{size_only}
-use Rattle.merkle_topology.proofs.BeltRoots.{chunk_within}
+use Rattle.merkle_topology.proofs.ChunkNumbers.{chunk_within}
 use Rattle.merkle_topology.proofs.mmb.FamilyGraftable.chunk_peaks.Goals as goal
 
 pub leaf_count_within-requires : goal.leaf_count_within-requires
 leaf_count_within-requires c = let k = c.requires in omega (arith, c.as_u64.ensures, size_le newest_pair k.0 4611686018427387934 k.1, k.2, mmb_lawful.full)
 
 pub overflow_shl-result : goal.overflow_shl-result
-overflow_shl-result c = let k = c.requires in omega (arith, (chunk_within k.0 c.args.chunk_idx c.args.grafting_height k.1 k.3).low)
+overflow_shl-result c = let k = c.requires in omega (arith, (chunk_within k.0 c.args.chunk_idx c.args.grafting_height (omega (arith, k.1)) k.3).low)
 
 pub invariant_of-result : goal.invariant_of-result
 invariant_of-result c =
     let k = c.requires in
-    let w = chunk_within k.0 c.args.chunk_idx c.args.grafting_height k.1 k.3 in
+    let w = chunk_within k.0 c.args.chunk_idx c.args.grafting_height (omega (arith, k.1)) k.3 in
     let f = c.leaf_count_within.ensures in
     let found = size_only newest_pair c.leaf_count_within.result k.0 c.as_u64.result f.within f.greatest (k.2 ∙ sym c.as_u64.ensures) in
     (f.limit, (rw (w.first) (omega (arith, w.end, found)), tt))
@@ -30,7 +30,7 @@ returns c = λ n l e.
     let i = c.args.chunk_idx in
     let h = c.args.grafting_height in
     let k = c.requires in
-    let w = chunk_within k.0 i h k.1 k.3 in
+    let w = chunk_within k.0 i h (omega (arith, k.1)) k.3 in
     let f = c.leaf_count_within.ensures in
     let found = size_only newest_pair c.leaf_count_within.result n c.as_u64.result f.within f.greatest (e ∙ sym c.as_u64.ensures) in
     let same : n ≡ k.0 = size_inj newest_pair n k.0 (e ∙ sym k.2) in

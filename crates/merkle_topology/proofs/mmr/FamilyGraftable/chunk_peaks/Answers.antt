@@ -6,20 +6,21 @@ use Rattle.merkle_base.proofs.Chunks.{nodes_inside_born}
 use Rattle.merkle_forests.specs.Mmr.{carries, range_root, range_birth}
 use Rattle.merkle_forests.proofs.Coordinates.{mmr_coordinates}
 use Rattle.merkle_forests.proofs.MountainRange.{mmr_equal}
-use Rattle.merkle_topology.proofs.RangeRoots.{ChunkFits, chunk_fits}
+use Rattle.merkle_topology.proofs.ChunkNumbers.{chunk_within}
+use Rattle.merkle_topology.proofs.RangeRoots.{chunk_root}
 use Rattle.merkle_topology.proofs.mmr.FamilyGraftable.chunk_peaks.Goals as goal
 
-fits : (c : goal.Start) → ChunkFits c.args.chunk_idx c.args.grafting_height
-fits c = let k = c.requires in chunk_fits k.0 c.args.chunk_idx c.args.grafting_height k.1 k.3
-
 pub overflow_shl-first : goal.overflow_shl-first
-overflow_shl-first c = omega (arith, (fits c).low)
+overflow_shl-first c = let k = c.requires in omega (arith, (chunk_within k.0 c.args.chunk_idx c.args.grafting_height (omega (arith, k.1)) k.3).low)
 
 pub root_position-root-requires-clause-low : goal.root_position-root-requires-clause-low
-root_position-root-requires-clause-low c = (fits c).low
+root_position-root-requires-clause-low c = let k = c.requires in omega (arith, (chunk_within k.0 c.args.chunk_idx c.args.grafting_height (omega (arith, k.1)) k.3).low)
 
 pub root_position-root-requires-clause-within : goal.root_position-root-requires-clause-within
-root_position-root-requires-clause-within c = rw ((fits c).first) (fits c).root
+root_position-root-requires-clause-within c =
+    let k = c.requires in
+    let w = chunk_within k.0 c.args.chunk_idx c.args.grafting_height (omega (arith, k.1)) k.3 in
+    rw (w.first) (chunk_root k.0 c.args.chunk_idx c.args.grafting_height k.1 k.3)
 
 pub returns : goal.returns
 returns c = λ n l e.
@@ -28,7 +29,7 @@ returns c = λ n l e.
     let k = c.requires in
     let same : n ≡ k.0 = size_inj carries n k.0 (e ∙ sym k.2) in
     let end : i * 2 ^ h + 2 ^ h ≡ (i + 1) * 2 ^ h = omega arith in
-    let root : range_root (i * 2 ^ h) h ≡ c.new.result = ap (λ (s : ℕ). range_root s h) (sym (chunk_fits k.0 i h k.1 k.3).first) ∙ sym (c.new.ensures ∙ c.root_position-root.ensures) in
+    let root : range_root (i * 2 ^ h) h ≡ c.new.result = ap (λ (s : ℕ). range_root s h) (sym (chunk_within k.0 i h (omega (arith, k.1)) k.3).first) ∙ sym (c.new.ensures ∙ c.root_position-root.ensures) in
     sym (ap (λ (b : ℕ). map placed (nodes_inside carries n (i * 2 ^ h) b)) (sym end)
     ∙ nodes_inside_born carries 4611686018427387904 (mmr_equal 4611686018427387904) range_root range_birth mmr_coordinates n (i * 2 ^ h) i h l refl (omega (arith, end, same, k.3))
     ∙ ap (λ (p : ℕ). (p, h) ∷ []) root)
