@@ -10,7 +10,7 @@ use std::fmt::Debug;
 
 /// A pending chunk: it holds a digest, or none.
 ///
-/// It is known by what it holds. Each pending chunk is read back from the bytes that it is written as.
+/// It is known by what it holds. Want of memory aside, each pending chunk is read back from its spelling.
 pub trait PendingChunk<D>: Clone + Debug + Eq + Write + Read<Cfg = ()> {
     // the digest that it holds, if any
     ghost held: { Self → Option D };

@@ -11,5 +11,5 @@ mod merkleize;
 pub mod mmb;
 pub mod mmr;
 
-pub use merkle_base::{digest, error, family, location, position};
+pub use merkle_base::{codec, digest, error, family, location, position};
 pub use merkle_proof::{hasher, path, proof};
