@@ -5,6 +5,7 @@ ghost use Rattle.std.specs.Option.{option_copied};
 use crate::codec::{EncodeSize, Read, Write};
 use crate::digest::Digest;
 use crate::error::{DecodeError, OutOfMemory};
+use crate::family::Graftable;
 use std::alloc::Global;
 use std::fmt::Debug;
 
@@ -33,6 +34,15 @@ pub trait PendingChunk<D>: Clone + Debug + Eq + Write + Read<Cfg = ()> {
     ghost same_spelling: { (x : Self) → Self.spelled_by x ≡ Self.spelling x };
 
     ghost all_within: { (x : Self) → Self.within tt x };
+}
+
+/// A family on whose nodes structures are grafted, with what it keeps of a chunk that has no single root yet.
+///
+/// The Mountain Range has the root of a chunk as soon as it has the chunk's leaves, and so keeps nothing; the Mountain Belt
+/// may have it later.
+pub trait Grafting<D>: Graftable {
+    /// The pending chunk over digests.
+    type PendingChunk: PendingChunk<D>;
 }
 
 /// The pending chunk of a family that has none: it holds no digest and is spelled by no bytes.

@@ -15,7 +15,9 @@ ghost use Rattle.merkle_topology.specs.BeltIterators.{PeaksLeft};
 ghost use Rattle.merkle_forests.proofs.BeltLawful.{mmb_lawful};
 ghost use Rattle.merkle_forests.proofs.Coordinates.{mmb_coordinates};
 
+use merkle_base::digest::Digest;
 use merkle_base::listed::Listed;
+use merkle_base::pending::Grafting;
 use merkle_base::{error, family, location, position};
 use std::marker::Model;
 
@@ -474,4 +476,8 @@ impl family::Graftable for Family {
     }
 
     ghost coordinates = { mmb_coordinates };
+}
+
+impl<D: Digest> Grafting<D> for Family {
+    type PendingChunk = Option<D>;
 }

@@ -17,6 +17,7 @@ ghost use Rattle.merkle_forests.proofs.Coordinates.{mmr_coordinates};
 ghost use Rattle.merkle_forests.proofs.RangeLawful.{mmr_lawful};
 
 use merkle_base::listed::Listed;
+use merkle_base::pending::{Grafting, Unused};
 use merkle_base::{error, family, location, position};
 use std::marker::Model;
 
@@ -390,4 +391,8 @@ impl family::Graftable for Family {
     }
 
     ghost coordinates = { mmr_coordinates };
+}
+
+impl<D: Drop> Grafting<D> for Family {
+    type PendingChunk = Unused;
 }
