@@ -5,6 +5,7 @@ use Rattle.std.proofs.lemmas.Nat.{one_shl}
 use Rattle.merkle_base.specs.Forest.{size}
 use Rattle.merkle_base.specs.Grafting.{stretch_nodes}
 use Rattle.merkle_base.proofs.Limits.{log_below}
+use Rattle.merkle_base.proofs.Nodes.{size_le, size_lt}
 use Rattle.merkle_forests.specs.Mmb.{newest_pair, birth_leaf, root_position, belt_birth}
 use Rattle.merkle_forests.proofs.BeltLawful.{mmb_lawful}
 use Rattle.merkle_forests.proofs.Coordinates.{mmb_coordinates}
@@ -14,6 +15,11 @@ use Rattle.merkle_topology.proofs.LeafCounts.{size_only, leaves_within}
 pub birth_within : (s h : ℕ) → root_position s h ≤ 9223372036854775806 → birth_leaf s h ≤ 4611686018427387934
 birth_within s zero l = leaves_within newest_pair 4611686018427387934 s (omega (arith, l, mmb_lawful.full))
 birth_within s (suc h) l = leaves_within newest_pair 4611686018427387934 (s + 3 * 2 ^ h - 2) (omega (arith, l, mmb_lawful.full))
+
+-- a root whose birth leaf is there stands within the limit
+pub root_within : (s h : ℕ) → birth_leaf s h < 4611686018427387934 → root_position s h ≤ 9223372036854775806
+root_within s zero l = omega (arith, size_le newest_pair s 4611686018427387934 (omega (arith, l)), mmb_lawful.full)
+root_within s (suc h) l = omega (arith, size_lt newest_pair (s + 3 * 2 ^ h - 2) 4611686018427387934 l, mmb_lawful.full)
 
 -- a search for the last leaf count of no more nodes finds the birth leaf
 pub birth_found_leaf : (s h p n : ℕ) → h ≡ 0 → root_position s h ≡ p → size newest_pair n ≤ p → p < size newest_pair (n + 1) → n ≡ birth_leaf s h

@@ -1,7 +1,9 @@
+ghost use Rattle.std.specs.Prelude.{◌+◌, ◌*◌, ◌^◌, ◌≤◌};
+
 mod mmb;
 mod mmr;
 
-use merkle_base::family::Family;
+use merkle_base::family::{Family, Graftable};
 use merkle_base::location::Location;
 use merkle_base::position::Position;
 use std::process::Abort;
@@ -41,4 +43,44 @@ fn assert_pins<F: Family>(rt: &impl Abort, location: u64, positions: &[u64]) {
         assert_eq!(rt; wanted.next().copied(), Some(position.as_u64()));
     }
     assert!(rt; wanted.next().is_none());
+}
+
+/// Asserts the positions and heights of the maximal nodes inside a chunk of so many leaves, left to right.
+fn assert_chunk<F: Graftable>(
+    rt: &impl Abort,
+    leaves: u64,
+    chunk_idx: u64,
+    grafting_height: u32,
+    peaks: &[(u64, u32)],
+)
+    requires { (chunk_idx + 1) * 2 ^ grafting_height ≤ leaves }
+{
+    let leaves = Location::<F>::new(leaves);
+    assert!(rt; leaves.is_valid());
+    let nodes = F::location_to_position(leaves);
+    let mut wanted = peaks.iter();
+    for (position, height) in F::chunk_peaks(nodes, chunk_idx, grafting_height) {
+        let found = (position.as_u64(), height);
+        assert_eq!(rt; wanted.next().copied(), Some(found));
+    }
+    assert!(rt; wanted.next().is_none());
+}
+
+/// Asserts where the node of a height over the leaves from one on stands, which leaf count it comes with, and that the
+/// position leads back to the leaf.
+fn assert_root<F: Graftable>(
+    rt: &impl Abort,
+    leaf_start: u64,
+    height: u32,
+    position: u64,
+    birth: u64,
+)
+    requires low { height ≤ 62 }
+    requires within { F.root leaf_start height ≤ F.MAX_NODES }
+{
+    let leaf_start = Location::<F>::new(leaf_start);
+    let found = F::subtree_root_position(leaf_start, height);
+    assert_eq!(rt; found.as_u64(), position);
+    assert_eq!(rt; F::leftmost_leaf(found, height), leaf_start);
+    assert_eq!(rt; F::peak_birth_size(found, height), birth);
 }

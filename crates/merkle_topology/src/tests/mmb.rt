@@ -1,10 +1,10 @@
 //! The Mountain Belt.
 
-use super::{assert_inactive, assert_pins, has_peaks};
+use super::{assert_chunk, assert_inactive, assert_pins, assert_root, has_peaks};
 use crate::mmb;
 use crate::mmb::PeakIterator;
 use merkle_base::error::Error;
-use merkle_base::family::Family;
+use merkle_base::family::{Family, Graftable};
 use std::process::Abort;
 use std::test::Fail;
 
@@ -231,4 +231,49 @@ fn nodes_to_pin(rt: HostRuntime) {
     assert_pins::<mmb::Family>(&rt, 4, &[2, 5]);
     assert_pins::<mmb::Family>(&rt, 5, &[7, 6]);
     assert_pins::<mmb::Family>(&rt, 11, &[18, 16, 17]);
+}
+
+#[test]
+fn chunk_peaks(rt: HostRuntime) {
+    assert_chunk::<mmb::Family>(&rt, 8, 0, 2, &[(7, 2)]);
+    assert_chunk::<mmb::Family>(&rt, 8, 1, 2, &[(9, 1), (12, 1)]);
+    assert_chunk::<mmb::Family>(&rt, 8, 0, 3, &[(7, 2), (9, 1), (12, 1)]);
+    assert_chunk::<mmb::Family>(&rt, 10, 0, 3, &[(7, 2), (14, 2)]);
+    assert_chunk::<mmb::Family>(&rt, 11, 0, 3, &[(18, 3)]);
+    assert_chunk::<mmb::Family>(&rt, 11, 0, 2, &[(7, 2)]);
+    assert_chunk::<mmb::Family>(&rt, 11, 1, 2, &[(14, 2)]);
+    assert_chunk::<mmb::Family>(&rt, 11, 3, 0, &[(4, 0)]);
+    assert_chunk::<mmb::Family>(&rt, MAX_LEAVES, 0, 61, &[OLDEST]);
+}
+
+// Of the greatest leaf count the first 2^62 leaves are under the peaks of heights 61 down to 6 and those of height 5. The
+// last one is over leaves 2^62 - 32 on, and comes with leaf 2^62 + 14.
+#[test]
+fn greatest_chunk(rt: HostRuntime) {
+    let nodes = mmb::Family::location_to_position(mmb::Location::new(MAX_LEAVES));
+    let mut peaks = mmb::Family::chunk_peaks(nodes, 0, 62);
+    let (position, height) = OLDEST;
+    assert_eq!(rt; peaks.next(), Some((mmb::Position::new(position), height)));
+    let last = mmb::Position::new(MAX_NODES - 31);
+    assert_eq!(rt; peaks.last(), Some((last, 5)));
+}
+
+#[test]
+fn roots(rt: HostRuntime) {
+    assert_root::<mmb::Family>(&rt, 0, 0, 0, 1);
+    assert_root::<mmb::Family>(&rt, 4, 2, 14, 9);
+    assert_root::<mmb::Family>(&rt, 0, 3, 18, 11);
+}
+
+#[test]
+fn greatest_roots(rt: HostRuntime) {
+    let (position, height) = OLDEST;
+    assert_root::<mmb::Family>(&rt, 0, height, position, 3 * (1 << 60) - 1);
+    assert_root::<mmb::Family>(&rt, MAX_LEAVES, 0, MAX_NODES, MAX_LEAVES + 1);
+}
+
+// No node is over leaves 1 and 2, and none comes with leaf 2 but itself.
+#[test]
+fn root_of_no_node(rt: HostRuntime) {
+    assert_root::<mmb::Family>(&rt, 1, 1, 4, 3);
 }

@@ -1,6 +1,6 @@
 //! The Mountain Range.
 
-use super::{assert_inactive, assert_pins, has_peaks};
+use super::{assert_chunk, assert_inactive, assert_pins, assert_root, has_peaks};
 use crate::mmr;
 use crate::mmr::PeakIterator;
 use merkle_base::error::Error;
@@ -144,4 +144,32 @@ fn nodes_to_pin(rt: HostRuntime) {
     assert_pins::<mmr::Family>(&rt, 0, &[]);
     assert_pins::<mmr::Family>(&rt, 4, &[6]);
     assert_pins::<mmr::Family>(&rt, 11, &[14, 17, 18]);
+}
+
+#[test]
+fn chunk_peaks(rt: HostRuntime) {
+    assert_chunk::<mmr::Family>(&rt, 8, 0, 2, &[(6, 2)]);
+    assert_chunk::<mmr::Family>(&rt, 8, 1, 2, &[(13, 2)]);
+    assert_chunk::<mmr::Family>(&rt, 11, 1, 2, &[(13, 2)]);
+    assert_chunk::<mmr::Family>(&rt, 11, 10, 0, &[(18, 0)]);
+    assert_chunk::<mmr::Family>(&rt, MAX_LEAVES, 0, 62, &[(MAX_NODES - 1, 62)]);
+}
+
+#[test]
+fn roots(rt: HostRuntime) {
+    assert_root::<mmr::Family>(&rt, 0, 0, 0, 1);
+    assert_root::<mmr::Family>(&rt, 4, 2, 13, 8);
+}
+
+// On the way to these no sum passes 64 bits.
+#[test]
+fn greatest_roots(rt: HostRuntime) {
+    assert_root::<mmr::Family>(&rt, 0, 62, MAX_NODES - 1, MAX_LEAVES);
+    assert_root::<mmr::Family>(&rt, MAX_LEAVES, 0, MAX_NODES, MAX_LEAVES + 1);
+}
+
+// No node is over leaves 1 and 2.
+#[test]
+fn root_of_no_node(rt: HostRuntime) {
+    assert_root::<mmr::Family>(&rt, 1, 1, 3, 3);
 }

@@ -1,0 +1,10 @@
+use Rattle.std.proofs.Common.{arith}
+use Rattle.merkle_base.proofs.Births.{size_peaks}
+use Rattle.merkle_forests.specs.Mmr.{carries}
+use Rattle.merkle_topology.proofs.tests.mmr.roots.Goals as goal
+
+pub assert_root-requires-clause-within : goal.assert_root-requires-clause-within
+assert_root-requires-clause-within g c = omega (arith, size_peaks carries 0)
+
+pub assert_root-requires-2-clause-within : goal.assert_root-requires-2-clause-within
+assert_root-requires-2-clause-within g c = omega (arith, size_peaks carries 4)
