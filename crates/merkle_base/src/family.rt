@@ -9,7 +9,7 @@ ghost use Rattle.merkle_base.specs.Places.{IsSize, IsNearestSize, ArePeaks, HasI
 
 use crate::listed::Listed;
 use crate::location::Location;
-pub use crate::pending::{PendingChunk, Unused};
+pub use crate::pending::{Grafting, PendingChunk, Unused};
 use crate::pins::NodesToPin;
 use crate::position::Position;
 use std::fmt::Debug;
