@@ -193,13 +193,14 @@ pub nodes_inside_split : (rule : List ℕ → List ℕ) (n a b c : ℕ) → a �
 nodes_inside_split rule n a b c l r k = flat_split (forest rule n).nodes a b c 0 n (peaks_of rule n) l r (peaks_spans rule n) (peaks_built rule n) k
 
 -- ---- nodes that coordinates tell
+-- a stretch of w from a multiple of w on ends at another multiple or before it, or begins there or after it
 multiple_seam : (k j w : ℕ) → (k * w + w ≤ j * w) ⊎ (j * w ≤ k * w)
 multiple_seam k j w = elim (le_or_lt k j) [
   | inl l ↦ inr (mul-le-mul_right w l)
   | inr l ↦ (let up : suc k * w ≤ j * w = mul-le-mul_right w l in inl (omega arith))
 ]
 
--- multiples of 2 ^ e begin or end at or beside each multiple of 2 ^ h, where h is e at least
+-- a multiple of 2 ^ h is one of 2 ^ e, where e is at most h
 seam_multiple : (b m h e : ℕ) → b ≡ m * 2 ^ h → e ≤ h → (j : ℕ) × (b ≡ j * 2 ^ e)
 seam_multiple b m h e s l =
     let d : h - e + e ≡ h = omega arith in

@@ -3,11 +3,13 @@
 //! Each function is empty. Its contract is a law of the definitions in `specs/`.
 ghost use Rattle.std.specs.Prelude.{◌≡◌, ℕ, suc, ◌+◌, ◌*◌, ◌^◌, ◌<◌, ◌≤◌, List, [], ◌∷◌, ◌++◌, map, reverse, length, slice_get, Some};
 ghost use Rattle.std.specs.List.{range_with_len, flat_map};
-ghost use Rattle.merkle_base.specs.Tree.{Tree, leaf, height, first_leaf, width, locations, IsUnder, IsBuilt};
+ghost use Rattle.merkle_base.specs.Tree.{Tree, leaf, height, first_leaf, width, end_leaf, locations, IsUnder, IsBuilt};
 ghost use Rattle.merkle_base.specs.Forest.{forest, size};
 ghost use Rattle.merkle_base.specs.Heights.{IsLawful, peak_heights, parent_heights};
 ghost use Rattle.merkle_base.specs.Laws.{IsGrown};
 ghost use Rattle.merkle_base.specs.Held.{ChildrenHeld};
+ghost use Rattle.merkle_base.specs.Places.{placed};
+ghost use Rattle.merkle_base.specs.Grafting.{nodes_inside, stretch_nodes, AreCoordinates};
 
 /// What holds of every forest, under any rule.
 pub fn every_forest()
@@ -48,4 +50,14 @@ pub fn pruned_forest()
     ensures held { (rule : List ℕ → List ℕ) → (b n p : ℕ) → (t : Tree) → b ≤ n → slice_get (forest rule n).nodes p ≡ Some t → size rule b ≤ p → ChildrenHeld (size rule b) (forest rule b).peaks t }
     ensures leaf_below { (rule : List ℕ → List ℕ) → (n p k : ℕ) → (t : Tree) → slice_get (forest rule n).nodes p ≡ Some t → first_leaf t ≤ k → k < first_leaf t + width t → IsUnder (leaf (size rule k) k) t }
     ensures holding { (rule : List ℕ → List ℕ) → (n k : ℕ) → k < n → (i : ℕ) × (t : Tree) × (slice_get (forest rule n).peaks i ≡ Some t) × (first_leaf t ≤ k) × (k < first_leaf t + width t) }
+{}
+
+/// What stands over a stretch of leaves.
+pub fn grafted_forest()
+    // Over a node's own leaves that node is the only maximal one, under any rule.
+    ensures own { (rule : List ℕ → List ℕ) → (n p : ℕ) → (t : Tree) → slice_get (forest rule n).nodes p ≡ Some t → nodes_inside rule n (first_leaf t) (end_leaf t) ≡ t ∷ [] }
+
+    // Under a lawful rule whose nodes are told by formulas, the formulas tell the maximal nodes inside a stretch.
+    ensures stretch { (rule : List ℕ → List ℕ) → (max_leaves max_nodes : ℕ) → IsLawful rule max_leaves max_nodes → (root birth : ℕ → ℕ → ℕ) → AreCoordinates rule max_leaves root birth
+        → (n s a h : ℕ) → n ≤ max_leaves → s ≡ a * 2 ^ h → s + 2 ^ h ≤ n → map placed (nodes_inside rule n s (s + 2 ^ h)) ≡ stretch_nodes root birth n s h }
 {}
