@@ -1,6 +1,8 @@
 //! The Merkle Mountain Belt, with the names of this crate at it.
 
-pub use merkle_topology::mmb::{Error, Family, Location, ParentHeights, PeakIterator, Position};
+pub use merkle_topology::mmb::{
+    ChunkPeaks, Error, Family, Location, ParentHeights, PeakIterator, Position,
+};
 
 /// A Mountain Belt in memory.
 pub type Mmb<D> = crate::mem::Mem<Family, D>;

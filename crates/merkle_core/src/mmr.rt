@@ -1,6 +1,8 @@
 //! The Merkle Mountain Range, with the names of this crate at it.
 
-pub use merkle_topology::mmr::{Error, Family, Location, ParentHeights, PeakIterator, Position};
+pub use merkle_topology::mmr::{
+    ChunkPeaks, Error, Family, Location, ParentHeights, PeakIterator, Position,
+};
 
 /// A Mountain Range in memory.
 pub type Mmr<D> = crate::mem::Mem<Family, D>;
