@@ -2,6 +2,7 @@ ghost use Rattle.std.specs.Prelude.{◌+◌, ◌*◌, ◌^◌, ◌≤◌};
 
 mod mmb;
 mod mmr;
+mod pending;
 
 use merkle_base::family::{Family, Graftable};
 use merkle_base::location::Location;
