@@ -20,6 +20,6 @@ pub mod Stored
 pub mod TruthFacts
 pub mod Wholes
 pub mod Small
-pub mod Merkleized
+pub mod ListTruths
 pub mod HonestReads
 pub mod GapFacts

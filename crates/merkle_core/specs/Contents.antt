@@ -1,5 +1,5 @@
 -- What a `Mem` is to its callers, when it agrees with a list, and what pruning keeps of it.
-use Rattle.std.specs.Prelude.{◌≡◌, ℕ, ◌≤◌, List, length, Bool, Option, None, cond, nat_lt, nat_le, ◌||◌, ◌==◌, slice_get, flat_map}
+use Rattle.std.specs.Prelude.{◌≡◌, ℕ, ◌≤◌, List, length, Bool, Option, Some, None, cond, nat_lt, nat_le, ◌||◌, ◌==◌, slice_get, flat_map}
 use Rattle.std.specs.List.{list_any}
 use Rattle.std.specs.Option.{option_to_list}
 use Rattle.merkle_base.specs.Forest.{size}
@@ -32,3 +32,7 @@ pruned rule b c = cond (nat_lt c.boundary b) (record { boundary = b; size = c.si
 -- the digests held at the peaks of n leaves, oldest first
 abbrev pub held_peaks : {D : Type 0} → (List ℕ → List ℕ) → ℕ → Contents D → List D
 held_peaks rule n c = flat_map (λ p. option_to_list (c.node p)) (peak_positions rule n)
+
+-- it agrees with one of the lists
+abbrev pub AgreesWithOne : {D : Type 0} → Hashing D → (List ℕ → List ℕ) → Contents D → List (List D) → Type 0
+AgreesWithOne {D} h rule c ls = (i : ℕ) × (X : List D) × (slice_get ls i ≡ Some X) × Agrees h rule c X

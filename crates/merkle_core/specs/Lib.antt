@@ -17,3 +17,10 @@ pub mod HeldPeaks
 pub mod Refusals
 pub mod ProofRefusals
 pub mod Rows
+pub mod Missing
+pub mod Linked
+pub mod Roots
+pub mod Refreshed
+pub mod Drafts
+pub mod DraftReads
+pub mod Held

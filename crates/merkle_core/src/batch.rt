@@ -1,65 +1,80 @@
-//! Speculative batches: leaves to be added, and the nodes and peaks that follow from them.
-ghost use Rattle.std.specs.Prelude.{◌≡◌, ◌<◌, ◌≤◌, ◌⊎◌, ℕ, List, [], ◌∷◌, None, length, IfOk, IfErr, IsOkUnless};
+//! Speculative batches: leaves to be added and changed, over a structure or over another batch.
+//!
+//! A batch is forked, takes leaves and updates, and is merkleized. Merkleized batches can be stacked and forked to any
+//! depth; each of them can be applied to a structure at any state that its kept records start from or reach.
+ghost use Rattle.std.specs.Prelude.{◌≡◌, ◌<◌, ◌≤◌, ◌⊎◌, ◌+◌, ◌++◌, ℕ, List, ◌∷◌, [], None, Some, Err, true, slice_set, is_some, length, IfOk, IfErr, IsOkUnless};
+ghost use Rattle.std.specs.FinMap.{empty, get};
 ghost use Rattle.merkle_base.specs.Forest.{size};
 ghost use Rattle.merkle_base.specs.Hashing.{Hashing};
-ghost use Rattle.merkle_core.specs.Contents.{Agrees};
-ghost use Rattle.merkle_core.specs.Pending.{IsForkedFrom, leaf_total, pending_list, with_leaf};
+ghost use Rattle.merkle_base.specs.Tree.{Tree, position};
+ghost use Rattle.merkle_core.specs.Contents.{AgreesWithOne};
+ghost use Rattle.merkle_core.specs.Missing.{IsMissing};
+ghost use Rattle.merkle_core.specs.Pending.{Fault, first_fault, forked, kept, kept_lists, leaf_total, pending_list, update_fault, with_leaf, with_leaves, with_update, with_updates, without_ancestors};
 ghost use Rattle.merkle_core.specs.Recorded.{after, records};
-ghost use Rattle.merkle_core.specs.Stands.{StandsOn};
-ghost use Rattle.merkle_core.specs.Store.{contents, node};
-ghost use Rattle.merkle_core.specs.Replay.{begins_at};
+ghost use Rattle.merkle_core.specs.Refusals.{fault_error};
+ghost use Rattle.merkle_core.specs.Stands.{StandsOn, last_list};
+ghost use Rattle.merkle_core.specs.Store.{contents};
 
 use crate::mem::Mem;
-use crate::merkleize::{append_leaves, read_peaks};
+use crate::record::Record;
+pub use crate::merkleized::MerkleizedBatch;
+use crate::draft::Draft;
 use merkle_base::digest::Digest;
 use merkle_base::error::Error;
 use merkle_base::family::Family;
 use merkle_base::location::Location;
 use merkle_base::position::Position;
 use merkle_proof::hasher::Hasher;
-use std::alloc::{AllocError, Global};
+use std::collections::BTreeMap;
 use std::marker::Model;
-use std::rc::Rc;
+use std::rc::{Rc, RcSlice};
 
-/// A batch of leaves to be added to a structure, whose nodes aren't computed yet.
+/// A batch whose nodes aren't computed yet: the leaves that it adds, and those of its parent that it changes.
 ///
-/// To a contract it is the leaf count and the peak digests that it was forked from, and the digests of the added leaves.
+/// Each call takes the batch and gives it back changed; after a refusal it is gone, and its parent is as it was.
+///
+/// To a contract it is its parent, the digests of the added leaves, those of the changed ones, and how many of the
+/// parent's ancestors it lets go.
 #[derive(Debug, Drop)]
 pub struct UnmerkleizedBatch<F: Family, D: Digest> {
+    parent: Rc<MerkleizedBatch<F, D>>,
+    // the parent's leaf count
     leaves_before: Location<F>,
-    peaks_before: Vec<D>,
     // the digests of the added leaves
     added: Vec<D>,
+    // the new digests of the parent's leaves, by position
+    updates: BTreeMap<Position<F>, D>,
+    // how many of the parent's kept records are let go, at most all
+    forgotten: usize,
 }
 
 impl<F: Family, D: Digest> Model for UnmerkleizedBatch<F, D> {
-    ghost use Rattle.std.specs.Prelude.{◌+◌, ◌≤◌, length};
-    ghost use Rattle.merkle_core.specs.Pending.{Pending, pending_code};
+    ghost use Rattle.std.specs.FinMap.{from_entries};
+    ghost use Rattle.merkle_core.specs.Pending.{IsPending, Pending, pending_code};
 
     ghost Value = { Pending D };
 
     ghost coded = { pending_code D.code };
 
-    ghost view = { λ b. record { leaves_before = b.leaves_before; peaks_before = b.peaks_before.items; added = b.added.items } };
+    ghost view = { λ b. record { parent = b.parent.value; leaves_before = b.leaves_before; added = b.added.items; overwritten = from_entries b.updates.entries; forgotten = b.forgotten } };
 
-    ghost invariant = { λ b. b.leaves_before + length b.added.items ≤ F.MAX_LEAVES };
+    ghost invariant = { λ b. IsPending F.rule F.MAX_LEAVES (record { parent = b.parent.value; leaves_before = b.leaves_before; added = b.added.items; overwritten = from_entries b.updates.entries; forgotten = b.forgotten }) };
 }
 
 impl<F: Family, D: Digest> UnmerkleizedBatch<F, D> {
-    // A batch without changes, forked from a structure of so many leaves with these peaks, oldest first.
-    pub(crate) fn forked(
-        alloc: Global,
-        leaves: Location<F>,
-        peaks: &[D],
-    ) -> Result<Self, AllocError>
-        requires { leaves ≤ F.MAX_LEAVES }
-        ensures { IfOk result (λ b. b ≡ record { leaves_before = leaves; peaks_before = peaks.now; added = [] }) }
+    /// A batch without changes, forked from another one.
+    pub fn new(parent: Rc<MerkleizedBatch<F, D>>) -> Self
+        ensures { (n : ℕ) → n ≤ F.MAX_LEAVES → size F.rule n ≡ after parent.value.own → result ≡ forked parent.value n empty }
     {
-        Ok(UnmerkleizedBatch {
-            leaves_before: leaves,
-            peaks_before: peaks.to_vec(alloc)?,
+        let alloc = parent.allocator();
+        let leaves_before = parent.leaves();
+        UnmerkleizedBatch {
+            parent,
+            leaves_before,
             added: Vec::new(alloc),
-        })
+            updates: BTreeMap::new(alloc),
+            forgotten: 0,
+        }
     }
 
     /// The number of leaves, with the added ones.
@@ -67,6 +82,18 @@ impl<F: Family, D: Digest> UnmerkleizedBatch<F, D> {
         ensures { result ≡ leaf_total self.now }
     {
         self.leaves_before + self.added.len() as u64
+    }
+
+    /// Lets the oldest records of the parent's ancestors go, so many of those that are still kept and at most all.
+    ///
+    /// The parent's own record stays. The merkleized batch can't be applied to a structure at a state before the records
+    /// that it keeps.
+    pub fn forget_ancestors(mut self, count: usize) -> Self
+        ensures { result ≡ without_ancestors self count }
+    {
+        let kept = self.parent.ancestors.len();
+        self.forgotten = self.forgotten.saturating_add(count).min(kept);
+        self
     }
 
     /// Adds a leaf with this element.
@@ -99,84 +126,161 @@ impl<F: Family, D: Digest> UnmerkleizedBatch<F, D> {
         Ok(self)
     }
 
-    /// Computes the nodes and peaks that follow from the added leaves, over a structure that holds the nodes before them.
+    /// Adds leaves with these digests, in their order.
     ///
-    /// Refused with `MissingNode` of a position before the fork's size that is needed and that the base doesn't hold, or
-    /// with `OutOfMemory`; the batch is gone then.
+    /// Refused with `LocationOverflow` of the greatest leaf count where they would pass it, and else with `OutOfMemory`;
+    /// the batch is gone then.
+    pub fn add_leaf_digests(mut self, digests: &[D]) -> Result<Self, Error<F>>
+        ensures added { IfOk result (λ b. b ≡ with_leaves self digests.now) }
+        ensures room { IfOk result (λ _. leaf_total self + length digests.now ≤ F.MAX_LEAVES) }
+        ensures refused { IfErr result (λ e. ((e ≡ Error.LocationOverflow F.MAX_LEAVES) × (F.MAX_LEAVES < leaf_total self + length digests.now)) ⊎ ((e ≡ Error.OutOfMemory) × (leaf_total self + length digests.now ≤ F.MAX_LEAVES))) }
+    {
+        if digests.len() as u64 > F::MAX_LEAVES - self.leaves().as_u64() {
+            return Err(Error::LocationOverflow(Location::new(F::MAX_LEAVES)));
+        }
+        self.added.extend_from_slice(digests)?;
+        Ok(self)
+    }
+
+    // Refuses a location that is no leaf of the batch, or that is pruned.
+    fn check_update(&self, location: Location<F>) -> Result<(), Error<F>>
+        ensures ok { IfOk result (λ _. update_fault F.rule self.now location ≡ None) }
+        ensures err { IfErr result (λ e. (fault : Fault) × (update_fault F.rule self.now location ≡ Some fault) × (e ≡ fault_error fault)) }
+    {
+        if location >= self.leaves() {
+            return Err(Error::LeafOutOfBounds(location));
+        }
+        if location < self.parent.pruning_boundary() {
+            return Err(Error::ElementPruned(F::location_to_position(location)));
+        }
+        Ok(())
+    }
+
+    /// Gives the leaf at a location this element.
+    ///
+    /// Refused as [`update_leaf_digest`](UnmerkleizedBatch::update_leaf_digest).
+    pub fn update_leaf<H: Hasher<F, Digest = D>>(
+        self,
+        hasher: &H,
+        location: Location<F>,
+        element: &[u8],
+    ) -> Result<Self, Error<F>>
+        ensures updated { IfOk result (λ b. b ≡ with_update F.rule self location ((H.hashing hasher.now).leaf (size F.rule location) element.now)) }
+        ensures refused { (fault : Fault) → update_fault F.rule self location ≡ Some fault → result ≡ Err (fault_error fault) }
+        ensures allowed { update_fault F.rule self location ≡ None → IsOkUnless result Error.OutOfMemory }
+    {
+        match self.check_update(location) {
+            Ok(()) => {
+                let digest = hasher.leaf_digest(F::location_to_position(location), element);
+                self.update_leaf_digest(location, digest)
+            }
+            Err(error) => Err(error),
+        }
+    }
+
+    /// Gives the leaf at a location this digest.
+    ///
+    /// Refused, in this order: with `LeafOutOfBounds` where the batch has no such leaf, its added ones counted, with
+    /// `ElementPruned` of the leaf's position where the location is below the boundary recorded at the fork, and with
+    /// `OutOfMemory`; the batch is gone then.
+    pub fn update_leaf_digest(mut self, location: Location<F>, digest: D) -> Result<Self, Error<F>>
+        ensures updated { IfOk result (λ b. b ≡ with_update F.rule self location digest) }
+        ensures edited { IfOk result (λ b. (X : List D) → length X ≡ self.leaves_before → pending_list F.rule b X ≡ slice_set (pending_list F.rule self X) location digest) }
+        ensures refused { (fault : Fault) → update_fault F.rule self location ≡ Some fault → result ≡ Err (fault_error fault) }
+        ensures allowed { update_fault F.rule self location ≡ None → IsOkUnless result Error.OutOfMemory }
+    {
+        match self.check_update(location) {
+            Ok(()) => {}
+            Err(error) => return Err(error),
+        }
+        if location < self.leaves_before {
+            let position = F::location_to_position(location);
+            self.updates.insert(position, digest)?;
+        } else {
+            self.added[(location - self.leaves_before).as_u64() as usize] = digest;
+        }
+        Ok(self)
+    }
+
+    /// Gives each of these leaves its digest, one after another, so that a repeated location keeps its last one.
+    ///
+    /// All locations are tested before any leaf is changed. Refused, for the first location where one applies, as
+    /// [`update_leaf_digest`](UnmerkleizedBatch::update_leaf_digest).
+    pub fn update_leaf_batched(mut self, updates: &[(Location<F>, D)]) -> Result<Self, Error<F>>
+        ensures updated { IfOk result (λ b. b ≡ with_updates F.rule self updates.now) }
+        ensures refused { (fault : Fault) → first_fault F.rule self updates.now ≡ Some fault → result ≡ Err (fault_error fault) }
+        ensures allowed { first_fault F.rule self updates.now ≡ None → IsOkUnless result Error.OutOfMemory }
+    {
+        for (location, _) in updates {
+            match self.check_update(*location) {
+                Ok(()) => {}
+                Err(error) => return Err(error),
+            }
+        }
+        for (location, digest) in updates {
+            match self.update_leaf_digest(*location, *digest) {
+                Ok(batch) => self = batch,
+                Err(error) => return Err(error),
+            }
+        }
+        Ok(self)
+    }
+
+    /// Computes the nodes and peaks that follow from the added and changed leaves.
+    ///
+    /// The nodes that it needs are the children of the nodes that it computes and, if it has changes, the peaks of its end,
+    /// without those that it appends or overwrites itself. It reads them from the records that it keeps, the parent's own
+    /// among them, the newest first, and then from the base.
+    ///
+    /// Refused with `MissingNode` of a needed node that is held by none of them, or with `OutOfMemory`; the batch is gone
+    /// then.
     pub fn merkleize<H: Hasher<F, Digest = D>>(
         self,
         base: &Mem<F, D>,
         hasher: &H,
     ) -> Result<Rc<MerkleizedBatch<F, D>>, Error<F>>
-        ensures fork { IfOk result (λ b. (b.value.base_size ≡ size F.rule self.leaves_before) × (b.value.own.before ≡ size F.rule self.leaves_before) × (b.value.own.peaks_before ≡ self.peaks_before)) }
+        ensures fork { IfOk result (λ b. (b.value.base_size ≡ self.parent.base_size) × (b.value.boundary ≡ self.parent.boundary) × (b.value.ancestors ≡ kept self)) }
+        ensures begins { IfOk result (λ b. (b.value.own.before ≡ after self.parent.own) × (b.value.own.peaks_before ≡ self.parent.own.peaks_after)) }
         ensures counted { IfOk result (λ b. after b.value.own ≡ size F.rule (leaf_total self)) }
-        ensures refused { IfErr result (λ e. (e ≡ Error.OutOfMemory) ⊎ ((p : ℕ) × (e ≡ Error.MissingNode p) × (p < size F.rule self.leaves_before) × (node base.now p ≡ None))) }
-        ensures given { (h : Hashing D) → (X : List D) → length X ≡ self.leaves_before → Agrees h F.rule (contents base.now) X → base.now.boundary ≡ 0 → IsOkUnless result Error.OutOfMemory }
+        ensures refused { IfErr result (λ e. (e ≡ Error.OutOfMemory) ⊎ ((t : Tree) × (e ≡ Error.MissingNode (position t)) × IsMissing F.rule self (contents base.now) t)) }
+        ensures complete { IfOk result (λ _. (t : Tree) → IsMissing F.rule self (contents base.now) t → ⊥) }
 
-        // Where it was forked from a structure of a list, and the base agrees with that list, it stands on the list and on
-        // the list with the added leaves.
-        ensures stands { IfOk result (λ b. (X : List D) → IsForkedFrom (H.hashing hasher.now) F.rule self X → Agrees (H.hashing hasher.now) F.rule (contents base.now) X → StandsOn (H.hashing hasher.now) F.rule (records b.value) (X ∷ pending_list self X ∷ [])) }
+        // Where its parent stands on lists and the base agrees with one that the kept records start from or reach, it stands
+        // on these and on the last of them with its changes.
+        ensures stands { IfOk result (λ b. (ls : List (List D)) → StandsOn (H.hashing hasher.now) F.rule (records self.parent) ls → AgreesWithOne (H.hashing hasher.now) F.rule (contents base.now) (kept_lists self ls) → StandsOn (H.hashing hasher.now) F.rule (records b.value) (kept_lists self ls ++ pending_list F.rule self (last_list ls) ∷ [])) }
+        ensures given { (h : Hashing D) → (ls : List (List D)) → StandsOn h F.rule (records self.parent) ls → AgreesWithOne h F.rule (contents base.now) (kept_lists self ls) → ((k : ℕ) → is_some (get self.overwritten (size F.rule k)) ≡ true → base.now.boundary ≤ k) → IsOkUnless result Error.OutOfMemory }
     {
         let UnmerkleizedBatch {
+            parent,
             leaves_before,
-            peaks_before,
             added,
+            updates,
+            forgotten,
         } = self;
-        let alloc = *added.allocator();
-        let size_before = F::location_to_position(leaves_before);
+        let alloc = parent.allocator();
+        let mut draft = Draft::of_parent(&parent, forgotten)?;
+        draft.refresh_leaves(base, hasher, leaves_before, &updates)?;
+        draft.append_leaves(base, hasher, leaves_before, &added)?;
         let leaves = leaves_before + added.len() as u64;
-        let appended = append_leaves(alloc, base, hasher, leaves_before, &added)?;
-        let peaks_after = if added.is_empty() {
-            peaks_before.to_vec(alloc)?
+        let peaks_after = if added.is_empty() && updates.is_empty() {
+            parent.own.peaks_after.clone()?
         } else {
-            read_peaks(alloc, base, size_before, &appended, leaves)?
+            RcSlice::from_vec(draft.read_peaks(base, leaves)?)?
         };
-        let batch = MerkleizedBatch {
-            size_before,
-            leaves,
-            peaks_before,
-            appended,
+        let own = Record {
+            size_before: draft.size_before,
+            peaks_before: parent.own.peaks_after.clone()?,
+            appended: draft.appended,
+            overwrites: draft.overwrites,
             peaks_after,
         };
+        let batch = MerkleizedBatch {
+            own: Rc::new(alloc, own)?,
+            ancestors: draft.kept,
+            leaves,
+            base_size: parent.base_size,
+            pruning_boundary: parent.pruning_boundary,
+        };
         Ok(Rc::new(alloc, batch)?)
-    }
-}
-
-/// A batch with its nodes computed: what it appends, and the states before and after it.
-///
-/// To a contract it is its own record, behind those that it keeps of its ancestors.
-#[derive(Debug, Drop)]
-pub struct MerkleizedBatch<F: Family, D: Digest> {
-    pub(crate) size_before: Position<F>,
-    // the leaf count after
-    pub(crate) leaves: Location<F>,
-    pub(crate) peaks_before: Vec<D>,
-    // the nodes from `size_before` on
-    pub(crate) appended: Vec<D>,
-    pub(crate) peaks_after: Vec<D>,
-}
-
-impl<F: Family, D: Digest> Model for MerkleizedBatch<F, D> {
-    ghost use Rattle.std.specs.Prelude.{◌+◌, [], length};
-    ghost use Rattle.std.specs.FinMap.{from_entries};
-    ghost use Rattle.merkle_core.specs.Recorded.{Chain, chain_code};
-
-    ghost Value = { Chain D };
-
-    ghost coded = { chain_code D.code };
-
-    ghost use Rattle.merkle_core.specs.Whole.{IsCounted};
-
-    ghost view = { λ b. record { base_size = b.size_before; boundary = 0; ancestors = []; own = record { before = b.size_before; peaks_before = b.peaks_before.items; appended = b.appended.items; overwritten = from_entries []; peaks_after = b.peaks_after.items } } };
-
-    ghost invariant = { λ b. IsCounted F.rule F.MAX_LEAVES b.leaves (b.size_before + length b.appended.items) };
-}
-
-impl<F: Family, D: Digest> MerkleizedBatch<F, D> {
-    // Whether it was forked from a structure of this size with these peak digests, oldest first.
-    pub(crate) fn begins_at(&self, size: Position<F>, peaks: &[D]) -> bool
-        ensures { result ≡ begins_at D.eq size peaks.now self.now.own }
-    {
-        size == self.size_before && peaks == self.peaks_before.as_slice()
     }
 }

@@ -5,11 +5,18 @@
 #![tactic(auto)]
 
 pub mod batch;
+mod draft;
+mod find;
+mod gap;
 pub mod laws;
 pub mod mem;
-mod merkleize;
+mod merkleized;
 pub mod mmb;
 pub mod mmr;
+mod overwrites;
+mod record;
+mod refresh;
+mod replay;
 
 pub use merkle_base::{codec, digest, error, family, location, position};
-pub use merkle_proof::{hasher, path, proof};
+pub use merkle_proof::{hasher, path, proof, read};

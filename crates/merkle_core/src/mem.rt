@@ -1,5 +1,5 @@
 //! Merkle structures in memory.
-ghost use Rattle.std.specs.Prelude.{◌≡◌, ◌≢◌, ◌+◌, ◌<◌, ◌≤◌, ◌⊎◌, ℕ, List, [], Err, None, Ok, is_some, take, true, length, OnErr, OnOk, IfOk, IfErr, IsOkUnless};
+ghost use Rattle.std.specs.Prelude.{◌≡◌, ◌≢◌, ◌+◌, ◌<◌, ◌≤◌, ◌⊎◌, ℕ, List, [], ◌∷◌, ◌==◌, Err, None, Ok, is_some, take, true, length, OnErr, OnOk, IfOk, IfErr, IsOkUnless};
 ghost use Rattle.merkle_base.specs.Places.{ArePeaks, peaks_of};
 ghost use Rattle.merkle_base.specs.Forest.{size};
 ghost use Rattle.merkle_base.specs.Root.{list_root, peaks_root};
@@ -7,7 +7,10 @@ ghost use Rattle.merkle_core.specs.Store.{node, contents, whole_store};
 ghost use Rattle.merkle_base.specs.Hashing.{Hashing, TellsApart};
 ghost use Rattle.merkle_core.specs.Collision.{CollidesWithOne};
 ghost use Rattle.merkle_core.specs.Contents.{Agrees, held_peaks};
-ghost use Rattle.merkle_core.specs.Pending.{IsForkedFrom};
+ghost use Rattle.merkle_core.specs.Pending.{forked};
+ghost use Rattle.merkle_core.specs.Roots.{root_batch};
+ghost use Rattle.std.specs.FinMap.{empty};
+ghost use Rattle.std.specs.Map.{lookup};
 ghost use Rattle.merkle_core.specs.Recorded.{records};
 ghost use Rattle.merkle_core.specs.Stands.{StandsOn, last_list};
 ghost use Rattle.merkle_core.specs.Replay.{applied, matched, refusal};
@@ -19,6 +22,9 @@ ghost use Rattle.merkle_proof.specs.Range.{IsHonestRange};
 ghost use Rattle.merkle_proof.specs.RangePlans.{IsBuildRefusal, IsBuiltProof, list_input};
 
 use crate::batch::{MerkleizedBatch, UnmerkleizedBatch};
+use crate::find::{find_state, refusal};
+use crate::record::Record;
+use crate::replay::{lay, lay_all};
 use merkle_base::digest::Digest;
 use merkle_base::error::Error;
 use merkle_base::family::Family;
@@ -27,7 +33,8 @@ use merkle_base::position::Position;
 use merkle_proof::hasher::Hasher;
 use merkle_proof::proof::Proof;
 use merkle_proof::range_plan::RangePlan;
-use std::alloc::Global;
+use merkle_proof::read::Readable;
+use std::alloc::{AllocError, Global};
 use std::marker::Model;
 
 /// The greatest number of peaks of a family's structure.
@@ -41,29 +48,34 @@ fn front<D>(digests: &[D; MAX_PEAKS], count: usize) -> &[D]
     &digests[..count]
 }
 
-/// A Merkle structure in memory: every node of it, changed by batches.
+/// A Merkle structure in memory, changed by batches.
 ///
 /// To a contract it is its pruning boundary, its node count and the nodes that it holds.
 #[derive(Debug, Drop)]
 pub struct Mem<F: Family, D: Digest> {
-    // the nodes by position
+    // the nodes from position `start` on
     nodes: Vec<D>,
+    // the nodes before it that are held, by position
+    pins: Vec<(Position<F>, D)>,
+    // the position of the leaf at the boundary
+    start: Position<F>,
+    boundary: Location<F>,
     leaves: Location<F>,
 }
 
 impl<F: Family, D: Digest> Model for Mem<F, D> {
-    ghost use Rattle.std.specs.Prelude.{length};
-    ghost use Rattle.merkle_core.specs.Store.{Store, store_code, whole_store};
+    ghost use Rattle.std.specs.Prelude.{◌+◌, length};
+    ghost use Rattle.merkle_core.specs.Store.{Store, store_code, stored_of};
 
     ghost Value = { Store D };
 
     ghost coded = { store_code D.code };
 
-    ghost use Rattle.merkle_core.specs.Whole.{IsCounted};
+    ghost use Rattle.merkle_core.specs.Whole.{IsKept};
 
-    ghost view = { λ m. whole_store m.nodes.items (length m.nodes.items) };
+    ghost view = { λ m. record { boundary = m.boundary; size = m.start + length m.nodes.items; stored = stored_of m.pins.items m.start m.nodes.items } };
 
-    ghost invariant = { λ m. IsCounted F.rule F.MAX_LEAVES m.leaves (length m.nodes.items) };
+    ghost invariant = { λ m. IsKept F.rule F.MAX_LEAVES m.boundary m.start m.leaves m.pins.items m.nodes.items };
 }
 
 impl<F: Family, D: Digest> Mem<F, D> {
@@ -74,6 +86,9 @@ impl<F: Family, D: Digest> Mem<F, D> {
     {
         Mem {
             nodes: Vec::new(alloc),
+            pins: Vec::new(alloc),
+            start: Position::new(0),
+            boundary: Location::new(0),
             leaves: Location::new(0),
         }
     }
@@ -82,7 +97,7 @@ impl<F: Family, D: Digest> Mem<F, D> {
     pub fn size(&self) -> Position<F>
         ensures { result ≡ self.now.size }
     {
-        Position::from(self.nodes.len())
+        self.start + self.nodes.len() as u64
     }
 
     /// The number of leaves.
@@ -93,18 +108,61 @@ impl<F: Family, D: Digest> Mem<F, D> {
         self.leaves
     }
 
+    /// The location that it was pruned to; the leaves before it are gone.
+    pub fn pruning_boundary(&self) -> Location<F>
+        ensures { result ≡ self.now.boundary }
+    {
+        self.boundary
+    }
+
     /// The digest of the node at a position, or `None` where none is held.
     pub fn get_node(&self, position: Position<F>) -> Option<D>
         ensures { result ≡ node self.now position }
     {
-        self.nodes.get(position.as_u64() as usize).copied()
+        if position < self.start {
+            pinned(&self.pins, position)
+        } else {
+            self.nodes
+                .get((position - self.start).as_u64() as usize)
+                .copied()
+        }
     }
 
     /// The peaks with their heights, oldest first.
     pub fn peak_iterator(&self) -> F::Peaks
         ensures { ArePeaks F.rule F.MAX_LEAVES self.now.size (F.Peaks.left result) }
     {
-        F::peaks(Position::from(self.nodes.len()))
+        F::peaks(self.size())
+    }
+
+    // The digests of the peaks, oldest first.
+    pub(crate) fn peak_digests(&self) -> Result<Vec<D>, AllocError>
+        ensures { IfOk result (λ v. (n : ℕ) → n ≤ F.MAX_LEAVES → size F.rule n ≡ self.now.size → v.items ≡ held_peaks F.rule n (contents self.now)) }
+    {
+        let mut digests = [D::EMPTY; MAX_PEAKS];
+        let count = self.write_peaks(&mut digests);
+        front(&digests, count).to_vec(self.allocator())
+    }
+
+    // Where its memory comes from.
+    pub(crate) fn allocator(&self) -> Global {
+        *self.nodes.allocator()
+    }
+
+    /// A structure of its own with the same nodes.
+    ///
+    /// Refused for want of memory.
+    pub fn clone(&self) -> Result<Self, AllocError>
+        ensures { IfOk result (λ m. m ≡ self.now) }
+    {
+        let alloc = self.allocator();
+        Ok(Mem {
+            nodes: self.nodes.to_vec(alloc)?,
+            pins: self.pins.to_vec(alloc)?,
+            start: self.start,
+            boundary: self.boundary,
+            leaves: self.leaves,
+        })
     }
 
     // Writes the digests of the peaks, oldest first, and answers their number.
@@ -181,7 +239,7 @@ impl<F: Family, D: Digest> Mem<F, D> {
         if location >= leaves {
             return Err(Error::LeafOutOfBounds(location));
         }
-        let alloc = *self.nodes.allocator();
+        let alloc = self.allocator();
         match RangePlan::new(alloc, leaves, location..location + 1) {
             Ok(plan) => self.build_proof(plan, hasher, inactive),
             Err(error) => Err(error),
@@ -192,20 +250,26 @@ impl<F: Family, D: Digest> Mem<F, D> {
     ///
     /// Refused with `OutOfMemory`.
     pub fn new_batch(&self) -> Result<UnmerkleizedBatch<F, D>, Error<F>>
-        ensures forked { IfOk result (λ b. (n : ℕ) → n ≤ F.MAX_LEAVES → size F.rule n ≡ self.now.size → b ≡ record { leaves_before = n; peaks_before = held_peaks F.rule n (contents self.now); added = [] }) }
-        ensures of_list { IfOk result (λ b. (h : Hashing D) → (X : List D) → Agrees h F.rule (contents self.now) X → IsForkedFrom h F.rule b X) }
+        ensures forked { IfOk result (λ b. (n : ℕ) → n ≤ F.MAX_LEAVES → size F.rule n ≡ self.now.size → b ≡ forked (root_batch F.rule n (contents self.now)) n empty) }
+        ensures of_list { IfOk result (λ b. (h : Hashing D) → (X : List D) → Agrees h F.rule (contents self.now) X → StandsOn h F.rule (records b.parent) (X ∷ X ∷ [])) }
         ensures refused { IsOkUnless result Error.OutOfMemory }
     {
-        let mut digests = [D::EMPTY; MAX_PEAKS];
-        let count = self.write_peaks(&mut digests);
-        Ok(UnmerkleizedBatch::forked(*self.nodes.allocator(), self.leaves, front(&digests, count))?)
+        match MerkleizedBatch::from_mem(self) {
+            Ok(parent) => Ok(UnmerkleizedBatch::new(parent)),
+            Err(error) => Err(error),
+        }
     }
 
-    /// Applies a batch.
+    /// Applies the records of a batch that follow the state that this structure is at.
     ///
-    /// Accepted exactly where the size and the peak digests are those from which the batch was forked. Refused else with
-    /// `StaleBatch` of the size from which the batch was forked and the size that is found, and then with `OutOfMemory`;
-    /// nothing is changed by a refusal.
+    /// Accepted exactly where the size and the peak digests are those before the oldest record that the batch keeps, its
+    /// own where it keeps no other, or those after one of the kept ancestors. The state before the oldest record is tried
+    /// first, and then those after the ancestors from the newest on. The records that follow that state are laid over the
+    /// nodes, the oldest first; a new digest of a node that isn't held is dropped.
+    ///
+    /// Refused else, with `AncestorDropped` where the size is at least that of the structure that the chain began with and
+    /// below the one before the oldest record that is kept, and with `StaleBatch` otherwise; or with `OutOfMemory`. Nothing
+    /// is changed by a refusal.
     pub fn apply_batch(&mut self, batch: &MerkleizedBatch<F, D>) -> Result<(), Error<F>>
         ensures unchanged { OnErr result (self.new ≡ self.old) }
         ensures done { OnOk result ((n : ℕ) → n ≤ F.MAX_LEAVES → size F.rule n ≡ self.old.size → applied D.eq F.rule n batch.now (contents self.old) ≡ Ok (contents self.new)) }
@@ -216,16 +280,49 @@ impl<F: Family, D: Digest> Mem<F, D> {
         // and one of those have the same length and peak digests and collide at a node.
         ensures agrees { OnOk result ((h : Hashing D) → (X : List D) → (ls : List (List D)) → TellsApart h → h.same ≡ D.eq → Agrees h F.rule (contents self.old) X → StandsOn h F.rule (records batch.now) ls → Agrees h F.rule (contents self.new) (last_list ls) ⊎ CollidesWithOne h F.rule X ls) }
     {
+        let own: &Record<F, D> = &batch.own;
         let mut digests = [D::EMPTY; MAX_PEAKS];
         let count = self.write_peaks(&mut digests);
-        if !batch.begins_at(self.size(), front(&digests, count)) {
-            return Err(Error::StaleBatch {
-                expected: batch.size_before,
-                actual: self.size(),
-            });
-        }
-        self.nodes.extend_from_slice(&batch.appended)?;
+        let Some(first) = find_state(self.size(), front(&digests, count), batch) else {
+            return Err(refusal(self.size(), batch));
+        };
+        let added = batch.size() - self.size();
+        self.nodes.reserve(added.as_u64() as usize)?;
+        lay_all(&mut self.nodes, &mut self.pins, self.start, &batch.ancestors[first..]);
+        lay(&mut self.nodes, &mut self.pins, self.start, own);
         self.leaves = batch.leaves;
         Ok(())
     }
+}
+
+impl<F: Family, D: Digest> Readable for Mem<F, D> {
+    type Family = F;
+
+    type Digest = D;
+
+    ghost size = { λ m. m.size };
+
+    ghost node = { λ m p. node m p };
+
+    fn size(&self) -> Position<F> {
+        Mem::size(self)
+    }
+
+    fn get_node(&self, position: Position<F>) -> Option<D>
+        ensures { result ≡ node self.now position }
+    {
+        Mem::get_node(self, position)
+    }
+}
+
+// The digest of the pin at a position, if there is one.
+fn pinned<F, D: Copy>(pins: &[(Position<F>, D)], position: Position<F>) -> Option<D>
+    ensures { result ≡ lookup (λ q. position == q) pins.now }
+{
+    for (pin, digest) in pins {
+        if *pin == position {
+            return Some(*digest);
+        }
+    }
+    None
 }

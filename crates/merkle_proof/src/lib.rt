@@ -7,7 +7,8 @@ pub mod laws;
 pub mod path;
 pub mod proof;
 pub mod range_plan;
+pub mod read;
 mod reading;
-mod subtree;
+pub mod subtree;
 #[cfg(test)]
 mod tests;

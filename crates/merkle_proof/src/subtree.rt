@@ -16,15 +16,15 @@ use std::ops::Range;
 
 /// A node of a forest: where it stands, its height, and its first leaf.
 #[derive_where(Clone, Copy, Debug)]
-pub(crate) struct Subtree<F> {
-    pub(crate) position: Position<F>,
-    pub(crate) height: u32,
-    pub(crate) first_leaf: Location<F>,
+pub struct Subtree<F> {
+    pub position: Position<F>,
+    pub height: u32,
+    pub first_leaf: Location<F>,
 }
 
 impl<F: Family> Subtree<F> {
     /// The location after its last leaf.
-    pub(crate) fn leaf_end(&self) -> Location<F>
+    pub fn leaf_end(&self) -> Location<F>
         requires { (t : Tree) × Means F.rule F.MAX_LEAVES self.now t }
         ensures { (t : Tree) → Means F.rule F.MAX_LEAVES self.now t → result ≡ first_leaf t + width t }
     {
@@ -49,7 +49,7 @@ impl<F: Family> Subtree<F> {
     }
 
     /// Its two children.
-    pub(crate) fn children(&self) -> (Self, Self)
+    pub fn children(&self) -> (Self, Self)
         requires { (p : _) × (a : Tree) × (b : Tree) × Means F.rule F.MAX_LEAVES self.now (join p a b) }
         ensures { (p : _) (a b : Tree) → Means F.rule F.MAX_LEAVES self.now (join p a b) → Means F.rule F.MAX_LEAVES result.0 a × Means F.rule F.MAX_LEAVES result.1 b }
     {

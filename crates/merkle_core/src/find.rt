@@ -1,0 +1,95 @@
+//! Finding the state of a batch's chain that a structure is at.
+ghost use Rattle.std.specs.Prelude.{◌≡◌, ℕ, List, Option, map, ◌&&◌, ◌==◌};
+ghost use Rattle.std.specs.Cmp.Lexicographic.{pointwise};
+ghost use Rattle.merkle_core.specs.Recorded.{Recorded};
+ghost use Rattle.merkle_core.specs.Refusals.{error_of};
+ghost use Rattle.merkle_core.specs.Replay.{ends_at, last_match, matched, oldest, refusal};
+
+use crate::batch::MerkleizedBatch;
+use crate::record::Record;
+use merkle_base::digest::Digest;
+use merkle_base::error::Error;
+use merkle_base::family::Family;
+use merkle_base::position::Position;
+use std::rc::Rc;
+
+// Whether two states have the same size and peak digests.
+fn is_at<F: Family, D: Digest>(
+    size: Position<F>,
+    peaks: &[D],
+    other: Position<F>,
+    others: &[D],
+) -> bool
+    ensures { result ≡ ((size == other) && pointwise D.eq peaks.now others.now) }
+{
+    size == other && peaks == others
+}
+
+// The oldest record that is kept, or the batch's own.
+fn oldest_record<F: Family, D: Digest>(batch: &MerkleizedBatch<F, D>) -> &Record<F, D>
+    ensures { result.now ≡ oldest batch.now }
+{
+    match batch.ancestors.first() {
+        Some(record) => record,
+        None => &batch.own,
+    }
+}
+
+/// How many of the kept records a structure of this size with these peak digests is past; `None` where it is at no state
+/// of the chain.
+pub(crate) fn find_state<F: Family, D: Digest>(
+    size: Position<F>,
+    peaks: &[D],
+    batch: &MerkleizedBatch<F, D>,
+) -> Option<usize>
+    ensures { result ≡ matched D.eq size peaks.now batch.now }
+{
+    let oldest = oldest_record(batch);
+    if is_at(
+        size,
+        peaks,
+        oldest.size_before,
+        oldest.peaks_before.as_slice(),
+    ) {
+        return Some(0);
+    }
+    last_end(size, peaks, &batch.ancestors)
+}
+
+// The place after the newest record that ends at this size with these peak digests.
+fn last_end<F: Family, D: Digest>(
+    size: Position<F>,
+    peaks: &[D],
+    records: &[Rc<Record<F, D>>],
+) -> Option<usize>
+    ensures { result ≡ last_match (ends_at D.eq size peaks.now) (map (λ r. r.value) records.now) }
+{
+    let mut i = records.len();
+    while 0 < i {
+        i -= 1;
+        let record: &Record<F, D> = &records[i];
+        if is_at(size, peaks, record.size(), record.peaks_after.as_slice()) {
+            return Some(i + 1);
+        }
+    }
+    None
+}
+
+/// Why a batch that matches no state of a structure of this size is refused.
+pub(crate) fn refusal<F: Family, D: Digest>(
+    size: Position<F>,
+    batch: &MerkleizedBatch<F, D>,
+) -> Error<F>
+    ensures { result ≡ error_of (refusal size batch.now) }
+{
+    if batch.base_size <= size && size < oldest_record(batch).size_before {
+        return Error::AncestorDropped {
+            expected: batch.size(),
+            actual: size,
+        };
+    }
+    Error::StaleBatch {
+        expected: batch.base_size,
+        actual: size,
+    }
+}
