@@ -21,5 +21,6 @@ pub mod TruthFacts
 pub mod Wholes
 pub mod Small
 pub mod ListTruths
+pub mod Makings
 pub mod HonestReads
 pub mod GapFacts

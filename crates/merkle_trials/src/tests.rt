@@ -11,6 +11,7 @@ mod hashers;
 mod paths;
 mod plans;
 mod proofs;
+mod stacks;
 mod structures;
 
 use merkle_core::batch::{MerkleizedBatch, UnmerkleizedBatch};
@@ -44,6 +45,7 @@ enum Outcome {
     Digest(u8),
     InvalidInactivePeaks { requested: usize, peaks: usize },
     StaleBatch { expected: u64, actual: u64 },
+    AncestorDropped { expected: u64, actual: u64 },
     MissingNode(u64),
     LocationOverflow(u64),
     LeafOutOfBounds(u64),
@@ -66,6 +68,10 @@ fn refusal<F: Family>(error: &Error<F>) -> Outcome {
             peaks: *peaks,
         },
         Error::StaleBatch { expected, actual } => Outcome::StaleBatch {
+            expected: expected.as_u64(),
+            actual: actual.as_u64(),
+        },
+        Error::AncestorDropped { expected, actual } => Outcome::AncestorDropped {
             expected: expected.as_u64(),
             actual: actual.as_u64(),
         },
