@@ -24,3 +24,4 @@ pub mod ListTruths
 pub mod Makings
 pub mod HonestReads
 pub mod GapFacts
+pub mod MapFacts
