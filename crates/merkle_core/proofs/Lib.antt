@@ -23,5 +23,7 @@ pub mod Small
 pub mod ListTruths
 pub mod Makings
 pub mod HonestReads
+pub mod RefreshedDigests
+pub mod Befores
 pub mod GapFacts
 pub mod MapFacts
