@@ -27,3 +27,4 @@ pub mod RefreshedDigests
 pub mod Befores
 pub mod GapFacts
 pub mod MapFacts
+pub mod Forking

@@ -15,10 +15,10 @@ ghost use Rattle.merkle_core.specs.Refusals.{fault_error};
 ghost use Rattle.merkle_core.specs.Stands.{StandsOn, last_list};
 ghost use Rattle.merkle_core.specs.Store.{contents};
 
-use crate::mem::Mem;
-use crate::record::Record;
-pub use crate::merkleized::MerkleizedBatch;
 use crate::draft::Draft;
+use crate::mem::Mem;
+pub use crate::merkleized::MerkleizedBatch;
+use crate::record::Record;
 use merkle_base::digest::Digest;
 use merkle_base::error::Error;
 use merkle_base::family::Family;

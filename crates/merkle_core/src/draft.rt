@@ -16,7 +16,7 @@ use crate::batch::MerkleizedBatch;
 use crate::gap::Gap;
 use crate::mem::Mem;
 use crate::overwrites::Overwrites;
-use crate::record::{newest_node, Record};
+use crate::record::{Record, newest_node};
 use merkle_base::digest::Digest;
 use merkle_base::family::Family;
 use merkle_base::location::Location;
@@ -159,11 +159,7 @@ impl<F: Family, D: Digest> Draft<F, D> {
     }
 
     /// The digests of the peaks of its end, which has so many leaves, oldest first.
-    pub(crate) fn read_peaks(
-        &self,
-        base: &Mem<F, D>,
-        leaves: Location<F>,
-    ) -> Result<Vec<D>, Gap<F>>
+    pub(crate) fn read_peaks(&self, base: &Mem<F, D>, leaves: Location<F>) -> Result<Vec<D>, Gap<F>>
         requires within { leaves ≤ F.MAX_LEAVES }
         requires sized { self.now.before + length self.now.appended ≡ size F.rule leaves }
         ensures missing { IfErr result (λ e. e ≢ Gap.OutOfMemory → IsPeakGap F.rule leaves self.now.before (old_node self.now (contents base.now)) e) }

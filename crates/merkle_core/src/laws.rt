@@ -10,6 +10,7 @@ ghost use Rattle.merkle_base.specs.Forest.{forest, size};
 ghost use Rattle.merkle_base.specs.Hashing.{Hashing, TellsApart};
 ghost use Rattle.merkle_base.specs.Digests.{node_digests, peak_digests};
 ghost use Rattle.merkle_core.specs.Contents.{Contents, Agrees, is_kept, pruned, held_peaks};
+ghost use Rattle.merkle_core.specs.Pending.{Pending, kept, kept_lists};
 ghost use Rattle.merkle_core.specs.Recorded.{Recorded, Chain, records, after};
 ghost use Rattle.merkle_core.specs.Replay.{laid, all_laid, matched, applied};
 ghost use Rattle.merkle_core.specs.Stands.{StandsOn, last_list, edited, is_touched, IsStep};
@@ -169,6 +170,13 @@ pub fn marking<D>()
     ensures under { (m : ℕ → Option D) → (t : Tree) → is_touched m t ≡ true → (q k : ℕ) × IsUnder (leaf q k) t × (is_some (m q) ≡ true) }
     ensures sources { (rule : List ℕ → List ℕ) → (m : ℕ → Option D) → (n e : ℕ) → (t : Tree) → IsUsed rule m n e t
         → (size rule n ≤ position t) ⊎ ((is_touched m t ≡ true) ⊎ IsNeeded rule m n e t) }
+{}
+
+/// What a fork keeps of the records of its parent, and the lists that these stand on.
+pub fn forking<D>()
+    ensures stands { (h : Hashing D) → (rule : List ℕ → List ℕ) → (p : Pending D) → (ls : List (List D)) → p.forgotten ≤ length p.parent.ancestors → StandsOn h rule (records p.parent) ls
+        → (X : List D) × (more : List (List D)) × (kept_lists p ls ≡ X ∷ more) × StandsOn h rule (kept p) (X ∷ more) × (last_list (X ∷ more) ≡ last_list ls) }
+    ensures last { (ls : List (List D)) → (Y : List D) → last_list (ls ++ Y ∷ []) ≡ Y }
 {}
 
 /// The definitions on small cases, by computing.

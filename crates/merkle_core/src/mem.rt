@@ -288,7 +288,12 @@ impl<F: Family, D: Digest> Mem<F, D> {
         };
         let added = batch.size() - self.size();
         self.nodes.reserve(added.as_u64() as usize)?;
-        lay_all(&mut self.nodes, &mut self.pins, self.start, &batch.ancestors[first..]);
+        lay_all(
+            &mut self.nodes,
+            &mut self.pins,
+            self.start,
+            &batch.ancestors[first..],
+        );
         lay(&mut self.nodes, &mut self.pins, self.start, own);
         self.leaves = batch.leaves;
         Ok(())

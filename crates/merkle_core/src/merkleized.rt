@@ -17,7 +17,7 @@ ghost use Rattle.merkle_core.specs.Store.{contents};
 use crate::batch::UnmerkleizedBatch;
 use crate::mem::Mem;
 use crate::overwrites::Overwrites;
-use crate::record::{newest_node, Record};
+use crate::record::{Record, newest_node};
 use merkle_base::digest::Digest;
 use merkle_base::error::Error;
 use merkle_base::family::Family;
