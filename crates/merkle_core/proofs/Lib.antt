@@ -22,6 +22,10 @@ pub mod Wholes
 pub mod Small
 pub mod ListTruths
 pub mod Makings
+pub mod OldNodes
+pub mod Missings
+pub mod NewDigests
+pub mod Merkleizing
 pub mod HonestReads
 pub mod RefreshedDigests
 pub mod Befores

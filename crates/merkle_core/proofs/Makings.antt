@@ -25,7 +25,7 @@ use Rattle.merkle_core.proofs.Steps.{node_there, node_digest_at, digests_length}
 
 module _ {D : Type 0} (h : Hashing D) (rule : List ℕ → List ℕ) (m : ℕ → Option D) (X added : List D) where
   -- the list after the updates of m
-  abbrev changed : List D
+  abbrev pub changed : List D
   changed = replaced rule m 0 X ++ added
 
   pub changed_length : length changed ≡ length X + length added

@@ -20,16 +20,16 @@ use Rattle.merkle_core.specs.Stands.{is_touched}
 use Rattle.merkle_core.specs.declared.gap.Gap.{Gap}
 use Rattle.merkle_core.specs.declared.gap.Gap.TheVariants.{Missing}
 use Rattle.merkle_core.proofs.Items.{by_test, get_reverse, get_reversed, or_cases, or_left, or_right}
-use Rattle.merkle_core.proofs.RefreshedDigests.{read_is_child, read_child, refreshed_reads, touched_above, some_of}
+use Rattle.merkle_core.proofs.RefreshedDigests.{read_is_child, read_is_untouched, read_child, refreshed_reads, touched_above, some_of}
 
 is_none : {D : Type 0} (a b : Option D) → option_or a b ≡ None → (a ≡ None) × (b ≡ None)
 is_none None b e = (refl, e)
 is_none (Some x) b e = absurd (cc)
 
-module _ {F D : Type 0} (h : Hashing D) (rule : List ℕ → List ℕ) (n e : ℕ) (l : n ≤ e) (m below O : ℕ → Option D)
+module _ {D : Type 0} (h : Hashing D) (rule : List ℕ → List ℕ) (n e : ℕ) (l : n ≤ e) (m below O : ℕ → Option D)
     (fact : (p : ℕ) (t : Tree) → slice_get (forest rule n).nodes p ≡ Some t → O p ≡ cond (is_touched m t) (refreshed h m below t) None)
     (some : (p : ℕ) (t : Tree) → slice_get (forest rule n).nodes p ≡ Some t → is_touched m t ≡ true → is_some (refreshed h m below t) ≡ true) where
-  abbrev NeededGap : Gap F → Type 0
+  abbrev NeededGap : {F : Type 0} → Gap F → Type 0
   NeededGap g = (t : Tree) × IsNeeded rule m n e t × (g ≡ Missing (position t)) × (below (position t) ≡ None)
 
   -- where neither is there the node is untouched
@@ -49,7 +49,7 @@ module _ {F D : Type 0} (h : Hashing D) (rule : List ℕ → List ℕ) (n e : �
       ap (λ o. is_some (option_or o (below (position t)))) (sym none) ∙ s)
 
   -- ---- what is read above changed leaves
-  pub refresh_gap : (g : Gap F) → LacksForOne m below (peaks_of rule n) g → NeededGap g
+  pub refresh_gap : {F : Type 0} (g : Gap F) → LacksForOne m below (peaks_of rule n) g → NeededGap g
   refresh_gap g lacks =
       let ns : List Tree = (forest rule n).nodes in
       let t : Tree = lacks.1 in
@@ -58,18 +58,23 @@ module _ {F D : Type 0} (h : Hashing D) (rule : List ℕ → List ℕ) (n e : �
       let k = get_reversed (forest rule n).peaks lacks.0 t lacks.2 in
       let b = node_built rule n (position t) t (peak_node rule n k.0 t k.1) in
       let c = read_is_child m t u lacks.4.1 touched in
-      let over = built_under ns (join c.1.0 c.1.1 c.1.2) t c.1.3 b in
-      let child : IsBuilt ns u = elim c.1.5 [ inl d ↦ subst (IsBuilt ns) (sym d) over.4 | inr d ↦ subst (IsBuilt ns) (sym d) over.5 ] in
-      let there = node_stays rule n e c.1.0 (join c.1.0 c.1.1 c.1.2) l over.0 in
+      let q : ℕ = c.0 in
+      let over = built_under ns (join q c.1 c.2) t c.3 b in
+      let child : IsBuilt ns u = elim c.5 [ inl d ↦ subst (IsBuilt ns) (sym d) over.4 | inr d ↦ subst (IsBuilt ns) (sym d) over.5 ] in
+      let there = node_stays rule n e q (join q c.1 c.2) l over.0 in
       (
         u,
-        (inl (c.1.0, c.1.1, c.1.2, there, or_right (nat_le (size rule n) c.1.0) (is_touched m (join c.1.0 c.1.1 c.1.2)) c.1.4, c.1.5), get_below ns (position u) u (built_at ns u child), c.0),
+        (
+          inl (q, c.1, c.2, there, or_right (nat_le (size rule n) q) (is_touched m (join q c.1 c.2)) c.4, c.5),
+          get_below ns (position u) u (built_at ns u child),
+          read_is_untouched m t u lacks.4.1,
+        ),
         lacks.4.2.0,
         lacks.4.2.1,
       )
 
   -- ---- what is read for new nodes
-  pub append_gap : (max_leaves : ℕ) (g : Gap F) → LacksChild rule max_leaves (size rule n) (size rule e) (size rule n) (λ p. option_or (O p) (below p)) g → NeededGap g
+  pub append_gap : {F : Type 0} (max_leaves : ℕ) (g : Gap F) → LacksChild rule max_leaves (size rule n) (size rule e) (size rule n) (λ p. option_or (O p) (below p)) g → NeededGap g
   append_gap max_leaves g lacks =
       let u : Tree = lacks.0 in
       let c = lacks.1 in
@@ -82,7 +87,7 @@ module _ {F D : Type 0} (h : Hashing D) (rule : List ℕ → List ℕ) (n e : �
       (u, (inl (q, c.2, c.3, there, or_left (nat_le (size rule n) q) (is_touched m (join q c.2 c.3)) (le-leb (size rule n) q c.6), c.8), lacks.2, w.0), lacks.3.0, w.1)
 
   -- ---- what is read for the peaks
-  pub peak_gap : IsChanged rule m n e → (g : Gap F) → IsPeakGap rule e (size rule n) (λ p. option_or (O p) (below p)) g → NeededGap g
+  pub peak_gap : {F : Type 0} → IsChanged rule m n e → (g : Gap F) → IsPeakGap rule e (size rule n) (λ p. option_or (O p) (below p)) g → NeededGap g
   peak_gap changed g gap =
       let t : Tree = gap.1 in
       let k = get_reversed (forest rule e).peaks gap.0 t gap.2 in
@@ -106,7 +111,7 @@ module _ {F D : Type 0} (h : Hashing D) (rule : List ℕ → List ℕ) (n e : �
               let mine = node_anywhere rule e n x.0 (join x.0 x.1 x.2) x.3 less in
               let p = peak_of (join x.0 x.1 x.2) (forest rule n).peaks ((forest_grown rule n).under x.0 (join x.0 x.1 x.2) mine) in
               let k = get_reverse (forest rule n).peaks p.0 p.1 p.2 in
-              let reads = read_child m p.1 x.0 x.1 x.2 t p.3 touched x.5 need.2 in
+              let reads = read_child m p.1 t x.0 x.1 x.2 p.3 touched x.5 need.2 in
               refreshed_reads h m below p.1 t (done k.0 p.1 k.1 (touched_above m (join x.0 x.1 x.2) p.1 p.3 touched)) reads)
         ])
     | inr x ↦ (let k = get_reverse (forest rule e).peaks x.1.0 t x.1.1 in

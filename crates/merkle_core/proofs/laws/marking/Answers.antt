@@ -1,4 +1,3 @@
-use Rattle.merkle_core.proofs.Makings.{step_is}
 use Rattle.merkle_core.proofs.Needs.{touched_leaf}
 use Rattle.merkle_core.proofs.Shown.{under_touches, sources}
 use Rattle.merkle_core.proofs.laws.marking.Goals as goal
