@@ -30,5 +30,7 @@ pub mod HonestReads
 pub mod RefreshedDigests
 pub mod Befores
 pub mod GapFacts
+pub mod HeldNodes
+pub mod Pins
 pub mod MapFacts
 pub mod Forking

@@ -9,7 +9,7 @@ use Rattle.std.proofs.lemmas.Bool.{ne_eqb}
 use Rattle.std.proofs.lemmas.Bool.Decides.{nat_tests}
 use Rattle.merkle_core.proofs.Stored.{find_lookup, is_eq-nat_cmp}
 
-eqb_comm : (p k : ℕ) → nat_eq p k ≡ nat_eq k p
+pub eqb_comm : (p k : ℕ) → nat_eq p k ≡ nat_eq k p
 eqb_comm p k = grind (arith, nat_tests)
 
 not_zero : (n : ℕ) → (n ≡ 0 → ⊥) → (n == 0) ≡ false

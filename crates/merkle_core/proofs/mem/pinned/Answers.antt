@@ -1,0 +1,17 @@
+use Rattle.std.proofs.Common.{◌≡◌, ◌≤◌, length, ◌∙◌, ap, sym, arith, rules, add-one, drop, nat_eq, drop_of_length-le}
+use Rattle.std.specs.Map.{lookup}
+use Rattle.merkle_core.proofs.MapFacts.{eqb_comm}
+use Rattle.merkle_core.proofs.Pins.{lookup_here, lookup_later}
+use Rattle.merkle_core.proofs.mem.pinned.Goals as goal
+
+pub loop-pin-preserved : goal.loop-pin-preserved
+loop-pin-preserved g c =
+    rw add-one (c.loop-pin.invariant ∙ lookup_later c.args.position c.args.pins.now c.loop-pin.pin-index c.loop-pin-item.result c.loop-pin-test.true c.loop-pin-item.is (eqb_comm c.args.position c.loop-pin-item.result.0 ∙ sym c.eq.ensures ∙ c.if-eq.false))
+
+pub returns-then-eq : goal.returns-then-eq
+returns-then-eq g c = sym (c.loop-pin.invariant ∙ lookup_here c.args.position c.args.pins.now c.loop-pin.pin-index c.loop-pin-item.result c.loop-pin-test.true c.loop-pin-item.is (eqb_comm c.args.position c.loop-pin-item.result.0 ∙ sym c.eq.ensures ∙ c.if-eq.true))
+
+pub returns : goal.returns
+returns g c =
+    let past : length c.args.pins.now ≤ c.loop-pin.pin-index = search rules in
+    sym (c.loop-pin.invariant ∙ ap (λ es. lookup (nat_eq c.args.position) es) (drop_of_length-le c.args.pins.now past))

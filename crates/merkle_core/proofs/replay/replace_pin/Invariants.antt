@@ -1,0 +1,6 @@
+use Rattle.std.proofs.Common.{◌≡◌}
+use Rattle.merkle_core.proofs.Pins.{put_first}
+use Rattle.merkle_core.proofs.replay.replace_pin.Given as goal
+
+abbrev pub invariant-loop-pin : goal.invariant-loop-pin
+invariant-loop-pin g l = l.pin-items ≡ put_first l.position l.digest l.pin-index l.initial.pin-items
