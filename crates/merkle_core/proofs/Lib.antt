@@ -34,3 +34,4 @@ pub mod HeldNodes
 pub mod Pins
 pub mod MapFacts
 pub mod Forking
+pub mod NewestFirst

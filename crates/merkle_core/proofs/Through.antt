@@ -17,11 +17,11 @@ use Rattle.merkle_core.specs.Stands.{edited, replaced, leaves_from, is_touched, 
 use Rattle.merkle_core.specs.Read.{written, newest, read_over}
 use Rattle.merkle_core.proofs.Steps.{node_digest_at, digests_length, digest_kept, replaced_length, step_old, step_new, node_there}
 
-option_assoc : {D : Type 0} (a b c : Option D) → option_or (option_or a b) c ≡ option_or a (option_or b c)
+pub option_assoc : {D : Type 0} (a b c : Option D) → option_or (option_or a b) c ≡ option_or a (option_or b c)
 option_assoc None b c = refl
 option_assoc (Some x) b c = refl
 
-option_none : {D : Type 0} (a : Option D) → option_or a None ≡ a
+pub option_none : {D : Type 0} (a : Option D) → option_or a None ≡ a
 option_none None = refl
 option_none (Some x) = refl
 
