@@ -25,6 +25,7 @@ pub mod Makings
 pub mod OldNodes
 pub mod Missings
 pub mod NewDigests
+pub mod ChildReads
 pub mod Merkleizing
 pub mod HonestReads
 pub mod RefreshedDigests

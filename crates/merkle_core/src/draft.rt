@@ -1,8 +1,8 @@
 //! A batch in the making: the nodes that follow from its leaves.
-ghost use Rattle.std.specs.Prelude.{◌≡◌, ◌≢◌, ◌+◌, ◌++◌, ◌<◌, ◌≤◌, ℕ, suc, List, Option, [], ◌∷◌, None, is_some, true, cond, drop, length, map, IfOk, IfErr, OnOk};
+ghost use Rattle.std.specs.Prelude.{◌≡◌, ◌≢◌, ◌+◌, ◌^◌, ◌++◌, ◌<◌, ◌≤◌, ℕ, suc, List, Option, [], ◌∷◌, None, is_some, true, cond, drop, length, map, IfOk, IfErr, OnOk};
 ghost use Rattle.std.specs.FinMap.{empty, get};
 ghost use Rattle.merkle_base.specs.Forest.{size};
-ghost use Rattle.merkle_base.specs.Places.{peak_positions, peaks_of};
+ghost use Rattle.merkle_base.specs.Places.{HasInner, peak_positions, peaks_of};
 ghost use Rattle.merkle_base.specs.Tree.{Tree, position};
 ghost use Rattle.merkle_core.specs.Contents.{Contents};
 ghost use Rattle.merkle_core.specs.Drafts.{AreChildrenRead, LacksChild, node_over};
@@ -105,6 +105,46 @@ impl<F: Family, D: Digest> Draft<F, D> {
         found.ok_or(Gap::Missing(position))
     }
 
+    // The number of nodes with the appended ones.
+    fn size(&self) -> Position<F>
+        requires { self.now.before + length self.now.appended < 2 ^ 64 }
+        ensures { result ≡ self.now.before + length self.now.appended }
+    {
+        self.size_before + self.appended.len() as u64
+    }
+
+    // Appends a node.
+    fn push(&mut self, digest: D) -> Result<(), AllocError>
+        ensures only { OnlyAppends self.old self.new }
+        ensures pushed { OnOk result (self.new.appended ≡ self.old.appended ++ digest ∷ []) }
+    {
+        self.appended.push(digest)?;
+        Ok(())
+    }
+
+    // Appends the merged node of a height that stands at the end.
+    fn append_parent<H: Hasher<F, Digest = D>>(
+        &mut self,
+        base: &Mem<F, D>,
+        hasher: &H,
+        height: u32,
+    ) -> Result<(), Gap<F>>
+        requires small { self.old.before + length self.old.appended < 2 ^ 64 }
+        requires node { HasInner F.rule F.MAX_LEAVES (self.old.before + length self.old.appended) height }
+        ensures only { OnlyAppends self.old self.new }
+        ensures longer { OnOk result (length self.new.appended ≡ suc (length self.old.appended)) }
+        ensures missing { let end = self.old.before + length self.old.appended in IfErr result (λ e. e ≢ Gap.OutOfMemory → LacksChild F.rule F.MAX_LEAVES end (suc end) self.old.before (old_node self.old (contents base.now)) e) }
+        ensures read { let end = self.old.before + length self.old.appended in OnOk result (AreChildrenRead F.rule F.MAX_LEAVES end (suc end) self.old.before (old_node self.old (contents base.now))) }
+        ensures right { OnOk result ((truth : ℕ → D) → IsTruth (H.hashing hasher.now) F.rule F.MAX_LEAVES truth → ReadsTrue (old_node self.old (contents base.now)) self.old.before truth → self.old.appended ≡ truths truth self.old.before (length self.old.appended) → self.new.appended ≡ truths truth self.old.before (length self.new.appended)) }
+    {
+        let position = self.size();
+        let (left, right) = F::children(position, height);
+        let left = self.read_node(base, left)?;
+        let right = self.read_node(base, right)?;
+        self.push(hasher.node_digest(position, &left, &right))?;
+        Ok(())
+    }
+
     // Appends the leaf at a location and the parents that come with it.
     fn append_leaf<H: Hasher<F, Digest = D>>(
         &mut self,
@@ -121,14 +161,9 @@ impl<F: Family, D: Digest> Draft<F, D> {
         ensures read { OnOk result (AreChildrenRead F.rule F.MAX_LEAVES (size F.rule leaf) (size F.rule (suc leaf)) self.old.before (old_node self.old (contents base.now))) }
         ensures right { OnOk result ((truth : ℕ → D) → IsTruth (H.hashing hasher.now) F.rule F.MAX_LEAVES truth → ReadsTrue (old_node self.old (contents base.now)) self.old.before truth → digest ≡ truth (size F.rule leaf) → self.old.appended ≡ truths truth self.old.before (length self.old.appended) → self.new.appended ≡ truths truth self.old.before (length self.new.appended)) }
     {
-        self.appended.push(digest)?;
+        self.push(digest)?;
         for height in F::parent_heights(leaf) {
-            let position = self.size_before + self.appended.len() as u64;
-            let (left, right) = F::children(position, height);
-            let left = self.read_node(base, left)?;
-            let right = self.read_node(base, right)?;
-            self.appended
-                .push(hasher.node_digest(position, &left, &right))?;
+            self.append_parent(base, hasher, height)?;
         }
         Ok(())
     }
