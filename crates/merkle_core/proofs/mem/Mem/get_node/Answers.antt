@@ -1,12 +1,24 @@
-use Rattle.std.proofs.Common.{◌≡◌, [], ◌-◌, sym, ◌∙◌, ap, arith, refl}
+use Rattle.std.proofs.Common.{◌≡◌, ◌-◌, ◌<◌, ◌≤◌, sym, ◌∙◌, ap, nat_eq, rules}
 use Rattle.std.specs.List.{slice_get}
-use Rattle.merkle_core.proofs.Stored.{held_from, get_reads}
+use Rattle.std.specs.Map.{lookup}
+use Rattle.std.proofs.lemmas.Bool.{lt-ltb, le-ltb}
+use Rattle.merkle_core.specs.Store.{node}
+use Rattle.merkle_core.proofs.HeldNodes.{stored_reads}
+use Rattle.merkle_core.proofs.Stored.{get_reads}
 use Rattle.merkle_core.proofs.mem.Mem.get_node.Goals as goal
 
-pub returns : goal.returns
-returns g c =
-    let nodes = c.self.inside.nodes.items in
-    let there : c.as_u64.result ≡ c.args.position - 0 = omega (arith, c.as_u64.ensures) in
-    rw (← c.self.view_is)
-    (c.copied.ensures ∙ get_reads c.deref.result.now c.as_u64.result c.get.result c.get.ensures.lookup ∙ ap (λ xs. slice_get xs c.as_u64.result) c.deref.ensures.value
-    ∙ ap (slice_get nodes) there ∙ sym (held_from [] 0 nodes c.args.position (omega arith) refl))
+pub returns-then-lt : goal.returns-then-lt
+returns-then-lt g c =
+    let i = c.self.inside in
+    let below : c.args.position < i.start = search rules in
+    let read = stored_reads g.F.Family.rule g.F.Family.MAX_LEAVES i.boundary i.start i.leaves i.pins.items i.nodes.items c.self.invariant c.args.position in
+    c.pinned.ensures ∙ ap (λ es. lookup (nat_eq c.args.position) es) c.deref.ensures.value ∙ sym (rw (lt-ltb c.args.position i.start below) at read) ∙ ap (λ s. node s c.args.position) c.self.view_is
+
+pub returns-else-lt : goal.returns-else-lt
+returns-else-lt g c =
+    let i = c.self.inside in
+    let from : i.start ≤ c.args.position = search rules in
+    let read = stored_reads g.F.Family.rule g.F.Family.MAX_LEAVES i.boundary i.start i.leaves i.pins.items i.nodes.items c.self.invariant c.args.position in
+    let offset : c.as_u64.result ≡ c.args.position - i.start = search rules in
+    c.copied.ensures ∙ get_reads c.deref-else-lt.result.now c.as_u64.result c.get.result c.get.ensures.lookup ∙ ap (λ ds. slice_get ds c.as_u64.result) c.deref-else-lt.ensures.value ∙ ap (slice_get i.nodes.items) offset
+    ∙ sym (rw (le-ltb c.args.position i.start from) at read) ∙ ap (λ s. node s c.args.position) c.self.view_is
