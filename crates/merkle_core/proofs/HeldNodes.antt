@@ -2,7 +2,8 @@
 use Rattle.std.proofs.Common.{◌≡◌, ℕ, zero, suc, ◌+◌, ◌-◌, ◌<◌, ◌≤◌, List, [], ◌∷◌, ◌++◌, length, Bool, true, false, Option, Some, None, cond, arith, refl, sym, ap, ◌∙◌, inl, inr, reverse, nat_eq, get_or, slice_set}
 use Rattle.std.specs.Prelude.{◌==◌, slice_get, is_some}
 use Rattle.std.specs.List.{list_any}
-use Rattle.std.specs.FinMap.{get}
+use Rattle.std.specs.FinMap.{get, get-empty}
+use Rattle.std.specs.Ordering.{nat_cmp}
 use Rattle.std.specs.Map.{lookup}
 use Rattle.std.proofs.lemmas.Bool.{cases_lt, lt-ltb, le-ltb, eqb-true, eqb-false, eq-eqb, ne_eqb}
 use Rattle.std.proofs.lemmas.Option.{slice_get_past, slice_get-get_or}
@@ -11,7 +12,7 @@ use Rattle.merkle_base.specs.Forest.{forest, size}
 use Rattle.merkle_base.specs.Heights.{IsLawful}
 use Rattle.merkle_base.specs.Places.{peak_positions}
 use Rattle.merkle_base.proofs.Lists.{get_below}
-use Rattle.merkle_base.proofs.Lookup.{peak_node}
+use Rattle.merkle_base.proofs.Lookup.{peak_node, size_zero}
 use Rattle.merkle_base.proofs.Nodes.{size_le}
 use Rattle.merkle_core.specs.Store.{contents, stored_of}
 use Rattle.merkle_core.specs.Whole.{IsCounted, IsKept}
@@ -65,3 +66,26 @@ module _ {D : Type 0} (rule : List ℕ → List ℕ) (max_leaves boundary start 
 
   pub contents_reads : IsKept rule max_leaves boundary start leaves pins nodes → contents (record { boundary = boundary; size = start + length nodes; stored = stored_of pins start nodes }) ≡ held_contents boundary pins start nodes
   contents_reads k = same_contents (contents (record { boundary = boundary; size = start + length nodes; stored = stored_of pins start nodes })) (held_contents boundary pins start nodes) refl refl (stored_reads k)
+
+-- ---- a structure of no leaves
+no_peaks : (rule : List ℕ → List ℕ) (p : ℕ) → list_any (nat_eq p) (peak_positions rule 0) ≡ false
+unfolding forest
+no_peaks rule p = refl
+
+module _ {D : Type 0} where
+  pub kept_none : (rule : List ℕ → List ℕ) (max_leaves boundary start leaves : ℕ) (pins : List (ℕ × D)) (nodes : List D) → boundary ≡ 0 → start ≡ 0 → leaves ≡ 0 → pins ≡ [] → nodes ≡ [] → IsKept rule max_leaves boundary start leaves pins nodes
+  kept_none rule max_leaves boundary start leaves pins nodes b s l no_pins no_nodes = record {
+    starts = s ∙ sym (ap (size rule) b ∙ size_zero rule);
+    within = omega (arith, b);
+    counted = record { bounded = omega (arith, l); sized = ap (size rule) l ∙ size_zero rule ∙ omega (arith, s, ap length no_nodes) };
+    pinned = λ p. ap (λ es. is_some (lookup (nat_eq p) es)) no_pins ∙ sym (ap (λ n. list_any (nat_eq p) (peak_positions rule n)) b ∙ no_peaks rule p);
+  }
+
+  none_stored : (p : ℕ) → get {X = D} (stored_of [] 0 []) p ≡ None
+  none_stored p = get-empty nat_cmp p
+
+  pub contents_none : (boundary start : ℕ) (pins : List (ℕ × D)) (nodes : List D) → boundary ≡ 0 → start ≡ 0 → pins ≡ [] → nodes ≡ [] →
+      contents (record { boundary = boundary; size = start + length nodes; stored = stored_of pins start nodes }) ≡ record { boundary = 0; size = 0; node = λ p. None }
+  contents_none boundary start pins nodes b s no_pins no_nodes =
+      same_contents (contents (record { boundary = boundary; size = start + length nodes; stored = stored_of pins start nodes })) (record { boundary = 0; size = 0; node = λ p. None }) b (omega (arith, s, ap length no_nodes))
+      (λ p. (λ i. get (stored_of (no_pins i) (s i) (no_nodes i)) p) ∙ none_stored p)

@@ -132,6 +132,7 @@ impl<F: Family, D: Digest> Mem<F, D> {
     pub fn peak_iterator(&self) -> F::Peaks
         ensures { ArePeaks F.rule F.MAX_LEAVES self.now.size (F.Peaks.left result) }
     {
+        let _leaves = self.leaves();
         F::peaks(self.size())
     }
 
