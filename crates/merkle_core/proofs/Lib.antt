@@ -26,6 +26,8 @@ pub mod OldNodes
 pub mod Missings
 pub mod NewDigests
 pub mod ChildReads
+pub mod DraftFacts
+pub mod PeakReads
 pub mod Merkleizing
 pub mod HonestReads
 pub mod RefreshedDigests
