@@ -9,13 +9,9 @@ use Rattle.merkle_base.specs.Digests.{digest_at, node_digests}
 use Rattle.merkle_base.specs.Places.{peaks_of}
 use Rattle.merkle_base.specs.declared.error.Error.{Error}
 use Rattle.merkle_base.specs.declared.error.Error.TheVariants.{NonLeaf, PositionOverflow, LocationOverflow, Empty, RangeOutOfBounds, InvalidSize, LeafOutOfBounds, DuplicateLocation, UnsortedLocation, ElementPruned, CompressedDigest, InvalidPinnedNodes, StaleBatch, AncestorDropped, InvalidProof, InvalidInactivePeaks, RootMismatch, MissingNode, DataCorrupted, BitOutOfBounds, OutOfMemory}
-use Rattle.merkle_base.specs.declared.family.Bagging.TheVariants.{ForwardFold}
 use Rattle.merkle_base.proofs.Lookup.{size_zero}
-use Rattle.merkle_proof.specs.Check.{Setting}
-use Rattle.merkle_proof.specs.Input.{setting}
 use Rattle.merkle_proof.specs.Subtrees.{AreNodes}
-use Rattle.merkle_proof.specs.RangePlans.{LeafRange, AnswersList, IsFirstMissing, IsRefusal, IsBuildRefusal, nodes_read}
-use Rattle.merkle_proof.proofs.BuiltDigests.{reads_at}
+use Rattle.merkle_proof.specs.RangePlans.{LeafRange, AnswersList, IsRefusal, IsBuildRefusal}
 use Rattle.merkle_core.specs.Contents.{Contents, Agrees, is_kept}
 use Rattle.merkle_core.proofs.Kept.{get_map}
 
@@ -45,12 +41,6 @@ held_whole h rule c X agrees whole p t there =
     let kept : is_kept rule c.boundary p ≡ true = ap (λ z. is_kept rule z p) whole ∙ (let low : size rule 0 ≤ p = omega (arith, size_zero rule) in rw (is_kept, le-leb (size rule 0) p low) refl) in
     agrees.holds p ∙ ap (λ b. cond b (slice_get (node_digests h rule X) p) None) kept ∙ get_map (digest_at h X) (forest rule (length X)).nodes p t there
 
--- nothing that a proof reads is missing there
-pub none_missing : {D : Type 0} (s : Setting D) (h : Hashing D) (c : Contents D) (X : List D) → Agrees h s.rule c X → c.boundary ≡ 0 → (a b p : ℕ) → IsFirstMissing (λ q r. r ≡ c.node q) (map position (nodes_read s.rule (length X) a b)) p → ⊥
-none_missing s h c X agrees whole a b p missing =
-    let t = position_of_node s.rule (length X) (nodes_read s.rule (length X) a b) (reads_at s (length X) a b) missing.before missing.after p missing.split in
-    let none : Some (digest_at h X t.0) ≡ None = sym (held_whole h s.rule c X agrees whole p t.0 t.1) ∙ sym missing.missing in absurd (cc)
-
 -- whether an error is want of memory
 pub is_memory : {F : Type 0} (e : Error F) → (e ≡ OutOfMemory → ⊥) ⊎ (e ≡ OutOfMemory)
 is_memory (NonLeaf a) = inl (λ e. cc)
@@ -74,17 +64,6 @@ is_memory (MissingNode a) = inl (λ e. cc)
 is_memory (DataCorrupted a) = inl (λ e. cc)
 is_memory (BitOutOfBounds a b) = inl (λ e. cc)
 is_memory OutOfMemory = inr refl
-
--- the proof of a leaf is refused for want of memory alone
-pub only_memory : {F D : Type 0} (h : Hashing D) (rule : List ℕ → List ℕ) (c : Contents D) (X : List D) → Agrees h rule c X → c.boundary ≡ 0 → (i k : ℕ) → k ≤ length (peaks_of rule (length X)) → (e : Error F)
-    → (e ≢ OutOfMemory → IsBuildRefusal rule (record { leaves = length X; start = i; end = i + 1 }) k (λ p r. r ≡ c.node p) e) → e ≡ OutOfMemory
-only_memory {F} {D} h rule c X agrees whole i k few e refused = elim (is_memory e) [
-  | inr is ↦ is
-  | inl other ↦ absurd (elim (refused other) [
-    | inl x ↦ (let no : length (peaks_of rule (length X)) < k = x.0 in omega (arith, no, few))
-    | inr x ↦ none_missing (setting h ForwardFold rule 0 0) h c X agrees whole i (i + 1) x.1.0 x.1.2
-  ])
-]
 
 -- a plan of one leaf of a lawful count is not refused
 pub one_leaf_planned : {F : Type 0} (m n i b : ℕ) (e : Error F) → i < n → n ≤ m → b ≡ i + 1 → IsRefusal m n i b e → ⊥

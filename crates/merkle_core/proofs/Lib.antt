@@ -32,7 +32,9 @@ pub mod Merkleizing
 pub mod HonestReads
 pub mod RefreshedDigests
 pub mod Befores
+pub mod KeptReads
 pub mod GapFacts
+pub mod Over
 pub mod HeldNodes
 pub mod Pins
 pub mod MapFacts

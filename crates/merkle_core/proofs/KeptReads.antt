@@ -1,0 +1,99 @@
+-- What the proof of leaves at or after the boundary reads is held.
+use Rattle.std.proofs.Common.{inl, inr, ◌≡◌, ◌≢◌, ◌<◌, ℕ, suc, ◌+◌, ◌≤◌, List, [], ◌∷◌, ◌++◌, length, map, flat_map, reverse, Bool, true, false, cond, Some, None, slice_get, refl, ap, sym, ◌∙◌, subst, arith, leb, ltb}
+use Rattle.std.specs.Prelude.{◌||◌, ◌&&◌}
+use Rattle.std.specs.List.{AllByRecursion, filter}
+use Rattle.std.proofs.lemmas.Bool.{leb-true}
+use Rattle.merkle_base.specs.Tree.{Tree, leaf, join, position, IsUnder, IsBuilt}
+use Rattle.merkle_base.specs.Forest.{forest, size}
+use Rattle.merkle_base.specs.Hashing.{Hashing}
+use Rattle.merkle_base.specs.Digests.{digest_at, node_digests}
+use Rattle.merkle_base.specs.Places.{peaks_of, wholly_before}
+use Rattle.merkle_base.specs.declared.error.Error.{Error}
+use Rattle.merkle_base.specs.declared.error.Error.TheVariants.{OutOfMemory}
+use Rattle.merkle_base.specs.declared.family.Bagging.TheVariants.{ForwardFold}
+use Rattle.merkle_base.proofs.Births.{all_get}
+use Rattle.merkle_base.proofs.Growth.{forest_grown}
+use Rattle.merkle_base.proofs.Nodes.{all_append}
+use Rattle.merkle_proof.specs.Check.{Setting}
+use Rattle.merkle_proof.specs.Input.{setting}
+use Rattle.merkle_proof.specs.Plan.{siblings, tree_meets}
+use Rattle.merkle_proof.specs.Range.{in_range, overlapping, wholly_after, range_siblings}
+use Rattle.merkle_proof.specs.RangePlans.{IsBuildRefusal, IsFirstMissing, nodes_read}
+use Rattle.merkle_proof.proofs.BuiltDigests.{reads_at}
+use Rattle.merkle_proof.proofs.Extraction.{all_filter}
+use Rattle.merkle_core.specs.Contents.{Contents, Agrees, is_kept}
+use Rattle.merkle_core.proofs.HonestReads.{is_memory, position_of_node}
+use Rattle.merkle_core.proofs.Items.{by_test, or_cases, get_reversed}
+use Rattle.merkle_core.proofs.Kept.{get_map}
+use Rattle.merkle_core.proofs.Needs.{sibling_kept, peaks_kept}
+
+all_of_get : {X : Type 0} (P : X → Type 0) (xs : List X) → ((i : ℕ) (x : X) → slice_get xs i ≡ Some x → P x) → AllByRecursion P xs
+all_of_get P [] f = tt
+all_of_get P (x ∷ xs) f = (f 0 x refl, all_of_get P xs (λ i y e. f (suc i) y e))
+
+met_leaf : (c : ℕ → Bool) (t : Tree) → tree_meets c t ≡ true → (q k : ℕ) × IsUnder (leaf q k) t × (c k ≡ true)
+met_leaf c (leaf q k) e = (q, k, refl, e)
+met_leaf c (join p l r) e = elim (or_cases (tree_meets c l) (tree_meets c r) e) [
+  | inl x ↦ (let w = met_leaf c l x in (w.0, w.1, inr (inl w.2), w.3))
+  | inr x ↦ (let w = met_leaf c r x in (w.0, w.1, inr (inr w.2), w.3))
+]
+
+and_left : (a b : Bool) → a && b ≡ true → a ≡ true
+and_left true b e = refl
+and_left false b e = absurd (cc)
+
+module _ (rule : List ℕ → List ℕ) (boundary n : ℕ) (within : boundary ≤ n) where
+  abbrev IsKeptTree : Tree → Type 0
+  IsKeptTree t = is_kept rule boundary (position t) ≡ true
+
+  module _ (c : ℕ → Bool) (above : (k : ℕ) → c k ≡ true → boundary ≤ k) where
+    siblings_kept : (t : Tree) → IsBuilt (forest rule n).nodes t → IsKeptTree t → AllByRecursion IsKeptTree (siblings c t)
+    siblings_kept (leaf p i) w k = by_test (λ b. AllByRecursion IsKeptTree (cond b [] (leaf p i ∷ []))) (c i) (λ _. tt) (λ _. (k, tt))
+    siblings_kept (join p l r) w k =
+        by_test (λ b. AllByRecursion IsKeptTree (cond b (siblings c l ++ siblings c r) (join p l r ∷ []))) (tree_meets c l || tree_meets c r)
+        (λ met. let under = met_leaf c (join p l r) met in
+        let both = sibling_kept rule boundary n p under.0 under.1 l r within w.0 under.2 (above under.1 under.3) in
+        all_append IsKeptTree (siblings c l) (siblings c r) (siblings_kept l w.4 both.0) (siblings_kept r w.5 both.1))
+        (λ _. (k, tt))
+
+    all_siblings_kept : (ts : List Tree) → AllByRecursion (IsBuilt (forest rule n).nodes) ts → AllByRecursion IsKeptTree ts → AllByRecursion IsKeptTree (flat_map (siblings c) ts)
+    all_siblings_kept [] w k = tt
+    all_siblings_kept (t ∷ ts) w k = all_append IsKeptTree (siblings c t) (flat_map (siblings c) ts) (siblings_kept t w.0 k.0) (all_siblings_kept ts w.1 k.1)
+
+  peaks_all_kept : AllByRecursion IsKeptTree (peaks_of rule n)
+  peaks_all_kept = all_of_get IsKeptTree (peaks_of rule n) (λ i t e. let j = get_reversed (forest rule n).peaks i t e in peaks_kept rule boundary n j.0 t within j.1)
+
+  peaks_all_built : AllByRecursion (IsBuilt (forest rule n).nodes) (peaks_of rule n)
+  peaks_all_built = all_of_get (IsBuilt (forest rule n).nodes) (peaks_of rule n) (λ i t e. let j = get_reversed (forest rule n).peaks i t e in all_get (IsBuilt (forest rule n).nodes) (forest rule n).peaks j.0 t (forest_grown rule n).built j.1)
+
+  pub reads_kept : (a b : ℕ) → boundary ≤ a → AllByRecursion IsKeptTree (nodes_read rule n a b)
+  reads_kept a b low =
+      let ts = peaks_of rule n in
+      all_append IsKeptTree (wholly_before a ts) (wholly_after b ts ++ range_siblings a b ts) (all_filter IsKeptTree _ ts peaks_all_kept)
+      (all_append IsKeptTree (wholly_after b ts) (range_siblings a b ts) (all_filter IsKeptTree _ ts peaks_all_kept)
+      (all_siblings_kept (in_range a b) (λ k e. let f : a ≤ k = leb-true a k (and_left (leb a k) (ltb k b) e) in omega (arith, f, low)) (overlapping a b ts) (all_filter (IsBuilt (forest rule n).nodes) _ ts peaks_all_built) (all_filter IsKeptTree _ ts peaks_all_kept)))
+
+  pub position_kept : (ts : List Tree) → AllByRecursion IsKeptTree ts → (done rest : List ℕ) (p : ℕ) → map position ts ≡ done ++ p ∷ rest → is_kept rule boundary p ≡ true
+  position_kept [] k [] rest p e = absurd (cc)
+  position_kept [] k (d ∷ done) rest p e = absurd (cc)
+  position_kept (t ∷ ts) k [] rest p e = let same : position t ≡ p = cc in subst (λ q. is_kept rule boundary q ≡ true) same k.0
+  position_kept (t ∷ ts) k (d ∷ done) rest p e = let more : map position ts ≡ done ++ p ∷ rest = cc in position_kept ts k.1 done rest p more
+
+-- nothing that such a proof reads is missing
+pub none_missing : {D : Type 0} (s : Setting D) (h : Hashing D) (c : Contents D) (X : List D) → Agrees h s.rule c X → (a b p : ℕ) → c.boundary ≤ a → IsFirstMissing (λ q r. r ≡ c.node q) (map position (nodes_read s.rule (length X) a b)) p → ⊥
+none_missing s h c X agrees a b p low missing =
+    let t = position_of_node s.rule (length X) (nodes_read s.rule (length X) a b) (reads_at s (length X) a b) missing.before missing.after p missing.split in
+    let kept = position_kept s.rule c.boundary (length X) agrees.bounded (nodes_read s.rule (length X) a b) (reads_kept s.rule c.boundary (length X) agrees.bounded a b low) missing.before missing.after p missing.split in
+    let there : c.node p ≡ Some (digest_at h X t.0) = agrees.holds p ∙ ap (λ k. cond k (slice_get (node_digests h s.rule X) p) None) kept ∙ get_map (digest_at h X) (forest s.rule (length X)).nodes p t.0 t.1 in
+    let none : Some (digest_at h X t.0) ≡ None = sym there ∙ sym missing.missing in absurd (cc)
+
+-- the proof of a leaf is refused for want of memory alone
+pub only_memory : {F D : Type 0} (h : Hashing D) (rule : List ℕ → List ℕ) (c : Contents D) (X : List D) → Agrees h rule c X → (i k : ℕ) → c.boundary ≤ i → k ≤ length (peaks_of rule (length X)) → (e : Error F)
+    → (e ≢ OutOfMemory → IsBuildRefusal rule (record { leaves = length X; start = i; end = i + 1 }) k (λ p r. r ≡ c.node p) e) → e ≡ OutOfMemory
+only_memory {F} {D} h rule c X agrees i k low few e refused = elim (is_memory e) [
+  | inr is ↦ is
+  | inl other ↦ absurd (elim (refused other) [
+    | inl x ↦ (let no : length (peaks_of rule (length X)) < k = x.0 in omega (arith, no, few))
+    | inr x ↦ none_missing (setting h ForwardFold rule 0 0) h c X agrees i (i + 1) x.1.0 low x.1.2
+  ])
+]
