@@ -4,7 +4,7 @@ use Rattle.std.proofs.lemmas.Bool.{lt-ltb, le-ltb}
 use Rattle.merkle_core.specs.Refreshed.{are_before}
 
 module _ {D : Type 0} where
-  before_here : (u : ℕ × D) (us : List (ℕ × D)) (e : ℕ) → u.0 < e → are_before (u ∷ us) e ≡ suc (are_before us e)
+  pub before_here : (u : ℕ × D) (us : List (ℕ × D)) (e : ℕ) → u.0 < e → are_before (u ∷ us) e ≡ suc (are_before us e)
   before_here u us e l = ap (λ b. cond b (suc (are_before us e)) 0) (lt-ltb u.0 e l)
 
   pub before_none : (u : ℕ × D) (us : List (ℕ × D)) (e : ℕ) → e ≤ u.0 → are_before (u ∷ us) e ≡ 0

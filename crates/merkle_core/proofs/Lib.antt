@@ -33,6 +33,8 @@ pub mod HonestReads
 pub mod RefreshedDigests
 pub mod Befores
 pub mod KeptReads
+pub mod Touched
+pub mod Refreshing
 pub mod GapFacts
 pub mod Over
 pub mod HeldNodes

@@ -131,10 +131,10 @@ module _ {D : Type 0} (h : Hashing D) (m below : ℕ → Option D) where
   ]
 
   -- ---- where new digests are computed
-  computed_touched : (q : ℕ) (l r : Tree) (p : ℕ) → is_touched m (join q l r) ≡ true → computed_at h m below (join q l r) p ≡ cond (p == q) (refreshed h m below (join q l r)) (option_or (computed_at h m below r p) (computed_at h m below l p))
+  pub computed_touched : (q : ℕ) (l r : Tree) (p : ℕ) → is_touched m (join q l r) ≡ true → computed_at h m below (join q l r) p ≡ cond (p == q) (refreshed h m below (join q l r)) (option_or (computed_at h m below r p) (computed_at h m below l p))
   computed_touched q l r p e = ap (λ b. cond b (cond (p == q) (refreshed h m below (join q l r)) (option_or (computed_at h m below r p) (computed_at h m below l p))) None) e
 
-  computed_untouched : (q : ℕ) (l r : Tree) (p : ℕ) → is_touched m (join q l r) ≡ false → computed_at h m below (join q l r) p ≡ None
+  pub computed_untouched : (q : ℕ) (l r : Tree) (p : ℕ) → is_touched m (join q l r) ≡ false → computed_at h m below (join q l r) p ≡ None
   computed_untouched q l r p e = ap (λ b. cond b (cond (p == q) (refreshed h m below (join q l r)) (option_or (computed_at h m below r p) (computed_at h m below l p))) None) e
 
   -- a computed digest is that of a changed merged node at the position
