@@ -42,3 +42,4 @@ pub mod Pins
 pub mod MapFacts
 pub mod Forking
 pub mod NewestFirst
+pub mod RootBatch

@@ -255,6 +255,7 @@ impl<F: Family, D: Digest> Mem<F, D> {
         ensures of_list { IfOk result (λ b. (h : Hashing D) → (X : List D) → Agrees h F.rule (contents self.now) X → StandsOn h F.rule (records b.parent) (X ∷ X ∷ [])) }
         ensures refused { IsOkUnless result Error.OutOfMemory }
     {
+        let _leaves = self.leaves();
         match MerkleizedBatch::from_mem(self) {
             Ok(parent) => Ok(UnmerkleizedBatch::new(parent)),
             Err(error) => Err(error),

@@ -69,6 +69,7 @@ impl<F: Family, D: Digest> MerkleizedBatch<F, D> {
         ensures of_list { IfOk result (λ b. (h : Hashing D) → (X : List D) → Agrees h F.rule (contents mem.now) X → StandsOn h F.rule (records b.value) (X ∷ X ∷ [])) }
         ensures refused { IsOkUnless result Error.OutOfMemory }
     {
+        let _leaves = mem.leaves();
         Ok(Self::without_changes(mem)?)
     }
 
@@ -77,6 +78,7 @@ impl<F: Family, D: Digest> MerkleizedBatch<F, D> {
         ensures { IfOk result (λ b. (n : ℕ) → n ≤ F.MAX_LEAVES → size F.rule n ≡ mem.now.size → b.value ≡ root_batch F.rule n (contents mem.now)) }
     {
         let alloc = mem.allocator();
+        let leaves = mem.leaves();
         let peaks_before = RcSlice::from_vec(mem.peak_digests()?)?;
         let peaks_after = peaks_before.clone()?;
         let own = Record {
@@ -89,7 +91,7 @@ impl<F: Family, D: Digest> MerkleizedBatch<F, D> {
         let batch = MerkleizedBatch {
             own: Rc::new(alloc, own)?,
             ancestors: Vec::new(alloc),
-            leaves: mem.leaves(),
+            leaves,
             base_size: mem.size(),
             pruning_boundary: mem.pruning_boundary(),
         };
