@@ -29,6 +29,7 @@ pub mod ChildReads
 pub mod DraftFacts
 pub mod PeakReads
 pub mod Merkleizing
+pub mod MerkleizeFacts
 pub mod HonestReads
 pub mod RefreshedDigests
 pub mod Befores

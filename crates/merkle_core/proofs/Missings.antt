@@ -26,30 +26,13 @@ is_none : {D : Type 0} (a b : Option D) → option_or a b ≡ None → (a ≡ No
 is_none None b e = (refl, e)
 is_none (Some x) b e = absurd (cc)
 
-module _ {D : Type 0} (h : Hashing D) (rule : List ℕ → List ℕ) (n e : ℕ) (l : n ≤ e) (m below O : ℕ → Option D)
-    (fact : (p : ℕ) (t : Tree) → slice_get (forest rule n).nodes p ≡ Some t → O p ≡ cond (is_touched m t) (refreshed h m below t) None)
-    (some : (p : ℕ) (t : Tree) → slice_get (forest rule n).nodes p ≡ Some t → is_touched m t ≡ true → is_some (refreshed h m below t) ≡ true) where
-  abbrev NeededGap : {F : Type 0} → Gap F → Type 0
-  NeededGap g = (t : Tree) × IsNeeded rule m n e t × (g ≡ Missing (position t)) × (below (position t) ≡ None)
+-- it names a needed node that is not there
+abbrev pub NeededGap : {F D : Type 0} → (List ℕ → List ℕ) → ℕ → ℕ → (m below : ℕ → Option D) → Gap F → Type 0
+NeededGap rule n e m below g = (t : Tree) × IsNeeded rule m n e t × (g ≡ Missing (position t)) × (below (position t) ≡ None)
 
-  -- where neither is there the node is untouched
-  untouched_gap : (t : Tree) → slice_get (forest rule n).nodes (position t) ≡ Some t → option_or (O (position t)) (below (position t)) ≡ None → (is_touched m t ≡ false) × (below (position t) ≡ None)
-  untouched_gap t there gap =
-      let k = is_none (O (position t)) (below (position t)) gap in
-      (
-        by_test (λ b. is_touched m t ≡ b → b ≡ false) (is_touched m t)
-        (λ b c. absurd (let w = some_of (refreshed h m below t) (some (position t) t there b) in
-        let f : None ≡ Some w.0 = sym k.0 ∙ fact (position t) t there ∙ ap (λ x. cond x (refreshed h m below t) None) b ∙ w.1 in cc))
-        (λ b c. refl) refl,
-        k.1,
-      )
-
-  untouched_read : (t : Tree) → slice_get (forest rule n).nodes (position t) ≡ Some t → is_touched m t ≡ false → is_some (option_or (O (position t)) (below (position t))) ≡ true → is_some (below (position t)) ≡ true
-  untouched_read t there u s = (let none : O (position t) ≡ None = fact (position t) t there ∙ ap (λ x. cond x (refreshed h m below t) None) u in
-      ap (λ o. is_some (option_or o (below (position t)))) (sym none) ∙ s)
-
+module _ {D : Type 0} (rule : List ℕ → List ℕ) (n e : ℕ) (l : n ≤ e) (m below : ℕ → Option D) where
   -- ---- what is read above changed leaves
-  pub refresh_gap : {F : Type 0} (g : Gap F) → LacksForOne m below (peaks_of rule n) g → NeededGap g
+  pub refresh_gap : {F : Type 0} (g : Gap F) → LacksForOne m below (peaks_of rule n) g → NeededGap rule n e m below g
   refresh_gap g lacks =
       let ns : List Tree = (forest rule n).nodes in
       let t : Tree = lacks.1 in
@@ -73,8 +56,27 @@ module _ {D : Type 0} (h : Hashing D) (rule : List ℕ → List ℕ) (n e : ℕ)
         lacks.4.2.1,
       )
 
+module _ {D : Type 0} (h : Hashing D) (rule : List ℕ → List ℕ) (n e : ℕ) (l : n ≤ e) (m below O : ℕ → Option D)
+    (fact : (p : ℕ) (t : Tree) → slice_get (forest rule n).nodes p ≡ Some t → O p ≡ cond (is_touched m t) (refreshed h m below t) None)
+    (some : (p : ℕ) (t : Tree) → slice_get (forest rule n).nodes p ≡ Some t → is_touched m t ≡ true → is_some (refreshed h m below t) ≡ true) where
+  -- where neither is there the node is untouched
+  untouched_gap : (t : Tree) → slice_get (forest rule n).nodes (position t) ≡ Some t → option_or (O (position t)) (below (position t)) ≡ None → (is_touched m t ≡ false) × (below (position t) ≡ None)
+  untouched_gap t there gap =
+      let k = is_none (O (position t)) (below (position t)) gap in
+      (
+        by_test (λ b. is_touched m t ≡ b → b ≡ false) (is_touched m t)
+        (λ b c. absurd (let w = some_of (refreshed h m below t) (some (position t) t there b) in
+        let f : None ≡ Some w.0 = sym k.0 ∙ fact (position t) t there ∙ ap (λ x. cond x (refreshed h m below t) None) b ∙ w.1 in cc))
+        (λ b c. refl) refl,
+        k.1,
+      )
+
+  untouched_read : (t : Tree) → slice_get (forest rule n).nodes (position t) ≡ Some t → is_touched m t ≡ false → is_some (option_or (O (position t)) (below (position t))) ≡ true → is_some (below (position t)) ≡ true
+  untouched_read t there u s = (let none : O (position t) ≡ None = fact (position t) t there ∙ ap (λ x. cond x (refreshed h m below t) None) u in
+      ap (λ o. is_some (option_or o (below (position t)))) (sym none) ∙ s)
+
   -- ---- what is read for new nodes
-  pub append_gap : {F : Type 0} (max_leaves : ℕ) (g : Gap F) → LacksChild rule max_leaves (size rule n) (size rule e) (size rule n) (λ p. option_or (O p) (below p)) g → NeededGap g
+  pub append_gap : {F : Type 0} (max_leaves : ℕ) (g : Gap F) → LacksChild rule max_leaves (size rule n) (size rule e) (size rule n) (λ p. option_or (O p) (below p)) g → NeededGap rule n e m below g
   append_gap max_leaves g lacks =
       let u : Tree = lacks.0 in
       let c = lacks.1 in
@@ -87,7 +89,7 @@ module _ {D : Type 0} (h : Hashing D) (rule : List ℕ → List ℕ) (n e : ℕ)
       (u, (inl (q, c.2, c.3, there, or_left (nat_le (size rule n) q) (is_touched m (join q c.2 c.3)) (le-leb (size rule n) q c.6), c.8), lacks.2, w.0), lacks.3.0, w.1)
 
   -- ---- what is read for the peaks
-  pub peak_gap : {F : Type 0} → IsChanged rule m n e → (g : Gap F) → IsPeakGap rule e (size rule n) (λ p. option_or (O p) (below p)) g → NeededGap g
+  pub peak_gap : {F : Type 0} → IsChanged rule m n e → (g : Gap F) → IsPeakGap rule e (size rule n) (λ p. option_or (O p) (below p)) g → NeededGap rule n e m below g
   peak_gap changed g gap =
       let t : Tree = gap.1 in
       let k = get_reversed (forest rule e).peaks gap.0 t gap.2 in

@@ -9,7 +9,7 @@ use Rattle.merkle_base.specs.Places.{peaks_of}
 use Rattle.merkle_core.specs.Contents.{Contents}
 use Rattle.merkle_core.specs.Gaps.{IsGapAt}
 use Rattle.merkle_core.specs.Read.{read_over}
-use Rattle.merkle_core.specs.Recorded.{Recorded, recorded_code}
+use Rattle.merkle_core.specs.Recorded.{Chain, Recorded, recorded_code}
 use Rattle.merkle_core.specs.declared.gap.Gap.{Gap}
 
 -- a batch in the making
@@ -53,3 +53,12 @@ ArePeaksRead rule n s read = (i : ℕ) (t : Tree) → slice_get (peaks_of rule n
 -- one of them is not there
 abbrev pub IsPeakGap : {F D : Type 0} → (List ℕ → List ℕ) → ℕ → ℕ → (ℕ → Option D) → Gap F → Type 0
 IsPeakGap rule n s read e = (i : ℕ) × (t : Tree) × (slice_get (peaks_of rule n) i ≡ Some t) × (position t < s) × IsGapAt read (position t) e
+
+-- the batch that a draft makes, forked from c, with the digests of the peaks before it and after it
+abbrev pub finished : {D : Type 0} → Chain D → Drafted D → (peaks_before peaks_after : List D) → Chain D
+finished c d peaks_before peaks_after = record {
+  base_size = c.base_size;
+  boundary = c.boundary;
+  ancestors = d.kept;
+  own = record { before = d.before; peaks_before = peaks_before; appended = d.appended; overwritten = d.overwritten; peaks_after = peaks_after };
+}

@@ -18,7 +18,6 @@ ghost use Rattle.merkle_core.specs.Store.{contents};
 use crate::draft::Draft;
 use crate::mem::Mem;
 pub use crate::merkleized::MerkleizedBatch;
-use crate::record::Record;
 use merkle_base::digest::Digest;
 use merkle_base::error::Error;
 use merkle_base::family::Family;
@@ -257,30 +256,16 @@ impl<F: Family, D: Digest> UnmerkleizedBatch<F, D> {
             updates,
             forgotten,
         } = self;
-        let alloc = parent.allocator();
+        let peaks_before = parent.own.peaks_after.clone()?;
         let mut draft = Draft::of_parent(&parent, forgotten)?;
         draft.refresh_leaves(base, hasher, leaves_before, &updates)?;
         draft.append_leaves(base, hasher, leaves_before, &added)?;
         let leaves = leaves_before + added.len() as u64;
         let peaks_after = if added.is_empty() && updates.is_empty() {
-            parent.own.peaks_after.clone()?
+            peaks_before.clone()?
         } else {
             RcSlice::from_vec(draft.read_peaks(base, leaves)?)?
         };
-        let own = Record {
-            size_before: draft.size_before,
-            peaks_before: parent.own.peaks_after.clone()?,
-            appended: draft.appended,
-            overwrites: draft.overwrites,
-            peaks_after,
-        };
-        let batch = MerkleizedBatch {
-            own: Rc::new(alloc, own)?,
-            ancestors: draft.kept,
-            leaves,
-            base_size: parent.base_size,
-            pruning_boundary: parent.pruning_boundary,
-        };
-        Ok(Rc::new(alloc, batch)?)
+        Ok(draft.finish(&parent, leaves, peaks_before, peaks_after)?)
     }
 }

@@ -1,12 +1,14 @@
 //! A batch in the making: the nodes that follow from its leaves.
 ghost use Rattle.std.specs.Prelude.{◌≡◌, ◌≢◌, ◌+◌, ◌^◌, ◌++◌, ◌<◌, ◌≤◌, ℕ, suc, List, Option, [], ◌∷◌, None, is_some, true, cond, drop, length, map, IfOk, IfErr, OnOk};
 ghost use Rattle.std.specs.FinMap.{empty, get};
+ghost use Rattle.std.specs.Rc.{rc_slice_items};
 ghost use Rattle.merkle_base.specs.Forest.{size};
 ghost use Rattle.merkle_base.specs.Places.{HasInner, peak_positions, peaks_of};
 ghost use Rattle.merkle_base.specs.Tree.{Tree, position};
 ghost use Rattle.merkle_core.specs.Contents.{Contents};
 ghost use Rattle.merkle_core.specs.Drafts.{AreChildrenRead, LacksChild, node_over};
-ghost use Rattle.merkle_core.specs.DraftReads.{below, old_node, OnlyAppends, IsPeakGap, ArePeaksRead};
+ghost use Rattle.merkle_core.specs.DraftReads.{below, finished, old_node, OnlyAppends, IsPeakGap, ArePeaksRead};
+ghost use Rattle.merkle_core.specs.Linked.{IsLinked};
 ghost use Rattle.merkle_core.specs.Pending.{is_changed};
 ghost use Rattle.merkle_core.specs.Recorded.{after};
 ghost use Rattle.merkle_core.specs.Store.{contents};
@@ -24,7 +26,7 @@ use merkle_base::position::Position;
 use merkle_proof::hasher::Hasher;
 use std::alloc::AllocError;
 use std::marker::Model;
-use std::rc::Rc;
+use std::rc::{Rc, RcSlice};
 
 /// A batch in the making.
 #[derive(Drop)]
@@ -206,5 +208,34 @@ impl<F: Family, D: Digest> Draft<F, D> {
             digests.push(self.read_node(base, position)?)?;
         }
         Ok(digests)
+    }
+
+    /// The batch that it makes, whose end has so many leaves.
+    pub(crate) fn finish(
+        self,
+        parent: &MerkleizedBatch<F, D>,
+        leaves: Location<F>,
+        peaks_before: RcSlice<D>,
+        peaks_after: RcSlice<D>,
+    ) -> Result<Rc<MerkleizedBatch<F, D>>, AllocError>
+        requires { IsLinked F.rule F.MAX_LEAVES leaves (finished parent.now self (rc_slice_items peaks_before) (rc_slice_items peaks_after)) }
+        ensures { IfOk result (λ b. b.value ≡ finished parent.now self (rc_slice_items peaks_before) (rc_slice_items peaks_after)) }
+    {
+        let alloc = parent.allocator();
+        let own = Record {
+            size_before: self.size_before,
+            peaks_before,
+            appended: self.appended,
+            overwrites: self.overwrites,
+            peaks_after,
+        };
+        let batch = MerkleizedBatch {
+            own: Rc::new(alloc, own)?,
+            ancestors: self.kept,
+            leaves,
+            base_size: parent.base_size(),
+            pruning_boundary: parent.pruning_boundary(),
+        };
+        Ok(Rc::new(alloc, batch)?)
     }
 }

@@ -1,0 +1,141 @@
+-- What merkleizing a batch makes, from what its steps promise.
+use Rattle.std.proofs.Common.{◌≡◌, ℕ, ◌+◌, ◌<◌, ◌≤◌, ◌⊎◌, List, [], ◌∷◌, ◌++◌, length, drop, map, Option, Some, None, true, slice_get, arith, refl, sym, ap, inl, inr, ◌∙◌, subst, append-nil}
+use Rattle.std.specs.Prelude.{is_some}
+use Rattle.std.specs.Option.{option_or}
+use Rattle.std.specs.FinMap.{get}
+use Rattle.merkle_base.specs.Tree.{Tree, position}
+use Rattle.merkle_base.specs.Forest.{forest, size}
+use Rattle.merkle_base.specs.Hashing.{Hashing}
+use Rattle.merkle_base.specs.Digests.{node_digests, peak_digests}
+use Rattle.merkle_base.specs.Places.{peak_positions, peaks_of}
+use Rattle.merkle_core.specs.Contents.{Contents, AgreesWithOne}
+use Rattle.merkle_core.specs.Drafts.{AreChildrenRead, LacksChild}
+use Rattle.merkle_core.specs.DraftReads.{ArePeaksRead, below, Drafted, finished, IsPeakGap, old_node, OnlyAppends, OnlyOverwrites}
+use Rattle.merkle_core.specs.Missing.{IsMissing}
+use Rattle.merkle_core.specs.Needed.{IsChanged}
+use Rattle.merkle_core.specs.Pending.{IsPending, Pending, kept, kept_lists, leaf_total, pending_list}
+use Rattle.merkle_core.specs.Read.{read_over}
+use Rattle.merkle_core.specs.Recorded.{Recorded, records}
+use Rattle.merkle_core.specs.Refreshed.{all_computed_at, AreRefreshed, LacksForOne}
+use Rattle.merkle_core.specs.Replay.{over}
+use Rattle.merkle_core.specs.Stands.{last_list, replaced, StandsOn}
+use Rattle.merkle_core.specs.Truth.{IsTruth, LeavesAre, ReadsTrue, truths}
+use Rattle.merkle_core.specs.declared.gap.Gap.{Gap}
+use Rattle.merkle_core.specs.declared.gap.Gap.TheVariants.{Missing}
+use Rattle.merkle_core.proofs.Edits.{same_gets, replaced_get}
+use Rattle.merkle_core.proofs.Forking.{last_size}
+use Rattle.merkle_core.proofs.ListTruths.{appended_whole, peaks_whole, truth_is, truth_of}
+use Rattle.merkle_core.proofs.Merkleizing.{list_length, list_leaves, list_reads, list_stands, list_within}
+use Rattle.merkle_core.proofs.Missings.{append_gap, needed_read, NeededGap, peak_gap, refresh_gap}
+use Rattle.merkle_core.proofs.NewDigests.{new_digest, new_digest_some}
+
+-- it names a node that keeps the batch from being merkleized
+abbrev pub NamesMissing : {F D : Type 0} → (List ℕ → List ℕ) → Pending D → Contents D → Gap F → Type 0
+NamesMissing rule p base g = (t : Tree) × (g ≡ Missing (position t)) × IsMissing rule p base t
+
+over_none : {D : Type 0} (o : Option D) → over None o ≡ o
+over_none None = refl
+over_none (Some d) = refl
+
+-- a list without changes is as it was
+pub unchanged_list : {D : Type 0} (rule : List ℕ → List ℕ) (p : Pending D) (X : List D) → p.added ≡ [] → ((q : ℕ) → get p.overwritten q ≡ None) → pending_list rule p X ≡ X
+unchanged_list rule p X none same =
+    ap (λ ds. replaced rule (get p.overwritten) 0 X ++ ds) none ∙ append-nil (replaced rule (get p.overwritten) 0 X)
+    ∙ same_gets (replaced rule (get p.overwritten) 0 X) X (λ k. replaced_get rule (get p.overwritten) 0 X k ∙ ap (λ o. over o (slice_get X k)) (same (size rule (0 + k))) ∙ over_none (slice_get X k))
+
+module _ {D : Type 0} (rule : List ℕ → List ℕ) (p : Pending D) (base : Contents D) where
+  total_more : p.leaves_before ≤ leaf_total p
+  total_more = omega arith
+
+  named : {F : Type 0} (g : Gap F) → NeededGap rule p.leaves_before (leaf_total p) (get p.overwritten) (read_over (kept p) base) g → NamesMissing rule p base g
+  named g gap = (gap.0, gap.2, (gap.1, gap.3))
+
+  -- a node that is read above changed leaves
+  pub refresh_missing : {F : Type 0} (d : Drafted D) (g : Gap F) → d.kept ≡ kept p → LacksForOne (get p.overwritten) (below d base) (peaks_of rule p.leaves_before) g → NamesMissing rule p base g
+  refresh_missing d g k lacks =
+      let same : below d base ≡ read_over (kept p) base = (λ i q. read_over (k i) base q) in
+      named g (refresh_gap rule p.leaves_before (leaf_total p) total_more (get p.overwritten) (read_over (kept p) base) g (subst (λ f. LacksForOne (get p.overwritten) f (peaks_of rule p.leaves_before) g) same lacks))
+
+module _ {D : Type 0} (h : Hashing D) (rule : List ℕ → List ℕ) (max_leaves : ℕ) (p : Pending D) (pending : IsPending rule max_leaves p) (base : Contents D) (d0 d1 d2 : Drafted D)
+    (k0 : d0.kept ≡ kept p) (b0 : d0.before ≡ size rule p.leaves_before) (only : OnlyOverwrites d0 d1) (more : OnlyAppends d1 d2)
+    (computed : (q : ℕ) → get d1.overwritten q ≡ option_or (all_computed_at h (get p.overwritten) (below d0 base) (peaks_of rule p.leaves_before) q) (get p.overwritten q))
+    (refreshed : AreRefreshed h (get p.overwritten) (below d0 base) (peaks_of rule p.leaves_before)) where
+  below_is : below d0 base ≡ read_over (kept p) base
+  below_is = (λ i q. read_over (k0 i) base q)
+
+  done : AreRefreshed h (get p.overwritten) (read_over (kept p) base) (peaks_of rule p.leaves_before)
+  done = subst (λ f. AreRefreshed h (get p.overwritten) f (peaks_of rule p.leaves_before)) below_is refreshed
+
+  is : (q : ℕ) → get d1.overwritten q ≡ option_or (all_computed_at h (get p.overwritten) (read_over (kept p) base) (peaks_of rule p.leaves_before) q) (get p.overwritten q)
+  is q = computed q ∙ ap (λ f. option_or (all_computed_at h (get p.overwritten) f (peaks_of rule p.leaves_before) q) (get p.overwritten q)) below_is
+
+  abbrev read : ℕ → Option D
+  read q = option_or (get d1.overwritten q) (read_over (kept p) base q)
+
+  reads_are : old_node d1 base ≡ read
+  reads_are = (λ i q. option_or (get d1.overwritten q) (read_over ((only.1 ∙ k0) i) base q))
+
+  later_reads : old_node d2 base ≡ read
+  later_reads = (λ i q. option_or (get (more.2 i) q) (read_over ((more.1 ∙ only.1 ∙ k0) i) base q))
+
+  b1 : d1.before ≡ size rule p.leaves_before
+  b1 = only.0 ∙ b0
+
+  b2 : d2.before ≡ size rule p.leaves_before
+  b2 = more.0 ∙ b1
+
+  -- a node that is read for new ones
+  pub append_missing : {F : Type 0} (g : Gap F) → LacksChild rule max_leaves d1.before (size rule (leaf_total p)) d1.before (old_node d1 base) g → NamesMissing rule p base g
+  append_missing g lacks =
+      named rule p base g (append_gap h rule p.leaves_before (leaf_total p) (total_more rule p base) (get p.overwritten) (read_over (kept p) base) (get d1.overwritten)
+      (new_digest h rule p.leaves_before (get p.overwritten) (read_over (kept p) base) (get d1.overwritten) pending.leaves done is)
+      (new_digest_some h rule p.leaves_before (get p.overwritten) (read_over (kept p) base) (get d1.overwritten) pending.leaves done is) max_leaves g
+      (subst (λ f. LacksChild rule max_leaves (size rule p.leaves_before) (size rule (leaf_total p)) (size rule p.leaves_before) f g) reads_are
+      (subst (λ (b : ℕ). LacksChild rule max_leaves b (size rule (leaf_total p)) b (old_node d1 base) g) b1 lacks)))
+
+  -- a peak that is read
+  pub peak_missing : {F : Type 0} (g : Gap F) → IsChanged rule (get p.overwritten) p.leaves_before (leaf_total p) → IsPeakGap rule (leaf_total p) d2.before (old_node d2 base) g → NamesMissing rule p base g
+  peak_missing g changed gap =
+      named rule p base g (peak_gap h rule p.leaves_before (leaf_total p) (total_more rule p base) (get p.overwritten) (read_over (kept p) base) (get d1.overwritten)
+      (new_digest h rule p.leaves_before (get p.overwritten) (read_over (kept p) base) (get d1.overwritten) pending.leaves done is)
+      (new_digest_some h rule p.leaves_before (get p.overwritten) (read_over (kept p) base) (get d1.overwritten) pending.leaves done is) changed g
+      (subst (λ f. IsPeakGap rule (leaf_total p) (size rule p.leaves_before) f g) later_reads (subst (λ (b : ℕ). IsPeakGap rule (leaf_total p) b (old_node d2 base) g) b2 gap)))
+
+  -- no node is missing
+  pub none_is_missing : AreChildrenRead rule max_leaves d1.before (size rule (leaf_total p)) d1.before (old_node d1 base) → (IsChanged rule (get p.overwritten) p.leaves_before (leaf_total p) → ArePeaksRead rule (leaf_total p) d2.before (old_node d2 base)) →
+      (t : Tree) → IsMissing rule p base t → ⊥
+  none_is_missing children peaks t missing =
+      let there : is_some (read_over (kept p) base (position t)) ≡ true =
+      needed_read h rule p.leaves_before (leaf_total p) (total_more rule p base) (get p.overwritten) (read_over (kept p) base) (get d1.overwritten)
+      (new_digest h rule p.leaves_before (get p.overwritten) (read_over (kept p) base) (get d1.overwritten) pending.leaves done is)
+      (new_digest_some h rule p.leaves_before (get p.overwritten) (read_over (kept p) base) (get d1.overwritten) pending.leaves done is) max_leaves pending.bounded done
+      (subst (λ f. AreChildrenRead rule max_leaves (size rule p.leaves_before) (size rule (leaf_total p)) (size rule p.leaves_before) f) reads_are
+      (subst (λ (b : ℕ). AreChildrenRead rule max_leaves b (size rule (leaf_total p)) b (old_node d1 base)) b1 children))
+      (λ changed. subst (λ f. ArePeaksRead rule (leaf_total p) (size rule p.leaves_before) f) later_reads (subst (λ (b : ℕ). ArePeaksRead rule (leaf_total p) b (old_node d2 base)) b2 (peaks changed)))
+      t missing.0 in
+      let none : is_some (read_over (kept p) base (position t)) ≡ is_some {T = D} None = ap is_some missing.1 in absurd (cc)
+
+  -- the batch stands on lists
+  pub batch_stands : (ls : List (List D)) → StandsOn h rule (records p.parent) ls → AgreesWithOne h rule base (kept_lists p ls) → d2.before + length d2.appended ≡ size rule (leaf_total p) →
+      ((truth : ℕ → D) → IsTruth h rule max_leaves truth → ReadsTrue (old_node d1 base) d1.before truth → LeavesAre truth rule p.leaves_before p.added → d2.appended ≡ truths truth d1.before (length d2.appended)) →
+      (pb pa : List D) → pb ≡ p.parent.own.peaks_after →
+      ((p.added ≡ []) × ((q : ℕ) → get p.overwritten q ≡ None) × (pa ≡ pb)) ⊎ ((truth : ℕ → D) → ReadsTrue (old_node d2 base) d2.before truth → d2.appended ≡ truths truth d2.before (length d2.appended) → pa ≡ map truth (peak_positions rule (leaf_total p))) →
+      StandsOn h rule (records (finished p.parent d2 pb pa)) (kept_lists p ls ++ pending_list rule p (last_list ls) ∷ [])
+  batch_stands ls stands agrees counted right pb pa before after =
+      let list : List D = pending_list rule p (last_list ls) in
+      let long = list_within h rule max_leaves p pending ls stands in
+      let truth = truth_of h rule max_leaves list in
+      let true : ReadsTrue read (size rule p.leaves_before) truth = list_reads h rule max_leaves p pending ls stands base agrees d1.overwritten done is in
+      let total : leaf_total p ≡ length list = sym (list_length h rule max_leaves p pending ls stands) in
+      let made : d2.appended ≡ truths truth d1.before (length d2.appended) =
+      right truth (truth_is h rule max_leaves list long) (subst (λ f. ReadsTrue f d1.before truth) (sym reads_are) (subst (λ (b : ℕ). ReadsTrue read b truth) (sym b1) true)) (list_leaves h rule max_leaves p pending ls stands) in
+      let end : size rule p.leaves_before + length d2.appended ≡ size rule (length list) = omega (arith, b2, counted, ap (size rule) total) in
+      let appended : d2.appended ≡ drop (size rule p.leaves_before) (node_digests h rule list) =
+      appended_whole h rule max_leaves list long (size rule p.leaves_before) d2.appended end (made ∙ ap (λ (b : ℕ). truths truth b (length d2.appended)) b1) in
+      let peaks : pa ≡ peak_digests h rule list = elim after [
+        | inl w ↦ w.2 ∙ before ∙ (last_size h rule p.parent ls stands).1 ∙ ap (peak_digests h rule) (sym (unchanged_list rule p (last_list ls) w.0 w.1))
+        | inr f ↦ f truth (subst (λ r. ReadsTrue r d2.before truth) (sym later_reads) (subst (λ (b : ℕ). ReadsTrue read b truth) (sym b2) true)) (made ∙ ap (λ (b : ℕ). truths truth b (length d2.appended)) (sym more.0))
+            ∙ ap (λ (n : ℕ). map truth (peak_positions rule n)) total ∙ peaks_whole h rule max_leaves list long
+      ] in
+      subst (λ ks. StandsOn h rule (ks ++ (finished p.parent d2 pb pa).own ∷ []) (kept_lists p ls ++ list ∷ [])) (sym (more.1 ∙ only.1 ∙ k0))
+      (list_stands h rule max_leaves p pending ls stands base agrees d1.overwritten done is (finished p.parent d2 pb pa).own b2 more.2 appended before peaks)
