@@ -36,6 +36,7 @@ pub mod Befores
 pub mod KeptReads
 pub mod Touched
 pub mod Refreshing
+pub mod RefreshedPeaks
 pub mod GapFacts
 pub mod Over
 pub mod HeldNodes

@@ -45,7 +45,7 @@ inserted_at ow k d q = get-insert nat_cmp_total ow k d q ∙ ap (λ b. cond b (S
     same : (a b : ℕ) → eq_by_cmp nat_cmp a b ≡ (a == b)
     same a b = grind (arith, nat_tests)
 
-or_assoc : {D : Type 0} (a b c : Option D) → option_or (option_or a b) c ≡ option_or a (option_or b c)
+pub or_assoc : {D : Type 0} (a b c : Option D) → option_or (option_or a b) c ≡ option_or a (option_or b c)
 or_assoc None b c = refl
 or_assoc (Some x) b c = refl
 
