@@ -14,4 +14,4 @@ invariant-loop-position g l =
     × (length l.nodes.items ≡ length l.initial.nodes.items)
     × ((p : ℕ) → stored_at l.pins.items l.start l.nodes.items p ≡ over (latest l.yielded p) (stored_at l.initial.pins.items l.start l.initial.nodes.items p))
     × ((p : ℕ) → is_some (lookup (nat_eq p) l.pins.items) ≡ is_some (lookup (nat_eq p) l.initial.pins.items))
-    × (map deref_pair l.yielded ++ l.position-iterator ≡ l.overwrites.nodes.entries)
+    × (map deref_pair l.yielded ++ l.position-iterator ≡ l.initial.position-iterator)
