@@ -47,3 +47,4 @@ pub mod MapFacts
 pub mod Forking
 pub mod NewestFirst
 pub mod RootBatch
+pub mod PendingUpdates

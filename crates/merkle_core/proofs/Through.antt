@@ -29,7 +29,7 @@ over_or : {D : Type 0} (n o : Option D) (d : D) → o ≡ Some d → over n o �
 over_or None o d e = rw e refl
 over_or (Some x) o d e = rw e refl
 
-both_none : {D : Type 0} (a b : Option D) → option_or a b ≡ None → (a ≡ None) × (b ≡ None)
+pub both_none : {D : Type 0} (a b : Option D) → option_or a b ≡ None → (a ≡ None) × (b ≡ None)
 both_none None b e = (refl, e)
 both_none (Some x) b e = absurd (cc)
 
