@@ -38,6 +38,7 @@ pub mod Touched
 pub mod Refreshing
 pub mod RefreshedPeaks
 pub mod GapFacts
+pub mod Runs
 pub mod LastMatch
 pub mod Laid
 pub mod Over

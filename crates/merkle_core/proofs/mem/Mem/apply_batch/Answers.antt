@@ -1,33 +1,119 @@
-use Rattle.std.proofs.Common.{◌≡◌, ◌++◌, ℕ, true, length, arith, ap, sym, ◌∙◌}
-use Rattle.merkle_core.specs.Contents.{held_peaks}
-use Rattle.merkle_core.specs.Replay.{begins_at, applied}
-use Rattle.merkle_core.specs.Store.{contents}
+use Rattle.std.proofs.Common.{rules, ◌≡◌, ◌+◌, ◌-◌, ◌<◌, ◌≤◌, ℕ, Some, None, length, map, take, drop, arith, ap, sym, ◌∙◌, subst}
 use Rattle.merkle_base.proofs.Nodes.{size_inj}
+use Rattle.merkle_core.specs.Contents.{held_peaks}
+use Rattle.merkle_core.specs.Held.{held_contents}
+use Rattle.merkle_core.specs.Linked.{IsLinked}
+use Rattle.merkle_core.specs.Recorded.{Recorded}
+use Rattle.merkle_core.specs.Replay.{all_laid, applied, laid, matched}
+use Rattle.merkle_core.specs.Store.{contents}
 use Rattle.merkle_core.proofs.Applied.{applied_or_collides}
-use Rattle.merkle_core.proofs.Wholes.{applied_whole}
+use Rattle.merkle_core.proofs.Runs.{some_kept, total_laid, kept_after, applied_after}
 use Rattle.merkle_core.proofs.mem.Mem.apply_batch.Goals as goal
 
-pub write_peaks-count-requires : goal.write_peaks-count-requires
-write_peaks-count-requires g c = omega (arith, g.met.D.Digest.small)
+pub sub-added-requires : goal.sub-added-requires
+sub-added-requires g c =
+    let rule = g.F.Family.rule in
+    let most = g.F.Family.MAX_LEAVES in
+    let same = g.D.PartialEq.eq in
+    let linked = subst (IsLinked rule most c.batch.inside.leaves) c.batch.view_is c.batch.invariant in
+    let m : matched same c.size.result c.front.result.now c.args.batch.now ≡ Some c.in-Some.first = sym c.find_state.ensures ∙ c.in-Some.is in
+    omega (arith, total_laid rule most c.batch.inside.leaves same c.args.batch.now linked (λ r. r.value) c.batch.inside.ancestors.items (ap (λ b. b.ancestors) c.batch.view_is) c.size.result c.in-Some.first c.front.result.now m, c.size.ensures, c.size-2.ensures, c.size-3.ensures)
 
-pub front-requires : goal.front-requires
-front-requires g c = (omega (arith, g.met.D.Digest.small), c.write_peaks-count.ensures.few)
+pub slice_bounds-lay_all-count : goal.slice_bounds-lay_all-count
+slice_bounds-lay_all-count g c =
+    let rule = g.F.Family.rule in
+    let most = g.F.Family.MAX_LEAVES in
+    let same = g.D.PartialEq.eq in
+    let linked = subst (IsLinked rule most c.batch.inside.leaves) c.batch.view_is c.batch.invariant in
+    let m : matched same c.size.result c.front.result.now c.args.batch.now ≡ Some c.in-Some.first = sym c.find_state.ensures ∙ c.in-Some.is in
+    some_kept rule most c.batch.inside.leaves same c.args.batch.now linked (λ r. r.value) c.deref.result.now (ap (map (λ r. r.value)) c.deref.ensures.value ∙ ap (λ b. b.ancestors) c.batch.view_is) c.size.result c.in-Some.first c.front.result.now m
+
+pub offset_bounds-deref-first : goal.offset_bounds-deref-first
+offset_bounds-deref-first g c =
+    let rule = g.F.Family.rule in
+    let most = g.F.Family.MAX_LEAVES in
+    let same = g.D.PartialEq.eq in
+    let linked = subst (IsLinked rule most c.batch.inside.leaves) c.batch.view_is c.batch.invariant in
+    let m : matched same c.size.result c.front.result.now c.args.batch.now ≡ Some c.in-Some.first = sym c.find_state.ensures ∙ c.in-Some.is in
+    let k : c.in-Some.first ≤ length c.deref.result.now = some_kept rule most c.batch.inside.leaves same c.args.batch.now linked (λ r. r.value) c.deref.result.now (ap (map (λ r. r.value)) c.deref.ensures.value ∙ ap (λ b. b.ancestors) c.batch.view_is) c.size.result c.in-Some.first c.front.result.now m in
+    search rules
+
+pub slice_bounds-lay_all-start : goal.slice_bounds-lay_all-start
+slice_bounds-lay_all-start g c =
+    let rule = g.F.Family.rule in
+    let most = g.F.Family.MAX_LEAVES in
+    let same = g.D.PartialEq.eq in
+    let linked = subst (IsLinked rule most c.batch.inside.leaves) c.batch.view_is c.batch.invariant in
+    let m : matched same c.size.result c.front.result.now c.args.batch.now ≡ Some c.in-Some.first = sym c.find_state.ensures ∙ c.in-Some.is in
+    let k : c.in-Some.first ≤ length c.deref.result.now = some_kept rule most c.batch.inside.leaves same c.args.batch.now linked (λ r. r.value) c.deref.result.now (ap (map (λ r. r.value)) c.deref.ensures.value ∙ ap (λ b. b.ancestors) c.batch.view_is) c.size.result c.in-Some.first c.front.result.now m in
+    search rules
+
+pub lay_all-requires : goal.lay_all-requires
+lay_all-requires g c =
+    let rule = g.F.Family.rule in
+    let most = g.F.Family.MAX_LEAVES in
+    let same = g.D.PartialEq.eq in
+    let linked = subst (IsLinked rule most c.batch.inside.leaves) c.batch.view_is c.batch.invariant in
+    let m : matched same c.size.result c.front.result.now c.args.batch.now ≡ Some c.in-Some.first = sym c.find_state.ensures ∙ c.in-Some.is in
+    omega (arith, total_laid rule most c.batch.inside.leaves same c.args.batch.now linked (λ r. r.value) c.deref.result.now (ap (map (λ r. r.value)) c.deref.ensures.value ∙ ap (λ b. b.ancestors) c.batch.view_is) c.size.result c.in-Some.first c.front.result.now m, c.in_ok-reserve.ensures.ok, c.as_u64.ensures, c.sub-added.ensures, c.size.ensures, c.size-2.ensures, c.size-3.ensures)
+
+pub lay-requires : goal.lay-requires
+lay-requires g c =
+    let rule = g.F.Family.rule in
+    let most = g.F.Family.MAX_LEAVES in
+    let same = g.D.PartialEq.eq in
+    let linked = subst (IsLinked rule most c.batch.inside.leaves) c.batch.view_is c.batch.invariant in
+    let m : matched same c.size.result c.front.result.now c.args.batch.now ≡ Some c.in-Some.first = sym c.find_state.ensures ∙ c.in-Some.is in
+    let own : c.deref-own.result.now ≡ c.args.batch.now.own = c.deref-own.ensures ∙ ap (λ b. b.own) c.batch.view_is in
+    omega (arith, total_laid rule most c.batch.inside.leaves same c.args.batch.now linked (λ r. r.value) c.deref.result.now (ap (map (λ r. r.value)) c.deref.ensures.value ∙ ap (λ b. b.ancestors) c.batch.view_is) c.size.result c.in-Some.first c.front.result.now m, c.in_ok-reserve.ensures.ok, ap (λ (r : Recorded _). length r.appended) own, c.lay_all.ensures.capacity, c.lay_all.ensures.len, c.as_u64.ensures, c.sub-added.ensures, c.size.ensures, c.size-2.ensures, c.size-3.ensures)
+
+pub invariant_of-self-2 : goal.invariant_of-self-2
+invariant_of-self-2 g c =
+    let rule = g.F.Family.rule in
+    let most = g.F.Family.MAX_LEAVES in
+    let same = g.D.PartialEq.eq in
+    let linked = subst (IsLinked rule most c.batch.inside.leaves) c.batch.view_is c.batch.invariant in
+    let m : matched same c.size.result c.front.result.now c.args.batch.now ≡ Some c.in-Some.first = sym c.find_state.ensures ∙ c.in-Some.is in
+    let own : c.deref-own.result.now ≡ c.args.batch.now.own = c.deref-own.ensures ∙ ap (λ b. b.own) c.batch.view_is in
+    let i = c.self.inside in
+    let sized : c.size.result ≡ i.start + length i.nodes.items = c.size.ensures ∙ sym (ap (λ s. s.size) c.self.view_is) in
+    let reserved : length c.reserve.new.self.items ≡ length i.nodes.items = ap length c.in_ok-reserve.ensures.items in
+    kept_after rule most c.batch.inside.leaves same c.args.batch.now linked (λ r. r.value) c.deref.result.now (ap (map (λ r. r.value)) c.deref.ensures.value ∙ ap (λ b. b.ancestors) c.batch.view_is) c.size.result c.in-Some.first c.front.result.now m
+    i.boundary i.start i.leaves i.pins.items c.lay_all.new.pins.items c.lay.new.pins.items i.nodes.items c.lay_all.new.nodes.items c.lay.new.nodes.items c.self.invariant sized (omega (arith, c.lay_all.ensures.len, reserved)) (omega (arith, c.lay.ensures.len, ap (λ (r : Recorded _). length r.appended) own)) c.lay_all.ensures.pinned c.lay.ensures.pinned
 
 pub returns-clause-done : goal.returns-clause-done
-returns-clause-done g c = λ n within sized.
-    let before = c.batch.inside in
-    let held : c.front.result.now ≡ held_peaks g.F.Family.rule n (contents c.args.self.now) = c.front.ensures ∙ c.write_peaks-count.ensures.held n within sized in
-    let found : begins_at g.D.PartialEq.eq c.size.result c.front.result.now c.args.batch.now.own ≡ true = sym c.begins_at.ensures ∙ c.if-not-begins_at.false in
-    let begins : begins_at g.D.PartialEq.eq c.args.self.now.size (held_peaks g.F.Family.rule n (contents c.args.self.now)) c.args.batch.now.own ≡ true =
-    ap (λ (z : ℕ). begins_at g.D.PartialEq.eq z (held_peaks g.F.Family.rule n (contents c.args.self.now)) c.args.batch.now.own) (sym c.size.ensures)
-    ∙ ap (λ ps. begins_at g.D.PartialEq.eq c.size.result ps c.args.batch.now.own) (sym held) ∙ found in
-    applied_whole g.D.PartialEq.eq g.F.Family.rule n c.args.self.now c.args.batch.now c.self.inside.nodes.items before.appended.items c.extend_from_slice.new.self.items before.size_before before.peaks_before.items before.peaks_after.items
-    c.self.view_is c.batch.view_is begins (c.in_ok-extend_from_slice.ensures.items ∙ ap (λ xs. c.self.inside.nodes.items ++ xs) c.deref.ensures.value)
+returns-clause-done g c = λ n within many.
+    let rule = g.F.Family.rule in
+    let most = g.F.Family.MAX_LEAVES in
+    let same = g.D.PartialEq.eq in
+    let linked = subst (IsLinked rule most c.batch.inside.leaves) c.batch.view_is c.batch.invariant in
+    let m : matched same c.size.result c.front.result.now c.args.batch.now ≡ Some c.in-Some.first = sym c.find_state.ensures ∙ c.in-Some.is in
+    let own : c.deref-own.result.now ≡ c.args.batch.now.own = c.deref-own.ensures ∙ ap (λ b. b.own) c.batch.view_is in
+    let i = c.self.inside in
+    let sized : c.size.result ≡ i.start + length i.nodes.items = c.size.ensures ∙ sym (ap (λ s. s.size) c.self.view_is) in
+    let reserved : length c.reserve.new.self.items ≡ length i.nodes.items = ap length c.in_ok-reserve.ensures.items in
+    let held : c.front.result.now ≡ held_peaks rule n (contents c.args.self.now) = c.front.ensures ∙ c.write_peaks-count.ensures.held n within many in
+    let at : matched same c.args.self.now.size (held_peaks rule n (contents c.args.self.now)) c.args.batch.now ≡ Some c.in-Some.first = sym (λ j. matched same (c.size.ensures j) (held j) c.args.batch.now) ∙ m in
+    applied_after rule most c.batch.inside.leaves same c.args.batch.now linked (λ r. r.value) c.deref.result.now (ap (map (λ r. r.value)) c.deref.ensures.value ∙ ap (λ b. b.ancestors) c.batch.view_is) c.size.result c.in-Some.first c.front.result.now m
+    i.boundary i.start i.leaves i.pins.items c.lay_all.new.pins.items c.lay.new.pins.items i.nodes.items c.lay_all.new.nodes.items c.lay.new.nodes.items c.self.invariant sized (omega (arith, c.lay_all.ensures.len, reserved)) (omega (arith, c.lay.ensures.len, ap (λ (r : Recorded _). length r.appended) own)) c.lay_all.ensures.pinned c.lay.ensures.pinned
+    (c.lay_all.ensures.laid i.boundary ∙ ap (λ ds. all_laid (map (λ r. r.value) (take (length c.deref.result.now - c.in-Some.first) (drop c.in-Some.first c.deref.result.now))) (held_contents i.boundary i.pins.items i.start ds)) c.in_ok-reserve.ensures.items) (c.lay.ensures.laid i.boundary ∙ ap (λ r. laid r (held_contents i.boundary c.lay_all.new.pins.items i.start c.lay_all.new.nodes.items)) own) n c.args.self.now c.self.view_is at
+
+pub returns-clause-refused : goal.returns-clause-refused
+returns-clause-refused g c = λ n within many none.
+    let rule = g.F.Family.rule in
+    let most = g.F.Family.MAX_LEAVES in
+    let same = g.D.PartialEq.eq in
+    let linked = subst (IsLinked rule most c.batch.inside.leaves) c.batch.view_is c.batch.invariant in
+    let m : matched same c.size.result c.front.result.now c.args.batch.now ≡ Some c.in-Some.first = sym c.find_state.ensures ∙ c.in-Some.is in
+    let held : c.front.result.now ≡ held_peaks rule n (contents c.args.self.now) = c.front.ensures ∙ c.write_peaks-count.ensures.held n within many in
+    let at : matched same c.args.self.now.size (held_peaks rule n (contents c.args.self.now)) c.args.batch.now ≡ Some c.in-Some.first = sym (λ j. matched same (c.size.ensures j) (held j) c.args.batch.now) ∙ m in
+    let both : None ≡ Some c.in-Some.first = sym none ∙ at in
+    absurd (cc)
 
 pub returns-clause-agrees : goal.returns-clause-agrees
 returns-clause-agrees g c = λ h X ls tells same agrees stands.
     let rule = g.F.Family.rule in
-    let leaves : c.self.inside.leaves ≡ length X = size_inj rule c.self.inside.leaves (length X) (c.self.invariant.sized ∙ ap (λ s. s.size) c.self.view_is ∙ agrees.sized) in
-    let done = returns-clause-done g c (length X) (omega (arith, leaves, c.self.invariant.bounded)) (sym agrees.sized) in
+    let leaves : c.self.inside.leaves ≡ length X = size_inj rule c.self.inside.leaves (length X) (c.self.invariant.counted.sized ∙ ap (λ s. s.size) c.self.view_is ∙ agrees.sized) in
+    let done = returns-clause-done g c (length X) (omega (arith, leaves, c.self.invariant.counted.bounded)) (sym agrees.sized) in
     applied_or_collides h rule tells c.args.batch.now ls (contents c.args.self.now) _ X stands agrees
     (ap (λ equal. applied equal rule (length X) c.args.batch.now (contents c.args.self.now)) same ∙ done)
