@@ -1,26 +1,25 @@
 -- Updates of a batch that is not merkleized yet, and why one is refused.
-use Rattle.std.proofs.Common.{◌≡◌, ℕ, zero, suc, ◌+◌, ◌-◌, ◌<◌, ◌≤◌, ◌⊎◌, List, [], ◌∷◌, ◌++◌, length, set, drop, get_or, Option, Some, None, Bool, true, false, cond, slice_get, arith, refl, sym, ap, inl, inr, ◌∙◌, subst, leb, ltb, add-one}
+use Rattle.std.proofs.Common.{◌≡◌, ℕ, suc, ◌+◌, ◌-◌, ◌<◌, ◌≤◌, ◌⊎◌, List, ◌++◌, length, set, drop, get_or, Some, None, true, cond, slice_get, arith, refl, sym, ap, inl, inr, ◌∙◌, ltb, add-one}
 use Rattle.std.proofs.Math.Seq.{drop-cons}
 use Rattle.std.specs.Prelude.{is_some, ◌==◌}
 use Rattle.std.specs.Option.{option_or}
 use Rattle.std.specs.Map.{lookup}
 use Rattle.std.specs.BTreeMap.{is_at}
-use Rattle.std.specs.Ordering.{nat_cmp, is_eq, eq_by_cmp}
+use Rattle.std.specs.Ordering.{nat_cmp, is_eq}
 use Rattle.std.specs.Cmp.{nat_cmp_total}
 use Rattle.std.specs.FinMap.{FinMap, get, insert, from_entries, get-insert, get-from_entries, same_map, nat_cmp-IsAntisymmetric}
-use Rattle.std.proofs.lemmas.Bool.{true≢false, eq-eqb, ne_eqb, eqb-true, le-leb, lt-leb, lt-ltb, le-ltb, leb-false, ltb-true, ltb-false, cases_lt}
+use Rattle.std.proofs.lemmas.Bool.{eq-eqb, ne_eqb, eqb-true, le-leb, lt-leb, lt-ltb, le-ltb, cases_lt}
 use Rattle.std.proofs.lemmas.Bool.Decides.{nat_tests}
 use Rattle.std.proofs.lemmas.List.{length-set, set-append_left, set-append_right}
 use Rattle.merkle_base.specs.Forest.{size}
 use Rattle.merkle_base.proofs.Nodes.{size_inj}
-use Rattle.merkle_core.specs.Pending.{Pending, IsPending, Fault, OutOfBounds, Pruned, leaf_total, with_update, with_updates, update_fault, first_fault, pending_list}
+use Rattle.merkle_core.specs.Pending.{Pending, IsPending, OutOfBounds, Pruned, leaf_total, with_update, with_updates, update_fault, first_fault, pending_list}
 use Rattle.merkle_core.specs.Replay.{over}
 use Rattle.merkle_core.specs.Stands.{replaced}
 use Rattle.merkle_core.proofs.Items.{by_test}
 use Rattle.merkle_core.proofs.Steps.{node_there}
 use Rattle.merkle_core.proofs.Edits.{same_gets, get_set_same, get_set_other, replaced_get, replaced_count}
 use Rattle.merkle_core.proofs.Stored.{find_lookup, lookup_at, is_eq-nat_cmp}
-use Rattle.merkle_core.proofs.Through.{both_none}
 
 turned : (p q : ℕ) → is_eq (nat_cmp p q) ≡ is_eq (nat_cmp q p)
 turned p q = is_eq-nat_cmp p q ∙ same ∙ sym (is_eq-nat_cmp q p)
@@ -106,10 +105,7 @@ module _ {D : Type 0} (rule : List ℕ → List ℕ) where
       ap (λ b. cond b (Some (OutOfBounds k)) (cond (ltb k p.parent.boundary) (Some (Pruned (size rule k))) None)) (lt-leb (leaf_total p) k l)
       ∙ ap (λ b. cond b (Some (Pruned (size rule k))) None) (lt-ltb k p.parent.boundary m)
 
-  pub no_fault : (p : Pending D) (k : ℕ) → update_fault rule p k ≡ None → k < leaf_total p
-  no_fault p k e = elim (cases_lt k (leaf_total p)) [ inl l ↦ l | inr l ↦ absurd (let f = sym e ∙ out_of_bounds p k l in cc) ]
-
-  -- an update keeps the number of leaves and the parent, and so the faults
+  -- an update keeps the number of leaves and the parent
   pub total_kept : (p : Pending D) (k : ℕ) (d : D) → leaf_total (with_update rule p k d) ≡ leaf_total p
   total_kept p k d = by_test (λ b. leaf_total (cond b (over_old p (insert p.overwritten (size rule k) d)) (over_new p (set p.added (k - p.leaves_before) d))) ≡ leaf_total p) (ltb k p.leaves_before)
       (λ _. refl) (λ _. ap (λ (n : ℕ). p.leaves_before + n) (length-set p.added (k - p.leaves_before) d))
@@ -117,9 +113,6 @@ module _ {D : Type 0} (rule : List ℕ → List ℕ) where
   pub parent_kept : (p : Pending D) (k : ℕ) (d : D) → (with_update rule p k d).parent ≡ p.parent
   parent_kept p k d = by_test (λ b. (cond b (over_old p (insert p.overwritten (size rule k) d)) (over_new p (set p.added (k - p.leaves_before) d))).parent ≡ p.parent) (ltb k p.leaves_before)
       (λ _. refl) (λ _. refl)
-
-  pub same_fault : (p q : Pending D) (k : ℕ) → leaf_total q ≡ leaf_total p → q.parent ≡ p.parent → update_fault rule q k ≡ update_fault rule p k
-  same_fault p q k e f = (λ i. cond (leb (e i) k) (Some (OutOfBounds k)) (cond (ltb k (f i).boundary) (Some (Pruned (size rule k))) None))
 
   -- ---- several updates
   pub fault_next : (p : Pending D) (us : List (ℕ × D)) (i : ℕ) (u : ℕ × D) → i < length us → u ≡ get_or us i u → first_fault rule p (drop i us) ≡ option_or (update_fault rule p u.0) (first_fault rule p (drop (i + 1) us))
@@ -131,6 +124,3 @@ module _ {D : Type 0} (rule : List ℕ → List ℕ) where
   updates_next p us i u l e =
       ap (with_updates rule p) (drop-cons us i u l) ∙ ap (λ v. with_updates rule (with_update rule p v.0 v.1) (drop (suc i) us)) (sym e)
       ∙ ap (λ (n : ℕ). with_updates rule (with_update rule p u.0 u.1) (drop n us)) (sym (add-one i))
-
-  pub fault_first : (o : Option Fault) (p : Pending D) (us : List (ℕ × D)) (fault : Fault) → o ≡ Some fault → option_or o (first_fault rule p us) ≡ Some fault
-  fault_first o p us fault e = ap (λ x. option_or x (first_fault rule p us)) e

@@ -12,8 +12,8 @@ invariant_of-result g c = record {
   bounded = omega (arith, c.leaves-leaves_before.ensures.bounded, ap length c.new.ensures.items);
   sized = c.leaves-leaves_before.ensures.sized ∙ ap (λ b. after b.own) c.deref-2.ensures;
   leaves = λ q some.
-  let none : get (from_entries {R = nat_cmp} c.new-2.result.entries) q ≡ None = ap (λ es. get (from_entries {R = nat_cmp} es) q) c.new-2.ensures.empty ∙ get-empty nat_cmp q in
-  absurd (let same = ap is_some none in cc);
+      let none : get (from_entries {R = nat_cmp} c.new-2.result.entries) q ≡ None = ap (λ es. get (from_entries {R = nat_cmp} es) q) c.new-2.ensures.empty ∙ get-empty nat_cmp q in
+      absurd (let same = ap is_some none in cc);
   some = omega arith;
 }
 

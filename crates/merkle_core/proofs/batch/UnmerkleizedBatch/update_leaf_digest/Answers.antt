@@ -1,4 +1,4 @@
-use Rattle.std.proofs.Common.{◌≡◌, ℕ, ◌-◌, ◌<◌, ◌≤◌, set, arith, refl, sym, ap, ◌∙◌}
+use Rattle.std.proofs.Common.{◌≡◌, ℕ, ◌-◌, ◌<◌, ◌≤◌, set, sym, ap, ◌∙◌}
 use Rattle.std.specs.FinMap.{from_entries, insert}
 use Rattle.std.specs.Ordering.{nat_cmp}
 use Rattle.merkle_base.specs.Forest.{size}
