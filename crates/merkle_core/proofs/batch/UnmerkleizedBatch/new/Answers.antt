@@ -1,9 +1,8 @@
-use Rattle.std.proofs.Common.{◌≡◌, ℕ, None, [], length, arith, refl, sym, ap, ◌∙◌}
+use Rattle.std.proofs.Common.{◌≡◌, None, length, arith, sym, ap, ◌∙◌}
 use Rattle.std.specs.Prelude.{is_some}
-use Rattle.std.specs.FinMap.{from_entries, get, empty, get-empty}
+use Rattle.std.specs.FinMap.{from_entries, get, get-empty}
 use Rattle.std.specs.Ordering.{nat_cmp}
 use Rattle.merkle_base.proofs.Nodes.{size_inj}
-use Rattle.merkle_core.specs.Pending.{Pending}
 use Rattle.merkle_core.specs.Recorded.{after}
 use Rattle.merkle_core.proofs.batch.UnmerkleizedBatch.new.Goals as goal
 
