@@ -1,11 +1,11 @@
 -- What the fields of a structure hold after a change.
-use Rattle.std.proofs.Common.{◌≡◌, ℕ, zero, suc, ◌+◌, ◌-◌, ◌<◌, ◌≤◌, List, [], ◌∷◌, ◌++◌, length, Bool, true, false, Option, Some, None, cond, arith, refl, sym, ap, ◌∙◌, inl, inr, reverse, nat_eq, get_or, slice_set}
+use Rattle.std.proofs.Common.{◌≡◌, ℕ, ◌+◌, ◌-◌, ◌<◌, ◌≤◌, List, [], length, true, false, Some, None, cond, arith, refl, sym, ap, ◌∙◌, inl, inr, reverse, nat_eq, slice_set}
 use Rattle.std.specs.Prelude.{◌==◌, slice_get, is_some}
 use Rattle.std.specs.List.{list_any}
 use Rattle.std.specs.FinMap.{get, get-empty}
 use Rattle.std.specs.Ordering.{nat_cmp}
 use Rattle.std.specs.Map.{lookup}
-use Rattle.std.proofs.lemmas.Bool.{cases_lt, lt-ltb, le-ltb, eqb-true, eqb-false, eq-eqb, ne_eqb}
+use Rattle.std.proofs.lemmas.Bool.{cases_lt, lt-ltb, le-ltb, eqb-true, eqb-false, ne_eqb}
 use Rattle.std.proofs.lemmas.Option.{slice_get_past, slice_get-get_or}
 use Rattle.merkle_base.specs.Tree.{position}
 use Rattle.merkle_base.specs.Forest.{forest, size}
@@ -22,7 +22,7 @@ use Rattle.merkle_core.proofs.Chains.{same_contents}
 use Rattle.merkle_core.proofs.Items.{by_test, any_find, get_reversed}
 use Rattle.merkle_core.proofs.Kept.{get_mapped}
 use Rattle.merkle_core.proofs.Stored.{held_before, held_from, no_pin}
-use Rattle.merkle_core.proofs.Edits.{get_left, get_set_same, get_set_other}
+use Rattle.merkle_core.proofs.Edits.{get_set_same, get_set_other}
 
 module _ {D : Type 0} (pins : List (ℕ × D)) (start : ℕ) (nodes : List D) (at : ℕ) (digest : D) where
   -- one of the nodes from the start on takes a digest

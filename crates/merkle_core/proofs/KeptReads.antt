@@ -1,10 +1,10 @@
 -- What the proof of leaves at or after the boundary reads is held.
-use Rattle.std.proofs.Common.{inl, inr, ◌≡◌, ◌≢◌, ◌<◌, ℕ, suc, ◌+◌, ◌≤◌, List, [], ◌∷◌, ◌++◌, length, map, flat_map, reverse, Bool, true, false, cond, Some, None, slice_get, refl, ap, sym, ◌∙◌, subst, arith, leb, ltb}
+use Rattle.std.proofs.Common.{inl, inr, ◌≡◌, ◌≢◌, ◌<◌, ℕ, suc, ◌+◌, ◌≤◌, List, [], ◌∷◌, ◌++◌, length, map, flat_map, Bool, true, false, cond, Some, None, slice_get, refl, ap, sym, ◌∙◌, subst, arith, leb, ltb}
 use Rattle.std.specs.Prelude.{◌||◌, ◌&&◌}
-use Rattle.std.specs.List.{AllByRecursion, filter}
+use Rattle.std.specs.List.{AllByRecursion}
 use Rattle.std.proofs.lemmas.Bool.{leb-true}
 use Rattle.merkle_base.specs.Tree.{Tree, leaf, join, position, IsUnder, IsBuilt}
-use Rattle.merkle_base.specs.Forest.{forest, size}
+use Rattle.merkle_base.specs.Forest.{forest}
 use Rattle.merkle_base.specs.Hashing.{Hashing}
 use Rattle.merkle_base.specs.Digests.{digest_at, node_digests}
 use Rattle.merkle_base.specs.Places.{peaks_of, wholly_before}

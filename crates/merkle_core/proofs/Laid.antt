@@ -1,18 +1,17 @@
 -- Records laid over the nodes that are held.
-use Rattle.std.proofs.Common.{◌≡◌, ℕ, zero, suc, ◌+◌, ◌-◌, ◌<◌, ◌≤◌, List, [], ◌∷◌, ◌++◌, length, map, drop, Option, Some, None, cond, arith, refl, sym, ap, ◌∙◌, inl, inr, slice_get, length-append, get_or, ltb}
+use Rattle.std.proofs.Common.{◌≡◌, ℕ, zero, suc, ◌+◌, ◌-◌, ◌<◌, ◌≤◌, List, [], ◌∷◌, ◌++◌, length, map, drop, cond, arith, refl, sym, ap, ◌∙◌, inl, inr, slice_get, length-append, get_or}
 use Rattle.std.specs.FinMap.{get}
 use Rattle.std.proofs.lemmas.Bool.{cases_lt, lt-ltb, le-ltb}
-use Rattle.std.proofs.lemmas.Option.{slice_get_past}
 use Rattle.merkle_base.proofs.Lookup.{get_append_add}
 use Rattle.merkle_core.specs.Contents.{Contents}
-use Rattle.merkle_core.specs.Held.{stored_at, held_contents, total_appended}
+use Rattle.merkle_core.specs.Held.{stored_at, held_contents}
 use Rattle.merkle_core.specs.Recorded.{Recorded}
 use Rattle.merkle_core.specs.Replay.{over, laid, all_laid}
 use Rattle.merkle_core.proofs.Chains.{same_contents}
 use Rattle.merkle_core.proofs.Edits.{get_left}
 
 module _ {D : Type 0} (b start : ℕ) (pins pins' : List (ℕ × D)) (nodes nodes' appended : List D) (r : Recorded D) (adds : r.appended ≡ appended) (len : length nodes' ≡ length nodes)
-  (held : (p : ℕ) → stored_at pins' start nodes' p ≡ over (get r.overwritten p) (stored_at pins start nodes p)) where
+    (held : (p : ℕ) → stored_at pins' start nodes' p ≡ over (get r.overwritten p) (stored_at pins start nodes p)) where
   within : (p : ℕ) → p < start + length nodes → stored_at pins' start (nodes' ++ appended) p ≡ over (get r.overwritten p) (stored_at pins start nodes p)
   within p l = elim (cases_lt p start) [
     | inl h ↦ rw (lt-ltb p start h) (rw (lt-ltb p start h) at (held p))
@@ -39,12 +38,6 @@ pub drop_here : {A B : Type 0} (v : A → B) (xs : List A) (i : ℕ) (x : A) →
 drop_here v [] i x h e = absurd (omega arith)
 drop_here v (y ∷ ys) zero x h e = ap (λ z. z ∷ map v ys) (ap v (sym e))
 drop_here v (y ∷ ys) (suc i) x h e = drop_here v ys i x (omega arith) e
-
-pub drop_past : {A B : Type 0} (v : A → B) (xs : List A) (i : ℕ) → length xs ≤ i → drop i (map v xs) ≡ []
-drop_past v [] zero h = refl
-drop_past v [] (suc i) h = refl
-drop_past v (y ∷ ys) zero h = absurd (omega arith)
-drop_past v (y ∷ ys) (suc i) h = drop_past v ys i (omega arith)
 
 -- one record laid: the rest then gives what all gave
 pub all_step : {D : Type 0} (rs rest : List (Recorded D)) (r : Recorded D) (c d e : Contents D) → rs ≡ r ∷ rest → d ≡ laid r c → all_laid rs c ≡ e → all_laid rest d ≡ e

@@ -1,5 +1,5 @@
 -- The last record that passes.
-use Rattle.std.proofs.Common.{◌≡◌, ℕ, zero, suc, ◌+◌, ◌<◌, List, [], ◌∷◌, length, map, take, Bool, true, false, Option, Some, None, cond, arith, sym, ap, ◌∙◌, get_or}
+use Rattle.std.proofs.Common.{◌≡◌, ℕ, zero, suc, ◌<◌, List, [], ◌∷◌, length, map, take, Bool, true, false, Some, None, cond, arith, sym, ap, ◌∙◌, get_or}
 use Rattle.merkle_core.specs.Replay.{last_match}
 
 pub last_match_yes : {X : Type 0} (test : X → Bool) (xs : List X) (i : ℕ) (x : X) → i < length xs → x ≡ get_or xs i x → test x ≡ true → last_match test (take (suc i) xs) ≡ Some (suc i)

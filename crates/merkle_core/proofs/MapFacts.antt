@@ -1,9 +1,9 @@
 -- A map of positions as a value.
-use Rattle.std.proofs.Common.{◌≡◌, ℕ, zero, suc, List, [], ◌∷◌, length, Bool, true, false, Option, Some, None, cond, arith, refl, sym, ap, ◌∙◌, nat_eq}
+use Rattle.std.proofs.Common.{◌≡◌, ℕ, zero, suc, List, [], ◌∷◌, length, Bool, true, false, Some, None, cond, arith, refl, sym, ap, ◌∙◌, nat_eq}
 use Rattle.std.specs.Prelude.{◌==◌, ◌↔◌, IsTrue}
 use Rattle.std.specs.Ordering.{nat_cmp, eq_by_cmp}
 use Rattle.std.specs.Cmp.{nat_cmp_total}
-use Rattle.std.specs.FinMap.{FinMap, empty, get, insert, len, from_entries, get-from_entries, get-insert, get-empty, len-empty, empty_of_len, same_map, nat_cmp-IsAntisymmetric}
+use Rattle.std.specs.FinMap.{get, insert, len, from_entries, get-from_entries, get-insert, get-empty, len-empty, empty_of_len, same_map, nat_cmp-IsAntisymmetric}
 use Rattle.std.specs.Map.{lookup}
 use Rattle.std.proofs.lemmas.Bool.{ne_eqb}
 use Rattle.std.proofs.lemmas.Bool.Decides.{nat_tests}
@@ -46,7 +46,3 @@ module _ {D : Type 0} where
   pub put_entry : (m n : List (ℕ × D)) (k : ℕ) (v : D) → ((q : ℕ) → lookup (nat_eq q) n ≡ cond (nat_eq k q) (Some v) (lookup (nat_eq q) m)) → from_entries {R = nat_cmp} n ≡ insert (from_entries m) k v
   put_entry m n k v h =
       same_map nat_cmp_total nat_cmp-IsAntisymmetric _ _ (λ q. get_entries n q ∙ h q ∙ ap (λ b. cond b (Some v) (lookup (nat_eq q) m)) (eqb_comm k q ∙ sym (is_eq-nat_cmp q k)) ∙ ap (cond (eq_by_cmp nat_cmp q k) (Some v)) (sym (get_entries m q)) ∙ sym (get-insert nat_cmp_total (from_entries m) k v q))
-
-  -- the same entries
-  pub same_entries : (m n : List (ℕ × D)) → m ≡ n → from_entries {R = nat_cmp} m ≡ from_entries n
-  same_entries m n e = ap (λ es. from_entries {R = nat_cmp} es) e

@@ -1,5 +1,5 @@
 -- Records that follow one another, and a structure that they are laid over.
-use Rattle.std.proofs.Common.{◌≡◌, ℕ, zero, suc, ◌+◌, ◌-◌, ◌<◌, ◌≤◌, List, [], ◌∷◌, ◌++◌, length, map, take, drop, Bool, true, false, Option, Some, None, Ok, cond, arith, refl, sym, ap, ◌∙◌, subst, inl, inr, nat_eq, length-drop}
+use Rattle.std.proofs.Common.{◌≡◌, ℕ, zero, suc, ◌+◌, ◌-◌, ◌≤◌, List, [], ◌∷◌, ◌++◌, length, map, take, drop, Bool, true, false, Some, None, Ok, cond, arith, refl, sym, ap, ◌∙◌, subst, inl, inr, nat_eq, length-drop}
 use Rattle.std.specs.Prelude.{◌&&◌, ◌==◌, is_some}
 use Rattle.std.specs.Cmp.Lexicographic.{pointwise}
 use Rattle.std.specs.Map.{lookup}
@@ -72,8 +72,7 @@ module _ {D : Type 0} where
 
 -- the kept records, as they lie in a vector
 module _ {D X : Type 0} (rule : List ℕ → List ℕ) (max_leaves leaves : ℕ) (same : D → D → Bool) (c : Chain D) (linked : IsLinked rule max_leaves leaves c) (value : X → Recorded D) (xs : List X) (are : map value xs ≡ c.ancestors)
-  (n first : ℕ) (peaks : List D) (m : matched same n peaks c ≡ Some first) where
-
+    (n first : ℕ) (peaks : List D) (m : matched same n peaks c ≡ Some first) where
   abbrev kept_part : List (Recorded D)
   kept_part = map value (take (length xs - first) (drop first xs))
 
@@ -91,9 +90,8 @@ module _ {D X : Type 0} (rule : List ℕ → List ℕ) (max_leaves leaves : ℕ)
   total_laid = omega (arith, (found same n peaks c first linked.runs m).1, ap total_appended laid_records, total_last kept_part c.own)
 
   module _ (boundary start held : ℕ) (pins pins1 pins2 : List (ℕ × D)) (nodes nodes1 nodes2 : List D) (before : IsKept rule max_leaves boundary start held pins nodes) (sized : n ≡ start + length nodes)
-    (len1 : length nodes1 ≡ length nodes + total_appended kept_part) (len2 : length nodes2 ≡ length nodes1 + length c.own.appended)
-    (pinned1 : (p : ℕ) → is_some (lookup (nat_eq p) pins1) ≡ is_some (lookup (nat_eq p) pins)) (pinned2 : (p : ℕ) → is_some (lookup (nat_eq p) pins2) ≡ is_some (lookup (nat_eq p) pins1)) where
-
+      (len1 : length nodes1 ≡ length nodes + total_appended kept_part) (len2 : length nodes2 ≡ length nodes1 + length c.own.appended)
+      (pinned1 : (p : ℕ) → is_some (lookup (nat_eq p) pins1) ≡ is_some (lookup (nat_eq p) pins)) (pinned2 : (p : ℕ) → is_some (lookup (nat_eq p) pins2) ≡ is_some (lookup (nat_eq p) pins1)) where
     nodes_after : start + length nodes2 ≡ after c.own
     nodes_after = omega (arith, total_laid, sized, len1, len2)
 

@@ -1,5 +1,5 @@
-use Rattle.std.specs.Prelude.{Some, true, false, ◌&&◌, ◌==◌}
-use Rattle.std.proofs.Common.{◌≡◌, suc, ◌+◌, ◌-◌, ◌<◌, ◌≤◌, length, sym, ◌∙◌, ap, arith, take, map, add-one}
+use Rattle.std.specs.Prelude.{Some, ◌&&◌, ◌==◌}
+use Rattle.std.proofs.Common.{◌≡◌, suc, ◌-◌, ◌<◌, length, sym, ◌∙◌, ap, arith, take, map, add-one}
 use Rattle.std.proofs.lemmas.List.{length-map, take_all}
 use Rattle.std.specs.Cmp.Lexicographic.{pointwise}
 use Rattle.merkle_core.specs.Replay.{last_match, ends_at}

@@ -1,4 +1,4 @@
-use Rattle.std.proofs.Common.{◌≡◌, ◌≤◌, length, ◌∙◌, ap, sym, arith, rules, add-one, drop, nat_eq, drop_of_length-le}
+use Rattle.std.proofs.Common.{◌≤◌, length, ◌∙◌, ap, sym, rules, add-one, nat_eq, drop_of_length-le}
 use Rattle.std.specs.Map.{lookup}
 use Rattle.merkle_core.proofs.MapFacts.{eqb_comm}
 use Rattle.merkle_core.proofs.Pins.{lookup_here, lookup_later}

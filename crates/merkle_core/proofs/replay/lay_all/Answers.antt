@@ -1,7 +1,7 @@
-use Rattle.std.proofs.Common.{rules, ◌≡◌, ◌+◌, ◌≤◌, ◌∷◌, length, ◌∙◌, ap, arith, map, drop, add-one}
-use Rattle.std.specs.Vec.{vec_len, vec_capacity}
+use Rattle.std.proofs.Common.{rules, ◌≡◌, ◌+◌, ◌∷◌, length, ◌∙◌, ap, arith, map, drop, add-one}
+use Rattle.std.specs.Vec.{vec_len}
 use Rattle.merkle_core.specs.Held.{held_contents, total_appended}
-use Rattle.merkle_core.specs.Replay.{laid, all_laid}
+use Rattle.merkle_core.specs.Replay.{laid}
 use Rattle.merkle_core.proofs.Laid.{all_step, drop_here}
 use Rattle.merkle_core.proofs.replay.lay_all.Goals as goal
 

@@ -1,4 +1,4 @@
-use Rattle.std.proofs.Common.{◌≡◌, ◌≤◌, ◌<◌, ◌-◌, length, arith, rules}
+use Rattle.std.proofs.Common.{◌≡◌, ◌≤◌, ◌<◌, ◌-◌, length, rules}
 use Rattle.merkle_core.proofs.HeldNodes.{stored_set, stored_unset}
 use Rattle.merkle_core.proofs.replay.replace.Goals as goal
 

@@ -1,4 +1,4 @@
-use Rattle.std.proofs.Common.{◌≡◌, ◌<◌, ◌≤◌, ◌+◌, suc, length, ◌∙◌, ap, sym, arith, rules, true, false, nat_eq, slice_set, get_or, add-one, subst}
+use Rattle.std.proofs.Common.{◌≡◌, ◌<◌, ◌≤◌, length, ◌∙◌, ap, sym, arith, rules, nat_eq, slice_set, get_or, add-one}
 use Rattle.std.specs.Map.{lookup}
 use Rattle.merkle_core.proofs.Pins.{put_first, put_here, put_not_here, lookup_put}
 use Rattle.merkle_core.proofs.replay.replace_pin.Goals as goal

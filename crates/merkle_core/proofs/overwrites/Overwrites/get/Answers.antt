@@ -1,4 +1,4 @@
-use Rattle.std.proofs.Common.{◌≡◌, sym, ◌∙◌, ap}
+use Rattle.std.proofs.Common.{sym, ◌∙◌, ap}
 use Rattle.std.specs.FinMap.{get}
 use Rattle.merkle_core.proofs.MapFacts.{get_entries}
 use Rattle.merkle_core.proofs.overwrites.Overwrites.get.Goals as goal
