@@ -37,6 +37,8 @@ pub mod KeptReads
 pub mod Touched
 pub mod Refreshing
 pub mod RefreshedPeaks
+pub mod ChangedLeaves
+pub mod RefreshedLeaves
 pub mod GapFacts
 pub mod Runs
 pub mod LastMatch

@@ -56,23 +56,23 @@ or_first : {D : Type 0} (a b : Option D) (d : D) → a ≡ Some d → option_or 
 or_first None b d e = absurd (cc)
 or_first (Some x) b d e = e
 
-or_which : {D : Type 0} (a b : Option D) (d : D) → option_or a b ≡ Some d → (a ≡ Some d) ⊎ (b ≡ Some d)
+pub or_which : {D : Type 0} (a b : Option D) (d : D) → option_or a b ≡ Some d → (a ≡ Some d) ⊎ (b ≡ Some d)
 or_which None b d e = inr e
 or_which (Some x) b d e = inl e
 
-or_left_some : {D : Type 0} (a b : Option D) → is_some a ≡ true → is_some (option_or a b) ≡ true
+pub or_left_some : {D : Type 0} (a b : Option D) → is_some a ≡ true → is_some (option_or a b) ≡ true
 or_left_some None b e = absurd (false≢true e)
 or_left_some (Some x) b e = refl
 
-or_right_some : {D : Type 0} (a b : Option D) → is_some b ≡ true → is_some (option_or a b) ≡ true
+pub or_right_some : {D : Type 0} (a b : Option D) → is_some b ≡ true → is_some (option_or a b) ≡ true
 or_right_some None b e = e
 or_right_some (Some x) b e = refl
 
 -- ---- tests
-cond_yes : {A : Type 0} (b : Bool) (x y : A) → b ≡ true → cond b x y ≡ x
+pub cond_yes : {A : Type 0} (b : Bool) (x y : A) → b ≡ true → cond b x y ≡ x
 cond_yes b x y e = ap (λ z. cond z x y) e
 
-cond_no : {A : Type 0} (b : Bool) (x y : A) → b ≡ false → cond b x y ≡ y
+pub cond_no : {A : Type 0} (b : Bool) (x y : A) → b ≡ false → cond b x y ≡ y
 cond_no b x y e = ap (λ z. cond z x y) e
 
 eqb_yes : (a b : ℕ) → a ≡ b → (a == b) ≡ true

@@ -44,7 +44,7 @@ pub zero_no : (n : ℕ) (b : Bool) → b ≡ (n == 0) → b ≡ false → n ≢ 
 zero_no n b e f = elim (eqb_tells n 0) [ inl s ↦ absurd (true≢false (sym s.0 ∙ sym e ∙ f)) | inr s ↦ s.1 ]
 
 -- the changed leaves of trees that span from a location on stand from there on
-after_start : {D : Type 0} (rule : List ℕ → List ℕ) (n : ℕ) (m : ℕ → Option D) (o e : ℕ) (ts : List Tree) → Spans o e ts → AllByRecursion (IsBuilt (forest rule n).nodes) ts → AllByRecursion (λ u. size rule o ≤ u.0) (flat_map (touched_leaves m) ts)
+pub after_start : {D : Type 0} (rule : List ℕ → List ℕ) (n : ℕ) (m : ℕ → Option D) (o e : ℕ) (ts : List Tree) → Spans o e ts → AllByRecursion (IsBuilt (forest rule n).nodes) ts → AllByRecursion (λ u. size rule o ≤ u.0) (flat_map (touched_leaves m) ts)
 after_start rule n m o e [] c b = tt
 after_start rule n m o e (t ∷ ts) c b =
     all_joined (λ u. size rule o ≤ u.0) (touched_leaves m t) (flat_map (touched_leaves m) ts)
@@ -209,8 +209,8 @@ module _ {D : Type 0} (h : Hashing D) (rule : List ℕ → List ℕ) (max n : �
         empty [] e = refl
         empty (t ∷ ts) e = absurd (cc)
 
-    pub peaks_computed : (m : ℕ → Option D) → all ≡ flat_map (touched_leaves m) (peaks_of rule n) → (q : ℕ) → get new q ≡ option_or (all_computed_at h m below (peaks_of rule n) q) (get old q)
-    peaks_computed m u q = w.computed m u q ∙ ap (λ ts. option_or (all_computed_at h m below ts q) (get old q)) all_done
+    pub walk_computed : (m : ℕ → Option D) → all ≡ flat_map (touched_leaves m) (peaks_of rule n) → (q : ℕ) → get new q ≡ option_or (all_computed_at h m below (peaks_of rule n) q) (get old q)
+    walk_computed m u q = w.computed m u q ∙ ap (λ ts. option_or (all_computed_at h m below ts q) (get old q)) all_done
 
-    pub peaks_refreshed : (m : ℕ → Option D) → all ≡ flat_map (touched_leaves m) (peaks_of rule n) → AreRefreshed h m below (peaks_of rule n)
-    peaks_refreshed m u = subst (AreRefreshed h m below) all_done (w.fresh m u)
+    pub walk_refreshed : (m : ℕ → Option D) → all ≡ flat_map (touched_leaves m) (peaks_of rule n) → AreRefreshed h m below (peaks_of rule n)
+    walk_refreshed m u = subst (AreRefreshed h m below) all_done (w.fresh m u)

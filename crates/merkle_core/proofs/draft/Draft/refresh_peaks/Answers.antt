@@ -4,7 +4,7 @@ use Rattle.merkle_core.specs.DraftReads.{below}
 use Rattle.merkle_core.specs.Store.{contents}
 use Rattle.merkle_core.proofs.Befores.{before_within}
 use Rattle.merkle_core.proofs.Refreshing.{same_below}
-use Rattle.merkle_core.proofs.RefreshedPeaks.{Refreshing, zero_yes, zero_no, peaks_begin, peaks_next, end_within, peak_skipped, peak_refreshed, peak_lacks, peaks_computed, peaks_refreshed}
+use Rattle.merkle_core.proofs.RefreshedPeaks.{Refreshing, zero_yes, zero_no, peaks_begin, peaks_next, end_within, peak_skipped, peak_refreshed, peak_lacks, walk_computed, walk_refreshed}
 use Rattle.merkle_core.proofs.draft.Draft.refresh_peaks.Goals as goal
 
 pub loop-position-init : goal.loop-position-init
@@ -82,11 +82,11 @@ loop-position-preserved g c =
 pub returns-clause-computed : goal.returns-clause-computed
 returns-clause-computed g c =
     let y = g.met.F.Peaks.Listed.gives_first _ _ _ c.in-None.ensures.steps in
-    peaks_computed (g.H.Hasher.hashing c.args.hasher.now) g.F.Family.rule g.F.Family.MAX_LEAVES c.args.leaves (below c.args.self.now (contents c.args.base.now)) c.args.updates.now c.args.self.now.overwritten
+    walk_computed (g.H.Hasher.hashing c.args.hasher.now) g.F.Family.rule g.F.Family.MAX_LEAVES c.args.leaves (below c.args.self.now (contents c.args.base.now)) c.args.updates.now c.args.self.now.overwritten
     _ _ _ _ c.loop-position.invariant.3 y.0
 
 pub returns-clause-refreshed : goal.returns-clause-refreshed
 returns-clause-refreshed g c =
     let y = g.met.F.Peaks.Listed.gives_first _ _ _ c.in-None.ensures.steps in
-    peaks_refreshed (g.H.Hasher.hashing c.args.hasher.now) g.F.Family.rule g.F.Family.MAX_LEAVES c.args.leaves (below c.args.self.now (contents c.args.base.now)) c.args.updates.now c.args.self.now.overwritten
+    walk_refreshed (g.H.Hasher.hashing c.args.hasher.now) g.F.Family.rule g.F.Family.MAX_LEAVES c.args.leaves (below c.args.self.now (contents c.args.base.now)) c.args.updates.now c.args.self.now.overwritten
     _ _ _ _ c.loop-position.invariant.3 y.0
