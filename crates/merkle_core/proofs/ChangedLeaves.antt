@@ -1,5 +1,5 @@
 -- Changed leaves by position: the entries of a map are those of the peaks, left to right.
-use Rattle.std.proofs.Common.{◌≡◌, ◌≢◌, ℕ, zero, suc, ◌+◌, ◌<◌, ◌≤◌, ◌⊎◌, List, [], ◌∷◌, ◌++◌, length, map, reverse, Option, Some, None, Bool, true, false, cond, slice_get, arith, refl, sym, ap, inl, inr, ◌∙◌, subst, append-nil, append_assoc}
+use Rattle.std.proofs.Common.{◌≡◌, ◌≢◌, ℕ, zero, suc, ◌+◌, ◌<◌, ◌≤◌, ◌⊎◌, List, [], ◌∷◌, ◌++◌, map, Option, Some, None, Bool, true, false, cond, slice_get, arith, refl, sym, ap, inl, inr, ◌∙◌, subst, append-nil, append_assoc}
 use Rattle.std.specs.Prelude.{is_some, ◌==◌}
 use Rattle.std.specs.List.{AllByRecursion, flat_map}
 use Rattle.std.specs.List.Sorted.{IsStrictlySortedBy}
@@ -8,7 +8,7 @@ use Rattle.std.specs.FinMap.{FinMap, get, insert, from_entries, find, get-from_e
 use Rattle.std.specs.Cmp.{nat_cmp_total}
 use Rattle.std.specs.Ordering.{nat_cmp, eq_by_cmp}
 use Rattle.std.specs.declared.cmp.Ordering.TheVariants.{Less}
-use Rattle.std.proofs.lemmas.Bool.{true≢false, false≢true}
+use Rattle.std.proofs.lemmas.Bool.{false≢true}
 use Rattle.std.proofs.lemmas.Bool.Decides.{eqb_tells, nat_tests}
 use Rattle.merkle_base.specs.Tree.{Tree, leaf, join, position, first_leaf, width, IsUnder, IsBuilt}
 use Rattle.merkle_base.specs.Forest.{forest, size}
@@ -19,7 +19,7 @@ use Rattle.merkle_base.proofs.Paths.{leaf_under, peak_holding}
 use Rattle.merkle_base.proofs.PeakLists.{Spans, covers_spans, all_reverse}
 use Rattle.merkle_core.specs.Refreshed.{touched_leaves, HasLeavesOf}
 use Rattle.merkle_core.proofs.Items.{get_reverse}
-use Rattle.merkle_core.proofs.RefreshedDigests.{none_or_some, some_of, or_which, or_left_some, or_right_some, cond_yes, cond_no}
+use Rattle.merkle_core.proofs.RefreshedDigests.{none_or_some, or_left_some, or_right_some, cond_yes, cond_no}
 use Rattle.merkle_core.proofs.RefreshedPeaks.{after_start}
 use Rattle.merkle_core.proofs.Touched.{leaf_touched, leaf_untouched, Between, touched_between, all_imply, all_joined}
 

@@ -1,6 +1,6 @@
 -- The new digests of nodes above changed leaves: that they are right, where they are computed, and what is read for them.
-use Rattle.std.proofs.Common.{◌≡◌, ℕ, zero, suc, ◌<◌, ◌≤◌, ◌⊎◌, List, [], ◌∷◌, length, Option, Some, None, Bool, true, false, cond, slice_get, arith, refl, sym, ap, inl, inr, ◌∙◌, subst}
-use Rattle.std.specs.Prelude.{is_some, ◌||◌, ◌==◌}
+use Rattle.std.proofs.Common.{◌≡◌, ℕ, zero, suc, ◌<◌, ◌≤◌, ◌⊎◌, List, [], ◌∷◌, Option, Some, None, Bool, true, false, cond, slice_get, arith, refl, sym, ap, inl, inr, ◌∙◌, subst}
+use Rattle.std.specs.Prelude.{is_some, ◌==◌}
 use Rattle.std.specs.List.{AllByRecursion}
 use Rattle.std.specs.Option.{option_or}
 use Rattle.std.proofs.lemmas.Bool.{true≢false, false≢true}
@@ -10,7 +10,7 @@ use Rattle.merkle_base.specs.Forest.{forest, size}
 use Rattle.merkle_base.specs.Places.{peaks_of}
 use Rattle.merkle_base.specs.Hashing.{Hashing}
 use Rattle.merkle_base.specs.Digests.{digest_at}
-use Rattle.merkle_base.proofs.Growth.{forest_grown, built_at, under_itself}
+use Rattle.merkle_base.proofs.Growth.{forest_grown}
 use Rattle.merkle_base.proofs.Lists.{get_below}
 use Rattle.merkle_base.proofs.Births.{all_get}
 use Rattle.merkle_base.proofs.Nodes.{built_under, peak_of}
@@ -19,7 +19,7 @@ use Rattle.merkle_base.proofs.PeakLists.{all_reverse}
 use Rattle.merkle_core.specs.Stands.{is_touched}
 use Rattle.merkle_core.specs.Drafts.{IsReadFor}
 use Rattle.merkle_core.specs.Refreshed.{of_both, refreshed, computed_at, all_computed_at, AreRefreshed}
-use Rattle.merkle_core.proofs.Items.{by_test, or_left, or_right, or_none, get_reverse}
+use Rattle.merkle_core.proofs.Items.{or_left, or_right, get_reverse}
 
 -- ---- options
 pub is_or_not : (b : Bool) → (b ≡ true) ⊎ (b ≡ false)
@@ -80,6 +80,9 @@ eqb_yes a b e = elim (eqb_tells a b) [ inl s ↦ s.0 | inr s ↦ absurd (s.1 e) 
 
 eqb_no : (a b : ℕ) → a < b → (a == b) ≡ false
 eqb_no a b l = elim (eqb_tells a b) [ inl s ↦ absurd (omega (arith, l, s.1)) | inr s ↦ s.0 ]
+
+one_there : {A : Type 0} (xs : List A) (i : ℕ) (x y : A) → slice_get xs i ≡ Some x → slice_get xs i ≡ Some y → x ≡ y
+one_there xs i x y e f = cc
 
 -- ---- a merged node, and what lies below it
 pub touched_above : {D : Type 0} (m : ℕ → Option D) (a t : Tree) → IsUnder a t → is_touched m a ≡ true → is_touched m t ≡ true
@@ -212,21 +215,21 @@ module _ {D : Type 0} (h : Hashing D) (m below : ℕ → Option D) where
         let b : IsBuilt (forest rule n).nodes w.1 = all_get (IsBuilt (forest rule n).nodes) (peaks_of rule n) w.0 w.1 peaks_built w.4 in
         (w.2, w.3, (built_under (forest rule n).nodes (join q w.2 w.3) w.1 w.5 b).0, w.6, w.7))
 
+    peaks_computed_some : (q : ℕ) (l r : Tree) → AreRefreshed h m below (peaks_of rule n) → slice_get (forest rule n).nodes q ≡ Some (join q l r) → is_touched m (join q l r) ≡ true → is_some (all_computed_at h m below (peaks_of rule n) q) ≡ true
+    peaks_computed_some q l r all e t =
+        (let w = peak_of (join q l r) (forest rule n).peaks ((forest_grown rule n).under q (join q l r) e) in
+        let j = get_reverse (forest rule n).peaks w.0 w.1 w.2 in
+        let b : IsBuilt (forest rule n).nodes w.1 = all_get (IsBuilt (forest rule n).nodes) (forest rule n).peaks w.0 w.1 (forest_grown rule n).built w.2 in
+        all_computed_some (peaks_of rule n) q j.0 w.1 j.1 (computed_some (forest rule n).nodes w.1 q l r b w.3 t (all j.0 w.1 j.1 (touched_above m (join q l r) w.1 w.3 t))))
+
     -- a merged node over a changed leaf has its new digest
     pub peaks_computed : (q p : ℕ) (l r : Tree) → AreRefreshed h m below (peaks_of rule n) → slice_get (forest rule n).nodes q ≡ Some (join p l r) → is_touched m (join p l r) ≡ true
         → (all_computed_at h m below (peaks_of rule n) q ≡ refreshed h m below (join p l r)) × (is_some (refreshed h m below (join p l r)) ≡ true)
     peaks_computed q p l r all e t =
-        (let c : p ≡ q = (forest_grown rule n).placed q (join p l r) e in
-        let there : slice_get (forest rule n).nodes q ≡ Some (join q l r) = subst (λ k. slice_get (forest rule n).nodes q ≡ Some (join k l r)) c e in
-        let touched : is_touched m (join q l r) ≡ true = t in
-        let w = peak_of (join q l r) (forest rule n).peaks ((forest_grown rule n).under q (join q l r) there) in
-        let j = get_reverse (forest rule n).peaks w.0 w.1 w.2 in
-        let b : IsBuilt (forest rule n).nodes w.1 = all_get (IsBuilt (forest rule n).nodes) (forest rule n).peaks w.0 w.1 (forest_grown rule n).built w.2 in
-        let s : is_some (refreshed h m below w.1) ≡ true = all j.0 w.1 j.1 (touched_above m (join q l r) w.1 w.3 touched) in
-        let x = some_of (all_computed_at h m below (peaks_of rule n) q) (all_computed_some (peaks_of rule n) q j.0 w.1 j.1 (computed_some (forest rule n).nodes w.1 q l r b w.3 touched s)) in
+        (let place : join p l r ≡ join q l r = ap (λ k. join k l r) ((forest_grown rule n).placed q (join p l r) e) in
+        let x = some_of (all_computed_at h m below (peaks_of rule n) q) (peaks_computed_some q l r all (subst (λ a. slice_get (forest rule n).nodes q ≡ Some a) place e) (subst (λ a. is_touched m a ≡ true) place t)) in
         let y = peaks_computed_of q x.0 x.1 in
-        let same : join q y.0 y.1 ≡ join p l r = (let f : Some (join q y.0 y.1) ≡ Some (join p l r) = sym y.2 ∙ e in cc) in
-        let f : refreshed h m below (join p l r) ≡ Some x.0 = subst (λ a. refreshed h m below a ≡ Some x.0) same y.4 in
+        let f : refreshed h m below (join p l r) ≡ Some x.0 = subst (λ a. refreshed h m below a ≡ Some x.0) (one_there (forest rule n).nodes q (join q y.0 y.1) (join p l r) y.2 e) y.4 in
         (x.1 ∙ sym f, ap is_some f))
 
     not_computed : (q : ℕ) → ((l r : Tree) → slice_get (forest rule n).nodes q ≡ Some (join q l r) → is_touched m (join q l r) ≡ true → ⊥) → all_computed_at h m below (peaks_of rule n) q ≡ None

@@ -1,15 +1,14 @@
 -- A node's new digest, from its children's.
-use Rattle.std.proofs.Common.{◌≡◌, ◌≢◌, ℕ, zero, suc, ◌+◌, ◌-◌, ◌<◌, ◌≤◌, ◌⊎◌, List, [], ◌∷◌, ◌++◌, length, take, drop, Option, Some, None, Bool, true, false, cond, slice_get, arith, refl, sym, ap, inl, inr, ◌∙◌, subst, Result, Ok, Err, IfOk}
-use Rattle.std.specs.Prelude.{is_some, ◌||◌, ◌==◌, IfErr, OnOk}
+use Rattle.std.proofs.Common.{◌≡◌, ◌≢◌, ℕ, ◌-◌, ◌≤◌, List, [], ◌∷◌, length, take, drop, Option, Some, None, Bool, true, false, cond, slice_get, arith, refl, sym, ap, inl, inr, ◌∙◌, subst, Result, Ok, Err, IfOk}
+use Rattle.std.specs.Prelude.{◌==◌, IfErr, OnOk}
 use Rattle.std.specs.Option.{option_or, ok_or}
 use Rattle.std.specs.FinMap.{FinMap, get, insert, get-insert}
 use Rattle.std.specs.Cmp.{nat_cmp_total}
 use Rattle.std.specs.Ordering.{nat_cmp, eq_by_cmp}
 use Rattle.std.proofs.lemmas.List.{nil_from_length}
-use Rattle.std.proofs.lemmas.Bool.{true≢false, false≢true}
 use Rattle.std.proofs.lemmas.Bool.Decides.{nat_tests}
-use Rattle.merkle_base.specs.Tree.{Tree, leaf, join, position, height, first_leaf, width, IsBuilt}
-use Rattle.merkle_base.specs.Forest.{forest, size}
+use Rattle.merkle_base.specs.Tree.{Tree, leaf, join, first_leaf}
+use Rattle.merkle_base.specs.Forest.{size}
 use Rattle.merkle_base.specs.Hashing.{Hashing}
 use Rattle.merkle_base.proofs.Growth.{forest_grown}
 use Rattle.merkle_base.proofs.Nodes.{node_built}
@@ -20,11 +19,11 @@ use Rattle.merkle_core.specs.declared.gap.Gap.TheVariants.{Missing, OutOfMemory}
 use Rattle.merkle_core.specs.Contents.{Contents}
 use Rattle.merkle_core.specs.Read.{read_over}
 use Rattle.merkle_core.specs.Stands.{is_touched}
-use Rattle.merkle_core.specs.Drafts.{IsReadFor, LacksFor}
+use Rattle.merkle_core.specs.Drafts.{LacksFor}
 use Rattle.merkle_core.specs.DraftReads.{Drafted, below, OnlyOverwrites}
 use Rattle.merkle_core.specs.Refreshed.{of_both, refreshed, computed_at, touched_leaves, are_before}
-use Rattle.merkle_core.proofs.RefreshedDigests.{is_or_not, none_or_some, refreshed_touched, refreshed_untouched, computed_touched, computed_untouched, read_itself}
-use Rattle.merkle_core.proofs.Touched.{leaf_touched, leaf_untouched, none_touched, not_touched, some_touched, before_right, split_parts}
+use Rattle.merkle_core.proofs.RefreshedDigests.{is_or_not, refreshed_touched, refreshed_untouched, computed_touched, computed_untouched, read_itself}
+use Rattle.merkle_core.proofs.Touched.{none_touched, not_touched, before_right, split_parts}
 
 pub on_ok_always : {T E : Type 0} {P : Type 0} (r : Result T E) → P → OnOk r P
 on_ok_always (Ok x) p = p

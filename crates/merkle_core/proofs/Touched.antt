@@ -1,13 +1,12 @@
 -- The changed leaves of a tree, in the order of their positions.
-use Rattle.std.proofs.Common.{◌≡◌, ◌≢◌, ℕ, zero, suc, ◌+◌, ◌-◌, ◌<◌, ◌≤◌, ◌⊎◌, List, [], ◌∷◌, ◌++◌, length, take, drop, Option, Some, None, Bool, true, false, cond, slice_get, arith, refl, sym, ap, inl, inr, ◌∙◌, subst, append-nil, append_assoc}
+use Rattle.std.proofs.Common.{◌≡◌, ℕ, suc, ◌+◌, ◌<◌, ◌≤◌, List, [], ◌∷◌, ◌++◌, length, take, drop, Option, Some, None, true, false, arith, refl, sym, ap, inl, inr, ◌∙◌, subst}
 use Rattle.std.specs.Prelude.{is_some, ◌||◌}
 use Rattle.std.specs.List.{AllByRecursion}
 use Rattle.std.proofs.Math.Seq.{take-append_seam, drop-append_seam}
-use Rattle.std.proofs.lemmas.Bool.{true≢false, false≢true}
-use Rattle.merkle_base.specs.Tree.{Tree, leaf, join, position, first_leaf, width, IsBuilt}
+use Rattle.merkle_base.specs.Tree.{Tree, leaf, join, first_leaf, width, IsBuilt}
 use Rattle.merkle_base.specs.Forest.{forest, size}
 use Rattle.merkle_base.proofs.Births.{leaf_at}
-use Rattle.merkle_base.proofs.Nodes.{all_append, size_le, size_step, width_pos}
+use Rattle.merkle_base.proofs.Nodes.{size_le, size_step}
 use Rattle.merkle_core.specs.Stands.{is_touched}
 use Rattle.merkle_core.specs.Refreshed.{touched_leaves, are_before}
 use Rattle.merkle_core.proofs.Items.{or_none}

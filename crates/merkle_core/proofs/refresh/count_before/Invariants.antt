@@ -1,7 +1,5 @@
 use Rattle.std.specs.Prelude.{◌≡◌, ◌+◌, ◌≤◌, length, drop}
 use Rattle.merkle_core.specs.Refreshed.{are_before}
-use Rattle.merkle_core.proofs.ChangedLeaves.{entries_are}
-use Rattle.merkle_core.proofs.Befores.{before_more}
 use Rattle.merkle_core.proofs.refresh.count_before.Given as goal
 
 abbrev pub invariant-loop-i : goal.invariant-loop-i

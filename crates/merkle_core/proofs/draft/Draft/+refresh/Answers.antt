@@ -1,4 +1,4 @@
-use Rattle.std.proofs.Common.{arith, sym, ap, ◌∙◌, ◌<◌, refl, inl, inr}
+use Rattle.std.proofs.Common.{arith, ap, ◌∙◌, ◌<◌, refl, inl, inr}
 use Rattle.std.specs.FinMap.{get}
 use Rattle.std.proofs.lemmas.Result.{err_from_is_err_and}
 use Rattle.merkle_core.specs.DraftReads.{below}
