@@ -1,8 +1,12 @@
 -- What merkleizing a batch makes, from what its steps promise.
-use Rattle.std.proofs.Common.{◌≡◌, ℕ, ◌+◌, ◌<◌, ◌≤◌, ◌⊎◌, List, [], ◌∷◌, ◌++◌, length, drop, map, Option, Some, None, true, slice_get, arith, refl, sym, ap, inl, inr, ◌∙◌, subst, append-nil}
+use Rattle.std.proofs.Common.{◌≡◌, ◌≢◌, ℕ, cond, nat_eq, ◌+◌, ◌<◌, ◌≤◌, ◌⊎◌, List, [], ◌∷◌, ◌++◌, length, drop, map, Option, Some, None, true, slice_get, arith, refl, sym, ap, inl, inr, ◌∙◌, subst, append-nil}
 use Rattle.std.specs.Prelude.{is_some}
 use Rattle.std.specs.Option.{option_or}
-use Rattle.std.specs.FinMap.{get}
+use Rattle.std.specs.FinMap.{from_entries, get, get-from_entries}
+use Rattle.std.specs.Cmp.{nat_cmp_total}
+use Rattle.std.specs.Map.{lookup}
+use Rattle.std.specs.Ordering.{nat_cmp}
+use Rattle.std.proofs.lemmas.Bool.{eq-eqb}
 use Rattle.merkle_base.specs.Tree.{Tree, position}
 use Rattle.merkle_base.specs.Forest.{forest, size}
 use Rattle.merkle_base.specs.Hashing.{Hashing}
@@ -15,15 +19,19 @@ use Rattle.merkle_core.specs.Missing.{IsMissing}
 use Rattle.merkle_core.specs.Needed.{IsChanged}
 use Rattle.merkle_core.specs.Pending.{IsPending, Pending, kept, kept_lists, leaf_total, pending_list}
 use Rattle.merkle_core.specs.Read.{read_over}
-use Rattle.merkle_core.specs.Recorded.{Recorded, records}
+use Rattle.merkle_core.specs.Linked.{IsLinked, RunsFrom}
+use Rattle.merkle_core.specs.Recorded.{Recorded, after, records}
 use Rattle.merkle_core.specs.Refreshed.{all_computed_at, AreRefreshed, LacksForOne}
-use Rattle.merkle_core.specs.Replay.{over}
+use Rattle.merkle_core.specs.Replay.{oldest, over}
 use Rattle.merkle_core.specs.Stands.{last_list, replaced, StandsOn}
 use Rattle.merkle_core.specs.Truth.{IsTruth, LeavesAre, ReadsTrue, truths}
 use Rattle.merkle_core.specs.declared.gap.Gap.{Gap}
-use Rattle.merkle_core.specs.declared.gap.Gap.TheVariants.{Missing}
+use Rattle.merkle_core.specs.declared.gap.Gap.TheVariants.{Missing, OutOfMemory}
+use Rattle.merkle_base.specs.declared.error.Error.TheVariants as error
+use Rattle.merkle_core.specs.Gaps.{error_of}
 use Rattle.merkle_core.proofs.Edits.{same_gets, replaced_get}
-use Rattle.merkle_core.proofs.Forking.{last_size}
+use Rattle.merkle_core.proofs.Forking.{kept_runs, last_size}
+use Rattle.merkle_core.proofs.Stored.{find_lookup}
 use Rattle.merkle_core.proofs.ListTruths.{appended_whole, peaks_whole, truth_is, truth_of}
 use Rattle.merkle_core.proofs.Merkleizing.{list_length, list_leaves, list_reads, list_stands, list_within}
 use Rattle.merkle_core.proofs.Missings.{append_gap, needed_read, NeededGap, peak_gap, refresh_gap}
@@ -139,3 +147,50 @@ module _ {D : Type 0} (h : Hashing D) (rule : List ℕ → List ℕ) (max_leaves
       ] in
       subst (λ ks. StandsOn h rule (ks ++ (finished p.parent d2 pb pa).own ∷ []) (kept_lists p ls ++ list ∷ [])) (sym (more.1 ∙ only.1 ∙ k0))
       (list_stands h rule max_leaves p pending ls stands base agrees d1.overwritten done is (finished p.parent d2 pb pa).own b2 more.2 appended before peaks)
+
+-- ---- why it fails
+-- the error names a missing node, or there is no memory
+pub named_refused : {F D : Type 0} (rule : List ℕ → List ℕ) (p : Pending D) (base : Contents D) (gap : Gap F) → (gap ≢ OutOfMemory → NamesMissing rule p base gap) →
+    (error_of gap ≡ error.OutOfMemory) ⊎ ((t : Tree) × (error_of gap ≡ error.MissingNode (position t)) × IsMissing rule p base t)
+named_refused rule p base (Missing q) f = (let w = f (λ e. cc) in inr (w.0, ap error_of w.1, w.2))
+named_refused rule p base OutOfMemory f = inl refl
+
+-- and where none is missing there is no memory
+pub named_given : {F D : Type 0} (rule : List ℕ → List ℕ) (p : Pending D) (base : Contents D) (gap : Gap F) → (gap ≢ OutOfMemory → NamesMissing rule p base gap) → ((t : Tree) → IsMissing rule p base t → ⊥) → error_of gap ≡ error.OutOfMemory
+named_given rule p base (Missing q) f none = (let w = f (λ e. cc) in absurd (none w.0 w.2))
+named_given rule p base OutOfMemory f none = refl
+
+-- ---- whether there are changes
+pub some_entry : {D : Type 0} (es : List (ℕ × D)) → 0 < length es → (q : ℕ) × (is_some (get {R = nat_cmp} (from_entries es) q) ≡ true)
+some_entry [] l = absurd (omega arith)
+some_entry {D} (e ∷ es) l = (e.0, ap is_some (get-from_entries nat_cmp_total (e ∷ es) e.0 ∙ find_lookup e.0 (e ∷ es) ∙ ap (λ b. cond b (Some e.1) (lookup (nat_eq e.0) es)) (eq-eqb e.0 e.0 refl)))
+
+pub no_entry : {D : Type 0} (es : List (ℕ × D)) → length es ≡ 0 → (q : ℕ) → get {R = nat_cmp} (from_entries es) q ≡ None
+no_entry [] l q = get-from_entries nat_cmp_total [] q
+no_entry (e ∷ es) l q = absurd (omega (arith, l))
+
+pub no_items : {A : Type 0} (xs : List A) → length xs ≡ 0 → xs ≡ []
+no_items [] e = refl
+no_items (x ∷ xs) e = absurd (omega arith)
+
+module _ {D : Type 0} (rule : List ℕ → List ℕ) (max_leaves : ℕ) (p : Pending D) where
+  pub changed_by_leaves : 0 < length p.added → IsChanged rule (get p.overwritten) p.leaves_before (leaf_total p)
+  changed_by_leaves l = inl (omega (arith, l))
+
+  pub changed_by_updates : IsPending rule max_leaves p → (q : ℕ) × (is_some (get p.overwritten q) ≡ true) → IsChanged rule (get p.overwritten) p.leaves_before (leaf_total p)
+  changed_by_updates pending w = (let k = pending.leaves w.0 w.1 in inr (k.0, k.1, subst (λ q. is_some (get p.overwritten q) ≡ true) k.2 w.1))
+
+  pub not_changed : p.added ≡ [] → ((q : ℕ) → get p.overwritten q ≡ None) → IsChanged rule (get p.overwritten) p.leaves_before (leaf_total p) → ⊥
+  not_changed none same changed = elim changed [
+    | inl l ↦ absurd (omega (arith, l, ap length none))
+    | inr k ↦ (let f : is_some {T = D} None ≡ true = ap is_some (sym (same (size rule k.0))) ∙ k.2 in absurd (cc))
+  ]
+
+  -- the batch that is made is linked
+  pub finished_linked : (before leaves : ℕ) (d : Drafted D) (pb pa : List D) → IsLinked rule max_leaves before p.parent → p.forgotten ≤ length p.parent.ancestors → d.kept ≡ kept p → d.before ≡ after p.parent.own → leaves ≤ max_leaves → size rule leaves ≡ d.before + length d.appended →
+      IsLinked rule max_leaves leaves (finished p.parent d pb pa)
+  finished_linked before leaves d pb pa linked some k b within counted = record {
+    runs = subst (λ ks. RunsFrom (oldest (record { base_size = p.parent.base_size; boundary = p.parent.boundary; ancestors = ks; own = (finished p.parent d pb pa).own })).before (ks ++ (finished p.parent d pb pa).own ∷ [])) (sym k)
+        (kept_runs rule max_leaves before p.parent.base_size p.parent.boundary p (finished p.parent d pb pa).own linked some b);
+    counted = record { bounded = within; sized = counted };
+  }
