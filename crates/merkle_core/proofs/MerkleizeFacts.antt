@@ -1,6 +1,6 @@
 -- What merkleizing a batch makes, from what its steps promise.
-use Rattle.std.proofs.Common.{◌≡◌, ◌≢◌, ℕ, cond, nat_eq, ◌+◌, ◌<◌, ◌≤◌, ◌⊎◌, List, [], ◌∷◌, ◌++◌, length, drop, map, Option, Some, None, true, slice_get, arith, refl, sym, ap, inl, inr, ◌∙◌, subst, append-nil}
-use Rattle.std.specs.Prelude.{is_some}
+use Rattle.std.proofs.Common.{◌≡◌, ◌≢◌, ℕ, zero, suc, false, cond, nat_eq, ◌+◌, ◌<◌, ◌≤◌, ◌⊎◌, List, [], ◌∷◌, ◌++◌, length, drop, map, Option, Some, None, true, slice_get, arith, refl, sym, ap, inl, inr, ◌∙◌, subst, append-nil}
+use Rattle.std.specs.Prelude.{is_some, ◌==◌}
 use Rattle.std.specs.Option.{option_or}
 use Rattle.std.specs.FinMap.{from_entries, get, get-from_entries}
 use Rattle.std.specs.Cmp.{nat_cmp_total}
@@ -168,6 +168,10 @@ some_entry {D} (e ∷ es) l = (e.0, ap is_some (get-from_entries nat_cmp_total (
 pub no_entry : {D : Type 0} (es : List (ℕ × D)) → length es ≡ 0 → (q : ℕ) → get {R = nat_cmp} (from_entries es) q ≡ None
 no_entry [] l q = get-from_entries nat_cmp_total [] q
 no_entry (e ∷ es) l q = absurd (omega (arith, l))
+
+pub is_positive : (n : ℕ) → n == 0 ≡ false → 0 < n
+is_positive zero e = absurd (cc)
+is_positive (suc n) e = omega arith
 
 pub no_items : {A : Type 0} (xs : List A) → length xs ≡ 0 → xs ≡ []
 no_items [] e = refl
