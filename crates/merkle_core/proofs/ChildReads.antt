@@ -1,14 +1,13 @@
 -- The children of new nodes: those that are read, and those that are not there.
-use Rattle.std.proofs.Common.{◌≡◌, ℕ, suc, ◌+◌, ◌<◌, ◌≤◌, ◌⊎◌, List, Option, Some, None, true, slice_get, arith, refl, sym, ap, inl, inr, ◌∙◌, subst}
+use Rattle.std.proofs.Common.{◌≡◌, ℕ, suc, ◌<◌, ◌≤◌, List, Option, Some, true, slice_get, arith, refl, sym, ap, inl, inr, ◌∙◌, subst}
 use Rattle.std.specs.Prelude.{is_some}
 use Rattle.std.proofs.lemmas.Bool.{cases_lt}
 use Rattle.merkle_base.specs.Tree.{Tree, leaf, join, position, height as tree_height}
 use Rattle.merkle_base.specs.Forest.{forest, size}
 use Rattle.merkle_base.specs.Places.{HasInner, AreChildren}
 use Rattle.merkle_base.proofs.Growth.{forest_grown}
-use Rattle.merkle_base.proofs.Lists.{get_below}
 use Rattle.merkle_base.proofs.Nodes.{leaf_here, node_anywhere, size_lt}
-use Rattle.merkle_core.specs.Drafts.{AreChildrenRead, IsChildBetween, LacksChild}
+use Rattle.merkle_core.specs.Drafts.{AreChildrenRead, LacksChild}
 use Rattle.merkle_core.specs.Gaps.{IsGapAt}
 use Rattle.merkle_core.specs.declared.gap.Gap.{Gap}
 

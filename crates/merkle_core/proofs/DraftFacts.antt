@@ -1,5 +1,5 @@
 -- Drafts that differ in what they append, or in what they overwrite.
-use Rattle.std.proofs.Common.{◌≡◌, ℕ, Option, ap, ◌∙◌}
+use Rattle.std.proofs.Common.{◌≡◌}
 use Rattle.std.specs.FinMap.{get}
 use Rattle.std.specs.Option.{option_or}
 use Rattle.merkle_core.specs.Contents.{Contents}

@@ -1,5 +1,5 @@
 -- Why a node that is read isn't there.
-use Rattle.std.proofs.Common.{◌≡◌, ◌≢◌, ℕ, length, Result, Ok, Err, Option, Some, None, IfOk, ◌+◌, ◌<◌, ◌≤◌, List, ◌∷◌, ◌++◌, map, inl, inr, arith, refl, ap, sym, ◌∙◌}
+use Rattle.std.proofs.Common.{◌≡◌, ℕ, Result, Ok, Err, Option, Some, None, IfOk, ◌+◌, ◌<◌, ◌≤◌, List, ◌∷◌, ◌++◌, map, inl, inr, arith, ap, sym, ◌∙◌}
 use Rattle.std.proofs.lemmas.List.{map-append}
 use Rattle.std.proofs.lemmas.Bool.{cases_lt}
 use Rattle.std.specs.Result.{result_ok}

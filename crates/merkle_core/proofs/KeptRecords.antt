@@ -1,5 +1,5 @@
 -- The records that a draft takes over, one after another.
-use Rattle.std.proofs.Common.{◌≡◌, ℕ, suc, ◌+◌, ◌-◌, ◌<◌, ◌≤◌, List, [], ◌∷◌, ◌++◌, length, map, take, drop, get_or, Bool, true, false, cond, arith, refl, sym, ap, ◌∙◌, length-drop, append-nil, add-one}
+use Rattle.std.proofs.Common.{◌≡◌, ℕ, ◌+◌, ◌-◌, ◌<◌, ◌≤◌, List, [], ◌∷◌, ◌++◌, length, map, take, drop, get_or, Bool, true, false, cond, arith, sym, ap, ◌∙◌, length-drop, append-nil, add-one}
 use Rattle.std.specs.Prelude.{not}
 use Rattle.std.proofs.Math.ListN.{get_or-map as get_mapped_or}
 use Rattle.std.proofs.Math.Seq.{take-suc}

@@ -1,12 +1,11 @@
 -- The digests of a list, as the digests that positions must have.
-use Rattle.std.proofs.Common.{◌≡◌, ℕ, suc, ◌+◌, ◌-◌, ◌<◌, ◌≤◌, List, [], ◌∷◌, ◌++◌, length, map, drop, take, false, Some, None, slice_get, cond, is_some, arith, refl, sym, ap, inl, inr, ◌∙◌, length-append}
+use Rattle.std.proofs.Common.{◌≡◌, ℕ, suc, ◌+◌, ◌<◌, ◌≤◌, List, [], ◌∷◌, ◌++◌, length, map, drop, Some, slice_get, arith, refl, sym, ap, ◌∙◌}
 use Rattle.std.specs.Option.{option_map_or}
 use Rattle.std.specs.List.{range_with_len}
-use Rattle.std.proofs.Math.Seq.{drop-append_seam, take-append_seam}
-use Rattle.std.proofs.lemmas.Bool.{cases_lt}
+use Rattle.std.proofs.Math.Seq.{drop-append_seam}
 use Rattle.std.proofs.lemmas.List.{map-append}
 use Rattle.std.proofs.lemmas.List.FromFn.{length-map-range_with_len}
-use Rattle.std.proofs.lemmas.Option.{slice_get_past, slice_get-get_or, get_or_from_slice_get}
+use Rattle.std.proofs.lemmas.Option.{get_or_from_slice_get}
 use Rattle.merkle_base.specs.Tree.{Tree, leaf, join, position}
 use Rattle.merkle_base.specs.Forest.{forest, size}
 use Rattle.merkle_base.specs.Hashing.{Hashing}
@@ -15,10 +14,9 @@ use Rattle.merkle_base.specs.Places.{peaks_of, peak_positions}
 use Rattle.merkle_base.proofs.Growth.{built_at}
 use Rattle.merkle_base.proofs.Lists.{get_below}
 use Rattle.merkle_base.proofs.Lookup.{get_append_add, peak_node}
-use Rattle.merkle_base.proofs.Nodes.{node_built, node_stays, leaf_here, size_le, range-add}
-use Rattle.merkle_core.specs.Truth.{IsTruth, LeavesAre, ReadsTrue, truths}
-use Rattle.merkle_core.proofs.Items.{get_drop, get_reversed}
-use Rattle.merkle_core.proofs.Kept.{get_mapped}
+use Rattle.merkle_base.proofs.Nodes.{node_built, node_stays, leaf_here, range-add}
+use Rattle.merkle_core.specs.Truth.{IsTruth, LeavesAre, truths}
+use Rattle.merkle_core.proofs.Items.{get_reversed}
 
 -- the digest of a list at the node that stands at a position of the largest forest
 pub truth_of : {D : Type 0} → Hashing D → (List ℕ → List ℕ) → ℕ → List D → ℕ → D

@@ -1,26 +1,22 @@
 -- What a batch makes of the nodes that it reads: a step to the changed list.
-use Rattle.std.proofs.Common.{◌≡◌, ℕ, suc, ◌+◌, ◌-◌, ◌<◌, ◌≤◌, ◌⊎◌, List, [], ◌∷◌, ◌++◌, length, drop, true, false, Bool, Option, Some, None, slice_get, cond, arith, refl, sym, ap, inl, inr, ◌∙◌, subst, length-append}
+use Rattle.std.proofs.Common.{◌≡◌, ℕ, ◌+◌, ◌-◌, ◌<◌, ◌≤◌, List, ◌++◌, length, drop, true, false, Bool, Option, Some, None, slice_get, cond, arith, refl, sym, ap, inl, inr, ◌∙◌, length-append}
 use Rattle.std.specs.Prelude.{is_some}
-use Rattle.std.specs.Option.{option_or}
 use Rattle.std.specs.Ordering.{nat_cmp}
 use Rattle.std.specs.FinMap.{FinMap, get}
 use Rattle.std.proofs.lemmas.Bool.{cases_lt}
 use Rattle.std.proofs.lemmas.Option.{slice_get_past, slice_get-get_or}
-use Rattle.merkle_base.specs.Tree.{Tree, leaf, join, position, IsUnder}
+use Rattle.merkle_base.specs.Tree.{Tree, leaf}
 use Rattle.merkle_base.specs.Forest.{forest, size}
 use Rattle.merkle_base.specs.Hashing.{Hashing}
 use Rattle.merkle_base.specs.Digests.{digest_at, node_digests, peak_digests}
 use Rattle.merkle_base.proofs.Lookup.{get_append_add}
-use Rattle.merkle_base.proofs.Nodes.{node_built, node_stays, leaf_here, size_le}
-use Rattle.merkle_core.specs.Pending.{Pending}
+use Rattle.merkle_base.proofs.Nodes.{node_built, leaf_here, size_le}
 use Rattle.merkle_core.specs.Recorded.{Recorded}
 use Rattle.merkle_core.specs.Replay.{over}
 use Rattle.merkle_core.specs.Stands.{edited, is_touched, replaced, IsStep}
-use Rattle.merkle_core.specs.Truth.{ReadsTrue}
 use Rattle.merkle_core.proofs.Complete.{same_touch}
 use Rattle.merkle_core.proofs.Edits.{get_left, same_gets, old_entry, new_entry, replaced_count, replaced_get}
-use Rattle.merkle_core.proofs.Items.{by_test, get_drop}
-use Rattle.merkle_core.proofs.ListTruths.{truth_of, truth_at}
+use Rattle.merkle_core.proofs.Items.{get_drop}
 use Rattle.merkle_core.proofs.Steps.{node_there, node_digest_at, digests_length}
 
 module _ {D : Type 0} (h : Hashing D) (rule : List ℕ → List ℕ) (m : ℕ → Option D) (X added : List D) where

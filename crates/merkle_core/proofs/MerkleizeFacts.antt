@@ -8,7 +8,7 @@ use Rattle.std.specs.Map.{lookup}
 use Rattle.std.specs.Ordering.{nat_cmp}
 use Rattle.std.proofs.lemmas.Bool.{eq-eqb}
 use Rattle.merkle_base.specs.Tree.{Tree, position}
-use Rattle.merkle_base.specs.Forest.{forest, size}
+use Rattle.merkle_base.specs.Forest.{size}
 use Rattle.merkle_base.specs.Hashing.{Hashing}
 use Rattle.merkle_base.specs.Digests.{node_digests, peak_digests}
 use Rattle.merkle_base.specs.Places.{peak_positions, peaks_of}
@@ -20,7 +20,7 @@ use Rattle.merkle_core.specs.Needed.{IsChanged}
 use Rattle.merkle_core.specs.Pending.{IsPending, Pending, kept, kept_lists, leaf_total, pending_list}
 use Rattle.merkle_core.specs.Read.{read_over}
 use Rattle.merkle_core.specs.Linked.{IsLinked, RunsFrom}
-use Rattle.merkle_core.specs.Recorded.{Recorded, after, records}
+use Rattle.merkle_core.specs.Recorded.{after, records}
 use Rattle.merkle_core.specs.Refreshed.{all_computed_at, AreRefreshed, LacksForOne}
 use Rattle.merkle_core.specs.Replay.{oldest, over}
 use Rattle.merkle_core.specs.Stands.{last_list, replaced, StandsOn}

@@ -1,11 +1,11 @@
 -- A batch over a base that agrees with one of its lists: what it makes stands on lists, and no needed node is missing.
-use Rattle.std.proofs.Common.{◌≡◌, ℕ, ◌+◌, ◌<◌, ◌≤◌, List, [], ◌∷◌, ◌++◌, length, drop, Option, Some, None, Bool, true, false, cond, slice_get, arith, refl, sym, ap, inl, inr, ◌∙◌, subst, length-append}
-use Rattle.std.specs.Prelude.{is_some, get_or, slice_index_or}
+use Rattle.std.proofs.Common.{◌≡◌, ℕ, ◌<◌, ◌≤◌, List, [], ◌∷◌, ◌++◌, length, drop, Option, Some, None, true, false, cond, slice_get, arith, refl, sym, ap, ◌∙◌, subst}
+use Rattle.std.specs.Prelude.{is_some}
 use Rattle.std.specs.Option.{option_or}
 use Rattle.std.specs.Ordering.{nat_cmp}
 use Rattle.std.specs.FinMap.{FinMap, get}
-use Rattle.std.proofs.lemmas.Option.{slice_get-get_or, get_or_from_slice_get}
-use Rattle.merkle_base.specs.Tree.{Tree, leaf, join, position, IsBuilt}
+use Rattle.std.proofs.lemmas.Option.{get_or_from_slice_get}
+use Rattle.merkle_base.specs.Tree.{Tree, leaf, join, IsBuilt}
 use Rattle.merkle_base.specs.Forest.{forest, size}
 use Rattle.merkle_base.specs.Hashing.{Hashing}
 use Rattle.merkle_base.specs.Digests.{digest_at, node_digests, peak_digests}
@@ -16,7 +16,7 @@ use Rattle.merkle_core.specs.Contents.{Contents, AgreesWithOne}
 use Rattle.merkle_core.specs.Missing.{IsMissing}
 use Rattle.merkle_core.specs.Pending.{IsPending, Pending, kept, kept_lists, leaf_total, pending_list}
 use Rattle.merkle_core.specs.Read.{read_over}
-use Rattle.merkle_core.specs.Recorded.{Recorded, records, after}
+use Rattle.merkle_core.specs.Recorded.{Recorded, records}
 use Rattle.merkle_core.specs.Refreshed.{AreRefreshed, HasLeavesOf, all_computed_at, refreshed}
 use Rattle.merkle_core.specs.Replay.{over}
 use Rattle.merkle_core.specs.Needed.{IsNeeded}

@@ -1,20 +1,19 @@
 -- Which nodes a batch needs: those that it reads and doesn't find, and no other.
-use Rattle.std.proofs.Common.{◌≡◌, ℕ, ◌<◌, ◌≤◌, ◌⊎◌, List, length, Option, Some, None, Bool, true, false, cond, slice_get, arith, refl, sym, ap, inl, inr, ◌∙◌, subst}
+use Rattle.std.proofs.Common.{◌≡◌, ℕ, ◌≤◌, List, Option, Some, None, true, false, cond, slice_get, arith, refl, sym, ap, inl, inr, ◌∙◌, subst}
 use Rattle.std.specs.Prelude.{is_some, nat_le}
 use Rattle.std.specs.Option.{option_or}
-use Rattle.std.proofs.lemmas.Bool.{cases_lt, le-leb, leb-true, true≢false}
-use Rattle.merkle_base.specs.Tree.{Tree, leaf, join, position, IsUnder, IsBuilt}
+use Rattle.std.proofs.lemmas.Bool.{cases_lt, le-leb, leb-true}
+use Rattle.merkle_base.specs.Tree.{Tree, join, position, IsBuilt}
 use Rattle.merkle_base.specs.Forest.{forest, size}
 use Rattle.merkle_base.specs.Hashing.{Hashing}
 use Rattle.merkle_base.specs.Places.{peaks_of}
 use Rattle.merkle_base.proofs.Growth.{built_at, forest_grown}
 use Rattle.merkle_base.proofs.Lists.{get_below}
 use Rattle.merkle_base.proofs.Lookup.{peak_node}
-use Rattle.merkle_base.proofs.Nodes.{node_built, node_stays, node_anywhere, built_under, peak_of, size_le}
-use Rattle.merkle_core.specs.Drafts.{AreChildrenRead, IsChildBetween, IsReadFor, LacksChild, LacksFor}
+use Rattle.merkle_base.proofs.Nodes.{node_built, node_stays, node_anywhere, built_under, peak_of}
+use Rattle.merkle_core.specs.Drafts.{AreChildrenRead, LacksChild}
 use Rattle.merkle_core.specs.DraftReads.{ArePeaksRead, IsPeakGap}
-use Rattle.merkle_core.specs.Gaps.{IsGapAt}
-use Rattle.merkle_core.specs.Needed.{IsChanged, IsNeeded, IsUsed, is_computed}
+use Rattle.merkle_core.specs.Needed.{IsChanged, IsNeeded}
 use Rattle.merkle_core.specs.Refreshed.{AreRefreshed, LacksForOne, refreshed}
 use Rattle.merkle_core.specs.Stands.{is_touched}
 use Rattle.merkle_core.specs.declared.gap.Gap.{Gap}
@@ -44,8 +43,7 @@ module _ {D : Type 0} (rule : List ℕ → List ℕ) (n e : ℕ) (l : n ≤ e) (
       let q : ℕ = c.0 in
       let over = built_under ns (join q c.1 c.2) t c.3 b in
       let child : IsBuilt ns u = elim c.5 [ inl d ↦ subst (IsBuilt ns) (sym d) over.4 | inr d ↦ subst (IsBuilt ns) (sym d) over.5 ] in
-      let there = node_stays rule n e q (join q c.1 c.2) l over.0 in
-      (
+      let there = node_stays rule n e q (join q c.1 c.2) l over.0 in (
         u,
         (
           inl (q, c.1, c.2, there, or_right (nat_le (size rule n) q) (is_touched m (join q c.1 c.2)) c.4, c.5),
@@ -62,12 +60,11 @@ module _ {D : Type 0} (h : Hashing D) (rule : List ℕ → List ℕ) (n e : ℕ)
   -- where neither is there the node is untouched
   untouched_gap : (t : Tree) → slice_get (forest rule n).nodes (position t) ≡ Some t → option_or (O (position t)) (below (position t)) ≡ None → (is_touched m t ≡ false) × (below (position t) ≡ None)
   untouched_gap t there gap =
-      let k = is_none (O (position t)) (below (position t)) gap in
-      (
+      let k = is_none (O (position t)) (below (position t)) gap in (
         by_test (λ b. is_touched m t ≡ b → b ≡ false) (is_touched m t)
-        (λ b c. absurd (let w = some_of (refreshed h m below t) (some (position t) t there b) in
-        let f : None ≡ Some w.0 = sym k.0 ∙ fact (position t) t there ∙ ap (λ x. cond x (refreshed h m below t) None) b ∙ w.1 in cc))
-        (λ b c. refl) refl,
+            (λ b c. absurd (let w = some_of (refreshed h m below t) (some (position t) t there b) in
+            let f : None ≡ Some w.0 = sym k.0 ∙ fact (position t) t there ∙ ap (λ x. cond x (refreshed h m below t) None) b ∙ w.1 in cc))
+            (λ b c. refl) refl,
         k.1,
       )
 
@@ -107,9 +104,9 @@ module _ {D : Type 0} (h : Hashing D) (rule : List ℕ → List ℕ) (n e : ℕ)
         elim (cases_lt x.0 (size rule n)) [
           | inr past ↦ untouched_read t old need.2 (children t (e, x.0, x.1, x.2, within, x.3, past, get_below (forest rule e).nodes x.0 (join x.0 x.1 x.2) x.3, x.5) need.1)
           | inl less ↦ (let touched : is_touched m (join x.0 x.1 x.2) ≡ true = elim (or_cases (nat_le (size rule n) x.0) (is_touched m (join x.0 x.1 x.2)) x.4) [
-              | inl y ↦ absurd (omega (arith, leb-true (size rule n) x.0 y, less))
-              | inr y ↦ y
-            ] in
+            | inl y ↦ absurd (omega (arith, leb-true (size rule n) x.0 y, less))
+            | inr y ↦ y
+          ] in
               let mine = node_anywhere rule e n x.0 (join x.0 x.1 x.2) x.3 less in
               let p = peak_of (join x.0 x.1 x.2) (forest rule n).peaks ((forest_grown rule n).under x.0 (join x.0 x.1 x.2) mine) in
               let k = get_reverse (forest rule n).peaks p.0 p.1 p.2 in

@@ -1,8 +1,8 @@
 -- What a batch writes at old positions: the new digest of each node over a changed leaf, and nothing else.
-use Rattle.std.proofs.Common.{◌≡◌, ℕ, ◌<◌, ◌≤◌, List, length, Option, Some, None, Bool, true, false, cond, slice_get, arith, refl, sym, ap, inl, inr, ◌∙◌, subst}
+use Rattle.std.proofs.Common.{◌≡◌, ℕ, ◌≤◌, List, Option, Some, None, true, cond, slice_get, arith, refl, sym, ap, ◌∙◌}
 use Rattle.std.specs.Prelude.{is_some}
 use Rattle.std.specs.Option.{option_or}
-use Rattle.std.proofs.lemmas.Bool.{true≢false, false≢true}
+use Rattle.std.proofs.lemmas.Bool.{false≢true}
 use Rattle.merkle_base.specs.Tree.{Tree, leaf, join}
 use Rattle.merkle_base.specs.Forest.{forest, size}
 use Rattle.merkle_base.specs.Hashing.{Hashing}
@@ -12,7 +12,7 @@ use Rattle.merkle_base.proofs.Nodes.{leaf_here, size_lt}
 use Rattle.merkle_core.specs.Refreshed.{AreRefreshed, HasLeavesOf, all_computed_at, refreshed}
 use Rattle.merkle_core.specs.Stands.{is_touched}
 use Rattle.merkle_core.proofs.Items.{by_test}
-use Rattle.merkle_core.proofs.RefreshedDigests.{leaf_not_computed, none_of, past_not_computed, peaks_computed, some_of, untouched_not_computed}
+use Rattle.merkle_core.proofs.RefreshedDigests.{leaf_not_computed, none_of, past_not_computed, peaks_computed, untouched_not_computed}
 
 or_second : {D : Type 0} (a b : Option D) → a ≡ None → option_or a b ≡ b
 or_second None b e = refl

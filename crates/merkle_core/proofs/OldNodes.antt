@@ -1,5 +1,5 @@
 -- The old nodes of a batch: that their new digests are right.
-use Rattle.std.proofs.Common.{◌≡◌, ℕ, ◌<◌, ◌≤◌, ◌⊎◌, List, ◌∷◌, length, Option, Some, None, Bool, true, false, cond, slice_get, arith, refl, sym, ap, inl, inr, ◌∙◌, subst}
+use Rattle.std.proofs.Common.{◌≡◌, ℕ, ◌<◌, ◌≤◌, List, length, Option, Some, None, true, false, cond, slice_get, refl, sym, ap, inl, inr, ◌∙◌, subst}
 use Rattle.std.specs.Prelude.{is_some}
 use Rattle.std.specs.Option.{option_or}
 use Rattle.merkle_base.specs.Tree.{Tree, leaf, join, position, IsUnder}
@@ -7,7 +7,7 @@ use Rattle.merkle_base.specs.Forest.{forest, size}
 use Rattle.merkle_base.specs.Hashing.{Hashing}
 use Rattle.merkle_base.specs.Digests.{digest_at}
 use Rattle.merkle_base.proofs.Births.{leaf_at}
-use Rattle.merkle_base.proofs.Growth.{built_at, under_itself}
+use Rattle.merkle_base.proofs.Growth.{built_at}
 use Rattle.merkle_base.proofs.Nodes.{node_built, built_under}
 use Rattle.merkle_core.specs.Drafts.{IsReadFor}
 use Rattle.merkle_core.specs.Refreshed.{refreshed}

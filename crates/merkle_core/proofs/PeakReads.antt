@@ -1,8 +1,7 @@
 -- The peaks that a draft reads.
-use Rattle.std.proofs.Common.{◌≡◌, ℕ, zero, suc, ◌+◌, ◌<◌, ◌⊎◌, List, [], ◌∷◌, ◌++◌, length, map, Option, Some, None, true, slice_get, arith, refl, sym, ap, inl, inr, ◌∙◌, subst}
+use Rattle.std.proofs.Common.{◌≡◌, ℕ, zero, suc, ◌<◌, List, [], ◌∷◌, ◌++◌, length, map, Option, Some, true, slice_get, arith, refl, sym, ap, ◌∙◌, subst}
 use Rattle.std.specs.Prelude.{is_some}
-use Rattle.merkle_base.specs.Tree.{Tree, position}
-use Rattle.merkle_base.specs.Forest.{size}
+use Rattle.merkle_base.specs.Tree.{position}
 use Rattle.merkle_base.specs.Places.{peaks_of, placed}
 use Rattle.merkle_core.specs.DraftReads.{ArePeaksRead, IsPeakGap}
 use Rattle.merkle_core.specs.Gaps.{IsGapAt}

@@ -1,13 +1,10 @@
 -- What a batch in the making reads, and which nodes it has read.
-use Rattle.std.specs.Prelude.{◌≡◌, ℕ, ◌-◌, ◌<◌, ◌≤◌, ◌⊎◌, List, Option, Some, None, Bool, true, false, is_some, cond, nat_lt, slice_get, map}
-use Rattle.std.specs.FinMap.{get}
+use Rattle.std.specs.Prelude.{◌≡◌, ℕ, ◌-◌, ◌<◌, ◌≤◌, ◌⊎◌, List, Option, Some, true, false, is_some, cond, nat_lt, slice_get}
 use Rattle.std.specs.Option.{option_or}
 use Rattle.merkle_base.specs.Tree.{Tree, leaf, join, position}
 use Rattle.merkle_base.specs.Forest.{forest}
-use Rattle.merkle_core.specs.Contents.{Contents}
 use Rattle.merkle_core.specs.Gaps.{IsGapAt}
 use Rattle.merkle_core.specs.declared.gap.Gap.{Gap}
-use Rattle.merkle_core.specs.Read.{read_over}
 use Rattle.merkle_core.specs.Stands.{is_touched}
 
 -- the node at p: one of those from a size on, or of the older ones the batch's own, or else the one below

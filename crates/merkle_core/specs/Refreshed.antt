@@ -1,5 +1,5 @@
 -- The digests of old nodes after some leaves got new ones.
-use Rattle.std.specs.Prelude.{◌≡◌, ℕ, suc, ◌<◌, List, [], ◌∷◌, ◌++◌, Bool, true, Option, Some, None, is_some, slice_get, cond, nat_lt, ◌==◌}
+use Rattle.std.specs.Prelude.{◌≡◌, ℕ, suc, ◌<◌, List, [], ◌∷◌, ◌++◌, true, Option, Some, None, is_some, slice_get, cond, nat_lt, ◌==◌}
 use Rattle.merkle_base.specs.Forest.{size}
 use Rattle.merkle_core.specs.Drafts.{LacksFor}
 use Rattle.merkle_core.specs.declared.gap.Gap.{Gap}

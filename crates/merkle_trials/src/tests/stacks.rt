@@ -67,7 +67,10 @@ fn batch_over_a_batch(rt: HostRuntime) {
         &[Some(0x11), Some(0x03), Some(0x10), Some(0x07), None],
     );
     assert_eq!(rt; second.leaves().as_u64(), 3);
-    assert_eq!(rt; seen_digest(&second.root(&hasher, 0)), Outcome::Digest(0x14));
+    assert_eq!(rt;
+        seen_digest(&second.root(&hasher, 0)),
+        Outcome::Digest(0x14)
+    );
     assert_applied(&rt, &mut structure, &second, Outcome::Done);
     assert_nodes(&rt, &structure, &[0x11, 0x03, 0x10, 0x07]);
     assert_roots(&rt, &structure, &hasher, &[Outcome::Digest(0x14)]);
@@ -98,7 +101,12 @@ fn forgotten_ancestors(rt: HostRuntime) {
     let mut structure: Mmr<_> = Mem::new(rt.alloc());
     let first = batch_of(&rt, &structure, &hasher, &[1]);
     let second = merkleized(&rt, forked(&rt, &first, &hasher, &[2]), &structure, &hasher);
-    let third = merkleized(&rt, forked(&rt, &second, &hasher, &[4]), &structure, &hasher);
+    let third = merkleized(
+        &rt,
+        forked(&rt, &second, &hasher, &[4]),
+        &structure,
+        &hasher,
+    );
     let fourth = forked(&rt, &third, &hasher, &[8]).forget_ancestors(2);
     let lacking = fourth.merkleize(&structure, &hasher);
     assert_eq!(rt; seen(&lacking), Outcome::MissingNode(2));
@@ -145,7 +153,12 @@ fn ancestors_forgotten_one_by_one(rt: HostRuntime) {
     let mut structure: Mmr<_> = Mem::new(rt.alloc());
     let first = batch_of(&rt, &structure, &hasher, &[1]);
     let second = merkleized(&rt, forked(&rt, &first, &hasher, &[2]), &structure, &hasher);
-    let third = merkleized(&rt, forked(&rt, &second, &hasher, &[4]), &structure, &hasher);
+    let third = merkleized(
+        &rt,
+        forked(&rt, &second, &hasher, &[4]),
+        &structure,
+        &hasher,
+    );
     assert_applied(&rt, &mut structure, &second, Outcome::Done);
     let fourth = forked(&rt, &third, &hasher, &[8]);
     let fourth = fourth.forget_ancestors(1).forget_ancestors(1);
@@ -164,7 +177,12 @@ fn parent_without_changes(rt: HostRuntime) {
     let first = batch_of(&rt, &structure, &hasher, &[1]);
     let same = merkleized(&rt, forked(&rt, &first, &hasher, &[]), &structure, &hasher);
     let last = forked(&rt, &same, &hasher, &[2]).forget_ancestors(1);
-    let last = merkleized(&rt, last, &structure_of(&rt, rt.alloc(), &hasher, &[1]), &hasher);
+    let last = merkleized(
+        &rt,
+        last,
+        &structure_of(&rt, rt.alloc(), &hasher, &[1]),
+        &hasher,
+    );
     assert_read(&rt, &last, 3, &[None, Some(0x03), Some(0x00)]);
     assert_applied(&rt, &mut structure, &same, Outcome::Done);
     assert_applied(&rt, &mut structure, &last, Outcome::Done);
@@ -360,12 +378,21 @@ fn leaves_past_the_greatest_count(rt: HostRuntime) {
     let structure: Mem<flat::Family, Xor8Digest> = Mem::new(rt.alloc());
     let digests = [digest(&rt, 7); 65];
     let batch = added(&rt, &structure, &hasher, &[]);
-    assert_eq!(rt; seen(&batch.add_leaf_digests(&digests)), Outcome::LocationOverflow(64));
+    assert_eq!(rt;
+        seen(&batch.add_leaf_digests(&digests)),
+        Outcome::LocationOverflow(64)
+    );
     let batch = added(&rt, &structure, &hasher, &[1]);
-    assert_eq!(rt; seen(&batch.add_leaf_digests(&digests[..64])), Outcome::LocationOverflow(64));
+    assert_eq!(rt;
+        seen(&batch.add_leaf_digests(&digests[..64])),
+        Outcome::LocationOverflow(64)
+    );
     let batch = added(&rt, &structure, &hasher, &[]);
     let batch = granted!(&rt, batch.add_leaf_digests(&digests[..64]));
     let batch = granted!(&rt, batch.add_leaf_digests(&[]));
     assert_eq!(rt; batch.leaves().as_u64(), 64);
-    assert_eq!(rt; seen(&batch.add_leaf_digests(&digests[..1])), Outcome::LocationOverflow(64));
+    assert_eq!(rt;
+        seen(&batch.add_leaf_digests(&digests[..1])),
+        Outcome::LocationOverflow(64)
+    );
 }

@@ -1,4 +1,4 @@
-use Rattle.std.proofs.Common.{◌≡◌, ℕ, suc, ◌-◌, ◌<◌, ◌≤◌, length, map, take, arith, sym, ap, ◌∙◌}
+use Rattle.std.proofs.Common.{◌≡◌, suc, ◌-◌, ◌<◌, length, map, take, arith, sym, ap, ◌∙◌}
 use Rattle.std.specs.Prelude.{is_some}
 use Rattle.merkle_core.specs.Read.{written, newest}
 use Rattle.merkle_core.proofs.NewestFirst.{newest_taken, or_some, or_later}

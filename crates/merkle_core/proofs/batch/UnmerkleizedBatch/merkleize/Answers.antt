@@ -1,4 +1,4 @@
-use Rattle.std.proofs.Common.{rules, ◌≡◌, ◌≢◌, ℕ, ◌+◌, ◌<◌, ◌≤◌, ◌⊎◌, List, [], ◌∷◌, ◌++◌, length, drop, map, cond, None, true, false, arith, refl, sym, ap, inl, inr, ◌∙◌, subst}
+use Rattle.std.proofs.Common.{rules, ◌≡◌, ℕ, ◌+◌, ◌<◌, ◌⊎◌, [], ◌∷◌, ◌++◌, length, drop, map, cond, None, arith, sym, ap, inl, inr, ◌∙◌, subst}
 use Rattle.std.proofs.lemmas.Result.{err_from_is_err_and}
 use Rattle.std.specs.FinMap.{from_entries, get}
 use Rattle.std.specs.Rc.{rc_slice_items}
@@ -9,7 +9,7 @@ use Rattle.merkle_base.specs.declared.error.Error.TheVariants as error
 use Rattle.merkle_base.proofs.Limits.{lawful_leaves}
 use Rattle.merkle_core.specs.Contents.{AgreesWithOne}
 use Rattle.merkle_core.specs.Drafts.{AreChildrenRead, LacksChild}
-use Rattle.merkle_core.specs.DraftReads.{ArePeaksRead, Drafted, finished, IsPeakGap, old_node}
+use Rattle.merkle_core.specs.DraftReads.{ArePeaksRead, finished, IsPeakGap, old_node}
 use Rattle.merkle_core.specs.Linked.{IsLinked}
 use Rattle.merkle_core.specs.Missing.{IsMissing}
 use Rattle.merkle_core.specs.Needed.{IsChanged}

@@ -1,7 +1,6 @@
-use Rattle.std.proofs.Common.{rules, ◌≡◌, ◌≢◌, ℕ, suc, ◌+◌, ◌<◌, ◌≤◌, ◌^◌, [], ◌∷◌, ◌++◌, length, arith, ap, refl, sym, ◌∙◌, subst, append_assoc, length-append}
+use Rattle.std.proofs.Common.{◌≡◌, ℕ, suc, ◌+◌, [], ◌∷◌, ◌++◌, length, arith, ap, sym, ◌∙◌, subst, append_assoc, length-append}
 use Rattle.std.proofs.lemmas.Result.{err_from_is_err_and}
 use Rattle.merkle_base.specs.Forest.{size}
-use Rattle.merkle_base.specs.Heights.{parent_heights}
 use Rattle.merkle_base.specs.Places.{HasInner}
 use Rattle.merkle_base.proofs.Nodes.{size_le}
 use Rattle.merkle_base.proofs.Parents.{parent_there, parents_fit}
@@ -27,7 +26,7 @@ loop-height-init g c =
       c.push.ensures.only,
       ([], ap g.F.ParentHeights.Listed.left c.into_iter-height-iterator.ensures.into_iter_gives ∙ c.parent_heights-height-items.ensures, omega (arith, end)),
       subst (λ (q : ℕ). AreChildrenRead rule g.F.Family.MAX_LEAVES (size rule c.args.leaf) q c.args.self.now.before (old_node c.args.self.now (contents c.args.base.now))) (sym end)
-      (read_leaf rule g.F.Family.MAX_LEAVES c.args.leaf c.args.self.now.before (old_node c.args.self.now (contents c.args.base.now))),
+          (read_leaf rule g.F.Family.MAX_LEAVES c.args.leaf c.args.self.now.before (old_node c.args.self.now (contents c.args.base.now))),
       λ truth it reads is same. items ∙ truths_more truth c.args.self.now.before old c.args.digest same (is ∙ ap truth (sym c.requires.counted)) ∙ ap (λ xs. truths truth c.args.self.now.before (length xs)) (sym items),
     )
 

@@ -1,4 +1,4 @@
-use Rattle.std.proofs.Common.{rules, ◌≡◌, ℕ, suc, ◌+◌, ◌<◌, ◌≤◌, [], length, Some, slice_get, arith, ap, sym, ◌∙◌, refl, subst}
+use Rattle.std.proofs.Common.{rules, ◌≡◌, ℕ, suc, ◌+◌, ◌≤◌, length, Some, slice_get, arith, ap, sym, ◌∙◌, refl, subst}
 use Rattle.std.proofs.lemmas.Result.{err_from_is_err_and}
 use Rattle.std.proofs.lemmas.Option.{slice_get_read}
 use Rattle.merkle_base.specs.Forest.{size}
@@ -21,7 +21,7 @@ loop-digest-init g c =
       (refl, refl, refl),
       omega (arith, none, c.requires.sized),
       subst (λ (q : ℕ). AreChildrenRead rule g.F.Family.MAX_LEAVES start.before q start.before (old_node start (contents c.args.base.now))) (sym c.requires.sized)
-      (read_none rule g.F.Family.MAX_LEAVES start.before start.before (old_node start (contents c.args.base.now))),
+          (read_none rule g.F.Family.MAX_LEAVES start.before start.before (old_node start (contents c.args.base.now))),
       λ truth it true are. c.requires.nothing ∙ ap (λ (n : ℕ). truths truth start.before n) (sym none),
     )
 

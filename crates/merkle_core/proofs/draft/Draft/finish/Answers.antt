@@ -1,4 +1,4 @@
-use Rattle.std.proofs.Common.{◌≡◌, ℕ, ◌<◌, ◌+◌, length, arith, ap}
+use Rattle.std.proofs.Common.{◌≡◌, length, arith, ap}
 use Rattle.merkle_base.proofs.Nodes.{size_le}
 use Rattle.merkle_core.proofs.draft.Draft.finish.Goals as goal
 

@@ -1,7 +1,7 @@
-use Rattle.std.proofs.Common.{rules, ◌≡◌, ℕ, ◌+◌, ◌-◌, ◌<◌, ◌≤◌, length, Option, Some, None, slice_get, arith, sym, ap, ◌∙◌, refl}
+use Rattle.std.proofs.Common.{rules, ◌≡◌, ◌+◌, ◌<◌, ◌≤◌, length, Some, None, slice_get, arith, sym, ap, ◌∙◌}
 use Rattle.std.specs.FinMap.{get}
 use Rattle.std.specs.Option.{option_or}
-use Rattle.merkle_core.specs.DraftReads.{below, old_node}
+use Rattle.merkle_core.specs.DraftReads.{below}
 use Rattle.merkle_core.specs.Store.{contents}
 use Rattle.merkle_core.proofs.Stored.{get_reads}
 use Rattle.merkle_core.proofs.GapFacts.{if_found}

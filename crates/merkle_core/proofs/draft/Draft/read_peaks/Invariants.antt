@@ -1,6 +1,4 @@
-use Rattle.std.proofs.Common.{◌≡◌, ◌++◌, ◌<◌, ℕ, List, Some, true, slice_get, map, length}
-use Rattle.std.specs.Prelude.{is_some}
-use Rattle.merkle_base.specs.Tree.{Tree, position}
+use Rattle.std.proofs.Common.{◌≡◌, ◌++◌, ℕ, List, map, length}
 use Rattle.merkle_base.specs.Places.{peak_positions, peaks_of, placed}
 use Rattle.merkle_core.specs.DraftReads.{old_node}
 use Rattle.merkle_core.specs.Store.{contents}
