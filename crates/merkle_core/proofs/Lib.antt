@@ -18,7 +18,6 @@ pub mod Children
 pub mod Bases
 pub mod Stored
 pub mod TruthFacts
-pub mod Wholes
 pub mod Small
 pub mod ListTruths
 pub mod Makings

@@ -1,4 +1,4 @@
--- What a batch in the making reads, and which nodes it has read.
+-- Which nodes a batch in the making reads.
 use Rattle.std.specs.Prelude.{◌≡◌, ℕ, ◌-◌, ◌<◌, ◌≤◌, ◌⊎◌, List, Option, Some, true, false, is_some, cond, nat_lt, slice_get}
 use Rattle.std.specs.Option.{option_or}
 use Rattle.merkle_base.specs.Tree.{Tree, leaf, join, position}
@@ -6,10 +6,6 @@ use Rattle.merkle_base.specs.Forest.{forest}
 use Rattle.merkle_core.specs.Gaps.{IsGapAt}
 use Rattle.merkle_core.specs.declared.gap.Gap.{Gap}
 use Rattle.merkle_core.specs.Stands.{is_touched}
-
--- the node at p: one of those from a size on, or of the older ones the batch's own, or else the one below
-abbrev pub node_over : {D : Type 0} → ℕ → List D → (own below : ℕ → Option D) → ℕ → Option D
-node_over before appended own below p = cond (nat_lt p before) (option_or (own p) (below p)) (slice_get appended (p - before))
 
 -- u is what is read for the node t: t itself if no leaf under it has a new digest, and else what is read for its children
 abbrev pub IsReadFor : {D : Type 0} → (ℕ → Option D) → Tree → Tree → Type 0

@@ -6,7 +6,7 @@ ghost use Rattle.merkle_base.specs.Forest.{size};
 ghost use Rattle.merkle_base.specs.Places.{HasInner, peak_positions, peaks_of};
 ghost use Rattle.merkle_base.specs.Tree.{Tree, position};
 ghost use Rattle.merkle_core.specs.Contents.{Contents};
-ghost use Rattle.merkle_core.specs.Drafts.{AreChildrenRead, LacksChild, node_over};
+ghost use Rattle.merkle_core.specs.Drafts.{AreChildrenRead, LacksChild};
 ghost use Rattle.merkle_core.specs.DraftReads.{below, finished, old_node, OnlyAppends, IsPeakGap, ArePeaksRead};
 ghost use Rattle.merkle_core.specs.Linked.{IsLinked};
 ghost use Rattle.merkle_core.specs.Pending.{is_changed};
