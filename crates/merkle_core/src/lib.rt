@@ -14,6 +14,7 @@ mod merkleized;
 pub mod mmb;
 pub mod mmr;
 mod overwrites;
+mod pruning;
 mod record;
 mod refresh;
 mod replay;

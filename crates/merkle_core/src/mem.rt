@@ -23,6 +23,7 @@ ghost use Rattle.merkle_proof.specs.RangePlans.{IsBuildRefusal, IsBuiltProof, li
 
 use crate::batch::{MerkleizedBatch, UnmerkleizedBatch};
 use crate::find::{find_state, refusal};
+pub use crate::pruning::Config;
 use crate::record::Record;
 use crate::replay::{lay, lay_all};
 use merkle_base::digest::Digest;
@@ -54,13 +55,13 @@ fn front<D>(digests: &[D; MAX_PEAKS], count: usize) -> &[D]
 #[derive(Debug, Drop)]
 pub struct Mem<F: Family, D: Digest> {
     // the nodes from position `start` on
-    nodes: Vec<D>,
+    pub(crate) nodes: Vec<D>,
     // the nodes before it that are held, by position
-    pins: Vec<(Position<F>, D)>,
+    pub(crate) pins: Vec<(Position<F>, D)>,
     // the position of the leaf at the boundary
-    start: Position<F>,
-    boundary: Location<F>,
-    leaves: Location<F>,
+    pub(crate) start: Position<F>,
+    pub(crate) boundary: Location<F>,
+    pub(crate) leaves: Location<F>,
 }
 
 impl<F: Family, D: Digest> Model for Mem<F, D> {
