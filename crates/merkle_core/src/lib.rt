@@ -14,7 +14,7 @@ mod merkleized;
 pub mod mmb;
 pub mod mmr;
 mod overwrites;
-mod pruning;
+mod prune;
 mod record;
 mod refresh;
 mod replay;

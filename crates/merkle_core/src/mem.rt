@@ -23,7 +23,7 @@ ghost use Rattle.merkle_proof.specs.RangePlans.{IsBuildRefusal, IsBuiltProof, li
 
 use crate::batch::{MerkleizedBatch, UnmerkleizedBatch};
 use crate::find::{find_state, refusal};
-pub use crate::pruning::Config;
+pub use crate::prune::Config;
 use crate::record::Record;
 use crate::replay::{lay, lay_all};
 use merkle_base::digest::Digest;
