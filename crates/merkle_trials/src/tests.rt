@@ -11,6 +11,7 @@ mod hashers;
 mod paths;
 mod plans;
 mod proofs;
+mod pruned;
 mod stacks;
 mod structures;
 
@@ -53,6 +54,8 @@ enum Outcome {
     RangeOutOfBounds(u64),
     ElementPruned(u64),
     InvalidProof,
+    InvalidSize(u64),
+    InvalidPinnedNodes,
     Other,
 }
 
@@ -82,6 +85,8 @@ fn refusal<F: Family>(error: &Error<F>) -> Outcome {
         Error::RangeOutOfBounds(location) => Outcome::RangeOutOfBounds(location.as_u64()),
         Error::ElementPruned(position) => Outcome::ElementPruned(position.as_u64()),
         Error::InvalidProof => Outcome::InvalidProof,
+        Error::InvalidSize(size) => Outcome::InvalidSize(*size),
+        Error::InvalidPinnedNodes => Outcome::InvalidPinnedNodes,
         _ => Outcome::Other,
     }
 }
