@@ -1,0 +1,12 @@
+use Rattle.std.proofs.Common.{◌≡◌, ◌+◌, ◌≤◌, ◌++◌, drop, length}
+use Rattle.merkle_base.specs.Places.{peak_positions}
+use Rattle.merkle_core.specs.Held.{paired}
+use Rattle.merkle_core.proofs.prune.pair_pins.Given as goal
+
+abbrev pub invariant-loop-position : goal.invariant-loop-position
+invariant-loop-position g l =
+    (goal.iterator-loop-position g).can_next l.position-iterator
+    × (goal.iterator-loop-position g).is_finite l.position-iterator
+    × (length l.pins.items ≤ length l.digests.items)
+    × (length l.pins.items + length l.position-iterator ≡ length (peak_positions g.F.Family.rule l.fn.boundary))
+    × (l.pins.items ++ paired l.position-iterator (drop (length l.pins.items) l.digests.items) ≡ paired (peak_positions g.F.Family.rule l.fn.boundary) l.digests.items)
