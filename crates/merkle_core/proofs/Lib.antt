@@ -51,3 +51,4 @@ pub mod NewestFirst
 pub mod RootBatch
 pub mod PendingUpdates
 pub mod KeptRecords
+pub mod PinFacts
