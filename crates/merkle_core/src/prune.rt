@@ -160,6 +160,18 @@ impl<F: Family, D: Digest> Mem<F, D> {
     }
 }
 
+// How many peaks so many leaves have.
+fn count_pins<F: Family>(boundary: Location<F>) -> usize
+    requires { boundary ≤ F.MAX_LEAVES }
+    ensures { result ≡ length (peak_positions F.rule boundary) }
+{
+    let mut count = 0;
+    for _ in F::nodes_to_pin(boundary) {
+        count += 1;
+    }
+    count
+}
+
 // The peaks of so many leaves with these digests, or `None` where there are fewer digests or more.
 fn pair_pins<F: Family, D: Digest>(
     boundary: Location<F>,
@@ -168,16 +180,15 @@ fn pair_pins<F: Family, D: Digest>(
     requires { boundary ≤ F.MAX_LEAVES }
     ensures made { IfOk result (λ o. IfSome o (λ v. (v.items ≡ paired (peak_positions F.rule boundary) digests.now.items) × (length digests.now.items ≡ length (peak_positions F.rule boundary)))) }
     ensures none { IfOk result (λ o. IfNone o (length digests.now.items ≢ length (peak_positions F.rule boundary))) }
+    ensures refused { OnErr result (length digests.now.items ≡ length (peak_positions F.rule boundary)) }
 {
+    if digests.len() != count_pins(boundary) {
+        return Ok(None);
+    }
     let mut pins = Vec::new(*digests.allocator());
     for position in F::nodes_to_pin(boundary) {
-        match digests.get(pins.len()) {
-            Some(digest) => pins.push((position, *digest))?,
-            None => return Ok(None),
-        }
-    }
-    if pins.len() < digests.len() {
-        return Ok(None);
+        let digest = digests[pins.len()];
+        pins.push((position, digest))?;
     }
     Ok(Some(pins))
 }

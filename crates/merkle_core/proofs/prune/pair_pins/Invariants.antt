@@ -7,6 +7,5 @@ abbrev pub invariant-loop-position : goal.invariant-loop-position
 invariant-loop-position g l =
     (goal.iterator-loop-position g).can_next l.position-iterator
     × (goal.iterator-loop-position g).is_finite l.position-iterator
-    × (length l.pins.items ≤ length l.digests.items)
-    × (length l.pins.items + length l.position-iterator ≡ length (peak_positions g.F.Family.rule l.fn.boundary))
+    × (length l.pins.items + length l.position-iterator ≡ length l.digests.items)
     × (l.pins.items ++ paired l.position-iterator (drop (length l.pins.items) l.digests.items) ≡ paired (peak_positions g.F.Family.rule l.fn.boundary) l.digests.items)

@@ -1,0 +1,41 @@
+use Rattle.std.proofs.Common.{rules, ◌≡◌, ◌<◌, ◌≤◌, length, arith, ap, sym, ◌∙◌, subst}
+use Rattle.merkle_base.proofs.Nodes.{size_inj}
+use Rattle.merkle_core.specs.Contents.{Agrees}
+use Rattle.merkle_core.specs.Store.{contents}
+use Rattle.merkle_core.proofs.Agreed.{agree_pruned}
+use Rattle.merkle_core.proofs.mem.Mem.prune.Goals as goal
+
+pub returns-then-gt-clause-allowed : goal.returns-then-gt-clause-allowed
+returns-then-gt-clause-allowed g c = λ n within sized below.
+    let i = c.self.inside in
+    let above : i.leaves < c.args.location = search rules in
+    let leaves : i.leaves ≡ n = size_inj g.F.Family.rule i.leaves n (c.self.invariant.counted.sized ∙ ap (λ s. s.size) c.self.view_is ∙ sym sized) in
+    absurd (omega (arith, above, leaves, below))
+
+pub prune_to-requires : goal.prune_to-requires
+prune_to-requires g c =
+    let i = c.self.inside in
+    let upto : c.args.location ≤ i.leaves = search rules in
+    (i.leaves, c.self.invariant.counted.bounded, c.self.invariant.counted.sized ∙ ap (λ s. s.size) c.self.view_is, upto)
+
+pub returns-in_err-prune_to-clause-refused : goal.returns-in_err-prune_to-clause-refused
+returns-in_err-prune_to-clause-refused g c = λ n within sized above.
+    let i = c.self.inside in
+    let upto : c.args.location ≤ i.leaves = search rules in
+    let leaves : i.leaves ≡ n = size_inj g.F.Family.rule i.leaves n (c.self.invariant.counted.sized ∙ ap (λ s. s.size) c.self.view_is ∙ sym sized) in
+    absurd (omega (arith, upto, leaves, above))
+
+pub returns-clause-refused : goal.returns-clause-refused
+returns-clause-refused g c = λ n within sized above.
+    let i = c.self.inside in
+    let upto : c.args.location ≤ i.leaves = search rules in
+    let leaves : i.leaves ≡ n = size_inj g.F.Family.rule i.leaves n (c.self.invariant.counted.sized ∙ ap (λ s. s.size) c.self.view_is ∙ sym sized) in
+    absurd (omega (arith, upto, leaves, above))
+
+pub returns-clause-agrees : goal.returns-clause-agrees
+returns-clause-agrees g c = λ h X agrees.
+    let rule = g.F.Family.rule in
+    let i = c.self.inside in
+    let upto : c.args.location ≤ i.leaves = search rules in
+    let leaves : i.leaves ≡ length X = size_inj rule i.leaves (length X) (c.self.invariant.counted.sized ∙ ap (λ s. s.size) c.self.view_is ∙ agrees.sized) in
+    subst (λ d. Agrees h rule d X) (sym c.in_ok-prune_to.ensures.pruned) (agree_pruned h rule c.args.location X (contents c.args.self.now) (omega (arith, upto, leaves)) agrees)

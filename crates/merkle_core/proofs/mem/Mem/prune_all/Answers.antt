@@ -1,0 +1,19 @@
+use Rattle.std.proofs.Common.{◌≡◌, ◌≤◌, length, arith, ap, sym, ◌∙◌, subst}
+use Rattle.merkle_base.proofs.Nodes.{size_inj}
+use Rattle.merkle_core.specs.Contents.{Agrees, pruned}
+use Rattle.merkle_core.specs.Store.{contents}
+use Rattle.merkle_core.proofs.Agreed.{agree_pruned}
+use Rattle.merkle_core.proofs.mem.Mem.prune_all.Goals as goal
+
+pub returns-clause-pruned : goal.returns-clause-pruned
+returns-clause-pruned g c = λ n within sized.
+    let i = c.prune_to.inside in
+    let leaves : i.leaves ≡ n = size_inj g.F.Family.rule i.leaves n (c.prune_to.invariant.counted.sized ∙ ap (λ s. s.size) c.prune_to.view_is ∙ sym sized) in
+    c.in_ok-prune_to.ensures.pruned ∙ ap (λ m. pruned g.F.Family.rule m (contents c.args.self.now)) leaves
+
+pub returns-clause-agrees : goal.returns-clause-agrees
+returns-clause-agrees g c = λ h X agrees.
+    let rule = g.F.Family.rule in
+    let i = c.prune_to.inside in
+    let leaves : i.leaves ≡ length X = size_inj rule i.leaves (length X) (c.prune_to.invariant.counted.sized ∙ ap (λ s. s.size) c.prune_to.view_is ∙ agrees.sized) in
+    subst (λ d. Agrees h rule d X) (sym c.in_ok-prune_to.ensures.pruned) (agree_pruned h rule i.leaves X (contents c.args.self.now) (omega (arith, leaves)) agrees)
