@@ -5,12 +5,13 @@ use Rattle.std.specs.List.{list_any}
 use Rattle.std.specs.Map.{lookup}
 use Rattle.std.proofs.lemmas.Bool.{cases_lt, lt-ltb, le-ltb, lt-leb, le-leb, eqb-true}
 use Rattle.merkle_base.specs.Forest.{size}
+use Rattle.merkle_base.specs.Heights.{IsLawful}
 use Rattle.merkle_base.specs.Places.{peak_positions}
-use Rattle.merkle_base.proofs.Nodes.{size_le}
+use Rattle.merkle_base.proofs.Nodes.{size_le, size_lt}
 use Rattle.merkle_core.specs.Contents.{Contents, is_kept, pruned}
 use Rattle.merkle_core.specs.Held.{stored_at, held_contents, paired}
 use Rattle.merkle_core.specs.HeldPeaks.{pins_of}
-use Rattle.merkle_core.specs.Whole.{IsKept}
+use Rattle.merkle_core.specs.Whole.{IsCounted, IsKept}
 use Rattle.merkle_core.proofs.Chains.{same_contents}
 use Rattle.merkle_core.proofs.HeldNodes.{peak_before}
 use Rattle.merkle_core.proofs.Items.{by_test, or_right, get_drop}
@@ -22,6 +23,20 @@ lookup_paired p [] ds e = refl
 lookup_paired p (q ∷ ps) [] e = absurd (omega (arith, e))
 lookup_paired p (q ∷ ps) (d ∷ ds) e =
     by_test (λ b. is_some (cond b (Some d) (lookup (nat_eq p) (paired ps ds))) ≡ b || list_any (nat_eq p) ps) (nat_eq p q) (λ _. refl) (λ _. lookup_paired p ps ds (omega (arith, e)))
+
+-- no more leaves than the limit: no more nodes
+pub size_within : (rule : List ℕ → List ℕ) (max_leaves max_nodes n : ℕ) → IsLawful rule max_leaves max_nodes → n ≤ max_leaves → size rule n ≤ max_nodes
+size_within rule max_leaves max_nodes n law l = omega (arith, size_le rule n max_leaves l, law.full)
+
+-- a structure of nodes and of as many digests as the boundary has peaks
+pub kept_parts : {D : Type 0} (rule : List ℕ → List ℕ) (max_leaves boundary start leaves : ℕ) (pins : List (ℕ × D)) (nodes digests : List D) → start ≡ size rule boundary → IsCounted rule max_leaves leaves (start + length nodes)
+    → pins ≡ paired (peak_positions rule boundary) digests → length digests ≡ length (peak_positions rule boundary) → IsKept rule max_leaves boundary start leaves pins nodes
+kept_parts rule max_leaves boundary start leaves pins nodes digests starts counted made many = record {
+  starts = starts;
+  within = elim (cases_lt leaves boundary) [ inl h ↦ absurd (omega (arith, size_lt rule leaves boundary h, counted.sized, starts)) | inr h ↦ h ];
+  counted = counted;
+  pinned = λ p. ap (λ es. is_some (lookup (nat_eq p) es)) made ∙ lookup_paired p (peak_positions rule boundary) digests many;
+}
 
 none_either : {D : Type 0} (b : Bool) (o : Option D) → o ≡ None → cond b o None ≡ o
 none_either true o e = refl
