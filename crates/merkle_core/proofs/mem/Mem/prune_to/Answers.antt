@@ -1,8 +1,7 @@
-use Rattle.std.proofs.Common.{rules, ◌≡◌, ◌-◌, ◌+◌, ◌<◌, ◌≤◌, length, drop, arith, ap, sym, ◌∙◌}
+use Rattle.std.proofs.Common.{rules, ◌≡◌, ◌-◌, ◌<◌, drop, arith, ap, sym, ◌∙◌}
 use Rattle.merkle_base.specs.Places.{peak_positions}
 use Rattle.merkle_base.proofs.Nodes.{size_inj}
 use Rattle.merkle_core.specs.Contents.{pruned}
-use Rattle.merkle_core.specs.Held.{held_contents}
 use Rattle.merkle_core.specs.HeldPeaks.{pins_of}
 use Rattle.merkle_core.specs.Store.{contents}
 use Rattle.merkle_core.proofs.HeldNodes.{contents_reads}
