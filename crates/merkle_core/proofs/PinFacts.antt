@@ -80,7 +80,7 @@ module _ {D : Type 0} (rule : List ℕ → List ℕ) (max_leaves boundary start 
   pruned_within location start' within starts = omega (arith, starts, was.counted.sized, size_le rule location leaves within)
 
   module _ (location start' : ℕ) (pins' : List (ℕ × D)) (nodes' : List D) (later : boundary < location) (within : location ≤ leaves) (starts : start' ≡ size rule location)
-    (made : pins' ≡ pins_of (held_contents boundary pins start nodes) (peak_positions rule location)) (rest : nodes' ≡ drop (start' - start) nodes) where
+      (made : pins' ≡ pins_of (held_contents boundary pins start nodes) (peak_positions rule location)) (rest : nodes' ≡ drop (start' - start) nodes) where
     counted : start' + length nodes' ≡ start + length nodes
     counted = omega (arith, ap length rest, length-drop (start' - start) nodes, pruned_from location start' later starts, pruned_within location start' within starts)
 

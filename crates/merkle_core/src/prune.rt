@@ -160,18 +160,6 @@ impl<F: Family, D: Digest> Mem<F, D> {
     }
 }
 
-// How many peaks so many leaves have.
-fn count_pins<F: Family>(boundary: Location<F>) -> usize
-    requires { boundary ≤ F.MAX_LEAVES }
-    ensures { result ≡ length (peak_positions F.rule boundary) }
-{
-    let mut count = 0;
-    for _ in F::nodes_to_pin(boundary) {
-        count += 1;
-    }
-    count
-}
-
 // The peaks of so many leaves with these digests, or `None` where there are fewer digests or more.
 fn pair_pins<F: Family, D: Digest>(
     boundary: Location<F>,
@@ -182,7 +170,7 @@ fn pair_pins<F: Family, D: Digest>(
     ensures none { IfOk result (λ o. IfNone o (length digests.now.items ≢ length (peak_positions F.rule boundary))) }
     ensures refused { OnErr result (length digests.now.items ≡ length (peak_positions F.rule boundary)) }
 {
-    if digests.len() != count_pins(boundary) {
+    if digests.len() != F::nodes_to_pin(boundary).count() {
         return Ok(None);
     }
     let mut pins = Vec::new(*digests.allocator());
