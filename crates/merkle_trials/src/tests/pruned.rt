@@ -1,8 +1,8 @@
 //! Pruned structures: what goes, and what stays as it was.
 
 use super::{
-    Outcome, added, assert_applied, assert_roots, batch_of, byte, digest, granted, merkleized, seen,
-    seen_digest, structure_of,
+    Outcome, added, assert_applied, assert_roots, batch_of, byte, digest, granted, merkleized,
+    seen, seen_digest, structure_of,
 };
 use merkle_core::digest::{Digest, Xor8, Xor8Digest};
 use merkle_core::error::Error;
@@ -36,11 +36,7 @@ fn assert_pruned<F: Family>(
 }
 
 /// Asserts what is held at the first positions.
-fn assert_held<F: Family>(
-    rt: &impl Abort,
-    structure: &Mem<F, Xor8Digest>,
-    nodes: &[Option<u8>],
-) {
+fn assert_held<F: Family>(rt: &impl Abort, structure: &Mem<F, Xor8Digest>, nodes: &[Option<u8>]) {
     for (position, node) in nodes.iter().enumerate() {
         let held = structure.get_node(Position::from(position));
         assert_eq!(rt; held.as_ref().map(byte), *node, "node {position}");
@@ -58,7 +54,17 @@ fn pruned_to_a_location(rt: HostRuntime) {
     assert_held(
         &rt,
         &structure,
-        &[None, None, None, None, None, None, Some(0x03), Some(0x02), None],
+        &[
+            None,
+            None,
+            None,
+            None,
+            None,
+            None,
+            Some(0x03),
+            Some(0x02),
+            None,
+        ],
     );
     assert_roots(&rt, &structure, &hasher, &[Outcome::Digest(0x04)]);
     for (location, wanted) in [
@@ -87,7 +93,10 @@ fn pruned_to_its_peaks(rt: HostRuntime) {
     assert_applied(&rt, &mut structure, &batch, Outcome::Done);
     assert_eq!(rt; structure.size().as_u64(), 10);
     // the new leaf 0e, and 09 xor 02 xor 0e above it
-    assert_eq!(rt; structure.get_node(Position::new(9)), Some(digest(&rt, 0x05)));
+    assert_eq!(rt;
+        structure.get_node(Position::new(9)),
+        Some(digest(&rt, 0x05))
+    );
     assert_roots(&rt, &structure, &hasher, &[Outcome::Digest(0x00)]);
 }
 
@@ -105,7 +114,11 @@ fn pruned_before_and_after_an_update(rt: HostRuntime) {
         }
         assert_applied(&rt, &mut structure, &batch, Outcome::Done);
         assert_pruned(&rt, &mut structure, 4, Outcome::Done, (4, 5));
-        assert_held(&rt, &structure, &[None, None, None, None, None, None, Some(0x13)]);
+        assert_held(
+            &rt,
+            &structure,
+            &[None, None, None, None, None, None, Some(0x13)],
+        );
         assert_roots(&rt, &structure, &hasher, &[Outcome::Digest(0x14)]);
     }
 }
@@ -187,11 +200,24 @@ fn structure_of_one_pin(rt: HostRuntime) {
     let most = Location::<mmr::Family>::new(1 << 62);
     let mut structure = granted!(&rt, Mem::from_components(Vec::new(rt.alloc()), most, pins));
     // 2^62 leaves are the byte 40 and seven of 00
-    let roots = [Outcome::Digest(0x40), Outcome::Digest(0x41), super::too_many(2, 1)];
+    let roots = [
+        Outcome::Digest(0x40),
+        Outcome::Digest(0x41),
+        super::too_many(2, 1),
+    ];
     assert_roots(&rt, &structure, &hasher, &roots);
     let batch = added(&rt, &structure, &hasher, &[]);
-    assert_eq!(rt; seen(&batch.add(&hasher, &[1])), Outcome::LocationOverflow(1 << 62));
-    assert_pruned(&rt, &mut structure, 1 << 62, Outcome::Done, (1 << 62, 1 << 62));
+    assert_eq!(rt;
+        seen(&batch.add(&hasher, &[1])),
+        Outcome::LocationOverflow(1 << 62)
+    );
+    assert_pruned(
+        &rt,
+        &mut structure,
+        1 << 62,
+        Outcome::Done,
+        (1 << 62, 1 << 62),
+    );
     let batch = added(&rt, &structure, &hasher, &[]);
     let updated = batch.update_leaf(&hasher, Location::new(0), &[1]);
     assert_eq!(rt; seen(&updated), Outcome::ElementPruned(0));
@@ -211,7 +237,10 @@ fn fullest_belt(rt: HostRuntime) {
     };
     let structure = granted!(&rt, Mem::init(config));
     assert_eq!(rt; seen(&structure.root(&hasher, 62)), Outcome::Done);
-    assert_eq!(rt; seen_digest(&structure.root(&hasher, 63)), super::too_many(63, 62));
+    assert_eq!(rt;
+        seen_digest(&structure.root(&hasher, 63)),
+        super::too_many(63, 62)
+    );
 }
 
 #[test]
