@@ -43,6 +43,18 @@ fn assert_held<F: Family>(rt: &impl Abort, structure: &Mem<F, Xor8Digest>, nodes
     }
 }
 
+/// Asserts how the proof of a leaf ends.
+fn assert_proof<F: Family>(
+    rt: &impl Abort,
+    structure: &Mem<F, Xor8Digest>,
+    location: u64,
+    wanted: Outcome,
+) {
+    let hasher = StandardHasher::<Xor8>::new(Bagging::ForwardFold);
+    let proof = structure.proof(&hasher, Location::new(location), 0);
+    assert_eq!(rt; seen(&proof), wanted);
+}
+
 #[test]
 fn pruned_to_a_location(rt: HostRuntime) {
     let hasher = hasher();
@@ -67,14 +79,9 @@ fn pruned_to_a_location(rt: HostRuntime) {
         ],
     );
     assert_roots(&rt, &structure, &hasher, &[Outcome::Digest(0x04)]);
-    for (location, wanted) in [
-        (3, Outcome::ElementPruned(2)),
-        (4, Outcome::Done),
-        (5, Outcome::LeafOutOfBounds(5)),
-    ] {
-        let proof = structure.proof(&hasher, Location::new(location), 0);
-        assert_eq!(rt; seen(&proof), wanted);
-    }
+    assert_proof(&rt, &structure, 3, Outcome::ElementPruned(2));
+    assert_proof(&rt, &structure, 4, Outcome::Done);
+    assert_proof(&rt, &structure, 5, Outcome::LeafOutOfBounds(5));
 }
 
 #[test]
