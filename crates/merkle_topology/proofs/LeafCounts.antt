@@ -1,11 +1,13 @@
 -- The one leaf count at a position, and the heights that stand above it.
-use Rattle.std.proofs.Common.{◌≡◌, ℕ, suc, ◌+◌, ◌-◌, ◌<◌, ◌≤◌, ◌⊎◌, List, ◌∷◌, length, slice_index, arith, refl, sym, ap, inl, inr, ◌∙◌, subst, eqb, true}
+use Rattle.std.proofs.Common.{◌≡◌, ℕ, suc, ◌+◌, ◌-◌, ◌/◌, min, ◌<◌, ◌≤◌, ◌⊎◌, List, ◌∷◌, length, slice_index, arith, refl, sym, ap, inl, inr, ◌∙◌, subst, eqb, true}
+use Rattle.std.proofs.Math.Nat.{min-eq_left, min-eq_right}
 use Rattle.std.proofs.lemmas.Bool.{eqb-true, eq-eqb}
 use Rattle.std.proofs.lemmas.List.FromFn.{get_or-range_with_len, length-range_with_len}
 use Rattle.merkle_base.specs.Forest.{size}
-use Rattle.merkle_base.specs.Heights.{parent_heights}
+use Rattle.merkle_base.specs.Heights.{parent_heights, IsLawful}
 use Rattle.merkle_base.specs.Places.{IsSize, IsNearestSize, IsHeightAt}
-use Rattle.merkle_base.proofs.Nodes.{size_le, size_lt}
+use Rattle.merkle_base.proofs.Births.{size_peaks}
+use Rattle.merkle_base.proofs.Nodes.{size_step, size_le, size_lt}
 use Rattle.merkle_base.proofs.Lookup.{size_suc, height_at}
 use Rattle.merkle_base.proofs.Limits.{le_or_lt, log_below}
 use Rattle.merkle_forests.specs.Mmr.{carries}
@@ -35,6 +37,21 @@ leaf_only rule low n p a b c d = elim (three low n) [
 -- a leaf count that has no more nodes than the greatest one is within the limit
 pub leaves_within : (rule : List ℕ → List ℕ) (max_leaves n : ℕ) → size rule n ≤ size rule max_leaves → n ≤ max_leaves
 leaves_within rule max_leaves n l = elim (le_or_lt max_leaves n) [ inl a ↦ a | inr b ↦ absurd (omega (arith, size_lt rule max_leaves n b)) ]
+
+-- half as many leaves as nodes have no more nodes
+pub size_of_half : (rule : List ℕ → List ℕ) (nodes : ℕ) → size rule (nodes / 2) ≤ nodes
+size_of_half rule nodes = omega (arith, size_peaks rule (nodes / 2))
+
+-- with 32 leaves more, or with the most leaves, one more leaf has more nodes, since there are at most 64 peaks
+pub size_past_half : (rule : List ℕ → List ℕ) (max_leaves max_nodes : ℕ) → IsLawful rule max_leaves max_nodes → (nodes : ℕ) → nodes ≤ max_nodes → nodes < size rule (min (nodes / 2 + 32) max_leaves + 1)
+size_past_half rule max_leaves max_nodes law nodes l = elim (le_or_lt max_leaves (nodes / 2 + 33)) [
+  | inl a ↦
+      let within : min (nodes / 2 + 32) max_leaves + 1 ≡ nodes / 2 + 33 = omega (arith, min-eq_left {n = nodes / 2 + 32} {m = max_leaves} (omega (arith, a))) in
+      rw within (omega (arith, size_peaks rule (nodes / 2 + 33), law.few (nodes / 2 + 33) a))
+  | inr b ↦
+      let last : min (nodes / 2 + 32) max_leaves + 1 ≡ suc max_leaves = omega (arith, min-eq_right {n = max_leaves} {m = nodes / 2 + 32} (omega (arith, b))) in
+      rw last (omega (arith, law.full, size_step rule max_leaves))
+]
 
 -- the test that a leaf count found by a search has that many nodes
 pub size_tested : (rule : List ℕ → List ℕ) (max_leaves low count nodes p : ℕ) → nodes ≡ p → low ≤ max_leaves → count ≡ size rule low → size rule low ≤ nodes → nodes < size rule (low + 1) →

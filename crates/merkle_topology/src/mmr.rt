@@ -212,8 +212,9 @@ fn leaf_count_within(nodes: u64) -> u64
     ensures within { size carries result ≤ nodes }
     ensures greatest { nodes < size carries (result + 1) }
 {
-    let mut low = 0;
-    let mut high = MAX_LEAVES;
+    // n leaves have at most 2 * n nodes, and at least 2 * n - 64, since there are at most 64 peaks
+    let mut low = nodes / 2;
+    let mut high = (low + 32).min(MAX_LEAVES);
     while low < high {
         let middle = high - (high - low) / 2;
         if node_count(middle) <= nodes {

@@ -1,14 +1,15 @@
-use Rattle.std.proofs.Common.{arith}
-use Rattle.merkle_base.proofs.Nodes.{size_step}
-use Rattle.merkle_base.proofs.Lookup.{size_zero}
+use Rattle.std.proofs.Common.{◌≡◌, ◌+◌, ◌/◌, min, arith, rules}
 use Rattle.merkle_forests.specs.Mmr.{carries}
 use Rattle.merkle_forests.proofs.RangeLawful.{mmr_lawful}
+use Rattle.merkle_topology.proofs.LeafCounts.{size_of_half, size_past_half}
 use Rattle.merkle_topology.proofs.mmr.leaf_count_within.Goals as goal
 
 pub loop-low-init : goal.loop-low-init
-loop-low-init c = record {
-  ordered = omega arith;
-  limit = omega arith;
-  within = omega (arith, size_zero carries);
-  greatest = omega (arith, mmr_lawful.full, size_step carries 4611686018427387904);
-}
+loop-low-init c =
+    let high : c.min-high.result ≡ min (c.args.nodes / 2 + 32) 4611686018427387904 = search rules in
+    record {
+      ordered = omega arith;
+      limit = omega arith;
+      within = size_of_half carries c.args.nodes;
+      greatest = rw high (size_past_half carries _ _ mmr_lawful c.args.nodes (omega arith));
+    }
