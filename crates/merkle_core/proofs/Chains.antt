@@ -14,6 +14,7 @@ use Rattle.merkle_core.specs.Replay.{over}
 use Rattle.merkle_core.specs.Stands.{edited, is_touched, IsStep, StandsOn, last_list}
 use Rattle.merkle_core.proofs.Steps.{digests_length}
 use Rattle.merkle_core.proofs.Edits.{same_gets, old_entry, new_entry}
+use Rattle.merkle_core.proofs.OptionFacts.{over_none}
 
 pub same_contents : {D : Type 0} (a b : Contents D) → a.boundary ≡ b.boundary → a.size ≡ b.size → ((p : ℕ) → a.node p ≡ b.node p) → a ≡ b
 same_contents a b e f g = λ i. record { boundary = e i; size = f i; node = λ p. g p i }
@@ -29,10 +30,6 @@ drop_all (suc n) [] l = refl
 drop_all (suc n) (x ∷ xs) l = drop_all n xs (omega arith)
 
 module _ {D : Type 0} (h : Hashing D) (rule : List ℕ → List ℕ) where
-  over_none : (u : Option D) → over None u ≡ u
-  over_none None = refl
-  over_none (Some d) = refl
-
   edited_none : (r : Recorded D) (X : List D) → r.before ≡ size rule (length X) → r.appended ≡ [] → ((p : ℕ) → get r.overwritten p ≡ None) → edited rule r X ≡ X
   edited_none r X b a o = same_gets (edited rule r X) X (λ k. elim (cases_lt k (length X)) [
     | inl l ↦ old_entry rule r X k l ∙ ap (λ m. over m (slice_get X k)) (o (size rule k)) ∙ over_none (slice_get X k)

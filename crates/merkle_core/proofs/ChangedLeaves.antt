@@ -19,9 +19,10 @@ use Rattle.merkle_base.proofs.Paths.{leaf_under, peak_holding}
 use Rattle.merkle_base.proofs.PeakLists.{Spans, covers_spans, all_reverse}
 use Rattle.merkle_core.specs.Refreshed.{touched_leaves, HasLeavesOf}
 use Rattle.merkle_core.proofs.Items.{get_reverse}
-use Rattle.merkle_core.proofs.RefreshedDigests.{none_or_some, or_left_some, or_right_some, cond_yes, cond_no}
+use Rattle.merkle_core.proofs.RefreshedDigests.{or_left_some, or_right_some, cond_yes, cond_no}
 use Rattle.merkle_core.proofs.RefreshedPeaks.{after_start}
 use Rattle.merkle_core.proofs.Touched.{leaf_touched, leaf_untouched, Between, touched_between, all_imply, all_joined}
+use Rattle.merkle_core.proofs.OptionFacts.{none_or_some}
 
 abbrev keys : {D : Type 0} → List (ℕ × D) → List ℕ
 keys es = map (λ e. e.0) es

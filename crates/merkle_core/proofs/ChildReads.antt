@@ -1,5 +1,5 @@
 -- The children of new nodes: those that are read, and those that are not there.
-use Rattle.std.proofs.Common.{◌≡◌, ℕ, suc, ◌<◌, ◌≤◌, List, Option, Some, true, slice_get, arith, refl, sym, ap, inl, inr, ◌∙◌, subst}
+use Rattle.std.proofs.Common.{◌≡◌, ℕ, suc, ◌<◌, ◌≤◌, ◌⊎◌, List, Option, Some, true, slice_get, arith, refl, sym, ap, inl, inr, ◌∙◌, subst}
 use Rattle.std.specs.Prelude.{is_some}
 use Rattle.std.proofs.lemmas.Bool.{cases_lt}
 use Rattle.merkle_base.specs.Tree.{Tree, leaf, join, position, height as tree_height}
@@ -46,25 +46,16 @@ module _ (rule : List ℕ → List ℕ) (max_leaves : ℕ) where
   pub lacks_more : {F D : Type 0} (a b c d s : ℕ) (read : ℕ → Option D) (e : Gap F) → a ≤ b → c ≤ d → LacksChild rule max_leaves b c s read e → LacksChild rule max_leaves a d s read e
   lacks_more a b c d s read e l m k = (k.0, (k.1.0, k.1.1, k.1.2, k.1.3, k.1.4, k.1.5, omega (arith, k.1.6, l), omega (arith, k.1.7, m), k.1.8), k.2, k.3)
 
-  -- one that is not there, of one node
-  pub lacks_left : {F D : Type 0} (p height l r s : ℕ) (read : ℕ → Option D) (e : Gap F) → HasInner rule max_leaves p height → AreChildren rule p l r → (l < s) × IsGapAt read l e → LacksChild rule max_leaves p (suc p) s read e
-  lacks_left {F} {D} p height l r s read e inner children gap = by_tree inner.1 inner.3 inner.4 inner.5
+  -- a child of one node that is not there
+  pub lacks_child : {F D : Type 0} (p height l r q s : ℕ) (read : ℕ → Option D) (e : Gap F) → HasInner rule max_leaves p height → AreChildren rule p l r → (q ≡ l) ⊎ (q ≡ r) → (q < s) × IsGapAt read q e → LacksChild rule max_leaves p (suc p) s read e
+  lacks_child {F} {D} p height l r q s read e inner children which gap = by_tree inner.1 inner.3 inner.4 inner.5
     where
       by_tree : (t : Tree) → slice_get (forest rule inner.0).nodes p ≡ Some t → tree_height t ≡ height → 0 < height → LacksChild rule max_leaves p (suc p) s read e
-      by_tree (leaf q k) g d some = absurd (omega (arith, d, some))
-      by_tree (join q a b) g d some =
-          let same : q ≡ p = (forest_grown rule inner.0).placed p (join q a b) g in
+      by_tree (leaf o k) g d some = absurd (omega (arith, d, some))
+      by_tree (join o a b) g d some =
+          let same : o ≡ p = (forest_grown rule inner.0).placed p (join o a b) g in
           let there : slice_get (forest rule inner.0).nodes p ≡ Some (join p a b) = g ∙ ap (λ (y : ℕ). Some (join y a b)) same in
           let k = children inner.0 a b there in
-          (a, (inner.0, p, a, b, inner.2, there, omega arith, omega arith, inl refl), omega (arith, gap.0, k.0), subst (λ (q : ℕ). IsGapAt read q e) k.0 gap.1)
-
-  pub lacks_right : {F D : Type 0} (p height l r s : ℕ) (read : ℕ → Option D) (e : Gap F) → HasInner rule max_leaves p height → AreChildren rule p l r → (r < s) × IsGapAt read r e → LacksChild rule max_leaves p (suc p) s read e
-  lacks_right {F} {D} p height l r s read e inner children gap = by_tree inner.1 inner.3 inner.4 inner.5
-    where
-      by_tree : (t : Tree) → slice_get (forest rule inner.0).nodes p ≡ Some t → tree_height t ≡ height → 0 < height → LacksChild rule max_leaves p (suc p) s read e
-      by_tree (leaf q k) g d some = absurd (omega (arith, d, some))
-      by_tree (join q a b) g d some =
-          let same : q ≡ p = (forest_grown rule inner.0).placed p (join q a b) g in
-          let there : slice_get (forest rule inner.0).nodes p ≡ Some (join p a b) = g ∙ ap (λ (y : ℕ). Some (join y a b)) same in
-          let k = children inner.0 a b there in
-          (b, (inner.0, p, a, b, inner.2, there, omega arith, omega arith, inr refl), omega (arith, gap.0, k.1), subst (λ (q : ℕ). IsGapAt read q e) k.1 gap.1)
+          let of_child : (u : Tree) → (u ≡ a) ⊎ (u ≡ b) → q ≡ position u → LacksChild rule max_leaves p (suc p) s read e
+          = λ u c z. (u, (inner.0, p, a, b, inner.2, there, omega arith, omega arith, c), omega (arith, gap.0, z), subst (λ (y : ℕ). IsGapAt read y e) z gap.1) in
+          elim which [ inl i ↦ of_child a (inl refl) (i ∙ k.0) | inr i ↦ of_child b (inr refl) (i ∙ k.1) ]

@@ -1,5 +1,5 @@
 -- Reading the children of a node that is computed: what the batch has so far, then the kept records, then the base.
-use Rattle.std.proofs.Common.{◌≡◌, ℕ, ◌≤◌, ◌⊎◌, List, ◌∷◌, length, Option, Some, None, true, slice_get, refl, sym, ap, inl, inr, ◌∙◌}
+use Rattle.std.proofs.Common.{◌≡◌, ℕ, ◌≤◌, ◌⊎◌, List, ◌∷◌, length, Option, Some, None, true, slice_get, sym, ap, inl, inr, ◌∙◌}
 use Rattle.std.specs.Prelude.{is_some}
 use Rattle.std.specs.Option.{option_or}
 use Rattle.std.specs.FinMap.{get}
@@ -15,10 +15,7 @@ use Rattle.merkle_core.specs.Read.{read_over}
 use Rattle.merkle_core.specs.Needed.{IsUsed, IsNeeded}
 use Rattle.merkle_core.proofs.Shown.{sources}
 use Rattle.merkle_core.proofs.Complete.{needed_right}
-
-none_or_some : {D : Type 0} (o : Option D) → (o ≡ None) ⊎ ((d : D) × (o ≡ Some d))
-none_or_some None = inl refl
-none_or_some (Some d) = inr (d, refl)
+use Rattle.merkle_core.proofs.OptionFacts.{none_or_some}
 
 -- a used node that the batch has nothing for is needed, where the batch has each new and each touched one
 pub left_needed : {D : Type 0} (rule : List ℕ → List ℕ) (m : ℕ → Option D) (n e : ℕ) (own : ℕ → Option D) (t : Tree) → IsUsed rule m n e t → ((size rule n ≤ position t) ⊎ (is_touched m t ≡ true) → is_some (own (position t)) ≡ true) → own (position t) ≡ None → IsNeeded rule m n e t

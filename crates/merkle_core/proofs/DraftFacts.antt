@@ -3,14 +3,10 @@ use Rattle.std.proofs.Common.{◌≡◌}
 use Rattle.std.specs.FinMap.{get}
 use Rattle.std.specs.Option.{option_or}
 use Rattle.merkle_core.specs.Contents.{Contents}
-use Rattle.merkle_core.specs.DraftReads.{below, Drafted, old_node, OnlyAppends, OnlyOverwrites}
+use Rattle.merkle_core.specs.DraftReads.{Drafted, old_node, OnlyAppends}
 use Rattle.merkle_core.specs.Read.{read_over}
 
 module _ {D : Type 0} where
   -- what is read at old positions stays when nodes are appended
   pub same_old_node : (old new : Drafted D) (base : Contents D) → OnlyAppends old new → old_node new base ≡ old_node old base
   same_old_node old new base only = (λ i p. option_or (get (only.2 i) p) (read_over (only.1 i) base p))
-
-  -- and what lies below when nodes are overwritten
-  pub same_below : (old new : Drafted D) (base : Contents D) → OnlyOverwrites old new → below new base ≡ below old base
-  same_below old new base only = (λ i p. read_over (only.1 i) base p)

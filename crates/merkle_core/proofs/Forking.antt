@@ -12,7 +12,7 @@ use Rattle.merkle_core.specs.Pending.{Pending, is_changed, kept, kept_lists, wit
 use Rattle.merkle_core.specs.Recorded.{Recorded, Chain, records, after}
 use Rattle.merkle_core.specs.Replay.{oldest}
 use Rattle.merkle_core.specs.Stands.{IsStep, StandsOn, last_list}
-use Rattle.merkle_core.proofs.Items.{by_test}
+use Rattle.merkle_core.proofs.Items.{by_test, no_items}
 use Rattle.merkle_core.proofs.Steps.{step_size}
 use Rattle.merkle_core.proofs.Complete.{stands_push, no_change}
 use Rattle.merkle_core.proofs.Chains.{splits}
@@ -21,10 +21,6 @@ both_tests : (a b : Bool) → not (a && b) ≡ false → (a ≡ true) × (b ≡ 
 both_tests true true e = (refl, refl)
 both_tests true false e = absurd (true≢false e)
 both_tests false b e = absurd (true≢false e)
-
-no_items : {X : Type 0} (xs : List X) → length xs ≡ 0 → xs ≡ []
-no_items [] e = refl
-no_items (x ∷ xs) e = absurd (omega (arith, e))
 
 -- the list added last is the last
 pub last_added : {D : Type 0} (ls : List (List D)) (Y : List D) → last_list (ls ++ Y ∷ []) ≡ Y

@@ -1,6 +1,6 @@
 -- What the proof of leaves at or after the boundary reads is held.
-use Rattle.std.proofs.Common.{inl, inr, ◌≡◌, ◌≢◌, ◌<◌, ℕ, suc, ◌+◌, ◌≤◌, List, [], ◌∷◌, ◌++◌, length, map, flat_map, Bool, true, false, cond, Some, None, slice_get, refl, ap, sym, ◌∙◌, subst, arith, leb, ltb}
-use Rattle.std.specs.Prelude.{◌||◌, ◌&&◌}
+use Rattle.std.proofs.Common.{inl, inr, ◌≡◌, ◌≢◌, ◌<◌, ℕ, suc, ◌+◌, ◌≤◌, List, [], ◌∷◌, ◌++◌, length, map, flat_map, Bool, true, cond, Some, None, slice_get, refl, ap, sym, ◌∙◌, subst, arith, leb, ltb}
+use Rattle.std.specs.Prelude.{◌||◌}
 use Rattle.std.specs.List.{AllByRecursion}
 use Rattle.std.proofs.lemmas.Bool.{leb-true}
 use Rattle.merkle_base.specs.Tree.{Tree, leaf, join, position, IsUnder, IsBuilt}
@@ -23,7 +23,7 @@ use Rattle.merkle_proof.proofs.BuiltDigests.{reads_at}
 use Rattle.merkle_proof.proofs.Extraction.{all_filter}
 use Rattle.merkle_core.specs.Contents.{Contents, Agrees, is_kept}
 use Rattle.merkle_core.proofs.HonestReads.{is_memory, position_of_node}
-use Rattle.merkle_core.proofs.Items.{by_test, or_cases, get_reversed}
+use Rattle.merkle_core.proofs.Items.{and_left, by_test, or_cases, get_reversed}
 use Rattle.merkle_core.proofs.Kept.{get_map}
 use Rattle.merkle_core.proofs.Needs.{sibling_kept, peaks_kept}
 
@@ -37,10 +37,6 @@ met_leaf c (join p l r) e = elim (or_cases (tree_meets c l) (tree_meets c r) e) 
   | inl x ↦ (let w = met_leaf c l x in (w.0, w.1, inr (inl w.2), w.3))
   | inr x ↦ (let w = met_leaf c r x in (w.0, w.1, inr (inr w.2), w.3))
 ]
-
-and_left : (a b : Bool) → a && b ≡ true → a ≡ true
-and_left true b e = refl
-and_left false b e = absurd (cc)
 
 module _ (rule : List ℕ → List ℕ) (boundary n : ℕ) (within : boundary ≤ n) where
   abbrev IsKeptTree : Tree → Type 0

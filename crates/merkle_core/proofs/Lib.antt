@@ -1,4 +1,5 @@
 pub mod Items
+pub mod OptionFacts
 pub mod Kept
 pub mod Steps
 pub mod Agreed

@@ -20,7 +20,7 @@ use Rattle.merkle_core.specs.Needed.{IsChanged}
 use Rattle.merkle_core.specs.Pending.{IsPending, Pending, kept, kept_lists, leaf_total, pending_list}
 use Rattle.merkle_core.specs.Read.{read_over}
 use Rattle.merkle_core.specs.Linked.{IsLinked, RunsFrom}
-use Rattle.merkle_core.specs.Recorded.{after, records}
+use Rattle.merkle_core.specs.Recorded.{Chain, after, records}
 use Rattle.merkle_core.specs.Refreshed.{all_computed_at, AreRefreshed, LacksForOne}
 use Rattle.merkle_core.specs.Replay.{oldest, over}
 use Rattle.merkle_core.specs.Stands.{last_list, replaced, StandsOn}
@@ -36,14 +36,11 @@ use Rattle.merkle_core.proofs.ListTruths.{appended_whole, peaks_whole, truth_is,
 use Rattle.merkle_core.proofs.Merkleizing.{list_length, list_leaves, list_reads, list_stands, list_within}
 use Rattle.merkle_core.proofs.Missings.{append_gap, needed_read, NeededGap, peak_gap, refresh_gap}
 use Rattle.merkle_core.proofs.NewDigests.{new_digest, new_digest_some}
+use Rattle.merkle_core.proofs.OptionFacts.{over_none}
 
 -- it names a node that keeps the batch from being merkleized
 abbrev pub NamesMissing : {F D : Type 0} → (List ℕ → List ℕ) → Pending D → Contents D → Gap F → Type 0
 NamesMissing rule p base g = (t : Tree) × (g ≡ Missing (position t)) × IsMissing rule p base t
-
-over_none : {D : Type 0} (o : Option D) → over None o ≡ o
-over_none None = refl
-over_none (Some d) = refl
 
 -- a list without changes is as it was
 pub unchanged_list : {D : Type 0} (rule : List ℕ → List ℕ) (p : Pending D) (X : List D) → p.added ≡ [] → ((q : ℕ) → get p.overwritten q ≡ None) → pending_list rule p X ≡ X
@@ -169,13 +166,14 @@ pub no_entry : {D : Type 0} (es : List (ℕ × D)) → length es ≡ 0 → (q : 
 no_entry [] l q = get-from_entries nat_cmp_total [] q
 no_entry (e ∷ es) l q = absurd (omega (arith, l))
 
+-- the value of a batch with these fields
+abbrev pub of_fields : {D : Type 0} → Chain D → ℕ → List D → List (ℕ × D) → ℕ → Pending D
+of_fields parent leaves_before added updates forgotten =
+    record { parent = parent; leaves_before = leaves_before; added = added; overwritten = from_entries updates; forgotten = forgotten }
+
 pub is_positive : (n : ℕ) → n == 0 ≡ false → 0 < n
 is_positive zero e = absurd (cc)
 is_positive (suc n) e = omega arith
-
-pub no_items : {A : Type 0} (xs : List A) → length xs ≡ 0 → xs ≡ []
-no_items [] e = refl
-no_items (x ∷ xs) e = absurd (omega arith)
 
 module _ {D : Type 0} (rule : List ℕ → List ℕ) (max_leaves : ℕ) (p : Pending D) where
   pub changed_by_leaves : 0 < length p.added → IsChanged rule (get p.overwritten) p.leaves_before (leaf_total p)

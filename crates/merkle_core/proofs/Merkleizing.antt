@@ -32,18 +32,11 @@ use Rattle.merkle_core.proofs.OldNodes.{old_digest, old_reads}
 use Rattle.merkle_core.proofs.Edits.{replaced_count}
 use Rattle.merkle_core.proofs.Steps.{node_digest_at, node_there}
 use Rattle.merkle_core.proofs.Through.{read_right}
-
-over_none : {D : Type 0} (o : Option D) → over None o ≡ o
-over_none None = refl
-over_none (Some d) = refl
+use Rattle.merkle_core.proofs.OptionFacts.{none_of, over_none}
 
 over_new : {D : Type 0} (d : D) (o : Option D) (x : D) → o ≡ Some x → over (Some d) o ≡ Some d
 over_new d None x e = absurd (cc)
 over_new d (Some y) x e = refl
-
-none_of_test : {D : Type 0} (o : Option D) → is_some o ≡ false → o ≡ None
-none_of_test None e = refl
-none_of_test (Some x) e = absurd (cc)
 
 module _ {D : Type 0} (h : Hashing D) (rule : List ℕ → List ℕ) (m : ℕ → Option D) (X added : List D) where
   -- a node over no changed leaf keeps its digest
@@ -52,7 +45,7 @@ module _ {D : Type 0} (h : Hashing D) (rule : List ℕ → List ℕ) (m : ℕ �
       let a = leaf_at rule (length X) q q k b in
       let Y : List D = changed h rule m X added in
       let x = node_there X k a.1 in
-      let here : slice_get Y k ≡ Some x.0 = changed_old h rule m X added k a.1 ∙ ap (λ o. over o (slice_get X k)) (ap m (sym a.0) ∙ none_of_test (m q) u) ∙ over_none (slice_get X k) ∙ x.1 in
+      let here : slice_get Y k ≡ Some x.0 = changed_old h rule m X added k a.1 ∙ ap (λ o. over o (slice_get X k)) (ap m (sym a.0) ∙ none_of (m q) u) ∙ over_none (slice_get X k) ∙ x.1 in
       get_or_from_slice_get Y k x.0 h.empty here ∙ sym (get_or_from_slice_get X k x.0 h.empty x.1)
   unchanged_digest (join q l r) b u =
       let n = or_none (is_touched m l) (is_touched m r) u in

@@ -2,7 +2,6 @@
 use Rattle.std.proofs.Common.{◌≡◌, ℕ, ◌≤◌, List, Option, Some, None, true, cond, slice_get, arith, refl, sym, ap, ◌∙◌}
 use Rattle.std.specs.Prelude.{is_some}
 use Rattle.std.specs.Option.{option_or}
-use Rattle.std.proofs.lemmas.Bool.{false≢true}
 use Rattle.merkle_base.specs.Tree.{Tree, leaf, join}
 use Rattle.merkle_base.specs.Forest.{forest, size}
 use Rattle.merkle_base.specs.Hashing.{Hashing}
@@ -12,15 +11,8 @@ use Rattle.merkle_base.proofs.Nodes.{leaf_here, size_lt}
 use Rattle.merkle_core.specs.Refreshed.{AreRefreshed, HasLeavesOf, all_computed_at, refreshed}
 use Rattle.merkle_core.specs.Stands.{is_touched}
 use Rattle.merkle_core.proofs.Items.{by_test}
-use Rattle.merkle_core.proofs.RefreshedDigests.{leaf_not_computed, none_of, past_not_computed, peaks_computed, untouched_not_computed}
-
-or_second : {D : Type 0} (a b : Option D) → a ≡ None → option_or a b ≡ b
-or_second None b e = refl
-or_second (Some x) b e = absurd (cc)
-
-or_some : {D : Type 0} (a b : Option D) → is_some a ≡ true → option_or a b ≡ a
-or_some None b e = absurd (false≢true e)
-or_some (Some x) b e = refl
+use Rattle.merkle_core.proofs.RefreshedDigests.{leaf_not_computed, past_not_computed, peaks_computed, untouched_not_computed}
+use Rattle.merkle_core.proofs.OptionFacts.{none_of, or_second, or_some}
 
 or_either : {D : Type 0} (a b : Option D) → a ≡ cond (is_some a) (option_or a b) None
 or_either None b = refl

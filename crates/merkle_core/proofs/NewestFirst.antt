@@ -1,5 +1,5 @@
 -- What the last of some records has stands before what the earlier ones have.
-use Rattle.std.proofs.Common.{◌≡◌, ℕ, zero, suc, ◌<◌, List, [], ◌∷◌, ◌++◌, length, map, take, get_or, slice_get, Option, Some, None, true, false, arith, refl, sym, ap, ◌∙◌}
+use Rattle.std.proofs.Common.{◌≡◌, ℕ, zero, suc, ◌<◌, List, [], ◌∷◌, ◌++◌, length, map, take, get_or, slice_get, Option, Some, None, false, arith, refl, sym, ap, ◌∙◌}
 use Rattle.std.specs.Prelude.{is_some}
 use Rattle.std.specs.Option.{option_or}
 use Rattle.merkle_core.specs.Recorded.{Recorded, Chain, records}
@@ -9,10 +9,6 @@ use Rattle.merkle_base.specs.Hashing.{Hashing}
 use Rattle.merkle_base.specs.Digests.{node_digests}
 use Rattle.merkle_core.proofs.Through.{option_assoc, option_none}
 use Rattle.merkle_core.proofs.Shown.{batch_shows}
-
-pub or_some : {D : Type 0} (o u : Option D) → is_some o ≡ true → option_or o u ≡ o
-or_some None u e = absurd (cc)
-or_some (Some d) u e = refl
 
 pub or_later : {D : Type 0} (o u : Option D) → is_some o ≡ false → option_or o u ≡ u
 or_later None u e = refl

@@ -2,7 +2,6 @@
 use Rattle.std.proofs.Common.{◌≡◌, ℕ, List, [], ◌∷◌, ◌++◌, Bool, true, false, Option, Some, None, cond, refl, sym, ◌∙◌, ap, nat_eq, map, Bor, append_assoc}
 use Rattle.std.proofs.lemmas.List.{append-nil}
 use Rattle.std.specs.Prelude.{is_some}
-use Rattle.std.specs.Option.{option_or}
 use Rattle.std.specs.Cmp.{nat_eq_equiv}
 use Rattle.std.specs.List.{IsDistinct}
 use Rattle.std.specs.Map.{lookup, update_all, keys_of}
@@ -11,6 +10,7 @@ use Rattle.std.proofs.lemmas.Map.{update_all_push}
 use Rattle.std.proofs.lemmas.Map.Made.{update_all_distinct}
 use Rattle.merkle_core.specs.Replay.{over}
 use Rattle.merkle_core.proofs.MapFacts.{eqb_comm}
+use Rattle.merkle_core.proofs.OptionFacts.{or_nothing}
 
 pub some_over : {D : Type 0} (u x : Option D) → is_some (over u x) ≡ is_some x
 some_over u None = refl
@@ -39,12 +39,8 @@ pub over_push : {D : Type 0} (ys : List (Bor ℕ × Bor D)) (y : Bor ℕ × Bor 
 over_push ys y p now then x before step =
     step ∙ ap (λ t. cond (nat_eq p y.0.now) (over (Some y.1.now) t) t) before ∙ over_both (nat_eq p y.0.now) y.1.now (latest ys p) x ∙ ap (λ u. over u x) (sym (latest_push ys y p))
 
-or_none : {D : Type 0} (o : Option D) → option_or o None ≡ o
-or_none None = refl
-or_none (Some x) = refl
-
 pub latest_all : {D : Type 0} (ys : List (Bor ℕ × Bor D)) (es : List (ℕ × D)) (p : ℕ) → map deref_pair ys ≡ es → IsDistinct nat_eq (keys_of es) → latest ys p ≡ lookup (nat_eq p) es
-latest_all ys es p e distinct = ap (λ fs. update_all nat_eq (λ _. None) fs p) e ∙ update_all_distinct nat_eq_equiv nat_eq (λ x y. refl) (λ _. None) es p distinct ∙ or_none (lookup (nat_eq p) es)
+latest_all ys es p e distinct = ap (λ fs. update_all nat_eq (λ _. None) fs p) e ∙ update_all_distinct nat_eq_equiv nat_eq (λ x y. refl) (λ _. None) es p distinct ∙ or_nothing (lookup (nat_eq p) es)
 
 -- one item moves from what is left to what came
 pub moved : {K X : Type 0} (ys : List (Bor K × Bor X)) (y : Bor K × Bor X) (rest after es : List (K × X)) → rest ≡ deref_pair y ∷ after → map deref_pair ys ++ rest ≡ es → map deref_pair (ys ++ y ∷ []) ++ after ≡ es

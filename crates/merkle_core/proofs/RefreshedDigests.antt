@@ -20,23 +20,16 @@ use Rattle.merkle_core.specs.Stands.{is_touched}
 use Rattle.merkle_core.specs.Drafts.{IsReadFor}
 use Rattle.merkle_core.specs.Refreshed.{of_both, refreshed, computed_at, all_computed_at, AreRefreshed}
 use Rattle.merkle_core.proofs.Items.{or_left, or_right, get_reverse}
+use Rattle.merkle_core.proofs.OptionFacts.{none_of, none_or_some, or_second}
 
 -- ---- options
 pub is_or_not : (b : Bool) → (b ≡ true) ⊎ (b ≡ false)
 is_or_not true = inl refl
 is_or_not false = inr refl
 
-pub none_or_some : {D : Type 0} (o : Option D) → (o ≡ None) ⊎ ((d : D) × (o ≡ Some d))
-none_or_some None = inl refl
-none_or_some (Some d) = inr (d, refl)
-
 pub some_of : {D : Type 0} (o : Option D) → is_some o ≡ true → (d : D) × (o ≡ Some d)
 some_of None e = absurd (false≢true e)
 some_of (Some d) e = (d, refl)
-
-pub none_of : {D : Type 0} (o : Option D) → is_some o ≡ false → o ≡ None
-none_of None e = refl
-none_of (Some d) e = absurd (true≢false e)
 
 pub both_some : {D : Type 0} (f : D → D → D) (a b : Option D) (d : D) → of_both f a b ≡ Some d → (x y : D) × (a ≡ Some x) × (b ≡ Some y) × (d ≡ f x y)
 both_some f None b d e = absurd (cc)
@@ -47,10 +40,6 @@ both_are : {D : Type 0} (f : D → D → D) (a b : Option D) → is_some (of_bot
 both_are f None b e = absurd (false≢true e)
 both_are f (Some x) None e = absurd (false≢true e)
 both_are f (Some x) (Some y) e = (refl, refl)
-
-or_second : {D : Type 0} (a b : Option D) → a ≡ None → option_or a b ≡ b
-or_second None b e = refl
-or_second (Some x) b e = absurd (cc)
 
 or_first : {D : Type 0} (a b : Option D) (d : D) → a ≡ Some d → option_or a b ≡ Some d
 or_first None b d e = absurd (cc)

@@ -1,5 +1,5 @@
 -- New digests peak by peak, oldest first.
-use Rattle.std.proofs.Common.{◌≡◌, ◌≢◌, ℕ, ◌+◌, ◌<◌, ◌≤◌, List, [], ◌∷◌, ◌++◌, length, take, drop, map, Option, Some, None, Bool, true, false, slice_get, arith, refl, sym, ap, inl, inr, ◌∙◌, subst, append-nil, append_assoc}
+use Rattle.std.proofs.Common.{◌≡◌, ◌≢◌, ℕ, ◌+◌, ◌<◌, ◌≤◌, List, [], ◌∷◌, ◌++◌, length, take, drop, map, Option, Some, Bool, true, false, slice_get, arith, refl, sym, ap, inl, inr, ◌∙◌, subst, append-nil, append_assoc}
 use Rattle.std.specs.Prelude.{is_some, ◌==◌}
 use Rattle.std.specs.List.{AllByRecursion, flat_map}
 use Rattle.std.specs.Option.{option_or}
@@ -26,16 +26,13 @@ use Rattle.merkle_core.specs.Refreshed.{refreshed, computed_at, all_computed_at,
 use Rattle.merkle_core.proofs.RefreshedDigests.{is_or_not}
 use Rattle.merkle_core.proofs.Refreshing.{none_computed, or_assoc}
 use Rattle.merkle_core.proofs.Touched.{none_touched, not_touched, Between, touched_between, all_imply, all_joined, all_before, split_parts}
+use Rattle.merkle_core.proofs.OptionFacts.{or_nothing}
 
 cons_head : {A : Type 0} (x y : A) (xs ys : List A) → x ∷ xs ≡ y ∷ ys → x ≡ y
 cons_head x y xs ys e = cc
 
 cons_tail : {A : Type 0} (x y : A) (xs ys : List A) → x ∷ xs ≡ y ∷ ys → xs ≡ ys
 cons_tail x y xs ys e = cc
-
-or_none : {D : Type 0} (a : Option D) → option_or a None ≡ a
-or_none None = refl
-or_none (Some x) = refl
 
 pub zero_yes : (n : ℕ) (b : Bool) → b ≡ (n == 0) → b ≡ true → n ≡ 0
 zero_yes n b e f = elim (eqb_tells n 0) [ inl s ↦ s.1 | inr s ↦ absurd (true≢false (sym f ∙ e ∙ s.0)) ]
@@ -53,7 +50,7 @@ after_start rule n m o e (t ∷ ts) c b =
 
 module _ {D : Type 0} (h : Hashing D) (m below : ℕ → Option D) where
   all_computed_push : (ts : List Tree) (t : Tree) (q : ℕ) → all_computed_at h m below (ts ++ t ∷ []) q ≡ option_or (computed_at h m below t q) (all_computed_at h m below ts q)
-  all_computed_push [] t q = sym (or_none (computed_at h m below t q))
+  all_computed_push [] t q = sym (or_nothing (computed_at h m below t q))
   all_computed_push (x ∷ ts) t q =
       ap (λ o. option_or o (computed_at h m below x q)) (all_computed_push ts t q) ∙ or_assoc (computed_at h m below t q) (all_computed_at h m below ts q) (computed_at h m below x q)
 

@@ -1,5 +1,5 @@
 -- Records that follow one another, and a structure that they are laid over.
-use Rattle.std.proofs.Common.{◌≡◌, ℕ, zero, suc, ◌+◌, ◌-◌, ◌≤◌, List, [], ◌∷◌, ◌++◌, length, map, take, drop, Bool, true, false, Some, None, Ok, cond, arith, refl, sym, ap, ◌∙◌, subst, inl, inr, nat_eq, length-drop}
+use Rattle.std.proofs.Common.{◌≡◌, ℕ, zero, suc, ◌+◌, ◌-◌, ◌≤◌, List, [], ◌∷◌, ◌++◌, length, map, take, drop, Bool, true, Some, None, Ok, cond, arith, refl, sym, ap, ◌∙◌, subst, inl, inr, nat_eq, length-drop}
 use Rattle.std.specs.Prelude.{◌&&◌, ◌==◌, is_some}
 use Rattle.std.specs.Cmp.Lexicographic.{pointwise}
 use Rattle.std.specs.Map.{lookup}
@@ -14,11 +14,7 @@ use Rattle.merkle_core.specs.Replay.{laid, all_laid, last_match, begins_at, ends
 use Rattle.merkle_core.specs.Store.{Store, contents, stored_of}
 use Rattle.merkle_core.specs.Whole.{IsKept}
 use Rattle.merkle_core.proofs.HeldNodes.{contents_reads}
-use Rattle.merkle_core.proofs.Items.{by_test}
-
-and_left : (a b : Bool) → a && b ≡ true → a ≡ true
-and_left true b e = refl
-and_left false b e = absurd (cc)
+use Rattle.merkle_core.proofs.Items.{and_left, by_test}
 
 same_size : (n m : ℕ) (b : Bool) → (n == m) && b ≡ true → n ≡ m
 same_size n m b e = eqb-true n m (and_left (n == m) b e)

@@ -1,14 +1,13 @@
 -- The small cases that look into a map.
-use Rattle.std.proofs.Common.{◌≡◌, ℕ, zero, suc, List, [], ◌∷◌, map, Some, None, slice_get, refl, sym, ap, cond, ◌≤◌, ◌∙◌, subst, arith}
+use Rattle.std.proofs.Common.{◌≡◌, ℕ, zero, suc, [], ◌∷◌, map, Some, None, slice_get, refl, sym, ap, cond, ◌≤◌, ◌∙◌, subst, arith}
 use Rattle.std.specs.Prelude.{is_some, ◌||◌, nat_eq}
 use Rattle.std.specs.Map.{lookup}
 use Rattle.std.proofs.lemmas.Bool.{ne_eqb}
 use Rattle.std.specs.Option.{unwrap_or}
 use Rattle.std.specs.List.{range_with_len}
-use Rattle.std.specs.Ordering.{nat_cmp, is_eq}
-use Rattle.std.proofs.lemmas.Bool.Decides.{nat_tests}
+use Rattle.std.specs.Ordering.{nat_cmp}
 use Rattle.std.specs.Cmp.{nat_cmp_total}
-use Rattle.std.specs.FinMap.{get, get-from_entries, get-empty, find}
+use Rattle.std.specs.FinMap.{get, get-from_entries, get-empty}
 use Rattle.merkle_base.specs.Forest.{forest}
 use Rattle.merkle_forests.specs.Mmr.{carries}
 use Rattle.merkle_core.specs.Stands.{edited, is_touched, IsStep, StandsOn}
@@ -18,13 +17,7 @@ use Rattle.merkle_base.specs.Tree.{Tree, leaf, join}
 use Rattle.merkle_core.specs.Replay.{over, laid, all_laid}
 use Rattle.merkle_core.specs.Read.{newest}
 use Rattle.merkle_core.specs.Rows.{xor, first_record, second_record, nothing, five, change}
-
-is_eq-nat_cmp : (p q : ℕ) → is_eq (nat_cmp p q) ≡ nat_eq p q
-is_eq-nat_cmp p q = grind (arith, nat_tests)
-
-find_lookup : (p : ℕ) (es : List (ℕ × ℕ)) → find nat_cmp p es ≡ lookup (nat_eq p) es
-find_lookup p [] = refl
-find_lookup p (e ∷ es) = λ i. cond (is_eq-nat_cmp p e.0 i) (Some e.1) (find_lookup p es i)
+use Rattle.merkle_core.proofs.Stored.{find_lookup}
 
 at_zero : get second_record.overwritten 0 ≡ Some 17
 at_zero = get-from_entries nat_cmp_total ((0, 17) ∷ (2, 16) ∷ []) 0

@@ -13,6 +13,7 @@ use Rattle.std.specs.List.{slice_get, list_any}
 use Rattle.std.specs.FinMap.{get, find, get-from_entries}
 use Rattle.std.specs.BTreeMap.{is_at}
 use Rattle.merkle_core.specs.Store.{numbered, stored_of}
+use Rattle.merkle_core.proofs.OptionFacts.{none_of}
 
 pub is_eq-nat_cmp : (p q : ℕ) → is_eq (nat_cmp p q) ≡ nat_eq p q
 is_eq-nat_cmp p q = grind (arith, nat_tests)
@@ -55,10 +56,6 @@ module _ {D : Type 0} where
   pub held_from : (pins : List (ℕ × D)) (start : ℕ) (nodes : List D) (p : ℕ) → start ≤ p → lookup (nat_eq p) pins ≡ None → get (stored_of pins start nodes) p ≡ slice_get nodes (p - start)
   held_from pins start nodes p h none =
       held pins start nodes p ∙ ap (λ o. option_or o (lookup (nat_eq p) (numbered start nodes))) none ∙ lookup_from p start (p - start) nodes (omega arith)
-
-pub none_of : {X : Type 0} (o : Option X) → is_some o ≡ false → o ≡ None
-none_of None h = refl
-none_of (Some x) h = absurd (cc)
 
 pub get_reads : {X : Type 0} (xs : List X) (i : ℕ) (r : Option (Bor X)) → IsItemAt xs i r → option_copied r ≡ slice_get xs i
 get_reads xs i None h = sym (slice_get_past xs i h.3)

@@ -1,5 +1,5 @@
 -- What is read through records that stand on lists.
-use Rattle.std.proofs.Common.{◌≡◌, ℕ, zero, suc, ◌-◌, ◌≤◌, ◌⊎◌, List, [], ◌∷◌, length, Option, Some, None, Bool, true, false, cond, slice_get, arith, refl, sym, ap, inl, inr, ◌∙◌, length-append}
+use Rattle.std.proofs.Common.{◌≡◌, ℕ, zero, suc, ◌-◌, ◌≤◌, List, [], ◌∷◌, length, Option, Some, None, Bool, true, false, cond, slice_get, arith, refl, sym, ap, inl, inr, ◌∙◌, length-append}
 use Rattle.std.specs.Option.{option_or}
 use Rattle.std.specs.FinMap.{get}
 use Rattle.std.proofs.lemmas.Bool.{lt-ltb, le-ltb, cases_lt}
@@ -16,6 +16,7 @@ use Rattle.merkle_core.specs.Replay.{over}
 use Rattle.merkle_core.specs.Stands.{edited, replaced, leaves_from, is_touched, IsStep, StandsOn, last_list}
 use Rattle.merkle_core.specs.Read.{written, newest, read_over}
 use Rattle.merkle_core.proofs.Steps.{node_digest_at, digests_length, digest_kept, replaced_length, step_old, step_new, node_there}
+use Rattle.merkle_core.proofs.OptionFacts.{none_or_some}
 
 pub option_assoc : {D : Type 0} (a b c : Option D) → option_or (option_or a b) c ≡ option_or a (option_or b c)
 option_assoc None b c = refl
@@ -32,10 +33,6 @@ over_or (Some x) o d e = rw e refl
 pub both_none : {D : Type 0} (a b : Option D) → option_or a b ≡ None → (a ≡ None) × (b ≡ None)
 both_none None b e = (refl, e)
 both_none (Some x) b e = absurd (cc)
-
-none_or_some : {D : Type 0} (o : Option D) → (o ≡ None) ⊎ ((d : D) × (o ≡ Some d))
-none_or_some None = inl refl
-none_or_some (Some d) = inr (d, refl)
 
 module _ {D : Type 0} (h : Hashing D) (rule : List ℕ → List ℕ) where
   abbrev at_node : List D → ℕ → Option D

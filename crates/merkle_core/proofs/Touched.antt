@@ -11,7 +11,8 @@ use Rattle.merkle_core.specs.Stands.{is_touched}
 use Rattle.merkle_core.specs.Refreshed.{touched_leaves, are_before}
 use Rattle.merkle_core.proofs.Items.{or_none}
 use Rattle.merkle_core.proofs.Befores.{before_none, before_here}
-use Rattle.merkle_core.proofs.RefreshedDigests.{is_or_not, none_or_some, none_of}
+use Rattle.merkle_core.proofs.RefreshedDigests.{is_or_not}
+use Rattle.merkle_core.proofs.OptionFacts.{none_of, none_or_some}
 
 pub both_empty : {X : Type 0} (xs ys : List X) → xs ++ ys ≡ [] → (xs ≡ []) × (ys ≡ [])
 both_empty [] ys e = (refl, e)

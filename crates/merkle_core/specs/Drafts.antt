@@ -1,6 +1,5 @@
 -- Which nodes a batch in the making reads.
-use Rattle.std.specs.Prelude.{◌≡◌, ℕ, ◌-◌, ◌<◌, ◌≤◌, ◌⊎◌, List, Option, Some, true, false, is_some, cond, nat_lt, slice_get}
-use Rattle.std.specs.Option.{option_or}
+use Rattle.std.specs.Prelude.{◌≡◌, ℕ, ◌<◌, ◌≤◌, ◌⊎◌, List, Option, Some, true, false, is_some, slice_get}
 use Rattle.merkle_base.specs.Tree.{Tree, leaf, join, position}
 use Rattle.merkle_base.specs.Forest.{forest}
 use Rattle.merkle_core.specs.Gaps.{IsGapAt}

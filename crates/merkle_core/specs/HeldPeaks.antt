@@ -1,5 +1,5 @@
 -- What is held at a list of positions.
-use Rattle.std.specs.Prelude.{ℕ, List, [], ◌∷◌, Option, Some, None, flat_map}
+use Rattle.std.specs.Prelude.{ℕ, List, [], ◌∷◌, Some, None, flat_map}
 use Rattle.std.specs.Option.{option_to_list}
 use Rattle.merkle_core.specs.Contents.{Contents}
 

@@ -1,6 +1,6 @@
 use Rattle.std.proofs.Common.{rules, ◌≡◌, ℕ, ◌+◌, ◌<◌, ◌⊎◌, [], ◌∷◌, ◌++◌, length, drop, map, cond, None, arith, sym, ap, inl, inr, ◌∙◌, subst}
 use Rattle.std.proofs.lemmas.Result.{err_from_is_err_and}
-use Rattle.std.specs.FinMap.{from_entries, get}
+use Rattle.std.specs.FinMap.{get}
 use Rattle.std.specs.Rc.{rc_slice_items}
 use Rattle.merkle_base.specs.Forest.{size}
 use Rattle.merkle_base.specs.Places.{peak_positions}
@@ -19,21 +19,16 @@ use Rattle.merkle_core.specs.Stands.{last_list, StandsOn}
 use Rattle.merkle_core.specs.Store.{contents}
 use Rattle.merkle_core.specs.Truth.{IsTruth, LeavesAre, ReadsTrue, truths}
 use Rattle.merkle_core.proofs.Merkleizing.{list_given}
-use Rattle.merkle_core.proofs.MerkleizeFacts.{append_missing, batch_stands, changed_by_leaves, changed_by_updates, finished_linked, is_positive, named_given, named_refused, NamesMissing, no_entry, no_items, none_is_missing, not_changed, peak_missing, refresh_missing, some_entry}
+use Rattle.merkle_core.proofs.MerkleizeFacts.{append_missing, batch_stands, changed_by_leaves, changed_by_updates, finished_linked, is_positive, named_given, named_refused, NamesMissing, no_entry, none_is_missing, not_changed, of_fields, peak_missing, refresh_missing, some_entry}
 use Rattle.merkle_core.proofs.batch.UnmerkleizedBatch.merkleize.Goals.{then-is_empty+then-is_empty-2+in_ok-peaks_after, else-is_empty+in_ok-read_peaks+in_ok-peaks_after-2, else-is_empty-via-then-is_empty+else-is_empty-2, else-is_empty-via-else-is_empty}
 use Rattle.merkle_core.proofs.batch.UnmerkleizedBatch.merkleize.Goals as goal
+use Rattle.merkle_core.proofs.Items.{no_items}
 
 pub returns-in_err-refresh_leaves-clause-refused : goal.returns-in_err-refresh_leaves-clause-refused
 returns-in_err-refresh_leaves-clause-refused g c =
     let rule = g.F.Family.rule in
     let base = contents c.args.base.now in
-    let b : Pending g.row.D.Denot = record {
-      parent = c.self.inside.parent.value;
-      leaves_before = c.self.inside.leaves_before;
-      added = c.self.inside.added.items;
-      overwritten = from_entries c.self.inside.updates.entries;
-      forgotten = c.self.inside.forgotten;
-    } in
+    let b : Pending g.row.D.Denot = of_fields c.self.inside.parent.value c.self.inside.leaves_before c.self.inside.added.items c.self.inside.updates.entries c.self.inside.forgotten in
     let d0 = c.in_ok-draft.draft in
     let k0 : d0.kept ≡ kept b = c.in_ok-draft.ensures.kept ∙ ap (λ v. drop c.self.inside.forgotten v.ancestors ++ cond (is_changed v.own) (v.own ∷ []) []) c.deref-3.ensures in
     let gap = c.in_err-refresh_leaves.field-0.0 in
@@ -46,13 +41,7 @@ returns-in_err-refresh_leaves-clause-given g c = λ h ls stands agrees above.
     let rule = g.F.Family.rule in
     let max = g.F.Family.MAX_LEAVES in
     let base = contents c.args.base.now in
-    let b : Pending g.row.D.Denot = record {
-      parent = c.self.inside.parent.value;
-      leaves_before = c.self.inside.leaves_before;
-      added = c.self.inside.added.items;
-      overwritten = from_entries c.self.inside.updates.entries;
-      forgotten = c.self.inside.forgotten;
-    } in
+    let b : Pending g.row.D.Denot = of_fields c.self.inside.parent.value c.self.inside.leaves_before c.self.inside.added.items c.self.inside.updates.entries c.self.inside.forgotten in
     let pending : IsPending rule max c.args.self = subst (IsPending rule max) c.self.view_is c.self.invariant in
     let d0 = c.in_ok-draft.draft in
     let k0 : d0.kept ≡ kept b = c.in_ok-draft.ensures.kept ∙ ap (λ v. drop c.self.inside.forgotten v.ancestors ++ cond (is_changed v.own) (v.own ∷ []) []) c.deref-3.ensures in
@@ -68,13 +57,7 @@ returns-in_err-append_leaves-clause-refused g c =
     let rule = g.F.Family.rule in
     let max = g.F.Family.MAX_LEAVES in
     let base = contents c.args.base.now in
-    let b : Pending g.row.D.Denot = record {
-      parent = c.self.inside.parent.value;
-      leaves_before = c.self.inside.leaves_before;
-      added = c.self.inside.added.items;
-      overwritten = from_entries c.self.inside.updates.entries;
-      forgotten = c.self.inside.forgotten;
-    } in
+    let b : Pending g.row.D.Denot = of_fields c.self.inside.parent.value c.self.inside.leaves_before c.self.inside.added.items c.self.inside.updates.entries c.self.inside.forgotten in
     let d0 = c.in_ok-draft.draft in
     let d1 = c.refresh_leaves.new.self in
     let d2 = c.append_leaves.new.self in
@@ -93,13 +76,7 @@ returns-in_err-append_leaves-clause-given g c = λ k ls stands agrees above.
     let rule = g.F.Family.rule in
     let max = g.F.Family.MAX_LEAVES in
     let base = contents c.args.base.now in
-    let b : Pending g.row.D.Denot = record {
-      parent = c.self.inside.parent.value;
-      leaves_before = c.self.inside.leaves_before;
-      added = c.self.inside.added.items;
-      overwritten = from_entries c.self.inside.updates.entries;
-      forgotten = c.self.inside.forgotten;
-    } in
+    let b : Pending g.row.D.Denot = of_fields c.self.inside.parent.value c.self.inside.leaves_before c.self.inside.added.items c.self.inside.updates.entries c.self.inside.forgotten in
     let pending : IsPending rule max c.args.self = subst (IsPending rule max) c.self.view_is c.self.invariant in
     let d0 = c.in_ok-draft.draft in
     let d1 = c.refresh_leaves.new.self in
@@ -124,13 +101,7 @@ returns-in_err-read_peaks-clause-refused g c =
     let rule = g.F.Family.rule in
     let max = g.F.Family.MAX_LEAVES in
     let base = contents c.args.base.now in
-    let b : Pending g.row.D.Denot = record {
-      parent = c.self.inside.parent.value;
-      leaves_before = c.self.inside.leaves_before;
-      added = c.self.inside.added.items;
-      overwritten = from_entries c.self.inside.updates.entries;
-      forgotten = c.self.inside.forgotten;
-    } in
+    let b : Pending g.row.D.Denot = of_fields c.self.inside.parent.value c.self.inside.leaves_before c.self.inside.added.items c.self.inside.updates.entries c.self.inside.forgotten in
     let d0 = c.in_ok-draft.draft in
     let d1 = c.refresh_leaves.new.self in
     let d2 = c.append_leaves.new.self in
@@ -154,13 +125,7 @@ returns-in_err-read_peaks-clause-given g c = λ k ls stands agrees above.
     let rule = g.F.Family.rule in
     let max = g.F.Family.MAX_LEAVES in
     let base = contents c.args.base.now in
-    let b : Pending g.row.D.Denot = record {
-      parent = c.self.inside.parent.value;
-      leaves_before = c.self.inside.leaves_before;
-      added = c.self.inside.added.items;
-      overwritten = from_entries c.self.inside.updates.entries;
-      forgotten = c.self.inside.forgotten;
-    } in
+    let b : Pending g.row.D.Denot = of_fields c.self.inside.parent.value c.self.inside.leaves_before c.self.inside.added.items c.self.inside.updates.entries c.self.inside.forgotten in
     let pending : IsPending rule max c.args.self = subst (IsPending rule max) c.self.view_is c.self.invariant in
     let d0 = c.in_ok-draft.draft in
     let d1 = c.refresh_leaves.new.self in
@@ -184,13 +149,7 @@ pub finish-requires : goal.finish-requires
 finish-requires g c =
     let rule = g.F.Family.rule in
     let max = g.F.Family.MAX_LEAVES in
-    let b : Pending g.row.D.Denot = record {
-      parent = c.self.inside.parent.value;
-      leaves_before = c.self.inside.leaves_before;
-      added = c.self.inside.added.items;
-      overwritten = from_entries c.self.inside.updates.entries;
-      forgotten = c.self.inside.forgotten;
-    } in
+    let b : Pending g.row.D.Denot = of_fields c.self.inside.parent.value c.self.inside.leaves_before c.self.inside.added.items c.self.inside.updates.entries c.self.inside.forgotten in
     let d0 = c.in_ok-draft.draft in
     let d2 = c.append_leaves.new.self in
     let only = c.refresh_leaves.ensures.only in
@@ -210,13 +169,7 @@ returns-clause-complete g c = λ t missing.
     let rule = g.F.Family.rule in
     let max = g.F.Family.MAX_LEAVES in
     let base = contents c.args.base.now in
-    let b : Pending g.row.D.Denot = record {
-      parent = c.self.inside.parent.value;
-      leaves_before = c.self.inside.leaves_before;
-      added = c.self.inside.added.items;
-      overwritten = from_entries c.self.inside.updates.entries;
-      forgotten = c.self.inside.forgotten;
-    } in
+    let b : Pending g.row.D.Denot = of_fields c.self.inside.parent.value c.self.inside.leaves_before c.self.inside.added.items c.self.inside.updates.entries c.self.inside.forgotten in
     let d0 = c.in_ok-draft.draft in
     let d1 = c.refresh_leaves.new.self in
     let d2 = c.append_leaves.new.self in
@@ -240,13 +193,7 @@ returns-clause-stands g c = λ ls stands agrees.
     let rule = g.F.Family.rule in
     let max = g.F.Family.MAX_LEAVES in
     let base = contents c.args.base.now in
-    let b : Pending g.row.D.Denot = record {
-      parent = c.self.inside.parent.value;
-      leaves_before = c.self.inside.leaves_before;
-      added = c.self.inside.added.items;
-      overwritten = from_entries c.self.inside.updates.entries;
-      forgotten = c.self.inside.forgotten;
-    } in
+    let b : Pending g.row.D.Denot = of_fields c.self.inside.parent.value c.self.inside.leaves_before c.self.inside.added.items c.self.inside.updates.entries c.self.inside.forgotten in
     let d0 = c.in_ok-draft.draft in
     let d1 = c.refresh_leaves.new.self in
     let d2 = c.append_leaves.new.self in

@@ -1,11 +1,11 @@
-use Rattle.std.proofs.Common.{◌≡◌, ℕ, suc, ◌+◌, [], ◌∷◌, length, arith, ap, sym, ◌∙◌, subst, length-append}
+use Rattle.std.proofs.Common.{◌≡◌, ℕ, suc, ◌+◌, [], ◌∷◌, length, arith, refl, ap, sym, inl, inr, ◌∙◌, subst, length-append}
 use Rattle.std.proofs.lemmas.Result.{err_from_is_err_and}
 use Rattle.merkle_base.specs.Places.{HasInner}
 use Rattle.merkle_core.specs.Drafts.{AreChildrenRead, LacksChild}
 use Rattle.merkle_core.specs.DraftReads.{old_node}
 use Rattle.merkle_core.specs.Store.{contents}
 use Rattle.merkle_core.specs.Truth.{truths}
-use Rattle.merkle_core.proofs.ChildReads.{lacks_left, lacks_right, read_join}
+use Rattle.merkle_core.proofs.ChildReads.{lacks_child, read_join}
 use Rattle.merkle_core.proofs.GapFacts.{gap_below}
 use Rattle.merkle_core.proofs.TruthFacts.{truths_more, truth_joined, children_before}
 use Rattle.merkle_core.proofs.draft.Draft.append_parent.Goals as goal
@@ -25,7 +25,7 @@ returns-in_err-left-clause-missing g c =
     let p = err_from_is_err_and c.from_residual.result c.from_residual.ensures.1 in
     rw p.1 (λ _. subst (λ e. LacksChild rule max end (suc end) before read e) (sym p.2)
     (subst (λ (q : ℕ). LacksChild rule max q (suc q) before read c.in_err-left.field-0.0) c.size-position.ensures
-    (lacks_left rule max c.size-position.result c.args.height c.children-left.result.0 c.children-left.result.1 before read c.in_err-left.field-0.0 inner c.children-left.ensures
+    (lacks_child rule max c.size-position.result c.args.height c.children-left.result.0 c.children-left.result.1 c.children-left.result.0 before read c.in_err-left.field-0.0 inner c.children-left.ensures (inl refl)
     (gap_below read before (length c.args.self.now.appended) c.children-left.result.0 c.in_err-left.field-0.0 c.in_err-left.ensures.missing (omega (arith, below.0, c.size-position.ensures))))))
 
 pub returns-in_err-right-clause-missing : goal.returns-in_err-right-clause-missing
@@ -40,7 +40,7 @@ returns-in_err-right-clause-missing g c =
     let p = err_from_is_err_and c.from_residual-in_err-right.result c.from_residual-in_err-right.ensures.1 in
     rw p.1 (λ _. subst (λ e. LacksChild rule max end (suc end) before read e) (sym p.2)
     (subst (λ (q : ℕ). LacksChild rule max q (suc q) before read c.in_err-right.field-0.0) c.size-position.ensures
-    (lacks_right rule max c.size-position.result c.args.height c.children-left.result.0 c.children-left.result.1 before read c.in_err-right.field-0.0 inner c.children-left.ensures
+    (lacks_child rule max c.size-position.result c.args.height c.children-left.result.0 c.children-left.result.1 c.children-left.result.1 before read c.in_err-right.field-0.0 inner c.children-left.ensures (inr refl)
     (gap_below read before (length c.args.self.now.appended) c.children-left.result.1 c.in_err-right.field-0.0 c.in_err-right.ensures.missing (omega (arith, below.1, c.size-position.ensures))))))
 
 pub returns-clause-longer : goal.returns-clause-longer

@@ -1,4 +1,4 @@
-use Rattle.std.proofs.Common.{◌≡◌, ◌≤◌, length, arith, ap, sym, ◌∙◌, subst}
+use Rattle.std.proofs.Common.{◌≡◌, length, arith, ap, sym, ◌∙◌, subst}
 use Rattle.merkle_base.proofs.Nodes.{size_inj}
 use Rattle.merkle_core.specs.Contents.{Agrees, pruned}
 use Rattle.merkle_core.specs.Store.{contents}
