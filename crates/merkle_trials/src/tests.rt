@@ -8,6 +8,7 @@ mod batches;
 mod belts;
 mod families;
 mod hashers;
+mod histories;
 mod paths;
 mod plans;
 mod proofs;

@@ -1,9 +1,10 @@
 //! What structures of the Mountain Range hold, and their roots.
 
-use super::{Outcome, assert_nodes, assert_roots, structure_of, too_many};
-use merkle_core::digest::{Digest, PlainHasher, Sha256Digest, Sha256Plain, Xor8};
+use super::{Outcome, assert_nodes, assert_roots, batch_of, digest, structure_of, too_many};
+use merkle_core::digest::{Digest, PlainHasher, Sha256Digest, Sha256Plain, Xor8, Xor8Digest};
 use merkle_core::family::Bagging;
-use merkle_core::mmr::{Mmr, Position, StandardHasher};
+use merkle_core::mem::Config;
+use merkle_core::mmr::{Family, Location, Mmr, Position, StandardHasher};
 use std::test::Fail;
 
 #[test]
@@ -71,4 +72,37 @@ fn one_leaf_by_sha256(rt: HostRuntime) {
     assert_eq!(rt; Sha256Digest::from_bytes(&ROOT), Some(root));
     let found = structure.root(&hasher, 0);
     assert!(rt; matches!(&found, Ok(found) if *found == root));
+}
+
+#[test]
+fn what_debug_prints(rt: HostRuntime) -> Result<(), Fail> {
+    let hasher = StandardHasher::<Xor8>::new(Bagging::ForwardFold);
+    let structure: Mmr<_> = structure_of(&rt, rt.alloc(), &hasher, &[1]);
+    let shown = format!(in rt.alloc(); "{structure:?}")?;
+    assert!(rt;
+        shown.starts_with("Mem { nodes: [Xor8Digest { byte: 1 }], pins: []"),
+        "{shown}"
+    );
+    let batch = batch_of(&rt, &structure, &hasher, &[2]);
+    let shown = format!(in rt.alloc(); "{batch:?}")?;
+    assert!(rt;
+        shown.starts_with("MerkleizedBatch { own: Record { size_before: Position(1)"),
+        "{shown}"
+    );
+    Ok(())
+}
+
+#[test]
+fn what_debug_prints_of_parts(rt: HostRuntime) -> Result<(), Fail> {
+    let parts: Config<Family, Xor8Digest> = Config {
+        nodes: vec![in rt.alloc(); digest(&rt, 5)]?,
+        pruning_boundary: Location::new(1),
+        pinned_nodes: vec![in rt.alloc(); digest(&rt, 7)]?,
+    };
+    let shown = format!(in rt.alloc(); "{parts:?}")?;
+    assert_eq!(rt;
+        shown.as_str(),
+        "Config { nodes: [Xor8Digest { byte: 5 }], pruning_boundary: Location(1), pinned_nodes: [Xor8Digest { byte: 7 }] }"
+    );
+    Ok(())
 }
