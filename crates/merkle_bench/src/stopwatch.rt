@@ -1,0 +1,111 @@
+//! The time that pieces of work take.
+
+use std::alloc::{AllocError, Global};
+use std::fmt;
+use std::time::{CpuClock, Duration};
+use thiserror::Error;
+
+/// What ends a measurement early.
+#[derive(Clone, Copy, Debug, PartialEq, Eq, Error)]
+pub enum Halt {
+    /// The clock failed.
+    #[error("merkle_bench: no clock")]
+    NoClock,
+    /// There was no memory.
+    #[error("merkle_bench: out of memory")]
+    OutOfMemory,
+    /// A call refused what it should grant.
+    #[error("merkle_bench: refused")]
+    Refused,
+}
+
+/// What was measured: so many units of work, and the least time of the rounds.
+#[derive(Clone, Copy, Debug)]
+struct Row {
+    tree: &'static str,
+    work: &'static str,
+    units: u64,
+    least: Duration,
+}
+
+impl fmt::Display for Row {
+    fn fmt<W: fmt::Write>(&self, f: &mut fmt::Formatter<W>) -> fmt::Result {
+        let nanoseconds = self.least.as_nanos() / u128::from(self.units.max(1));
+        write!(
+            f,
+            "{:14} {:34} {:8} {:12}",
+            self.tree, self.work, self.units, nanoseconds
+        )
+    }
+}
+
+/// The rows of a table, and the clock that they are taken from.
+#[derive(Drop)]
+pub struct Stopwatch<'a, C> {
+    clock: &'a C,
+    rows: Vec<Row>,
+    // the sum of all bytes that were computed, so that no work is left out
+    sum: u64,
+}
+
+impl<'a, C: CpuClock> Stopwatch<'a, C> {
+    /// A table without rows.
+    pub fn new(alloc: Global, clock: &'a C) -> Self {
+        Stopwatch {
+            clock,
+            rows: Vec::new(alloc),
+            sum: 0,
+        }
+    }
+
+    /// The thread time so far.
+    pub fn now(&self) -> Result<Duration, Halt> {
+        self.clock.thread_cpu_time().map_err(|_| Halt::NoClock)
+    }
+
+    /// Notes that so many units of work took the time since `start`.
+    pub fn note(
+        &mut self,
+        tree: &'static str,
+        work: &'static str,
+        units: u64,
+        start: Duration,
+    ) -> Result<(), Halt> {
+        let spent = self.now()?.saturating_sub(start);
+        for row in &mut self.rows {
+            if row.tree == tree && row.work == work {
+                row.least = row.least.min(spent);
+                return Ok(());
+            }
+        }
+        let row = Row {
+            tree,
+            work,
+            units,
+            least: spent,
+        };
+        self.rows.push(row).map_err(|_| Halt::OutOfMemory)
+    }
+
+    /// Takes in what was computed.
+    pub fn keep(&mut self, bytes: &[u8]) {
+        for byte in bytes {
+            self.sum = self.sum.wrapping_add(u64::from(*byte));
+        }
+    }
+}
+
+impl<C> fmt::Display for Stopwatch<'_, C> {
+    fn fmt<W: fmt::Write>(&self, f: &mut fmt::Formatter<W>) -> fmt::Result {
+        for row in &self.rows {
+            writeln!(f, "{row}")?;
+        }
+        write!(f, "sum of all bytes: {}", self.sum)
+    }
+}
+
+impl From<AllocError> for Halt {
+    fn from(_error: AllocError) -> Self {
+        Halt::OutOfMemory
+    }
+}

@@ -1,0 +1,62 @@
+//! How much is measured, and on which elements.
+
+use std::alloc::{AllocError, Global};
+
+/// The greatest number of leaves that is measured.
+const MOST_LEAVES: u64 = 1 << 24;
+
+/// An element of 32 bytes.
+pub type Element = [u8; 32];
+
+/// How many leaves the structures have, and how many rounds are run.
+#[derive(Clone, Copy, Debug)]
+pub struct Workload {
+    leaves: u64,
+    rounds: u64,
+}
+
+impl Workload {
+    /// Work at so many leaves, which are at least 1, and so many rounds.
+    pub fn new(leaves: u64, rounds: u64) -> Option<Self> {
+        if leaves == 0 || leaves > MOST_LEAVES {
+            return None;
+        }
+        Some(Workload { leaves, rounds })
+    }
+
+    /// The number of rounds.
+    pub fn rounds(&self) -> u64 {
+        self.rounds
+    }
+
+    /// The elements of the leaves, all different.
+    pub fn elements(&self, alloc: Global) -> Result<Vec<Element>, AllocError> {
+        let mut elements = Vec::new(alloc);
+        for i in 0..self.leaves {
+            elements.push(element_of(i))?;
+        }
+        Ok(elements)
+    }
+
+    /// Up to 1,000 numbers below `end`, scattered, the same at each call; none where `end` is 0.
+    pub fn scattered(&self, alloc: Global, end: u64) -> Result<Vec<u64>, AllocError> {
+        let mut numbers = Vec::new(alloc);
+        let mut state: u64 = 0;
+        for _ in 0..self.leaves.min(1000) {
+            // the step of Knuth's multiplicative hashing
+            state = state.wrapping_add(0x9E37_79B9_7F4A_7C15);
+            let number = (state ^ (state >> 29)).wrapping_mul(0xBF58_476D_1CE4_E5B9) >> 16;
+            if let Some(number) = number.checked_rem(end) {
+                numbers.push(number)?;
+            }
+        }
+        Ok(numbers)
+    }
+}
+
+// The element that begins with the bytes of a number.
+fn element_of(number: u64) -> Element {
+    let mut element = [0u8; 32];
+    element[..8].copy_from_slice(&number.to_be_bytes());
+    element
+}
