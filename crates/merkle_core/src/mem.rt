@@ -36,6 +36,7 @@ use merkle_proof::proof::Proof;
 use merkle_proof::range_plan::RangePlan;
 use merkle_proof::read::Readable;
 use std::alloc::{AllocError, Global};
+use std::collections::VecDeque;
 use std::marker::Model;
 
 /// The greatest number of peaks of a family's structure.
@@ -55,7 +56,7 @@ fn front<D>(digests: &[D; MAX_PEAKS], count: usize) -> &[D]
 #[derive(Debug, Drop)]
 pub struct Mem<F: Family, D: Digest> {
     // the nodes from position `start` on
-    pub(crate) nodes: Vec<D>,
+    pub(crate) nodes: VecDeque<D>,
     // the nodes before it that are held, by position
     pub(crate) pins: Vec<(Position<F>, D)>,
     // the position of the leaf at the boundary
@@ -86,7 +87,7 @@ impl<F: Family, D: Digest> Mem<F, D> {
         ensures agrees { (h : Hashing D) → Agrees h F.rule (contents result) [] }
     {
         Mem {
-            nodes: Vec::new(alloc),
+            nodes: VecDeque::new(alloc),
             pins: Vec::new(alloc),
             start: Position::new(0),
             boundary: Location::new(0),
@@ -158,8 +159,12 @@ impl<F: Family, D: Digest> Mem<F, D> {
         ensures { IfOk result (λ m. m ≡ self.now) }
     {
         let alloc = self.allocator();
+        let (older, newer) = self.nodes.as_slices();
+        let mut nodes = Vec::with_capacity(alloc, self.nodes.len())?;
+        nodes.extend_from_slice(older)?;
+        nodes.extend_from_slice(newer)?;
         Ok(Mem {
-            nodes: self.nodes.to_vec(alloc)?,
+            nodes: VecDeque::from(nodes),
             pins: self.pins.to_vec(alloc)?,
             start: self.start,
             boundary: self.boundary,

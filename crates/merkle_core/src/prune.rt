@@ -15,6 +15,7 @@ use merkle_base::family::Family;
 use merkle_base::location::Location;
 use merkle_base::position::Position;
 use std::alloc::{AllocError, Global};
+use std::collections::VecDeque;
 use std::ops::Range;
 
 /// What a structure is made of.
@@ -80,7 +81,7 @@ impl<F: Family, D: Digest> Mem<F, D> {
             return Err(Error::InvalidPinnedNodes);
         };
         Ok(Mem {
-            nodes,
+            nodes: VecDeque::from(nodes),
             pins,
             start,
             boundary: pruning_boundary,

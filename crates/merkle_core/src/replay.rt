@@ -2,7 +2,7 @@
 ghost use Rattle.std.specs.Prelude.{◌≡◌, ◌+◌, ◌-◌, ◌<◌, ◌≤◌, ℕ, List, ◌++◌, Some, is_some, length, map, slice_get, ◌==◌, cond};
 ghost use Rattle.std.specs.FinMap.{get};
 ghost use Rattle.std.specs.Map.{lookup};
-ghost use Rattle.std.specs.Vec.{vec_len, vec_capacity};
+ghost use Rattle.std.specs.VecDeque.{deque_len, deque_capacity};
 ghost use Rattle.merkle_core.specs.Held.{stored_at, total_appended, held_contents};
 ghost use Rattle.merkle_core.specs.Replay.{all_laid, laid, over};
 
@@ -11,6 +11,7 @@ use crate::record::Record;
 use merkle_base::digest::Digest;
 use merkle_base::family::Family;
 use merkle_base::position::Position;
+use std::collections::VecDeque;
 use std::rc::Rc;
 
 // Gives the pin at a position, if there is one, a digest.
@@ -26,13 +27,13 @@ fn replace_pin<F, D: Copy>(pins: &mut [(Position<F>, D)], position: Position<F>,
 
 // Gives the node at a position, if it is held, a digest.
 fn replace<F: Family, D: Digest>(
-    nodes: &mut Vec<D>,
+    nodes: &mut VecDeque<D>,
     pins: &mut Vec<(Position<F>, D)>,
     start: Position<F>,
     position: Position<F>,
     digest: D,
 )
-    ensures capacity { vec_capacity nodes.new ≡ vec_capacity nodes.old }
+    ensures capacity { deque_capacity nodes.new ≡ deque_capacity nodes.old }
     ensures len { length nodes.new.items ≡ length nodes.old.items }
     ensures held { (p : ℕ) → stored_at pins.new.items start nodes.new.items p ≡ cond (p == position) (over (Some digest) (stored_at pins.old.items start nodes.old.items p)) (stored_at pins.old.items start nodes.old.items p) }
     ensures pinned { (p : ℕ) → is_some (lookup (λ q. p == q) pins.new.items) ≡ is_some (lookup (λ q. p == q) pins.old.items) }
@@ -46,12 +47,12 @@ fn replace<F: Family, D: Digest>(
 
 // Gives each of these nodes that is held its new digest.
 fn replace_all<F: Family, D: Digest>(
-    nodes: &mut Vec<D>,
+    nodes: &mut VecDeque<D>,
     pins: &mut Vec<(Position<F>, D)>,
     start: Position<F>,
     overwrites: &Overwrites<F, D>,
 )
-    ensures capacity { vec_capacity nodes.new ≡ vec_capacity nodes.old }
+    ensures capacity { deque_capacity nodes.new ≡ deque_capacity nodes.old }
     ensures len { length nodes.new.items ≡ length nodes.old.items }
     ensures held { (p : ℕ) → stored_at pins.new.items start nodes.new.items p ≡ over (get overwrites.now p) (stored_at pins.old.items start nodes.old.items p) }
     ensures pinned { (p : ℕ) → is_some (lookup (λ q. p == q) pins.new.items) ≡ is_some (lookup (λ q. p == q) pins.old.items) }
@@ -63,25 +64,25 @@ fn replace_all<F: Family, D: Digest>(
 }
 
 // Appends nodes, for which there is room.
-fn append<D: Digest>(nodes: &mut Vec<D>, digests: &[D])
-    requires { vec_len nodes.old + length digests.now ≤ vec_capacity nodes.old }
-    ensures capacity { vec_capacity nodes.new ≡ vec_capacity nodes.old }
+fn append<D: Digest>(nodes: &mut VecDeque<D>, digests: &[D])
+    requires { deque_len nodes.old + length digests.now ≤ deque_capacity nodes.old }
+    ensures capacity { deque_capacity nodes.new ≡ deque_capacity nodes.old }
     ensures items { nodes.new.items ≡ nodes.old.items ++ digests.now }
 {
     for digest in digests {
-        nodes.push_reserved(*digest);
+        nodes.push_back_reserved(*digest);
     }
 }
 
 /// Lays a record over the nodes that are held. There is room for the nodes that it appends.
 pub(crate) fn lay<F: Family, D: Digest>(
-    nodes: &mut Vec<D>,
+    nodes: &mut VecDeque<D>,
     pins: &mut Vec<(Position<F>, D)>,
     start: Position<F>,
     change: &Record<F, D>,
 )
-    requires { vec_len nodes.old + length change.now.appended ≤ vec_capacity nodes.old }
-    ensures capacity { vec_capacity nodes.new ≡ vec_capacity nodes.old }
+    requires { deque_len nodes.old + length change.now.appended ≤ deque_capacity nodes.old }
+    ensures capacity { deque_capacity nodes.new ≡ deque_capacity nodes.old }
     ensures len { length nodes.new.items ≡ length nodes.old.items + length change.now.appended }
     ensures pinned { (p : ℕ) → is_some (lookup (λ q. p == q) pins.new.items) ≡ is_some (lookup (λ q. p == q) pins.old.items) }
     ensures laid { (b : ℕ) → held_contents b pins.new.items start nodes.new.items ≡ laid change.now (held_contents b pins.old.items start nodes.old.items) }
@@ -92,13 +93,13 @@ pub(crate) fn lay<F: Family, D: Digest>(
 
 /// Lays records over the nodes that are held, one after another. There is room for the nodes that they append.
 pub(crate) fn lay_all<F: Family, D: Digest>(
-    nodes: &mut Vec<D>,
+    nodes: &mut VecDeque<D>,
     pins: &mut Vec<(Position<F>, D)>,
     start: Position<F>,
     changes: &[Rc<Record<F, D>>],
 )
-    requires { vec_len nodes.old + total_appended (map (λ r. r.value) changes.now) ≤ vec_capacity nodes.old }
-    ensures capacity { vec_capacity nodes.new ≡ vec_capacity nodes.old }
+    requires { deque_len nodes.old + total_appended (map (λ r. r.value) changes.now) ≤ deque_capacity nodes.old }
+    ensures capacity { deque_capacity nodes.new ≡ deque_capacity nodes.old }
     ensures len { length nodes.new.items ≡ length nodes.old.items + total_appended (map (λ r. r.value) changes.now) }
     ensures pinned { (p : ℕ) → is_some (lookup (λ q. p == q) pins.new.items) ≡ is_some (lookup (λ q. p == q) pins.old.items) }
     ensures laid { (b : ℕ) → held_contents b pins.new.items start nodes.new.items ≡ all_laid (map (λ r. r.value) changes.now) (held_contents b pins.old.items start nodes.old.items) }

@@ -1,5 +1,5 @@
 use Rattle.std.proofs.Common.{rules, ◌≡◌, ◌+◌, ◌∷◌, length, ◌∙◌, ap, arith, map, drop, add-one}
-use Rattle.std.specs.Vec.{vec_len}
+use Rattle.std.specs.VecDeque.{deque_len}
 use Rattle.merkle_core.specs.Held.{held_contents, total_appended}
 use Rattle.merkle_core.specs.Replay.{laid}
 use Rattle.merkle_core.proofs.Laid.{all_step, drop_here}
@@ -19,7 +19,7 @@ loop-change-preserved g c =
     let rs = map (λ r. r.value) c.args.changes.now in
     let here : drop i rs ≡ c.change-item.result.value ∷ drop (i + 1) rs = rw add-one (drop_here (λ r. r.value) c.args.changes.now i c.change-item.result c.loop-change-test.true c.change-item.is) in
     let alike : length c.deref.result.now.appended ≡ length c.change-item.result.value.appended = ap (λ r. length r.appended) c.deref.ensures in
-    let longer : vec_len c.lay.new.nodes ≡ vec_len c.loop-change.nodes + length c.deref.result.now.appended = search rules in (
+    let longer : deque_len c.lay.new.nodes ≡ deque_len c.loop-change.nodes + length c.deref.result.now.appended = search rules in (
       omega (arith, c.loop-change.invariant.0, ap total_appended here, alike, longer, c.lay.ensures.capacity),
       c.lay.ensures.capacity ∙ c.loop-change.invariant.1,
       omega (arith, c.loop-change.invariant.2, ap total_appended here, alike, c.lay.ensures.len),

@@ -49,5 +49,6 @@ invariant_of-result g c =
     let end : c.add-end.result ≡ c.location_to_position-start.result + length c.args.nodes.items = search rules in
     let found : (c.in-Some.leaves ≤ g.F.Family.MAX_LEAVES) × (size rule c.in-Some.leaves ≡ c.add-end.result) = search rules in
     let made : (c.in-Some-2.pins.items ≡ paired peaks c.args.pinned_nodes.items) × (length c.args.pinned_nodes.items ≡ length peaks) = search rules in
-    kept_parts rule g.F.Family.MAX_LEAVES c.args.pruning_boundary c.location_to_position-start.result c.in-Some.leaves c.in-Some-2.pins.items c.args.nodes.items c.args.pinned_nodes.items c.location_to_position-start.ensures
-    (record { bounded = found.0; sized = found.1 ∙ end }) made.0 made.1
+    let same : c.from.result.items ≡ c.args.nodes.items = search rules in
+    rw same (kept_parts rule g.F.Family.MAX_LEAVES c.args.pruning_boundary c.location_to_position-start.result c.in-Some.leaves c.in-Some-2.pins.items c.args.nodes.items c.args.pinned_nodes.items c.location_to_position-start.ensures
+    (record { bounded = found.0; sized = found.1 ∙ end }) made.0 made.1)

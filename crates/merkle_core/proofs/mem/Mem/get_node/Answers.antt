@@ -20,5 +20,5 @@ returns-else-lt g c =
     let from : i.start ≤ c.args.position = search rules in
     let read = stored_reads g.F.Family.rule g.F.Family.MAX_LEAVES i.boundary i.start i.leaves i.pins.items i.nodes.items c.self.invariant c.args.position in
     let offset : c.as_u64.result ≡ c.args.position - i.start = search rules in
-    c.copied.ensures ∙ get_reads c.deref-else-lt.result.now c.as_u64.result c.get.result c.get.ensures.lookup ∙ ap (λ ds. slice_get ds c.as_u64.result) c.deref-else-lt.ensures.value ∙ ap (slice_get i.nodes.items) offset
+    c.copied.ensures ∙ get_reads i.nodes.items c.as_u64.result c.get.result c.get.ensures.item ∙ ap (slice_get i.nodes.items) offset
     ∙ sym (rw (le-ltb c.args.position i.start from) at read) ∙ ap (λ s. node s c.args.position) c.self.view_is
