@@ -50,15 +50,16 @@ fn first_batch<F: Family, H: Hasher<F>>(
 /// A batch over that one, which changes the leaf 0, changes the leaf that was added, and adds one more.
 fn second_batch<F: Family, H: Hasher<F>>(
     rt: &impl Abort,
+    alloc: Global,
     first: &Rc<MerkleizedBatch<F, H::Digest>>,
     structure: &Mem<F, H::Digest>,
     hasher: &H,
 ) -> Rc<MerkleizedBatch<F, H::Digest>> {
-    let updates = [
-        (Location::new(5), leaf_digest(rt, hasher, 5, 0x01)),
-        (Location::new(0), leaf_digest(rt, hasher, 0, 0x10)),
-        (Location::new(5), leaf_digest(rt, hasher, 5, 0x11)),
-    ];
+    let mut updates = Vec::new(alloc);
+    for (leaf, element) in [(5, 0x01), (0, 0x10), (5, 0x11)] {
+        let update = (Location::new(leaf), leaf_digest(rt, hasher, leaf, element));
+        updates.push(update).expect(rt, "ample memory");
+    }
     let batch = granted!(rt, first.new_batch());
     let batch = granted!(rt, batch.update_leaf_batched(&updates));
     let last = leaf_digest(rt, hasher, 6, 0x20);
@@ -158,7 +159,7 @@ fn assert_history<F: Family, H: Hasher<F>>(rt: &impl Abort, alloc: Global, hashe
     let mut structure: Mem<F, _> = structure_of(rt, alloc, hasher, &BEFORE);
     let mut copy = structure.clone().expect(rt, "ample memory");
     let first = first_batch(rt, &structure, hasher);
-    let second = second_batch(rt, &first, &structure, hasher);
+    let second = second_batch(rt, alloc, &first, &structure, hasher);
     assert_same!(rt, second.root(hasher, 0), wanted.root(hasher, 0));
     assert_applied(rt, &mut copy, &second, Outcome::Done);
     assert_same_nodes(rt, &copy, &wanted);
