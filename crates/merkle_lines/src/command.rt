@@ -1,11 +1,15 @@
 //! A line as a command.
-ghost use Rattle.std.specs.Prelude.{◌≡◌, ◌<◌, ◌^◌, ◌↔◌, ℕ, IsTrue, IfSome, Some};
+ghost use Rattle.std.specs.Prelude.{◌≡◌, ◌≢◌, ◌<◌, ◌^◌, ◌↔◌, ℕ, List, [], ◌∷◌, codes, IsTrue, IfSome, IfNone, Some};
 ghost use Rattle.std.specs.Fmt.{decimal};
-ghost use Rattle.merkle_lines.specs.Words.{IsPadded};
+ghost use Rattle.merkle_core.specs.declared.family.Bagging.{Bagging};
+ghost use Rattle.merkle_lines.specs.declared.command.Command.{Command};
+ghost use Rattle.merkle_lines.specs.declared.command.FamilyName.{FamilyName};
+ghost use Rattle.merkle_lines.specs.declared.command.HashName.{HashName};
+ghost use Rattle.merkle_lines.specs.Commands.{family_word, bagging_word, hash_words, element_word, words_of, joined, IsCommand};
+ghost use Rattle.merkle_lines.specs.Words.{IsPadded, IsHexWord};
 
 use crate::hex_words::is_hex_word;
 use merkle_core::family::Bagging;
-use std::str::Split;
 
 /// The families.
 #[derive(Clone, Copy, Debug)]
@@ -74,7 +78,11 @@ pub fn read_count(word: &str) -> Option<usize>
 }
 
 // The digits of an element, of which `-` is the empty one.
-fn read_element(word: &str) -> Option<&str> {
+fn read_element(word: &str) -> Option<&str>
+    ensures spelled { IfSome result (λ digits. word.now ≡ element_word digits.now) }
+    ensures digits { IfSome result (λ digits. IsHexWord digits.now) }
+    ensures none { IfNone result ((digits : List ℕ) → IsHexWord digits → word.now ≢ element_word digits) }
+{
     match word {
         "" => None,
         "-" => Some(""),
@@ -82,38 +90,75 @@ fn read_element(word: &str) -> Option<&str> {
     }
 }
 
-fn read_new<'a>(words: &mut Split<'a, char>) -> Option<Command<'a>> {
-    let family = match words.next()? {
-        "mmr" => FamilyName::Mmr,
-        "mmb" => FamilyName::Mmb,
-        _ => return None,
-    };
-    let bagging = match words.next()? {
-        "forward" => Bagging::ForwardFold,
-        "backward" => Bagging::BackwardFold,
-        _ => return None,
-    };
-    let hash = match words.next() {
-        None => HashName::Sha256,
-        Some("xor8") => HashName::Xor8,
-        Some(_) => return None,
-    };
+fn read_family(word: &str) -> Option<FamilyName>
+    ensures spelled { IfSome result (λ family. word.now ≡ family_word family) }
+    ensures none { IfNone result ((family : FamilyName) → word.now ≢ family_word family) }
+{
+    match word {
+        "mmr" => Some(FamilyName::Mmr),
+        "mmb" => Some(FamilyName::Mmb),
+        _ => None,
+    }
+}
+
+fn read_bagging(word: &str) -> Option<Bagging>
+    ensures spelled { IfSome result (λ bagging. word.now ≡ bagging_word bagging) }
+    ensures none { IfNone result ((bagging : Bagging) → word.now ≢ bagging_word bagging) }
+{
+    match word {
+        "forward" => Some(Bagging::ForwardFold),
+        "backward" => Some(Bagging::BackwardFold),
+        _ => None,
+    }
+}
+
+// The bagging, and the hash that the word after it names.
+fn read_bagging_and_hash(words: &str) -> Option<(Bagging, HashName)>
+    ensures spelled { IfSome result (λ both. words.now ≡ joined (bagging_word both.0 ∷ hash_words both.1)) }
+    ensures none { IfNone result ((bagging : Bagging) (hash : HashName) → words.now ≢ joined (bagging_word bagging ∷ hash_words hash)) }
+{
+    match words.split_once(' ') {
+        None => Some((read_bagging(words)?, HashName::Sha256)),
+        Some((bagging, "xor8")) => Some((read_bagging(bagging)?, HashName::Xor8)),
+        Some(_) => None,
+    }
+}
+
+// The command of a line that is `new`, a space and these words.
+fn read_new(words: &str) -> Option<Command<'_>>
+    ensures spelled { IfSome result (λ command. joined (codes "new" ∷ words.now ∷ []) ≡ joined (words_of command)) }
+    ensures allowed { IfSome result (λ command. IsCommand command) }
+    ensures none { IfNone result ((command : Command) → IsCommand command → joined (codes "new" ∷ words.now ∷ []) ≢ joined (words_of command)) }
+{
+    let (family, rest) = words.split_once(' ')?;
+    let (bagging, hash) = read_bagging_and_hash(rest)?;
     Some(Command::New {
-        family,
+        family: read_family(family)?,
         bagging,
         hash,
     })
 }
 
 /// The command of a line, which lacks the byte that ended it; `None` where the line is none.
-pub fn read_command(line: &str) -> Option<Command<'_>> {
-    let mut words = line.split(' ');
-    let command = match words.next()? {
-        "new" => read_new(&mut words)?,
-        "add" => Command::Ask(Request::Add(read_element(words.next()?)?)),
-        "commit" => Command::Ask(Request::Commit),
-        "root" => Command::Ask(Request::Root(read_count(words.next()?)?)),
-        _ => return None,
-    };
-    words.next().is_none().then_some(command)
+///
+/// A command is its words, with one space between each two and nothing before or after them:
+/// - `new`, then `mmr` or `mmb`, then `forward` or `backward`, and then `xor8` where the hash is not SHA-256;
+/// - `add`, then an even number of hexadecimal digits of either case, or `-` for the empty element;
+/// - `commit`;
+/// - `root`, then a number below 2^64 in decimal digits, without leading zeros.
+pub fn read_command(line: &str) -> Option<Command<'_>>
+    ensures spelled { IfSome result (λ command. line.now ≡ joined (words_of command)) }
+    ensures allowed { IfSome result (λ command. IsCommand command) }
+    ensures none { IfNone result ((command : Command) → IsCommand command → line.now ≢ joined (words_of command)) }
+{
+    if line == "commit" {
+        return Some(Command::Ask(Request::Commit));
+    }
+    let (name, rest) = line.split_once(' ')?;
+    match name {
+        "new" => read_new(rest),
+        "add" => Some(Command::Ask(Request::Add(read_element(rest)?))),
+        "root" => Some(Command::Ask(Request::Root(read_count(rest)?))),
+        _ => None,
+    }
 }
