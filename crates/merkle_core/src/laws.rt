@@ -51,8 +51,8 @@ pub fn collision<D>()
     ensures collides { (h : Hashing D) → (rule : List ℕ → List ℕ) → TellsApart h → (X Y : List D) → length X ≡ length Y → peak_digests h rule X ≡ peak_digests h rule Y → (X ≡ Y) ⊎ Collide h rule X Y }
 {}
 
-// A batch that stands on lists is accepted at one of them, with the length and the peak digests of the `Mem`'s list: the `Mem` then agrees with
-// the last list, or the two lists collide at a node.
+/// A batch that stands on lists is accepted at one of them, with the length and the peak digests of the `Mem`'s list: the `Mem` then agrees with
+/// the last list, or the two lists collide at a node.
 pub fn acceptance<D>()
     ensures accepted { (h : Hashing D) → (rule : List ℕ → List ℕ) → TellsApart h → (k : Chain D) → (ls : List (List D)) → (c : Contents D) → (X : List D) → (i : ℕ)
         → StandsOn h rule (records k) ls → Agrees h rule c X → matched h.same c.size (held_peaks rule (length X) c) k ≡ Some i
