@@ -1,4 +1,5 @@
 //! How much is measured, and on which elements.
+ghost use Rattle.std.specs.Prelude.{◌≡◌, ◌<◌, ◌≤◌, All, IfOk, SomeIff, length};
 
 use std::alloc::{AllocError, Global};
 
@@ -17,7 +18,9 @@ pub struct Workload {
 
 impl Workload {
     /// Work at so many leaves, which are at least 1, and so many rounds.
-    pub fn new(leaves: u64, rounds: u64) -> Option<Self> {
+    pub fn new(leaves: u64, rounds: u64) -> Option<Self>
+        ensures { SomeIff result ((0 < leaves) × (leaves ≤ MOST_LEAVES)) (record { leaves = leaves; rounds = rounds }) }
+    {
         if leaves == 0 || leaves > MOST_LEAVES {
             return None;
         }
@@ -25,12 +28,16 @@ impl Workload {
     }
 
     /// The number of rounds.
-    pub fn rounds(&self) -> u64 {
+    pub fn rounds(&self) -> u64
+        ensures { result ≡ self.now.rounds }
+    {
         self.rounds
     }
 
     /// The elements of the leaves, all different.
-    pub fn elements(&self, alloc: Global) -> Result<Vec<Element>, AllocError> {
+    pub fn elements(&self, alloc: Global) -> Result<Vec<Element>, AllocError>
+        ensures { IfOk result (λ v. length v.items ≡ self.now.leaves) }
+    {
         let mut elements = Vec::new(alloc);
         for i in 0..self.leaves {
             elements.push(element_of(i))?;
@@ -38,15 +45,17 @@ impl Workload {
         Ok(elements)
     }
 
-    /// Up to 1,000 numbers below `end`, scattered, the same at each call; none where `end` is 0.
-    pub fn scattered(&self, alloc: Global, end: u64) -> Result<Vec<u64>, AllocError> {
+    /// Up to 1,000 numbers below the bound, scattered, the same at each call; none where the bound is 0.
+    pub fn scattered(&self, alloc: Global, bound: u64) -> Result<Vec<u64>, AllocError>
+        ensures below { IfOk result (λ v. All (λ n. n < bound) v.items) }
+    {
         let mut numbers = Vec::new(alloc);
         let mut state: u64 = 0;
         for _ in 0..self.leaves.min(1000) {
             // the step of Knuth's multiplicative hashing
             state = state.wrapping_add(0x9E37_79B9_7F4A_7C15);
             let number = (state ^ (state >> 29)).wrapping_mul(0xBF58_476D_1CE4_E5B9) >> 16;
-            if let Some(number) = number.checked_rem(end) {
+            if let Some(number) = number.checked_rem(bound) {
                 numbers.push(number)?;
             }
         }
