@@ -2,3 +2,4 @@ pub mod Digits
 pub mod Mmr
 pub mod Mmb
 pub mod BeltDigits
+pub mod Rows

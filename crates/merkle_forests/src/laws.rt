@@ -5,13 +5,17 @@ ghost use Rattle.std.specs.Prelude.{◌≡◌, ◌≢◌, ℕ, ◌+◌, ◌-◌,
 ghost use Rattle.std.specs.Int.{bit_at, trailing_ones};
 ghost use Rattle.std.specs.List.{range_with_len};
 ghost use Rattle.std.proofs.Common.{w64};
-ghost use Rattle.merkle_base.specs.Tree.{Tree, join, position, height, first_leaf};
+ghost use Rattle.merkle_base.specs.Tree.{Tree, leaf, join, position, height, first_leaf};
 ghost use Rattle.merkle_base.specs.Forest.{forest, size};
 ghost use Rattle.merkle_base.specs.Heights.{IsLawful, peak_heights, parent_heights};
-ghost use Rattle.merkle_base.specs.Places.{placed, peaks_of};
-ghost use Rattle.merkle_base.specs.Grafting.{AreCoordinates};
+ghost use Rattle.merkle_base.specs.Places.{placed, peaks_of, inactive_peaks};
+ghost use Rattle.merkle_base.specs.Grafting.{AreCoordinates, nodes_inside};
+ghost use Rattle.merkle_base.specs.Digests.{node_digests, peak_digests};
+ghost use Rattle.merkle_base.specs.Root.{folded, list_root};
+ghost use Rattle.merkle_base.specs.declared.family.Bagging.TheVariants.{ForwardFold, BackwardFold};
 ghost use Rattle.merkle_forests.specs.Mmr.{carries, AscendsFrom, IsPostorder, range_root, range_birth};
 ghost use Rattle.merkle_forests.specs.Mmb.{newest_pair, birth_leaf, root_position, belt_birth};
+ghost use Rattle.merkle_forests.specs.Rows.{unhashed, three_digests, four_peaks};
 
 /// The Mountain Range: its merges are lawful, and its counts and places have formulas.
 pub fn mountain_range()
@@ -82,4 +86,29 @@ pub fn worked_rows()
     // Leaf 9 comes where two pairs are equal, and the newer one is merged.
     ensures belt_pairs { (0 ∷ peak_heights newest_pair 9 ≡ 0 ∷ 0 ∷ 2 ∷ 2 ∷ []) × (peak_heights newest_pair 10 ≡ 1 ∷ 2 ∷ 2 ∷ []) }
     ensures belt_root { root_position 4 2 ≡ 14 }
+
+    // Three leaves, of which the first two are merged at position 2, the older one on the left.
+    ensures three_nodes { (forest carries 3).nodes ≡ leaf 0 0 ∷ leaf 1 1 ∷ join 2 (leaf 0 0) (leaf 1 1) ∷ leaf 3 2 ∷ [] }
+    ensures three_peaks { (forest carries 3).peaks ≡ leaf 3 2 ∷ join 2 (leaf 0 0) (leaf 1 1) ∷ [] }
+
+    // The peaks of 11 leaves end at the locations 8, 10 and 11.
+    ensures inactive { map (inactive_peaks carries 11) (7 ∷ 8 ∷ 9 ∷ 10 ∷ 11 ∷ []) ≡ 0 ∷ 1 ∷ 1 ∷ 2 ∷ 3 ∷ [] }
+
+    // With 8 leaves the node over the last four of them has not come.
+    ensures belt_chunk { map placed (nodes_inside newest_pair 8 4 8) ≡ (9, 1) ∷ (12, 1) ∷ [] }
+
+    // Where nothing is hashed a digest tells what it was made of.
+    ensures digests { node_digests unhashed carries three_digests ≡ (5 ∷ []) ∷ (6 ∷ []) ∷ (2 ∷ 5 ∷ 6 ∷ []) ∷ (7 ∷ []) ∷ [] }
+    ensures digests_of_peaks { peak_digests unhashed carries three_digests ≡ (2 ∷ 5 ∷ 6 ∷ []) ∷ (7 ∷ []) ∷ [] }
+
+    // Four peaks left to right, right to left, and the first two left to right with the others right to left.
+    ensures folds_forward { folded unhashed.fold ForwardFold 2 four_peaks ≡ Some (99 ∷ 99 ∷ 99 ∷ 1 ∷ 2 ∷ 3 ∷ 4 ∷ []) }
+    ensures folds_backward { folded unhashed.fold BackwardFold 0 four_peaks ≡ Some (99 ∷ 1 ∷ 99 ∷ 2 ∷ 99 ∷ 3 ∷ 4 ∷ []) }
+    ensures folds_apart { folded unhashed.fold BackwardFold 2 four_peaks ≡ Some (99 ∷ 99 ∷ 1 ∷ 2 ∷ 99 ∷ 3 ∷ 4 ∷ []) }
+
+    // The family's byte is 8. The bagging's byte, the leaf count, an inactive count above zero and the folded digest follow.
+    ensures root_bytes { list_root unhashed carries 8 ForwardFold three_digests 0 ≡ 8 ∷ 0 ∷ 0 ∷ 0 ∷ 0 ∷ 0 ∷ 0 ∷ 0 ∷ 0 ∷ 3 ∷ 99 ∷ 2 ∷ 5 ∷ 6 ∷ 7 ∷ [] }
+    ensures root_bytes_one { list_root unhashed carries 8 BackwardFold three_digests 1
+        ≡ 8 ∷ 1 ∷ 0 ∷ 0 ∷ 0 ∷ 0 ∷ 0 ∷ 0 ∷ 0 ∷ 3 ∷ 0 ∷ 0 ∷ 0 ∷ 0 ∷ 0 ∷ 0 ∷ 0 ∷ 1 ∷ 99 ∷ 2 ∷ 5 ∷ 6 ∷ 7 ∷ [] }
+    ensures root_bytes_empty { list_root unhashed carries 8 BackwardFold [] 0 ≡ 8 ∷ 1 ∷ 0 ∷ 0 ∷ 0 ∷ 0 ∷ 0 ∷ 0 ∷ 0 ∷ 0 ∷ [] }
 {}

@@ -15,4 +15,16 @@ returns c = record {
   belt_parents = refl;
   belt_pairs = (refl, refl);
   belt_root = refl;
+  three_nodes = refl;
+  three_peaks = refl;
+  inactive = refl;
+  belt_chunk = refl;
+  digests = refl;
+  digests_of_peaks = refl;
+  folds_forward = refl;
+  folds_backward = refl;
+  folds_apart = refl;
+  root_bytes = refl;
+  root_bytes_one = refl;
+  root_bytes_empty = refl;
 }

@@ -1,0 +1,24 @@
+-- Small cases, in which nothing is hashed.
+use Rattle.std.specs.Prelude.{ℕ, List, [], ◌∷◌, ◌++◌, eqb}
+use Rattle.std.specs.Cmp.Lexicographic.{pointwise}
+use Rattle.merkle_base.specs.Hashing.{Hashing}
+
+-- a digest is the list of what it was made of: a node its position and its two children, a fold 99 and its two parts
+abbrev pub unhashed : Hashing (List ℕ)
+unhashed = record {
+  leaf = λ p element. p ∷ element;
+  node = λ p a b. p ∷ a ++ b;
+  fold = λ a b. 99 ∷ a ++ b;
+  hash = λ bytes. bytes;
+  bytes = λ d. d;
+  same = pointwise eqb;
+  empty = [];
+}
+
+-- the digests of three leaves
+abbrev pub three_digests : List (List ℕ)
+three_digests = (5 ∷ []) ∷ (6 ∷ []) ∷ (7 ∷ []) ∷ []
+
+-- those of four peaks
+abbrev pub four_peaks : List (List ℕ)
+four_peaks = (1 ∷ []) ∷ (2 ∷ []) ∷ (3 ∷ []) ∷ (4 ∷ []) ∷ []
