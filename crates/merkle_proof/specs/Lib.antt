@@ -30,3 +30,4 @@ pub mod RangePlans
 pub mod ReadErrors
 pub mod ListRoot
 pub mod Path
+pub mod Rows

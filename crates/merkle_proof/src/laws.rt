@@ -1,24 +1,30 @@
 //! What holds of proofs against roots: the theory that the checks rest on.
 //!
 //! Each function is empty. Its contract is a law of the definitions in `specs/`.
+ghost use Rattle.std.specs.Prelude.{◌≡◌, ℕ, [], ◌∷◌, true, false, Some, map};
+ghost use Rattle.merkle_base.specs.Tree.{position};
+ghost use Rattle.merkle_base.specs.declared.family.Bagging.TheVariants.{ForwardFold, BackwardFold};
 ghost use Rattle.merkle_proof.specs.Audit.{AuditsRange, AuditsPair, HonestIsClear};
 ghost use Rattle.merkle_proof.specs.Check.{HonestRangeAccepted, NoOtherRange, PairConsistent};
 ghost use Rattle.merkle_proof.specs.Claim.{HonestAccepted, NothingElse, PairAgrees};
-ghost use Rattle.merkle_proof.specs.Collision.{AgreeOrCollide};
+ghost use Rattle.merkle_proof.specs.Collision.{AgreeOrCollide, Collides};
 ghost use Rattle.merkle_proof.specs.Complete.{HonestMultiAccepted, HonestPinsAccepted};
 ghost use Rattle.merkle_proof.specs.Exact.{SamePeaks, HonestNeverCollides};
+ghost use Rattle.merkle_proof.specs.Expression.{Join, PrefixFold, SuffixFold, Pair};
 ghost use Rattle.merkle_proof.specs.Extract.{ExtractsNodes};
 ghost use Rattle.merkle_proof.specs.FirstCollision.{FindsFirst};
 ghost use Rattle.merkle_proof.specs.ListRoot.{RootsAgree};
 ghost use Rattle.merkle_proof.specs.MultiClaim.{NoOtherMulti};
 ghost use Rattle.merkle_proof.specs.Multiproof.{HonestMultiIsAccepted, AcceptedMultiIsHonest, AtMost122};
 ghost use Rattle.merkle_proof.specs.Order.{PlacesInOrder, PlacesOnce};
-ghost use Rattle.merkle_proof.specs.Outside.{OutsideIsLayout};
+ghost use Rattle.merkle_proof.specs.Outside.{OutsideIsLayout, layout};
 ghost use Rattle.merkle_proof.specs.Path.{PathHasSiblings};
 ghost use Rattle.merkle_proof.specs.Pinned.{HonestPinnedIsAccepted, AcceptedPinnedIsHonest, PinsAreOldPeaks};
 ghost use Rattle.merkle_proof.specs.PinnedClaim.{NoOtherPins};
-ghost use Rattle.merkle_proof.specs.Range.{HonestIsAccepted, AcceptedIsHonest};
+ghost use Rattle.merkle_proof.specs.Plan.{folding, siblings, whole};
+ghost use Rattle.merkle_proof.specs.Range.{HonestIsAccepted, AcceptedIsHonest, AcceptsSome, IsHonestSome, in_range, overlapping, wholly_after, range_siblings};
 ghost use Rattle.merkle_proof.specs.RootString.{RootStringTellsAll};
+ghost use Rattle.merkle_proof.specs.Rows.{four, seven, single, alone, small, middle, swapped_inputs, list_inputs};
 ghost use Rattle.merkle_proof.specs.Store.{PartIsAccepted, SiblingsAreRead};
 ghost use Rattle.merkle_proof.specs.ThreeLeaves.{ThreeLeaves};
 ghost use Rattle.merkle_proof.specs.Verdict.{CheckDecides, ExtractsOnce, Verdicts, HonestMultiIsClear, HonestPinnedIsClear};
@@ -97,6 +103,49 @@ pub fn list_checks<D>()
 /// A wrong proof of one of three leaves under exclusive or, which is accepted, and the place where it collides.
 pub fn three_leaves()
     ensures { ThreeLeaves }
+{}
+
+/// The definitions of layouts and range checks on small cases, by computing.
+pub fn worked_rows()
+    ensures inside { map (in_range 1 3) (0 ∷ 1 ∷ 2 ∷ 3 ∷ []) ≡ false ∷ true ∷ true ∷ false ∷ [] }
+    ensures overlap { map position (overlapping 4 6 seven) ≡ 9 ∷ [] }
+    ensures after { map position (wholly_after 4 seven) ≡ 9 ∷ 10 ∷ [] }
+
+    // Beside leaf 1 of four its neighbour, and then the node over the other two.
+    ensures sibling_nodes { map position (siblings (in_range 1 2) four) ≡ 0 ∷ 5 ∷ [] }
+    ensures sibling_nodes_two { map position (range_siblings 3 5 seven) ≡ 2 ∷ 3 ∷ 8 ∷ [] }
+    ensures plan_forward { whole ForwardFold 2 (single 0 ∷ single 1 ∷ single 2 ∷ []) ≡ Some (folding (PrefixFold 2) (folding (PrefixFold 1) (alone 0) (alone 1)) (alone 2)) }
+    ensures plan_backward { whole BackwardFold 2 (single 0 ∷ single 1 ∷ single 2 ∷ single 3 ∷ [])
+        ≡ Some (folding Join (folding (PrefixFold 1) (alone 0) (alone 1)) (folding (SuffixFold 2) (alone 2) (alone 3))) }
+
+    // What a proof of the leaves of one peak begins with. Forward: the peaks before it folded, those after it single.
+    // Backward: of the peaks before it the inactive ones folded, of those after it the active ones, and the others single.
+    ensures layout_forward { layout ForwardFold 0 (single 0 ∷ single 1 ∷ []) (single 2 ∷ []) (single 3 ∷ single 4 ∷ []) ≡ folding (PrefixFold 1) (alone 0) (alone 1) ∷ alone 3 ∷ alone 4 ∷ [] }
+    ensures layout_before { layout BackwardFold 1 (single 0 ∷ single 1 ∷ single 2 ∷ []) (single 3 ∷ []) (single 4 ∷ single 5 ∷ [])
+        ≡ alone 0 ∷ alone 1 ∷ alone 2 ∷ folding (SuffixFold 4) (alone 4) (alone 5) ∷ [] }
+    ensures layout_after { layout BackwardFold 5 (single 0 ∷ single 1 ∷ []) (single 2 ∷ []) (single 3 ∷ single 4 ∷ single 5 ∷ single 6 ∷ [])
+        ≡ folding (PrefixFold 1) (alone 0) (alone 1) ∷ alone 3 ∷ alone 4 ∷ folding (SuffixFold 5) (alone 5) (alone 6) ∷ [] }
+
+    // The digests 1, 3 and 7 fold to 5, and with the leaf count hash to 6.
+    ensures honest { IsHonestSome small (1 ∷ 3 ∷ 7 ∷ []) 0 (middle 0 (1 ∷ 7 ∷ [])) }
+    ensures other_digests { IsHonestSome small (1 ∷ 3 ∷ 7 ∷ []) 0 (middle 0 (7 ∷ 1 ∷ [])) → ⊥ }
+    ensures other_element { IsHonestSome small (1 ∷ 2 ∷ 7 ∷ []) 0 (middle 0 (1 ∷ 7 ∷ [])) → ⊥ }
+    ensures accepts { AcceptsSome small (middle 0 (1 ∷ 7 ∷ [])) 6 }
+    ensures accepts_inactive { AcceptsSome small (middle 3 (1 ∷ 7 ∷ [])) 5 }
+
+    // Each of these inputs has one thing wrong. All but the first are against the root that is computed for them.
+    ensures other_root { AcceptsSome small (middle 0 (1 ∷ 7 ∷ [])) 5 → ⊥ }
+    ensures too_many_inactive { AcceptsSome small (middle 4 (1 ∷ 7 ∷ [])) 2 → ⊥ }
+    ensures too_many_digests { AcceptsSome small (middle 0 (1 ∷ 7 ∷ 9 ∷ [])) 6 → ⊥ }
+    ensures too_many_elements { AcceptsSome small (record { leaves = 3; inactive = 0; digests = 2 ∷ []; start = 2; elements = 7 ∷ 9 ∷ [] }) 6 → ⊥ }
+    ensures too_many_leaves { AcceptsSome small (record { leaves = 4; inactive = 0; digests = 1 ∷ 7 ∷ 2 ∷ []; start = 1; elements = 3 ∷ [] }) 3 → ⊥ }
+    ensures no_elements { AcceptsSome small (record { leaves = 3; inactive = 0; digests = 1 ∷ 3 ∷ 7 ∷ []; start = 1; elements = [] }) 2 → ⊥ }
+
+    // With its two digests swapped the proof of the middle leaf has the root too, and collides where the last peak is folded.
+    ensures accepts_swapped { AcceptsSome small (middle 0 (7 ∷ 1 ∷ [])) 6 }
+    ensures collides { Collides small.hashing swapped_inputs list_inputs (record { place = PrefixFold 2; claimed = Pair 4 1; listed = Pair 2 7 }) }
+    ensures no_collision { Collides small.hashing swapped_inputs list_inputs (record { place = PrefixFold 1; claimed = Pair 7 3; listed = Pair 1 3 }) → ⊥ }
+    ensures no_collision_alike { Collides small.hashing list_inputs list_inputs (record { place = PrefixFold 2; claimed = Pair 2 7; listed = Pair 2 7 }) → ⊥ }
 {}
 
 /// What a range check accepts: the honest inputs and, but for located collisions, no others.
