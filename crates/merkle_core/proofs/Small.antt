@@ -5,9 +5,9 @@ use Rattle.std.specs.Map.{lookup}
 use Rattle.std.proofs.lemmas.Bool.{ne_eqb}
 use Rattle.std.specs.Option.{unwrap_or}
 use Rattle.std.specs.List.{range_with_len}
-use Rattle.std.specs.Ordering.{nat_cmp}
+use Rattle.std.specs.Ordering.{nat_cmp, eq_by_cmp}
 use Rattle.std.specs.Cmp.{nat_cmp_total}
-use Rattle.std.specs.FinMap.{get, get-from_entries, get-empty}
+use Rattle.std.specs.FinMap.{FinMap, get, insert, empty, get-from_entries, get-empty, get-insert, len-empty}
 use Rattle.merkle_base.specs.Forest.{forest}
 use Rattle.merkle_forests.specs.Mmr.{carries}
 use Rattle.merkle_core.specs.Stands.{edited, is_touched, IsStep, StandsOn}
@@ -15,8 +15,9 @@ use Rattle.merkle_base.specs.Digests.{digest_at}
 use Rattle.merkle_core.specs.Contents.{pruned}
 use Rattle.merkle_base.specs.Tree.{Tree, leaf, join}
 use Rattle.merkle_core.specs.Replay.{over, laid, all_laid}
-use Rattle.merkle_core.specs.Read.{newest}
-use Rattle.merkle_core.specs.Rows.{xor, first_record, second_record, nothing, five, change}
+use Rattle.merkle_core.specs.Read.{newest, read_over}
+use Rattle.merkle_core.specs.Pending.{kept, pending_list, with_updates}
+use Rattle.merkle_core.specs.Rows.{xor, first_record, second_record, nothing, five, change, fourth, over_pruned}
 use Rattle.merkle_core.proofs.Stored.{find_lookup}
 
 at_zero : get second_record.overwritten 0 ≡ Some 17
@@ -47,6 +48,27 @@ at_seven = get-from_entries nat_cmp_total ((0, 17) ∷ (2, 16) ∷ (6, 19) ∷ [
 pub pruned_row : map (laid change (pruned carries 4 five)).node (range_with_len 0 9) ≡ None ∷ None ∷ None ∷ None ∷ None ∷ None ∷ Some 19 ∷ Some 2 ∷ None ∷ []
 unfolding forest
 pruned_row = (λ i. None ∷ None ∷ None ∷ None ∷ None ∷ None ∷ over (at_six i) (Some 3) ∷ over (at_seven i) (Some 2) ∷ None ∷ [])
+
+pub over_row : map (read_over (change ∷ []) five) (6 ∷ 7 ∷ 8 ∷ []) ≡ Some 19 ∷ Some 2 ∷ None ∷ []
+over_row = rw (at_six, at_seven) refl
+
+-- ---- a batch in the making
+pub none_row : kept (over_pruned 5) ≡ []
+none_row = rw (len-empty nat_cmp ℕ) refl
+
+pub added_row : pending_list carries fourth (3 ∷ 1 ∷ 7 ∷ []) ≡ 3 ∷ 1 ∷ 7 ∷ 9 ∷ []
+unfolding forest
+added_row = (λ i. unwrap_or (get-empty nat_cmp 0 i) 3 ∷ unwrap_or (get-empty nat_cmp 1 i) 1 ∷ unwrap_or (get-empty nat_cmp 3 i) 7 ∷ 9 ∷ [])
+
+abbrev twice : FinMap nat_cmp ℕ
+twice = insert (insert empty 3 5) 3 8
+
+twice_at : (q : ℕ) → get twice q ≡ cond (eq_by_cmp nat_cmp q 3) (Some 8) (cond (eq_by_cmp nat_cmp q 3) (Some 5) None)
+twice_at q = get-insert nat_cmp_total (insert empty 3 5) 3 8 q ∙ ap (cond (eq_by_cmp nat_cmp q 3) (Some 8)) (get-insert nat_cmp_total empty 3 5 q ∙ ap (cond (eq_by_cmp nat_cmp q 3) (Some 5)) (get-empty nat_cmp q))
+
+pub updated_row : pending_list carries (with_updates carries fourth ((2, 5) ∷ (3, 6) ∷ (2, 8) ∷ (3, 4) ∷ [])) (3 ∷ 1 ∷ 7 ∷ []) ≡ 3 ∷ 1 ∷ 8 ∷ 4 ∷ []
+unfolding forest
+updated_row = (λ i. unwrap_or (twice_at 0 i) 3 ∷ unwrap_or (twice_at 1 i) 1 ∷ unwrap_or (twice_at 3 i) 7 ∷ 4 ∷ [])
 
 -- ---- these records stand on lists
 none_at : (p : ℕ) → get first_record.overwritten p ≡ None

@@ -10,10 +10,10 @@ ghost use Rattle.merkle_base.specs.Forest.{forest, size};
 ghost use Rattle.merkle_base.specs.Hashing.{Hashing, TellsApart};
 ghost use Rattle.merkle_base.specs.Digests.{node_digests, peak_digests};
 ghost use Rattle.merkle_core.specs.Contents.{Contents, Agrees, is_kept, pruned, held_peaks};
-ghost use Rattle.merkle_core.specs.Pending.{Pending, kept, kept_lists};
+ghost use Rattle.merkle_core.specs.Pending.{Pending, OutOfBounds, Pruned, kept, kept_lists, pending_list, update_fault, first_fault, with_updates, without_ancestors};
 ghost use Rattle.merkle_core.specs.Recorded.{Recorded, Chain, records, after};
 ghost use Rattle.merkle_core.specs.Replay.{laid, all_laid, matched, applied};
-ghost use Rattle.merkle_core.specs.Stands.{StandsOn, last_list, edited, is_touched, IsStep};
+ghost use Rattle.merkle_core.specs.Stands.{StandsOn, last_list, edited, replaced, leaves_from, is_touched, IsStep};
 ghost use Rattle.merkle_core.specs.Read.{newest, read_over};
 ghost use Rattle.merkle_core.specs.Shows.{Shows};
 ghost use Rattle.merkle_core.specs.Based.{IsBased};
@@ -24,7 +24,7 @@ ghost use Rattle.std.specs.List.{range_with_len};
 ghost use Rattle.merkle_base.specs.Root.{list_root};
 ghost use Rattle.merkle_base.specs.declared.family.Bagging.TheVariants.{ForwardFold, BackwardFold};
 ghost use Rattle.merkle_forests.specs.Mmr.{carries};
-ghost use Rattle.merkle_core.specs.Rows.{xor, first_record, second_record, second_batch, nothing, at_two, five, change};
+ghost use Rattle.merkle_core.specs.Rows.{xor, first_record, second_record, second_batch, nothing, one, two, at_two, five, change, exchange, addition, exchanged_batch, fourth, over_pruned};
 ghost use Rattle.merkle_core.specs.Replay.{refusal, AncestorDropped, StaleBatch};
 
 /// What is kept at a later boundary is kept at an earlier one.
@@ -205,4 +205,40 @@ pub fn worked_rows()
     ensures stands { StandsOn xor carries (first_record ∷ second_record ∷ []) ([] ∷ (1 ∷ 3 ∷ []) ∷ (17 ∷ 3 ∷ 7 ∷ []) ∷ []) }
     ensures needs { IsNeeded carries (at_two 0 0) 2 2 (leaf 1 1) }
     ensures collide { Collide xor carries (1 ∷ 3 ∷ []) (2 ∷ 0 ∷ []) }
+
+    // The leaves at the locations 2, 3 and 4 stand at the positions 3, 4 and 7.
+    ensures replaces { replaced carries (at_two 3 4) 0 (5 ∷ 6 ∷ 7 ∷ 8 ∷ []) ≡ 5 ∷ 6 ∷ 0 ∷ 0 ∷ [] }
+    ensures added_leaves { leaves_from {D = ℕ} carries 2 3 (7 ∷ 8 ∷ 15 ∷ 16 ∷ 9 ∷ []) ≡ 7 ∷ 8 ∷ 9 ∷ [] }
+    ensures touches { map (is_touched (at_two 0 0)) (leaf 1 1 ∷ join 2 (leaf 0 0) (leaf 1 1) ∷ []) ≡ false ∷ true ∷ [] }
+    ensures touched_unneeded { IsNeeded carries (at_two 0 0) 2 2 (leaf 0 0) → ⊥ }
+    ensures new_unneeded { IsNeeded {D = ℕ} carries (λ p. None) 1 2 (leaf 1 1) → ⊥ }
+
+    // The size is that before the oldest record, or after it, but the peak is another one.
+    ensures unmatched { matched xor.same 0 (1 ∷ []) second_batch ≡ None }
+    ensures unmatched_later { matched xor.same 3 (1 ∷ []) second_batch ≡ None }
+
+    // Two of the states have this size and this peak: the newer one counts, unless one of them is that before the oldest record.
+    ensures matched_newest { matched xor.same 3 (0 ∷ []) exchanged_batch ≡ Some 2 }
+    ensures matched_oldest { matched xor.same 3 (0 ∷ []) (record exchanged_batch { ancestors = exchange ∷ [] }) ≡ Some 0 }
+    ensures accepts_later { applied xor.same carries 2 second_batch two ≡ Ok (laid second_record two) }
+    ensures refuses { applied xor.same carries 1 second_batch one ≡ Err (StaleBatch 0 1) }
+    ensures held { held_peaks carries 5 five ≡ 3 ∷ 2 ∷ [] }
+    ensures applied_size { (all_laid (first_record ∷ second_record ∷ []) nothing).size ≡ 4 }
+    ensures applied_boundary { (laid change (pruned carries 4 five)).boundary ≡ 4 }
+    ensures pruned_size { (pruned carries 4 five).size ≡ 8 }
+    ensures pruned_again { (pruned carries 2 (pruned carries 4 five)).boundary ≡ 4 }
+    ensures reads_over { map (read_over (change ∷ []) five) (6 ∷ 7 ∷ 8 ∷ []) ≡ Some 19 ∷ Some 2 ∷ None ∷ [] }
+    ensures keeps { kept fourth ≡ exchange ∷ addition ∷ [] }
+    ensures keeps_lists { kept_lists fourth ([] ∷ (1 ∷ 3 ∷ []) ∷ (3 ∷ 1 ∷ []) ∷ (3 ∷ 1 ∷ 7 ∷ []) ∷ []) ≡ (1 ∷ 3 ∷ []) ∷ (3 ∷ 1 ∷ []) ∷ (3 ∷ 1 ∷ 7 ∷ []) ∷ [] }
+    ensures keeps_none { kept (over_pruned 5) ≡ [] }
+    ensures lets_go { (without_ancestors fourth 5).forgotten ≡ 2 }
+    ensures adds { pending_list carries fourth (3 ∷ 1 ∷ 7 ∷ []) ≡ 3 ∷ 1 ∷ 7 ∷ 9 ∷ [] }
+
+    // Of several updates of one leaf the last one stays, of an old leaf and of an added one.
+    ensures updates { pending_list carries (with_updates carries fourth ((2, 5) ∷ (3, 6) ∷ (2, 8) ∷ (3, 4) ∷ [])) (3 ∷ 1 ∷ 7 ∷ []) ≡ 3 ∷ 1 ∷ 8 ∷ 4 ∷ [] }
+    ensures faults { map (update_fault carries (over_pruned 5)) (0 ∷ 3 ∷ 4 ∷ 5 ∷ []) ≡ Some (Pruned 0) ∷ Some (Pruned 4) ∷ None ∷ Some (OutOfBounds 5) ∷ [] }
+    ensures first_of_faults { first_fault carries (over_pruned 5) ((4, 1) ∷ (5, 1) ∷ (3, 1) ∷ []) ≡ Some (OutOfBounds 5) }
+
+    // With fewer leaves than are pruned, as no call makes them, there are both faults, and the first is that there is no such leaf.
+    ensures both_faults { update_fault carries (over_pruned 2) 3 ≡ Some (OutOfBounds 3) }
 {}

@@ -1,7 +1,7 @@
-use Rattle.std.proofs.Common.{refl, inl, inr, arith}
+use Rattle.std.proofs.Common.{◌≡◌, refl, inl, inr, arith, true, false}
 use Rattle.merkle_base.specs.Tree.{leaf}
 use Rattle.merkle_base.specs.Forest.{forest}
-use Rattle.merkle_core.proofs.Small.{edit_row, newest_row, applied_row, pruned_row, stands_row}
+use Rattle.merkle_core.proofs.Small.{edit_row, newest_row, applied_row, pruned_row, stands_row, over_row, none_row, added_row, updated_row}
 use Rattle.merkle_core.proofs.laws.worked_rows.Goals as goal
 
 pub returns : goal.returns
@@ -31,4 +31,30 @@ returns c = record {
   stands = stands_row;
   needs = (inl (2, leaf 0 0, leaf 1 1, refl, refl, inr refl), omega arith, refl);
   collide = (2, leaf 0 0, leaf 1 1, refl, record { one_digest = refl; differ = λ d. absurd (cc) });
+  replaces = refl;
+  added_leaves = refl;
+  touches = refl;
+  touched_unneeded = λ n. absurd (let e : true ≡ false = n.2 in cc);
+  new_unneeded = λ n. absurd (omega (arith, n.1));
+  unmatched = refl;
+  unmatched_later = refl;
+  matched_newest = refl;
+  matched_oldest = refl;
+  accepts_later = refl;
+  refuses = refl;
+  held = refl;
+  applied_size = refl;
+  applied_boundary = refl;
+  pruned_size = refl;
+  pruned_again = refl;
+  reads_over = over_row;
+  keeps = refl;
+  keeps_lists = refl;
+  keeps_none = none_row;
+  lets_go = refl;
+  adds = added_row;
+  updates = updated_row;
+  faults = refl;
+  first_of_faults = refl;
+  both_faults = refl;
 }
