@@ -87,6 +87,11 @@ pub fn worked_rows()
     ensures belt_pairs { (0 ∷ peak_heights newest_pair 9 ≡ 0 ∷ 0 ∷ 2 ∷ 2 ∷ []) × (peak_heights newest_pair 10 ≡ 1 ∷ 2 ∷ 2 ∷ []) }
     ensures belt_root { root_position 4 2 ≡ 14 }
 
+    // The node over the leaves 4 to 7: in the Mountain Range it is the 14th and comes with 8 leaves, in the Mountain Belt it comes with 9.
+    ensures range_stands { range_root 4 2 ≡ 13 }
+    ensures range_comes { range_birth 4 2 ≡ 8 }
+    ensures belt_comes { belt_birth 4 2 ≡ 9 }
+
     // Three leaves, of which the first two are merged at position 2, the older one on the left.
     ensures three_nodes { (forest carries 3).nodes ≡ leaf 0 0 ∷ leaf 1 1 ∷ join 2 (leaf 0 0) (leaf 1 1) ∷ leaf 3 2 ∷ [] }
     ensures three_peaks { (forest carries 3).peaks ≡ leaf 3 2 ∷ join 2 (leaf 0 0) (leaf 1 1) ∷ [] }
