@@ -1,5 +1,5 @@
 -- Small cases of layouts and range checks, with the exclusive or in the place of a hash.
-use Rattle.std.specs.Prelude.{ℕ, List, [], ◌∷◌, bit_xor, fold}
+use Rattle.std.specs.Prelude.{ℕ, List, [], ◌∷◌, ◌==◌, cond, bit_xor, fold}
 use Rattle.merkle_base.specs.Tree.{Tree, leaf, join}
 use Rattle.merkle_base.specs.declared.family.Bagging.TheVariants.{ForwardFold}
 use Rattle.merkle_proof.specs.Expression.{Input}
@@ -23,6 +23,12 @@ single i = leaf i i
 -- its plan
 abbrev pub alone : ℕ → Plan
 alone i = peak (single i)
+
+-- a merge rule: the new leaf with the newest peak, if that is one leaf
+abbrev pub paired : List ℕ → List ℕ
+paired [] = []
+paired (h ∷ []) = []
+paired (h ∷ a ∷ hs) = cond (h == a) (0 ∷ []) []
 
 -- up to three leaves, none merged; the hash of bytes is their exclusive or
 abbrev pub small : Setting ℕ

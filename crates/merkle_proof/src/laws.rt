@@ -1,7 +1,7 @@
 //! What holds of proofs against roots: the theory that the checks rest on.
 //!
 //! Each function is empty. Its contract is a law of the definitions in `specs/`.
-ghost use Rattle.std.specs.Prelude.{◌≡◌, ℕ, [], ◌∷◌, true, false, Some, map};
+ghost use Rattle.std.specs.Prelude.{◌≡◌, ℕ, [], ◌∷◌, true, false, Some, None, map};
 ghost use Rattle.merkle_base.specs.Tree.{position};
 ghost use Rattle.merkle_base.specs.declared.family.Bagging.TheVariants.{ForwardFold, BackwardFold};
 ghost use Rattle.merkle_proof.specs.Audit.{AuditsRange, AuditsPair, HonestIsClear};
@@ -10,9 +10,9 @@ ghost use Rattle.merkle_proof.specs.Claim.{HonestAccepted, NothingElse, PairAgre
 ghost use Rattle.merkle_proof.specs.Collision.{AgreeOrCollide, Collides};
 ghost use Rattle.merkle_proof.specs.Complete.{HonestMultiAccepted, HonestPinsAccepted};
 ghost use Rattle.merkle_proof.specs.Exact.{SamePeaks, HonestNeverCollides};
-ghost use Rattle.merkle_proof.specs.Expression.{Join, PrefixFold, SuffixFold, Pair};
+ghost use Rattle.merkle_proof.specs.Expression.{Root, Join, PrefixFold, SuffixFold, Node, Pair, Bytes, inputs};
 ghost use Rattle.merkle_proof.specs.Extract.{ExtractsNodes};
-ghost use Rattle.merkle_proof.specs.FirstCollision.{FindsFirst};
+ghost use Rattle.merkle_proof.specs.FirstCollision.{FindsFirst, first_collision};
 ghost use Rattle.merkle_proof.specs.ListRoot.{RootsAgree};
 ghost use Rattle.merkle_proof.specs.MultiClaim.{NoOtherMulti};
 ghost use Rattle.merkle_proof.specs.Multiproof.{HonestMultiIsAccepted, AcceptedMultiIsHonest, AtMost122};
@@ -21,12 +21,12 @@ ghost use Rattle.merkle_proof.specs.Outside.{OutsideIsLayout, layout};
 ghost use Rattle.merkle_proof.specs.Path.{PathHasSiblings};
 ghost use Rattle.merkle_proof.specs.Pinned.{HonestPinnedIsAccepted, AcceptedPinnedIsHonest, PinsAreOldPeaks};
 ghost use Rattle.merkle_proof.specs.PinnedClaim.{NoOtherPins};
-ghost use Rattle.merkle_proof.specs.Plan.{folding, siblings, whole};
-ghost use Rattle.merkle_proof.specs.Range.{HonestIsAccepted, AcceptedIsHonest, AcceptsSome, IsHonestSome, in_range, overlapping, wholly_after, range_siblings};
+ghost use Rattle.merkle_proof.specs.Plan.{folding, full, siblings, whole};
+ghost use Rattle.merkle_proof.specs.Range.{HonestIsAccepted, AcceptedIsHonest, AcceptsSome, IsHonestSome, in_range, overlapping, wholly_after, range_siblings, range_digests};
 ghost use Rattle.merkle_proof.specs.RootString.{RootStringTellsAll};
-ghost use Rattle.merkle_proof.specs.Rows.{four, seven, single, alone, small, middle, swapped_inputs, list_inputs};
+ghost use Rattle.merkle_proof.specs.Rows.{four, seven, single, alone, paired, small, middle, swapped_inputs, list_inputs};
 ghost use Rattle.merkle_proof.specs.Store.{PartIsAccepted, SiblingsAreRead};
-ghost use Rattle.merkle_proof.specs.ThreeLeaves.{ThreeLeaves};
+ghost use Rattle.merkle_proof.specs.ThreeLeaves.{ThreeLeaves, xor_hashing, three, plan_of_three};
 ghost use Rattle.merkle_proof.specs.Verdict.{CheckDecides, ExtractsOnce, Verdicts, HonestMultiIsClear, HonestPinnedIsClear};
 
 /// What holds of claims: trees of places in which some digests are given and the others computed.
@@ -115,8 +115,8 @@ pub fn worked_rows()
     ensures sibling_nodes { map position (siblings (in_range 1 2) four) ≡ 0 ∷ 5 ∷ [] }
     ensures sibling_nodes_two { map position (range_siblings 3 5 seven) ≡ 2 ∷ 3 ∷ 8 ∷ [] }
     ensures plan_forward { whole ForwardFold 2 (single 0 ∷ single 1 ∷ single 2 ∷ []) ≡ Some (folding (PrefixFold 2) (folding (PrefixFold 1) (alone 0) (alone 1)) (alone 2)) }
-    ensures plan_backward { whole BackwardFold 2 (single 0 ∷ single 1 ∷ single 2 ∷ single 3 ∷ [])
-        ≡ Some (folding Join (folding (PrefixFold 1) (alone 0) (alone 1)) (folding (SuffixFold 2) (alone 2) (alone 3))) }
+    ensures plan_backward { whole BackwardFold 2 (single 0 ∷ single 1 ∷ single 2 ∷ single 3 ∷ single 4 ∷ [])
+        ≡ Some (folding Join (folding (PrefixFold 1) (alone 0) (alone 1)) (folding (SuffixFold 2) (alone 2) (folding (SuffixFold 3) (alone 3) (alone 4)))) }
 
     // What a proof of the leaves of one peak begins with. Forward: the peaks before it folded, those after it single.
     // Backward: of the peaks before it the inactive ones folded, of those after it the active ones, and the others single.
@@ -125,6 +125,9 @@ pub fn worked_rows()
         ≡ alone 0 ∷ alone 1 ∷ alone 2 ∷ folding (SuffixFold 4) (alone 4) (alone 5) ∷ [] }
     ensures layout_after { layout BackwardFold 5 (single 0 ∷ single 1 ∷ []) (single 2 ∷ []) (single 3 ∷ single 4 ∷ single 5 ∷ single 6 ∷ [])
         ≡ folding (PrefixFold 1) (alone 0) (alone 1) ∷ alone 3 ∷ alone 4 ∷ folding (SuffixFold 5) (alone 5) (alone 6) ∷ [] }
+
+    // Of the first leaf, where the first two are merged: the peak after it, and then the second leaf.
+    ensures digests { range_digests (record small { rule = paired }) (1 ∷ 3 ∷ 7 ∷ []) 0 0 1 ≡ 7 ∷ 3 ∷ [] }
 
     // The digests 1, 3 and 7 fold to 5, and with the leaf count hash to 6.
     ensures honest { IsHonestSome small (1 ∷ 3 ∷ 7 ∷ []) 0 (middle 0 (1 ∷ 7 ∷ [])) }
@@ -141,11 +144,17 @@ pub fn worked_rows()
     ensures too_many_leaves { AcceptsSome small (record { leaves = 4; inactive = 0; digests = 1 ∷ 7 ∷ 2 ∷ []; start = 1; elements = 3 ∷ [] }) 3 → ⊥ }
     ensures no_elements { AcceptsSome small (record { leaves = 3; inactive = 0; digests = 1 ∷ 3 ∷ 7 ∷ []; start = 1; elements = [] }) 2 → ⊥ }
 
+    // What is hashed for a list: the string of the root, then the folds from the last one down, and then the nodes.
+    ensures inputs_folds { list_inputs ≡ record { place = Root; argument = Bytes (0 ∷ 0 ∷ 0 ∷ 0 ∷ 0 ∷ 0 ∷ 0 ∷ 0 ∷ 0 ∷ 3 ∷ 5 ∷ []) }
+        ∷ record { place = PrefixFold 2; argument = Pair 2 7 } ∷ record { place = PrefixFold 1; argument = Pair 1 3 } ∷ [] }
+    ensures inputs_nodes { inputs xor_hashing (full three plan_of_three) ≡ record { place = PrefixFold 1; argument = Pair 0 7 } ∷ record { place = Node 2; argument = Pair 1 3 } ∷ [] }
+
     // With its two digests swapped the proof of the middle leaf has the root too, and collides where the last peak is folded.
     ensures accepts_swapped { AcceptsSome small (middle 0 (7 ∷ 1 ∷ [])) 6 }
     ensures collides { Collides small.hashing swapped_inputs list_inputs (record { place = PrefixFold 2; claimed = Pair 4 1; listed = Pair 2 7 }) }
     ensures no_collision { Collides small.hashing swapped_inputs list_inputs (record { place = PrefixFold 1; claimed = Pair 7 3; listed = Pair 1 3 }) → ⊥ }
     ensures no_collision_alike { Collides small.hashing list_inputs list_inputs (record { place = PrefixFold 2; claimed = Pair 2 7; listed = Pair 2 7 }) → ⊥ }
+    ensures no_collision_elsewhere { first_collision small.hashing (record { place = PrefixFold 1; argument = Pair 4 1 } ∷ []) (record { place = PrefixFold 2; argument = Pair 2 7 } ∷ []) ≡ None }
 {}
 
 /// What a range check accepts: the honest inputs and, but for located collisions, no others.

@@ -15,6 +15,7 @@ returns c = record {
   layout_forward = refl;
   layout_before = refl;
   layout_after = refl;
+  digests = refl;
   honest = record { some = omega arith; within = omega arith; leaves = refl; inactive = refl; digests = refl; elements = refl };
   other_digests = λ r. absurd (let e : 7 ∷ 1 ∷ [] ≡ 1 ∷ 7 ∷ [] = r.digests in cc);
   other_element = λ r. absurd (let e : 3 ∷ [] ≡ 2 ∷ [] = r.elements in cc);
@@ -26,8 +27,11 @@ returns c = record {
   too_many_elements = λ a. absurd (omega (arith, a.within));
   too_many_leaves = λ a. absurd (omega (arith, a.leaves));
   no_elements = λ a. absurd (omega (arith, a.some));
+  inputs_folds = refl;
+  inputs_nodes = refl;
   accepts_swapped = record { some = omega arith; within = omega arith; leaves = omega arith; inactive = omega arith; counts = refl; root_is = refl };
   collides = record { claimed = inr (inl refl); listed = inr (inl refl); differ = λ e. absurd (cc); one_digest = refl };
   no_collision = λ c. absurd (omega (arith, c.one_digest));
   no_collision_alike = λ c. c.differ refl;
+  no_collision_elsewhere = refl;
 }
