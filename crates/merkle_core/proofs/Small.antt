@@ -1,6 +1,6 @@
 -- The small cases that look into a map.
 use Rattle.std.proofs.Common.{◌≡◌, ℕ, zero, suc, [], ◌∷◌, map, Some, None, slice_get, refl, sym, ap, cond, ◌≤◌, ◌∙◌, subst, arith}
-use Rattle.std.specs.Prelude.{is_some, ◌||◌, nat_eq}
+use Rattle.std.specs.Prelude.{is_some, not, ◌||◌, nat_eq}
 use Rattle.std.specs.Map.{lookup}
 use Rattle.std.proofs.lemmas.Bool.{ne_eqb}
 use Rattle.std.specs.Option.{unwrap_or}
@@ -17,7 +17,8 @@ use Rattle.merkle_base.specs.Tree.{Tree, leaf, join}
 use Rattle.merkle_core.specs.Replay.{over, laid, all_laid}
 use Rattle.merkle_core.specs.Read.{newest, read_over}
 use Rattle.merkle_core.specs.Pending.{kept, pending_list, with_updates}
-use Rattle.merkle_core.specs.Rows.{xor, first_record, second_record, nothing, five, change, fourth, over_pruned}
+use Rattle.merkle_core.specs.Rows.{xor, first_record, second_record, nothing, five, change, exchange, fourth, over_exchange, over_pruned}
+use Rattle.merkle_core.proofs.MapFacts.{none_entered}
 use Rattle.merkle_core.proofs.Stored.{find_lookup}
 
 at_zero : get second_record.overwritten 0 ≡ Some 17
@@ -53,6 +54,9 @@ pub over_row : map (read_over (change ∷ []) five) (6 ∷ 7 ∷ 8 ∷ []) ≡ S
 over_row = rw (at_six, at_seven) refl
 
 -- ---- a batch in the making
+pub exchange_row : kept over_exchange ≡ first_record ∷ exchange ∷ []
+exchange_row = sym (λ i. first_record ∷ cond (not (none_entered {D = ℕ} ((0, 3) ∷ (1, 1) ∷ (2, 0) ∷ []) i)) (exchange ∷ []) [])
+
 pub none_row : kept (over_pruned 5) ≡ []
 none_row = rw (len-empty nat_cmp ℕ) refl
 

@@ -67,6 +67,10 @@ exchanged_batch = record { base_size = 0; boundary = 0; ancestors = first_record
 abbrev pub fourth : Pending ℕ
 fourth = record { parent = exchanged_batch; leaves_before = 3; added = 9 ∷ []; overwritten = empty; forgotten = 1 }
 
+-- no changes, over a batch whose own record exchanges the leaves
+abbrev pub over_exchange : Pending ℕ
+over_exchange = forked (record { base_size = 0; boundary = 0; ancestors = first_record ∷ []; own = exchange }) 2 empty
+
 -- n leaves, forked from five leaves of which four are pruned
 abbrev pub over_pruned : ℕ → Pending ℕ
 over_pruned n = forked (root_batch carries 5 (pruned carries 4 five)) n empty

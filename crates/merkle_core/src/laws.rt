@@ -24,8 +24,9 @@ ghost use Rattle.std.specs.List.{range_with_len};
 ghost use Rattle.merkle_base.specs.Root.{list_root};
 ghost use Rattle.merkle_base.specs.declared.family.Bagging.TheVariants.{ForwardFold, BackwardFold};
 ghost use Rattle.merkle_forests.specs.Mmr.{carries};
-ghost use Rattle.merkle_core.specs.Rows.{xor, first_record, second_record, second_batch, nothing, one, two, at_two, five, change, exchange, addition, exchanged_batch, fourth, over_pruned};
+ghost use Rattle.merkle_core.specs.Rows.{xor, first_record, second_record, second_batch, nothing, one, two, at_two, five, change, exchange, addition, exchanged_batch, fourth, over_exchange, over_pruned};
 ghost use Rattle.merkle_core.specs.Replay.{refusal, AncestorDropped, StaleBatch};
+ghost use Rattle.merkle_core.specs.Roots.{root_batch};
 
 /// What is kept at a later boundary is kept at an earlier one.
 pub fn keeping()
@@ -213,14 +214,17 @@ pub fn worked_rows()
     ensures touched_unneeded { IsNeeded carries (at_two 0 0) 2 2 (leaf 0 0) → ⊥ }
     ensures new_unneeded { IsNeeded {D = ℕ} carries (λ p. None) 1 2 (leaf 1 1) → ⊥ }
 
-    // The size is that before the oldest record, or after it, but the peak is another one.
+    // The size is that before the oldest record, or after it, but the peaks are others; then the peaks are, but the size is another one.
     ensures unmatched { matched xor.same 0 (1 ∷ []) second_batch ≡ None }
     ensures unmatched_later { matched xor.same 3 (1 ∷ []) second_batch ≡ None }
+    ensures unmatched_size { matched xor.same 1 [] second_batch ≡ None }
+    ensures unmatched_size_later { matched xor.same 4 (0 ∷ []) second_batch ≡ None }
 
     // Two of the states have this size and this peak: the newer one counts, unless one of them is that before the oldest record.
     ensures matched_newest { matched xor.same 3 (0 ∷ []) exchanged_batch ≡ Some 2 }
     ensures matched_oldest { matched xor.same 3 (0 ∷ []) (record exchanged_batch { ancestors = exchange ∷ [] }) ≡ Some 0 }
     ensures accepts_later { applied xor.same carries 2 second_batch two ≡ Ok (laid second_record two) }
+    ensures stale_below { refusal 3 (root_batch carries 5 five) ≡ StaleBatch 8 3 }
     ensures refuses { applied xor.same carries 1 second_batch one ≡ Err (StaleBatch 0 1) }
     ensures held { held_peaks carries 5 five ≡ 3 ∷ 2 ∷ [] }
     ensures applied_size { (all_laid (first_record ∷ second_record ∷ []) nothing).size ≡ 4 }
@@ -230,6 +234,7 @@ pub fn worked_rows()
     ensures reads_over { map (read_over (change ∷ []) five) (6 ∷ 7 ∷ 8 ∷ []) ≡ Some 19 ∷ Some 2 ∷ None ∷ [] }
     ensures keeps { kept fourth ≡ exchange ∷ addition ∷ [] }
     ensures keeps_lists { kept_lists fourth ([] ∷ (1 ∷ 3 ∷ []) ∷ (3 ∷ 1 ∷ []) ∷ (3 ∷ 1 ∷ 7 ∷ []) ∷ []) ≡ (1 ∷ 3 ∷ []) ∷ (3 ∷ 1 ∷ []) ∷ (3 ∷ 1 ∷ 7 ∷ []) ∷ [] }
+    ensures keeps_overwritten { kept over_exchange ≡ first_record ∷ exchange ∷ [] }
     ensures keeps_none { kept (over_pruned 5) ≡ [] }
     ensures lets_go { (without_ancestors fourth 5).forgotten ≡ 2 }
     ensures adds { pending_list carries fourth (3 ∷ 1 ∷ 7 ∷ []) ≡ 3 ∷ 1 ∷ 7 ∷ 9 ∷ [] }

@@ -1,7 +1,7 @@
 use Rattle.std.proofs.Common.{◌≡◌, refl, inl, inr, arith, true, false}
 use Rattle.merkle_base.specs.Tree.{leaf}
 use Rattle.merkle_base.specs.Forest.{forest}
-use Rattle.merkle_core.proofs.Small.{edit_row, newest_row, applied_row, pruned_row, stands_row, over_row, none_row, added_row, updated_row}
+use Rattle.merkle_core.proofs.Small.{edit_row, newest_row, applied_row, pruned_row, stands_row, over_row, exchange_row, none_row, added_row, updated_row}
 use Rattle.merkle_core.proofs.laws.worked_rows.Goals as goal
 
 pub returns : goal.returns
@@ -38,9 +38,12 @@ returns c = record {
   new_unneeded = λ n. absurd (omega (arith, n.1));
   unmatched = refl;
   unmatched_later = refl;
+  unmatched_size = refl;
+  unmatched_size_later = refl;
   matched_newest = refl;
   matched_oldest = refl;
   accepts_later = refl;
+  stale_below = refl;
   refuses = refl;
   held = refl;
   applied_size = refl;
@@ -50,6 +53,7 @@ returns c = record {
   reads_over = over_row;
   keeps = refl;
   keeps_lists = refl;
+  keeps_overwritten = exchange_row;
   keeps_none = none_row;
   lets_go = refl;
   adds = added_row;
