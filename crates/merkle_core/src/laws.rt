@@ -214,7 +214,7 @@ pub fn worked_rows()
     ensures touched_unneeded { IsNeeded carries (at_two 0 0) 2 2 (leaf 0 0) → ⊥ }
     ensures new_unneeded { IsNeeded {D = ℕ} carries (λ p. None) 1 2 (leaf 1 1) → ⊥ }
 
-    // The size is that before the oldest record, or after it, but the peaks are others; then the peaks are, but the size is another one.
+    // The size before the oldest record, and after it, with another peak; then their peaks with another size.
     ensures unmatched { matched xor.same 0 (1 ∷ []) second_batch ≡ None }
     ensures unmatched_later { matched xor.same 3 (1 ∷ []) second_batch ≡ None }
     ensures unmatched_size { matched xor.same 1 [] second_batch ≡ None }
@@ -244,6 +244,6 @@ pub fn worked_rows()
     ensures faults { map (update_fault carries (over_pruned 5)) (0 ∷ 3 ∷ 4 ∷ 5 ∷ []) ≡ Some (Pruned 0) ∷ Some (Pruned 4) ∷ None ∷ Some (OutOfBounds 5) ∷ [] }
     ensures first_of_faults { first_fault carries (over_pruned 5) ((4, 1) ∷ (5, 1) ∷ (3, 1) ∷ []) ≡ Some (OutOfBounds 5) }
 
-    // With fewer leaves than are pruned, as no call makes them, there are both faults, and the first is that there is no such leaf.
+    // With fewer leaves than were pruned, which no call leads to, both faults hold, and that there is no such leaf is told.
     ensures both_faults { update_fault carries (over_pruned 2) 3 ≡ Some (OutOfBounds 3) }
 {}

@@ -87,7 +87,7 @@ pub fn worked_rows()
     ensures belt_pairs { (0 ∷ peak_heights newest_pair 9 ≡ 0 ∷ 0 ∷ 2 ∷ 2 ∷ []) × (peak_heights newest_pair 10 ≡ 1 ∷ 2 ∷ 2 ∷ []) }
     ensures belt_root { root_position 4 2 ≡ 14 }
 
-    // The node over the leaves 4 to 7: in the Mountain Range it is the 14th and comes with 8 leaves, in the Mountain Belt it comes with 9.
+    // The node over the leaves 4 to 7: its position in the Mountain Range, and the least leaf counts that have it.
     ensures range_stands { range_root 4 2 ≡ 13 }
     ensures range_comes { range_birth 4 2 ≡ 8 }
     ensures belt_comes { belt_birth 4 2 ≡ 9 }
