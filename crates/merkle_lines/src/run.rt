@@ -1,4 +1,9 @@
 //! The loop that reads lines and writes their answers.
+ghost use Rattle.std.specs.Prelude.{◌≡◌, ℕ, [], ◌∷◌, ◌++◌, List, Option, None, OnOk};
+ghost use Rattle.std.specs.Io.KnownBytes.{Appends, Consumes, IsAtEnd, Keeps};
+ghost use Rattle.merkle_lines.specs.AnswerText.{answer_text};
+ghost use Rattle.merkle_lines.specs.Held.{Tells};
+ghost use Rattle.merkle_lines.specs.Transcript.{Told, IsLineAnswered, IsTranscript, Leads, lines_after, lines_of};
 
 use crate::command::read_command;
 use crate::session::{Answer, Session};
@@ -23,47 +28,74 @@ pub enum RunError {
 
 // The work so far, and the line that has not ended yet.
 #[derive(Drop)]
-struct Answerer<'a, W> {
+struct Answerer {
     alloc: Global,
     session: Session,
     line: Vec<u8>,
-    writer: &'a mut W,
 }
 
-impl<W: io::Write> Answerer<'_, W> {
-    // Answers the line, and begins the next one.
-    fn end_line(&mut self) -> Result<(), RunError> {
-        let command = match from_utf8(self.line.as_slice()) {
-            Ok(line) => read_command(line),
-            Err(_) => None,
+impl Answerer {
+    // The answer to the line.
+    fn answer_line(&mut self) -> Answer
+        ensures line { self.new.line.items ≡ self.old.line.items }
+        ensures answered { (told : Option Told) → Tells self.old.session told → (v : Option Told) × Tells self.new.session v × IsLineAnswered told self.old.line.items v (answer_text result) }
+    {
+        let Ok(line) = from_utf8(self.line.as_slice()) else {
+            return Answer::Fault("Syntax");
         };
-        let answer = match command {
+        match read_command(line) {
             Some(command) => self.session.answer(self.alloc, command),
             None => Answer::Fault("Syntax"),
-        };
+        }
+    }
+
+    // Answers the line, and begins the next one.
+    fn end_line<W: io::Write>(&mut self, writer: &mut W) -> Result<(), RunError>
+        ensures next { OnOk result (self.new.line.items ≡ []) }
+        ensures answered { OnOk result ((told : Option Told) → Tells self.old.session told → (v : Option Told) × (text : List ℕ) × Tells self.new.session v × IsLineAnswered told self.old.line.items v text × Appends (W.contents writer.old) (W.contents writer.new) (text ++ 10 ∷ [])) }
+    {
+        let answer = self.answer_line();
         self.line.clear();
-        writeln!(self.writer, "{answer}").map_err(|_| RunError::WriteFailed)
+        writeln!(writer, "{answer}").map_err(|_| RunError::WriteFailed)
+    }
+
+    // Takes in the next byte, and answers the line that it ends.
+    fn take_byte<W: io::Write>(&mut self, byte: u8, writer: &mut W) -> Result<(), RunError>
+        ensures { OnOk result ((told : Option Told) → Tells self.old.session told → (v : Option Told) × (output : List ℕ) × Tells self.new.session v × Appends (W.contents writer.old) (W.contents writer.new) output × Leads told self.old.line.items (byte ∷ []) output v self.new.line.items) }
+    {
+        if byte == b'\n' {
+            return self.end_line(writer);
+        }
+        self.line.push(byte).map_err(|_| RunError::OutOfMemory)
     }
 
     // Takes in the next bytes, and answers each line that they end.
-    fn take(&mut self, bytes: &[u8]) -> Result<(), RunError> {
+    fn take<W: io::Write>(&mut self, bytes: &[u8], writer: &mut W) -> Result<(), RunError>
+        ensures { OnOk result ((told : Option Told) → Tells self.old.session told → (v : Option Told) × (output : List ℕ) × Tells self.new.session v × Appends (W.contents writer.old) (W.contents writer.new) output × Leads told self.old.line.items bytes.now output v self.new.line.items) }
+    {
         for byte in bytes {
-            if *byte == b'\n' {
-                self.end_line()?;
-            } else {
-                self.line.push(*byte).map_err(|_| RunError::OutOfMemory)?;
-            }
+            self.take_byte(*byte, writer)?;
         }
-        self.writer.flush().map_err(|_| RunError::WriteFailed)
+        flush(writer)
     }
 
     // Answers a last line that nothing ended.
-    fn finish(&mut self) -> Result<(), RunError> {
-        if !self.line.is_empty() {
-            self.end_line()?;
+    fn finish<W: io::Write>(&mut self, writer: &mut W) -> Result<(), RunError>
+        ensures { OnOk result ((told : Option Told) → Tells self.old.session told → (output : List ℕ) × Appends (W.contents writer.old) (W.contents writer.new) output × IsTranscript told (lines_after [] self.old.line.items) output) }
+    {
+        if self.line.is_empty() {
+            return flush(writer);
         }
-        self.writer.flush().map_err(|_| RunError::WriteFailed)
+        self.end_line(writer)?;
+        flush(writer)
     }
+}
+
+// Flushes the writer.
+fn flush<W: io::Write>(writer: &mut W) -> Result<(), RunError>
+    ensures { Keeps (W.contents writer.old) (W.contents writer.new) }
+{
+    writer.flush().map_err(|_| RunError::WriteFailed)
 }
 
 /// Answers each line of the reader by one line on the writer, up to the end of input.
@@ -75,18 +107,19 @@ pub fn run<R: io::Read, W: io::Write>(
     alloc: Global,
     reader: &mut R,
     writer: &mut W,
-) -> Result<(), RunError> {
+) -> Result<(), RunError>
+    ensures transcript { OnOk result ((input output : List ℕ) × Consumes (R.remaining reader.old) (R.remaining reader.new) input × IsAtEnd (R.remaining reader.new) × Appends (W.contents writer.old) (W.contents writer.new) output × IsTranscript None (lines_of input) output) }
+{
     let mut answerer = Answerer {
         alloc,
         session: Session::Absent,
         line: Vec::new(alloc),
-        writer,
     };
     let mut buffer = [0u8; 4096];
     for _ in 0..u64::MAX {
         match reader.read(&mut buffer) {
-            Ok(0) => return answerer.finish(),
-            Ok(count) => answerer.take(&buffer[..count])?,
+            Ok(0) => return answerer.finish(writer),
+            Ok(count) => answerer.take(&buffer[..count], writer)?,
             Err(e) => {
                 if e.kind() != io::ErrorKind::Interrupted {
                     return Err(RunError::ReadFailed);

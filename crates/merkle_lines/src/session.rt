@@ -1,4 +1,13 @@
 //! The structure that the lines work on, and their answers.
+ghost use Rattle.std.specs.Prelude.{◌≡◌, ◌≤◌, ℕ, List, Option, Some, None, codes, length, IfOk, IsOkUnless};
+ghost use Rattle.merkle_proof.specs.Standard.{standard};
+ghost use Rattle.merkle_lines.specs.Answers.{Given, kind_of, nothing, IsAnswered};
+ghost use Rattle.merkle_lines.specs.AnswerText.{answer_text};
+ghost use Rattle.merkle_lines.specs.Commands.{IsCommand};
+ghost use Rattle.merkle_lines.specs.ErrorNames.{error_name, hex_error_name};
+ghost use Rattle.merkle_lines.specs.Held.{IsHeld, Tells, adding};
+ghost use Rattle.merkle_lines.specs.Transcript.{Told, IsCommandAnswered};
+ghost use Rattle.merkle_lines.specs.Words.{IsHexWord};
 
 use crate::command::{Command, FamilyName, HashName, Request};
 use crate::hex_words::{HexError, read_hex, write_hex};
@@ -28,6 +37,8 @@ pub enum Answer {
 }
 
 impl fmt::Display for Answer {
+    ghost output = { λ a. Some (answer_text a) };
+
     fn fmt<W: fmt::Write>(&self, f: &mut fmt::Formatter<W>) -> fmt::Result {
         match self {
             Answer::Done => write!(f, "ok"),
@@ -52,11 +63,16 @@ macro_rules! or_fault {
 
 // An error that stops a request.
 trait Named {
+    ghost called: { Self → List ℕ };
+
     // The name that is printed for it.
-    fn name(&self) -> &'static str;
+    fn name(&self) -> &'static str
+        ensures { result.now ≡ called self.now };
 }
 
 impl Named for HexError {
+    ghost called = { hex_error_name };
+
     fn name(&self) -> &'static str {
         match self {
             HexError::Syntax => "Syntax",
@@ -66,12 +82,16 @@ impl Named for HexError {
 }
 
 impl Named for OutOfMemory {
+    ghost called = { λ _. codes "OutOfMemory" };
+
     fn name(&self) -> &'static str {
         "OutOfMemory"
     }
 }
 
 impl<F> Named for Error<F> {
+    ghost called = { error_name };
+
     fn name(&self) -> &'static str {
         match self {
             Error::NonLeaf(_) => "NonLeaf",
@@ -109,7 +129,10 @@ pub struct Structure<F: Family, H: PlainHasher> {
 
 impl<F: Family, H: PlainHasher> Structure<F, H> {
     // The empty structure, without a pending batch.
-    fn new(alloc: Global, bagging: Bagging) -> Self {
+    fn new(alloc: Global, bagging: Bagging) -> Self
+        ensures kind { result.hasher ≡ bagging }
+        ensures held { IsHeld (standard H.digest_of H.Digest.bytes H.Digest.eq H.Digest.EMPTY) F.rule result.committed result.pending nothing }
+    {
         Structure {
             hasher: Standard::new(bagging),
             committed: Mem::new(alloc),
@@ -118,14 +141,25 @@ impl<F: Family, H: PlainHasher> Structure<F, H> {
     }
 
     // The pending batch, which so is gone where the request is refused; without one, a new batch.
-    fn take_pending(&mut self) -> Result<UnmerkleizedBatch<F, H::Digest>, Error<F>> {
+    fn take_pending(&mut self) -> Result<UnmerkleizedBatch<F, H::Digest>, Error<F>>
+        ensures kind { self.new.hasher ≡ self.old.hasher }
+        ensures kept { self.new.committed ≡ self.old.committed }
+        ensures gone { self.new.pending ≡ None }
+        ensures batch { IfOk result (λ b. (g : Given) → IsHeld (standard H.digest_of H.Digest.bytes H.Digest.eq H.Digest.EMPTY) F.rule self.old.committed self.old.pending g → b ≡ adding (standard H.digest_of H.Digest.bytes H.Digest.eq H.Digest.EMPTY) F.rule self.old.committed (length g.committed) g.added) }
+        ensures bounded { (g : Given) → IsHeld (standard H.digest_of H.Digest.bytes H.Digest.eq H.Digest.EMPTY) F.rule self.old.committed self.old.pending g → length g.committed ≤ F.MAX_LEAVES }
+        ensures refused { IsOkUnless result Error.OutOfMemory }
+    {
+        let _leaves = self.committed.leaves();
         match self.pending.take() {
             Some(batch) => Ok(batch),
             None => self.committed.new_batch(),
         }
     }
 
-    fn add(&mut self, alloc: Global, digits: &str) -> Answer {
+    fn add(&mut self, alloc: Global, digits: &str) -> Answer
+        ensures kind { self.new.hasher ≡ self.old.hasher }
+        ensures answered { let h = standard H.digest_of H.Digest.bytes H.Digest.eq H.Digest.EMPTY in (g : Given) → IsHexWord digits.entry.now → IsHeld h F.rule self.old.committed self.old.pending g → (u : Given) × IsHeld h F.rule self.new.committed self.new.pending u × IsAnswered (kind_of h F.rule F.MAX_LEAVES F.DOMAIN self.old.hasher) g (Request.Add digits.entry) u (answer_text result) }
+    {
         let batch = or_fault!(self.take_pending());
         let element = or_fault!(read_hex(alloc, digits));
         let location = batch.leaves();
@@ -133,7 +167,10 @@ impl<F: Family, H: PlainHasher> Structure<F, H> {
         Answer::Added(location.as_u64())
     }
 
-    fn commit(&mut self) -> Answer {
+    fn commit(&mut self) -> Answer
+        ensures kind { self.new.hasher ≡ self.old.hasher }
+        ensures answered { let h = standard H.digest_of H.Digest.bytes H.Digest.eq H.Digest.EMPTY in (g : Given) → IsHeld h F.rule self.old.committed self.old.pending g → (u : Given) × IsHeld h F.rule self.new.committed self.new.pending u × IsAnswered (kind_of h F.rule F.MAX_LEAVES F.DOMAIN self.old.hasher) g Request.Commit u (answer_text result) }
+    {
         let batch = or_fault!(self.take_pending());
         let merkleized = or_fault!(batch.merkleize(&self.committed, &self.hasher));
         or_fault!(self.committed.apply_batch(&merkleized));
@@ -143,12 +180,17 @@ impl<F: Family, H: PlainHasher> Structure<F, H> {
         }
     }
 
-    fn root(&self, alloc: Global, inactive: usize) -> Answer {
+    fn root(&self, alloc: Global, inactive: usize) -> Answer
+        ensures { let h = standard H.digest_of H.Digest.bytes H.Digest.eq H.Digest.EMPTY in (g : Given) → IsHeld h F.rule self.now.committed self.now.pending g → IsAnswered (kind_of h F.rule F.MAX_LEAVES F.DOMAIN self.now.hasher) g (Request.Root inactive) g (answer_text result) }
+    {
         let root = or_fault!(self.committed.root(&self.hasher, inactive));
         Answer::Digest(or_fault!(write_hex(alloc, root.as_bytes())))
     }
 
-    fn answer(&mut self, alloc: Global, request: Request<'_>) -> Answer {
+    fn answer(&mut self, alloc: Global, request: Request<'_>) -> Answer
+        ensures kind { self.new.hasher ≡ self.old.hasher }
+        ensures answered { let h = standard H.digest_of H.Digest.bytes H.Digest.eq H.Digest.EMPTY in (g : Given) → IsCommand (Command.Ask request.entry) → IsHeld h F.rule self.old.committed self.old.pending g → (u : Given) × IsHeld h F.rule self.new.committed self.new.pending u × IsAnswered (kind_of h F.rule F.MAX_LEAVES F.DOMAIN self.old.hasher) g request.entry u (answer_text result) }
+    {
         match request {
             Request::Add(digits) => self.add(alloc, digits),
             Request::Commit => self.commit(),
@@ -169,7 +211,9 @@ pub enum Session {
 }
 
 impl Session {
-    fn open(alloc: Global, family: FamilyName, bagging: Bagging, hash: HashName) -> Session {
+    fn open(alloc: Global, family: FamilyName, bagging: Bagging, hash: HashName) -> Session
+        ensures { Tells result (Some (record { family = family; bagging = bagging; hash = hash; given = nothing })) }
+    {
         match (family, hash) {
             (FamilyName::Mmr, HashName::Sha256) => {
                 Session::MmrSha256(Structure::new(alloc, bagging))
@@ -185,7 +229,9 @@ impl Session {
     /// Does what the line says, and answers it.
     ///
     /// A refused `add` or `commit` leaves no pending batch, and the committed structure as it was.
-    pub fn answer(&mut self, alloc: Global, command: Command<'_>) -> Answer {
+    pub fn answer(&mut self, alloc: Global, command: Command<'_>) -> Answer
+        ensures { IsCommand command.entry → (told : Option Told) → Tells self.old told → (u : Option Told) × Tells self.new u × IsCommandAnswered told command.entry u (answer_text result) }
+    {
         match command {
             Command::New {
                 family,

@@ -1,0 +1,18 @@
+-- The answer of a session is that of its structure.
+use Rattle.std.proofs.Common.{◌≡◌, ℕ, List, Option, Some, sym, ap, subst}
+use Rattle.merkle_core.specs.declared.family.Bagging.{Bagging}
+use Rattle.merkle_lines.specs.declared.command.Command.{Command}
+use Rattle.merkle_lines.specs.declared.command.Command.TheVariants.{Ask}
+use Rattle.merkle_lines.specs.declared.command.FamilyName.{FamilyName}
+use Rattle.merkle_lines.specs.declared.command.HashName.{HashName}
+use Rattle.merkle_lines.specs.declared.command.Request.{Request}
+use Rattle.merkle_lines.specs.Answers.{Given, IsAnswered}
+use Rattle.merkle_lines.specs.Transcript.{Told, named_kind, IsCommandAnswered}
+
+pub dispatched : (family : FamilyName) (hash : HashName) (b c : Bagging) (g u : Given) (told : Option Told) (command : Command) (request : Request) (text : List ℕ)
+    → told ≡ Some (record { family = family; bagging = b; hash = hash; given = g }) → command ≡ Ask request → c ≡ b → IsAnswered (named_kind family b hash) g request u text
+    → IsCommandAnswered told command (Some (record { family = family; bagging = c; hash = hash; given = u })) text
+dispatched family hash b c g u told command request text t k same answered =
+    subst (λ x. IsCommandAnswered x command (Some (record { family = family; bagging = c; hash = hash; given = u })) text) (sym t)
+    (subst (λ x. IsCommandAnswered (Some (record { family = family; bagging = b; hash = hash; given = g })) x (Some (record { family = family; bagging = c; hash = hash; given = u })) text) (sym k)
+    (u, ap (λ x. Some (record { family = family; bagging = x; hash = hash; given = u })) same, answered))

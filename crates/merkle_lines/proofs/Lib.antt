@@ -1,0 +1,6 @@
+pub mod Additions
+pub mod AsciiLines
+pub mod Dispatched
+pub mod Holdings
+pub mod Replies
+pub mod Transcripts

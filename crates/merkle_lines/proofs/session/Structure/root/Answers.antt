@@ -1,0 +1,16 @@
+use Rattle.std.proofs.Common.{ap, ◌∙◌}
+use Rattle.hex.specs.Hex.{encode_lower}
+use Rattle.merkle_proof.specs.Standard.{standard}
+use Rattle.merkle_lines.specs.Answers.{error_line}
+use Rattle.merkle_lines.proofs.Replies.{root_refused, root_told}
+use Rattle.merkle_lines.proofs.session.Structure.root.Goals as goal
+
+pub returns-in-Err : goal.returns-in-Err
+returns-in-Err g c = λ given held.
+    root_refused (standard g.H.PlainHasher.digest_of g.H.Digest.Digest.bytes g.H.Digest.PartialEq.eq g.H.Digest.Digest.EMPTY) g.F.Family.rule g.F.Family.MAX_LEAVES g.F.Family.DOMAIN c.args.self.now.hasher given c.args.inactive c.root.result _
+    (c.root.ensures.listed _ held.agrees) (c.root.ensures.too_many _ held.agrees) c.in-Err.error c.in-Err.is (ap error_line c.name.ensures)
+
+pub returns : goal.returns
+returns g c = λ given held.
+    root_told (standard g.H.PlainHasher.digest_of g.H.Digest.Digest.bytes g.H.Digest.PartialEq.eq g.H.Digest.Digest.EMPTY) g.F.Family.rule g.F.Family.MAX_LEAVES g.F.Family.DOMAIN c.args.self.now.hasher given c.args.inactive c.root.result _
+    (c.root.ensures.listed _ held.agrees) (c.root.ensures.too_many _ held.agrees) c.in-Ok.value c.in-Ok.is (c.in-Ok-write_hex.ensures.digits ∙ ap encode_lower c.as_bytes.ensures)
