@@ -28,6 +28,9 @@ use std::alloc::AllocError;
 use std::marker::Model;
 use std::rc::{Rc, RcSlice};
 
+/// Room for the peaks of a structure, which are seldom more.
+const PEAKS_ROOM: usize = 16;
+
 /// A batch in the making.
 #[derive(Drop)]
 pub(crate) struct Draft<F: Family, D: Digest> {
@@ -203,7 +206,7 @@ impl<F: Family, D: Digest> Draft<F, D> {
         ensures read { IfOk result (λ _. ArePeaksRead F.rule leaves self.now.before (old_node self.now (contents base.now))) }
         ensures right { IfOk result (λ v. (truth : ℕ → D) → ReadsTrue (old_node self.now (contents base.now)) self.now.before truth → self.now.appended ≡ truths truth self.now.before (length self.now.appended) → v.items ≡ map truth (peak_positions F.rule leaves)) }
     {
-        let mut digests = Vec::new(*self.appended.allocator());
+        let mut digests = Vec::with_capacity(*self.appended.allocator(), PEAKS_ROOM)?;
         for (position, _) in F::peaks(F::location_to_position(leaves)) {
             digests.push(self.read_node(base, position)?)?;
         }

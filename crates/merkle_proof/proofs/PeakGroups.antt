@@ -1,13 +1,12 @@
 -- A location range splits the peaks into those before it, those that overlap it and those after it.
-use Rattle.std.proofs.Common.{◌≡◌, ℕ, Bool, true, false, cond, ◌&&◌, ◌||◌, nat_le, nat_lt, ◌+◌, ◌≤◌, ◌<◌, List, [], ◌∷◌, ◌++◌, ◌⊎◌, inl, inr, refl, ap, ap₂, sym, ◌∙◌, subst, ⊎_elim, arith, reverse, filter, flat_map, le-leb, lt-ltb, le-ltb, leb-true, ltb-true}
+use Rattle.std.proofs.Common.{◌≡◌, ℕ, Bool, true, false, cond, ◌&&◌, ◌||◌, nat_le, nat_lt, ◌+◌, ◌≤◌, ◌<◌, List, [], ◌∷◌, ◌++◌, ◌⊎◌, inl, inr, refl, ap, ap₂, sym, ◌∙◌, subst, ⊎_elim, arith, flat_map, le-leb, lt-ltb, le-ltb, leb-true, ltb-true}
 use Rattle.std.specs.List.{AllByRecursion}
-use Rattle.std.proofs.lemmas.List.{reverse-append}
 use Rattle.std.proofs.lemmas.Bool.{lt-leb}
 use Rattle.merkle_base.specs.Tree.{Tree, leaf, join, first_leaf, width, IsBuilt, end_leaf}
-use Rattle.merkle_base.specs.Forest.{forest, Covers}
+use Rattle.merkle_base.specs.Forest.{forest}
 use Rattle.merkle_base.proofs.Growth.{forest_grown}
 use Rattle.merkle_base.proofs.PeakLists.{Spans, covers_spans, all_reverse, filter_yes, filter_no, none_before}
-use Rattle.merkle_base.proofs.Nodes.{width_pos, all_append}
+use Rattle.merkle_base.proofs.Nodes.{width_pos}
 use Rattle.merkle_proof.specs.Plan.{whole, tree_meets, siblings}
 use Rattle.merkle_proof.specs.Outside.{layout, Unmet, Met, HasLayout}
 use Rattle.merkle_proof.specs.Check.{Setting}

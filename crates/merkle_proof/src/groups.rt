@@ -17,6 +17,12 @@ use merkle_base::position::Position;
 use std::alloc::{AllocError, Global};
 use std::ops::Range;
 
+/// Room for the peaks before and after a range, which are seldom more.
+const PEAKS_ROOM: usize = 16;
+
+/// Room for what a proof of one leaf reads, which is seldom more: its siblings and the peaks.
+const READS_ROOM: usize = 128;
+
 /// The peaks before a range, those that overlap it, and the positions of those after it, each oldest first.
 #[derive(Drop)]
 pub(crate) struct Groups<F> {
@@ -53,9 +59,9 @@ impl<F: Family> Groups<F> {
         ensures { IfOk result (λ gs. HoldsGroups range.now.start range.now.end gs (peaks_of F.rule leaves)) }
     {
         let mut groups = Groups {
-            before: Vec::new(alloc),
+            before: Vec::with_capacity(alloc, PEAKS_ROOM)?,
             overlapping: Vec::new(alloc),
-            after: Vec::new(alloc),
+            after: Vec::with_capacity(alloc, PEAKS_ROOM)?,
         };
         let mut first_leaf = Location::new(0);
         for (position, height) in F::peaks(F::location_to_position(leaves)) {
@@ -96,7 +102,7 @@ impl<F: Family> Groups<F> {
         requires groups { (n : ℕ) × (n ≤ F.MAX_LEAVES) × HoldsGroups range.now.start range.now.end self.now (peaks_of F.rule n) }
         ensures { IfOk result (λ v. (n : ℕ) → n ≤ F.MAX_LEAVES → HoldsGroups range.now.start range.now.end self.now (peaks_of F.rule n) → v.items ≡ map position (nodes_read F.rule n range.now.start range.now.end)) }
     {
-        let mut all = Vec::new(alloc);
+        let mut all = Vec::with_capacity(alloc, READS_ROOM)?;
         for peak in &self.before {
             all.push(peak.position)?;
         }

@@ -16,7 +16,7 @@ loop-position-init g c =
       g.met.F.Peaks.Listed.ends c.into_iter-position-iterator.result,
       ([], told, first_none c.args.self.now.before (old_node c.args.self.now (contents c.args.base.now))),
       λ truth reads same.
-          ap (λ ds. ds ++ map truth (map (λ q. q.0) (left c.into_iter-position-iterator.result))) c.new-digests.ensures.items ∙ ap (λ qs. map truth (map (λ q. q.0) qs)) told
+          ap (λ ds. ds ++ map truth (map (λ q. q.0) (left c.into_iter-position-iterator.result))) c.in_ok-digests.ensures.items ∙ ap (λ qs. map truth (map (λ q. q.0) qs)) told
           ∙ ap (map truth) (first-placed (peaks_of g.F.Family.rule c.args.leaves)),
     )
 
@@ -25,7 +25,7 @@ returns-in_err-read_node-clause-missing g c =
     let rule = g.F.Family.rule in
     let self = c.args.self.now in
     let read = old_node self (contents c.args.base.now) in
-    let p = err_from_is_err_and c.from_residual.result c.from_residual.ensures.1 in
+    let p = err_from_is_err_and c.from_residual-in_err-read_node.result c.from_residual-in_err-read_node.ensures.1 in
     let k = c.loop-position.invariant.2 in
     let y = g.met.F.Peaks.Listed.gives_first _ _ _ c.in-Some.ensures.steps in
     let listed : k.0 ++ (c.in-Some.position, c.in-Some.field-0-1) ∷ g.F.Peaks.Listed.left c.next.new.self ≡ map placed (peaks_of rule c.args.leaves) = ap (λ xs. k.0 ++ xs) (sym y) ∙ k.1 in

@@ -7,11 +7,11 @@ loop-position-init g c =
     let e = c.into_iter-position-iterator.ensures.into_iter_gives in (
       g.met.F.Peaks.Listed.may_go c.into_iter-position-iterator.result,
       g.met.F.Peaks.Listed.ends c.into_iter-position-iterator.result,
-      subst (λ (s : ℕ). Walked g.F.Family.rule g.F.Family.MAX_LEAVES c.args.leaves c.args.range.now.start c.args.range.now.end (g.F.Peaks.Listed.left c.into_iter-position-iterator.result) s (record { before = c.new.result; overlapping = c.new-2.result; after = c.new-3.result }))
+      subst (λ (s : ℕ). Walked g.F.Family.rule g.F.Family.MAX_LEAVES c.args.leaves c.args.range.now.start c.args.range.now.end (g.F.Peaks.Listed.left c.into_iter-position-iterator.result) s (record { before = c.in_ok-with_capacity.field-0; overlapping = c.new.result; after = c.in_ok-with_capacity-2.field-0 }))
           (sym c.new-first_leaf.ensures)
           (walk_begins g.F.Family.rule g.F.Family.MAX_LEAVES c.args.leaves c.args.range.now.start c.args.range.now.end _ _ c.requires.small
           (ap g.F.Peaks.Listed.left e ∙ c.peaks-position-items.ensures c.args.leaves c.requires.small (sym c.location_to_position.ensures))
-          (record { before = c.new.ensures.items; over = c.new-2.ensures.items; after = c.new-3.ensures.items })),
+          (record { before = c.in_ok-with_capacity.ensures.items; over = c.new.ensures.items; after = c.in_ok-with_capacity-2.ensures.items })),
     )
 
 pub leaf_end-first_leaf-requires : goal.leaf_end-first_leaf-requires
