@@ -1,4 +1,5 @@
 //! The time that pieces of work take.
+ghost use Rattle.std.specs.Prelude.{◌≡◌, ◌+◌, ◌%◌, ◌^◌, [], fold, IsOkUnless};
 
 use std::alloc::{AllocError, Global};
 use std::fmt;
@@ -50,7 +51,10 @@ pub struct Stopwatch<'a, C> {
 
 impl<'a, C: CpuClock> Stopwatch<'a, C> {
     /// A table without rows.
-    pub fn new(alloc: Global, clock: &'a C) -> Self {
+    pub fn new(alloc: Global, clock: &'a C) -> Self
+        ensures rows { result.rows.items ≡ [] }
+        ensures sum { result.sum ≡ 0 }
+    {
         Stopwatch {
             clock,
             rows: Vec::new(alloc),
@@ -59,7 +63,9 @@ impl<'a, C: CpuClock> Stopwatch<'a, C> {
     }
 
     /// The thread time so far.
-    pub fn now(&self) -> Result<Duration, Halt> {
+    pub fn now(&self) -> Result<Duration, Halt>
+        ensures { IsOkUnless result Halt.NoClock }
+    {
         self.clock.thread_cpu_time().map_err(|_| Halt::NoClock)
     }
 
@@ -88,7 +94,10 @@ impl<'a, C: CpuClock> Stopwatch<'a, C> {
     }
 
     /// Takes in what was computed.
-    pub fn keep(&mut self, bytes: &[u8]) {
+    pub fn keep(&mut self, bytes: &[u8])
+        ensures sum { self.new.sum ≡ fold (λ sum byte. (sum + byte) % 2 ^ 64) self.old.sum bytes.now }
+        ensures rows { self.new.rows.items ≡ self.old.rows.items }
+    {
         for byte in bytes {
             self.sum = self.sum.wrapping_add(u64::from(*byte));
         }
