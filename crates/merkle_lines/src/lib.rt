@@ -3,6 +3,7 @@
 
 mod command;
 pub mod hex_words;
+pub mod laws;
 pub mod run;
 mod session;
 #[cfg(test)]
