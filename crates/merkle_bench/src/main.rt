@@ -4,6 +4,10 @@
 //! table to standard error, in nanoseconds of thread time a unit, and one fixed line to standard output.
 #![tactic(auto)]
 
+ghost use Rattle.std.specs.Prelude.{◌≡◌, IfOk};
+ghost use Rattle.merkle_bench.specs.Table.{names};
+ghost use Rattle.merkle_bench.specs.Works.{after_all};
+
 mod stopwatch;
 mod trees;
 mod workload;
@@ -35,7 +39,9 @@ fn measure_all<'a, C: CpuClock>(
     alloc: Global,
     clock: &'a C,
     workload: &Workload,
-) -> Result<Stopwatch<'a, C>, Halt> {
+) -> Result<Stopwatch<'a, C>, Halt>
+    ensures { IfOk result (λ watch. names watch.rows.items ≡ after_all workload.now.rounds) }
+{
     let mut watch = Stopwatch::new(alloc, clock);
     measure::<mmr::Family, Sha256Plain, C>(alloc, &mut watch, "mmr sha256", workload)?;
     measure::<mmb::Family, Sha256Plain, C>(alloc, &mut watch, "mmb sha256", workload)?;

@@ -1,5 +1,7 @@
 //! The time that pieces of work take.
-ghost use Rattle.std.specs.Prelude.{◌≡◌, ◌+◌, ◌%◌, ◌^◌, [], fold, IsOkUnless};
+ghost use Rattle.std.specs.Prelude.{◌≡◌, ◌⊎◌, ℕ, ◌+◌, ◌%◌, ◌^◌, [], fold, IsOkUnless, IfOk, IfErr};
+ghost use Rattle.std.specs.List.{position};
+ghost use Rattle.merkle_bench.specs.Table.{is_named, noted, names, with_name};
 
 use std::alloc::{AllocError, Global};
 use std::fmt;
@@ -10,13 +12,13 @@ use thiserror::Error;
 #[derive(Clone, Copy, Debug, PartialEq, Eq, Error)]
 pub enum Halt {
     /// The clock failed.
-    #[error("merkle_bench: no clock")]
+    #[error("watch: no clock")]
     NoClock,
     /// There was no memory.
-    #[error("merkle_bench: out of memory")]
+    #[error("watch: out of memory")]
     OutOfMemory,
     /// A call refused what it should grant.
-    #[error("merkle_bench: refused")]
+    #[error("watch: refused")]
     Refused,
 }
 
@@ -26,12 +28,13 @@ struct Row {
     tree: &'static str,
     work: &'static str,
     units: u64,
-    least: Duration,
+    // in nanoseconds
+    least: u128,
 }
 
 impl fmt::Display for Row {
     fn fmt<W: fmt::Write>(&self, f: &mut fmt::Formatter<W>) -> fmt::Result {
-        let nanoseconds = self.least.as_nanos() / u128::from(self.units.max(1));
+        let nanoseconds = self.least / u128::from(self.units.max(1));
         write!(
             f,
             "{:14} {:34} {:8} {:12}",
@@ -69,6 +72,15 @@ impl<'a, C: CpuClock> Stopwatch<'a, C> {
         self.clock.thread_cpu_time().map_err(|_| Halt::NoClock)
     }
 
+    // The index of the row of that name.
+    fn place(&self, tree: &str, work: &str) -> Option<usize>
+        ensures { result ≡ position (is_named (tree.now, work.now)) self.now.rows.items }
+    {
+        self.rows
+            .iter()
+            .position(|row| row.tree == tree && row.work == work)
+    }
+
     /// Notes that so many units of work took the time since `start`.
     pub fn note(
         &mut self,
@@ -76,13 +88,18 @@ impl<'a, C: CpuClock> Stopwatch<'a, C> {
         work: &'static str,
         units: u64,
         start: Duration,
-    ) -> Result<(), Halt> {
-        let spent = self.now()?.saturating_sub(start);
-        for row in &mut self.rows {
-            if row.tree == tree && row.work == work {
-                row.least = row.least.min(spent);
-                return Ok(());
-            }
+    ) -> Result<(), Halt>
+        ensures sum { self.new.sum ≡ self.old.sum }
+        ensures refused { IfErr result (λ halt. (halt ≡ Halt.NoClock) ⊎ (halt ≡ Halt.OutOfMemory)) }
+        ensures kept { IfErr result (λ _. self.new.rows.items ≡ self.old.rows.items) }
+        ensures named { IfOk result (λ _. names self.new.rows.items ≡ with_name (tree.entry.now, work.entry.now) (names self.old.rows.items)) }
+        ensures noted { IfOk result (λ _. (spent : ℕ) × (self.new.rows.items ≡ noted (record { tree = tree.entry; work = work.entry; units = units; least = spent }) self.old.rows.items)) }
+    {
+        let spent = self.now()?.saturating_sub(start).as_nanos();
+        if let Some(i) = self.place(tree, work) {
+            let row = &mut self.rows[i];
+            row.least = row.least.min(spent);
+            return Ok(());
         }
         let row = Row {
             tree,

@@ -1,4 +1,7 @@
 //! The calls that are measured, at one family and one hash.
+ghost use Rattle.std.specs.Prelude.{◌≡◌, [], ◌∷◌, IfOk, codes};
+ghost use Rattle.merkle_bench.specs.Table.{names, with_name, with_works};
+ghost use Rattle.merkle_bench.specs.Works.{works, after_rounds};
 
 use crate::stopwatch::{Halt, Stopwatch};
 use crate::workload::{Element, Workload};
@@ -24,66 +27,74 @@ macro_rules! granted {
 
 /// What is measured at one family and one hash, under a name in the table.
 #[derive(Drop)]
-pub struct Trees<'a, 'c, C, H: PlainHasher> {
+struct Trees<H: PlainHasher> {
     alloc: Global,
-    watch: &'a mut Stopwatch<'c, C>,
     name: &'static str,
     hasher: Standard<H>,
 }
 
-impl<'a, 'c, C: CpuClock, H: PlainHasher> Trees<'a, 'c, C, H> {
+impl<H: PlainHasher> Trees<H> {
     // All leaves in one batch.
-    fn append_at_once<F: Family>(
-        &mut self,
+    fn append_at_once<F: Family, C: CpuClock>(
+        &self,
+        watch: &mut Stopwatch<C>,
         elements: &[Element],
-    ) -> Result<Mem<F, H::Digest>, Halt> {
+    ) -> Result<Mem<F, H::Digest>, Halt>
+        ensures { IfOk result (λ _. names watch.new.rows.items ≡ with_works self.now.name.now (codes "append at once: add" ∷ codes "append at once: merkleize" ∷ codes "append at once: apply" ∷ []) (names watch.old.rows.items)) }
+    {
         let units = elements.len() as u64;
         let mut structure = Mem::new(self.alloc);
-        let start = self.watch.now()?;
+        let start = watch.now()?;
         let mut batch = granted!(structure.new_batch());
         for element in elements {
             batch = granted!(batch.add(&self.hasher, element));
         }
-        self.watch
-            .note(self.name, "append at once: add", units, start)?;
-        let start = self.watch.now()?;
+        watch.note(self.name, "append at once: add", units, start)?;
+        let start = watch.now()?;
         let batch = granted!(batch.merkleize(&structure, &self.hasher));
-        self.watch
-            .note(self.name, "append at once: merkleize", units, start)?;
-        let start = self.watch.now()?;
+        watch.note(self.name, "append at once: merkleize", units, start)?;
+        let start = watch.now()?;
         granted!(structure.apply_batch(&batch));
-        self.watch
-            .note(self.name, "append at once: apply", units, start)?;
+        watch.note(self.name, "append at once: apply", units, start)?;
         Ok(structure)
     }
 
     // A batch for each leaf.
-    fn append_one_by_one<F: Family>(&mut self, elements: &[Element]) -> Result<(), Halt> {
+    fn append_one_by_one<F: Family, C: CpuClock>(
+        &self,
+        watch: &mut Stopwatch<C>,
+        elements: &[Element],
+    ) -> Result<(), Halt>
+        ensures { IfOk result (λ _. names watch.new.rows.items ≡ with_name (self.now.name.now, codes "append one by one") (names watch.old.rows.items)) }
+    {
         let mut structure: Mem<F, H::Digest> = Mem::new(self.alloc);
-        let start = self.watch.now()?;
+        let start = watch.now()?;
         for element in elements {
             let batch = granted!(structure.new_batch());
             let batch = granted!(batch.add(&self.hasher, element));
             let batch = granted!(batch.merkleize(&structure, &self.hasher));
             granted!(structure.apply_batch(&batch));
         }
-        self.watch.note(self.name, "append one by one", elements.len() as u64, start)
+        watch.note(self.name, "append one by one", elements.len() as u64, start)
     }
 
     // New elements for scattered leaves.
-    fn update<F: Family>(
-        &mut self,
+    fn update<F: Family, C: CpuClock>(
+        &self,
+        watch: &mut Stopwatch<C>,
         structure: &mut Mem<F, H::Digest>,
         leaves: &[u64],
-    ) -> Result<(), Halt> {
-        let start = self.watch.now()?;
+    ) -> Result<(), Halt>
+        ensures { IfOk result (λ _. names watch.new.rows.items ≡ with_name (self.now.name.now, codes "update, merkleize, apply") (names watch.old.rows.items)) }
+    {
+        let start = watch.now()?;
         let mut batch = granted!(structure.new_batch());
         for leaf in leaves {
             batch = granted!(batch.update_leaf(&self.hasher, Location::new(*leaf), b"new"));
         }
         let batch = granted!(batch.merkleize(structure, &self.hasher));
         granted!(structure.apply_batch(&batch));
-        self.watch.note(
+        watch.note(
             self.name,
             "update, merkleize, apply",
             leaves.len() as u64,
@@ -92,37 +103,46 @@ impl<'a, 'c, C: CpuClock, H: PlainHasher> Trees<'a, 'c, C, H> {
     }
 
     // The root, many times.
-    fn roots<F: Family>(&mut self, structure: &Mem<F, H::Digest>) -> Result<H::Digest, Halt> {
+    fn roots<F: Family, C: CpuClock>(
+        &self,
+        watch: &mut Stopwatch<C>,
+        structure: &Mem<F, H::Digest>,
+    ) -> Result<H::Digest, Halt>
+        ensures { IfOk result (λ _. names watch.new.rows.items ≡ with_name (self.now.name.now, codes "root") (names watch.old.rows.items)) }
+    {
         let units = 100;
         let mut root = H::Digest::EMPTY;
-        let start = self.watch.now()?;
+        let start = watch.now()?;
         for _ in 0..units {
             root = granted!(structure.root(&self.hasher, 0));
-            self.watch.keep(root.as_bytes());
+            watch.keep(root.as_bytes());
         }
-        self.watch.note(self.name, "root", units, start)?;
+        watch.note(self.name, "root", units, start)?;
         Ok(root)
     }
 
     // Proofs of scattered leaves, one for each, and their checks.
-    fn proofs<F: Family>(
-        &mut self,
+    fn proofs<F: Family, C: CpuClock>(
+        &self,
+        watch: &mut Stopwatch<C>,
         structure: &Mem<F, H::Digest>,
         elements: &[Element],
         leaves: &[u64],
         root: &H::Digest,
-    ) -> Result<(), Halt> {
+    ) -> Result<(), Halt>
+        ensures { IfOk result (λ _. names watch.new.rows.items ≡ with_works self.now.name.now (codes "proof of one" ∷ codes "check of one" ∷ []) (names watch.old.rows.items)) }
+    {
         let units = leaves.len() as u64;
         // one that is seen to fold forward
         let hasher = Standard::<H>::new(Bagging::ForwardFold);
         let mut proofs = Vec::new(self.alloc);
-        let start = self.watch.now()?;
+        let start = watch.now()?;
         for leaf in leaves {
             let proof = granted!(structure.proof(&hasher, Location::new(*leaf), 0));
             proofs.push(proof).map_err(|_| Halt::OutOfMemory)?;
         }
-        self.watch.note(self.name, "proof of one", units, start)?;
-        let start = self.watch.now()?;
+        watch.note(self.name, "proof of one", units, start)?;
+        let start = watch.now()?;
         for (proof, leaf) in proofs.iter().zip(leaves) {
             let Some(element) = elements.get(*leaf as usize) else {
                 return Err(Halt::Refused);
@@ -137,44 +157,61 @@ impl<'a, 'c, C: CpuClock, H: PlainHasher> Trees<'a, 'c, C, H> {
                 return Err(Halt::Refused);
             }
         }
-        self.watch.note(self.name, "check of one", units, start)
+        watch.note(self.name, "check of one", units, start)
     }
 
     // A copy, which is pruned to its half.
-    fn prune<F: Family>(&mut self, structure: &Mem<F, H::Digest>) -> Result<(), Halt> {
-        let start = self.watch.now()?;
+    fn prune<F: Family, C: CpuClock>(
+        &self,
+        watch: &mut Stopwatch<C>,
+        structure: &Mem<F, H::Digest>,
+    ) -> Result<(), Halt>
+        ensures { IfOk result (λ _. names watch.new.rows.items ≡ with_works self.now.name.now (codes "clone" ∷ codes "prune to half" ∷ []) (names watch.old.rows.items)) }
+    {
+        let start = watch.now()?;
         let mut copy = structure.clone().map_err(|_| Halt::OutOfMemory)?;
-        self.watch.note(self.name, "clone", 1, start)?;
+        watch.note(self.name, "clone", 1, start)?;
         let half = Location::new(structure.leaves().as_u64() / 2);
-        let start = self.watch.now()?;
+        let start = watch.now()?;
         granted!(copy.prune(half));
-        self.watch.note(self.name, "prune to half", 1, start)
+        watch.note(self.name, "prune to half", 1, start)
     }
 
     // The locations at the positions of all leaves, and at scattered positions.
-    fn locations<F: Family>(&mut self, leaves: u64, scattered: &[u64]) -> Result<(), Halt> {
+    fn locations<F: Family, C: CpuClock>(
+        &self,
+        watch: &mut Stopwatch<C>,
+        leaves: u64,
+        scattered: &[u64],
+    ) -> Result<(), Halt>
+        ensures { IfOk result (λ _. names watch.new.rows.items ≡ with_works self.now.name.now (codes "position_to_location of leaves" ∷ codes "position_to_location, scattered" ∷ []) (names watch.old.rows.items)) }
+    {
         let mut positions: Vec<Position<F>> = Vec::new(self.alloc);
         for leaf in 0..leaves {
             let position = granted!(Position::try_from(Location::<F>::new(leaf)));
             positions.push(position).map_err(|_| Halt::OutOfMemory)?;
         }
-        self.locations_at("position_to_location of leaves", &positions)?;
+        self.locations_at(watch, "position_to_location of leaves", &positions)?;
         positions.clear();
         for position in scattered {
             positions
                 .push(Position::new(*position))
                 .map_err(|_| Halt::OutOfMemory)?;
         }
-        self.locations_at("position_to_location, scattered", &positions)
+        self.locations_at(watch, "position_to_location, scattered", &positions)
     }
 
-    fn locations_at<F: Family>(
-        &mut self,
+    // The locations at these positions.
+    fn locations_at<F: Family, C: CpuClock>(
+        &self,
+        watch: &mut Stopwatch<C>,
         work: &'static str,
         positions: &[Position<F>],
-    ) -> Result<(), Halt> {
+    ) -> Result<(), Halt>
+        ensures { IfOk result (λ _. names watch.new.rows.items ≡ with_name (self.now.name.now, work.entry.now) (names watch.old.rows.items)) }
+    {
         let mut sum: u64 = 0;
-        let start = self.watch.now()?;
+        let start = watch.now()?;
         for position in positions {
             if !position.is_valid() {
                 return Err(Halt::Refused);
@@ -183,55 +220,64 @@ impl<'a, 'c, C: CpuClock, H: PlainHasher> Trees<'a, 'c, C, H> {
                 sum = sum.wrapping_add(location.as_u64());
             }
         }
-        self.watch.keep(&sum.to_be_bytes());
-        self.watch
-            .note(self.name, work, positions.len() as u64, start)
+        watch.keep(&sum.to_be_bytes());
+        watch.note(self.name, work, positions.len() as u64, start)
     }
 
     // The hash of 72 bytes, which is that of a node.
-    fn hashes(&mut self) -> Result<(), Halt> {
+    fn hashes<C: CpuClock>(&self, watch: &mut Stopwatch<C>) -> Result<(), Halt>
+        ensures { IfOk result (λ _. names watch.new.rows.items ≡ with_name (self.now.name.now, codes "hash of 72 bytes") (names watch.old.rows.items)) }
+    {
         let units = 1000;
         let mut bytes = [7u8; 72];
-        let start = self.watch.now()?;
+        let start = watch.now()?;
         for i in 0..units {
             bytes[0] = u64::to_be_bytes(i)[7];
-            self.watch.keep(H::hash(&[&bytes]).as_bytes());
+            watch.keep(H::hash(&[&bytes]).as_bytes());
         }
-        self.watch.note(self.name, "hash of 72 bytes", units, start)
+        watch.note(self.name, "hash of 72 bytes", units, start)
     }
 
     // One round.
-    fn round<F: Family>(&mut self, workload: &Workload, elements: &[Element]) -> Result<(), Halt> {
+    fn round<F: Family, C: CpuClock>(
+        &self,
+        watch: &mut Stopwatch<C>,
+        workload: &Workload,
+        elements: &[Element],
+    ) -> Result<(), Halt>
+        ensures { IfOk result (λ _. names watch.new.rows.items ≡ with_works self.now.name.now works (names watch.old.rows.items)) }
+    {
         let leaves = elements.len() as u64;
-        let mut structure: Mem<F, H::Digest> = self.append_at_once(elements)?;
-        self.append_one_by_one::<F>(elements)?;
-        let root = self.roots(&structure)?;
+        let mut structure: Mem<F, H::Digest> = self.append_at_once(watch, elements)?;
+        self.append_one_by_one::<F, C>(watch, elements)?;
+        let root = self.roots(watch, &structure)?;
         let some = workload.scattered(self.alloc, leaves)?;
-        self.proofs(&structure, elements, &some, &root)?;
-        self.prune(&structure)?;
-        self.update(&mut structure, &some)?;
+        self.proofs(watch, &structure, elements, &some, &root)?;
+        self.prune(watch, &structure)?;
+        self.update(watch, &mut structure, &some)?;
         let positions = workload.scattered(self.alloc, structure.size().as_u64())?;
-        self.locations::<F>(leaves, &positions)?;
-        self.hashes()
+        self.locations::<F, C>(watch, leaves, &positions)?;
+        self.hashes(watch)
     }
 }
 
-/// Measures all calls at a family and a hash.
+/// Measures all calls at a family and a hash, in as many rounds as the workload has, under that name in the table.
 pub fn measure<F: Family, H: PlainHasher, C: CpuClock>(
     alloc: Global,
     watch: &mut Stopwatch<C>,
     name: &'static str,
     workload: &Workload,
-) -> Result<(), Halt> {
+) -> Result<(), Halt>
+    ensures { IfOk result (λ _. names watch.new.rows.items ≡ after_rounds workload.now.rounds name.entry.now (names watch.old.rows.items)) }
+{
     let elements = workload.elements(alloc)?;
-    let mut trees: Trees<C, H> = Trees {
+    let trees: Trees<H> = Trees {
         alloc,
-        watch,
         name,
         hasher: Standard::new(Bagging::ForwardFold),
     };
     for _ in 0..workload.rounds() {
-        trees.round::<F>(workload, &elements)?;
+        trees.round::<F, C>(watch, workload, &elements)?;
     }
     Ok(())
 }
