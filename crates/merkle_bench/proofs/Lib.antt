@@ -1,2 +1,2 @@
-pub mod Names
+pub mod Entries
 pub mod Tables

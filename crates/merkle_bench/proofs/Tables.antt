@@ -1,9 +1,9 @@
 -- Rows that are noted, by the place where their name stands.
 use Rattle.std.proofs.Common.{◌≡◌, ℕ, zero, suc, ◌+◌, ◌<◌, ◌≤◌, List, [], ◌∷◌, ◌++◌, length, Bool, true, false, not, Some, None, cond, ◌||◌, arith, refl, ap, get_or, slice_set}
 use Rattle.std.proofs.Math.Dec.{ltb}
-use Rattle.std.specs.List.{position, position_or_len, list_any}
+use Rattle.std.specs.List.{position, position_or_len}
 use Rattle.merkle_bench.specs.declared.stopwatch.Row.{Row}
-use Rattle.merkle_bench.specs.Table.{name_of, same, is_named, with_time, noted, names, with_name}
+use Rattle.merkle_bench.specs.Table.{name_of, is_named, with_time, noted, entry_of, entries, knows, with_entry}
 
 noted_from_end : (new : Row) (rows : List Row) → length rows ≤ position_or_len (is_named (name_of new)) rows → noted new rows ≡ rows ++ new ∷ []
 noted_from_end new [] e = refl
@@ -49,13 +49,13 @@ noted_at new at rows i e = by (ltb n (length rows)) refl e
     by true l e = noted_from_place new at rows i (cc) (grind (arith, l, e))
     by false l e = absurd (cc)
 
--- the names of rows, once one is noted
-pub names_noted : (new : Row) (rows : List Row) → names (noted new rows) ≡ with_name (name_of new) (names rows)
-names_noted new [] = refl
-names_noted new (row ∷ rows) = by (is_named (name_of new) row) (list_any (λ other. same other (name_of new)) (names rows)) (names_noted new rows)
+-- the entries of rows, once one is noted
+pub entries_noted : (new : Row) (rows : List Row) → entries (noted new rows) ≡ with_entry (name_of new) new.units (entries rows)
+entries_noted new [] = refl
+entries_noted new (row ∷ rows) = by (is_named (name_of new) row) (knows (entries rows) (name_of new)) (entries_noted new rows)
   where
-    by : (b c : Bool) → names (noted new rows) ≡ cond c (names rows) (names rows ++ name_of new ∷ [])
-        → names (cond b (with_time row new.least ∷ rows) (row ∷ noted new rows)) ≡ cond (b || c) (name_of row ∷ names rows) (name_of row ∷ names rows ++ name_of new ∷ [])
+    by : (b c : Bool) → entries (noted new rows) ≡ cond c (entries rows) (entries rows ++ entry_of new ∷ [])
+        → entries (cond b (with_time row new.least ∷ rows) (row ∷ noted new rows)) ≡ cond (b || c) (entry_of row ∷ entries rows) (entry_of row ∷ entries rows ++ entry_of new ∷ [])
     by true c e = refl
-    by false true e = ap (name_of row ∷◌) e
-    by false false e = ap (name_of row ∷◌) e
+    by false true e = ap (entry_of row ∷◌) e
+    by false false e = ap (entry_of row ∷◌) e

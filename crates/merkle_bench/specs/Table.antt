@@ -28,18 +28,29 @@ abbrev pub noted : Row → List Row → List Row
 noted new [] = new ∷ []
 noted new (row ∷ rows) = cond (is_named (name_of new) row) (with_time row new.least ∷ rows) (row ∷ noted new rows)
 
--- the names of rows, in their order
-abbrev pub names : List Row → List Name
-names = map name_of
+-- what a row tells besides its time: its name and the units of work
+abbrev pub Entry : Type 0
+Entry = Name × ℕ
 
--- whether a name is among them
-abbrev pub knows : List Name → Name → Bool
-knows known name = list_any (λ other. same other name) known
+abbrev pub entry_of : Row → Entry
+entry_of row = (name_of row, row.units)
 
--- with a name at the end, if it wasn't there
-abbrev pub with_name : Name → List Name → List Name
-with_name name known = cond (knows known name) known (known ++ name ∷ [])
+-- the entries of rows, in their order
+abbrev pub entries : List Row → List Entry
+entries = map entry_of
 
--- with the name of each work at a tree
-abbrev pub with_works : (tree : List ℕ) → (works : List (List ℕ)) → List Name → List Name
-with_works tree works known = fold (λ names work. with_name (tree, work) names) known works
+-- whether one of them has the name
+abbrev pub knows : List Entry → Name → Bool
+knows known name = list_any (λ entry. same entry.0 name) known
+
+-- with an entry at the end, if none had its name
+abbrev pub with_entry : Name → (units : ℕ) → List Entry → List Entry
+with_entry name units known = cond (knows known name) known (known ++ (name, units) ∷ [])
+
+-- works, each with its units
+abbrev pub Works : Type 0
+Works = List (List ℕ × ℕ)
+
+-- with an entry for each work at a tree
+abbrev pub with_works : (tree : List ℕ) → Works → List Entry → List Entry
+with_works tree works known = fold (λ known work. with_entry (tree, work.0) work.1 known) known works

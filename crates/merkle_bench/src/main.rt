@@ -5,7 +5,7 @@
 #![tactic(auto)]
 
 ghost use Rattle.std.specs.Prelude.{◌≡◌, IfOk};
-ghost use Rattle.merkle_bench.specs.Table.{names};
+ghost use Rattle.merkle_bench.specs.Table.{entries};
 ghost use Rattle.merkle_bench.specs.Works.{after_all};
 
 mod stopwatch;
@@ -40,7 +40,7 @@ fn measure_all<'a, C: CpuClock>(
     clock: &'a C,
     workload: &Workload,
 ) -> Result<Stopwatch<'a, C>, Halt>
-    ensures { IfOk result (λ watch. names watch.rows.items ≡ after_all workload.now.rounds) }
+    ensures { IfOk result (λ watch. entries watch.rows.items ≡ after_all workload.now.leaves workload.now.rounds) }
 {
     let mut watch = Stopwatch::new(alloc, clock);
     measure::<mmr::Family, Sha256Plain, C>(alloc, &mut watch, "mmr sha256", workload)?;

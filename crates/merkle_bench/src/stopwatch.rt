@@ -1,7 +1,7 @@
 //! The time that pieces of work take.
 ghost use Rattle.std.specs.Prelude.{◌≡◌, ◌⊎◌, ℕ, ◌+◌, ◌%◌, ◌^◌, [], fold, IsOkUnless, IfOk, IfErr};
 ghost use Rattle.std.specs.List.{position};
-ghost use Rattle.merkle_bench.specs.Table.{is_named, noted, names, with_name};
+ghost use Rattle.merkle_bench.specs.Table.{entries, is_named, noted, with_entry};
 
 use std::alloc::{AllocError, Global};
 use std::fmt;
@@ -92,7 +92,7 @@ impl<'a, C: CpuClock> Stopwatch<'a, C> {
         ensures sum { self.new.sum ≡ self.old.sum }
         ensures refused { IfErr result (λ halt. (halt ≡ Halt.NoClock) ⊎ (halt ≡ Halt.OutOfMemory)) }
         ensures kept { IfErr result (λ _. self.new.rows.items ≡ self.old.rows.items) }
-        ensures named { IfOk result (λ _. names self.new.rows.items ≡ with_name (tree.entry.now, work.entry.now) (names self.old.rows.items)) }
+        ensures entered { IfOk result (λ _. entries self.new.rows.items ≡ with_entry (tree.entry.now, work.entry.now) units (entries self.old.rows.items)) }
         ensures noted { IfOk result (λ _. (spent : ℕ) × (self.new.rows.items ≡ noted (record { tree = tree.entry; work = work.entry; units = units; least = spent }) self.old.rows.items)) }
     {
         let spent = self.now()?.saturating_sub(start).as_nanos();

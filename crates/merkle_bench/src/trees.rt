@@ -1,7 +1,7 @@
 //! The calls that are measured, at one family and one hash.
-ghost use Rattle.std.specs.Prelude.{◌≡◌, [], ◌∷◌, IfOk, codes};
-ghost use Rattle.merkle_bench.specs.Table.{names, with_name, with_works};
-ghost use Rattle.merkle_bench.specs.Works.{works, after_rounds};
+ghost use Rattle.std.specs.Prelude.{◌≡◌, IfOk, codes, length};
+ghost use Rattle.merkle_bench.specs.Table.{entries, with_entry, with_works};
+ghost use Rattle.merkle_bench.specs.Works.{after_rounds, appends, copies, locations, proofs, works};
 
 use crate::stopwatch::{Halt, Stopwatch};
 use crate::workload::{Element, Workload};
@@ -40,7 +40,7 @@ impl<H: PlainHasher> Trees<H> {
         watch: &mut Stopwatch<C>,
         elements: &[Element],
     ) -> Result<Mem<F, H::Digest>, Halt>
-        ensures { IfOk result (λ _. names watch.new.rows.items ≡ with_works self.now.name.now (codes "append at once: add" ∷ codes "append at once: merkleize" ∷ codes "append at once: apply" ∷ []) (names watch.old.rows.items)) }
+        ensures { IfOk result (λ _. entries watch.new.rows.items ≡ with_works self.now.name.now (appends (length elements.now)) (entries watch.old.rows.items)) }
     {
         let units = elements.len() as u64;
         let mut structure = Mem::new(self.alloc);
@@ -65,7 +65,7 @@ impl<H: PlainHasher> Trees<H> {
         watch: &mut Stopwatch<C>,
         elements: &[Element],
     ) -> Result<(), Halt>
-        ensures { IfOk result (λ _. names watch.new.rows.items ≡ with_name (self.now.name.now, codes "append one by one") (names watch.old.rows.items)) }
+        ensures { IfOk result (λ _. entries watch.new.rows.items ≡ with_entry (self.now.name.now, codes "append one by one") (length elements.now) (entries watch.old.rows.items)) }
     {
         let mut structure: Mem<F, H::Digest> = Mem::new(self.alloc);
         let start = watch.now()?;
@@ -85,7 +85,7 @@ impl<H: PlainHasher> Trees<H> {
         structure: &mut Mem<F, H::Digest>,
         leaves: &[u64],
     ) -> Result<(), Halt>
-        ensures { IfOk result (λ _. names watch.new.rows.items ≡ with_name (self.now.name.now, codes "update, merkleize, apply") (names watch.old.rows.items)) }
+        ensures { IfOk result (λ _. entries watch.new.rows.items ≡ with_entry (self.now.name.now, codes "update, merkleize, apply") (length leaves.now) (entries watch.old.rows.items)) }
     {
         let start = watch.now()?;
         let mut batch = granted!(structure.new_batch());
@@ -108,7 +108,7 @@ impl<H: PlainHasher> Trees<H> {
         watch: &mut Stopwatch<C>,
         structure: &Mem<F, H::Digest>,
     ) -> Result<H::Digest, Halt>
-        ensures { IfOk result (λ _. names watch.new.rows.items ≡ with_name (self.now.name.now, codes "root") (names watch.old.rows.items)) }
+        ensures { IfOk result (λ _. entries watch.new.rows.items ≡ with_entry (self.now.name.now, codes "root") 100 (entries watch.old.rows.items)) }
     {
         let units = 100;
         let mut root = H::Digest::EMPTY;
@@ -130,7 +130,7 @@ impl<H: PlainHasher> Trees<H> {
         leaves: &[u64],
         root: &H::Digest,
     ) -> Result<(), Halt>
-        ensures { IfOk result (λ _. names watch.new.rows.items ≡ with_works self.now.name.now (codes "proof of one" ∷ codes "check of one" ∷ []) (names watch.old.rows.items)) }
+        ensures { IfOk result (λ _. entries watch.new.rows.items ≡ with_works self.now.name.now (proofs (length leaves.now)) (entries watch.old.rows.items)) }
     {
         let units = leaves.len() as u64;
         // one that is seen to fold forward
@@ -166,7 +166,7 @@ impl<H: PlainHasher> Trees<H> {
         watch: &mut Stopwatch<C>,
         structure: &Mem<F, H::Digest>,
     ) -> Result<(), Halt>
-        ensures { IfOk result (λ _. names watch.new.rows.items ≡ with_works self.now.name.now (codes "clone" ∷ codes "prune to half" ∷ []) (names watch.old.rows.items)) }
+        ensures { IfOk result (λ _. entries watch.new.rows.items ≡ with_works self.now.name.now copies (entries watch.old.rows.items)) }
     {
         let start = watch.now()?;
         let mut copy = structure.clone().map_err(|_| Halt::OutOfMemory)?;
@@ -184,7 +184,7 @@ impl<H: PlainHasher> Trees<H> {
         leaves: u64,
         scattered: &[u64],
     ) -> Result<(), Halt>
-        ensures { IfOk result (λ _. names watch.new.rows.items ≡ with_works self.now.name.now (codes "position_to_location of leaves" ∷ codes "position_to_location, scattered" ∷ []) (names watch.old.rows.items)) }
+        ensures { IfOk result (λ _. entries watch.new.rows.items ≡ with_works self.now.name.now (locations leaves (length scattered.now)) (entries watch.old.rows.items)) }
     {
         let mut positions: Vec<Position<F>> = Vec::new(self.alloc);
         for leaf in 0..leaves {
@@ -208,7 +208,7 @@ impl<H: PlainHasher> Trees<H> {
         work: &'static str,
         positions: &[Position<F>],
     ) -> Result<(), Halt>
-        ensures { IfOk result (λ _. names watch.new.rows.items ≡ with_name (self.now.name.now, work.entry.now) (names watch.old.rows.items)) }
+        ensures { IfOk result (λ _. entries watch.new.rows.items ≡ with_entry (self.now.name.now, work.entry.now) (length positions.now) (entries watch.old.rows.items)) }
     {
         let mut sum: u64 = 0;
         let start = watch.now()?;
@@ -226,7 +226,7 @@ impl<H: PlainHasher> Trees<H> {
 
     // The hash of 72 bytes, which is that of a node.
     fn hashes<C: CpuClock>(&self, watch: &mut Stopwatch<C>) -> Result<(), Halt>
-        ensures { IfOk result (λ _. names watch.new.rows.items ≡ with_name (self.now.name.now, codes "hash of 72 bytes") (names watch.old.rows.items)) }
+        ensures { IfOk result (λ _. entries watch.new.rows.items ≡ with_entry (self.now.name.now, codes "hash of 72 bytes") 1000 (entries watch.old.rows.items)) }
     {
         let units = 1000;
         let mut bytes = [7u8; 72];
@@ -245,7 +245,8 @@ impl<H: PlainHasher> Trees<H> {
         workload: &Workload,
         elements: &[Element],
     ) -> Result<(), Halt>
-        ensures { IfOk result (λ _. names watch.new.rows.items ≡ with_works self.now.name.now works (names watch.old.rows.items)) }
+        requires { length elements.now ≡ workload.now.leaves }
+        ensures { IfOk result (λ _. entries watch.new.rows.items ≡ with_works self.now.name.now (works workload.now.leaves) (entries watch.old.rows.items)) }
     {
         let leaves = elements.len() as u64;
         let mut structure: Mem<F, H::Digest> = self.append_at_once(watch, elements)?;
@@ -255,8 +256,7 @@ impl<H: PlainHasher> Trees<H> {
         self.proofs(watch, &structure, elements, &some, &root)?;
         self.prune(watch, &structure)?;
         self.update(watch, &mut structure, &some)?;
-        let positions = workload.scattered(self.alloc, structure.size().as_u64())?;
-        self.locations::<F, C>(watch, leaves, &positions)?;
+        self.locations::<F, C>(watch, leaves, &some)?;
         self.hashes(watch)
     }
 }
@@ -268,7 +268,7 @@ pub fn measure<F: Family, H: PlainHasher, C: CpuClock>(
     name: &'static str,
     workload: &Workload,
 ) -> Result<(), Halt>
-    ensures { IfOk result (λ _. names watch.new.rows.items ≡ after_rounds workload.now.rounds name.entry.now (names watch.old.rows.items)) }
+    ensures { IfOk result (λ _. entries watch.new.rows.items ≡ after_rounds workload.now.leaves workload.now.rounds name.entry.now (entries watch.old.rows.items)) }
 {
     let elements = workload.elements(alloc)?;
     let trees: Trees<H> = Trees {

@@ -1,5 +1,5 @@
 //! How much is measured, and on which elements.
-ghost use Rattle.std.specs.Prelude.{◌≡◌, ◌<◌, ◌≤◌, All, IfOk, SomeIff, length};
+ghost use Rattle.std.specs.Prelude.{◌≡◌, ◌<◌, ◌≤◌, min, nat_lt, cond, All, IfOk, SomeIff, length};
 
 use std::alloc::{AllocError, Global};
 
@@ -47,17 +47,19 @@ impl Workload {
 
     /// Up to 1,000 numbers below the bound, scattered, the same at each call; none where the bound is 0.
     pub fn scattered(&self, alloc: Global, bound: u64) -> Result<Vec<u64>, AllocError>
+        ensures counted { IfOk result (λ v. length v.items ≡ cond (nat_lt 0 bound) (min self.now.leaves 1000) 0) }
         ensures below { IfOk result (λ v. All (λ n. n < bound) v.items) }
     {
         let mut numbers = Vec::new(alloc);
+        if bound == 0 {
+            return Ok(numbers);
+        }
         let mut state: u64 = 0;
         for _ in 0..self.leaves.min(1000) {
             // the step of Knuth's multiplicative hashing
             state = state.wrapping_add(0x9E37_79B9_7F4A_7C15);
             let number = (state ^ (state >> 29)).wrapping_mul(0xBF58_476D_1CE4_E5B9) >> 16;
-            if let Some(number) = number.checked_rem(bound) {
-                numbers.push(number)?;
-            }
+            numbers.push(number % bound)?;
         }
         Ok(numbers)
     }

@@ -1,8 +1,8 @@
 use Rattle.std.proofs.Common.{rules, ◌≡◌, ℕ, slice_index_or, slice_set, sym, ◌∙◌, ap, min}
 use Rattle.merkle_bench.specs.declared.stopwatch.Row.{Row}
 use Rattle.std.proofs.lemmas.Result.{IfOk-weaker}
-use Rattle.merkle_bench.specs.Table.{noted, with_time, names, with_name}
-use Rattle.merkle_bench.proofs.Tables.{noted_absent, noted_at, names_noted}
+use Rattle.merkle_bench.specs.Table.{noted, with_time, entries, with_entry}
+use Rattle.merkle_bench.proofs.Tables.{noted_absent, noted_at, entries_noted}
 use Rattle.merkle_bench.proofs.stopwatch.Stopwatch.note.Goals as goal
 
 pub returns-in-Some-clause-noted : goal.returns-in-Some-clause-noted
@@ -17,15 +17,15 @@ returns-in-Some-clause-noted g c =
 pub returns-clause-noted : goal.returns-clause-noted
 returns-clause-noted g c = search (rules, noted_absent)
 
-pub returns-in-Some-clause-named : goal.returns-in-Some-clause-named
-returns-in-Some-clause-named g c =
+pub returns-in-Some-clause-entered : goal.returns-in-Some-clause-entered
+returns-in-Some-clause-entered g c =
     let n = returns-in-Some-clause-noted g c in
     let new : Row = record { tree = c.args.tree; work = c.args.work; units = c.args.units; least = n.0 } in
-    ap names n.1 ∙ names_noted new c.args.self.now.rows.items
+    ap entries n.1 ∙ entries_noted new c.args.self.now.rows.items
 
-pub returns-clause-named : goal.returns-clause-named
-returns-clause-named g c =
+pub returns-clause-entered : goal.returns-clause-entered
+returns-clause-entered g c =
     let new : ℕ → Row = λ time. record { tree = c.args.tree; work = c.args.work; units = c.args.units; least = time } in
-    IfOk-weaker c.map_err.result (λ _. (time : ℕ) × (c.push.new.self.items ≡ noted (new time) c.args.self.now.rows.items)) (λ _. names c.push.new.self.items ≡ with_name (c.args.tree.now, c.args.work.now) (names c.args.self.now.rows.items))
-    (λ _ n. ap names n.1 ∙ names_noted (new n.0) c.args.self.now.rows.items)
+    IfOk-weaker c.map_err.result (λ _. (time : ℕ) × (c.push.new.self.items ≡ noted (new time) c.args.self.now.rows.items)) (λ _. entries c.push.new.self.items ≡ with_entry (c.args.tree.now, c.args.work.now) c.args.units (entries c.args.self.now.rows.items))
+    (λ _ n. ap entries n.1 ∙ entries_noted (new n.0) c.args.self.now.rows.items)
     (returns-clause-noted g c)
