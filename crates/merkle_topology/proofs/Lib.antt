@@ -1,3 +1,4 @@
+pub mod BeltCounts
 pub mod BeltPeaks
 pub mod Perfect
 pub mod LeafCounts

@@ -244,18 +244,16 @@ fn leaf_count_within(nodes: u64) -> u64
     ensures within { size newest_pair result ≤ nodes }
     ensures greatest { nodes < size newest_pair (result + 1) }
 {
-    // n leaves have at most 2 * n nodes, and at least 2 * n - 64, since there are at most 64 peaks
-    let mut low = nodes / 2;
-    let mut high = (low + 32).min(MAX_LEAVES);
-    while low < high {
-        let middle = high - (high - low) / 2;
-        if node_count(middle) <= nodes {
-            low = middle;
-        } else {
-            high = middle - 1;
-        }
+    // nodes and peaks together are twice the leaves, and about as many peaks as the logarithm says
+    let low = (nodes + u64::from((nodes + 2).ilog2()) - 1) / 2;
+    if low >= MAX_LEAVES {
+        return low;
     }
-    low
+    if node_count(low + 1) <= nodes {
+        low + 1
+    } else {
+        low
+    }
 }
 
 /// The leaf with which the node of a height over the leaves from one on comes.
