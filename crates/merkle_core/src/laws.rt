@@ -226,6 +226,14 @@ pub fn worked_rows()
     ensures accepts_later { applied xor.same carries 2 second_batch two ≡ Ok (laid second_record two) }
     ensures stale_below { refusal 3 (root_batch carries 5 five) ≡ StaleBatch 8 3 }
     ensures refuses { applied xor.same carries 1 second_batch one ≡ Err (StaleBatch 0 1) }
+    ensures agrees { Agrees xor carries (pruned carries 4 five) (1 ∷ 3 ∷ 0 ∷ 0 ∷ 2 ∷ []) }
+
+    // With another leaf, with pruned nodes, without a node, with fewer nodes, and pruned past the end.
+    ensures agrees_otherwise { Agrees xor carries five (1 ∷ 3 ∷ 0 ∷ 0 ∷ 4 ∷ []) → ⊥ }
+    ensures agrees_unpruned { Agrees xor carries (record five { boundary = 4 }) (1 ∷ 3 ∷ 0 ∷ 0 ∷ 2 ∷ []) → ⊥ }
+    ensures agrees_partly { Agrees xor carries (record (pruned carries 4 five) { boundary = 0 }) (1 ∷ 3 ∷ 0 ∷ 0 ∷ 2 ∷ []) → ⊥ }
+    ensures agrees_shorter { Agrees xor carries (record five { size = 7 }) (1 ∷ 3 ∷ 0 ∷ 0 ∷ 2 ∷ []) → ⊥ }
+    ensures agrees_beyond { Agrees xor carries (pruned carries 6 five) (1 ∷ 3 ∷ 0 ∷ 0 ∷ 2 ∷ []) → ⊥ }
     ensures held { held_peaks carries 5 five ≡ 3 ∷ 2 ∷ [] }
     ensures applied_size { (all_laid (first_record ∷ second_record ∷ []) nothing).size ≡ 4 }
     ensures applied_boundary { (laid change (pruned carries 4 five)).boundary ≡ 4 }

@@ -1,4 +1,4 @@
-use Rattle.std.proofs.Common.{◌≡◌, refl, inl, inr, arith, true, false}
+use Rattle.std.proofs.Common.{◌≡◌, ◌≤◌, refl, inl, inr, arith, true, false, Some, None}
 use Rattle.merkle_base.specs.Tree.{leaf}
 use Rattle.merkle_base.specs.Forest.{forest}
 use Rattle.merkle_core.proofs.Small.{edit_row, newest_row, applied_row, pruned_row, stands_row, over_row, exchange_row, none_row, added_row, updated_row}
@@ -45,6 +45,12 @@ returns c = record {
   accepts_later = refl;
   stale_below = refl;
   refuses = refl;
+  agrees = record { sized = refl; bounded = omega arith; holds = λ p. refl };
+  agrees_otherwise = λ a. absurd (let e : Some 2 ≡ Some 4 = a.holds 7 in cc);
+  agrees_unpruned = λ a. absurd (let e : Some 1 ≡ None = a.holds 0 in cc);
+  agrees_partly = λ a. absurd (let e : None ≡ Some 1 = a.holds 0 in cc);
+  agrees_shorter = λ a. absurd (let e : 7 ≡ 8 = a.sized in cc);
+  agrees_beyond = λ a. absurd (let e : 6 ≤ 5 = a.bounded in omega arith);
   held = refl;
   applied_size = refl;
   applied_boundary = refl;
