@@ -3,7 +3,7 @@ use Rattle.std.proofs.Common.{◌≡◌, ℕ, zero, suc, ◌+◌, ◌-◌, ◌*�
 use Rattle.std.specs.List.{AllByRecursion}
 use Rattle.std.proofs.Math.Bool.{and-false}
 use Rattle.std.proofs.Math.Nat.{mul-le-mul_right}
-use Rattle.std.proofs.lemmas.Bool.{lt-leb}
+use Rattle.std.proofs.lemmas.Bool.{lt-leb, cases_lt}
 use Rattle.std.proofs.lemmas.Bool.Decides.{leb_tells}
 use Rattle.std.proofs.lemmas.List.{map-append, reverse-append}
 use Rattle.std.proofs.lemmas.Nat.{pow-add}
@@ -15,9 +15,9 @@ use Rattle.merkle_base.specs.Grafting.{is_inside, maximal_inside, nodes_inside, 
 use Rattle.merkle_base.proofs.Growth.{forest_grown, built_at, under_itself}
 use Rattle.merkle_base.proofs.Nodes.{width_pos, first_under, end_under, built_under}
 use Rattle.merkle_base.proofs.Balance.{balanced_count, node_balanced}
-use Rattle.merkle_base.proofs.Limits.{le_or_lt, log_below}
+use Rattle.merkle_base.proofs.Limits.{log_below}
 use Rattle.merkle_base.proofs.Lists.{get_below}
-use Rattle.merkle_base.proofs.PeakLists.{Spans, covers_spans, spans_end, all_reverse}
+use Rattle.merkle_base.proofs.PeakLists.{Spans, spans_end, peaks_spans, peaks_built}
 
 -- ---- whether a tree lies inside
 inside_yes : (a b : ℕ) (t : Tree) → a ≤ first_leaf t → end_leaf t ≤ b → is_inside a b t ≡ true
@@ -116,12 +116,6 @@ under_reverse u (t ∷ ts) h = subst (IsUnderOne u) (sym (reverse-append (t ∷ 
   | inr w ↦ under_left u (reverse ts) (t ∷ []) (under_reverse u ts w)
 ])
 
-peaks_spans : (rule : List ℕ → List ℕ) (n : ℕ) → Spans 0 n (peaks_of rule n)
-peaks_spans rule n = covers_spans n (forest rule n).peaks (forest_grown rule n).covers
-
-peaks_built : (rule : List ℕ → List ℕ) (n : ℕ) → AllByRecursion (IsBuilt (forest rule n).nodes) (peaks_of rule n)
-peaks_built rule n = all_reverse (IsBuilt (forest rule n).nodes) (forest rule n).peaks (forest_grown rule n).built
-
 -- over the leaves of a node stands that node alone
 pub nodes_inside_own : (rule : List ℕ → List ℕ) (n p : ℕ) (t : Tree) → slice_get (forest rule n).nodes p ≡ Some t → nodes_inside rule n (first_leaf t) (end_leaf t) ≡ t ∷ []
 nodes_inside_own rule n p t e =
@@ -141,9 +135,6 @@ append_swap ts us vs ws h = elim h [
 
 tells_inside : (a b x y : ℕ) → ((a ≤ x) × (y ≤ b)) ⊎ ((x < a) ⊎ (b < y))
 tells_inside a b x y = grind arith
-
-le_or_le : (a b : ℕ) → (a ≤ b) ⊎ (b ≤ a)
-le_or_le a b = grind arith
 
 -- a tree outside a..c is outside a..b and b..c
 outside_left : (a b c x y : ℕ) → b ≤ c → (x < a) ⊎ (c < y) → (x < a) ⊎ (b < y)
@@ -169,9 +160,9 @@ maximal_split ns a b c (join p x y) l r h k = elim (tells_inside a c (first_leaf
       maximal_join a c p x y w
       ∙ ap (λ (ts : List Tree). ts ++ maximal_inside a c y) (maximal_split ns a b c x l r h.4 (λ u v. k u (inr (inl v))))
       ∙ ap (λ (ts : List Tree). (maximal_inside a b x ++ maximal_inside b c x) ++ ts) (maximal_split ns a b c y l r h.5 (λ u v. k u (inr (inr v))))
-      ∙ append_swap (maximal_inside a b x) (maximal_inside b c x) (maximal_inside a b y) (maximal_inside b c y) (elim (le_or_le (first_leaf y) b) [
-        | inl s ↦ inl (maximal_before ns b c x h.4 (omega (arith, h.3)))
-        | inr s ↦ inr (maximal_after ns a b y h.5 s)
+      ∙ append_swap (maximal_inside a b x) (maximal_inside b c x) (maximal_inside a b y) (maximal_inside b c y) (elim (cases_lt b (first_leaf y)) [
+        | inl s ↦ inr (maximal_after ns a b y h.5 (omega arith))
+        | inr s ↦ inl (maximal_before ns b c x h.4 (omega (arith, h.3)))
       ])
       ∙ ap (λ (ts : List Tree). ts ++ (maximal_inside b c x ++ maximal_inside b c y)) (sym (maximal_join a b p x y (outside_left a b c (first_leaf x) (end_leaf (join p x y)) r w)))
       ∙ ap (λ (ts : List Tree). maximal_inside a b (join p x y) ++ ts) (sym (maximal_join b c p x y (outside_right a b c (first_leaf x) (end_leaf (join p x y)) l w)))
@@ -183,9 +174,9 @@ flat_split ns a b c o n [] l r s h k = refl
 flat_split ns a b c o n (t ∷ ts) l r s h k =
     ap (λ (us : List Tree). us ++ flat_map (maximal_inside a c) ts) (maximal_split ns a b c t l r h.0 k.0)
     ∙ ap (λ (us : List Tree). (maximal_inside a b t ++ maximal_inside b c t) ++ us) (flat_split ns a b c (o + width t) n ts l r s.1 h.1 k.1)
-    ∙ append_swap (maximal_inside a b t) (maximal_inside b c t) (flat_map (maximal_inside a b) ts) (flat_map (maximal_inside b c) ts) (elim (le_or_le (o + width t) b) [
-      | inl w ↦ inl (maximal_before ns b c t h.0 (omega (arith, s.0)))
-      | inr w ↦ inr (flat_after ns a b (o + width t) n ts s.1 h.1 w)
+    ∙ append_swap (maximal_inside a b t) (maximal_inside b c t) (flat_map (maximal_inside a b) ts) (flat_map (maximal_inside b c) ts) (elim (cases_lt b (o + width t)) [
+      | inl w ↦ inr (flat_after ns a b (o + width t) n ts s.1 h.1 (omega arith))
+      | inr w ↦ inl (maximal_before ns b c t h.0 (omega (arith, s.0)))
     ])
 
 pub nodes_inside_split : (rule : List ℕ → List ℕ) (n a b c : ℕ) → a ≤ b → b ≤ c → AllByRecursion (KeepsSeam a b c) (peaks_of rule n) →
@@ -195,9 +186,9 @@ nodes_inside_split rule n a b c l r k = flat_split (forest rule n).nodes a b c 0
 -- ---- nodes that coordinates tell
 -- a stretch of w from a multiple of w on ends at another multiple or before it, or begins there or after it
 multiple_seam : (k j w : ℕ) → (k * w + w ≤ j * w) ⊎ (j * w ≤ k * w)
-multiple_seam k j w = elim (le_or_lt k j) [
-  | inl l ↦ inr (mul-le-mul_right w l)
-  | inr l ↦ (let up : suc k * w ≤ j * w = mul-le-mul_right w l in inl (omega arith))
+multiple_seam k j w = elim (cases_lt k j) [
+  | inl l ↦ (let up : suc k * w ≤ j * w = mul-le-mul_right w l in inl (omega arith))
+  | inr l ↦ inr (mul-le-mul_right w l)
 ]
 
 -- a multiple of 2 ^ h is one of 2 ^ e, where e is at most h
@@ -243,11 +234,8 @@ module _ (rule : List ℕ → List ℕ) (max_leaves : ℕ) (equal : MergesEqual 
       let k = formulas.aligned n p u l at in
       let two : 2 ^ suc h ≡ 2 ^ h * 2 = pow-suc 2 h in
       let start : s ≡ a * (2 ^ h * 2) = e ∙ ap (λ (x : ℕ). a * x) two in
-      elim (le_or_lt h (height u)) [
-        | inl small ↦
-            (let j = seam_multiple (s + 2 ^ h) (2 * a + 1) h (height u) (omega arith) small in
-            elim (multiple_seam k.0 j.0 (2 ^ height u)) [ inl z ↦ inl (omega (arith, w, k.1, j.1)) | inr z ↦ inr (omega (arith, k.1, j.1)) ])
-        | inr large ↦
+      elim (cases_lt h (height u)) [
+        | inl large ↦
             (let wide : 2 ^ suc h ≤ 2 ^ height u = pow_mono {i = suc h} {j = height u} large in
             let first : first_leaf u ≡ s = omega (arith, w) in
             let top : height u < suc (suc h) = log_below (height u) (suc (suc h)) (2 ^ suc h) (omega (arith, w)) (omega (arith, pow-suc 2 (suc h), pow_pos (suc h))) in
@@ -255,6 +243,9 @@ module _ (rule : List ℕ → List ℕ) (max_leaves : ℕ) (equal : MergesEqual 
             let r = formulas.born n p u l at in
             let late : n < birth (first_leaf u) (height u) = omega (arith, b, ap (λ (x : ℕ). birth x (height u)) first, ap (birth s) same) in
             absurd (omega (arith, r.1 n late, get_below (forest rule n).nodes p u at)))
+        | inr small ↦
+            (let j = seam_multiple (s + 2 ^ h) (2 * a + 1) h (height u) (omega arith) small in
+            elim (multiple_seam k.0 j.0 (2 ^ height u)) [ inl z ↦ inl (omega (arith, w, k.1, j.1)) | inr z ↦ inr (omega (arith, k.1, j.1)) ])
       ]
 
   halves_kept_all : (n s a h : ℕ) → n ≤ max_leaves → s ≡ a * 2 ^ suc h → n < birth s (suc h) → (ts : List Tree) → AllByRecursion (IsBuilt (forest rule n).nodes) ts → AllByRecursion (KeepsSeam s (s + 2 ^ h) (s + 2 ^ suc h)) ts

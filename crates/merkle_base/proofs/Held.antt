@@ -4,7 +4,7 @@ use Rattle.std.specs.List.{AllByRecursion}
 use Rattle.merkle_base.specs.Tree.{Tree, leaf, join, height}
 use Rattle.merkle_base.specs.Forest.{Forest, planted, joined, joined_peaks, merged, forest, size}
 use Rattle.merkle_base.specs.Held.{IsHeld, ChildrenHeld}
-use Rattle.merkle_base.proofs.Lists.{get_below, get_push_cases}
+use Rattle.merkle_base.proofs.Lists.{get_below, get_push_cases, all_from_get}
 use Rattle.merkle_base.proofs.Growth.{merges_keep}
 
 record IsHeldForest (b : ℕ) (old : List Tree) (f : Forest) : Type 0 where
@@ -40,10 +40,6 @@ held_merged b old i f h = record {
     | inr one ↦ elim (get_push_cases f.nodes one.0 p t (rw one.1 at e)) [ inl d ↦ h.nodes p t d l | inr d ↦ rw d.1 one.2 ]
   ];
 }
-
-all_from_get : {X : Type 0} (P : X → Type 0) (xs : List X) → ((i : ℕ) (x : X) → slice_get xs i ≡ Some x → P x) → AllByRecursion P xs
-all_from_get P [] h = tt
-all_from_get P (x ∷ xs) h = (h 0 x refl, all_from_get P xs (λ i y e. h (suc i) y e))
 
 held_forest : (rule : List ℕ → List ℕ) (b k : ℕ) → IsHeldForest (size rule b) (forest rule b).peaks (forest rule (k + b))
 unfolding forest

@@ -1,5 +1,6 @@
 -- How high nodes are and where they stand, up to the limits of a lawful rule.
-use Rattle.std.proofs.Common.{◌≡◌, ℕ, ◌^◌, ◌<◌, ◌≤◌, List, Some, slice_get, arith, inl, inr, ◌⊎◌, pow_mono}
+use Rattle.std.proofs.Common.{◌≡◌, ℕ, ◌^◌, ◌<◌, ◌≤◌, List, Some, slice_get, arith, inl, inr, pow_mono}
+use Rattle.std.proofs.lemmas.Bool.{cases_lt}
 use Rattle.merkle_base.specs.Tree.{Tree, height}
 use Rattle.merkle_base.specs.Forest.{forest}
 use Rattle.merkle_base.specs.Heights.{IsLawful, MergesEqual}
@@ -7,13 +8,10 @@ use Rattle.merkle_base.proofs.Lists.{get_below}
 use Rattle.merkle_base.proofs.Nodes.{size_le}
 use Rattle.merkle_base.proofs.Lookup.{height_bound, size_large}
 
-pub le_or_lt : (a b : ℕ) → (b ≤ a) ⊎ (a < b)
-le_or_lt a b = grind arith
-
 pub log_below : (a b n : ℕ) → 2 ^ a ≤ n → n < 2 ^ b → a < b
-log_below a b n low high = elim (le_or_lt a b) [
-  | inl g ↦ (let m : 2 ^ b ≤ 2 ^ a = pow_mono g in absurd (omega arith))
-  | inr l ↦ l
+log_below a b n low high = elim (cases_lt a b) [
+  | inl l ↦ l
+  | inr g ↦ (let m : 2 ^ b ≤ 2 ^ a = pow_mono g in absurd (omega arith))
 ]
 
 -- a node's height is below 63

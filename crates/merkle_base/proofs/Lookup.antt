@@ -1,7 +1,8 @@
 -- A node by its position, and the peaks by their index.
-use Rattle.std.proofs.Common.{◌≡◌, ℕ, zero, suc, ◌+◌, ◌^◌, ◌<◌, ◌≤◌, ◌⊎◌, List, [], ◌∷◌, ◌++◌, length, map, take, length-append, Some, slice_get, slice_index, arith, refl, sym, ap, inl, inr, ◌∙◌}
+use Rattle.std.proofs.Common.{◌≡◌, ℕ, zero, suc, ◌+◌, ◌^◌, ◌<◌, ◌≤◌, List, [], ◌∷◌, ◌++◌, length, map, take, length-append, Some, slice_get, slice_index, arith, refl, sym, ap, inl, inr, ◌∙◌}
 use Rattle.std.specs.List.{AllByRecursion}
 use Rattle.std.proofs.lemmas.List.{length-map}
+use Rattle.std.proofs.lemmas.Bool.{cases_lt}
 use Rattle.merkle_base.specs.Tree.{Tree, leaf, position, height, first_leaf, IsBuilt, IsBalanced}
 use Rattle.merkle_base.specs.Forest.{forest, size, Covers}
 use Rattle.merkle_base.specs.Heights.{MergesEqual, peak_heights, parent_heights, weight}
@@ -41,13 +42,10 @@ size_zero rule = refl
 -- each position came with one leaf
 pub birth_of : (rule : List ℕ → List ℕ) (m p : ℕ) → p < size rule m → (n : ℕ) × (n < m) × (size rule n ≤ p) × (p < size rule (suc n))
 birth_of rule zero p l = absurd (omega (arith, size_zero rule))
-birth_of rule (suc m) p l = elim (either (size rule m) p) [
-  | inl h ↦ (m, omega arith, h, l)
-  | inr h ↦ (let k = birth_of rule m p h in (k.0, omega (arith, k.1), k.2, k.3))
+birth_of rule (suc m) p l = elim (cases_lt p (size rule m)) [
+  | inl h ↦ (let k = birth_of rule m p h in (k.0, omega (arith, k.1), k.2, k.3))
+  | inr h ↦ (m, omega arith, h, l)
 ]
-  where
-    either : (a b : ℕ) → (a ≤ b) ⊎ (b < a)
-    either a b = grind arith
 
 pub size_large : (rule : List ℕ → List ℕ) (n : ℕ) → n ≤ size rule n
 size_large rule zero = omega arith

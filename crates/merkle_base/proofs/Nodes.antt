@@ -1,7 +1,8 @@
 -- The nodes of a forest: where they stand, how they grow, and that each stands under one peak.
-use Rattle.std.proofs.Common.{◌≡◌, ℕ, zero, suc, ◌+◌, ◌-◌, ◌<◌, ◌≤◌, ◌⊎◌, List, [], ◌∷◌, ◌++◌, length, map, reverse, flat_map, length-append, append_assoc, append-nil, Some, slice_get, arith, refl, sym, ap, inl, inr, ◌∙◌, subst}
+use Rattle.std.proofs.Common.{◌≡◌, ℕ, zero, suc, ◌+◌, ◌-◌, ◌<◌, ◌≤◌, List, [], ◌∷◌, ◌++◌, length, map, reverse, flat_map, length-append, append_assoc, append-nil, Some, slice_get, arith, refl, sym, ap, inl, inr, ◌∙◌, subst}
 use Rattle.std.specs.List.{AllByRecursion, range_with_len}
 use Rattle.std.proofs.lemmas.List.{reverse-append}
+use Rattle.std.proofs.lemmas.Bool.{cases_lt}
 use Rattle.merkle_base.specs.Tree.{Tree, leaf, join, height, first_leaf, width, locations, IsUnder, IsBuilt}
 use Rattle.merkle_base.specs.Forest.{Forest, planted, joined, merged, all_merged, forest, size, Covers, IsUnderOne, IsJoin}
 use Rattle.merkle_base.specs.Laws.{IsGrown}
@@ -156,13 +157,10 @@ get_front_back (x ∷ xs) ys (suc p) t l e = get_front_back xs ys p t (omega ari
 
 -- a node stands in every forest that is large enough to have its position
 pub node_anywhere : (rule : List ℕ → List ℕ) (n m p : ℕ) (t : Tree) → slice_get (forest rule n).nodes p ≡ Some t → p < size rule m → slice_get (forest rule m).nodes p ≡ Some t
-node_anywhere rule n m p t e l = elim (either n m) [
-  | inl h ↦ node_stays rule n m p t h e
-  | inr h ↦ (let k = forest_prefix rule m n h in get_front_back (forest rule m).nodes k.0 p t l (rw k.1 at e))
+node_anywhere rule n m p t e l = elim (cases_lt m n) [
+  | inl h ↦ (let k = forest_prefix rule m n (omega arith) in get_front_back (forest rule m).nodes k.0 p t l (rw k.1 at e))
+  | inr h ↦ node_stays rule n m p t h e
 ]
-  where
-    either : (a b : ℕ) → (a ≤ b) ⊎ (b ≤ a)
-    either a b = grind arith
 
 pub no_node : (rule : List ℕ → List ℕ) (p : ℕ) (t : Tree) → slice_get (forest rule 0).nodes p ≡ Some t → ⊥
 unfolding forest

@@ -1,5 +1,6 @@
 -- From a peak down to a leaf.
-use Rattle.std.proofs.Common.{◌≡◌, ℕ, suc, ◌+◌, ◌<◌, ◌≤◌, ◌⊎◌, List, [], ◌∷◌, Some, slice_get, arith, refl, ap, inl, inr, subst}
+use Rattle.std.proofs.Common.{◌≡◌, ℕ, suc, ◌+◌, ◌<◌, ◌≤◌, List, [], ◌∷◌, Some, slice_get, arith, refl, ap, inl, inr, subst}
+use Rattle.std.proofs.lemmas.Bool.{cases_lt}
 use Rattle.merkle_base.specs.Tree.{Tree, leaf, join, position, first_leaf, width, IsUnder, IsBuilt}
 use Rattle.merkle_base.specs.Forest.{forest, size, Covers}
 use Rattle.merkle_base.proofs.Growth.{forest_grown, built_at}
@@ -21,13 +22,10 @@ leaf_in ns k (leaf p n) h l u = (p, ap (leaf p) (same k n l u))
   where
     same : (k n : ℕ) → n ≤ k → k < n + 1 → k ≡ n
     same k n l u = omega arith
-leaf_in ns k (join p l r) h a b = elim (either k (first_leaf r)) [
+leaf_in ns k (join p l r) h a b = elim (cases_lt k (first_leaf r)) [
   | inl x ↦ (let w = leaf_in ns k l h.4 a (omega (arith, h.3)) in (w.0, inr (inl w.1)))
   | inr x ↦ (let w = leaf_in ns k r h.5 x (omega (arith, h.3)) in (w.0, inr (inr w.1)))
 ]
-  where
-    either : (a b : ℕ) → (a < b) ⊎ (b ≤ a)
-    either a b = grind arith
 
 -- leaf k lies under each node of the forest whose span has k
 pub leaf_under : (rule : List ℕ → List ℕ) (n p k : ℕ) (t : Tree) → slice_get (forest rule n).nodes p ≡ Some t → first_leaf t ≤ k → k < first_leaf t + width t → IsUnder (leaf (size rule k) k) t
@@ -39,13 +37,10 @@ leaf_under rule n p k t e l u =
 
 holding : (n k : ℕ) (ts : List Tree) → Covers n ts → k < n → (i : ℕ) × (t : Tree) × (slice_get ts i ≡ Some t) × (first_leaf t ≤ k) × (k < first_leaf t + width t)
 holding n k [] c l = absurd (omega arith)
-holding n k (t ∷ ts) c l = elim (either k (first_leaf t)) [
+holding n k (t ∷ ts) c l = elim (cases_lt k (first_leaf t)) [
   | inl x ↦ (let w = holding (first_leaf t) k ts c.1 x in (suc w.0, w.1, w.2, w.3, w.4))
   | inr x ↦ (0, t, refl, x, omega (arith, c.0))
 ]
-  where
-    either : (a b : ℕ) → (a < b) ⊎ (b ≤ a)
-    either a b = grind arith
 
 -- some peak holds location k
 pub peak_holding : (rule : List ℕ → List ℕ) (n k : ℕ) → k < n → (i : ℕ) × (t : Tree) × (slice_get (forest rule n).peaks i ≡ Some t) × (first_leaf t ≤ k) × (k < first_leaf t + width t)

@@ -4,10 +4,10 @@ use Rattle.std.specs.List.{AllByRecursion}
 use Rattle.std.proofs.lemmas.Bool.{lt-leb}
 use Rattle.std.proofs.lemmas.Nat.{one_shl}
 use Rattle.std.proofs.lemmas.List.{length-map, length-reverse, reverse-append}
-use Rattle.merkle_base.specs.Tree.{Tree, position, height, first_leaf, width, end_leaf, IsBalanced}
+use Rattle.merkle_base.specs.Tree.{Tree, position, height, first_leaf, width, end_leaf, IsBalanced, IsBuilt}
 use Rattle.merkle_base.specs.Forest.{forest, Covers}
 use Rattle.merkle_base.specs.Heights.{IsLawful, MergesEqual}
-use Rattle.merkle_base.specs.Places.{placed, peaks_of, peak_positions, wholly_before, inactive_peaks}
+use Rattle.merkle_base.specs.Places.{placed, peaks_of, wholly_before, inactive_peaks}
 use Rattle.merkle_base.proofs.Growth.{forest_grown}
 use Rattle.merkle_base.proofs.Nodes.{all_append, width_pos}
 use Rattle.merkle_base.proofs.Balance.{heights_forest, peaks_balanced, balanced_count}
@@ -41,6 +41,12 @@ pub all_reverse : (P : Tree → Type 0) (ts : List Tree) → AllByRecursion P ts
 all_reverse P [] h = tt
 all_reverse P (t ∷ ts) h = subst (AllByRecursion P) (sym (reverse-append (t ∷ []) ts)) (all_append P (reverse ts) (t ∷ []) (all_reverse P ts h.1) (h.0, tt))
 
+pub peaks_spans : (rule : List ℕ → List ℕ) (n : ℕ) → Spans 0 n (peaks_of rule n)
+peaks_spans rule n = covers_spans n (forest rule n).peaks (forest_grown rule n).covers
+
+pub peaks_built : (rule : List ℕ → List ℕ) (n : ℕ) → AllByRecursion (IsBuilt (forest rule n).nodes) (peaks_of rule n)
+peaks_built rule n = all_reverse (IsBuilt (forest rule n).nodes) (forest rule n).peaks (forest_grown rule n).built
+
 -- ---- those before a location
 pub filter_yes : (p : Tree → Bool) (t : Tree) (ts : List Tree) → p t ≡ true → filter p (t ∷ ts) ≡ t ∷ filter p ts
 filter_yes p t ts e = ap (λ z. cond z (t ∷ filter p ts) (filter p ts)) e
@@ -67,7 +73,7 @@ pub counting : (rule : List ℕ → List ℕ) (n floor : ℕ) (left : List (ℕ 
 counting rule n floor left equal e = record {
   rest = peaks_of rule n;
   left_is = e;
-  spans = covers_spans n (forest rule n).peaks (forest_grown rule n).covers;
+  spans = peaks_spans rule n;
   balanced = all_reverse IsBalanced (forest rule n).peaks (peaks_balanced rule n equal n (omega arith));
   few = omega arith;
   counted = omega arith;

@@ -1,7 +1,7 @@
 -- The one leaf count at a position, and the heights that stand above it.
-use Rattle.std.proofs.Common.{◌≡◌, ℕ, suc, ◌+◌, ◌-◌, ◌/◌, min, ◌<◌, ◌≤◌, ◌⊎◌, List, ◌∷◌, length, slice_index, arith, refl, sym, ap, inl, inr, ◌∙◌, subst, eqb, true}
+use Rattle.std.proofs.Common.{◌≡◌, ℕ, suc, ◌+◌, ◌-◌, ◌/◌, min, ◌<◌, ◌≤◌, List, ◌∷◌, length, slice_index, arith, refl, sym, ap, inl, inr, ◌∙◌, subst, eqb, true}
 use Rattle.std.proofs.Math.Nat.{min-eq_left, min-eq_right}
-use Rattle.std.proofs.lemmas.Bool.{eqb-true, eq-eqb}
+use Rattle.std.proofs.lemmas.Bool.{eqb-true, eq-eqb, cases_lt, cases_order}
 use Rattle.std.proofs.lemmas.List.FromFn.{get_or-range_with_len, length-range_with_len}
 use Rattle.merkle_base.specs.Forest.{size}
 use Rattle.merkle_base.specs.Heights.{parent_heights, IsLawful}
@@ -9,34 +9,28 @@ use Rattle.merkle_base.specs.Places.{IsSize, IsNearestSize, IsHeightAt}
 use Rattle.merkle_base.proofs.Births.{size_peaks}
 use Rattle.merkle_base.proofs.Nodes.{size_step, size_le, size_lt}
 use Rattle.merkle_base.proofs.Lookup.{size_suc, height_at}
-use Rattle.merkle_base.proofs.Limits.{le_or_lt, log_below}
+use Rattle.merkle_base.proofs.Limits.{log_below}
 use Rattle.merkle_forests.specs.Mmr.{carries}
 use Rattle.merkle_forests.proofs.RangeLawful.{mmr_lawful}
 use Rattle.merkle_forests.proofs.MountainRange.{mmr_equal, mmr_parents}
 
 -- a size from one leaf count's up to the next one's is that leaf count's
 pub size_only : (rule : List ℕ → List ℕ) (low n p : ℕ) → size rule low ≤ p → p < size rule (low + 1) → size rule n ≡ p → n ≡ low
-size_only rule low n p a b e = elim (three n low) [
-  | inl l ↦ absurd (omega (arith, size_lt rule n low l))
-  | inr h ↦ elim h [ inl d ↦ d | inr g ↦ absurd (omega (arith, size_le rule (low + 1) n (omega arith))) ]
+size_only rule low n p a b e = elim (cases_order n low) [
+  | inl d ↦ d
+  | inr h ↦ elim h [ inl l ↦ absurd (omega (arith, size_lt rule n low l)) | inr g ↦ absurd (omega (arith, size_le rule (low + 1) n (omega arith))) ]
 ]
-  where
-    three : (a b : ℕ) → (a < b) ⊎ ((a ≡ b) ⊎ (b < a))
-    three a b = grind arith
 
 -- a position between the same two sizes came with the same leaf
 pub leaf_only : (rule : List ℕ → List ℕ) (low n p : ℕ) → size rule low ≤ p → p < size rule (low + 1) → size rule n ≤ p → p < size rule (n + 1) → low ≡ n
-leaf_only rule low n p a b c d = elim (three low n) [
-  | inl l ↦ absurd (omega (arith, size_le rule (low + 1) n (omega arith)))
-  | inr h ↦ elim h [ inl e ↦ e | inr g ↦ absurd (omega (arith, size_le rule (n + 1) low (omega arith))) ]
+leaf_only rule low n p a b c d = elim (cases_order low n) [
+  | inl e ↦ e
+  | inr h ↦ elim h [ inl l ↦ absurd (omega (arith, size_le rule (low + 1) n (omega arith))) | inr g ↦ absurd (omega (arith, size_le rule (n + 1) low (omega arith))) ]
 ]
-  where
-    three : (a b : ℕ) → (a < b) ⊎ ((a ≡ b) ⊎ (b < a))
-    three a b = grind arith
 
 -- a leaf count that has no more nodes than the greatest one is within the limit
 pub leaves_within : (rule : List ℕ → List ℕ) (max_leaves n : ℕ) → size rule n ≤ size rule max_leaves → n ≤ max_leaves
-leaves_within rule max_leaves n l = elim (le_or_lt max_leaves n) [ inl a ↦ a | inr b ↦ absurd (omega (arith, size_lt rule max_leaves n b)) ]
+leaves_within rule max_leaves n l = elim (cases_lt max_leaves n) [ inl b ↦ absurd (omega (arith, size_lt rule max_leaves n b)) | inr a ↦ a ]
 
 -- half as many leaves as nodes have no more nodes
 pub size_of_half : (rule : List ℕ → List ℕ) (nodes : ℕ) → size rule (nodes / 2) ≤ nodes
@@ -44,13 +38,13 @@ size_of_half rule nodes = omega (arith, size_peaks rule (nodes / 2))
 
 -- with 32 leaves more, or with the most leaves, one more leaf has more nodes, since there are at most 64 peaks
 pub size_past_half : (rule : List ℕ → List ℕ) (max_leaves max_nodes : ℕ) → IsLawful rule max_leaves max_nodes → (nodes : ℕ) → nodes ≤ max_nodes → nodes < size rule (min (nodes / 2 + 32) max_leaves + 1)
-size_past_half rule max_leaves max_nodes law nodes l = elim (le_or_lt max_leaves (nodes / 2 + 33)) [
-  | inl a ↦
-      let within : min (nodes / 2 + 32) max_leaves + 1 ≡ nodes / 2 + 33 = omega (arith, min-eq_left {n = nodes / 2 + 32} {m = max_leaves} (omega (arith, a))) in
-      rw within (omega (arith, size_peaks rule (nodes / 2 + 33), law.few (nodes / 2 + 33) a))
-  | inr b ↦
+size_past_half rule max_leaves max_nodes law nodes l = elim (cases_lt max_leaves (nodes / 2 + 33)) [
+  | inl b ↦
       let last : min (nodes / 2 + 32) max_leaves + 1 ≡ suc max_leaves = omega (arith, min-eq_right {n = max_leaves} {m = nodes / 2 + 32} (omega (arith, b))) in
       rw last (omega (arith, law.full, size_step rule max_leaves))
+  | inr a ↦
+      let within : min (nodes / 2 + 32) max_leaves + 1 ≡ nodes / 2 + 33 = omega (arith, min-eq_left {n = nodes / 2 + 32} {m = max_leaves} (omega (arith, a))) in
+      rw within (omega (arith, size_peaks rule (nodes / 2 + 33), law.few (nodes / 2 + 33) a))
 ]
 
 -- the test that a leaf count found by a search has that many nodes
@@ -66,14 +60,11 @@ pub size_nearest : (rule : List ℕ → List ℕ) (max_leaves low p : ℕ) → l
 size_nearest rule max_leaves low p l a b = record {
   valid = (low, l, refl);
   within = a;
-  greatest = λ r s m. elim (either low s.0) [
+  greatest = λ r s m. elim (cases_lt low s.0) [
     | inl g ↦ absurd (omega (arith, size_le rule (low + 1) s.0 (omega (arith, g)), s.2))
     | inr g ↦ omega (arith, size_le rule s.0 low g, s.2)
   ];
 }
-  where
-    either : (a b : ℕ) → (a < b) ⊎ (b ≤ a)
-    either a b = grind arith
 
 mmr_height_below : (n p : ℕ) → n < 4611686018427387904 → size carries n ≤ p → p < size carries (n + 1) → (p - size carries n < 63) × IsHeightAt carries p (p - size carries n)
 mmr_height_below n p l a b =
@@ -95,10 +86,7 @@ pub mmr_height : (n p : ℕ) → p < 9223372036854775807 → n ≤ 4611686018427
 mmr_height n p low l a b = mmr_height_below n p (below n l a) a b
   where
     below : (n : ℕ) → n ≤ 4611686018427387904 → size carries n ≤ p → n < 4611686018427387904
-    below n l a = elim (either n l) [
+    below n l a = elim (cases_lt n 4611686018427387904) [
       | inl h ↦ h
-      | inr e ↦ absurd (omega (arith, ap (size carries) e, mmr_lawful.full))
+      | inr g ↦ absurd (omega (arith, size_le carries 4611686018427387904 n g, mmr_lawful.full))
     ]
-      where
-        either : (n : ℕ) → n ≤ 4611686018427387904 → (n < 4611686018427387904) ⊎ (n ≡ 4611686018427387904)
-        either n l = grind arith
