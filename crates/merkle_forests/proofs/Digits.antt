@@ -1,7 +1,8 @@
 -- `EndsInOnes` against std's words.
-use Rattle.std.proofs.Common.{◌≡◌, ℕ, ◌+◌, ◌*◌, ◌^◌, ◌-◌, ◌<◌, ◌⊎◌, inl, inr, arith, ap, ◌∙◌, pow_pos, w64}
+use Rattle.std.proofs.Common.{◌≡◌, ℕ, ◌+◌, ◌*◌, ◌^◌, ◌-◌, ◌<◌, inl, inr, arith, ap, ◌∙◌, pow_pos, w64}
 use Rattle.std.specs.Int.{bit_at, trailing_ones}
 use Rattle.std.proofs.lemmas.Nat.Bits.{bit_at_lowest, bit_at_cat_low, bit_at_cat_high, bit_at_ones, bit_at-trailing_ones}
+use Rattle.std.proofs.lemmas.Bool.{cases_order}
 use Rattle.merkle_forests.specs.Digits.{EndsInOnes}
 
 ends_split : (t n : ℕ) → (e : EndsInOnes t n) → n ≡ 2 * e.0 * 2 ^ t + (2 ^ t - 1)
@@ -23,10 +24,7 @@ ends_trailing t n e l =
     compare (trailing_ones w64 n) k.1 k.2
   where
     compare : (s : ℕ) → bit_at n s ≡ 0 → ((i : ℕ) → i < s → bit_at n i ≡ 1) → s ≡ t
-    compare s z o = elim (trichotomy s t) [
-      | inl a ↦ absurd (omega (arith, z, ends_below t n s e a))
-      | inr b ↦ elim b [ inl c ↦ c | inr d ↦ absurd (omega (arith, o t d, ends_at t n e)) ]
+    compare s z o = elim (cases_order s t) [
+      | inl c ↦ c
+      | inr b ↦ elim b [ inl a ↦ absurd (omega (arith, z, ends_below t n s e a)) | inr d ↦ absurd (omega (arith, o t d, ends_at t n e)) ]
     ]
-      where
-        trichotomy : (a b : ℕ) → (a < b) ⊎ ((a ≡ b) ⊎ (b < a))
-        trichotomy a b = grind arith

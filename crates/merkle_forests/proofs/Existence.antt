@@ -1,12 +1,13 @@
 -- A node stands over every stretch of 2 ^ h leaves from a multiple of 2 ^ h on, once the leaf with which it comes is there.
-use Rattle.std.proofs.Common.{◌≡◌, ℕ, zero, suc, ◌+◌, ◌*◌, ◌^◌, ◌-◌, ◌<◌, ◌≤◌, ◌⊎◌, List, [], ◌∷◌, length, Some, slice_get, slice_index, arith, refl, sym, ap, inl, inr, ◌∙◌, pow-suc, pow_pos}
+use Rattle.std.proofs.Common.{◌≡◌, ℕ, zero, suc, ◌+◌, ◌*◌, ◌^◌, ◌-◌, ◌<◌, ◌≤◌, List, ◌∷◌, length, Some, slice_get, slice_index, arith, refl, sym, ap, inl, inr, ◌∙◌, pow-suc, pow_pos}
 use Rattle.std.proofs.lemmas.List.{length-map}
 use Rattle.std.proofs.lemmas.List.FromFn.{get_or-range_with_len, length-range_with_len}
+use Rattle.std.proofs.lemmas.Bool.{cases_order}
 use Rattle.merkle_base.specs.Tree.{Tree, leaf, height, first_leaf, width}
 use Rattle.merkle_base.specs.Forest.{forest, size}
 use Rattle.merkle_forests.specs.Mmr.{carries}
 use Rattle.merkle_forests.specs.Mmb.{newest_pair, root_position, birth_leaf}
-use Rattle.merkle_base.proofs.Lists.{get_below}
+use Rattle.merkle_base.proofs.Lists.{get_below, get_exists}
 use Rattle.merkle_base.proofs.Nodes.{node_stays, leaf_here, size_le, size_inj}
 use Rattle.merkle_base.proofs.Balance.{balanced_count, node_balanced}
 use Rattle.merkle_base.proofs.Births.{forest_born}
@@ -14,14 +15,6 @@ use Rattle.merkle_base.proofs.Lookup.{get_append_add, index_map}
 use Rattle.merkle_forests.proofs.MountainRange.{mmr_equal, mmr_parents, mmr_born}
 use Rattle.merkle_forests.proofs.MountainBelt.{mmb_equal, mmb_parents, mmb_placed}
 use Rattle.merkle_forests.proofs.OddMultiples.{odd_below, odd_no_power}
-
-pub get_exists : (ts : List Tree) (j : ℕ) → j < length ts → (t : Tree) × (slice_get ts j ≡ Some t)
-get_exists [] j l = absurd (omega arith)
-get_exists (t ∷ ts) zero l = (t, refl)
-get_exists (t ∷ ts) (suc j) l = get_exists ts j (omega arith)
-
-either : (a b : ℕ) → (a ≤ b) ⊎ (b < a)
-either a b = grind arith
 
 -- ---- the range
 mmr_over : (n s a j : ℕ) → s ≡ a * 2 ^ suc j → s + 2 ^ suc j ≤ n → (p : ℕ) × (t : Tree) × (slice_get (forest carries n).nodes p ≡ Some t) × (first_leaf t ≡ s) × (height t ≡ suc j)
@@ -43,12 +36,9 @@ mmr_over n s a j e l =
     (p, g.0, node_stays carries (suc x) n p g.0 (omega arith) here, omega arith, hi)
   where
     ends : (b x p : ℕ) → size carries x ≤ p → p < size carries (suc x) → p < size carries b → ((c : ℕ) → c < b → size carries c ≤ p) → b ≡ suc x
-    ends b x p low high present absent = elim (either b x) [
-      | inl l ↦ absurd (omega (arith, size_le carries b x l))
-      | inr g ↦ elim (either b (suc x)) [
-        | inl l ↦ omega arith
-        | inr h ↦ absurd (omega (arith, absent (suc x) h))
-      ]
+    ends b x p low high present absent = elim (cases_order b (suc x)) [
+      | inl e ↦ e
+      | inr g ↦ elim g [ inl l ↦ absurd (omega (arith, size_le carries b x (omega arith))) | inr h ↦ absurd (omega (arith, absent (suc x) h)) ]
     ]
 
 pub mmr_exists : (n s a h : ℕ) → s ≡ a * 2 ^ h → s + 2 ^ h ≤ n → (p : ℕ) × (t : Tree) × (slice_get (forest carries n).nodes p ≡ Some t) × (first_leaf t ≡ s) × (height t ≡ h)

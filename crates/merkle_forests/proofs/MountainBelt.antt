@@ -2,6 +2,7 @@
 use Rattle.std.proofs.Common.{◌≡◌, ℕ, zero, suc, ◌+◌, ◌*◌, ◌^◌, ◌-◌, ◌/◌, ◌<◌, ◌≤◌, ◌⊎◌, Bool, true, false, List, [], ◌∷◌, ◌++◌, length, map, take, length-append, Some, slice_get, slice_index, arith, refl, ap, inl, inr, ◌∙◌, subst, pow-suc, pow_pos}
 use Rattle.std.specs.Int.{bit_at}
 use Rattle.std.proofs.lemmas.Nat.Bits.{bit_at-suc, bit_at_lowest, bit_at-lt}
+use Rattle.std.proofs.lemmas.Bool.{cases_lt}
 use Rattle.merkle_base.specs.Tree.{Tree, leaf, join, position, height, first_leaf, IsBalanced}
 use Rattle.merkle_base.specs.Forest.{Forest, planted, joined, all_merged, forest, size}
 use Rattle.merkle_base.specs.Heights.{EqualAt, raised, AreEqualMerges, born_heights, peak_heights, parent_heights, MergesEqual, weight}
@@ -173,10 +174,7 @@ size_root s zero m l = size_le newest_pair m s l
 size_root s (suc h) m l = omega (arith, size_le newest_pair m (s + 3 * 2 ^ h - 2) l)
 
 before : (n p x : ℕ) → p ≡ size newest_pair x + 1 → p < size newest_pair n → x < n
-before n p x e l = elim (either x n) [ inr h ↦ h | inl h ↦ absurd (omega (arith, size_le newest_pair n x h)) ]
-  where
-    either : (a b : ℕ) → (b ≤ a) ⊎ (a < b)
-    either a b = grind arith
+before n p x e l = elim (cases_lt x n) [ inl h ↦ h | inr h ↦ absurd (omega (arith, size_le newest_pair n x h)) ]
 
 -- ---- children
 -- What holds of a merged node at p and its children: it comes with leaf x.

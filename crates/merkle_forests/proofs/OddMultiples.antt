@@ -1,25 +1,23 @@
 -- Odd multiples of powers of two.
-use Rattle.std.proofs.Common.{◌≡◌, ◌≢◌, ℕ, suc, ◌+◌, ◌*◌, ◌^◌, ◌-◌, ◌<◌, ◌≤◌, ◌⊎◌, arith, sym, ap, inl, inr, ◌∙◌, pow-suc, pow_pos, pow_mono, mul-le-mul_right, le_of_mul-le-mul_right, le_antisymm, le_of_eq}
+use Rattle.std.proofs.Common.{◌≡◌, ◌≢◌, ℕ, suc, ◌+◌, ◌*◌, ◌^◌, ◌-◌, ◌<◌, ◌≤◌, arith, sym, ap, inl, inr, ◌∙◌, pow-suc, pow_pos, pow_mono, mul-le-mul_right, le_of_mul-le-mul_right, le_antisymm, le_of_eq}
 use Rattle.std.specs.Int.RustNames.{count_ones}
 use Rattle.std.proofs.lemmas.Nat.{ones_cat, zero_from_ones}
+use Rattle.std.proofs.lemmas.Bool.{cases_lt}
 use Rattle.merkle_forests.proofs.RangeLawful.{pow_split, ones_shift, ones_pow}
-
-either : (a b : ℕ) → (a ≤ b) ⊎ (b < a)
-either a b = grind arith
 
 pub mul_cancel : (a b c : ℕ) → 0 < c → a * c ≡ b * c → a ≡ b
 mul_cancel a b c p e = le_antisymm (le_of_mul-le-mul_right (le_of_eq e) p) (le_of_mul-le-mul_right (le_of_eq (sym e)) p)
 
 -- where an odd multiple of 2 ^ k is a multiple of 2 ^ j, j is at most k
 pub odd_below : (r c j k : ℕ) → (2 * r + 1) * 2 ^ k ≡ c * 2 ^ j → j ≤ k
-odd_below r c j k e = elim (either j k) [
-  | inl l ↦ l
-  | inr g ↦
+odd_below r c j k e = elim (cases_lt k j) [
+  | inl g ↦
       (let d : 2 ^ j ≡ 2 ^ (j - suc k) * 2 ^ suc k = pow_split (suc k) j g in
       let q : ℕ = 2 ^ (j - suc k) in
       let f : c * 2 ^ j ≡ c * (q * (2 ^ k * 2)) = ap (λ (x : ℕ). c * x) (d ∙ ap (λ (x : ℕ). q * x) (pow-suc 2 k)) in
       let same : 2 * r + 1 ≡ 2 * (c * q) = mul_cancel (2 * r + 1) (2 * (c * q)) (2 ^ k) (pow_pos k) (e ∙ f ∙ omega arith) in
       absurd (omega arith))
+  | inr l ↦ l
 ]
 
 -- no power of two is an odd number, other than 1, times a power of two
