@@ -3,7 +3,6 @@ use Rattle.std.proofs.Common.{◌≡◌, ◌≢◌, Bool, true, false, eqb, ℕ,
 use Rattle.std.specs.Int.{trailing_ones, is_power_of_two}
 use Rattle.std.specs.Int.RustNames.{count_ones}
 use Rattle.std.proofs.lemmas.Bool.{eq-eqb, eqb-true}
-use Rattle.std.proofs.lemmas.Nat.{one_shl}
 use Rattle.merkle_base.specs.Tree.{Tree, leaf, join, position, height, first_leaf}
 use Rattle.merkle_base.specs.Forest.{forest, size}
 use Rattle.merkle_base.specs.Heights.{parent_heights}
@@ -35,7 +34,6 @@ root_low s (suc k) some l =
 pub record IsInner (p h birth : ℕ) : Type 0 where
   pub low : h - 1 < 62
   pub three : 3 * 2 ^ (h - 1) % 18446744073709551616 ≡ 3 * 2 ^ (h - 1)
-  pub one : 1 * 2 ^ (h - 1) % 18446744073709551616 ≡ 2 ^ (h - 1)
   pub start : 3 * 2 ^ (h - 1) ≤ birth + 2
   pub left_birth : birth_leaf (birth + 2 - 3 * 2 ^ (h - 1)) (h - 1) ≤ 4611686018427387934
   pub right_birth : birth_leaf (birth + 2 - 3 * 2 ^ (h - 1) + 2 ^ (h - 1)) (h - 1) ≤ 4611686018427387934
@@ -67,7 +65,6 @@ inner_tree p h birth n (join q a b) l e d z small low high =
     record {
       low = low;
       three = omega arith;
-      one = one_shl (h - 1) 64 (omega arith);
       start = bound;
       left_birth = omega (arith, birth_below (birth + 2 - 3 * 2 ^ (h - 1)) (h - 1) n (omega (arith, left, built.1)));
       right_birth = omega (arith, birth_below (birth + 2 - 3 * 2 ^ (h - 1) + 2 ^ (h - 1)) (h - 1) n (omega (arith, right, built.2)));

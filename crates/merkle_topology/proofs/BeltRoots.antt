@@ -39,7 +39,6 @@ stretch_birth n s (suc h) l w = omega (arith, l, w, pow-suc 2 h)
 pub record IsHalved (n s h : ℕ) : Type 0 where
   pub some : 1 ≤ h
   pub low : h - 1 < 62
-  pub one : 1 * 2 ^ (h - 1) % 18446744073709551616 ≡ 2 ^ (h - 1)
   pub birth : birth_leaf s (h - 1) < n
   pub within : s + 2 ^ (h - 1) + 2 ^ (h - 1) ≤ n
   pub first : stretch_nodes root_position belt_birth n s h ≡ (root_position s (h - 1), h - 1) ∷ stretch_nodes root_position belt_birth n (s + 2 ^ (h - 1)) (h - 1)
@@ -53,7 +52,6 @@ stretch_halved n s (suc k) l w b =
     record {
       some = omega arith;
       low = omega (arith, low);
-      one = rw z (one_shl k 64 (omega (arith, low)));
       birth = rw z (omega (arith, mmb_coordinates.soon s k, w));
       within = rw z (omega (arith, two, w));
       first = rw z (halves n s k b);
@@ -69,4 +67,4 @@ stretch_halved n s (suc k) l w b =
 pub stretch_first : (left : Bool) (n s h : ℕ) → left ≡ true → IsHalved n s h →
     cond left (stretch_nodes root_position belt_birth n s h) []
     ≡ (root_position s (h - 1), h - 1) ∷ cond left (stretch_nodes root_position belt_birth n (s + 1 * 2 ^ (h - 1) % 18446744073709551616) (h - 1)) []
-stretch_first left n s h e k = rw (e, k.one) k.first
+stretch_first left n s h e k = rw (e, one_shl (h - 1) 64 (omega (arith, k.low))) k.first

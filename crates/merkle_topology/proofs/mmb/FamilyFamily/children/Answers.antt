@@ -1,4 +1,5 @@
-use Rattle.std.proofs.Common.{◌≡◌, ◌<◌, ◌≤◌, ◌+◌, ℕ, arith, ◌∙◌}
+use Rattle.std.proofs.Common.{◌≡◌, ◌<◌, ◌≤◌, ◌+◌, ℕ, arith, ◌∙◌, ◌-◌}
+use Rattle.std.proofs.lemmas.Nat.{one_shl}
 use Rattle.merkle_base.specs.Forest.{size}
 use Rattle.merkle_base.specs.Places.{HasInner}
 use Rattle.merkle_base.proofs.Limits.{lawful_position}
@@ -41,7 +42,7 @@ pub root_position-right-requires : goal.root_position-right-requires
 root_position-right-requires c =
     let f = c.leaf_count_within-birth.ensures in
     let k = inner c.args.position c.args.height c.as_u64.result c.leaf_count_within-birth.result c.requires c.as_u64.ensures f.limit f.within f.greatest in
-    rw (k.three, k.one) k.right_birth
+    rw (k.three, one_shl (c.args.height - 1) 64 (omega (arith, k.low))) k.right_birth
 
 pub returns : goal.returns
 returns c = λ n a b e.
@@ -49,5 +50,5 @@ returns c = λ n a b e.
     let k = inner c.args.position c.args.height c.as_u64.result c.leaf_count_within-birth.result c.requires c.as_u64.ensures f.limit f.within f.greatest in
     let r = k.children n a b e in
     let left = rw k.three at c.root_position-left.ensures in
-    let right = rw (k.three, k.one) at c.root_position-right.ensures in
+    let right = rw (k.three, one_shl (c.args.height - 1) 64 (omega (arith, k.low))) at c.root_position-right.ensures in
     (c.new.ensures ∙ left ∙ r.0, c.new-2.ensures ∙ right ∙ r.1)
