@@ -28,8 +28,10 @@ use Rattle.merkle_proof.specs.declared.groups.Groups.{Groups}
 use Rattle.merkle_proof.specs.declared.subtree.Subtree.{Subtree}
 use Rattle.merkle_proof.specs.declared.proof.Proof.{Proof}
 use Rattle.merkle_proof.proofs.Claims.{by_test}
-use Rattle.merkle_proof.proofs.PeakGroups.{peaks_built}
-use Rattle.merkle_proof.proofs.PeakLoop.{filter_nodes, peaks_at}
+use Rattle.merkle_proof.proofs.PeakLoop.{peaks_at}
+use Rattle.merkle_base.proofs.Lists.{cons_head, cons_tail}
+use Rattle.merkle_base.proofs.PeakLists.{peaks_built}
+use Rattle.merkle_proof.proofs.Extraction.{all_filter}
 
 positions_are : (F : Type 0) (ts : List Tree) → map (λ (s : Subtree F). s.position) (map subtree_of ts) ≡ map position ts
 positions_are F [] = refl
@@ -43,12 +45,6 @@ listed_outside {F} a b i g ts xs ys zs held l x y z =
     let first : xs ≡ map position before = x ∙ ap (map (λ s. s.position)) (take_all i g.before.items l ∙ held.before) ∙ positions_are F before in
     z ∙ ap (λ w. w ++ map position inside) (y ∙ ap₂ ◌++◌ first held.after) ∙ append_assoc (map position before) (map position after) (map position inside)
     ∙ sym (map-append position before (after ++ inside) ∙ ap (λ w. map position before ++ w) (map-append position after inside))
-
-cons_head : {A : Type 0} (x y : A) (xs ys : List A) → x ∷ xs ≡ y ∷ ys → x ≡ y
-cons_head x y xs ys e = cc
-
-cons_tail : {A : Type 0} (x y : A) (xs ys : List A) → x ∷ xs ≡ y ∷ ys → xs ≡ ys
-cons_tail x y xs ys e = cc
 
 module _ {D : Type 0} (h : Hashing D) (node : ℕ → Option D) where
   abbrev at_node : Tree → Option D
@@ -111,8 +107,8 @@ reads_at s n a b =
     let ts = peaks_of s.rule n in
     let P : Tree → Type 0 = λ u. slice_get (forest s.rule n).nodes (position u) ≡ Some u in
     let at = peaks_at s.rule n n (omega arith) in
-    all_append P (wholly_before a ts) (wholly_after b ts ++ range_siblings a b ts) (filter_nodes P _ ts at)
-    (all_append P (wholly_after b ts) (range_siblings a b ts) (filter_nodes P _ ts at) (all_siblings_at (forest s.rule n).nodes (in_range a b) (overlapping a b ts) (filter_nodes (IsBuilt (forest s.rule n).nodes) _ ts (peaks_built s n))))
+    all_append P (wholly_before a ts) (wholly_after b ts ++ range_siblings a b ts) (all_filter P _ ts at)
+    (all_append P (wholly_after b ts) (range_siblings a b ts) (all_filter P _ ts at) (all_siblings_at (forest s.rule n).nodes (in_range a b) (overlapping a b ts) (all_filter (IsBuilt (forest s.rule n).nodes) _ ts (peaks_built s.rule n))))
 
 module _ {D : Type 0} (h : Hashing D) (X : ℕ → D) where
   pub fold_forward : (acc : Plan) (i : ℕ) (ts : List Tree) → fold h.fold (plan_digest h X acc) (map (tree_digest h X) ts) ≡ plan_digest h X (forward acc i ts)

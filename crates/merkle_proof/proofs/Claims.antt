@@ -1,6 +1,7 @@
 -- The claim of a range check is like the list's expression; with an honest proof it has the list's value.
 use Rattle.std.proofs.Common.{◌≡◌, ℕ, Bool, true, false, cond, ◌||◌, ◌+◌, ◌≤◌, List, [], ◌∷◌, ◌++◌, ◌⊎◌, inl, inr, refl, ap, ap₂, sym, ◌∙◌, subst, ⊎_elim, arith, length, map, drop, get_or, length-append, drop_at, drop-drop, append_assoc, append-nil, drop_of_length-le}
 use Rattle.std.proofs.lemmas.List.{length-map, map-append, length-drop}
+use Rattle.std.proofs.lemmas.Bool.{false≢true, or_parts}
 use Rattle.merkle_proof.specs.Expression.{Node, hashed_at, given, hashed, value, Holds, Alike, cut_left, cut_right, both, Agree}
 use Rattle.merkle_base.specs.Hashing.{Hashing}
 use Rattle.merkle_base.specs.Tree.{Tree, leaf, join}
@@ -13,27 +14,16 @@ pub by_test {ℓ} : (P : Bool → Type ℓ) (b : Bool) → (b ≡ true → P tru
 by_test P true x y = x refl
 by_test P false x y = y refl
 
-pub false≢true : false ≡ true → ⊥
-false≢true e = cc
-
-pub or_left : (a b : Bool) → a || b ≡ false → a ≡ false
-or_left true b e = absurd (false≢true (sym e))
-or_left false b e = refl
-
-pub or_right : (a b : Bool) → a || b ≡ false → b ≡ false
-or_right true b e = absurd (false≢true (sym e))
-or_right false b e = e
-
 -- where a tree or a plan isn't met no location of it is chosen
 pub unmet_tree : (c : ℕ → Bool) (t : Tree) → tree_meets c t ≡ false → (i : ℕ) → InTree t i → c i ≡ true → ⊥
 unmet_tree c (leaf p j) e i m q = false≢true (sym e ∙ ap c m ∙ q)
-unmet_tree c (join p l r) e i (inl m) q = unmet_tree c l (or_left _ _ e) i m q
-unmet_tree c (join p l r) e i (inr m) q = unmet_tree c r (or_right (tree_meets c l) _ e) i m q
+unmet_tree c (join p l r) e i (inl m) q = unmet_tree c l (or_parts (tree_meets c l) (tree_meets c r) e).0 i m q
+unmet_tree c (join p l r) e i (inr m) q = unmet_tree c r (or_parts (tree_meets c l) (tree_meets c r) e).1 i m q
 
 pub unmet : (c : ℕ → Bool) (p : Plan) → meets c p ≡ false → (i : ℕ) → InPlan p i → c i ≡ true → ⊥
 unmet c (peak t) e i m q = unmet_tree c t e i m q
-unmet c (folding place l r) e i (inl m) q = unmet c l (or_left _ _ e) i m q
-unmet c (folding place l r) e i (inr m) q = unmet c r (or_right (meets c l) _ e) i m q
+unmet c (folding place l r) e i (inl m) q = unmet c l (or_parts (meets c l) (meets c r) e).0 i m q
+unmet c (folding place l r) e i (inr m) q = unmet c r (or_parts (meets c l) (meets c r) e).1 i m q
 
 -- a list begins with what its parts' digests are
 unfoldable pub Begins : {A D : Type 0} → (A → D) → List A → List D → Type 0

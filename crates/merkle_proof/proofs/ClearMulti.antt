@@ -1,5 +1,5 @@
 -- An honest multi input has no collision.
-use Rattle.std.proofs.Common.{◌≡◌, ℕ, Bool, true, cond, ◌||◌, nat_eq, ◌<◌, List, [], ◌∷◌, inl, refl, ap, ap₂, sym, ◌∙◌, subst, arith, length, map, Option, Some, None, option_map, IfSome, unwrap_or}
+use Rattle.std.proofs.Common.{◌≡◌, ℕ, Bool, true, cond, ◌||◌, nat_eq, ◌<◌, ap, ap₂, sym, ◌∙◌, subst, arith, length, Option, Some, None, option_map, IfSome, unwrap_or}
 use Rattle.std.specs.List.{AllByRecursion, list_any}
 use Rattle.merkle_base.specs.Tree.{Tree, leaf, join}
 use Rattle.merkle_proof.specs.Expression.{Node, Expression, given, hashed}
@@ -22,7 +22,7 @@ use Rattle.merkle_proof.proofs.ClearRange.{once_in, no_root, found_none, no_coll
 use Rattle.merkle_proof.proofs.FirstCollisions.{finds_first}
 use Rattle.merkle_proof.proofs.Claims.{by_test}
 use Rattle.merkle_proof.proofs.ListedDigests.{plan_for, of_each, listed_some}
-use Rattle.merkle_proof.proofs.Multiproofs.{each_honest, needs_peaks, chosen_in}
+use Rattle.merkle_proof.proofs.Multiproofs.{each_honest, needs_peaks, chosen_in, some_leaves, first_location}
 use Rattle.merkle_proof.proofs.Verdicts.{distinct_nodes}
 
 module _ {D : Type 0} (h : Hashing D) (a : ℕ → Option D) (c : ℕ → Bool) (X Y : ℕ → D) (agrees : (i : ℕ) → c i ≡ true → Y i ≡ X i) where
@@ -74,16 +74,8 @@ honest_multi_is_clear {D = D} s laws xs k r w =
     clear_of s laws (leaf_of s.hashing xs) (multi_on s r) r.leaves (length xs) r.inactive k w.leaves w.inactive p.0 p.1
     (plan_in_list s.hashing _ _ (leaf_of s.hashing xs) _ agrees p.0 (each_honest s.hashing _ _ _ p.0 (of_each _ s.bagging r.inactive (peaks_of s.rule r.leaves) p.0 p.1 trees)))
   where
-    first_location : (es : List (ℕ × D)) → 0 < length es → (i : ℕ) × Member (map (λ (e : ℕ × D). e.0) es) i
-    first_location [] l = absurd (omega arith)
-    first_location (e ∷ es) l = (e.0, inl refl)
-
     one : (i : ℕ) × Member (locations_in r) i
     one = first_location r.elements w.some
 
-    some_below : (m : ℕ) (es : List (ℕ × D)) → 0 < length es → AllByRecursion (λ i. i < m) (map (λ (e : ℕ × D). e.0) es) → 0 < m
-    some_below m [] l b = absurd (omega arith)
-    some_below m (e ∷ es) l b = omega (arith, b.0)
-
     some_leaves_of : 0 < length xs
-    some_leaves_of = some_below (length xs) r.elements w.some w.below
+    some_leaves_of = some_leaves (length xs) r.elements w.some w.below

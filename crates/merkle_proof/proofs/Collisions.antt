@@ -1,5 +1,6 @@
 -- If two alike expressions have one value, what they are given agrees, or they collide.
 use Rattle.std.proofs.Common.{◌≡◌, ◌≢◌, Bool, true, false, not, cond, List, [], ◌∷◌, ◌++◌, ◌⊎◌, inl, inr, refl, ap, ◌∙◌, filter, Decides, ⊎_elim}
+use Rattle.std.proofs.lemmas.Bool.{false≢true}
 use Rattle.merkle_proof.specs.Expression.{Place, Argument, Pair, Bytes, Input, Expression, hashed, value, Holds, visited, inputs, is_node, Alike, cut_left, cut_right, both, told_left, Agree}
 use Rattle.merkle_base.specs.Hashing.{Hashing}
 use Rattle.merkle_proof.specs.Collision.{Member, Collision, Collides, Laws, AgreeOrCollide}
@@ -34,10 +35,7 @@ member_ordered h e i m = at_kind (is_node i.place) refl
 -- a test that decides, as a sum
 pub decided : {P : Type 0} (b : Bool) → Decides b P → P ⊎ (P → ⊥)
 decided true d = inl (d.0 refl)
-decided false d = inr (λ p. false_is_true (d.1 p))
-  where
-    false_is_true : false ≡ true → ⊥
-    false_is_true e = cc
+decided false d = inr (λ p. false≢true (d.1 p))
 
 left_of : {D : Type 0} → D → Argument D → D
 left_of d (Pair l r) = l

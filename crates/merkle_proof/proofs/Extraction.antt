@@ -18,8 +18,8 @@ use Rattle.merkle_base.specs.Places.{peaks_of, wholly_before}
 use Rattle.merkle_proof.specs.Range.{overlapping, wholly_after, range_parts, range_siblings, end_of, leaf_of, IsHonestSome}
 use Rattle.merkle_proof.specs.Extract.{inner_pairs, over_pairs, single_pairs, extracted, IsNodePair, ExtractsNodes}
 use Rattle.merkle_proof.proofs.Claims.{by_test, split_left, split_right, tree_honest}
-use Rattle.merkle_proof.proofs.PeakGroups.{peaks_built}
 use Rattle.merkle_proof.proofs.RangeChecks.{some_honest, honest_leaves}
+use Rattle.merkle_base.proofs.PeakLists.{peaks_built}
 
 pub all_filter : {A : Type 0} (P : A → Type 0) (t : A → Bool) (xs : List A) → AllByRecursion P xs → AllByRecursion P (filter t xs)
 all_filter P t [] h = tt
@@ -107,7 +107,7 @@ extracts_nodes {D = D} s size max_nodes sound xs k few low r ok = ⊎_elim (λ w
     right w =
         let ts = peaks_of s.rule r.leaves in
         let ns = (forest s.rule r.leaves).nodes in
-        let built = peaks_built s r.leaves in
+        let built = peaks_built s.rule r.leaves in
         let e : r.digests ≡ map (plan_digest s.hashing (leaf_of s.hashing xs)) (range_parts s.bagging r.inactive r.start (end_of r) ts) ++ map (tree_digest s.hashing (leaf_of s.hashing xs)) (range_siblings r.start (end_of r) ts) =
         w.digests ∙ ap₂ (λ x y. map (plan_digest s.hashing (leaf_of s.hashing xs)) (range_parts s.bagging x r.start (end_of r) (peaks_of s.rule y)) ++ map (tree_digest s.hashing (leaf_of s.hashing xs)) (range_siblings r.start (end_of r) (peaks_of s.rule y))) (sym w.inactive) (sym w.leaves) in
         subst (λ n. AllByRecursion (λ (x : ℕ × D). (t : Tree) × (slice_get (forest s.rule n).nodes x.0 ≡ Some t) × (x.1 ≡ tree_digest s.hashing (leaf_of s.hashing xs) t)) (extracted s r)) w.leaves

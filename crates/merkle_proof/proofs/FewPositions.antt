@@ -1,7 +1,7 @@
 -- A multi-proof has at most 122 positions for each location.
-use Rattle.std.proofs.Common.{◌≡◌, ℕ, suc, Bool, true, false, cond, ◌||◌, nat_eq, ◌+◌, ◌*◌, ◌≤◌, ◌<◌, List, [], ◌∷◌, ◌++◌, ◌⊎◌, inl, inr, refl, ap, ap₂, sym, ◌∙◌, subst, ⊎_elim, arith, length, map, flat_map, length-append, slice_get, slice_index, Some, reverse}
+use Rattle.std.proofs.Common.{◌≡◌, ℕ, suc, true, false, cond, ◌||◌, nat_eq, ◌+◌, ◌*◌, ◌≤◌, ◌<◌, List, [], ◌∷◌, ◌++◌, ◌⊎◌, inl, inr, refl, ap, ap₂, sym, ◌∙◌, subst, ⊎_elim, arith, length, map, flat_map, length-append, slice_get, slice_index, Some, reverse}
 use Rattle.std.specs.List.{AllByRecursion, list_any, range_with_len}
-use Rattle.std.proofs.lemmas.Bool.{eqb-true, ne_eqb, eq-eqb}
+use Rattle.std.proofs.lemmas.Bool.{eqb-true, ne_eqb, eq-eqb, or_right, cases_lt}
 use Rattle.std.proofs.lemmas.List.{length-map, length-reverse, reverse-append}
 use Rattle.merkle_base.specs.Tree.{Tree, leaf, join, position, height, first_leaf, width, IsBuilt, IsBalanced, end_leaf}
 use Rattle.merkle_base.specs.Forest.{forest, size}
@@ -16,13 +16,11 @@ use Rattle.merkle_base.specs.Places.{peaks_of}
 use Rattle.merkle_proof.specs.Multiproof.{one_leaf_nodes, is_one_leaf_position, multi_positions, AtMost122}
 use Rattle.merkle_proof.proofs.NoCollisions.{member_split}
 use Rattle.merkle_proof.proofs.Collisions.{member_left, member_right}
-use Rattle.merkle_proof.proofs.PeakGroups.{peaks_span, peaks_built}
-use Rattle.merkle_base.proofs.PeakLists.{Spans, all_reverse}
-use Rattle.merkle_proof.proofs.OutsideNodes.{le_or_lt}
+use Rattle.merkle_base.proofs.PeakLists.{Spans, all_reverse, peaks_built, peaks_spans}
 use Rattle.merkle_proof.proofs.PlacesOnce.{member_map}
 use Rattle.merkle_proof.proofs.ListedDigests.{filtered_member, member_any, distinct_filter, distinct_range}
 use Rattle.merkle_proof.proofs.Multiproofs.{only, member_flat}
-use Rattle.merkle_proof.proofs.PinnedChecks.{sibling_one, sibling_both}
+use Rattle.merkle_proof.proofs.Walks.{siblings_unmet, siblings_join}
 
 -- a list without repetition is no longer than one that has its elements
 parted : {A : Type 0} (ys : List A) (x : A) → Member ys x → (us : List A) × (vs : List A) × (ys ≡ us ++ x ∷ vs)
@@ -44,30 +42,26 @@ only_not ns i (leaf p j) b (inr x) = ne_eqb j i (λ e. absurd (omega (arith, e, 
 only_not ns i (join p l r) b (inl x) = ap₂ ◌||◌ (only_not ns i l b.4 (inl x)) (only_not ns i r b.5 (inl (omega (arith, x, b.3))))
 only_not ns i (join p l r) b (inr x) = ap₂ ◌||◌ (only_not ns i l b.4 (inr (omega (arith, x, b.3)))) (only_not ns i r b.5 (inr (omega (arith, x, b.3))))
 
-or_yes : (x : Bool) {y : Bool} → y ≡ true → x || y ≡ true
-or_yes true e = refl
-or_yes false e = e
-
 only_in : (ns : List Tree) (i : ℕ) (t : Tree) → IsBuilt ns t → first_leaf t ≤ i → i < end_leaf t → tree_meets (only i) t ≡ true
 only_in ns i (leaf p j) b x y = eq-eqb j i (omega arith)
-only_in ns i (join p l r) b x y = ⊎_elim (λ z. or_yes (tree_meets (only i) l) (only_in ns i r b.5 (omega (arith, z, b.3)) (omega (arith, y, b.3)))) (λ z. ap (λ q. q || tree_meets (only i) r) (only_in ns i l b.4 x z)) (le_or_lt (end_leaf l) i)
+only_in ns i (join p l r) b x y = ⊎_elim (λ z. ap (λ q. q || tree_meets (only i) r) (only_in ns i l b.4 x z)) (λ z. or_right (tree_meets (only i) l) _ (only_in ns i r b.5 (omega (arith, z, b.3)) (omega (arith, y, b.3)))) (cases_lt i (end_leaf l))
 
 path_count : (ns : List Tree) (i : ℕ) (t : Tree) → IsBuilt ns t → IsBalanced t → first_leaf t ≤ i → i < end_leaf t → length (siblings (only i) t) ≡ height t
 path_count ns i (leaf p j) b h x y = ap (λ z. length (cond z [] (leaf p j ∷ []))) (only_in ns i (leaf p j) b x y)
-path_count ns i (join p l r) b h x y = ap length (sibling_both (only i) p l r (only_in ns i (join p l r) b x y)) ∙ length-append (siblings (only i) l) (siblings (only i) r) ∙ ⊎_elim
-    (λ z. omega (arith, ap length (sibling_one (only i) l (only_not ns i l b.4 (inr z))), path_count ns i r b.5 h.2 (omega (arith, z, b.3)) (omega (arith, y, b.3)), h.0))
-    (λ z. omega (arith, ap length (sibling_one (only i) r (only_not ns i r b.5 (inl (omega (arith, z, b.3))))), path_count ns i l b.4 h.1 x z)) (le_or_lt (end_leaf l) i)
+path_count ns i (join p l r) b h x y = ap length (siblings_join (only i) p l r (only_in ns i (join p l r) b x y)) ∙ length-append (siblings (only i) l) (siblings (only i) r) ∙ ⊎_elim
+    (λ z. omega (arith, ap length (siblings_unmet (only i) r (only_not ns i r b.5 (inl (omega (arith, z, b.3))))), path_count ns i l b.4 h.1 x z))
+    (λ z. omega (arith, ap length (siblings_unmet (only i) l (only_not ns i l b.4 (inr z))), path_count ns i r b.5 h.2 (omega (arith, z, b.3)) (omega (arith, y, b.3)), h.0)) (cases_lt i (end_leaf l))
 
 others : (ns : List Tree) (i o n : ℕ) (ts : List Tree) → Spans o n ts → AllByRecursion (IsBuilt ns) ts → i < o → length (one_leaf_nodes i ts) ≡ length ts
 others ns i o n [] c b x = refl
-others ns i o n (t ∷ ts) c b x = length-append (siblings (only i) t) (one_leaf_nodes i ts) ∙ ap₂ ◌+◌ (ap length (sibling_one (only i) t (only_not ns i t b.0 (inl (omega (arith, x, c.0)))))) (others ns i (o + width t) n ts c.1 b.1 (omega (arith, x))) ∙ omega arith
+others ns i o n (t ∷ ts) c b x = length-append (siblings (only i) t) (one_leaf_nodes i ts) ∙ ap₂ ◌+◌ (ap length (siblings_unmet (only i) t (only_not ns i t b.0 (inl (omega (arith, x, c.0)))))) (others ns i (o + width t) n ts c.1 b.1 (omega (arith, x))) ∙ omega arith
 
 leaf_nodes_count : (ns : List Tree) (i o n : ℕ) (ts : List Tree) → Spans o n ts → AllByRecursion (IsBuilt ns) ts → AllByRecursion IsBalanced ts → o ≤ i → i < n → (t : Tree) × Member ts t × (length (one_leaf_nodes i ts) + 1 ≡ length ts + height t)
 leaf_nodes_count ns i o n [] c b h x y = absurd (omega (arith, c, x, y))
 leaf_nodes_count ns i o n (t ∷ ts) c b h x y = ⊎_elim
+    (λ z. (t, inl refl, omega (arith, length-append (siblings (only i) t) (one_leaf_nodes i ts), path_count ns i t b.0 h.0 (omega (arith, x, c.0)) z, others ns i (o + width t) n ts c.1 b.1 (omega (arith, z, c.0)))))
     (λ z. let w = leaf_nodes_count ns i (o + width t) n ts c.1 b.1 h.1 (omega (arith, z, c.0)) y in
-    (w.0, inr w.1, omega (arith, w.2, length-append (siblings (only i) t) (one_leaf_nodes i ts), ap length (sibling_one (only i) t (only_not ns i t b.0 (inr z))))))
-    (λ z. (t, inl refl, omega (arith, length-append (siblings (only i) t) (one_leaf_nodes i ts), path_count ns i t b.0 h.0 (omega (arith, x, c.0)) z, others ns i (o + width t) n ts c.1 b.1 (omega (arith, z, c.0))))) (le_or_lt (end_leaf t) i)
+    (w.0, inr w.1, omega (arith, w.2, length-append (siblings (only i) t) (one_leaf_nodes i ts), ap length (siblings_unmet (only i) t (only_not ns i t b.0 (inr z)))))) (cases_lt i (end_leaf t))
 
 reverse_member : (ts : List Tree) (t : Tree) → Member ts t → (i : ℕ) × (slice_get ts i ≡ Some t)
 reverse_member [] t m = elim m [ ]
@@ -80,7 +74,7 @@ at_most_122 {D = D} s max_nodes law n few bound locations below = all_below
     one : (i : ℕ) → i < n → length (one_leaf_nodes i (peaks_of s.rule n)) ≤ 122
     one i x =
         let balanced = all_reverse IsBalanced (forest s.rule n).peaks (peaks_balanced s.rule s.max_leaves law.equal n few) in
-        let w = leaf_nodes_count (forest s.rule n).nodes i 0 n (peaks_of s.rule n) (peaks_span s n) (peaks_built s n) balanced (omega arith) x in
+        let w = leaf_nodes_count (forest s.rule n).nodes i 0 n (peaks_of s.rule n) (peaks_spans s.rule n) (peaks_built s.rule n) balanced (omega arith) x in
         let j = reverse_member (forest s.rule n).peaks w.0 (back (forest s.rule n).peaks w.0 w.1) in
         let hs = heights_forest s.rule n in
         let long : length (forest s.rule n).peaks ≡ length (peak_heights s.rule n) = sym (length-map (forest s.rule n).peaks height) ∙ ap length hs in

@@ -1,14 +1,12 @@
 -- What the tests find is the first collision.
-use Rattle.std.proofs.Common.{◌≡◌, ◌≢◌, Bool, true, false, not, cond, List, [], ◌∷◌, ◌⊎◌, inl, inr, refl, ap, ap₂, sym, ◌∙◌, Decides, ◌&&◌, ◌==◌, bytes_eq, Option, Some, None, MatchOption, subst, ⊎_elim}
+use Rattle.std.proofs.Common.{◌≡◌, ◌≢◌, Bool, true, false, cond, List, [], ◌∷◌, ◌⊎◌, inl, inr, refl, ap, ap₂, sym, ◌∙◌, Decides, ◌&&◌, ◌==◌, bytes_eq, Option, Some, None, MatchOption, subst, ⊎_elim}
 use Rattle.std.proofs.lemmas.Slice.Eq.{bytes_eq-Decides}
-use Rattle.std.proofs.lemmas.Bool.Decides.{Decides-eqb}
+use Rattle.std.proofs.lemmas.Bool.Decides.{Decides-eqb, Decides-and, Decides-not}
+use Rattle.std.proofs.lemmas.Bool.{false≢true}
 use Rattle.merkle_proof.specs.Expression.{Place, Root, Join, PrefixFold, SuffixFold, Node, Argument, Pair, Bytes, digest_of_argument, Input}
 use Rattle.merkle_base.specs.Hashing.{Hashing}
 use Rattle.merkle_proof.specs.Collision.{Member, Collision, Collides, Laws}
 use Rattle.merkle_proof.specs.FirstCollision.{same_place, same_argument, is_collision, or_else, first_for, first_collision, IsFirstCollision, FindsFirst}
-
-false≢true : false ≡ true → ⊥
-false≢true e = cc
 
 yes_of : {P : Type 0} (b : Bool) → (b ≡ true → P) → (P → b ≡ true) → Decides b P
 yes_of b f g = (f, g)
@@ -20,22 +18,6 @@ Decides-place (PrefixFold i) (PrefixFold j) = let d : Decides (i == j) (i ≡ j)
 Decides-place (SuffixFold i) (SuffixFold j) = let d : Decides (i == j) (i ≡ j) = Decides-eqb i j in (λ e. ap SuffixFold (d.0 e), λ e. d.1 cc)
 Decides-place (Node i) (Node j) = let d : Decides (i == j) (i ≡ j) = Decides-eqb i j in (λ e. ap Node (d.0 e), λ e. d.1 cc)
 Decides-place _ _ = (λ e. cc, λ e. cc)
-
-pub and_both : (a b : Bool) → a && b ≡ true → (a ≡ true) × (b ≡ true)
-and_both true true e = (refl, refl)
-and_both true false e = absurd (false≢true e)
-and_both false b e = absurd (false≢true e)
-
-Decides-and : {P Q : Type 0} (a b : Bool) → Decides a P → Decides b Q → Decides (a && b) (P × Q)
-Decides-and a b d e = (λ h. let p : (a ≡ true) × (b ≡ true) = and_both a b h in (d.0 p.0, e.0 p.1), λ w. rw (d.1 w.0) (e.1 w.1))
-
-not_true : (b : Bool) → not b ≡ true → b ≡ false
-not_true true e = absurd (false≢true e)
-not_true false e = refl
-
-Decides-not : {P : Type 0} (a : Bool) → Decides a P → Decides (not a) (P → ⊥)
-Decides-not true d = (λ e. absurd (false≢true e), λ n. absurd (n (d.0 refl)))
-Decides-not false d = (λ _ p. false≢true (d.1 p), λ n. refl)
 
 module _ {D : Type 0} (h : Hashing D) (laws : Laws h) where
   Decides-argument : (a b : Argument D) → Decides (same_argument h a b) (a ≡ b)

@@ -13,9 +13,10 @@ use Rattle.merkle_proof.specs.Outside.{fold_all, layout, Met, Unmet}
 use Rattle.merkle_proof.specs.Check.{Setting, RangeInput, chosen, leaf_given, range_expression, root_of}
 use Rattle.merkle_proof.specs.Range.{overlapping, wholly_after, range_parts, end_of}
 use Rattle.merkle_proof.specs.Walk.{peak_values, ArePeakDigests}
-use Rattle.merkle_proof.proofs.PeakGroups.{peaks_span, peaks_built, groups, some_over, unmet_before, unmet_after, met_over}
+use Rattle.merkle_proof.proofs.PeakGroups.{groups, some_over, unmet_before, unmet_after, met_over}
 use Rattle.merkle_proof.proofs.OutsideNodes.{outside_is_layout}
 use Rattle.merkle_proof.proofs.ForwardValues.{forward_value, forward_value_after}
+use Rattle.merkle_base.proofs.PeakLists.{peaks_built, peaks_spans}
 
 -- how many digests stand outside the peaks that overlap
 pub forward_count : (k : ℕ) (before over after : List Tree) → length (layout ForwardFold k before over after) ≡ length (fold_all before) + length after
@@ -56,8 +57,8 @@ module _ {D : Type 0} (s : Setting D) (r : RangeInput D) (forwards : s.bagging �
   input_folded l j =
       let a = r.start in let b = end_of r in
       let less : a < b = omega (arith, some) in
-      let built = peaks_built s r.leaves in
-      at (wholly_before a all_peaks) (overlapping a b all_peaks) (wholly_after b all_peaks) (some_over a b 0 r.leaves all_peaks less (peaks_span s r.leaves) (omega arith) (omega (arith, within, less)))
+      let built = peaks_built s.rule r.leaves in
+      at (wholly_before a all_peaks) (overlapping a b all_peaks) (wholly_after b all_peaks) (some_over a b 0 r.leaves all_peaks less (peaks_spans s.rule r.leaves) (omega arith) (omega (arith, within, less)))
       (unmet_before a b _ all_peaks built) (met_over a b _ all_peaks less built) (unmet_after a b _ all_peaks built) l
     where
       at : (before over after : List Tree) → (over ≡ [] → ⊥) → Unmet (chosen r) before → Met (chosen r) over → Unmet (chosen r) after → length (fold_all before) + length after ≤ length r.digests
@@ -71,7 +72,7 @@ module _ {D : Type 0} (s : Setting D) (r : RangeInput D) (forwards : s.bagging �
   forward_root j all w =
       let a = r.start in let b = end_of r in
       let V : Plan → Expression D = λ p. claim_of s.hashing (chosen r) (leaf_given s.hashing r) p r.digests in
-      let split = groups a b 0 r.leaves all_peaks (omega (arith, some)) (peaks_span s r.leaves) in
+      let split = groups a b 0 r.leaves all_peaks (omega (arith, some)) (peaks_spans s.rule r.leaves) in
       let one : folded s.hashing.fold ForwardFold j all ≡ option_map (λ p. value s.hashing (V p)) (whole ForwardFold r.inactive all_peaks) =
       ap (folded s.hashing.fold ForwardFold j) w.digests ∙ input_folded (omega (arith, w.count)) j
       ∙ ap (λ z. option_map (λ p. value s.hashing (V p)) (whole ForwardFold r.inactive z)) (sym split) in

@@ -1,5 +1,6 @@
 -- The folds of a claim, as folds of digests.
 use Rattle.std.proofs.Common.{◌≡◌, ℕ, suc, Bool, true, false, cond, ◌||◌, ◌≤◌, List, [], ◌∷◌, ◌++◌, length, drop, take, arith, refl, ap, ap₂, sym, ◌∙◌, length-append, drop-drop, fold}
+use Rattle.std.proofs.lemmas.Bool.{or_right, or_left}
 use Rattle.merkle_base.specs.Tree.{Tree}
 use Rattle.merkle_base.specs.Hashing.{Hashing}
 use Rattle.merkle_proof.specs.Expression.{PrefixFold, value, hashed, given}
@@ -7,13 +8,7 @@ use Rattle.merkle_proof.specs.Plan.{Plan, peak, folding, forward, meets, tree_me
 use Rattle.merkle_proof.specs.Outside.{Met, Unmet}
 use Rattle.merkle_proof.specs.Claim.{next, claim, tree_claim}
 use Rattle.merkle_proof.specs.Walk.{peak_values}
-
-or_met : (x y : Bool) → x ≡ true → x || y ≡ true
-or_met true y e = refl
-or_met false y e = absurd (no e)
-  where
-    no : false ≡ true → ⊥
-    no e = cc
+use Rattle.merkle_proof.proofs.OutsideNodes.{outer_unmet, inner_unmet}
 
 -- the digests of peaks, from those given for the outer parts and for the inner nodes
 abbrev pub part_values : {D : Type 0} → Hashing D → (ℕ → Bool) → (ℕ → D) → List Tree → List D → List D → List D
@@ -28,7 +23,7 @@ module _ {D : Type 0} (h : Hashing D) (c : ℕ → Bool) (X : ℕ → D) where
   forward_values acc i (t ∷ ts) os is e =
       let os' = drop (length (outer c acc)) os in
       let is' = drop (length (inner c acc)) is in
-      let m : meets c acc || tree_meets c t ≡ true = or_met (meets c acc) (tree_meets c t) e in
+      let m : meets c acc || tree_meets c t ≡ true = or_left (meets c acc) (tree_meets c t) e in
       let v : value h (claim h c X (folding (PrefixFold i) acc (peak t)) os is) ≡ h.fold (value h (claim h c X acc os is)) (value h (claim h c X (peak t) os' is')) =
       ap (λ z. value h (cond z (hashed (PrefixFold i) (claim h c X acc os is) (claim h c X (peak t) os' is')) (given (next h os)))) m in
       let o : drop (length (outer c (folding (PrefixFold i) acc (peak t)))) os ≡ drop (length (outer c (peak t))) os' =
@@ -61,18 +56,6 @@ forward_none : (c : ℕ → Bool) (acc : Plan) (i : ℕ) (bs : List Tree) → me
 forward_none c acc i [] e u = e
 forward_none c acc i (b ∷ bs) e u = forward_none c (folding (PrefixFold i) acc (peak b)) (suc i) bs (ap₂ ◌||◌ e u.0) u.1
 
-or_late : (x y : Bool) → y ≡ true → x || y ≡ true
-or_late true y e = refl
-or_late false y e = e
-
-outer_unmet : (c : ℕ → Bool) (p : Plan) → meets c p ≡ false → outer c p ≡ p ∷ []
-outer_unmet c (peak t) e = ap (λ z. cond z [] (peak t ∷ [])) e
-outer_unmet c (folding q l r) e = ap (λ z. cond z (outer c l ++ outer c r) (folding q l r ∷ [])) e
-
-inner_unmet : (c : ℕ → Bool) (p : Plan) → meets c p ≡ false → inner c p ≡ []
-inner_unmet c (peak t) e = ap (λ z. cond z (siblings c t) []) e
-inner_unmet c (folding q l r) e = ap (λ z. cond z (inner c l ++ inner c r) []) e
-
 module _ {D : Type 0} (h : Hashing D) (c : ℕ → Bool) (X : ℕ → D) where
   given_unmet : (p : Plan) (os is : List D) → meets c p ≡ false → claim h c X p os is ≡ given (next h os)
   given_unmet (peak t) os is e = ap (λ z. cond z (tree_claim h c X t is) (given (next h os))) e
@@ -99,7 +82,7 @@ module _ {D : Type 0} (h : Hashing D) (c : ℕ → Bool) (X : ℕ → D) where
       let is' = drop (length (inner c acc)) is in
       let o : os' ≡ os = ap (λ z. drop (length z) (d ∷ os)) (outer_unmet c acc e) in
       let n : is' ≡ is = ap (λ z. drop (length z) is) (inner_unmet c acc e) in
-      let met : meets c acc || tree_meets c t ≡ true = or_late (meets c acc) (tree_meets c t) m.0 in
+      let met : meets c acc || tree_meets c t ≡ true = or_right (meets c acc) (tree_meets c t) m.0 in
       let first : value h (claim h c X all (d ∷ os) is) ≡ h.fold d (value h (tree_claim h c X t is)) =
       ap (λ z. value h (cond z (hashed (PrefixFold split.0) (claim h c X acc (d ∷ os) is) (claim h c X (peak t) os' is')) (given d))) met
       ∙ ap₂ h.fold (ap (value h) (given_unmet acc (d ∷ os) is e)) (ap (λ z. value h (cond z (tree_claim h c X t is') (given (next h os')))) m.0 ∙ ap (λ z. value h (tree_claim h c X t z)) n) in

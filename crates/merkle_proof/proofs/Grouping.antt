@@ -1,12 +1,11 @@
 -- Peaks fall into groups one after another.
 use Rattle.std.proofs.Common.{◌≡◌, ℕ, Bool, true, false, cond, ◌&&◌, nat_le, nat_lt, ◌<◌, ◌≤◌, List, [], ◌∷◌, ◌++◌, map, filter, ap, ap₂, sym, ◌∙◌, append-nil, le-leb, lt-ltb, le-ltb, Result, Ok, Err, IfOk}
-use Rattle.std.proofs.lemmas.Bool.{lt-leb}
+use Rattle.std.proofs.lemmas.Bool.{lt-leb, and_left, and_right, and_from}
 use Rattle.std.proofs.lemmas.List.{map-append}
 use Rattle.merkle_base.specs.Tree.{Tree, position, height, first_leaf, end_leaf}
 use Rattle.merkle_base.proofs.Growth.{forest_grown}
 use Rattle.merkle_proof.specs.Plan.{tree_meets, siblings}
 use Rattle.merkle_proof.specs.Range.{overlapping, wholly_after}
-use Rattle.merkle_proof.proofs.PeakGroups.{and_no, and_not, and_yes}
 use Rattle.merkle_base.proofs.PeakLists.{filter_yes, filter_no}
 use Rattle.merkle_proof.specs.Subtrees.{Stands}
 use Rattle.merkle_proof.specs.declared.subtree.Subtree.{Subtree}
@@ -46,13 +45,13 @@ module _ (a b : ℕ) (done : List Tree) (t : Tree) where
   before_no l = filter_push_no (λ t. nat_le (end_leaf t) a) done t (lt-leb (end_leaf t) a l)
 
   pub over_yes : first_leaf t < b → a < end_leaf t → overlapping a b (done ++ t ∷ []) ≡ overlapping a b done ++ t ∷ []
-  over_yes l u = filter_push_yes (λ t. nat_lt (first_leaf t) b && nat_lt a (end_leaf t)) done t (and_yes _ _ (lt-ltb (first_leaf t) b l) (lt-ltb a (end_leaf t) u))
+  over_yes l u = filter_push_yes (λ t. nat_lt (first_leaf t) b && nat_lt a (end_leaf t)) done t (and_from _ _ (lt-ltb (first_leaf t) b l) (lt-ltb a (end_leaf t) u))
 
   pub over_no_before : end_leaf t ≤ a → overlapping a b (done ++ t ∷ []) ≡ overlapping a b done
-  over_no_before l = filter_push_no (λ t. nat_lt (first_leaf t) b && nat_lt a (end_leaf t)) done t (and_not _ _ (le-ltb a (end_leaf t) l))
+  over_no_before l = filter_push_no (λ t. nat_lt (first_leaf t) b && nat_lt a (end_leaf t)) done t (and_right _ _ (le-ltb a (end_leaf t) l))
 
   pub over_no_after : b ≤ first_leaf t → overlapping a b (done ++ t ∷ []) ≡ overlapping a b done
-  over_no_after l = filter_push_no (λ t. nat_lt (first_leaf t) b && nat_lt a (end_leaf t)) done t (and_no _ _ (le-ltb (first_leaf t) b l))
+  over_no_after l = filter_push_no (λ t. nat_lt (first_leaf t) b && nat_lt a (end_leaf t)) done t (and_left _ _ (le-ltb (first_leaf t) b l))
 
   pub after_yes : b ≤ first_leaf t → wholly_after b (done ++ t ∷ []) ≡ wholly_after b done ++ t ∷ []
   after_yes l = filter_push_yes (λ t. nat_le b (first_leaf t)) done t (le-leb b (first_leaf t) l)

@@ -3,6 +3,7 @@ use Rattle.std.proofs.Common.{◌≡◌, ℕ, suc, zero, pred, true, ◌&&◌, n
 use Rattle.std.proofs.lemmas.Slice.Eq.{bytes_eq-Decides}
 use Rattle.std.proofs.lemmas.List.{length-map}
 use Rattle.std.proofs.Math.Nat.{add-sub_cancel_left}
+use Rattle.std.proofs.lemmas.Bool.{and_parts}
 use Rattle.merkle_proof.specs.Expression.{Root, Bytes, Expression, value}
 use Rattle.merkle_proof.specs.Collision.{Member, Collision, Collides, Laws}
 use Rattle.merkle_proof.specs.RootString.{ByteLaws, SameFolded}
@@ -17,7 +18,6 @@ use Rattle.merkle_base.specs.Places.{peaks_of}
 use Rattle.merkle_proof.proofs.Collisions.{decided}
 use Rattle.merkle_proof.proofs.RootStrings.{tells_all}
 use Rattle.merkle_proof.proofs.Claims.{nothing_else, pair_agrees, honest_accepted}
-use Rattle.merkle_proof.proofs.FirstCollisions.{and_both}
 
 -- every peak's locations are the plan's
 forward_keeps : (acc : Plan) (i : ℕ) (ts : List Tree) (j : ℕ) → InPlan acc j → InPlan (forward acc i ts) j
@@ -182,7 +182,7 @@ module _ {D : Type 0} (s : Setting D) (X : ℕ → D) (r : RangeInput D) where
   honest_value (Some p) same w = ap Some (ap (λ ds. value s.hashing (claim_of s.hashing (chosen r) (leaf_given s.hashing r) p ds)) w ∙ honest_accepted s.hashing (chosen r) X (leaf_given s.hashing r) p same)
 
 pub was_chosen : {D : Type 0} (r : RangeInput D) (i : ℕ) → chosen r i ≡ true → (r.start ≤ i) × (i < r.start + length r.elements)
-was_chosen r i e = let w = and_both (nat_le r.start i) (nat_lt i (r.start + length r.elements)) e in (leb-true r.start i w.0, ltb-true i (r.start + length r.elements) w.1)
+was_chosen r i e = let w = and_parts (nat_le r.start i) (nat_lt i (r.start + length r.elements)) e in (leb-true r.start i w.0, ltb-true i (r.start + length r.elements) w.1)
 
 pub honest_range_accepted : {D : Type 0} → HonestRangeAccepted D
 honest_range_accepted s X n k a b r within honest =

@@ -1,7 +1,8 @@
 -- Digests listed by position; what holds of each peak of a plan; roots of plans.
-use Rattle.std.proofs.Common.{◌≡◌, ℕ, zero, suc, pred, Bool, true, false, cond, ◌||◌, nat_eq, ◌+◌, ◌≤◌, ◌<◌, ◌^◌, List, [], ◌∷◌, ◌⊎◌, inl, inr, refl, ap, ap₂, sym, ◌∙◌, subst, ⊎_elim, arith, length, map, take, drop, filter, Option, Some, None, option_map, IfSome}
+use Rattle.std.proofs.Common.{◌≡◌, ℕ, zero, suc, pred, Bool, true, cond, ◌||◌, nat_eq, ◌+◌, ◌≤◌, ◌<◌, ◌^◌, List, [], ◌∷◌, ◌⊎◌, inl, inr, refl, ap, ap₂, sym, ◌∙◌, subst, ⊎_elim, arith, length, map, take, drop, filter, Option, Some, None, option_map, IfSome}
 use Rattle.std.specs.List.{AllByRecursion, list_any, range_with_len}
-use Rattle.std.proofs.lemmas.Bool.{eqb-true, eq-eqb, ne_eqb}
+use Rattle.std.proofs.lemmas.Bool.{eqb-true, eq-eqb, ne_eqb, or_right, false≢true}
+use Rattle.std.proofs.lemmas.List.{nil_from_length}
 use Rattle.merkle_base.specs.Tree.{Tree}
 use Rattle.merkle_proof.specs.Ascending.{AscendsFrom}
 use Rattle.merkle_proof.specs.Expression.{PrefixFold, Expression, value, inputs}
@@ -13,25 +14,20 @@ use Rattle.merkle_proof.specs.Order.{Distinct}
 use Rattle.merkle_proof.specs.Check.{Setting, root_of, inputs_of, all_inputs, list_expression}
 use Rattle.merkle_base.specs.Places.{peaks_of}
 use Rattle.merkle_proof.specs.Table.{digest_for}
-use Rattle.merkle_proof.proofs.Claims.{by_test, false≢true}
+use Rattle.merkle_proof.proofs.Claims.{by_test}
 use Rattle.merkle_proof.proofs.ListChecks.{root_tells}
-use Rattle.merkle_proof.proofs.PeakGroups.{peaks_span}
-use Rattle.merkle_base.proofs.PeakLists.{Spans}
+use Rattle.merkle_base.proofs.PeakLists.{Spans, peaks_spans}
 use Rattle.merkle_proof.proofs.Extraction.{all_take, all_drop}
 use Rattle.merkle_proof.specs.RootString.{ByteLaws, SameFolded}
 use Rattle.merkle_base.specs.Root.{root_string}
 use Rattle.merkle_proof.specs.Range.{leaf_of, plan_root, Sound}
-use Rattle.merkle_proof.proofs.RangeChecks.{small_leaves, small_inactive, no_plan, no_peaks}
+use Rattle.merkle_proof.proofs.RangeChecks.{small_leaves, small_inactive, no_plan}
 
 -- ---- members
 pub any_member : {A : Type 0} (f : A → Bool) (xs : List A) (x : A) → Member xs x → f x ≡ true → list_any f xs ≡ true
 any_member f [] x m e = elim m [ ]
 any_member f (y ∷ xs) x (inl q) e = ap (λ z. z || list_any f xs) (ap f q ∙ e)
-any_member f (y ∷ xs) x (inr m) e = or_yes (f y) (any_member f xs x m e)
-  where
-    or_yes : (a : Bool) {b : Bool} → b ≡ true → a || b ≡ true
-    or_yes true e = refl
-    or_yes false e = e
+any_member f (y ∷ xs) x (inr m) e = or_right (f y) _ (any_member f xs x m e)
 
 pub member_any : {A : Type 0} (f : A → Bool) (xs : List A) → list_any f xs ≡ true → (x : A) × Member xs x × (f x ≡ true)
 member_any f [] e = absurd (false≢true e)
@@ -156,7 +152,7 @@ module _ (P : Tree → Type 0) where
 
 -- ---- a plan's root
 pub plan_for : {D : Type 0} (s : Setting D) (n k : ℕ) → 0 < n → (p : Plan) × (whole s.bagging k (peaks_of s.rule n) ≡ Some p)
-plan_for s n k l = some_plan s.bagging (peaks_of s.rule n) (peaks_span s n)
+plan_for s n k l = some_plan s.bagging (peaks_of s.rule n) (peaks_spans s.rule n)
   where
     some_plan : (b : Bagging) (ts : List Tree) → Spans 0 n ts → (p : Plan) × (whole b k ts ≡ Some p)
     some_plan b [] c = absurd (omega (arith, c, l))
@@ -201,23 +197,12 @@ pub roots_same : {D : Type 0} (s : Setting D) (X : ℕ → D) (E : Plan → Expr
 roots_same s X E n k p e v = ap (λ o. s.hashing.hash (root_string s.hashing s.domain s.bagging n k o))
     (ap (λ o. option_map (value s.hashing) (option_map E o)) e ∙ ap Some v ∙ ap (λ o. option_map (value s.hashing) (option_map (full X) o)) (sym e))
 
--- the root of no leaves is the list's, where there are none; it is the root of no other list, but for collisions
+-- the root of no leaves is the root of no list that has some, but for collisions
 module _ {D : Type 0} (s : Setting D) (size max_nodes : ℕ) (sound : Sound s size max_nodes) (xs : List D) (k : ℕ) (few : length xs ≤ s.max_leaves) (low : k ≤ length (peaks_of s.rule (length xs))) where
-  pub empty_root : xs ≡ [] → root_of s 0 0 None ≡ plan_root s xs k
-  empty_root e =
-      let l : 0 ≡ length xs = sym (ap length e) in
-      let z : 0 ≡ k = omega (arith, subst (λ n. k ≤ length (peaks_of s.rule n)) (sym l) low, no_peaks s) in
-      ap (λ o. root_of s 0 0 (option_map (full (leaf_of s.hashing xs)) o)) (sym (no_plan s s.bagging 0))
-      ∙ ap₂ (λ n j. root_of s n j (list_expression s (leaf_of s.hashing xs) n j)) l z
-
   pub no_other_list : (E : Plan → Expression D) (n j : ℕ) → n ≡ 0 → j ≡ 0 → root_of s 0 0 None ≡ plan_root s xs k
       → (xs ≡ []) ⊎ ((c : Collision D) × Collides s.hashing (all_inputs s n j (option_map E (whole s.bagging j (peaks_of s.rule n)))) (all_inputs s (length xs) k (list_expression s (leaf_of s.hashing xs) (length xs) k)) c)
-  no_other_list E n j e f same = ⊎_elim (λ w. inl (no_length xs w.0)) (λ c. inr (subst (λ z. (c : Collision D) × Collides s.hashing z (all_inputs s (length xs) k (list_expression s (leaf_of s.hashing xs) (length xs) k)) c) (sym inputs) c))
+  no_other_list E n j e f same = ⊎_elim (λ w. inl (nil_from_length xs (sym w.0))) (λ c. inr (subst (λ z. (c : Collision D) × Collides s.hashing z (all_inputs s (length xs) k (list_expression s (leaf_of s.hashing xs) (length xs) k)) c) (sym inputs) c))
       (root_tells s size sound.bytes 0 (length xs) 0 k None (list_expression s (leaf_of s.hashing xs) (length xs) k) (omega arith) (small_leaves s max_nodes (length xs) sound.lawful few) (omega arith) (small_inactive s max_nodes (length xs) k sound.lawful few low) same)
     where
-      no_length : (ys : List D) → 0 ≡ length ys → ys ≡ []
-      no_length [] e = refl
-      no_length (y ∷ ys) e = absurd (omega (arith, e))
-
       inputs : all_inputs s n j (option_map E (whole s.bagging j (peaks_of s.rule n))) ≡ all_inputs s 0 0 None
       inputs = ap (λ o. all_inputs s n j (option_map E o)) (ap (λ m. whole s.bagging j (peaks_of s.rule m)) e ∙ no_plan s s.bagging j) ∙ ap₂ (λ a b. all_inputs s a b None) e f

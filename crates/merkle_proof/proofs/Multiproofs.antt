@@ -1,7 +1,7 @@
 -- The multi check: the honest inputs are accepted, and no others, but for collisions.
 use Rattle.std.proofs.Common.{◌≡◌, ℕ, Bool, true, false, cond, ◌||◌, nat_eq, ◌≤◌, ◌<◌, List, [], ◌∷◌, ◌++◌, ◌⊎◌, inl, inr, refl, ap, ap₂, sym, ◌∙◌, subst, ⊎_elim, arith, length, map, flat_map, Option, Some, None, option_map, IfSome, unwrap_or}
 use Rattle.std.specs.List.{AllByRecursion, list_any, range_with_len}
-use Rattle.std.proofs.lemmas.Bool.{eqb-true, eq-eqb}
+use Rattle.std.proofs.lemmas.Bool.{eqb-true, eq-eqb, or_right, cases_Bool, or_cases, false≢true}
 use Rattle.std.proofs.lemmas.List.{length-map}
 use Rattle.merkle_base.specs.Tree.{Tree, leaf, join, position, IsBuilt}
 use Rattle.merkle_base.specs.Forest.{forest, size}
@@ -21,12 +21,12 @@ use Rattle.merkle_proof.specs.Table.{digest_for, digest_of, digest_at_position}
 use Rattle.merkle_proof.specs.Multiproof.{one_leaf_nodes, is_one_leaf_position, multi_positions, MultiInput, locations_in, leaves_in, multi_on, AllHolds, AcceptsMultiSome, IsHonestMultiSome, MultiCollides, HonestMultiIsAccepted, AcceptedMultiIsHonest}
 use Rattle.merkle_proof.proofs.Collisions.{member_left, member_right}
 use Rattle.merkle_proof.proofs.NoCollisions.{member_split}
-use Rattle.merkle_proof.proofs.Claims.{by_test, false≢true}
+use Rattle.merkle_proof.proofs.Claims.{by_test}
 use Rattle.merkle_proof.proofs.ToldDigests.{no_other_multi}
 use Rattle.merkle_proof.proofs.HonestTold.{honest_multi_accepted}
-use Rattle.merkle_proof.proofs.PeakGroups.{peaks_built}
-use Rattle.merkle_proof.proofs.RangeChecks.{covers, small_leaves, small_inactive}
-use Rattle.merkle_proof.proofs.ListedDigests.{any_member, member_any, member_filtered, filtered_member, range_member, distinct_range, distinct_filter, ascends_distinct, listed, listed_is, listed_some, EachPeak, each_of, of_each, plan_for, roots, below_root, roots_same, empty_root, no_other_list}
+use Rattle.merkle_proof.proofs.RangeChecks.{covers, small_leaves, small_inactive, empty_root}
+use Rattle.merkle_proof.proofs.ListedDigests.{any_member, member_any, member_filtered, filtered_member, range_member, distinct_range, distinct_filter, ascends_distinct, listed, listed_is, listed_some, EachPeak, each_of, of_each, plan_for, roots, below_root, roots_same, no_other_list}
+use Rattle.merkle_base.proofs.PeakLists.{peaks_built}
 
 pub all_member : {A : Type 0} (P : A → Type 0) (xs : List A) (x : A) → AllByRecursion P xs → Member xs x → P x
 all_member P [] x h m = elim m [ ]
@@ -56,29 +56,14 @@ sibling_built ns c (join p l r) t b = by_test (λ z. Member (cond z (siblings c 
 abbrev pub only : ℕ → ℕ → Bool
 only i j = nat_eq j i
 
-pub bool_cases : (b : Bool) → (b ≡ true) ⊎ (b ≡ false)
-bool_cases true = inl refl
-bool_cases false = inr refl
-
-pub or_cases : (x y : Bool) → x || y ≡ true → (x ≡ true) ⊎ (y ≡ true)
-or_cases true y e = inl refl
-or_cases false y e = inr e
-
-or_yes : (x : Bool) {y : Bool} → y ≡ true → x || y ≡ true
-or_yes true e = refl
-or_yes false e = e
-
 -- where one chosen leaf lies under a tree, some do
 meets_more : (c : ℕ → Bool) (i : ℕ) → c i ≡ true → (t : Tree) → tree_meets (only i) t ≡ true → tree_meets c t ≡ true
 meets_more c i e (leaf p j) m = ap c (eqb-true j i m) ∙ e
-meets_more c i e (join p l r) m = ⊎_elim (λ w. ap (λ z. z || tree_meets c r) (meets_more c i e l w)) (λ w. or_yes (tree_meets c l) (meets_more c i e r w)) (or_cases (tree_meets (only i) l) _ m)
+meets_more c i e (join p l r) m = ⊎_elim (λ w. ap (λ z. z || tree_meets c r) (meets_more c i e l w)) (λ w. or_right (tree_meets c l) _ (meets_more c i e r w)) (or_cases (tree_meets (only i) l) _ m)
 
 meets_some : (c : ℕ → Bool) (t : Tree) → tree_meets c t ≡ true → (i : ℕ) × (c i ≡ true) × (tree_meets (only i) t ≡ true)
 meets_some c (leaf p j) m = (j, m, eq-eqb j j refl)
-meets_some c (join p l r) m = ⊎_elim (λ w. let v = meets_some c l w in (v.0, v.1, ap (λ z. z || tree_meets (only v.0) r) v.2)) (λ w. let v = meets_some c r w in (v.0, v.1, or_yes (tree_meets (only v.0) l) v.2)) (or_cases (tree_meets c l) _ m)
-
-true≢false : true ≡ false → ⊥
-true≢false e = cc
+meets_some c (join p l r) m = ⊎_elim (λ w. let v = meets_some c l w in (v.0, v.1, ap (λ z. z || tree_meets (only v.0) r) v.2)) (λ w. let v = meets_some c r w in (v.0, v.1, or_right (tree_meets (only v.0) l) _ v.2)) (or_cases (tree_meets c l) _ m)
 
 same_in : {D : Type 0} (c : ℕ → Bool) (X Y : ℕ → D) (t : Tree) (i : ℕ) → SameTree c X Y t → InTree t i → c i ≡ true → Y i ≡ X i
 same_in c X Y (leaf p j) i s e q = subst (λ z. c z ≡ true → Y z ≡ X z) e s q
@@ -151,7 +136,7 @@ module _ {D : Type 0} (s : Setting D) (xs : List D) (locations : List ℕ) where
   -- a path sibling of a location, or another peak, is listed
   is_listed : (i : ℕ) → Member locations i → (t u : Tree) → Member (peaks_of s.rule (length xs)) t → Member (siblings (only i) t) u → Member ps (position u)
   is_listed i m t u v w =
-      let b : IsBuilt ns u = sibling_built ns (only i) t u (all_member (IsBuilt ns) (peaks_of s.rule (length xs)) t (peaks_built s (length xs)) v) w in
+      let b : IsBuilt ns u = sibling_built ns (only i) t u (all_member (IsBuilt ns) (peaks_of s.rule (length xs)) t (peaks_built s.rule (length xs)) v) w in
       member_filtered _ (range_with_len 0 (size s.rule (length xs))) (position u) (range_member 0 (size s.rule (length xs)) (position u) (omega arith) (omega (arith, built_below ns u b)))
       (any_member (is_one_leaf_position (peaks_of s.rule (length xs)) (position u)) locations i m
       (any_member (λ t. nat_eq (position t) (position u)) (one_leaf_nodes i (peaks_of s.rule (length xs))) u (member_flat (siblings (only i)) (peaks_of s.rule (length xs)) t u v w) (eq-eqb (position u) (position u) refl)))
@@ -163,7 +148,7 @@ module _ {D : Type 0} (s : Setting D) (xs : List D) (locations : List ℕ) where
       let v = member_any (is_one_leaf_position (peaks_of s.rule (length xs)) p) locations u.1 in
       let x = member_any (λ t. nat_eq (position t) p) (one_leaf_nodes v.0 (peaks_of s.rule (length xs))) v.2 in
       let y = flat_member (siblings (only v.0)) (peaks_of s.rule (length xs)) x.0 x.1 in
-      let b : IsBuilt ns x.0 = sibling_built ns (only v.0) y.0 x.0 (all_member (IsBuilt ns) (peaks_of s.rule (length xs)) y.0 (peaks_built s (length xs)) y.1) y.2 in
+      let b : IsBuilt ns x.0 = sibling_built ns (only v.0) y.0 x.0 (all_member (IsBuilt ns) (peaks_of s.rule (length xs)) y.0 (peaks_built s.rule (length xs)) y.1) y.2 in
       subst (λ q. IfSome (a q) (λ d. d ≡ f q)) (eqb-true (position x.0) p x.2)
       (if_some (a (position x.0)) _ _ (sym (node_digest x.0 b)) (tells_sibling s.hashing a c X v.0 (in_chosen v.0 v.1) y.0 x.0 (all_member _ (peaks_of s.rule (length xs)) y.0 w y.1) y.2))
 
@@ -197,7 +182,7 @@ module _ {D : Type 0} (s : Setting D) (xs : List D) (locations : List ℕ) where
   sub_leaf i p j e w = (subst (λ z. (u : Tree) → Member (cond z [] (leaf p j ∷ [])) u → Member ps (position u)) e w) (leaf p j) (inl refl)
 
   not_met : (t : Tree) (i : ℕ) → c i ≡ true → tree_meets c t ≡ false → tree_meets (only i) t ≡ false
-  not_met t i q e = ⊎_elim (λ m. absurd (false≢true (sym e ∙ meets_more c i q t m))) (λ z. z) (bool_cases (tree_meets (only i) t))
+  not_met t i q e = ⊎_elim (λ m. absurd (false≢true (sym e ∙ meets_more c i q t m))) (λ z. z) (cases_Bool (tree_meets (only i) t))
 
   needs_tree : (t : Tree) → IsBuilt ns t → Needs t → HonestTree s.hashing a c X t
   unfolding Needs
@@ -207,24 +192,25 @@ module _ {D : Type 0} (s : Setting D) (xs : List D) (locations : List ℕ) where
       (λ _ e. let m = meets_some c (join p l r) e in let v = sub_left m.0 p l r m.2 (w.0 m.0 m.1 m.2) in (
         told_is (join p l r) b,
         needs_tree l b.4 ((λ i q x. (let y : tree_meets (only i) (join p l r) ≡ true = ap (λ z. z || tree_meets (only i) r) x in (sub_left i p l r y (w.0 i q y)).0)), (m.0, m.1, v.0)),
-        needs_tree r b.5 ((λ i q x. (let y : tree_meets (only i) (join p l r) ≡ true = or_yes (tree_meets (only i) l) x in (sub_left i p l r y (w.0 i q y)).1)), (m.0, m.1, v.1)),
+        needs_tree r b.5 ((λ i q x. (let y : tree_meets (only i) (join p l r) ≡ true = or_right (tree_meets (only i) l) _ x in (sub_left i p l r y (w.0 i q y)).1)), (m.0, m.1, v.1)),
       ))
       (λ _ e. given_is (join p l r) b (sub_itself w.1.0 p l r (not_met (join p l r) w.1.0 w.1.1 e) w.1.2)) refl
 
   pub needs_peaks : (i : ℕ) → Member locations i → AllByRecursion (HonestTree s.hashing a c X) (peaks_of s.rule (length xs))
   unfolding Needs Sub
-  needs_peaks i m = member_all _ (peaks_of s.rule (length xs)) (λ t v. needs_tree t (all_member (IsBuilt ns) (peaks_of s.rule (length xs)) t (peaks_built s (length xs)) v)
+  needs_peaks i m = member_all _ (peaks_of s.rule (length xs)) (λ t v. needs_tree t (all_member (IsBuilt ns) (peaks_of s.rule (length xs)) t (peaks_built s.rule (length xs)) v)
       ((λ j q x u w. is_listed j (chosen_in j q) t u v w), (i, in_chosen i m, λ u w. is_listed i m t u v w)))
 
+-- some locations: one of them, and some leaves
+pub some_leaves : {D : Type 0} (m : ℕ) (es : List (ℕ × D)) → 0 < length es → AllByRecursion (λ i. i < m) (map (λ (e : ℕ × D). e.0) es) → 0 < m
+some_leaves m [] l b = absurd (omega arith)
+some_leaves m (e ∷ es) l b = omega (arith, b.0)
+
+pub first_location : {D : Type 0} (es : List (ℕ × D)) → 0 < length es → (i : ℕ) × Member (map (λ (e : ℕ × D). e.0) es) i
+first_location [] l = absurd (omega arith)
+first_location (e ∷ es) l = (e.0, inl refl)
+
 module _ {D : Type 0} (s : Setting D) (size max_nodes : ℕ) (sound : Sound s size max_nodes) (xs : List D) (k : ℕ) (few : length xs ≤ s.max_leaves) (low : k ≤ length (peaks_of s.rule (length xs))) (r : MultiInput D) where
-  pub some_leaves : (m : ℕ) (es : List (ℕ × D)) → 0 < length es → AllByRecursion (λ i. i < m) (map (λ e. e.0) es) → 0 < m
-  some_leaves m [] l b = absurd (omega arith)
-  some_leaves m (e ∷ es) l b = omega (arith, b.0)
-
-  pub a_location : (es : List (ℕ × D)) → 0 < length es → (i : ℕ) × Member (map (λ (e : ℕ × D). e.0) es) i
-  a_location [] l = absurd (omega arith)
-  a_location (e ∷ es) l = (e.0, inl refl)
-
   same_length : length (leaves_in r) ≡ length (locations_in r)
   same_length = length-map r.elements _ ∙ sym (length-map r.elements _)
 
@@ -273,7 +259,7 @@ module _ {D : Type 0} (s : Setting D) (size max_nodes : ℕ) (sound : Sound s si
       let back : length xs ≡ r.leaves = sym w.leaves in
       let pos : 0 < r.leaves = omega (arith, some_leaves (length xs) r.elements w.some w.below, back) in
       let p = plan_for s r.leaves r.inactive pos in
-      let one = a_location r.elements w.some in
+      let one = first_location r.elements w.some in
       let trees : AllByRecursion (HonestTree s.hashing (digest_for (multi_positions s r.leaves (locations_in r)) r.digests) (λ i. list_any (nat_eq i) (locations_in r)) (leaf_of s.hashing xs)) (peaks_of s.rule r.leaves) =
       subst (λ m. AllByRecursion (HonestTree s.hashing (digest_for (multi_positions s m (locations_in r)) r.digests) (λ i. list_any (nat_eq i) (locations_in r)) (leaf_of s.hashing xs)) (peaks_of s.rule m)) back
       (subst (λ ds. AllByRecursion (HonestTree s.hashing (digest_for (multi_positions s (length xs) (locations_in r)) ds) (λ i. list_any (nat_eq i) (locations_in r)) (leaf_of s.hashing xs)) (peaks_of s.rule (length xs))) (sym w.digests)
@@ -295,7 +281,7 @@ module _ {D : Type 0} (s : Setting D) (size max_nodes : ℕ) (sound : Sound s si
       }
 
 pub honest_multi_is_accepted : {D : Type 0} → HonestMultiIsAccepted D
-honest_multi_is_accepted s size max_nodes sound xs k few low r honest = ⊎_elim (λ w. inl (honest_multi s size max_nodes sound xs k few low r w)) (λ w. inr (w.0, empty_root s size max_nodes sound xs k few low w.1)) honest
+honest_multi_is_accepted s size max_nodes sound xs k few low r honest = ⊎_elim (λ w. inl (honest_multi s size max_nodes sound xs k few low r w)) (λ w. inr (w.0, empty_root s xs k low w.1)) honest
 
 pub accepted_multi_is_honest : {D : Type 0} → AcceptedMultiIsHonest D
 accepted_multi_is_honest s size max_nodes sound xs k few low r ok =

@@ -10,6 +10,7 @@ use Rattle.merkle_proof.specs.Claim.{next, tree_claim, claim, claim_of, InTree}
 use Rattle.merkle_proof.specs.Exact.{forest_inputs, SamePeaks, HonestNeverCollides}
 use Rattle.merkle_proof.proofs.Collisions.{member_left, member_right, main_visited, member_ordered, Collides_in}
 use Rattle.merkle_proof.proofs.Claims.{by_test, split_left, split_right}
+use Rattle.merkle_base.proofs.Lists.{cons_head, cons_tail}
 
 module _ {D : Type 0} (h : Hashing D) (X Y : ℕ → D) where
   same_alike : (t : Tree) → (a : Alike (node_expression X t) (node_expression Y t)) × (Agree h a → (i : ℕ) → InTree t i → X i ≡ Y i)
@@ -30,19 +31,13 @@ only_nodes h X (leaf p j) i m = elim m [ ]
 only_nodes h X (join p l r) i (inl e) = subst (λ (z : Input _). is_node z.place ≡ true) e refl
 only_nodes h X (join p l r) i (inr m) = ⊎_elim (λ w. only_nodes h X l i w) (λ w. only_nodes h X r i w) (member_split (visited h (node_expression X l)) _ i m)
 
-head_same : {A : Type 0} (a b : A) (xs ys : List A) → a ∷ xs ≡ b ∷ ys → a ≡ b
-head_same a b xs ys e = cc
-
-tail_same : {A : Type 0} (a b : A) (xs ys : List A) → a ∷ xs ≡ b ∷ ys → xs ≡ ys
-tail_same a b xs ys e = cc
-
 pub same_peaks : {D : Type 0} → SamePeaks D
 unfolding Collides_in
 same_peaks h laws X Y [] e = inl (λ t m. elim m [ ])
 same_peaks {D = D} h laws X Y (t ∷ ts) e =
-    ⊎_elim (λ g. ⊎_elim (λ w. inl (λ u m. here g w u m)) (λ c. inr (c.0, after c.1, c.2)) (same_peaks h laws X Y ts (tail_same _ _ _ _ e)))
+    ⊎_elim (λ g. ⊎_elim (λ w. inl (λ u m. here g w u m)) (λ c. inr (c.0, after c.1, c.2)) (same_peaks h laws X Y ts (cons_tail _ _ _ _ e)))
     (λ c. inr (c.0, before c.1, only_nodes h X t _ c.1.claimed))
-    (main_visited h laws (same_alike h X Y t).0 (tree_holds h X t) (head_same _ _ _ _ e))
+    (main_visited h laws (same_alike h X Y t).0 (tree_holds h X t) (cons_head _ _ _ _ e))
   where
     here : Agree h (same_alike h X Y t).0 → ((u : Tree) → Member ts u → (i : ℕ) → InTree u i → X i ≡ Y i) → (u : Tree) → (t ≡ u) ⊎ Member ts u → (i : ℕ) → InTree u i → X i ≡ Y i
     here g w u (inl q) i n = (same_alike h X Y t).1 g i (subst (λ z. InTree z i) (sym q) n)

@@ -2,6 +2,7 @@
 use Rattle.std.proofs.Common.{◌≡◌, ℕ, suc, zero, Bool, true, false, cond, ◌||◌, ◌+◌, ◌-◌, ◌≤◌, ◌<◌, List, [], ◌∷◌, ◌++◌, ◌⊎◌, inl, inr, refl, ap, ap₂, sym, ◌∙◌, subst, ⊎_elim, arith, length, map, take, drop, flat_map, length-append, append-nil, append_assoc, add-zero, add-one, take_at, drop_at, pred, drop_of_length-le}
 use Rattle.std.proofs.Math.Seq.{take-append-add, drop-append-add}
 use Rattle.std.proofs.lemmas.List.{length-drop, take-append-le, drop-append-le, take_all}
+use Rattle.std.proofs.lemmas.Bool.{or_right, cases_lt}
 use Rattle.merkle_proof.specs.Expression.{Place, Join, PrefixFold, SuffixFold}
 use Rattle.merkle_base.specs.Tree.{Tree}
 use Rattle.merkle_proof.specs.Plan.{Plan, peak, folding, forward, bag, join_bag, whole, tree_meets, meets, siblings, outer, inner}
@@ -10,11 +11,11 @@ use Rattle.merkle_proof.specs.Outside.{fold_all, bag_all, layout, Unmet, Met, Ha
 
 module _ (c : ℕ → Bool) where
   -- the parts of a plan that is met nowhere
-  outer_unmet : (p : Plan) → meets c p ≡ false → outer c p ≡ p ∷ []
+  pub outer_unmet : (p : Plan) → meets c p ≡ false → outer c p ≡ p ∷ []
   outer_unmet (peak t) e = ap (λ b. cond b [] (peak t ∷ [])) e
   outer_unmet (folding place l r) e = ap (λ b. cond b (outer c l ++ outer c r) (folding place l r ∷ [])) e
 
-  inner_unmet : (p : Plan) → meets c p ≡ false → inner c p ≡ []
+  pub inner_unmet : (p : Plan) → meets c p ≡ false → inner c p ≡ []
   inner_unmet (peak t) e = ap (λ b. cond b (siblings c t) []) e
   inner_unmet (folding place l r) e = ap (λ b. cond b (inner c l ++ inner c r) []) e
 
@@ -28,10 +29,6 @@ module _ (c : ℕ → Bool) where
   Parts : Plan → List Plan → List Tree → Type 0
   Parts p os is = (meets c p ≡ true) × (outer c p ≡ os) × (inner c p ≡ is)
 
-  or_true : (a b : Bool) → b ≡ true → a || b ≡ true
-  or_true true b e = refl
-  or_true false b e = e
-
   parts_left : (place : Place) (l r : Plan) (os : List Plan) (is : List Tree) → Parts l os is → Parts (folding place l r) (os ++ outer c r) (is ++ inner c r)
   unfolding Parts
   parts_left place l r os is w = let m : meets c l || meets c r ≡ true = ap (λ b. b || meets c r) w.0 in
@@ -39,7 +36,7 @@ module _ (c : ℕ → Bool) where
 
   parts_right : (place : Place) (l r : Plan) (os : List Plan) (is : List Tree) → Parts r os is → Parts (folding place l r) (outer c l ++ os) (inner c l ++ is)
   unfolding Parts
-  parts_right place l r os is w = let m : meets c l || meets c r ≡ true = or_true (meets c l) (meets c r) w.0 in
+  parts_right place l r os is w = let m : meets c l || meets c r ≡ true = or_right (meets c l) (meets c r) w.0 in
       (m, ap (λ b. cond b (outer c l ++ outer c r) (folding place l r ∷ [])) m ∙ ap (λ x. outer c l ++ x) w.1, ap (λ b. cond b (inner c l ++ inner c r) []) m ∙ ap (λ x. inner c l ++ x) w.2)
 
   parts_peak : (t : Tree) → tree_meets c t ≡ true → Parts (peak t) [] (siblings c t)
@@ -245,11 +242,6 @@ module _ (c : ℕ → Bool) where
   unfolding Joined
   joins acc i n over after os is m u w = ⊎_elim (λ q. joins_within acc i n over after os is m u w q.0 q.1 q.2 q.3 q.4) (λ l. joins_past acc i n over after os is m u w l) (cut_within n over)
 
-pub le_or_lt : (a b : ℕ) → (a ≤ b) ⊎ (b < a)
-le_or_lt zero b = inl (omega arith)
-le_or_lt (suc a) zero = inr (omega arith)
-le_or_lt (suc a) (suc b) = ⊎_elim (λ l. inl (omega arith)) (λ l. inr (omega arith)) (le_or_lt a b)
-
 take_nil : (n : ℕ) → take {A = Tree} n [] ≡ []
 take_nil zero = refl
 take_nil (suc n) = refl
@@ -332,4 +324,4 @@ outside_is_layout c BackwardFold k [] t over after u m v =
     let first : suc (pred k) + (length over - pred k) ≡ 0 + suc (length over) + (k - (0 + suc (length over))) = omega arith in
     (w.1 ∙ ap₂ (last_parts after) most first ∙ ap₂ (λ x y. fold_all x ++ (map peak y ++ last_parts after (k - (0 + suc (length over))) (0 + suc (length over) + (k - (0 + suc (length over)))))) (sym (take_nil k)) (sym (drop_nil k)), w.2)
 outside_is_layout c BackwardFold k (b ∷ bs) t over after u m v =
-    ⊎_elim (λ l. laid_before c k b bs t over after u m v l) (λ l. laid_past c k b bs t over after u m v l) (le_or_lt (pred k) (length bs))
+    ⊎_elim (λ l. laid_past c k b bs t over after u m v l) (λ l. laid_before c k b bs t over after u m v l) (cases_lt (length bs) (pred k))

@@ -25,9 +25,12 @@ use Rattle.merkle_proof.proofs.Collisions.{member_left, member_right}
 use Rattle.merkle_proof.proofs.Extraction.{all_filter, all_single_before, all_single_after}
 use Rattle.merkle_proof.proofs.PlacesOnce.{distinct_append}
 use Rattle.merkle_proof.proofs.Claims.{by_test}
-use Rattle.merkle_proof.proofs.PeakGroups.{peaks_span, peaks_built, groups}
-use Rattle.merkle_base.proofs.PeakLists.{Spans}
-use Rattle.merkle_proof.proofs.Verdicts.{apart_under, one_node, later, built_in}
+use Rattle.merkle_proof.proofs.PeakGroups.{groups}
+use Rattle.merkle_base.proofs.PeakLists.{Spans, peaks_built, peaks_spans}
+use Rattle.merkle_proof.proofs.Verdicts.{apart_under}
+use Rattle.merkle_base.proofs.Lists.{one_there}
+use Rattle.merkle_proof.proofs.PinnedChecks.{spans_first}
+use Rattle.merkle_proof.proofs.Multiproofs.{all_member}
 
 module _ {D : Type 0} (ns : List Tree) (h : Hashing D) (c : ℕ → Bool) (Y : ℕ → D) where
   abbrev spots : List (ℕ × D) → List ℕ
@@ -35,7 +38,7 @@ module _ {D : Type 0} (ns : List Tree) (h : Hashing D) (c : ℕ → Bool) (Y : �
 
   -- a node under a tree with the position of one under a tree after it
   clash : (a b u v : Tree) → IsBuilt ns a → IsBuilt ns b → IsUnder u a → IsUnder v b → position u ≡ position v → end_leaf a ≤ first_leaf b → ⊥
-  clash a b u v ha hb p q e l = apart_under ns a b u v ha hb p q (one_node (subst (λ z. slice_get ns z ≡ Some u) e (built_at ns u (built_under ns u a p ha))) (built_at ns v (built_under ns v b q hb))) l
+  clash a b u v ha hb p q e l = apart_under ns a b u v ha hb p q (one_there (subst (λ z. slice_get ns z ≡ Some u) e (built_at ns u (built_under ns u a p ha))) (built_at ns v (built_under ns v b q hb))) l
 
   -- a position of a node strictly under t
   Below : Tree → ℕ → Type 0
@@ -117,18 +120,18 @@ module _ {D : Type 0} (ns : List Tree) (h : Hashing D) (c : ℕ → Bool) (Y : �
   over_once (t ∷ ts) ds b o = let xs = inner_pairs h c Y t ds in let rest = over_pairs h c Y ts (drop (length (siblings c t)) ds) in
       subst Distinct (sym (map-append (λ (x : ℕ × D). x.0) xs ((position t, value h (tree_claim h c Y t ds)) ∷ rest)))
       (distinct_append (spots xs) (position t ∷ spots rest) (inner_once t ds b.0)
-      ((λ m. let y = over_of ts (drop (length (siblings c t)) ds) b.1 (position t) m in clash t y.0 t y.2.0 b.0 (built_in ns ts y.0 b.1 y.1) (under_itself t) y.2.1 (sym y.2.2) (o.0 y.0 y.1)), over_once ts (drop (length (siblings c t)) ds) b.1 o.1)
+      ((λ m. let y = over_of ts (drop (length (siblings c t)) ds) b.1 (position t) m in clash t y.0 t y.2.0 b.0 (all_member (IsBuilt ns) ts y.0 b.1 y.1) (under_itself t) y.2.1 (sym y.2.2) (o.0 y.0 y.1)), over_once ts (drop (length (siblings c t)) ds) b.1 o.1)
       (λ p m w. let x = inner_below t ds b.0 p m in ⊎_elim (λ e. absurd (omega (arith, x.3, x.2, e)))
-      (λ w. let y = over_of ts (drop (length (siblings c t)) ds) b.1 p w in clash t y.0 x.0 y.2.0 b.0 (built_in ns ts y.0 b.1 y.1) x.1 y.2.1 (x.2 ∙ sym y.2.2) (o.0 y.0 y.1)) w))
+      (λ w. let y = over_of ts (drop (length (siblings c t)) ds) b.1 p w in clash t y.0 x.0 y.2.0 b.0 (all_member (IsBuilt ns) ts y.0 b.1 y.1) x.1 y.2.1 (x.2 ∙ sym y.2.2) (o.0 y.0 y.1)) w))
 
   single_once : (ts : List Tree) (ds : List D) → AllByRecursion (IsBuilt ns) ts → Ordered ts → Distinct (spots (single_pairs h ts ds))
   unfolding Of
   single_once [] ds b o = tt
-  single_once (t ∷ ts) ds b o = ((λ m. let y = single_of ts (drop 1 ds) (position t) m in clash t y.0 t y.2.0 b.0 (built_in ns ts y.0 b.1 y.1) (under_itself t) y.2.1 (sym y.2.2) (o.0 y.0 y.1)), single_once ts (drop 1 ds) b.1 o.1)
+  single_once (t ∷ ts) ds b o = ((λ m. let y = single_of ts (drop 1 ds) (position t) m in clash t y.0 t y.2.0 b.0 (all_member (IsBuilt ns) ts y.0 b.1 y.1) (under_itself t) y.2.1 (sym y.2.2) (o.0 y.0 y.1)), single_once ts (drop 1 ds) b.1 o.1)
 
   spans_ordered : (o n : ℕ) (ts : List Tree) → Spans o n ts → Ordered ts
   spans_ordered o n [] k = tt
-  spans_ordered o n (t ∷ ts) k = ((λ u m. omega (arith, k.0, later ns (o + width t) n ts u k.1 m)), spans_ordered (o + width t) n ts k.1)
+  spans_ordered o n (t ∷ ts) k = ((λ u m. omega (arith, k.0, spans_first (o + width t) n ts u k.1 m)), spans_ordered (o + width t) n ts k.1)
 
   -- parts of a list in order
   Sub : List Tree → List Tree → Type 0
@@ -157,12 +160,7 @@ module _ {D : Type 0} (ns : List Tree) (h : Hashing D) (c : ℕ → Bool) (Y : �
 
   ordered_left : (xs ys : List Tree) → Ordered (xs ++ ys) → Ordered xs
   ordered_left [] ys o = tt
-  ordered_left (x ∷ xs) ys o = ((λ u m. o.0 u (left xs ys u m)), ordered_left xs ys o.1)
-    where
-      left : (xs ys : List Tree) (u : Tree) → Member xs u → Member (xs ++ ys) u
-      left [] ys u m = elim m [ ]
-      left (z ∷ zs) ys u (inl e) = inl e
-      left (z ∷ zs) ys u (inr m) = inr (left zs ys u m)
+  ordered_left (x ∷ xs) ys o = ((λ u m. o.0 u (member_left xs ys u m)), ordered_left xs ys o.1)
 
   ordered_right : (xs ys : List Tree) → Ordered (xs ++ ys) → Ordered ys
   ordered_right [] ys o = o
@@ -170,11 +168,7 @@ module _ {D : Type 0} (ns : List Tree) (h : Hashing D) (c : ℕ → Bool) (Y : �
 
   ordered_across : (xs ys : List Tree) → Ordered (xs ++ ys) → (u v : Tree) → Member xs u → Member ys v → end_leaf u ≤ first_leaf v
   ordered_across [] ys o u v m w = elim m [ ]
-  ordered_across (x ∷ xs) ys o u v (inl e) w = subst (λ z. end_leaf z ≤ first_leaf v) e (o.0 v (right xs ys v w))
-    where
-      right : (xs ys : List Tree) (u : Tree) → Member ys u → Member (xs ++ ys) u
-      right [] ys u m = m
-      right (z ∷ zs) ys u m = inr (right zs ys u m)
+  ordered_across (x ∷ xs) ys o u v (inl e) w = subst (λ z. end_leaf z ≤ first_leaf v) e (o.0 v (member_right xs ys v w))
   ordered_across (x ∷ xs) ys o u v (inr m) w = ordered_across xs ys o.1 u v m w
 
 module _ {D : Type 0} (ns : List Tree) (h : Hashing D) (c : ℕ → Bool) (Y : ℕ → D) where
@@ -210,13 +204,13 @@ module _ {D : Type 0} (ns : List Tree) (h : Hashing D) (c : ℕ → Bool) (Y : �
       (distinct_append (map (λ (x : ℕ × D). x.0) two) (map (λ (x : ℕ × D). x.0) three) (over_once ns h c Y over es ho (ordered_left ns h c Y over after o2))
       (single_once ns h c Y (single_after b k met after) fs b3 (ord_after b k met after (ordered_right ns h c Y over after o2)))
       (λ p m w. let x = over_of ns h c Y over es ho p m in let y = single_of ns h c Y (single_after b k met after) fs p w in let ym = in_after b k met after y.0 y.1 in
-      clash ns h c Y x.0 y.0 x.2.0 y.2.0 (built_in ns over x.0 ho x.1) (built_in ns after y.0 ha ym) x.2.1 y.2.1 (x.2.2 ∙ sym y.2.2) (ordered_across ns h c Y over after o2 x.0 y.0 x.1 ym)))
+      clash ns h c Y x.0 y.0 x.2.0 y.2.0 (all_member (IsBuilt ns) over x.0 ho x.1) (all_member (IsBuilt ns) after y.0 ha ym) x.2.1 y.2.1 (x.2.2 ∙ sym y.2.2) (ordered_across ns h c Y over after o2 x.0 y.0 x.1 ym)))
       (λ p m w. let x = single_of ns h c Y (single_before b k before) ds p m in let xm = in_before b k before x.0 x.1 in
       ⊎_elim
       (λ w. let y = over_of ns h c Y over es ho p w in
-      clash ns h c Y x.0 y.0 x.2.0 y.2.0 (built_in ns before x.0 hb xm) (built_in ns over y.0 ho y.1) x.2.1 y.2.1 (x.2.2 ∙ sym y.2.2) (ordered_across ns h c Y before (over ++ after) o x.0 y.0 xm (member_left over after y.0 y.1)))
+      clash ns h c Y x.0 y.0 x.2.0 y.2.0 (all_member (IsBuilt ns) before x.0 hb xm) (all_member (IsBuilt ns) over y.0 ho y.1) x.2.1 y.2.1 (x.2.2 ∙ sym y.2.2) (ordered_across ns h c Y before (over ++ after) o x.0 y.0 xm (member_left over after y.0 y.1)))
       (λ w. let y = single_of ns h c Y (single_after b k met after) fs p w in let ym = in_after b k met after y.0 y.1 in
-      clash ns h c Y x.0 y.0 x.2.0 y.2.0 (built_in ns before x.0 hb xm) (built_in ns after y.0 ha ym) x.2.1 y.2.1 (x.2.2 ∙ sym y.2.2) (ordered_across ns h c Y before (over ++ after) o x.0 y.0 xm (member_right over after y.0 ym)))
+      clash ns h c Y x.0 y.0 x.2.0 y.2.0 (all_member (IsBuilt ns) before x.0 hb xm) (all_member (IsBuilt ns) after y.0 ha ym) x.2.1 y.2.1 (x.2.2 ∙ sym y.2.2) (ordered_across ns h c Y before (over ++ after) o x.0 y.0 xm (member_right over after y.0 ym)))
       (member_split (map (λ (x : ℕ × D). x.0) two) (map (λ (x : ℕ × D). x.0) three) p w)))
 
 pub extracts_once : {D : Type 0} → ExtractsOnce D
@@ -225,6 +219,6 @@ extracts_once s r l m =
     let ns = (forest s.rule r.leaves).nodes in
     let c = in_range r.start (end_of r) in
     let Y = leaf_given s.hashing r in
-    let built = peaks_built s r.leaves in
-    let o = subst (Ordered ns s.hashing c Y) (groups r.start (end_of r) 0 r.leaves ts (omega (arith, l)) (peaks_span s r.leaves)) (spans_ordered ns s.hashing c Y 0 r.leaves ts (peaks_span s r.leaves)) in
+    let built = peaks_built s.rule r.leaves in
+    let o = subst (Ordered ns s.hashing c Y) (groups r.start (end_of r) 0 r.leaves ts (omega (arith, l)) (peaks_spans s.rule r.leaves)) (spans_ordered ns s.hashing c Y 0 r.leaves ts (peaks_spans s.rule r.leaves)) in
     all_once ns s.hashing c Y s.bagging r.inactive (wholly_before r.start ts) (overlapping r.start (end_of r) ts) (wholly_after (end_of r) ts) _ _ _ (all_filter _ _ ts built) (all_filter _ _ ts built) (all_filter _ _ ts built) o

@@ -1,7 +1,7 @@
 -- A path, step by step.
 use Rattle.std.proofs.Common.{◌≡◌, ◌≢◌, ℕ, ◌+◌, ◌<◌, ◌≤◌, cond, List, [], ◌∷◌, length, ◌++◌, map, slice_get, arith, refl, ap, ap₂, sym, subst, ◌∙◌, lt-ltb, inl, inr, ⊎_elim}
 use Rattle.std.specs.List.Sorted.{IsPermutation}
-use Rattle.std.proofs.lemmas.Bool.{le-ltb}
+use Rattle.std.proofs.lemmas.Bool.{le-ltb, cases_lt}
 use Rattle.std.proofs.lemmas.List.{map-append}
 use Rattle.std.proofs.lemmas.List.Sorted.{IsPermutation-refl, IsPermutation-sym, IsPermutation-trans, IsPermutation-cons, IsPermutation-to_front}
 use Rattle.merkle_base.specs.Tree.{Tree, leaf, join, position, height, first_leaf, width, IsBalanced, IsBuilt}
@@ -14,7 +14,6 @@ use Rattle.merkle_proof.specs.Path.{path, path_from, StandsOver, IsPath, PathHas
 use Rattle.merkle_proof.specs.Subtrees.{Stands}
 use Rattle.merkle_proof.specs.Plan.{siblings}
 use Rattle.merkle_proof.specs.Range.{in_range}
-use Rattle.merkle_proof.proofs.OutsideNodes.{le_or_lt}
 use Rattle.merkle_proof.proofs.PeakGroups.{meets_not, meets_yes}
 use Rattle.merkle_proof.proofs.Walks.{siblings_unmet, siblings_join, siblings_inside}
 
@@ -33,9 +32,9 @@ path_leaf k h (join p l r) e z = absurd (omega (arith, e, z))
 path_length : (k : ℕ) (t : Tree) → IsBalanced t → length (path k t) ≡ height t
 path_length k (leaf p n) b = refl
 path_length k (join p l r) b = ⊎_elim
-    (λ x. omega (arith, ap length (path_right k p l r x), path_length k r b.2, b.0))
     (λ x. omega (arith, ap length (path_left k p l r x), path_length k l b.1))
-    (le_or_lt (first_leaf r) k)
+    (λ x. omega (arith, ap length (path_right k p l r x), path_length k r b.2, b.0))
+    (cases_lt k (first_leaf r))
 
 module _ (rule : List ℕ → List ℕ) (m : ℕ) where
   -- the node stands in the greatest forest too
@@ -127,15 +126,15 @@ beside : (ns : List Tree) (k : ℕ) (t : Tree) → IsBuilt ns t → first_leaf t
 beside ns k (leaf p n) h low high = subst (λ z. IsPermutation {X = ℕ} [] (map position z)) (sym (siblings_inside k (k + 1) ns (leaf p n) h (omega (arith, high)) (omega (arith, low)))) (IsPermutation-refl [])
 beside ns k (join p l r) h low high = ⊎_elim
     (λ x.
-    let e : others k (join p l r) ≡ position l ∷ others k r = ap (map (λ x. x.1)) (path_right k p l r x) in
-    let f : map position (siblings (in_range k (k + 1)) (join p l r)) ≡ position l ∷ map position (siblings (in_range k (k + 1)) r) = ap (map position) (siblings_right ns k p l r h x (omega (arith, high, h.3))) in
-    rw (e, f) (IsPermutation-cons (position l) _ _ (beside ns k r h.5 x (omega (arith, high, h.3)))))
-    (λ x.
     let e : others k (join p l r) ≡ position r ∷ others k l = ap (map (λ x. x.1)) (path_left k p l r x) in
     let f : map position (siblings (in_range k (k + 1)) (join p l r)) ≡ map position (siblings (in_range k (k + 1)) l) ++ position r ∷ [] =
     ap (map position) (siblings_left ns k p l r h low x) ∙ map-append position (siblings (in_range k (k + 1)) l) (r ∷ []) in
     rw (e, f) (IsPermutation-sym _ _ (IsPermutation-trans _ _ _ (IsPermutation-to_front _ _) (IsPermutation-cons (position r) _ _ (IsPermutation-sym _ _ (beside ns k l h.4 low (omega (arith, x, h.3))))))))
-    (le_or_lt (first_leaf r) k)
+    (λ x.
+    let e : others k (join p l r) ≡ position l ∷ others k r = ap (map (λ x. x.1)) (path_right k p l r x) in
+    let f : map position (siblings (in_range k (k + 1)) (join p l r)) ≡ position l ∷ map position (siblings (in_range k (k + 1)) r) = ap (map position) (siblings_right ns k p l r h x (omega (arith, high, h.3))) in
+    rw (e, f) (IsPermutation-cons (position l) _ _ (beside ns k r h.5 x (omega (arith, high, h.3)))))
+    (cases_lt k (first_leaf r))
 
 pub path_has_siblings : PathHasSiblings
 path_has_siblings rule n p k t at low high = beside (forest rule n).nodes k t (node_built rule n p t at) low high

@@ -1,6 +1,6 @@
 -- A walk over the peaks, oldest first.
-use Rattle.std.proofs.Common.{◌≡◌, ℕ, ◌+◌, ◌<◌, ◌≤◌, List, [], ◌∷◌, ◌++◌, map, filter, take, length, get_or, zero, suc, Bool, true, false, cond, reverse, Some, slice_get, arith, refl, ap, sym, ◌∙◌, subst, append-nil, append_assoc, add-one}
-use Rattle.std.specs.List.{AllByRecursion, flat_map}
+use Rattle.std.proofs.Common.{◌≡◌, ℕ, ◌+◌, ◌<◌, ◌≤◌, List, [], ◌∷◌, ◌++◌, map, take, length, get_or, zero, suc, Bool, reverse, Some, slice_get, arith, refl, ap, sym, ◌∙◌, subst, append-nil, append_assoc, add-one}
+use Rattle.std.specs.List.{flat_map}
 use Rattle.std.proofs.lemmas.List.{map-append}
 use Rattle.merkle_proof.specs.declared.subtree.Subtree.{Subtree}
 use Rattle.merkle_proof.specs.Subtrees.{Means}
@@ -15,12 +15,8 @@ use Rattle.merkle_proof.specs.declared.groups.Groups.{Groups}
 use Rattle.merkle_proof.specs.GroupedPeaks.{HoldsGroups}
 use Rattle.merkle_proof.specs.Subtrees.{AreNodes}
 use Rattle.merkle_proof.specs.Subtrees.{subtree_of}
-
-cons_head : {A : Type 0} (x y : A) (xs ys : List A) → x ∷ xs ≡ y ∷ ys → x ≡ y
-cons_head x y xs ys e = cc
-
-cons_tail : {A : Type 0} (x y : A) (xs ys : List A) → x ∷ xs ≡ y ∷ ys → xs ≡ ys
-cons_tail x y xs ys e = cc
+use Rattle.merkle_base.proofs.Lists.{cons_head, cons_tail, all_imply}
+use Rattle.merkle_proof.proofs.Walks.{flat_push}
 
 -- what a peak iterator gives of a peak
 abbrev pub placed : Tree → ℕ × ℕ
@@ -36,12 +32,8 @@ pub record Walked {F : Type 0} (rule : List ℕ → List ℕ) (m n a b : ℕ) (l
   pub at : AreNodes rule m rest
   pub held : HoldsGroups a b g done
 
-all_map : (P Q : Tree → Type 0) → ((t : Tree) → P t → Q t) → (ts : List Tree) → AllByRecursion P ts → AllByRecursion Q ts
-all_map P Q f [] h = tt
-all_map P Q f (t ∷ ts) h = (f t h.0, all_map P Q f ts h.1)
-
 pub peaks_at : (rule : List ℕ → List ℕ) (m n : ℕ) → n ≤ m → AreNodes rule m (reverse (forest rule n).peaks)
-peaks_at rule m n l = all_map (IsBuilt (forest rule n).nodes) _ (λ t h. node_stays rule n m (position t) t l (built_at (forest rule n).nodes t h)) (reverse (forest rule n).peaks) (all_reverse (IsBuilt (forest rule n).nodes) (forest rule n).peaks (forest_grown rule n).built)
+peaks_at rule m n l = all_imply (IsBuilt (forest rule n).nodes) _ (λ t h. node_stays rule n m (position t) t l (built_at (forest rule n).nodes t h)) (reverse (forest rule n).peaks) (all_reverse (IsBuilt (forest rule n).nodes) (forest rule n).peaks (forest_grown rule n).built)
 
 pub walk_begins : {F : Type 0} (rule : List ℕ → List ℕ) (m n a b : ℕ) (left : List (ℕ × ℕ)) (g : Groups F) → n ≤ m → left ≡ map placed (reverse (forest rule n).peaks) → HoldsGroups a b g [] → Walked rule m n a b left 0 g
 walk_begins rule m n a b left g l e h = record {
@@ -86,14 +78,6 @@ walk_ends rule m n a b left s g w e = step w.rest w.all (sym e ∙ w.left_is)
     step [] all l = subst (HoldsGroups a b g) (sym (all ∙ append-nil w.done)) w.held
     step (t ∷ ts) all l = absurd (cc)
 
-pub filter_nodes : (P : Tree → Type 0) (p : Tree → Bool) (ts : List Tree) → AllByRecursion P ts → AllByRecursion P (filter p ts)
-filter_nodes P p [] h = tt
-filter_nodes P p (t ∷ ts) h = both (p t) (filter_nodes P p ts h.1)
-  where
-    both : (b : Bool) → AllByRecursion P (filter p ts) → AllByRecursion P (cond b (t ∷ filter p ts) (filter p ts))
-    both true k = (h.0, k)
-    both false k = k
-
 -- element i of the subtrees of some nodes means node i
 pub element_means : {F : Type 0} (rule : List ℕ → List ℕ) (m : ℕ) (xs : List (Subtree F)) (ts : List Tree) → xs ≡ map subtree_of ts → AreNodes rule m ts → (i : ℕ) → i < length xs → (d : Subtree F)
     → (t : Tree) × Means rule m (get_or xs i d) t × (take (i + 1) ts ≡ take i ts ++ t ∷ [])
@@ -106,10 +90,6 @@ element_means {F = F} rule m xs ts e h i l d = subst (λ ys. (i < length ys) →
     step [] i h l = absurd (omega arith)
     step (t ∷ ts) zero h l = (t, record { at = h.0; height_is = refl; first_is = refl }, one t ts)
     step (t ∷ ts) (suc i) h l = let w = step ts i h.1 (omega arith) in (w.0, w.1, ap (λ n. take n (t ∷ ts)) (add-one (suc i)) ∙ ap (λ z. t ∷ z) (ap (λ n. take n ts) (sym (add-one i)) ∙ w.2))
-
-flat_push : (c : ℕ → Bool) (ts : List Tree) (t : Tree) → flat_map (siblings c) (ts ++ t ∷ []) ≡ flat_map (siblings c) ts ++ siblings c t
-flat_push c [] t = append-nil (siblings c t)
-flat_push c (u ∷ ts) t = ap (λ z. siblings c u ++ z) (flat_push c ts t) ∙ sym (append_assoc (siblings c u) (flat_map (siblings c) ts) (siblings c t))
 
 -- the siblings of one more tree
 pub more_siblings : (c : ℕ → Bool) (ts us : List Tree) (t : Tree) (out xs ys : List ℕ) → us ≡ ts ++ t ∷ [] → xs ≡ out ++ map position (flat_map (siblings c) ts) → ys ≡ xs ++ map position (siblings c t) → ys ≡ out ++ map position (flat_map (siblings c) us)

@@ -10,10 +10,7 @@ use Rattle.merkle_proof.specs.Claim.{tree_claim}
 use Rattle.merkle_proof.specs.Walk.{IsWalked}
 use Rattle.merkle_proof.specs.Walk.{peak_values}
 use Rattle.merkle_proof.specs.Walk.{ArePeaksWalked, ArePeakDigests}
-
-flat_one : (c : ℕ → Bool) (ts : List Tree) (t : Tree) → flat_map (siblings c) (ts ++ t ∷ []) ≡ flat_map (siblings c) ts ++ siblings c t
-flat_one c [] t = append-nil (siblings c t)
-flat_one c (u ∷ ts) t = ap (λ z. siblings c u ++ z) (flat_one c ts t) ∙ sym (append_assoc (siblings c u) (flat_map (siblings c) ts) (siblings c t))
+use Rattle.merkle_proof.proofs.Walks.{flat_push}
 
 module _ {D : Type 0} (h : Hashing D) (c : ℕ → Bool) (X : ℕ → D) where
   values_push : (ts : List Tree) (t : Tree) (ds : List D) → peak_values h c X (ts ++ t ∷ []) ds ≡ peak_values h c X ts ds ++ value h (tree_claim h c X t (drop (length (flat_map (siblings c) ts)) ds)) ∷ []
@@ -29,8 +26,8 @@ module _ {D : Type 0} (h : Hashing D) (c : ℕ → Bool) (X : ℕ → D) where
   pub walk_more : (ts us : List Tree) (t : Tree) (before out new after : List D) (d : D) (new' after' : List D) → us ≡ ts ++ t ∷ [] → ArePeaksWalked h c X ts before out new after → IsWalked h c X t after d after' → new' ≡ new ++ d ∷ [] → ArePeaksWalked h c X us before out new' after'
   walk_more ts us t before out new after d new' after' u w v e = subst (λ z. ArePeaksWalked h c X z before out new' after') (sym u) (record {
     digests = e ∙ ap₂ (λ x y. x ++ y ∷ []) w.digests (v.digest ∙ ap (λ z. value h (tree_claim h c X t z)) w.rest) ∙ append_assoc out (peak_values h c X ts before) _ ∙ ap (λ z. out ++ z) (sym (values_push ts t before));
-    enough = omega (arith, ap length (flat_one c ts t), length-append (flat_map (siblings c) ts) (siblings c t), ap length w.rest, length-drop (length (flat_map (siblings c) ts)) before, w.enough, v.enough);
-    rest = v.rest ∙ ap (drop (length (siblings c t))) w.rest ∙ drop-drop (length (siblings c t)) (length (flat_map (siblings c) ts)) before ∙ ap (λ n. drop n before) (sym (ap length (flat_one c ts t) ∙ length-append (flat_map (siblings c) ts) (siblings c t)));
+    enough = omega (arith, ap length (flat_push c ts t), length-append (flat_map (siblings c) ts) (siblings c t), ap length w.rest, length-drop (length (flat_map (siblings c) ts)) before, w.enough, v.enough);
+    rest = v.rest ∙ ap (drop (length (siblings c t))) w.rest ∙ drop-drop (length (siblings c t)) (length (flat_map (siblings c) ts)) before ∙ ap (λ n. drop n before) (sym (ap length (flat_push c ts t) ∙ length-append (flat_map (siblings c) ts) (siblings c t)));
   })
 
 flat_bound : (f : Tree → List Tree) (n : ℕ) (ts : List Tree) → length (flat_map f (take n ts)) ≤ length (flat_map f ts)
@@ -47,7 +44,7 @@ module _ {D : Type 0} (h : Hashing D) (c : ℕ → Bool) (X : ℕ → D) where
         arith,
         flat_bound (siblings c) (i + 1) ts,
         ap (λ z. length (flat_map (siblings c) z)) (sym v ∙ u),
-        ap length (flat_one c (take i ts) t),
+        ap length (flat_push c (take i ts) t),
         length-append (flat_map (siblings c) (take i ts)) (siblings c t),
         ap length w.rest,
         length-drop (length (flat_map (siblings c) (take i ts))) before,

@@ -1,7 +1,7 @@
 -- The pinned check: the honest inputs are accepted, and no others, but for collisions.
 use Rattle.std.proofs.Common.{◌≡◌, ℕ, zero, suc, Bool, true, false, cond, ◌||◌, nat_le, leb-true, ◌+◌, ◌-◌, ◌≤◌, ◌<◌, List, [], ◌∷◌, ◌++◌, ◌⊎◌, inl, inr, refl, ap, ap₂, sym, ◌∙◌, subst, ⊎_elim, arith, length, map, flat_map, take, drop, reverse, Option, Some, None, option_map, IfSome, MatchOption, slice_get}
 use Rattle.std.specs.List.{AllByRecursion}
-use Rattle.std.proofs.lemmas.Bool.{ne_eqb}
+use Rattle.std.proofs.lemmas.Bool.{ne_eqb, cases_Bool, cases_lt, false≢true}
 use Rattle.std.proofs.lemmas.List.{length-map, get_or-take, reverse-append}
 use Rattle.merkle_base.specs.Tree.{Tree, leaf, join, position, first_leaf, width, IsUnder, IsBuilt, end_leaf}
 use Rattle.merkle_base.specs.Forest.{forest, size}
@@ -25,28 +25,28 @@ use Rattle.merkle_proof.specs.Range.{in_range, end_of, overlapping, wholly_after
 use Rattle.merkle_proof.specs.Table.{digest_for, digest_of}
 use Rattle.merkle_proof.specs.Pinned.{pin_positions, pinned_on, AcceptsPinnedSome, honest_pins, PinnedCollides, HonestPinnedIsAccepted, AcceptedPinnedIsHonest, PinsAreOldPeaks}
 use Rattle.merkle_proof.proofs.NoCollisions.{member_split}
-use Rattle.merkle_proof.proofs.Claims.{by_test, false≢true}
-use Rattle.merkle_proof.proofs.PeakGroups.{peaks_span, peaks_built, meets_not, meets_yes, range_layout, groups}
-use Rattle.merkle_base.proofs.PeakLists.{Spans}
-use Rattle.merkle_proof.proofs.OutsideNodes.{le_or_lt, bag_unmet, unmet_take, unmet_drop}
+use Rattle.merkle_proof.proofs.Claims.{by_test}
+use Rattle.merkle_proof.proofs.PeakGroups.{meets_not, meets_yes, range_layout, groups}
+use Rattle.merkle_base.proofs.PeakLists.{Spans, spans_end, peaks_built, peaks_spans}
+use Rattle.merkle_proof.proofs.OutsideNodes.{bag_unmet, unmet_take, unmet_drop}
 use Rattle.merkle_proof.proofs.Extraction.{all_filter, all_take, all_drop}
-use Rattle.merkle_proof.proofs.RangeChecks.{covers, tree_in, small_leaves, small_inactive, honest_leaves, honest_some, elements_are}
+use Rattle.merkle_proof.proofs.RangeChecks.{covers, tree_in, small_leaves, small_inactive, honest_leaves, honest_some, elements_are, empty_root}
 use Rattle.merkle_proof.proofs.ListChecks.{is_chosen}
 use Rattle.merkle_proof.specs.Multiproof.{AllHolds}
-use Rattle.merkle_proof.proofs.ListedDigests.{filtered_member, EachPeak, each_forward, forward_each, all_cut, listed, listed_is, listed_some, each_of, plan_for, roots, below_root, roots_same, empty_root, no_other_list}
-use Rattle.merkle_proof.proofs.Multiproofs.{all_member, member_all, told_some, bool_cases, if_some}
+use Rattle.merkle_proof.proofs.ListedDigests.{filtered_member, EachPeak, each_forward, forward_each, all_cut, listed, listed_is, listed_some, each_of, plan_for, roots, below_root, roots_same, no_other_list}
+use Rattle.merkle_proof.proofs.Multiproofs.{all_member, member_all, told_some, if_some}
 use Rattle.merkle_proof.proofs.ToldDigests.{pins_trees_append, pins_all_append, no_other_pins}
 use Rattle.merkle_proof.proofs.HonestTold.{trees_left, plans_left, honest_pins_accepted}
+use Rattle.merkle_proof.proofs.Walks.{siblings_unmet, siblings_join}
+use Rattle.merkle_proof.proofs.Collisions.{member_left, member_right}
+use Rattle.merkle_base.proofs.Lists.{one_there}
+use Rattle.merkle_proof.proofs.PlacesOnce.{member_map}
 
 -- ---- peaks of one forest
-spans_first : (o n : ℕ) (ts : List Tree) (u : Tree) → Spans o n ts → Member ts u → o ≤ first_leaf u
+pub spans_first : (o n : ℕ) (ts : List Tree) (u : Tree) → Spans o n ts → Member ts u → o ≤ first_leaf u
 spans_first o n [] u c m = elim m [ ]
 spans_first o n (t ∷ ts) u c (inl e) = omega (arith, c.0, ap first_leaf e)
 spans_first o n (t ∷ ts) u c (inr m) = omega (arith, spans_first (o + width t) n ts u c.1 m)
-
-spans_end : (o n : ℕ) (ts : List Tree) → Spans o n ts → o ≤ n
-spans_end o n [] c = omega (arith, c)
-spans_end o n (t ∷ ts) c = omega (arith, spans_end (o + width t) n ts c.1)
 
 spans_last : (o n : ℕ) (ts : List Tree) (u : Tree) → Spans o n ts → Member ts u → end_leaf u ≤ n
 spans_last o n [] u c m = elim m [ ]
@@ -64,33 +64,21 @@ apart o n (t ∷ ts) u v c (inr m) (inr w) = apart (o + width t) n ts u v c.1 m 
 same_at : (o n i : ℕ) (ts : List Tree) (u v : Tree) → Spans o n ts → Member ts u → Member ts v → first_leaf u ≤ i → i < end_leaf u → first_leaf v ≤ i → i < end_leaf v → u ≡ v
 same_at o n i ts u v c m w a b d e = ⊎_elim (λ x. x) (⊎_elim (λ x. absurd (omega (arith, x, a, b, d, e))) (λ x. absurd (omega (arith, x, a, b, d, e)))) (apart o n ts u v c m w)
 
--- a node with a location of a peak lies under it
-pub sibling_one : (c : ℕ → Bool) (t : Tree) → tree_meets c t ≡ false → siblings c t ≡ t ∷ []
-sibling_one c (leaf p i) e = ap (λ b. cond b [] (leaf p i ∷ [])) e
-sibling_one c (join p l r) e = ap (λ b. cond b (siblings c l ++ siblings c r) (join p l r ∷ [])) e
-
-pub sibling_both : (c : ℕ → Bool) (p : ℕ) (l r : Tree) → tree_meets c l || tree_meets c r ≡ true → siblings c (join p l r) ≡ siblings c l ++ siblings c r
-sibling_both c p l r e = ap (λ b. cond b (siblings c l ++ siblings c r) (join p l r ∷ [])) e
-
 -- a node of the forest lies under the peak that has its first location
 member_get : (ts : List Tree) (i : ℕ) (t : Tree) → slice_get ts i ≡ Some t → Member ts t
 member_get [] i t e = absurd (cc)
 member_get (x ∷ ts) zero t e = inl (cc)
 member_get (x ∷ ts) (suc i) t e = inr (member_get ts i t e)
 
-member_push : (xs ys : List Tree) (t : Tree) → Member xs t → Member (xs ++ ys) t
-member_push [] ys t m = elim m [ ]
-member_push (x ∷ xs) ys t (inl e) = inl e
-member_push (x ∷ xs) ys t (inr m) = inr (member_push xs ys t m)
-
-member_pushed : (xs ys : List Tree) (t : Tree) → Member ys t → Member (xs ++ ys) t
-member_pushed [] ys t m = m
-member_pushed (x ∷ xs) ys t m = inr (member_pushed xs ys t m)
-
 member_reverse : (ts : List Tree) (t : Tree) → Member ts t → Member (reverse ts) t
 member_reverse [] t m = elim m [ ]
-member_reverse (x ∷ ts) t (inl e) = subst (λ z. Member z t) (sym (reverse-append (x ∷ []) ts)) (member_pushed (reverse ts) (x ∷ []) t (inl e))
-member_reverse (x ∷ ts) t (inr m) = subst (λ z. Member z t) (sym (reverse-append (x ∷ []) ts)) (member_push (reverse ts) (x ∷ []) t (member_reverse ts t m))
+member_reverse (x ∷ ts) t (inl e) = subst (λ z. Member z t) (sym (reverse-append (x ∷ []) ts)) (member_right (reverse ts) (x ∷ []) t (inl e))
+member_reverse (x ∷ ts) t (inr m) = subst (λ z. Member z t) (sym (reverse-append (x ∷ []) ts)) (member_left (reverse ts) (x ∷ []) t (member_reverse ts t m))
+
+position_member : (ts : List Tree) (p : ℕ) → Member (map position ts) p → (v : Tree) × Member ts v × (position v ≡ p)
+position_member [] p m = elim m [ ]
+position_member (t ∷ ts) p (inl e) = (t, inl refl, e)
+position_member (t ∷ ts) p (inr m) = let w = position_member ts p m in (w.0, inr w.1, w.2)
 
 module _ {D : Type 0} (s : Setting D) (n start : ℕ) (l : start ≤ n) where
   abbrev ns : List Tree
@@ -99,63 +87,47 @@ module _ {D : Type 0} (s : Setting D) (n start : ℕ) (l : start ≤ n) where
   -- a peak over the first leaves is built in the whole forest
   pin_built : (u : Tree) → Member (peaks_of s.rule start) u → IsBuilt ns u
   pin_built u m = let w = forest_prefix s.rule start n l in
-      subst (λ z. IsBuilt z u) (sym w.1) (IsBuilt-front (forest s.rule start).nodes w.0 u (all_member _ (peaks_of s.rule start) u (peaks_built s start) m))
+      subst (λ z. IsBuilt z u) (sym w.1) (IsBuilt-front (forest s.rule start).nodes w.0 u (all_member _ (peaks_of s.rule start) u (peaks_built s.rule start) m))
 
   -- and lies under the peak that has one of its locations
   pin_under : (u t : Tree) (i : ℕ) → Member (peaks_of s.rule start) u → Member (peaks_of s.rule n) t → first_leaf u ≤ i → i < end_leaf u → first_leaf t ≤ i → i < end_leaf t → IsUnder u t
   pin_under u t i m w a b d e =
       let x = peak_of u (forest s.rule n).peaks ((forest_grown s.rule n).under (position u) u (built_at ns u (pin_built u m))) in
       let y : Member (peaks_of s.rule n) x.1 = member_reverse (forest s.rule n).peaks x.1 (member_get (forest s.rule n).peaks x.0 x.1 x.2) in
-      let bx = all_member (IsBuilt ns) (peaks_of s.rule n) x.1 (peaks_built s n) y in
+      let bx = all_member (IsBuilt ns) (peaks_of s.rule n) x.1 (peaks_built s.rule n) y in
       let f1 = first_under ns u x.1 x.3 bx in
       let f2 = end_under ns u x.1 x.3 bx in
-      subst (IsUnder u) (same_at 0 n i (peaks_of s.rule n) x.1 t (peaks_span s n) y w (omega (arith, f1, a)) (omega (arith, f2, b)) d e) x.3
+      subst (IsUnder u) (same_at 0 n i (peaks_of s.rule n) x.1 t (peaks_spans s.rule n) y w (omega (arith, f1, a)) (omega (arith, f2, b)) d e) x.3
 
   -- no peak over the first leaves stands above another
   none_above : (u : Tree) → Member (peaks_of s.rule start) u → (p : ℕ) (a b : Tree) → IsUnder u a ⊎ IsUnder u b → IsBuilt ns (join p a b) → Member (pin_positions s start) p → ⊥
   none_above u m p a b under built w =
-      let v = map_member (peaks_of s.rule start) p w in
-      let same : v.0 ≡ join p a b = one_node (subst (λ z. slice_get ns z ≡ Some v.0) v.2 (built_at ns v.0 (pin_built v.0 v.1))) (built_at ns (join p a b) built) in
+      let v = position_member (peaks_of s.rule start) p w in
+      let same : v.0 ≡ join p a b = one_there (subst (λ z. slice_get ns z ≡ Some v.0) v.2 (built_at ns v.0 (pin_built v.0 v.1))) (built_at ns (join p a b) built) in
       let u' : IsUnder u (join p a b) = inr under in
       let f1 = first_under ns u (join p a b) u' built in
       let f2 = end_under ns u (join p a b) u' built in
-      let e : u ≡ v.0 = same_at 0 start (first_leaf u) (peaks_of s.rule start) u v.0 (peaks_span s start) m v.1 (omega arith) (omega (arith, width_pos u)) (omega (arith, f1, ap first_leaf same)) (omega (arith, f2, width_pos u, ap end_leaf same)) in
+      let e : u ≡ v.0 = same_at 0 start (first_leaf u) (peaks_of s.rule start) u v.0 (peaks_spans s.rule start) m v.1 (omega arith) (omega (arith, width_pos u)) (omega (arith, f1, ap first_leaf same)) (omega (arith, f2, width_pos u, ap end_leaf same)) in
       let q : position u ≡ p = ap position e ∙ v.2 in
       ⊎_elim (λ x. absurd (omega (arith, position_under ns u a x built.4, built.1, q))) (λ x. absurd (omega (arith, position_under ns u b x built.5, built.2, q))) under
-    where
-      map_member : (ts : List Tree) (p : ℕ) → Member (map position ts) p → (v : Tree) × Member ts v × (position v ≡ p)
-      map_member [] p m = elim m [ ]
-      map_member (t ∷ ts) p (inl e) = (t, inl refl, e)
-      map_member (t ∷ ts) p (inr m) = let w = map_member ts p m in (w.0, inr w.1, w.2)
-
-      one_node : {o : Option Tree} {x y : Tree} → o ≡ Some x → o ≡ Some y → x ≡ y
-      one_node d e = cc
-
-  member_map : (ts : List Tree) (u : Tree) → Member ts u → Member (map position ts) (position u)
-  member_map [] u m = elim m [ ]
-  member_map (t ∷ ts) u (inl e) = inl (ap position e)
-  member_map (t ∷ ts) u (inr m) = inr (member_map ts u m)
 
   -- the positions of the pins are distinct
   pins_apart : (o : ℕ) (ts : List Tree) → Spans o start ts → ((u : Tree) → Member ts u → IsBuilt ns u) → Distinct (map position ts)
   pins_apart o [] c f = tt
   pins_apart o (t ∷ ts) c f = (no_other ts (λ u m. inr m), pins_apart (o + width t) ts c.1 (λ u m. f u (inr m)))
     where
-      one_node : {o : Option Tree} {x y : Tree} → o ≡ Some x → o ≡ Some y → x ≡ y
-      one_node d e = cc
-
       no_other : (us : List Tree) → ((u : Tree) → Member us u → Member (t ∷ ts) u) → Member (map position ts) (position t) → ⊥
       no_other us g m = at ts (λ u w. w) m
         where
           at : (vs : List Tree) → ((u : Tree) → Member vs u → Member ts u) → Member (map position vs) (position t) → ⊥
           at [] g m = m
           at (v ∷ vs) g (inl e) =
-              let same : v ≡ t = one_node (subst (λ z. slice_get ns z ≡ Some v) e (built_at ns v (f v (inr (g v (inl refl)))))) (built_at ns t (f t (inl refl))) in
+              let same : v ≡ t = one_there (subst (λ z. slice_get ns z ≡ Some v) e (built_at ns v (f v (inr (g v (inl refl)))))) (built_at ns t (f t (inl refl))) in
               absurd (omega (arith, spans_first (o + width t) start ts v c.1 (g v (inl refl)), ap first_leaf same, c.0, width_pos t))
           at (v ∷ vs) g (inr m) = at vs (λ u w. g u (inr w)) m
 
   pub distinct_pins : Distinct (pin_positions s start)
-  distinct_pins = pins_apart 0 (peaks_of s.rule start) (peaks_span s start) pin_built
+  distinct_pins = pins_apart 0 (peaks_of s.rule start) (peaks_spans s.rule start) pin_built
 
 -- ---- lists of pins
 absent : {D : Type 0} (ps : List ℕ) (ds : List D) (p : ℕ) → (Member ps p → ⊥) → digest_for ps ds p ≡ None
@@ -192,7 +164,7 @@ module _ {D : Type 0} (s : Setting D) (n start e : ℕ) (l : start ≤ n) (more 
   old_met t b x = meets_yes 0 start nodes t b x (omega (arith, width_pos t)) (omega (arith, x))
 
   pin_end : (u : Tree) → Member (peaks_of s.rule start) u → end_leaf u ≤ start
-  pin_end u m = spans_last 0 start (peaks_of s.rule start) u (peaks_span s start) m
+  pin_end u m = spans_last 0 start (peaks_of s.rule start) u (peaks_spans s.rule start) m
 
   module _ (pins : List D) where
     abbrev b : ℕ → Option D
@@ -214,16 +186,16 @@ module _ {D : Type 0} (s : Setting D) (n start e : ℕ) (l : start ≤ n) (more 
 
     -- down from a peak
     walk_unmet : (t u : Tree) → PinsTrees s.hashing b w X (siblings c t) → IsBuilt nodes t → IsUnder u t → Member (peaks_of s.rule start) u → tree_meets c t ≡ false → Right u
-    walk_unmet t u v built x m q = let one = subst (PinsTrees s.hashing b w X) (sibling_one c t q) v in
+    walk_unmet t u v built x m q = let one = subst (PinsTrees s.hashing b w X) (siblings_unmet c t q) v in
         pins_below t u (one.0 (old_met t built (omega (arith, first_under nodes u t x built, pin_end u m, width_pos u)))) built x m
 
     pub walk : (t u : Tree) → PinsTrees s.hashing b w X (siblings c t) → IsBuilt nodes t → IsUnder u t → Member (peaks_of s.rule start) u → Right u
-    walk (leaf p i) u v built x m = ⊎_elim (λ q. absurd (old_unmet (leaf p i) built (subst (λ z. end_leaf z ≤ start) x (pin_end u m)) q)) (λ q. walk_unmet (leaf p i) u v built x m q) (bool_cases (tree_meets c (leaf p i)))
+    walk (leaf p i) u v built x m = ⊎_elim (λ q. absurd (old_unmet (leaf p i) built (subst (λ z. end_leaf z ≤ start) x (pin_end u m)) q)) (λ q. walk_unmet (leaf p i) u v built x m q) (cases_Bool (tree_meets c (leaf p i)))
     walk (join p a a') u v built x m = ⊎_elim
-        (λ q. let z = trees_left s.hashing b X w (siblings c a) (siblings c a') (subst (PinsTrees s.hashing b w X) (sibling_both c p a a' q) v) in
+        (λ q. let z = trees_left s.hashing b X w (siblings c a) (siblings c a') (subst (PinsTrees s.hashing b w X) (siblings_join c p a a' q) v) in
         ⊎_elim (λ y. absurd (old_unmet (join p a a') built (subst (λ z. end_leaf z ≤ start) y (pin_end u m)) q))
         (⊎_elim (λ y. walk a u z.0 built.4 y m) (λ y. walk a' u z.1 built.5 y m)) x)
-        (λ q. walk_unmet (join p a a') u v built x m q) (bool_cases (tree_meets c (join p a a')))
+        (λ q. walk_unmet (join p a a') u v built x m q) (cases_Bool (tree_meets c (join p a a')))
 
   -- the honest pins
   abbrev f : ℕ → D
@@ -240,7 +212,7 @@ module _ {D : Type 0} (s : Setting D) (n start e : ℕ) (l : start ≤ n) (more 
   PinAt t i = (u : Tree) × Member (peaks_of s.rule start) u × IsUnder u t × InTree u i
 
   pin_digest : (u : Tree) → Member (peaks_of s.rule start) u → hb (position u) ≡ Some (f (position u))
-  pin_digest u m = listed_some (pin_positions s start) f (position u) (member_map s n start l (peaks_of s.rule start) u m)
+  pin_digest u m = listed_some (pin_positions s start) f (position u) (member_map position (peaks_of s.rule start) u m)
 
   pin_left : (p : ℕ) (a a' : Tree) (i : ℕ) → IsBuilt nodes (join p a a') → InTree a i → (v : PinAt (join p a a') i) → (v.0 ≡ join p a a' → ⊥) → PinAt a i
   pin_left p a a' i built m v other = ⊎_elim (λ x. absurd (other x)) (⊎_elim (λ x. (v.0, v.1, x, v.3))
@@ -262,33 +234,28 @@ module _ {D : Type 0} (s : Setting D) (n start e : ℕ) (l : start ≤ n) (more 
       (if_some (hb p) _ _ (at_node (join p a a') built) (listed_is (pin_positions s start) f p))
 
   honest_unmet : (t : Tree) → IsBuilt nodes t → ((i : ℕ) → i < start → InTree t i → PinAt t i) → tree_meets c t ≡ false → PinsTrees s.hashing hb w X (siblings c t)
-  honest_unmet t built v q = subst (PinsTrees s.hashing hb w X) (sym (sibling_one c t q)) ((λ z. pins_tree t built (λ i m. v i (before z i m) m)), tt)
+  honest_unmet t built v q = subst (PinsTrees s.hashing hb w X) (sym (siblings_unmet c t q)) ((λ z. pins_tree t built (λ i m. v i (before z i m) m)), tt)
     where
       before : tree_meets w t ≡ true → (i : ℕ) → InTree t i → i < start
-      before z i m = ⊎_elim (λ x. omega (arith, x, (tree_in nodes t i built m).1))
-          (λ x. ⊎_elim (λ y. absurd (false≢true (sym (meets_not 0 start nodes t built (inr y)) ∙ z))) (λ y. absurd (false≢true (sym q ∙ meets_yes start e nodes t built (omega (arith, y, more)) x more))) (le_or_lt start (first_leaf t))) (le_or_lt (end_leaf t) start)
+      before z i m = ⊎_elim (λ x. ⊎_elim (λ y. absurd (false≢true (sym q ∙ meets_yes start e nodes t built (omega (arith, y, more)) x more))) (λ y. absurd (false≢true (sym (meets_not 0 start nodes t built (inr y)) ∙ z))) (cases_lt (first_leaf t) start))
+          (λ x. omega (arith, x, (tree_in nodes t i built m).1)) (cases_lt start (end_leaf t))
 
   honest_walk : (t : Tree) → IsBuilt nodes t → ((i : ℕ) → i < start → InTree t i → PinAt t i) → PinsTrees s.hashing hb w X (siblings c t)
-  honest_walk (leaf p i) built v = ⊎_elim (λ q. subst (λ z. PinsTrees s.hashing hb w X (cond z [] (leaf p i ∷ []))) (sym q) tt) (λ q. honest_unmet (leaf p i) built v q) (bool_cases (tree_meets c (leaf p i)))
+  honest_walk (leaf p i) built v = ⊎_elim (λ q. subst (λ z. PinsTrees s.hashing hb w X (cond z [] (leaf p i ∷ []))) (sym q) tt) (λ q. honest_unmet (leaf p i) built v q) (cases_Bool (tree_meets c (leaf p i)))
   honest_walk (join p a a') built v = ⊎_elim
-      (λ q. subst (PinsTrees s.hashing hb w X) (sym (sibling_both c p a a' q)) (pins_trees_append s.hashing hb X w (siblings c a) (siblings c a')
+      (λ q. subst (PinsTrees s.hashing hb w X) (sym (siblings_join c p a a' q)) (pins_trees_append s.hashing hb X w (siblings c a) (siblings c a')
       (honest_walk a built.4 (λ i x m. pin_left p a a' i built m (v i x (inl m)) (λ z. old_unmet (join p a a') built (subst (λ y. end_leaf y ≤ start) z (pin_end (v i x (inl m)).0 (v i x (inl m)).1)) q)))
       (honest_walk a' built.5 (λ i x m. pin_right p a a' i built m (v i x (inr m)) (λ z. old_unmet (join p a a') built (subst (λ y. end_leaf y ≤ start) z (pin_end (v i x (inr m)).0 (v i x (inr m)).1)) q)))))
-      (λ q. honest_unmet (join p a a') built v q) (bool_cases (tree_meets c (join p a a')))
+      (λ q. honest_unmet (join p a a') built v q) (cases_Bool (tree_meets c (join p a a')))
 
   -- each peak of the whole forest
   honest_peaks : AllByRecursion (λ t. PinsTrees s.hashing hb w X (siblings c t)) (peaks_of s.rule n)
-  honest_peaks = member_all _ (peaks_of s.rule n) (λ t m. let built = all_member (IsBuilt nodes) (peaks_of s.rule n) t (peaks_built s n) m in
+  honest_peaks = member_all _ (peaks_of s.rule n) (λ t m. let built = all_member (IsBuilt nodes) (peaks_of s.rule n) t (peaks_built s.rule n) m in
       honest_walk t built (λ i x y. let u = covers s start i x in
       let i1 = tree_in nodes u.0 i (pin_built s n start l u.0 u.1) u.2 in let i2 = tree_in nodes t i built y in
       (u.0, u.1, pin_under s n start l u.0 t i u.1 m i1.0 i1.1 i2.0 i2.1, u.2)))
 
 -- ---- the parts of the layout that lie before the range
-pub position_member : (ts : List Tree) (p : ℕ) → Member (map position ts) p → (v : Tree) × Member ts v × (position v ≡ p)
-position_member [] p m = elim m [ ]
-position_member (t ∷ ts) p (inl e) = (t, inl refl, e)
-position_member (t ∷ ts) p (inr m) = let w = position_member ts p m in (w.0, inr w.1, w.2)
-
 module _ {D : Type 0} (h : Hashing D) (b : ℕ → Option D) (X : ℕ → D) where
   plan_each : (p : Plan) → PinsPlan h b X p → EachPeak (PinsTree h b X) p
   plan_each (peak t) v = v
@@ -363,12 +330,16 @@ module _ {D : Type 0} (s : Setting D) (n start e : ℕ) (l : start ≤ n) (more 
   before_end t m = leb-true (end_leaf t) start (filtered_member (λ t. nat_le (end_leaf t) start) ts t m).1
 
   before_met : AllByRecursion (λ t. tree_meets (in_range 0 start) t ≡ true) (wholly_before start ts)
-  before_met = member_all _ (wholly_before start ts) (λ t m. old_met s n start e l more X t (all_member _ ts t (peaks_built s n) (filtered_member (λ t. nat_le (end_leaf t) start) ts t m).0) (omega (arith, before_end t m, width_pos t)))
+  before_met = member_all _ (wholly_before start ts) (λ t m. old_met s n start e l more X t (all_member _ ts t (peaks_built s.rule n) (filtered_member (λ t. nat_le (end_leaf t) start) ts t m).0) (omega (arith, before_end t m, width_pos t)))
 
   after_unmet : (us : List Tree) → AllByRecursion (IsBuilt (forest s.rule n).nodes) us → Unmet (in_range 0 start) (wholly_after e us)
   after_unmet [] h = tt
   after_unmet (t ∷ us) h = by_test (λ z. nat_le e (first_leaf t) ≡ z → Unmet (in_range 0 start) (cond z (t ∷ wholly_after e us) (wholly_after e us))) (nat_le e (first_leaf t))
       (λ _ q. (meets_not 0 start _ t h.0 (inr (omega (arith, leb-true e (first_leaf t) q, more))), after_unmet us h.1)) (λ _ _. after_unmet us h.1) refl
+
+  map_positions : (us : List Tree) → ((u : Tree) → Member us u → IsBuilt (forest s.rule n).nodes u) → map (f s n start e l more X) (map position us) ≡ map (tree_digest s.hashing X) us
+  map_positions [] g = refl
+  map_positions (u ∷ us) g = ap₂ (λ a b. a ∷ b) (at_node s n start e l more X u (g u (inl refl))) (map_positions us (λ v m. g v (inr m)))
 
   -- where the parts before the range are rebuilt to the list's digests the pins are the list's
   pub pins_are : (bagging : Bagging) (k : ℕ) (pins : List D) → e ≤ n → length pins ≡ length (peaks_of s.rule start)
@@ -380,7 +351,7 @@ module _ {D : Type 0} (s : Setting D) (n start e : ℕ) (l : start ≤ n) (more 
       b = digest_for (pin_positions s start) pins
 
       split : ts ≡ wholly_before start ts ++ (overlapping start e ts ++ wholly_after e ts)
-      split = groups start e 0 n ts more (peaks_span s n)
+      split = groups start e 0 n ts more (peaks_spans s.rule n)
 
       trees : AllByRecursion (PinsTree s.hashing (digest_for (pin_positions s start) pins) X) (wholly_before start ts)
       trees = unpack s.hashing (digest_for (pin_positions s start) pins) X (in_range 0 start) bagging k (wholly_before start ts) (overlapping start e ts) (wholly_after e ts) before_met v
@@ -388,7 +359,7 @@ module _ {D : Type 0} (s : Setting D) (n start e : ℕ) (l : start ≤ n) (more 
       -- of a peak with a pin under it
       part : (t u : Tree) → Member ts t → Member (peaks_of s.rule start) u → IsUnder u t → PinsTrees s.hashing (digest_for (pin_positions s start) pins) (in_range 0 start) X (siblings (in_range start e) t)
       part t u m q x = ⊎_elim
-          (λ y. subst (PinsTrees s.hashing (digest_for (pin_positions s start) pins) (in_range 0 start) X) (sym (sibling_one (in_range start e) t (meets_not start e _ t built (inl (before_end t y)))))
+          (λ y. subst (PinsTrees s.hashing (digest_for (pin_positions s start) pins) (in_range 0 start) X) (sym (siblings_unmet (in_range start e) t (meets_not start e _ t built (inl (before_end t y)))))
           ((λ _. all_member _ (wholly_before start ts) t trees y), tt))
           (λ y. ⊎_elim (λ o. siblings_of s.hashing (digest_for (pin_positions s start) pins) X (in_range 0 start) (in_range start e) (overlapping start e ts) t o z)
           (λ o. absurd (omega (arith, leb-true e (first_leaf t) (filtered_member (λ t. nat_le e (first_leaf t)) ts t o).1, first_under _ u t x built, pin_end s n start e l more X u q, width_pos u, more)))
@@ -396,7 +367,7 @@ module _ {D : Type 0} (s : Setting D) (n start e : ℕ) (l : start ≤ n) (more 
           (member_split (wholly_before start ts) (overlapping start e ts ++ wholly_after e ts) t (subst (λ us. Member us t) split m))
         where
           built : IsBuilt (forest s.rule n).nodes t
-          built = all_member _ ts t (peaks_built s n) m
+          built = all_member _ ts t (peaks_built s.rule n) m
 
       right : (p : ℕ) → Member (pin_positions s start) p → IfSome (digest_for (pin_positions s start) pins p) (λ d. d ≡ f s n start e l more X p)
       right p m =
@@ -404,16 +375,12 @@ module _ {D : Type 0} (s : Setting D) (n start e : ℕ) (l : start ≤ n) (more 
           let ub = pin_built s n start l u.0 u.1 in
           let in_n : first_leaf u.0 < n = omega (arith, pin_end s n start e l more X u.0 u.1, width_pos u.0, l) in
           let t = covers s n (first_leaf u.0) in_n in
-          let tb = all_member (IsBuilt (forest s.rule n).nodes) ts t.0 (peaks_built s n) t.1 in
+          let tb = all_member (IsBuilt (forest s.rule n).nodes) ts t.0 (peaks_built s.rule n) t.1 in
           let i = tree_in (forest s.rule n).nodes t.0 (first_leaf u.0) tb t.2 in
           let x = pin_under s n start l u.0 t.0 (first_leaf u.0) u.1 t.1 (omega arith) (omega (arith, width_pos u.0)) i.0 i.1 in
           subst (λ q. IfSome (digest_for (pin_positions s start) pins q) (λ d. d ≡ f s n start e l more X q)) u.2
           (if_some (digest_for (pin_positions s start) pins (position u.0)) _ _ (sym (at_node s n start e l more X u.0 ub))
           (walk s n start e l more X pins t.0 u.0 (part t.0 u.0 t.1 u.1 x) tb x u.1))
-
-      map_positions : (us : List Tree) → ((u : Tree) → Member us u → IsBuilt (forest s.rule n).nodes u) → map (f s n start e l more X) (map position us) ≡ map (tree_digest s.hashing X) us
-      map_positions [] g = refl
-      map_positions (u ∷ us) g = ap₂ (λ a b. a ∷ b) (at_node s n start e l more X u (g u (inl refl))) (map_positions us (λ v m. g v (inr m)))
 
   -- the list's pins rebuild them
   pub pins_rebuild : (bagging : Bagging) (k : ℕ) (pins : List D) → e ≤ n → pins ≡ map (tree_digest s.hashing X) (peaks_of s.rule start)
@@ -423,15 +390,11 @@ module _ {D : Type 0} (s : Setting D) (n start e : ℕ) (l : start ≤ n) (more 
       let all : AllByRecursion (λ t. PinsTrees s.hashing (digest_for (pin_positions s start) pins) (in_range 0 start) X (siblings (in_range start e) t)) ts =
       subst (λ ds. AllByRecursion (λ t. PinsTrees s.hashing (digest_for (pin_positions s start) ds) (in_range 0 start) X (siblings (in_range start e) t)) ts) same (honest_peaks s n start e l more X) in (
         pack s.hashing (digest_for (pin_positions s start) pins) X (in_range 0 start) bagging k (wholly_before start ts) (overlapping start e ts) (wholly_after e ts)
-            (member_all _ (wholly_before start ts) (λ t m. let m' = (filtered_member (λ t. nat_le (end_leaf t) start) ts t m).0 in let built = all_member (IsBuilt (forest s.rule n).nodes) ts t (peaks_built s n) m' in
-            (subst (PinsTrees s.hashing (digest_for (pin_positions s start) pins) (in_range 0 start) X) (sibling_one (in_range start e) t (meets_not start e _ t built (inl (before_end t m)))) (all_member _ ts t all m')).0
-            (all_member _ (wholly_before start ts) t before_met m))) (after_unmet ts (peaks_built s n)),
+            (member_all _ (wholly_before start ts) (λ t m. let m' = (filtered_member (λ t. nat_le (end_leaf t) start) ts t m).0 in let built = all_member (IsBuilt (forest s.rule n).nodes) ts t (peaks_built s.rule n) m' in
+            (subst (PinsTrees s.hashing (digest_for (pin_positions s start) pins) (in_range 0 start) X) (siblings_unmet (in_range start e) t (meets_not start e _ t built (inl (before_end t m)))) (all_member _ ts t all m')).0
+            (all_member _ (wholly_before start ts) t before_met m))) (after_unmet ts (peaks_built s.rule n)),
         of_siblings s.hashing (digest_for (pin_positions s start) pins) X (in_range 0 start) (in_range start e) (overlapping start e ts) (all_filter _ _ ts all),
       )
-    where
-      map_positions : (us : List Tree) → ((u : Tree) → Member us u → IsBuilt (forest s.rule n).nodes u) → map (f s n start e l more X) (map position us) ≡ map (tree_digest s.hashing X) us
-      map_positions [] g = refl
-      map_positions (u ∷ us) g = ap₂ (λ a b. a ∷ b) (at_node s n start e l more X u (g u (inl refl))) (map_positions us (λ v m. g v (inr m)))
 
 -- ---- the check
 each_in_plan : (P : ℕ → Type 0) (p : Plan) → ((i : ℕ) → InPlan p i → P i) → EachPeak (λ t. (i : ℕ) → InTree t i → P i) p
@@ -516,7 +479,7 @@ module _ {D : Type 0} (s : Setting D) (size max_nodes : ℕ) (sound : Sound s si
       }
 
 pub honest_pinned_is_accepted : {D : Type 0} → HonestPinnedIsAccepted D
-honest_pinned_is_accepted s size max_nodes sound xs k few low r pins honest = ⊎_elim (λ w. inl (honest_pinned s size max_nodes sound xs k few low r pins w.0 w.1)) (λ w. inr (w.0, empty_root s size max_nodes sound xs k few low w.1)) honest
+honest_pinned_is_accepted s size max_nodes sound xs k few low r pins honest = ⊎_elim (λ w. inl (honest_pinned s size max_nodes sound xs k few low r pins w.0 w.1)) (λ w. inr (w.0, empty_root s xs k low w.1)) honest
 
 pub accepted_pinned_is_honest : {D : Type 0} → AcceptedPinnedIsHonest D
 accepted_pinned_is_honest s size max_nodes sound xs k few low r pins ok =
@@ -525,7 +488,7 @@ accepted_pinned_is_honest s size max_nodes sound xs k few low r pins ok =
 
 -- ---- the pins are the peaks of the first leaves
 pub pins_are_old_peaks : {D : Type 0} → PinsAreOldPeaks D
-pins_are_old_peaks s xs start l = same_map (peaks_of s.rule start) (peaks_built s start) (λ u m. spans_last 0 start (peaks_of s.rule start) u (peaks_span s start) m)
+pins_are_old_peaks s xs start l = same_map (peaks_of s.rule start) (peaks_built s.rule start) (λ u m. spans_last 0 start (peaks_of s.rule start) u (peaks_spans s.rule start) m)
   where
     same_tree : (t : Tree) → IsBuilt (forest s.rule start).nodes t → end_leaf t ≤ start → tree_digest s.hashing (leaf_of s.hashing xs) t ≡ tree_digest s.hashing (leaf_of s.hashing (take start xs)) t
     same_tree (leaf p i) b e = sym (get_or-take start xs i s.hashing.empty (omega arith))

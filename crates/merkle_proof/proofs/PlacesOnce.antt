@@ -1,5 +1,6 @@
 -- No place stands twice among a list's inputs.
 use Rattle.std.proofs.Common.{◌≡◌, ℕ, suc, zero, pred, Bool, true, false, cond, nat_lt, ◌-◌, ◌≤◌, List, [], ◌∷◌, ◌++◌, inl, inr, refl, ap, sym, ◌∙◌, subst, ⊎_elim, arith, length, map, flat_map}
+use Rattle.std.proofs.lemmas.Bool.{true≢false}
 use Rattle.merkle_proof.specs.Expression.{Place, Join, PrefixFold, SuffixFold, Input, is_node}
 use Rattle.merkle_proof.specs.Collision.{Member}
 use Rattle.merkle_base.specs.Tree.{Tree, leaf, join}
@@ -116,11 +117,8 @@ pub all_nodes_in : (ts : List Tree) (p : Place) → Member (flat_map node_places
 all_nodes_in [] p m = elim m [ ]
 all_nodes_in (t ∷ ts) p m = ⊎_elim (λ w. all_nodes t p w) (λ w. all_nodes_in ts p w) (member_split (node_places t) _ p m)
 
-true_false : true ≡ false → ⊥
-true_false e = cc
-
 pub places_once : {D : Type 0} → PlacesOnce D
 places_once h X bagging k t ts d x y m n e = distinct_map (λ (i : Input _). i.place) _
     (subst (λ z. Distinct z) (sym (places_in_order h X bagging k t ts))
     (distinct_append (fold_places bagging k (suc (length ts))) (flat_map node_places (t ∷ ts)) (distinct_folds bagging k (suc (length ts))) d
-    (λ p u v. true_false (sym (all_nodes_in (t ∷ ts) p v) ∙ folds_no_node bagging k (suc (length ts)) p u)))) x y m n e
+    (λ p u v. true≢false (sym (all_nodes_in (t ∷ ts) p v) ∙ folds_no_node bagging k (suc (length ts)) p u)))) x y m n e

@@ -2,7 +2,8 @@
 use Rattle.std.proofs.Common.{◌≡◌, ℕ, suc, true, ◌+◌, ◌-◌, ◌≤◌, ◌<◌, ◌^◌, add-sub_of_le, List, [], ◌∷◌, ◌++◌, ◌⊎◌, inl, inr, refl, ap, ap₂, sym, ◌∙◌, subst, ⊎_elim, arith, length, length-append, map, take, drop, get_or, Option, Some, None, option_map}
 use Rattle.std.specs.List.{AllByRecursion}
 use Rattle.std.proofs.Math.Nat.{add-sub_cancel_left}
-use Rattle.std.proofs.lemmas.List.{length-map, length-reverse, get_or-take, get_or-drop, length-take-le, length-drop}
+use Rattle.std.proofs.lemmas.List.{length-map, length-reverse, get_or-take, get_or-drop, length-take-le, length-drop, nil_from_length}
+use Rattle.std.proofs.lemmas.Bool.{cases_lt}
 use Rattle.merkle_base.specs.Tree.{Tree, leaf, join, height, first_leaf, width, IsBuilt, end_leaf}
 use Rattle.merkle_base.specs.Forest.{forest, size}
 use Rattle.merkle_base.specs.Heights.{IsLawful}
@@ -19,17 +20,13 @@ use Rattle.merkle_proof.specs.Check.{Setting, root_of, all_inputs, list_expressi
 use Rattle.merkle_base.specs.Places.{peaks_of}
 use Rattle.merkle_proof.specs.Range.{end_of, range_parts, range_siblings, leaf_of, range_digests, AcceptsSome, IsEmptyInput, IsHonestSome, plan_root, Sound, RangeCollides, HonestIsAccepted, AcceptedIsHonest}
 use Rattle.merkle_proof.proofs.ListChecks.{was_chosen, no_other_range, honest_range_accepted, root_tells}
-use Rattle.merkle_proof.proofs.PeakGroups.{peaks_span, peaks_built, range_layout}
-use Rattle.merkle_base.proofs.PeakLists.{Spans}
-use Rattle.merkle_proof.proofs.OutsideNodes.{le_or_lt}
+use Rattle.merkle_proof.proofs.PeakGroups.{range_layout}
+use Rattle.merkle_base.proofs.PeakLists.{Spans, peaks_built, peaks_spans}
 
 -- a tree has the locations of its span, and no others
 pub in_tree : (ns : List Tree) (t : Tree) (i : ℕ) → IsBuilt ns t → first_leaf t ≤ i → i < end_leaf t → InTree t i
 in_tree ns (leaf p n) i h a b = omega arith
-in_tree ns (join p l r) i h a b = ⊎_elim (λ x. inl (in_tree ns l i h.4 a (omega (arith, h.3, x)))) (λ x. inr (in_tree ns r i h.5 (omega (arith, h.3, x)) (omega (arith, h.3)))) (lt_or_le i (end_leaf l))
-  where
-    lt_or_le : (a b : ℕ) → (a < b) ⊎ (b ≤ a)
-    lt_or_le a b = ⊎_elim inr inl (le_or_lt b a)
+in_tree ns (join p l r) i h a b = ⊎_elim (λ x. inl (in_tree ns l i h.4 a (omega (arith, h.3, x)))) (λ x. inr (in_tree ns r i h.5 (omega (arith, h.3, x)) (omega (arith, h.3)))) (cases_lt i (end_leaf l))
 
 pub tree_in : (ns : List Tree) (t : Tree) (i : ℕ) → IsBuilt ns t → InTree t i → (first_leaf t ≤ i) × (i < end_leaf t)
 tree_in ns (leaf p n) i h e = (omega (arith, e), omega (arith, e))
@@ -38,11 +35,11 @@ tree_in ns (join p l r) i h (inr m) = let w = tree_in ns r i h.5 m in (omega (ar
 
 spans_cover : (ns : List Tree) (o n i : ℕ) (ts : List Tree) → Spans o n ts → AllByRecursion (IsBuilt ns) ts → o ≤ i → i < n → (t : Tree) × Member ts t × InTree t i
 spans_cover ns o n i [] c h a b = absurd (omega (arith, c))
-spans_cover ns o n i (t ∷ ts) c h a b = ⊎_elim (λ x. let w = spans_cover ns (o + width t) n i ts c.1 h.1 (omega (arith, c.0, x)) b in (w.0, inr w.1, w.2))
-    (λ x. (t, inl refl, in_tree ns t i h.0 (omega (arith, c.0)) x)) (le_or_lt (end_leaf t) i)
+spans_cover ns o n i (t ∷ ts) c h a b = ⊎_elim (λ x. (t, inl refl, in_tree ns t i h.0 (omega (arith, c.0)) x))
+    (λ x. let w = spans_cover ns (o + width t) n i ts c.1 h.1 (omega (arith, c.0, x)) b in (w.0, inr w.1, w.2)) (cases_lt i (end_leaf t))
 
 pub covers : {D : Type 0} (s : Setting D) → Covers (peaks_of s.rule)
-covers s n i a = spans_cover (forest s.rule n).nodes 0 n i (peaks_of s.rule n) (peaks_span s n) (peaks_built s n) (omega arith) a
+covers s n i a = spans_cover (forest s.rule n).nodes 0 n i (peaks_of s.rule n) (peaks_spans s.rule n) (peaks_built s.rule n) (omega arith) a
 
 -- the limits
 pub small_leaves : {D : Type 0} (s : Setting D) (max_nodes n : ℕ) → IsLawful s.rule s.max_leaves max_nodes → n ≤ s.max_leaves → n < 2 ^ 64
@@ -60,6 +57,14 @@ no_plan s BackwardFold k = refl
 pub no_peaks : {D : Type 0} (s : Setting D) → length (peaks_of s.rule 0) ≡ 0
 unfolding forest
 no_peaks s = refl
+
+-- the root of no leaves is that of an empty list
+pub empty_root : {D : Type 0} (s : Setting D) (xs : List D) (k : ℕ) → k ≤ length (peaks_of s.rule (length xs)) → xs ≡ [] → root_of s 0 0 None ≡ plan_root s xs k
+empty_root s xs k low e =
+    let l : 0 ≡ length xs = sym (ap length e) in
+    let z : 0 ≡ k = omega (arith, subst (λ n. k ≤ length (peaks_of s.rule n)) (sym l) low, no_peaks s) in
+    ap (λ o. root_of s 0 0 (option_map (full (leaf_of s.hashing xs)) o)) (sym (no_plan s s.bagging 0))
+    ∙ ap₂ (λ n j. root_of s n j (list_expression s (leaf_of s.hashing xs) n j)) l z
 
 -- lists with the same elements
 pub same_list : {A : Type 0} (e : A) (xs ys : List A) → length xs ≡ length ys → ((j : ℕ) → j < length xs → get_or xs j e ≡ get_or ys j e) → xs ≡ ys
@@ -136,13 +141,6 @@ module _ {D : Type 0} (s : Setting D) (size max_nodes : ℕ) (sound : Sound s si
           length_maps : {A B C : Type 0} (f : A → C) (g : B → C) (us : List A) (vs : List B) → length (map f us ++ map g vs) ≡ length us + length vs
           length_maps f g us vs = length-append (map f us) (map g vs) ∙ ap₂ ◌+◌ (length-map us f) (length-map vs g)
 
-  empty_list : xs ≡ [] → root_of s 0 0 None ≡ plan_root s xs k
-  empty_list e =
-      let l : 0 ≡ length xs = sym (ap length e) in
-      let z : 0 ≡ k = omega (arith, subst (λ n. k ≤ length (peaks_of s.rule n)) (sym l) low, no_peaks s) in
-      ap (λ o. root_of s 0 0 (option_map (full (leaf_of s.hashing xs)) o)) (sym (no_plan s s.bagging 0))
-      ∙ ap₂ (λ n j. root_of s n j (list_expression s (leaf_of s.hashing xs) n j)) l z
-
   pub some_honest : AcceptsSome s r (plan_root s xs k) → IsHonestSome s xs k r ⊎ RangeCollides s r xs k
   some_honest ok = ⊎_elim (λ w. inl (honest w)) inr
       (no_other_range s size sound.laws sound.bytes (covers s) (leaf_of s.hashing xs) (length xs) k (small_leaves s max_nodes (length xs) sound.lawful few) (small_inactive s max_nodes (length xs) k sound.lawful few low) r (old_accepts s max_nodes sound.lawful r _ ok))
@@ -161,13 +159,9 @@ module _ {D : Type 0} (s : Setting D) (size max_nodes : ℕ) (sound : Sound s si
           }
 
   none_honest : IsEmptyInput r → root_of s 0 0 None ≡ plan_root s xs k → (IsEmptyInput r × (xs ≡ [])) ⊎ RangeCollides s r xs k
-  none_honest empty same = ⊎_elim (λ w. inl (empty, no_length xs w.0)) (λ c. inr (subst (λ z. (c : Collision D) × Collides s.hashing z (all_inputs s (length xs) k (list_expression s (leaf_of s.hashing xs) (length xs) k)) c) (sym inputs) c))
+  none_honest empty same = ⊎_elim (λ w. inl (empty, nil_from_length xs (sym w.0))) (λ c. inr (subst (λ z. (c : Collision D) × Collides s.hashing z (all_inputs s (length xs) k (list_expression s (leaf_of s.hashing xs) (length xs) k)) c) (sym inputs) c))
       (root_tells s size sound.bytes 0 (length xs) 0 k None (list_expression s (leaf_of s.hashing xs) (length xs) k) (omega arith) (small_leaves s max_nodes (length xs) sound.lawful few) (omega arith) (small_inactive s max_nodes (length xs) k sound.lawful few low) same)
     where
-      no_length : (ys : List D) → 0 ≡ length ys → ys ≡ []
-      no_length [] e = refl
-      no_length (y ∷ ys) e = absurd (omega (arith, e))
-
       nothing : range_expression s r ≡ None
       nothing = ap (λ (o : Option Plan). option_map (λ p. claim_of s.hashing (chosen r) (leaf_given s.hashing r) p r.digests) o) (ap (λ n. whole s.bagging r.inactive (peaks_of s.rule n)) empty.leaves ∙ no_plan s s.bagging r.inactive)
 
@@ -175,7 +169,7 @@ module _ {D : Type 0} (s : Setting D) (size max_nodes : ℕ) (sound : Sound s si
       inputs = ap (λ e. all_inputs s r.leaves r.inactive e) nothing ∙ ap₂ (λ n j. all_inputs s n j None) empty.leaves empty.inactive
 
 pub honest_is_accepted : {D : Type 0} → HonestIsAccepted D
-honest_is_accepted s size max_nodes sound xs k few low r honest = ⊎_elim (λ w. inl (honest_some s size max_nodes sound xs k few low r w)) (λ w. inr (w.0, empty_list s size max_nodes sound xs k few low r w.1)) honest
+honest_is_accepted s size max_nodes sound xs k few low r honest = ⊎_elim (λ w. inl (honest_some s size max_nodes sound xs k few low r w)) (λ w. inr (w.0, empty_root s xs k low w.1)) honest
 
 pub accepted_is_honest : {D : Type 0} → AcceptedIsHonest D
 accepted_is_honest s size max_nodes sound xs k few low r ok =

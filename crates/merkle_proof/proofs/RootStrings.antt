@@ -1,5 +1,5 @@
 -- The root's string tells its parts.
-use Rattle.std.proofs.Common.{◌≡◌, ℕ, suc, zero, ◌<◌, ◌^◌, List, ◌∷◌, ◌++◌, refl, ap, sym, ◌∙◌, arith, Some, None, length, length-append, take, drop, take_at, drop_at, w64}
+use Rattle.std.proofs.Common.{◌≡◌, ℕ, suc, zero, ◌<◌, ◌^◌, List, ◌++◌, refl, ap, sym, ◌∙◌, arith, Some, None, length, length-append, take, drop, take_at, drop_at, w64}
 use Rattle.std.specs.Int.{to_be_bytes, from_be_bytes}
 use Rattle.std.proofs.lemmas.Nat.{from_be_bytes-to_be_bytes_8}
 use Rattle.merkle_base.specs.declared.family.Bagging.{Bagging}
@@ -8,18 +8,13 @@ use Rattle.merkle_base.specs.Bagging.{bagging_byte}
 use Rattle.merkle_base.specs.Hashing.{Hashing}
 use Rattle.merkle_proof.specs.RootString.{ByteLaws, RootStringTellsAll}
 use Rattle.merkle_base.specs.Root.{inactive_bytes}
+use Rattle.merkle_base.proofs.Lists.{cons_head, cons_tail}
 
 long : (n : ℕ) → length (to_be_bytes w64 n) ≡ 8
 long n = refl
 
 same_number : (n m : ℕ) → n < 2 ^ 64 → m < 2 ^ 64 → to_be_bytes w64 n ≡ to_be_bytes w64 m → n ≡ m
 same_number n m a b e = sym (from_be_bytes-to_be_bytes_8 n a) ∙ ap (from_be_bytes w64) e ∙ from_be_bytes-to_be_bytes_8 m b
-
-first_same : (a b : ℕ) (xs ys : List ℕ) → a ∷ xs ≡ b ∷ ys → a ≡ b
-first_same a b xs ys e = cc
-
-rest_same : (a b : ℕ) (xs ys : List ℕ) → a ∷ xs ≡ b ∷ ys → xs ≡ ys
-rest_same a b xs ys e = cc
 
 -- two sums with heads of one length have the same heads and the same tails
 heads_same : (n : ℕ) (a b xs ys : List ℕ) → length a ≡ n → length b ≡ n → a ++ xs ≡ b ++ ys → a ≡ b
@@ -67,9 +62,9 @@ same_bagging BackwardFold BackwardFold e = refl
 
 pub tells_all : {D : Type 0} → RootStringTellsAll D
 tells_all h size laws domain domain' bagging bagging' n n' k k' None None a a' b b' e =
-    (first_same _ _ _ _ e, same_bagging bagging bagging' (first_same _ _ _ _ (rest_same _ _ _ _ e)), same_number n n' a a' (rest_same _ _ _ _ (rest_same _ _ _ _ e)), tt)
-tells_all h size laws domain domain' bagging bagging' n n' k k' None (Some d') a a' b b' e = absurd (longer h size laws n n' k' d' (rest_same _ _ _ _ (rest_same _ _ _ _ e)))
-tells_all h size laws domain domain' bagging bagging' n n' k k' (Some d) None a a' b b' e = absurd (longer h size laws n' n k d (sym (rest_same _ _ _ _ (rest_same _ _ _ _ e))))
+    (cons_head _ _ _ _ e, same_bagging bagging bagging' (cons_head _ _ _ _ (cons_tail _ _ _ _ e)), same_number n n' a a' (cons_tail _ _ _ _ (cons_tail _ _ _ _ e)), tt)
+tells_all h size laws domain domain' bagging bagging' n n' k k' None (Some d') a a' b b' e = absurd (longer h size laws n n' k' d' (cons_tail _ _ _ _ (cons_tail _ _ _ _ e)))
+tells_all h size laws domain domain' bagging bagging' n n' k k' (Some d) None a a' b b' e = absurd (longer h size laws n' n k d (sym (cons_tail _ _ _ _ (cons_tail _ _ _ _ e))))
 tells_all h size laws domain domain' bagging bagging' n n' k k' (Some d) (Some d') a a' b b' e =
-    let f : (n ≡ n') × ((k ≡ k') × (d ≡ d')) = folded h size laws n n' k k' d d' a a' b b' (rest_same _ _ _ _ (rest_same _ _ _ _ e)) in
-    (first_same _ _ _ _ e, same_bagging bagging bagging' (first_same _ _ _ _ (rest_same _ _ _ _ e)), f.0, f.1)
+    let f : (n ≡ n') × ((k ≡ k') × (d ≡ d')) = folded h size laws n n' k k' d d' a a' b b' (cons_tail _ _ _ _ (cons_tail _ _ _ _ e)) in
+    (cons_head _ _ _ _ e, same_bagging bagging bagging' (cons_head _ _ _ _ (cons_tail _ _ _ _ e)), f.0, f.1)

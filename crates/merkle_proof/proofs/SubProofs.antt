@@ -1,7 +1,7 @@
 -- What proves a range proves its parts.
-use Rattle.std.proofs.Common.{◌≡◌, ℕ, Bool, true, false, cond, ◌||◌, ◌+◌, ◌-◌, ◌≤◌, ◌<◌, List, [], ◌∷◌, ◌++◌, inl, inr, refl, ap, ap₂, sym, ◌∙◌, subst, ⊎_elim, arith, length, drop, get_or, Some, option_map, length-append, drop_at, append_assoc, append-nil, map, unwrap_or}
+use Rattle.std.proofs.Common.{◌≡◌, ℕ, Bool, true, cond, ◌||◌, ◌+◌, ◌-◌, ◌≤◌, ◌<◌, List, [], ◌∷◌, ◌++◌, inl, inr, refl, ap, ap₂, sym, ◌∙◌, subst, ⊎_elim, arith, length, drop, get_or, Some, option_map, length-append, drop_at, append_assoc, append-nil, map, unwrap_or}
 use Rattle.std.proofs.lemmas.List.{get_or-take, get_or-drop, map-append}
-use Rattle.std.proofs.lemmas.Bool.{eq-eqb, ne_eqb}
+use Rattle.std.proofs.lemmas.Bool.{eq-eqb, ne_eqb, or_right, or_cases}
 use Rattle.merkle_base.specs.Tree.{Tree, leaf, join, position}
 use Rattle.merkle_proof.specs.Expression.{Node, hashed_at, given, hashed, value}
 use Rattle.merkle_base.specs.Hashing.{Hashing}
@@ -22,21 +22,16 @@ use Rattle.merkle_proof.proofs.PlacesOnce.{member_map}
 use Rattle.merkle_proof.proofs.Claims.{by_test}
 use Rattle.merkle_proof.proofs.ListChecks.{was_chosen, is_chosen}
 use Rattle.merkle_proof.proofs.PeakGroups.{range_layout}
-use Rattle.merkle_proof.proofs.Multiproofs.{or_cases}
 use Rattle.merkle_proof.proofs.ListedDigests.{plan_for}
-
-or_yes : (x : Bool) {y : Bool} → y ≡ true → x || y ≡ true
-or_yes true e = refl
-or_yes false e = e
 
 module _ {D : Type 0} (h : Hashing D) (c d : ℕ → Bool) (Y Z : ℕ → D) (within : (i : ℕ) → d i ≡ true → c i ≡ true) (agrees : (i : ℕ) → d i ≡ true → Z i ≡ Y i) where
   meets_sub : (t : Tree) → tree_meets d t ≡ true → tree_meets c t ≡ true
   meets_sub (leaf p i) m = within i m
-  meets_sub (join p l r) m = ⊎_elim (λ w. ap (λ z. z || tree_meets c r) (meets_sub l w)) (λ w. or_yes (tree_meets c l) (meets_sub r w)) (or_cases (tree_meets d l) _ m)
+  meets_sub (join p l r) m = ⊎_elim (λ w. ap (λ z. z || tree_meets c r) (meets_sub l w)) (λ w. or_right (tree_meets c l) _ (meets_sub r w)) (or_cases (tree_meets d l) _ m)
 
   meets_sub_plan : (p : Plan) → meets d p ≡ true → meets c p ≡ true
   meets_sub_plan (peak t) m = meets_sub t m
-  meets_sub_plan (folding place l r) m = ⊎_elim (λ w. ap (λ z. z || meets c r) (meets_sub_plan l w)) (λ w. or_yes (meets c l) (meets_sub_plan r w)) (or_cases (meets d l) _ m)
+  meets_sub_plan (folding place l r) m = ⊎_elim (λ w. ap (λ z. z || meets c r) (meets_sub_plan l w)) (λ w. or_right (meets c l) _ (meets_sub_plan r w)) (or_cases (meets d l) _ m)
 
   sub_count : (t : Tree) (ds : List D) → length (sub_siblings h c d Y t ds) ≡ length (siblings d t)
   sub_count (leaf p i) ds = by_test (λ b. length (cond b [] (value h (tree_claim h c Y (leaf p i) ds) ∷ [])) ≡ length (cond b [] (leaf p i ∷ []))) (d i) (λ _. refl) (λ _. refl)

@@ -1,6 +1,7 @@
 -- The claims of the multi-check and of the pinned check.
 use Rattle.std.proofs.Common.{◌≡◌, ℕ, Bool, true, false, cond, ◌||◌, ◌+◌, ◌≤◌, List, [], ◌∷◌, ◌++◌, ◌⊎◌, inl, inr, ap, sym, ◌∙◌, subst, ⊎_elim, arith, length, map, drop, Option, Some, None, IfSome, MatchOption, length-append, drop_of_length-le, append-nil}
 use Rattle.std.proofs.lemmas.List.{length-drop}
+use Rattle.std.proofs.lemmas.Bool.{false≢true, or_parts}
 use Rattle.merkle_proof.specs.Expression.{Node, Expression, given, hashed, told, value, Alike, cut_left, both, told_left, Agree}
 use Rattle.merkle_base.specs.Hashing.{Hashing}
 use Rattle.merkle_base.specs.Tree.{Tree, leaf, join}
@@ -9,7 +10,7 @@ use Rattle.merkle_proof.specs.Claim.{next, InTree, InPlan}
 use Rattle.merkle_proof.specs.MultiClaim.{also, or_empty, multi_tree, multi_claim, TellsTree, Tells, SameTree, SameLeaves, NoOtherMulti}
 use Rattle.merkle_proof.specs.PinnedClaim.{pinned_or, pin_tree, pin_plan, outside_tree, outside_plan, pinned_tree, pinned_claim, PinsTree, PinsPlan, PinsAll, PinsTrees, NoOtherPins}
 use Rattle.merkle_proof.proofs.Collisions.{main}
-use Rattle.merkle_proof.proofs.Claims.{by_test, false≢true, or_left, or_right, unmet_tree, unmet, Begins, begins_none, begins_one, begins_both}
+use Rattle.merkle_proof.proofs.Claims.{by_test, unmet_tree, unmet, Begins, begins_none, begins_one, begins_both}
 
 module _ {D : Type 0} (h : Hashing D) where
   -- what the proof tells beside an expression
@@ -25,7 +26,7 @@ module _ {D : Type 0} (h : Hashing D) where
   module _ (a : ℕ → Option D) (c : ℕ → Bool) (X Y : ℕ → D) where
     unmet_same : (t : Tree) → tree_meets c t ≡ false → SameTree c X Y t
     unmet_same (leaf p i) e = λ q. absurd (false≢true (sym e ∙ q))
-    unmet_same (join p l r) e = (unmet_same l (or_left _ _ e), unmet_same r (or_right (tree_meets c l) _ e))
+    unmet_same (join p l r) e = (let w = or_parts (tree_meets c l) (tree_meets c r) e in (unmet_same l w.0, unmet_same r w.1))
 
     multi_tree_told : (t : Tree) → (k : Alike (multi_tree h a c Y t) (node_expression X t)) × (Agree h k → TellsTree h a c X t × SameTree c X Y t)
     multi_tree_told (leaf p i) = let u = also_alike (a p) (given (Y i)) (given (X i)) (cut_left _ _) in
@@ -37,7 +38,7 @@ module _ {D : Type 0} (h : Hashing D) where
         by_test (λ b. (k : Alike (cond b (also (a p) (hashed (Node p) (multi_tree h a c Y l) (multi_tree h a c Y r))) (given (or_empty h (a p)))) (hashed (Node p) (node_expression X l) (node_expression X r)))
         × (Agree h k → (IfSome (a p) (λ d. d ≡ tree_digest h X (join p l r)) × cond b (TellsTree h a c X l × TellsTree h a c X r) (Unit {0})) × (SameTree c X Y l × SameTree c X Y r))) (tree_meets c l || tree_meets c r)
         (λ _. (u.0, λ g. let z = u.1 g in let x = v.1 z.0.0 in let y = w.1 z.0.1 in ((z.1, (x.0, y.0)), (x.1, y.1))))
-        (λ o. (cut_left _ _, λ g. ((given_told (a p) (tree_digest h X (join p l r)) g, tt), (unmet_same l (or_left _ _ o), unmet_same r (or_right (tree_meets c l) _ o)))))
+        (λ o. (cut_left _ _, λ g. ((given_told (a p) (tree_digest h X (join p l r)) g, tt), (let w = or_parts (tree_meets c l) (tree_meets c r) o in (unmet_same l w.0, unmet_same r w.1)))))
 
     multi_told : (p : Plan) → (k : Alike (multi_claim h a c Y p) (full X p)) × (Agree h k → Tells h a c X p × SameLeaves c X Y p)
     multi_told (peak t) = multi_tree_told t

@@ -1,7 +1,9 @@
 -- Verdicts, and that the check's test decides.
-use Rattle.std.proofs.Common.{◌≡◌, ℕ, Bool, true, false, ◌&&◌, ◌||◌, nat_le, nat_lt, nat_eq, ◌+◌, ◌≤◌, ◌<◌, List, [], ◌∷◌, ◌⊎◌, inl, inr, refl, ap, sym, ◌∙◌, subst, ⊎_elim, arith, length, flat_map, Option, Some, MatchOption, slice_get, Decides, le-leb, lt-ltb, leb-true, ltb-true}
+use Rattle.std.proofs.Common.{◌≡◌, ℕ, nat_le, nat_eq, ◌+◌, ◌≤◌, List, [], ◌∷◌, ◌⊎◌, inl, inr, refl, ap, sym, ◌∙◌, subst, ⊎_elim, arith, length, flat_map, Some, MatchOption, slice_get, Decides, le-leb, leb-true}
 use Rattle.std.specs.List.{AllByRecursion}
 use Rattle.std.proofs.lemmas.Bool.{eqb-true, eq-eqb}
+use Rattle.std.proofs.lemmas.Bool.Decides.{Decides-and, Decides-or, Decides-like, Decides-ltb, Decides-eqb}
+use Rattle.std.proofs.lemmas.List.{nil_from_length}
 use Rattle.merkle_base.specs.Tree.{Tree, leaf, join, position, first_leaf, width, IsUnder, IsBuilt, end_leaf}
 use Rattle.merkle_base.specs.Forest.{forest}
 use Rattle.merkle_base.proofs.Growth.{built_at}
@@ -21,11 +23,11 @@ use Rattle.merkle_proof.proofs.PlacesOnce.{distinct_append}
 use Rattle.merkle_proof.proofs.FirstCollisions.{finds_first}
 use Rattle.merkle_proof.proofs.Audits.{none_shows, no_collision}
 use Rattle.merkle_proof.proofs.ClearRange.{honest_is_clear}
-use Rattle.merkle_proof.proofs.PeakGroups.{peaks_span, peaks_built}
-use Rattle.merkle_base.proofs.PeakLists.{Spans}
+use Rattle.merkle_base.proofs.PeakLists.{Spans, peaks_built, peaks_spans}
 use Rattle.merkle_proof.proofs.RangeChecks.{accepted_is_honest, old_honest}
-use Rattle.merkle_proof.proofs.Multiproofs.{accepted_multi_is_honest}
-use Rattle.merkle_proof.proofs.PinnedChecks.{accepted_pinned_is_honest}
+use Rattle.merkle_proof.proofs.Multiproofs.{accepted_multi_is_honest, all_member}
+use Rattle.merkle_proof.proofs.PinnedChecks.{accepted_pinned_is_honest, spans_first}
+use Rattle.merkle_base.proofs.Lists.{one_there}
 
 -- ---- no node's place stands twice
 node_in : (t : Tree) (x : Place) → Member (node_places t) x → (u : Tree) × IsUnder u t × (x ≡ Node (position u))
@@ -40,13 +42,10 @@ nodes_in (t ∷ ts) x m = ⊎_elim (λ w. (t, inl refl, w)) (λ w. let v = nodes
 same_number : (p q : ℕ) → Node p ≡ Node q → p ≡ q
 same_number p q e = cc
 
-pub one_node : {o : Option Tree} {x y : Tree} → o ≡ Some x → o ≡ Some y → x ≡ y
-one_node d e = cc
-
 module _ (ns : List Tree) where
   -- nodes under two built trees with one place are one
   under_both : (a b u v : Tree) (x : Place) → IsBuilt ns a → IsBuilt ns b → IsUnder u a → IsUnder v b → x ≡ Node (position u) → x ≡ Node (position v) → u ≡ v
-  under_both a b u v x ha hb p q d e = one_node (subst (λ z. slice_get ns z ≡ Some u) (same_number (position u) (position v) (sym d ∙ e)) (built_at ns u (built_under ns u a p ha))) (built_at ns v (built_under ns v b q hb))
+  under_both a b u v x ha hb p q d e = one_there (subst (λ z. slice_get ns z ≡ Some u) (same_number (position u) (position v) (sym d ∙ e)) (built_at ns u (built_under ns u a p ha))) (built_at ns v (built_under ns v b q hb))
 
   pub apart_under : (a b u v : Tree) → IsBuilt ns a → IsBuilt ns b → IsUnder u a → IsUnder v b → u ≡ v → end_leaf a ≤ first_leaf b → ⊥
   apart_under a b u v ha hb p q e l = absurd (omega (arith, end_under ns u a p ha, first_under ns v b q hb, ap first_leaf e, width_pos u, l))
@@ -63,24 +62,14 @@ module _ (ns : List Tree) where
         apart_under l r u.0 v.0 b.4 b.5 u.1 v.1 (under_both l r u.0 v.0 x b.4 b.5 u.1 v.1 u.2 v.2) (omega (arith, b.3))),
   )
 
-  pub later : (o n : ℕ) (ts : List Tree) (t : Tree) → Spans o n ts → Member ts t → o ≤ first_leaf t
-  later o n [] t c m = elim m [ ]
-  later o n (x ∷ ts) t c (inl e) = omega (arith, c.0, ap first_leaf e)
-  later o n (x ∷ ts) t c (inr m) = omega (arith, later (o + width x) n ts t c.1 m)
-
-  pub built_in : (ts : List Tree) (t : Tree) → AllByRecursion (IsBuilt ns) ts → Member ts t → IsBuilt ns t
-  built_in [] t h m = elim m [ ]
-  built_in (x ∷ ts) t h (inl e) = subst (IsBuilt ns) e h.0
-  built_in (x ∷ ts) t h (inr m) = built_in ts t h.1 m
-
   distinct_peaks : (o n : ℕ) (ts : List Tree) → Spans o n ts → AllByRecursion (IsBuilt ns) ts → Distinct (flat_map node_places ts)
   distinct_peaks o n [] c h = tt
   distinct_peaks o n (t ∷ ts) c h = distinct_append (node_places t) (flat_map node_places ts) (distinct_tree t h.0) (distinct_peaks (o + width t) n ts c.1 h.1) (λ x m w.
-      let u = node_in t x m in let y = nodes_in ts x w in let v = node_in y.0 x y.2 in let by = built_in ts y.0 h.1 y.1 in
-      apart_under t y.0 u.0 v.0 h.0 by u.1 v.1 (under_both t y.0 u.0 v.0 x h.0 by u.1 v.1 u.2 v.2) (omega (arith, c.0, later (o + width t) n ts y.0 c.1 y.1)))
+      let u = node_in t x m in let y = nodes_in ts x w in let v = node_in y.0 x y.2 in let by = all_member (IsBuilt ns) ts y.0 h.1 y.1 in
+      apart_under t y.0 u.0 v.0 h.0 by u.1 v.1 (under_both t y.0 u.0 v.0 x h.0 by u.1 v.1 u.2 v.2) (omega (arith, c.0, spans_first (o + width t) n ts y.0 c.1 y.1)))
 
 pub distinct_nodes : {D : Type 0} (s : Setting D) (n : ℕ) → Distinct (flat_map node_places (peaks_of s.rule n))
-distinct_nodes s n = distinct_peaks (forest s.rule n).nodes 0 n (peaks_of s.rule n) (peaks_span s n) (peaks_built s n)
+distinct_nodes s n = distinct_peaks (forest s.rule n).nodes 0 n (peaks_of s.rule n) (peaks_spans s.rule n) (peaks_built s.rule n)
 
 -- ---- verdicts
 verdict : {D P : Type 0} (h : Hashing D) → Laws h → (xs ys : List (Input D)) → P ⊎ ((c : Collision D) × Collides h xs ys c) → MatchOption (first_collision h xs ys) P (λ c. IsFirstCollision h xs ys c)
@@ -95,42 +84,15 @@ verdicts = record {
 }
 
 -- ---- the test
-and_decides : {A B : Type 0} (a b : Bool) → Decides a A → Decides b B → Decides (a && b) (A × B)
-and_decides true b f g = ((λ e. (f.0 refl, g.0 e)), (λ w. g.1 w.1))
-and_decides false b f g = ((λ e. absurd (bad e)), (λ w. f.1 w.0))
-  where
-    bad : false ≡ true → ⊥
-    bad e = cc
-
-or_decides : {A B : Type 0} (a b : Bool) → Decides a A → Decides b B → Decides (a || b) (A ⊎ B)
-or_decides true b f g = ((λ _. inl (f.0 refl)), (λ _. refl))
-or_decides false b f g = ((λ e. inr (g.0 e)), (λ w. ⊎_elim (λ x. absurd (bad (f.1 x))) g.1 w))
-  where
-    bad : false ≡ true → ⊥
-    bad e = cc
-
-as_decides : {A B : Type 0} (a : Bool) → (A → B) → (B → A) → Decides a A → Decides a B
-as_decides a f g d = ((λ e. f (d.0 e)), (λ w. d.1 (g w)))
-
 le_decides : (m n : ℕ) → Decides (nat_le m n) (m ≤ n)
 le_decides m n = (leb-true m n, le-leb m n)
 
-lt_decides : (m n : ℕ) → Decides (nat_lt m n) (m < n)
-lt_decides m n = (ltb-true m n, lt-ltb m n)
-
-eq_decides : (m n : ℕ) → Decides (nat_eq m n) (m ≡ n)
-eq_decides m n = (eqb-true m n, eq-eqb m n)
-
 empty_decides : {A : Type 0} (xs : List A) → Decides (nat_eq (length xs) 0) (xs ≡ [])
-empty_decides xs = ((λ e. none xs (eqb-true (length xs) 0 e)), (λ e. eq-eqb (length xs) 0 (ap length e)))
-  where
-    none : {A : Type 0} (xs : List A) → length xs ≡ 0 → xs ≡ []
-    none [] e = refl
-    none (x ∷ xs) e = absurd (omega (arith, e))
+empty_decides xs = ((λ e. nil_from_length xs (eqb-true (length xs) 0 e)), (λ e. eq-eqb (length xs) 0 (ap length e)))
 
 pub check_decides : {D : Type 0} → CheckDecides D
-check_decides s laws r root = or_decides _ _
-    (as_decides _ (λ w. record { some = w.0; within = w.1.0; leaves = w.1.1.0; inactive = w.1.1.1.0; counts = w.1.1.1.1.0; root_is = w.1.1.1.1.1 }) (λ w. (w.some, (w.within, (w.leaves, (w.inactive, (w.counts, w.root_is))))))
-    (and_decides _ _ (lt_decides _ _) (and_decides _ _ (le_decides _ _) (and_decides _ _ (le_decides _ _) (and_decides _ _ (le_decides _ _) (and_decides _ _ (eq_decides _ _) (laws.same _ _)))))))
-    (as_decides _ (λ w. (record { elements = w.0; start = w.1.0; leaves = w.1.1.0; inactive = w.1.1.1.0; digests = w.1.1.1.1.0 }, w.1.1.1.1.1)) (λ w. (w.0.elements, (w.0.start, (w.0.leaves, (w.0.inactive, (w.0.digests, w.1))))))
-    (and_decides _ _ (empty_decides r.elements) (and_decides _ _ (eq_decides _ _) (and_decides _ _ (eq_decides _ _) (and_decides _ _ (eq_decides _ _) (and_decides _ _ (empty_decides r.digests) (laws.same _ _)))))))
+check_decides s laws r root = Decides-or _ _
+    (Decides-like _ (λ w. record { some = w.0; within = w.1.0; leaves = w.1.1.0; inactive = w.1.1.1.0; counts = w.1.1.1.1.0; root_is = w.1.1.1.1.1 }) (λ w. (w.some, (w.within, (w.leaves, (w.inactive, (w.counts, w.root_is))))))
+    (Decides-and _ _ (Decides-ltb _ _) (Decides-and _ _ (le_decides _ _) (Decides-and _ _ (le_decides _ _) (Decides-and _ _ (le_decides _ _) (Decides-and _ _ (Decides-eqb _ _) (laws.same _ _)))))))
+    (Decides-like _ (λ w. (record { elements = w.0; start = w.1.0; leaves = w.1.1.0; inactive = w.1.1.1.0; digests = w.1.1.1.1.0 }, w.1.1.1.1.1)) (λ w. (w.0.elements, (w.0.start, (w.0.leaves, (w.0.inactive, (w.0.digests, w.1))))))
+    (Decides-and _ _ (empty_decides r.elements) (Decides-and _ _ (Decides-eqb _ _) (Decides-and _ _ (Decides-eqb _ _) (Decides-and _ _ (Decides-eqb _ _) (Decides-and _ _ (empty_decides r.digests) (laws.same _ _)))))))

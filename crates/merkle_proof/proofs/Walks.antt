@@ -1,12 +1,15 @@
 -- Walks over a tree, step by step.
-use Rattle.std.proofs.Common.{◌≡◌, ℕ, zero, suc, Bool, true, false, not, cond, ◌&&◌, nat_le, nat_lt, ◌+◌, ◌-◌, ◌<◌, ◌≤◌, ◌≢◌, List, [], ◌∷◌, ◌++◌, length, drop, get_or, arith, refl, ap, ap₂, sym, ◌∙◌, length-append, drop-drop, leb-true, ltb-true}
+use Rattle.std.proofs.Common.{◌≡◌, ℕ, zero, suc, Bool, true, false, cond, nat_le, nat_lt, ◌+◌, ◌-◌, ◌<◌, ◌≤◌, ◌≢◌, List, [], ◌∷◌, ◌++◌, length, drop, get_or, arith, refl, ap, ap₂, sym, ◌∙◌, length-append, drop-drop, leb-true, ltb-true, append-nil}
 use Rattle.std.proofs.lemmas.List.{length-drop}
 use Rattle.std.proofs.Common.{◌⊎◌, inl, inr, map, append_assoc, le-leb, lt-ltb}
 use Rattle.std.proofs.lemmas.List.{map-append}
 use Rattle.merkle_base.specs.Tree.{IsBuilt}
 use Rattle.merkle_base.proofs.Nodes.{width_pos}
-use Rattle.merkle_proof.proofs.PeakGroups.{meets_yes, and_yes}
+use Rattle.merkle_proof.proofs.PeakGroups.{meets_yes}
 use Rattle.std.specs.Borrow.{Bor}
+use Rattle.std.proofs.lemmas.Bool.{and_parts, and_from}
+use Rattle.std.proofs.lemmas.Grind.{flat_map-append}
+use Rattle.std.specs.List.{flat_map}
 use Rattle.merkle_base.specs.Tree.{Tree, leaf, join, position, height, first_leaf, width}
 use Rattle.merkle_base.specs.Forest.{size}
 use Rattle.merkle_base.proofs.Growth.{forest_grown}
@@ -20,30 +23,11 @@ use Rattle.merkle_proof.specs.Subtrees.{Stands}
 use Rattle.merkle_proof.specs.Walk.{bytes_of, leaf_from}
 use Rattle.merkle_proof.specs.Walk.{IsWalked}
 
-pub not_false : (b : Bool) → not b ≡ false → b ≡ true
-not_false true e = refl
-not_false false e = sym e
-
-pub not_true : (b : Bool) → not b ≡ true → b ≡ false
-not_true true e = sym e
-not_true false e = refl
-
-and_first : (x y : Bool) → x && y ≡ true → x ≡ true
-and_first true y e = refl
-and_first false y e = e
-
-and_second : (x y : Bool) → x && y ≡ true → y ≡ true
-and_second true y e = e
-and_second false y e = absurd (no e)
-  where
-    no : false ≡ true → ⊥
-    no e = cc
-
 pub in_from : (a b i : ℕ) → in_range a b i ≡ true → a ≤ i
-in_from a b i e = leb-true a i (and_first (nat_le a i) (nat_lt i b) e)
+in_from a b i e = leb-true a i (and_parts (nat_le a i) (nat_lt i b) e).0
 
 pub in_below : (a b i : ℕ) → in_range a b i ≡ true → i < b
-in_below a b i e = ltb-true i b (and_second (nat_le a i) (nat_lt i b) e)
+in_below a b i e = ltb-true i b (and_parts (nat_le a i) (nat_lt i b) e).1
 
 pub siblings_unmet : (c : ℕ → Bool) (t : Tree) → tree_meets c t ≡ false → siblings c t ≡ t ∷ []
 siblings_unmet c (leaf p i) e = ap (λ z. cond z [] (leaf p i ∷ [])) e
@@ -54,6 +38,9 @@ siblings_leaf c p i e = ap (λ z. cond z [] (leaf p i ∷ [])) e
 
 pub siblings_join : (c : ℕ → Bool) (p : ℕ) (l r : Tree) → tree_meets c (join p l r) ≡ true → siblings c (join p l r) ≡ siblings c l ++ siblings c r
 siblings_join c p l r e = ap (λ z. cond z (siblings c l ++ siblings c r) (join p l r ∷ [])) e
+
+pub flat_push : (c : ℕ → Bool) (ts : List Tree) (t : Tree) → flat_map (siblings c) (ts ++ t ∷ []) ≡ flat_map (siblings c) ts ++ siblings c t
+flat_push c ts t = flat_map-append (siblings c) ts (t ∷ []) ∙ ap (λ z. flat_map (siblings c) ts ++ z) (append-nil (siblings c t))
 
 module _ {D : Type 0} (h : Hashing D) (c : ℕ → Bool) (X : ℕ → D) where
   claim_unmet : (t : Tree) (ds : List D) → tree_meets c t ≡ false → tree_claim h c X t ds ≡ given (next h ds)
@@ -146,7 +133,7 @@ lower rule m p s tall q p' s' tall' l r t w v (inr e) = omega (arith, w.height_i
 
 -- nothing of a tree in the range lies outside it
 pub siblings_inside : (a b : ℕ) (ns : List Tree) (t : Tree) → IsBuilt ns t → a ≤ first_leaf t → first_leaf t + width t ≤ b → siblings (in_range a b) t ≡ []
-siblings_inside a b ns (leaf q i) h l u = siblings_leaf (in_range a b) q i (and_yes _ _ (le-leb a i l) (lt-ltb i b (omega arith)))
+siblings_inside a b ns (leaf q i) h l u = siblings_leaf (in_range a b) q i (and_from _ _ (le-leb a i l) (lt-ltb i b (omega arith)))
 siblings_inside a b ns (join q l r) h x y =
     let m : tree_meets (in_range a b) (join q l r) ≡ true = meets_yes a b ns (join q l r) h (omega (arith, width_pos l)) (omega (arith, width_pos l)) (omega (arith, width_pos l)) in
     siblings_join (in_range a b) q l r m ∙ ap₂ ◌++◌ (siblings_inside a b ns l h.4 x (omega (arith, y))) (siblings_inside a b ns r h.5 (omega (arith, x, h.3)) (omega (arith, y, h.3)))

@@ -5,9 +5,10 @@ use Rattle.merkle_base.specs.Tree.{position}
 use Rattle.merkle_base.specs.Places.{peaks_of}
 use Rattle.merkle_base.specs.Root.{peaks_root}
 use Rattle.merkle_proof.specs.Range.{overlapping, wholly_after}
-use Rattle.merkle_proof.proofs.PeakLoop.{peaks_at, filter_nodes}
+use Rattle.merkle_proof.proofs.PeakLoop.{peaks_at}
 use Rattle.merkle_proof.proofs.RangeRoot.{element_count, computed, misshapen, never_empty}
 use Rattle.merkle_proof.proofs.proof.Proof.reconstruct_root.Goals as goal
+use Rattle.merkle_proof.proofs.Extraction.{all_filter}
 
 pub returns-in_err-end-clause-err : goal.returns-in_err-end-clause-err
 returns-in_err-end-clause-err g c =
@@ -20,7 +21,7 @@ pub peak_digests-requires-clause-nodes : goal.peak_digests-requires-clause-nodes
 peak_digests-requires-clause-nodes g c = (
   overlapping c.args.start c.in_ok-end.end (peaks_of g.F.Family.rule c.args.self.now.leaves),
   c.deref.ensures.value ∙ c.in-Ok.ensures.over,
-  filter_nodes _ _ _ (peaks_at g.F.Family.rule g.F.Family.MAX_LEAVES c.args.self.now.leaves c.in_ok-end.ensures.ok.2),
+  all_filter _ _ _ (peaks_at g.F.Family.rule g.F.Family.MAX_LEAVES c.args.self.now.leaves c.in_ok-end.ensures.ok.2),
 )
 
 pub returns-in_err-peaks-clause-err : goal.returns-in_err-peaks-clause-err
@@ -35,7 +36,7 @@ returns-in_err-peaks-clause-err g c =
     rw (p.1, p.2) (λ n.
     misshapen h (g.H.Hasher.bagging_of c.args.hasher.now) g.F.Family.rule g.F.Family.MAX_LEAVES g.F.Family.DOMAIN c.args.self.now a b c.args.elements.now c.requires.some end.0 c.requires.forward end.1
     c.folded_count.result c.len.result (c.folded_count.ensures a b ts held) n_is
-    (λ e. c.in_err-peaks.ensures.err n (overlapping a b ts) (c.deref.ensures.value ∙ held.over) (filter_nodes _ _ _ (peaks_at g.F.Family.rule g.F.Family.MAX_LEAVES c.args.self.now.leaves end.2)) e))
+    (λ e. c.in_err-peaks.ensures.err n (overlapping a b ts) (c.deref.ensures.value ∙ held.over) (all_filter _ _ _ (peaks_at g.F.Family.rule g.F.Family.MAX_LEAVES c.args.self.now.leaves end.2)) e))
 
 pub unreachable-requires : goal.unreachable-requires
 unreachable-requires g c =
@@ -46,7 +47,7 @@ unreachable-requires g c =
     let held = c.in-Ok.ensures in
     let n_is : c.len.result ≡ length (wholly_after b ts) = omega (arith, c.len.ensures, ap length held.after, length-map (wholly_after b ts) position) in
     let all = c.in_ok-peaks.peaks.items in
-    let w = c.in_ok-peaks.ensures.ok (overlapping a b ts) (c.deref.ensures.value ∙ held.over) (filter_nodes _ _ _ (peaks_at g.F.Family.rule g.F.Family.MAX_LEAVES c.args.self.now.leaves end.2)) in
+    let w = c.in_ok-peaks.ensures.ok (overlapping a b ts) (c.deref.ensures.value ∙ held.over) (all_filter _ _ _ (peaks_at g.F.Family.rule g.F.Family.MAX_LEAVES c.args.self.now.leaves end.2)) in
     c.in-None.ensures (
       omega arith,
       λ e. absurd (
@@ -66,7 +67,7 @@ returns-clause-ok g c =
     let all = c.in_ok-peaks.peaks.items in
     let less : a < b = omega (arith, end.0, c.requires.some) in
     let low : c.args.self.now.inactive_peaks ≤ length ts = omega (arith, c.if-self-count.false, c.count.ensures a b c.args.self.now.leaves less held) in
-    let w = c.in_ok-peaks.ensures.ok (overlapping a b ts) (c.deref.ensures.value ∙ held.over) (filter_nodes _ _ _ (peaks_at g.F.Family.rule g.F.Family.MAX_LEAVES c.args.self.now.leaves end.2)) in
+    let w = c.in_ok-peaks.ensures.ok (overlapping a b ts) (c.deref.ensures.value ∙ held.over) (all_filter _ _ _ (peaks_at g.F.Family.rule g.F.Family.MAX_LEAVES c.args.self.now.leaves end.2)) in
     computed h (g.H.Hasher.bagging_of c.args.hasher.now) g.F.Family.rule g.F.Family.MAX_LEAVES g.F.Family.DOMAIN c.args.self.now a b c.args.elements.now c.requires.some end.0 c.requires.forward end.1
     c.folded_count.result c.len.result (c.folded_count.ensures a b ts held) n_is
     end.2 low all w c.in-Some.root

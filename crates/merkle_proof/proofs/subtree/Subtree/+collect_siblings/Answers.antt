@@ -1,17 +1,18 @@
 use Rattle.std.proofs.Common.{◌++◌, arith, sym, ap, ◌∙◌, refl, inl, inr}
+use Rattle.std.proofs.lemmas.Bool.{not-true, not-false}
 use Rattle.merkle_proof.proofs.Spans.{heights_same}
-use Rattle.merkle_proof.proofs.Walks.{not_false, not_true, inner_node, lower, siblings_met_leaf, siblings_inner}
+use Rattle.merkle_proof.proofs.Walks.{inner_node, lower, siblings_met_leaf, siblings_inner}
 use Rattle.merkle_proof.proofs.Grouping.{if_ok, none_more, outside_positions}
 use Rattle.merkle_proof.proofs.subtree.Subtree.+collect_siblings.Goals as goal
 use Rattle.merkle_proof.proofs.subtree.Subtree.+collect_siblings.Goals.{then-self-eq0-via-then-self-eq0, then-self-eq0-via-else-self-eq0+then-is_inside}
 
 pub returns-then-is_outside : goal.returns-then-is_outside
-returns-then-is_outside g t c = λ u w. c.in_ok-push.ensures.items ∙ ap (λ z. c.args.out.now.items ++ z) (outside_positions _ _ _ _ _ _ u w (not_true _ (sym (c.is_outside.ensures u w) ∙ c.if-is_outside.true)))
+returns-then-is_outside g t c = λ u w. c.in_ok-push.ensures.items ∙ ap (λ z. c.args.out.now.items ++ z) (outside_positions _ _ _ _ _ _ u w (not-true _ (sym (c.is_outside.ensures u w) ∙ c.if-is_outside.true)))
 
 pub returns-then-self-eq0 : goal.returns-then-self-eq0
 returns-then-self-eq0 g t c = λ u w. none_more c.args.out.now.items _ (
     elim c.then-self-eq0.branch [
-      | then-self-eq0-via-then-self-eq0 v ↦ siblings_met_leaf _ _ _ _ _ _ u w v.if-self-eq0.true (not_false _ (sym (c.is_outside.ensures u w) ∙ c.if-is_outside.false))
+      | then-self-eq0-via-then-self-eq0 v ↦ siblings_met_leaf _ _ _ _ _ _ u w v.if-self-eq0.true (not-false _ (sym (c.is_outside.ensures u w) ∙ c.if-is_outside.false))
       | then-self-eq0-via-else-self-eq0+then-is_inside v ↦ v.is_inside.ensures u w v.if-is_inside.true
     ])
 
@@ -34,5 +35,5 @@ collect_siblings-requires-2 g t c κs within =
 
 pub returns : goal.returns
 returns g t c = if_ok c.collect_siblings-2.result (λ _ f u w.
-    siblings_inner _ _ _ _ _ _ u w c.if-self-eq0.false (not_false _ (sym (c.is_outside.ensures u w) ∙ c.if-is_outside.false)) _ _ _
+    siblings_inner _ _ _ _ _ _ u w c.if-self-eq0.false (not-false _ (sym (c.is_outside.ensures u w) ∙ c.if-is_outside.false)) _ _ _
     (λ q l r v. let k = c.children-left.ensures q l r v in (c.in_ok-collect_siblings.ensures l k.0, f r k.1))) c.collect_siblings-2.ensures

@@ -1,10 +1,11 @@
 use Rattle.std.proofs.Common.{[], arith, sym, ◌∙◌, refl, inl, inr}
 use Rattle.std.proofs.lemmas.Result.{err_from_is_err_and}
 use Rattle.std.proofs.lemmas.List.{nil_from_length}
+use Rattle.std.proofs.lemmas.Bool.{not-true, not-false}
 use Rattle.merkle_proof.specs.Range.{in_range}
 use Rattle.merkle_proof.specs.Walk.{bytes_of, leaf_from}
 use Rattle.merkle_proof.proofs.Spans.{heights_same}
-use Rattle.merkle_proof.proofs.Walks.{not_false, not_true, walk_outside, short_outside, walked_leaf, walked_inner, short_inner_left, short_inner_right, inner_node, leaf_in_range, lower}
+use Rattle.merkle_proof.proofs.Walks.{walk_outside, short_outside, walked_leaf, walked_inner, short_inner_left, short_inner_right, inner_node, leaf_in_range, lower}
 use Rattle.merkle_proof.proofs.subtree.Subtree.+reconstruct_digest.Goals as goal
 
 pub returns-in_default-clause-err : goal.returns-in_default-clause-err
@@ -12,30 +13,30 @@ returns-in_default-clause-err g t c = (
   refl,
   λ u w.
       short_outside (g.H.Hasher.hashing c.args.hasher.now) (in_range c.args.range.now.start c.args.range.now.end) (leaf_from (g.H.Hasher.hashing c.args.hasher.now) g.F.Family.rule c.args.range.now.start (bytes_of c.args.elements.now)) u c.args.digests.now.now
-      (not_true _ (sym (c.is_outside.ensures u w) ∙ c.if-is_outside.true)) (nil_from_length _ c.in_default.ensures.cases),
+      (not-true _ (sym (c.is_outside.ensures u w) ∙ c.if-is_outside.true)) (nil_from_length _ c.in_default.ensures.cases),
 )
 
 pub returns-then-is_outside-clause-ok : goal.returns-then-is_outside-clause-ok
 returns-then-is_outside-clause-ok g t c = λ u w.
-    walk_outside (g.H.Hasher.hashing c.args.hasher.now) _ _ u _ _ _ (not_true _ (sym (c.is_outside.ensures u w) ∙ c.if-is_outside.true)) c.in-Some.ensures.cases.0
+    walk_outside (g.H.Hasher.hashing c.args.hasher.now) _ _ u _ _ _ (not-true _ (sym (c.is_outside.ensures u w) ∙ c.if-is_outside.true)) c.in-Some.ensures.cases.0
 
 pub sub-index-requires : goal.sub-index-requires
 sub-index-requires g t c = let n = c.requires.node in
-    (leaf_in_range _ _ _ _ _ _ _ n.0 n.1 c.if-self-eq0.true (not_false _ (sym (c.is_outside.ensures n.0 n.1) ∙ c.if-is_outside.false))).0
+    (leaf_in_range _ _ _ _ _ _ _ n.0 n.1 c.if-self-eq0.true (not-false _ (sym (c.is_outside.ensures n.0 n.1) ∙ c.if-is_outside.false))).0
 
 pub offset_bounds-elements-as_u64 : goal.offset_bounds-elements-as_u64
 offset_bounds-elements-as_u64 g t c = let n = c.requires.node in
-    let l = leaf_in_range _ _ _ _ _ _ _ n.0 n.1 c.if-self-eq0.true (not_false _ (sym (c.is_outside.ensures n.0 n.1) ∙ c.if-is_outside.false)) in
+    let l = leaf_in_range _ _ _ _ _ _ _ n.0 n.1 c.if-self-eq0.true (not-false _ (sym (c.is_outside.ensures n.0 n.1) ∙ c.if-is_outside.false)) in
     omega (arith, c.as_u64.ensures, c.sub-index.ensures, c.requires.all, l.0, l.1)
 
 pub bounds-elements-as_u64 : goal.bounds-elements-as_u64
 bounds-elements-as_u64 g t c = let n = c.requires.node in
-    let l = leaf_in_range _ _ _ _ _ _ _ n.0 n.1 c.if-self-eq0.true (not_false _ (sym (c.is_outside.ensures n.0 n.1) ∙ c.if-is_outside.false)) in
+    let l = leaf_in_range _ _ _ _ _ _ _ n.0 n.1 c.if-self-eq0.true (not-false _ (sym (c.is_outside.ensures n.0 n.1) ∙ c.if-is_outside.false)) in
     omega (arith, c.as_u64.ensures, c.sub-index.ensures, c.requires.all, l.0, l.1)
 
 pub returns-then-self-eq0-clause-ok : goal.returns-then-self-eq0-clause-ok
 returns-then-self-eq0-clause-ok g t c = λ u w.
-    walked_leaf _ _ _ _ _ (g.H.Hasher.hashing c.args.hasher.now) _ _ c.args.elements.now u w c.if-self-eq0.true (not_false _ (sym (c.is_outside.ensures u w) ∙ c.if-is_outside.false)) _ _ _ (record { ref_ptr = (0, 0); now = [] }) refl c.leaf_digest.ensures (c.as_u64.ensures ∙ c.sub-index.ensures)
+    walked_leaf _ _ _ _ _ (g.H.Hasher.hashing c.args.hasher.now) _ _ c.args.elements.now u w c.if-self-eq0.true (not-false _ (sym (c.is_outside.ensures u w) ∙ c.if-is_outside.false)) _ _ _ (record { ref_ptr = (0, 0); now = [] }) refl c.leaf_digest.ensures (c.as_u64.ensures ∙ c.sub-index.ensures)
 
 pub children-left-requires : goal.children-left-requires
 children-left-requires g t c = let n = c.requires.node in inner_node _ _ _ _ _ n.0 n.1 c.if-self-eq0.false
@@ -53,7 +54,7 @@ returns-in_err-left-clause-err g t c =
     rw (p.1, p.2) (
       c.in_err-left.ensures.err.0,
       λ u w.
-          short_inner_left _ _ _ _ _ (g.H.Hasher.hashing c.args.hasher.now) _ (leaf_from (g.H.Hasher.hashing c.args.hasher.now) g.F.Family.rule c.args.range.now.start (bytes_of c.args.elements.now)) u w c.if-self-eq0.false (not_false _ (sym (c.is_outside.ensures u w) ∙ c.if-is_outside.false)) _
+          short_inner_left _ _ _ _ _ (g.H.Hasher.hashing c.args.hasher.now) _ (leaf_from (g.H.Hasher.hashing c.args.hasher.now) g.F.Family.rule c.args.range.now.start (bytes_of c.args.elements.now)) u w c.if-self-eq0.false (not-false _ (sym (c.is_outside.ensures u w) ∙ c.if-is_outside.false)) _
           (λ q l r v. c.in_err-left.ensures.err.1 l (c.children-left.ensures q l r v).0),
     )
 
@@ -70,11 +71,11 @@ returns-in_err-right-clause-err g t c =
     rw (p.1, p.2) (
       c.in_err-right.ensures.err.0,
       λ u w.
-          short_inner_right _ _ _ _ _ (g.H.Hasher.hashing c.args.hasher.now) _ (leaf_from (g.H.Hasher.hashing c.args.hasher.now) g.F.Family.rule c.args.range.now.start (bytes_of c.args.elements.now)) u w c.if-self-eq0.false (not_false _ (sym (c.is_outside.ensures u w) ∙ c.if-is_outside.false)) _ _ _
+          short_inner_right _ _ _ _ _ (g.H.Hasher.hashing c.args.hasher.now) _ (leaf_from (g.H.Hasher.hashing c.args.hasher.now) g.F.Family.rule c.args.range.now.start (bytes_of c.args.elements.now)) u w c.if-self-eq0.false (not-false _ (sym (c.is_outside.ensures u w) ∙ c.if-is_outside.false)) _ _ _
           (λ q l r v. let k = c.children-left.ensures q l r v in (c.in_ok-left.ensures.ok l k.0, c.in_err-right.ensures.err.1 r k.1)),
     )
 
 pub returns-clause-ok : goal.returns-clause-ok
 returns-clause-ok g t c = λ u w.
-    walked_inner _ _ _ _ _ (g.H.Hasher.hashing c.args.hasher.now) _ _ u w c.if-self-eq0.false (not_false _ (sym (c.is_outside.ensures u w) ∙ c.if-is_outside.false)) _ _ _ _ _ _
+    walked_inner _ _ _ _ _ (g.H.Hasher.hashing c.args.hasher.now) _ _ u w c.if-self-eq0.false (not-false _ (sym (c.is_outside.ensures u w) ∙ c.if-is_outside.false)) _ _ _ _ _ _
     (λ q l r v. let k = c.children-left.ensures q l r v in (c.in_ok-left.ensures.ok l k.0, c.in_ok-right.ensures.ok r k.1)) c.node_digest.ensures

@@ -1,7 +1,7 @@
 use Rattle.std.proofs.Common.{not, inl, inr, sym, ap, ◌∙◌, arith, ⊎_elim}
+use Rattle.std.proofs.lemmas.Bool.{cases_lt}
 use Rattle.merkle_base.proofs.Nodes.{node_built}
 use Rattle.merkle_proof.proofs.PeakGroups.{meets_not, meets_yes}
-use Rattle.merkle_proof.proofs.OutsideNodes.{le_or_lt}
 use Rattle.merkle_proof.proofs.Comparisons.{le_yes, le_no, ge_if, ge_if_not}
 use Rattle.merkle_proof.proofs.subtree.Subtree.is_outside.Goals as goal
 
@@ -22,6 +22,6 @@ returns-else-le g c = λ t w.
     let s = c.args.self.now.first_leaf in
     let x = le_no c.leaf_end.result c.args.range.now.start (sym c.le.ensures ∙ c.if-le.false) in
     ⊎_elim
-    (λ y. c.ge.ensures ∙ ge_if s b y ∙ ap not (sym (meets_not a b _ t h (inr (omega (arith, w.first_is, y))))))
     (λ y. c.ge.ensures ∙ ge_if_not s b y ∙ ap not (sym (meets_yes a b _ t h (omega (arith, w.first_is, y)) (omega (arith, l, x)) c.requires.some)))
-    (le_or_lt b s)
+    (λ y. c.ge.ensures ∙ ge_if s b y ∙ ap not (sym (meets_not a b _ t h (inr (omega (arith, w.first_is, y))))))
+    (cases_lt s b)
