@@ -1,14 +1,14 @@
 -- The list at which a batch is accepted.
-use Rattle.std.proofs.Common.{◌≡◌, ℕ, zero, suc, ◌+◌, ◌<◌, ◌⊎◌, List, [], ◌∷◌, ◌++◌, length, map, drop, reverse, Option, Some, None, Bool, true, false, cond, slice_get, arith, refl, sym, ap, inl, inr, ◌∙◌, subst}
+use Rattle.std.proofs.Common.{◌≡◌, ℕ, zero, suc, ◌+◌, List, [], ◌∷◌, ◌++◌, length, map, drop, reverse, Option, Some, None, Bool, true, cond, slice_get, refl, sym, ap, inl, inr, ◌∙◌, subst}
 use Rattle.std.specs.Prelude.{◌&&◌, ◌==◌}
 use Rattle.std.specs.List.{flat_map}
 use Rattle.std.specs.Option.{option_to_list}
 use Rattle.std.specs.Cmp.Lexicographic.{pointwise, pointwise_decides}
-use Rattle.std.proofs.lemmas.Bool.{false≢true, eqb-true}
+use Rattle.std.proofs.lemmas.Bool.{eqb-true, and_parts}
 use Rattle.merkle_base.specs.Tree.{position}
 use Rattle.merkle_base.specs.Forest.{forest, size}
 use Rattle.merkle_base.proofs.Lists.{get_front}
-use Rattle.merkle_base.proofs.Nodes.{size_le, size_lt}
+use Rattle.merkle_base.proofs.Nodes.{size_le, size_inj}
 use Rattle.merkle_base.proofs.Lookup.{peak_node}
 use Rattle.merkle_base.specs.Hashing.{Hashing, TellsApart}
 use Rattle.merkle_base.specs.Digests.{digest_at, node_digests, peak_digests}
@@ -17,15 +17,12 @@ use Rattle.merkle_core.specs.Recorded.{Recorded, Chain, records, after}
 use Rattle.merkle_core.specs.Replay.{all_laid, last_match, oldest, begins_at, ends_at, matched}
 use Rattle.merkle_core.specs.Stands.{IsStep, StandsOn, last_list}
 use Rattle.merkle_core.specs.Collision.{Collide}
-use Rattle.merkle_core.proofs.Items.{by_test, get_reversed}
+use Rattle.merkle_core.proofs.Items.{get_reversed}
 use Rattle.merkle_core.proofs.Kept.{kept_before, kept_peak}
 use Rattle.merkle_core.proofs.Steps.{node_digest_at, step_size}
 use Rattle.merkle_core.proofs.Agreed.{agree_all}
 use Rattle.merkle_core.proofs.Colliding.{same_or_collide}
-
-and_both : (a b : Bool) → a && b ≡ true → (a ≡ true) × (b ≡ true)
-and_both true b e = (refl, e)
-and_both false b e = absurd (false≢true e)
+use Rattle.merkle_proof.proofs.Claims.{by_test}
 
 flat_single : {A B C : Type 0} (f : B → List C) (g : A → B) (k : A → C) (xs : List A) → ((i : ℕ) (x : A) → slice_get xs i ≡ Some x → f (g x) ≡ k x ∷ []) → flat_map f (map g xs) ≡ map k xs
 flat_single f g k [] e = refl
@@ -44,13 +41,6 @@ last_found test [] i e = absurd (cc)
 last_found test (x ∷ xs) i e = found_step test x xs i (last_match test xs) (λ j d. last_found test xs j d) e
 
 module _ {D : Type 0} (h : Hashing D) (rule : List ℕ → List ℕ) where
-  -- sizes tell lengths
-  pub same_length : (m n : ℕ) → size rule m ≡ size rule n → m ≡ n
-  same_length m n e = elim (three m n) [ inl x ↦ absurd (omega (arith, e, size_lt rule m n x)) | inr y ↦ elim y [ inl x ↦ absurd (omega (arith, e, size_lt rule n m x)) | inr x ↦ x ] ]
-    where
-      three : (a b : ℕ) → (a < b) ⊎ ((b < a) ⊎ (a ≡ b))
-      three a b = grind arith
-
   held_here : (o : Option D) (b : Bool) (u : Option D) (d : D) → o ≡ cond b u None → b ≡ true → u ≡ Some d → option_to_list o ≡ d ∷ []
   held_here o b u d e t k = ap option_to_list (e ∙ ap (λ c. cond c u None) t ∙ k)
 
@@ -84,7 +74,7 @@ module _ {D : Type 0} (h : Hashing D) (rule : List ℕ → List ℕ) where
   Accepts n ps Z = (n ≡ size rule (length Z)) × (ps ≡ peak_digests h rule Z)
 
   matches : TellsApart h → (n : ℕ) (ps qs : List D) (m : ℕ) → (n == m) && pointwise h.same ps qs ≡ true → (n ≡ m) × (ps ≡ qs)
-  matches law n ps qs m e = (let k = and_both (n == m) (pointwise h.same ps qs) e in (eqb-true n m k.0, (pointwise_decides law ps qs).0 k.1))
+  matches law n ps qs m e = (let k = and_parts (n == m) (pointwise h.same ps qs) e in (eqb-true n m k.0, (pointwise_decides law ps qs).0 k.1))
 
   pub head_stands : (k : Chain D) (ls : List (List D)) → StandsOn h rule (records k) ls → (X Y : List D) × (slice_get ls 0 ≡ Some X) × (slice_get ls 1 ≡ Some Y) × IsStep h rule (oldest k) X Y
   head_stands k ls s = stands_at (records k) ls 0 (oldest k) s (first k.ancestors k.own)
@@ -111,7 +101,7 @@ module _ {D : Type 0} (h : Hashing D) (rule : List ℕ → List ℕ) where
       (Z : List D) × (slice_get ls i ≡ Some Z) × (length X ≡ length Z) × (peak_digests h rule X ≡ peak_digests h rule Z) × (X ≡ Z → Agrees h rule (all_laid (drop i (records k)) c) (last_list ls)) × ((X ≡ Z → ⊥) → Collide h rule X Z)
   accepted law k ls c X i s a e =
       let w = matched_list law k ls c.size (held_peaks rule (length X) c) i s e in
-      let l : length X ≡ length w.0 = same_length (length X) (length w.0) (sym a.sized ∙ w.2.0) in
+      let l : length X ≡ length w.0 = size_inj rule (length X) (length w.0) (sym a.sized ∙ w.2.0) in
       let p : peak_digests h rule X ≡ peak_digests h rule w.0 = sym (peaks_agree c X a) ∙ w.2.1 in
       let f = stands_from (records k) ls i w.0 s w.1 in (
         w.0,

@@ -9,9 +9,9 @@ use Rattle.merkle_core.specs.Contents.{Contents, Agrees, is_kept, pruned}
 use Rattle.merkle_core.specs.Recorded.{Recorded}
 use Rattle.merkle_core.specs.Replay.{over, laid, all_laid}
 use Rattle.merkle_core.specs.Stands.{IsStep, StandsOn, last_list}
-use Rattle.merkle_core.proofs.Items.{by_test}
 use Rattle.merkle_core.proofs.Kept.{kept_from, kept_before}
 use Rattle.merkle_core.proofs.Steps.{step_old, step_new, step_size}
+use Rattle.merkle_proof.proofs.Claims.{by_test}
 
 pub over_cond : {D : Type 0} (n : Option D) (b : Bool) (o : Option D) → over n (cond b o None) ≡ cond b (over n o) None
 over_cond n true o = refl

@@ -1,14 +1,14 @@
 -- Changed leaves by position: the entries of a map are those of the peaks, left to right.
-use Rattle.std.proofs.Common.{◌≡◌, ◌≢◌, ℕ, zero, suc, ◌+◌, ◌<◌, ◌≤◌, ◌⊎◌, List, [], ◌∷◌, ◌++◌, map, Option, Some, None, Bool, true, false, cond, slice_get, arith, refl, sym, ap, inl, inr, ◌∙◌, subst, append-nil, append_assoc}
-use Rattle.std.specs.Prelude.{is_some, ◌==◌}
+use Rattle.std.proofs.Common.{◌≡◌, ◌≢◌, ℕ, zero, suc, ◌+◌, ◌<◌, ◌≤◌, List, [], ◌∷◌, ◌++◌, map, Option, Some, None, Bool, true, false, cond, slice_get, arith, refl, sym, ap, inl, inr, ◌∙◌, subst, append-nil, append_assoc}
+use Rattle.std.specs.Prelude.{is_some}
 use Rattle.std.specs.List.{AllByRecursion, flat_map}
 use Rattle.std.specs.List.Sorted.{IsStrictlySortedBy}
 use Rattle.std.specs.Option.{option_or}
 use Rattle.std.specs.FinMap.{FinMap, get, insert, from_entries, find, get-from_entries, from_entries_push, nat_cmp-IsAntisymmetric}
-use Rattle.std.specs.Cmp.{nat_cmp_total}
+use Rattle.std.specs.Cmp.{nat_cmp_total, unsigned_tied}
 use Rattle.std.specs.Ordering.{nat_cmp, eq_by_cmp}
 use Rattle.std.specs.declared.cmp.Ordering.TheVariants.{Less}
-use Rattle.std.proofs.lemmas.Bool.{false≢true}
+use Rattle.std.proofs.lemmas.Bool.{false≢true, cases_eq}
 use Rattle.std.proofs.lemmas.Bool.Decides.{eqb_tells, nat_tests}
 use Rattle.merkle_base.specs.Tree.{Tree, leaf, join, position, first_leaf, width, IsUnder, IsBuilt}
 use Rattle.merkle_base.specs.Forest.{forest, size}
@@ -21,8 +21,10 @@ use Rattle.merkle_core.specs.Refreshed.{touched_leaves, HasLeavesOf}
 use Rattle.merkle_core.proofs.Items.{get_reverse}
 use Rattle.merkle_core.proofs.RefreshedDigests.{or_left_some, or_right_some, cond_yes, cond_no}
 use Rattle.merkle_core.proofs.RefreshedPeaks.{after_start}
-use Rattle.merkle_core.proofs.Touched.{leaf_touched, leaf_untouched, Between, touched_between, all_imply, all_joined}
+use Rattle.merkle_core.proofs.Touched.{leaf_touched, leaf_untouched, Between, touched_between}
 use Rattle.merkle_core.proofs.OptionFacts.{none_or_some}
+use Rattle.merkle_base.proofs.Nodes.{all_append}
+use Rattle.merkle_base.proofs.Lists.{all_imply}
 
 abbrev keys : {D : Type 0} → List (ℕ × D) → List ℕ
 keys es = map (λ e. e.0) es
@@ -32,26 +34,20 @@ pub Rising : {D : Type 0} → List (ℕ × D) → Type 0
 Rising [] = Unit {0}
 Rising (x ∷ xs) = AllByRecursion (λ u. x.0 < u.0) xs × Rising xs
 
-same_test : (a b : ℕ) → eq_by_cmp nat_cmp a b ≡ (a == b)
-same_test a b = grind (arith, nat_tests)
-
-same_or_not : (a b : ℕ) → (a ≡ b) ⊎ (a ≢ b)
-same_or_not a b = elim (eqb_tells a b) [ inl s ↦ inl s.1 | inr s ↦ inr s.1 ]
-
 below_of : (a b : ℕ) → nat_cmp a b ≡ Less → a < b
 below_of a b e = grind (arith, nat_tests)
 
 module _ {D : Type 0} where
   find_yes : (q : ℕ) (x : ℕ × D) (xs : List (ℕ × D)) → q ≡ x.0 → find nat_cmp q (x ∷ xs) ≡ Some x.1
-  find_yes q x xs e = elim (eqb_tells q x.0) [ inl s ↦ cond_yes (eq_by_cmp nat_cmp q x.0) (Some x.1) (find nat_cmp q xs) (same_test q x.0 ∙ s.0) | inr s ↦ absurd (s.1 e) ]
+  find_yes q x xs e = elim (eqb_tells q x.0) [ inl s ↦ cond_yes (eq_by_cmp nat_cmp q x.0) (Some x.1) (find nat_cmp q xs) (unsigned_tied q x.0 ∙ s.0) | inr s ↦ absurd (s.1 e) ]
 
   find_no : (q : ℕ) (x : ℕ × D) (xs : List (ℕ × D)) → q ≢ x.0 → find nat_cmp q (x ∷ xs) ≡ find nat_cmp q xs
-  find_no q x xs e = elim (eqb_tells q x.0) [ inl s ↦ absurd (e s.1) | inr s ↦ cond_no (eq_by_cmp nat_cmp q x.0) (Some x.1) (find nat_cmp q xs) (same_test q x.0 ∙ s.0) ]
+  find_no q x xs e = elim (eqb_tells q x.0) [ inl s ↦ absurd (e s.1) | inr s ↦ cond_no (eq_by_cmp nat_cmp q x.0) (Some x.1) (find nat_cmp q xs) (unsigned_tied q x.0 ∙ s.0) ]
 
   -- what is found is one of them
   find_among : (P : ℕ → D → Type 0) (xs : List (ℕ × D)) → AllByRecursion (λ u. P u.0 u.1) xs → (q : ℕ) (d : D) → find nat_cmp q xs ≡ Some d → P q d
   find_among P [] h q d e = absurd (cc)
-  find_among P (x ∷ xs) h q d e = elim (same_or_not q x.0) [
+  find_among P (x ∷ xs) h q d e = elim (cases_eq q x.0) [
     | inl s ↦ (let c : x.1 ≡ d = (let f : Some x.1 ≡ Some d = sym (find_yes q x xs s) ∙ e in cc) in subst (P q) c (subst (λ k. P k x.1) (sym s) h.0))
     | inr s ↦ find_among P xs h.1 q d (sym (find_no q x xs s) ∙ e)
   ]
@@ -86,7 +82,7 @@ module _ {D : Type 0} where
   unfolding Rising
   rising_append [] ys e h k a b = k
   rising_append (x ∷ xs) ys e h k a b =
-      (all_joined (λ u. x.0 < u.0) xs ys h.0 (all_imply (λ u. e ≤ u.0) (λ u. x.0 < u.0) (λ u w. omega (arith, w, a.0)) ys b), rising_append xs ys e h.1 k a.1 b)
+      (all_append (λ u. x.0 < u.0) xs ys h.0 (all_imply (λ u. e ≤ u.0) (λ u. x.0 < u.0) (λ u w. omega (arith, w, a.0)) ys b), rising_append xs ys e h.1 k a.1 b)
 
   -- two such lists are equal where the same is found in both
   pub same_rising : (xs ys : List (ℕ × D)) → Rising xs → Rising ys → ((q : ℕ) → find nat_cmp q xs ≡ find nat_cmp q ys) → xs ≡ ys
@@ -97,9 +93,9 @@ module _ {D : Type 0} where
   same_rising (x ∷ xs) (y ∷ ys) h k f =
       let a : find nat_cmp x.0 (y ∷ ys) ≡ Some x.1 = sym (f x.0) ∙ find_yes x.0 x xs refl in
       let b : find nat_cmp y.0 (x ∷ xs) ≡ Some y.1 = f y.0 ∙ find_yes y.0 y ys refl in
-      elim (same_or_not x.0 y.0) [
+      elim (cases_eq x.0 y.0) [
         | inl s ↦ (let c : x.1 ≡ y.1 = (let g : Some x.1 ≡ Some y.1 = sym a ∙ find_yes x.0 y ys s in cc) in
-            let rest : xs ≡ ys = same_rising xs ys h.1 k.1 (λ q. elim (same_or_not q x.0) [
+            let rest : xs ≡ ys = same_rising xs ys h.1 k.1 (λ q. elim (cases_eq q x.0) [
               | inl t ↦ find_above x.0 xs h.0 q (omega (arith, t)) ∙ sym (find_above y.0 ys k.0 q (omega (arith, t, s)))
               | inr t ↦ sym (find_no q x xs t) ∙ f q ∙ find_no q y ys (λ u. t (u ∙ sym s))
             ]) in
@@ -125,11 +121,11 @@ module _ {D : Type 0} (m : ℕ → Option D) where
     | inl o ↦ subst (AllByRecursion (λ u. m u.0 ≡ Some u.1)) (sym (leaf_untouched m p n o)) tt
     | inr o ↦ subst (AllByRecursion (λ u. m u.0 ≡ Some u.1)) (sym (leaf_touched m p n o.0 o.1)) (o.1, tt)
   ]
-  touched_found (join p l r) = all_joined (λ u. m u.0 ≡ Some u.1) (touched_leaves m l) (touched_leaves m r) (touched_found l) (touched_found r)
+  touched_found (join p l r) = all_append (λ u. m u.0 ≡ Some u.1) (touched_leaves m l) (touched_leaves m r) (touched_found l) (touched_found r)
 
   all_found : (ts : List Tree) → AllByRecursion (λ u. m u.0 ≡ Some u.1) (flat_map (touched_leaves m) ts)
   all_found [] = tt
-  all_found (t ∷ ts) = all_joined (λ u. m u.0 ≡ Some u.1) (touched_leaves m t) (flat_map (touched_leaves m) ts) (touched_found t) (all_found ts)
+  all_found (t ∷ ts) = all_append (λ u. m u.0 ≡ Some u.1) (touched_leaves m t) (flat_map (touched_leaves m) ts) (touched_found t) (all_found ts)
 
   found_under : (t : Tree) (q k : ℕ) (d : D) → IsUnder (leaf q k) t → m q ≡ Some d → is_some (find nat_cmp q (touched_leaves m t)) ≡ true
   found_under (leaf p n) q k d u e =

@@ -1,5 +1,5 @@
 -- Two lists with the same peak digests are equal, or collide at a node.
-use Rattle.std.proofs.Common.{◌≡◌, ℕ, zero, suc, ◌<◌, ◌⊎◌, List, [], ◌∷◌, length, map, reverse, Some, slice_get, get_or, arith, refl, sym, ap, inl, inr, ◌∙◌, subst}
+use Rattle.std.proofs.Common.{◌≡◌, ℕ, zero, suc, ◌⊎◌, List, [], ◌∷◌, length, map, reverse, Some, slice_get, get_or, refl, sym, inl, inr, ◌∙◌, subst}
 use Rattle.std.specs.List.{AllByRecursion}
 use Rattle.std.proofs.lemmas.Bool.{false≢true}
 use Rattle.merkle_base.specs.Tree.{Tree, leaf, join, position, IsBuilt, IsUnder}
@@ -10,13 +10,9 @@ use Rattle.merkle_base.proofs.Lookup.{peak_node}
 use Rattle.merkle_base.specs.Hashing.{Hashing, TellsApart}
 use Rattle.merkle_base.specs.Digests.{digest_at, peak_digests}
 use Rattle.merkle_core.specs.Collision.{Collide}
-use Rattle.merkle_core.proofs.Items.{by_test, get_reverse}
-
-pub lists_same : {X : Type 0} (xs ys : List X) (e : X) → length xs ≡ length ys → ((k : ℕ) → k < length xs → get_or xs k e ≡ get_or ys k e) → xs ≡ ys
-lists_same [] [] e l s = refl
-lists_same [] (y ∷ ys) e l s = absurd (omega (arith, l))
-lists_same (x ∷ xs) [] e l s = absurd (omega (arith, l))
-lists_same (x ∷ xs) (y ∷ ys) e l s = ap (λ z. z ∷ xs) (s 0 (omega arith)) ∙ ap (λ zs. y ∷ zs) (lists_same xs ys e (omega (arith, l)) (λ k b. s (suc k) (omega (arith, b))))
+use Rattle.merkle_core.proofs.Items.{get_reverse}
+use Rattle.merkle_proof.proofs.Claims.{by_test}
+use Rattle.merkle_proof.proofs.RangeChecks.{same_list}
 
 pub map_here : {A B : Type 0} (f g : A → B) (xs : List A) (i : ℕ) (x : A) → map f xs ≡ map g xs → slice_get xs i ≡ Some x → f x ≡ g x
 map_here f g [] i x e d = absurd (cc)
@@ -60,7 +56,7 @@ module _ {D : Type 0} (h : Hashing D) (rule : List ℕ → List ℕ) (law : Tell
   same_or_collide l e =
       let f : map (digest_at h X) (reverse (forest rule (length X)).peaks) ≡ map (digest_at h Y) (reverse (forest rule (length X)).peaks) = subst (λ n. peak_digests h rule X ≡ map (digest_at h Y) (reverse (forest rule n).peaks)) (sym l) e in
       elim (trees_same (forest rule (length X)).peaks (forest_grown rule (length X)).built (λ i t d. (let k = get_reverse (forest rule (length X)).peaks i t d in map_here (digest_at h X) (digest_at h Y) (reverse (forest rule (length X)).peaks) k.0 t f k.1))) [
-        | inl s ↦ inl (lists_same X Y h.empty l (λ k b.
+        | inl s ↦ inl (same_list h.empty X Y l (λ k b.
             (let w = peak_holding rule (length X) k b in
             s w.0 w.1 w.2 (size rule k) k (leaf_under rule (length X) (position w.1) k w.1 (peak_node rule (length X) w.0 w.1 w.2) w.3 w.4))))
         | inr c ↦ inr c

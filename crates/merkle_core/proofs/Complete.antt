@@ -21,10 +21,12 @@ use Rattle.merkle_core.specs.Read.{read_over}
 use Rattle.merkle_core.specs.Needed.{IsUsed, IsNeeded}
 use Rattle.merkle_core.specs.Completed.{IsCompleted}
 use Rattle.merkle_core.proofs.Items.{get_drop}
-use Rattle.merkle_core.proofs.Steps.{node_digest_at, digests_length, node_there}
+use Rattle.merkle_core.proofs.Steps.{node_digest_at, digests_length}
 use Rattle.merkle_core.proofs.Edits.{same_gets, old_entry, new_entry, edited_same, edited_length}
 use Rattle.merkle_core.proofs.Through.{read_right, read_kept, unchanged}
 use Rattle.merkle_core.proofs.Needs.{used_kept}
+use Rattle.merkle_core.proofs.OptionFacts.{over_none}
+use Rattle.merkle_base.proofs.Lists.{get_exists}
 
 -- the same leaves touch the same trees
 pub same_touch : {D : Type 0} (rule : List ℕ → List ℕ) (m w : ℕ → Option D) (n : ℕ) → ((k : ℕ) → k < n → is_some (m (size rule k)) ≡ is_some (w (size rule k))) → (t : Tree) → IsBuilt (forest rule n).nodes t → is_touched m t ≡ is_touched w t
@@ -44,7 +46,7 @@ module _ {D : Type 0} (h : Hashing D) (rule : List ℕ → List ℕ) where
   module _ (r s : Recorded D) (X : List D) (n : ℕ) (before : r.before ≡ size rule (length X)) (longer : length X ≤ n) (sized : r.before + length r.appended ≡ size rule n) (done : IsCompleted h rule r s X) where
     same_overwritten : (k : ℕ) → k < length X → get r.overwritten (size rule k) ≡ get s.overwritten (size rule k)
     same_overwritten k l =
-        (let x = node_there X k l in
+        (let x = get_exists X k l in
         leaf_same (get r.overwritten (size rule k)) (get s.overwritten (size rule k)) (slice_get X k) (slice_get (edited rule r X) k) x.0 h.empty x.1 (old_entry rule r X k l)
         (done.overwritten (size rule k) (leaf (size rule k) k) (leaf_here rule k (length X) l) ∙ ap (λ d. cond (is_some (get r.overwritten (size rule k))) (Some d) None) (entry_read (edited rule r X) k)))
 
@@ -88,13 +90,9 @@ module _ {D : Type 0} (h : Hashing D) (rule : List ℕ → List ℕ) where
   -- a record without changes changes nothing
   pub no_change : (r : Recorded D) (X Y : List D) → IsStep h rule r X Y → r.appended ≡ [] → ((p : ℕ) → get r.overwritten p ≡ None) → Y ≡ X
   no_change r X Y s a o = s.edit ∙ same_gets (edited rule r X) X (λ k. elim (cases_lt k (length X)) [
-    | inl l ↦ old_entry rule r X k l ∙ ap (λ m. over m (slice_get X k)) (o (size rule k)) ∙ same (slice_get X k)
+    | inl l ↦ old_entry rule r X k l ∙ ap (λ m. over m (slice_get X k)) (o (size rule k)) ∙ over_none (slice_get X k)
     | inr l ↦ new_entry rule r X k s.before l ∙ ap (λ ds. slice_get ds (size rule k - r.before)) a ∙ sym (slice_get_past X k l)
   ])
-    where
-      same : (u : Option D) → over None u ≡ u
-      same None = refl
-      same (Some d) = refl
 
   used_node : (m : ℕ → Option D) (n e : ℕ) (t : Tree) → IsUsed rule m n e t → slice_get (forest rule e).nodes (position t) ≡ Some t
   used_node m n e t u = elim u [
@@ -117,5 +115,5 @@ module _ {D : Type 0} (h : Hashing D) (rule : List ℕ → List ℕ) where
     none_missing l above t n =
         (let Z : List D = last_list (X ∷ ls) in
         let k = used_kept rule (get r.overwritten) base.boundary (length Z) e (omega (arith, agrees.bounded, stands_longer rs X ls j W stands there)) l above t n.0 in
-        let x = node_there (node_digests h rule Z) (position t) (omega (arith, n.1, digests_length h rule Z)) in
+        let x = get_exists (node_digests h rule Z) (position t) (omega (arith, n.1, digests_length h rule Z)) in
         (x.0, read_kept h rule rs X ls base j W stands there agrees (position t) k ∙ x.1))

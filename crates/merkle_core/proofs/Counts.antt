@@ -4,17 +4,17 @@ use Rattle.std.specs.Prelude.{◌||◌, ◌&&◌, ◌==◌, nat_eq}
 use Rattle.std.specs.List.{filter, list_any, AllByRecursion, IsDistinct}
 use Rattle.std.specs.Cmp.{nat_eq_equiv}
 use Rattle.std.proofs.lemmas.List.{length-map}
-use Rattle.std.proofs.lemmas.Bool.{eq-eqb, ne_eqb, cases_lt}
+use Rattle.std.proofs.lemmas.Bool.{eq-eqb, ne_eqb, cases_lt, or_parts}
 use Rattle.std.proofs.lemmas.Map.Made.{length-le_from_is_member}
 use Rattle.merkle_base.specs.Tree.{Tree, position, height}
 use Rattle.merkle_base.specs.Forest.{forest}
 use Rattle.merkle_base.proofs.Growth.{forest_grown}
 use Rattle.merkle_core.specs.Needed.{passes, total}
-use Rattle.merkle_core.proofs.Items.{by_test, or_none}
+use Rattle.merkle_proof.proofs.Claims.{by_test}
 
 all_other : (f : ℕ → Bool) (xs : List ℕ) → list_any f xs ≡ false → AllByRecursion (λ y. f y ≡ false) xs
 all_other f [] e = tt
-all_other f (x ∷ xs) e = (let k = or_none (f x) (list_any f xs) e in (k.0, all_other f xs k.1))
+all_other f (x ∷ xs) e = (let k = or_parts (f x) (list_any f xs) e in (k.0, all_other f xs k.1))
 
 module _ (q : Tree → Bool) where
   abbrev positions : List Tree → List ℕ

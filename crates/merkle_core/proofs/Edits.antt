@@ -3,17 +3,17 @@ use Rattle.std.proofs.Common.{◌≡◌, ℕ, zero, suc, ◌+◌, ◌-◌, ◌<�
 use Rattle.std.specs.Prelude.{◌==◌}
 use Rattle.std.specs.Option.{unwrap_or}
 use Rattle.std.specs.FinMap.{get}
-use Rattle.std.proofs.lemmas.Bool.{eqb-true, eqb-false, eq-eqb, ne_eqb, cases_lt}
+use Rattle.std.proofs.lemmas.Bool.{eqb-true, eqb-false, eq-eqb, ne_eqb, cases_lt, cases_order}
 use Rattle.std.proofs.lemmas.Option.{slice_get_past}
 use Rattle.merkle_base.specs.Forest.{size}
-use Rattle.merkle_base.proofs.Lists.{get_push}
+use Rattle.merkle_base.proofs.Lists.{get_push, get_exists}
 use Rattle.merkle_base.proofs.Nodes.{size_le, size_lt, size_step}
 use Rattle.merkle_base.proofs.Lookup.{get_append_add}
 use Rattle.merkle_core.specs.Recorded.{Recorded}
 use Rattle.merkle_core.specs.Replay.{over}
 use Rattle.merkle_core.specs.Stands.{replaced, leaves_from, edited}
-use Rattle.merkle_core.proofs.Items.{by_test}
-use Rattle.merkle_core.proofs.Steps.{node_there}
+use Rattle.merkle_core.proofs.Steps.{replaced_length}
+use Rattle.merkle_proof.proofs.Claims.{by_test}
 
 pub get_left : {X : Type 0} (xs ys : List X) (i : ℕ) → i < length xs → slice_get (xs ++ ys) i ≡ slice_get xs i
 get_left [] ys i h = absurd (omega arith)
@@ -49,10 +49,6 @@ module _ {D : Type 0} (rule : List ℕ → List ℕ) where
   replaced_get m n (d ∷ ds) zero = let z : n + 0 ≡ n = omega arith in ap (λ i. Some (unwrap_or (m (size rule i)) d)) (sym z)
   replaced_get m n (d ∷ ds) (suc k) = let z : suc n + k ≡ n + suc k = omega arith in replaced_get m (suc n) ds k ∙ ap (λ i. over (m (size rule i)) (slice_get ds k)) z
 
-  pub replaced_count : (m : ℕ → Option D) (n : ℕ) (X : List D) → length (replaced rule m n X) ≡ length X
-  replaced_count m n [] = refl
-  replaced_count m n (d ∷ ds) = ap suc (replaced_count m (suc n) ds)
-
   leaf_here_or_later : (n p j : ℕ) (d : D) (ds : List D) → p ≡ size rule n → ((i : ℕ) → slice_get (leaves_from rule (suc n) (suc p) ds) i ≡ slice_get ds (size rule (suc n + i) - suc p)) →
       slice_get (d ∷ leaves_from rule (suc n) (suc p) ds) j ≡ slice_get (d ∷ ds) (size rule (n + j) - p)
   leaf_here_or_later n p zero d ds e f =
@@ -79,14 +75,14 @@ module _ {D : Type 0} (rule : List ℕ → List ℕ) where
   pub old_entry : (r : Recorded D) (X : List D) (k : ℕ) → k < length X → slice_get (edited rule r X) k ≡ over (get r.overwritten (size rule k)) (slice_get X k)
   old_entry r X k l =
       let z : 0 + k ≡ k = omega arith in
-      get_left (replaced rule (get r.overwritten) 0 X) (leaves_from rule (length X) r.before r.appended) k (omega (arith, l, replaced_count (get r.overwritten) 0 X))
+      get_left (replaced rule (get r.overwritten) 0 X) (leaves_from rule (length X) r.before r.appended) k (omega (arith, l, replaced_length rule (get r.overwritten) 0 X))
       ∙ replaced_get (get r.overwritten) 0 X k ∙ ap (λ i. over (get r.overwritten (size rule i)) (slice_get X k)) z
 
   -- a new entry
   pub new_entry : (r : Recorded D) (X : List D) (k : ℕ) → r.before ≡ size rule (length X) → length X ≤ k → slice_get (edited rule r X) k ≡ slice_get r.appended (size rule k - r.before)
   new_entry r X k e l =
       let front : List D = replaced rule (get r.overwritten) 0 X in
-      let y : length front + (k - length X) ≡ k = omega (arith, l, replaced_count (get r.overwritten) 0 X) in
+      let y : length front + (k - length X) ≡ k = omega (arith, l, replaced_length rule (get r.overwritten) 0 X) in
       let z : length X + (k - length X) ≡ k = omega (arith, l) in
       ap (slice_get (edited rule r X)) (sym y) ∙ get_append_add front (leaves_from rule (length X) r.before r.appended) (k - length X)
       ∙ leaves_get (length X) r.before r.appended (k - length X) (omega (arith, e)) ∙ ap (λ i. slice_get r.appended (size rule i - r.before)) z
@@ -107,10 +103,10 @@ module _ {D : Type 0} (rule : List ℕ → List ℕ) where
   edited_length r X m e l f =
       let a : length (edited rule r X) ≤ m = none_past (edited rule r X) m (new_entry r X m e l ∙ slice_get_past r.appended (size rule m - r.before) (omega (arith, f))) in
       both (length (edited rule r X)) m a (λ b. some_none (edited rule r X) (elim (cases_lt (length (edited rule r X)) (length X)) [
-        | inl s ↦ (let n = node_there X (length (edited rule r X)) s in
+        | inl s ↦ (let n = get_exists X (length (edited rule r X)) s in
             let v = over_some (get r.overwritten (size rule (length (edited rule r X)))) (slice_get X (length (edited rule r X))) n.0 n.1 in
             (v.0, old_entry r X (length (edited rule r X)) s ∙ v.1))
-        | inr s ↦ (let n = node_there r.appended (size rule (length (edited rule r X)) - r.before) (omega (arith, f, e, size_lt rule (length (edited rule r X)) m b, size_le rule (length X) (length (edited rule r X)) s)) in
+        | inr s ↦ (let n = get_exists r.appended (size rule (length (edited rule r X)) - r.before) (omega (arith, f, e, size_lt rule (length (edited rule r X)) m b, size_le rule (length X) (length (edited rule r X)) s)) in
             (n.0, new_entry r X (length (edited rule r X)) e s ∙ n.1))
       ]))
     where
@@ -146,24 +142,21 @@ module _ {D : Type 0} (rule : List ℕ → List ℕ) where
   pub overwritten : (r s : Recorded D) (X : List D) (k : ℕ) (d : D) → r.before ≡ size rule (length X) → k < length X → s.before ≡ r.before → s.appended ≡ r.appended →
       ((p : ℕ) → get s.overwritten p ≡ cond (p == size rule k) (Some d) (get r.overwritten p)) → edited rule s X ≡ set (edited rule r X) k d
   overwritten r s X k d e l sb sa so =
-      let n : k < length (edited rule r X) = omega (arith, l, length-append (replaced rule (get r.overwritten) 0 X) (leaves_from rule (length X) r.before r.appended), replaced_count (get r.overwritten) 0 X) in
+      let n : k < length (edited rule r X) = omega (arith, l, length-append (replaced rule (get r.overwritten) 0 X) (leaves_from rule (length X) r.before r.appended), replaced_length rule (get r.overwritten) 0 X) in
       same_gets (edited rule s X) (set (edited rule r X) k d) (λ i. elim (cases_lt i (length X)) [
         | inl a ↦ old_entry s X i a ∙ ap (λ o. over o (slice_get X i)) (so (size rule i)) ∙ here r X k d i l a n
         | inr a ↦ new_entry s X i (sb ∙ e) a ∙ (λ x. slice_get (sa x) (size rule i - sb x)) ∙ sym (new_entry r X i e a) ∙ sym (get_set_other (edited rule r X) k i d (λ q. absurd (omega (arith, q, a, l))))
       ])
     where
       here : (r : Recorded D) (X : List D) (k : ℕ) (d : D) (i : ℕ) → k < length X → i < length X → k < length (edited rule r X) → over (cond (size rule i == size rule k) (Some d) (get r.overwritten (size rule i))) (slice_get X i) ≡ slice_get (set (edited rule r X) k d) i
-      here r X k d i l a n = elim (three i k) [
-        | inl q ↦ (let v = node_there X i a in
+      here r X k d i l a n = elim (cases_order i k) [
+        | inl q ↦ (let v = get_exists X i a in
             ap (λ t. over (cond t (Some d) (get r.overwritten (size rule i))) (slice_get X i)) (eq-eqb (size rule i) (size rule k) (ap (size rule) q)) ∙ ap (over (Some d)) v.1 ∙ sym (ap (slice_get (set (edited rule r X) k d)) q ∙ get_set_same (edited rule r X) k d n))
         | inr q ↦
             ap (λ t. over (cond t (Some d) (get r.overwritten (size rule i))) (slice_get X i)) (ne_eqb (size rule i) (size rule k) (apart i k q))
             ∙ sym (old_entry r X i a) ∙ sym (get_set_other (edited rule r X) k i d (λ f. absurd (elim q [ inl x ↦ omega (arith, x, f) | inr x ↦ omega (arith, x, f) ])))
       ]
         where
-          three : (a b : ℕ) → (a ≡ b) ⊎ ((a < b) ⊎ (b < a))
-          three a b = grind arith
-
           apart : (i k : ℕ) → (i < k) ⊎ (k < i) → size rule i ≡ size rule k → ⊥
           apart i k q e = elim q [ inl x ↦ absurd (omega (arith, e, size_lt rule i k x)) | inr x ↦ absurd (omega (arith, e, size_lt rule k i x)) ]
 
@@ -174,7 +167,7 @@ module _ {D : Type 0} (rule : List ℕ → List ℕ) where
       let n : length (edited rule r X) ≡ m = edited_length r X m e (omega (arith, l, b)) f in
       same_gets (edited rule s X) (set (edited rule r X) k d) (λ i. elim (cases_lt i (length X)) [
         | inl a ↦ old_entry s X i a ∙ ap (λ o. over (get o (size rule i)) (slice_get X i)) so ∙ sym (old_entry r X i a) ∙ sym (get_set_other (edited rule r X) k i d (λ q. absurd (omega (arith, q, a, l))))
-        | inr a ↦ new_entry s X i (sb ∙ e) a ∙ (λ x. slice_get (sa x) (size rule i - sb x)) ∙ elim (three i k) [
+        | inr a ↦ new_entry s X i (sb ∙ e) a ∙ (λ x. slice_get (sa x) (size rule i - sb x)) ∙ elim (cases_order i k) [
           | inl q ↦
               ap (λ x. slice_get (set r.appended (size rule k - r.before) d) (size rule x - r.before)) q
               ∙ get_set_same r.appended (size rule k - r.before) d (omega (arith, f, e, size_lt rule k m b, size_le rule (length X) k l))
@@ -185,8 +178,5 @@ module _ {D : Type 0} (rule : List ℕ → List ℕ) where
         ]
       ])
     where
-      three : (a b : ℕ) → (a ≡ b) ⊎ ((a < b) ⊎ (b < a))
-      three a b = grind arith
-
       apart : (i : ℕ) → length X ≤ i → (i < k) ⊎ (k < i) → size rule i - r.before ≡ size rule k - r.before → ⊥
       apart i a q g = elim q [ inl x ↦ absurd (omega (arith, g, e, size_lt rule i k x, size_le rule (length X) i a)) | inr x ↦ absurd (omega (arith, g, e, size_lt rule k i x, size_le rule (length X) k l)) ]

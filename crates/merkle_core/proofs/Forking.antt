@@ -4,6 +4,7 @@ use Rattle.std.specs.Prelude.{◌==◌, ◌&&◌, not}
 use Rattle.std.specs.Ordering.{nat_cmp}
 use Rattle.std.specs.FinMap.{get, len, empty, empty_of_len, get-empty}
 use Rattle.std.proofs.lemmas.Bool.{true≢false, eqb-true}
+use Rattle.std.proofs.lemmas.List.{nil_from_length}
 use Rattle.merkle_base.specs.Forest.{size}
 use Rattle.merkle_base.specs.Hashing.{Hashing}
 use Rattle.merkle_base.specs.Digests.{peak_digests}
@@ -12,10 +13,10 @@ use Rattle.merkle_core.specs.Pending.{Pending, is_changed, kept, kept_lists, wit
 use Rattle.merkle_core.specs.Recorded.{Recorded, Chain, records, after}
 use Rattle.merkle_core.specs.Replay.{oldest}
 use Rattle.merkle_core.specs.Stands.{IsStep, StandsOn, last_list}
-use Rattle.merkle_core.proofs.Items.{by_test, no_items}
 use Rattle.merkle_core.proofs.Steps.{step_size}
 use Rattle.merkle_core.proofs.Complete.{stands_push, no_change}
 use Rattle.merkle_core.proofs.Chains.{splits}
+use Rattle.merkle_proof.proofs.Claims.{by_test}
 
 both_tests : (a b : Bool) → not (a && b) ≡ false → (a ≡ true) × (b ≡ true)
 both_tests true true e = (refl, refl)
@@ -31,7 +32,7 @@ last_added (X ∷ Z ∷ ls) Y = last_added (Z ∷ ls) Y
 module _ {D : Type 0} where
   -- a record without changes appends and overwrites nothing
   pub appends_nothing : (r : Recorded D) → is_changed r ≡ false → r.appended ≡ []
-  appends_nothing r e = no_items r.appended (eqb-true (length r.appended) 0 (both_tests (length r.appended == 0) (len r.overwritten == 0) e).0)
+  appends_nothing r e = nil_from_length r.appended (eqb-true (length r.appended) 0 (both_tests (length r.appended == 0) (len r.overwritten == 0) e).0)
 
   pub overwrites_nothing : (r : Recorded D) → is_changed r ≡ false → (p : ℕ) → get r.overwritten p ≡ None
   overwrites_nothing r e p =

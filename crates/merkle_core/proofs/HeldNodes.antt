@@ -19,10 +19,11 @@ use Rattle.merkle_core.specs.Whole.{IsCounted, IsKept}
 use Rattle.merkle_core.specs.Held.{stored_at, held_contents}
 use Rattle.merkle_core.specs.Replay.{over}
 use Rattle.merkle_core.proofs.Chains.{same_contents}
-use Rattle.merkle_core.proofs.Items.{by_test, any_find, get_reversed}
+use Rattle.merkle_core.proofs.Items.{any_find, get_reversed}
 use Rattle.merkle_core.proofs.Kept.{get_mapped}
 use Rattle.merkle_core.proofs.Stored.{held_before, held_from, no_pin}
 use Rattle.merkle_core.proofs.Edits.{get_set_same, get_set_other}
+use Rattle.merkle_proof.proofs.Claims.{by_test}
 
 module _ {D : Type 0} (pins : List (ℕ × D)) (start : ℕ) (nodes : List D) (at : ℕ) (digest : D) where
   -- one of the nodes from the start on takes a digest

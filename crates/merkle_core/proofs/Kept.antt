@@ -2,7 +2,7 @@
 use Rattle.std.proofs.Common.{◌≡◌, ℕ, ◌≤◌, ◌⊎◌, List, map, reverse, Option, Some, None, true, slice_get, arith, refl, sym, ap, inl, inr, ◌∙◌, subst, leb}
 use Rattle.std.specs.Prelude.{◌==◌}
 use Rattle.std.specs.List.{list_any}
-use Rattle.std.proofs.lemmas.Bool.{le-leb, leb-true, eq-eqb, eqb-true}
+use Rattle.std.proofs.lemmas.Bool.{le-leb, leb-true, eq-eqb, eqb-true, or_left, or_right, or_cases}
 use Rattle.std.proofs.lemmas.Option.{slice_get-map}
 use Rattle.std.specs.Option.{option_map}
 use Rattle.merkle_base.specs.Tree.{Tree, position}
@@ -12,7 +12,7 @@ use Rattle.merkle_base.proofs.Held.{peaks_held}
 use Rattle.merkle_base.proofs.Births.{all_get}
 use Rattle.merkle_base.specs.Places.{peak_positions}
 use Rattle.merkle_core.specs.Contents.{is_kept}
-use Rattle.merkle_core.proofs.Items.{or_left, or_right, or_cases, any_at, any_find, get_reverse, get_reversed}
+use Rattle.merkle_core.proofs.Items.{any_at, any_find, get_reverse, get_reversed}
 
 pub option_map_some : {A B : Type 0} (f : A → B) (o : Option A) (y : B) → option_map f o ≡ Some y → (x : A) × (o ≡ Some x) × (y ≡ f x)
 option_map_some f None y e = absurd (cc)

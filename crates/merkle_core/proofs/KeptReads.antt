@@ -1,8 +1,8 @@
 -- What the proof of leaves at or after the boundary reads is held.
-use Rattle.std.proofs.Common.{inl, inr, ◌≡◌, ◌≢◌, ◌<◌, ℕ, suc, ◌+◌, ◌≤◌, List, [], ◌∷◌, ◌++◌, length, map, flat_map, Bool, true, cond, Some, None, slice_get, refl, ap, sym, ◌∙◌, subst, arith, leb, ltb}
+use Rattle.std.proofs.Common.{inl, inr, ◌≡◌, ◌≢◌, ◌<◌, ℕ, ◌+◌, ◌≤◌, List, [], ◌∷◌, ◌++◌, length, map, flat_map, Bool, true, cond, Some, None, slice_get, refl, ap, sym, ◌∙◌, subst, arith, leb, ltb}
 use Rattle.std.specs.Prelude.{◌||◌}
 use Rattle.std.specs.List.{AllByRecursion}
-use Rattle.std.proofs.lemmas.Bool.{leb-true}
+use Rattle.std.proofs.lemmas.Bool.{leb-true, and_parts, or_cases}
 use Rattle.merkle_base.specs.Tree.{Tree, leaf, join, position, IsUnder, IsBuilt}
 use Rattle.merkle_base.specs.Forest.{forest}
 use Rattle.merkle_base.specs.Hashing.{Hashing}
@@ -11,8 +11,6 @@ use Rattle.merkle_base.specs.Places.{peaks_of, wholly_before}
 use Rattle.merkle_base.specs.declared.error.Error.{Error}
 use Rattle.merkle_base.specs.declared.error.Error.TheVariants.{OutOfMemory}
 use Rattle.merkle_base.specs.declared.family.Bagging.TheVariants.{ForwardFold}
-use Rattle.merkle_base.proofs.Births.{all_get}
-use Rattle.merkle_base.proofs.Growth.{forest_grown}
 use Rattle.merkle_base.proofs.Nodes.{all_append}
 use Rattle.merkle_proof.specs.Check.{Setting}
 use Rattle.merkle_proof.specs.Input.{setting}
@@ -23,13 +21,12 @@ use Rattle.merkle_proof.proofs.BuiltDigests.{reads_at}
 use Rattle.merkle_proof.proofs.Extraction.{all_filter}
 use Rattle.merkle_core.specs.Contents.{Contents, Agrees, is_kept}
 use Rattle.merkle_core.proofs.HonestReads.{is_memory, position_of_node}
-use Rattle.merkle_core.proofs.Items.{and_left, by_test, or_cases, get_reversed}
+use Rattle.merkle_core.proofs.Items.{get_reversed}
 use Rattle.merkle_core.proofs.Kept.{get_map}
 use Rattle.merkle_core.proofs.Needs.{sibling_kept, peaks_kept}
-
-all_of_get : {X : Type 0} (P : X → Type 0) (xs : List X) → ((i : ℕ) (x : X) → slice_get xs i ≡ Some x → P x) → AllByRecursion P xs
-all_of_get P [] f = tt
-all_of_get P (x ∷ xs) f = (f 0 x refl, all_of_get P xs (λ i y e. f (suc i) y e))
+use Rattle.merkle_proof.proofs.Claims.{by_test}
+use Rattle.merkle_base.proofs.Lists.{all_from_get}
+use Rattle.merkle_base.proofs.PeakLists.{peaks_built}
 
 met_leaf : (c : ℕ → Bool) (t : Tree) → tree_meets c t ≡ true → (q k : ℕ) × IsUnder (leaf q k) t × (c k ≡ true)
 met_leaf c (leaf q k) e = (q, k, refl, e)
@@ -57,17 +54,14 @@ module _ (rule : List ℕ → List ℕ) (boundary n : ℕ) (within : boundary �
     all_siblings_kept (t ∷ ts) w k = all_append IsKeptTree (siblings c t) (flat_map (siblings c) ts) (siblings_kept t w.0 k.0) (all_siblings_kept ts w.1 k.1)
 
   peaks_all_kept : AllByRecursion IsKeptTree (peaks_of rule n)
-  peaks_all_kept = all_of_get IsKeptTree (peaks_of rule n) (λ i t e. let j = get_reversed (forest rule n).peaks i t e in peaks_kept rule boundary n j.0 t within j.1)
-
-  peaks_all_built : AllByRecursion (IsBuilt (forest rule n).nodes) (peaks_of rule n)
-  peaks_all_built = all_of_get (IsBuilt (forest rule n).nodes) (peaks_of rule n) (λ i t e. let j = get_reversed (forest rule n).peaks i t e in all_get (IsBuilt (forest rule n).nodes) (forest rule n).peaks j.0 t (forest_grown rule n).built j.1)
+  peaks_all_kept = all_from_get IsKeptTree (peaks_of rule n) (λ i t e. let j = get_reversed (forest rule n).peaks i t e in peaks_kept rule boundary n j.0 t within j.1)
 
   pub reads_kept : (a b : ℕ) → boundary ≤ a → AllByRecursion IsKeptTree (nodes_read rule n a b)
   reads_kept a b low =
       let ts = peaks_of rule n in
       all_append IsKeptTree (wholly_before a ts) (wholly_after b ts ++ range_siblings a b ts) (all_filter IsKeptTree _ ts peaks_all_kept)
       (all_append IsKeptTree (wholly_after b ts) (range_siblings a b ts) (all_filter IsKeptTree _ ts peaks_all_kept)
-      (all_siblings_kept (in_range a b) (λ k e. let f : a ≤ k = leb-true a k (and_left (leb a k) (ltb k b) e) in omega (arith, f, low)) (overlapping a b ts) (all_filter (IsBuilt (forest rule n).nodes) _ ts peaks_all_built) (all_filter IsKeptTree _ ts peaks_all_kept)))
+      (all_siblings_kept (in_range a b) (λ k e. let f : a ≤ k = leb-true a k (and_parts (leb a k) (ltb k b) e).0 in omega (arith, f, low)) (overlapping a b ts) (all_filter (IsBuilt (forest rule n).nodes) _ ts (peaks_built rule n)) (all_filter IsKeptTree _ ts peaks_all_kept)))
 
   pub position_kept : (ts : List Tree) → AllByRecursion IsKeptTree ts → (done rest : List ℕ) (p : ℕ) → map position ts ≡ done ++ p ∷ rest → is_kept rule boundary p ≡ true
   position_kept [] k [] rest p e = absurd (cc)

@@ -15,9 +15,10 @@ use Rattle.merkle_core.specs.Recorded.{Recorded}
 use Rattle.merkle_core.specs.Replay.{over}
 use Rattle.merkle_core.specs.Stands.{edited, is_touched, replaced, IsStep}
 use Rattle.merkle_core.proofs.Complete.{same_touch}
-use Rattle.merkle_core.proofs.Edits.{get_left, same_gets, old_entry, new_entry, replaced_count, replaced_get}
+use Rattle.merkle_core.proofs.Edits.{get_left, same_gets, old_entry, new_entry, replaced_get}
 use Rattle.merkle_core.proofs.Items.{get_drop}
-use Rattle.merkle_core.proofs.Steps.{node_there, node_digest_at, digests_length}
+use Rattle.merkle_core.proofs.Steps.{node_digest_at, digests_length, replaced_length}
+use Rattle.merkle_base.proofs.Lists.{get_exists}
 
 module _ {D : Type 0} (h : Hashing D) (rule : List ℕ → List ℕ) (m : ℕ → Option D) (X added : List D) where
   -- the list after the updates of m
@@ -25,15 +26,15 @@ module _ {D : Type 0} (h : Hashing D) (rule : List ℕ → List ℕ) (m : ℕ �
   changed = replaced rule m 0 X ++ added
 
   pub changed_length : length changed ≡ length X + length added
-  changed_length = omega (arith, length-append (replaced rule m 0 X) added, replaced_count rule m 0 X)
+  changed_length = omega (arith, length-append (replaced rule m 0 X) added, replaced_length rule m 0 X)
 
   pub changed_old : (k : ℕ) → k < length X → slice_get changed k ≡ over (m (size rule k)) (slice_get X k)
   changed_old k l =
       let z : 0 + k ≡ k = omega arith in
-      get_left (replaced rule m 0 X) added k (omega (arith, l, replaced_count rule m 0 X)) ∙ replaced_get rule m 0 X k ∙ ap (λ (i : ℕ). over (m (size rule i)) (slice_get X k)) z
+      get_left (replaced rule m 0 X) added k (omega (arith, l, replaced_length rule m 0 X)) ∙ replaced_get rule m 0 X k ∙ ap (λ (i : ℕ). over (m (size rule i)) (slice_get X k)) z
 
   pub changed_new : (k : ℕ) → slice_get changed (length X + k) ≡ slice_get added k
-  changed_new k = ap (λ (n : ℕ). slice_get changed (n + k)) (sym (replaced_count rule m 0 X)) ∙ get_append_add (replaced rule m 0 X) added k
+  changed_new k = ap (λ (n : ℕ). slice_get changed (n + k)) (sym (replaced_length rule m 0 X)) ∙ get_append_add (replaced rule m 0 X) added k
 
   -- its entry at a leaf
   pub entry_digest : (Y : List D) (k : ℕ) → slice_get (node_digests h rule Y) (size rule k) ≡ slice_get Y k
@@ -64,7 +65,7 @@ module _ {D : Type 0} (h : Hashing D) (rule : List ℕ → List ℕ) (m : ℕ �
 
     edit_is : changed ≡ edited rule step_record X
     edit_is = same_gets changed (edited rule step_record X) (λ k. elim (cases_lt k (length X)) [
-      | inl l ↦ (let x = node_there X k l in
+      | inl l ↦ (let x = get_exists X k l in
           let t : Tree = leaf (size rule k) k in
           let n : slice_get changed k ≡ Some (digest_at h changed t) = slice_get-get_or changed k h.empty (omega (arith, l, changed_length)) in
           changed_old k l

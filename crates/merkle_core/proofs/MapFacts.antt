@@ -2,15 +2,19 @@
 use Rattle.std.proofs.Common.{◌≡◌, ℕ, zero, suc, List, [], ◌∷◌, length, Bool, true, false, Some, None, cond, arith, refl, sym, ap, ◌∙◌, nat_eq}
 use Rattle.std.specs.Prelude.{◌==◌, ◌↔◌, IsTrue}
 use Rattle.std.specs.Ordering.{nat_cmp, eq_by_cmp}
-use Rattle.std.specs.Cmp.{nat_cmp_total}
-use Rattle.std.specs.FinMap.{get, insert, len, from_entries, get-from_entries, get-insert, get-empty, len-empty, empty_of_len, same_map, nat_cmp-IsAntisymmetric}
+use Rattle.std.specs.Cmp.{nat_cmp_total, unsigned_tied}
+use Rattle.std.specs.FinMap.{get, insert, len, from_entries, get-from_entries, get-insert, get-empty, len-empty, empty_of_len, same_map, nat_cmp-IsAntisymmetric, FinMap}
 use Rattle.std.specs.Map.{lookup}
 use Rattle.std.proofs.lemmas.Bool.{ne_eqb}
 use Rattle.std.proofs.lemmas.Bool.Decides.{nat_tests}
-use Rattle.merkle_core.proofs.Stored.{find_lookup, is_eq-nat_cmp}
+use Rattle.merkle_core.proofs.Stored.{find_lookup}
 
 pub eqb_comm : (p k : ℕ) → nat_eq p k ≡ nat_eq k p
 eqb_comm p k = grind (arith, nat_tests)
+
+-- what is got after one more insertion
+pub inserted_at : {D : Type 0} (ow : FinMap nat_cmp D) (k : ℕ) (d : D) (q : ℕ) → get (insert ow k d) q ≡ cond (q == k) (Some d) (get ow q)
+inserted_at ow k d q = get-insert nat_cmp_total ow k d q ∙ ap (λ b. cond b (Some d) (get ow q)) (unsigned_tied q k)
 
 not_zero : (n : ℕ) → (n ≡ 0 → ⊥) → (n == 0) ≡ false
 not_zero n h = ne_eqb n 0 h
@@ -45,4 +49,4 @@ module _ {D : Type 0} where
   -- an entry put into the list is put into the map
   pub put_entry : (m n : List (ℕ × D)) (k : ℕ) (v : D) → ((q : ℕ) → lookup (nat_eq q) n ≡ cond (nat_eq k q) (Some v) (lookup (nat_eq q) m)) → from_entries {R = nat_cmp} n ≡ insert (from_entries m) k v
   put_entry m n k v h =
-      same_map nat_cmp_total nat_cmp-IsAntisymmetric _ _ (λ q. get_entries n q ∙ h q ∙ ap (λ b. cond b (Some v) (lookup (nat_eq q) m)) (eqb_comm k q ∙ sym (is_eq-nat_cmp q k)) ∙ ap (cond (eq_by_cmp nat_cmp q k) (Some v)) (sym (get_entries m q)) ∙ sym (get-insert nat_cmp_total (from_entries m) k v q))
+      same_map nat_cmp_total nat_cmp-IsAntisymmetric _ _ (λ q. get_entries n q ∙ h q ∙ ap (λ b. cond b (Some v) (lookup (nat_eq q) m)) (eqb_comm k q ∙ sym (unsigned_tied q k)) ∙ ap (cond (eq_by_cmp nat_cmp q k) (Some v)) (sym (get_entries m q)) ∙ sym (get-insert nat_cmp_total (from_entries m) k v q))

@@ -4,14 +4,14 @@ use Rattle.std.specs.Prelude.{◌&&◌, ◌==◌, is_some}
 use Rattle.std.specs.Cmp.Lexicographic.{pointwise, pointwise_decides}
 use Rattle.std.proofs.lemmas.Bool.{eq-eqb}
 use Rattle.merkle_base.specs.Forest.{size}
-use Rattle.merkle_base.proofs.Lists.{get_front}
+use Rattle.merkle_base.proofs.Lists.{get_front, get_exists}
 use Rattle.merkle_base.specs.Hashing.{Hashing, TellsApart}
 use Rattle.merkle_base.specs.Digests.{peak_digests}
 use Rattle.merkle_core.specs.Contents.{Contents, Agrees, held_peaks}
 use Rattle.merkle_core.specs.Recorded.{Chain, records, after}
 use Rattle.merkle_core.specs.Replay.{last_match, oldest, begins_at, ends_at, matched}
 use Rattle.merkle_core.specs.Stands.{StandsOn}
-use Rattle.merkle_core.proofs.Steps.{node_there, step_size}
+use Rattle.merkle_core.proofs.Steps.{step_size}
 use Rattle.merkle_core.proofs.Accepted.{peaks_agree, stands_at, head_stands}
 
 last_some : {X : Type 0} (test : X → Bool) (xs : List X) (j : ℕ) (x : X) → slice_get xs j ≡ Some x → test x ≡ true → is_some (last_match test xs) ≡ true
@@ -41,7 +41,7 @@ module _ {D : Type 0} (h : Hashing D) (rule : List ℕ → List ℕ) where
       (a.sized ∙ ap (λ Z. size rule (length Z)) (sym d) ∙ sym w.4.before) (peaks_agree h rule c X a ∙ ap (peak_digests h rule) (sym d) ∙ sym w.4.peaks_before) in
       ap (λ t. is_some {T = ℕ} (cond t (Some 0) (last_match (ends_at h.same c.size (held_peaks rule (length X) c)) k.ancestors))) b)
   accepts law k ls c X (suc i) s g l a =
-      (let r = node_there k.ancestors i (omega (arith, l)) in
+      (let r = get_exists k.ancestors i (omega (arith, l)) in
       let w = stands_at h rule (records k) ls i r.0 s (get_front k.ancestors (k.own ∷ []) i r.0 r.1) in
       let d : w.1 ≡ X = (let m : Some w.1 ≡ Some X = sym w.3 ∙ g in cc) in
       let b : ends_at h.same c.size (held_peaks rule (length X) c) r.0 ≡ true =

@@ -5,6 +5,7 @@ use Rattle.std.specs.Option.{option_or}
 use Rattle.std.specs.Ordering.{nat_cmp}
 use Rattle.std.specs.FinMap.{FinMap, get}
 use Rattle.std.proofs.lemmas.Option.{get_or_from_slice_get}
+use Rattle.std.proofs.lemmas.Bool.{or_parts}
 use Rattle.merkle_base.specs.Tree.{Tree, leaf, join, IsBuilt}
 use Rattle.merkle_base.specs.Forest.{forest, size}
 use Rattle.merkle_base.specs.Hashing.{Hashing}
@@ -24,15 +25,14 @@ use Rattle.merkle_core.specs.Stands.{is_touched, replaced, IsStep, StandsOn, las
 use Rattle.merkle_core.specs.Truth.{LeavesAre, ReadsTrue}
 use Rattle.merkle_core.proofs.Complete.{none_missing}
 use Rattle.merkle_core.proofs.Forking.{kept_stands, last_size, stands_more}
-use Rattle.merkle_core.proofs.Items.{or_none}
 use Rattle.merkle_core.proofs.ListTruths.{truth_of, truth_leaves}
 use Rattle.merkle_core.proofs.Makings.{changed, changed_length, changed_old, step_is}
 use Rattle.merkle_core.proofs.NewDigests.{new_digest, new_digest_past, new_digest_some}
 use Rattle.merkle_core.proofs.OldNodes.{old_digest, old_reads}
-use Rattle.merkle_core.proofs.Edits.{replaced_count}
-use Rattle.merkle_core.proofs.Steps.{node_digest_at, node_there}
+use Rattle.merkle_core.proofs.Steps.{node_digest_at, replaced_length}
 use Rattle.merkle_core.proofs.Through.{read_right}
 use Rattle.merkle_core.proofs.OptionFacts.{none_of, over_none}
+use Rattle.merkle_base.proofs.Lists.{get_exists}
 
 over_new : {D : Type 0} (d : D) (o : Option D) (x : D) → o ≡ Some x → over (Some d) o ≡ Some d
 over_new d None x e = absurd (cc)
@@ -44,17 +44,17 @@ module _ {D : Type 0} (h : Hashing D) (rule : List ℕ → List ℕ) (m : ℕ �
   unchanged_digest (leaf q k) b u =
       let a = leaf_at rule (length X) q q k b in
       let Y : List D = changed h rule m X added in
-      let x = node_there X k a.1 in
+      let x = get_exists X k a.1 in
       let here : slice_get Y k ≡ Some x.0 = changed_old h rule m X added k a.1 ∙ ap (λ o. over o (slice_get X k)) (ap m (sym a.0) ∙ none_of (m q) u) ∙ over_none (slice_get X k) ∙ x.1 in
       get_or_from_slice_get Y k x.0 h.empty here ∙ sym (get_or_from_slice_get X k x.0 h.empty x.1)
   unchanged_digest (join q l r) b u =
-      let n = or_none (is_touched m l) (is_touched m r) u in
+      let n = or_parts (is_touched m l) (is_touched m r) u in
       ap (λ d. h.node q d (digest_at h (changed h rule m X added) r)) (unchanged_digest l b.4 n.0) ∙ ap (λ d. h.node q (digest_at h X l) d) (unchanged_digest r b.5 n.1)
 
   -- a changed leaf has its new digest
   pub changed_digest : (k : ℕ) (d : D) → k < length X → m (size rule k) ≡ Some d → d ≡ digest_at h (changed h rule m X added) (leaf (size rule k) k)
   changed_digest k d l e =
-      let x = node_there X k l in
+      let x = get_exists X k l in
       sym (get_or_from_slice_get (changed h rule m X added) k d h.empty (changed_old h rule m X added k l ∙ ap (λ o. over o (slice_get X k)) e ∙ over_new d (slice_get X k) x.0 x.1))
 
 module _ {D : Type 0} (h : Hashing D) (rule : List ℕ → List ℕ) (max_leaves : ℕ) (p : Pending D) (pending : IsPending rule max_leaves p) (ls : List (List D)) (stands : StandsOn h rule (records p.parent) ls) where
@@ -79,7 +79,7 @@ module _ {D : Type 0} (h : Hashing D) (rule : List ℕ → List ℕ) (max_leaves
 
   -- the added leaves
   pub list_leaves : LeavesAre (truth_of h rule max_leaves list) rule p.leaves_before p.added
-  list_leaves = subst (λ (n : ℕ). LeavesAre (truth_of h rule max_leaves list) rule n p.added) (replaced_count rule (get p.overwritten) 0 last ∙ sym leaves_are)
+  list_leaves = subst (λ (n : ℕ). LeavesAre (truth_of h rule max_leaves list) rule n p.added) (replaced_length rule (get p.overwritten) 0 last ∙ sym leaves_are)
       (truth_leaves h rule max_leaves list list_within (replaced rule (get p.overwritten) 0 last) p.added refl)
 
   module _ (base : Contents D) (agrees : AgreesWithOne h rule base (kept_lists p ls)) where

@@ -2,7 +2,7 @@
 use Rattle.std.proofs.Common.{◌≡◌, ℕ, ◌≤◌, List, Option, Some, None, true, false, cond, slice_get, arith, refl, sym, ap, inl, inr, ◌∙◌, subst}
 use Rattle.std.specs.Prelude.{is_some, nat_le}
 use Rattle.std.specs.Option.{option_or}
-use Rattle.std.proofs.lemmas.Bool.{cases_lt, le-leb, leb-true}
+use Rattle.std.proofs.lemmas.Bool.{cases_lt, le-leb, leb-true, or_cases, or_left, or_right}
 use Rattle.merkle_base.specs.Tree.{Tree, join, position, IsBuilt}
 use Rattle.merkle_base.specs.Forest.{forest, size}
 use Rattle.merkle_base.specs.Hashing.{Hashing}
@@ -18,12 +18,10 @@ use Rattle.merkle_core.specs.Refreshed.{AreRefreshed, LacksForOne, refreshed}
 use Rattle.merkle_core.specs.Stands.{is_touched}
 use Rattle.merkle_core.specs.declared.gap.Gap.{Gap}
 use Rattle.merkle_core.specs.declared.gap.Gap.TheVariants.{Missing}
-use Rattle.merkle_core.proofs.Items.{by_test, get_reverse, get_reversed, or_cases, or_left, or_right}
+use Rattle.merkle_core.proofs.Items.{get_reverse, get_reversed}
 use Rattle.merkle_core.proofs.RefreshedDigests.{read_is_child, read_is_untouched, read_child, refreshed_reads, touched_above, some_of}
-
-is_none : {D : Type 0} (a b : Option D) → option_or a b ≡ None → (a ≡ None) × (b ≡ None)
-is_none None b e = (refl, e)
-is_none (Some x) b e = absurd (cc)
+use Rattle.merkle_proof.proofs.Claims.{by_test}
+use Rattle.merkle_core.proofs.OptionFacts.{both_none}
 
 -- it names a needed node that is not there
 abbrev pub NeededGap : {F D : Type 0} → (List ℕ → List ℕ) → ℕ → ℕ → (m below : ℕ → Option D) → Gap F → Type 0
@@ -60,7 +58,7 @@ module _ {D : Type 0} (h : Hashing D) (rule : List ℕ → List ℕ) (n e : ℕ)
   -- where neither is there the node is untouched
   untouched_gap : (t : Tree) → slice_get (forest rule n).nodes (position t) ≡ Some t → option_or (O (position t)) (below (position t)) ≡ None → (is_touched m t ≡ false) × (below (position t) ≡ None)
   untouched_gap t there gap =
-      let k = is_none (O (position t)) (below (position t)) gap in (
+      let k = both_none (O (position t)) (below (position t)) gap in (
         by_test (λ b. is_touched m t ≡ b → b ≡ false) (is_touched m t)
             (λ b c. absurd (let w = some_of (refreshed h m below t) (some (position t) t there b) in
             let f : None ≡ Some w.0 = sym k.0 ∙ fact (position t) t there ∙ ap (λ x. cond x (refreshed h m below t) None) b ∙ w.1 in cc))

@@ -1,7 +1,7 @@
 -- What is needed is kept.
 use Rattle.std.proofs.Common.{◌≡◌, ℕ, ◌≤◌, List, Option, Some, true, slice_get, arith, refl, sym, inl, inr, subst}
 use Rattle.std.specs.Prelude.{is_some}
-use Rattle.std.proofs.lemmas.Bool.{leb-true}
+use Rattle.std.proofs.lemmas.Bool.{leb-true, or_cases}
 use Rattle.std.proofs.Common.{leb}
 use Rattle.merkle_base.specs.Tree.{Tree, leaf, join, position, IsUnder}
 use Rattle.merkle_base.specs.Forest.{forest, size}
@@ -13,7 +13,6 @@ use Rattle.merkle_base.proofs.Held.{children_held, peaks_held}
 use Rattle.merkle_core.specs.Contents.{is_kept}
 use Rattle.merkle_core.specs.Stands.{is_touched}
 use Rattle.merkle_core.specs.Needed.{is_computed, IsUsed}
-use Rattle.merkle_core.proofs.Items.{or_cases}
 use Rattle.merkle_core.proofs.Kept.{kept_held}
 
 -- a leaf under a touched tree has a digest

@@ -7,8 +7,8 @@ use Rattle.merkle_core.specs.Read.{written, newest}
 use Rattle.merkle_core.specs.Stands.{StandsOn, last_list}
 use Rattle.merkle_base.specs.Hashing.{Hashing}
 use Rattle.merkle_base.specs.Digests.{node_digests}
-use Rattle.merkle_core.proofs.Through.{option_assoc, option_none}
 use Rattle.merkle_core.proofs.Shown.{batch_shows}
+use Rattle.merkle_core.proofs.OptionFacts.{or_assoc, or_nothing}
 
 pub or_later : {D : Type 0} (o u : Option D) → is_some o ≡ false → option_or o u ≡ u
 or_later None u e = refl
@@ -16,14 +16,14 @@ or_later (Some d) u e = absurd (cc)
 
 module _ {D : Type 0} where
   pub newest_last : (rs : List (Recorded D)) (r : Recorded D) (p : ℕ) → newest (rs ++ r ∷ []) p ≡ option_or (written r p) (newest rs p)
-  newest_last [] r p = sym (option_none (written r p))
-  newest_last (q ∷ rs) r p = ap (λ o. option_or o (written q p)) (newest_last rs r p) ∙ option_assoc (written r p) (newest rs p) (written q p)
+  newest_last [] r p = sym (or_nothing (written r p))
+  newest_last (q ∷ rs) r p = ap (λ o. option_or o (written q p)) (newest_last rs r p) ∙ or_assoc (written r p) (newest rs p) (written q p)
 
   pub newest_taken : {A : Type 0} (f : A → Recorded D) (xs : List A) (i p : ℕ) (x : A) → i < length xs → x ≡ get_or xs i x → newest (take (suc i) (map f xs)) p ≡ option_or (written (f x) p) (newest (take i (map f xs)) p)
   newest_taken f [] i p x l e = absurd (omega arith)
-  newest_taken f (y ∷ ys) zero p x l e = ap (λ z. written (f z) p) (sym e) ∙ sym (option_none (written (f x) p))
+  newest_taken f (y ∷ ys) zero p x l e = ap (λ z. written (f z) p) (sym e) ∙ sym (or_nothing (written (f x) p))
   newest_taken f (y ∷ ys) (suc i) p x l e =
-      ap (λ o. option_or o (written (f y) p)) (newest_taken f ys i p x (omega arith) e) ∙ option_assoc (written (f x) p) (newest (take i (map f ys)) p) (written (f y) p)
+      ap (λ o. option_or o (written (f y) p)) (newest_taken f ys i p x (omega arith) e) ∙ or_assoc (written (f x) p) (newest (take i (map f ys)) p) (written (f y) p)
 
   -- a batch has what its own record has, or else the newest of its ancestors' records
   pub own_has : (k : Chain D) (p : ℕ) (d : D) → written k.own p ≡ Some d → newest (records k) p ≡ Some d

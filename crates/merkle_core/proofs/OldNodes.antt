@@ -13,10 +13,10 @@ use Rattle.merkle_core.specs.Drafts.{IsReadFor}
 use Rattle.merkle_core.specs.Refreshed.{refreshed}
 use Rattle.merkle_core.specs.Stands.{is_touched}
 use Rattle.merkle_core.specs.Truth.{ReadsTrue}
-use Rattle.merkle_core.proofs.Items.{by_test}
 use Rattle.merkle_core.proofs.ListTruths.{truth_of, truth_at}
 use Rattle.merkle_core.proofs.RefreshedDigests.{refreshed_right, some_of}
-use Rattle.merkle_core.proofs.Steps.{node_there}
+use Rattle.merkle_proof.proofs.Claims.{by_test}
+use Rattle.merkle_base.proofs.Lists.{get_exists}
 
 -- what is read for a tree stands under it and is untouched
 pub read_under : {D : Type 0} (m : ℕ → Option D) (t u : Tree) → IsReadFor m t u → IsUnder u t × (is_touched m u ≡ false)
@@ -54,5 +54,5 @@ module _ {D : Type 0} (h : Hashing D) (rule : List ℕ → List ℕ) (n : ℕ) (
 
   pub old_reads : (max_leaves : ℕ) (long : length Y ≤ max_leaves) → n ≤ max_leaves → ReadsTrue (λ p. option_or (O p) (below p)) (size rule n) (truth_of h rule max_leaves Y)
   old_reads max_leaves long l p d less g =
-      let k = node_there (forest rule n).nodes p less in
+      let k = get_exists (forest rule n).nodes p less in
       read_digest p k.0 d k.1 g ∙ sym (truth_at h rule max_leaves Y long n p k.0 l k.1)

@@ -24,6 +24,14 @@ pub or_nothing : {D : Type 0} (a : Option D) → option_or a None ≡ a
 or_nothing None = refl
 or_nothing (Some d) = refl
 
+pub or_assoc : {D : Type 0} (a b c : Option D) → option_or (option_or a b) c ≡ option_or a (option_or b c)
+or_assoc None b c = refl
+or_assoc (Some d) b c = refl
+
+pub both_none : {D : Type 0} (a b : Option D) → option_or a b ≡ None → (a ≡ None) × (b ≡ None)
+both_none None b e = (refl, e)
+both_none (Some d) b e = absurd (cc)
+
 pub over_none : {D : Type 0} (o : Option D) → over None o ≡ o
 over_none None = refl
 over_none (Some d) = refl

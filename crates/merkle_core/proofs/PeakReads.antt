@@ -1,5 +1,5 @@
 -- The peaks that a draft reads.
-use Rattle.std.proofs.Common.{◌≡◌, ℕ, zero, suc, ◌<◌, List, [], ◌∷◌, ◌++◌, length, map, Option, Some, true, slice_get, arith, refl, sym, ap, ◌∙◌, subst}
+use Rattle.std.proofs.Common.{◌≡◌, ℕ, zero, suc, ◌<◌, List, [], ◌∷◌, ◌++◌, length, map, Option, Some, true, slice_get, arith, sym, ap, ◌∙◌, subst}
 use Rattle.std.specs.Prelude.{is_some}
 use Rattle.merkle_base.specs.Tree.{position}
 use Rattle.merkle_base.specs.Places.{peaks_of, placed}
@@ -7,6 +7,7 @@ use Rattle.merkle_core.specs.DraftReads.{ArePeaksRead, IsPeakGap}
 use Rattle.merkle_core.specs.Gaps.{IsGapAt}
 use Rattle.merkle_core.specs.declared.gap.Gap.{Gap}
 use Rattle.merkle_core.proofs.Kept.{get_map, get_mapped}
+use Rattle.merkle_base.proofs.Lists.{get_push}
 
 -- of these peaks those before position s are read
 abbrev pub AreFirstRead : {D : Type 0} → List (ℕ × ℕ) → ℕ → (ℕ → Option D) → Type 0
@@ -27,13 +28,9 @@ module _ {D : Type 0} (s : ℕ) (read : ℕ → Option D) where
   pub all_read : (rule : List ℕ → List ℕ) (n : ℕ) (done : List (ℕ × ℕ)) → done ≡ map placed (peaks_of rule n) → AreFirstRead done s read → ArePeaksRead rule n s read
   all_read rule n done same all i t e less = all i (placed t) (ap (λ xs. slice_get xs i) same ∙ get_map placed (peaks_of rule n) i t e) less
 
-get_middle : {A : Type 0} (done more : List A) (q : A) → slice_get (done ++ q ∷ more) (length done) ≡ Some q
-get_middle [] more q = refl
-get_middle (x ∷ done) more q = get_middle done more q
-
 -- a peak that is not there
 pub peak_lacks : {F D : Type 0} (rule : List ℕ → List ℕ) (n s : ℕ) (read : ℕ → Option D) (done more : List (ℕ × ℕ)) (q : ℕ × ℕ) (e : Gap F) → done ++ q ∷ more ≡ map placed (peaks_of rule n) → (q.0 < s) × IsGapAt read q.0 e → IsPeakGap rule n s read e
 peak_lacks rule n s read done more q e listed gap =
-    let t = get_mapped placed (peaks_of rule n) (length done) q (ap (λ xs. slice_get xs (length done)) (sym listed) ∙ get_middle done more q) in
+    let t = get_mapped placed (peaks_of rule n) (length done) q (ap (λ xs. slice_get xs (length done)) (sym listed) ∙ get_push done more q) in
     let here : q.0 ≡ position t.0 = ap (λ x. x.0) t.2 in
     (length done, t.0, t.1, omega (arith, gap.0, here), subst (λ (p : ℕ). IsGapAt read p e) here gap.1)

@@ -1,14 +1,14 @@
 -- Updates of a batch that is not merkleized yet, and why one is refused.
-use Rattle.std.proofs.Common.{◌≡◌, ℕ, suc, ◌+◌, ◌-◌, ◌<◌, ◌≤◌, ◌⊎◌, List, ◌++◌, length, set, drop, get_or, Some, None, true, cond, slice_get, arith, refl, sym, ap, inl, inr, ◌∙◌, ltb, add-one}
+use Rattle.std.proofs.Common.{◌≡◌, ℕ, suc, ◌+◌, ◌-◌, ◌<◌, ◌≤◌, List, ◌++◌, length, set, drop, get_or, Some, None, true, cond, slice_get, arith, refl, sym, ap, inl, inr, ◌∙◌, ltb, add-one}
 use Rattle.std.proofs.Math.Seq.{drop-cons}
 use Rattle.std.specs.Prelude.{is_some, ◌==◌}
 use Rattle.std.specs.Option.{option_or}
 use Rattle.std.specs.Map.{lookup}
 use Rattle.std.specs.BTreeMap.{is_at}
 use Rattle.std.specs.Ordering.{nat_cmp, is_eq}
-use Rattle.std.specs.Cmp.{nat_cmp_total}
+use Rattle.std.specs.Cmp.{nat_cmp_total, unsigned_tied}
 use Rattle.std.specs.FinMap.{FinMap, get, insert, from_entries, get-insert, get-from_entries, same_map, nat_cmp-IsAntisymmetric}
-use Rattle.std.proofs.lemmas.Bool.{eq-eqb, ne_eqb, eqb-true, le-leb, lt-leb, lt-ltb, le-ltb, cases_lt}
+use Rattle.std.proofs.lemmas.Bool.{eq-eqb, ne_eqb, eqb-true, le-leb, lt-leb, lt-ltb, le-ltb, cases_lt, cases_eq}
 use Rattle.std.proofs.lemmas.Bool.Decides.{nat_tests}
 use Rattle.std.proofs.lemmas.List.{length-set, set-append_left, set-append_right}
 use Rattle.merkle_base.specs.Forest.{size}
@@ -16,13 +16,15 @@ use Rattle.merkle_base.proofs.Nodes.{size_inj}
 use Rattle.merkle_core.specs.Pending.{Pending, IsPending, OutOfBounds, Pruned, leaf_total, with_update, with_updates, update_fault, first_fault, pending_list}
 use Rattle.merkle_core.specs.Replay.{over}
 use Rattle.merkle_core.specs.Stands.{replaced}
-use Rattle.merkle_core.proofs.Items.{by_test}
-use Rattle.merkle_core.proofs.Steps.{node_there}
-use Rattle.merkle_core.proofs.Edits.{same_gets, get_set_same, get_set_other, replaced_get, replaced_count}
-use Rattle.merkle_core.proofs.Stored.{find_lookup, lookup_at, is_eq-nat_cmp}
+use Rattle.merkle_core.proofs.Steps.{replaced_length}
+use Rattle.merkle_core.proofs.Edits.{same_gets, get_set_same, get_set_other, replaced_get}
+use Rattle.merkle_core.proofs.Stored.{find_lookup, lookup_at}
+use Rattle.merkle_proof.proofs.Claims.{by_test}
+use Rattle.merkle_core.proofs.MapFacts.{inserted_at}
+use Rattle.merkle_base.proofs.Lists.{get_exists}
 
 turned : (p q : ℕ) → is_eq (nat_cmp p q) ≡ is_eq (nat_cmp q p)
-turned p q = is_eq-nat_cmp p q ∙ same ∙ sym (is_eq-nat_cmp q p)
+turned p q = unsigned_tied p q ∙ same ∙ sym (unsigned_tied q p)
   where
     same : p == q ≡ q == p
     same = grind (arith, nat_tests)
@@ -33,9 +35,6 @@ entries_inserted es fs k d e = same_map nat_cmp_total nat_cmp-IsAntisymmetric (f
     get-from_entries nat_cmp_total fs q ∙ find_lookup q fs ∙ sym (lookup_at q fs) ∙ e q
     ∙ ap (λ o. cond (is_eq (nat_cmp k q)) (Some d) o) (lookup_at q es ∙ sym (find_lookup q es) ∙ sym (get-from_entries nat_cmp_total es q))
     ∙ ap (λ b. cond b (Some d) (get (from_entries {R = nat_cmp} es) q)) (turned k q) ∙ sym (get-insert nat_cmp_total (from_entries es) k d q))
-
-get_put : {D : Type 0} (m : FinMap nat_cmp D) (k q : ℕ) (d : D) → get (insert m k d) q ≡ cond (q == k) (Some d) (get m q)
-get_put m k q d = get-insert nat_cmp_total m k d q ∙ ap (λ b. cond b (Some d) (get m q)) (is_eq-nat_cmp q k)
 
 module _ {D : Type 0} (rule : List ℕ → List ℕ) where
   -- ---- one update
@@ -56,7 +55,7 @@ module _ {D : Type 0} (rule : List ℕ → List ℕ) where
   old_kept max_leaves p k d m is l e = record {
     bounded = is.bounded;
     sized = is.sized;
-    leaves = λ q some. there q (sym (ap (λ n. is_some (get n q)) e ∙ ap is_some (get_put p.overwritten (size rule k) q d)) ∙ some);
+    leaves = λ q some. there q (sym (ap (λ n. is_some (get n q)) e ∙ ap is_some (inserted_at p.overwritten (size rule k) d q)) ∙ some);
     some = is.some;
   }
     where
@@ -68,19 +67,16 @@ module _ {D : Type 0} (rule : List ℕ → List ℕ) where
   old_list : (m : FinMap nat_cmp D) (X : List D) (k : ℕ) (d : D) → k < length X → replaced rule (get (insert m (size rule k) d)) 0 X ≡ set (replaced rule (get m) 0 X) k d
   old_list m X k d l = same_gets (replaced rule (get (insert m (size rule k) d)) 0 X) (set (replaced rule (get m) 0 X) k d) (λ i.
       replaced_get rule (get (insert m (size rule k) d)) 0 X i ∙ ap (λ (j : ℕ). over (get (insert m (size rule k) d) (size rule j)) (slice_get X i)) (zero_more i)
-      ∙ ap (λ o. over o (slice_get X i)) (get_put m (size rule k) (size rule i) d) ∙ here i)
+      ∙ ap (λ o. over o (slice_get X i)) (inserted_at m (size rule k) d (size rule i)) ∙ here i)
     where
       zero_more : (i : ℕ) → 0 + i ≡ i
       zero_more i = omega arith
 
-      three : (a b : ℕ) → (a ≡ b) ⊎ (a ≡ b → ⊥)
-      three a b = grind arith
-
       here : (i : ℕ) → over (cond (size rule i == size rule k) (Some d) (get m (size rule i))) (slice_get X i) ≡ slice_get (set (replaced rule (get m) 0 X) k d) i
-      here i = elim (three i k) [
-        | inl q ↦ (let v = node_there X i (omega (arith, q, l)) in
+      here i = elim (cases_eq i k) [
+        | inl q ↦ (let v = get_exists X i (omega (arith, q, l)) in
             ap (λ t. over (cond t (Some d) (get m (size rule i))) (slice_get X i)) (eq-eqb (size rule i) (size rule k) (ap (size rule) q)) ∙ ap (over (Some d)) v.1
-            ∙ sym (ap (slice_get (set (replaced rule (get m) 0 X) k d)) q ∙ get_set_same (replaced rule (get m) 0 X) k d (omega (arith, l, replaced_count rule (get m) 0 X))))
+            ∙ sym (ap (slice_get (set (replaced rule (get m) 0 X) k d)) q ∙ get_set_same (replaced rule (get m) 0 X) k d (omega (arith, l, replaced_length rule (get m) 0 X))))
         | inr q ↦
             ap (λ t. over (cond t (Some d) (get m (size rule i))) (slice_get X i)) (ne_eqb (size rule i) (size rule k) (λ e. q (size_inj rule i k e)))
             ∙ ap (λ (j : ℕ). over (get m (size rule j)) (slice_get X i)) (sym (zero_more i)) ∙ sym (replaced_get rule (get m) 0 X i) ∙ sym (get_set_other (replaced rule (get m) 0 X) k i d q)
@@ -90,10 +86,10 @@ module _ {D : Type 0} (rule : List ℕ → List ℕ) where
   update_list p k d X e = elim (cases_lt k p.leaves_before) [
     | inl l ↦
         ap (λ q. pending_list rule q X) (updated_old p k d l) ∙ ap (λ xs. xs ++ p.added) (old_list p.overwritten X k d (omega (arith, e, l)))
-        ∙ sym (set-append_left (replaced rule (get p.overwritten) 0 X) p.added k d (omega (arith, e, l, replaced_count rule (get p.overwritten) 0 X)))
+        ∙ sym (set-append_left (replaced rule (get p.overwritten) 0 X) p.added k d (omega (arith, e, l, replaced_length rule (get p.overwritten) 0 X)))
     | inr l ↦
         ap (λ q. pending_list rule q X) (updated_new p k d l)
-        ∙ sym (set-append_right (replaced rule (get p.overwritten) 0 X) p.added p.leaves_before k d (omega (arith, e, replaced_count rule (get p.overwritten) 0 X)) l)
+        ∙ sym (set-append_right (replaced rule (get p.overwritten) 0 X) p.added p.leaves_before k d (omega (arith, e, replaced_length rule (get p.overwritten) 0 X)) l)
   ]
 
   -- ---- faults

@@ -3,7 +3,7 @@ use Rattle.std.proofs.Common.{◌≡◌, ℕ, zero, suc, ◌+◌, ◌-◌, ◌<�
 use Rattle.std.specs.Prelude.{is_some, ◌||◌}
 use Rattle.std.specs.List.{list_any}
 use Rattle.std.specs.Map.{lookup}
-use Rattle.std.proofs.lemmas.Bool.{cases_lt, lt-ltb, le-ltb, lt-leb, eqb-true}
+use Rattle.std.proofs.lemmas.Bool.{cases_lt, lt-ltb, le-ltb, lt-leb, eqb-true, or_right}
 use Rattle.merkle_base.specs.Forest.{size}
 use Rattle.merkle_base.specs.Heights.{IsLawful}
 use Rattle.merkle_base.specs.Places.{peak_positions}
@@ -14,8 +14,9 @@ use Rattle.merkle_core.specs.HeldPeaks.{pins_of}
 use Rattle.merkle_core.specs.Whole.{IsCounted, IsKept}
 use Rattle.merkle_core.proofs.Chains.{same_contents}
 use Rattle.merkle_core.proofs.HeldNodes.{peak_before}
-use Rattle.merkle_core.proofs.Items.{by_test, or_right, get_drop}
+use Rattle.merkle_core.proofs.Items.{get_drop}
 use Rattle.merkle_core.proofs.Kept.{kept_before, kept_from}
+use Rattle.merkle_proof.proofs.Claims.{by_test}
 
 -- as many digests as positions: a pin at each of these
 pub lookup_paired : {D : Type 0} (p : ℕ) (ps : List ℕ) (ds : List D) → length ds ≡ length ps → is_some (lookup (nat_eq p) (paired ps ds)) ≡ list_any (nat_eq p) ps

@@ -3,7 +3,7 @@ use Rattle.std.proofs.Common.{◌≡◌, ℕ, zero, suc, ◌<◌, ◌≤◌, Lis
 use Rattle.std.specs.Map.{lookup}
 use Rattle.std.proofs.lemmas.Bool.{eqb-true}
 use Rattle.merkle_core.specs.Replay.{over}
-use Rattle.merkle_core.proofs.Items.{by_test}
+use Rattle.merkle_proof.proofs.Claims.{by_test}
 
 -- the pair, with the digest if it stands at that position
 abbrev pub put : {D : Type 0} → ℕ → D → ℕ × D → ℕ × D

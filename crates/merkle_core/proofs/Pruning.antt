@@ -11,9 +11,10 @@ use Rattle.merkle_base.specs.Places.{peak_positions}
 use Rattle.merkle_core.specs.Contents.{Contents, is_kept, pruned, held_peaks}
 use Rattle.merkle_core.specs.Recorded.{Recorded, Chain, records}
 use Rattle.merkle_core.specs.Replay.{laid, all_laid, matched, refusal, applied, Refusal}
-use Rattle.merkle_core.proofs.Items.{by_test, get_reversed}
+use Rattle.merkle_core.proofs.Items.{get_reversed}
 use Rattle.merkle_core.proofs.Kept.{kept_from, kept_before, kept_peak, get_mapped}
 use Rattle.merkle_core.proofs.Agreed.{over_cond}
+use Rattle.merkle_proof.proofs.Claims.{by_test}
 
 pub flat_same : {A B : Type 0} (f g : A → List B) (xs : List A) → ((i : ℕ) (x : A) → slice_get xs i ≡ Some x → f x ≡ g x) → flat_map f xs ≡ flat_map g xs
 flat_same f g [] e = refl

@@ -1,9 +1,8 @@
 -- The new digests of nodes above changed leaves: that they are right, where they are computed, and what is read for them.
 use Rattle.std.proofs.Common.{◌≡◌, ℕ, zero, suc, ◌<◌, ◌≤◌, ◌⊎◌, List, [], ◌∷◌, Option, Some, None, Bool, true, false, cond, slice_get, arith, refl, sym, ap, inl, inr, ◌∙◌, subst}
 use Rattle.std.specs.Prelude.{is_some, ◌==◌}
-use Rattle.std.specs.List.{AllByRecursion}
 use Rattle.std.specs.Option.{option_or}
-use Rattle.std.proofs.lemmas.Bool.{true≢false, false≢true}
+use Rattle.std.proofs.lemmas.Bool.{true≢false, false≢true, or_left, or_right, cases_Bool}
 use Rattle.std.proofs.lemmas.Bool.Decides.{eqb_tells}
 use Rattle.merkle_base.specs.Tree.{Tree, leaf, join, position, IsUnder, IsBuilt}
 use Rattle.merkle_base.specs.Forest.{forest, size}
@@ -11,22 +10,18 @@ use Rattle.merkle_base.specs.Places.{peaks_of}
 use Rattle.merkle_base.specs.Hashing.{Hashing}
 use Rattle.merkle_base.specs.Digests.{digest_at}
 use Rattle.merkle_base.proofs.Growth.{forest_grown}
-use Rattle.merkle_base.proofs.Lists.{get_below}
+use Rattle.merkle_base.proofs.Lists.{get_below, one_there}
 use Rattle.merkle_base.proofs.Births.{all_get}
 use Rattle.merkle_base.proofs.Nodes.{built_under, peak_of}
 use Rattle.merkle_base.proofs.Paths.{position_under}
-use Rattle.merkle_base.proofs.PeakLists.{all_reverse}
+use Rattle.merkle_base.proofs.PeakLists.{peaks_built}
 use Rattle.merkle_core.specs.Stands.{is_touched}
 use Rattle.merkle_core.specs.Drafts.{IsReadFor}
 use Rattle.merkle_core.specs.Refreshed.{of_both, refreshed, computed_at, all_computed_at, AreRefreshed}
-use Rattle.merkle_core.proofs.Items.{or_left, or_right, get_reverse}
+use Rattle.merkle_core.proofs.Items.{get_reverse}
 use Rattle.merkle_core.proofs.OptionFacts.{none_of, none_or_some, or_second}
 
 -- ---- options
-pub is_or_not : (b : Bool) → (b ≡ true) ⊎ (b ≡ false)
-is_or_not true = inl refl
-is_or_not false = inr refl
-
 pub some_of : {D : Type 0} (o : Option D) → is_some o ≡ true → (d : D) × (o ≡ Some d)
 some_of None e = absurd (false≢true e)
 some_of (Some d) e = (d, refl)
@@ -70,9 +65,6 @@ eqb_yes a b e = elim (eqb_tells a b) [ inl s ↦ s.0 | inr s ↦ absurd (s.1 e) 
 eqb_no : (a b : ℕ) → a < b → (a == b) ≡ false
 eqb_no a b l = elim (eqb_tells a b) [ inl s ↦ absurd (omega (arith, l, s.1)) | inr s ↦ s.0 ]
 
-one_there : {A : Type 0} (xs : List A) (i : ℕ) (x y : A) → slice_get xs i ≡ Some x → slice_get xs i ≡ Some y → x ≡ y
-one_there xs i x y e f = cc
-
 -- ---- a merged node, and what lies below it
 pub touched_above : {D : Type 0} (m : ℕ → Option D) (a t : Tree) → IsUnder a t → is_touched m a ≡ true → is_touched m t ≡ true
 touched_above m a (leaf p n) u e = subst (λ s. is_touched m s ≡ true) u e
@@ -96,7 +88,7 @@ module _ {D : Type 0} (h : Hashing D) (m below : ℕ → Option D) where
     | inr o ↦ (let c : o.0 ≡ d = (let g : Some o.0 ≡ Some d = sym (or_first (m q) (below q) o.0 o.1) ∙ e in cc) in
         sym c ∙ new q k o.0 refl o.1)
   ]
-  refreshed_right Y (join p l r) d e reads new = elim (is_or_not (is_touched m (join p l r))) [
+  refreshed_right Y (join p l r) d e reads new = elim (cases_Bool (is_touched m (join p l r))) [
     | inl b ↦ (let w = both_some (h.node p) (refreshed h m below l) (refreshed h m below r) d (sym (refreshed_touched p l r b) ∙ e) in
         let x : w.0 ≡ digest_at h Y l = refreshed_right Y l w.0 w.2 (λ u a v. reads u a (inr (b, inl v))) (λ q k a v. new q k a (inr (inl v))) in
         let y : w.1 ≡ digest_at h Y r = refreshed_right Y r w.1 w.3 (λ u a v. reads u a (inr (b, inr v))) (λ q k a v. new q k a (inr (inr v))) in
@@ -132,7 +124,7 @@ module _ {D : Type 0} (h : Hashing D) (m below : ℕ → Option D) where
   -- a computed digest is that of a changed merged node at the position
   pub computed_of : (t : Tree) (q : ℕ) (d : D) → computed_at h m below t q ≡ Some d → (l r : Tree) × IsUnder (join q l r) t × (is_touched m (join q l r) ≡ true) × (refreshed h m below (join q l r) ≡ Some d)
   computed_of (leaf p n) q d e = absurd (cc)
-  computed_of (join p x y) q d e = elim (is_or_not (is_touched m (join p x y))) [
+  computed_of (join p x y) q d e = elim (cases_Bool (is_touched m (join p x y))) [
     | inr b ↦ absurd (let c : None ≡ Some d = sym (computed_untouched p x y q b) ∙ e in cc)
     | inl b ↦ (let f : cond (q == p) (refreshed h m below (join p x y)) (option_or (computed_at h m below y q) (computed_at h m below x q)) ≡ Some d = sym (computed_touched p x y q b) ∙ e in
         elim (eqb_tells q p) [
@@ -195,13 +187,10 @@ module _ {D : Type 0} (h : Hashing D) (m below : ℕ → Option D) where
 
   -- ---- of the peaks of a forest
   module _ (rule : List ℕ → List ℕ) (n : ℕ) where
-    peaks_built : AllByRecursion (IsBuilt (forest rule n).nodes) (peaks_of rule n)
-    peaks_built = all_reverse (IsBuilt (forest rule n).nodes) (forest rule n).peaks (forest_grown rule n).built
-
     pub peaks_computed_of : (q : ℕ) (d : D) → all_computed_at h m below (peaks_of rule n) q ≡ Some d → (l r : Tree) × (slice_get (forest rule n).nodes q ≡ Some (join q l r)) × (is_touched m (join q l r) ≡ true) × (refreshed h m below (join q l r) ≡ Some d)
     peaks_computed_of q d e =
         (let w = all_computed_of (peaks_of rule n) q d e in
-        let b : IsBuilt (forest rule n).nodes w.1 = all_get (IsBuilt (forest rule n).nodes) (peaks_of rule n) w.0 w.1 peaks_built w.4 in
+        let b : IsBuilt (forest rule n).nodes w.1 = all_get (IsBuilt (forest rule n).nodes) (peaks_of rule n) w.0 w.1 (peaks_built rule n) w.4 in
         (w.2, w.3, (built_under (forest rule n).nodes (join q w.2 w.3) w.1 w.5 b).0, w.6, w.7))
 
     peaks_computed_some : (q : ℕ) (l r : Tree) → AreRefreshed h m below (peaks_of rule n) → slice_get (forest rule n).nodes q ≡ Some (join q l r) → is_touched m (join q l r) ≡ true → is_some (all_computed_at h m below (peaks_of rule n) q) ≡ true
@@ -218,7 +207,7 @@ module _ {D : Type 0} (h : Hashing D) (m below : ℕ → Option D) where
         (let place : join p l r ≡ join q l r = ap (λ k. join k l r) ((forest_grown rule n).placed q (join p l r) e) in
         let x = some_of (all_computed_at h m below (peaks_of rule n) q) (peaks_computed_some q l r all (subst (λ a. slice_get (forest rule n).nodes q ≡ Some a) place e) (subst (λ a. is_touched m a ≡ true) place t)) in
         let y = peaks_computed_of q x.0 x.1 in
-        let f : refreshed h m below (join p l r) ≡ Some x.0 = subst (λ a. refreshed h m below a ≡ Some x.0) (one_there (forest rule n).nodes q (join q y.0 y.1) (join p l r) y.2 e) y.4 in
+        let f : refreshed h m below (join p l r) ≡ Some x.0 = subst (λ a. refreshed h m below a ≡ Some x.0) (one_there y.2 e) y.4 in
         (x.1 ∙ sym f, ap is_some f))
 
     not_computed : (q : ℕ) → ((l r : Tree) → slice_get (forest rule n).nodes q ≡ Some (join q l r) → is_touched m (join q l r) ≡ true → ⊥) → all_computed_at h m below (peaks_of rule n) q ≡ None
@@ -261,11 +250,11 @@ module _ {D : Type 0} (m : ℕ → Option D) where
   read_is_child (join p l r) u v e = elim v [
     | inl x ↦ absurd (true≢false (sym e ∙ x.0))
     | inr x ↦ elim x.1 [
-      | inl y ↦ elim (is_or_not (is_touched m l)) [
+      | inl y ↦ elim (cases_Bool (is_touched m l)) [
         | inl b ↦ (let w = read_is_child l u y b in (w.0, w.1, w.2, inr (inl w.3), w.4, w.5))
         | inr b ↦ (p, l, r, inl refl, e, inl (read_untouched l u b y))
       ]
-      | inr y ↦ elim (is_or_not (is_touched m r)) [
+      | inr y ↦ elim (cases_Bool (is_touched m r)) [
         | inl b ↦ (let w = read_is_child r u y b in (w.0, w.1, w.2, inr (inr w.3), w.4, w.5))
         | inr b ↦ (p, l, r, inl refl, e, inr (read_untouched r u b y))
       ]

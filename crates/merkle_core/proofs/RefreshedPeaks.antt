@@ -6,15 +6,15 @@ use Rattle.std.specs.Option.{option_or}
 use Rattle.std.specs.FinMap.{FinMap, get}
 use Rattle.std.specs.Ordering.{nat_cmp}
 use Rattle.std.proofs.lemmas.List.{nil_from_length}
-use Rattle.std.proofs.lemmas.Bool.{true≢false}
+use Rattle.std.proofs.lemmas.Bool.{true≢false, cases_Bool}
 use Rattle.std.proofs.lemmas.Bool.Decides.{eqb_tells}
 use Rattle.merkle_base.specs.Tree.{Tree, position, height, first_leaf, width, IsBuilt}
 use Rattle.merkle_base.specs.Forest.{forest, size}
 use Rattle.merkle_base.specs.Hashing.{Hashing}
 use Rattle.merkle_base.specs.Places.{placed, peaks_of}
 use Rattle.merkle_base.proofs.Growth.{forest_grown}
-use Rattle.merkle_base.proofs.Lists.{get_push, get_push_cases}
-use Rattle.merkle_base.proofs.Nodes.{size_le}
+use Rattle.merkle_base.proofs.Lists.{get_push, get_push_cases, cons_head, cons_tail, all_imply}
+use Rattle.merkle_base.proofs.Nodes.{size_le, all_append}
 use Rattle.merkle_base.proofs.PeakLists.{Spans, covers_spans, spans_end, all_reverse}
 use Rattle.merkle_proof.specs.Subtrees.{Stands, AreNodes}
 use Rattle.merkle_proof.proofs.PeakLoop.{peaks_at}
@@ -23,16 +23,9 @@ use Rattle.merkle_core.specs.declared.gap.Gap.TheVariants.{OutOfMemory}
 use Rattle.merkle_core.specs.Stands.{is_touched}
 use Rattle.merkle_core.specs.Drafts.{LacksFor}
 use Rattle.merkle_core.specs.Refreshed.{refreshed, computed_at, all_computed_at, touched_leaves, are_before, AreRefreshed, LacksForOne}
-use Rattle.merkle_core.proofs.RefreshedDigests.{is_or_not}
-use Rattle.merkle_core.proofs.Refreshing.{none_computed, or_assoc}
-use Rattle.merkle_core.proofs.Touched.{none_touched, not_touched, Between, touched_between, all_imply, all_joined, all_before, split_parts}
-use Rattle.merkle_core.proofs.OptionFacts.{or_nothing}
-
-cons_head : {A : Type 0} (x y : A) (xs ys : List A) → x ∷ xs ≡ y ∷ ys → x ≡ y
-cons_head x y xs ys e = cc
-
-cons_tail : {A : Type 0} (x y : A) (xs ys : List A) → x ∷ xs ≡ y ∷ ys → xs ≡ ys
-cons_tail x y xs ys e = cc
+use Rattle.merkle_core.proofs.Refreshing.{none_computed}
+use Rattle.merkle_core.proofs.Touched.{none_touched, not_touched, Between, touched_between, all_before, split_parts}
+use Rattle.merkle_core.proofs.OptionFacts.{or_nothing, or_assoc}
 
 pub zero_yes : (n : ℕ) (b : Bool) → b ≡ (n == 0) → b ≡ true → n ≡ 0
 zero_yes n b e f = elim (eqb_tells n 0) [ inl s ↦ s.1 | inr s ↦ absurd (true≢false (sym f ∙ e ∙ s.0)) ]
@@ -44,7 +37,7 @@ zero_no n b e f = elim (eqb_tells n 0) [ inl s ↦ absurd (true≢false (sym s.0
 pub after_start : {D : Type 0} (rule : List ℕ → List ℕ) (n : ℕ) (m : ℕ → Option D) (o e : ℕ) (ts : List Tree) → Spans o e ts → AllByRecursion (IsBuilt (forest rule n).nodes) ts → AllByRecursion (λ u. size rule o ≤ u.0) (flat_map (touched_leaves m) ts)
 after_start rule n m o e [] c b = tt
 after_start rule n m o e (t ∷ ts) c b =
-    all_joined (λ u. size rule o ≤ u.0) (touched_leaves m t) (flat_map (touched_leaves m) ts)
+    all_append (λ u. size rule o ≤ u.0) (touched_leaves m t) (flat_map (touched_leaves m) ts)
     (all_imply (Between rule (first_leaf t) (first_leaf t + width t)) (λ u. size rule o ≤ u.0) (λ u w. omega (arith, w.0, ap (size rule) c.0)) (touched_leaves m t) (touched_between rule n m t b.0))
     (all_imply (λ u. size rule (o + width t) ≤ u.0) (λ u. size rule o ≤ u.0) (λ u w. omega (arith, w, size_le rule o (o + width t) (omega arith))) (flat_map (touched_leaves m) ts) (after_start rule n m (o + width t) e ts c.1 b.1))
 
@@ -194,7 +187,7 @@ module _ {D : Type 0} (h : Hashing D) (rule : List ℕ → List ℕ) (max n : �
         length w.done,
         w.tree,
         ap (λ ts. slice_get ts (length w.done)) w.all_is ∙ get_push w.done w.rest w.tree,
-        elim (is_or_not (is_touched m w.tree)) [ inl b ↦ b | inr b ↦ absurd (some (ap length ((parts m u).0 ∙ none_touched m w.tree b))) ],
+        elim (cases_Bool (is_touched m w.tree)) [ inl b ↦ b | inr b ↦ absurd (some (ap length ((parts m u).0 ∙ none_touched m w.tree b))) ],
         subst (λ k. LacksFor m k w.tree e) same (f v w.tree m w.stands (parts m u).0),
       )
 

@@ -2,11 +2,10 @@
 use Rattle.std.proofs.Common.{◌≡◌, ◌≢◌, ℕ, ◌-◌, ◌≤◌, List, [], ◌∷◌, length, take, drop, Option, Some, None, Bool, true, false, cond, slice_get, arith, refl, sym, ap, inl, inr, ◌∙◌, subst, Result, Ok, Err, IfOk}
 use Rattle.std.specs.Prelude.{◌==◌, IfErr, OnOk}
 use Rattle.std.specs.Option.{option_or, ok_or}
-use Rattle.std.specs.FinMap.{FinMap, get, insert, get-insert}
-use Rattle.std.specs.Cmp.{nat_cmp_total}
-use Rattle.std.specs.Ordering.{nat_cmp, eq_by_cmp}
+use Rattle.std.specs.FinMap.{FinMap, get, insert}
+use Rattle.std.specs.Ordering.{nat_cmp}
 use Rattle.std.proofs.lemmas.List.{nil_from_length}
-use Rattle.std.proofs.lemmas.Bool.Decides.{nat_tests}
+use Rattle.std.proofs.lemmas.Bool.{cases_Bool}
 use Rattle.merkle_base.specs.Tree.{Tree, leaf, join, first_leaf}
 use Rattle.merkle_base.specs.Forest.{size}
 use Rattle.merkle_base.specs.Hashing.{Hashing}
@@ -22,8 +21,10 @@ use Rattle.merkle_core.specs.Stands.{is_touched}
 use Rattle.merkle_core.specs.Drafts.{LacksFor}
 use Rattle.merkle_core.specs.DraftReads.{Drafted, below, OnlyOverwrites}
 use Rattle.merkle_core.specs.Refreshed.{of_both, refreshed, computed_at, touched_leaves, are_before}
-use Rattle.merkle_core.proofs.RefreshedDigests.{is_or_not, refreshed_touched, refreshed_untouched, computed_touched, computed_untouched, read_itself}
+use Rattle.merkle_core.proofs.RefreshedDigests.{refreshed_touched, refreshed_untouched, computed_touched, computed_untouched, read_itself}
 use Rattle.merkle_core.proofs.Touched.{none_touched, not_touched, before_right, split_parts}
+use Rattle.merkle_core.proofs.OptionFacts.{or_assoc}
+use Rattle.merkle_core.proofs.MapFacts.{inserted_at}
 
 pub on_ok_always : {T E : Type 0} {P : Type 0} (r : Result T E) → P → OnOk r P
 on_ok_always (Ok x) p = p
@@ -36,17 +37,6 @@ same_below old new base w = λ i p. read_over (w.1 i) base p
 pub none_computed : {D : Type 0} (h : Hashing D) (m below : ℕ → Option D) (t : Tree) (q : ℕ) → is_touched m t ≡ false → computed_at h m below t q ≡ None
 none_computed h m below (leaf p n) q e = refl
 none_computed h m below (join p l r) q e = computed_untouched h m below p l r q e
-
--- what is got after one more insertion
-pub inserted_at : {D : Type 0} (ow : FinMap nat_cmp D) (k : ℕ) (d : D) (q : ℕ) → get (insert ow k d) q ≡ cond (q == k) (Some d) (get ow q)
-inserted_at ow k d q = get-insert nat_cmp_total ow k d q ∙ ap (λ b. cond b (Some d) (get ow q)) (same q k)
-  where
-    same : (a b : ℕ) → eq_by_cmp nat_cmp a b ≡ (a == b)
-    same a b = grind (arith, nat_tests)
-
-pub or_assoc : {D : Type 0} (a b c : Option D) → option_or (option_or a b) c ≡ option_or a (option_or b c)
-or_assoc None b c = refl
-or_assoc (Some x) b c = refl
 
 or_inside : {D : Type 0} (b : Bool) (d : D) (x y z : Option D) → x ≡ Some d → cond b (Some d) (option_or y z) ≡ option_or (cond b x y) z
 or_inside true d x y z e = ap (λ o. option_or o z) (sym e)
@@ -89,7 +79,7 @@ module _ {F D : Type 0} (h : Hashing D) (rule : List ℕ → List ℕ) (n : ℕ)
   module _ (x : ℕ × D) (k : ℕ) (some : Some x ≡ slice_get us k) (high : s.height ≢ 0) (l r : Subtree F) (kids : (p : ℕ) (a b : Tree) → Means rule n s (join p a b) → Means rule n l a × Means rule n r b)
       (middle count : ℕ) (front back : List (ℕ × D)) (middle_is : middle ≡ size rule r.first_leaf) (count_is : count ≡ are_before us middle) (front_is : front ≡ take count us) (back_is : back ≡ drop count us) where
     touched : (m : ℕ → Option D) (t : Tree) → us ≡ touched_leaves m t → is_touched m t ≡ true
-    touched m t e = elim (is_or_not (is_touched m t)) [
+    touched m t e = elim (cases_Bool (is_touched m t)) [
       | inl b ↦ b
       | inr b ↦ absurd (let c : Some x ≡ None = some ∙ ap (λ z. slice_get z k) (e ∙ none_touched m t b) in cc)
     ]

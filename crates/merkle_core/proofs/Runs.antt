@@ -3,7 +3,7 @@ use Rattle.std.proofs.Common.{◌≡◌, ℕ, zero, suc, ◌+◌, ◌-◌, ◌�
 use Rattle.std.specs.Prelude.{◌&&◌, ◌==◌, is_some}
 use Rattle.std.specs.Cmp.Lexicographic.{pointwise}
 use Rattle.std.specs.Map.{lookup}
-use Rattle.std.proofs.lemmas.Bool.{cases_lt, eqb-true}
+use Rattle.std.proofs.lemmas.Bool.{cases_lt, eqb-true, and_parts}
 use Rattle.std.proofs.lemmas.List.{length-map, take_all}
 use Rattle.merkle_base.proofs.Nodes.{size_lt}
 use Rattle.merkle_core.specs.Contents.{Contents, held_peaks}
@@ -14,10 +14,10 @@ use Rattle.merkle_core.specs.Replay.{laid, all_laid, last_match, begins_at, ends
 use Rattle.merkle_core.specs.Store.{Store, contents, stored_of}
 use Rattle.merkle_core.specs.Whole.{IsKept}
 use Rattle.merkle_core.proofs.HeldNodes.{contents_reads}
-use Rattle.merkle_core.proofs.Items.{and_left, by_test}
+use Rattle.merkle_proof.proofs.Claims.{by_test}
 
 same_size : (n m : ℕ) (b : Bool) → (n == m) && b ≡ true → n ≡ m
-same_size n m b e = eqb-true n m (and_left (n == m) b e)
+same_size n m b e = eqb-true n m (and_parts (n == m) b e).0
 
 drop_left : {X : Type 0} (i : ℕ) (xs ys : List X) → i ≤ length xs → drop i (xs ++ ys) ≡ drop i xs ++ ys
 drop_left zero xs ys h = refl

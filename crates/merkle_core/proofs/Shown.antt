@@ -2,7 +2,7 @@
 use Rattle.std.proofs.Common.{◌≡◌, ℕ, ◌+◌, ◌≤◌, ◌⊎◌, List, [], ◌∷◌, ◌++◌, length, length-take, take, Option, Some, None, Bool, true, false, cond, slice_get, get_or-take, arith, refl, sym, ap, inl, inr, ◌∙◌, subst}
 use Rattle.std.specs.Prelude.{is_some}
 use Rattle.std.specs.Option.{option_or}
-use Rattle.std.proofs.lemmas.Bool.{cases_lt}
+use Rattle.std.proofs.lemmas.Bool.{cases_lt, or_left, or_right}
 use Rattle.merkle_base.specs.Tree.{Tree, leaf, join, position, IsBuilt, IsUnder}
 use Rattle.merkle_base.specs.Forest.{forest, size}
 use Rattle.merkle_base.proofs.Nodes.{node_built, node_stays}
@@ -15,9 +15,9 @@ use Rattle.merkle_core.specs.Stands.{is_touched, StandsOn, last_list}
 use Rattle.merkle_core.specs.Read.{newest}
 use Rattle.merkle_core.specs.Shows.{Shows}
 use Rattle.merkle_core.specs.Needed.{IsUsed, IsNeeded}
-use Rattle.merkle_core.proofs.Items.{by_test, or_left, or_right}
 use Rattle.merkle_core.proofs.Steps.{node_digest_at, step_size}
 use Rattle.merkle_core.proofs.Through.{newest_read}
+use Rattle.merkle_proof.proofs.Claims.{by_test}
 
 pub under_touches : {D : Type 0} (m : ℕ → Option D) (t : Tree) (q k : ℕ) → IsUnder (leaf q k) t → is_some (m q) ≡ true → is_touched m t ≡ true
 under_touches m (leaf p n) q k u e = (let d : q ≡ p = cc in subst (λ x. is_some (m x) ≡ true) d e)

@@ -4,7 +4,7 @@ use Rattle.std.specs.Prelude.{is_some}
 use Rattle.std.specs.Option.{unwrap_or}
 use Rattle.std.specs.FinMap.{get}
 use Rattle.std.proofs.lemmas.List.{get_or_append_left, length-map}
-use Rattle.std.proofs.lemmas.Bool.{true≢false}
+use Rattle.std.proofs.lemmas.Bool.{true≢false, or_parts}
 use Rattle.merkle_base.specs.Tree.{Tree, leaf, join, IsBuilt}
 use Rattle.merkle_base.specs.Forest.{forest, size}
 use Rattle.merkle_base.proofs.Nodes.{node_built, node_stays, size_le}
@@ -14,19 +14,15 @@ use Rattle.merkle_base.specs.Digests.{digest_at, node_digests}
 use Rattle.merkle_core.specs.Recorded.{Recorded}
 use Rattle.merkle_core.specs.Replay.{over}
 use Rattle.merkle_core.specs.Stands.{replaced, leaves_from, edited, is_touched, IsStep}
-use Rattle.merkle_core.proofs.Items.{or_none, get_drop}
+use Rattle.merkle_core.proofs.Items.{get_drop}
 use Rattle.merkle_core.proofs.Kept.{get_map}
+use Rattle.merkle_base.proofs.Lists.{get_exists}
 
-pub node_there : {X : Type 0} (xs : List X) (p : ℕ) → p < length xs → (x : X) × (slice_get xs p ≡ Some x)
-node_there [] p l = absurd (omega arith)
-node_there (x ∷ xs) zero l = (x, refl)
-node_there (x ∷ xs) (suc p) l = node_there xs p (omega arith)
+pub replaced_length : {D : Type 0} (rule : List ℕ → List ℕ) (m : ℕ → Option D) (n : ℕ) (X : List D) → length (replaced rule m n X) ≡ length X
+replaced_length rule m n [] = refl
+replaced_length rule m n (d ∷ ds) = ap suc (replaced_length rule m (suc n) ds)
 
 module _ {D : Type 0} (h : Hashing D) (rule : List ℕ → List ℕ) where
-  pub replaced_length : (m : ℕ → Option D) (n : ℕ) (X : List D) → length (replaced rule m n X) ≡ length X
-  replaced_length m n [] = refl
-  replaced_length m n (d ∷ ds) = ap suc (replaced_length m (suc n) ds)
-
   pub replaced_at : (m : ℕ → Option D) (n : ℕ) (X : List D) (k : ℕ) (e : D) → k < length X → get_or (replaced rule m n X) k e ≡ unwrap_or (m (size rule (n + k))) (get_or X k e)
   replaced_at m n [] k e l = absurd (omega arith)
   replaced_at m n (d ∷ ds) zero e l = let z : n + 0 ≡ n = omega arith in rw z refl
@@ -37,7 +33,7 @@ module _ {D : Type 0} (h : Hashing D) (rule : List ℕ → List ℕ) where
   entry_at r X k l =
       let n : ℕ = length (replaced rule (get r.overwritten) 0 X) in
       let z : 0 + k ≡ k = omega arith in
-      get_or_append_left (replaced rule (get r.overwritten) 0 X) (leaves_from rule (length X) r.before r.appended) h.empty k (omega (arith, l, replaced_length (get r.overwritten) 0 X))
+      get_or_append_left (replaced rule (get r.overwritten) 0 X) (leaves_from rule (length X) r.before r.appended) h.empty k (omega (arith, l, replaced_length rule (get r.overwritten) 0 X))
       ∙ (rw z at (replaced_at (get r.overwritten) 0 X k h.empty l))
 
   untouched_leaf : (o : Option D) (d e : D) → is_some o ≡ false → e ≡ unwrap_or o d → e ≡ d
@@ -50,7 +46,7 @@ module _ {D : Type 0} (h : Hashing D) (rule : List ℕ → List ℕ) where
       let a = leaf_at rule (length X) q q k b in
       untouched_leaf (get r.overwritten q) (get_or X k h.empty) (get_or (edited rule r X) k h.empty) t (entry_at r X k a.1 ∙ ap (λ p. unwrap_or (get r.overwritten p) (get_or X k h.empty)) (sym a.0))
   digest_kept r X (join q x y) b t =
-      let n = or_none (is_touched (get r.overwritten) x) (is_touched (get r.overwritten) y) t in
+      let n = or_parts (is_touched (get r.overwritten) x) (is_touched (get r.overwritten) y) t in
       ap (λ d. h.node q d (digest_at h (edited rule r X) y)) (digest_kept r X x b.4 n.0) ∙ ap (λ d. h.node q (digest_at h X x) d) (digest_kept r X y b.5 n.1)
 
   pub node_digest_at : (X : List D) (p : ℕ) (t : Tree) → slice_get (forest rule (length X)).nodes p ≡ Some t → slice_get (node_digests h rule X) p ≡ Some (digest_at h X t)
@@ -66,7 +62,7 @@ module _ {D : Type 0} (h : Hashing D) (rule : List ℕ → List ℕ) where
   -- a node that was there before: its digest is the one that the record has for it, else the old one
   pub step_old : (r : Recorded D) (X Y : List D) → IsStep h rule r X Y → (p : ℕ) → p < size rule (length X) → slice_get (node_digests h rule Y) p ≡ over (get r.overwritten p) (slice_get (node_digests h rule X) p)
   step_old r X Y s p l =
-      let k = node_there (forest rule (length X)).nodes p l in
+      let k = get_exists (forest rule (length X)).nodes p l in
       let t : Tree = k.0 in
       let there : slice_get (forest rule (length Y)).nodes p ≡ Some t = node_stays rule (length X) (length Y) p t s.longer k.1 in
       rw (node_digest_at Y p t there, node_digest_at X p t k.1) (newer (is_touched (get r.overwritten) t) (get r.overwritten p) (digest_at h Y t) (digest_at h X t) (s.overwritten p t k.1)

@@ -6,8 +6,8 @@ use Rattle.std.proofs.lemmas.Option.{slice_get_past, slice_get_read}
 use Rattle.std.proofs.Common.{◌≡◌, ℕ, suc, zero, ◌+◌, ◌-◌, ◌<◌, ◌≤◌, List, [], ◌∷◌, ◌++◌, length, Bool, true, false, cond, refl, sym, ◌∙◌, ap, arith, nat_eq, Bor}
 use Rattle.std.proofs.lemmas.Bool.Decides.{nat_tests}
 use Rattle.std.specs.Option.{option_or}
-use Rattle.std.specs.Ordering.{nat_cmp, is_eq}
-use Rattle.std.specs.Cmp.{nat_cmp_total}
+use Rattle.std.specs.Ordering.{nat_cmp}
+use Rattle.std.specs.Cmp.{nat_cmp_total, unsigned_tied}
 use Rattle.std.specs.Map.{lookup}
 use Rattle.std.specs.List.{slice_get, list_any}
 use Rattle.std.specs.FinMap.{get, find, get-from_entries}
@@ -15,17 +15,14 @@ use Rattle.std.specs.BTreeMap.{is_at}
 use Rattle.merkle_core.specs.Store.{numbered, stored_of}
 use Rattle.merkle_core.proofs.OptionFacts.{none_of}
 
-pub is_eq-nat_cmp : (p q : ℕ) → is_eq (nat_cmp p q) ≡ nat_eq p q
-is_eq-nat_cmp p q = grind (arith, nat_tests)
-
 module _ {D : Type 0} where
   pub find_lookup : (p : ℕ) (es : List (ℕ × D)) → find nat_cmp p es ≡ lookup (nat_eq p) es
   find_lookup p [] = refl
-  find_lookup p (e ∷ es) = λ i. cond (is_eq-nat_cmp p e.0 i) (Some e.1) (find_lookup p es i)
+  find_lookup p (e ∷ es) = λ i. cond (unsigned_tied p e.0 i) (Some e.1) (find_lookup p es i)
 
   pub lookup_at : (p : ℕ) (es : List (ℕ × D)) → lookup (is_at (nat_cmp p)) es ≡ lookup (nat_eq p) es
   lookup_at p [] = refl
-  lookup_at p (e ∷ es) = λ i. cond (is_eq-nat_cmp p e.0 i) (Some e.1) (lookup_at p es i)
+  lookup_at p (e ∷ es) = λ i. cond (unsigned_tied p e.0 i) (Some e.1) (lookup_at p es i)
 
   pub lookup-append : (test : ℕ → Bool) (es fs : List (ℕ × D)) → lookup test (es ++ fs) ≡ option_or (lookup test es) (lookup test fs)
   lookup-append test [] fs = refl

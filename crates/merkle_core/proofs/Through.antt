@@ -15,24 +15,13 @@ use Rattle.merkle_core.specs.Recorded.{Recorded}
 use Rattle.merkle_core.specs.Replay.{over}
 use Rattle.merkle_core.specs.Stands.{edited, replaced, leaves_from, is_touched, IsStep, StandsOn, last_list}
 use Rattle.merkle_core.specs.Read.{written, newest, read_over}
-use Rattle.merkle_core.proofs.Steps.{node_digest_at, digests_length, digest_kept, replaced_length, step_old, step_new, node_there}
-use Rattle.merkle_core.proofs.OptionFacts.{none_or_some}
-
-pub option_assoc : {D : Type 0} (a b c : Option D) → option_or (option_or a b) c ≡ option_or a (option_or b c)
-option_assoc None b c = refl
-option_assoc (Some x) b c = refl
-
-pub option_none : {D : Type 0} (a : Option D) → option_or a None ≡ a
-option_none None = refl
-option_none (Some x) = refl
+use Rattle.merkle_core.proofs.Steps.{node_digest_at, digests_length, digest_kept, replaced_length, step_old, step_new}
+use Rattle.merkle_core.proofs.OptionFacts.{none_or_some, or_assoc, or_nothing, both_none}
+use Rattle.merkle_base.proofs.Lists.{get_exists}
 
 over_or : {D : Type 0} (n o : Option D) (d : D) → o ≡ Some d → over n o ≡ option_or n o
 over_or None o d e = rw e refl
 over_or (Some x) o d e = rw e refl
-
-pub both_none : {D : Type 0} (a b : Option D) → option_or a b ≡ None → (a ≡ None) × (b ≡ None)
-both_none None b e = (refl, e)
-both_none (Some x) b e = absurd (cc)
 
 module _ {D : Type 0} (h : Hashing D) (rule : List ℕ → List ℕ) where
   abbrev at_node : List D → ℕ → Option D
@@ -41,11 +30,11 @@ module _ {D : Type 0} (h : Hashing D) (rule : List ℕ → List ℕ) where
   -- a node is what the record has for it, else what it was
   pub step_read : (r : Recorded D) (X Y : List D) → IsStep h rule r X Y → (p : ℕ) → at_node Y p ≡ option_or (written r p) (at_node X p)
   step_read r X Y s p = elim (cases_lt p (size rule (length X))) [
-    | inl l ↦ (let k = node_there (node_digests h rule X) p (omega (arith, l, digests_length h rule X)) in
+    | inl l ↦ (let k = get_exists (node_digests h rule X) p (omega (arith, l, digests_length h rule X)) in
         step_old h rule r X Y s p l ∙ over_or (get r.overwritten p) (at_node X p) k.0 k.1
         ∙ sym (ap (λ b. option_or (cond b (get r.overwritten p) (slice_get r.appended (p - r.before))) (at_node X p)) (lt-ltb p r.before (omega (arith, l, s.before)))))
     | inr l ↦
-        step_new h rule r X Y s p l ∙ ap (λ n. slice_get r.appended (p - n)) (sym s.before) ∙ sym (option_none (slice_get r.appended (p - r.before)))
+        step_new h rule r X Y s p l ∙ ap (λ n. slice_get r.appended (p - n)) (sym s.before) ∙ sym (or_nothing (slice_get r.appended (p - r.before)))
         ∙ ap (λ o. option_or (slice_get r.appended (p - r.before)) o) (sym (slice_get_past (node_digests h rule X) p (omega (arith, l, digests_length h rule X))))
         ∙ sym (ap (λ b. option_or (cond b (get r.overwritten p) (slice_get r.appended (p - r.before))) (at_node X p)) (le-ltb p r.before (omega (arith, l, s.before))))
   ]
@@ -55,7 +44,7 @@ module _ {D : Type 0} (h : Hashing D) (rule : List ℕ → List ℕ) where
   newest_read [] X [] p s = refl
   newest_read [] X (Y ∷ ls) p s = absurd s
   newest_read (r ∷ rs) X [] p s = absurd s
-  newest_read (r ∷ rs) X (Y ∷ ls) p s = newest_read rs Y ls p s.1 ∙ ap (λ o. option_or (newest rs p) o) (step_read r X Y s.0 p) ∙ sym (option_assoc (newest rs p) (written r p) (at_node X p))
+  newest_read (r ∷ rs) X (Y ∷ ls) p s = newest_read rs Y ls p s.1 ∙ ap (λ o. option_or (newest rs p) o) (step_read r X Y s.0 p) ∙ sym (or_assoc (newest rs p) (written r p) (at_node X p))
 
   -- what no record has a digest for is the same in each list
   pub unwritten : (rs : List (Recorded D)) (X : List D) (ls : List (List D)) (p j : ℕ) (W : List D) → StandsOn h rule rs (X ∷ ls) → newest rs p ≡ None → slice_get (X ∷ ls) j ≡ Some W → at_node W p ≡ at_node X p
@@ -99,7 +88,7 @@ module _ {D : Type 0} (h : Hashing D) (rule : List ℕ → List ℕ) where
       node_digest_at h rule Y p (join p l r) e ∙ ap (λ d. Some (h.node p d (digest_at h Y r))) f ∙ ap (λ d. Some (h.node p a d)) g
 
   pub edited_longer : (r : Recorded D) (X : List D) → length X ≤ length (edited rule r X)
-  edited_longer r X = omega (arith, length-append (replaced rule (get r.overwritten) 0 X) (leaves_from rule (length X) r.before r.appended), replaced_length h rule (get r.overwritten) 0 X)
+  edited_longer r X = omega (arith, length-append (replaced rule (get r.overwritten) 0 X) (leaves_from rule (length X) r.before r.appended), replaced_length rule (get r.overwritten) 0 X)
 
   -- an old node that is neither overwritten nor an ancestor of an overwritten leaf keeps its digest
   pub unchanged : (r : Recorded D) (X : List D) (p : ℕ) (t : Tree) → slice_get (forest rule (length X)).nodes p ≡ Some t → is_touched (get r.overwritten) t ≡ false → at_node (edited rule r X) p ≡ at_node X p

@@ -3,16 +3,16 @@ use Rattle.std.proofs.Common.{◌≡◌, ℕ, suc, ◌+◌, ◌<◌, ◌≤◌, 
 use Rattle.std.specs.Prelude.{is_some, ◌||◌}
 use Rattle.std.specs.List.{AllByRecursion}
 use Rattle.std.proofs.Math.Seq.{take-append_seam, drop-append_seam}
+use Rattle.std.proofs.lemmas.Bool.{or_parts, cases_Bool}
 use Rattle.merkle_base.specs.Tree.{Tree, leaf, join, first_leaf, width, IsBuilt}
 use Rattle.merkle_base.specs.Forest.{forest, size}
 use Rattle.merkle_base.proofs.Births.{leaf_at}
-use Rattle.merkle_base.proofs.Nodes.{size_le, size_step}
+use Rattle.merkle_base.proofs.Nodes.{size_le, size_step, all_append}
 use Rattle.merkle_core.specs.Stands.{is_touched}
 use Rattle.merkle_core.specs.Refreshed.{touched_leaves, are_before}
-use Rattle.merkle_core.proofs.Items.{or_none}
 use Rattle.merkle_core.proofs.Befores.{before_none, before_here}
-use Rattle.merkle_core.proofs.RefreshedDigests.{is_or_not}
 use Rattle.merkle_core.proofs.OptionFacts.{none_of, none_or_some}
+use Rattle.merkle_base.proofs.Lists.{all_imply}
 
 pub both_empty : {X : Type 0} (xs ys : List X) → xs ++ ys ≡ [] → (xs ≡ []) × (ys ≡ [])
 both_empty [] ys e = (refl, e)
@@ -32,7 +32,7 @@ module _ {D : Type 0} (m : ℕ → Option D) where
   -- ---- a tree has none exactly where it isn't touched
   pub none_touched : (t : Tree) → is_touched m t ≡ false → touched_leaves m t ≡ []
   none_touched (leaf p n) e = leaf_untouched p n (none_of (m p) e)
-  none_touched (join p l r) e = (let k = or_none (is_touched m l) (is_touched m r) e in
+  none_touched (join p l r) e = (let k = or_parts (is_touched m l) (is_touched m r) e in
       ap (λ z. z ++ touched_leaves m r) (none_touched l k.0) ∙ none_touched r k.1)
 
   pub not_touched : (t : Tree) → touched_leaves m t ≡ [] → is_touched m t ≡ false
@@ -44,7 +44,7 @@ module _ {D : Type 0} (m : ℕ → Option D) where
       ap (λ b. b || is_touched m r) (not_touched l k.0) ∙ not_touched r k.1)
 
   pub some_touched : (t : Tree) (u : ℕ × D) (us : List (ℕ × D)) → u ∷ us ≡ touched_leaves m t → is_touched m t ≡ true
-  some_touched t u us e = elim (is_or_not (is_touched m t)) [
+  some_touched t u us e = elim (cases_Bool (is_touched m t)) [
     | inl b ↦ b
     | inr b ↦ absurd (let k : u ∷ us ≡ [] = e ∙ none_touched t b in cc)
   ]
@@ -53,14 +53,6 @@ module _ {D : Type 0} (m : ℕ → Option D) where
 -- from that of leaf a on, before that of leaf b
 abbrev pub Between : {D : Type 0} → (List ℕ → List ℕ) → ℕ → ℕ → ℕ × D → Type 0
 Between rule a b u = (size rule a ≤ u.0) × (u.0 < size rule b)
-
-pub all_imply : {X : Type 0} (P Q : X → Type 0) → ((x : X) → P x → Q x) → (xs : List X) → AllByRecursion P xs → AllByRecursion Q xs
-all_imply P Q f [] h = tt
-all_imply P Q f (x ∷ xs) h = (f x h.0, all_imply P Q f xs h.1)
-
-pub all_joined : {X : Type 0} (P : X → Type 0) (xs ys : List X) → AllByRecursion P xs → AllByRecursion P ys → AllByRecursion P (xs ++ ys)
-all_joined P [] ys h k = k
-all_joined P (x ∷ xs) ys h k = (h.0, all_joined P xs ys h.1 k)
 
 pub all_before : {D : Type 0} (xs ys : List (ℕ × D)) (e : ℕ) → AllByRecursion (λ u. u.0 < e) xs → AllByRecursion (λ u. e ≤ u.0) ys → are_before (xs ++ ys) e ≡ length xs
 all_before [] [] e h k = refl
@@ -79,7 +71,7 @@ module _ {D : Type 0} (rule : List ℕ → List ℕ) (n : ℕ) (m : ℕ → Opti
         subst (AllByRecursion (Between rule k (k + 1))) (sym (leaf_touched m p k o.0 o.1)) ((omega (arith, f.0), omega (arith, f.0, size_step rule k, ap (size rule) z)), tt))
   ]
   touched_between (join p l r) b =
-      all_joined (Between rule (first_leaf l) (first_leaf l + (width l + width r))) (touched_leaves m l) (touched_leaves m r)
+      all_append (Between rule (first_leaf l) (first_leaf l + (width l + width r))) (touched_leaves m l) (touched_leaves m r)
       (all_imply (Between rule (first_leaf l) (first_leaf l + width l)) _ (wider (first_leaf l) (first_leaf l + width l) (first_leaf l) (first_leaf l + (width l + width r)) (omega arith) (omega arith)) (touched_leaves m l) (touched_between l b.4))
       (all_imply (Between rule (first_leaf r) (first_leaf r + width r)) _ (wider (first_leaf r) (first_leaf r + width r) (first_leaf l) (first_leaf l + (width l + width r)) (omega (arith, b.3)) (omega (arith, b.3))) (touched_leaves m r) (touched_between r b.5))
 

@@ -2,6 +2,7 @@ use Rattle.std.proofs.Common.{rules, ◌≡◌, ℕ, ◌+◌, ◌<◌, ◌⊎◌
 use Rattle.std.proofs.lemmas.Result.{err_from_is_err_and}
 use Rattle.std.specs.FinMap.{get}
 use Rattle.std.specs.Rc.{rc_slice_items}
+use Rattle.std.proofs.lemmas.List.{nil_from_length}
 use Rattle.merkle_base.specs.Forest.{size}
 use Rattle.merkle_base.specs.Places.{peak_positions}
 use Rattle.merkle_base.specs.Tree.{Tree, position}
@@ -22,7 +23,6 @@ use Rattle.merkle_core.proofs.Merkleizing.{list_given}
 use Rattle.merkle_core.proofs.MerkleizeFacts.{append_missing, batch_stands, changed_by_leaves, changed_by_updates, finished_linked, is_positive, named_given, named_refused, NamesMissing, no_entry, none_is_missing, not_changed, of_fields, peak_missing, refresh_missing, some_entry}
 use Rattle.merkle_core.proofs.batch.UnmerkleizedBatch.merkleize.Goals.{then-is_empty+then-is_empty-2+in_ok-peaks_after, else-is_empty+in_ok-read_peaks+in_ok-peaks_after-2, else-is_empty-via-then-is_empty+else-is_empty-2, else-is_empty-via-else-is_empty}
 use Rattle.merkle_core.proofs.batch.UnmerkleizedBatch.merkleize.Goals as goal
-use Rattle.merkle_core.proofs.Items.{no_items}
 
 pub returns-in_err-refresh_leaves-clause-refused : goal.returns-in_err-refresh_leaves-clause-refused
 returns-in_err-refresh_leaves-clause-refused g c =
@@ -181,7 +181,7 @@ returns-clause-complete g c = λ t missing.
     let peaks : IsChanged rule (get b.overwritten) b.leaves_before (leaf_total b) → ArePeaksRead rule (leaf_total b) d2.before (old_node d2 base) = elim c.if-is_empty.branch [
       | then-is_empty+then-is_empty-2+in_ok-peaks_after w ↦ (let none : length c.self.inside.added.items ≡ 0 = search rules in
           let same : length c.self.inside.updates.entries ≡ 0 = search rules in
-          λ changed. absurd (not_changed rule max b (no_items c.self.inside.added.items none) (no_entry c.self.inside.updates.entries same) changed))
+          λ changed. absurd (not_changed rule max b (nil_from_length c.self.inside.added.items none) (no_entry c.self.inside.updates.entries same) changed))
       | else-is_empty+in_ok-read_peaks+in_ok-peaks_after-2 w ↦ λ changed. subst (λ (n : ℕ). ArePeaksRead rule n d2.before (old_node d2 base)) total w.in_ok-read_peaks.ensures.read
     ] in
     none_is_missing h rule max b c.self.invariant base d0 d1 d2 k0 b0 c.refresh_leaves.ensures.only c.append_leaves.ensures.only c.in_ok-refresh_leaves.ensures.computed c.in_ok-refresh_leaves.ensures.refreshed children peaks t
@@ -212,7 +212,7 @@ returns-clause-stands g c = λ ls stands agrees.
       | then-is_empty+then-is_empty-2+in_ok-peaks_after w ↦ (let none : length c.self.inside.added.items ≡ 0 = search rules in
           let same : length c.self.inside.updates.entries ≡ 0 = search rules in
           let copy : pa ≡ pb = ap rc_slice_items w.peaks_after-is ∙ (let s : rc_slice_items w.in_ok-peaks_after.peaks_after ≡ pb = search rules in s) in
-          inl (no_items c.self.inside.added.items none, no_entry c.self.inside.updates.entries same, copy))
+          inl (nil_from_length c.self.inside.added.items none, no_entry c.self.inside.updates.entries same, copy))
       | else-is_empty+in_ok-read_peaks+in_ok-peaks_after-2 w ↦ inr (λ truth reads made.
           (let made_of : pa ≡ w.in_ok-read_peaks.field-0.items = ap rc_slice_items w.peaks_after-is ∙ (let s : rc_slice_items w.in_ok-peaks_after-2.peaks_after ≡ w.in_ok-read_peaks.field-0.items = search rules in s) in
           made_of ∙ w.in_ok-read_peaks.ensures.right truth reads made ∙ ap (λ (n : ℕ). map truth (peak_positions rule n)) total))
