@@ -1,10 +1,10 @@
 -- A line that is a command is ASCII, and so it is UTF-8.
-use Rattle.std.proofs.Common.{◌≡◌, ℕ, ◌<◌, List, [], ◌∷◌, ◌++◌, Bool, true, false, arith, refl, sym, subst, ltb}
-use Rattle.std.specs.Prelude.{◌&&◌, codes}
+use Rattle.std.proofs.Common.{◌≡◌, ℕ, ◌<◌, List, [], ◌∷◌, ◌++◌, true, arith, refl, sym, subst, ltb}
+use Rattle.std.specs.Prelude.{codes}
 use Rattle.std.specs.Fmt.{decimal}
 use Rattle.std.specs.List.{list_all}
 use Rattle.std.specs.Str.{IsAscii, IsUtf8}
-use Rattle.std.proofs.lemmas.Bool.{ltb-true}
+use Rattle.std.proofs.lemmas.Bool.{ltb-true, and_parts}
 use Rattle.std.proofs.lemmas.Fmt.{IsAscii-decimal}
 use Rattle.std.proofs.lemmas.Str.{IsAscii-append, IsUtf8-from_ascii}
 use Rattle.std.proofs.lemmas.Str.Ascii.{IsAscii-nil, IsAscii-cons, IsAscii-from_all}
@@ -18,15 +18,10 @@ use Rattle.merkle_lines.specs.declared.command.Request.TheVariants.{Add, Commit,
 use Rattle.merkle_lines.specs.Commands.{element_word, words_of, joined, IsCommand}
 use Rattle.merkle_lines.specs.Words.{IsHexWord}
 
-both_pass : (a b : Bool) → a && b ≡ true → (a ≡ true) × (b ≡ true)
-both_pass true true e = (refl, refl)
-both_pass true false e = absurd (cc)
-both_pass false b e = absurd (cc)
-
 -- bytes below 128, by computing
 ascii_of : (bs : List ℕ) → list_all (λ b. ltb b 128) bs ≡ true → IsAscii bs
 ascii_of [] e = IsAscii-nil
-ascii_of (b ∷ bs) e = let w = both_pass (ltb b 128) (list_all (λ b. ltb b 128) bs) e in IsAscii-cons b bs (ltb-true b 128 w.0) (ascii_of bs w.1)
+ascii_of (b ∷ bs) e = let w = and_parts (ltb b 128) (list_all (λ b. ltb b 128) bs) e in IsAscii-cons b bs (ltb-true b 128 w.0) (ascii_of bs w.1)
 
 hex_below : (c : ℕ) → is_hex_digit c ≡ true → c < 128
 hex_below c e = grind (arith, e)
