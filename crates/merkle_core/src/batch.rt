@@ -257,10 +257,10 @@ impl<F: Family, D: Digest> UnmerkleizedBatch<F, D> {
             forgotten,
         } = self;
         let peaks_before = parent.own.peaks_after.clone()?;
-        let mut draft = Draft::of_parent(&parent, forgotten)?;
+        let leaves = leaves_before + added.len() as u64;
+        let mut draft = Draft::of_parent(&parent, forgotten, leaves)?;
         draft.refresh_leaves(base, hasher, leaves_before, &updates)?;
         draft.append_leaves(base, hasher, leaves_before, &added)?;
-        let leaves = leaves_before + added.len() as u64;
         let peaks_after = if added.is_empty() && updates.is_empty() {
             peaks_before.clone()?
         } else {

@@ -55,12 +55,15 @@ impl<F: Family, D: Digest> Model for Draft<F, D> {
 }
 
 impl<F: Family, D: Digest> Draft<F, D> {
-    /// The draft of a batch without changes that lets the oldest records of its parent's ancestors go.
+    /// The draft of a batch without changes that lets the oldest records of its parent's ancestors go, with room for the
+    /// nodes of so many leaves.
     pub(crate) fn of_parent(
         parent: &MerkleizedBatch<F, D>,
         forgotten: usize,
+        leaves: Location<F>,
     ) -> Result<Self, AllocError>
-        requires { forgotten ≤ length parent.now.ancestors }
+        requires known { forgotten ≤ length parent.now.ancestors }
+        requires within { leaves ≤ F.MAX_LEAVES }
         ensures size { IfOk result (λ d. d.before ≡ after parent.now.own) }
         ensures kept { IfOk result (λ d. d.kept ≡ drop forgotten parent.now.ancestors ++ cond (is_changed parent.now.own) (parent.now.own ∷ []) []) }
         ensures nothing { IfOk result (λ d. (d.overwritten ≡ empty) × (d.appended ≡ [])) }
@@ -73,11 +76,14 @@ impl<F: Family, D: Digest> Draft<F, D> {
         if !parent.own.is_empty() {
             kept.push(parent.own.clone()?)?;
         }
+        let size_before = parent.size();
+        let end = F::location_to_position(leaves);
+        let room = end.as_u64().saturating_sub(size_before.as_u64());
         Ok(Draft {
-            size_before: parent.size(),
+            size_before,
             kept,
             overwrites: Overwrites::new(alloc),
-            appended: Vec::new(alloc),
+            appended: Vec::with_capacity(alloc, room as usize)?,
         })
     }
 

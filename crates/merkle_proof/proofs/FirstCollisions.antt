@@ -8,9 +8,6 @@ use Rattle.merkle_base.specs.Hashing.{Hashing}
 use Rattle.merkle_proof.specs.Collision.{Member, Collision, Collides, Laws}
 use Rattle.merkle_proof.specs.FirstCollision.{same_place, same_argument, is_collision, or_else, first_for, first_collision, IsFirstCollision, FindsFirst}
 
-yes_of : {P : Type 0} (b : Bool) → (b ≡ true → P) → (P → b ≡ true) → Decides b P
-yes_of b f g = (f, g)
-
 Decides-place : (p q : Place) → Decides (same_place p q) (p ≡ q)
 Decides-place Root Root = (λ _. refl, λ _. refl)
 Decides-place Join Join = (λ _. refl, λ _. refl)
