@@ -66,7 +66,7 @@ impl PeakIterator {
         ensures leaves { size newest_pair result.leaves ≡ nodes }
         ensures peaks { ArePeaks newest_pair MAX_LEAVES nodes result.left }
     {
-        let leaves = leaf_count_within(nodes.as_u64());
+        let leaves = leaf_count_by_log(nodes.as_u64());
         PeakIterator {
             leaves,
             left: (leaves + 1).ilog2(),
@@ -237,8 +237,29 @@ fn node_count(leaves: u64) -> u64
     2 * leaves - u64::from((leaves + 1).ilog2())
 }
 
-/// The greatest leaf count that has no more than so many nodes.
+/// The greatest leaf count that has no more than so many nodes, by a search.
 fn leaf_count_within(nodes: u64) -> u64
+    requires { nodes ≤ MAX_NODES }
+    ensures limit { result ≤ MAX_LEAVES }
+    ensures within { size newest_pair result ≤ nodes }
+    ensures greatest { nodes < size newest_pair (result + 1) }
+{
+    // n leaves have at most 2 * n nodes, and at least 2 * n - 64, since there are at most 64 peaks
+    let mut low = nodes / 2;
+    let mut high = (low + 32).min(MAX_LEAVES);
+    while low < high {
+        let middle = high - (high - low) / 2;
+        if node_count(middle) <= nodes {
+            low = middle;
+        } else {
+            high = middle - 1;
+        }
+    }
+    low
+}
+
+/// The greatest leaf count that has no more than so many nodes, by the logarithm.
+fn leaf_count_by_log(nodes: u64) -> u64
     requires { nodes ≤ MAX_NODES }
     ensures limit { result ≤ MAX_LEAVES }
     ensures within { size newest_pair result ≤ nodes }
@@ -289,9 +310,9 @@ fn birth_leaf_of(position: u64, height: u32) -> u64
     ensures birth { (s : ℕ) → root_position s height ≡ position → result ≡ birth_leaf s height }
 {
     if height == 0 {
-        return leaf_count_within(position);
+        return leaf_count_by_log(position);
     }
-    leaf_count_within(position - 1)
+    leaf_count_by_log(position - 1)
 }
 
 /// The first leaf of the node of a height at a position.
@@ -367,7 +388,7 @@ impl family::Family for Family {
         ensures { IsTrue result ↔ IsSize newest_pair MAX_LEAVES nodes }
     {
         let nodes = nodes.as_u64();
-        nodes <= MAX_NODES && node_count(leaf_count_within(nodes)) == nodes
+        nodes <= MAX_NODES && node_count(leaf_count_by_log(nodes)) == nodes
     }
 
     fn to_nearest_size(nodes: Position) -> Position
@@ -389,7 +410,7 @@ impl family::Family for Family {
         requires { HasInner newest_pair MAX_LEAVES position height }
         ensures { AreChildren newest_pair position result.0 result.1 }
     {
-        let birth = leaf_count_within(position.as_u64());
+        let birth = leaf_count_by_log(position.as_u64());
         let below = height - 1;
         let first = birth + 2 - (3 << below);
         let left = root_position(first, below);
@@ -415,7 +436,7 @@ impl family::Family for Family {
         ensures { IsHeightAt newest_pair position result }
     {
         let nodes = position.as_u64();
-        let birth = leaf_count_within(nodes);
+        let birth = leaf_count_by_log(nodes);
         if node_count(birth) == nodes {
             0
         } else {
@@ -438,7 +459,7 @@ impl family::Graftable for Family {
         ensures { AreChunkPeaks newest_pair MAX_LEAVES nodes chunk_idx grafting_height result }
     {
         ChunkPeaks {
-            leaves: leaf_count_within(nodes.as_u64()),
+            leaves: leaf_count_by_log(nodes.as_u64()),
             first: chunk_idx << grafting_height,
             height: grafting_height,
             left: true,
