@@ -46,6 +46,10 @@ module _ {D : Type 0} where
   pub is_none_entered : (b : Bool) (es : List (ℕ × D)) → IsTrue b ↔ (length es ≡ 0) → b ≡ (len (from_entries {R = nat_cmp} es) == 0)
   is_none_entered b es h = of_both b (length es) h ∙ none_entered es
 
+  pub no_entry : (es : List (ℕ × D)) → length es ≡ 0 → (q : ℕ) → get {R = nat_cmp} (from_entries es) q ≡ None
+  no_entry [] l q = get_entries [] q
+  no_entry (e ∷ es) l q = absurd (omega (arith, l))
+
   -- an entry put into the list is put into the map
   pub put_entry : (m n : List (ℕ × D)) (k : ℕ) (v : D) → ((q : ℕ) → lookup (nat_eq q) n ≡ cond (nat_eq k q) (Some v) (lookup (nat_eq q) m)) → from_entries {R = nat_cmp} n ≡ insert (from_entries m) k v
   put_entry m n k v h =

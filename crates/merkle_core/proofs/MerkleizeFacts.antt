@@ -162,10 +162,6 @@ pub some_entry : {D : Type 0} (es : List (ℕ × D)) → 0 < length es → (q : 
 some_entry [] l = absurd (omega arith)
 some_entry {D} (e ∷ es) l = (e.0, ap is_some (get-from_entries nat_cmp_total (e ∷ es) e.0 ∙ find_lookup e.0 (e ∷ es) ∙ ap (λ b. cond b (Some e.1) (lookup (nat_eq e.0) es)) (eq-eqb e.0 e.0 refl)))
 
-pub no_entry : {D : Type 0} (es : List (ℕ × D)) → length es ≡ 0 → (q : ℕ) → get {R = nat_cmp} (from_entries es) q ≡ None
-no_entry [] l q = get-from_entries nat_cmp_total [] q
-no_entry (e ∷ es) l q = absurd (omega (arith, l))
-
 -- the value of a batch with these fields
 abbrev pub of_fields : {D : Type 0} → Chain D → ℕ → List D → List (ℕ × D) → ℕ → Pending D
 of_fields parent leaves_before added updates forgotten =

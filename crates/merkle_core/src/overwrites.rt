@@ -49,6 +49,10 @@ impl<F: Family, D: Digest> Overwrites<F, D> {
     pub(crate) fn get(&self, position: Position<F>) -> Option<D>
         ensures { result ≡ get self.now position }
     {
+        // most batches change no old node, and even an empty map hashes the key
+        if self.nodes.is_empty() {
+            return None;
+        }
         self.nodes.get(&position).copied()
     }
 

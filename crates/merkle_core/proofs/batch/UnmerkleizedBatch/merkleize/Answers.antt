@@ -20,7 +20,8 @@ use Rattle.merkle_core.specs.Stands.{last_list, StandsOn}
 use Rattle.merkle_core.specs.Store.{contents}
 use Rattle.merkle_core.specs.Truth.{IsTruth, LeavesAre, ReadsTrue, truths}
 use Rattle.merkle_core.proofs.Merkleizing.{list_given}
-use Rattle.merkle_core.proofs.MerkleizeFacts.{append_missing, batch_stands, changed_by_leaves, changed_by_updates, finished_linked, is_positive, named_given, named_refused, NamesMissing, no_entry, none_is_missing, not_changed, of_fields, peak_missing, refresh_missing, some_entry}
+use Rattle.merkle_core.proofs.MapFacts.{no_entry}
+use Rattle.merkle_core.proofs.MerkleizeFacts.{append_missing, batch_stands, changed_by_leaves, changed_by_updates, finished_linked, is_positive, named_given, named_refused, NamesMissing, none_is_missing, not_changed, of_fields, peak_missing, refresh_missing, some_entry}
 use Rattle.merkle_core.proofs.batch.UnmerkleizedBatch.merkleize.Goals.{then-is_empty+then-is_empty-2+in_ok-peaks_after, else-is_empty+in_ok-read_peaks+in_ok-peaks_after-2, else-is_empty-via-then-is_empty+else-is_empty-2, else-is_empty-via-else-is_empty}
 use Rattle.merkle_core.proofs.batch.UnmerkleizedBatch.merkleize.Goals as goal
 
