@@ -1,5 +1,5 @@
 -- What a proof reads from a structure that agrees with a list.
-use Rattle.std.proofs.Common.{inl, inr, ◌≡◌, ℕ, ◌+◌, ◌<◌, ◌≤◌, ◌⊎◌, List, [], ◌∷◌, ◌++◌, length, map, Bool, true, false, cond, Option, Some, None, slice_get, refl, ap, sym, ◌∙◌, subst, arith}
+use Rattle.std.proofs.Common.{inl, inr, ◌≡◌, ℕ, ◌<◌, ◌≤◌, ◌⊎◌, List, [], ◌∷◌, ◌++◌, length, map, Bool, true, false, cond, Option, Some, None, slice_get, refl, ap, sym, ◌∙◌, subst, arith}
 use Rattle.std.proofs.lemmas.Bool.{le-leb}
 use Rattle.std.specs.List.{AllZip}
 use Rattle.merkle_base.specs.Tree.{Tree, position}
@@ -64,11 +64,11 @@ is_memory (DataCorrupted a) = inl (λ e. cc)
 is_memory (BitOutOfBounds a b) = inl (λ e. cc)
 is_memory OutOfMemory = inr refl
 
--- a plan of one leaf of a lawful count is not refused
-pub one_leaf_planned : {F : Type 0} (m n i b : ℕ) (e : Error F) → i < n → n ≤ m → b ≡ i + 1 → IsRefusal m n i b e → ⊥
-one_leaf_planned m n i b e less within next refused = elim refused [
-  | inl x ↦ (let no : b ≤ i = x.0 in omega (arith, no, next))
-  | inr x ↦ elim x [ inl y ↦ (let no : n < b = y.1 in omega (arith, no, less, next)) | inr y ↦ (let no : m < n = y.2 in omega (arith, no, within)) ]
+-- a plan of leaves of a lawful count is not refused
+pub range_planned : {F : Type 0} (m n a b : ℕ) (e : Error F) → a < b → b ≤ n → n ≤ m → IsRefusal m n a b e → ⊥
+range_planned m n a b e some less within refused = elim refused [
+  | inl x ↦ (let no : b ≤ a = x.0 in omega (arith, no, some))
+  | inr x ↦ elim x [ inl y ↦ (let no : n < b = y.1 in omega (arith, no, less)) | inr y ↦ (let no : m < n = y.2 in omega (arith, no, within)) ]
 ]
 
 zip_weaker : {A B : Type 0} (P Q : A → B → Type 0) → ((a : A) (b : B) → P a b → Q a b) → (xs : List A) (ys : List B) → AllZip P xs ys → AllZip Q xs ys

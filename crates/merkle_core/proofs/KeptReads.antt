@@ -1,5 +1,5 @@
 -- What the proof of leaves at or after the boundary reads is held.
-use Rattle.std.proofs.Common.{inl, inr, ◌≡◌, ◌≢◌, ◌<◌, ℕ, ◌+◌, ◌≤◌, List, [], ◌∷◌, ◌++◌, length, map, flat_map, Bool, true, cond, Some, None, slice_get, refl, ap, sym, ◌∙◌, subst, arith, leb, ltb}
+use Rattle.std.proofs.Common.{inl, inr, ◌≡◌, ◌≢◌, ◌<◌, ℕ, ◌≤◌, List, [], ◌∷◌, ◌++◌, length, map, flat_map, Bool, true, cond, Some, None, slice_get, refl, ap, sym, ◌∙◌, subst, arith, leb, ltb}
 use Rattle.std.specs.Prelude.{◌||◌}
 use Rattle.std.specs.List.{AllByRecursion}
 use Rattle.std.proofs.lemmas.Bool.{leb-true, and_parts, or_cases}
@@ -77,13 +77,13 @@ none_missing s h c X agrees a b p low missing =
     let there : c.node p ≡ Some (digest_at h X t.0) = agrees.holds p ∙ ap (λ k. cond k (slice_get (node_digests h s.rule X) p) None) kept ∙ get_map (digest_at h X) (forest s.rule (length X)).nodes p t.0 t.1 in
     let none : Some (digest_at h X t.0) ≡ None = sym there ∙ sym missing.missing in absurd (cc)
 
--- the proof of a leaf is refused for want of memory alone
-pub only_memory : {F D : Type 0} (h : Hashing D) (rule : List ℕ → List ℕ) (c : Contents D) (X : List D) → Agrees h rule c X → (i k : ℕ) → c.boundary ≤ i → k ≤ length (peaks_of rule (length X)) → (e : Error F)
-    → (e ≢ OutOfMemory → IsBuildRefusal rule (record { leaves = length X; start = i; end = i + 1 }) k (λ p r. r ≡ c.node p) e) → e ≡ OutOfMemory
-only_memory {F} {D} h rule c X agrees i k low few e refused = elim (is_memory e) [
+-- the proof of leaves at or after the boundary is refused for want of memory alone
+pub only_memory : {F D : Type 0} (h : Hashing D) (rule : List ℕ → List ℕ) (c : Contents D) (X : List D) → Agrees h rule c X → (a b k : ℕ) → c.boundary ≤ a → k ≤ length (peaks_of rule (length X)) → (e : Error F)
+    → (e ≢ OutOfMemory → IsBuildRefusal rule (record { leaves = length X; start = a; end = b }) k (λ p r. r ≡ c.node p) e) → e ≡ OutOfMemory
+only_memory {F} {D} h rule c X agrees a b k low few e refused = elim (is_memory e) [
   | inr is ↦ is
   | inl other ↦ absurd (elim (refused other) [
     | inl x ↦ (let no : length (peaks_of rule (length X)) < k = x.0 in omega (arith, no, few))
-    | inr x ↦ none_missing (setting h ForwardFold rule 0 0) h c X agrees i (i + 1) x.1.0 low x.1.2
+    | inr x ↦ none_missing (setting h ForwardFold rule 0 0) h c X agrees a b x.1.0 low x.1.2
   ])
 ]

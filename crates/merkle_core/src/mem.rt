@@ -15,7 +15,7 @@ ghost use Rattle.merkle_core.specs.Recorded.{records};
 ghost use Rattle.merkle_core.specs.Stands.{StandsOn, last_list};
 ghost use Rattle.merkle_core.specs.Replay.{applied, matched, refusal};
 ghost use Rattle.merkle_core.specs.Refusals.{error_of};
-ghost use Rattle.merkle_core.specs.ProofRefusals.{IsProofRefusal};
+ghost use Rattle.merkle_core.specs.ProofRefusals.{IsProofRefusal, IsRangeRefusal};
 ghost use Rattle.merkle_base.specs.declared.family.Bagging.TheVariants.{ForwardFold};
 ghost use Rattle.merkle_proof.specs.Input.{setting};
 ghost use Rattle.merkle_proof.specs.Range.{IsHonestRange};
@@ -38,6 +38,7 @@ use merkle_proof::read::Readable;
 use std::alloc::{AllocError, Global};
 use std::collections::VecDeque;
 use std::marker::Model;
+use std::ops::Range;
 
 /// The greatest number of peaks of a family's structure.
 const MAX_PEAKS: usize = 64;
@@ -248,6 +249,33 @@ impl<F: Family, D: Digest> Mem<F, D> {
         }
         let alloc = self.allocator();
         match RangePlan::new(alloc, leaves, location..location + 1) {
+            Ok(plan) => self.build_proof(plan, hasher, inactive),
+            Err(error) => Err(error),
+        }
+    }
+
+    /// The proof of the leaves in a range of locations, with a number of peaks that count as inactive.
+    ///
+    /// Refused, in this order: with `Empty` where the range has no leaves, with `RangeOutOfBounds` of its end where that
+    /// is past the leaves, with `InvalidProof` where the number exceeds that of the peaks, and with `ElementPruned` of the
+    /// first node that is missing, of the peaks before the range, the peaks after it, and the path siblings. Refused with
+    /// `OutOfMemory` wherever there is no memory.
+    pub fn range_proof<H: Hasher<F, Digest = D>>(
+        &self,
+        hasher: &H,
+        range: Range<Location<F>>,
+        inactive: usize,
+    ) -> Result<Proof<F, D>, Error<F>>
+        requires forward { H.bagging_of hasher.now ≡ ForwardFold }
+        ensures built { (n : ℕ) → n ≤ F.MAX_LEAVES → size F.rule n ≡ self.now.size → IfOk result (λ p. (range.start < range.end) × (range.end ≤ n) × IsBuiltProof (setting (H.hashing hasher.now) (H.bagging_of hasher.now) F.rule F.MAX_LEAVES F.DOMAIN) (node self.now) inactive (record { leaves = n; start = range.start; end = range.end }) p) }
+
+        // It is the honest proof of every list that the structure agrees with.
+        ensures honest { (X : List D) → Agrees (H.hashing hasher.now) F.rule (contents self.now) X → IfOk result (λ p. (range.start < range.end) × (range.end ≤ length X) × IsHonestRange (setting (H.hashing hasher.now) (H.bagging_of hasher.now) F.rule F.MAX_LEAVES F.DOMAIN) X inactive (list_input p X range.start range.end)) }
+        ensures given { (h : Hashing D) → (X : List D) → Agrees h F.rule (contents self.now) X → self.now.boundary ≤ range.start → range.start < range.end → range.end ≤ length X → inactive ≤ length (peaks_of F.rule (length X)) → IsOkUnless result Error.OutOfMemory }
+        ensures err { (n : ℕ) → n ≤ F.MAX_LEAVES → size F.rule n ≡ self.now.size → IfErr result (λ e. e ≢ Error.OutOfMemory → IsRangeRefusal F.rule F.MAX_LEAVES n range.start range.end inactive (node self.now) e) }
+    {
+        let leaves = self.leaves();
+        match RangePlan::new(self.allocator(), leaves, range) {
             Ok(plan) => self.build_proof(plan, hasher, inactive),
             Err(error) => Err(error),
         }

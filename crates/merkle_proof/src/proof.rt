@@ -186,6 +186,29 @@ impl<F: Family, D: Digest> Proof<F, D> {
         }
     }
 
+    /// Whether the elements are the leaves from a location on of the list behind the root.
+    ///
+    /// It is answered from the proof alone. `true` means that the proof is the honest one of these leaves, or else that
+    /// the computation and the list hash different inputs to one digest at the same place. An honest proof is never
+    /// answered `false`. With no elements `true` is answered for the empty proof, from location 0 on and against the root
+    /// of no leaves, and for nothing else.
+    ///
+    /// Refused only where there is no memory.
+    pub fn verify_range_inclusion<H: Hasher<F, Digest = D>>(
+        &self,
+        hasher: &H,
+        elements: &[&[u8]],
+        start: Location<F>,
+        root: &D,
+    ) -> Result<bool, OutOfMemory>
+        requires forward { H.bagging_of hasher.now ≡ ForwardFold }
+        ensures exact { let h = H.hashing hasher.now in IfOk result (λ b. IsTrue b ↔ Accepts (setting h (H.bagging_of hasher.now) F.rule F.MAX_LEAVES F.DOMAIN) (input_of h F.rule self.now start (bytes_of elements.now)) root.now) }
+        ensures honest { let h = H.hashing hasher.now in let s = setting h (H.bagging_of hasher.now) F.rule F.MAX_LEAVES F.DOMAIN in IfOk result (λ b. (xs : _) (k : ℕ) → length xs ≤ F.MAX_LEAVES → k ≤ length (peaks_of F.rule (length xs)) → list_root h F.rule F.DOMAIN (H.bagging_of hasher.now) xs k ≡ root.now → IsHonestRange s xs k (input_of h F.rule self.now start (bytes_of elements.now)) → IsTrue b) }
+        ensures sound { let h = H.hashing hasher.now in let s = setting h (H.bagging_of hasher.now) F.rule F.MAX_LEAVES F.DOMAIN in let r = input_of h F.rule self.now start (bytes_of elements.now) in IfOk result (λ b. IsTrue b → (xs : _) (k : ℕ) → length xs ≤ F.MAX_LEAVES → k ≤ length (peaks_of F.rule (length xs)) → list_root h F.rule F.DOMAIN (H.bagging_of hasher.now) xs k ≡ root.now → IsHonestRange s xs k r ⊎ RangeCollides s r xs k) }
+    {
+        self.verify_range(hasher, elements, start, root)
+    }
+
     /// Whether the element is the leaf at a location of the list behind the root.
     ///
     /// It is answered from the proof alone. `true` means that the proof is the honest one of that leaf, or else that
@@ -205,6 +228,6 @@ impl<F: Family, D: Digest> Proof<F, D> {
         ensures honest { let h = H.hashing hasher.now in let s = setting h (H.bagging_of hasher.now) F.rule F.MAX_LEAVES F.DOMAIN in IfOk result (λ b. (xs : _) (k : ℕ) → length xs ≤ F.MAX_LEAVES → k ≤ length (peaks_of F.rule (length xs)) → list_root h F.rule F.DOMAIN (H.bagging_of hasher.now) xs k ≡ root.now → IsHonestRange s xs k (input_of h F.rule self.now location (element.now ∷ [])) → IsTrue b) }
         ensures sound { let h = H.hashing hasher.now in let s = setting h (H.bagging_of hasher.now) F.rule F.MAX_LEAVES F.DOMAIN in let r = input_of h F.rule self.now location (element.now ∷ []) in IfOk result (λ b. IsTrue b → (xs : _) (k : ℕ) → length xs ≤ F.MAX_LEAVES → k ≤ length (peaks_of F.rule (length xs)) → list_root h F.rule F.DOMAIN (H.bagging_of hasher.now) xs k ≡ root.now → IsHonestRange s xs k r ⊎ RangeCollides s r xs k) }
     {
-        self.verify_range(hasher, &[element], location, root)
+        self.verify_range_inclusion(hasher, &[element], location, root)
     }
 }

@@ -13,6 +13,7 @@ mod paths;
 mod plans;
 mod proofs;
 mod pruned;
+mod ranges;
 mod stacks;
 mod structures;
 

@@ -17,7 +17,7 @@ use std::alloc::Global;
 use std::process::Abort;
 
 /// A proof with these digests, one byte each.
-fn proof_of<F: Family>(
+pub(super) fn proof_of<F: Family>(
     rt: &impl Abort,
     alloc: Global,
     leaves: u64,

@@ -4,7 +4,7 @@ use Rattle.std.proofs.lemmas.Result.{IfErr-weaker, IfOk-weaker}
 use Rattle.merkle_base.proofs.Nodes.{size_inj}
 use Rattle.merkle_base.proofs.Limits.{lawful_leaves}
 use Rattle.merkle_core.specs.Store.{node, contents}
-use Rattle.merkle_core.proofs.HonestReads.{is_memory, one_leaf_planned}
+use Rattle.merkle_core.proofs.HonestReads.{is_memory, range_planned}
 use Rattle.merkle_core.proofs.KeptReads.{only_memory}
 use Rattle.merkle_proof.specs.Input.{setting}
 use Rattle.merkle_proof.specs.Range.{IsHonestRange}
@@ -58,7 +58,7 @@ returns-in-Ok-clause-given g c = λ h X agrees low less few.
     let leaves : c.leaves-leaves.result ≡ length X = size_inj g.F.Family.rule c.leaves-leaves.result (length X) (c.leaves-leaves.ensures.sized ∙ agrees.sized) in
     let plan : c.in-Ok.plan ≡ record { leaves = length X; start = c.args.location; end = c.args.location + 1 } =
     c.in-Ok.ensures.ok ∙ ap (λ e. record { leaves = c.leaves-leaves.result; start = c.args.location; end = e }) c.add.ensures ∙ ap (λ m. record { leaves = m; start = c.args.location; end = c.args.location + 1 }) leaves in
-    IfErr-weaker c.build_proof.result _ _ (λ e refused. only_memory h g.F.Family.rule (contents c.args.self.now) X agrees c.args.location c.args.inactive low few e
+    IfErr-weaker c.build_proof.result _ _ (λ e refused. only_memory h g.F.Family.rule (contents c.args.self.now) X agrees c.args.location (c.args.location + 1) c.args.inactive low few e
     (λ other. subst (λ r. IsBuildRefusal g.F.Family.rule r c.args.inactive (λ p o. o ≡ node c.args.self.now p) e) plan (refused other))) c.build_proof.ensures.err
 
 pub returns-in-Ok-clause-err : goal.returns-in-Ok-clause-err
@@ -74,10 +74,10 @@ returns-in-Err-clause-given g c = λ h X agrees low less few.
     let below : c.args.location < c.leaves-leaves.result = ge_no c.args.location c.leaves-leaves.result (sym c.ge.ensures ∙ c.if-ge.false) in
     elim (is_memory c.in-Err.error) [
       | inr is ↦ is
-      | inl other ↦ absurd (one_leaf_planned g.F.Family.MAX_LEAVES c.leaves-leaves.result c.args.location c.add.result c.in-Err.error below c.leaves-leaves.ensures.bounded c.add.ensures (c.in-Err.ensures.err other))
+      | inl other ↦ absurd (range_planned g.F.Family.MAX_LEAVES c.leaves-leaves.result c.args.location c.add.result c.in-Err.error (omega (arith, c.add.ensures)) (omega (arith, below, c.add.ensures)) c.leaves-leaves.ensures.bounded (c.in-Err.ensures.err other))
     ]
 
 pub returns-in-Err-clause-err : goal.returns-in-Err-clause-err
 returns-in-Err-clause-err g c = λ n within sized other.
     let below : c.args.location < c.leaves-leaves.result = ge_no c.args.location c.leaves-leaves.result (sym c.ge.ensures ∙ c.if-ge.false) in
-    absurd (one_leaf_planned g.F.Family.MAX_LEAVES c.leaves-leaves.result c.args.location c.add.result c.in-Err.error below c.leaves-leaves.ensures.bounded c.add.ensures (c.in-Err.ensures.err other))
+    absurd (range_planned g.F.Family.MAX_LEAVES c.leaves-leaves.result c.args.location c.add.result c.in-Err.error (omega (arith, c.add.ensures)) (omega (arith, below, c.add.ensures)) c.leaves-leaves.ensures.bounded (c.in-Err.ensures.err other))

@@ -1,17 +1,18 @@
-use Rattle.std.proofs.Common.{[], ◌∷◌, sym, subst, ◌∙◌}
+use Rattle.std.proofs.Common.{sym, subst, ◌∙◌}
 use Rattle.merkle_proof.specs.Range.{Accepts}
 use Rattle.merkle_proof.specs.Input.{setting, input_of}
+use Rattle.merkle_proof.specs.Walk.{bytes_of}
 use Rattle.merkle_proof.proofs.RangeChecks.{honest_is_accepted, accepted_is_honest}
 use Rattle.merkle_proof.proofs.ListRoots.{roots_agree}
 use Rattle.merkle_proof.proofs.HasherLaws.{sound}
 use Rattle.merkle_proof.proofs.Grouping.{if_ok}
-use Rattle.merkle_proof.proofs.proof.Proof.verify_element_inclusion.Goals as goal
+use Rattle.merkle_proof.proofs.proof.Proof.verify_range_inclusion.Goals as goal
 
 pub returns-clause-honest : goal.returns-clause-honest
 returns-clause-honest g c =
     let h = g.H.Hasher.hashing c.args.hasher.now in
     let s = setting h (g.H.Hasher.bagging_of c.args.hasher.now) g.F.Family.rule g.F.Family.MAX_LEAVES g.F.Family.DOMAIN in
-    let r = input_of h g.F.Family.rule c.args.self.now c.args.location (c.args.element.now ∷ []) in
+    let r = input_of h g.F.Family.rule c.args.self.now c.args.start (bytes_of c.args.elements.now) in
     let d = g.met.D.Digest in
     let kept = sound h _ _ _ (g.met.H.Hasher.over_digest c.args.hasher.now) (g.H.Hasher.bagging_of c.args.hasher.now) g.F.Family.rule g.F.Family.MAX_LEAVES g.F.Family.MAX_NODES g.F.Family.DOMAIN g.D.Digest.SIZE d.eq_decides g.D.Digest.Spells d.nonempty d.bytes_spell d.one_length d.bytes_decide g.met.F.Family.lawful in
     if_ok c.verify_range.result (λ b e xs k l m is honest. e.1 (subst (Accepts s r) (roots_agree s xs k ∙ is) (honest_is_accepted s _ _ kept xs k l m r honest))) c.verify_range.ensures
@@ -20,7 +21,7 @@ pub returns-clause-sound : goal.returns-clause-sound
 returns-clause-sound g c =
     let h = g.H.Hasher.hashing c.args.hasher.now in
     let s = setting h (g.H.Hasher.bagging_of c.args.hasher.now) g.F.Family.rule g.F.Family.MAX_LEAVES g.F.Family.DOMAIN in
-    let r = input_of h g.F.Family.rule c.args.self.now c.args.location (c.args.element.now ∷ []) in
+    let r = input_of h g.F.Family.rule c.args.self.now c.args.start (bytes_of c.args.elements.now) in
     let d = g.met.D.Digest in
     let kept = sound h _ _ _ (g.met.H.Hasher.over_digest c.args.hasher.now) (g.H.Hasher.bagging_of c.args.hasher.now) g.F.Family.rule g.F.Family.MAX_LEAVES g.F.Family.MAX_NODES g.F.Family.DOMAIN g.D.Digest.SIZE d.eq_decides g.D.Digest.Spells d.nonempty d.bytes_spell d.one_length d.bytes_decide g.met.F.Family.lawful in
     if_ok c.verify_range.result (λ b e yes xs k l m is. accepted_is_honest s _ _ kept xs k l m r (subst (Accepts s r) (sym (roots_agree s xs k ∙ is)) (e.0 yes))) c.verify_range.ensures
