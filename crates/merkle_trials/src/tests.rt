@@ -14,6 +14,7 @@ mod plans;
 mod proofs;
 mod pruned;
 mod ranges;
+mod roots;
 mod stacks;
 mod structures;
 
