@@ -1,3 +1,4 @@
+pub mod Cases
 pub mod BytesLemmas
 pub mod Lists
 pub mod Growth

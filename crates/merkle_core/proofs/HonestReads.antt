@@ -11,8 +11,8 @@ use Rattle.merkle_base.specs.declared.error.Error.TheVariants.{NonLeaf, Position
 use Rattle.merkle_base.proofs.Lookup.{size_zero}
 use Rattle.merkle_proof.specs.Subtrees.{AreNodes}
 use Rattle.merkle_proof.specs.RangePlans.{LeafRange, AnswersList, IsRefusal, IsBuildRefusal}
-use Rattle.merkle_core.specs.Contents.{Contents, Agrees, is_kept}
-use Rattle.merkle_core.proofs.Kept.{get_map}
+use Rattle.merkle_batches.specs.Contents.{Contents, Agrees, is_kept}
+use Rattle.merkle_batches.proofs.Kept.{get_map}
 
 some_is : {X : Type 0} (x y : X) → Some x ≡ Some y → x ≡ y
 some_is x y e = cc

@@ -19,12 +19,12 @@ use Rattle.merkle_proof.specs.Range.{in_range, overlapping, wholly_after, range_
 use Rattle.merkle_proof.specs.RangePlans.{IsBuildRefusal, IsFirstMissing, nodes_read}
 use Rattle.merkle_proof.proofs.BuiltDigests.{reads_at}
 use Rattle.merkle_proof.proofs.Extraction.{all_filter}
-use Rattle.merkle_core.specs.Contents.{Contents, Agrees, is_kept}
+use Rattle.merkle_batches.specs.Contents.{Contents, Agrees, is_kept}
 use Rattle.merkle_core.proofs.HonestReads.{is_memory, position_of_node}
-use Rattle.merkle_core.proofs.Items.{get_reversed}
-use Rattle.merkle_core.proofs.Kept.{get_map}
-use Rattle.merkle_core.proofs.Needs.{sibling_kept, peaks_kept}
-use Rattle.merkle_proof.proofs.Claims.{by_test}
+use Rattle.merkle_batches.proofs.Items.{get_reversed}
+use Rattle.merkle_batches.proofs.Kept.{get_map}
+use Rattle.merkle_batches.proofs.Needs.{sibling_kept, peaks_kept}
+use Rattle.merkle_base.proofs.Cases.{by_test}
 use Rattle.merkle_base.proofs.Lists.{all_from_get}
 use Rattle.merkle_base.proofs.PeakLists.{peaks_built}
 

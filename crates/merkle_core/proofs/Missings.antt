@@ -13,15 +13,15 @@ use Rattle.merkle_base.proofs.Lookup.{peak_node}
 use Rattle.merkle_base.proofs.Nodes.{node_built, node_stays, node_anywhere, built_under, peak_of}
 use Rattle.merkle_core.specs.Drafts.{AreChildrenRead, LacksChild}
 use Rattle.merkle_core.specs.DraftReads.{ArePeaksRead, IsPeakGap}
-use Rattle.merkle_core.specs.Needed.{IsChanged, IsNeeded}
+use Rattle.merkle_batches.specs.Needed.{IsChanged, IsNeeded}
 use Rattle.merkle_core.specs.Refreshed.{AreRefreshed, LacksForOne, refreshed}
-use Rattle.merkle_core.specs.Stands.{is_touched}
+use Rattle.merkle_batches.specs.Stands.{is_touched}
 use Rattle.merkle_core.specs.declared.gap.Gap.{Gap}
 use Rattle.merkle_core.specs.declared.gap.Gap.TheVariants.{Missing}
-use Rattle.merkle_core.proofs.Items.{get_reverse, get_reversed}
+use Rattle.merkle_batches.proofs.Items.{get_reverse, get_reversed}
 use Rattle.merkle_core.proofs.RefreshedDigests.{read_is_child, read_is_untouched, read_child, refreshed_reads, touched_above, some_of}
-use Rattle.merkle_proof.proofs.Claims.{by_test}
-use Rattle.merkle_core.proofs.OptionFacts.{both_none}
+use Rattle.merkle_base.proofs.Cases.{by_test}
+use Rattle.merkle_batches.proofs.OptionFacts.{both_none}
 
 -- it names a needed node that is not there
 abbrev pub NeededGap : {F D : Type 0} → (List ℕ → List ℕ) → ℕ → ℕ → (m below : ℕ → Option D) → Gap F → Type 0

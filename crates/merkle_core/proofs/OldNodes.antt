@@ -11,11 +11,11 @@ use Rattle.merkle_base.proofs.Growth.{built_at}
 use Rattle.merkle_base.proofs.Nodes.{node_built, built_under}
 use Rattle.merkle_core.specs.Drafts.{IsReadFor}
 use Rattle.merkle_core.specs.Refreshed.{refreshed}
-use Rattle.merkle_core.specs.Stands.{is_touched}
-use Rattle.merkle_core.specs.Truth.{ReadsTrue}
-use Rattle.merkle_core.proofs.ListTruths.{truth_of, truth_at}
+use Rattle.merkle_batches.specs.Stands.{is_touched}
+use Rattle.merkle_batches.specs.Truth.{ReadsTrue}
+use Rattle.merkle_batches.proofs.ListTruths.{truth_of, truth_at}
 use Rattle.merkle_core.proofs.RefreshedDigests.{refreshed_right, some_of}
-use Rattle.merkle_proof.proofs.Claims.{by_test}
+use Rattle.merkle_base.proofs.Cases.{by_test}
 use Rattle.merkle_base.proofs.Lists.{get_exists}
 
 -- what is read for a tree stands under it and is untouched

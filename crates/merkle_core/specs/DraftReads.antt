@@ -6,10 +6,10 @@ use Rattle.std.specs.Coded.{Coded, code_by, coded×, coded_ℕ, coded_list}
 use Rattle.std.specs.Option.{option_or}
 use Rattle.merkle_base.specs.Tree.{Tree, position}
 use Rattle.merkle_base.specs.Places.{peaks_of}
-use Rattle.merkle_core.specs.Contents.{Contents}
+use Rattle.merkle_batches.specs.Contents.{Contents}
 use Rattle.merkle_core.specs.Gaps.{IsGapAt}
-use Rattle.merkle_core.specs.Read.{read_over}
-use Rattle.merkle_core.specs.Recorded.{Chain, Recorded, recorded_code}
+use Rattle.merkle_batches.specs.Read.{read_over}
+use Rattle.merkle_batches.specs.Recorded.{Chain, Recorded, recorded_code}
 use Rattle.merkle_core.specs.declared.gap.Gap.{Gap}
 
 -- a batch in the making

@@ -7,13 +7,13 @@ ghost use Rattle.std.specs.FinMap.{empty, get};
 ghost use Rattle.merkle_base.specs.Forest.{size};
 ghost use Rattle.merkle_base.specs.Hashing.{Hashing};
 ghost use Rattle.merkle_base.specs.Tree.{Tree, position};
-ghost use Rattle.merkle_core.specs.Contents.{AgreesWithOne};
-ghost use Rattle.merkle_core.specs.Missing.{IsMissing};
-ghost use Rattle.merkle_core.specs.Pending.{Fault, first_fault, forked, kept, kept_lists, leaf_total, pending_list, update_fault, with_leaf, with_leaves, with_update, with_updates, without_ancestors};
-ghost use Rattle.merkle_core.specs.Recorded.{after, records};
-ghost use Rattle.merkle_core.specs.Refusals.{fault_error};
-ghost use Rattle.merkle_core.specs.Stands.{StandsOn, last_list};
-ghost use Rattle.merkle_core.specs.Store.{contents};
+ghost use Rattle.merkle_batches.specs.Contents.{AgreesWithOne};
+ghost use Rattle.merkle_batches.specs.Missing.{IsMissing};
+ghost use Rattle.merkle_batches.specs.Pending.{Fault, first_fault, forked, kept, kept_lists, leaf_total, pending_list, update_fault, with_leaf, with_leaves, with_update, with_updates, without_ancestors};
+ghost use Rattle.merkle_batches.specs.Recorded.{after, records};
+ghost use Rattle.merkle_batches.specs.Refusals.{fault_error};
+ghost use Rattle.merkle_batches.specs.Stands.{StandsOn, last_list};
+ghost use Rattle.merkle_batches.specs.Store.{contents};
 
 use crate::draft::Draft;
 use crate::mem::Mem;
@@ -49,7 +49,7 @@ pub struct UnmerkleizedBatch<F: Family, D: Digest> {
 
 impl<F: Family, D: Digest> Model for UnmerkleizedBatch<F, D> {
     ghost use Rattle.std.specs.FinMap.{from_entries};
-    ghost use Rattle.merkle_core.specs.Pending.{IsPending, Pending, pending_code};
+    ghost use Rattle.merkle_batches.specs.Pending.{IsPending, Pending, pending_code};
 
     ghost Value = { Pending D };
 

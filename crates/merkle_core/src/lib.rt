@@ -8,7 +8,6 @@ pub mod batch;
 mod draft;
 mod find;
 mod gap;
-pub mod laws;
 pub mod mem;
 mod merkleized;
 pub mod mmb;

@@ -3,18 +3,18 @@ ghost use Rattle.std.specs.Prelude.{◌≡◌, ◌≢◌, ◌+◌, ◌<◌, ◌�
 ghost use Rattle.merkle_base.specs.Places.{ArePeaks, peaks_of};
 ghost use Rattle.merkle_base.specs.Forest.{size};
 ghost use Rattle.merkle_base.specs.Root.{list_root, peaks_root};
-ghost use Rattle.merkle_core.specs.Store.{node, contents, whole_store};
+ghost use Rattle.merkle_batches.specs.Store.{node, contents, whole_store};
 ghost use Rattle.merkle_base.specs.Hashing.{Hashing, TellsApart};
-ghost use Rattle.merkle_core.specs.Collision.{CollidesWithOne};
-ghost use Rattle.merkle_core.specs.Contents.{Agrees, held_peaks};
-ghost use Rattle.merkle_core.specs.Pending.{forked};
-ghost use Rattle.merkle_core.specs.Roots.{root_batch};
+ghost use Rattle.merkle_batches.specs.Collision.{CollidesWithOne};
+ghost use Rattle.merkle_batches.specs.Contents.{Agrees, held_peaks};
+ghost use Rattle.merkle_batches.specs.Pending.{forked};
+ghost use Rattle.merkle_batches.specs.Roots.{root_batch};
 ghost use Rattle.std.specs.FinMap.{empty};
 ghost use Rattle.std.specs.Map.{lookup};
-ghost use Rattle.merkle_core.specs.Recorded.{records};
-ghost use Rattle.merkle_core.specs.Stands.{StandsOn, last_list};
-ghost use Rattle.merkle_core.specs.Replay.{applied, matched, refusal};
-ghost use Rattle.merkle_core.specs.Refusals.{error_of};
+ghost use Rattle.merkle_batches.specs.Recorded.{records};
+ghost use Rattle.merkle_batches.specs.Stands.{StandsOn, last_list};
+ghost use Rattle.merkle_batches.specs.Replay.{applied, matched, refusal};
+ghost use Rattle.merkle_batches.specs.Refusals.{error_of};
 ghost use Rattle.merkle_core.specs.ProofRefusals.{IsProofRefusal, IsRangeRefusal};
 ghost use Rattle.merkle_base.specs.declared.family.Bagging.TheVariants.{ForwardFold};
 ghost use Rattle.merkle_proof.specs.Input.{setting};
@@ -68,13 +68,13 @@ pub struct Mem<F: Family, D: Digest> {
 
 impl<F: Family, D: Digest> Model for Mem<F, D> {
     ghost use Rattle.std.specs.Prelude.{◌+◌, length};
-    ghost use Rattle.merkle_core.specs.Store.{Store, store_code, stored_of};
+    ghost use Rattle.merkle_batches.specs.Store.{Store, store_code, stored_of};
 
     ghost Value = { Store D };
 
     ghost coded = { store_code D.code };
 
-    ghost use Rattle.merkle_core.specs.Whole.{IsKept};
+    ghost use Rattle.merkle_batches.specs.Whole.{IsKept};
 
     ghost view = { λ m. record { boundary = m.boundary; size = m.start + length m.nodes.items; stored = stored_of m.pins.items m.start m.nodes.items } };
 

@@ -10,7 +10,7 @@ ghost use Rattle.merkle_base.specs.Tree.{Tree};
 ghost use Rattle.merkle_core.specs.DraftReads.{below, OnlyOverwrites};
 ghost use Rattle.merkle_core.specs.Drafts.{LacksFor};
 ghost use Rattle.merkle_core.specs.Refreshed.{all_computed_at, are_before, AreRefreshed, computed_at, HasLeavesOf, LacksForOne, refreshed, touched_leaves};
-ghost use Rattle.merkle_core.specs.Store.{contents};
+ghost use Rattle.merkle_batches.specs.Store.{contents};
 ghost use Rattle.merkle_proof.specs.Subtrees.{Means};
 
 use crate::draft::Draft;

@@ -3,8 +3,8 @@ ghost use Rattle.std.specs.Prelude.{◌≡◌, ◌+◌, ◌-◌, ◌<◌, ◌≤
 ghost use Rattle.std.specs.FinMap.{get};
 ghost use Rattle.std.specs.Map.{lookup};
 ghost use Rattle.std.specs.VecDeque.{deque_len, deque_capacity};
-ghost use Rattle.merkle_core.specs.Held.{stored_at, total_appended, held_contents};
-ghost use Rattle.merkle_core.specs.Replay.{all_laid, laid, over};
+ghost use Rattle.merkle_batches.specs.Held.{stored_at, total_appended, held_contents};
+ghost use Rattle.merkle_batches.specs.Replay.{all_laid, laid, over};
 
 use crate::overwrites::Overwrites;
 use crate::record::Record;

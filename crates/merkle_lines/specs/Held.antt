@@ -2,10 +2,10 @@
 use Rattle.std.specs.Prelude.{◌≡◌, ℕ, List, [], Option, Some, None, length}
 use Rattle.std.specs.FinMap.{empty}
 use Rattle.merkle_base.specs.Hashing.{Hashing}
-use Rattle.merkle_core.specs.Contents.{Agrees}
-use Rattle.merkle_core.specs.Pending.{Pending, forked, with_leaves}
-use Rattle.merkle_core.specs.Roots.{root_batch}
-use Rattle.merkle_core.specs.Store.{Store, contents}
+use Rattle.merkle_batches.specs.Contents.{Agrees}
+use Rattle.merkle_batches.specs.Pending.{Pending, forked, with_leaves}
+use Rattle.merkle_batches.specs.Roots.{root_batch}
+use Rattle.merkle_batches.specs.Store.{Store, contents}
 use Rattle.merkle_forests.specs.Mmb.{newest_pair}
 use Rattle.merkle_forests.specs.Mmr.{carries}
 use Rattle.merkle_lines.specs.declared.command.FamilyName.TheVariants.{Mmr, Mmb}

@@ -27,7 +27,7 @@ use Rattle.merkle_proof.specs.GroupedPeaks.{HoldsGroups}
 use Rattle.merkle_proof.specs.declared.groups.Groups.{Groups}
 use Rattle.merkle_proof.specs.declared.subtree.Subtree.{Subtree}
 use Rattle.merkle_proof.specs.declared.proof.Proof.{Proof}
-use Rattle.merkle_proof.proofs.Claims.{by_test}
+use Rattle.merkle_base.proofs.Cases.{by_test}
 use Rattle.merkle_proof.proofs.PeakLoop.{peaks_at}
 use Rattle.merkle_base.proofs.Lists.{cons_head, cons_tail}
 use Rattle.merkle_base.proofs.PeakLists.{peaks_built}

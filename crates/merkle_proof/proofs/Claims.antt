@@ -5,14 +5,10 @@ use Rattle.std.proofs.lemmas.Bool.{false≢true, or_parts}
 use Rattle.merkle_proof.specs.Expression.{Node, hashed_at, given, hashed, value, Holds, Alike, cut_left, cut_right, both, Agree}
 use Rattle.merkle_base.specs.Hashing.{Hashing}
 use Rattle.merkle_base.specs.Tree.{Tree, leaf, join}
+use Rattle.merkle_base.proofs.Cases.{by_test}
 use Rattle.merkle_proof.specs.Plan.{Plan, peak, folding, full, node_expression, tree_meets, meets, siblings, outer, inner, plan_digest, tree_digest, honest_digests}
 use Rattle.merkle_proof.specs.Claim.{next, tree_claim, claim, HonestAccepted, InTree, InPlan, NothingElse, PairAgrees}
 use Rattle.merkle_proof.proofs.Collisions.{main}
-
--- a test's two cases
-pub by_test {ℓ} : (P : Bool → Type ℓ) (b : Bool) → (b ≡ true → P true) → (b ≡ false → P false) → P b
-by_test P true x y = x refl
-by_test P false x y = y refl
 
 -- where a tree or a plan isn't met no location of it is chosen
 pub unmet_tree : (c : ℕ → Bool) (t : Tree) → tree_meets c t ≡ false → (i : ℕ) → InTree t i → c i ≡ true → ⊥

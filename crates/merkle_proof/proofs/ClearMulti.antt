@@ -20,7 +20,7 @@ use Rattle.merkle_proof.proofs.Collisions.{member_ordered}
 use Rattle.merkle_proof.proofs.NoCollisions.{Within, given_within, hashed_within, member_unordered}
 use Rattle.merkle_proof.proofs.ClearRange.{once_in, no_root, found_none, no_collision}
 use Rattle.merkle_proof.proofs.FirstCollisions.{finds_first}
-use Rattle.merkle_proof.proofs.Claims.{by_test}
+use Rattle.merkle_base.proofs.Cases.{by_test}
 use Rattle.merkle_proof.proofs.ListedDigests.{plan_for, of_each, listed_some}
 use Rattle.merkle_proof.proofs.Multiproofs.{each_honest, needs_peaks, chosen_in, some_leaves, first_location}
 use Rattle.merkle_proof.proofs.Verdicts.{distinct_nodes}

@@ -15,7 +15,8 @@ use Rattle.merkle_proof.specs.Table.{digest_for}
 use Rattle.merkle_proof.specs.Pinned.{pin_positions, pinned_on}
 use Rattle.merkle_proof.specs.Verdict.{HonestPinnedIsClear}
 use Rattle.merkle_proof.proofs.NoCollisions.{Within, given_within, hashed_within}
-use Rattle.merkle_proof.proofs.Claims.{by_test, split_left, split_right}
+use Rattle.merkle_base.proofs.Cases.{by_test}
+use Rattle.merkle_proof.proofs.Claims.{split_left, split_right}
 use Rattle.merkle_proof.proofs.HonestTold.{trees_left, plans_left}
 use Rattle.merkle_proof.proofs.PeakGroups.{range_layout}
 use Rattle.merkle_proof.proofs.RangeChecks.{honest_leaves}

@@ -17,7 +17,8 @@ use Rattle.merkle_proof.specs.Check.{Setting, RangeInput, leaf_given, chosen}
 use Rattle.merkle_base.specs.Places.{peaks_of, wholly_before}
 use Rattle.merkle_proof.specs.Range.{overlapping, wholly_after, range_parts, range_siblings, end_of, leaf_of, IsHonestSome}
 use Rattle.merkle_proof.specs.Extract.{inner_pairs, over_pairs, single_pairs, extracted, IsNodePair, ExtractsNodes}
-use Rattle.merkle_proof.proofs.Claims.{by_test, split_left, split_right, tree_honest}
+use Rattle.merkle_base.proofs.Cases.{by_test}
+use Rattle.merkle_proof.proofs.Claims.{split_left, split_right, tree_honest}
 use Rattle.merkle_proof.proofs.RangeChecks.{some_honest, honest_leaves}
 use Rattle.merkle_base.proofs.PeakLists.{peaks_built}
 

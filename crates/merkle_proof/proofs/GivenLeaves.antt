@@ -6,7 +6,7 @@ use Rattle.merkle_base.specs.Hashing.{Hashing}
 use Rattle.merkle_proof.specs.Expression.{Node, given, hashed, value}
 use Rattle.merkle_proof.specs.Plan.{tree_meets, siblings}
 use Rattle.merkle_proof.specs.Claim.{next, tree_claim}
-use Rattle.merkle_proof.proofs.Claims.{by_test}
+use Rattle.merkle_base.proofs.Cases.{by_test}
 use Rattle.merkle_proof.specs.Walk.{leaf_from, peak_values}
 use Rattle.merkle_proof.specs.Range.{in_range}
 use Rattle.merkle_proof.proofs.Walks.{in_from, in_below}

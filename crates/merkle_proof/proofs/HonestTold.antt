@@ -9,7 +9,8 @@ use Rattle.merkle_proof.specs.Claim.{next}
 use Rattle.merkle_proof.specs.MultiClaim.{also, or_empty, multi_tree, multi_claim}
 use Rattle.merkle_proof.specs.PinnedClaim.{pinned_or, pin_tree, pin_plan, outside_tree, outside_plan, pinned_tree, pinned_claim, PinsTree, PinsPlan, PinsAll, PinsTrees}
 use Rattle.merkle_proof.specs.Complete.{HonestTree, HonestPlan, HonestMultiAccepted, HonestPinsAccepted}
-use Rattle.merkle_proof.proofs.Claims.{by_test, split_left, split_right}
+use Rattle.merkle_base.proofs.Cases.{by_test}
+use Rattle.merkle_proof.proofs.Claims.{split_left, split_right}
 
 -- what is told holds, and the value is d
 Gives : {D : Type 0} → Hashing D → Expression D → D → Type 0

@@ -14,7 +14,7 @@ use Rattle.merkle_proof.specs.Order.{Distinct}
 use Rattle.merkle_proof.specs.Check.{Setting, root_of, inputs_of, all_inputs, list_expression}
 use Rattle.merkle_base.specs.Places.{peaks_of}
 use Rattle.merkle_proof.specs.Table.{digest_for}
-use Rattle.merkle_proof.proofs.Claims.{by_test}
+use Rattle.merkle_base.proofs.Cases.{by_test}
 use Rattle.merkle_proof.proofs.ListChecks.{root_tells}
 use Rattle.merkle_base.proofs.PeakLists.{Spans, peaks_spans}
 use Rattle.merkle_proof.proofs.Extraction.{all_take, all_drop}

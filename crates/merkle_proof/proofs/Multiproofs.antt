@@ -21,7 +21,7 @@ use Rattle.merkle_proof.specs.Table.{digest_for, digest_of, digest_at_position}
 use Rattle.merkle_proof.specs.Multiproof.{one_leaf_nodes, is_one_leaf_position, multi_positions, MultiInput, locations_in, leaves_in, multi_on, AllHolds, AcceptsMultiSome, IsHonestMultiSome, MultiCollides, HonestMultiIsAccepted, AcceptedMultiIsHonest}
 use Rattle.merkle_proof.proofs.Collisions.{member_left, member_right}
 use Rattle.merkle_proof.proofs.NoCollisions.{member_split}
-use Rattle.merkle_proof.proofs.Claims.{by_test}
+use Rattle.merkle_base.proofs.Cases.{by_test}
 use Rattle.merkle_proof.proofs.ToldDigests.{no_other_multi}
 use Rattle.merkle_proof.proofs.HonestTold.{honest_multi_accepted}
 use Rattle.merkle_proof.proofs.RangeChecks.{covers, small_leaves, small_inactive, empty_root}

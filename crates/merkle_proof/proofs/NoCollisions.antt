@@ -9,7 +9,8 @@ use Rattle.merkle_proof.specs.Plan.{Plan, peak, folding, full, node_expression, 
 use Rattle.merkle_proof.specs.Claim.{next, tree_claim, claim, claim_of, InTree}
 use Rattle.merkle_proof.specs.Exact.{forest_inputs, SamePeaks, HonestNeverCollides}
 use Rattle.merkle_proof.proofs.Collisions.{member_left, member_right, main_visited, member_ordered, Collides_in}
-use Rattle.merkle_proof.proofs.Claims.{by_test, split_left, split_right}
+use Rattle.merkle_base.proofs.Cases.{by_test}
+use Rattle.merkle_proof.proofs.Claims.{split_left, split_right}
 use Rattle.merkle_base.proofs.Lists.{cons_head, cons_tail}
 
 module _ {D : Type 0} (h : Hashing D) (X Y : ℕ → D) where

@@ -24,7 +24,7 @@ use Rattle.merkle_proof.proofs.NoCollisions.{member_split}
 use Rattle.merkle_proof.proofs.Collisions.{member_left, member_right}
 use Rattle.merkle_proof.proofs.Extraction.{all_filter, all_single_before, all_single_after}
 use Rattle.merkle_proof.proofs.PlacesOnce.{distinct_append}
-use Rattle.merkle_proof.proofs.Claims.{by_test}
+use Rattle.merkle_base.proofs.Cases.{by_test}
 use Rattle.merkle_proof.proofs.PeakGroups.{groups}
 use Rattle.merkle_base.proofs.PeakLists.{Spans, peaks_built, peaks_spans}
 use Rattle.merkle_proof.proofs.Verdicts.{apart_under}

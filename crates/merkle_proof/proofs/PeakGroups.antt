@@ -10,7 +10,7 @@ use Rattle.merkle_proof.specs.Outside.{layout, Unmet, Met, HasLayout}
 use Rattle.merkle_proof.specs.Check.{Setting}
 use Rattle.merkle_base.specs.Places.{peaks_of, wholly_before}
 use Rattle.merkle_proof.specs.Range.{in_range, overlapping, wholly_after, range_parts, range_siblings}
-use Rattle.merkle_proof.proofs.Claims.{by_test}
+use Rattle.merkle_base.proofs.Cases.{by_test}
 use Rattle.merkle_proof.proofs.OutsideNodes.{outside_is_layout}
 
 module _ (a b : ℕ) where

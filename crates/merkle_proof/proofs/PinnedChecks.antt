@@ -25,7 +25,7 @@ use Rattle.merkle_proof.specs.Range.{in_range, end_of, overlapping, wholly_after
 use Rattle.merkle_proof.specs.Table.{digest_for, digest_of}
 use Rattle.merkle_proof.specs.Pinned.{pin_positions, pinned_on, AcceptsPinnedSome, honest_pins, PinnedCollides, HonestPinnedIsAccepted, AcceptedPinnedIsHonest, PinsAreOldPeaks}
 use Rattle.merkle_proof.proofs.NoCollisions.{member_split}
-use Rattle.merkle_proof.proofs.Claims.{by_test}
+use Rattle.merkle_base.proofs.Cases.{by_test}
 use Rattle.merkle_proof.proofs.PeakGroups.{meets_not, meets_yes, range_layout, groups}
 use Rattle.merkle_base.proofs.PeakLists.{Spans, spans_end, peaks_built, peaks_spans}
 use Rattle.merkle_proof.proofs.OutsideNodes.{bag_unmet, unmet_take, unmet_drop}

@@ -7,6 +7,7 @@ use Rattle.std.proofs.lemmas.Bool.{cases_lt}
 use Rattle.merkle_base.specs.Tree.{Tree, leaf, join, height, first_leaf, width, IsBuilt, end_leaf}
 use Rattle.merkle_base.specs.Forest.{forest, size}
 use Rattle.merkle_base.specs.Heights.{IsLawful}
+use Rattle.merkle_base.proofs.Lists.{same_list}
 use Rattle.merkle_base.proofs.Nodes.{size_le}
 use Rattle.merkle_base.proofs.Lookup.{size_large}
 use Rattle.merkle_base.proofs.Balance.{heights_forest}
@@ -65,13 +66,6 @@ empty_root s xs k low e =
     let z : 0 ≡ k = omega (arith, subst (λ n. k ≤ length (peaks_of s.rule n)) (sym l) low, no_peaks s) in
     ap (λ o. root_of s 0 0 (option_map (full (leaf_of s.hashing xs)) o)) (sym (no_plan s s.bagging 0))
     ∙ ap₂ (λ n j. root_of s n j (list_expression s (leaf_of s.hashing xs) n j)) l z
-
--- lists with the same elements
-pub same_list : {A : Type 0} (e : A) (xs ys : List A) → length xs ≡ length ys → ((j : ℕ) → j < length xs → get_or xs j e ≡ get_or ys j e) → xs ≡ ys
-same_list e [] [] l f = refl
-same_list e [] (y ∷ ys) l f = absurd (omega (arith, l))
-same_list e (x ∷ xs) [] l f = absurd (omega (arith, l))
-same_list e (x ∷ xs) (y ∷ ys) l f = ap₂ (λ a b. a ∷ b) (f 0 (omega arith)) (same_list e xs ys (omega (arith, l)) (λ j m. f (suc j) (omega (arith, m))))
 
 module _ {D : Type 0} (s : Setting D) (xs : List D) (r : RangeInput D) where
   counts_of : (os : List Plan) (is : List Tree) (o : Option Plan) → HasLayout (chosen r) os is o → length r.digests ≡ length os + length is → Counts r o

@@ -19,7 +19,7 @@ use Rattle.merkle_proof.specs.Table.{digest_for}
 use Rattle.merkle_proof.specs.Extract.{inner_pairs}
 use Rattle.merkle_proof.proofs.Collisions.{member_left, member_right}
 use Rattle.merkle_proof.proofs.PlacesOnce.{member_map}
-use Rattle.merkle_proof.proofs.Claims.{by_test}
+use Rattle.merkle_base.proofs.Cases.{by_test}
 use Rattle.merkle_proof.proofs.ListChecks.{was_chosen, is_chosen}
 use Rattle.merkle_proof.proofs.PeakGroups.{range_layout}
 use Rattle.merkle_proof.proofs.ListedDigests.{plan_for}

@@ -10,7 +10,8 @@ use Rattle.merkle_proof.specs.Claim.{next, InTree, InPlan}
 use Rattle.merkle_proof.specs.MultiClaim.{also, or_empty, multi_tree, multi_claim, TellsTree, Tells, SameTree, SameLeaves, NoOtherMulti}
 use Rattle.merkle_proof.specs.PinnedClaim.{pinned_or, pin_tree, pin_plan, outside_tree, outside_plan, pinned_tree, pinned_claim, PinsTree, PinsPlan, PinsAll, PinsTrees, NoOtherPins}
 use Rattle.merkle_proof.proofs.Collisions.{main}
-use Rattle.merkle_proof.proofs.Claims.{by_test, unmet_tree, unmet, Begins, begins_none, begins_one, begins_both}
+use Rattle.merkle_base.proofs.Cases.{by_test}
+use Rattle.merkle_proof.proofs.Claims.{unmet_tree, unmet, Begins, begins_none, begins_one, begins_both}
 
 module _ {D : Type 0} (h : Hashing D) where
   -- what the proof tells beside an expression

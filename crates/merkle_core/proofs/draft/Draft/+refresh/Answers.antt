@@ -2,7 +2,7 @@ use Rattle.std.proofs.Common.{arith, ap, ◌∙◌, ◌<◌, refl, inl, inr}
 use Rattle.std.specs.FinMap.{get}
 use Rattle.std.proofs.lemmas.Result.{err_from_is_err_and}
 use Rattle.merkle_core.specs.DraftReads.{below}
-use Rattle.merkle_core.specs.Store.{contents}
+use Rattle.merkle_batches.specs.Store.{contents}
 use Rattle.merkle_proof.proofs.Spans.{heights_same, ends_low}
 use Rattle.merkle_proof.proofs.Walks.{inner_node, lower}
 use Rattle.merkle_core.proofs.Befores.{before_within}

@@ -6,11 +6,11 @@ use Rattle.merkle_base.proofs.Nodes.{size_le}
 use Rattle.merkle_base.proofs.Parents.{parent_there, parents_fit}
 use Rattle.merkle_core.specs.Drafts.{AreChildrenRead, LacksChild}
 use Rattle.merkle_core.specs.DraftReads.{old_node}
-use Rattle.merkle_core.specs.Store.{contents}
-use Rattle.merkle_core.specs.Truth.{ReadsTrue, truths}
+use Rattle.merkle_batches.specs.Store.{contents}
+use Rattle.merkle_batches.specs.Truth.{ReadsTrue, truths}
 use Rattle.merkle_core.proofs.ChildReads.{lacks_more, read_leaf, read_more}
 use Rattle.merkle_core.proofs.DraftFacts.{same_old_node}
-use Rattle.merkle_core.proofs.TruthFacts.{truths_more}
+use Rattle.merkle_batches.proofs.TruthFacts.{truths_more}
 use Rattle.merkle_core.proofs.draft.Draft.append_leaf.Goals as goal
 
 pub loop-height-init : goal.loop-height-init

@@ -3,8 +3,8 @@ use Rattle.merkle_base.specs.Forest.{size}
 use Rattle.merkle_base.specs.Heights.{parent_heights}
 use Rattle.merkle_core.specs.Drafts.{AreChildrenRead}
 use Rattle.merkle_core.specs.DraftReads.{old_node, OnlyAppends}
-use Rattle.merkle_core.specs.Store.{contents}
-use Rattle.merkle_core.specs.Truth.{IsTruth, ReadsTrue, truths}
+use Rattle.merkle_batches.specs.Store.{contents}
+use Rattle.merkle_batches.specs.Truth.{IsTruth, ReadsTrue, truths}
 use Rattle.merkle_core.proofs.draft.Draft.append_leaf.Given as goal
 
 abbrev pub invariant-loop-height : goal.invariant-loop-height

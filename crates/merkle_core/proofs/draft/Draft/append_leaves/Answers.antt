@@ -6,8 +6,8 @@ use Rattle.merkle_base.proofs.Limits.{lawful_leaves}
 use Rattle.merkle_base.proofs.Nodes.{size_le}
 use Rattle.merkle_core.specs.Drafts.{AreChildrenRead, LacksChild}
 use Rattle.merkle_core.specs.DraftReads.{old_node}
-use Rattle.merkle_core.specs.Store.{contents}
-use Rattle.merkle_core.specs.Truth.{ReadsTrue, truths}
+use Rattle.merkle_batches.specs.Store.{contents}
+use Rattle.merkle_batches.specs.Truth.{ReadsTrue, truths}
 use Rattle.merkle_core.proofs.ChildReads.{lacks_more, read_more, read_none}
 use Rattle.merkle_core.proofs.DraftFacts.{same_old_node}
 use Rattle.merkle_core.proofs.draft.Draft.append_leaves.Goals as goal

@@ -2,8 +2,8 @@ use Rattle.std.proofs.Common.{◌≡◌, ◌+◌, ℕ, length}
 use Rattle.merkle_base.specs.Forest.{size}
 use Rattle.merkle_core.specs.Drafts.{AreChildrenRead}
 use Rattle.merkle_core.specs.DraftReads.{old_node, OnlyAppends}
-use Rattle.merkle_core.specs.Store.{contents}
-use Rattle.merkle_core.specs.Truth.{IsTruth, LeavesAre, ReadsTrue, truths}
+use Rattle.merkle_batches.specs.Store.{contents}
+use Rattle.merkle_batches.specs.Truth.{IsTruth, LeavesAre, ReadsTrue, truths}
 use Rattle.merkle_core.proofs.draft.Draft.append_leaves.Given as goal
 
 abbrev pub invariant-loop-digest : goal.invariant-loop-digest

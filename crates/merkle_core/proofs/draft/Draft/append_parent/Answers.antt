@@ -3,11 +3,11 @@ use Rattle.std.proofs.lemmas.Result.{err_from_is_err_and}
 use Rattle.merkle_base.specs.Places.{HasInner}
 use Rattle.merkle_core.specs.Drafts.{AreChildrenRead, LacksChild}
 use Rattle.merkle_core.specs.DraftReads.{old_node}
-use Rattle.merkle_core.specs.Store.{contents}
-use Rattle.merkle_core.specs.Truth.{truths}
+use Rattle.merkle_batches.specs.Store.{contents}
+use Rattle.merkle_batches.specs.Truth.{truths}
 use Rattle.merkle_core.proofs.ChildReads.{lacks_child, read_join}
 use Rattle.merkle_core.proofs.GapFacts.{gap_below}
-use Rattle.merkle_core.proofs.TruthFacts.{truths_more, truth_joined, children_before}
+use Rattle.merkle_batches.proofs.TruthFacts.{truths_more, truth_joined, children_before}
 use Rattle.merkle_core.proofs.draft.Draft.append_parent.Goals as goal
 
 pub children-left-requires : goal.children-left-requires

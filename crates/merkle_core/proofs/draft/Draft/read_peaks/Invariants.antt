@@ -1,8 +1,8 @@
 use Rattle.std.proofs.Common.{◌≡◌, ◌++◌, ℕ, List, map, length}
 use Rattle.merkle_base.specs.Places.{peak_positions, peaks_of, placed}
 use Rattle.merkle_core.specs.DraftReads.{old_node}
-use Rattle.merkle_core.specs.Store.{contents}
-use Rattle.merkle_core.specs.Truth.{ReadsTrue, truths}
+use Rattle.merkle_batches.specs.Store.{contents}
+use Rattle.merkle_batches.specs.Truth.{ReadsTrue, truths}
 use Rattle.merkle_core.proofs.PeakReads.{AreFirstRead}
 use Rattle.merkle_core.proofs.draft.Draft.read_peaks.Given as goal
 

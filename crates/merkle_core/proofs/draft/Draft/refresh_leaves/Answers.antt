@@ -1,7 +1,7 @@
 use Rattle.std.proofs.Common.{ap, sym, ◌∙◌}
 use Rattle.std.specs.FinMap.{from_entries}
-use Rattle.merkle_core.specs.Store.{contents}
-use Rattle.merkle_core.specs.Read.{read_over}
+use Rattle.merkle_batches.specs.Store.{contents}
+use Rattle.merkle_batches.specs.Read.{read_over}
 use Rattle.merkle_core.specs.DraftReads.{below}
 use Rattle.merkle_core.proofs.ChangedLeaves.{entries_moved, map_moved, entries_all}
 use Rattle.merkle_core.proofs.RefreshedLeaves.{leaves_computed, leaves_refreshed, leaves_missing}

@@ -1,7 +1,7 @@
 use Rattle.std.proofs.Common.{ℕ, arith, sym, ap, ◌∙◌, refl, subst}
 use Rattle.std.proofs.lemmas.Result.{err_from_is_err_and}
 use Rattle.merkle_core.specs.DraftReads.{below}
-use Rattle.merkle_core.specs.Store.{contents}
+use Rattle.merkle_batches.specs.Store.{contents}
 use Rattle.merkle_core.proofs.Befores.{before_within}
 use Rattle.merkle_core.proofs.Refreshing.{same_below}
 use Rattle.merkle_core.proofs.RefreshedPeaks.{Refreshing, zero_yes, zero_no, peaks_begin, peaks_next, end_within, peak_skipped, peak_refreshed, peak_lacks, walk_computed, walk_refreshed}

@@ -1,5 +1,5 @@
 use Rattle.merkle_core.specs.DraftReads.{below, OnlyOverwrites}
-use Rattle.merkle_core.specs.Store.{contents}
+use Rattle.merkle_batches.specs.Store.{contents}
 use Rattle.merkle_core.proofs.RefreshedPeaks.{Refreshing}
 use Rattle.merkle_core.proofs.draft.Draft.refresh_peaks.Given as goal
 

@@ -1,6 +1,6 @@
 use Rattle.std.proofs.Common.{◌≡◌, Some, None, sym, ap, ◌∙◌}
-use Rattle.merkle_core.specs.Read.{written, newest}
-use Rattle.merkle_core.proofs.NewestFirst.{own_has, own_lacks, has_last}
+use Rattle.merkle_batches.specs.Read.{written, newest}
+use Rattle.merkle_batches.proofs.NewestFirst.{own_has, own_lacks, has_last}
 use Rattle.merkle_core.proofs.merkleized.MerkleizedBatch.get_node.Goals as goal
 
 pub returns-in-Some-clause-newest : goal.returns-in-Some-clause-newest
