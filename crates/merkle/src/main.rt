@@ -1,17 +1,29 @@
 //! The program `merkle`: commands on standard input, one answer line for each.
 #![tactic(auto)]
 
-use merkle_lines::run::run;
+ghost use Rattle.std.specs.Prelude.{◌≡◌, cond};
+ghost use Rattle.std.specs.Process.{exit_status};
+ghost use Rattle.std.specs.Result.{is_ok};
+
+use merkle_lines::run::{RunError, run};
 use std::io;
 use std::process::ExitCode;
 
-fn main(rt: HostRuntime) -> ExitCode {
-    match run(rt.alloc(), &mut rt.reader(), &mut io::writer(&rt)) {
+// What the program ends with: success where every line was answered.
+fn exit_code(answered: &Result<(), RunError>) -> ExitCode
+    ensures { exit_status result ≡ cond (is_ok answered.now) 0 1 }
+{
+    match answered {
         Ok(()) => ExitCode::SUCCESS,
-        Err(error) => {
-            // Where this fails too, nothing is left to tell.
-            let _ = rt.eprintln(error);
-            ExitCode::FAILURE
-        }
+        Err(_) => ExitCode::FAILURE,
     }
+}
+
+fn main(rt: HostRuntime) -> ExitCode {
+    let answered = run(rt.alloc(), &mut rt.reader(), &mut io::writer(&rt));
+    if let Err(error) = &answered {
+        // Where this fails too, nothing is left to tell.
+        let _ = rt.eprintln(error);
+    }
+    exit_code(&answered)
 }

@@ -293,6 +293,8 @@ impl<F> fmt::Display for Location<F> {
 }
 
 impl<F> fmt::Debug for Location<F> {
+    ghost debug_output = { λ p. Some (codes "Location(" ++ decimal p ++ codes ")") };
+
     fn fmt<W: fmt::Write>(&self, f: &mut fmt::Formatter<W>) -> fmt::Result {
         fmt::Display::fmt(self, f)
     }

@@ -301,6 +301,8 @@ impl<F> fmt::Display for Position<F> {
 }
 
 impl<F> fmt::Debug for Position<F> {
+    ghost debug_output = { λ p. Some (codes "Position(" ++ decimal p ++ codes ")") };
+
     fn fmt<W: fmt::Write>(&self, f: &mut fmt::Formatter<W>) -> fmt::Result {
         fmt::Display::fmt(self, f)
     }

@@ -1,7 +1,8 @@
 //! The time that pieces of work take.
-ghost use Rattle.std.specs.Prelude.{◌≡◌, ◌⊎◌, ℕ, ◌+◌, ◌%◌, ◌^◌, [], fold, IsOkUnless, IfOk, IfErr};
+ghost use Rattle.std.specs.Prelude.{◌≡◌, ◌⊎◌, ℕ, ◌+◌, ◌%◌, ◌^◌, [], fold, Some, IsOkUnless, IfOk, IfErr};
 ghost use Rattle.std.specs.List.{position};
 ghost use Rattle.merkle_bench.specs.Table.{entries, is_named, noted, with_entry};
+ghost use Rattle.merkle_bench.specs.Texts.{row_text, table_text};
 
 use std::alloc::{AllocError, Global};
 use std::fmt;
@@ -33,6 +34,8 @@ struct Row {
 }
 
 impl fmt::Display for Row {
+    ghost output = { λ row. Some (row_text row) };
+
     fn fmt<W: fmt::Write>(&self, f: &mut fmt::Formatter<W>) -> fmt::Result {
         let nanoseconds = self.least / u128::from(self.units.max(1));
         write!(
@@ -122,6 +125,8 @@ impl<'a, C: CpuClock> Stopwatch<'a, C> {
 }
 
 impl<C> fmt::Display for Stopwatch<'_, C> {
+    ghost output = { λ watch. Some (table_text watch.rows.items watch.sum) };
+
     fn fmt<W: fmt::Write>(&self, f: &mut fmt::Formatter<W>) -> fmt::Result {
         for row in &self.rows {
             writeln!(f, "{row}")?;
@@ -131,6 +136,10 @@ impl<C> fmt::Display for Stopwatch<'_, C> {
 }
 
 impl From<AllocError> for Halt {
+    ghost use Rattle.merkle_bench.specs.declared.stopwatch.Halt.TheVariants.{OutOfMemory};
+
+    ghost from_gives = { λ _ halt. halt ≡ OutOfMemory };
+
     fn from(_error: AllocError) -> Self {
         Halt::OutOfMemory
     }
