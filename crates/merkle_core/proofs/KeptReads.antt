@@ -10,15 +10,16 @@ use Rattle.merkle_base.specs.Digests.{digest_at, node_digests}
 use Rattle.merkle_base.specs.Places.{peaks_of, wholly_before}
 use Rattle.merkle_base.specs.declared.error.Error.{Error}
 use Rattle.merkle_base.specs.declared.error.Error.TheVariants.{OutOfMemory}
-use Rattle.merkle_base.specs.declared.family.Bagging.TheVariants.{ForwardFold}
+use Rattle.merkle_base.specs.declared.family.Bagging.{Bagging}
 use Rattle.merkle_base.proofs.Nodes.{all_append}
 use Rattle.merkle_proof.specs.Check.{Setting}
 use Rattle.merkle_proof.specs.Input.{setting}
 use Rattle.merkle_proof.specs.Plan.{siblings, tree_meets}
 use Rattle.merkle_proof.specs.Range.{in_range, overlapping, wholly_after, range_siblings}
-use Rattle.merkle_proof.specs.RangePlans.{IsBuildRefusal, IsFirstMissing, nodes_read}
+use Rattle.merkle_proof.specs.RangePlans.{IsBuildRefusal, IsFirstMissing, nodes_read, reading_order}
 use Rattle.merkle_proof.proofs.BuiltDigests.{reads_at}
 use Rattle.merkle_proof.proofs.Extraction.{all_filter}
+use Rattle.merkle_proof.proofs.ReadingOrder.{all_reading_order}
 use Rattle.merkle_batches.specs.Contents.{Contents, Agrees, is_kept}
 use Rattle.merkle_core.proofs.HonestReads.{is_memory, position_of_node}
 use Rattle.merkle_batches.proofs.Items.{get_reversed}
@@ -70,20 +71,23 @@ module _ (rule : List ℕ → List ℕ) (boundary n : ℕ) (within : boundary �
   position_kept (t ∷ ts) k (d ∷ done) rest p e = let more : map position ts ≡ done ++ p ∷ rest = cc in position_kept ts k.1 done rest p more
 
 -- nothing that such a proof reads is missing
-pub none_missing : {D : Type 0} (s : Setting D) (h : Hashing D) (c : Contents D) (X : List D) → Agrees h s.rule c X → (a b p : ℕ) → c.boundary ≤ a → IsFirstMissing (λ q r. r ≡ c.node q) (map position (nodes_read s.rule (length X) a b)) p → ⊥
-none_missing s h c X agrees a b p low missing =
-    let t = position_of_node s.rule (length X) (nodes_read s.rule (length X) a b) (reads_at s (length X) a b) missing.before missing.after p missing.split in
-    let kept = position_kept s.rule c.boundary (length X) agrees.bounded (nodes_read s.rule (length X) a b) (reads_kept s.rule c.boundary (length X) agrees.bounded a b low) missing.before missing.after p missing.split in
+pub none_missing : {D : Type 0} (s : Setting D) (h : Hashing D) (c : Contents D) (X : List D) → Agrees h s.rule c X → (k a b p : ℕ) → c.boundary ≤ a → IsFirstMissing (λ q r. r ≡ c.node q) (map position (reading_order s.bagging k s.rule (length X) a b)) p → ⊥
+none_missing s h c X agrees k a b p low missing =
+    let order = reading_order s.bagging k s.rule (length X) a b in
+    let at = all_reading_order (λ u. slice_get (forest s.rule (length X)).nodes (position u) ≡ Some u) s.bagging k s.rule (length X) a b (reads_at s (length X) a b) in
+    let all_kept = all_reading_order (λ u. is_kept s.rule c.boundary (position u) ≡ true) s.bagging k s.rule (length X) a b (reads_kept s.rule c.boundary (length X) agrees.bounded a b low) in
+    let t = position_of_node s.rule (length X) order at missing.before missing.after p missing.split in
+    let kept = position_kept s.rule c.boundary (length X) agrees.bounded order all_kept missing.before missing.after p missing.split in
     let there : c.node p ≡ Some (digest_at h X t.0) = agrees.holds p ∙ ap (λ k. cond k (slice_get (node_digests h s.rule X) p) None) kept ∙ get_map (digest_at h X) (forest s.rule (length X)).nodes p t.0 t.1 in
     let none : Some (digest_at h X t.0) ≡ None = sym there ∙ sym missing.missing in absurd (cc)
 
 -- the proof of leaves at or after the boundary is refused for want of memory alone
-pub only_memory : {F D : Type 0} (h : Hashing D) (rule : List ℕ → List ℕ) (c : Contents D) (X : List D) → Agrees h rule c X → (a b k : ℕ) → c.boundary ≤ a → k ≤ length (peaks_of rule (length X)) → (e : Error F)
-    → (e ≢ OutOfMemory → IsBuildRefusal rule (record { leaves = length X; start = a; end = b }) k (λ p r. r ≡ c.node p) e) → e ≡ OutOfMemory
-only_memory {F} {D} h rule c X agrees a b k low few e refused = elim (is_memory e) [
+pub only_memory : {F D : Type 0} (h : Hashing D) (bagging : Bagging) (rule : List ℕ → List ℕ) (c : Contents D) (X : List D) → Agrees h rule c X → (a b k : ℕ) → c.boundary ≤ a → k ≤ length (peaks_of rule (length X)) → (e : Error F)
+    → (e ≢ OutOfMemory → IsBuildRefusal bagging rule (record { leaves = length X; start = a; end = b }) k (λ p r. r ≡ c.node p) e) → e ≡ OutOfMemory
+only_memory {F} {D} h bagging rule c X agrees a b k low few e refused = elim (is_memory e) [
   | inr is ↦ is
   | inl other ↦ absurd (elim (refused other) [
     | inl x ↦ (let no : length (peaks_of rule (length X)) < k = x.0 in omega (arith, no, few))
-    | inr x ↦ none_missing (setting h ForwardFold rule 0 0) h c X agrees a b x.1.0 low x.1.2
+    | inr x ↦ none_missing (setting h bagging rule 0 0) h c X agrees k a b x.1.0 low x.1.2
   ])
 ]

@@ -16,7 +16,6 @@ ghost use Rattle.merkle_batches.specs.Stands.{StandsOn, last_list};
 ghost use Rattle.merkle_batches.specs.Replay.{applied, matched, refusal};
 ghost use Rattle.merkle_batches.specs.Refusals.{error_of};
 ghost use Rattle.merkle_core.specs.ProofRefusals.{IsProofRefusal, IsRangeRefusal};
-ghost use Rattle.merkle_base.specs.declared.family.Bagging.TheVariants.{ForwardFold};
 ghost use Rattle.merkle_proof.specs.Input.{setting};
 ghost use Rattle.merkle_proof.specs.Range.{IsHonestRange};
 ghost use Rattle.merkle_proof.specs.RangePlans.{IsBuildRefusal, IsBuiltProof, list_input};
@@ -212,10 +211,9 @@ impl<F: Family, D: Digest> Mem<F, D> {
         hasher: &H,
         inactive: usize,
     ) -> Result<Proof<F, D>, Error<F>>
-        requires forward { H.bagging_of hasher.now ≡ ForwardFold }
         ensures built { IfOk result (λ p. IsBuiltProof (setting (H.hashing hasher.now) (H.bagging_of hasher.now) F.rule F.MAX_LEAVES F.DOMAIN) (node self.now) inactive plan p) }
         ensures honest { (X : List D) → length X ≡ plan.leaves → Agrees (H.hashing hasher.now) F.rule (contents self.now) X → IfOk result (λ p. IsHonestRange (setting (H.hashing hasher.now) (H.bagging_of hasher.now) F.rule F.MAX_LEAVES F.DOMAIN) X inactive (list_input p X plan.start plan.end)) }
-        ensures err { IfErr result (λ e. e ≢ Error.OutOfMemory → IsBuildRefusal F.rule plan inactive (λ p r. r ≡ node self.now p) e) }
+        ensures err { IfErr result (λ e. e ≢ Error.OutOfMemory → IsBuildRefusal (H.bagging_of hasher.now) F.rule plan inactive (λ p r. r ≡ node self.now p) e) }
     {
         plan.build(hasher, inactive, |position| self.get_node(position))
     }
@@ -224,21 +222,20 @@ impl<F: Family, D: Digest> Mem<F, D> {
     ///
     /// Refused, in this order: with `LocationOverflow` where no list has such a location, with `LeafOutOfBounds` where
     /// there is no such leaf, with `InvalidProof` where the number exceeds that of the peaks, and with `ElementPruned` of
-    /// the first node that is missing, of the peaks before the leaf, the peaks after it, and the path siblings. Refused
-    /// with `OutOfMemory` wherever there is no memory.
+    /// the first node that is missing, of the peaks before the leaf, the peaks after it that stand alone, the others after
+    /// it from the last one on, and the path siblings. Refused with `OutOfMemory` wherever there is no memory.
     pub fn proof<H: Hasher<F, Digest = D>>(
         &self,
         hasher: &H,
         location: Location<F>,
         inactive: usize,
     ) -> Result<Proof<F, D>, Error<F>>
-        requires forward { H.bagging_of hasher.now ≡ ForwardFold }
         ensures built { (n : ℕ) → n ≤ F.MAX_LEAVES → size F.rule n ≡ self.now.size → IfOk result (λ p. location < n × IsBuiltProof (setting (H.hashing hasher.now) (H.bagging_of hasher.now) F.rule F.MAX_LEAVES F.DOMAIN) (node self.now) inactive (record { leaves = n; start = location; end = location + 1 }) p) }
 
         // It is the honest proof of every list that the structure agrees with.
         ensures honest { (X : List D) → Agrees (H.hashing hasher.now) F.rule (contents self.now) X → IfOk result (λ p. location < length X × IsHonestRange (setting (H.hashing hasher.now) (H.bagging_of hasher.now) F.rule F.MAX_LEAVES F.DOMAIN) X inactive (list_input p X location (location + 1))) }
         ensures given { (h : Hashing D) → (X : List D) → Agrees h F.rule (contents self.now) X → self.now.boundary ≤ location → location < length X → inactive ≤ length (peaks_of F.rule (length X)) → IsOkUnless result Error.OutOfMemory }
-        ensures err { (n : ℕ) → n ≤ F.MAX_LEAVES → size F.rule n ≡ self.now.size → IfErr result (λ e. e ≢ Error.OutOfMemory → IsProofRefusal F.rule F.MAX_LEAVES n location inactive (node self.now) e) }
+        ensures err { (n : ℕ) → n ≤ F.MAX_LEAVES → size F.rule n ≡ self.now.size → IfErr result (λ e. e ≢ Error.OutOfMemory → IsProofRefusal (H.bagging_of hasher.now) F.rule F.MAX_LEAVES n location inactive (node self.now) e) }
     {
         let leaves = self.leaves();
         if !location.is_valid_index() {
@@ -258,21 +255,20 @@ impl<F: Family, D: Digest> Mem<F, D> {
     ///
     /// Refused, in this order: with `Empty` where the range has no leaves, with `RangeOutOfBounds` of its end where that
     /// is past the leaves, with `InvalidProof` where the number exceeds that of the peaks, and with `ElementPruned` of the
-    /// first node that is missing, of the peaks before the range, the peaks after it, and the path siblings. Refused with
-    /// `OutOfMemory` wherever there is no memory.
+    /// first node that is missing, of the peaks before the range, the peaks after it that stand alone, the others after it
+    /// from the last one on, and the path siblings. Refused with `OutOfMemory` wherever there is no memory.
     pub fn range_proof<H: Hasher<F, Digest = D>>(
         &self,
         hasher: &H,
         range: Range<Location<F>>,
         inactive: usize,
     ) -> Result<Proof<F, D>, Error<F>>
-        requires forward { H.bagging_of hasher.now ≡ ForwardFold }
         ensures built { (n : ℕ) → n ≤ F.MAX_LEAVES → size F.rule n ≡ self.now.size → IfOk result (λ p. (range.start < range.end) × (range.end ≤ n) × IsBuiltProof (setting (H.hashing hasher.now) (H.bagging_of hasher.now) F.rule F.MAX_LEAVES F.DOMAIN) (node self.now) inactive (record { leaves = n; start = range.start; end = range.end }) p) }
 
         // It is the honest proof of every list that the structure agrees with.
         ensures honest { (X : List D) → Agrees (H.hashing hasher.now) F.rule (contents self.now) X → IfOk result (λ p. (range.start < range.end) × (range.end ≤ length X) × IsHonestRange (setting (H.hashing hasher.now) (H.bagging_of hasher.now) F.rule F.MAX_LEAVES F.DOMAIN) X inactive (list_input p X range.start range.end)) }
         ensures given { (h : Hashing D) → (X : List D) → Agrees h F.rule (contents self.now) X → self.now.boundary ≤ range.start → range.start < range.end → range.end ≤ length X → inactive ≤ length (peaks_of F.rule (length X)) → IsOkUnless result Error.OutOfMemory }
-        ensures err { (n : ℕ) → n ≤ F.MAX_LEAVES → size F.rule n ≡ self.now.size → IfErr result (λ e. e ≢ Error.OutOfMemory → IsRangeRefusal F.rule F.MAX_LEAVES n range.start range.end inactive (node self.now) e) }
+        ensures err { (n : ℕ) → n ≤ F.MAX_LEAVES → size F.rule n ≡ self.now.size → IfErr result (λ e. e ≢ Error.OutOfMemory → IsRangeRefusal (H.bagging_of hasher.now) F.rule F.MAX_LEAVES n range.start range.end inactive (node self.now) e) }
     {
         let leaves = self.leaves();
         match RangePlan::new(self.allocator(), leaves, range) {

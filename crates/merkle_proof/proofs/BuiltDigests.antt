@@ -1,22 +1,20 @@
 -- The digests of a built proof, from those that were read.
-use Rattle.std.proofs.Common.{◌≡◌, ℕ, suc, ◌-◌, ◌<◌, ◌≤◌, Bool, cond, List, [], ◌∷◌, ◌++◌, ◌||◌, length, map, take, drop, take_at, drop_at, append_assoc, refl, ap, ap₂, sym, ◌∙◌, subst, arith, Option, Some, fold, slice_get, inl, inr, ◌⊎◌, ◌≢◌, ⊎_elim}
+use Rattle.std.proofs.Common.{◌≡◌, ℕ, ◌+◌, ◌-◌, ◌<◌, ◌≤◌, Bool, cond, List, [], ◌∷◌, ◌++◌, ◌||◌, length, map, take, drop, append_assoc, refl, ap, ap₂, sym, ◌∙◌, subst, arith, Option, Some, slice_get, inl, inr, ◌⊎◌, ◌≢◌, ⊎_elim}
 use Rattle.std.specs.List.{AllZip, AllByRecursion, flat_map}
-use Rattle.std.specs.Option.{option_to_list}
-use Rattle.std.proofs.lemmas.List.{map-append, length-map, length-take-le, length-drop, take_all}
+use Rattle.std.proofs.lemmas.List.{map-append, length-append, length-take-le, length-drop, take_all}
 use Rattle.merkle_base.specs.Tree.{Tree, leaf, join, position, IsBuilt}
 use Rattle.merkle_base.specs.Forest.{forest}
 use Rattle.merkle_base.specs.Hashing.{Hashing}
 use Rattle.merkle_base.specs.Digests.{digest_at}
 use Rattle.merkle_base.specs.Places.{peaks_of, wholly_before}
-use Rattle.merkle_base.specs.Root.{folded}
-use Rattle.merkle_base.specs.declared.family.Bagging.TheVariants.{ForwardFold}
+use Rattle.merkle_base.specs.declared.family.Bagging.{Bagging}
 use Rattle.merkle_base.proofs.Nodes.{all_append}
-use Rattle.merkle_proof.specs.Expression.{PrefixFold}
-use Rattle.merkle_proof.specs.Plan.{Plan, peak, folding, forward, siblings, tree_meets, tree_digest, plan_digest}
-use Rattle.merkle_proof.specs.Outside.{layout}
+use Rattle.merkle_proof.specs.Plan.{siblings, tree_meets, tree_digest, plan_digest}
+use Rattle.merkle_proof.specs.Outside.{folded_prefix, single_after}
+use Rattle.merkle_proof.specs.Layouts.{laid_out}
 use Rattle.merkle_proof.specs.Check.{Setting}
 use Rattle.merkle_proof.specs.Range.{in_range, overlapping, wholly_after, range_parts, range_siblings, range_digests, leaf_of, end_of, IsHonestRange}
-use Rattle.merkle_proof.specs.RangePlans.{both_read, part_read, nodes_read, AnswersList, LeafRange, IsBuiltProof, IsFirstMissing, IsBuildRefusal, list_input}
+use Rattle.merkle_proof.specs.RangePlans.{nodes_read, reading_order, AnswersList, LeafRange, IsPlan, IsBuiltProof, IsFirstMissing, IsBuildRefusal, list_input}
 use Rattle.merkle_proof.specs.ReadErrors.{unread_error}
 use Rattle.merkle_proof.specs.declared.reading.Unread.{Unread}
 use Rattle.merkle_proof.specs.declared.reading.Unread.TheVariants as unread
@@ -29,9 +27,10 @@ use Rattle.merkle_proof.specs.declared.subtree.Subtree.{Subtree}
 use Rattle.merkle_proof.specs.declared.proof.Proof.{Proof}
 use Rattle.merkle_base.proofs.Cases.{by_test}
 use Rattle.merkle_proof.proofs.PeakLoop.{peaks_at}
-use Rattle.merkle_base.proofs.Lists.{cons_head, cons_tail}
-use Rattle.merkle_base.proofs.PeakLists.{peaks_built}
+use Rattle.merkle_base.proofs.PeakLists.{peaks_built, peaks_spans}
 use Rattle.merkle_proof.proofs.Extraction.{all_filter}
+use Rattle.merkle_proof.proofs.PeakGroups.{groups}
+use Rattle.merkle_proof.proofs.BuiltLayouts.{at_node, built, honest}
 
 positions_are : (F : Type 0) (ts : List Tree) → map (λ (s : Subtree F). s.position) (map subtree_of ts) ≡ map position ts
 positions_are F [] = refl
@@ -46,44 +45,12 @@ listed_outside {F} a b i g ts xs ys zs held l x y z =
     z ∙ ap (λ w. w ++ map position inside) (y ∙ ap₂ ◌++◌ first held.after) ∙ append_assoc (map position before) (map position after) (map position inside)
     ∙ sym (map-append position before (after ++ inside) ∙ ap (λ w. map position before ++ w) (map-append position after inside))
 
-module _ {D : Type 0} (h : Hashing D) (node : ℕ → Option D) where
-  abbrev at_node : Tree → Option D
-  at_node t = node (position t)
-
-  -- answers that agree with a function
-  pub agreed : (answered : ℕ → Option D → Type 0) → ((p : ℕ) (r : Option D) → answered p r → r ≡ node p) → (ts : List Tree) (ds : List D) → AllZip (λ p d. answered p (Some d)) (map position ts) ds → map at_node ts ≡ map Some ds
-  agreed answered agree [] [] z = refl
-  agreed answered agree [] (d ∷ ds) z = absurd z
-  agreed answered agree (t ∷ ts) [] z = absurd z
-  agreed answered agree (t ∷ ts) (d ∷ ds) z = ap₂ (λ x y. x ∷ y) (sym (agree (position t) (Some d) z.0)) (agreed answered agree ts ds z.1)
-
-  split_read : (us vs : List Tree) (ds : List D) → map at_node (us ++ vs) ≡ map Some ds → (map at_node us ≡ map Some (take (length us) ds)) × (map at_node vs ≡ map Some (drop (length us) ds))
-  split_read [] vs ds e = (refl, e)
-  split_read (u ∷ us) vs [] e = absurd (cc)
-  split_read (u ∷ us) vs (d ∷ ds) e =
-      let w = split_read us vs ds (cons_tail _ _ _ _ e) in
-      (ap₂ (λ x y. x ∷ y) (cons_head _ _ _ _ e) w.0, w.1)
-
-  forward_read : (acc : Plan) (v : D) (i : ℕ) (ts : List Tree) (ds : List D) → part_read h node acc ≡ Some v → map at_node ts ≡ map Some ds → part_read h node (forward acc i ts) ≡ Some (fold h.fold v ds)
-  forward_read acc v i [] [] e f = e
-  forward_read acc v i [] (d ∷ ds) e f = absurd (cc)
-  forward_read acc v i (t ∷ ts) [] e f = absurd (cc)
-  forward_read acc v i (t ∷ ts) (d ∷ ds) e f =
-      forward_read (folding (PrefixFold i) acc (peak t)) (h.fold v d) (suc i) ts ds (ap₂ (both_read h.fold) e (cons_head _ _ _ _ f)) (cons_tail _ _ _ _ f)
-
-  singles_read : (ts : List Tree) → map (part_read h node) (map peak ts ++ []) ≡ map at_node ts
-  singles_read [] = refl
-  singles_read (t ∷ ts) = ap (λ z. at_node t ∷ z) (singles_read ts)
-
-  -- what is read, with the peaks before the range folded, is the layout
-  pub built_forward : (k : ℕ) (before over after inside : List Tree) (ds : List D) → map at_node (before ++ (after ++ inside)) ≡ map Some ds
-      → map Some (option_to_list (folded h.fold ForwardFold 0 (take (length before) ds)) ++ drop (length before) ds) ≡ map (part_read h node) (layout ForwardFold k before over after) ++ map at_node inside
-  built_forward k [] over after inside ds e = sym e ∙ map-append at_node after inside ∙ ap (λ z. z ++ map at_node inside) (sym (singles_read after))
-  built_forward k (b ∷ bs) over after inside [] e = absurd (cc)
-  built_forward k (b ∷ bs) over after inside (d ∷ ds) e =
-      let w = split_read bs (after ++ inside) ds (cons_tail _ _ _ _ e) in
-      let first : part_read h node (forward (peak b) 1 bs) ≡ Some (fold h.fold d (take (length bs) ds)) = forward_read (peak b) d 1 bs (take (length bs) ds) (cons_head _ _ _ _ e) w.0 in
-      ap₂ (λ x y. x ∷ y) (sym first) (sym w.1 ∙ map-append at_node after inside ∙ ap (λ z. z ++ map at_node inside) (sym (singles_read after)))
+-- answers that agree with a function
+agreed : {D : Type 0} (node : ℕ → Option D) (answered : ℕ → Option D → Type 0) → ((p : ℕ) (r : Option D) → answered p r → r ≡ node p) → (ts : List Tree) (ds : List D) → AllZip (λ p d. answered p (Some d)) (map position ts) ds → map (at_node node) ts ≡ map Some ds
+agreed node answered agree [] [] z = refl
+agreed node answered agree [] (d ∷ ds) z = absurd z
+agreed node answered agree (t ∷ ts) [] z = absurd z
+agreed node answered agree (t ∷ ts) (d ∷ ds) z = ap₂ (λ x y. x ∷ y) (sym (agree (position t) (Some d) z.0)) (agreed node answered agree ts ds z.1)
 
 -- the digest of a list at a node, by location
 pub digest_at_is : {D : Type 0} (h : Hashing D) (xs : List D) (t : Tree) → digest_at h xs t ≡ tree_digest h (leaf_of h xs) t
@@ -110,23 +77,22 @@ reads_at s n a b =
     all_append P (wholly_before a ts) (wholly_after b ts ++ range_siblings a b ts) (all_filter P _ ts at)
     (all_append P (wholly_after b ts) (range_siblings a b ts) (all_filter P _ ts at) (all_siblings_at (forest s.rule n).nodes (in_range a b) (overlapping a b ts) (all_filter (IsBuilt (forest s.rule n).nodes) _ ts (peaks_built s.rule n))))
 
-module _ {D : Type 0} (h : Hashing D) (X : ℕ → D) where
-  pub fold_forward : (acc : Plan) (i : ℕ) (ts : List Tree) → fold h.fold (plan_digest h X acc) (map (tree_digest h X) ts) ≡ plan_digest h X (forward acc i ts)
-  fold_forward acc i [] = refl
-  fold_forward acc i (t ∷ ts) = fold_forward (folding (PrefixFold i) acc (peak t)) (suc i) ts
+-- each peak is in one group
+pub length-peaks_of : (rule : List ℕ → List ℕ) (n a b : ℕ) → a < b → length (peaks_of rule n) ≡ length (wholly_before a (peaks_of rule n)) + (length (overlapping a b (peaks_of rule n)) + length (wholly_after b (peaks_of rule n)))
+length-peaks_of rule n a b less =
+    let ts = peaks_of rule n in let before = wholly_before a ts in let over = overlapping a b ts in let after = wholly_after b ts in
+    ap length (groups a b 0 n ts less (peaks_spans rule n)) ∙ length-append before (over ++ after) ∙ ap (λ m. length before + m) (length-append over after)
 
-  single_digests : (ts : List Tree) → map (plan_digest h X) (map peak ts ++ []) ≡ map (tree_digest h X) ts
-  single_digests [] = refl
-  single_digests (t ∷ ts) = ap (λ z. tree_digest h X t ∷ z) (single_digests ts)
-
-  digests_after : (after inside : List Tree) → map (tree_digest h X) (after ++ inside) ≡ map (plan_digest h X) (map peak after ++ []) ++ map (tree_digest h X) inside
-  digests_after after inside = map-append (tree_digest h X) after inside ∙ ap (λ z. z ++ map (tree_digest h X) inside) (sym (single_digests after))
-
-  -- a list's digests, with the peaks before the range folded, are the honest ones
-  honest_forward : (k : ℕ) (before over after inside : List Tree)
-      → option_to_list (folded h.fold ForwardFold 0 (map (tree_digest h X) before)) ++ map (tree_digest h X) (after ++ inside) ≡ map (plan_digest h X) (layout ForwardFold k before over after) ++ map (tree_digest h X) inside
-  honest_forward k [] over after inside = digests_after after inside
-  honest_forward k (b ∷ bs) over after inside = ap₂ (λ x y. x ∷ y) (fold_forward (peak b) 1 bs) (digests_after after inside)
+-- the digests of a proof by the groups of peaks, from a plan's numbers
+pub laid_out_of_plan : {D : Type 0} (f : D → D → D) (rule : List ℕ → List ℕ) (max_leaves n a b peaks before after : ℕ) (reads : List ℕ) → IsPlan rule max_leaves n a b peaks before after reads → (bagging own : Bagging) → own ≡ bagging → (k prefix single : ℕ)
+    → ((ts : List Tree) → length ts ≡ before → prefix ≡ length (folded_prefix own k ts)) → ((ts : List Tree) → length ts ≡ after → single ≡ length (single_after own k (peaks - after) ts)) → (ds : List D)
+    → laid_out f prefix before single after ds ≡ laid_out f (length (folded_prefix bagging k (wholly_before a (peaks_of rule n)))) (length (wholly_before a (peaks_of rule n)))
+    (length (single_after bagging k (length (wholly_before a (peaks_of rule n)) + length (overlapping a b (peaks_of rule n))) (wholly_after b (peaks_of rule n)))) (length (wholly_after b (peaks_of rule n))) ds
+laid_out_of_plan f rule max_leaves n a b peaks before after reads plan bagging own same k prefix single p s ds =
+    let ts = peaks_of rule n in let olds = wholly_before a ts in let news = wholly_after b ts in
+    let met : peaks - after ≡ length olds + length (overlapping a b ts) = omega (arith, plan.peaks_are, plan.after_are, length-peaks_of rule n a b plan.some) in
+    ap₂ (λ i j. laid_out f i j single after ds) (p olds (sym plan.before_are) ∙ ap (λ z. length (folded_prefix z k olds)) same) plan.before_are
+    ∙ ap₂ (λ i j. laid_out f (length (folded_prefix bagging k olds)) (length olds) i j ds) (s news (sym plan.after_are) ∙ ap₂ (λ z m. length (single_after z k m news)) same met) plan.after_are
 
 list_answers : {D : Type 0} (h : Hashing D) (rule : List ℕ → List ℕ) (xs : List D) (answered : ℕ → Option D → Type 0) → AnswersList h rule xs answered → (ts : List Tree) → AreNodes rule (length xs) ts → (ds : List D)
     → AllZip (λ p d. answered p (Some d)) (map position ts) ds → ds ≡ map (tree_digest h (leaf_of h xs)) ts
@@ -136,9 +102,10 @@ list_answers h rule xs answered right (t ∷ ts) at [] z = absurd z
 list_answers h rule xs answered right (t ∷ ts) at (d ∷ ds) z =
     ap₂ (λ x y. x ∷ y) (right (position t) t d at.0 z.0 ∙ digest_at_is h xs t) (list_answers h rule xs answered right ts at.1 ds z.1)
 
-module _ {F D P Q : Type 0} (s : Setting D) (forwards : s.bagging ≡ ForwardFold) (answered : ℕ → Option D → Type 0) (p : Proof F D P Q) (k n a b : ℕ) (ds : List D) (leaves_are : p.leaves ≡ n) (inactive_are : p.inactive_peaks ≡ k)
+module _ {F D P Q : Type 0} (s : Setting D) (answered : ℕ → Option D → Type 0) (p : Proof F D P Q) (k n a b : ℕ) (ds : List D) (leaves_are : p.leaves ≡ n) (inactive_are : p.inactive_peaks ≡ k)
     (few : k ≤ length (peaks_of s.rule n)) (read : AllZip (λ q d. answered q (Some d)) (map position (nodes_read s.rule n a b)) ds)
-    (digests_are : p.digests.items ≡ option_to_list (folded s.hashing.fold ForwardFold 0 (take (length (wholly_before a (peaks_of s.rule n))) ds)) ++ drop (length (wholly_before a (peaks_of s.rule n))) ds) where
+    (digests_are : p.digests.items ≡ laid_out s.hashing.fold (length (folded_prefix s.bagging k (wholly_before a (peaks_of s.rule n)))) (length (wholly_before a (peaks_of s.rule n)))
+    (length (single_after s.bagging k (length (wholly_before a (peaks_of s.rule n)) + length (overlapping a b (peaks_of s.rule n))) (wholly_after b (peaks_of s.rule n)))) (length (wholly_after b (peaks_of s.rule n))) ds) where
   abbrev peaks : List Tree
   peaks = peaks_of s.rule n
 
@@ -149,22 +116,19 @@ module _ {F D P Q : Type 0} (s : Setting D) (forwards : s.bagging ≡ ForwardFol
     inactive = inactive_are;
     few = few;
     digests = ap (map Some) digests_are
-        ∙ built_forward s.hashing node k (wholly_before a peaks) (overlapping a b peaks) (wholly_after b peaks) (range_siblings a b peaks) ds (agreed s.hashing node answered agree (nodes_read s.rule n a b) ds read)
-        ∙ ap (λ z. map (part_read s.hashing node) (range_parts z k a b peaks) ++ map (λ t. node (position t)) (range_siblings a b peaks)) (sym forwards);
+        ∙ built s.hashing node s.bagging k (wholly_before a peaks) (overlapping a b peaks) (wholly_after b peaks) (range_siblings a b peaks) ds (agreed node answered agree (nodes_read s.rule n a b) ds read);
   }
 
   -- the digests of the honest proof
   honest_digests_are : (xs : List D) → length xs ≡ n → AnswersList s.hashing s.rule xs answered → p.digests.items ≡ range_digests s xs k a b
   honest_digests_are xs long right =
       let T = tree_digest s.hashing (leaf_of s.hashing xs) in
-      let before = wholly_before a peaks in let after = wholly_after b peaks in let inside = range_siblings a b peaks in
+      let before = wholly_before a peaks in let over = overlapping a b peaks in let after = wholly_after b peaks in let inside = range_siblings a b peaks in
       let at : AreNodes s.rule (length xs) (nodes_read s.rule n a b) = subst (λ m. AreNodes s.rule m (nodes_read s.rule n a b)) (sym long) (reads_at s n a b) in
-      let all : ds ≡ map T before ++ map T (after ++ inside) = list_answers s.hashing s.rule xs answered right (nodes_read s.rule n a b) at ds read ∙ map-append T before (after ++ inside) in
-      let front : take (length before) ds ≡ map T before = ap (take (length before)) all ∙ take_at (map T before) (map T (after ++ inside)) (length before) (length-map before T) in
-      let back : drop (length before) ds ≡ map T (after ++ inside) = ap (drop (length before)) all ∙ drop_at (map T before) (map T (after ++ inside)) (length before) (length-map before T) in
-      digests_are ∙ ap₂ (λ x y. option_to_list (folded s.hashing.fold ForwardFold 0 x) ++ y) front back
-      ∙ honest_forward s.hashing (leaf_of s.hashing xs) k before (overlapping a b peaks) after inside
-      ∙ ap₂ (λ z m. map (plan_digest s.hashing (leaf_of s.hashing xs)) (range_parts z k a b (peaks_of s.rule m)) ++ map T (range_siblings a b (peaks_of s.rule m))) (sym forwards) (sym long)
+      let all : ds ≡ map T (before ++ (after ++ inside)) = list_answers s.hashing s.rule xs answered right (nodes_read s.rule n a b) at ds read in
+      digests_are ∙ ap (laid_out s.hashing.fold (length (folded_prefix s.bagging k before)) (length before) (length (single_after s.bagging k (length before + length over) after)) (length after)) all
+      ∙ honest s.hashing (leaf_of s.hashing xs) s.bagging k before over after inside
+      ∙ ap (λ m. map (plan_digest s.hashing (leaf_of s.hashing xs)) (range_parts s.bagging k a b (peaks_of s.rule m)) ++ map T (range_siblings a b (peaks_of s.rule m))) (sym long)
 
   pub is_honest : a < b → b ≤ n → (xs : List D) → length xs ≡ n → AnswersList s.hashing s.rule xs answered → IsHonestRange s xs k (list_input p xs a b)
   is_honest less within xs long right =
@@ -184,9 +148,9 @@ no_memory (unread.Missing p) = inl (λ e. cc)
 no_memory unread.OutOfMemory = inr refl
 
 -- why a plan isn't built, from why its nodes weren't read
-pub build_refused : {F D : Type 0} (rule : List ℕ → List ℕ) (r : LeafRange) (k : ℕ) (answered : ℕ → Option D → Type 0) (ps : List ℕ) → ps ≡ map position (nodes_read rule r.leaves r.start r.end) → k ≤ length (peaks_of rule r.leaves) → (u : Unread F) → (e : Error F) → e ≡ unread_error u
-    → (u ≢ unread.OutOfMemory → (q : ℕ) × (u ≡ unread.Missing q) × IsFirstMissing answered ps q) → e ≢ error.OutOfMemory → IsBuildRefusal rule r k answered e
-build_refused {F} {D} rule r k answered ps at few u e is missing other = ⊎_elim found (λ z. absurd (other (is ∙ ap (unread_error {F = F}) z))) (no_memory u)
+pub build_refused : {F D : Type 0} (bagging : Bagging) (rule : List ℕ → List ℕ) (r : LeafRange) (k : ℕ) (answered : ℕ → Option D → Type 0) (ps : List ℕ) → ps ≡ map position (reading_order bagging k rule r.leaves r.start r.end) → k ≤ length (peaks_of rule r.leaves) → (u : Unread F) → (e : Error F) → e ≡ unread_error u
+    → (u ≢ unread.OutOfMemory → (q : ℕ) × (u ≡ unread.Missing q) × IsFirstMissing answered ps q) → e ≢ error.OutOfMemory → IsBuildRefusal bagging rule r k answered e
+build_refused {F} {D} bagging rule r k answered ps at few u e is missing other = ⊎_elim found (λ z. absurd (other (is ∙ ap (unread_error {F = F}) z))) (no_memory u)
   where
-    found : (u ≡ unread.OutOfMemory → ⊥) → IsBuildRefusal rule r k answered e
+    found : (u ≡ unread.OutOfMemory → ⊥) → IsBuildRefusal bagging rule r k answered e
     found n = let w = missing n in inr (few, (w.0, is ∙ ap (unread_error {F = F}) w.1, subst (λ z. IsFirstMissing answered z w.0) at w.2))

@@ -11,29 +11,26 @@ use Rattle.merkle_base.specs.Root.{folded, root_string}
 use Rattle.merkle_base.specs.declared.family.Bagging.{Bagging}
 use Rattle.merkle_base.specs.declared.family.Bagging.TheVariants.{ForwardFold, BackwardFold}
 use Rattle.merkle_proof.specs.Expression.{value}
-use Rattle.merkle_proof.specs.Plan.{Plan, peak, forward, bag, join_bag, whole, full, tree_digest, plan_digest}
+use Rattle.merkle_proof.specs.Plan.{Plan, peak, forward, join_bag, whole, full, tree_digest, plan_digest}
 use Rattle.merkle_proof.specs.Range.{leaf_of}
 use Rattle.merkle_proof.specs.ListRoot.{RootsAgree}
-use Rattle.merkle_proof.proofs.BuiltDigests.{digest_at_is, fold_forward}
+use Rattle.merkle_proof.proofs.BuiltDigests.{digest_at_is}
+use Rattle.merkle_proof.proofs.BuiltLayouts.{fold_digests, bag_digests}
 
 module _ {D : Type 0} (h : Hashing D) (X : ℕ → D) where
-  bag_is : (i : ℕ) (t : Tree) (ts : List Tree) → root.bag h.fold (map (tree_digest h X) (t ∷ ts)) ≡ Some (plan_digest h X (bag i t ts))
-  bag_is i t [] = refl
-  bag_is i t (u ∷ us) = ap (λ o. option_map_or (λ b. Some (h.fold (tree_digest h X t) b)) o (Some (tree_digest h X t))) (bag_is (suc i) u us)
-
   join_is : (acc : Plan) (i : ℕ) (ts : List Tree) → root.with_bag h.fold (plan_digest h X acc) (map (tree_digest h X) ts) ≡ plan_digest h X (join_bag acc i ts)
   join_is acc i [] = refl
-  join_is acc i (t ∷ ts) = ap (λ o. option_map_or (h.fold (plan_digest h X acc)) o (plan_digest h X acc)) (bag_is i t ts)
+  join_is acc i (t ∷ ts) = ap (λ o. option_map_or (h.fold (plan_digest h X acc)) o (plan_digest h X acc)) (bag_digests h X i t ts)
 
   folded_is : (bagging : Bagging) (k : ℕ) (ts : List Tree) → folded h.fold bagging k (map (tree_digest h X) ts) ≡ option_map (value h) (option_map (full X) (whole bagging k ts))
   folded_is bagging k [] = refl
-  folded_is ForwardFold k (t ∷ ts) = ap Some (fold_forward h X (peak t) 1 ts)
+  folded_is ForwardFold k (t ∷ ts) = ap Some (fold_digests h X (peak t) 1 ts)
   folded_is BackwardFold k (t ∷ ts) =
       let T = tree_digest h X in
       let less : k - 1 ≡ pred k = omega arith in
       ap Some (ap (λ n. root.with_bag h.fold (fold h.fold (T t) (take n (map T ts))) (drop n (map T ts))) less
       ∙ ap₂ (λ us vs. root.with_bag h.fold (fold h.fold (T t) us) vs) (take-map T (pred k) ts) (drop-map T (pred k) ts)
-      ∙ ap (λ z. root.with_bag h.fold z (map T (drop (pred k) ts))) (fold_forward h X (peak t) 1 (take (pred k) ts))
+      ∙ ap (λ z. root.with_bag h.fold z (map T (drop (pred k) ts))) (fold_digests h X (peak t) 1 (take (pred k) ts))
       ∙ join_is (forward (peak t) 1 (take (pred k) ts)) (suc (pred k)) (drop (pred k) ts))
 
 digests_are : {D : Type 0} (h : Hashing D) (xs : List D) (ts : List Tree) → map (digest_at h xs) ts ≡ map (tree_digest h (leaf_of h xs)) ts

@@ -95,7 +95,7 @@ module _ (c : ℕ → Bool) where
   bag_unmet i t [] u = u.0
   bag_unmet i t (v ∷ ts) u = or_false (tree_meets c t) (meets c (bag (suc i) v ts)) u.0 (bag_unmet (suc i) v ts u.1)
 
-  forward_append : (acc : Plan) (i : ℕ) (xs ys : List Tree) → forward acc i (xs ++ ys) ≡ forward (forward acc i xs) (i + length xs) ys
+  pub forward_append : (acc : Plan) (i : ℕ) (xs ys : List Tree) → forward acc i (xs ++ ys) ≡ forward (forward acc i xs) (i + length xs) ys
   forward_append acc i [] ys = ap (λ n. forward acc n ys) (sym (add-zero i))
   forward_append acc i (x ∷ xs) ys = forward_append (folding (PrefixFold i) acc (peak x)) (suc i) xs ys ∙ ap (λ n. forward (forward acc i (x ∷ xs)) n ys) (omega arith)
 

@@ -1,5 +1,5 @@
 -- The root that a proof and elements lead to.
-use Rattle.std.proofs.Common.{◌≡◌, ◌≢◌, ℕ, ◌+◌, ◌<◌, ◌≤◌, true, Bool, List, [], ◌∷◌, ◌++◌, length, length-append, take, drop, refl, ap, sym, ◌∙◌, subst, arith, inl, inr}
+use Rattle.std.proofs.Common.{◌≡◌, ◌≢◌, ℕ, ◌+◌, ◌<◌, ◌≤◌, true, Bool, List, [], ◌∷◌, ◌++◌, length, length-append, take, drop, refl, ap, ap₂, sym, ◌∙◌, subst, arith, inl, inr}
 use Rattle.std.specs.List.{flat_map}
 use Rattle.std.specs.Borrow.{Bor}
 use Rattle.std.proofs.lemmas.List.{length-map, length-reverse}
@@ -10,11 +10,10 @@ use Rattle.merkle_base.specs.Hashing.{Hashing}
 use Rattle.merkle_base.specs.Places.{peaks_of, wholly_before}
 use Rattle.merkle_base.specs.Root.{peaks_root}
 use Rattle.merkle_base.specs.declared.family.Bagging.{Bagging}
-use Rattle.merkle_base.specs.declared.family.Bagging.TheVariants.{ForwardFold}
 use Rattle.merkle_base.proofs.Balance.{heights_forest}
 use Rattle.merkle_base.proofs.Growth.{forest_grown}
 use Rattle.merkle_proof.specs.Plan.{siblings}
-use Rattle.merkle_proof.specs.Outside.{fold_all}
+use Rattle.merkle_proof.specs.Layouts.{count_before, count_after, count_inactive}
 use Rattle.merkle_proof.specs.Check.{Setting, RangeInput, chosen, leaf_given}
 use Rattle.merkle_proof.specs.Range.{in_range, overlapping, wholly_after, end_of, Accepts}
 use Rattle.merkle_proof.specs.Walk.{bytes_of, leaf_from, peak_values, ArePeakDigests}
@@ -26,7 +25,7 @@ use Rattle.merkle_proof.specs.declared.groups.Groups.{Groups}
 use Rattle.merkle_proof.proofs.PeakGroups.{groups, some_over}
 use Rattle.merkle_base.proofs.PeakLists.{covers_spans}
 use Rattle.merkle_proof.proofs.GivenLeaves.{values_chosen, length-leaf_digests, leaf_in_range}
-use Rattle.merkle_proof.proofs.ForwardRoot.{forward_root, forward_counts}
+use Rattle.merkle_proof.proofs.LayoutRoot.{layout_counts, layout_root, inactive_fits}
 
 -- groups have as many peaks as there are
 pub group_count : {F : Type 0} (rule : List ℕ → List ℕ) (a b n : ℕ) (g : Groups F) → a < b → HoldsGroups a b g (peaks_of rule n) → length g.before.items + length g.overlapping.items + length g.after.items ≡ length (peaks_of rule n)
@@ -80,8 +79,15 @@ module _ {F D P Q : Type 0} (h : Hashing D) (bagging : Bagging) (rule : List ℕ
   given_leaves : (i : ℕ) → chosen input i ≡ true → leaf_from h rule a (bytes_of es) i ≡ leaf_given h input i
   given_leaves i m = leaf_in_range h rule (bytes_of es) a (end_of input) (omega (arith, length-leaf_digests h rule a (bytes_of es))) i m
 
+  -- how many digests of a proof are for the peaks before the range, and for those after its end
+  abbrev pub digests_before : ℕ
+  digests_before = count_before bagging p.inactive_peaks (wholly_before a (peaks_of rule p.leaves))
+
+  abbrev pub digests_after : ℕ → ℕ
+  digests_after z = count_after bagging p.inactive_peaks (length (wholly_before a (peaks_of rule p.leaves)) + length (overlapping a z (peaks_of rule p.leaves))) (wholly_after z (peaks_of rule p.leaves))
+
   -- what the digests of the peaks are to the input
-  module _ (forwards : bagging ≡ ForwardFold) (within : b ≤ p.leaves) (m n : ℕ) (m_is : m ≡ length (fold_all (wholly_before a (peaks_of rule p.leaves)))) (n_is : n ≡ length (wholly_after b (peaks_of rule p.leaves))) where
+  module _ (within : b ≤ p.leaves) (m n : ℕ) (m_is : m ≡ digests_before) (n_is : n ≡ digests_after b) where
     abbrev AreDigests : ℕ → (ℕ → D) → ℕ → ℕ → List D → Type 0
     AreDigests z X i j all = ArePeakDigests h (in_range a z) X (overlapping a z (peaks_of rule p.leaves)) i j p.digests.items all
 
@@ -91,39 +97,42 @@ module _ {F D P Q : Type 0} (h : Hashing D) (bagging : Bagging) (rule : List ℕ
     within_given : end_of input ≤ p.leaves
     within_given = omega (arith, within, end_same)
 
-    as_input : (all : List D) → AreDigests b (leaf_from h rule a (bytes_of es)) m n all
-        → AreDigests (end_of input) (leaf_given h input) (length (fold_all (wholly_before a (peaks_of rule p.leaves)))) (length (wholly_after (end_of input) (peaks_of rule p.leaves))) all
+    as_input : (all : List D) → AreDigests b (leaf_from h rule a (bytes_of es)) m n all → AreDigests (end_of input) (leaf_given h input) digests_before (digests_after (end_of input)) all
     as_input all w =
         let X = leaf_from h rule a (bytes_of es) in
-        let one : AreDigests b X (length (fold_all (wholly_before a (peaks_of rule p.leaves)))) (length (wholly_after b (peaks_of rule p.leaves))) all = subst (λ i. AreDigests b X i (length (wholly_after b (peaks_of rule p.leaves))) all) m_is (subst (λ j. AreDigests b X m j all) n_is w) in
-        let two = subst (λ z. AreDigests z X (length (fold_all (wholly_before a (peaks_of rule p.leaves)))) (length (wholly_after z (peaks_of rule p.leaves))) all) end_same one in
-        other_leaves h (chosen input) X (leaf_given h input) _ _ _ p.digests.items all given_leaves two
+        let one : AreDigests b X digests_before (digests_after b) all = subst (λ i. AreDigests b X i (digests_after b) all) m_is (subst (λ j. AreDigests b X m j all) n_is w) in
+        other_leaves h (chosen input) X (leaf_given h input) _ _ _ p.digests.items all given_leaves (subst (λ z. AreDigests z X digests_before (digests_after z) all) end_same one)
 
-    pub computed : p.leaves ≤ max_leaves → p.inactive_peaks ≤ length (peaks_of rule p.leaves) → (all : List D) → AreDigests b (leaf_from h rule a (bytes_of es)) m n all → (d : D)
-        → d ≡ peaks_root h domain bagging p.leaves 0 p.inactive_peaks all → IsComputed at_setting input d
-    computed few low all w d is =
+    pub computed : p.leaves ≤ max_leaves → p.inactive_peaks ≤ length (peaks_of rule p.leaves) → (all : List D) → AreDigests b (leaf_from h rule a (bytes_of es)) m n all
+        → (j : ℕ) → j ≡ count_inactive bagging p.inactive_peaks (wholly_before a (peaks_of rule p.leaves)) → (d : D) → d ≡ peaks_root h domain bagging p.leaves j p.inactive_peaks all → IsComputed at_setting input d
+    computed few low all w j j_is d is =
         let v = as_input all w in (
           record {
             some = some_given;
             within = within_given;
             leaves = few;
             inactive = low;
-            counts = v.count ∙ ap (λ z. z + length (flat_map (siblings (chosen input)) (overlapping a (end_of input) (peaks_of rule p.leaves)))) (sym (forward_counts at_setting input forwards some_given within_given));
+            counts = v.count ∙ ap (λ z. z + length (flat_map (siblings (chosen input)) (overlapping a (end_of input) (peaks_of rule p.leaves)))) (sym (layout_counts at_setting input));
           },
-          is ∙ forward_root at_setting input forwards some_given within_given 0 all v,
+          is ∙ ap (λ i. peaks_root h domain bagging p.leaves i p.inactive_peaks all) j_is ∙ layout_root at_setting input some_given within_given all v,
         )
 
     pub misshapen : length p.digests.items ≢ m + n + length (flat_map (siblings (in_range a b)) (overlapping a b (peaks_of rule p.leaves))) → ¬ HasShape at_setting input
     misshapen differ shape =
-        let e = shape.counts ∙ ap (λ z. z + length (flat_map (siblings (chosen input)) (overlapping a (end_of input) (peaks_of rule p.leaves)))) (forward_counts at_setting input forwards some_given within_given) in
-        let f : length p.digests.items ≡ length (fold_all (wholly_before a (peaks_of rule p.leaves))) + length (wholly_after b (peaks_of rule p.leaves)) + length (flat_map (siblings (in_range a b)) (overlapping a b (peaks_of rule p.leaves))) =
-        subst (λ z. length p.digests.items ≡ length (fold_all (wholly_before a (peaks_of rule p.leaves))) + length (wholly_after z (peaks_of rule p.leaves)) + length (flat_map (siblings (in_range a z)) (overlapping a z (peaks_of rule p.leaves)))) (sym end_same) e in
-        differ (omega (arith, f, m_is, n_is))
+        let e = shape.counts ∙ ap (λ z. z + length (flat_map (siblings (chosen input)) (overlapping a (end_of input) (peaks_of rule p.leaves)))) (layout_counts at_setting input) in
+        let f : length p.digests.items ≡ digests_before + digests_after b + length (flat_map (siblings (in_range a b)) (overlapping a b (peaks_of rule p.leaves))) =
+        subst (λ z. length p.digests.items ≡ digests_before + digests_after z + length (flat_map (siblings (in_range a z)) (overlapping a z (peaks_of rule p.leaves)))) (sym end_same) e in
+        differ (f ∙ ap₂ (λ i j. i + j + length (flat_map (siblings (in_range a b)) (overlapping a b (peaks_of rule p.leaves)))) (sym m_is) (sym n_is))
 
     pub never_empty : (all : List D) → AreDigests b (leaf_from h rule a (bytes_of es)) m n all → length all ≡ 0 → ⊥
     never_empty all w e =
         some_over a b 0 p.leaves (peaks_of rule p.leaves) (omega (arith, some, end_is)) (covers_spans p.leaves (forest rule p.leaves).peaks (forest_grown rule p.leaves).covers) (omega arith) (omega (arith, some, end_is, within))
         (no_peaks h (in_range a b) (leaf_from h rule a (bytes_of es)) _ _ (none_joined (take m p.digests.items) _ _ (sym (ap length w.digests) ∙ e)))
+
+    -- there are as many as are folded apart
+    pub folds_given : p.inactive_peaks ≤ length (peaks_of rule p.leaves) → (all : List D) → AreDigests b (leaf_from h rule a (bytes_of es)) m n all
+        → (j : ℕ) → j ≡ count_inactive bagging p.inactive_peaks (wholly_before a (peaks_of rule p.leaves)) → j ≤ length all
+    folds_given low all w j j_is = omega (arith, j_is, inactive_fits at_setting input some_given all (as_input all w) low)
 
 -- an input with elements whose counts are wrong isn't accepted
 pub refused : {D : Type 0} (s : Setting D) (r : RangeInput D) (root : D) → 0 < length r.elements → ¬ HasShape s r → ¬ Accepts s r root

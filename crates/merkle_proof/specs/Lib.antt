@@ -10,6 +10,7 @@ pub mod Check
 pub mod MultiClaim
 pub mod PinnedClaim
 pub mod Outside
+pub mod Layouts
 pub mod Exact
 pub mod Order
 pub mod Audit

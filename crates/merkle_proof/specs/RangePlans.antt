@@ -1,17 +1,19 @@
 -- What a range proof reads, and what it is made of.
-use Rattle.std.specs.Prelude.{◌≡◌, ℕ, ◌≤◌, ◌<◌, ◌⊎◌, List, ◌∷◌, ◌++◌, map, length, Option, Some, None, slice_get, take, drop, ◌-◌}
+use Rattle.std.specs.Prelude.{◌≡◌, ℕ, ◌≤◌, ◌<◌, ◌⊎◌, List, ◌∷◌, ◌++◌, map, length, Option, Some, None, slice_get, take, drop, reverse, ◌+◌, ◌-◌}
 use Rattle.std.specs.List.{AllZip}
 use Rattle.merkle_base.specs.Tree.{Tree, position}
 use Rattle.merkle_base.specs.Forest.{forest}
 use Rattle.merkle_base.specs.Hashing.{Hashing}
 use Rattle.merkle_base.specs.Digests.{digest_at}
 use Rattle.merkle_base.specs.Places.{peaks_of, wholly_before}
+use Rattle.merkle_base.specs.declared.family.Bagging.{Bagging}
 use Rattle.merkle_base.specs.declared.error.Error.{Error}
 use Rattle.merkle_base.specs.declared.error.Error.TheVariants.{Empty, RangeOutOfBounds, LocationOverflow, InvalidProof, ElementPruned}
 use Rattle.merkle_proof.specs.Expression.{hashed_at}
 use Rattle.merkle_proof.specs.Plan.{Plan, peak, folding}
 use Rattle.merkle_proof.specs.Check.{Setting, RangeInput}
-use Rattle.merkle_proof.specs.Range.{wholly_after, range_parts, range_siblings}
+use Rattle.merkle_proof.specs.Outside.{single_after, folded_suffix}
+use Rattle.merkle_proof.specs.Range.{overlapping, wholly_after, range_parts, range_siblings}
 use Rattle.merkle_proof.specs.declared.proof.Proof.{Proof}
 
 -- a range of a number of leaves
@@ -20,17 +22,31 @@ pub record LeafRange : Type 0 where
   pub start : ℕ
   pub end : ℕ
 
--- the nodes that a proof of a..b reads, in order: the peaks before the range, those after it, and the path siblings
+-- the nodes that a proof of a..b reads: the peaks before the range, those after it, and the path siblings
 abbrev pub nodes_read : (List ℕ → List ℕ) → (n a b : ℕ) → List Tree
 nodes_read rule n a b = wholly_before a (peaks_of rule n) ++ (wholly_after b (peaks_of rule n) ++ range_siblings a b (peaks_of rule n))
 
--- the range has leaves, there are that many leaves and peaks, and these nodes are read, of which the first so many are peaks before the range
-pub record IsPlan (rule : List ℕ → List ℕ) (max_leaves n a b peaks before : ℕ) (reads : List ℕ) : Type 0 where
+-- the same in the order in which a proof reads them: of the peaks after the range those that stand alone, and the others from the last one on
+abbrev pub reading_order : Bagging → (k : ℕ) → (List ℕ → List ℕ) → (n a b : ℕ) → List Tree
+reading_order bagging k rule n a b =
+    let before = wholly_before a (peaks_of rule n) in
+    let after = wholly_after b (peaks_of rule n) in
+    let met = length before + length (overlapping a b (peaks_of rule n)) in
+    before ++ (single_after bagging k met after ++ (reverse (folded_suffix bagging k met after) ++ range_siblings a b (peaks_of rule n)))
+
+-- a list with the order of its items from s on up to e turned round
+abbrev pub turned : {X : Type 0} → (s e : ℕ) → List X → List X
+turned s e xs = take s xs ++ (reverse (take (e - s) (drop s xs)) ++ drop e xs)
+
+-- the range has leaves, there are that many leaves and peaks, and these nodes are read, of which the first so many are peaks before the range,
+-- and the next so many peaks after it
+pub record IsPlan (rule : List ℕ → List ℕ) (max_leaves n a b peaks before after : ℕ) (reads : List ℕ) : Type 0 where
   pub some : a < b
   pub within : b ≤ n
   pub small : n ≤ max_leaves
   pub peaks_are : peaks ≡ length (peaks_of rule n)
   pub before_are : before ≡ length (wholly_before a (peaks_of rule n))
+  pub after_are : after ≡ length (wholly_after b (peaks_of rule n))
   pub reads_are : reads ≡ map position (nodes_read rule n a b)
 
 -- why there is no plan: the range is empty, or ends past the leaves, or these are too many
@@ -47,10 +63,10 @@ pub record IsFirstMissing {D : Type 0} (answered : ℕ → Option D → Type 0) 
   pub missing : answered p None
 
 -- why a plan isn't built: more peaks are called inactive than there are, or a node is missing
-abbrev pub IsBuildRefusal : {F D : Type 0} → (List ℕ → List ℕ) → LeafRange → ℕ → (ℕ → Option D → Type 0) → Error F → Type 0
-IsBuildRefusal rule r k answered e =
+abbrev pub IsBuildRefusal : {F D : Type 0} → Bagging → (List ℕ → List ℕ) → LeafRange → ℕ → (ℕ → Option D → Type 0) → Error F → Type 0
+IsBuildRefusal bagging rule r k answered e =
     ((length (peaks_of rule r.leaves) < k) × (e ≡ InvalidProof))
-    ⊎ ((k ≤ length (peaks_of rule r.leaves)) × ((p : ℕ) × (e ≡ ElementPruned p) × IsFirstMissing answered (map position (nodes_read rule r.leaves r.start r.end)) p))
+    ⊎ ((k ≤ length (peaks_of rule r.leaves)) × ((p : ℕ) × (e ≡ ElementPruned p) × IsFirstMissing answered (map position (reading_order bagging k rule r.leaves r.start r.end)) p))
 
 -- a function of two digests, where both are there
 abbrev pub both_read : {D : Type 0} → (D → D → D) → Option D → Option D → Option D

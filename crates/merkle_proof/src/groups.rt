@@ -1,17 +1,18 @@
 //! The peaks of a forest by where they stand to a range.
-ghost use Rattle.std.specs.Prelude.{◌≡◌, ◌<◌, ◌≤◌, ◌++◌, [], ◌∷◌, ℕ, List, map, length, IfOk};
+ghost use Rattle.std.specs.Prelude.{◌≡◌, ◌<◌, ◌≤◌, ◌+◌, ◌++◌, [], ◌∷◌, ℕ, List, map, length, IfOk};
 ghost use Rattle.std.specs.List.{flat_map};
 ghost use Rattle.merkle_base.specs.Tree.{Tree, position};
 ghost use Rattle.merkle_base.specs.Places.{peaks_of, wholly_before};
 ghost use Rattle.merkle_proof.specs.Plan.{siblings};
-ghost use Rattle.merkle_proof.specs.Outside.{fold_all};
-ghost use Rattle.merkle_proof.specs.Range.{in_range};
+ghost use Rattle.merkle_proof.specs.Layouts.{count_before, count_after, count_inactive};
+ghost use Rattle.merkle_proof.specs.Range.{in_range, overlapping, wholly_after};
 ghost use Rattle.merkle_proof.specs.Subtrees.{Means, AreNodes, subtree_of};
 ghost use Rattle.merkle_proof.specs.GroupedPeaks.{HoldsGroups};
 ghost use Rattle.merkle_proof.specs.RangePlans.{nodes_read};
 
+use crate::layout::Layout;
 use crate::subtree::Subtree;
-use merkle_base::family::Family;
+use merkle_base::family::{Bagging, Family};
 use merkle_base::location::Location;
 use merkle_base::position::Position;
 use std::alloc::{AllocError, Global};
@@ -84,11 +85,21 @@ impl<F: Family> Groups<F> {
         self.before.len() + self.overlapping.len() + self.after.len()
     }
 
-    /// How many digests stand for the peaks before the range, where these are folded: one, if there are any.
-    pub(crate) fn folded_count(&self) -> usize
-        ensures { (a b : ℕ) (ts : List Tree) → HoldsGroups a b self.now ts → result ≡ length (fold_all (wholly_before a ts)) }
+    /// The layout of a proof of the range, where so many peaks are inactive.
+    pub(crate) fn layout(&self, bagging: Bagging, inactive: usize) -> Layout
+        requires groups { (a : ℕ) × (b : ℕ) × (n : ℕ) × (a < b) × (n ≤ F.MAX_LEAVES) × HoldsGroups a b self.now (peaks_of F.rule n) }
+        requires inactive { inactive ≤ 64 }
+        ensures before { (a b : ℕ) (ts : List Tree) → HoldsGroups a b self.now ts → result.before ≡ count_before bagging inactive (wholly_before a ts) }
+        ensures after { (a b : ℕ) (ts : List Tree) → HoldsGroups a b self.now ts → result.after ≡ count_after bagging inactive (length (wholly_before a ts) + length (overlapping a b ts)) (wholly_after b ts) }
+        ensures inactive { (a b : ℕ) (ts : List Tree) → HoldsGroups a b self.now ts → result.inactive ≡ count_inactive bagging inactive (wholly_before a ts) }
     {
-        if self.before.is_empty() { 0 } else { 1 }
+        Layout::new(
+            bagging,
+            inactive,
+            self.before.len(),
+            self.overlapping.len(),
+            self.after.len(),
+        )
     }
 
     /// The positions of the peaks before the range, of those after it, and of the maximal nodes outside it under the

@@ -197,8 +197,8 @@ pub(crate) fn fold_all<F: Family, T: Hasher<F>>(
     acc
 }
 
-// The last peak, which takes in the others right to left, if there is one.
-fn bag_all<F: Family, T: Hasher<F>>(hasher: &T, peaks: &[T::Digest]) -> Option<T::Digest>
+/// The last peak, which takes in the others right to left, if there is one.
+pub(crate) fn bag_all<F: Family, T: Hasher<F>>(hasher: &T, peaks: &[T::Digest]) -> Option<T::Digest>
     ensures { result ≡ bag (T.hashing hasher.now).fold peaks.now }
 {
     let mut bagged = None;

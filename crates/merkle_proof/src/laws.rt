@@ -1,7 +1,7 @@
 //! What holds of proofs against roots: the theory that the checks rest on.
 //!
 //! Each function is empty. Its contract is a law of the definitions in `specs/`.
-ghost use Rattle.std.specs.Prelude.{◌≡◌, ℕ, [], ◌∷◌, true, false, Some, None, map};
+ghost use Rattle.std.specs.Prelude.{◌≡◌, ℕ, ◌+◌, ◌*◌, [], ◌∷◌, true, false, Some, None, map};
 ghost use Rattle.merkle_base.specs.Tree.{position};
 ghost use Rattle.merkle_base.specs.declared.family.Bagging.TheVariants.{ForwardFold, BackwardFold};
 ghost use Rattle.merkle_proof.specs.Audit.{AuditsRange, AuditsPair, HonestIsClear};
@@ -17,12 +17,14 @@ ghost use Rattle.merkle_proof.specs.ListRoot.{RootsAgree};
 ghost use Rattle.merkle_proof.specs.MultiClaim.{NoOtherMulti};
 ghost use Rattle.merkle_proof.specs.Multiproof.{HonestMultiIsAccepted, AcceptedMultiIsHonest, AtMost122};
 ghost use Rattle.merkle_proof.specs.Order.{PlacesInOrder, PlacesOnce};
+ghost use Rattle.merkle_proof.specs.Layouts.{count_before, count_after, count_inactive, laid_out};
 ghost use Rattle.merkle_proof.specs.Outside.{OutsideIsLayout, layout};
 ghost use Rattle.merkle_proof.specs.Path.{PathHasSiblings};
 ghost use Rattle.merkle_proof.specs.Pinned.{HonestPinnedIsAccepted, AcceptedPinnedIsHonest, PinsAreOldPeaks};
 ghost use Rattle.merkle_proof.specs.PinnedClaim.{NoOtherPins};
 ghost use Rattle.merkle_proof.specs.Plan.{folding, full, siblings, whole};
 ghost use Rattle.merkle_proof.specs.Range.{HonestIsAccepted, AcceptedIsHonest, AcceptsSome, IsHonestSome, in_range, overlapping, wholly_after, range_siblings, range_digests};
+ghost use Rattle.merkle_proof.specs.RangePlans.{reading_order, turned};
 ghost use Rattle.merkle_proof.specs.RootString.{RootStringTellsAll};
 ghost use Rattle.merkle_proof.specs.Rows.{four, seven, single, alone, paired, small, middle, swapped_inputs, list_inputs};
 ghost use Rattle.merkle_proof.specs.Store.{PartIsAccepted, SiblingsAreRead};
@@ -125,6 +127,21 @@ pub fn worked_rows()
         ≡ alone 0 ∷ alone 1 ∷ alone 2 ∷ folding (SuffixFold 4) (alone 4) (alone 5) ∷ [] }
     ensures layout_after { layout BackwardFold 5 (single 0 ∷ single 1 ∷ []) (single 2 ∷ []) (single 3 ∷ single 4 ∷ single 5 ∷ single 6 ∷ [])
         ≡ folding (PrefixFold 1) (alone 0) (alone 1) ∷ alone 3 ∷ alone 4 ∷ folding (SuffixFold 5) (alone 5) (alone 6) ∷ [] }
+
+    // The digests of these layouts: before, after, and of inactive peaks, of which the folded ones have one.
+    ensures counts_forward { count_before ForwardFold 0 (single 0 ∷ single 1 ∷ []) ∷ count_after ForwardFold 0 3 (single 3 ∷ single 4 ∷ []) ∷ count_inactive ForwardFold 0 (single 0 ∷ single 1 ∷ []) ∷ [] ≡ 1 ∷ 2 ∷ 1 ∷ [] }
+    ensures counts_before { count_before BackwardFold 1 (single 0 ∷ single 1 ∷ single 2 ∷ []) ∷ count_after BackwardFold 1 4 (single 4 ∷ single 5 ∷ []) ∷ count_inactive BackwardFold 1 (single 0 ∷ single 1 ∷ single 2 ∷ []) ∷ [] ≡ 3 ∷ 1 ∷ 1 ∷ [] }
+    ensures counts_after { count_before BackwardFold 5 (single 0 ∷ single 1 ∷ []) ∷ count_after BackwardFold 5 3 (single 3 ∷ single 4 ∷ single 5 ∷ single 6 ∷ []) ∷ count_inactive BackwardFold 5 (single 0 ∷ single 1 ∷ []) ∷ [] ≡ 1 ∷ 3 ∷ 4 ∷ [] }
+
+    // Of what is read the first two are folded left to right, and the fifth and sixth right to left.
+    ensures laid { laid_out (λ a b. 10 * a + b) 2 3 1 3 (1 ∷ 2 ∷ 3 ∷ 4 ∷ 5 ∷ 6 ∷ 7 ∷ []) ≡ 12 ∷ 3 ∷ 4 ∷ 56 ∷ 7 ∷ [] }
+    ensures laid_backward { laid_out (λ a b. a + 2 * b) 0 0 0 3 (1 ∷ 2 ∷ 4 ∷ 9 ∷ []) ≡ 21 ∷ 9 ∷ [] }
+
+    // For leaf 1 of five that are all peaks.
+    ensures reads_forward { map position (reading_order ForwardFold 0 small.rule 5 1 2) ≡ 0 ∷ 2 ∷ 3 ∷ 4 ∷ [] }
+    ensures reads_backward { map position (reading_order BackwardFold 0 small.rule 5 1 2) ≡ 0 ∷ 4 ∷ 3 ∷ 2 ∷ [] }
+    ensures reads_inactive { map position (reading_order BackwardFold 3 small.rule 5 1 2) ≡ 0 ∷ 2 ∷ 4 ∷ 3 ∷ [] }
+    ensures turns { turned {X = ℕ} 1 3 (5 ∷ 6 ∷ 7 ∷ 8 ∷ []) ≡ 5 ∷ 7 ∷ 6 ∷ 8 ∷ [] }
 
     // Of the first leaf, where the first two are merged: the peak after it, and then the second leaf.
     ensures digests { range_digests (record small { rule = paired }) (1 ∷ 3 ∷ 7 ∷ []) 0 0 1 ≡ 7 ∷ 3 ∷ [] }

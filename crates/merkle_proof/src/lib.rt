@@ -4,6 +4,7 @@
 mod groups;
 pub mod hasher;
 pub mod laws;
+mod layout;
 pub mod path;
 pub mod proof;
 pub mod range_plan;

@@ -1,9 +1,8 @@
 //! Proofs of leaves against a root.
 ghost use Rattle.std.specs.Prelude.{◌≡◌, ◌≢◌, ◌+◌, ◌<◌, ◌≤◌, ◌++◌, [], ◌∷◌, ◌↔◌, ◌⊎◌, ℕ, List, None, IsTrue, IfOk, IfErr, length, map, take, drop};
 ghost use Rattle.std.specs.List.{flat_map};
-ghost use Rattle.merkle_base.specs.declared.family.Bagging.TheVariants.{ForwardFold};
 ghost use Rattle.merkle_base.specs.Tree.{Tree};
-ghost use Rattle.merkle_base.specs.Places.{peaks_of};
+ghost use Rattle.merkle_base.specs.Places.{peaks_of, inactive_peaks};
 ghost use Rattle.merkle_base.specs.Root.{list_root};
 ghost use Rattle.merkle_proof.specs.Plan.{siblings};
 ghost use Rattle.merkle_proof.specs.Check.{root_of, range_expression};
@@ -19,10 +18,12 @@ use merkle_base::digest::Digest;
 use merkle_base::error::{OutOfMemory, ReconstructionError};
 use merkle_base::family::Family;
 use merkle_base::location::Location;
+use std::alloc::{AllocError, Global};
 use std::ops::Range;
 
 /// A proof that elements are leaves of the list behind a root.
 #[derive(Debug, Drop)]
+#[derive_where(PartialEq, Eq)]
 pub struct Proof<F: Family, D: Digest> {
     /// The number of leaves of the list.
     pub leaves: Location<F>,
@@ -57,6 +58,44 @@ fn reconstruct_peaks<F: Family, H: Hasher<F>>(
 }
 
 impl<F: Family, D: Digest> Proof<F, D> {
+    /// The proof of no elements, against the root of no leaves.
+    pub fn empty(alloc: Global) -> Self
+        ensures leaves { result.leaves ≡ 0 }
+        ensures inactive { result.inactive_peaks ≡ 0 }
+        ensures digests { result.digests.items ≡ [] }
+    {
+        Proof {
+            leaves: Location::new(0),
+            inactive_peaks: 0,
+            digests: Vec::new(alloc),
+        }
+    }
+
+    /// A proof of its own with the same leaf count, number of inactive peaks and digests.
+    ///
+    /// Refused for want of memory.
+    pub fn clone(&self) -> Result<Self, AllocError>
+        ensures leaves { IfOk result (λ p. p.leaves ≡ self.now.leaves) }
+        ensures inactive { IfOk result (λ p. p.inactive_peaks ≡ self.now.inactive_peaks) }
+        ensures digests { IfOk result (λ p. p.digests.items ≡ self.now.digests.items) }
+    {
+        Ok(Proof {
+            leaves: self.leaves,
+            inactive_peaks: self.inactive_peaks,
+            digests: self.digests.to_vec(*self.digests.allocator())?,
+        })
+    }
+
+    /// Whether its number of inactive peaks is that of so many leaves, of which those below a floor are inactive.
+    ///
+    /// The leaf count is at most `MAX_LEAVES`; any location is a floor.
+    pub fn matches_canonical_inactive_peaks(&self, leaves: Location<F>, floor: Location<F>) -> bool
+        requires { leaves ≤ F.MAX_LEAVES }
+        ensures { IsTrue result ↔ (self.now.inactive_peaks ≡ inactive_peaks F.rule leaves floor) }
+    {
+        self.inactive_peaks == F::inactive_peaks(leaves, floor)
+    }
+
     // The location after that many leaves from `start` on.
     fn end_from(&self, start: Location<F>, count: usize) -> Result<Location<F>, ReconstructionError>
         ensures ok { IfOk result (λ end. (end ≡ start + count) × (end ≤ self.now.leaves) × (self.now.leaves ≤ F.MAX_LEAVES)) }
@@ -114,7 +153,6 @@ impl<F: Family, D: Digest> Proof<F, D> {
         elements: &[&[u8]],
         start: Location<F>,
     ) -> Result<D, ReconstructionError>
-        requires forward { H.bagging_of hasher.now ≡ ForwardFold }
         requires some { 0 < length elements.now }
         ensures ok { let h = H.hashing hasher.now in IfOk result (λ d. IsComputed (setting h (H.bagging_of hasher.now) F.rule F.MAX_LEAVES F.DOMAIN) (input_of h F.rule self.now start (bytes_of elements.now)) d) }
         ensures err { let h = H.hashing hasher.now in IfErr result (λ e. e ≢ ReconstructionError.OutOfMemory → ¬ HasShape (setting h (H.bagging_of hasher.now) F.rule F.MAX_LEAVES F.DOMAIN) (input_of h F.rule self.now start (bytes_of elements.now))) }
@@ -128,15 +166,21 @@ impl<F: Family, D: Digest> Proof<F, D> {
         if self.inactive_peaks > groups.count() {
             return Err(ReconstructionError::InvalidProof);
         }
+        let layout = groups.layout(hasher.root_bagging(), self.inactive_peaks);
         let peaks = self.peak_digests(
             hasher,
             &range,
             elements,
             &groups.overlapping,
-            groups.folded_count(),
-            groups.after.len(),
+            layout.before,
+            layout.after,
         )?;
-        match hasher.root_with_folded_peaks(self.leaves, 0, self.inactive_peaks, &peaks) {
+        match hasher.root_with_folded_peaks(
+            self.leaves,
+            layout.inactive,
+            self.inactive_peaks,
+            &peaks,
+        ) {
             Some(root) => Ok(root),
             None => unreachable!(),
         }
@@ -171,7 +215,6 @@ impl<F: Family, D: Digest> Proof<F, D> {
         start: Location<F>,
         root: &D,
     ) -> Result<bool, OutOfMemory>
-        requires forward { H.bagging_of hasher.now ≡ ForwardFold }
         ensures { let h = H.hashing hasher.now in IfOk result (λ b. IsTrue b ↔ Accepts (setting h (H.bagging_of hasher.now) F.rule F.MAX_LEAVES F.DOMAIN) (input_of h F.rule self.now start (bytes_of elements.now)) root.now) }
     {
         if elements.is_empty() {
@@ -201,7 +244,6 @@ impl<F: Family, D: Digest> Proof<F, D> {
         start: Location<F>,
         root: &D,
     ) -> Result<bool, OutOfMemory>
-        requires forward { H.bagging_of hasher.now ≡ ForwardFold }
         ensures exact { let h = H.hashing hasher.now in IfOk result (λ b. IsTrue b ↔ Accepts (setting h (H.bagging_of hasher.now) F.rule F.MAX_LEAVES F.DOMAIN) (input_of h F.rule self.now start (bytes_of elements.now)) root.now) }
         ensures honest { let h = H.hashing hasher.now in let s = setting h (H.bagging_of hasher.now) F.rule F.MAX_LEAVES F.DOMAIN in IfOk result (λ b. (xs : _) (k : ℕ) → length xs ≤ F.MAX_LEAVES → k ≤ length (peaks_of F.rule (length xs)) → list_root h F.rule F.DOMAIN (H.bagging_of hasher.now) xs k ≡ root.now → IsHonestRange s xs k (input_of h F.rule self.now start (bytes_of elements.now)) → IsTrue b) }
         ensures sound { let h = H.hashing hasher.now in let s = setting h (H.bagging_of hasher.now) F.rule F.MAX_LEAVES F.DOMAIN in let r = input_of h F.rule self.now start (bytes_of elements.now) in IfOk result (λ b. IsTrue b → (xs : _) (k : ℕ) → length xs ≤ F.MAX_LEAVES → k ≤ length (peaks_of F.rule (length xs)) → list_root h F.rule F.DOMAIN (H.bagging_of hasher.now) xs k ≡ root.now → IsHonestRange s xs k r ⊎ RangeCollides s r xs k) }
@@ -223,7 +265,6 @@ impl<F: Family, D: Digest> Proof<F, D> {
         location: Location<F>,
         root: &D,
     ) -> Result<bool, OutOfMemory>
-        requires forward { H.bagging_of hasher.now ≡ ForwardFold }
         ensures exact { let h = H.hashing hasher.now in IfOk result (λ b. IsTrue b ↔ Accepts (setting h (H.bagging_of hasher.now) F.rule F.MAX_LEAVES F.DOMAIN) (input_of h F.rule self.now location (element.now ∷ [])) root.now) }
         ensures honest { let h = H.hashing hasher.now in let s = setting h (H.bagging_of hasher.now) F.rule F.MAX_LEAVES F.DOMAIN in IfOk result (λ b. (xs : _) (k : ℕ) → length xs ≤ F.MAX_LEAVES → k ≤ length (peaks_of F.rule (length xs)) → list_root h F.rule F.DOMAIN (H.bagging_of hasher.now) xs k ≡ root.now → IsHonestRange s xs k (input_of h F.rule self.now location (element.now ∷ [])) → IsTrue b) }
         ensures sound { let h = H.hashing hasher.now in let s = setting h (H.bagging_of hasher.now) F.rule F.MAX_LEAVES F.DOMAIN in let r = input_of h F.rule self.now location (element.now ∷ []) in IfOk result (λ b. IsTrue b → (xs : _) (k : ℕ) → length xs ≤ F.MAX_LEAVES → k ≤ length (peaks_of F.rule (length xs)) → list_root h F.rule F.DOMAIN (H.bagging_of hasher.now) xs k ≡ root.now → IsHonestRange s xs k r ⊎ RangeCollides s r xs k) }

@@ -1,17 +1,19 @@
 //! Plans of range proofs: which nodes a proof reads, and the proof made of what stands there.
-ghost use Rattle.std.specs.Prelude.{◌≡◌, ◌≢◌, ◌<◌, ◌≤◌, ◌++◌, [], ◌∷◌, ◌⊎◌, ℕ, List, Option, Some, take, drop, length, IfOk, IfErr};
+ghost use Rattle.std.specs.Prelude.{◌≡◌, ◌≢◌, ◌<◌, ◌≤◌, ◌+◌, ◌-◌, ◌++◌, ℕ, List, Option, Some, take, drop, length, IfOk, IfErr};
 ghost use Rattle.std.specs.Option.{option_to_list};
 ghost use Rattle.merkle_base.specs.Places.{peaks_of};
-ghost use Rattle.merkle_base.specs.Root.{folded};
+ghost use Rattle.merkle_base.specs.Root.{bag, folded};
 ghost use Rattle.merkle_base.specs.declared.family.Bagging.TheVariants.{ForwardFold};
 ghost use Rattle.merkle_proof.specs.Input.{setting};
+ghost use Rattle.merkle_proof.specs.Layouts.{laid_out};
 ghost use Rattle.merkle_proof.specs.Range.{IsHonestRange};
 ghost use Rattle.merkle_proof.specs.RangePlans.{IsRefusal, IsBuildRefusal, IsBuiltProof, AnswersList, list_input};
 
 use crate::groups::Groups;
-use crate::hasher::{Hasher, fold_all};
+use crate::hasher::{Hasher, bag_all, fold_all};
+use crate::layout::{prefix_count, single_count};
 use crate::proof::Proof;
-use crate::reading::read_nodes;
+use crate::reading::read_turned;
 use merkle_base::error::Error;
 use merkle_base::family::Family;
 use merkle_base::location::Location;
@@ -31,6 +33,8 @@ pub struct RangePlan<F: Family> {
     peaks: usize,
     // how many of the positions are peaks before the range
     before: usize,
+    // how many are peaks after it
+    after: usize,
     // what is read, in order
     reads: Vec<Position<F>>,
 }
@@ -42,7 +46,7 @@ impl<F: Family> Model for RangePlan<F> {
 
     ghost view = { λ p. record { leaves = p.leaves; start = p.range.start; end = p.range.end } };
 
-    ghost invariant = { λ p. IsPlan F.rule F.MAX_LEAVES p.leaves p.range.start p.range.end p.peaks p.before p.reads.items };
+    ghost invariant = { λ p. IsPlan F.rule F.MAX_LEAVES p.leaves p.range.start p.range.end p.peaks p.before p.after p.reads.items };
 }
 
 impl<F: Family> RangePlan<F> {
@@ -72,12 +76,14 @@ impl<F: Family> RangePlan<F> {
         let groups = Groups::of_peaks(alloc, leaves, &range)?;
         let peaks = groups.count();
         let before = groups.before.len();
+        let after = groups.after.len();
         let reads = groups.outside(alloc, &range)?;
         Ok(RangePlan {
             leaves,
             range,
             peaks,
             before,
+            after,
             reads,
         })
     }
@@ -86,8 +92,8 @@ impl<F: Family> RangePlan<F> {
     ///
     /// Where each answer is the digest of a list at that node, the proof is the honest one of the range. Refused, in this
     /// order: with `InvalidProof` where the number exceeds that of the peaks; with `ElementPruned` of the first node
-    /// that is missing, of the peaks before the range, the peaks after it, and the path siblings; and with
-    /// `OutOfMemory` wherever there is no memory.
+    /// that is missing, of the peaks before the range, the peaks after it that stand alone, the others after it from the
+    /// last one on, and the path siblings; and with `OutOfMemory` wherever there is no memory.
     pub fn build<H: Hasher<F>, G: Fn(Position<F>) -> Option<H::Digest>>(
         self,
         hasher: &H,
@@ -96,24 +102,63 @@ impl<F: Family> RangePlan<F> {
     ) -> Result<Proof<F, H::Digest>, Error<F>>
     where
         G: Drop,
-        requires forward { H.bagging_of hasher.now ≡ ForwardFold }
         requires reads { G.IsAlwaysCallable get_node }
         ensures built { (node : ℕ → Option H.Digest) → ((p : ℕ) (r : Option H.Digest) → G.post get_node p r → r ≡ node p) → IfOk result (λ p. IsBuiltProof (setting (H.hashing hasher.now) (H.bagging_of hasher.now) F.rule F.MAX_LEAVES F.DOMAIN) node inactive self p) }
         ensures honest { (xs : List H.Digest) → length xs ≡ self.leaves → AnswersList (H.hashing hasher.now) F.rule xs (G.post get_node) → IfOk result (λ p. IsHonestRange (setting (H.hashing hasher.now) (H.bagging_of hasher.now) F.rule F.MAX_LEAVES F.DOMAIN) xs inactive (list_input p xs self.start self.end)) }
         ensures fits { IfOk result (λ _. (self.start < self.end) × (self.end ≤ self.leaves) × (self.leaves ≤ F.MAX_LEAVES) × (inactive ≤ length (peaks_of F.rule self.leaves))) }
-        ensures err { IfErr result (λ e. e ≢ Error.OutOfMemory → IsBuildRefusal F.rule self inactive (G.post get_node) e) }
+        ensures err { IfErr result (λ e. e ≢ Error.OutOfMemory → IsBuildRefusal (H.bagging_of hasher.now) F.rule self inactive (G.post get_node) e) }
     {
         if inactive > self.peaks {
             return Err(Error::InvalidProof);
         }
-        let alloc = *self.reads.allocator();
-        let all = read_nodes(alloc, &self.reads, &get_node)?;
+        let bagging = hasher.root_bagging();
+        let prefix = prefix_count(bagging, inactive, self.before);
+        let single = single_count(bagging, inactive, self.peaks - self.after, self.after);
+        let folded = self.before + single;
+        let all = read_turned(self.reads, folded, self.before + self.after, &get_node)?;
         Ok(Proof {
             leaves: self.leaves,
             inactive_peaks: inactive,
-            digests: fold_front(hasher, self.before, all),
+            digests: lay_out(hasher, prefix, self.before, single, self.after, all),
         })
     }
+}
+
+// The digests of a proof, made of those that were read: of those before the range the first `prefix` are folded to one,
+// and of those after it all but the first `single`.
+fn lay_out<F: Family, H: Hasher<F>>(
+    hasher: &H,
+    prefix: usize,
+    before: usize,
+    single: usize,
+    after: usize,
+    digests: Vec<H::Digest>,
+) -> Vec<H::Digest>
+    requires prefix { prefix ≤ before }
+    requires single { single ≤ after }
+    requires read { before + after ≤ length digests.items }
+    ensures { result.items ≡ laid_out (H.hashing hasher.now).fold prefix before single after digests.items }
+{
+    let bagged = bag_between(hasher, before + single, before + after, digests);
+    fold_front(hasher, prefix, bagged)
+}
+
+// The digests with those from one on up to another folded right to left to one, if there are any.
+fn bag_between<F: Family, H: Hasher<F>>(
+    hasher: &H,
+    start: usize,
+    end: usize,
+    mut digests: Vec<H::Digest>,
+) -> Vec<H::Digest>
+    requires ordered { start ≤ end }
+    requires within { end ≤ length digests.items }
+    ensures { result.items ≡ take start digests.items ++ (option_to_list (bag (H.hashing hasher.now).fold (take (end - start) (drop start digests.items))) ++ drop end digests.items) }
+{
+    if let Some(bagged) = bag_all(hasher, &digests[start..end]) {
+        digests[start] = bagged;
+        digests.drain(start + 1..end);
+    }
+    digests
 }
 
 // The digests with the first so many folded to one, if there are any.

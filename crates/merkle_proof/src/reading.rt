@@ -1,7 +1,7 @@
 //! Nodes read by their positions.
-ghost use Rattle.std.specs.Prelude.{◌≡◌, ◌≢◌, ℕ, Some, None, IfOk, IfErr};
+ghost use Rattle.std.specs.Prelude.{◌≡◌, ◌≢◌, ◌≤◌, ℕ, Some, None, length, IfOk, IfErr};
 ghost use Rattle.std.specs.List.{AllZip};
-ghost use Rattle.merkle_proof.specs.RangePlans.{IsFirstMissing};
+ghost use Rattle.merkle_proof.specs.RangePlans.{IsFirstMissing, turned};
 
 use merkle_base::digest::Digest;
 use merkle_base::error::Error;
@@ -32,8 +32,8 @@ impl<F> From<Unread<F>> for Error<F> {
     }
 }
 
-/// The digests that a closure answers at positions.
-pub(crate) fn read_nodes<F: Family, D: Digest, G: Fn(Position<F>) -> Option<D>>(
+// The digests that a closure answers at positions.
+fn read_nodes<F: Family, D: Digest, G: Fn(Position<F>) -> Option<D>>(
     alloc: Global,
     positions: &[Position<F>],
     get_node: &G,
@@ -54,4 +54,30 @@ pub(crate) fn read_nodes<F: Family, D: Digest, G: Fn(Position<F>) -> Option<D>>(
         };
     }
     Ok(all)
+}
+
+/// The digests that a closure answers at positions, of which those from `start` up to `end` are read from the last one on.
+pub(crate) fn read_turned<F: Family, D: Digest, G: Fn(Position<F>) -> Option<D>>(
+    positions: Vec<Position<F>>,
+    start: usize,
+    end: usize,
+    get_node: &G,
+) -> Result<Vec<D>, Unread<F>>
+    requires callable { G.IsAlwaysCallable get_node.now }
+    requires within { (start ≤ end) × (end ≤ length positions.items) }
+    ensures ok { IfOk result (λ v. AllZip (λ p d. G.post get_node.now p (Some d)) positions.items v.items) }
+    ensures err { IfErr result (λ e. e ≢ Unread.OutOfMemory → (p : ℕ) × (e ≡ Unread.Missing p) × IsFirstMissing (G.post get_node.now) (turned start end positions.items) p) }
+{
+    let positions = reverse_within(positions, start, end);
+    let all = read_nodes(*positions.allocator(), &positions, get_node)?;
+    Ok(reverse_within(all, start, end))
+}
+
+// The items with the order of those from `start` up to `end` turned round.
+fn reverse_within<T>(mut items: Vec<T>, start: usize, end: usize) -> Vec<T>
+    requires { (start ≤ end) × (end ≤ length items.items) }
+    ensures { result.items ≡ turned start end items.items }
+{
+    items[start..end].reverse();
+    items
 }

@@ -1,7 +1,5 @@
 //! One history at every family and hasher: a stack of two batches with updates, a copy, and pruning. What it leaves is what
 //! a structure has that was built from the last list at once.
-ghost use Rattle.std.specs.Prelude.{◌≡◌};
-ghost use Rattle.merkle_base.specs.declared.family.Bagging.TheVariants.{ForwardFold};
 
 use super::{Outcome, added, assert_applied, granted, merkleized, refusal, seen, structure_of};
 use crate::keyed::Keyed;
@@ -117,9 +115,7 @@ fn assert_proved<F: Family, H: Hasher<F>>(
     hasher: &H,
     leaf: usize,
     root: &H::Digest,
-)
-    requires { H.bagging_of hasher.now ≡ ForwardFold }
-{
+) {
     let location = Location::from(leaf);
     let proof = granted!(rt, structure.proof(hasher, location, 0));
     let element = AFTER.get(leaf).copied().unwrap_or(0);
@@ -133,9 +129,7 @@ fn assert_prunable<F: Family, H: Hasher<F>>(
     mut structure: Mem<F, H::Digest>,
     wanted: &Mem<F, H::Digest>,
     hasher: &H,
-)
-    requires { H.bagging_of hasher.now ≡ ForwardFold }
-{
+) {
     let root = granted!(rt, wanted.root(hasher, 0));
     for boundary in [0, 3, 6] {
         assert_eq!(rt;
@@ -152,9 +146,7 @@ fn assert_prunable<F: Family, H: Hasher<F>>(
 }
 
 /// Asserts that the history leaves what a structure of the last list has.
-fn assert_history<F: Family, H: Hasher<F>>(rt: &impl Abort, alloc: Global, hasher: &H)
-    requires { H.bagging_of hasher.now ≡ ForwardFold }
-{
+fn assert_history<F: Family, H: Hasher<F>>(rt: &impl Abort, alloc: Global, hasher: &H) {
     let wanted: Mem<F, _> = structure_of(rt, alloc, hasher, &AFTER);
     let mut structure: Mem<F, _> = structure_of(rt, alloc, hasher, &BEFORE);
     let mut copy = structure.clone().expect(rt, "ample memory");
@@ -172,27 +164,33 @@ fn assert_history<F: Family, H: Hasher<F>>(rt: &impl Abort, alloc: Global, hashe
 
 #[test]
 fn histories_by_exclusive_or(rt: HostRuntime) {
-    let hasher = Standard::<Xor8>::new(Bagging::ForwardFold);
-    assert_history::<mmr::Family, _>(&rt, rt.alloc(), &hasher);
-    assert_history::<mmb::Family, _>(&rt, rt.alloc(), &hasher);
-    assert_history::<flat::Family, _>(&rt, rt.alloc(), &hasher);
-    assert_history::<pairs::Family, _>(&rt, rt.alloc(), &hasher);
+    for bagging in [Bagging::ForwardFold, Bagging::BackwardFold] {
+        let hasher = Standard::<Xor8>::new(bagging);
+        assert_history::<mmr::Family, _>(&rt, rt.alloc(), &hasher);
+        assert_history::<mmb::Family, _>(&rt, rt.alloc(), &hasher);
+        assert_history::<flat::Family, _>(&rt, rt.alloc(), &hasher);
+        assert_history::<pairs::Family, _>(&rt, rt.alloc(), &hasher);
+    }
 }
 
 #[test]
 fn histories_by_sha256(rt: HostRuntime) {
-    let hasher = Standard::<Sha256Plain>::new(Bagging::ForwardFold);
-    assert_history::<mmr::Family, _>(&rt, rt.alloc(), &hasher);
-    assert_history::<mmb::Family, _>(&rt, rt.alloc(), &hasher);
-    assert_history::<flat::Family, _>(&rt, rt.alloc(), &hasher);
-    assert_history::<pairs::Family, _>(&rt, rt.alloc(), &hasher);
+    for bagging in [Bagging::ForwardFold, Bagging::BackwardFold] {
+        let hasher = Standard::<Sha256Plain>::new(bagging);
+        assert_history::<mmr::Family, _>(&rt, rt.alloc(), &hasher);
+        assert_history::<mmb::Family, _>(&rt, rt.alloc(), &hasher);
+        assert_history::<flat::Family, _>(&rt, rt.alloc(), &hasher);
+        assert_history::<pairs::Family, _>(&rt, rt.alloc(), &hasher);
+    }
 }
 
 #[test]
 fn histories_by_a_key(rt: HostRuntime) {
-    let hasher = Keyed::new(0x5a, Bagging::ForwardFold);
-    assert_history::<mmr::Family, _>(&rt, rt.alloc(), &hasher);
-    assert_history::<mmb::Family, _>(&rt, rt.alloc(), &hasher);
-    assert_history::<flat::Family, _>(&rt, rt.alloc(), &hasher);
-    assert_history::<pairs::Family, _>(&rt, rt.alloc(), &hasher);
+    for bagging in [Bagging::ForwardFold, Bagging::BackwardFold] {
+        let hasher = Keyed::new(0x5a, bagging);
+        assert_history::<mmr::Family, _>(&rt, rt.alloc(), &hasher);
+        assert_history::<mmb::Family, _>(&rt, rt.alloc(), &hasher);
+        assert_history::<flat::Family, _>(&rt, rt.alloc(), &hasher);
+        assert_history::<pairs::Family, _>(&rt, rt.alloc(), &hasher);
+    }
 }

@@ -58,3 +58,40 @@ fn nodes_that_are_not_there(rt: HostRuntime) {
         assert_eq!(rt; seen(&found), wanted, "above {above}");
     }
 }
+
+// Of 15 leaves the proof of the first one reads the peaks 21, 24 and 25, and then the siblings 1, 5 and 13. Where peaks are
+// folded backward, those that aren't inactive are read from the last one on.
+#[test]
+fn backward_reading_order(rt: HostRuntime) {
+    let any = digest(&rt, 0x05);
+    for (bagging, inactive, above, wanted) in [
+        (Bagging::ForwardFold, 0, 25, Outcome::ElementPruned(21)),
+        (Bagging::BackwardFold, 0, 25, Outcome::ElementPruned(25)),
+        (Bagging::BackwardFold, 0, 24, Outcome::ElementPruned(24)),
+        (Bagging::BackwardFold, 0, 21, Outcome::ElementPruned(21)),
+        (Bagging::BackwardFold, 2, 25, Outcome::ElementPruned(21)),
+        (Bagging::BackwardFold, 3, 24, Outcome::ElementPruned(21)),
+        (Bagging::BackwardFold, 0, 20, Outcome::ElementPruned(1)),
+        (Bagging::BackwardFold, 4, 0, Outcome::Done),
+        (Bagging::BackwardFold, 5, 0, Outcome::InvalidProof),
+    ] {
+        let hasher = StandardHasher::<Xor8>::new(bagging);
+        let range = Location::new(0)..Location::new(1);
+        let plan = granted!(
+            &rt,
+            RangePlan::<Family>::new(rt.alloc(), Location::new(15), range)
+        );
+        let found = plan.build(
+            &hasher,
+            inactive,
+            move |position: Position| -> Option<Xor8Digest> {
+                if position.as_u64() > above {
+                    Some(any)
+                } else {
+                    None
+                }
+            },
+        );
+        assert_eq!(rt; seen(&found), wanted, "{inactive} inactive, above {above}");
+    }
+}

@@ -1,6 +1,4 @@
 //! Proofs of single leaves, and their checks.
-ghost use Rattle.std.specs.Prelude.{◌≡◌};
-ghost use Rattle.merkle_base.specs.declared.family.Bagging.TheVariants.{ForwardFold};
 
 use super::{Outcome, digest, granted, seen, structure_of};
 use crate::keyed::Keyed;
@@ -44,9 +42,7 @@ fn assert_checked<F: Family, H: Hasher<F>>(
     location: u64,
     root: &H::Digest,
     wanted: bool,
-)
-    requires { H.bagging_of hasher.now ≡ ForwardFold }
-{
+) {
     let answer = proof.verify_element_inclusion(hasher, element, Location::new(location), root);
     assert!(rt;
         matches!(answer, Ok(found) if found == wanted),
@@ -62,9 +58,7 @@ fn assert_proved<F: Family, H: Hasher<F, Digest = Xor8Digest>>(
     element: u8,
     location: u64,
     inactive: usize,
-)
-    requires { H.bagging_of hasher.now ≡ ForwardFold }
-{
+) {
     let root = granted!(rt, structure.root(hasher, inactive));
     let proof = granted!(
         rt,
@@ -84,18 +78,19 @@ fn assert_proved<F: Family, H: Hasher<F, Digest = Xor8Digest>>(
     );
 }
 
-/// Asserts that each leaf of a structure with these elements is proved, for 0 inactive peaks and for 1.
+/// Asserts that each leaf of a structure with these elements is proved, for each number of inactive peaks.
 pub(super) fn assert_all_proved<F: Family, H: Hasher<F, Digest = Xor8Digest>>(
     rt: &impl Abort,
     structure: &Mem<F, Xor8Digest>,
     hasher: &H,
     elements: &[u8],
-)
-    requires { H.bagging_of hasher.now ≡ ForwardFold }
-{
+) {
     for (location, element) in elements.iter().enumerate() {
-        assert_proved(rt, structure, hasher, *element, location as u64, 0);
-        assert_proved(rt, structure, hasher, *element, location as u64, 1);
+        for inactive in 0..9 {
+            if matches!(structure.root(hasher, inactive), Ok(_)) {
+                assert_proved(rt, structure, hasher, *element, location as u64, inactive);
+            }
+        }
     }
 }
 
@@ -200,23 +195,27 @@ fn proofs_of_fifteen_leaves(rt: HostRuntime) {
 
 #[test]
 fn proofs_of_each_size(rt: HostRuntime) {
-    let hasher = StandardHasher::<Xor8>::new(Bagging::ForwardFold);
-    for count in 0..FIFTEEN.len() {
-        let elements = &FIFTEEN[..count];
-        let structure: Mmr<_> = structure_of(&rt, rt.alloc(), &hasher, elements);
-        assert_all_proved(&rt, &structure, &hasher, elements);
+    for bagging in [Bagging::ForwardFold, Bagging::BackwardFold] {
+        let hasher = StandardHasher::<Xor8>::new(bagging);
+        for count in 0..FIFTEEN.len() {
+            let elements = &FIFTEEN[..count];
+            let structure: Mmr<_> = structure_of(&rt, rt.alloc(), &hasher, elements);
+            assert_all_proved(&rt, &structure, &hasher, elements);
+        }
     }
 }
 
 #[test]
 fn proofs_in_other_families(rt: HostRuntime) {
-    let hasher = Keyed::new(0x55, Bagging::ForwardFold);
     let elements = [1, 2, 4, 8, 16];
-    for count in 0..elements.len() {
-        let elements = &elements[..count];
-        let structure: Mem<flat::Family, _> = structure_of(&rt, rt.alloc(), &hasher, elements);
-        assert_all_proved(&rt, &structure, &hasher, elements);
-        let structure: Mem<pairs::Family, _> = structure_of(&rt, rt.alloc(), &hasher, elements);
-        assert_all_proved(&rt, &structure, &hasher, elements);
+    for bagging in [Bagging::ForwardFold, Bagging::BackwardFold] {
+        let hasher = Keyed::new(0x55, bagging);
+        for count in 0..elements.len() {
+            let elements = &elements[..count];
+            let structure: Mem<flat::Family, _> = structure_of(&rt, rt.alloc(), &hasher, elements);
+            assert_all_proved(&rt, &structure, &hasher, elements);
+            let structure: Mem<pairs::Family, _> = structure_of(&rt, rt.alloc(), &hasher, elements);
+            assert_all_proved(&rt, &structure, &hasher, elements);
+        }
     }
 }

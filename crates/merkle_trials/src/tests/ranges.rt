@@ -1,18 +1,17 @@
 //! Proofs of ranges of leaves, and their checks.
-ghost use Rattle.std.specs.Prelude.{◌≡◌};
-ghost use Rattle.merkle_base.specs.declared.family.Bagging.TheVariants.{ForwardFold};
 
 use super::proofs::proof_of;
 use super::{Outcome, digest, granted, seen, structure_of};
 use crate::keyed::Keyed;
 use crate::{flat, pairs};
-use merkle_core::digest::{Digest, Xor8, Xor8Digest};
+use merkle_core::digest::{Digest, Sha256Plain, Xor8, Xor8Digest};
 use merkle_core::family::{Bagging, Family};
 use merkle_core::hasher::Hasher;
 use merkle_core::location::Location;
 use merkle_core::mem::Mem;
-use merkle_core::mmb::Mmb;
+use merkle_core::mmb;
 use merkle_core::mmr::{self, Mmr, StandardHasher};
+use merkle_core::position::Position;
 use merkle_core::proof::Proof;
 use std::alloc::Global;
 use std::ops::Range;
@@ -32,9 +31,7 @@ fn assert_checked<F: Family, H: Hasher<F>>(
     start: u64,
     root: &H::Digest,
     wanted: bool,
-)
-    requires { H.bagging_of hasher.now ≡ ForwardFold }
-{
+) {
     let mut all: Vec<&[u8]> = Vec::new(alloc);
     for element in elements {
         all.push(std::slice::from_ref(element))
@@ -54,14 +51,13 @@ fn assert_all_proved<F: Family, H: Hasher<F, Digest = Xor8Digest>>(
     structure: &Mem<F, Xor8Digest>,
     hasher: &H,
     elements: &[u8],
-)
-    requires { H.bagging_of hasher.now ≡ ForwardFold }
-{
-    let root = granted!(rt, structure.root(hasher, 1));
+    inactive: usize,
+) {
+    let root = granted!(rt, structure.root(hasher, inactive));
     for start in 0..elements.len() {
         for end in start + 1..elements.len() + 1 {
             let range = range_of(start as u64, end as u64);
-            let proof = granted!(rt, structure.range_proof(hasher, range, 1));
+            let proof = granted!(rt, structure.range_proof(hasher, range, inactive));
             let mut chosen = elements[start..end]
                 .to_vec(alloc)
                 .expect(rt, "ample memory");
@@ -173,17 +169,149 @@ fn ranges_before_the_boundary(rt: HostRuntime) {
     }
 }
 
+// Every number of inactive peaks that the structure has.
+fn assert_proved_for_each<F: Family, H: Hasher<F, Digest = Xor8Digest>>(
+    rt: &impl Abort,
+    alloc: Global,
+    hasher: &H,
+) {
+    let elements = [1, 2, 4, 8, 16, 32, 64];
+    let structure: Mem<F, _> = structure_of(rt, alloc, hasher, &elements);
+    for inactive in 0..9 {
+        if matches!(structure.root(hasher, inactive), Ok(_)) {
+            assert_all_proved(rt, alloc, &structure, hasher, &elements, inactive);
+        }
+    }
+}
+
 #[test]
 fn every_range_is_proved(rt: HostRuntime) {
-    let plain = StandardHasher::<Xor8>::new(Bagging::ForwardFold);
-    let keyed = Keyed::new(0x55, Bagging::ForwardFold);
-    let elements = [1, 2, 4, 8, 16, 32, 64];
-    let structure: Mmr<_> = structure_of(&rt, rt.alloc(), &plain, &elements);
-    assert_all_proved(&rt, rt.alloc(), &structure, &plain, &elements);
-    let structure: Mmb<_> = structure_of(&rt, rt.alloc(), &keyed, &elements);
-    assert_all_proved(&rt, rt.alloc(), &structure, &keyed, &elements);
-    let structure: Mem<flat::Family, _> = structure_of(&rt, rt.alloc(), &plain, &elements);
-    assert_all_proved(&rt, rt.alloc(), &structure, &plain, &elements);
-    let structure: Mem<pairs::Family, _> = structure_of(&rt, rt.alloc(), &keyed, &elements);
-    assert_all_proved(&rt, rt.alloc(), &structure, &keyed, &elements);
+    for bagging in [Bagging::ForwardFold, Bagging::BackwardFold] {
+        let plain = StandardHasher::<Xor8>::new(bagging);
+        let keyed = Keyed::new(0x55, bagging);
+        assert_proved_for_each::<mmr::Family, _>(&rt, rt.alloc(), &plain);
+        assert_proved_for_each::<mmb::Family, _>(&rt, rt.alloc(), &keyed);
+        assert_proved_for_each::<flat::Family, _>(&rt, rt.alloc(), &plain);
+        assert_proved_for_each::<pairs::Family, _>(&rt, rt.alloc(), &keyed);
+    }
+}
+
+// Digests, and then those of the nodes at these positions.
+fn digests_and_nodes<D: Digest>(
+    rt: &impl Abort,
+    alloc: Global,
+    structure: &Mmr<D>,
+    first: &[D],
+    positions: &[u64],
+) -> Vec<D> {
+    let mut all = first.to_vec(alloc).expect(rt, "ample memory");
+    for position in positions {
+        let node = structure
+            .get_node(Position::new(*position))
+            .expect(rt, "a node");
+        all.push(node).expect(rt, "ample memory");
+    }
+    all
+}
+
+const FIFTEEN: [u8; 15] = [1, 2, 3, 4, 5, 6, 7, 8, 9, 10, 11, 12, 13, 14, 15];
+
+// The peaks of 15 leaves stand at 14, 21, 24 and 25. Where peaks are folded backward, those after the first leaf are
+// folded to one digest from the last one on, but for the inactive ones, and those before the last leaf stand alone, but
+// for the inactive ones.
+#[test]
+fn backward_folds_of_fifteen_leaves(rt: HostRuntime) {
+    let hasher = StandardHasher::<Sha256Plain>::new(Bagging::BackwardFold);
+    let structure: Mmr<_> = structure_of(&rt, rt.alloc(), &hasher, &FIFTEEN);
+    let node = |position| structure
+        .get_node(Position::new(position))
+        .expect(&rt, "a node");
+    let fold = |a, b| Hasher::<mmr::Family>::fold(&hasher, &a, &b);
+    let newest = fold(node(24), node(25));
+    for (start, inactive, first, positions) in [
+        (
+            0,
+            0,
+            [fold(node(21), newest)].as_slice(),
+            [1, 5, 13].as_slice(),
+        ),
+        (0, 1, &[fold(node(21), newest)], &[1, 5, 13]),
+        (0, 2, &[node(21), newest], &[1, 5, 13]),
+        (14, 0, &[], &[14, 21, 24]),
+        (14, 2, &[fold(node(14), node(21))], &[24]),
+    ] {
+        let range = range_of(start, start + 1);
+        let proof = granted!(&rt, structure.range_proof(&hasher, range, inactive));
+        let wanted = digests_and_nodes(&rt, rt.alloc(), &structure, first, positions);
+        assert_eq!(rt; proof.digests, wanted, "{start}, {inactive} inactive");
+    }
+}
+
+// The root of the three leaves, folded backward, is 05. The second proof has its digests in the other order.
+#[test]
+fn backward_checks_of_three_leaves(rt: HostRuntime) {
+    let hasher = StandardHasher::<Xor8>::new(Bagging::BackwardFold);
+    let root = digest(&rt, 0x05);
+    for (inactive, digests, elements, start, wanted) in [
+        (0, [0x07, 0x03].as_slice(), [1].as_slice(), 0, true),
+        (0, &[0x03, 0x07], &[1], 0, true),
+        (0, &[0x00], &[4], 2, true),
+        (0, &[], &[1, 2, 4], 0, true),
+        (0, &[0x07, 0x03], &[2], 0, false),
+        (1, &[0x07, 0x03], &[1], 0, false),
+        (0, &[0x07, 0x03, 0x00], &[1], 0, false),
+        (0, &[0x07], &[1], 0, false),
+        (3, &[0x00], &[4], 2, false),
+    ] {
+        let proof: Proof<mmr::Family, _> = proof_of(&rt, rt.alloc(), 3, inactive, digests);
+        assert_checked(
+            &rt,
+            rt.alloc(),
+            &hasher,
+            &proof,
+            elements,
+            start,
+            &root,
+            wanted,
+        );
+    }
+}
+
+#[test]
+fn proofs_and_their_copies(rt: HostRuntime) {
+    let empty: Proof<mmr::Family, Xor8Digest> = Proof::empty(rt.alloc());
+    assert_eq!(rt; empty, proof_of(&rt, rt.alloc(), 0, 0, &[]));
+    let proof: Proof<mmr::Family, _> = proof_of(&rt, rt.alloc(), 3, 1, &[0x07, 0x03]);
+    assert_eq!(rt; proof.clone().expect(&rt, "ample memory"), proof);
+    for (leaves, inactive, digests) in [
+        (4, 1, [0x07, 0x03].as_slice()),
+        (3, 0, &[0x07, 0x03]),
+        (3, 1, &[0x07]),
+        (3, 1, &[0x03, 0x07]),
+    ] {
+        assert!(rt; proof != proof_of(&rt, rt.alloc(), leaves, inactive, digests));
+    }
+}
+
+// The peaks of 11 leaves end at the locations 8, 10 and 11.
+#[test]
+fn canonical_numbers_of_inactive_peaks(rt: HostRuntime) {
+    for (floor, wanted) in [
+        (0, 0),
+        (7, 0),
+        (8, 1),
+        (9, 1),
+        (10, 2),
+        (11, 3),
+        (u64::MAX, 3),
+    ] {
+        for inactive in 0..5 {
+            let proof: Proof<mmr::Family, _> = proof_of(&rt, rt.alloc(), 0, inactive, &[]);
+            let found = proof.matches_canonical_inactive_peaks(
+                Location::new(11),
+                Location::new(floor),
+            );
+            assert_eq!(rt; found, inactive == wanted, "{inactive} below {floor}");
+        }
+    }
 }

@@ -15,6 +15,15 @@ returns c = record {
   layout_forward = refl;
   layout_before = refl;
   layout_after = refl;
+  counts_forward = refl;
+  counts_before = refl;
+  counts_after = refl;
+  laid = refl;
+  laid_backward = refl;
+  reads_forward = refl;
+  reads_backward = refl;
+  reads_inactive = refl;
+  turns = refl;
   digests = refl;
   honest = record { some = omega arith; within = omega arith; leaves = refl; inactive = refl; digests = refl; elements = refl };
   other_digests = λ r. absurd (let e : 7 ∷ 1 ∷ [] ≡ 1 ∷ 7 ∷ [] = r.digests in cc);

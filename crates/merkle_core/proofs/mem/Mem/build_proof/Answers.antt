@@ -11,4 +11,4 @@ pub returns-clause-honest : goal.returns-clause-honest
 returns-clause-honest g c = λ X long agrees. c.build.ensures.honest X long (λ p t d at answered. answers_list (g.H.Hasher.hashing c.args.hasher.now) g.F.Family.rule (contents c.args.self.now) X agrees p t d at (search rules))
 
 pub returns-clause-err : goal.returns-clause-err
-returns-clause-err g c = IfErr-weaker c.build.result _ _ (λ e refused other. refused_by g.F.Family.rule c.args.plan c.args.inactive _ (λ p r. r ≡ node c.args.self.now p) e (refused other) (λ p r answered. search rules)) c.build.ensures.err
+returns-clause-err g c = IfErr-weaker c.build.result _ _ (λ e refused other. refused_by (g.H.Hasher.bagging_of c.args.hasher.now) g.F.Family.rule c.args.plan c.args.inactive _ (λ p r. r ≡ node c.args.self.now p) e (refused other) (λ p r answered. search rules)) c.build.ensures.err

@@ -30,15 +30,15 @@ pub returns-in-Ok-clause-given : goal.returns-in-Ok-clause-given
 returns-in-Ok-clause-given g c = λ h X agrees low some less few.
     let leaves : c.leaves-leaves.result ≡ length X = size_inj g.F.Family.rule c.leaves-leaves.result (length X) (c.leaves-leaves.ensures.sized ∙ agrees.sized) in
     let plan : c.in-Ok.plan ≡ record { leaves = length X; start = c.args.range.start; end = c.args.range.end } = c.in-Ok.ensures.ok ∙ ap (λ m. record { leaves = m; start = c.args.range.start; end = c.args.range.end }) leaves in
-    IfErr-weaker c.build_proof.result _ _ (λ e refused. only_memory h g.F.Family.rule (contents c.args.self.now) X agrees c.args.range.start c.args.range.end c.args.inactive low few e
-    (λ other. subst (λ r. IsBuildRefusal g.F.Family.rule r c.args.inactive (λ p o. o ≡ node c.args.self.now p) e) plan (refused other))) c.build_proof.ensures.err
+    IfErr-weaker c.build_proof.result _ _ (λ e refused. only_memory h (g.H.Hasher.bagging_of c.args.hasher.now) g.F.Family.rule (contents c.args.self.now) X agrees c.args.range.start c.args.range.end c.args.inactive low few e
+    (λ other. subst (λ r. IsBuildRefusal (g.H.Hasher.bagging_of c.args.hasher.now) g.F.Family.rule r c.args.inactive (λ p o. o ≡ node c.args.self.now p) e) plan (refused other))) c.build_proof.ensures.err
 
 pub returns-in-Ok-clause-err : goal.returns-in-Ok-clause-err
 returns-in-Ok-clause-err g c = λ n within sized.
     let leaves : c.leaves-leaves.result ≡ n = size_inj g.F.Family.rule c.leaves-leaves.result n (c.leaves-leaves.ensures.sized ∙ sym sized) in
     let plan : c.in-Ok.plan ≡ record { leaves = n; start = c.args.range.start; end = c.args.range.end } = c.in-Ok.ensures.ok ∙ ap (λ m. record { leaves = m; start = c.args.range.start; end = c.args.range.end }) leaves in
     let fits = c.in-Ok.ensures.within in
-    IfErr-weaker c.build_proof.result _ _ (λ e refused other. inr (fits.0, omega (arith, fits.1, leaves), subst (λ r. IsBuildRefusal g.F.Family.rule r c.args.inactive (λ p o. o ≡ node c.args.self.now p) e) plan (refused other))) c.build_proof.ensures.err
+    IfErr-weaker c.build_proof.result _ _ (λ e refused other. inr (fits.0, omega (arith, fits.1, leaves), subst (λ r. IsBuildRefusal (g.H.Hasher.bagging_of c.args.hasher.now) g.F.Family.rule r c.args.inactive (λ p o. o ≡ node c.args.self.now p) e) plan (refused other))) c.build_proof.ensures.err
 
 pub returns-in-Err-clause-given : goal.returns-in-Err-clause-given
 returns-in-Err-clause-given g c = λ h X agrees low some less few.
