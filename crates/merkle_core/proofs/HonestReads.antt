@@ -9,7 +9,7 @@ use Rattle.merkle_base.specs.Digests.{digest_at, node_digests}
 use Rattle.merkle_base.specs.declared.error.Error.{Error}
 use Rattle.merkle_base.specs.declared.error.Error.TheVariants.{NonLeaf, PositionOverflow, LocationOverflow, Empty, RangeOutOfBounds, InvalidSize, LeafOutOfBounds, DuplicateLocation, UnsortedLocation, ElementPruned, CompressedDigest, InvalidPinnedNodes, StaleBatch, AncestorDropped, InvalidProof, InvalidInactivePeaks, RootMismatch, MissingNode, DataCorrupted, BitOutOfBounds, OutOfMemory}
 use Rattle.merkle_base.proofs.Lookup.{size_zero}
-use Rattle.merkle_proof.specs.Subtrees.{AreNodes}
+use Rattle.merkle_hasher.specs.Subtrees.{AreNodes}
 use Rattle.merkle_base.specs.declared.family.Bagging.{Bagging}
 use Rattle.merkle_proof.specs.RangePlans.{LeafRange, AnswersList, IsRefusal, IsBuildRefusal}
 use Rattle.merkle_batches.specs.Contents.{Contents, Agrees, is_kept}
@@ -27,13 +27,6 @@ pub answers_list : {D : Type 0} (h : Hashing D) (rule : List ℕ → List ℕ) (
 answers_list h rule c X agrees p t d at is =
     some_is d (digest_at h X t)
     (sym (kept_some (is_kept rule c.boundary p) (slice_get (node_digests h rule X) p) d (is ∙ agrees.holds p)) ∙ get_map (digest_at h X) (forest rule (length X)).nodes p t at)
-
--- of positions of nodes each is that of one
-pub position_of_node : (rule : List ℕ → List ℕ) (n : ℕ) (ts : List Tree) → AreNodes rule n ts → (done rest : List ℕ) (p : ℕ) → map position ts ≡ done ++ p ∷ rest → (t : Tree) × (slice_get (forest rule n).nodes p ≡ Some t)
-position_of_node rule n [] at [] rest p e = absurd (cc)
-position_of_node rule n [] at (d ∷ done) rest p e = absurd (cc)
-position_of_node rule n (t ∷ ts) at [] rest p e = let same : position t ≡ p = cc in (t, subst (λ q. slice_get (forest rule n).nodes q ≡ Some t) same at.0)
-position_of_node rule n (t ∷ ts) at (d ∷ done) rest p e = let more : map position ts ≡ done ++ p ∷ rest = cc in position_of_node rule n ts at.1 done rest p more
 
 -- where nothing is pruned each node is held
 pub held_whole : {D : Type 0} (h : Hashing D) (rule : List ℕ → List ℕ) (c : Contents D) (X : List D) → Agrees h rule c X → c.boundary ≡ 0 → (p : ℕ) (t : Tree) → slice_get (forest rule (length X)).nodes p ≡ Some t → c.node p ≡ Some (digest_at h X t)

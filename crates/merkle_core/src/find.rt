@@ -5,12 +5,12 @@ ghost use Rattle.merkle_batches.specs.Recorded.{Recorded};
 ghost use Rattle.merkle_batches.specs.Refusals.{error_of};
 ghost use Rattle.merkle_batches.specs.Replay.{ends_at, last_match, matched, oldest, refusal};
 
-use crate::batch::MerkleizedBatch;
-use crate::record::Record;
 use merkle_base::digest::Digest;
 use merkle_base::error::Error;
 use merkle_base::family::Family;
 use merkle_base::position::Position;
+use merkle_batch::batch::MerkleizedBatch;
+use merkle_batch::record::Record;
 use std::rc::Rc;
 
 // Whether two states have the same size and peak digests.

@@ -4,19 +4,14 @@
 //! The modules of the crates below stand here too, under their own names.
 #![tactic(auto)]
 
-pub mod batch;
-mod draft;
 mod find;
-mod gap;
 pub mod mem;
-mod merkleized;
 pub mod mmb;
 pub mod mmr;
-mod overwrites;
 mod prune;
-mod record;
-mod refresh;
 mod replay;
 
 pub use merkle_base::{codec, digest, error, family, location, position};
-pub use merkle_proof::{hasher, path, proof, read};
+pub use merkle_batch::batch;
+pub use merkle_hasher::{hasher, read};
+pub use merkle_proof::{path, proof};

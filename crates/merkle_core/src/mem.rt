@@ -20,20 +20,21 @@ ghost use Rattle.merkle_proof.specs.Input.{setting};
 ghost use Rattle.merkle_proof.specs.Range.{IsHonestRange};
 ghost use Rattle.merkle_proof.specs.RangePlans.{IsBuildRefusal, IsBuiltProof, list_input};
 
-use crate::batch::{MerkleizedBatch, UnmerkleizedBatch};
 use crate::find::{find_state, refusal};
 pub use crate::prune::Config;
-use crate::record::Record;
 use crate::replay::{lay, lay_all};
 use merkle_base::digest::Digest;
 use merkle_base::error::Error;
 use merkle_base::family::Family;
 use merkle_base::location::Location;
 use merkle_base::position::Position;
-use merkle_proof::hasher::Hasher;
+use merkle_batch::base::Base;
+use merkle_batch::batch::{MerkleizedBatch, UnmerkleizedBatch};
+use merkle_batch::record::Record;
+use merkle_hasher::hasher::Hasher;
+use merkle_hasher::read::Readable;
 use merkle_proof::proof::Proof;
 use merkle_proof::range_plan::RangePlan;
-use merkle_proof::read::Readable;
 use std::alloc::{AllocError, Global};
 use std::collections::VecDeque;
 use std::marker::Model;
@@ -136,15 +137,6 @@ impl<F: Family, D: Digest> Mem<F, D> {
     {
         let _leaves = self.leaves();
         F::peaks(self.size())
-    }
-
-    // The digests of the peaks, oldest first.
-    pub(crate) fn peak_digests(&self) -> Result<Vec<D>, AllocError>
-        ensures { IfOk result (λ v. (n : ℕ) → n ≤ F.MAX_LEAVES → size F.rule n ≡ self.now.size → v.items ≡ held_peaks F.rule n (contents self.now)) }
-    {
-        let mut digests = [D::EMPTY; MAX_PEAKS];
-        let count = self.write_peaks(&mut digests);
-        front(&digests, count).to_vec(self.allocator())
     }
 
     // Where its memory comes from.
@@ -349,6 +341,38 @@ impl<F: Family, D: Digest> Readable for Mem<F, D> {
         ensures { result ≡ node self.now position }
     {
         Mem::get_node(self, position)
+    }
+}
+
+impl<F: Family, D: Digest> Base<F> for Mem<F, D> {
+    type Digest = D;
+
+    ghost contents = { contents };
+
+    fn size(&self) -> Position<F> {
+        Readable::size(self)
+    }
+
+    fn leaves(&self) -> Location<F> {
+        Mem::leaves(self)
+    }
+
+    fn pruning_boundary(&self) -> Location<F> {
+        Mem::pruning_boundary(self)
+    }
+
+    fn get_node(&self, position: Position<F>) -> Option<D>
+        ensures { result ≡ node self.now position }
+    {
+        Readable::get_node(self, position)
+    }
+
+    fn peak_digests(&self) -> Result<Vec<D>, AllocError>
+        ensures { IfOk result (λ v. (n : ℕ) → n ≤ F.MAX_LEAVES → size F.rule n ≡ self.now.size → v.items ≡ held_peaks F.rule n (contents self.now)) }
+    {
+        let mut digests = [D::EMPTY; MAX_PEAKS];
+        let count = self.write_peaks(&mut digests);
+        front(&digests, count).to_vec(self.allocator())
     }
 }
 

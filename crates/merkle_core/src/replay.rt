@@ -6,11 +6,11 @@ ghost use Rattle.std.specs.VecDeque.{deque_len, deque_capacity};
 ghost use Rattle.merkle_batches.specs.Held.{stored_at, total_appended, held_contents};
 ghost use Rattle.merkle_batches.specs.Replay.{all_laid, laid, over};
 
-use crate::overwrites::Overwrites;
-use crate::record::Record;
 use merkle_base::digest::Digest;
 use merkle_base::family::Family;
 use merkle_base::position::Position;
+use merkle_batch::overwrites::Overwrites;
+use merkle_batch::record::Record;
 use std::collections::VecDeque;
 use std::rc::Rc;
 

@@ -6,7 +6,7 @@ use Rattle.merkle_base.specs.declared.digest.Sha256Digest.{Sha256Digest}
 use Rattle.merkle_base.specs.declared.digest.Xor8Digest.{Xor8Digest}
 use Rattle.merkle_base.specs.DigestLaws.{length-sha256, no_bytes, length-no_bytes, xor_of}
 use Rattle.merkle_base.specs.Hashing.{Hashing}
-use Rattle.merkle_proof.specs.Standard.{standard}
+use Rattle.merkle_hasher.specs.Standard.{standard}
 
 -- SHA-256
 abbrev pub sha256_hashing : Hashing Sha256Digest

@@ -1,6 +1,6 @@
 //! The structure that the lines work on, and their answers.
 ghost use Rattle.std.specs.Prelude.{◌≡◌, ◌≤◌, ℕ, List, Option, Some, None, codes, length, IfOk, IsOkUnless};
-ghost use Rattle.merkle_proof.specs.Standard.{standard};
+ghost use Rattle.merkle_hasher.specs.Standard.{standard};
 ghost use Rattle.merkle_lines.specs.Answers.{Given, kind_of, nothing, IsAnswered};
 ghost use Rattle.merkle_lines.specs.AnswerText.{answer_text};
 ghost use Rattle.merkle_lines.specs.Commands.{IsCommand};

@@ -20,13 +20,13 @@ use Rattle.merkle_proof.specs.declared.reading.Unread.{Unread}
 use Rattle.merkle_proof.specs.declared.reading.Unread.TheVariants as unread
 use Rattle.merkle_base.specs.declared.error.Error.{Error}
 use Rattle.merkle_base.specs.declared.error.Error.TheVariants as error
-use Rattle.merkle_proof.specs.Subtrees.{AreNodes, subtree_of}
+use Rattle.merkle_hasher.specs.Subtrees.{AreNodes, subtree_of}
 use Rattle.merkle_proof.specs.GroupedPeaks.{HoldsGroups}
 use Rattle.merkle_proof.specs.declared.groups.Groups.{Groups}
-use Rattle.merkle_proof.specs.declared.subtree.Subtree.{Subtree}
+use Rattle.merkle_hasher.specs.declared.subtree.Subtree.{Subtree}
 use Rattle.merkle_proof.specs.declared.proof.Proof.{Proof}
 use Rattle.merkle_base.proofs.Cases.{by_test}
-use Rattle.merkle_proof.proofs.PeakLoop.{peaks_at}
+use Rattle.merkle_hasher.proofs.PeakNodes.{peaks_at}
 use Rattle.merkle_base.proofs.PeakLists.{peaks_built, peaks_spans}
 use Rattle.merkle_proof.proofs.Extraction.{all_filter}
 use Rattle.merkle_proof.proofs.PeakGroups.{groups}

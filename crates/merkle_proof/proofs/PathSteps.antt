@@ -11,7 +11,7 @@ use Rattle.merkle_base.proofs.Growth.{forest_grown}
 use Rattle.merkle_base.proofs.Nodes.{node_stays, node_built, same_position}
 use Rattle.merkle_base.proofs.Balance.{node_balanced}
 use Rattle.merkle_proof.specs.Path.{path, path_from, StandsOver, IsPath, PathHasSiblings}
-use Rattle.merkle_proof.specs.Subtrees.{Stands}
+use Rattle.merkle_hasher.specs.Subtrees.{Stands}
 use Rattle.merkle_proof.specs.Plan.{siblings}
 use Rattle.merkle_proof.specs.Range.{in_range}
 use Rattle.merkle_proof.proofs.PeakGroups.{meets_not, meets_yes}

@@ -2,21 +2,22 @@
 use Rattle.std.proofs.Common.{◌≡◌, ℕ, ◌+◌, ◌<◌, ◌≤◌, List, [], ◌∷◌, ◌++◌, map, take, length, get_or, zero, suc, Bool, reverse, Some, slice_get, arith, refl, ap, sym, ◌∙◌, subst, append-nil, append_assoc, add-one}
 use Rattle.std.specs.List.{flat_map}
 use Rattle.std.proofs.lemmas.List.{map-append}
-use Rattle.merkle_proof.specs.declared.subtree.Subtree.{Subtree}
-use Rattle.merkle_proof.specs.Subtrees.{Means}
+use Rattle.merkle_hasher.specs.declared.subtree.Subtree.{Subtree}
+use Rattle.merkle_hasher.specs.Subtrees.{Means}
 use Rattle.merkle_proof.specs.Plan.{siblings}
 use Rattle.merkle_base.specs.Tree.{Tree, position, height, first_leaf, width, IsBuilt}
 use Rattle.merkle_base.specs.Forest.{forest}
 use Rattle.merkle_base.proofs.Growth.{forest_grown, built_at}
 use Rattle.merkle_base.proofs.Nodes.{node_stays}
 use Rattle.merkle_base.proofs.PeakLists.{Spans, covers_spans, all_reverse}
-use Rattle.merkle_proof.specs.Subtrees.{Stands}
+use Rattle.merkle_hasher.specs.Subtrees.{Stands}
 use Rattle.merkle_proof.specs.declared.groups.Groups.{Groups}
 use Rattle.merkle_proof.specs.GroupedPeaks.{HoldsGroups}
-use Rattle.merkle_proof.specs.Subtrees.{AreNodes}
-use Rattle.merkle_proof.specs.Subtrees.{subtree_of}
+use Rattle.merkle_hasher.specs.Subtrees.{AreNodes}
+use Rattle.merkle_hasher.specs.Subtrees.{subtree_of}
 use Rattle.merkle_base.proofs.Lists.{cons_head, cons_tail, all_imply}
 use Rattle.merkle_proof.proofs.Walks.{flat_push}
+use Rattle.merkle_hasher.proofs.PeakNodes.{peaks_at}
 
 -- what a peak iterator gives of a peak
 abbrev pub placed : Tree → ℕ × ℕ
@@ -31,9 +32,6 @@ pub record Walked {F : Type 0} (rule : List ℕ → List ℕ) (m n a b : ℕ) (l
   pub spans : Spans s n rest
   pub at : AreNodes rule m rest
   pub held : HoldsGroups a b g done
-
-pub peaks_at : (rule : List ℕ → List ℕ) (m n : ℕ) → n ≤ m → AreNodes rule m (reverse (forest rule n).peaks)
-peaks_at rule m n l = all_imply (IsBuilt (forest rule n).nodes) _ (λ t h. node_stays rule n m (position t) t l (built_at (forest rule n).nodes t h)) (reverse (forest rule n).peaks) (all_reverse (IsBuilt (forest rule n).nodes) (forest rule n).peaks (forest_grown rule n).built)
 
 pub walk_begins : {F : Type 0} (rule : List ℕ → List ℕ) (m n a b : ℕ) (left : List (ℕ × ℕ)) (g : Groups F) → n ≤ m → left ≡ map placed (reverse (forest rule n).peaks) → HoldsGroups a b g [] → Walked rule m n a b left 0 g
 walk_begins rule m n a b left g l e h = record {

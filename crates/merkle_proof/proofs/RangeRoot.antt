@@ -18,7 +18,7 @@ use Rattle.merkle_proof.specs.Check.{Setting, RangeInput, chosen, leaf_given}
 use Rattle.merkle_proof.specs.Range.{in_range, overlapping, wholly_after, end_of, Accepts}
 use Rattle.merkle_proof.specs.Walk.{bytes_of, leaf_from, peak_values, ArePeakDigests}
 use Rattle.merkle_proof.specs.Input.{setting, input_of, HasShape, IsComputed}
-use Rattle.merkle_proof.specs.Subtrees.{subtree_of}
+use Rattle.merkle_hasher.specs.Subtrees.{subtree_of}
 use Rattle.merkle_proof.specs.GroupedPeaks.{HoldsGroups}
 use Rattle.merkle_proof.specs.declared.proof.Proof.{Proof}
 use Rattle.merkle_proof.specs.declared.groups.Groups.{Groups}

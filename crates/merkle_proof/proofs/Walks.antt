@@ -19,7 +19,7 @@ use Rattle.merkle_proof.specs.Expression.{Node, given, hashed, value}
 use Rattle.merkle_proof.specs.Plan.{tree_meets, siblings}
 use Rattle.merkle_proof.specs.Claim.{next, tree_claim}
 use Rattle.merkle_proof.specs.Range.{in_range}
-use Rattle.merkle_proof.specs.Subtrees.{Stands}
+use Rattle.merkle_hasher.specs.Subtrees.{Stands}
 use Rattle.merkle_proof.specs.Walk.{bytes_of, leaf_from}
 use Rattle.merkle_proof.specs.Walk.{IsWalked}
 
@@ -87,10 +87,6 @@ element_get (x ∷ es) zero d e = refl
 element_get (x ∷ es) (suc i) d e = element_get es i d e
 
 module _ (rule : List ℕ → List ℕ) (m p s : ℕ) (tall : ℕ) where
-  pub inner_node : (t : Tree) → Stands rule m p tall s t → tall ≢ 0 → (q : ℕ) × (a : Tree) × (b : Tree) × Stands rule m p tall s (join q a b)
-  inner_node (leaf q i) w e = absurd (e (omega (arith, w.height_is)))
-  inner_node (join q a b) w e = (q, a, b, w)
-
   -- a met leaf lies in the range
   pub leaf_in_range : (a b : ℕ) (t : Tree) → Stands rule m p tall s t → tall ≡ 0 → tree_meets (in_range a b) t ≡ true → (a ≤ s) × (s < b)
   leaf_in_range a b (leaf q i) w e k = let x : i ≡ s = w.first_is in (omega (arith, in_from a b i k, x), omega (arith, in_below a b i k, x))
@@ -125,11 +121,6 @@ module _ (rule : List ℕ → List ℕ) (m p s : ℕ) (tall : ℕ) where
           → ((q : ℕ) (l r : Tree) → Stands rule m p tall s (join q l r) → IsWalked h c X l ds x mid × (length mid < length (siblings c r))) → length ds < length (siblings c t)
       short_inner_right (leaf q i) w e k ds mid x f = absurd (e (omega (arith, w.height_is)))
       short_inner_right (join q l r) w e k ds mid x f = let u = f q l r w in short_right h c X q l r ds mid x k u.0 u.1
-
--- a child is lower than its parent
-pub lower : (rule : List ℕ → List ℕ) (m p s tall q p' s' tall' : ℕ) (l r t : Tree) → Stands rule m p tall s (join q l r) → Stands rule m p' tall' s' t → (t ≡ l) ⊎ (height t ≡ height l) → tall' < tall
-lower rule m p s tall q p' s' tall' l r t w v (inl e) = omega (arith, w.height_is, v.height_is, ap height e)
-lower rule m p s tall q p' s' tall' l r t w v (inr e) = omega (arith, w.height_is, v.height_is, e)
 
 -- nothing of a tree in the range lies outside it
 pub siblings_inside : (a b : ℕ) (ns : List Tree) (t : Tree) → IsBuilt ns t → a ≤ first_leaf t → first_leaf t + width t ≤ b → siblings (in_range a b) t ≡ []

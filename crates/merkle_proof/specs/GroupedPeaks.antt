@@ -2,7 +2,7 @@
 use Rattle.std.specs.Prelude.{◌≡◌, ℕ, List, map}
 use Rattle.merkle_base.specs.Tree.{Tree, position}
 use Rattle.merkle_proof.specs.Range.{overlapping, wholly_after}
-use Rattle.merkle_proof.specs.Subtrees.{subtree_of}
+use Rattle.merkle_hasher.specs.Subtrees.{subtree_of}
 use Rattle.merkle_proof.specs.declared.groups.Groups.{Groups}
 use Rattle.merkle_base.specs.Places.{wholly_before}
 

@@ -5,7 +5,7 @@ use Rattle.merkle_base.specs.Tree.{Tree, leaf, join, position, height, first_lea
 use Rattle.merkle_base.specs.Forest.{forest}
 use Rattle.merkle_proof.specs.Plan.{siblings}
 use Rattle.merkle_proof.specs.Range.{in_range}
-use Rattle.merkle_proof.specs.Subtrees.{Stands}
+use Rattle.merkle_hasher.specs.Subtrees.{Stands}
 
 -- the merged nodes from t down to the leaf at location k: the position of each, that of its other child, and its height
 abbrev pub path : ℕ → Tree → List (ℕ × ℕ × ℕ)

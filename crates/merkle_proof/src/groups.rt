@@ -6,15 +6,16 @@ ghost use Rattle.merkle_base.specs.Places.{peaks_of, wholly_before};
 ghost use Rattle.merkle_proof.specs.Plan.{siblings};
 ghost use Rattle.merkle_proof.specs.Layouts.{count_before, count_after, count_inactive};
 ghost use Rattle.merkle_proof.specs.Range.{in_range, overlapping, wholly_after};
-ghost use Rattle.merkle_proof.specs.Subtrees.{Means, AreNodes, subtree_of};
+ghost use Rattle.merkle_hasher.specs.Subtrees.{Means, AreNodes, subtree_of};
 ghost use Rattle.merkle_proof.specs.GroupedPeaks.{HoldsGroups};
 ghost use Rattle.merkle_proof.specs.RangePlans.{nodes_read};
 
 use crate::layout::Layout;
-use crate::subtree::Subtree;
+use crate::siblings::collect_siblings;
 use merkle_base::family::{Bagging, Family};
 use merkle_base::location::Location;
 use merkle_base::position::Position;
+use merkle_hasher::subtree::Subtree;
 use std::alloc::{AllocError, Global};
 use std::ops::Range;
 
@@ -134,7 +135,7 @@ fn append_siblings<F: Family>(
     ensures { IfOk result (λ _. (ts : List Tree) → peaks.now ≡ map subtree_of ts → AreNodes F.rule F.MAX_LEAVES ts → out.new.items ≡ out.old.items ++ map position (flat_map (siblings (in_range range.now.start range.now.end)) ts)) }
 {
     for peak in peaks {
-        peak.collect_siblings(range, out)?;
+        collect_siblings(peak, range, out)?;
     }
     Ok(())
 }

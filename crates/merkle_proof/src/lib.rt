@@ -2,14 +2,11 @@
 #![tactic(auto)]
 
 mod groups;
-pub mod hasher;
-pub mod laws;
 mod layout;
 pub mod path;
 pub mod proof;
 pub mod range_plan;
-pub mod read;
 mod reading;
-pub mod subtree;
-#[cfg(test)]
-mod tests;
+mod siblings;
+
+pub use merkle_hasher::{hasher, read, subtree};

@@ -3,11 +3,11 @@ ghost use Rattle.std.specs.Prelude.{◌≡◌, length};
 ghost use Rattle.std.specs.Iterator.{YieldsFirst, item_count};
 ghost use Rattle.merkle_proof.specs.Path.{StandsOver, IsPath};
 
-use crate::subtree::Subtree;
 use merkle_base::family::Family;
 use merkle_base::listed::Listed;
 use merkle_base::location::Location;
 use merkle_base::position::Position;
+use merkle_hasher::subtree::Subtree;
 use std::iter;
 use std::marker::Model;
 

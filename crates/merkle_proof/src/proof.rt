@@ -7,17 +7,18 @@ ghost use Rattle.merkle_base.specs.Root.{list_root};
 ghost use Rattle.merkle_proof.specs.Plan.{siblings};
 ghost use Rattle.merkle_proof.specs.Check.{root_of, range_expression};
 ghost use Rattle.merkle_proof.specs.Range.{in_range, Accepts, IsHonestRange, IsEmptyInput, RangeCollides};
-ghost use Rattle.merkle_proof.specs.Subtrees.{AreNodes, subtree_of};
+ghost use Rattle.merkle_hasher.specs.Subtrees.{AreNodes, subtree_of};
 ghost use Rattle.merkle_proof.specs.Walk.{bytes_of, leaf_from, peak_values, ArePeaksWalked, ArePeakDigests};
 ghost use Rattle.merkle_proof.specs.Input.{setting, input_of, HasShape, IsComputed};
 
 use crate::groups::Groups;
-use crate::hasher::Hasher;
-use crate::subtree::Subtree;
+use crate::siblings::reconstruct_digest;
 use merkle_base::digest::Digest;
 use merkle_base::error::{OutOfMemory, ReconstructionError};
 use merkle_base::family::Family;
 use merkle_base::location::Location;
+use merkle_hasher::hasher::Hasher;
+use merkle_hasher::subtree::Subtree;
 use std::alloc::{AllocError, Global};
 use std::ops::Range;
 
@@ -49,7 +50,7 @@ fn reconstruct_peaks<F: Family, H: Hasher<F>>(
     ensures err { IfErr result (λ e. e ≢ ReconstructionError.OutOfMemory → (ts : List Tree) → peaks.now ≡ map subtree_of ts → AreNodes F.rule F.MAX_LEAVES ts → length digests.old.now < length (flat_map (siblings (in_range range.now.start range.now.end)) ts)) }
 {
     for peak in peaks {
-        let digest = peak.reconstruct_digest(hasher, range, elements, digests)?;
+        let digest = reconstruct_digest(peak, hasher, range, elements, digests)?;
         if out.push(digest).is_err() {
             return Err(ReconstructionError::OutOfMemory);
         }

@@ -10,7 +10,6 @@ ghost use Rattle.merkle_proof.specs.Range.{IsHonestRange};
 ghost use Rattle.merkle_proof.specs.RangePlans.{IsRefusal, IsBuildRefusal, IsBuiltProof, AnswersList, list_input};
 
 use crate::groups::Groups;
-use crate::hasher::{Hasher, bag_all, fold_all};
 use crate::layout::{prefix_count, single_count};
 use crate::proof::Proof;
 use crate::reading::read_turned;
@@ -18,6 +17,7 @@ use merkle_base::error::Error;
 use merkle_base::family::Family;
 use merkle_base::location::Location;
 use merkle_base::position::Position;
+use merkle_hasher::hasher::{Hasher, bag_all, fold_all};
 use std::alloc::Global;
 use std::marker::Model;
 use std::ops::Range;

@@ -1,5 +1,5 @@
 use Rattle.std.proofs.Common.{sym, subst, take}
-use Rattle.merkle_proof.specs.Subtrees.{Means}
+use Rattle.merkle_hasher.specs.Subtrees.{Means}
 use Rattle.merkle_proof.proofs.PeakLoop.{element_means, more_siblings}
 use Rattle.merkle_proof.proofs.groups.append_siblings.Goals as goal
 

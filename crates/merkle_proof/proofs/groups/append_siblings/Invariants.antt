@@ -3,7 +3,7 @@ use Rattle.std.specs.List.{flat_map}
 use Rattle.merkle_base.specs.Tree.{Tree, position}
 use Rattle.merkle_proof.specs.Plan.{siblings}
 use Rattle.merkle_proof.specs.Range.{in_range}
-use Rattle.merkle_proof.specs.Subtrees.{AreNodes, subtree_of}
+use Rattle.merkle_hasher.specs.Subtrees.{AreNodes, subtree_of}
 use Rattle.merkle_proof.proofs.groups.append_siblings.Given as goal
 
 abbrev pub invariant-loop-peak : goal.invariant-loop-peak

@@ -1,6 +1,6 @@
 use Rattle.std.proofs.Common.{◌≡◌, ◌++◌, ◌∷◌, [], sym, subst, take, rules, refl}
 use Rattle.std.proofs.lemmas.Result.{err_from_is_err_and}
-use Rattle.merkle_proof.specs.Subtrees.{Means}
+use Rattle.merkle_hasher.specs.Subtrees.{Means}
 use Rattle.merkle_proof.proofs.PeakLoop.{element_means}
 use Rattle.merkle_proof.proofs.PeakValues.{walk_more, short_peaks}
 use Rattle.merkle_proof.proofs.proof.reconstruct_peaks.Goals as goal

@@ -2,8 +2,8 @@ use Rattle.std.proofs.Common.{◌≡◌, List, map, take}
 use Rattle.merkle_base.specs.Tree.{Tree}
 use Rattle.merkle_proof.specs.Range.{in_range}
 use Rattle.merkle_proof.specs.Walk.{bytes_of, leaf_from}
-use Rattle.merkle_proof.specs.Subtrees.{AreNodes}
-use Rattle.merkle_proof.specs.Subtrees.{subtree_of}
+use Rattle.merkle_hasher.specs.Subtrees.{AreNodes}
+use Rattle.merkle_hasher.specs.Subtrees.{subtree_of}
 use Rattle.merkle_proof.specs.Walk.{ArePeaksWalked}
 use Rattle.merkle_proof.proofs.proof.reconstruct_peaks.Given as goal
 

@@ -9,7 +9,7 @@ use Rattle.merkle_core.proofs.KeptReads.{only_memory}
 use Rattle.merkle_proof.specs.Input.{setting}
 use Rattle.merkle_proof.specs.Range.{IsHonestRange}
 use Rattle.merkle_proof.specs.RangePlans.{LeafRange, IsBuildRefusal, IsBuiltProof, list_input}
-use Rattle.merkle_proof.proofs.Comparisons.{ge_yes, ge_no}
+use Rattle.merkle_hasher.proofs.Comparisons.{ge_yes, ge_no}
 use Rattle.merkle_core.proofs.mem.Mem.proof.Goals as goal
 
 pub returns-then-not-is_valid_index-clause-given : goal.returns-then-not-is_valid_index-clause-given

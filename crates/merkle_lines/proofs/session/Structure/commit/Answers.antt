@@ -5,7 +5,7 @@ use Rattle.merkle_base.specs.declared.error.Error.TheVariants.{OutOfMemory}
 use Rattle.merkle_batches.specs.Pending.{kept_lists, pending_list}
 use Rattle.merkle_batches.specs.Recorded.{Chain, records}
 use Rattle.merkle_batches.specs.Stands.{StandsOn}
-use Rattle.merkle_proof.specs.Standard.{standard}
+use Rattle.merkle_hasher.specs.Standard.{standard}
 use Rattle.merkle_lines.specs.Answers.{all_committed, error_line, leaf_digests, without_added}
 use Rattle.merkle_lines.specs.Held.{adding, IsHeld}
 use Rattle.merkle_lines.proofs.Holdings.{base_agrees, commit_accepted, commit_applied, committed_sized, held_alone, no_updates, parent_stands}

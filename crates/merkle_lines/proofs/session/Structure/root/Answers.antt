@@ -1,6 +1,6 @@
 use Rattle.std.proofs.Common.{ap, ◌∙◌}
 use Rattle.hex.specs.Hex.{encode_lower}
-use Rattle.merkle_proof.specs.Standard.{standard}
+use Rattle.merkle_hasher.specs.Standard.{standard}
 use Rattle.merkle_lines.specs.Answers.{error_line}
 use Rattle.merkle_lines.proofs.Replies.{root_refused, root_told}
 use Rattle.merkle_lines.proofs.session.Structure.root.Goals as goal

@@ -4,7 +4,7 @@ use Rattle.merkle_base.specs.Tree.{position}
 use Rattle.merkle_base.specs.Places.{wholly_before}
 use Rattle.merkle_proof.specs.Layouts.{count_after}
 use Rattle.merkle_proof.specs.Range.{overlapping, wholly_after}
-use Rattle.merkle_proof.specs.Subtrees.{subtree_of}
+use Rattle.merkle_hasher.specs.Subtrees.{subtree_of}
 use Rattle.merkle_proof.proofs.RangeRoot.{group_count, few_peaks}
 use Rattle.merkle_proof.proofs.groups.Groups.layout.Goals as goal
 

@@ -1,7 +1,7 @@
 use Rattle.std.proofs.Common.{arith, ◌∙◌, ap, length, ◌++◌}
 use Rattle.merkle_base.specs.Places.{peaks_of}
 use Rattle.merkle_proof.specs.Range.{overlapping}
-use Rattle.merkle_proof.proofs.PeakLoop.{peaks_at}
+use Rattle.merkle_hasher.proofs.PeakNodes.{peaks_at}
 use Rattle.merkle_proof.proofs.BuiltDigests.{listed_outside}
 use Rattle.merkle_proof.proofs.groups.Groups.outside.Goals as goal
 use Rattle.merkle_proof.proofs.Extraction.{all_filter}

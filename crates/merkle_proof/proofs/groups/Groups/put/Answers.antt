@@ -1,7 +1,7 @@
 use Rattle.std.proofs.Common.{arith, sym, ap, ◌∙◌, map}
 use Rattle.merkle_base.specs.Tree.{position}
-use Rattle.merkle_proof.specs.Subtrees.{subtree_of}
-use Rattle.merkle_proof.proofs.Comparisons.{le_yes, le_no, ge_yes, ge_no}
+use Rattle.merkle_hasher.specs.Subtrees.{subtree_of}
+use Rattle.merkle_hasher.proofs.Comparisons.{le_yes, le_no, ge_yes, ge_no}
 use Rattle.merkle_proof.proofs.Grouping.{before_yes, before_no, over_yes, over_no_before, over_no_after, after_yes, after_no, push_subtree, push_position}
 use Rattle.merkle_proof.proofs.groups.Groups.put.Goals as goal
 

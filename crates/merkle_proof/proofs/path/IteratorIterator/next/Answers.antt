@@ -1,5 +1,5 @@
 use Rattle.std.proofs.Common.{sym, ap, ◌∙◌, length, arith}
-use Rattle.merkle_proof.proofs.Comparisons.{lt_yes, lt_no}
+use Rattle.merkle_hasher.proofs.Comparisons.{lt_yes, lt_no}
 use Rattle.merkle_proof.proofs.PathSteps.{path_ends, inner_over, left_step, right_step}
 use Rattle.merkle_proof.proofs.path.IteratorIterator.next.Goals as goal
 

@@ -4,7 +4,7 @@ use Rattle.merkle_base.specs.Places.{peaks_of, wholly_before}
 use Rattle.merkle_base.specs.Root.{peaks_root}
 use Rattle.merkle_proof.specs.Layouts.{count_before, count_after, count_inactive}
 use Rattle.merkle_proof.specs.Range.{overlapping, wholly_after}
-use Rattle.merkle_proof.proofs.PeakLoop.{peaks_at}
+use Rattle.merkle_hasher.proofs.PeakNodes.{peaks_at}
 use Rattle.merkle_proof.proofs.RangeRoot.{few_peaks, element_count, computed, misshapen, never_empty, folds_given}
 use Rattle.merkle_proof.proofs.proof.Proof.reconstruct_root.Goals as goal
 use Rattle.merkle_proof.proofs.Extraction.{all_filter}

@@ -3,7 +3,7 @@ use Rattle.std.proofs.lemmas.List.{length-map}
 use Rattle.merkle_base.specs.Tree.{position}
 use Rattle.merkle_base.specs.Places.{peaks_of, wholly_before}
 use Rattle.merkle_proof.specs.Range.{wholly_after}
-use Rattle.merkle_proof.specs.Subtrees.{subtree_of}
+use Rattle.merkle_hasher.specs.Subtrees.{subtree_of}
 use Rattle.merkle_proof.proofs.range_plan.RangePlan.new.Goals as goal
 
 pub invariant_of-result : goal.invariant_of-result

@@ -1,0 +1,23 @@
+use Rattle.std.proofs.Common.{◌≡◌, None, length, arith, sym, ap, ◌∙◌}
+use Rattle.std.specs.Prelude.{is_some}
+use Rattle.std.specs.FinMap.{from_entries, get, get-empty}
+use Rattle.std.specs.Ordering.{nat_cmp}
+use Rattle.merkle_base.proofs.Nodes.{size_inj}
+use Rattle.merkle_batches.specs.Recorded.{after}
+use Rattle.merkle_batch.proofs.batch.UnmerkleizedBatch.new.Goals as goal
+
+pub invariant_of-result : goal.invariant_of-result
+invariant_of-result g c = record {
+  bounded = omega (arith, c.leaves-leaves_before.ensures.bounded, ap length c.new.ensures.items);
+  sized = c.leaves-leaves_before.ensures.sized ∙ ap (λ b. after b.own) c.deref-2.ensures;
+  leaves = λ q some.
+      let none : get (from_entries {R = nat_cmp} c.new-2.result.entries) q ≡ None = ap (λ es. get (from_entries {R = nat_cmp} es) q) c.new-2.ensures.empty ∙ get-empty nat_cmp q in
+      absurd (let same = ap is_some none in cc);
+  some = omega arith;
+}
+
+pub returns : goal.returns
+returns g c = λ n within sized.
+    let rule = g.F.Family.rule in
+    let same : c.leaves-leaves_before.result ≡ n = size_inj rule c.leaves-leaves_before.result n (c.leaves-leaves_before.ensures.sized ∙ ap (λ b. after b.own) c.deref-2.ensures ∙ sym sized) in
+    λ i. record { parent = c.args.parent.value; leaves_before = same i; added = c.new.ensures.items i; overwritten = from_entries {R = nat_cmp} (c.new-2.ensures.empty i); forgotten = 0 }

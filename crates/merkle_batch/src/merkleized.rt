@@ -1,0 +1,192 @@
+//! Batches with their nodes computed.
+ghost use Rattle.std.specs.Prelude.{◌≡◌, ℕ, List, ◌∷◌, [], ◌≤◌, ◌<◌, Some, Ok, Err, slice_get, length, IfOk, IsOkUnless};
+ghost use Rattle.std.specs.FinMap.{empty};
+ghost use Rattle.merkle_base.specs.Digests.{node_digests};
+ghost use Rattle.merkle_base.specs.Forest.{size};
+ghost use Rattle.merkle_base.specs.Hashing.{Hashing};
+ghost use Rattle.merkle_base.specs.Places.{peaks_of};
+ghost use Rattle.merkle_base.specs.Root.{list_root, peaks_root};
+ghost use Rattle.merkle_batches.specs.Contents.{Agrees};
+ghost use Rattle.merkle_batches.specs.Pending.{forked};
+ghost use Rattle.merkle_batches.specs.Read.{newest};
+ghost use Rattle.merkle_batches.specs.Recorded.{after, records};
+ghost use Rattle.merkle_batches.specs.Roots.{root_batch};
+ghost use Rattle.merkle_batches.specs.Stands.{StandsOn, last_list};
+
+use crate::base::Base;
+use crate::batch::UnmerkleizedBatch;
+use crate::overwrites::Overwrites;
+use crate::record::{Record, newest_node};
+use merkle_base::digest::Digest;
+use merkle_base::error::Error;
+use merkle_base::family::Family;
+use merkle_base::location::Location;
+use merkle_base::position::Position;
+use merkle_hasher::hasher::Hasher;
+use merkle_hasher::read::Readable;
+use std::alloc::{AllocError, Global};
+use std::marker::Model;
+use std::rc::{Rc, RcSlice};
+
+/// A batch with its nodes computed: what it changes, and the states before and after it.
+///
+/// It keeps the records of its ancestors, so that it can be applied to a structure at any of their states. Batches are
+/// shared by `Rc`: any number of batches can be forked from one.
+///
+/// To a contract it is its own record, behind those that it keeps of its ancestors, oldest first.
+#[derive(Debug, Drop)]
+pub struct MerkleizedBatch<F: Family, D: Digest> {
+    pub own: Rc<Record<F, D>>,
+    // the records of its ancestors that have changes, oldest first
+    pub ancestors: Vec<Rc<Record<F, D>>>,
+    // the leaf count after it
+    pub leaves: Location<F>,
+    pub base_size: Position<F>,
+    pub pruning_boundary: Location<F>,
+}
+
+impl<F: Family, D: Digest> Model for MerkleizedBatch<F, D> {
+    ghost use Rattle.std.specs.Prelude.{map};
+    ghost use Rattle.merkle_batches.specs.Linked.{IsLinked};
+    ghost use Rattle.merkle_batches.specs.Recorded.{Chain, chain_code};
+
+    ghost Value = { Chain D };
+
+    ghost coded = { chain_code D.code };
+
+    ghost view = { λ b. record { base_size = b.base_size; boundary = b.pruning_boundary; ancestors = map (λ r. r.value) b.ancestors.items; own = b.own.value } };
+
+    ghost invariant = { λ b. IsLinked F.rule F.MAX_LEAVES b.leaves (record { base_size = b.base_size; boundary = b.pruning_boundary; ancestors = map (λ r. r.value) b.ancestors.items; own = b.own.value }) };
+}
+
+impl<F: Family, D: Digest> MerkleizedBatch<F, D> {
+    /// A batch without changes to a structure.
+    ///
+    /// Refused with `OutOfMemory`.
+    pub fn from_mem<B: Base<F, Digest = D>>(base: &B) -> Result<Rc<Self>, Error<F>>
+        ensures root { IfOk result (λ b. (n : ℕ) → n ≤ F.MAX_LEAVES → size F.rule n ≡ (B.contents base.now).size → b.value ≡ root_batch F.rule n (B.contents base.now)) }
+        ensures of_list { IfOk result (λ b. (h : Hashing D) → (X : List D) → Agrees h F.rule (B.contents base.now) X → StandsOn h F.rule (records b.value) (X ∷ X ∷ [])) }
+        ensures refused { IsOkUnless result Error.OutOfMemory }
+    {
+        let _leaves = base.leaves();
+        Ok(Self::without_changes(base)?)
+    }
+
+    // A batch without changes to a structure.
+    fn without_changes<B: Base<F, Digest = D>>(base: &B) -> Result<Rc<Self>, AllocError>
+        ensures { IfOk result (λ b. (n : ℕ) → n ≤ F.MAX_LEAVES → size F.rule n ≡ (B.contents base.now).size → b.value ≡ root_batch F.rule n (B.contents base.now)) }
+    {
+        let leaves = base.leaves();
+        let peaks = base.peak_digests()?;
+        let alloc = *peaks.allocator();
+        let peaks_before = RcSlice::from_vec(peaks)?;
+        let peaks_after = peaks_before.clone()?;
+        let own = Record {
+            size_before: base.size(),
+            peaks_before,
+            appended: Vec::new(alloc),
+            overwrites: Overwrites::new(alloc),
+            peaks_after,
+        };
+        let batch = MerkleizedBatch {
+            own: Rc::new(alloc, own)?,
+            ancestors: Vec::new(alloc),
+            leaves,
+            base_size: base.size(),
+            pruning_boundary: base.pruning_boundary(),
+        };
+        Ok(Rc::new(alloc, batch)?)
+    }
+
+    /// The number of nodes after it.
+    pub fn size(&self) -> Position<F>
+        ensures { result ≡ after self.now.own }
+    {
+        self.own.size()
+    }
+
+    /// The number of leaves after it.
+    pub fn leaves(&self) -> Location<F>
+        ensures sized { size F.rule result ≡ after self.now.own }
+        ensures bounded { result ≤ F.MAX_LEAVES }
+    {
+        self.leaves
+    }
+
+    /// The number of nodes of the structure that its chain began with, as it was then.
+    pub fn base_size(&self) -> Position<F>
+        ensures { result ≡ self.now.base_size }
+    {
+        self.base_size
+    }
+
+    /// The location that the structure that its chain began with was pruned to, as it was then.
+    pub fn pruning_boundary(&self) -> Location<F>
+        ensures { result ≡ self.now.boundary }
+    {
+        self.pruning_boundary
+    }
+
+    /// The digest of the node at a position, from its own record or else from the newest kept ancestor's that has it;
+    /// `None` where none of them has it.
+    pub fn get_node(&self, position: Position<F>) -> Option<D>
+        ensures newest { result ≡ newest (records self.now) position }
+
+        // Where it stands on lists, it is the last list's.
+        ensures listed { (h : Hashing D) → (ls : List (List D)) → (d : D) → StandsOn h F.rule (records self.now) ls → result ≡ Some d → slice_get (node_digests h F.rule (last_list ls)) position ≡ Some d }
+    {
+        match self.own.get_node(position) {
+            Some(digest) => Some(digest),
+            None => newest_node(&self.ancestors, position),
+        }
+    }
+
+    /// The root after it, for a number of inactive peaks, which are the oldest ones.
+    ///
+    /// Refused with `InvalidInactivePeaks` exactly where that number exceeds the number of peaks.
+    pub fn root<H: Hasher<F, Digest = D>>(&self, hasher: &H, inactive: usize) -> Result<D, Error<F>>
+        ensures ok { (n : ℕ) → n ≤ F.MAX_LEAVES → size F.rule n ≡ after self.now.own → let peaks = self.now.own.peaks_after in inactive ≤ length peaks → result ≡ Ok (peaks_root (H.hashing hasher.now) F.DOMAIN (H.bagging_of hasher.now) n inactive inactive peaks) }
+        ensures err { let peaks = self.now.own.peaks_after in length peaks < inactive → result ≡ Err (Error.InvalidInactivePeaks inactive (length peaks)) }
+
+        // Where it stands on lists, it is the last list's.
+        ensures listed { (ls : List (List D)) → StandsOn (H.hashing hasher.now) F.rule (records self.now) ls → let X = last_list ls in inactive ≤ length (peaks_of F.rule (length X)) → result ≡ Ok (list_root (H.hashing hasher.now) F.rule F.DOMAIN (H.bagging_of hasher.now) X inactive) }
+        ensures too_many { (h : Hashing D) → (ls : List (List D)) → StandsOn h F.rule (records self.now) ls → let X = last_list ls in length (peaks_of F.rule (length X)) < inactive → result ≡ Err (Error.InvalidInactivePeaks inactive (length (peaks_of F.rule (length X)))) }
+    {
+        hasher.root(self.leaves, inactive, self.own.peaks_after.as_slice())
+    }
+
+    /// A batch without changes, forked from this one.
+    ///
+    /// Refused with `OutOfMemory`.
+    pub fn new_batch(self: &Rc<Self>) -> Result<UnmerkleizedBatch<F, D>, Error<F>>
+        ensures forked { IfOk result (λ b. (n : ℕ) → n ≤ F.MAX_LEAVES → size F.rule n ≡ after self.now.value.own → b ≡ forked self.now.value n empty) }
+        ensures refused { IsOkUnless result Error.OutOfMemory }
+    {
+        Ok(UnmerkleizedBatch::new(self.clone()?))
+    }
+
+    // Where its memory comes from.
+    pub(crate) fn allocator(&self) -> Global {
+        *self.ancestors.allocator()
+    }
+}
+
+impl<F: Family, D: Digest> Readable for MerkleizedBatch<F, D> {
+    type Family = F;
+
+    type Digest = D;
+
+    ghost size = { λ b. after b.own };
+
+    ghost node = { λ b p. newest (records b) p };
+
+    fn size(&self) -> Position<F> {
+        MerkleizedBatch::size(self)
+    }
+
+    fn get_node(&self, position: Position<F>) -> Option<D>
+        ensures { result ≡ newest (records self.now) position }
+    {
+        MerkleizedBatch::get_node(self, position)
+    }
+}

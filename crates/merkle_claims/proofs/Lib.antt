@@ -1,0 +1,17 @@
+pub mod FirstCollisions
+pub mod ToldDigests
+pub mod NoCollisions
+pub mod PlaceOrder
+pub mod PlacesOnce
+pub mod Audits
+pub mod HonestTold
+pub mod ClearRange
+pub mod ListedDigests
+pub mod Multiproofs
+pub mod PinnedChecks
+pub mod FewPositions
+pub mod SubProofs
+pub mod Verdicts
+pub mod PairsOnce
+pub mod ClearMulti
+pub mod ClearPinned

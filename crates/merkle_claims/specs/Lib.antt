@@ -1,0 +1,15 @@
+pub mod Ascending
+pub mod FirstCollision
+pub mod MultiClaim
+pub mod PinnedClaim
+pub mod Exact
+pub mod Order
+pub mod Audit
+pub mod ThreeLeaves
+pub mod Complete
+pub mod Table
+pub mod Multiproof
+pub mod Pinned
+pub mod Store
+pub mod Verdict
+pub mod Rows

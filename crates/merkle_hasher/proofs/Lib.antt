@@ -1,0 +1,5 @@
+pub mod BagLemmas
+pub mod Comparisons
+pub mod Spans
+pub mod NodeSteps
+pub mod PeakNodes

@@ -1,0 +1,24 @@
+-- The nodes of a forest as code carries them.
+use Rattle.std.specs.Prelude.{◌≡◌, ℕ, List, Some, slice_get}
+use Rattle.std.specs.List.{AllByRecursion}
+use Rattle.merkle_base.specs.Tree.{Tree, position, height, first_leaf}
+use Rattle.merkle_base.specs.Forest.{forest}
+use Rattle.merkle_hasher.specs.declared.subtree.Subtree.{Subtree}
+
+-- t stands at p in the forest of n leaves, has height h, and its first leaf is s
+pub record Stands (rule : List ℕ → List ℕ) (n p h s : ℕ) (t : Tree) : Type 0 where
+  pub at : slice_get (forest rule n).nodes p ≡ Some t
+  pub height_is : height t ≡ h
+  pub first_is : first_leaf t ≡ s
+
+-- the subtree is the node t of the forest of n leaves
+abbrev pub Means : {F : Type 0} → (List ℕ → List ℕ) → ℕ → Subtree F → Tree → Type 0
+Means rule n s t = Stands rule n s.position s.height s.first_leaf t
+
+-- the subtree that means t
+abbrev pub subtree_of : {F : Type 0} → Tree → Subtree F
+subtree_of t = record { position = position t; height = height t; first_leaf = first_leaf t }
+
+-- each of the trees is a node of the forest of n leaves, at its own position
+abbrev pub AreNodes : (List ℕ → List ℕ) → ℕ → List Tree → Type 0
+AreNodes rule n ts = AllByRecursion (λ t. slice_get (forest rule n).nodes (position t) ≡ Some t) ts

@@ -1,0 +1,429 @@
+//! Hashers: the digests of leaves, nodes, folded peaks and roots.
+ghost use Rattle.std.specs.Prelude.{◌≡◌, ◌+◌, ◌<◌, ◌≤◌, ◌++◌, [], ◌∷◌, ℕ, List, ⊤, length, fold};
+ghost use Rattle.std.proofs.Common.{ap, refl};
+ghost use Rattle.std.specs.Option.{SomeIff};
+ghost use Rattle.merkle_base.specs.Bytes.{joined_parts};
+ghost use Rattle.merkle_base.specs.declared.family.Bagging.{Bagging};
+ghost use Rattle.merkle_base.specs.Hashing.{Hashing, IsOver};
+ghost use Rattle.merkle_base.specs.Root.{bag, folded, root_string, peaks_root};
+ghost use Rattle.merkle_hasher.specs.Standard.{standard};
+
+use merkle_base::digest::{Digest, PlainHasher};
+use merkle_base::error::Error;
+use merkle_base::family::{Bagging, Family};
+use merkle_base::location::Location;
+use merkle_base::position::Position;
+use std::alloc::AllocError;
+use std::marker::{Model, PhantomData};
+
+/// The digests of a family's leaves, nodes, folded peaks and roots.
+///
+/// Each is a function of the arguments and of the hasher's value; a clone computes the same.
+pub trait Hasher<F: Family>: Clone {
+    /// What it answers.
+    type Digest: Digest;
+
+    // the functions that it computes
+    ghost hashing: { Self → Hashing Self.Digest };
+
+    // how it folds peaks
+    ghost bagging_of: { Self → Bagging };
+
+    /// The digest of the parts, one after another.
+    fn hash(&self, parts: &[&[u8]]) -> Self::Digest
+        ensures { result ≡ (hashing self.now).hash (joined_parts parts.now) };
+
+    /// How the peaks are folded for a root.
+    fn root_bagging(&self) -> Bagging
+        ensures { result ≡ bagging_of self.now };
+
+    /// The digest of the merged node at a position, from its children's.
+    fn node_digest(
+        &self,
+        position: Position<F>,
+        left: &Self::Digest,
+        right: &Self::Digest,
+    ) -> Self::Digest
+        ensures { result ≡ (hashing self.now).node position left.now right.now };
+
+    /// The digests of two merged nodes, each as by [`node_digest`](Hasher::node_digest).
+    fn node_digest_pair(
+        &self,
+        nodes: [(Position<F>, Self::Digest, Self::Digest); 2],
+    ) -> (Self::Digest, Self::Digest)
+        ensures { (d : _) (e : _) → nodes ≡ d ∷ e ∷ [] → (result.0 ≡ (hashing self.now).node d.0 d.1 d.2) × (result.1 ≡ (hashing self.now).node e.0 e.1 e.2) };
+
+    /// The digest of the leaf at a position, from its element.
+    fn leaf_digest(&self, position: Position<F>, element: &[u8]) -> Self::Digest
+        ensures { result ≡ (hashing self.now).leaf position element.now };
+
+    /// The digest of bytes.
+    fn digest(&self, bytes: &[u8]) -> Self::Digest
+        ensures { result ≡ (hashing self.now).hash bytes.now };
+
+    /// The digest of what is folded so far and the next peak.
+    fn fold(&self, acc: &Self::Digest, peak: &Self::Digest) -> Self::Digest
+        ensures { result ≡ (hashing self.now).fold acc.now peak.now };
+
+    /// The root of peaks, oldest first, of which the first `to_fold` are folded apart, with `committed` written as the
+    /// number of inactive ones.
+    ///
+    /// `None` exactly where `to_fold` exceeds the number of peaks, or there are none and `committed` isn't 0.
+    final fn root_with_folded_peaks(
+        &self,
+        leaves: Location<F>,
+        to_fold: usize,
+        committed: usize,
+        peaks: &[Self::Digest],
+    ) -> Option<Self::Digest>
+        ensures { SomeIff result (to_fold ≤ length peaks.now × (length peaks.now ≡ 0 → committed ≡ 0)) (peaks_root (hashing self.now) F.DOMAIN (bagging_of self.now) leaves to_fold committed peaks.now) }
+    {
+        let bagging = self.root_bagging();
+        let Some((first, others)) = peaks.split_first() else {
+            if to_fold == 0 && committed == 0 {
+                return Some(empty_root(self, bagging, leaves));
+            }
+            return None;
+        };
+        if to_fold > peaks.len() {
+            return None;
+        }
+        let folded = fold_peaks(self, bagging, to_fold, *first, others);
+        Some(root_of_folded(self, bagging, leaves, committed, &folded))
+    }
+
+    /// The root of peaks, oldest first, for a number of inactive ones.
+    ///
+    /// Refused with `InvalidInactivePeaks` exactly where that number exceeds the number of peaks.
+    final fn root(
+        &self,
+        leaves: Location<F>,
+        inactive: usize,
+        peaks: &[Self::Digest],
+    ) -> Result<Self::Digest, Error<F>>
+        ensures ok { inactive ≤ length peaks.now → result ≡ Ok (peaks_root (hashing self.now) F.DOMAIN (bagging_of self.now) leaves inactive inactive peaks.now) }
+        ensures err { length peaks.now < inactive → result ≡ Err (Error.InvalidInactivePeaks inactive (length peaks.now)) }
+    {
+        match self.root_with_folded_peaks(leaves, inactive, inactive, peaks) {
+            Some(root) => Ok(root),
+            None => Err(Error::InvalidInactivePeaks {
+                requested: inactive,
+                peaks: peaks.len(),
+            }),
+        }
+    }
+
+    ghost clone_keeps: { (x y : Self) → Self.is_clone x y → (hashing y ≡ hashing x) × (bagging_of y ≡ bagging_of x) };
+
+    ghost over_digest: { (x : Self) → IsOver (hashing x) Self.Digest.bytes Self.Digest.eq Self.Digest.EMPTY };
+}
+
+// The root of no leaves.
+fn empty_root<F: Family, T: Hasher<F>>(
+    hasher: &T,
+    bagging: Bagging,
+    leaves: Location<F>,
+) -> T::Digest
+    ensures { result ≡ (T.hashing hasher.now).hash (root_string (T.hashing hasher.now) F.DOMAIN bagging leaves 0 None) }
+{
+    hash_two(
+        hasher,
+        &[F::DOMAIN, bagging.domain()],
+        &leaves.as_u64().to_be_bytes(),
+    )
+}
+
+// The root over the one digest that stands for the peaks.
+fn root_of_folded<F: Family, T: Hasher<F>>(
+    hasher: &T,
+    bagging: Bagging,
+    leaves: Location<F>,
+    committed: usize,
+    folded: &T::Digest,
+) -> T::Digest
+    ensures { result ≡ (T.hashing hasher.now).hash (root_string (T.hashing hasher.now) F.DOMAIN bagging leaves committed (Some folded.now)) }
+{
+    let head = [F::DOMAIN, bagging.domain()];
+    let leaves = leaves.as_u64().to_be_bytes();
+    if committed == 0 {
+        hash_three(hasher, &head, &leaves, folded.as_bytes())
+    } else {
+        hash_four(
+            hasher,
+            &head,
+            &leaves,
+            &(committed as u64).to_be_bytes(),
+            folded.as_bytes(),
+        )
+    }
+}
+
+fn hash_two<F: Family, T: Hasher<F>>(hasher: &T, a: &[u8], b: &[u8]) -> T::Digest
+    ensures { result ≡ (T.hashing hasher.now).hash (a.now ++ b.now) }
+{
+    hasher.hash(&[a, b])
+}
+
+fn hash_three<F: Family, T: Hasher<F>>(hasher: &T, a: &[u8], b: &[u8], c: &[u8]) -> T::Digest
+    ensures { result ≡ (T.hashing hasher.now).hash (a.now ++ b.now ++ c.now) }
+{
+    hasher.hash(&[a, b, c])
+}
+
+fn hash_four<F: Family, T: Hasher<F>>(
+    hasher: &T,
+    a: &[u8],
+    b: &[u8],
+    c: &[u8],
+    d: &[u8],
+) -> T::Digest
+    ensures { result ≡ (T.hashing hasher.now).hash (a.now ++ b.now ++ c.now ++ d.now) }
+{
+    hasher.hash(&[a, b, c, d])
+}
+
+/// The fold of the peaks onto the start, left to right.
+pub fn fold_all<F: Family, T: Hasher<F>>(
+    hasher: &T,
+    start: T::Digest,
+    peaks: &[T::Digest],
+) -> T::Digest
+    ensures { result ≡ fold (T.hashing hasher.now).fold start peaks.now }
+{
+    let mut acc = start;
+    for peak in peaks {
+        acc = hasher.fold(&acc, peak);
+    }
+    acc
+}
+
+/// The last peak, which takes in the others right to left, if there is one.
+pub fn bag_all<F: Family, T: Hasher<F>>(hasher: &T, peaks: &[T::Digest]) -> Option<T::Digest>
+    ensures { result ≡ bag (T.hashing hasher.now).fold peaks.now }
+{
+    let mut bagged = None;
+    let mut index = peaks.len();
+    while index > 0 {
+        index -= 1;
+        bagged = match bagged {
+            Some(other) => Some(hasher.fold(&peaks[index], &other)),
+            None => Some(peaks[index]),
+        };
+    }
+    bagged
+}
+
+// The one digest that stands for the peaks, the first and the others.
+fn fold_peaks<F: Family, T: Hasher<F>>(
+    hasher: &T,
+    bagging: Bagging,
+    to_fold: usize,
+    first: T::Digest,
+    others: &[T::Digest],
+) -> T::Digest
+    requires { to_fold ≤ length others.now + 1 }
+    ensures { folded (T.hashing hasher.now).fold bagging to_fold (first ∷ others.now) ≡ Some result }
+{
+    match bagging {
+        Bagging::ForwardFold => fold_all(hasher, first, others),
+        Bagging::BackwardFold => {
+            let apart = to_fold.saturating_sub(1);
+            let acc = fold_all(hasher, first, &others[..apart]);
+            match bag_all(hasher, &others[apart..]) {
+                Some(bagged) => hasher.fold(&acc, &bagged),
+                None => acc,
+            }
+        }
+    }
+}
+
+/// The hasher over a plain one: positions and counts are hashed as 8 bytes, the most significant first.
+///
+/// To a contract it is its bagging.
+pub struct Standard<H> {
+    bagging: Bagging,
+    of: PhantomData<H>,
+}
+
+impl<H> Model for Standard<H> {
+    ghost use Rattle.merkle_base.specs.declared.family.Bagging.{Bagging};
+
+    ghost Value = { Bagging };
+
+    ghost view = { λ s. s.bagging };
+}
+
+impl<H> Drop for Standard<H> {
+    fn drop(self) {
+        let Standard { bagging: _, of: _ } = self;
+    }
+}
+
+impl<H> Clone for Standard<H> {
+    ghost is_clone = { λ x y. y ≡ x };
+
+    ghost is_infallible = { λ _. ⊤ };
+
+    fn clone(&self) -> Result<Self, AllocError> {
+        Ok(Self::new(self.bagging))
+    }
+}
+
+impl<H> Standard<H> {
+    /// The hasher that folds peaks so.
+    pub fn new(bagging: Bagging) -> Self
+        ensures { result ≡ bagging }
+    {
+        Standard {
+            bagging,
+            of: PhantomData,
+        }
+    }
+
+    /// How the peaks are folded for a root.
+    pub fn root_bagging(&self) -> Bagging
+        ensures { result ≡ self.now }
+    {
+        self.bagging
+    }
+}
+
+impl<H: PlainHasher> Standard<H> {
+    /// The digest of the parts, one after another.
+    pub fn hash(&self, parts: &[&[u8]]) -> H::Digest
+        ensures { result ≡ H.digest_of (joined_parts parts.now) }
+    {
+        H::hash(parts)
+    }
+
+    /// The digest of bytes.
+    pub fn digest(&self, bytes: &[u8]) -> H::Digest
+        ensures { result ≡ H.digest_of bytes.now }
+    {
+        H::hash(&[bytes])
+    }
+}
+
+fn hash_both<H: PlainHasher>(
+    p: &[u8],
+    a: &[u8],
+    b: &[u8],
+    q: &[u8],
+    c: &[u8],
+    d: &[u8],
+) -> (H::Digest, H::Digest)
+    ensures first { result.0 ≡ H.digest_of (p.now ++ a.now ++ b.now) }
+    ensures second { result.1 ≡ H.digest_of (q.now ++ c.now ++ d.now) }
+{
+    H::hash_pair(&[p, a, b], &[q, c, d])
+}
+
+impl<F: Family, H: PlainHasher> Hasher<F> for Standard<H> {
+    type Digest = H::Digest;
+
+    ghost hashing = { λ _. standard H.digest_of H.Digest.bytes H.Digest.eq H.Digest.EMPTY };
+
+    ghost bagging_of = { λ s. s };
+
+    fn hash(&self, parts: &[&[u8]]) -> H::Digest {
+        Standard::hash(self, parts)
+    }
+
+    fn root_bagging(&self) -> Bagging {
+        Standard::root_bagging(self)
+    }
+
+    fn node_digest(&self, position: Position<F>, left: &H::Digest, right: &H::Digest) -> H::Digest
+        ensures { result ≡ (standard H.digest_of H.Digest.bytes H.Digest.eq H.Digest.EMPTY).node position left.now right.now }
+    {
+        H::hash(&[
+            &position.as_u64().to_be_bytes(),
+            left.as_bytes(),
+            right.as_bytes(),
+        ])
+    }
+
+    fn node_digest_pair(
+        &self,
+        nodes: [(Position<F>, H::Digest, H::Digest); 2],
+    ) -> (H::Digest, H::Digest)
+        ensures { let h = standard H.digest_of H.Digest.bytes H.Digest.eq H.Digest.EMPTY in (d : _) (e : _) → nodes ≡ d ∷ e ∷ [] → (result.0 ≡ h.node d.0 d.1 d.2) × (result.1 ≡ h.node e.0 e.1 e.2) }
+    {
+        let [(p, a, b), (q, c, d)] = nodes;
+        hash_both::<H>(
+            &p.as_u64().to_be_bytes(),
+            a.as_bytes(),
+            b.as_bytes(),
+            &q.as_u64().to_be_bytes(),
+            c.as_bytes(),
+            d.as_bytes(),
+        )
+    }
+
+    fn leaf_digest(&self, position: Position<F>, element: &[u8]) -> H::Digest
+        ensures { result ≡ (standard H.digest_of H.Digest.bytes H.Digest.eq H.Digest.EMPTY).leaf position element.now }
+    {
+        H::hash(&[&position.as_u64().to_be_bytes(), element])
+    }
+
+    fn digest(&self, bytes: &[u8]) -> H::Digest {
+        Standard::digest(self, bytes)
+    }
+
+    fn fold(&self, acc: &H::Digest, peak: &H::Digest) -> H::Digest {
+        H::hash(&[acc.as_bytes(), peak.as_bytes()])
+    }
+
+    ghost clone_keeps = { λ x y e. (refl, e) };
+
+    ghost over_digest = { λ x. record { bytes = refl; same = refl; empty = refl } };
+}
+
+impl<F: Family, T: Hasher<F>> Hasher<F> for &T {
+    type Digest = T::Digest;
+
+    ghost hashing = { λ s. T.hashing s.now };
+
+    ghost bagging_of = { λ s. T.bagging_of s.now };
+
+    fn hash(&self, parts: &[&[u8]]) -> T::Digest {
+        (**self).hash(parts)
+    }
+
+    fn root_bagging(&self) -> Bagging {
+        (**self).root_bagging()
+    }
+
+    fn node_digest(&self, position: Position<F>, left: &T::Digest, right: &T::Digest) -> T::Digest
+        ensures { result ≡ (T.hashing self.now.now).node position left.now right.now }
+    {
+        (**self).node_digest(position, left, right)
+    }
+
+    fn node_digest_pair(
+        &self,
+        nodes: [(Position<F>, T::Digest, T::Digest); 2],
+    ) -> (T::Digest, T::Digest)
+        ensures { (d : _) (e : _) → nodes ≡ d ∷ e ∷ [] → (result.0 ≡ (T.hashing self.now.now).node d.0 d.1 d.2) × (result.1 ≡ (T.hashing self.now.now).node e.0 e.1 e.2) }
+    {
+        (**self).node_digest_pair(nodes)
+    }
+
+    fn leaf_digest(&self, position: Position<F>, element: &[u8]) -> T::Digest
+        ensures { result ≡ (T.hashing self.now.now).leaf position element.now }
+    {
+        (**self).leaf_digest(position, element)
+    }
+
+    fn digest(&self, bytes: &[u8]) -> T::Digest {
+        T::digest(*self, bytes)
+    }
+
+    fn fold(&self, acc: &T::Digest, peak: &T::Digest) -> T::Digest {
+        (**self).fold(acc, peak)
+    }
+
+    ghost clone_keeps = { λ x y e. (ap (λ s. T.hashing s.now) e, ap (λ s. T.bagging_of s.now) e) };
+
+    ghost over_digest = { λ x. T.over_digest x.now };
+}

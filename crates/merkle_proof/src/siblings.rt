@@ -1,0 +1,87 @@
+//! The digests of nodes from those outside a range of leaves.
+ghost use Rattle.std.specs.Prelude.{◌≡◌, ◌+◌, ◌<◌, ◌≤◌, not, true, [], ◌++◌, length, map, IfOk, IfErr};
+ghost use Rattle.merkle_base.specs.Tree.{Tree, position};
+ghost use Rattle.merkle_hasher.specs.Subtrees.{Means};
+ghost use Rattle.merkle_proof.specs.Plan.{tree_meets, siblings};
+ghost use Rattle.merkle_proof.specs.Range.{in_range};
+ghost use Rattle.merkle_proof.specs.Walk.{bytes_of, leaf_from, IsWalked};
+
+use merkle_base::error::ReconstructionError;
+use merkle_base::family::Family;
+use merkle_base::location::Location;
+use merkle_base::position::Position;
+use merkle_hasher::hasher::Hasher;
+use merkle_hasher::subtree::Subtree;
+use std::alloc::AllocError;
+use std::ops::Range;
+
+// Whether no leaf of the range stands under a node.
+fn is_outside<F: Family>(subtree: &Subtree<F>, range: &Range<Location<F>>) -> bool
+    requires node { (t : Tree) × Means F.rule F.MAX_LEAVES subtree.now t }
+    requires some { range.now.start < range.now.end }
+    ensures { (t : Tree) → Means F.rule F.MAX_LEAVES subtree.now t → result ≡ not (tree_meets (in_range range.now.start range.now.end) t) }
+{
+    subtree.leaf_end() <= range.start || subtree.first_leaf >= range.end
+}
+
+// Whether each leaf of a node lies in the range.
+fn is_inside<F: Family>(subtree: &Subtree<F>, range: &Range<Location<F>>) -> bool
+    requires { (t : Tree) × Means F.rule F.MAX_LEAVES subtree.now t }
+    ensures { (t : Tree) → Means F.rule F.MAX_LEAVES subtree.now t → result ≡ true → siblings (in_range range.now.start range.now.end) t ≡ [] }
+{
+    subtree.first_leaf >= range.start && subtree.leaf_end() <= range.end
+}
+
+/// The digest of a node, from the elements of the range and the digests of the maximal nodes outside it, which are taken in
+/// order.
+pub(crate) fn reconstruct_digest<F: Family, H: Hasher<F>>(
+    subtree: &Subtree<F>,
+    hasher: &H,
+    range: &Range<Location<F>>,
+    elements: &[&[u8]],
+    digests: &mut &[H::Digest],
+) -> Result<H::Digest, ReconstructionError>
+    requires node { (t : Tree) × Means F.rule F.MAX_LEAVES subtree.now t }
+    requires some { range.now.start < range.now.end }
+    requires all { range.now.end ≤ range.now.start + length elements.now }
+    ensures ok { IfOk result (λ d. (t : Tree) → Means F.rule F.MAX_LEAVES subtree.now t → IsWalked (H.hashing hasher.now) (in_range range.now.start range.now.end) (leaf_from (H.hashing hasher.now) F.rule range.now.start (bytes_of elements.now)) t digests.old.now d digests.new.now) }
+    ensures err { IfErr result (λ e. (e ≡ ReconstructionError.MissingDigests) × ((t : Tree) → Means F.rule F.MAX_LEAVES subtree.now t → length digests.old.now < length (siblings (in_range range.now.start range.now.end) t))) }
+{
+    if is_outside(subtree, range) {
+        let Some((first, others)) = digests.split_first() else {
+            return Err(ReconstructionError::MissingDigests);
+        };
+        *digests = others;
+        return Ok(*first);
+    }
+    if subtree.height == 0 {
+        let index = subtree.first_leaf - range.start;
+        return Ok(hasher.leaf_digest(subtree.position, elements[index.as_u64() as usize]));
+    }
+    let (left, right) = subtree.children();
+    let left = reconstruct_digest(&left, hasher, range, elements, digests)?;
+    let right = reconstruct_digest(&right, hasher, range, elements, digests)?;
+    Ok(hasher.node_digest(subtree.position, &left, &right))
+}
+
+/// Appends the positions of the maximal nodes under a node outside the range, left to right.
+pub(crate) fn collect_siblings<F: Family>(
+    subtree: &Subtree<F>,
+    range: &Range<Location<F>>,
+    out: &mut Vec<Position<F>>,
+) -> Result<(), AllocError>
+    requires node { (t : Tree) × Means F.rule F.MAX_LEAVES subtree.now t }
+    requires some { range.now.start < range.now.end }
+    ensures { IfOk result (λ _. (t : Tree) → Means F.rule F.MAX_LEAVES subtree.now t → out.new.items ≡ out.old.items ++ map position (siblings (in_range range.now.start range.now.end) t)) }
+{
+    if is_outside(subtree, range) {
+        out.push(subtree.position)?;
+        return Ok(());
+    }
+    if subtree.height == 0 || is_inside(subtree, range) {
+        return Ok(());
+    }
+    let (left, right) = subtree.children();
+    collect_siblings(&left, range, out)?;
+    collect_siblings(&right, range, out)
+}
