@@ -18,11 +18,11 @@ use Rattle.merkle_base.proofs.Lookup.{peak_node}
 use Rattle.merkle_base.proofs.Paths.{leaf_under, peak_holding}
 use Rattle.merkle_base.proofs.PeakLists.{Spans, covers_spans, all_reverse}
 use Rattle.merkle_batch.specs.Refreshed.{touched_leaves, HasLeavesOf}
-use Rattle.merkle_batches.proofs.Items.{get_reverse}
+use Rattle.merkle_batch_theory.proofs.Items.{get_reverse}
 use Rattle.merkle_batch.proofs.RefreshedDigests.{or_left_some, or_right_some, cond_yes, cond_no}
 use Rattle.merkle_batch.proofs.RefreshedPeaks.{after_start}
 use Rattle.merkle_batch.proofs.Touched.{leaf_touched, leaf_untouched, Between, touched_between}
-use Rattle.merkle_batches.proofs.OptionFacts.{none_or_some}
+use Rattle.merkle_batch_theory.proofs.OptionFacts.{none_or_some}
 use Rattle.merkle_base.proofs.Nodes.{all_append}
 use Rattle.merkle_base.proofs.Lists.{all_imply}
 

@@ -2,9 +2,9 @@
 use Rattle.std.proofs.Common.{◌≡◌}
 use Rattle.std.specs.FinMap.{get}
 use Rattle.std.specs.Option.{option_or}
-use Rattle.merkle_batches.specs.Contents.{Contents}
+use Rattle.merkle_batch_theory.specs.Contents.{Contents}
 use Rattle.merkle_batch.specs.DraftReads.{Drafted, old_node, OnlyAppends}
-use Rattle.merkle_batches.specs.Read.{read_over}
+use Rattle.merkle_batch_theory.specs.Read.{read_over}
 
 module _ {D : Type 0} where
   -- what is read at old positions stays when nodes are appended

@@ -13,25 +13,25 @@ use Rattle.merkle_base.specs.Digests.{digest_at, node_digests, peak_digests}
 use Rattle.merkle_base.specs.Places.{peaks_of}
 use Rattle.merkle_base.proofs.Births.{leaf_at}
 use Rattle.merkle_base.proofs.Nodes.{node_built, size_inj}
-use Rattle.merkle_batches.specs.Contents.{Contents, AgreesWithOne}
-use Rattle.merkle_batches.specs.Missing.{IsMissing}
-use Rattle.merkle_batches.specs.Pending.{IsPending, Pending, kept, kept_lists, leaf_total, pending_list}
-use Rattle.merkle_batches.specs.Read.{read_over}
-use Rattle.merkle_batches.specs.Recorded.{Recorded, records}
+use Rattle.merkle_batch_theory.specs.Contents.{Contents, AgreesWithOne}
+use Rattle.merkle_batch_theory.specs.Missing.{IsMissing}
+use Rattle.merkle_batch_theory.specs.Pending.{IsPending, Pending, kept, kept_lists, leaf_total, pending_list}
+use Rattle.merkle_batch_theory.specs.Read.{read_over}
+use Rattle.merkle_batch_theory.specs.Recorded.{Recorded, records}
 use Rattle.merkle_batch.specs.Refreshed.{AreRefreshed, HasLeavesOf, all_computed_at, refreshed}
-use Rattle.merkle_batches.specs.Replay.{over}
-use Rattle.merkle_batches.specs.Needed.{IsNeeded}
-use Rattle.merkle_batches.specs.Stands.{is_touched, replaced, IsStep, StandsOn, last_list}
-use Rattle.merkle_batches.specs.Truth.{LeavesAre, ReadsTrue}
-use Rattle.merkle_batches.proofs.Complete.{none_missing}
-use Rattle.merkle_batches.proofs.Forking.{kept_stands, last_size, stands_more}
-use Rattle.merkle_batches.proofs.ListTruths.{truth_of, truth_leaves}
-use Rattle.merkle_batches.proofs.Makings.{changed, changed_length, changed_old, step_is}
+use Rattle.merkle_batch_theory.specs.Replay.{over}
+use Rattle.merkle_batch_theory.specs.Needed.{IsNeeded}
+use Rattle.merkle_batch_theory.specs.Stands.{is_touched, replaced, IsStep, StandsOn, last_list}
+use Rattle.merkle_batch_theory.specs.Truth.{LeavesAre, ReadsTrue}
+use Rattle.merkle_batch_theory.proofs.Complete.{none_missing}
+use Rattle.merkle_batch_theory.proofs.Forking.{kept_stands, last_size, stands_more}
+use Rattle.merkle_batch_theory.proofs.ListTruths.{truth_of, truth_leaves}
+use Rattle.merkle_batch_theory.proofs.Makings.{changed, changed_length, changed_old, step_is}
 use Rattle.merkle_batch.proofs.NewDigests.{new_digest, new_digest_past, new_digest_some}
 use Rattle.merkle_batch.proofs.OldNodes.{old_digest, old_reads}
-use Rattle.merkle_batches.proofs.Steps.{node_digest_at, replaced_length}
-use Rattle.merkle_batches.proofs.Through.{read_right}
-use Rattle.merkle_batches.proofs.OptionFacts.{none_of, over_none}
+use Rattle.merkle_batch_theory.proofs.Steps.{node_digest_at, replaced_length}
+use Rattle.merkle_batch_theory.proofs.Through.{read_right}
+use Rattle.merkle_batch_theory.proofs.OptionFacts.{none_of, over_none}
 use Rattle.merkle_base.proofs.Lists.{get_exists}
 
 over_new : {D : Type 0} (d : D) (o : Option D) (x : D) → o ≡ Some x → over (Some d) o ≡ Some d

@@ -13,15 +13,15 @@ use Rattle.merkle_base.proofs.Lookup.{peak_node}
 use Rattle.merkle_base.proofs.Nodes.{node_built, node_stays, node_anywhere, built_under, peak_of}
 use Rattle.merkle_batch.specs.Drafts.{AreChildrenRead, LacksChild}
 use Rattle.merkle_batch.specs.DraftReads.{ArePeaksRead, IsPeakGap}
-use Rattle.merkle_batches.specs.Needed.{IsChanged, IsNeeded}
+use Rattle.merkle_batch_theory.specs.Needed.{IsChanged, IsNeeded}
 use Rattle.merkle_batch.specs.Refreshed.{AreRefreshed, LacksForOne, refreshed}
-use Rattle.merkle_batches.specs.Stands.{is_touched}
+use Rattle.merkle_batch_theory.specs.Stands.{is_touched}
 use Rattle.merkle_batch.specs.declared.gap.Gap.{Gap}
 use Rattle.merkle_batch.specs.declared.gap.Gap.TheVariants.{Missing}
-use Rattle.merkle_batches.proofs.Items.{get_reverse, get_reversed}
+use Rattle.merkle_batch_theory.proofs.Items.{get_reverse, get_reversed}
 use Rattle.merkle_batch.proofs.RefreshedDigests.{read_is_child, read_is_untouched, read_child, refreshed_reads, touched_above, some_of}
 use Rattle.merkle_base.proofs.Cases.{by_test}
-use Rattle.merkle_batches.proofs.OptionFacts.{both_none}
+use Rattle.merkle_batch_theory.proofs.OptionFacts.{both_none}
 
 -- it names a needed node that is not there
 abbrev pub NeededGap : {F D : Type 0} → (List ℕ → List ℕ) → ℕ → ℕ → (m below : ℕ → Option D) → Gap F → Type 0

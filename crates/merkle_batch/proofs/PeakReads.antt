@@ -6,7 +6,7 @@ use Rattle.merkle_base.specs.Places.{peaks_of, placed}
 use Rattle.merkle_batch.specs.DraftReads.{ArePeaksRead, IsPeakGap}
 use Rattle.merkle_batch.specs.Gaps.{IsGapAt}
 use Rattle.merkle_batch.specs.declared.gap.Gap.{Gap}
-use Rattle.merkle_batches.proofs.Kept.{get_map, get_mapped}
+use Rattle.merkle_batch_theory.proofs.Kept.{get_map, get_mapped}
 use Rattle.merkle_base.proofs.Lists.{get_push}
 
 -- of these peaks those before position s are read

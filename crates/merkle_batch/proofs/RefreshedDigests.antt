@@ -15,11 +15,11 @@ use Rattle.merkle_base.proofs.Births.{all_get}
 use Rattle.merkle_base.proofs.Nodes.{built_under, peak_of}
 use Rattle.merkle_base.proofs.Paths.{position_under}
 use Rattle.merkle_base.proofs.PeakLists.{peaks_built}
-use Rattle.merkle_batches.specs.Stands.{is_touched}
+use Rattle.merkle_batch_theory.specs.Stands.{is_touched}
 use Rattle.merkle_batch.specs.Drafts.{IsReadFor}
 use Rattle.merkle_batch.specs.Refreshed.{of_both, refreshed, computed_at, all_computed_at, AreRefreshed}
-use Rattle.merkle_batches.proofs.Items.{get_reverse}
-use Rattle.merkle_batches.proofs.OptionFacts.{none_of, none_or_some, or_second}
+use Rattle.merkle_batch_theory.proofs.Items.{get_reverse}
+use Rattle.merkle_batch_theory.proofs.OptionFacts.{none_of, none_or_some, or_second}
 
 -- ---- options
 pub some_of : {D : Type 0} (o : Option D) → is_some o ≡ true → (d : D) × (o ≡ Some d)

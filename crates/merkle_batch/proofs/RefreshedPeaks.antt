@@ -20,12 +20,12 @@ use Rattle.merkle_hasher.specs.Subtrees.{Stands, AreNodes}
 use Rattle.merkle_hasher.proofs.PeakNodes.{peaks_at}
 use Rattle.merkle_batch.specs.declared.gap.Gap.{Gap}
 use Rattle.merkle_batch.specs.declared.gap.Gap.TheVariants.{OutOfMemory}
-use Rattle.merkle_batches.specs.Stands.{is_touched}
+use Rattle.merkle_batch_theory.specs.Stands.{is_touched}
 use Rattle.merkle_batch.specs.Drafts.{LacksFor}
 use Rattle.merkle_batch.specs.Refreshed.{refreshed, computed_at, all_computed_at, touched_leaves, are_before, AreRefreshed, LacksForOne}
 use Rattle.merkle_batch.proofs.Refreshing.{none_computed}
 use Rattle.merkle_batch.proofs.Touched.{none_touched, not_touched, Between, touched_between, all_before, split_parts}
-use Rattle.merkle_batches.proofs.OptionFacts.{or_nothing, or_assoc}
+use Rattle.merkle_batch_theory.proofs.OptionFacts.{or_nothing, or_assoc}
 
 pub zero_yes : (n : ℕ) (b : Bool) → b ≡ (n == 0) → b ≡ true → n ≡ 0
 zero_yes n b e f = elim (eqb_tells n 0) [ inl s ↦ s.1 | inr s ↦ absurd (true≢false (sym f ∙ e ∙ s.0)) ]

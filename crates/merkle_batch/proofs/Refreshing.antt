@@ -15,16 +15,16 @@ use Rattle.merkle_hasher.specs.Subtrees.{Means}
 use Rattle.merkle_hasher.specs.declared.subtree.Subtree.{Subtree}
 use Rattle.merkle_batch.specs.declared.gap.Gap.{Gap}
 use Rattle.merkle_batch.specs.declared.gap.Gap.TheVariants.{Missing, OutOfMemory}
-use Rattle.merkle_batches.specs.Contents.{Contents}
-use Rattle.merkle_batches.specs.Read.{read_over}
-use Rattle.merkle_batches.specs.Stands.{is_touched}
+use Rattle.merkle_batch_theory.specs.Contents.{Contents}
+use Rattle.merkle_batch_theory.specs.Read.{read_over}
+use Rattle.merkle_batch_theory.specs.Stands.{is_touched}
 use Rattle.merkle_batch.specs.Drafts.{LacksFor}
 use Rattle.merkle_batch.specs.DraftReads.{Drafted, below, OnlyOverwrites}
 use Rattle.merkle_batch.specs.Refreshed.{of_both, refreshed, computed_at, touched_leaves, are_before}
 use Rattle.merkle_batch.proofs.RefreshedDigests.{refreshed_touched, refreshed_untouched, computed_touched, computed_untouched, read_itself}
 use Rattle.merkle_batch.proofs.Touched.{none_touched, not_touched, before_right, split_parts}
-use Rattle.merkle_batches.proofs.OptionFacts.{or_assoc}
-use Rattle.merkle_batches.proofs.MapFacts.{inserted_at}
+use Rattle.merkle_batch_theory.proofs.OptionFacts.{or_assoc}
+use Rattle.merkle_batch_theory.proofs.MapFacts.{inserted_at}
 
 pub on_ok_always : {T E : Type 0} {P : Type 0} (r : Result T E) → P → OnOk r P
 on_ok_always (Ok x) p = p

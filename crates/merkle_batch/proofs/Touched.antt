@@ -8,10 +8,10 @@ use Rattle.merkle_base.specs.Tree.{Tree, leaf, join, first_leaf, width, IsBuilt}
 use Rattle.merkle_base.specs.Forest.{forest, size}
 use Rattle.merkle_base.proofs.Births.{leaf_at}
 use Rattle.merkle_base.proofs.Nodes.{size_le, size_step, all_append}
-use Rattle.merkle_batches.specs.Stands.{is_touched}
+use Rattle.merkle_batch_theory.specs.Stands.{is_touched}
 use Rattle.merkle_batch.specs.Refreshed.{touched_leaves, are_before}
 use Rattle.merkle_batch.proofs.Befores.{before_none, before_here}
-use Rattle.merkle_batches.proofs.OptionFacts.{none_of, none_or_some}
+use Rattle.merkle_batch_theory.proofs.OptionFacts.{none_of, none_or_some}
 use Rattle.merkle_base.proofs.Lists.{all_imply}
 
 pub both_empty : {X : Type 0} (xs ys : List X) → xs ++ ys ≡ [] → (xs ≡ []) × (ys ≡ [])

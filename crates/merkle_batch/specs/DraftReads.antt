@@ -6,10 +6,10 @@ use Rattle.std.specs.Coded.{Coded, code_by, coded×, coded_ℕ, coded_list}
 use Rattle.std.specs.Option.{option_or}
 use Rattle.merkle_base.specs.Tree.{Tree, position}
 use Rattle.merkle_base.specs.Places.{peaks_of}
-use Rattle.merkle_batches.specs.Contents.{Contents}
+use Rattle.merkle_batch_theory.specs.Contents.{Contents}
 use Rattle.merkle_batch.specs.Gaps.{IsGapAt}
-use Rattle.merkle_batches.specs.Read.{read_over}
-use Rattle.merkle_batches.specs.Recorded.{Chain, Recorded, recorded_code}
+use Rattle.merkle_batch_theory.specs.Read.{read_over}
+use Rattle.merkle_batch_theory.specs.Recorded.{Chain, Recorded, recorded_code}
 use Rattle.merkle_batch.specs.declared.gap.Gap.{Gap}
 
 -- a batch in the making

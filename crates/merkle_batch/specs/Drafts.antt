@@ -4,7 +4,7 @@ use Rattle.merkle_base.specs.Tree.{Tree, leaf, join, position}
 use Rattle.merkle_base.specs.Forest.{forest}
 use Rattle.merkle_batch.specs.Gaps.{IsGapAt}
 use Rattle.merkle_batch.specs.declared.gap.Gap.{Gap}
-use Rattle.merkle_batches.specs.Stands.{is_touched}
+use Rattle.merkle_batch_theory.specs.Stands.{is_touched}
 
 -- u is what is read for the node t: t itself if no leaf under it has a new digest, and else what is read for its children
 abbrev pub IsReadFor : {D : Type 0} → (ℕ → Option D) → Tree → Tree → Type 0

@@ -6,7 +6,7 @@ use Rattle.merkle_batch.specs.declared.gap.Gap.{Gap}
 use Rattle.std.specs.Option.{option_or}
 use Rattle.merkle_base.specs.Tree.{Tree, leaf, join}
 use Rattle.merkle_base.specs.Hashing.{Hashing}
-use Rattle.merkle_batches.specs.Stands.{is_touched}
+use Rattle.merkle_batch_theory.specs.Stands.{is_touched}
 
 -- f of two, where there are both
 abbrev pub of_both : {D : Type 0} → (D → D → D) → Option D → Option D → Option D

@@ -1,7 +1,7 @@
 //! What batches are forked from.
 ghost use Rattle.std.specs.Prelude.{◌≡◌, ◌≤◌, ℕ, IfOk};
 ghost use Rattle.merkle_base.specs.Forest.{size};
-ghost use Rattle.merkle_batches.specs.Contents.{Contents, held_peaks};
+ghost use Rattle.merkle_batch_theory.specs.Contents.{Contents, held_peaks};
 
 use merkle_base::digest::Digest;
 use merkle_base::family::Family;

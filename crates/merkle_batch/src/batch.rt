@@ -7,12 +7,12 @@ ghost use Rattle.std.specs.FinMap.{empty, get};
 ghost use Rattle.merkle_base.specs.Forest.{size};
 ghost use Rattle.merkle_base.specs.Hashing.{Hashing};
 ghost use Rattle.merkle_base.specs.Tree.{Tree, position};
-ghost use Rattle.merkle_batches.specs.Contents.{AgreesWithOne};
-ghost use Rattle.merkle_batches.specs.Missing.{IsMissing};
-ghost use Rattle.merkle_batches.specs.Pending.{Fault, first_fault, forked, kept, kept_lists, leaf_total, pending_list, update_fault, with_leaf, with_leaves, with_update, with_updates, without_ancestors};
-ghost use Rattle.merkle_batches.specs.Recorded.{after, records};
-ghost use Rattle.merkle_batches.specs.Refusals.{fault_error};
-ghost use Rattle.merkle_batches.specs.Stands.{StandsOn, last_list};
+ghost use Rattle.merkle_batch_theory.specs.Contents.{AgreesWithOne};
+ghost use Rattle.merkle_batch_theory.specs.Missing.{IsMissing};
+ghost use Rattle.merkle_batch_theory.specs.Pending.{Fault, first_fault, forked, kept, kept_lists, leaf_total, pending_list, update_fault, with_leaf, with_leaves, with_update, with_updates, without_ancestors};
+ghost use Rattle.merkle_batch_theory.specs.Recorded.{after, records};
+ghost use Rattle.merkle_batch_theory.specs.Refusals.{fault_error};
+ghost use Rattle.merkle_batch_theory.specs.Stands.{StandsOn, last_list};
 
 use crate::base::Base;
 use crate::draft::Draft;
@@ -48,7 +48,7 @@ pub struct UnmerkleizedBatch<F: Family, D: Digest> {
 
 impl<F: Family, D: Digest> Model for UnmerkleizedBatch<F, D> {
     ghost use Rattle.std.specs.FinMap.{from_entries};
-    ghost use Rattle.merkle_batches.specs.Pending.{IsPending, Pending, pending_code};
+    ghost use Rattle.merkle_batch_theory.specs.Pending.{IsPending, Pending, pending_code};
 
     ghost Value = { Pending D };
 

@@ -5,13 +5,13 @@ ghost use Rattle.std.specs.Rc.{rc_slice_items};
 ghost use Rattle.merkle_base.specs.Forest.{size};
 ghost use Rattle.merkle_base.specs.Places.{HasInner, peak_positions, peaks_of};
 ghost use Rattle.merkle_base.specs.Tree.{Tree, position};
-ghost use Rattle.merkle_batches.specs.Contents.{Contents};
+ghost use Rattle.merkle_batch_theory.specs.Contents.{Contents};
 ghost use Rattle.merkle_batch.specs.Drafts.{AreChildrenRead, LacksChild};
 ghost use Rattle.merkle_batch.specs.DraftReads.{below, finished, old_node, OnlyAppends, IsPeakGap, ArePeaksRead};
-ghost use Rattle.merkle_batches.specs.Linked.{IsLinked};
-ghost use Rattle.merkle_batches.specs.Pending.{is_changed};
-ghost use Rattle.merkle_batches.specs.Recorded.{after};
-ghost use Rattle.merkle_batches.specs.Truth.{IsTruth, LeavesAre, ReadsTrue, truths};
+ghost use Rattle.merkle_batch_theory.specs.Linked.{IsLinked};
+ghost use Rattle.merkle_batch_theory.specs.Pending.{is_changed};
+ghost use Rattle.merkle_batch_theory.specs.Recorded.{after};
+ghost use Rattle.merkle_batch_theory.specs.Truth.{IsTruth, LeavesAre, ReadsTrue, truths};
 
 use crate::base::Base;
 use crate::batch::MerkleizedBatch;

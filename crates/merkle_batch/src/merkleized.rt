@@ -6,12 +6,12 @@ ghost use Rattle.merkle_base.specs.Forest.{size};
 ghost use Rattle.merkle_base.specs.Hashing.{Hashing};
 ghost use Rattle.merkle_base.specs.Places.{peaks_of};
 ghost use Rattle.merkle_base.specs.Root.{list_root, peaks_root};
-ghost use Rattle.merkle_batches.specs.Contents.{Agrees};
-ghost use Rattle.merkle_batches.specs.Pending.{forked};
-ghost use Rattle.merkle_batches.specs.Read.{newest};
-ghost use Rattle.merkle_batches.specs.Recorded.{after, records};
-ghost use Rattle.merkle_batches.specs.Roots.{root_batch};
-ghost use Rattle.merkle_batches.specs.Stands.{StandsOn, last_list};
+ghost use Rattle.merkle_batch_theory.specs.Contents.{Agrees};
+ghost use Rattle.merkle_batch_theory.specs.Pending.{forked};
+ghost use Rattle.merkle_batch_theory.specs.Read.{newest};
+ghost use Rattle.merkle_batch_theory.specs.Recorded.{after, records};
+ghost use Rattle.merkle_batch_theory.specs.Roots.{root_batch};
+ghost use Rattle.merkle_batch_theory.specs.Stands.{StandsOn, last_list};
 
 use crate::base::Base;
 use crate::batch::UnmerkleizedBatch;
@@ -47,8 +47,8 @@ pub struct MerkleizedBatch<F: Family, D: Digest> {
 
 impl<F: Family, D: Digest> Model for MerkleizedBatch<F, D> {
     ghost use Rattle.std.specs.Prelude.{map};
-    ghost use Rattle.merkle_batches.specs.Linked.{IsLinked};
-    ghost use Rattle.merkle_batches.specs.Recorded.{Chain, chain_code};
+    ghost use Rattle.merkle_batch_theory.specs.Linked.{IsLinked};
+    ghost use Rattle.merkle_batch_theory.specs.Recorded.{Chain, chain_code};
 
     ghost Value = { Chain D };
 

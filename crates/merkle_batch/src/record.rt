@@ -1,8 +1,8 @@
 //! Records of batches: what each changed, and the states before and after it.
 ghost use Rattle.std.specs.Prelude.{◌≡◌, ℕ, List, Option, map, not};
-ghost use Rattle.merkle_batches.specs.Pending.{is_changed};
-ghost use Rattle.merkle_batches.specs.Read.{newest, written};
-ghost use Rattle.merkle_batches.specs.Recorded.{after};
+ghost use Rattle.merkle_batch_theory.specs.Pending.{is_changed};
+ghost use Rattle.merkle_batch_theory.specs.Read.{newest, written};
+ghost use Rattle.merkle_batch_theory.specs.Recorded.{after};
 
 use crate::overwrites::Overwrites;
 use merkle_base::digest::Digest;
@@ -25,7 +25,7 @@ pub struct Record<F: Family, D: Digest> {
 impl<F: Family, D: Digest> Model for Record<F, D> {
     ghost use Rattle.std.specs.Prelude.{◌+◌, ◌<◌, ◌^◌, length};
     ghost use Rattle.std.specs.Rc.{rc_slice_items};
-    ghost use Rattle.merkle_batches.specs.Recorded.{Recorded, recorded_code};
+    ghost use Rattle.merkle_batch_theory.specs.Recorded.{Recorded, recorded_code};
 
     ghost Value = { Recorded D };
 

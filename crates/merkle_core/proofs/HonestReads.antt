@@ -12,8 +12,8 @@ use Rattle.merkle_base.proofs.Lookup.{size_zero}
 use Rattle.merkle_hasher.specs.Subtrees.{AreNodes}
 use Rattle.merkle_base.specs.declared.family.Bagging.{Bagging}
 use Rattle.merkle_proof.specs.RangePlans.{LeafRange, AnswersList, IsRefusal, IsBuildRefusal}
-use Rattle.merkle_batches.specs.Contents.{Contents, Agrees, is_kept}
-use Rattle.merkle_batches.proofs.Kept.{get_map}
+use Rattle.merkle_batch_theory.specs.Contents.{Contents, Agrees, is_kept}
+use Rattle.merkle_batch_theory.proofs.Kept.{get_map}
 
 some_is : {X : Type 0} (x y : X) → Some x ≡ Some y → x ≡ y
 some_is x y e = cc

@@ -20,12 +20,12 @@ use Rattle.merkle_proof.specs.RangePlans.{IsBuildRefusal, IsFirstMissing, nodes_
 use Rattle.merkle_proof.proofs.BuiltDigests.{reads_at}
 use Rattle.merkle_proof.proofs.Extraction.{all_filter}
 use Rattle.merkle_proof.proofs.ReadingOrder.{all_reading_order}
-use Rattle.merkle_batches.specs.Contents.{Contents, Agrees, is_kept}
+use Rattle.merkle_batch_theory.specs.Contents.{Contents, Agrees, is_kept}
 use Rattle.merkle_batch.proofs.NodePositions.{position_of_node}
 use Rattle.merkle_core.proofs.HonestReads.{is_memory}
-use Rattle.merkle_batches.proofs.Items.{get_reversed}
-use Rattle.merkle_batches.proofs.Kept.{get_map}
-use Rattle.merkle_batches.proofs.Needs.{sibling_kept, peaks_kept}
+use Rattle.merkle_batch_theory.proofs.Items.{get_reversed}
+use Rattle.merkle_batch_theory.proofs.Kept.{get_map}
+use Rattle.merkle_batch_theory.proofs.Needs.{sibling_kept, peaks_kept}
 use Rattle.merkle_base.proofs.Cases.{by_test}
 use Rattle.merkle_base.proofs.Lists.{all_from_get}
 use Rattle.merkle_base.proofs.PeakLists.{peaks_built}

@@ -3,18 +3,18 @@ ghost use Rattle.std.specs.Prelude.{◌≡◌, ◌≢◌, ◌+◌, ◌<◌, ◌�
 ghost use Rattle.merkle_base.specs.Places.{ArePeaks, peaks_of};
 ghost use Rattle.merkle_base.specs.Forest.{size};
 ghost use Rattle.merkle_base.specs.Root.{list_root, peaks_root};
-ghost use Rattle.merkle_batches.specs.Store.{node, contents, whole_store};
+ghost use Rattle.merkle_batch_theory.specs.Store.{node, contents, whole_store};
 ghost use Rattle.merkle_base.specs.Hashing.{Hashing, TellsApart};
-ghost use Rattle.merkle_batches.specs.Collision.{CollidesWithOne};
-ghost use Rattle.merkle_batches.specs.Contents.{Agrees, held_peaks};
-ghost use Rattle.merkle_batches.specs.Pending.{forked};
-ghost use Rattle.merkle_batches.specs.Roots.{root_batch};
+ghost use Rattle.merkle_batch_theory.specs.Collision.{CollidesWithOne};
+ghost use Rattle.merkle_batch_theory.specs.Contents.{Agrees, held_peaks};
+ghost use Rattle.merkle_batch_theory.specs.Pending.{forked};
+ghost use Rattle.merkle_batch_theory.specs.Roots.{root_batch};
 ghost use Rattle.std.specs.FinMap.{empty};
 ghost use Rattle.std.specs.Map.{lookup};
-ghost use Rattle.merkle_batches.specs.Recorded.{records};
-ghost use Rattle.merkle_batches.specs.Stands.{StandsOn, last_list};
-ghost use Rattle.merkle_batches.specs.Replay.{applied, matched, refusal};
-ghost use Rattle.merkle_batches.specs.Refusals.{error_of};
+ghost use Rattle.merkle_batch_theory.specs.Recorded.{records};
+ghost use Rattle.merkle_batch_theory.specs.Stands.{StandsOn, last_list};
+ghost use Rattle.merkle_batch_theory.specs.Replay.{applied, matched, refusal};
+ghost use Rattle.merkle_batch_theory.specs.Refusals.{error_of};
 ghost use Rattle.merkle_core.specs.ProofRefusals.{IsProofRefusal, IsRangeRefusal};
 ghost use Rattle.merkle_proof.specs.Input.{setting};
 ghost use Rattle.merkle_proof.specs.Range.{IsHonestRange};
@@ -68,13 +68,13 @@ pub struct Mem<F: Family, D: Digest> {
 
 impl<F: Family, D: Digest> Model for Mem<F, D> {
     ghost use Rattle.std.specs.Prelude.{◌+◌, length};
-    ghost use Rattle.merkle_batches.specs.Store.{Store, store_code, stored_of};
+    ghost use Rattle.merkle_batch_theory.specs.Store.{Store, store_code, stored_of};
 
     ghost Value = { Store D };
 
     ghost coded = { store_code D.code };
 
-    ghost use Rattle.merkle_batches.specs.Whole.{IsKept};
+    ghost use Rattle.merkle_batch_theory.specs.Whole.{IsKept};
 
     ghost view = { λ m. record { boundary = m.boundary; size = m.start + length m.nodes.items; stored = stored_of m.pins.items m.start m.nodes.items } };
 

@@ -3,10 +3,10 @@ ghost use Rattle.std.specs.Prelude.{◌≡◌, ◌≢◌, ◌+◌, ◌<◌, ◌�
 ghost use Rattle.merkle_base.specs.Forest.{size};
 ghost use Rattle.merkle_base.specs.Hashing.{Hashing};
 ghost use Rattle.merkle_base.specs.Places.{IsSize, peak_positions};
-ghost use Rattle.merkle_batches.specs.Contents.{Agrees, pruned};
-ghost use Rattle.merkle_batches.specs.Held.{paired};
-ghost use Rattle.merkle_batches.specs.HeldPeaks.{pins_of};
-ghost use Rattle.merkle_batches.specs.Store.{contents, stored_of};
+ghost use Rattle.merkle_batch_theory.specs.Contents.{Agrees, pruned};
+ghost use Rattle.merkle_batch_theory.specs.Held.{paired};
+ghost use Rattle.merkle_batch_theory.specs.HeldPeaks.{pins_of};
+ghost use Rattle.merkle_batch_theory.specs.Store.{contents, stored_of};
 
 use crate::mem::Mem;
 use merkle_base::digest::Digest;

@@ -3,8 +3,8 @@ ghost use Rattle.std.specs.Prelude.{◌≡◌, ◌+◌, ◌-◌, ◌<◌, ◌≤
 ghost use Rattle.std.specs.FinMap.{get};
 ghost use Rattle.std.specs.Map.{lookup};
 ghost use Rattle.std.specs.VecDeque.{deque_len, deque_capacity};
-ghost use Rattle.merkle_batches.specs.Held.{stored_at, total_appended, held_contents};
-ghost use Rattle.merkle_batches.specs.Replay.{all_laid, laid, over};
+ghost use Rattle.merkle_batch_theory.specs.Held.{stored_at, total_appended, held_contents};
+ghost use Rattle.merkle_batch_theory.specs.Replay.{all_laid, laid, over};
 
 use merkle_base::digest::Digest;
 use merkle_base::family::Family;

@@ -5,16 +5,16 @@ use Rattle.std.specs.Ordering.{nat_cmp}
 use Rattle.std.specs.FinMap.{get, empty, get-empty, len-empty}
 use Rattle.merkle_base.specs.Forest.{size}
 use Rattle.merkle_base.specs.Hashing.{Hashing, TellsApart}
-use Rattle.merkle_batches.specs.Contents.{Contents, Agrees, AgreesWithOne, held_peaks}
-use Rattle.merkle_batches.specs.Pending.{Pending, is_changed, kept, kept_lists, leaf_total, pending_list, with_leaf}
-use Rattle.merkle_batches.specs.Recorded.{Chain, records}
-use Rattle.merkle_batches.specs.Replay.{Refusal, applied, begins_at, ends_at, all_laid, last_match, matched, oldest, refusal}
-use Rattle.merkle_batches.specs.Roots.{root_batch}
-use Rattle.merkle_batches.specs.Stands.{StandsOn, replaced}
-use Rattle.merkle_batches.specs.Store.{Store, contents}
-use Rattle.merkle_batches.proofs.Agreed.{agree_all}
-use Rattle.merkle_batches.proofs.Matching.{accepts}
-use Rattle.merkle_batches.proofs.RootBatch.{root_stands}
+use Rattle.merkle_batch_theory.specs.Contents.{Contents, Agrees, AgreesWithOne, held_peaks}
+use Rattle.merkle_batch_theory.specs.Pending.{Pending, is_changed, kept, kept_lists, leaf_total, pending_list, with_leaf}
+use Rattle.merkle_batch_theory.specs.Recorded.{Chain, records}
+use Rattle.merkle_batch_theory.specs.Replay.{Refusal, applied, begins_at, ends_at, all_laid, last_match, matched, oldest, refusal}
+use Rattle.merkle_batch_theory.specs.Roots.{root_batch}
+use Rattle.merkle_batch_theory.specs.Stands.{StandsOn, replaced}
+use Rattle.merkle_batch_theory.specs.Store.{Store, contents}
+use Rattle.merkle_batch_theory.proofs.Agreed.{agree_all}
+use Rattle.merkle_batch_theory.proofs.Matching.{accepts}
+use Rattle.merkle_batch_theory.proofs.RootBatch.{root_stands}
 use Rattle.merkle_lines.specs.Answers.{leaf_digests}
 use Rattle.merkle_lines.specs.Held.{adding}
 

@@ -5,13 +5,13 @@ use Rattle.std.specs.FinMap.{empty, get}
 use Rattle.merkle_base.specs.Forest.{size}
 use Rattle.merkle_base.specs.Hashing.{Hashing, TellsApart}
 use Rattle.merkle_base.proofs.Nodes.{size_inj}
-use Rattle.merkle_batches.specs.Contents.{Agrees, AgreesWithOne, held_peaks}
-use Rattle.merkle_batches.specs.Pending.{Pending, forked, kept, kept_lists, leaf_total, pending_list, with_leaf}
-use Rattle.merkle_batches.specs.Recorded.{Chain, records}
-use Rattle.merkle_batches.specs.Replay.{applied, matched}
-use Rattle.merkle_batches.specs.Roots.{root_batch}
-use Rattle.merkle_batches.specs.Stands.{StandsOn, last_list}
-use Rattle.merkle_batches.specs.Store.{Store, contents}
+use Rattle.merkle_batch_theory.specs.Contents.{Agrees, AgreesWithOne, held_peaks}
+use Rattle.merkle_batch_theory.specs.Pending.{Pending, forked, kept, kept_lists, leaf_total, pending_list, with_leaf}
+use Rattle.merkle_batch_theory.specs.Recorded.{Chain, records}
+use Rattle.merkle_batch_theory.specs.Replay.{applied, matched}
+use Rattle.merkle_batch_theory.specs.Roots.{root_batch}
+use Rattle.merkle_batch_theory.specs.Stands.{StandsOn, last_list}
+use Rattle.merkle_batch_theory.specs.Store.{Store, contents}
 use Rattle.merkle_lines.specs.Answers.{Given, all_committed, count, leaf_digests, with_element, without_added}
 use Rattle.merkle_lines.specs.Held.{adding, Adds, IsHeld}
 use Rattle.merkle_lines.proofs.Additions.{adding_accepted, adding_agrees, adding_applied, adding_one, adding_stands, adding_total, leaf_digests_count, leaf_digests_joined, updates_nothing}

@@ -12,7 +12,7 @@ use Rattle.merkle_base.specs.Root.{list_root}
 use Rattle.merkle_base.specs.declared.error.Error.{Error}
 use Rattle.merkle_base.specs.declared.error.Error.TheVariants as error
 use Rattle.merkle_core.specs.declared.family.Bagging.{Bagging}
-use Rattle.merkle_batches.specs.Store.{Store}
+use Rattle.merkle_batch_theory.specs.Store.{Store}
 use Rattle.merkle_base.proofs.Cases.{by_test}
 use Rattle.merkle_lines.specs.declared.hex_words.HexError.{HexError}
 use Rattle.merkle_lines.specs.declared.hex_words.HexError.TheVariants as hex

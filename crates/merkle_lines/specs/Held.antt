@@ -2,12 +2,12 @@
 use Rattle.std.specs.Prelude.{◌≡◌, ℕ, List, [], Option, Some, None, length}
 use Rattle.std.specs.FinMap.{empty}
 use Rattle.merkle_base.specs.Hashing.{Hashing}
-use Rattle.merkle_batches.specs.Contents.{Agrees}
-use Rattle.merkle_batches.specs.Pending.{Pending, forked, with_leaves}
-use Rattle.merkle_batches.specs.Roots.{root_batch}
-use Rattle.merkle_batches.specs.Store.{Store, contents}
-use Rattle.merkle_forests.specs.Mmb.{newest_pair}
-use Rattle.merkle_forests.specs.Mmr.{carries}
+use Rattle.merkle_batch_theory.specs.Contents.{Agrees}
+use Rattle.merkle_batch_theory.specs.Pending.{Pending, forked, with_leaves}
+use Rattle.merkle_batch_theory.specs.Roots.{root_batch}
+use Rattle.merkle_batch_theory.specs.Store.{Store, contents}
+use Rattle.merkle_forest_theory.specs.Mmb.{newest_pair}
+use Rattle.merkle_forest_theory.specs.Mmr.{carries}
 use Rattle.merkle_lines.specs.declared.command.FamilyName.TheVariants.{Mmr, Mmb}
 use Rattle.merkle_lines.specs.declared.command.HashName.TheVariants.{Sha256, Xor8}
 use Rattle.merkle_lines.specs.declared.session.Session.{Session}

@@ -1,8 +1,8 @@
 -- What is written for the lines that are read.
 use Rattle.std.specs.Prelude.{◌≡◌, ◌≢◌, ◌⊎◌, ◌+◌, ◌^◌, ◌==◌, ℕ, List, [], ◌∷◌, ◌++◌, length, Option, Some, None, cond, codes}
 use Rattle.merkle_core.specs.declared.family.Bagging.{Bagging}
-use Rattle.merkle_forests.specs.Mmb.{newest_pair}
-use Rattle.merkle_forests.specs.Mmr.{carries}
+use Rattle.merkle_forest_theory.specs.Mmb.{newest_pair}
+use Rattle.merkle_forest_theory.specs.Mmr.{carries}
 use Rattle.merkle_lines.specs.declared.command.Command.{Command}
 use Rattle.merkle_lines.specs.declared.command.Command.TheVariants.{New, Ask}
 use Rattle.merkle_lines.specs.declared.command.FamilyName.{FamilyName}

@@ -5,8 +5,8 @@ use Rattle.merkle_base.specs.Heights.{peak_heights}
 use Rattle.merkle_base.proofs.Births.{size_peaks}
 use Rattle.merkle_base.proofs.Limits.{log_below}
 use Rattle.merkle_base.proofs.Nodes.{size_step}
-use Rattle.merkle_forests.specs.Mmb.{newest_pair}
-use Rattle.merkle_forests.proofs.BeltLawful.{mmb_lawful, mmb_peak_count}
+use Rattle.merkle_forest_theory.specs.Mmb.{newest_pair}
+use Rattle.merkle_forest_theory.proofs.BeltLawful.{mmb_lawful, mmb_peak_count}
 use Rattle.merkle_topology.proofs.Perfect.{pow_large}
 
 -- half the nodes and one peak less than the logarithm says are a leaf count with no more nodes

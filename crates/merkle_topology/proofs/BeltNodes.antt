@@ -7,16 +7,16 @@ use Rattle.merkle_base.specs.Tree.{Tree, leaf, join, position, height, first_lea
 use Rattle.merkle_base.specs.Forest.{forest, size}
 use Rattle.merkle_base.specs.Heights.{parent_heights}
 use Rattle.merkle_base.specs.Places.{HasInner, IsHeightAt}
-use Rattle.merkle_forests.specs.Mmb.{newest_pair, birth_leaf, root_position}
+use Rattle.merkle_forest_theory.specs.Mmb.{newest_pair, birth_leaf, root_position}
 use Rattle.merkle_base.proofs.Growth.{forest_grown}
 use Rattle.merkle_base.proofs.Lists.{get_below}
 use Rattle.merkle_base.proofs.Nodes.{node_built, same_position}
 use Rattle.merkle_base.proofs.Lookup.{size_suc, height_at}
 use Rattle.merkle_base.proofs.Limits.{log_below}
-use Rattle.merkle_forests.proofs.Digits.{ends_trailing}
-use Rattle.merkle_forests.proofs.MountainBelt.{mmb_equal, mmb_parents, mmb_placed, mmb_children}
-use Rattle.merkle_forests.proofs.RangeLawful.{ones_pow}
-use Rattle.merkle_forests.proofs.OddMultiples.{odd_ones}
+use Rattle.merkle_forest_theory.proofs.Digits.{ends_trailing}
+use Rattle.merkle_forest_theory.proofs.MountainBelt.{mmb_equal, mmb_parents, mmb_placed, mmb_children}
+use Rattle.merkle_forest_theory.proofs.RangeLawful.{ones_pow}
+use Rattle.merkle_forest_theory.proofs.OddMultiples.{odd_ones}
 use Rattle.merkle_topology.proofs.LeafCounts.{leaf_only}
 use Rattle.merkle_topology.proofs.BeltPeaks.{birth_below}
 

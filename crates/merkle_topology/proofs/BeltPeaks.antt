@@ -10,15 +10,15 @@ use Rattle.merkle_base.specs.Tree.{Tree, position, height, first_leaf}
 use Rattle.merkle_base.specs.Forest.{forest, size}
 use Rattle.merkle_base.specs.Heights.{peak_heights, weight}
 use Rattle.merkle_base.specs.Places.{placed, peaks_of}
-use Rattle.merkle_forests.specs.Mmb.{newest_pair, birth_leaf, root_position, newest_peaks}
-use Rattle.merkle_forests.specs.BeltDigits.{digits_after, value, spread}
-use Rattle.merkle_forests.proofs.BeltLawful.{mmb_heights, digits_value, length-spread, mmb_peak_count, same_log}
+use Rattle.merkle_forest_theory.specs.Mmb.{newest_pair, birth_leaf, root_position, newest_peaks}
+use Rattle.merkle_forest_theory.specs.BeltDigits.{digits_after, value, spread}
+use Rattle.merkle_forest_theory.proofs.BeltLawful.{mmb_heights, digits_value, length-spread, mmb_peak_count, same_log}
 use Rattle.merkle_base.proofs.Lists.{get_below, get_exists}
 use Rattle.merkle_base.proofs.Nodes.{size_le}
 use Rattle.merkle_base.proofs.Lookup.{peak_node, peak_first}
 use Rattle.merkle_base.proofs.Balance.{heights_forest}
 use Rattle.merkle_base.proofs.Limits.{log_below}
-use Rattle.merkle_forests.proofs.MountainBelt.{mmb_equal, mmb_peak_height, mmb_placed}
+use Rattle.merkle_forest_theory.proofs.MountainBelt.{mmb_equal, mmb_peak_height, mmb_placed}
 
 -- ---- the leaves under the newest peaks
 half_shr : (n m i : ℕ) → n / 2 ≡ m → n / 2 ^ suc i ≡ m / 2 ^ i

@@ -6,9 +6,9 @@ use Rattle.merkle_base.specs.Forest.{size}
 use Rattle.merkle_base.specs.Grafting.{stretch_nodes}
 use Rattle.merkle_base.proofs.Limits.{log_below}
 use Rattle.merkle_base.proofs.Nodes.{size_le, size_lt}
-use Rattle.merkle_forests.specs.Mmb.{newest_pair, birth_leaf, root_position, belt_birth}
-use Rattle.merkle_forests.proofs.BeltLawful.{mmb_lawful}
-use Rattle.merkle_forests.proofs.Coordinates.{mmb_coordinates}
+use Rattle.merkle_forest_theory.specs.Mmb.{newest_pair, birth_leaf, root_position, belt_birth}
+use Rattle.merkle_forest_theory.proofs.BeltLawful.{mmb_lawful}
+use Rattle.merkle_forest_theory.proofs.Coordinates.{mmb_coordinates}
 use Rattle.merkle_topology.proofs.LeafCounts.{size_only, leaves_within}
 
 -- the birth leaf of a root that stands within the limit is within the limit

@@ -10,9 +10,9 @@ use Rattle.merkle_base.proofs.Births.{size_peaks}
 use Rattle.merkle_base.proofs.Nodes.{size_step, size_le, size_lt}
 use Rattle.merkle_base.proofs.Lookup.{size_suc, height_at}
 use Rattle.merkle_base.proofs.Limits.{log_below}
-use Rattle.merkle_forests.specs.Mmr.{carries}
-use Rattle.merkle_forests.proofs.RangeLawful.{mmr_lawful}
-use Rattle.merkle_forests.proofs.MountainRange.{mmr_equal, mmr_parents}
+use Rattle.merkle_forest_theory.specs.Mmr.{carries}
+use Rattle.merkle_forest_theory.proofs.RangeLawful.{mmr_lawful}
+use Rattle.merkle_forest_theory.proofs.MountainRange.{mmr_equal, mmr_parents}
 
 -- a size from one leaf count's up to the next one's is that leaf count's
 pub size_only : (rule : List ℕ → List ℕ) (low n p : ℕ) → size rule low ≤ p → p < size rule (low + 1) → size rule n ≡ p → n ≡ low

@@ -7,10 +7,10 @@ use Rattle.merkle_base.specs.Forest.{forest, size}
 use Rattle.merkle_base.specs.Places.{placed, peaks_of}
 use Rattle.merkle_base.proofs.Balance.{heights_forest}
 use Rattle.merkle_base.proofs.Limits.{log_below}
-use Rattle.merkle_forests.specs.Mmr.{carries, AscendsFrom, Stacked}
+use Rattle.merkle_forest_theory.specs.Mmr.{carries, AscendsFrom, Stacked}
 use Rattle.merkle_topology.specs.Perfect.{tallest, first_trees, trees_from}
-use Rattle.merkle_forests.proofs.MountainRange.{mmr_stacked}
-use Rattle.merkle_forests.proofs.RangeLawful.{mmr_ascends}
+use Rattle.merkle_forest_theory.proofs.MountainRange.{mmr_stacked}
+use Rattle.merkle_forest_theory.proofs.RangeLawful.{mmr_ascends}
 
 pub tallest_is : (k h nodes : ℕ) → h ≤ k → 2 ^ suc h ≤ nodes + 1 → nodes + 1 < 2 ^ suc (suc h) → tallest k nodes ≡ h
 unfolding tallest

@@ -2,10 +2,10 @@
 use Rattle.std.proofs.Common.{◌≡◌, ℕ, suc, ◌+◌, ◌*◌, ◌%◌, ◌^◌, ◌≤◌, arith, refl, ap, pow-suc, pow_pos, pow_mono}
 use Rattle.merkle_base.proofs.Chunks.{root_below}
 use Rattle.merkle_base.proofs.Nodes.{size_le}
-use Rattle.merkle_forests.specs.Mmr.{carries, range_root, range_birth}
-use Rattle.merkle_forests.proofs.Coordinates.{mmr_coordinates}
-use Rattle.merkle_forests.proofs.MountainRange.{mmr_equal}
-use Rattle.merkle_forests.proofs.RangeLawful.{mmr_lawful}
+use Rattle.merkle_forest_theory.specs.Mmr.{carries, range_root, range_birth}
+use Rattle.merkle_forest_theory.proofs.Coordinates.{mmr_coordinates}
+use Rattle.merkle_forest_theory.proofs.MountainRange.{mmr_equal}
+use Rattle.merkle_forest_theory.proofs.RangeLawful.{mmr_lawful}
 
 -- the nodes of a tree of height h, and one more
 pub doubled_shl : (h : ℕ) → h ≤ 62 → 2 * 2 ^ h % 18446744073709551616 ≡ 2 ^ (h + 1)

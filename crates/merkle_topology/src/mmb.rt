@@ -10,10 +10,10 @@ ghost use Rattle.merkle_base.specs.Grafting.{HasChunk, AreChunkPeaks, IsNode, Is
 ghost use Rattle.merkle_base.specs.Heights.{parent_heights};
 ghost use Rattle.merkle_base.specs.Places.{IsSize, IsNearestSize, ArePeaks, HasInner, AreChildren, IsHeightAt};
 ghost use Rattle.merkle_base.specs.Tree.{Tree, first_leaf};
-ghost use Rattle.merkle_forests.specs.Mmb.{newest_pair, birth_leaf, root_position, belt_birth, newest_peaks};
+ghost use Rattle.merkle_forest_theory.specs.Mmb.{newest_pair, birth_leaf, root_position, belt_birth, newest_peaks};
 ghost use Rattle.merkle_topology.specs.BeltIterators.{PeaksLeft};
-ghost use Rattle.merkle_forests.proofs.BeltLawful.{mmb_lawful};
-ghost use Rattle.merkle_forests.proofs.Coordinates.{mmb_coordinates};
+ghost use Rattle.merkle_forest_theory.proofs.BeltLawful.{mmb_lawful};
+ghost use Rattle.merkle_forest_theory.proofs.Coordinates.{mmb_coordinates};
 
 use merkle_base::digest::Digest;
 use merkle_base::listed::Listed;

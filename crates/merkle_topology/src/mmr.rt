@@ -11,10 +11,10 @@ ghost use Rattle.merkle_base.specs.Grafting.{HasChunk, AreChunkPeaks, IsNode, Is
 ghost use Rattle.merkle_base.specs.Heights.{parent_heights};
 ghost use Rattle.merkle_base.specs.Places.{IsSize, IsNearestSize, ArePeaks, HasInner, AreChildren, IsHeightAt};
 ghost use Rattle.merkle_base.specs.Tree.{Tree, first_leaf};
-ghost use Rattle.merkle_forests.specs.Mmr.{carries, range_root, range_birth};
+ghost use Rattle.merkle_forest_theory.specs.Mmr.{carries, range_root, range_birth};
 ghost use Rattle.merkle_topology.specs.Perfect.{trees_from};
-ghost use Rattle.merkle_forests.proofs.Coordinates.{mmr_coordinates};
-ghost use Rattle.merkle_forests.proofs.RangeLawful.{mmr_lawful};
+ghost use Rattle.merkle_forest_theory.proofs.Coordinates.{mmr_coordinates};
+ghost use Rattle.merkle_forest_theory.proofs.RangeLawful.{mmr_lawful};
 
 use merkle_base::listed::Listed;
 use merkle_base::pending::{Grafting, Unused};

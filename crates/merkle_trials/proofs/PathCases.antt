@@ -3,8 +3,8 @@ use Rattle.std.proofs.Common.{◌≡◌, ℕ, ◌<◌, Some, slice_get, refl, ar
 use Rattle.merkle_base.specs.Tree.{Tree, leaf, join}
 use Rattle.merkle_base.specs.Forest.{forest}
 use Rattle.merkle_proof.specs.Path.{StandsOver}
-use Rattle.merkle_forests.specs.Mmr.{carries}
-use Rattle.merkle_forests.specs.Mmb.{newest_pair}
+use Rattle.merkle_forest_theory.specs.Mmr.{carries}
+use Rattle.merkle_forest_theory.specs.Mmb.{newest_pair}
 use Rattle.merkle_trials.specs.Pairs.{pairing}
 
 abbrev six : Tree

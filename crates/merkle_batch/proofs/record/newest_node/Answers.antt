@@ -1,9 +1,9 @@
 use Rattle.std.proofs.Common.{◌≡◌, suc, ◌-◌, ◌<◌, length, map, take, arith, sym, ap, ◌∙◌}
 use Rattle.std.specs.Prelude.{is_some}
-use Rattle.merkle_batches.specs.Read.{written, newest}
-use Rattle.merkle_batches.proofs.NewestFirst.{newest_taken, or_later}
+use Rattle.merkle_batch_theory.specs.Read.{written, newest}
+use Rattle.merkle_batch_theory.proofs.NewestFirst.{newest_taken, or_later}
 use Rattle.merkle_batch.proofs.record.newest_node.Goals as goal
-use Rattle.merkle_batches.proofs.OptionFacts.{or_some}
+use Rattle.merkle_batch_theory.proofs.OptionFacts.{or_some}
 
 pub loop-i-preserved : goal.loop-i-preserved
 loop-i-preserved g c =

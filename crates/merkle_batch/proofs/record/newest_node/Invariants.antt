@@ -1,5 +1,5 @@
 use Rattle.std.proofs.Common.{◌≡◌, ◌≤◌, map, take, length}
-use Rattle.merkle_batches.specs.Read.{newest}
+use Rattle.merkle_batch_theory.specs.Read.{newest}
 use Rattle.merkle_batch.proofs.record.newest_node.Given as goal
 
 abbrev pub invariant-loop-i : goal.invariant-loop-i

@@ -2,9 +2,9 @@ use Rattle.std.specs.Prelude.{Some, ◌&&◌, ◌==◌}
 use Rattle.std.proofs.Common.{◌≡◌, suc, ◌-◌, ◌<◌, length, sym, ◌∙◌, ap, arith, take, map, add-one}
 use Rattle.std.proofs.lemmas.List.{length-map, take_all}
 use Rattle.std.specs.Cmp.Lexicographic.{pointwise}
-use Rattle.merkle_batches.specs.Replay.{last_match, ends_at}
-use Rattle.merkle_batches.specs.Recorded.{after}
-use Rattle.merkle_batches.proofs.LastMatch.{last_match_yes, last_match_no, get_or_map}
+use Rattle.merkle_batch_theory.specs.Replay.{last_match, ends_at}
+use Rattle.merkle_batch_theory.specs.Recorded.{after}
+use Rattle.merkle_batch_theory.proofs.LastMatch.{last_match_yes, last_match_no, get_or_map}
 use Rattle.merkle_core.proofs.find.last_end.Goals as goal
 
 pub loop-i-init : goal.loop-i-init

@@ -1,5 +1,5 @@
 use Rattle.std.proofs.Common.{◌≡◌, ◌≤◌, map, take, length}
-use Rattle.merkle_batches.specs.Replay.{last_match, ends_at}
+use Rattle.merkle_batch_theory.specs.Replay.{last_match, ends_at}
 use Rattle.merkle_core.proofs.find.last_end.Given as goal
 
 abbrev pub invariant-loop-i : goal.invariant-loop-i

@@ -1,7 +1,7 @@
 use Rattle.std.proofs.Common.{◌≤◌, length, ◌∙◌, ap, sym, rules, add-one, nat_eq, drop_of_length-le}
 use Rattle.std.specs.Map.{lookup}
-use Rattle.merkle_batches.proofs.MapFacts.{eqb_comm}
-use Rattle.merkle_batches.proofs.Pins.{lookup_here, lookup_later}
+use Rattle.merkle_batch_theory.proofs.MapFacts.{eqb_comm}
+use Rattle.merkle_batch_theory.proofs.Pins.{lookup_here, lookup_later}
 use Rattle.merkle_core.proofs.mem.pinned.Goals as goal
 
 pub loop-pin-preserved : goal.loop-pin-preserved

@@ -1,6 +1,6 @@
 use Rattle.std.proofs.Common.{◌≡◌, ◌+◌, ◌++◌, drop, length}
 use Rattle.merkle_base.specs.Places.{peak_positions}
-use Rattle.merkle_batches.specs.Held.{paired}
+use Rattle.merkle_batch_theory.specs.Held.{paired}
 use Rattle.merkle_core.proofs.prune.pair_pins.Given as goal
 
 abbrev pub invariant-loop-position : goal.invariant-loop-position

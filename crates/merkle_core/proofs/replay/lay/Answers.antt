@@ -1,8 +1,8 @@
 use Rattle.std.proofs.Common.{◌≡◌, ◌++◌, sym, ◌∙◌, ap}
 use Rattle.std.specs.FinMap.{get}
-use Rattle.merkle_batches.specs.Held.{stored_at, held_contents}
-use Rattle.merkle_batches.specs.Replay.{over}
-use Rattle.merkle_batches.proofs.Laid.{laid_by}
+use Rattle.merkle_batch_theory.specs.Held.{stored_at, held_contents}
+use Rattle.merkle_batch_theory.specs.Replay.{over}
+use Rattle.merkle_batch_theory.proofs.Laid.{laid_by}
 use Rattle.merkle_core.proofs.replay.lay.Goals as goal
 
 pub returns-clause-laid : goal.returns-clause-laid

@@ -1,8 +1,8 @@
 use Rattle.std.proofs.Common.{rules, ◌≡◌, ◌+◌, ◌∷◌, length, ◌∙◌, ap, arith, map, drop, add-one}
 use Rattle.std.specs.VecDeque.{deque_len}
-use Rattle.merkle_batches.specs.Held.{held_contents, total_appended}
-use Rattle.merkle_batches.specs.Replay.{laid}
-use Rattle.merkle_batches.proofs.Laid.{all_step, drop_here}
+use Rattle.merkle_batch_theory.specs.Held.{held_contents, total_appended}
+use Rattle.merkle_batch_theory.specs.Replay.{laid}
+use Rattle.merkle_batch_theory.proofs.Laid.{all_step, drop_here}
 use Rattle.merkle_core.proofs.replay.lay_all.Goals as goal
 
 pub lay-requires : goal.lay-requires

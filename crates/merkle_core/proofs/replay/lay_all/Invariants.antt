@@ -2,8 +2,8 @@ use Rattle.std.proofs.Common.{◌≡◌, ◌+◌, ◌≤◌, ℕ, length, map, d
 use Rattle.std.specs.Prelude.{is_some}
 use Rattle.std.specs.Map.{lookup}
 use Rattle.std.specs.VecDeque.{deque_len, deque_capacity}
-use Rattle.merkle_batches.specs.Held.{total_appended, held_contents}
-use Rattle.merkle_batches.specs.Replay.{all_laid}
+use Rattle.merkle_batch_theory.specs.Held.{total_appended, held_contents}
+use Rattle.merkle_batch_theory.specs.Replay.{all_laid}
 use Rattle.merkle_core.proofs.replay.lay_all.Given as goal
 
 abbrev pub invariant-loop-change : goal.invariant-loop-change

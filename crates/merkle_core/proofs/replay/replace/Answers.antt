@@ -1,5 +1,5 @@
 use Rattle.std.proofs.Common.{◌≡◌, ◌≤◌, ◌<◌, ◌-◌, length, rules}
-use Rattle.merkle_batches.proofs.HeldNodes.{stored_set, stored_unset}
+use Rattle.merkle_batch_theory.proofs.HeldNodes.{stored_set, stored_unset}
 use Rattle.merkle_core.proofs.replay.replace.Goals as goal
 
 pub returns-in-Some-clause-held : goal.returns-in-Some-clause-held

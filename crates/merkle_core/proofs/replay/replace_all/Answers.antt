@@ -1,10 +1,10 @@
 use Rattle.std.proofs.Common.{rules, ◌≡◌, sym, ◌∙◌, ap, map}
 use Rattle.std.specs.FinMap.{get}
 use Rattle.std.specs.Map.Iter.{deref_pair}
-use Rattle.merkle_batches.specs.Held.{stored_at}
-use Rattle.merkle_batches.specs.Replay.{over}
-use Rattle.merkle_batches.proofs.MapFacts.{get_entries}
-use Rattle.merkle_batches.proofs.Over.{over_push, latest_all, moved, all_came}
+use Rattle.merkle_batch_theory.specs.Held.{stored_at}
+use Rattle.merkle_batch_theory.specs.Replay.{over}
+use Rattle.merkle_batch_theory.proofs.MapFacts.{get_entries}
+use Rattle.merkle_batch_theory.proofs.Over.{over_push, latest_all, moved, all_came}
 use Rattle.merkle_core.proofs.replay.replace_all.Goals as goal
 
 pub loop-position-preserved : goal.loop-position-preserved

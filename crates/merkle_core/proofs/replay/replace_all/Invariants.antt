@@ -3,9 +3,9 @@ use Rattle.std.specs.Prelude.{is_some}
 use Rattle.std.specs.Map.{lookup}
 use Rattle.std.specs.Map.Iter.{deref_pair}
 use Rattle.std.specs.VecDeque.{deque_capacity}
-use Rattle.merkle_batches.specs.Held.{stored_at}
-use Rattle.merkle_batches.specs.Replay.{over}
-use Rattle.merkle_batches.proofs.Over.{latest}
+use Rattle.merkle_batch_theory.specs.Held.{stored_at}
+use Rattle.merkle_batch_theory.specs.Replay.{over}
+use Rattle.merkle_batch_theory.proofs.Over.{latest}
 use Rattle.merkle_core.proofs.replay.replace_all.Given as goal
 
 abbrev pub invariant-loop-position : goal.invariant-loop-position

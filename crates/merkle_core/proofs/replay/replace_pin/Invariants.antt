@@ -1,5 +1,5 @@
 use Rattle.std.proofs.Common.{◌≡◌}
-use Rattle.merkle_batches.proofs.Pins.{put_first}
+use Rattle.merkle_batch_theory.proofs.Pins.{put_first}
 use Rattle.merkle_core.proofs.replay.replace_pin.Given as goal
 
 abbrev pub invariant-loop-pin : goal.invariant-loop-pin

@@ -1,6 +1,6 @@
 use Rattle.std.proofs.Common.{◌≡◌, ◌+◌, ◌-◌, ◌*◌, ◌/◌, ◌^◌, ◌<◌, ◌≤◌, ℕ, suc, arith, pow-suc, sym, subst}
 use Rattle.merkle_base.specs.Forest.{size}
-use Rattle.merkle_forests.specs.Mmb.{newest_pair}
+use Rattle.merkle_forest_theory.specs.Mmb.{newest_pair}
 use Rattle.merkle_topology.proofs.BeltCounts.{size_of_log, size_past_log, size_past_limit}
 use Rattle.merkle_topology.proofs.mmb.leaf_count_by_log.Goals as goal
 

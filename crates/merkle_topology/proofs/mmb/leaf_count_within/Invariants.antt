@@ -1,6 +1,6 @@
 use Rattle.std.proofs.Common.{◌+◌, ◌-◌, ◌<◌, ◌≤◌}
 use Rattle.merkle_base.specs.Forest.{size}
-use Rattle.merkle_forests.specs.Mmb.{newest_pair}
+use Rattle.merkle_forest_theory.specs.Mmb.{newest_pair}
 use Rattle.merkle_topology.proofs.mmb.leaf_count_within.Given as goal
 
 abbrev pub invariant-loop-low : goal.invariant-loop-low

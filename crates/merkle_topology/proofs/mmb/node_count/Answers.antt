@@ -1,5 +1,5 @@
 use Rattle.std.proofs.Common.{◌≡◌, ◌*◌, ◌^◌, suc, arith, pow-suc}
-use Rattle.merkle_forests.proofs.BeltLawful.{mmb_size}
+use Rattle.merkle_forest_theory.proofs.BeltLawful.{mmb_size}
 use Rattle.merkle_topology.proofs.Perfect.{pow_large}
 use Rattle.merkle_topology.proofs.mmb.node_count.Goals as goal
 

@@ -1,5 +1,5 @@
 use Rattle.std.proofs.Common.{◌≡◌, ℕ, ◌+◌, ◌^◌, ◌≤◌, ◌∷◌, suc, arith, ap, sym, ◌∙◌, subst}
-use Rattle.merkle_forests.specs.Mmb.{newest_peaks}
+use Rattle.merkle_forest_theory.specs.Mmb.{newest_peaks}
 use Rattle.merkle_topology.proofs.BeltPeaks.{mmb_peak, peak_fits, peak_height}
 use Rattle.merkle_topology.proofs.mmb.peak.Goals as goal
 

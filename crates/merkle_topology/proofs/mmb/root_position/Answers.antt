@@ -1,7 +1,7 @@
 use Rattle.std.proofs.Common.{arith}
 use Rattle.merkle_base.proofs.Nodes.{size_le}
-use Rattle.merkle_forests.specs.Mmb.{newest_pair}
-use Rattle.merkle_forests.proofs.BeltLawful.{mmb_lawful}
+use Rattle.merkle_forest_theory.specs.Mmb.{newest_pair}
+use Rattle.merkle_forest_theory.proofs.BeltLawful.{mmb_lawful}
 use Rattle.merkle_topology.proofs.mmb.root_position.Goals as goal
 
 pub overflow_add-result : goal.overflow_add-result

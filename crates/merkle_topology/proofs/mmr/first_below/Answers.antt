@@ -1,5 +1,5 @@
 use Rattle.std.proofs.Common.{◌-◌, arith, ap, sym, ◌∙◌}
-use Rattle.merkle_forests.specs.Mmr.{carries, range_root}
+use Rattle.merkle_forest_theory.specs.Mmr.{carries, range_root}
 use Rattle.merkle_topology.proofs.LeafCounts.{size_only}
 use Rattle.merkle_topology.proofs.RangeRoots.{doubled_pos}
 use Rattle.merkle_topology.proofs.mmr.first_below.Goals as goal

@@ -1,6 +1,6 @@
 use Rattle.std.proofs.Common.{◌≡◌, ◌+◌, ◌/◌, min, arith, rules}
-use Rattle.merkle_forests.specs.Mmr.{carries}
-use Rattle.merkle_forests.proofs.RangeLawful.{mmr_lawful}
+use Rattle.merkle_forest_theory.specs.Mmr.{carries}
+use Rattle.merkle_forest_theory.proofs.RangeLawful.{mmr_lawful}
 use Rattle.merkle_topology.proofs.LeafCounts.{size_of_half, size_past_half}
 use Rattle.merkle_topology.proofs.mmr.leaf_count_within.Goals as goal
 

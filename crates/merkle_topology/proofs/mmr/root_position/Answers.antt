@@ -1,6 +1,6 @@
 use Rattle.std.proofs.Common.{arith}
-use Rattle.merkle_forests.specs.Mmr.{carries}
-use Rattle.merkle_forests.proofs.RangeLawful.{mmr_lawful}
+use Rattle.merkle_forest_theory.specs.Mmr.{carries}
+use Rattle.merkle_forest_theory.proofs.RangeLawful.{mmr_lawful}
 use Rattle.merkle_topology.proofs.LeafCounts.{leaves_within}
 use Rattle.merkle_topology.proofs.RangeRoots.{doubled_pos}
 use Rattle.merkle_topology.proofs.mmr.root_position.Goals as goal

@@ -8,18 +8,18 @@ use Rattle.merkle_base.specs.Places.{peak_positions}
 use Rattle.merkle_base.specs.Tree.{Tree, position}
 use Rattle.merkle_base.specs.declared.error.Error.TheVariants as error
 use Rattle.merkle_base.proofs.Limits.{lawful_leaves}
-use Rattle.merkle_batches.specs.Contents.{AgreesWithOne}
+use Rattle.merkle_batch_theory.specs.Contents.{AgreesWithOne}
 use Rattle.merkle_batch.specs.Drafts.{AreChildrenRead, LacksChild}
 use Rattle.merkle_batch.specs.DraftReads.{ArePeaksRead, finished, IsPeakGap, old_node}
-use Rattle.merkle_batches.specs.Linked.{IsLinked}
-use Rattle.merkle_batches.specs.Missing.{IsMissing}
-use Rattle.merkle_batches.specs.Needed.{IsChanged}
-use Rattle.merkle_batches.specs.Pending.{IsPending, is_changed, kept, kept_lists, leaf_total, Pending, pending_list}
-use Rattle.merkle_batches.specs.Recorded.{after, records}
-use Rattle.merkle_batches.specs.Stands.{last_list, StandsOn}
-use Rattle.merkle_batches.specs.Truth.{IsTruth, LeavesAre, ReadsTrue, truths}
+use Rattle.merkle_batch_theory.specs.Linked.{IsLinked}
+use Rattle.merkle_batch_theory.specs.Missing.{IsMissing}
+use Rattle.merkle_batch_theory.specs.Needed.{IsChanged}
+use Rattle.merkle_batch_theory.specs.Pending.{IsPending, is_changed, kept, kept_lists, leaf_total, Pending, pending_list}
+use Rattle.merkle_batch_theory.specs.Recorded.{after, records}
+use Rattle.merkle_batch_theory.specs.Stands.{last_list, StandsOn}
+use Rattle.merkle_batch_theory.specs.Truth.{IsTruth, LeavesAre, ReadsTrue, truths}
 use Rattle.merkle_batch.proofs.Merkleizing.{list_given}
-use Rattle.merkle_batches.proofs.MapFacts.{no_entry}
+use Rattle.merkle_batch_theory.proofs.MapFacts.{no_entry}
 use Rattle.merkle_batch.proofs.MerkleizeFacts.{append_missing, batch_stands, changed_by_leaves, changed_by_updates, finished_linked, is_positive, named_given, named_refused, NamesMissing, none_is_missing, not_changed, of_fields, peak_missing, refresh_missing, some_entry}
 use Rattle.merkle_batch.proofs.batch.UnmerkleizedBatch.merkleize.Goals.{then-is_empty+then-is_empty-2+in_ok-peaks_after, else-is_empty+in_ok-read_peaks+in_ok-peaks_after-2, else-is_empty-via-then-is_empty+else-is_empty-2, else-is_empty-via-else-is_empty}
 use Rattle.merkle_batch.proofs.batch.UnmerkleizedBatch.merkleize.Goals as goal

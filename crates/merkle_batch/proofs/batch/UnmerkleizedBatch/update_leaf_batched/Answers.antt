@@ -1,8 +1,8 @@
 use Rattle.std.proofs.Common.{◌≡◌, ◌+◌, drop, sym, ap, ◌∙◌}
-use Rattle.merkle_batches.specs.Pending.{first_fault, leaf_total, update_fault, with_update, with_updates}
-use Rattle.merkle_batches.proofs.PendingUpdates.{fault_next, updates_next, total_kept, parent_kept}
+use Rattle.merkle_batch_theory.specs.Pending.{first_fault, leaf_total, update_fault, with_update, with_updates}
+use Rattle.merkle_batch_theory.proofs.PendingUpdates.{fault_next, updates_next, total_kept, parent_kept}
 use Rattle.merkle_batch.proofs.batch.UnmerkleizedBatch.update_leaf_batched.Goals as goal
-use Rattle.merkle_batches.proofs.OptionFacts.{both_none}
+use Rattle.merkle_batch_theory.proofs.OptionFacts.{both_none}
 
 pub loop-location-2-preserved : goal.loop-location-2-preserved
 loop-location-2-preserved g c =

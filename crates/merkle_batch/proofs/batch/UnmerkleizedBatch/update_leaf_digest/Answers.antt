@@ -3,8 +3,8 @@ use Rattle.std.specs.FinMap.{from_entries, insert}
 use Rattle.std.specs.Ordering.{nat_cmp}
 use Rattle.merkle_base.specs.Forest.{size}
 use Rattle.merkle_hasher.proofs.Comparisons.{lt_yes, lt_no}
-use Rattle.merkle_batches.specs.Pending.{Pending, with_update, pending_list}
-use Rattle.merkle_batches.proofs.PendingUpdates.{entries_inserted, old_kept, over_old, over_new, updated_old, updated_new, update_list}
+use Rattle.merkle_batch_theory.specs.Pending.{Pending, with_update, pending_list}
+use Rattle.merkle_batch_theory.proofs.PendingUpdates.{entries_inserted, old_kept, over_old, over_new, updated_old, updated_new, update_list}
 use Rattle.merkle_batch.proofs.batch.UnmerkleizedBatch.update_leaf_digest.Goals.{then-lt+in_ok-insert, else-lt}
 use Rattle.merkle_batch.proofs.batch.UnmerkleizedBatch.update_leaf_digest.Goals as goal
 

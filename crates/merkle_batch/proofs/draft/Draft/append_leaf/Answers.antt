@@ -6,10 +6,10 @@ use Rattle.merkle_base.proofs.Nodes.{size_le}
 use Rattle.merkle_base.proofs.Parents.{parent_there, parents_fit}
 use Rattle.merkle_batch.specs.Drafts.{AreChildrenRead, LacksChild}
 use Rattle.merkle_batch.specs.DraftReads.{old_node}
-use Rattle.merkle_batches.specs.Truth.{ReadsTrue, truths}
+use Rattle.merkle_batch_theory.specs.Truth.{ReadsTrue, truths}
 use Rattle.merkle_batch.proofs.ChildReads.{lacks_more, read_leaf, read_more}
 use Rattle.merkle_batch.proofs.DraftFacts.{same_old_node}
-use Rattle.merkle_batches.proofs.TruthFacts.{truths_more}
+use Rattle.merkle_batch_theory.proofs.TruthFacts.{truths_more}
 use Rattle.merkle_batch.proofs.draft.Draft.append_leaf.Goals as goal
 
 pub loop-height-init : goal.loop-height-init

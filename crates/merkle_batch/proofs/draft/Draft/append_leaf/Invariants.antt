@@ -3,7 +3,7 @@ use Rattle.merkle_base.specs.Forest.{size}
 use Rattle.merkle_base.specs.Heights.{parent_heights}
 use Rattle.merkle_batch.specs.Drafts.{AreChildrenRead}
 use Rattle.merkle_batch.specs.DraftReads.{old_node, OnlyAppends}
-use Rattle.merkle_batches.specs.Truth.{IsTruth, ReadsTrue, truths}
+use Rattle.merkle_batch_theory.specs.Truth.{IsTruth, ReadsTrue, truths}
 use Rattle.merkle_batch.proofs.draft.Draft.append_leaf.Given as goal
 
 abbrev pub invariant-loop-height : goal.invariant-loop-height

@@ -6,7 +6,7 @@ use Rattle.merkle_base.proofs.Limits.{lawful_leaves}
 use Rattle.merkle_base.proofs.Nodes.{size_le}
 use Rattle.merkle_batch.specs.Drafts.{AreChildrenRead, LacksChild}
 use Rattle.merkle_batch.specs.DraftReads.{old_node}
-use Rattle.merkle_batches.specs.Truth.{ReadsTrue, truths}
+use Rattle.merkle_batch_theory.specs.Truth.{ReadsTrue, truths}
 use Rattle.merkle_batch.proofs.ChildReads.{lacks_more, read_more, read_none}
 use Rattle.merkle_batch.proofs.DraftFacts.{same_old_node}
 use Rattle.merkle_batch.proofs.draft.Draft.append_leaves.Goals as goal

@@ -2,7 +2,7 @@ use Rattle.std.proofs.Common.{◌≡◌, ◌+◌, ℕ, length}
 use Rattle.merkle_base.specs.Forest.{size}
 use Rattle.merkle_batch.specs.Drafts.{AreChildrenRead}
 use Rattle.merkle_batch.specs.DraftReads.{old_node, OnlyAppends}
-use Rattle.merkle_batches.specs.Truth.{IsTruth, LeavesAre, ReadsTrue, truths}
+use Rattle.merkle_batch_theory.specs.Truth.{IsTruth, LeavesAre, ReadsTrue, truths}
 use Rattle.merkle_batch.proofs.draft.Draft.append_leaves.Given as goal
 
 abbrev pub invariant-loop-digest : goal.invariant-loop-digest

@@ -3,10 +3,10 @@ use Rattle.std.proofs.lemmas.Result.{err_from_is_err_and}
 use Rattle.merkle_base.specs.Places.{HasInner}
 use Rattle.merkle_batch.specs.Drafts.{AreChildrenRead, LacksChild}
 use Rattle.merkle_batch.specs.DraftReads.{old_node}
-use Rattle.merkle_batches.specs.Truth.{truths}
+use Rattle.merkle_batch_theory.specs.Truth.{truths}
 use Rattle.merkle_batch.proofs.ChildReads.{lacks_child, read_join}
 use Rattle.merkle_batch.proofs.GapFacts.{gap_below}
-use Rattle.merkle_batches.proofs.TruthFacts.{truths_more, truth_joined, children_before}
+use Rattle.merkle_batch_theory.proofs.TruthFacts.{truths_more, truth_joined, children_before}
 use Rattle.merkle_batch.proofs.draft.Draft.append_parent.Goals as goal
 
 pub children-left-requires : goal.children-left-requires

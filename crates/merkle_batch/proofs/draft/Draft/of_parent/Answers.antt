@@ -1,7 +1,7 @@
 use Rattle.std.proofs.Common.{◌≡◌, map, true, false, sym, ap, ◌∙◌}
 use Rattle.std.specs.Prelude.{not}
-use Rattle.merkle_batches.specs.Pending.{is_changed}
-use Rattle.merkle_batches.proofs.KeptRecords.{taken_over, with_own, without_own}
+use Rattle.merkle_batch_theory.specs.Pending.{is_changed}
+use Rattle.merkle_batch_theory.proofs.KeptRecords.{taken_over, with_own, without_own}
 use Rattle.merkle_batch.proofs.draft.Draft.of_parent.Goals.{then-not-is_empty+in_ok-clone-2+in_ok-push-2, else-not-is_empty}
 use Rattle.merkle_batch.proofs.draft.Draft.of_parent.Goals as goal
 

@@ -2,9 +2,9 @@ use Rattle.std.proofs.Common.{rules, ◌≡◌, ◌+◌, ◌<◌, ◌≤◌, len
 use Rattle.std.specs.FinMap.{get}
 use Rattle.std.specs.Option.{option_or}
 use Rattle.merkle_batch.specs.DraftReads.{below}
-use Rattle.merkle_batches.proofs.Stored.{get_reads}
+use Rattle.merkle_batch_theory.proofs.Stored.{get_reads}
 use Rattle.merkle_batch.proofs.GapFacts.{if_found}
-use Rattle.merkle_batches.proofs.TruthFacts.{truths_get}
+use Rattle.merkle_batch_theory.proofs.TruthFacts.{truths_get}
 use Rattle.merkle_batch.proofs.draft.Draft.read_node.Goals as goal
 use Rattle.merkle_batch.proofs.draft.Draft.read_node.Goals.{then-lt+in-Some, then-lt+in-None, else-lt}
 

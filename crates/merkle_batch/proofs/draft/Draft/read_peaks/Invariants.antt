@@ -1,7 +1,7 @@
 use Rattle.std.proofs.Common.{◌≡◌, ◌++◌, ℕ, List, map, length}
 use Rattle.merkle_base.specs.Places.{peak_positions, peaks_of, placed}
 use Rattle.merkle_batch.specs.DraftReads.{old_node}
-use Rattle.merkle_batches.specs.Truth.{ReadsTrue, truths}
+use Rattle.merkle_batch_theory.specs.Truth.{ReadsTrue, truths}
 use Rattle.merkle_batch.proofs.PeakReads.{AreFirstRead}
 use Rattle.merkle_batch.proofs.draft.Draft.read_peaks.Given as goal
 

@@ -1,6 +1,6 @@
 use Rattle.std.proofs.Common.{ap, sym, ◌∙◌}
 use Rattle.std.specs.FinMap.{from_entries}
-use Rattle.merkle_batches.specs.Read.{read_over}
+use Rattle.merkle_batch_theory.specs.Read.{read_over}
 use Rattle.merkle_batch.specs.DraftReads.{below}
 use Rattle.merkle_batch.proofs.ChangedLeaves.{entries_moved, map_moved, entries_all}
 use Rattle.merkle_batch.proofs.RefreshedLeaves.{leaves_computed, leaves_refreshed, leaves_missing}

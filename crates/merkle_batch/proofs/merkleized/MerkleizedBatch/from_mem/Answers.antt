@@ -1,8 +1,8 @@
 use Rattle.std.proofs.Common.{◌≡◌, [], ◌∷◌, length, arith, sym, ◌∙◌, subst}
 use Rattle.merkle_base.proofs.Nodes.{size_inj}
-use Rattle.merkle_batches.specs.Recorded.{records}
-use Rattle.merkle_batches.specs.Stands.{StandsOn}
-use Rattle.merkle_batches.proofs.RootBatch.{root_stands}
+use Rattle.merkle_batch_theory.specs.Recorded.{records}
+use Rattle.merkle_batch_theory.specs.Stands.{StandsOn}
+use Rattle.merkle_batch_theory.proofs.RootBatch.{root_stands}
 use Rattle.merkle_batch.proofs.merkleized.MerkleizedBatch.from_mem.Goals as goal
 
 pub returns-clause-of_list : goal.returns-clause-of_list

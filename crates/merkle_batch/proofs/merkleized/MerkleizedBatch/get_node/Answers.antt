@@ -1,6 +1,6 @@
 use Rattle.std.proofs.Common.{◌≡◌, Some, None, sym, ap, ◌∙◌}
-use Rattle.merkle_batches.specs.Read.{written, newest}
-use Rattle.merkle_batches.proofs.NewestFirst.{own_has, own_lacks, has_last}
+use Rattle.merkle_batch_theory.specs.Read.{written, newest}
+use Rattle.merkle_batch_theory.proofs.NewestFirst.{own_has, own_lacks, has_last}
 use Rattle.merkle_batch.proofs.merkleized.MerkleizedBatch.get_node.Goals as goal
 
 pub returns-in-Some-clause-newest : goal.returns-in-Some-clause-newest

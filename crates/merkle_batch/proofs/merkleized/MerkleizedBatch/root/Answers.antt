@@ -4,10 +4,10 @@ use Rattle.merkle_base.specs.declared.error.Error.TheVariants.{InvalidInactivePe
 use Rattle.merkle_base.specs.Digests.{digest_at}
 use Rattle.merkle_base.specs.Places.{peaks_of}
 use Rattle.merkle_base.specs.Root.{peaks_root}
-use Rattle.merkle_batches.specs.Recorded.{after}
-use Rattle.merkle_batches.specs.Stands.{last_list}
+use Rattle.merkle_batch_theory.specs.Recorded.{after}
+use Rattle.merkle_batch_theory.specs.Stands.{last_list}
 use Rattle.merkle_base.proofs.Nodes.{size_inj}
-use Rattle.merkle_batches.proofs.Forking.{last_size}
+use Rattle.merkle_batch_theory.proofs.Forking.{last_size}
 use Rattle.merkle_batch.proofs.merkleized.MerkleizedBatch.root.Goals as goal
 
 pub returns-clause-ok : goal.returns-clause-ok

@@ -1,5 +1,5 @@
 use Rattle.std.proofs.Common.{length, arith, ap}
-use Rattle.merkle_batches.proofs.RootBatch.{lawful_size}
+use Rattle.merkle_batch_theory.proofs.RootBatch.{lawful_size}
 use Rattle.merkle_batch.proofs.merkleized.MerkleizedBatch.without_changes.Goals as goal
 
 pub invariant_of-own : goal.invariant_of-own

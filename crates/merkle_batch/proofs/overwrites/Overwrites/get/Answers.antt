@@ -1,6 +1,6 @@
 use Rattle.std.proofs.Common.{sym, ◌∙◌, ap}
 use Rattle.std.specs.FinMap.{get}
-use Rattle.merkle_batches.proofs.MapFacts.{get_entries, no_entry}
+use Rattle.merkle_batch_theory.proofs.MapFacts.{get_entries, no_entry}
 use Rattle.merkle_batch.proofs.overwrites.Overwrites.get.Goals as goal
 
 pub returns : goal.returns

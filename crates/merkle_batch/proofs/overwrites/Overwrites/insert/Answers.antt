@@ -1,6 +1,6 @@
 use Rattle.std.proofs.Common.{◌∙◌, ap}
 use Rattle.std.specs.FinMap.{insert}
-use Rattle.merkle_batches.proofs.MapFacts.{put_entry}
+use Rattle.merkle_batch_theory.proofs.MapFacts.{put_entry}
 use Rattle.merkle_batch.proofs.overwrites.Overwrites.insert.Goals as goal
 
 pub returns-clause-inserted : goal.returns-clause-inserted

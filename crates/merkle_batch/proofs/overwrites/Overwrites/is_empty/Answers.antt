@@ -1,6 +1,6 @@
 use Rattle.std.proofs.Common.{◌∙◌, ap, ◌==◌}
 use Rattle.std.specs.FinMap.{len}
-use Rattle.merkle_batches.proofs.MapFacts.{is_none_entered}
+use Rattle.merkle_batch_theory.proofs.MapFacts.{is_none_entered}
 use Rattle.merkle_batch.proofs.overwrites.Overwrites.is_empty.Goals as goal
 
 pub returns : goal.returns

@@ -1,13 +1,13 @@
 use Rattle.std.proofs.Common.{rules, ◌≡◌, ◌+◌, ◌-◌, ◌≤◌, Some, None, length, map, take, drop, arith, ap, sym, ◌∙◌, subst}
 use Rattle.merkle_base.proofs.Nodes.{size_inj}
-use Rattle.merkle_batches.specs.Contents.{held_peaks}
-use Rattle.merkle_batches.specs.Held.{held_contents}
-use Rattle.merkle_batches.specs.Linked.{IsLinked}
-use Rattle.merkle_batches.specs.Recorded.{Recorded}
-use Rattle.merkle_batches.specs.Replay.{all_laid, applied, laid, matched}
-use Rattle.merkle_batches.specs.Store.{contents}
-use Rattle.merkle_batches.proofs.Applied.{applied_or_collides}
-use Rattle.merkle_batches.proofs.Runs.{some_kept, total_laid, kept_after, applied_after}
+use Rattle.merkle_batch_theory.specs.Contents.{held_peaks}
+use Rattle.merkle_batch_theory.specs.Held.{held_contents}
+use Rattle.merkle_batch_theory.specs.Linked.{IsLinked}
+use Rattle.merkle_batch_theory.specs.Recorded.{Recorded}
+use Rattle.merkle_batch_theory.specs.Replay.{all_laid, applied, laid, matched}
+use Rattle.merkle_batch_theory.specs.Store.{contents}
+use Rattle.merkle_batch_theory.proofs.Applied.{applied_or_collides}
+use Rattle.merkle_batch_theory.proofs.Runs.{some_kept, total_laid, kept_after, applied_after}
 use Rattle.merkle_core.proofs.mem.Mem.apply_batch.Goals as goal
 
 pub sub-added-requires : goal.sub-added-requires

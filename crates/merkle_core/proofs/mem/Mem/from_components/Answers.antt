@@ -1,8 +1,8 @@
 use Rattle.std.proofs.Common.{rules, ◌≡◌, ◌+◌, ◌-◌, ◌<◌, ◌≤◌, length, arith, ◌∙◌}
 use Rattle.merkle_base.specs.Forest.{size}
 use Rattle.merkle_base.specs.Places.{peak_positions}
-use Rattle.merkle_batches.specs.Held.{paired}
-use Rattle.merkle_batches.proofs.PinFacts.{size_within, kept_parts}
+use Rattle.merkle_batch_theory.specs.Held.{paired}
+use Rattle.merkle_batch_theory.proofs.PinFacts.{size_within, kept_parts}
 use Rattle.merkle_core.proofs.mem.Mem.from_components.Goals as goal
 
 pub overflow_sub-MAX_NODES : goal.overflow_sub-MAX_NODES

@@ -2,9 +2,9 @@ use Rattle.std.proofs.Common.{◌≡◌, ◌-◌, ◌<◌, ◌≤◌, sym, ◌�
 use Rattle.std.specs.List.{slice_get}
 use Rattle.std.specs.Map.{lookup}
 use Rattle.std.proofs.lemmas.Bool.{lt-ltb, le-ltb}
-use Rattle.merkle_batches.specs.Store.{node}
-use Rattle.merkle_batches.proofs.HeldNodes.{stored_reads}
-use Rattle.merkle_batches.proofs.Stored.{get_reads}
+use Rattle.merkle_batch_theory.specs.Store.{node}
+use Rattle.merkle_batch_theory.proofs.HeldNodes.{stored_reads}
+use Rattle.merkle_batch_theory.proofs.Stored.{get_reads}
 use Rattle.merkle_core.proofs.mem.Mem.get_node.Goals as goal
 
 pub returns-then-lt : goal.returns-then-lt

@@ -1,7 +1,7 @@
 use Rattle.std.proofs.Common.{[], sym, subst}
-use Rattle.merkle_batches.specs.Contents.{Agrees}
-use Rattle.merkle_batches.proofs.HeldNodes.{kept_none, contents_none}
-use Rattle.merkle_batches.proofs.Shown.{agrees_empty}
+use Rattle.merkle_batch_theory.specs.Contents.{Agrees}
+use Rattle.merkle_batch_theory.proofs.HeldNodes.{kept_none, contents_none}
+use Rattle.merkle_batch_theory.proofs.Shown.{agrees_empty}
 use Rattle.merkle_core.proofs.mem.Mem.new.Goals as goal
 
 pub invariant_of-result : goal.invariant_of-result

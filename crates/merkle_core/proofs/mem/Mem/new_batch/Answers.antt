@@ -1,8 +1,8 @@
 use Rattle.std.proofs.Common.{◌≡◌, ◌≤◌, [], ◌∷◌, length, arith, ap, sym, ◌∙◌, subst}
 use Rattle.merkle_base.specs.Forest.{size}
 use Rattle.merkle_base.proofs.Nodes.{size_inj}
-use Rattle.merkle_batches.specs.Recorded.{records, after}
-use Rattle.merkle_batches.specs.Stands.{StandsOn}
+use Rattle.merkle_batch_theory.specs.Recorded.{records, after}
+use Rattle.merkle_batch_theory.specs.Stands.{StandsOn}
 use Rattle.merkle_core.proofs.mem.Mem.new_batch.Goals as goal
 
 pub returns-in-Ok-clause-of_list : goal.returns-in-Ok-clause-of_list

@@ -1,8 +1,8 @@
 use Rattle.std.proofs.Common.{◌≡◌, length, arith, ap, sym, ◌∙◌, subst}
 use Rattle.merkle_base.proofs.Nodes.{size_inj}
-use Rattle.merkle_batches.specs.Contents.{Agrees, pruned}
-use Rattle.merkle_batches.specs.Store.{contents}
-use Rattle.merkle_batches.proofs.Agreed.{agree_pruned}
+use Rattle.merkle_batch_theory.specs.Contents.{Agrees, pruned}
+use Rattle.merkle_batch_theory.specs.Store.{contents}
+use Rattle.merkle_batch_theory.proofs.Agreed.{agree_pruned}
 use Rattle.merkle_core.proofs.mem.Mem.prune_all.Goals as goal
 
 pub returns-clause-pruned : goal.returns-clause-pruned

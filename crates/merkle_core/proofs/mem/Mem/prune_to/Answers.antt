@@ -1,11 +1,11 @@
 use Rattle.std.proofs.Common.{rules, ◌≡◌, ◌-◌, ◌<◌, drop, arith, ap, sym, ◌∙◌}
 use Rattle.merkle_base.specs.Places.{peak_positions}
 use Rattle.merkle_base.proofs.Nodes.{size_inj}
-use Rattle.merkle_batches.specs.Contents.{pruned}
-use Rattle.merkle_batches.specs.HeldPeaks.{pins_of}
-use Rattle.merkle_batches.specs.Store.{contents}
-use Rattle.merkle_batches.proofs.HeldNodes.{contents_reads}
-use Rattle.merkle_batches.proofs.PinFacts.{pruned_from, pruned_within, kept_after_pruning, pruned_contents}
+use Rattle.merkle_batch_theory.specs.Contents.{pruned}
+use Rattle.merkle_batch_theory.specs.HeldPeaks.{pins_of}
+use Rattle.merkle_batch_theory.specs.Store.{contents}
+use Rattle.merkle_batch_theory.proofs.HeldNodes.{contents_reads}
+use Rattle.merkle_batch_theory.proofs.PinFacts.{pruned_from, pruned_within, kept_after_pruning, pruned_contents}
 use Rattle.merkle_core.proofs.mem.Mem.prune_to.Goals as goal
 
 pub sub-requires : goal.sub-requires

@@ -6,9 +6,9 @@ use Rattle.merkle_base.specs.Forest.{size}
 use Rattle.merkle_base.specs.Hashing.{Hashing}
 use Rattle.merkle_base.specs.Places.{peaks_of}
 use Rattle.merkle_base.specs.Root.{peaks_root}
-use Rattle.merkle_batches.specs.Contents.{Contents, Agrees}
-use Rattle.merkle_batches.specs.Store.{contents}
-use Rattle.merkle_batches.proofs.Accepted.{peaks_agree}
+use Rattle.merkle_batch_theory.specs.Contents.{Contents, Agrees}
+use Rattle.merkle_batch_theory.specs.Store.{contents}
+use Rattle.merkle_batch_theory.proofs.Accepted.{peaks_agree}
 use Rattle.merkle_base.proofs.Nodes.{size_inj}
 use Rattle.merkle_core.proofs.mem.Mem.root.Goals as goal
 

@@ -1,5 +1,5 @@
 use Rattle.std.proofs.Common.{arith}
-use Rattle.merkle_batches.proofs.HeldNodes.{counted_nodes}
+use Rattle.merkle_batch_theory.proofs.HeldNodes.{counted_nodes}
 use Rattle.merkle_core.proofs.mem.Mem.size.Goals as goal
 
 pub add-requires : goal.add-requires

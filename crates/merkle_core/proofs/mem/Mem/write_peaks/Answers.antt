@@ -2,8 +2,8 @@ use Rattle.std.proofs.Common.{rules, map, length, arith, ap, ◌∙◌}
 use Rattle.std.proofs.lemmas.List.{length-map}
 use Rattle.merkle_base.specs.Places.{peaks_of, placed}
 use Rattle.merkle_base.proofs.PeakLists.{first-placed, few_peaks}
-use Rattle.merkle_batches.specs.HeldPeaks.{held_at}
-use Rattle.merkle_batches.specs.Store.{contents}
+use Rattle.merkle_batch_theory.specs.HeldPeaks.{held_at}
+use Rattle.merkle_batch_theory.specs.Store.{contents}
 use Rattle.merkle_core.proofs.mem.Mem.write_peaks.Goals as goal
 
 pub loop-position-init : goal.loop-position-init

@@ -1,8 +1,8 @@
 use Rattle.std.proofs.Common.{◌≡◌, ◌+◌, ◌≤◌, ◌++◌, ℕ, map, take, length}
 use Rattle.merkle_base.specs.Forest.{size}
-use Rattle.merkle_batches.specs.Contents.{held_peaks}
-use Rattle.merkle_batches.specs.Store.{contents}
-use Rattle.merkle_batches.specs.HeldPeaks.{held_at}
+use Rattle.merkle_batch_theory.specs.Contents.{held_peaks}
+use Rattle.merkle_batch_theory.specs.Store.{contents}
+use Rattle.merkle_batch_theory.specs.HeldPeaks.{held_at}
 use Rattle.merkle_core.proofs.mem.Mem.write_peaks.Given as goal
 
 abbrev pub invariant-loop-position : goal.invariant-loop-position

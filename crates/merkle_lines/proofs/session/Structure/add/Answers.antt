@@ -1,7 +1,7 @@
 use Rattle.std.proofs.Common.{refl, sym, ap, subst, ◌∙◌, ◌≡◌, length, arith, inl, inr}
 use Rattle.merkle_base.specs.Forest.{size}
 use Rattle.merkle_base.specs.Hashing.{Hashing}
-use Rattle.merkle_batches.specs.Pending.{leaf_total, with_leaf}
+use Rattle.merkle_batch_theory.specs.Pending.{leaf_total, with_leaf}
 use Rattle.merkle_hasher.specs.Standard.{standard}
 use Rattle.merkle_lines.specs.Answers.{error_line, with_element, without_added}
 use Rattle.merkle_lines.specs.Held.{adding, IsHeld}

@@ -2,9 +2,9 @@ use Rattle.std.proofs.Common.{refl, sym, ap, subst, ◌∙◌, ◌≡◌, List, 
 use Rattle.merkle_base.specs.Forest.{size}
 use Rattle.merkle_base.specs.Hashing.{Hashing}
 use Rattle.merkle_base.specs.declared.error.Error.TheVariants.{OutOfMemory}
-use Rattle.merkle_batches.specs.Pending.{kept_lists, pending_list}
-use Rattle.merkle_batches.specs.Recorded.{Chain, records}
-use Rattle.merkle_batches.specs.Stands.{StandsOn}
+use Rattle.merkle_batch_theory.specs.Pending.{kept_lists, pending_list}
+use Rattle.merkle_batch_theory.specs.Recorded.{Chain, records}
+use Rattle.merkle_batch_theory.specs.Stands.{StandsOn}
 use Rattle.merkle_hasher.specs.Standard.{standard}
 use Rattle.merkle_lines.specs.Answers.{all_committed, error_line, leaf_digests, without_added}
 use Rattle.merkle_lines.specs.Held.{adding, IsHeld}

@@ -1,5 +1,5 @@
 use Rattle.std.proofs.Common.{◌≡◌, ◌+◌, ◌^◌, ◌≤◌, ℕ, length, arith, ap, sym, ◌∙◌}
-use Rattle.merkle_forests.specs.Mmb.{birth_leaf}
+use Rattle.merkle_forest_theory.specs.Mmb.{birth_leaf}
 use Rattle.merkle_topology.proofs.BeltRoots.{IsHalved, stretch_birth, stretch_halved, stretch_first}
 use Rattle.merkle_topology.proofs.mmb.ChunkPeaksIterator.next.Goals as goal
 

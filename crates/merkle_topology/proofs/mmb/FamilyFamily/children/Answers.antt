@@ -3,8 +3,8 @@ use Rattle.std.proofs.lemmas.Nat.{one_shl}
 use Rattle.merkle_base.specs.Forest.{size}
 use Rattle.merkle_base.specs.Places.{HasInner}
 use Rattle.merkle_base.proofs.Limits.{lawful_position}
-use Rattle.merkle_forests.specs.Mmb.{newest_pair}
-use Rattle.merkle_forests.proofs.BeltLawful.{mmb_lawful}
+use Rattle.merkle_forest_theory.specs.Mmb.{newest_pair}
+use Rattle.merkle_forest_theory.proofs.BeltLawful.{mmb_lawful}
 use Rattle.merkle_topology.proofs.BeltNodes.{mmb_inner, IsInner}
 use Rattle.merkle_topology.proofs.mmb.FamilyFamily.children.Goals as goal
 

@@ -1,6 +1,6 @@
 use Rattle.std.proofs.Common.{◌+◌, arith, ap, sym, ◌∙◌, subst}
 use Rattle.merkle_base.specs.Places.{IsHeightAt}
-use Rattle.merkle_forests.specs.Mmb.{newest_pair}
+use Rattle.merkle_forest_theory.specs.Mmb.{newest_pair}
 use Rattle.merkle_topology.proofs.BeltNodes.{mmb_leaf_height, mmb_parent_height}
 use Rattle.merkle_topology.proofs.mmb.FamilyFamily.pos_to_height.Goals as goal
 

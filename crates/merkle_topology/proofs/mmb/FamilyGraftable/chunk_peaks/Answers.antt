@@ -3,10 +3,10 @@ use Rattle.merkle_base.specs.Places.{placed}
 use Rattle.merkle_base.specs.Grafting.{nodes_inside, stretch_nodes}
 use Rattle.merkle_base.proofs.Nodes.{size_inj, size_le}
 use Rattle.merkle_base.proofs.Chunks.{nodes_inside_stretch}
-use Rattle.merkle_forests.specs.Mmb.{newest_pair, root_position, belt_birth}
-use Rattle.merkle_forests.proofs.Coordinates.{mmb_coordinates}
-use Rattle.merkle_forests.proofs.MountainBelt.{mmb_equal}
-use Rattle.merkle_forests.proofs.BeltLawful.{mmb_lawful}
+use Rattle.merkle_forest_theory.specs.Mmb.{newest_pair, root_position, belt_birth}
+use Rattle.merkle_forest_theory.proofs.Coordinates.{mmb_coordinates}
+use Rattle.merkle_forest_theory.proofs.MountainBelt.{mmb_equal}
+use Rattle.merkle_forest_theory.proofs.BeltLawful.{mmb_lawful}
 use Rattle.merkle_topology.proofs.LeafCounts.{size_only}
 use Rattle.merkle_topology.proofs.ChunkNumbers.{chunk_within}
 use Rattle.merkle_topology.proofs.mmb.FamilyGraftable.chunk_peaks.Goals as goal

@@ -1,8 +1,8 @@
 use Rattle.std.proofs.Common.{◌∙◌}
 use Rattle.merkle_base.proofs.Chunks.{first_leaf_once}
-use Rattle.merkle_forests.specs.Mmb.{newest_pair, root_position, belt_birth}
-use Rattle.merkle_forests.proofs.Coordinates.{mmb_coordinates}
-use Rattle.merkle_forests.proofs.MountainBelt.{mmb_equal}
+use Rattle.merkle_forest_theory.specs.Mmb.{newest_pair, root_position, belt_birth}
+use Rattle.merkle_forest_theory.proofs.Coordinates.{mmb_coordinates}
+use Rattle.merkle_forest_theory.proofs.MountainBelt.{mmb_equal}
 use Rattle.merkle_topology.proofs.mmb.FamilyGraftable.leftmost_leaf.Goals as goal
 
 pub returns-clause-node : goal.returns-clause-node

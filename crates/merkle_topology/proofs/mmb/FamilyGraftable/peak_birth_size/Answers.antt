@@ -1,9 +1,9 @@
 use Rattle.std.proofs.Common.{◌≡◌, ◌+◌, arith, subst, sym, ◌∙◌}
 use Rattle.merkle_base.specs.Grafting.{IsBirthSize}
 use Rattle.merkle_base.proofs.Chunks.{birth_least}
-use Rattle.merkle_forests.specs.Mmb.{newest_pair, root_position, belt_birth}
-use Rattle.merkle_forests.proofs.Coordinates.{mmb_coordinates}
-use Rattle.merkle_forests.proofs.MountainBelt.{mmb_equal}
+use Rattle.merkle_forest_theory.specs.Mmb.{newest_pair, root_position, belt_birth}
+use Rattle.merkle_forest_theory.proofs.Coordinates.{mmb_coordinates}
+use Rattle.merkle_forest_theory.proofs.MountainBelt.{mmb_equal}
 use Rattle.merkle_topology.proofs.mmb.FamilyGraftable.peak_birth_size.Goals as goal
 
 pub returns-clause-node : goal.returns-clause-node

@@ -1,8 +1,8 @@
 use Rattle.std.proofs.Common.{sym, ◌∙◌}
 use Rattle.merkle_base.proofs.Chunks.{root_node}
-use Rattle.merkle_forests.specs.Mmb.{newest_pair, root_position, belt_birth}
-use Rattle.merkle_forests.proofs.Coordinates.{mmb_coordinates}
-use Rattle.merkle_forests.proofs.MountainBelt.{mmb_equal}
+use Rattle.merkle_forest_theory.specs.Mmb.{newest_pair, root_position, belt_birth}
+use Rattle.merkle_forest_theory.proofs.Coordinates.{mmb_coordinates}
+use Rattle.merkle_forest_theory.proofs.MountainBelt.{mmb_equal}
 use Rattle.merkle_topology.proofs.BeltRoots.{birth_within}
 use Rattle.merkle_topology.proofs.mmb.FamilyGraftable.subtree_root_position.Goals as goal
 

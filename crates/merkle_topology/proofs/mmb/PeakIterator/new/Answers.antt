@@ -2,8 +2,8 @@ use Rattle.std.proofs.Common.{◌≡◌, ◌*◌, ◌^◌, suc, map, arith, ap, 
 use Rattle.merkle_base.proofs.Nodes.{size_le}
 use Rattle.merkle_base.specs.Forest.{size}
 use Rattle.merkle_base.specs.Places.{placed, peaks_of}
-use Rattle.merkle_forests.specs.Mmb.{newest_pair}
-use Rattle.merkle_forests.proofs.BeltLawful.{mmb_lawful}
+use Rattle.merkle_forest_theory.specs.Mmb.{newest_pair}
+use Rattle.merkle_forest_theory.proofs.BeltLawful.{mmb_lawful}
 use Rattle.merkle_topology.proofs.LeafCounts.{size_only}
 use Rattle.merkle_topology.proofs.BeltPeaks.{newest_all}
 use Rattle.merkle_topology.proofs.mmb.PeakIterator.new.Goals as goal

@@ -2,9 +2,9 @@ use Rattle.std.proofs.Common.{◌≡◌, ℕ, ◌^◌, ◌<◌, ◌≤◌, suc, 
 use Rattle.std.proofs.lemmas.Nat.{one_shl}
 use Rattle.merkle_base.specs.Tree.{Tree, leaf, join, height}
 use Rattle.merkle_base.specs.Forest.{forest}
-use Rattle.merkle_forests.specs.Mmr.{carries}
-use Rattle.merkle_forests.proofs.MountainRange.{mmr_children}
-use Rattle.merkle_forests.proofs.RangeLawful.{mmr_lawful}
+use Rattle.merkle_forest_theory.specs.Mmr.{carries}
+use Rattle.merkle_forest_theory.proofs.MountainRange.{mmr_children}
+use Rattle.merkle_forest_theory.proofs.RangeLawful.{mmr_lawful}
 use Rattle.merkle_base.proofs.Limits.{lawful_height}
 use Rattle.merkle_base.proofs.Growth.{forest_grown}
 use Rattle.merkle_base.proofs.Nodes.{same_position}

@@ -1,8 +1,8 @@
 use Rattle.std.proofs.Common.{arith}
 use Rattle.std.proofs.lemmas.Bool.{leb-true}
 use Rattle.merkle_base.proofs.Nodes.{size_le}
-use Rattle.merkle_forests.specs.Mmr.{carries}
-use Rattle.merkle_forests.proofs.RangeLawful.{mmr_lawful}
+use Rattle.merkle_forest_theory.specs.Mmr.{carries}
+use Rattle.merkle_forest_theory.proofs.RangeLawful.{mmr_lawful}
 use Rattle.merkle_topology.proofs.LeafCounts.{size_tested}
 use Rattle.merkle_topology.proofs.mmr.FamilyFamily.is_valid_size.Goals as goal
 

@@ -1,8 +1,8 @@
 use Rattle.std.proofs.Common.{ap, sym, ◌∙◌, arith, w64}
 use Rattle.std.specs.Int.{trailing_ones}
 use Rattle.std.specs.List.{range_with_len}
-use Rattle.merkle_forests.proofs.Digits.{ends_trailing}
-use Rattle.merkle_forests.proofs.MountainRange.{mmr_parents}
+use Rattle.merkle_forest_theory.proofs.Digits.{ends_trailing}
+use Rattle.merkle_forest_theory.proofs.MountainRange.{mmr_parents}
 use Rattle.merkle_topology.proofs.mmr.FamilyFamily.parent_heights.Goals as goal
 
 pub returns : goal.returns

@@ -1,7 +1,7 @@
 use Rattle.std.proofs.Common.{arith, ◌+◌, ◌-◌, ◌<◌, ◌≤◌, ◌≡◌, ℕ, subst}
 use Rattle.merkle_base.specs.Forest.{size}
 use Rattle.merkle_base.specs.Places.{IsHeightAt}
-use Rattle.merkle_forests.specs.Mmr.{carries}
+use Rattle.merkle_forest_theory.specs.Mmr.{carries}
 use Rattle.merkle_topology.proofs.LeafCounts.{mmr_height}
 use Rattle.merkle_topology.proofs.mmr.FamilyFamily.pos_to_height.Goals as goal
 

@@ -1,6 +1,6 @@
 use Rattle.std.proofs.Common.{ap, sym, ◌∙◌}
 use Rattle.merkle_base.specs.Forest.{size}
-use Rattle.merkle_forests.specs.Mmr.{carries}
+use Rattle.merkle_forest_theory.specs.Mmr.{carries}
 use Rattle.merkle_topology.proofs.LeafCounts.{size_only}
 use Rattle.merkle_topology.proofs.mmr.FamilyFamily.position_to_location.Goals as goal
 

@@ -3,9 +3,9 @@ use Rattle.merkle_base.specs.Places.{placed}
 use Rattle.merkle_base.specs.Grafting.{nodes_inside}
 use Rattle.merkle_base.proofs.Nodes.{size_inj}
 use Rattle.merkle_base.proofs.Chunks.{nodes_inside_born}
-use Rattle.merkle_forests.specs.Mmr.{carries, range_root, range_birth}
-use Rattle.merkle_forests.proofs.Coordinates.{mmr_coordinates}
-use Rattle.merkle_forests.proofs.MountainRange.{mmr_equal}
+use Rattle.merkle_forest_theory.specs.Mmr.{carries, range_root, range_birth}
+use Rattle.merkle_forest_theory.proofs.Coordinates.{mmr_coordinates}
+use Rattle.merkle_forest_theory.proofs.MountainRange.{mmr_equal}
 use Rattle.merkle_topology.proofs.ChunkNumbers.{chunk_within}
 use Rattle.merkle_topology.proofs.RangeRoots.{chunk_root}
 use Rattle.merkle_topology.proofs.mmr.FamilyGraftable.chunk_peaks.Goals as goal

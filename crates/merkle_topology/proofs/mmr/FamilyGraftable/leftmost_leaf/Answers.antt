@@ -1,8 +1,8 @@
 use Rattle.std.proofs.Common.{◌∙◌}
 use Rattle.merkle_base.proofs.Chunks.{first_leaf_once}
-use Rattle.merkle_forests.specs.Mmr.{carries, range_root, range_birth}
-use Rattle.merkle_forests.proofs.Coordinates.{mmr_coordinates}
-use Rattle.merkle_forests.proofs.MountainRange.{mmr_equal}
+use Rattle.merkle_forest_theory.specs.Mmr.{carries, range_root, range_birth}
+use Rattle.merkle_forest_theory.proofs.Coordinates.{mmr_coordinates}
+use Rattle.merkle_forest_theory.proofs.MountainRange.{mmr_equal}
 use Rattle.merkle_topology.proofs.mmr.FamilyGraftable.leftmost_leaf.Goals as goal
 
 pub returns-clause-node : goal.returns-clause-node

@@ -2,9 +2,9 @@ use Rattle.std.proofs.Common.{◌≡◌, ◌+◌, ◌*◌, ◌%◌, ◌^◌, ari
 use Rattle.std.proofs.lemmas.Nat.{one_shl}
 use Rattle.merkle_base.specs.Grafting.{IsBirthSize}
 use Rattle.merkle_base.proofs.Chunks.{birth_least}
-use Rattle.merkle_forests.specs.Mmr.{carries, range_root, range_birth}
-use Rattle.merkle_forests.proofs.Coordinates.{mmr_coordinates}
-use Rattle.merkle_forests.proofs.MountainRange.{mmr_equal}
+use Rattle.merkle_forest_theory.specs.Mmr.{carries, range_root, range_birth}
+use Rattle.merkle_forest_theory.proofs.Coordinates.{mmr_coordinates}
+use Rattle.merkle_forest_theory.proofs.MountainRange.{mmr_equal}
 use Rattle.merkle_topology.proofs.mmr.FamilyGraftable.peak_birth_size.Goals as goal
 
 pub returns-clause-formula : goal.returns-clause-formula

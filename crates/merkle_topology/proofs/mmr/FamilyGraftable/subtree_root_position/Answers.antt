@@ -1,8 +1,8 @@
 use Rattle.std.proofs.Common.{sym, ◌∙◌}
 use Rattle.merkle_base.proofs.Chunks.{root_node}
-use Rattle.merkle_forests.specs.Mmr.{carries, range_root, range_birth}
-use Rattle.merkle_forests.proofs.Coordinates.{mmr_coordinates}
-use Rattle.merkle_forests.proofs.MountainRange.{mmr_equal}
+use Rattle.merkle_forest_theory.specs.Mmr.{carries, range_root, range_birth}
+use Rattle.merkle_forest_theory.proofs.Coordinates.{mmr_coordinates}
+use Rattle.merkle_forest_theory.proofs.MountainRange.{mmr_equal}
 use Rattle.merkle_topology.proofs.mmr.FamilyGraftable.subtree_root_position.Goals as goal
 
 pub returns-clause-node : goal.returns-clause-node

@@ -1,8 +1,8 @@
 use Rattle.std.proofs.Common.{ap, sym, ◌∙◌, arith}
 use Rattle.merkle_base.proofs.Nodes.{size_le}
-use Rattle.merkle_forests.specs.Mmr.{carries}
+use Rattle.merkle_forest_theory.specs.Mmr.{carries}
 use Rattle.merkle_topology.specs.Perfect.{trees_from}
-use Rattle.merkle_forests.proofs.RangeLawful.{mmr_lawful}
+use Rattle.merkle_forest_theory.proofs.RangeLawful.{mmr_lawful}
 use Rattle.merkle_topology.proofs.Perfect.{trees_forest}
 use Rattle.merkle_topology.proofs.mmr.PeakIterator.new.Goals as goal
 

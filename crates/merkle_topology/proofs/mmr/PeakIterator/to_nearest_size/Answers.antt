@@ -1,6 +1,6 @@
 use Rattle.std.proofs.Common.{ℕ, sym, ◌∙◌, subst, arith}
 use Rattle.merkle_base.specs.Places.{IsNearestSize}
-use Rattle.merkle_forests.specs.Mmr.{carries}
+use Rattle.merkle_forest_theory.specs.Mmr.{carries}
 use Rattle.merkle_topology.proofs.LeafCounts.{size_nearest}
 use Rattle.merkle_topology.proofs.mmr.PeakIterator.to_nearest_size.Goals as goal
 

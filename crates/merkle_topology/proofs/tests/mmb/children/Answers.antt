@@ -1,7 +1,7 @@
 use Rattle.std.proofs.Common.{◌≡◌, Some, slice_get, refl, arith, subst, sym, ℕ}
 use Rattle.merkle_base.specs.Tree.{Tree, leaf, join, height}
 use Rattle.merkle_base.specs.Forest.{forest}
-use Rattle.merkle_forests.specs.Mmb.{newest_pair}
+use Rattle.merkle_forest_theory.specs.Mmb.{newest_pair}
 use Rattle.merkle_topology.proofs.tests.mmb.children.Goals as goal
 
 right : Tree

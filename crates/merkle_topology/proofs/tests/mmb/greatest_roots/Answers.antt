@@ -1,5 +1,5 @@
 use Rattle.std.proofs.Common.{arith}
-use Rattle.merkle_forests.proofs.BeltLawful.{mmb_lawful}
+use Rattle.merkle_forest_theory.proofs.BeltLawful.{mmb_lawful}
 use Rattle.merkle_topology.proofs.BeltRoots.{root_within}
 use Rattle.merkle_topology.proofs.tests.mmb.greatest_roots.Goals as goal
 

@@ -1,6 +1,6 @@
 use Rattle.std.proofs.Common.{arith}
 use Rattle.merkle_base.proofs.Births.{size_peaks}
-use Rattle.merkle_forests.specs.Mmr.{carries}
+use Rattle.merkle_forest_theory.specs.Mmr.{carries}
 use Rattle.merkle_topology.proofs.tests.mmr.roots.Goals as goal
 
 pub assert_root-requires-clause-within : goal.assert_root-requires-clause-within

@@ -1,0 +1,116 @@
+-- Records that follow one another, and a structure that they are laid over.
+use Rattle.std.proofs.Common.{◌≡◌, ℕ, zero, suc, ◌+◌, ◌-◌, ◌≤◌, List, [], ◌∷◌, ◌++◌, length, map, take, drop, Bool, true, Some, None, Ok, cond, arith, refl, sym, ap, ◌∙◌, subst, inl, inr, nat_eq, length-drop}
+use Rattle.std.specs.Prelude.{◌&&◌, ◌==◌, is_some}
+use Rattle.std.specs.Cmp.Lexicographic.{pointwise}
+use Rattle.std.specs.Map.{lookup}
+use Rattle.std.proofs.lemmas.Bool.{cases_lt, eqb-true, and_parts}
+use Rattle.std.proofs.lemmas.List.{length-map, take_all}
+use Rattle.merkle_base.proofs.Nodes.{size_lt}
+use Rattle.merkle_batch_theory.specs.Contents.{Contents, held_peaks}
+use Rattle.merkle_batch_theory.specs.Held.{held_contents, total_appended}
+use Rattle.merkle_batch_theory.specs.Linked.{IsLinked, RunsFrom}
+use Rattle.merkle_batch_theory.specs.Recorded.{Recorded, Chain, after, records}
+use Rattle.merkle_batch_theory.specs.Replay.{laid, all_laid, last_match, begins_at, ends_at, oldest, matched, applied}
+use Rattle.merkle_batch_theory.specs.Store.{Store, contents, stored_of}
+use Rattle.merkle_batch_theory.specs.Whole.{IsKept}
+use Rattle.merkle_batch_theory.proofs.HeldNodes.{contents_reads}
+use Rattle.merkle_base.proofs.Cases.{by_test}
+
+same_size : (n m : ℕ) (b : Bool) → (n == m) && b ≡ true → n ≡ m
+same_size n m b e = eqb-true n m (and_parts (n == m) b e).0
+
+drop_left : {X : Type 0} (i : ℕ) (xs ys : List X) → i ≤ length xs → drop i (xs ++ ys) ≡ drop i xs ++ ys
+drop_left zero xs ys h = refl
+drop_left (suc i) [] ys h = absurd (omega arith)
+drop_left (suc i) (x ∷ xs) ys h = drop_left i xs ys (omega arith)
+
+drop_map : {X Y : Type 0} (f : X → Y) (i : ℕ) (xs : List X) → map f (drop i xs) ≡ drop i (map f xs)
+drop_map f zero xs = refl
+drop_map f (suc i) [] = refl
+drop_map f (suc i) (x ∷ xs) = drop_map f i xs
+
+module _ {D : Type 0} where
+  -- where records run to
+  ends : (n : ℕ) (rs : List (Recorded D)) (own : Recorded D) → RunsFrom n (rs ++ own ∷ []) → n + total_appended (rs ++ own ∷ []) ≡ after own
+  ends n [] own h = omega (arith, h.0)
+  ends n (r ∷ rs) own h = omega (arith, h.0, ends (after r) rs own h.1)
+
+  module _ (same : D → D → Bool) (n : ℕ) (peaks : List D) where
+    abbrev IsFound : List (Recorded D) → Recorded D → ℕ → Type 0
+    IsFound rs own i = (i ≤ length rs) × (n + total_appended (drop i (rs ++ own ∷ [])) ≡ after own)
+
+    -- the last record that ends at a size: the rest go on from it
+    ends_from : (rs : List (Recorded D)) (own : Recorded D) (m i : ℕ) → RunsFrom m (rs ++ own ∷ []) → last_match (ends_at same n peaks) rs ≡ Some i → IsFound rs own i
+    ends_from [] own m i h e = absurd (cc)
+    ends_from (r ∷ rs) own m i h e =
+        elim (last_match (ends_at same n peaks) rs) as (λ o. last_match (ends_at same n peaks) rs ≡ o → elim o [ Some j ↦ Some (suc j) | None ↦ cond (ends_at same n peaks r) (Some 1) None ] ≡ Some i → IsFound (r ∷ rs) own i) [
+          | Some j ↦ λ was is. (let k = ends_from rs own (after r) j h.1 was in let at : suc j ≡ i = cc in subst (IsFound (r ∷ rs) own) at (omega (arith, k.0), k.1))
+          | None ↦ λ was is. by_test (λ b. ends_at same n peaks r ≡ b → cond b (Some 1) None ≡ Some i → IsFound (r ∷ rs) own i) (ends_at same n peaks r)
+              (λ _ t is'. let at : 1 ≡ i = cc in subst (IsFound (r ∷ rs) own) at (omega arith, omega (arith, same_size n (after r) (pointwise same peaks r.peaks_after) t, ends (after r) rs own h.1)))
+              (λ _ t is'. absurd (cc)) refl is
+        ] refl e
+
+    -- what follows the state that is matched leads to the end
+    found : (c : Chain D) (i : ℕ) → RunsFrom (oldest c).before (records c) → matched same n peaks c ≡ Some i → IsFound c.ancestors c.own i
+    found c i runs e = by_test (λ b. begins_at same n peaks (oldest c) ≡ b → cond b (Some 0) (last_match (ends_at same n peaks) c.ancestors) ≡ Some i → IsFound c.ancestors c.own i) (begins_at same n peaks (oldest c))
+        (λ _ t is. let at : 0 ≡ i = cc in subst (IsFound c.ancestors c.own) at (omega arith, omega (arith, same_size n (oldest c).before (pointwise same peaks (oldest c).peaks_before) t, ends (oldest c).before c.ancestors c.own runs)))
+        (λ _ t is. ends_from c.ancestors c.own (oldest c).before i runs is) refl e
+
+  total_last : (rs : List (Recorded D)) (r : Recorded D) → total_appended (rs ++ r ∷ []) ≡ total_appended rs + length r.appended
+  total_last [] r = omega arith
+  total_last (s ∷ rs) r = omega (arith, total_last rs r)
+
+  -- the last record laid over what the others gave
+  all_last : (rs : List (Recorded D)) (r : Recorded D) (c : Contents D) → all_laid (rs ++ r ∷ []) c ≡ laid r (all_laid rs c)
+  all_last [] r c = refl
+  all_last (s ∷ rs) r c = all_last rs r (laid s c)
+
+-- the kept records, as they lie in a vector
+module _ {D X : Type 0} (rule : List ℕ → List ℕ) (max_leaves leaves : ℕ) (same : D → D → Bool) (c : Chain D) (linked : IsLinked rule max_leaves leaves c) (value : X → Recorded D) (xs : List X) (are : map value xs ≡ c.ancestors)
+    (n first : ℕ) (peaks : List D) (m : matched same n peaks c ≡ Some first) where
+  abbrev kept_part : List (Recorded D)
+  kept_part = map value (take (length xs - first) (drop first xs))
+
+  pub some_kept : first ≤ length xs
+  some_kept = omega (arith, (found same n peaks c first linked.runs m).0, ap length are, length-map xs value)
+
+  part : kept_part ≡ drop first c.ancestors
+  part = ap (map value) (take_all (length xs - first) (drop first xs) (omega (arith, length-drop first xs))) ∙ drop_map value first xs ∙ ap (drop first) are
+
+  -- the records that are laid
+  pub laid_records : drop first (records c) ≡ kept_part ++ c.own ∷ []
+  laid_records = drop_left first c.ancestors (c.own ∷ []) (found same n peaks c first linked.runs m).0 ∙ ap (λ rs. rs ++ c.own ∷ []) (sym part)
+
+  pub total_laid : n + (total_appended kept_part + length c.own.appended) ≡ after c.own
+  total_laid = omega (arith, (found same n peaks c first linked.runs m).1, ap total_appended laid_records, total_last kept_part c.own)
+
+  module _ (boundary start held : ℕ) (pins pins1 pins2 : List (ℕ × D)) (nodes nodes1 nodes2 : List D) (before : IsKept rule max_leaves boundary start held pins nodes) (sized : n ≡ start + length nodes)
+      (len1 : length nodes1 ≡ length nodes + total_appended kept_part) (len2 : length nodes2 ≡ length nodes1 + length c.own.appended)
+      (pinned1 : (p : ℕ) → is_some (lookup (nat_eq p) pins1) ≡ is_some (lookup (nat_eq p) pins)) (pinned2 : (p : ℕ) → is_some (lookup (nat_eq p) pins2) ≡ is_some (lookup (nat_eq p) pins1)) where
+    nodes_after : start + length nodes2 ≡ after c.own
+    nodes_after = omega (arith, total_laid, sized, len1, len2)
+
+    low : boundary ≤ leaves
+    low = elim (cases_lt leaves boundary) [
+      | inl l ↦ absurd (omega (arith, size_lt rule leaves boundary l, linked.counted.sized, before.starts, nodes_after))
+      | inr l ↦ l
+    ]
+
+    -- what holds of the fields holds after the records are laid
+    pub kept_after : IsKept rule max_leaves boundary start leaves pins2 nodes2
+    kept_after = record {
+      starts = before.starts;
+      within = low;
+      counted = record { bounded = linked.counted.bounded; sized = linked.counted.sized ∙ sym nodes_after };
+      pinned = λ p. pinned2 p ∙ pinned1 p ∙ before.pinned p;
+    }
+
+    -- and the batch is applied
+    pub applied_after : held_contents boundary pins1 start nodes1 ≡ all_laid kept_part (held_contents boundary pins start nodes) → held_contents boundary pins2 start nodes2 ≡ laid c.own (held_contents boundary pins1 start nodes1) → (k : ℕ) (old : Store D) →
+        record { boundary = boundary; size = start + length nodes; stored = stored_of pins start nodes } ≡ old → matched same old.size (held_peaks rule k (contents old)) c ≡ Some first →
+        applied same rule k c (contents old) ≡ Ok (contents (record { boundary = boundary; size = start + length nodes2; stored = stored_of pins2 start nodes2 }))
+    applied_after laid1 laid2 k old is at =
+        let was : contents old ≡ held_contents boundary pins start nodes = sym (ap contents is) ∙ contents_reads rule max_leaves boundary start held pins nodes before in
+        let now : contents (record { boundary = boundary; size = start + length nodes2; stored = stored_of pins2 start nodes2 }) ≡ all_laid (drop first (records c)) (contents old) =
+        contents_reads rule max_leaves boundary start leaves pins2 nodes2 kept_after ∙ laid2 ∙ ap (laid c.own) laid1 ∙ sym (all_last kept_part c.own (held_contents boundary pins start nodes)) ∙ sym (λ i. all_laid (laid_records i) (was i)) in
+        rw (applied, at) (ap Ok (sym now))

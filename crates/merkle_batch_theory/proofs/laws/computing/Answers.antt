@@ -1,0 +1,6 @@
+use Rattle.merkle_batch_theory.proofs.Through.{made, unchanged}
+use Rattle.merkle_batch_theory.proofs.Needs.{used_kept}
+use Rattle.merkle_batch_theory.proofs.laws.computing.Goals as goal
+
+pub returns : goal.returns
+returns g c = record { made = made; unchanged = unchanged; used = used_kept }

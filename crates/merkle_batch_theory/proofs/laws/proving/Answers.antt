@@ -1,0 +1,5 @@
+use Rattle.merkle_batch_theory.proofs.Needs.{sibling_kept, peaks_kept}
+use Rattle.merkle_batch_theory.proofs.laws.proving.Goals as goal
+
+pub returns : goal.returns
+returns c = record { peaks = peaks_kept; siblings = sibling_kept }

@@ -1,0 +1,5 @@
+use Rattle.merkle_batch_theory.proofs.Shown.{agrees_empty, agrees_shows, batch_shows, taken}
+use Rattle.merkle_batch_theory.proofs.laws.showing.Goals as goal
+
+pub returns : goal.returns
+returns g c = record { empty = agrees_empty; agrees = agrees_shows; batch = batch_shows; taken = taken }

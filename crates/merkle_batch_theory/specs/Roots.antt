@@ -1,0 +1,14 @@
+-- The batch that every chain begins with.
+use Rattle.std.specs.Prelude.{ℕ, List, []}
+use Rattle.std.specs.FinMap.{empty}
+use Rattle.merkle_batch_theory.specs.Contents.{Contents, held_peaks}
+use Rattle.merkle_batch_theory.specs.Recorded.{Chain}
+
+-- a batch without changes to what a structure of n leaves holds
+abbrev pub root_batch : {D : Type 0} → (List ℕ → List ℕ) → ℕ → Contents D → Chain D
+root_batch rule n c = record {
+  base_size = c.size;
+  boundary = c.boundary;
+  ancestors = [];
+  own = record { before = c.size; peaks_before = held_peaks rule n c; appended = []; overwritten = empty; peaks_after = held_peaks rule n c };
+}

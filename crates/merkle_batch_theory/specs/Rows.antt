@@ -1,0 +1,76 @@
+-- Small cases, with the exclusive or in the place of a hash.
+use Rattle.std.specs.Prelude.{ℕ, [], ◌∷◌, Option, Some, None, cond, nat_eq, bit_xor, fold, slice_get, ◌==◌, ◌||◌}
+use Rattle.std.specs.FinMap.{empty, from_entries}
+use Rattle.merkle_base.specs.Hashing.{Hashing}
+use Rattle.merkle_forest_theory.specs.Mmr.{carries}
+use Rattle.merkle_batch_theory.specs.Contents.{Contents, pruned}
+use Rattle.merkle_batch_theory.specs.Recorded.{Recorded, Chain}
+use Rattle.merkle_batch_theory.specs.Pending.{Pending, forked}
+use Rattle.merkle_batch_theory.specs.Roots.{root_batch}
+
+-- leaf, node and fold are the exclusive or of what they take, and so is the hash of bytes
+abbrev pub xor : Hashing ℕ
+xor = record {
+  leaf = λ p element. bit_xor p (fold bit_xor 0 element);
+  node = λ p a b. bit_xor p (bit_xor a b);
+  fold = bit_xor;
+  hash = fold bit_xor 0;
+  bytes = λ d. d ∷ [];
+  same = nat_eq;
+  empty = 0;
+}
+
+-- two leaves over nothing
+abbrev pub first_record : Recorded ℕ
+first_record = record { before = 0; peaks_before = []; appended = 1 ∷ 3 ∷ 0 ∷ []; overwritten = empty; peaks_after = 0 ∷ [] }
+
+-- leaf 0 changed, and a third leaf
+abbrev pub second_record : Recorded ℕ
+second_record = record { before = 3; peaks_before = 0 ∷ []; appended = 7 ∷ []; overwritten = from_entries ((0, 17) ∷ (2, 16) ∷ []); peaks_after = 16 ∷ 7 ∷ [] }
+
+abbrev pub second_batch : Chain ℕ
+second_batch = record { base_size = 0; boundary = 0; ancestors = first_record ∷ []; own = second_record }
+
+abbrev pub nothing : Contents ℕ
+nothing = record { boundary = 0; size = 0; node = λ p. None }
+
+-- one leaf, and two
+abbrev pub one : Contents ℕ
+one = record { boundary = 0; size = 1; node = slice_get (1 ∷ []) }
+
+abbrev pub two : Contents ℕ
+two = record { boundary = 0; size = 3; node = slice_get (1 ∷ 3 ∷ 0 ∷ []) }
+
+-- a digest for the positions a and b
+abbrev pub at_two : ℕ → ℕ → ℕ → Option ℕ
+at_two a b p = cond (p == a || p == b) (Some 0) None
+
+-- five leaves, and a batch that changes the first of them
+abbrev pub five : Contents ℕ
+five = record { boundary = 0; size = 8; node = slice_get (1 ∷ 3 ∷ 0 ∷ 0 ∷ 0 ∷ 5 ∷ 3 ∷ 2 ∷ []) }
+
+abbrev pub change : Recorded ℕ
+change = record { before = 8; peaks_before = 3 ∷ 2 ∷ []; appended = []; overwritten = from_entries ((0, 17) ∷ (2, 16) ∷ (6, 19) ∷ []); peaks_after = 19 ∷ 2 ∷ [] }
+
+-- the two leaves exchanged, which their peak does not tell
+abbrev pub exchange : Recorded ℕ
+exchange = record { before = 3; peaks_before = 0 ∷ []; appended = []; overwritten = from_entries ((0, 3) ∷ (1, 1) ∷ (2, 0) ∷ []); peaks_after = 0 ∷ [] }
+
+-- a third leaf
+abbrev pub addition : Recorded ℕ
+addition = record { before = 3; peaks_before = 0 ∷ []; appended = 7 ∷ []; overwritten = empty; peaks_after = 0 ∷ 7 ∷ [] }
+
+abbrev pub exchanged_batch : Chain ℕ
+exchanged_batch = record { base_size = 0; boundary = 0; ancestors = first_record ∷ exchange ∷ []; own = addition }
+
+-- a fourth leaf, over that batch without its oldest record
+abbrev pub fourth : Pending ℕ
+fourth = record { parent = exchanged_batch; leaves_before = 3; added = 9 ∷ []; overwritten = empty; forgotten = 1 }
+
+-- no changes, over a batch whose own record exchanges the leaves
+abbrev pub over_exchange : Pending ℕ
+over_exchange = forked (record { base_size = 0; boundary = 0; ancestors = first_record ∷ []; own = exchange }) 2 empty
+
+-- n leaves, forked from five leaves of which four are pruned
+abbrev pub over_pruned : ℕ → Pending ℕ
+over_pruned n = forked (root_batch carries 5 (pruned carries 4 five)) n empty

@@ -1,8 +1,0 @@
-use Rattle.merkle_batches.proofs.Complete.{completed, stands_push, no_change}
-use Rattle.merkle_batches.proofs.Accepted.{stands_from}
-use Rattle.merkle_batches.proofs.Chains.{splits, still}
-use Rattle.merkle_batches.proofs.Bases.{based_needed, based_missing}
-use Rattle.merkle_batches.proofs.laws.completing.Goals as goal
-
-pub returns : goal.returns
-returns g c = record { step = completed; stands = stands_push; splits = splits; still = still; no_change = no_change; forgets = stands_from; needed_right = based_needed; none_missing = based_missing }

@@ -1,6 +1,0 @@
-use Rattle.merkle_batches.proofs.Through.{made, unchanged}
-use Rattle.merkle_batches.proofs.Needs.{used_kept}
-use Rattle.merkle_batches.proofs.laws.computing.Goals as goal
-
-pub returns : goal.returns
-returns g c = record { made = made; unchanged = unchanged; used = used_kept }

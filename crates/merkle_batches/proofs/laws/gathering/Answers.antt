@@ -1,6 +1,0 @@
-use Rattle.merkle_batches.proofs.Children.{left_needed}
-use Rattle.merkle_batches.proofs.Bases.{based_used}
-use Rattle.merkle_batches.proofs.laws.gathering.Goals as goal
-
-pub returns : goal.returns
-returns g c = record { right = based_used; missing = left_needed }

@@ -1,6 +1,0 @@
-use Rattle.merkle_batches.proofs.Needs.{touched_leaf}
-use Rattle.merkle_batches.proofs.Shown.{under_touches, sources}
-use Rattle.merkle_batches.proofs.laws.marking.Goals as goal
-
-pub returns : goal.returns
-returns g c = record { over = under_touches; under = touched_leaf; sources = sources }

@@ -1,5 +1,0 @@
-use Rattle.merkle_batches.proofs.Needs.{sibling_kept, peaks_kept}
-use Rattle.merkle_batches.proofs.laws.proving.Goals as goal
-
-pub returns : goal.returns
-returns c = record { peaks = peaks_kept; siblings = sibling_kept }

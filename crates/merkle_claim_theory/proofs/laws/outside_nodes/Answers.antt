@@ -1,0 +1,5 @@
+use Rattle.merkle_proof.proofs.OutsideNodes.{outside_is_layout}
+use Rattle.merkle_claim_theory.proofs.laws.outside_nodes.Goals as goal
+
+pub returns : goal.returns
+returns c = outside_is_layout

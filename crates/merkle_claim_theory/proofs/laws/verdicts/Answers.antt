@@ -1,0 +1,7 @@
+use Rattle.merkle_claim_theory.proofs.Verdicts.{verdicts}
+use Rattle.merkle_claim_theory.proofs.ClearMulti.{honest_multi_is_clear}
+use Rattle.merkle_claim_theory.proofs.ClearPinned.{honest_pinned_is_clear}
+use Rattle.merkle_claim_theory.proofs.laws.verdicts.Goals as goal
+
+pub returns : goal.returns
+returns g c = record { all = verdicts; multi = honest_multi_is_clear; pinned = honest_pinned_is_clear }

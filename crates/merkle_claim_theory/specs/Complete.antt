@@ -1,0 +1,28 @@
+-- Honest multi inputs and honest pinned inputs have the list's value, and what they tell holds.
+use Rattle.std.specs.Prelude.{◌≡◌, ℕ, Bool, true, cond, ◌||◌, Option, IfSome}
+use Rattle.merkle_proof.specs.Expression.{value, Holds}
+use Rattle.merkle_base.specs.Hashing.{Hashing}
+use Rattle.merkle_base.specs.Tree.{Tree, leaf, join}
+use Rattle.merkle_proof.specs.Plan.{Plan, peak, folding, tree_meets, outer, inner, tree_digest, plan_digest, honest_digests}
+use Rattle.merkle_claim_theory.specs.MultiClaim.{or_empty, multi_claim}
+use Rattle.merkle_claim_theory.specs.PinnedClaim.{PinsAll, PinsTrees, pinned_of}
+
+-- a tells each maximal node under which no chosen location lies, and nothing wrong above them
+abbrev pub HonestTree : {D : Type 0} → Hashing D → (ℕ → Option D) → (ℕ → Bool) → (ℕ → D) → Tree → Type 0
+HonestTree h a c X (leaf p i) = cond (c i) (IfSome (a p) (λ d. d ≡ X i)) (or_empty h (a p) ≡ X i)
+HonestTree h a c X (join p l r) = cond (tree_meets c l || tree_meets c r) (IfSome (a p) (λ d. d ≡ tree_digest h X (join p l r)) × HonestTree h a c X l × HonestTree h a c X r) (or_empty h (a p) ≡ tree_digest h X (join p l r))
+
+-- the same of each peak
+abbrev pub HonestPlan : {D : Type 0} → Hashing D → (ℕ → Option D) → (ℕ → Bool) → (ℕ → D) → Plan → Type 0
+HonestPlan h a c X (peak t) = HonestTree h a c X t
+HonestPlan h a c X (folding place l r) = HonestPlan h a c X l × HonestPlan h a c X r
+
+-- an honest multi claim holds, and has the list's value
+abbrev pub HonestMultiAccepted : Type 0 → Type 0
+HonestMultiAccepted D = (h : Hashing D) (a : ℕ → Option D) (c : ℕ → Bool) (X Y : ℕ → D) (p : Plan) → ((i : ℕ) → c i ≡ true → Y i ≡ X i) → HonestPlan h a c X p
+    → Holds h (multi_claim h a c Y p) × (value h (multi_claim h a c Y p) ≡ plan_digest h X p)
+
+-- so does an honest pinned claim
+abbrev pub HonestPinsAccepted : Type 0 → Type 0
+HonestPinsAccepted D = (h : Hashing D) (b : ℕ → Option D) (w c : ℕ → Bool) (X Y : ℕ → D) (p : Plan) → ((i : ℕ) → c i ≡ true → Y i ≡ X i) → PinsAll h b w X (outer c p) → PinsTrees h b w X (inner c p)
+    → Holds h (pinned_of h b w c Y p (honest_digests h X c p)) × (value h (pinned_of h b w c Y p (honest_digests h X c p)) ≡ plan_digest h X p)

@@ -1,0 +1,112 @@
+-- A multi-proof: digests at the positions that one-leaf proofs of its locations need.
+use Rattle.std.specs.Prelude.{◌≡◌, ℕ, Bool, ◌⊎◌, ◌≤◌, ◌<◌, ◌+◌, ◌*◌, nat_eq, List, [], length, map, flat_map, filter, None, Option, Some, option_map, unwrap_or, slice_index}
+use Rattle.std.specs.List.{AllByRecursion, list_any, range_with_len}
+use Rattle.merkle_base.specs.Tree.{Tree, position}
+use Rattle.merkle_base.specs.Forest.{size}
+use Rattle.merkle_claim_theory.specs.Ascending.{AscendsFrom}
+use Rattle.merkle_base.specs.Heights.{IsLawful, peak_heights}
+use Rattle.merkle_proof.specs.Expression.{Expression, Holds}
+use Rattle.merkle_proof.specs.Collision.{Collision, Collides}
+use Rattle.merkle_proof.specs.Plan.{Plan, whole, siblings}
+use Rattle.merkle_claim_theory.specs.MultiClaim.{multi_claim}
+use Rattle.merkle_proof.specs.Check.{Setting, root_of, all_inputs, list_expression}
+use Rattle.merkle_base.specs.Places.{peaks_of}
+use Rattle.merkle_proof.specs.Range.{leaf_of, plan_root, Sound}
+use Rattle.merkle_claim_theory.specs.Table.{digest_for, digest_at_position}
+
+-- the nodes whose digests prove the leaf at i: the peaks that don't hold it, and the path siblings under the one that does
+abbrev pub one_leaf_nodes : ℕ → List Tree → List Tree
+one_leaf_nodes i ts = flat_map (siblings (λ j. nat_eq j i)) ts
+
+-- whether one of them stands at p
+abbrev pub is_one_leaf_position : List Tree → ℕ → ℕ → Bool
+is_one_leaf_position ts p i = list_any (λ t. nat_eq (position t) p) (one_leaf_nodes i ts)
+
+-- their positions for some locations, ascending, each once
+abbrev pub multi_positions : {D : Type 0} → Setting D → ℕ → List ℕ → List ℕ
+multi_positions s n locations = filter (λ p. list_any (is_one_leaf_position (peaks_of s.rule n) p) locations) (range_with_len 0 (size s.rule n))
+
+-- a proof with leaf digests at locations
+pub record MultiInput (D : Type 0) : Type 0 where
+  pub leaves : ℕ
+  pub inactive : ℕ
+  pub digests : List D
+  pub elements : List (ℕ × D)
+
+-- the locations of its elements
+abbrev pub locations_in : {D : Type 0} → MultiInput D → List ℕ
+locations_in r = map (λ e. e.0) r.elements
+
+-- their leaf digests
+abbrev pub leaves_in : {D : Type 0} → MultiInput D → List D
+leaves_in r = map (λ e. e.1) r.elements
+
+-- what the check computes of a plan
+abbrev pub multi_on : {D : Type 0} → Setting D → MultiInput D → Plan → Expression D
+multi_on s r p = multi_claim s.hashing (digest_for (multi_positions s r.leaves (locations_in r)) r.digests) (λ i. list_any (nat_eq i) (locations_in r))
+    (λ i. unwrap_or (digest_for (locations_in r) (leaves_in r) i) s.hashing.empty) p
+
+-- what the check computes, if there are peaks
+abbrev pub multi_expression : {D : Type 0} → Setting D → MultiInput D → Option (Expression D)
+multi_expression s r = option_map (multi_on s r) (whole s.bagging r.inactive (peaks_of s.rule r.leaves))
+
+-- each digest that is also computed is the computed one
+abbrev pub AllHolds : {D : Type 0} → Setting D → Option (Expression D) → Type 0
+AllHolds s None = Unit {0}
+AllHolds s (Some e) = Holds s.hashing e
+
+-- an accepted input with elements
+pub record AcceptsMultiSome {D : Type 0} (s : Setting D) (r : MultiInput D) (root : D) : Type 0 where
+  pub some : 0 < length r.elements
+  pub ascend : AscendsFrom 0 (locations_in r)
+  pub below : AllByRecursion (λ i. i < r.leaves) (locations_in r)
+  pub leaves : r.leaves ≤ s.max_leaves
+  pub inactive : r.inactive ≤ length (peaks_of s.rule r.leaves)
+  pub counts : length r.digests ≡ length (multi_positions s r.leaves (locations_in r))
+  pub redundant : AllHolds s (multi_expression s r)
+  pub root_is : root_of s r.leaves r.inactive (multi_expression s r) ≡ root
+
+-- the empty proof of no elements
+pub record IsEmptyMulti {D : Type 0} (r : MultiInput D) : Type 0 where
+  pub elements : r.elements ≡ []
+  pub leaves : r.leaves ≡ 0
+  pub inactive : r.inactive ≡ 0
+  pub digests : r.digests ≡ []
+
+-- an accepted input
+abbrev pub AcceptsMulti : {D : Type 0} → Setting D → MultiInput D → D → Type 0
+AcceptsMulti s r root = AcceptsMultiSome s r root ⊎ (IsEmptyMulti r × (root_of s 0 0 None ≡ root))
+
+-- the honest multi-proof of a list for strictly ascending locations, with the leaves there
+pub record IsHonestMultiSome {D : Type 0} (s : Setting D) (xs : List D) (k : ℕ) (r : MultiInput D) : Type 0 where
+  pub some : 0 < length r.elements
+  pub ascend : AscendsFrom 0 (locations_in r)
+  pub below : AllByRecursion (λ i. i < length xs) (locations_in r)
+  pub leaves : r.leaves ≡ length xs
+  pub inactive : r.inactive ≡ k
+  pub digests : r.digests ≡ map (digest_at_position s xs) (multi_positions s (length xs) (locations_in r))
+  pub elements : leaves_in r ≡ map (leaf_of s.hashing xs) (locations_in r)
+
+-- an honest input: with elements, or the empty one of the empty list
+abbrev pub IsHonestMulti : {D : Type 0} → Setting D → List D → ℕ → MultiInput D → Type 0
+IsHonestMulti s xs k r = IsHonestMultiSome s xs k r ⊎ (IsEmptyMulti r × (xs ≡ []))
+
+-- a collision of a multi input with the list
+abbrev pub MultiCollides : {D : Type 0} → Setting D → MultiInput D → List D → ℕ → Type 0
+MultiCollides {D = D} s r xs k = (c : Collision D) × Collides s.hashing (all_inputs s r.leaves r.inactive (multi_expression s r)) (all_inputs s (length xs) k (list_expression s (leaf_of s.hashing xs) (length xs) k)) c
+
+-- the honest inputs are accepted
+abbrev pub HonestMultiIsAccepted : Type 0 → Type 0
+HonestMultiIsAccepted D = (s : Setting D) (size max_nodes : ℕ) → Sound s size max_nodes → (xs : List D) (k : ℕ) → length xs ≤ s.max_leaves → k ≤ length (peaks_of s.rule (length xs)) → (r : MultiInput D)
+    → IsHonestMulti s xs k r → AcceptsMulti s r (plan_root s xs k)
+
+-- and no others, but for collisions
+abbrev pub AcceptedMultiIsHonest : Type 0 → Type 0
+AcceptedMultiIsHonest D = (s : Setting D) (size max_nodes : ℕ) → Sound s size max_nodes → (xs : List D) (k : ℕ) → length xs ≤ s.max_leaves → k ≤ length (peaks_of s.rule (length xs)) → (r : MultiInput D)
+    → AcceptsMulti s r (plan_root s xs k) → IsHonestMulti s xs k r ⊎ MultiCollides s r xs k
+
+-- at most 122 positions for each location
+abbrev pub AtMost122 : Type 0 → Type 0
+AtMost122 D = (s : Setting D) (max_nodes : ℕ) → IsLawful s.rule s.max_leaves max_nodes → (n : ℕ) → n ≤ s.max_leaves
+    → ((i : ℕ) → i < length (peak_heights s.rule n) → slice_index (peak_heights s.rule n) i + length (peak_heights s.rule n) ≤ 123)
+    → (locations : List ℕ) → AllByRecursion (λ i. i < n) locations → length (multi_positions s n locations) ≤ 122 * length locations

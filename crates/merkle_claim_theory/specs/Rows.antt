@@ -1,0 +1,46 @@
+-- Small cases of layouts and range checks, with the exclusive or in the place of a hash.
+use Rattle.std.specs.Prelude.{ℕ, List, [], ◌∷◌, ◌==◌, cond, bit_xor, fold}
+use Rattle.merkle_base.specs.Tree.{Tree, leaf, join}
+use Rattle.merkle_base.specs.declared.family.Bagging.TheVariants.{ForwardFold}
+use Rattle.merkle_proof.specs.Expression.{Input}
+use Rattle.merkle_proof.specs.Plan.{Plan, peak}
+use Rattle.merkle_proof.specs.Check.{Setting, RangeInput, all_inputs, list_expression, range_expression}
+use Rattle.merkle_proof.specs.Range.{leaf_of}
+use Rattle.merkle_claim_theory.specs.ThreeLeaves.{xor_hashing}
+
+-- of the three peaks of seven leaves in the Mountain Range the oldest one
+abbrev pub four : Tree
+four = join 6 (join 2 (leaf 0 0) (leaf 1 1)) (join 5 (leaf 3 2) (leaf 4 3))
+
+-- all three
+abbrev pub seven : List Tree
+seven = four ∷ join 9 (leaf 7 4) (leaf 8 5) ∷ leaf 10 6 ∷ []
+
+-- leaf i where none are merged, so that each is a peak
+abbrev pub single : ℕ → Tree
+single i = leaf i i
+
+-- its plan
+abbrev pub alone : ℕ → Plan
+alone i = peak (single i)
+
+-- a merge rule: the new leaf with the newest peak, if that is one leaf
+abbrev pub paired : List ℕ → List ℕ
+paired [] = []
+paired (h ∷ []) = []
+paired (h ∷ a ∷ hs) = cond (h == a) (0 ∷ []) []
+
+-- up to three leaves, none merged; the hash of bytes is their exclusive or
+abbrev pub small : Setting ℕ
+small = record { hashing = record xor_hashing { hash = fold bit_xor 0 }; rule = λ hs. []; max_leaves = 3; bagging = ForwardFold; domain = 0 }
+
+-- a proof of the middle one of three leaves, whose digest is 3, with that inactive count and these digests
+abbrev pub middle : ℕ → List ℕ → RangeInput ℕ
+middle inactive digests = record { leaves = 3; inactive = inactive; digests = digests; start = 1; elements = 3 ∷ [] }
+
+-- what is hashed for it with the digests of the leaves 1 and 7 swapped, and what is hashed for the list
+abbrev pub swapped_inputs : List (Input ℕ)
+swapped_inputs = all_inputs small 3 0 (range_expression small (middle 0 (7 ∷ 1 ∷ [])))
+
+abbrev pub list_inputs : List (Input ℕ)
+list_inputs = all_inputs small 3 0 (list_expression small (leaf_of small.hashing (1 ∷ 3 ∷ 7 ∷ [])) 3 0)

@@ -1,0 +1,233 @@
+//! What holds of proofs against roots: the theory that the checks rest on.
+//!
+//! Each function is empty. Its contract is a law of the definitions in `specs/`.
+ghost use Rattle.std.specs.Prelude.{◌≡◌, ℕ, ◌+◌, ◌*◌, [], ◌∷◌, true, false, Some, None, map};
+ghost use Rattle.merkle_base.specs.Tree.{position};
+ghost use Rattle.merkle_base.specs.declared.family.Bagging.TheVariants.{ForwardFold, BackwardFold};
+ghost use Rattle.merkle_claim_theory.specs.Audit.{AuditsRange, AuditsPair, HonestIsClear};
+ghost use Rattle.merkle_proof.specs.Check.{HonestRangeAccepted, NoOtherRange, PairConsistent};
+ghost use Rattle.merkle_proof.specs.Claim.{HonestAccepted, NothingElse, PairAgrees};
+ghost use Rattle.merkle_proof.specs.Collision.{AgreeOrCollide, Collides};
+ghost use Rattle.merkle_claim_theory.specs.Complete.{HonestMultiAccepted, HonestPinsAccepted};
+ghost use Rattle.merkle_claim_theory.specs.Exact.{SamePeaks, HonestNeverCollides};
+ghost use Rattle.merkle_proof.specs.Expression.{Root, Join, PrefixFold, SuffixFold, Node, Pair, Bytes, inputs};
+ghost use Rattle.merkle_proof.specs.Extract.{ExtractsNodes};
+ghost use Rattle.merkle_claim_theory.specs.FirstCollision.{FindsFirst, first_collision};
+ghost use Rattle.merkle_proof.specs.ListRoot.{RootsAgree};
+ghost use Rattle.merkle_claim_theory.specs.MultiClaim.{NoOtherMulti};
+ghost use Rattle.merkle_claim_theory.specs.Multiproof.{HonestMultiIsAccepted, AcceptedMultiIsHonest, AtMost122};
+ghost use Rattle.merkle_claim_theory.specs.Order.{PlacesInOrder, PlacesOnce};
+ghost use Rattle.merkle_proof.specs.Layouts.{count_before, count_after, count_inactive, laid_out};
+ghost use Rattle.merkle_proof.specs.Outside.{OutsideIsLayout, layout};
+ghost use Rattle.merkle_proof.specs.Path.{PathHasSiblings};
+ghost use Rattle.merkle_claim_theory.specs.Pinned.{HonestPinnedIsAccepted, AcceptedPinnedIsHonest, PinsAreOldPeaks};
+ghost use Rattle.merkle_claim_theory.specs.PinnedClaim.{NoOtherPins};
+ghost use Rattle.merkle_proof.specs.Plan.{folding, full, siblings, whole};
+ghost use Rattle.merkle_proof.specs.Range.{HonestIsAccepted, AcceptedIsHonest, AcceptsSome, IsHonestSome, in_range, overlapping, wholly_after, range_siblings, range_digests};
+ghost use Rattle.merkle_proof.specs.RangePlans.{reading_order, turned};
+ghost use Rattle.merkle_proof.specs.RootString.{RootStringTellsAll};
+ghost use Rattle.merkle_claim_theory.specs.Rows.{four, seven, single, alone, paired, small, middle, swapped_inputs, list_inputs};
+ghost use Rattle.merkle_claim_theory.specs.Store.{PartIsAccepted, SiblingsAreRead};
+ghost use Rattle.merkle_claim_theory.specs.ThreeLeaves.{ThreeLeaves, xor_hashing, three, plan_of_three};
+ghost use Rattle.merkle_claim_theory.specs.Verdict.{CheckDecides, ExtractsOnce, Verdicts, HonestMultiIsClear, HonestPinnedIsClear};
+
+/// What holds of claims: trees of places in which some digests are given and the others computed.
+pub fn claims<D>()
+    // Two of one shape and one value: what is given agrees, or they collide.
+    ensures collide { AgreeOrCollide D }
+
+    // An honest claim has the value of the list.
+    ensures honest { HonestAccepted D }
+
+    // A claim with the value of a list is honest, or collides with the list.
+    ensures others { NothingElse D }
+
+    // Two claims of one value agree at the leaves that both choose, or collide.
+    ensures pairs { PairAgrees D }
+{}
+
+/// What holds of collisions, and of the strings and places in which they lie.
+pub fn collisions<D>()
+    // The search by tests finds the first collision if there is any.
+    ensures first { FindsFirst D }
+
+    // The string of a root tells each of its parts.
+    ensures strings { RootStringTellsAll D }
+
+    // Two lists with the same peak digests are the same, or collide at a node.
+    ensures peaks { SamePeaks D }
+
+    // An honest claim never collides with its list.
+    ensures honest { HonestNeverCollides D }
+
+    // The inputs of a list stand in the order of the places.
+    ensures order { PlacesInOrder D }
+
+    // No place stands there with two arguments.
+    ensures once { PlacesOnce D }
+{}
+
+/// What holds of claims beside which the proof tells digests that are also computed.
+pub fn told_digests<D>()
+    // Honest multi claims hold and have the value of the list.
+    ensures multi { HonestMultiAccepted D }
+
+    // So do honest pinned claims.
+    ensures pins { HonestPinsAccepted D }
+
+    // No other multi claims do, but for collisions.
+    ensures no_other_multi { NoOtherMulti D }
+
+    // Nor do other pinned claims.
+    ensures no_other_pins { NoOtherPins D }
+{}
+
+/// The parts of a plan outside a range are those of the layout, in its order.
+pub fn outside_nodes()
+    ensures { OutsideIsLayout }
+{}
+
+/// The other children on the path to a leaf are the siblings that a proof of that leaf needs, from the top down.
+pub fn paths()
+    ensures { PathHasSiblings }
+{}
+
+/// What holds of range checks against a list given by its leaf at each location, and of two checks against one root.
+pub fn list_checks<D>()
+    ensures honest { HonestRangeAccepted D }
+    ensures others { NoOtherRange D }
+    ensures pairs { PairConsistent D }
+    ensures audit { AuditsRange D }
+    ensures audit_pair { AuditsPair D }
+    ensures clear { HonestIsClear D }
+{}
+
+/// A wrong proof of one of three leaves under exclusive or, which is accepted, and the place where it collides.
+pub fn three_leaves()
+    ensures { ThreeLeaves }
+{}
+
+/// The definitions of layouts and range checks on small cases, by computing.
+pub fn worked_rows()
+    ensures inside { map (in_range 1 3) (0 ∷ 1 ∷ 2 ∷ 3 ∷ []) ≡ false ∷ true ∷ true ∷ false ∷ [] }
+    ensures overlap { map position (overlapping 4 6 seven) ≡ 9 ∷ [] }
+    ensures after { map position (wholly_after 4 seven) ≡ 9 ∷ 10 ∷ [] }
+
+    // Beside leaf 1 of four its neighbour, and then the node over the other two.
+    ensures sibling_nodes { map position (siblings (in_range 1 2) four) ≡ 0 ∷ 5 ∷ [] }
+    ensures sibling_nodes_two { map position (range_siblings 3 5 seven) ≡ 2 ∷ 3 ∷ 8 ∷ [] }
+    ensures plan_forward { whole ForwardFold 2 (single 0 ∷ single 1 ∷ single 2 ∷ []) ≡ Some (folding (PrefixFold 2) (folding (PrefixFold 1) (alone 0) (alone 1)) (alone 2)) }
+    ensures plan_backward { whole BackwardFold 2 (single 0 ∷ single 1 ∷ single 2 ∷ single 3 ∷ single 4 ∷ [])
+        ≡ Some (folding Join (folding (PrefixFold 1) (alone 0) (alone 1)) (folding (SuffixFold 2) (alone 2) (folding (SuffixFold 3) (alone 3) (alone 4)))) }
+
+    // What a proof of the leaves of one peak begins with. Forward: the peaks before it folded, those after it single.
+    // Backward: of the peaks before it the inactive ones folded, of those after it the active ones, and the others single.
+    ensures layout_forward { layout ForwardFold 0 (single 0 ∷ single 1 ∷ []) (single 2 ∷ []) (single 3 ∷ single 4 ∷ []) ≡ folding (PrefixFold 1) (alone 0) (alone 1) ∷ alone 3 ∷ alone 4 ∷ [] }
+    ensures layout_before { layout BackwardFold 1 (single 0 ∷ single 1 ∷ single 2 ∷ []) (single 3 ∷ []) (single 4 ∷ single 5 ∷ [])
+        ≡ alone 0 ∷ alone 1 ∷ alone 2 ∷ folding (SuffixFold 4) (alone 4) (alone 5) ∷ [] }
+    ensures layout_after { layout BackwardFold 5 (single 0 ∷ single 1 ∷ []) (single 2 ∷ []) (single 3 ∷ single 4 ∷ single 5 ∷ single 6 ∷ [])
+        ≡ folding (PrefixFold 1) (alone 0) (alone 1) ∷ alone 3 ∷ alone 4 ∷ folding (SuffixFold 5) (alone 5) (alone 6) ∷ [] }
+
+    // The digests of these layouts: before, after, and of inactive peaks, of which the folded ones have one.
+    ensures counts_forward { count_before ForwardFold 0 (single 0 ∷ single 1 ∷ []) ∷ count_after ForwardFold 0 3 (single 3 ∷ single 4 ∷ []) ∷ count_inactive ForwardFold 0 (single 0 ∷ single 1 ∷ []) ∷ [] ≡ 1 ∷ 2 ∷ 1 ∷ [] }
+    ensures counts_before { count_before BackwardFold 1 (single 0 ∷ single 1 ∷ single 2 ∷ []) ∷ count_after BackwardFold 1 4 (single 4 ∷ single 5 ∷ []) ∷ count_inactive BackwardFold 1 (single 0 ∷ single 1 ∷ single 2 ∷ []) ∷ [] ≡ 3 ∷ 1 ∷ 1 ∷ [] }
+    ensures counts_after { count_before BackwardFold 5 (single 0 ∷ single 1 ∷ []) ∷ count_after BackwardFold 5 3 (single 3 ∷ single 4 ∷ single 5 ∷ single 6 ∷ []) ∷ count_inactive BackwardFold 5 (single 0 ∷ single 1 ∷ []) ∷ [] ≡ 1 ∷ 3 ∷ 4 ∷ [] }
+
+    // Of what is read the first two are folded left to right, and the fifth and sixth right to left.
+    ensures laid { laid_out (λ a b. 10 * a + b) 2 3 1 3 (1 ∷ 2 ∷ 3 ∷ 4 ∷ 5 ∷ 6 ∷ 7 ∷ []) ≡ 12 ∷ 3 ∷ 4 ∷ 56 ∷ 7 ∷ [] }
+    ensures laid_backward { laid_out (λ a b. a + 2 * b) 0 0 0 3 (1 ∷ 2 ∷ 4 ∷ 9 ∷ []) ≡ 21 ∷ 9 ∷ [] }
+
+    // For leaf 1 of five that are all peaks.
+    ensures reads_forward { map position (reading_order ForwardFold 0 small.rule 5 1 2) ≡ 0 ∷ 2 ∷ 3 ∷ 4 ∷ [] }
+    ensures reads_backward { map position (reading_order BackwardFold 0 small.rule 5 1 2) ≡ 0 ∷ 4 ∷ 3 ∷ 2 ∷ [] }
+    ensures reads_inactive { map position (reading_order BackwardFold 3 small.rule 5 1 2) ≡ 0 ∷ 2 ∷ 4 ∷ 3 ∷ [] }
+    ensures turns { turned {X = ℕ} 1 3 (5 ∷ 6 ∷ 7 ∷ 8 ∷ []) ≡ 5 ∷ 7 ∷ 6 ∷ 8 ∷ [] }
+
+    // Of the first leaf, where the first two are merged: the peak after it, and then the second leaf.
+    ensures digests { range_digests (record small { rule = paired }) (1 ∷ 3 ∷ 7 ∷ []) 0 0 1 ≡ 7 ∷ 3 ∷ [] }
+
+    // The digests 1, 3 and 7 fold to 5, and with the leaf count hash to 6.
+    ensures honest { IsHonestSome small (1 ∷ 3 ∷ 7 ∷ []) 0 (middle 0 (1 ∷ 7 ∷ [])) }
+    ensures other_digests { IsHonestSome small (1 ∷ 3 ∷ 7 ∷ []) 0 (middle 0 (7 ∷ 1 ∷ [])) → ⊥ }
+    ensures other_element { IsHonestSome small (1 ∷ 2 ∷ 7 ∷ []) 0 (middle 0 (1 ∷ 7 ∷ [])) → ⊥ }
+    ensures accepts { AcceptsSome small (middle 0 (1 ∷ 7 ∷ [])) 6 }
+    ensures accepts_inactive { AcceptsSome small (middle 3 (1 ∷ 7 ∷ [])) 5 }
+
+    // Each of these inputs has one thing wrong. All but the first are against the root that is computed for them.
+    ensures other_root { AcceptsSome small (middle 0 (1 ∷ 7 ∷ [])) 5 → ⊥ }
+    ensures too_many_inactive { AcceptsSome small (middle 4 (1 ∷ 7 ∷ [])) 2 → ⊥ }
+    ensures too_many_digests { AcceptsSome small (middle 0 (1 ∷ 7 ∷ 9 ∷ [])) 6 → ⊥ }
+    ensures too_many_elements { AcceptsSome small (record { leaves = 3; inactive = 0; digests = 2 ∷ []; start = 2; elements = 7 ∷ 9 ∷ [] }) 6 → ⊥ }
+    ensures too_many_leaves { AcceptsSome small (record { leaves = 4; inactive = 0; digests = 1 ∷ 7 ∷ 2 ∷ []; start = 1; elements = 3 ∷ [] }) 3 → ⊥ }
+    ensures no_elements { AcceptsSome small (record { leaves = 3; inactive = 0; digests = 1 ∷ 3 ∷ 7 ∷ []; start = 1; elements = [] }) 2 → ⊥ }
+
+    // What is hashed for a list: the string of the root, then the folds from the last one down, and then the nodes.
+    ensures inputs_folds { list_inputs ≡ record { place = Root; argument = Bytes (0 ∷ 0 ∷ 0 ∷ 0 ∷ 0 ∷ 0 ∷ 0 ∷ 0 ∷ 0 ∷ 3 ∷ 5 ∷ []) }
+        ∷ record { place = PrefixFold 2; argument = Pair 2 7 } ∷ record { place = PrefixFold 1; argument = Pair 1 3 } ∷ [] }
+    ensures inputs_nodes { inputs xor_hashing (full three plan_of_three) ≡ record { place = PrefixFold 1; argument = Pair 0 7 } ∷ record { place = Node 2; argument = Pair 1 3 } ∷ [] }
+
+    // With its two digests swapped the proof of the middle leaf has the root too, and collides where the last peak is folded.
+    ensures accepts_swapped { AcceptsSome small (middle 0 (7 ∷ 1 ∷ [])) 6 }
+    ensures collides { Collides small.hashing swapped_inputs list_inputs (record { place = PrefixFold 2; claimed = Pair 4 1; listed = Pair 2 7 }) }
+    ensures no_collision { Collides small.hashing swapped_inputs list_inputs (record { place = PrefixFold 1; claimed = Pair 7 3; listed = Pair 1 3 }) → ⊥ }
+    ensures no_collision_alike { Collides small.hashing list_inputs list_inputs (record { place = PrefixFold 2; claimed = Pair 2 7; listed = Pair 2 7 }) → ⊥ }
+    ensures no_collision_elsewhere { first_collision small.hashing (record { place = PrefixFold 1; argument = Pair 4 1 } ∷ []) (record { place = PrefixFold 2; argument = Pair 2 7 } ∷ []) ≡ None }
+{}
+
+/// What a range check accepts: the honest inputs and, but for located collisions, no others.
+pub fn range_checks<D>()
+    ensures honest { HonestIsAccepted D }
+    ensures others { AcceptedIsHonest D }
+
+    // The check is one test.
+    ensures decides { CheckDecides D }
+
+    // What is extracted are nodes of the list.
+    ensures nodes { ExtractsNodes D }
+
+    // No position is extracted twice.
+    ensures once { ExtractsOnce D }
+{}
+
+/// What a check of single leaves accepts: the honest inputs and, but for located collisions, no others.
+pub fn multi_checks<D>()
+    ensures honest { HonestMultiIsAccepted D }
+    ensures others { AcceptedMultiIsHonest D }
+
+    // A location needs at most 122 digests.
+    ensures few { AtMost122 D }
+{}
+
+/// What a range check with pins accepts: the honest inputs with the honest pins and, but for located collisions, no others.
+pub fn pinned_checks<D>()
+    ensures honest { HonestPinnedIsAccepted D }
+    ensures others { AcceptedPinnedIsHonest D }
+
+    // The honest pins are the peak digests of the leaves before the range.
+    ensures peaks { PinsAreOldPeaks D }
+{}
+
+/// What holds of proofs that are read off a proof of more.
+pub fn sub_proofs<D>()
+    // What proves a range proves its parts.
+    ensures accepted { PartIsAccepted D }
+
+    // The siblings under a peak are read by position.
+    ensures read { SiblingsAreRead D }
+{}
+
+/// What audits answer of accepted inputs: honest, or the first collision.
+pub fn verdicts<D>()
+    ensures all { Verdicts D }
+
+    // An honest multi input has no collision.
+    ensures multi { HonestMultiIsClear D }
+
+    // Nor has an honest pinned input.
+    ensures pinned { HonestPinnedIsClear D }
+{}
+
+/// The root over the plan of a list's peaks is the list's root, for every inactive count and both baggings.
+pub fn roots<D>()
+    ensures { RootsAgree D }
+{}

@@ -1,7 +1,0 @@
-use Rattle.merkle_proof.proofs.ListChecks.{honest_range_accepted, no_other_range, pair_consistent}
-use Rattle.merkle_claims.proofs.Audits.{audits_range, audits_pair}
-use Rattle.merkle_claims.proofs.ClearRange.{honest_is_clear}
-use Rattle.merkle_claims.proofs.laws.list_checks.Goals as goal
-
-pub returns : goal.returns
-returns g c = record { honest = honest_range_accepted; others = no_other_range; pairs = pair_consistent; audit = audits_range; audit_pair = audits_pair; clear = honest_is_clear }

@@ -1,6 +1,0 @@
-use Rattle.merkle_claims.proofs.Multiproofs.{honest_multi_is_accepted, accepted_multi_is_honest}
-use Rattle.merkle_claims.proofs.FewPositions.{at_most_122}
-use Rattle.merkle_claims.proofs.laws.multi_checks.Goals as goal
-
-pub returns : goal.returns
-returns g c = record { honest = honest_multi_is_accepted; others = accepted_multi_is_honest; few = at_most_122 }

@@ -1,5 +1,0 @@
-use Rattle.merkle_proof.proofs.OutsideNodes.{outside_is_layout}
-use Rattle.merkle_claims.proofs.laws.outside_nodes.Goals as goal
-
-pub returns : goal.returns
-returns c = outside_is_layout

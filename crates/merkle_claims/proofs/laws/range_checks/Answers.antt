@@ -1,8 +1,0 @@
-use Rattle.merkle_proof.proofs.RangeChecks.{honest_is_accepted, accepted_is_honest}
-use Rattle.merkle_claims.proofs.Verdicts.{check_decides}
-use Rattle.merkle_proof.proofs.Extraction.{extracts_nodes}
-use Rattle.merkle_claims.proofs.PairsOnce.{extracts_once}
-use Rattle.merkle_claims.proofs.laws.range_checks.Goals as goal
-
-pub returns : goal.returns
-returns g c = record { honest = honest_is_accepted; others = accepted_is_honest; decides = check_decides; nodes = extracts_nodes; once = extracts_once }

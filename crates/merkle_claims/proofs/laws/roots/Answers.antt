@@ -1,5 +1,0 @@
-use Rattle.merkle_proof.proofs.ListRoots.{roots_agree}
-use Rattle.merkle_claims.proofs.laws.roots.Goals as goal
-
-pub returns : goal.returns
-returns g c = roots_agree

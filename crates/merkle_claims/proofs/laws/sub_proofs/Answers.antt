@@ -1,5 +1,0 @@
-use Rattle.merkle_claims.proofs.SubProofs.{part_is_accepted, siblings_are_read}
-use Rattle.merkle_claims.proofs.laws.sub_proofs.Goals as goal
-
-pub returns : goal.returns
-returns g c = record { accepted = part_is_accepted; read = siblings_are_read }

@@ -1,7 +1,0 @@
-use Rattle.merkle_claims.proofs.Verdicts.{verdicts}
-use Rattle.merkle_claims.proofs.ClearMulti.{honest_multi_is_clear}
-use Rattle.merkle_claims.proofs.ClearPinned.{honest_pinned_is_clear}
-use Rattle.merkle_claims.proofs.laws.verdicts.Goals as goal
-
-pub returns : goal.returns
-returns g c = record { all = verdicts; multi = honest_multi_is_clear; pinned = honest_pinned_is_clear }
