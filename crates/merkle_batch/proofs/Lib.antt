@@ -1,17 +1,5 @@
 pub mod OldNodes
 pub mod Missings
 pub mod NewDigests
-pub mod ChildReads
-pub mod DraftFacts
-pub mod PeakReads
 pub mod Merkleizing
 pub mod MerkleizeFacts
-pub mod RefreshedDigests
-pub mod Befores
-pub mod Touched
-pub mod Refreshing
-pub mod RefreshedPeaks
-pub mod ChangedLeaves
-pub mod RefreshedLeaves
-pub mod GapFacts
-pub mod NodePositions

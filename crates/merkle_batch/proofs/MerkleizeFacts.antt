@@ -13,22 +13,23 @@ use Rattle.merkle_base.specs.Hashing.{Hashing}
 use Rattle.merkle_base.specs.Digests.{node_digests, peak_digests}
 use Rattle.merkle_base.specs.Places.{peak_positions, peaks_of}
 use Rattle.merkle_batch_theory.specs.Contents.{Contents, AgreesWithOne}
-use Rattle.merkle_batch.specs.Drafts.{AreChildrenRead, LacksChild}
-use Rattle.merkle_batch.specs.DraftReads.{ArePeaksRead, below, Drafted, finished, IsPeakGap, old_node, OnlyAppends, OnlyOverwrites}
+use Rattle.merkle_draft.specs.Drafts.{AreChildrenRead, LacksChild}
+use Rattle.merkle_batch.specs.Finished.{finished}
+use Rattle.merkle_draft.specs.DraftReads.{ArePeaksRead, below, Drafted, IsPeakGap, old_node, OnlyAppends, OnlyOverwrites}
 use Rattle.merkle_batch_theory.specs.Missing.{IsMissing}
 use Rattle.merkle_batch_theory.specs.Needed.{IsChanged}
 use Rattle.merkle_batch_theory.specs.Pending.{IsPending, Pending, kept, kept_lists, leaf_total, pending_list}
 use Rattle.merkle_batch_theory.specs.Read.{read_over}
 use Rattle.merkle_batch_theory.specs.Linked.{IsLinked, RunsFrom}
 use Rattle.merkle_batch_theory.specs.Recorded.{Chain, after, records}
-use Rattle.merkle_batch.specs.Refreshed.{all_computed_at, AreRefreshed, LacksForOne}
+use Rattle.merkle_draft.specs.Refreshed.{all_computed_at, AreRefreshed, LacksForOne}
 use Rattle.merkle_batch_theory.specs.Replay.{oldest, over}
 use Rattle.merkle_batch_theory.specs.Stands.{last_list, replaced, StandsOn}
 use Rattle.merkle_batch_theory.specs.Truth.{IsTruth, LeavesAre, ReadsTrue, truths}
-use Rattle.merkle_batch.specs.declared.gap.Gap.{Gap}
-use Rattle.merkle_batch.specs.declared.gap.Gap.TheVariants.{Missing, OutOfMemory}
+use Rattle.merkle_draft.specs.declared.gap.Gap.{Gap}
+use Rattle.merkle_draft.specs.declared.gap.Gap.TheVariants.{Missing, OutOfMemory}
 use Rattle.merkle_base.specs.declared.error.Error.TheVariants as error
-use Rattle.merkle_batch.specs.Gaps.{error_of}
+use Rattle.merkle_draft.specs.Gaps.{error_of}
 use Rattle.merkle_batch_theory.proofs.Edits.{same_gets, replaced_get}
 use Rattle.merkle_batch_theory.proofs.Forking.{kept_runs, last_size}
 use Rattle.merkle_batch_theory.proofs.Stored.{find_lookup}

@@ -18,7 +18,7 @@ use Rattle.merkle_batch_theory.specs.Missing.{IsMissing}
 use Rattle.merkle_batch_theory.specs.Pending.{IsPending, Pending, kept, kept_lists, leaf_total, pending_list}
 use Rattle.merkle_batch_theory.specs.Read.{read_over}
 use Rattle.merkle_batch_theory.specs.Recorded.{Recorded, records}
-use Rattle.merkle_batch.specs.Refreshed.{AreRefreshed, HasLeavesOf, all_computed_at, refreshed}
+use Rattle.merkle_draft.specs.Refreshed.{AreRefreshed, HasLeavesOf, all_computed_at, refreshed}
 use Rattle.merkle_batch_theory.specs.Replay.{over}
 use Rattle.merkle_batch_theory.specs.Needed.{IsNeeded}
 use Rattle.merkle_batch_theory.specs.Stands.{is_touched, replaced, IsStep, StandsOn, last_list}

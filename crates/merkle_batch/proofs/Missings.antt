@@ -11,15 +11,15 @@ use Rattle.merkle_base.proofs.Growth.{built_at, forest_grown}
 use Rattle.merkle_base.proofs.Lists.{get_below}
 use Rattle.merkle_base.proofs.Lookup.{peak_node}
 use Rattle.merkle_base.proofs.Nodes.{node_built, node_stays, node_anywhere, built_under, peak_of}
-use Rattle.merkle_batch.specs.Drafts.{AreChildrenRead, LacksChild}
-use Rattle.merkle_batch.specs.DraftReads.{ArePeaksRead, IsPeakGap}
+use Rattle.merkle_draft.specs.Drafts.{AreChildrenRead, LacksChild}
+use Rattle.merkle_draft.specs.DraftReads.{ArePeaksRead, IsPeakGap}
 use Rattle.merkle_batch_theory.specs.Needed.{IsChanged, IsNeeded}
-use Rattle.merkle_batch.specs.Refreshed.{AreRefreshed, LacksForOne, refreshed}
+use Rattle.merkle_draft.specs.Refreshed.{AreRefreshed, LacksForOne, refreshed}
 use Rattle.merkle_batch_theory.specs.Stands.{is_touched}
-use Rattle.merkle_batch.specs.declared.gap.Gap.{Gap}
-use Rattle.merkle_batch.specs.declared.gap.Gap.TheVariants.{Missing}
+use Rattle.merkle_draft.specs.declared.gap.Gap.{Gap}
+use Rattle.merkle_draft.specs.declared.gap.Gap.TheVariants.{Missing}
 use Rattle.merkle_batch_theory.proofs.Items.{get_reverse, get_reversed}
-use Rattle.merkle_batch.proofs.RefreshedDigests.{read_is_child, read_is_untouched, read_child, refreshed_reads, touched_above, some_of}
+use Rattle.merkle_draft.proofs.RefreshedDigests.{read_is_child, read_is_untouched, read_child, refreshed_reads, touched_above, some_of}
 use Rattle.merkle_base.proofs.Cases.{by_test}
 use Rattle.merkle_batch_theory.proofs.OptionFacts.{both_none}
 

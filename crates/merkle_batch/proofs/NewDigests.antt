@@ -8,9 +8,9 @@ use Rattle.merkle_base.specs.Hashing.{Hashing}
 use Rattle.merkle_base.specs.Places.{peaks_of}
 use Rattle.merkle_base.proofs.Growth.{forest_grown}
 use Rattle.merkle_base.proofs.Nodes.{leaf_here, size_lt}
-use Rattle.merkle_batch.specs.Refreshed.{AreRefreshed, HasLeavesOf, all_computed_at, refreshed}
+use Rattle.merkle_draft.specs.Refreshed.{AreRefreshed, HasLeavesOf, all_computed_at, refreshed}
 use Rattle.merkle_batch_theory.specs.Stands.{is_touched}
-use Rattle.merkle_batch.proofs.RefreshedDigests.{leaf_not_computed, past_not_computed, peaks_computed, untouched_not_computed}
+use Rattle.merkle_draft.proofs.RefreshedDigests.{leaf_not_computed, past_not_computed, peaks_computed, untouched_not_computed}
 use Rattle.merkle_batch_theory.proofs.OptionFacts.{none_of, or_second, or_some}
 use Rattle.merkle_base.proofs.Cases.{by_test}
 

@@ -9,12 +9,12 @@ use Rattle.merkle_base.specs.Digests.{digest_at}
 use Rattle.merkle_base.proofs.Births.{leaf_at}
 use Rattle.merkle_base.proofs.Growth.{built_at}
 use Rattle.merkle_base.proofs.Nodes.{node_built, built_under}
-use Rattle.merkle_batch.specs.Drafts.{IsReadFor}
-use Rattle.merkle_batch.specs.Refreshed.{refreshed}
+use Rattle.merkle_draft.specs.Drafts.{IsReadFor}
+use Rattle.merkle_draft.specs.Refreshed.{refreshed}
 use Rattle.merkle_batch_theory.specs.Stands.{is_touched}
 use Rattle.merkle_batch_theory.specs.Truth.{ReadsTrue}
 use Rattle.merkle_batch_theory.proofs.ListTruths.{truth_of, truth_at}
-use Rattle.merkle_batch.proofs.RefreshedDigests.{refreshed_right, some_of}
+use Rattle.merkle_draft.proofs.RefreshedDigests.{refreshed_right, some_of}
 use Rattle.merkle_base.proofs.Cases.{by_test}
 use Rattle.merkle_base.proofs.Lists.{get_exists}
 

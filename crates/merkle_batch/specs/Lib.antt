@@ -1,4 +1,1 @@
-pub mod Gaps
-pub mod Refreshed
-pub mod Drafts
-pub mod DraftReads
+pub mod Finished

@@ -14,14 +14,13 @@ ghost use Rattle.merkle_batch_theory.specs.Recorded.{after, records};
 ghost use Rattle.merkle_batch_theory.specs.Refusals.{fault_error};
 ghost use Rattle.merkle_batch_theory.specs.Stands.{StandsOn, last_list};
 
-use crate::base::Base;
-use crate::draft::Draft;
 pub use crate::merkleized::MerkleizedBatch;
 use merkle_base::digest::Digest;
 use merkle_base::error::Error;
 use merkle_base::family::Family;
 use merkle_base::location::Location;
 use merkle_base::position::Position;
+pub use merkle_draft::base::Base;
 use merkle_hasher::hasher::Hasher;
 use std::collections::BTreeMap;
 use std::marker::Model;
@@ -257,7 +256,7 @@ impl<F: Family, D: Digest> UnmerkleizedBatch<F, D> {
         } = self;
         let peaks_before = parent.own.peaks_after.clone()?;
         let leaves = leaves_before + added.len() as u64;
-        let mut draft = Draft::of_parent(&parent, forgotten, leaves)?;
+        let mut draft = parent.draft(forgotten, leaves)?;
         draft.refresh_leaves(base, hasher, leaves_before, &updates)?;
         draft.append_leaves(base, hasher, leaves_before, &added)?;
         let peaks_after = if added.is_empty() && updates.is_empty() {
@@ -265,6 +264,6 @@ impl<F: Family, D: Digest> UnmerkleizedBatch<F, D> {
         } else {
             RcSlice::from_vec(draft.read_peaks(base, leaves)?)?
         };
-        Ok(draft.finish(&parent, leaves, peaks_before, peaks_after)?)
+        Ok(parent.finish(draft, leaves, peaks_before, peaks_after)?)
     }
 }

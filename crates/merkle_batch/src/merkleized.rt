@@ -1,5 +1,8 @@
 //! Batches with their nodes computed.
-ghost use Rattle.std.specs.Prelude.{◌≡◌, ℕ, List, ◌∷◌, [], ◌≤◌, ◌<◌, Some, Ok, Err, slice_get, length, IfOk, IsOkUnless};
+ghost use Rattle.std.specs.Prelude.{◌≡◌, ℕ, List, ◌∷◌, [], ◌++◌, ◌≤◌, ◌<◌, Some, Ok, Err, cond, drop, slice_get, length, IfOk, IsOkUnless};
+ghost use Rattle.std.specs.Rc.{rc_slice_items};
+ghost use Rattle.merkle_batch.specs.Finished.{finished};
+ghost use Rattle.merkle_batch_theory.specs.Linked.{IsLinked};
 ghost use Rattle.std.specs.FinMap.{empty};
 ghost use Rattle.merkle_base.specs.Digests.{node_digests};
 ghost use Rattle.merkle_base.specs.Forest.{size};
@@ -7,21 +10,22 @@ ghost use Rattle.merkle_base.specs.Hashing.{Hashing};
 ghost use Rattle.merkle_base.specs.Places.{peaks_of};
 ghost use Rattle.merkle_base.specs.Root.{list_root, peaks_root};
 ghost use Rattle.merkle_batch_theory.specs.Contents.{Agrees};
-ghost use Rattle.merkle_batch_theory.specs.Pending.{forked};
+ghost use Rattle.merkle_batch_theory.specs.Pending.{forked, is_changed};
 ghost use Rattle.merkle_batch_theory.specs.Read.{newest};
 ghost use Rattle.merkle_batch_theory.specs.Recorded.{after, records};
 ghost use Rattle.merkle_batch_theory.specs.Roots.{root_batch};
 ghost use Rattle.merkle_batch_theory.specs.Stands.{StandsOn, last_list};
 
-use crate::base::Base;
 use crate::batch::UnmerkleizedBatch;
-use crate::overwrites::Overwrites;
-use crate::record::{Record, newest_node};
 use merkle_base::digest::Digest;
 use merkle_base::error::Error;
 use merkle_base::family::Family;
 use merkle_base::location::Location;
 use merkle_base::position::Position;
+use merkle_draft::base::Base;
+use merkle_draft::draft::Draft;
+use merkle_draft::overwrites::Overwrites;
+use merkle_draft::record::{Record, newest_node};
 use merkle_hasher::hasher::Hasher;
 use merkle_hasher::read::Readable;
 use std::alloc::{AllocError, Global};
@@ -163,6 +167,52 @@ impl<F: Family, D: Digest> MerkleizedBatch<F, D> {
         ensures refused { IsOkUnless result Error.OutOfMemory }
     {
         Ok(UnmerkleizedBatch::new(self.clone()?))
+    }
+
+    // The draft of a batch without changes that lets the oldest records of its ancestors go, with room for the nodes of so
+    // many leaves.
+    pub(crate) fn draft(
+        &self,
+        forgotten: usize,
+        leaves: Location<F>,
+    ) -> Result<Draft<F, D>, AllocError>
+        requires known { forgotten ≤ length self.now.ancestors }
+        requires within { leaves ≤ F.MAX_LEAVES }
+        ensures size { IfOk result (λ d. d.before ≡ after self.now.own) }
+        ensures kept { IfOk result (λ d. d.kept ≡ drop forgotten self.now.ancestors ++ cond (is_changed self.now.own) (self.now.own ∷ []) []) }
+        ensures nothing { IfOk result (λ d. (d.overwritten ≡ empty) × (d.appended ≡ [])) }
+    {
+        let kept = &self.ancestors[forgotten..];
+        Draft::new(self.allocator(), kept, &self.own, leaves)
+    }
+
+    // The batch that a draft over this one makes, whose end has so many leaves.
+    pub(crate) fn finish(
+        &self,
+        draft: Draft<F, D>,
+        leaves: Location<F>,
+        peaks_before: RcSlice<D>,
+        peaks_after: RcSlice<D>,
+    ) -> Result<Rc<Self>, AllocError>
+        requires { IsLinked F.rule F.MAX_LEAVES leaves (finished self.now draft (rc_slice_items peaks_before) (rc_slice_items peaks_after)) }
+        ensures { IfOk result (λ b. b.value ≡ finished self.now draft (rc_slice_items peaks_before) (rc_slice_items peaks_after)) }
+    {
+        let alloc = self.allocator();
+        let own = Record {
+            size_before: draft.size_before,
+            peaks_before,
+            appended: draft.appended,
+            overwrites: draft.overwrites,
+            peaks_after,
+        };
+        let batch = MerkleizedBatch {
+            own: Rc::new(alloc, own)?,
+            ancestors: draft.kept,
+            leaves,
+            base_size: self.base_size(),
+            pruning_boundary: self.pruning_boundary(),
+        };
+        Ok(Rc::new(alloc, batch)?)
     }
 
     // Where its memory comes from.

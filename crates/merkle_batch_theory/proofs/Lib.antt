@@ -33,5 +33,4 @@ pub mod Forking
 pub mod NewestFirst
 pub mod RootBatch
 pub mod PendingUpdates
-pub mod KeptRecords
 pub mod PinFacts

@@ -21,7 +21,7 @@ use Rattle.merkle_proof.proofs.BuiltDigests.{reads_at}
 use Rattle.merkle_proof.proofs.Extraction.{all_filter}
 use Rattle.merkle_proof.proofs.ReadingOrder.{all_reading_order}
 use Rattle.merkle_batch_theory.specs.Contents.{Contents, Agrees, is_kept}
-use Rattle.merkle_batch.proofs.NodePositions.{position_of_node}
+use Rattle.merkle_draft.proofs.NodePositions.{position_of_node}
 use Rattle.merkle_core.proofs.HonestReads.{is_memory}
 use Rattle.merkle_batch_theory.proofs.Items.{get_reversed}
 use Rattle.merkle_batch_theory.proofs.Kept.{get_map}

@@ -10,7 +10,7 @@ use merkle_base::error::Error;
 use merkle_base::family::Family;
 use merkle_base::position::Position;
 use merkle_batch::batch::MerkleizedBatch;
-use merkle_batch::record::Record;
+use merkle_draft::record::Record;
 use std::rc::Rc;
 
 // Whether two states have the same size and peak digests.

@@ -9,8 +9,8 @@ ghost use Rattle.merkle_batch_theory.specs.Replay.{all_laid, laid, over};
 use merkle_base::digest::Digest;
 use merkle_base::family::Family;
 use merkle_base::position::Position;
-use merkle_batch::overwrites::Overwrites;
-use merkle_batch::record::Record;
+use merkle_draft::overwrites::Overwrites;
+use merkle_draft::record::Record;
 use std::collections::VecDeque;
 use std::rc::Rc;
 

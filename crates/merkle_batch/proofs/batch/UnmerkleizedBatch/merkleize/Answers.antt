@@ -9,8 +9,9 @@ use Rattle.merkle_base.specs.Tree.{Tree, position}
 use Rattle.merkle_base.specs.declared.error.Error.TheVariants as error
 use Rattle.merkle_base.proofs.Limits.{lawful_leaves}
 use Rattle.merkle_batch_theory.specs.Contents.{AgreesWithOne}
-use Rattle.merkle_batch.specs.Drafts.{AreChildrenRead, LacksChild}
-use Rattle.merkle_batch.specs.DraftReads.{ArePeaksRead, finished, IsPeakGap, old_node}
+use Rattle.merkle_draft.specs.Drafts.{AreChildrenRead, LacksChild}
+use Rattle.merkle_batch.specs.Finished.{finished}
+use Rattle.merkle_draft.specs.DraftReads.{ArePeaksRead, IsPeakGap, old_node}
 use Rattle.merkle_batch_theory.specs.Linked.{IsLinked}
 use Rattle.merkle_batch_theory.specs.Missing.{IsMissing}
 use Rattle.merkle_batch_theory.specs.Needed.{IsChanged}

@@ -1,0 +1,197 @@
+-- Changed leaves by position: the entries of a map are those of the peaks, left to right.
+use Rattle.std.proofs.Common.{◌≡◌, ◌≢◌, ℕ, zero, suc, ◌+◌, ◌<◌, ◌≤◌, List, [], ◌∷◌, ◌++◌, map, Option, Some, None, Bool, true, false, cond, slice_get, arith, refl, sym, ap, inl, inr, ◌∙◌, subst, append-nil, append_assoc}
+use Rattle.std.specs.Prelude.{is_some}
+use Rattle.std.specs.List.{AllByRecursion, flat_map}
+use Rattle.std.specs.List.Sorted.{IsStrictlySortedBy}
+use Rattle.std.specs.Option.{option_or}
+use Rattle.std.specs.FinMap.{FinMap, get, insert, from_entries, find, get-from_entries, from_entries_push, nat_cmp-IsAntisymmetric}
+use Rattle.std.specs.Cmp.{nat_cmp_total, unsigned_tied}
+use Rattle.std.specs.Ordering.{nat_cmp, eq_by_cmp}
+use Rattle.std.specs.declared.cmp.Ordering.TheVariants.{Less}
+use Rattle.std.proofs.lemmas.Bool.{false≢true, cases_eq}
+use Rattle.std.proofs.lemmas.Bool.Decides.{eqb_tells, nat_tests}
+use Rattle.merkle_base.specs.Tree.{Tree, leaf, join, position, first_leaf, width, IsUnder, IsBuilt}
+use Rattle.merkle_base.specs.Forest.{forest, size}
+use Rattle.merkle_base.specs.Places.{peaks_of}
+use Rattle.merkle_base.proofs.Growth.{forest_grown}
+use Rattle.merkle_base.proofs.Lookup.{peak_node}
+use Rattle.merkle_base.proofs.Paths.{leaf_under, peak_holding}
+use Rattle.merkle_base.proofs.PeakLists.{Spans, covers_spans, all_reverse}
+use Rattle.merkle_draft.specs.Refreshed.{touched_leaves, HasLeavesOf}
+use Rattle.merkle_batch_theory.proofs.Items.{get_reverse}
+use Rattle.merkle_draft.proofs.RefreshedDigests.{or_left_some, or_right_some, cond_yes, cond_no}
+use Rattle.merkle_draft.proofs.RefreshedPeaks.{after_start}
+use Rattle.merkle_draft.proofs.Touched.{leaf_touched, leaf_untouched, Between, touched_between}
+use Rattle.merkle_batch_theory.proofs.OptionFacts.{none_or_some}
+use Rattle.merkle_base.proofs.Nodes.{all_append}
+use Rattle.merkle_base.proofs.Lists.{all_imply}
+
+abbrev keys : {D : Type 0} → List (ℕ × D) → List ℕ
+keys es = map (λ e. e.0) es
+
+-- ---- entries in ascending order of their positions
+pub Rising : {D : Type 0} → List (ℕ × D) → Type 0
+Rising [] = Unit {0}
+Rising (x ∷ xs) = AllByRecursion (λ u. x.0 < u.0) xs × Rising xs
+
+below_of : (a b : ℕ) → nat_cmp a b ≡ Less → a < b
+below_of a b e = grind (arith, nat_tests)
+
+module _ {D : Type 0} where
+  find_yes : (q : ℕ) (x : ℕ × D) (xs : List (ℕ × D)) → q ≡ x.0 → find nat_cmp q (x ∷ xs) ≡ Some x.1
+  find_yes q x xs e = elim (eqb_tells q x.0) [ inl s ↦ cond_yes (eq_by_cmp nat_cmp q x.0) (Some x.1) (find nat_cmp q xs) (unsigned_tied q x.0 ∙ s.0) | inr s ↦ absurd (s.1 e) ]
+
+  find_no : (q : ℕ) (x : ℕ × D) (xs : List (ℕ × D)) → q ≢ x.0 → find nat_cmp q (x ∷ xs) ≡ find nat_cmp q xs
+  find_no q x xs e = elim (eqb_tells q x.0) [ inl s ↦ absurd (e s.1) | inr s ↦ cond_no (eq_by_cmp nat_cmp q x.0) (Some x.1) (find nat_cmp q xs) (unsigned_tied q x.0 ∙ s.0) ]
+
+  -- what is found is one of them
+  find_among : (P : ℕ → D → Type 0) (xs : List (ℕ × D)) → AllByRecursion (λ u. P u.0 u.1) xs → (q : ℕ) (d : D) → find nat_cmp q xs ≡ Some d → P q d
+  find_among P [] h q d e = absurd (cc)
+  find_among P (x ∷ xs) h q d e = elim (cases_eq q x.0) [
+    | inl s ↦ (let c : x.1 ≡ d = (let f : Some x.1 ≡ Some d = sym (find_yes q x xs s) ∙ e in cc) in subst (P q) c (subst (λ k. P k x.1) (sym s) h.0))
+    | inr s ↦ find_among P xs h.1 q d (sym (find_no q x xs s) ∙ e)
+  ]
+
+  find_above : (k : ℕ) (xs : List (ℕ × D)) → AllByRecursion (λ u. k < u.0) xs → (q : ℕ) → q ≤ k → find nat_cmp q xs ≡ None
+  find_above k xs h q l = elim (none_or_some (find nat_cmp q xs)) [ inl o ↦ o | inr o ↦ absurd (omega (arith, l, find_among (λ p d. k < p) xs h q o.0 o.1)) ]
+
+  find_append : (q : ℕ) (xs ys : List (ℕ × D)) → find nat_cmp q (xs ++ ys) ≡ option_or (find nat_cmp q xs) (find nat_cmp q ys)
+  find_append q [] ys = refl
+  find_append q (x ∷ xs) ys = by (eq_by_cmp nat_cmp q x.0) (find_append q xs ys)
+    where
+      by : (b : Bool) → find nat_cmp q (xs ++ ys) ≡ option_or (find nat_cmp q xs) (find nat_cmp q ys) → cond b (Some x.1) (find nat_cmp q (xs ++ ys)) ≡ option_or (cond b (Some x.1) (find nat_cmp q xs)) (find nat_cmp q ys)
+      by true e = refl
+      by false e = e
+
+  all_seam : (P : ℕ × D → Type 0) (xs : List (ℕ × D)) (y : ℕ × D) (ys : List (ℕ × D)) → AllByRecursion P (xs ++ y ∷ ys) → P y
+  all_seam P [] y ys h = h.0
+  all_seam P (x ∷ xs) y ys h = all_seam P xs y ys h.1
+
+  -- the next one is new
+  pub new_key : (xs : List (ℕ × D)) (y : ℕ × D) (ys : List (ℕ × D)) → Rising (xs ++ y ∷ ys) → find nat_cmp y.0 xs ≡ None
+  unfolding Rising
+  new_key [] y ys h = refl
+  new_key (x ∷ xs) y ys h =
+      let l : x.0 < y.0 = all_seam (λ u. x.0 < u.0) xs y ys h.0 in
+      find_no y.0 x xs (λ e. absurd (omega (arith, l, e))) ∙ new_key xs y ys h.1
+
+  pub one_more : (xs : List (ℕ × D)) (k : ℕ) (d : D) (ys es : List (ℕ × D)) → Rising es → xs ++ (k, d) ∷ ys ≡ es → insert (from_entries {R = nat_cmp} xs) k d ≡ from_entries (xs ++ (k, d) ∷ [])
+  one_more xs k d ys es h e = sym (from_entries_push nat_cmp_total nat_cmp-IsAntisymmetric xs k d (new_key xs (k, d) ys (subst Rising (sym e) h)))
+
+  pub rising_append : (xs ys : List (ℕ × D)) (e : ℕ) → Rising xs → Rising ys → AllByRecursion (λ u. u.0 < e) xs → AllByRecursion (λ u. e ≤ u.0) ys → Rising (xs ++ ys)
+  unfolding Rising
+  rising_append [] ys e h k a b = k
+  rising_append (x ∷ xs) ys e h k a b =
+      (all_append (λ u. x.0 < u.0) xs ys h.0 (all_imply (λ u. e ≤ u.0) (λ u. x.0 < u.0) (λ u w. omega (arith, w, a.0)) ys b), rising_append xs ys e h.1 k a.1 b)
+
+  -- two such lists are equal where the same is found in both
+  pub same_rising : (xs ys : List (ℕ × D)) → Rising xs → Rising ys → ((q : ℕ) → find nat_cmp q xs ≡ find nat_cmp q ys) → xs ≡ ys
+  unfolding Rising
+  same_rising [] [] h k f = refl
+  same_rising [] (y ∷ ys) h k f = absurd (let c : None ≡ Some y.1 = f y.0 ∙ find_yes y.0 y ys refl in cc)
+  same_rising (x ∷ xs) [] h k f = absurd (let c : Some x.1 ≡ None = sym (find_yes x.0 x xs refl) ∙ f x.0 in cc)
+  same_rising (x ∷ xs) (y ∷ ys) h k f =
+      let a : find nat_cmp x.0 (y ∷ ys) ≡ Some x.1 = sym (f x.0) ∙ find_yes x.0 x xs refl in
+      let b : find nat_cmp y.0 (x ∷ xs) ≡ Some y.1 = f y.0 ∙ find_yes y.0 y ys refl in
+      elim (cases_eq x.0 y.0) [
+        | inl s ↦ (let c : x.1 ≡ y.1 = (let g : Some x.1 ≡ Some y.1 = sym a ∙ find_yes x.0 y ys s in cc) in
+            let rest : xs ≡ ys = same_rising xs ys h.1 k.1 (λ q. elim (cases_eq q x.0) [
+              | inl t ↦ find_above x.0 xs h.0 q (omega (arith, t)) ∙ sym (find_above y.0 ys k.0 q (omega (arith, t, s)))
+              | inr t ↦ sym (find_no q x xs t) ∙ f q ∙ find_no q y ys (λ u. t (u ∙ sym s))
+            ]) in
+            λ i. (s i, c i) ∷ rest i)
+        | inr s ↦ (let l : y.0 < x.0 = find_among (λ p d. y.0 < p) ys k.0 x.0 x.1 (sym (find_no x.0 y ys s) ∙ a) in
+            let m : x.0 < y.0 = find_among (λ p d. x.0 < p) xs h.0 y.0 y.1 (sym (find_no y.0 x xs (λ t. s (sym t))) ∙ b) in
+            absurd (omega (arith, l, m)))
+      ]
+
+  pub keys_rise : (es : List (ℕ × D)) → IsStrictlySortedBy nat_cmp (map (λ e. e.0) es) → Rising es
+  unfolding Rising IsStrictlySortedBy
+  keys_rise [] h = tt
+  keys_rise (x ∷ xs) h = (each xs h.0, keys_rise xs h.1)
+    where
+      each : (es : List (ℕ × D)) → AllByRecursion (λ y. nat_cmp x.0 y ≡ Less) (map (λ e. e.0) es) → AllByRecursion (λ u. x.0 < u.0) es
+      each [] h = tt
+      each (y ∷ ys) h = (below_of x.0 y.0 h.0, each ys h.1)
+
+-- ---- the changed leaves of the peaks
+module _ {D : Type 0} (m : ℕ → Option D) where
+  touched_found : (t : Tree) → AllByRecursion (λ u. m u.0 ≡ Some u.1) (touched_leaves m t)
+  touched_found (leaf p n) = elim (none_or_some (m p)) [
+    | inl o ↦ subst (AllByRecursion (λ u. m u.0 ≡ Some u.1)) (sym (leaf_untouched m p n o)) tt
+    | inr o ↦ subst (AllByRecursion (λ u. m u.0 ≡ Some u.1)) (sym (leaf_touched m p n o.0 o.1)) (o.1, tt)
+  ]
+  touched_found (join p l r) = all_append (λ u. m u.0 ≡ Some u.1) (touched_leaves m l) (touched_leaves m r) (touched_found l) (touched_found r)
+
+  all_found : (ts : List Tree) → AllByRecursion (λ u. m u.0 ≡ Some u.1) (flat_map (touched_leaves m) ts)
+  all_found [] = tt
+  all_found (t ∷ ts) = all_append (λ u. m u.0 ≡ Some u.1) (touched_leaves m t) (flat_map (touched_leaves m) ts) (touched_found t) (all_found ts)
+
+  found_under : (t : Tree) (q k : ℕ) (d : D) → IsUnder (leaf q k) t → m q ≡ Some d → is_some (find nat_cmp q (touched_leaves m t)) ≡ true
+  found_under (leaf p n) q k d u e =
+      let c : q ≡ p = ap position u in
+      ap (λ xs. is_some (find nat_cmp q xs)) (leaf_touched m p n d (subst (λ z. m z ≡ Some d) c e)) ∙ ap (λ o. is_some o) (find_yes q (p, d) [] c)
+  found_under (join p l r) q k d u e = ap (λ o. is_some o) (find_append q (touched_leaves m l) (touched_leaves m r)) ∙ elim u [
+    | inl v ↦ absurd (cc)
+    | inr v ↦ elim v [
+      | inl w ↦ or_left_some (find nat_cmp q (touched_leaves m l)) (find nat_cmp q (touched_leaves m r)) (found_under l q k d w e)
+      | inr w ↦ or_right_some (find nat_cmp q (touched_leaves m l)) (find nat_cmp q (touched_leaves m r)) (found_under r q k d w e)
+    ]
+  ]
+
+  found_in : (ts : List Tree) (i : ℕ) (t : Tree) (q : ℕ) → slice_get ts i ≡ Some t → is_some (find nat_cmp q (touched_leaves m t)) ≡ true → is_some (find nat_cmp q (flat_map (touched_leaves m) ts)) ≡ true
+  found_in [] i t q e s = absurd (cc)
+  found_in (x ∷ ts) zero t q e s = (let c : t ≡ x = cc in
+      ap (λ o. is_some o) (find_append q (touched_leaves m x) (flat_map (touched_leaves m) ts)) ∙ or_left_some (find nat_cmp q (touched_leaves m x)) (find nat_cmp q (flat_map (touched_leaves m) ts)) (subst (λ z. is_some (find nat_cmp q (touched_leaves m z)) ≡ true) c s))
+  found_in (x ∷ ts) (suc i) t q e s =
+      ap (λ o. is_some o) (find_append q (touched_leaves m x) (flat_map (touched_leaves m) ts)) ∙ or_right_some (find nat_cmp q (touched_leaves m x)) (find nat_cmp q (flat_map (touched_leaves m) ts)) (found_in ts i t q e s)
+
+  module _ (rule : List ℕ → List ℕ) (n : ℕ) where
+    peaks_find : HasLeavesOf rule n m → (q : ℕ) → find nat_cmp q (flat_map (touched_leaves m) (peaks_of rule n)) ≡ m q
+    peaks_find leaves q = elim (none_or_some (find nat_cmp q (flat_map (touched_leaves m) (peaks_of rule n)))) [
+      | inr o ↦ o.1 ∙ sym (find_among (λ p d. m p ≡ Some d) (flat_map (touched_leaves m) (peaks_of rule n)) (all_found (peaks_of rule n)) q o.0 o.1)
+      | inl o ↦ elim (none_or_some (m q)) [
+        | inl v ↦ o ∙ sym v
+        | inr v ↦ (let w = leaves q (ap is_some v.1) in
+            let k = peak_holding rule n w.0 w.1 in
+            let j = get_reverse (forest rule n).peaks k.0 k.1 k.2 in
+            let u : IsUnder (leaf (size rule w.0) w.0) k.1 = leaf_under rule n (position k.1) w.0 k.1 (peak_node rule n k.0 k.1 k.2) k.3 k.4 in
+            let f = found_in (peaks_of rule n) j.0 k.1 q j.1 (found_under k.1 q w.0 v.0 (subst (λ z. IsUnder (leaf z w.0) k.1) (sym w.2) u) v.1) in
+            absurd (false≢true (sym (ap is_some o) ∙ f)))
+      ]
+    ]
+
+    rising_tree : (t : Tree) → IsBuilt (forest rule n).nodes t → Rising (touched_leaves m t)
+    unfolding Rising
+    rising_tree (leaf p k) b = elim (none_or_some (m p)) [ inl o ↦ subst Rising (sym (leaf_untouched m p k o)) tt | inr o ↦ subst Rising (sym (leaf_touched m p k o.0 o.1)) (tt, tt) ]
+    rising_tree (join p l r) b = rising_append (touched_leaves m l) (touched_leaves m r) (size rule (first_leaf r)) (rising_tree l b.4) (rising_tree r b.5)
+        (all_imply (Between rule (first_leaf l) (first_leaf l + width l)) (λ u. u.0 < size rule (first_leaf r)) (λ u w. omega (arith, w.1, ap (size rule) b.3)) (touched_leaves m l) (touched_between rule n m l b.4))
+        (all_imply (Between rule (first_leaf r) (first_leaf r + width r)) (λ u. size rule (first_leaf r) ≤ u.0) (λ u w. w.0) (touched_leaves m r) (touched_between rule n m r b.5))
+
+    rising_trees : (o e : ℕ) (ts : List Tree) → Spans o e ts → AllByRecursion (IsBuilt (forest rule n).nodes) ts → Rising (flat_map (touched_leaves m) ts)
+    unfolding Rising
+    rising_trees o e [] c b = tt
+    rising_trees o e (t ∷ ts) c b = rising_append (touched_leaves m t) (flat_map (touched_leaves m) ts) (size rule (o + width t)) (rising_tree t b.0) (rising_trees (o + width t) e ts c.1 b.1)
+        (all_imply (Between rule (first_leaf t) (first_leaf t + width t)) (λ u. u.0 < size rule (o + width t)) (λ u w. omega (arith, w.1, ap (λ (z : ℕ). size rule (z + width t)) c.0)) (touched_leaves m t) (touched_between rule n m t b.0))
+        (after_start rule n m (o + width t) e ts c.1 b.1)
+
+    -- entries in order, in which m finds what it has
+    pub changed_leaves : HasLeavesOf rule n m → (es : List (ℕ × D)) → Rising es → ((q : ℕ) → m q ≡ find nat_cmp q es) → es ≡ flat_map (touched_leaves m) (peaks_of rule n)
+    changed_leaves leaves es h f = same_rising es (flat_map (touched_leaves m) (peaks_of rule n)) h
+        (rising_trees 0 n (peaks_of rule n) (covers_spans n (forest rule n).peaks (forest_grown rule n).covers) (all_reverse (IsBuilt (forest rule n).nodes) (forest rule n).peaks (forest_grown rule n).built))
+        (λ q. sym (f q) ∙ sym (peaks_find leaves q))
+
+-- the entries of a map of changed leaves
+pub entries_are : {D : Type 0} (rule : List ℕ → List ℕ) (n : ℕ) (es : List (ℕ × D)) → HasLeavesOf rule n (get {R = nat_cmp} (from_entries es)) → IsStrictlySortedBy nat_cmp (map (λ e. e.0) es) → es ≡ flat_map (touched_leaves (get {R = nat_cmp} (from_entries es))) (peaks_of rule n)
+entries_are rule n es leaves h = changed_leaves (get {R = nat_cmp} (from_entries es)) rule n leaves es (keys_rise es h) (λ q. get-from_entries nat_cmp_total es q)
+
+-- ---- taking the entries one by one
+pub entries_moved : {D : Type 0} (items new rest next es : List (ℕ × D)) (k : ℕ) (d : D) → new ≡ items ++ (k, d) ∷ [] → rest ≡ (k, d) ∷ next → items ++ rest ≡ es → new ++ next ≡ es
+entries_moved items new rest next es k d e f g = ap (λ z. z ++ next) e ∙ append_assoc items ((k, d) ∷ []) next ∙ ap (λ z. items ++ z) (sym f) ∙ g
+
+pub map_moved : {D : Type 0} (items new rest next es : List (ℕ × D)) (k : ℕ) (d : D) (old map : FinMap nat_cmp D) → IsStrictlySortedBy nat_cmp (keys es) → old ≡ from_entries items → map ≡ insert old k d → new ≡ items ++ (k, d) ∷ [] → rest ≡ (k, d) ∷ next → items ++ rest ≡ es → map ≡ from_entries new
+map_moved items new rest next es k d old map h a b e f g =
+    b ∙ ap (λ z. insert z k d) a ∙ one_more items k d next es (keys_rise es h) (ap (λ z. items ++ z) (sym f) ∙ g) ∙ ap (λ z. from_entries z) (sym e)
+
+pub entries_all : {D : Type 0} (items rest es : List (ℕ × D)) → rest ≡ [] → items ++ rest ≡ es → items ≡ es
+entries_all items rest es e f = sym (append-nil items) ∙ ap (λ z. items ++ z) (sym e) ∙ f

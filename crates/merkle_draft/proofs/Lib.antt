@@ -1,0 +1,13 @@
+pub mod ChildReads
+pub mod DraftFacts
+pub mod PeakReads
+pub mod RefreshedDigests
+pub mod Befores
+pub mod Touched
+pub mod Refreshing
+pub mod RefreshedPeaks
+pub mod ChangedLeaves
+pub mod RefreshedLeaves
+pub mod GapFacts
+pub mod NodePositions
+pub mod KeptRecords

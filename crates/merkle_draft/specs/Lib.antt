@@ -1,0 +1,4 @@
+pub mod Gaps
+pub mod Refreshed
+pub mod Drafts
+pub mod DraftReads

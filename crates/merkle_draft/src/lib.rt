@@ -1,0 +1,11 @@
+//! A batch in the making: the records of batches, and the nodes that follow from a batch's leaves.
+//!
+//! A [`Draft`](draft::Draft) reads the records that it keeps, the newest first, and then a [`Base`](base::Base).
+#![tactic(auto)]
+
+pub mod base;
+pub mod draft;
+pub mod gap;
+pub mod overwrites;
+pub mod record;
+mod refresh;

@@ -1,0 +1,132 @@
+//! The new digests of old nodes: those above the leaves that a batch changes.
+ghost use Rattle.std.specs.Prelude.{◌≡◌, ◌≢◌, ◌+◌, ◌<◌, ◌≤◌, ℕ, List, Option, Some, [], true, is_some, length, slice_get, IfOk, IfErr, OnOk};
+ghost use Rattle.std.specs.FinMap.{empty, from_entries, get};
+ghost use Rattle.std.specs.List.{flat_map};
+ghost use Rattle.std.specs.Ordering.{nat_cmp};
+ghost use Rattle.std.specs.Option.{option_or};
+ghost use Rattle.merkle_base.specs.Forest.{size};
+ghost use Rattle.merkle_base.specs.Places.{peaks_of};
+ghost use Rattle.merkle_base.specs.Tree.{Tree};
+ghost use Rattle.merkle_draft.specs.DraftReads.{below, OnlyOverwrites};
+ghost use Rattle.merkle_draft.specs.Drafts.{LacksFor};
+ghost use Rattle.merkle_draft.specs.Refreshed.{all_computed_at, are_before, AreRefreshed, computed_at, HasLeavesOf, LacksForOne, refreshed, touched_leaves};
+ghost use Rattle.merkle_hasher.specs.Subtrees.{Means};
+
+use crate::base::Base;
+use crate::draft::Draft;
+use crate::gap::Gap;
+use merkle_base::digest::Digest;
+use merkle_base::family::Family;
+use merkle_base::location::Location;
+use merkle_base::position::Position;
+use merkle_hasher::hasher::Hasher;
+use merkle_hasher::subtree::Subtree;
+use std::collections::BTreeMap;
+
+// How many of the updates, which stand in ascending order, are of positions before `end`.
+fn count_before<F, D>(updates: &[(Position<F>, D)], end: Position<F>) -> usize
+    ensures { result ≡ are_before updates.now end }
+{
+    for i in 0..updates.len() {
+        if updates[i].0 >= end {
+            return i;
+        }
+    }
+    updates.len()
+}
+
+impl<F: Family, D: Digest> Draft<F, D> {
+    // The new digest of a node, computed with those of all the nodes below it that change.
+    //
+    // The updates are those of the leaves under it, left to right.
+    fn refresh<B: Base<F, Digest = D>, H: Hasher<F, Digest = D>>(
+        &mut self,
+        base: &B,
+        hasher: &H,
+        subtree: &Subtree<F>,
+        updates: &[(Position<F>, D)],
+    ) -> Result<D, Gap<F>>
+        requires node { (t : Tree) × Means F.rule F.MAX_LEAVES subtree.now t }
+        ensures only { OnlyOverwrites self.old self.new }
+        ensures digest { IfOk result (λ d. (t : Tree) → (m : ℕ → Option D) → Means F.rule F.MAX_LEAVES subtree.now t → updates.now ≡ touched_leaves m t → refreshed (H.hashing hasher.now) m (below self.old (B.contents base.now)) t ≡ Some d) }
+        ensures computed { OnOk result ((t : Tree) → (m : ℕ → Option D) → Means F.rule F.MAX_LEAVES subtree.now t → updates.now ≡ touched_leaves m t → (p : ℕ) → get self.new.overwritten p ≡ option_or (computed_at (H.hashing hasher.now) m (below self.old (B.contents base.now)) t p) (get self.old.overwritten p)) }
+        ensures missing { IfErr result (λ e. e ≢ Gap.OutOfMemory → (t : Tree) → (m : ℕ → Option D) → Means F.rule F.MAX_LEAVES subtree.now t → updates.now ≡ touched_leaves m t → LacksFor m (below self.old (B.contents base.now)) t e) }
+    {
+        let Some((_, digest)) = updates.last() else {
+            return self
+                .read_below(base, subtree.position)
+                .ok_or(Gap::Missing(subtree.position));
+        };
+        if subtree.height == 0 {
+            return Ok(*digest);
+        }
+        let (left, right) = subtree.children();
+        let middle = F::location_to_position(right.first_leaf);
+        let (before, after) = updates.split_at(count_before(updates, middle));
+        let left = self.refresh(base, hasher, &left, before)?;
+        let right = self.refresh(base, hasher, &right, after)?;
+        let digest = hasher.node_digest(subtree.position, &left, &right);
+        self.overwrites.insert(subtree.position, digest)?;
+        Ok(digest)
+    }
+
+    // Computes the new digests of the nodes above changed leaves of the forest of so many leaves.
+    //
+    // The updates are those of its leaves, left to right.
+    fn refresh_peaks<B: Base<F, Digest = D>, H: Hasher<F, Digest = D>>(
+        &mut self,
+        base: &B,
+        hasher: &H,
+        leaves: Location<F>,
+        updates: &[(Position<F>, D)],
+    ) -> Result<(), Gap<F>>
+        requires { leaves ≤ F.MAX_LEAVES }
+        ensures only { OnlyOverwrites self.old self.new }
+        ensures computed { OnOk result ((m : ℕ → Option D) → updates.now ≡ flat_map (touched_leaves m) (peaks_of F.rule leaves) → (p : ℕ) → get self.new.overwritten p ≡ option_or (all_computed_at (H.hashing hasher.now) m (below self.old (B.contents base.now)) (peaks_of F.rule leaves) p) (get self.old.overwritten p)) }
+        ensures refreshed { OnOk result ((m : ℕ → Option D) → updates.now ≡ flat_map (touched_leaves m) (peaks_of F.rule leaves) → AreRefreshed (H.hashing hasher.now) m (below self.old (B.contents base.now)) (peaks_of F.rule leaves)) }
+        ensures missing { IfErr result (λ e. e ≢ Gap.OutOfMemory → (m : ℕ → Option D) → updates.now ≡ flat_map (touched_leaves m) (peaks_of F.rule leaves) → LacksForOne m (below self.old (B.contents base.now)) (peaks_of F.rule leaves) e) }
+    {
+        let mut rest = updates;
+        let mut first_leaf = Location::new(0);
+        for (position, height) in F::peaks(F::location_to_position(leaves)) {
+            let peak = Subtree {
+                position,
+                height,
+                first_leaf,
+            };
+            first_leaf = peak.leaf_end();
+            let end = F::location_to_position(first_leaf);
+            let (under, after) = rest.split_at(count_before(rest, end));
+            if !under.is_empty() {
+                self.refresh(base, hasher, &peak, under)?;
+            }
+            rest = after;
+        }
+        Ok(())
+    }
+
+    /// Gives leaves of the forest of so many leaves their new digests, by position, and computes those of the nodes above
+    /// them.
+    pub fn refresh_leaves<B: Base<F, Digest = D>, H: Hasher<F, Digest = D>>(
+        &mut self,
+        base: &B,
+        hasher: &H,
+        leaves: Location<F>,
+        updates: &BTreeMap<Position<F>, D>,
+    ) -> Result<(), Gap<F>>
+        requires within { leaves ≤ F.MAX_LEAVES }
+        requires of { HasLeavesOf F.rule leaves (get {R = nat_cmp} (from_entries updates.now.entries)) }
+        requires nothing { self.old.overwritten ≡ empty }
+        ensures only { OnlyOverwrites self.old self.new }
+        ensures computed { OnOk result (let m = get {R = nat_cmp} (from_entries updates.now.entries) in (p : ℕ) → get self.new.overwritten p ≡ option_or (all_computed_at (H.hashing hasher.now) m (below self.old (B.contents base.now)) (peaks_of F.rule leaves) p) (m p)) }
+        ensures refreshed { OnOk result (AreRefreshed (H.hashing hasher.now) (get {R = nat_cmp} (from_entries updates.now.entries)) (below self.old (B.contents base.now)) (peaks_of F.rule leaves)) }
+        ensures missing { IfErr result (λ e. e ≢ Gap.OutOfMemory → LacksForOne (get {R = nat_cmp} (from_entries updates.now.entries)) (below self.old (B.contents base.now)) (peaks_of F.rule leaves) e) }
+    {
+        let mut list = Vec::new(*self.appended.allocator());
+        for (position, digest) in updates {
+            self.overwrites.insert(*position, *digest)?;
+            list.push((*position, *digest))?;
+        }
+        self.refresh_peaks(base, hasher, leaves, &list)
+    }
+}
