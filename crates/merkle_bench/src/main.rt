@@ -4,10 +4,6 @@
 //! table to standard error, in nanoseconds of thread time a unit, and one fixed line to standard output.
 #![tactic(auto)]
 
-ghost use Rattle.std.specs.Prelude.{◌≡◌, IfOk};
-ghost use Rattle.merkle_bench.specs.Table.{entries};
-ghost use Rattle.merkle_bench.specs.Works.{after_all};
-
 mod stopwatch;
 mod trees;
 mod workload;
@@ -39,9 +35,7 @@ fn measure_all<'a, C: CpuClock>(
     alloc: Global,
     clock: &'a C,
     workload: &Workload,
-) -> Result<Stopwatch<'a, C>, Halt>
-    ensures { IfOk result (λ watch. entries watch.rows.items ≡ after_all workload.now.leaves workload.now.rounds) }
-{
+) -> Result<Stopwatch<'a, C>, Halt> {
     let mut watch = Stopwatch::new(alloc, clock);
     measure::<mmr::Family, Sha256Plain, C>(alloc, &mut watch, "mmr sha256", workload)?;
     measure::<mmb::Family, Sha256Plain, C>(alloc, &mut watch, "mmb sha256", workload)?;

@@ -1,8 +1,4 @@
 //! The time that pieces of work take.
-ghost use Rattle.std.specs.Prelude.{◌≡◌, ◌⊎◌, ℕ, ◌+◌, ◌%◌, ◌^◌, [], fold, Some, IsOkUnless, IfOk, IfErr};
-ghost use Rattle.std.specs.List.{position};
-ghost use Rattle.merkle_bench.specs.Table.{entries, is_named, noted, with_entry};
-ghost use Rattle.merkle_bench.specs.Texts.{row_text, table_text};
 
 use std::alloc::{AllocError, Global};
 use std::fmt;
@@ -34,8 +30,6 @@ struct Row {
 }
 
 impl fmt::Display for Row {
-    ghost output = { λ row. Some (row_text row) };
-
     fn fmt<W: fmt::Write>(&self, f: &mut fmt::Formatter<W>) -> fmt::Result {
         let nanoseconds = self.least / u128::from(self.units.max(1));
         write!(
@@ -57,10 +51,7 @@ pub struct Stopwatch<'a, C> {
 
 impl<'a, C: CpuClock> Stopwatch<'a, C> {
     /// A table without rows.
-    pub fn new(alloc: Global, clock: &'a C) -> Self
-        ensures rows { result.rows.items ≡ [] }
-        ensures sum { result.sum ≡ 0 }
-    {
+    pub fn new(alloc: Global, clock: &'a C) -> Self {
         Stopwatch {
             clock,
             rows: Vec::new(alloc),
@@ -69,16 +60,12 @@ impl<'a, C: CpuClock> Stopwatch<'a, C> {
     }
 
     /// The thread time so far.
-    pub fn now(&self) -> Result<Duration, Halt>
-        ensures { IsOkUnless result Halt.NoClock }
-    {
+    pub fn now(&self) -> Result<Duration, Halt> {
         self.clock.thread_cpu_time().map_err(|_| Halt::NoClock)
     }
 
     // The index of the row of that name.
-    fn place(&self, tree: &str, work: &str) -> Option<usize>
-        ensures { result ≡ position (is_named (tree.now, work.now)) self.now.rows.items }
-    {
+    fn place(&self, tree: &str, work: &str) -> Option<usize> {
         self.rows
             .iter()
             .position(|row| row.tree == tree && row.work == work)
@@ -91,13 +78,7 @@ impl<'a, C: CpuClock> Stopwatch<'a, C> {
         work: &'static str,
         units: u64,
         start: Duration,
-    ) -> Result<(), Halt>
-        ensures sum { self.new.sum ≡ self.old.sum }
-        ensures refused { IfErr result (λ halt. (halt ≡ Halt.NoClock) ⊎ (halt ≡ Halt.OutOfMemory)) }
-        ensures kept { IfErr result (λ _. self.new.rows.items ≡ self.old.rows.items) }
-        ensures entered { IfOk result (λ _. entries self.new.rows.items ≡ with_entry (tree.entry.now, work.entry.now) units (entries self.old.rows.items)) }
-        ensures noted { IfOk result (λ _. (spent : ℕ) × (self.new.rows.items ≡ noted (record { tree = tree.entry; work = work.entry; units = units; least = spent }) self.old.rows.items)) }
-    {
+    ) -> Result<(), Halt> {
         let spent = self.now()?.saturating_sub(start).as_nanos();
         if let Some(i) = self.place(tree, work) {
             let row = &mut self.rows[i];
@@ -114,10 +95,7 @@ impl<'a, C: CpuClock> Stopwatch<'a, C> {
     }
 
     /// Takes in what was computed.
-    pub fn keep(&mut self, bytes: &[u8])
-        ensures sum { self.new.sum ≡ fold (λ sum byte. (sum + byte) % 2 ^ 64) self.old.sum bytes.now }
-        ensures rows { self.new.rows.items ≡ self.old.rows.items }
-    {
+    pub fn keep(&mut self, bytes: &[u8]) {
         for byte in bytes {
             self.sum = self.sum.wrapping_add(u64::from(*byte));
         }
@@ -125,8 +103,6 @@ impl<'a, C: CpuClock> Stopwatch<'a, C> {
 }
 
 impl<C> fmt::Display for Stopwatch<'_, C> {
-    ghost output = { λ watch. Some (table_text watch.rows.items watch.sum) };
-
     fn fmt<W: fmt::Write>(&self, f: &mut fmt::Formatter<W>) -> fmt::Result {
         for row in &self.rows {
             writeln!(f, "{row}")?;
@@ -136,10 +112,6 @@ impl<C> fmt::Display for Stopwatch<'_, C> {
 }
 
 impl From<AllocError> for Halt {
-    ghost use Rattle.merkle_bench.specs.declared.stopwatch.Halt.TheVariants.{OutOfMemory};
-
-    ghost from_gives = { λ _ halt. halt ≡ OutOfMemory };
-
     fn from(_error: AllocError) -> Self {
         Halt::OutOfMemory
     }

@@ -1,7 +1,4 @@
 //! The calls that are measured, at one family and one hash.
-ghost use Rattle.std.specs.Prelude.{◌≡◌, IfOk, codes, length};
-ghost use Rattle.merkle_bench.specs.Table.{entries, with_entry, with_works};
-ghost use Rattle.merkle_bench.specs.Works.{after_rounds, appends, copies, locations, proofs, works};
 
 use crate::stopwatch::{Halt, Stopwatch};
 use crate::workload::{Element, Workload};
@@ -39,9 +36,7 @@ impl<H: PlainHasher> Trees<H> {
         &self,
         watch: &mut Stopwatch<C>,
         elements: &[Element],
-    ) -> Result<Mem<F, H::Digest>, Halt>
-        ensures { IfOk result (λ _. entries watch.new.rows.items ≡ with_works self.now.name.now (appends (length elements.now)) (entries watch.old.rows.items)) }
-    {
+    ) -> Result<Mem<F, H::Digest>, Halt> {
         let units = elements.len() as u64;
         let mut structure = Mem::new(self.alloc);
         let start = watch.now()?;
@@ -64,9 +59,7 @@ impl<H: PlainHasher> Trees<H> {
         &self,
         watch: &mut Stopwatch<C>,
         elements: &[Element],
-    ) -> Result<(), Halt>
-        ensures { IfOk result (λ _. entries watch.new.rows.items ≡ with_entry (self.now.name.now, codes "append one by one") (length elements.now) (entries watch.old.rows.items)) }
-    {
+    ) -> Result<(), Halt> {
         let mut structure: Mem<F, H::Digest> = Mem::new(self.alloc);
         let start = watch.now()?;
         for element in elements {
@@ -84,9 +77,7 @@ impl<H: PlainHasher> Trees<H> {
         watch: &mut Stopwatch<C>,
         structure: &mut Mem<F, H::Digest>,
         leaves: &[u64],
-    ) -> Result<(), Halt>
-        ensures { IfOk result (λ _. entries watch.new.rows.items ≡ with_entry (self.now.name.now, codes "update, merkleize, apply") (length leaves.now) (entries watch.old.rows.items)) }
-    {
+    ) -> Result<(), Halt> {
         let start = watch.now()?;
         let mut batch = granted!(structure.new_batch());
         for leaf in leaves {
@@ -107,9 +98,7 @@ impl<H: PlainHasher> Trees<H> {
         &self,
         watch: &mut Stopwatch<C>,
         structure: &Mem<F, H::Digest>,
-    ) -> Result<H::Digest, Halt>
-        ensures { IfOk result (λ _. entries watch.new.rows.items ≡ with_entry (self.now.name.now, codes "root") 100 (entries watch.old.rows.items)) }
-    {
+    ) -> Result<H::Digest, Halt> {
         let units = 100;
         let mut root = H::Digest::EMPTY;
         let start = watch.now()?;
@@ -129,16 +118,12 @@ impl<H: PlainHasher> Trees<H> {
         elements: &[Element],
         leaves: &[u64],
         root: &H::Digest,
-    ) -> Result<(), Halt>
-        ensures { IfOk result (λ _. entries watch.new.rows.items ≡ with_works self.now.name.now (proofs (length leaves.now)) (entries watch.old.rows.items)) }
-    {
+    ) -> Result<(), Halt> {
         let units = leaves.len() as u64;
-        // one that is seen to fold forward
-        let hasher = Standard::<H>::new(Bagging::ForwardFold);
         let mut proofs = Vec::new(self.alloc);
         let start = watch.now()?;
         for leaf in leaves {
-            let proof = granted!(structure.proof(&hasher, Location::new(*leaf), 0));
+            let proof = granted!(structure.proof(&self.hasher, Location::new(*leaf), 0));
             proofs.push(proof).map_err(|_| Halt::OutOfMemory)?;
         }
         watch.note(self.name, "proof of one", units, start)?;
@@ -148,7 +133,7 @@ impl<H: PlainHasher> Trees<H> {
                 return Err(Halt::Refused);
             };
             let is_right = proof.verify_element_inclusion(
-                &hasher,
+                &self.hasher,
                 element,
                 Location::new(*leaf),
                 root,
@@ -165,9 +150,7 @@ impl<H: PlainHasher> Trees<H> {
         &self,
         watch: &mut Stopwatch<C>,
         structure: &Mem<F, H::Digest>,
-    ) -> Result<(), Halt>
-        ensures { IfOk result (λ _. entries watch.new.rows.items ≡ with_works self.now.name.now copies (entries watch.old.rows.items)) }
-    {
+    ) -> Result<(), Halt> {
         let start = watch.now()?;
         let mut copy = structure.clone().map_err(|_| Halt::OutOfMemory)?;
         watch.note(self.name, "clone", 1, start)?;
@@ -183,9 +166,7 @@ impl<H: PlainHasher> Trees<H> {
         watch: &mut Stopwatch<C>,
         leaves: u64,
         scattered: &[u64],
-    ) -> Result<(), Halt>
-        ensures { IfOk result (λ _. entries watch.new.rows.items ≡ with_works self.now.name.now (locations leaves (length scattered.now)) (entries watch.old.rows.items)) }
-    {
+    ) -> Result<(), Halt> {
         let mut positions: Vec<Position<F>> = Vec::new(self.alloc);
         for leaf in 0..leaves {
             let position = granted!(Position::try_from(Location::<F>::new(leaf)));
@@ -207,9 +188,7 @@ impl<H: PlainHasher> Trees<H> {
         watch: &mut Stopwatch<C>,
         work: &'static str,
         positions: &[Position<F>],
-    ) -> Result<(), Halt>
-        ensures { IfOk result (λ _. entries watch.new.rows.items ≡ with_entry (self.now.name.now, work.entry.now) (length positions.now) (entries watch.old.rows.items)) }
-    {
+    ) -> Result<(), Halt> {
         let mut sum: u64 = 0;
         let start = watch.now()?;
         for position in positions {
@@ -225,9 +204,7 @@ impl<H: PlainHasher> Trees<H> {
     }
 
     // The hash of 72 bytes, which is that of a node.
-    fn hashes<C: CpuClock>(&self, watch: &mut Stopwatch<C>) -> Result<(), Halt>
-        ensures { IfOk result (λ _. entries watch.new.rows.items ≡ with_entry (self.now.name.now, codes "hash of 72 bytes") 1000 (entries watch.old.rows.items)) }
-    {
+    fn hashes<C: CpuClock>(&self, watch: &mut Stopwatch<C>) -> Result<(), Halt> {
         let units = 1000;
         let mut bytes = [7u8; 72];
         let start = watch.now()?;
@@ -244,10 +221,7 @@ impl<H: PlainHasher> Trees<H> {
         watch: &mut Stopwatch<C>,
         workload: &Workload,
         elements: &[Element],
-    ) -> Result<(), Halt>
-        requires { length elements.now ≡ workload.now.leaves }
-        ensures { IfOk result (λ _. entries watch.new.rows.items ≡ with_works self.now.name.now (works workload.now.leaves) (entries watch.old.rows.items)) }
-    {
+    ) -> Result<(), Halt> {
         let leaves = elements.len() as u64;
         let mut structure: Mem<F, H::Digest> = self.append_at_once(watch, elements)?;
         self.append_one_by_one::<F, C>(watch, elements)?;
@@ -267,9 +241,7 @@ pub fn measure<F: Family, H: PlainHasher, C: CpuClock>(
     watch: &mut Stopwatch<C>,
     name: &'static str,
     workload: &Workload,
-) -> Result<(), Halt>
-    ensures { IfOk result (λ _. entries watch.new.rows.items ≡ after_rounds workload.now.leaves workload.now.rounds name.entry.now (entries watch.old.rows.items)) }
-{
+) -> Result<(), Halt> {
     let elements = workload.elements(alloc)?;
     let trees: Trees<H> = Trees {
         alloc,

@@ -1,5 +1,4 @@
 //! How much is measured, and on which elements.
-ghost use Rattle.std.specs.Prelude.{◌≡◌, ◌<◌, ◌≤◌, min, nat_lt, cond, All, IfOk, SomeIff, length};
 
 use std::alloc::{AllocError, Global};
 
@@ -18,9 +17,7 @@ pub struct Workload {
 
 impl Workload {
     /// Work at so many leaves, which are at least 1, and so many rounds.
-    pub fn new(leaves: u64, rounds: u64) -> Option<Self>
-        ensures { SomeIff result ((0 < leaves) × (leaves ≤ MOST_LEAVES)) (record { leaves = leaves; rounds = rounds }) }
-    {
+    pub fn new(leaves: u64, rounds: u64) -> Option<Self> {
         if leaves == 0 || leaves > MOST_LEAVES {
             return None;
         }
@@ -28,16 +25,12 @@ impl Workload {
     }
 
     /// The number of rounds.
-    pub fn rounds(&self) -> u64
-        ensures { result ≡ self.now.rounds }
-    {
+    pub fn rounds(&self) -> u64 {
         self.rounds
     }
 
     /// The elements of the leaves, all different.
-    pub fn elements(&self, alloc: Global) -> Result<Vec<Element>, AllocError>
-        ensures { IfOk result (λ v. length v.items ≡ self.now.leaves) }
-    {
+    pub fn elements(&self, alloc: Global) -> Result<Vec<Element>, AllocError> {
         let mut elements = Vec::new(alloc);
         for i in 0..self.leaves {
             elements.push(element_of(i))?;
@@ -46,17 +39,14 @@ impl Workload {
     }
 
     /// Up to 1,000 numbers below the bound, scattered, the same at each call; none where the bound is 0.
-    pub fn scattered(&self, alloc: Global, bound: u64) -> Result<Vec<u64>, AllocError>
-        ensures counted { IfOk result (λ v. length v.items ≡ cond (nat_lt 0 bound) (min self.now.leaves 1000) 0) }
-        ensures below { IfOk result (λ v. All (λ n. n < bound) v.items) }
-    {
+    pub fn scattered(&self, alloc: Global, bound: u64) -> Result<Vec<u64>, AllocError> {
         let mut numbers = Vec::new(alloc);
         if bound == 0 {
             return Ok(numbers);
         }
         let mut state: u64 = 0;
         for _ in 0..self.leaves.min(1000) {
-            // the step of Knuth's multiplicative hashing
+            // as SplitMix64 does, with one of its two mixing steps
             state = state.wrapping_add(0x9E37_79B9_7F4A_7C15);
             let number = (state ^ (state >> 29)).wrapping_mul(0xBF58_476D_1CE4_E5B9) >> 16;
             numbers.push(number % bound)?;

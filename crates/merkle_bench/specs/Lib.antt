@@ -1,3 +1,0 @@
-pub mod Table
-pub mod Texts
-pub mod Works
