@@ -7,10 +7,10 @@ ghost use Rattle.merkle_base.specs.Grafting.{HasChunk, AreChunkPeaks, IsNode, Is
 ghost use Rattle.merkle_base.specs.Tree.{Tree, first_leaf};
 ghost use Rattle.merkle_base.specs.Places.{IsSize, IsNearestSize, ArePeaks, HasInner, AreChildren, IsHeightAt, inactive_peaks, peak_positions};
 
-use crate::listed::Listed;
+pub use crate::listed::Listed;
 use crate::location::Location;
 pub use crate::pending::{Grafting, PendingChunk, Unused};
-use crate::pins::NodesToPin;
+pub use crate::pins::NodesToPin;
 use crate::position::Position;
 use std::fmt::Debug;
 

@@ -13,6 +13,7 @@ pub mod family;
 pub mod laws;
 pub mod listed;
 pub mod location;
+pub mod number;
 pub mod pending;
 pub mod pins;
 pub mod position;
