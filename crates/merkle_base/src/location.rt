@@ -5,7 +5,7 @@ ghost use Rattle.std.specs.Fmt.{decimal};
 
 use crate::error::Error;
 use crate::family::Family;
-use crate::number::{Leaves, Number};
+pub use crate::number::{Leaves, Number};
 use crate::position::Position;
 use std::fmt;
 use std::ops::Range;

@@ -7,7 +7,7 @@ ghost use Rattle.merkle_base.specs.Places.{IsSize};
 use crate::error::Error;
 use crate::family::Family;
 use crate::location::Location;
-use crate::number::{Nodes, Number};
+pub use crate::number::{Nodes, Number};
 use std::fmt;
 
 /// A node index or a node count of a family: a number that prints as `Position(42)`.

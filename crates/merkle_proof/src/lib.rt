@@ -9,4 +9,4 @@ pub mod range_plan;
 mod reading;
 mod siblings;
 
-pub use merkle_hasher::{hasher, read, subtree};
+pub use merkle_hasher::{hasher, read};
