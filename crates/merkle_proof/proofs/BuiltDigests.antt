@@ -1,7 +1,7 @@
 -- The digests of a built proof, from those that were read.
-use Rattle.std.proofs.Common.{◌≡◌, ℕ, ◌+◌, ◌-◌, ◌<◌, ◌≤◌, Bool, cond, List, [], ◌∷◌, ◌++◌, ◌||◌, length, map, take, drop, append_assoc, refl, ap, ap₂, sym, ◌∙◌, subst, arith, Option, Some, slice_get, inl, inr, ◌⊎◌, ◌≢◌, ⊎_elim}
+use Rattle.std.proofs.Common.{◌≡◌, ℕ, ◌+◌, ◌-◌, ◌<◌, ◌≤◌, Bool, cond, List, [], ◌∷◌, ◌++◌, ◌||◌, length, map, take, drop, refl, ap, ap₂, sym, ◌∙◌, subst, arith, Option, Some, slice_get, inl, inr, ◌⊎◌, ◌≢◌, ⊎_elim}
 use Rattle.std.specs.List.{AllZip, AllByRecursion, flat_map}
-use Rattle.std.proofs.lemmas.List.{map-append, length-append, length-take-le, length-drop, take_all}
+use Rattle.std.proofs.lemmas.List.{length-take-le, length-drop}
 use Rattle.merkle_base.specs.Tree.{Tree, leaf, join, position, IsBuilt}
 use Rattle.merkle_base.specs.Forest.{forest}
 use Rattle.merkle_base.specs.Hashing.{Hashing}
@@ -20,30 +20,14 @@ use Rattle.merkle_proof.specs.declared.reading.Unread.{Unread}
 use Rattle.merkle_proof.specs.declared.reading.Unread.TheVariants as unread
 use Rattle.merkle_base.specs.declared.error.Error.{Error}
 use Rattle.merkle_base.specs.declared.error.Error.TheVariants as error
-use Rattle.merkle_hasher.specs.Subtrees.{AreNodes, subtree_of}
-use Rattle.merkle_proof.specs.GroupedPeaks.{HoldsGroups}
-use Rattle.merkle_proof.specs.declared.groups.Groups.{Groups}
-use Rattle.merkle_hasher.specs.declared.subtree.Subtree.{Subtree}
+use Rattle.merkle_hasher.specs.Subtrees.{AreNodes}
 use Rattle.merkle_proof.specs.declared.proof.Proof.{Proof}
 use Rattle.merkle_base.proofs.Cases.{by_test}
 use Rattle.merkle_hasher.proofs.PeakNodes.{peaks_at}
-use Rattle.merkle_base.proofs.PeakLists.{peaks_built, peaks_spans}
+use Rattle.merkle_base.proofs.PeakLists.{peaks_built}
 use Rattle.merkle_proof.proofs.Extraction.{all_filter}
-use Rattle.merkle_proof.proofs.PeakGroups.{groups}
+use Rattle.merkle_proof.proofs.PeakGroups.{length-peaks_of}
 use Rattle.merkle_proof.proofs.BuiltLayouts.{at_node, built, honest}
-
-positions_are : (F : Type 0) (ts : List Tree) → map (λ (s : Subtree F). s.position) (map subtree_of ts) ≡ map position ts
-positions_are F [] = refl
-positions_are F (t ∷ ts) = ap (λ z. position t ∷ z) (positions_are F ts)
-
--- what is listed of groups is what is read
-pub listed_outside : {F : Type 0} (a b i : ℕ) (g : Groups F) (ts : List Tree) (xs ys zs : List ℕ) → HoldsGroups a b g ts → length g.before.items ≤ i → xs ≡ map (λ s. s.position) (take i g.before.items) → ys ≡ xs ++ g.after.items
-    → zs ≡ ys ++ map position (flat_map (siblings (in_range a b)) (overlapping a b ts)) → zs ≡ map position (wholly_before a ts ++ (wholly_after b ts ++ flat_map (siblings (in_range a b)) (overlapping a b ts)))
-listed_outside {F} a b i g ts xs ys zs held l x y z =
-    let before = wholly_before a ts in let after = wholly_after b ts in let inside = flat_map (siblings (in_range a b)) (overlapping a b ts) in
-    let first : xs ≡ map position before = x ∙ ap (map (λ s. s.position)) (take_all i g.before.items l ∙ held.before) ∙ positions_are F before in
-    z ∙ ap (λ w. w ++ map position inside) (y ∙ ap₂ ◌++◌ first held.after) ∙ append_assoc (map position before) (map position after) (map position inside)
-    ∙ sym (map-append position before (after ++ inside) ∙ ap (λ w. map position before ++ w) (map-append position after inside))
 
 -- answers that agree with a function
 agreed : {D : Type 0} (node : ℕ → Option D) (answered : ℕ → Option D → Type 0) → ((p : ℕ) (r : Option D) → answered p r → r ≡ node p) → (ts : List Tree) (ds : List D) → AllZip (λ p d. answered p (Some d)) (map position ts) ds → map (at_node node) ts ≡ map Some ds
@@ -76,12 +60,6 @@ reads_at s n a b =
     let at = peaks_at s.rule n n (omega arith) in
     all_append P (wholly_before a ts) (wholly_after b ts ++ range_siblings a b ts) (all_filter P _ ts at)
     (all_append P (wholly_after b ts) (range_siblings a b ts) (all_filter P _ ts at) (all_siblings_at (forest s.rule n).nodes (in_range a b) (overlapping a b ts) (all_filter (IsBuilt (forest s.rule n).nodes) _ ts (peaks_built s.rule n))))
-
--- each peak is in one group
-pub length-peaks_of : (rule : List ℕ → List ℕ) (n a b : ℕ) → a < b → length (peaks_of rule n) ≡ length (wholly_before a (peaks_of rule n)) + (length (overlapping a b (peaks_of rule n)) + length (wholly_after b (peaks_of rule n)))
-length-peaks_of rule n a b less =
-    let ts = peaks_of rule n in let before = wholly_before a ts in let over = overlapping a b ts in let after = wholly_after b ts in
-    ap length (groups a b 0 n ts less (peaks_spans rule n)) ∙ length-append before (over ++ after) ∙ ap (λ m. length before + m) (length-append over after)
 
 -- the digests of a proof by the groups of peaks, from a plan's numbers
 pub laid_out_of_plan : {D : Type 0} (f : D → D → D) (rule : List ℕ → List ℕ) (max_leaves n a b peaks before after : ℕ) (reads : List ℕ) → IsPlan rule max_leaves n a b peaks before after reads → (bagging own : Bagging) → own ≡ bagging → (k prefix single : ℕ)

@@ -10,7 +10,7 @@ use Rattle.merkle_proof.specs.Outside.{single_after, folded_suffix}
 use Rattle.merkle_proof.specs.Range.{overlapping, wholly_after, range_siblings}
 use Rattle.merkle_proof.specs.RangePlans.{nodes_read, reading_order, turned, IsPlan}
 use Rattle.merkle_proof.proofs.BuiltLayouts.{single_after_rest}
-use Rattle.merkle_proof.proofs.BuiltDigests.{length-peaks_of}
+use Rattle.merkle_proof.proofs.PeakGroups.{length-peaks_of}
 use Rattle.merkle_proof.proofs.TurnedLists.{turned_parts}
 
 all_parts : {X : Type 0} (P : X → Type 0) (xs ys : List X) → AllByRecursion P (xs ++ ys) → AllByRecursion P xs × AllByRecursion P ys

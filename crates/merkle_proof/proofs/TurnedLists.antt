@@ -1,5 +1,5 @@
 -- Lists of which a part is turned round.
-use Rattle.std.proofs.Common.{◌≡◌, ℕ, zero, suc, ◌+◌, ◌-◌, ◌≤◌, List, [], ◌∷◌, ◌++◌, length, length-append, take, drop, reverse, take_at, drop_at, append_assoc, arith, refl, ap, ap₂, sym, ◌∙◌, subst}
+use Rattle.std.proofs.Common.{◌≡◌, ℕ, zero, suc, ◌+◌, ◌-◌, ◌≤◌, List, [], ◌∷◌, ◌++◌, length, length-append, take, drop, reverse, take_at, drop_at, append_assoc, arith, ap, ap₂, sym, ◌∙◌, subst}
 use Rattle.std.specs.List.{AllZip}
 use Rattle.std.proofs.lemmas.List.{reverse-reverse, length-reverse, reverse-append, take-append-drop, length-take-le, length-drop, drop-drop}
 use Rattle.merkle_proof.specs.RangePlans.{turned}

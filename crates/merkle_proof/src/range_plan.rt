@@ -75,9 +75,9 @@ impl<F: Family> RangePlan<F> {
         }
         let groups = Groups::of_peaks(alloc, leaves, &range)?;
         let peaks = groups.count();
-        let before = groups.before.len();
-        let after = groups.after.len();
-        let reads = groups.outside(alloc, &range)?;
+        let before = groups.before;
+        let after = groups.after();
+        let reads = groups.into_reads(&range)?;
         Ok(RangePlan {
             leaves,
             range,

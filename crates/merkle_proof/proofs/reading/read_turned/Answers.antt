@@ -1,4 +1,4 @@
-use Rattle.std.proofs.Common.{◌≡◌, ◌≤◌, Some, length, arith, sym, ap, subst, ◌∙◌}
+use Rattle.std.proofs.Common.{Some, length, arith, sym, ap, subst, ◌∙◌}
 use Rattle.std.specs.List.{AllZip}
 use Rattle.std.proofs.lemmas.Slice.Zip.{AllZip-long}
 use Rattle.merkle_proof.specs.RangePlans.{turned}

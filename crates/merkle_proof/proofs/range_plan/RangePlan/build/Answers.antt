@@ -9,7 +9,8 @@ use Rattle.merkle_proof.specs.Input.{setting}
 use Rattle.merkle_proof.specs.Range.{wholly_after, range_siblings, IsHonestRange}
 use Rattle.merkle_proof.specs.RangePlans.{LeafRange, nodes_read, IsBuiltProof, IsBuildRefusal, list_input}
 use Rattle.merkle_proof.specs.declared.proof.Proof.{Proof}
-use Rattle.merkle_proof.proofs.BuiltDigests.{length-peaks_of, laid_out_of_plan, is_built, is_honest, build_refused}
+use Rattle.merkle_proof.proofs.BuiltDigests.{laid_out_of_plan, is_built, is_honest, build_refused}
+use Rattle.merkle_proof.proofs.PeakGroups.{length-peaks_of}
 use Rattle.merkle_proof.proofs.ReadingOrder.{reading_order_of_plan}
 use Rattle.merkle_proof.proofs.range_plan.RangePlan.build.Given as given
 use Rattle.merkle_proof.proofs.range_plan.RangePlan.build.Goals as goal
