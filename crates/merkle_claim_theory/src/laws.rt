@@ -24,7 +24,7 @@ ghost use Rattle.merkle_claim_theory.specs.Pinned.{HonestPinnedIsAccepted, Accep
 ghost use Rattle.merkle_claim_theory.specs.PinnedClaim.{NoOtherPins};
 ghost use Rattle.merkle_proof.specs.Plan.{folding, full, siblings, whole};
 ghost use Rattle.merkle_proof.specs.Range.{HonestIsAccepted, AcceptedIsHonest, AcceptsSome, IsHonestSome, in_range, overlapping, wholly_after, range_siblings, range_digests};
-ghost use Rattle.merkle_proof.specs.RangePlans.{reading_order, turned};
+ghost use Rattle.merkle_proof.specs.RangePlans.{reading_order};
 ghost use Rattle.merkle_proof.specs.RootString.{RootStringTellsAll};
 ghost use Rattle.merkle_claim_theory.specs.Rows.{four, seven, single, alone, paired, small, middle, swapped_inputs, list_inputs};
 ghost use Rattle.merkle_claim_theory.specs.Store.{PartIsAccepted, SiblingsAreRead};
@@ -133,15 +133,14 @@ pub fn worked_rows()
     ensures counts_before { count_before BackwardFold 1 (single 0 ∷ single 1 ∷ single 2 ∷ []) ∷ count_after BackwardFold 1 4 (single 4 ∷ single 5 ∷ []) ∷ count_inactive BackwardFold 1 (single 0 ∷ single 1 ∷ single 2 ∷ []) ∷ [] ≡ 3 ∷ 1 ∷ 1 ∷ [] }
     ensures counts_after { count_before BackwardFold 5 (single 0 ∷ single 1 ∷ []) ∷ count_after BackwardFold 5 3 (single 3 ∷ single 4 ∷ single 5 ∷ single 6 ∷ []) ∷ count_inactive BackwardFold 5 (single 0 ∷ single 1 ∷ []) ∷ [] ≡ 1 ∷ 3 ∷ 4 ∷ [] }
 
-    // Of what is read the first two are folded left to right, and the fifth and sixth right to left.
-    ensures laid { laid_out (λ a b. 10 * a + b) 2 3 1 3 (1 ∷ 2 ∷ 3 ∷ 4 ∷ 5 ∷ 6 ∷ 7 ∷ []) ≡ 12 ∷ 3 ∷ 4 ∷ 56 ∷ 7 ∷ [] }
-    ensures laid_backward { laid_out (λ a b. a + 2 * b) 0 0 0 3 (1 ∷ 2 ∷ 4 ∷ 9 ∷ []) ≡ 21 ∷ 9 ∷ [] }
+    // The prefix is folded left to right, and the suffix right to left.
+    ensures laid { laid_out (λ a b. 10 * a + b) (1 ∷ 2 ∷ []) (3 ∷ 4 ∷ []) (5 ∷ 6 ∷ []) (7 ∷ []) ≡ 12 ∷ 3 ∷ 4 ∷ 56 ∷ 7 ∷ [] }
+    ensures laid_backward { laid_out (λ a b. a + 2 * b) [] [] (1 ∷ 2 ∷ 4 ∷ []) (9 ∷ []) ≡ 21 ∷ 9 ∷ [] }
 
     // For leaf 1 of five that are all peaks.
     ensures reads_forward { map position (reading_order ForwardFold 0 small.rule 5 1 2) ≡ 0 ∷ 2 ∷ 3 ∷ 4 ∷ [] }
     ensures reads_backward { map position (reading_order BackwardFold 0 small.rule 5 1 2) ≡ 0 ∷ 4 ∷ 3 ∷ 2 ∷ [] }
     ensures reads_inactive { map position (reading_order BackwardFold 3 small.rule 5 1 2) ≡ 0 ∷ 2 ∷ 4 ∷ 3 ∷ [] }
-    ensures turns { turned {X = ℕ} 1 3 (5 ∷ 6 ∷ 7 ∷ 8 ∷ []) ≡ 5 ∷ 7 ∷ 6 ∷ 8 ∷ [] }
 
     // Of the first leaf, where the first two are merged: the peak after it, and then the second leaf.
     ensures digests { range_digests (record small { rule = paired }) (1 ∷ 3 ∷ 7 ∷ []) 0 0 1 ≡ 7 ∷ 3 ∷ [] }

@@ -1,9 +1,10 @@
 -- Peaks fall into groups one after another.
-use Rattle.std.proofs.Common.{◌≡◌, ℕ, Bool, true, false, cond, ◌&&◌, nat_le, nat_lt, ◌<◌, ◌≤◌, List, [], ◌∷◌, ◌++◌, map, filter, ap, ap₂, sym, ◌∙◌, append-nil, le-leb, lt-ltb, le-ltb, Result, Ok, Err, IfOk}
+use Rattle.std.proofs.Common.{◌≡◌, ℕ, Bool, true, false, cond, ◌&&◌, nat_le, nat_lt, ◌<◌, ◌≤◌, List, [], ◌∷◌, ◌++◌, map, filter, ap, ap₂, sym, ◌∙◌, append-nil, append_assoc, arith, le-leb, lt-ltb, le-ltb, Result, Ok, Err, IfOk}
 use Rattle.std.proofs.lemmas.Bool.{lt-leb, and_left, and_right, and_from}
 use Rattle.std.proofs.lemmas.List.{map-append}
 use Rattle.merkle_base.specs.Tree.{Tree, position, height, first_leaf, end_leaf}
 use Rattle.merkle_base.proofs.Growth.{forest_grown}
+use Rattle.merkle_base.proofs.Nodes.{width_pos}
 use Rattle.merkle_proof.specs.Plan.{tree_meets, siblings}
 use Rattle.merkle_proof.specs.Range.{overlapping, wholly_after}
 use Rattle.merkle_base.proofs.PeakLists.{filter_yes, filter_no}
@@ -58,6 +59,18 @@ module _ (a b : ℕ) (done : List Tree) (t : Tree) where
 
   pub after_no : first_leaf t < b → wholly_after b (done ++ t ∷ []) ≡ wholly_after b done
   after_no l = filter_push_no (λ t. nat_le b (first_leaf t)) done t (lt-leb b (first_leaf t) l)
+
+  -- a peak before the range comes before all those after it
+  pub outside_before : end_leaf t ≤ a → a < b → wholly_after b done ≡ [] → wholly_before a (done ++ t ∷ []) ++ wholly_after b (done ++ t ∷ []) ≡ (wholly_before a done ++ wholly_after b done) ++ t ∷ []
+  outside_before l m none =
+      ap₂ ◌++◌ (before_yes l) (after_no (omega (arith, l, m, width_pos t)) ∙ none) ∙ append-nil (wholly_before a done ++ t ∷ [])
+      ∙ ap (λ z. z ++ t ∷ []) (sym (ap (λ z. wholly_before a done ++ z) none ∙ append-nil (wholly_before a done)))
+
+  pub outside_after : a < end_leaf t → b ≤ first_leaf t → wholly_before a (done ++ t ∷ []) ++ wholly_after b (done ++ t ∷ []) ≡ (wholly_before a done ++ wholly_after b done) ++ t ∷ []
+  outside_after l m = ap₂ ◌++◌ (before_no l) (after_yes m) ∙ sym (append_assoc (wholly_before a done) (wholly_after b done) (t ∷ []))
+
+  pub outside_over : a < end_leaf t → first_leaf t < b → wholly_before a (done ++ t ∷ []) ++ wholly_after b (done ++ t ∷ []) ≡ wholly_before a done ++ wholly_after b done
+  outside_over l m = ap₂ ◌++◌ (before_no l) (after_no m)
 
 -- a subtree is known by its node
 pub subtree_is : {F : Type 0} (rule : List ℕ → List ℕ) (m : ℕ) (s : Subtree F) (t : Tree) → Means rule m s t → s ≡ subtree_of t

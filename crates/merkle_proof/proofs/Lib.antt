@@ -23,5 +23,5 @@ pub mod HasherLaws
 pub mod GivenLeaves
 pub mod PathSteps
 pub mod LayoutCounts
-pub mod TurnedLists
 pub mod ReadingOrder
+pub mod ReadRuns

@@ -1,9 +1,9 @@
 -- A location range splits the peaks into those before it, those that overlap it and those after it.
-use Rattle.std.proofs.Common.{◌≡◌, ℕ, Bool, true, false, cond, ◌&&◌, ◌||◌, nat_le, nat_lt, ◌+◌, ◌≤◌, ◌<◌, List, [], ◌∷◌, ◌++◌, ◌⊎◌, inl, inr, refl, ap, ap₂, sym, ◌∙◌, subst, ⊎_elim, arith, flat_map, le-leb, lt-ltb, le-ltb, leb-true, ltb-true}
+use Rattle.std.proofs.Common.{◌≡◌, ℕ, Bool, true, false, cond, ◌&&◌, ◌||◌, nat_le, nat_lt, ◌+◌, ◌≤◌, ◌<◌, List, [], ◌∷◌, ◌++◌, ◌⊎◌, inl, inr, refl, ap, ap₂, sym, ◌∙◌, subst, ⊎_elim, arith, flat_map, le-leb, lt-ltb, le-ltb, leb-true, ltb-true, length, length-append}
 use Rattle.std.specs.List.{AllByRecursion}
 use Rattle.std.proofs.lemmas.Bool.{lt-leb, or_right, and_parts, and_left, and_right, and_from, cases_lt}
 use Rattle.merkle_base.specs.Tree.{Tree, leaf, join, first_leaf, width, IsBuilt, end_leaf}
-use Rattle.merkle_base.proofs.PeakLists.{Spans, filter_yes, filter_no, none_before, peaks_built, peaks_spans}
+use Rattle.merkle_base.proofs.PeakLists.{Spans, spans_end, filter_yes, filter_no, none_before, peaks_built, peaks_spans}
 use Rattle.merkle_base.proofs.Nodes.{width_pos}
 use Rattle.merkle_proof.specs.Plan.{whole, tree_meets, siblings}
 use Rattle.merkle_proof.specs.Outside.{layout, Unmet, Met, HasLayout}
@@ -30,6 +30,11 @@ module _ (a b : ℕ) where
   all_after : (o n : ℕ) (ts : List Tree) → Spans o n ts → b ≤ o → wholly_after b ts ≡ ts
   all_after o n [] c l = refl
   all_after o n (t ∷ ts) c l = filter_yes is_after t ts (le-leb b (first_leaf t) (omega (arith, c.0))) ∙ ap (λ z. t ∷ z) (all_after (o + width t) n ts c.1 (omega arith))
+
+  pub none_after : (o n : ℕ) (ts : List Tree) → Spans o n ts → n ≤ b → wholly_after b ts ≡ []
+  none_after o n [] c l = refl
+  none_after o n (t ∷ ts) c l =
+      filter_no is_after t ts (lt-leb b (first_leaf t) (omega (arith, c.0, l, width_pos t, spans_end (o + width t) n ts c.1))) ∙ none_after (o + width t) n ts c.1 l
 
   pub groups : (o n : ℕ) (ts : List Tree) → a < b → Spans o n ts → ts ≡ wholly_before a ts ++ (overlapping a b ts ++ wholly_after b ts)
   groups o n [] l c = refl
@@ -101,3 +106,10 @@ range_layout s n k a b l m =
         → HasLayout (in_range a b) (layout s.bagging k before over after) (flat_map (siblings (in_range a b)) over) (whole s.bagging k (before ++ (over ++ after)))
     laid before [] after x u v w = absurd (x refl)
     laid before (t ∷ over) after x u v w = outside_is_layout (in_range a b) s.bagging k before t over after u v w
+
+-- each peak is in one group
+pub length-peaks_of : (rule : List ℕ → List ℕ) (n a b : ℕ) → a < b
+    → length (peaks_of rule n) ≡ length (wholly_before a (peaks_of rule n)) + (length (overlapping a b (peaks_of rule n)) + length (wholly_after b (peaks_of rule n)))
+length-peaks_of rule n a b less =
+    let ts = peaks_of rule n in let before = wholly_before a ts in let over = overlapping a b ts in let after = wholly_after b ts in
+    ap length (groups a b 0 n ts less (peaks_spans rule n)) ∙ length-append before (over ++ after) ∙ ap (λ m. length before + m) (length-append over after)

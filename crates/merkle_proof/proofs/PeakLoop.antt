@@ -5,18 +5,19 @@ use Rattle.std.proofs.lemmas.List.{map-append}
 use Rattle.merkle_hasher.specs.declared.subtree.Subtree.{Subtree}
 use Rattle.merkle_hasher.specs.Subtrees.{Means}
 use Rattle.merkle_proof.specs.Plan.{siblings}
-use Rattle.merkle_base.specs.Tree.{Tree, position, height, first_leaf, width, IsBuilt}
+use Rattle.merkle_base.specs.Tree.{Tree, position, height, first_leaf, end_leaf, width}
 use Rattle.merkle_base.specs.Forest.{forest}
-use Rattle.merkle_base.proofs.Growth.{forest_grown, built_at}
-use Rattle.merkle_base.proofs.Nodes.{node_stays}
-use Rattle.merkle_base.proofs.PeakLists.{Spans, covers_spans, all_reverse}
+use Rattle.merkle_base.proofs.Growth.{forest_grown}
+use Rattle.merkle_base.proofs.PeakLists.{Spans, spans_append, covers_spans}
 use Rattle.merkle_hasher.specs.Subtrees.{Stands}
 use Rattle.merkle_proof.specs.declared.groups.Groups.{Groups}
 use Rattle.merkle_proof.specs.GroupedPeaks.{HoldsGroups}
+use Rattle.merkle_proof.specs.Range.{wholly_after}
 use Rattle.merkle_hasher.specs.Subtrees.{AreNodes}
 use Rattle.merkle_hasher.specs.Subtrees.{subtree_of}
-use Rattle.merkle_base.proofs.Lists.{cons_head, cons_tail, all_imply}
+use Rattle.merkle_base.proofs.Lists.{cons_head, cons_tail}
 use Rattle.merkle_proof.proofs.Walks.{flat_push}
+use Rattle.merkle_proof.proofs.PeakGroups.{none_after}
 use Rattle.merkle_hasher.proofs.PeakNodes.{peaks_at}
 
 -- what a peak iterator gives of a peak
@@ -32,6 +33,7 @@ pub record Walked {F : Type 0} (rule : List ℕ → List ℕ) (m n a b : ℕ) (l
   pub spans : Spans s n rest
   pub at : AreNodes rule m rest
   pub held : HoldsGroups a b g done
+  pub done_spans : Spans 0 s done
 
 pub walk_begins : {F : Type 0} (rule : List ℕ → List ℕ) (m n a b : ℕ) (left : List (ℕ × ℕ)) (g : Groups F) → n ≤ m → left ≡ map placed (reverse (forest rule n).peaks) → HoldsGroups a b g [] → Walked rule m n a b left 0 g
 walk_begins rule m n a b left g l e h = record {
@@ -42,15 +44,16 @@ walk_begins rule m n a b left g l e h = record {
   spans = covers_spans n (forest rule n).peaks (forest_grown rule n).covers;
   at = peaks_at rule m n l;
   held = h;
+  done_spans = refl;
 }
 
 -- the next peak
-pub next_peak : {F : Type 0} (rule : List ℕ → List ℕ) (m n a b : ℕ) (left : List (ℕ × ℕ)) (s : ℕ) (g : Groups F) → Walked rule m n a b left s g → (p h : ℕ) (more : List (ℕ × ℕ)) → left ≡ (p, h) ∷ more
-    → (t : Tree) × Stands rule m p h s t × ((g' : Groups F) → ((done : List Tree) → HoldsGroups a b g done → HoldsGroups a b g' (done ++ t ∷ [])) → (s' : ℕ) → s' ≡ first_leaf t + width t → Walked rule m n a b more s' g')
-next_peak {F = F} rule m n a b left s g w p h more e = step w.rest w.all (sym e ∙ w.left_is) w.spans w.at
+pub next_peak : {F : Type 0} (rule : List ℕ → List ℕ) (m n a b : ℕ) (left : List (ℕ × ℕ)) (s : ℕ) (g : Groups F) → a < b → Walked rule m n a b left s g → (p h : ℕ) (more : List (ℕ × ℕ)) → left ≡ (p, h) ∷ more
+    → (t : Tree) × Stands rule m p h s t × ((g' : Groups F) → ((done : List Tree) → (end_leaf t ≤ a → wholly_after b done ≡ []) → HoldsGroups a b g done → HoldsGroups a b g' (done ++ t ∷ [])) → (s' : ℕ) → s' ≡ first_leaf t + width t → Walked rule m n a b more s' g')
+next_peak {F = F} rule m n a b left s g less w p h more e = step w.rest w.all (sym e ∙ w.left_is) w.spans w.at
   where
     step : (rest : List Tree) → reverse (forest rule n).peaks ≡ w.done ++ rest → (p, h) ∷ more ≡ map placed rest → Spans s n rest → AreNodes rule m rest
-        → (t : Tree) × Stands rule m p h s t × ((g' : Groups F) → ((done : List Tree) → HoldsGroups a b g done → HoldsGroups a b g' (done ++ t ∷ [])) → (s' : ℕ) → s' ≡ first_leaf t + width t → Walked rule m n a b more s' g')
+        → (t : Tree) × Stands rule m p h s t × ((g' : Groups F) → ((done : List Tree) → (end_leaf t ≤ a → wholly_after b done ≡ []) → HoldsGroups a b g done → HoldsGroups a b g' (done ++ t ∷ [])) → (s' : ℕ) → s' ≡ first_leaf t + width t → Walked rule m n a b more s' g')
     step [] all l spans at = absurd (cc)
     step (t ∷ ts) all l spans at =
         let x : p ≡ position t = ap (λ q. q.0) (cons_head (p, h) (placed t) more (map placed ts) l) in
@@ -65,7 +68,8 @@ next_peak {F = F} rule m n a b left s g w p h more e = step w.rest w.all (sym e 
             left_is = z;
             spans = subst (λ (q : ℕ). Spans q n ts) (sym (u ∙ ap (λ (q : ℕ). q + width t) spans.0)) spans.1;
             at = at.1;
-            held = f w.done w.held;
+            held = f w.done (λ u. none_after a b 0 s w.done w.done_spans (omega (arith, u, less, spans.0))) w.held;
+            done_spans = spans_append 0 s s' w.done (t ∷ []) w.done_spans (spans.0, sym (u ∙ ap (λ (q : ℕ). q + width t) spans.0));
           },
         )
 

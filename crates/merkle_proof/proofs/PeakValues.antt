@@ -1,5 +1,5 @@
 -- The digests of peaks, one peak more.
-use Rattle.std.proofs.Common.{◌≡◌, ℕ, zero, suc, ◌+◌, ◌<◌, ◌≤◌, take, List, [], ◌∷◌, ◌++◌, Bool, length, drop, arith, refl, ap, ap₂, sym, ◌∙◌, subst, append-nil, append_assoc, length-append, drop-drop}
+use Rattle.std.proofs.Common.{◌≡◌, ℕ, zero, suc, ◌+◌, ◌<◌, ◌≤◌, take, List, [], ◌∷◌, ◌++◌, Bool, length, drop, arith, refl, ap, ap₂, sym, ◌∙◌, subst, append_assoc, length-append, drop-drop}
 use Rattle.std.proofs.lemmas.List.{length-drop}
 use Rattle.std.specs.List.{flat_map, AllZip, IsSplitAt}
 use Rattle.merkle_base.specs.Tree.{Tree}
@@ -19,9 +19,6 @@ module _ {D : Type 0} (h : Hashing D) (c : ℕ → Bool) (X : ℕ → D) where
       ap (λ z. value h (tree_claim h c X u ds) ∷ z) (values_push ts t (drop (length (siblings c u)) ds)
       ∙ ap (λ z. peak_values h c X ts (drop (length (siblings c u)) ds) ++ value h (tree_claim h c X t z) ∷ [])
       (drop-drop (length (flat_map (siblings c) ts)) (length (siblings c u)) ds ∙ ap (λ n. drop n ds) (sym (length-append (siblings c u) (flat_map (siblings c) ts)))))
-
-  pub walk_none : (before out : List D) → ArePeaksWalked h c X [] before out out before
-  walk_none before out = record { digests = sym (append-nil out); enough = omega arith; rest = refl }
 
   pub walk_more : (ts us : List Tree) (t : Tree) (before out new after : List D) (d : D) (new' after' : List D) → us ≡ ts ++ t ∷ [] → ArePeaksWalked h c X ts before out new after → IsWalked h c X t after d after' → new' ≡ new ++ d ∷ [] → ArePeaksWalked h c X us before out new' after'
   walk_more ts us t before out new after d new' after' u w v e = subst (λ z. ArePeaksWalked h c X z before out new' after') (sym u) (record {

@@ -22,28 +22,22 @@ use Rattle.merkle_hasher.specs.Subtrees.{subtree_of}
 use Rattle.merkle_proof.specs.GroupedPeaks.{HoldsGroups}
 use Rattle.merkle_proof.specs.declared.proof.Proof.{Proof}
 use Rattle.merkle_proof.specs.declared.groups.Groups.{Groups}
-use Rattle.merkle_proof.proofs.PeakGroups.{groups, some_over}
+use Rattle.merkle_proof.proofs.PeakGroups.{length-peaks_of, some_over}
 use Rattle.merkle_base.proofs.PeakLists.{covers_spans}
 use Rattle.merkle_proof.proofs.GivenLeaves.{values_chosen, length-leaf_digests, leaf_in_range}
 use Rattle.merkle_proof.proofs.LayoutRoot.{layout_counts, layout_root, inactive_fits}
 
--- groups have as many peaks as there are
-pub group_count : {F : Type 0} (rule : List ℕ → List ℕ) (a b n : ℕ) (g : Groups F) → a < b → HoldsGroups a b g (peaks_of rule n) → length g.before.items + length g.overlapping.items + length g.after.items ≡ length (peaks_of rule n)
+-- groups have as many peaks outside the range as there are before it and after it
+pub outside_count : {F : Type 0} (a b : ℕ) (g : Groups F) (ts : List Tree) → HoldsGroups a b g ts → length g.outside.items ≡ length (wholly_before a ts) + length (wholly_after b ts)
+outside_count a b g ts held =
+    let before = wholly_before a ts in let after = wholly_after b ts in
+    ap length held.outside ∙ length-map (before ++ after) position ∙ length-append before after
+
+-- and as many in all as there are
+pub group_count : {F : Type 0} (rule : List ℕ → List ℕ) (a b n : ℕ) (g : Groups F) → a < b → HoldsGroups a b g (peaks_of rule n) → length g.overlapping.items + length g.outside.items ≡ length (peaks_of rule n)
 group_count {F} rule a b n g l held =
     let ts = peaks_of rule n in
-    let split = groups a b 0 n ts l (covers_spans n (forest rule n).peaks (forest_grown rule n).covers) in
-    omega (
-      arith,
-      ap length held.before,
-      ap length held.over,
-      ap length held.after,
-      length-map (wholly_before a ts) (subtree_of {F = F}),
-      length-map (overlapping a b ts) (subtree_of {F = F}),
-      length-map (wholly_after b ts) position,
-      ap length split,
-      length-append (wholly_before a ts) (overlapping a b ts ++ wholly_after b ts),
-      length-append (overlapping a b ts) (wholly_after b ts),
-    )
+    omega (arith, ap length held.over, length-map (overlapping a b ts) (subtree_of {F = F}), outside_count a b g ts held, length-peaks_of rule n a b l)
 
 -- and these are few
 pub few_peaks : (rule : List ℕ → List ℕ) (max_leaves max_nodes n : ℕ) → IsLawful rule max_leaves max_nodes → n ≤ max_leaves → length (peaks_of rule n) ≤ 64

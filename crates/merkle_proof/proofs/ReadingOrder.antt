@@ -1,17 +1,16 @@
--- The order in which a proof reads nodes.
-use Rattle.std.proofs.Common.{◌≡◌, ℕ, ◌+◌, ◌-◌, List, [], ◌∷◌, ◌++◌, length, length-append, map, reverse, append_assoc, arith, refl, ap, ap₂, sym, ◌∙◌, subst}
+-- The runs of nodes that a proof reads, and their order.
+use Rattle.std.proofs.Common.{◌≡◌, ℕ, ◌+◌, ◌-◌, List, [], ◌∷◌, ◌++◌, length, length-append, map, take, drop, take_at, drop_at, reverse, append_assoc, arith, refl, ap, ap₂, sym, ◌∙◌, subst}
 use Rattle.std.specs.List.{AllByRecursion}
-use Rattle.std.proofs.lemmas.List.{map-append, length-map, reverse-append}
+use Rattle.std.proofs.lemmas.List.{map-append, length-map, length-drop, reverse-append, take_all}
 use Rattle.merkle_base.specs.Tree.{Tree, position}
 use Rattle.merkle_base.specs.Places.{peaks_of, wholly_before}
 use Rattle.merkle_base.specs.declared.family.Bagging.{Bagging}
 use Rattle.merkle_base.proofs.Nodes.{all_append}
-use Rattle.merkle_proof.specs.Outside.{single_after, folded_suffix}
+use Rattle.merkle_proof.specs.Outside.{folded_prefix, single_before, single_after, folded_suffix}
 use Rattle.merkle_proof.specs.Range.{overlapping, wholly_after, range_siblings}
-use Rattle.merkle_proof.specs.RangePlans.{nodes_read, reading_order, turned, IsPlan}
-use Rattle.merkle_proof.proofs.BuiltLayouts.{single_after_rest}
-use Rattle.merkle_proof.proofs.BuiltDigests.{length-peaks_of}
-use Rattle.merkle_proof.proofs.TurnedLists.{turned_parts}
+use Rattle.merkle_proof.specs.RangePlans.{nodes_read, reading_order, IsPlan}
+use Rattle.merkle_proof.proofs.BuiltLayouts.{folded_prefix_rest, single_after_rest}
+use Rattle.merkle_proof.proofs.PeakGroups.{length-peaks_of}
 
 all_parts : {X : Type 0} (P : X → Type 0) (xs ys : List X) → AllByRecursion P (xs ++ ys) → AllByRecursion P xs × AllByRecursion P ys
 all_parts P [] ys w = (tt, w)
@@ -25,40 +24,97 @@ map-reverse : {X Y : Type 0} (f : X → Y) (xs : List X) → map f (reverse xs) 
 map-reverse f [] = refl
 map-reverse f (x ∷ xs) = ap (map f) (reverse-append (x ∷ []) xs) ∙ map-append f (reverse xs) (x ∷ []) ∙ ap (λ z. z ++ f x ∷ []) (map-reverse f xs) ∙ sym (reverse-append (f x ∷ []) (map f xs))
 
--- what holds of each node that is read
-pub all_reading_order : (P : Tree → Type 0) (bagging : Bagging) (k : ℕ) (rule : List ℕ → List ℕ) (n a b : ℕ) → AllByRecursion P (nodes_read rule n a b) → AllByRecursion P (reading_order bagging k rule n a b)
-all_reading_order P bagging k rule n a b w =
+-- how many peaks are before a..b or overlap it
+abbrev pub met_count : (List ℕ → List ℕ) → (n a b : ℕ) → ℕ
+met_count rule n a b = length (wholly_before a (peaks_of rule n)) + length (overlapping a b (peaks_of rule n))
+
+-- the peaks that stand alone, before and after the range
+abbrev pub single_peaks : Bagging → (k : ℕ) → (List ℕ → List ℕ) → (n a b : ℕ) → List Tree
+single_peaks bagging k rule n a b = single_before bagging k (wholly_before a (peaks_of rule n)) ++ single_after bagging k (met_count rule n a b) (wholly_after b (peaks_of rule n))
+
+-- the positions of a folded prefix, of the peaks that stand alone, of a folded suffix and of the path siblings
+pub record AreRuns (bagging : Bagging) (k : ℕ) (rule : List ℕ → List ℕ) (n a b : ℕ) (prefix single suffix siblings : List ℕ) : Type 0 where
+  pub prefix_is : prefix ≡ map position (folded_prefix bagging k (wholly_before a (peaks_of rule n)))
+  pub single_is : single ≡ map position (single_peaks bagging k rule n a b)
+  pub suffix_is : suffix ≡ map position (folded_suffix bagging k (met_count rule n a b) (wholly_after b (peaks_of rule n)))
+  pub siblings_is : siblings ≡ map position (range_siblings a b (peaks_of rule n))
+
+module _ (P : Tree → Type 0) (bagging : Bagging) (k : ℕ) (rule : List ℕ → List ℕ) (n a b : ℕ) (w : AllByRecursion P (nodes_read rule n a b)) where
+  -- what holds of each node that is read, run by run
+  pub all_runs : AllByRecursion P (folded_prefix bagging k (wholly_before a (peaks_of rule n))) × AllByRecursion P (single_peaks bagging k rule n a b)
+      × AllByRecursion P (folded_suffix bagging k (met_count rule n a b) (wholly_after b (peaks_of rule n))) × AllByRecursion P (range_siblings a b (peaks_of rule n))
+  all_runs =
+      let before = wholly_before a (peaks_of rule n) in let after = wholly_after b (peaks_of rule n) in let inside = range_siblings a b (peaks_of rule n) in
+      let met = met_count rule n a b in
+      let first = all_parts P before (after ++ inside) w in
+      let second = all_parts P after inside first.1 in
+      let old = all_parts P (folded_prefix bagging k before) (single_before bagging k before) (subst (AllByRecursion P) (sym (folded_prefix_rest bagging k before)) first.0) in
+      let new = all_parts P (single_after bagging k met after) (folded_suffix bagging k met after) (subst (AllByRecursion P) (sym (single_after_rest bagging k met after)) second.0) in
+      (old.0, all_append P (single_before bagging k before) (single_after bagging k met after) old.1 new.0, new.1, second.1)
+
+  -- and in the order in which they are read
+  pub all_reading_order : AllByRecursion P (reading_order bagging k rule n a b)
+  all_reading_order =
+      let before = wholly_before a (peaks_of rule n) in let after = wholly_after b (peaks_of rule n) in let inside = range_siblings a b (peaks_of rule n) in
+      let met = met_count rule n a b in
+      let singles = single_after bagging k met after in let suffix = folded_suffix bagging k met after in
+      let first = all_parts P before (after ++ inside) w in
+      let second = all_parts P after inside first.1 in
+      let third = all_parts P singles suffix (subst (AllByRecursion P) (sym (single_after_rest bagging k met after)) second.0) in
+      all_append P before (singles ++ (reverse suffix ++ inside)) first.0
+      (all_append P singles (reverse suffix ++ inside) third.0 (all_append P (reverse suffix) inside (all_reverse P suffix third.1) second.1))
+
+map-append_four : {X Y : Type 0} (f : X → Y) (xs ys zs us : List X) → map f (xs ++ (ys ++ (zs ++ us))) ≡ map f xs ++ (map f ys ++ (map f zs ++ map f us))
+map-append_four f xs ys zs us = map-append f xs (ys ++ (zs ++ us)) ∙ ap (λ w. map f xs ++ w) (map-append f ys (zs ++ us) ∙ ap (λ w. map f ys ++ w) (map-append f zs us))
+
+-- the runs, one after another with the suffix from its end, are in the reading order
+pub order_of_runs : (bagging : Bagging) (k : ℕ) (rule : List ℕ → List ℕ) (n a b : ℕ) (prefix single suffix siblings : List ℕ) → AreRuns bagging k rule n a b prefix single suffix siblings
+    → prefix ++ (single ++ (reverse suffix ++ siblings)) ≡ map position (reading_order bagging k rule n a b)
+order_of_runs bagging k rule n a b prefix single suffix siblings runs =
     let before = wholly_before a (peaks_of rule n) in let after = wholly_after b (peaks_of rule n) in let inside = range_siblings a b (peaks_of rule n) in
-    let met = length before + length (overlapping a b (peaks_of rule n)) in
-    let singles = single_after bagging k met after in let suffix = folded_suffix bagging k met after in
-    let first = all_parts P before (after ++ inside) w in
-    let second = all_parts P after inside first.1 in
-    let third = all_parts P singles suffix (subst (AllByRecursion P) (sym (single_after_rest bagging k met after)) second.0) in
-    all_append P before (singles ++ (reverse suffix ++ inside)) first.0
-    (all_append P singles (reverse suffix ++ inside) third.0 (all_append P (reverse suffix) inside (all_reverse P suffix third.1) second.1))
+    let met = met_count rule n a b in
+    let xs = folded_prefix bagging k before in let ys = single_before bagging k before in let zs = single_after bagging k met after in let us = folded_suffix bagging k met after in
+    let rest = reverse us ++ inside in
+    ap₂ ◌++◌ runs.prefix_is (ap₂ ◌++◌ runs.single_is (ap₂ ◌++◌ (ap reverse runs.suffix_is ∙ sym (map-reverse position us)) runs.siblings_is))
+    ∙ sym (map-append_four position xs (ys ++ zs) (reverse us) inside)
+    ∙ ap (map position) (ap (λ z. xs ++ z) (append_assoc ys zs rest) ∙ sym (append_assoc xs ys (zs ++ rest)) ∙ ap (λ z. z ++ (zs ++ rest)) (folded_prefix_rest bagging k before))
 
-turned_map : (us vs ws xs : List Tree) (s e : ℕ) → s ≡ length us + length vs → e ≡ s + length ws → turned s e (map position (us ++ ((vs ++ ws) ++ xs))) ≡ map position (us ++ (vs ++ (reverse ws ++ xs)))
-turned_map us vs ws xs s e at to =
-    let M = map position in
-    let front = us ++ vs in
-    let long : length (M front) ≡ s = length-map front position ∙ length-append us vs ∙ sym at in
-    let more : s + length (M ws) ≡ e = omega (arith, to, length-map ws position) in
-    ap (turned s e) (ap M (ap (λ z. us ++ z) (append_assoc vs ws xs) ∙ sym (append_assoc us vs (ws ++ xs))) ∙ map-append position front (ws ++ xs) ∙ ap (λ z. M front ++ z) (map-append position ws xs))
-    ∙ turned_parts (M front) (M ws) (M xs) s e long more
-    ∙ sym (ap M (sym (append_assoc us vs (reverse ws ++ xs))) ∙ map-append position front (reverse ws ++ xs)
-    ∙ ap (λ z. M front ++ z) (map-append position (reverse ws) xs ∙ ap (λ z. z ++ M xs) (map-reverse position ws)))
+-- four parts of a list, by where they end
+four_parts : {X : Type 0} (xs ys zs us : List X) (i j k : ℕ) → length xs ≡ i → i + length ys ≡ j → j + length zs ≡ k
+    → (take i (xs ++ (ys ++ (zs ++ us))) ≡ xs) × (take (j - i) (drop i (xs ++ (ys ++ (zs ++ us)))) ≡ ys) × (take (k - j) (drop j (xs ++ (ys ++ (zs ++ us)))) ≡ zs) × (drop k (xs ++ (ys ++ (zs ++ us))) ≡ us)
+four_parts xs ys zs us i j k u v w =
+    let two : xs ++ (ys ++ (zs ++ us)) ≡ (xs ++ ys) ++ (zs ++ us) = sym (append_assoc xs ys (zs ++ us)) in
+    let three : xs ++ (ys ++ (zs ++ us)) ≡ ((xs ++ ys) ++ zs) ++ us = two ∙ sym (append_assoc (xs ++ ys) zs us) in (
+      take_at xs (ys ++ (zs ++ us)) i u,
+      ap (take (j - i)) (drop_at xs (ys ++ (zs ++ us)) i u) ∙ take_at ys (zs ++ us) (j - i) (omega (arith, v)),
+      ap (λ z. take (k - j) (drop j z)) two ∙ ap (take (k - j)) (drop_at (xs ++ ys) (zs ++ us) j (omega (arith, u, v, length-append xs ys))) ∙ take_at zs us (k - j) (omega (arith, w)),
+      ap (drop k) three ∙ drop_at ((xs ++ ys) ++ zs) us k (omega (arith, u, v, w, length-append xs ys, length-append (xs ++ ys) zs)),
+    )
 
--- the positions of a plan in the order in which they are read, from its numbers
-pub reading_order_of_plan : (rule : List ℕ → List ℕ) (max_leaves n a b peaks before after : ℕ) (reads : List ℕ) → IsPlan rule max_leaves n a b peaks before after reads → (bagging own : Bagging) → own ≡ bagging → (k single : ℕ)
-    → ((ts : List Tree) → length ts ≡ after → single ≡ length (single_after own k (peaks - after) ts)) → turned (before + single) (before + after) reads ≡ map position (reading_order bagging k rule n a b)
-reading_order_of_plan rule max_leaves n a b peaks before after reads plan bagging own same k single s =
+-- the runs of a plan, from its numbers
+pub runs_of_plan : (rule : List ℕ → List ℕ) (max_leaves n a b peaks before after : ℕ) (reads : List ℕ) → IsPlan rule max_leaves n a b peaks before after reads → (bagging own : Bagging) → own ≡ bagging → (k prefix single : ℕ)
+    → ((ts : List Tree) → length ts ≡ before → prefix ≡ length (folded_prefix own k ts)) → ((ts : List Tree) → length ts ≡ after → single ≡ length (single_after own k (peaks - after) ts))
+    → (one two three four : List ℕ) → one ≡ reads → two ≡ reads → three ≡ reads → four ≡ reads
+    → AreRuns bagging k rule n a b (take prefix one) (take (before + single - prefix) (drop prefix two)) (take (before + after - (before + single)) (drop (before + single) three)) (take (length four - (before + after)) (drop (before + after) four))
+runs_of_plan rule max_leaves n a b peaks before after reads plan bagging own same k prefix single p s one two three four d e f g =
     let ts = peaks_of rule n in let olds = wholly_before a ts in let news = wholly_after b ts in let inside = range_siblings a b ts in
-    let met = length olds + length (overlapping a b ts) in
+    let met = met_count rule n a b in
     let met_is : peaks - after ≡ met = omega (arith, plan.peaks_are, plan.after_are, length-peaks_of rule n a b plan.some) in
-    let singles = single_after bagging k met news in let suffix = folded_suffix bagging k met news in
-    let rest = single_after_rest bagging k met news in
-    let single_is : single ≡ length singles = s news (sym plan.after_are) ∙ ap₂ (λ z m. length (single_after z k m news)) same met_is in
-    let at : before + single ≡ length olds + length singles = omega (arith, plan.before_are, single_is) in
-    let to : before + after ≡ before + single + length suffix = omega (arith, plan.after_are, single_is, ap length rest, length-append singles suffix) in
-    ap (turned (before + single) (before + after)) (plan.reads_are ∙ ap (λ z. map position (olds ++ (z ++ inside))) (sym rest))
-    ∙ turned_map olds singles suffix inside (before + single) (before + after) at to
+    let xs = folded_prefix bagging k olds in let ys = single_before bagging k olds in let zs = single_after bagging k met news in let us = folded_suffix bagging k met news in
+    let old = folded_prefix_rest bagging k olds in let new = single_after_rest bagging k met news in
+    let prefix_is : prefix ≡ length xs = p olds (sym plan.before_are) ∙ ap (λ z. length (folded_prefix z k olds)) same in
+    let single_is : single ≡ length zs = s news (sym plan.after_are) ∙ ap₂ (λ z m. length (single_after z k m news)) same met_is in
+    let M = map position in
+    let all : reads ≡ M xs ++ (M (ys ++ zs) ++ (M us ++ M inside)) =
+    plan.reads_are ∙ ap M (ap₂ (λ x y. x ++ (y ++ inside)) (sym old) (sym new) ∙ append_assoc xs ys ((zs ++ us) ++ inside)
+    ∙ ap (λ z. xs ++ z) (ap (λ z. ys ++ z) (append_assoc zs us inside) ∙ sym (append_assoc ys zs (us ++ inside)))) ∙ map-append_four position xs (ys ++ zs) us inside in
+    let parts = four_parts (M xs) (M (ys ++ zs)) (M us) (M inside) prefix (before + single) (before + after)
+    (omega (arith, length-map xs position, prefix_is))
+    (omega (arith, length-map (ys ++ zs) position, length-append ys zs, prefix_is, single_is, plan.before_are, ap length old, length-append xs ys))
+    (omega (arith, length-map us position, single_is, plan.after_are, ap length new, length-append zs us)) in
+    record {
+      prefix_is = ap (take prefix) (d ∙ all) ∙ parts.0;
+      single_is = ap (λ z. take (before + single - prefix) (drop prefix z)) (e ∙ all) ∙ parts.1;
+      suffix_is = ap (λ z. take (before + after - (before + single)) (drop (before + single) z)) (f ∙ all) ∙ parts.2;
+      siblings_is = take_all (length four - (before + after)) (drop (before + after) four) (omega (arith, length-drop (before + after) four)) ∙ ap (drop (before + after)) (g ∙ all) ∙ parts.3;
+    }

@@ -1,7 +1,7 @@
 -- Walks over a tree, step by step.
 use Rattle.std.proofs.Common.{◌≡◌, ℕ, zero, suc, Bool, true, false, cond, nat_le, nat_lt, ◌+◌, ◌-◌, ◌<◌, ◌≤◌, ◌≢◌, List, [], ◌∷◌, ◌++◌, length, drop, get_or, arith, refl, ap, ap₂, sym, ◌∙◌, length-append, drop-drop, leb-true, ltb-true, append-nil}
 use Rattle.std.proofs.lemmas.List.{length-drop}
-use Rattle.std.proofs.Common.{◌⊎◌, inl, inr, map, append_assoc, le-leb, lt-ltb}
+use Rattle.std.proofs.Common.{map, append_assoc, le-leb, lt-ltb}
 use Rattle.std.proofs.lemmas.List.{map-append}
 use Rattle.merkle_base.specs.Tree.{IsBuilt}
 use Rattle.merkle_base.proofs.Nodes.{width_pos}
@@ -10,7 +10,7 @@ use Rattle.std.specs.Borrow.{Bor}
 use Rattle.std.proofs.lemmas.Bool.{and_parts, and_from}
 use Rattle.std.proofs.lemmas.Grind.{flat_map-append}
 use Rattle.std.specs.List.{flat_map}
-use Rattle.merkle_base.specs.Tree.{Tree, leaf, join, position, height, first_leaf, width}
+use Rattle.merkle_base.specs.Tree.{Tree, leaf, join, position, first_leaf, width}
 use Rattle.merkle_base.specs.Forest.{size}
 use Rattle.merkle_base.proofs.Growth.{forest_grown}
 use Rattle.merkle_base.proofs.Births.{leaf_at}

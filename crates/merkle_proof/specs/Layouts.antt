@@ -1,5 +1,5 @@
 -- How many digests stand for the peaks outside a range, and how a root folds them.
-use Rattle.std.specs.Prelude.{ℕ, ◌+◌, ◌-◌, List, ◌++◌, length, take, drop}
+use Rattle.std.specs.Prelude.{ℕ, ◌+◌, ◌-◌, List, ◌++◌, length}
 use Rattle.std.specs.Option.{option_to_list}
 use Rattle.merkle_base.specs.Tree.{Tree}
 use Rattle.merkle_base.specs.Root.{bag, folded}
@@ -20,12 +20,6 @@ count_after bagging k met after = length (single_after bagging k met after) + le
 abbrev pub count_inactive : Bagging → ℕ → List Tree → ℕ
 count_inactive bagging k before = length (fold_all (folded_prefix bagging k before)) + (k - length (folded_prefix bagging k before))
 
--- what a proof begins with and ends with, made of what is read: of the first `before` digests so many are folded left to right, and of the
--- next `after` all but so many are folded right to left
-abbrev pub laid_out : {D : Type 0} → (D → D → D) → (prefix before single after : ℕ) → List D → List D
-laid_out f prefix before single after ds =
-    option_to_list (folded f ForwardFold 0 (take prefix ds))
-    ++ (take (before - prefix) (drop prefix ds)
-    ++ (take single (drop before ds)
-    ++ (option_to_list (bag f (take (after - single) (drop (before + single) ds)))
-    ++ drop (before + after) ds)))
+-- the digests of a proof: the prefix folded left to right, the single ones, the suffix folded right to left, and those of the path siblings
+abbrev pub laid_out : {D : Type 0} → (D → D → D) → (prefix single suffix siblings : List D) → List D
+laid_out f prefix single suffix siblings = option_to_list (folded f ForwardFold 0 prefix) ++ (single ++ (option_to_list (bag f suffix) ++ siblings))

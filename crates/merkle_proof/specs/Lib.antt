@@ -12,6 +12,5 @@ pub mod Walk
 pub mod GroupedPeaks
 pub mod Input
 pub mod RangePlans
-pub mod ReadErrors
 pub mod ListRoot
 pub mod Path

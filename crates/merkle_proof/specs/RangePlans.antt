@@ -12,6 +12,7 @@ use Rattle.merkle_base.specs.declared.error.Error.TheVariants.{Empty, RangeOutOf
 use Rattle.merkle_proof.specs.Expression.{hashed_at}
 use Rattle.merkle_proof.specs.Plan.{Plan, peak, folding}
 use Rattle.merkle_proof.specs.Check.{Setting, RangeInput}
+use Rattle.merkle_proof.specs.Layouts.{laid_out}
 use Rattle.merkle_proof.specs.Outside.{single_after, folded_suffix}
 use Rattle.merkle_proof.specs.Range.{overlapping, wholly_after, range_parts, range_siblings}
 use Rattle.merkle_proof.specs.declared.proof.Proof.{Proof}
@@ -34,10 +35,6 @@ reading_order bagging k rule n a b =
     let met = length before + length (overlapping a b (peaks_of rule n)) in
     before ++ (single_after bagging k met after ++ (reverse (folded_suffix bagging k met after) ++ range_siblings a b (peaks_of rule n)))
 
--- a list with the order of its items from s on up to e turned round
-abbrev pub turned : {X : Type 0} → (s e : ℕ) → List X → List X
-turned s e xs = take s xs ++ (reverse (take (e - s) (drop s xs)) ++ drop e xs)
-
 -- the range has leaves, there are that many leaves and peaks, and these nodes are read, of which the first so many are peaks before the range,
 -- and the next so many peaks after it
 pub record IsPlan (rule : List ℕ → List ℕ) (max_leaves n a b peaks before after : ℕ) (reads : List ℕ) : Type 0 where
@@ -53,13 +50,29 @@ pub record IsPlan (rule : List ℕ → List ℕ) (max_leaves n a b peaks before 
 abbrev pub IsRefusal : {F : Type 0} → (max_leaves n a b : ℕ) → Error F → Type 0
 IsRefusal max_leaves n a b e = ((b ≤ a) × (e ≡ Empty)) ⊎ (((a < b) × (n < b) × (e ≡ RangeOutOfBounds b)) ⊎ ((a < b) × (b ≤ n) × (max_leaves < n) × (e ≡ LocationOverflow n)))
 
+-- these digests are answered at these positions, one at each
+abbrev pub AreAnswered : {D : Type 0} → (ℕ → Option D → Type 0) → List ℕ → List D → Type 0
+AreAnswered answered ps ds = AllZip (λ p d. answered p (Some d)) ps ds
+
+-- the digests of a proof are those that are answered at the positions of its prefix, its single nodes, its suffix and its path siblings
+pub record IsLaidOut {D : Type 0} (f : D → D → D) (answered : ℕ → Option D → Type 0) (prefix single suffix siblings : List ℕ) (digests : List D) : Type 0 where
+  pub of_prefix : List D
+  pub of_single : List D
+  pub of_suffix : List D
+  pub of_siblings : List D
+  pub prefix_read : AreAnswered answered prefix of_prefix
+  pub single_read : AreAnswered answered single of_single
+  pub suffix_read : AreAnswered answered suffix of_suffix
+  pub siblings_read : AreAnswered answered siblings of_siblings
+  pub laid : digests ≡ laid_out f of_prefix of_single of_suffix of_siblings
+
 -- something is answered at each of the positions before p, and nothing at p
 pub record IsFirstMissing {D : Type 0} (answered : ℕ → Option D → Type 0) (ps : List ℕ) (p : ℕ) : Type 0 where
   pub before : List ℕ
   pub after : List ℕ
   pub digests : List D
   pub split : ps ≡ before ++ p ∷ after
-  pub read : AllZip (λ q d. answered q (Some d)) before digests
+  pub read : AreAnswered answered before digests
   pub missing : answered p None
 
 -- why a plan isn't built: more peaks are called inactive than there are, or a node is missing

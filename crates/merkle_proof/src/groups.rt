@@ -1,7 +1,7 @@
 //! The peaks of a forest by where they stand to a range.
 ghost use Rattle.std.specs.Prelude.{◌≡◌, ◌<◌, ◌≤◌, ◌+◌, ◌++◌, [], ◌∷◌, ℕ, List, map, length, IfOk};
 ghost use Rattle.std.specs.List.{flat_map};
-ghost use Rattle.merkle_base.specs.Tree.{Tree, position};
+ghost use Rattle.merkle_base.specs.Tree.{Tree, position, end_leaf};
 ghost use Rattle.merkle_base.specs.Places.{peaks_of, wholly_before};
 ghost use Rattle.merkle_proof.specs.Plan.{siblings};
 ghost use Rattle.merkle_proof.specs.Layouts.{count_before, count_after, count_inactive};
@@ -19,18 +19,17 @@ use merkle_hasher::subtree::Subtree;
 use std::alloc::{AllocError, Global};
 use std::ops::Range;
 
-/// Room for the peaks before and after a range, which are seldom more.
-const PEAKS_ROOM: usize = 16;
+/// Room for the peaks outside a range and for what a proof of one leaf reads beside them, which are seldom more.
+const ROOM: usize = 128;
 
-/// Room for what a proof of one leaf reads, which is seldom more: its siblings and the peaks.
-const READS_ROOM: usize = 128;
-
-/// The peaks before a range, those that overlap it, and the positions of those after it, each oldest first.
+/// The peaks that overlap a range, and the positions of the others, each oldest first.
 #[derive(Drop)]
 pub(crate) struct Groups<F> {
-    pub(crate) before: Vec<Subtree<F>>,
+    /// How many peaks are before the range.
+    pub(crate) before: usize,
     pub(crate) overlapping: Vec<Subtree<F>>,
-    pub(crate) after: Vec<Position<F>>,
+    /// The positions of the peaks before the range, and then of those after it.
+    pub(crate) outside: Vec<Position<F>>,
 }
 
 impl<F: Family> Groups<F> {
@@ -38,12 +37,13 @@ impl<F: Family> Groups<F> {
     fn put(&mut self, peak: Subtree<F>, range: &Range<Location<F>>) -> Result<(), AllocError>
         requires node { (t : Tree) × Means F.rule F.MAX_LEAVES peak t }
         requires some { range.now.start < range.now.end }
-        ensures { IfOk result (λ _. (done : List Tree) (t : Tree) → Means F.rule F.MAX_LEAVES peak t → HoldsGroups range.now.start range.now.end self.old done → HoldsGroups range.now.start range.now.end self.new (done ++ t ∷ [])) }
+        ensures { IfOk result (λ _. (done : List Tree) (t : Tree) → Means F.rule F.MAX_LEAVES peak t → (end_leaf t ≤ range.now.start → wholly_after range.now.end done ≡ []) → HoldsGroups range.now.start range.now.end self.old done → HoldsGroups range.now.start range.now.end self.new (done ++ t ∷ [])) }
     {
         if peak.leaf_end() <= range.start {
-            self.before.push(peak)?;
+            self.outside.push(peak.position)?;
+            self.before = self.outside.len();
         } else if peak.first_leaf >= range.end {
-            self.after.push(peak.position)?;
+            self.outside.push(peak.position)?;
         } else {
             self.overlapping.push(peak)?;
         }
@@ -61,9 +61,9 @@ impl<F: Family> Groups<F> {
         ensures { IfOk result (λ gs. HoldsGroups range.now.start range.now.end gs (peaks_of F.rule leaves)) }
     {
         let mut groups = Groups {
-            before: Vec::with_capacity(alloc, PEAKS_ROOM)?,
+            before: 0,
             overlapping: Vec::new(alloc),
-            after: Vec::with_capacity(alloc, PEAKS_ROOM)?,
+            outside: Vec::with_capacity(alloc, ROOM)?,
         };
         let mut first_leaf = Location::new(0);
         for (position, height) in F::peaks(F::location_to_position(leaves)) {
@@ -83,7 +83,15 @@ impl<F: Family> Groups<F> {
         requires { (a : ℕ) × (b : ℕ) × (n : ℕ) × (a < b) × (n ≤ F.MAX_LEAVES) × HoldsGroups a b self.now (peaks_of F.rule n) }
         ensures { (a b n : ℕ) → a < b → HoldsGroups a b self.now (peaks_of F.rule n) → result ≡ length (peaks_of F.rule n) }
     {
-        self.before.len() + self.overlapping.len() + self.after.len()
+        self.overlapping.len() + self.outside.len()
+    }
+
+    /// The number of peaks after the range.
+    pub(crate) fn after(&self) -> usize
+        requires { (a : ℕ) × (b : ℕ) × (ts : List Tree) × HoldsGroups a b self.now ts }
+        ensures { (a b : ℕ) (ts : List Tree) → HoldsGroups a b self.now ts → result ≡ length (wholly_after b ts) }
+    {
+        self.outside.len() - self.before
     }
 
     /// The layout of a proof of the range, where so many peaks are inactive.
@@ -97,30 +105,25 @@ impl<F: Family> Groups<F> {
         Layout::new(
             bagging,
             inactive,
-            self.before.len(),
+            self.before,
             self.overlapping.len(),
-            self.after.len(),
+            self.after(),
         )
     }
 
     /// The positions of the peaks before the range, of those after it, and of the maximal nodes outside it under the
     /// others, left to right.
-    pub(crate) fn outside(
-        &self,
-        alloc: Global,
+    pub(crate) fn into_reads(
+        self,
         range: &Range<Location<F>>,
     ) -> Result<Vec<Position<F>>, AllocError>
         requires some { range.now.start < range.now.end }
-        requires groups { (n : ℕ) × (n ≤ F.MAX_LEAVES) × HoldsGroups range.now.start range.now.end self.now (peaks_of F.rule n) }
-        ensures { IfOk result (λ v. (n : ℕ) → n ≤ F.MAX_LEAVES → HoldsGroups range.now.start range.now.end self.now (peaks_of F.rule n) → v.items ≡ map position (nodes_read F.rule n range.now.start range.now.end)) }
+        requires groups { (n : ℕ) × (n ≤ F.MAX_LEAVES) × HoldsGroups range.now.start range.now.end self (peaks_of F.rule n) }
+        ensures { IfOk result (λ v. (n : ℕ) → n ≤ F.MAX_LEAVES → HoldsGroups range.now.start range.now.end self (peaks_of F.rule n) → v.items ≡ map position (nodes_read F.rule n range.now.start range.now.end)) }
     {
-        let mut all = Vec::with_capacity(alloc, READS_ROOM)?;
-        for peak in &self.before {
-            all.push(peak.position)?;
-        }
-        all.extend_from_slice(&self.after)?;
-        append_siblings(&self.overlapping, range, &mut all)?;
-        Ok(all)
+        let mut reads = self.outside;
+        append_siblings(&self.overlapping, range, &mut reads)?;
+        Ok(reads)
     }
 }
 

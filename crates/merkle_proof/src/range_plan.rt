@@ -1,23 +1,19 @@
 //! Plans of range proofs: which nodes a proof reads, and the proof made of what stands there.
-ghost use Rattle.std.specs.Prelude.{◌≡◌, ◌≢◌, ◌<◌, ◌≤◌, ◌+◌, ◌-◌, ◌++◌, ℕ, List, Option, Some, take, drop, length, IfOk, IfErr};
-ghost use Rattle.std.specs.Option.{option_to_list};
+ghost use Rattle.std.specs.Prelude.{◌≡◌, ◌≢◌, ◌<◌, ◌≤◌, ℕ, List, Option, length, IfOk, IfErr};
 ghost use Rattle.merkle_base.specs.Places.{peaks_of};
-ghost use Rattle.merkle_base.specs.Root.{bag, folded};
-ghost use Rattle.merkle_base.specs.declared.family.Bagging.TheVariants.{ForwardFold};
 ghost use Rattle.merkle_proof.specs.Input.{setting};
-ghost use Rattle.merkle_proof.specs.Layouts.{laid_out};
 ghost use Rattle.merkle_proof.specs.Range.{IsHonestRange};
 ghost use Rattle.merkle_proof.specs.RangePlans.{IsRefusal, IsBuildRefusal, IsBuiltProof, AnswersList, list_input};
 
 use crate::groups::Groups;
 use crate::layout::{prefix_count, single_count};
 use crate::proof::Proof;
-use crate::reading::read_turned;
+use crate::reading::read_digests;
 use merkle_base::error::Error;
 use merkle_base::family::Family;
 use merkle_base::location::Location;
 use merkle_base::position::Position;
-use merkle_hasher::hasher::{Hasher, bag_all, fold_all};
+use merkle_hasher::hasher::Hasher;
 use std::alloc::Global;
 use std::marker::Model;
 use std::ops::Range;
@@ -75,9 +71,9 @@ impl<F: Family> RangePlan<F> {
         }
         let groups = Groups::of_peaks(alloc, leaves, &range)?;
         let peaks = groups.count();
-        let before = groups.before.len();
-        let after = groups.after.len();
-        let reads = groups.outside(alloc, &range)?;
+        let before = groups.before;
+        let after = groups.after();
+        let reads = groups.into_reads(&range)?;
         Ok(RangePlan {
             leaves,
             range,
@@ -114,65 +110,25 @@ impl<F: Family> RangePlan<F> {
         let bagging = hasher.root_bagging();
         let prefix = prefix_count(bagging, inactive, self.before);
         let single = single_count(bagging, inactive, self.peaks - self.after, self.after);
-        let folded = self.before + single;
-        let all = read_turned(self.reads, folded, self.before + self.after, &get_node)?;
-        Ok(Proof {
-            leaves: self.leaves,
-            inactive_peaks: inactive,
-            digests: lay_out(hasher, prefix, self.before, single, self.after, all),
-        })
+        let alone = self.before + single;
+        let outside = self.before + self.after;
+        let reads = &self.reads;
+        let digests = read_digests(
+            hasher,
+            &reads[..prefix],
+            &reads[prefix..alone],
+            &reads[alone..outside],
+            &reads[outside..],
+            &get_node,
+            *reads.allocator(),
+        );
+        match digests {
+            Ok(digests) => Ok(Proof {
+                leaves: self.leaves,
+                inactive_peaks: inactive,
+                digests,
+            }),
+            Err(error) => Err(error),
+        }
     }
-}
-
-// The digests of a proof, made of those that were read: of those before the range the first `prefix` are folded to one,
-// and of those after it all but the first `single`.
-fn lay_out<F: Family, H: Hasher<F>>(
-    hasher: &H,
-    prefix: usize,
-    before: usize,
-    single: usize,
-    after: usize,
-    digests: Vec<H::Digest>,
-) -> Vec<H::Digest>
-    requires prefix { prefix ≤ before }
-    requires single { single ≤ after }
-    requires read { before + after ≤ length digests.items }
-    ensures { result.items ≡ laid_out (H.hashing hasher.now).fold prefix before single after digests.items }
-{
-    let bagged = bag_between(hasher, before + single, before + after, digests);
-    fold_front(hasher, prefix, bagged)
-}
-
-// The digests with those from one on up to another folded right to left to one, if there are any.
-fn bag_between<F: Family, H: Hasher<F>>(
-    hasher: &H,
-    start: usize,
-    end: usize,
-    mut digests: Vec<H::Digest>,
-) -> Vec<H::Digest>
-    requires ordered { start ≤ end }
-    requires within { end ≤ length digests.items }
-    ensures { result.items ≡ take start digests.items ++ (option_to_list (bag (H.hashing hasher.now).fold (take (end - start) (drop start digests.items))) ++ drop end digests.items) }
-{
-    if let Some(bagged) = bag_all(hasher, &digests[start..end]) {
-        digests[start] = bagged;
-        digests.drain(start + 1..end);
-    }
-    digests
-}
-
-// The digests with the first so many folded to one, if there are any.
-fn fold_front<F: Family, H: Hasher<F>>(
-    hasher: &H,
-    count: usize,
-    mut digests: Vec<H::Digest>,
-) -> Vec<H::Digest>
-    requires { count ≤ length digests.items }
-    ensures { result.items ≡ option_to_list (folded (H.hashing hasher.now).fold ForwardFold 0 (take count digests.items)) ++ drop count digests.items }
-{
-    if count > 1 {
-        digests[0] = fold_all(hasher, digests[0], &digests[1..count]);
-        digests.drain(1..count);
-    }
-    digests
 }

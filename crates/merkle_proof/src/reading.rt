@@ -1,83 +1,144 @@
-//! Nodes read by their positions.
-ghost use Rattle.std.specs.Prelude.{◌≡◌, ◌≢◌, ◌≤◌, ℕ, Some, None, length, IfOk, IfErr};
-ghost use Rattle.std.specs.List.{AllZip};
-ghost use Rattle.merkle_proof.specs.RangePlans.{IsFirstMissing, turned};
+//! The digests of a proof, read by the positions of their nodes.
+ghost use Rattle.std.specs.Prelude.{◌≡◌, ◌≢◌, ◌+◌, ◌^◌, ◌<◌, ◌≤◌, ◌++◌, ℕ, List, min, reverse, length, vec_len, vec_capacity, IfOk, IfErr};
+ghost use Rattle.std.specs.Option.{option_to_list};
+ghost use Rattle.merkle_base.specs.Root.{bag, folded};
+ghost use Rattle.merkle_base.specs.declared.family.Bagging.TheVariants.{ForwardFold};
+ghost use Rattle.merkle_proof.specs.RangePlans.{AreAnswered, IsFirstMissing, IsLaidOut};
 
 use merkle_base::digest::Digest;
 use merkle_base::error::Error;
 use merkle_base::family::Family;
 use merkle_base::position::Position;
+use merkle_hasher::hasher::Hasher;
 use std::alloc::Global;
 
-/// Why nodes weren't read.
+/// Nothing is answered at a position.
 #[derive(Debug, Drop)]
-pub(crate) enum Unread<F> {
-    /// Nothing is answered at the position.
-    Missing(Position<F>),
-    /// A request for memory was refused.
-    OutOfMemory,
+struct Missing<F> {
+    position: Position<F>,
 }
 
-impl<F> From<Unread<F>> for Error<F> {
+impl<F> From<Missing<F>> for Error<F> {
     ghost use Rattle.std.specs.Prelude.{◌≡◌};
-    ghost use Rattle.merkle_proof.specs.ReadErrors.{unread_error};
+    ghost use Rattle.merkle_base.specs.declared.error.Error.TheVariants.{ElementPruned};
 
-    ghost from_gives = { λ u e. e ≡ unread_error u };
+    ghost from_gives = { λ missing e. e ≡ ElementPruned missing.position };
 
-    fn from(unread: Unread<F>) -> Self {
-        match unread {
-            Unread::Missing(position) => Error::ElementPruned(position),
-            Unread::OutOfMemory => Error::OutOfMemory,
-        }
+    fn from(missing: Missing<F>) -> Self {
+        Error::ElementPruned(missing.position)
     }
 }
 
-// The digests that a closure answers at positions.
-fn read_nodes<F: Family, D: Digest, G: Fn(Position<F>) -> Option<D>>(
-    alloc: Global,
+// Appends the digests that a closure answers at positions.
+fn read_each<F: Family, D: Digest, G: Fn(Position<F>) -> Option<D>>(
     positions: &[Position<F>],
     get_node: &G,
-) -> Result<Vec<D>, Unread<F>>
-    requires { G.IsAlwaysCallable get_node.now }
-    ensures ok { IfOk result (λ v. AllZip (λ p d. G.post get_node.now p (Some d)) positions.now v.items) }
-    ensures err { IfErr result (λ e. e ≢ Unread.OutOfMemory → (p : ℕ) × (e ≡ Unread.Missing p) × IsFirstMissing (G.post get_node.now) positions.now p) }
+    out: &mut Vec<D>,
+) -> Result<(), Missing<F>>
+    requires callable { G.IsAlwaysCallable get_node.now }
+    requires room { vec_len out.old + length positions.now ≤ vec_capacity out.old }
+    ensures ok { IfOk result (λ _. (ds : List D) × AreAnswered (G.post get_node.now) positions.now ds × (out.new.items ≡ out.old.items ++ ds)) }
+    ensures room { IfOk result (λ _. (vec_len out.new ≡ vec_len out.old + length positions.now) × (vec_capacity out.new ≡ vec_capacity out.old)) }
+    ensures err { IfErr result (λ e. IsFirstMissing (G.post get_node.now) positions.now e.position) }
 {
-    let Ok(mut all) = Vec::with_capacity(alloc, positions.len()) else {
-        return Err(Unread::OutOfMemory);
-    };
     for position in positions {
         let Some(digest) = get_node(*position) else {
-            return Err(Unread::Missing(*position));
+            return Err(Missing {
+                position: *position,
+            });
         };
-        let Ok(()) = all.push(digest) else {
-            return Err(Unread::OutOfMemory);
+        out.push_reserved(digest);
+    }
+    Ok(())
+}
+
+// Appends the digests that a closure answers at positions folded left to right to one, if there are any.
+fn read_folded<F: Family, H: Hasher<F>, G: Fn(Position<F>) -> Option<H::Digest>>(
+    hasher: &H,
+    positions: &[Position<F>],
+    get_node: &G,
+    out: &mut Vec<H::Digest>,
+) -> Result<(), Missing<F>>
+    requires callable { G.IsAlwaysCallable get_node.now }
+    requires room { vec_len out.old + min (length positions.now) 1 ≤ vec_capacity out.old }
+    ensures ok { IfOk result (λ _. (ds : List H.Digest) × AreAnswered (G.post get_node.now) positions.now ds × (out.new.items ≡ out.old.items ++ option_to_list (folded (H.hashing hasher.now).fold ForwardFold 0 ds))) }
+    ensures room { IfOk result (λ _. (vec_len out.new ≡ vec_len out.old + min (length positions.now) 1) × (vec_capacity out.new ≡ vec_capacity out.old)) }
+    ensures err { IfErr result (λ e. IsFirstMissing (G.post get_node.now) positions.now e.position) }
+{
+    let mut folded = None;
+    for position in positions {
+        let Some(digest) = get_node(*position) else {
+            return Err(Missing {
+                position: *position,
+            });
+        };
+        folded = match folded {
+            Some(acc) => Some(hasher.fold(&acc, &digest)),
+            None => Some(digest),
         };
     }
-    Ok(all)
+    if let Some(digest) = folded {
+        out.push_reserved(digest);
+    }
+    Ok(())
 }
 
-/// The digests that a closure answers at positions, of which those from `start` up to `end` are read from the last one on.
-pub(crate) fn read_turned<F: Family, D: Digest, G: Fn(Position<F>) -> Option<D>>(
-    positions: Vec<Position<F>>,
-    start: usize,
-    end: usize,
+// Appends the digests that a closure answers at positions folded right to left to one, if there are any. They are read
+// from the last one on.
+fn read_bagged<F: Family, H: Hasher<F>, G: Fn(Position<F>) -> Option<H::Digest>>(
+    hasher: &H,
+    positions: &[Position<F>],
     get_node: &G,
-) -> Result<Vec<D>, Unread<F>>
+    out: &mut Vec<H::Digest>,
+) -> Result<(), Missing<F>>
     requires callable { G.IsAlwaysCallable get_node.now }
-    requires within { (start ≤ end) × (end ≤ length positions.items) }
-    ensures ok { IfOk result (λ v. AllZip (λ p d. G.post get_node.now p (Some d)) positions.items v.items) }
-    ensures err { IfErr result (λ e. e ≢ Unread.OutOfMemory → (p : ℕ) × (e ≡ Unread.Missing p) × IsFirstMissing (G.post get_node.now) (turned start end positions.items) p) }
+    requires room { vec_len out.old + min (length positions.now) 1 ≤ vec_capacity out.old }
+    ensures ok { IfOk result (λ _. (ds : List H.Digest) × AreAnswered (G.post get_node.now) positions.now ds × (out.new.items ≡ out.old.items ++ option_to_list (bag (H.hashing hasher.now).fold ds))) }
+    ensures room { IfOk result (λ _. (vec_len out.new ≡ vec_len out.old + min (length positions.now) 1) × (vec_capacity out.new ≡ vec_capacity out.old)) }
+    ensures err { IfErr result (λ e. IsFirstMissing (G.post get_node.now) (reverse positions.now) e.position) }
 {
-    let positions = reverse_within(positions, start, end);
-    let all = read_nodes(*positions.allocator(), &positions, get_node)?;
-    Ok(reverse_within(all, start, end))
+    let mut bagged = None;
+    let mut index = positions.len();
+    while index > 0 {
+        index -= 1;
+        let position = positions[index];
+        let Some(digest) = get_node(position) else {
+            return Err(Missing { position });
+        };
+        bagged = match bagged {
+            Some(others) => Some(hasher.fold(&digest, &others)),
+            None => Some(digest),
+        };
+    }
+    if let Some(digest) = bagged {
+        out.push_reserved(digest);
+    }
+    Ok(())
 }
 
-// The items with the order of those from `start` up to `end` turned round.
-fn reverse_within<T>(mut items: Vec<T>, start: usize, end: usize) -> Vec<T>
-    requires { (start ≤ end) × (end ≤ length items.items) }
-    ensures { result.items ≡ turned start end items.items }
+/// The digests of a proof, from what a closure answers at positions: of the prefix one folded left to right, the single
+/// ones, of the suffix one folded right to left, and those of the siblings.
+///
+/// They are read in this order, the suffix from its last position on.
+pub(crate) fn read_digests<F: Family, H: Hasher<F>, G: Fn(Position<F>) -> Option<H::Digest>>(
+    hasher: &H,
+    prefix: &[Position<F>],
+    single: &[Position<F>],
+    suffix: &[Position<F>],
+    siblings: &[Position<F>],
+    get_node: &G,
+    alloc: Global,
+) -> Result<Vec<H::Digest>, Error<F>>
+    requires callable { G.IsAlwaysCallable get_node.now }
+    requires few { length prefix.now + length single.now + length suffix.now + length siblings.now < 2 ^ 64 }
+    ensures ok { IfOk result (λ v. IsLaidOut (H.hashing hasher.now).fold (G.post get_node.now) prefix.now single.now suffix.now siblings.now v.items) }
+    ensures err { IfErr result (λ e. e ≢ Error.OutOfMemory → (p : ℕ) × (e ≡ Error.ElementPruned p) × IsFirstMissing (G.post get_node.now) (prefix.now ++ (single.now ++ (reverse suffix.now ++ siblings.now))) p) }
 {
-    items[start..end].reverse();
-    items
+    let count = prefix.len().min(1) + single.len() + suffix.len().min(1) + siblings.len();
+    let mut digests = Vec::with_capacity(alloc, count)?;
+    read_folded(hasher, prefix, get_node, &mut digests)?;
+    read_each(single, get_node, &mut digests)?;
+    read_bagged(hasher, suffix, get_node, &mut digests)?;
+    read_each(siblings, get_node, &mut digests)?;
+    Ok(digests)
 }

@@ -23,7 +23,6 @@ returns c = record {
   reads_forward = refl;
   reads_backward = refl;
   reads_inactive = refl;
-  turns = refl;
   digests = refl;
   honest = record { some = omega arith; within = omega arith; leaves = refl; inactive = refl; digests = refl; elements = refl };
   other_digests = λ r. absurd (let e : 7 ∷ 1 ∷ [] ≡ 1 ∷ 7 ∷ [] = r.digests in cc);
