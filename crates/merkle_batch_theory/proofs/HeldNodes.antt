@@ -1,6 +1,6 @@
--- What the fields of a structure hold after a change.
-use Rattle.std.proofs.Common.{◌≡◌, ℕ, ◌+◌, ◌-◌, ◌<◌, ◌≤◌, List, [], length, true, false, Some, None, cond, arith, refl, sym, ap, ◌∙◌, inl, inr, reverse, nat_eq, slice_set}
-use Rattle.std.specs.Prelude.{◌==◌, slice_get, is_some}
+-- The nodes that are held, read at a position and after a change.
+use Rattle.std.proofs.Common.{◌≡◌, ℕ, ◌+◌, ◌-◌, ◌<◌, ◌≤◌, List, [], ◌++◌, length, drop, true, false, Bool, Option, Some, None, cond, arith, refl, sym, ap, ◌∙◌, inl, inr, reverse, nat_eq, slice_set}
+use Rattle.std.specs.Prelude.{◌==◌, nat_lt, slice_get}
 use Rattle.std.specs.List.{list_any}
 use Rattle.std.specs.FinMap.{get, get-empty}
 use Rattle.std.specs.Ordering.{nat_cmp}
@@ -11,43 +11,115 @@ use Rattle.merkle_base.specs.Tree.{position}
 use Rattle.merkle_base.specs.Forest.{forest, size}
 use Rattle.merkle_base.specs.Heights.{IsLawful}
 use Rattle.merkle_base.specs.Places.{peak_positions}
+use Rattle.merkle_base.proofs.Cases.{by_test}
 use Rattle.merkle_base.proofs.Lists.{get_below}
-use Rattle.merkle_base.proofs.Lookup.{peak_node, size_zero}
-use Rattle.merkle_base.proofs.Nodes.{size_le}
-use Rattle.merkle_batch_theory.specs.Store.{contents, stored_of}
+use Rattle.merkle_base.proofs.Lookup.{get_append_add, peak_node, size_zero}
+use Rattle.merkle_base.proofs.Nodes.{size_le, size_lt}
+use Rattle.merkle_batch_theory.specs.Held.{PinsBefore}
+use Rattle.merkle_batch_theory.specs.Store.{Store, contents, stored_of, whole_store}
 use Rattle.merkle_batch_theory.specs.Whole.{IsCounted, IsKept}
-use Rattle.merkle_batch_theory.specs.Held.{stored_at, held_contents}
 use Rattle.merkle_batch_theory.specs.Replay.{over}
 use Rattle.merkle_batch_theory.proofs.Chains.{same_contents}
-use Rattle.merkle_batch_theory.proofs.Items.{any_find, get_reversed}
+use Rattle.merkle_batch_theory.proofs.Edits.{get_left, get_set_same, get_set_other}
+use Rattle.merkle_batch_theory.proofs.Items.{any_find, get_drop, get_reversed}
 use Rattle.merkle_batch_theory.proofs.Kept.{get_mapped}
-use Rattle.merkle_batch_theory.proofs.Stored.{held_before, held_from, no_pin}
-use Rattle.merkle_batch_theory.proofs.Edits.{get_set_same, get_set_other}
-use Rattle.merkle_base.proofs.Cases.{by_test}
+use Rattle.merkle_batch_theory.proofs.Stored.{held_before, held_from}
 
-module _ {D : Type 0} (pins : List (ℕ × D)) (start : ℕ) (nodes : List D) (at : ℕ) (digest : D) where
-  -- one of the nodes from the start on takes a digest
-  pub stored_set : (k : ℕ) → start ≤ at → k ≡ at - start → k < length nodes → (p : ℕ) →
-      stored_at pins start (slice_set nodes k digest) p ≡ cond (p == at) (over (Some digest) (stored_at pins start nodes p)) (stored_at pins start nodes p)
-  stored_set k from is l p = elim (cases_lt p start) [
-    | inl h ↦ rw (lt-ltb p start h, ne_eqb p at (λ e. absurd (omega (arith, e, h, from)))) refl
-    | inr h ↦ rw (le-ltb p start h) (by_test (λ b. slice_get (slice_set nodes k digest) (p - start) ≡ cond b (over (Some digest) (slice_get nodes (p - start))) (slice_get nodes (p - start))) (p == at)
-        (λ e. let same : p - start ≡ k = omega (arith, is, eqb-true p at e) in
-        ap (slice_get (slice_set nodes k digest)) same ∙ get_set_same nodes k digest l ∙ ap (over (Some digest)) (sym (ap (slice_get nodes) same ∙ slice_get-get_or nodes k digest l)))
-        (λ e. get_set_other nodes k (p - start) digest (λ same. eqb-false p at e (omega (arith, is, same, h, from)))))
+-- at position p: a pin before the start, and one of the nodes from it on
+abbrev pub stored_at : {D : Type 0} → List (ℕ × D) → ℕ → List D → ℕ → Option D
+stored_at pins start nodes p = cond (nat_lt p start) (lookup (λ q. p == q) pins) (slice_get nodes (p - start))
+
+-- what is held at a position, read off the pins and the nodes
+pub stored_reads : {D : Type 0} (pins : List (ℕ × D)) (start : ℕ) (nodes : List D) → PinsBefore start pins → (p : ℕ) → get (stored_of pins start nodes) p ≡ stored_at pins start nodes p
+stored_reads pins start nodes before p = elim (cases_lt p start) [
+  | inl h ↦ rw (lt-ltb p start h) (held_before pins start nodes p h)
+  | inr h ↦ rw (le-ltb p start h) (held_from pins start nodes p h (before p h))
+]
+
+-- ---- a node is replaced
+module _ {D : Type 0} (at : ℕ) (digest : D) where
+  -- o with the digest in place of what is there, if that is at p
+  abbrev pub replaced : ℕ → Option D → Option D
+  replaced p o = cond (p == at) (over (Some digest) o) o
+
+  none_replaced : (b : Bool) → cond b (over (Some digest) None) None ≡ None
+  none_replaced true = refl
+  none_replaced false = refl
+
+  module _ (pins : List (ℕ × D)) (start : ℕ) (nodes : List D) where
+    -- a pin takes a digest
+    pub pins_replaced : (pins' : List (ℕ × D)) → PinsBefore start pins → ((p : ℕ) → lookup (nat_eq p) pins' ≡ replaced p (lookup (nat_eq p) pins)) → PinsBefore start pins'
+    pins_replaced pins' before put p l = put p ∙ ap (replaced p) (before p l) ∙ none_replaced (p == at)
+
+    pub stored_put : (pins' : List (ℕ × D)) → at < start → ((p : ℕ) → lookup (nat_eq p) pins' ≡ replaced p (lookup (nat_eq p) pins)) → (p : ℕ) → stored_at pins' start nodes p ≡ replaced p (stored_at pins start nodes p)
+    stored_put pins' below put p = elim (cases_lt p start) [
+      | inl h ↦ rw (lt-ltb p start h) (put p)
+      | inr h ↦ rw (le-ltb p start h, ne_eqb p at (λ e. absurd (omega (arith, e, h, below)))) refl
+    ]
+
+    -- one of the nodes from the start on takes a digest
+    pub stored_set : (k : ℕ) → start ≤ at → k ≡ at - start → k < length nodes → (p : ℕ) → stored_at pins start (slice_set nodes k digest) p ≡ replaced p (stored_at pins start nodes p)
+    stored_set k from is l p = elim (cases_lt p start) [
+      | inl h ↦ rw (lt-ltb p start h, ne_eqb p at (λ e. absurd (omega (arith, e, h, from)))) refl
+      | inr h ↦ rw (le-ltb p start h) (by_test (λ b. slice_get (slice_set nodes k digest) (p - start) ≡ cond b (over (Some digest) (slice_get nodes (p - start))) (slice_get nodes (p - start))) (p == at)
+          (λ e. let same : p - start ≡ k = omega (arith, is, eqb-true p at e) in
+          ap (slice_get (slice_set nodes k digest)) same ∙ get_set_same nodes k digest l ∙ ap (over (Some digest)) (sym (ap (slice_get nodes) same ∙ slice_get-get_or nodes k digest l)))
+          (λ e. get_set_other nodes k (p - start) digest (λ same. eqb-false p at e (omega (arith, is, same, h, from)))))
+    ]
+
+    -- there is no such node
+    pub stored_unset : start ≤ at → length nodes ≤ at - start → (p : ℕ) → stored_at pins start nodes p ≡ replaced p (stored_at pins start nodes p)
+    stored_unset from past p = by_test (λ b. stored_at pins start nodes p ≡ cond b (over (Some digest) (stored_at pins start nodes p)) (stored_at pins start nodes p)) (p == at)
+        (λ e. let here : p ≡ at = eqb-true p at e in
+        let none : stored_at pins start nodes p ≡ None = (rw (le-ltb p start (omega (arith, here, from))) (slice_get_past nodes (p - start) (omega (arith, here, past)))) in
+        none ∙ sym (ap (over (Some digest)) none))
+        (λ e. refl)
+
+    -- what is stored after it
+    pub replaced_reads : (pins' : List (ℕ × D)) (nodes' : List D) → PinsBefore start pins → PinsBefore start pins' → ((p : ℕ) → stored_at pins' start nodes' p ≡ replaced p (stored_at pins start nodes p)) →
+        (p : ℕ) → get (stored_of pins' start nodes') p ≡ replaced p (get (stored_of pins start nodes) p)
+    replaced_reads pins' nodes' before before' put p = stored_reads pins' start nodes' before' p ∙ put p ∙ sym (ap (replaced p) (stored_reads pins start nodes before p))
+
+-- ---- nodes come or go
+module _ {D : Type 0} (pins : List (ℕ × D)) (start : ℕ) (nodes : List D) (before : PinsBefore start pins) where
+  -- nodes are appended
+  stored_append : (digests : List D) (p : ℕ) → stored_at pins start (nodes ++ digests) p ≡ cond (nat_lt p (start + length nodes)) (stored_at pins start nodes p) (slice_get digests (p - (start + length nodes)))
+  stored_append digests p = elim (cases_lt p (start + length nodes)) [
+    | inl l ↦ rw (lt-ltb p (start + length nodes) l) (elim (cases_lt p start) [
+      | inl h ↦ rw (lt-ltb p start h) refl
+      | inr h ↦ rw (le-ltb p start h) (get_left nodes digests (p - start) (omega (arith, l, h)))
+    ])
+    | inr l ↦ (let at : p - start ≡ length nodes + (p - (start + length nodes)) = omega (arith, l) in
+        rw (le-ltb p (start + length nodes) l, le-ltb p start (omega (arith, l))) (ap (slice_get (nodes ++ digests)) at ∙ get_append_add nodes digests (p - (start + length nodes))))
   ]
 
-  -- there is no such node
-  pub stored_unset : start ≤ at → length nodes ≤ at - start → (p : ℕ) → stored_at pins start nodes p ≡ cond (p == at) (over (Some digest) (stored_at pins start nodes p)) (stored_at pins start nodes p)
-  stored_unset from past p = by_test (λ b. stored_at pins start nodes p ≡ cond b (over (Some digest) (stored_at pins start nodes p)) (stored_at pins start nodes p)) (p == at)
-      (λ e. let here : p ≡ at = eqb-true p at e in
-      let none : stored_at pins start nodes p ≡ None = (rw (le-ltb p start (omega (arith, here, from))) (slice_get_past nodes (p - start) (omega (arith, here, past)))) in
-      none ∙ sym (ap (over (Some digest)) none))
-      (λ e. refl)
+  pub append_reads : (digests : List D) (p : ℕ) → get (stored_of pins start (nodes ++ digests)) p ≡ cond (nat_lt p (start + length nodes)) (get (stored_of pins start nodes) p) (slice_get digests (p - (start + length nodes)))
+  append_reads digests p =
+      stored_reads pins start (nodes ++ digests) before p ∙ stored_append digests p
+      ∙ sym (ap (λ o. cond (nat_lt p (start + length nodes)) o (slice_get digests (p - (start + length nodes)))) (stored_reads pins start nodes before p))
 
--- ---- how a structure's fields are read
+  -- the nodes before a later start go
+  pub drop_reads : (pins' : List (ℕ × D)) (start' : ℕ) (nodes' : List D) → PinsBefore start' pins' → start ≤ start' → nodes' ≡ drop (start' - start) nodes → (p : ℕ) →
+      get (stored_of pins' start' nodes') p ≡ cond (nat_lt p start') (lookup (nat_eq p) pins') (get (stored_of pins start nodes) p)
+  drop_reads pins' start' nodes' before' later rest p = elim (cases_lt p start') [
+    | inl h ↦ rw (lt-ltb p start' h) (held_before pins' start' nodes' p h)
+    | inr h ↦ rw (le-ltb p start' h)
+        (let at : (start' - start) + (p - start') ≡ p - start = omega (arith, h, later) in
+        held_from pins' start' nodes' p h (before' p h) ∙ ap (λ ds. slice_get ds (p - start')) rest ∙ get_drop (start' - start) (p - start') nodes ∙ ap (slice_get nodes) at
+        ∙ sym (held_from pins start nodes p (omega (arith, h, later)) (before p (omega (arith, h, later)))))
+  ]
+
+-- ---- counts
 pub counted_nodes : (rule : List ℕ → List ℕ) (max_leaves max_nodes leaves n : ℕ) → IsLawful rule max_leaves max_nodes → IsCounted rule max_leaves leaves n → n ≤ max_nodes
 counted_nodes rule max_leaves max_nodes leaves n law k = omega (arith, size_le rule leaves max_leaves k.bounded, k.sized, law.full)
+
+-- the boundary is not past the leaves where its position is not past the nodes
+pub kept_counted : (rule : List ℕ → List ℕ) (max_leaves boundary leaves start nodes : ℕ) → IsCounted rule max_leaves leaves nodes → start ≡ size rule boundary → start ≤ nodes → IsKept rule max_leaves boundary leaves start nodes
+kept_counted rule max_leaves boundary leaves start nodes counted starts l = record {
+  starts = starts;
+  within = elim (cases_lt leaves boundary) [ inl h ↦ absurd (omega (arith, size_lt rule leaves boundary h, counted.sized, starts, l)) | inr h ↦ h ];
+  counted = counted;
+}
 
 -- the peaks of b leaves stand before the position of leaf b
 pub peak_before : (rule : List ℕ → List ℕ) (b p : ℕ) → list_any (nat_eq p) (peak_positions rule b) ≡ true → p < size rule b
@@ -57,36 +129,13 @@ peak_before rule b p e =
     let j = get_reversed (forest rule b).peaks k.0 m.0 m.1 in
     omega (arith, eqb-true p k.1 k.3, m.2, get_below (forest rule b).nodes (position m.0) m.0 (peak_node rule b j.0 m.0 j.1))
 
-module _ {D : Type 0} (rule : List ℕ → List ℕ) (max_leaves boundary start leaves : ℕ) (pins : List (ℕ × D)) (nodes : List D) where
-  -- what is held at a position, read off the fields
-  pub stored_reads : IsKept rule max_leaves boundary start leaves pins nodes → (p : ℕ) → get (stored_of pins start nodes) p ≡ stored_at pins start nodes p
-  stored_reads k p = elim (cases_lt p start) [
-    | inl h ↦ rw (lt-ltb p start h) (held_before pins start nodes p h)
-    | inr h ↦ rw (le-ltb p start h) (held_from pins start nodes p h (no_pin pins (peak_positions rule boundary) start p (k.pinned p) (λ t. omega (arith, k.starts, peak_before rule boundary p t)) h))
-  ]
-
-  pub contents_reads : IsKept rule max_leaves boundary start leaves pins nodes → contents (record { boundary = boundary; size = start + length nodes; stored = stored_of pins start nodes }) ≡ held_contents boundary pins start nodes
-  contents_reads k = same_contents (contents (record { boundary = boundary; size = start + length nodes; stored = stored_of pins start nodes })) (held_contents boundary pins start nodes) refl refl (stored_reads k)
+pub no_peak_from : (rule : List ℕ → List ℕ) (b p : ℕ) → size rule b ≤ p → list_any (nat_eq p) (peak_positions rule b) ≡ false
+no_peak_from rule b p l = by_test (λ t. t ≡ false) (list_any (nat_eq p) (peak_positions rule b)) (λ e. absurd (omega (arith, peak_before rule b p e, l))) (λ _. refl)
 
 -- ---- a structure of no leaves
-no_peaks : (rule : List ℕ → List ℕ) (p : ℕ) → list_any (nat_eq p) (peak_positions rule 0) ≡ false
-unfolding forest
-no_peaks rule p = refl
+pub kept_none : (rule : List ℕ → List ℕ) (max_leaves boundary leaves start nodes : ℕ) → boundary ≡ 0 → leaves ≡ 0 → start ≡ 0 → nodes ≡ 0 → IsKept rule max_leaves boundary leaves start nodes
+kept_none rule max_leaves boundary leaves start nodes b l s n =
+    kept_counted rule max_leaves boundary leaves start nodes (record { bounded = omega (arith, l); sized = ap (size rule) l ∙ size_zero rule ∙ sym n }) (s ∙ sym (ap (size rule) b ∙ size_zero rule)) (omega (arith, s))
 
-module _ {D : Type 0} where
-  pub kept_none : (rule : List ℕ → List ℕ) (max_leaves boundary start leaves : ℕ) (pins : List (ℕ × D)) (nodes : List D) → boundary ≡ 0 → start ≡ 0 → leaves ≡ 0 → pins ≡ [] → nodes ≡ [] → IsKept rule max_leaves boundary start leaves pins nodes
-  kept_none rule max_leaves boundary start leaves pins nodes b s l no_pins no_nodes = record {
-    starts = s ∙ sym (ap (size rule) b ∙ size_zero rule);
-    within = omega (arith, b);
-    counted = record { bounded = omega (arith, l); sized = ap (size rule) l ∙ size_zero rule ∙ omega (arith, s, ap length no_nodes) };
-    pinned = λ p. ap (λ es. is_some (lookup (nat_eq p) es)) no_pins ∙ sym (ap (λ n. list_any (nat_eq p) (peak_positions rule n)) b ∙ no_peaks rule p);
-  }
-
-  none_stored : (p : ℕ) → get {X = D} (stored_of [] 0 []) p ≡ None
-  none_stored p = get-empty nat_cmp p
-
-  pub contents_none : (boundary start : ℕ) (pins : List (ℕ × D)) (nodes : List D) → boundary ≡ 0 → start ≡ 0 → pins ≡ [] → nodes ≡ [] →
-      contents (record { boundary = boundary; size = start + length nodes; stored = stored_of pins start nodes }) ≡ record { boundary = 0; size = 0; node = λ p. None }
-  contents_none boundary start pins nodes b s no_pins no_nodes =
-      same_contents (contents (record { boundary = boundary; size = start + length nodes; stored = stored_of pins start nodes })) (record { boundary = 0; size = 0; node = λ p. None }) b (omega (arith, s, ap length no_nodes))
-      (λ p. (λ i. get (stored_of (no_pins i) (s i) (no_nodes i)) p) ∙ none_stored p)
+pub contents_none : {D : Type 0} (s : Store D) → s ≡ whole_store [] 0 → contents s ≡ record { boundary = 0; size = 0; node = λ p. None }
+contents_none s e = ap contents e ∙ same_contents (contents (whole_store [] 0)) (record { boundary = 0; size = 0; node = λ p. None }) refl refl (λ p. get-empty nat_cmp p)

@@ -1,19 +1,17 @@
 -- Records that follow one another, and a structure that they are laid over.
-use Rattle.std.proofs.Common.{◌≡◌, ℕ, zero, suc, ◌+◌, ◌-◌, ◌≤◌, List, [], ◌∷◌, ◌++◌, length, map, take, drop, Bool, true, Some, None, Ok, cond, arith, refl, sym, ap, ◌∙◌, subst, inl, inr, nat_eq, length-drop}
-use Rattle.std.specs.Prelude.{◌&&◌, ◌==◌, is_some}
+use Rattle.std.proofs.Common.{◌≡◌, ℕ, zero, suc, ◌+◌, ◌-◌, ◌≤◌, List, [], ◌∷◌, ◌++◌, length, map, take, drop, Bool, true, Some, None, Ok, cond, arith, refl, sym, ap, ◌∙◌, subst, length-drop}
+use Rattle.std.specs.Prelude.{◌&&◌, ◌==◌}
 use Rattle.std.specs.Cmp.Lexicographic.{pointwise}
-use Rattle.std.specs.Map.{lookup}
-use Rattle.std.proofs.lemmas.Bool.{cases_lt, eqb-true, and_parts}
+use Rattle.std.proofs.lemmas.Bool.{eqb-true, and_parts}
 use Rattle.std.proofs.lemmas.List.{length-map, take_all}
-use Rattle.merkle_base.proofs.Nodes.{size_lt}
+use Rattle.merkle_base.proofs.Nodes.{size_le}
 use Rattle.merkle_batch_theory.specs.Contents.{Contents, held_peaks}
-use Rattle.merkle_batch_theory.specs.Held.{held_contents, total_appended}
+use Rattle.merkle_batch_theory.specs.Held.{total_appended}
 use Rattle.merkle_batch_theory.specs.Linked.{IsLinked, RunsFrom}
 use Rattle.merkle_batch_theory.specs.Recorded.{Recorded, Chain, after, records}
 use Rattle.merkle_batch_theory.specs.Replay.{laid, all_laid, last_match, begins_at, ends_at, oldest, matched, applied}
-use Rattle.merkle_batch_theory.specs.Store.{Store, contents, stored_of}
-use Rattle.merkle_batch_theory.specs.Whole.{IsKept}
-use Rattle.merkle_batch_theory.proofs.HeldNodes.{contents_reads}
+use Rattle.merkle_batch_theory.specs.Whole.{IsCounted, IsKept}
+use Rattle.merkle_batch_theory.proofs.HeldNodes.{kept_counted}
 use Rattle.merkle_base.proofs.Cases.{by_test}
 
 same_size : (n m : ℕ) (b : Bool) → (n == m) && b ≡ true → n ≡ m
@@ -84,33 +82,19 @@ module _ {D X : Type 0} (rule : List ℕ → List ℕ) (max_leaves leaves : ℕ)
   pub total_laid : n + (total_appended kept_part + length c.own.appended) ≡ after c.own
   total_laid = omega (arith, (found same n peaks c first linked.runs m).1, ap total_appended laid_records, total_last kept_part c.own)
 
-  module _ (boundary start held : ℕ) (pins pins1 pins2 : List (ℕ × D)) (nodes nodes1 nodes2 : List D) (before : IsKept rule max_leaves boundary start held pins nodes) (sized : n ≡ start + length nodes)
-      (len1 : length nodes1 ≡ length nodes + total_appended kept_part) (len2 : length nodes2 ≡ length nodes1 + length c.own.appended)
-      (pinned1 : (p : ℕ) → is_some (lookup (nat_eq p) pins1) ≡ is_some (lookup (nat_eq p) pins)) (pinned2 : (p : ℕ) → is_some (lookup (nat_eq p) pins2) ≡ is_some (lookup (nat_eq p) pins1)) where
-    nodes_after : start + length nodes2 ≡ after c.own
-    nodes_after = omega (arith, total_laid, sized, len1, len2)
+  module _ (boundary held start before mid now : ℕ) (kept : IsKept rule max_leaves boundary held start before) (sized : n ≡ before) (laid1 : mid ≡ before + total_appended kept_part) (laid2 : now ≡ mid + length c.own.appended) where
+    nodes_after : now ≡ after c.own
+    nodes_after = omega (arith, total_laid, sized, laid1, laid2)
 
-    low : boundary ≤ leaves
-    low = elim (cases_lt leaves boundary) [
-      | inl l ↦ absurd (omega (arith, size_lt rule leaves boundary l, linked.counted.sized, before.starts, nodes_after))
-      | inr l ↦ l
-    ]
+    counted_after : IsCounted rule max_leaves leaves now
+    counted_after = record { bounded = linked.counted.bounded; sized = linked.counted.sized ∙ sym nodes_after }
 
-    -- what holds of the fields holds after the records are laid
-    pub kept_after : IsKept rule max_leaves boundary start leaves pins2 nodes2
-    kept_after = record {
-      starts = before.starts;
-      within = low;
-      counted = record { bounded = linked.counted.bounded; sized = linked.counted.sized ∙ sym nodes_after };
-      pinned = λ p. pinned2 p ∙ pinned1 p ∙ before.pinned p;
-    }
+    -- what holds of the counts holds after the records are laid
+    pub kept_after : IsKept rule max_leaves boundary leaves start now
+    kept_after = kept_counted rule max_leaves boundary leaves start now counted_after kept.starts (omega (arith, kept.starts, size_le rule boundary held kept.within, kept.counted.sized, laid1, laid2))
 
-    -- and the batch is applied
-    pub applied_after : held_contents boundary pins1 start nodes1 ≡ all_laid kept_part (held_contents boundary pins start nodes) → held_contents boundary pins2 start nodes2 ≡ laid c.own (held_contents boundary pins1 start nodes1) → (k : ℕ) (old : Store D) →
-        record { boundary = boundary; size = start + length nodes; stored = stored_of pins start nodes } ≡ old → matched same old.size (held_peaks rule k (contents old)) c ≡ Some first →
-        applied same rule k c (contents old) ≡ Ok (contents (record { boundary = boundary; size = start + length nodes2; stored = stored_of pins2 start nodes2 }))
-    applied_after laid1 laid2 k old is at =
-        let was : contents old ≡ held_contents boundary pins start nodes = sym (ap contents is) ∙ contents_reads rule max_leaves boundary start held pins nodes before in
-        let now : contents (record { boundary = boundary; size = start + length nodes2; stored = stored_of pins2 start nodes2 }) ≡ all_laid (drop first (records c)) (contents old) =
-        contents_reads rule max_leaves boundary start leaves pins2 nodes2 kept_after ∙ laid2 ∙ ap (laid c.own) laid1 ∙ sym (all_last kept_part c.own (held_contents boundary pins start nodes)) ∙ sym (λ i. all_laid (laid_records i) (was i)) in
-        rw (applied, at) (ap Ok (sym now))
+  -- and the batch is applied
+  pub applied_after : (k : ℕ) (old mid new : Contents D) → mid ≡ all_laid kept_part old → new ≡ laid c.own mid → matched same old.size (held_peaks rule k old) c ≡ Some first → applied same rule k c old ≡ Ok new
+  applied_after k old mid new laid1 laid2 at =
+      let laid3 : new ≡ all_laid (drop first (records c)) old = laid2 ∙ ap (laid c.own) laid1 ∙ sym (all_last kept_part c.own old) ∙ sym (ap (λ rs. all_laid rs old) laid_records) in
+      rw (applied, at) (ap Ok (sym laid3))

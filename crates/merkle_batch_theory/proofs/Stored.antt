@@ -1,5 +1,5 @@
 -- What a `Mem` holds at a position.
-use Rattle.std.specs.Prelude.{Option, Some, None, is_some, IsTrue}
+use Rattle.std.specs.Prelude.{Option, Some, None}
 use Rattle.std.specs.Option.{option_copied}
 use Rattle.std.specs.Slice.{IsItemAt}
 use Rattle.std.proofs.lemmas.Option.{slice_get_past, slice_get_read}
@@ -9,11 +9,10 @@ use Rattle.std.specs.Option.{option_or}
 use Rattle.std.specs.Ordering.{nat_cmp}
 use Rattle.std.specs.Cmp.{nat_cmp_total, unsigned_tied}
 use Rattle.std.specs.Map.{lookup}
-use Rattle.std.specs.List.{slice_get, list_any}
+use Rattle.std.specs.List.{slice_get}
 use Rattle.std.specs.FinMap.{get, find, get-from_entries}
 use Rattle.std.specs.BTreeMap.{is_at}
 use Rattle.merkle_batch_theory.specs.Store.{numbered, stored_of}
-use Rattle.merkle_batch_theory.proofs.OptionFacts.{none_of}
 
 module _ {D : Type 0} where
   pub find_lookup : (p : ℕ) (es : List (ℕ × D)) → find nat_cmp p es ≡ lookup (nat_eq p) es
@@ -57,8 +56,3 @@ module _ {D : Type 0} where
 pub get_reads : {X : Type 0} (xs : List X) (i : ℕ) (r : Option (Bor X)) → IsItemAt xs i r → option_copied r ≡ slice_get xs i
 get_reads xs i None h = sym (slice_get_past xs i h.3)
 get_reads xs i (Some x) h = sym (slice_get_read xs (length xs) i x.now refl h.3.0 h.1)
-
--- no pin stands at or after the start
-pub no_pin : {D : Type 0} (pins : List (ℕ × D)) (peaks : List ℕ) (start p : ℕ) → is_some (lookup (nat_eq p) pins) ≡ list_any (nat_eq p) peaks → (IsTrue (list_any (nat_eq p) peaks) → p < start) → start ≤ p → lookup (nat_eq p) pins ≡ None
-no_pin pins peaks start p pinned below h =
-    none_of _ (pinned ∙ elim (list_any (nat_eq p) peaks) as (λ b. (IsTrue b → p < start) → b ≡ false) [ true ↦ λ f. let k : p < start = f refl in absurd (omega arith) | false ↦ λ f. refl ] below)

@@ -1,16 +1,36 @@
--- What a structure's fields hold.
-use Rattle.std.specs.Prelude.{ℕ, ◌+◌, ◌-◌, List, [], ◌∷◌, length, Option, cond, nat_lt, ◌==◌, slice_get}
+-- The nodes that a structure holds.
+use Rattle.std.specs.Prelude.{◌≡◌, ℕ, ◌+◌, ◌≤◌, List, [], ◌∷◌, length, None, ◌==◌, refl}
+use Rattle.std.specs.Coded.{Coded, code_by, coded×, coded_ℕ}
+use Rattle.std.specs.FinMap.{FinMap, code, get}
 use Rattle.std.specs.Map.{lookup}
+use Rattle.std.specs.Ordering.{nat_cmp}
 use Rattle.merkle_batch_theory.specs.Contents.{Contents}
 use Rattle.merkle_batch_theory.specs.Recorded.{Recorded}
 
--- at position p: a pin before the start, and one of the nodes from it on
-abbrev pub stored_at : {D : Type 0} → List (ℕ × D) → ℕ → List D → ℕ → Option D
-stored_at pins start nodes p = cond (nat_lt p start) (lookup (λ q. p == q) pins) (slice_get nodes (p - start))
+pub record Held (D : Type 0) : Type 0 where
+  -- the position from which on no node is missing
+  pub start : ℕ
+  -- the number of nodes, those that are not held counted
+  pub size : ℕ
+  -- the nodes held, by position
+  pub stored : FinMap nat_cmp D
+  -- how many nodes there can be before more memory is needed
+  pub capacity : ℕ
 
--- pruned to b, with these pins, and these nodes from the start on
-abbrev pub held_contents : {D : Type 0} → ℕ → List (ℕ × D) → ℕ → List D → Contents D
-held_contents b pins start nodes = record { boundary = b; size = start + length nodes; node = stored_at pins start nodes }
+abbrev pub held_code : {D : Type 0} → Coded D → Coded (Held D)
+held_code d =
+    code_by _ (coded× coded_ℕ (coded× coded_ℕ (coded× (code coded_ℕ d) coded_ℕ)))
+    (λ h. (h.start, (h.size, (h.stored, h.capacity))))
+    (λ p. record { start = p.0; size = p.1.0; stored = p.1.1.0; capacity = p.1.1.1 })
+    (λ _. refl)
+
+-- no pin stands at position n or after it
+abbrev pub PinsBefore : {D : Type 0} → ℕ → List (ℕ × D) → Type 0
+PinsBefore n pins = (p : ℕ) → n ≤ p → lookup (λ q. p == q) pins ≡ None
+
+-- what a structure is that was pruned to b and holds these nodes
+abbrev pub held_contents : {D : Type 0} → ℕ → Held D → Contents D
+held_contents b held = record { boundary = b; size = held.size; node = get held.stored }
 
 -- how many nodes the records append
 abbrev pub total_appended : {D : Type 0} → List (Recorded D) → ℕ

@@ -1,15 +1,14 @@
 -- What a proof reads from a structure that agrees with a list.
-use Rattle.std.proofs.Common.{inl, inr, ◌≡◌, ℕ, ◌<◌, ◌≤◌, ◌⊎◌, List, [], ◌∷◌, ◌++◌, length, map, Bool, true, false, cond, Option, Some, None, slice_get, refl, ap, sym, ◌∙◌, subst, arith}
+use Rattle.std.proofs.Common.{inl, inr, ◌≡◌, ℕ, ◌<◌, ◌≤◌, ◌⊎◌, List, [], ◌∷◌, length, Bool, true, false, cond, Option, Some, None, slice_get, refl, ap, sym, ◌∙◌, arith}
 use Rattle.std.proofs.lemmas.Bool.{le-leb}
 use Rattle.std.specs.List.{AllZip}
-use Rattle.merkle_base.specs.Tree.{Tree, position}
+use Rattle.merkle_base.specs.Tree.{Tree}
 use Rattle.merkle_base.specs.Forest.{forest, size}
 use Rattle.merkle_base.specs.Hashing.{Hashing}
 use Rattle.merkle_base.specs.Digests.{digest_at, node_digests}
 use Rattle.merkle_base.specs.declared.error.Error.{Error}
 use Rattle.merkle_base.specs.declared.error.Error.TheVariants.{NonLeaf, PositionOverflow, LocationOverflow, Empty, RangeOutOfBounds, InvalidSize, LeafOutOfBounds, DuplicateLocation, UnsortedLocation, ElementPruned, CompressedDigest, InvalidPinnedNodes, StaleBatch, AncestorDropped, InvalidProof, InvalidInactivePeaks, RootMismatch, MissingNode, DataCorrupted, BitOutOfBounds, OutOfMemory}
 use Rattle.merkle_base.proofs.Lookup.{size_zero}
-use Rattle.merkle_hasher.specs.Subtrees.{AreNodes}
 use Rattle.merkle_base.specs.declared.family.Bagging.{Bagging}
 use Rattle.merkle_proof.specs.RangePlans.{LeafRange, AnswersList, IsRefusal, IsBuildRefusal}
 use Rattle.merkle_batch_theory.specs.Contents.{Contents, Agrees, is_kept}

@@ -4,7 +4,9 @@
 //! The modules of the crates below stand here too, under their own names.
 #![tactic(auto)]
 
+mod components;
 mod find;
+mod held_nodes;
 pub mod mem;
 pub mod mmb;
 pub mod mmr;

@@ -10,7 +10,6 @@ ghost use Rattle.merkle_batch_theory.specs.Contents.{Agrees, held_peaks};
 ghost use Rattle.merkle_batch_theory.specs.Pending.{forked};
 ghost use Rattle.merkle_batch_theory.specs.Roots.{root_batch};
 ghost use Rattle.std.specs.FinMap.{empty};
-ghost use Rattle.std.specs.Map.{lookup};
 ghost use Rattle.merkle_batch_theory.specs.Recorded.{records};
 ghost use Rattle.merkle_batch_theory.specs.Stands.{StandsOn, last_list};
 ghost use Rattle.merkle_batch_theory.specs.Replay.{applied, matched, refusal};
@@ -20,8 +19,9 @@ ghost use Rattle.merkle_proof.specs.Input.{setting};
 ghost use Rattle.merkle_proof.specs.Range.{IsHonestRange};
 ghost use Rattle.merkle_proof.specs.RangePlans.{IsBuildRefusal, IsBuiltProof, list_input};
 
+pub use crate::components::Config;
 use crate::find::{find_state, refusal};
-pub use crate::prune::Config;
+use crate::held_nodes::HeldNodes;
 use crate::replay::{lay, lay_all};
 use merkle_base::digest::Digest;
 use merkle_base::error::Error;
@@ -36,7 +36,6 @@ use merkle_hasher::read::Readable;
 use merkle_proof::proof::Proof;
 use merkle_proof::range_plan::RangePlan;
 use std::alloc::{AllocError, Global};
-use std::collections::VecDeque;
 use std::marker::Model;
 use std::ops::Range;
 
@@ -56,19 +55,14 @@ fn front<D>(digests: &[D; MAX_PEAKS], count: usize) -> &[D]
 /// To a contract it is its pruning boundary, its node count and the nodes that it holds.
 #[derive(Debug, Drop)]
 pub struct Mem<F: Family, D: Digest> {
-    // the nodes from position `start` on
-    pub(crate) nodes: VecDeque<D>,
-    // the nodes before it that are held, by position
-    pub(crate) pins: Vec<(Position<F>, D)>,
-    // the position of the leaf at the boundary
-    pub(crate) start: Position<F>,
+    // all from the boundary's position on, and the peaks of so many leaves
+    pub(crate) held: HeldNodes<F, D>,
     pub(crate) boundary: Location<F>,
     pub(crate) leaves: Location<F>,
 }
 
 impl<F: Family, D: Digest> Model for Mem<F, D> {
-    ghost use Rattle.std.specs.Prelude.{◌+◌, length};
-    ghost use Rattle.merkle_batch_theory.specs.Store.{Store, store_code, stored_of};
+    ghost use Rattle.merkle_batch_theory.specs.Store.{Store, store_code};
 
     ghost Value = { Store D };
 
@@ -76,9 +70,9 @@ impl<F: Family, D: Digest> Model for Mem<F, D> {
 
     ghost use Rattle.merkle_batch_theory.specs.Whole.{IsKept};
 
-    ghost view = { λ m. record { boundary = m.boundary; size = m.start + length m.nodes.items; stored = stored_of m.pins.items m.start m.nodes.items } };
+    ghost view = { λ m. record { boundary = m.boundary; size = m.held.size; stored = m.held.stored } };
 
-    ghost invariant = { λ m. IsKept F.rule F.MAX_LEAVES m.boundary m.start m.leaves m.pins.items m.nodes.items };
+    ghost invariant = { λ m. IsKept F.rule F.MAX_LEAVES m.boundary m.leaves m.held.start m.held.size };
 }
 
 impl<F: Family, D: Digest> Mem<F, D> {
@@ -88,9 +82,7 @@ impl<F: Family, D: Digest> Mem<F, D> {
         ensures agrees { (h : Hashing D) → Agrees h F.rule (contents result) [] }
     {
         Mem {
-            nodes: VecDeque::new(alloc),
-            pins: Vec::new(alloc),
-            start: Position::new(0),
+            held: HeldNodes::new(alloc),
             boundary: Location::new(0),
             leaves: Location::new(0),
         }
@@ -100,7 +92,7 @@ impl<F: Family, D: Digest> Mem<F, D> {
     pub fn size(&self) -> Position<F>
         ensures { result ≡ self.now.size }
     {
-        self.start + self.nodes.len() as u64
+        self.held.size()
     }
 
     /// The number of leaves.
@@ -122,13 +114,16 @@ impl<F: Family, D: Digest> Mem<F, D> {
     pub fn get_node(&self, position: Position<F>) -> Option<D>
         ensures { result ≡ node self.now position }
     {
-        if position < self.start {
-            pinned(&self.pins, position)
-        } else {
-            self.nodes
-                .get((position - self.start).as_u64() as usize)
-                .copied()
-        }
+        self.held.get(position)
+    }
+
+    /// The locations of the leaves that are held: from the boundary to the leaf count.
+    pub fn bounds(&self) -> Range<Location<F>>
+        ensures start { result.start ≡ self.now.boundary }
+        ensures end { size F.rule result.end ≡ self.now.size }
+        ensures bounded { result.end ≤ F.MAX_LEAVES }
+    {
+        self.boundary..self.leaves
     }
 
     /// The peaks with their heights, oldest first.
@@ -141,7 +136,7 @@ impl<F: Family, D: Digest> Mem<F, D> {
 
     // Where its memory comes from.
     pub(crate) fn allocator(&self) -> Global {
-        *self.nodes.allocator()
+        self.held.allocator()
     }
 
     /// A structure of its own with the same nodes.
@@ -150,15 +145,8 @@ impl<F: Family, D: Digest> Mem<F, D> {
     pub fn clone(&self) -> Result<Self, AllocError>
         ensures { IfOk result (λ m. m ≡ self.now) }
     {
-        let alloc = self.allocator();
-        let (older, newer) = self.nodes.as_slices();
-        let mut nodes = Vec::with_capacity(alloc, self.nodes.len())?;
-        nodes.extend_from_slice(older)?;
-        nodes.extend_from_slice(newer)?;
         Ok(Mem {
-            nodes: VecDeque::from(nodes),
-            pins: self.pins.to_vec(alloc)?,
-            start: self.start,
+            held: self.held.clone()?,
             boundary: self.boundary,
             leaves: self.leaves,
         })
@@ -311,14 +299,9 @@ impl<F: Family, D: Digest> Mem<F, D> {
             return Err(refusal(self.size(), batch));
         };
         let added = batch.size() - self.size();
-        self.nodes.reserve(added.as_u64() as usize)?;
-        lay_all(
-            &mut self.nodes,
-            &mut self.pins,
-            self.start,
-            &batch.ancestors[first..],
-        );
-        lay(&mut self.nodes, &mut self.pins, self.start, own);
+        self.held.reserve(added.as_u64() as usize)?;
+        lay_all(&mut self.held, &batch.ancestors[first..]);
+        lay(&mut self.held, own);
         self.leaves = batch.leaves;
         Ok(())
     }
@@ -374,16 +357,4 @@ impl<F: Family, D: Digest> Base<F> for Mem<F, D> {
         let count = self.write_peaks(&mut digests);
         front(&digests, count).to_vec(self.allocator())
     }
-}
-
-// The digest of the pin at a position, if there is one.
-fn pinned<F, D: Copy>(pins: &[(Position<F>, D)], position: Position<F>) -> Option<D>
-    ensures { result ≡ lookup (λ q. position == q) pins.now }
-{
-    for (pin, digest) in pins {
-        if *pin == position {
-            return Some(*digest);
-        }
-    }
-    None
 }

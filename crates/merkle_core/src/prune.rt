@@ -1,12 +1,11 @@
 //! Structures without their old nodes.
-ghost use Rattle.std.specs.Prelude.{◌≡◌, ◌≢◌, ◌+◌, ◌<◌, ◌≤◌, ◌^◌, ◌-◌, ℕ, List, Err, length, OnErr, OnOk, IfOk, IfSome, IfNone, IsOkUnless};
+ghost use Rattle.std.specs.Prelude.{◌≡◌, ◌<◌, ◌≤◌, ℕ, List, Err, OnErr, OnOk, IfOk, IsOkUnless};
 ghost use Rattle.merkle_base.specs.Forest.{size};
 ghost use Rattle.merkle_base.specs.Hashing.{Hashing};
-ghost use Rattle.merkle_base.specs.Places.{IsSize, peak_positions};
+ghost use Rattle.merkle_base.specs.Places.{peak_positions};
 ghost use Rattle.merkle_batch_theory.specs.Contents.{Agrees, pruned};
-ghost use Rattle.merkle_batch_theory.specs.Held.{paired};
 ghost use Rattle.merkle_batch_theory.specs.HeldPeaks.{pins_of};
-ghost use Rattle.merkle_batch_theory.specs.Store.{contents, stored_of};
+ghost use Rattle.merkle_batch_theory.specs.Store.{contents};
 
 use crate::mem::Mem;
 use merkle_base::digest::Digest;
@@ -14,90 +13,9 @@ use merkle_base::error::Error;
 use merkle_base::family::Family;
 use merkle_base::location::Location;
 use merkle_base::position::Position;
-use std::alloc::{AllocError, Global};
-use std::collections::VecDeque;
-use std::ops::Range;
-
-/// What a structure is made of.
-#[derive(Debug, Drop)]
-pub struct Config<F: Family, D: Digest> {
-    /// The nodes from the boundary's position on.
-    pub nodes: Vec<D>,
-    /// The location that it was pruned to, 0 where it never was.
-    pub pruning_boundary: Location<F>,
-    /// The digests of the peaks of that many leaves, in the order of [`Family::nodes_to_pin`].
-    pub pinned_nodes: Vec<D>,
-}
+use std::alloc::AllocError;
 
 impl<F: Family, D: Digest> Mem<F, D> {
-    /// The structure of these parts, as by [`from_components`](Mem::from_components).
-    pub fn init(config: Config<F, D>) -> Result<Self, Error<F>>
-        ensures made { IfOk result (λ m. m ≡ record { boundary = config.pruning_boundary; size = size F.rule config.pruning_boundary + length config.nodes.items; stored = stored_of (paired (peak_positions F.rule config.pruning_boundary) config.pinned_nodes.items) (size F.rule config.pruning_boundary) config.nodes.items }) }
-        ensures overflow { F.MAX_LEAVES < config.pruning_boundary → result ≡ Err (Error.LocationOverflow config.pruning_boundary) }
-        ensures too_large { config.pruning_boundary ≤ F.MAX_LEAVES → F.MAX_NODES < size F.rule config.pruning_boundary + length config.nodes.items → result ≡ Err (Error.InvalidSize (2 ^ 64 - 1)) }
-        ensures no_size { let end = size F.rule config.pruning_boundary + length config.nodes.items in config.pruning_boundary ≤ F.MAX_LEAVES → end ≤ F.MAX_NODES → ((n : ℕ) → size F.rule n ≢ end) → result ≡ Err (Error.InvalidSize end) }
-        ensures bad_pins { config.pruning_boundary ≤ F.MAX_LEAVES → IsSize F.rule F.MAX_LEAVES (size F.rule config.pruning_boundary + length config.nodes.items) → length config.pinned_nodes.items ≢ length (peak_positions F.rule config.pruning_boundary) → result ≡ Err Error.InvalidPinnedNodes }
-        ensures allowed { config.pruning_boundary ≤ F.MAX_LEAVES → IsSize F.rule F.MAX_LEAVES (size F.rule config.pruning_boundary + length config.nodes.items) → length config.pinned_nodes.items ≡ length (peak_positions F.rule config.pruning_boundary) → IsOkUnless result Error.OutOfMemory }
-    {
-        let Config {
-            nodes,
-            pruning_boundary,
-            pinned_nodes,
-        } = config;
-        Self::from_components(nodes, pruning_boundary, pinned_nodes)
-    }
-
-    /// The structure that was pruned to a location, with the nodes from the location's position on and the digests of the
-    /// peaks of that many leaves, in the order of [`Family::nodes_to_pin`].
-    ///
-    /// The digests are taken unchecked. Refused, in this order: with `LocationOverflow` of the boundary where no list has
-    /// that many leaves; with `InvalidSize` of the greatest `u64` where there are more nodes than any structure has; with
-    /// `InvalidSize` of the node count where no leaf count has that many; with `InvalidPinnedNodes` where the pins are fewer
-    /// or more than the peaks; and with `OutOfMemory`.
-    pub fn from_components(
-        nodes: Vec<D>,
-        pruning_boundary: Location<F>,
-        pinned_nodes: Vec<D>,
-    ) -> Result<Self, Error<F>>
-        ensures made { IfOk result (λ m. m ≡ record { boundary = pruning_boundary; size = size F.rule pruning_boundary + length nodes.items; stored = stored_of (paired (peak_positions F.rule pruning_boundary) pinned_nodes.items) (size F.rule pruning_boundary) nodes.items }) }
-        ensures overflow { F.MAX_LEAVES < pruning_boundary → result ≡ Err (Error.LocationOverflow pruning_boundary) }
-        ensures too_large { pruning_boundary ≤ F.MAX_LEAVES → F.MAX_NODES < size F.rule pruning_boundary + length nodes.items → result ≡ Err (Error.InvalidSize (2 ^ 64 - 1)) }
-        ensures no_size { let end = size F.rule pruning_boundary + length nodes.items in pruning_boundary ≤ F.MAX_LEAVES → end ≤ F.MAX_NODES → ((n : ℕ) → size F.rule n ≢ end) → result ≡ Err (Error.InvalidSize end) }
-        ensures bad_pins { pruning_boundary ≤ F.MAX_LEAVES → IsSize F.rule F.MAX_LEAVES (size F.rule pruning_boundary + length nodes.items) → length pinned_nodes.items ≢ length (peak_positions F.rule pruning_boundary) → result ≡ Err Error.InvalidPinnedNodes }
-        ensures allowed { pruning_boundary ≤ F.MAX_LEAVES → IsSize F.rule F.MAX_LEAVES (size F.rule pruning_boundary + length nodes.items) → length pinned_nodes.items ≡ length (peak_positions F.rule pruning_boundary) → IsOkUnless result Error.OutOfMemory }
-    {
-        if !pruning_boundary.is_valid() {
-            return Err(Error::LocationOverflow(pruning_boundary));
-        }
-        let start = F::location_to_position(pruning_boundary);
-        if nodes.len() as u64 > F::MAX_NODES - start.as_u64() {
-            return Err(Error::InvalidSize(u64::MAX));
-        }
-        let end = start + nodes.len() as u64;
-        let Some(leaves) = F::position_to_location(end) else {
-            return Err(Error::InvalidSize(end.as_u64()));
-        };
-        let Some(pins) = pair_pins::<F, D>(pruning_boundary, &pinned_nodes)? else {
-            return Err(Error::InvalidPinnedNodes);
-        };
-        Ok(Mem {
-            nodes: VecDeque::from(nodes),
-            pins,
-            start,
-            boundary: pruning_boundary,
-            leaves,
-        })
-    }
-
-    /// The locations of the leaves that are held: from the boundary to the leaf count.
-    pub fn bounds(&self) -> Range<Location<F>>
-        ensures start { result.start ≡ self.now.boundary }
-        ensures end { size F.rule result.end ≡ self.now.size }
-        ensures bounded { result.end ≤ F.MAX_LEAVES }
-    {
-        self.boundary..self.leaves
-    }
-
     /// Lets the nodes before the leaf at a location go, but for the peaks of that many leaves, which are pinned.
     ///
     /// Nothing happens at the boundary or below it. Refused with `LeafOutOfBounds` where the location exceeds the leaf count,
@@ -137,11 +55,8 @@ impl<F: Family, D: Digest> Mem<F, D> {
             return Ok(());
         }
         let pins = self.pins_at(location)?;
-        let start = F::location_to_position(location);
-        let gone = (start - self.start).as_u64() as usize;
-        self.nodes.drain(..gone);
-        self.pins = pins;
-        self.start = start;
+        self.held
+            .drop_before(F::location_to_position(location), pins);
         self.boundary = location;
         Ok(())
     }
@@ -159,25 +74,4 @@ impl<F: Family, D: Digest> Mem<F, D> {
         }
         Ok(pins)
     }
-}
-
-// The peaks of so many leaves with these digests, or `None` where there are fewer digests or more.
-fn pair_pins<F: Family, D: Digest>(
-    boundary: Location<F>,
-    digests: &Vec<D>,
-) -> Result<Option<Vec<(Position<F>, D)>>, AllocError>
-    requires { boundary ≤ F.MAX_LEAVES }
-    ensures made { IfOk result (λ o. IfSome o (λ v. (v.items ≡ paired (peak_positions F.rule boundary) digests.now.items) × (length digests.now.items ≡ length (peak_positions F.rule boundary)))) }
-    ensures none { IfOk result (λ o. IfNone o (length digests.now.items ≢ length (peak_positions F.rule boundary))) }
-    ensures refused { OnErr result (length digests.now.items ≡ length (peak_positions F.rule boundary)) }
-{
-    if digests.len() != F::nodes_to_pin(boundary).count() {
-        return Ok(None);
-    }
-    let mut pins = Vec::new(*digests.allocator());
-    for position in F::nodes_to_pin(boundary) {
-        let digest = digests[pins.len()];
-        pins.push((position, digest))?;
-    }
-    Ok(Some(pins))
 }

@@ -1,17 +1,14 @@
-use Rattle.std.proofs.Common.{◌≡◌, ℕ, length, nat_eq, map, ◌++◌}
-use Rattle.std.specs.Prelude.{is_some}
-use Rattle.std.specs.Map.{lookup}
+use Rattle.std.proofs.Common.{◌≡◌, ℕ, map, ◌++◌}
+use Rattle.std.specs.FinMap.{get}
 use Rattle.std.specs.Map.Iter.{deref_pair}
-use Rattle.std.specs.VecDeque.{deque_capacity}
-use Rattle.merkle_batch_theory.specs.Held.{stored_at}
 use Rattle.merkle_batch_theory.specs.Replay.{over}
 use Rattle.merkle_batch_theory.proofs.Over.{latest}
 use Rattle.merkle_core.proofs.replay.replace_all.Given as goal
 
 abbrev pub invariant-loop-position : goal.invariant-loop-position
 invariant-loop-position g l =
-    (deque_capacity l.nodes ≡ deque_capacity l.initial.nodes)
-    × (length l.nodes.items ≡ length l.initial.nodes.items)
-    × ((p : ℕ) → stored_at l.pins.items l.start l.nodes.items p ≡ over (latest l.yielded p) (stored_at l.initial.pins.items l.start l.initial.nodes.items p))
-    × ((p : ℕ) → is_some (lookup (nat_eq p) l.pins.items) ≡ is_some (lookup (nat_eq p) l.initial.pins.items))
+    (l.held.start ≡ l.initial.held.start)
+    × (l.held.size ≡ l.initial.held.size)
+    × (l.held.capacity ≡ l.initial.held.capacity)
+    × ((p : ℕ) → get l.held.stored p ≡ over (latest l.yielded p) (get l.initial.held.stored p))
     × (map deref_pair l.yielded ++ l.position-iterator ≡ l.initial.position-iterator)

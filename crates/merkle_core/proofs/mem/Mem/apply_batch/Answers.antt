@@ -1,4 +1,5 @@
 use Rattle.std.proofs.Common.{rules, ◌≡◌, ◌+◌, ◌-◌, ◌≤◌, Some, None, length, map, take, drop, arith, ap, sym, ◌∙◌, subst}
+use Rattle.std.specs.FinMap.{get}
 use Rattle.merkle_base.proofs.Nodes.{size_inj}
 use Rattle.merkle_batch_theory.specs.Contents.{held_peaks}
 use Rattle.merkle_batch_theory.specs.Held.{held_contents}
@@ -55,7 +56,7 @@ lay_all-requires g c =
     let same = g.D.PartialEq.eq in
     let linked = subst (IsLinked rule most c.batch.inside.leaves) c.batch.view_is c.batch.invariant in
     let m : matched same c.size.result c.front.result.now c.args.batch.now ≡ Some c.in-Some.first = sym c.find_state.ensures ∙ c.in-Some.is in
-    omega (arith, total_laid rule most c.batch.inside.leaves same c.args.batch.now linked (λ r. r.value) c.deref.result.now (ap (map (λ r. r.value)) c.deref.ensures.value ∙ ap (λ b. b.ancestors) c.batch.view_is) c.size.result c.in-Some.first c.front.result.now m, c.in_ok-reserve.ensures.ok, c.as_u64.ensures, c.sub-added.ensures, c.size.ensures, c.size-2.ensures, c.size-3.ensures)
+    omega (arith, total_laid rule most c.batch.inside.leaves same c.args.batch.now linked (λ r. r.value) c.deref.result.now (ap (map (λ r. r.value)) c.deref.ensures.value ∙ ap (λ b. b.ancestors) c.batch.view_is) c.size.result c.in-Some.first c.front.result.now m, c.in_ok-reserve.ensures.room, c.reserve.ensures.size, ap (λ s. s.size) c.self.view_is, c.as_u64.ensures, c.sub-added.ensures, c.size.ensures, c.size-2.ensures, c.size-3.ensures)
 
 pub lay-requires : goal.lay-requires
 lay-requires g c =
@@ -65,7 +66,7 @@ lay-requires g c =
     let linked = subst (IsLinked rule most c.batch.inside.leaves) c.batch.view_is c.batch.invariant in
     let m : matched same c.size.result c.front.result.now c.args.batch.now ≡ Some c.in-Some.first = sym c.find_state.ensures ∙ c.in-Some.is in
     let own : c.deref-own.result.now ≡ c.args.batch.now.own = c.deref-own.ensures ∙ ap (λ b. b.own) c.batch.view_is in
-    omega (arith, total_laid rule most c.batch.inside.leaves same c.args.batch.now linked (λ r. r.value) c.deref.result.now (ap (map (λ r. r.value)) c.deref.ensures.value ∙ ap (λ b. b.ancestors) c.batch.view_is) c.size.result c.in-Some.first c.front.result.now m, c.in_ok-reserve.ensures.ok, ap (λ (r : Recorded _). length r.appended) own, c.lay_all.ensures.capacity, c.lay_all.ensures.len, c.as_u64.ensures, c.sub-added.ensures, c.size.ensures, c.size-2.ensures, c.size-3.ensures)
+    omega (arith, total_laid rule most c.batch.inside.leaves same c.args.batch.now linked (λ r. r.value) c.deref.result.now (ap (map (λ r. r.value)) c.deref.ensures.value ∙ ap (λ b. b.ancestors) c.batch.view_is) c.size.result c.in-Some.first c.front.result.now m, c.in_ok-reserve.ensures.room, c.reserve.ensures.size, ap (λ s. s.size) c.self.view_is, ap (λ (r : Recorded _). length r.appended) own, c.lay_all.ensures.capacity, c.lay_all.ensures.size, c.as_u64.ensures, c.sub-added.ensures, c.size.ensures, c.size-2.ensures, c.size-3.ensures)
 
 pub invariant_of-self-2 : goal.invariant_of-self-2
 invariant_of-self-2 g c =
@@ -76,10 +77,10 @@ invariant_of-self-2 g c =
     let m : matched same c.size.result c.front.result.now c.args.batch.now ≡ Some c.in-Some.first = sym c.find_state.ensures ∙ c.in-Some.is in
     let own : c.deref-own.result.now ≡ c.args.batch.now.own = c.deref-own.ensures ∙ ap (λ b. b.own) c.batch.view_is in
     let i = c.self.inside in
-    let sized : c.size.result ≡ i.start + length i.nodes.items = c.size.ensures ∙ sym (ap (λ s. s.size) c.self.view_is) in
-    let reserved : length c.reserve.new.self.items ≡ length i.nodes.items = ap length c.in_ok-reserve.ensures.items in
-    kept_after rule most c.batch.inside.leaves same c.args.batch.now linked (λ r. r.value) c.deref.result.now (ap (map (λ r. r.value)) c.deref.ensures.value ∙ ap (λ b. b.ancestors) c.batch.view_is) c.size.result c.in-Some.first c.front.result.now m
-    i.boundary i.start i.leaves i.pins.items c.lay_all.new.pins.items c.lay.new.pins.items i.nodes.items c.lay_all.new.nodes.items c.lay.new.nodes.items c.self.invariant sized (omega (arith, c.lay_all.ensures.len, reserved)) (omega (arith, c.lay.ensures.len, ap (λ (r : Recorded _). length r.appended) own)) c.lay_all.ensures.pinned c.lay.ensures.pinned
+    rw (c.lay.ensures.start ∙ c.lay_all.ensures.start ∙ c.reserve.ensures.start)
+    (kept_after rule most c.batch.inside.leaves same c.args.batch.now linked (λ r. r.value) c.deref.result.now (ap (map (λ r. r.value)) c.deref.ensures.value ∙ ap (λ b. b.ancestors) c.batch.view_is) c.size.result c.in-Some.first c.front.result.now m
+    i.boundary i.leaves i.held.start i.held.size c.lay_all.new.held.size c.lay.new.held.size c.self.invariant (c.size.ensures ∙ sym (ap (λ s. s.size) c.self.view_is))
+    (omega (arith, c.lay_all.ensures.size, c.reserve.ensures.size)) (c.lay.ensures.size ∙ ap (λ (r : Recorded _). c.lay_all.new.held.size + length r.appended) own))
 
 pub returns-clause-done : goal.returns-clause-done
 returns-clause-done g c = λ n within many.
@@ -90,13 +91,14 @@ returns-clause-done g c = λ n within many.
     let m : matched same c.size.result c.front.result.now c.args.batch.now ≡ Some c.in-Some.first = sym c.find_state.ensures ∙ c.in-Some.is in
     let own : c.deref-own.result.now ≡ c.args.batch.now.own = c.deref-own.ensures ∙ ap (λ b. b.own) c.batch.view_is in
     let i = c.self.inside in
-    let sized : c.size.result ≡ i.start + length i.nodes.items = c.size.ensures ∙ sym (ap (λ s. s.size) c.self.view_is) in
-    let reserved : length c.reserve.new.self.items ≡ length i.nodes.items = ap length c.in_ok-reserve.ensures.items in
     let held : c.front.result.now ≡ held_peaks rule n (contents c.args.self.now) = c.front.ensures ∙ c.write_peaks-count.ensures.held n within many in
     let at : matched same c.args.self.now.size (held_peaks rule n (contents c.args.self.now)) c.args.batch.now ≡ Some c.in-Some.first = sym (λ j. matched same (c.size.ensures j) (held j) c.args.batch.now) ∙ m in
+    let reserved : held_contents i.boundary c.reserve.new.self ≡ contents c.args.self.now =
+    (λ j. record { boundary = i.boundary; size = c.reserve.ensures.size j; node = get (c.reserve.ensures.stored j) }) ∙ ap contents c.self.view_is in
     applied_after rule most c.batch.inside.leaves same c.args.batch.now linked (λ r. r.value) c.deref.result.now (ap (map (λ r. r.value)) c.deref.ensures.value ∙ ap (λ b. b.ancestors) c.batch.view_is) c.size.result c.in-Some.first c.front.result.now m
-    i.boundary i.start i.leaves i.pins.items c.lay_all.new.pins.items c.lay.new.pins.items i.nodes.items c.lay_all.new.nodes.items c.lay.new.nodes.items c.self.invariant sized (omega (arith, c.lay_all.ensures.len, reserved)) (omega (arith, c.lay.ensures.len, ap (λ (r : Recorded _). length r.appended) own)) c.lay_all.ensures.pinned c.lay.ensures.pinned
-    (c.lay_all.ensures.laid i.boundary ∙ ap (λ ds. all_laid (map (λ r. r.value) (take (length c.deref.result.now - c.in-Some.first) (drop c.in-Some.first c.deref.result.now))) (held_contents i.boundary i.pins.items i.start ds)) c.in_ok-reserve.ensures.items) (c.lay.ensures.laid i.boundary ∙ ap (λ r. laid r (held_contents i.boundary c.lay_all.new.pins.items i.start c.lay_all.new.nodes.items)) own) n c.args.self.now c.self.view_is at
+    n (contents c.args.self.now) (held_contents i.boundary c.lay_all.new.held) (held_contents i.boundary c.lay.new.held)
+    (c.lay_all.ensures.laid i.boundary ∙ ap (all_laid (map (λ r. r.value) (take (length c.deref.result.now - c.in-Some.first) (drop c.in-Some.first c.deref.result.now)))) reserved)
+    (c.lay.ensures.laid i.boundary ∙ ap (λ r. laid r (held_contents i.boundary c.lay_all.new.held)) own) at
 
 pub returns-clause-refused : goal.returns-clause-refused
 returns-clause-refused g c = λ n within many none.

@@ -1,6 +1,6 @@
 use Rattle.std.proofs.Common.{◌≡◌, ◌+◌, ◌++◌, take}
 use Rattle.std.specs.VecDeque.{deque_len, deque_capacity}
-use Rattle.merkle_core.proofs.replay.append.Given as goal
+use Rattle.merkle_core.proofs.held_nodes.push_all.Given as goal
 
 abbrev pub invariant-loop-digest : goal.invariant-loop-digest
 invariant-loop-digest g l =

@@ -2,7 +2,7 @@ use Rattle.std.proofs.Common.{◌≤◌, length, ◌∙◌, ap, sym, rules, add-
 use Rattle.std.specs.Map.{lookup}
 use Rattle.merkle_batch_theory.proofs.MapFacts.{eqb_comm}
 use Rattle.merkle_batch_theory.proofs.Pins.{lookup_here, lookup_later}
-use Rattle.merkle_core.proofs.mem.pinned.Goals as goal
+use Rattle.merkle_core.proofs.held_nodes.pinned.Goals as goal
 
 pub loop-pin-preserved : goal.loop-pin-preserved
 loop-pin-preserved g c =

@@ -1,8 +1,8 @@
 use Rattle.std.proofs.Common.{◌≡◌, ◌<◌, ◌≤◌, length, ◌∙◌, ap, sym, arith, rules, nat_eq, slice_set, get_or, add-one}
 use Rattle.std.specs.Map.{lookup}
 use Rattle.merkle_batch_theory.proofs.Pins.{put_first, put_here, put_not_here, lookup_put}
-use Rattle.merkle_core.proofs.replay.replace_pin.Goals as goal
-use Rattle.merkle_core.proofs.replay.replace_pin.Goals.{then-eq, else-eq}
+use Rattle.merkle_core.proofs.held_nodes.replace_pin.Goals as goal
+use Rattle.merkle_core.proofs.held_nodes.replace_pin.Goals.{then-eq, else-eq}
 
 pub loop-pin-preserved : goal.loop-pin-preserved
 loop-pin-preserved g c =

@@ -1,7 +1,7 @@
 use Rattle.std.proofs.Common.{◌≡◌, ◌+◌, ◌++◌, drop, length}
 use Rattle.merkle_base.specs.Places.{peak_positions}
 use Rattle.merkle_batch_theory.specs.Held.{paired}
-use Rattle.merkle_core.proofs.prune.pair_pins.Given as goal
+use Rattle.merkle_core.proofs.components.pair_pins.Given as goal
 
 abbrev pub invariant-loop-position : goal.invariant-loop-position
 invariant-loop-position g l =

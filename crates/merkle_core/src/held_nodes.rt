@@ -1,0 +1,206 @@
+//! The nodes that a structure holds.
+ghost use Rattle.std.specs.Prelude.{◌≡◌, ◌+◌, ◌-◌, ◌^◌, ◌<◌, ◌≤◌, ℕ, [], ◌++◌, Some, OnOk, IfOk, length, nat_lt, slice_get, ◌==◌, cond};
+ghost use Rattle.std.specs.FinMap.{get};
+ghost use Rattle.std.specs.Map.{lookup};
+ghost use Rattle.std.specs.VecDeque.{deque_len, deque_capacity};
+ghost use Rattle.merkle_batch_theory.specs.Held.{PinsBefore};
+ghost use Rattle.merkle_batch_theory.specs.Replay.{over};
+ghost use Rattle.merkle_batch_theory.specs.Store.{stored_of};
+
+use merkle_base::digest::Digest;
+use merkle_base::family::Family;
+use merkle_base::position::Position;
+use std::alloc::{AllocError, Global};
+use std::collections::VecDeque;
+use std::marker::Model;
+
+/// The nodes that a structure holds: all from a position on, and pins before it.
+///
+/// To a contract it is that position, the node count, the nodes by position, and how many nodes its memory has room for.
+#[derive(Debug, Drop)]
+pub(crate) struct HeldNodes<F: Family, D: Digest> {
+    start: Position<F>,
+    // the nodes before `start` that are held, with their positions
+    pins: Vec<(Position<F>, D)>,
+    // the nodes from position `start` on
+    nodes: VecDeque<D>,
+}
+
+impl<F: Family, D: Digest> Model for HeldNodes<F, D> {
+    ghost use Rattle.std.specs.Prelude.{◌+◌, length};
+    ghost use Rattle.std.specs.VecDeque.{deque_capacity};
+    ghost use Rattle.merkle_batch_theory.specs.Held.{Held, held_code, PinsBefore};
+    ghost use Rattle.merkle_batch_theory.specs.Store.{stored_of};
+
+    ghost Value = { Held D };
+
+    ghost coded = { held_code D.code };
+
+    ghost view = { λ h. record { start = h.start; size = h.start + length h.nodes.items; stored = stored_of h.pins.items h.start h.nodes.items; capacity = h.start + deque_capacity h.nodes } };
+
+    ghost invariant = { λ h. PinsBefore h.start h.pins.items };
+}
+
+impl<F: Family, D: Digest> HeldNodes<F, D> {
+    /// No nodes.
+    pub(crate) fn new(alloc: Global) -> Self
+        ensures start { result.start ≡ 0 }
+        ensures size { result.size ≡ 0 }
+        ensures stored { result.stored ≡ stored_of [] 0 [] }
+    {
+        HeldNodes {
+            start: Position::new(0),
+            pins: Vec::new(alloc),
+            nodes: VecDeque::new(alloc),
+        }
+    }
+
+    /// The nodes from a position on, and pins before it.
+    pub(crate) fn from_parts(start: Position<F>, pins: Vec<(Position<F>, D)>, nodes: Vec<D>) -> Self
+        requires { PinsBefore start pins.items }
+        ensures start { result.start ≡ start }
+        ensures size { result.size ≡ start + length nodes.items }
+        ensures stored { result.stored ≡ stored_of pins.items start nodes.items }
+    {
+        HeldNodes {
+            start,
+            pins,
+            nodes: VecDeque::from(nodes),
+        }
+    }
+
+    /// The number of nodes, those that are not held counted.
+    pub(crate) fn size(&self) -> Position<F>
+        requires { self.now.size < 2 ^ 64 }
+        ensures { result ≡ self.now.size }
+    {
+        self.start + self.nodes.len() as u64
+    }
+
+    /// The digest of the node at a position, or `None` where none is held.
+    pub(crate) fn get(&self, position: Position<F>) -> Option<D>
+        ensures { result ≡ get self.now.stored position }
+    {
+        if position < self.start {
+            pinned(&self.pins, position)
+        } else {
+            self.nodes
+                .get((position - self.start).as_u64() as usize)
+                .copied()
+        }
+    }
+
+    /// Where its memory comes from.
+    pub(crate) fn allocator(&self) -> Global {
+        *self.nodes.allocator()
+    }
+
+    /// The same nodes in memory of their own.
+    ///
+    /// Refused for want of memory.
+    pub(crate) fn clone(&self) -> Result<Self, AllocError>
+        ensures start { IfOk result (λ h. h.start ≡ self.now.start) }
+        ensures size { IfOk result (λ h. h.size ≡ self.now.size) }
+        ensures stored { IfOk result (λ h. h.stored ≡ self.now.stored) }
+    {
+        let alloc = self.allocator();
+        let (older, newer) = self.nodes.as_slices();
+        let mut nodes = Vec::with_capacity(alloc, self.nodes.len())?;
+        nodes.extend_from_slice(older)?;
+        nodes.extend_from_slice(newer)?;
+        Ok(HeldNodes {
+            start: self.start,
+            pins: self.pins.to_vec(alloc)?,
+            nodes: VecDeque::from(nodes),
+        })
+    }
+
+    /// Makes room for so many more nodes.
+    ///
+    /// Refused for want of memory.
+    pub(crate) fn reserve(&mut self, count: usize) -> Result<(), AllocError>
+        ensures start { self.new.start ≡ self.old.start }
+        ensures size { self.new.size ≡ self.old.size }
+        ensures stored { self.new.stored ≡ self.old.stored }
+        ensures room { OnOk result (self.old.size + count ≤ self.new.capacity) }
+    {
+        self.nodes.reserve(count)
+    }
+
+    /// Gives the node at a position, if it is held, a digest.
+    pub(crate) fn replace(&mut self, position: Position<F>, digest: D)
+        ensures start { self.new.start ≡ self.old.start }
+        ensures size { self.new.size ≡ self.old.size }
+        ensures capacity { self.new.capacity ≡ self.old.capacity }
+        ensures stored { (p : ℕ) → get self.new.stored p ≡ cond (p == position) (over (Some digest) (get self.old.stored p)) (get self.old.stored p) }
+    {
+        if position < self.start {
+            replace_pin(&mut self.pins, position, digest);
+        } else if let Some(node) = self
+            .nodes
+            .get_mut((position - self.start).as_u64() as usize)
+        {
+            *node = digest;
+        }
+    }
+
+    /// Appends nodes, for which there is room.
+    pub(crate) fn append(&mut self, digests: &[D])
+        requires { self.old.size + length digests.now ≤ self.old.capacity }
+        ensures start { self.new.start ≡ self.old.start }
+        ensures size { self.new.size ≡ self.old.size + length digests.now }
+        ensures capacity { self.new.capacity ≡ self.old.capacity }
+        ensures stored { (p : ℕ) → get self.new.stored p ≡ cond (nat_lt p self.old.size) (get self.old.stored p) (slice_get digests.now (p - self.old.size)) }
+    {
+        push_all(&mut self.nodes, digests);
+    }
+
+    /// Lets the nodes before a position go, but for these pins.
+    pub(crate) fn drop_before(&mut self, start: Position<F>, pins: Vec<(Position<F>, D)>)
+        requires later { self.old.start ≤ start }
+        requires within { start ≤ self.old.size }
+        requires before { PinsBefore start pins.items }
+        ensures start { self.new.start ≡ start }
+        ensures size { self.new.size ≡ self.old.size }
+        ensures stored { (p : ℕ) → get self.new.stored p ≡ cond (nat_lt p start) (lookup (λ q. p == q) pins.items) (get self.old.stored p) }
+    {
+        let gone = (start - self.start).as_u64() as usize;
+        self.nodes.drain(..gone);
+        self.pins = pins;
+        self.start = start;
+    }
+}
+
+// The digest of the pin at a position, if there is one.
+fn pinned<F, D: Copy>(pins: &[(Position<F>, D)], position: Position<F>) -> Option<D>
+    ensures { result ≡ lookup (λ q. position == q) pins.now }
+{
+    for (pin, digest) in pins {
+        if *pin == position {
+            return Some(*digest);
+        }
+    }
+    None
+}
+
+// Gives the pin at a position, if there is one, a digest.
+fn replace_pin<F, D: Copy>(pins: &mut [(Position<F>, D)], position: Position<F>, digest: D)
+    ensures { (p : ℕ) → lookup (λ q. p == q) pins.new ≡ cond (p == position) (over (Some digest) (lookup (λ q. p == q) pins.old)) (lookup (λ q. p == q) pins.old) }
+{
+    for (pin, held) in pins {
+        if *pin == position {
+            *held = digest;
+        }
+    }
+}
+
+// Appends nodes, for which there is room.
+fn push_all<D: Digest>(nodes: &mut VecDeque<D>, digests: &[D])
+    requires { deque_len nodes.old + length digests.now ≤ deque_capacity nodes.old }
+    ensures capacity { deque_capacity nodes.new ≡ deque_capacity nodes.old }
+    ensures items { nodes.new.items ≡ nodes.old.items ++ digests.now }
+{
+    for digest in digests {
+        nodes.push_back_reserved(*digest);
+    }
+}
