@@ -17,10 +17,9 @@ use Rattle.merkle_proof.specs.Layouts.{count_before, count_after, count_inactive
 use Rattle.merkle_proof.specs.Check.{Setting, RangeInput, chosen, leaf_given}
 use Rattle.merkle_proof.specs.Range.{in_range, overlapping, wholly_after, end_of, Accepts}
 use Rattle.merkle_proof.specs.Walk.{bytes_of, leaf_from, peak_values, ArePeakDigests}
-use Rattle.merkle_proof.specs.Input.{setting, input_of, HasShape, IsComputed}
+use Rattle.merkle_proof.specs.Input.{setting, range_input, HasShape, IsComputed}
 use Rattle.merkle_hasher.specs.Subtrees.{subtree_of}
 use Rattle.merkle_proof.specs.GroupedPeaks.{HoldsGroups}
-use Rattle.merkle_proof.specs.declared.proof.Proof.{Proof}
 use Rattle.merkle_proof.specs.declared.groups.Groups.{Groups}
 use Rattle.merkle_proof.proofs.PeakGroups.{length-peaks_of, some_over}
 use Rattle.merkle_base.proofs.PeakLists.{covers_spans}
@@ -57,12 +56,12 @@ no_peaks : {D : Type 0} (h : Hashing D) (c : ℕ → Bool) (X : ℕ → D) (ts :
 no_peaks h c X [] ds e = refl
 no_peaks h c X (t ∷ ts) ds e = absurd (omega arith)
 
-module _ {F D P Q : Type 0} (h : Hashing D) (bagging : Bagging) (rule : List ℕ → List ℕ) (max_leaves domain : ℕ) (p : Proof F D P Q) (a b : ℕ) (es : List (Bor (List ℕ))) (some : 0 < length es) (end_is : b ≡ a + length es) where
+module _ {D : Type 0} (h : Hashing D) (bagging : Bagging) (rule : List ℕ → List ℕ) (max_leaves domain : ℕ) (leaves inactive : ℕ) (given : List D) (a b : ℕ) (es : List (Bor (List ℕ))) (some : 0 < length es) (end_is : b ≡ a + length es) where
   abbrev at_setting : Setting D
   at_setting = setting h bagging rule max_leaves domain
 
   abbrev input : RangeInput D
-  input = input_of h rule p a (bytes_of es)
+  input = range_input h rule leaves inactive given a (bytes_of es)
 
   pub element_count : length input.elements ≡ length es
   element_count = length-leaf_digests h rule a (bytes_of es) ∙ length-map es (λ e. e.now)
@@ -75,30 +74,30 @@ module _ {F D P Q : Type 0} (h : Hashing D) (bagging : Bagging) (rule : List ℕ
 
   -- how many digests of a proof are for the peaks before the range, and for those after its end
   abbrev pub digests_before : ℕ
-  digests_before = count_before bagging p.inactive_peaks (wholly_before a (peaks_of rule p.leaves))
+  digests_before = count_before bagging inactive (wholly_before a (peaks_of rule leaves))
 
   abbrev pub digests_after : ℕ → ℕ
-  digests_after z = count_after bagging p.inactive_peaks (length (wholly_before a (peaks_of rule p.leaves)) + length (overlapping a z (peaks_of rule p.leaves))) (wholly_after z (peaks_of rule p.leaves))
+  digests_after z = count_after bagging inactive (length (wholly_before a (peaks_of rule leaves)) + length (overlapping a z (peaks_of rule leaves))) (wholly_after z (peaks_of rule leaves))
 
   -- what the digests of the peaks are to the input
-  module _ (within : b ≤ p.leaves) (m n : ℕ) (m_is : m ≡ digests_before) (n_is : n ≡ digests_after b) where
+  module _ (within : b ≤ leaves) (m n : ℕ) (m_is : m ≡ digests_before) (n_is : n ≡ digests_after b) where
     abbrev AreDigests : ℕ → (ℕ → D) → ℕ → ℕ → List D → Type 0
-    AreDigests z X i j all = ArePeakDigests h (in_range a z) X (overlapping a z (peaks_of rule p.leaves)) i j p.digests.items all
+    AreDigests z X i j all = ArePeakDigests h (in_range a z) X (overlapping a z (peaks_of rule leaves)) i j given all
 
     some_given : 0 < length input.elements
     some_given = omega (arith, some, element_count)
 
-    within_given : end_of input ≤ p.leaves
+    within_given : end_of input ≤ leaves
     within_given = omega (arith, within, end_same)
 
     as_input : (all : List D) → AreDigests b (leaf_from h rule a (bytes_of es)) m n all → AreDigests (end_of input) (leaf_given h input) digests_before (digests_after (end_of input)) all
     as_input all w =
         let X = leaf_from h rule a (bytes_of es) in
         let one : AreDigests b X digests_before (digests_after b) all = subst (λ i. AreDigests b X i (digests_after b) all) m_is (subst (λ j. AreDigests b X m j all) n_is w) in
-        other_leaves h (chosen input) X (leaf_given h input) _ _ _ p.digests.items all given_leaves (subst (λ z. AreDigests z X digests_before (digests_after z) all) end_same one)
+        other_leaves h (chosen input) X (leaf_given h input) _ _ _ given all given_leaves (subst (λ z. AreDigests z X digests_before (digests_after z) all) end_same one)
 
-    pub computed : p.leaves ≤ max_leaves → p.inactive_peaks ≤ length (peaks_of rule p.leaves) → (all : List D) → AreDigests b (leaf_from h rule a (bytes_of es)) m n all
-        → (j : ℕ) → j ≡ count_inactive bagging p.inactive_peaks (wholly_before a (peaks_of rule p.leaves)) → (d : D) → d ≡ peaks_root h domain bagging p.leaves j p.inactive_peaks all → IsComputed at_setting input d
+    pub computed : leaves ≤ max_leaves → inactive ≤ length (peaks_of rule leaves) → (all : List D) → AreDigests b (leaf_from h rule a (bytes_of es)) m n all
+        → (j : ℕ) → j ≡ count_inactive bagging inactive (wholly_before a (peaks_of rule leaves)) → (d : D) → d ≡ peaks_root h domain bagging leaves j inactive all → IsComputed at_setting input d
     computed few low all w j j_is d is =
         let v = as_input all w in (
           record {
@@ -106,27 +105,31 @@ module _ {F D P Q : Type 0} (h : Hashing D) (bagging : Bagging) (rule : List ℕ
             within = within_given;
             leaves = few;
             inactive = low;
-            counts = v.count ∙ ap (λ z. z + length (flat_map (siblings (chosen input)) (overlapping a (end_of input) (peaks_of rule p.leaves)))) (sym (layout_counts at_setting input));
+            counts = v.count ∙ ap (λ z. z + length (flat_map (siblings (chosen input)) (overlapping a (end_of input) (peaks_of rule leaves)))) (sym (layout_counts at_setting input));
           },
-          is ∙ ap (λ i. peaks_root h domain bagging p.leaves i p.inactive_peaks all) j_is ∙ layout_root at_setting input some_given within_given all v,
+          is ∙ ap (λ i. peaks_root h domain bagging leaves i inactive all) j_is ∙ layout_root at_setting input some_given within_given all v,
         )
 
-    pub misshapen : length p.digests.items ≢ m + n + length (flat_map (siblings (in_range a b)) (overlapping a b (peaks_of rule p.leaves))) → ¬ HasShape at_setting input
+    pub misshapen : length given ≢ m + n + length (flat_map (siblings (in_range a b)) (overlapping a b (peaks_of rule leaves))) → ¬ HasShape at_setting input
     misshapen differ shape =
-        let e = shape.counts ∙ ap (λ z. z + length (flat_map (siblings (chosen input)) (overlapping a (end_of input) (peaks_of rule p.leaves)))) (layout_counts at_setting input) in
-        let f : length p.digests.items ≡ digests_before + digests_after b + length (flat_map (siblings (in_range a b)) (overlapping a b (peaks_of rule p.leaves))) =
-        subst (λ z. length p.digests.items ≡ digests_before + digests_after z + length (flat_map (siblings (in_range a z)) (overlapping a z (peaks_of rule p.leaves)))) (sym end_same) e in
-        differ (f ∙ ap₂ (λ i j. i + j + length (flat_map (siblings (in_range a b)) (overlapping a b (peaks_of rule p.leaves)))) (sym m_is) (sym n_is))
+        let e = shape.counts ∙ ap (λ z. z + length (flat_map (siblings (chosen input)) (overlapping a (end_of input) (peaks_of rule leaves)))) (layout_counts at_setting input) in
+        let f : length given ≡ digests_before + digests_after b + length (flat_map (siblings (in_range a b)) (overlapping a b (peaks_of rule leaves))) =
+        subst (λ z. length given ≡ digests_before + digests_after z + length (flat_map (siblings (in_range a z)) (overlapping a z (peaks_of rule leaves)))) (sym end_same) e in
+        differ (f ∙ ap₂ (λ i j. i + j + length (flat_map (siblings (in_range a b)) (overlapping a b (peaks_of rule leaves)))) (sym m_is) (sym n_is))
 
     pub never_empty : (all : List D) → AreDigests b (leaf_from h rule a (bytes_of es)) m n all → length all ≡ 0 → ⊥
     never_empty all w e =
-        some_over a b 0 p.leaves (peaks_of rule p.leaves) (omega (arith, some, end_is)) (covers_spans p.leaves (forest rule p.leaves).peaks (forest_grown rule p.leaves).covers) (omega arith) (omega (arith, some, end_is, within))
-        (no_peaks h (in_range a b) (leaf_from h rule a (bytes_of es)) _ _ (none_joined (take m p.digests.items) _ _ (sym (ap length w.digests) ∙ e)))
+        some_over a b 0 leaves (peaks_of rule leaves) (omega (arith, some, end_is)) (covers_spans leaves (forest rule leaves).peaks (forest_grown rule leaves).covers) (omega arith) (omega (arith, some, end_is, within))
+        (no_peaks h (in_range a b) (leaf_from h rule a (bytes_of es)) _ _ (none_joined (take m given) _ _ (sym (ap length w.digests) ∙ e)))
 
     -- there are as many as are folded apart
-    pub folds_given : p.inactive_peaks ≤ length (peaks_of rule p.leaves) → (all : List D) → AreDigests b (leaf_from h rule a (bytes_of es)) m n all
-        → (j : ℕ) → j ≡ count_inactive bagging p.inactive_peaks (wholly_before a (peaks_of rule p.leaves)) → j ≤ length all
+    pub folds_given : inactive ≤ length (peaks_of rule leaves) → (all : List D) → AreDigests b (leaf_from h rule a (bytes_of es)) m n all
+        → (j : ℕ) → j ≡ count_inactive bagging inactive (wholly_before a (peaks_of rule leaves)) → j ≤ length all
     folds_given low all w j j_is = omega (arith, j_is, inactive_fits at_setting input some_given all (as_input all w) low)
+
+-- an input is known by the parts of its proof
+pub same_input : {D : Type 0} (h : Hashing D) (rule : List ℕ → List ℕ) (a : ℕ) (es : List (List ℕ)) (n m k j : ℕ) (ds fs : List D) → n ≡ m → k ≡ j → ds ≡ fs → range_input h rule n k ds a es ≡ range_input h rule m j fs a es
+same_input h rule a es n m k j ds fs p q r = ap₂ (λ x y. range_input h rule x y ds a es) p q ∙ ap (λ z. range_input h rule m j z a es) r
 
 -- an input with elements whose counts are wrong isn't accepted
 pub refused : {D : Type 0} (s : Setting D) (r : RangeInput D) (root : D) → 0 < length r.elements → ¬ HasShape s r → ¬ Accepts s r root

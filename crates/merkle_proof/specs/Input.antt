@@ -17,9 +17,13 @@ abbrev pub leaf_digests : {D : Type 0} → Hashing D → (List ℕ → List ℕ)
 leaf_digests h rule a [] = []
 leaf_digests h rule a (e ∷ es) = h.leaf (size rule a) e ∷ leaf_digests h rule (suc a) es
 
+-- the parts of a proof with the elements from location a on
+abbrev pub range_input : {D : Type 0} → Hashing D → (List ℕ → List ℕ) → (leaves inactive : ℕ) → List D → ℕ → List (List ℕ) → RangeInput D
+range_input h rule leaves inactive digests a es = record { leaves = leaves; inactive = inactive; digests = digests; start = a; elements = leaf_digests h rule a es }
+
 -- a proof with the elements from location a on
 abbrev pub input_of : {F D Peaks Heights : Type 0} → Hashing D → (List ℕ → List ℕ) → Proof F D Peaks Heights → ℕ → List (List ℕ) → RangeInput D
-input_of h rule p a es = record { leaves = p.leaves; inactive = p.inactive_peaks; digests = p.digests.items; start = a; elements = leaf_digests h rule a es }
+input_of h rule p a es = range_input h rule p.leaves p.inactive_peaks p.digests.items a es
 
 -- the counts of an input with elements are right
 pub record HasShape {D : Type 0} (s : Setting D) (r : RangeInput D) : Type 0 where

@@ -1,6 +1,7 @@
 //! Digests of nodes and roots, and proofs against roots.
 #![tactic(auto)]
 
+mod checks;
 mod groups;
 mod layout;
 pub mod path;

@@ -1,21 +1,21 @@
-use Rattle.std.proofs.Common.{◌≡◌, length, arith, rules, ap, subst, ◌∙◌}
+use Rattle.std.proofs.Common.{◌≡◌, length, arith, rules, ap, ◌∙◌}
 use Rattle.std.specs.List.{IsSplitAt}
 use Rattle.std.proofs.lemmas.Result.{err_from_is_err_and}
 use Rattle.merkle_proof.proofs.PeakValues.{all_digests}
-use Rattle.merkle_proof.proofs.proof.Proof.peak_digests.Goals as goal
+use Rattle.merkle_proof.proofs.checks.peak_digests.Goals as goal
 
 pub returns-in_err-reconstruct_peaks-clause-err : goal.returns-in_err-reconstruct_peaks-clause-err
 returns-in_err-reconstruct_peaks-clause-err g c =
     let p = err_from_is_err_and c.from_residual.result c.from_residual.ensures.1 in
-    rw (p.1, p.2) (λ n ts e h same. absurd (omega (arith, same, ap length c.deref.ensures.value, c.in_err-reconstruct_peaks.ensures.err n ts e h, c.in-Some.ensures.cases.4, c.in-Some-split_at_checked.ensures.cases.4)))
+    rw (p.1, p.2) (λ n ts e h same. absurd (omega (arith, same, c.in_err-reconstruct_peaks.ensures.err n ts e h, c.in-Some.ensures.cases.4, c.in-Some-split_at_checked.ensures.cases.4)))
 
 pub returns-clause-ok : goal.returns-clause-ok
 returns-clause-ok g c = λ ts e h.
-    let same = g.met.D.Digest.clone_is_same in
+    let same = g.met.H.Digest.Digest.clone_is_same in
     let front : c.in-Ok.all.items ≡ c.in-Some.before.now = c.in-Ok.ensures.items_if_clones_equal same in
     let empty : length c.reconstruct_peaks.new.digests.now ≡ 0 = search rules in
     let s = c.in-Some.ensures.cases in
-    let split = subst (λ z. IsSplitAt z c.args.before c.in-Ok.all.items c.in-Some.others.now) c.deref.ensures.value (s.0, front ∙ s.1, s.2, ap length front ∙ s.3, s.4) in
+    let split : IsSplitAt c.args.parts.now.digests.now c.args.before c.in-Ok.all.items c.in-Some.others.now = (s.0, front ∙ s.1, s.2, ap length front ∙ s.3, s.4) in
     let pushed = c.in-Ok-extend_from_slice.ensures.items in
-    all_digests (g.H.Hasher.hashing c.args.hasher.now) _ _ ts c.args.before c.args.after c.args.self.now.digests.items c.in-Ok.all.items c.in-Some.others.now c.in-Some-split_at_checked.after.now c.in-Some-split_at_checked.siblings.now _ _ _
+    all_digests (g.H.Hasher.hashing c.args.hasher.now) _ _ ts c.args.before c.args.after c.args.parts.now.digests.now c.in-Ok.all.items c.in-Some.others.now c.in-Some-split_at_checked.after.now c.in-Some-split_at_checked.siblings.now _ _ _
     split c.in-Some-split_at_checked.ensures.cases (c.in_ok-reconstruct_peaks.ensures.ok ts e h) empty pushed

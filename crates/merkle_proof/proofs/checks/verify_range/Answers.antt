@@ -1,16 +1,16 @@
 use Rattle.std.proofs.Common.{◌<◌, ◌+◌, length, rules, arith, refl, false, IsTrue}
 use Rattle.merkle_proof.specs.Walk.{bytes_of}
-use Rattle.merkle_proof.specs.Input.{setting, input_of}
+use Rattle.merkle_proof.specs.Input.{setting, range_input}
 use Rattle.merkle_proof.proofs.RangeRoot.{element_count, refused}
-use Rattle.merkle_proof.proofs.proof.Proof.verify_range.Goals as goal
+use Rattle.merkle_proof.proofs.checks.verify_range.Goals as goal
 
 pub returns-in_default : goal.returns-in_default
 returns-in_default g c =
     let h = g.H.Hasher.hashing c.args.hasher.now in
     let s = setting h (g.H.Hasher.bagging_of c.args.hasher.now) g.F.Family.rule g.F.Family.MAX_LEAVES g.F.Family.DOMAIN in
-    let r = input_of h g.F.Family.rule c.args.self.now c.args.start (bytes_of c.args.elements.now) in
+    let r = range_input h g.F.Family.rule c.args.parts.now.leaves c.args.parts.now.inactive c.args.parts.now.digests.now c.args.start (bytes_of c.args.elements.now) in
     let some : 0 < length c.args.elements.now = search rules in
-    let count = element_count h (g.H.Hasher.bagging_of c.args.hasher.now) g.F.Family.rule g.F.Family.MAX_LEAVES g.F.Family.DOMAIN c.args.self.now c.args.start (c.args.start + length c.args.elements.now) c.args.elements.now some refl in
+    let count = element_count h (g.H.Hasher.bagging_of c.args.hasher.now) g.F.Family.rule g.F.Family.MAX_LEAVES g.F.Family.DOMAIN c.args.parts.now.leaves c.args.parts.now.inactive c.args.parts.now.digests.now c.args.start (c.args.start + length c.args.elements.now) c.args.elements.now some refl in
     (λ e. absurd (never e), λ ok. absurd (refused s r c.args.root.now (omega (arith, some, count)) (c.in-Err.ensures.err c.in_default.not-OutOfMemory) ok))
   where
     never : IsTrue false → ⊥

@@ -6,56 +6,56 @@ use Rattle.merkle_proof.specs.Layouts.{count_before, count_after, count_inactive
 use Rattle.merkle_proof.specs.Range.{overlapping, wholly_after}
 use Rattle.merkle_hasher.proofs.PeakNodes.{peaks_at}
 use Rattle.merkle_proof.proofs.RangeRoot.{few_peaks, element_count, computed, misshapen, never_empty, folds_given}
-use Rattle.merkle_proof.proofs.proof.Proof.reconstruct_root.Goals as goal
+use Rattle.merkle_proof.proofs.checks.reconstruct_range_root.Goals as goal
 use Rattle.merkle_proof.proofs.Extraction.{all_filter}
 
 pub returns-in_err-end-clause-err : goal.returns-in_err-end-clause-err
 returns-in_err-end-clause-err g c =
     let p = err_from_is_err_and c.from_residual.result c.from_residual.ensures.1 in
     rw (p.1, p.2) (λ n shape.
-    let long = element_count (g.H.Hasher.hashing c.args.hasher.now) (g.H.Hasher.bagging_of c.args.hasher.now) g.F.Family.rule g.F.Family.MAX_LEAVES g.F.Family.DOMAIN c.args.self.now c.args.start (c.args.start + length c.args.elements.now) c.args.elements.now c.requires.some refl in
+    let long = element_count (g.H.Hasher.hashing c.args.hasher.now) (g.H.Hasher.bagging_of c.args.hasher.now) g.F.Family.rule g.F.Family.MAX_LEAVES g.F.Family.DOMAIN c.args.parts.now.leaves c.args.parts.now.inactive c.args.parts.now.digests.now c.args.start (c.args.start + length c.args.elements.now) c.args.elements.now c.requires.some refl in
     absurd (omega (arith, c.in_err-end.ensures.err (omega (arith, shape.within, long)), shape.leaves)))
 
 pub layout-layout-requires-clause-inactive : goal.layout-layout-requires-clause-inactive
 layout-layout-requires-clause-inactive g c =
-    let n = c.args.self.now.leaves in
+    let n = c.args.parts.now.leaves in
     let end = c.in_ok-end.ensures.ok in
     omega (
       arith,
-      c.if-self-count.false,
+      c.if-parts-count.false,
       c.count.ensures c.args.start c.in_ok-end.end n (omega (arith, end.0, c.requires.some)) c.in-Ok.ensures,
       few_peaks g.F.Family.rule g.F.Family.MAX_LEAVES g.F.Family.MAX_NODES n g.met.F.Family.lawful end.2,
     )
 
 pub peak_digests-requires-clause-nodes : goal.peak_digests-requires-clause-nodes
 peak_digests-requires-clause-nodes g c = (
-  overlapping c.args.start c.in_ok-end.end (peaks_of g.F.Family.rule c.args.self.now.leaves),
+  overlapping c.args.start c.in_ok-end.end (peaks_of g.F.Family.rule c.args.parts.now.leaves),
   c.deref.ensures.value ∙ c.in-Ok.ensures.over,
-  all_filter _ _ _ (peaks_at g.F.Family.rule g.F.Family.MAX_LEAVES c.args.self.now.leaves c.in_ok-end.ensures.ok.2),
+  all_filter _ _ _ (peaks_at g.F.Family.rule g.F.Family.MAX_LEAVES c.args.parts.now.leaves c.in_ok-end.ensures.ok.2),
 )
 
 pub returns-in_err-peaks-clause-err : goal.returns-in_err-peaks-clause-err
 returns-in_err-peaks-clause-err g c =
     let p = err_from_is_err_and c.from_residual-in_err-peaks.result c.from_residual-in_err-peaks.ensures.1 in
     let h = g.H.Hasher.hashing c.args.hasher.now in
-    let bagging = g.H.Hasher.bagging_of c.args.hasher.now in let k = c.args.self.now.inactive_peaks in
+    let bagging = g.H.Hasher.bagging_of c.args.hasher.now in let k = c.args.parts.now.inactive in
     let a = c.args.start in let b = c.in_ok-end.end in
-    let ts = peaks_of g.F.Family.rule c.args.self.now.leaves in
+    let ts = peaks_of g.F.Family.rule c.args.parts.now.leaves in
     let end = c.in_ok-end.ensures.ok in
     let held = c.in-Ok.ensures in
     let laid = c.layout-layout.result in
     let m_is = subst (λ z. laid.before ≡ count_before z k (wholly_before a ts)) c.root_bagging.ensures (c.layout-layout.ensures.before a b ts held) in
     let n_is = subst (λ z. laid.after ≡ count_after z k (length (wholly_before a ts) + length (overlapping a b ts)) (wholly_after b ts)) c.root_bagging.ensures (c.layout-layout.ensures.after a b ts held) in
     rw (p.1, p.2) (λ n.
-    misshapen h bagging g.F.Family.rule g.F.Family.MAX_LEAVES g.F.Family.DOMAIN c.args.self.now a b c.args.elements.now c.requires.some end.0 end.1 laid.before laid.after m_is n_is
-    (λ e. c.in_err-peaks.ensures.err n (overlapping a b ts) (c.deref.ensures.value ∙ held.over) (all_filter _ _ _ (peaks_at g.F.Family.rule g.F.Family.MAX_LEAVES c.args.self.now.leaves end.2)) e))
+    misshapen h bagging g.F.Family.rule g.F.Family.MAX_LEAVES g.F.Family.DOMAIN c.args.parts.now.leaves k c.args.parts.now.digests.now a b c.args.elements.now c.requires.some end.0 end.1 laid.before laid.after m_is n_is
+    (λ e. c.in_err-peaks.ensures.err n (overlapping a b ts) (c.deref.ensures.value ∙ held.over) (all_filter _ _ _ (peaks_at g.F.Family.rule g.F.Family.MAX_LEAVES c.args.parts.now.leaves end.2)) e))
 
 pub unreachable-requires : goal.unreachable-requires
 unreachable-requires g c =
     let h = g.H.Hasher.hashing c.args.hasher.now in
-    let bagging = g.H.Hasher.bagging_of c.args.hasher.now in let k = c.args.self.now.inactive_peaks in
+    let bagging = g.H.Hasher.bagging_of c.args.hasher.now in let k = c.args.parts.now.inactive in
     let a = c.args.start in let b = c.in_ok-end.end in
-    let ts = peaks_of g.F.Family.rule c.args.self.now.leaves in
+    let ts = peaks_of g.F.Family.rule c.args.parts.now.leaves in
     let end = c.in_ok-end.ensures.ok in
     let held = c.in-Ok.ensures in
     let laid = c.layout-layout.result in
@@ -63,25 +63,25 @@ unreachable-requires g c =
     let n_is = subst (λ z. laid.after ≡ count_after z k (length (wholly_before a ts) + length (overlapping a b ts)) (wholly_after b ts)) c.root_bagging.ensures (c.layout-layout.ensures.after a b ts held) in
     let j_is = subst (λ z. laid.inactive ≡ count_inactive z k (wholly_before a ts)) c.root_bagging.ensures (c.layout-layout.ensures.inactive a b ts held) in
     let all = c.in_ok-peaks.peaks.items in
-    let low : k ≤ length ts = omega (arith, c.if-self-count.false, c.count.ensures a b c.args.self.now.leaves (omega (arith, end.0, c.requires.some)) held) in
-    let w = c.in_ok-peaks.ensures.ok (overlapping a b ts) (c.deref.ensures.value ∙ held.over) (all_filter _ _ _ (peaks_at g.F.Family.rule g.F.Family.MAX_LEAVES c.args.self.now.leaves end.2)) in
+    let low : k ≤ length ts = omega (arith, c.if-parts-count.false, c.count.ensures a b c.args.parts.now.leaves (omega (arith, end.0, c.requires.some)) held) in
+    let w = c.in_ok-peaks.ensures.ok (overlapping a b ts) (c.deref.ensures.value ∙ held.over) (all_filter _ _ _ (peaks_at g.F.Family.rule g.F.Family.MAX_LEAVES c.args.parts.now.leaves end.2)) in
     let same = ap length c.deref-2.ensures.value in
     c.in-None.ensures (
       omega (
         arith,
         same,
-        folds_given h bagging g.F.Family.rule g.F.Family.MAX_LEAVES g.F.Family.DOMAIN c.args.self.now a b c.args.elements.now c.requires.some end.0 end.1 laid.before laid.after m_is n_is low all w laid.inactive j_is,
+        folds_given h bagging g.F.Family.rule g.F.Family.MAX_LEAVES g.F.Family.DOMAIN c.args.parts.now.leaves k c.args.parts.now.digests.now a b c.args.elements.now c.requires.some end.0 end.1 laid.before laid.after m_is n_is low all w laid.inactive j_is,
       ),
       λ e. absurd (
-          never_empty h bagging g.F.Family.rule g.F.Family.MAX_LEAVES g.F.Family.DOMAIN c.args.self.now a b c.args.elements.now c.requires.some end.0 end.1 laid.before laid.after m_is n_is all w (sym same ∙ e)),
+          never_empty h bagging g.F.Family.rule g.F.Family.MAX_LEAVES g.F.Family.DOMAIN c.args.parts.now.leaves k c.args.parts.now.digests.now a b c.args.elements.now c.requires.some end.0 end.1 laid.before laid.after m_is n_is all w (sym same ∙ e)),
     )
 
 pub returns-clause-ok : goal.returns-clause-ok
 returns-clause-ok g c =
     let h = g.H.Hasher.hashing c.args.hasher.now in
-    let bagging = g.H.Hasher.bagging_of c.args.hasher.now in let k = c.args.self.now.inactive_peaks in
+    let bagging = g.H.Hasher.bagging_of c.args.hasher.now in let k = c.args.parts.now.inactive in
     let a = c.args.start in let b = c.in_ok-end.end in
-    let ts = peaks_of g.F.Family.rule c.args.self.now.leaves in
+    let ts = peaks_of g.F.Family.rule c.args.parts.now.leaves in
     let end = c.in_ok-end.ensures.ok in
     let held = c.in-Ok.ensures in
     let laid = c.layout-layout.result in
@@ -89,8 +89,8 @@ returns-clause-ok g c =
     let n_is = subst (λ z. laid.after ≡ count_after z k (length (wholly_before a ts) + length (overlapping a b ts)) (wholly_after b ts)) c.root_bagging.ensures (c.layout-layout.ensures.after a b ts held) in
     let j_is = subst (λ z. laid.inactive ≡ count_inactive z k (wholly_before a ts)) c.root_bagging.ensures (c.layout-layout.ensures.inactive a b ts held) in
     let all = c.in_ok-peaks.peaks.items in
-    let low : k ≤ length ts = omega (arith, c.if-self-count.false, c.count.ensures a b c.args.self.now.leaves (omega (arith, end.0, c.requires.some)) held) in
-    let w = c.in_ok-peaks.ensures.ok (overlapping a b ts) (c.deref.ensures.value ∙ held.over) (all_filter _ _ _ (peaks_at g.F.Family.rule g.F.Family.MAX_LEAVES c.args.self.now.leaves end.2)) in
-    computed h bagging g.F.Family.rule g.F.Family.MAX_LEAVES g.F.Family.DOMAIN c.args.self.now a b c.args.elements.now c.requires.some end.0 end.1 laid.before laid.after m_is n_is
+    let low : k ≤ length ts = omega (arith, c.if-parts-count.false, c.count.ensures a b c.args.parts.now.leaves (omega (arith, end.0, c.requires.some)) held) in
+    let w = c.in_ok-peaks.ensures.ok (overlapping a b ts) (c.deref.ensures.value ∙ held.over) (all_filter _ _ _ (peaks_at g.F.Family.rule g.F.Family.MAX_LEAVES c.args.parts.now.leaves end.2)) in
+    computed h bagging g.F.Family.rule g.F.Family.MAX_LEAVES g.F.Family.DOMAIN c.args.parts.now.leaves k c.args.parts.now.digests.now a b c.args.elements.now c.requires.some end.0 end.1 laid.before laid.after m_is n_is
     end.2 low all w laid.inactive j_is c.in-Some.root
-    (c.in-Some.ensures.1 ∙ ap (peaks_root h g.F.Family.DOMAIN bagging c.args.self.now.leaves laid.inactive k) c.deref-2.ensures.value)
+    (c.in-Some.ensures.1 ∙ ap (peaks_root h g.F.Family.DOMAIN bagging c.args.parts.now.leaves laid.inactive k) c.deref-2.ensures.value)

@@ -5,7 +5,7 @@ use Rattle.merkle_proof.specs.Walk.{bytes_of, leaf_from}
 use Rattle.merkle_hasher.specs.Subtrees.{AreNodes}
 use Rattle.merkle_hasher.specs.Subtrees.{subtree_of}
 use Rattle.merkle_proof.specs.Walk.{ArePeaksWalked}
-use Rattle.merkle_proof.proofs.proof.reconstruct_peaks.Given as goal
+use Rattle.merkle_proof.proofs.checks.reconstruct_peaks.Given as goal
 
 abbrev pub invariant-loop-peak : goal.invariant-loop-peak
 invariant-loop-peak g l = (ts : List Tree) → l.peaks ≡ map subtree_of ts → AreNodes g.F.Family.rule g.F.Family.MAX_LEAVES ts

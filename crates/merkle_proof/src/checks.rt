@@ -1,0 +1,190 @@
+//! Checks of claims against a root, over the parts of their proofs.
+ghost use Rattle.std.specs.Prelude.{◌≡◌, ◌≢◌, ◌+◌, ◌<◌, ◌≤◌, [], ◌↔◌, List, None, IsTrue, IfOk, IfErr, length, map};
+ghost use Rattle.std.specs.List.{flat_map};
+ghost use Rattle.merkle_base.specs.Tree.{Tree};
+ghost use Rattle.merkle_proof.specs.Plan.{siblings};
+ghost use Rattle.merkle_proof.specs.Check.{root_of};
+ghost use Rattle.merkle_proof.specs.Range.{in_range, Accepts, IsEmptyInput};
+ghost use Rattle.merkle_hasher.specs.Subtrees.{AreNodes, subtree_of};
+ghost use Rattle.merkle_proof.specs.Walk.{bytes_of, leaf_from, ArePeaksWalked, ArePeakDigests};
+ghost use Rattle.merkle_proof.specs.Input.{setting, range_input, HasShape, IsComputed};
+
+use crate::groups::Groups;
+use crate::siblings::reconstruct_digest;
+use merkle_base::error::{OutOfMemory, ReconstructionError};
+use merkle_base::family::Family;
+use merkle_base::location::Location;
+use merkle_hasher::hasher::Hasher;
+use merkle_hasher::subtree::Subtree;
+use std::alloc::Global;
+use std::ops::Range;
+
+/// The parts of a proof that a check is given.
+#[derive(Drop)]
+pub(crate) struct ProofParts<'a, F, D> {
+    /// The number of leaves of the list.
+    pub(crate) leaves: Location<F>,
+    /// The number of peaks that count as inactive.
+    pub(crate) inactive: usize,
+    /// The digests of what the elements don't tell.
+    pub(crate) digests: &'a [D],
+    /// Where memory is requested.
+    pub(crate) alloc: Global,
+}
+
+/// Whether the elements are the leaves from a location on of the list behind the root, or there are none and the proof is
+/// the empty one.
+pub(crate) fn verify_range<F: Family, H: Hasher<F>>(
+    parts: &ProofParts<'_, F, H::Digest>,
+    hasher: &H,
+    elements: &[&[u8]],
+    start: Location<F>,
+    root: &H::Digest,
+) -> Result<bool, OutOfMemory>
+    ensures { let h = H.hashing hasher.now in IfOk result (λ b. IsTrue b ↔ Accepts (setting h (H.bagging_of hasher.now) F.rule F.MAX_LEAVES F.DOMAIN) (range_input h F.rule parts.now.leaves parts.now.inactive parts.now.digests.now start (bytes_of elements.now)) root.now) }
+{
+    if elements.is_empty() {
+        return Ok(verify_empty(parts, hasher, start, root));
+    }
+    match reconstruct_range_root(parts, hasher, elements, start) {
+        Ok(computed) => Ok(computed == *root),
+        Err(error) => match error {
+            ReconstructionError::OutOfMemory => Err(OutOfMemory),
+            _ => Ok(false),
+        },
+    }
+}
+
+/// The root that the elements from a location on lead to, which are some.
+pub(crate) fn reconstruct_range_root<F: Family, H: Hasher<F>>(
+    parts: &ProofParts<'_, F, H::Digest>,
+    hasher: &H,
+    elements: &[&[u8]],
+    start: Location<F>,
+) -> Result<H::Digest, ReconstructionError>
+    requires some { 0 < length elements.now }
+    ensures ok { let h = H.hashing hasher.now in IfOk result (λ d. IsComputed (setting h (H.bagging_of hasher.now) F.rule F.MAX_LEAVES F.DOMAIN) (range_input h F.rule parts.now.leaves parts.now.inactive parts.now.digests.now start (bytes_of elements.now)) d) }
+    ensures err { let h = H.hashing hasher.now in IfErr result (λ e. e ≢ ReconstructionError.OutOfMemory → ¬ HasShape (setting h (H.bagging_of hasher.now) F.rule F.MAX_LEAVES F.DOMAIN) (range_input h F.rule parts.now.leaves parts.now.inactive parts.now.digests.now start (bytes_of elements.now))) }
+{
+    let end = end_from(parts.leaves, start, elements.len())?;
+    let range = start..end;
+    let Ok(groups) = Groups::of_peaks(parts.alloc, parts.leaves, &range) else {
+        return Err(ReconstructionError::OutOfMemory);
+    };
+    if parts.inactive > groups.count() {
+        return Err(ReconstructionError::InvalidProof);
+    }
+    let layout = groups.layout(hasher.root_bagging(), parts.inactive);
+    let peaks = peak_digests(
+        parts,
+        hasher,
+        &range,
+        elements,
+        &groups.overlapping,
+        layout.before,
+        layout.after,
+    )?;
+    match hasher.root_with_folded_peaks(parts.leaves, layout.inactive, parts.inactive, &peaks) {
+        Some(root) => Ok(root),
+        None => unreachable!(),
+    }
+}
+
+// Whether the proof is the empty one, of no elements from location 0 on, and the root that of no leaves.
+fn verify_empty<F: Family, H: Hasher<F>>(
+    parts: &ProofParts<'_, F, H::Digest>,
+    hasher: &H,
+    start: Location<F>,
+    root: &H::Digest,
+) -> bool
+    ensures { let h = H.hashing hasher.now in IsTrue result ↔ (IsEmptyInput (range_input h F.rule parts.now.leaves parts.now.inactive parts.now.digests.now start []) × (root_of (setting h (H.bagging_of hasher.now) F.rule F.MAX_LEAVES F.DOMAIN) 0 0 None ≡ root.now)) }
+{
+    if start.as_u64() != 0 || parts.leaves.as_u64() != 0 {
+        return false;
+    }
+    if parts.inactive != 0 || !parts.digests.is_empty() {
+        return false;
+    }
+    match hasher.root_with_folded_peaks(parts.leaves, 0, 0, &[]) {
+        Some(empty) => empty == *root,
+        None => unreachable!(),
+    }
+}
+
+// The location after that many of the leaves from `start` on.
+fn end_from<F: Family>(
+    leaves: Location<F>,
+    start: Location<F>,
+    count: usize,
+) -> Result<Location<F>, ReconstructionError>
+    ensures ok { IfOk result (λ end. (end ≡ start + count) × (end ≤ leaves) × (leaves ≤ F.MAX_LEAVES)) }
+    ensures err { IfErr result (λ _. start + count ≤ leaves → F.MAX_LEAVES < leaves) }
+{
+    if !leaves.is_valid() {
+        return Err(ReconstructionError::InvalidSize);
+    }
+    match start.checked_add(count as u64) {
+        Some(end) if end <= leaves => Ok(end),
+        _ => Err(ReconstructionError::InvalidEndLoc),
+    }
+}
+
+// The digests of all that the root folds: the given ones before, those of the peaks that overlap the range, and the given
+// ones after.
+fn peak_digests<F: Family, H: Hasher<F>>(
+    parts: &ProofParts<'_, F, H::Digest>,
+    hasher: &H,
+    range: &Range<Location<F>>,
+    elements: &[&[u8]],
+    peaks: &[Subtree<F>],
+    before: usize,
+    after: usize,
+) -> Result<Vec<H::Digest>, ReconstructionError>
+    requires nodes { (ts : List Tree) × (peaks.now ≡ map subtree_of ts) × AreNodes F.rule F.MAX_LEAVES ts }
+    requires some { range.now.start < range.now.end }
+    requires all { range.now.end ≤ range.now.start + length elements.now }
+    ensures ok { IfOk result (λ v. (ts : List Tree) → peaks.now ≡ map subtree_of ts → AreNodes F.rule F.MAX_LEAVES ts → ArePeakDigests (H.hashing hasher.now) (in_range range.now.start range.now.end) (leaf_from (H.hashing hasher.now) F.rule range.now.start (bytes_of elements.now)) ts before after parts.now.digests.now v.items) }
+    ensures err { IfErr result (λ e. e ≢ ReconstructionError.OutOfMemory → (ts : List Tree) → peaks.now ≡ map subtree_of ts → AreNodes F.rule F.MAX_LEAVES ts → length parts.now.digests.now ≢ before + after + length (flat_map (siblings (in_range range.now.start range.now.end)) ts)) }
+{
+    let Some((before, others)) = parts.digests.split_at_checked(before) else {
+        return Err(ReconstructionError::MissingDigests);
+    };
+    let Some((after, mut siblings)) = others.split_at_checked(after) else {
+        return Err(ReconstructionError::MissingDigests);
+    };
+    let Ok(mut all) = before.to_vec(parts.alloc) else {
+        return Err(ReconstructionError::OutOfMemory);
+    };
+    reconstruct_peaks(hasher, range, elements, peaks, &mut siblings, &mut all)?;
+    if !siblings.is_empty() {
+        return Err(ReconstructionError::ExtraDigests);
+    }
+    let Ok(()) = all.extend_from_slice(after) else {
+        return Err(ReconstructionError::OutOfMemory);
+    };
+    Ok(all)
+}
+
+// Appends the digests of the peaks that overlap the range.
+fn reconstruct_peaks<F: Family, H: Hasher<F>>(
+    hasher: &H,
+    range: &Range<Location<F>>,
+    elements: &[&[u8]],
+    peaks: &[Subtree<F>],
+    digests: &mut &[H::Digest],
+    out: &mut Vec<H::Digest>,
+) -> Result<(), ReconstructionError>
+    requires nodes { (ts : List Tree) × (peaks.now ≡ map subtree_of ts) × AreNodes F.rule F.MAX_LEAVES ts }
+    requires some { range.now.start < range.now.end }
+    requires all { range.now.end ≤ range.now.start + length elements.now }
+    ensures ok { IfOk result (λ _. (ts : List Tree) → peaks.now ≡ map subtree_of ts → AreNodes F.rule F.MAX_LEAVES ts → ArePeaksWalked (H.hashing hasher.now) (in_range range.now.start range.now.end) (leaf_from (H.hashing hasher.now) F.rule range.now.start (bytes_of elements.now)) ts digests.old.now out.old.items out.new.items digests.new.now) }
+    ensures err { IfErr result (λ e. e ≢ ReconstructionError.OutOfMemory → (ts : List Tree) → peaks.now ≡ map subtree_of ts → AreNodes F.rule F.MAX_LEAVES ts → length digests.old.now < length (flat_map (siblings (in_range range.now.start range.now.end)) ts)) }
+{
+    for peak in peaks {
+        let digest = reconstruct_digest(peak, hasher, range, elements, digests)?;
+        if out.push(digest).is_err() {
+            return Err(ReconstructionError::OutOfMemory);
+        }
+    }
+    Ok(())
+}
