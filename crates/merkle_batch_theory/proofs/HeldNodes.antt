@@ -26,11 +26,11 @@ use Rattle.merkle_batch_theory.proofs.Kept.{get_mapped}
 use Rattle.merkle_batch_theory.proofs.Stored.{held_before, held_from}
 
 -- at position p: a pin before the start, and one of the nodes from it on
-abbrev pub stored_at : {D : Type 0} → List (ℕ × D) → ℕ → List D → ℕ → Option D
+abbrev stored_at : {D : Type 0} → List (ℕ × D) → ℕ → List D → ℕ → Option D
 stored_at pins start nodes p = cond (nat_lt p start) (lookup (λ q. p == q) pins) (slice_get nodes (p - start))
 
 -- what is held at a position, read off the pins and the nodes
-pub stored_reads : {D : Type 0} (pins : List (ℕ × D)) (start : ℕ) (nodes : List D) → PinsBefore start pins → (p : ℕ) → get (stored_of pins start nodes) p ≡ stored_at pins start nodes p
+stored_reads : {D : Type 0} (pins : List (ℕ × D)) (start : ℕ) (nodes : List D) → PinsBefore start pins → (p : ℕ) → get (stored_of pins start nodes) p ≡ stored_at pins start nodes p
 stored_reads pins start nodes before p = elim (cases_lt p start) [
   | inl h ↦ rw (lt-ltb p start h) (held_before pins start nodes p h)
   | inr h ↦ rw (le-ltb p start h) (held_from pins start nodes p h (before p h))
@@ -46,39 +46,36 @@ module _ {D : Type 0} (at : ℕ) (digest : D) where
   none_replaced true = refl
   none_replaced false = refl
 
-  module _ (pins : List (ℕ × D)) (start : ℕ) (nodes : List D) where
-    -- a pin takes a digest
-    pub pins_replaced : (pins' : List (ℕ × D)) → PinsBefore start pins → ((p : ℕ) → lookup (nat_eq p) pins' ≡ replaced p (lookup (nat_eq p) pins)) → PinsBefore start pins'
-    pins_replaced pins' before put p l = put p ∙ ap (replaced p) (before p l) ∙ none_replaced (p == at)
+  module _ (pins : List (ℕ × D)) (start : ℕ) (nodes : List D) (before : PinsBefore start pins) where
+    -- what is stored, if it is replaced in what is read off
+    replaced_reads : (pins' : List (ℕ × D)) (nodes' : List D) → PinsBefore start pins' → ((p : ℕ) → stored_at pins' start nodes' p ≡ replaced p (stored_at pins start nodes p)) →
+        (p : ℕ) → get (stored_of pins' start nodes') p ≡ replaced p (get (stored_of pins start nodes) p)
+    replaced_reads pins' nodes' before' put p = stored_reads pins' start nodes' before' p ∙ put p ∙ sym (ap (replaced p) (stored_reads pins start nodes before p))
 
-    pub stored_put : (pins' : List (ℕ × D)) → at < start → ((p : ℕ) → lookup (nat_eq p) pins' ≡ replaced p (lookup (nat_eq p) pins)) → (p : ℕ) → stored_at pins' start nodes p ≡ replaced p (stored_at pins start nodes p)
-    stored_put pins' below put p = elim (cases_lt p start) [
+    -- a pin takes a digest
+    pub put_reads : (pins' : List (ℕ × D)) → at < start → ((p : ℕ) → lookup (nat_eq p) pins' ≡ replaced p (lookup (nat_eq p) pins)) → (p : ℕ) → get (stored_of pins' start nodes) p ≡ replaced p (get (stored_of pins start nodes) p)
+    put_reads pins' below put = replaced_reads pins' nodes (λ p l. put p ∙ ap (replaced p) (before p l) ∙ none_replaced (p == at)) (λ p. elim (cases_lt p start) [
       | inl h ↦ rw (lt-ltb p start h) (put p)
       | inr h ↦ rw (le-ltb p start h, ne_eqb p at (λ e. absurd (omega (arith, e, h, below)))) refl
-    ]
+    ])
 
     -- one of the nodes from the start on takes a digest
-    pub stored_set : (k : ℕ) → start ≤ at → k ≡ at - start → k < length nodes → (p : ℕ) → stored_at pins start (slice_set nodes k digest) p ≡ replaced p (stored_at pins start nodes p)
-    stored_set k from is l p = elim (cases_lt p start) [
+    pub set_reads : (k : ℕ) → start ≤ at → k ≡ at - start → k < length nodes → (p : ℕ) → get (stored_of pins start (slice_set nodes k digest)) p ≡ replaced p (get (stored_of pins start nodes) p)
+    set_reads k from is l = replaced_reads pins (slice_set nodes k digest) before (λ p. elim (cases_lt p start) [
       | inl h ↦ rw (lt-ltb p start h, ne_eqb p at (λ e. absurd (omega (arith, e, h, from)))) refl
       | inr h ↦ rw (le-ltb p start h) (by_test (λ b. slice_get (slice_set nodes k digest) (p - start) ≡ cond b (over (Some digest) (slice_get nodes (p - start))) (slice_get nodes (p - start))) (p == at)
           (λ e. let same : p - start ≡ k = omega (arith, is, eqb-true p at e) in
           ap (slice_get (slice_set nodes k digest)) same ∙ get_set_same nodes k digest l ∙ ap (over (Some digest)) (sym (ap (slice_get nodes) same ∙ slice_get-get_or nodes k digest l)))
           (λ e. get_set_other nodes k (p - start) digest (λ same. eqb-false p at e (omega (arith, is, same, h, from)))))
-    ]
+    ])
 
     -- there is no such node
-    pub stored_unset : start ≤ at → length nodes ≤ at - start → (p : ℕ) → stored_at pins start nodes p ≡ replaced p (stored_at pins start nodes p)
-    stored_unset from past p = by_test (λ b. stored_at pins start nodes p ≡ cond b (over (Some digest) (stored_at pins start nodes p)) (stored_at pins start nodes p)) (p == at)
+    pub unset_reads : start ≤ at → length nodes ≤ at - start → (p : ℕ) → get (stored_of pins start nodes) p ≡ replaced p (get (stored_of pins start nodes) p)
+    unset_reads from past p = by_test (λ b. get (stored_of pins start nodes) p ≡ cond b (over (Some digest) (get (stored_of pins start nodes) p)) (get (stored_of pins start nodes) p)) (p == at)
         (λ e. let here : p ≡ at = eqb-true p at e in
-        let none : stored_at pins start nodes p ≡ None = (rw (le-ltb p start (omega (arith, here, from))) (slice_get_past nodes (p - start) (omega (arith, here, past)))) in
+        let none : get (stored_of pins start nodes) p ≡ None = held_from pins start nodes p (omega (arith, here, from)) (before p (omega (arith, here, from))) ∙ slice_get_past nodes (p - start) (omega (arith, here, past)) in
         none ∙ sym (ap (over (Some digest)) none))
         (λ e. refl)
-
-    -- what is stored after it
-    pub replaced_reads : (pins' : List (ℕ × D)) (nodes' : List D) → PinsBefore start pins → PinsBefore start pins' → ((p : ℕ) → stored_at pins' start nodes' p ≡ replaced p (stored_at pins start nodes p)) →
-        (p : ℕ) → get (stored_of pins' start nodes') p ≡ replaced p (get (stored_of pins start nodes) p)
-    replaced_reads pins' nodes' before before' put p = stored_reads pins' start nodes' before' p ∙ put p ∙ sym (ap (replaced p) (stored_reads pins start nodes before p))
 
 -- ---- nodes come or go
 module _ {D : Type 0} (pins : List (ℕ × D)) (start : ℕ) (nodes : List D) (before : PinsBefore start pins) where
@@ -122,7 +119,7 @@ kept_counted rule max_leaves boundary leaves start nodes counted starts l = reco
 }
 
 -- the peaks of b leaves stand before the position of leaf b
-pub peak_before : (rule : List ℕ → List ℕ) (b p : ℕ) → list_any (nat_eq p) (peak_positions rule b) ≡ true → p < size rule b
+peak_before : (rule : List ℕ → List ℕ) (b p : ℕ) → list_any (nat_eq p) (peak_positions rule b) ≡ true → p < size rule b
 peak_before rule b p e =
     let k = any_find (nat_eq p) (peak_positions rule b) e in
     let m = get_mapped position (reverse (forest rule b).peaks) k.0 k.1 k.2 in

@@ -19,7 +19,7 @@ use Rattle.merkle_batch_theory.proofs.Kept.{kept_from}
 use Rattle.merkle_batch_theory.proofs.OptionFacts.{none_of}
 
 -- as many digests as positions: a pin at each of these
-pub lookup_paired : {D : Type 0} (p : ℕ) (ps : List ℕ) (ds : List D) → length ds ≡ length ps → is_some (lookup (nat_eq p) (paired ps ds)) ≡ list_any (nat_eq p) ps
+lookup_paired : {D : Type 0} (p : ℕ) (ps : List ℕ) (ds : List D) → length ds ≡ length ps → is_some (lookup (nat_eq p) (paired ps ds)) ≡ list_any (nat_eq p) ps
 lookup_paired p [] ds e = refl
 lookup_paired p (q ∷ ps) [] e = absurd (omega (arith, e))
 lookup_paired p (q ∷ ps) (d ∷ ds) e =
@@ -50,11 +50,11 @@ module _ {D : Type 0} (c : Contents D) (p : ℕ) where
       (λ _. more)
 
   -- the pin at one of these positions is what is held there
-  pub lookup_pins : (ps : List ℕ) → lookup (nat_eq p) (pins_of c ps) ≡ cond (list_any (nat_eq p) ps) (c.node p) None
+  lookup_pins : (ps : List ℕ) → lookup (nat_eq p) (pins_of c ps) ≡ cond (list_any (nat_eq p) ps) (c.node p) None
   lookup_pins [] = refl
   lookup_pins (q ∷ ps) = one_pin q ps (c.node q) refl (lookup_pins ps)
 
--- and so does what is held there
+-- and so does what is held there, with its positions
 pub pins_before : {D : Type 0} (rule : List ℕ → List ℕ) (b : ℕ) (c : Contents D) → PinsBefore (size rule b) (pins_of c (peak_positions rule b))
 pins_before rule b c p l = lookup_pins c p (peak_positions rule b) ∙ ap (λ t. cond t (c.node p) None) (no_peak_from rule b p l)
 

@@ -76,7 +76,7 @@ module _ {D X : Type 0} (rule : List ℕ → List ℕ) (max_leaves leaves : ℕ)
   part = ap (map value) (take_all (length xs - first) (drop first xs) (omega (arith, length-drop first xs))) ∙ drop_map value first xs ∙ ap (drop first) are
 
   -- the records that are laid
-  pub laid_records : drop first (records c) ≡ kept_part ++ c.own ∷ []
+  laid_records : drop first (records c) ≡ kept_part ++ c.own ∷ []
   laid_records = drop_left first c.ancestors (c.own ∷ []) (found same n peaks c first linked.runs m).0 ∙ ap (λ rs. rs ++ c.own ∷ []) (sym part)
 
   pub total_laid : n + (total_appended kept_part + length c.own.appended) ≡ after c.own

@@ -1,17 +1,10 @@
-use Rattle.std.proofs.Common.{rules, ◌≡◌, ℕ, ◌-◌, length, cond, ap, ◌∙◌, subst, arith}
+use Rattle.std.proofs.Common.{◌≡◌, ℕ, ◌-◌, cond, ap, ◌∙◌, subst}
 use Rattle.std.specs.Prelude.{nat_lt, slice_get}
 use Rattle.std.specs.FinMap.{get}
-use Rattle.std.specs.VecDeque.{deque_len}
 use Rattle.merkle_batch_theory.specs.Held.{Held}
 use Rattle.merkle_batch_theory.specs.Store.{stored_of}
 use Rattle.merkle_batch_theory.proofs.HeldNodes.{append_reads}
 use Rattle.merkle_core.proofs.held_nodes.HeldNodes.append.Goals as goal
-
-pub push_all-requires : goal.push_all-requires
-push_all-requires g c =
-    let i = c.self.inside in
-    let len : deque_len i.nodes ≡ length i.nodes.items = search rules in
-    omega (arith, c.requires, len, ap (λ (h : Held _). h.size) c.self.view_is, ap (λ (h : Held _). h.capacity) c.self.view_is)
 
 pub returns-clause-stored : goal.returns-clause-stored
 returns-clause-stored g c =
