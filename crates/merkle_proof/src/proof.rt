@@ -7,6 +7,7 @@ ghost use Rattle.merkle_proof.specs.Walk.{bytes_of};
 ghost use Rattle.merkle_proof.specs.Input.{setting, input_of};
 
 use crate::checks::{ProofParts, verify_range};
+pub use crate::range_plan::RangePlan;
 use merkle_base::digest::Digest;
 use merkle_base::error::OutOfMemory;
 use merkle_base::family::Family;
