@@ -5,8 +5,6 @@
 #![tactic(auto)]
 
 pub mod codec;
-#[cfg(test)]
-mod codec_tests;
 pub mod digest;
 pub mod error;
 pub mod family;
@@ -17,5 +15,3 @@ pub mod number;
 pub mod pending;
 pub mod pins;
 pub mod position;
-#[cfg(test)]
-mod tests;

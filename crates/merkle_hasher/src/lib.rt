@@ -4,5 +4,3 @@
 pub mod hasher;
 pub mod read;
 pub mod subtree;
-#[cfg(test)]
-mod tests;

@@ -6,5 +6,3 @@ pub mod hex_words;
 pub mod laws;
 pub mod run;
 mod session;
-#[cfg(test)]
-mod tests;

@@ -5,5 +5,3 @@
 
 pub mod mmb;
 pub mod mmr;
-#[cfg(test)]
-mod tests;

@@ -1,6 +1,6 @@
-use crate::hasher::Standard;
 use merkle_base::digest::{Digest, Sha256Plain, Xor8};
 use merkle_base::family::Bagging;
+use merkle_hasher::hasher::Standard;
 use std::test::Fail;
 
 // The SHA-256 digest of `abc`, from FIPS 180-4.

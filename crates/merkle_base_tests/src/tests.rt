@@ -1,5 +1,8 @@
 ghost use Rattle.std.specs.Prelude.{◌+◌, ◌*◌, ◌^◌, ◌≤◌};
 
+mod base;
+mod codec;
+mod hasher;
 mod mmb;
 mod mmr;
 mod pending;

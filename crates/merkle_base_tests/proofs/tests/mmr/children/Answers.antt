@@ -2,7 +2,7 @@ use Rattle.std.proofs.Common.{◌≡◌, Some, slice_get, refl, arith, subst, sy
 use Rattle.merkle_base.specs.Tree.{Tree, leaf, join, height}
 use Rattle.merkle_base.specs.Forest.{forest}
 use Rattle.merkle_forest_theory.specs.Mmr.{carries}
-use Rattle.merkle_topology.proofs.tests.mmr.children.Goals as goal
+use Rattle.merkle_base_tests.proofs.tests.mmr.children.Goals as goal
 
 node : Tree
 node = join 6 (join 2 (leaf 0 0) (leaf 1 1)) (join 5 (leaf 3 2) (leaf 4 3))

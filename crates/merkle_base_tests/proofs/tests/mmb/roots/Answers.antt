@@ -1,6 +1,6 @@
 use Rattle.std.proofs.Common.{arith}
 use Rattle.merkle_topology.proofs.BeltRoots.{root_within}
-use Rattle.merkle_topology.proofs.tests.mmb.roots.Goals as goal
+use Rattle.merkle_base_tests.proofs.tests.mmb.roots.Goals as goal
 
 pub assert_root-requires-clause-within : goal.assert_root-requires-clause-within
 assert_root-requires-clause-within g c = root_within 0 0 (omega arith)

@@ -1,10 +1,10 @@
 //! The Mountain Belt.
 
 use super::{assert_chunk, assert_inactive, assert_pins, assert_root, has_peaks};
-use crate::mmb;
-use crate::mmb::PeakIterator;
 use merkle_base::error::Error;
 use merkle_base::family::{Family, Graftable};
+use merkle_topology::mmb;
+use merkle_topology::mmb::PeakIterator;
 use std::process::Abort;
 use std::test::Fail;
 

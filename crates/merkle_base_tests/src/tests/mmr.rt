@@ -1,10 +1,10 @@
 //! The Mountain Range.
 
 use super::{assert_chunk, assert_inactive, assert_pins, assert_root, has_peaks};
-use crate::mmr;
-use crate::mmr::PeakIterator;
 use merkle_base::error::Error;
 use merkle_base::family::Family;
+use merkle_topology::mmr;
+use merkle_topology::mmr::PeakIterator;
 use std::test::Fail;
 
 const MAX_NODES: u64 = 9223372036854775807;

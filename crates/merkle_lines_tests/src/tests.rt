@@ -1,5 +1,5 @@
-use crate::hex_words::{HexError, is_hex_word, read_hex, write_hex};
-use crate::run::{RunError, run};
+use merkle_lines::hex_words::{HexError, is_hex_word, read_hex, write_hex};
+use merkle_lines::run::{RunError, run};
 use std::alloc::Global;
 use std::io;
 use std::process::Abort;

@@ -1,8 +1,8 @@
-use crate::digest::{Digest, PlainHasher, Sha256Digest, Sha256Plain, Xor8, Xor8Digest};
-use crate::error::{DecodeError, Error, OutOfMemory, ReconstructionError};
-use crate::family::Bagging;
-use crate::location::{Location, LocationRangeExt};
-use crate::position::Position;
+use merkle_base::digest::{Digest, PlainHasher, Sha256Digest, Sha256Plain, Xor8, Xor8Digest};
+use merkle_base::error::{DecodeError, Error, OutOfMemory, ReconstructionError};
+use merkle_base::family::Bagging;
+use merkle_base::location::{Location, LocationRangeExt};
+use merkle_base::position::Position;
 use std::alloc::Global;
 use std::collections::HashMap;
 use std::fmt::{Debug, Display};

@@ -1,6 +1,6 @@
-use crate::codec::{EncodeSize, Read, Write};
-use crate::digest::{Digest, Sha256Digest, Xor8Digest};
-use crate::family::{PendingChunk, Unused};
+use merkle_base::codec::{EncodeSize, Read, Write};
+use merkle_base::digest::{Digest, Sha256Digest, Xor8Digest};
+use merkle_base::family::{PendingChunk, Unused};
 use std::alloc::Global;
 use std::process::Abort;
 use std::test::Fail;

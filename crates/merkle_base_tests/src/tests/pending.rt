@@ -1,10 +1,10 @@
 //! What each family keeps of a chunk without a root of its own.
 
-use crate::{mmb, mmr};
 use merkle_base::codec::EncodeSize;
 use merkle_base::digest::{Digest, Xor8Digest};
 use merkle_base::error::DecodeError;
 use merkle_base::family::{Grafting, PendingChunk};
+use merkle_topology::{mmb, mmr};
 
 /// The pending chunk of the Mountain Range.
 type RangeChunk = <mmr::Family as Grafting<Xor8Digest>>::PendingChunk;

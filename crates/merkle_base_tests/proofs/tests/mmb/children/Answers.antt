@@ -2,7 +2,7 @@ use Rattle.std.proofs.Common.{◌≡◌, Some, slice_get, refl, arith, subst, sy
 use Rattle.merkle_base.specs.Tree.{Tree, leaf, join, height}
 use Rattle.merkle_base.specs.Forest.{forest}
 use Rattle.merkle_forest_theory.specs.Mmb.{newest_pair}
-use Rattle.merkle_topology.proofs.tests.mmb.children.Goals as goal
+use Rattle.merkle_base_tests.proofs.tests.mmb.children.Goals as goal
 
 right : Tree
 right = join 5 (leaf 3 2) (leaf 4 3)

@@ -1,0 +1,5 @@
+//! Tests of numbers, errors, digests, bytes, families and hashers: vectors, texts, and each call at concrete types.
+#![tactic(auto)]
+
+#[cfg(test)]
+mod tests;
