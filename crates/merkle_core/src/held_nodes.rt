@@ -36,7 +36,12 @@ impl<F: Family, D: Digest> Model for HeldNodes<F, D> {
 
     ghost coded = { held_code D.code };
 
-    ghost view = { λ h. record { start = h.start; size = h.start + length h.nodes.items; stored = stored_of h.pins.items h.start h.nodes.items; capacity = h.start + deque_capacity h.nodes } };
+    ghost view = { λ h. record {
+      start = h.start;
+      size = h.start + length h.nodes.items;
+      stored = stored_of h.pins.items h.start h.nodes.items;
+      capacity = h.start + deque_capacity h.nodes;
+    } };
 
     ghost invariant = { λ h. PinsBefore h.start h.pins.items };
 }
@@ -185,7 +190,7 @@ fn pinned<F, D: Copy>(pins: &[(Position<F>, D)], position: Position<F>) -> Optio
 
 // Gives the pin at a position, if there is one, a digest.
 fn replace_pin<F, D: Copy>(pins: &mut [(Position<F>, D)], position: Position<F>, digest: D)
-    ensures { (p : ℕ) → lookup (λ q. p == q) pins.new ≡ cond (p == position) (over (Some digest) (lookup (λ q. p == q) pins.old)) (lookup (λ q. p == q) pins.old) }
+    ensures { (p : ℕ) → let old = lookup (λ q. p == q) pins.old in lookup (λ q. p == q) pins.new ≡ cond (p == position) (over (Some digest) old) old }
 {
     for (pin, held) in pins {
         if *pin == position {
