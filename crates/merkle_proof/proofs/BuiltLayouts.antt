@@ -15,7 +15,7 @@ use Rattle.merkle_proof.specs.Outside.{fold_all, bag_all, folded_prefix, single_
 use Rattle.merkle_proof.specs.Layouts.{laid_out}
 use Rattle.merkle_proof.specs.RangePlans.{both_read, part_read}
 
-map-append_four : {X Y : Type 0} (g : X → Y) (xs ys zs us : List X) → map g (xs ++ (ys ++ (zs ++ us))) ≡ map g xs ++ (map g ys ++ (map g zs ++ map g us))
+pub map-append_four : {X Y : Type 0} (g : X → Y) (xs ys zs us : List X) → map g (xs ++ (ys ++ (zs ++ us))) ≡ map g xs ++ (map g ys ++ (map g zs ++ map g us))
 map-append_four g xs ys zs us = map-append g xs (ys ++ (zs ++ us)) ∙ ap (λ w. map g xs ++ w) (map-append g ys (zs ++ us) ∙ ap (λ w. map g ys ++ w) (map-append g zs us))
 
 append_assoc_four : {X : Type 0} (xs ys zs us vs : List X) → (xs ++ (ys ++ (zs ++ us))) ++ vs ≡ xs ++ (ys ++ (zs ++ (us ++ vs)))

@@ -9,7 +9,7 @@ use Rattle.merkle_base.proofs.Nodes.{all_append}
 use Rattle.merkle_proof.specs.Outside.{folded_prefix, single_before, single_after, folded_suffix}
 use Rattle.merkle_proof.specs.Range.{overlapping, wholly_after, range_siblings}
 use Rattle.merkle_proof.specs.RangePlans.{nodes_read, reading_order, IsPlan}
-use Rattle.merkle_proof.proofs.BuiltLayouts.{folded_prefix_rest, single_after_rest}
+use Rattle.merkle_proof.proofs.BuiltLayouts.{map-append_four, folded_prefix_rest, single_after_rest}
 use Rattle.merkle_proof.proofs.PeakGroups.{length-peaks_of}
 
 all_parts : {X : Type 0} (P : X → Type 0) (xs ys : List X) → AllByRecursion P (xs ++ ys) → AllByRecursion P xs × AllByRecursion P ys
@@ -63,9 +63,6 @@ module _ (P : Tree → Type 0) (bagging : Bagging) (k : ℕ) (rule : List ℕ �
       let third = all_parts P singles suffix (subst (AllByRecursion P) (sym (single_after_rest bagging k met after)) second.0) in
       all_append P before (singles ++ (reverse suffix ++ inside)) first.0
       (all_append P singles (reverse suffix ++ inside) third.0 (all_append P (reverse suffix) inside (all_reverse P suffix third.1) second.1))
-
-map-append_four : {X Y : Type 0} (f : X → Y) (xs ys zs us : List X) → map f (xs ++ (ys ++ (zs ++ us))) ≡ map f xs ++ (map f ys ++ (map f zs ++ map f us))
-map-append_four f xs ys zs us = map-append f xs (ys ++ (zs ++ us)) ∙ ap (λ w. map f xs ++ w) (map-append f ys (zs ++ us) ∙ ap (λ w. map f ys ++ w) (map-append f zs us))
 
 -- the runs, one after another with the suffix from its end, are in the reading order
 pub order_of_runs : (bagging : Bagging) (k : ℕ) (rule : List ℕ → List ℕ) (n a b : ℕ) (prefix single suffix siblings : List ℕ) → AreRuns bagging k rule n a b prefix single suffix siblings

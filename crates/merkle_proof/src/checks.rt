@@ -41,7 +41,9 @@ pub(crate) fn verify_range<F: Family, H: Hasher<F>>(
     start: Location<F>,
     root: &H::Digest,
 ) -> Result<bool, OutOfMemory>
-    ensures { let h = H.hashing hasher.now in IfOk result (λ b. IsTrue b ↔ Accepts (setting h (H.bagging_of hasher.now) F.rule F.MAX_LEAVES F.DOMAIN) (range_input h F.rule parts.now.leaves parts.now.inactive parts.now.digests.now start (bytes_of elements.now)) root.now) }
+    ensures { let h = H.hashing hasher.now in let s = setting h (H.bagging_of hasher.now) F.rule F.MAX_LEAVES F.DOMAIN in
+        let r = range_input h F.rule parts.now.leaves parts.now.inactive parts.now.digests.now start (bytes_of elements.now) in
+        IfOk result (λ b. IsTrue b ↔ Accepts s r root.now) }
 {
     if elements.is_empty() {
         return Ok(verify_empty(parts, hasher, start, root));
@@ -63,8 +65,12 @@ pub(crate) fn reconstruct_range_root<F: Family, H: Hasher<F>>(
     start: Location<F>,
 ) -> Result<H::Digest, ReconstructionError>
     requires some { 0 < length elements.now }
-    ensures ok { let h = H.hashing hasher.now in IfOk result (λ d. IsComputed (setting h (H.bagging_of hasher.now) F.rule F.MAX_LEAVES F.DOMAIN) (range_input h F.rule parts.now.leaves parts.now.inactive parts.now.digests.now start (bytes_of elements.now)) d) }
-    ensures err { let h = H.hashing hasher.now in IfErr result (λ e. e ≢ ReconstructionError.OutOfMemory → ¬ HasShape (setting h (H.bagging_of hasher.now) F.rule F.MAX_LEAVES F.DOMAIN) (range_input h F.rule parts.now.leaves parts.now.inactive parts.now.digests.now start (bytes_of elements.now))) }
+    ensures ok { let h = H.hashing hasher.now in let s = setting h (H.bagging_of hasher.now) F.rule F.MAX_LEAVES F.DOMAIN in
+        let r = range_input h F.rule parts.now.leaves parts.now.inactive parts.now.digests.now start (bytes_of elements.now) in
+        IfOk result (λ d. IsComputed s r d) }
+    ensures err { let h = H.hashing hasher.now in let s = setting h (H.bagging_of hasher.now) F.rule F.MAX_LEAVES F.DOMAIN in
+        let r = range_input h F.rule parts.now.leaves parts.now.inactive parts.now.digests.now start (bytes_of elements.now) in
+        IfErr result (λ e. e ≢ ReconstructionError.OutOfMemory → ¬ HasShape s r) }
 {
     let end = end_from(parts.leaves, start, elements.len())?;
     let range = start..end;
@@ -97,7 +103,9 @@ fn verify_empty<F: Family, H: Hasher<F>>(
     start: Location<F>,
     root: &H::Digest,
 ) -> bool
-    ensures { let h = H.hashing hasher.now in IsTrue result ↔ (IsEmptyInput (range_input h F.rule parts.now.leaves parts.now.inactive parts.now.digests.now start []) × (root_of (setting h (H.bagging_of hasher.now) F.rule F.MAX_LEAVES F.DOMAIN) 0 0 None ≡ root.now)) }
+    ensures { let h = H.hashing hasher.now in let s = setting h (H.bagging_of hasher.now) F.rule F.MAX_LEAVES F.DOMAIN in
+        let r = range_input h F.rule parts.now.leaves parts.now.inactive parts.now.digests.now start [] in
+        IsTrue result ↔ (IsEmptyInput r × (root_of s 0 0 None ≡ root.now)) }
 {
     if start.as_u64() != 0 || parts.leaves.as_u64() != 0 {
         return false;
@@ -143,8 +151,13 @@ fn peak_digests<F: Family, H: Hasher<F>>(
     requires nodes { (ts : List Tree) × (peaks.now ≡ map subtree_of ts) × AreNodes F.rule F.MAX_LEAVES ts }
     requires some { range.now.start < range.now.end }
     requires all { range.now.end ≤ range.now.start + length elements.now }
-    ensures ok { IfOk result (λ v. (ts : List Tree) → peaks.now ≡ map subtree_of ts → AreNodes F.rule F.MAX_LEAVES ts → ArePeakDigests (H.hashing hasher.now) (in_range range.now.start range.now.end) (leaf_from (H.hashing hasher.now) F.rule range.now.start (bytes_of elements.now)) ts before after parts.now.digests.now v.items) }
-    ensures err { IfErr result (λ e. e ≢ ReconstructionError.OutOfMemory → (ts : List Tree) → peaks.now ≡ map subtree_of ts → AreNodes F.rule F.MAX_LEAVES ts → length parts.now.digests.now ≢ before + after + length (flat_map (siblings (in_range range.now.start range.now.end)) ts)) }
+    ensures ok { let h = H.hashing hasher.now in let c = in_range range.now.start range.now.end in
+        let X = leaf_from h F.rule range.now.start (bytes_of elements.now) in
+        IfOk result (λ v. (ts : List Tree) → peaks.now ≡ map subtree_of ts → AreNodes F.rule F.MAX_LEAVES ts
+        → ArePeakDigests h c X ts before after parts.now.digests.now v.items) }
+    ensures err { let c = in_range range.now.start range.now.end in
+        IfErr result (λ e. e ≢ ReconstructionError.OutOfMemory → (ts : List Tree) → peaks.now ≡ map subtree_of ts → AreNodes F.rule F.MAX_LEAVES ts
+        → length parts.now.digests.now ≢ before + after + length (flat_map (siblings c) ts)) }
 {
     let Some((before, others)) = parts.digests.split_at_checked(before) else {
         return Err(ReconstructionError::MissingDigests);
@@ -177,8 +190,13 @@ fn reconstruct_peaks<F: Family, H: Hasher<F>>(
     requires nodes { (ts : List Tree) × (peaks.now ≡ map subtree_of ts) × AreNodes F.rule F.MAX_LEAVES ts }
     requires some { range.now.start < range.now.end }
     requires all { range.now.end ≤ range.now.start + length elements.now }
-    ensures ok { IfOk result (λ _. (ts : List Tree) → peaks.now ≡ map subtree_of ts → AreNodes F.rule F.MAX_LEAVES ts → ArePeaksWalked (H.hashing hasher.now) (in_range range.now.start range.now.end) (leaf_from (H.hashing hasher.now) F.rule range.now.start (bytes_of elements.now)) ts digests.old.now out.old.items out.new.items digests.new.now) }
-    ensures err { IfErr result (λ e. e ≢ ReconstructionError.OutOfMemory → (ts : List Tree) → peaks.now ≡ map subtree_of ts → AreNodes F.rule F.MAX_LEAVES ts → length digests.old.now < length (flat_map (siblings (in_range range.now.start range.now.end)) ts)) }
+    ensures ok { let h = H.hashing hasher.now in let c = in_range range.now.start range.now.end in
+        let X = leaf_from h F.rule range.now.start (bytes_of elements.now) in
+        IfOk result (λ _. (ts : List Tree) → peaks.now ≡ map subtree_of ts → AreNodes F.rule F.MAX_LEAVES ts
+        → ArePeaksWalked h c X ts digests.old.now out.old.items out.new.items digests.new.now) }
+    ensures err { let c = in_range range.now.start range.now.end in
+        IfErr result (λ e. e ≢ ReconstructionError.OutOfMemory → (ts : List Tree) → peaks.now ≡ map subtree_of ts → AreNodes F.rule F.MAX_LEAVES ts
+        → length digests.old.now < length (flat_map (siblings c) ts)) }
 {
     for peak in peaks {
         let digest = reconstruct_digest(peak, hasher, range, elements, digests)?;

@@ -37,7 +37,9 @@ impl<F: Family> Groups<F> {
     fn put(&mut self, peak: Subtree<F>, range: &Range<Location<F>>) -> Result<(), AllocError>
         requires node { (t : Tree) × Means F.rule F.MAX_LEAVES peak t }
         requires some { range.now.start < range.now.end }
-        ensures { IfOk result (λ _. (done : List Tree) (t : Tree) → Means F.rule F.MAX_LEAVES peak t → (end_leaf t ≤ range.now.start → wholly_after range.now.end done ≡ []) → HoldsGroups range.now.start range.now.end self.old done → HoldsGroups range.now.start range.now.end self.new (done ++ t ∷ [])) }
+        ensures { IfOk result (λ _. (done : List Tree) (t : Tree) → Means F.rule F.MAX_LEAVES peak t
+            → (end_leaf t ≤ range.now.start → wholly_after range.now.end done ≡ [])
+            → HoldsGroups range.now.start range.now.end self.old done → HoldsGroups range.now.start range.now.end self.new (done ++ t ∷ [])) }
     {
         if peak.leaf_end() <= range.start {
             self.outside.push(peak.position)?;
@@ -119,7 +121,8 @@ impl<F: Family> Groups<F> {
     ) -> Result<Vec<Position<F>>, AllocError>
         requires some { range.now.start < range.now.end }
         requires groups { (n : ℕ) × (n ≤ F.MAX_LEAVES) × HoldsGroups range.now.start range.now.end self (peaks_of F.rule n) }
-        ensures { IfOk result (λ v. (n : ℕ) → n ≤ F.MAX_LEAVES → HoldsGroups range.now.start range.now.end self (peaks_of F.rule n) → v.items ≡ map position (nodes_read F.rule n range.now.start range.now.end)) }
+        ensures { IfOk result (λ v. (n : ℕ) → n ≤ F.MAX_LEAVES → HoldsGroups range.now.start range.now.end self (peaks_of F.rule n)
+            → v.items ≡ map position (nodes_read F.rule n range.now.start range.now.end)) }
     {
         let mut reads = self.outside;
         append_siblings(&self.overlapping, range, &mut reads)?;

@@ -114,13 +114,13 @@ impl<F: Family> RangePlan<F> {
         let outside = self.before + self.after;
         let reads = &self.reads;
         let digests = read_digests(
+            *reads.allocator(),
             hasher,
             &reads[..prefix],
             &reads[prefix..alone],
             &reads[alone..outside],
             &reads[outside..],
             &get_node,
-            *reads.allocator(),
         );
         match digests {
             Ok(digests) => Ok(Proof {

@@ -61,7 +61,8 @@ fn read_folded<F: Family, H: Hasher<F>, G: Fn(Position<F>) -> Option<H::Digest>>
 ) -> Result<(), Missing<F>>
     requires callable { G.IsAlwaysCallable get_node.now }
     requires room { vec_len out.old + min (length positions.now) 1 ≤ vec_capacity out.old }
-    ensures ok { IfOk result (λ _. (ds : List H.Digest) × AreAnswered (G.post get_node.now) positions.now ds × (out.new.items ≡ out.old.items ++ option_to_list (folded (H.hashing hasher.now).fold ForwardFold 0 ds))) }
+    ensures ok { IfOk result (λ _. (ds : List H.Digest) × AreAnswered (G.post get_node.now) positions.now ds
+        × (out.new.items ≡ out.old.items ++ option_to_list (folded (H.hashing hasher.now).fold ForwardFold 0 ds))) }
     ensures room { IfOk result (λ _. (vec_len out.new ≡ vec_len out.old + min (length positions.now) 1) × (vec_capacity out.new ≡ vec_capacity out.old)) }
     ensures err { IfErr result (λ e. IsFirstMissing (G.post get_node.now) positions.now e.position) }
 {
@@ -93,7 +94,8 @@ fn read_bagged<F: Family, H: Hasher<F>, G: Fn(Position<F>) -> Option<H::Digest>>
 ) -> Result<(), Missing<F>>
     requires callable { G.IsAlwaysCallable get_node.now }
     requires room { vec_len out.old + min (length positions.now) 1 ≤ vec_capacity out.old }
-    ensures ok { IfOk result (λ _. (ds : List H.Digest) × AreAnswered (G.post get_node.now) positions.now ds × (out.new.items ≡ out.old.items ++ option_to_list (bag (H.hashing hasher.now).fold ds))) }
+    ensures ok { IfOk result (λ _. (ds : List H.Digest) × AreAnswered (G.post get_node.now) positions.now ds
+        × (out.new.items ≡ out.old.items ++ option_to_list (bag (H.hashing hasher.now).fold ds))) }
     ensures room { IfOk result (λ _. (vec_len out.new ≡ vec_len out.old + min (length positions.now) 1) × (vec_capacity out.new ≡ vec_capacity out.old)) }
     ensures err { IfErr result (λ e. IsFirstMissing (G.post get_node.now) (reverse positions.now) e.position) }
 {
@@ -121,18 +123,19 @@ fn read_bagged<F: Family, H: Hasher<F>, G: Fn(Position<F>) -> Option<H::Digest>>
 ///
 /// They are read in this order, the suffix from its last position on.
 pub(crate) fn read_digests<F: Family, H: Hasher<F>, G: Fn(Position<F>) -> Option<H::Digest>>(
+    alloc: Global,
     hasher: &H,
     prefix: &[Position<F>],
     single: &[Position<F>],
     suffix: &[Position<F>],
     siblings: &[Position<F>],
     get_node: &G,
-    alloc: Global,
 ) -> Result<Vec<H::Digest>, Error<F>>
     requires callable { G.IsAlwaysCallable get_node.now }
     requires few { length prefix.now + length single.now + length suffix.now + length siblings.now < 2 ^ 64 }
     ensures ok { IfOk result (λ v. IsLaidOut (H.hashing hasher.now).fold (G.post get_node.now) prefix.now single.now suffix.now siblings.now v.items) }
-    ensures err { IfErr result (λ e. e ≢ Error.OutOfMemory → (p : ℕ) × (e ≡ Error.ElementPruned p) × IsFirstMissing (G.post get_node.now) (prefix.now ++ (single.now ++ (reverse suffix.now ++ siblings.now))) p) }
+    ensures err { IfErr result (λ e. e ≢ Error.OutOfMemory → (p : ℕ) × (e ≡ Error.ElementPruned p)
+        × IsFirstMissing (G.post get_node.now) (prefix.now ++ (single.now ++ (reverse suffix.now ++ siblings.now))) p) }
 {
     let count = prefix.len().min(1) + single.len() + suffix.len().min(1) + siblings.len();
     let mut digests = Vec::with_capacity(alloc, count)?;
