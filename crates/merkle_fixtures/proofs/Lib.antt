@@ -1,0 +1,2 @@
+pub mod FlatFacts
+pub mod PairFacts

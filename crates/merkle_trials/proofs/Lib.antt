@@ -1,3 +1,0 @@
-pub mod FlatFacts
-pub mod PairFacts
-pub mod PathCases

@@ -1,6 +1,0 @@
-use Rattle.std.proofs.Common.{sym}
-use Rattle.merkle_trials.proofs.FlatFacts.{flat_height}
-use Rattle.merkle_trials.proofs.flat.FamilyFamily.pos_to_height.Goals as goal
-
-pub returns : goal.returns
-returns c = λ n t e. sym (flat_height n c.args.position t e)

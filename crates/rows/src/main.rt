@@ -1,0 +1,37 @@
+//! The program `rows`: calls of Merkle structures on standard input, each answered beside itself.
+//!
+//! A line is a call: its words, with one space between each two. It is written again with its answer after an arrow. An empty
+//! line, and one that begins with `#`, is written as it is. So what is read and what is written stand line by line, and
+//! rows of worked values can be read as data. `docs/ROWS.md` lists the calls.
+#![tactic(auto)]
+
+mod batches;
+mod checks;
+mod families;
+mod proofs;
+mod refusal;
+mod session;
+mod structures;
+mod texts;
+mod words;
+mod world;
+
+use crate::session::Session;
+use std::io;
+
+fn main(rt: HostRuntime) -> io::Result<()> {
+    let mut session = Session::new(rt.alloc());
+    for line in rt.lines(rt.alloc()) {
+        let line = line?;
+        let line = line.as_str();
+        if line.is_empty() || line.starts_with('#') {
+            println!(rt; "{line}")?;
+        } else {
+            match session.answer(line) {
+                Ok(answer) => println!(rt; "{line} -> {answer}")?,
+                Err(refusal) => println!(rt; "{line} -> {refusal}")?,
+            }
+        }
+    }
+    Ok(())
+}

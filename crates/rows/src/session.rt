@@ -1,0 +1,219 @@
+//! The families and the hashers that the lines are about.
+
+use crate::refusal::{Refusal, SYNTAX};
+use crate::texts::done;
+use crate::words::bytes;
+use crate::world::World;
+use merkle_core::digest::{Sha256Plain, Xor8};
+use merkle_core::family::{Bagging, Family};
+use merkle_core::hasher::Standard;
+use merkle_core::{mmb, mmr};
+use merkle_fixtures::keyed::Keyed;
+use merkle_fixtures::{flat, pairs};
+use std::alloc::Global;
+
+#[derive(Clone, Copy)]
+enum FamilyName {
+    Mmr,
+    Mmb,
+    Flat,
+    Pairs,
+}
+
+const FAMILIES: [(&str, FamilyName); 4] = [
+    ("mmr", FamilyName::Mmr),
+    ("mmb", FamilyName::Mmb),
+    ("flat", FamilyName::Flat),
+    ("pairs", FamilyName::Pairs),
+];
+
+const BAGGINGS: [(&str, Bagging); 2] = [
+    ("forward", Bagging::ForwardFold),
+    ("backward", Bagging::BackwardFold),
+];
+
+#[derive(Clone, Copy)]
+enum HashName {
+    Sha256,
+    Xor8,
+    Keyed,
+}
+
+const HASHES: [(&str, HashName); 3] = [
+    ("sha256", HashName::Sha256),
+    ("xor8", HashName::Xor8),
+    ("keyed", HashName::Keyed),
+];
+
+// The key where the line has none.
+const KEY: u8 = 0x5a;
+
+// Whether a word stands for that name.
+fn is_meant(word: &str, name: &str) -> bool {
+    word == name || word == "*"
+}
+
+// The word of the hash, and the key.
+fn read_hash<'a>(alloc: Global, words: &[&'a str]) -> Result<(&'a str, u8), Refusal> {
+    match *words {
+        [hash] => Ok((hash, KEY)),
+        ["keyed", key] => match bytes(alloc, key)?.as_slice() {
+            [key] => Ok(("keyed", *key)),
+            _ => Err(SYNTAX),
+        },
+        _ => Err(SYNTAX),
+    }
+}
+
+/// What the lines so far have made in one family, by the hasher.
+#[derive(Drop)]
+enum Hashed<F: Family> {
+    Sha256(World<F, Standard<Sha256Plain>>),
+    Xor8(World<F, Standard<Xor8>>),
+    Keyed(World<F, Keyed>),
+}
+
+impl<F: Family> Hashed<F> {
+    fn new(alloc: Global, bagging: Bagging, hash: HashName, key: u8) -> Self {
+        match hash {
+            HashName::Sha256 => Hashed::Sha256(World::new(alloc, Standard::new(bagging))),
+            HashName::Xor8 => Hashed::Xor8(World::new(alloc, Standard::new(bagging))),
+            HashName::Keyed => Hashed::Keyed(World::new(alloc, Keyed::new(key, bagging))),
+        }
+    }
+
+    fn answer(&mut self, words: &[&str]) -> Result<String, Refusal> {
+        match self {
+            Hashed::Sha256(world) => world.answer(words),
+            Hashed::Xor8(world) => world.answer(words),
+            Hashed::Keyed(world) => world.answer(words),
+        }
+    }
+}
+
+/// What the lines so far have made, by the family.
+#[derive(Drop)]
+enum Familiar {
+    Mmr(Hashed<mmr::Family>),
+    Mmb(Hashed<mmb::Family>),
+    Flat(Hashed<flat::Family>),
+    Pairs(Hashed<pairs::Family>),
+}
+
+impl Familiar {
+    fn new(alloc: Global, family: FamilyName, bagging: Bagging, hash: HashName, key: u8) -> Self {
+        match family {
+            FamilyName::Mmr => Familiar::Mmr(Hashed::new(alloc, bagging, hash, key)),
+            FamilyName::Mmb => Familiar::Mmb(Hashed::new(alloc, bagging, hash, key)),
+            FamilyName::Flat => Familiar::Flat(Hashed::new(alloc, bagging, hash, key)),
+            FamilyName::Pairs => Familiar::Pairs(Hashed::new(alloc, bagging, hash, key)),
+        }
+    }
+
+    fn answer(&mut self, words: &[&str]) -> Result<String, Refusal> {
+        match self {
+            Familiar::Mmr(hashed) => hashed.answer(words),
+            Familiar::Mmb(hashed) => hashed.answer(words),
+            Familiar::Flat(hashed) => hashed.answer(words),
+            Familiar::Pairs(hashed) => hashed.answer(words),
+        }
+    }
+}
+
+// Whether two answers are the same.
+fn is_same(answer: &Result<String, Refusal>, other: &Result<String, Refusal>) -> bool {
+    match (answer, other) {
+        (Ok(answer), Ok(other)) => answer.as_str() == other.as_str(),
+        (Err(answer), Err(other)) => answer == other,
+        _ => false,
+    }
+}
+
+/// What the lines so far have made, in each family and with each hasher that the last `new` named.
+#[derive(Drop)]
+pub struct Session {
+    alloc: Global,
+    all: Vec<Familiar>,
+}
+
+impl Session {
+    /// Nothing, of no family.
+    pub fn new(alloc: Global) -> Self {
+        Session {
+            alloc,
+            all: Vec::new(alloc),
+        }
+    }
+
+    // Begins anew, in each family and with each hasher that is meant.
+    fn open(&mut self, family: &str, bagging: &str, hash: &[&str]) -> Result<String, Refusal> {
+        let (hash, key) = read_hash(self.alloc, hash)?;
+        self.all.clear();
+        for (name, bagging_meant) in BAGGINGS {
+            if is_meant(bagging, name) {
+                self.open_hashes(family, bagging_meant, hash, key)?;
+            }
+        }
+        if self.all.is_empty() {
+            return Err(SYNTAX);
+        }
+        done(self.alloc)
+    }
+
+    fn open_hashes(
+        &mut self,
+        family: &str,
+        bagging: Bagging,
+        hash: &str,
+        key: u8,
+    ) -> Result<(), Refusal> {
+        for (name, hash_meant) in HASHES {
+            if is_meant(hash, name) {
+                self.open_families(family, bagging, hash_meant, key)?;
+            }
+        }
+        Ok(())
+    }
+
+    fn open_families(
+        &mut self,
+        family: &str,
+        bagging: Bagging,
+        hash: HashName,
+        key: u8,
+    ) -> Result<(), Refusal> {
+        for (name, family_meant) in FAMILIES {
+            if is_meant(family, name) {
+                let opened = Familiar::new(self.alloc, family_meant, bagging, hash, key);
+                self.all.push(opened)?;
+            }
+        }
+        Ok(())
+    }
+
+    // Does what a call says in each family and with each hasher. The answers are to be the same.
+    fn answer_all(&mut self, words: &[&str]) -> Result<String, Refusal> {
+        let Some((first, others)) = self.all.split_first_mut() else {
+            return Err(SYNTAX);
+        };
+        let answer = first.answer(words);
+        let mut is_agreed = true;
+        for other in others {
+            is_agreed &= is_same(&answer, &other.answer(words));
+        }
+        if is_agreed {
+            answer
+        } else {
+            Err(Refusal::Plain("differ"))
+        }
+    }
+
+    /// Does what a line says, and answers it.
+    pub fn answer(&mut self, line: &str) -> Result<String, Refusal> {
+        let words: Vec<&str> = line.split(' ').collect(self.alloc)?;
+        match *words.as_slice() {
+            ["new", family, bagging, ref hash @ ..] => self.open(family, bagging, hash),
+            _ => self.answer_all(words.as_slice()),
+        }
+    }
+}

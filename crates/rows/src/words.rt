@@ -1,0 +1,103 @@
+//! Words as numbers, bytes, digests and lists of them.
+
+use crate::refusal::{Refusal, SYNTAX, UNKNOWN};
+use merkle_core::digest::Digest;
+use std::alloc::Global;
+use std::collections::HashMap;
+
+/// The number that the word is in decimal digits.
+pub fn number(word: &str) -> Result<u64, Refusal> {
+    word.parse::<u64>().ok().ok_or(SYNTAX)
+}
+
+/// The count that the word is in decimal digits.
+pub fn count(word: &str) -> Result<usize, Refusal> {
+    usize::try_from(number(word)?).ok().ok_or(SYNTAX)
+}
+
+/// The bytes with these hexadecimal digits.
+pub fn bytes(alloc: Global, word: &str) -> Result<Vec<u8>, Refusal> {
+    hex::decode(alloc, word).ok().ok_or(SYNTAX)
+}
+
+/// The digest with these hexadecimal digits.
+pub fn digest<D: Digest>(alloc: Global, word: &str) -> Result<D, Refusal> {
+    let spelling = bytes(alloc, word)?;
+    D::from_bytes(spelling.as_slice()).ok_or(SYNTAX)
+}
+
+// The item, and how often it stands in its list.
+fn repeated(item: &str) -> Result<(&str, u64), Refusal> {
+    match item.split_once('*') {
+        None => Ok((item, 1)),
+        Some((item, count)) => Ok((item, number(count)?)),
+    }
+}
+
+/// The elements of a list.
+pub fn elements(alloc: Global, word: &str) -> Result<Vec<Vec<u8>>, Refusal> {
+    let mut all = Vec::new(alloc);
+    if word != "-" {
+        for item in word.split(',') {
+            push_elements(alloc, &mut all, item)?;
+        }
+    }
+    Ok(all)
+}
+
+fn push_elements(alloc: Global, all: &mut Vec<Vec<u8>>, item: &str) -> Result<(), Refusal> {
+    let (item, count) = repeated(item)?;
+    for _ in 0..count {
+        all.push(bytes(alloc, item)?)?;
+    }
+    Ok(())
+}
+
+/// The digests of a list.
+pub fn digests<D: Digest>(alloc: Global, word: &str) -> Result<Vec<D>, Refusal> {
+    let mut all = Vec::new(alloc);
+    if word != "-" {
+        for item in word.split(',') {
+            push_digests(alloc, &mut all, item)?;
+        }
+    }
+    Ok(all)
+}
+
+fn push_digests<D: Digest>(alloc: Global, all: &mut Vec<D>, item: &str) -> Result<(), Refusal> {
+    let (item, count) = repeated(item)?;
+    let digest = digest(alloc, item)?;
+    for _ in 0..count {
+        all.push(digest)?;
+    }
+    Ok(())
+}
+
+/// The numbers of a list, each with its bytes.
+pub fn located(alloc: Global, word: &str) -> Result<Vec<(u64, Vec<u8>)>, Refusal> {
+    let mut all = Vec::new(alloc);
+    if word != "-" {
+        for item in word.split(',') {
+            let (leaf, spelling) = item.split_once(':').ok_or(SYNTAX)?;
+            all.push((number(leaf)?, bytes(alloc, spelling)?))?;
+        }
+    }
+    Ok(all)
+}
+
+/// What has that name.
+pub fn named<'a, T>(table: &'a HashMap<String, T>, name: &str) -> Result<&'a T, Refusal> {
+    table.get(name).ok_or(UNKNOWN)
+}
+
+/// Gives a value that name, in place of what had it.
+pub fn give_name<T: Drop>(
+    alloc: Global,
+    table: &mut HashMap<String, T>,
+    name: &str,
+    value: T,
+) -> Result<(), Refusal> {
+    let name = String::from_str(alloc, name)?;
+    table.insert(name, value)?;
+    Ok(())
+}
