@@ -11,34 +11,36 @@ use merkle_core::hasher::Hasher;
 use merkle_core::location::Location;
 
 impl<F: Family, H: Hasher<F> + Drop> World<F, H> {
-    // Answers a call that makes or applies a batch, or else passes it on.
-    pub fn answer_batches(&mut self, words: &[&str]) -> Result<String, Refusal> {
+    // Answers a call that makes or applies a batch.
+    pub fn answer_batches(&mut self, words: &[&str]) -> Option<Result<String, Refusal>> {
         match *words {
-            ["fork", name, structure] => self.fork(name, structure),
-            ["child", name, parent] => self.child(name, parent),
-            ["from_mem", name, structure] => self.from_mem(name, structure),
-            ["merkleize", name, base] => self.merkleize(name, base),
-            ["apply", name, structure] => self.apply(name, structure),
-            ["base", name] => self.base(name),
-            ["pending", name] => self.pending(name),
-            _ => self.answer_drafts(words),
+            ["fork", name, structure] => Some(self.fork(name, structure)),
+            ["child", name, parent] => Some(self.child(name, parent)),
+            ["from_mem", name, structure] => Some(self.from_mem(name, structure)),
+            ["merkleize", name, base] => Some(self.merkleize(name, base)),
+            ["apply", name, structure] => Some(self.apply(name, structure)),
+            ["base", name] => Some(self.base(name)),
+            ["pending", name] => Some(self.pending(name)),
+            _ => None,
         }
     }
 
-    // Answers a call that changes a batch, or else passes it on.
-    fn answer_drafts(&mut self, words: &[&str]) -> Result<String, Refusal> {
+    // Answers a call that changes a batch.
+    pub fn answer_drafts(&mut self, words: &[&str]) -> Option<Result<String, Refusal>> {
         match *words {
-            ["add", name, elements] => self.add(name, elements),
-            ["add_numbers", name, count] => self.add_numbers(name, count),
-            ["add_digest", name, digest] => self.add_digest(name, digest),
-            ["add_digests", name, digests] => self.add_digests(name, digests),
-            ["add_list", name, elements] => self.add_list(name, elements),
-            ["update", name, location, element] => self.update(name, location, element),
-            ["update_digest", name, location, digest] => self.update_digest(name, location, digest),
-            ["update_list", name, list] => self.update_list(name, list),
-            ["update_digests", name, list] => self.update_digests(name, list),
-            ["forget", name, count] => self.forget(name, count),
-            _ => self.answer_proofs(words),
+            ["add", name, elements] => Some(self.add(name, elements)),
+            ["add_numbers", name, count] => Some(self.add_numbers(name, count)),
+            ["add_digest", name, digest] => Some(self.add_digest(name, digest)),
+            ["add_digests", name, digests] => Some(self.add_digests(name, digests)),
+            ["add_list", name, elements] => Some(self.add_list(name, elements)),
+            ["update", name, location, element] => Some(self.update(name, location, element)),
+            ["update_digest", name, location, digest] => Some(self.update_digest(
+                name, location, digest,
+            )),
+            ["update_list", name, list] => Some(self.update_list(name, list)),
+            ["update_digests", name, list] => Some(self.update_digests(name, list)),
+            ["forget", name, count] => Some(self.forget(name, count)),
+            _ => None,
         }
     }
 
@@ -57,7 +59,7 @@ impl<F: Family, H: Hasher<F> + Drop> World<F, H> {
         done(self.alloc)
     }
 
-    fn fork(&mut self, name: &str, structure: &str) -> Result<String, Refusal> {
+    pub fn fork(&mut self, name: &str, structure: &str) -> Result<String, Refusal> {
         let draft = granted!(named(&self.structures, structure)?.new_batch());
         self.keep_draft(name, draft)
     }
@@ -73,7 +75,7 @@ impl<F: Family, H: Hasher<F> + Drop> World<F, H> {
         done(self.alloc)
     }
 
-    fn merkleize(&mut self, name: &str, base: &str) -> Result<String, Refusal> {
+    pub fn merkleize(&mut self, name: &str, base: &str) -> Result<String, Refusal> {
         let draft = self.take_draft(name)?;
         let base = named(&self.structures, base)?;
         let batch = granted!(draft.merkleize(base, &self.hasher));
@@ -81,7 +83,7 @@ impl<F: Family, H: Hasher<F> + Drop> World<F, H> {
         done(self.alloc)
     }
 
-    fn apply(&mut self, name: &str, structure: &str) -> Result<String, Refusal> {
+    pub fn apply(&mut self, name: &str, structure: &str) -> Result<String, Refusal> {
         let batch = named(&self.batches, name)?;
         let structure = self.structures.get_mut(structure).ok_or(UNKNOWN)?;
         granted!(structure.apply_batch(batch));
@@ -101,7 +103,7 @@ impl<F: Family, H: Hasher<F> + Drop> World<F, H> {
         decimal(self.alloc, named(&self.drafts, name)?.leaves().as_u64())
     }
 
-    fn add(&mut self, name: &str, list: &str) -> Result<String, Refusal> {
+    pub fn add(&mut self, name: &str, list: &str) -> Result<String, Refusal> {
         let elements = elements(self.alloc, list)?;
         let mut draft = self.take_draft(name)?;
         for element in elements.iter() {

@@ -13,13 +13,15 @@ use merkle_core::mem::Mem;
 use std::alloc::Global;
 
 impl<F: Family, H: Hasher<F> + Drop> World<F, H> {
-    // Answers a call that checks all of a structure, or else passes it on.
-    pub fn answer_checks(&mut self, words: &[&str]) -> Result<String, Refusal> {
+    // Answers a call that checks all of a structure.
+    pub fn answer_checks(&mut self, words: &[&str]) -> Option<Result<String, Refusal>> {
         match *words {
-            ["prove", name, leaf, element, inactive] => self.prove(name, leaf, element, inactive),
-            ["prove_leaves", name, elements] => self.prove_leaves(name, elements),
-            ["prove_ranges", name, elements] => self.prove_ranges(name, elements),
-            _ => self.answer_families(words),
+            ["prove", name, leaf, element, inactive] => Some(self.prove(
+                name, leaf, element, inactive,
+            )),
+            ["prove_leaves", name, elements] => Some(self.prove_leaves(name, elements)),
+            ["prove_ranges", name, elements] => Some(self.prove_ranges(name, elements)),
+            _ => None,
         }
     }
 

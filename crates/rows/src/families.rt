@@ -1,7 +1,7 @@
 //! Calls of the family alone.
 ghost use Rattle.std.specs.Prelude.{◌≤◌, IfOk};
 
-use crate::refusal::{Refusal, SYNTAX};
+use crate::refusal::Refusal;
 use crate::texts::{self, answer_of, decimal};
 use crate::words::{count, number};
 use crate::world::World;
@@ -13,17 +13,17 @@ use merkle_core::proof::Proof;
 
 impl<F: Family, H: Hasher<F> + Drop> World<F, H> {
     // Answers a call of the family.
-    pub fn answer_families(&self, words: &[&str]) -> Result<String, Refusal> {
+    pub fn answer_families(&self, words: &[&str]) -> Option<Result<String, Refusal>> {
         match *words {
-            ["position", leaf] => self.position(leaf),
-            ["location", node] => self.location(node),
-            ["is_size", nodes] => self.is_size(nodes),
-            ["nearest_size", nodes] => self.nearest_size(nodes),
-            ["height", node] => self.height(node),
-            ["pins", leaves] => self.pins(leaves),
-            ["inactive", leaves, floor] => self.inactive(leaves, floor),
-            ["is_inactive", count, leaves, floor] => self.is_inactive(count, leaves, floor),
-            _ => Err(SYNTAX),
+            ["position", leaf] => Some(self.position(leaf)),
+            ["location", node] => Some(self.location(node)),
+            ["is_size", nodes] => Some(self.is_size(nodes)),
+            ["nearest_size", nodes] => Some(self.nearest_size(nodes)),
+            ["height", node] => Some(self.height(node)),
+            ["pins", leaves] => Some(self.pins(leaves)),
+            ["inactive", leaves, floor] => Some(self.inactive(leaves, floor)),
+            ["is_inactive", count, leaves, floor] => Some(self.is_inactive(count, leaves, floor)),
+            _ => None,
         }
     }
 

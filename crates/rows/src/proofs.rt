@@ -14,22 +14,22 @@ use merkle_proof::range_plan::RangePlan;
 use std::alloc::Global;
 
 impl<F: Family, H: Hasher<F> + Drop> World<F, H> {
-    // Answers a call of proofs, or else passes it on.
-    pub fn answer_proofs(&mut self, words: &[&str]) -> Result<String, Refusal> {
+    // Answers a call of proofs.
+    pub fn answer_proofs(&mut self, words: &[&str]) -> Option<Result<String, Refusal>> {
         match *words {
-            ["proof", name, leaf, inactive] => self.proof(name, leaf, inactive),
-            ["range", name, start, end, inactive] => self.range(name, start, end, inactive),
-            ["plan", leaves, start, end] => self.plan(leaves, start, end),
-            ["plan", leaves, start, end, inactive, above] => {
-                self.plan_above(leaves, start, end, inactive, above)
-            }
-            ["check", leaves, inactive, digests, start, elements, root] => {
-                self.check(leaves, inactive, digests, start, elements, root)
-            }
-            ["check_leaf", leaves, inactive, digests, leaf, element, root] => {
-                self.check_leaf(leaves, inactive, digests, leaf, element, root)
-            }
-            _ => self.answer_checks(words),
+            ["proof", name, leaf, inactive] => Some(self.proof(name, leaf, inactive)),
+            ["range", name, start, end, inactive] => Some(self.range(name, start, end, inactive)),
+            ["plan", leaves, start, end] => Some(self.plan(leaves, start, end)),
+            ["plan", leaves, start, end, inactive, above] => Some(self.plan_above(
+                leaves, start, end, inactive, above,
+            )),
+            ["check", leaves, inactive, digests, start, elements, root] => Some(self.check(
+                leaves, inactive, digests, start, elements, root,
+            )),
+            ["check_leaf", leaves, inactive, digests, leaf, element, root] => Some(self.check_leaf(
+                leaves, inactive, digests, leaf, element, root,
+            )),
+            _ => None,
         }
     }
 

@@ -2,7 +2,7 @@
 
 use crate::refusal::{Refusal, UNKNOWN, granted, refused};
 use crate::texts::{self, answer_of, decimal, done, hexadecimal};
-use crate::words::{count, digests, elements, give_name, named, number};
+use crate::words::{count, digests, give_name, named, number};
 use crate::world::{MOST_PEAKS, World};
 use merkle_core::family::Family;
 use merkle_core::hasher::Hasher;
@@ -11,32 +11,32 @@ use merkle_core::mem::Mem;
 use merkle_core::position::Position;
 
 impl<F: Family, H: Hasher<F> + Drop> World<F, H> {
-    // Answers a call of structures, or else passes it on.
-    pub fn answer_structures(&mut self, words: &[&str]) -> Result<String, Refusal> {
+    // Answers a call of structures.
+    pub fn answer_structures(&mut self, words: &[&str]) -> Option<Result<String, Refusal>> {
         match *words {
-            ["empty", name] => self.open(name),
-            ["build", name, elements] => self.build(name, elements),
-            ["copy", name, source] => self.copy(name, source),
-            ["parts", name, boundary, nodes, pins] => self.parts(name, boundary, nodes, pins),
-            ["prune", name, location] => self.prune(name, location),
-            ["prune_all", name] => self.prune_all(name),
-            ["same", name, other] => self.same(name, other),
-            ["same_roots", name, other] => self.same_roots(name, other),
-            _ => self.answer_questions(words),
+            ["empty", name] => Some(self.open(name)),
+            ["build", name, elements] => Some(self.build(name, elements)),
+            ["copy", name, source] => Some(self.copy(name, source)),
+            ["parts", name, boundary, nodes, pins] => Some(self.parts(name, boundary, nodes, pins)),
+            ["prune", name, location] => Some(self.prune(name, location)),
+            ["prune_all", name] => Some(self.prune_all(name)),
+            ["same", name, other] => Some(self.same(name, other)),
+            ["same_roots", name, other] => Some(self.same_roots(name, other)),
+            _ => None,
         }
     }
 
-    // Answers a call that asks for a part of a structure or a batch, or else passes it on.
-    fn answer_questions(&mut self, words: &[&str]) -> Result<String, Refusal> {
+    // Answers a call that asks for a part of a structure or a batch.
+    pub fn answer_questions(&mut self, words: &[&str]) -> Option<Result<String, Refusal>> {
         match *words {
-            ["bounds", name] => self.bounds(name),
-            ["size", name] => self.size(name),
-            ["leaves", name] => self.leaves(name),
-            ["node", name, position] => self.node(name, position),
-            ["nodes", name] => self.nodes(name),
-            ["peaks", name] => self.peaks(name),
-            ["root", name, inactive] => self.root(name, inactive),
-            _ => self.answer_batches(words),
+            ["bounds", name] => Some(self.bounds(name)),
+            ["size", name] => Some(self.size(name)),
+            ["leaves", name] => Some(self.leaves(name)),
+            ["node", name, position] => Some(self.node(name, position)),
+            ["nodes", name] => Some(self.nodes(name)),
+            ["peaks", name] => Some(self.peaks(name)),
+            ["root", name, inactive] => Some(self.root(name, inactive)),
+            _ => None,
         }
     }
 
@@ -47,16 +47,11 @@ impl<F: Family, H: Hasher<F> + Drop> World<F, H> {
     }
 
     fn build(&mut self, name: &str, list: &str) -> Result<String, Refusal> {
-        let elements = elements(self.alloc, list)?;
-        let mut structure = Mem::new(self.alloc);
-        let mut batch = granted!(structure.new_batch());
-        for element in elements.iter() {
-            batch = granted!(batch.add(&self.hasher, element.as_slice()));
-        }
-        let batch = granted!(batch.merkleize(&structure, &self.hasher));
-        granted!(structure.apply_batch(&batch));
-        give_name(self.alloc, &mut self.structures, name, structure)?;
-        done(self.alloc)
+        self.open(name)?;
+        self.fork(name, name)?;
+        self.add(name, list)?;
+        self.merkleize(name, name)?;
+        self.apply(name, name)
     }
 
     fn copy(&mut self, name: &str, source: &str) -> Result<String, Refusal> {

@@ -1,6 +1,6 @@
 //! The structures and batches of one family and hasher, by their names.
 
-use crate::refusal::Refusal;
+use crate::refusal::{Refusal, SYNTAX};
 use merkle_core::batch::{MerkleizedBatch, UnmerkleizedBatch};
 use merkle_core::family::Family;
 use merkle_core::hasher::Hasher;
@@ -38,6 +38,24 @@ impl<F: Family, H: Hasher<F> + Drop> World<F, H> {
 
     /// Does what a call says, and answers it.
     pub fn answer(&mut self, words: &[&str]) -> Result<String, Refusal> {
-        self.answer_structures(words)
+        if let Some(answer) = self.answer_structures(words) {
+            return answer;
+        }
+        if let Some(answer) = self.answer_questions(words) {
+            return answer;
+        }
+        if let Some(answer) = self.answer_batches(words) {
+            return answer;
+        }
+        if let Some(answer) = self.answer_drafts(words) {
+            return answer;
+        }
+        if let Some(answer) = self.answer_proofs(words) {
+            return answer;
+        }
+        if let Some(answer) = self.answer_checks(words) {
+            return answer;
+        }
+        self.answer_families(words).unwrap_or(Err(SYNTAX))
     }
 }
