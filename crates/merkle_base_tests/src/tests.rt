@@ -44,7 +44,7 @@ fn assert_pins<F: Family>(rt: &impl Abort, location: u64, positions: &[u64]) {
     assert!(rt; location.is_valid());
     let mut wanted = positions.iter();
     for position in F::nodes_to_pin(location) {
-        assert_eq!(rt; wanted.next().copied(), Some(position.as_u64()));
+        assert!(rt; wanted.next().copied() == Some(position.as_u64()));
     }
     assert!(rt; wanted.next().is_none());
 }
@@ -65,7 +65,7 @@ fn assert_chunk<F: Graftable>(
     let mut wanted = peaks.iter();
     for (position, height) in F::chunk_peaks(nodes, chunk_idx, grafting_height) {
         let found = (position.as_u64(), height);
-        assert_eq!(rt; wanted.next().copied(), Some(found));
+        assert!(rt; wanted.next().copied() == Some(found));
     }
     assert!(rt; wanted.next().is_none());
 }
@@ -84,7 +84,7 @@ fn assert_root<F: Graftable>(
 {
     let leaf_start = Location::<F>::new(leaf_start);
     let found = F::subtree_root_position(leaf_start, height);
-    assert_eq!(rt; found.as_u64(), position);
-    assert_eq!(rt; F::leftmost_leaf(found, height), leaf_start);
-    assert_eq!(rt; F::peak_birth_size(found, height), birth);
+    assert!(rt; found.as_u64() == position);
+    assert!(rt; F::leftmost_leaf(found, height) == leaf_start);
+    assert!(rt; F::peak_birth_size(found, height) == birth);
 }

@@ -60,14 +60,14 @@ fn check_spelling<D, C: PendingChunk<D>>(
 ) -> Result<(), Fail> {
     let mut out = vec![in alloc; 9]?;
     chunk.write(&mut out).expect(rt, "written");
-    assert_eq!(rt; out[0], 9);
-    assert_eq!(rt; &out[1..], spelling);
-    assert_eq!(rt; chunk.encode_size(), spelling.len());
+    assert!(rt; out[0] == 9);
+    assert!(rt; &out[1..] == spelling);
+    assert!(rt; chunk.encode_size() == spelling.len());
     out.extend_from_slice(&[1, 2])?;
     let mut input = &out[1..];
     let read = C::read(alloc, &mut input, &()).expect(rt, "read");
     assert!(rt; read == *chunk);
-    assert_eq!(rt; input, [1, 2].as_slice());
+    assert!(rt; input == [1, 2].as_slice());
     Ok(())
 }
 
@@ -94,8 +94,8 @@ fn check_refusal<D: Digest>(
 ) -> Result<(), Fail> {
     let mut input = bytes;
     let shown = format!(in alloc; "{:?}", Option::<D>::read(alloc, &mut input, &()))?;
-    assert_eq!(rt; shown.as_str(), refusal);
-    assert_eq!(rt; input, bytes);
+    assert!(rt; shown.as_str() == refusal);
+    assert!(rt; input == bytes);
     Ok(())
 }
 
@@ -117,10 +117,10 @@ fn refused_options(rt: HostRuntime) -> Result<(), Fail> {
 fn chunks_of_options(rt: HostRuntime) -> Result<(), Fail> {
     let digest = Xor8Digest::from_bytes(&[7]);
     let chunk = Option::<Xor8Digest>::try_from_option(digest).expect(&rt, "a chunk");
-    assert_eq!(rt; chunk, digest);
-    assert_eq!(rt; PendingChunk::as_ref(&chunk).copied(), digest);
+    assert!(rt; chunk == digest);
+    assert!(rt; PendingChunk::as_ref(&chunk).copied() == digest);
     let empty = Option::<Xor8Digest>::try_from_option(None).expect(&rt, "a chunk");
-    assert_eq!(rt; empty, None);
+    assert!(rt; empty == None);
     assert!(rt; PendingChunk::as_ref(&empty).is_none());
     assert!(rt; chunk.clone()? == chunk && chunk != empty);
     Ok(())
@@ -130,13 +130,13 @@ fn chunks_of_options(rt: HostRuntime) -> Result<(), Fail> {
 fn unused_chunks(rt: HostRuntime) -> Result<(), Fail> {
     let digest = Xor8Digest::from_bytes(&[7]);
     let refused = format!(in rt.alloc(); "{:?}", Unused::try_from_option(digest))?;
-    assert_eq!(rt; refused.as_str(), "Err(Invalid)");
+    assert!(rt; refused.as_str() == "Err(Invalid)");
     let chunk = Unused::try_from_option(None::<Xor8Digest>).expect(&rt, "a chunk");
-    assert_eq!(rt; chunk, Unused::default());
+    assert!(rt; chunk == Unused::default());
     assert!(rt; PendingChunk::<Xor8Digest>::as_ref(&chunk).is_none());
     let copy = chunk;
-    assert_eq!(rt; copy, chunk.clone()?);
+    assert!(rt; copy == chunk.clone()?);
     let shown = format!(in rt.alloc(); "{chunk:?}")?;
-    assert_eq!(rt; shown.as_str(), "Unused");
+    assert!(rt; shown.as_str() == "Unused");
     Ok(())
 }

@@ -13,15 +13,15 @@ const OF_ABC: [u8; 32] = [
 fn standard_hashers(rt: HostRuntime) -> Result<(), Fail> {
     for bagging in [Bagging::ForwardFold, Bagging::BackwardFold] {
         let long = Standard::<Sha256Plain>::new(bagging);
-        assert_eq!(rt; long.root_bagging(), bagging);
-        assert_eq!(rt; long.clone()?.root_bagging(), bagging);
-        assert_eq!(rt; long.hash(&[b"a", b"bc"]).as_bytes(), OF_ABC.as_slice());
-        assert_eq!(rt; long.digest(b"abc").as_bytes(), OF_ABC.as_slice());
+        assert!(rt; long.root_bagging() == bagging);
+        assert!(rt; long.clone()?.root_bagging() == bagging);
+        assert!(rt; long.hash(&[b"a", b"bc"]).as_bytes() == OF_ABC.as_slice());
+        assert!(rt; long.digest(b"abc").as_bytes() == OF_ABC.as_slice());
         let short = Standard::<Xor8>::new(bagging);
-        assert_eq!(rt; short.root_bagging(), bagging);
-        assert_eq!(rt; short.hash(&[&[1, 2], &[4]]).as_bytes(), [7].as_slice());
-        assert_eq!(rt; short.digest(&[1, 2, 4]).as_bytes(), [7].as_slice());
-        assert_eq!(rt; short.digest(&[]).as_bytes(), [0].as_slice());
+        assert!(rt; short.root_bagging() == bagging);
+        assert!(rt; short.hash(&[&[1, 2], &[4]]).as_bytes() == [7].as_slice());
+        assert!(rt; short.digest(&[1, 2, 4]).as_bytes() == [7].as_slice());
+        assert!(rt; short.digest(&[]).as_bytes() == [0].as_slice());
     }
     Ok(())
 }

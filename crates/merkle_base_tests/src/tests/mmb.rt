@@ -17,20 +17,20 @@ const OLDEST: (u64, u32) = (6917529027641081792, 61);
 
 #[test]
 fn limits(rt: HostRuntime) {
-    assert_eq!(rt; mmb::Family::DOMAIN, 1);
-    assert_eq!(rt; mmb::Family::MAX_NODES, MAX_NODES);
-    assert_eq!(rt; mmb::Family::MAX_LEAVES, MAX_LEAVES);
+    assert!(rt; mmb::Family::DOMAIN == 1);
+    assert!(rt; mmb::Family::MAX_NODES == MAX_NODES);
+    assert!(rt; mmb::Family::MAX_LEAVES == MAX_LEAVES);
     let location = mmb::Location::new(MAX_LEAVES);
     let found = mmb::Family::location_to_position(location);
-    assert_eq!(rt; found.as_u64(), MAX_NODES);
+    assert!(rt; found.as_u64() == MAX_NODES);
 }
 
 #[test]
 fn marker(rt: HostRuntime) -> Result<(), Fail> {
     let family = mmb::Family::default();
     let copy = family;
-    assert_eq!(rt; copy, family);
-    assert_eq!(rt; format!(in rt.alloc(); "{family:?}")?.as_str(), "Family");
+    assert!(rt; copy == family);
+    assert!(rt; format!(in rt.alloc(); "{family:?}")?.as_str() == "Family");
     Ok(())
 }
 
@@ -104,19 +104,16 @@ fn nearest_sizes(rt: HostRuntime) {
         assert!(rt; nodes.is_valid());
         let found = mmb::Family::to_nearest_size(nodes);
         assert_eq!(rt; found.as_u64(), size, "{nodes}");
-        assert_eq!(rt; PeakIterator::to_nearest_size(nodes), found);
+        assert!(rt; PeakIterator::to_nearest_size(nodes) == found);
     }
 }
 
 #[test]
 fn sums(rt: HostRuntime) {
     let most = mmb::Position::new(MAX_NODES);
-    assert_eq!(rt; mmb::Position::new(u64::MAX).saturating_add(1), most);
-    assert_eq!(rt; most.checked_add(1), None);
-    assert_eq!(rt;
-        mmb::Position::new(MAX_NODES - 10).checked_add(10),
-        Some(most)
-    );
+    assert!(rt; mmb::Position::new(u64::MAX).saturating_add(1) == most);
+    assert!(rt; most.checked_add(1) == None);
+    assert!(rt; mmb::Position::new(MAX_NODES - 10).checked_add(10) == Some(most));
 }
 
 #[test]
@@ -134,14 +131,14 @@ fn peak_counts(rt: HostRuntime) {
     assert!(rt; nodes.is_valid_size());
     let mut peaks = PeakIterator::new(nodes);
     for count in [3, 2, 1, 0] {
-        assert_eq!(rt; peaks.len(), count);
-        assert_eq!(rt; peaks.size_hint(), (count, Some(count)));
-        assert_eq!(rt; peaks.leaves().as_u64(), 11);
-        assert_eq!(rt; peaks.next().is_some(), count > 0);
+        assert!(rt; peaks.len() == count);
+        assert!(rt; peaks.size_hint() == (count, Some(count)));
+        assert!(rt; peaks.leaves().as_u64() == 11);
+        assert!(rt; (peaks.next().is_some()) == (count > 0));
     }
     let mut none = PeakIterator::default();
-    assert_eq!(rt; none.leaves().as_u64(), 0);
-    assert_eq!(rt; none.len(), 0);
+    assert!(rt; none.leaves().as_u64() == 0);
+    assert!(rt; none.len() == 0);
     assert!(rt; none.next().is_none());
 }
 
@@ -151,12 +148,12 @@ fn most_peaks(rt: HostRuntime) {
     let nodes = mmb::Position::new(MAX_NODES);
     assert!(rt; nodes.is_valid_size());
     let mut peaks = mmb::Family::peaks(nodes);
-    assert_eq!(rt; peaks.leaves().as_u64(), MAX_LEAVES);
-    assert_eq!(rt; peaks.len(), 62);
+    assert!(rt; peaks.leaves().as_u64() == MAX_LEAVES);
+    assert!(rt; peaks.len() == 62);
     let (position, height) = OLDEST;
-    assert_eq!(rt; peaks.next(), Some((mmb::Position::new(position), height)));
+    assert!(rt; peaks.next() == Some((mmb::Position::new(position), height)));
     let newest = mmb::Position::new(MAX_NODES - 1);
-    assert_eq!(rt; peaks.last(), Some((newest, 1)));
+    assert!(rt; peaks.last() == Some((newest, 1)));
 }
 
 #[test]
@@ -210,11 +207,11 @@ fn parents(rt: HostRuntime) {
 #[test]
 fn children(rt: HostRuntime) {
     let (left, right) = mmb::Family::children(mmb::Position::new(7), 2);
-    assert_eq!(rt; left.as_u64(), 2);
-    assert_eq!(rt; right.as_u64(), 5);
+    assert!(rt; left.as_u64() == 2);
+    assert!(rt; right.as_u64() == 5);
     let (left, right) = mmb::Family::children(mmb::Position::new(5), 1);
-    assert_eq!(rt; left.as_u64(), 3);
-    assert_eq!(rt; right.as_u64(), 4);
+    assert!(rt; left.as_u64() == 3);
+    assert!(rt; right.as_u64() == 4);
 }
 
 #[test]
@@ -253,9 +250,9 @@ fn greatest_chunk(rt: HostRuntime) {
     let nodes = mmb::Family::location_to_position(mmb::Location::new(MAX_LEAVES));
     let mut peaks = mmb::Family::chunk_peaks(nodes, 0, 62);
     let (position, height) = OLDEST;
-    assert_eq!(rt; peaks.next(), Some((mmb::Position::new(position), height)));
+    assert!(rt; peaks.next() == Some((mmb::Position::new(position), height)));
     let last = mmb::Position::new(MAX_NODES - 31);
-    assert_eq!(rt; peaks.last(), Some((last, 5)));
+    assert!(rt; peaks.last() == Some((last, 5)));
 }
 
 #[test]
