@@ -2,7 +2,6 @@ use merkle_base::digest::{Digest, PlainHasher, Sha256Digest, Sha256Plain, Xor8, 
 use merkle_base::error::{DecodeError, Error, OutOfMemory, ReconstructionError};
 use merkle_base::family::Bagging;
 use merkle_base::location::{Location, LocationRangeExt};
-use merkle_base::number::{Leaves, Nodes, Number};
 use merkle_base::position::Position;
 use std::alloc::Global;
 use std::collections::HashMap;
@@ -63,83 +62,149 @@ fn numbers_as_text(rt: HostRuntime) -> Result<(), Fail> {
 }
 
 #[test]
-fn errors_as_text(rt: HostRuntime) -> Result<(), Fail> {
+fn errors_of_positions_as_text(rt: HostRuntime) -> Result<(), Fail> {
     let position = Position::new(42);
-    let before = Position::new(8);
+    check_text(
+        &rt,
+        rt.alloc(),
+        &Error::<Mark>::NonLeaf(position),
+        "Position(42) is not a leaf",
+    )?;
+    check_text(
+        &rt,
+        rt.alloc(),
+        &Error::<Mark>::PositionOverflow(position),
+        "Position(42) > MAX_NODES",
+    )?;
+    check_text(
+        &rt,
+        rt.alloc(),
+        &Error::<Mark>::ElementPruned(position),
+        "element pruned: Position(42)",
+    )?;
+    check_text(
+        &rt,
+        rt.alloc(),
+        &Error::<Mark>::CompressedDigest(position),
+        "digest hidden behind synthetic accumulator: Position(42)",
+    )?;
+    check_text(
+        &rt,
+        rt.alloc(),
+        &Error::<Mark>::MissingNode(position),
+        "missing node: Position(42)",
+    )?;
+    check_text(
+        &rt,
+        rt.alloc(),
+        &Error::<Mark>::StaleBatch {
+            expected: position,
+            actual: Position::new(8),
+        },
+        "stale batch: no matching chain state (size Position(8), fork size Position(42))",
+    )?;
+    check_text(
+        &rt,
+        rt.alloc(),
+        &Error::<Mark>::AncestorDropped {
+            expected: position,
+            actual: Position::new(8),
+        },
+        "ancestor dropped: expected size Position(42), actual size Position(8)",
+    )?;
+    Ok(())
+}
+
+#[test]
+fn errors_of_locations_as_text(rt: HostRuntime) -> Result<(), Fail> {
     let location = Location::new(7);
-    for (error, text) in [
-        (
-            Error::<Mark>::NonLeaf(position),
-            "Position(42) is not a leaf",
-        ),
-        (
-            Error::PositionOverflow(position),
-            "Position(42) > MAX_NODES",
-        ),
-        (
-            Error::LocationOverflow(location),
-            "Location(7) > MAX_LEAVES",
-        ),
-        (Error::Empty, "range is empty"),
-        (
-            Error::RangeOutOfBounds(location),
-            "range end out of bounds: Location(7)",
-        ),
-        (Error::InvalidSize(5), "invalid size: 5"),
-        (
-            Error::LeafOutOfBounds(location),
-            "leaf location out of bounds: Location(7)",
-        ),
-        (
-            Error::DuplicateLocation(location),
-            "duplicate leaf location: Location(7)",
-        ),
-        (
-            Error::UnsortedLocation(location),
-            "unsorted leaf location: Location(7)",
-        ),
-        (
-            Error::ElementPruned(position),
-            "element pruned: Position(42)",
-        ),
-        (
-            Error::CompressedDigest(position),
-            "digest hidden behind synthetic accumulator: Position(42)",
-        ),
-        (Error::InvalidPinnedNodes, "invalid pinned nodes"),
-        (
-            Error::StaleBatch {
-                expected: position,
-                actual: before,
-            },
-            "stale batch: no matching chain state (size Position(8), fork size Position(42))",
-        ),
-        (
-            Error::AncestorDropped {
-                expected: position,
-                actual: before,
-            },
-            "ancestor dropped: expected size Position(42), actual size Position(8)",
-        ),
-        (Error::InvalidProof, "invalid proof"),
-        (
-            Error::InvalidInactivePeaks {
-                requested: 3,
-                peaks: 2,
-            },
-            "inactive peak count 3 exceeds peak count 2",
-        ),
-        (Error::RootMismatch, "root mismatch"),
-        (Error::MissingNode(position), "missing node: Position(42)"),
-        (Error::DataCorrupted("checksum"), "data corrupted: checksum"),
-        (
-            Error::BitOutOfBounds(9, 8),
-            "bit offset 9 out of bounds (size: 8)",
-        ),
-        (Error::OutOfMemory, "out of memory"),
-    ] {
-        check_text(&rt, rt.alloc(), &error, text)?;
-    }
+    check_text(
+        &rt,
+        rt.alloc(),
+        &Error::<Mark>::LocationOverflow(location),
+        "Location(7) > MAX_LEAVES",
+    )?;
+    check_text(
+        &rt,
+        rt.alloc(),
+        &Error::<Mark>::RangeOutOfBounds(location),
+        "range end out of bounds: Location(7)",
+    )?;
+    check_text(
+        &rt,
+        rt.alloc(),
+        &Error::<Mark>::LeafOutOfBounds(location),
+        "leaf location out of bounds: Location(7)",
+    )?;
+    check_text(
+        &rt,
+        rt.alloc(),
+        &Error::<Mark>::DuplicateLocation(location),
+        "duplicate leaf location: Location(7)",
+    )?;
+    check_text(
+        &rt,
+        rt.alloc(),
+        &Error::<Mark>::UnsortedLocation(location),
+        "unsorted leaf location: Location(7)",
+    )?;
+    Ok(())
+}
+
+#[test]
+fn errors_as_text(rt: HostRuntime) -> Result<(), Fail> {
+    check_text(&rt, rt.alloc(), &Error::<Mark>::Empty, "range is empty")?;
+    check_text(
+        &rt,
+        rt.alloc(),
+        &Error::<Mark>::InvalidSize(5),
+        "invalid size: 5",
+    )?;
+    check_text(
+        &rt,
+        rt.alloc(),
+        &Error::<Mark>::InvalidPinnedNodes,
+        "invalid pinned nodes",
+    )?;
+    check_text(
+        &rt,
+        rt.alloc(),
+        &Error::<Mark>::InvalidProof,
+        "invalid proof",
+    )?;
+    check_text(
+        &rt,
+        rt.alloc(),
+        &Error::<Mark>::InvalidInactivePeaks {
+            requested: 3,
+            peaks: 2,
+        },
+        "inactive peak count 3 exceeds peak count 2",
+    )?;
+    check_text(
+        &rt,
+        rt.alloc(),
+        &Error::<Mark>::RootMismatch,
+        "root mismatch",
+    )?;
+    check_text(
+        &rt,
+        rt.alloc(),
+        &Error::<Mark>::DataCorrupted("checksum"),
+        "data corrupted: checksum",
+    )?;
+    check_text(
+        &rt,
+        rt.alloc(),
+        &Error::<Mark>::BitOutOfBounds(9, 8),
+        "bit offset 9 out of bounds (size: 8)",
+    )?;
+    check_text(
+        &rt,
+        rt.alloc(),
+        &Error::<Mark>::OutOfMemory,
+        "out of memory",
+    )?;
     Ok(())
 }
 
@@ -178,13 +243,16 @@ fn other_errors_as_text(rt: HostRuntime) -> Result<(), Fail> {
     check_text(&rt, rt.alloc(), &OutOfMemory, "out of memory")
 }
 
-/// Asserts sums and differences in a unit.
-fn assert_arithmetic<U>(rt: &impl Abort) {
-    let ten = Number::<Mark, U>::new(10);
-    let three = Number::<Mark, U>::new(3);
-    assert!(rt; (ten + three).as_u64() == 13 && (ten + 5).as_u64() == 15);
-    assert!(rt; (ten - three).as_u64() == 7 && (ten - 10).as_u64() == 0);
-    assert!(rt; ten.checked_sub(10) == Some(Number::new(0)) && ten.checked_sub(11) == None);
+#[test]
+fn position_arithmetic(rt: HostRuntime) {
+    let ten = Position::<Mark>::new(10);
+    let three = Position::<Mark>::new(3);
+    assert!(rt; (ten + three).as_u64() == 13);
+    assert!(rt; (ten + 5).as_u64() == 15);
+    assert!(rt; (ten - three).as_u64() == 7);
+    assert!(rt; (ten - 10).as_u64() == 0);
+    assert!(rt; ten.checked_sub(10) == Some(Position::new(0)));
+    assert!(rt; ten.checked_sub(11) == None);
     assert!(rt; three.saturating_sub(5).as_u64() == 0);
     assert!(rt; ten.saturating_sub(3).as_u64() == 7);
     let mut sum = three;
@@ -195,32 +263,57 @@ fn assert_arithmetic<U>(rt: &impl Abort) {
 }
 
 #[test]
-fn arithmetic(rt: HostRuntime) {
-    assert_arithmetic::<Nodes>(&rt);
-    assert_arithmetic::<Leaves>(&rt);
-    let range = (Location::<Mark>::new(3)..Location::new(10)).to_usize_range();
-    assert!(rt; range.start == 3 && range.end == 10);
+fn location_arithmetic(rt: HostRuntime) {
+    let ten = Location::<Mark>::new(10);
+    let three = Location::<Mark>::new(3);
+    assert!(rt; (ten + three).as_u64() == 13);
+    assert!(rt; (ten + 5).as_u64() == 15);
+    assert!(rt; (ten - three).as_u64() == 7);
+    assert!(rt; (ten - 10).as_u64() == 0);
+    assert!(rt; ten.checked_sub(10) == Some(Location::new(0)));
+    assert!(rt; ten.checked_sub(11) == None);
+    assert!(rt; three.saturating_sub(5).as_u64() == 0);
+    assert!(rt; ten.saturating_sub(3).as_u64() == 7);
+    let mut sum = three;
+    sum += 4;
+    assert!(rt; sum.as_u64() == 7);
+    sum -= 6;
+    assert!(rt; sum.as_u64() == 1);
+    let range = (three..ten).to_usize_range();
+    assert!(rt; range.start == 3);
+    assert!(rt; range.end == 10);
 }
 
-/// Asserts order and hash in a unit.
-fn assert_keys<U>(rt: &impl Abort, alloc: Global) -> Result<(), Fail> {
-    let one = Number::<Mark, U>::from(1_u64);
-    let two = Number::<Mark, U>::from(2_usize);
-    assert!(rt; Number::<Mark, U>::default() < one);
+#[test]
+fn positions_as_keys(rt: HostRuntime) -> Result<(), Fail> {
+    let one = Position::<Mark>::from(1_u64);
+    let two = Position::<Mark>::from(2_usize);
+    assert!(rt; Position::<Mark>::default() < one);
     assert!(rt; two > one && one <= one && two.clone()? == two);
-    assert!(rt; one.max(two) == two && u64::from(two) == 2);
-    let mut numbers = HashMap::new(alloc);
+    assert!(rt; one.max(two) == two);
+    assert!(rt; u64::from(two) == 2);
+    let mut numbers = HashMap::new(rt.alloc());
     numbers.insert(one, 10)?;
     numbers.insert(two, 20)?;
-    assert!(rt; numbers.get(&Number::new(2)).copied() == Some(20));
-    assert!(rt; numbers.get(&Number::new(3)).copied() == None);
+    assert!(rt; numbers.get(&Position::new(2)).copied() == Some(20));
+    assert!(rt; numbers.get(&Position::new(3)).copied() == None);
     Ok(())
 }
 
 #[test]
-fn numbers_as_keys(rt: HostRuntime) -> Result<(), Fail> {
-    assert_keys::<Nodes>(&rt, rt.alloc())?;
-    assert_keys::<Leaves>(&rt, rt.alloc())
+fn locations_as_keys(rt: HostRuntime) -> Result<(), Fail> {
+    let one = Location::<Mark>::from(1_u64);
+    let two = Location::<Mark>::from(2_usize);
+    assert!(rt; Location::<Mark>::default() < one);
+    assert!(rt; two > one && one <= one && two.clone()? == two);
+    assert!(rt; one.max(two) == two);
+    assert!(rt; u64::from(two) == 2);
+    let mut numbers = HashMap::new(rt.alloc());
+    numbers.insert(one, 10)?;
+    numbers.insert(two, 20)?;
+    assert!(rt; numbers.get(&Location::new(2)).copied() == Some(20));
+    assert!(rt; numbers.get(&Location::new(3)).copied() == None);
+    Ok(())
 }
 
 #[test]
