@@ -80,8 +80,9 @@ impl<'a, C: CpuClock> Stopwatch<'a, C> {
         start: Duration,
     ) -> Result<(), Halt> {
         let spent = self.now()?.saturating_sub(start).as_nanos();
-        if let Some(i) = self.place(tree, work) {
-            let row = &mut self.rows[i];
+        if let Some(i) = self.place(tree, work)
+            && let Some(row) = self.rows.get_mut(i)
+        {
             row.least = row.least.min(spent);
             return Ok(());
         }
