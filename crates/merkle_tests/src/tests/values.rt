@@ -81,7 +81,9 @@ fn what_debug_prints(rt: HostRuntime) -> Result<(), Fail> {
     granted!(&rt, structure.apply_batch(&batch));
     let shown = format!(in rt.alloc(); "{structure:?}")?;
     assert!(rt;
-        shown.starts_with("Mem { nodes: [Xor8Digest { byte: 1 }], pins: []"),
+        shown.starts_with(
+            "Mem { held: HeldNodes { start: Position(0), pins: [], nodes: [Xor8Digest { byte: 1 }] }"
+        ),
         "{shown}"
     );
     let batch = granted!(&rt, structure.new_batch());
