@@ -15,3 +15,4 @@ pub mod Verdicts
 pub mod PairsOnce
 pub mod ClearMulti
 pub mod ClearPinned
+pub mod PathSiblings

@@ -12,4 +12,5 @@ pub mod Multiproof
 pub mod Pinned
 pub mod Store
 pub mod Verdict
+pub mod Siblings
 pub mod Rows

@@ -19,7 +19,6 @@ ghost use Rattle.merkle_claim_theory.specs.Multiproof.{HonestMultiIsAccepted, Ac
 ghost use Rattle.merkle_claim_theory.specs.Order.{PlacesInOrder, PlacesOnce};
 ghost use Rattle.merkle_proof.specs.Layouts.{count_before, count_after, count_inactive, laid_out};
 ghost use Rattle.merkle_proof.specs.Outside.{OutsideIsLayout, layout};
-ghost use Rattle.merkle_proof.specs.Path.{PathHasSiblings};
 ghost use Rattle.merkle_claim_theory.specs.Pinned.{HonestPinnedIsAccepted, AcceptedPinnedIsHonest, PinsAreOldPeaks};
 ghost use Rattle.merkle_claim_theory.specs.PinnedClaim.{NoOtherPins};
 ghost use Rattle.merkle_proof.specs.Plan.{folding, full, siblings, whole};
@@ -27,6 +26,7 @@ ghost use Rattle.merkle_proof.specs.Range.{HonestIsAccepted, AcceptedIsHonest, A
 ghost use Rattle.merkle_proof.specs.RangePlans.{reading_order};
 ghost use Rattle.merkle_proof.specs.RootString.{RootStringTellsAll};
 ghost use Rattle.merkle_claim_theory.specs.Rows.{four, seven, single, alone, paired, small, middle, swapped_inputs, list_inputs};
+ghost use Rattle.merkle_claim_theory.specs.Siblings.{PathHasSiblings};
 ghost use Rattle.merkle_claim_theory.specs.Store.{PartIsAccepted, SiblingsAreRead};
 ghost use Rattle.merkle_claim_theory.specs.ThreeLeaves.{ThreeLeaves, xor_hashing, three, plan_of_three};
 ghost use Rattle.merkle_claim_theory.specs.Verdict.{CheckDecides, ExtractsOnce, Verdicts, HonestMultiIsClear, HonestPinnedIsClear};

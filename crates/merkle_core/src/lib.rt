@@ -15,5 +15,5 @@ mod replay;
 
 pub use merkle_base::{codec, digest, error, family, location, position};
 pub use merkle_batch::batch;
-pub use merkle_hasher::{hasher, read};
-pub use merkle_proof::{path, proof};
+pub use merkle_hasher::{hasher, path, read};
+pub use merkle_proof::proof;

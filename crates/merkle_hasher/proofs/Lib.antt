@@ -3,3 +3,4 @@ pub mod Comparisons
 pub mod Spans
 pub mod NodeSteps
 pub mod PeakNodes
+pub mod PathSteps

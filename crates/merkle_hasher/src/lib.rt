@@ -1,6 +1,7 @@
-//! The digests of leaves, nodes and roots, and the nodes of a forest as code carries them.
+//! The digests of leaves, nodes and roots, the nodes of a forest as code carries them, and the paths down to leaves.
 #![tactic(auto)]
 
 pub mod hasher;
+pub mod path;
 pub mod read;
 pub mod subtree;

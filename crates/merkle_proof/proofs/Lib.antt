@@ -21,7 +21,6 @@ pub mod BuiltDigests
 pub mod ListRoots
 pub mod HasherLaws
 pub mod GivenLeaves
-pub mod PathSteps
 pub mod LayoutCounts
 pub mod ReadingOrder
 pub mod ReadRuns

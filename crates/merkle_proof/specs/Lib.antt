@@ -13,4 +13,3 @@ pub mod GroupedPeaks
 pub mod Input
 pub mod RangePlans
 pub mod ListRoot
-pub mod Path

@@ -4,10 +4,9 @@
 mod checks;
 mod groups;
 mod layout;
-pub mod path;
 pub mod proof;
 pub mod range_plan;
 mod reading;
 mod siblings;
 
-pub use merkle_hasher::{hasher, read};
+pub use merkle_hasher::{hasher, path, read};

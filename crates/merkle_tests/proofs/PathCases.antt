@@ -2,7 +2,7 @@
 use Rattle.std.proofs.Common.{◌≡◌, ℕ, ◌<◌, Some, slice_get, refl, arith}
 use Rattle.merkle_base.specs.Tree.{Tree, leaf, join}
 use Rattle.merkle_base.specs.Forest.{forest}
-use Rattle.merkle_proof.specs.Path.{StandsOver}
+use Rattle.merkle_hasher.specs.Path.{StandsOver}
 use Rattle.merkle_forest_theory.specs.Mmr.{carries}
 use Rattle.merkle_forest_theory.specs.Mmb.{newest_pair}
 use Rattle.merkle_fixtures.specs.Pairs.{pairing}

@@ -1,4 +1,4 @@
-use Rattle.merkle_proof.proofs.PathSteps.{path_has_siblings}
+use Rattle.merkle_claim_theory.proofs.PathSiblings.{path_has_siblings}
 use Rattle.merkle_claim_theory.proofs.laws.paths.Goals as goal
 
 pub returns : goal.returns

@@ -1,7 +1,7 @@
 use Rattle.std.proofs.Common.{sym, ap, ◌∙◌, length, arith}
 use Rattle.merkle_hasher.proofs.Comparisons.{lt_yes, lt_no}
-use Rattle.merkle_proof.proofs.PathSteps.{path_ends, inner_over, left_step, right_step}
-use Rattle.merkle_proof.proofs.path.IteratorIterator.next.Goals as goal
+use Rattle.merkle_hasher.proofs.PathSteps.{path_ends, inner_over, left_step, right_step}
+use Rattle.merkle_hasher.proofs.path.IteratorIterator.next.Goals as goal
 
 pub returns-then-node-eq0-clause-steps : goal.returns-then-node-eq0-clause-steps
 returns-then-node-eq0-clause-steps g c = let e = sym c.self.view_is ∙ path_ends _ _ _ _ _ _ c.self.invariant c.if-node-eq0.true in (e, e)

@@ -1,13 +1,13 @@
 //! The path from a node, mostly a peak, down to a leaf.
 ghost use Rattle.std.specs.Prelude.{◌≡◌, length};
 ghost use Rattle.std.specs.Iterator.{YieldsFirst, item_count};
-ghost use Rattle.merkle_proof.specs.Path.{StandsOver, IsPath};
+ghost use Rattle.merkle_hasher.specs.Path.{StandsOver, IsPath};
 
+use crate::subtree::Subtree;
 use merkle_base::family::Family;
 use merkle_base::listed::Listed;
 use merkle_base::location::Location;
 use merkle_base::position::Position;
-use merkle_hasher::subtree::Subtree;
 use std::iter;
 use std::marker::Model;
 
@@ -36,7 +36,7 @@ pub struct Iterator<F: Family> {
 impl<F: Family> Model for Iterator<F> {
     ghost use Rattle.std.specs.Prelude.{ℕ, List, slice_get};
     ghost use Rattle.merkle_base.specs.Forest.{forest};
-    ghost use Rattle.merkle_proof.specs.Path.{path_from, StandsOver};
+    ghost use Rattle.merkle_hasher.specs.Path.{path_from, StandsOver};
 
     ghost Value = { List (ℕ × ℕ × ℕ) };
 

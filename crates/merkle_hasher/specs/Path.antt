@@ -1,10 +1,7 @@
 -- The path from a node down to a leaf.
-use Rattle.std.specs.Prelude.{◌≡◌, ℕ, ◌+◌, ◌<◌, ◌≤◌, cond, nat_lt, List, [], ◌∷◌, map, Option, Some, None, slice_get}
-use Rattle.std.specs.List.Sorted.{IsPermutation}
+use Rattle.std.specs.Prelude.{◌≡◌, ℕ, ◌+◌, ◌<◌, ◌≤◌, cond, nat_lt, List, [], ◌∷◌, Option, Some, None, slice_get}
 use Rattle.merkle_base.specs.Tree.{Tree, leaf, join, position, height, first_leaf, width}
 use Rattle.merkle_base.specs.Forest.{forest}
-use Rattle.merkle_proof.specs.Plan.{siblings}
-use Rattle.merkle_proof.specs.Range.{in_range}
 use Rattle.merkle_hasher.specs.Subtrees.{Stands}
 
 -- the merged nodes from t down to the leaf at location k: the position of each, that of its other child, and its height
@@ -29,8 +26,3 @@ pub record StandsOver (rule : List ℕ → List ℕ) (max_leaves p h s k : ℕ) 
 -- the xs are the path to the leaf at location k from the node at p, in every forest that has it
 abbrev pub IsPath : (List ℕ → List ℕ) → ℕ → ℕ → List (ℕ × ℕ × ℕ) → Type 0
 IsPath rule p k xs = (n : ℕ) (t : Tree) → slice_get (forest rule n).nodes p ≡ Some t → xs ≡ path k t
-
--- the other children on the path to a leaf are the siblings of that leaf, from the top down instead of from left to right
-abbrev pub PathHasSiblings : Type 0
-PathHasSiblings = (rule : List ℕ → List ℕ) (n p k : ℕ) (t : Tree) → slice_get (forest rule n).nodes p ≡ Some t → first_leaf t ≤ k → k < first_leaf t + width t
-    → IsPermutation (map (λ x. x.1) (path k t)) (map position (siblings (in_range k (k + 1)) t))

@@ -1,5 +1,5 @@
-use Rattle.merkle_proof.proofs.PathSteps.{is_path, path_count}
-use Rattle.merkle_proof.proofs.path.Iterator.new.Goals as goal
+use Rattle.merkle_hasher.proofs.PathSteps.{is_path, path_count}
+use Rattle.merkle_hasher.proofs.path.Iterator.new.Goals as goal
 
 pub returns-clause-path : goal.returns-clause-path
 returns-clause-path g c = is_path g.F.Family.rule g.F.Family.MAX_LEAVES c.args.peak_pos c.args.height c.args.first_leaf_loc c.args.target_loc c.requires
