@@ -247,23 +247,39 @@ impl<F: Family, D: Digest> UnmerkleizedBatch<F, D> {
         ensures stands { IfOk result (λ b. (ls : List (List D)) → StandsOn (H.hashing hasher.now) F.rule (records self.parent) ls → AgreesWithOne (H.hashing hasher.now) F.rule (B.contents base.now) (kept_lists self ls) → StandsOn (H.hashing hasher.now) F.rule (records b.value) (kept_lists self ls ++ pending_list F.rule self (last_list ls) ∷ [])) }
         ensures given { (h : Hashing D) → (ls : List (List D)) → StandsOn h F.rule (records self.parent) ls → AgreesWithOne h F.rule (B.contents base.now) (kept_lists self ls) → ((k : ℕ) → is_some (get self.overwritten (size F.rule k)) ≡ true → (B.contents base.now).boundary ≤ k) → IsOkUnless result Error.OutOfMemory }
     {
-        let UnmerkleizedBatch {
-            parent,
-            leaves_before,
-            added,
-            updates,
-            forgotten,
-        } = self;
-        let peaks_before = parent.own.peaks_after.clone()?;
-        let leaves = leaves_before + added.len() as u64;
-        let mut draft = parent.draft(forgotten, leaves)?;
-        draft.refresh_leaves(base, hasher, leaves_before, &updates)?;
-        draft.append_leaves(base, hasher, leaves_before, &added)?;
-        let peaks_after = if added.is_empty() && updates.is_empty() {
+        self.compute(base, hasher)
+    }
+
+    // What `merkleize` answers.
+    fn compute<B: Base<F, Digest = D>, H: Hasher<F, Digest = D>>(
+        &self,
+        base: &B,
+        hasher: &H,
+    ) -> Result<Rc<MerkleizedBatch<F, D>>, Error<F>>
+        ensures fork { IfOk result (λ b. (b.value.base_size ≡ self.now.parent.base_size) × (b.value.boundary ≡ self.now.parent.boundary) × (b.value.ancestors ≡ kept self.now)) }
+        ensures begins { IfOk result (λ b. (b.value.own.before ≡ after self.now.parent.own) × (b.value.own.peaks_before ≡ self.now.parent.own.peaks_after)) }
+        ensures counted { IfOk result (λ b. after b.value.own ≡ size F.rule (leaf_total self.now)) }
+        ensures refused { IfErr result (λ e. (e ≡ Error.OutOfMemory) ⊎ ((t : Tree) × (e ≡ Error.MissingNode (position t)) × IsMissing F.rule self.now (B.contents base.now) t)) }
+        ensures complete { IfOk result (λ _. (t : Tree) → IsMissing F.rule self.now (B.contents base.now) t → ⊥) }
+
+        // Where its parent stands on lists and the base agrees with one that the kept records start from or reach, it stands
+        // on these and on the last of them with its changes.
+        ensures stands { IfOk result (λ b. (ls : List (List D)) → StandsOn (H.hashing hasher.now) F.rule (records self.now.parent) ls → AgreesWithOne (H.hashing hasher.now) F.rule (B.contents base.now) (kept_lists self.now ls) → StandsOn (H.hashing hasher.now) F.rule (records b.value) (kept_lists self.now ls ++ pending_list F.rule self.now (last_list ls) ∷ [])) }
+        ensures given { (h : Hashing D) → (ls : List (List D)) → StandsOn h F.rule (records self.now.parent) ls → AgreesWithOne h F.rule (B.contents base.now) (kept_lists self.now ls) → ((k : ℕ) → is_some (get self.now.overwritten (size F.rule k)) ≡ true → (B.contents base.now).boundary ≤ k) → IsOkUnless result Error.OutOfMemory }
+    {
+        let leaves = self.leaves();
+        let mut draft = self.parent.draft(self.forgotten, leaves)?;
+        draft.refresh_leaves(base, hasher, self.leaves_before, &self.updates)?;
+        draft.append_leaves(base, hasher, self.leaves_before, &self.added)?;
+        let peaks_before = self.parent.own.peaks_after.clone()?;
+        let peaks_after = if self.added.is_empty() && self.updates.is_empty() {
             peaks_before.clone()?
         } else {
             RcSlice::from_vec(draft.read_peaks(base, leaves)?)?
         };
-        Ok(parent.finish(draft, leaves, peaks_before, peaks_after)?)
+        Ok(
+            self.parent
+                .finish(draft, leaves, peaks_before, peaks_after)?,
+        )
     }
 }
