@@ -7,19 +7,72 @@ mod mmb;
 mod mmr;
 mod pending;
 
+use merkle_base::error::Error;
 use merkle_base::family::{Family, Graftable};
 use merkle_base::location::Location;
 use merkle_base::position::Position;
 use std::process::Abort;
 
-/// Whether so many nodes have these peaks at these heights, oldest first.
-fn has_peaks<F: Family>(nodes: u64, peaks: &[(u64, u32)]) -> bool {
-    let nodes = Position::<F>::new(nodes);
-    if !nodes.is_valid_size() {
+/// Asserts the sums around a family's greatest node count, and those of leaf counts.
+fn assert_sums<F: Family>(rt: &impl Abort, max_nodes: u64) {
+    let most = Position::<F>::new(max_nodes);
+    let positions = [
+        Position::<F>::new(u64::MAX).saturating_add(1) == most,
+        most.checked_add(1).is_none(),
+        most.saturating_sub(10).checked_add(10) == Some(most),
+        Position::<F>::new(10).checked_add(5) == Some(Position::new(15)),
+    ];
+    assert!(rt; positions == [true; 4]);
+    let ten = Location::<F>::new(10);
+    let fifteen = Location::<F>::new(15);
+    let locations = [
+        ten.saturating_add(5) == fifteen,
+        ten.checked_add(5) == Some(fifteen),
+        ten.checked_add(u64::MAX).is_none(),
+    ];
+    assert!(rt; locations == [true; 3]);
+}
+
+/// Asserts that no conversion takes a count past the greatest or a position of no leaf.
+fn assert_refusals<F: Family>(
+    rt: &impl Abort,
+    past_leaves: Location<F>,
+    past_nodes: Position<F>,
+    merged: Position<F>,
+) {
+    let found = [
+        matches!(
+            &Position::try_from(past_leaves),
+            Err(Error::LocationOverflow(refused)) if *refused == past_leaves
+        ),
+        matches!(
+            &Location::try_from(past_nodes),
+            Err(Error::PositionOverflow(refused)) if *refused == past_nodes
+        ),
+        matches!(
+            &Location::try_from(merged),
+            Err(Error::NonLeaf(refused)) if *refused == merged
+        ),
+    ];
+    assert!(rt; found == [true; 3]);
+}
+
+/// Whether these are the positions and heights of the maximal nodes inside a chunk of so many leaves, left to right.
+fn has_chunk<F: Graftable>(
+    leaves: u64,
+    chunk_idx: u64,
+    grafting_height: u32,
+    peaks: &[(u64, u32)],
+) -> bool
+    requires { (chunk_idx + 1) * 2 ^ grafting_height ≤ leaves }
+{
+    let leaves = Location::<F>::new(leaves);
+    if !leaves.is_valid() {
         return false;
     }
+    let nodes = F::location_to_position(leaves);
     let mut wanted = peaks.iter();
-    for (position, height) in F::peaks(nodes) {
+    for (position, height) in F::chunk_peaks(nodes, chunk_idx, grafting_height) {
         match wanted.next() {
             Some(peak) if *peak == (position.as_u64(), height) => {}
             _ => return false,
@@ -28,63 +81,16 @@ fn has_peaks<F: Family>(nodes: u64, peaks: &[(u64, u32)]) -> bool {
     wanted.next().is_none()
 }
 
-/// Asserts how many of the oldest peaks of a leaf count have all their leaves below each floor.
-fn assert_inactive<F: Family>(rt: &impl Abort, leaves: u64, rows: &[(u64, usize)]) {
-    let leaves = Location::<F>::new(leaves);
-    assert!(rt; leaves.is_valid());
-    for (floor, count) in rows {
-        let found = F::inactive_peaks(leaves, Location::new(*floor));
-        assert_eq!(rt; found, *count, "{floor}");
-    }
-}
-
-/// Asserts the positions to pin where the leaves before a location are pruned.
-fn assert_pins<F: Family>(rt: &impl Abort, location: u64, positions: &[u64]) {
-    let location = Location::<F>::new(location);
-    assert!(rt; location.is_valid());
-    let mut wanted = positions.iter();
-    for position in F::nodes_to_pin(location) {
-        assert!(rt; wanted.next().copied() == Some(position.as_u64()));
-    }
-    assert!(rt; wanted.next().is_none());
-}
-
-/// Asserts the positions and heights of the maximal nodes inside a chunk of so many leaves, left to right.
-fn assert_chunk<F: Graftable>(
-    rt: &impl Abort,
-    leaves: u64,
-    chunk_idx: u64,
-    grafting_height: u32,
-    peaks: &[(u64, u32)],
-)
-    requires { (chunk_idx + 1) * 2 ^ grafting_height ≤ leaves }
-{
-    let leaves = Location::<F>::new(leaves);
-    assert!(rt; leaves.is_valid());
-    let nodes = F::location_to_position(leaves);
-    let mut wanted = peaks.iter();
-    for (position, height) in F::chunk_peaks(nodes, chunk_idx, grafting_height) {
-        let found = (position.as_u64(), height);
-        assert!(rt; wanted.next().copied() == Some(found));
-    }
-    assert!(rt; wanted.next().is_none());
-}
-
-/// Asserts where the node of a height over the leaves from one on stands, which leaf count it comes with, and that the
-/// position leads back to the leaf.
-fn assert_root<F: Graftable>(
-    rt: &impl Abort,
-    leaf_start: u64,
-    height: u32,
-    position: u64,
-    birth: u64,
-)
+/// The position of the node of a height over the leaves from one on, the leaf that the position leads back to, and the
+/// leaf count that the node comes with.
+fn root_of<F: Graftable>(leaf_start: u64, height: u32) -> [u64; 3]
     requires low { height ≤ 62 }
     requires within { F.root leaf_start height ≤ F.MAX_NODES }
 {
-    let leaf_start = Location::<F>::new(leaf_start);
-    let found = F::subtree_root_position(leaf_start, height);
-    assert!(rt; found.as_u64() == position);
-    assert!(rt; F::leftmost_leaf(found, height) == leaf_start);
-    assert!(rt; F::peak_birth_size(found, height) == birth);
+    let position = F::subtree_root_position(Location::new(leaf_start), height);
+    [
+        position.as_u64(),
+        F::leftmost_leaf(position, height).as_u64(),
+        F::peak_birth_size(position, height),
+    ]
 }

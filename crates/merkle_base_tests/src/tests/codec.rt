@@ -1,8 +1,8 @@
 use merkle_base::codec::{EncodeSize, Read, Write};
 use merkle_base::digest::{Digest, Sha256Digest, Xor8Digest};
+use merkle_base::error::DecodeError;
 use merkle_base::family::{PendingChunk, Unused};
 use std::alloc::Global;
-use std::process::Abort;
 use std::test::Fail;
 
 // The one digest of this type is the byte 07. No other bytes spell one.
@@ -51,92 +51,87 @@ impl Digest for SevenDigest {
     ghost eq_decides = { Prim.search rules };
 }
 
-// It is appended as the spelling, and read back with what follows left unread.
-fn check_spelling<D, C: PendingChunk<D>>(
-    rt: &impl Abort,
+/// Whether a chunk is appended as this spelling, and read back with what follows left unread.
+fn is_spelled<D, C: PendingChunk<D>>(
     alloc: Global,
     chunk: &C,
     spelling: &[u8],
-) -> Result<(), Fail> {
+) -> Result<bool, Fail> {
     let mut out = vec![in alloc; 9]?;
-    chunk.write(&mut out).expect(rt, "written");
-    assert!(rt; out[0] == 9);
-    assert!(rt; &out[1..] == spelling);
-    assert!(rt; chunk.encode_size() == spelling.len());
+    if chunk.write(&mut out).is_err() {
+        return Ok(false);
+    }
+    let is_counted = chunk.encode_size() == spelling.len();
+    let is_appended = out.as_slice().strip_prefix(&[9]) == Some(spelling);
     out.extend_from_slice(&[1, 2])?;
     let mut input = &out[1..];
-    let read = C::read(alloc, &mut input, &()).expect(rt, "read");
-    assert!(rt; read == *chunk);
-    assert!(rt; input == [1, 2].as_slice());
-    Ok(())
+    let is_read = matches!(C::read(alloc, &mut input, &()), Ok(read) if read == *chunk);
+    let is_left = input == [1, 2].as_slice();
+    Ok([is_counted, is_appended, is_read, is_left] == [true; 4])
 }
 
 #[test]
-fn chunks_and_their_spellings(rt: HostRuntime) -> Result<(), Fail> {
+fn spellings(rt: HostRuntime) -> Result<(), Fail> {
+    let alloc = rt.alloc();
+    let mut long = [5; 33];
+    long[0] = 1;
     let xor8 = Xor8Digest::from_bytes(&[7]);
-    check_spelling::<Xor8Digest, _>(&rt, rt.alloc(), &xor8, &[1, 7])?;
-    check_spelling::<Xor8Digest, _>(&rt, rt.alloc(), &None::<Xor8Digest>, &[0])?;
-    let mut spelling = [5; 33];
-    spelling[0] = 1;
     let sha256 = Sha256Digest::from_bytes(&[5; 32]);
-    check_spelling::<Sha256Digest, _>(&rt, rt.alloc(), &sha256, &spelling)?;
-    check_spelling::<Sha256Digest, _>(&rt, rt.alloc(), &None::<Sha256Digest>, &[0])?;
-    check_spelling::<SevenDigest, _>(&rt, rt.alloc(), &Some(SevenDigest), &[1, 7])?;
-    check_spelling::<Xor8Digest, _>(&rt, rt.alloc(), &Unused, &[])
+    let found = [
+        is_spelled::<Xor8Digest, _>(alloc, &xor8, &[1, 7])?,
+        is_spelled::<Xor8Digest, _>(alloc, &None::<Xor8Digest>, &[0])?,
+        is_spelled::<Sha256Digest, _>(alloc, &sha256, &long)?,
+        is_spelled::<Sha256Digest, _>(alloc, &None::<Sha256Digest>, &[0])?,
+        is_spelled::<SevenDigest, _>(alloc, &Some(SevenDigest), &[1, 7])?,
+        is_spelled::<Xor8Digest, _>(alloc, &Unused, &[])?,
+    ];
+    assert!(rt; found == [true; 6]);
+    Ok(())
 }
 
-// It is refused so, and the slice stays.
-fn check_refusal<D: Digest>(
-    rt: &impl Abort,
-    alloc: Global,
-    bytes: &[u8],
-    refusal: &str,
-) -> Result<(), Fail> {
+/// Whether bytes are refused as too few, and the slice stays.
+fn is_cut_short<D: Digest>(alloc: Global, bytes: &[u8]) -> bool {
     let mut input = bytes;
-    let shown = format!(in alloc; "{:?}", Option::<D>::read(alloc, &mut input, &()))?;
-    assert!(rt; shown.as_str() == refusal);
-    assert!(rt; input == bytes);
-    Ok(())
+    let read = Option::<D>::read(alloc, &mut input, &());
+    matches!(read, Err(DecodeError::EndOfBuffer)) && input == bytes
+}
+
+/// Whether bytes are refused as no spelling, and the slice stays.
+fn is_invalid<D: Digest>(alloc: Global, bytes: &[u8]) -> bool {
+    let mut input = bytes;
+    let read = Option::<D>::read(alloc, &mut input, &());
+    matches!(read, Err(DecodeError::Invalid)) && input == bytes
 }
 
 #[test]
-fn refused_options(rt: HostRuntime) -> Result<(), Fail> {
-    check_refusal::<Xor8Digest>(&rt, rt.alloc(), &[], "Err(EndOfBuffer)")?;
-    check_refusal::<Xor8Digest>(&rt, rt.alloc(), &[2], "Err(Invalid)")?;
-    check_refusal::<Xor8Digest>(&rt, rt.alloc(), &[255, 7], "Err(Invalid)")?;
-    check_refusal::<Xor8Digest>(&rt, rt.alloc(), &[1], "Err(EndOfBuffer)")?;
-    check_refusal::<Sha256Digest>(&rt, rt.alloc(), &[], "Err(EndOfBuffer)")?;
-    check_refusal::<Sha256Digest>(&rt, rt.alloc(), &[2; 33], "Err(Invalid)")?;
-    check_refusal::<Sha256Digest>(&rt, rt.alloc(), &[1; 32], "Err(EndOfBuffer)")?;
-    check_refusal::<SevenDigest>(&rt, rt.alloc(), &[1], "Err(EndOfBuffer)")?;
-    check_refusal::<SevenDigest>(&rt, rt.alloc(), &[1, 8], "Err(Invalid)")?;
-    check_refusal::<SevenDigest>(&rt, rt.alloc(), &[1, 8, 7], "Err(Invalid)")
+fn refused_options(rt: HostRuntime) {
+    let alloc = rt.alloc();
+    let cut_short = [
+        is_cut_short::<Xor8Digest>(alloc, &[]),
+        is_cut_short::<Xor8Digest>(alloc, &[1]),
+        is_cut_short::<Sha256Digest>(alloc, &[]),
+        is_cut_short::<Sha256Digest>(alloc, &[1; 32]),
+        is_cut_short::<SevenDigest>(alloc, &[1]),
+    ];
+    assert!(rt; cut_short == [true; 5]);
+    let invalid = [
+        is_invalid::<Xor8Digest>(alloc, &[2]),
+        is_invalid::<Xor8Digest>(alloc, &[255, 7]),
+        is_invalid::<Sha256Digest>(alloc, &[2; 33]),
+        is_invalid::<SevenDigest>(alloc, &[1, 8]),
+        is_invalid::<SevenDigest>(alloc, &[1, 8, 7]),
+    ];
+    assert!(rt; invalid == [true; 5]);
 }
 
 #[test]
-fn chunks_of_options(rt: HostRuntime) -> Result<(), Fail> {
+fn held_digests(rt: HostRuntime) -> Result<(), Fail> {
     let digest = Xor8Digest::from_bytes(&[7]);
-    let chunk = Option::<Xor8Digest>::try_from_option(digest).expect(&rt, "a chunk");
-    assert!(rt; chunk == digest);
-    assert!(rt; PendingChunk::as_ref(&chunk).copied() == digest);
-    let empty = Option::<Xor8Digest>::try_from_option(None).expect(&rt, "a chunk");
-    assert!(rt; empty == None);
-    assert!(rt; PendingChunk::as_ref(&empty).is_none());
-    assert!(rt; chunk.clone()? == chunk && chunk != empty);
-    Ok(())
-}
-
-#[test]
-fn unused_chunks(rt: HostRuntime) -> Result<(), Fail> {
-    let digest = Xor8Digest::from_bytes(&[7]);
-    let refused = format!(in rt.alloc(); "{:?}", Unused::try_from_option(digest))?;
-    assert!(rt; refused.as_str() == "Err(Invalid)");
-    let chunk = Unused::try_from_option(None::<Xor8Digest>).expect(&rt, "a chunk");
-    assert!(rt; chunk == Unused::default());
-    assert!(rt; PendingChunk::<Xor8Digest>::as_ref(&chunk).is_none());
-    let copy = chunk;
-    assert!(rt; copy == chunk.clone()?);
-    let shown = format!(in rt.alloc(); "{chunk:?}")?;
-    assert!(rt; shown.as_str() == "Unused");
+    let held = [
+        PendingChunk::as_ref(&digest).copied(),
+        PendingChunk::as_ref(&None).copied(),
+        PendingChunk::as_ref(&Unused.clone()?).copied(),
+    ];
+    assert!(rt; held == [digest, None, None]);
     Ok(())
 }

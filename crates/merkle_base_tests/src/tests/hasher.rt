@@ -1,4 +1,4 @@
-use merkle_base::digest::{Digest, Sha256Plain, Xor8};
+use merkle_base::digest::{Digest, Sha256Digest, Sha256Plain, Xor8, Xor8Digest};
 use merkle_base::family::Bagging;
 use merkle_hasher::hasher::Standard;
 use std::test::Fail;
@@ -13,15 +13,18 @@ const OF_ABC: [u8; 32] = [
 fn standard_hashers(rt: HostRuntime) -> Result<(), Fail> {
     for bagging in [Bagging::ForwardFold, Bagging::BackwardFold] {
         let long = Standard::<Sha256Plain>::new(bagging);
-        assert!(rt; long.root_bagging() == bagging);
-        assert!(rt; long.clone()?.root_bagging() == bagging);
-        assert!(rt; long.hash(&[b"a", b"bc"]).as_bytes() == OF_ABC.as_slice());
-        assert!(rt; long.digest(b"abc").as_bytes() == OF_ABC.as_slice());
         let short = Standard::<Xor8>::new(bagging);
-        assert!(rt; short.root_bagging() == bagging);
-        assert!(rt; short.hash(&[&[1, 2], &[4]]).as_bytes() == [7].as_slice());
-        assert!(rt; short.digest(&[1, 2, 4]).as_bytes() == [7].as_slice());
-        assert!(rt; short.digest(&[]).as_bytes() == [0].as_slice());
+        let baggings = [
+            long.root_bagging(),
+            long.clone()?.root_bagging(),
+            short.root_bagging(),
+        ];
+        assert!(rt; baggings == [bagging; 3]);
+        let digests = [long.hash(&[b"a", b"bc"]), long.digest(b"abc")].map(Some);
+        assert!(rt; digests == [Sha256Digest::from_bytes(&OF_ABC); 2]);
+        let digests = [short.hash(&[&[1, 2], &[4]]), short.digest(&[1, 2, 4])].map(Some);
+        assert!(rt; digests == [Xor8Digest::from_bytes(&[7]); 2]);
+        assert!(rt; short.digest(&[]) == Xor8Digest::EMPTY);
     }
     Ok(())
 }
