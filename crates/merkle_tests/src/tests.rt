@@ -7,7 +7,10 @@ mod paths;
 mod values;
 
 use merkle_core::digest::{Digest, Xor8Digest};
+use std::alloc::Global;
+use std::fmt::Debug;
 use std::process::Abort;
+use std::test::Fail;
 
 fn byte(digest: &Xor8Digest) -> u8 {
     digest.as_bytes()[0]
@@ -16,4 +19,16 @@ fn byte(digest: &Xor8Digest) -> u8 {
 /// The digest of that byte.
 fn digest(rt: &impl Abort, byte: u8) -> Xor8Digest {
     Xor8Digest::from_bytes(&[byte]).expect(rt, "any byte is a digest")
+}
+
+/// Asserts that what is printed of a value for programmers begins so.
+fn assert_prints<T: Debug>(
+    rt: &impl Abort,
+    alloc: Global,
+    value: &T,
+    start: &str,
+) -> Result<(), Fail> {
+    let shown = format!(in alloc; "{value:?}")?;
+    assert!(rt; shown.as_str().starts_with(start), "{shown}");
+    Ok(())
 }

@@ -2,7 +2,6 @@
 
 use super::{byte, digest};
 use merkle_core::digest::{Digest, PlainHasher, Sha256Digest, Sha256Plain, Xor8, Xor8Digest};
-use merkle_core::error::Error;
 use merkle_core::family::Bagging;
 use merkle_core::hasher::Hasher;
 use merkle_core::mmr::{Family, Location, Position, StandardHasher};
@@ -10,142 +9,106 @@ use merkle_fixtures::keyed::Keyed;
 use std::process::Abort;
 use std::test::Fail;
 
-/// Asserts each digest of a hasher, `key` being what they have in common.
-fn assert_digests<H: Hasher<Family, Digest = Xor8Digest>>(rt: &impl Abort, hasher: &H, key: u8) {
+/// Asserts how a hasher folds peaks and each of its digests, `key` being what they have in common.
+fn assert_hasher<H: Hasher<Family, Digest = Xor8Digest>>(
+    rt: &impl Abort,
+    hasher: &H,
+    bagging: Bagging,
+    key: u8,
+) {
+    assert!(rt; hasher.root_bagging() == bagging);
     let (one, two) = (digest(rt, 1), digest(rt, 2));
     // its bytes are 01 and 30, after zeros
     let position = Position::new(0x0130);
     let pair = [(position, one, two), (Position::new(4), two, two)];
     let (first, second) = hasher.node_digest_pair(pair);
     let found = [
-        hasher.hash(&[]),
-        hasher.hash(&[&[1, 2], &[], &[4]]),
-        hasher.digest(&[5, 6]),
-        hasher.fold(&one, &two),
-        hasher.leaf_digest(position, &[4, 8]),
-        hasher.node_digest(position, &one, &two),
-        first,
-        second,
+        byte(&hasher.hash(&[])) ^ key,
+        byte(&hasher.hash(&[&[1, 2], &[], &[4]])) ^ key,
+        byte(&hasher.digest(&[5, 6])) ^ key,
+        byte(&hasher.fold(&one, &two)) ^ key,
+        byte(&hasher.leaf_digest(position, &[4, 8])) ^ key,
+        byte(&hasher.node_digest(position, &one, &two)) ^ key,
+        byte(&first) ^ key,
+        byte(&second) ^ key,
     ];
-    let bytes = found.map(|digest| byte(&digest) ^ key);
-    assert_eq!(rt; bytes, [0x00, 0x07, 0x03, 0x03, 0x3d, 0x32, 0x32, 0x04]);
+    assert_eq!(rt; found, [0x00, 0x07, 0x03, 0x03, 0x3d, 0x32, 0x32, 0x04]);
 }
 
-#[test]
-fn digests(rt: HostRuntime) -> Result<(), Fail> {
-    let standard = StandardHasher::<Xor8>::new(Bagging::ForwardFold);
-    assert_digests(&rt, &standard, 0);
-    assert_digests(&rt, &&standard, 0);
-    assert_digests(&rt, &standard.clone()?, 0);
-    let keyed = Keyed::new(0x50, Bagging::ForwardFold);
-    assert_digests(&rt, &keyed, 0x50);
-    assert_digests(&rt, &&keyed, 0x50);
-    assert_digests(&rt, &keyed.clone()?, 0x50);
+/// Asserts the same of a hasher behind a reference, and of a clone.
+fn assert_hashers<H: Hasher<Family, Digest = Xor8Digest> + Drop>(
+    rt: &impl Abort,
+    hasher: H,
+    bagging: Bagging,
+    key: u8,
+) -> Result<(), Fail> {
+    assert_hasher(rt, &hasher, bagging, key);
+    assert_hasher(rt, &&hasher, bagging, key);
+    assert_hasher(rt, &hasher.clone()?, bagging, key);
     Ok(())
 }
 
 #[test]
-fn without_a_family(rt: HostRuntime) {
+fn digests(rt: HostRuntime) -> Result<(), Fail> {
     for bagging in [Bagging::ForwardFold, Bagging::BackwardFold] {
-        let hasher = StandardHasher::<Xor8>::new(bagging);
-        assert_eq!(rt; hasher.root_bagging(), bagging);
-        assert_eq!(rt; byte(&hasher.hash(&[&[1], &[2, 4]])), 7);
-        assert_eq!(rt; byte(&hasher.digest(&[5, 6])), 3);
+        assert_hashers(&rt, StandardHasher::<Xor8>::new(bagging), bagging, 0)?;
+        assert_hashers(&rt, Keyed::new(0x50, bagging), bagging, 0x50)?;
     }
+    Ok(())
 }
 
-/// Asserts how a hasher folds peaks.
-fn assert_bagging<H: Hasher<Family>>(rt: &impl Abort, hasher: &H, bagging: Bagging) {
-    assert_eq!(rt; hasher.root_bagging(), bagging);
-}
-
-#[test]
-fn baggings(rt: HostRuntime) {
-    for bagging in [Bagging::ForwardFold, Bagging::BackwardFold] {
-        let standard = StandardHasher::<Xor8>::new(bagging);
-        assert_bagging(&rt, &standard, bagging);
-        assert_bagging(&rt, &&standard, bagging);
-        let keyed = Keyed::new(0x50, bagging);
-        assert_bagging(&rt, &keyed, bagging);
-        assert_bagging(&rt, &&keyed, bagging);
-    }
-}
-
-/// What a root is seen to be.
-#[derive(Clone, Copy, Debug, PartialEq, Eq)]
-enum Root {
-    Digest(u8),
-    TooMany { requested: usize, peaks: usize },
-    Refused,
-}
-
-/// The refusal for more inactive peaks than there are.
-fn too_many(requested: usize, peaks: usize) -> Root {
-    Root::TooMany { requested, peaks }
-}
-
-fn seen(found: &Result<Xor8Digest, Error<Family>>) -> Root {
-    match found {
-        Ok(digest) => Root::Digest(byte(digest)),
-        Err(Error::InvalidInactivePeaks { requested, peaks }) => too_many(*requested, *peaks),
-        Err(_) => Root::Refused,
-    }
-}
-
-/// The backward root of so many leaves over peaks of one byte.
-fn root_of<H: Hasher<Family, Digest = Xor8Digest>>(
-    rt: &impl Abort,
+/// The root of so many leaves over peaks of which some are folded to the first of these, and the others follow.
+fn folded_root<H: Hasher<Family, Digest = Xor8Digest>>(
     hasher: &H,
     leaves: u64,
-    inactive: usize,
-    peaks: usize,
-) -> Root {
-    let all = [digest(rt, 0x10), digest(rt, 0x20), digest(rt, 0x40)];
-    let peaks = &all[..peaks.min(3)];
-    seen(&hasher.root(Location::new(leaves), inactive, peaks))
+    to_fold: usize,
+    committed: usize,
+    peaks: &[Xor8Digest],
+) -> Option<u8> {
+    let leaves = Location::new(leaves);
+    match hasher.root_with_folded_peaks(leaves, to_fold, committed, peaks) {
+        Some(root) => Some(byte(&root)),
+        None => None,
+    }
 }
 
-#[test]
-fn roots_of_peaks(rt: HostRuntime) {
-    let hasher = StandardHasher::<Xor8>::new(Bagging::BackwardFold);
-    for (leaves, inactive, peaks, root) in [
-        (0, 0, 0, Root::Digest(0x01)),
-        (0x0100, 0, 1, Root::Digest(0x10)),
-        (2, 0, 2, Root::Digest(0x33)),
-        (2, 2, 2, Root::Digest(0x31)),
-        (7, 3, 3, Root::Digest(0x75)),
-        (0, 1, 0, too_many(1, 0)),
-        (2, 3, 2, too_many(3, 2)),
-        (2, usize::MAX, 2, too_many(usize::MAX, 2)),
-    ] {
-        assert_eq!(rt; root_of(&rt, &hasher, leaves, inactive, peaks), root);
-        assert_eq!(rt; root_of(&rt, &&hasher, leaves, inactive, peaks), root);
-    }
+/// Such roots over no peaks, and over these two.
+fn folded_roots<H: Hasher<Family, Digest = Xor8Digest>>(
+    hasher: &H,
+    peaks: &[Xor8Digest],
+) -> [Option<u8>; 8] {
+    [
+        folded_root(hasher, 0, 0, 0, &[]),
+        folded_root(hasher, 0, 0, 1, &[]),
+        folded_root(hasher, 0, 1, 0, &[]),
+        folded_root(hasher, 2, 0, 9, peaks),
+        folded_root(hasher, 2, 1, 0, peaks),
+        folded_root(hasher, 2, 2, 3, peaks),
+        folded_root(hasher, 2, 3, 0, peaks),
+        folded_root(hasher, 2, 3, 3, peaks),
+    ]
 }
 
 #[test]
 fn roots_with_folded_peaks(rt: HostRuntime) {
     let hasher = StandardHasher::<Xor8>::new(Bagging::BackwardFold);
-    let all = [digest(&rt, 0x10), digest(&rt, 0x20)];
-    for (leaves, to_fold, committed, peaks, root) in [
-        (0, 0, 0, [].as_slice(), Some(0x01)),
-        (0, 0, 1, &[], None),
-        (0, 1, 0, &[], None),
-        (2, 0, 9, &all, Some(0x3a)),
-        (2, 1, 0, &all, Some(0x33)),
-        (2, 2, 3, &all, Some(0x30)),
-        (2, 3, 0, &all, None),
-        (2, 3, 3, &all, None),
-    ] {
-        let root = root.map(|byte| digest(&rt, byte));
-        let leaves = Location::new(leaves);
-        let found = hasher.root_with_folded_peaks(leaves, to_fold, committed, peaks);
-        assert_eq!(rt; found, root, "{to_fold} to fold");
-        let found = Hasher::<Family>::root_with_folded_peaks(
-            &&hasher, leaves, to_fold, committed, peaks,
-        );
-        assert_eq!(rt; found, root, "{to_fold} to fold");
-    }
+    let peaks = [digest(&rt, 0x10), digest(&rt, 0x20)];
+    let (first, second) = (
+        folded_roots(&hasher, &peaks),
+        folded_roots(&&hasher, &peaks),
+    );
+    let roots = [
+        Some(0x01),
+        None,
+        None,
+        Some(0x3a),
+        Some(0x33),
+        Some(0x30),
+        None,
+        None,
+    ];
+    assert_eq!(rt; first, roots);
+    assert!(rt; second == first);
 }
 
 fn joined(left: Sha256Digest, right: Sha256Digest) -> Sha256Digest {

@@ -1,25 +1,25 @@
 //! Paths from a node down to a leaf.
 ghost use Rattle.std.specs.Prelude.{◌<◌};
 
+use super::assert_prints;
 use merkle_core::family::Family;
 use merkle_core::location::Location;
 use merkle_core::path::Iterator;
 use merkle_core::position::Position;
 use merkle_core::{mmb, mmr};
 use merkle_fixtures::pairs;
-use std::process::Abort;
 use std::test::Fail;
 
-/// Asserts the items of a path: a node, its other child, and its height.
-fn assert_path<F: Family>(rt: &impl Abort, path: Iterator<F>, wanted: &[(u64, u64, u32)]) {
-    let mut wanted = wanted.iter();
+/// Whether a path has these items: a node, its other child, and its height.
+fn has_items<F: Family>(path: Iterator<F>, items: &[(u64, u64, u32)]) -> bool {
+    let mut wanted = items.iter();
     for (node, other, height) in path {
-        assert_eq!(rt;
-            wanted.next(),
-            Some(&(node.as_u64(), other.as_u64(), height))
-        );
+        match wanted.next() {
+            Some(item) if *item == (node.as_u64(), other.as_u64(), height) => {}
+            _ => return false,
+        }
     }
-    assert!(rt; wanted.next().is_none());
+    wanted.next().is_none()
 }
 
 /// The path to one of the four leaves under the node 6 of the Mountain Range.
@@ -31,10 +31,10 @@ fn under_six(target: u64) -> Iterator<mmr::Family>
 
 #[test]
 fn leaves_of_a_peak(rt: HostRuntime) {
-    assert_path(&rt, under_six(0), &[(6, 5, 2), (2, 1, 1)]);
-    assert_path(&rt, under_six(1), &[(6, 5, 2), (2, 0, 1)]);
-    assert_path(&rt, under_six(2), &[(6, 2, 2), (5, 4, 1)]);
-    assert_path(&rt, under_six(3), &[(6, 2, 2), (5, 3, 1)]);
+    assert!(rt; has_items(under_six(0), &[(6, 5, 2), (2, 1, 1)]));
+    assert!(rt; has_items(under_six(1), &[(6, 5, 2), (2, 0, 1)]));
+    assert!(rt; has_items(under_six(2), &[(6, 2, 2), (5, 4, 1)]));
+    assert!(rt; has_items(under_six(3), &[(6, 2, 2), (5, 3, 1)]));
 }
 
 // Seven leaves have the peaks 6, 9 and 10.
@@ -42,7 +42,7 @@ fn leaves_of_a_peak(rt: HostRuntime) {
 fn leaf_as_a_peak(rt: HostRuntime) {
     let (node, location) = (Position::new(10), Location::new(6));
     let path = Iterator::<mmr::Family>::new(node, 0, location, location);
-    assert_path(&rt, path, &[]);
+    assert!(rt; has_items(path, &[]));
 }
 
 // The node 13 stands over the leaves 4 to 7, and is no peak of eight leaves.
@@ -50,7 +50,7 @@ fn leaf_as_a_peak(rt: HostRuntime) {
 fn node_under_a_peak(rt: HostRuntime) {
     let (node, first, target) = (Position::new(13), Location::new(4), Location::new(6));
     let path = Iterator::<mmr::Family>::new(node, 2, first, target);
-    assert_path(&rt, path, &[(13, 9, 2), (12, 11, 1)]);
+    assert!(rt; has_items(path, &[(13, 9, 2), (12, 11, 1)]));
 }
 
 // The Mountain Belt has the node 7 over its first four leaves once there are five.
@@ -58,29 +58,28 @@ fn node_under_a_peak(rt: HostRuntime) {
 fn leaf_of_the_belt(rt: HostRuntime) {
     let (node, first, target) = (Position::new(7), Location::new(0), Location::new(3));
     let path = Iterator::<mmb::Family>::new(node, 2, first, target);
-    assert_path(&rt, path, &[(7, 2, 2), (5, 3, 1)]);
+    assert!(rt; has_items(path, &[(7, 2, 2), (5, 3, 1)]));
 }
 
 #[test]
 fn leaf_of_a_pair(rt: HostRuntime) {
     let (node, first, target) = (Position::new(5), Location::new(2), Location::new(3));
     let path = Iterator::<pairs::Family>::new(node, 1, first, target);
-    assert_path(&rt, path, &[(5, 3, 1)]);
+    assert!(rt; has_items(path, &[(5, 3, 1)]));
 }
 
 #[test]
 fn rest_of_a_path(rt: HostRuntime) -> Result<(), Fail> {
     let mut path = under_six(2);
-    let shown = format!(in rt.alloc(); "{path:?}")?;
-    assert_eq!(rt;
-        shown.as_str(),
-        "Iterator { node: Subtree { position: Position(6), height: 2, first_leaf: Location(0) }, target: Location(2) }"
-    );
-    assert!(rt; path.next().is_some());
-    let shown = format!(in rt.alloc(); "{path:?}")?;
-    assert_eq!(rt;
-        shown.as_str(),
-        "Iterator { node: Subtree { position: Position(5), height: 1, first_leaf: Location(2) }, target: Location(2) }"
-    );
+    assert_prints(&rt, rt.alloc(), &path, WHOLE)?;
+    let is_first = path.next().is_some();
+    assert_prints(&rt, rt.alloc(), &path, REST)?;
+    assert!(rt; is_first);
     Ok(())
 }
+
+const WHOLE: &str =
+    "Iterator { node: Subtree { position: Position(6), height: 2, first_leaf: Location(0) }, target: Location(2) }";
+
+const REST: &str =
+    "Iterator { node: Subtree { position: Position(5), height: 1, first_leaf: Location(2) }, target: Location(2) }";
