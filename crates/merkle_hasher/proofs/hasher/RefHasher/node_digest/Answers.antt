@@ -1,0 +1,4 @@
+use Rattle.merkle_hasher.proofs.hasher.RefHasher.node_digest.Goals as goal
+
+pub returns : goal.returns
+returns g c = c.node_digest.ensures
