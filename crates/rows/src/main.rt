@@ -5,17 +5,19 @@
 //! rows of worked values can be read as data. `docs/ROWS.md` lists the calls.
 #![tactic(auto)]
 
+mod answer;
 mod batches;
+mod calls;
 mod checks;
 mod families;
 mod proofs;
 mod refusal;
 mod session;
 mod structures;
-mod texts;
 mod words;
 mod world;
 
+use crate::answer::Answer;
 use crate::session::Session;
 use std::io;
 
@@ -27,8 +29,9 @@ fn main(rt: HostRuntime) -> io::Result<()> {
         if line.is_empty() || line.starts_with('#') {
             println!(rt; "{line}")?;
         } else {
-            match session.answer(line) {
-                Ok(answer) => println!(rt; "{line} -> {answer}")?,
+            let mut answer = Answer::new(rt.alloc());
+            match session.answer(line, &mut answer) {
+                Ok(()) => println!(rt; "{line} -> {}", answer.as_str())?,
                 Err(refusal) => println!(rt; "{line} -> {refusal}")?,
             }
         }

@@ -1,8 +1,8 @@
 //! Calls of proofs, and checks of given ones.
 
+use crate::answer::Answer;
 use crate::refusal::{OUT_OF_MEMORY, Refusal, granted, refused};
-use crate::texts::{self, answer_of, done};
-use crate::words::{bytes, count, digest, digests, elements, named, number};
+use crate::words::{bytes, count, digest, digests, elements, named, number, word};
 use crate::world::World;
 use merkle_core::digest::Digest;
 use merkle_core::family::Family;
@@ -14,60 +14,39 @@ use merkle_proof::range_plan::RangePlan;
 use std::alloc::Global;
 
 impl<F: Family, H: Hasher<F> + Drop> World<F, H> {
-    // Answers a call of proofs.
-    pub fn answer_proofs(&mut self, words: &[&str]) -> Option<Result<String, Refusal>> {
-        match *words {
-            ["proof", name, leaf, inactive] => Some(self.proof(name, leaf, inactive)),
-            ["range", name, start, end, inactive] => Some(self.range(name, start, end, inactive)),
-            ["plan", leaves, start, end] => Some(self.plan(leaves, start, end)),
-            ["plan", leaves, start, end, inactive, above] => Some(self.plan_above(
-                leaves, start, end, inactive, above,
-            )),
-            ["check", leaves, inactive, digests, start, elements, root] => Some(self.check(
-                leaves, inactive, digests, start, elements, root,
-            )),
-            ["check_leaf", leaves, inactive, digests, leaf, element, root] => Some(self.check_leaf(
-                leaves, inactive, digests, leaf, element, root,
-            )),
-            _ => None,
-        }
+    pub fn proof(&self, words: &[&str], answer: &mut Answer) -> Result<(), Refusal> {
+        let structure = named(&self.structures, word(words, 1)?)?;
+        let leaf = Location::new(number(word(words, 2)?)?);
+        let inactive = count(word(words, 3)?)?;
+        answer.proof(&granted!(structure.proof(&self.hasher, leaf, inactive)))
     }
 
-    fn proof(&self, name: &str, leaf: &str, inactive: &str) -> Result<String, Refusal> {
-        let structure = named(&self.structures, name)?;
-        let proof = structure.proof(&self.hasher, Location::new(number(leaf)?), count(inactive)?);
-        texts::proof(self.alloc, &granted!(proof))
+    pub fn range(&self, words: &[&str], answer: &mut Answer) -> Result<(), Refusal> {
+        let structure = named(&self.structures, word(words, 1)?)?;
+        let start = Location::new(number(word(words, 2)?)?);
+        let end = Location::new(number(word(words, 3)?)?);
+        let inactive = count(word(words, 4)?)?;
+        answer.proof(&granted!(structure.range_proof(&self.hasher, start..end, inactive)))
     }
 
-    fn range(&self, name: &str, start: &str, end: &str, inactive: &str) -> Result<String, Refusal> {
-        let structure = named(&self.structures, name)?;
-        let range = Location::new(number(start)?)..Location::new(number(end)?);
-        let proof = structure.range_proof(&self.hasher, range, count(inactive)?);
-        texts::proof(self.alloc, &granted!(proof))
+    // The plan of the leaf count and the range that the words name.
+    fn plan_of(&self, words: &[&str]) -> Result<RangePlan<F>, Refusal> {
+        let leaves = Location::new(number(word(words, 1)?)?);
+        let start = Location::new(number(word(words, 2)?)?);
+        let end = Location::new(number(word(words, 3)?)?);
+        Ok(granted!(RangePlan::new(self.alloc, leaves, start..end)))
     }
 
-    fn plan(&self, leaves: &str, start: &str, end: &str) -> Result<String, Refusal> {
-        let range = Location::new(number(start)?)..Location::new(number(end)?);
-        let _plan = granted!(RangePlan::<F>::new(
-            self.alloc,
-            Location::new(number(leaves)?),
-            range
-        ));
-        done(self.alloc)
+    pub fn plan(&self, words: &[&str], answer: &mut Answer) -> Result<(), Refusal> {
+        let _plan = self.plan_of(words)?;
+        answer.done()
     }
 
     // A plan over nodes of which those past a position alone are there, all with the digest of no nodes.
-    fn plan_above(
-        &self,
-        leaves: &str,
-        start: &str,
-        end: &str,
-        inactive: &str,
-        above: &str,
-    ) -> Result<String, Refusal> {
-        let (inactive, above) = (count(inactive)?, number(above)?);
-        let range = Location::new(number(start)?)..Location::new(number(end)?);
-        let plan = granted!(RangePlan::<F>::new(self.alloc, Location::new(number(leaves)?), range));
+    pub fn plan_above(&self, words: &[&str], answer: &mut Answer) -> Result<(), Refusal> {
+        let inactive = count(word(words, 4)?)?;
+        let above = number(word(words, 5)?)?;
+        let plan = self.plan_of(words)?;
         let built = plan.build(
             &self.hasher,
             inactive,
@@ -80,55 +59,51 @@ impl<F: Family, H: Hasher<F> + Drop> World<F, H> {
             },
         );
         let _proof = granted!(built);
-        done(self.alloc)
+        answer.done()
     }
 
-    fn check(
-        &self,
-        leaves: &str,
-        inactive: &str,
-        list: &str,
-        start: &str,
-        found: &str,
-        root: &str,
-    ) -> Result<String, Refusal> {
-        let proof = Proof::<F, H::Digest> {
-            leaves: Location::new(number(leaves)?),
-            inactive_peaks: count(inactive)?,
-            digests: digests(self.alloc, list)?,
-        };
-        let (start, root) = (Location::new(number(start)?), digest(self.alloc, root)?);
-        let found = elements(self.alloc, found)?;
-        let is_right = check_range(
-            self.alloc,
-            &self.hasher,
-            &proof,
-            found.as_slice(),
-            start,
-            &root,
-        )?;
-        answer_of(self.alloc, is_right)
+    // The proof that three words spell.
+    fn read_proof(&self, words: &[&str]) -> Result<Proof<F, H::Digest>, Refusal> {
+        let leaves = Location::new(number(word(words, 1)?)?);
+        let inactive_peaks = count(word(words, 2)?)?;
+        let digests = digests(self.alloc, word(words, 3)?)?;
+        Ok(Proof {
+            leaves,
+            inactive_peaks,
+            digests,
+        })
     }
 
-    fn check_leaf(
-        &self,
-        leaves: &str,
-        inactive: &str,
-        list: &str,
-        leaf: &str,
-        element: &str,
-        root: &str,
-    ) -> Result<String, Refusal> {
-        let proof = Proof::<F, H::Digest> {
-            leaves: Location::new(number(leaves)?),
-            inactive_peaks: count(inactive)?,
-            digests: digests(self.alloc, list)?,
-        };
-        let (leaf, root) = (Location::new(number(leaf)?), digest(self.alloc, root)?);
-        let element = bytes(self.alloc, element)?;
-        let checked = proof.verify_element_inclusion(&self.hasher, element.as_slice(), leaf, &root);
-        answer_of(self.alloc, checked.ok().ok_or(OUT_OF_MEMORY)?)
+    pub fn check(&self, words: &[&str], answer: &mut Answer) -> Result<(), Refusal> {
+        let start = Location::new(number(word(words, 4)?)?);
+        let root = digest(self.alloc, word(words, 6)?)?;
+        let found = elements(self.alloc, word(words, 5)?)?;
+        let proof = self.read_proof(words)?;
+        let found = found.as_slice();
+        let is_right = check_range(self.alloc, &self.hasher, &proof, found, start, &root)?;
+        answer.yes_or_no(is_right)
     }
+
+    pub fn check_leaf(&self, words: &[&str], answer: &mut Answer) -> Result<(), Refusal> {
+        let leaf = Location::new(number(word(words, 4)?)?);
+        let root = digest(self.alloc, word(words, 6)?)?;
+        let element = bytes(self.alloc, word(words, 5)?)?;
+        let proof = self.read_proof(words)?;
+        let is_right = check_leaf(&self.hasher, &proof, element.as_slice(), leaf, &root)?;
+        answer.yes_or_no(is_right)
+    }
+}
+
+/// Whether a proof is accepted with this element.
+pub fn check_leaf<F: Family, H: Hasher<F>>(
+    hasher: &H,
+    proof: &Proof<F, H::Digest>,
+    element: &[u8],
+    leaf: Location<F>,
+    root: &H::Digest,
+) -> Result<bool, Refusal> {
+    let checked = proof.verify_element_inclusion(hasher, element, leaf, root);
+    checked.ok().ok_or(OUT_OF_MEMORY)
 }
 
 /// Whether a proof is accepted with these elements.

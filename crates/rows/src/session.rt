@@ -1,7 +1,8 @@
 //! The families and the hashers that the lines are about.
 
+use crate::answer::Answer;
+use crate::calls::{Call, find_call};
 use crate::refusal::{Refusal, SYNTAX};
-use crate::texts::done;
 use crate::words::bytes;
 use crate::world::World;
 use merkle_core::digest::{Sha256Plain, Xor8};
@@ -82,11 +83,11 @@ impl<F: Family> Hashed<F> {
         }
     }
 
-    fn answer(&mut self, words: &[&str]) -> Result<String, Refusal> {
+    fn answer(&mut self, call: Call, words: &[&str], answer: &mut Answer) -> Result<(), Refusal> {
         match self {
-            Hashed::Sha256(world) => world.answer(words),
-            Hashed::Xor8(world) => world.answer(words),
-            Hashed::Keyed(world) => world.answer(words),
+            Hashed::Sha256(world) => world.answer(call, words, answer),
+            Hashed::Xor8(world) => world.answer(call, words, answer),
+            Hashed::Keyed(world) => world.answer(call, words, answer),
         }
     }
 }
@@ -110,22 +111,13 @@ impl Familiar {
         }
     }
 
-    fn answer(&mut self, words: &[&str]) -> Result<String, Refusal> {
+    fn answer(&mut self, call: Call, words: &[&str], answer: &mut Answer) -> Result<(), Refusal> {
         match self {
-            Familiar::Mmr(hashed) => hashed.answer(words),
-            Familiar::Mmb(hashed) => hashed.answer(words),
-            Familiar::Flat(hashed) => hashed.answer(words),
-            Familiar::Pairs(hashed) => hashed.answer(words),
+            Familiar::Mmr(hashed) => hashed.answer(call, words, answer),
+            Familiar::Mmb(hashed) => hashed.answer(call, words, answer),
+            Familiar::Flat(hashed) => hashed.answer(call, words, answer),
+            Familiar::Pairs(hashed) => hashed.answer(call, words, answer),
         }
-    }
-}
-
-// Whether two answers are the same.
-fn is_same(answer: &Result<String, Refusal>, other: &Result<String, Refusal>) -> bool {
-    match (answer, other) {
-        (Ok(answer), Ok(other)) => answer.as_str() == other.as_str(),
-        (Err(answer), Err(other)) => answer == other,
-        _ => false,
     }
 }
 
@@ -146,7 +138,7 @@ impl Session {
     }
 
     // Begins anew, in each family and with each hasher that is meant.
-    fn open(&mut self, family: &str, bagging: &str, hash: &[&str]) -> Result<String, Refusal> {
+    fn open(&mut self, family: &str, bagging: &str, hash: &[&str]) -> Result<(), Refusal> {
         let (hash, key) = read_hash(self.alloc, hash)?;
         self.all.clear();
         for (name, bagging_meant) in BAGGINGS {
@@ -155,9 +147,10 @@ impl Session {
             }
         }
         if self.all.is_empty() {
-            return Err(SYNTAX);
+            Err(SYNTAX)
+        } else {
+            Ok(())
         }
-        done(self.alloc)
     }
 
     fn open_hashes(
@@ -192,28 +185,42 @@ impl Session {
     }
 
     // Does what a call says in each family and with each hasher. The answers are to be the same.
-    fn answer_all(&mut self, words: &[&str]) -> Result<String, Refusal> {
+    fn answer_all(
+        &mut self,
+        call: Call,
+        words: &[&str],
+        answer: &mut Answer,
+    ) -> Result<(), Refusal> {
         let Some((first, others)) = self.all.split_first_mut() else {
             return Err(SYNTAX);
         };
-        let answer = first.answer(words);
-        let mut is_agreed = true;
+        let result = first.answer(call, words, answer);
+        let mut are_same = true;
         for other in others {
-            is_agreed &= is_same(&answer, &other.answer(words));
+            let mut next = Answer::new(self.alloc);
+            are_same &= result == other.answer(call, words, &mut next);
+            are_same &= answer.as_str() == next.as_str();
         }
-        if is_agreed {
-            answer
+        if are_same {
+            result
         } else {
             Err(Refusal::Plain("differ"))
         }
     }
 
-    /// Does what a line says, and answers it.
-    pub fn answer(&mut self, line: &str) -> Result<String, Refusal> {
+    /// Does what a line says, and writes the answer.
+    pub fn answer(&mut self, line: &str, answer: &mut Answer) -> Result<(), Refusal> {
         let words: Vec<&str> = line.split(' ').collect(self.alloc)?;
         match *words.as_slice() {
-            ["new", family, bagging, ref hash @ ..] => self.open(family, bagging, hash),
-            _ => self.answer_all(words.as_slice()),
+            ["new", family, bagging, ref hash @ ..] => {
+                self.open(family, bagging, hash)?;
+                answer.done()
+            }
+            [name, ..] => match find_call(name, words.len()) {
+                Some(call) => self.answer_all(call, words.as_slice(), answer),
+                None => Err(SYNTAX),
+            },
+            [] => Err(SYNTAX),
         }
     }
 }

@@ -1,9 +1,10 @@
 //! Calls of structures.
 
+use crate::answer::Answer;
 use crate::refusal::{Refusal, UNKNOWN, granted, refused};
-use crate::texts::{self, answer_of, decimal, done, hexadecimal};
-use crate::words::{count, digests, give_name, named, number};
+use crate::words::{count, digests, give_name, named, number, word};
 use crate::world::{MOST_PEAKS, World};
+use merkle_core::digest::Digest;
 use merkle_core::family::Family;
 use merkle_core::hasher::Hasher;
 use merkle_core::location::Location;
@@ -11,165 +12,143 @@ use merkle_core::mem::Mem;
 use merkle_core::position::Position;
 
 impl<F: Family, H: Hasher<F> + Drop> World<F, H> {
-    // Answers a call of structures.
-    pub fn answer_structures(&mut self, words: &[&str]) -> Option<Result<String, Refusal>> {
-        match *words {
-            ["empty", name] => Some(self.open(name)),
-            ["build", name, elements] => Some(self.build(name, elements)),
-            ["copy", name, source] => Some(self.copy(name, source)),
-            ["parts", name, boundary, nodes, pins] => Some(self.parts(name, boundary, nodes, pins)),
-            ["prune", name, location] => Some(self.prune(name, location)),
-            ["prune_all", name] => Some(self.prune_all(name)),
-            ["same", name, other] => Some(self.same(name, other)),
-            ["same_roots", name, other] => Some(self.same_roots(name, other)),
-            _ => None,
-        }
+    pub fn empty(&mut self, words: &[&str], answer: &mut Answer) -> Result<(), Refusal> {
+        self.open(word(words, 1)?)?;
+        answer.done()
     }
 
-    // Answers a call that asks for a part of a structure or a batch.
-    pub fn answer_questions(&mut self, words: &[&str]) -> Option<Result<String, Refusal>> {
-        match *words {
-            ["bounds", name] => Some(self.bounds(name)),
-            ["size", name] => Some(self.size(name)),
-            ["leaves", name] => Some(self.leaves(name)),
-            ["node", name, position] => Some(self.node(name, position)),
-            ["nodes", name] => Some(self.nodes(name)),
-            ["peaks", name] => Some(self.peaks(name)),
-            ["root", name, inactive] => Some(self.root(name, inactive)),
-            _ => None,
-        }
+    // A structure without leaves, of that name.
+    fn open(&mut self, name: &str) -> Result<(), Refusal> {
+        give_name(self.alloc, &mut self.structures, name, Mem::new(self.alloc))
     }
 
-    fn open(&mut self, name: &str) -> Result<String, Refusal> {
-        let structure = Mem::new(self.alloc);
-        give_name(self.alloc, &mut self.structures, name, structure)?;
-        done(self.alloc)
-    }
-
-    fn build(&mut self, name: &str, list: &str) -> Result<String, Refusal> {
+    pub fn build(&mut self, words: &[&str], answer: &mut Answer) -> Result<(), Refusal> {
+        let name = word(words, 1)?;
         self.open(name)?;
-        self.fork(name, name)?;
-        self.add(name, list)?;
-        self.merkleize(name, name)?;
-        self.apply(name, name)
+        self.fork_of(name, name)?;
+        self.add_to(name, word(words, 2)?)?;
+        self.merkleize_over(name, name)?;
+        self.apply_to(name, name)?;
+        answer.done()
     }
 
-    fn copy(&mut self, name: &str, source: &str) -> Result<String, Refusal> {
-        let structure = named(&self.structures, source)?.clone()?;
-        give_name(self.alloc, &mut self.structures, name, structure)?;
-        done(self.alloc)
+    pub fn copy(&mut self, words: &[&str], answer: &mut Answer) -> Result<(), Refusal> {
+        let structure = named(&self.structures, word(words, 2)?)?.clone()?;
+        give_name(self.alloc, &mut self.structures, word(words, 1)?, structure)?;
+        answer.done()
     }
 
-    fn parts(
-        &mut self,
-        name: &str,
-        boundary: &str,
+    pub fn parts(&mut self, words: &[&str], answer: &mut Answer) -> Result<(), Refusal> {
+        let boundary = Location::new(number(word(words, 2)?)?);
+        let structure = self.of_parts(boundary, word(words, 3)?, word(words, 4)?)?;
+        give_name(self.alloc, &mut self.structures, word(words, 1)?, structure)?;
+        answer.done()
+    }
+
+    // The structure that is made of these parts.
+    fn of_parts(
+        &self,
+        boundary: Location<F>,
         nodes: &str,
         pins: &str,
-    ) -> Result<String, Refusal> {
+    ) -> Result<Mem<F, H::Digest>, Refusal> {
         let nodes = digests(self.alloc, nodes)?;
         let pins = digests(self.alloc, pins)?;
-        let structure = granted!(Mem::from_components(
-            nodes,
-            Location::new(number(boundary)?),
-            pins
-        ));
-        give_name(self.alloc, &mut self.structures, name, structure)?;
-        done(self.alloc)
+        Ok(granted!(Mem::from_components(nodes, boundary, pins)))
     }
 
-    fn prune(&mut self, name: &str, boundary: &str) -> Result<String, Refusal> {
-        let structure = self.structures.get_mut(name).ok_or(UNKNOWN)?;
-        granted!(structure.prune(Location::new(number(boundary)?)));
-        done(self.alloc)
+    pub fn prune(&mut self, words: &[&str], answer: &mut Answer) -> Result<(), Refusal> {
+        let boundary = Location::new(number(word(words, 2)?)?);
+        let structure = self.structures.get_mut(word(words, 1)?).ok_or(UNKNOWN)?;
+        granted!(structure.prune(boundary));
+        answer.done()
     }
 
-    fn prune_all(&mut self, name: &str) -> Result<String, Refusal> {
-        let structure = self.structures.get_mut(name).ok_or(UNKNOWN)?;
+    pub fn prune_all(&mut self, words: &[&str], answer: &mut Answer) -> Result<(), Refusal> {
+        let structure = self.structures.get_mut(word(words, 1)?).ok_or(UNKNOWN)?;
         granted!(structure.prune_all());
-        done(self.alloc)
+        answer.done()
     }
 
     // Whether two structures have the same counts and nodes.
-    fn same(&self, name: &str, other: &str) -> Result<String, Refusal> {
-        let structure = named(&self.structures, name)?;
-        let other = named(&self.structures, other)?;
-        if structure.size() != other.size() || structure.leaves() != other.leaves() {
-            return answer_of(self.alloc, false);
-        }
-        for position in 0..structure.size().as_u64() {
-            let position = Position::new(position);
-            if structure.get_node(position) != other.get_node(position) {
-                return answer_of(self.alloc, false);
-            }
-        }
-        answer_of(self.alloc, true)
+    pub fn same(&self, words: &[&str], answer: &mut Answer) -> Result<(), Refusal> {
+        let structure = named(&self.structures, word(words, 1)?)?;
+        let other = named(&self.structures, word(words, 2)?)?;
+        answer.yes_or_no(are_same(structure, other))
     }
 
     // Whether two structures or batches have the same root, or the same refusal, for each number of inactive peaks.
-    fn same_roots(&self, name: &str, other: &str) -> Result<String, Refusal> {
+    pub fn same_roots(&self, words: &[&str], answer: &mut Answer) -> Result<(), Refusal> {
+        let (name, other) = (word(words, 1)?, word(words, 2)?);
+        let mut are_same = true;
         for inactive in 0..=MOST_PEAKS {
-            let is_same = match (self.root_of(name, inactive), self.root_of(other, inactive)) {
-                (Ok(root), Ok(other)) => root == other,
-                (Err(refusal), Err(other)) => refusal == other,
-                _ => false,
-            };
-            if !is_same {
-                return answer_of(self.alloc, false);
-            }
+            are_same &= self.is_same_root(name, other, inactive);
         }
-        answer_of(self.alloc, true)
+        answer.yes_or_no(are_same)
     }
 
-    fn bounds(&self, name: &str) -> Result<String, Refusal> {
-        let structure = named(&self.structures, name)?;
-        let bounds = structure.bounds();
-        let (start, end) = (bounds.start.as_u64(), bounds.end.as_u64());
-        Ok(format!(in self.alloc; "{start}..{end}")?)
+    // Whether two structures or batches have the same root, or the same refusal.
+    fn is_same_root(&self, name: &str, other: &str, inactive: usize) -> bool {
+        match (self.root_of(name, inactive), self.root_of(other, inactive)) {
+            (Ok(root), Ok(other)) => root == other,
+            (Err(refusal), Err(other)) => refusal == other,
+            _ => false,
+        }
     }
 
-    fn size(&self, name: &str) -> Result<String, Refusal> {
+    pub fn bounds(&self, words: &[&str], answer: &mut Answer) -> Result<(), Refusal> {
+        let bounds = named(&self.structures, word(words, 1)?)?.bounds();
+        answer.number(bounds.start.as_u64())?;
+        answer.text("..")?;
+        answer.number(bounds.end.as_u64())
+    }
+
+    pub fn size(&self, words: &[&str], answer: &mut Answer) -> Result<(), Refusal> {
+        let name = word(words, 1)?;
         let size = match self.structures.get(name) {
             Some(structure) => structure.size(),
             None => named(&self.batches, name)?.size(),
         };
-        decimal(self.alloc, size.as_u64())
+        answer.number(size.as_u64())
     }
 
-    fn leaves(&self, name: &str) -> Result<String, Refusal> {
+    pub fn leaves(&self, words: &[&str], answer: &mut Answer) -> Result<(), Refusal> {
+        let name = word(words, 1)?;
         let leaves = match self.structures.get(name) {
             Some(structure) => structure.leaves(),
             None => named(&self.batches, name)?.leaves(),
         };
-        decimal(self.alloc, leaves.as_u64())
+        answer.number(leaves.as_u64())
     }
 
-    fn node(&self, name: &str, position: &str) -> Result<String, Refusal> {
-        let position = Position::new(number(position)?);
-        let node = match self.structures.get(name) {
-            Some(structure) => structure.get_node(position),
-            None => named(&self.batches, name)?.get_node(position),
-        };
-        texts::node(self.alloc, node)
-    }
-
-    fn nodes(&self, name: &str) -> Result<String, Refusal> {
+    pub fn node(&self, words: &[&str], answer: &mut Answer) -> Result<(), Refusal> {
+        let name = word(words, 1)?;
+        let position = Position::new(number(word(words, 2)?)?);
         match self.structures.get(name) {
-            Some(structure) => texts::nodes(self.alloc, structure),
-            None => texts::nodes(self.alloc, named(&self.batches, name)?),
+            Some(structure) => answer.node(structure.get_node(position)),
+            None => answer.node(named(&self.batches, name)?.get_node(position)),
         }
     }
 
-    fn peaks(&self, name: &str) -> Result<String, Refusal> {
-        let structure = named(&self.structures, name)?;
-        texts::peaks::<F>(self.alloc, structure.peak_iterator())
+    pub fn nodes(&self, words: &[&str], answer: &mut Answer) -> Result<(), Refusal> {
+        let name = word(words, 1)?;
+        match self.structures.get(name) {
+            Some(structure) => answer.nodes(structure),
+            None => answer.nodes(named(&self.batches, name)?),
+        }
     }
 
-    fn root(&self, name: &str, inactive: &str) -> Result<String, Refusal> {
-        let root = self.root_of(name, count(inactive)?)?;
-        hexadecimal(self.alloc, &root)
+    pub fn peaks(&self, words: &[&str], answer: &mut Answer) -> Result<(), Refusal> {
+        let structure = named(&self.structures, word(words, 1)?)?;
+        answer.peaks::<F>(structure.peak_iterator())
     }
 
+    pub fn root(&self, words: &[&str], answer: &mut Answer) -> Result<(), Refusal> {
+        let root = self.root_of(word(words, 1)?, count(word(words, 2)?)?)?;
+        answer.digest(&root)
+    }
+
+    // The root of the structure, or else the batch, of that name.
     fn root_of(&self, name: &str, inactive: usize) -> Result<H::Digest, Refusal> {
         let root = match self.structures.get(name) {
             Some(structure) => structure.root(&self.hasher, inactive),
@@ -177,4 +156,14 @@ impl<F: Family, H: Hasher<F> + Drop> World<F, H> {
         };
         Ok(granted!(root))
     }
+}
+
+// Whether two structures have the same counts and nodes.
+fn are_same<F: Family, D: Digest>(structure: &Mem<F, D>, other: &Mem<F, D>) -> bool {
+    let mut are_same = structure.size() == other.size() && structure.leaves() == other.leaves();
+    for position in 0..structure.size().as_u64() {
+        let position = Position::new(position);
+        are_same &= structure.get_node(position) == other.get_node(position);
+    }
+    are_same
 }

@@ -5,6 +5,11 @@ use merkle_core::digest::Digest;
 use std::alloc::Global;
 use std::collections::HashMap;
 
+/// The word at an index; the first is the call's name.
+pub fn word<'a>(words: &[&'a str], index: usize) -> Result<&'a str, Refusal> {
+    words.get(index).copied().ok_or(SYNTAX)
+}
+
 /// The number that the word is in decimal digits.
 pub fn number(word: &str) -> Result<u64, Refusal> {
     word.parse::<u64>().ok().ok_or(SYNTAX)

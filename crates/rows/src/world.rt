@@ -1,6 +1,8 @@
 //! The structures and batches of one family and hasher, by their names.
 
-use crate::refusal::{Refusal, SYNTAX};
+use crate::answer::Answer;
+use crate::calls::Call;
+use crate::refusal::Refusal;
 use merkle_core::batch::{MerkleizedBatch, UnmerkleizedBatch};
 use merkle_core::family::Family;
 use merkle_core::hasher::Hasher;
@@ -36,26 +38,63 @@ impl<F: Family, H: Hasher<F> + Drop> World<F, H> {
         }
     }
 
-    /// Does what a call says, and answers it.
-    pub fn answer(&mut self, words: &[&str]) -> Result<String, Refusal> {
-        if let Some(answer) = self.answer_structures(words) {
-            return answer;
+    /// Does what a call says, and writes the answer.
+    pub fn answer(
+        &mut self,
+        call: Call,
+        words: &[&str],
+        answer: &mut Answer,
+    ) -> Result<(), Refusal> {
+        match call {
+            Call::Add => self.add(words, answer),
+            Call::AddDigest => self.add_digest(words, answer),
+            Call::AddDigests => self.add_digests(words, answer),
+            Call::AddList => self.add_list(words, answer),
+            Call::AddNumbers => self.add_numbers(words, answer),
+            Call::Apply => self.apply(words, answer),
+            Call::Base => self.base(words, answer),
+            Call::Bounds => self.bounds(words, answer),
+            Call::Build => self.build(words, answer),
+            Call::Check => self.check(words, answer),
+            Call::CheckLeaf => self.check_leaf(words, answer),
+            Call::Child => self.child(words, answer),
+            Call::Copy => self.copy(words, answer),
+            Call::Empty => self.empty(words, answer),
+            Call::Forget => self.forget(words, answer),
+            Call::Fork => self.fork(words, answer),
+            Call::FromMem => self.from_mem(words, answer),
+            Call::Height => self.height(words, answer),
+            Call::Inactive => self.inactive(words, answer),
+            Call::IsInactive => self.is_inactive(words, answer),
+            Call::IsSize => self.is_size(words, answer),
+            Call::Leaves => self.leaves(words, answer),
+            Call::Location => self.location(words, answer),
+            Call::Merkleize => self.merkleize(words, answer),
+            Call::NearestSize => self.nearest_size(words, answer),
+            Call::Node => self.node(words, answer),
+            Call::Nodes => self.nodes(words, answer),
+            Call::Parts => self.parts(words, answer),
+            Call::Peaks => self.peaks(words, answer),
+            Call::Pending => self.pending(words, answer),
+            Call::Pins => self.pins(words, answer),
+            Call::Plan => self.plan(words, answer),
+            Call::PlanAbove => self.plan_above(words, answer),
+            Call::Position => self.position(words, answer),
+            Call::Proof => self.proof(words, answer),
+            Call::Prove => self.prove(words, answer),
+            Call::ProveLeaves => self.prove_leaves(words, answer),
+            Call::ProveRanges => self.prove_ranges(words, answer),
+            Call::Prune => self.prune(words, answer),
+            Call::PruneAll => self.prune_all(words, answer),
+            Call::Range => self.range(words, answer),
+            Call::Root => self.root(words, answer),
+            Call::Same => self.same(words, answer),
+            Call::SameRoots => self.same_roots(words, answer),
+            Call::Size => self.size(words, answer),
+            Call::Update => self.update(words, answer),
+            Call::UpdateDigest => self.update_digest(words, answer),
+            Call::UpdateDigests => self.update_digests(words, answer),
+            Call::UpdateList => self.update_list(words, answer),
         }
-        if let Some(answer) = self.answer_questions(words) {
-            return answer;
-        }
-        if let Some(answer) = self.answer_batches(words) {
-            return answer;
-        }
-        if let Some(answer) = self.answer_drafts(words) {
-            return answer;
-        }
-        if let Some(answer) = self.answer_proofs(words) {
-            return answer;
-        }
-        if let Some(answer) = self.answer_checks(words) {
-            return answer;
-        }
-        self.answer_families(words).unwrap_or(Err(SYNTAX))
     }
 }
