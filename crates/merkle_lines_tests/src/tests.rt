@@ -64,14 +64,19 @@ const SESSIONS: [(&str, &str); 12] = [
     ),
 ];
 
+/// The number of the first session with other answers.
+fn first_wrong_session(alloc: Global) -> Option<usize> {
+    for (number, (lines, answers)) in SESSIONS.iter().enumerate() {
+        if !has_answers(alloc, lines.as_bytes(), answers) {
+            return Some(number);
+        }
+    }
+    None
+}
+
 #[test]
 fn sessions(rt: HostRuntime) {
-    for (lines, answers) in SESSIONS {
-        assert!(rt;
-            has_answers(rt.alloc(), lines.as_bytes(), answers),
-            "{lines}"
-        );
-    }
+    assert_eq!(rt; first_wrong_session(rt.alloc()), None);
 }
 
 const MALFORMED: [&[u8]; 44] = [
@@ -121,11 +126,19 @@ const MALFORMED: [&[u8]; 44] = [
     b"check 0 00",
 ];
 
+/// The number of the first of these lines with another answer.
+fn first_wrong_line(alloc: Global) -> Option<usize> {
+    for (number, line) in MALFORMED.iter().enumerate() {
+        if !has_answers(alloc, line, "error Syntax\n") {
+            return Some(number);
+        }
+    }
+    None
+}
+
 #[test]
 fn malformed_lines(rt: HostRuntime) {
-    for line in MALFORMED {
-        assert!(rt; has_answers(rt.alloc(), line, "error Syntax\n"), "{line:?}");
-    }
+    assert_eq!(rt; first_wrong_line(rt.alloc()), None);
 }
 
 #[test]
