@@ -2,71 +2,81 @@ use merkle_lines::hex_words::{HexError, is_hex_word, read_hex, write_hex};
 use merkle_lines::run::{RunError, run};
 use std::alloc::Global;
 use std::io;
-use std::process::Abort;
 use std::test::Fail;
 
-// The lines have these answers, and the run ends well.
-fn check(rt: &impl Abort, alloc: Global, lines: &[u8], answers: &str) {
+/// Whether the lines have these answers, and the run ends well.
+fn has_answers(alloc: Global, lines: &[u8], answers: &str) -> bool {
     let mut reader = lines;
     let mut written = Vec::new(alloc);
-    assert_eq!(rt; run(alloc, &mut reader, &mut written), Ok(()));
-    assert!(rt; written.as_slice() == answers.as_bytes(), "{lines:?}");
+    let result = run(alloc, &mut reader, &mut written);
+    result.is_ok() && written.as_slice() == answers.as_bytes()
+}
+
+// Sessions with their answers.
+const SESSIONS: [(&str, &str); 12] = [
+    ("", ""),
+    (
+        "new mmr forward xor8\nadd 01\nadd 02\nadd 04\ncommit\nroot 0\nroot 3\nroot 1\n",
+        "ok\nok 0\nok 1\nok 2\nok 3 4\n04\nerror InvalidInactivePeaks\n05\n",
+    ),
+    (
+        "new mmr backward xor8\nadd 01\nadd 02\nadd 04\ncommit\nroot 0\nroot 1\n",
+        "ok\nok 0\nok 1\nok 2\nok 3 4\n05\n04\n",
+    ),
+    // the Mountain Belt keeps two peaks where the Range merges to one
+    (
+        "new mmb forward xor8\nadd 01\nadd 02\nadd 04\ncommit\nroot 0\nroot 1\n",
+        "ok\nok 0\nok 1\nok 2\nok 3 4\n05\n04\n",
+    ),
+    (
+        "new mmb forward xor8\nadd 01\nadd 02\nadd 03\nadd 04\nadd 05\ncommit\nroot 0\n",
+        "ok\nok 0\nok 1\nok 2\nok 3\nok 4\nok 5 8\n05\n",
+    ),
+    // empty structures, and a last line that nothing ends
+    (
+        "new mmr forward xor8\nroot 0\nroot 1\nroot 18446744073709551615\ncommit\nroot 0",
+        "ok\n00\nerror InvalidInactivePeaks\nerror InvalidInactivePeaks\nok 0 0\n00\n",
+    ),
+    ("new mmr backward xor8\nroot 0", "ok\n01\n"),
+    // with SHA-256: an empty structure's root is that of ten zero bytes
+    (
+        "new mmr forward\nroot 0\n",
+        "ok\n01d448afd928065458cf670b60f5a594d735af0172c8d67f22a81680132681ca\n",
+    ),
+    (
+        "new mmr forward\nadd 01\nadd 02\nadd -\ncommit\nroot 0\n",
+        "ok\nok 0\nok 1\nok 2\nok 3 4\n4d59fcb5def453158354599a0e9251e54092456e526800f31649968f36ea6e45\n",
+    ),
+    // the root is the committed structure's, and `new` drops the pending batch
+    (
+        "new mmr forward xor8\nadd -\nroot 0\ncommit\nadd ff\nnew mmr forward xor8\ncommit\n",
+        "ok\nok 0\n00\nok 1 1\nok 1\nok\nok 0 0\n",
+    ),
+    // a malformed line keeps the pending batch, and an `add` after a commit begins another
+    (
+        "new mmr forward xor8\nadd aB\nadd 0\nnew mmr\nadd Cd\ncommit\nroot 0\nadd 00\ncommit\n",
+        "ok\nok 0\nerror Syntax\nerror Syntax\nok 1\nok 2 3\n67\nok 2\nok 3 4\n",
+    ),
+    // a structure is asked for where the line is well-formed
+    (
+        "commit\nadd 01\nroot 0\nadd 0\nnew mmr forward xor8\ncommit\n",
+        "error NoStructure\nerror NoStructure\nerror NoStructure\nerror Syntax\nok\nok 0 0\n",
+    ),
+];
+
+/// The number of the first session with other answers.
+fn first_wrong_session(alloc: Global) -> Option<usize> {
+    for (number, (lines, answers)) in SESSIONS.iter().enumerate() {
+        if !has_answers(alloc, lines.as_bytes(), answers) {
+            return Some(number);
+        }
+    }
+    None
 }
 
 #[test]
 fn sessions(rt: HostRuntime) {
-    for (lines, answers) in [
-        ("", ""),
-        (
-            "new mmr forward xor8\nadd 01\nadd 02\nadd 04\ncommit\nroot 0\nroot 3\nroot 1\n",
-            "ok\nok 0\nok 1\nok 2\nok 3 4\n04\nerror InvalidInactivePeaks\n05\n",
-        ),
-        (
-            "new mmr backward xor8\nadd 01\nadd 02\nadd 04\ncommit\nroot 0\nroot 1\n",
-            "ok\nok 0\nok 1\nok 2\nok 3 4\n05\n04\n",
-        ),
-        // the Mountain Belt keeps two peaks where the Range merges to one
-        (
-            "new mmb forward xor8\nadd 01\nadd 02\nadd 04\ncommit\nroot 0\nroot 1\n",
-            "ok\nok 0\nok 1\nok 2\nok 3 4\n05\n04\n",
-        ),
-        (
-            "new mmb forward xor8\nadd 01\nadd 02\nadd 03\nadd 04\nadd 05\ncommit\nroot 0\n",
-            "ok\nok 0\nok 1\nok 2\nok 3\nok 4\nok 5 8\n05\n",
-        ),
-        // empty structures, and a last line that nothing ends
-        (
-            "new mmr forward xor8\nroot 0\nroot 1\nroot 18446744073709551615\ncommit\nroot 0",
-            "ok\n00\nerror InvalidInactivePeaks\nerror InvalidInactivePeaks\nok 0 0\n00\n",
-        ),
-        ("new mmr backward xor8\nroot 0", "ok\n01\n"),
-        // with SHA-256: an empty structure's root is that of ten zero bytes
-        (
-            "new mmr forward\nroot 0\n",
-            "ok\n01d448afd928065458cf670b60f5a594d735af0172c8d67f22a81680132681ca\n",
-        ),
-        (
-            "new mmr forward\nadd 01\nadd 02\nadd -\ncommit\nroot 0\n",
-            "ok\nok 0\nok 1\nok 2\nok 3 4\n4d59fcb5def453158354599a0e9251e54092456e526800f31649968f36ea6e45\n",
-        ),
-        // the root is the committed structure's, and `new` drops the pending batch
-        (
-            "new mmr forward xor8\nadd -\nroot 0\ncommit\nadd ff\nnew mmr forward xor8\ncommit\n",
-            "ok\nok 0\n00\nok 1 1\nok 1\nok\nok 0 0\n",
-        ),
-        // a malformed line keeps the pending batch, and an `add` after a commit begins another
-        (
-            "new mmr forward xor8\nadd aB\nadd 0\nnew mmr\nadd Cd\ncommit\nroot 0\nadd 00\ncommit\n",
-            "ok\nok 0\nerror Syntax\nerror Syntax\nok 1\nok 2 3\n67\nok 2\nok 3 4\n",
-        ),
-        // a structure is asked for where the line is well-formed
-        (
-            "commit\nadd 01\nroot 0\nadd 0\nnew mmr forward xor8\ncommit\n",
-            "error NoStructure\nerror NoStructure\nerror NoStructure\nerror Syntax\nok\nok 0 0\n",
-        ),
-    ] {
-        check(&rt, rt.alloc(), lines.as_bytes(), answers);
-    }
+    assert_eq!(rt; first_wrong_session(rt.alloc()), None);
 }
 
 const MALFORMED: [&[u8]; 44] = [
@@ -116,30 +126,30 @@ const MALFORMED: [&[u8]; 44] = [
     b"check 0 00",
 ];
 
+/// The number of the first of these lines with another answer.
+fn first_wrong_line(alloc: Global) -> Option<usize> {
+    for (number, line) in MALFORMED.iter().enumerate() {
+        if !has_answers(alloc, line, "error Syntax\n") {
+            return Some(number);
+        }
+    }
+    None
+}
+
 #[test]
 fn malformed_lines(rt: HostRuntime) {
-    for line in MALFORMED {
-        check(&rt, rt.alloc(), line, "error Syntax\n");
-    }
+    assert_eq!(rt; first_wrong_line(rt.alloc()), None);
 }
 
 #[test]
 fn long_lines(rt: HostRuntime) -> Result<(), Fail> {
-    let zeros = vec![in rt.alloc(); b'0'; 9998]?;
-    let mut lines = Vec::new(rt.alloc());
-    lines.extend_from_slice(b"new mmr forward xor8\nadd ")?;
-    lines.extend_from_slice(zeros.as_slice())?;
-    lines.extend_from_slice(b"5a\n11")?;
-    lines.extend_from_slice(zeros.as_slice())?;
-    lines.extend_from_slice(b"\nroot 11")?;
-    lines.extend_from_slice(zeros.as_slice())?;
-    lines.extend_from_slice(b"\ncommit\nroot 0\n")?;
-    check(
-        &rt,
-        rt.alloc(),
-        lines.as_slice(),
-        "ok\nok 0\nerror Syntax\nerror Syntax\nok 1 1\n5b\n",
-    );
+    let zeros = "0".repeat(rt.alloc(), 9998)?;
+    let lines = format!(in rt.alloc();
+        "new mmr forward xor8\nadd {zeros}5a\n11{zeros}\nroot 11{zeros}\ncommit\nroot 0\n"
+    )?;
+    let answers = "ok\nok 0\nerror Syntax\nerror Syntax\nok 1 1\n5b\n";
+    let is_so = has_answers(rt.alloc(), lines.as_bytes(), answers);
+    assert!(rt; is_so);
     Ok(())
 }
 
@@ -219,80 +229,86 @@ impl io::Write for FailingWriter {
     }
 }
 
+/// Runs the lines with a reader and a writer that fail after so many calls: how the run ends, whether what is written
+/// begins the answers, and whether it is all of them.
+fn run_failing(alloc: Global, reads: usize, writes: usize) -> (Result<(), RunError>, bool, bool) {
+    let mut reader = FailingReader {
+        rest: LINES,
+        calls: reads,
+    };
+    let mut writer = FailingWriter::new(writes);
+    let result = run(alloc, &mut reader, &mut writer);
+    let written = writer.written();
+    (result, ANSWERS.starts_with(written), ANSWERS == written)
+}
+
 #[test]
 fn each_read_fails_in_turn(rt: HostRuntime) {
-    let mut is_whole = false;
     for tried in 0..100 {
-        let mut reader = FailingReader {
-            rest: LINES,
-            calls: tried,
-        };
-        let mut writer = FailingWriter::new(1000);
-        let result = run(rt.alloc(), &mut reader, &mut writer);
-        assert!(rt; ANSWERS.starts_with(writer.written()), "{tried} reads");
-        if result.is_ok() {
-            assert!(rt; ANSWERS == writer.written());
-            is_whole = tried > 10;
-            break;
+        let (result, is_start, is_whole) = run_failing(rt.alloc(), tried, 1000);
+        assert!(rt; is_start, "{tried} reads");
+        match result {
+            Ok(()) => {
+                assert!(rt; is_whole && tried > 10);
+                return;
+            }
+            Err(error) => assert!(rt; error == RunError::ReadFailed, "{tried} reads"),
         }
-        assert_eq!(rt; result, Err(RunError::ReadFailed), "{tried} reads");
     }
-    assert!(rt; is_whole);
+    panic!(rt; "no run ends well");
 }
 
 #[test]
 fn each_write_fails_in_turn(rt: HostRuntime) {
-    let mut is_whole = false;
     for tried in 0..200 {
-        let mut reader = FailingReader {
-            rest: LINES,
-            calls: 1000,
-        };
-        let mut writer = FailingWriter::new(tried);
-        let result = run(rt.alloc(), &mut reader, &mut writer);
-        assert!(rt; ANSWERS.starts_with(writer.written()), "{tried} writes");
-        if result.is_ok() {
-            assert!(rt; ANSWERS == writer.written());
-            is_whole = tried > 10;
-            break;
+        let (result, is_start, is_whole) = run_failing(rt.alloc(), 1000, tried);
+        assert!(rt; is_start, "{tried} writes");
+        match result {
+            Ok(()) => {
+                assert!(rt; is_whole && tried > 10);
+                return;
+            }
+            Err(error) => assert!(rt; error == RunError::WriteFailed, "{tried} writes"),
         }
-        assert_eq!(rt; result, Err(RunError::WriteFailed), "{tried} writes");
     }
-    assert!(rt; is_whole);
+    panic!(rt; "no run ends well");
 }
+
+const TEXTS: [(RunError, &str); 3] = [
+    (RunError::ReadFailed, "merkle: read failed"),
+    (RunError::WriteFailed, "merkle: write failed"),
+    (RunError::OutOfMemory, "merkle: out of memory"),
+];
 
 #[test]
 fn texts(rt: HostRuntime) -> Result<(), Fail> {
-    for (error, text) in [
-        (RunError::ReadFailed, "merkle: read failed"),
-        (RunError::WriteFailed, "merkle: write failed"),
-        (RunError::OutOfMemory, "merkle: out of memory"),
-    ] {
+    for (error, text) in TEXTS {
         let shown = error.to_string(rt.alloc())?;
-        assert_eq!(rt; shown.as_str(), text);
+        assert!(rt; shown.as_str() == text, "{shown}");
     }
     Ok(())
 }
 
+/// Whether a word is refused as no bytes.
+fn is_refused(alloc: Global, word: &str) -> bool {
+    !is_hex_word(word) && matches!(read_hex(alloc, word), Err(HexError::Syntax))
+}
+
+/// Whether a word spells these bytes, which are shown so.
+fn is_spelled(alloc: Global, word: &str, bytes: &[u8], shown: &str) -> bool {
+    is_hex_word(word)
+        && matches!(read_hex(alloc, word), Ok(read) if read.as_slice() == bytes)
+        && matches!(write_hex(alloc, bytes), Ok(text) if text.as_str() == shown)
+}
+
+const NO_HEX_WORDS: [&str; 9] = ["0", "012", "0g", "g0", "-", " ", "0 ", "+1", "\u{e9}"];
+
 #[test]
-fn hex_words(rt: HostRuntime) -> Result<(), Fail> {
-    for word in ["0", "012", "0g", "g0", "-", " ", "0 ", "+1", "\u{e9}"] {
-        assert!(rt; !is_hex_word(word), "{word}");
-        assert!(rt;
-            read_hex(rt.alloc(), word) == Err(HexError::Syntax),
-            "{word}"
-        );
+fn hex_words(rt: HostRuntime) {
+    for word in NO_HEX_WORDS {
+        assert!(rt; is_refused(rt.alloc(), word), "{word}");
     }
-    for (word, spelled, shown) in [
-        ("", [].as_slice(), ""),
-        ("00", [0].as_slice(), "00"),
-        ("00fFAb", [0, 255, 171].as_slice(), "00ffab"),
-    ] {
-        assert!(rt; is_hex_word(word), "{word}");
-        let bytes = read_hex(rt.alloc(), word).expect(&rt, "bytes");
-        assert!(rt; bytes.as_slice() == spelled, "{word}");
-        let text = write_hex(rt.alloc(), bytes.as_slice()).expect(&rt, "text");
-        assert_eq!(rt; text.as_str(), shown);
-    }
-    Ok(())
+    assert!(rt; is_spelled(rt.alloc(), "", &[], ""));
+    assert!(rt; is_spelled(rt.alloc(), "00", &[0], "00"));
+    assert!(rt; is_spelled(rt.alloc(), "00fFAb", &[0, 255, 171], "00ffab"));
 }

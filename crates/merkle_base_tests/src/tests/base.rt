@@ -35,11 +35,12 @@ fn assert_texts<T: Display>(
     values: &[T],
     texts: &[&str],
 ) -> Result<(), Fail> {
-    assert!(rt; values.len() == texts.len());
-    for (value, text) in values.iter().zip(texts) {
+    let mut texts = texts.iter();
+    for value in values {
         let shown = value.to_string(alloc)?;
-        assert!(rt; shown.as_str() == *text, "{text}");
+        assert!(rt; texts.next().copied() == Some(shown.as_str()), "{shown}");
     }
+    assert!(rt; texts.next().is_none());
     Ok(())
 }
 
@@ -201,26 +202,31 @@ fn arithmetic(rt: HostRuntime) {
     assert!(rt; (range.start, range.end) == (3, 10));
 }
 
-/// Asserts the order of the numbers of a unit, and what a map keyed by them holds.
-fn assert_keys<U: Copy>(rt: &impl Abort, alloc: Global) -> Result<(), Fail> {
+/// Asserts the order and the conversions of the numbers of a unit.
+fn assert_order<U: Copy>(rt: &impl Abort) {
     let one = Number::<Mark, U>::from(1_u64);
     let two = Number::<Mark, U>::from(2_usize);
     assert!(rt; [Number::default() < one, two > one, one <= one] == [true; 3]);
     assert!(rt; one.max(two) == two);
-    assert!(rt; u64::from(two.clone()?) == 2);
-    let mut numbers = HashMap::new(alloc);
-    numbers.insert(one, 10)?;
-    numbers.insert(two, 20)?;
-    let second = numbers.get(&Number::new(2)).copied();
-    let third = numbers.get(&Number::new(3)).copied();
-    assert!(rt; [second, third] == [Some(20), None]);
-    Ok(())
+    assert!(rt; u64::from(two) == 2);
+}
+
+#[test]
+fn order(rt: HostRuntime) {
+    assert_order::<Nodes>(&rt);
+    assert_order::<Leaves>(&rt);
 }
 
 #[test]
 fn keys(rt: HostRuntime) -> Result<(), Fail> {
-    assert_keys::<Nodes>(&rt, rt.alloc())?;
-    assert_keys::<Leaves>(&rt, rt.alloc())
+    let (one, two) = (Position::<Mark>::new(1), Position::<Mark>::new(2));
+    let mut numbers = HashMap::new(rt.alloc());
+    numbers.insert(one, 10)?;
+    numbers.insert(two.clone()?, 20)?;
+    let second = numbers.get(&two).copied();
+    let third = numbers.get(&Position::new(3)).copied();
+    assert!(rt; [second, third] == [Some(20), None]);
+    Ok(())
 }
 
 #[test]
