@@ -8,7 +8,7 @@ use merkle_core::digest::Digest;
 use merkle_core::family::Family;
 use merkle_core::hasher::Hasher;
 use merkle_core::location::Location;
-use merkle_core::mem::Mem;
+use merkle_core::mem::{Config, Mem};
 use merkle_core::position::Position;
 
 impl<F: Family, H: Hasher<F> + Drop> World<F, H> {
@@ -52,9 +52,11 @@ impl<F: Family, H: Hasher<F> + Drop> World<F, H> {
         nodes: &str,
         pins: &str,
     ) -> Result<Mem<F, H::Digest>, Refusal> {
-        let nodes = digests(self.alloc, nodes)?;
-        let pins = digests(self.alloc, pins)?;
-        Ok(granted!(Mem::from_components(nodes, boundary, pins)))
+        Ok(granted!(Mem::init(Config {
+            nodes: digests(self.alloc, nodes)?,
+            pruning_boundary: boundary,
+            pinned_nodes: digests(self.alloc, pins)?,
+        })))
     }
 
     pub fn prune(&mut self, words: &[&str], answer: &mut Answer) -> Result<(), Refusal> {

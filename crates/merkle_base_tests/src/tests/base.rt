@@ -286,18 +286,19 @@ fn exclusive_or_digests_of_bytes(rt: HostRuntime) {
 #[test]
 fn debug_texts(rt: HostRuntime) -> Result<(), Fail> {
     let shown = format!(in rt.alloc();
-        "{:?} {:?} {:?} {:?} {:?} {:?} {:?} {:?}",
+        "{:?} {:?} {:?} {:?} {:?} {:?} {:?} {:?} {:?}",
         mmb::Family::default(),
         Unused::default(),
         Bagging::ForwardFold,
         Bagging::BackwardFold,
         Sha256Plain,
         Xor8,
+        DecodeError::EndOfBuffer,
         Xor8Digest::EMPTY,
         Sha256Digest::EMPTY
     )?;
     let start =
-        "Family Unused ForwardFold BackwardFold Sha256Plain Xor8 Xor8Digest { byte: 0 } Sha256Digest { bytes: [0, 0, ";
+        "Family Unused ForwardFold BackwardFold Sha256Plain Xor8 EndOfBuffer Xor8Digest { byte: 0 } Sha256Digest { bytes: [0, 0, ";
     assert!(rt; shown.as_str().starts_with(start), "{shown}");
     Ok(())
 }

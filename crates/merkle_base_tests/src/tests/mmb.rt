@@ -17,6 +17,9 @@ fn limits(rt: HostRuntime) {
     let found = [mmb::Family::MAX_NODES, mmb::Family::MAX_LEAVES];
     assert!(rt; found == [MAX_NODES, MAX_LEAVES]);
     assert!(rt; mmb::Family::DOMAIN == 1);
+    let family = mmb::Family::default();
+    let copy = family;
+    assert!(rt; copy == family);
 }
 
 #[test]
