@@ -1,7 +1,6 @@
-use Rattle.std.proofs.Common.{◌≡◌, length, arith, ap, sym, ◌∙◌}
+use Rattle.std.proofs.Common.{◌≡◌, length, arith, rules, ap, ◌∙◌}
 use Rattle.std.specs.List.{IsSplitAt}
 use Rattle.std.proofs.lemmas.Result.{err_from_is_err_and}
-use Rattle.std.proofs.lemmas.Bool.{eqb-true}
 use Rattle.merkle_proof.proofs.PeakValues.{all_digests}
 use Rattle.merkle_proof.proofs.checks.peak_digests.Goals as goal
 
@@ -14,7 +13,7 @@ pub returns-clause-ok : goal.returns-clause-ok
 returns-clause-ok g c = λ ts e h.
     let same = g.met.H.Digest.Digest.clone_is_same in
     let front : c.in-Ok.all.items ≡ c.in-Some.before.now = c.in-Ok.ensures.items_if_clones_equal same in
-    let empty : length c.reconstruct_peaks.new.digests.now ≡ 0 = eqb-true (length c.reconstruct_peaks.new.digests.now) 0 (sym c.if-not-is_empty.ensures) in
+    let empty : length c.reconstruct_peaks.new.digests.now ≡ 0 = search rules in
     let s = c.in-Some.ensures.cases in
     let split : IsSplitAt c.args.parts.now.digests.now c.args.before c.in-Ok.all.items c.in-Some.others.now = (s.0, front ∙ s.1, s.2, ap length front ∙ s.3, s.4) in
     let pushed = c.in-Ok-extend_from_slice.ensures.items in

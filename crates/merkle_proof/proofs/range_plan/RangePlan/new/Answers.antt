@@ -1,5 +1,4 @@
-use Rattle.merkle_hasher.proofs.Comparisons.{ge_yes}
-use Rattle.std.proofs.Common.{◌<◌, ◌≤◌, rules, sym, ◌∙◌, refl, inl}
+use Rattle.std.proofs.Common.{◌<◌, ◌≤◌, rules}
 use Rattle.merkle_base.specs.Places.{peaks_of}
 use Rattle.merkle_proof.proofs.range_plan.RangePlan.new.Goals as goal
 
@@ -21,6 +20,3 @@ invariant_of-result g c =
       after_are = c.after-after.ensures a b (peaks_of g.F.Family.rule n) held;
       reads_are = c.in_ok-reads.ensures n few held;
     }
-
-pub returns-then-ge-clause-err : goal.returns-then-ge-clause-err
-returns-then-ge-clause-err g c = λ _. inl (ge_yes _ _ (sym c.ge.ensures ∙ c.if-ge.true), refl)
