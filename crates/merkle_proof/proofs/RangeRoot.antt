@@ -1,5 +1,5 @@
 -- The root that a proof and elements lead to.
-use Rattle.std.proofs.Common.{◌≡◌, ◌≢◌, ℕ, ◌+◌, ◌<◌, ◌≤◌, true, Bool, List, [], ◌∷◌, ◌++◌, length, length-append, take, drop, refl, ap, ap₂, sym, ◌∙◌, subst, arith, inl, inr}
+use Rattle.std.proofs.Common.{◌≡◌, ◌≢◌, ◌↔◌, ℕ, ◌+◌, ◌<◌, ◌≤◌, true, Bool, List, [], ◌∷◌, ◌++◌, length, length-append, take, drop, refl, ap, ap₂, sym, ◌∙◌, subst, arith, inl, inr}
 use Rattle.std.specs.List.{flat_map}
 use Rattle.std.specs.Borrow.{Bor}
 use Rattle.std.proofs.lemmas.List.{length-map, length-reverse}
@@ -135,3 +135,11 @@ same_input h rule a es n m k j ds fs p q r = ap₂ (λ x y. range_input h rule x
 pub refused : {D : Type 0} (s : Setting D) (r : RangeInput D) (root : D) → 0 < length r.elements → ¬ HasShape s r → ¬ Accepts s r root
 refused s r root some wrong (inl ok) = wrong (record { some = ok.some; within = ok.within; leaves = ok.leaves; inactive = ok.inactive; counts = ok.counts })
 refused s r root some wrong (inr ok) = absurd (omega (arith, some, ap length ok.0.elements))
+
+-- with elements, the roots that accept an input are those equal to the one that it leads to
+pub accepting : {D : Type 0} (s : Setting D) (r : RangeInput D) (root d : D) → IsComputed s r d → (d ≡ root) ↔ Accepts s r root
+accepting s r root d k = (λ e. inl (record { some = k.0.some; within = k.0.within; leaves = k.0.leaves; inactive = k.0.inactive; counts = k.0.counts; root_is = sym k.1 ∙ e }), back)
+  where
+    back : Accepts s r root → d ≡ root
+    back (inl ok) = k.1 ∙ ok.root_is
+    back (inr ok) = absurd (omega (arith, k.0.some, ap length ok.0.elements))

@@ -3,10 +3,6 @@ use Rattle.std.specs.Int.{to_be_bytes, w64}
 use Rattle.merkle_base.specs.Root.{inactive_bytes}
 use Rattle.merkle_hasher.proofs.hasher.root_of_folded.Goals as goal
 
-pub returns-then-committed-eq0 : goal.returns-then-committed-eq0
-returns-then-committed-eq0 g c =
-    rw (c.if-committed-eq0.true, (g.met.T.Hasher.over_digest c.args.hasher.now).bytes, sym c.DOMAIN.ensures, sym c.domain.ensures, sym c.as_bytes.ensures) (rw (c.to_be_bytes-leaves.ensures, c.as_u64.ensures) at c.hash_three.ensures)
-
 pub returns-else-committed-eq0 : goal.returns-else-committed-eq0
 returns-else-committed-eq0 g c =
     let some : suc (c.args.committed - 1) ≡ c.args.committed = omega (arith, c.if-committed-eq0.false) in

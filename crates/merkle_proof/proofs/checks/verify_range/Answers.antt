@@ -1,7 +1,7 @@
-use Rattle.std.proofs.Common.{◌<◌, ◌+◌, length, rules, arith, refl, false, IsTrue}
+use Rattle.std.proofs.Common.{◌<◌, ◌+◌, length, rules, arith, refl, false, IsTrue, sym, ◌∙◌}
 use Rattle.merkle_proof.specs.Walk.{bytes_of}
 use Rattle.merkle_proof.specs.Input.{setting, range_input}
-use Rattle.merkle_proof.proofs.RangeRoot.{element_count, refused}
+use Rattle.merkle_proof.proofs.RangeRoot.{element_count, refused, accepting}
 use Rattle.merkle_proof.proofs.checks.verify_range.Goals as goal
 
 pub returns-in_default : goal.returns-in_default
@@ -15,3 +15,12 @@ returns-in_default g c =
   where
     never : IsTrue false → ⊥
     never e = cc
+
+pub returns-in-Ok : goal.returns-in-Ok
+returns-in-Ok g c =
+    let h = g.H.Hasher.hashing c.args.hasher.now in
+    let s = setting h (g.H.Hasher.bagging_of c.args.hasher.now) g.F.Family.rule g.F.Family.MAX_LEAVES g.F.Family.DOMAIN in
+    let r = range_input h g.F.Family.rule c.args.parts.now.leaves c.args.parts.now.inactive c.args.parts.now.digests.now c.args.start (bytes_of c.args.elements.now) in
+    let accepts = accepting s r c.args.root.now c.in-Ok.computed c.in-Ok.ensures.ok in
+    let equal = g.met.H.Digest.Digest.eq_decides c.in-Ok.computed c.args.root.now in
+    (λ t. accepts.0 (equal.0 (sym c.eq.ensures ∙ t)), λ a. c.eq.ensures ∙ equal.1 (accepts.1 a))

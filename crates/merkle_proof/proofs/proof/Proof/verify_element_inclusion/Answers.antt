@@ -1,0 +1,10 @@
+use Rattle.merkle_proof.proofs.proof.Proof.verify_element_inclusion.Goals as goal
+
+pub returns-clause-exact : goal.returns-clause-exact
+returns-clause-exact g c = c.verify_range_inclusion.ensures.exact
+
+pub returns-clause-honest : goal.returns-clause-honest
+returns-clause-honest g c = c.verify_range_inclusion.ensures.honest
+
+pub returns-clause-sound : goal.returns-clause-sound
+returns-clause-sound g c = c.verify_range_inclusion.ensures.sound
