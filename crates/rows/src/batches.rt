@@ -1,16 +1,16 @@
 //! Calls of batches.
 
-use crate::answer::Answer;
-use crate::refusal::{Refusal, SYNTAX, UNKNOWN, granted, refused};
-use crate::words::{
-    bytes, count, digest, digests, elements, give_name, located, named, number, word,
-};
+use crate::digests::{digest, digests};
+use crate::refusal::{granted, refused};
 use crate::world::World;
 use merkle_core::batch::{MerkleizedBatch, UnmerkleizedBatch};
 use merkle_core::digest::Digest;
 use merkle_core::family::Family;
 use merkle_core::hasher::Hasher;
 use merkle_core::location::Location;
+use rows_text::answer::Answer;
+use rows_text::refusal::{Refusal, SYNTAX, UNKNOWN};
+use rows_text::words::{bytes, count, elements, give_name, located, named, number, word};
 
 impl<F: Family, H: Hasher<F> + Drop> World<F, H> {
     // The draft of that name, which is no longer there.

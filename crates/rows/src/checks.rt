@@ -1,15 +1,16 @@
 //! Calls that prove and check every leaf or range of a structure.
 
-use crate::answer::Answer;
 use crate::proofs::{check_leaf, check_range};
-use crate::refusal::{Refusal, granted, refused};
-use crate::words::{bytes, count, elements, named, number, word};
+use crate::refusal::{granted, refused};
 use crate::world::{MOST_PEAKS, World};
 use merkle_core::family::Family;
 use merkle_core::hasher::Hasher;
 use merkle_core::location::Location;
 use merkle_core::mem::Mem;
 use merkle_core::proof::Proof;
+use rows_text::answer::Answer;
+use rows_text::refusal::Refusal;
+use rows_text::words::{bytes, count, elements, named, number, word};
 use std::alloc::Global;
 
 impl<F: Family, H: Hasher<F> + Drop> World<F, H> {

@@ -1,15 +1,16 @@
 //! Calls of the family alone.
 ghost use Rattle.std.specs.Prelude.{◌≤◌, IfOk};
 
-use crate::answer::Answer;
-use crate::refusal::Refusal;
-use crate::words::{count, number, word};
+use crate::digests::write_pins;
 use crate::world::World;
 use merkle_core::family::Family;
 use merkle_core::hasher::Hasher;
 use merkle_core::location::Location;
 use merkle_core::position::Position;
 use merkle_core::proof::Proof;
+use rows_text::answer::Answer;
+use rows_text::refusal::Refusal;
+use rows_text::words::{count, number, word};
 
 impl<F: Family, H: Hasher<F> + Drop> World<F, H> {
     pub fn position(&self, words: &[&str], answer: &mut Answer) -> Result<(), Refusal> {
@@ -49,7 +50,7 @@ impl<F: Family, H: Hasher<F> + Drop> World<F, H> {
     pub fn pins(&self, words: &[&str], answer: &mut Answer) -> Result<(), Refusal> {
         let leaves = Location::<F>::new(number(word(words, 1)?)?);
         test_location(leaves)?;
-        answer.pins::<F>(F::nodes_to_pin(leaves))
+        write_pins::<F>(answer, F::nodes_to_pin(leaves))
     }
 
     pub fn inactive(&self, words: &[&str], answer: &mut Answer) -> Result<(), Refusal> {

@@ -5,20 +5,18 @@
 //! rows of worked values can be read as data. `docs/ROWS.md` lists the calls.
 #![tactic(auto)]
 
-mod answer;
 mod batches;
-mod calls;
 mod checks;
+mod digests;
 mod families;
 mod proofs;
 mod refusal;
 mod session;
 mod structures;
-mod words;
 mod world;
 
-use crate::answer::Answer;
 use crate::session::Session;
+use rows_text::answer::Answer;
 use std::io;
 
 fn main(rt: HostRuntime) -> io::Result<()> {

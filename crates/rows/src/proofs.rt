@@ -1,8 +1,7 @@
 //! Calls of proofs, and checks of given ones.
 
-use crate::answer::Answer;
-use crate::refusal::{OUT_OF_MEMORY, Refusal, granted, refused};
-use crate::words::{bytes, count, digest, digests, elements, named, number, word};
+use crate::digests::{digest, digests, write_proof};
+use crate::refusal::{granted, refused};
 use crate::world::World;
 use merkle_core::digest::Digest;
 use merkle_core::family::Family;
@@ -11,6 +10,9 @@ use merkle_core::location::Location;
 use merkle_core::position::Position;
 use merkle_core::proof::Proof;
 use merkle_proof::range_plan::RangePlan;
+use rows_text::answer::Answer;
+use rows_text::refusal::{OUT_OF_MEMORY, Refusal};
+use rows_text::words::{bytes, count, elements, named, number, word};
 use std::alloc::Global;
 
 impl<F: Family, H: Hasher<F> + Drop> World<F, H> {
@@ -18,7 +20,10 @@ impl<F: Family, H: Hasher<F> + Drop> World<F, H> {
         let structure = named(&self.structures, word(words, 1)?)?;
         let leaf = Location::new(number(word(words, 2)?)?);
         let inactive = count(word(words, 3)?)?;
-        answer.proof(&granted!(structure.proof(&self.hasher, leaf, inactive)))
+        write_proof(
+            answer,
+            &granted!(structure.proof(&self.hasher, leaf, inactive)),
+        )
     }
 
     pub fn range(&self, words: &[&str], answer: &mut Answer) -> Result<(), Refusal> {
@@ -26,7 +31,10 @@ impl<F: Family, H: Hasher<F> + Drop> World<F, H> {
         let start = Location::new(number(word(words, 2)?)?);
         let end = Location::new(number(word(words, 3)?)?);
         let inactive = count(word(words, 4)?)?;
-        answer.proof(&granted!(structure.range_proof(&self.hasher, start..end, inactive)))
+        write_proof(
+            answer,
+            &granted!(structure.range_proof(&self.hasher, start..end, inactive)),
+        )
     }
 
     // The plan of the leaf count and the range that the words name.

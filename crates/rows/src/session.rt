@@ -1,9 +1,5 @@
 //! The families and the hashers that the lines are about.
 
-use crate::answer::Answer;
-use crate::calls::{Call, find_call};
-use crate::refusal::{Refusal, SYNTAX};
-use crate::words::bytes;
 use crate::world::World;
 use merkle_core::digest::{Sha256Plain, Xor8};
 use merkle_core::family::{Bagging, Family};
@@ -11,6 +7,10 @@ use merkle_core::hasher::Standard;
 use merkle_core::{mmb, mmr};
 use merkle_fixtures::keyed::Keyed;
 use merkle_fixtures::{flat, pairs};
+use rows_text::answer::Answer;
+use rows_text::calls::{Call, find_call};
+use rows_text::refusal::{Refusal, SYNTAX};
+use rows_text::words::bytes;
 use std::alloc::Global;
 
 #[derive(Clone, Copy)]

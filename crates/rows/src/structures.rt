@@ -1,8 +1,7 @@
 //! Calls of structures.
 
-use crate::answer::Answer;
-use crate::refusal::{Refusal, UNKNOWN, granted, refused};
-use crate::words::{count, digests, give_name, named, number, word};
+use crate::digests::{digests, write_node, write_nodes, write_peaks};
+use crate::refusal::{granted, refused};
 use crate::world::{MOST_PEAKS, World};
 use merkle_core::digest::Digest;
 use merkle_core::family::Family;
@@ -10,6 +9,9 @@ use merkle_core::hasher::Hasher;
 use merkle_core::location::Location;
 use merkle_core::mem::{Config, Mem};
 use merkle_core::position::Position;
+use rows_text::answer::Answer;
+use rows_text::refusal::{Refusal, UNKNOWN};
+use rows_text::words::{count, give_name, named, number, word};
 
 impl<F: Family, H: Hasher<F> + Drop> World<F, H> {
     pub fn empty(&mut self, words: &[&str], answer: &mut Answer) -> Result<(), Refusal> {
@@ -127,27 +129,27 @@ impl<F: Family, H: Hasher<F> + Drop> World<F, H> {
         let name = word(words, 1)?;
         let position = Position::new(number(word(words, 2)?)?);
         match self.structures.get(name) {
-            Some(structure) => answer.node(structure.get_node(position)),
-            None => answer.node(named(&self.batches, name)?.get_node(position)),
+            Some(structure) => write_node(answer, structure.get_node(position)),
+            None => write_node(answer, named(&self.batches, name)?.get_node(position)),
         }
     }
 
     pub fn nodes(&self, words: &[&str], answer: &mut Answer) -> Result<(), Refusal> {
         let name = word(words, 1)?;
         match self.structures.get(name) {
-            Some(structure) => answer.nodes(structure),
-            None => answer.nodes(named(&self.batches, name)?),
+            Some(structure) => write_nodes(answer, structure),
+            None => write_nodes(answer, named(&self.batches, name)?),
         }
     }
 
     pub fn peaks(&self, words: &[&str], answer: &mut Answer) -> Result<(), Refusal> {
         let structure = named(&self.structures, word(words, 1)?)?;
-        answer.peaks::<F>(structure.peak_iterator())
+        write_peaks::<F>(answer, structure.peak_iterator())
     }
 
     pub fn root(&self, words: &[&str], answer: &mut Answer) -> Result<(), Refusal> {
         let root = self.root_of(word(words, 1)?, count(word(words, 2)?)?)?;
-        answer.digest(&root)
+        answer.bytes(root.as_bytes())
     }
 
     // The root of the structure, or else the batch, of that name.

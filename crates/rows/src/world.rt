@@ -1,12 +1,12 @@
 //! The structures and batches of one family and hasher, by their names.
 
-use crate::answer::Answer;
-use crate::calls::Call;
-use crate::refusal::Refusal;
 use merkle_core::batch::{MerkleizedBatch, UnmerkleizedBatch};
 use merkle_core::family::Family;
 use merkle_core::hasher::Hasher;
 use merkle_core::mem::Mem;
+use rows_text::answer::Answer;
+use rows_text::calls::Call;
+use rows_text::refusal::Refusal;
 use std::alloc::Global;
 use std::collections::HashMap;
 use std::rc::Rc;

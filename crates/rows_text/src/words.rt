@@ -1,7 +1,6 @@
 //! Words as numbers, bytes, digests and lists of them.
 
 use crate::refusal::{Refusal, SYNTAX, UNKNOWN};
-use merkle_core::digest::Digest;
 use std::alloc::Global;
 use std::collections::HashMap;
 
@@ -25,14 +24,8 @@ pub fn bytes(alloc: Global, word: &str) -> Result<Vec<u8>, Refusal> {
     hex::decode(alloc, word).ok().ok_or(SYNTAX)
 }
 
-/// The digest with these hexadecimal digits.
-pub fn digest<D: Digest>(alloc: Global, word: &str) -> Result<D, Refusal> {
-    let spelling = bytes(alloc, word)?;
-    D::from_bytes(spelling.as_slice()).ok_or(SYNTAX)
-}
-
-// The item, and how often it stands in its list.
-fn repeated(item: &str) -> Result<(&str, u64), Refusal> {
+/// The item, and how often it stands in its list.
+pub fn repeated(item: &str) -> Result<(&str, u64), Refusal> {
     match item.split_once('*') {
         None => Ok((item, 1)),
         Some((item, count)) => Ok((item, number(count)?)),
@@ -54,26 +47,6 @@ fn push_elements(alloc: Global, all: &mut Vec<Vec<u8>>, item: &str) -> Result<()
     let (item, count) = repeated(item)?;
     for _ in 0..count {
         all.push(bytes(alloc, item)?)?;
-    }
-    Ok(())
-}
-
-/// The digests of a list.
-pub fn digests<D: Digest>(alloc: Global, word: &str) -> Result<Vec<D>, Refusal> {
-    let mut all = Vec::new(alloc);
-    if word != "-" {
-        for item in word.split(',') {
-            push_digests(alloc, &mut all, item)?;
-        }
-    }
-    Ok(all)
-}
-
-fn push_digests<D: Digest>(alloc: Global, all: &mut Vec<D>, item: &str) -> Result<(), Refusal> {
-    let (item, count) = repeated(item)?;
-    let digest = digest(alloc, item)?;
-    for _ in 0..count {
-        all.push(digest)?;
     }
     Ok(())
 }

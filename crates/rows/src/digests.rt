@@ -1,0 +1,105 @@
+//! Words as digests, and values as text.
+
+use merkle_base::pins::NodesToPin;
+use merkle_core::digest::Digest;
+use merkle_core::family::Family;
+use merkle_core::position::Position;
+use merkle_core::proof::Proof;
+use merkle_core::read::Readable;
+use rows_text::answer::Answer;
+use rows_text::refusal::{Refusal, SYNTAX};
+use rows_text::words::{bytes, repeated};
+use std::alloc::Global;
+
+/// The greatest number of nodes that is written.
+const SHOWN: u64 = 256;
+
+/// The digest with these hexadecimal digits.
+pub fn digest<D: Digest>(alloc: Global, word: &str) -> Result<D, Refusal> {
+    let spelling = bytes(alloc, word)?;
+    D::from_bytes(spelling.as_slice()).ok_or(SYNTAX)
+}
+
+/// The digests of a list.
+pub fn digests<D: Digest>(alloc: Global, word: &str) -> Result<Vec<D>, Refusal> {
+    let mut all = Vec::new(alloc);
+    if word != "-" {
+        for item in word.split(',') {
+            push_digests(alloc, &mut all, item)?;
+        }
+    }
+    Ok(all)
+}
+
+fn push_digests<D: Digest>(alloc: Global, all: &mut Vec<D>, item: &str) -> Result<(), Refusal> {
+    let (item, count) = repeated(item)?;
+    let digest = digest(alloc, item)?;
+    for _ in 0..count {
+        all.push(digest)?;
+    }
+    Ok(())
+}
+
+/// Writes digests as one word.
+pub fn write_digests<D: Digest>(answer: &mut Answer, digests: &[D]) -> Result<(), Refusal> {
+    let mut is_first = true;
+    for digest in digests {
+        answer.separator(",", is_first)?;
+        answer.bytes(digest.as_bytes())?;
+        is_first = false;
+    }
+    answer.or_dash(is_first)
+}
+
+/// Writes the digest of a node, or a dash for none.
+pub fn write_node<D: Digest>(answer: &mut Answer, digest: Option<D>) -> Result<(), Refusal> {
+    match digest {
+        Some(digest) => answer.bytes(digest.as_bytes()),
+        None => answer.text("-"),
+    }
+}
+
+/// Writes the nodes by position, up to the node count, at which there is none.
+pub fn write_nodes<R: Readable>(answer: &mut Answer, value: &R) -> Result<(), Refusal> {
+    for position in 0..value.size().as_u64().min(SHOWN) + 1 {
+        answer.separator(" ", position == 0)?;
+        write_node(answer, value.get_node(Position::new(position)))?;
+    }
+    Ok(())
+}
+
+/// Writes the positions of peaks, each with its height.
+pub fn write_peaks<F: Family>(answer: &mut Answer, peaks: F::Peaks) -> Result<(), Refusal> {
+    let mut is_first = true;
+    for (position, height) in peaks {
+        answer.separator(" ", is_first)?;
+        answer.number(position.as_u64())?;
+        answer.text(":")?;
+        answer.number(u64::from(height))?;
+        is_first = false;
+    }
+    answer.or_dash(is_first)
+}
+
+/// Writes the positions of the nodes to pin.
+pub fn write_pins<F: Family>(answer: &mut Answer, pins: NodesToPin<F>) -> Result<(), Refusal> {
+    let mut is_first = true;
+    for position in pins {
+        answer.separator(" ", is_first)?;
+        answer.number(position.as_u64())?;
+        is_first = false;
+    }
+    answer.or_dash(is_first)
+}
+
+/// Writes the leaf count of a proof, its number of inactive peaks and its digests, as `check` reads them.
+pub fn write_proof<F: Family, D: Digest>(
+    answer: &mut Answer,
+    proof: &Proof<F, D>,
+) -> Result<(), Refusal> {
+    answer.number(proof.leaves.as_u64())?;
+    answer.text(" ")?;
+    answer.number(proof.inactive_peaks as u64)?;
+    answer.text(" ")?;
+    write_digests(answer, proof.digests.as_slice())
+}
