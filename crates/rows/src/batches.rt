@@ -10,7 +10,9 @@ use merkle_core::hasher::Hasher;
 use merkle_core::location::Location;
 use rows_text::answer::Answer;
 use rows_text::refusal::{Refusal, SYNTAX, UNKNOWN};
-use rows_text::words::{bytes, count, elements, give_name, located, named, number, word};
+use rows_text::words::{
+    LeafBytes, bytes, count, elements, give_name, located, named, number, word,
+};
 
 impl<F: Family, H: Hasher<F> + Drop> World<F, H> {
     // The draft of that name, which is no longer there.
@@ -219,28 +221,22 @@ impl<F: Family, H: Hasher<F> + Drop> World<F, H> {
     }
 
     // Each location with the leaf digest of its element.
-    fn updates_to(
-        &self,
-        list: &[(u64, Vec<u8>)],
-    ) -> Result<Vec<(Location<F>, H::Digest)>, Refusal> {
+    fn updates_to(&self, list: &[LeafBytes]) -> Result<Vec<(Location<F>, H::Digest)>, Refusal> {
         let mut updates = Vec::new(self.alloc);
-        for (leaf, element) in list {
-            let leaf = Location::new(*leaf);
-            let to = self.leaf_digest(leaf, element.as_slice())?;
+        for update in list {
+            let leaf = Location::new(update.leaf);
+            let to = self.leaf_digest(leaf, update.bytes.as_slice())?;
             updates.push((leaf, to))?;
         }
         Ok(updates)
     }
 
     // Each location with the digest of these bytes.
-    fn updates_of(
-        &self,
-        list: &[(u64, Vec<u8>)],
-    ) -> Result<Vec<(Location<F>, H::Digest)>, Refusal> {
+    fn updates_of(&self, list: &[LeafBytes]) -> Result<Vec<(Location<F>, H::Digest)>, Refusal> {
         let mut updates = Vec::new(self.alloc);
-        for (leaf, spelling) in list {
-            let to = H::Digest::from_bytes(spelling.as_slice()).ok_or(SYNTAX)?;
-            updates.push((Location::new(*leaf), to))?;
+        for update in list {
+            let to = H::Digest::from_bytes(update.bytes.as_slice()).ok_or(SYNTAX)?;
+            updates.push((Location::new(update.leaf), to))?;
         }
         Ok(updates)
     }

@@ -51,13 +51,22 @@ fn push_elements(alloc: Global, all: &mut Vec<Vec<u8>>, item: &str) -> Result<()
     Ok(())
 }
 
+/// The number of a leaf, with bytes for it.
+#[derive(Drop)]
+pub struct LeafBytes {
+    pub leaf: u64,
+    pub bytes: Vec<u8>,
+}
+
 /// The numbers of a list, each with its bytes.
-pub fn located(alloc: Global, word: &str) -> Result<Vec<(u64, Vec<u8>)>, Refusal> {
+pub fn located(alloc: Global, word: &str) -> Result<Vec<LeafBytes>, Refusal> {
     let mut all = Vec::new(alloc);
     if word != "-" {
         for item in word.split(',') {
             let (leaf, spelling) = item.split_once(':').ok_or(SYNTAX)?;
-            all.push((number(leaf)?, bytes(alloc, spelling)?))?;
+            let leaf = number(leaf)?;
+            let bytes = bytes(alloc, spelling)?;
+            all.push(LeafBytes { leaf, bytes })?;
         }
     }
     Ok(all)
