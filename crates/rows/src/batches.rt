@@ -29,9 +29,8 @@ impl<F: Family, H: Hasher<F> + Drop> World<F, H> {
         give_name(self.alloc, &mut self.drafts, name, draft)
     }
 
-    pub fn fork(&mut self, words: &[&str], answer: &mut Answer) -> Result<(), Refusal> {
-        self.fork_of(word(words, 1)?, word(words, 2)?)?;
-        answer.done()
+    pub fn fork(&mut self, words: &[&str]) -> Result<(), Refusal> {
+        self.fork_of(word(words, 1), word(words, 2))
     }
 
     pub fn fork_of(&mut self, name: &str, structure: &str) -> Result<(), Refusal> {
@@ -39,24 +38,21 @@ impl<F: Family, H: Hasher<F> + Drop> World<F, H> {
         self.keep_draft(name, draft)
     }
 
-    pub fn child(&mut self, words: &[&str], answer: &mut Answer) -> Result<(), Refusal> {
-        let name = word(words, 1)?;
-        let draft = granted!(named(&self.batches, word(words, 2)?)?.new_batch());
-        self.keep_draft(name, draft)?;
-        answer.done()
+    pub fn child(&mut self, words: &[&str]) -> Result<(), Refusal> {
+        let name = word(words, 1);
+        let draft = granted!(named(&self.batches, word(words, 2))?.new_batch());
+        self.keep_draft(name, draft)
     }
 
-    pub fn from_mem(&mut self, words: &[&str], answer: &mut Answer) -> Result<(), Refusal> {
-        let name = word(words, 1)?;
-        let structure = named(&self.structures, word(words, 2)?)?;
+    pub fn from_mem(&mut self, words: &[&str]) -> Result<(), Refusal> {
+        let name = word(words, 1);
+        let structure = named(&self.structures, word(words, 2))?;
         let batch = granted!(MerkleizedBatch::from_mem(structure));
-        give_name(self.alloc, &mut self.batches, name, batch)?;
-        answer.done()
+        give_name(self.alloc, &mut self.batches, name, batch)
     }
 
-    pub fn merkleize(&mut self, words: &[&str], answer: &mut Answer) -> Result<(), Refusal> {
-        self.merkleize_over(word(words, 1)?, word(words, 2)?)?;
-        answer.done()
+    pub fn merkleize(&mut self, words: &[&str]) -> Result<(), Refusal> {
+        self.merkleize_over(word(words, 1), word(words, 2))
     }
 
     pub fn merkleize_over(&mut self, name: &str, base: &str) -> Result<(), Refusal> {
@@ -68,9 +64,8 @@ impl<F: Family, H: Hasher<F> + Drop> World<F, H> {
         give_name(self.alloc, &mut self.batches, name, batch)
     }
 
-    pub fn apply(&mut self, words: &[&str], answer: &mut Answer) -> Result<(), Refusal> {
-        self.apply_to(word(words, 1)?, word(words, 2)?)?;
-        answer.done()
+    pub fn apply(&mut self, words: &[&str]) -> Result<(), Refusal> {
+        self.apply_to(word(words, 1), word(words, 2))
     }
 
     pub fn apply_to(&mut self, name: &str, structure: &str) -> Result<(), Refusal> {
@@ -82,22 +77,23 @@ impl<F: Family, H: Hasher<F> + Drop> World<F, H> {
 
     // What a batch tells of the structure that its chain began with.
     pub fn base(&self, words: &[&str], answer: &mut Answer) -> Result<(), Refusal> {
-        let batch = named(&self.batches, word(words, 1)?)?;
-        answer.text("size ")?;
-        answer.number(batch.base_size().as_u64())?;
-        answer.text(" boundary ")?;
-        answer.number(batch.pruning_boundary().as_u64())
+        let batch = named(&self.batches, word(words, 1))?;
+        answer.text("size ");
+        answer.number(batch.base_size().as_u64());
+        answer.text(" boundary ");
+        answer.number(batch.pruning_boundary().as_u64());
+        Ok(())
     }
 
     // The number of leaves of a batch whose nodes are not computed yet.
     pub fn pending(&self, words: &[&str], answer: &mut Answer) -> Result<(), Refusal> {
-        let draft = named(&self.drafts, word(words, 1)?)?;
-        answer.number(draft.leaves().as_u64())
+        let draft = named(&self.drafts, word(words, 1))?;
+        answer.number(draft.leaves().as_u64());
+        Ok(())
     }
 
-    pub fn add(&mut self, words: &[&str], answer: &mut Answer) -> Result<(), Refusal> {
-        self.add_to(word(words, 1)?, word(words, 2)?)?;
-        answer.done()
+    pub fn add(&mut self, words: &[&str]) -> Result<(), Refusal> {
+        self.add_to(word(words, 1), word(words, 2))
     }
 
     pub fn add_to(&mut self, name: &str, list: &str) -> Result<(), Refusal> {
@@ -108,37 +104,33 @@ impl<F: Family, H: Hasher<F> + Drop> World<F, H> {
     }
 
     // Adds leaves of 32 bytes, of which the first 8 are the number of its location, the highest byte first.
-    pub fn add_numbers(&mut self, words: &[&str], answer: &mut Answer) -> Result<(), Refusal> {
-        let name = word(words, 1)?;
-        let times = count(word(words, 2)?)?;
+    pub fn add_numbers(&mut self, words: &[&str]) -> Result<(), Refusal> {
+        let name = word(words, 1);
+        let times = count(words, 2)?;
         let draft = self.take_draft(name)?;
         let draft = with_numbers(draft, &self.hasher, times)?;
-        self.keep_draft(name, draft)?;
-        answer.done()
+        self.keep_draft(name, draft)
     }
 
-    pub fn add_digest(&mut self, words: &[&str], answer: &mut Answer) -> Result<(), Refusal> {
-        let name = word(words, 1)?;
-        let leaf = digest(self.alloc, word(words, 2)?)?;
+    pub fn add_digest(&mut self, words: &[&str]) -> Result<(), Refusal> {
+        let name = word(words, 1);
+        let leaf = digest(self.alloc, word(words, 2))?;
         let draft = granted!(self.take_draft(name)?.add_leaf_digest(leaf));
-        self.keep_draft(name, draft)?;
-        answer.done()
+        self.keep_draft(name, draft)
     }
 
-    pub fn add_digests(&mut self, words: &[&str], answer: &mut Answer) -> Result<(), Refusal> {
-        let leaves = digests(self.alloc, word(words, 2)?)?;
-        self.add_all(word(words, 1)?, leaves.as_slice())?;
-        answer.done()
+    pub fn add_digests(&mut self, words: &[&str]) -> Result<(), Refusal> {
+        let leaves = digests(self.alloc, word(words, 2))?;
+        self.add_all(word(words, 1), leaves.as_slice())
     }
 
     // Adds leaves with these elements, all in one call.
-    pub fn add_list(&mut self, words: &[&str], answer: &mut Answer) -> Result<(), Refusal> {
-        let name = word(words, 1)?;
+    pub fn add_list(&mut self, words: &[&str]) -> Result<(), Refusal> {
+        let name = word(words, 1);
         let first = named(&self.drafts, name)?.leaves();
-        let elements = elements(self.alloc, word(words, 2)?)?;
+        let elements = elements(self.alloc, word(words, 2))?;
         let leaves = self.leaf_digests(first, elements.as_slice())?;
-        self.add_all(name, leaves.as_slice())?;
-        answer.done()
+        self.add_all(name, leaves.as_slice())
     }
 
     // Adds leaves with these digests, all in one call.
@@ -171,11 +163,10 @@ impl<F: Family, H: Hasher<F> + Drop> World<F, H> {
         Ok(self.hasher.leaf_digest(position, element))
     }
 
-    pub fn update(&mut self, words: &[&str], answer: &mut Answer) -> Result<(), Refusal> {
-        let leaf = Location::new(number(word(words, 2)?)?);
-        let element = bytes(self.alloc, word(words, 3)?)?;
-        self.update_to(word(words, 1)?, leaf, element.as_slice())?;
-        answer.done()
+    pub fn update(&mut self, words: &[&str]) -> Result<(), Refusal> {
+        let leaf = Location::new(number(words, 2)?);
+        let element = bytes(self.alloc, word(words, 3))?;
+        self.update_to(word(words, 1), leaf, element.as_slice())
     }
 
     // Gives a leaf an element.
@@ -185,29 +176,26 @@ impl<F: Family, H: Hasher<F> + Drop> World<F, H> {
         self.keep_draft(name, draft)
     }
 
-    pub fn update_digest(&mut self, words: &[&str], answer: &mut Answer) -> Result<(), Refusal> {
-        let name = word(words, 1)?;
-        let leaf = Location::new(number(word(words, 2)?)?);
-        let to = digest(self.alloc, word(words, 3)?)?;
+    pub fn update_digest(&mut self, words: &[&str]) -> Result<(), Refusal> {
+        let name = word(words, 1);
+        let leaf = Location::new(number(words, 2)?);
+        let to = digest(self.alloc, word(words, 3))?;
         let draft = granted!(self.take_draft(name)?.update_leaf_digest(leaf, to));
-        self.keep_draft(name, draft)?;
-        answer.done()
+        self.keep_draft(name, draft)
     }
 
     // Updates leaves to elements, all in one call.
-    pub fn update_list(&mut self, words: &[&str], answer: &mut Answer) -> Result<(), Refusal> {
-        let list = located(self.alloc, word(words, 2)?)?;
+    pub fn update_list(&mut self, words: &[&str]) -> Result<(), Refusal> {
+        let list = located(self.alloc, word(words, 2))?;
         let updates = self.updates_to(list.as_slice())?;
-        self.update_all(word(words, 1)?, updates.as_slice())?;
-        answer.done()
+        self.update_all(word(words, 1), updates.as_slice())
     }
 
     // Updates leaves to digests, all in one call.
-    pub fn update_digests(&mut self, words: &[&str], answer: &mut Answer) -> Result<(), Refusal> {
-        let list = located(self.alloc, word(words, 2)?)?;
+    pub fn update_digests(&mut self, words: &[&str]) -> Result<(), Refusal> {
+        let list = located(self.alloc, word(words, 2))?;
         let updates = self.updates_of(list.as_slice())?;
-        self.update_all(word(words, 1)?, updates.as_slice())?;
-        answer.done()
+        self.update_all(word(words, 1), updates.as_slice())
     }
 
     // Updates leaves, all in one call.
@@ -241,12 +229,11 @@ impl<F: Family, H: Hasher<F> + Drop> World<F, H> {
         Ok(updates)
     }
 
-    pub fn forget(&mut self, words: &[&str], answer: &mut Answer) -> Result<(), Refusal> {
-        let name = word(words, 1)?;
-        let ancestors = count(word(words, 2)?)?;
+    pub fn forget(&mut self, words: &[&str]) -> Result<(), Refusal> {
+        let name = word(words, 1);
+        let ancestors = count(words, 2)?;
         let draft = self.take_draft(name)?.forget_ancestors(ancestors);
-        self.keep_draft(name, draft)?;
-        answer.done()
+        self.keep_draft(name, draft)
     }
 }
 

@@ -16,41 +16,44 @@ use std::alloc::Global;
 impl<F: Family, H: Hasher<F> + Drop> World<F, H> {
     // Whether a leaf is proved for a number of inactive peaks.
     pub fn prove(&self, words: &[&str], answer: &mut Answer) -> Result<(), Refusal> {
-        let structure = named(&self.structures, word(words, 1)?)?;
-        let leaf = Location::new(number(word(words, 2)?)?);
-        let inactive = count(word(words, 4)?)?;
-        let element = bytes(self.alloc, word(words, 3)?)?;
+        let structure = named(&self.structures, word(words, 1))?;
+        let leaf = Location::new(number(words, 2)?);
+        let inactive = count(words, 4)?;
+        let element = bytes(self.alloc, word(words, 3))?;
         let element = element.as_slice();
         let is_proved = proves_leaf(self.alloc, &self.hasher, structure, leaf, element, inactive)?;
-        answer.yes_or_no(is_proved)
+        answer.yes_or_no(is_proved);
+        Ok(())
     }
 
     // Proves each leaf for each number of inactive peaks, and counts the proofs.
     pub fn prove_leaves(&self, words: &[&str], answer: &mut Answer) -> Result<(), Refusal> {
-        let structure = named(&self.structures, word(words, 1)?)?;
-        let list = elements(self.alloc, word(words, 2)?)?;
+        let structure = named(&self.structures, word(words, 1))?;
+        let list = elements(self.alloc, word(words, 2))?;
         let list = list.as_slice();
         let mut proved = 0u64;
         for inactive in 0..=MOST_PEAKS {
             let found = count_leaves(self.alloc, &self.hasher, structure, list, inactive);
             proved = proved.saturating_add(found);
         }
-        answer.number(proved)?;
-        answer.text(" proved")
+        answer.number(proved);
+        answer.text(" proved");
+        Ok(())
     }
 
     // Proves each range for each number of inactive peaks, and counts the proofs.
     pub fn prove_ranges(&self, words: &[&str], answer: &mut Answer) -> Result<(), Refusal> {
-        let structure = named(&self.structures, word(words, 1)?)?;
-        let list = elements(self.alloc, word(words, 2)?)?;
+        let structure = named(&self.structures, word(words, 1))?;
+        let list = elements(self.alloc, word(words, 2))?;
         let list = list.as_slice();
         let mut proved = 0u64;
         for inactive in 0..=MOST_PEAKS {
             let found = count_ranges(self.alloc, &self.hasher, structure, list, inactive);
             proved = proved.saturating_add(found);
         }
-        answer.number(proved)?;
-        answer.text(" proved")
+        answer.number(proved);
+        answer.text(" proved");
+        Ok(())
     }
 }
 

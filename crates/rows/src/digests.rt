@@ -41,18 +41,18 @@ fn push_digests<D: Digest>(alloc: Global, all: &mut Vec<D>, item: &str) -> Resul
 }
 
 /// Writes digests as one word.
-pub fn write_digests<D: Digest>(answer: &mut Answer, digests: &[D]) -> Result<(), Refusal> {
+pub fn write_digests<D: Digest>(answer: &mut Answer, digests: &[D]) {
     let mut is_first = true;
     for digest in digests {
-        answer.separator(",", is_first)?;
-        answer.bytes(digest.as_bytes())?;
+        answer.separator(",", is_first);
+        answer.bytes(digest.as_bytes());
         is_first = false;
     }
-    answer.or_dash(is_first)
+    answer.or_dash(is_first);
 }
 
 /// Writes the digest of a node, or a dash for none.
-pub fn write_node<D: Digest>(answer: &mut Answer, digest: Option<D>) -> Result<(), Refusal> {
+pub fn write_node<D: Digest>(answer: &mut Answer, digest: Option<D>) {
     match digest {
         Some(digest) => answer.bytes(digest.as_bytes()),
         None => answer.text("-"),
@@ -60,46 +60,42 @@ pub fn write_node<D: Digest>(answer: &mut Answer, digest: Option<D>) -> Result<(
 }
 
 /// Writes the nodes by position, up to the node count, at which there is none.
-pub fn write_nodes<R: Readable>(answer: &mut Answer, value: &R) -> Result<(), Refusal> {
+pub fn write_nodes<R: Readable>(answer: &mut Answer, value: &R) {
     for position in 0..value.size().as_u64().min(SHOWN) + 1 {
-        answer.separator(" ", position == 0)?;
-        write_node(answer, value.get_node(Position::new(position)))?;
+        answer.separator(" ", position == 0);
+        write_node(answer, value.get_node(Position::new(position)));
     }
-    Ok(())
 }
 
 /// Writes the positions of peaks, each with its height.
-pub fn write_peaks<F: Family>(answer: &mut Answer, peaks: F::Peaks) -> Result<(), Refusal> {
+pub fn write_peaks<F: Family>(answer: &mut Answer, peaks: F::Peaks) {
     let mut is_first = true;
     for (position, height) in peaks {
-        answer.separator(" ", is_first)?;
-        answer.number(position.as_u64())?;
-        answer.text(":")?;
-        answer.number(u64::from(height))?;
+        answer.separator(" ", is_first);
+        answer.number(position.as_u64());
+        answer.text(":");
+        answer.number(u64::from(height));
         is_first = false;
     }
-    answer.or_dash(is_first)
+    answer.or_dash(is_first);
 }
 
 /// Writes the positions of the nodes to pin.
-pub fn write_pins<F: Family>(answer: &mut Answer, pins: NodesToPin<F>) -> Result<(), Refusal> {
+pub fn write_pins<F: Family>(answer: &mut Answer, pins: NodesToPin<F>) {
     let mut is_first = true;
     for position in pins {
-        answer.separator(" ", is_first)?;
-        answer.number(position.as_u64())?;
+        answer.separator(" ", is_first);
+        answer.number(position.as_u64());
         is_first = false;
     }
-    answer.or_dash(is_first)
+    answer.or_dash(is_first);
 }
 
 /// Writes the leaf count of a proof, its number of inactive peaks and its digests, as `check` reads them.
-pub fn write_proof<F: Family, D: Digest>(
-    answer: &mut Answer,
-    proof: &Proof<F, D>,
-) -> Result<(), Refusal> {
-    answer.number(proof.leaves.as_u64())?;
-    answer.text(" ")?;
-    answer.number(proof.inactive_peaks as u64)?;
-    answer.text(" ")?;
-    write_digests(answer, proof.digests.as_slice())
+pub fn write_proof<F: Family, D: Digest>(answer: &mut Answer, proof: &Proof<F, D>) {
+    answer.number(proof.leaves.as_u64());
+    answer.text(" ");
+    answer.number(proof.inactive_peaks as u64);
+    answer.text(" ");
+    write_digests(answer, proof.digests.as_slice());
 }

@@ -16,22 +16,15 @@ mod structures;
 mod world;
 
 use crate::session::Session;
-use rows_text::answer::Answer;
 use std::io;
 
 fn main(rt: HostRuntime) -> io::Result<()> {
     let mut session = Session::new(rt.alloc());
     for line in rt.lines(rt.alloc()) {
         let line = line?;
-        let line = line.as_str();
-        if line.is_empty() || line.starts_with('#') {
-            println!(rt; "{line}")?;
-        } else {
-            let mut answer = Answer::new(rt.alloc());
-            match session.answer(line, &mut answer) {
-                Ok(()) => println!(rt; "{line} -> {}", answer.as_str())?,
-                Err(refusal) => println!(rt; "{line} -> {refusal}")?,
-            }
+        match session.reply(line.as_str()) {
+            Ok(reply) => println!(rt; "{}", reply.as_str())?,
+            Err(refusal) => println!(rt; "{line} -> {refusal}")?,
         }
     }
     Ok(())

@@ -17,43 +17,41 @@ use std::alloc::Global;
 
 impl<F: Family, H: Hasher<F> + Drop> World<F, H> {
     pub fn proof(&self, words: &[&str], answer: &mut Answer) -> Result<(), Refusal> {
-        let structure = named(&self.structures, word(words, 1)?)?;
-        let leaf = Location::new(number(word(words, 2)?)?);
-        let inactive = count(word(words, 3)?)?;
-        write_proof(
-            answer,
-            &granted!(structure.proof(&self.hasher, leaf, inactive)),
-        )
+        let structure = named(&self.structures, word(words, 1))?;
+        let leaf = Location::new(number(words, 2)?);
+        let inactive = count(words, 3)?;
+        let proof = granted!(structure.proof(&self.hasher, leaf, inactive));
+        write_proof(answer, &proof);
+        Ok(())
     }
 
     pub fn range(&self, words: &[&str], answer: &mut Answer) -> Result<(), Refusal> {
-        let structure = named(&self.structures, word(words, 1)?)?;
-        let start = Location::new(number(word(words, 2)?)?);
-        let end = Location::new(number(word(words, 3)?)?);
-        let inactive = count(word(words, 4)?)?;
-        write_proof(
-            answer,
-            &granted!(structure.range_proof(&self.hasher, start..end, inactive)),
-        )
+        let structure = named(&self.structures, word(words, 1))?;
+        let start = Location::new(number(words, 2)?);
+        let end = Location::new(number(words, 3)?);
+        let inactive = count(words, 4)?;
+        let proof = granted!(structure.range_proof(&self.hasher, start..end, inactive));
+        write_proof(answer, &proof);
+        Ok(())
     }
 
     // The plan of the leaf count and the range that the words name.
     fn plan_of(&self, words: &[&str]) -> Result<RangePlan<F>, Refusal> {
-        let leaves = Location::new(number(word(words, 1)?)?);
-        let start = Location::new(number(word(words, 2)?)?);
-        let end = Location::new(number(word(words, 3)?)?);
+        let leaves = Location::new(number(words, 1)?);
+        let start = Location::new(number(words, 2)?);
+        let end = Location::new(number(words, 3)?);
         Ok(granted!(RangePlan::new(self.alloc, leaves, start..end)))
     }
 
-    pub fn plan(&self, words: &[&str], answer: &mut Answer) -> Result<(), Refusal> {
+    pub fn plan(&self, words: &[&str]) -> Result<(), Refusal> {
         let _plan = self.plan_of(words)?;
-        answer.done()
+        Ok(())
     }
 
     // A plan over nodes of which those past a position alone are there, all with the digest of no nodes.
     pub fn plan_above(&self, words: &[&str], answer: &mut Answer) -> Result<(), Refusal> {
-        let inactive = count(word(words, 4)?)?;
-        let above = number(word(words, 5)?)?;
+        let inactive = count(words, 4)?;
+        let above = number(words, 5)?;
         let plan = self.plan_of(words)?;
         let built = plan.build(
             &self.hasher,
@@ -67,14 +65,14 @@ impl<F: Family, H: Hasher<F> + Drop> World<F, H> {
             },
         );
         let _proof = granted!(built);
-        answer.done()
+        Ok(())
     }
 
     // The proof that three words spell.
     fn read_proof(&self, words: &[&str]) -> Result<Proof<F, H::Digest>, Refusal> {
-        let leaves = Location::new(number(word(words, 1)?)?);
-        let inactive_peaks = count(word(words, 2)?)?;
-        let digests = digests(self.alloc, word(words, 3)?)?;
+        let leaves = Location::new(number(words, 1)?);
+        let inactive_peaks = count(words, 2)?;
+        let digests = digests(self.alloc, word(words, 3))?;
         Ok(Proof {
             leaves,
             inactive_peaks,
@@ -83,22 +81,24 @@ impl<F: Family, H: Hasher<F> + Drop> World<F, H> {
     }
 
     pub fn check(&self, words: &[&str], answer: &mut Answer) -> Result<(), Refusal> {
-        let start = Location::new(number(word(words, 4)?)?);
-        let root = digest(self.alloc, word(words, 6)?)?;
-        let found = elements(self.alloc, word(words, 5)?)?;
+        let start = Location::new(number(words, 4)?);
+        let root = digest(self.alloc, word(words, 6))?;
+        let found = elements(self.alloc, word(words, 5))?;
         let proof = self.read_proof(words)?;
         let found = found.as_slice();
         let is_right = check_range(self.alloc, &self.hasher, &proof, found, start, &root)?;
-        answer.yes_or_no(is_right)
+        answer.yes_or_no(is_right);
+        Ok(())
     }
 
     pub fn check_leaf(&self, words: &[&str], answer: &mut Answer) -> Result<(), Refusal> {
-        let leaf = Location::new(number(word(words, 4)?)?);
-        let root = digest(self.alloc, word(words, 6)?)?;
-        let element = bytes(self.alloc, word(words, 5)?)?;
+        let leaf = Location::new(number(words, 4)?);
+        let root = digest(self.alloc, word(words, 6))?;
+        let element = bytes(self.alloc, word(words, 5))?;
         let proof = self.read_proof(words)?;
         let is_right = check_leaf(&self.hasher, &proof, element.as_slice(), leaf, &root)?;
-        answer.yes_or_no(is_right)
+        answer.yes_or_no(is_right);
+        Ok(())
     }
 }
 

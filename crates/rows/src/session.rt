@@ -141,9 +141,9 @@ impl Session {
     fn open(&mut self, family: &str, bagging: &str, hash: &[&str]) -> Result<(), Refusal> {
         let (hash, key) = read_hash(self.alloc, hash)?;
         self.all.clear();
-        for (name, bagging_meant) in BAGGINGS {
+        for (name, bagging_meant) in &BAGGINGS {
             if is_meant(bagging, name) {
-                self.open_hashes(family, bagging_meant, hash, key)?;
+                self.open_hashes(family, *bagging_meant, hash, key)?;
             }
         }
         if self.all.is_empty() {
@@ -160,9 +160,9 @@ impl Session {
         hash: &str,
         key: u8,
     ) -> Result<(), Refusal> {
-        for (name, hash_meant) in HASHES {
+        for (name, hash_meant) in &HASHES {
             if is_meant(hash, name) {
-                self.open_families(family, bagging, hash_meant, key)?;
+                self.open_families(family, bagging, *hash_meant, key)?;
             }
         }
         Ok(())
@@ -175,9 +175,9 @@ impl Session {
         hash: HashName,
         key: u8,
     ) -> Result<(), Refusal> {
-        for (name, family_meant) in FAMILIES {
+        for (name, family_meant) in &FAMILIES {
             if is_meant(family, name) {
-                let opened = Familiar::new(self.alloc, family_meant, bagging, hash, key);
+                let opened = Familiar::new(self.alloc, *family_meant, bagging, hash, key);
                 self.all.push(opened)?;
             }
         }
@@ -208,13 +208,13 @@ impl Session {
         }
     }
 
-    /// Does what a line says, and writes the answer.
-    pub fn answer(&mut self, line: &str, answer: &mut Answer) -> Result<(), Refusal> {
+    // Does what a line says, and writes the answer.
+    fn answer(&mut self, line: &str, answer: &mut Answer) -> Result<(), Refusal> {
         let words: Vec<&str> = line.split(' ').collect(self.alloc)?;
         match *words.as_slice() {
             ["new", family, bagging, ref hash @ ..] => {
                 self.open(family, bagging, hash)?;
-                answer.done()
+                answer.end()
             }
             [name, ..] => match find_call(name, words.len()) {
                 Some(call) => self.answer_all(call, words.as_slice(), answer),
@@ -222,5 +222,19 @@ impl Session {
             },
             [] => Err(SYNTAX),
         }
+    }
+
+    /// The line as it is written: with its answer after an arrow, or as it is where it is no call.
+    pub fn reply(&mut self, line: &str) -> Result<Answer, Refusal> {
+        let mut reply = Answer::new(self.alloc);
+        reply.text(line);
+        if !line.is_empty() && !line.starts_with('#') {
+            let mut answer = Answer::new(self.alloc);
+            self.answer(line, &mut answer)?;
+            reply.text(" -> ");
+            reply.text(answer.as_str());
+        }
+        reply.whole()?;
+        Ok(reply)
     }
 }

@@ -14,9 +14,8 @@ use rows_text::refusal::{Refusal, UNKNOWN};
 use rows_text::words::{count, give_name, named, number, word};
 
 impl<F: Family, H: Hasher<F> + Drop> World<F, H> {
-    pub fn empty(&mut self, words: &[&str], answer: &mut Answer) -> Result<(), Refusal> {
-        self.open(word(words, 1)?)?;
-        answer.done()
+    pub fn empty(&mut self, words: &[&str]) -> Result<(), Refusal> {
+        self.open(word(words, 1))
     }
 
     // A structure without leaves, of that name.
@@ -24,27 +23,24 @@ impl<F: Family, H: Hasher<F> + Drop> World<F, H> {
         give_name(self.alloc, &mut self.structures, name, Mem::new(self.alloc))
     }
 
-    pub fn build(&mut self, words: &[&str], answer: &mut Answer) -> Result<(), Refusal> {
-        let name = word(words, 1)?;
+    pub fn build(&mut self, words: &[&str]) -> Result<(), Refusal> {
+        let name = word(words, 1);
         self.open(name)?;
         self.fork_of(name, name)?;
-        self.add_to(name, word(words, 2)?)?;
+        self.add_to(name, word(words, 2))?;
         self.merkleize_over(name, name)?;
-        self.apply_to(name, name)?;
-        answer.done()
+        self.apply_to(name, name)
     }
 
-    pub fn copy(&mut self, words: &[&str], answer: &mut Answer) -> Result<(), Refusal> {
-        let structure = named(&self.structures, word(words, 2)?)?.clone()?;
-        give_name(self.alloc, &mut self.structures, word(words, 1)?, structure)?;
-        answer.done()
+    pub fn copy(&mut self, words: &[&str]) -> Result<(), Refusal> {
+        let structure = named(&self.structures, word(words, 2))?.clone()?;
+        give_name(self.alloc, &mut self.structures, word(words, 1), structure)
     }
 
-    pub fn parts(&mut self, words: &[&str], answer: &mut Answer) -> Result<(), Refusal> {
-        let boundary = Location::new(number(word(words, 2)?)?);
-        let structure = self.of_parts(boundary, word(words, 3)?, word(words, 4)?)?;
-        give_name(self.alloc, &mut self.structures, word(words, 1)?, structure)?;
-        answer.done()
+    pub fn parts(&mut self, words: &[&str]) -> Result<(), Refusal> {
+        let boundary = Location::new(number(words, 2)?);
+        let structure = self.of_parts(boundary, word(words, 3), word(words, 4))?;
+        give_name(self.alloc, &mut self.structures, word(words, 1), structure)
     }
 
     // The structure that is made of these parts.
@@ -61,34 +57,36 @@ impl<F: Family, H: Hasher<F> + Drop> World<F, H> {
         })))
     }
 
-    pub fn prune(&mut self, words: &[&str], answer: &mut Answer) -> Result<(), Refusal> {
-        let boundary = Location::new(number(word(words, 2)?)?);
-        let structure = self.structures.get_mut(word(words, 1)?).ok_or(UNKNOWN)?;
+    pub fn prune(&mut self, words: &[&str]) -> Result<(), Refusal> {
+        let boundary = Location::new(number(words, 2)?);
+        let structure = self.structures.get_mut(word(words, 1)).ok_or(UNKNOWN)?;
         granted!(structure.prune(boundary));
-        answer.done()
+        Ok(())
     }
 
-    pub fn prune_all(&mut self, words: &[&str], answer: &mut Answer) -> Result<(), Refusal> {
-        let structure = self.structures.get_mut(word(words, 1)?).ok_or(UNKNOWN)?;
+    pub fn prune_all(&mut self, words: &[&str]) -> Result<(), Refusal> {
+        let structure = self.structures.get_mut(word(words, 1)).ok_or(UNKNOWN)?;
         granted!(structure.prune_all());
-        answer.done()
+        Ok(())
     }
 
     // Whether two structures have the same counts and nodes.
     pub fn same(&self, words: &[&str], answer: &mut Answer) -> Result<(), Refusal> {
-        let structure = named(&self.structures, word(words, 1)?)?;
-        let other = named(&self.structures, word(words, 2)?)?;
-        answer.yes_or_no(are_same(structure, other))
+        let structure = named(&self.structures, word(words, 1))?;
+        let other = named(&self.structures, word(words, 2))?;
+        answer.yes_or_no(are_same(structure, other));
+        Ok(())
     }
 
     // Whether two structures or batches have the same root, or the same refusal, for each number of inactive peaks.
     pub fn same_roots(&self, words: &[&str], answer: &mut Answer) -> Result<(), Refusal> {
-        let (name, other) = (word(words, 1)?, word(words, 2)?);
+        let (name, other) = (word(words, 1), word(words, 2));
         let mut are_same = true;
         for inactive in 0..=MOST_PEAKS {
             are_same &= self.is_same_root(name, other, inactive);
         }
-        answer.yes_or_no(are_same)
+        answer.yes_or_no(are_same);
+        Ok(())
     }
 
     // Whether two structures or batches have the same root, or the same refusal.
@@ -101,55 +99,63 @@ impl<F: Family, H: Hasher<F> + Drop> World<F, H> {
     }
 
     pub fn bounds(&self, words: &[&str], answer: &mut Answer) -> Result<(), Refusal> {
-        let bounds = named(&self.structures, word(words, 1)?)?.bounds();
-        answer.number(bounds.start.as_u64())?;
-        answer.text("..")?;
-        answer.number(bounds.end.as_u64())
+        let bounds = named(&self.structures, word(words, 1))?.bounds();
+        answer.number(bounds.start.as_u64());
+        answer.text("..");
+        answer.number(bounds.end.as_u64());
+        Ok(())
     }
 
     pub fn size(&self, words: &[&str], answer: &mut Answer) -> Result<(), Refusal> {
-        let name = word(words, 1)?;
+        let name = word(words, 1);
         let size = match self.structures.get(name) {
             Some(structure) => structure.size(),
             None => named(&self.batches, name)?.size(),
         };
-        answer.number(size.as_u64())
+        answer.number(size.as_u64());
+        Ok(())
     }
 
     pub fn leaves(&self, words: &[&str], answer: &mut Answer) -> Result<(), Refusal> {
-        let name = word(words, 1)?;
+        let name = word(words, 1);
         let leaves = match self.structures.get(name) {
             Some(structure) => structure.leaves(),
             None => named(&self.batches, name)?.leaves(),
         };
-        answer.number(leaves.as_u64())
+        answer.number(leaves.as_u64());
+        Ok(())
     }
 
     pub fn node(&self, words: &[&str], answer: &mut Answer) -> Result<(), Refusal> {
-        let name = word(words, 1)?;
-        let position = Position::new(number(word(words, 2)?)?);
-        match self.structures.get(name) {
-            Some(structure) => write_node(answer, structure.get_node(position)),
-            None => write_node(answer, named(&self.batches, name)?.get_node(position)),
-        }
+        let name = word(words, 1);
+        let position = Position::new(number(words, 2)?);
+        let node = match self.structures.get(name) {
+            Some(structure) => structure.get_node(position),
+            None => named(&self.batches, name)?.get_node(position),
+        };
+        write_node(answer, node);
+        Ok(())
     }
 
     pub fn nodes(&self, words: &[&str], answer: &mut Answer) -> Result<(), Refusal> {
-        let name = word(words, 1)?;
+        let name = word(words, 1);
         match self.structures.get(name) {
             Some(structure) => write_nodes(answer, structure),
             None => write_nodes(answer, named(&self.batches, name)?),
         }
+        Ok(())
     }
 
     pub fn peaks(&self, words: &[&str], answer: &mut Answer) -> Result<(), Refusal> {
-        let structure = named(&self.structures, word(words, 1)?)?;
-        write_peaks::<F>(answer, structure.peak_iterator())
+        let structure = named(&self.structures, word(words, 1))?;
+        write_peaks::<F>(answer, structure.peak_iterator());
+        Ok(())
     }
 
     pub fn root(&self, words: &[&str], answer: &mut Answer) -> Result<(), Refusal> {
-        let root = self.root_of(word(words, 1)?, count(word(words, 2)?)?)?;
-        answer.bytes(root.as_bytes())
+        let root = self.root_of(word(words, 1), count(words, 2)?)?;
+        answer.bytes(root.as_bytes());
+        Ok(())
     }
 
     // The root of the structure, or else the batch, of that name.

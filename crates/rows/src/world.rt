@@ -5,7 +5,7 @@ use merkle_core::family::Family;
 use merkle_core::hasher::Hasher;
 use merkle_core::mem::Mem;
 use rows_text::answer::Answer;
-use rows_text::calls::Call;
+use rows_text::calls::{BatchCall, Call, FamilyCall, LeafCall, ProofCall, StructureCall};
 use rows_text::refusal::Refusal;
 use std::alloc::Global;
 use std::collections::HashMap;
@@ -46,55 +46,106 @@ impl<F: Family, H: Hasher<F> + Drop> World<F, H> {
         answer: &mut Answer,
     ) -> Result<(), Refusal> {
         match call {
-            Call::Add => self.add(words, answer),
-            Call::AddDigest => self.add_digest(words, answer),
-            Call::AddDigests => self.add_digests(words, answer),
-            Call::AddList => self.add_list(words, answer),
-            Call::AddNumbers => self.add_numbers(words, answer),
-            Call::Apply => self.apply(words, answer),
-            Call::Base => self.base(words, answer),
-            Call::Bounds => self.bounds(words, answer),
-            Call::Build => self.build(words, answer),
-            Call::Check => self.check(words, answer),
-            Call::CheckLeaf => self.check_leaf(words, answer),
-            Call::Child => self.child(words, answer),
-            Call::Copy => self.copy(words, answer),
-            Call::Empty => self.empty(words, answer),
-            Call::Forget => self.forget(words, answer),
-            Call::Fork => self.fork(words, answer),
-            Call::FromMem => self.from_mem(words, answer),
-            Call::Height => self.height(words, answer),
-            Call::Inactive => self.inactive(words, answer),
-            Call::IsInactive => self.is_inactive(words, answer),
-            Call::IsSize => self.is_size(words, answer),
-            Call::Leaves => self.leaves(words, answer),
-            Call::Location => self.location(words, answer),
-            Call::Merkleize => self.merkleize(words, answer),
-            Call::NearestSize => self.nearest_size(words, answer),
-            Call::Node => self.node(words, answer),
-            Call::Nodes => self.nodes(words, answer),
-            Call::Parts => self.parts(words, answer),
-            Call::Peaks => self.peaks(words, answer),
-            Call::Pending => self.pending(words, answer),
-            Call::Pins => self.pins(words, answer),
-            Call::Plan => self.plan(words, answer),
-            Call::PlanAbove => self.plan_above(words, answer),
-            Call::Position => self.position(words, answer),
-            Call::Proof => self.proof(words, answer),
-            Call::Prove => self.prove(words, answer),
-            Call::ProveLeaves => self.prove_leaves(words, answer),
-            Call::ProveRanges => self.prove_ranges(words, answer),
-            Call::Prune => self.prune(words, answer),
-            Call::PruneAll => self.prune_all(words, answer),
-            Call::Range => self.range(words, answer),
-            Call::Root => self.root(words, answer),
-            Call::Same => self.same(words, answer),
-            Call::SameRoots => self.same_roots(words, answer),
-            Call::Size => self.size(words, answer),
-            Call::Update => self.update(words, answer),
-            Call::UpdateDigest => self.update_digest(words, answer),
-            Call::UpdateDigests => self.update_digests(words, answer),
-            Call::UpdateList => self.update_list(words, answer),
+            Call::Family(call) => self.answer_family(call, words, answer)?,
+            Call::Structure(call) => self.answer_structure(call, words, answer)?,
+            Call::Batch(call) => self.answer_batch(call, words, answer)?,
+            Call::Leaf(call) => self.answer_leaf(call, words)?,
+            Call::Proof(call) => self.answer_proof(call, words, answer)?,
+        }
+        answer.end()
+    }
+
+    fn answer_family(
+        &self,
+        call: FamilyCall,
+        words: &[&str],
+        answer: &mut Answer,
+    ) -> Result<(), Refusal> {
+        match call {
+            FamilyCall::Height => self.height(words, answer),
+            FamilyCall::Inactive => self.inactive(words, answer),
+            FamilyCall::IsInactive => self.is_inactive(words, answer),
+            FamilyCall::IsSize => self.is_size(words, answer),
+            FamilyCall::Location => self.location(words, answer),
+            FamilyCall::NearestSize => self.nearest_size(words, answer),
+            FamilyCall::Pins => self.pins(words, answer),
+            FamilyCall::Position => self.position(words, answer),
+        }
+    }
+
+    fn answer_structure(
+        &mut self,
+        call: StructureCall,
+        words: &[&str],
+        answer: &mut Answer,
+    ) -> Result<(), Refusal> {
+        match call {
+            StructureCall::Bounds => self.bounds(words, answer),
+            StructureCall::Build => self.build(words),
+            StructureCall::Copy => self.copy(words),
+            StructureCall::Empty => self.empty(words),
+            StructureCall::Leaves => self.leaves(words, answer),
+            StructureCall::Node => self.node(words, answer),
+            StructureCall::Nodes => self.nodes(words, answer),
+            StructureCall::Parts => self.parts(words),
+            StructureCall::Peaks => self.peaks(words, answer),
+            StructureCall::Prune => self.prune(words),
+            StructureCall::PruneAll => self.prune_all(words),
+            StructureCall::Root => self.root(words, answer),
+            StructureCall::Same => self.same(words, answer),
+            StructureCall::SameRoots => self.same_roots(words, answer),
+            StructureCall::Size => self.size(words, answer),
+        }
+    }
+
+    fn answer_batch(
+        &mut self,
+        call: BatchCall,
+        words: &[&str],
+        answer: &mut Answer,
+    ) -> Result<(), Refusal> {
+        match call {
+            BatchCall::Apply => self.apply(words),
+            BatchCall::Base => self.base(words, answer),
+            BatchCall::Child => self.child(words),
+            BatchCall::Forget => self.forget(words),
+            BatchCall::Fork => self.fork(words),
+            BatchCall::FromMem => self.from_mem(words),
+            BatchCall::Merkleize => self.merkleize(words),
+            BatchCall::Pending => self.pending(words, answer),
+        }
+    }
+
+    fn answer_leaf(&mut self, call: LeafCall, words: &[&str]) -> Result<(), Refusal> {
+        match call {
+            LeafCall::Add => self.add(words),
+            LeafCall::AddDigest => self.add_digest(words),
+            LeafCall::AddDigests => self.add_digests(words),
+            LeafCall::AddList => self.add_list(words),
+            LeafCall::AddNumbers => self.add_numbers(words),
+            LeafCall::Update => self.update(words),
+            LeafCall::UpdateDigest => self.update_digest(words),
+            LeafCall::UpdateDigests => self.update_digests(words),
+            LeafCall::UpdateList => self.update_list(words),
+        }
+    }
+
+    fn answer_proof(
+        &self,
+        call: ProofCall,
+        words: &[&str],
+        answer: &mut Answer,
+    ) -> Result<(), Refusal> {
+        match call {
+            ProofCall::Check => self.check(words, answer),
+            ProofCall::CheckLeaf => self.check_leaf(words, answer),
+            ProofCall::Plan => self.plan(words),
+            ProofCall::PlanAbove => self.plan_above(words, answer),
+            ProofCall::Proof => self.proof(words, answer),
+            ProofCall::Prove => self.prove(words, answer),
+            ProofCall::ProveLeaves => self.prove_leaves(words, answer),
+            ProofCall::ProveRanges => self.prove_ranges(words, answer),
+            ProofCall::Range => self.range(words, answer),
         }
     }
 }

@@ -3,115 +3,186 @@
 /// What a line asks for, but for `new`.
 #[derive(Clone, Copy)]
 pub enum Call {
+    Family(FamilyCall),
+    Structure(StructureCall),
+    Batch(BatchCall),
+    Leaf(LeafCall),
+    Proof(ProofCall),
+}
+
+/// The calls of the family alone.
+#[derive(Clone, Copy)]
+pub enum FamilyCall {
+    Height,
+    Inactive,
+    IsInactive,
+    IsSize,
+    Location,
+    NearestSize,
+    Pins,
+    Position,
+}
+
+/// The calls of structures.
+#[derive(Clone, Copy)]
+pub enum StructureCall {
+    Bounds,
+    Build,
+    Copy,
+    Empty,
+    Leaves,
+    Node,
+    Nodes,
+    Parts,
+    Peaks,
+    Prune,
+    PruneAll,
+    Root,
+    Same,
+    SameRoots,
+    Size,
+}
+
+/// The calls of batches.
+#[derive(Clone, Copy)]
+pub enum BatchCall {
+    Apply,
+    Base,
+    Child,
+    Forget,
+    Fork,
+    FromMem,
+    Merkleize,
+    Pending,
+}
+
+/// The calls that add and change leaves of batches.
+#[derive(Clone, Copy)]
+pub enum LeafCall {
     Add,
     AddDigest,
     AddDigests,
     AddList,
     AddNumbers,
-    Apply,
-    Base,
-    Bounds,
-    Build,
-    Check,
-    CheckLeaf,
-    Child,
-    Copy,
-    Empty,
-    Forget,
-    Fork,
-    FromMem,
-    Height,
-    Inactive,
-    IsInactive,
-    IsSize,
-    Leaves,
-    Location,
-    Merkleize,
-    NearestSize,
-    Node,
-    Nodes,
-    Parts,
-    Peaks,
-    Pending,
-    Pins,
-    Plan,
-    PlanAbove,
-    Position,
-    Proof,
-    Prove,
-    ProveLeaves,
-    ProveRanges,
-    Prune,
-    PruneAll,
-    Range,
-    Root,
-    Same,
-    SameRoots,
-    Size,
     Update,
     UpdateDigest,
     UpdateDigests,
     UpdateList,
 }
 
-// Each call with its first word and the number of its words.
-const CALLS: [(&str, usize, Call); 49] = [
-    ("add", 3, Call::Add),
-    ("add_digest", 3, Call::AddDigest),
-    ("add_digests", 3, Call::AddDigests),
-    ("add_list", 3, Call::AddList),
-    ("add_numbers", 3, Call::AddNumbers),
-    ("apply", 3, Call::Apply),
-    ("base", 2, Call::Base),
-    ("bounds", 2, Call::Bounds),
-    ("build", 3, Call::Build),
-    ("check", 7, Call::Check),
-    ("check_leaf", 7, Call::CheckLeaf),
-    ("child", 3, Call::Child),
-    ("copy", 3, Call::Copy),
-    ("empty", 2, Call::Empty),
-    ("forget", 3, Call::Forget),
-    ("fork", 3, Call::Fork),
-    ("from_mem", 3, Call::FromMem),
-    ("height", 2, Call::Height),
-    ("inactive", 3, Call::Inactive),
-    ("is_inactive", 4, Call::IsInactive),
-    ("is_size", 2, Call::IsSize),
-    ("leaves", 2, Call::Leaves),
-    ("location", 2, Call::Location),
-    ("merkleize", 3, Call::Merkleize),
-    ("nearest_size", 2, Call::NearestSize),
-    ("node", 3, Call::Node),
-    ("nodes", 2, Call::Nodes),
-    ("parts", 5, Call::Parts),
-    ("peaks", 2, Call::Peaks),
-    ("pending", 2, Call::Pending),
-    ("pins", 2, Call::Pins),
-    ("plan", 4, Call::Plan),
-    ("plan", 6, Call::PlanAbove),
-    ("position", 2, Call::Position),
-    ("proof", 4, Call::Proof),
-    ("prove", 5, Call::Prove),
-    ("prove_leaves", 3, Call::ProveLeaves),
-    ("prove_ranges", 3, Call::ProveRanges),
-    ("prune", 3, Call::Prune),
-    ("prune_all", 2, Call::PruneAll),
-    ("range", 5, Call::Range),
-    ("root", 3, Call::Root),
-    ("same", 3, Call::Same),
-    ("same_roots", 3, Call::SameRoots),
-    ("size", 2, Call::Size),
-    ("update", 4, Call::Update),
-    ("update_digest", 4, Call::UpdateDigest),
-    ("update_digests", 3, Call::UpdateDigests),
-    ("update_list", 3, Call::UpdateList),
+/// The calls of proofs.
+#[derive(Clone, Copy)]
+pub enum ProofCall {
+    Check,
+    CheckLeaf,
+    Plan,
+    PlanAbove,
+    Proof,
+    Prove,
+    ProveLeaves,
+    ProveRanges,
+    Range,
+}
+
+// Below, each call with its first word and the number of its words.
+
+const FAMILY_CALLS: [(&str, usize, FamilyCall); 8] = [
+    ("height", 2, FamilyCall::Height),
+    ("inactive", 3, FamilyCall::Inactive),
+    ("is_inactive", 4, FamilyCall::IsInactive),
+    ("is_size", 2, FamilyCall::IsSize),
+    ("location", 2, FamilyCall::Location),
+    ("nearest_size", 2, FamilyCall::NearestSize),
+    ("pins", 2, FamilyCall::Pins),
+    ("position", 2, FamilyCall::Position),
+];
+
+const STRUCTURE_CALLS: [(&str, usize, StructureCall); 15] = [
+    ("bounds", 2, StructureCall::Bounds),
+    ("build", 3, StructureCall::Build),
+    ("copy", 3, StructureCall::Copy),
+    ("empty", 2, StructureCall::Empty),
+    ("leaves", 2, StructureCall::Leaves),
+    ("node", 3, StructureCall::Node),
+    ("nodes", 2, StructureCall::Nodes),
+    ("parts", 5, StructureCall::Parts),
+    ("peaks", 2, StructureCall::Peaks),
+    ("prune", 3, StructureCall::Prune),
+    ("prune_all", 2, StructureCall::PruneAll),
+    ("root", 3, StructureCall::Root),
+    ("same", 3, StructureCall::Same),
+    ("same_roots", 3, StructureCall::SameRoots),
+    ("size", 2, StructureCall::Size),
+];
+
+const BATCH_CALLS: [(&str, usize, BatchCall); 8] = [
+    ("apply", 3, BatchCall::Apply),
+    ("base", 2, BatchCall::Base),
+    ("child", 3, BatchCall::Child),
+    ("forget", 3, BatchCall::Forget),
+    ("fork", 3, BatchCall::Fork),
+    ("from_mem", 3, BatchCall::FromMem),
+    ("merkleize", 3, BatchCall::Merkleize),
+    ("pending", 2, BatchCall::Pending),
+];
+
+const LEAF_CALLS: [(&str, usize, LeafCall); 9] = [
+    ("add", 3, LeafCall::Add),
+    ("add_digest", 3, LeafCall::AddDigest),
+    ("add_digests", 3, LeafCall::AddDigests),
+    ("add_list", 3, LeafCall::AddList),
+    ("add_numbers", 3, LeafCall::AddNumbers),
+    ("update", 4, LeafCall::Update),
+    ("update_digest", 4, LeafCall::UpdateDigest),
+    ("update_digests", 3, LeafCall::UpdateDigests),
+    ("update_list", 3, LeafCall::UpdateList),
+];
+
+const PROOF_CALLS: [(&str, usize, ProofCall); 9] = [
+    ("check", 7, ProofCall::Check),
+    ("check_leaf", 7, ProofCall::CheckLeaf),
+    ("plan", 4, ProofCall::Plan),
+    ("plan", 6, ProofCall::PlanAbove),
+    ("proof", 4, ProofCall::Proof),
+    ("prove", 5, ProofCall::Prove),
+    ("prove_leaves", 3, ProofCall::ProveLeaves),
+    ("prove_ranges", 3, ProofCall::ProveRanges),
+    ("range", 5, ProofCall::Range),
 ];
 
 /// The call with this first word and so many words.
 pub fn find_call(name: &str, count: usize) -> Option<Call> {
-    for (word, words, call) in CALLS {
-        if word == name && words == count {
-            return Some(call);
+    family_call(name, count)
+        .or_else(|| structure_call(name, count))
+        .or_else(|| batch_call(name, count))
+        .or_else(|| leaf_call(name, count))
+        .or_else(|| proof_call(name, count))
+}
+
+fn family_call(name: &str, count: usize) -> Option<Call> {
+    Some(Call::Family(find(&FAMILY_CALLS, name, count)?))
+}
+
+fn structure_call(name: &str, count: usize) -> Option<Call> {
+    Some(Call::Structure(find(&STRUCTURE_CALLS, name, count)?))
+}
+
+fn batch_call(name: &str, count: usize) -> Option<Call> {
+    Some(Call::Batch(find(&BATCH_CALLS, name, count)?))
+}
+
+fn leaf_call(name: &str, count: usize) -> Option<Call> {
+    Some(Call::Leaf(find(&LEAF_CALLS, name, count)?))
+}
+
+fn proof_call(name: &str, count: usize) -> Option<Call> {
+    Some(Call::Proof(find(&PROOF_CALLS, name, count)?))
+}
+
+fn find<C: Copy>(calls: &[(&str, usize, C)], name: &str, count: usize) -> Option<C> {
+    for (word, words, call) in calls {
+        if *word == name && *words == count {
+            return Some(*call);
         }
     }
     None

@@ -4,19 +4,26 @@ use crate::refusal::{Refusal, SYNTAX, UNKNOWN};
 use std::alloc::Global;
 use std::collections::HashMap;
 
-/// The word at an index; the first is the call's name.
-pub fn word<'a>(words: &[&'a str], index: usize) -> Result<&'a str, Refusal> {
-    words.get(index).copied().ok_or(SYNTAX)
+/// The word at an index, the first of which is the call's name: the empty word where there is none.
+pub fn word<'a>(words: &[&'a str], index: usize) -> &'a str {
+    match words.get(index) {
+        Some(word) => word,
+        None => "",
+    }
 }
 
-/// The number that the word is in decimal digits.
-pub fn number(word: &str) -> Result<u64, Refusal> {
+/// The number that the word at an index is in decimal digits.
+pub fn number(words: &[&str], index: usize) -> Result<u64, Refusal> {
+    read_number(word(words, index))
+}
+
+/// The count that the word at an index is in decimal digits.
+pub fn count(words: &[&str], index: usize) -> Result<usize, Refusal> {
+    usize::try_from(number(words, index)?).ok().ok_or(SYNTAX)
+}
+
+fn read_number(word: &str) -> Result<u64, Refusal> {
     word.parse::<u64>().ok().ok_or(SYNTAX)
-}
-
-/// The count that the word is in decimal digits.
-pub fn count(word: &str) -> Result<usize, Refusal> {
-    usize::try_from(number(word)?).ok().ok_or(SYNTAX)
 }
 
 /// The bytes with these hexadecimal digits.
@@ -28,7 +35,7 @@ pub fn bytes(alloc: Global, word: &str) -> Result<Vec<u8>, Refusal> {
 pub fn repeated(item: &str) -> Result<(&str, u64), Refusal> {
     match item.split_once('*') {
         None => Ok((item, 1)),
-        Some((item, count)) => Ok((item, number(count)?)),
+        Some((item, count)) => Ok((item, read_number(count)?)),
     }
 }
 
@@ -63,13 +70,18 @@ pub fn located(alloc: Global, word: &str) -> Result<Vec<LeafBytes>, Refusal> {
     let mut all = Vec::new(alloc);
     if word != "-" {
         for item in word.split(',') {
-            let (leaf, spelling) = item.split_once(':').ok_or(SYNTAX)?;
-            let leaf = number(leaf)?;
-            let bytes = bytes(alloc, spelling)?;
-            all.push(LeafBytes { leaf, bytes })?;
+            all.push(leaf_bytes(alloc, item)?)?;
         }
     }
     Ok(all)
+}
+
+fn leaf_bytes(alloc: Global, item: &str) -> Result<LeafBytes, Refusal> {
+    let (leaf, spelling) = item.split_once(':').ok_or(SYNTAX)?;
+    Ok(LeafBytes {
+        leaf: read_number(leaf)?,
+        bytes: bytes(alloc, spelling)?,
+    })
 }
 
 /// What has that name.
