@@ -1,4 +1,4 @@
-use Rattle.std.proofs.Common.{◌≡◌, ◌+◌, ◌^◌, ◌≤◌, ℕ, length, arith, ap, sym, ◌∙◌}
+use Rattle.std.proofs.Common.{◌≡◌, ◌+◌, ◌^◌, ◌≤◌, ℕ, length, arith, ap, sym, ◌∙◌, rules}
 use Rattle.merkle_forest_theory.specs.Mmb.{birth_leaf}
 use Rattle.merkle_topology.proofs.BeltRoots.{IsHalved, stretch_birth, stretch_halved, stretch_first}
 use Rattle.merkle_topology.proofs.mmb.ChunkPeaksIterator.next.Goals as goal
@@ -24,3 +24,6 @@ returns-clause-goes c =
     let k = halved c.self.inside.leaves c.self.inside.first c.self.inside.height c.birth_leaf.result c.self.inside.valid c.self.inside.within (omega (arith, c.if-birth_leaf-self.false, c.self.inside.valid)) c.birth_leaf.ensures in
     let first = sym c.self.view_is ∙ stretch_first c.self.inside.left c.self.inside.leaves c.self.inside.first c.self.inside.height c.if-not-self.false k in
     record { on = λ _. (tt, tt, omega (arith, ap length first)); keeps = tt; rests = λ _. tt }
+
+pub returns-clause-steps : goal.returns-clause-steps
+returns-clause-steps c = search rules depth 2

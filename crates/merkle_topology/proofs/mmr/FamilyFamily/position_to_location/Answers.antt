@@ -1,4 +1,4 @@
-use Rattle.std.proofs.Common.{ap, sym, ◌∙◌}
+use Rattle.std.proofs.Common.{ap, sym, ◌∙◌, rules}
 use Rattle.merkle_base.specs.Forest.{size}
 use Rattle.merkle_forest_theory.specs.Mmr.{carries}
 use Rattle.merkle_topology.proofs.LeafCounts.{size_only}
@@ -9,3 +9,6 @@ returns-else-node_count-as_u64-clause-none c = λ n e.
     let k = c.leaf_count_within-leaves.ensures in
     let same = size_only carries c.leaf_count_within-leaves.result n c.as_u64.result k.within k.greatest (e ∙ sym c.as_u64.ensures) in
     c.if-node_count-as_u64.false (c.node_count.ensures ∙ ap (size carries) (sym same) ∙ e ∙ sym c.as_u64-2.ensures)
+
+pub returns-then-node_count-as_u64-clause-found : goal.returns-then-node_count-as_u64-clause-found
+returns-then-node_count-as_u64-clause-found c = search rules depth 2

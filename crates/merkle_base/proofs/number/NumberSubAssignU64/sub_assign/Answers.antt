@@ -1,0 +1,5 @@
+use Rattle.std.proofs.Common.{arith}
+use Rattle.merkle_base.proofs.number.NumberSubAssignU64.sub_assign.Goals as goal
+
+pub returns : goal.returns
+returns g c = omega arith

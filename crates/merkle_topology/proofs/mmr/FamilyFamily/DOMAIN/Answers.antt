@@ -1,0 +1,5 @@
+use Rattle.std.proofs.Common.{rules}
+use Rattle.merkle_topology.proofs.mmr.FamilyFamily.DOMAIN.Goals as goal
+
+pub returns : goal.returns
+returns c = search rules depth 2
