@@ -1,5 +1,4 @@
 pub mod Cases
-pub mod BytesLemmas
 pub mod Lists
 pub mod Growth
 pub mod Nodes

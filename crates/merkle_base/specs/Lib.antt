@@ -5,10 +5,6 @@ pub mod Laws
 pub mod Held
 pub mod Places
 pub mod Grafting
-pub mod Bytes
-pub mod Spelling
-pub mod SpellingLaws
-pub mod DigestLaws
 pub mod Bagging
 pub mod Hashing
 pub mod Digests

@@ -9,7 +9,6 @@ ghost use Rattle.merkle_base.specs.Places.{IsSize, IsNearestSize, ArePeaks, HasI
 
 pub use crate::listed::Listed;
 use crate::location::Location;
-pub use crate::pending::{Grafting, PendingChunk, Unused};
 pub use crate::pins::NodesToPin;
 use crate::position::Position;
 use std::fmt::Debug;

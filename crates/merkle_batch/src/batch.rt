@@ -15,11 +15,11 @@ ghost use Rattle.merkle_batch_theory.specs.Refusals.{fault_error};
 ghost use Rattle.merkle_batch_theory.specs.Stands.{StandsOn, last_list};
 
 pub use crate::merkleized::MerkleizedBatch;
-use merkle_base::digest::Digest;
 use merkle_base::error::Error;
 use merkle_base::family::Family;
 use merkle_base::location::Location;
 use merkle_base::position::Position;
+use merkle_digest::digest::Digest;
 pub use merkle_draft::base::Base;
 use merkle_hasher::hasher::Hasher;
 use std::collections::BTreeMap;

@@ -17,11 +17,11 @@ ghost use Rattle.merkle_batch_theory.specs.Roots.{root_batch};
 ghost use Rattle.merkle_batch_theory.specs.Stands.{StandsOn, last_list};
 
 use crate::batch::UnmerkleizedBatch;
-use merkle_base::digest::Digest;
 use merkle_base::error::Error;
 use merkle_base::family::Family;
 use merkle_base::location::Location;
 use merkle_base::position::Position;
+use merkle_digest::digest::Digest;
 use merkle_draft::base::Base;
 use merkle_draft::draft::Draft;
 use merkle_draft::overwrites::Overwrites;

@@ -7,11 +7,11 @@ ghost use Rattle.merkle_batch_theory.specs.Store.{stored_of};
 
 use crate::held_nodes::HeldNodes;
 use crate::mem::Mem;
-use merkle_base::digest::Digest;
 use merkle_base::error::Error;
 use merkle_base::family::Family;
 use merkle_base::location::Location;
 use merkle_base::position::Position;
+use merkle_digest::digest::Digest;
 use std::alloc::AllocError;
 
 /// What a structure is made of.

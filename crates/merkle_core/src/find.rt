@@ -5,11 +5,11 @@ ghost use Rattle.merkle_batch_theory.specs.Recorded.{Recorded};
 ghost use Rattle.merkle_batch_theory.specs.Refusals.{error_of};
 ghost use Rattle.merkle_batch_theory.specs.Replay.{ends_at, last_match, matched, oldest, refusal};
 
-use merkle_base::digest::Digest;
 use merkle_base::error::Error;
 use merkle_base::family::Family;
 use merkle_base::position::Position;
 use merkle_batch::batch::MerkleizedBatch;
+use merkle_digest::digest::Digest;
 use merkle_draft::record::Record;
 use std::rc::Rc;
 

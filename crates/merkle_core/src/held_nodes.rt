@@ -7,9 +7,9 @@ ghost use Rattle.merkle_batch_theory.specs.Held.{PinsBefore};
 ghost use Rattle.merkle_batch_theory.specs.Replay.{over};
 ghost use Rattle.merkle_batch_theory.specs.Store.{stored_of};
 
-use merkle_base::digest::Digest;
 use merkle_base::family::Family;
 use merkle_base::position::Position;
+use merkle_digest::digest::Digest;
 use std::alloc::{AllocError, Global};
 use std::collections::VecDeque;
 use std::marker::Model;

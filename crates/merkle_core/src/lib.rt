@@ -5,6 +5,7 @@
 #![tactic(auto)]
 
 mod components;
+pub mod family;
 mod find;
 mod held_nodes;
 pub mod mem;
@@ -13,7 +14,9 @@ pub mod mmr;
 mod prune;
 mod replay;
 
-pub use merkle_base::{codec, digest, error, family, location, position};
+pub use merkle_base::{error, location, position};
 pub use merkle_batch::batch;
+pub use merkle_codec::codec;
+pub use merkle_digest::digest;
 pub use merkle_hasher::{hasher, path, read};
 pub use merkle_proof::proof;

@@ -8,11 +8,11 @@ ghost use Rattle.merkle_batch_theory.specs.HeldPeaks.{pins_of};
 ghost use Rattle.merkle_batch_theory.specs.Store.{contents};
 
 use crate::mem::Mem;
-use merkle_base::digest::Digest;
 use merkle_base::error::Error;
 use merkle_base::family::Family;
 use merkle_base::location::Location;
 use merkle_base::position::Position;
+use merkle_digest::digest::Digest;
 use std::alloc::AllocError;
 
 impl<F: Family, D: Digest> Mem<F, D> {

@@ -5,8 +5,8 @@ ghost use Rattle.merkle_batch_theory.specs.Held.{held_contents, total_appended};
 ghost use Rattle.merkle_batch_theory.specs.Replay.{all_laid, laid, over};
 
 use crate::held_nodes::HeldNodes;
-use merkle_base::digest::Digest;
 use merkle_base::family::Family;
+use merkle_digest::digest::Digest;
 use merkle_draft::overwrites::Overwrites;
 use merkle_draft::record::Record;
 use std::rc::Rc;

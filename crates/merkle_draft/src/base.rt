@@ -3,10 +3,10 @@ ghost use Rattle.std.specs.Prelude.{◌≡◌, ◌≤◌, ℕ, IfOk};
 ghost use Rattle.merkle_base.specs.Forest.{size};
 ghost use Rattle.merkle_batch_theory.specs.Contents.{Contents, held_peaks};
 
-use merkle_base::digest::Digest;
 use merkle_base::family::Family;
 use merkle_base::location::Location;
 use merkle_base::position::Position;
+use merkle_digest::digest::Digest;
 use std::alloc::AllocError;
 
 /// A structure of a family that batches are forked from and read nodes of.

@@ -2,9 +2,9 @@
 ghost use Rattle.std.specs.Prelude.{◌≡◌, OnOk, OnErr, ◌==◌};
 ghost use Rattle.std.specs.FinMap.{empty, get, insert, len};
 
-use merkle_base::digest::Digest;
 use merkle_base::family::Family;
 use merkle_base::position::Position;
+use merkle_digest::digest::Digest;
 use std::alloc::{AllocError, Global};
 use std::collections::HashMap;
 use std::marker::Model;

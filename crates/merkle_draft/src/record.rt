@@ -5,9 +5,9 @@ ghost use Rattle.merkle_batch_theory.specs.Read.{newest, written};
 ghost use Rattle.merkle_batch_theory.specs.Recorded.{after};
 
 use crate::overwrites::Overwrites;
-use merkle_base::digest::Digest;
 use merkle_base::family::Family;
 use merkle_base::position::Position;
+use merkle_digest::digest::Digest;
 use std::marker::Model;
 use std::rc::{Rc, RcSlice};
 

@@ -3,9 +3,9 @@ ghost use Rattle.std.specs.Prelude.{◌≡◌, ◌∷◌, []};
 ghost use Rattle.std.proofs.Common.{refl, rules};
 ghost use Rattle.merkle_fixtures.specs.Masked.{keyed};
 
-use merkle_base::digest::{Digest, PlainHasher, Xor8, Xor8Digest};
 use merkle_base::family::{Bagging, Family};
 use merkle_base::position::Position;
+use merkle_digest::digest::{Digest, PlainHasher, Xor8, Xor8Digest};
 use merkle_hasher::hasher::{Hasher, Standard};
 
 /// The hasher over [`Xor8`] with a key: each digest is the exclusive or of the key and what [`Standard`] gives.

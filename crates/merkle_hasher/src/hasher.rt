@@ -2,17 +2,17 @@
 ghost use Rattle.std.specs.Prelude.{◌≡◌, ◌+◌, ◌<◌, ◌≤◌, ◌++◌, [], ◌∷◌, ℕ, List, ⊤, length, fold};
 ghost use Rattle.std.proofs.Common.{ap, refl};
 ghost use Rattle.std.specs.Option.{SomeIff};
-ghost use Rattle.merkle_base.specs.Bytes.{joined_parts};
+ghost use Rattle.merkle_digest.specs.Bytes.{joined_parts};
 ghost use Rattle.merkle_base.specs.declared.family.Bagging.{Bagging};
 ghost use Rattle.merkle_base.specs.Hashing.{Hashing, IsOver};
 ghost use Rattle.merkle_base.specs.Root.{bag, folded, root_string, peaks_root};
 ghost use Rattle.merkle_hasher.specs.Standard.{standard};
 
-use merkle_base::digest::{Digest, PlainHasher};
 use merkle_base::error::Error;
 use merkle_base::family::{Bagging, Family};
 use merkle_base::location::Location;
 use merkle_base::position::Position;
+use merkle_digest::digest::{Digest, PlainHasher};
 use std::alloc::AllocError;
 use std::marker::{Model, PhantomData};
 

@@ -1,9 +1,9 @@
 //! What holds nodes.
 ghost use Rattle.std.specs.Prelude.{◌≡◌, ℕ, Option};
 
-use merkle_base::digest::Digest;
 use merkle_base::family::Family;
 use merkle_base::position::Position;
+use merkle_digest::digest::Digest;
 use std::rc::Rc;
 
 /// A value that has a node count and answers nodes by position.

@@ -8,10 +8,10 @@ ghost use Rattle.merkle_proof.specs.Input.{setting, input_of};
 
 use crate::checks::{ProofParts, verify_range};
 pub use crate::range_plan::RangePlan;
-use merkle_base::digest::Digest;
 use merkle_base::error::OutOfMemory;
 use merkle_base::family::Family;
 use merkle_base::location::Location;
+use merkle_digest::digest::Digest;
 use merkle_hasher::hasher::Hasher;
 use std::alloc::{AllocError, Global};
 

@@ -5,10 +5,10 @@ ghost use Rattle.merkle_base.specs.Root.{bag, folded};
 ghost use Rattle.merkle_base.specs.declared.family.Bagging.TheVariants.{ForwardFold};
 ghost use Rattle.merkle_proof.specs.RangePlans.{AreAnswered, IsFirstMissing, IsLaidOut};
 
-use merkle_base::digest::Digest;
 use merkle_base::error::Error;
 use merkle_base::family::Family;
 use merkle_base::position::Position;
+use merkle_digest::digest::Digest;
 use merkle_hasher::hasher::Hasher;
 use std::alloc::Global;
 

@@ -15,9 +15,7 @@ ghost use Rattle.merkle_topology.specs.BeltIterators.{PeaksLeft};
 ghost use Rattle.merkle_forest_theory.proofs.BeltLawful.{mmb_lawful};
 ghost use Rattle.merkle_forest_theory.proofs.Coordinates.{mmb_coordinates};
 
-use merkle_base::digest::Digest;
 use merkle_base::listed::Listed;
-use merkle_base::pending::Grafting;
 use merkle_base::{error, family, location, position};
 use std::marker::Model;
 
@@ -496,8 +494,4 @@ impl family::Graftable for Family {
     }
 
     ghost coordinates = { mmb_coordinates };
-}
-
-impl<D: Digest> Grafting<D> for Family {
-    type PendingChunk = Option<D>;
 }

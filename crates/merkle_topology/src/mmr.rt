@@ -17,7 +17,6 @@ ghost use Rattle.merkle_forest_theory.proofs.Coordinates.{mmr_coordinates};
 ghost use Rattle.merkle_forest_theory.proofs.RangeLawful.{mmr_lawful};
 
 use merkle_base::listed::Listed;
-use merkle_base::pending::{Grafting, Unused};
 use merkle_base::{error, family, location, position};
 use std::marker::Model;
 
@@ -392,8 +391,4 @@ impl family::Graftable for Family {
     }
 
     ghost coordinates = { mmr_coordinates };
-}
-
-impl<D: Drop> Grafting<D> for Family {
-    type PendingChunk = Unused;
 }

@@ -1,8 +1,9 @@
-use merkle_base::digest::{Digest, PlainHasher, Sha256Digest, Sha256Plain, Xor8, Xor8Digest};
 use merkle_base::error::{DecodeError, Error, OutOfMemory, ReconstructionError};
-use merkle_base::family::{Bagging, Unused};
+use merkle_base::family::Bagging;
 use merkle_base::location::{Leaves, Location, LocationRangeExt};
 use merkle_base::position::{Nodes, Number, Position};
+use merkle_codec::pending::Unused;
+use merkle_digest::digest::{Digest, PlainHasher, Sha256Digest, Sha256Plain, Xor8, Xor8Digest};
 use merkle_topology::mmb;
 use std::alloc::Global;
 use std::collections::HashMap;

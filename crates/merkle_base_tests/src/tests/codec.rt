@@ -1,7 +1,7 @@
-use merkle_base::codec::{EncodeSize, Read, Write};
-use merkle_base::digest::{Digest, Sha256Digest, Xor8Digest};
 use merkle_base::error::DecodeError;
-use merkle_base::family::{PendingChunk, Unused};
+use merkle_codec::codec::{EncodeSize, Read, Write};
+use merkle_codec::pending::{PendingChunk, Unused};
+use merkle_digest::digest::{Digest, Sha256Digest, Xor8Digest};
 use std::alloc::Global;
 use std::test::Fail;
 

@@ -1,5 +1,5 @@
-use merkle_base::digest::{Digest, PlainHasher, Sha256Digest, Sha256Plain, Xor8, Xor8Digest};
 use merkle_base::family::Bagging;
+use merkle_digest::digest::{Digest, PlainHasher, Sha256Digest, Sha256Plain, Xor8, Xor8Digest};
 use merkle_hasher::hasher::Standard;
 use std::process::Abort;
 use std::test::Fail;

@@ -1,9 +1,9 @@
 //! What each family keeps of a chunk without a root of its own.
 
-use merkle_base::codec::EncodeSize;
-use merkle_base::digest::{Digest, Xor8Digest};
 use merkle_base::error::DecodeError;
-use merkle_base::family::{Grafting, PendingChunk};
+use merkle_codec::codec::EncodeSize;
+use merkle_codec::pending::{Grafting, PendingChunk};
+use merkle_digest::digest::{Digest, Xor8Digest};
 use merkle_topology::{mmb, mmr};
 
 /// The pending chunk of the Mountain Range.

@@ -2,8 +2,8 @@
 ghost use Rattle.std.specs.Prelude.{◌≡◌, ◌+◌, ◌^◌, ◌<◌, ◌≤◌, ◌↔◌, ◌==◌, ◌++◌, ◌∷◌, [], ℕ, List, IsTrue, MatchOption, length, fold, bit_xor, replicate};
 ghost use Rattle.std.proofs.Common.{rules, ap};
 ghost use Rattle.std.specs.Mem.{type_size};
-ghost use Rattle.merkle_base.specs.Bytes.{joined_parts};
-ghost use Rattle.merkle_base.specs.DigestLaws.{same_sized, bytes_eq, xor_of, length-sha256, no_bytes, length-no_bytes};
+ghost use Rattle.merkle_digest.specs.Bytes.{joined_parts};
+ghost use Rattle.merkle_digest.specs.DigestLaws.{same_sized, bytes_eq, xor_of, length-sha256, no_bytes, length-no_bytes};
 ghost use Rattle.sha2.specs.Sha256.{sha256};
 
 use sha2::{Digest as _, Sha256};

@@ -3,8 +3,8 @@ use Rattle.std.proofs.Common.{◌≡◌, ℕ, ◌+◌, ◌<◌, List, [], ◌++�
 use Rattle.std.specs.Borrow.{Bor}
 use Rattle.std.proofs.lemmas.List.{take_more, flat_map_more}
 use Rattle.std.proofs.lemmas.List.Sums.{fold-append}
-use Rattle.merkle_base.specs.Bytes.{joined_parts}
-use Rattle.merkle_base.specs.DigestLaws.{xor_of}
+use Rattle.merkle_digest.specs.Bytes.{joined_parts}
+use Rattle.merkle_digest.specs.DigestLaws.{xor_of}
 
 pub joined_parts_more : (parts : List (Bor (List ℕ))) (i : ℕ) (d : Bor (List ℕ)) → i < length parts → joined_parts (take i parts) ++ (get_or parts i d).now ≡ joined_parts (take (i + 1) parts)
 joined_parts_more parts i d below =

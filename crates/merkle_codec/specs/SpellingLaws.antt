@@ -3,7 +3,7 @@ use Rattle.std.proofs.Common.{◌≡◌, ℕ, List, [], ◌∷◌, ◌++◌, len
 use Rattle.std.specs.Prelude.{Option, Some, None}
 use Rattle.std.proofs.Math.Seq.{take-append_seam}
 use Rattle.merkle_base.specs.declared.error.DecodeError.{DecodeError}
-use Rattle.merkle_base.specs.Spelling.{option_spelling, IsDigestRefusal, IsOptionRefusal}
+use Rattle.merkle_codec.specs.Spelling.{option_spelling, IsDigestRefusal, IsOptionRefusal}
 
 -- lists that begin with parts of one length and are equal have equal parts
 append_once : (a b r s : List ℕ) → length a ≡ length b → a ++ r ≡ b ++ s → (a ≡ b) × (r ≡ s)

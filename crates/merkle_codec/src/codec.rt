@@ -1,10 +1,10 @@
 //! Values as bytes.
 ghost use Rattle.std.specs.Prelude.{◌≡◌, ◌≢◌, ◌+◌, ◌^◌, ◌<◌, ◌++◌, ℕ, List, IfOk, IfErr, OnOk, OnErr, length, vec_len, vec_capacity, ⊤};
-ghost use Rattle.merkle_base.specs.Spelling.{option_spelling, IsDigestRefusal, IsOptionRefusal};
-ghost use Rattle.merkle_base.specs.SpellingLaws.{option_spelling_once, IsOptionRefusal_spells_none, IsOptionRefusal_once};
+ghost use Rattle.merkle_codec.specs.Spelling.{option_spelling, IsDigestRefusal, IsOptionRefusal};
+ghost use Rattle.merkle_codec.specs.SpellingLaws.{option_spelling_once, IsOptionRefusal_spells_none, IsOptionRefusal_once};
 
-use crate::digest::Digest;
-use crate::error::{DecodeError, OutOfMemory};
+use merkle_base::error::{DecodeError, OutOfMemory};
+use merkle_digest::digest::Digest;
 use std::alloc::Global;
 
 /// What has a spelling: bytes that stand for the value.

@@ -1,7 +1,7 @@
 use Rattle.std.proofs.Common.{subst}
 use Rattle.sha2.specs.Hashers.{Holds256}
-use Rattle.merkle_base.proofs.BytesLemmas.{joined_parts_more}
-use Rattle.merkle_base.proofs.digest.Sha256PlainPlainHasher.hash.Goals as goal
+use Rattle.merkle_digest.proofs.BytesLemmas.{joined_parts_more}
+use Rattle.merkle_digest.proofs.digest.Sha256PlainPlainHasher.hash.Goals as goal
 
 pub loop-part-preserved : goal.loop-part-preserved
 loop-part-preserved c =

@@ -1,7 +1,7 @@
 use Rattle.std.proofs.Common.{◌≡◌, take}
-use Rattle.merkle_base.specs.Bytes.{joined_parts}
-use Rattle.merkle_base.specs.DigestLaws.{xor_of}
-use Rattle.merkle_base.proofs.digest.Xor8PlainHasher.hash.Given as goal
+use Rattle.merkle_digest.specs.Bytes.{joined_parts}
+use Rattle.merkle_digest.specs.DigestLaws.{xor_of}
+use Rattle.merkle_digest.proofs.digest.Xor8PlainHasher.hash.Given as goal
 
 abbrev pub invariant-loop-part : goal.invariant-loop-part
 invariant-loop-part l = l.byte ≡ xor_of (joined_parts (take l.part-index l.parts))

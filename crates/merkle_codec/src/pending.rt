@@ -3,9 +3,10 @@ ghost use Rattle.std.specs.Prelude.{◌≡◌, ◌≢◌, ◌++◌, [], ℕ, Lis
 ghost use Rattle.std.specs.Option.{option_copied};
 
 use crate::codec::{EncodeSize, Read, Write};
-use crate::digest::Digest;
-use crate::error::{DecodeError, OutOfMemory};
-use crate::family::Graftable;
+use merkle_base::error::{DecodeError, OutOfMemory};
+use merkle_base::family::Graftable;
+use merkle_digest::digest::Digest;
+use merkle_topology::{mmb, mmr};
 use std::alloc::Global;
 use std::fmt::Debug;
 
@@ -43,6 +44,14 @@ pub trait PendingChunk<D>: Clone + Debug + Eq + Write + Read<Cfg = ()> {
 pub trait Grafting<D>: Graftable {
     /// The pending chunk over digests.
     type PendingChunk: PendingChunk<D>;
+}
+
+impl<D: Drop> Grafting<D> for mmr::Family {
+    type PendingChunk = Unused;
+}
+
+impl<D: Digest> Grafting<D> for mmb::Family {
+    type PendingChunk = Option<D>;
 }
 
 /// The pending chunk of a family that has none: it holds no digest and is spelled by no bytes.

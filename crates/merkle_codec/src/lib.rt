@@ -1,0 +1,5 @@
+//! Values as bytes: what spells them, and what is wrong with bytes that begin with no spelling.
+#![tactic(auto)]
+
+pub mod codec;
+pub mod pending;

@@ -1,0 +1,4 @@
+//! Families of Merkle structures, and what a grafted structure keeps of a chunk that is not whole.
+
+pub use merkle_base::family::{Bagging, Family, Graftable, Listed, MAX_PINNED_NODES, NodesToPin};
+pub use merkle_codec::pending::{Grafting, PendingChunk, Unused};

@@ -1,0 +1,4 @@
+//! Digests, and the plain hash functions that give them.
+#![tactic(auto)]
+
+pub mod digest;
