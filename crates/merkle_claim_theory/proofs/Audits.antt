@@ -1,12 +1,12 @@
 -- The verdicts follow from the search for the first collision and from what an acceptance shows.
 use Rattle.std.proofs.Common.{Option, Some, None, MatchOption, ◌⊎◌, inl, inr, List}
 use Rattle.merkle_claim_theory.specs.Audit.{AuditsRange, AuditsPair}
-use Rattle.merkle_proof.specs.Check.{all_inputs, list_expression, range_expression}
-use Rattle.merkle_proof.specs.Collision.{Collision, Collides}
-use Rattle.merkle_proof.specs.Expression.{Input}
+use Rattle.merkle_root_theory.specs.Check.{all_inputs, list_expression, range_expression}
+use Rattle.merkle_root_theory.specs.Collision.{Collision, Collides}
+use Rattle.merkle_root_theory.specs.Expression.{Input}
 use Rattle.merkle_base.specs.Hashing.{Hashing}
 use Rattle.merkle_claim_theory.specs.FirstCollision.{first_collision, IsFirstCollision}
-use Rattle.merkle_proof.proofs.ListChecks.{no_other_range, pair_consistent}
+use Rattle.merkle_root_theory.proofs.ListChecks.{no_other_range, pair_consistent}
 use Rattle.merkle_claim_theory.proofs.FirstCollisions.{finds_first}
 
 pub none_shows : {A : Type 0} {P P' : Type 0} (Q : A → Type 0) (o : Option A) → (P → P') → MatchOption o P Q → MatchOption o P' Q

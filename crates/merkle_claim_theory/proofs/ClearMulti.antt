@@ -2,21 +2,21 @@
 use Rattle.std.proofs.Common.{◌≡◌, ℕ, Bool, true, cond, ◌||◌, nat_eq, ◌<◌, ap, ap₂, sym, ◌∙◌, subst, arith, length, Option, Some, None, option_map, IfSome, unwrap_or}
 use Rattle.std.specs.List.{AllByRecursion, list_any}
 use Rattle.merkle_base.specs.Tree.{Tree, leaf, join}
-use Rattle.merkle_proof.specs.Expression.{Node, Expression, given, hashed}
+use Rattle.merkle_root_theory.specs.Expression.{Node, Expression, given, hashed}
 use Rattle.merkle_base.specs.Hashing.{Hashing}
-use Rattle.merkle_proof.specs.Collision.{Member, Laws}
+use Rattle.merkle_root_theory.specs.Collision.{Member, Laws}
 use Rattle.merkle_claim_theory.specs.FirstCollision.{first_collision}
-use Rattle.merkle_proof.specs.Plan.{Plan, peak, folding, whole, full, node_expression, tree_meets, tree_digest}
+use Rattle.merkle_root_theory.specs.Plan.{Plan, peak, folding, whole, full, node_expression, tree_meets, tree_digest}
 use Rattle.merkle_claim_theory.specs.MultiClaim.{also, or_empty, multi_tree, multi_claim}
 use Rattle.merkle_claim_theory.specs.Complete.{HonestTree, HonestPlan}
 use Rattle.merkle_base.specs.Root.{root_string}
-use Rattle.merkle_proof.specs.Check.{Setting, string_of, inputs_of, all_inputs, list_expression}
+use Rattle.merkle_root_theory.specs.Check.{Setting, string_of, inputs_of, all_inputs, list_expression}
 use Rattle.merkle_base.specs.Places.{peaks_of}
-use Rattle.merkle_proof.specs.Range.{leaf_of}
+use Rattle.merkle_root_theory.specs.Range.{leaf_of}
 use Rattle.merkle_claim_theory.specs.Table.{digest_for}
 use Rattle.merkle_claim_theory.specs.Multiproof.{multi_positions, locations_in, leaves_in, multi_on}
 use Rattle.merkle_claim_theory.specs.Verdict.{HonestMultiIsClear}
-use Rattle.merkle_proof.proofs.Collisions.{member_ordered}
+use Rattle.merkle_root_theory.proofs.Collisions.{member_ordered}
 use Rattle.merkle_claim_theory.proofs.NoCollisions.{Within, given_within, hashed_within, member_unordered}
 use Rattle.merkle_claim_theory.proofs.ClearRange.{once_in, no_root, found_none, no_collision}
 use Rattle.merkle_claim_theory.proofs.FirstCollisions.{finds_first}

@@ -2,24 +2,24 @@
 use Rattle.std.proofs.Common.{◌≡◌, ℕ, Bool, true, cond, ◌||◌, ◌≤◌, ◌<◌, List, [], ◌∷◌, ◌++◌, ap, ap₂, sym, ◌∙◌, subst, arith, length, map, drop, Option, Some, None, MatchOption, drop_at, append-nil}
 use Rattle.std.proofs.lemmas.List.{length-map}
 use Rattle.merkle_base.specs.Tree.{Tree, leaf, join}
-use Rattle.merkle_proof.specs.Expression.{Node, Expression, given, hashed, told, value}
+use Rattle.merkle_root_theory.specs.Expression.{Node, Expression, given, hashed, told, value}
 use Rattle.merkle_base.specs.Hashing.{Hashing}
-use Rattle.merkle_proof.specs.Plan.{Plan, peak, folding, full, node_expression, tree_meets, meets, siblings, outer, inner, tree_digest, plan_digest, honest_digests}
-use Rattle.merkle_proof.specs.Claim.{next}
+use Rattle.merkle_root_theory.specs.Plan.{Plan, peak, folding, full, node_expression, tree_meets, meets, siblings, outer, inner, tree_digest, plan_digest, honest_digests}
+use Rattle.merkle_root_theory.specs.Claim.{next}
 use Rattle.merkle_claim_theory.specs.PinnedClaim.{pinned_or, pin_tree, pin_plan, outside_tree, outside_plan, pinned_tree, pinned_claim, PinsTree, PinsPlan, PinsAll, PinsTrees}
-use Rattle.merkle_proof.specs.Outside.{HasLayout}
-use Rattle.merkle_proof.specs.Check.{chosen, leaf_given}
+use Rattle.merkle_root_theory.specs.Outside.{HasLayout}
+use Rattle.merkle_root_theory.specs.Check.{chosen, leaf_given}
 use Rattle.merkle_base.specs.Places.{peaks_of}
-use Rattle.merkle_proof.specs.Range.{in_range, end_of, range_parts, range_siblings, leaf_of}
+use Rattle.merkle_root_theory.specs.Range.{in_range, end_of, range_parts, range_siblings, leaf_of}
 use Rattle.merkle_claim_theory.specs.Table.{digest_for}
 use Rattle.merkle_claim_theory.specs.Pinned.{pin_positions, pinned_on}
 use Rattle.merkle_claim_theory.specs.Verdict.{HonestPinnedIsClear}
 use Rattle.merkle_claim_theory.proofs.NoCollisions.{Within, given_within, hashed_within}
 use Rattle.merkle_base.proofs.Cases.{by_test}
-use Rattle.merkle_proof.proofs.Claims.{split_left, split_right}
+use Rattle.merkle_root_theory.proofs.Claims.{split_left, split_right}
 use Rattle.merkle_claim_theory.proofs.HonestTold.{trees_left, plans_left}
-use Rattle.merkle_proof.proofs.PeakGroups.{range_layout}
-use Rattle.merkle_proof.proofs.RangeChecks.{honest_leaves}
+use Rattle.merkle_root_theory.proofs.PeakGroups.{range_layout}
+use Rattle.merkle_root_theory.proofs.RangeChecks.{honest_leaves}
 use Rattle.merkle_claim_theory.proofs.ListedDigests.{plan_for}
 use Rattle.merkle_claim_theory.proofs.PinnedChecks.{pins_rebuild}
 use Rattle.merkle_claim_theory.proofs.ClearMulti.{clear_of}

@@ -1,21 +1,21 @@
 -- An honest range input has no collision.
 use Rattle.std.proofs.Common.{◌≡◌, ℕ, suc, zero, pred, Bool, true, false, cond, nat_lt, ◌-◌, List, [], ◌∷◌, ◌++◌, ◌⊎◌, inl, inr, refl, ap, ap₂, sym, ◌∙◌, subst, ⊎_elim, flat_map, Option, Some, None, option_map, MatchOption, length}
-use Rattle.merkle_proof.specs.Expression.{Place, Root, Join, Argument, Bytes, Input, Expression, value, inputs}
+use Rattle.merkle_root_theory.specs.Expression.{Place, Root, Join, Argument, Bytes, Input, Expression, value, inputs}
 use Rattle.merkle_base.specs.Hashing.{Hashing}
-use Rattle.merkle_proof.specs.Collision.{Member, Collision, Collides}
+use Rattle.merkle_root_theory.specs.Collision.{Member, Collision, Collides}
 use Rattle.merkle_claim_theory.specs.FirstCollision.{first_collision, IsFirstCollision}
 use Rattle.merkle_base.specs.Tree.{Tree}
-use Rattle.merkle_proof.specs.Plan.{Plan, whole, full}
+use Rattle.merkle_root_theory.specs.Plan.{Plan, whole, full}
 use Rattle.merkle_base.specs.declared.family.Bagging.{Bagging}
 use Rattle.merkle_base.specs.declared.family.Bagging.TheVariants.{ForwardFold, BackwardFold}
-use Rattle.merkle_proof.specs.Claim.{claim_of}
-use Rattle.merkle_proof.specs.Check.{Setting, string_of, inputs_of, all_inputs, list_expression, RangeInput, chosen, leaf_given, range_expression, HasHonestDigests}
+use Rattle.merkle_root_theory.specs.Claim.{claim_of}
+use Rattle.merkle_root_theory.specs.Check.{Setting, string_of, inputs_of, all_inputs, list_expression, RangeInput, chosen, leaf_given, range_expression, HasHonestDigests}
 use Rattle.merkle_base.specs.Places.{peaks_of}
 use Rattle.merkle_base.specs.Root.{root_string}
 use Rattle.merkle_claim_theory.specs.Exact.{IsMap}
 use Rattle.merkle_claim_theory.specs.Order.{down, up, fold_places, node_places, Distinct}
 use Rattle.merkle_claim_theory.specs.Audit.{HonestIsClear}
-use Rattle.merkle_proof.proofs.ListChecks.{honest_value, honest_leaf}
+use Rattle.merkle_root_theory.proofs.ListChecks.{honest_value, honest_leaf}
 use Rattle.merkle_claim_theory.proofs.NoCollisions.{honest_inputs, member_split}
 use Rattle.merkle_claim_theory.proofs.FirstCollisions.{finds_first}
 use Rattle.merkle_claim_theory.proofs.PlaceOrder.{places_in_order}

@@ -9,18 +9,18 @@ use Rattle.merkle_base.specs.Heights.{peak_heights}
 use Rattle.merkle_base.proofs.Lists.{get_below}
 use Rattle.merkle_base.proofs.Lookup.{index_map}
 use Rattle.merkle_base.proofs.Balance.{heights_forest, peaks_balanced}
-use Rattle.merkle_proof.specs.Collision.{Member}
+use Rattle.merkle_root_theory.specs.Collision.{Member}
 use Rattle.merkle_claim_theory.specs.Order.{Distinct}
-use Rattle.merkle_proof.specs.Plan.{tree_meets, siblings}
+use Rattle.merkle_root_theory.specs.Plan.{tree_meets, siblings}
 use Rattle.merkle_base.specs.Places.{peaks_of}
 use Rattle.merkle_claim_theory.specs.Multiproof.{one_leaf_nodes, is_one_leaf_position, multi_positions, AtMost122}
 use Rattle.merkle_claim_theory.proofs.NoCollisions.{member_split}
-use Rattle.merkle_proof.proofs.Collisions.{member_left, member_right}
+use Rattle.merkle_root_theory.proofs.Collisions.{member_left, member_right}
 use Rattle.merkle_base.proofs.PeakLists.{Spans, all_reverse, peaks_built, peaks_spans}
 use Rattle.merkle_claim_theory.proofs.PlacesOnce.{member_map}
 use Rattle.merkle_claim_theory.proofs.ListedDigests.{filtered_member, member_any, distinct_filter, distinct_range}
 use Rattle.merkle_claim_theory.proofs.Multiproofs.{only, member_flat}
-use Rattle.merkle_proof.proofs.Walks.{siblings_unmet, siblings_join}
+use Rattle.merkle_root_theory.proofs.Walks.{siblings_unmet, siblings_join}
 
 -- a list without repetition is no longer than one that has its elements
 parted : {A : Type 0} (ys : List A) (x : A) → Member ys x → (us : List A) × (vs : List A) × (ys ≡ us ++ x ∷ vs)

@@ -1,16 +1,16 @@
 -- Honest multi inputs and honest pinned inputs are accepted.
 use Rattle.std.proofs.Common.{◌≡◌, ℕ, Bool, true, cond, ◌||◌, List, [], ◌∷◌, ◌++◌, refl, ap, ap₂, sym, ◌∙◌, length, map, drop, Option, Some, None, IfSome, MatchOption, drop_at, append-nil}
 use Rattle.std.proofs.lemmas.List.{length-map}
-use Rattle.merkle_proof.specs.Expression.{Place, Node, hashed_at, Expression, given, hashed, told, value, Holds}
+use Rattle.merkle_root_theory.specs.Expression.{Place, Node, hashed_at, Expression, given, hashed, told, value, Holds}
 use Rattle.merkle_base.specs.Hashing.{Hashing}
 use Rattle.merkle_base.specs.Tree.{Tree, leaf, join}
-use Rattle.merkle_proof.specs.Plan.{Plan, peak, folding, tree_meets, meets, siblings, outer, inner, tree_digest, plan_digest, honest_digests}
-use Rattle.merkle_proof.specs.Claim.{next}
+use Rattle.merkle_root_theory.specs.Plan.{Plan, peak, folding, tree_meets, meets, siblings, outer, inner, tree_digest, plan_digest, honest_digests}
+use Rattle.merkle_root_theory.specs.Claim.{next}
 use Rattle.merkle_claim_theory.specs.MultiClaim.{also, or_empty, multi_tree, multi_claim}
 use Rattle.merkle_claim_theory.specs.PinnedClaim.{pinned_or, pin_tree, pin_plan, outside_tree, outside_plan, pinned_tree, pinned_claim, PinsTree, PinsPlan, PinsAll, PinsTrees}
 use Rattle.merkle_claim_theory.specs.Complete.{HonestTree, HonestPlan, HonestMultiAccepted, HonestPinsAccepted}
 use Rattle.merkle_base.proofs.Cases.{by_test}
-use Rattle.merkle_proof.proofs.Claims.{split_left, split_right}
+use Rattle.merkle_root_theory.proofs.Claims.{split_left, split_right}
 
 -- what is told holds, and the value is d
 Gives : {D : Type 0} → Hashing D → Expression D → D → Type 0

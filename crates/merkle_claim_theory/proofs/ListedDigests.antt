@@ -5,23 +5,23 @@ use Rattle.std.proofs.lemmas.Bool.{eqb-true, eq-eqb, ne_eqb, or_right, false≢t
 use Rattle.std.proofs.lemmas.List.{nil_from_length}
 use Rattle.merkle_base.specs.Tree.{Tree}
 use Rattle.merkle_claim_theory.specs.Ascending.{AscendsFrom}
-use Rattle.merkle_proof.specs.Expression.{PrefixFold, Expression, value, inputs}
-use Rattle.merkle_proof.specs.Collision.{Member, Collision, Collides}
-use Rattle.merkle_proof.specs.Plan.{Plan, peak, folding, forward, bag, join_bag, whole, full, plan_digest}
+use Rattle.merkle_root_theory.specs.Expression.{PrefixFold, Expression, value, inputs}
+use Rattle.merkle_root_theory.specs.Collision.{Member, Collision, Collides}
+use Rattle.merkle_root_theory.specs.Plan.{Plan, peak, folding, forward, bag, join_bag, whole, full, plan_digest}
 use Rattle.merkle_base.specs.declared.family.Bagging.{Bagging}
 use Rattle.merkle_base.specs.declared.family.Bagging.TheVariants.{ForwardFold, BackwardFold}
 use Rattle.merkle_claim_theory.specs.Order.{Distinct}
-use Rattle.merkle_proof.specs.Check.{Setting, root_of, inputs_of, all_inputs, list_expression}
+use Rattle.merkle_root_theory.specs.Check.{Setting, root_of, inputs_of, all_inputs, list_expression}
 use Rattle.merkle_base.specs.Places.{peaks_of}
 use Rattle.merkle_claim_theory.specs.Table.{digest_for}
 use Rattle.merkle_base.proofs.Cases.{by_test}
-use Rattle.merkle_proof.proofs.ListChecks.{root_tells}
+use Rattle.merkle_root_theory.proofs.ListChecks.{root_tells}
 use Rattle.merkle_base.proofs.PeakLists.{Spans, peaks_spans}
-use Rattle.merkle_proof.proofs.Extraction.{all_take, all_drop}
-use Rattle.merkle_proof.specs.RootString.{ByteLaws, SameFolded}
+use Rattle.merkle_root_theory.proofs.Extraction.{all_take, all_drop}
+use Rattle.merkle_root_theory.specs.RootString.{ByteLaws, SameFolded}
 use Rattle.merkle_base.specs.Root.{root_string}
-use Rattle.merkle_proof.specs.Range.{leaf_of, plan_root, Sound}
-use Rattle.merkle_proof.proofs.RangeChecks.{small_leaves, small_inactive, no_plan}
+use Rattle.merkle_root_theory.specs.Range.{leaf_of, plan_root, Sound}
+use Rattle.merkle_root_theory.proofs.RangeChecks.{small_leaves, small_inactive, no_plan}
 
 -- ---- members
 pub any_member : {A : Type 0} (f : A → Bool) (xs : List A) (x : A) → Member xs x → f x ≡ true → list_any f xs ≡ true

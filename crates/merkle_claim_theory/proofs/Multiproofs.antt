@@ -6,25 +6,25 @@ use Rattle.std.proofs.lemmas.List.{length-map}
 use Rattle.merkle_base.specs.Tree.{Tree, leaf, join, position, IsBuilt}
 use Rattle.merkle_base.specs.Forest.{forest, size}
 use Rattle.merkle_base.proofs.Growth.{built_at, built_below}
-use Rattle.merkle_proof.specs.Expression.{Holds}
+use Rattle.merkle_root_theory.specs.Expression.{Holds}
 use Rattle.merkle_base.specs.Hashing.{Hashing}
-use Rattle.merkle_proof.specs.Collision.{Member}
-use Rattle.merkle_proof.specs.Plan.{Plan, peak, folding, whole, tree_meets, siblings, tree_digest}
-use Rattle.merkle_proof.specs.Claim.{InTree}
+use Rattle.merkle_root_theory.specs.Collision.{Member}
+use Rattle.merkle_root_theory.specs.Plan.{Plan, peak, folding, whole, tree_meets, siblings, tree_digest}
+use Rattle.merkle_root_theory.specs.Claim.{InTree}
 use Rattle.merkle_claim_theory.specs.Order.{Distinct}
 use Rattle.merkle_claim_theory.specs.MultiClaim.{or_empty, TellsTree, Tells, SameTree, SameLeaves}
 use Rattle.merkle_claim_theory.specs.Complete.{HonestTree, HonestPlan}
-use Rattle.merkle_proof.specs.Check.{Setting, root_of, list_expression}
+use Rattle.merkle_root_theory.specs.Check.{Setting, root_of, list_expression}
 use Rattle.merkle_base.specs.Places.{peaks_of}
-use Rattle.merkle_proof.specs.Range.{leaf_of, plan_root, Sound}
+use Rattle.merkle_root_theory.specs.Range.{leaf_of, plan_root, Sound}
 use Rattle.merkle_claim_theory.specs.Table.{digest_for, digest_of, digest_at_position}
 use Rattle.merkle_claim_theory.specs.Multiproof.{one_leaf_nodes, is_one_leaf_position, multi_positions, MultiInput, locations_in, leaves_in, multi_on, AllHolds, AcceptsMultiSome, IsHonestMultiSome, MultiCollides, HonestMultiIsAccepted, AcceptedMultiIsHonest}
-use Rattle.merkle_proof.proofs.Collisions.{member_left, member_right}
+use Rattle.merkle_root_theory.proofs.Collisions.{member_left, member_right}
 use Rattle.merkle_claim_theory.proofs.NoCollisions.{member_split}
 use Rattle.merkle_base.proofs.Cases.{by_test}
 use Rattle.merkle_claim_theory.proofs.ToldDigests.{no_other_multi}
 use Rattle.merkle_claim_theory.proofs.HonestTold.{honest_multi_accepted}
-use Rattle.merkle_proof.proofs.RangeChecks.{covers, small_leaves, small_inactive, empty_root}
+use Rattle.merkle_root_theory.proofs.RangeChecks.{covers, small_leaves, small_inactive, empty_root}
 use Rattle.merkle_claim_theory.proofs.ListedDigests.{any_member, member_any, member_filtered, filtered_member, range_member, distinct_range, distinct_filter, ascends_distinct, listed, listed_is, listed_some, EachPeak, each_of, of_each, plan_for, roots, below_root, roots_same, no_other_list}
 use Rattle.merkle_base.proofs.PeakLists.{peaks_built}
 

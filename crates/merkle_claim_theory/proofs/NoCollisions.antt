@@ -1,16 +1,16 @@
 -- Two lists with the same peaks; an honest claim's inputs are the list's.
 use Rattle.std.proofs.Common.{◌≡◌, ℕ, Bool, true, false, not, cond, ◌||◌, List, [], ◌∷◌, ◌++◌, ◌⊎◌, inl, inr, refl, ap, ap₂, sym, ◌∙◌, subst, ⊎_elim, length, map, drop, filter, drop_at, append-nil}
 use Rattle.std.proofs.lemmas.List.{length-map}
-use Rattle.merkle_proof.specs.Expression.{Place, Node, Pair, hashed_at, Input, Expression, given, hashed, value, Holds, visited, inputs, is_node, Alike, cut_left, both, Agree}
+use Rattle.merkle_root_theory.specs.Expression.{Place, Node, Pair, hashed_at, Input, Expression, given, hashed, value, Holds, visited, inputs, is_node, Alike, cut_left, both, Agree}
 use Rattle.merkle_base.specs.Hashing.{Hashing}
-use Rattle.merkle_proof.specs.Collision.{Member, Collision, Collides}
+use Rattle.merkle_root_theory.specs.Collision.{Member, Collision, Collides}
 use Rattle.merkle_base.specs.Tree.{Tree, leaf, join}
-use Rattle.merkle_proof.specs.Plan.{Plan, peak, folding, full, node_expression, tree_meets, meets, siblings, outer, inner, plan_digest, tree_digest, honest_digests}
-use Rattle.merkle_proof.specs.Claim.{next, tree_claim, claim, claim_of, InTree}
+use Rattle.merkle_root_theory.specs.Plan.{Plan, peak, folding, full, node_expression, tree_meets, meets, siblings, outer, inner, plan_digest, tree_digest, honest_digests}
+use Rattle.merkle_root_theory.specs.Claim.{next, tree_claim, claim, claim_of, InTree}
 use Rattle.merkle_claim_theory.specs.Exact.{forest_inputs, SamePeaks, HonestNeverCollides}
-use Rattle.merkle_proof.proofs.Collisions.{member_left, member_right, main_visited, member_ordered, Collides_in}
+use Rattle.merkle_root_theory.proofs.Collisions.{member_left, member_right, main_visited, member_ordered, Collides_in}
 use Rattle.merkle_base.proofs.Cases.{by_test}
-use Rattle.merkle_proof.proofs.Claims.{split_left, split_right}
+use Rattle.merkle_root_theory.proofs.Claims.{split_left, split_right}
 use Rattle.merkle_base.proofs.Lists.{cons_head, cons_tail}
 
 module _ {D : Type 0} (h : Hashing D) (X Y : ℕ → D) where

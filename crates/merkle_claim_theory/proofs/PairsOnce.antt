@@ -6,26 +6,26 @@ use Rattle.merkle_base.specs.Tree.{Tree, leaf, join, position, first_leaf, width
 use Rattle.merkle_base.specs.Forest.{forest}
 use Rattle.merkle_base.proofs.Growth.{built_at, under_itself}
 use Rattle.merkle_base.proofs.Nodes.{built_under}
-use Rattle.merkle_proof.specs.Expression.{value}
+use Rattle.merkle_root_theory.specs.Expression.{value}
 use Rattle.merkle_base.specs.Hashing.{Hashing}
-use Rattle.merkle_proof.specs.Collision.{Member}
+use Rattle.merkle_root_theory.specs.Collision.{Member}
 use Rattle.merkle_claim_theory.specs.Order.{Distinct}
-use Rattle.merkle_proof.specs.Plan.{tree_meets, siblings}
+use Rattle.merkle_root_theory.specs.Plan.{tree_meets, siblings}
 use Rattle.merkle_base.specs.declared.family.Bagging.{Bagging}
 use Rattle.merkle_base.specs.declared.family.Bagging.TheVariants.{ForwardFold, BackwardFold}
-use Rattle.merkle_proof.specs.Claim.{tree_claim}
-use Rattle.merkle_proof.specs.Outside.{single_before, single_after}
-use Rattle.merkle_proof.specs.Check.{leaf_given}
+use Rattle.merkle_root_theory.specs.Claim.{tree_claim}
+use Rattle.merkle_root_theory.specs.Outside.{single_before, single_after}
+use Rattle.merkle_root_theory.specs.Check.{leaf_given}
 use Rattle.merkle_base.specs.Places.{peaks_of, wholly_before}
-use Rattle.merkle_proof.specs.Range.{end_of, in_range, overlapping, wholly_after}
-use Rattle.merkle_proof.specs.Extract.{inner_pairs, over_pairs, single_pairs}
+use Rattle.merkle_root_theory.specs.Range.{end_of, in_range, overlapping, wholly_after}
+use Rattle.merkle_root_theory.specs.Extract.{inner_pairs, over_pairs, single_pairs}
 use Rattle.merkle_claim_theory.specs.Verdict.{ExtractsOnce}
 use Rattle.merkle_claim_theory.proofs.NoCollisions.{member_split}
-use Rattle.merkle_proof.proofs.Collisions.{member_left, member_right}
-use Rattle.merkle_proof.proofs.Extraction.{all_filter, all_single_before, all_single_after}
+use Rattle.merkle_root_theory.proofs.Collisions.{member_left, member_right}
+use Rattle.merkle_root_theory.proofs.Extraction.{all_filter, all_single_before, all_single_after}
 use Rattle.merkle_claim_theory.proofs.PlacesOnce.{distinct_append}
 use Rattle.merkle_base.proofs.Cases.{by_test}
-use Rattle.merkle_proof.proofs.PeakGroups.{groups}
+use Rattle.merkle_root_theory.proofs.PeakGroups.{groups}
 use Rattle.merkle_base.proofs.PeakLists.{Spans, peaks_built, peaks_spans}
 use Rattle.merkle_claim_theory.proofs.Verdicts.{apart_under}
 use Rattle.merkle_base.proofs.Lists.{one_there}

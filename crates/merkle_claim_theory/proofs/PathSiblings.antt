@@ -9,10 +9,10 @@ use Rattle.merkle_base.specs.Forest.{forest}
 use Rattle.merkle_base.proofs.Nodes.{node_built}
 use Rattle.merkle_hasher.specs.Path.{path}
 use Rattle.merkle_hasher.proofs.PathSteps.{path_left, path_right}
-use Rattle.merkle_proof.specs.Plan.{siblings}
-use Rattle.merkle_proof.specs.Range.{in_range}
-use Rattle.merkle_proof.proofs.PeakGroups.{meets_not, meets_yes}
-use Rattle.merkle_proof.proofs.Walks.{siblings_unmet, siblings_join, siblings_inside}
+use Rattle.merkle_root_theory.specs.Plan.{siblings}
+use Rattle.merkle_root_theory.specs.Range.{in_range}
+use Rattle.merkle_root_theory.proofs.PeakGroups.{meets_not, meets_yes}
+use Rattle.merkle_root_theory.proofs.Walks.{siblings_unmet, siblings_join, siblings_inside}
 use Rattle.merkle_claim_theory.specs.Siblings.{PathHasSiblings}
 
 siblings_left : (ns : List Tree) (k p : ℕ) (l r : Tree) → IsBuilt ns (join p l r) → first_leaf l ≤ k → k < first_leaf r → siblings (in_range k (k + 1)) (join p l r) ≡ siblings (in_range k (k + 1)) l ++ r ∷ []

@@ -8,37 +8,37 @@ use Rattle.merkle_base.specs.Forest.{forest, size}
 use Rattle.merkle_base.proofs.Growth.{forest_grown, built_at, IsBuilt-front}
 use Rattle.merkle_base.proofs.Nodes.{forest_prefix, first_under, end_under, width_pos, peak_of}
 use Rattle.merkle_base.proofs.Paths.{position_under}
-use Rattle.merkle_proof.specs.Expression.{PrefixFold, Holds, value}
+use Rattle.merkle_root_theory.specs.Expression.{PrefixFold, Holds, value}
 use Rattle.merkle_base.specs.Hashing.{Hashing}
-use Rattle.merkle_proof.specs.Collision.{Member}
-use Rattle.merkle_proof.specs.Plan.{Plan, peak, folding, forward, whole, tree_meets, meets, siblings, outer, inner, tree_digest, plan_digest, honest_digests}
+use Rattle.merkle_root_theory.specs.Collision.{Member}
+use Rattle.merkle_root_theory.specs.Plan.{Plan, peak, folding, forward, whole, tree_meets, meets, siblings, outer, inner, tree_digest, plan_digest, honest_digests}
 use Rattle.merkle_base.specs.declared.family.Bagging.{Bagging}
 use Rattle.merkle_base.specs.declared.family.Bagging.TheVariants.{ForwardFold, BackwardFold}
-use Rattle.merkle_proof.specs.Claim.{InTree, InPlan}
+use Rattle.merkle_root_theory.specs.Claim.{InTree, InPlan}
 use Rattle.merkle_claim_theory.specs.Order.{Distinct}
 use Rattle.merkle_claim_theory.specs.MultiClaim.{or_empty}
 use Rattle.merkle_claim_theory.specs.PinnedClaim.{pinned_of, PinsTree, PinsPlan, PinsAll, PinsTrees}
-use Rattle.merkle_proof.specs.Outside.{fold_all, bag_all, layout, Unmet, HasLayout}
-use Rattle.merkle_proof.specs.Check.{Setting, root_of, list_expression, RangeInput, chosen, leaf_given}
+use Rattle.merkle_root_theory.specs.Outside.{fold_all, bag_all, layout, Unmet, HasLayout}
+use Rattle.merkle_root_theory.specs.Check.{Setting, root_of, list_expression, RangeInput, chosen, leaf_given}
 use Rattle.merkle_base.specs.Places.{peaks_of, wholly_before}
-use Rattle.merkle_proof.specs.Range.{in_range, end_of, overlapping, wholly_after, range_parts, range_siblings, leaf_of, plan_root, Sound, IsHonestSome}
+use Rattle.merkle_root_theory.specs.Range.{in_range, end_of, overlapping, wholly_after, range_parts, range_siblings, leaf_of, plan_root, Sound, IsHonestSome}
 use Rattle.merkle_claim_theory.specs.Table.{digest_for, digest_of}
 use Rattle.merkle_claim_theory.specs.Pinned.{pin_positions, pinned_on, AcceptsPinnedSome, honest_pins, PinnedCollides, HonestPinnedIsAccepted, AcceptedPinnedIsHonest, PinsAreOldPeaks}
 use Rattle.merkle_claim_theory.proofs.NoCollisions.{member_split}
 use Rattle.merkle_base.proofs.Cases.{by_test}
-use Rattle.merkle_proof.proofs.PeakGroups.{meets_not, meets_yes, range_layout, groups}
+use Rattle.merkle_root_theory.proofs.PeakGroups.{meets_not, meets_yes, range_layout, groups}
 use Rattle.merkle_base.proofs.PeakLists.{Spans, spans_end, peaks_built, peaks_spans}
-use Rattle.merkle_proof.proofs.OutsideNodes.{bag_unmet, unmet_take, unmet_drop}
-use Rattle.merkle_proof.proofs.Extraction.{all_filter, all_take, all_drop}
-use Rattle.merkle_proof.proofs.RangeChecks.{covers, tree_in, small_leaves, small_inactive, honest_leaves, honest_some, elements_are, empty_root}
-use Rattle.merkle_proof.proofs.ListChecks.{is_chosen}
+use Rattle.merkle_root_theory.proofs.OutsideNodes.{bag_unmet, unmet_take, unmet_drop}
+use Rattle.merkle_root_theory.proofs.Extraction.{all_filter, all_take, all_drop}
+use Rattle.merkle_root_theory.proofs.RangeChecks.{covers, tree_in, small_leaves, small_inactive, honest_leaves, honest_some, elements_are, empty_root}
+use Rattle.merkle_root_theory.proofs.ListChecks.{is_chosen}
 use Rattle.merkle_claim_theory.specs.Multiproof.{AllHolds}
 use Rattle.merkle_claim_theory.proofs.ListedDigests.{filtered_member, EachPeak, each_forward, forward_each, all_cut, listed, listed_is, listed_some, each_of, plan_for, roots, below_root, roots_same, no_other_list}
 use Rattle.merkle_claim_theory.proofs.Multiproofs.{all_member, member_all, told_some, if_some}
 use Rattle.merkle_claim_theory.proofs.ToldDigests.{pins_trees_append, pins_all_append, no_other_pins}
 use Rattle.merkle_claim_theory.proofs.HonestTold.{trees_left, plans_left, honest_pins_accepted}
-use Rattle.merkle_proof.proofs.Walks.{siblings_unmet, siblings_join}
-use Rattle.merkle_proof.proofs.Collisions.{member_left, member_right}
+use Rattle.merkle_root_theory.proofs.Walks.{siblings_unmet, siblings_join}
+use Rattle.merkle_root_theory.proofs.Collisions.{member_left, member_right}
 use Rattle.merkle_base.proofs.Lists.{one_there}
 use Rattle.merkle_claim_theory.proofs.PlacesOnce.{member_map}
 

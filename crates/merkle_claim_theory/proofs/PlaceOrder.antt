@@ -1,10 +1,10 @@
 -- The places of a list's inputs are those of the table, in its order.
 use Rattle.std.proofs.Common.{◌≡◌, ℕ, suc, zero, pred, Bool, true, false, not, cond, nat_lt, ◌+◌, ◌-◌, List, [], ◌∷◌, ◌++◌, refl, ap, ap₂, sym, ◌∙◌, arith, length, map, take, drop, flat_map, filter, append_assoc, append-nil, lt-ltb, le-ltb, take-append-drop}
 use Rattle.std.proofs.lemmas.List.{map-append, length-drop, take_all, length-take-le}
-use Rattle.merkle_proof.specs.Expression.{Place, Join, PrefixFold, SuffixFold, Node, Input, Expression, hashed, visited, inputs, is_node}
+use Rattle.merkle_root_theory.specs.Expression.{Place, Join, PrefixFold, SuffixFold, Node, Input, Expression, hashed, visited, inputs, is_node}
 use Rattle.merkle_base.specs.Hashing.{Hashing}
 use Rattle.merkle_base.specs.Tree.{Tree, leaf, join}
-use Rattle.merkle_proof.specs.Plan.{Plan, peak, folding, forward, bag, join_bag, full, node_expression}
+use Rattle.merkle_root_theory.specs.Plan.{Plan, peak, folding, forward, bag, join_bag, full, node_expression}
 use Rattle.merkle_base.specs.declared.family.Bagging.TheVariants.{ForwardFold, BackwardFold}
 use Rattle.merkle_claim_theory.specs.Order.{down, up, node_places, PlacesInOrder}
 

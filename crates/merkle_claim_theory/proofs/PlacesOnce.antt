@@ -1,8 +1,8 @@
 -- No place stands twice among a list's inputs.
 use Rattle.std.proofs.Common.{◌≡◌, ℕ, suc, zero, pred, Bool, true, false, cond, nat_lt, ◌-◌, ◌≤◌, List, [], ◌∷◌, ◌++◌, inl, inr, refl, ap, sym, ◌∙◌, subst, ⊎_elim, arith, length, map, flat_map}
 use Rattle.std.proofs.lemmas.Bool.{true≢false}
-use Rattle.merkle_proof.specs.Expression.{Place, Join, PrefixFold, SuffixFold, Input, is_node}
-use Rattle.merkle_proof.specs.Collision.{Member}
+use Rattle.merkle_root_theory.specs.Expression.{Place, Join, PrefixFold, SuffixFold, Input, is_node}
+use Rattle.merkle_root_theory.specs.Collision.{Member}
 use Rattle.merkle_base.specs.Tree.{Tree, leaf, join}
 use Rattle.merkle_base.specs.declared.family.Bagging.{Bagging}
 use Rattle.merkle_base.specs.declared.family.Bagging.TheVariants.{ForwardFold, BackwardFold}

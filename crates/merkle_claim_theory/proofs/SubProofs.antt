@@ -3,25 +3,25 @@ use Rattle.std.proofs.Common.{◌≡◌, ℕ, Bool, true, cond, ◌||◌, ◌+�
 use Rattle.std.proofs.lemmas.List.{get_or-take, get_or-drop, map-append}
 use Rattle.std.proofs.lemmas.Bool.{eq-eqb, ne_eqb, or_right, or_cases}
 use Rattle.merkle_base.specs.Tree.{Tree, leaf, join, position}
-use Rattle.merkle_proof.specs.Expression.{Node, hashed_at, given, hashed, value}
+use Rattle.merkle_root_theory.specs.Expression.{Node, hashed_at, given, hashed, value}
 use Rattle.merkle_base.specs.Hashing.{Hashing}
-use Rattle.merkle_proof.specs.Plan.{Plan, peak, folding, whole, tree_meets, meets, siblings, outer, inner}
-use Rattle.merkle_proof.specs.Claim.{next, tree_claim, claim, claim_of}
-use Rattle.merkle_proof.specs.Outside.{HasLayout}
-use Rattle.merkle_proof.specs.Check.{Setting, RangeInput, chosen, leaf_given, range_expression}
+use Rattle.merkle_root_theory.specs.Plan.{Plan, peak, folding, whole, tree_meets, meets, siblings, outer, inner}
+use Rattle.merkle_root_theory.specs.Claim.{next, tree_claim, claim, claim_of}
+use Rattle.merkle_root_theory.specs.Outside.{HasLayout}
+use Rattle.merkle_root_theory.specs.Check.{Setting, RangeInput, chosen, leaf_given, range_expression}
 use Rattle.merkle_base.specs.Places.{peaks_of}
 use Rattle.merkle_base.specs.Root.{root_string}
-use Rattle.merkle_proof.specs.Range.{end_of, range_parts, range_siblings, AcceptsSome}
+use Rattle.merkle_root_theory.specs.Range.{end_of, range_parts, range_siblings, AcceptsSome}
 use Rattle.merkle_claim_theory.specs.Store.{sub_siblings, sub_outer, sub_inner, sub_digests, IsPartOf, PartIsAccepted, read_pair, SiblingsAreRead}
-use Rattle.merkle_proof.specs.Collision.{Member}
+use Rattle.merkle_root_theory.specs.Collision.{Member}
 use Rattle.merkle_claim_theory.specs.Order.{Distinct}
 use Rattle.merkle_claim_theory.specs.Table.{digest_for}
-use Rattle.merkle_proof.specs.Extract.{inner_pairs}
-use Rattle.merkle_proof.proofs.Collisions.{member_left, member_right}
+use Rattle.merkle_root_theory.specs.Extract.{inner_pairs}
+use Rattle.merkle_root_theory.proofs.Collisions.{member_left, member_right}
 use Rattle.merkle_claim_theory.proofs.PlacesOnce.{member_map}
 use Rattle.merkle_base.proofs.Cases.{by_test}
-use Rattle.merkle_proof.proofs.ListChecks.{was_chosen, is_chosen}
-use Rattle.merkle_proof.proofs.PeakGroups.{range_layout}
+use Rattle.merkle_root_theory.proofs.ListChecks.{was_chosen, is_chosen}
+use Rattle.merkle_root_theory.proofs.PeakGroups.{range_layout}
 use Rattle.merkle_claim_theory.proofs.ListedDigests.{plan_for}
 
 module _ {D : Type 0} (h : Hashing D) (c d : ℕ → Bool) (Y Z : ℕ → D) (within : (i : ℕ) → d i ≡ true → c i ≡ true) (agrees : (i : ℕ) → d i ≡ true → Z i ≡ Y i) where

@@ -2,16 +2,16 @@
 use Rattle.std.proofs.Common.{◌≡◌, ℕ, Bool, true, false, cond, ◌||◌, ◌+◌, ◌≤◌, List, [], ◌∷◌, ◌++◌, ◌⊎◌, inl, inr, ap, sym, ◌∙◌, subst, ⊎_elim, arith, length, map, drop, Option, Some, None, IfSome, MatchOption, length-append, drop_of_length-le, append-nil}
 use Rattle.std.proofs.lemmas.List.{length-drop}
 use Rattle.std.proofs.lemmas.Bool.{false≢true, or_parts}
-use Rattle.merkle_proof.specs.Expression.{Node, Expression, given, hashed, told, value, Alike, cut_left, both, told_left, Agree}
+use Rattle.merkle_root_theory.specs.Expression.{Node, Expression, given, hashed, told, value, Alike, cut_left, both, told_left, Agree}
 use Rattle.merkle_base.specs.Hashing.{Hashing}
 use Rattle.merkle_base.specs.Tree.{Tree, leaf, join}
-use Rattle.merkle_proof.specs.Plan.{Plan, peak, folding, full, node_expression, tree_meets, meets, siblings, outer, inner, plan_digest, tree_digest}
-use Rattle.merkle_proof.specs.Claim.{next, InTree, InPlan}
+use Rattle.merkle_root_theory.specs.Plan.{Plan, peak, folding, full, node_expression, tree_meets, meets, siblings, outer, inner, plan_digest, tree_digest}
+use Rattle.merkle_root_theory.specs.Claim.{next, InTree, InPlan}
 use Rattle.merkle_claim_theory.specs.MultiClaim.{also, or_empty, multi_tree, multi_claim, TellsTree, Tells, SameTree, SameLeaves, NoOtherMulti}
 use Rattle.merkle_claim_theory.specs.PinnedClaim.{pinned_or, pin_tree, pin_plan, outside_tree, outside_plan, pinned_tree, pinned_claim, PinsTree, PinsPlan, PinsAll, PinsTrees, NoOtherPins}
-use Rattle.merkle_proof.proofs.Collisions.{main}
+use Rattle.merkle_root_theory.proofs.Collisions.{main}
 use Rattle.merkle_base.proofs.Cases.{by_test}
-use Rattle.merkle_proof.proofs.Claims.{unmet_tree, unmet, Begins, begins_none, begins_one, begins_both}
+use Rattle.merkle_root_theory.proofs.Claims.{unmet_tree, unmet, Begins, begins_none, begins_one, begins_both}
 
 module _ {D : Type 0} (h : Hashing D) where
   -- what the proof tells beside an expression

@@ -9,14 +9,14 @@ use Rattle.merkle_base.specs.Forest.{forest}
 use Rattle.merkle_base.proofs.Growth.{built_at}
 use Rattle.merkle_base.proofs.Nodes.{first_under, end_under, width_pos, built_under}
 use Rattle.merkle_base.proofs.Paths.{position_under}
-use Rattle.merkle_proof.specs.Expression.{Place, Node, Input}
+use Rattle.merkle_root_theory.specs.Expression.{Place, Node, Input}
 use Rattle.merkle_base.specs.Hashing.{Hashing}
-use Rattle.merkle_proof.specs.Collision.{Member, Collision, Collides, Laws}
+use Rattle.merkle_root_theory.specs.Collision.{Member, Collision, Collides, Laws}
 use Rattle.merkle_claim_theory.specs.FirstCollision.{first_collision, IsFirstCollision}
 use Rattle.merkle_claim_theory.specs.Order.{node_places, Distinct}
-use Rattle.merkle_proof.specs.Check.{Setting}
+use Rattle.merkle_root_theory.specs.Check.{Setting}
 use Rattle.merkle_base.specs.Places.{peaks_of}
-use Rattle.merkle_proof.specs.Range.{leaf_of}
+use Rattle.merkle_root_theory.specs.Range.{leaf_of}
 use Rattle.merkle_claim_theory.specs.Verdict.{Verdicts, CheckDecides}
 use Rattle.merkle_claim_theory.proofs.NoCollisions.{member_split}
 use Rattle.merkle_claim_theory.proofs.PlacesOnce.{distinct_append}
@@ -24,7 +24,7 @@ use Rattle.merkle_claim_theory.proofs.FirstCollisions.{finds_first}
 use Rattle.merkle_claim_theory.proofs.Audits.{none_shows, no_collision}
 use Rattle.merkle_claim_theory.proofs.ClearRange.{honest_is_clear}
 use Rattle.merkle_base.proofs.PeakLists.{Spans, peaks_built, peaks_spans}
-use Rattle.merkle_proof.proofs.RangeChecks.{accepted_is_honest, old_honest}
+use Rattle.merkle_root_theory.proofs.RangeChecks.{accepted_is_honest, old_honest}
 use Rattle.merkle_claim_theory.proofs.Multiproofs.{accepted_multi_is_honest, all_member}
 use Rattle.merkle_claim_theory.proofs.PinnedChecks.{accepted_pinned_is_honest, spans_first}
 use Rattle.merkle_base.proofs.Lists.{one_there}

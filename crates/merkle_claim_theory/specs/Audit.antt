@@ -1,11 +1,11 @@
 -- The verdicts of audits.
 use Rattle.std.specs.Prelude.{◌≡◌, ℕ, ◌<◌, ◌^◌, MatchOption, None, flat_map}
 use Rattle.merkle_claim_theory.specs.Order.{Distinct, node_places}
-use Rattle.merkle_proof.specs.Check.{Setting, root_of, all_inputs, list_expression, RangeInput, RangeAccepts, range_expression, IsHonest, SharesLeaves, Covers}
+use Rattle.merkle_root_theory.specs.Check.{Setting, root_of, all_inputs, list_expression, RangeInput, RangeAccepts, range_expression, IsHonest, SharesLeaves, Covers}
 use Rattle.merkle_base.specs.Places.{peaks_of}
-use Rattle.merkle_proof.specs.Collision.{Laws}
+use Rattle.merkle_root_theory.specs.Collision.{Laws}
 use Rattle.merkle_claim_theory.specs.FirstCollision.{first_collision, IsFirstCollision}
-use Rattle.merkle_proof.specs.RootString.{ByteLaws}
+use Rattle.merkle_root_theory.specs.RootString.{ByteLaws}
 
 -- of an accepted range input: no collision is found only if it is honest, and what is found is the first
 abbrev pub AuditsRange : Type 0 → Type 0

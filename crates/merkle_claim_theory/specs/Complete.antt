@@ -1,9 +1,9 @@
 -- Honest multi inputs and honest pinned inputs have the list's value, and what they tell holds.
 use Rattle.std.specs.Prelude.{◌≡◌, ℕ, Bool, true, cond, ◌||◌, Option, IfSome}
-use Rattle.merkle_proof.specs.Expression.{value, Holds}
+use Rattle.merkle_root_theory.specs.Expression.{value, Holds}
 use Rattle.merkle_base.specs.Hashing.{Hashing}
 use Rattle.merkle_base.specs.Tree.{Tree, leaf, join}
-use Rattle.merkle_proof.specs.Plan.{Plan, peak, folding, tree_meets, outer, inner, tree_digest, plan_digest, honest_digests}
+use Rattle.merkle_root_theory.specs.Plan.{Plan, peak, folding, tree_meets, outer, inner, tree_digest, plan_digest, honest_digests}
 use Rattle.merkle_claim_theory.specs.MultiClaim.{or_empty, multi_claim}
 use Rattle.merkle_claim_theory.specs.PinnedClaim.{PinsAll, PinsTrees, pinned_of}
 

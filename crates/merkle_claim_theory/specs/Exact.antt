@@ -1,11 +1,11 @@
 -- What two lists with the same peaks show, and that an honest input shows no collision.
 use Rattle.std.specs.Prelude.{◌≡◌, ℕ, Bool, true, ◌⊎◌, List, map, flat_map}
-use Rattle.merkle_proof.specs.Expression.{Input, visited, inputs, is_node}
+use Rattle.merkle_root_theory.specs.Expression.{Input, visited, inputs, is_node}
 use Rattle.merkle_base.specs.Hashing.{Hashing}
-use Rattle.merkle_proof.specs.Collision.{Member, Collision, Collides, Laws}
+use Rattle.merkle_root_theory.specs.Collision.{Member, Collision, Collides, Laws}
 use Rattle.merkle_base.specs.Tree.{Tree}
-use Rattle.merkle_proof.specs.Plan.{Plan, node_expression, tree_digest, full, honest_digests}
-use Rattle.merkle_proof.specs.Claim.{InTree, claim_of}
+use Rattle.merkle_root_theory.specs.Plan.{Plan, node_expression, tree_digest, full, honest_digests}
+use Rattle.merkle_root_theory.specs.Claim.{InTree, claim_of}
 
 -- the inputs of the nodes of peaks, oldest first
 abbrev pub forest_inputs : {D : Type 0} → Hashing D → (ℕ → D) → List Tree → List (Input D)

@@ -1,8 +1,8 @@
 -- The first collision of two lists of inputs, found by tests.
 use Rattle.std.specs.Prelude.{◌≡◌, Bool, true, false, not, cond, ◌&&◌, ◌==◌, List, [], ◌∷◌, ◌++◌, Option, Some, None, bytes_eq, MatchOption}
-use Rattle.merkle_proof.specs.Expression.{Place, Root, Join, PrefixFold, SuffixFold, Node, Argument, Pair, Bytes, digest_of_argument, Input}
+use Rattle.merkle_root_theory.specs.Expression.{Place, Root, Join, PrefixFold, SuffixFold, Node, Argument, Pair, Bytes, digest_of_argument, Input}
 use Rattle.merkle_base.specs.Hashing.{Hashing}
-use Rattle.merkle_proof.specs.Collision.{Collision, Collides, Laws}
+use Rattle.merkle_root_theory.specs.Collision.{Collision, Collides, Laws}
 
 -- whether two places are one
 abbrev pub same_place : Place → Place → Bool

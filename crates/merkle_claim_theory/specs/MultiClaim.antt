@@ -1,10 +1,10 @@
 -- What a multi-check claims: the folds are computed, and the proof tells digests at positions, some of which are computed too.
 use Rattle.std.specs.Prelude.{◌≡◌, ℕ, Bool, true, cond, ◌||◌, ◌⊎◌, Option, Some, None, IfSome, unwrap_or}
-use Rattle.merkle_proof.specs.Expression.{Node, Expression, given, hashed, told, value, Holds, inputs}
+use Rattle.merkle_root_theory.specs.Expression.{Node, Expression, given, hashed, told, value, Holds, inputs}
 use Rattle.merkle_base.specs.Hashing.{Hashing}
 use Rattle.merkle_base.specs.Tree.{Tree, leaf, join}
-use Rattle.merkle_proof.specs.Plan.{Plan, peak, folding, full, tree_meets, tree_digest, plan_digest}
-use Rattle.merkle_proof.specs.Collision.{Collision, Collides, Laws}
+use Rattle.merkle_root_theory.specs.Plan.{Plan, peak, folding, full, tree_meets, tree_digest, plan_digest}
+use Rattle.merkle_root_theory.specs.Collision.{Collision, Collides, Laws}
 
 -- an expression, whose digest the proof may tell too
 abbrev pub also : {D : Type 0} → Option D → Expression D → Expression D

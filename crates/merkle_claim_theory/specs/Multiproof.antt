@@ -5,13 +5,13 @@ use Rattle.merkle_base.specs.Tree.{Tree, position}
 use Rattle.merkle_base.specs.Forest.{size}
 use Rattle.merkle_claim_theory.specs.Ascending.{AscendsFrom}
 use Rattle.merkle_base.specs.Heights.{IsLawful, peak_heights}
-use Rattle.merkle_proof.specs.Expression.{Expression, Holds}
-use Rattle.merkle_proof.specs.Collision.{Collision, Collides}
-use Rattle.merkle_proof.specs.Plan.{Plan, whole, siblings}
+use Rattle.merkle_root_theory.specs.Expression.{Expression, Holds}
+use Rattle.merkle_root_theory.specs.Collision.{Collision, Collides}
+use Rattle.merkle_root_theory.specs.Plan.{Plan, whole, siblings}
 use Rattle.merkle_claim_theory.specs.MultiClaim.{multi_claim}
-use Rattle.merkle_proof.specs.Check.{Setting, root_of, all_inputs, list_expression}
+use Rattle.merkle_root_theory.specs.Check.{Setting, root_of, all_inputs, list_expression}
 use Rattle.merkle_base.specs.Places.{peaks_of}
-use Rattle.merkle_proof.specs.Range.{leaf_of, plan_root, Sound}
+use Rattle.merkle_root_theory.specs.Range.{leaf_of, plan_root, Sound}
 use Rattle.merkle_claim_theory.specs.Table.{digest_for, digest_at_position}
 
 -- the nodes whose digests prove the leaf at i: the peaks that don't hold it, and the path siblings under the one that does

@@ -1,13 +1,13 @@
 -- The places of a list's inputs in order.
 use Rattle.std.specs.Prelude.{◌≡◌, ℕ, suc, zero, pred, ◌-◌, nat_lt, cond, List, [], ◌∷◌, ◌++◌, map, flat_map, length, option_map}
-use Rattle.merkle_proof.specs.Expression.{Place, Join, PrefixFold, SuffixFold, Node, Input}
+use Rattle.merkle_root_theory.specs.Expression.{Place, Join, PrefixFold, SuffixFold, Node, Input}
 use Rattle.merkle_base.specs.Hashing.{Hashing}
 use Rattle.merkle_base.specs.Tree.{Tree, leaf, join}
-use Rattle.merkle_proof.specs.Plan.{whole, full}
+use Rattle.merkle_root_theory.specs.Plan.{whole, full}
 use Rattle.merkle_base.specs.declared.family.Bagging.{Bagging}
 use Rattle.merkle_base.specs.declared.family.Bagging.TheVariants.{ForwardFold, BackwardFold}
-use Rattle.merkle_proof.specs.Check.{inputs_of}
-use Rattle.merkle_proof.specs.Collision.{Member}
+use Rattle.merkle_root_theory.specs.Check.{inputs_of}
+use Rattle.merkle_root_theory.specs.Collision.{Member}
 use Rattle.merkle_claim_theory.specs.Exact.{IsMap}
 
 -- prefix folds from n down to 1

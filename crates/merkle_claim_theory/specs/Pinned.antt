@@ -1,13 +1,13 @@
 -- The pinned check: a range check with the peaks over the leaves before it.
 use Rattle.std.specs.Prelude.{◌≡◌, ℕ, ◌⊎◌, ◌≤◌, ◌<◌, ◌+◌, List, [], length, map, take, None, Option, option_map}
 use Rattle.merkle_base.specs.Tree.{position}
-use Rattle.merkle_proof.specs.Expression.{Expression}
-use Rattle.merkle_proof.specs.Collision.{Collision, Collides}
-use Rattle.merkle_proof.specs.Plan.{Plan, whole, tree_digest}
+use Rattle.merkle_root_theory.specs.Expression.{Expression}
+use Rattle.merkle_root_theory.specs.Collision.{Collision, Collides}
+use Rattle.merkle_root_theory.specs.Plan.{Plan, whole, tree_digest}
 use Rattle.merkle_claim_theory.specs.PinnedClaim.{pinned_of}
-use Rattle.merkle_proof.specs.Check.{Setting, root_of, all_inputs, list_expression, RangeInput, chosen, leaf_given}
+use Rattle.merkle_root_theory.specs.Check.{Setting, root_of, all_inputs, list_expression, RangeInput, chosen, leaf_given}
 use Rattle.merkle_base.specs.Places.{peaks_of}
-use Rattle.merkle_proof.specs.Range.{in_range, end_of, range_parts, range_siblings, leaf_of, plan_root, Sound, IsEmptyInput, IsHonestSome}
+use Rattle.merkle_root_theory.specs.Range.{in_range, end_of, range_parts, range_siblings, leaf_of, plan_root, Sound, IsEmptyInput, IsHonestSome}
 use Rattle.merkle_claim_theory.specs.Table.{digest_for}
 use Rattle.merkle_claim_theory.specs.Multiproof.{AllHolds}
 

@@ -1,12 +1,12 @@
 -- What a pinned check claims beside a range check: the parts before the range are rebuilt from the pins.
 use Rattle.std.specs.Prelude.{◌≡◌, ℕ, Bool, true, cond, ◌||◌, ◌⊎◌, ◌+◌, List, [], ◌∷◌, Option, Some, None, drop, length, MatchOption}
-use Rattle.merkle_proof.specs.Expression.{Node, Expression, given, hashed, told, value, Holds, inputs}
+use Rattle.merkle_root_theory.specs.Expression.{Node, Expression, given, hashed, told, value, Holds, inputs}
 use Rattle.merkle_base.specs.Hashing.{Hashing}
 use Rattle.merkle_base.specs.Tree.{Tree, leaf, join}
-use Rattle.merkle_proof.specs.Plan.{Plan, peak, folding, full, tree_meets, meets, siblings, outer, inner, tree_digest, plan_digest, honest_digests}
-use Rattle.merkle_proof.specs.Claim.{next, InPlan}
+use Rattle.merkle_root_theory.specs.Plan.{Plan, peak, folding, full, tree_meets, meets, siblings, outer, inner, tree_digest, plan_digest, honest_digests}
+use Rattle.merkle_root_theory.specs.Claim.{next, InPlan}
 use Rattle.merkle_claim_theory.specs.MultiClaim.{or_empty}
-use Rattle.merkle_proof.specs.Collision.{Collision, Collides, Laws}
+use Rattle.merkle_root_theory.specs.Collision.{Collision, Collides, Laws}
 
 -- an expression, unless a digest is given for it
 abbrev pub pinned_or : {D : Type 0} → Option D → Expression D → Expression D

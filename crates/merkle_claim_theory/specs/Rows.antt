@@ -2,10 +2,10 @@
 use Rattle.std.specs.Prelude.{ℕ, List, [], ◌∷◌, ◌==◌, cond, bit_xor, fold}
 use Rattle.merkle_base.specs.Tree.{Tree, leaf, join}
 use Rattle.merkle_base.specs.declared.family.Bagging.TheVariants.{ForwardFold}
-use Rattle.merkle_proof.specs.Expression.{Input}
-use Rattle.merkle_proof.specs.Plan.{Plan, peak}
-use Rattle.merkle_proof.specs.Check.{Setting, RangeInput, all_inputs, list_expression, range_expression}
-use Rattle.merkle_proof.specs.Range.{leaf_of}
+use Rattle.merkle_root_theory.specs.Expression.{Input}
+use Rattle.merkle_root_theory.specs.Plan.{Plan, peak}
+use Rattle.merkle_root_theory.specs.Check.{Setting, RangeInput, all_inputs, list_expression, range_expression}
+use Rattle.merkle_root_theory.specs.Range.{leaf_of}
 use Rattle.merkle_claim_theory.specs.ThreeLeaves.{xor_hashing}
 
 -- of the three peaks of seven leaves in the Mountain Range the oldest one

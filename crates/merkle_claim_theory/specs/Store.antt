@@ -1,17 +1,17 @@
 -- The proof of a part of a range, read off the claim of the whole range.
 use Rattle.std.specs.Prelude.{◌≡◌, ℕ, Bool, cond, ◌||◌, ◌≤◌, ◌<◌, ◌-◌, List, [], ◌∷◌, ◌++◌, length, drop, take, Option, Some, None, true, map, unwrap_or}
 use Rattle.merkle_base.specs.Tree.{Tree, leaf, join, position}
-use Rattle.merkle_proof.specs.Expression.{value}
+use Rattle.merkle_root_theory.specs.Expression.{value}
 use Rattle.merkle_base.specs.Hashing.{Hashing}
-use Rattle.merkle_proof.specs.Plan.{Plan, peak, folding, whole, tree_meets, meets, siblings, outer, inner}
-use Rattle.merkle_proof.specs.Claim.{tree_claim, claim}
-use Rattle.merkle_proof.specs.Check.{Setting, RangeInput, chosen, leaf_given}
+use Rattle.merkle_root_theory.specs.Plan.{Plan, peak, folding, whole, tree_meets, meets, siblings, outer, inner}
+use Rattle.merkle_root_theory.specs.Claim.{tree_claim, claim}
+use Rattle.merkle_root_theory.specs.Check.{Setting, RangeInput, chosen, leaf_given}
 use Rattle.merkle_base.specs.Places.{peaks_of}
-use Rattle.merkle_proof.specs.Range.{end_of, AcceptsSome}
-use Rattle.merkle_proof.specs.Collision.{Member}
+use Rattle.merkle_root_theory.specs.Range.{end_of, AcceptsSome}
+use Rattle.merkle_root_theory.specs.Collision.{Member}
 use Rattle.merkle_claim_theory.specs.Order.{Distinct}
 use Rattle.merkle_claim_theory.specs.Table.{digest_for}
-use Rattle.merkle_proof.specs.Extract.{inner_pairs}
+use Rattle.merkle_root_theory.specs.Extract.{inner_pairs}
 
 -- the values, in the claim for c, of the maximal nodes under which no location of d lies; ds: the digests for the siblings for c
 abbrev pub sub_siblings : {D : Type 0} → Hashing D → (ℕ → Bool) → (ℕ → Bool) → (ℕ → D) → Tree → List D → List D

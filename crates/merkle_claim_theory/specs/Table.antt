@@ -2,9 +2,9 @@
 use Rattle.std.specs.Prelude.{ℕ, cond, nat_eq, List, [], ◌∷◌, Option, Some, None, slice_get, length}
 use Rattle.merkle_base.specs.Forest.{forest}
 use Rattle.merkle_base.specs.Hashing.{Hashing}
-use Rattle.merkle_proof.specs.Plan.{tree_digest}
-use Rattle.merkle_proof.specs.Check.{Setting}
-use Rattle.merkle_proof.specs.Range.{leaf_of}
+use Rattle.merkle_root_theory.specs.Plan.{tree_digest}
+use Rattle.merkle_root_theory.specs.Check.{Setting}
+use Rattle.merkle_root_theory.specs.Range.{leaf_of}
 use Rattle.merkle_base.specs.Tree.{Tree}
 
 -- the digest that stands in ds where p stands in ps

@@ -1,10 +1,10 @@
 -- Three leaves over exclusive or: a wrong proof that is accepted, and where it collides.
 use Rattle.std.specs.Prelude.{◌≡◌, ℕ, [], ◌∷◌, bit_xor, Some, nat_eq, get_or, nat_lt}
-use Rattle.merkle_proof.specs.Expression.{Pair, PrefixFold, inputs}
+use Rattle.merkle_root_theory.specs.Expression.{Pair, PrefixFold, inputs}
 use Rattle.merkle_base.specs.Hashing.{Hashing}
 use Rattle.merkle_base.specs.Tree.{leaf, join}
-use Rattle.merkle_proof.specs.Plan.{Plan, full, peak, honest_digests, forward}
-use Rattle.merkle_proof.specs.Claim.{claim_of}
+use Rattle.merkle_root_theory.specs.Plan.{Plan, full, peak, honest_digests, forward}
+use Rattle.merkle_root_theory.specs.Claim.{claim_of}
 use Rattle.merkle_claim_theory.specs.FirstCollision.{first_collision}
 
 -- the exclusive or of what is hashed

@@ -1,13 +1,13 @@
 -- Verdicts of audits against a list, and the range check as a test.
 use Rattle.std.specs.Prelude.{◌≡◌, ℕ, Bool, ◌&&◌, ◌||◌, ◌≤◌, nat_le, nat_lt, nat_eq, ◌+◌, List, length, None, MatchOption, Decides, ◌<◌, map}
-use Rattle.merkle_proof.specs.Expression.{Input}
-use Rattle.merkle_proof.specs.Collision.{Laws}
+use Rattle.merkle_root_theory.specs.Expression.{Input}
+use Rattle.merkle_root_theory.specs.Collision.{Laws}
 use Rattle.merkle_claim_theory.specs.FirstCollision.{first_collision, IsFirstCollision}
-use Rattle.merkle_proof.specs.Check.{Setting, root_of, all_inputs, list_expression, RangeInput, range_expression}
+use Rattle.merkle_root_theory.specs.Check.{Setting, root_of, all_inputs, list_expression, RangeInput, range_expression}
 use Rattle.merkle_base.specs.Places.{peaks_of}
-use Rattle.merkle_proof.specs.Range.{end_of, range_parts, range_siblings, leaf_of, plan_root, Sound, Accepts, IsHonestSome, IsHonestRange}
+use Rattle.merkle_root_theory.specs.Range.{end_of, range_parts, range_siblings, leaf_of, plan_root, Sound, Accepts, IsHonestSome, IsHonestRange}
 use Rattle.merkle_claim_theory.specs.Order.{Distinct}
-use Rattle.merkle_proof.specs.Extract.{extracted}
+use Rattle.merkle_root_theory.specs.Extract.{extracted}
 use Rattle.merkle_claim_theory.specs.Multiproof.{MultiInput, multi_expression, AcceptsMulti, IsHonestMultiSome, IsHonestMulti}
 use Rattle.merkle_claim_theory.specs.Pinned.{honest_pins, pinned_expression, AcceptsPinned, IsHonestPinned}
 

@@ -16,7 +16,7 @@ ghost use Rattle.merkle_batch_theory.specs.Replay.{applied, matched, refusal};
 ghost use Rattle.merkle_batch_theory.specs.Refusals.{error_of};
 ghost use Rattle.merkle_core.specs.ProofRefusals.{IsProofRefusal, IsRangeRefusal};
 ghost use Rattle.merkle_proof.specs.Input.{setting};
-ghost use Rattle.merkle_proof.specs.Range.{IsHonestRange};
+ghost use Rattle.merkle_root_theory.specs.Range.{IsHonestRange};
 ghost use Rattle.merkle_proof.specs.RangePlans.{IsBuildRefusal, IsBuiltProof, list_input};
 
 pub use crate::components::Config;

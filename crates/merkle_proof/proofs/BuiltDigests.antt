@@ -8,17 +8,17 @@ use Rattle.merkle_base.specs.Hashing.{Hashing}
 use Rattle.merkle_base.specs.Digests.{digest_at}
 use Rattle.merkle_base.specs.Places.{peaks_of, wholly_before}
 use Rattle.merkle_base.proofs.Nodes.{all_append}
-use Rattle.merkle_proof.specs.Plan.{Plan, siblings, tree_meets, tree_digest, plan_digest}
-use Rattle.merkle_proof.specs.Outside.{folded_prefix, single_before, single_after, folded_suffix}
-use Rattle.merkle_proof.specs.Check.{Setting}
-use Rattle.merkle_proof.specs.Range.{in_range, overlapping, wholly_after, range_parts, range_siblings, range_digests, leaf_of, end_of, IsHonestRange}
+use Rattle.merkle_root_theory.specs.Plan.{Plan, siblings, tree_meets, tree_digest, plan_digest}
+use Rattle.merkle_root_theory.specs.Outside.{folded_prefix, single_before, single_after, folded_suffix}
+use Rattle.merkle_root_theory.specs.Check.{Setting}
+use Rattle.merkle_root_theory.specs.Range.{in_range, overlapping, wholly_after, range_parts, range_siblings, range_digests, leaf_of, end_of, IsHonestRange}
 use Rattle.merkle_proof.specs.RangePlans.{nodes_read, AnswersList, AreAnswered, IsLaidOut, IsBuiltProof, list_input, part_read}
 use Rattle.merkle_hasher.specs.Subtrees.{AreNodes}
 use Rattle.merkle_proof.specs.declared.proof.Proof.{Proof}
 use Rattle.merkle_base.proofs.Cases.{by_test}
 use Rattle.merkle_hasher.proofs.PeakNodes.{peaks_at}
 use Rattle.merkle_base.proofs.PeakLists.{peaks_built}
-use Rattle.merkle_proof.proofs.Extraction.{all_filter}
+use Rattle.merkle_root_theory.proofs.Extraction.{all_filter}
 use Rattle.merkle_proof.proofs.BuiltLayouts.{StandFor, at_node, nodes_stand, digests_stand, laid_out_read}
 use Rattle.merkle_proof.proofs.ReadingOrder.{AreRuns, met_count, all_runs}
 

@@ -9,10 +9,10 @@ use Rattle.merkle_base.specs.Root.{folded}
 use Rattle.merkle_base.specs.declared.family.Bagging.{Bagging}
 use Rattle.merkle_base.specs.declared.family.Bagging.TheVariants.{ForwardFold, BackwardFold}
 use Rattle.merkle_base.proofs.Lists.{cons_head, cons_tail}
-use Rattle.merkle_proof.specs.Expression.{PrefixFold, SuffixFold}
-use Rattle.merkle_proof.specs.Plan.{Plan, peak, folding, forward, bag, tree_digest, plan_digest}
-use Rattle.merkle_proof.specs.Outside.{fold_all, bag_all, folded_prefix, single_before, single_after, folded_suffix}
-use Rattle.merkle_proof.specs.Layouts.{laid_out}
+use Rattle.merkle_root_theory.specs.Expression.{PrefixFold, SuffixFold}
+use Rattle.merkle_root_theory.specs.Plan.{Plan, peak, folding, forward, bag, tree_digest, plan_digest}
+use Rattle.merkle_root_theory.specs.Outside.{fold_all, bag_all, folded_prefix, single_before, single_after, folded_suffix}
+use Rattle.merkle_root_theory.specs.Layouts.{laid_out}
 use Rattle.merkle_proof.specs.RangePlans.{both_read, part_read}
 
 pub map-append_four : {X Y : Type 0} (g : X → Y) (xs ys zs us : List X) → map g (xs ++ (ys ++ (zs ++ us))) ≡ map g xs ++ (map g ys ++ (map g zs ++ map g us))

@@ -3,13 +3,13 @@ use Rattle.std.proofs.Common.{◌≡◌, ℕ, zero, suc, ◌+◌, ◌<◌, Bool,
 use Rattle.merkle_base.specs.Tree.{Tree, leaf, join}
 use Rattle.merkle_base.specs.Forest.{size}
 use Rattle.merkle_base.specs.Hashing.{Hashing}
-use Rattle.merkle_proof.specs.Expression.{Node, given, hashed, value}
-use Rattle.merkle_proof.specs.Plan.{tree_meets, siblings}
-use Rattle.merkle_proof.specs.Claim.{next, tree_claim}
+use Rattle.merkle_root_theory.specs.Expression.{Node, given, hashed, value}
+use Rattle.merkle_root_theory.specs.Plan.{tree_meets, siblings}
+use Rattle.merkle_root_theory.specs.Claim.{next, tree_claim}
 use Rattle.merkle_base.proofs.Cases.{by_test}
-use Rattle.merkle_proof.specs.Walk.{leaf_from, peak_values}
-use Rattle.merkle_proof.specs.Range.{in_range}
-use Rattle.merkle_proof.proofs.Walks.{in_from, in_below}
+use Rattle.merkle_root_theory.specs.Walk.{leaf_from, peak_values}
+use Rattle.merkle_root_theory.specs.Range.{in_range}
+use Rattle.merkle_root_theory.proofs.Walks.{in_from, in_below}
 use Rattle.merkle_proof.specs.Input.{leaf_digests}
 
 -- a claim reads the leaves at chosen locations alone

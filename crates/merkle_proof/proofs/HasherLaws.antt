@@ -3,9 +3,9 @@ use Rattle.std.proofs.Common.{◌≡◌, ◌↔◌, ℕ, ◌≤◌, List, length
 use Rattle.merkle_base.specs.Hashing.{Hashing, IsOver}
 use Rattle.merkle_base.specs.Heights.{IsLawful}
 use Rattle.merkle_base.specs.declared.family.Bagging.{Bagging}
-use Rattle.merkle_proof.specs.Collision.{Laws}
-use Rattle.merkle_proof.specs.RootString.{ByteLaws}
-use Rattle.merkle_proof.specs.Range.{Sound}
+use Rattle.merkle_root_theory.specs.Collision.{Laws}
+use Rattle.merkle_root_theory.specs.RootString.{ByteLaws}
+use Rattle.merkle_root_theory.specs.Range.{Sound}
 use Rattle.merkle_proof.specs.Input.{setting}
 
 module _ {D : Type 0} (h : Hashing D) (spelled : D → List ℕ) (equal : D → D → Bool) (none : D) (over : IsOver h spelled equal none) where

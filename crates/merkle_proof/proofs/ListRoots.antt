@@ -10,10 +10,10 @@ use Rattle.merkle_base.specs.Root as root
 use Rattle.merkle_base.specs.Root.{folded, root_string}
 use Rattle.merkle_base.specs.declared.family.Bagging.{Bagging}
 use Rattle.merkle_base.specs.declared.family.Bagging.TheVariants.{ForwardFold, BackwardFold}
-use Rattle.merkle_proof.specs.Expression.{value}
-use Rattle.merkle_proof.specs.Plan.{Plan, peak, forward, join_bag, whole, full, tree_digest, plan_digest}
-use Rattle.merkle_proof.specs.Range.{leaf_of}
-use Rattle.merkle_proof.specs.ListRoot.{RootsAgree}
+use Rattle.merkle_root_theory.specs.Expression.{value}
+use Rattle.merkle_root_theory.specs.Plan.{Plan, peak, forward, join_bag, whole, full, tree_digest, plan_digest}
+use Rattle.merkle_root_theory.specs.Range.{leaf_of}
+use Rattle.merkle_root_theory.specs.ListRoot.{RootsAgree}
 use Rattle.merkle_proof.proofs.BuiltDigests.{digest_at_is}
 use Rattle.merkle_proof.proofs.BuiltLayouts.{fold_digests, bag_digests}
 

@@ -4,7 +4,7 @@ use Rattle.std.specs.List.{flat_map}
 use Rattle.std.proofs.lemmas.List.{map-append}
 use Rattle.merkle_hasher.specs.declared.subtree.Subtree.{Subtree}
 use Rattle.merkle_hasher.specs.Subtrees.{Means}
-use Rattle.merkle_proof.specs.Plan.{siblings}
+use Rattle.merkle_root_theory.specs.Plan.{siblings}
 use Rattle.merkle_base.specs.Tree.{Tree, position, height, first_leaf, end_leaf, width}
 use Rattle.merkle_base.specs.Forest.{forest}
 use Rattle.merkle_base.proofs.Growth.{forest_grown}
@@ -12,12 +12,12 @@ use Rattle.merkle_base.proofs.PeakLists.{Spans, spans_append, covers_spans}
 use Rattle.merkle_hasher.specs.Subtrees.{Stands}
 use Rattle.merkle_proof.specs.declared.groups.Groups.{Groups}
 use Rattle.merkle_proof.specs.GroupedPeaks.{HoldsGroups}
-use Rattle.merkle_proof.specs.Range.{wholly_after}
+use Rattle.merkle_root_theory.specs.Range.{wholly_after}
 use Rattle.merkle_hasher.specs.Subtrees.{AreNodes}
 use Rattle.merkle_hasher.specs.Subtrees.{subtree_of}
 use Rattle.merkle_base.proofs.Lists.{cons_head, cons_tail}
-use Rattle.merkle_proof.proofs.Walks.{flat_push}
-use Rattle.merkle_proof.proofs.PeakGroups.{none_after}
+use Rattle.merkle_root_theory.proofs.Walks.{flat_push}
+use Rattle.merkle_root_theory.proofs.PeakGroups.{none_after}
 use Rattle.merkle_hasher.proofs.PeakNodes.{peaks_at}
 
 -- what a peak iterator gives of a peak

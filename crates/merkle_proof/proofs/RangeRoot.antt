@@ -12,19 +12,19 @@ use Rattle.merkle_base.specs.Root.{peaks_root}
 use Rattle.merkle_base.specs.declared.family.Bagging.{Bagging}
 use Rattle.merkle_base.proofs.Balance.{heights_forest}
 use Rattle.merkle_base.proofs.Growth.{forest_grown}
-use Rattle.merkle_proof.specs.Plan.{siblings}
-use Rattle.merkle_proof.specs.Layouts.{count_before, count_after, count_inactive}
-use Rattle.merkle_proof.specs.Check.{Setting, RangeInput, chosen, leaf_given}
-use Rattle.merkle_proof.specs.Range.{in_range, overlapping, wholly_after, end_of, Accepts}
-use Rattle.merkle_proof.specs.Walk.{bytes_of, leaf_from, peak_values, ArePeakDigests}
+use Rattle.merkle_root_theory.specs.Plan.{siblings}
+use Rattle.merkle_root_theory.specs.Layouts.{count_before, count_after, count_inactive}
+use Rattle.merkle_root_theory.specs.Check.{Setting, RangeInput, chosen, leaf_given}
+use Rattle.merkle_root_theory.specs.Range.{in_range, overlapping, wholly_after, end_of, Accepts}
+use Rattle.merkle_root_theory.specs.Walk.{bytes_of, leaf_from, peak_values, ArePeakDigests}
 use Rattle.merkle_proof.specs.Input.{setting, range_input, HasShape, IsComputed}
 use Rattle.merkle_hasher.specs.Subtrees.{subtree_of}
 use Rattle.merkle_proof.specs.GroupedPeaks.{HoldsGroups}
 use Rattle.merkle_proof.specs.declared.groups.Groups.{Groups}
-use Rattle.merkle_proof.proofs.PeakGroups.{length-peaks_of, some_over}
+use Rattle.merkle_root_theory.proofs.PeakGroups.{length-peaks_of, some_over}
 use Rattle.merkle_base.proofs.PeakLists.{covers_spans}
 use Rattle.merkle_proof.proofs.GivenLeaves.{values_chosen, length-leaf_digests, leaf_in_range}
-use Rattle.merkle_proof.proofs.LayoutRoot.{layout_counts, layout_root, inactive_fits}
+use Rattle.merkle_root_theory.proofs.LayoutRoot.{layout_counts, layout_root, inactive_fits}
 
 -- groups have as many peaks outside the range as there are before it and after it
 pub outside_count : {F : Type 0} (a b : ℕ) (g : Groups F) (ts : List Tree) → HoldsGroups a b g ts → length g.outside.items ≡ length (wholly_before a ts) + length (wholly_after b ts)

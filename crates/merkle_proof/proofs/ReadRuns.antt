@@ -8,7 +8,7 @@ use Rattle.std.proofs.lemmas.List.Sums.{fold_push}
 use Rattle.merkle_base.specs.Root.{bag, folded}
 use Rattle.merkle_base.specs.declared.family.Bagging.TheVariants.{ForwardFold}
 use Rattle.merkle_proof.specs.RangePlans.{AreAnswered, IsFirstMissing}
-use Rattle.merkle_proof.proofs.PeakValues.{zip_push}
+use Rattle.merkle_root_theory.proofs.PeakValues.{zip_push}
 
 zip_append : {A B : Type 0} (R : A → B → Type 0) (xs us : List A) (ys vs : List B) → AllZip R xs ys → AllZip R us vs → AllZip R (xs ++ us) (ys ++ vs)
 zip_append R [] us [] vs z w = w

@@ -1,7 +1,7 @@
 -- The peaks of a forest by where they stand to a range.
 use Rattle.std.specs.Prelude.{◌≡◌, ℕ, List, ◌++◌, map, length}
 use Rattle.merkle_base.specs.Tree.{Tree, position}
-use Rattle.merkle_proof.specs.Range.{overlapping, wholly_after}
+use Rattle.merkle_root_theory.specs.Range.{overlapping, wholly_after}
 use Rattle.merkle_hasher.specs.Subtrees.{subtree_of}
 use Rattle.merkle_proof.specs.declared.groups.Groups.{Groups}
 use Rattle.merkle_base.specs.Places.{wholly_before}

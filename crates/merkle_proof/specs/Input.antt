@@ -4,8 +4,8 @@ use Rattle.merkle_base.specs.Forest.{size}
 use Rattle.merkle_base.specs.Hashing.{Hashing}
 use Rattle.merkle_base.specs.declared.family.Bagging.{Bagging}
 use Rattle.merkle_base.specs.Places.{peaks_of}
-use Rattle.merkle_proof.specs.Check.{Setting, RangeInput, root_of, range_expression}
-use Rattle.merkle_proof.specs.Range.{end_of, range_parts, range_siblings}
+use Rattle.merkle_root_theory.specs.Check.{Setting, RangeInput, root_of, range_expression}
+use Rattle.merkle_root_theory.specs.Range.{end_of, range_parts, range_siblings}
 use Rattle.merkle_proof.specs.declared.proof.Proof.{Proof}
 
 -- what is fixed for a hasher's value and a family

@@ -1,15 +1,3 @@
-pub mod Expression
-pub mod Collision
-pub mod RootString
-pub mod Plan
-pub mod Claim
-pub mod Check
-pub mod Outside
-pub mod Layouts
-pub mod Range
-pub mod Extract
-pub mod Walk
 pub mod GroupedPeaks
 pub mod Input
 pub mod RangePlans
-pub mod ListRoot

@@ -9,12 +9,12 @@ use Rattle.merkle_base.specs.Places.{peaks_of, wholly_before}
 use Rattle.merkle_base.specs.declared.family.Bagging.{Bagging}
 use Rattle.merkle_base.specs.declared.error.Error.{Error}
 use Rattle.merkle_base.specs.declared.error.Error.TheVariants.{Empty, RangeOutOfBounds, LocationOverflow, InvalidProof, ElementPruned}
-use Rattle.merkle_proof.specs.Expression.{hashed_at}
-use Rattle.merkle_proof.specs.Plan.{Plan, peak, folding}
-use Rattle.merkle_proof.specs.Check.{Setting, RangeInput}
-use Rattle.merkle_proof.specs.Layouts.{laid_out}
-use Rattle.merkle_proof.specs.Outside.{single_after, folded_suffix}
-use Rattle.merkle_proof.specs.Range.{overlapping, wholly_after, range_parts, range_siblings}
+use Rattle.merkle_root_theory.specs.Expression.{hashed_at}
+use Rattle.merkle_root_theory.specs.Plan.{Plan, peak, folding}
+use Rattle.merkle_root_theory.specs.Check.{Setting, RangeInput}
+use Rattle.merkle_root_theory.specs.Layouts.{laid_out}
+use Rattle.merkle_root_theory.specs.Outside.{single_after, folded_suffix}
+use Rattle.merkle_root_theory.specs.Range.{overlapping, wholly_after, range_parts, range_siblings}
 use Rattle.merkle_proof.specs.declared.proof.Proof.{Proof}
 
 -- a range of a number of leaves

@@ -2,11 +2,11 @@
 ghost use Rattle.std.specs.Prelude.{◌≡◌, ◌≢◌, ◌+◌, ◌<◌, ◌≤◌, [], ◌↔◌, List, None, IsTrue, IfOk, IfErr, length, map};
 ghost use Rattle.std.specs.List.{flat_map};
 ghost use Rattle.merkle_base.specs.Tree.{Tree};
-ghost use Rattle.merkle_proof.specs.Plan.{siblings};
-ghost use Rattle.merkle_proof.specs.Check.{root_of};
-ghost use Rattle.merkle_proof.specs.Range.{in_range, Accepts, IsEmptyInput};
+ghost use Rattle.merkle_root_theory.specs.Plan.{siblings};
+ghost use Rattle.merkle_root_theory.specs.Check.{root_of};
+ghost use Rattle.merkle_root_theory.specs.Range.{in_range, Accepts, IsEmptyInput};
 ghost use Rattle.merkle_hasher.specs.Subtrees.{AreNodes, subtree_of};
-ghost use Rattle.merkle_proof.specs.Walk.{bytes_of, leaf_from, ArePeaksWalked, ArePeakDigests};
+ghost use Rattle.merkle_root_theory.specs.Walk.{bytes_of, leaf_from, ArePeaksWalked, ArePeakDigests};
 ghost use Rattle.merkle_proof.specs.Input.{setting, range_input, HasShape, IsComputed};
 
 use crate::groups::Groups;

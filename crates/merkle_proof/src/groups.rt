@@ -3,9 +3,9 @@ ghost use Rattle.std.specs.Prelude.{◌≡◌, ◌<◌, ◌≤◌, ◌+◌, ◌+
 ghost use Rattle.std.specs.List.{flat_map};
 ghost use Rattle.merkle_base.specs.Tree.{Tree, position, end_leaf};
 ghost use Rattle.merkle_base.specs.Places.{peaks_of, wholly_before};
-ghost use Rattle.merkle_proof.specs.Plan.{siblings};
-ghost use Rattle.merkle_proof.specs.Layouts.{count_before, count_after, count_inactive};
-ghost use Rattle.merkle_proof.specs.Range.{in_range, overlapping, wholly_after};
+ghost use Rattle.merkle_root_theory.specs.Plan.{siblings};
+ghost use Rattle.merkle_root_theory.specs.Layouts.{count_before, count_after, count_inactive};
+ghost use Rattle.merkle_root_theory.specs.Range.{in_range, overlapping, wholly_after};
 ghost use Rattle.merkle_hasher.specs.Subtrees.{Means, AreNodes, subtree_of};
 ghost use Rattle.merkle_proof.specs.GroupedPeaks.{HoldsGroups};
 ghost use Rattle.merkle_proof.specs.RangePlans.{nodes_read};

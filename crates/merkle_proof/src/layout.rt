@@ -1,8 +1,8 @@
 //! The layout of a proof of a range: which peaks outside it stand alone, and which are folded to one digest.
 ghost use Rattle.std.specs.Prelude.{◌≡◌, ◌≤◌, ◌+◌, ℕ, List, length};
 ghost use Rattle.merkle_base.specs.Tree.{Tree};
-ghost use Rattle.merkle_proof.specs.Outside.{folded_prefix, single_after};
-ghost use Rattle.merkle_proof.specs.Layouts.{count_before, count_after, count_inactive};
+ghost use Rattle.merkle_root_theory.specs.Outside.{folded_prefix, single_after};
+ghost use Rattle.merkle_root_theory.specs.Layouts.{count_before, count_after, count_inactive};
 
 use merkle_base::family::Bagging;
 

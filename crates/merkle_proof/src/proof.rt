@@ -2,8 +2,8 @@
 ghost use Rattle.std.specs.Prelude.{◌≡◌, ◌≤◌, [], ◌∷◌, ◌↔◌, ◌⊎◌, ℕ, IsTrue, IfOk, length};
 ghost use Rattle.merkle_base.specs.Places.{peaks_of, inactive_peaks};
 ghost use Rattle.merkle_base.specs.Root.{list_root};
-ghost use Rattle.merkle_proof.specs.Range.{Accepts, IsHonestRange, RangeCollides};
-ghost use Rattle.merkle_proof.specs.Walk.{bytes_of};
+ghost use Rattle.merkle_root_theory.specs.Range.{Accepts, IsHonestRange, RangeCollides};
+ghost use Rattle.merkle_root_theory.specs.Walk.{bytes_of};
 ghost use Rattle.merkle_proof.specs.Input.{setting, input_of};
 
 use crate::checks::{ProofParts, verify_range};

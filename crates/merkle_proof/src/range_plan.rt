@@ -2,7 +2,7 @@
 ghost use Rattle.std.specs.Prelude.{◌≡◌, ◌≢◌, ◌<◌, ◌≤◌, ℕ, List, Option, length, IfOk, IfErr};
 ghost use Rattle.merkle_base.specs.Places.{peaks_of};
 ghost use Rattle.merkle_proof.specs.Input.{setting};
-ghost use Rattle.merkle_proof.specs.Range.{IsHonestRange};
+ghost use Rattle.merkle_root_theory.specs.Range.{IsHonestRange};
 ghost use Rattle.merkle_proof.specs.RangePlans.{IsRefusal, IsBuildRefusal, IsBuiltProof, AnswersList, list_input};
 
 use crate::groups::Groups;

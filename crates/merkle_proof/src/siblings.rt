@@ -2,9 +2,9 @@
 ghost use Rattle.std.specs.Prelude.{◌≡◌, ◌+◌, ◌<◌, ◌≤◌, not, true, [], ◌++◌, length, map, IfOk, IfErr};
 ghost use Rattle.merkle_base.specs.Tree.{Tree, position};
 ghost use Rattle.merkle_hasher.specs.Subtrees.{Means};
-ghost use Rattle.merkle_proof.specs.Plan.{tree_meets, siblings};
-ghost use Rattle.merkle_proof.specs.Range.{in_range};
-ghost use Rattle.merkle_proof.specs.Walk.{bytes_of, leaf_from, IsWalked};
+ghost use Rattle.merkle_root_theory.specs.Plan.{tree_meets, siblings};
+ghost use Rattle.merkle_root_theory.specs.Range.{in_range};
+ghost use Rattle.merkle_root_theory.specs.Walk.{bytes_of, leaf_from, IsWalked};
 
 use merkle_base::error::ReconstructionError;
 use merkle_base::family::Family;

@@ -1,5 +1,5 @@
-use Rattle.merkle_proof.proofs.Collisions.{main}
-use Rattle.merkle_proof.proofs.Claims.{honest_accepted, nothing_else, pair_agrees}
+use Rattle.merkle_root_theory.proofs.Collisions.{main}
+use Rattle.merkle_root_theory.proofs.Claims.{honest_accepted, nothing_else, pair_agrees}
 use Rattle.merkle_claim_theory.proofs.laws.claims.Goals as goal
 
 pub returns : goal.returns

@@ -1,6 +1,6 @@
-use Rattle.merkle_proof.proofs.RangeChecks.{honest_is_accepted, accepted_is_honest}
+use Rattle.merkle_root_theory.proofs.RangeChecks.{honest_is_accepted, accepted_is_honest}
 use Rattle.merkle_claim_theory.proofs.Verdicts.{check_decides}
-use Rattle.merkle_proof.proofs.Extraction.{extracts_nodes}
+use Rattle.merkle_root_theory.proofs.Extraction.{extracts_nodes}
 use Rattle.merkle_claim_theory.proofs.PairsOnce.{extracts_once}
 use Rattle.merkle_claim_theory.proofs.laws.range_checks.Goals as goal
 

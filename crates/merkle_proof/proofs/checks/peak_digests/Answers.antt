@@ -1,7 +1,7 @@
 use Rattle.std.proofs.Common.{◌≡◌, length, arith, rules, ap, ◌∙◌}
 use Rattle.std.specs.List.{IsSplitAt}
 use Rattle.std.proofs.lemmas.Result.{err_from_is_err_and}
-use Rattle.merkle_proof.proofs.PeakValues.{all_digests}
+use Rattle.merkle_root_theory.proofs.PeakValues.{all_digests}
 use Rattle.merkle_proof.proofs.checks.peak_digests.Goals as goal
 
 pub returns-in_err-reconstruct_peaks-clause-err : goal.returns-in_err-reconstruct_peaks-clause-err

@@ -2,7 +2,7 @@ use Rattle.std.proofs.Common.{◌≡◌, ◌++◌, ◌∷◌, [], sym, subst, ta
 use Rattle.std.proofs.lemmas.Result.{err_from_is_err_and}
 use Rattle.merkle_hasher.specs.Subtrees.{Means}
 use Rattle.merkle_proof.proofs.PeakLoop.{element_means}
-use Rattle.merkle_proof.proofs.PeakValues.{walk_more, short_peaks}
+use Rattle.merkle_root_theory.proofs.PeakValues.{walk_more, short_peaks}
 use Rattle.merkle_proof.proofs.checks.reconstruct_peaks.Goals as goal
 
 pub reconstruct_digest-requires-clause-node : goal.reconstruct_digest-requires-clause-node

@@ -1,10 +1,10 @@
 use Rattle.std.proofs.Common.{◌≡◌, List, map, take}
 use Rattle.merkle_base.specs.Tree.{Tree}
-use Rattle.merkle_proof.specs.Range.{in_range}
-use Rattle.merkle_proof.specs.Walk.{bytes_of, leaf_from}
+use Rattle.merkle_root_theory.specs.Range.{in_range}
+use Rattle.merkle_root_theory.specs.Walk.{bytes_of, leaf_from}
 use Rattle.merkle_hasher.specs.Subtrees.{AreNodes}
 use Rattle.merkle_hasher.specs.Subtrees.{subtree_of}
-use Rattle.merkle_proof.specs.Walk.{ArePeaksWalked}
+use Rattle.merkle_root_theory.specs.Walk.{ArePeaksWalked}
 use Rattle.merkle_proof.proofs.checks.reconstruct_peaks.Given as goal
 
 abbrev pub invariant-loop-peak : goal.invariant-loop-peak

@@ -2,12 +2,12 @@ use Rattle.std.proofs.Common.{◌≡◌, ◌≤◌, ◌+◌, arith, refl, sym, a
 use Rattle.std.proofs.lemmas.Result.{err_from_is_err_and}
 use Rattle.merkle_base.specs.Places.{peaks_of, wholly_before}
 use Rattle.merkle_base.specs.Root.{peaks_root}
-use Rattle.merkle_proof.specs.Layouts.{count_before, count_after, count_inactive}
-use Rattle.merkle_proof.specs.Range.{overlapping, wholly_after}
+use Rattle.merkle_root_theory.specs.Layouts.{count_before, count_after, count_inactive}
+use Rattle.merkle_root_theory.specs.Range.{overlapping, wholly_after}
 use Rattle.merkle_hasher.proofs.PeakNodes.{peaks_at}
 use Rattle.merkle_proof.proofs.RangeRoot.{few_peaks, element_count, computed, misshapen, never_empty, folds_given}
 use Rattle.merkle_proof.proofs.checks.reconstruct_range_root.Goals as goal
-use Rattle.merkle_proof.proofs.Extraction.{all_filter}
+use Rattle.merkle_root_theory.proofs.Extraction.{all_filter}
 
 pub returns-in_err-end-clause-err : goal.returns-in_err-end-clause-err
 returns-in_err-end-clause-err g c =

@@ -1,5 +1,5 @@
 use Rattle.std.proofs.Common.{◌<◌, ◌+◌, length, rules, arith, refl, false, IsTrue, sym, ◌∙◌}
-use Rattle.merkle_proof.specs.Walk.{bytes_of}
+use Rattle.merkle_root_theory.specs.Walk.{bytes_of}
 use Rattle.merkle_proof.specs.Input.{setting, range_input}
 use Rattle.merkle_proof.proofs.RangeRoot.{element_count, refused, accepting}
 use Rattle.merkle_proof.proofs.checks.verify_range.Goals as goal

@@ -1,8 +1,8 @@
 use Rattle.std.proofs.Common.{◌≡◌, ◌++◌, List, map, take}
 use Rattle.std.specs.List.{flat_map}
 use Rattle.merkle_base.specs.Tree.{Tree, position}
-use Rattle.merkle_proof.specs.Plan.{siblings}
-use Rattle.merkle_proof.specs.Range.{in_range}
+use Rattle.merkle_root_theory.specs.Plan.{siblings}
+use Rattle.merkle_root_theory.specs.Range.{in_range}
 use Rattle.merkle_hasher.specs.Subtrees.{AreNodes, subtree_of}
 use Rattle.merkle_proof.proofs.groups.append_siblings.Given as goal
 

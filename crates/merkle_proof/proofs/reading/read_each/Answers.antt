@@ -2,7 +2,7 @@ use Rattle.std.proofs.Common.{◌≡◌, ◌+◌, ◌++◌, ◌∷◌, [], appen
 use Rattle.std.proofs.Math.Seq.{split_at}
 use Rattle.std.proofs.lemmas.List.{take_more}
 use Rattle.merkle_proof.specs.RangePlans.{AreAnswered}
-use Rattle.merkle_proof.proofs.PeakValues.{zip_push}
+use Rattle.merkle_root_theory.proofs.PeakValues.{zip_push}
 use Rattle.merkle_proof.proofs.reading.read_each.Given as given
 use Rattle.merkle_proof.proofs.reading.read_each.Goals as goal
 

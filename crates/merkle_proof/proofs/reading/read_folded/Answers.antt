@@ -3,7 +3,7 @@ use Rattle.std.specs.Option.{option_map_or}
 use Rattle.std.proofs.Math.Seq.{split_at}
 use Rattle.std.proofs.lemmas.List.{take_more}
 use Rattle.merkle_proof.specs.RangePlans.{AreAnswered}
-use Rattle.merkle_proof.proofs.PeakValues.{zip_push}
+use Rattle.merkle_root_theory.proofs.PeakValues.{zip_push}
 use Rattle.merkle_proof.proofs.ReadRuns.{folded_push}
 use Rattle.merkle_proof.proofs.reading.read_folded.Given as given
 use Rattle.merkle_proof.proofs.reading.read_folded.Goals as goal

@@ -2,8 +2,8 @@ use Rattle.std.proofs.Common.{◌++◌, arith, sym, ap, ◌∙◌, refl, inl, in
 use Rattle.std.proofs.lemmas.Bool.{not-true, not-false}
 use Rattle.merkle_hasher.proofs.Spans.{heights_same}
 use Rattle.merkle_hasher.proofs.NodeSteps.{inner_node, lower}
-use Rattle.merkle_proof.proofs.Walks.{siblings_met_leaf, siblings_inner}
-use Rattle.merkle_proof.proofs.Grouping.{if_ok, none_more, outside_positions}
+use Rattle.merkle_root_theory.proofs.Walks.{siblings_met_leaf, siblings_inner}
+use Rattle.merkle_root_theory.proofs.Grouping.{if_ok, none_more, outside_positions}
 use Rattle.merkle_proof.proofs.siblings.+collect_siblings.Goals as goal
 use Rattle.merkle_proof.proofs.siblings.+collect_siblings.Goals.{then-subtree-eq0-via-then-subtree-eq0, then-subtree-eq0-via-else-subtree-eq0+then-is_inside}
 

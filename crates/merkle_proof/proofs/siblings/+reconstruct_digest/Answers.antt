@@ -2,11 +2,11 @@ use Rattle.std.proofs.Common.{[], arith, sym, ◌∙◌, refl, inl, inr}
 use Rattle.std.proofs.lemmas.Result.{err_from_is_err_and}
 use Rattle.std.proofs.lemmas.List.{nil_from_length}
 use Rattle.std.proofs.lemmas.Bool.{not-true, not-false}
-use Rattle.merkle_proof.specs.Range.{in_range}
-use Rattle.merkle_proof.specs.Walk.{bytes_of, leaf_from}
+use Rattle.merkle_root_theory.specs.Range.{in_range}
+use Rattle.merkle_root_theory.specs.Walk.{bytes_of, leaf_from}
 use Rattle.merkle_hasher.proofs.Spans.{heights_same}
 use Rattle.merkle_hasher.proofs.NodeSteps.{inner_node, lower}
-use Rattle.merkle_proof.proofs.Walks.{walk_outside, short_outside, walked_leaf, walked_inner, short_inner_left, short_inner_right, leaf_in_range}
+use Rattle.merkle_root_theory.proofs.Walks.{walk_outside, short_outside, walked_leaf, walked_inner, short_inner_left, short_inner_right, leaf_in_range}
 use Rattle.merkle_proof.proofs.siblings.+reconstruct_digest.Goals as goal
 
 pub returns-in_default-clause-err : goal.returns-in_default-clause-err

@@ -1,7 +1,7 @@
 use Rattle.std.proofs.Common.{arith, sym, ◌∙◌}
 use Rattle.merkle_base.proofs.Nodes.{node_built}
 use Rattle.merkle_hasher.proofs.Comparisons.{le_yes, ge_yes}
-use Rattle.merkle_proof.proofs.Walks.{siblings_inside}
+use Rattle.merkle_root_theory.proofs.Walks.{siblings_inside}
 use Rattle.merkle_proof.proofs.siblings.is_inside.Goals as goal
 
 pub returns-then-ge : goal.returns-then-ge

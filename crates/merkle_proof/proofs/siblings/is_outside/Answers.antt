@@ -1,7 +1,7 @@
 use Rattle.std.proofs.Common.{not, inl, inr, sym, ap, ◌∙◌, arith, ⊎_elim}
 use Rattle.std.proofs.lemmas.Bool.{cases_lt}
 use Rattle.merkle_base.proofs.Nodes.{node_built}
-use Rattle.merkle_proof.proofs.PeakGroups.{meets_not, meets_yes}
+use Rattle.merkle_root_theory.proofs.PeakGroups.{meets_not, meets_yes}
 use Rattle.merkle_hasher.proofs.Comparisons.{le_yes, le_no, ge_if, ge_if_not}
 use Rattle.merkle_proof.proofs.siblings.is_outside.Goals as goal
 

@@ -5,7 +5,7 @@ use Rattle.merkle_batch_theory.specs.Store.{node, contents}
 use Rattle.merkle_core.proofs.HonestReads.{is_memory, range_planned}
 use Rattle.merkle_core.proofs.KeptReads.{only_memory}
 use Rattle.merkle_proof.specs.Input.{setting}
-use Rattle.merkle_proof.specs.Range.{IsHonestRange}
+use Rattle.merkle_root_theory.specs.Range.{IsHonestRange}
 use Rattle.merkle_proof.specs.RangePlans.{LeafRange, IsRefusal, IsBuildRefusal, IsBuiltProof, list_input}
 use Rattle.merkle_core.proofs.mem.Mem.range_proof.Goals as goal
 

@@ -2,10 +2,10 @@ use Rattle.std.proofs.Common.{◌∙◌, ◌++◌, ap, sym, append_assoc, map}
 use Rattle.std.proofs.lemmas.List.{map-append}
 use Rattle.merkle_base.specs.Places.{peaks_of, wholly_before}
 use Rattle.merkle_base.specs.Tree.{position}
-use Rattle.merkle_proof.specs.Range.{overlapping, wholly_after, range_siblings}
+use Rattle.merkle_root_theory.specs.Range.{overlapping, wholly_after, range_siblings}
 use Rattle.merkle_hasher.proofs.PeakNodes.{peaks_at}
 use Rattle.merkle_proof.proofs.groups.Groups.into_reads.Goals as goal
-use Rattle.merkle_proof.proofs.Extraction.{all_filter}
+use Rattle.merkle_root_theory.proofs.Extraction.{all_filter}
 
 pub append_siblings-requires-clause-nodes : goal.append_siblings-requires-clause-nodes
 append_siblings-requires-clause-nodes g c =

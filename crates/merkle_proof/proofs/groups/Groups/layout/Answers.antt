@@ -1,8 +1,8 @@
 use Rattle.std.proofs.Common.{◌≡◌, ◌+◌, length, arith, ap, ap₂, sym, subst}
 use Rattle.std.proofs.lemmas.List.{length-map}
 use Rattle.merkle_base.specs.Places.{peaks_of, wholly_before}
-use Rattle.merkle_proof.specs.Layouts.{count_after}
-use Rattle.merkle_proof.specs.Range.{overlapping, wholly_after}
+use Rattle.merkle_root_theory.specs.Layouts.{count_after}
+use Rattle.merkle_root_theory.specs.Range.{overlapping, wholly_after}
 use Rattle.merkle_hasher.specs.Subtrees.{subtree_of}
 use Rattle.merkle_proof.proofs.RangeRoot.{group_count, outside_count, few_peaks}
 use Rattle.merkle_proof.proofs.groups.Groups.layout.Goals as goal

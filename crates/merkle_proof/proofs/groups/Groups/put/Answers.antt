@@ -4,8 +4,8 @@ use Rattle.merkle_base.specs.Places.{wholly_before}
 use Rattle.merkle_base.specs.Tree.{position}
 use Rattle.merkle_hasher.specs.Subtrees.{subtree_of}
 use Rattle.merkle_hasher.proofs.Comparisons.{le_yes, le_no, ge_yes, ge_no}
-use Rattle.merkle_proof.specs.Range.{wholly_after}
-use Rattle.merkle_proof.proofs.Grouping.{before_no, over_yes, over_no_before, over_no_after, after_no, outside_before, outside_after, outside_over, push_subtree, push_position}
+use Rattle.merkle_root_theory.specs.Range.{wholly_after}
+use Rattle.merkle_root_theory.proofs.Grouping.{before_no, over_yes, over_no_before, over_no_after, after_no, outside_before, outside_after, outside_over, push_subtree, push_position}
 use Rattle.merkle_proof.proofs.groups.Groups.put.Goals as goal
 
 pub returns-in_ok-push : goal.returns-in_ok-push

@@ -1,6 +1,6 @@
 use Rattle.std.proofs.Common.{◌+◌, ◌-◌, arith}
-use Rattle.merkle_proof.specs.Outside.{folded_prefix, folded_suffix}
-use Rattle.merkle_proof.proofs.LayoutCounts.{length-fold_all, length-bag_all, length-single_before, length-folded_suffix}
+use Rattle.merkle_root_theory.specs.Outside.{folded_prefix, folded_suffix}
+use Rattle.merkle_root_theory.proofs.LayoutCounts.{length-fold_all, length-bag_all, length-single_before, length-folded_suffix}
 use Rattle.merkle_proof.proofs.layout.Layout.new.Goals as goal
 
 pub returns-clause-before : goal.returns-clause-before

@@ -1,12 +1,12 @@
 use Rattle.std.proofs.Common.{sym, subst, ◌∙◌, ◌↔◌, IsTrue, IfOk}
-use Rattle.merkle_proof.specs.Range.{Accepts}
+use Rattle.merkle_root_theory.specs.Range.{Accepts}
 use Rattle.merkle_proof.specs.Input.{setting, input_of}
-use Rattle.merkle_proof.specs.Walk.{bytes_of}
-use Rattle.merkle_proof.proofs.RangeChecks.{honest_is_accepted, accepted_is_honest}
+use Rattle.merkle_root_theory.specs.Walk.{bytes_of}
+use Rattle.merkle_root_theory.proofs.RangeChecks.{honest_is_accepted, accepted_is_honest}
 use Rattle.merkle_proof.proofs.RangeRoot.{same_input}
 use Rattle.merkle_proof.proofs.ListRoots.{roots_agree}
 use Rattle.merkle_proof.proofs.HasherLaws.{sound}
-use Rattle.merkle_proof.proofs.Grouping.{if_ok}
+use Rattle.merkle_root_theory.proofs.Grouping.{if_ok}
 use Rattle.merkle_proof.proofs.proof.Proof.verify_range_inclusion.Goals as goal
 
 pub returns-clause-exact : goal.returns-clause-exact

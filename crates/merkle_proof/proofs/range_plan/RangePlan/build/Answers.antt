@@ -1,11 +1,11 @@
 use Rattle.std.proofs.Common.{◌≡◌, ◌≤◌, length, arith, refl, sym, subst, ap, ◌∙◌, inr}
 use Rattle.merkle_base.specs.Places.{peaks_of}
 use Rattle.merkle_proof.specs.Input.{setting}
-use Rattle.merkle_proof.specs.Range.{IsHonestRange}
+use Rattle.merkle_root_theory.specs.Range.{IsHonestRange}
 use Rattle.merkle_proof.specs.RangePlans.{LeafRange, IsBuiltProof, IsBuildRefusal, IsFirstMissing, list_input}
 use Rattle.merkle_proof.specs.declared.proof.Proof.{Proof}
 use Rattle.merkle_proof.proofs.BuiltDigests.{is_built, is_honest}
-use Rattle.merkle_proof.proofs.PeakGroups.{length-peaks_of}
+use Rattle.merkle_root_theory.proofs.PeakGroups.{length-peaks_of}
 use Rattle.merkle_proof.proofs.ReadingOrder.{runs_of_plan, order_of_runs}
 use Rattle.merkle_proof.proofs.range_plan.RangePlan.build.Given as given
 use Rattle.merkle_proof.proofs.range_plan.RangePlan.build.Goals as goal

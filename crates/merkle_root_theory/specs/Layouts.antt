@@ -5,7 +5,7 @@ use Rattle.merkle_base.specs.Tree.{Tree}
 use Rattle.merkle_base.specs.Root.{bag, folded}
 use Rattle.merkle_base.specs.declared.family.Bagging.{Bagging}
 use Rattle.merkle_base.specs.declared.family.Bagging.TheVariants.{ForwardFold}
-use Rattle.merkle_proof.specs.Outside.{fold_all, bag_all, folded_prefix, single_before, single_after, folded_suffix}
+use Rattle.merkle_root_theory.specs.Outside.{fold_all, bag_all, folded_prefix, single_before, single_after, folded_suffix}
 
 -- the digests for the peaks before the range: one for those that are folded, if there are any, and one for each other
 abbrev pub count_before : Bagging → ℕ → List Tree → ℕ

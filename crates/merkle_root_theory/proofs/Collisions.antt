@@ -1,9 +1,9 @@
 -- If two alike expressions have one value, what they are given agrees, or they collide.
 use Rattle.std.proofs.Common.{◌≡◌, ◌≢◌, Bool, true, false, not, cond, List, [], ◌∷◌, ◌++◌, ◌⊎◌, inl, inr, refl, ap, ◌∙◌, filter, Decides, ⊎_elim}
 use Rattle.std.proofs.lemmas.Bool.{false≢true}
-use Rattle.merkle_proof.specs.Expression.{Place, Argument, Pair, Bytes, Input, Expression, hashed, value, Holds, visited, inputs, is_node, Alike, cut_left, cut_right, both, told_left, Agree}
+use Rattle.merkle_root_theory.specs.Expression.{Place, Argument, Pair, Bytes, Input, Expression, hashed, value, Holds, visited, inputs, is_node, Alike, cut_left, cut_right, both, told_left, Agree}
 use Rattle.merkle_base.specs.Hashing.{Hashing}
-use Rattle.merkle_proof.specs.Collision.{Member, Collision, Collides, Laws, AgreeOrCollide}
+use Rattle.merkle_root_theory.specs.Collision.{Member, Collision, Collides, Laws, AgreeOrCollide}
 
 pub member_left : {X : Type 0} → (xs ys : List X) (x : X) → Member xs x → Member (xs ++ ys) x
 member_left [] ys x m = elim m [ ]

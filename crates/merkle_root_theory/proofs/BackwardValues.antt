@@ -6,12 +6,12 @@ use Rattle.std.proofs.lemmas.List.{map-append}
 use Rattle.merkle_base.specs.Tree.{Tree}
 use Rattle.merkle_base.specs.Hashing.{Hashing}
 use Rattle.merkle_base.specs.Root as root
-use Rattle.merkle_proof.specs.Expression.{Join, PrefixFold, SuffixFold, value}
-use Rattle.merkle_proof.specs.Plan.{Plan, peak, folding, forward, bag, join_bag, meets, tree_meets, outer, inner}
-use Rattle.merkle_proof.specs.Outside.{bag_all, Met, Unmet}
-use Rattle.merkle_proof.specs.Claim.{claim}
-use Rattle.merkle_proof.proofs.OutsideNodes.{bag_unmet}
-use Rattle.merkle_proof.proofs.PartValues.{part_values, claim_unmet, value_folding, values_folding}
+use Rattle.merkle_root_theory.specs.Expression.{Join, PrefixFold, SuffixFold, value}
+use Rattle.merkle_root_theory.specs.Plan.{Plan, peak, folding, forward, bag, join_bag, meets, tree_meets, outer, inner}
+use Rattle.merkle_root_theory.specs.Outside.{bag_all, Met, Unmet}
+use Rattle.merkle_root_theory.specs.Claim.{claim}
+use Rattle.merkle_root_theory.proofs.OutsideNodes.{bag_unmet}
+use Rattle.merkle_root_theory.proofs.PartValues.{part_values, claim_unmet, value_folding, values_folding}
 
 -- the last of the peaks is met
 abbrev pub LastMet : (ℕ → Bool) → Tree → List Tree → Type 0

@@ -3,12 +3,12 @@ use Rattle.std.proofs.Common.{◌≡◌, ℕ, Bool, true, false, cond, ◌||◌,
 use Rattle.std.specs.List.{AllByRecursion}
 use Rattle.merkle_base.specs.Tree.{Tree}
 use Rattle.merkle_base.specs.Hashing.{Hashing}
-use Rattle.merkle_proof.specs.Expression.{Place, value, hashed, hashed_at, given}
-use Rattle.merkle_proof.specs.Plan.{Plan, peak, folding, meets, siblings, outer, inner}
-use Rattle.merkle_proof.specs.Outside.{Met, Unmet}
-use Rattle.merkle_proof.specs.Claim.{next, claim, tree_claim}
-use Rattle.merkle_proof.specs.Walk.{peak_values}
-use Rattle.merkle_proof.proofs.OutsideNodes.{outer_unmet, inner_unmet}
+use Rattle.merkle_root_theory.specs.Expression.{Place, value, hashed, hashed_at, given}
+use Rattle.merkle_root_theory.specs.Plan.{Plan, peak, folding, meets, siblings, outer, inner}
+use Rattle.merkle_root_theory.specs.Outside.{Met, Unmet}
+use Rattle.merkle_root_theory.specs.Claim.{next, claim, tree_claim}
+use Rattle.merkle_root_theory.specs.Walk.{peak_values}
+use Rattle.merkle_root_theory.proofs.OutsideNodes.{outer_unmet, inner_unmet}
 
 -- the digests of parts, from those given for the outer parts and for the inner nodes
 abbrev pub part_values : {D : Type 0} → Hashing D → (ℕ → Bool) → (ℕ → D) → List Plan → List D → List D → List D

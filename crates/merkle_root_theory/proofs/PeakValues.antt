@@ -4,13 +4,13 @@ use Rattle.std.proofs.lemmas.List.{length-drop}
 use Rattle.std.specs.List.{flat_map, AllZip, IsSplitAt}
 use Rattle.merkle_base.specs.Tree.{Tree}
 use Rattle.merkle_base.specs.Hashing.{Hashing}
-use Rattle.merkle_proof.specs.Expression.{value}
-use Rattle.merkle_proof.specs.Plan.{siblings}
-use Rattle.merkle_proof.specs.Claim.{tree_claim}
-use Rattle.merkle_proof.specs.Walk.{IsWalked}
-use Rattle.merkle_proof.specs.Walk.{peak_values}
-use Rattle.merkle_proof.specs.Walk.{ArePeaksWalked, ArePeakDigests}
-use Rattle.merkle_proof.proofs.Walks.{flat_push}
+use Rattle.merkle_root_theory.specs.Expression.{value}
+use Rattle.merkle_root_theory.specs.Plan.{siblings}
+use Rattle.merkle_root_theory.specs.Claim.{tree_claim}
+use Rattle.merkle_root_theory.specs.Walk.{IsWalked}
+use Rattle.merkle_root_theory.specs.Walk.{peak_values}
+use Rattle.merkle_root_theory.specs.Walk.{ArePeaksWalked, ArePeakDigests}
+use Rattle.merkle_root_theory.proofs.Walks.{flat_push}
 
 module _ {D : Type 0} (h : Hashing D) (c : ℕ → Bool) (X : ℕ → D) where
   values_push : (ts : List Tree) (t : Tree) (ds : List D) → peak_values h c X (ts ++ t ∷ []) ds ≡ peak_values h c X ts ds ++ value h (tree_claim h c X t (drop (length (flat_map (siblings c) ts)) ds)) ∷ []

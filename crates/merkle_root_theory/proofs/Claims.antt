@@ -2,13 +2,13 @@
 use Rattle.std.proofs.Common.{◌≡◌, ℕ, Bool, true, false, cond, ◌||◌, ◌+◌, ◌≤◌, List, [], ◌∷◌, ◌++◌, ◌⊎◌, inl, inr, refl, ap, ap₂, sym, ◌∙◌, subst, ⊎_elim, arith, length, map, drop, get_or, length-append, drop_at, drop-drop, append_assoc, append-nil, drop_of_length-le}
 use Rattle.std.proofs.lemmas.List.{length-map, map-append, length-drop}
 use Rattle.std.proofs.lemmas.Bool.{false≢true, or_parts}
-use Rattle.merkle_proof.specs.Expression.{Node, hashed_at, given, hashed, value, Holds, Alike, cut_left, cut_right, both, Agree}
+use Rattle.merkle_root_theory.specs.Expression.{Node, hashed_at, given, hashed, value, Holds, Alike, cut_left, cut_right, both, Agree}
 use Rattle.merkle_base.specs.Hashing.{Hashing}
 use Rattle.merkle_base.specs.Tree.{Tree, leaf, join}
 use Rattle.merkle_base.proofs.Cases.{by_test}
-use Rattle.merkle_proof.specs.Plan.{Plan, peak, folding, full, node_expression, tree_meets, meets, siblings, outer, inner, plan_digest, tree_digest, honest_digests}
-use Rattle.merkle_proof.specs.Claim.{next, tree_claim, claim, HonestAccepted, InTree, InPlan, NothingElse, PairAgrees}
-use Rattle.merkle_proof.proofs.Collisions.{main}
+use Rattle.merkle_root_theory.specs.Plan.{Plan, peak, folding, full, node_expression, tree_meets, meets, siblings, outer, inner, plan_digest, tree_digest, honest_digests}
+use Rattle.merkle_root_theory.specs.Claim.{next, tree_claim, claim, HonestAccepted, InTree, InPlan, NothingElse, PairAgrees}
+use Rattle.merkle_root_theory.proofs.Collisions.{main}
 
 -- where a tree or a plan isn't met no location of it is chosen
 pub unmet_tree : (c : ℕ → Bool) (t : Tree) → tree_meets c t ≡ false → (i : ℕ) → InTree t i → c i ≡ true → ⊥

@@ -7,20 +7,20 @@ use Rattle.merkle_base.specs.Places.{peaks_of, wholly_before}
 use Rattle.merkle_base.specs.Root.{folded, peaks_root, root_string}
 use Rattle.merkle_base.specs.declared.family.Bagging.{Bagging}
 use Rattle.merkle_base.specs.declared.family.Bagging.TheVariants.{ForwardFold, BackwardFold}
-use Rattle.merkle_proof.specs.Expression.{Expression, value}
-use Rattle.merkle_proof.specs.Plan.{Plan, peak, whole}
-use Rattle.merkle_proof.specs.Claim.{claim, claim_of}
-use Rattle.merkle_proof.specs.Outside.{fold_all, bag_all, folded_prefix, single_before, single_after, folded_suffix, Met, Unmet, HasLayout}
-use Rattle.merkle_proof.specs.Layouts.{count_before, count_after, count_inactive}
-use Rattle.merkle_proof.specs.Check.{Setting, RangeInput, chosen, leaf_given, range_expression, root_of}
-use Rattle.merkle_proof.specs.Range.{overlapping, wholly_after, range_parts, end_of}
-use Rattle.merkle_proof.specs.Walk.{peak_values, ArePeakDigests}
+use Rattle.merkle_root_theory.specs.Expression.{Expression, value}
+use Rattle.merkle_root_theory.specs.Plan.{Plan, peak, whole}
+use Rattle.merkle_root_theory.specs.Claim.{claim, claim_of}
+use Rattle.merkle_root_theory.specs.Outside.{fold_all, bag_all, folded_prefix, single_before, single_after, folded_suffix, Met, Unmet, HasLayout}
+use Rattle.merkle_root_theory.specs.Layouts.{count_before, count_after, count_inactive}
+use Rattle.merkle_root_theory.specs.Check.{Setting, RangeInput, chosen, leaf_given, range_expression, root_of}
+use Rattle.merkle_root_theory.specs.Range.{overlapping, wholly_after, range_parts, end_of}
+use Rattle.merkle_root_theory.specs.Walk.{peak_values, ArePeakDigests}
 use Rattle.merkle_base.proofs.PeakLists.{peaks_built, peaks_spans}
-use Rattle.merkle_proof.proofs.PeakGroups.{groups, some_over, unmet_before, unmet_after, met_over}
-use Rattle.merkle_proof.proofs.OutsideNodes.{outside_is_layout, forward_unmet, bag_unmet, unmet_take, unmet_drop}
-use Rattle.merkle_proof.proofs.LayoutCounts.{length-layout, inactive_within}
-use Rattle.merkle_proof.proofs.PartValues.{UnmetParts, unmet_peaks, unmet_append, values_are, length-peak_values}
-use Rattle.merkle_proof.proofs.LayoutFolds.{parts_before, parts_after, parts_folded}
+use Rattle.merkle_root_theory.proofs.PeakGroups.{groups, some_over, unmet_before, unmet_after, met_over}
+use Rattle.merkle_root_theory.proofs.OutsideNodes.{outside_is_layout, forward_unmet, bag_unmet, unmet_take, unmet_drop}
+use Rattle.merkle_root_theory.proofs.LayoutCounts.{length-layout, inactive_within}
+use Rattle.merkle_root_theory.proofs.PartValues.{UnmetParts, unmet_peaks, unmet_append, values_are, length-peak_values}
+use Rattle.merkle_root_theory.proofs.LayoutFolds.{parts_before, parts_after, parts_folded}
 
 module _ (c : ℕ → Bool) where
   unmet_fold : (ts : List Tree) → Unmet c ts → UnmetParts c (fold_all ts)

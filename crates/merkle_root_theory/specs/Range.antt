@@ -3,12 +3,12 @@ use Rattle.std.specs.Prelude.{◌≡◌, ℕ, Bool, ◌&&◌, ◌⊎◌, ◌≤�
 use Rattle.merkle_base.specs.Tree.{Tree, first_leaf, end_leaf}
 use Rattle.merkle_base.specs.Heights.{IsLawful}
 use Rattle.merkle_base.specs.Hashing.{Hashing}
-use Rattle.merkle_proof.specs.Collision.{Collision, Collides, Laws}
-use Rattle.merkle_proof.specs.RootString.{ByteLaws}
-use Rattle.merkle_proof.specs.Plan.{Plan, siblings, plan_digest, tree_digest}
+use Rattle.merkle_root_theory.specs.Collision.{Collision, Collides, Laws}
+use Rattle.merkle_root_theory.specs.RootString.{ByteLaws}
+use Rattle.merkle_root_theory.specs.Plan.{Plan, siblings, plan_digest, tree_digest}
 use Rattle.merkle_base.specs.declared.family.Bagging.{Bagging}
-use Rattle.merkle_proof.specs.Outside.{layout}
-use Rattle.merkle_proof.specs.Check.{Setting, root_of, all_inputs, list_expression, RangeInput, range_expression}
+use Rattle.merkle_root_theory.specs.Outside.{layout}
+use Rattle.merkle_root_theory.specs.Check.{Setting, root_of, all_inputs, list_expression, RangeInput, range_expression}
 use Rattle.merkle_base.specs.Places.{peaks_of, wholly_before}
 
 -- whether i lies in a..b

@@ -5,13 +5,13 @@ use Rattle.std.proofs.lemmas.Bool.{lt-leb, or_right, and_parts, and_left, and_ri
 use Rattle.merkle_base.specs.Tree.{Tree, leaf, join, first_leaf, width, IsBuilt, end_leaf}
 use Rattle.merkle_base.proofs.PeakLists.{Spans, spans_end, filter_yes, filter_no, none_before, peaks_built, peaks_spans}
 use Rattle.merkle_base.proofs.Nodes.{width_pos}
-use Rattle.merkle_proof.specs.Plan.{whole, tree_meets, siblings}
-use Rattle.merkle_proof.specs.Outside.{layout, Unmet, Met, HasLayout}
-use Rattle.merkle_proof.specs.Check.{Setting}
+use Rattle.merkle_root_theory.specs.Plan.{whole, tree_meets, siblings}
+use Rattle.merkle_root_theory.specs.Outside.{layout, Unmet, Met, HasLayout}
+use Rattle.merkle_root_theory.specs.Check.{Setting}
 use Rattle.merkle_base.specs.Places.{peaks_of, wholly_before}
-use Rattle.merkle_proof.specs.Range.{in_range, overlapping, wholly_after, range_parts, range_siblings}
+use Rattle.merkle_root_theory.specs.Range.{in_range, overlapping, wholly_after, range_parts, range_siblings}
 use Rattle.merkle_base.proofs.Cases.{by_test}
-use Rattle.merkle_proof.proofs.OutsideNodes.{outside_is_layout}
+use Rattle.merkle_root_theory.proofs.OutsideNodes.{outside_is_layout}
 
 module _ (a b : ℕ) where
   abbrev is_before : Tree → Bool

@@ -6,7 +6,7 @@ use Rattle.merkle_base.specs.declared.family.Bagging.{Bagging}
 use Rattle.merkle_base.specs.declared.family.Bagging.TheVariants.{ForwardFold, BackwardFold}
 use Rattle.merkle_base.specs.Bagging.{bagging_byte}
 use Rattle.merkle_base.specs.Hashing.{Hashing}
-use Rattle.merkle_proof.specs.RootString.{ByteLaws, RootStringTellsAll}
+use Rattle.merkle_root_theory.specs.RootString.{ByteLaws, RootStringTellsAll}
 use Rattle.merkle_base.specs.Root.{inactive_bytes}
 use Rattle.merkle_base.proofs.Lists.{cons_head, cons_tail}
 

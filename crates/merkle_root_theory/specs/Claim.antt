@@ -1,10 +1,10 @@
 -- What a range check claims: the plan with the parts outside the range given by the proof, and the leaves in it by the elements.
 use Rattle.std.specs.Prelude.{◌≡◌, ℕ, Bool, true, cond, ◌||◌, ◌⊎◌, ◌+◌, List, drop, get_or, length}
-use Rattle.merkle_proof.specs.Expression.{Node, Expression, given, hashed, value, inputs}
+use Rattle.merkle_root_theory.specs.Expression.{Node, Expression, given, hashed, value, inputs}
 use Rattle.merkle_base.specs.Hashing.{Hashing}
 use Rattle.merkle_base.specs.Tree.{Tree, leaf, join}
-use Rattle.merkle_proof.specs.Plan.{Plan, peak, folding, full, tree_meets, meets, siblings, outer, inner, plan_digest, honest_digests}
-use Rattle.merkle_proof.specs.Collision.{Collision, Collides, Laws}
+use Rattle.merkle_root_theory.specs.Plan.{Plan, peak, folding, full, tree_meets, meets, siblings, outer, inner, plan_digest, honest_digests}
+use Rattle.merkle_root_theory.specs.Collision.{Collision, Collides, Laws}
 
 -- the next digest
 abbrev pub next : {D : Type 0} → Hashing D → List D → D

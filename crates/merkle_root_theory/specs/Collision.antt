@@ -1,6 +1,6 @@
 -- Two different arguments at one place with one digest.
 use Rattle.std.specs.Prelude.{◌≡◌, ◌≢◌, List, [], ◌∷◌, ◌⊎◌, Decides}
-use Rattle.merkle_proof.specs.Expression.{Place, Argument, digest_of_argument, Input, Expression, inputs, value, Holds, Alike, Agree}
+use Rattle.merkle_root_theory.specs.Expression.{Place, Argument, digest_of_argument, Input, Expression, inputs, value, Holds, Alike, Agree}
 use Rattle.merkle_base.specs.Hashing.{Hashing}
 
 -- x is one of the elements

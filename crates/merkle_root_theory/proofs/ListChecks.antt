@@ -4,20 +4,20 @@ use Rattle.std.proofs.lemmas.Slice.Eq.{bytes_eq-Decides}
 use Rattle.std.proofs.lemmas.List.{length-map}
 use Rattle.std.proofs.Math.Nat.{add-sub_cancel_left}
 use Rattle.std.proofs.lemmas.Bool.{and_parts}
-use Rattle.merkle_proof.specs.Expression.{Root, Bytes, Expression, value}
-use Rattle.merkle_proof.specs.Collision.{Member, Collision, Collides, Laws}
-use Rattle.merkle_proof.specs.RootString.{ByteLaws, SameFolded}
+use Rattle.merkle_root_theory.specs.Expression.{Root, Bytes, Expression, value}
+use Rattle.merkle_root_theory.specs.Collision.{Member, Collision, Collides, Laws}
+use Rattle.merkle_root_theory.specs.RootString.{ByteLaws, SameFolded}
 use Rattle.merkle_base.specs.Root.{root_string}
 use Rattle.merkle_base.specs.Tree.{Tree}
-use Rattle.merkle_proof.specs.Plan.{Plan, peak, forward, bag, join_bag, whole, full, outer, inner, plan_digest, tree_digest}
+use Rattle.merkle_root_theory.specs.Plan.{Plan, peak, forward, bag, join_bag, whole, full, outer, inner, plan_digest, tree_digest}
 use Rattle.merkle_base.specs.declared.family.Bagging.{Bagging}
 use Rattle.merkle_base.specs.declared.family.Bagging.TheVariants.{ForwardFold, BackwardFold}
-use Rattle.merkle_proof.specs.Claim.{claim_of, InTree, InPlan}
-use Rattle.merkle_proof.specs.Check.{Setting, string_of, root_of, inputs_of, all_inputs, list_expression, RangeInput, chosen, leaf_given, range_expression, Counts, HasHonestDigests, IsHonest, Covers, NoOtherRange, SharesLeaves, PairConsistent, HonestRangeAccepted}
+use Rattle.merkle_root_theory.specs.Claim.{claim_of, InTree, InPlan}
+use Rattle.merkle_root_theory.specs.Check.{Setting, string_of, root_of, inputs_of, all_inputs, list_expression, RangeInput, chosen, leaf_given, range_expression, Counts, HasHonestDigests, IsHonest, Covers, NoOtherRange, SharesLeaves, PairConsistent, HonestRangeAccepted}
 use Rattle.merkle_base.specs.Places.{peaks_of}
-use Rattle.merkle_proof.proofs.Collisions.{decided}
-use Rattle.merkle_proof.proofs.RootStrings.{tells_all}
-use Rattle.merkle_proof.proofs.Claims.{nothing_else, pair_agrees, honest_accepted}
+use Rattle.merkle_root_theory.proofs.Collisions.{decided}
+use Rattle.merkle_root_theory.proofs.RootStrings.{tells_all}
+use Rattle.merkle_root_theory.proofs.Claims.{nothing_else, pair_agrees, honest_accepted}
 
 -- every peak's locations are the plan's
 forward_keeps : (acc : Plan) (i : ℕ) (ts : List Tree) (j : ℕ) → InPlan acc j → InPlan (forward acc i ts) j

@@ -8,16 +8,16 @@ use Rattle.merkle_base.specs.Hashing.{Hashing}
 use Rattle.merkle_base.specs.Root.{folded}
 use Rattle.merkle_base.specs.declared.family.Bagging.{Bagging}
 use Rattle.merkle_base.specs.declared.family.Bagging.TheVariants.{ForwardFold, BackwardFold}
-use Rattle.merkle_proof.specs.Expression.{PrefixFold, value}
-use Rattle.merkle_proof.specs.Plan.{Plan, peak, folding, whole, forward, join_bag, meets, tree_meets, outer, inner}
-use Rattle.merkle_proof.specs.Claim.{claim}
-use Rattle.merkle_proof.specs.Outside.{fold_all, bag_all, folded_prefix, single_before, single_after, folded_suffix, Met, Unmet}
-use Rattle.merkle_proof.specs.Layouts.{count_inactive}
-use Rattle.merkle_proof.proofs.LayoutCounts.{length-fold_all}
-use Rattle.merkle_proof.proofs.OutsideNodes.{forward_append}
-use Rattle.merkle_proof.proofs.PartValues.{part_values, value_folding, values_folding}
-use Rattle.merkle_proof.proofs.ForwardValues.{value_forward}
-use Rattle.merkle_proof.proofs.BackwardValues.{folded_from, folded_more, join_reaches, join_forward}
+use Rattle.merkle_root_theory.specs.Expression.{PrefixFold, value}
+use Rattle.merkle_root_theory.specs.Plan.{Plan, peak, folding, whole, forward, join_bag, meets, tree_meets, outer, inner}
+use Rattle.merkle_root_theory.specs.Claim.{claim}
+use Rattle.merkle_root_theory.specs.Outside.{fold_all, bag_all, folded_prefix, single_before, single_after, folded_suffix, Met, Unmet}
+use Rattle.merkle_root_theory.specs.Layouts.{count_inactive}
+use Rattle.merkle_root_theory.proofs.LayoutCounts.{length-fold_all}
+use Rattle.merkle_root_theory.proofs.OutsideNodes.{forward_append}
+use Rattle.merkle_root_theory.proofs.PartValues.{part_values, value_folding, values_folding}
+use Rattle.merkle_root_theory.proofs.ForwardValues.{value_forward}
+use Rattle.merkle_root_theory.proofs.BackwardValues.{folded_from, folded_more, join_reaches, join_forward}
 
 -- what stands for the peaks before the range, and for those after it
 abbrev pub parts_before : Bagging → ℕ → List Tree → List Plan

@@ -3,14 +3,14 @@ use Rattle.std.specs.Prelude.{◌≡◌, ℕ, Bool, cond, ◌||◌, ◌⊎◌, �
 use Rattle.std.specs.List.{AllByRecursion}
 use Rattle.merkle_base.specs.Tree.{Tree, leaf, join, position}
 use Rattle.merkle_base.specs.Forest.{forest}
-use Rattle.merkle_proof.specs.Expression.{value}
+use Rattle.merkle_root_theory.specs.Expression.{value}
 use Rattle.merkle_base.specs.Hashing.{Hashing}
-use Rattle.merkle_proof.specs.Plan.{tree_meets, siblings, tree_digest}
-use Rattle.merkle_proof.specs.Claim.{next, tree_claim}
-use Rattle.merkle_proof.specs.Outside.{fold_all, folded_prefix, single_before, single_after}
-use Rattle.merkle_proof.specs.Check.{Setting, RangeInput, leaf_given}
+use Rattle.merkle_root_theory.specs.Plan.{tree_meets, siblings, tree_digest}
+use Rattle.merkle_root_theory.specs.Claim.{next, tree_claim}
+use Rattle.merkle_root_theory.specs.Outside.{fold_all, folded_prefix, single_before, single_after}
+use Rattle.merkle_root_theory.specs.Check.{Setting, RangeInput, leaf_given}
 use Rattle.merkle_base.specs.Places.{peaks_of, wholly_before}
-use Rattle.merkle_proof.specs.Range.{in_range, overlapping, wholly_after, range_parts, end_of, leaf_of, AcceptsSome, plan_root, Sound, RangeCollides}
+use Rattle.merkle_root_theory.specs.Range.{in_range, overlapping, wholly_after, range_parts, end_of, leaf_of, AcceptsSome, plan_root, Sound, RangeCollides}
 
 -- the pairs below a node that overlaps the range: those of its left child, those of its right child, the left child, the right child; ds: the digests for its siblings
 abbrev pub inner_pairs : {D : Type 0} → Hashing D → (ℕ → Bool) → (ℕ → D) → Tree → List D → List (ℕ × D)

@@ -5,7 +5,7 @@ use Rattle.std.proofs.Common.{map, append_assoc, le-leb, lt-ltb}
 use Rattle.std.proofs.lemmas.List.{map-append}
 use Rattle.merkle_base.specs.Tree.{IsBuilt}
 use Rattle.merkle_base.proofs.Nodes.{width_pos}
-use Rattle.merkle_proof.proofs.PeakGroups.{meets_yes}
+use Rattle.merkle_root_theory.proofs.PeakGroups.{meets_yes}
 use Rattle.std.specs.Borrow.{Bor}
 use Rattle.std.proofs.lemmas.Bool.{and_parts, and_from}
 use Rattle.std.proofs.lemmas.Grind.{flat_map-append}
@@ -15,13 +15,13 @@ use Rattle.merkle_base.specs.Forest.{size}
 use Rattle.merkle_base.proofs.Growth.{forest_grown}
 use Rattle.merkle_base.proofs.Births.{leaf_at}
 use Rattle.merkle_base.specs.Hashing.{Hashing}
-use Rattle.merkle_proof.specs.Expression.{Node, given, hashed, value}
-use Rattle.merkle_proof.specs.Plan.{tree_meets, siblings}
-use Rattle.merkle_proof.specs.Claim.{next, tree_claim}
-use Rattle.merkle_proof.specs.Range.{in_range}
+use Rattle.merkle_root_theory.specs.Expression.{Node, given, hashed, value}
+use Rattle.merkle_root_theory.specs.Plan.{tree_meets, siblings}
+use Rattle.merkle_root_theory.specs.Claim.{next, tree_claim}
+use Rattle.merkle_root_theory.specs.Range.{in_range}
 use Rattle.merkle_hasher.specs.Subtrees.{Stands}
-use Rattle.merkle_proof.specs.Walk.{bytes_of, leaf_from}
-use Rattle.merkle_proof.specs.Walk.{IsWalked}
+use Rattle.merkle_root_theory.specs.Walk.{bytes_of, leaf_from}
+use Rattle.merkle_root_theory.specs.Walk.{IsWalked}
 
 pub in_from : (a b i : ℕ) → in_range a b i ≡ true → a ≤ i
 in_from a b i e = leb-true a i (and_parts (nat_le a i) (nat_lt i b) e).0

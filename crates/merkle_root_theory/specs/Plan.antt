@@ -1,7 +1,7 @@
 -- How a list's leaves are hashed to one digest: trees of positions, folded.
 use Rattle.std.specs.Prelude.{ℕ, suc, pred, Bool, cond, ◌||◌, List, [], ◌∷◌, ◌++◌, take, drop, map, Option, Some, None}
 use Rattle.merkle_base.specs.Tree.{Tree, leaf, join}
-use Rattle.merkle_proof.specs.Expression.{Place, Join, PrefixFold, SuffixFold, Node, Expression, given, hashed, value}
+use Rattle.merkle_root_theory.specs.Expression.{Place, Join, PrefixFold, SuffixFold, Node, Expression, given, hashed, value}
 use Rattle.merkle_base.specs.declared.family.Bagging.{Bagging}
 use Rattle.merkle_base.specs.declared.family.Bagging.TheVariants.{ForwardFold, BackwardFold}
 use Rattle.merkle_base.specs.Hashing.{Hashing}

@@ -5,9 +5,9 @@ use Rattle.std.specs.Borrow.{Bor}
 use Rattle.merkle_base.specs.Tree.{Tree}
 use Rattle.merkle_base.specs.Forest.{size}
 use Rattle.merkle_base.specs.Hashing.{Hashing}
-use Rattle.merkle_proof.specs.Expression.{value}
-use Rattle.merkle_proof.specs.Plan.{siblings}
-use Rattle.merkle_proof.specs.Claim.{tree_claim}
+use Rattle.merkle_root_theory.specs.Expression.{value}
+use Rattle.merkle_root_theory.specs.Plan.{siblings}
+use Rattle.merkle_root_theory.specs.Claim.{tree_claim}
 
 -- the bytes of elements that are lent
 abbrev pub bytes_of : List (Bor (List ℕ)) → List (List ℕ)

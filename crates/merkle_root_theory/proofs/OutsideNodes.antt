@@ -3,11 +3,11 @@ use Rattle.std.proofs.Common.{◌≡◌, ℕ, suc, zero, Bool, true, false, cond
 use Rattle.std.proofs.Math.Seq.{take-append-add, drop-append-add}
 use Rattle.std.proofs.lemmas.List.{length-drop, take-append-le, drop-append-le, take_all}
 use Rattle.std.proofs.lemmas.Bool.{or_right, cases_lt}
-use Rattle.merkle_proof.specs.Expression.{Place, Join, PrefixFold, SuffixFold}
+use Rattle.merkle_root_theory.specs.Expression.{Place, Join, PrefixFold, SuffixFold}
 use Rattle.merkle_base.specs.Tree.{Tree}
-use Rattle.merkle_proof.specs.Plan.{Plan, peak, folding, forward, bag, join_bag, whole, tree_meets, meets, siblings, outer, inner}
+use Rattle.merkle_root_theory.specs.Plan.{Plan, peak, folding, forward, bag, join_bag, whole, tree_meets, meets, siblings, outer, inner}
 use Rattle.merkle_base.specs.declared.family.Bagging.TheVariants.{ForwardFold, BackwardFold}
-use Rattle.merkle_proof.specs.Outside.{fold_all, bag_all, layout, Unmet, Met, HasLayout, OutsideIsLayout}
+use Rattle.merkle_root_theory.specs.Outside.{fold_all, bag_all, layout, Unmet, Met, HasLayout, OutsideIsLayout}
 
 module _ (c : ℕ → Bool) where
   -- the parts of a plan that is met nowhere

@@ -1,8 +1,8 @@
 -- The root over plans and the root of a list.
 use Rattle.std.specs.Prelude.{◌≡◌, ℕ, List}
 use Rattle.merkle_base.specs.Root.{list_root}
-use Rattle.merkle_proof.specs.Check.{Setting}
-use Rattle.merkle_proof.specs.Range.{plan_root}
+use Rattle.merkle_root_theory.specs.Check.{Setting}
+use Rattle.merkle_root_theory.specs.Range.{plan_root}
 
 -- the root over the plan of a list's peaks is the list's root
 abbrev pub RootsAgree : Type 0 → Type 0

@@ -5,14 +5,14 @@ use Rattle.std.proofs.lemmas.List.{map-append}
 use Rattle.merkle_base.specs.Tree.{Tree, position, height, first_leaf, end_leaf}
 use Rattle.merkle_base.proofs.Growth.{forest_grown}
 use Rattle.merkle_base.proofs.Nodes.{width_pos}
-use Rattle.merkle_proof.specs.Plan.{tree_meets, siblings}
-use Rattle.merkle_proof.specs.Range.{overlapping, wholly_after}
+use Rattle.merkle_root_theory.specs.Plan.{tree_meets, siblings}
+use Rattle.merkle_root_theory.specs.Range.{overlapping, wholly_after}
 use Rattle.merkle_base.proofs.PeakLists.{filter_yes, filter_no}
 use Rattle.merkle_hasher.specs.Subtrees.{Stands}
 use Rattle.merkle_hasher.specs.declared.subtree.Subtree.{Subtree}
 use Rattle.merkle_hasher.specs.Subtrees.{subtree_of}
 use Rattle.merkle_hasher.specs.Subtrees.{Means}
-use Rattle.merkle_proof.proofs.Walks.{siblings_unmet}
+use Rattle.merkle_root_theory.proofs.Walks.{siblings_unmet}
 use Rattle.merkle_base.specs.Places.{wholly_before}
 
 -- a weaker fact of the same result

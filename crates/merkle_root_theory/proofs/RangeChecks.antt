@@ -11,17 +11,17 @@ use Rattle.merkle_base.proofs.Lists.{same_list}
 use Rattle.merkle_base.proofs.Nodes.{size_le}
 use Rattle.merkle_base.proofs.Lookup.{size_large}
 use Rattle.merkle_base.proofs.Balance.{heights_forest}
-use Rattle.merkle_proof.specs.Collision.{Member, Collision, Collides}
-use Rattle.merkle_proof.specs.Plan.{Plan, whole, full, plan_digest, tree_digest}
+use Rattle.merkle_root_theory.specs.Collision.{Member, Collision, Collides}
+use Rattle.merkle_root_theory.specs.Plan.{Plan, whole, full, plan_digest, tree_digest}
 use Rattle.merkle_base.specs.declared.family.Bagging.{Bagging}
 use Rattle.merkle_base.specs.declared.family.Bagging.TheVariants.{ForwardFold, BackwardFold}
-use Rattle.merkle_proof.specs.Claim.{InTree, claim_of}
-use Rattle.merkle_proof.specs.Outside.{HasLayout}
-use Rattle.merkle_proof.specs.Check.{Setting, root_of, all_inputs, list_expression, RangeInput, chosen, leaf_given, range_expression, Counts, HasHonestDigests, RangeAccepts, IsHonest, Covers}
+use Rattle.merkle_root_theory.specs.Claim.{InTree, claim_of}
+use Rattle.merkle_root_theory.specs.Outside.{HasLayout}
+use Rattle.merkle_root_theory.specs.Check.{Setting, root_of, all_inputs, list_expression, RangeInput, chosen, leaf_given, range_expression, Counts, HasHonestDigests, RangeAccepts, IsHonest, Covers}
 use Rattle.merkle_base.specs.Places.{peaks_of}
-use Rattle.merkle_proof.specs.Range.{end_of, range_parts, range_siblings, leaf_of, range_digests, AcceptsSome, IsEmptyInput, IsHonestSome, plan_root, Sound, RangeCollides, HonestIsAccepted, AcceptedIsHonest}
-use Rattle.merkle_proof.proofs.ListChecks.{was_chosen, no_other_range, honest_range_accepted, root_tells}
-use Rattle.merkle_proof.proofs.PeakGroups.{range_layout}
+use Rattle.merkle_root_theory.specs.Range.{end_of, range_parts, range_siblings, leaf_of, range_digests, AcceptsSome, IsEmptyInput, IsHonestSome, plan_root, Sound, RangeCollides, HonestIsAccepted, AcceptedIsHonest}
+use Rattle.merkle_root_theory.proofs.ListChecks.{was_chosen, no_other_range, honest_range_accepted, root_tells}
+use Rattle.merkle_root_theory.proofs.PeakGroups.{range_layout}
 use Rattle.merkle_base.proofs.PeakLists.{Spans, peaks_built, peaks_spans}
 
 -- a tree has the locations of its span, and no others

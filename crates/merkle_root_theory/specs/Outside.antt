@@ -1,7 +1,7 @@
 -- The layout of a range proof by the peaks before the range, those that overlap it and those after it.
 use Rattle.std.specs.Prelude.{◌≡◌, ℕ, Bool, true, false, ◌+◌, ◌-◌, List, [], ◌∷◌, ◌++◌, take, drop, map, length, flat_map, Option, Some, None}
 use Rattle.merkle_base.specs.Tree.{Tree}
-use Rattle.merkle_proof.specs.Plan.{Plan, peak, forward, bag, whole, tree_meets, siblings, outer, inner}
+use Rattle.merkle_root_theory.specs.Plan.{Plan, peak, forward, bag, whole, tree_meets, siblings, outer, inner}
 use Rattle.merkle_base.specs.declared.family.Bagging.{Bagging}
 use Rattle.merkle_base.specs.declared.family.Bagging.TheVariants.{ForwardFold, BackwardFold}
 

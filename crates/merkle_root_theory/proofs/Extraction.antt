@@ -6,20 +6,20 @@ use Rattle.merkle_base.specs.Tree.{Tree, leaf, join, position, IsBuilt}
 use Rattle.merkle_base.specs.Forest.{forest}
 use Rattle.merkle_base.proofs.Growth.{built_at}
 use Rattle.merkle_base.proofs.Nodes.{all_append}
-use Rattle.merkle_proof.specs.Expression.{value}
+use Rattle.merkle_root_theory.specs.Expression.{value}
 use Rattle.merkle_base.specs.Hashing.{Hashing}
-use Rattle.merkle_proof.specs.Plan.{peak, tree_meets, siblings, plan_digest, tree_digest}
+use Rattle.merkle_root_theory.specs.Plan.{peak, tree_meets, siblings, plan_digest, tree_digest}
 use Rattle.merkle_base.specs.declared.family.Bagging.{Bagging}
 use Rattle.merkle_base.specs.declared.family.Bagging.TheVariants.{ForwardFold, BackwardFold}
-use Rattle.merkle_proof.specs.Claim.{next, tree_claim}
-use Rattle.merkle_proof.specs.Outside.{fold_all, bag_all, folded_prefix, single_before, single_after, folded_suffix, layout}
-use Rattle.merkle_proof.specs.Check.{Setting, RangeInput, leaf_given, chosen}
+use Rattle.merkle_root_theory.specs.Claim.{next, tree_claim}
+use Rattle.merkle_root_theory.specs.Outside.{fold_all, bag_all, folded_prefix, single_before, single_after, folded_suffix, layout}
+use Rattle.merkle_root_theory.specs.Check.{Setting, RangeInput, leaf_given, chosen}
 use Rattle.merkle_base.specs.Places.{peaks_of, wholly_before}
-use Rattle.merkle_proof.specs.Range.{overlapping, wholly_after, range_parts, range_siblings, end_of, leaf_of, IsHonestSome}
-use Rattle.merkle_proof.specs.Extract.{inner_pairs, over_pairs, single_pairs, extracted, IsNodePair, ExtractsNodes}
+use Rattle.merkle_root_theory.specs.Range.{overlapping, wholly_after, range_parts, range_siblings, end_of, leaf_of, IsHonestSome}
+use Rattle.merkle_root_theory.specs.Extract.{inner_pairs, over_pairs, single_pairs, extracted, IsNodePair, ExtractsNodes}
 use Rattle.merkle_base.proofs.Cases.{by_test}
-use Rattle.merkle_proof.proofs.Claims.{split_left, split_right, tree_honest}
-use Rattle.merkle_proof.proofs.RangeChecks.{some_honest, honest_leaves}
+use Rattle.merkle_root_theory.proofs.Claims.{split_left, split_right, tree_honest}
+use Rattle.merkle_root_theory.proofs.RangeChecks.{some_honest, honest_leaves}
 use Rattle.merkle_base.proofs.PeakLists.{peaks_built}
 
 pub all_filter : {A : Type 0} (P : A → Type 0) (t : A → Bool) (xs : List A) → AllByRecursion P xs → AllByRecursion P (filter t xs)

@@ -1,15 +1,15 @@
 -- A range check against the root of a list, and two range checks against one root.
 use Rattle.std.specs.Prelude.{◌≡◌, ℕ, Bool, ◌&&◌, ◌⊎◌, ◌≤◌, ◌<◌, ◌+◌, ◌-◌, ◌^◌, nat_le, nat_lt, List, [], ◌∷◌, length, get_or, Option, Some, None, option_map}
-use Rattle.merkle_proof.specs.Expression.{Root, Bytes, Expression, value, Input, inputs}
+use Rattle.merkle_root_theory.specs.Expression.{Root, Bytes, Expression, value, Input, inputs}
 use Rattle.merkle_base.specs.Hashing.{Hashing}
-use Rattle.merkle_proof.specs.Collision.{Member, Collision, Collides, Laws}
-use Rattle.merkle_proof.specs.RootString.{ByteLaws}
+use Rattle.merkle_root_theory.specs.Collision.{Member, Collision, Collides, Laws}
+use Rattle.merkle_root_theory.specs.RootString.{ByteLaws}
 use Rattle.merkle_base.specs.Root.{root_string}
 use Rattle.merkle_base.specs.Tree.{Tree}
 use Rattle.merkle_base.specs.Places.{peaks_of}
-use Rattle.merkle_proof.specs.Plan.{Plan, whole, full, outer, inner, honest_digests}
+use Rattle.merkle_root_theory.specs.Plan.{Plan, whole, full, outer, inner, honest_digests}
 use Rattle.merkle_base.specs.declared.family.Bagging.{Bagging}
-use Rattle.merkle_proof.specs.Claim.{claim_of, InTree}
+use Rattle.merkle_root_theory.specs.Claim.{claim_of, InTree}
 
 -- what is fixed for a family and a hasher
 pub record Setting (D : Type 0) : Type 0 where

@@ -3,10 +3,10 @@ use Rattle.std.proofs.Common.{◌≡◌, ℕ, suc, Bool, true, List, [], ◌∷�
 use Rattle.std.proofs.lemmas.Bool.{or_left}
 use Rattle.merkle_base.specs.Tree.{Tree}
 use Rattle.merkle_base.specs.Hashing.{Hashing}
-use Rattle.merkle_proof.specs.Expression.{PrefixFold, value}
-use Rattle.merkle_proof.specs.Plan.{Plan, peak, folding, forward, meets, tree_meets, outer, inner}
-use Rattle.merkle_proof.specs.Claim.{claim}
-use Rattle.merkle_proof.proofs.PartValues.{part_values, value_folding, values_folding}
+use Rattle.merkle_root_theory.specs.Expression.{PrefixFold, value}
+use Rattle.merkle_root_theory.specs.Plan.{Plan, peak, folding, forward, meets, tree_meets, outer, inner}
+use Rattle.merkle_root_theory.specs.Claim.{claim}
+use Rattle.merkle_root_theory.proofs.PartValues.{part_values, value_folding, values_folding}
 
 -- the fold that goes on after a met part
 pub value_forward : {D : Type 0} (h : Hashing D) (c : ℕ → Bool) (X : ℕ → D) (acc : Plan) (i : ℕ) (ts : List Tree) (os is : List D) → meets c acc ≡ true

@@ -4,9 +4,9 @@ use Rattle.std.proofs.lemmas.List.{length-drop, length-map, length-take}
 use Rattle.merkle_base.specs.Tree.{Tree}
 use Rattle.merkle_base.specs.declared.family.Bagging.{Bagging}
 use Rattle.merkle_base.specs.declared.family.Bagging.TheVariants.{ForwardFold, BackwardFold}
-use Rattle.merkle_proof.specs.Plan.{peak}
-use Rattle.merkle_proof.specs.Outside.{fold_all, bag_all, folded_prefix, single_before, single_after, folded_suffix, layout}
-use Rattle.merkle_proof.specs.Layouts.{count_before, count_after, count_inactive}
+use Rattle.merkle_root_theory.specs.Plan.{peak}
+use Rattle.merkle_root_theory.specs.Outside.{fold_all, bag_all, folded_prefix, single_before, single_after, folded_suffix, layout}
+use Rattle.merkle_root_theory.specs.Layouts.{count_before, count_after, count_inactive}
 
 -- a fold is one digest, if there are any
 pub length-fold_all : (ts : List Tree) → length (fold_all ts) ≡ min (length ts) 1

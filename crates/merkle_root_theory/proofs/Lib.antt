@@ -1,0 +1,17 @@
+pub mod Collisions
+pub mod RootStrings
+pub mod Claims
+pub mod ListChecks
+pub mod OutsideNodes
+pub mod PeakGroups
+pub mod RangeChecks
+pub mod Extraction
+pub mod Walks
+pub mod Grouping
+pub mod PeakValues
+pub mod PartValues
+pub mod ForwardValues
+pub mod BackwardValues
+pub mod LayoutFolds
+pub mod LayoutRoot
+pub mod LayoutCounts
