@@ -89,6 +89,31 @@ impl Answerer {
         self.end_line(writer)?;
         flush(writer)
     }
+
+    // Answers each line of the reader, up to the end of input. There is no structure and no line yet.
+    fn answer_all<R: io::Read, W: io::Write>(
+        &mut self,
+        reader: &mut R,
+        writer: &mut W,
+    ) -> Result<(), RunError>
+        requires absent { Tells self.old.session None }
+        requires begun { self.old.line.items ≡ [] }
+        ensures transcript { OnOk result ((input output : List ℕ) × Consumes (R.remaining reader.old) (R.remaining reader.new) input × IsAtEnd (R.remaining reader.new) × Appends (W.contents writer.old) (W.contents writer.new) output × IsTranscript None (lines_of input) output) }
+    {
+        let mut buffer = [0u8; 4096];
+        for _ in 0..u64::MAX {
+            match reader.read(&mut buffer) {
+                Ok(0) => return self.finish(writer),
+                Ok(count) => self.take(&buffer[..count], writer)?,
+                Err(e) => {
+                    if e.kind() != io::ErrorKind::Interrupted {
+                        return Err(RunError::ReadFailed);
+                    }
+                }
+            }
+        }
+        Err(RunError::ReadFailed)
+    }
 }
 
 // Flushes the writer.
@@ -115,17 +140,5 @@ pub fn run<R: io::Read, W: io::Write>(
         session: Session::Absent,
         line: Vec::new(alloc),
     };
-    let mut buffer = [0u8; 4096];
-    for _ in 0..u64::MAX {
-        match reader.read(&mut buffer) {
-            Ok(0) => return answerer.finish(writer),
-            Ok(count) => answerer.take(&buffer[..count], writer)?,
-            Err(e) => {
-                if e.kind() != io::ErrorKind::Interrupted {
-                    return Err(RunError::ReadFailed);
-                }
-            }
-        }
-    }
-    Err(RunError::ReadFailed)
+    answerer.answer_all(reader, writer)
 }
