@@ -1,5 +1,5 @@
 //! Structures made of given components.
-ghost use Rattle.std.specs.Prelude.{◌≡◌, ◌≢◌, ◌+◌, ◌<◌, ◌≤◌, ◌^◌, ◌-◌, ℕ, List, Err, length, OnErr, IfOk, IfSome, IfNone, IsOkUnless};
+ghost use Rattle.std.specs.Prelude.{◌≡◌, ◌≢◌, ◌+◌, ◌<◌, ◌≤◌, ◌^◌, ◌-◌, ℕ, List, Err, length, IfOk, IsOk, IsOkUnless};
 ghost use Rattle.merkle_base.specs.Forest.{size};
 ghost use Rattle.merkle_base.specs.Places.{IsSize, peak_positions};
 ghost use Rattle.merkle_batch_theory.specs.Held.{paired};
@@ -12,7 +12,6 @@ use merkle_base::family::Family;
 use merkle_base::location::Location;
 use merkle_base::position::Position;
 use merkle_digest::digest::Digest;
-use std::alloc::AllocError;
 
 /// What a structure is made of.
 #[derive(Debug, Drop)]
@@ -62,45 +61,68 @@ impl<F: Family, D: Digest> Mem<F, D> {
         ensures bad_pins { pruning_boundary ≤ F.MAX_LEAVES → IsSize F.rule F.MAX_LEAVES (size F.rule pruning_boundary + length nodes.items) → length pinned_nodes.items ≢ length (peak_positions F.rule pruning_boundary) → result ≡ Err Error.InvalidPinnedNodes }
         ensures allowed { pruning_boundary ≤ F.MAX_LEAVES → IsSize F.rule F.MAX_LEAVES (size F.rule pruning_boundary + length nodes.items) → length pinned_nodes.items ≡ length (peak_positions F.rule pruning_boundary) → IsOkUnless result Error.OutOfMemory }
     {
-        if !pruning_boundary.is_valid() {
-            return Err(Error::LocationOverflow(pruning_boundary));
-        }
-        let start = F::location_to_position(pruning_boundary);
-        if nodes.len() as u64 > F::MAX_NODES - start.as_u64() {
-            return Err(Error::InvalidSize(u64::MAX));
-        }
-        let end = start + nodes.len() as u64;
-        let Some(leaves) = F::position_to_location(end) else {
-            return Err(Error::InvalidSize(end.as_u64()));
+        let (start, leaves) = match measure(pruning_boundary, nodes.len()) {
+            Ok(extent) => extent,
+            Err(error) => return Err(error),
         };
-        let Some(pins) = pair_pins::<F, D>(pruning_boundary, &pinned_nodes)? else {
-            return Err(Error::InvalidPinnedNodes);
-        };
-        Ok(Mem {
-            held: HeldNodes::from_parts(start, pins, nodes),
-            boundary: pruning_boundary,
-            leaves,
-        })
+        match pair_pins::<F, D>(pruning_boundary, &pinned_nodes) {
+            Ok(pins) => Ok(Mem {
+                held: HeldNodes::from_parts(start, pins, nodes),
+                boundary: pruning_boundary,
+                leaves,
+            }),
+            Err(error) => Err(error),
+        }
     }
 }
 
-// The peaks of so many leaves with these digests, or `None` where there are fewer digests or more.
+// The position that a structure of so many nodes after a boundary begins at, and the number of its leaves.
+fn measure<F: Family>(
+    boundary: Location<F>,
+    count: usize,
+) -> Result<(Position<F>, Location<F>), Error<F>>
+    ensures valid { IfOk result (λ m. boundary ≤ F.MAX_LEAVES) }
+    ensures start { IfOk result (λ m. m.0 ≡ size F.rule boundary) }
+    ensures leaves { IfOk result (λ m. (m.1 ≤ F.MAX_LEAVES) × (size F.rule m.1 ≡ size F.rule boundary + count)) }
+    ensures overflow { F.MAX_LEAVES < boundary → result ≡ Err (Error.LocationOverflow boundary) }
+    ensures too_large { boundary ≤ F.MAX_LEAVES → F.MAX_NODES < size F.rule boundary + count → result ≡ Err (Error.InvalidSize (2 ^ 64 - 1)) }
+    ensures no_size { boundary ≤ F.MAX_LEAVES → size F.rule boundary + count ≤ F.MAX_NODES → ((n : ℕ) → size F.rule n ≢ size F.rule boundary + count) → result ≡ Err (Error.InvalidSize (size F.rule boundary + count)) }
+    ensures allowed { boundary ≤ F.MAX_LEAVES → IsSize F.rule F.MAX_LEAVES (size F.rule boundary + count) → IsOk result }
+{
+    if !boundary.is_valid() {
+        return Err(Error::LocationOverflow(boundary));
+    }
+    let start = F::location_to_position(boundary);
+    if count as u64 > F::MAX_NODES - start.as_u64() {
+        return Err(Error::InvalidSize(u64::MAX));
+    }
+    let end = start + count as u64;
+    match F::position_to_location(end) {
+        Some(leaves) => Ok((start, leaves)),
+        None => Err(Error::InvalidSize(end.as_u64())),
+    }
+}
+
+// The peaks of so many leaves with these digests.
+//
+// Refused with `InvalidPinnedNodes` where there are fewer digests or more, and with `OutOfMemory`.
 fn pair_pins<F: Family, D: Digest>(
     boundary: Location<F>,
     digests: &Vec<D>,
-) -> Result<Option<Vec<(Position<F>, D)>>, AllocError>
+) -> Result<Vec<(Position<F>, D)>, Error<F>>
     requires { boundary ≤ F.MAX_LEAVES }
-    ensures made { IfOk result (λ o. IfSome o (λ v. (v.items ≡ paired (peak_positions F.rule boundary) digests.now.items) × (length digests.now.items ≡ length (peak_positions F.rule boundary)))) }
-    ensures none { IfOk result (λ o. IfNone o (length digests.now.items ≢ length (peak_positions F.rule boundary))) }
-    ensures refused { OnErr result (length digests.now.items ≡ length (peak_positions F.rule boundary)) }
+    ensures made { IfOk result (λ v. v.items ≡ paired (peak_positions F.rule boundary) digests.now.items) }
+    ensures paired { IfOk result (λ v. length digests.now.items ≡ length (peak_positions F.rule boundary)) }
+    ensures wrong { length digests.now.items ≢ length (peak_positions F.rule boundary) → result ≡ Err Error.InvalidPinnedNodes }
+    ensures right { length digests.now.items ≡ length (peak_positions F.rule boundary) → IsOkUnless result Error.OutOfMemory }
 {
     if digests.len() != F::nodes_to_pin(boundary).count() {
-        return Ok(None);
+        return Err(Error::InvalidPinnedNodes);
     }
     let mut pins = Vec::new(*digests.allocator());
     for position in F::nodes_to_pin(boundary) {
         let digest = digests[pins.len()];
         pins.push((position, digest))?;
     }
-    Ok(Some(pins))
+    Ok(pins)
 }

@@ -108,15 +108,10 @@ impl<F: Family, D: Digest> HeldNodes<F, D> {
         ensures size { IfOk result (λ h. h.size ≡ self.now.size) }
         ensures stored { IfOk result (λ h. h.stored ≡ self.now.stored) }
     {
-        let alloc = self.allocator();
-        let (older, newer) = self.nodes.as_slices();
-        let mut nodes = Vec::with_capacity(alloc, self.nodes.len())?;
-        nodes.extend_from_slice(older)?;
-        nodes.extend_from_slice(newer)?;
         Ok(HeldNodes {
             start: self.start,
-            pins: self.pins.to_vec(alloc)?,
-            nodes: VecDeque::from(nodes),
+            pins: self.pins.to_vec(self.allocator())?,
+            nodes: copied(&self.nodes)?,
         })
     }
 
@@ -174,6 +169,17 @@ impl<F: Family, D: Digest> HeldNodes<F, D> {
         self.pins = pins;
         self.start = start;
     }
+}
+
+// The same nodes in memory of their own.
+fn copied<D: Digest>(nodes: &VecDeque<D>) -> Result<VecDeque<D>, AllocError>
+    ensures { IfOk result (λ copy. copy.items ≡ nodes.now.items) }
+{
+    let (older, newer) = nodes.as_slices();
+    let mut copy = Vec::with_capacity(*nodes.allocator(), nodes.len())?;
+    copy.extend_from_slice(older)?;
+    copy.extend_from_slice(newer)?;
+    Ok(VecDeque::from(copy))
 }
 
 // The digest of the pin at a position, if there is one.

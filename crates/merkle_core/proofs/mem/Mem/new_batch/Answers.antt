@@ -1,4 +1,4 @@
-use Rattle.std.proofs.Common.{◌≡◌, ◌≤◌, [], ◌∷◌, length, arith, ap, sym, ◌∙◌, subst}
+use Rattle.std.proofs.Common.{rules, ◌≡◌, ◌≤◌, [], ◌∷◌, length, arith, ap, sym, ◌∙◌, subst}
 use Rattle.merkle_base.specs.Forest.{size}
 use Rattle.merkle_base.proofs.Nodes.{size_inj}
 use Rattle.merkle_batch_theory.specs.Recorded.{records, after}
@@ -13,3 +13,9 @@ returns-in-Ok-clause-of_list g c = λ h X agrees.
     let root = c.in-Ok.ensures.root (length X) within (sym agrees.sized) in
     let sized : size rule (length X) ≡ after c.in-Ok.parent.value.own = omega (arith, agrees.sized, ap (λ b. after b.own) root) in
     subst (λ b. StandsOn h rule (records b) (X ∷ X ∷ [])) (sym (ap (λ p. p.parent) (c.new.ensures (length X) within sized))) (c.in-Ok.ensures.of_list h X agrees)
+
+pub returns-in-Ok-clause-forked : goal.returns-in-Ok-clause-forked
+returns-in-Ok-clause-forked g c = search rules depth 2
+
+pub returns-in-Ok-clause-refused : goal.returns-in-Ok-clause-refused
+returns-in-Ok-clause-refused g c = search rules depth 2

@@ -42,3 +42,6 @@ returns-clause-pruned g c =
     let pins : c.in_ok-pins.pins.items ≡ pins_of (held_contents i.boundary i.held) (peak_positions rule c.args.location) = c.in_ok-pins.ensures ∙ ap (λ s. pins_of (contents s) (peak_positions rule c.args.location)) (sym c.self.view_is) in
     pruned_contents rule i.boundary c.args.location i.held c.drop_before.new.self (λ p. c.drop_before.ensures.stored p ∙ (λ j. cond (nat_lt p (c.location_to_position.ensures j)) (lookup (nat_eq p) (pins j)) (get i.held.stored p))) later c.drop_before.ensures.size
     ∙ ap (λ s. pruned rule c.args.location (contents s)) c.self.view_is
+
+pub returns-then-le-clause-pruned : goal.returns-then-le-clause-pruned
+returns-then-le-clause-pruned g c = search rules depth 2

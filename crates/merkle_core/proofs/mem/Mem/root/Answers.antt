@@ -1,4 +1,4 @@
-use Rattle.std.proofs.Common.{◌≡◌, ℕ, List, Ok, Err, length, arith, ap, sym, ◌∙◌}
+use Rattle.std.proofs.Common.{rules, ◌≡◌, ℕ, List, Ok, Err, length, arith, ap, sym, ◌∙◌}
 use Rattle.std.proofs.lemmas.List.{length-map}
 use Rattle.merkle_base.specs.declared.error.Error.TheVariants.{InvalidInactivePeaks}
 use Rattle.merkle_base.specs.Digests.{digest_at}
@@ -46,3 +46,6 @@ returns-clause-too_many g c = λ X agrees many.
     let front = c.front.ensures ∙ c.write_peaks-count.ensures.held (length X) (omega (arith, same, c.leaves.ensures.bounded)) (sym agrees.sized) ∙ peaks_agree h rule (contents c.args.self.now) X agrees in
     let count : length c.front.result.now ≡ length (peaks_of rule (length X)) = omega (arith, ap length front, length-map (peaks_of rule (length X)) (digest_at h X)) in
     c.root.ensures.err (omega (arith, count, many)) ∙ ap (λ (n : ℕ). Err (InvalidInactivePeaks c.args.inactive n)) count
+
+pub returns-clause-err : goal.returns-clause-err
+returns-clause-err g c = search rules depth 2
