@@ -110,7 +110,7 @@ impl<F: Family, D: Digest> HeldNodes<F, D> {
     {
         Ok(HeldNodes {
             start: self.start,
-            pins: self.pins.to_vec(self.allocator())?,
+            pins: copied_pins(&self.pins, self.allocator())?,
             nodes: copied(&self.nodes)?,
         })
     }
@@ -180,6 +180,16 @@ fn copied<D: Digest>(nodes: &VecDeque<D>) -> Result<VecDeque<D>, AllocError>
     copy.extend_from_slice(older)?;
     copy.extend_from_slice(newer)?;
     Ok(VecDeque::from(copy))
+}
+
+// The same pins in memory of their own.
+fn copied_pins<F: Family, D: Digest>(
+    pins: &[(Position<F>, D)],
+    alloc: Global,
+) -> Result<Vec<(Position<F>, D)>, AllocError>
+    ensures { IfOk result (λ copy. copy.items ≡ pins.now) }
+{
+    pins.to_vec(alloc)
 }
 
 // The digest of the pin at a position, if there is one.
