@@ -13,35 +13,42 @@ use crate::trees::measure;
 use crate::workload::Workload;
 use merkle_core::digest::{Sha256Plain, Xor8};
 use merkle_core::{mmb, mmr};
-use std::alloc::Global;
+use std::alloc::{Allocator, Global};
 use std::env;
+use std::env::Args;
 use std::process::ExitCode;
 use std::rt::Runtime;
 use std::time::CpuClock;
 
 const USAGE: &str = "usage: merkle_bench LEAVES ROUNDS";
 
+// The number that the next word spells.
+fn read_number<A: Allocator>(words: &mut Args<A>) -> Option<u64> {
+    words.next()?.parse().ok()
+}
+
 // The work that the arguments ask for.
 fn read_workload(rt: &impl Runtime) -> Option<Workload> {
-    let mut words = env::args(rt).ok()?;
-    words.next()?;
-    let leaves = words.next()?.parse().ok()?;
-    let rounds = words.next()?.parse().ok()?;
-    Workload::new(leaves, rounds)
+    let Ok(mut words) = env::args(rt) else {
+        return None;
+    };
+    let _program = words.next();
+    match (read_number(&mut words), read_number(&mut words)) {
+        (Some(leaves), Some(rounds)) => Workload::new(leaves, rounds),
+        _ => None,
+    }
 }
 
 // Measures both families at both hashes.
-fn measure_all<'a, C: CpuClock>(
+fn measure_all<C: CpuClock>(
     alloc: Global,
-    clock: &'a C,
+    watch: &mut Stopwatch<C>,
     workload: &Workload,
-) -> Result<Stopwatch<'a, C>, Halt> {
-    let mut watch = Stopwatch::new(alloc, clock);
-    measure::<mmr::Family, Sha256Plain, C>(alloc, &mut watch, "mmr sha256", workload)?;
-    measure::<mmb::Family, Sha256Plain, C>(alloc, &mut watch, "mmb sha256", workload)?;
-    measure::<mmr::Family, Xor8, C>(alloc, &mut watch, "mmr xor8", workload)?;
-    measure::<mmb::Family, Xor8, C>(alloc, &mut watch, "mmb xor8", workload)?;
-    Ok(watch)
+) -> Result<(), Halt> {
+    measure::<mmr::Family, Sha256Plain, C>(alloc, watch, "mmr sha256", workload)?;
+    measure::<mmb::Family, Sha256Plain, C>(alloc, watch, "mmb sha256", workload)?;
+    measure::<mmr::Family, Xor8, C>(alloc, watch, "mmr xor8", workload)?;
+    measure::<mmb::Family, Xor8, C>(alloc, watch, "mmb xor8", workload)
 }
 
 fn main(rt: HostRuntime) -> ExitCode {
@@ -49,16 +56,13 @@ fn main(rt: HostRuntime) -> ExitCode {
         let _ = rt.eprintln(USAGE);
         return ExitCode::FAILURE;
     };
-    match measure_all(rt.alloc(), &rt, &workload) {
-        Ok(watch) => {
-            if rt.eprintln(&watch).is_err() || rt.println("measured").is_err() {
-                return ExitCode::FAILURE;
-            }
-            ExitCode::SUCCESS
-        }
-        Err(halt) => {
-            let _ = rt.eprintln(halt);
-            ExitCode::FAILURE
-        }
+    let mut watch = Stopwatch::new(rt.alloc(), &rt);
+    if let Err(halt) = measure_all(rt.alloc(), &mut watch, &workload) {
+        let _ = rt.eprintln(halt);
+        return ExitCode::FAILURE;
     }
+    if rt.eprintln(&watch).is_err() || rt.println("measured").is_err() {
+        return ExitCode::FAILURE;
+    }
+    ExitCode::SUCCESS
 }

@@ -20,7 +20,7 @@ pub enum Halt {
 }
 
 /// What was measured: so many units of work, and the least time of the rounds.
-#[derive(Clone, Copy, Debug)]
+#[derive(Clone, Copy)]
 struct Row {
     tree: &'static str,
     work: &'static str,
@@ -47,6 +47,8 @@ pub struct Stopwatch<'a, C> {
     rows: Vec<Row>,
     // the sum of all bytes that were computed, so that no work is left out
     sum: u64,
+    // a failure of the clock or of memory, which is told at the end of a round
+    halt: Option<Halt>,
 }
 
 impl<'a, C: CpuClock> Stopwatch<'a, C> {
@@ -56,12 +58,27 @@ impl<'a, C: CpuClock> Stopwatch<'a, C> {
             clock,
             rows: Vec::new(alloc),
             sum: 0,
+            halt: None,
         }
     }
 
-    /// The thread time so far.
-    pub fn now(&self) -> Result<Duration, Halt> {
-        self.clock.thread_cpu_time().map_err(|_| Halt::NoClock)
+    /// The thread time so far. A failure of the clock is remembered.
+    pub fn now(&mut self) -> Duration {
+        match self.clock.thread_cpu_time() {
+            Ok(time) => time,
+            Err(_) => {
+                self.halt = Some(Halt::NoClock);
+                Duration::ZERO
+            }
+        }
+    }
+
+    /// Whether the clock and the memory sufficed for all that was noted.
+    pub fn outcome(&self) -> Result<(), Halt> {
+        match self.halt {
+            Some(halt) => Err(halt),
+            None => Ok(()),
+        }
     }
 
     // The index of the row of that name.
@@ -71,20 +88,14 @@ impl<'a, C: CpuClock> Stopwatch<'a, C> {
             .position(|row| row.tree == tree && row.work == work)
     }
 
-    /// Notes that so many units of work took the time since `start`.
-    pub fn note(
-        &mut self,
-        tree: &'static str,
-        work: &'static str,
-        units: u64,
-        start: Duration,
-    ) -> Result<(), Halt> {
-        let spent = self.now()?.saturating_sub(start).as_nanos();
+    /// Notes that so many units of work took the time since `start`. A failure is remembered.
+    pub fn note(&mut self, tree: &'static str, work: &'static str, units: u64, start: Duration) {
+        let spent = self.now().saturating_sub(start).as_nanos();
         if let Some(i) = self.place(tree, work)
             && let Some(row) = self.rows.get_mut(i)
         {
             row.least = row.least.min(spent);
-            return Ok(());
+            return;
         }
         let row = Row {
             tree,
@@ -92,7 +103,9 @@ impl<'a, C: CpuClock> Stopwatch<'a, C> {
             units,
             least: spent,
         };
-        self.rows.push(row).map_err(|_| Halt::OutOfMemory)
+        if self.rows.push(row).is_err() {
+            self.halt = Some(Halt::OutOfMemory);
+        }
     }
 
     /// Takes in what was computed.

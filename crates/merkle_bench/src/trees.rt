@@ -2,12 +2,14 @@
 
 use crate::stopwatch::{Halt, Stopwatch};
 use crate::workload::{Element, Workload};
+use merkle_core::batch::UnmerkleizedBatch;
 use merkle_core::digest::{Digest, PlainHasher};
 use merkle_core::family::{Bagging, Family};
 use merkle_core::hasher::{Hasher, Standard};
 use merkle_core::location::Location;
 use merkle_core::mem::Mem;
 use merkle_core::position::Position;
+use merkle_core::proof::Proof;
 use std::alloc::Global;
 use std::time::CpuClock;
 
@@ -31,27 +33,59 @@ struct Trees<H: PlainHasher> {
 }
 
 impl<H: PlainHasher> Trees<H> {
-    // All leaves in one batch.
-    fn append_at_once<F: Family, C: CpuClock>(
+    // A batch of all these elements as new leaves.
+    fn add_all<F: Family>(
         &self,
-        watch: &mut Stopwatch<C>,
+        structure: &Mem<F, H::Digest>,
         elements: &[Element],
-    ) -> Result<Mem<F, H::Digest>, Halt> {
-        let units = elements.len() as u64;
-        let mut structure = Mem::new(self.alloc);
-        let start = watch.now()?;
+    ) -> Result<UnmerkleizedBatch<F, H::Digest>, Halt> {
         let mut batch = granted!(structure.new_batch());
         for element in elements {
             batch = granted!(batch.add(&self.hasher, element));
         }
-        watch.note(self.name, "append at once: add", units, start)?;
-        let start = watch.now()?;
-        let batch = granted!(batch.merkleize(&structure, &self.hasher));
-        watch.note(self.name, "append at once: merkleize", units, start)?;
-        let start = watch.now()?;
+        Ok(batch)
+    }
+
+    // All leaves in one batch.
+    fn append_at_once<F: Family, C: CpuClock>(
+        &self,
+        watch: &mut Stopwatch<C>,
+        structure: &mut Mem<F, H::Digest>,
+        elements: &[Element],
+    ) -> Result<(), Halt> {
+        let units = elements.len() as u64;
+        let start = watch.now();
+        let batch = self.add_all(structure, elements)?;
+        watch.note(self.name, "append at once: add", units, start);
+        let start = watch.now();
+        let batch = granted!(batch.merkleize(structure, &self.hasher));
+        watch.note(self.name, "append at once: merkleize", units, start);
+        let start = watch.now();
         granted!(structure.apply_batch(&batch));
-        watch.note(self.name, "append at once: apply", units, start)?;
-        Ok(structure)
+        watch.note(self.name, "append at once: apply", units, start);
+        Ok(())
+    }
+
+    // Computes the digests of a batch and applies it.
+    fn commit<F: Family>(
+        &self,
+        structure: &mut Mem<F, H::Digest>,
+        batch: UnmerkleizedBatch<F, H::Digest>,
+    ) -> Result<(), Halt> {
+        let batch = granted!(batch.merkleize(structure, &self.hasher));
+        granted!(structure.apply_batch(&batch));
+        Ok(())
+    }
+
+    // One more leaf, in a batch of its own.
+    fn append<F: Family>(
+        &self,
+        structure: &mut Mem<F, H::Digest>,
+        element: &Element,
+    ) -> Result<(), Halt> {
+        let batch = granted!(structure.new_batch());
+        let batch = granted!(batch.add(&self.hasher, element));
+        self.commit(structure, batch)
     }
 
     // A batch for each leaf.
@@ -61,14 +95,25 @@ impl<H: PlainHasher> Trees<H> {
         elements: &[Element],
     ) -> Result<(), Halt> {
         let mut structure: Mem<F, H::Digest> = Mem::new(self.alloc);
-        let start = watch.now()?;
+        let start = watch.now();
         for element in elements {
-            let batch = granted!(structure.new_batch());
-            let batch = granted!(batch.add(&self.hasher, element));
-            let batch = granted!(batch.merkleize(&structure, &self.hasher));
-            granted!(structure.apply_batch(&batch));
+            self.append(&mut structure, element)?;
         }
-        watch.note(self.name, "append one by one", elements.len() as u64, start)
+        watch.note(self.name, "append one by one", elements.len() as u64, start);
+        Ok(())
+    }
+
+    // New elements for these leaves, in one batch.
+    fn update_all<F: Family>(
+        &self,
+        structure: &mut Mem<F, H::Digest>,
+        leaves: &[u64],
+    ) -> Result<(), Halt> {
+        let mut batch = granted!(structure.new_batch());
+        for leaf in leaves {
+            batch = granted!(batch.update_leaf(&self.hasher, Location::new(*leaf), b"new"));
+        }
+        self.commit(structure, batch)
     }
 
     // New elements for scattered leaves.
@@ -78,19 +123,11 @@ impl<H: PlainHasher> Trees<H> {
         structure: &mut Mem<F, H::Digest>,
         leaves: &[u64],
     ) -> Result<(), Halt> {
-        let start = watch.now()?;
-        let mut batch = granted!(structure.new_batch());
-        for leaf in leaves {
-            batch = granted!(batch.update_leaf(&self.hasher, Location::new(*leaf), b"new"));
-        }
-        let batch = granted!(batch.merkleize(structure, &self.hasher));
-        granted!(structure.apply_batch(&batch));
-        watch.note(
-            self.name,
-            "update, merkleize, apply",
-            leaves.len() as u64,
-            start,
-        )
+        let units = leaves.len() as u64;
+        let start = watch.now();
+        self.update_all(structure, leaves)?;
+        watch.note(self.name, "update, merkleize, apply", units, start);
+        Ok(())
     }
 
     // The root, many times.
@@ -101,13 +138,50 @@ impl<H: PlainHasher> Trees<H> {
     ) -> Result<H::Digest, Halt> {
         let units = 100;
         let mut root = H::Digest::EMPTY;
-        let start = watch.now()?;
+        let start = watch.now();
         for _ in 0..units {
             root = granted!(structure.root(&self.hasher, 0));
             watch.keep(root.as_bytes());
         }
-        watch.note(self.name, "root", units, start)?;
+        watch.note(self.name, "root", units, start);
         Ok(root)
+    }
+
+    // Proofs of these leaves, one for each.
+    fn prove_all<F: Family>(
+        &self,
+        structure: &Mem<F, H::Digest>,
+        leaves: &[u64],
+    ) -> Result<Vec<Proof<F, H::Digest>>, Halt> {
+        let mut proofs = Vec::new(self.alloc);
+        for leaf in leaves {
+            let proof = granted!(structure.proof(&self.hasher, Location::new(*leaf), 0));
+            if proofs.push(proof).is_err() {
+                return Err(Halt::OutOfMemory);
+            }
+        }
+        Ok(proofs)
+    }
+
+    // Checks the proofs of these leaves.
+    fn check_all<F: Family>(
+        &self,
+        proofs: &[Proof<F, H::Digest>],
+        elements: &[Element],
+        leaves: &[u64],
+        root: &H::Digest,
+    ) -> Result<(), Halt> {
+        for (proof, leaf) in proofs.iter().zip(leaves) {
+            let Some(element) = elements.get(*leaf as usize) else {
+                return Err(Halt::Refused);
+            };
+            let location = Location::new(*leaf);
+            let is_right = proof.verify_element_inclusion(&self.hasher, element, location, root);
+            if !granted!(is_right) {
+                return Err(Halt::Refused);
+            }
+        }
+        Ok(())
     }
 
     // Proofs of scattered leaves, one for each, and their checks.
@@ -120,29 +194,13 @@ impl<H: PlainHasher> Trees<H> {
         root: &H::Digest,
     ) -> Result<(), Halt> {
         let units = leaves.len() as u64;
-        let mut proofs = Vec::new(self.alloc);
-        let start = watch.now()?;
-        for leaf in leaves {
-            let proof = granted!(structure.proof(&self.hasher, Location::new(*leaf), 0));
-            proofs.push(proof).map_err(|_| Halt::OutOfMemory)?;
-        }
-        watch.note(self.name, "proof of one", units, start)?;
-        let start = watch.now()?;
-        for (proof, leaf) in proofs.iter().zip(leaves) {
-            let Some(element) = elements.get(*leaf as usize) else {
-                return Err(Halt::Refused);
-            };
-            let is_right = proof.verify_element_inclusion(
-                &self.hasher,
-                element,
-                Location::new(*leaf),
-                root,
-            );
-            if !granted!(is_right) {
-                return Err(Halt::Refused);
-            }
-        }
-        watch.note(self.name, "check of one", units, start)
+        let start = watch.now();
+        let proofs = self.prove_all(structure, leaves)?;
+        watch.note(self.name, "proof of one", units, start);
+        let start = watch.now();
+        self.check_all(&proofs, elements, leaves, root)?;
+        watch.note(self.name, "check of one", units, start);
+        Ok(())
     }
 
     // A copy, which is pruned to its half.
@@ -151,13 +209,39 @@ impl<H: PlainHasher> Trees<H> {
         watch: &mut Stopwatch<C>,
         structure: &Mem<F, H::Digest>,
     ) -> Result<(), Halt> {
-        let start = watch.now()?;
-        let mut copy = structure.clone().map_err(|_| Halt::OutOfMemory)?;
-        watch.note(self.name, "clone", 1, start)?;
         let half = Location::new(structure.leaves().as_u64() / 2);
-        let start = watch.now()?;
+        let start = watch.now();
+        let Ok(mut copy) = structure.clone() else {
+            return Err(Halt::OutOfMemory);
+        };
+        watch.note(self.name, "clone", 1, start);
+        let start = watch.now();
         granted!(copy.prune(half));
-        watch.note(self.name, "prune to half", 1, start)
+        watch.note(self.name, "prune to half", 1, start);
+        Ok(())
+    }
+
+    // The positions of so many leaves.
+    fn leaf_positions<F: Family>(&self, leaves: u64) -> Result<Vec<Position<F>>, Halt> {
+        let mut positions = Vec::new(self.alloc);
+        for leaf in 0..leaves {
+            let position = granted!(Position::try_from(Location::<F>::new(leaf)));
+            if positions.push(position).is_err() {
+                return Err(Halt::OutOfMemory);
+            }
+        }
+        Ok(positions)
+    }
+
+    // The positions of these numbers.
+    fn positions<F: Family>(&self, numbers: &[u64]) -> Result<Vec<Position<F>>, Halt> {
+        let mut positions = Vec::new(self.alloc);
+        for number in numbers {
+            if positions.push(Position::new(*number)).is_err() {
+                return Err(Halt::OutOfMemory);
+            }
+        }
+        Ok(positions)
     }
 
     // The locations at the positions of all leaves, and at scattered positions.
@@ -167,18 +251,9 @@ impl<H: PlainHasher> Trees<H> {
         leaves: u64,
         scattered: &[u64],
     ) -> Result<(), Halt> {
-        let mut positions: Vec<Position<F>> = Vec::new(self.alloc);
-        for leaf in 0..leaves {
-            let position = granted!(Position::try_from(Location::<F>::new(leaf)));
-            positions.push(position).map_err(|_| Halt::OutOfMemory)?;
-        }
+        let positions: Vec<Position<F>> = self.leaf_positions(leaves)?;
         self.locations_at(watch, "position_to_location of leaves", &positions)?;
-        positions.clear();
-        for position in scattered {
-            positions
-                .push(Position::new(*position))
-                .map_err(|_| Halt::OutOfMemory)?;
-        }
+        let positions: Vec<Position<F>> = self.positions(scattered)?;
         self.locations_at(watch, "position_to_location, scattered", &positions)
     }
 
@@ -190,7 +265,7 @@ impl<H: PlainHasher> Trees<H> {
         positions: &[Position<F>],
     ) -> Result<(), Halt> {
         let mut sum: u64 = 0;
-        let start = watch.now()?;
+        let start = watch.now();
         for position in positions {
             if !position.is_valid() {
                 return Err(Halt::Refused);
@@ -200,19 +275,39 @@ impl<H: PlainHasher> Trees<H> {
             }
         }
         watch.keep(&sum.to_be_bytes());
-        watch.note(self.name, work, positions.len() as u64, start)
+        watch.note(self.name, work, positions.len() as u64, start);
+        Ok(())
     }
 
     // The hash of 72 bytes, which is that of a node.
-    fn hashes<C: CpuClock>(&self, watch: &mut Stopwatch<C>) -> Result<(), Halt> {
+    fn hashes<C: CpuClock>(&self, watch: &mut Stopwatch<C>) {
         let units = 1000;
         let mut bytes = [7u8; 72];
-        let start = watch.now()?;
+        let start = watch.now();
         for i in 0..units {
             bytes[0] = u64::to_be_bytes(i)[7];
             watch.keep(H::hash(&[&bytes]).as_bytes());
         }
-        watch.note(self.name, "hash of 72 bytes", units, start)
+        watch.note(self.name, "hash of 72 bytes", units, start);
+    }
+
+    // All calls, on a structure without leaves.
+    fn calls<F: Family, C: CpuClock>(
+        &self,
+        watch: &mut Stopwatch<C>,
+        structure: &mut Mem<F, H::Digest>,
+        elements: &[Element],
+        scattered: &[u64],
+    ) -> Result<(), Halt> {
+        self.append_at_once(watch, structure, elements)?;
+        self.append_one_by_one::<F, C>(watch, elements)?;
+        let root = self.roots(watch, structure)?;
+        self.proofs(watch, structure, elements, scattered, &root)?;
+        self.prune(watch, structure)?;
+        self.update(watch, structure, scattered)?;
+        self.locations::<F, C>(watch, elements.len() as u64, scattered)?;
+        self.hashes(watch);
+        watch.outcome()
     }
 
     // One round.
@@ -222,16 +317,9 @@ impl<H: PlainHasher> Trees<H> {
         workload: &Workload,
         elements: &[Element],
     ) -> Result<(), Halt> {
-        let leaves = elements.len() as u64;
-        let mut structure: Mem<F, H::Digest> = self.append_at_once(watch, elements)?;
-        self.append_one_by_one::<F, C>(watch, elements)?;
-        let root = self.roots(watch, &structure)?;
-        let some = workload.scattered(self.alloc, leaves)?;
-        self.proofs(watch, &structure, elements, &some, &root)?;
-        self.prune(watch, &structure)?;
-        self.update(watch, &mut structure, &some)?;
-        self.locations::<F, C>(watch, leaves, &some)?;
-        self.hashes(watch)
+        let scattered = workload.scattered(self.alloc, elements.len() as u64)?;
+        let mut structure: Mem<F, H::Digest> = Mem::new(self.alloc);
+        self.calls(watch, &mut structure, elements, &scattered)
     }
 }
 

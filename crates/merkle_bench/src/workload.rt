@@ -9,7 +9,7 @@ const MOST_LEAVES: u64 = 1 << 24;
 pub type Element = [u8; 32];
 
 /// How many leaves the structures have, and how many rounds are run.
-#[derive(Clone, Copy, Debug)]
+#[derive(Clone, Copy)]
 pub struct Workload {
     leaves: u64,
     rounds: u64,
