@@ -70,7 +70,9 @@ impl<F: Family, H: Hasher<F> + Drop> World<F, H> {
 
     pub fn apply_to(&mut self, name: &str, structure: &str) -> Result<(), Refusal> {
         let batch = named(&self.batches, name)?;
-        let structure = self.structures.get_mut(structure).ok_or(UNKNOWN)?;
+        let Some(structure) = self.structures.get_mut(structure) else {
+            return Err(UNKNOWN);
+        };
         granted!(structure.apply_batch(batch));
         Ok(())
     }

@@ -38,34 +38,30 @@ impl<F: Family, H: Hasher<F> + Drop> World<F, H> {
     }
 
     pub fn parts(&mut self, words: &[&str]) -> Result<(), Refusal> {
-        let boundary = Location::new(number(words, 2)?);
-        let structure = self.of_parts(boundary, word(words, 3), word(words, 4))?;
+        let pruning_boundary = Location::new(number(words, 2)?);
+        let nodes = digests(self.alloc, word(words, 3))?;
+        let pinned_nodes = digests(self.alloc, word(words, 4))?;
+        let structure = granted!(Mem::init(Config {
+            nodes,
+            pruning_boundary,
+            pinned_nodes,
+        }));
         give_name(self.alloc, &mut self.structures, word(words, 1), structure)
-    }
-
-    // The structure that is made of these parts.
-    fn of_parts(
-        &self,
-        boundary: Location<F>,
-        nodes: &str,
-        pins: &str,
-    ) -> Result<Mem<F, H::Digest>, Refusal> {
-        Ok(granted!(Mem::init(Config {
-            nodes: digests(self.alloc, nodes)?,
-            pruning_boundary: boundary,
-            pinned_nodes: digests(self.alloc, pins)?,
-        })))
     }
 
     pub fn prune(&mut self, words: &[&str]) -> Result<(), Refusal> {
         let boundary = Location::new(number(words, 2)?);
-        let structure = self.structures.get_mut(word(words, 1)).ok_or(UNKNOWN)?;
+        let Some(structure) = self.structures.get_mut(word(words, 1)) else {
+            return Err(UNKNOWN);
+        };
         granted!(structure.prune(boundary));
         Ok(())
     }
 
     pub fn prune_all(&mut self, words: &[&str]) -> Result<(), Refusal> {
-        let structure = self.structures.get_mut(word(words, 1)).ok_or(UNKNOWN)?;
+        let Some(structure) = self.structures.get_mut(word(words, 1)) else {
+            return Err(UNKNOWN);
+        };
         granted!(structure.prune_all());
         Ok(())
     }
