@@ -1,5 +1,10 @@
-use Rattle.std.proofs.Common.{◌≡◌, ◌+◌, drop, sym, ap, ◌∙◌}
-use Rattle.merkle_batch_theory.specs.Pending.{first_fault, leaf_total, update_fault, with_update, with_updates}
+use Rattle.std.proofs.Common.{◌≡◌, ◌+◌, drop, cond, Some, None, Err, refl, sym, ap, ◌∙◌}
+use Rattle.std.proofs.lemmas.List.{at_drop_all}
+use Rattle.std.specs.Prelude.{nat_le, nat_lt}
+use Rattle.std.specs.Option.{option_or}
+use Rattle.merkle_base.specs.Forest.{size}
+use Rattle.merkle_batch_theory.specs.Pending.{OutOfBounds, Pruned, first_fault, leaf_total, update_fault, with_update, with_updates}
+use Rattle.merkle_batch_theory.specs.Refusals.{fault_error}
 use Rattle.merkle_batch_theory.proofs.PendingUpdates.{fault_next, updates_next, total_kept, parent_kept}
 use Rattle.merkle_batch.proofs.batch.UnmerkleizedBatch.update_leaf_batched.Goals as goal
 use Rattle.merkle_batch_theory.proofs.OptionFacts.{both_none}
@@ -17,3 +22,63 @@ loop-location-2-preserved g c =
       ap leaf_total made ∙ total_kept rule now u.0 u.1 ∙ c.loop-location-2.invariant.2,
       ap (λ p. p.parent) made ∙ parent_kept rule now u.0 u.1 ∙ c.loop-location-2.invariant.3,
     )
+
+pub loop-location-preserved : goal.loop-location-preserved
+loop-location-preserved g c =
+    let rule = g.F.Family.rule in
+    let us = c.args.updates.now in
+    let i = c.loop-location.location-index in
+    let u = c.loop-location-item.result in
+    let none : update_fault rule c.args.self u.0 ≡ None = c.in-Ok.ensures.ok in
+    c.loop-location.invariant ∙ fault_next rule c.args.self us i u c.loop-location-test.true c.loop-location-item.is ∙ ap (λ o. option_or o (first_fault rule c.args.self (drop (i + 1) us))) none
+
+pub loop-location-2-init : goal.loop-location-2-init
+loop-location-2-init g c =
+    let rule = g.F.Family.rule in
+    let us = c.args.updates.now in
+    (refl, c.loop-location.invariant ∙ at_drop_all (first_fault rule c.args.self) us c.loop-location.location-index c.loop-location-test.false, refl, refl)
+
+pub returns-clause-updated : goal.returns-clause-updated
+returns-clause-updated g c =
+    let us = c.args.updates.now in
+    sym (c.loop-location-2.invariant.0 ∙ at_drop_all (with_updates g.F.Family.rule c.loop-location-2.self) us c.loop-location-2.location-index c.loop-location-2-test.false)
+
+pub returns-in-Err-clause-refused : goal.returns-in-Err-clause-refused
+returns-in-Err-clause-refused g c = λ fault is.
+    let rule = g.F.Family.rule in
+    let us = c.args.updates.now in
+    let i = c.loop-location.location-index in
+    let u = c.loop-location-item.result in
+    let found = c.in-Err.ensures.err in
+    let first : first_fault rule c.args.self us ≡ option_or (update_fault rule c.args.self u.0) (first_fault rule c.args.self (drop (i + 1) us)) = c.loop-location.invariant ∙ fault_next rule c.args.self us i u c.loop-location-test.true c.loop-location-item.is in
+    let same : Some found.0 ≡ Some fault = sym (first ∙ ap (λ o. option_or o (first_fault rule c.args.self (drop (i + 1) us))) found.1) ∙ is in
+    let fault_is : found.0 ≡ fault = cc in
+    ap (λ e. Err e) (found.2 ∙ ap (λ f. fault_error f) fault_is)
+
+pub returns-in-Err-clause-allowed : goal.returns-in-Err-clause-allowed
+returns-in-Err-clause-allowed g c = λ none.
+    let rule = g.F.Family.rule in
+    let us = c.args.updates.now in
+    let i = c.loop-location.location-index in
+    let u = c.loop-location-item.result in
+    let found = c.in-Err.ensures.err in
+    let first : first_fault rule c.args.self us ≡ option_or (update_fault rule c.args.self u.0) (first_fault rule c.args.self (drop (i + 1) us)) = c.loop-location.invariant ∙ fault_next rule c.args.self us i u c.loop-location-test.true c.loop-location-item.is in
+    let same : Some found.0 ≡ None = sym (first ∙ ap (λ o. option_or o (first_fault rule c.args.self (drop (i + 1) us))) found.1) ∙ none in
+    absurd (cc)
+
+pub returns-in-Err-update_leaf_digest-clause-refused : goal.returns-in-Err-update_leaf_digest-clause-refused
+returns-in-Err-update_leaf_digest-clause-refused g c = λ fault is.
+    let none : first_fault g.F.Family.rule c.args.self c.args.updates.now ≡ None = c.loop-location.invariant ∙ at_drop_all (first_fault g.F.Family.rule c.args.self) c.args.updates.now c.loop-location.location-index c.loop-location-test.false in
+    let same : Some fault ≡ None = sym is ∙ none in
+    absurd (cc)
+
+pub returns-in-Err-update_leaf_digest-clause-allowed : goal.returns-in-Err-update_leaf_digest-clause-allowed
+returns-in-Err-update_leaf_digest-clause-allowed g c = λ _.
+    let rule = g.F.Family.rule in
+    let us = c.args.updates.now in
+    let i = c.loop-location-2.location-index in
+    let u = c.loop-location-2-item.result in
+    let none = (both_none (update_fault rule c.args.self u.0) (first_fault rule c.args.self (drop (i + 1) us)) (sym (fault_next rule c.args.self us i u c.loop-location-2-test.true c.loop-location-2-item.is) ∙ c.loop-location-2.invariant.1)).0 in
+    let kept : update_fault rule c.loop-location-2.self u.0 ≡ update_fault rule c.args.self u.0 =
+    λ j. cond (nat_le (c.loop-location-2.invariant.2 j) u.0) (Some (OutOfBounds u.0)) (cond (nat_lt u.0 (c.loop-location-2.invariant.3 j).boundary) (Some (Pruned (size rule u.0))) None) in
+    c.in-Err-update_leaf_digest.ensures.allowed (kept ∙ none)
