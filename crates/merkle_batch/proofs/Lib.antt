@@ -3,3 +3,4 @@ pub mod Missings
 pub mod NewDigests
 pub mod Merkleizing
 pub mod MerkleizeFacts
+pub mod PeakCounts

@@ -10,6 +10,7 @@ use Rattle.std.proofs.lemmas.Bool.{eq-eqb}
 use Rattle.merkle_base.specs.Tree.{Tree, position}
 use Rattle.merkle_base.specs.Forest.{size}
 use Rattle.merkle_base.specs.Hashing.{Hashing}
+use Rattle.merkle_base.proofs.Nodes.{size_inj}
 use Rattle.merkle_base.specs.Digests.{node_digests, peak_digests}
 use Rattle.merkle_base.specs.Places.{peak_positions, peaks_of}
 use Rattle.merkle_batch_theory.specs.Contents.{Contents, AgreesWithOne}
@@ -124,10 +125,10 @@ module _ {D : Type 0} (h : Hashing D) (rule : List ℕ → List ℕ) (max_leaves
   -- the batch stands on lists
   pub batch_stands : (ls : List (List D)) → StandsOn h rule (records p.parent) ls → AgreesWithOne h rule base (kept_lists p ls) → d2.before + length d2.appended ≡ size rule (leaf_total p) →
       ((truth : ℕ → D) → IsTruth h rule max_leaves truth → ReadsTrue (old_node d1 base) d1.before truth → LeavesAre truth rule p.leaves_before p.added → d2.appended ≡ truths truth d1.before (length d2.appended)) →
-      (pb pa : List D) → pb ≡ p.parent.own.peaks_after →
+      (leaves : ℕ) (pb pa : List D) → pb ≡ p.parent.own.peaks_after →
       ((p.added ≡ []) × ((q : ℕ) → get p.overwritten q ≡ None) × (pa ≡ pb)) ⊎ ((truth : ℕ → D) → ReadsTrue (old_node d2 base) d2.before truth → d2.appended ≡ truths truth d2.before (length d2.appended) → pa ≡ map truth (peak_positions rule (leaf_total p))) →
-      StandsOn h rule (records (finished p.parent d2 pb pa)) (kept_lists p ls ++ pending_list rule p (last_list ls) ∷ [])
-  batch_stands ls stands agrees counted right pb pa before after =
+      StandsOn h rule (records (finished p.parent d2 leaves pb pa)) (kept_lists p ls ++ pending_list rule p (last_list ls) ∷ [])
+  batch_stands ls stands agrees counted right leaves pb pa before after =
       let list : List D = pending_list rule p (last_list ls) in
       let long = list_within h rule max_leaves p pending ls stands in
       let truth = truth_of h rule max_leaves list in
@@ -143,8 +144,8 @@ module _ {D : Type 0} (h : Hashing D) (rule : List ℕ → List ℕ) (max_leaves
         | inr f ↦ f truth (subst (λ r. ReadsTrue r d2.before truth) (sym later_reads) (subst (λ (b : ℕ). ReadsTrue read b truth) (sym b2) true)) (made ∙ ap (λ (b : ℕ). truths truth b (length d2.appended)) (sym more.0))
             ∙ ap (λ (n : ℕ). map truth (peak_positions rule n)) total ∙ peaks_whole h rule max_leaves list long
       ] in
-      subst (λ ks. StandsOn h rule (ks ++ (finished p.parent d2 pb pa).own ∷ []) (kept_lists p ls ++ list ∷ [])) (sym (more.1 ∙ only.1 ∙ k0))
-      (list_stands h rule max_leaves p pending ls stands base agrees d1.overwritten done is (finished p.parent d2 pb pa).own b2 more.2 appended before peaks)
+      subst (λ ks. StandsOn h rule (ks ++ (finished p.parent d2 leaves pb pa).own ∷ []) (kept_lists p ls ++ list ∷ [])) (sym (more.1 ∙ only.1 ∙ k0))
+      (list_stands h rule max_leaves p pending ls stands base agrees d1.overwritten done is (finished p.parent d2 leaves pb pa).own b2 more.2 appended before peaks)
 
 -- ---- why it fails
 -- the error names a missing node, or there is no memory
@@ -185,11 +186,19 @@ module _ {D : Type 0} (rule : List ℕ → List ℕ) (max_leaves : ℕ) (p : Pen
     | inr k ↦ (let f : is_some {T = D} None ≡ true = ap is_some (sym (same (size rule k.0))) ∙ k.2 in absurd (cc))
   ]
 
+  -- a batch without changes has as many peaks as its parent
+  pub same_peaks : (leaves : ℕ) (pa : List D) → IsPending rule max_leaves p → IsLinked rule max_leaves p.parent → p.added ≡ [] → leaves ≡ leaf_total p → pa ≡ p.parent.own.peaks_after → length pa ≡ length (peaks_of rule leaves)
+  same_peaks leaves pa pending linked none total same =
+      let here : p.leaves_before ≡ p.parent.leaves = size_inj rule p.leaves_before p.parent.leaves (pending.sized ∙ sym linked.counted.sized) in
+      ap length same ∙ linked.peaks ∙ ap (λ (n : ℕ). length (peaks_of rule n)) (omega (arith, here, total, ap length none))
+
   -- the batch that is made is linked
-  pub finished_linked : (before leaves : ℕ) (d : Drafted D) (pb pa : List D) → IsLinked rule max_leaves before p.parent → p.forgotten ≤ length p.parent.ancestors → d.kept ≡ kept p → d.before ≡ after p.parent.own → leaves ≤ max_leaves → size rule leaves ≡ d.before + length d.appended →
-      IsLinked rule max_leaves leaves (finished p.parent d pb pa)
-  finished_linked before leaves d pb pa linked some k b within counted = record {
-    runs = subst (λ ks. RunsFrom (oldest (record { base_size = p.parent.base_size; boundary = p.parent.boundary; ancestors = ks; own = (finished p.parent d pb pa).own })).before (ks ++ (finished p.parent d pb pa).own ∷ [])) (sym k)
-        (kept_runs rule max_leaves before p.parent.base_size p.parent.boundary p (finished p.parent d pb pa).own linked some b);
-    counted = record { bounded = within; sized = counted };
-  }
+  pub finished_linked : (leaves : ℕ) (d : Drafted D) (pb pa : List D) → IsLinked rule max_leaves p.parent → p.forgotten ≤ length p.parent.ancestors → d.kept ≡ kept p → d.before ≡ after p.parent.own → leaves ≤ max_leaves →
+      size rule leaves ≡ d.before + length d.appended → length pa ≡ length (peaks_of rule leaves) → IsLinked rule max_leaves (finished p.parent d leaves pb pa)
+  finished_linked leaves d pb pa linked some k b within counted many =
+      let own = (finished p.parent d leaves pb pa).own in record {
+        runs = subst (λ ks. RunsFrom (oldest (record { base_size = p.parent.base_size; boundary = p.parent.boundary; ancestors = ks; own = own; leaves = leaves })).before (ks ++ own ∷ [])) (sym k)
+            (kept_runs rule max_leaves p.parent.base_size p.parent.boundary leaves p own linked some b);
+        counted = record { bounded = within; sized = counted };
+        peaks = many;
+      }

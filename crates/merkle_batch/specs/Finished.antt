@@ -1,13 +1,14 @@
 -- The batch that a draft makes.
-use Rattle.std.specs.Prelude.{List}
+use Rattle.std.specs.Prelude.{ℕ, List}
 use Rattle.merkle_batch_theory.specs.Recorded.{Chain}
 use Rattle.merkle_draft.specs.DraftReads.{Drafted}
 
--- the batch that a draft makes, forked from c, with the digests of the peaks before it and after it
-abbrev pub finished : {D : Type 0} → Chain D → Drafted D → (peaks_before peaks_after : List D) → Chain D
-finished c d peaks_before peaks_after = record {
+-- the batch that a draft makes, forked from c, with so many leaves and the digests of the peaks before it and after it
+abbrev pub finished : {D : Type 0} → Chain D → Drafted D → (leaves : ℕ) (peaks_before peaks_after : List D) → Chain D
+finished c d leaves peaks_before peaks_after = record {
   base_size = c.base_size;
   boundary = c.boundary;
   ancestors = d.kept;
   own = record { before = d.before; peaks_before = peaks_before; appended = d.appended; overwritten = d.overwritten; peaks_after = peaks_after };
+  leaves = leaves;
 }

@@ -3,13 +3,14 @@
 //! A batch is forked, takes leaves and updates, and is merkleized. Merkleized batches can be stacked and forked to any
 //! depth; each of them can be applied to a structure at any state that its kept records start from or reach.
 ghost use Rattle.std.specs.Prelude.{◌≡◌, ◌<◌, ◌≤◌, ◌⊎◌, ◌+◌, ◌++◌, ℕ, List, ◌∷◌, [], None, Some, Err, true, slice_set, is_some, length, IfOk, IfErr, IsOkUnless};
-ghost use Rattle.std.specs.FinMap.{empty, get};
+ghost use Rattle.std.specs.FinMap.{get};
 ghost use Rattle.merkle_base.specs.Forest.{size};
 ghost use Rattle.merkle_base.specs.Hashing.{Hashing};
+ghost use Rattle.merkle_base.specs.Places.{peaks_of};
 ghost use Rattle.merkle_base.specs.Tree.{Tree, position};
 ghost use Rattle.merkle_batch_theory.specs.Contents.{AgreesWithOne};
 ghost use Rattle.merkle_batch_theory.specs.Missing.{IsMissing};
-ghost use Rattle.merkle_batch_theory.specs.Pending.{Fault, first_fault, forked, kept, kept_lists, leaf_total, pending_list, update_fault, with_leaf, with_leaves, with_update, with_updates, without_ancestors};
+ghost use Rattle.merkle_batch_theory.specs.Pending.{Fault, first_fault, forked, kept, kept_lists, leaf_total, pending_list, update_fault, with_entries, with_leaf, with_leaves, with_update, with_updates, without_ancestors};
 ghost use Rattle.merkle_batch_theory.specs.Recorded.{after, records};
 ghost use Rattle.merkle_batch_theory.specs.Refusals.{fault_error};
 ghost use Rattle.merkle_batch_theory.specs.Stands.{StandsOn, last_list};
@@ -53,15 +54,27 @@ impl<F: Family, D: Digest> Model for UnmerkleizedBatch<F, D> {
 
     ghost coded = { pending_code D.code };
 
-    ghost view = { λ b. record { parent = b.parent.value; leaves_before = b.leaves_before; added = b.added.items; overwritten = from_entries b.updates.entries; forgotten = b.forgotten } };
+    ghost view = { λ b. record {
+      parent = b.parent.value;
+      leaves_before = b.leaves_before;
+      added = b.added.items;
+      overwritten = from_entries b.updates.entries;
+      forgotten = b.forgotten;
+    } };
 
-    ghost invariant = { λ b. IsPending F.rule F.MAX_LEAVES (record { parent = b.parent.value; leaves_before = b.leaves_before; added = b.added.items; overwritten = from_entries b.updates.entries; forgotten = b.forgotten }) };
+    ghost invariant = { λ b. IsPending F.rule F.MAX_LEAVES (record {
+      parent = b.parent.value;
+      leaves_before = b.leaves_before;
+      added = b.added.items;
+      overwritten = from_entries b.updates.entries;
+      forgotten = b.forgotten;
+    }) };
 }
 
 impl<F: Family, D: Digest> UnmerkleizedBatch<F, D> {
     /// A batch without changes, forked from another one.
     pub fn new(parent: Rc<MerkleizedBatch<F, D>>) -> Self
-        ensures { (n : ℕ) → n ≤ F.MAX_LEAVES → size F.rule n ≡ after parent.value.own → result ≡ forked parent.value n empty }
+        ensures { result ≡ forked parent.value }
     {
         let alloc = parent.allocator();
         let leaves_before = parent.leaves();
@@ -76,7 +89,8 @@ impl<F: Family, D: Digest> UnmerkleizedBatch<F, D> {
 
     /// The number of leaves, with the added ones.
     pub fn leaves(&self) -> Location<F>
-        ensures { result ≡ leaf_total self.now }
+        ensures count { result ≡ leaf_total self.now }
+        ensures bounded { result ≤ F.MAX_LEAVES }
     {
         self.leaves_before + self.added.len() as u64
     }
@@ -99,8 +113,11 @@ impl<F: Family, D: Digest> UnmerkleizedBatch<F, D> {
     /// `OutOfMemory`; the batch is gone then.
     pub fn add<H: Hasher<F, Digest = D>>(self, hasher: &H, element: &[u8]) -> Result<Self, Error<F>>
         ensures added { IfOk result (λ b. b ≡ with_leaf self ((H.hashing hasher.now).leaf (size F.rule (leaf_total self)) element.now)) }
+        ensures edited { let digest = (H.hashing hasher.now).leaf (size F.rule (leaf_total self)) element.now in
+            IfOk result (λ b. (X : List D) → pending_list F.rule b X ≡ pending_list F.rule self X ++ digest ∷ []) }
         ensures room { IfOk result (λ _. leaf_total self < F.MAX_LEAVES) }
-        ensures refused { IfErr result (λ e. ((e ≡ Error.LocationOverflow F.MAX_LEAVES) × (leaf_total self ≡ F.MAX_LEAVES)) ⊎ ((e ≡ Error.OutOfMemory) × (leaf_total self < F.MAX_LEAVES))) }
+        ensures refused { IfErr result (λ e. ((e ≡ Error.LocationOverflow F.MAX_LEAVES) × (leaf_total self ≡ F.MAX_LEAVES))
+            ⊎ ((e ≡ Error.OutOfMemory) × (leaf_total self < F.MAX_LEAVES))) }
     {
         let position = F::location_to_position(self.leaves());
         let digest = hasher.leaf_digest(position, element);
@@ -113,8 +130,10 @@ impl<F: Family, D: Digest> UnmerkleizedBatch<F, D> {
     /// `OutOfMemory`; the batch is gone then.
     pub fn add_leaf_digest(mut self, digest: D) -> Result<Self, Error<F>>
         ensures added { IfOk result (λ b. b ≡ with_leaf self digest) }
+        ensures edited { IfOk result (λ b. (X : List D) → pending_list F.rule b X ≡ pending_list F.rule self X ++ digest ∷ []) }
         ensures room { IfOk result (λ _. leaf_total self < F.MAX_LEAVES) }
-        ensures refused { IfErr result (λ e. ((e ≡ Error.LocationOverflow F.MAX_LEAVES) × (leaf_total self ≡ F.MAX_LEAVES)) ⊎ ((e ≡ Error.OutOfMemory) × (leaf_total self < F.MAX_LEAVES))) }
+        ensures refused { IfErr result (λ e. ((e ≡ Error.LocationOverflow F.MAX_LEAVES) × (leaf_total self ≡ F.MAX_LEAVES))
+            ⊎ ((e ≡ Error.OutOfMemory) × (leaf_total self < F.MAX_LEAVES))) }
     {
         if self.leaves().as_u64() >= F::MAX_LEAVES {
             return Err(Error::LocationOverflow(Location::new(F::MAX_LEAVES)));
@@ -129,8 +148,10 @@ impl<F: Family, D: Digest> UnmerkleizedBatch<F, D> {
     /// the batch is gone then.
     pub fn add_leaf_digests(mut self, digests: &[D]) -> Result<Self, Error<F>>
         ensures added { IfOk result (λ b. b ≡ with_leaves self digests.now) }
+        ensures edited { IfOk result (λ b. (X : List D) → pending_list F.rule b X ≡ pending_list F.rule self X ++ digests.now) }
         ensures room { IfOk result (λ _. leaf_total self + length digests.now ≤ F.MAX_LEAVES) }
-        ensures refused { IfErr result (λ e. ((e ≡ Error.LocationOverflow F.MAX_LEAVES) × (F.MAX_LEAVES < leaf_total self + length digests.now)) ⊎ ((e ≡ Error.OutOfMemory) × (leaf_total self + length digests.now ≤ F.MAX_LEAVES))) }
+        ensures refused { IfErr result (λ e. ((e ≡ Error.LocationOverflow F.MAX_LEAVES) × (F.MAX_LEAVES < leaf_total self + length digests.now))
+            ⊎ ((e ≡ Error.OutOfMemory) × (leaf_total self + length digests.now ≤ F.MAX_LEAVES))) }
     {
         if digests.len() as u64 > F::MAX_LEAVES - self.leaves().as_u64() {
             return Err(Error::LocationOverflow(Location::new(F::MAX_LEAVES)));
@@ -163,6 +184,8 @@ impl<F: Family, D: Digest> UnmerkleizedBatch<F, D> {
         element: &[u8],
     ) -> Result<Self, Error<F>>
         ensures updated { IfOk result (λ b. b ≡ with_update F.rule self location ((H.hashing hasher.now).leaf (size F.rule location) element.now)) }
+        ensures edited { let digest = (H.hashing hasher.now).leaf (size F.rule location) element.now in IfOk result (λ b. (X : List D)
+            → length X ≡ self.leaves_before → pending_list F.rule b X ≡ slice_set (pending_list F.rule self X) location digest) }
         ensures refused { (fault : Fault) → update_fault F.rule self location ≡ Some fault → result ≡ Err (fault_error fault) }
         ensures allowed { update_fault F.rule self location ≡ None → IsOkUnless result Error.OutOfMemory }
     {
@@ -182,7 +205,8 @@ impl<F: Family, D: Digest> UnmerkleizedBatch<F, D> {
     /// `OutOfMemory`; the batch is gone then.
     pub fn update_leaf_digest(mut self, location: Location<F>, digest: D) -> Result<Self, Error<F>>
         ensures updated { IfOk result (λ b. b ≡ with_update F.rule self location digest) }
-        ensures edited { IfOk result (λ b. (X : List D) → length X ≡ self.leaves_before → pending_list F.rule b X ≡ slice_set (pending_list F.rule self X) location digest) }
+        ensures edited { IfOk result (λ b. (X : List D) → length X ≡ self.leaves_before
+            → pending_list F.rule b X ≡ slice_set (pending_list F.rule self X) location digest) }
         ensures refused { (fault : Fault) → update_fault F.rule self location ≡ Some fault → result ≡ Err (fault_error fault) }
         ensures allowed { update_fault F.rule self location ≡ None → IsOkUnless result Error.OutOfMemory }
     {
@@ -205,6 +229,8 @@ impl<F: Family, D: Digest> UnmerkleizedBatch<F, D> {
     /// [`update_leaf_digest`](UnmerkleizedBatch::update_leaf_digest).
     pub fn update_leaf_batched(mut self, updates: &[(Location<F>, D)]) -> Result<Self, Error<F>>
         ensures updated { IfOk result (λ b. b ≡ with_updates F.rule self updates.now) }
+        ensures edited { IfOk result (λ b. (X : List D) → length X ≡ self.leaves_before
+            → pending_list F.rule b X ≡ with_entries (pending_list F.rule self X) updates.now) }
         ensures refused { (fault : Fault) → first_fault F.rule self updates.now ≡ Some fault → result ≡ Err (fault_error fault) }
         ensures allowed { first_fault F.rule self updates.now ≡ None → IsOkUnless result Error.OutOfMemory }
     {
@@ -236,16 +262,25 @@ impl<F: Family, D: Digest> UnmerkleizedBatch<F, D> {
         base: &B,
         hasher: &H,
     ) -> Result<Rc<MerkleizedBatch<F, D>>, Error<F>>
-        ensures fork { IfOk result (λ b. (b.value.base_size ≡ self.parent.base_size) × (b.value.boundary ≡ self.parent.boundary) × (b.value.ancestors ≡ kept self)) }
-        ensures begins { IfOk result (λ b. (b.value.own.before ≡ after self.parent.own) × (b.value.own.peaks_before ≡ self.parent.own.peaks_after)) }
-        ensures counted { IfOk result (λ b. after b.value.own ≡ size F.rule (leaf_total self)) }
-        ensures refused { IfErr result (λ e. (e ≡ Error.OutOfMemory) ⊎ ((t : Tree) × (e ≡ Error.MissingNode (position t)) × IsMissing F.rule self (B.contents base.now) t)) }
+        ensures fork { IfOk result (λ b. (b.value.base_size ≡ self.parent.base_size) × (b.value.boundary ≡ self.parent.boundary)
+            × (b.value.ancestors ≡ kept self)) }
+        ensures begins { IfOk result (λ b. (b.value.own.before ≡ after self.parent.own)
+            × (b.value.own.peaks_before ≡ self.parent.own.peaks_after)) }
+        ensures counted { IfOk result (λ b. (b.value.leaves ≡ leaf_total self) × (after b.value.own ≡ size F.rule (leaf_total self))) }
+        ensures peaks { IfOk result (λ b. length b.value.own.peaks_after ≡ length (peaks_of F.rule (leaf_total self))) }
+        ensures refused { IfErr result (λ e. (e ≡ Error.OutOfMemory)
+            ⊎ ((t : Tree) × (e ≡ Error.MissingNode (position t)) × IsMissing F.rule self (B.contents base.now) t)) }
         ensures complete { IfOk result (λ _. (t : Tree) → IsMissing F.rule self (B.contents base.now) t → ⊥) }
 
         // Where its parent stands on lists and the base agrees with one that the kept records start from or reach, it stands
         // on these and on the last of them with its changes.
-        ensures stands { IfOk result (λ b. (ls : List (List D)) → StandsOn (H.hashing hasher.now) F.rule (records self.parent) ls → AgreesWithOne (H.hashing hasher.now) F.rule (B.contents base.now) (kept_lists self ls) → StandsOn (H.hashing hasher.now) F.rule (records b.value) (kept_lists self ls ++ pending_list F.rule self (last_list ls) ∷ [])) }
-        ensures given { (h : Hashing D) → (ls : List (List D)) → StandsOn h F.rule (records self.parent) ls → AgreesWithOne h F.rule (B.contents base.now) (kept_lists self ls) → ((k : ℕ) → is_some (get self.overwritten (size F.rule k)) ≡ true → (B.contents base.now).boundary ≤ k) → IsOkUnless result Error.OutOfMemory }
+        ensures stands { let h = H.hashing hasher.now in IfOk result (λ b. (ls : List (List D)) → StandsOn h F.rule (records self.parent) ls
+            → AgreesWithOne h F.rule (B.contents base.now) (kept_lists self ls)
+            → StandsOn h F.rule (records b.value) (kept_lists self ls ++ pending_list F.rule self (last_list ls) ∷ [])) }
+        ensures given { (h : Hashing D) → (ls : List (List D)) → StandsOn h F.rule (records self.parent) ls
+            → AgreesWithOne h F.rule (B.contents base.now) (kept_lists self ls)
+            → ((k : ℕ) → is_some (get self.overwritten (size F.rule k)) ≡ true → (B.contents base.now).boundary ≤ k)
+            → IsOkUnless result Error.OutOfMemory }
     {
         self.compute(base, hasher)
     }
@@ -256,16 +291,25 @@ impl<F: Family, D: Digest> UnmerkleizedBatch<F, D> {
         base: &B,
         hasher: &H,
     ) -> Result<Rc<MerkleizedBatch<F, D>>, Error<F>>
-        ensures fork { IfOk result (λ b. (b.value.base_size ≡ self.now.parent.base_size) × (b.value.boundary ≡ self.now.parent.boundary) × (b.value.ancestors ≡ kept self.now)) }
-        ensures begins { IfOk result (λ b. (b.value.own.before ≡ after self.now.parent.own) × (b.value.own.peaks_before ≡ self.now.parent.own.peaks_after)) }
-        ensures counted { IfOk result (λ b. after b.value.own ≡ size F.rule (leaf_total self.now)) }
-        ensures refused { IfErr result (λ e. (e ≡ Error.OutOfMemory) ⊎ ((t : Tree) × (e ≡ Error.MissingNode (position t)) × IsMissing F.rule self.now (B.contents base.now) t)) }
+        ensures fork { IfOk result (λ b. (b.value.base_size ≡ self.now.parent.base_size) × (b.value.boundary ≡ self.now.parent.boundary)
+            × (b.value.ancestors ≡ kept self.now)) }
+        ensures begins { IfOk result (λ b. (b.value.own.before ≡ after self.now.parent.own)
+            × (b.value.own.peaks_before ≡ self.now.parent.own.peaks_after)) }
+        ensures counted { IfOk result (λ b. (b.value.leaves ≡ leaf_total self.now) × (after b.value.own ≡ size F.rule (leaf_total self.now))) }
+        ensures peaks { IfOk result (λ b. length b.value.own.peaks_after ≡ length (peaks_of F.rule (leaf_total self.now))) }
+        ensures refused { IfErr result (λ e. (e ≡ Error.OutOfMemory)
+            ⊎ ((t : Tree) × (e ≡ Error.MissingNode (position t)) × IsMissing F.rule self.now (B.contents base.now) t)) }
         ensures complete { IfOk result (λ _. (t : Tree) → IsMissing F.rule self.now (B.contents base.now) t → ⊥) }
 
         // Where its parent stands on lists and the base agrees with one that the kept records start from or reach, it stands
         // on these and on the last of them with its changes.
-        ensures stands { IfOk result (λ b. (ls : List (List D)) → StandsOn (H.hashing hasher.now) F.rule (records self.now.parent) ls → AgreesWithOne (H.hashing hasher.now) F.rule (B.contents base.now) (kept_lists self.now ls) → StandsOn (H.hashing hasher.now) F.rule (records b.value) (kept_lists self.now ls ++ pending_list F.rule self.now (last_list ls) ∷ [])) }
-        ensures given { (h : Hashing D) → (ls : List (List D)) → StandsOn h F.rule (records self.now.parent) ls → AgreesWithOne h F.rule (B.contents base.now) (kept_lists self.now ls) → ((k : ℕ) → is_some (get self.now.overwritten (size F.rule k)) ≡ true → (B.contents base.now).boundary ≤ k) → IsOkUnless result Error.OutOfMemory }
+        ensures stands { let h = H.hashing hasher.now in IfOk result (λ b. (ls : List (List D)) → StandsOn h F.rule (records self.now.parent) ls
+            → AgreesWithOne h F.rule (B.contents base.now) (kept_lists self.now ls)
+            → StandsOn h F.rule (records b.value) (kept_lists self.now ls ++ pending_list F.rule self.now (last_list ls) ∷ [])) }
+        ensures given { (h : Hashing D) → (ls : List (List D)) → StandsOn h F.rule (records self.now.parent) ls
+            → AgreesWithOne h F.rule (B.contents base.now) (kept_lists self.now ls)
+            → ((k : ℕ) → is_some (get self.now.overwritten (size F.rule k)) ≡ true → (B.contents base.now).boundary ≤ k)
+            → IsOkUnless result Error.OutOfMemory }
     {
         let leaves = self.leaves();
         let mut draft = self.parent.draft(self.forgotten, leaves)?;

@@ -1,5 +1,5 @@
 //! Batches with their nodes computed.
-ghost use Rattle.std.specs.Prelude.{◌≡◌, ℕ, List, ◌∷◌, [], ◌++◌, ◌≤◌, ◌<◌, Some, Ok, Err, cond, drop, slice_get, length, IfOk, IsOkUnless};
+ghost use Rattle.std.specs.Prelude.{◌≡◌, List, ◌∷◌, [], ◌++◌, ◌≤◌, ◌<◌, Some, Ok, Err, cond, drop, slice_get, length, IfOk, IsOkUnless};
 ghost use Rattle.std.specs.Rc.{rc_slice_items};
 ghost use Rattle.merkle_batch.specs.Finished.{finished};
 ghost use Rattle.merkle_batch_theory.specs.Linked.{IsLinked};
@@ -37,7 +37,7 @@ use std::rc::{Rc, RcSlice};
 /// It keeps the records of its ancestors, so that it can be applied to a structure at any of their states. Batches are
 /// shared by `Rc`: any number of batches can be forked from one.
 ///
-/// To a contract it is its own record, behind those that it keeps of its ancestors, oldest first.
+/// To a contract it is its own record, behind those that it keeps of its ancestors, oldest first, and its leaf count.
 #[derive(Debug, Drop)]
 pub struct MerkleizedBatch<F: Family, D: Digest> {
     pub own: Rc<Record<F, D>>,
@@ -58,9 +58,21 @@ impl<F: Family, D: Digest> Model for MerkleizedBatch<F, D> {
 
     ghost coded = { chain_code D.code };
 
-    ghost view = { λ b. record { base_size = b.base_size; boundary = b.pruning_boundary; ancestors = map (λ r. r.value) b.ancestors.items; own = b.own.value } };
+    ghost view = { λ b. record {
+      base_size = b.base_size;
+      boundary = b.pruning_boundary;
+      ancestors = map (λ r. r.value) b.ancestors.items;
+      own = b.own.value;
+      leaves = b.leaves;
+    } };
 
-    ghost invariant = { λ b. IsLinked F.rule F.MAX_LEAVES b.leaves (record { base_size = b.base_size; boundary = b.pruning_boundary; ancestors = map (λ r. r.value) b.ancestors.items; own = b.own.value }) };
+    ghost invariant = { λ b. IsLinked F.rule F.MAX_LEAVES (record {
+      base_size = b.base_size;
+      boundary = b.pruning_boundary;
+      ancestors = map (λ r. r.value) b.ancestors.items;
+      own = b.own.value;
+      leaves = b.leaves;
+    }) };
 }
 
 impl<F: Family, D: Digest> MerkleizedBatch<F, D> {
@@ -68,17 +80,18 @@ impl<F: Family, D: Digest> MerkleizedBatch<F, D> {
     ///
     /// Refused with `OutOfMemory`.
     pub fn from_mem<B: Base<F, Digest = D>>(base: &B) -> Result<Rc<Self>, Error<F>>
-        ensures root { IfOk result (λ b. (n : ℕ) → n ≤ F.MAX_LEAVES → size F.rule n ≡ (B.contents base.now).size → b.value ≡ root_batch F.rule n (B.contents base.now)) }
-        ensures of_list { IfOk result (λ b. (h : Hashing D) → (X : List D) → Agrees h F.rule (B.contents base.now) X → StandsOn h F.rule (records b.value) (X ∷ X ∷ [])) }
+        ensures root { IfOk result (λ b. b.value ≡ root_batch F.rule (B.leaves base.now) (B.contents base.now)) }
+        ensures of_list { IfOk result (λ b. (h : Hashing D) → (X : List D) → Agrees h F.rule (B.contents base.now) X
+            → StandsOn h F.rule (records b.value) (X ∷ X ∷ [])) }
         ensures refused { IsOkUnless result Error.OutOfMemory }
     {
-        let _leaves = base.leaves();
         Ok(Self::without_changes(base)?)
     }
 
     // A batch without changes to a structure.
     fn without_changes<B: Base<F, Digest = D>>(base: &B) -> Result<Rc<Self>, AllocError>
-        ensures { IfOk result (λ b. (n : ℕ) → n ≤ F.MAX_LEAVES → size F.rule n ≡ (B.contents base.now).size → b.value ≡ root_batch F.rule n (B.contents base.now)) }
+        ensures root { IfOk result (λ b. b.value ≡ root_batch F.rule (B.leaves base.now) (B.contents base.now)) }
+        ensures sized { IfOk result (λ _. size F.rule (B.leaves base.now) ≡ (B.contents base.now).size) }
     {
         let leaves = base.leaves();
         let peaks = base.peak_digests()?;
@@ -111,6 +124,7 @@ impl<F: Family, D: Digest> MerkleizedBatch<F, D> {
 
     /// The number of leaves after it.
     pub fn leaves(&self) -> Location<F>
+        ensures count { result ≡ self.now.leaves }
         ensures sized { size F.rule result ≡ after self.now.own }
         ensures bounded { result ≤ F.MAX_LEAVES }
     {
@@ -137,7 +151,8 @@ impl<F: Family, D: Digest> MerkleizedBatch<F, D> {
         ensures newest { result ≡ newest (records self.now) position }
 
         // Where it stands on lists, it is the last list's.
-        ensures listed { (h : Hashing D) → (ls : List (List D)) → (d : D) → StandsOn h F.rule (records self.now) ls → result ≡ Some d → slice_get (node_digests h F.rule (last_list ls)) position ≡ Some d }
+        ensures listed { (h : Hashing D) → (ls : List (List D)) → (d : D) → StandsOn h F.rule (records self.now) ls → result ≡ Some d
+            → slice_get (node_digests h F.rule (last_list ls)) position ≡ Some d }
     {
         match self.own.get_node(position) {
             Some(digest) => Some(digest),
@@ -147,14 +162,18 @@ impl<F: Family, D: Digest> MerkleizedBatch<F, D> {
 
     /// The root after it, for a number of inactive peaks, which are the oldest ones.
     ///
-    /// Refused with `InvalidInactivePeaks` exactly where that number exceeds the number of peaks.
+    /// Refused with `InvalidInactivePeaks` exactly where that number exceeds the number of peaks that its leaf count has.
     pub fn root<H: Hasher<F, Digest = D>>(&self, hasher: &H, inactive: usize) -> Result<D, Error<F>>
-        ensures ok { (n : ℕ) → n ≤ F.MAX_LEAVES → size F.rule n ≡ after self.now.own → let peaks = self.now.own.peaks_after in inactive ≤ length peaks → result ≡ Ok (peaks_root (H.hashing hasher.now) F.DOMAIN (H.bagging_of hasher.now) n inactive inactive peaks) }
-        ensures err { let peaks = self.now.own.peaks_after in length peaks < inactive → result ≡ Err (Error.InvalidInactivePeaks inactive (length peaks)) }
+        ensures ok { let n = self.now.leaves in inactive ≤ length (peaks_of F.rule n)
+            → result ≡ Ok (peaks_root (H.hashing hasher.now) F.DOMAIN (H.bagging_of hasher.now) n inactive inactive self.now.own.peaks_after) }
+        ensures err { let count = length (peaks_of F.rule self.now.leaves) in count < inactive → result ≡ Err (Error.InvalidInactivePeaks inactive count) }
 
         // Where it stands on lists, it is the last list's.
-        ensures listed { (ls : List (List D)) → StandsOn (H.hashing hasher.now) F.rule (records self.now) ls → let X = last_list ls in inactive ≤ length (peaks_of F.rule (length X)) → result ≡ Ok (list_root (H.hashing hasher.now) F.rule F.DOMAIN (H.bagging_of hasher.now) X inactive) }
-        ensures too_many { (h : Hashing D) → (ls : List (List D)) → StandsOn h F.rule (records self.now) ls → let X = last_list ls in length (peaks_of F.rule (length X)) < inactive → result ≡ Err (Error.InvalidInactivePeaks inactive (length (peaks_of F.rule (length X)))) }
+        ensures listed { (ls : List (List D)) → StandsOn (H.hashing hasher.now) F.rule (records self.now) ls
+            → let X = last_list ls in inactive ≤ length (peaks_of F.rule (length X))
+            → result ≡ Ok (list_root (H.hashing hasher.now) F.rule F.DOMAIN (H.bagging_of hasher.now) X inactive) }
+        ensures too_many { (h : Hashing D) → (ls : List (List D)) → StandsOn h F.rule (records self.now) ls
+            → let count = length (peaks_of F.rule (length (last_list ls))) in count < inactive → result ≡ Err (Error.InvalidInactivePeaks inactive count) }
     {
         hasher.root(self.leaves, inactive, self.own.peaks_after.as_slice())
     }
@@ -163,7 +182,7 @@ impl<F: Family, D: Digest> MerkleizedBatch<F, D> {
     ///
     /// Refused with `OutOfMemory`.
     pub fn new_batch(self: &Rc<Self>) -> Result<UnmerkleizedBatch<F, D>, Error<F>>
-        ensures forked { IfOk result (λ b. (n : ℕ) → n ≤ F.MAX_LEAVES → size F.rule n ≡ after self.now.value.own → b ≡ forked self.now.value n empty) }
+        ensures forked { IfOk result (λ b. b ≡ forked self.now.value) }
         ensures refused { IsOkUnless result Error.OutOfMemory }
     {
         Ok(UnmerkleizedBatch::new(self.clone()?))
@@ -194,8 +213,8 @@ impl<F: Family, D: Digest> MerkleizedBatch<F, D> {
         peaks_before: RcSlice<D>,
         peaks_after: RcSlice<D>,
     ) -> Result<Rc<Self>, AllocError>
-        requires { IsLinked F.rule F.MAX_LEAVES leaves (finished self.now draft (rc_slice_items peaks_before) (rc_slice_items peaks_after)) }
-        ensures { IfOk result (λ b. b.value ≡ finished self.now draft (rc_slice_items peaks_before) (rc_slice_items peaks_after)) }
+        requires { IsLinked F.rule F.MAX_LEAVES (finished self.now draft leaves (rc_slice_items peaks_before) (rc_slice_items peaks_after)) }
+        ensures { IfOk result (λ b. b.value ≡ finished self.now draft leaves (rc_slice_items peaks_before) (rc_slice_items peaks_after)) }
     {
         let alloc = self.allocator();
         let own = Record {

@@ -101,18 +101,19 @@ module _ {D : Type 0} where
   other_runs [] own r m s e = (e ∙ s.0, tt)
   other_runs (q ∷ rs) own r m s e = (s.0, other_runs rs own r (after q) s.1 e)
 
-  first_runs : (base_size boundary : ℕ) (rs : List (Recorded D)) (r : Recorded D) (m : ℕ) → RunsFrom m (rs ++ r ∷ []) → RunsFrom (oldest (record { base_size = base_size; boundary = boundary; ancestors = rs; own = r })).before (rs ++ r ∷ [])
-  first_runs base_size boundary [] r m s = (refl, tt)
-  first_runs base_size boundary (q ∷ rs) r m s = (refl, s.1)
+  first_runs : (base_size boundary leaves : ℕ) (rs : List (Recorded D)) (r : Recorded D) (m : ℕ) → RunsFrom m (rs ++ r ∷ []) →
+      RunsFrom (oldest (record { base_size = base_size; boundary = boundary; ancestors = rs; own = r; leaves = leaves })).before (rs ++ r ∷ [])
+  first_runs base_size boundary leaves [] r m s = (refl, tt)
+  first_runs base_size boundary leaves (q ∷ rs) r m s = (refl, s.1)
 
   -- the records of a batch that is forked from a linked one follow one another
-  pub kept_runs : (rule : List ℕ → List ℕ) (max_leaves leaves base_size boundary : ℕ) (p : Pending D) (r : Recorded D) → IsLinked rule max_leaves leaves p.parent → p.forgotten ≤ length p.parent.ancestors → r.before ≡ after p.parent.own →
-      RunsFrom (oldest (record { base_size = base_size; boundary = boundary; ancestors = kept p; own = r })).before (kept p ++ r ∷ [])
-  kept_runs rule max_leaves leaves base_size boundary p r linked l e =
+  pub kept_runs : (rule : List ℕ → List ℕ) (max_leaves base_size boundary leaves : ℕ) (p : Pending D) (r : Recorded D) → IsLinked rule max_leaves p.parent → p.forgotten ≤ length p.parent.ancestors → r.before ≡ after p.parent.own →
+      RunsFrom (oldest (record { base_size = base_size; boundary = boundary; ancestors = kept p; own = r; leaves = leaves })).before (kept p ++ r ∷ [])
+  kept_runs rule max_leaves base_size boundary leaves p r linked l e =
       let rs : List (Recorded D) = drop p.forgotten p.parent.ancestors in
       let own : Recorded D = p.parent.own in
       let k = tail_runs p.parent.ancestors own p.forgotten (oldest p.parent).before l linked.runs in
-      first_runs base_size boundary (kept p) r k.0 (by_test (λ b. RunsFrom k.0 ((rs ++ cond b (own ∷ []) []) ++ r ∷ [])) (is_changed own)
+      first_runs base_size boundary leaves (kept p) r k.0 (by_test (λ b. RunsFrom k.0 ((rs ++ cond b (own ∷ []) []) ++ r ∷ [])) (is_changed own)
       (λ _. more_runs rs own r k.0 k.1 e)
       (λ f. (let z : after own ≡ own.before = omega (arith, ap length (appends_nothing own f)) in
       subst (λ qs. RunsFrom k.0 (qs ++ r ∷ [])) (sym (append-nil rs)) (other_runs rs own r k.0 k.1 (e ∙ z)))))

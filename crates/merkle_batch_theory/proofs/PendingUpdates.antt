@@ -1,5 +1,5 @@
 -- Updates of a batch that is not merkleized yet, and why one is refused.
-use Rattle.std.proofs.Common.{◌≡◌, ℕ, suc, ◌+◌, ◌-◌, ◌<◌, ◌≤◌, List, ◌++◌, length, set, drop, get_or, Some, None, true, cond, slice_get, arith, refl, sym, ap, inl, inr, ◌∙◌, ltb, add-one}
+use Rattle.std.proofs.Common.{◌≡◌, ℕ, suc, ◌+◌, ◌-◌, ◌<◌, ◌≤◌, List, [], ◌∷◌, ◌++◌, length, set, drop, get_or, Some, None, true, cond, slice_get, arith, refl, sym, ap, inl, inr, ◌∙◌, ltb, add-one, append_assoc}
 use Rattle.std.proofs.Math.Seq.{drop-cons}
 use Rattle.std.specs.Prelude.{is_some, ◌==◌}
 use Rattle.std.specs.Option.{option_or}
@@ -13,7 +13,7 @@ use Rattle.std.proofs.lemmas.Bool.Decides.{nat_tests}
 use Rattle.std.proofs.lemmas.List.{length-set, set-append_left, set-append_right}
 use Rattle.merkle_base.specs.Forest.{size}
 use Rattle.merkle_base.proofs.Nodes.{size_inj}
-use Rattle.merkle_batch_theory.specs.Pending.{Pending, IsPending, OutOfBounds, Pruned, leaf_total, with_update, with_updates, update_fault, first_fault, pending_list}
+use Rattle.merkle_batch_theory.specs.Pending.{Pending, IsPending, OutOfBounds, Pruned, leaf_total, with_update, with_updates, update_fault, first_fault, pending_list, with_entries, with_leaves}
 use Rattle.merkle_batch_theory.specs.Replay.{over}
 use Rattle.merkle_batch_theory.specs.Stands.{replaced}
 use Rattle.merkle_batch_theory.proofs.Steps.{replaced_length}
@@ -92,6 +92,10 @@ module _ {D : Type 0} (rule : List ℕ → List ℕ) where
         ∙ sym (set-append_right (replaced rule (get p.overwritten) 0 X) p.added p.leaves_before k d (omega (arith, e, replaced_length rule (get p.overwritten) 0 X)) l)
   ]
 
+  -- added leaves stand at its end
+  pub leaves_list : (p : Pending D) (ds : List D) (X : List D) → pending_list rule (with_leaves p ds) X ≡ pending_list rule p X ++ ds
+  leaves_list p ds X = sym (append_assoc (replaced rule (get p.overwritten) 0 X) p.added ds)
+
   -- ---- faults
   pub out_of_bounds : (p : Pending D) (k : ℕ) → leaf_total p ≤ k → update_fault rule p k ≡ Some (OutOfBounds k)
   out_of_bounds p k l = ap (λ b. cond b (Some (OutOfBounds k)) (cond (ltb k p.parent.boundary) (Some (Pruned (size rule k))) None)) (le-leb (leaf_total p) k l)
@@ -110,6 +114,10 @@ module _ {D : Type 0} (rule : List ℕ → List ℕ) where
   parent_kept p k d = by_test (λ b. (cond b (over_old p (insert p.overwritten (size rule k) d)) (over_new p (set p.added (k - p.leaves_before) d))).parent ≡ p.parent) (ltb k p.leaves_before)
       (λ _. refl) (λ _. refl)
 
+  before_kept : (p : Pending D) (k : ℕ) (d : D) → (with_update rule p k d).leaves_before ≡ p.leaves_before
+  before_kept p k d = by_test (λ b. (cond b (over_old p (insert p.overwritten (size rule k) d)) (over_new p (set p.added (k - p.leaves_before) d))).leaves_before ≡ p.leaves_before) (ltb k p.leaves_before)
+      (λ _. refl) (λ _. refl)
+
   -- ---- several updates
   pub fault_next : (p : Pending D) (us : List (ℕ × D)) (i : ℕ) (u : ℕ × D) → i < length us → u ≡ get_or us i u → first_fault rule p (drop i us) ≡ option_or (update_fault rule p u.0) (first_fault rule p (drop (i + 1) us))
   fault_next p us i u l e =
@@ -120,3 +128,7 @@ module _ {D : Type 0} (rule : List ℕ → List ℕ) where
   updates_next p us i u l e =
       ap (with_updates rule p) (drop-cons us i u l) ∙ ap (λ v. with_updates rule (with_update rule p v.0 v.1) (drop (suc i) us)) (sym e)
       ∙ ap (λ (n : ℕ). with_updates rule (with_update rule p u.0 u.1) (drop n us)) (sym (add-one i))
+
+  pub updates_list : (p : Pending D) (us : List (ℕ × D)) (X : List D) → length X ≡ p.leaves_before → pending_list rule (with_updates rule p us) X ≡ with_entries (pending_list rule p X) us
+  updates_list p [] X e = refl
+  updates_list p (u ∷ us) X e = updates_list (with_update rule p u.0 u.1) us X (e ∙ sym (before_kept p u.0 u.1)) ∙ ap (λ xs. with_entries xs us) (update_list p u.0 u.1 X e)

@@ -64,7 +64,7 @@ module _ {D : Type 0} where
   all_last (s ∷ rs) r c = all_last rs r (laid s c)
 
 -- the kept records, as they lie in a vector
-module _ {D X : Type 0} (rule : List ℕ → List ℕ) (max_leaves leaves : ℕ) (same : D → D → Bool) (c : Chain D) (linked : IsLinked rule max_leaves leaves c) (value : X → Recorded D) (xs : List X) (are : map value xs ≡ c.ancestors)
+module _ {D X : Type 0} (rule : List ℕ → List ℕ) (max_leaves : ℕ) (same : D → D → Bool) (c : Chain D) (linked : IsLinked rule max_leaves c) (value : X → Recorded D) (xs : List X) (are : map value xs ≡ c.ancestors)
     (n first : ℕ) (peaks : List D) (m : matched same n peaks c ≡ Some first) where
   abbrev kept_part : List (Recorded D)
   kept_part = map value (take (length xs - first) (drop first xs))
@@ -86,12 +86,12 @@ module _ {D X : Type 0} (rule : List ℕ → List ℕ) (max_leaves leaves : ℕ)
     nodes_after : now ≡ after c.own
     nodes_after = omega (arith, total_laid, sized, laid1, laid2)
 
-    counted_after : IsCounted rule max_leaves leaves now
+    counted_after : IsCounted rule max_leaves c.leaves now
     counted_after = record { bounded = linked.counted.bounded; sized = linked.counted.sized ∙ sym nodes_after }
 
     -- what holds of the counts holds after the records are laid
-    pub kept_after : IsKept rule max_leaves boundary leaves start now
-    kept_after = kept_counted rule max_leaves boundary leaves start now counted_after kept.starts (omega (arith, kept.starts, size_le rule boundary held kept.within, kept.counted.sized, laid1, laid2))
+    pub kept_after : IsKept rule max_leaves boundary c.leaves start now
+    kept_after = kept_counted rule max_leaves boundary c.leaves start now counted_after kept.starts (omega (arith, kept.starts, size_le rule boundary held kept.within, kept.counted.sized, laid1, laid2))
 
   -- and the batch is applied
   pub applied_after : (k : ℕ) (old mid new : Contents D) → mid ≡ all_laid kept_part old → new ≡ laid c.own mid → matched same old.size (held_peaks rule k old) c ≡ Some first → applied same rule k c old ≡ Ok new

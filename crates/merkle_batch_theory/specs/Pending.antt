@@ -1,7 +1,7 @@
 -- A batch that is not merkleized yet.
 use Rattle.std.specs.Prelude.{◌≡◌, ℕ, ◌+◌, ◌-◌, ◌<◌, ◌≤◌, List, [], ◌∷◌, ◌++◌, length, drop, slice_set, Bool, true, not, Option, Some, None, is_some, cond, nat_le, nat_lt, ◌==◌, ◌&&◌, min, refl}
 use Rattle.std.specs.Ordering.{nat_cmp}
-use Rattle.std.specs.FinMap.{FinMap, get, insert, len, code}
+use Rattle.std.specs.FinMap.{FinMap, empty, get, insert, len, code}
 use Rattle.std.specs.Option.{option_or}
 use Rattle.std.specs.Coded.{Coded, code_by, coded×, coded_ℕ, coded_list}
 use Rattle.merkle_base.specs.Forest.{size}
@@ -70,9 +70,9 @@ abbrev pub without_ancestors : {D : Type 0} → Pending D → ℕ → Pending D
 without_ancestors p n =
     record { parent = p.parent; leaves_before = p.leaves_before; added = p.added; overwritten = p.overwritten; forgotten = min (p.forgotten + n) (length p.parent.ancestors) }
 
--- a batch without changes, forked from c, which has n leaves
-abbrev pub forked : {D : Type 0} → Chain D → ℕ → FinMap nat_cmp D → Pending D
-forked c n none = record { parent = c; leaves_before = n; added = []; overwritten = none; forgotten = 0 }
+-- a batch without changes, forked from c
+abbrev pub forked : {D : Type 0} → Chain D → Pending D
+forked c = record { parent = c; leaves_before = c.leaves; added = []; overwritten = empty; forgotten = 0 }
 
 -- whether a record has changes
 abbrev pub is_changed : {D : Type 0} → Recorded D → Bool
@@ -95,6 +95,11 @@ kept_lists p ls = cond (is_changed p.parent.own) (drop p.forgotten ls) (without_
 -- what it makes of the parent's last list
 abbrev pub pending_list : {D : Type 0} → (List ℕ → List ℕ) → Pending D → List D → List D
 pending_list rule p X = replaced rule (get p.overwritten) 0 X ++ p.added
+
+-- the list with each of these entries set to its digest, one after another
+abbrev pub with_entries : {D : Type 0} → List D → List (ℕ × D) → List D
+with_entries X [] = X
+with_entries X (u ∷ us) = with_entries (slice_set X u.0 u.1) us
 
 -- what holds of every batch that is not merkleized yet
 pub record IsPending {D : Type 0} (rule : List ℕ → List ℕ) (max_leaves : ℕ) (p : Pending D) : Type 0 where

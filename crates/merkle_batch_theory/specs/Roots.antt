@@ -11,4 +11,5 @@ root_batch rule n c = record {
   boundary = c.boundary;
   ancestors = [];
   own = record { before = c.size; peaks_before = held_peaks rule n c; appended = []; overwritten = empty; peaks_after = held_peaks rule n c };
+  leaves = n;
 }

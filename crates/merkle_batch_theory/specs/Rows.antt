@@ -29,7 +29,7 @@ abbrev pub second_record : Recorded ℕ
 second_record = record { before = 3; peaks_before = 0 ∷ []; appended = 7 ∷ []; overwritten = from_entries ((0, 17) ∷ (2, 16) ∷ []); peaks_after = 16 ∷ 7 ∷ [] }
 
 abbrev pub second_batch : Chain ℕ
-second_batch = record { base_size = 0; boundary = 0; ancestors = first_record ∷ []; own = second_record }
+second_batch = record { base_size = 0; boundary = 0; ancestors = first_record ∷ []; own = second_record; leaves = 3 }
 
 abbrev pub nothing : Contents ℕ
 nothing = record { boundary = 0; size = 0; node = λ p. None }
@@ -61,7 +61,7 @@ abbrev pub addition : Recorded ℕ
 addition = record { before = 3; peaks_before = 0 ∷ []; appended = 7 ∷ []; overwritten = empty; peaks_after = 0 ∷ 7 ∷ [] }
 
 abbrev pub exchanged_batch : Chain ℕ
-exchanged_batch = record { base_size = 0; boundary = 0; ancestors = first_record ∷ exchange ∷ []; own = addition }
+exchanged_batch = record { base_size = 0; boundary = 0; ancestors = first_record ∷ exchange ∷ []; own = addition; leaves = 3 }
 
 -- a fourth leaf, over that batch without its oldest record
 abbrev pub fourth : Pending ℕ
@@ -69,8 +69,8 @@ fourth = record { parent = exchanged_batch; leaves_before = 3; added = 9 ∷ [];
 
 -- no changes, over a batch whose own record exchanges the leaves
 abbrev pub over_exchange : Pending ℕ
-over_exchange = forked (record { base_size = 0; boundary = 0; ancestors = first_record ∷ []; own = exchange }) 2 empty
+over_exchange = forked (record { base_size = 0; boundary = 0; ancestors = first_record ∷ []; own = exchange; leaves = 2 })
 
--- n leaves, forked from five leaves of which four are pruned
+-- forked from five leaves of which four are pruned, taken for n leaves
 abbrev pub over_pruned : ℕ → Pending ℕ
-over_pruned n = forked (root_batch carries 5 (pruned carries 4 five)) n empty
+over_pruned n = forked (root_batch carries n (pruned carries 4 five))

@@ -10,7 +10,7 @@ ghost use Rattle.merkle_base.specs.Forest.{forest, size};
 ghost use Rattle.merkle_base.specs.Hashing.{Hashing, TellsApart};
 ghost use Rattle.merkle_base.specs.Digests.{node_digests, peak_digests};
 ghost use Rattle.merkle_batch_theory.specs.Contents.{Contents, Agrees, is_kept, pruned, held_peaks};
-ghost use Rattle.merkle_batch_theory.specs.Pending.{Pending, OutOfBounds, Pruned, kept, kept_lists, pending_list, update_fault, first_fault, with_updates, without_ancestors};
+ghost use Rattle.merkle_batch_theory.specs.Pending.{Pending, OutOfBounds, Pruned, kept, kept_lists, pending_list, update_fault, first_fault, forked, with_entries, with_updates, without_ancestors};
 ghost use Rattle.merkle_batch_theory.specs.Recorded.{Recorded, Chain, records, after};
 ghost use Rattle.merkle_batch_theory.specs.Replay.{laid, all_laid, matched, applied};
 ghost use Rattle.merkle_batch_theory.specs.Stands.{StandsOn, last_list, edited, replaced, leaves_from, is_touched, IsStep};
@@ -200,8 +200,8 @@ pub fn worked_rows()
     ensures matched { matched xor.same 0 [] second_batch ≡ Some 0 }
     ensures matched_later { matched xor.same 3 (0 ∷ []) second_batch ≡ Some 1 }
     ensures stale { (matched xor.same 4 (16 ∷ 7 ∷ []) second_batch ≡ None) × (refusal 4 second_batch ≡ StaleBatch 0 4) }
-    ensures dropped { refusal 0 (record { base_size = 0; boundary = 0; ancestors = []; own = second_record }) ≡ AncestorDropped 4 0 }
-    ensures stale_of_that_size { refusal 3 (record { base_size = 0; boundary = 0; ancestors = []; own = second_record }) ≡ StaleBatch 0 3 }
+    ensures dropped { refusal 0 (record second_batch { ancestors = [] }) ≡ AncestorDropped 4 0 }
+    ensures stale_of_that_size { refusal 3 (record second_batch { ancestors = [] }) ≡ StaleBatch 0 3 }
     ensures applies { map (all_laid (first_record ∷ second_record ∷ []) nothing).node (range_with_len 0 5) ≡ Some 17 ∷ Some 3 ∷ Some 16 ∷ Some 7 ∷ None ∷ [] }
     ensures prunes { map (laid change (pruned carries 4 five)).node (range_with_len 0 9) ≡ None ∷ None ∷ None ∷ None ∷ None ∷ None ∷ Some 19 ∷ Some 2 ∷ None ∷ [] }
     ensures stands { StandsOn xor carries (first_record ∷ second_record ∷ []) ([] ∷ (1 ∷ 3 ∷ []) ∷ (17 ∷ 3 ∷ 7 ∷ []) ∷ []) }
@@ -226,6 +226,7 @@ pub fn worked_rows()
     ensures matched_oldest { matched xor.same 3 (0 ∷ []) (record exchanged_batch { ancestors = exchange ∷ [] }) ≡ Some 0 }
     ensures accepts_later { applied xor.same carries 2 second_batch two ≡ Ok (laid second_record two) }
     ensures stale_below { refusal 3 (root_batch carries 5 five) ≡ StaleBatch 8 3 }
+    ensures forks { ((forked second_batch).leaves_before ≡ 3) × ((root_batch carries 5 five).leaves ≡ 5) }
     ensures refuses { applied xor.same carries 1 second_batch one ≡ Err (StaleBatch 0 1) }
     ensures agrees { Agrees xor carries (pruned carries 4 five) (1 ∷ 3 ∷ 0 ∷ 0 ∷ 2 ∷ []) }
 
@@ -250,6 +251,7 @@ pub fn worked_rows()
 
     // Of several updates of one leaf the last one stays, of an old leaf and of an added one.
     ensures updates { pending_list carries (with_updates carries fourth ((2, 5) ∷ (3, 6) ∷ (2, 8) ∷ (3, 4) ∷ [])) (3 ∷ 1 ∷ 7 ∷ []) ≡ 3 ∷ 1 ∷ 8 ∷ 4 ∷ [] }
+    ensures sets { with_entries {D = ℕ} (3 ∷ 1 ∷ 7 ∷ []) ((2, 5) ∷ (0, 6) ∷ (2, 8) ∷ []) ≡ 6 ∷ 1 ∷ 8 ∷ [] }
     ensures faults { map (update_fault carries (over_pruned 5)) (0 ∷ 3 ∷ 4 ∷ 5 ∷ []) ≡ Some (Pruned 0) ∷ Some (Pruned 4) ∷ None ∷ Some (OutOfBounds 5) ∷ [] }
     ensures first_of_faults { first_fault carries (over_pruned 5) ((4, 1) ∷ (5, 1) ∷ (3, 1) ∷ []) ≡ Some (OutOfBounds 5) }
 

@@ -1,6 +1,7 @@
 //! What batches are forked from.
-ghost use Rattle.std.specs.Prelude.{◌≡◌, ◌≤◌, ℕ, IfOk};
+ghost use Rattle.std.specs.Prelude.{◌≡◌, ◌≤◌, ℕ, length, IfOk};
 ghost use Rattle.merkle_base.specs.Forest.{size};
+ghost use Rattle.merkle_base.specs.Places.{peaks_of};
 ghost use Rattle.merkle_batch_theory.specs.Contents.{Contents, held_peaks};
 
 use merkle_base::family::Family;
@@ -11,12 +12,14 @@ use std::alloc::AllocError;
 
 /// A structure of a family that batches are forked from and read nodes of.
 ///
-/// To a contract it is its pruning boundary, its node count and the nodes that it holds.
+/// To a contract it is its pruning boundary, its node count and the nodes that it holds, and its leaf count.
 pub trait Base<F: Family> {
     /// What its nodes are.
     type Digest: Digest;
 
     ghost contents: { Self → Contents Self.Digest };
+
+    ghost leaves: { Self → ℕ };
 
     /// The number of nodes.
     fn size(&self) -> Position<F>
@@ -24,6 +27,7 @@ pub trait Base<F: Family> {
 
     /// The number of leaves.
     fn leaves(&self) -> Location<F>
+        ensures count { result ≡ leaves self.now }
         ensures sized { size F.rule result ≡ (contents self.now).size }
         ensures bounded { result ≤ F.MAX_LEAVES };
 
@@ -39,5 +43,8 @@ pub trait Base<F: Family> {
     ///
     /// Refused for want of memory.
     fn peak_digests(&self) -> Result<Vec<Self::Digest>, AllocError>
-        ensures { IfOk result (λ v. (n : ℕ) → n ≤ F.MAX_LEAVES → size F.rule n ≡ (contents self.now).size → v.items ≡ held_peaks F.rule n (contents self.now)) };
+        ensures held { IfOk result (λ v. v.items ≡ held_peaks F.rule (leaves self.now) (contents self.now)) }
+
+        // There are as many as the forest has peaks.
+        ensures many { IfOk result (λ v. length v.items ≡ length (peaks_of F.rule (leaves self.now))) };
 }

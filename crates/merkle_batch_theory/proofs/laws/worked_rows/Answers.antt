@@ -45,6 +45,7 @@ returns c = record {
   matched_oldest = refl;
   accepts_later = refl;
   stale_below = refl;
+  forks = (refl, refl);
   refuses = refl;
   agrees = record { sized = refl; bounded = omega arith; holds = λ p. refl };
   agrees_otherwise = λ a. absurd (let e : Some 2 ≡ Some 4 = a.holds 7 in cc);
@@ -65,6 +66,7 @@ returns c = record {
   lets_go = refl;
   adds = added_row;
   updates = updated_row;
+  sets = refl;
   faults = refl;
   first_of_faults = refl;
   both_faults = refl;

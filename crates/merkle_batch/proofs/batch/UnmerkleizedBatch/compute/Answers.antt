@@ -4,10 +4,9 @@ use Rattle.std.specs.FinMap.{get}
 use Rattle.std.specs.Rc.{rc_slice_items}
 use Rattle.std.proofs.lemmas.List.{nil_from_length}
 use Rattle.merkle_base.specs.Forest.{size}
-use Rattle.merkle_base.specs.Places.{peak_positions}
+use Rattle.merkle_base.specs.Places.{peak_positions, peaks_of}
 use Rattle.merkle_base.specs.Tree.{Tree, position}
 use Rattle.merkle_base.specs.declared.error.Error.TheVariants as error
-use Rattle.merkle_base.proofs.Limits.{lawful_leaves}
 use Rattle.merkle_batch_theory.specs.Contents.{AgreesWithOne}
 use Rattle.merkle_draft.specs.Drafts.{AreChildrenRead, LacksChild}
 use Rattle.merkle_batch.specs.Finished.{finished}
@@ -21,8 +20,9 @@ use Rattle.merkle_batch_theory.specs.Stands.{last_list, StandsOn}
 use Rattle.merkle_batch_theory.specs.Truth.{IsTruth, LeavesAre, ReadsTrue, truths}
 use Rattle.merkle_batch.proofs.Merkleizing.{list_given}
 use Rattle.merkle_batch_theory.proofs.MapFacts.{no_entry}
-use Rattle.merkle_batch.proofs.MerkleizeFacts.{append_missing, batch_stands, changed_by_leaves, changed_by_updates, finished_linked, is_positive, named_given, named_refused, NamesMissing, none_is_missing, not_changed, of_fields, peak_missing, refresh_missing, some_entry}
-use Rattle.merkle_batch.proofs.batch.UnmerkleizedBatch.compute.Goals.{then-is_empty+then-is_empty-2+in_ok-peaks_after, else-is_empty+in_ok-read_peaks+in_ok-peaks_after-2, else-is_empty-via-then-is_empty+else-is_empty-2, else-is_empty-via-else-is_empty}
+use Rattle.merkle_batch.proofs.MerkleizeFacts.{append_missing, batch_stands, changed_by_leaves, changed_by_updates, finished_linked, is_positive, named_given, named_refused, NamesMissing, none_is_missing, not_changed, of_fields, peak_missing, refresh_missing, same_peaks, some_entry}
+use Rattle.merkle_batch.proofs.PeakCounts.{as_many}
+use Rattle.merkle_batch.proofs.batch.UnmerkleizedBatch.compute.Goals.{After-deref-5, then-is_empty+then-is_empty-2+in_ok-peaks_after, else-is_empty+in_ok-read_peaks+in_ok-peaks_after-2, else-is_empty-via-then-is_empty+else-is_empty-2, else-is_empty-via-else-is_empty}
 use Rattle.merkle_batch.proofs.batch.UnmerkleizedBatch.compute.Goals as goal
 
 pub returns-in_err-refresh_leaves-clause-refused : goal.returns-in_err-refresh_leaves-clause-refused
@@ -104,7 +104,7 @@ returns-in_err-read_peaks-clause-refused g c =
     let d2 = c.append_leaves.new.self in
     let k0 : d0.kept ≡ kept b = c.in_ok-draft.ensures.kept ∙ ap (λ v. drop c.self.inside.forgotten v.ancestors ++ cond (is_changed v.own) (v.own ∷ []) []) c.deref.ensures in
     let b0 : d0.before ≡ size rule b.leaves_before = c.in_ok-draft.ensures.size ∙ ap (λ v. after v.own) c.deref.ensures ∙ sym c.self.invariant.sized in
-    let total : c.leaves-leaves.result ≡ leaf_total b = c.leaves-leaves.ensures ∙ sym (ap leaf_total c.self.view_is) in
+    let total : c.leaves-leaves.result ≡ leaf_total b = c.leaves-leaves.ensures.count ∙ sym (ap leaf_total c.self.view_is) in
     let changed : IsChanged rule (get b.overwritten) b.leaves_before (leaf_total b) = elim c.else-is_empty.branch [
       | else-is_empty-via-then-is_empty+else-is_empty-2 w ↦ (let some : 0 < length c.self.inside.updates.entries = search rules in changed_by_updates rule max b c.self.invariant (some_entry c.self.inside.updates.entries some))
       | else-is_empty-via-else-is_empty w ↦ (let some : 0 < c.self.inside.added.len = is_positive c.self.inside.added.len (sym c.is_empty.ensures ∙ w.if-is_empty.false) in changed_by_leaves rule max b (omega (arith, some, c.self.inside.added.ok)))
@@ -129,7 +129,7 @@ returns-in_err-read_peaks-clause-given g c = λ k ls stands agrees above.
     let d2 = c.append_leaves.new.self in
     let k0 : d0.kept ≡ kept b = c.in_ok-draft.ensures.kept ∙ ap (λ v. drop c.self.inside.forgotten v.ancestors ++ cond (is_changed v.own) (v.own ∷ []) []) c.deref.ensures in
     let b0 : d0.before ≡ size rule b.leaves_before = c.in_ok-draft.ensures.size ∙ ap (λ v. after v.own) c.deref.ensures ∙ sym c.self.invariant.sized in
-    let total : c.leaves-leaves.result ≡ leaf_total b = c.leaves-leaves.ensures ∙ sym (ap leaf_total c.self.view_is) in
+    let total : c.leaves-leaves.result ≡ leaf_total b = c.leaves-leaves.ensures.count ∙ sym (ap leaf_total c.self.view_is) in
     let changed : IsChanged rule (get b.overwritten) b.leaves_before (leaf_total b) = elim c.else-is_empty.branch [
       | else-is_empty-via-then-is_empty+else-is_empty-2 w ↦ (let some : 0 < length c.self.inside.updates.entries = search rules in changed_by_updates rule max b c.self.invariant (some_entry c.self.inside.updates.entries some))
       | else-is_empty-via-else-is_empty w ↦ (let some : 0 < c.self.inside.added.len = is_positive c.self.inside.added.len (sym c.is_empty.ensures ∙ w.if-is_empty.false) in changed_by_leaves rule max b (omega (arith, some, c.self.inside.added.ok)))
@@ -153,12 +153,32 @@ finish-requires g c =
     let more = c.append_leaves.ensures.only in
     let k0 : d0.kept ≡ kept b = c.in_ok-draft.ensures.kept ∙ ap (λ v. drop c.self.inside.forgotten v.ancestors ++ cond (is_changed v.own) (v.own ∷ []) []) c.deref.ensures in
     let b0 : d0.before ≡ after b.parent.own = c.in_ok-draft.ensures.size ∙ ap (λ v. after v.own) c.deref.ensures in
-    let total : c.leaves-leaves.result ≡ leaf_total b = c.leaves-leaves.ensures ∙ sym (ap leaf_total c.self.view_is) in
-    let linked : IsLinked rule max c.behind-self.inside.leaves b.parent = subst (IsLinked rule max c.behind-self.inside.leaves) (c.behind-self.view_is ∙ c.deref-3.ensures) c.behind-self.invariant in
+    let total : c.leaves-leaves.result ≡ leaf_total b = c.leaves-leaves.ensures.count ∙ sym (ap leaf_total c.self.view_is) in
+    let linked : IsLinked rule max b.parent = subst (IsLinked rule max) (c.behind-self.view_is ∙ c.deref-3.ensures) c.behind-self.invariant in
     let counted : size rule c.leaves-leaves.result ≡ d2.before + length d2.appended = ap (size rule) total ∙ ap (λ xs. size rule (c.self.inside.leaves_before + length xs)) (sym c.deref-2.ensures.value) ∙ sym c.in_ok-append_leaves.ensures.counted in
-    subst (λ v. IsLinked rule max c.leaves-leaves.result (finished v d2 (rc_slice_items c.in_ok-peaks_before.peaks_before) (rc_slice_items c.if-is_empty.peaks_after))) (sym c.deref-5.ensures)
-    (finished_linked rule max b c.behind-self.inside.leaves c.leaves-leaves.result d2 (rc_slice_items c.in_ok-peaks_before.peaks_before) (rc_slice_items c.if-is_empty.peaks_after) linked c.self.invariant.some
-    (more.1 ∙ only.1 ∙ k0) (more.0 ∙ only.0 ∙ b0) (omega (arith, total, c.self.invariant.bounded)) counted)
+    let pb = rc_slice_items c.in_ok-peaks_before.peaks_before in
+    let pa = rc_slice_items c.if-is_empty.peaks_after in
+    let before : pb ≡ b.parent.own.peaks_after = search rules in
+    let many : length pa ≡ length (peaks_of rule c.leaves-leaves.result) = elim c.if-is_empty.branch [
+      | then-is_empty+then-is_empty-2+in_ok-peaks_after w ↦ (let none : length c.self.inside.added.items ≡ 0 = search rules in
+          let copy : pa ≡ pb = ap rc_slice_items w.peaks_after-is ∙ (let s : rc_slice_items w.in_ok-peaks_after.peaks_after ≡ pb = search rules in s) in
+          same_peaks rule max b c.leaves-leaves.result pa c.self.invariant linked (nil_from_length c.self.inside.added.items none) total (copy ∙ before))
+      | else-is_empty+in_ok-read_peaks+in_ok-peaks_after-2 w ↦ (let made_of : pa ≡ w.in_ok-read_peaks.field-0.items = ap rc_slice_items w.peaks_after-is ∙ (let s : rc_slice_items w.in_ok-peaks_after-2.peaks_after ≡ w.in_ok-read_peaks.field-0.items = search rules in s) in
+          ap length made_of ∙ as_many (old_node d2 (g.B.Base.contents c.args.base.now)) d2.before d2.appended (g.H.Hasher.hashing c.args.hasher.now).empty rule c.leaves-leaves.result w.in_ok-read_peaks.field-0.items w.in_ok-read_peaks.ensures.right)
+    ] in
+    subst (λ v. IsLinked rule max (finished v d2 c.leaves-leaves.result pb pa)) (sym c.deref-5.ensures)
+    (finished_linked rule max b c.leaves-leaves.result d2 pb pa linked c.self.invariant.some (more.1 ∙ only.1 ∙ k0) (more.0 ∙ only.0 ∙ b0) (omega (arith, total, c.self.invariant.bounded)) counted many)
+
+pub returns-clause-counted : goal.returns-clause-counted
+returns-clause-counted g c =
+    let rule = g.F.Family.rule in
+    let end = c.in_ok-append_leaves.ensures.counted ∙ ap (λ xs. size rule (c.self.inside.leaves_before + length xs)) c.deref-2.ensures.value ∙ ap (λ s. size rule (leaf_total s)) c.self.view_is in
+    (ap (λ v. v.leaves) c.in_ok-finish.ensures ∙ c.leaves-leaves.ensures.count, ap (λ v. after v.own) c.in_ok-finish.ensures ∙ end)
+
+pub returns-clause-peaks : goal.returns-clause-peaks
+returns-clause-peaks g c =
+    let rule = g.F.Family.rule in
+    ap (λ v. length v.own.peaks_after) c.in_ok-finish.ensures ∙ (finish-requires g (goal.at.returns-clause-peaks g c).After-deref-5).peaks ∙ ap (λ (n : ℕ). length (peaks_of rule n)) c.leaves-leaves.ensures.count
 
 pub returns-clause-complete : goal.returns-clause-complete
 returns-clause-complete g c = λ t missing.
@@ -172,7 +192,7 @@ returns-clause-complete g c = λ t missing.
     let d2 = c.append_leaves.new.self in
     let k0 : d0.kept ≡ kept b = c.in_ok-draft.ensures.kept ∙ ap (λ v. drop c.self.inside.forgotten v.ancestors ++ cond (is_changed v.own) (v.own ∷ []) []) c.deref.ensures in
     let b0 : d0.before ≡ size rule b.leaves_before = c.in_ok-draft.ensures.size ∙ ap (λ v. after v.own) c.deref.ensures ∙ sym c.self.invariant.sized in
-    let total : c.leaves-leaves.result ≡ leaf_total b = c.leaves-leaves.ensures ∙ sym (ap leaf_total c.self.view_is) in
+    let total : c.leaves-leaves.result ≡ leaf_total b = c.leaves-leaves.ensures.count ∙ sym (ap leaf_total c.self.view_is) in
     let children : AreChildrenRead rule max d1.before (size rule (leaf_total b)) d1.before (old_node d1 base) =
     subst (λ xs. AreChildrenRead rule max d1.before (size rule (c.self.inside.leaves_before + length xs)) d1.before (old_node d1 base)) c.deref-2.ensures.value c.in_ok-append_leaves.ensures.read in
     let peaks : IsChanged rule (get b.overwritten) b.leaves_before (leaf_total b) → ArePeaksRead rule (leaf_total b) d2.before (old_node d2 base) = elim c.if-is_empty.branch [
@@ -197,7 +217,7 @@ returns-clause-stands g c = λ ls stands agrees.
     let more = c.append_leaves.ensures.only in
     let k0 : d0.kept ≡ kept b = c.in_ok-draft.ensures.kept ∙ ap (λ v. drop c.self.inside.forgotten v.ancestors ++ cond (is_changed v.own) (v.own ∷ []) []) c.deref.ensures in
     let b0 : d0.before ≡ size rule b.leaves_before = c.in_ok-draft.ensures.size ∙ ap (λ v. after v.own) c.deref.ensures ∙ sym c.self.invariant.sized in
-    let total : c.leaves-leaves.result ≡ leaf_total b = c.leaves-leaves.ensures ∙ sym (ap leaf_total c.self.view_is) in
+    let total : c.leaves-leaves.result ≡ leaf_total b = c.leaves-leaves.ensures.count ∙ sym (ap leaf_total c.self.view_is) in
     let counted : d2.before + length d2.appended ≡ size rule (leaf_total b) = c.in_ok-append_leaves.ensures.counted ∙ ap (λ xs. size rule (c.self.inside.leaves_before + length xs)) c.deref-2.ensures.value in
     let pb = rc_slice_items c.in_ok-peaks_before.peaks_before in
     let pa = rc_slice_items c.if-is_empty.peaks_after in
@@ -214,7 +234,7 @@ returns-clause-stands g c = λ ls stands agrees.
           (let made_of : pa ≡ w.in_ok-read_peaks.field-0.items = ap rc_slice_items w.peaks_after-is ∙ (let s : rc_slice_items w.in_ok-peaks_after-2.peaks_after ≡ w.in_ok-read_peaks.field-0.items = search rules in s) in
           made_of ∙ w.in_ok-read_peaks.ensures.right truth reads made ∙ ap (λ (n : ℕ). map truth (peak_positions rule n)) total))
     ] in
-    let made : c.in_ok-finish.field-0.value ≡ finished b.parent d2 pb pa = c.in_ok-finish.ensures ∙ ap (λ v. finished v d2 pb pa) c.deref-5.ensures in
-    subst (λ v. StandsOn h rule (records v) (kept_lists c.args.self.now ls ++ pending_list rule c.args.self.now (last_list ls) ∷ [])) (sym (made ∙ ap (λ s. finished s.parent d2 pb pa) c.self.view_is))
-    (subst (λ s. StandsOn h rule (records s.parent) ls → AgreesWithOne h rule base (kept_lists s ls) → StandsOn h rule (records (finished s.parent d2 pb pa)) (kept_lists s ls ++ pending_list rule s (last_list ls) ∷ [])) c.self.view_is
-    (λ st ag. batch_stands h rule max b c.self.invariant base d0 d1 d2 k0 b0 c.refresh_leaves.ensures.only more c.in_ok-refresh_leaves.ensures.computed c.in_ok-refresh_leaves.ensures.refreshed ls st ag counted right pb pa before peaks) stands agrees)
+    let made : c.in_ok-finish.field-0.value ≡ finished b.parent d2 c.leaves-leaves.result pb pa = c.in_ok-finish.ensures ∙ ap (λ v. finished v d2 c.leaves-leaves.result pb pa) c.deref-5.ensures in
+    subst (λ v. StandsOn h rule (records v) (kept_lists c.args.self.now ls ++ pending_list rule c.args.self.now (last_list ls) ∷ [])) (sym (made ∙ ap (λ s. finished s.parent d2 c.leaves-leaves.result pb pa) c.self.view_is))
+    (subst (λ s. StandsOn h rule (records s.parent) ls → AgreesWithOne h rule base (kept_lists s ls) → StandsOn h rule (records (finished s.parent d2 c.leaves-leaves.result pb pa)) (kept_lists s ls ++ pending_list rule s (last_list ls) ∷ [])) c.self.view_is
+    (λ st ag. batch_stands h rule max b c.self.invariant base d0 d1 d2 k0 b0 c.refresh_leaves.ensures.only more c.in_ok-refresh_leaves.ensures.computed c.in_ok-refresh_leaves.ensures.refreshed ls st ag counted right c.leaves-leaves.result pb pa before peaks) stands agrees)

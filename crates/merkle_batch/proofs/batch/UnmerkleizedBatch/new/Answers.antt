@@ -1,8 +1,7 @@
-use Rattle.std.proofs.Common.{◌≡◌, None, length, arith, sym, ap, ◌∙◌}
+use Rattle.std.proofs.Common.{◌≡◌, None, length, arith, ap, ◌∙◌}
 use Rattle.std.specs.Prelude.{is_some}
 use Rattle.std.specs.FinMap.{from_entries, get, get-empty}
 use Rattle.std.specs.Ordering.{nat_cmp}
-use Rattle.merkle_base.proofs.Nodes.{size_inj}
 use Rattle.merkle_batch_theory.specs.Recorded.{after}
 use Rattle.merkle_batch.proofs.batch.UnmerkleizedBatch.new.Goals as goal
 
@@ -17,7 +16,6 @@ invariant_of-result g c = record {
 }
 
 pub returns : goal.returns
-returns g c = λ n within sized.
-    let rule = g.F.Family.rule in
-    let same : c.leaves-leaves_before.result ≡ n = size_inj rule c.leaves-leaves_before.result n (c.leaves-leaves_before.ensures.sized ∙ ap (λ b. after b.own) c.deref-2.ensures ∙ sym sized) in
+returns g c =
+    let same : c.leaves-leaves_before.result ≡ c.args.parent.value.leaves = c.leaves-leaves_before.ensures.count ∙ ap (λ b. b.leaves) c.deref-2.ensures in
     λ i. record { parent = c.args.parent.value; leaves_before = same i; added = c.new.ensures.items i; overwritten = from_entries {R = nat_cmp} (c.new-2.ensures.empty i); forgotten = 0 }

@@ -3,9 +3,9 @@ use Rattle.std.proofs.lemmas.List.{at_drop_all}
 use Rattle.std.specs.Prelude.{nat_le, nat_lt}
 use Rattle.std.specs.Option.{option_or}
 use Rattle.merkle_base.specs.Forest.{size}
-use Rattle.merkle_batch_theory.specs.Pending.{OutOfBounds, Pruned, first_fault, leaf_total, update_fault, with_update, with_updates}
+use Rattle.merkle_batch_theory.specs.Pending.{OutOfBounds, Pruned, first_fault, leaf_total, pending_list, update_fault, with_update, with_updates}
 use Rattle.merkle_batch_theory.specs.Refusals.{fault_error}
-use Rattle.merkle_batch_theory.proofs.PendingUpdates.{fault_next, updates_next, total_kept, parent_kept}
+use Rattle.merkle_batch_theory.proofs.PendingUpdates.{fault_next, updates_next, total_kept, parent_kept, updates_list}
 use Rattle.merkle_batch.proofs.batch.UnmerkleizedBatch.update_leaf_batched.Goals as goal
 use Rattle.merkle_batch_theory.proofs.OptionFacts.{both_none}
 
@@ -42,6 +42,11 @@ pub returns-clause-updated : goal.returns-clause-updated
 returns-clause-updated g c =
     let us = c.args.updates.now in
     sym (c.loop-location-2.invariant.0 ∙ at_drop_all (with_updates g.F.Family.rule c.loop-location-2.self) us c.loop-location-2.location-index c.loop-location-2-test.false)
+
+pub returns-clause-edited : goal.returns-clause-edited
+returns-clause-edited g c = λ X long.
+    let rule = g.F.Family.rule in
+    ap (λ b. pending_list rule b X) (returns-clause-updated g c) ∙ updates_list rule c.args.self c.args.updates.now X long
 
 pub returns-in-Err-clause-refused : goal.returns-in-Err-clause-refused
 returns-in-Err-clause-refused g c = λ fault is.

@@ -1,6 +1,7 @@
-use Rattle.std.proofs.Common.{◌≡◌, [], ◌∷◌, length, arith, sym, ◌∙◌, subst}
+use Rattle.std.proofs.Common.{◌≡◌, ℕ, [], ◌∷◌, length, sym, ◌∙◌, subst}
 use Rattle.merkle_base.proofs.Nodes.{size_inj}
 use Rattle.merkle_batch_theory.specs.Recorded.{records}
+use Rattle.merkle_batch_theory.specs.Roots.{root_batch}
 use Rattle.merkle_batch_theory.specs.Stands.{StandsOn}
 use Rattle.merkle_batch_theory.proofs.RootBatch.{root_stands}
 use Rattle.merkle_batch.proofs.merkleized.MerkleizedBatch.from_mem.Goals as goal
@@ -8,6 +9,7 @@ use Rattle.merkle_batch.proofs.merkleized.MerkleizedBatch.from_mem.Goals as goal
 pub returns-clause-of_list : goal.returns-clause-of_list
 returns-clause-of_list g c = λ h X agrees.
     let rule = g.F.Family.rule in
-    let leaves : c.leaves-leaves.result ≡ length X = size_inj rule c.leaves-leaves.result (length X) (c.leaves-leaves.ensures.sized ∙ agrees.sized) in
-    subst (λ b. StandsOn h rule (records b) (X ∷ X ∷ [])) (sym (c.in_ok-without_changes.ensures (length X) (omega (arith, leaves, c.leaves-leaves.ensures.bounded)) (sym agrees.sized)))
-    (root_stands h rule (g.B.Base.contents c.args.base.now) X agrees)
+    let base = g.B.Base.contents c.args.base.now in
+    let leaves : length X ≡ g.B.Base.leaves c.args.base.now = size_inj rule (length X) (g.B.Base.leaves c.args.base.now) (sym agrees.sized ∙ sym c.in_ok-without_changes.ensures.sized) in
+    subst (λ b. StandsOn h rule (records b) (X ∷ X ∷ [])) (sym c.in_ok-without_changes.ensures.root)
+    (subst (λ (n : ℕ). StandsOn h rule (records (root_batch rule n base)) (X ∷ X ∷ [])) leaves (root_stands h rule base X agrees))
