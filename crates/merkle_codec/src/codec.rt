@@ -36,6 +36,11 @@ pub trait Write: EncodeSize {
 }
 
 /// What can be read from the front of bytes.
+///
+/// A type states both: which values are `within` a limit, and with which error it `refuses` which bytes. The laws alone
+/// leave room for a reader that refuses everything: refused bytes spell no value within the limit, which says nothing where
+/// no value is, and want of memory says nothing of the bytes. So a type that has no limit has all values within, and one
+/// that requests no memory never refuses with `OutOfMemory`.
 pub trait Read: Sized {
     ghost use Rattle.merkle_base.specs.declared.error.DecodeError.{DecodeError};
 
