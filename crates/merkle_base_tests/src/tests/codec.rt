@@ -1,3 +1,6 @@
+ghost use Rattle.std.specs.Prelude.{IfErr, IsOk};
+ghost use Rattle.merkle_codec.specs.Spelling.{IsOptionRefusal};
+
 use merkle_base::error::DecodeError;
 use merkle_codec::codec::{EncodeSize, Read, Write};
 use merkle_codec::pending::{PendingChunk, Unused};
@@ -89,17 +92,38 @@ fn spellings(rt: HostRuntime) -> Result<(), Fail> {
     Ok(())
 }
 
+/// What a caller knows of an option of a digest: each refusal says what is wrong with the bytes.
+fn read_option<D: Digest>(alloc: Global, input: &mut &[u8]) -> Result<Option<D>, DecodeError>
+    ensures { IfErr result (λ e. IsOptionRefusal D.SIZE D.Spells input.old.now e) }
+{
+    Option::<D>::read(alloc, input, &())
+}
+
+/// What a caller knows of an `Unused`: it is always read.
+fn read_unused(alloc: Global, input: &mut &[u8]) -> Result<Unused, DecodeError>
+    ensures { IsOk result }
+{
+    Unused::read(alloc, input, &())
+}
+
+#[test]
+fn unused_chunks(rt: HostRuntime) {
+    let bytes: [u8; 2] = [1, 7];
+    let mut input: &[u8] = &bytes;
+    assert!(rt; read_unused(rt.alloc(), &mut input).is_ok() && input == [1, 7].as_slice());
+}
+
 /// Whether bytes are refused as too few, and the slice stays.
 fn is_cut_short<D: Digest>(alloc: Global, bytes: &[u8]) -> bool {
     let mut input = bytes;
-    let read = Option::<D>::read(alloc, &mut input, &());
+    let read = read_option::<D>(alloc, &mut input);
     matches!(read, Err(DecodeError::EndOfBuffer)) && input == bytes
 }
 
 /// Whether bytes are refused as no spelling, and the slice stays.
 fn is_invalid<D: Digest>(alloc: Global, bytes: &[u8]) -> bool {
     let mut input = bytes;
-    let read = Option::<D>::read(alloc, &mut input, &());
+    let read = read_option::<D>(alloc, &mut input);
     matches!(read, Err(DecodeError::Invalid)) && input == bytes
 }
 
