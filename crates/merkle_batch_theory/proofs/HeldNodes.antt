@@ -1,5 +1,5 @@
 -- The nodes that are held, read at a position and after a change.
-use Rattle.std.proofs.Common.{◌≡◌, ℕ, ◌+◌, ◌-◌, ◌<◌, ◌≤◌, List, [], ◌++◌, length, drop, true, false, Bool, Option, Some, None, cond, arith, refl, sym, ap, ◌∙◌, inl, inr, reverse, nat_eq, slice_set}
+use Rattle.std.proofs.Common.{◌≡◌, ℕ, ◌+◌, ◌-◌, ◌<◌, ◌≤◌, List, ◌++◌, length, drop, true, false, Bool, Option, Some, None, cond, arith, refl, sym, ap, ◌∙◌, inl, inr, reverse, nat_eq, slice_set}
 use Rattle.std.specs.Prelude.{◌==◌, nat_lt, slice_get}
 use Rattle.std.specs.List.{list_any}
 use Rattle.std.specs.FinMap.{get, get-empty}
@@ -13,10 +13,11 @@ use Rattle.merkle_base.specs.Heights.{IsLawful}
 use Rattle.merkle_base.specs.Places.{peak_positions}
 use Rattle.merkle_base.proofs.Cases.{by_test}
 use Rattle.merkle_base.proofs.Lists.{get_below}
-use Rattle.merkle_base.proofs.Lookup.{get_append_add, peak_node, size_zero}
+use Rattle.merkle_base.proofs.Lookup.{get_append_add, peak_node}
 use Rattle.merkle_base.proofs.Nodes.{size_le, size_lt}
-use Rattle.merkle_batch_theory.specs.Held.{PinsBefore}
-use Rattle.merkle_batch_theory.specs.Store.{Store, contents, stored_of, whole_store}
+use Rattle.merkle_batch_theory.specs.Contents.{HoldsKept}
+use Rattle.merkle_batch_theory.specs.Held.{Held, PinsBefore, held_contents}
+use Rattle.merkle_batch_theory.specs.Store.{Store, contents, stored_of, no_leaves}
 use Rattle.merkle_batch_theory.specs.Whole.{IsCounted, IsKept}
 use Rattle.merkle_batch_theory.specs.Replay.{over}
 use Rattle.merkle_batch_theory.proofs.Chains.{same_contents}
@@ -26,11 +27,11 @@ use Rattle.merkle_batch_theory.proofs.Kept.{get_mapped}
 use Rattle.merkle_batch_theory.proofs.Stored.{held_before, held_from}
 
 -- at position p: a pin before the start, and one of the nodes from it on
-abbrev stored_at : {D : Type 0} → List (ℕ × D) → ℕ → List D → ℕ → Option D
+abbrev pub stored_at : {D : Type 0} → List (ℕ × D) → ℕ → List D → ℕ → Option D
 stored_at pins start nodes p = cond (nat_lt p start) (lookup (λ q. p == q) pins) (slice_get nodes (p - start))
 
 -- what is held at a position, read off the pins and the nodes
-stored_reads : {D : Type 0} (pins : List (ℕ × D)) (start : ℕ) (nodes : List D) → PinsBefore start pins → (p : ℕ) → get (stored_of pins start nodes) p ≡ stored_at pins start nodes p
+pub stored_reads : {D : Type 0} (pins : List (ℕ × D)) (start : ℕ) (nodes : List D) → PinsBefore start pins → (p : ℕ) → get (stored_of pins start nodes) p ≡ stored_at pins start nodes p
 stored_reads pins start nodes before p = elim (cases_lt p start) [
   | inl h ↦ rw (lt-ltb p start h) (held_before pins start nodes p h)
   | inr h ↦ rw (le-ltb p start h) (held_from pins start nodes p h (before p h))
@@ -111,28 +112,30 @@ pub counted_nodes : (rule : List ℕ → List ℕ) (max_leaves max_nodes leaves 
 counted_nodes rule max_leaves max_nodes leaves n law k = omega (arith, size_le rule leaves max_leaves k.bounded, k.sized, law.full)
 
 -- the boundary is not past the leaves where its position is not past the nodes
-pub kept_counted : (rule : List ℕ → List ℕ) (max_leaves boundary leaves start nodes : ℕ) → IsCounted rule max_leaves leaves nodes → start ≡ size rule boundary → start ≤ nodes → IsKept rule max_leaves boundary leaves start nodes
-kept_counted rule max_leaves boundary leaves start nodes counted starts l = record {
+pub kept_counted : {D : Type 0} (rule : List ℕ → List ℕ) (max_leaves boundary leaves : ℕ) (held : Held D) → IsCounted rule max_leaves leaves held.size → held.start ≡ size rule boundary → held.start ≤ held.size
+    → HoldsKept rule (held_contents boundary held) → IsKept rule max_leaves boundary leaves held
+kept_counted rule max_leaves boundary leaves held counted starts l holds = record {
   starts = starts;
   within = elim (cases_lt leaves boundary) [ inl h ↦ absurd (omega (arith, size_lt rule leaves boundary h, counted.sized, starts, l)) | inr h ↦ h ];
   counted = counted;
+  holds = holds;
 }
 
 -- the peaks of b leaves stand before the position of leaf b
+pub peak_below : (rule : List ℕ → List ℕ) (b i p : ℕ) → slice_get (peak_positions rule b) i ≡ Some p → p < size rule b
+peak_below rule b i p e =
+    let m = get_mapped position (reverse (forest rule b).peaks) i p e in
+    let j = get_reversed (forest rule b).peaks i m.0 m.1 in
+    omega (arith, m.2, get_below (forest rule b).nodes (position m.0) m.0 (peak_node rule b j.0 m.0 j.1))
+
 peak_before : (rule : List ℕ → List ℕ) (b p : ℕ) → list_any (nat_eq p) (peak_positions rule b) ≡ true → p < size rule b
 peak_before rule b p e =
     let k = any_find (nat_eq p) (peak_positions rule b) e in
-    let m = get_mapped position (reverse (forest rule b).peaks) k.0 k.1 k.2 in
-    let j = get_reversed (forest rule b).peaks k.0 m.0 m.1 in
-    omega (arith, eqb-true p k.1 k.3, m.2, get_below (forest rule b).nodes (position m.0) m.0 (peak_node rule b j.0 m.0 j.1))
+    omega (arith, eqb-true p k.1 k.3, peak_below rule b k.0 k.1 k.2)
 
 pub no_peak_from : (rule : List ℕ → List ℕ) (b p : ℕ) → size rule b ≤ p → list_any (nat_eq p) (peak_positions rule b) ≡ false
 no_peak_from rule b p l = by_test (λ t. t ≡ false) (list_any (nat_eq p) (peak_positions rule b)) (λ e. absurd (omega (arith, peak_before rule b p e, l))) (λ _. refl)
 
 -- ---- a structure of no leaves
-pub kept_none : (rule : List ℕ → List ℕ) (max_leaves boundary leaves start nodes : ℕ) → boundary ≡ 0 → leaves ≡ 0 → start ≡ 0 → nodes ≡ 0 → IsKept rule max_leaves boundary leaves start nodes
-kept_none rule max_leaves boundary leaves start nodes b l s n =
-    kept_counted rule max_leaves boundary leaves start nodes (record { bounded = omega (arith, l); sized = ap (size rule) l ∙ size_zero rule ∙ sym n }) (s ∙ sym (ap (size rule) b ∙ size_zero rule)) (omega (arith, s))
-
-pub contents_none : {D : Type 0} (s : Store D) → s ≡ whole_store [] 0 → contents s ≡ record { boundary = 0; size = 0; node = λ p. None }
-contents_none s e = ap contents e ∙ same_contents (contents (whole_store [] 0)) (record { boundary = 0; size = 0; node = λ p. None }) refl refl (λ p. get-empty nat_cmp p)
+pub contents_none : {D : Type 0} (s : Store D) → s ≡ no_leaves → contents s ≡ record { boundary = 0; size = 0; node = λ p. None }
+contents_none s e = ap contents e ∙ same_contents (contents no_leaves) (record { boundary = 0; size = 0; node = λ p. None }) refl refl (λ p. get-empty nat_cmp p)

@@ -34,3 +34,6 @@ pub mod NewestFirst
 pub mod RootBatch
 pub mod PendingUpdates
 pub mod PinFacts
+pub mod HeldWhere
+pub mod HonestComponents
+pub mod AppliedRows

@@ -19,7 +19,7 @@ use Rattle.merkle_batch_theory.proofs.Kept.{kept_from}
 use Rattle.merkle_batch_theory.proofs.OptionFacts.{none_of}
 
 -- as many digests as positions: a pin at each of these
-lookup_paired : {D : Type 0} (p : ℕ) (ps : List ℕ) (ds : List D) → length ds ≡ length ps → is_some (lookup (nat_eq p) (paired ps ds)) ≡ list_any (nat_eq p) ps
+pub lookup_paired : {D : Type 0} (p : ℕ) (ps : List ℕ) (ds : List D) → length ds ≡ length ps → is_some (lookup (nat_eq p) (paired ps ds)) ≡ list_any (nat_eq p) ps
 lookup_paired p [] ds e = refl
 lookup_paired p (q ∷ ps) [] e = absurd (omega (arith, e))
 lookup_paired p (q ∷ ps) (d ∷ ds) e =

@@ -4,14 +4,16 @@ use Rattle.std.specs.Prelude.{◌&&◌, ◌==◌}
 use Rattle.std.specs.Cmp.Lexicographic.{pointwise}
 use Rattle.std.proofs.lemmas.Bool.{eqb-true, and_parts}
 use Rattle.std.proofs.lemmas.List.{length-map, take_all}
+use Rattle.merkle_base.specs.Forest.{size}
 use Rattle.merkle_base.proofs.Nodes.{size_le}
-use Rattle.merkle_batch_theory.specs.Contents.{Contents, held_peaks}
-use Rattle.merkle_batch_theory.specs.Held.{total_appended}
+use Rattle.merkle_batch_theory.specs.Contents.{Contents, HoldsKept, held_peaks}
+use Rattle.merkle_batch_theory.specs.Held.{Held, held_contents, total_appended}
 use Rattle.merkle_batch_theory.specs.Linked.{IsLinked, RunsFrom}
 use Rattle.merkle_batch_theory.specs.Recorded.{Recorded, Chain, after, records}
 use Rattle.merkle_batch_theory.specs.Replay.{laid, all_laid, last_match, begins_at, ends_at, oldest, matched, applied}
 use Rattle.merkle_batch_theory.specs.Whole.{IsCounted, IsKept}
 use Rattle.merkle_batch_theory.proofs.HeldNodes.{kept_counted}
+use Rattle.merkle_batch_theory.proofs.HeldWhere.{all_laid_held}
 use Rattle.merkle_base.proofs.Cases.{by_test}
 
 same_size : (n m : ℕ) (b : Bool) → (n == m) && b ≡ true → n ≡ m
@@ -82,19 +84,27 @@ module _ {D X : Type 0} (rule : List ℕ → List ℕ) (max_leaves : ℕ) (same 
   pub total_laid : n + (total_appended kept_part + length c.own.appended) ≡ after c.own
   total_laid = omega (arith, (found same n peaks c first linked.runs m).1, ap total_appended laid_records, total_last kept_part c.own)
 
-  module _ (boundary held start before mid now : ℕ) (kept : IsKept rule max_leaves boundary held start before) (sized : n ≡ before) (laid1 : mid ≡ before + total_appended kept_part) (laid2 : now ≡ mid + length c.own.appended) where
-    nodes_after : now ≡ after c.own
-    nodes_after = omega (arith, total_laid, sized, laid1, laid2)
+  -- what the records give one after another they give together
+  all_records : (old mid new : Contents D) → mid ≡ all_laid kept_part old → new ≡ laid c.own mid → new ≡ all_laid (drop first (records c)) old
+  all_records old mid new laid1 laid2 = laid2 ∙ ap (laid c.own) laid1 ∙ sym (all_last kept_part c.own old) ∙ sym (ap (λ rs. all_laid rs old) laid_records)
 
-    counted_after : IsCounted rule max_leaves c.leaves now
+  module _ (boundary leaves_before : ℕ) (old mid new : Held D) (kept : IsKept rule max_leaves boundary leaves_before old) (sized : n ≡ old.size)
+      (start : new.start ≡ old.start) (size1 : mid.size ≡ old.size + total_appended kept_part) (size2 : new.size ≡ mid.size + length c.own.appended)
+      (laid1 : held_contents boundary mid ≡ all_laid kept_part (held_contents boundary old)) (laid2 : held_contents boundary new ≡ laid c.own (held_contents boundary mid)) where
+    nodes_after : new.size ≡ after c.own
+    nodes_after = omega (arith, total_laid, sized, size1, size2)
+
+    counted_after : IsCounted rule max_leaves c.leaves new.size
     counted_after = record { bounded = linked.counted.bounded; sized = linked.counted.sized ∙ sym nodes_after }
 
-    -- what holds of the counts holds after the records are laid
-    pub kept_after : IsKept rule max_leaves boundary c.leaves start now
-    kept_after = kept_counted rule max_leaves boundary c.leaves start now counted_after kept.starts (omega (arith, kept.starts, size_le rule boundary held kept.within, kept.counted.sized, laid1, laid2))
+    -- what holds of the nodes held holds after the records are laid
+    pub kept_after : IsKept rule max_leaves boundary c.leaves new
+    kept_after =
+        let within : size rule boundary ≤ old.size = omega (arith, size_le rule boundary leaves_before kept.within, kept.counted.sized) in
+        kept_counted rule max_leaves boundary c.leaves new counted_after (start ∙ kept.starts) (omega (arith, start, kept.starts, within, size1, size2))
+        (subst (HoldsKept rule) (sym (all_records (held_contents boundary old) (held_contents boundary mid) (held_contents boundary new) laid1 laid2))
+        (all_laid_held rule (drop first (records c)) (held_contents boundary old) within kept.holds))
 
   -- and the batch is applied
   pub applied_after : (k : ℕ) (old mid new : Contents D) → mid ≡ all_laid kept_part old → new ≡ laid c.own mid → matched same old.size (held_peaks rule k old) c ≡ Some first → applied same rule k c old ≡ Ok new
-  applied_after k old mid new laid1 laid2 at =
-      let laid3 : new ≡ all_laid (drop first (records c)) old = laid2 ∙ ap (laid c.own) laid1 ∙ sym (all_last kept_part c.own old) ∙ sym (ap (λ rs. all_laid rs old) laid_records) in
-      rw (applied, at) (ap Ok (sym laid3))
+  applied_after k old mid new laid1 laid2 at = rw (applied, at) (ap Ok (sym (all_records old mid new laid1 laid2)))

@@ -3,7 +3,7 @@ use Rattle.std.specs.Prelude.{◌≡◌, ℕ, List, length, Some, slice_get}
 use Rattle.merkle_base.specs.Tree.{Tree, join}
 use Rattle.merkle_base.specs.Forest.{forest}
 use Rattle.merkle_base.specs.Hashing.{Hashing}
-use Rattle.merkle_base.specs.Digests.{digest_at, peak_digests}
+use Rattle.merkle_base.specs.Digests.{digest_at}
 
 pub record CollideAt {D : Type 0} (h : Hashing D) (X Y : List D) (p : ℕ) (l r : Tree) : Type 0 where
   pub one_digest : h.node p (digest_at h X l) (digest_at h X r) ≡ h.node p (digest_at h Y l) (digest_at h Y r)
@@ -12,8 +12,3 @@ pub record CollideAt {D : Type 0} (h : Hashing D) (X Y : List D) (p : ℕ) (l r 
 -- X and Y, of one length, collide at a node of their forest
 abbrev pub Collide : {D : Type 0} → Hashing D → (List ℕ → List ℕ) → List D → List D → Type 0
 Collide h rule X Y = (p : ℕ) × (l r : Tree) × (slice_get (forest rule (length X)).nodes p ≡ Some (join p l r)) × CollideAt h X Y p l r
-
--- X and one of the lists have one length and the same peak digests, and collide at a node
-abbrev pub CollidesWithOne : {D : Type 0} → Hashing D → (List ℕ → List ℕ) → List D → List (List D) → Type 0
-CollidesWithOne {D} h rule X ls =
-    (i : ℕ) × (Z : List D) × (slice_get ls i ≡ Some Z) × (length X ≡ length Z) × (peak_digests h rule X ≡ peak_digests h rule Z) × Collide h rule X Z

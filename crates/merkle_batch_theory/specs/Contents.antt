@@ -1,5 +1,5 @@
 -- What a `Mem` is to its callers, when it agrees with a list, and what pruning keeps of it.
-use Rattle.std.specs.Prelude.{◌≡◌, ℕ, ◌≤◌, List, length, Bool, Option, Some, None, cond, nat_lt, nat_le, ◌||◌, ◌==◌, slice_get, flat_map}
+use Rattle.std.specs.Prelude.{◌≡◌, ℕ, ◌≤◌, List, length, Bool, Option, Some, None, is_some, cond, nat_lt, nat_le, ◌||◌, ◌&&◌, ◌==◌, slice_get, flat_map}
 use Rattle.std.specs.List.{list_any}
 use Rattle.std.specs.Option.{option_to_list}
 use Rattle.merkle_base.specs.Forest.{size}
@@ -18,6 +18,10 @@ pub record Contents (D : Type 0) : Type 0 where
 -- whether position p is kept when all before location b is pruned: it stands at b or after it, or is a peak of b leaves
 abbrev pub is_kept : (List ℕ → List ℕ) → ℕ → ℕ → Bool
 is_kept rule b p = nat_le (size rule b) p || list_any (λ q. p == q) (peak_positions rule b)
+
+-- it holds a node exactly where the position is below its size and kept at its boundary
+abbrev pub HoldsKept : {D : Type 0} → (List ℕ → List ℕ) → Contents D → Type 0
+HoldsKept rule c = (p : ℕ) → is_some (c.node p) ≡ nat_lt p c.size && is_kept rule c.boundary p
 
 -- it has the leaves of X and holds exactly the kept positions, each with its digest
 pub record Agrees {D : Type 0} (h : Hashing D) (rule : List ℕ → List ℕ) (c : Contents D) (X : List D) : Type 0 where

@@ -19,3 +19,5 @@ pub mod Missing
 pub mod Linked
 pub mod Roots
 pub mod Held
+pub mod Applying
+pub mod Components

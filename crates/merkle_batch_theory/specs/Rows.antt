@@ -56,6 +56,14 @@ change = record { before = 8; peaks_before = 3 ∷ 2 ∷ []; appended = []; over
 abbrev pub exchange : Recorded ℕ
 exchange = record { before = 3; peaks_before = 0 ∷ []; appended = []; overwritten = from_entries ((0, 3) ∷ (1, 1) ∷ (2, 0) ∷ []); peaks_after = 0 ∷ [] }
 
+-- a batch of that record alone
+abbrev pub exchanging : Chain ℕ
+exchanging = record { base_size = 3; boundary = 0; ancestors = []; own = exchange; leaves = 2 }
+
+-- and the structure after it
+abbrev pub two_exchanged : Contents ℕ
+two_exchanged = record { boundary = 0; size = 3; node = slice_get (3 ∷ 1 ∷ 0 ∷ []) }
+
 -- a third leaf
 abbrev pub addition : Recorded ℕ
 addition = record { before = 3; peaks_before = 0 ∷ []; appended = 7 ∷ []; overwritten = empty; peaks_after = 0 ∷ 7 ∷ [] }

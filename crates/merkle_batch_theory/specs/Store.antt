@@ -1,13 +1,15 @@
 -- What a `Mem` is to its callers: where it was pruned to, how many nodes it counts, and which it holds.
 use Rattle.std.specs.Prelude.{ℕ, ◌+◌, List, [], ◌∷◌, ◌++◌, Option, refl}
 use Rattle.std.specs.Ordering.{nat_cmp}
-use Rattle.std.specs.FinMap.{FinMap, get, code, from_entries}
+use Rattle.std.specs.FinMap.{FinMap, get, code, empty, from_entries}
 use Rattle.std.specs.Coded.{Coded, code_by, coded×, coded_ℕ}
 use Rattle.merkle_batch_theory.specs.Contents.{Contents}
 
 pub record Store (D : Type 0) : Type 0 where
-  -- the leaf location that it was pruned to
+  -- the location that it was pruned to
   pub boundary : ℕ
+  -- the number of leaves, the pruned ones counted
+  pub leaves : ℕ
   -- the number of nodes, the pruned ones counted
   pub size : ℕ
   -- the nodes held, by position
@@ -15,7 +17,10 @@ pub record Store (D : Type 0) : Type 0 where
 
 abbrev pub store_code : {D : Type 0} → Coded D → Coded (Store D)
 store_code d =
-    code_by _ (coded× coded_ℕ (coded× coded_ℕ (code coded_ℕ d))) (λ s. (s.boundary, (s.size, s.stored))) (λ p. record { boundary = p.0; size = p.1.0; stored = p.1.1 }) (λ _. refl)
+    code_by _ (coded× coded_ℕ (coded× coded_ℕ (coded× coded_ℕ (code coded_ℕ d))))
+    (λ s. (s.boundary, (s.leaves, (s.size, s.stored))))
+    (λ p. record { boundary = p.0; leaves = p.1.0; size = p.1.1.0; stored = p.1.1.1 })
+    (λ _. refl)
 
 -- the node at position p, if it is held
 abbrev pub node : {D : Type 0} → Store D → ℕ → Option D
@@ -34,6 +39,6 @@ numbered n (d ∷ ds) = (n, d) ∷ numbered (n + 1) ds
 abbrev pub stored_of : {D : Type 0} → List (ℕ × D) → ℕ → List D → FinMap nat_cmp D
 stored_of pins start nodes = from_entries (pins ++ numbered start nodes)
 
--- all nodes held
-abbrev pub whole_store : {D : Type 0} → List D → (size : ℕ) → Store D
-whole_store nodes size = record { boundary = 0; size = size; stored = stored_of [] 0 nodes }
+-- the structure of no leaves
+abbrev pub no_leaves : {D : Type 0} → Store D
+no_leaves = record { boundary = 0; leaves = 0; size = 0; stored = empty }

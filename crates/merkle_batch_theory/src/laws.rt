@@ -9,7 +9,11 @@ ghost use Rattle.merkle_base.specs.Tree.{Tree, leaf, join, position, height, IsU
 ghost use Rattle.merkle_base.specs.Forest.{forest, size};
 ghost use Rattle.merkle_base.specs.Hashing.{Hashing, TellsApart};
 ghost use Rattle.merkle_base.specs.Digests.{node_digests, peak_digests};
-ghost use Rattle.merkle_batch_theory.specs.Contents.{Contents, Agrees, is_kept, pruned, held_peaks};
+ghost use Rattle.merkle_base.specs.Places.{peak_positions};
+ghost use Rattle.merkle_batch_theory.specs.Contents.{Contents, Agrees, HoldsKept, is_kept, pruned, held_peaks};
+ghost use Rattle.merkle_batch_theory.specs.Components.{AreComponents, made_of};
+ghost use Rattle.merkle_batch_theory.specs.Store.{contents, no_leaves};
+ghost use Rattle.merkle_batch_theory.specs.Applying.{IsAppliedTo};
 ghost use Rattle.merkle_batch_theory.specs.Pending.{Pending, OutOfBounds, Pruned, kept, kept_lists, pending_list, update_fault, first_fault, forked, with_entries, with_updates, without_ancestors};
 ghost use Rattle.merkle_batch_theory.specs.Recorded.{Recorded, Chain, records, after};
 ghost use Rattle.merkle_batch_theory.specs.Replay.{laid, all_laid, matched, applied};
@@ -24,7 +28,7 @@ ghost use Rattle.std.specs.List.{range_with_len};
 ghost use Rattle.merkle_base.specs.Root.{list_root};
 ghost use Rattle.merkle_base.specs.declared.family.Bagging.TheVariants.{ForwardFold, BackwardFold};
 ghost use Rattle.merkle_forest_theory.specs.Mmr.{carries};
-ghost use Rattle.merkle_batch_theory.specs.Rows.{xor, first_record, second_record, second_batch, nothing, one, two, at_two, five, change, exchange, addition, exchanged_batch, fourth, over_exchange, over_pruned};
+ghost use Rattle.merkle_batch_theory.specs.Rows.{xor, first_record, second_record, second_batch, nothing, one, two, at_two, five, change, exchange, exchanging, two_exchanged, addition, exchanged_batch, fourth, over_exchange, over_pruned};
 ghost use Rattle.merkle_batch_theory.specs.Replay.{refusal, AncestorDropped, StaleBatch};
 ghost use Rattle.merkle_batch_theory.specs.Roots.{root_batch};
 
@@ -40,6 +44,22 @@ pub fn agreement<D>()
     ensures pruned { (h : Hashing D) → (rule : List ℕ → List ℕ) → (b : ℕ) → (X : List D) → (c : Contents D) → b ≤ length X → Agrees h rule c X → Agrees h rule (pruned rule b c) X }
 {}
 
+/// A structure holds exactly the kept positions, whatever was pruned and applied, and as many peaks as its forest has.
+pub fn holding<D>()
+    ensures none { (rule : List ℕ → List ℕ) → HoldsKept rule (contents (no_leaves {D = D})) }
+    ensures made { (rule : List ℕ → List ℕ) → (b n : ℕ) → (pins nodes : List D) → length pins ≡ length (peak_positions rule b) → HoldsKept rule (contents (made_of rule b n pins nodes)) }
+    ensures pruned { (rule : List ℕ → List ℕ) → (b : ℕ) → (c : Contents D) → HoldsKept rule c → HoldsKept rule (pruned rule b c) }
+    ensures replayed { (rule : List ℕ → List ℕ) → (rs : List (Recorded D)) → (c : Contents D) → size rule c.boundary ≤ c.size → HoldsKept rule c → HoldsKept rule (all_laid rs c) }
+    ensures peaks { (rule : List ℕ → List ℕ) → (c : Contents D) → (n : ℕ) → HoldsKept rule c → c.boundary ≤ n → c.size ≡ size rule n
+        → length (held_peaks rule n c) ≡ length (peak_positions rule n) }
+{}
+
+/// A structure made of the digests that a list defines, the nodes from a boundary on and the peaks at it, agrees with the list.
+pub fn components<D>()
+    ensures agrees { (h : Hashing D) → (rule : List ℕ → List ℕ) → (X : List D) → (b n : ℕ) → (pins nodes : List D)
+        → AreComponents h rule X b pins nodes → Agrees h rule (contents (made_of rule b n pins nodes)) X }
+{}
+
 /// Prune then apply equals apply then prune, whatever the records are.
 pub fn commuting<D>()
     ensures same { (a b : Contents D) → a.boundary ≡ b.boundary → a.size ≡ b.size → ((p : ℕ) → a.node p ≡ b.node p) → a ≡ b }
@@ -52,17 +72,15 @@ pub fn collision<D>()
     ensures collides { (h : Hashing D) → (rule : List ℕ → List ℕ) → TellsApart h → (X Y : List D) → length X ≡ length Y → peak_digests h rule X ≡ peak_digests h rule Y → (X ≡ Y) ⊎ Collide h rule X Y }
 {}
 
-/// A batch that stands on lists is accepted at one of them, with the length and the peak digests of the `Mem`'s list: the `Mem` then agrees with
-/// the last list, or the two lists collide at a node.
+/// A batch that stands on lists is accepted at one of them, with the length and the peak digests of the `Mem`'s list: if it is
+/// that list, the `Mem` then agrees with the last list, and if it is not, the two lists collide at a node.
 pub fn acceptance<D>()
     ensures accepted { (h : Hashing D) → (rule : List ℕ → List ℕ) → TellsApart h → (k : Chain D) → (ls : List (List D)) → (c : Contents D) → (X : List D) → (i : ℕ)
         → StandsOn h rule (records k) ls → Agrees h rule c X → matched h.same c.size (held_peaks rule (length X) c) k ≡ Some i
         → (Z : List D) × (slice_get ls i ≡ Some Z) × (length X ≡ length Z) × (peak_digests h rule X ≡ peak_digests h rule Z)
         × (X ≡ Z → Agrees h rule (all_laid (drop i (records k)) c) (last_list ls)) × ((X ≡ Z → ⊥) → Collide h rule X Z) }
     ensures applied { (h : Hashing D) → (rule : List ℕ → List ℕ) → TellsApart h → (k : Chain D) → (ls : List (List D)) → (c d : Contents D) → (X : List D)
-        → StandsOn h rule (records k) ls → Agrees h rule c X → applied h.same rule (length X) k c ≡ Ok d
-        → Agrees h rule d (last_list ls)
-        ⊎ ((i : ℕ) × (Z : List D) × (slice_get ls i ≡ Some Z) × (length X ≡ length Z) × (peak_digests h rule X ≡ peak_digests h rule Z) × Collide h rule X Z) }
+        → StandsOn h rule (records k) ls → Agrees h rule c X → applied h.same rule (length X) k c ≡ Ok d → IsAppliedTo h rule k ls X c d }
     ensures accepts { (h : Hashing D) → (rule : List ℕ → List ℕ) → TellsApart h → (k : Chain D) → (ls : List (List D)) → (c : Contents D) → (X : List D) → (i : ℕ)
         → StandsOn h rule (records k) ls → slice_get ls i ≡ Some X → i ≤ length k.ancestors → Agrees h rule c X → is_some (matched h.same c.size (held_peaks rule (length X) c) k) ≡ true }
     ensures peaks { (h : Hashing D) → (rule : List ℕ → List ℕ) → (c : Contents D) → (X : List D) → Agrees h rule c X → held_peaks rule (length X) c ≡ peak_digests h rule X }
@@ -207,6 +225,30 @@ pub fn worked_rows()
     ensures stands { StandsOn xor carries (first_record ∷ second_record ∷ []) ([] ∷ (1 ∷ 3 ∷ []) ∷ (17 ∷ 3 ∷ 7 ∷ []) ∷ []) }
     ensures needs { IsNeeded carries (at_two 0 0) 2 2 (leaf 1 1) }
     ensures collide { Collide xor carries (1 ∷ 3 ∷ []) (2 ∷ 0 ∷ []) }
+
+    // A batch that exchanges two leaves, which their peak does not tell, so its two lists collide. The structure of the list
+    // before is accepted at its own list; the structure of the list after at the list before, which is another.
+    ensures exchange_stands { StandsOn xor carries (exchange ∷ []) ((1 ∷ 3 ∷ []) ∷ (3 ∷ 1 ∷ []) ∷ []) }
+    ensures exchange_collides { Collide xor carries (1 ∷ 3 ∷ []) (3 ∷ 1 ∷ []) }
+    ensures exchange_matched { matched xor.same 3 (0 ∷ []) exchanging ≡ Some 0 }
+    ensures own_agrees { Agrees xor carries two (1 ∷ 3 ∷ []) }
+    ensures own_applies { applied xor.same carries 2 exchanging two ≡ Ok (laid exchange two) }
+    ensures own_before { Agrees xor carries two (3 ∷ 1 ∷ []) → ⊥ }
+    ensures foreign_agrees { Agrees xor carries two_exchanged (3 ∷ 1 ∷ []) }
+    ensures foreign_applies { applied xor.same carries 2 exchanging two_exchanged ≡ Ok (laid exchange two_exchanged) }
+
+    // With a third leaf after the exchange the structure of the list before is accepted at the list after, and agrees with
+    // no list of the batch then.
+    ensures foreign_differs { Agrees xor carries (laid addition two) (3 ∷ 1 ∷ 7 ∷ []) → ⊥ }
+
+    // All nodes of five leaves are held, not with the four oldest leaves counted as pruned; and of what was pruned some are
+    // missing where nothing counts as pruned.
+    ensures holds_all { HoldsKept carries five }
+    ensures holds_too_many { HoldsKept carries (record five { boundary = 4 }) → ⊥ }
+    ensures holds_too_few { HoldsKept carries (record (pruned carries 4 five) { boundary = 0 }) → ⊥ }
+
+    // Three leaves pruned to the second: the pin of the first two leaves' peak, and the third leaf.
+    ensures makes { map (contents {D = ℕ} (made_of carries 2 3 (0 ∷ []) (7 ∷ []))).node (range_with_len 0 5) ≡ None ∷ None ∷ Some 0 ∷ Some 7 ∷ None ∷ [] }
 
     // The leaves at the locations 2, 3 and 4 stand at the positions 3, 4 and 7.
     ensures replaces { replaced carries (at_two 3 4) 0 (5 ∷ 6 ∷ 7 ∷ 8 ∷ []) ≡ 5 ∷ 6 ∷ 0 ∷ 0 ∷ [] }

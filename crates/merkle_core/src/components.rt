@@ -2,8 +2,11 @@
 ghost use Rattle.std.specs.Prelude.{◌≡◌, ◌≢◌, ◌+◌, ◌<◌, ◌≤◌, ◌^◌, ◌-◌, ℕ, List, Err, length, IfOk, IsOk, IsOkUnless};
 ghost use Rattle.merkle_base.specs.Forest.{size};
 ghost use Rattle.merkle_base.specs.Places.{IsSize, peak_positions};
+ghost use Rattle.merkle_base.specs.Hashing.{Hashing};
+ghost use Rattle.merkle_batch_theory.specs.Components.{AreComponents, made_of};
+ghost use Rattle.merkle_batch_theory.specs.Contents.{Agrees};
 ghost use Rattle.merkle_batch_theory.specs.Held.{paired};
-ghost use Rattle.merkle_batch_theory.specs.Store.{stored_of};
+ghost use Rattle.merkle_batch_theory.specs.Store.{contents};
 
 use crate::held_nodes::HeldNodes;
 use crate::mem::Mem;
@@ -27,12 +30,16 @@ pub struct Config<F: Family, D: Digest> {
 impl<F: Family, D: Digest> Mem<F, D> {
     /// The structure of these parts, as by [`from_components`](Mem::from_components).
     pub fn init(config: Config<F, D>) -> Result<Self, Error<F>>
-        ensures made { IfOk result (λ m. m ≡ record { boundary = config.pruning_boundary; size = size F.rule config.pruning_boundary + length config.nodes.items; stored = stored_of (paired (peak_positions F.rule config.pruning_boundary) config.pinned_nodes.items) (size F.rule config.pruning_boundary) config.nodes.items }) }
+        ensures made { IfOk result (λ m. m ≡ made_of F.rule config.pruning_boundary m.leaves config.pinned_nodes.items config.nodes.items) }
+        ensures counted { IfOk result (λ m. (m.leaves ≤ F.MAX_LEAVES) × (size F.rule m.leaves ≡ m.size)) }
         ensures overflow { F.MAX_LEAVES < config.pruning_boundary → result ≡ Err (Error.LocationOverflow config.pruning_boundary) }
         ensures too_large { config.pruning_boundary ≤ F.MAX_LEAVES → F.MAX_NODES < size F.rule config.pruning_boundary + length config.nodes.items → result ≡ Err (Error.InvalidSize (2 ^ 64 - 1)) }
         ensures no_size { let end = size F.rule config.pruning_boundary + length config.nodes.items in config.pruning_boundary ≤ F.MAX_LEAVES → end ≤ F.MAX_NODES → ((n : ℕ) → size F.rule n ≢ end) → result ≡ Err (Error.InvalidSize end) }
         ensures bad_pins { config.pruning_boundary ≤ F.MAX_LEAVES → IsSize F.rule F.MAX_LEAVES (size F.rule config.pruning_boundary + length config.nodes.items) → length config.pinned_nodes.items ≢ length (peak_positions F.rule config.pruning_boundary) → result ≡ Err Error.InvalidPinnedNodes }
         ensures allowed { config.pruning_boundary ≤ F.MAX_LEAVES → IsSize F.rule F.MAX_LEAVES (size F.rule config.pruning_boundary + length config.nodes.items) → length config.pinned_nodes.items ≡ length (peak_positions F.rule config.pruning_boundary) → IsOkUnless result Error.OutOfMemory }
+
+        // It agrees with every list whose digests these are.
+        ensures agrees { IfOk result (λ m. (h : Hashing D) → (X : List D) → AreComponents h F.rule X config.pruning_boundary config.pinned_nodes.items config.nodes.items → Agrees h F.rule (contents m) X) }
     {
         let Config {
             nodes,
@@ -54,12 +61,16 @@ impl<F: Family, D: Digest> Mem<F, D> {
         pruning_boundary: Location<F>,
         pinned_nodes: Vec<D>,
     ) -> Result<Self, Error<F>>
-        ensures made { IfOk result (λ m. m ≡ record { boundary = pruning_boundary; size = size F.rule pruning_boundary + length nodes.items; stored = stored_of (paired (peak_positions F.rule pruning_boundary) pinned_nodes.items) (size F.rule pruning_boundary) nodes.items }) }
+        ensures made { IfOk result (λ m. m ≡ made_of F.rule pruning_boundary m.leaves pinned_nodes.items nodes.items) }
+        ensures counted { IfOk result (λ m. (m.leaves ≤ F.MAX_LEAVES) × (size F.rule m.leaves ≡ m.size)) }
         ensures overflow { F.MAX_LEAVES < pruning_boundary → result ≡ Err (Error.LocationOverflow pruning_boundary) }
         ensures too_large { pruning_boundary ≤ F.MAX_LEAVES → F.MAX_NODES < size F.rule pruning_boundary + length nodes.items → result ≡ Err (Error.InvalidSize (2 ^ 64 - 1)) }
         ensures no_size { let end = size F.rule pruning_boundary + length nodes.items in pruning_boundary ≤ F.MAX_LEAVES → end ≤ F.MAX_NODES → ((n : ℕ) → size F.rule n ≢ end) → result ≡ Err (Error.InvalidSize end) }
         ensures bad_pins { pruning_boundary ≤ F.MAX_LEAVES → IsSize F.rule F.MAX_LEAVES (size F.rule pruning_boundary + length nodes.items) → length pinned_nodes.items ≢ length (peak_positions F.rule pruning_boundary) → result ≡ Err Error.InvalidPinnedNodes }
         ensures allowed { pruning_boundary ≤ F.MAX_LEAVES → IsSize F.rule F.MAX_LEAVES (size F.rule pruning_boundary + length nodes.items) → length pinned_nodes.items ≡ length (peak_positions F.rule pruning_boundary) → IsOkUnless result Error.OutOfMemory }
+
+        // It agrees with every list whose digests these are.
+        ensures agrees { IfOk result (λ m. (h : Hashing D) → (X : List D) → AreComponents h F.rule X pruning_boundary pinned_nodes.items nodes.items → Agrees h F.rule (contents m) X) }
     {
         let (start, leaves) = match measure(pruning_boundary, nodes.len()) {
             Ok(extent) => extent,

@@ -1,15 +1,14 @@
 //! Merkle structures in memory.
-ghost use Rattle.std.specs.Prelude.{◌≡◌, ◌≢◌, ◌+◌, ◌<◌, ◌≤◌, ◌⊎◌, ℕ, List, [], ◌∷◌, ◌==◌, Err, None, Ok, is_some, take, true, length, OnErr, OnOk, IfOk, IfErr, IsOkUnless};
-ghost use Rattle.merkle_base.specs.Places.{ArePeaks, peaks_of};
+ghost use Rattle.std.specs.Prelude.{◌≡◌, ◌≢◌, ◌+◌, ◌<◌, ◌≤◌, ◌&&◌, ℕ, List, [], ◌∷◌, Err, None, Ok, is_some, map, nat_lt, take, true, length, OnErr, OnOk, IfOk, IfErr, IsOkUnless};
+ghost use Rattle.merkle_base.specs.Places.{peaks_of, placed};
 ghost use Rattle.merkle_base.specs.Forest.{size};
 ghost use Rattle.merkle_base.specs.Root.{list_root, peaks_root};
-ghost use Rattle.merkle_batch_theory.specs.Store.{node, contents, whole_store};
-ghost use Rattle.merkle_base.specs.Hashing.{Hashing, TellsApart};
-ghost use Rattle.merkle_batch_theory.specs.Collision.{CollidesWithOne};
-ghost use Rattle.merkle_batch_theory.specs.Contents.{Agrees, held_peaks};
+ghost use Rattle.merkle_batch_theory.specs.Store.{contents, no_leaves, node};
+ghost use Rattle.merkle_base.specs.Hashing.{Hashing};
+ghost use Rattle.merkle_batch_theory.specs.Applying.{IsApplied};
+ghost use Rattle.merkle_batch_theory.specs.Contents.{Agrees, held_peaks, is_kept};
 ghost use Rattle.merkle_batch_theory.specs.Pending.{forked};
 ghost use Rattle.merkle_batch_theory.specs.Roots.{root_batch};
-ghost use Rattle.std.specs.FinMap.{empty};
 ghost use Rattle.merkle_batch_theory.specs.Recorded.{records};
 ghost use Rattle.merkle_batch_theory.specs.Stands.{StandsOn, last_list};
 ghost use Rattle.merkle_batch_theory.specs.Replay.{applied, matched, refusal};
@@ -52,7 +51,7 @@ fn front<D>(digests: &[D; MAX_PEAKS], count: usize) -> &[D]
 
 /// A Merkle structure in memory, changed by batches.
 ///
-/// To a contract it is its pruning boundary, its node count and the nodes that it holds.
+/// To a contract it is its pruning boundary, its leaf count, its node count and the nodes that it holds.
 #[derive(Debug, Drop)]
 pub struct Mem<F: Family, D: Digest> {
     // all from the boundary's position on, and the peaks of so many leaves
@@ -70,15 +69,15 @@ impl<F: Family, D: Digest> Model for Mem<F, D> {
 
     ghost use Rattle.merkle_batch_theory.specs.Whole.{IsKept};
 
-    ghost view = { λ m. record { boundary = m.boundary; size = m.held.size; stored = m.held.stored } };
+    ghost view = { λ m. record { boundary = m.boundary; leaves = m.leaves; size = m.held.size; stored = m.held.stored } };
 
-    ghost invariant = { λ m. IsKept F.rule F.MAX_LEAVES m.boundary m.leaves m.held.start m.held.size };
+    ghost invariant = { λ m. IsKept F.rule F.MAX_LEAVES m.boundary m.leaves m.held };
 }
 
 impl<F: Family, D: Digest> Mem<F, D> {
     /// The structure of no leaves.
     pub fn new(alloc: Global) -> Self
-        ensures empty { result ≡ whole_store [] 0 }
+        ensures empty { result ≡ no_leaves }
         ensures agrees { (h : Hashing D) → Agrees h F.rule (contents result) [] }
     {
         Mem {
@@ -97,6 +96,7 @@ impl<F: Family, D: Digest> Mem<F, D> {
 
     /// The number of leaves.
     pub fn leaves(&self) -> Location<F>
+        ensures count { result ≡ self.now.leaves }
         ensures sized { size F.rule result ≡ self.now.size }
         ensures bounded { result ≤ F.MAX_LEAVES }
     {
@@ -105,14 +105,18 @@ impl<F: Family, D: Digest> Mem<F, D> {
 
     /// The location that it was pruned to; the leaves before it are gone.
     pub fn pruning_boundary(&self) -> Location<F>
-        ensures { result ≡ self.now.boundary }
+        ensures boundary { result ≡ self.now.boundary }
+        ensures within { result ≤ self.now.leaves }
     {
         self.boundary
     }
 
     /// The digest of the node at a position, or `None` where none is held.
+    ///
+    /// Exactly the nodes from the boundary's position on are held, and the peaks of as many leaves as lie before it.
     pub fn get_node(&self, position: Position<F>) -> Option<D>
-        ensures { result ≡ node self.now position }
+        ensures node { result ≡ node self.now position }
+        ensures held { is_some result ≡ nat_lt position self.now.size && is_kept F.rule self.now.boundary position }
     {
         self.held.get(position)
     }
@@ -120,18 +124,18 @@ impl<F: Family, D: Digest> Mem<F, D> {
     /// The locations of the leaves that are held: from the boundary to the leaf count.
     pub fn bounds(&self) -> Range<Location<F>>
         ensures start { result.start ≡ self.now.boundary }
-        ensures end { size F.rule result.end ≡ self.now.size }
-        ensures bounded { result.end ≤ F.MAX_LEAVES }
+        ensures end { result.end ≡ self.now.leaves }
+        ensures ordered { result.start ≤ result.end }
     {
         self.boundary..self.leaves
     }
 
-    /// The peaks with their heights, oldest first.
+    /// The positions of the peaks with their heights, oldest first.
     pub fn peak_iterator(&self) -> F::Peaks
-        ensures { ArePeaks F.rule F.MAX_LEAVES self.now.size (F.Peaks.left result) }
+        ensures { F.Peaks.left result ≡ map placed (peaks_of F.rule self.now.leaves) }
     {
-        let _leaves = self.leaves();
-        F::peaks(self.size())
+        let nodes = self.held.size();
+        F::peaks(nodes)
     }
 
     // Where its memory comes from.
@@ -155,11 +159,11 @@ impl<F: Family, D: Digest> Mem<F, D> {
     // Writes the digests of the peaks, oldest first, and answers their number.
     fn write_peaks(&self, digests: &mut [D; MAX_PEAKS]) -> usize
         ensures few { result ≤ MAX_PEAKS }
-        ensures held { (n : ℕ) → n ≤ F.MAX_LEAVES → size F.rule n ≡ self.now.size → take result digests.new ≡ held_peaks F.rule n (contents self.now) }
+        ensures held { take result digests.new ≡ held_peaks F.rule self.now.leaves (contents self.now) }
+        ensures many { length (held_peaks F.rule self.now.leaves (contents self.now)) ≡ length (peaks_of F.rule self.now.leaves) }
     {
-        let _leaves = self.leaves();
         let mut count = 0;
-        for (position, _) in self.peak_iterator() {
+        for (position, _) in F::peaks(self.held.size()) {
             if let Some(digest) = self.get_node(position) {
                 digests[count] = digest;
                 count += 1;
@@ -172,8 +176,8 @@ impl<F: Family, D: Digest> Mem<F, D> {
     ///
     /// Refused with `InvalidInactivePeaks` exactly where that number exceeds the number of peaks.
     pub fn root<H: Hasher<F, Digest = D>>(&self, hasher: &H, inactive: usize) -> Result<D, Error<F>>
-        ensures ok { (n : ℕ) → n ≤ F.MAX_LEAVES → size F.rule n ≡ self.now.size → let peaks = held_peaks F.rule n (contents self.now) in inactive ≤ length peaks → result ≡ Ok (peaks_root (H.hashing hasher.now) F.DOMAIN (H.bagging_of hasher.now) n inactive inactive peaks) }
-        ensures err { (n : ℕ) → n ≤ F.MAX_LEAVES → size F.rule n ≡ self.now.size → let peaks = held_peaks F.rule n (contents self.now) in length peaks < inactive → result ≡ Err (Error.InvalidInactivePeaks inactive (length peaks)) }
+        ensures ok { inactive ≤ length (peaks_of F.rule self.now.leaves) → let peaks = held_peaks F.rule self.now.leaves (contents self.now) in result ≡ Ok (peaks_root (H.hashing hasher.now) F.DOMAIN (H.bagging_of hasher.now) self.now.leaves inactive inactive peaks) }
+        ensures err { let peaks = length (peaks_of F.rule self.now.leaves) in peaks < inactive → result ≡ Err (Error.InvalidInactivePeaks inactive peaks) }
 
         // It is the root of every list that the structure agrees with.
         ensures listed { (X : List D) → Agrees (H.hashing hasher.now) F.rule (contents self.now) X → inactive ≤ length (peaks_of F.rule (length X)) → result ≡ Ok (list_root (H.hashing hasher.now) F.rule F.DOMAIN (H.bagging_of hasher.now) X inactive) }
@@ -210,12 +214,12 @@ impl<F: Family, D: Digest> Mem<F, D> {
         location: Location<F>,
         inactive: usize,
     ) -> Result<Proof<F, D>, Error<F>>
-        ensures built { (n : ℕ) → n ≤ F.MAX_LEAVES → size F.rule n ≡ self.now.size → IfOk result (λ p. location < n × IsBuiltProof (setting (H.hashing hasher.now) (H.bagging_of hasher.now) F.rule F.MAX_LEAVES F.DOMAIN) (node self.now) inactive (record { leaves = n; start = location; end = location + 1 }) p) }
+        ensures built { IfOk result (λ p. location < self.now.leaves × IsBuiltProof (setting (H.hashing hasher.now) (H.bagging_of hasher.now) F.rule F.MAX_LEAVES F.DOMAIN) (node self.now) inactive (record { leaves = self.now.leaves; start = location; end = location + 1 }) p) }
 
         // It is the honest proof of every list that the structure agrees with.
         ensures honest { (X : List D) → Agrees (H.hashing hasher.now) F.rule (contents self.now) X → IfOk result (λ p. location < length X × IsHonestRange (setting (H.hashing hasher.now) (H.bagging_of hasher.now) F.rule F.MAX_LEAVES F.DOMAIN) X inactive (list_input p X location (location + 1))) }
         ensures given { (h : Hashing D) → (X : List D) → Agrees h F.rule (contents self.now) X → self.now.boundary ≤ location → location < length X → inactive ≤ length (peaks_of F.rule (length X)) → IsOkUnless result Error.OutOfMemory }
-        ensures err { (n : ℕ) → n ≤ F.MAX_LEAVES → size F.rule n ≡ self.now.size → IfErr result (λ e. e ≢ Error.OutOfMemory → IsProofRefusal (H.bagging_of hasher.now) F.rule F.MAX_LEAVES n location inactive (node self.now) e) }
+        ensures err { IfErr result (λ e. e ≢ Error.OutOfMemory → IsProofRefusal (H.bagging_of hasher.now) F.rule F.MAX_LEAVES self.now.leaves location inactive (node self.now) e) }
     {
         let leaves = self.leaves();
         if !location.is_valid_index() {
@@ -243,12 +247,12 @@ impl<F: Family, D: Digest> Mem<F, D> {
         range: Range<Location<F>>,
         inactive: usize,
     ) -> Result<Proof<F, D>, Error<F>>
-        ensures built { (n : ℕ) → n ≤ F.MAX_LEAVES → size F.rule n ≡ self.now.size → IfOk result (λ p. (range.start < range.end) × (range.end ≤ n) × IsBuiltProof (setting (H.hashing hasher.now) (H.bagging_of hasher.now) F.rule F.MAX_LEAVES F.DOMAIN) (node self.now) inactive (record { leaves = n; start = range.start; end = range.end }) p) }
+        ensures built { IfOk result (λ p. (range.start < range.end) × (range.end ≤ self.now.leaves) × IsBuiltProof (setting (H.hashing hasher.now) (H.bagging_of hasher.now) F.rule F.MAX_LEAVES F.DOMAIN) (node self.now) inactive (record { leaves = self.now.leaves; start = range.start; end = range.end }) p) }
 
         // It is the honest proof of every list that the structure agrees with.
         ensures honest { (X : List D) → Agrees (H.hashing hasher.now) F.rule (contents self.now) X → IfOk result (λ p. (range.start < range.end) × (range.end ≤ length X) × IsHonestRange (setting (H.hashing hasher.now) (H.bagging_of hasher.now) F.rule F.MAX_LEAVES F.DOMAIN) X inactive (list_input p X range.start range.end)) }
         ensures given { (h : Hashing D) → (X : List D) → Agrees h F.rule (contents self.now) X → self.now.boundary ≤ range.start → range.start < range.end → range.end ≤ length X → inactive ≤ length (peaks_of F.rule (length X)) → IsOkUnless result Error.OutOfMemory }
-        ensures err { (n : ℕ) → n ≤ F.MAX_LEAVES → size F.rule n ≡ self.now.size → IfErr result (λ e. e ≢ Error.OutOfMemory → IsRangeRefusal (H.bagging_of hasher.now) F.rule F.MAX_LEAVES n range.start range.end inactive (node self.now) e) }
+        ensures err { IfErr result (λ e. e ≢ Error.OutOfMemory → IsRangeRefusal (H.bagging_of hasher.now) F.rule F.MAX_LEAVES self.now.leaves range.start range.end inactive (node self.now) e) }
     {
         let leaves = self.leaves();
         match RangePlan::new(self.allocator(), leaves, range) {
@@ -261,11 +265,10 @@ impl<F: Family, D: Digest> Mem<F, D> {
     ///
     /// Refused with `OutOfMemory`.
     pub fn new_batch(&self) -> Result<UnmerkleizedBatch<F, D>, Error<F>>
-        ensures forked { IfOk result (λ b. (n : ℕ) → n ≤ F.MAX_LEAVES → size F.rule n ≡ self.now.size → b ≡ forked (root_batch F.rule n (contents self.now)) n empty) }
+        ensures forked { IfOk result (λ b. b ≡ forked (root_batch F.rule self.now.leaves (contents self.now))) }
         ensures of_list { IfOk result (λ b. (h : Hashing D) → (X : List D) → Agrees h F.rule (contents self.now) X → StandsOn h F.rule (records b.parent) (X ∷ X ∷ [])) }
         ensures refused { IsOkUnless result Error.OutOfMemory }
     {
-        let _leaves = self.leaves();
         match MerkleizedBatch::from_mem(self) {
             Ok(parent) => Ok(UnmerkleizedBatch::new(parent)),
             Err(error) => Err(error),
@@ -284,13 +287,14 @@ impl<F: Family, D: Digest> Mem<F, D> {
     /// is changed by a refusal.
     pub fn apply_batch(&mut self, batch: &MerkleizedBatch<F, D>) -> Result<(), Error<F>>
         ensures unchanged { OnErr result (self.new ≡ self.old) }
-        ensures done { OnOk result ((n : ℕ) → n ≤ F.MAX_LEAVES → size F.rule n ≡ self.old.size → applied D.eq F.rule n batch.now (contents self.old) ≡ Ok (contents self.new)) }
-        ensures accepted { (n : ℕ) → n ≤ F.MAX_LEAVES → size F.rule n ≡ self.old.size → is_some (matched D.eq self.old.size (held_peaks F.rule n (contents self.old)) batch.now) ≡ true → IsOkUnless result Error.OutOfMemory }
-        ensures refused { (n : ℕ) → n ≤ F.MAX_LEAVES → size F.rule n ≡ self.old.size → matched D.eq self.old.size (held_peaks F.rule n (contents self.old)) batch.now ≡ None → result ≡ Err (error_of (refusal self.old.size batch.now)) }
+        ensures done { OnOk result (applied D.eq F.rule self.old.leaves batch.now (contents self.old) ≡ Ok (contents self.new)) }
+        ensures counted { OnOk result (self.new.leaves ≡ batch.now.leaves) }
+        ensures accepted { is_some (matched D.eq self.old.size (held_peaks F.rule self.old.leaves (contents self.old)) batch.now) ≡ true → IsOkUnless result Error.OutOfMemory }
+        ensures refused { matched D.eq self.old.size (held_peaks F.rule self.old.leaves (contents self.old)) batch.now ≡ None → result ≡ Err (error_of (refusal self.old.size batch.now)) }
 
-        // Where the structure agreed with a list and the batch stands on lists, it agrees with the last of them, or the list
-        // and one of those have the same length and peak digests and collide at a node.
-        ensures agrees { OnOk result ((h : Hashing D) → (X : List D) → (ls : List (List D)) → TellsApart h → h.same ≡ D.eq → Agrees h F.rule (contents self.old) X → StandsOn h F.rule (records batch.now) ls → Agrees h F.rule (contents self.new) (last_list ls) ⊎ CollidesWithOne h F.rule X ls) }
+        // Where the structure agreed with a list and the batch stands on lists, it was accepted at one of these: if that is the
+        // structure's own list, the structure agrees with the last one now, and if it is another, the two collide at a node.
+        ensures on_lists { OnOk result (IsApplied D.eq F.rule batch.now (contents self.old) (contents self.new)) }
     {
         let own: &Record<F, D> = &batch.own;
         let mut digests = [D::EMPTY; MAX_PEAKS];
@@ -332,6 +336,8 @@ impl<F: Family, D: Digest> Base<F> for Mem<F, D> {
 
     ghost contents = { contents };
 
+    ghost leaves = { λ m. m.leaves };
+
     fn size(&self) -> Position<F> {
         Readable::size(self)
     }
@@ -351,7 +357,8 @@ impl<F: Family, D: Digest> Base<F> for Mem<F, D> {
     }
 
     fn peak_digests(&self) -> Result<Vec<D>, AllocError>
-        ensures { IfOk result (λ v. (n : ℕ) → n ≤ F.MAX_LEAVES → size F.rule n ≡ self.now.size → v.items ≡ held_peaks F.rule n (contents self.now)) }
+        ensures held { IfOk result (λ v. v.items ≡ held_peaks F.rule self.now.leaves (contents self.now)) }
+        ensures many { IfOk result (λ v. length v.items ≡ length (peaks_of F.rule self.now.leaves)) }
     {
         let mut digests = [D::EMPTY; MAX_PEAKS];
         let count = self.write_peaks(&mut digests);

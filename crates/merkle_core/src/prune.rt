@@ -1,6 +1,5 @@
 //! Structures without their old nodes.
 ghost use Rattle.std.specs.Prelude.{◌≡◌, ◌<◌, ◌≤◌, ℕ, List, Err, OnErr, OnOk, IfOk, IsOkUnless};
-ghost use Rattle.merkle_base.specs.Forest.{size};
 ghost use Rattle.merkle_base.specs.Hashing.{Hashing};
 ghost use Rattle.merkle_base.specs.Places.{peak_positions};
 ghost use Rattle.merkle_batch_theory.specs.Contents.{Agrees, pruned};
@@ -23,8 +22,9 @@ impl<F: Family, D: Digest> Mem<F, D> {
     pub fn prune(&mut self, location: Location<F>) -> Result<(), Error<F>>
         ensures unchanged { OnErr result (self.new ≡ self.old) }
         ensures pruned { OnOk result (contents self.new ≡ pruned F.rule location (contents self.old)) }
-        ensures refused { (n : ℕ) → n ≤ F.MAX_LEAVES → size F.rule n ≡ self.old.size → n < location → result ≡ Err (Error.LeafOutOfBounds location) }
-        ensures allowed { (n : ℕ) → n ≤ F.MAX_LEAVES → size F.rule n ≡ self.old.size → location ≤ n → IsOkUnless result Error.OutOfMemory }
+        ensures counted { self.new.leaves ≡ self.old.leaves }
+        ensures refused { self.old.leaves < location → result ≡ Err (Error.LeafOutOfBounds location) }
+        ensures allowed { location ≤ self.old.leaves → IsOkUnless result Error.OutOfMemory }
         ensures agrees { OnOk result ((h : Hashing D) → (X : List D) → Agrees h F.rule (contents self.old) X → Agrees h F.rule (contents self.new) X) }
     {
         if location > self.leaves {
@@ -38,7 +38,8 @@ impl<F: Family, D: Digest> Mem<F, D> {
     /// Refused with `OutOfMemory`; nothing is changed then.
     pub fn prune_all(&mut self) -> Result<(), Error<F>>
         ensures unchanged { OnErr result (self.new ≡ self.old) }
-        ensures pruned { OnOk result ((n : ℕ) → n ≤ F.MAX_LEAVES → size F.rule n ≡ self.old.size → contents self.new ≡ pruned F.rule n (contents self.old)) }
+        ensures pruned { OnOk result (contents self.new ≡ pruned F.rule self.old.leaves (contents self.old)) }
+        ensures counted { self.new.leaves ≡ self.old.leaves }
         ensures refused { IsOkUnless result Error.OutOfMemory }
         ensures agrees { OnOk result ((h : Hashing D) → (X : List D) → Agrees h F.rule (contents self.old) X → Agrees h F.rule (contents self.new) X) }
     {
@@ -47,8 +48,9 @@ impl<F: Family, D: Digest> Mem<F, D> {
 
     // Lets the nodes before a leaf of the structure go, but for the peaks of that many leaves.
     fn prune_to(&mut self, location: Location<F>) -> Result<(), AllocError>
-        requires { (n : ℕ) × (n ≤ F.MAX_LEAVES) × (size F.rule n ≡ self.old.size) × (location ≤ n) }
+        requires { location ≤ self.old.leaves }
         ensures unchanged { OnErr result (self.new ≡ self.old) }
+        ensures counted { self.new.leaves ≡ self.old.leaves }
         ensures pruned { OnOk result (contents self.new ≡ pruned F.rule location (contents self.old)) }
     {
         if location <= self.boundary {

@@ -25,10 +25,10 @@ module _ {D : Type 0} (h : Hashing D) (rule : List ℕ → List ℕ) (s : Store 
   pub pending_adds : (b : Pending D) → p ≡ Some b → b ≡ adding h rule s (length g.committed) g.added
   pending_adds b e = subst (λ q. Adds h rule s q g) e held.adds
 
-  pub new_adds : (n : ℕ) (b : Pending D) → p ≡ None → size rule n ≡ s.size → b ≡ forked (root_batch rule n (contents s)) n empty → b ≡ adding h rule s (length g.committed) g.added
-  new_adds n b e same new =
+  pub new_adds : (n : ℕ) (b : Pending D) → p ≡ None → size rule n ≡ s.size → n ≡ s.leaves → b ≡ forked (root_batch rule s.leaves (contents s)) → b ≡ adding h rule s (length g.committed) g.added
+  new_adds n b e same count new =
       let none : g.added ≡ [] = subst (λ q. Adds h rule s q g) e held.adds in
-      new ∙ ap (λ k. adding h rule s k []) (committed_count n same) ∙ ap (adding h rule s (length g.committed)) (sym none)
+      new ∙ ap (λ k. adding h rule s k []) (sym count ∙ committed_count n same) ∙ ap (adding h rule s (length g.committed)) (sym none)
 
   pub committed_sized : size rule (length g.committed) ≡ s.size
   committed_sized = ap (size rule) (sym (leaf_digests_count h rule 0 g.committed)) ∙ sym held.agrees.sized

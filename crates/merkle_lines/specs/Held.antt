@@ -1,6 +1,5 @@
 -- When structures hold what the lines told.
 use Rattle.std.specs.Prelude.{◌≡◌, ℕ, List, [], Option, Some, None, length}
-use Rattle.std.specs.FinMap.{empty}
 use Rattle.merkle_base.specs.Hashing.{Hashing}
 use Rattle.merkle_batch_theory.specs.Contents.{Agrees}
 use Rattle.merkle_batch_theory.specs.Pending.{Pending, forked, with_leaves}
@@ -18,7 +17,7 @@ use Rattle.merkle_lines.specs.Transcript.{Told}
 
 -- the batch over a structure of n leaves that adds these elements
 abbrev pub adding : {D : Type 0} → Hashing D → (List ℕ → List ℕ) → Store D → ℕ → List (List ℕ) → Pending D
-adding h rule store n elements = with_leaves (forked (root_batch rule n (contents store)) n empty) (leaf_digests h rule n elements)
+adding h rule store n elements = with_leaves (forked (root_batch rule n (contents store))) (leaf_digests h rule n elements)
 
 -- the pending batch, without which there are none, adds the elements since the last commit
 abbrev pub Adds : {D : Type 0} → Hashing D → (List ℕ → List ℕ) → Store D → Option (Pending D) → Given → Type 0

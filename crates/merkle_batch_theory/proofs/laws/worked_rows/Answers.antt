@@ -2,6 +2,7 @@ use Rattle.std.proofs.Common.{◌≡◌, ◌≤◌, refl, inl, inr, arith, true,
 use Rattle.merkle_base.specs.Tree.{leaf}
 use Rattle.merkle_base.specs.Forest.{forest}
 use Rattle.merkle_batch_theory.proofs.Small.{edit_row, newest_row, applied_row, pruned_row, stands_row, over_row, exchange_row, none_row, added_row, updated_row}
+use Rattle.merkle_batch_theory.proofs.AppliedRows.{differs_row, foreign_row, held_row, made_row, own_row, stands_exchange}
 use Rattle.merkle_batch_theory.proofs.laws.worked_rows.Goals as goal
 
 pub returns : goal.returns
@@ -32,6 +33,19 @@ returns c = record {
   stands = stands_row;
   needs = (inl (2, leaf 0 0, leaf 1 1, refl, refl, inr refl), omega arith, refl);
   collide = (2, leaf 0 0, leaf 1 1, refl, record { one_digest = refl; differ = λ d. absurd (cc) });
+  exchange_stands = stands_exchange;
+  exchange_collides = (2, leaf 0 0, leaf 1 1, refl, record { one_digest = refl; differ = λ d. absurd (cc) });
+  exchange_matched = refl;
+  own_agrees = own_row;
+  own_applies = refl;
+  own_before = λ a. absurd (let e : Some 1 ≡ Some 3 = a.holds 0 in cc);
+  foreign_agrees = foreign_row;
+  foreign_applies = refl;
+  foreign_differs = differs_row;
+  holds_all = held_row;
+  holds_too_many = λ a. absurd (let e : true ≡ false = a 0 in cc);
+  holds_too_few = λ a. absurd (let e : false ≡ true = a 0 in cc);
+  makes = made_row;
   replaces = refl;
   added_leaves = refl;
   touches = refl;

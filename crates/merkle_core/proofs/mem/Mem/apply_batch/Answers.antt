@@ -7,7 +7,8 @@ use Rattle.merkle_batch_theory.specs.Linked.{IsLinked}
 use Rattle.merkle_batch_theory.specs.Recorded.{Recorded}
 use Rattle.merkle_batch_theory.specs.Replay.{all_laid, applied, laid, matched}
 use Rattle.merkle_batch_theory.specs.Store.{contents}
-use Rattle.merkle_batch_theory.proofs.Applied.{applied_or_collides}
+use Rattle.merkle_batch_theory.specs.Whole.{IsKept}
+use Rattle.merkle_batch_theory.proofs.Applied.{applied_at}
 use Rattle.merkle_batch_theory.proofs.Runs.{some_kept, total_laid, kept_after, applied_after}
 use Rattle.merkle_core.proofs.mem.Mem.apply_batch.Goals as goal
 
@@ -16,27 +17,27 @@ sub-added-requires g c =
     let rule = g.F.Family.rule in
     let most = g.F.Family.MAX_LEAVES in
     let same = g.D.PartialEq.eq in
-    let linked = subst (IsLinked rule most c.batch.inside.leaves) c.batch.view_is c.batch.invariant in
+    let linked = subst (IsLinked rule most) c.batch.view_is c.batch.invariant in
     let m : matched same c.size.result c.front.result.now c.args.batch.now ≡ Some c.in-Some.first = sym c.find_state.ensures ∙ c.in-Some.is in
-    omega (arith, total_laid rule most c.batch.inside.leaves same c.args.batch.now linked (λ r. r.value) c.batch.inside.ancestors.items (ap (λ b. b.ancestors) c.batch.view_is) c.size.result c.in-Some.first c.front.result.now m, c.size.ensures, c.size-2.ensures, c.size-3.ensures)
+    omega (arith, total_laid rule most same c.args.batch.now linked (λ r. r.value) c.batch.inside.ancestors.items (ap (λ b. b.ancestors) c.batch.view_is) c.size.result c.in-Some.first c.front.result.now m, c.size.ensures, c.size-2.ensures, c.size-3.ensures)
 
 pub slice_bounds-lay_all-count : goal.slice_bounds-lay_all-count
 slice_bounds-lay_all-count g c =
     let rule = g.F.Family.rule in
     let most = g.F.Family.MAX_LEAVES in
     let same = g.D.PartialEq.eq in
-    let linked = subst (IsLinked rule most c.batch.inside.leaves) c.batch.view_is c.batch.invariant in
+    let linked = subst (IsLinked rule most) c.batch.view_is c.batch.invariant in
     let m : matched same c.size.result c.front.result.now c.args.batch.now ≡ Some c.in-Some.first = sym c.find_state.ensures ∙ c.in-Some.is in
-    some_kept rule most c.batch.inside.leaves same c.args.batch.now linked (λ r. r.value) c.deref.result.now (ap (map (λ r. r.value)) c.deref.ensures.value ∙ ap (λ b. b.ancestors) c.batch.view_is) c.size.result c.in-Some.first c.front.result.now m
+    some_kept rule most same c.args.batch.now linked (λ r. r.value) c.deref.result.now (ap (map (λ r. r.value)) c.deref.ensures.value ∙ ap (λ b. b.ancestors) c.batch.view_is) c.size.result c.in-Some.first c.front.result.now m
 
 pub offset_bounds-deref-first : goal.offset_bounds-deref-first
 offset_bounds-deref-first g c =
     let rule = g.F.Family.rule in
     let most = g.F.Family.MAX_LEAVES in
     let same = g.D.PartialEq.eq in
-    let linked = subst (IsLinked rule most c.batch.inside.leaves) c.batch.view_is c.batch.invariant in
+    let linked = subst (IsLinked rule most) c.batch.view_is c.batch.invariant in
     let m : matched same c.size.result c.front.result.now c.args.batch.now ≡ Some c.in-Some.first = sym c.find_state.ensures ∙ c.in-Some.is in
-    let k : c.in-Some.first ≤ length c.deref.result.now = some_kept rule most c.batch.inside.leaves same c.args.batch.now linked (λ r. r.value) c.deref.result.now (ap (map (λ r. r.value)) c.deref.ensures.value ∙ ap (λ b. b.ancestors) c.batch.view_is) c.size.result c.in-Some.first c.front.result.now m in
+    let k : c.in-Some.first ≤ length c.deref.result.now = some_kept rule most same c.args.batch.now linked (λ r. r.value) c.deref.result.now (ap (map (λ r. r.value)) c.deref.ensures.value ∙ ap (λ b. b.ancestors) c.batch.view_is) c.size.result c.in-Some.first c.front.result.now m in
     search rules
 
 pub slice_bounds-lay_all-start : goal.slice_bounds-lay_all-start
@@ -44,9 +45,9 @@ slice_bounds-lay_all-start g c =
     let rule = g.F.Family.rule in
     let most = g.F.Family.MAX_LEAVES in
     let same = g.D.PartialEq.eq in
-    let linked = subst (IsLinked rule most c.batch.inside.leaves) c.batch.view_is c.batch.invariant in
+    let linked = subst (IsLinked rule most) c.batch.view_is c.batch.invariant in
     let m : matched same c.size.result c.front.result.now c.args.batch.now ≡ Some c.in-Some.first = sym c.find_state.ensures ∙ c.in-Some.is in
-    let k : c.in-Some.first ≤ length c.deref.result.now = some_kept rule most c.batch.inside.leaves same c.args.batch.now linked (λ r. r.value) c.deref.result.now (ap (map (λ r. r.value)) c.deref.ensures.value ∙ ap (λ b. b.ancestors) c.batch.view_is) c.size.result c.in-Some.first c.front.result.now m in
+    let k : c.in-Some.first ≤ length c.deref.result.now = some_kept rule most same c.args.batch.now linked (λ r. r.value) c.deref.result.now (ap (map (λ r. r.value)) c.deref.ensures.value ∙ ap (λ b. b.ancestors) c.batch.view_is) c.size.result c.in-Some.first c.front.result.now m in
     search rules
 
 pub lay_all-requires : goal.lay_all-requires
@@ -54,68 +55,76 @@ lay_all-requires g c =
     let rule = g.F.Family.rule in
     let most = g.F.Family.MAX_LEAVES in
     let same = g.D.PartialEq.eq in
-    let linked = subst (IsLinked rule most c.batch.inside.leaves) c.batch.view_is c.batch.invariant in
+    let linked = subst (IsLinked rule most) c.batch.view_is c.batch.invariant in
     let m : matched same c.size.result c.front.result.now c.args.batch.now ≡ Some c.in-Some.first = sym c.find_state.ensures ∙ c.in-Some.is in
-    omega (arith, total_laid rule most c.batch.inside.leaves same c.args.batch.now linked (λ r. r.value) c.deref.result.now (ap (map (λ r. r.value)) c.deref.ensures.value ∙ ap (λ b. b.ancestors) c.batch.view_is) c.size.result c.in-Some.first c.front.result.now m, c.in_ok-reserve.ensures.room, c.reserve.ensures.size, ap (λ s. s.size) c.self.view_is, c.as_u64.ensures, c.sub-added.ensures, c.size.ensures, c.size-2.ensures, c.size-3.ensures)
+    omega (arith, total_laid rule most same c.args.batch.now linked (λ r. r.value) c.deref.result.now (ap (map (λ r. r.value)) c.deref.ensures.value ∙ ap (λ b. b.ancestors) c.batch.view_is) c.size.result c.in-Some.first c.front.result.now m, c.in_ok-reserve.ensures.room, c.reserve.ensures.size, ap (λ s. s.size) c.self.view_is, c.as_u64.ensures, c.sub-added.ensures, c.size.ensures, c.size-2.ensures, c.size-3.ensures)
 
 pub lay-requires : goal.lay-requires
 lay-requires g c =
     let rule = g.F.Family.rule in
     let most = g.F.Family.MAX_LEAVES in
     let same = g.D.PartialEq.eq in
-    let linked = subst (IsLinked rule most c.batch.inside.leaves) c.batch.view_is c.batch.invariant in
+    let linked = subst (IsLinked rule most) c.batch.view_is c.batch.invariant in
     let m : matched same c.size.result c.front.result.now c.args.batch.now ≡ Some c.in-Some.first = sym c.find_state.ensures ∙ c.in-Some.is in
     let own : c.deref-own.result.now ≡ c.args.batch.now.own = c.deref-own.ensures ∙ ap (λ b. b.own) c.batch.view_is in
-    omega (arith, total_laid rule most c.batch.inside.leaves same c.args.batch.now linked (λ r. r.value) c.deref.result.now (ap (map (λ r. r.value)) c.deref.ensures.value ∙ ap (λ b. b.ancestors) c.batch.view_is) c.size.result c.in-Some.first c.front.result.now m, c.in_ok-reserve.ensures.room, c.reserve.ensures.size, ap (λ s. s.size) c.self.view_is, ap (λ (r : Recorded _). length r.appended) own, c.lay_all.ensures.capacity, c.lay_all.ensures.size, c.as_u64.ensures, c.sub-added.ensures, c.size.ensures, c.size-2.ensures, c.size-3.ensures)
+    omega (arith, total_laid rule most same c.args.batch.now linked (λ r. r.value) c.deref.result.now (ap (map (λ r. r.value)) c.deref.ensures.value ∙ ap (λ b. b.ancestors) c.batch.view_is) c.size.result c.in-Some.first c.front.result.now m, c.in_ok-reserve.ensures.room, c.reserve.ensures.size, ap (λ s. s.size) c.self.view_is, ap (λ (r : Recorded _). length r.appended) own, c.lay_all.ensures.capacity, c.lay_all.ensures.size, c.as_u64.ensures, c.sub-added.ensures, c.size.ensures, c.size-2.ensures, c.size-3.ensures)
 
 pub invariant_of-self-2 : goal.invariant_of-self-2
 invariant_of-self-2 g c =
     let rule = g.F.Family.rule in
     let most = g.F.Family.MAX_LEAVES in
     let same = g.D.PartialEq.eq in
-    let linked = subst (IsLinked rule most c.batch.inside.leaves) c.batch.view_is c.batch.invariant in
+    let linked = subst (IsLinked rule most) c.batch.view_is c.batch.invariant in
     let m : matched same c.size.result c.front.result.now c.args.batch.now ≡ Some c.in-Some.first = sym c.find_state.ensures ∙ c.in-Some.is in
     let own : c.deref-own.result.now ≡ c.args.batch.now.own = c.deref-own.ensures ∙ ap (λ b. b.own) c.batch.view_is in
     let i = c.self.inside in
-    rw (c.lay.ensures.start ∙ c.lay_all.ensures.start ∙ c.reserve.ensures.start)
-    (kept_after rule most c.batch.inside.leaves same c.args.batch.now linked (λ r. r.value) c.deref.result.now (ap (map (λ r. r.value)) c.deref.ensures.value ∙ ap (λ b. b.ancestors) c.batch.view_is) c.size.result c.in-Some.first c.front.result.now m
-    i.boundary i.leaves i.held.start i.held.size c.lay_all.new.held.size c.lay.new.held.size c.self.invariant (c.size.ensures ∙ sym (ap (λ s. s.size) c.self.view_is))
-    (omega (arith, c.lay_all.ensures.size, c.reserve.ensures.size)) (c.lay.ensures.size ∙ ap (λ (r : Recorded _). c.lay_all.new.held.size + length r.appended) own))
+    let changes = map (λ r. r.value) (take (length c.deref.result.now - c.in-Some.first) (drop c.in-Some.first c.deref.result.now)) in
+    let reserved : held_contents i.boundary c.reserve.new.self ≡ held_contents i.boundary i.held = λ j. record { boundary = i.boundary; size = c.reserve.ensures.size j; node = get (c.reserve.ensures.stored j) } in
+    subst (λ n. IsKept rule most i.boundary n c.lay.new.held) (sym (ap (λ b. b.leaves) c.batch.view_is))
+    (kept_after rule most same c.args.batch.now linked (λ r. r.value) c.deref.result.now (ap (map (λ r. r.value)) c.deref.ensures.value ∙ ap (λ b. b.ancestors) c.batch.view_is) c.size.result c.in-Some.first c.front.result.now m
+    i.boundary i.leaves i.held c.lay_all.new.held c.lay.new.held c.self.invariant (c.size.ensures ∙ sym (ap (λ s. s.size) c.self.view_is))
+    (c.lay.ensures.start ∙ c.lay_all.ensures.start ∙ c.reserve.ensures.start)
+    (omega (arith, c.lay_all.ensures.size, c.reserve.ensures.size)) (c.lay.ensures.size ∙ ap (λ (r : Recorded _). c.lay_all.new.held.size + length r.appended) own)
+    (c.lay_all.ensures.laid i.boundary ∙ ap (all_laid changes) reserved)
+    (c.lay.ensures.laid i.boundary ∙ ap (λ r. laid r (held_contents i.boundary c.lay_all.new.held)) own))
 
 pub returns-clause-done : goal.returns-clause-done
-returns-clause-done g c = λ n within many.
+returns-clause-done g c =
     let rule = g.F.Family.rule in
     let most = g.F.Family.MAX_LEAVES in
     let same = g.D.PartialEq.eq in
-    let linked = subst (IsLinked rule most c.batch.inside.leaves) c.batch.view_is c.batch.invariant in
+    let linked = subst (IsLinked rule most) c.batch.view_is c.batch.invariant in
     let m : matched same c.size.result c.front.result.now c.args.batch.now ≡ Some c.in-Some.first = sym c.find_state.ensures ∙ c.in-Some.is in
     let own : c.deref-own.result.now ≡ c.args.batch.now.own = c.deref-own.ensures ∙ ap (λ b. b.own) c.batch.view_is in
     let i = c.self.inside in
-    let held : c.front.result.now ≡ held_peaks rule n (contents c.args.self.now) = c.front.ensures ∙ c.write_peaks-count.ensures.held n within many in
-    let at : matched same c.args.self.now.size (held_peaks rule n (contents c.args.self.now)) c.args.batch.now ≡ Some c.in-Some.first = sym (λ j. matched same (c.size.ensures j) (held j) c.args.batch.now) ∙ m in
+    let changes = map (λ r. r.value) (take (length c.deref.result.now - c.in-Some.first) (drop c.in-Some.first c.deref.result.now)) in
+    let held : c.front.result.now ≡ held_peaks rule c.args.self.now.leaves (contents c.args.self.now) = c.front.ensures ∙ c.write_peaks-count.ensures.held in
+    let at : matched same c.args.self.now.size (held_peaks rule c.args.self.now.leaves (contents c.args.self.now)) c.args.batch.now ≡ Some c.in-Some.first = sym (λ j. matched same (c.size.ensures j) (held j) c.args.batch.now) ∙ m in
     let reserved : held_contents i.boundary c.reserve.new.self ≡ contents c.args.self.now =
     (λ j. record { boundary = i.boundary; size = c.reserve.ensures.size j; node = get (c.reserve.ensures.stored j) }) ∙ ap contents c.self.view_is in
-    applied_after rule most c.batch.inside.leaves same c.args.batch.now linked (λ r. r.value) c.deref.result.now (ap (map (λ r. r.value)) c.deref.ensures.value ∙ ap (λ b. b.ancestors) c.batch.view_is) c.size.result c.in-Some.first c.front.result.now m
-    n (contents c.args.self.now) (held_contents i.boundary c.lay_all.new.held) (held_contents i.boundary c.lay.new.held)
-    (c.lay_all.ensures.laid i.boundary ∙ ap (all_laid (map (λ r. r.value) (take (length c.deref.result.now - c.in-Some.first) (drop c.in-Some.first c.deref.result.now)))) reserved)
+    applied_after rule most same c.args.batch.now linked (λ r. r.value) c.deref.result.now (ap (map (λ r. r.value)) c.deref.ensures.value ∙ ap (λ b. b.ancestors) c.batch.view_is) c.size.result c.in-Some.first c.front.result.now m
+    c.args.self.now.leaves (contents c.args.self.now) (held_contents i.boundary c.lay_all.new.held) (held_contents i.boundary c.lay.new.held)
+    (c.lay_all.ensures.laid i.boundary ∙ ap (all_laid changes) reserved)
     (c.lay.ensures.laid i.boundary ∙ ap (λ r. laid r (held_contents i.boundary c.lay_all.new.held)) own) at
 
+pub returns-clause-counted : goal.returns-clause-counted
+returns-clause-counted g c = ap (λ b. b.leaves) c.batch.view_is
+
 pub returns-clause-refused : goal.returns-clause-refused
-returns-clause-refused g c = λ n within many none.
+returns-clause-refused g c = λ none.
     let rule = g.F.Family.rule in
-    let most = g.F.Family.MAX_LEAVES in
     let same = g.D.PartialEq.eq in
-    let linked = subst (IsLinked rule most c.batch.inside.leaves) c.batch.view_is c.batch.invariant in
     let m : matched same c.size.result c.front.result.now c.args.batch.now ≡ Some c.in-Some.first = sym c.find_state.ensures ∙ c.in-Some.is in
-    let held : c.front.result.now ≡ held_peaks rule n (contents c.args.self.now) = c.front.ensures ∙ c.write_peaks-count.ensures.held n within many in
-    let at : matched same c.args.self.now.size (held_peaks rule n (contents c.args.self.now)) c.args.batch.now ≡ Some c.in-Some.first = sym (λ j. matched same (c.size.ensures j) (held j) c.args.batch.now) ∙ m in
+    let held : c.front.result.now ≡ held_peaks rule c.args.self.now.leaves (contents c.args.self.now) = c.front.ensures ∙ c.write_peaks-count.ensures.held in
+    let at : matched same c.args.self.now.size (held_peaks rule c.args.self.now.leaves (contents c.args.self.now)) c.args.batch.now ≡ Some c.in-Some.first = sym (λ j. matched same (c.size.ensures j) (held j) c.args.batch.now) ∙ m in
     let both : None ≡ Some c.in-Some.first = sym none ∙ at in
     absurd (cc)
 
-pub returns-clause-agrees : goal.returns-clause-agrees
-returns-clause-agrees g c = λ h X ls tells same agrees stands.
+pub returns-clause-on_lists : goal.returns-clause-on_lists
+returns-clause-on_lists g c = λ h X ls tells same agrees stands.
     let rule = g.F.Family.rule in
-    let leaves : c.self.inside.leaves ≡ length X = size_inj rule c.self.inside.leaves (length X) (c.self.invariant.counted.sized ∙ ap (λ s. s.size) c.self.view_is ∙ agrees.sized) in
-    let done = returns-clause-done g c (length X) (omega (arith, leaves, c.self.invariant.counted.bounded)) (sym agrees.sized) in
-    applied_or_collides h rule tells c.args.batch.now ls (contents c.args.self.now) _ X stands agrees
-    (ap (λ equal. applied equal rule (length X) c.args.batch.now (contents c.args.self.now)) same ∙ done)
+    let i = c.self.inside in
+    let old = contents c.args.self.now in
+    let leaves : c.args.self.now.leaves ≡ length X = sym (ap (λ s. s.leaves) c.self.view_is) ∙ size_inj rule i.leaves (length X) (c.self.invariant.counted.sized ∙ ap (λ s. s.size) c.self.view_is ∙ agrees.sized) in
+    applied_at h rule tells c.args.batch.now ls old _ X stands agrees
+    (ap (λ equal. applied equal rule (length X) c.args.batch.now old) same ∙ ap (λ n. applied g.D.PartialEq.eq rule n c.args.batch.now old) (sym leaves) ∙ returns-clause-done g c)

@@ -1,9 +1,13 @@
-use Rattle.std.proofs.Common.{rules, ◌≡◌, ◌+◌, ◌≤◌, length, arith, ap, ◌∙◌, nat_eq}
+use Rattle.std.proofs.Common.{rules, ◌≡◌, ◌+◌, ◌≤◌, length, arith, ap, sym, ◌∙◌, nat_eq, subst}
 use Rattle.std.specs.Map.{lookup}
 use Rattle.merkle_base.specs.Forest.{size}
 use Rattle.merkle_base.specs.Places.{peak_positions}
 use Rattle.merkle_batch_theory.specs.Held.{paired}
+use Rattle.merkle_batch_theory.specs.Contents.{Agrees}
+use Rattle.merkle_batch_theory.specs.Store.{Store, contents, stored_of}
 use Rattle.merkle_batch_theory.proofs.HeldNodes.{kept_counted}
+use Rattle.merkle_batch_theory.proofs.HeldWhere.{made_held}
+use Rattle.merkle_batch_theory.proofs.HonestComponents.{honest_agrees}
 use Rattle.merkle_batch_theory.proofs.PinFacts.{paired_before}
 use Rattle.merkle_core.proofs.mem.Mem.from_components.Goals as goal
 
@@ -18,7 +22,28 @@ from_parts-requires g c =
 pub invariant_of-result : goal.invariant_of-result
 invariant_of-result g c =
     let rule = g.F.Family.rule in
-    let start = c.in-Ok.extent.0 in
-    let nodes = start + length c.args.nodes.items in
-    let found : (c.in-Ok.extent.1 ≤ g.F.Family.MAX_LEAVES) × (size rule c.in-Ok.extent.1 ≡ size rule c.args.pruning_boundary + length c.args.nodes.items) = search rules in
-    rw (c.from_parts.ensures.start, c.from_parts.ensures.size) (kept_counted rule g.F.Family.MAX_LEAVES c.args.pruning_boundary c.in-Ok.extent.1 start nodes (record { bounded = found.0; sized = omega (arith, found.1, c.in-Ok.ensures.start) }) c.in-Ok.ensures.start (omega arith))
+    let b = c.args.pruning_boundary in
+    let peaks = peak_positions rule b in
+    let pins = c.args.pinned_nodes.items in
+    let nodes = c.args.nodes.items in
+    let held = c.from_parts.result in
+    let found : (c.in-Ok.extent.1 ≤ g.F.Family.MAX_LEAVES) × (size rule c.in-Ok.extent.1 ≡ size rule b + length nodes) = search rules in
+    let made : c.in-Ok-pair_pins.pins.items ≡ paired peaks pins = search rules in
+    let counted : length pins ≡ length peaks = search rules in
+    let start : held.start ≡ size rule b = c.from_parts.ensures.start ∙ c.in-Ok.ensures.start in
+    let sized : held.size ≡ size rule b + length nodes = omega (arith, c.from_parts.ensures.size, c.in-Ok.ensures.start) in
+    kept_counted rule g.F.Family.MAX_LEAVES b c.in-Ok.extent.1 held (record { bounded = found.0; sized = found.1 ∙ sym sized }) start (omega (arith, start, sized))
+    (made_held rule b pins nodes counted held sized (c.from_parts.ensures.stored ∙ (λ j. stored_of (made j) (c.in-Ok.ensures.start j) nodes)))
+
+pub returns-in-Ok-pair_pins-clause-agrees : goal.returns-in-Ok-pair_pins-clause-agrees
+returns-in-Ok-pair_pins-clause-agrees g c = λ h X of.
+    let rule = g.F.Family.rule in
+    let b = c.args.pruning_boundary in
+    let pins = c.args.pinned_nodes.items in
+    let nodes = c.args.nodes.items in
+    let held = c.from_parts.result in
+    let made : c.in-Ok-pair_pins.pins.items ≡ paired (peak_positions rule b) pins = search rules in
+    let sized : held.size ≡ size rule b + length nodes = omega (arith, c.from_parts.ensures.size, c.in-Ok.ensures.start) in
+    let stored : held.stored ≡ stored_of (paired (peak_positions rule b) pins) (size rule b) nodes = c.from_parts.ensures.stored ∙ (λ j. stored_of (made j) (c.in-Ok.ensures.start j) nodes) in
+    subst (λ (s : Store _). Agrees h rule (contents s) X) (λ j. record { boundary = b; leaves = c.in-Ok.extent.1; size = sym sized j; stored = sym stored j })
+    (honest_agrees h rule X b c.in-Ok.extent.1 pins nodes of)

@@ -17,3 +17,9 @@ returns-clause-bad_pins g c = c.from_components.ensures.bad_pins
 
 pub returns-clause-allowed : goal.returns-clause-allowed
 returns-clause-allowed g c = c.from_components.ensures.allowed
+
+pub returns-clause-counted : goal.returns-clause-counted
+returns-clause-counted g c = c.from_components.ensures.counted
+
+pub returns-clause-agrees : goal.returns-clause-agrees
+returns-clause-agrees g c = c.from_components.ensures.agrees

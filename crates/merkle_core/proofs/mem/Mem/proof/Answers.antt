@@ -24,8 +24,8 @@ returns-then-ge-clause-given g c = λ h X agrees low less few.
     absurd (omega (arith, leaves, past, less))
 
 pub returns-then-ge-clause-err : goal.returns-then-ge-clause-err
-returns-then-ge-clause-err g c = λ n within sized _.
-    let leaves : c.leaves-leaves.result ≡ n = size_inj g.F.Family.rule c.leaves-leaves.result n (c.leaves-leaves.ensures.sized ∙ sym sized) in
+returns-then-ge-clause-err g c = λ _.
+    let leaves : c.leaves-leaves.result ≡ c.args.self.now.leaves = c.leaves-leaves.ensures.count in
     let past : c.leaves-leaves.result ≤ c.args.location = ge_yes c.args.location c.leaves-leaves.result (sym c.ge.ensures ∙ c.if-ge.true) in
     inr (inl (c.if-not-is_valid_index.ensures.0 refl, omega (arith, leaves, past), refl))
 
@@ -35,11 +35,11 @@ add-requires g c =
     omega (arith, below, c.leaves-leaves.ensures.bounded, lawful_leaves g.F.Family.rule g.F.Family.MAX_LEAVES g.F.Family.MAX_NODES g.met.F.Family.lawful)
 
 pub returns-in-Ok-clause-built : goal.returns-in-Ok-clause-built
-returns-in-Ok-clause-built g c = λ n within sized.
+returns-in-Ok-clause-built g c =
     let s = setting (g.H.Hasher.hashing c.args.hasher.now) (g.H.Hasher.bagging_of c.args.hasher.now) g.F.Family.rule g.F.Family.MAX_LEAVES g.F.Family.DOMAIN in
     let below : c.args.location < c.leaves-leaves.result = ge_no c.args.location c.leaves-leaves.result (sym c.ge.ensures ∙ c.if-ge.false) in
-    let leaves : c.leaves-leaves.result ≡ n = size_inj g.F.Family.rule c.leaves-leaves.result n (c.leaves-leaves.ensures.sized ∙ sym sized) in
-    let plan : c.in-Ok.plan ≡ record { leaves = n; start = c.args.location; end = c.args.location + 1 } =
+    let leaves : c.leaves-leaves.result ≡ c.args.self.now.leaves = c.leaves-leaves.ensures.count in
+    let plan : c.in-Ok.plan ≡ record { leaves = c.args.self.now.leaves; start = c.args.location; end = c.args.location + 1 } =
     c.in-Ok.ensures.ok ∙ ap (λ e. record { leaves = c.leaves-leaves.result; start = c.args.location; end = e }) c.add.ensures ∙ ap (λ m. record { leaves = m; start = c.args.location; end = c.args.location + 1 }) leaves in
     IfOk-weaker c.build_proof.result _ _ (λ p built. (omega (arith, below, leaves), subst (λ (r : LeafRange). IsBuiltProof s (node c.args.self.now) c.args.inactive r p) plan built)) c.build_proof.ensures.built
 
@@ -62,10 +62,10 @@ returns-in-Ok-clause-given g c = λ h X agrees low less few.
     (λ other. subst (λ r. IsBuildRefusal (g.H.Hasher.bagging_of c.args.hasher.now) g.F.Family.rule r c.args.inactive (λ p o. o ≡ node c.args.self.now p) e) plan (refused other))) c.build_proof.ensures.err
 
 pub returns-in-Ok-clause-err : goal.returns-in-Ok-clause-err
-returns-in-Ok-clause-err g c = λ n within sized.
+returns-in-Ok-clause-err g c =
     let below : c.args.location < c.leaves-leaves.result = ge_no c.args.location c.leaves-leaves.result (sym c.ge.ensures ∙ c.if-ge.false) in
-    let leaves : c.leaves-leaves.result ≡ n = size_inj g.F.Family.rule c.leaves-leaves.result n (c.leaves-leaves.ensures.sized ∙ sym sized) in
-    let plan : c.in-Ok.plan ≡ record { leaves = n; start = c.args.location; end = c.args.location + 1 } =
+    let leaves : c.leaves-leaves.result ≡ c.args.self.now.leaves = c.leaves-leaves.ensures.count in
+    let plan : c.in-Ok.plan ≡ record { leaves = c.args.self.now.leaves; start = c.args.location; end = c.args.location + 1 } =
     c.in-Ok.ensures.ok ∙ ap (λ e. record { leaves = c.leaves-leaves.result; start = c.args.location; end = e }) c.add.ensures ∙ ap (λ m. record { leaves = m; start = c.args.location; end = c.args.location + 1 }) leaves in
     IfErr-weaker c.build_proof.result _ _ (λ e refused other. inr (inr (omega (arith, below, leaves), subst (λ r. IsBuildRefusal (g.H.Hasher.bagging_of c.args.hasher.now) g.F.Family.rule r c.args.inactive (λ p o. o ≡ node c.args.self.now p) e) plan (refused other)))) c.build_proof.ensures.err
 
@@ -78,6 +78,6 @@ returns-in-Err-clause-given g c = λ h X agrees low less few.
     ]
 
 pub returns-in-Err-clause-err : goal.returns-in-Err-clause-err
-returns-in-Err-clause-err g c = λ n within sized other.
+returns-in-Err-clause-err g c = λ other.
     let below : c.args.location < c.leaves-leaves.result = ge_no c.args.location c.leaves-leaves.result (sym c.ge.ensures ∙ c.if-ge.false) in
     absurd (range_planned g.F.Family.MAX_LEAVES c.leaves-leaves.result c.args.location c.add.result c.in-Err.error (omega (arith, c.add.ensures)) (omega (arith, below, c.add.ensures)) c.leaves-leaves.ensures.bounded (c.in-Err.ensures.err other))

@@ -6,31 +6,24 @@ use Rattle.merkle_batch_theory.proofs.Agreed.{agree_pruned}
 use Rattle.merkle_core.proofs.mem.Mem.prune.Goals as goal
 
 pub returns-then-gt-clause-allowed : goal.returns-then-gt-clause-allowed
-returns-then-gt-clause-allowed g c = λ n within sized below.
-    let i = c.self.inside in
-    let above : i.leaves < c.args.location = search rules in
-    let leaves : i.leaves ≡ n = size_inj g.F.Family.rule i.leaves n (c.self.invariant.counted.sized ∙ ap (λ s. s.size) c.self.view_is ∙ sym sized) in
-    absurd (omega (arith, above, leaves, below))
+returns-then-gt-clause-allowed g c = λ below.
+    let above : c.self.inside.leaves < c.args.location = search rules in
+    absurd (omega (arith, above, ap (λ s. s.leaves) c.self.view_is, below))
 
 pub prune_to-requires : goal.prune_to-requires
 prune_to-requires g c =
-    let i = c.self.inside in
-    let upto : c.args.location ≤ i.leaves = search rules in
-    (i.leaves, c.self.invariant.counted.bounded, c.self.invariant.counted.sized ∙ ap (λ s. s.size) c.self.view_is, upto)
+    let upto : c.args.location ≤ c.self.inside.leaves = search rules in
+    omega (arith, upto, ap (λ s. s.leaves) c.self.view_is)
 
 pub returns-in_err-prune_to-clause-refused : goal.returns-in_err-prune_to-clause-refused
-returns-in_err-prune_to-clause-refused g c = λ n within sized above.
-    let i = c.self.inside in
-    let upto : c.args.location ≤ i.leaves = search rules in
-    let leaves : i.leaves ≡ n = size_inj g.F.Family.rule i.leaves n (c.self.invariant.counted.sized ∙ ap (λ s. s.size) c.self.view_is ∙ sym sized) in
-    absurd (omega (arith, upto, leaves, above))
+returns-in_err-prune_to-clause-refused g c = λ above.
+    let upto : c.args.location ≤ c.self.inside.leaves = search rules in
+    absurd (omega (arith, upto, ap (λ s. s.leaves) c.self.view_is, above))
 
 pub returns-clause-refused : goal.returns-clause-refused
-returns-clause-refused g c = λ n within sized above.
-    let i = c.self.inside in
-    let upto : c.args.location ≤ i.leaves = search rules in
-    let leaves : i.leaves ≡ n = size_inj g.F.Family.rule i.leaves n (c.self.invariant.counted.sized ∙ ap (λ s. s.size) c.self.view_is ∙ sym sized) in
-    absurd (omega (arith, upto, leaves, above))
+returns-clause-refused g c = λ above.
+    let upto : c.args.location ≤ c.self.inside.leaves = search rules in
+    absurd (omega (arith, upto, ap (λ s. s.leaves) c.self.view_is, above))
 
 pub returns-clause-agrees : goal.returns-clause-agrees
 returns-clause-agrees g c = λ h X agrees.

@@ -6,10 +6,7 @@ use Rattle.merkle_batch_theory.proofs.Agreed.{agree_pruned}
 use Rattle.merkle_core.proofs.mem.Mem.prune_all.Goals as goal
 
 pub returns-clause-pruned : goal.returns-clause-pruned
-returns-clause-pruned g c = λ n within sized.
-    let i = c.prune_to.inside in
-    let leaves : i.leaves ≡ n = size_inj g.F.Family.rule i.leaves n (c.prune_to.invariant.counted.sized ∙ ap (λ s. s.size) c.prune_to.view_is ∙ sym sized) in
-    c.in_ok-prune_to.ensures.pruned ∙ ap (λ m. pruned g.F.Family.rule m (contents c.args.self.now)) leaves
+returns-clause-pruned g c = c.in_ok-prune_to.ensures.pruned ∙ ap (λ s. pruned g.F.Family.rule s.leaves (contents c.args.self.now)) c.prune_to.view_is
 
 pub returns-clause-agrees : goal.returns-clause-agrees
 returns-clause-agrees g c = λ h X agrees.

@@ -1,13 +1,14 @@
-use Rattle.std.proofs.Common.{rules, ◌≡◌, ◌<◌, arith, ap, sym, ◌∙◌, cond, nat_eq}
+use Rattle.std.proofs.Common.{rules, ◌≡◌, ◌<◌, arith, ap, sym, ◌∙◌, cond, nat_eq, subst}
 use Rattle.std.specs.Prelude.{nat_lt}
 use Rattle.std.specs.FinMap.{get}
 use Rattle.std.specs.Map.{lookup}
 use Rattle.merkle_base.specs.Places.{peak_positions}
-use Rattle.merkle_base.proofs.Nodes.{size_inj, size_le}
-use Rattle.merkle_batch_theory.specs.Contents.{pruned}
+use Rattle.merkle_base.proofs.Nodes.{size_le}
+use Rattle.merkle_batch_theory.specs.Contents.{HoldsKept, pruned}
 use Rattle.merkle_batch_theory.specs.Held.{held_contents}
 use Rattle.merkle_batch_theory.specs.HeldPeaks.{pins_of}
 use Rattle.merkle_batch_theory.specs.Store.{contents}
+use Rattle.merkle_batch_theory.proofs.HeldWhere.{pruned_held}
 use Rattle.merkle_batch_theory.proofs.PinFacts.{pins_before, pruned_contents}
 use Rattle.merkle_core.proofs.mem.Mem.prune_to.Goals as goal
 
@@ -19,10 +20,9 @@ drop_before-requires-clause-later g c =
 
 pub drop_before-requires-clause-within : goal.drop_before-requires-clause-within
 drop_before-requires-clause-within g c =
-    let rule = g.F.Family.rule in
     let i = c.self.inside in
-    let leaves : i.leaves ≡ c.requires.0 = size_inj rule i.leaves c.requires.0 (c.self.invariant.counted.sized ∙ ap (λ s. s.size) c.self.view_is ∙ sym c.requires.2) in
-    omega (arith, c.location_to_position.ensures, c.self.invariant.counted.sized, size_le rule c.args.location i.leaves (omega (arith, leaves, c.requires.3)))
+    let leaves = ap (λ s. s.leaves) c.self.view_is in
+    omega (arith, c.location_to_position.ensures, c.self.invariant.counted.sized, size_le g.F.Family.rule c.args.location i.leaves (omega (arith, leaves, c.requires)))
 
 pub drop_before-requires-clause-before : goal.drop_before-requires-clause-before
 drop_before-requires-clause-before g c = λ p l.
@@ -30,9 +30,21 @@ drop_before-requires-clause-before g c = λ p l.
 
 pub invariant_of-self : goal.invariant_of-self
 invariant_of-self g c =
+    let rule = g.F.Family.rule in
     let i = c.self.inside in
-    let leaves : i.leaves ≡ c.requires.0 = size_inj g.F.Family.rule i.leaves c.requires.0 (c.self.invariant.counted.sized ∙ ap (λ s. s.size) c.self.view_is ∙ sym c.requires.2) in
-    rw (c.drop_before.ensures.start, c.drop_before.ensures.size) (record { starts = c.location_to_position.ensures; within = omega (arith, leaves, c.requires.3); counted = c.self.invariant.counted })
+    let later : i.boundary < c.args.location = search rules in
+    let leaves = ap (λ s. s.leaves) c.self.view_is in
+    let pins : c.in_ok-pins.pins.items ≡ pins_of (held_contents i.boundary i.held) (peak_positions rule c.args.location) = c.in_ok-pins.ensures ∙ ap (λ s. pins_of (contents s) (peak_positions rule c.args.location)) (sym c.self.view_is) in
+    let new = pruned_contents rule i.boundary c.args.location i.held c.drop_before.new.self (λ p. c.drop_before.ensures.stored p ∙ (λ j. cond (nat_lt p (c.location_to_position.ensures j)) (lookup (nat_eq p) (pins j)) (get i.held.stored p))) later c.drop_before.ensures.size in
+    record {
+      starts = c.drop_before.ensures.start ∙ c.location_to_position.ensures;
+      within = omega (arith, leaves, c.requires);
+      counted = record { bounded = c.self.invariant.counted.bounded; sized = c.self.invariant.counted.sized ∙ sym c.drop_before.ensures.size };
+      holds = subst (HoldsKept rule) (sym new) (pruned_held rule c.args.location (held_contents i.boundary i.held) c.self.invariant.holds);
+    }
+
+pub returns-clause-counted : goal.returns-clause-counted
+returns-clause-counted g c = ap (λ s. s.leaves) c.self.view_is
 
 pub returns-clause-pruned : goal.returns-clause-pruned
 returns-clause-pruned g c =

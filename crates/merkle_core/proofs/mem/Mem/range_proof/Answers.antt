@@ -10,10 +10,10 @@ use Rattle.merkle_proof.specs.RangePlans.{LeafRange, IsRefusal, IsBuildRefusal, 
 use Rattle.merkle_core.proofs.mem.Mem.range_proof.Goals as goal
 
 pub returns-in-Ok-clause-built : goal.returns-in-Ok-clause-built
-returns-in-Ok-clause-built g c = λ n within sized.
+returns-in-Ok-clause-built g c =
     let s = setting (g.H.Hasher.hashing c.args.hasher.now) (g.H.Hasher.bagging_of c.args.hasher.now) g.F.Family.rule g.F.Family.MAX_LEAVES g.F.Family.DOMAIN in
-    let leaves : c.leaves-leaves.result ≡ n = size_inj g.F.Family.rule c.leaves-leaves.result n (c.leaves-leaves.ensures.sized ∙ sym sized) in
-    let plan : c.in-Ok.plan ≡ record { leaves = n; start = c.args.range.start; end = c.args.range.end } = c.in-Ok.ensures.ok ∙ ap (λ m. record { leaves = m; start = c.args.range.start; end = c.args.range.end }) leaves in
+    let leaves : c.leaves-leaves.result ≡ c.args.self.now.leaves = c.leaves-leaves.ensures.count in
+    let plan : c.in-Ok.plan ≡ record { leaves = c.args.self.now.leaves; start = c.args.range.start; end = c.args.range.end } = c.in-Ok.ensures.ok ∙ ap (λ m. record { leaves = m; start = c.args.range.start; end = c.args.range.end }) leaves in
     let fits = c.in-Ok.ensures.within in
     IfOk-weaker c.build_proof.result _ _ (λ p built. (fits.0, omega (arith, fits.1, leaves), subst (λ (r : LeafRange). IsBuiltProof s (node c.args.self.now) c.args.inactive r p) plan built)) c.build_proof.ensures.built
 
@@ -34,9 +34,9 @@ returns-in-Ok-clause-given g c = λ h X agrees low some less few.
     (λ other. subst (λ r. IsBuildRefusal (g.H.Hasher.bagging_of c.args.hasher.now) g.F.Family.rule r c.args.inactive (λ p o. o ≡ node c.args.self.now p) e) plan (refused other))) c.build_proof.ensures.err
 
 pub returns-in-Ok-clause-err : goal.returns-in-Ok-clause-err
-returns-in-Ok-clause-err g c = λ n within sized.
-    let leaves : c.leaves-leaves.result ≡ n = size_inj g.F.Family.rule c.leaves-leaves.result n (c.leaves-leaves.ensures.sized ∙ sym sized) in
-    let plan : c.in-Ok.plan ≡ record { leaves = n; start = c.args.range.start; end = c.args.range.end } = c.in-Ok.ensures.ok ∙ ap (λ m. record { leaves = m; start = c.args.range.start; end = c.args.range.end }) leaves in
+returns-in-Ok-clause-err g c =
+    let leaves : c.leaves-leaves.result ≡ c.args.self.now.leaves = c.leaves-leaves.ensures.count in
+    let plan : c.in-Ok.plan ≡ record { leaves = c.args.self.now.leaves; start = c.args.range.start; end = c.args.range.end } = c.in-Ok.ensures.ok ∙ ap (λ m. record { leaves = m; start = c.args.range.start; end = c.args.range.end }) leaves in
     let fits = c.in-Ok.ensures.within in
     IfErr-weaker c.build_proof.result _ _ (λ e refused other. inr (fits.0, omega (arith, fits.1, leaves), subst (λ r. IsBuildRefusal (g.H.Hasher.bagging_of c.args.hasher.now) g.F.Family.rule r c.args.inactive (λ p o. o ≡ node c.args.self.now p) e) plan (refused other))) c.build_proof.ensures.err
 
@@ -49,6 +49,6 @@ returns-in-Err-clause-given g c = λ h X agrees low some less few.
     ]
 
 pub returns-in-Err-clause-err : goal.returns-in-Err-clause-err
-returns-in-Err-clause-err g c = λ n within sized other.
-    let leaves : c.leaves-leaves.result ≡ n = size_inj g.F.Family.rule c.leaves-leaves.result n (c.leaves-leaves.ensures.sized ∙ sym sized) in
+returns-in-Err-clause-err g c = λ other.
+    let leaves : c.leaves-leaves.result ≡ c.args.self.now.leaves = c.leaves-leaves.ensures.count in
     inl (subst (λ (m : ℕ). IsRefusal g.F.Family.MAX_LEAVES m c.args.range.start c.args.range.end c.in-Err.error) leaves (c.in-Err.ensures.err other))

@@ -1,13 +1,11 @@
-use Rattle.std.proofs.Common.{rules, ◌≡◌, ℕ, List, Ok, Err, length, arith, ap, sym, ◌∙◌}
-use Rattle.std.proofs.lemmas.List.{length-map}
+use Rattle.std.proofs.Common.{◌≡◌, ℕ, List, Ok, Err, length, arith, ap, sym, ◌∙◌}
 use Rattle.merkle_base.specs.declared.error.Error.TheVariants.{InvalidInactivePeaks}
-use Rattle.merkle_base.specs.Digests.{digest_at}
 use Rattle.merkle_base.specs.Forest.{size}
 use Rattle.merkle_base.specs.Hashing.{Hashing}
 use Rattle.merkle_base.specs.Places.{peaks_of}
 use Rattle.merkle_base.specs.Root.{peaks_root}
-use Rattle.merkle_batch_theory.specs.Contents.{Contents, Agrees}
-use Rattle.merkle_batch_theory.specs.Store.{contents}
+use Rattle.merkle_batch_theory.specs.Contents.{Agrees, held_peaks}
+use Rattle.merkle_batch_theory.specs.Store.{Store, contents}
 use Rattle.merkle_batch_theory.proofs.Accepted.{peaks_agree}
 use Rattle.merkle_base.proofs.Nodes.{size_inj}
 use Rattle.merkle_core.proofs.mem.Mem.root.Goals as goal
@@ -19,33 +17,34 @@ pub front-requires : goal.front-requires
 front-requires g c = (omega (arith, g.met.D.Digest.small), c.write_peaks-count.ensures.few)
 
 pub returns-clause-ok : goal.returns-clause-ok
-returns-clause-ok g c = λ n within sized enough.
-    let same : c.leaves.result ≡ n = size_inj g.F.Family.rule c.leaves.result n (c.leaves.ensures.sized ∙ sym sized) in
-    let held = c.front.ensures ∙ c.write_peaks-count.ensures.held n within sized in
+returns-clause-ok g c = λ enough.
+    let held = c.front.ensures ∙ c.write_peaks-count.ensures.held in
     let root = peaks_root (g.H.Hasher.hashing c.args.hasher.now) g.F.Family.DOMAIN (g.H.Hasher.bagging_of c.args.hasher.now) in
-    c.root.ensures.ok (omega (arith, enough, ap length held)) ∙ ap (λ m. Ok (root m c.args.inactive c.args.inactive c.front.result.now)) same ∙ ap (λ peaks. Ok (root n c.args.inactive c.args.inactive peaks)) held
+    c.root.ensures.ok (omega (arith, enough, ap length held, c.write_peaks-count.ensures.many))
+    ∙ (λ j. Ok (root (c.leaves.ensures.count j) c.args.inactive c.args.inactive (held j)))
+
+pub returns-clause-err : goal.returns-clause-err
+returns-clause-err g c = λ many.
+    let count : length c.front.result.now ≡ length (peaks_of g.F.Family.rule c.args.self.now.leaves) = ap length (c.front.ensures ∙ c.write_peaks-count.ensures.held) ∙ c.write_peaks-count.ensures.many in
+    c.root.ensures.err (omega (arith, count, many)) ∙ ap (λ (n : ℕ). Err (InvalidInactivePeaks c.args.inactive n)) count
 
 -- the list that the structure agrees with has its number of leaves
-listed_length : {D : Type 0} (h : Hashing D) (rule : List ℕ → List ℕ) (s : Contents D) (X : List D) (leaves : ℕ) → Agrees h rule s X → size rule leaves ≡ s.size → leaves ≡ length X
-listed_length h rule s X leaves agrees sized = size_inj rule leaves (length X) (sized ∙ agrees.sized)
+listed_length : {D : Type 0} (h : Hashing D) (rule : List ℕ → List ℕ) (s : Store D) (X : List D) (leaves : ℕ) → Agrees h rule (contents s) X → leaves ≡ s.leaves → size rule leaves ≡ s.size → s.leaves ≡ length X
+listed_length h rule s X leaves agrees same sized = sym same ∙ size_inj rule leaves (length X) (sized ∙ agrees.sized)
 
 pub returns-clause-listed : goal.returns-clause-listed
 returns-clause-listed g c = λ X agrees enough.
     let h = g.H.Hasher.hashing c.args.hasher.now in
     let rule = g.F.Family.rule in
-    let same = listed_length h rule (contents c.args.self.now) X c.leaves.result agrees c.leaves.ensures.sized in
-    let held = peaks_agree h rule (contents c.args.self.now) X agrees in
-    returns-clause-ok g c (length X) (omega (arith, same, c.leaves.ensures.bounded)) (sym agrees.sized) (omega (arith, enough, ap length held, length-map (peaks_of rule (length X)) (digest_at h X)))
-    ∙ ap (λ peaks. Ok (peaks_root h g.F.Family.DOMAIN (g.H.Hasher.bagging_of c.args.hasher.now) (length X) c.args.inactive c.args.inactive peaks)) held
+    let root = peaks_root h g.F.Family.DOMAIN (g.H.Hasher.bagging_of c.args.hasher.now) in
+    let same = listed_length h rule c.args.self.now X c.leaves.result agrees c.leaves.ensures.count c.leaves.ensures.sized in
+    returns-clause-ok g c (omega (arith, enough, ap (λ n. length (peaks_of rule n)) same))
+    ∙ ap (λ n. Ok (root n c.args.inactive c.args.inactive (held_peaks rule n (contents c.args.self.now)))) same
+    ∙ ap (λ peaks. Ok (root (length X) c.args.inactive c.args.inactive peaks)) (peaks_agree h rule (contents c.args.self.now) X agrees)
 
 pub returns-clause-too_many : goal.returns-clause-too_many
 returns-clause-too_many g c = λ X agrees many.
     let h = g.H.Hasher.hashing c.args.hasher.now in
     let rule = g.F.Family.rule in
-    let same = listed_length h rule (contents c.args.self.now) X c.leaves.result agrees c.leaves.ensures.sized in
-    let front = c.front.ensures ∙ c.write_peaks-count.ensures.held (length X) (omega (arith, same, c.leaves.ensures.bounded)) (sym agrees.sized) ∙ peaks_agree h rule (contents c.args.self.now) X agrees in
-    let count : length c.front.result.now ≡ length (peaks_of rule (length X)) = omega (arith, ap length front, length-map (peaks_of rule (length X)) (digest_at h X)) in
-    c.root.ensures.err (omega (arith, count, many)) ∙ ap (λ (n : ℕ). Err (InvalidInactivePeaks c.args.inactive n)) count
-
-pub returns-clause-err : goal.returns-clause-err
-returns-clause-err g c = search rules depth 2
+    let same = ap (λ n. length (peaks_of rule n)) (listed_length h rule c.args.self.now X c.leaves.result agrees c.leaves.ensures.count c.leaves.ensures.sized) in
+    returns-clause-err g c (omega (arith, same, many)) ∙ ap (λ (n : ℕ). Err (InvalidInactivePeaks c.args.inactive n)) same

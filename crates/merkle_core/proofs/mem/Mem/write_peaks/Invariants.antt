@@ -1,5 +1,4 @@
-use Rattle.std.proofs.Common.{◌≡◌, ◌+◌, ◌≤◌, ◌++◌, ℕ, map, take, length}
-use Rattle.merkle_base.specs.Forest.{size}
+use Rattle.std.proofs.Common.{◌≡◌, ◌+◌, ◌≤◌, ◌++◌, map, take, length}
 use Rattle.merkle_batch_theory.specs.Contents.{held_peaks}
 use Rattle.merkle_batch_theory.specs.Store.{contents}
 use Rattle.merkle_batch_theory.specs.HeldPeaks.{held_at}
@@ -11,5 +10,4 @@ invariant-loop-position g l =
     × (goal.iterator-loop-position g).is_finite l.position-iterator
     × (length l.digests ≡ 64)
     × (l.count + length (g.F.Peaks.Listed.left l.position-iterator) ≤ 64)
-    × ((n : ℕ) → n ≤ g.F.Family.MAX_LEAVES → size g.F.Family.rule n ≡ l.self.size
-    → take l.count l.digests ++ held_at (contents l.self) (map (λ q. q.0) (g.F.Peaks.Listed.left l.position-iterator)) ≡ held_peaks g.F.Family.rule n (contents l.self))
+    × (take l.count l.digests ++ held_at (contents l.self) (map (λ q. q.0) (g.F.Peaks.Listed.left l.position-iterator)) ≡ held_peaks g.F.Family.rule l.self.leaves (contents l.self))

@@ -65,5 +65,5 @@ returns-clause-answered g c = λ given word held.
       with_element given element,
       held_more h rule new.committed old.pending given held-new c.in-Ok.value c.in-Ok-add.value element adds
           (subst (λ x. c.in-Ok-add.value ≡ with_leaf c.in-Ok.value (h.leaf (size rule (leaf_total c.in-Ok.value)) x)) c.as_slice.ensures.value c.in-Ok-add.ensures.added),
-      add_done h rule g.F.Family.MAX_LEAVES g.F.Family.DOMAIN old.hasher given c.args.digits element c.as_u64.result _ c.in-Ok-read_hex.ensures.value (c.as_u64.ensures ∙ c.leaves-location.ensures ∙ total) (omega (arith, c.in-Ok-add.ensures.room, c.as_u64.ensures, c.leaves-location.ensures)) refl,
+      add_done h rule g.F.Family.MAX_LEAVES g.F.Family.DOMAIN old.hasher given c.args.digits element c.as_u64.result _ c.in-Ok-read_hex.ensures.value (c.as_u64.ensures ∙ c.leaves-location.ensures.count ∙ total) (omega (arith, c.in-Ok-add.ensures.room, c.as_u64.ensures, c.leaves-location.ensures.count)) refl,
     )
