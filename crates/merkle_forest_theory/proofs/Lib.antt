@@ -6,3 +6,4 @@ pub mod MountainRange
 pub mod MountainBelt
 pub mod Existence
 pub mod Coordinates
+pub mod PeakCounts

@@ -2,4 +2,5 @@ pub mod Digits
 pub mod Mmr
 pub mod Mmb
 pub mod BeltDigits
+pub mod FewPeaks
 pub mod Rows

@@ -1,4 +1,4 @@
--- Small cases, in which nothing is hashed.
+-- Small cases, in which nothing is hashed or nothing is merged.
 use Rattle.std.specs.Prelude.{ℕ, List, [], ◌∷◌, ◌++◌, eqb}
 use Rattle.std.specs.Cmp.Lexicographic.{pointwise}
 use Rattle.merkle_base.specs.Hashing.{Hashing}
@@ -14,6 +14,10 @@ unhashed = record {
   same = pointwise eqb;
   empty = [];
 }
+
+-- the rule that merges none
+abbrev pub unmerged : List ℕ → List ℕ
+unmerged hs = []
 
 -- the digests of three leaves
 abbrev pub three_digests : List (List ℕ)

@@ -15,7 +15,8 @@ ghost use Rattle.merkle_base.specs.Root.{folded, list_root};
 ghost use Rattle.merkle_base.specs.declared.family.Bagging.TheVariants.{ForwardFold, BackwardFold};
 ghost use Rattle.merkle_forest_theory.specs.Mmr.{carries, AscendsFrom, IsPostorder, range_root, range_birth};
 ghost use Rattle.merkle_forest_theory.specs.Mmb.{newest_pair, birth_leaf, root_position, belt_birth};
-ghost use Rattle.merkle_forest_theory.specs.Rows.{unhashed, three_digests, four_peaks};
+ghost use Rattle.merkle_forest_theory.specs.FewPeaks.{FewPeaks};
+ghost use Rattle.merkle_forest_theory.specs.Rows.{unhashed, unmerged, three_digests, four_peaks};
 
 /// The Mountain Range: its merges are lawful, and its counts and places have formulas.
 pub fn mountain_range()
@@ -38,6 +39,9 @@ pub fn mountain_range()
     // Over each stretch of 2 ^ h leaves from a multiple of 2 ^ h on stands a node.
     ensures range_has { (n s a h : ℕ) → s ≡ a * 2 ^ h → s + 2 ^ h ≤ n → (p : ℕ) × (t : Tree) × (slice_get (forest carries n).nodes p ≡ Some t) × (first_leaf t ≡ s) × (height t ≡ h) }
     ensures coordinates { AreCoordinates carries (2 ^ 62) range_root range_birth }
+
+    // A peak's height and the number of peaks are at most 123 together.
+    ensures few { FewPeaks carries (2 ^ 62) }
 {}
 
 /// The Mountain Belt: its merge is lawful, and its counts and places have formulas.
@@ -70,6 +74,9 @@ pub fn mountain_belt()
     // Over each stretch of 2 ^ h leaves from a multiple of 2 ^ h on stands a node, once its birth leaf is there.
     ensures belt_has { (n s a h : ℕ) → s ≡ a * 2 ^ h → birth_leaf s h < n → (p : ℕ) × (t : Tree) × (slice_get (forest newest_pair n).nodes p ≡ Some t) × (first_leaf t ≡ s) × (height t ≡ h) }
     ensures coordinates { AreCoordinates newest_pair (2 ^ 62 + 30) root_position belt_birth }
+
+    // A peak's height and the number of peaks are at most 123 together.
+    ensures few { FewPeaks newest_pair (2 ^ 62 + 30) }
 {}
 
 /// The definitions on small numbers, by computing.
@@ -98,6 +105,10 @@ pub fn worked_rows()
 
     // The peaks of 11 leaves end at the locations 8, 10 and 11.
     ensures inactive { map (inactive_peaks carries 11) (7 ∷ 8 ∷ 9 ∷ 10 ∷ 11 ∷ []) ≡ 0 ∷ 1 ∷ 1 ∷ 2 ∷ 3 ∷ [] }
+
+    // Where none are merged there are as many peaks as leaves, each of height 0.
+    ensures few { FewPeaks unmerged 123 }
+    ensures too_many { FewPeaks unmerged 124 → ⊥ }
 
     // With 8 leaves the node over the last four of them has not come.
     ensures belt_chunk { map placed (nodes_inside newest_pair 8 4 8) ≡ (9, 1) ∷ (12, 1) ∷ [] }

@@ -9,6 +9,7 @@ use Rattle.merkle_forest_theory.proofs.Digits.{ends_trailing}
 use Rattle.merkle_forest_theory.proofs.Existence.{mmb_exists}
 use Rattle.merkle_forest_theory.proofs.MountainBelt.{mmb_parents, mmb_peak_height, mmb_older, mmb_placed, mmb_children, size_root}
 use Rattle.merkle_forest_theory.proofs.Coordinates.{mmb_coordinates}
+use Rattle.merkle_forest_theory.proofs.PeakCounts.{mmb_few}
 use Rattle.merkle_forest_theory.proofs.laws.mountain_belt.Goals as goal
 
 pub returns : goal.returns
@@ -35,4 +36,5 @@ returns c = record {
   aligned = λ n p t e. (mmb_placed n p t e).aligned;
   belt_has = mmb_exists;
   coordinates = mmb_coordinates;
+  few = mmb_few;
 }

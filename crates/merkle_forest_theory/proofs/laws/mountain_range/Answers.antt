@@ -10,6 +10,7 @@ use Rattle.merkle_forest_theory.proofs.Existence.{mmr_exists}
 use Rattle.merkle_forest_theory.proofs.RangeLawful.{mmr_lawful, mmr_size, mmr_peak_count, mmr_ascends}
 use Rattle.merkle_forest_theory.proofs.MountainRange.{mmr_parents, mmr_children, mmr_position, mmr_born, mmr_equal}
 use Rattle.merkle_forest_theory.proofs.Coordinates.{mmr_coordinates}
+use Rattle.merkle_forest_theory.proofs.PeakCounts.{mmr_few}
 use Rattle.merkle_forest_theory.proofs.laws.mountain_range.Goals as goal
 
 pub returns : goal.returns
@@ -29,4 +30,5 @@ returns c = record {
   aligned = λ n p t e. (mmr_born n p t e).aligned;
   range_has = mmr_exists;
   coordinates = mmr_coordinates;
+  few = mmr_few;
 }
