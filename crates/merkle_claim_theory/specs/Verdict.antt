@@ -3,23 +3,15 @@ use Rattle.std.specs.Prelude.{◌≡◌, ℕ, Bool, ◌&&◌, ◌||◌, ◌≤�
 use Rattle.merkle_root_theory.specs.Expression.{Input}
 use Rattle.merkle_root_theory.specs.Collision.{Laws}
 use Rattle.merkle_claim_theory.specs.FirstCollision.{first_collision, IsFirstCollision}
-use Rattle.merkle_root_theory.specs.Check.{Setting, root_of, all_inputs, list_expression, RangeInput, range_expression}
+use Rattle.merkle_root_theory.specs.Check.{Setting, root_of, all_inputs, RangeInput, range_expression, range_inputs}
 use Rattle.merkle_base.specs.Places.{peaks_of}
-use Rattle.merkle_root_theory.specs.Range.{end_of, range_parts, range_siblings, leaf_of, plan_root, Sound, Accepts, IsHonestSome, IsHonestRange}
+use Rattle.merkle_root_theory.specs.Range.{end_of, range_parts, range_siblings, list_inputs, plan_root, Sound, Accepts, IsHonestSome, IsHonestRange}
 use Rattle.merkle_claim_theory.specs.Order.{Distinct}
 use Rattle.merkle_root_theory.specs.Extract.{extracted}
 use Rattle.merkle_claim_theory.specs.Multiproof.{MultiInput, multi_expression, AcceptsMulti, IsHonestMultiSome, IsHonestMulti}
 use Rattle.merkle_claim_theory.specs.Pinned.{honest_pins, pinned_expression, AcceptsPinned, IsHonestPinned}
 
--- all that is hashed for a list
-abbrev pub list_inputs : {D : Type 0} → Setting D → List D → ℕ → List (Input D)
-list_inputs s xs k = all_inputs s (length xs) k (list_expression s (leaf_of s.hashing xs) (length xs) k)
-
--- all that is hashed for a range input
-abbrev pub range_inputs : {D : Type 0} → Setting D → RangeInput D → List (Input D)
-range_inputs s r = all_inputs s r.leaves r.inactive (range_expression s r)
-
--- for a multi input
+-- all that is hashed for a multi input
 abbrev pub multi_inputs : {D : Type 0} → Setting D → MultiInput D → List (Input D)
 multi_inputs s r = all_inputs s r.leaves r.inactive (multi_expression s r)
 

@@ -3,6 +3,7 @@ ghost use Rattle.std.specs.Prelude.{◌≡◌, ◌≤◌, [], ◌∷◌, ◌↔�
 ghost use Rattle.merkle_base.specs.Places.{peaks_of, inactive_peaks};
 ghost use Rattle.merkle_base.specs.Root.{list_root};
 ghost use Rattle.merkle_root_theory.specs.Range.{Accepts, IsHonestRange, RangeCollides};
+ghost use Rattle.merkle_root_theory.specs.RootNames.{NamesRoot};
 ghost use Rattle.merkle_root_theory.specs.Walk.{bytes_of};
 ghost use Rattle.merkle_proof.specs.Input.{setting, input_of};
 
@@ -84,8 +85,9 @@ impl<F: Family, D: Digest> Proof<F, D> {
     ///
     /// It is answered from the proof alone. `true` means that the proof is the honest one of these leaves, or else that
     /// the computation and the list hash different inputs to one digest at the same place. An honest proof is never
-    /// answered `false`. With no elements `true` is answered for the empty proof, from location 0 on and against the root
-    /// of no leaves, and for nothing else.
+    /// answered `false`. With `true` the root is the hash of a string that begins with the family's byte, the hasher's
+    /// bagging and the proof's leaf count. With no elements `true` is answered for the empty proof, from location 0 on and
+    /// against the root of no leaves, and for nothing else.
     ///
     /// Refused only where there is no memory.
     pub fn verify_range_inclusion<H: Hasher<F, Digest = D>>(
@@ -96,6 +98,7 @@ impl<F: Family, D: Digest> Proof<F, D> {
         root: &D,
     ) -> Result<bool, OutOfMemory>
         ensures exact { let h = H.hashing hasher.now in IfOk result (λ b. IsTrue b ↔ Accepts (setting h (H.bagging_of hasher.now) F.rule F.MAX_LEAVES F.DOMAIN) (input_of h F.rule self.now start (bytes_of elements.now)) root.now) }
+        ensures names { let h = H.hashing hasher.now in IfOk result (λ b. IsTrue b → NamesRoot (setting h (H.bagging_of hasher.now) F.rule F.MAX_LEAVES F.DOMAIN) self.now.leaves root.now) }
         ensures honest { let h = H.hashing hasher.now in let s = setting h (H.bagging_of hasher.now) F.rule F.MAX_LEAVES F.DOMAIN in IfOk result (λ b. (xs : _) (k : ℕ) → length xs ≤ F.MAX_LEAVES → k ≤ length (peaks_of F.rule (length xs)) → list_root h F.rule F.DOMAIN (H.bagging_of hasher.now) xs k ≡ root.now → IsHonestRange s xs k (input_of h F.rule self.now start (bytes_of elements.now)) → IsTrue b) }
         ensures sound { let h = H.hashing hasher.now in let s = setting h (H.bagging_of hasher.now) F.rule F.MAX_LEAVES F.DOMAIN in let r = input_of h F.rule self.now start (bytes_of elements.now) in IfOk result (λ b. IsTrue b → (xs : _) (k : ℕ) → length xs ≤ F.MAX_LEAVES → k ≤ length (peaks_of F.rule (length xs)) → list_root h F.rule F.DOMAIN (H.bagging_of hasher.now) xs k ≡ root.now → IsHonestRange s xs k r ⊎ RangeCollides s r xs k) }
     {
@@ -106,7 +109,8 @@ impl<F: Family, D: Digest> Proof<F, D> {
     ///
     /// It is answered from the proof alone. `true` means that the proof is the honest one of that leaf, or else that
     /// the computation and the list hash different inputs to one digest at the same place. An honest proof is never
-    /// answered `false`.
+    /// answered `false`. With `true` the root is the hash of a string that begins with the family's byte, the hasher's
+    /// bagging and the proof's leaf count.
     ///
     /// Refused only where there is no memory.
     pub fn verify_element_inclusion<H: Hasher<F, Digest = D>>(
@@ -117,6 +121,7 @@ impl<F: Family, D: Digest> Proof<F, D> {
         root: &D,
     ) -> Result<bool, OutOfMemory>
         ensures exact { let h = H.hashing hasher.now in IfOk result (λ b. IsTrue b ↔ Accepts (setting h (H.bagging_of hasher.now) F.rule F.MAX_LEAVES F.DOMAIN) (input_of h F.rule self.now location (element.now ∷ [])) root.now) }
+        ensures names { let h = H.hashing hasher.now in IfOk result (λ b. IsTrue b → NamesRoot (setting h (H.bagging_of hasher.now) F.rule F.MAX_LEAVES F.DOMAIN) self.now.leaves root.now) }
         ensures honest { let h = H.hashing hasher.now in let s = setting h (H.bagging_of hasher.now) F.rule F.MAX_LEAVES F.DOMAIN in IfOk result (λ b. (xs : _) (k : ℕ) → length xs ≤ F.MAX_LEAVES → k ≤ length (peaks_of F.rule (length xs)) → list_root h F.rule F.DOMAIN (H.bagging_of hasher.now) xs k ≡ root.now → IsHonestRange s xs k (input_of h F.rule self.now location (element.now ∷ [])) → IsTrue b) }
         ensures sound { let h = H.hashing hasher.now in let s = setting h (H.bagging_of hasher.now) F.rule F.MAX_LEAVES F.DOMAIN in let r = input_of h F.rule self.now location (element.now ∷ []) in IfOk result (λ b. IsTrue b → (xs : _) (k : ℕ) → length xs ≤ F.MAX_LEAVES → k ≤ length (peaks_of F.rule (length xs)) → list_root h F.rule F.DOMAIN (H.bagging_of hasher.now) xs k ≡ root.now → IsHonestRange s xs k r ⊎ RangeCollides s r xs k) }
     {

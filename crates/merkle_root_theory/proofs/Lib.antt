@@ -15,3 +15,4 @@ pub mod BackwardValues
 pub mod LayoutFolds
 pub mod LayoutRoot
 pub mod LayoutCounts
+pub mod NamedRoots

@@ -60,6 +60,10 @@ leaf_given h r i = get_or r.elements (i - r.start) h.empty
 abbrev pub range_expression : {D : Type 0} → Setting D → RangeInput D → Option (Expression D)
 range_expression s r = option_map (λ p. claim_of s.hashing (chosen r) (leaf_given s.hashing r) p r.digests) (whole s.bagging r.inactive (peaks_of s.rule r.leaves))
 
+-- all that is hashed for a range input
+abbrev pub range_inputs : {D : Type 0} → Setting D → RangeInput D → List (Input D)
+range_inputs s r = all_inputs s r.leaves r.inactive (range_expression s r)
+
 -- the proof has the digests that its plan asks for
 abbrev pub Counts : {D : Type 0} → RangeInput D → Option Plan → Type 0
 Counts r None = ⊥

@@ -10,3 +10,4 @@ pub mod Range
 pub mod Extract
 pub mod Walk
 pub mod ListRoot
+pub mod RootNames

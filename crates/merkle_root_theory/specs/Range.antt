@@ -3,6 +3,7 @@ use Rattle.std.specs.Prelude.{◌≡◌, ℕ, Bool, ◌&&◌, ◌⊎◌, ◌≤�
 use Rattle.merkle_base.specs.Tree.{Tree, first_leaf, end_leaf}
 use Rattle.merkle_base.specs.Heights.{IsLawful}
 use Rattle.merkle_base.specs.Hashing.{Hashing}
+use Rattle.merkle_root_theory.specs.Expression.{Input}
 use Rattle.merkle_root_theory.specs.Collision.{Collision, Collides, Laws}
 use Rattle.merkle_root_theory.specs.RootString.{ByteLaws}
 use Rattle.merkle_root_theory.specs.Plan.{Plan, siblings, plan_digest, tree_digest}
@@ -79,9 +80,13 @@ pub record IsHonestSome {D : Type 0} (s : Setting D) (xs : List D) (k : ℕ) (r 
 abbrev pub IsHonestRange : {D : Type 0} → Setting D → List D → ℕ → RangeInput D → Type 0
 IsHonestRange s xs k r = IsHonestSome s xs k r ⊎ (IsEmptyInput r × (xs ≡ []))
 
--- the root of a list for k, and all that is hashed for it
+-- the root of a list for k
 abbrev pub plan_root : {D : Type 0} → Setting D → List D → ℕ → D
 plan_root s xs k = root_of s (length xs) k (list_expression s (leaf_of s.hashing xs) (length xs) k)
+
+-- all that is hashed for a list
+abbrev pub list_inputs : {D : Type 0} → Setting D → List D → ℕ → List (Input D)
+list_inputs s xs k = all_inputs s (length xs) k (list_expression s (leaf_of s.hashing xs) (length xs) k)
 
 -- what the family, the hasher and its digests keep
 pub record Sound {D : Type 0} (s : Setting D) (size max_nodes : ℕ) : Type 0 where

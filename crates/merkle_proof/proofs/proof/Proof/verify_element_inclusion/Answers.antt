@@ -3,6 +3,9 @@ use Rattle.merkle_proof.proofs.proof.Proof.verify_element_inclusion.Goals as goa
 pub returns-clause-exact : goal.returns-clause-exact
 returns-clause-exact g c = c.verify_range_inclusion.ensures.exact
 
+pub returns-clause-names : goal.returns-clause-names
+returns-clause-names g c = c.verify_range_inclusion.ensures.names
+
 pub returns-clause-honest : goal.returns-clause-honest
 returns-clause-honest g c = c.verify_range_inclusion.ensures.honest
 

@@ -2,6 +2,7 @@ use Rattle.std.proofs.Common.{sym, subst, ◌∙◌, ◌↔◌, IsTrue, IfOk}
 use Rattle.merkle_root_theory.specs.Range.{Accepts}
 use Rattle.merkle_proof.specs.Input.{setting, input_of}
 use Rattle.merkle_root_theory.specs.Walk.{bytes_of}
+use Rattle.merkle_root_theory.proofs.NamedRoots.{yes_names_root}
 use Rattle.merkle_root_theory.proofs.RangeChecks.{honest_is_accepted, accepted_is_honest}
 use Rattle.merkle_proof.proofs.RangeRoot.{same_input}
 use Rattle.merkle_proof.proofs.ListRoots.{roots_agree}
@@ -15,6 +16,13 @@ returns-clause-exact g c =
     let s = setting h (g.H.Hasher.bagging_of c.args.hasher.now) g.F.Family.rule g.F.Family.MAX_LEAVES g.F.Family.DOMAIN in
     subst (λ r. IfOk c.verify_range.result (λ b. IsTrue b ↔ Accepts s r c.args.root.now))
     (same_input h g.F.Family.rule c.args.start (bytes_of c.args.elements.now) _ _ _ _ _ _ c.parts.ensures.leaves c.parts.ensures.inactive c.parts.ensures.digests) c.verify_range.ensures
+
+pub returns-clause-names : goal.returns-clause-names
+returns-clause-names g c =
+    let h = g.H.Hasher.hashing c.args.hasher.now in
+    let s = setting h (g.H.Hasher.bagging_of c.args.hasher.now) g.F.Family.rule g.F.Family.MAX_LEAVES g.F.Family.DOMAIN in
+    let r = input_of h g.F.Family.rule c.args.self.now c.args.start (bytes_of c.args.elements.now) in
+    if_ok c.verify_range.result (λ b e yes. yes_names_root s r c.args.root.now (e.0 yes)) (returns-clause-exact g c)
 
 pub returns-clause-honest : goal.returns-clause-honest
 returns-clause-honest g c =
