@@ -16,3 +16,8 @@ pub mod PairsOnce
 pub mod ClearMulti
 pub mod ClearPinned
 pub mod PathSiblings
+pub mod ClaimRoots
+pub mod InputForms
+pub mod PlainStrings
+pub mod LocatedNodes
+pub mod FewDigests

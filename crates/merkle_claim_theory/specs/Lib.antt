@@ -13,4 +13,8 @@ pub mod Pinned
 pub mod Store
 pub mod Verdict
 pub mod Siblings
+pub mod ClaimRoots
+pub mod PlainHash
+pub mod Located
+pub mod FewDigests
 pub mod Rows

@@ -1,7 +1,8 @@
 -- Small cases of layouts and range checks, with the exclusive or in the place of a hash.
 use Rattle.std.specs.Prelude.{ℕ, List, [], ◌∷◌, ◌==◌, cond, bit_xor, fold}
 use Rattle.merkle_base.specs.Tree.{Tree, leaf, join}
-use Rattle.merkle_base.specs.declared.family.Bagging.TheVariants.{ForwardFold}
+use Rattle.merkle_base.specs.declared.family.Bagging.TheVariants.{ForwardFold, BackwardFold}
+use Rattle.merkle_forest_theory.specs.Rows.{unhashed, unmerged}
 use Rattle.merkle_root_theory.specs.Expression.{Input}
 use Rattle.merkle_root_theory.specs.Plan.{Plan, peak}
 use Rattle.merkle_root_theory.specs.Check.{Setting, RangeInput, all_inputs, list_expression, range_expression}
@@ -34,9 +35,28 @@ paired (h ∷ a ∷ hs) = cond (h == a) (0 ∷ []) []
 abbrev pub small : Setting ℕ
 small = record { hashing = record xor_hashing { hash = fold bit_xor 0 }; rule = λ hs. []; max_leaves = 3; bagging = ForwardFold; domain = 0 }
 
+-- the same under another family's byte
+abbrev pub other_family : Setting ℕ
+other_family = record small { domain = 1 }
+
 -- a proof of the middle one of three leaves, whose digest is 3, with that inactive count and these digests
 abbrev pub middle : ℕ → List ℕ → RangeInput ℕ
 middle inactive digests = record { leaves = 3; inactive = inactive; digests = digests; start = 1; elements = 3 ∷ [] }
+
+-- up to three leaves of family 8, none merged, folded right to left; nothing is hashed, so that a root is its string
+abbrev pub bare : Setting (List ℕ)
+bare = record { hashing = unhashed; rule = unmerged; max_leaves = 3; bagging = BackwardFold; domain = 8 }
+
+-- such a root of three leaves with the digest 5
+abbrev pub bare_root : List ℕ
+bare_root = 8 ∷ 1 ∷ 0 ∷ 0 ∷ 0 ∷ 0 ∷ 0 ∷ 0 ∷ 0 ∷ 3 ∷ 5 ∷ []
+
+-- the exclusive or of bytes, and the byte of a digest
+abbrev pub xor_bytes : List ℕ → ℕ
+xor_bytes = fold bit_xor 0
+
+abbrev pub one_byte : ℕ → List ℕ
+one_byte d = d ∷ []
 
 -- what is hashed for it with the digests of the leaves 1 and 7 swapped, and what is hashed for the list
 abbrev pub swapped_inputs : List (Input ℕ)
@@ -44,3 +64,7 @@ swapped_inputs = all_inputs small 3 0 (range_expression small (middle 0 (7 ∷ 1
 
 abbrev pub list_inputs : List (Input ℕ)
 list_inputs = all_inputs small 3 0 (list_expression small (leaf_of small.hashing (1 ∷ 3 ∷ 7 ∷ [])) 3 0)
+
+-- what is hashed for the leaves 1, 3 and 6 under the other family's byte
+abbrev pub other_inputs : List (Input ℕ)
+other_inputs = all_inputs other_family 3 0 (list_expression other_family (leaf_of small.hashing (1 ∷ 3 ∷ 6 ∷ [])) 3 0)

@@ -1,31 +1,41 @@
 //! What holds of proofs against roots: the theory that the checks rest on.
 //!
 //! Each function is empty. Its contract is a law of the definitions in `specs/`.
-ghost use Rattle.std.specs.Prelude.{◌≡◌, ℕ, ◌+◌, ◌*◌, [], ◌∷◌, true, false, Some, None, map};
+ghost use Rattle.std.specs.Prelude.{◌≡◌, ℕ, ◌+◌, ◌*◌, ◌^◌, [], ◌∷◌, true, false, nat_eq, Some, None, map};
 ghost use Rattle.merkle_base.specs.Tree.{position};
 ghost use Rattle.merkle_base.specs.declared.family.Bagging.TheVariants.{ForwardFold, BackwardFold};
+ghost use Rattle.merkle_forest_theory.specs.Mmr.{carries};
+ghost use Rattle.merkle_forest_theory.specs.Mmb.{newest_pair};
+ghost use Rattle.merkle_forest_theory.specs.Rows.{unmerged};
+ghost use Rattle.merkle_hasher.specs.Standard.{standard};
 ghost use Rattle.merkle_claim_theory.specs.Audit.{AuditsRange, AuditsPair, HonestIsClear};
 ghost use Rattle.merkle_root_theory.specs.Check.{HonestRangeAccepted, NoOtherRange, PairConsistent};
 ghost use Rattle.merkle_root_theory.specs.Claim.{HonestAccepted, NothingElse, PairAgrees};
 ghost use Rattle.merkle_root_theory.specs.Collision.{AgreeOrCollide, Collides};
+ghost use Rattle.merkle_claim_theory.specs.ClaimRoots.{MultiNamesRoot, PinnedNamesRoot};
 ghost use Rattle.merkle_claim_theory.specs.Complete.{HonestMultiAccepted, HonestPinsAccepted};
 ghost use Rattle.merkle_claim_theory.specs.Exact.{SamePeaks, HonestNeverCollides};
 ghost use Rattle.merkle_root_theory.specs.Expression.{Root, Join, PrefixFold, SuffixFold, Node, Pair, Bytes, inputs};
 ghost use Rattle.merkle_root_theory.specs.Extract.{ExtractsNodes};
+ghost use Rattle.merkle_claim_theory.specs.FewDigests.{FewPositions};
 ghost use Rattle.merkle_claim_theory.specs.FirstCollision.{FindsFirst, first_collision};
 ghost use Rattle.merkle_root_theory.specs.ListRoot.{RootsAgree};
+ghost use Rattle.merkle_claim_theory.specs.Located.{node_inputs, CollideIsLocated, LocatedIsCollide};
 ghost use Rattle.merkle_claim_theory.specs.MultiClaim.{NoOtherMulti};
-ghost use Rattle.merkle_claim_theory.specs.Multiproof.{HonestMultiIsAccepted, AcceptedMultiIsHonest, AtMost122};
+ghost use Rattle.merkle_claim_theory.specs.Multiproof.{multi_positions, HonestMultiIsAccepted, AcceptedMultiIsHonest, AtMost122};
 ghost use Rattle.merkle_claim_theory.specs.Order.{PlacesInOrder, PlacesOnce};
 ghost use Rattle.merkle_root_theory.specs.Layouts.{count_before, count_after, count_inactive, laid_out};
 ghost use Rattle.merkle_root_theory.specs.Outside.{OutsideIsLayout, layout};
 ghost use Rattle.merkle_claim_theory.specs.Pinned.{HonestPinnedIsAccepted, AcceptedPinnedIsHonest, PinsAreOldPeaks};
 ghost use Rattle.merkle_claim_theory.specs.PinnedClaim.{NoOtherPins};
+ghost use Rattle.merkle_claim_theory.specs.PlainHash.{IsPlain, joined_at, string_at, IsHashCollision, SameForm, StandardIsPlain, RootCollision, PlainCollision};
+ghost use Rattle.merkle_claim_theory.specs.PlainHash.{RangeCollision, MultiCollision, PinnedCollision, PairCollision, NodeCollision};
 ghost use Rattle.merkle_root_theory.specs.Plan.{folding, full, siblings, whole};
 ghost use Rattle.merkle_root_theory.specs.Range.{HonestIsAccepted, AcceptedIsHonest, AcceptsSome, IsHonestSome, in_range, overlapping, wholly_after, range_siblings, range_digests};
 ghost use Rattle.merkle_proof.specs.RangePlans.{reading_order};
+ghost use Rattle.merkle_root_theory.specs.RootNames.{NamesRoot, AreApart, RootsCollide, RootIsNamed, YesNamesRoot, EqualRootsCollide, OtherListCollides, OtherYesCollides};
 ghost use Rattle.merkle_root_theory.specs.RootString.{RootStringTellsAll};
-ghost use Rattle.merkle_claim_theory.specs.Rows.{four, seven, single, alone, paired, small, middle, swapped_inputs, list_inputs};
+ghost use Rattle.merkle_claim_theory.specs.Rows.{four, seven, single, alone, paired, small, other_family, bare, bare_root, xor_bytes, one_byte, middle, swapped_inputs, list_inputs, other_inputs};
 ghost use Rattle.merkle_claim_theory.specs.Siblings.{PathHasSiblings};
 ghost use Rattle.merkle_claim_theory.specs.Store.{PartIsAccepted, SiblingsAreRead};
 ghost use Rattle.merkle_claim_theory.specs.ThreeLeaves.{ThreeLeaves, xor_hashing, three, plan_of_three};
@@ -65,6 +75,64 @@ pub fn collisions<D>()
 
     // No place stands there with two arguments.
     ensures once { PlacesOnce D }
+
+    // Where two lists of one length collide at a node, the inputs of their forests collide at its place.
+    ensures located { CollideIsLocated D }
+
+    // And the other way round.
+    ensures nodes { LocatedIsCollide D }
+{}
+
+/// What a root tells that a check accepts.
+pub fn root_names<D>()
+    // The family's byte, the bagging and the leaf count are part of what was hashed.
+    ensures names { YesNamesRoot D }
+    ensures multi { MultiNamesRoot D }
+    ensures pinned { PinnedNamesRoot D }
+
+    // They are of each root that is computed, of a list or of a proof of any kind.
+    ensures computed { RootIsNamed D }
+
+    // Equal roots of two families or two baggings are two different strings with one hash.
+    ensures apart { EqualRootsCollide D }
+
+    // So it is where an accepted root is that of a list of another family or bagging.
+    ensures lists { OtherListCollides D }
+
+    // And where it is accepted under both.
+    ensures checks { OtherYesCollides D }
+{}
+
+/// Under a hasher whose nodes and folds are a plain hash of joined bytes a located collision is two different byte strings
+/// with one plain hash.
+pub fn plain_hash<D>()
+    // The hasher over a plain hash function is such a one.
+    ensures standard { StandardIsPlain D }
+
+    // Two roots that collide are such a pair, under any hasher.
+    ensures roots { RootCollision D }
+
+    // So it is wherever two arguments of one form collide.
+    ensures strings { PlainCollision D }
+
+    // All that collide between a range input and a list are of one form.
+    ensures ranges { RangeCollision D }
+
+    // So are those of checks of single leaves and of checks with pins.
+    ensures multi { MultiCollision D }
+    ensures pinned { PinnedCollision D }
+
+    // And between two range inputs.
+    ensures pairs { PairCollision D }
+
+    // Two lists that collide at a node are such a pair too.
+    ensures nodes { NodeCollision D }
+{}
+
+/// A location needs at most 122 digests, in both families, up to their greatest leaf counts.
+pub fn few_digests<D>()
+    ensures range_positions { FewPositions D carries (2 ^ 62) }
+    ensures belt_positions { FewPositions D newest_pair (2 ^ 62 + 30) }
 {}
 
 /// What holds of claims beside which the proof tells digests that are also computed.
@@ -107,7 +175,7 @@ pub fn three_leaves()
     ensures { ThreeLeaves }
 {}
 
-/// The definitions of layouts and range checks on small cases, by computing.
+/// The definitions of layouts, checks, roots and collisions on small cases, by computing.
 pub fn worked_rows()
     ensures inside { map (in_range 1 3) (0 ∷ 1 ∷ 2 ∷ 3 ∷ []) ≡ false ∷ true ∷ true ∷ false ∷ [] }
     ensures overlap { map position (overlapping 4 6 seven) ≡ 9 ∷ [] }
@@ -171,6 +239,41 @@ pub fn worked_rows()
     ensures no_collision { Collides small.hashing swapped_inputs list_inputs (record { place = PrefixFold 1; claimed = Pair 7 3; listed = Pair 1 3 }) → ⊥ }
     ensures no_collision_alike { Collides small.hashing list_inputs list_inputs (record { place = PrefixFold 2; claimed = Pair 2 7; listed = Pair 2 7 }) → ⊥ }
     ensures no_collision_elsewhere { first_collision small.hashing (record { place = PrefixFold 1; argument = Pair 4 1 } ∷ []) (record { place = PrefixFold 2; argument = Pair 2 7 } ∷ []) ≡ None }
+
+    // The string of a root of family 8 with three leaves, folded right to left, is none of another family, bagging or count.
+    ensures names { NamesRoot bare 3 bare_root }
+    ensures names_another_count { NamesRoot bare 4 bare_root → ⊥ }
+    ensures names_another_family { NamesRoot (record bare { domain = 9 }) 3 bare_root → ⊥ }
+    ensures names_another_bagging { NamesRoot (record bare { bagging = ForwardFold }) 3 bare_root → ⊥ }
+
+    // The root 6 of the leaves 1, 3 and 7 is under another family's byte that of 1, 3 and 6, whose fold is 4.
+    ensures apart_family { AreApart small other_family }
+    ensures apart_bagging { AreApart small (record small { bagging = BackwardFold }) }
+    ensures not_apart { AreApart small small → ⊥ }
+    ensures roots_collide { RootsCollide small.hashing list_inputs other_inputs }
+    ensures no_roots_collide { RootsCollide small.hashing swapped_inputs list_inputs → ⊥ }
+
+    // The bytes of two digests, at a node after its position, and of a string. Positions above 255 have two bytes that count.
+    ensures joined_node { joined_at one_byte (Node 258) 7 9 ≡ 0 ∷ 0 ∷ 0 ∷ 0 ∷ 0 ∷ 0 ∷ 1 ∷ 2 ∷ 7 ∷ 9 ∷ [] }
+    ensures joined_fold { joined_at one_byte (PrefixFold 258) 7 9 ≡ 7 ∷ 9 ∷ [] }
+    ensures string_pair { string_at one_byte (Node 1) (Pair 7 9) ≡ 0 ∷ 0 ∷ 0 ∷ 0 ∷ 0 ∷ 0 ∷ 0 ∷ 1 ∷ 7 ∷ 9 ∷ [] }
+    ensures string_bytes { string_at one_byte Root (Bytes (4 ∷ 5 ∷ [])) ≡ 4 ∷ 5 ∷ [] }
+    ensures plain { IsPlain (standard xor_bytes one_byte nat_eq 0) }
+    ensures not_plain { IsPlain small.hashing → ⊥ }
+    ensures hash_collision { IsHashCollision xor_bytes (2 ∷ 7 ∷ []) (4 ∷ 1 ∷ []) }
+    ensures no_hash_collision { IsHashCollision xor_bytes (2 ∷ 7 ∷ []) (2 ∷ 6 ∷ []) → ⊥ }
+    ensures no_hash_collision_alike { IsHashCollision xor_bytes (2 ∷ 7 ∷ []) (2 ∷ 7 ∷ []) → ⊥ }
+    ensures one_form { SameForm {D = ℕ} (Pair 1 2) (Pair 3 4) × SameForm {D = ℕ} (Bytes []) (Bytes (1 ∷ [])) }
+    ensures two_forms { (SameForm {D = ℕ} (Pair 1 2) (Bytes (1 ∷ 2 ∷ [])) → ⊥) × (SameForm {D = ℕ} (Bytes (1 ∷ 2 ∷ [])) (Pair 1 2) → ⊥) }
+
+    // Three leaves of which the first two are merged at position 2, and the same with those two swapped.
+    ensures inputs_forest { node_inputs xor_hashing paired (1 ∷ 3 ∷ 7 ∷ []) ≡ record { place = Node 2; argument = Pair 1 3 } ∷ [] }
+    ensures collides_at_node { Collides xor_hashing (node_inputs xor_hashing paired (1 ∷ 3 ∷ 7 ∷ [])) (node_inputs xor_hashing paired (3 ∷ 1 ∷ 7 ∷ []))
+        (record { place = Node 2; claimed = Pair 1 3; listed = Pair 3 1 }) }
+
+    // Where none are merged a leaf's digests are those of all others.
+    ensures positions { multi_positions small 3 (1 ∷ []) ≡ 0 ∷ 2 ∷ [] }
+    ensures too_many_positions { FewPositions ℕ unmerged 124 → ⊥ }
 {}
 
 /// What a range check accepts: the honest inputs and, but for located collisions, no others.

@@ -3,7 +3,17 @@ use Rattle.merkle_root_theory.proofs.RootStrings.{tells_all}
 use Rattle.merkle_claim_theory.proofs.NoCollisions.{same_peaks, honest_never_collides}
 use Rattle.merkle_claim_theory.proofs.PlaceOrder.{places_in_order}
 use Rattle.merkle_claim_theory.proofs.PlacesOnce.{places_once}
+use Rattle.merkle_claim_theory.proofs.LocatedNodes.{collide_is_located, located_is_collide}
 use Rattle.merkle_claim_theory.proofs.laws.collisions.Goals as goal
 
 pub returns : goal.returns
-returns g c = record { first = finds_first; strings = tells_all; peaks = same_peaks; honest = honest_never_collides; order = places_in_order; once = places_once }
+returns g c = record {
+  first = finds_first;
+  strings = tells_all;
+  peaks = same_peaks;
+  honest = honest_never_collides;
+  order = places_in_order;
+  once = places_once;
+  located = collide_is_located;
+  nodes = located_is_collide;
+}

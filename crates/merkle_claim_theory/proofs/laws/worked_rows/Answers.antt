@@ -1,6 +1,21 @@
-use Rattle.std.proofs.Common.{◌≡◌, [], ◌∷◌, refl, inl, inr, arith}
+use Rattle.std.proofs.Common.{◌≡◌, ◌≤◌, ℕ, List, [], ◌∷◌, refl, ap, sym, ◌∙◌, inl, inr, arith}
+use Rattle.merkle_base.specs.declared.family.Bagging.TheVariants.{ForwardFold, BackwardFold}
 use Rattle.merkle_base.specs.Forest.{forest}
+use Rattle.merkle_forest_theory.specs.Rows.{unmerged}
+use Rattle.merkle_root_theory.specs.Expression.{Root, PrefixFold, Pair, Bytes, Argument, Input}
+use Rattle.merkle_root_theory.specs.Collision.{Member}
+use Rattle.merkle_claim_theory.specs.Rows.{small}
 use Rattle.merkle_claim_theory.proofs.laws.worked_rows.Goals as goal
+
+-- of the inputs of three peaks, whatever is folded, the root's argument is this string
+one_root : (x y u v : ℕ) (a : List ℕ)
+    → Member {X = Input ℕ} (record { place = Root; argument = Bytes (0 ∷ 0 ∷ 0 ∷ 0 ∷ 0 ∷ 0 ∷ 0 ∷ 0 ∷ 0 ∷ 3 ∷ 5 ∷ []) } ∷ record { place = PrefixFold 2; argument = Pair x y } ∷ record { place = PrefixFold 1; argument = Pair u v } ∷ [])
+    (record { place = Root; argument = Bytes a })
+    → ◌≡◌ {A = Argument ℕ} (Bytes a) (Bytes (0 ∷ 0 ∷ 0 ∷ 0 ∷ 0 ∷ 0 ∷ 0 ∷ 0 ∷ 0 ∷ 3 ∷ 5 ∷ []))
+one_root x y u v a (inl e) = sym (ap (λ (i : Input ℕ). i.argument) e)
+one_root x y u v a (inr (inl e)) = absurd (let d : PrefixFold 2 ≡ Root = ap (λ (i : Input ℕ). i.place) e in cc)
+one_root x y u v a (inr (inr (inl e))) = absurd (let d : PrefixFold 1 ≡ Root = ap (λ (i : Input ℕ). i.place) e in cc)
+one_root x y u v a (inr (inr (inr m))) = absurd m
 
 pub returns : goal.returns
 unfolding forest
@@ -42,4 +57,32 @@ returns c = record {
   no_collision = λ c. absurd (omega (arith, c.one_digest));
   no_collision_alike = λ c. c.differ refl;
   no_collision_elsewhere = refl;
+  names = (5 ∷ [], refl);
+  names_another_count = λ w. absurd (let e : 8 ∷ 1 ∷ 0 ∷ 0 ∷ 0 ∷ 0 ∷ 0 ∷ 0 ∷ 0 ∷ 3 ∷ 5 ∷ [] ≡ 8 ∷ 1 ∷ 0 ∷ 0 ∷ 0 ∷ 0 ∷ 0 ∷ 0 ∷ 0 ∷ 4 ∷ w.0 = w.1 in cc);
+  names_another_family = λ w. absurd (let e : 8 ∷ 1 ∷ 0 ∷ 0 ∷ 0 ∷ 0 ∷ 0 ∷ 0 ∷ 0 ∷ 3 ∷ 5 ∷ [] ≡ 9 ∷ 1 ∷ 0 ∷ 0 ∷ 0 ∷ 0 ∷ 0 ∷ 0 ∷ 0 ∷ 3 ∷ w.0 = w.1 in cc);
+  names_another_bagging = λ w. absurd (let e : 8 ∷ 1 ∷ 0 ∷ 0 ∷ 0 ∷ 0 ∷ 0 ∷ 0 ∷ 0 ∷ 3 ∷ 5 ∷ [] ≡ 8 ∷ 0 ∷ 0 ∷ 0 ∷ 0 ∷ 0 ∷ 0 ∷ 0 ∷ 0 ∷ 3 ∷ w.0 = w.1 in cc);
+  apart_family = record { one_hash = refl; apart = λ e. absurd (omega (arith, e.0)) };
+  apart_bagging = record { one_hash = refl; apart = λ e. absurd (let f : ForwardFold ≡ BackwardFold = e.1 in cc) };
+  not_apart = λ w. w.apart (refl, refl);
+  roots_collide = (
+    0 ∷ 0 ∷ 0 ∷ 0 ∷ 0 ∷ 0 ∷ 0 ∷ 0 ∷ 0 ∷ 3 ∷ 5 ∷ [],
+    1 ∷ 0 ∷ 0 ∷ 0 ∷ 0 ∷ 0 ∷ 0 ∷ 0 ∷ 0 ∷ 3 ∷ 4 ∷ [],
+    record { claimed = inl refl; listed = inl refl; differ = λ e. absurd (cc); one_digest = refl },
+  );
+  no_roots_collide = λ w. w.2.differ (one_root 4 1 7 3 w.0 w.2.claimed ∙ sym (one_root 2 7 1 3 w.1 w.2.listed));
+  joined_node = refl;
+  joined_fold = refl;
+  string_pair = refl;
+  string_bytes = refl;
+  plain = record { node = λ p l r. refl; fold = λ a b. refl };
+  not_plain = λ w. absurd (let e : 256 ≡ 1 = w.node 256 0 0 in omega (arith, e));
+  hash_collision = record { differ = λ e. absurd (cc); one_hash = refl };
+  no_hash_collision = λ w. absurd (let e : 5 ≡ 4 = w.one_hash in omega (arith, e));
+  no_hash_collision_alike = λ w. w.differ refl;
+  one_form = (tt, tt);
+  two_forms = (λ w. w, λ w. w);
+  inputs_forest = refl;
+  collides_at_node = record { claimed = inl refl; listed = inl refl; differ = λ e. absurd (cc); one_digest = refl };
+  positions = refl;
+  too_many_positions = λ f. absurd (let e : 123 ≤ 122 = f (record small { rule = unmerged; max_leaves = 124 }) refl refl 124 (omega arith) (0 ∷ []) (omega arith, tt) in omega (arith, e));
 }
