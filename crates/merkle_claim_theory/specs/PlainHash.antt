@@ -55,27 +55,32 @@ RootCollision D = (h : Hashing D) (xs ys : List (Input D)) → RootsCollide h xs
 
 -- where two arguments of one form collide, their byte strings do
 abbrev pub PlainCollision : Type 0 → Type 0
-PlainCollision D = (h : Hashing D) → IsPlain h → (size : ℕ) → ByteLaws h size → (xs ys : List (Input D)) (c : Collision D) → SameForm c.claimed c.listed → Collides h xs ys c
+PlainCollision D = (h : Hashing D) → IsPlain h → (size : ℕ) → ByteLaws h size → (xs ys : List (Input D))
+    → (c : Collision D) → SameForm c.claimed c.listed → Collides h xs ys c
     → IsHashCollision h.hash (string_at h.bytes c.place c.claimed) (string_at h.bytes c.place c.listed)
 
 -- so does each collision of a range input with a list
 abbrev pub RangeCollision : Type 0 → Type 0
-RangeCollision D = (s : Setting D) → IsPlain s.hashing → (size : ℕ) → ByteLaws s.hashing size → (r : RangeInput D) (xs : List D) (k : ℕ) (c : Collision D) → Collides s.hashing (range_inputs s r) (list_inputs s xs k) c
+RangeCollision D = (s : Setting D) → IsPlain s.hashing → (size : ℕ) → ByteLaws s.hashing size → (r : RangeInput D) (xs : List D) (k : ℕ)
+    → (c : Collision D) → Collides s.hashing (range_inputs s r) (list_inputs s xs k) c
     → IsHashCollision s.hashing.hash (string_at s.hashing.bytes c.place c.claimed) (string_at s.hashing.bytes c.place c.listed)
 
 -- of a multi input with a list
 abbrev pub MultiCollision : Type 0 → Type 0
-MultiCollision D = (s : Setting D) → IsPlain s.hashing → (size : ℕ) → ByteLaws s.hashing size → (r : MultiInput D) (xs : List D) (k : ℕ) (c : Collision D) → Collides s.hashing (multi_inputs s r) (list_inputs s xs k) c
+MultiCollision D = (s : Setting D) → IsPlain s.hashing → (size : ℕ) → ByteLaws s.hashing size → (r : MultiInput D) (xs : List D) (k : ℕ)
+    → (c : Collision D) → Collides s.hashing (multi_inputs s r) (list_inputs s xs k) c
     → IsHashCollision s.hashing.hash (string_at s.hashing.bytes c.place c.claimed) (string_at s.hashing.bytes c.place c.listed)
 
 -- of a pinned input with a list
 abbrev pub PinnedCollision : Type 0 → Type 0
-PinnedCollision D = (s : Setting D) → IsPlain s.hashing → (size : ℕ) → ByteLaws s.hashing size → (r : RangeInput D) (pins xs : List D) (k : ℕ) (c : Collision D) → Collides s.hashing (pinned_inputs s r pins) (list_inputs s xs k) c
+PinnedCollision D = (s : Setting D) → IsPlain s.hashing → (size : ℕ) → ByteLaws s.hashing size → (r : RangeInput D) (pins xs : List D) (k : ℕ)
+    → (c : Collision D) → Collides s.hashing (pinned_inputs s r pins) (list_inputs s xs k) c
     → IsHashCollision s.hashing.hash (string_at s.hashing.bytes c.place c.claimed) (string_at s.hashing.bytes c.place c.listed)
 
 -- of two range inputs
 abbrev pub PairCollision : Type 0 → Type 0
-PairCollision D = (s : Setting D) → IsPlain s.hashing → (size : ℕ) → ByteLaws s.hashing size → (r q : RangeInput D) (c : Collision D) → Collides s.hashing (range_inputs s r) (range_inputs s q) c
+PairCollision D = (s : Setting D) → IsPlain s.hashing → (size : ℕ) → ByteLaws s.hashing size → (r q : RangeInput D)
+    → (c : Collision D) → Collides s.hashing (range_inputs s r) (range_inputs s q) c
     → IsHashCollision s.hashing.hash (string_at s.hashing.bytes c.place c.claimed) (string_at s.hashing.bytes c.place c.listed)
 
 -- and of two lists at a node

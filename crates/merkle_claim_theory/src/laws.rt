@@ -33,9 +33,11 @@ ghost use Rattle.merkle_claim_theory.specs.PlainHash.{RangeCollision, MultiColli
 ghost use Rattle.merkle_root_theory.specs.Plan.{folding, full, siblings, whole};
 ghost use Rattle.merkle_root_theory.specs.Range.{HonestIsAccepted, AcceptedIsHonest, AcceptsSome, IsHonestSome, in_range, overlapping, wholly_after, range_siblings, range_digests};
 ghost use Rattle.merkle_proof.specs.RangePlans.{reading_order};
-ghost use Rattle.merkle_root_theory.specs.RootNames.{NamesRoot, AreApart, RootsCollide, RootIsNamed, YesNamesRoot, EqualRootsCollide, OtherListCollides, OtherYesCollides};
+ghost use Rattle.merkle_root_theory.specs.RootNames.{NamesRoot, AreApart, RootsCollide};
+ghost use Rattle.merkle_root_theory.specs.RootNames.{RootIsNamed, YesNamesRoot, EqualRootsCollide, OtherListCollides, OtherYesCollides};
 ghost use Rattle.merkle_root_theory.specs.RootString.{RootStringTellsAll};
-ghost use Rattle.merkle_claim_theory.specs.Rows.{four, seven, single, alone, paired, small, other_family, bare, bare_root, xor_bytes, one_byte, middle, swapped_inputs, list_inputs, other_inputs};
+ghost use Rattle.merkle_claim_theory.specs.Rows.{four, seven, single, alone, paired, small, middle, swapped_inputs, list_inputs};
+ghost use Rattle.merkle_claim_theory.specs.Rows.{other_family, other_inputs, bare, bare_root, xor_bytes, one_byte};
 ghost use Rattle.merkle_claim_theory.specs.Siblings.{PathHasSiblings};
 ghost use Rattle.merkle_claim_theory.specs.Store.{PartIsAccepted, SiblingsAreRead};
 ghost use Rattle.merkle_claim_theory.specs.ThreeLeaves.{ThreeLeaves, xor_hashing, three, plan_of_three};
@@ -250,6 +252,7 @@ pub fn worked_rows()
     ensures apart_family { AreApart small other_family }
     ensures apart_bagging { AreApart small (record small { bagging = BackwardFold }) }
     ensures not_apart { AreApart small small → ⊥ }
+    ensures not_apart_in_hash { AreApart small (record other_family { hashing = xor_hashing }) → ⊥ }
     ensures roots_collide { RootsCollide small.hashing list_inputs other_inputs }
     ensures no_roots_collide { RootsCollide small.hashing swapped_inputs list_inputs → ⊥ }
 
@@ -259,7 +262,8 @@ pub fn worked_rows()
     ensures string_pair { string_at one_byte (Node 1) (Pair 7 9) ≡ 0 ∷ 0 ∷ 0 ∷ 0 ∷ 0 ∷ 0 ∷ 0 ∷ 1 ∷ 7 ∷ 9 ∷ [] }
     ensures string_bytes { string_at one_byte Root (Bytes (4 ∷ 5 ∷ [])) ≡ 4 ∷ 5 ∷ [] }
     ensures plain { IsPlain (standard xor_bytes one_byte nat_eq 0) }
-    ensures not_plain { IsPlain small.hashing → ⊥ }
+    ensures not_plain_node { IsPlain small.hashing → ⊥ }
+    ensures not_plain_fold { IsPlain (record (standard xor_bytes one_byte nat_eq 0) { fold = λ a b. a }) → ⊥ }
     ensures hash_collision { IsHashCollision xor_bytes (2 ∷ 7 ∷ []) (4 ∷ 1 ∷ []) }
     ensures no_hash_collision { IsHashCollision xor_bytes (2 ∷ 7 ∷ []) (2 ∷ 6 ∷ []) → ⊥ }
     ensures no_hash_collision_alike { IsHashCollision xor_bytes (2 ∷ 7 ∷ []) (2 ∷ 7 ∷ []) → ⊥ }

@@ -98,7 +98,8 @@ impl<F: Family, D: Digest> Proof<F, D> {
         root: &D,
     ) -> Result<bool, OutOfMemory>
         ensures exact { let h = H.hashing hasher.now in IfOk result (λ b. IsTrue b ↔ Accepts (setting h (H.bagging_of hasher.now) F.rule F.MAX_LEAVES F.DOMAIN) (input_of h F.rule self.now start (bytes_of elements.now)) root.now) }
-        ensures names { let h = H.hashing hasher.now in IfOk result (λ b. IsTrue b → NamesRoot (setting h (H.bagging_of hasher.now) F.rule F.MAX_LEAVES F.DOMAIN) self.now.leaves root.now) }
+        ensures names { let s = setting (H.hashing hasher.now) (H.bagging_of hasher.now) F.rule F.MAX_LEAVES F.DOMAIN in
+            IfOk result (λ b. IsTrue b → NamesRoot s self.now.leaves root.now) }
         ensures honest { let h = H.hashing hasher.now in let s = setting h (H.bagging_of hasher.now) F.rule F.MAX_LEAVES F.DOMAIN in IfOk result (λ b. (xs : _) (k : ℕ) → length xs ≤ F.MAX_LEAVES → k ≤ length (peaks_of F.rule (length xs)) → list_root h F.rule F.DOMAIN (H.bagging_of hasher.now) xs k ≡ root.now → IsHonestRange s xs k (input_of h F.rule self.now start (bytes_of elements.now)) → IsTrue b) }
         ensures sound { let h = H.hashing hasher.now in let s = setting h (H.bagging_of hasher.now) F.rule F.MAX_LEAVES F.DOMAIN in let r = input_of h F.rule self.now start (bytes_of elements.now) in IfOk result (λ b. IsTrue b → (xs : _) (k : ℕ) → length xs ≤ F.MAX_LEAVES → k ≤ length (peaks_of F.rule (length xs)) → list_root h F.rule F.DOMAIN (H.bagging_of hasher.now) xs k ≡ root.now → IsHonestRange s xs k r ⊎ RangeCollides s r xs k) }
     {
@@ -121,7 +122,8 @@ impl<F: Family, D: Digest> Proof<F, D> {
         root: &D,
     ) -> Result<bool, OutOfMemory>
         ensures exact { let h = H.hashing hasher.now in IfOk result (λ b. IsTrue b ↔ Accepts (setting h (H.bagging_of hasher.now) F.rule F.MAX_LEAVES F.DOMAIN) (input_of h F.rule self.now location (element.now ∷ [])) root.now) }
-        ensures names { let h = H.hashing hasher.now in IfOk result (λ b. IsTrue b → NamesRoot (setting h (H.bagging_of hasher.now) F.rule F.MAX_LEAVES F.DOMAIN) self.now.leaves root.now) }
+        ensures names { let s = setting (H.hashing hasher.now) (H.bagging_of hasher.now) F.rule F.MAX_LEAVES F.DOMAIN in
+            IfOk result (λ b. IsTrue b → NamesRoot s self.now.leaves root.now) }
         ensures honest { let h = H.hashing hasher.now in let s = setting h (H.bagging_of hasher.now) F.rule F.MAX_LEAVES F.DOMAIN in IfOk result (λ b. (xs : _) (k : ℕ) → length xs ≤ F.MAX_LEAVES → k ≤ length (peaks_of F.rule (length xs)) → list_root h F.rule F.DOMAIN (H.bagging_of hasher.now) xs k ≡ root.now → IsHonestRange s xs k (input_of h F.rule self.now location (element.now ∷ [])) → IsTrue b) }
         ensures sound { let h = H.hashing hasher.now in let s = setting h (H.bagging_of hasher.now) F.rule F.MAX_LEAVES F.DOMAIN in let r = input_of h F.rule self.now location (element.now ∷ []) in IfOk result (λ b. IsTrue b → (xs : _) (k : ℕ) → length xs ≤ F.MAX_LEAVES → k ≤ length (peaks_of F.rule (length xs)) → list_root h F.rule F.DOMAIN (H.bagging_of hasher.now) xs k ≡ root.now → IsHonestRange s xs k r ⊎ RangeCollides s r xs k) }
     {

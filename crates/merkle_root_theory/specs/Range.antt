@@ -9,7 +9,7 @@ use Rattle.merkle_root_theory.specs.RootString.{ByteLaws}
 use Rattle.merkle_root_theory.specs.Plan.{Plan, siblings, plan_digest, tree_digest}
 use Rattle.merkle_base.specs.declared.family.Bagging.{Bagging}
 use Rattle.merkle_root_theory.specs.Outside.{layout}
-use Rattle.merkle_root_theory.specs.Check.{Setting, root_of, all_inputs, list_expression, RangeInput, range_expression}
+use Rattle.merkle_root_theory.specs.Check.{Setting, root_of, all_inputs, list_expression, RangeInput, range_expression, range_inputs}
 use Rattle.merkle_base.specs.Places.{peaks_of, wholly_before}
 
 -- whether i lies in a..b
@@ -96,7 +96,7 @@ pub record Sound {D : Type 0} (s : Setting D) (size max_nodes : ℕ) : Type 0 wh
 
 -- a collision of a range input with the list
 abbrev pub RangeCollides : {D : Type 0} → Setting D → RangeInput D → List D → ℕ → Type 0
-RangeCollides {D = D} s r xs k = (c : Collision D) × Collides s.hashing (all_inputs s r.leaves r.inactive (range_expression s r)) (all_inputs s (length xs) k (list_expression s (leaf_of s.hashing xs) (length xs) k)) c
+RangeCollides {D = D} s r xs k = (c : Collision D) × Collides s.hashing (range_inputs s r) (list_inputs s xs k) c
 
 -- the honest inputs are accepted
 abbrev pub HonestIsAccepted : Type 0 → Type 0

@@ -64,6 +64,7 @@ returns c = record {
   apart_family = record { one_hash = refl; apart = λ e. absurd (omega (arith, e.0)) };
   apart_bagging = record { one_hash = refl; apart = λ e. absurd (let f : ForwardFold ≡ BackwardFold = e.1 in cc) };
   not_apart = λ w. w.apart (refl, refl);
+  not_apart_in_hash = λ w. absurd (let e : 1 ≡ 0 = ap (λ f. f (1 ∷ [])) w.one_hash in omega (arith, e));
   roots_collide = (
     0 ∷ 0 ∷ 0 ∷ 0 ∷ 0 ∷ 0 ∷ 0 ∷ 0 ∷ 0 ∷ 3 ∷ 5 ∷ [],
     1 ∷ 0 ∷ 0 ∷ 0 ∷ 0 ∷ 0 ∷ 0 ∷ 0 ∷ 0 ∷ 3 ∷ 4 ∷ [],
@@ -75,7 +76,8 @@ returns c = record {
   string_pair = refl;
   string_bytes = refl;
   plain = record { node = λ p l r. refl; fold = λ a b. refl };
-  not_plain = λ w. absurd (let e : 256 ≡ 1 = w.node 256 0 0 in omega (arith, e));
+  not_plain_node = λ w. absurd (let e : 256 ≡ 1 = w.node 256 0 0 in omega (arith, e));
+  not_plain_fold = λ w. absurd (let e : 0 ≡ 1 = w.fold 0 1 in omega (arith, e));
   hash_collision = record { differ = λ e. absurd (cc); one_hash = refl };
   no_hash_collision = λ w. absurd (let e : 5 ≡ 4 = w.one_hash in omega (arith, e));
   no_hash_collision_alike = λ w. w.differ refl;
