@@ -33,13 +33,18 @@ impl<F: Family, D: Digest> Mem<F, D> {
         ensures made { IfOk result (λ m. m ≡ made_of F.rule config.pruning_boundary m.leaves config.pinned_nodes.items config.nodes.items) }
         ensures counted { IfOk result (λ m. (m.leaves ≤ F.MAX_LEAVES) × (size F.rule m.leaves ≡ m.size)) }
         ensures overflow { F.MAX_LEAVES < config.pruning_boundary → result ≡ Err (Error.LocationOverflow config.pruning_boundary) }
-        ensures too_large { config.pruning_boundary ≤ F.MAX_LEAVES → F.MAX_NODES < size F.rule config.pruning_boundary + length config.nodes.items → result ≡ Err (Error.InvalidSize (2 ^ 64 - 1)) }
-        ensures no_size { let end = size F.rule config.pruning_boundary + length config.nodes.items in config.pruning_boundary ≤ F.MAX_LEAVES → end ≤ F.MAX_NODES → ((n : ℕ) → size F.rule n ≢ end) → result ≡ Err (Error.InvalidSize end) }
-        ensures bad_pins { config.pruning_boundary ≤ F.MAX_LEAVES → IsSize F.rule F.MAX_LEAVES (size F.rule config.pruning_boundary + length config.nodes.items) → length config.pinned_nodes.items ≢ length (peak_positions F.rule config.pruning_boundary) → result ≡ Err Error.InvalidPinnedNodes }
-        ensures allowed { config.pruning_boundary ≤ F.MAX_LEAVES → IsSize F.rule F.MAX_LEAVES (size F.rule config.pruning_boundary + length config.nodes.items) → length config.pinned_nodes.items ≡ length (peak_positions F.rule config.pruning_boundary) → IsOkUnless result Error.OutOfMemory }
+        ensures too_large { let end = size F.rule config.pruning_boundary + length config.nodes.items in
+            config.pruning_boundary ≤ F.MAX_LEAVES → F.MAX_NODES < end → result ≡ Err (Error.InvalidSize (2 ^ 64 - 1)) }
+        ensures no_size { let end = size F.rule config.pruning_boundary + length config.nodes.items in
+            config.pruning_boundary ≤ F.MAX_LEAVES → end ≤ F.MAX_NODES → ((n : ℕ) → size F.rule n ≢ end) → result ≡ Err (Error.InvalidSize end) }
+        ensures bad_pins { let b = config.pruning_boundary in b ≤ F.MAX_LEAVES → IsSize F.rule F.MAX_LEAVES (size F.rule b + length config.nodes.items)
+            → length config.pinned_nodes.items ≢ length (peak_positions F.rule b) → result ≡ Err Error.InvalidPinnedNodes }
+        ensures allowed { let b = config.pruning_boundary in b ≤ F.MAX_LEAVES → IsSize F.rule F.MAX_LEAVES (size F.rule b + length config.nodes.items)
+            → length config.pinned_nodes.items ≡ length (peak_positions F.rule b) → IsOkUnless result Error.OutOfMemory }
 
         // It agrees with every list whose digests these are.
-        ensures agrees { IfOk result (λ m. (h : Hashing D) → (X : List D) → AreComponents h F.rule X config.pruning_boundary config.pinned_nodes.items config.nodes.items → Agrees h F.rule (contents m) X) }
+        ensures agrees { IfOk result (λ m. (h : Hashing D) → (X : List D)
+            → AreComponents h F.rule X config.pruning_boundary config.pinned_nodes.items config.nodes.items → Agrees h F.rule (contents m) X) }
     {
         let Config {
             nodes,
@@ -64,13 +69,18 @@ impl<F: Family, D: Digest> Mem<F, D> {
         ensures made { IfOk result (λ m. m ≡ made_of F.rule pruning_boundary m.leaves pinned_nodes.items nodes.items) }
         ensures counted { IfOk result (λ m. (m.leaves ≤ F.MAX_LEAVES) × (size F.rule m.leaves ≡ m.size)) }
         ensures overflow { F.MAX_LEAVES < pruning_boundary → result ≡ Err (Error.LocationOverflow pruning_boundary) }
-        ensures too_large { pruning_boundary ≤ F.MAX_LEAVES → F.MAX_NODES < size F.rule pruning_boundary + length nodes.items → result ≡ Err (Error.InvalidSize (2 ^ 64 - 1)) }
-        ensures no_size { let end = size F.rule pruning_boundary + length nodes.items in pruning_boundary ≤ F.MAX_LEAVES → end ≤ F.MAX_NODES → ((n : ℕ) → size F.rule n ≢ end) → result ≡ Err (Error.InvalidSize end) }
-        ensures bad_pins { pruning_boundary ≤ F.MAX_LEAVES → IsSize F.rule F.MAX_LEAVES (size F.rule pruning_boundary + length nodes.items) → length pinned_nodes.items ≢ length (peak_positions F.rule pruning_boundary) → result ≡ Err Error.InvalidPinnedNodes }
-        ensures allowed { pruning_boundary ≤ F.MAX_LEAVES → IsSize F.rule F.MAX_LEAVES (size F.rule pruning_boundary + length nodes.items) → length pinned_nodes.items ≡ length (peak_positions F.rule pruning_boundary) → IsOkUnless result Error.OutOfMemory }
+        ensures too_large { let end = size F.rule pruning_boundary + length nodes.items in
+            pruning_boundary ≤ F.MAX_LEAVES → F.MAX_NODES < end → result ≡ Err (Error.InvalidSize (2 ^ 64 - 1)) }
+        ensures no_size { let end = size F.rule pruning_boundary + length nodes.items in
+            pruning_boundary ≤ F.MAX_LEAVES → end ≤ F.MAX_NODES → ((n : ℕ) → size F.rule n ≢ end) → result ≡ Err (Error.InvalidSize end) }
+        ensures bad_pins { let b = pruning_boundary in b ≤ F.MAX_LEAVES → IsSize F.rule F.MAX_LEAVES (size F.rule b + length nodes.items)
+            → length pinned_nodes.items ≢ length (peak_positions F.rule b) → result ≡ Err Error.InvalidPinnedNodes }
+        ensures allowed { let b = pruning_boundary in b ≤ F.MAX_LEAVES → IsSize F.rule F.MAX_LEAVES (size F.rule b + length nodes.items)
+            → length pinned_nodes.items ≡ length (peak_positions F.rule b) → IsOkUnless result Error.OutOfMemory }
 
         // It agrees with every list whose digests these are.
-        ensures agrees { IfOk result (λ m. (h : Hashing D) → (X : List D) → AreComponents h F.rule X pruning_boundary pinned_nodes.items nodes.items → Agrees h F.rule (contents m) X) }
+        ensures agrees { IfOk result (λ m. (h : Hashing D) → (X : List D)
+            → AreComponents h F.rule X pruning_boundary pinned_nodes.items nodes.items → Agrees h F.rule (contents m) X) }
     {
         let (start, leaves) = match measure(pruning_boundary, nodes.len()) {
             Ok(extent) => extent,
@@ -97,7 +107,8 @@ fn measure<F: Family>(
     ensures leaves { IfOk result (λ m. (m.1 ≤ F.MAX_LEAVES) × (size F.rule m.1 ≡ size F.rule boundary + count)) }
     ensures overflow { F.MAX_LEAVES < boundary → result ≡ Err (Error.LocationOverflow boundary) }
     ensures too_large { boundary ≤ F.MAX_LEAVES → F.MAX_NODES < size F.rule boundary + count → result ≡ Err (Error.InvalidSize (2 ^ 64 - 1)) }
-    ensures no_size { boundary ≤ F.MAX_LEAVES → size F.rule boundary + count ≤ F.MAX_NODES → ((n : ℕ) → size F.rule n ≢ size F.rule boundary + count) → result ≡ Err (Error.InvalidSize (size F.rule boundary + count)) }
+    ensures no_size { let end = size F.rule boundary + count in
+        boundary ≤ F.MAX_LEAVES → end ≤ F.MAX_NODES → ((n : ℕ) → size F.rule n ≢ end) → result ≡ Err (Error.InvalidSize end) }
     ensures allowed { boundary ≤ F.MAX_LEAVES → IsSize F.rule F.MAX_LEAVES (size F.rule boundary + count) → IsOk result }
 {
     if !boundary.is_valid() {

@@ -16,7 +16,7 @@ ghost use Rattle.merkle_batch_theory.specs.Refusals.{error_of};
 ghost use Rattle.merkle_core.specs.ProofRefusals.{IsProofRefusal, IsRangeRefusal};
 ghost use Rattle.merkle_proof.specs.Input.{setting};
 ghost use Rattle.merkle_root_theory.specs.Range.{IsHonestRange};
-ghost use Rattle.merkle_proof.specs.RangePlans.{IsBuildRefusal, IsBuiltProof, list_input};
+ghost use Rattle.merkle_proof.specs.RangePlans.{IsBuildRefusal, IsBuiltProof, LeafRange, list_input};
 
 pub use crate::components::Config;
 use crate::find::{find_state, refusal};
@@ -176,12 +176,15 @@ impl<F: Family, D: Digest> Mem<F, D> {
     ///
     /// Refused with `InvalidInactivePeaks` exactly where that number exceeds the number of peaks.
     pub fn root<H: Hasher<F, Digest = D>>(&self, hasher: &H, inactive: usize) -> Result<D, Error<F>>
-        ensures ok { inactive ≤ length (peaks_of F.rule self.now.leaves) → let peaks = held_peaks F.rule self.now.leaves (contents self.now) in result ≡ Ok (peaks_root (H.hashing hasher.now) F.DOMAIN (H.bagging_of hasher.now) self.now.leaves inactive inactive peaks) }
-        ensures err { let peaks = length (peaks_of F.rule self.now.leaves) in peaks < inactive → result ≡ Err (Error.InvalidInactivePeaks inactive peaks) }
+        ensures ok { let n = self.now.leaves in let peaks = held_peaks F.rule n (contents self.now) in inactive ≤ length (peaks_of F.rule n)
+            → result ≡ Ok (peaks_root (H.hashing hasher.now) F.DOMAIN (H.bagging_of hasher.now) n inactive inactive peaks) }
+        ensures err { let count = length (peaks_of F.rule self.now.leaves) in count < inactive → result ≡ Err (Error.InvalidInactivePeaks inactive count) }
 
         // It is the root of every list that the structure agrees with.
-        ensures listed { (X : List D) → Agrees (H.hashing hasher.now) F.rule (contents self.now) X → inactive ≤ length (peaks_of F.rule (length X)) → result ≡ Ok (list_root (H.hashing hasher.now) F.rule F.DOMAIN (H.bagging_of hasher.now) X inactive) }
-        ensures too_many { (X : List D) → Agrees (H.hashing hasher.now) F.rule (contents self.now) X → length (peaks_of F.rule (length X)) < inactive → result ≡ Err (Error.InvalidInactivePeaks inactive (length (peaks_of F.rule (length X)))) }
+        ensures listed { let h = H.hashing hasher.now in (X : List D) → Agrees h F.rule (contents self.now) X → inactive ≤ length (peaks_of F.rule (length X))
+            → result ≡ Ok (list_root h F.rule F.DOMAIN (H.bagging_of hasher.now) X inactive) }
+        ensures too_many { (X : List D) → Agrees (H.hashing hasher.now) F.rule (contents self.now) X → let count = length (peaks_of F.rule (length X)) in
+            count < inactive → result ≡ Err (Error.InvalidInactivePeaks inactive count) }
     {
         let mut digests = [D::EMPTY; MAX_PEAKS];
         let count = self.write_peaks(&mut digests);
@@ -195,9 +198,13 @@ impl<F: Family, D: Digest> Mem<F, D> {
         hasher: &H,
         inactive: usize,
     ) -> Result<Proof<F, D>, Error<F>>
-        ensures built { IfOk result (λ p. IsBuiltProof (setting (H.hashing hasher.now) (H.bagging_of hasher.now) F.rule F.MAX_LEAVES F.DOMAIN) (node self.now) inactive plan p) }
-        ensures honest { (X : List D) → length X ≡ plan.leaves → Agrees (H.hashing hasher.now) F.rule (contents self.now) X → IfOk result (λ p. IsHonestRange (setting (H.hashing hasher.now) (H.bagging_of hasher.now) F.rule F.MAX_LEAVES F.DOMAIN) X inactive (list_input p X plan.start plan.end)) }
-        ensures err { IfErr result (λ e. e ≢ Error.OutOfMemory → IsBuildRefusal (H.bagging_of hasher.now) F.rule plan inactive (λ p r. r ≡ node self.now p) e) }
+        ensures built { let s = setting (H.hashing hasher.now) (H.bagging_of hasher.now) F.rule F.MAX_LEAVES F.DOMAIN in
+            IfOk result (λ p. IsBuiltProof s (node self.now) inactive plan p) }
+        ensures honest { let s = setting (H.hashing hasher.now) (H.bagging_of hasher.now) F.rule F.MAX_LEAVES F.DOMAIN in
+            (X : List D) → length X ≡ plan.leaves → Agrees s.hashing F.rule (contents self.now) X
+            → IfOk result (λ p. IsHonestRange s X inactive (list_input p X plan.start plan.end)) }
+        ensures err { let bagging = H.bagging_of hasher.now in
+            IfErr result (λ e. e ≢ Error.OutOfMemory → IsBuildRefusal bagging F.rule plan inactive (λ p r. r ≡ node self.now p) e) }
     {
         plan.build(hasher, inactive, |position| self.get_node(position))
     }
@@ -214,12 +221,18 @@ impl<F: Family, D: Digest> Mem<F, D> {
         location: Location<F>,
         inactive: usize,
     ) -> Result<Proof<F, D>, Error<F>>
-        ensures built { IfOk result (λ p. location < self.now.leaves × IsBuiltProof (setting (H.hashing hasher.now) (H.bagging_of hasher.now) F.rule F.MAX_LEAVES F.DOMAIN) (node self.now) inactive (record { leaves = self.now.leaves; start = location; end = location + 1 }) p) }
+        ensures built { let s = setting (H.hashing hasher.now) (H.bagging_of hasher.now) F.rule F.MAX_LEAVES F.DOMAIN in
+            let plan : LeafRange = record { leaves = self.now.leaves; start = location; end = location + 1 } in
+            IfOk result (λ p. location < self.now.leaves × IsBuiltProof s (node self.now) inactive plan p) }
 
         // It is the honest proof of every list that the structure agrees with.
-        ensures honest { (X : List D) → Agrees (H.hashing hasher.now) F.rule (contents self.now) X → IfOk result (λ p. location < length X × IsHonestRange (setting (H.hashing hasher.now) (H.bagging_of hasher.now) F.rule F.MAX_LEAVES F.DOMAIN) X inactive (list_input p X location (location + 1))) }
-        ensures given { (h : Hashing D) → (X : List D) → Agrees h F.rule (contents self.now) X → self.now.boundary ≤ location → location < length X → inactive ≤ length (peaks_of F.rule (length X)) → IsOkUnless result Error.OutOfMemory }
-        ensures err { IfErr result (λ e. e ≢ Error.OutOfMemory → IsProofRefusal (H.bagging_of hasher.now) F.rule F.MAX_LEAVES self.now.leaves location inactive (node self.now) e) }
+        ensures honest { let s = setting (H.hashing hasher.now) (H.bagging_of hasher.now) F.rule F.MAX_LEAVES F.DOMAIN in
+            (X : List D) → Agrees s.hashing F.rule (contents self.now) X
+            → IfOk result (λ p. location < length X × IsHonestRange s X inactive (list_input p X location (location + 1))) }
+        ensures given { (h : Hashing D) → (X : List D) → Agrees h F.rule (contents self.now) X → self.now.boundary ≤ location → location < length X
+            → inactive ≤ length (peaks_of F.rule (length X)) → IsOkUnless result Error.OutOfMemory }
+        ensures err { let bagging = H.bagging_of hasher.now in
+            IfErr result (λ e. e ≢ Error.OutOfMemory → IsProofRefusal bagging F.rule F.MAX_LEAVES self.now.leaves location inactive (node self.now) e) }
     {
         let leaves = self.leaves();
         if !location.is_valid_index() {
@@ -247,12 +260,18 @@ impl<F: Family, D: Digest> Mem<F, D> {
         range: Range<Location<F>>,
         inactive: usize,
     ) -> Result<Proof<F, D>, Error<F>>
-        ensures built { IfOk result (λ p. (range.start < range.end) × (range.end ≤ self.now.leaves) × IsBuiltProof (setting (H.hashing hasher.now) (H.bagging_of hasher.now) F.rule F.MAX_LEAVES F.DOMAIN) (node self.now) inactive (record { leaves = self.now.leaves; start = range.start; end = range.end }) p) }
+        ensures built { let s = setting (H.hashing hasher.now) (H.bagging_of hasher.now) F.rule F.MAX_LEAVES F.DOMAIN in
+            let plan : LeafRange = record { leaves = self.now.leaves; start = range.start; end = range.end } in
+            IfOk result (λ p. (range.start < range.end) × (range.end ≤ self.now.leaves) × IsBuiltProof s (node self.now) inactive plan p) }
 
         // It is the honest proof of every list that the structure agrees with.
-        ensures honest { (X : List D) → Agrees (H.hashing hasher.now) F.rule (contents self.now) X → IfOk result (λ p. (range.start < range.end) × (range.end ≤ length X) × IsHonestRange (setting (H.hashing hasher.now) (H.bagging_of hasher.now) F.rule F.MAX_LEAVES F.DOMAIN) X inactive (list_input p X range.start range.end)) }
-        ensures given { (h : Hashing D) → (X : List D) → Agrees h F.rule (contents self.now) X → self.now.boundary ≤ range.start → range.start < range.end → range.end ≤ length X → inactive ≤ length (peaks_of F.rule (length X)) → IsOkUnless result Error.OutOfMemory }
-        ensures err { IfErr result (λ e. e ≢ Error.OutOfMemory → IsRangeRefusal (H.bagging_of hasher.now) F.rule F.MAX_LEAVES self.now.leaves range.start range.end inactive (node self.now) e) }
+        ensures honest { let s = setting (H.hashing hasher.now) (H.bagging_of hasher.now) F.rule F.MAX_LEAVES F.DOMAIN in
+            (X : List D) → Agrees s.hashing F.rule (contents self.now) X
+            → IfOk result (λ p. (range.start < range.end) × (range.end ≤ length X) × IsHonestRange s X inactive (list_input p X range.start range.end)) }
+        ensures given { (h : Hashing D) → (X : List D) → Agrees h F.rule (contents self.now) X → self.now.boundary ≤ range.start
+            → range.start < range.end → range.end ≤ length X → inactive ≤ length (peaks_of F.rule (length X)) → IsOkUnless result Error.OutOfMemory }
+        ensures err { let bagging = H.bagging_of hasher.now in let n = self.now.leaves in
+            IfErr result (λ e. e ≢ Error.OutOfMemory → IsRangeRefusal bagging F.rule F.MAX_LEAVES n range.start range.end inactive (node self.now) e) }
     {
         let leaves = self.leaves();
         match RangePlan::new(self.allocator(), leaves, range) {
@@ -266,7 +285,8 @@ impl<F: Family, D: Digest> Mem<F, D> {
     /// Refused with `OutOfMemory`.
     pub fn new_batch(&self) -> Result<UnmerkleizedBatch<F, D>, Error<F>>
         ensures forked { IfOk result (λ b. b ≡ forked (root_batch F.rule self.now.leaves (contents self.now))) }
-        ensures of_list { IfOk result (λ b. (h : Hashing D) → (X : List D) → Agrees h F.rule (contents self.now) X → StandsOn h F.rule (records b.parent) (X ∷ X ∷ [])) }
+        ensures of_list { IfOk result (λ b. (h : Hashing D) → (X : List D) → Agrees h F.rule (contents self.now) X
+            → StandsOn h F.rule (records b.parent) (X ∷ X ∷ [])) }
         ensures refused { IsOkUnless result Error.OutOfMemory }
     {
         match MerkleizedBatch::from_mem(self) {
@@ -289,8 +309,10 @@ impl<F: Family, D: Digest> Mem<F, D> {
         ensures unchanged { OnErr result (self.new ≡ self.old) }
         ensures done { OnOk result (applied D.eq F.rule self.old.leaves batch.now (contents self.old) ≡ Ok (contents self.new)) }
         ensures counted { OnOk result (self.new.leaves ≡ batch.now.leaves) }
-        ensures accepted { is_some (matched D.eq self.old.size (held_peaks F.rule self.old.leaves (contents self.old)) batch.now) ≡ true → IsOkUnless result Error.OutOfMemory }
-        ensures refused { matched D.eq self.old.size (held_peaks F.rule self.old.leaves (contents self.old)) batch.now ≡ None → result ≡ Err (error_of (refusal self.old.size batch.now)) }
+        ensures accepted { let peaks = held_peaks F.rule self.old.leaves (contents self.old) in
+            is_some (matched D.eq self.old.size peaks batch.now) ≡ true → IsOkUnless result Error.OutOfMemory }
+        ensures refused { let peaks = held_peaks F.rule self.old.leaves (contents self.old) in
+            matched D.eq self.old.size peaks batch.now ≡ None → result ≡ Err (error_of (refusal self.old.size batch.now)) }
 
         // Where the structure agreed with a list and the batch stands on lists, it was accepted at one of these: if that is the
         // structure's own list, the structure agrees with the last one now, and if it is another, the two collide at a node.

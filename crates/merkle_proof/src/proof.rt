@@ -1,8 +1,7 @@
 //! Proofs of leaves against a root.
 ghost use Rattle.std.specs.Prelude.{◌≡◌, ◌≤◌, [], ◌∷◌, ◌↔◌, ◌⊎◌, ℕ, IsTrue, IfOk, length};
-ghost use Rattle.merkle_base.specs.Places.{peaks_of, inactive_peaks};
-ghost use Rattle.merkle_base.specs.Root.{list_root};
-ghost use Rattle.merkle_root_theory.specs.Range.{Accepts, IsHonestRange, RangeCollides};
+ghost use Rattle.merkle_base.specs.Places.{inactive_peaks};
+ghost use Rattle.merkle_root_theory.specs.Range.{Accepts, ForRootOf, IsHonestRange, RangeCollides};
 ghost use Rattle.merkle_root_theory.specs.RootNames.{NamesRoot};
 ghost use Rattle.merkle_root_theory.specs.Walk.{bytes_of};
 ghost use Rattle.merkle_proof.specs.Input.{setting, input_of};
@@ -97,11 +96,16 @@ impl<F: Family, D: Digest> Proof<F, D> {
         start: Location<F>,
         root: &D,
     ) -> Result<bool, OutOfMemory>
-        ensures exact { let h = H.hashing hasher.now in IfOk result (λ b. IsTrue b ↔ Accepts (setting h (H.bagging_of hasher.now) F.rule F.MAX_LEAVES F.DOMAIN) (input_of h F.rule self.now start (bytes_of elements.now)) root.now) }
+        ensures exact { let s = setting (H.hashing hasher.now) (H.bagging_of hasher.now) F.rule F.MAX_LEAVES F.DOMAIN in
+            IfOk result (λ yes. IsTrue yes ↔ Accepts s (input_of s.hashing F.rule self.now start (bytes_of elements.now)) root.now) }
         ensures names { let s = setting (H.hashing hasher.now) (H.bagging_of hasher.now) F.rule F.MAX_LEAVES F.DOMAIN in
-            IfOk result (λ b. IsTrue b → NamesRoot s self.now.leaves root.now) }
-        ensures honest { let h = H.hashing hasher.now in let s = setting h (H.bagging_of hasher.now) F.rule F.MAX_LEAVES F.DOMAIN in IfOk result (λ b. (xs : _) (k : ℕ) → length xs ≤ F.MAX_LEAVES → k ≤ length (peaks_of F.rule (length xs)) → list_root h F.rule F.DOMAIN (H.bagging_of hasher.now) xs k ≡ root.now → IsHonestRange s xs k (input_of h F.rule self.now start (bytes_of elements.now)) → IsTrue b) }
-        ensures sound { let h = H.hashing hasher.now in let s = setting h (H.bagging_of hasher.now) F.rule F.MAX_LEAVES F.DOMAIN in let r = input_of h F.rule self.now start (bytes_of elements.now) in IfOk result (λ b. IsTrue b → (xs : _) (k : ℕ) → length xs ≤ F.MAX_LEAVES → k ≤ length (peaks_of F.rule (length xs)) → list_root h F.rule F.DOMAIN (H.bagging_of hasher.now) xs k ≡ root.now → IsHonestRange s xs k r ⊎ RangeCollides s r xs k) }
+            IfOk result (λ yes. IsTrue yes → NamesRoot s self.now.leaves root.now) }
+        ensures honest { let s = setting (H.hashing hasher.now) (H.bagging_of hasher.now) F.rule F.MAX_LEAVES F.DOMAIN in
+            let r = input_of s.hashing F.rule self.now start (bytes_of elements.now) in
+            IfOk result (λ yes. ForRootOf s root.now (λ xs k. IsHonestRange s xs k r → IsTrue yes)) }
+        ensures sound { let s = setting (H.hashing hasher.now) (H.bagging_of hasher.now) F.rule F.MAX_LEAVES F.DOMAIN in
+            let r = input_of s.hashing F.rule self.now start (bytes_of elements.now) in
+            IfOk result (λ yes. IsTrue yes → ForRootOf s root.now (λ xs k. IsHonestRange s xs k r ⊎ RangeCollides s r xs k)) }
     {
         verify_range(&self.parts(), hasher, elements, start, root)
     }
@@ -121,11 +125,16 @@ impl<F: Family, D: Digest> Proof<F, D> {
         location: Location<F>,
         root: &D,
     ) -> Result<bool, OutOfMemory>
-        ensures exact { let h = H.hashing hasher.now in IfOk result (λ b. IsTrue b ↔ Accepts (setting h (H.bagging_of hasher.now) F.rule F.MAX_LEAVES F.DOMAIN) (input_of h F.rule self.now location (element.now ∷ [])) root.now) }
+        ensures exact { let s = setting (H.hashing hasher.now) (H.bagging_of hasher.now) F.rule F.MAX_LEAVES F.DOMAIN in
+            IfOk result (λ yes. IsTrue yes ↔ Accepts s (input_of s.hashing F.rule self.now location (element.now ∷ [])) root.now) }
         ensures names { let s = setting (H.hashing hasher.now) (H.bagging_of hasher.now) F.rule F.MAX_LEAVES F.DOMAIN in
-            IfOk result (λ b. IsTrue b → NamesRoot s self.now.leaves root.now) }
-        ensures honest { let h = H.hashing hasher.now in let s = setting h (H.bagging_of hasher.now) F.rule F.MAX_LEAVES F.DOMAIN in IfOk result (λ b. (xs : _) (k : ℕ) → length xs ≤ F.MAX_LEAVES → k ≤ length (peaks_of F.rule (length xs)) → list_root h F.rule F.DOMAIN (H.bagging_of hasher.now) xs k ≡ root.now → IsHonestRange s xs k (input_of h F.rule self.now location (element.now ∷ [])) → IsTrue b) }
-        ensures sound { let h = H.hashing hasher.now in let s = setting h (H.bagging_of hasher.now) F.rule F.MAX_LEAVES F.DOMAIN in let r = input_of h F.rule self.now location (element.now ∷ []) in IfOk result (λ b. IsTrue b → (xs : _) (k : ℕ) → length xs ≤ F.MAX_LEAVES → k ≤ length (peaks_of F.rule (length xs)) → list_root h F.rule F.DOMAIN (H.bagging_of hasher.now) xs k ≡ root.now → IsHonestRange s xs k r ⊎ RangeCollides s r xs k) }
+            IfOk result (λ yes. IsTrue yes → NamesRoot s self.now.leaves root.now) }
+        ensures honest { let s = setting (H.hashing hasher.now) (H.bagging_of hasher.now) F.rule F.MAX_LEAVES F.DOMAIN in
+            let r = input_of s.hashing F.rule self.now location (element.now ∷ []) in
+            IfOk result (λ yes. ForRootOf s root.now (λ xs k. IsHonestRange s xs k r → IsTrue yes)) }
+        ensures sound { let s = setting (H.hashing hasher.now) (H.bagging_of hasher.now) F.rule F.MAX_LEAVES F.DOMAIN in
+            let r = input_of s.hashing F.rule self.now location (element.now ∷ []) in
+            IfOk result (λ yes. IsTrue yes → ForRootOf s root.now (λ xs k. IsHonestRange s xs k r ⊎ RangeCollides s r xs k)) }
     {
         self.verify_range_inclusion(hasher, &[element], location, root)
     }

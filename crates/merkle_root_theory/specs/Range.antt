@@ -3,6 +3,7 @@ use Rattle.std.specs.Prelude.{◌≡◌, ℕ, Bool, ◌&&◌, ◌⊎◌, ◌≤�
 use Rattle.merkle_base.specs.Tree.{Tree, first_leaf, end_leaf}
 use Rattle.merkle_base.specs.Heights.{IsLawful}
 use Rattle.merkle_base.specs.Hashing.{Hashing}
+use Rattle.merkle_base.specs.Root.{list_root}
 use Rattle.merkle_root_theory.specs.Expression.{Input}
 use Rattle.merkle_root_theory.specs.Collision.{Collision, Collides, Laws}
 use Rattle.merkle_root_theory.specs.RootString.{ByteLaws}
@@ -66,6 +67,11 @@ pub record IsEmptyInput {D : Type 0} (r : RangeInput D) : Type 0 where
 -- an accepted input: with elements, or the empty one
 abbrev pub Accepts : {D : Type 0} → Setting D → RangeInput D → D → Type 0
 Accepts s r root = AcceptsSome s r root ⊎ (IsEmptyInput r × (root_of s 0 0 None ≡ root))
+
+-- P for each list, and number of inactive peaks, with this root
+abbrev pub ForRootOf : {D : Type 0} → Setting D → D → (List D → ℕ → Type 0) → Type 0
+ForRootOf {D} s root P =
+    (xs : List D) (k : ℕ) → length xs ≤ s.max_leaves → k ≤ length (peaks_of s.rule (length xs)) → list_root s.hashing s.rule s.domain s.bagging xs k ≡ root → P xs k
 
 -- the honest proof of a nonempty range of a list, with its leaves
 pub record IsHonestSome {D : Type 0} (s : Setting D) (xs : List D) (k : ℕ) (r : RangeInput D) : Type 0 where
