@@ -9,3 +9,4 @@ pub mod Bagging
 pub mod Hashing
 pub mod Digests
 pub mod Root
+pub mod Shows

@@ -9,6 +9,7 @@ ghost use Rattle.merkle_base.specs.Forest.{size};
 ghost use Rattle.merkle_base.specs.Hashing.{Hashing};
 ghost use Rattle.merkle_base.specs.Places.{peaks_of};
 ghost use Rattle.merkle_base.specs.Root.{list_root, peaks_root};
+ghost use Rattle.merkle_base.specs.Shows.{Shows};
 ghost use Rattle.merkle_batch_theory.specs.Contents.{Agrees};
 ghost use Rattle.merkle_batch_theory.specs.Pending.{forked, is_changed};
 ghost use Rattle.merkle_batch_theory.specs.Read.{newest};
@@ -249,7 +250,13 @@ impl<F: Family, D: Digest> Readable for MerkleizedBatch<F, D> {
 
     ghost node = { λ b p. newest (records b) p };
 
-    fn size(&self) -> Position<F> {
+    fn size(&self) -> Position<F>
+        ensures count { result ≡ after self.now.own }
+
+        // Where it stands on lists, it shows the last of them.
+        ensures shows { (h : Hashing D) → (ls : List (List D)) → StandsOn h F.rule (records self.now) ls
+            → Shows h F.rule (after self.now.own) (newest (records self.now)) (last_list ls) }
+    {
         MerkleizedBatch::size(self)
     }
 

@@ -13,7 +13,7 @@ use Rattle.merkle_batch_theory.specs.Contents.{Contents, Agrees, is_kept}
 use Rattle.merkle_batch_theory.specs.Recorded.{Recorded, Chain, records, after}
 use Rattle.merkle_batch_theory.specs.Stands.{is_touched, StandsOn, last_list}
 use Rattle.merkle_batch_theory.specs.Read.{newest}
-use Rattle.merkle_batch_theory.specs.Shows.{Shows}
+use Rattle.merkle_base.specs.Shows.{Shows}
 use Rattle.merkle_batch_theory.specs.Needed.{IsUsed, IsNeeded}
 use Rattle.merkle_batch_theory.proofs.Steps.{node_digest_at, step_size}
 use Rattle.merkle_batch_theory.proofs.Through.{newest_read}
@@ -62,6 +62,13 @@ module _ {D : Type 0} (h : Hashing D) (rule : List ℕ → List ℕ) where
     sized = last_size k.ancestors k.own X ls s;
     right = λ p d e. newest_read h rule (records k) X ls p s ∙ ap (λ o. option_or o (slice_get (node_digests h rule X) p)) e;
   }
+
+  pub chain_shows : (k : Chain D) (ls : List (List D)) → StandsOn h rule (records k) ls → Shows h rule (after k.own) (newest (records k)) (last_list ls)
+  chain_shows k [] s = none_stand (records k) s
+    where
+      none_stand : (rs : List (Recorded D)) → StandsOn h rule rs [] → Shows h rule (after k.own) (newest (records k)) []
+      none_stand rs s = absurd s
+  chain_shows k (X ∷ ls) s = batch_shows k X ls s
 
   -- ---- the first n entries
   digest_taken : (X : List D) (n : ℕ) (t : Tree) → IsBuilt (forest rule n).nodes t → digest_at h (take n X) t ≡ digest_at h X t

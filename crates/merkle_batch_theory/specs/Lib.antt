@@ -6,7 +6,6 @@ pub mod Read
 pub mod Collision
 pub mod Needed
 pub mod Completed
-pub mod Shows
 pub mod Based
 pub mod Store
 pub mod Pending

@@ -19,7 +19,7 @@ ghost use Rattle.merkle_batch_theory.specs.Recorded.{Recorded, Chain, records, a
 ghost use Rattle.merkle_batch_theory.specs.Replay.{laid, all_laid, matched, applied};
 ghost use Rattle.merkle_batch_theory.specs.Stands.{StandsOn, last_list, edited, replaced, leaves_from, is_touched, IsStep};
 ghost use Rattle.merkle_batch_theory.specs.Read.{newest, read_over};
-ghost use Rattle.merkle_batch_theory.specs.Shows.{Shows};
+ghost use Rattle.merkle_base.specs.Shows.{Shows};
 ghost use Rattle.merkle_batch_theory.specs.Based.{IsBased};
 ghost use Rattle.merkle_batch_theory.specs.Needed.{computed, level, is_computed, passes, total, IsUsed, IsNeeded};
 ghost use Rattle.merkle_batch_theory.specs.Completed.{IsCompleted};

@@ -3,6 +3,7 @@ ghost use Rattle.std.specs.Prelude.{◌≡◌, ◌≢◌, ◌+◌, ◌<◌, ◌�
 ghost use Rattle.merkle_base.specs.Places.{peaks_of, placed};
 ghost use Rattle.merkle_base.specs.Forest.{size};
 ghost use Rattle.merkle_base.specs.Root.{list_root, peaks_root};
+ghost use Rattle.merkle_base.specs.Shows.{Shows};
 ghost use Rattle.merkle_batch_theory.specs.Store.{contents, no_leaves, node};
 ghost use Rattle.merkle_base.specs.Hashing.{Hashing};
 ghost use Rattle.merkle_batch_theory.specs.Applying.{IsApplied};
@@ -342,7 +343,12 @@ impl<F: Family, D: Digest> Readable for Mem<F, D> {
 
     ghost node = { λ m p. node m p };
 
-    fn size(&self) -> Position<F> {
+    fn size(&self) -> Position<F>
+        ensures count { result ≡ self.now.size }
+
+        // It shows every list that it agrees with.
+        ensures shows { (h : Hashing D) → (X : List D) → Agrees h F.rule (contents self.now) X → Shows h F.rule self.now.size (node self.now) X }
+    {
         Mem::size(self)
     }
 

@@ -1,4 +1,4 @@
--- When what a value answers is a list's.
+-- When what holds nodes answers those of a list.
 use Rattle.std.specs.Prelude.{◌≡◌, ℕ, List, length, Option, Some, slice_get}
 use Rattle.merkle_base.specs.Forest.{size}
 use Rattle.merkle_base.specs.Hashing.{Hashing}
