@@ -1,5 +1,5 @@
 -- What a structure holds before and after a request.
-use Rattle.std.proofs.Common.{◌≡◌, ℕ, ◌≤◌, List, [], ◌∷◌, ◌++◌, length, Option, None, Some, true, Ok, arith, refl, sym, ap, ◌∙◌, subst}
+use Rattle.std.proofs.Common.{◌≡◌, ℕ, ◌≤◌, List, [], ◌∷◌, ◌++◌, length, Option, None, Some, true, Ok, arith, refl, sym, ap, ◌∙◌, subst, length-append}
 use Rattle.std.specs.Prelude.{is_some}
 use Rattle.std.specs.FinMap.{empty, get}
 use Rattle.merkle_base.specs.Forest.{size}
@@ -17,26 +17,20 @@ use Rattle.merkle_lines.specs.Held.{adding, Adds, IsHeld}
 use Rattle.merkle_lines.proofs.Additions.{adding_accepted, adding_agrees, adding_applied, adding_one, adding_stands, adding_total, leaf_digests_count, leaf_digests_joined, updates_nothing}
 
 module _ {D : Type 0} (h : Hashing D) (rule : List ℕ → List ℕ) (s : Store D) (p : Option (Pending D)) (g : Given) (held : IsHeld h rule s p g) where
-  -- its leaves are the committed elements
-  pub committed_count : (n : ℕ) → size rule n ≡ s.size → n ≡ length g.committed
-  committed_count n e = size_inj rule n (length g.committed) (e ∙ held.agrees.sized ∙ ap (size rule) (leaf_digests_count h rule 0 g.committed))
-
   -- the pending batch, or a new one
   pub pending_adds : (b : Pending D) → p ≡ Some b → b ≡ adding h rule s (length g.committed) g.added
   pending_adds b e = subst (λ q. Adds h rule s q g) e held.adds
 
-  pub new_adds : (n : ℕ) (b : Pending D) → p ≡ None → size rule n ≡ s.size → n ≡ s.leaves → b ≡ forked (root_batch rule s.leaves (contents s)) → b ≡ adding h rule s (length g.committed) g.added
-  new_adds n b e same count new =
+  pub new_adds : (b : Pending D) → p ≡ None → b ≡ forked (root_batch rule s.leaves (contents s)) → b ≡ adding h rule s (length g.committed) g.added
+  new_adds b e new =
       let none : g.added ≡ [] = subst (λ q. Adds h rule s q g) e held.adds in
-      new ∙ ap (λ k. adding h rule s k []) (sym count ∙ committed_count n same) ∙ ap (adding h rule s (length g.committed)) (sym none)
-
-  pub committed_sized : size rule (length g.committed) ≡ s.size
-  committed_sized = ap (size rule) (sym (leaf_digests_count h rule 0 g.committed)) ∙ sym held.agrees.sized
+      new ∙ ap (λ k. adding h rule s k []) held.counted ∙ ap (adding h rule s (length g.committed)) (sym none)
 
   -- without a pending batch
   pub held_alone : (t : Store D) (q : Option (Pending D)) → t ≡ s → q ≡ None → IsHeld h rule t q (without_added g)
   held_alone t q e f = record {
     agrees = subst (λ x. Agrees h rule (contents x) (leaf_digests h rule 0 g.committed)) (sym e) held.agrees;
+    counted = ap (λ x. x.leaves) e ∙ held.counted;
     adds = subst (λ x. Adds h rule t x (without_added g)) (sym f) refl;
   }
 
@@ -44,6 +38,7 @@ module _ {D : Type 0} (h : Hashing D) (rule : List ℕ → List ℕ) (s : Store 
   pub held_more : (b c : Pending D) (element : List ℕ) → b ≡ adding h rule s (length g.committed) g.added → c ≡ with_leaf b (h.leaf (size rule (leaf_total b)) element) → IsHeld h rule s (Some c) (with_element g element)
   held_more b c element adds more = record {
     agrees = held.agrees;
+    counted = held.counted;
     adds = more ∙ ap (λ p. with_leaf p (h.leaf (size rule (leaf_total p)) element)) adds
         ∙ ap (λ n. with_leaf (adding h rule s (length g.committed) g.added) (h.leaf (size rule n) element)) (adding_total h rule s (length g.committed) g.added)
         ∙ adding_one h rule s (length g.committed) g.added element;
@@ -53,8 +48,12 @@ module _ {D : Type 0} (h : Hashing D) (rule : List ℕ → List ℕ) (s : Store 
   total_counts b adds = ap leaf_total adds ∙ adding_total h rule s (length g.committed) g.added
 
   -- with all elements committed
-  pub held_all : (t : Store D) (q : Option (Pending D)) → q ≡ None → Agrees h rule (contents t) (leaf_digests h rule 0 g.committed ++ leaf_digests h rule (length g.committed) g.added) → IsHeld h rule t q (all_committed g)
-  held_all t q e a = record { agrees = subst (Agrees h rule (contents t)) (sym (leaf_digests_joined h rule 0 g.committed g.added ∙ ap (λ k. leaf_digests h rule 0 g.committed ++ leaf_digests h rule k g.added) (omega arith))) a; adds = subst (λ x. Adds h rule t x (all_committed g)) (sym e) refl }
+  pub held_all : (t : Store D) (q : Option (Pending D)) → q ≡ None → t.leaves ≡ count g → Agrees h rule (contents t) (leaf_digests h rule 0 g.committed ++ leaf_digests h rule (length g.committed) g.added) → IsHeld h rule t q (all_committed g)
+  held_all t q e n a = record {
+    agrees = subst (Agrees h rule (contents t)) (sym (leaf_digests_joined h rule 0 g.committed g.added ∙ ap (λ k. leaf_digests h rule 0 g.committed ++ leaf_digests h rule k g.added) (omega arith))) a;
+    counted = n ∙ sym (length-append g.committed g.added);
+    adds = subst (λ x. Adds h rule t x (all_committed g)) (sym e) refl;
+  }
 
   -- the pending batch over the structure that it adds to
   module _ (b : Pending D) (adds : b ≡ adding h rule s (length g.committed) g.added) where
@@ -78,7 +77,7 @@ module _ {D : Type 0} (h : Hashing D) (rule : List ℕ → List ℕ) (s : Store 
     commit_accepted k stands law =
         adding_accepted h rule s list (length g.committed) g.added same_count held.agrees k (subst (λ p. StandsOn h rule (records k) (kept_lists p (list ∷ list ∷ []) ++ pending_list rule p list ∷ [])) adds stands) law
 
-    pub commit_applied : (k : Chain D) → StandsOn h rule (records k) (kept_lists b (list ∷ list ∷ []) ++ pending_list rule b (last_list (list ∷ list ∷ [])) ∷ []) → (t : Store D) (q : Option (Pending D)) → q ≡ None → k.ancestors ≡ kept b → applied h.same rule (length g.committed) k (contents s) ≡ Ok (contents t) →
+    pub commit_applied : (k : Chain D) → StandsOn h rule (records k) (kept_lists b (list ∷ list ∷ []) ++ pending_list rule b (last_list (list ∷ list ∷ [])) ∷ []) → (t : Store D) (q : Option (Pending D)) → q ≡ None → t.leaves ≡ count g → k.ancestors ≡ kept b → applied h.same rule (length g.committed) k (contents s) ≡ Ok (contents t) →
         IsHeld h rule t q (all_committed g)
-    commit_applied k stands t q none alone done =
-        held_all t q none (adding_applied h rule s list (length g.committed) g.added same_count held.agrees k (subst (λ p. StandsOn h rule (records k) (kept_lists p (list ∷ list ∷ []) ++ pending_list rule p list ∷ [])) adds stands) (contents t) (alone ∙ ap kept adds) done)
+    commit_applied k stands t q none n alone done =
+        held_all t q none n (adding_applied h rule s list (length g.committed) g.added same_count held.agrees k (subst (λ p. StandsOn h rule (records k) (kept_lists p (list ∷ list ∷ []) ++ pending_list rule p list ∷ [])) adds stands) (contents t) (alone ∙ ap kept adds) done)

@@ -21,7 +21,7 @@ use Rattle.merkle_lines.specs.Answers.{Given, Kind, added, all_committed, count,
 use Rattle.merkle_lines.specs.ErrorNames.{error_name, hex_error_name}
 use Rattle.merkle_lines.specs.Held.{IsHeld}
 use Rattle.merkle_lines.proofs.Additions.{leaf_digests_count}
-use Rattle.merkle_lines.proofs.Holdings.{committed_count}
+use Rattle.merkle_lines.proofs.Additions.{leaf_digests_count}
 
 module _ {D : Type 0} (h : Hashing D) (rule : List ℕ → List ℕ) (max_leaves domain : ℕ) (bagging : Bagging) (g : Given) where
   abbrev kind : Kind
@@ -48,10 +48,10 @@ module _ {D : Type 0} (h : Hashing D) (rule : List ℕ → List ℕ) (max_leaves
   add_full digits element e text d c f t = inl (subst (λ r. ◌≡◌ {A = Given × List ℕ} (without_added g, text) (added kind g r)) (sym d) (rw (le-ltb (count g) max_leaves (omega (arith, c))) (ap (λ x. (without_added g, x)) (t ∙ ap (λ x. error_line (error_name x)) f))))
 
   -- all elements are committed
-  pub commit_done : (t : Store D) (p : _) (l m : ℕ) (text : List ℕ) → IsHeld h rule t p (all_committed g) → size rule l ≡ t.size → m ≡ t.size → text ≡ codes "ok " ++ decimal l ++ codes " " ++ decimal m → IsAnswered kind g Commit (all_committed g) text
-  commit_done t p l m text held sized same is =
-      let leaves : l ≡ count g = committed_count h rule t p (all_committed g) held l sized ∙ length-append g.committed g.added in
-      let nodes : m ≡ size rule (count g) = same ∙ sym sized ∙ ap (size rule) leaves in
+  pub commit_done : (t : Store D) (p : _) (l m : ℕ) (text : List ℕ) → IsHeld h rule t p (all_committed g) → l ≡ t.leaves → m ≡ t.size → text ≡ codes "ok " ++ decimal l ++ codes " " ++ decimal m → IsAnswered kind g Commit (all_committed g) text
+  commit_done t p l m text held counted same is =
+      let leaves : l ≡ count g = counted ∙ held.counted ∙ length-append g.committed g.added in
+      let nodes : m ≡ size rule (count g) = same ∙ held.agrees.sized ∙ ap (size rule) (leaf_digests_count h rule 0 (g.committed ++ g.added) ∙ length-append g.committed g.added) in
       inl (ap (λ x. (all_committed g, x)) (is ∙ ap (λ a. codes "ok " ++ decimal a ++ codes " " ++ decimal m) leaves ∙ ap (λ b. codes "ok " ++ decimal (count g) ++ codes " " ++ decimal b) nodes))
 
   -- a root, or too many inactive peaks

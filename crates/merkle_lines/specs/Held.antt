@@ -27,6 +27,7 @@ Adds h rule store (Some batch) g = batch ≡ adding h rule store (length g.commi
 -- the structure agrees with the committed elements, and its pending batch adds the others
 pub record IsHeld {D : Type 0} (h : Hashing D) (rule : List ℕ → List ℕ) (store : Store D) (pending : Option (Pending D)) (g : Given) : Type 0 where
   pub agrees : Agrees h rule (contents store) (leaf_digests h rule 0 g.committed)
+  pub counted : store.leaves ≡ length g.committed
   pub adds : Adds h rule store pending g
 
 -- the structure of the session holds what was told

@@ -146,10 +146,8 @@ impl<F: Family, H: PlainHasher> Structure<F, H> {
         ensures kept { self.new.committed ≡ self.old.committed }
         ensures gone { self.new.pending ≡ None }
         ensures batch { IfOk result (λ b. (g : Given) → IsHeld (standard H.digest_of H.Digest.bytes H.Digest.eq H.Digest.EMPTY) F.rule self.old.committed self.old.pending g → b ≡ adding (standard H.digest_of H.Digest.bytes H.Digest.eq H.Digest.EMPTY) F.rule self.old.committed (length g.committed) g.added) }
-        ensures counted { (g : Given) → IsHeld (standard H.digest_of H.Digest.bytes H.Digest.eq H.Digest.EMPTY) F.rule self.old.committed self.old.pending g → self.old.committed.leaves ≡ length g.committed }
         ensures refused { IsOkUnless result Error.OutOfMemory }
     {
-        let _leaves = self.committed.leaves();
         match self.pending.take() {
             Some(batch) => Ok(batch),
             None => self.committed.new_batch(),

@@ -12,7 +12,7 @@ use Rattle.merkle_batch_theory.specs.Stands.{StandsOn}
 use Rattle.merkle_hasher.specs.Standard.{standard}
 use Rattle.merkle_lines.specs.Answers.{all_committed, error_line, leaf_digests, without_added}
 use Rattle.merkle_lines.specs.Held.{adding, IsHeld}
-use Rattle.merkle_lines.proofs.Holdings.{base_agrees, commit_accepted, commit_applied, held_alone, no_updates, parent_stands}
+use Rattle.merkle_lines.proofs.Holdings.{base_agrees, commit_accepted, commit_applied, held_alone, no_updates, parent_stands, total_counts}
 use Rattle.merkle_lines.proofs.Replies.{commit_done, commit_wanting}
 use Rattle.merkle_lines.proofs.session.Structure.commit.Goals as goal
 
@@ -56,7 +56,7 @@ returns-in-Err-apply_batch-clause-answered g c = λ given held.
     let is : chain ≡ c.in-Ok-merkleize.value.value = c.deref.ensures in
     let stands : StandsOn h rule (records chain) (kept_lists c.in-Ok.value (list ∷ list ∷ []) ++ pending_list rule c.in-Ok.value list ∷ []) =
     subst (λ k. StandsOn h rule (records k) (kept_lists c.in-Ok.value (list ∷ list ∷ []) ++ pending_list rule c.in-Ok.value list ∷ [])) (sym is) (c.in-Ok-merkleize.ensures.stands (list ∷ list ∷ []) (parent_stands h rule new.committed old.pending given held-new c.in-Ok.value adds) (base_agrees h rule new.committed old.pending given held-new c.in-Ok.value adds)) in
-    let counted : new.committed.leaves ≡ length given.committed = ap (λ k. k.leaves) same ∙ c.in-Ok.ensures.counted given held in
+    let counted : new.committed.leaves ≡ length given.committed = held-new.counted in
     let wanting : c.in-Err-apply_batch.error ≡ OutOfMemory =
     c.in-Err-apply_batch.ensures.accepted
     (subst (λ n. is_some (matched h.same new.committed.size (held_peaks rule n (contents new.committed)) chain) ≡ true) (sym counted)
@@ -80,9 +80,10 @@ returns-clause-answered g c = λ given held.
     let is : chain ≡ c.in-Ok-merkleize.value.value = c.deref.ensures in
     let stands : StandsOn h rule (records chain) (kept_lists c.in-Ok.value (list ∷ list ∷ []) ++ pending_list rule c.in-Ok.value list ∷ []) =
     subst (λ k. StandsOn h rule (records k) (kept_lists c.in-Ok.value (list ∷ list ∷ []) ++ pending_list rule c.in-Ok.value list ∷ [])) (sym is) (c.in-Ok-merkleize.ensures.stands (list ∷ list ∷ []) (parent_stands h rule new.committed old.pending given held-new c.in-Ok.value adds) (base_agrees h rule new.committed old.pending given held-new c.in-Ok.value adds)) in
-    let counted : new.committed.leaves ≡ length given.committed = ap (λ k. k.leaves) same ∙ c.in-Ok.ensures.counted given held in
+    let counted : new.committed.leaves ≡ length given.committed = held-new.counted in
     let next = c.apply_batch.new.self in
     let all : IsHeld h rule next c.take_pending.new.self.pending (all_committed given) =
-    commit_applied h rule new.committed old.pending given held-new c.in-Ok.value adds chain stands next _ c.take_pending.ensures.gone (ap (λ (k : Chain g.row.H-Digest.Denot). k.ancestors) is ∙ c.in-Ok-merkleize.ensures.fork.2)
+    commit_applied h rule new.committed old.pending given held-new c.in-Ok.value adds chain stands next _ c.take_pending.ensures.gone
+    (c.in-Ok-apply_batch.ensures.counted ∙ ap (λ (k : Chain g.row.H-Digest.Denot). k.leaves) is ∙ c.in-Ok-merkleize.ensures.counted.0 ∙ total_counts h rule new.committed old.pending given held-new c.in-Ok.value adds) (ap (λ (k : Chain g.row.H-Digest.Denot). k.ancestors) is ∙ c.in-Ok-merkleize.ensures.fork.2)
     (subst (λ n. applied h.same rule n chain (contents new.committed) ≡ Ok (contents next)) counted c.in-Ok-apply_batch.ensures.done) in
-    (all_committed given, all, commit_done h rule g.F.Family.MAX_LEAVES g.F.Family.DOMAIN old.hasher given next _ c.as_u64.result c.as_u64-2.result _ all (ap (size rule) c.as_u64.ensures ∙ c.leaves.ensures.sized) (c.as_u64-2.ensures ∙ c.size.ensures) refl)
+    (all_committed given, all, commit_done h rule g.F.Family.MAX_LEAVES g.F.Family.DOMAIN old.hasher given next _ c.as_u64.result c.as_u64-2.result _ all (c.as_u64.ensures ∙ c.leaves.ensures.count) (c.as_u64-2.ensures ∙ c.size.ensures) refl)

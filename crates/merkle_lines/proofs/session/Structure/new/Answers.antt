@@ -1,5 +1,5 @@
-use Rattle.std.proofs.Common.{refl}
+use Rattle.std.proofs.Common.{ap, refl}
 use Rattle.merkle_lines.proofs.session.Structure.new.Goals as goal
 
 pub returns-clause-held : goal.returns-clause-held
-returns-clause-held g c = record { agrees = c.new-2.ensures.agrees _; adds = refl }
+returns-clause-held g c = record { agrees = c.new-2.ensures.agrees _; counted = ap (λ s. s.leaves) c.new-2.ensures.empty; adds = refl }
