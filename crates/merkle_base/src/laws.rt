@@ -40,24 +40,30 @@ pub fn lawful_forest()
     ensures one_node { (rule : List ℕ → List ℕ) → (max_leaves max_nodes : ℕ) → IsLawful rule max_leaves max_nodes → (n p q : ℕ) → (a b : Tree) → n ≤ max_leaves
         → slice_get (forest rule n).nodes p ≡ Some a → slice_get (forest rule n).nodes q ≡ Some b → first_leaf a ≡ first_leaf b → height a ≡ height b → a ≡ b }
     ensures born { (rule : List ℕ → List ℕ) → (max_leaves max_nodes : ℕ) → IsLawful rule max_leaves max_nodes → (n : ℕ) → n < max_leaves
-        → (more : List Tree) × ((forest rule (suc n)).nodes ≡ (forest rule n).nodes ++ leaf (size rule n) n ∷ more) × (map height more ≡ parent_heights rule n) }
+        → (more : List Tree) × ((forest rule (suc n)).nodes ≡ (forest rule n).nodes ++ leaf (size rule n) n ∷ more)
+        × (map height more ≡ parent_heights rule n) }
     ensures low { (rule : List ℕ → List ℕ) → (max_leaves max_nodes : ℕ) → IsLawful rule max_leaves max_nodes → (n p : ℕ) → (t : Tree) → n ≤ max_leaves
         → slice_get (forest rule n).nodes p ≡ Some t → (height t < 63) × (p < max_nodes) }
 {}
 
 /// What a structure that dropped the nodes of its oldest leaves still has, under any rule.
 pub fn pruned_forest()
-    ensures held { (rule : List ℕ → List ℕ) → (b n p : ℕ) → (t : Tree) → b ≤ n → slice_get (forest rule n).nodes p ≡ Some t → size rule b ≤ p → ChildrenHeld (size rule b) (forest rule b).peaks t }
-    ensures leaf_below { (rule : List ℕ → List ℕ) → (n p k : ℕ) → (t : Tree) → slice_get (forest rule n).nodes p ≡ Some t → first_leaf t ≤ k → k < first_leaf t + width t → IsUnder (leaf (size rule k) k) t }
-    ensures holding { (rule : List ℕ → List ℕ) → (n k : ℕ) → k < n → (i : ℕ) × (t : Tree) × (slice_get (forest rule n).peaks i ≡ Some t) × (first_leaf t ≤ k) × (k < first_leaf t + width t) }
+    ensures held { (rule : List ℕ → List ℕ) → (b n p : ℕ) → (t : Tree) → b ≤ n → slice_get (forest rule n).nodes p ≡ Some t → size rule b ≤ p
+        → ChildrenHeld (size rule b) (forest rule b).peaks t }
+    ensures leaf_below { (rule : List ℕ → List ℕ) → (n p k : ℕ) → (t : Tree) → slice_get (forest rule n).nodes p ≡ Some t → first_leaf t ≤ k
+        → k < first_leaf t + width t → IsUnder (leaf (size rule k) k) t }
+    ensures holding { (rule : List ℕ → List ℕ) → (n k : ℕ) → k < n → (i : ℕ) × (t : Tree) × (slice_get (forest rule n).peaks i ≡ Some t) × (first_leaf t ≤ k)
+        × (k < first_leaf t + width t) }
 {}
 
 /// What stands over a stretch of leaves.
 pub fn grafted_forest()
     // Over a node's own leaves that node is the only maximal one, under any rule.
-    ensures own { (rule : List ℕ → List ℕ) → (n p : ℕ) → (t : Tree) → slice_get (forest rule n).nodes p ≡ Some t → nodes_inside rule n (first_leaf t) (end_leaf t) ≡ t ∷ [] }
+    ensures own { (rule : List ℕ → List ℕ) → (n p : ℕ) → (t : Tree) → slice_get (forest rule n).nodes p ≡ Some t
+        → nodes_inside rule n (first_leaf t) (end_leaf t) ≡ t ∷ [] }
 
     // Under a lawful rule whose nodes are told by formulas, the formulas tell the maximal nodes inside a stretch.
-    ensures stretch { (rule : List ℕ → List ℕ) → (max_leaves max_nodes : ℕ) → IsLawful rule max_leaves max_nodes → (root birth : ℕ → ℕ → ℕ) → AreCoordinates rule max_leaves root birth
+    ensures stretch { (rule : List ℕ → List ℕ) → (max_leaves max_nodes : ℕ) → IsLawful rule max_leaves max_nodes → (root birth : ℕ → ℕ → ℕ)
+        → AreCoordinates rule max_leaves root birth
         → (n s a h : ℕ) → n ≤ max_leaves → s ≡ a * 2 ^ h → s + 2 ^ h ≤ n → map placed (nodes_inside rule n s (s + 2 ^ h)) ≡ stretch_nodes root birth n s h }
 {}

@@ -41,15 +41,18 @@ pub fn keeping()
 pub fn agreement<D>()
     ensures replayed { (h : Hashing D) → (rule : List ℕ → List ℕ) → (rs : List (Recorded D)) → (X : List D) → (ls : List (List D)) → (c : Contents D)
         → StandsOn h rule rs (X ∷ ls) → Agrees h rule c X → Agrees h rule (all_laid rs c) (last_list (X ∷ ls)) }
-    ensures pruned { (h : Hashing D) → (rule : List ℕ → List ℕ) → (b : ℕ) → (X : List D) → (c : Contents D) → b ≤ length X → Agrees h rule c X → Agrees h rule (pruned rule b c) X }
+    ensures pruned { (h : Hashing D) → (rule : List ℕ → List ℕ) → (b : ℕ) → (X : List D) → (c : Contents D) → b ≤ length X → Agrees h rule c X
+        → Agrees h rule (pruned rule b c) X }
 {}
 
 /// A structure holds exactly the kept positions, whatever was pruned and applied, and as many peaks as its forest has.
 pub fn holding<D>()
     ensures none { (rule : List ℕ → List ℕ) → HoldsKept rule (contents (no_leaves {D = D})) }
-    ensures made { (rule : List ℕ → List ℕ) → (b n : ℕ) → (pins nodes : List D) → length pins ≡ length (peak_positions rule b) → HoldsKept rule (contents (made_of rule b n pins nodes)) }
+    ensures made { (rule : List ℕ → List ℕ) → (b n : ℕ) → (pins nodes : List D) → length pins ≡ length (peak_positions rule b)
+        → HoldsKept rule (contents (made_of rule b n pins nodes)) }
     ensures pruned { (rule : List ℕ → List ℕ) → (b : ℕ) → (c : Contents D) → HoldsKept rule c → HoldsKept rule (pruned rule b c) }
-    ensures replayed { (rule : List ℕ → List ℕ) → (rs : List (Recorded D)) → (c : Contents D) → size rule c.boundary ≤ c.size → HoldsKept rule c → HoldsKept rule (all_laid rs c) }
+    ensures replayed { (rule : List ℕ → List ℕ) → (rs : List (Recorded D)) → (c : Contents D) → size rule c.boundary ≤ c.size → HoldsKept rule c
+        → HoldsKept rule (all_laid rs c) }
     ensures peaks { (rule : List ℕ → List ℕ) → (c : Contents D) → (n : ℕ) → HoldsKept rule c → c.boundary ≤ n → c.size ≡ size rule n
         → length (held_peaks rule n c) ≡ length (peak_positions rule n) }
 {}
@@ -69,40 +72,47 @@ pub fn commuting<D>()
 
 /// Two lists of one length with the same peak digests are equal, or collide at a node.
 pub fn collision<D>()
-    ensures collides { (h : Hashing D) → (rule : List ℕ → List ℕ) → TellsApart h → (X Y : List D) → length X ≡ length Y → peak_digests h rule X ≡ peak_digests h rule Y → (X ≡ Y) ⊎ Collide h rule X Y }
+    ensures collides { (h : Hashing D) → (rule : List ℕ → List ℕ) → TellsApart h → (X Y : List D) → length X ≡ length Y
+        → peak_digests h rule X ≡ peak_digests h rule Y → (X ≡ Y) ⊎ Collide h rule X Y }
 {}
 
 /// A batch that stands on lists is accepted at one of them, with the length and the peak digests of the `Mem`'s list: if it is
 /// that list, the `Mem` then agrees with the last list, and if it is not, the two lists collide at a node.
 pub fn acceptance<D>()
-    ensures accepted { (h : Hashing D) → (rule : List ℕ → List ℕ) → TellsApart h → (k : Chain D) → (ls : List (List D)) → (c : Contents D) → (X : List D) → (i : ℕ)
-        → StandsOn h rule (records k) ls → Agrees h rule c X → matched h.same c.size (held_peaks rule (length X) c) k ≡ Some i
+    ensures accepted { (h : Hashing D) → (rule : List ℕ → List ℕ) → TellsApart h → (k : Chain D) → (ls : List (List D)) → (c : Contents D) → (X : List D)
+        → (i : ℕ) → StandsOn h rule (records k) ls → Agrees h rule c X → matched h.same c.size (held_peaks rule (length X) c) k ≡ Some i
         → (Z : List D) × (slice_get ls i ≡ Some Z) × (length X ≡ length Z) × (peak_digests h rule X ≡ peak_digests h rule Z)
         × (X ≡ Z → Agrees h rule (all_laid (drop i (records k)) c) (last_list ls)) × ((X ≡ Z → ⊥) → Collide h rule X Z) }
     ensures applied { (h : Hashing D) → (rule : List ℕ → List ℕ) → TellsApart h → (k : Chain D) → (ls : List (List D)) → (c d : Contents D) → (X : List D)
         → StandsOn h rule (records k) ls → Agrees h rule c X → applied h.same rule (length X) k c ≡ Ok d → IsAppliedTo h rule k ls X c d }
-    ensures accepts { (h : Hashing D) → (rule : List ℕ → List ℕ) → TellsApart h → (k : Chain D) → (ls : List (List D)) → (c : Contents D) → (X : List D) → (i : ℕ)
-        → StandsOn h rule (records k) ls → slice_get ls i ≡ Some X → i ≤ length k.ancestors → Agrees h rule c X → is_some (matched h.same c.size (held_peaks rule (length X) c) k) ≡ true }
-    ensures peaks { (h : Hashing D) → (rule : List ℕ → List ℕ) → (c : Contents D) → (X : List D) → Agrees h rule c X → held_peaks rule (length X) c ≡ peak_digests h rule X }
+    ensures accepts { (h : Hashing D) → (rule : List ℕ → List ℕ) → TellsApart h → (k : Chain D) → (ls : List (List D)) → (c : Contents D) → (X : List D)
+        → (i : ℕ)
+        → StandsOn h rule (records k) ls → slice_get ls i ≡ Some X → i ≤ length k.ancestors → Agrees h rule c X
+        → is_some (matched h.same c.size (held_peaks rule (length X) c) k) ≡ true }
+    ensures peaks { (h : Hashing D) → (rule : List ℕ → List ℕ) → (c : Contents D) → (X : List D) → Agrees h rule c X
+        → held_peaks rule (length X) c ≡ peak_digests h rule X }
 {}
 
 /// What is read through the records of a batch that stands on lists, and below them from a base that agrees with one of those lists.
 pub fn reading<D>()
-    ensures newest { (h : Hashing D) → (rule : List ℕ → List ℕ) → (rs : List (Recorded D)) → (X : List D) → (ls : List (List D)) → (p : ℕ) → StandsOn h rule rs (X ∷ ls)
-        → slice_get (node_digests h rule (last_list (X ∷ ls))) p ≡ option_or (newest rs p) (slice_get (node_digests h rule X) p) }
-    ensures right { (h : Hashing D) → (rule : List ℕ → List ℕ) → (rs : List (Recorded D)) → (X : List D) → (ls : List (List D)) → (base : Contents D) → IsBased h rule rs X ls base
-        → (p : ℕ) → (d : D) → read_over rs base p ≡ Some d
+    ensures newest { (h : Hashing D) → (rule : List ℕ → List ℕ) → (rs : List (Recorded D)) → (X : List D) → (ls : List (List D)) → (p : ℕ)
+        → StandsOn h rule rs (X ∷ ls) → slice_get (node_digests h rule (last_list (X ∷ ls))) p ≡ option_or (newest rs p) (slice_get (node_digests h rule X) p) }
+    ensures right { (h : Hashing D) → (rule : List ℕ → List ℕ) → (rs : List (Recorded D)) → (X : List D) → (ls : List (List D)) → (base : Contents D)
+        → IsBased h rule rs X ls base → (p : ℕ) → (d : D) → read_over rs base p ≡ Some d
         → slice_get (node_digests h rule (last_list (X ∷ ls))) p ≡ Some d }
-    ensures answered { (h : Hashing D) → (rule : List ℕ → List ℕ) → (rs : List (Recorded D)) → (X : List D) → (ls : List (List D)) → (base : Contents D) → IsBased h rule rs X ls base
-        → (p : ℕ) → is_kept rule base.boundary p ≡ true
+    ensures answered { (h : Hashing D) → (rule : List ℕ → List ℕ) → (rs : List (Recorded D)) → (X : List D) → (ls : List (List D)) → (base : Contents D)
+        → IsBased h rule rs X ls base → (p : ℕ) → is_kept rule base.boundary p ≡ true
         → read_over rs base p ≡ slice_get (node_digests h rule (last_list (X ∷ ls))) p }
 {}
 
 /// What the digests of an edited list are computed from.
 pub fn computing<D>()
-    ensures made { (h : Hashing D) → (rule : List ℕ → List ℕ) → (Y : List D) → (p : ℕ) → (l r : Tree) → (a b : D) → slice_get (forest rule (length Y)).nodes p ≡ Some (join p l r)
-        → slice_get (node_digests h rule Y) (position l) ≡ Some a → slice_get (node_digests h rule Y) (position r) ≡ Some b → slice_get (node_digests h rule Y) p ≡ Some (h.node p a b) }
-    ensures unchanged { (h : Hashing D) → (rule : List ℕ → List ℕ) → (r : Recorded D) → (X : List D) → (p : ℕ) → (t : Tree) → slice_get (forest rule (length X)).nodes p ≡ Some t
+    ensures made { (h : Hashing D) → (rule : List ℕ → List ℕ) → (Y : List D) → (p : ℕ) → (l r : Tree) → (a b : D)
+        → slice_get (forest rule (length Y)).nodes p ≡ Some (join p l r)
+        → slice_get (node_digests h rule Y) (position l) ≡ Some a → slice_get (node_digests h rule Y) (position r) ≡ Some b
+        → slice_get (node_digests h rule Y) p ≡ Some (h.node p a b) }
+    ensures unchanged { (h : Hashing D) → (rule : List ℕ → List ℕ) → (r : Recorded D) → (X : List D) → (p : ℕ) → (t : Tree)
+        → slice_get (forest rule (length X)).nodes p ≡ Some t
         → is_touched (get r.overwritten) t ≡ false → slice_get (node_digests h rule (edited rule r X)) p ≡ slice_get (node_digests h rule X) p }
     ensures used { (rule : List ℕ → List ℕ) → (m : ℕ → Option D) → (b n e : ℕ) → b ≤ n → n ≤ e → ((k : ℕ) → is_some (m (size rule k)) ≡ true → b ≤ k)
         → (t : Tree) → IsUsed rule m n e t → is_kept rule b (position t) ≡ true }
@@ -110,45 +120,52 @@ pub fn computing<D>()
 
 /// What the calls of a batch do to its list, n being the number of leaves with those that it appended.
 pub fn editing<D>()
-    ensures length { (rule : List ℕ → List ℕ) → (r : Recorded D) → (X : List D) → (n : ℕ) → r.before ≡ size rule (length X) → length X ≤ n → r.before + length r.appended ≡ size rule n
-        → length (edited rule r X) ≡ n }
-    ensures added { (rule : List ℕ → List ℕ) → (r s : Recorded D) → (X : List D) → (n : ℕ) → (d : D) → (more : List D) → r.before ≡ size rule (length X) → length X ≤ n
-        → r.before + length r.appended ≡ size rule n → size rule n + 1 + length more ≡ size rule (suc n)
+    ensures length { (rule : List ℕ → List ℕ) → (r : Recorded D) → (X : List D) → (n : ℕ) → r.before ≡ size rule (length X) → length X ≤ n
+        → r.before + length r.appended ≡ size rule n → length (edited rule r X) ≡ n }
+    ensures added { (rule : List ℕ → List ℕ) → (r s : Recorded D) → (X : List D) → (n : ℕ) → (d : D) → (more : List D) → r.before ≡ size rule (length X)
+        → length X ≤ n → r.before + length r.appended ≡ size rule n → size rule n + 1 + length more ≡ size rule (suc n)
         → s.before ≡ r.before → s.overwritten ≡ r.overwritten → s.appended ≡ r.appended ++ d ∷ more → edited rule s X ≡ edited rule r X ++ d ∷ [] }
     ensures overwritten { (rule : List ℕ → List ℕ) → (r s : Recorded D) → (X : List D) → (k : ℕ) → (d : D) → r.before ≡ size rule (length X) → k < length X
-        → s.before ≡ r.before → s.appended ≡ r.appended → ((p : ℕ) → get s.overwritten p ≡ cond (p == size rule k) (Some d) (get r.overwritten p)) → edited rule s X ≡ slice_set (edited rule r X) k d }
-    ensures replaced { (rule : List ℕ → List ℕ) → (r s : Recorded D) → (X : List D) → (n k : ℕ) → (d : D) → r.before ≡ size rule (length X) → length X ≤ k → k < n
-        → r.before + length r.appended ≡ size rule n → s.before ≡ r.before → s.overwritten ≡ r.overwritten → s.appended ≡ slice_set r.appended (size rule k - r.before) d
+        → s.before ≡ r.before → s.appended ≡ r.appended → ((p : ℕ) → get s.overwritten p ≡ cond (p == size rule k) (Some d) (get r.overwritten p))
         → edited rule s X ≡ slice_set (edited rule r X) k d }
+    ensures replaced { (rule : List ℕ → List ℕ) → (r s : Recorded D) → (X : List D) → (n k : ℕ) → (d : D) → r.before ≡ size rule (length X) → length X ≤ k
+        → k < n
+        → r.before + length r.appended ≡ size rule n → s.before ≡ r.before → s.overwritten ≡ r.overwritten
+        → s.appended ≡ slice_set r.appended (size rule k - r.before) d → edited rule s X ≡ slice_set (edited rule r X) k d }
 {}
 
 /// What merkleizing makes: s of the pending record r, n leaves in all.
 pub fn completing<D>()
     ensures step { (h : Hashing D) → (rule : List ℕ → List ℕ) → (r s : Recorded D) → (X : List D) → (n : ℕ) → r.before ≡ size rule (length X) → length X ≤ n
         → r.before + length r.appended ≡ size rule n → IsCompleted h rule r s X → IsStep h rule s X (edited rule r X) }
-    ensures stands { (h : Hashing D) → (rule : List ℕ → List ℕ) → (rs : List (Recorded D)) → (X : List D) → (ls : List (List D)) → (r : Recorded D) → (Y : List D)
-        → StandsOn h rule rs (X ∷ ls) → IsStep h rule r (last_list (X ∷ ls)) Y → StandsOn h rule (rs ++ r ∷ []) (X ∷ ls ++ Y ∷ []) × (last_list (X ∷ ls ++ Y ∷ []) ≡ Y) }
-    ensures forgets { (h : Hashing D) → (rule : List ℕ → List ℕ) → (rs : List (Recorded D)) → (ls : List (List D)) → (i : ℕ) → (X : List D) → StandsOn h rule rs ls → slice_get ls i ≡ Some X
+    ensures stands { (h : Hashing D) → (rule : List ℕ → List ℕ) → (rs : List (Recorded D)) → (X : List D) → (ls : List (List D)) → (r : Recorded D)
+        → (Y : List D)
+        → StandsOn h rule rs (X ∷ ls) → IsStep h rule r (last_list (X ∷ ls)) Y → StandsOn h rule (rs ++ r ∷ []) (X ∷ ls ++ Y ∷ [])
+        × (last_list (X ∷ ls ++ Y ∷ []) ≡ Y) }
+    ensures forgets { (h : Hashing D) → (rule : List ℕ → List ℕ) → (rs : List (Recorded D)) → (ls : List (List D)) → (i : ℕ) → (X : List D)
+        → StandsOn h rule rs ls → slice_get ls i ≡ Some X
         → (more : List (List D)) × StandsOn h rule (drop i rs) (X ∷ more) × (last_list (X ∷ more) ≡ last_list ls) }
-    ensures splits { (h : Hashing D) → (rule : List ℕ → List ℕ) → (rs : List (Recorded D)) → (r : Recorded D) → (X : List D) → (ls : List (List D)) → StandsOn h rule (rs ++ r ∷ []) (X ∷ ls)
+    ensures splits { (h : Hashing D) → (rule : List ℕ → List ℕ) → (rs : List (Recorded D)) → (r : Recorded D) → (X : List D) → (ls : List (List D))
+        → StandsOn h rule (rs ++ r ∷ []) (X ∷ ls)
         → (more : List (List D)) × StandsOn h rule rs (X ∷ more) × IsStep h rule r (last_list (X ∷ more)) (last_list (X ∷ ls)) }
-    ensures still { (h : Hashing D) → (rule : List ℕ → List ℕ) → (r : Recorded D) → (X : List D) → r.before ≡ size rule (length X) → r.appended ≡ [] → ((p : ℕ) → get r.overwritten p ≡ None)
-        → r.peaks_before ≡ peak_digests h rule X → r.peaks_after ≡ peak_digests h rule X → IsStep h rule r X X }
-    ensures no_change { (h : Hashing D) → (rule : List ℕ → List ℕ) → (r : Recorded D) → (X Y : List D) → IsStep h rule r X Y → r.appended ≡ [] → ((p : ℕ) → get r.overwritten p ≡ None) → Y ≡ X }
-    ensures needed_right { (h : Hashing D) → (rule : List ℕ → List ℕ) → (rs : List (Recorded D)) → (X : List D) → (ls : List (List D)) → (base : Contents D) → IsBased h rule rs X ls base
-        → (r : Recorded D) → (e : ℕ) → (t : Tree) → (d : D)
+    ensures still { (h : Hashing D) → (rule : List ℕ → List ℕ) → (r : Recorded D) → (X : List D) → r.before ≡ size rule (length X) → r.appended ≡ []
+        → ((p : ℕ) → get r.overwritten p ≡ None) → r.peaks_before ≡ peak_digests h rule X → r.peaks_after ≡ peak_digests h rule X → IsStep h rule r X X }
+    ensures no_change { (h : Hashing D) → (rule : List ℕ → List ℕ) → (r : Recorded D) → (X Y : List D) → IsStep h rule r X Y → r.appended ≡ []
+        → ((p : ℕ) → get r.overwritten p ≡ None) → Y ≡ X }
+    ensures needed_right { (h : Hashing D) → (rule : List ℕ → List ℕ) → (rs : List (Recorded D)) → (X : List D) → (ls : List (List D)) → (base : Contents D)
+        → IsBased h rule rs X ls base → (r : Recorded D) → (e : ℕ) → (t : Tree) → (d : D)
         → IsNeeded rule (get r.overwritten) (length (last_list (X ∷ ls))) e t → read_over rs base (position t) ≡ Some d
         → slice_get (node_digests h rule (edited rule r (last_list (X ∷ ls)))) (position t) ≡ Some d }
-    ensures none_missing { (h : Hashing D) → (rule : List ℕ → List ℕ) → (rs : List (Recorded D)) → (X : List D) → (ls : List (List D)) → (base : Contents D) → IsBased h rule rs X ls base
-        → (r : Recorded D) → (e : ℕ) → length (last_list (X ∷ ls)) ≤ e
+    ensures none_missing { (h : Hashing D) → (rule : List ℕ → List ℕ) → (rs : List (Recorded D)) → (X : List D) → (ls : List (List D)) → (base : Contents D)
+        → IsBased h rule rs X ls base → (r : Recorded D) → (e : ℕ) → length (last_list (X ∷ ls)) ≤ e
         → ((k : ℕ) → is_some (get r.overwritten (size rule k)) ≡ true → base.boundary ≤ k) → (t : Tree)
         → IsNeeded rule (get r.overwritten) (length (last_list (X ∷ ls))) e t → (d : D) × (read_over rs base (position t) ≡ Some d) }
 {}
 
 /// A used node t, read from what the batch has so far (`own`, right wherever it has a digest, and with one for t if t is new or dirty), then from the kept records, then from the base.
 pub fn gathering<D>()
-    ensures right { (h : Hashing D) → (rule : List ℕ → List ℕ) → (rs : List (Recorded D)) → (X : List D) → (ls : List (List D)) → (base : Contents D) → IsBased h rule rs X ls base
-        → (r : Recorded D) → (e : ℕ)
+    ensures right { (h : Hashing D) → (rule : List ℕ → List ℕ) → (rs : List (Recorded D)) → (X : List D) → (ls : List (List D)) → (base : Contents D)
+        → IsBased h rule rs X ls base → (r : Recorded D) → (e : ℕ)
         → (own : ℕ → Option D) → ((p : ℕ) → (d : D) → own p ≡ Some d → slice_get (node_digests h rule (edited rule r (last_list (X ∷ ls)))) p ≡ Some d)
         → (t : Tree) → IsUsed rule (get r.overwritten) (length (last_list (X ∷ ls))) e t
         → ((size rule (length (last_list (X ∷ ls))) ≤ position t) ⊎ (is_touched (get r.overwritten) t ≡ true) → is_some (own (position t)) ≡ true)
@@ -162,15 +179,17 @@ pub fn gathering<D>()
 pub fn counting<D>()
     ensures listed { (rule : List ℕ → List ℕ) → (m : ℕ → Option D) → (n e : ℕ) → (ps : List ℕ) → IsDistinct nat_eq ps
         → ((p : ℕ) → list_any (nat_eq p) ps ≡ passes (is_computed rule m n) (slice_get (forest rule e).nodes p)) → length ps ≡ length (computed rule m n e) }
-    ensures levels { (rule : List ℕ → List ℕ) → (m : ℕ → Option D) → (n e k : ℕ) → ((p : ℕ) → (t : Tree) → slice_get (forest rule e).nodes p ≡ Some t → is_computed rule m n t ≡ true → height t < k)
+    ensures levels { (rule : List ℕ → List ℕ) → (m : ℕ → Option D) → (n e k : ℕ)
+        → ((p : ℕ) → (t : Tree) → slice_get (forest rule e).nodes p ≡ Some t → is_computed rule m n t ≡ true → height t < k)
         → total (λ h. length (level rule m n e h)) k ≡ length (computed rule m n e) }
 {}
 
 /// What a proof of leaves at or after the boundary reads is kept: the peaks, and the children of each node over such a leaf.
 pub fn proving()
-    ensures peaks { (rule : List ℕ → List ℕ) → (b n i : ℕ) → (t : Tree) → b ≤ n → slice_get (forest rule n).peaks i ≡ Some t → is_kept rule b (position t) ≡ true }
-    ensures siblings { (rule : List ℕ → List ℕ) → (b n p q k : ℕ) → (l r : Tree) → b ≤ n → slice_get (forest rule n).nodes p ≡ Some (join p l r) → IsUnder (leaf q k) (join p l r) → b ≤ k
-        → (is_kept rule b (position l) ≡ true) × (is_kept rule b (position r) ≡ true) }
+    ensures peaks { (rule : List ℕ → List ℕ) → (b n i : ℕ) → (t : Tree) → b ≤ n → slice_get (forest rule n).peaks i ≡ Some t
+        → is_kept rule b (position t) ≡ true }
+    ensures siblings { (rule : List ℕ → List ℕ) → (b n p q k : ℕ) → (l r : Tree) → b ≤ n → slice_get (forest rule n).nodes p ≡ Some (join p l r)
+        → IsUnder (leaf q k) (join p l r) → b ≤ k → (is_kept rule b (position l) ≡ true) × (is_kept rule b (position r) ≡ true) }
 {}
 
 /// What is shown: by an empty and by an agreeing `Mem`, by a batch, and of the first entries of a list.
@@ -179,8 +198,8 @@ pub fn showing<D>()
     ensures agrees { (h : Hashing D) → (rule : List ℕ → List ℕ) → (c : Contents D) → (X : List D) → Agrees h rule c X → Shows h rule c.size c.node X }
     ensures batch { (h : Hashing D) → (rule : List ℕ → List ℕ) → (k : Chain D) → (X : List D) → (ls : List (List D)) → StandsOn h rule (records k) (X ∷ ls)
         → Shows h rule (after k.own) (newest (records k)) (last_list (X ∷ ls)) }
-    ensures taken { (h : Hashing D) → (rule : List ℕ → List ℕ) → (X : List D) → (n p : ℕ) → (t : Tree) → n ≤ length X → slice_get (forest rule n).nodes p ≡ Some t
-        → slice_get (node_digests h rule (take n X)) p ≡ slice_get (node_digests h rule X) p }
+    ensures taken { (h : Hashing D) → (rule : List ℕ → List ℕ) → (X : List D) → (n p : ℕ) → (t : Tree) → n ≤ length X
+        → slice_get (forest rule n).nodes p ≡ Some t → slice_get (node_digests h rule (take n X)) p ≡ slice_get (node_digests h rule X) p }
 {}
 
 /// The dirty nodes are those over an overwritten leaf, and what is used is new, dirty or needed.
@@ -193,7 +212,8 @@ pub fn marking<D>()
 
 /// What a fork keeps of the records of its parent, and the lists that these stand on.
 pub fn forking<D>()
-    ensures stands { (h : Hashing D) → (rule : List ℕ → List ℕ) → (p : Pending D) → (ls : List (List D)) → p.forgotten ≤ length p.parent.ancestors → StandsOn h rule (records p.parent) ls
+    ensures stands { (h : Hashing D) → (rule : List ℕ → List ℕ) → (p : Pending D) → (ls : List (List D)) → p.forgotten ≤ length p.parent.ancestors
+        → StandsOn h rule (records p.parent) ls
         → (X : List D) × (more : List (List D)) × (kept_lists p ls ≡ X ∷ more) × StandsOn h rule (kept p) (X ∷ more) × (last_list (X ∷ more) ≡ last_list ls) }
     ensures last { (ls : List (List D)) → (Y : List D) → last_list (ls ++ Y ∷ []) ≡ Y }
 {}

@@ -100,9 +100,12 @@ impl<F: Family, D: Digest> Draft<F, D> {
         base: &B,
         position: Position<F>,
     ) -> Result<D, Gap<F>>
-        ensures right { IfOk result (λ d. (truth : ℕ → D) → ReadsTrue (old_node self.now (B.contents base.now)) self.now.before truth → self.now.appended ≡ truths truth self.now.before (length self.now.appended) → d ≡ truth position) }
+        ensures right { IfOk result (λ d. (truth : ℕ → D) → ReadsTrue (old_node self.now (B.contents base.now)) self.now.before truth
+            → self.now.appended ≡ truths truth self.now.before (length self.now.appended) → d ≡ truth position) }
         ensures read { IfOk result (λ _. position < self.now.before → is_some (old_node self.now (B.contents base.now) position) ≡ true) }
-        ensures missing { IfErr result (λ e. (e ≡ Gap.Missing position) × ((position < self.now.before → old_node self.now (B.contents base.now) position ≡ None) × (self.now.before ≤ position → self.now.before + length self.now.appended ≤ position))) }
+        ensures missing { IfErr result (λ e. (e ≡ Gap.Missing position)
+            × ((position < self.now.before → old_node self.now (B.contents base.now) position ≡ None)
+            × (self.now.before ≤ position → self.now.before + length self.now.appended ≤ position))) }
     {
         let found = if position < self.size_before {
             match self.overwrites.get(position) {
@@ -145,9 +148,14 @@ impl<F: Family, D: Digest> Draft<F, D> {
         requires node { HasInner F.rule F.MAX_LEAVES (self.old.before + length self.old.appended) height }
         ensures only { OnlyAppends self.old self.new }
         ensures longer { OnOk result (length self.new.appended ≡ suc (length self.old.appended)) }
-        ensures missing { let end = self.old.before + length self.old.appended in IfErr result (λ e. e ≢ Gap.OutOfMemory → LacksChild F.rule F.MAX_LEAVES end (suc end) self.old.before (old_node self.old (B.contents base.now)) e) }
-        ensures read { let end = self.old.before + length self.old.appended in OnOk result (AreChildrenRead F.rule F.MAX_LEAVES end (suc end) self.old.before (old_node self.old (B.contents base.now))) }
-        ensures right { OnOk result ((truth : ℕ → D) → IsTruth (H.hashing hasher.now) F.rule F.MAX_LEAVES truth → ReadsTrue (old_node self.old (B.contents base.now)) self.old.before truth → self.old.appended ≡ truths truth self.old.before (length self.old.appended) → self.new.appended ≡ truths truth self.old.before (length self.new.appended)) }
+        ensures missing { let end = self.old.before + length self.old.appended in
+            IfErr result (λ e. e ≢ Gap.OutOfMemory → LacksChild F.rule F.MAX_LEAVES end (suc end) self.old.before (old_node self.old (B.contents base.now)) e) }
+        ensures read { let end = self.old.before + length self.old.appended in
+            OnOk result (AreChildrenRead F.rule F.MAX_LEAVES end (suc end) self.old.before (old_node self.old (B.contents base.now))) }
+        ensures right { OnOk result ((truth : ℕ → D) → IsTruth (H.hashing hasher.now) F.rule F.MAX_LEAVES truth
+            → ReadsTrue (old_node self.old (B.contents base.now)) self.old.before truth
+            → self.old.appended ≡ truths truth self.old.before (length self.old.appended)
+            → self.new.appended ≡ truths truth self.old.before (length self.new.appended)) }
     {
         let position = self.size();
         let (left, right) = F::children(position, height);
@@ -169,9 +177,14 @@ impl<F: Family, D: Digest> Draft<F, D> {
         requires counted { self.old.before + length self.old.appended ≡ size F.rule leaf }
         ensures only { OnlyAppends self.old self.new }
         ensures counted { OnOk result (self.new.before + length self.new.appended ≡ size F.rule (suc leaf)) }
-        ensures missing { IfErr result (λ e. e ≢ Gap.OutOfMemory → LacksChild F.rule F.MAX_LEAVES (size F.rule leaf) (size F.rule (suc leaf)) self.old.before (old_node self.old (B.contents base.now)) e) }
-        ensures read { OnOk result (AreChildrenRead F.rule F.MAX_LEAVES (size F.rule leaf) (size F.rule (suc leaf)) self.old.before (old_node self.old (B.contents base.now))) }
-        ensures right { OnOk result ((truth : ℕ → D) → IsTruth (H.hashing hasher.now) F.rule F.MAX_LEAVES truth → ReadsTrue (old_node self.old (B.contents base.now)) self.old.before truth → digest ≡ truth (size F.rule leaf) → self.old.appended ≡ truths truth self.old.before (length self.old.appended) → self.new.appended ≡ truths truth self.old.before (length self.new.appended)) }
+        ensures missing { IfErr result (λ e. e ≢ Gap.OutOfMemory
+            → LacksChild F.rule F.MAX_LEAVES (size F.rule leaf) (size F.rule (suc leaf)) self.old.before (old_node self.old (B.contents base.now)) e) }
+        ensures read { let old = old_node self.old (B.contents base.now) in
+            OnOk result (AreChildrenRead F.rule F.MAX_LEAVES (size F.rule leaf) (size F.rule (suc leaf)) self.old.before old) }
+        ensures right { OnOk result ((truth : ℕ → D) → IsTruth (H.hashing hasher.now) F.rule F.MAX_LEAVES truth
+            → ReadsTrue (old_node self.old (B.contents base.now)) self.old.before truth → digest ≡ truth (size F.rule leaf)
+            → self.old.appended ≡ truths truth self.old.before (length self.old.appended)
+            → self.new.appended ≡ truths truth self.old.before (length self.new.appended)) }
     {
         self.push(digest)?;
         for height in F::parent_heights(leaf) {
@@ -193,9 +206,14 @@ impl<F: Family, D: Digest> Draft<F, D> {
         requires nothing { self.old.appended ≡ [] }
         ensures only { OnlyAppends self.old self.new }
         ensures counted { OnOk result (self.new.before + length self.new.appended ≡ size F.rule (leaves_before + length added.now)) }
-        ensures missing { IfErr result (λ e. e ≢ Gap.OutOfMemory → LacksChild F.rule F.MAX_LEAVES self.old.before (size F.rule (leaves_before + length added.now)) self.old.before (old_node self.old (B.contents base.now)) e) }
-        ensures read { OnOk result (AreChildrenRead F.rule F.MAX_LEAVES self.old.before (size F.rule (leaves_before + length added.now)) self.old.before (old_node self.old (B.contents base.now))) }
-        ensures right { OnOk result ((truth : ℕ → D) → IsTruth (H.hashing hasher.now) F.rule F.MAX_LEAVES truth → ReadsTrue (old_node self.old (B.contents base.now)) self.old.before truth → LeavesAre truth F.rule leaves_before added.now → self.new.appended ≡ truths truth self.old.before (length self.new.appended)) }
+        ensures missing { IfErr result (λ e. e ≢ Gap.OutOfMemory
+            → let end = size F.rule (leaves_before + length added.now) in
+            LacksChild F.rule F.MAX_LEAVES self.old.before end self.old.before (old_node self.old (B.contents base.now)) e) }
+        ensures read { let end = size F.rule (leaves_before + length added.now) in
+            OnOk result (AreChildrenRead F.rule F.MAX_LEAVES self.old.before end self.old.before (old_node self.old (B.contents base.now))) }
+        ensures right { OnOk result ((truth : ℕ → D) → IsTruth (H.hashing hasher.now) F.rule F.MAX_LEAVES truth
+            → ReadsTrue (old_node self.old (B.contents base.now)) self.old.before truth → LeavesAre truth F.rule leaves_before added.now
+            → self.new.appended ≡ truths truth self.old.before (length self.new.appended)) }
     {
         let mut leaf = leaves_before;
         for digest in added {
@@ -215,7 +233,8 @@ impl<F: Family, D: Digest> Draft<F, D> {
         requires sized { self.now.before + length self.now.appended ≡ size F.rule leaves }
         ensures missing { IfErr result (λ e. e ≢ Gap.OutOfMemory → IsPeakGap F.rule leaves self.now.before (old_node self.now (B.contents base.now)) e) }
         ensures read { IfOk result (λ _. ArePeaksRead F.rule leaves self.now.before (old_node self.now (B.contents base.now))) }
-        ensures right { IfOk result (λ v. (truth : ℕ → D) → ReadsTrue (old_node self.now (B.contents base.now)) self.now.before truth → self.now.appended ≡ truths truth self.now.before (length self.now.appended) → v.items ≡ map truth (peak_positions F.rule leaves)) }
+        ensures right { IfOk result (λ v. (truth : ℕ → D) → ReadsTrue (old_node self.now (B.contents base.now)) self.now.before truth
+            → self.now.appended ≡ truths truth self.now.before (length self.now.appended) → v.items ≡ map truth (peak_positions F.rule leaves)) }
     {
         let mut digests = Vec::with_capacity(*self.appended.allocator(), PEAKS_ROOM)?;
         for (position, _) in F::peaks(F::location_to_position(leaves)) {

@@ -48,9 +48,13 @@ impl<F: Family, D: Digest> Draft<F, D> {
     ) -> Result<D, Gap<F>>
         requires node { (t : Tree) × Means F.rule F.MAX_LEAVES subtree.now t }
         ensures only { OnlyOverwrites self.old self.new }
-        ensures digest { IfOk result (λ d. (t : Tree) → (m : ℕ → Option D) → Means F.rule F.MAX_LEAVES subtree.now t → updates.now ≡ touched_leaves m t → refreshed (H.hashing hasher.now) m (below self.old (B.contents base.now)) t ≡ Some d) }
-        ensures computed { OnOk result ((t : Tree) → (m : ℕ → Option D) → Means F.rule F.MAX_LEAVES subtree.now t → updates.now ≡ touched_leaves m t → (p : ℕ) → get self.new.overwritten p ≡ option_or (computed_at (H.hashing hasher.now) m (below self.old (B.contents base.now)) t p) (get self.old.overwritten p)) }
-        ensures missing { IfErr result (λ e. e ≢ Gap.OutOfMemory → (t : Tree) → (m : ℕ → Option D) → Means F.rule F.MAX_LEAVES subtree.now t → updates.now ≡ touched_leaves m t → LacksFor m (below self.old (B.contents base.now)) t e) }
+        ensures digest { IfOk result (λ d. (t : Tree) → (m : ℕ → Option D) → Means F.rule F.MAX_LEAVES subtree.now t → updates.now ≡ touched_leaves m t
+            → refreshed (H.hashing hasher.now) m (below self.old (B.contents base.now)) t ≡ Some d) }
+        ensures computed { let under = below self.old (B.contents base.now) in
+            OnOk result ((t : Tree) → (m : ℕ → Option D) → Means F.rule F.MAX_LEAVES subtree.now t → updates.now ≡ touched_leaves m t → (p : ℕ)
+            → get self.new.overwritten p ≡ option_or (computed_at (H.hashing hasher.now) m under t p) (get self.old.overwritten p)) }
+        ensures missing { IfErr result (λ e. e ≢ Gap.OutOfMemory → (t : Tree) → (m : ℕ → Option D) → Means F.rule F.MAX_LEAVES subtree.now t
+            → updates.now ≡ touched_leaves m t → LacksFor m (below self.old (B.contents base.now)) t e) }
     {
         let Some((_, digest)) = updates.last() else {
             return self
@@ -82,9 +86,13 @@ impl<F: Family, D: Digest> Draft<F, D> {
     ) -> Result<(), Gap<F>>
         requires { leaves ≤ F.MAX_LEAVES }
         ensures only { OnlyOverwrites self.old self.new }
-        ensures computed { OnOk result ((m : ℕ → Option D) → updates.now ≡ flat_map (touched_leaves m) (peaks_of F.rule leaves) → (p : ℕ) → get self.new.overwritten p ≡ option_or (all_computed_at (H.hashing hasher.now) m (below self.old (B.contents base.now)) (peaks_of F.rule leaves) p) (get self.old.overwritten p)) }
-        ensures refreshed { OnOk result ((m : ℕ → Option D) → updates.now ≡ flat_map (touched_leaves m) (peaks_of F.rule leaves) → AreRefreshed (H.hashing hasher.now) m (below self.old (B.contents base.now)) (peaks_of F.rule leaves)) }
-        ensures missing { IfErr result (λ e. e ≢ Gap.OutOfMemory → (m : ℕ → Option D) → updates.now ≡ flat_map (touched_leaves m) (peaks_of F.rule leaves) → LacksForOne m (below self.old (B.contents base.now)) (peaks_of F.rule leaves) e) }
+        ensures computed { let under = below self.old (B.contents base.now) in let peaks = peaks_of F.rule leaves in
+            OnOk result ((m : ℕ → Option D) → updates.now ≡ flat_map (touched_leaves m) peaks → (p : ℕ)
+            → get self.new.overwritten p ≡ option_or (all_computed_at (H.hashing hasher.now) m under peaks p) (get self.old.overwritten p)) }
+        ensures refreshed { OnOk result ((m : ℕ → Option D) → updates.now ≡ flat_map (touched_leaves m) (peaks_of F.rule leaves)
+            → AreRefreshed (H.hashing hasher.now) m (below self.old (B.contents base.now)) (peaks_of F.rule leaves)) }
+        ensures missing { IfErr result (λ e. e ≢ Gap.OutOfMemory → (m : ℕ → Option D) → updates.now ≡ flat_map (touched_leaves m) (peaks_of F.rule leaves)
+            → LacksForOne m (below self.old (B.contents base.now)) (peaks_of F.rule leaves) e) }
     {
         let mut rest = updates;
         let mut first_leaf = Location::new(0);
@@ -118,9 +126,13 @@ impl<F: Family, D: Digest> Draft<F, D> {
         requires of { HasLeavesOf F.rule leaves (get {R = nat_cmp} (from_entries updates.now.entries)) }
         requires nothing { self.old.overwritten ≡ empty }
         ensures only { OnlyOverwrites self.old self.new }
-        ensures computed { OnOk result (let m = get {R = nat_cmp} (from_entries updates.now.entries) in (p : ℕ) → get self.new.overwritten p ≡ option_or (all_computed_at (H.hashing hasher.now) m (below self.old (B.contents base.now)) (peaks_of F.rule leaves) p) (m p)) }
-        ensures refreshed { OnOk result (AreRefreshed (H.hashing hasher.now) (get {R = nat_cmp} (from_entries updates.now.entries)) (below self.old (B.contents base.now)) (peaks_of F.rule leaves)) }
-        ensures missing { IfErr result (λ e. e ≢ Gap.OutOfMemory → LacksForOne (get {R = nat_cmp} (from_entries updates.now.entries)) (below self.old (B.contents base.now)) (peaks_of F.rule leaves) e) }
+        ensures computed { let under = below self.old (B.contents base.now) in
+            OnOk result (let m = get {R = nat_cmp} (from_entries updates.now.entries) in (p : ℕ)
+            → get self.new.overwritten p ≡ option_or (all_computed_at (H.hashing hasher.now) m under (peaks_of F.rule leaves) p) (m p)) }
+        ensures refreshed { let m = get {R = nat_cmp} (from_entries updates.now.entries) in
+            OnOk result (AreRefreshed (H.hashing hasher.now) m (below self.old (B.contents base.now)) (peaks_of F.rule leaves)) }
+        ensures missing { IfErr result (λ e. e ≢ Gap.OutOfMemory
+            → LacksForOne (get {R = nat_cmp} (from_entries updates.now.entries)) (below self.old (B.contents base.now)) (peaks_of F.rule leaves) e) }
     {
         let mut list = Vec::new(*self.appended.allocator());
         for (position, digest) in updates {

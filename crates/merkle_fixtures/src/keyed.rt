@@ -68,7 +68,8 @@ impl<F: Family> Hasher<F> for Keyed {
         &self,
         nodes: [(Position<F>, Xor8Digest, Xor8Digest); 2],
     ) -> (Xor8Digest, Xor8Digest)
-        ensures { let h = keyed (⟦<Standard<Xor8> as Hasher<F>>⟧.hashing self.now.bagging) self.now.key in (d : _) (e : _) → nodes ≡ d ∷ e ∷ [] → (result.0 ≡ h.node d.0 d.1 d.2) × (result.1 ≡ h.node e.0 e.1 e.2) }
+        ensures { let h = keyed (⟦<Standard<Xor8> as Hasher<F>>⟧.hashing self.now.bagging) self.now.key in (d : _) (e : _) → nodes ≡ d ∷ e ∷ []
+            → (result.0 ≡ h.node d.0 d.1 d.2) × (result.1 ≡ h.node e.0 e.1 e.2) }
     {
         let [(p, a, b), (q, c, d)] = nodes;
         (self.node_digest(p, &a, &b), self.node_digest(q, &c, &d))

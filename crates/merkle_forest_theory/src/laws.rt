@@ -37,7 +37,8 @@ pub fn mountain_range()
     ensures aligned { (n p : ℕ) → (t : Tree) → slice_get (forest carries n).nodes p ≡ Some t → (a : ℕ) × (first_leaf t ≡ a * 2 ^ height t) }
 
     // Over each stretch of 2 ^ h leaves from a multiple of 2 ^ h on stands a node.
-    ensures range_has { (n s a h : ℕ) → s ≡ a * 2 ^ h → s + 2 ^ h ≤ n → (p : ℕ) × (t : Tree) × (slice_get (forest carries n).nodes p ≡ Some t) × (first_leaf t ≡ s) × (height t ≡ h) }
+    ensures range_has { (n s a h : ℕ) → s ≡ a * 2 ^ h → s + 2 ^ h ≤ n → (p : ℕ) × (t : Tree) × (slice_get (forest carries n).nodes p ≡ Some t)
+        × (first_leaf t ≡ s) × (height t ≡ h) }
     ensures coordinates { AreCoordinates carries (2 ^ 62) range_root range_birth }
 
     // A peak's height and the number of peaks are at most 123 together.
@@ -61,18 +62,21 @@ pub fn mountain_belt()
 
     // Peak i, counted from the newest, has height i, and one more where bit i of n + 1 is set; so an older peak is no lower.
     ensures heights { (n i : ℕ) → i < length (peak_heights newest_pair n) → slice_index (peak_heights newest_pair n) i ≡ i + bit_at (n + 1) i }
-    ensures older { (n i : ℕ) → i + 1 < length (peak_heights newest_pair n) → slice_index (peak_heights newest_pair n) i ≤ slice_index (peak_heights newest_pair n) (i + 1) }
+    ensures older { (n i : ℕ) → i + 1 < length (peak_heights newest_pair n)
+        → slice_index (peak_heights newest_pair n) i ≤ slice_index (peak_heights newest_pair n) (i + 1) }
     ensures children { (n p : ℕ) → (a b : Tree) → slice_get (forest newest_pair n).nodes p ≡ Some (join p a b)
         → (position a ≡ root_position (first_leaf a) (height a)) × (position b ≡ root_position (first_leaf a + 2 ^ height a) (height a)) }
     ensures place { (n p : ℕ) → (t : Tree) → slice_get (forest newest_pair n).nodes p ≡ Some t → p ≡ root_position (first_leaf t) (height t) }
 
     // A node comes with its birth leaf.
     ensures birth { (n p : ℕ) → (t : Tree) → slice_get (forest newest_pair n).nodes p ≡ Some t
-        → (slice_get (forest newest_pair (birth_leaf (first_leaf t) (height t) + 1)).nodes p ≡ Some t) × ((m : ℕ) → m ≤ birth_leaf (first_leaf t) (height t) → size newest_pair m ≤ p) }
+        → (slice_get (forest newest_pair (birth_leaf (first_leaf t) (height t) + 1)).nodes p ≡ Some t)
+        × ((m : ℕ) → m ≤ birth_leaf (first_leaf t) (height t) → size newest_pair m ≤ p) }
     ensures aligned { (n p : ℕ) → (t : Tree) → slice_get (forest newest_pair n).nodes p ≡ Some t → (a : ℕ) × (first_leaf t ≡ a * 2 ^ height t) }
 
     // Over each stretch of 2 ^ h leaves from a multiple of 2 ^ h on stands a node, once its birth leaf is there.
-    ensures belt_has { (n s a h : ℕ) → s ≡ a * 2 ^ h → birth_leaf s h < n → (p : ℕ) × (t : Tree) × (slice_get (forest newest_pair n).nodes p ≡ Some t) × (first_leaf t ≡ s) × (height t ≡ h) }
+    ensures belt_has { (n s a h : ℕ) → s ≡ a * 2 ^ h → birth_leaf s h < n → (p : ℕ) × (t : Tree) × (slice_get (forest newest_pair n).nodes p ≡ Some t)
+        × (first_leaf t ≡ s) × (height t ≡ h) }
     ensures coordinates { AreCoordinates newest_pair (2 ^ 62 + 30) root_position belt_birth }
 
     // A peak's height and the number of peaks are at most 123 together.

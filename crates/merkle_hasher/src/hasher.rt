@@ -76,7 +76,8 @@ pub trait Hasher<F: Family>: Clone {
         committed: usize,
         peaks: &[Self::Digest],
     ) -> Option<Self::Digest>
-        ensures { SomeIff result (to_fold ≤ length peaks.now × (length peaks.now ≡ 0 → committed ≡ 0)) (peaks_root (hashing self.now) F.DOMAIN (bagging_of self.now) leaves to_fold committed peaks.now) }
+        ensures { SomeIff result (to_fold ≤ length peaks.now × (length peaks.now ≡ 0 → committed ≡ 0))
+            (peaks_root (hashing self.now) F.DOMAIN (bagging_of self.now) leaves to_fold committed peaks.now) }
     {
         let bagging = self.root_bagging();
         let Some((first, others)) = peaks.split_first() else {
@@ -101,7 +102,8 @@ pub trait Hasher<F: Family>: Clone {
         inactive: usize,
         peaks: &[Self::Digest],
     ) -> Result<Self::Digest, Error<F>>
-        ensures ok { inactive ≤ length peaks.now → result ≡ Ok (peaks_root (hashing self.now) F.DOMAIN (bagging_of self.now) leaves inactive inactive peaks.now) }
+        ensures ok { inactive ≤ length peaks.now
+            → result ≡ Ok (peaks_root (hashing self.now) F.DOMAIN (bagging_of self.now) leaves inactive inactive peaks.now) }
         ensures err { length peaks.now < inactive → result ≡ Err (Error.InvalidInactivePeaks inactive (length peaks.now)) }
     {
         match self.root_with_folded_peaks(leaves, inactive, inactive, peaks) {
@@ -347,7 +349,8 @@ impl<F: Family, H: PlainHasher> Hasher<F> for Standard<H> {
         &self,
         nodes: [(Position<F>, H::Digest, H::Digest); 2],
     ) -> (H::Digest, H::Digest)
-        ensures { let h = standard H.digest_of H.Digest.bytes H.Digest.eq H.Digest.EMPTY in (d : _) (e : _) → nodes ≡ d ∷ e ∷ [] → (result.0 ≡ h.node d.0 d.1 d.2) × (result.1 ≡ h.node e.0 e.1 e.2) }
+        ensures { let h = standard H.digest_of H.Digest.bytes H.Digest.eq H.Digest.EMPTY in (d : _) (e : _) → nodes ≡ d ∷ e ∷ []
+            → (result.0 ≡ h.node d.0 d.1 d.2) × (result.1 ≡ h.node e.0 e.1 e.2) }
     {
         let [(p, a, b), (q, c, d)] = nodes;
         hash_both::<H>(
@@ -404,7 +407,8 @@ impl<F: Family, T: Hasher<F>> Hasher<F> for &T {
         &self,
         nodes: [(Position<F>, T::Digest, T::Digest); 2],
     ) -> (T::Digest, T::Digest)
-        ensures { (d : _) (e : _) → nodes ≡ d ∷ e ∷ [] → (result.0 ≡ (T.hashing self.now.now).node d.0 d.1 d.2) × (result.1 ≡ (T.hashing self.now.now).node e.0 e.1 e.2) }
+        ensures { (d : _) (e : _) → nodes ≡ d ∷ e ∷ [] → (result.0 ≡ (T.hashing self.now.now).node d.0 d.1 d.2)
+            × (result.1 ≡ (T.hashing self.now.now).node e.0 e.1 e.2) }
     {
         (**self).node_digest_pair(nodes)
     }

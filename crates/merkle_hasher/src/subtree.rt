@@ -27,7 +27,8 @@ impl<F: Family> Subtree<F> {
     /// Its two children.
     pub fn children(&self) -> (Self, Self)
         requires { (p : _) × (a : Tree) × (b : Tree) × Means F.rule F.MAX_LEAVES self.now (join p a b) }
-        ensures { (p : _) (a b : Tree) → Means F.rule F.MAX_LEAVES self.now (join p a b) → Means F.rule F.MAX_LEAVES result.0 a × Means F.rule F.MAX_LEAVES result.1 b }
+        ensures { (p : _) (a b : Tree) → Means F.rule F.MAX_LEAVES self.now (join p a b) → Means F.rule F.MAX_LEAVES result.0 a
+            × Means F.rule F.MAX_LEAVES result.1 b }
     {
         let (left, right) = F::children(self.position, self.height);
         let height = self.height - 1;

@@ -38,7 +38,8 @@ impl Answerer {
     // The answer to the line.
     fn answer_line(&mut self) -> Answer
         ensures line { self.new.line.items ≡ self.old.line.items }
-        ensures answered { (told : Option Told) → Tells self.old.session told → (v : Option Told) × Tells self.new.session v × IsLineAnswered told self.old.line.items v (answer_text result) }
+        ensures answered { (told : Option Told) → Tells self.old.session told → (v : Option Told) × Tells self.new.session v
+            × IsLineAnswered told self.old.line.items v (answer_text result) }
     {
         let Ok(line) = from_utf8(self.line.as_slice()) else {
             return Answer::Fault("Syntax");
@@ -52,7 +53,8 @@ impl Answerer {
     // Answers the line, and begins the next one.
     fn end_line<W: io::Write>(&mut self, writer: &mut W) -> Result<(), RunError>
         ensures next { OnOk result (self.new.line.items ≡ []) }
-        ensures answered { OnOk result ((told : Option Told) → Tells self.old.session told → (v : Option Told) × (text : List ℕ) × Tells self.new.session v × IsLineAnswered told self.old.line.items v text × Appends (W.contents writer.old) (W.contents writer.new) (text ++ 10 ∷ [])) }
+        ensures answered { OnOk result ((told : Option Told) → Tells self.old.session told → (v : Option Told) × (text : List ℕ) × Tells self.new.session v
+            × IsLineAnswered told self.old.line.items v text × Appends (W.contents writer.old) (W.contents writer.new) (text ++ 10 ∷ [])) }
     {
         let answer = self.answer_line();
         self.line.clear();
@@ -61,7 +63,8 @@ impl Answerer {
 
     // Takes in the next byte, and answers the line that it ends.
     fn take_byte<W: io::Write>(&mut self, byte: u8, writer: &mut W) -> Result<(), RunError>
-        ensures { OnOk result ((told : Option Told) → Tells self.old.session told → (v : Option Told) × (output : List ℕ) × Tells self.new.session v × Appends (W.contents writer.old) (W.contents writer.new) output × Leads told self.old.line.items (byte ∷ []) output v self.new.line.items) }
+        ensures { OnOk result ((told : Option Told) → Tells self.old.session told → (v : Option Told) × (output : List ℕ) × Tells self.new.session v
+            × Appends (W.contents writer.old) (W.contents writer.new) output × Leads told self.old.line.items (byte ∷ []) output v self.new.line.items) }
     {
         if byte == b'\n' {
             return self.end_line(writer);
@@ -71,7 +74,8 @@ impl Answerer {
 
     // Takes in the next bytes, and answers each line that they end.
     fn take<W: io::Write>(&mut self, bytes: &[u8], writer: &mut W) -> Result<(), RunError>
-        ensures { OnOk result ((told : Option Told) → Tells self.old.session told → (v : Option Told) × (output : List ℕ) × Tells self.new.session v × Appends (W.contents writer.old) (W.contents writer.new) output × Leads told self.old.line.items bytes.now output v self.new.line.items) }
+        ensures { OnOk result ((told : Option Told) → Tells self.old.session told → (v : Option Told) × (output : List ℕ) × Tells self.new.session v
+            × Appends (W.contents writer.old) (W.contents writer.new) output × Leads told self.old.line.items bytes.now output v self.new.line.items) }
     {
         for byte in bytes {
             self.take_byte(*byte, writer)?;
@@ -81,7 +85,8 @@ impl Answerer {
 
     // Answers a last line that nothing ended.
     fn finish<W: io::Write>(&mut self, writer: &mut W) -> Result<(), RunError>
-        ensures { OnOk result ((told : Option Told) → Tells self.old.session told → (output : List ℕ) × Appends (W.contents writer.old) (W.contents writer.new) output × IsTranscript told (lines_after [] self.old.line.items) output) }
+        ensures { OnOk result ((told : Option Told) → Tells self.old.session told → (output : List ℕ)
+            × Appends (W.contents writer.old) (W.contents writer.new) output × IsTranscript told (lines_after [] self.old.line.items) output) }
     {
         if self.line.is_empty() {
             return flush(writer);
@@ -98,7 +103,8 @@ impl Answerer {
     ) -> Result<(), RunError>
         requires absent { Tells self.old.session None }
         requires begun { self.old.line.items ≡ [] }
-        ensures transcript { OnOk result ((input output : List ℕ) × Consumes (R.remaining reader.old) (R.remaining reader.new) input × IsAtEnd (R.remaining reader.new) × Appends (W.contents writer.old) (W.contents writer.new) output × IsTranscript None (lines_of input) output) }
+        ensures transcript { OnOk result ((input output : List ℕ) × Consumes (R.remaining reader.old) (R.remaining reader.new) input
+            × IsAtEnd (R.remaining reader.new) × Appends (W.contents writer.old) (W.contents writer.new) output × IsTranscript None (lines_of input) output) }
     {
         let mut buffer = [0u8; 4096];
         for _ in 0..u64::MAX {
@@ -133,7 +139,8 @@ pub fn run<R: io::Read, W: io::Write>(
     reader: &mut R,
     writer: &mut W,
 ) -> Result<(), RunError>
-    ensures transcript { OnOk result ((input output : List ℕ) × Consumes (R.remaining reader.old) (R.remaining reader.new) input × IsAtEnd (R.remaining reader.new) × Appends (W.contents writer.old) (W.contents writer.new) output × IsTranscript None (lines_of input) output) }
+    ensures transcript { OnOk result ((input output : List ℕ) × Consumes (R.remaining reader.old) (R.remaining reader.new) input
+        × IsAtEnd (R.remaining reader.new) × Appends (W.contents writer.old) (W.contents writer.new) output × IsTranscript None (lines_of input) output) }
 {
     let mut answerer = Answerer {
         alloc,

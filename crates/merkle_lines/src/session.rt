@@ -145,7 +145,9 @@ impl<F: Family, H: PlainHasher> Structure<F, H> {
         ensures kind { self.new.hasher ≡ self.old.hasher }
         ensures kept { self.new.committed ≡ self.old.committed }
         ensures gone { self.new.pending ≡ None }
-        ensures batch { IfOk result (λ b. (g : Given) → IsHeld (standard H.digest_of H.Digest.bytes H.Digest.eq H.Digest.EMPTY) F.rule self.old.committed self.old.pending g → b ≡ adding (standard H.digest_of H.Digest.bytes H.Digest.eq H.Digest.EMPTY) F.rule self.old.committed (length g.committed) g.added) }
+        ensures batch { IfOk result (λ b. (g : Given)
+            → IsHeld (standard H.digest_of H.Digest.bytes H.Digest.eq H.Digest.EMPTY) F.rule self.old.committed self.old.pending g
+            → b ≡ adding (standard H.digest_of H.Digest.bytes H.Digest.eq H.Digest.EMPTY) F.rule self.old.committed (length g.committed) g.added) }
         ensures refused { IsOkUnless result Error.OutOfMemory }
     {
         match self.pending.take() {
@@ -156,7 +158,9 @@ impl<F: Family, H: PlainHasher> Structure<F, H> {
 
     fn add(&mut self, alloc: Global, digits: &str) -> Answer
         ensures kind { self.new.hasher ≡ self.old.hasher }
-        ensures answered { let h = standard H.digest_of H.Digest.bytes H.Digest.eq H.Digest.EMPTY in (g : Given) → IsHexWord digits.entry.now → IsHeld h F.rule self.old.committed self.old.pending g → (u : Given) × IsHeld h F.rule self.new.committed self.new.pending u × IsAnswered (kind_of h F.rule F.MAX_LEAVES F.DOMAIN self.old.hasher) g (Request.Add digits.entry) u (answer_text result) }
+        ensures answered { let h = standard H.digest_of H.Digest.bytes H.Digest.eq H.Digest.EMPTY in (g : Given) → IsHexWord digits.entry.now
+            → IsHeld h F.rule self.old.committed self.old.pending g → (u : Given) × IsHeld h F.rule self.new.committed self.new.pending u
+            × IsAnswered (kind_of h F.rule F.MAX_LEAVES F.DOMAIN self.old.hasher) g (Request.Add digits.entry) u (answer_text result) }
     {
         let batch = or_fault!(self.take_pending());
         let element = or_fault!(read_hex(alloc, digits));
@@ -167,7 +171,9 @@ impl<F: Family, H: PlainHasher> Structure<F, H> {
 
     fn commit(&mut self) -> Answer
         ensures kind { self.new.hasher ≡ self.old.hasher }
-        ensures answered { let h = standard H.digest_of H.Digest.bytes H.Digest.eq H.Digest.EMPTY in (g : Given) → IsHeld h F.rule self.old.committed self.old.pending g → (u : Given) × IsHeld h F.rule self.new.committed self.new.pending u × IsAnswered (kind_of h F.rule F.MAX_LEAVES F.DOMAIN self.old.hasher) g Request.Commit u (answer_text result) }
+        ensures answered { let h = standard H.digest_of H.Digest.bytes H.Digest.eq H.Digest.EMPTY in (g : Given)
+            → IsHeld h F.rule self.old.committed self.old.pending g → (u : Given) × IsHeld h F.rule self.new.committed self.new.pending u
+            × IsAnswered (kind_of h F.rule F.MAX_LEAVES F.DOMAIN self.old.hasher) g Request.Commit u (answer_text result) }
     {
         let batch = or_fault!(self.take_pending());
         let merkleized = or_fault!(batch.merkleize(&self.committed, &self.hasher));
@@ -179,7 +185,8 @@ impl<F: Family, H: PlainHasher> Structure<F, H> {
     }
 
     fn root(&self, alloc: Global, inactive: usize) -> Answer
-        ensures { let h = standard H.digest_of H.Digest.bytes H.Digest.eq H.Digest.EMPTY in (g : Given) → IsHeld h F.rule self.now.committed self.now.pending g → IsAnswered (kind_of h F.rule F.MAX_LEAVES F.DOMAIN self.now.hasher) g (Request.Root inactive) g (answer_text result) }
+        ensures { let h = standard H.digest_of H.Digest.bytes H.Digest.eq H.Digest.EMPTY in (g : Given) → IsHeld h F.rule self.now.committed self.now.pending g
+            → IsAnswered (kind_of h F.rule F.MAX_LEAVES F.DOMAIN self.now.hasher) g (Request.Root inactive) g (answer_text result) }
     {
         let root = or_fault!(self.committed.root(&self.hasher, inactive));
         Answer::Digest(or_fault!(write_hex(alloc, root.as_bytes())))
@@ -187,7 +194,9 @@ impl<F: Family, H: PlainHasher> Structure<F, H> {
 
     fn answer(&mut self, alloc: Global, request: Request<'_>) -> Answer
         ensures kind { self.new.hasher ≡ self.old.hasher }
-        ensures answered { let h = standard H.digest_of H.Digest.bytes H.Digest.eq H.Digest.EMPTY in (g : Given) → IsCommand (Command.Ask request.entry) → IsHeld h F.rule self.old.committed self.old.pending g → (u : Given) × IsHeld h F.rule self.new.committed self.new.pending u × IsAnswered (kind_of h F.rule F.MAX_LEAVES F.DOMAIN self.old.hasher) g request.entry u (answer_text result) }
+        ensures answered { let h = standard H.digest_of H.Digest.bytes H.Digest.eq H.Digest.EMPTY in (g : Given) → IsCommand (Command.Ask request.entry)
+            → IsHeld h F.rule self.old.committed self.old.pending g → (u : Given) × IsHeld h F.rule self.new.committed self.new.pending u
+            × IsAnswered (kind_of h F.rule F.MAX_LEAVES F.DOMAIN self.old.hasher) g request.entry u (answer_text result) }
     {
         match request {
             Request::Add(digits) => self.add(alloc, digits),
@@ -228,7 +237,8 @@ impl Session {
     ///
     /// A refused `add` or `commit` leaves no pending batch, and the committed structure as it was.
     pub fn answer(&mut self, alloc: Global, command: Command<'_>) -> Answer
-        ensures { IsCommand command.entry → (told : Option Told) → Tells self.old told → (u : Option Told) × Tells self.new u × IsCommandAnswered told command.entry u (answer_text result) }
+        ensures { IsCommand command.entry → (told : Option Told) → Tells self.old told → (u : Option Told) × Tells self.new u
+            × IsCommandAnswered told command.entry u (answer_text result) }
     {
         match command {
             Command::New {

@@ -101,7 +101,8 @@ impl<F: Family> Groups<F> {
         requires groups { (a : ℕ) × (b : ℕ) × (n : ℕ) × (a < b) × (n ≤ F.MAX_LEAVES) × HoldsGroups a b self.now (peaks_of F.rule n) }
         requires inactive { inactive ≤ 64 }
         ensures before { (a b : ℕ) (ts : List Tree) → HoldsGroups a b self.now ts → result.before ≡ count_before bagging inactive (wholly_before a ts) }
-        ensures after { (a b : ℕ) (ts : List Tree) → HoldsGroups a b self.now ts → result.after ≡ count_after bagging inactive (length (wholly_before a ts) + length (overlapping a b ts)) (wholly_after b ts) }
+        ensures after { (a b : ℕ) (ts : List Tree) → HoldsGroups a b self.now ts
+            → result.after ≡ count_after bagging inactive (length (wholly_before a ts) + length (overlapping a b ts)) (wholly_after b ts) }
         ensures inactive { (a b : ℕ) (ts : List Tree) → HoldsGroups a b self.now ts → result.inactive ≡ count_inactive bagging inactive (wholly_before a ts) }
     {
         Layout::new(
@@ -138,7 +139,8 @@ fn append_siblings<F: Family>(
 ) -> Result<(), AllocError>
     requires nodes { (ts : List Tree) × (peaks.now ≡ map subtree_of ts) × AreNodes F.rule F.MAX_LEAVES ts }
     requires some { range.now.start < range.now.end }
-    ensures { IfOk result (λ _. (ts : List Tree) → peaks.now ≡ map subtree_of ts → AreNodes F.rule F.MAX_LEAVES ts → out.new.items ≡ out.old.items ++ map position (flat_map (siblings (in_range range.now.start range.now.end)) ts)) }
+    ensures { IfOk result (λ _. (ts : List Tree) → peaks.now ≡ map subtree_of ts → AreNodes F.rule F.MAX_LEAVES ts
+        → out.new.items ≡ out.old.items ++ map position (flat_map (siblings (in_range range.now.start range.now.end)) ts)) }
 {
     for peak in peaks {
         collect_siblings(peak, range, out)?;

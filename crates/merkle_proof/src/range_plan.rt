@@ -99,9 +99,14 @@ impl<F: Family> RangePlan<F> {
     where
         G: Drop,
         requires reads { G.IsAlwaysCallable get_node }
-        ensures built { (node : ℕ → Option H.Digest) → ((p : ℕ) (r : Option H.Digest) → G.post get_node p r → r ≡ node p) → IfOk result (λ p. IsBuiltProof (setting (H.hashing hasher.now) (H.bagging_of hasher.now) F.rule F.MAX_LEAVES F.DOMAIN) node inactive self p) }
-        ensures honest { (xs : List H.Digest) → length xs ≡ self.leaves → AnswersList (H.hashing hasher.now) F.rule xs (G.post get_node) → IfOk result (λ p. IsHonestRange (setting (H.hashing hasher.now) (H.bagging_of hasher.now) F.rule F.MAX_LEAVES F.DOMAIN) xs inactive (list_input p xs self.start self.end)) }
-        ensures fits { IfOk result (λ _. (self.start < self.end) × (self.end ≤ self.leaves) × (self.leaves ≤ F.MAX_LEAVES) × (inactive ≤ length (peaks_of F.rule self.leaves))) }
+        ensures built { let s = setting (H.hashing hasher.now) (H.bagging_of hasher.now) F.rule F.MAX_LEAVES F.DOMAIN in
+            (node : ℕ → Option H.Digest) → ((p : ℕ) (r : Option H.Digest) → G.post get_node p r → r ≡ node p)
+            → IfOk result (λ p. IsBuiltProof s node inactive self p) }
+        ensures honest { let s = setting (H.hashing hasher.now) (H.bagging_of hasher.now) F.rule F.MAX_LEAVES F.DOMAIN in
+            (xs : List H.Digest) → length xs ≡ self.leaves → AnswersList s.hashing F.rule xs (G.post get_node)
+            → IfOk result (λ p. IsHonestRange s xs inactive (list_input p xs self.start self.end)) }
+        ensures fits { IfOk result (λ _. (self.start < self.end) × (self.end ≤ self.leaves) × (self.leaves ≤ F.MAX_LEAVES)
+            × (inactive ≤ length (peaks_of F.rule self.leaves))) }
         ensures err { IfErr result (λ e. e ≢ Error.OutOfMemory → IsBuildRefusal (H.bagging_of hasher.now) F.rule self inactive (G.post get_node) e) }
     {
         if inactive > self.peaks {

@@ -44,8 +44,11 @@ pub(crate) fn reconstruct_digest<F: Family, H: Hasher<F>>(
     requires node { (t : Tree) × Means F.rule F.MAX_LEAVES subtree.now t }
     requires some { range.now.start < range.now.end }
     requires all { range.now.end ≤ range.now.start + length elements.now }
-    ensures ok { IfOk result (λ d. (t : Tree) → Means F.rule F.MAX_LEAVES subtree.now t → IsWalked (H.hashing hasher.now) (in_range range.now.start range.now.end) (leaf_from (H.hashing hasher.now) F.rule range.now.start (bytes_of elements.now)) t digests.old.now d digests.new.now) }
-    ensures err { IfErr result (λ e. (e ≡ ReconstructionError.MissingDigests) × ((t : Tree) → Means F.rule F.MAX_LEAVES subtree.now t → length digests.old.now < length (siblings (in_range range.now.start range.now.end) t))) }
+    ensures ok { let h = H.hashing hasher.now in let leaf = leaf_from h F.rule range.now.start (bytes_of elements.now) in
+        IfOk result (λ d. (t : Tree) → Means F.rule F.MAX_LEAVES subtree.now t
+        → IsWalked h (in_range range.now.start range.now.end) leaf t digests.old.now d digests.new.now) }
+    ensures err { IfErr result (λ e. (e ≡ ReconstructionError.MissingDigests)
+        × ((t : Tree) → Means F.rule F.MAX_LEAVES subtree.now t → length digests.old.now < length (siblings (in_range range.now.start range.now.end) t))) }
 {
     if is_outside(subtree, range) {
         let Some((first, others)) = digests.split_first() else {
@@ -72,7 +75,8 @@ pub(crate) fn collect_siblings<F: Family>(
 ) -> Result<(), AllocError>
     requires node { (t : Tree) × Means F.rule F.MAX_LEAVES subtree.now t }
     requires some { range.now.start < range.now.end }
-    ensures { IfOk result (λ _. (t : Tree) → Means F.rule F.MAX_LEAVES subtree.now t → out.new.items ≡ out.old.items ++ map position (siblings (in_range range.now.start range.now.end) t)) }
+    ensures { IfOk result (λ _. (t : Tree) → Means F.rule F.MAX_LEAVES subtree.now t
+        → out.new.items ≡ out.old.items ++ map position (siblings (in_range range.now.start range.now.end) t)) }
 {
     if is_outside(subtree, range) {
         out.push(subtree.position)?;
