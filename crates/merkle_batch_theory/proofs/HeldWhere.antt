@@ -1,5 +1,5 @@
 -- Which positions hold a node.
-use Rattle.std.proofs.Common.{◌≡◌, ℕ, suc, ◌+◌, ◌-◌, ◌≤◌, List, [], ◌∷◌, ◌++◌, length, Bool, true, false, Option, Some, None, cond, arith, refl, sym, ap, ◌∙◌, inl, inr, ltb, length-append}
+use Rattle.std.proofs.Common.{◌≡◌, ℕ, suc, ◌+◌, ◌-◌, ◌≤◌, List, [], ◌∷◌, ◌++◌, length, Bool, true, false, Option, Some, None, cond, arith, refl, sym, ap, ◌∙◌, zip, inl, inr, ltb, length-append}
 use Rattle.std.specs.Prelude.{is_some, nat_lt, slice_get, flat_map, ◌&&◌}
 use Rattle.std.specs.FinMap.{get}
 use Rattle.std.specs.Option.{option_to_list}
@@ -11,13 +11,13 @@ use Rattle.merkle_base.specs.Places.{peak_positions}
 use Rattle.merkle_base.proofs.Cases.{by_test}
 use Rattle.merkle_base.proofs.Nodes.{size_le}
 use Rattle.merkle_batch_theory.specs.Contents.{Contents, HoldsKept, held_peaks, is_kept, pruned}
-use Rattle.merkle_batch_theory.specs.Held.{Held, held_contents, paired}
+use Rattle.merkle_batch_theory.specs.Held.{Held, held_contents}
 use Rattle.merkle_batch_theory.specs.Recorded.{Recorded}
 use Rattle.merkle_batch_theory.specs.Replay.{all_laid, laid, over}
 use Rattle.merkle_batch_theory.specs.Store.{stored_of}
 use Rattle.merkle_batch_theory.proofs.HeldNodes.{peak_below, stored_at, stored_reads}
 use Rattle.merkle_batch_theory.proofs.Kept.{kept_before, kept_from}
-use Rattle.merkle_batch_theory.proofs.PinFacts.{lookup_paired, paired_before}
+use Rattle.merkle_batch_theory.proofs.PinFacts.{lookup_zip, zip_before}
 use Rattle.merkle_batch_theory.proofs.Pruning.{peak_kept}
 
 -- an element is there exactly below the length
@@ -48,16 +48,16 @@ pub nothing_held : {D : Type 0} (rule : List ℕ → List ℕ) (c : Contents D) 
 nothing_held rule c none gone p = ap is_some (gone p) ∙ sym (ap (λ n. nat_lt p n && is_kept rule c.boundary p) none ∙ ap (λ b. b && is_kept rule c.boundary p) (le-ltb p 0 (omega arith)))
 
 module _ {D : Type 0} (rule : List ℕ → List ℕ) (b : ℕ) (pins nodes : List D) (as_many : length pins ≡ length (peak_positions rule b)) where
-  part_held : (p : ℕ) → is_some (stored_at (paired (peak_positions rule b) pins) (size rule b) nodes p) ≡ nat_lt p (size rule b + length nodes) && is_kept rule b p
+  part_held : (p : ℕ) → is_some (stored_at (zip (peak_positions rule b) pins) (size rule b) nodes p) ≡ nat_lt p (size rule b + length nodes) && is_kept rule b p
   part_held p = elim (cases_lt p (size rule b)) [
-    | inl h ↦ rw (lt-ltb p (size rule b) h, lt-ltb p (size rule b + length nodes) (omega (arith, h)), lt-leb (size rule b) p h) (lookup_paired p (peak_positions rule b) pins as_many)
+    | inl h ↦ rw (lt-ltb p (size rule b) h, lt-ltb p (size rule b + length nodes) (omega (arith, h)), lt-leb (size rule b) p h) (lookup_zip p (peak_positions rule b) pins as_many)
     | inr h ↦ rw (le-ltb p (size rule b) h, kept_from rule b p h) (some_below nodes (p - size rule b) ∙ shifted (size rule b) (length nodes) p h ∙ sym (and-true (nat_lt p (size rule b + length nodes))))
   ]
 
   -- a structure that is made of pins and nodes holds what is kept
-  pub made_held : (held : Held D) → held.size ≡ size rule b + length nodes → held.stored ≡ stored_of (paired (peak_positions rule b) pins) (size rule b) nodes → HoldsKept rule (held_contents b held)
+  pub made_held : (held : Held D) → held.size ≡ size rule b + length nodes → held.stored ≡ stored_of (zip (peak_positions rule b) pins) (size rule b) nodes → HoldsKept rule (held_contents b held)
   made_held held sized stored p =
-      ap (λ s. is_some (get s p)) stored ∙ ap is_some (stored_reads (paired (peak_positions rule b) pins) (size rule b) nodes (paired_before rule b pins as_many) p) ∙ part_held p
+      ap (λ s. is_some (get s p)) stored ∙ ap is_some (stored_reads (zip (peak_positions rule b) pins) (size rule b) nodes (zip_before rule b pins as_many) p) ∙ part_held p
       ∙ ap (λ n. nat_lt p n && is_kept rule b p) (sym sized)
 
 -- ---- pruning

@@ -1,7 +1,7 @@
 -- A structure that is made of a list's digests agrees with the list.
 use Rattle.std.proofs.Common.{◌≡◌, ℕ, suc, ◌+◌, ◌-◌, ◌≤◌, List, [], ◌∷◌, length, length-take, length-drop, map, take, drop, Some, None, cond, slice_get, arith, refl, sym, ap, inl, inr, ◌∙◌, subst, nat_eq}
 use Rattle.std.specs.Prelude.{◌||◌}
-use Rattle.std.specs.List.{list_any}
+use Rattle.std.specs.List.{list_any, zip}
 use Rattle.std.specs.Map.{lookup}
 use Rattle.std.proofs.lemmas.List.{length-map}
 use Rattle.std.proofs.lemmas.Bool.{cases_lt, lt-ltb, le-ltb, lt-leb, eqb-true}
@@ -15,21 +15,20 @@ use Rattle.merkle_base.proofs.Lookup.{peak_node}
 use Rattle.merkle_base.proofs.Nodes.{size_le}
 use Rattle.merkle_batch_theory.specs.Contents.{Agrees, is_kept}
 use Rattle.merkle_batch_theory.specs.Components.{AreComponents, made_of}
-use Rattle.merkle_batch_theory.specs.Held.{paired}
 use Rattle.merkle_batch_theory.specs.Store.{contents}
 use Rattle.merkle_batch_theory.proofs.HeldNodes.{stored_at, stored_reads}
 use Rattle.merkle_batch_theory.proofs.Items.{get_drop, get_reversed}
 use Rattle.merkle_batch_theory.proofs.Kept.{kept_from}
-use Rattle.merkle_batch_theory.proofs.PinFacts.{paired_before}
+use Rattle.merkle_batch_theory.proofs.PinFacts.{zip_before}
 use Rattle.merkle_batch_theory.proofs.Shown.{taken}
 use Rattle.merkle_batch_theory.proofs.Steps.{node_digest_at, digests_length}
 
 -- at a peak's position its digest, which is that of all at this position
 lookup_digests : {D : Type 0} (f : Tree → D) (ns : List D) (p : ℕ) (ts : List Tree) → ((i : ℕ) (t : Tree) → slice_get ts i ≡ Some t → Some (f t) ≡ slice_get ns (position t)) →
-    lookup (nat_eq p) (paired (map position ts) (map f ts)) ≡ cond (list_any (nat_eq p) (map position ts)) (slice_get ns p) None
+    lookup (nat_eq p) (zip (map position ts) (map f ts)) ≡ cond (list_any (nat_eq p) (map position ts)) (slice_get ns p) None
 lookup_digests f ns p [] g = refl
 lookup_digests f ns p (t ∷ ts) g = by_test
-    (λ b. cond b (Some (f t)) (lookup (nat_eq p) (paired (map position ts) (map f ts))) ≡ cond (b || list_any (nat_eq p) (map position ts)) (slice_get ns p) None)
+    (λ b. cond b (Some (f t)) (lookup (nat_eq p) (zip (map position ts) (map f ts))) ≡ cond (b || list_any (nat_eq p) (map position ts)) (slice_get ns p) None)
     (nat_eq p (position t))
     (λ e. g 0 t refl ∙ ap (slice_get ns) (sym (eqb-true p (position t) e)))
     (λ e. lookup_digests f ns p ts (λ i u d. g (suc i) u d))
@@ -54,10 +53,10 @@ module _ {D : Type 0} (h : Hashing D) (rule : List ℕ → List ℕ) (X : List D
     as_many : length pins ≡ length (peak_positions rule b)
     as_many = ap length (old ∙ old_peaks) ∙ length-map (peaks_of rule b) (digest_at h (take b X)) ∙ sym (length-map (peaks_of rule b) position)
 
-    pinned_at : (p : ℕ) → lookup (nat_eq p) (paired (peak_positions rule b) pins) ≡ cond (list_any (nat_eq p) (peak_positions rule b)) (slice_get (node_digests h rule X) p) None
-    pinned_at p = ap (λ ds. lookup (nat_eq p) (paired (peak_positions rule b) ds)) (old ∙ old_peaks) ∙ lookup_digests (digest_at h (take b X)) (node_digests h rule X) p (peaks_of rule b) peak_digest
+    pinned_at : (p : ℕ) → lookup (nat_eq p) (zip (peak_positions rule b) pins) ≡ cond (list_any (nat_eq p) (peak_positions rule b)) (slice_get (node_digests h rule X) p) None
+    pinned_at p = ap (λ ds. lookup (nat_eq p) (zip (peak_positions rule b) ds)) (old ∙ old_peaks) ∙ lookup_digests (digest_at h (take b X)) (node_digests h rule X) p (peaks_of rule b) peak_digest
 
-    held_at : (p : ℕ) → stored_at (paired (peak_positions rule b) pins) (size rule b) nodes p ≡ cond (is_kept rule b p) (slice_get (node_digests h rule X) p) None
+    held_at : (p : ℕ) → stored_at (zip (peak_positions rule b) pins) (size rule b) nodes p ≡ cond (is_kept rule b p) (slice_get (node_digests h rule X) p) None
     held_at p = elim (cases_lt p (size rule b)) [
       | inl l ↦ rw (lt-ltb p (size rule b) l, lt-leb (size rule b) p l) (pinned_at p)
       | inr l ↦ rw (le-ltb p (size rule b) l, kept_from rule b p l)
@@ -70,5 +69,5 @@ pub honest_agrees : {D : Type 0} (h : Hashing D) (rule : List ℕ → List ℕ) 
 honest_agrees h rule X b n pins nodes of = record {
   sized = counts h rule X b of.within pins nodes of.nodes_are of.peaks_are;
   bounded = of.within;
-  holds = λ p. stored_reads (paired (peak_positions rule b) pins) (size rule b) nodes (paired_before rule b pins (as_many h rule X b of.within pins nodes of.nodes_are of.peaks_are)) p ∙ held_at h rule X b of.within pins nodes of.nodes_are of.peaks_are p;
+  holds = λ p. stored_reads (zip (peak_positions rule b) pins) (size rule b) nodes (zip_before rule b pins (as_many h rule X b of.within pins nodes of.nodes_are of.peaks_are)) p ∙ held_at h rule X b of.within pins nodes of.nodes_are of.peaks_are p;
 }

@@ -2,7 +2,7 @@
 use Rattle.std.proofs.Common.{◌≡◌, ℕ, ◌<◌, ◌≤◌, List, [], ◌∷◌, ◌++◌, length, Bool, true, false, Option, Some, None, cond, arith, refl, sym, ap, ◌∙◌, inl, inr, nat_eq}
 use Rattle.std.specs.Prelude.{is_some, nat_lt, ◌||◌}
 use Rattle.std.specs.FinMap.{get}
-use Rattle.std.specs.List.{list_any}
+use Rattle.std.specs.List.{list_any, zip}
 use Rattle.std.specs.Map.{lookup}
 use Rattle.std.proofs.lemmas.Bool.{cases_lt, lt-ltb, le-ltb, lt-leb, eqb-true}
 use Rattle.merkle_base.specs.Forest.{size}
@@ -11,7 +11,7 @@ use Rattle.merkle_base.specs.Places.{peak_positions}
 use Rattle.merkle_base.proofs.Cases.{by_test}
 use Rattle.merkle_base.proofs.Nodes.{size_le}
 use Rattle.merkle_batch_theory.specs.Contents.{Contents, is_kept, pruned}
-use Rattle.merkle_batch_theory.specs.Held.{Held, PinsBefore, held_contents, paired}
+use Rattle.merkle_batch_theory.specs.Held.{Held, PinsBefore, held_contents}
 use Rattle.merkle_batch_theory.specs.HeldPeaks.{pins_of}
 use Rattle.merkle_batch_theory.proofs.Chains.{same_contents}
 use Rattle.merkle_batch_theory.proofs.HeldNodes.{no_peak_from}
@@ -19,19 +19,19 @@ use Rattle.merkle_batch_theory.proofs.Kept.{kept_from}
 use Rattle.merkle_batch_theory.proofs.OptionFacts.{none_of}
 
 -- as many digests as positions: a pin at each of these
-pub lookup_paired : {D : Type 0} (p : ℕ) (ps : List ℕ) (ds : List D) → length ds ≡ length ps → is_some (lookup (nat_eq p) (paired ps ds)) ≡ list_any (nat_eq p) ps
-lookup_paired p [] ds e = refl
-lookup_paired p (q ∷ ps) [] e = absurd (omega (arith, e))
-lookup_paired p (q ∷ ps) (d ∷ ds) e =
-    by_test (λ b. is_some (cond b (Some d) (lookup (nat_eq p) (paired ps ds))) ≡ b || list_any (nat_eq p) ps) (nat_eq p q) (λ _. refl) (λ _. lookup_paired p ps ds (omega (arith, e)))
+pub lookup_zip : {D : Type 0} (p : ℕ) (ps : List ℕ) (ds : List D) → length ds ≡ length ps → is_some (lookup (nat_eq p) (zip ps ds)) ≡ list_any (nat_eq p) ps
+lookup_zip p [] ds e = refl
+lookup_zip p (q ∷ ps) [] e = absurd (omega (arith, e))
+lookup_zip p (q ∷ ps) (d ∷ ds) e =
+    by_test (λ b. is_some (cond b (Some d) (lookup (nat_eq p) (zip ps ds))) ≡ b || list_any (nat_eq p) ps) (nat_eq p q) (λ _. refl) (λ _. lookup_zip p ps ds (omega (arith, e)))
 
 -- no more leaves than the limit: no more nodes
 pub size_within : (rule : List ℕ → List ℕ) (max_leaves max_nodes n : ℕ) → IsLawful rule max_leaves max_nodes → n ≤ max_leaves → size rule n ≤ max_nodes
 size_within rule max_leaves max_nodes n law l = omega (arith, size_le rule n max_leaves l, law.full)
 
 -- digests at the peaks of b leaves stand before the position of leaf b
-pub paired_before : {D : Type 0} (rule : List ℕ → List ℕ) (b : ℕ) (ds : List D) → length ds ≡ length (peak_positions rule b) → PinsBefore (size rule b) (paired (peak_positions rule b) ds)
-paired_before rule b ds many p l = none_of (lookup (nat_eq p) (paired (peak_positions rule b) ds)) (lookup_paired p (peak_positions rule b) ds many ∙ no_peak_from rule b p l)
+pub zip_before : {D : Type 0} (rule : List ℕ → List ℕ) (b : ℕ) (ds : List D) → length ds ≡ length (peak_positions rule b) → PinsBefore (size rule b) (zip (peak_positions rule b) ds)
+zip_before rule b ds many p l = none_of (lookup (nat_eq p) (zip (peak_positions rule b) ds)) (lookup_zip p (peak_positions rule b) ds many ∙ no_peak_from rule b p l)
 
 none_either : {D : Type 0} (b : Bool) (o : Option D) → o ≡ None → cond b o None ≡ o
 none_either true o e = refl

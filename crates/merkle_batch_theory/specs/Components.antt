@@ -1,10 +1,9 @@
 -- What a structure is that is made of given components.
-use Rattle.std.specs.Prelude.{◌≡◌, ℕ, ◌+◌, ◌≤◌, List, length, take, drop}
+use Rattle.std.specs.Prelude.{◌≡◌, ℕ, ◌+◌, ◌≤◌, List, length, take, drop, zip}
 use Rattle.merkle_base.specs.Forest.{size}
 use Rattle.merkle_base.specs.Hashing.{Hashing}
 use Rattle.merkle_base.specs.Digests.{node_digests, peak_digests}
 use Rattle.merkle_base.specs.Places.{peak_positions}
-use Rattle.merkle_batch_theory.specs.Held.{paired}
 use Rattle.merkle_batch_theory.specs.Store.{Store, stored_of}
 
 -- n leaves, pruned to b: the pins at the peaks of b leaves, and the nodes from the position of leaf b on
@@ -13,7 +12,7 @@ made_of rule b n pins nodes = record {
   boundary = b;
   leaves = n;
   size = size rule b + length nodes;
-  stored = stored_of (paired (peak_positions rule b) pins) (size rule b) nodes;
+  stored = stored_of (zip (peak_positions rule b) pins) (size rule b) nodes;
 }
 
 -- these are the components of the list X at the boundary b

@@ -36,9 +36,3 @@ held_contents b held = record { boundary = b; size = held.size; node = get held.
 abbrev pub total_appended : {D : Type 0} → List (Recorded D) → ℕ
 total_appended [] = 0
 total_appended (r ∷ rs) = length r.appended + total_appended rs
-
--- the positions with the digests, as far as there are both
-abbrev pub paired : {D : Type 0} → List ℕ → List D → List (ℕ × D)
-paired [] ds = []
-paired (p ∷ ps) [] = []
-paired (p ∷ ps) (d ∷ ds) = (p, d) ∷ paired ps ds

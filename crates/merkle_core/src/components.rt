@@ -1,11 +1,10 @@
 //! Structures made of given components.
-ghost use Rattle.std.specs.Prelude.{◌≡◌, ◌≢◌, ◌+◌, ◌<◌, ◌≤◌, ◌^◌, ◌-◌, ℕ, List, Err, length, IfOk, IsOk, IsOkUnless};
+ghost use Rattle.std.specs.Prelude.{◌≡◌, ◌≢◌, ◌+◌, ◌<◌, ◌≤◌, ◌^◌, ◌-◌, ℕ, List, Err, length, zip, IfOk, IsOk, IsOkUnless};
 ghost use Rattle.merkle_base.specs.Forest.{size};
 ghost use Rattle.merkle_base.specs.Places.{IsSize, peak_positions};
 ghost use Rattle.merkle_base.specs.Hashing.{Hashing};
 ghost use Rattle.merkle_batch_theory.specs.Components.{AreComponents, made_of};
 ghost use Rattle.merkle_batch_theory.specs.Contents.{Agrees};
-ghost use Rattle.merkle_batch_theory.specs.Held.{paired};
 ghost use Rattle.merkle_batch_theory.specs.Store.{contents};
 
 use crate::held_nodes::HeldNodes;
@@ -133,7 +132,7 @@ fn pair_pins<F: Family, D: Digest>(
     digests: &Vec<D>,
 ) -> Result<Vec<(Position<F>, D)>, Error<F>>
     requires { boundary ≤ F.MAX_LEAVES }
-    ensures made { IfOk result (λ v. v.items ≡ paired (peak_positions F.rule boundary) digests.now.items) }
+    ensures made { IfOk result (λ v. v.items ≡ zip (peak_positions F.rule boundary) digests.now.items) }
     ensures paired { IfOk result (λ v. length digests.now.items ≡ length (peak_positions F.rule boundary)) }
     ensures wrong { length digests.now.items ≢ length (peak_positions F.rule boundary) → result ≡ Err Error.InvalidPinnedNodes }
     ensures right { length digests.now.items ≡ length (peak_positions F.rule boundary) → IsOkUnless result Error.OutOfMemory }
