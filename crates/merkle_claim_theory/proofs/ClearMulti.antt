@@ -3,8 +3,8 @@ use Rattle.std.proofs.Common.{◌≡◌, ℕ, Bool, true, cond, ◌||◌, nat_eq
 use Rattle.std.specs.List.{AllByRecursion, list_any}
 use Rattle.merkle_base.specs.Tree.{Tree, leaf, join}
 use Rattle.merkle_root_theory.specs.Expression.{Node, Expression, given, hashed}
-use Rattle.merkle_base.specs.Hashing.{Hashing}
-use Rattle.merkle_root_theory.specs.Collision.{Member, Laws}
+use Rattle.merkle_base.specs.Hashing.{Hashing, TellsApart}
+use Rattle.merkle_root_theory.specs.Collision.{Member}
 use Rattle.merkle_claim_theory.specs.FirstCollision.{first_collision}
 use Rattle.merkle_root_theory.specs.Plan.{Plan, peak, folding, whole, full, node_expression, tree_meets, tree_digest}
 use Rattle.merkle_claim_theory.specs.MultiClaim.{also, or_empty, multi_tree, multi_claim}
@@ -44,7 +44,7 @@ module _ {D : Type 0} (h : Hashing D) (a : ℕ → Option D) (c : ℕ → Bool) 
   plan_in_list (folding place l r) s = hashed_within h place _ _ _ _ (plan_in_list l s.0) (plan_in_list r s.1)
 
 -- what hashes only what the list does has no collision with it
-module _ {D : Type 0} (s : Setting D) (laws : Laws s.hashing) (X : ℕ → D) (E : Plan → Expression D) (n n' k k' : ℕ) (e : n ≡ n') (f : k ≡ k') (p : Plan) (q : whole s.bagging k (peaks_of s.rule n) ≡ Some p) where
+module _ {D : Type 0} (s : Setting D) (laws : TellsApart s.hashing) (X : ℕ → D) (E : Plan → Expression D) (n n' k k' : ℕ) (e : n ≡ n') (f : k ≡ k') (p : Plan) (q : whole s.bagging k (peaks_of s.rule n) ≡ Some p) where
   pub clear_of : Within s.hashing (E p) (full X p) → first_collision s.hashing (all_inputs s n k (option_map E (whole s.bagging k (peaks_of s.rule n)))) (all_inputs s n' k' (list_expression s X n' k')) ≡ None
   unfolding Within
   clear_of w =

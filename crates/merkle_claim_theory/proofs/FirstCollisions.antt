@@ -4,8 +4,8 @@ use Rattle.std.proofs.lemmas.Slice.Eq.{bytes_eq-Decides}
 use Rattle.std.proofs.lemmas.Bool.Decides.{Decides-eqb, Decides-and, Decides-not}
 use Rattle.std.proofs.lemmas.Bool.{false≢true}
 use Rattle.merkle_root_theory.specs.Expression.{Place, Root, Join, PrefixFold, SuffixFold, Node, Argument, Pair, Bytes, digest_of_argument, Input}
-use Rattle.merkle_base.specs.Hashing.{Hashing}
-use Rattle.merkle_root_theory.specs.Collision.{Member, Collision, Collides, Laws}
+use Rattle.merkle_base.specs.Hashing.{Hashing, TellsApart}
+use Rattle.merkle_root_theory.specs.Collision.{Member, Collision, Collides}
 use Rattle.merkle_claim_theory.specs.FirstCollision.{same_place, same_argument, is_collision, or_else, first_for, first_collision, IsFirstCollision, FindsFirst}
 
 Decides-place : (p q : Place) → Decides (same_place p q) (p ≡ q)
@@ -16,9 +16,9 @@ Decides-place (SuffixFold i) (SuffixFold j) = let d : Decides (i == j) (i ≡ j)
 Decides-place (Node i) (Node j) = let d : Decides (i == j) (i ≡ j) = Decides-eqb i j in (λ e. ap Node (d.0 e), λ e. d.1 cc)
 Decides-place _ _ = (λ e. cc, λ e. cc)
 
-module _ {D : Type 0} (h : Hashing D) (laws : Laws h) where
+module _ {D : Type 0} (h : Hashing D) (laws : TellsApart h) where
   Decides-argument : (a b : Argument D) → Decides (same_argument h a b) (a ≡ b)
-  Decides-argument (Pair a b) (Pair c d) = let e : Decides (h.same a c && h.same b d) ((a ≡ c) × (b ≡ d)) = Decides-and _ _ (laws.same a c) (laws.same b d) in (λ t. ap₂ Pair (e.0 t).0 (e.0 t).1, λ p. e.1 (cc, cc))
+  Decides-argument (Pair a b) (Pair c d) = let e : Decides (h.same a c && h.same b d) ((a ≡ c) × (b ≡ d)) = Decides-and _ _ (laws a c) (laws b d) in (λ t. ap₂ Pair (e.0 t).0 (e.0 t).1, λ p. e.1 (cc, cc))
   Decides-argument (Bytes a) (Bytes b) = let e : Decides (bytes_eq a b) (a ≡ b) = bytes_eq-Decides a b in (λ t. ap Bytes (e.0 t), λ p. e.1 cc)
   Decides-argument (Pair a b) (Bytes c) = (λ e. cc, λ e. cc)
   Decides-argument (Bytes c) (Pair a b) = (λ e. cc, λ e. cc)
@@ -31,7 +31,7 @@ module _ {D : Type 0} (h : Hashing D) (laws : Laws h) where
   unfolding Hits
   Decides-collision x y =
       let e : Decides (is_collision h x y) (((x.place ≡ y.place) × (x.argument ≢ y.argument)) × (digest_of_argument h x.place x.argument ≡ digest_of_argument h y.place y.argument)) =
-      Decides-and _ _ (Decides-and _ _ (Decides-place x.place y.place) (Decides-not _ (Decides-argument x.argument y.argument))) (laws.same _ _) in
+      Decides-and _ _ (Decides-and _ _ (Decides-place x.place y.place) (Decides-not _ (Decides-argument x.argument y.argument))) (laws _ _) in
       (λ t. ((e.0 t).0.0, (e.0 t).0.1, (e.0 t).1), λ w. e.1 ((w.0, w.1), w.2))
 
   -- what an input and its collision make

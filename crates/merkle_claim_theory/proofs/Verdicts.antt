@@ -10,8 +10,8 @@ use Rattle.merkle_base.proofs.Growth.{built_at}
 use Rattle.merkle_base.proofs.Nodes.{first_under, end_under, width_pos, built_under}
 use Rattle.merkle_base.proofs.Paths.{position_under}
 use Rattle.merkle_root_theory.specs.Expression.{Place, Node, Input}
-use Rattle.merkle_base.specs.Hashing.{Hashing}
-use Rattle.merkle_root_theory.specs.Collision.{Member, Collision, Collides, Laws}
+use Rattle.merkle_base.specs.Hashing.{Hashing, TellsApart}
+use Rattle.merkle_root_theory.specs.Collision.{Member, Collision, Collides}
 use Rattle.merkle_claim_theory.specs.FirstCollision.{first_collision, IsFirstCollision}
 use Rattle.merkle_claim_theory.specs.Order.{node_places, Distinct}
 use Rattle.merkle_root_theory.specs.Check.{Setting}
@@ -72,7 +72,7 @@ pub distinct_nodes : {D : Type 0} (s : Setting D) (n : ℕ) → Distinct (flat_m
 distinct_nodes s n = distinct_peaks (forest s.rule n).nodes 0 n (peaks_of s.rule n) (peaks_spans s.rule n) (peaks_built s.rule n)
 
 -- ---- verdicts
-verdict : {D P : Type 0} (h : Hashing D) → Laws h → (xs ys : List (Input D)) → P ⊎ ((c : Collision D) × Collides h xs ys c) → MatchOption (first_collision h xs ys) P (λ c. IsFirstCollision h xs ys c)
+verdict : {D P : Type 0} (h : Hashing D) → TellsApart h → (xs ys : List (Input D)) → P ⊎ ((c : Collision D) × Collides h xs ys c) → MatchOption (first_collision h xs ys) P (λ c. IsFirstCollision h xs ys c)
 verdict h laws xs ys w = none_shows (λ c. IsFirstCollision h xs ys c) (first_collision h xs ys) (no_collision h xs ys w) (finds_first h laws xs ys)
 
 pub verdicts : {D : Type 0} → Verdicts D
@@ -93,6 +93,6 @@ empty_decides xs = ((λ e. nil_from_length xs (eqb-true (length xs) 0 e)), (λ e
 pub check_decides : {D : Type 0} → CheckDecides D
 check_decides s laws r root = Decides-or _ _
     (Decides-like _ (λ w. record { some = w.0; within = w.1.0; leaves = w.1.1.0; inactive = w.1.1.1.0; counts = w.1.1.1.1.0; root_is = w.1.1.1.1.1 }) (λ w. (w.some, (w.within, (w.leaves, (w.inactive, (w.counts, w.root_is))))))
-    (Decides-and _ _ (Decides-ltb _ _) (Decides-and _ _ (le_decides _ _) (Decides-and _ _ (le_decides _ _) (Decides-and _ _ (le_decides _ _) (Decides-and _ _ (Decides-eqb _ _) (laws.same _ _)))))))
+    (Decides-and _ _ (Decides-ltb _ _) (Decides-and _ _ (le_decides _ _) (Decides-and _ _ (le_decides _ _) (Decides-and _ _ (le_decides _ _) (Decides-and _ _ (Decides-eqb _ _) (laws _ _)))))))
     (Decides-like _ (λ w. (record { elements = w.0; start = w.1.0; leaves = w.1.1.0; inactive = w.1.1.1.0; digests = w.1.1.1.1.0 }, w.1.1.1.1.1)) (λ w. (w.0.elements, (w.0.start, (w.0.leaves, (w.0.inactive, (w.0.digests, w.1))))))
-    (Decides-and _ _ (empty_decides r.elements) (Decides-and _ _ (Decides-eqb _ _) (Decides-and _ _ (Decides-eqb _ _) (Decides-and _ _ (Decides-eqb _ _) (Decides-and _ _ (empty_decides r.digests) (laws.same _ _)))))))
+    (Decides-and _ _ (empty_decides r.elements) (Decides-and _ _ (Decides-eqb _ _) (Decides-and _ _ (Decides-eqb _ _) (Decides-and _ _ (Decides-eqb _ _) (Decides-and _ _ (empty_decides r.digests) (laws _ _)))))))

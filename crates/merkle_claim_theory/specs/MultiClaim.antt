@@ -1,10 +1,10 @@
 -- What a multi-check claims: the folds are computed, and the proof tells digests at positions, some of which are computed too.
 use Rattle.std.specs.Prelude.{◌≡◌, ℕ, Bool, true, cond, ◌||◌, ◌⊎◌, Option, Some, None, IfSome, unwrap_or}
 use Rattle.merkle_root_theory.specs.Expression.{Node, Expression, given, hashed, told, value, Holds, inputs}
-use Rattle.merkle_base.specs.Hashing.{Hashing}
+use Rattle.merkle_base.specs.Hashing.{Hashing, TellsApart}
 use Rattle.merkle_base.specs.Tree.{Tree, leaf, join}
 use Rattle.merkle_root_theory.specs.Plan.{Plan, peak, folding, full, tree_meets, tree_digest, plan_digest}
-use Rattle.merkle_root_theory.specs.Collision.{Collision, Collides, Laws}
+use Rattle.merkle_root_theory.specs.Collision.{Collision, Collides}
 
 -- an expression, whose digest the proof may tell too
 abbrev pub also : {D : Type 0} → Option D → Expression D → Expression D
@@ -47,5 +47,5 @@ SameLeaves c X Y (folding place l r) = SameLeaves c X Y l × SameLeaves c X Y r
 
 -- what holds and has the list's value tells the list's digests, or collides with the list
 abbrev pub NoOtherMulti : Type 0 → Type 0
-NoOtherMulti D = (h : Hashing D) → Laws h → (a : ℕ → Option D) (c : ℕ → Bool) (X Y : ℕ → D) (p : Plan) → Holds h (multi_claim h a c Y p) → value h (multi_claim h a c Y p) ≡ plan_digest h X p
+NoOtherMulti D = (h : Hashing D) → TellsApart h → (a : ℕ → Option D) (c : ℕ → Bool) (X Y : ℕ → D) (p : Plan) → Holds h (multi_claim h a c Y p) → value h (multi_claim h a c Y p) ≡ plan_digest h X p
     → (Tells h a c X p × SameLeaves c X Y p) ⊎ ((k : Collision D) × Collides h (inputs h (multi_claim h a c Y p)) (inputs h (full X p)) k)

@@ -1,12 +1,12 @@
 -- What a pinned check claims beside a range check: the parts before the range are rebuilt from the pins.
 use Rattle.std.specs.Prelude.{◌≡◌, ℕ, Bool, true, cond, ◌||◌, ◌⊎◌, ◌+◌, List, [], ◌∷◌, Option, Some, None, drop, length, MatchOption}
 use Rattle.merkle_root_theory.specs.Expression.{Node, Expression, given, hashed, told, value, Holds, inputs}
-use Rattle.merkle_base.specs.Hashing.{Hashing}
+use Rattle.merkle_base.specs.Hashing.{Hashing, TellsApart}
 use Rattle.merkle_base.specs.Tree.{Tree, leaf, join}
 use Rattle.merkle_root_theory.specs.Plan.{Plan, peak, folding, full, tree_meets, meets, siblings, outer, inner, tree_digest, plan_digest, honest_digests}
 use Rattle.merkle_root_theory.specs.Claim.{next, InPlan}
 use Rattle.merkle_claim_theory.specs.MultiClaim.{or_empty}
-use Rattle.merkle_root_theory.specs.Collision.{Collision, Collides, Laws}
+use Rattle.merkle_root_theory.specs.Collision.{Collision, Collides}
 
 -- an expression, unless a digest is given for it
 abbrev pub pinned_or : {D : Type 0} → Option D → Expression D → Expression D
@@ -71,7 +71,7 @@ PinsTrees h b w X (t ∷ ts) = (tree_meets w t ≡ true → PinsTree h b X t) ×
 
 -- a pinned input that has as many digests as the plan asks, whose told digests hold, and that has the list's value: its range input is honest and so are its pins, or it collides
 abbrev pub NoOtherPins : Type 0 → Type 0
-NoOtherPins D = (h : Hashing D) → Laws h → (b : ℕ → Option D) (w c : ℕ → Bool) (X Y : ℕ → D) (p : Plan) (ds : List D) → length ds ≡ length (outer c p) + length (inner c p)
+NoOtherPins D = (h : Hashing D) → TellsApart h → (b : ℕ → Option D) (w c : ℕ → Bool) (X Y : ℕ → D) (p : Plan) (ds : List D) → length ds ≡ length (outer c p) + length (inner c p)
     → Holds h (pinned_of h b w c Y p ds) → value h (pinned_of h b w c Y p ds) ≡ plan_digest h X p
     → ((ds ≡ honest_digests h X c p) × ((i : ℕ) → InPlan p i → c i ≡ true → Y i ≡ X i) × PinsAll h b w X (outer c p) × PinsTrees h b w X (inner c p))
     ⊎ ((k : Collision D) × Collides h (inputs h (pinned_of h b w c Y p ds)) (inputs h (full X p)) k)

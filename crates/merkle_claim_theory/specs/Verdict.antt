@@ -1,7 +1,7 @@
 -- Verdicts of audits against a list, and the range check as a test.
 use Rattle.std.specs.Prelude.{◌≡◌, ℕ, Bool, ◌&&◌, ◌||◌, ◌≤◌, nat_le, nat_lt, nat_eq, ◌+◌, List, length, None, MatchOption, Decides, ◌<◌, map}
+use Rattle.merkle_base.specs.Hashing.{TellsApart}
 use Rattle.merkle_root_theory.specs.Expression.{Input}
-use Rattle.merkle_root_theory.specs.Collision.{Laws}
 use Rattle.merkle_claim_theory.specs.FirstCollision.{first_collision, IsFirstCollision}
 use Rattle.merkle_root_theory.specs.Check.{Setting, root_of, all_inputs, RangeInput, range_expression, range_inputs}
 use Rattle.merkle_base.specs.Places.{peaks_of}
@@ -28,7 +28,7 @@ pub record Verdicts (D : Type 0) : Type 0 where
   pub pinned : (s : Setting D) (size max_nodes : ℕ) → Sound s size max_nodes → (xs : List D) (k : ℕ) → length xs ≤ s.max_leaves → k ≤ length (peaks_of s.rule (length xs)) → (r : RangeInput D) (pins : List D) → AcceptsPinned s r pins (plan_root s xs k)
       → MatchOption (first_collision s.hashing (pinned_inputs s r pins) (list_inputs s xs k)) (IsHonestPinned s xs k r pins) (λ c. IsFirstCollision s.hashing (pinned_inputs s r pins) (list_inputs s xs k) c)
   -- an honest range input has no collision
-  pub clear : (s : Setting D) → Laws s.hashing → (xs : List D) (k : ℕ) (r : RangeInput D) → IsHonestSome s xs k r → first_collision s.hashing (range_inputs s r) (list_inputs s xs k) ≡ None
+  pub clear : (s : Setting D) → TellsApart s.hashing → (xs : List D) (k : ℕ) (r : RangeInput D) → IsHonestSome s xs k r → first_collision s.hashing (range_inputs s r) (list_inputs s xs k) ≡ None
 
 -- the range check as a test
 abbrev pub range_check : {D : Type 0} → Setting D → RangeInput D → D → Bool
@@ -48,7 +48,7 @@ range_check s r root =
 
 -- it answers yes exactly of what is accepted
 abbrev pub CheckDecides : Type 0 → Type 0
-CheckDecides D = (s : Setting D) → Laws s.hashing → (r : RangeInput D) (root : D) → Decides (range_check s r root) (Accepts s r root)
+CheckDecides D = (s : Setting D) → TellsApart s.hashing → (r : RangeInput D) (root : D) → Decides (range_check s r root) (Accepts s r root)
 
 -- no position stands twice among the extracted pairs
 abbrev pub ExtractsOnce : Type 0 → Type 0
@@ -56,8 +56,8 @@ ExtractsOnce D = (s : Setting D) (r : RangeInput D) → 0 < length r.elements �
 
 -- an honest multi input has no collision
 abbrev pub HonestMultiIsClear : Type 0 → Type 0
-HonestMultiIsClear D = (s : Setting D) → Laws s.hashing → (xs : List D) (k : ℕ) (r : MultiInput D) → IsHonestMultiSome s xs k r → first_collision s.hashing (multi_inputs s r) (list_inputs s xs k) ≡ None
+HonestMultiIsClear D = (s : Setting D) → TellsApart s.hashing → (xs : List D) (k : ℕ) (r : MultiInput D) → IsHonestMultiSome s xs k r → first_collision s.hashing (multi_inputs s r) (list_inputs s xs k) ≡ None
 
 -- nor has an honest pinned input
 abbrev pub HonestPinnedIsClear : Type 0 → Type 0
-HonestPinnedIsClear D = (s : Setting D) → Laws s.hashing → (xs : List D) (k : ℕ) (r : RangeInput D) (pins : List D) → IsHonestSome s xs k r → pins ≡ honest_pins s xs r.start → first_collision s.hashing (pinned_inputs s r pins) (list_inputs s xs k) ≡ None
+HonestPinnedIsClear D = (s : Setting D) → TellsApart s.hashing → (xs : List D) (k : ℕ) (r : RangeInput D) (pins : List D) → IsHonestSome s xs k r → pins ≡ honest_pins s xs r.start → first_collision s.hashing (pinned_inputs s r pins) (list_inputs s xs k) ≡ None

@@ -1,16 +1,15 @@
 -- The laws of what a hasher computes, from those of its digests.
 use Rattle.std.proofs.Common.{◌≡◌, ◌↔◌, ℕ, ◌≤◌, List, length, IsTrue, Bool, Decides, ap, sym, ◌∙◌, subst, arith}
-use Rattle.merkle_base.specs.Hashing.{Hashing, IsOver}
+use Rattle.merkle_base.specs.Hashing.{Hashing, IsOver, TellsApart}
 use Rattle.merkle_base.specs.Heights.{IsLawful}
 use Rattle.merkle_base.specs.declared.family.Bagging.{Bagging}
-use Rattle.merkle_root_theory.specs.Collision.{Laws}
 use Rattle.merkle_root_theory.specs.RootString.{ByteLaws}
 use Rattle.merkle_root_theory.specs.Range.{Sound}
 use Rattle.merkle_proof.specs.Input.{setting}
 
 module _ {D : Type 0} (h : Hashing D) (spelled : D → List ℕ) (equal : D → D → Bool) (none : D) (over : IsOver h spelled equal none) where
-  laws : ((x y : D) → IsTrue (equal x y) ↔ (x ≡ y)) → Laws h
-  laws decides = record { same = λ a b. subst (λ (f : D → D → Bool). Decides (f a b) (a ≡ b)) (sym over.same) (decides a b) }
+  laws : ((x y : D) → IsTrue (equal x y) ↔ (x ≡ y)) → TellsApart h
+  laws decides = λ a b. subst (λ (f : D → D → Bool). Decides (f a b) (a ≡ b)) (sym over.same) (decides a b)
 
   byte_laws : (size : ℕ) (Spells : List ℕ → Type 0) → 1 ≤ size → ((x : D) → Spells (spelled x)) → ((b : List ℕ) → Spells b → length b ≡ size) → ((x y : D) → spelled x ≡ spelled y → x ≡ y) → ByteLaws h size
   byte_laws size Spells some spell long decide = record {

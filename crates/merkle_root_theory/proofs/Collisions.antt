@@ -2,8 +2,8 @@
 use Rattle.std.proofs.Common.{◌≡◌, ◌≢◌, Bool, true, false, not, cond, List, [], ◌∷◌, ◌++◌, ◌⊎◌, inl, inr, refl, ap, ◌∙◌, filter, Decides, ⊎_elim}
 use Rattle.std.proofs.lemmas.Bool.{false≢true}
 use Rattle.merkle_root_theory.specs.Expression.{Place, Argument, Pair, Bytes, Input, Expression, hashed, value, Holds, visited, inputs, is_node, Alike, cut_left, cut_right, both, told_left, Agree}
-use Rattle.merkle_base.specs.Hashing.{Hashing}
-use Rattle.merkle_root_theory.specs.Collision.{Member, Collision, Collides, Laws, AgreeOrCollide}
+use Rattle.merkle_base.specs.Hashing.{Hashing, TellsApart}
+use Rattle.merkle_root_theory.specs.Collision.{Member, Collision, Collides, AgreeOrCollide}
 
 pub member_left : {X : Type 0} → (xs ys : List X) (x : X) → Member xs x → Member (xs ++ ys) x
 member_left [] ys x m = elim m [ ]
@@ -51,7 +51,7 @@ left_same a b c d e = cc
 right_same : {D : Type 0} (a b c d : D) → Pair a b ≡ Pair c d → b ≡ d
 right_same a b c d e = cc
 
-module _ {D : Type 0} (h : Hashing D) (laws : Laws h) where
+module _ {D : Type 0} (h : Hashing D) (laws : TellsApart h) where
   unfoldable pub Collides_in : Expression D → Expression D → Type 0
   Collides_in e f = (c : Collision D) × Collides h (visited h e) (visited h f) c
 
@@ -63,7 +63,7 @@ module _ {D : Type 0} (h : Hashing D) (laws : Laws h) where
   below : (place : Place) (l r l' r' : Expression D) → value h (hashed place l r) ≡ value h (hashed place l' r')
       → ((value h l ≡ value h l') × (value h r ≡ value h r')) ⊎ Collides_in (hashed place l r) (hashed place l' r')
   unfolding Collides_in
-  below place l r l' r' e = at_left (decided _ (laws.same (value h l) (value h l')))
+  below place l r l' r' e = at_left (decided _ (laws (value h l) (value h l')))
     where
       collision : (Pair (value h l) (value h r) ≢ Pair (value h l') (value h r')) → (c : Collision D) × Collides h (visited h (hashed place l r)) (visited h (hashed place l' r')) c
       collision n = (
@@ -76,7 +76,7 @@ module _ {D : Type 0} (h : Hashing D) (laws : Laws h) where
       at_right p (inr n) = inr (collision (λ q. n (right_same _ _ _ _ q)))
 
       at_left : ((value h l ≡ value h l') ⊎ (value h l ≡ value h l' → ⊥)) → ((value h l ≡ value h l') × (value h r ≡ value h r')) ⊎ ((c : Collision D) × Collides h (visited h (hashed place l r)) (visited h (hashed place l' r')) c)
-      at_left (inl p) = at_right p (decided _ (laws.same (value h r) (value h r')))
+      at_left (inl p) = at_right p (decided _ (laws (value h r) (value h r')))
       at_left (inr n) = inr (collision (λ q. n (left_same _ _ _ _ q)))
 
   joined : {A B : Type 0} (place : Place) (l r l' r' : Expression D) → A ⊎ Collides_in l l' → B ⊎ Collides_in r r' → (A × B) ⊎ Collides_in (hashed place l r) (hashed place l' r')

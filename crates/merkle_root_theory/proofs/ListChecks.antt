@@ -4,8 +4,9 @@ use Rattle.std.proofs.lemmas.Slice.Eq.{bytes_eq-Decides}
 use Rattle.std.proofs.lemmas.List.{length-map}
 use Rattle.std.proofs.Math.Nat.{add-sub_cancel_left}
 use Rattle.std.proofs.lemmas.Bool.{and_parts}
+use Rattle.merkle_base.specs.Hashing.{TellsApart}
 use Rattle.merkle_root_theory.specs.Expression.{Root, Bytes, Expression, value}
-use Rattle.merkle_root_theory.specs.Collision.{Member, Collision, Collides, Laws}
+use Rattle.merkle_root_theory.specs.Collision.{Member, Collision, Collides}
 use Rattle.merkle_root_theory.specs.RootString.{ByteLaws, SameFolded}
 use Rattle.merkle_base.specs.Root.{root_string}
 use Rattle.merkle_base.specs.Tree.{Tree}
@@ -87,7 +88,7 @@ is_chosen r i a b = ap₂ ◌&&◌ (le-leb r.start i a) (lt-ltb i (r.start + len
 in_whole : {D : Type 0} (s : Setting D) → Covers (peaks_of s.rule) → (n k i : ℕ) → i < n → InWhole (whole s.bagging k (peaks_of s.rule n)) i
 in_whole s covers n k i a = let w = covers n i a in whole_has s.bagging k (peaks_of s.rule n) w.0 i w.1 w.2
 
-module _ {D : Type 0} (s : Setting D) (laws : Laws s.hashing) where
+module _ {D : Type 0} (s : Setting D) (laws : TellsApart s.hashing) where
   -- a collision below the root
   lifted : (n n' k k' : ℕ) (e e' : Option (Expression D)) → ((c : Collision D) × Collides s.hashing (inputs_of s.hashing e) (inputs_of s.hashing e') c) → (c : Collision D) × Collides s.hashing (all_inputs s n k e) (all_inputs s n' k' e') c
   lifted n n' k k' e e' c = (c.0, record { claimed = inr c.1.claimed; listed = inr c.1.listed; differ = c.1.differ; one_digest = c.1.one_digest })

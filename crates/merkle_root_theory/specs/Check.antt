@@ -1,8 +1,8 @@
 -- A range check against the root of a list, and two range checks against one root.
 use Rattle.std.specs.Prelude.{◌≡◌, ℕ, Bool, ◌&&◌, ◌⊎◌, ◌≤◌, ◌<◌, ◌+◌, ◌-◌, ◌^◌, nat_le, nat_lt, List, [], ◌∷◌, length, get_or, Option, Some, None, option_map}
 use Rattle.merkle_root_theory.specs.Expression.{Root, Bytes, Expression, value, Input, inputs}
-use Rattle.merkle_base.specs.Hashing.{Hashing}
-use Rattle.merkle_root_theory.specs.Collision.{Member, Collision, Collides, Laws}
+use Rattle.merkle_base.specs.Hashing.{Hashing, TellsApart}
+use Rattle.merkle_root_theory.specs.Collision.{Member, Collision, Collides}
 use Rattle.merkle_root_theory.specs.RootString.{ByteLaws}
 use Rattle.merkle_base.specs.Root.{root_string}
 use Rattle.merkle_base.specs.Tree.{Tree}
@@ -95,7 +95,7 @@ Covers forest = (n i : ℕ) → i < n → (t : Tree) × Member (forest n) t × I
 
 -- what is accepted against the root of a list is honest, or collides with the list
 abbrev pub NoOtherRange : Type 0 → Type 0
-NoOtherRange D = (s : Setting D) (size : ℕ) → Laws s.hashing → ByteLaws s.hashing size → Covers (peaks_of s.rule)
+NoOtherRange D = (s : Setting D) (size : ℕ) → TellsApart s.hashing → ByteLaws s.hashing size → Covers (peaks_of s.rule)
     → (X : ℕ → D) (n k : ℕ) → n < 2 ^ 64 → k < 2 ^ 64 → (r : RangeInput D) → RangeAccepts s r (root_of s n k (list_expression s X n k))
     → IsHonest s X n k r ⊎ ((c : Collision D) × Collides s.hashing (all_inputs s r.leaves r.inactive (range_expression s r)) (all_inputs s n k (list_expression s X n k)) c)
 
@@ -106,7 +106,7 @@ SharesLeaves h r q = (r.leaves ≡ q.leaves) × (r.inactive ≡ q.inactive)
 
 -- what is accepted against one root shares its leaves, or the two collide
 abbrev pub PairConsistent : Type 0 → Type 0
-PairConsistent D = (s : Setting D) (size : ℕ) → Laws s.hashing → ByteLaws s.hashing size → Covers (peaks_of s.rule)
+PairConsistent D = (s : Setting D) (size : ℕ) → TellsApart s.hashing → ByteLaws s.hashing size → Covers (peaks_of s.rule)
     → (root : D) (r q : RangeInput D) → RangeAccepts s r root → RangeAccepts s q root
     → SharesLeaves s.hashing r q ⊎ ((c : Collision D) × Collides s.hashing (all_inputs s r.leaves r.inactive (range_expression s r)) (all_inputs s q.leaves q.inactive (range_expression s q)) c)
 

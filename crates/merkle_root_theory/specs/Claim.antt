@@ -1,10 +1,10 @@
 -- What a range check claims: the plan with the parts outside the range given by the proof, and the leaves in it by the elements.
 use Rattle.std.specs.Prelude.{◌≡◌, ℕ, Bool, true, cond, ◌||◌, ◌⊎◌, ◌+◌, List, drop, get_or, length}
 use Rattle.merkle_root_theory.specs.Expression.{Node, Expression, given, hashed, value, inputs}
-use Rattle.merkle_base.specs.Hashing.{Hashing}
+use Rattle.merkle_base.specs.Hashing.{Hashing, TellsApart}
 use Rattle.merkle_base.specs.Tree.{Tree, leaf, join}
 use Rattle.merkle_root_theory.specs.Plan.{Plan, peak, folding, full, tree_meets, meets, siblings, outer, inner, plan_digest, honest_digests}
-use Rattle.merkle_root_theory.specs.Collision.{Collision, Collides, Laws}
+use Rattle.merkle_root_theory.specs.Collision.{Collision, Collides}
 
 -- the next digest
 abbrev pub next : {D : Type 0} → Hashing D → List D → D
@@ -44,12 +44,12 @@ InPlan (folding place l r) j = InPlan l j ⊎ InPlan r j
 
 -- what has as many digests as the plan asks, and the list's value, is honest or collides with the list
 abbrev pub NothingElse : Type 0 → Type 0
-NothingElse D = (h : Hashing D) → Laws h → (c : ℕ → Bool) (X Y : ℕ → D) (p : Plan) (ds : List D) → length ds ≡ length (outer c p) + length (inner c p)
+NothingElse D = (h : Hashing D) → TellsApart h → (c : ℕ → Bool) (X Y : ℕ → D) (p : Plan) (ds : List D) → length ds ≡ length (outer c p) + length (inner c p)
     → value h (claim_of h c Y p ds) ≡ plan_digest h X p
     → ((ds ≡ honest_digests h X c p) × ((i : ℕ) → InPlan p i → c i ≡ true → Y i ≡ X i)) ⊎ ((k : Collision D) × Collides h (inputs h (claim_of h c Y p ds)) (inputs h (full X p)) k)
 
 -- two claims of one value agree at each location that both choose, or they collide
 abbrev pub PairAgrees : Type 0 → Type 0
-PairAgrees D = (h : Hashing D) → Laws h → (c d : ℕ → Bool) (X Y : ℕ → D) (p : Plan) (xs ys : List D)
+PairAgrees D = (h : Hashing D) → TellsApart h → (c d : ℕ → Bool) (X Y : ℕ → D) (p : Plan) (xs ys : List D)
     → value h (claim_of h c X p xs) ≡ value h (claim_of h d Y p ys)
     → ((i : ℕ) → InPlan p i → c i ≡ true → d i ≡ true → X i ≡ Y i) ⊎ ((k : Collision D) × Collides h (inputs h (claim_of h c X p xs)) (inputs h (claim_of h d Y p ys)) k)

@@ -1,7 +1,7 @@
 -- Two different arguments at one place with one digest.
-use Rattle.std.specs.Prelude.{◌≡◌, ◌≢◌, List, [], ◌∷◌, ◌⊎◌, Decides}
+use Rattle.std.specs.Prelude.{◌≡◌, ◌≢◌, List, [], ◌∷◌, ◌⊎◌}
 use Rattle.merkle_root_theory.specs.Expression.{Place, Argument, digest_of_argument, Input, Expression, inputs, value, Holds, Alike, Agree}
-use Rattle.merkle_base.specs.Hashing.{Hashing}
+use Rattle.merkle_base.specs.Hashing.{Hashing, TellsApart}
 
 -- x is one of the elements
 abbrev pub Member : {X : Type 0} → List X → X → Type 0
@@ -21,10 +21,6 @@ pub record Collides {D : Type 0} (h : Hashing D) (xs ys : List (Input D)) (c : C
   pub differ : c.claimed ≢ c.listed
   pub one_digest : digest_of_argument h c.place c.claimed ≡ digest_of_argument h c.place c.listed
 
--- what the functions keep
-pub record Laws {D : Type 0} (h : Hashing D) : Type 0 where
-  pub same : (a b : D) → Decides (h.same a b) (a ≡ b)
-
 -- alike expressions with one value: what they are given agrees, or they collide
 abbrev pub AgreeOrCollide : Type 0 → Type 0
-AgreeOrCollide D = (h : Hashing D) → Laws h → (e f : Expression D) (a : Alike e f) → Holds h e → value h e ≡ value h f → Agree h a ⊎ ((c : Collision D) × Collides h (inputs h e) (inputs h f) c)
+AgreeOrCollide D = (h : Hashing D) → TellsApart h → (e f : Expression D) (a : Alike e f) → Holds h e → value h e ≡ value h f → Agree h a ⊎ ((c : Collision D) × Collides h (inputs h e) (inputs h f) c)

@@ -2,10 +2,10 @@
 use Rattle.std.specs.Prelude.{◌≡◌, ℕ, Bool, ◌&&◌, ◌⊎◌, ◌≤◌, ◌<◌, ◌+◌, nat_le, nat_lt, List, [], ◌++◌, length, map, flat_map, filter, take, drop, get_or, None}
 use Rattle.merkle_base.specs.Tree.{Tree, first_leaf, end_leaf}
 use Rattle.merkle_base.specs.Heights.{IsLawful}
-use Rattle.merkle_base.specs.Hashing.{Hashing}
+use Rattle.merkle_base.specs.Hashing.{Hashing, TellsApart}
 use Rattle.merkle_base.specs.Root.{list_root}
 use Rattle.merkle_root_theory.specs.Expression.{Input}
-use Rattle.merkle_root_theory.specs.Collision.{Collision, Collides, Laws}
+use Rattle.merkle_root_theory.specs.Collision.{Collision, Collides}
 use Rattle.merkle_root_theory.specs.RootString.{ByteLaws}
 use Rattle.merkle_root_theory.specs.Plan.{Plan, siblings, plan_digest, tree_digest}
 use Rattle.merkle_base.specs.declared.family.Bagging.{Bagging}
@@ -96,7 +96,7 @@ list_inputs s xs k = all_inputs s (length xs) k (list_expression s (leaf_of s.ha
 
 -- what the family, the hasher and its digests keep
 pub record Sound {D : Type 0} (s : Setting D) (size max_nodes : ℕ) : Type 0 where
-  pub laws : Laws s.hashing
+  pub laws : TellsApart s.hashing
   pub bytes : ByteLaws s.hashing size
   pub lawful : IsLawful s.rule s.max_leaves max_nodes
 
