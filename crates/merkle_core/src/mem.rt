@@ -127,6 +127,8 @@ impl<F: Family, D: Digest> Mem<F, D> {
         ensures start { result.start ≡ self.now.boundary }
         ensures end { result.end ≡ self.now.leaves }
         ensures ordered { result.start ≤ result.end }
+        ensures sized { size F.rule result.end ≡ self.now.size }
+        ensures bounded { result.end ≤ F.MAX_LEAVES }
     {
         self.boundary..self.leaves
     }
