@@ -8,5 +8,6 @@ pub mod Grafting
 pub mod Bagging
 pub mod Hashing
 pub mod Digests
+pub mod Scheme
 pub mod Root
 pub mod Shows

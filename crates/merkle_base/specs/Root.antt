@@ -7,6 +7,7 @@ use Rattle.merkle_base.specs.declared.family.Bagging.TheVariants.{ForwardFold, B
 use Rattle.merkle_base.specs.Bagging.{bagging_byte}
 use Rattle.merkle_base.specs.Hashing.{Hashing}
 use Rattle.merkle_base.specs.Digests.{peak_digests}
+use Rattle.merkle_base.specs.Scheme.{Scheme}
 
 -- the last peak, which takes in the others right to left, if there is one
 abbrev pub bag : {D : Type 0} → (D → D → D) → List D → Option D
@@ -38,10 +39,10 @@ root_string h domain bagging leaves inactive (Some d) =
     domain ∷ bagging_byte bagging ∷ to_be_bytes w64 leaves ++ (inactive_bytes inactive ++ h.bytes d)
 
 -- the root over the digests of peaks, of which the first so many are folded apart, with an inactive count written
-abbrev pub peaks_root : {D : Type 0} → Hashing D → ℕ → Bagging → (leaves to_fold inactive : ℕ) → List D → D
-peaks_root h domain bagging leaves to_fold inactive peaks =
-    h.hash (root_string h domain bagging leaves inactive (folded h.fold bagging to_fold peaks))
+abbrev pub peaks_root : {D : Type 0} → Scheme D → (leaves to_fold inactive : ℕ) → List D → D
+peaks_root s leaves to_fold inactive peaks =
+    s.hashing.hash (root_string s.hashing s.domain s.bagging leaves inactive (folded s.hashing.fold s.bagging to_fold peaks))
 
 -- the root of a list for an inactive count
-abbrev pub list_root : {D : Type 0} → Hashing D → (List ℕ → List ℕ) → ℕ → Bagging → List D → ℕ → D
-list_root h rule domain bagging X k = peaks_root h domain bagging (length X) k k (peak_digests h rule X)
+abbrev pub list_root : {D : Type 0} → Scheme D → List D → ℕ → D
+list_root s X k = peaks_root s (length X) k k (peak_digests s.hashing s.rule X)

@@ -166,13 +166,13 @@ impl<F: Family, D: Digest> MerkleizedBatch<F, D> {
     /// Refused with `InvalidInactivePeaks` exactly where that number exceeds the number of peaks that its leaf count has.
     pub fn root<H: Hasher<F, Digest = D>>(&self, hasher: &H, inactive: usize) -> Result<D, Error<F>>
         ensures ok { let n = self.now.leaves in inactive ≤ length (peaks_of F.rule n)
-            → result ≡ Ok (peaks_root (H.hashing hasher.now) F.DOMAIN (H.bagging_of hasher.now) n inactive inactive self.now.own.peaks_after) }
+            → result ≡ Ok (peaks_root (H.scheme hasher.now) n inactive inactive self.now.own.peaks_after) }
         ensures err { let count = length (peaks_of F.rule self.now.leaves) in count < inactive → result ≡ Err (Error.InvalidInactivePeaks inactive count) }
 
         // Where it stands on lists, it is the last list's.
         ensures listed { (ls : List (List D)) → StandsOn (H.hashing hasher.now) F.rule (records self.now) ls
             → let X = last_list ls in inactive ≤ length (peaks_of F.rule (length X))
-            → result ≡ Ok (list_root (H.hashing hasher.now) F.rule F.DOMAIN (H.bagging_of hasher.now) X inactive) }
+            → result ≡ Ok (list_root (H.scheme hasher.now) X inactive) }
         ensures too_many { (h : Hashing D) → (ls : List (List D)) → StandsOn h F.rule (records self.now) ls
             → let count = length (peaks_of F.rule (length (last_list ls))) in count < inactive → result ≡ Err (Error.InvalidInactivePeaks inactive count) }
     {

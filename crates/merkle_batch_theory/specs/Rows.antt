@@ -1,7 +1,9 @@
 -- Small cases, with the exclusive or in the place of a hash.
-use Rattle.std.specs.Prelude.{ℕ, [], ◌∷◌, Option, Some, None, cond, nat_eq, bit_xor, fold, slice_get, ◌==◌, ◌||◌}
+use Rattle.std.specs.Prelude.{ℕ, [], ◌∷◌, Option, Some, None, cond, nat_eq, bit_xor, fold, slice_get, ◌==◌, ◌||◌, ◌^◌}
 use Rattle.std.specs.FinMap.{empty, from_entries}
+use Rattle.merkle_base.specs.declared.family.Bagging.{Bagging}
 use Rattle.merkle_base.specs.Hashing.{Hashing}
+use Rattle.merkle_base.specs.Scheme.{Scheme, scheme_of}
 use Rattle.merkle_forest_theory.specs.Mmr.{carries}
 use Rattle.merkle_batch_theory.specs.Contents.{Contents, pruned}
 use Rattle.merkle_batch_theory.specs.Recorded.{Recorded, Chain}
@@ -19,6 +21,10 @@ xor = record {
   same = nat_eq;
   empty = 0;
 }
+
+-- a Mountain Range over it
+abbrev pub xor_scheme : Bagging → Scheme ℕ
+xor_scheme bagging = scheme_of xor bagging carries (2 ^ 62) 0
 
 -- two leaves over nothing
 abbrev pub first_record : Recorded ℕ

@@ -28,7 +28,7 @@ ghost use Rattle.std.specs.List.{range_with_len};
 ghost use Rattle.merkle_base.specs.Root.{list_root};
 ghost use Rattle.merkle_base.specs.declared.family.Bagging.TheVariants.{ForwardFold, BackwardFold};
 ghost use Rattle.merkle_forest_theory.specs.Mmr.{carries};
-ghost use Rattle.merkle_batch_theory.specs.Rows.{xor, first_record, second_record, second_batch, nothing, one, two, at_two, five, change, exchange, exchanging, two_exchanged, addition, exchanged_batch, fourth, over_exchange, over_pruned};
+ghost use Rattle.merkle_batch_theory.specs.Rows.{xor, xor_scheme, first_record, second_record, second_batch, nothing, one, two, at_two, five, change, exchange, exchanging, two_exchanged, addition, exchanged_batch, fourth, over_exchange, over_pruned};
 ghost use Rattle.merkle_batch_theory.specs.Replay.{refusal, AncestorDropped, StaleBatch};
 ghost use Rattle.merkle_batch_theory.specs.Roots.{root_batch};
 
@@ -223,11 +223,11 @@ pub fn worked_rows()
     ensures leaves { xor.leaf 0 (1 ∷ []) ∷ xor.leaf 1 (2 ∷ []) ∷ xor.leaf 3 (4 ∷ []) ∷ [] ≡ 1 ∷ 3 ∷ 7 ∷ [] }
     ensures digests { node_digests xor carries (1 ∷ 3 ∷ 7 ∷ []) ≡ 1 ∷ 3 ∷ 0 ∷ 7 ∷ [] }
     ensures peaks { peak_digests xor carries (1 ∷ 3 ∷ 7 ∷ []) ≡ 0 ∷ 7 ∷ [] }
-    ensures forward_root { list_root xor carries 0 ForwardFold (1 ∷ 3 ∷ 7 ∷ []) 0 ≡ 4 }
-    ensures forward_root_one { list_root xor carries 0 ForwardFold (1 ∷ 3 ∷ 7 ∷ []) 1 ≡ 5 }
-    ensures backward_root { list_root xor carries 0 BackwardFold (1 ∷ 3 ∷ 7 ∷ []) 0 ≡ 5 }
-    ensures backward_root_one { list_root xor carries 0 BackwardFold (1 ∷ 3 ∷ 7 ∷ []) 1 ≡ 4 }
-    ensures empty_root { (list_root xor carries 0 ForwardFold [] 0 ≡ 0) × (list_root xor carries 0 BackwardFold [] 0 ≡ 1) }
+    ensures forward_root { list_root (xor_scheme ForwardFold) (1 ∷ 3 ∷ 7 ∷ []) 0 ≡ 4 }
+    ensures forward_root_one { list_root (xor_scheme ForwardFold) (1 ∷ 3 ∷ 7 ∷ []) 1 ≡ 5 }
+    ensures backward_root { list_root (xor_scheme BackwardFold) (1 ∷ 3 ∷ 7 ∷ []) 0 ≡ 5 }
+    ensures backward_root_one { list_root (xor_scheme BackwardFold) (1 ∷ 3 ∷ 7 ∷ []) 1 ≡ 4 }
+    ensures empty_root { (list_root (xor_scheme ForwardFold) [] 0 ≡ 0) × (list_root (xor_scheme BackwardFold) [] 0 ≡ 1) }
     ensures count_leaf { computed carries (at_two 25 25) 15 15 ≡ [] }
     ensures count_eight { map position (computed carries (at_two 0 22) 15 16) ≡ 2 ∷ 6 ∷ 14 ∷ 24 ∷ 27 ∷ 28 ∷ 29 ∷ 30 ∷ [] }
     ensures count_three { map position (computed carries (at_two 0 1) 4 6) ≡ 2 ∷ 6 ∷ 9 ∷ [] }

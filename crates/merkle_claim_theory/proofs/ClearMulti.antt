@@ -10,7 +10,8 @@ use Rattle.merkle_root_theory.specs.Plan.{Plan, peak, folding, whole, full, node
 use Rattle.merkle_claim_theory.specs.MultiClaim.{also, or_empty, multi_tree, multi_claim}
 use Rattle.merkle_claim_theory.specs.Complete.{HonestTree, HonestPlan}
 use Rattle.merkle_base.specs.Root.{root_string}
-use Rattle.merkle_root_theory.specs.Check.{Setting, string_of, inputs_of, all_inputs, list_expression}
+use Rattle.merkle_root_theory.specs.Check.{string_of, inputs_of, all_inputs, list_expression}
+use Rattle.merkle_base.specs.Scheme.{Scheme}
 use Rattle.merkle_base.specs.Places.{peaks_of}
 use Rattle.merkle_root_theory.specs.Range.{leaf_of}
 use Rattle.merkle_claim_theory.specs.Table.{digest_for}
@@ -44,7 +45,7 @@ module _ {D : Type 0} (h : Hashing D) (a : ℕ → Option D) (c : ℕ → Bool) 
   plan_in_list (folding place l r) s = hashed_within h place _ _ _ _ (plan_in_list l s.0) (plan_in_list r s.1)
 
 -- what hashes only what the list does has no collision with it
-module _ {D : Type 0} (s : Setting D) (laws : TellsApart s.hashing) (X : ℕ → D) (E : Plan → Expression D) (n n' k k' : ℕ) (e : n ≡ n') (f : k ≡ k') (p : Plan) (q : whole s.bagging k (peaks_of s.rule n) ≡ Some p) where
+module _ {D : Type 0} (s : Scheme D) (laws : TellsApart s.hashing) (X : ℕ → D) (E : Plan → Expression D) (n n' k k' : ℕ) (e : n ≡ n') (f : k ≡ k') (p : Plan) (q : whole s.bagging k (peaks_of s.rule n) ≡ Some p) where
   pub clear_of : Within s.hashing (E p) (full X p) → first_collision s.hashing (all_inputs s n k (option_map E (whole s.bagging k (peaks_of s.rule n)))) (all_inputs s n' k' (list_expression s X n' k')) ≡ None
   unfolding Within
   clear_of w =

@@ -9,7 +9,8 @@ use Rattle.merkle_root_theory.specs.Plan.{Plan, whole, full}
 use Rattle.merkle_base.specs.declared.family.Bagging.{Bagging}
 use Rattle.merkle_base.specs.declared.family.Bagging.TheVariants.{ForwardFold, BackwardFold}
 use Rattle.merkle_root_theory.specs.Claim.{claim_of}
-use Rattle.merkle_root_theory.specs.Check.{Setting, string_of, inputs_of, all_inputs, list_expression, RangeInput, chosen, leaf_given, range_expression, HasHonestDigests}
+use Rattle.merkle_root_theory.specs.Check.{string_of, inputs_of, all_inputs, list_expression, RangeInput, chosen, leaf_given, range_expression, HasHonestDigests}
+use Rattle.merkle_base.specs.Scheme.{Scheme}
 use Rattle.merkle_base.specs.Places.{peaks_of}
 use Rattle.merkle_base.specs.Root.{root_string}
 use Rattle.merkle_claim_theory.specs.Exact.{IsMap}
@@ -67,7 +68,7 @@ pub found_none : {D : Type 0} (h : Hashing D) (xs ys : List (Input D)) (o : Opti
 found_none h xs ys None m f = refl
 found_none h xs ys (Some c) m f = absurd (f c m.collides)
 
-module _ {D : Type 0} (s : Setting D) (X : ℕ → D) (r : RangeInput D) (same : (i : ℕ) → chosen r i ≡ true → leaf_given s.hashing r i ≡ X i) where
+module _ {D : Type 0} (s : Scheme D) (X : ℕ → D) (r : RangeInput D) (same : (i : ℕ) → chosen r i ≡ true → leaf_given s.hashing r i ≡ X i) where
   claim_for : Option Plan → Option (Expression D)
   claim_for o = option_map (λ p. claim_of s.hashing (chosen r) (leaf_given s.hashing r) p r.digests) o
 

@@ -9,7 +9,8 @@ use Rattle.merkle_root_theory.specs.Expression.{Place, Root, Join, PrefixFold, S
 use Rattle.merkle_root_theory.specs.Collision.{Member}
 use Rattle.merkle_root_theory.specs.Plan.{Plan, peak, folding, forward, bag, join_bag, whole, full, node_expression, tree_meets, meets, siblings, outer, inner}
 use Rattle.merkle_root_theory.specs.Claim.{tree_claim, claim}
-use Rattle.merkle_root_theory.specs.Check.{Setting, RangeInput, string_of, inputs_of, all_inputs, list_expression, chosen, leaf_given, range_expression}
+use Rattle.merkle_root_theory.specs.Check.{RangeInput, string_of, inputs_of, all_inputs, list_expression, chosen, leaf_given, range_expression}
+use Rattle.merkle_base.specs.Scheme.{Scheme}
 use Rattle.merkle_root_theory.specs.Range.{in_range}
 use Rattle.merkle_claim_theory.specs.MultiClaim.{also, multi_tree, multi_claim}
 use Rattle.merkle_claim_theory.specs.Multiproof.{MultiInput, multi_on, multi_expression}
@@ -120,17 +121,17 @@ same_pairs (Pair l r) (Pair l' r') v w = tt
 same_pairs (Pair l r) (Bytes b) v w = w
 same_pairs (Bytes a) b v w = absurd v
 
-module _ {D : Type 0} (s t : Setting D) (n m k j : ℕ) (e f : Option (Expression D)) (v : AllRootless s.hashing e) (w : AllRootless t.hashing f) where
+module _ {D : Type 0} (s t : Scheme D) (n m k j : ℕ) (e f : Option (Expression D)) (v : AllRootless s.hashing e) (w : AllRootless t.hashing f) where
   pub one_form : (place : Place) (a b : Argument D) → Member (all_inputs s n k e) (record { place = place; argument = a }) → Member (all_inputs t m j f) (record { place = place; argument = b }) → SameForm a b
   one_form place a b (inl x) (inl y) = subst (λ (z : Input D). SameForm z.argument b) x (subst (λ (z : Input D). SameForm (Bytes (string_of s n k e)) z.argument) y tt)
   one_form place a b (inl x) (inr y) = absurd (subst IsBelow (sym (ap (λ (z : Input D). z.place) x)) (inputs_of_inner t.hashing f w _ y).0)
   one_form place a b (inr x) (inl y) = absurd (subst IsBelow (sym (ap (λ (z : Input D). z.place) y)) (inputs_of_inner s.hashing e v _ x).0)
   one_form place a b (inr x) (inr y) = same_pairs a b (inputs_of_inner s.hashing e v _ x).1 (inputs_of_inner t.hashing f w _ y).1
 
-pub range_rootless : {D : Type 0} (s : Setting D) (r : RangeInput D) → AllRootless s.hashing (range_expression s r)
+pub range_rootless : {D : Type 0} (s : Scheme D) (r : RangeInput D) → AllRootless s.hashing (range_expression s r)
 range_rootless s r = mapped_rootless s.hashing _ (λ p w. claim_rootless s.hashing (leaf_given s.hashing r) (chosen r) p w r.digests _) (whole s.bagging r.inactive (peaks_of s.rule r.leaves)) (whole_below s.bagging r.inactive (peaks_of s.rule r.leaves))
 
-pub list_rootless : {D : Type 0} (s : Setting D) (X : ℕ → D) (n k : ℕ) → AllRootless s.hashing (list_expression s X n k)
+pub list_rootless : {D : Type 0} (s : Scheme D) (X : ℕ → D) (n k : ℕ) → AllRootless s.hashing (list_expression s X n k)
 list_rootless s X n k = mapped_rootless s.hashing (full X) (full_rootless s.hashing X) (whole s.bagging k (peaks_of s.rule n)) (whole_below s.bagging k (peaks_of s.rule n))
 
 -- ---- the same of what is told beside
@@ -177,9 +178,9 @@ module _ {D : Type 0} (h : Hashing D) (b : ℕ → Option D) (w c : ℕ → Bool
       either_rootless h X (meets c l || meets c r) _ _ (v.0, pinned_claim_rootless l v.1 os is, pinned_claim_rootless r v.2 (drop (length (outer c l)) os) (drop (length (inner c l)) is))
       (outside_plan_rootless (folding place l r) v _)
 
-pub multi_inputs_rootless : {D : Type 0} (s : Setting D) (r : MultiInput D) → AllRootless s.hashing (multi_expression s r)
+pub multi_inputs_rootless : {D : Type 0} (s : Scheme D) (r : MultiInput D) → AllRootless s.hashing (multi_expression s r)
 multi_inputs_rootless s r = mapped_rootless s.hashing (multi_on s r) (λ p v. multi_claim_rootless s.hashing _ _ _ p v) (whole s.bagging r.inactive (peaks_of s.rule r.leaves)) (whole_below s.bagging r.inactive (peaks_of s.rule r.leaves))
 
-pub pinned_inputs_rootless : {D : Type 0} (s : Setting D) (r : RangeInput D) (pins : List D) → AllRootless s.hashing (pinned_expression s r pins)
+pub pinned_inputs_rootless : {D : Type 0} (s : Scheme D) (r : RangeInput D) (pins : List D) → AllRootless s.hashing (pinned_expression s r pins)
 pinned_inputs_rootless s r pins =
     mapped_rootless s.hashing (pinned_on s r pins) (λ p v. pinned_claim_rootless s.hashing (digest_for (pin_positions s r.start) pins) (in_range 0 r.start) (chosen r) (leaf_given s.hashing r) p v r.digests (drop (length (outer (chosen r) p)) r.digests)) (whole s.bagging r.inactive (peaks_of s.rule r.leaves)) (whole_below s.bagging r.inactive (peaks_of s.rule r.leaves))

@@ -11,7 +11,8 @@ use Rattle.merkle_root_theory.specs.Plan.{Plan, peak, folding, forward, bag, joi
 use Rattle.merkle_base.specs.declared.family.Bagging.{Bagging}
 use Rattle.merkle_base.specs.declared.family.Bagging.TheVariants.{ForwardFold, BackwardFold}
 use Rattle.merkle_claim_theory.specs.Order.{Distinct}
-use Rattle.merkle_root_theory.specs.Check.{Setting, root_of, inputs_of, all_inputs, list_expression}
+use Rattle.merkle_root_theory.specs.Check.{root_of, inputs_of, all_inputs, list_expression}
+use Rattle.merkle_base.specs.Scheme.{Scheme}
 use Rattle.merkle_base.specs.Places.{peaks_of}
 use Rattle.merkle_claim_theory.specs.Table.{digest_for}
 use Rattle.merkle_base.proofs.Cases.{by_test}
@@ -151,7 +152,7 @@ module _ (P : Tree → Type 0) where
   of_each b k ts p e w = subst EachOf e (whole_each b k ts w)
 
 -- ---- a plan's root
-pub plan_for : {D : Type 0} (s : Setting D) (n k : ℕ) → 0 < n → (p : Plan) × (whole s.bagging k (peaks_of s.rule n) ≡ Some p)
+pub plan_for : {D : Type 0} (s : Scheme D) (n k : ℕ) → 0 < n → (p : Plan) × (whole s.bagging k (peaks_of s.rule n) ≡ Some p)
 plan_for s n k l = some_plan s.bagging (peaks_of s.rule n) (peaks_spans s.rule n)
   where
     some_plan : (b : Bagging) (ts : List Tree) → Spans 0 n ts → (p : Plan) × (whole b k ts ≡ Some p)
@@ -163,7 +164,7 @@ pub same_plan : (b : Bagging) (k : ℕ) (ts : List Tree) (p q : Plan) → whole 
 same_plan b k ts p q d e = cc
 
 -- one root: one leaf count, one inactive count, one value of the plan, or the root's strings collide
-module _ {D : Type 0} (s : Setting D) (size : ℕ) (bytes : ByteLaws s.hashing size) (X : ℕ → D) (E : Plan → Expression D) (n n' k k' : ℕ) (a : n < 2 ^ 64) (a' : n' < 2 ^ 64) (b : k < 2 ^ 64) (b' : k' < 2 ^ 64) where
+module _ {D : Type 0} (s : Scheme D) (size : ℕ) (bytes : ByteLaws s.hashing size) (X : ℕ → D) (E : Plan → Expression D) (n n' k k' : ℕ) (a : n < 2 ^ 64) (a' : n' < 2 ^ 64) (b : k < 2 ^ 64) (b' : k' < 2 ^ 64) where
   pub roots : 0 < n → (p : Plan) → whole s.bagging k (peaks_of s.rule n) ≡ Some p → root_of s n k (option_map E (whole s.bagging k (peaks_of s.rule n))) ≡ root_of s n' k' (list_expression s X n' k')
       → ((n ≡ n') × (k ≡ k') × (value s.hashing (E p) ≡ plan_digest s.hashing X p))
       ⊎ ((c : Collision D) × Collides s.hashing (all_inputs s n k (option_map E (whole s.bagging k (peaks_of s.rule n)))) (all_inputs s n' k' (list_expression s X n' k')) c)
@@ -192,13 +193,13 @@ module _ {D : Type 0} (s : Setting D) (size : ℕ) (bytes : ByteLaws s.hashing s
       )
 
 -- a plan with the list's value has the list's root
-pub roots_same : {D : Type 0} (s : Setting D) (X : ℕ → D) (E : Plan → Expression D) (n k : ℕ) (p : Plan) → whole s.bagging k (peaks_of s.rule n) ≡ Some p → value s.hashing (E p) ≡ plan_digest s.hashing X p
+pub roots_same : {D : Type 0} (s : Scheme D) (X : ℕ → D) (E : Plan → Expression D) (n k : ℕ) (p : Plan) → whole s.bagging k (peaks_of s.rule n) ≡ Some p → value s.hashing (E p) ≡ plan_digest s.hashing X p
     → root_of s n k (option_map E (whole s.bagging k (peaks_of s.rule n))) ≡ root_of s n k (list_expression s X n k)
 roots_same s X E n k p e v = ap (λ o. s.hashing.hash (root_string s.hashing s.domain s.bagging n k o))
     (ap (λ o. option_map (value s.hashing) (option_map E o)) e ∙ ap Some v ∙ ap (λ o. option_map (value s.hashing) (option_map (full X) o)) (sym e))
 
 -- the root of no leaves is the root of no list that has some, but for collisions
-module _ {D : Type 0} (s : Setting D) (size max_nodes : ℕ) (sound : Sound s size max_nodes) (xs : List D) (k : ℕ) (few : length xs ≤ s.max_leaves) (low : k ≤ length (peaks_of s.rule (length xs))) where
+module _ {D : Type 0} (s : Scheme D) (size max_nodes : ℕ) (sound : Sound s size max_nodes) (xs : List D) (k : ℕ) (few : length xs ≤ s.max_leaves) (low : k ≤ length (peaks_of s.rule (length xs))) where
   pub no_other_list : (E : Plan → Expression D) (n j : ℕ) → n ≡ 0 → j ≡ 0 → root_of s 0 0 None ≡ plan_root s xs k
       → (xs ≡ []) ⊎ ((c : Collision D) × Collides s.hashing (all_inputs s n j (option_map E (whole s.bagging j (peaks_of s.rule n)))) (all_inputs s (length xs) k (list_expression s (leaf_of s.hashing xs) (length xs) k)) c)
   no_other_list E n j e f same = ⊎_elim (λ w. inl (nil_from_length xs (sym w.0))) (λ c. inr (subst (λ z. (c : Collision D) × Collides s.hashing z (all_inputs s (length xs) k (list_expression s (leaf_of s.hashing xs) (length xs) k)) c) (sym inputs) c))

@@ -14,7 +14,8 @@ use Rattle.merkle_root_theory.specs.Claim.{InTree}
 use Rattle.merkle_claim_theory.specs.Order.{Distinct}
 use Rattle.merkle_claim_theory.specs.MultiClaim.{or_empty, TellsTree, Tells, SameTree, SameLeaves}
 use Rattle.merkle_claim_theory.specs.Complete.{HonestTree, HonestPlan}
-use Rattle.merkle_root_theory.specs.Check.{Setting, root_of, list_expression}
+use Rattle.merkle_root_theory.specs.Check.{root_of, list_expression}
+use Rattle.merkle_base.specs.Scheme.{Scheme}
 use Rattle.merkle_base.specs.Places.{peaks_of}
 use Rattle.merkle_root_theory.specs.Range.{leaf_of, plan_root, Sound}
 use Rattle.merkle_claim_theory.specs.Table.{digest_for, digest_of, digest_at_position}
@@ -99,7 +100,7 @@ told_some e (Some x) d q = q
 pub if_some : {D : Type 0} (o : Option D) (x y : D) → x ≡ y → IfSome o (λ d. d ≡ x) → IfSome o (λ d. d ≡ y)
 if_some o x y e w = subst (λ z. IfSome o (λ d. d ≡ z)) e w
 
-module _ {D : Type 0} (s : Setting D) (xs : List D) (locations : List ℕ) where
+module _ {D : Type 0} (s : Scheme D) (xs : List D) (locations : List ℕ) where
   n : ℕ
   n = length xs
 
@@ -210,7 +211,7 @@ pub first_location : {D : Type 0} (es : List (ℕ × D)) → 0 < length es → (
 first_location [] l = absurd (omega arith)
 first_location (e ∷ es) l = (e.0, inl refl)
 
-module _ {D : Type 0} (s : Setting D) (size max_nodes : ℕ) (sound : Sound s size max_nodes) (xs : List D) (k : ℕ) (few : length xs ≤ s.max_leaves) (low : k ≤ length (peaks_of s.rule (length xs))) (r : MultiInput D) where
+module _ {D : Type 0} (s : Scheme D) (size max_nodes : ℕ) (sound : Sound s size max_nodes) (xs : List D) (k : ℕ) (few : length xs ≤ s.max_leaves) (low : k ≤ length (peaks_of s.rule (length xs))) (r : MultiInput D) where
   same_length : length (leaves_in r) ≡ length (locations_in r)
   same_length = length-map r.elements _ ∙ sym (length-map r.elements _)
 

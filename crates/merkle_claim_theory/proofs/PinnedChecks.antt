@@ -19,7 +19,8 @@ use Rattle.merkle_claim_theory.specs.Order.{Distinct}
 use Rattle.merkle_claim_theory.specs.MultiClaim.{or_empty}
 use Rattle.merkle_claim_theory.specs.PinnedClaim.{pinned_of, PinsTree, PinsPlan, PinsAll, PinsTrees}
 use Rattle.merkle_root_theory.specs.Outside.{fold_all, bag_all, layout, Unmet, HasLayout}
-use Rattle.merkle_root_theory.specs.Check.{Setting, root_of, list_expression, RangeInput, chosen, leaf_given}
+use Rattle.merkle_root_theory.specs.Check.{root_of, list_expression, RangeInput, chosen, leaf_given}
+use Rattle.merkle_base.specs.Scheme.{Scheme}
 use Rattle.merkle_base.specs.Places.{peaks_of, wholly_before}
 use Rattle.merkle_root_theory.specs.Range.{in_range, end_of, overlapping, wholly_after, range_parts, range_siblings, leaf_of, plan_root, Sound, IsHonestSome}
 use Rattle.merkle_claim_theory.specs.Table.{digest_for, digest_of}
@@ -80,7 +81,7 @@ position_member [] p m = elim m [ ]
 position_member (t ∷ ts) p (inl e) = (t, inl refl, e)
 position_member (t ∷ ts) p (inr m) = let w = position_member ts p m in (w.0, inr w.1, w.2)
 
-module _ {D : Type 0} (s : Setting D) (n start : ℕ) (l : start ≤ n) where
+module _ {D : Type 0} (s : Scheme D) (n start : ℕ) (l : start ≤ n) where
   abbrev ns : List Tree
   ns = (forest s.rule n).nodes
 
@@ -146,7 +147,7 @@ some_match (Some d) P Q f w = w
 none≢some : {D : Type 0} (d : D) → None ≡ Some d → ⊥
 none≢some d e = cc
 
-module _ {D : Type 0} (s : Setting D) (n start e : ℕ) (l : start ≤ n) (more : start < e) (X : ℕ → D) where
+module _ {D : Type 0} (s : Scheme D) (n start e : ℕ) (l : start ≤ n) (more : start < e) (X : ℕ → D) where
   abbrev nodes : List Tree
   nodes = (forest s.rule n).nodes
 
@@ -322,7 +323,7 @@ module _ {D : Type 0} (h : Hashing D) (b : ℕ → Option D) (X : ℕ → D) whe
     of_siblings c [] v = tt
     of_siblings c (t ∷ ts) v = pins_trees_append h b X w (siblings c t) (flat_map (siblings c) ts) v.0 (of_siblings c ts v.1)
 
-module _ {D : Type 0} (s : Setting D) (n start e : ℕ) (l : start ≤ n) (more : start < e) (X : ℕ → D) where
+module _ {D : Type 0} (s : Scheme D) (n start e : ℕ) (l : start ≤ n) (more : start < e) (X : ℕ → D) where
   abbrev ts : List Tree
   ts = peaks_of s.rule n
 
@@ -401,7 +402,7 @@ each_in_plan : (P : ℕ → Type 0) (p : Plan) → ((i : ℕ) → InPlan p i →
 each_in_plan P (peak t) g = g
 each_in_plan P (folding place l r) g = (each_in_plan P l (λ i m. g i (inl m)), each_in_plan P r (λ i m. g i (inr m)))
 
-module _ {D : Type 0} (s : Setting D) (size max_nodes : ℕ) (sound : Sound s size max_nodes) (xs : List D) (k : ℕ) (few : length xs ≤ s.max_leaves) (low : k ≤ length (peaks_of s.rule (length xs))) (r : RangeInput D) (pins : List D) where
+module _ {D : Type 0} (s : Scheme D) (size max_nodes : ℕ) (sound : Sound s size max_nodes) (xs : List D) (k : ℕ) (few : length xs ≤ s.max_leaves) (low : k ≤ length (peaks_of s.rule (length xs))) (r : RangeInput D) (pins : List D) where
   abbrev Z : ℕ → D
   Z = leaf_of s.hashing xs
 

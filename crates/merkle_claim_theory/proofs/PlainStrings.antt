@@ -6,7 +6,8 @@ use Rattle.merkle_base.specs.Digests.{digest_at}
 use Rattle.merkle_root_theory.specs.Expression.{Place, Root, Join, PrefixFold, SuffixFold, Node, Argument, Pair, Bytes, Expression, digest_of_argument}
 use Rattle.merkle_root_theory.specs.Collision.{Collision, Collides}
 use Rattle.merkle_root_theory.specs.RootString.{ByteLaws}
-use Rattle.merkle_root_theory.specs.Check.{Setting, all_inputs, list_expression, range_expression}
+use Rattle.merkle_root_theory.specs.Check.{all_inputs, list_expression, range_expression}
+use Rattle.merkle_base.specs.Scheme.{Scheme}
 use Rattle.merkle_root_theory.specs.Range.{leaf_of, list_inputs}
 use Rattle.merkle_claim_theory.specs.Multiproof.{multi_expression}
 use Rattle.merkle_claim_theory.specs.Pinned.{pinned_expression}
@@ -67,7 +68,7 @@ node_collision h plain size laws X Y p l r k = record {
 }
 
 -- ---- of what is hashed for the checks
-module _ {D : Type 0} (s : Setting D) (plain : IsPlain s.hashing) (size : ℕ) (laws : ByteLaws s.hashing size) where
+module _ {D : Type 0} (s : Scheme D) (plain : IsPlain s.hashing) (size : ℕ) (laws : ByteLaws s.hashing size) where
   computed_collision : (n m k j : ℕ) (e f : Option (Expression D)) → AllRootless s.hashing e → AllRootless s.hashing f → (c : Collision D) → Collides s.hashing (all_inputs s n k e) (all_inputs s m j f) c
       → IsHashCollision s.hashing.hash (string_at s.hashing.bytes c.place c.claimed) (string_at s.hashing.bytes c.place c.listed)
   computed_collision n m k j e f v w c d = plain_collision s.hashing plain size laws _ _ c (one_form s s n m k j e f v w c.place c.claimed c.listed d.claimed d.listed) d

@@ -8,7 +8,8 @@ use Rattle.merkle_base.specs.Hashing.{Hashing}
 use Rattle.merkle_root_theory.specs.Plan.{Plan, peak, folding, whole, tree_meets, meets, siblings, outer, inner}
 use Rattle.merkle_root_theory.specs.Claim.{next, tree_claim, claim, claim_of}
 use Rattle.merkle_root_theory.specs.Outside.{HasLayout}
-use Rattle.merkle_root_theory.specs.Check.{Setting, RangeInput, chosen, leaf_given, range_expression}
+use Rattle.merkle_root_theory.specs.Check.{RangeInput, chosen, leaf_given, range_expression}
+use Rattle.merkle_base.specs.Scheme.{Scheme}
 use Rattle.merkle_base.specs.Places.{peaks_of}
 use Rattle.merkle_base.specs.Root.{root_string}
 use Rattle.merkle_root_theory.specs.Range.{end_of, range_parts, range_siblings, AcceptsSome}
@@ -88,7 +89,7 @@ module _ {D : Type 0} (h : Hashing D) (c d : ℕ → Bool) (Y Z : ℕ → D) (wi
       ∙ sym (ap (λ b. value h (cond b (hashed place (claim h c Y l os is) (claim h c Y r os' is')) (given (next h os)))) (meets_sub_plan (folding place l r) q)))
       (λ _ e f. ap (next h) e)
 
-module _ {D : Type 0} (s : Setting D) (r q : RangeInput D) (root : D) (ok : AcceptsSome s r root) (part : IsPartOf s r q) where
+module _ {D : Type 0} (s : Scheme D) (r q : RangeInput D) (root : D) (ok : AcceptsSome s r root) (part : IsPartOf s r q) where
   abbrev plan : (p : Plan) × (whole s.bagging r.inactive (peaks_of s.rule r.leaves) ≡ Some p)
   plan = plan_for s r.leaves r.inactive (omega (arith, ok.some, ok.within))
 

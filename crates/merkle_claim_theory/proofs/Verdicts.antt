@@ -14,7 +14,7 @@ use Rattle.merkle_base.specs.Hashing.{Hashing, TellsApart}
 use Rattle.merkle_root_theory.specs.Collision.{Member, Collision, Collides}
 use Rattle.merkle_claim_theory.specs.FirstCollision.{first_collision, IsFirstCollision}
 use Rattle.merkle_claim_theory.specs.Order.{node_places, Distinct}
-use Rattle.merkle_root_theory.specs.Check.{Setting}
+use Rattle.merkle_base.specs.Scheme.{Scheme}
 use Rattle.merkle_base.specs.Places.{peaks_of}
 use Rattle.merkle_root_theory.specs.Range.{leaf_of}
 use Rattle.merkle_claim_theory.specs.Verdict.{Verdicts, CheckDecides}
@@ -68,7 +68,7 @@ module _ (ns : List Tree) where
       let u = node_in t x m in let y = nodes_in ts x w in let v = node_in y.0 x y.2 in let by = all_member (IsBuilt ns) ts y.0 h.1 y.1 in
       apart_under t y.0 u.0 v.0 h.0 by u.1 v.1 (under_both t y.0 u.0 v.0 x h.0 by u.1 v.1 u.2 v.2) (omega (arith, c.0, spans_first (o + width t) n ts y.0 c.1 y.1)))
 
-pub distinct_nodes : {D : Type 0} (s : Setting D) (n : ℕ) → Distinct (flat_map node_places (peaks_of s.rule n))
+pub distinct_nodes : {D : Type 0} (s : Scheme D) (n : ℕ) → Distinct (flat_map node_places (peaks_of s.rule n))
 distinct_nodes s n = distinct_peaks (forest s.rule n).nodes 0 n (peaks_of s.rule n) (peaks_spans s.rule n) (peaks_built s.rule n)
 
 -- ---- verdicts

@@ -9,7 +9,8 @@ use Rattle.merkle_root_theory.specs.Expression.{Expression, Holds}
 use Rattle.merkle_root_theory.specs.Collision.{Collision, Collides}
 use Rattle.merkle_root_theory.specs.Plan.{Plan, whole, siblings}
 use Rattle.merkle_claim_theory.specs.MultiClaim.{multi_claim}
-use Rattle.merkle_root_theory.specs.Check.{Setting, root_of, all_inputs, list_expression}
+use Rattle.merkle_root_theory.specs.Check.{root_of, all_inputs, list_expression}
+use Rattle.merkle_base.specs.Scheme.{Scheme}
 use Rattle.merkle_base.specs.Places.{peaks_of}
 use Rattle.merkle_root_theory.specs.Range.{leaf_of, plan_root, Sound}
 use Rattle.merkle_claim_theory.specs.Table.{digest_for, digest_at_position}
@@ -23,7 +24,7 @@ abbrev pub is_one_leaf_position : List Tree → ℕ → ℕ → Bool
 is_one_leaf_position ts p i = list_any (λ t. nat_eq (position t) p) (one_leaf_nodes i ts)
 
 -- their positions for some locations, ascending, each once
-abbrev pub multi_positions : {D : Type 0} → Setting D → ℕ → List ℕ → List ℕ
+abbrev pub multi_positions : {D : Type 0} → Scheme D → ℕ → List ℕ → List ℕ
 multi_positions s n locations = filter (λ p. list_any (is_one_leaf_position (peaks_of s.rule n) p) locations) (range_with_len 0 (size s.rule n))
 
 -- a proof with leaf digests at locations
@@ -42,21 +43,21 @@ abbrev pub leaves_in : {D : Type 0} → MultiInput D → List D
 leaves_in r = map (λ e. e.1) r.elements
 
 -- what the check computes of a plan
-abbrev pub multi_on : {D : Type 0} → Setting D → MultiInput D → Plan → Expression D
+abbrev pub multi_on : {D : Type 0} → Scheme D → MultiInput D → Plan → Expression D
 multi_on s r p = multi_claim s.hashing (digest_for (multi_positions s r.leaves (locations_in r)) r.digests) (λ i. list_any (nat_eq i) (locations_in r))
     (λ i. unwrap_or (digest_for (locations_in r) (leaves_in r) i) s.hashing.empty) p
 
 -- what the check computes, if there are peaks
-abbrev pub multi_expression : {D : Type 0} → Setting D → MultiInput D → Option (Expression D)
+abbrev pub multi_expression : {D : Type 0} → Scheme D → MultiInput D → Option (Expression D)
 multi_expression s r = option_map (multi_on s r) (whole s.bagging r.inactive (peaks_of s.rule r.leaves))
 
 -- each digest that is also computed is the computed one
-abbrev pub AllHolds : {D : Type 0} → Setting D → Option (Expression D) → Type 0
+abbrev pub AllHolds : {D : Type 0} → Scheme D → Option (Expression D) → Type 0
 AllHolds s None = Unit {0}
 AllHolds s (Some e) = Holds s.hashing e
 
 -- an accepted input with elements
-pub record AcceptsMultiSome {D : Type 0} (s : Setting D) (r : MultiInput D) (root : D) : Type 0 where
+pub record AcceptsMultiSome {D : Type 0} (s : Scheme D) (r : MultiInput D) (root : D) : Type 0 where
   pub some : 0 < length r.elements
   pub ascend : AscendsFrom 0 (locations_in r)
   pub below : AllByRecursion (λ i. i < r.leaves) (locations_in r)
@@ -74,11 +75,11 @@ pub record IsEmptyMulti {D : Type 0} (r : MultiInput D) : Type 0 where
   pub digests : r.digests ≡ []
 
 -- an accepted input
-abbrev pub AcceptsMulti : {D : Type 0} → Setting D → MultiInput D → D → Type 0
+abbrev pub AcceptsMulti : {D : Type 0} → Scheme D → MultiInput D → D → Type 0
 AcceptsMulti s r root = AcceptsMultiSome s r root ⊎ (IsEmptyMulti r × (root_of s 0 0 None ≡ root))
 
 -- the honest multi-proof of a list for strictly ascending locations, with the leaves there
-pub record IsHonestMultiSome {D : Type 0} (s : Setting D) (xs : List D) (k : ℕ) (r : MultiInput D) : Type 0 where
+pub record IsHonestMultiSome {D : Type 0} (s : Scheme D) (xs : List D) (k : ℕ) (r : MultiInput D) : Type 0 where
   pub some : 0 < length r.elements
   pub ascend : AscendsFrom 0 (locations_in r)
   pub below : AllByRecursion (λ i. i < length xs) (locations_in r)
@@ -88,25 +89,25 @@ pub record IsHonestMultiSome {D : Type 0} (s : Setting D) (xs : List D) (k : ℕ
   pub elements : leaves_in r ≡ map (leaf_of s.hashing xs) (locations_in r)
 
 -- an honest input: with elements, or the empty one of the empty list
-abbrev pub IsHonestMulti : {D : Type 0} → Setting D → List D → ℕ → MultiInput D → Type 0
+abbrev pub IsHonestMulti : {D : Type 0} → Scheme D → List D → ℕ → MultiInput D → Type 0
 IsHonestMulti s xs k r = IsHonestMultiSome s xs k r ⊎ (IsEmptyMulti r × (xs ≡ []))
 
 -- a collision of a multi input with the list
-abbrev pub MultiCollides : {D : Type 0} → Setting D → MultiInput D → List D → ℕ → Type 0
+abbrev pub MultiCollides : {D : Type 0} → Scheme D → MultiInput D → List D → ℕ → Type 0
 MultiCollides {D = D} s r xs k = (c : Collision D) × Collides s.hashing (all_inputs s r.leaves r.inactive (multi_expression s r)) (all_inputs s (length xs) k (list_expression s (leaf_of s.hashing xs) (length xs) k)) c
 
 -- the honest inputs are accepted
 abbrev pub HonestMultiIsAccepted : Type 0 → Type 0
-HonestMultiIsAccepted D = (s : Setting D) (size max_nodes : ℕ) → Sound s size max_nodes → (xs : List D) (k : ℕ) → length xs ≤ s.max_leaves → k ≤ length (peaks_of s.rule (length xs)) → (r : MultiInput D)
+HonestMultiIsAccepted D = (s : Scheme D) (size max_nodes : ℕ) → Sound s size max_nodes → (xs : List D) (k : ℕ) → length xs ≤ s.max_leaves → k ≤ length (peaks_of s.rule (length xs)) → (r : MultiInput D)
     → IsHonestMulti s xs k r → AcceptsMulti s r (plan_root s xs k)
 
 -- and no others, but for collisions
 abbrev pub AcceptedMultiIsHonest : Type 0 → Type 0
-AcceptedMultiIsHonest D = (s : Setting D) (size max_nodes : ℕ) → Sound s size max_nodes → (xs : List D) (k : ℕ) → length xs ≤ s.max_leaves → k ≤ length (peaks_of s.rule (length xs)) → (r : MultiInput D)
+AcceptedMultiIsHonest D = (s : Scheme D) (size max_nodes : ℕ) → Sound s size max_nodes → (xs : List D) (k : ℕ) → length xs ≤ s.max_leaves → k ≤ length (peaks_of s.rule (length xs)) → (r : MultiInput D)
     → AcceptsMulti s r (plan_root s xs k) → IsHonestMulti s xs k r ⊎ MultiCollides s r xs k
 
 -- at most 122 positions for each location
 abbrev pub AtMost122 : Type 0 → Type 0
-AtMost122 D = (s : Setting D) (max_nodes : ℕ) → IsLawful s.rule s.max_leaves max_nodes → (n : ℕ) → n ≤ s.max_leaves
+AtMost122 D = (s : Scheme D) (max_nodes : ℕ) → IsLawful s.rule s.max_leaves max_nodes → (n : ℕ) → n ≤ s.max_leaves
     → ((i : ℕ) → i < length (peak_heights s.rule n) → slice_index (peak_heights s.rule n) i + length (peak_heights s.rule n) ≤ 123)
     → (locations : List ℕ) → AllByRecursion (λ i. i < n) locations → length (multi_positions s n locations) ≤ 122 * length locations

@@ -5,26 +5,27 @@ use Rattle.merkle_root_theory.specs.Expression.{Expression}
 use Rattle.merkle_root_theory.specs.Collision.{Collision, Collides}
 use Rattle.merkle_root_theory.specs.Plan.{Plan, whole, tree_digest}
 use Rattle.merkle_claim_theory.specs.PinnedClaim.{pinned_of}
-use Rattle.merkle_root_theory.specs.Check.{Setting, root_of, all_inputs, list_expression, RangeInput, chosen, leaf_given}
+use Rattle.merkle_root_theory.specs.Check.{root_of, all_inputs, list_expression, RangeInput, chosen, leaf_given}
+use Rattle.merkle_base.specs.Scheme.{Scheme}
 use Rattle.merkle_base.specs.Places.{peaks_of}
 use Rattle.merkle_root_theory.specs.Range.{in_range, end_of, range_parts, range_siblings, leaf_of, plan_root, Sound, IsEmptyInput, IsHonestSome}
 use Rattle.merkle_claim_theory.specs.Table.{digest_for}
 use Rattle.merkle_claim_theory.specs.Multiproof.{AllHolds}
 
 -- where the pins stand: the peaks over the leaves before start
-abbrev pub pin_positions : {D : Type 0} → Setting D → ℕ → List ℕ
+abbrev pub pin_positions : {D : Type 0} → Scheme D → ℕ → List ℕ
 pin_positions s start = map position (peaks_of s.rule start)
 
 -- what the check computes of a plan
-abbrev pub pinned_on : {D : Type 0} → Setting D → RangeInput D → List D → Plan → Expression D
+abbrev pub pinned_on : {D : Type 0} → Scheme D → RangeInput D → List D → Plan → Expression D
 pinned_on s r pins p = pinned_of s.hashing (digest_for (pin_positions s r.start) pins) (in_range 0 r.start) (chosen r) (leaf_given s.hashing r) p r.digests
 
 -- what the check computes, if there are peaks
-abbrev pub pinned_expression : {D : Type 0} → Setting D → RangeInput D → List D → Option (Expression D)
+abbrev pub pinned_expression : {D : Type 0} → Scheme D → RangeInput D → List D → Option (Expression D)
 pinned_expression s r pins = option_map (pinned_on s r pins) (whole s.bagging r.inactive (peaks_of s.rule r.leaves))
 
 -- an accepted input with elements
-pub record AcceptsPinnedSome {D : Type 0} (s : Setting D) (r : RangeInput D) (pins : List D) (root : D) : Type 0 where
+pub record AcceptsPinnedSome {D : Type 0} (s : Scheme D) (r : RangeInput D) (pins : List D) (root : D) : Type 0 where
   pub some : 0 < length r.elements
   pub within : end_of r ≤ r.leaves
   pub leaves : r.leaves ≤ s.max_leaves
@@ -35,31 +36,31 @@ pub record AcceptsPinnedSome {D : Type 0} (s : Setting D) (r : RangeInput D) (pi
   pub root_is : root_of s r.leaves r.inactive (pinned_expression s r pins) ≡ root
 
 -- an accepted input
-abbrev pub AcceptsPinned : {D : Type 0} → Setting D → RangeInput D → List D → D → Type 0
+abbrev pub AcceptsPinned : {D : Type 0} → Scheme D → RangeInput D → List D → D → Type 0
 AcceptsPinned s r pins root = AcceptsPinnedSome s r pins root ⊎ ((IsEmptyInput r × (pins ≡ [])) × (root_of s 0 0 None ≡ root))
 
 -- the digests of the peaks over the first leaves of a list, oldest first
-abbrev pub honest_pins : {D : Type 0} → Setting D → List D → ℕ → List D
+abbrev pub honest_pins : {D : Type 0} → Scheme D → List D → ℕ → List D
 honest_pins s xs start = map (tree_digest s.hashing (leaf_of s.hashing xs)) (peaks_of s.rule start)
 
 -- an honest input with honest pins: with elements, or the empty one of the empty list
-abbrev pub IsHonestPinned : {D : Type 0} → Setting D → List D → ℕ → RangeInput D → List D → Type 0
+abbrev pub IsHonestPinned : {D : Type 0} → Scheme D → List D → ℕ → RangeInput D → List D → Type 0
 IsHonestPinned s xs k r pins = (IsHonestSome s xs k r × (pins ≡ honest_pins s xs r.start)) ⊎ ((IsEmptyInput r × (pins ≡ [])) × (xs ≡ []))
 
 -- a collision of a pinned input with the list
-abbrev pub PinnedCollides : {D : Type 0} → Setting D → RangeInput D → List D → List D → ℕ → Type 0
+abbrev pub PinnedCollides : {D : Type 0} → Scheme D → RangeInput D → List D → List D → ℕ → Type 0
 PinnedCollides {D = D} s r pins xs k = (c : Collision D) × Collides s.hashing (all_inputs s r.leaves r.inactive (pinned_expression s r pins)) (all_inputs s (length xs) k (list_expression s (leaf_of s.hashing xs) (length xs) k)) c
 
 -- the honest inputs are accepted
 abbrev pub HonestPinnedIsAccepted : Type 0 → Type 0
-HonestPinnedIsAccepted D = (s : Setting D) (size max_nodes : ℕ) → Sound s size max_nodes → (xs : List D) (k : ℕ) → length xs ≤ s.max_leaves → k ≤ length (peaks_of s.rule (length xs)) → (r : RangeInput D) (pins : List D)
+HonestPinnedIsAccepted D = (s : Scheme D) (size max_nodes : ℕ) → Sound s size max_nodes → (xs : List D) (k : ℕ) → length xs ≤ s.max_leaves → k ≤ length (peaks_of s.rule (length xs)) → (r : RangeInput D) (pins : List D)
     → IsHonestPinned s xs k r pins → AcceptsPinned s r pins (plan_root s xs k)
 
 -- and no others, but for collisions
 abbrev pub AcceptedPinnedIsHonest : Type 0 → Type 0
-AcceptedPinnedIsHonest D = (s : Setting D) (size max_nodes : ℕ) → Sound s size max_nodes → (xs : List D) (k : ℕ) → length xs ≤ s.max_leaves → k ≤ length (peaks_of s.rule (length xs)) → (r : RangeInput D) (pins : List D)
+AcceptedPinnedIsHonest D = (s : Scheme D) (size max_nodes : ℕ) → Sound s size max_nodes → (xs : List D) (k : ℕ) → length xs ≤ s.max_leaves → k ≤ length (peaks_of s.rule (length xs)) → (r : RangeInput D) (pins : List D)
     → AcceptsPinned s r pins (plan_root s xs k) → IsHonestPinned s xs k r pins ⊎ PinnedCollides s r pins xs k
 
 -- the honest pins are the peak digests of the list's first leaves
 abbrev pub PinsAreOldPeaks : Type 0 → Type 0
-PinsAreOldPeaks D = (s : Setting D) (xs : List D) (start : ℕ) → start ≤ length xs → honest_pins s xs start ≡ map (tree_digest s.hashing (leaf_of s.hashing (take start xs))) (peaks_of s.rule start)
+PinsAreOldPeaks D = (s : Scheme D) (xs : List D) (start : ℕ) → start ≤ length xs → honest_pins s xs start ≡ map (tree_digest s.hashing (leaf_of s.hashing (take start xs))) (peaks_of s.rule start)

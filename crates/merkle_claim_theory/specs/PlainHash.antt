@@ -10,7 +10,8 @@ use Rattle.merkle_root_theory.specs.Expression.{Place, Root, Join, PrefixFold, S
 use Rattle.merkle_root_theory.specs.Collision.{Collision, Collides}
 use Rattle.merkle_root_theory.specs.RootString.{ByteLaws}
 use Rattle.merkle_root_theory.specs.RootNames.{RootsCollide}
-use Rattle.merkle_root_theory.specs.Check.{Setting, RangeInput, range_inputs}
+use Rattle.merkle_root_theory.specs.Check.{RangeInput, range_inputs}
+use Rattle.merkle_base.specs.Scheme.{Scheme}
 use Rattle.merkle_root_theory.specs.Range.{list_inputs}
 use Rattle.merkle_claim_theory.specs.Multiproof.{MultiInput}
 use Rattle.merkle_claim_theory.specs.Verdict.{multi_inputs, pinned_inputs}
@@ -61,25 +62,25 @@ PlainCollision D = (h : Hashing D) → IsPlain h → (size : ℕ) → ByteLaws h
 
 -- so does each collision of a range input with a list
 abbrev pub RangeCollision : Type 0 → Type 0
-RangeCollision D = (s : Setting D) → IsPlain s.hashing → (size : ℕ) → ByteLaws s.hashing size → (r : RangeInput D) (xs : List D) (k : ℕ)
+RangeCollision D = (s : Scheme D) → IsPlain s.hashing → (size : ℕ) → ByteLaws s.hashing size → (r : RangeInput D) (xs : List D) (k : ℕ)
     → (c : Collision D) → Collides s.hashing (range_inputs s r) (list_inputs s xs k) c
     → IsHashCollision s.hashing.hash (string_at s.hashing.bytes c.place c.claimed) (string_at s.hashing.bytes c.place c.listed)
 
 -- of a multi input with a list
 abbrev pub MultiCollision : Type 0 → Type 0
-MultiCollision D = (s : Setting D) → IsPlain s.hashing → (size : ℕ) → ByteLaws s.hashing size → (r : MultiInput D) (xs : List D) (k : ℕ)
+MultiCollision D = (s : Scheme D) → IsPlain s.hashing → (size : ℕ) → ByteLaws s.hashing size → (r : MultiInput D) (xs : List D) (k : ℕ)
     → (c : Collision D) → Collides s.hashing (multi_inputs s r) (list_inputs s xs k) c
     → IsHashCollision s.hashing.hash (string_at s.hashing.bytes c.place c.claimed) (string_at s.hashing.bytes c.place c.listed)
 
 -- of a pinned input with a list
 abbrev pub PinnedCollision : Type 0 → Type 0
-PinnedCollision D = (s : Setting D) → IsPlain s.hashing → (size : ℕ) → ByteLaws s.hashing size → (r : RangeInput D) (pins xs : List D) (k : ℕ)
+PinnedCollision D = (s : Scheme D) → IsPlain s.hashing → (size : ℕ) → ByteLaws s.hashing size → (r : RangeInput D) (pins xs : List D) (k : ℕ)
     → (c : Collision D) → Collides s.hashing (pinned_inputs s r pins) (list_inputs s xs k) c
     → IsHashCollision s.hashing.hash (string_at s.hashing.bytes c.place c.claimed) (string_at s.hashing.bytes c.place c.listed)
 
 -- of two range inputs
 abbrev pub PairCollision : Type 0 → Type 0
-PairCollision D = (s : Setting D) → IsPlain s.hashing → (size : ℕ) → ByteLaws s.hashing size → (r q : RangeInput D)
+PairCollision D = (s : Scheme D) → IsPlain s.hashing → (size : ℕ) → ByteLaws s.hashing size → (r q : RangeInput D)
     → (c : Collision D) → Collides s.hashing (range_inputs s r) (range_inputs s q) c
     → IsHashCollision s.hashing.hash (string_at s.hashing.bytes c.place c.claimed) (string_at s.hashing.bytes c.place c.listed)
 

@@ -5,7 +5,8 @@ use Rattle.merkle_base.specs.declared.family.Bagging.TheVariants.{ForwardFold, B
 use Rattle.merkle_forest_theory.specs.Rows.{unhashed, unmerged}
 use Rattle.merkle_root_theory.specs.Expression.{Input}
 use Rattle.merkle_root_theory.specs.Plan.{Plan, peak}
-use Rattle.merkle_root_theory.specs.Check.{Setting, RangeInput, all_inputs, list_expression, range_expression}
+use Rattle.merkle_root_theory.specs.Check.{RangeInput, all_inputs, list_expression, range_expression}
+use Rattle.merkle_base.specs.Scheme.{Scheme}
 use Rattle.merkle_root_theory.specs.Range.{leaf_of}
 use Rattle.merkle_claim_theory.specs.ThreeLeaves.{xor_hashing}
 
@@ -32,11 +33,11 @@ paired (h ∷ []) = []
 paired (h ∷ a ∷ hs) = cond (h == a) (0 ∷ []) []
 
 -- up to three leaves, none merged; the hash of bytes is their exclusive or
-abbrev pub small : Setting ℕ
+abbrev pub small : Scheme ℕ
 small = record { hashing = record xor_hashing { hash = fold bit_xor 0 }; rule = λ hs. []; max_leaves = 3; bagging = ForwardFold; domain = 0 }
 
 -- the same under another family's byte
-abbrev pub other_family : Setting ℕ
+abbrev pub other_family : Scheme ℕ
 other_family = record small { domain = 1 }
 
 -- a proof of the middle one of three leaves, whose digest is 3, with that inactive count and these digests
@@ -44,7 +45,7 @@ abbrev pub middle : ℕ → List ℕ → RangeInput ℕ
 middle inactive digests = record { leaves = 3; inactive = inactive; digests = digests; start = 1; elements = 3 ∷ [] }
 
 -- up to three leaves of family 8, none merged, folded right to left; nothing is hashed, so that a root is its string
-abbrev pub bare : Setting (List ℕ)
+abbrev pub bare : Scheme (List ℕ)
 bare = record { hashing = unhashed; rule = unmerged; max_leaves = 3; bagging = BackwardFold; domain = 8 }
 
 -- such a root of three leaves with the digest 5

@@ -5,7 +5,8 @@ use Rattle.merkle_root_theory.specs.Expression.{value}
 use Rattle.merkle_base.specs.Hashing.{Hashing}
 use Rattle.merkle_root_theory.specs.Plan.{Plan, peak, folding, whole, tree_meets, meets, siblings, outer, inner}
 use Rattle.merkle_root_theory.specs.Claim.{tree_claim, claim}
-use Rattle.merkle_root_theory.specs.Check.{Setting, RangeInput, chosen, leaf_given}
+use Rattle.merkle_root_theory.specs.Check.{RangeInput, chosen, leaf_given}
+use Rattle.merkle_base.specs.Scheme.{Scheme}
 use Rattle.merkle_base.specs.Places.{peaks_of}
 use Rattle.merkle_root_theory.specs.Range.{end_of, AcceptsSome}
 use Rattle.merkle_root_theory.specs.Collision.{Member}
@@ -35,14 +36,14 @@ sub_inner h c d X (folding place l r) os is = cond (meets d l || meets d r)
     []
 
 -- the digests of the proof of q's range, read off the claim of r
-abbrev pub sub_digests : {D : Type 0} → Setting D → RangeInput D → RangeInput D → Option Plan → List D
+abbrev pub sub_digests : {D : Type 0} → Scheme D → RangeInput D → RangeInput D → Option Plan → List D
 sub_digests s r q None = []
 sub_digests s r q (Some p) =
     sub_outer s.hashing (chosen r) (chosen q) (leaf_given s.hashing r) p r.digests (drop (length (outer (chosen r) p)) r.digests)
     ++ sub_inner s.hashing (chosen r) (chosen q) (leaf_given s.hashing r) p r.digests (drop (length (outer (chosen r) p)) r.digests)
 
 -- q proves a part of r's range with digests read off r's claim
-pub record IsPartOf {D : Type 0} (s : Setting D) (r q : RangeInput D) : Type 0 where
+pub record IsPartOf {D : Type 0} (s : Scheme D) (r q : RangeInput D) : Type 0 where
   pub some : 0 < length q.elements
   pub from : r.start ≤ q.start
   pub to : end_of q ≤ end_of r
@@ -53,7 +54,7 @@ pub record IsPartOf {D : Type 0} (s : Setting D) (r q : RangeInput D) : Type 0 w
 
 -- what proves a range proves its parts, whatever the hash
 abbrev pub PartIsAccepted : Type 0 → Type 0
-PartIsAccepted D = (s : Setting D) (r q : RangeInput D) (root : D) → AcceptsSome s r root → IsPartOf s r q → AcceptsSome s q root
+PartIsAccepted D = (s : Scheme D) (r q : RangeInput D) (root : D) → AcceptsSome s r root → IsPartOf s r q → AcceptsSome s q root
 
 -- the digest of the first pair at a position
 abbrev pub read_pair : {D : Type 0} → Hashing D → List (ℕ × D) → ℕ → D

@@ -3,7 +3,7 @@ use Rattle.std.specs.Prelude.{ℕ, cond, nat_eq, List, [], ◌∷◌, Option, So
 use Rattle.merkle_base.specs.Forest.{forest}
 use Rattle.merkle_base.specs.Hashing.{Hashing}
 use Rattle.merkle_root_theory.specs.Plan.{tree_digest}
-use Rattle.merkle_root_theory.specs.Check.{Setting}
+use Rattle.merkle_base.specs.Scheme.{Scheme}
 use Rattle.merkle_root_theory.specs.Range.{leaf_of}
 use Rattle.merkle_base.specs.Tree.{Tree}
 
@@ -19,5 +19,5 @@ digest_of h X None = h.empty
 digest_of h X (Some t) = tree_digest h X t
 
 -- a list's digest at a position
-abbrev pub digest_at_position : {D : Type 0} → Setting D → List D → ℕ → D
+abbrev pub digest_at_position : {D : Type 0} → Scheme D → List D → ℕ → D
 digest_at_position s xs p = digest_of s.hashing (leaf_of s.hashing xs) (slice_get (forest s.rule (length xs)).nodes p)

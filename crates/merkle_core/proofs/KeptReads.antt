@@ -12,8 +12,7 @@ use Rattle.merkle_base.specs.declared.error.Error.{Error}
 use Rattle.merkle_base.specs.declared.error.Error.TheVariants.{OutOfMemory}
 use Rattle.merkle_base.specs.declared.family.Bagging.{Bagging}
 use Rattle.merkle_base.proofs.Nodes.{all_append}
-use Rattle.merkle_root_theory.specs.Check.{Setting}
-use Rattle.merkle_proof.specs.Input.{setting}
+use Rattle.merkle_base.specs.Scheme.{Scheme, scheme_of}
 use Rattle.merkle_root_theory.specs.Plan.{siblings, tree_meets}
 use Rattle.merkle_root_theory.specs.Range.{in_range, overlapping, wholly_after, range_siblings}
 use Rattle.merkle_proof.specs.RangePlans.{IsBuildRefusal, IsFirstMissing, nodes_read, reading_order}
@@ -72,7 +71,7 @@ module _ (rule : List ℕ → List ℕ) (boundary n : ℕ) (within : boundary �
   position_kept (t ∷ ts) k (d ∷ done) rest p e = let more : map position ts ≡ done ++ p ∷ rest = cc in position_kept ts k.1 done rest p more
 
 -- nothing that such a proof reads is missing
-pub none_missing : {D : Type 0} (s : Setting D) (h : Hashing D) (c : Contents D) (X : List D) → Agrees h s.rule c X → (k a b p : ℕ) → c.boundary ≤ a → IsFirstMissing (λ q r. r ≡ c.node q) (map position (reading_order s.bagging k s.rule (length X) a b)) p → ⊥
+pub none_missing : {D : Type 0} (s : Scheme D) (h : Hashing D) (c : Contents D) (X : List D) → Agrees h s.rule c X → (k a b p : ℕ) → c.boundary ≤ a → IsFirstMissing (λ q r. r ≡ c.node q) (map position (reading_order s.bagging k s.rule (length X) a b)) p → ⊥
 none_missing s h c X agrees k a b p low missing =
     let order = reading_order s.bagging k s.rule (length X) a b in
     let at = all_reading_order (λ u. slice_get (forest s.rule (length X)).nodes (position u) ≡ Some u) s.bagging k s.rule (length X) a b (reads_at s (length X) a b) in
@@ -89,6 +88,6 @@ only_memory {F} {D} h bagging rule c X agrees a b k low few e refused = elim (is
   | inr is ↦ is
   | inl other ↦ absurd (elim (refused other) [
     | inl x ↦ (let no : length (peaks_of rule (length X)) < k = x.0 in omega (arith, no, few))
-    | inr x ↦ none_missing (setting h bagging rule 0 0) h c X agrees k a b x.1.0 low x.1.2
+    | inr x ↦ none_missing (scheme_of h bagging rule 0 0) h c X agrees k a b x.1.0 low x.1.2
   ])
 ]

@@ -15,7 +15,6 @@ ghost use Rattle.merkle_batch_theory.specs.Stands.{StandsOn, last_list};
 ghost use Rattle.merkle_batch_theory.specs.Replay.{applied, matched, refusal};
 ghost use Rattle.merkle_batch_theory.specs.Refusals.{error_of};
 ghost use Rattle.merkle_core.specs.ProofRefusals.{IsProofRefusal, IsRangeRefusal};
-ghost use Rattle.merkle_proof.specs.Input.{setting};
 ghost use Rattle.merkle_root_theory.specs.Range.{IsHonestRange};
 ghost use Rattle.merkle_proof.specs.RangePlans.{IsBuildRefusal, IsBuiltProof, LeafRange, list_input};
 
@@ -180,12 +179,12 @@ impl<F: Family, D: Digest> Mem<F, D> {
     /// Refused with `InvalidInactivePeaks` exactly where that number exceeds the number of peaks.
     pub fn root<H: Hasher<F, Digest = D>>(&self, hasher: &H, inactive: usize) -> Result<D, Error<F>>
         ensures ok { let n = self.now.leaves in let peaks = held_peaks F.rule n (contents self.now) in inactive ≤ length (peaks_of F.rule n)
-            → result ≡ Ok (peaks_root (H.hashing hasher.now) F.DOMAIN (H.bagging_of hasher.now) n inactive inactive peaks) }
+            → result ≡ Ok (peaks_root (H.scheme hasher.now) n inactive inactive peaks) }
         ensures err { let count = length (peaks_of F.rule self.now.leaves) in count < inactive → result ≡ Err (Error.InvalidInactivePeaks inactive count) }
 
         // It is the root of every list that the structure agrees with.
         ensures listed { let h = H.hashing hasher.now in (X : List D) → Agrees h F.rule (contents self.now) X → inactive ≤ length (peaks_of F.rule (length X))
-            → result ≡ Ok (list_root h F.rule F.DOMAIN (H.bagging_of hasher.now) X inactive) }
+            → result ≡ Ok (list_root (H.scheme hasher.now) X inactive) }
         ensures too_many { (X : List D) → Agrees (H.hashing hasher.now) F.rule (contents self.now) X → let count = length (peaks_of F.rule (length X)) in
             count < inactive → result ≡ Err (Error.InvalidInactivePeaks inactive count) }
     {
@@ -201,10 +200,10 @@ impl<F: Family, D: Digest> Mem<F, D> {
         hasher: &H,
         inactive: usize,
     ) -> Result<Proof<F, D>, Error<F>>
-        ensures built { let s = setting (H.hashing hasher.now) (H.bagging_of hasher.now) F.rule F.MAX_LEAVES F.DOMAIN in
+        ensures built { let s = H.scheme hasher.now in
             IfOk result (λ p. IsBuiltProof s (node self.now) inactive plan p) }
-        ensures honest { let s = setting (H.hashing hasher.now) (H.bagging_of hasher.now) F.rule F.MAX_LEAVES F.DOMAIN in
-            (X : List D) → length X ≡ plan.leaves → Agrees s.hashing F.rule (contents self.now) X
+        ensures honest { let s = H.scheme hasher.now in
+            (X : List D) → length X ≡ plan.leaves → Agrees (H.hashing hasher.now) F.rule (contents self.now) X
             → IfOk result (λ p. IsHonestRange s X inactive (list_input p X plan.start plan.end)) }
         ensures err { let bagging = H.bagging_of hasher.now in
             IfErr result (λ e. e ≢ Error.OutOfMemory → IsBuildRefusal bagging F.rule plan inactive (λ p r. r ≡ node self.now p) e) }
@@ -224,13 +223,13 @@ impl<F: Family, D: Digest> Mem<F, D> {
         location: Location<F>,
         inactive: usize,
     ) -> Result<Proof<F, D>, Error<F>>
-        ensures built { let s = setting (H.hashing hasher.now) (H.bagging_of hasher.now) F.rule F.MAX_LEAVES F.DOMAIN in
+        ensures built { let s = H.scheme hasher.now in
             let plan : LeafRange = record { leaves = self.now.leaves; start = location; end = location + 1 } in
             IfOk result (λ p. location < self.now.leaves × IsBuiltProof s (node self.now) inactive plan p) }
 
         // It is the honest proof of every list that the structure agrees with.
-        ensures honest { let s = setting (H.hashing hasher.now) (H.bagging_of hasher.now) F.rule F.MAX_LEAVES F.DOMAIN in
-            (X : List D) → Agrees s.hashing F.rule (contents self.now) X
+        ensures honest { let s = H.scheme hasher.now in
+            (X : List D) → Agrees (H.hashing hasher.now) F.rule (contents self.now) X
             → IfOk result (λ p. location < length X × IsHonestRange s X inactive (list_input p X location (location + 1))) }
         ensures given { (h : Hashing D) → (X : List D) → Agrees h F.rule (contents self.now) X → self.now.boundary ≤ location → location < length X
             → inactive ≤ length (peaks_of F.rule (length X)) → IsOkUnless result Error.OutOfMemory }
@@ -263,13 +262,13 @@ impl<F: Family, D: Digest> Mem<F, D> {
         range: Range<Location<F>>,
         inactive: usize,
     ) -> Result<Proof<F, D>, Error<F>>
-        ensures built { let s = setting (H.hashing hasher.now) (H.bagging_of hasher.now) F.rule F.MAX_LEAVES F.DOMAIN in
+        ensures built { let s = H.scheme hasher.now in
             let plan : LeafRange = record { leaves = self.now.leaves; start = range.start; end = range.end } in
             IfOk result (λ p. (range.start < range.end) × (range.end ≤ self.now.leaves) × IsBuiltProof s (node self.now) inactive plan p) }
 
         // It is the honest proof of every list that the structure agrees with.
-        ensures honest { let s = setting (H.hashing hasher.now) (H.bagging_of hasher.now) F.rule F.MAX_LEAVES F.DOMAIN in
-            (X : List D) → Agrees s.hashing F.rule (contents self.now) X
+        ensures honest { let s = H.scheme hasher.now in
+            (X : List D) → Agrees (H.hashing hasher.now) F.rule (contents self.now) X
             → IfOk result (λ p. (range.start < range.end) × (range.end ≤ length X) × IsHonestRange s X inactive (list_input p X range.start range.end)) }
         ensures given { (h : Hashing D) → (X : List D) → Agrees h F.rule (contents self.now) X → self.now.boundary ≤ range.start
             → range.start < range.end → range.end ≤ length X → inactive ≤ length (peaks_of F.rule (length X)) → IsOkUnless result Error.OutOfMemory }

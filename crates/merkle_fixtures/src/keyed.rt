@@ -1,6 +1,7 @@
 //! A hasher whose digests depend on its value.
 ghost use Rattle.std.specs.Prelude.{◌≡◌, ◌∷◌, []};
 ghost use Rattle.std.proofs.Common.{refl, rules};
+ghost use Rattle.merkle_base.specs.Scheme.{scheme_of};
 ghost use Rattle.merkle_fixtures.specs.Masked.{keyed};
 
 use merkle_base::family::{Bagging, Family};
@@ -44,6 +45,8 @@ impl<F: Family> Hasher<F> for Keyed {
     ghost hashing = { λ s. keyed (⟦<Standard<Xor8> as Hasher<F>>⟧.hashing s.bagging) s.key };
 
     ghost bagging_of = { λ s. s.bagging };
+
+    ghost scheme = { λ s. scheme_of (keyed (⟦<Standard<Xor8> as Hasher<F>>⟧.hashing s.bagging) s.key) s.bagging F.rule F.MAX_LEAVES F.DOMAIN };
 
     fn hash(&self, parts: &[&[u8]]) -> Xor8Digest {
         self.mask(self.plain().hash(parts))
@@ -90,6 +93,8 @@ impl<F: Family> Hasher<F> for Keyed {
     }
 
     ghost clone_keeps = { Prim.search rules };
+
+    ghost scheme_is = { λ x. refl };
 
     ghost over_digest = { λ x. record { bytes = refl; same = refl; empty = refl } };
 }

@@ -16,7 +16,7 @@ ghost use Rattle.merkle_base.specs.declared.family.Bagging.TheVariants.{ForwardF
 ghost use Rattle.merkle_forest_theory.specs.Mmr.{carries, AscendsFrom, IsPostorder, range_root, range_birth};
 ghost use Rattle.merkle_forest_theory.specs.Mmb.{newest_pair, birth_leaf, root_position, belt_birth};
 ghost use Rattle.merkle_forest_theory.specs.FewPeaks.{FewPeaks};
-ghost use Rattle.merkle_forest_theory.specs.Rows.{unhashed, unmerged, three_digests, four_peaks};
+ghost use Rattle.merkle_forest_theory.specs.Rows.{unhashed, unhashed_scheme, unmerged, three_digests, four_peaks};
 
 /// The Mountain Range: its merges are lawful, and its counts and places have formulas.
 pub fn mountain_range()
@@ -127,8 +127,8 @@ pub fn worked_rows()
     ensures folds_apart { folded unhashed.fold BackwardFold 2 four_peaks ≡ Some (99 ∷ 99 ∷ 1 ∷ 2 ∷ 99 ∷ 3 ∷ 4 ∷ []) }
 
     // The family's byte is 8. The bagging's byte, the leaf count, an inactive count above zero and the folded digest follow.
-    ensures root_bytes { list_root unhashed carries 8 ForwardFold three_digests 0 ≡ 8 ∷ 0 ∷ 0 ∷ 0 ∷ 0 ∷ 0 ∷ 0 ∷ 0 ∷ 0 ∷ 3 ∷ 99 ∷ 2 ∷ 5 ∷ 6 ∷ 7 ∷ [] }
-    ensures root_bytes_one { list_root unhashed carries 8 BackwardFold three_digests 1
+    ensures root_bytes { list_root (unhashed_scheme ForwardFold) three_digests 0 ≡ 8 ∷ 0 ∷ 0 ∷ 0 ∷ 0 ∷ 0 ∷ 0 ∷ 0 ∷ 0 ∷ 3 ∷ 99 ∷ 2 ∷ 5 ∷ 6 ∷ 7 ∷ [] }
+    ensures root_bytes_one { list_root (unhashed_scheme BackwardFold) three_digests 1
         ≡ 8 ∷ 1 ∷ 0 ∷ 0 ∷ 0 ∷ 0 ∷ 0 ∷ 0 ∷ 0 ∷ 3 ∷ 0 ∷ 0 ∷ 0 ∷ 0 ∷ 0 ∷ 0 ∷ 0 ∷ 1 ∷ 99 ∷ 2 ∷ 5 ∷ 6 ∷ 7 ∷ [] }
-    ensures root_bytes_empty { list_root unhashed carries 8 BackwardFold [] 0 ≡ 8 ∷ 1 ∷ 0 ∷ 0 ∷ 0 ∷ 0 ∷ 0 ∷ 0 ∷ 0 ∷ 0 ∷ [] }
+    ensures root_bytes_empty { list_root (unhashed_scheme BackwardFold) [] 0 ≡ 8 ∷ 1 ∷ 0 ∷ 0 ∷ 0 ∷ 0 ∷ 0 ∷ 0 ∷ 0 ∷ 0 ∷ [] }
 {}

@@ -5,6 +5,7 @@ ghost use Rattle.std.specs.Option.{SomeIff};
 ghost use Rattle.merkle_digest.specs.Bytes.{joined_parts};
 ghost use Rattle.merkle_base.specs.declared.family.Bagging.{Bagging};
 ghost use Rattle.merkle_base.specs.Hashing.{Hashing, IsOver};
+ghost use Rattle.merkle_base.specs.Scheme.{Scheme, scheme_of};
 ghost use Rattle.merkle_base.specs.Root.{bag, folded, root_string, peaks_root};
 ghost use Rattle.merkle_hasher.specs.Standard.{standard};
 
@@ -28,6 +29,9 @@ pub trait Hasher<F: Family>: Clone {
 
     // how it folds peaks
     ghost bagging_of: { Self → Bagging };
+
+    // all that roots and proofs of the family depend on
+    ghost scheme: { Self → Scheme Self.Digest };
 
     /// The digest of the parts, one after another.
     fn hash(&self, parts: &[&[u8]]) -> Self::Digest
@@ -77,7 +81,7 @@ pub trait Hasher<F: Family>: Clone {
         peaks: &[Self::Digest],
     ) -> Option<Self::Digest>
         ensures { SomeIff result (to_fold ≤ length peaks.now × (length peaks.now ≡ 0 → committed ≡ 0))
-            (peaks_root (hashing self.now) F.DOMAIN (bagging_of self.now) leaves to_fold committed peaks.now) }
+            (peaks_root (scheme self.now) leaves to_fold committed peaks.now) }
     {
         let bagging = self.root_bagging();
         let Some((first, others)) = peaks.split_first() else {
@@ -103,7 +107,7 @@ pub trait Hasher<F: Family>: Clone {
         peaks: &[Self::Digest],
     ) -> Result<Self::Digest, Error<F>>
         ensures ok { inactive ≤ length peaks.now
-            → result ≡ Ok (peaks_root (hashing self.now) F.DOMAIN (bagging_of self.now) leaves inactive inactive peaks.now) }
+            → result ≡ Ok (peaks_root (scheme self.now) leaves inactive inactive peaks.now) }
         ensures err { length peaks.now < inactive → result ≡ Err (Error.InvalidInactivePeaks inactive (length peaks.now)) }
     {
         match self.root_with_folded_peaks(leaves, inactive, inactive, peaks) {
@@ -116,6 +120,8 @@ pub trait Hasher<F: Family>: Clone {
     }
 
     ghost clone_keeps: { (x y : Self) → Self.is_clone x y → (hashing y ≡ hashing x) × (bagging_of y ≡ bagging_of x) };
+
+    ghost scheme_is: { (x : Self) → scheme x ≡ scheme_of (hashing x) (bagging_of x) F.rule F.MAX_LEAVES F.DOMAIN };
 
     ghost over_digest: { (x : Self) → IsOver (hashing x) Self.Digest.bytes Self.Digest.eq Self.Digest.EMPTY };
 }
@@ -327,6 +333,8 @@ impl<F: Family, H: PlainHasher> Hasher<F> for Standard<H> {
 
     ghost bagging_of = { λ s. s };
 
+    ghost scheme = { λ s. scheme_of (standard H.digest_of H.Digest.bytes H.Digest.eq H.Digest.EMPTY) s F.rule F.MAX_LEAVES F.DOMAIN };
+
     fn hash(&self, parts: &[&[u8]]) -> H::Digest {
         Standard::hash(self, parts)
     }
@@ -379,6 +387,8 @@ impl<F: Family, H: PlainHasher> Hasher<F> for Standard<H> {
 
     ghost clone_keeps = { λ x y e. (refl, e) };
 
+    ghost scheme_is = { λ x. refl };
+
     ghost over_digest = { λ x. record { bytes = refl; same = refl; empty = refl } };
 }
 
@@ -388,6 +398,8 @@ impl<F: Family, T: Hasher<F>> Hasher<F> for &T {
     ghost hashing = { λ s. T.hashing s.now };
 
     ghost bagging_of = { λ s. T.bagging_of s.now };
+
+    ghost scheme = { λ s. T.scheme s.now };
 
     fn hash(&self, parts: &[&[u8]]) -> T::Digest {
         (**self).hash(parts)
@@ -428,6 +440,8 @@ impl<F: Family, T: Hasher<F>> Hasher<F> for &T {
     }
 
     ghost clone_keeps = { λ x y e. (ap (λ s. T.hashing s.now) e, ap (λ s. T.bagging_of s.now) e) };
+
+    ghost scheme_is = { λ x. T.scheme_is x.now };
 
     ghost over_digest = { λ x. T.over_digest x.now };
 }

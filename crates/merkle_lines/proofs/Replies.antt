@@ -25,7 +25,7 @@ use Rattle.merkle_lines.proofs.Additions.{leaf_digests_count}
 
 module _ {D : Type 0} (h : Hashing D) (rule : List ℕ → List ℕ) (max_leaves domain : ℕ) (bagging : Bagging) (g : Given) where
   abbrev kind : Kind
-  kind = kind_of h rule max_leaves domain bagging
+  kind = kind_of (scheme_of h bagging rule max_leaves domain)
 
   abbrev list : List D
   list = leaf_digests h rule 0 g.committed
@@ -56,7 +56,7 @@ module _ {D : Type 0} (h : Hashing D) (rule : List ℕ → List ℕ) (max_leaves
 
   -- a root, or too many inactive peaks
   module _ {F : Type 0} (k : ℕ) (r : Result D (Error F)) (text : List ℕ)
-      (ok : k ≤ length (peaks_of rule (length list)) → r ≡ Ok (list_root h rule domain bagging list k))
+      (ok : k ≤ length (peaks_of rule (length list)) → r ≡ Ok (list_root (scheme_of h bagging rule max_leaves domain) list k))
       (err : length (peaks_of rule (length list)) < k → r ≡ Err (error.InvalidInactivePeaks k (length (peaks_of rule (length list))))) where
     peaks_same : length (peaks_of rule (length list)) ≡ length (peaks_of rule (length g.committed))
     peaks_same = ap (λ n. length (peaks_of rule n)) (leaf_digests_count h rule 0 g.committed)
@@ -70,7 +70,7 @@ module _ {D : Type 0} (h : Hashing D) (rule : List ℕ → List ℕ) (max_leaves
     pub root_told : (d : D) → r ≡ Ok d → text ≡ encode_lower (h.bytes d) → IsAnswered kind g (Root k) g text
     root_told d e t =
         inl (ap (λ x. (g, x)) (by_test Texts within
-        (λ w. let f = ok (omega (arith, leb-true k _ w, peaks_same)) in let same : d ≡ list_root h rule domain bagging list k = (cc) in t ∙ ap (λ x. encode_lower (h.bytes x)) same)
+        (λ w. let f = ok (omega (arith, leb-true k _ w, peaks_same)) in let same : d ≡ list_root (scheme_of h bagging rule max_leaves domain) list k = (cc) in t ∙ ap (λ x. encode_lower (h.bytes x)) same)
         (λ w. absurd (let f = err (omega (arith, leb-false k _ w, peaks_same)) in cc))))
 
     pub root_refused : (e : Error F) → r ≡ Err e → text ≡ error_line (error_name e) → IsAnswered kind g (Root k) g text

@@ -46,12 +46,12 @@ pub record Kind : Type 0 where
   pub max_leaves : ℕ
   pub root : List (List ℕ) → ℕ → List ℕ
 
--- the kind of a hasher, of a family by its rule, greatest leaf count and byte, and of a bagging
-abbrev pub kind_of : {D : Type 0} → Hashing D → (List ℕ → List ℕ) → (max_leaves domain : ℕ) → Bagging → Kind
-kind_of h rule max_leaves domain bagging = record {
-  rule = rule;
-  max_leaves = max_leaves;
-  root = λ elements k. h.bytes (list_root h rule domain bagging (leaf_digests h rule 0 elements) k);
+-- the kind of a family with a hasher
+abbrev pub kind_of : {D : Type 0} → Scheme D → Kind
+kind_of s = record {
+  rule = s.rule;
+  max_leaves = s.max_leaves;
+  root = λ elements k. s.hashing.bytes (list_root s (leaf_digests s.hashing s.rule 0 elements) k);
 }
 
 -- the line of a refusal

@@ -22,10 +22,10 @@ pub record Told : Type 0 where
 
 -- the Range has at most 2^62 leaves, the Belt 30 more; their bytes are 0 and 1
 abbrev pub named_kind : FamilyName → Bagging → HashName → Kind
-named_kind Mmr bagging Sha256 = kind_of sha256_hashing carries (2 ^ 62) 0 bagging
-named_kind Mmr bagging Xor8 = kind_of xor8_hashing carries (2 ^ 62) 0 bagging
-named_kind Mmb bagging Sha256 = kind_of sha256_hashing newest_pair (2 ^ 62 + 30) 1 bagging
-named_kind Mmb bagging Xor8 = kind_of xor8_hashing newest_pair (2 ^ 62 + 30) 1 bagging
+named_kind Mmr bagging Sha256 = kind_of (scheme_of sha256_hashing bagging carries (2 ^ 62) 0)
+named_kind Mmr bagging Xor8 = kind_of (scheme_of xor8_hashing bagging carries (2 ^ 62) 0)
+named_kind Mmb bagging Sha256 = kind_of (scheme_of sha256_hashing bagging newest_pair (2 ^ 62 + 30) 1)
+named_kind Mmb bagging Xor8 = kind_of (scheme_of xor8_hashing bagging newest_pair (2 ^ 62 + 30) 1)
 
 -- a command leaves u, and the text answers it; before the first `new` nothing was told
 abbrev pub IsCommandAnswered : Option Told → Command → Option Told → List ℕ → Type 0

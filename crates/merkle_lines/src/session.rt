@@ -160,7 +160,7 @@ impl<F: Family, H: PlainHasher> Structure<F, H> {
         ensures kind { self.new.hasher ≡ self.old.hasher }
         ensures answered { let h = standard H.digest_of H.Digest.bytes H.Digest.eq H.Digest.EMPTY in (g : Given) → IsHexWord digits.entry.now
             → IsHeld h F.rule self.old.committed self.old.pending g → (u : Given) × IsHeld h F.rule self.new.committed self.new.pending u
-            × IsAnswered (kind_of h F.rule F.MAX_LEAVES F.DOMAIN self.old.hasher) g (Request.Add digits.entry) u (answer_text result) }
+            × IsAnswered (kind_of (scheme_of h self.old.hasher F.rule F.MAX_LEAVES F.DOMAIN)) g (Request.Add digits.entry) u (answer_text result) }
     {
         let batch = or_fault!(self.take_pending());
         let element = or_fault!(read_hex(alloc, digits));
@@ -173,7 +173,7 @@ impl<F: Family, H: PlainHasher> Structure<F, H> {
         ensures kind { self.new.hasher ≡ self.old.hasher }
         ensures answered { let h = standard H.digest_of H.Digest.bytes H.Digest.eq H.Digest.EMPTY in (g : Given)
             → IsHeld h F.rule self.old.committed self.old.pending g → (u : Given) × IsHeld h F.rule self.new.committed self.new.pending u
-            × IsAnswered (kind_of h F.rule F.MAX_LEAVES F.DOMAIN self.old.hasher) g Request.Commit u (answer_text result) }
+            × IsAnswered (kind_of (scheme_of h self.old.hasher F.rule F.MAX_LEAVES F.DOMAIN)) g Request.Commit u (answer_text result) }
     {
         let batch = or_fault!(self.take_pending());
         let merkleized = or_fault!(batch.merkleize(&self.committed, &self.hasher));
@@ -186,7 +186,7 @@ impl<F: Family, H: PlainHasher> Structure<F, H> {
 
     fn root(&self, alloc: Global, inactive: usize) -> Answer
         ensures { let h = standard H.digest_of H.Digest.bytes H.Digest.eq H.Digest.EMPTY in (g : Given) → IsHeld h F.rule self.now.committed self.now.pending g
-            → IsAnswered (kind_of h F.rule F.MAX_LEAVES F.DOMAIN self.now.hasher) g (Request.Root inactive) g (answer_text result) }
+            → IsAnswered (kind_of (scheme_of h self.now.hasher F.rule F.MAX_LEAVES F.DOMAIN)) g (Request.Root inactive) g (answer_text result) }
     {
         let root = or_fault!(self.committed.root(&self.hasher, inactive));
         Answer::Digest(or_fault!(write_hex(alloc, root.as_bytes())))
@@ -196,7 +196,7 @@ impl<F: Family, H: PlainHasher> Structure<F, H> {
         ensures kind { self.new.hasher ≡ self.old.hasher }
         ensures answered { let h = standard H.digest_of H.Digest.bytes H.Digest.eq H.Digest.EMPTY in (g : Given) → IsCommand (Command.Ask request.entry)
             → IsHeld h F.rule self.old.committed self.old.pending g → (u : Given) × IsHeld h F.rule self.new.committed self.new.pending u
-            × IsAnswered (kind_of h F.rule F.MAX_LEAVES F.DOMAIN self.old.hasher) g request.entry u (answer_text result) }
+            × IsAnswered (kind_of (scheme_of h self.old.hasher F.rule F.MAX_LEAVES F.DOMAIN)) g request.entry u (answer_text result) }
     {
         match request {
             Request::Add(digits) => self.add(alloc, digits),

@@ -10,7 +10,7 @@ use Rattle.merkle_base.specs.Places.{peaks_of, wholly_before}
 use Rattle.merkle_base.proofs.Nodes.{all_append}
 use Rattle.merkle_root_theory.specs.Plan.{Plan, siblings, tree_meets, tree_digest, plan_digest}
 use Rattle.merkle_root_theory.specs.Outside.{folded_prefix, single_before, single_after, folded_suffix}
-use Rattle.merkle_root_theory.specs.Check.{Setting}
+use Rattle.merkle_base.specs.Scheme.{Scheme}
 use Rattle.merkle_root_theory.specs.Range.{in_range, overlapping, wholly_after, range_parts, range_siblings, range_digests, leaf_of, end_of, IsHonestRange}
 use Rattle.merkle_proof.specs.RangePlans.{nodes_read, AnswersList, AreAnswered, IsLaidOut, IsBuiltProof, list_input, part_read}
 use Rattle.merkle_hasher.specs.Subtrees.{AreNodes}
@@ -46,7 +46,7 @@ all_siblings_at ns c [] w = tt
 all_siblings_at ns c (t ∷ ts) w = all_append (λ u. slice_get ns (position u) ≡ Some u) (siblings c t) (flat_map (siblings c) ts) (siblings_at ns c t w.0) (all_siblings_at ns c ts w.1)
 
 -- so does all that is read
-pub reads_at : {D : Type 0} (s : Setting D) (n a b : ℕ) → AreNodes s.rule n (nodes_read s.rule n a b)
+pub reads_at : {D : Type 0} (s : Scheme D) (n a b : ℕ) → AreNodes s.rule n (nodes_read s.rule n a b)
 reads_at s n a b =
     let ts = peaks_of s.rule n in
     let P : Tree → Type 0 = λ u. slice_get (forest s.rule n).nodes (position u) ≡ Some u in
@@ -62,7 +62,7 @@ list_answers h rule xs answered right (t ∷ ts) at [] z = absurd z
 list_answers h rule xs answered right (t ∷ ts) at (d ∷ ds) z =
     ap₂ (λ x y. x ∷ y) (right (position t) t d at.0 z.0 ∙ digest_at_is h xs t) (list_answers h rule xs answered right ts at.1 ds z.1)
 
-module _ {F D P Q : Type 0} (s : Setting D) (answered : ℕ → Option D → Type 0) (p : Proof F D P Q) (k n a b : ℕ) (leaves_are : p.leaves ≡ n) (inactive_are : p.inactive_peaks ≡ k)
+module _ {F D P Q : Type 0} (s : Scheme D) (answered : ℕ → Option D → Type 0) (p : Proof F D P Q) (k n a b : ℕ) (leaves_are : p.leaves ≡ n) (inactive_are : p.inactive_peaks ≡ k)
     (few : k ≤ length (peaks_of s.rule n)) (prefix single suffix siblings : List ℕ) (runs : AreRuns s.bagging k s.rule n a b prefix single suffix siblings)
     (laid : IsLaidOut s.hashing.fold answered prefix single suffix siblings p.digests.items) where
   abbrev before : List Tree

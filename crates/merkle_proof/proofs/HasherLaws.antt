@@ -5,7 +5,7 @@ use Rattle.merkle_base.specs.Heights.{IsLawful}
 use Rattle.merkle_base.specs.declared.family.Bagging.{Bagging}
 use Rattle.merkle_root_theory.specs.RootString.{ByteLaws}
 use Rattle.merkle_root_theory.specs.Range.{Sound}
-use Rattle.merkle_proof.specs.Input.{setting}
+use Rattle.merkle_base.specs.Scheme.{Scheme, scheme_of}
 
 module _ {D : Type 0} (h : Hashing D) (spelled : D → List ℕ) (equal : D → D → Bool) (none : D) (over : IsOver h spelled equal none) where
   laws : ((x y : D) → IsTrue (equal x y) ↔ (x ≡ y)) → TellsApart h
@@ -18,6 +18,6 @@ module _ {D : Type 0} (h : Hashing D) (spelled : D → List ℕ) (equal : D → 
     differ = λ a b e. decide a b (sym (ap (λ f. f a) over.bytes) ∙ e ∙ ap (λ f. f b) over.bytes);
   }
 
-  pub sound : (bagging : Bagging) (rule : List ℕ → List ℕ) (max_leaves max_nodes domain size : ℕ) → ((x y : D) → IsTrue (equal x y) ↔ (x ≡ y)) → (Spells : List ℕ → Type 0) → 1 ≤ size → ((x : D) → Spells (spelled x)) → ((b : List ℕ) → Spells b → length b ≡ size)
-      → ((x y : D) → spelled x ≡ spelled y → x ≡ y) → IsLawful rule max_leaves max_nodes → Sound (setting h bagging rule max_leaves domain) size max_nodes
-  sound bagging rule max_leaves max_nodes domain size decides Spells some spell long decide lawful = record { laws = laws decides; bytes = byte_laws size Spells some spell long decide; lawful = lawful }
+  pub sound : (s : Scheme D) (bagging : Bagging) (rule : List ℕ → List ℕ) (max_leaves max_nodes domain size : ℕ) → s ≡ scheme_of h bagging rule max_leaves domain → ((x y : D) → IsTrue (equal x y) ↔ (x ≡ y)) → (Spells : List ℕ → Type 0) → 1 ≤ size
+      → ((x : D) → Spells (spelled x)) → ((b : List ℕ) → Spells b → length b ≡ size) → ((x y : D) → spelled x ≡ spelled y → x ≡ y) → IsLawful rule max_leaves max_nodes → Sound s size max_nodes
+  sound s bagging rule max_leaves max_nodes domain size is decides Spells some spell long decide lawful = rw is (record { laws = laws decides; bytes = byte_laws size Spells some spell long decide; lawful = lawful })

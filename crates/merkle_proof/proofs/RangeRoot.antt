@@ -14,10 +14,11 @@ use Rattle.merkle_base.proofs.Balance.{heights_forest}
 use Rattle.merkle_base.proofs.Growth.{forest_grown}
 use Rattle.merkle_root_theory.specs.Plan.{siblings}
 use Rattle.merkle_root_theory.specs.Layouts.{count_before, count_after, count_inactive}
-use Rattle.merkle_root_theory.specs.Check.{Setting, RangeInput, chosen, leaf_given}
+use Rattle.merkle_root_theory.specs.Check.{RangeInput, chosen, leaf_given}
+use Rattle.merkle_base.specs.Scheme.{Scheme, scheme_of}
 use Rattle.merkle_root_theory.specs.Range.{in_range, overlapping, wholly_after, end_of, Accepts}
 use Rattle.merkle_root_theory.specs.Walk.{bytes_of, leaf_from, peak_values, ArePeakDigests}
-use Rattle.merkle_proof.specs.Input.{setting, range_input, HasShape, IsComputed}
+use Rattle.merkle_proof.specs.Input.{range_input, HasShape, IsComputed}
 use Rattle.merkle_hasher.specs.Subtrees.{subtree_of}
 use Rattle.merkle_proof.specs.GroupedPeaks.{HoldsGroups}
 use Rattle.merkle_proof.specs.declared.groups.Groups.{Groups}
@@ -57,11 +58,11 @@ no_peaks h c X [] ds e = refl
 no_peaks h c X (t ∷ ts) ds e = absurd (omega arith)
 
 module _ {D : Type 0} (h : Hashing D) (bagging : Bagging) (rule : List ℕ → List ℕ) (max_leaves domain : ℕ) (leaves inactive : ℕ) (given : List D) (a b : ℕ) (es : List (Bor (List ℕ))) (some : 0 < length es) (end_is : b ≡ a + length es) where
-  abbrev at_setting : Setting D
-  at_setting = setting h bagging rule max_leaves domain
+  abbrev scheme : Scheme D
+  scheme = scheme_of h bagging rule max_leaves domain
 
   abbrev input : RangeInput D
-  input = range_input h rule leaves inactive given a (bytes_of es)
+  input = range_input scheme leaves inactive given a (bytes_of es)
 
   pub element_count : length input.elements ≡ length es
   element_count = length-leaf_digests h rule a (bytes_of es) ∙ length-map es (λ e. e.now)
@@ -97,7 +98,7 @@ module _ {D : Type 0} (h : Hashing D) (bagging : Bagging) (rule : List ℕ → L
         other_leaves h (chosen input) X (leaf_given h input) _ _ _ given all given_leaves (subst (λ z. AreDigests z X digests_before (digests_after z) all) end_same one)
 
     pub computed : leaves ≤ max_leaves → inactive ≤ length (peaks_of rule leaves) → (all : List D) → AreDigests b (leaf_from h rule a (bytes_of es)) m n all
-        → (j : ℕ) → j ≡ count_inactive bagging inactive (wholly_before a (peaks_of rule leaves)) → (d : D) → d ≡ peaks_root h domain bagging leaves j inactive all → IsComputed at_setting input d
+        → (j : ℕ) → j ≡ count_inactive bagging inactive (wholly_before a (peaks_of rule leaves)) → (d : D) → d ≡ peaks_root scheme leaves j inactive all → IsComputed scheme input d
     computed few low all w j j_is d is =
         let v = as_input all w in (
           record {
@@ -105,14 +106,14 @@ module _ {D : Type 0} (h : Hashing D) (bagging : Bagging) (rule : List ℕ → L
             within = within_given;
             leaves = few;
             inactive = low;
-            counts = v.count ∙ ap (λ z. z + length (flat_map (siblings (chosen input)) (overlapping a (end_of input) (peaks_of rule leaves)))) (sym (layout_counts at_setting input));
+            counts = v.count ∙ ap (λ z. z + length (flat_map (siblings (chosen input)) (overlapping a (end_of input) (peaks_of rule leaves)))) (sym (layout_counts scheme input));
           },
-          is ∙ ap (λ i. peaks_root h domain bagging leaves i inactive all) j_is ∙ layout_root at_setting input some_given within_given all v,
+          is ∙ ap (λ i. peaks_root scheme leaves i inactive all) j_is ∙ layout_root scheme input some_given within_given all v,
         )
 
-    pub misshapen : length given ≢ m + n + length (flat_map (siblings (in_range a b)) (overlapping a b (peaks_of rule leaves))) → ¬ HasShape at_setting input
+    pub misshapen : length given ≢ m + n + length (flat_map (siblings (in_range a b)) (overlapping a b (peaks_of rule leaves))) → ¬ HasShape scheme input
     misshapen differ shape =
-        let e = shape.counts ∙ ap (λ z. z + length (flat_map (siblings (chosen input)) (overlapping a (end_of input) (peaks_of rule leaves)))) (layout_counts at_setting input) in
+        let e = shape.counts ∙ ap (λ z. z + length (flat_map (siblings (chosen input)) (overlapping a (end_of input) (peaks_of rule leaves)))) (layout_counts scheme input) in
         let f : length given ≡ digests_before + digests_after b + length (flat_map (siblings (in_range a b)) (overlapping a b (peaks_of rule leaves))) =
         subst (λ z. length given ≡ digests_before + digests_after z + length (flat_map (siblings (in_range a z)) (overlapping a z (peaks_of rule leaves)))) (sym end_same) e in
         differ (f ∙ ap₂ (λ i j. i + j + length (flat_map (siblings (in_range a b)) (overlapping a b (peaks_of rule leaves)))) (sym m_is) (sym n_is))
@@ -125,19 +126,19 @@ module _ {D : Type 0} (h : Hashing D) (bagging : Bagging) (rule : List ℕ → L
     -- there are as many as are folded apart
     pub folds_given : inactive ≤ length (peaks_of rule leaves) → (all : List D) → AreDigests b (leaf_from h rule a (bytes_of es)) m n all
         → (j : ℕ) → j ≡ count_inactive bagging inactive (wholly_before a (peaks_of rule leaves)) → j ≤ length all
-    folds_given low all w j j_is = omega (arith, j_is, inactive_fits at_setting input some_given all (as_input all w) low)
+    folds_given low all w j j_is = omega (arith, j_is, inactive_fits scheme input some_given all (as_input all w) low)
 
 -- an input is known by the parts of its proof
-pub same_input : {D : Type 0} (h : Hashing D) (rule : List ℕ → List ℕ) (a : ℕ) (es : List (List ℕ)) (n m k j : ℕ) (ds fs : List D) → n ≡ m → k ≡ j → ds ≡ fs → range_input h rule n k ds a es ≡ range_input h rule m j fs a es
-same_input h rule a es n m k j ds fs p q r = ap₂ (λ x y. range_input h rule x y ds a es) p q ∙ ap (λ z. range_input h rule m j z a es) r
+pub same_input : {D : Type 0} (s : Scheme D) (a : ℕ) (es : List (List ℕ)) (n m k j : ℕ) (ds fs : List D) → n ≡ m → k ≡ j → ds ≡ fs → range_input s n k ds a es ≡ range_input s m j fs a es
+same_input s a es n m k j ds fs p q r = ap₂ (λ x y. range_input s x y ds a es) p q ∙ ap (λ z. range_input s m j z a es) r
 
 -- an input with elements whose counts are wrong isn't accepted
-pub refused : {D : Type 0} (s : Setting D) (r : RangeInput D) (root : D) → 0 < length r.elements → ¬ HasShape s r → ¬ Accepts s r root
+pub refused : {D : Type 0} (s : Scheme D) (r : RangeInput D) (root : D) → 0 < length r.elements → ¬ HasShape s r → ¬ Accepts s r root
 refused s r root some wrong (inl ok) = wrong (record { some = ok.some; within = ok.within; leaves = ok.leaves; inactive = ok.inactive; counts = ok.counts })
 refused s r root some wrong (inr ok) = absurd (omega (arith, some, ap length ok.0.elements))
 
 -- with elements, the roots that accept an input are those equal to the one that it leads to
-pub accepting : {D : Type 0} (s : Setting D) (r : RangeInput D) (root d : D) → IsComputed s r d → (d ≡ root) ↔ Accepts s r root
+pub accepting : {D : Type 0} (s : Scheme D) (r : RangeInput D) (root d : D) → IsComputed s r d → (d ≡ root) ↔ Accepts s r root
 accepting s r root d k = (λ e. inl (record { some = k.0.some; within = k.0.within; leaves = k.0.leaves; inactive = k.0.inactive; counts = k.0.counts; root_is = sym k.1 ∙ e }), back)
   where
     back : Accepts s r root → d ≡ root

@@ -2,15 +2,11 @@
 use Rattle.std.specs.Prelude.{◌≡◌, ℕ, suc, ◌+◌, ◌<◌, ◌≤◌, List, [], ◌∷◌, length}
 use Rattle.merkle_base.specs.Forest.{size}
 use Rattle.merkle_base.specs.Hashing.{Hashing}
-use Rattle.merkle_base.specs.declared.family.Bagging.{Bagging}
 use Rattle.merkle_base.specs.Places.{peaks_of}
-use Rattle.merkle_root_theory.specs.Check.{Setting, RangeInput, root_of, range_expression}
+use Rattle.merkle_root_theory.specs.Check.{RangeInput, root_of, range_expression}
+use Rattle.merkle_base.specs.Scheme.{Scheme}
 use Rattle.merkle_root_theory.specs.Range.{end_of, range_parts, range_siblings}
 use Rattle.merkle_proof.specs.declared.proof.Proof.{Proof}
-
--- what is fixed for a hasher's value and a family
-abbrev pub setting : {D : Type 0} → Hashing D → Bagging → (List ℕ → List ℕ) → (max_leaves domain : ℕ) → Setting D
-setting h bagging rule max_leaves domain = record { hashing = h; rule = rule; max_leaves = max_leaves; bagging = bagging; domain = domain }
 
 -- the leaf digests of elements from location a on
 abbrev pub leaf_digests : {D : Type 0} → Hashing D → (List ℕ → List ℕ) → ℕ → List (List ℕ) → List D
@@ -18,15 +14,15 @@ leaf_digests h rule a [] = []
 leaf_digests h rule a (e ∷ es) = h.leaf (size rule a) e ∷ leaf_digests h rule (suc a) es
 
 -- the parts of a proof with the elements from location a on
-abbrev pub range_input : {D : Type 0} → Hashing D → (List ℕ → List ℕ) → (leaves inactive : ℕ) → List D → ℕ → List (List ℕ) → RangeInput D
-range_input h rule leaves inactive digests a es = record { leaves = leaves; inactive = inactive; digests = digests; start = a; elements = leaf_digests h rule a es }
+abbrev pub range_input : {D : Type 0} → Scheme D → (leaves inactive : ℕ) → List D → ℕ → List (List ℕ) → RangeInput D
+range_input s leaves inactive digests a es = record { leaves = leaves; inactive = inactive; digests = digests; start = a; elements = leaf_digests s.hashing s.rule a es }
 
 -- a proof with the elements from location a on
-abbrev pub input_of : {F D Peaks Heights : Type 0} → Hashing D → (List ℕ → List ℕ) → Proof F D Peaks Heights → ℕ → List (List ℕ) → RangeInput D
-input_of h rule p a es = range_input h rule p.leaves p.inactive_peaks p.digests.items a es
+abbrev pub input_of : {F D Peaks Heights : Type 0} → Scheme D → Proof F D Peaks Heights → ℕ → List (List ℕ) → RangeInput D
+input_of s p a es = range_input s p.leaves p.inactive_peaks p.digests.items a es
 
 -- the counts of an input with elements are right
-pub record HasShape {D : Type 0} (s : Setting D) (r : RangeInput D) : Type 0 where
+pub record HasShape {D : Type 0} (s : Scheme D) (r : RangeInput D) : Type 0 where
   pub some : 0 < length r.elements
   pub within : end_of r ≤ r.leaves
   pub leaves : r.leaves ≤ s.max_leaves
@@ -34,5 +30,5 @@ pub record HasShape {D : Type 0} (s : Setting D) (r : RangeInput D) : Type 0 whe
   pub counts : length r.digests ≡ length (range_parts s.bagging r.inactive r.start (end_of r) (peaks_of s.rule r.leaves)) + length (range_siblings r.start (end_of r) (peaks_of s.rule r.leaves))
 
 -- the root that an input leads to
-abbrev pub IsComputed : {D : Type 0} → Setting D → RangeInput D → D → Type 0
+abbrev pub IsComputed : {D : Type 0} → Scheme D → RangeInput D → D → Type 0
 IsComputed s r d = HasShape s r × (d ≡ root_of s r.leaves r.inactive (range_expression s r))

@@ -11,7 +11,8 @@ use Rattle.merkle_base.specs.declared.error.Error.{Error}
 use Rattle.merkle_base.specs.declared.error.Error.TheVariants.{Empty, RangeOutOfBounds, LocationOverflow, InvalidProof, ElementPruned}
 use Rattle.merkle_root_theory.specs.Expression.{hashed_at}
 use Rattle.merkle_root_theory.specs.Plan.{Plan, peak, folding}
-use Rattle.merkle_root_theory.specs.Check.{Setting, RangeInput}
+use Rattle.merkle_root_theory.specs.Check.{RangeInput}
+use Rattle.merkle_base.specs.Scheme.{Scheme}
 use Rattle.merkle_root_theory.specs.Layouts.{laid_out}
 use Rattle.merkle_root_theory.specs.Outside.{single_after, folded_suffix}
 use Rattle.merkle_root_theory.specs.Range.{overlapping, wholly_after, range_parts, range_siblings}
@@ -93,7 +94,7 @@ part_read h node (peak t) = node (position t)
 part_read h node (folding place l r) = both_read (hashed_at h place) (part_read h node l) (part_read h node r)
 
 -- the proof has the digests of the layout, over those that stand at the positions of nodes
-pub record IsBuiltProof {F D Peaks Heights : Type 0} (s : Setting D) (node : ℕ → Option D) (k : ℕ) (r : LeafRange) (p : Proof F D Peaks Heights) : Type 0 where
+pub record IsBuiltProof {F D Peaks Heights : Type 0} (s : Scheme D) (node : ℕ → Option D) (k : ℕ) (r : LeafRange) (p : Proof F D Peaks Heights) : Type 0 where
   pub leaves : p.leaves ≡ r.leaves
   pub inactive : p.inactive_peaks ≡ k
   pub few : k ≤ length (peaks_of s.rule r.leaves)

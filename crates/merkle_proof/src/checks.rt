@@ -7,7 +7,7 @@ ghost use Rattle.merkle_root_theory.specs.Check.{root_of};
 ghost use Rattle.merkle_root_theory.specs.Range.{in_range, Accepts, IsEmptyInput};
 ghost use Rattle.merkle_hasher.specs.Subtrees.{AreNodes, subtree_of};
 ghost use Rattle.merkle_root_theory.specs.Walk.{bytes_of, leaf_from, ArePeaksWalked, ArePeakDigests};
-ghost use Rattle.merkle_proof.specs.Input.{setting, range_input, HasShape, IsComputed};
+ghost use Rattle.merkle_proof.specs.Input.{range_input, HasShape, IsComputed};
 
 use crate::groups::Groups;
 use crate::siblings::reconstruct_digest;
@@ -41,8 +41,8 @@ pub(crate) fn verify_range<F: Family, H: Hasher<F>>(
     start: Location<F>,
     root: &H::Digest,
 ) -> Result<bool, OutOfMemory>
-    ensures { let h = H.hashing hasher.now in let s = setting h (H.bagging_of hasher.now) F.rule F.MAX_LEAVES F.DOMAIN in
-        let r = range_input h F.rule parts.now.leaves parts.now.inactive parts.now.digests.now start (bytes_of elements.now) in
+    ensures { let s = H.scheme hasher.now in
+        let r = range_input s parts.now.leaves parts.now.inactive parts.now.digests.now start (bytes_of elements.now) in
         IfOk result (λ b. IsTrue b ↔ Accepts s r root.now) }
 {
     if elements.is_empty() {
@@ -65,11 +65,11 @@ pub(crate) fn reconstruct_range_root<F: Family, H: Hasher<F>>(
     start: Location<F>,
 ) -> Result<H::Digest, ReconstructionError>
     requires some { 0 < length elements.now }
-    ensures ok { let h = H.hashing hasher.now in let s = setting h (H.bagging_of hasher.now) F.rule F.MAX_LEAVES F.DOMAIN in
-        let r = range_input h F.rule parts.now.leaves parts.now.inactive parts.now.digests.now start (bytes_of elements.now) in
+    ensures ok { let s = H.scheme hasher.now in
+        let r = range_input s parts.now.leaves parts.now.inactive parts.now.digests.now start (bytes_of elements.now) in
         IfOk result (λ d. IsComputed s r d) }
-    ensures err { let h = H.hashing hasher.now in let s = setting h (H.bagging_of hasher.now) F.rule F.MAX_LEAVES F.DOMAIN in
-        let r = range_input h F.rule parts.now.leaves parts.now.inactive parts.now.digests.now start (bytes_of elements.now) in
+    ensures err { let s = H.scheme hasher.now in
+        let r = range_input s parts.now.leaves parts.now.inactive parts.now.digests.now start (bytes_of elements.now) in
         IfErr result (λ e. e ≢ ReconstructionError.OutOfMemory → ¬ HasShape s r) }
 {
     let end = end_from(parts.leaves, start, elements.len())?;
@@ -103,8 +103,8 @@ fn verify_empty<F: Family, H: Hasher<F>>(
     start: Location<F>,
     root: &H::Digest,
 ) -> bool
-    ensures { let h = H.hashing hasher.now in let s = setting h (H.bagging_of hasher.now) F.rule F.MAX_LEAVES F.DOMAIN in
-        let r = range_input h F.rule parts.now.leaves parts.now.inactive parts.now.digests.now start [] in
+    ensures { let s = H.scheme hasher.now in
+        let r = range_input s parts.now.leaves parts.now.inactive parts.now.digests.now start [] in
         IsTrue result ↔ (IsEmptyInput r × (root_of s 0 0 None ≡ root.now)) }
 {
     if start.as_u64() != 0 || parts.leaves.as_u64() != 0 {

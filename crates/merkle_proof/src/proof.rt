@@ -4,7 +4,7 @@ ghost use Rattle.merkle_base.specs.Places.{inactive_peaks};
 ghost use Rattle.merkle_root_theory.specs.Range.{Accepts, ForRootOf, IsHonestRange, RangeCollides};
 ghost use Rattle.merkle_root_theory.specs.RootNames.{NamesRoot};
 ghost use Rattle.merkle_root_theory.specs.Walk.{bytes_of};
-ghost use Rattle.merkle_proof.specs.Input.{setting, input_of};
+ghost use Rattle.merkle_proof.specs.Input.{input_of};
 
 use crate::checks::{ProofParts, verify_range};
 pub use crate::range_plan::RangePlan;
@@ -96,15 +96,15 @@ impl<F: Family, D: Digest> Proof<F, D> {
         start: Location<F>,
         root: &D,
     ) -> Result<bool, OutOfMemory>
-        ensures exact { let s = setting (H.hashing hasher.now) (H.bagging_of hasher.now) F.rule F.MAX_LEAVES F.DOMAIN in
-            IfOk result (λ yes. IsTrue yes ↔ Accepts s (input_of s.hashing F.rule self.now start (bytes_of elements.now)) root.now) }
-        ensures names { let s = setting (H.hashing hasher.now) (H.bagging_of hasher.now) F.rule F.MAX_LEAVES F.DOMAIN in
+        ensures exact { let s = H.scheme hasher.now in
+            IfOk result (λ yes. IsTrue yes ↔ Accepts s (input_of s self.now start (bytes_of elements.now)) root.now) }
+        ensures names { let s = H.scheme hasher.now in
             IfOk result (λ yes. IsTrue yes → NamesRoot s self.now.leaves root.now) }
-        ensures honest { let s = setting (H.hashing hasher.now) (H.bagging_of hasher.now) F.rule F.MAX_LEAVES F.DOMAIN in
-            let r = input_of s.hashing F.rule self.now start (bytes_of elements.now) in
+        ensures honest { let s = H.scheme hasher.now in
+            let r = input_of s self.now start (bytes_of elements.now) in
             IfOk result (λ yes. ForRootOf s root.now (λ xs k. IsHonestRange s xs k r → IsTrue yes)) }
-        ensures sound { let s = setting (H.hashing hasher.now) (H.bagging_of hasher.now) F.rule F.MAX_LEAVES F.DOMAIN in
-            let r = input_of s.hashing F.rule self.now start (bytes_of elements.now) in
+        ensures sound { let s = H.scheme hasher.now in
+            let r = input_of s self.now start (bytes_of elements.now) in
             IfOk result (λ yes. IsTrue yes → ForRootOf s root.now (λ xs k. IsHonestRange s xs k r ⊎ RangeCollides s r xs k)) }
     {
         verify_range(&self.parts(), hasher, elements, start, root)
@@ -125,15 +125,15 @@ impl<F: Family, D: Digest> Proof<F, D> {
         location: Location<F>,
         root: &D,
     ) -> Result<bool, OutOfMemory>
-        ensures exact { let s = setting (H.hashing hasher.now) (H.bagging_of hasher.now) F.rule F.MAX_LEAVES F.DOMAIN in
-            IfOk result (λ yes. IsTrue yes ↔ Accepts s (input_of s.hashing F.rule self.now location (element.now ∷ [])) root.now) }
-        ensures names { let s = setting (H.hashing hasher.now) (H.bagging_of hasher.now) F.rule F.MAX_LEAVES F.DOMAIN in
+        ensures exact { let s = H.scheme hasher.now in
+            IfOk result (λ yes. IsTrue yes ↔ Accepts s (input_of s self.now location (element.now ∷ [])) root.now) }
+        ensures names { let s = H.scheme hasher.now in
             IfOk result (λ yes. IsTrue yes → NamesRoot s self.now.leaves root.now) }
-        ensures honest { let s = setting (H.hashing hasher.now) (H.bagging_of hasher.now) F.rule F.MAX_LEAVES F.DOMAIN in
-            let r = input_of s.hashing F.rule self.now location (element.now ∷ []) in
+        ensures honest { let s = H.scheme hasher.now in
+            let r = input_of s self.now location (element.now ∷ []) in
             IfOk result (λ yes. ForRootOf s root.now (λ xs k. IsHonestRange s xs k r → IsTrue yes)) }
-        ensures sound { let s = setting (H.hashing hasher.now) (H.bagging_of hasher.now) F.rule F.MAX_LEAVES F.DOMAIN in
-            let r = input_of s.hashing F.rule self.now location (element.now ∷ []) in
+        ensures sound { let s = H.scheme hasher.now in
+            let r = input_of s self.now location (element.now ∷ []) in
             IfOk result (λ yes. IsTrue yes → ForRootOf s root.now (λ xs k. IsHonestRange s xs k r ⊎ RangeCollides s r xs k)) }
     {
         self.verify_range_inclusion(hasher, &[element], location, root)

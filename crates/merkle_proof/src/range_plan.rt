@@ -1,7 +1,6 @@
 //! Plans of range proofs: which nodes a proof reads, and the proof made of what stands there.
 ghost use Rattle.std.specs.Prelude.{◌≡◌, ◌≢◌, ◌<◌, ◌≤◌, ℕ, List, Option, length, IfOk, IfErr};
 ghost use Rattle.merkle_base.specs.Places.{peaks_of};
-ghost use Rattle.merkle_proof.specs.Input.{setting};
 ghost use Rattle.merkle_root_theory.specs.Range.{IsHonestRange};
 ghost use Rattle.merkle_proof.specs.RangePlans.{IsRefusal, IsBuildRefusal, IsBuiltProof, AnswersList, list_input};
 
@@ -99,11 +98,11 @@ impl<F: Family> RangePlan<F> {
     where
         G: Drop,
         requires reads { G.IsAlwaysCallable get_node }
-        ensures built { let s = setting (H.hashing hasher.now) (H.bagging_of hasher.now) F.rule F.MAX_LEAVES F.DOMAIN in
+        ensures built { let s = H.scheme hasher.now in
             (node : ℕ → Option H.Digest) → ((p : ℕ) (r : Option H.Digest) → G.post get_node p r → r ≡ node p)
             → IfOk result (λ p. IsBuiltProof s node inactive self p) }
-        ensures honest { let s = setting (H.hashing hasher.now) (H.bagging_of hasher.now) F.rule F.MAX_LEAVES F.DOMAIN in
-            (xs : List H.Digest) → length xs ≡ self.leaves → AnswersList s.hashing F.rule xs (G.post get_node)
+        ensures honest { let s = H.scheme hasher.now in
+            (xs : List H.Digest) → length xs ≡ self.leaves → AnswersList (H.hashing hasher.now) F.rule xs (G.post get_node)
             → IfOk result (λ p. IsHonestRange s xs inactive (list_input p xs self.start self.end)) }
         ensures fits { IfOk result (λ _. (self.start < self.end) × (self.end ≤ self.leaves) × (self.leaves ≤ F.MAX_LEAVES)
             × (inactive ≤ length (peaks_of F.rule self.leaves))) }

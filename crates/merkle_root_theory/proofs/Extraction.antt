@@ -13,7 +13,8 @@ use Rattle.merkle_base.specs.declared.family.Bagging.{Bagging}
 use Rattle.merkle_base.specs.declared.family.Bagging.TheVariants.{ForwardFold, BackwardFold}
 use Rattle.merkle_root_theory.specs.Claim.{next, tree_claim}
 use Rattle.merkle_root_theory.specs.Outside.{fold_all, bag_all, folded_prefix, single_before, single_after, folded_suffix, layout}
-use Rattle.merkle_root_theory.specs.Check.{Setting, RangeInput, leaf_given, chosen}
+use Rattle.merkle_root_theory.specs.Check.{RangeInput, leaf_given, chosen}
+use Rattle.merkle_base.specs.Scheme.{Scheme}
 use Rattle.merkle_base.specs.Places.{peaks_of, wholly_before}
 use Rattle.merkle_root_theory.specs.Range.{overlapping, wholly_after, range_parts, range_siblings, end_of, leaf_of, IsHonestSome}
 use Rattle.merkle_root_theory.specs.Extract.{inner_pairs, over_pairs, single_pairs, extracted, IsNodePair, ExtractsNodes}
@@ -75,7 +76,7 @@ pub all_single_after : (P : Tree → Type 0) (b : Bagging) (k met : ℕ) (ts : L
 all_single_after P ForwardFold k met ts h = h
 all_single_after P BackwardFold k met ts h = all_take P (k - met) ts h
 
-module _ {D : Type 0} (s : Setting D) (X : ℕ → D) (r : RangeInput D) (agrees : (i : ℕ) → chosen r i ≡ true → leaf_given s.hashing r i ≡ X i) (ns : List Tree) where
+module _ {D : Type 0} (s : Scheme D) (X : ℕ → D) (r : RangeInput D) (agrees : (i : ℕ) → chosen r i ≡ true → leaf_given s.hashing r i ≡ X i) (ns : List Tree) where
   pairs_right : (k : ℕ) (before over after : List Tree) → AllByRecursion (IsBuilt ns) before → AllByRecursion (IsBuilt ns) over → AllByRecursion (IsBuilt ns) after
       → (ds : List D) → ds ≡ map (plan_digest s.hashing X) (layout s.bagging k before over after) ++ map (tree_digest s.hashing X) (flat_map (siblings (chosen r)) over)
       → AllByRecursion (IsPair s.hashing (chosen r) X (leaf_given s.hashing r) agrees ns)

@@ -12,7 +12,8 @@ use Rattle.merkle_root_theory.specs.Plan.{Plan, peak, whole}
 use Rattle.merkle_root_theory.specs.Claim.{claim, claim_of}
 use Rattle.merkle_root_theory.specs.Outside.{fold_all, bag_all, folded_prefix, single_before, single_after, folded_suffix, Met, Unmet, HasLayout}
 use Rattle.merkle_root_theory.specs.Layouts.{count_before, count_after, count_inactive}
-use Rattle.merkle_root_theory.specs.Check.{Setting, RangeInput, chosen, leaf_given, range_expression, root_of}
+use Rattle.merkle_root_theory.specs.Check.{RangeInput, chosen, leaf_given, range_expression, root_of}
+use Rattle.merkle_base.specs.Scheme.{Scheme}
 use Rattle.merkle_root_theory.specs.Range.{overlapping, wholly_after, range_parts, end_of}
 use Rattle.merkle_root_theory.specs.Walk.{peak_values, ArePeakDigests}
 use Rattle.merkle_base.proofs.PeakLists.{peaks_built, peaks_spans}
@@ -73,7 +74,7 @@ module _ {D : Type 0} (h : Hashing D) (c : ℕ → Bool) (X : ℕ → D) (baggin
       ∙ parts_folded h c X k t over after m v ds (drop (i + j) ds) bagging before
       ∙ claim_counted (i + j) _ _ (whole bagging k (before ++ (t ∷ over ++ after))) (outside_is_layout c bagging k before t over after u m v) (sym (length-layout bagging k before (t ∷ over) after))
 
-module _ {D : Type 0} (s : Setting D) (r : RangeInput D) where
+module _ {D : Type 0} (s : Scheme D) (r : RangeInput D) where
   abbrev all_peaks : List Tree
   all_peaks = peaks_of s.rule r.leaves
 
@@ -133,7 +134,7 @@ module _ {D : Type 0} (s : Setting D) (r : RangeInput D) where
 
       -- the root over them is the one that the input leads to
       pub layout_root : (all : List D) → AreGiven all
-          → peaks_root s.hashing s.domain s.bagging r.leaves (count_inactive s.bagging r.inactive (wholly_before r.start all_peaks)) r.inactive all ≡ root_of s r.leaves r.inactive (range_expression s r)
+          → peaks_root s r.leaves (count_inactive s.bagging r.inactive (wholly_before r.start all_peaks)) r.inactive all ≡ root_of s r.leaves r.inactive (range_expression s r)
       layout_root all w =
           let V : Plan → Expression D = λ p. claim_of s.hashing (chosen r) (leaf_given s.hashing r) p r.digests in
           ap (λ o. s.hashing.hash (root_string s.hashing s.domain s.bagging r.leaves r.inactive o))

@@ -14,7 +14,8 @@ use Rattle.merkle_root_theory.specs.Plan.{Plan, peak, forward, bag, join_bag, wh
 use Rattle.merkle_base.specs.declared.family.Bagging.{Bagging}
 use Rattle.merkle_base.specs.declared.family.Bagging.TheVariants.{ForwardFold, BackwardFold}
 use Rattle.merkle_root_theory.specs.Claim.{claim_of, InTree, InPlan}
-use Rattle.merkle_root_theory.specs.Check.{Setting, string_of, root_of, inputs_of, all_inputs, list_expression, RangeInput, chosen, leaf_given, range_expression, Counts, HasHonestDigests, IsHonest, Covers, NoOtherRange, SharesLeaves, PairConsistent, HonestRangeAccepted}
+use Rattle.merkle_root_theory.specs.Check.{string_of, root_of, inputs_of, all_inputs, list_expression, RangeInput, chosen, leaf_given, range_expression, Counts, HasHonestDigests, IsHonest, Covers, NoOtherRange, SharesLeaves, PairConsistent, HonestRangeAccepted}
+use Rattle.merkle_base.specs.Scheme.{Scheme}
 use Rattle.merkle_base.specs.Places.{peaks_of}
 use Rattle.merkle_root_theory.proofs.Collisions.{decided}
 use Rattle.merkle_root_theory.proofs.RootStrings.{tells_all}
@@ -64,7 +65,7 @@ whole_has BackwardFold k (u ∷ ts) t j (inl e) n = join_bag_keeps _ _ (drop (pr
 whole_has BackwardFold k (u ∷ ts) t j (inr m) n = ⊎_elim (λ w. join_bag_keeps _ _ (drop (pred k) ts) j (forward_has (peak u) 1 (take (pred k) ts) t j w n)) (λ w. join_bag_has _ _ (drop (pred k) ts) t j w n) (member_cut (pred k) ts t m)
 
 -- one root has one leaf count, one inactive count and one folded digest, or its strings collide
-module _ {D : Type 0} (s : Setting D) (size : ℕ) (bytes : ByteLaws s.hashing size) (n n' k k' : ℕ) (e e' : Option (Expression D)) (a : n < 2 ^ 64) (a' : n' < 2 ^ 64) (b : k < 2 ^ 64) (b' : k' < 2 ^ 64) where
+module _ {D : Type 0} (s : Scheme D) (size : ℕ) (bytes : ByteLaws s.hashing size) (n n' k k' : ℕ) (e e' : Option (Expression D)) (a : n < 2 ^ 64) (a' : n' < 2 ^ 64) (b : k < 2 ^ 64) (b' : k' < 2 ^ 64) where
   pub root_tells : root_of s n k e ≡ root_of s n' k' e'
       → ((n ≡ n') × SameFolded k (option_map (value s.hashing) e) k' (option_map (value s.hashing) e')) ⊎ ((c : Collision D) × Collides s.hashing (all_inputs s n k e) (all_inputs s n' k' e') c)
   root_tells same = at_test (decided _ (bytes_eq-Decides (string_of s n k e) (string_of s n' k' e')))
@@ -85,10 +86,10 @@ same_inactive f k k' r (Some p) g (Some y) c w = w.0
 pub is_chosen : {D : Type 0} (r : RangeInput D) (i : ℕ) → r.start ≤ i → i < r.start + length r.elements → chosen r i ≡ true
 is_chosen r i a b = ap₂ ◌&&◌ (le-leb r.start i a) (lt-ltb i (r.start + length r.elements) b)
 
-in_whole : {D : Type 0} (s : Setting D) → Covers (peaks_of s.rule) → (n k i : ℕ) → i < n → InWhole (whole s.bagging k (peaks_of s.rule n)) i
+in_whole : {D : Type 0} (s : Scheme D) → Covers (peaks_of s.rule) → (n k i : ℕ) → i < n → InWhole (whole s.bagging k (peaks_of s.rule n)) i
 in_whole s covers n k i a = let w = covers n i a in whole_has s.bagging k (peaks_of s.rule n) w.0 i w.1 w.2
 
-module _ {D : Type 0} (s : Setting D) (laws : TellsApart s.hashing) where
+module _ {D : Type 0} (s : Scheme D) (laws : TellsApart s.hashing) where
   -- a collision below the root
   lifted : (n n' k k' : ℕ) (e e' : Option (Expression D)) → ((c : Collision D) × Collides s.hashing (inputs_of s.hashing e) (inputs_of s.hashing e') c) → (c : Collision D) × Collides s.hashing (all_inputs s n k e) (all_inputs s n' k' e') c
   lifted n n' k k' e e' c = (c.0, record { claimed = inr c.1.claimed; listed = inr c.1.listed; differ = c.1.differ; one_digest = c.1.one_digest })
@@ -172,7 +173,7 @@ pair_consistent {D = D} s size laws bytes covers root r q ok ok' =
         (pair_below_root s laws r q r.inactive q.inactive o ok.counts (subst (λ z. SameFolded r.inactive (option_map (value s.hashing) (range_expression s r)) q.inactive (option_map (value s.hashing) (option_map (claim_at s laws q) z))) (sym e) w.1)) in
         ⊎_elim (λ x. inl (shares w.0 t x)) (λ c. inr (lifted s laws r.leaves q.leaves r.inactive q.inactive (range_expression s r) (range_expression s q) c)) v
 
-module _ {D : Type 0} (s : Setting D) (X : ℕ → D) (r : RangeInput D) where
+module _ {D : Type 0} (s : Scheme D) (X : ℕ → D) (r : RangeInput D) where
   honest_counts : (o : Option Plan) → HasHonestDigests s X r o → Counts r o
   honest_counts None w = w
   honest_counts (Some p) w = ap length w ∙ length-append (map (plan_digest s.hashing X) (outer (chosen r) p)) _ ∙ ap₂ ◌+◌ (length-map (outer (chosen r) p) (plan_digest s.hashing X)) (length-map (inner (chosen r) p) (tree_digest s.hashing X))
@@ -202,7 +203,7 @@ honest_range_accepted s X n k a b r within honest =
     }
 
 -- an honest input is given the list's leaves
-pub honest_leaf : {D : Type 0} (s : Setting D) (X : ℕ → D) (n k : ℕ) (r : RangeInput D) → IsHonest s X n k r → (i : ℕ) → chosen r i ≡ true → leaf_given s.hashing r i ≡ X i
+pub honest_leaf : {D : Type 0} (s : Scheme D) (X : ℕ → D) (n k : ℕ) (r : RangeInput D) → IsHonest s X n k r → (i : ℕ) → chosen r i ≡ true → leaf_given s.hashing r i ≡ X i
 honest_leaf s X n k r honest i q =
     let v = was_chosen r i q in
     honest.elements (i - r.start) (omega (arith, v.0, v.1)) ∙ ap X (add-sub_of_le v.0)

@@ -12,18 +12,19 @@ use Rattle.merkle_base.proofs.Lists.{cons_head, cons_tail}
 use Rattle.merkle_root_theory.specs.Expression.{Argument, Bytes, Expression, value}
 use Rattle.merkle_root_theory.specs.Plan.{Plan, whole}
 use Rattle.merkle_root_theory.specs.Claim.{claim_of}
-use Rattle.merkle_root_theory.specs.Check.{Setting, RangeInput, root_of, string_of, chosen, leaf_given, range_expression}
+use Rattle.merkle_root_theory.specs.Check.{RangeInput, root_of, string_of, chosen, leaf_given, range_expression}
+use Rattle.merkle_base.specs.Scheme.{Scheme}
 use Rattle.merkle_root_theory.specs.Range.{Accepts, IsEmptyInput}
 use Rattle.merkle_root_theory.specs.RootNames.{NamesRoot, RootIsNamed, YesNamesRoot, EqualRootsCollide, OtherYesCollides}
 use Rattle.merkle_root_theory.proofs.RangeChecks.{no_plan}
 
 -- ---- the root that is accepted is the one that is computed
-nothing : {D : Type 0} (s : Setting D) (r : RangeInput D) → IsEmptyInput r → range_expression s r ≡ None
+nothing : {D : Type 0} (s : Scheme D) (r : RangeInput D) → IsEmptyInput r → range_expression s r ≡ None
 nothing s r empty =
     ap (λ (o : Option Plan). option_map (λ p. claim_of s.hashing (chosen r) (leaf_given s.hashing r) p r.digests) o)
     (ap (λ n. whole s.bagging r.inactive (peaks_of s.rule n)) empty.leaves ∙ no_plan s s.bagging r.inactive)
 
-pub accepted_root : {D : Type 0} (s : Setting D) (r : RangeInput D) (root : D) → Accepts s r root → root_of s r.leaves r.inactive (range_expression s r) ≡ root
+pub accepted_root : {D : Type 0} (s : Scheme D) (r : RangeInput D) (root : D) → Accepts s r root → root_of s r.leaves r.inactive (range_expression s r) ≡ root
 accepted_root s r root (inl a) = a.root_is
 accepted_root s r root (inr a) = ap (λ e. root_of s r.leaves r.inactive e) (nothing s r a.0) ∙ ap₂ (λ n k. root_of s n k None) a.0.leaves a.0.inactive ∙ a.1
 
@@ -42,7 +43,7 @@ root_is_named s n k e =
     let o = option_map (value s.hashing) e in
     (after_count s.hashing k o, ap s.hashing.hash (begins s.hashing s.domain s.bagging n k o))
 
-pub named : {D : Type 0} (s : Setting D) (n k : ℕ) (e : Option (Expression D)) (root : D) → root_of s n k e ≡ root → NamesRoot s n root
+pub named : {D : Type 0} (s : Scheme D) (n k : ℕ) (e : Option (Expression D)) (root : D) → root_of s n k e ≡ root → NamesRoot s n root
 named s n k e root q = subst (NamesRoot s n) q (root_is_named s n k e)
 
 pub yes_names_root : {D : Type 0} → YesNamesRoot D
@@ -58,7 +59,7 @@ same_bagging BackwardFold BackwardFold e = refl
 one_string : {D : Type 0} (x y : List ℕ) → ◌≡◌ {A = Argument D} (Bytes x) (Bytes y) → x ≡ y
 one_string x y e = cc
 
-one_setting : {D : Type 0} (s t : Setting D) (n m k j : ℕ) (e f : Option (Expression D)) → string_of s n k e ≡ string_of t m j f → (s.domain ≡ t.domain) × (s.bagging ≡ t.bagging)
+one_setting : {D : Type 0} (s t : Scheme D) (n m k j : ℕ) (e f : Option (Expression D)) → string_of s n k e ≡ string_of t m j f → (s.domain ≡ t.domain) × (s.bagging ≡ t.bagging)
 one_setting s t n m k j e f same =
     let u = sym (begins s.hashing s.domain s.bagging n k (option_map (value s.hashing) e)) ∙ same ∙ begins t.hashing t.domain t.bagging m j (option_map (value t.hashing) f) in
     (cons_head _ _ _ _ u, same_bagging s.bagging t.bagging (cons_head _ _ _ _ (cons_tail _ _ _ _ u)))

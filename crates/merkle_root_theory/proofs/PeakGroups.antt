@@ -7,7 +7,7 @@ use Rattle.merkle_base.proofs.PeakLists.{Spans, spans_end, filter_yes, filter_no
 use Rattle.merkle_base.proofs.Nodes.{width_pos}
 use Rattle.merkle_root_theory.specs.Plan.{whole, tree_meets, siblings}
 use Rattle.merkle_root_theory.specs.Outside.{layout, Unmet, Met, HasLayout}
-use Rattle.merkle_root_theory.specs.Check.{Setting}
+use Rattle.merkle_base.specs.Scheme.{Scheme}
 use Rattle.merkle_base.specs.Places.{peaks_of, wholly_before}
 use Rattle.merkle_root_theory.specs.Range.{in_range, overlapping, wholly_after, range_parts, range_siblings}
 use Rattle.merkle_base.proofs.Cases.{by_test}
@@ -95,7 +95,7 @@ module _ (a b : ℕ) where
       (λ _ e. let w = and_parts (nat_lt (first_leaf t) b) (nat_lt a (end_leaf t)) e in (meets_yes ns t h.0 (ltb-true (first_leaf t) b w.0) (ltb-true a (end_leaf t) w.1) l, met_over ns ts l h.1)) (λ _ e. met_over ns ts l h.1) refl
 
 -- the parts outside a range are those of the table
-pub range_layout : {D : Type 0} (s : Setting D) (n k a b : ℕ) → a < b → b ≤ n → HasLayout (in_range a b) (range_parts s.bagging k a b (peaks_of s.rule n)) (range_siblings a b (peaks_of s.rule n)) (whole s.bagging k (peaks_of s.rule n))
+pub range_layout : {D : Type 0} (s : Scheme D) (n k a b : ℕ) → a < b → b ≤ n → HasLayout (in_range a b) (range_parts s.bagging k a b (peaks_of s.rule n)) (range_siblings a b (peaks_of s.rule n)) (whole s.bagging k (peaks_of s.rule n))
 range_layout s n k a b l m =
     let ts = peaks_of s.rule n in
     subst (λ z. HasLayout (in_range a b) (range_parts s.bagging k a b ts) (range_siblings a b ts) (whole s.bagging k z)) (sym (groups a b 0 n ts l (peaks_spans s.rule n)))

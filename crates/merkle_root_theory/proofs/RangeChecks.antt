@@ -17,7 +17,8 @@ use Rattle.merkle_base.specs.declared.family.Bagging.{Bagging}
 use Rattle.merkle_base.specs.declared.family.Bagging.TheVariants.{ForwardFold, BackwardFold}
 use Rattle.merkle_root_theory.specs.Claim.{InTree, claim_of}
 use Rattle.merkle_root_theory.specs.Outside.{HasLayout}
-use Rattle.merkle_root_theory.specs.Check.{Setting, root_of, all_inputs, list_expression, RangeInput, chosen, leaf_given, range_expression, Counts, HasHonestDigests, RangeAccepts, IsHonest, Covers}
+use Rattle.merkle_root_theory.specs.Check.{root_of, all_inputs, list_expression, RangeInput, chosen, leaf_given, range_expression, Counts, HasHonestDigests, RangeAccepts, IsHonest, Covers}
+use Rattle.merkle_base.specs.Scheme.{Scheme}
 use Rattle.merkle_base.specs.Places.{peaks_of}
 use Rattle.merkle_root_theory.specs.Range.{end_of, range_parts, range_siblings, leaf_of, range_digests, AcceptsSome, IsEmptyInput, IsHonestSome, plan_root, Sound, RangeCollides, HonestIsAccepted, AcceptedIsHonest}
 use Rattle.merkle_root_theory.proofs.ListChecks.{was_chosen, no_other_range, honest_range_accepted, root_tells}
@@ -39,35 +40,35 @@ spans_cover ns o n i [] c h a b = absurd (omega (arith, c))
 spans_cover ns o n i (t ∷ ts) c h a b = ⊎_elim (λ x. (t, inl refl, in_tree ns t i h.0 (omega (arith, c.0)) x))
     (λ x. let w = spans_cover ns (o + width t) n i ts c.1 h.1 (omega (arith, c.0, x)) b in (w.0, inr w.1, w.2)) (cases_lt i (end_leaf t))
 
-pub covers : {D : Type 0} (s : Setting D) → Covers (peaks_of s.rule)
+pub covers : {D : Type 0} (s : Scheme D) → Covers (peaks_of s.rule)
 covers s n i a = spans_cover (forest s.rule n).nodes 0 n i (peaks_of s.rule n) (peaks_spans s.rule n) (peaks_built s.rule n) (omega arith) a
 
 -- the limits
-pub small_leaves : {D : Type 0} (s : Setting D) (max_nodes n : ℕ) → IsLawful s.rule s.max_leaves max_nodes → n ≤ s.max_leaves → n < 2 ^ 64
+pub small_leaves : {D : Type 0} (s : Scheme D) (max_nodes n : ℕ) → IsLawful s.rule s.max_leaves max_nodes → n ≤ s.max_leaves → n < 2 ^ 64
 small_leaves s max_nodes n law l = omega (arith, size_large s.rule n, size_le s.rule n s.max_leaves l, law.full, law.small)
 
-pub small_inactive : {D : Type 0} (s : Setting D) (max_nodes n k : ℕ) → IsLawful s.rule s.max_leaves max_nodes → n ≤ s.max_leaves → k ≤ length (peaks_of s.rule n) → k < 2 ^ 64
+pub small_inactive : {D : Type 0} (s : Scheme D) (max_nodes n k : ℕ) → IsLawful s.rule s.max_leaves max_nodes → n ≤ s.max_leaves → k ≤ length (peaks_of s.rule n) → k < 2 ^ 64
 small_inactive s max_nodes n k law l m = omega (arith, length-reverse (forest s.rule n).peaks, length-map (forest s.rule n).peaks height, ap length (heights_forest s.rule n), law.few n l)
 
 -- no leaves, no plan
-pub no_plan : {D : Type 0} (s : Setting D) (b : Bagging) (k : ℕ) → whole b k (peaks_of s.rule 0) ≡ None
+pub no_plan : {D : Type 0} (s : Scheme D) (b : Bagging) (k : ℕ) → whole b k (peaks_of s.rule 0) ≡ None
 unfolding forest
 no_plan s ForwardFold k = refl
 no_plan s BackwardFold k = refl
 
-pub no_peaks : {D : Type 0} (s : Setting D) → length (peaks_of s.rule 0) ≡ 0
+pub no_peaks : {D : Type 0} (s : Scheme D) → length (peaks_of s.rule 0) ≡ 0
 unfolding forest
 no_peaks s = refl
 
 -- the root of no leaves is that of an empty list
-pub empty_root : {D : Type 0} (s : Setting D) (xs : List D) (k : ℕ) → k ≤ length (peaks_of s.rule (length xs)) → xs ≡ [] → root_of s 0 0 None ≡ plan_root s xs k
+pub empty_root : {D : Type 0} (s : Scheme D) (xs : List D) (k : ℕ) → k ≤ length (peaks_of s.rule (length xs)) → xs ≡ [] → root_of s 0 0 None ≡ plan_root s xs k
 empty_root s xs k low e =
     let l : 0 ≡ length xs = sym (ap length e) in
     let z : 0 ≡ k = omega (arith, subst (λ n. k ≤ length (peaks_of s.rule n)) (sym l) low, no_peaks s) in
     ap (λ o. root_of s 0 0 (option_map (full (leaf_of s.hashing xs)) o)) (sym (no_plan s s.bagging 0))
     ∙ ap₂ (λ n j. root_of s n j (list_expression s (leaf_of s.hashing xs) n j)) l z
 
-module _ {D : Type 0} (s : Setting D) (xs : List D) (r : RangeInput D) where
+module _ {D : Type 0} (s : Scheme D) (xs : List D) (r : RangeInput D) where
   counts_of : (os : List Plan) (is : List Tree) (o : Option Plan) → HasLayout (chosen r) os is o → length r.digests ≡ length os + length is → Counts r o
   counts_of os is None w e = w
   counts_of os is (Some p) w e = e ∙ sym (ap₂ (λ x y. length x + length y) w.0 w.1)
@@ -82,7 +83,7 @@ module _ {D : Type 0} (s : Setting D) (xs : List D) (r : RangeInput D) where
   digests_of os is None w e = elim e [ ]
   digests_of os is (Some p) w e = e ∙ ap₂ (λ x y. map (plan_digest s.hashing (leaf_of s.hashing xs)) x ++ map (tree_digest s.hashing (leaf_of s.hashing xs)) y) w.0 w.1
 
-pub old_accepts : {D : Type 0} (s : Setting D) (max_nodes : ℕ) → IsLawful s.rule s.max_leaves max_nodes → (r : RangeInput D) (root : D) → AcceptsSome s r root → RangeAccepts s r root
+pub old_accepts : {D : Type 0} (s : Scheme D) (max_nodes : ℕ) → IsLawful s.rule s.max_leaves max_nodes → (r : RangeInput D) (root : D) → AcceptsSome s r root → RangeAccepts s r root
 old_accepts s max_nodes law r root ok = record {
   within = ok.within;
   leaves = small_leaves s max_nodes r.leaves law ok.leaves;
@@ -92,21 +93,21 @@ old_accepts s max_nodes law r root ok = record {
 }
 
 -- elements that are a list's at each location of their range
-pub elements_are : {D : Type 0} (s : Setting D) (xs : List D) (r : RangeInput D) → end_of r ≤ length xs → ((i : ℕ) → r.start ≤ i → i < end_of r → leaf_given s.hashing r i ≡ leaf_of s.hashing xs i) → r.elements ≡ take (length r.elements) (drop r.start xs)
+pub elements_are : {D : Type 0} (s : Scheme D) (xs : List D) (r : RangeInput D) → end_of r ≤ length xs → ((i : ℕ) → r.start ≤ i → i < end_of r → leaf_given s.hashing r i ≡ leaf_of s.hashing xs i) → r.elements ≡ take (length r.elements) (drop r.start xs)
 elements_are s xs r within g =
     let long : length r.elements ≡ length (take (length r.elements) (drop r.start xs)) = sym (length-take-le (length r.elements) (drop r.start xs) (omega (arith, within, length-drop r.start xs))) in
     same_list s.hashing.empty r.elements _ long (λ j m. ap (λ z. get_or r.elements z s.hashing.empty) (sym (add-sub_cancel_left r.start j)) ∙ g (r.start + j) (omega arith) (omega arith)
     ∙ sym (get_or-take (length r.elements) (drop r.start xs) j s.hashing.empty m ∙ get_or-drop r.start xs j s.hashing.empty))
 
 -- an honest input is given the list's leaves
-pub honest_leaves : {D : Type 0} (s : Setting D) (xs : List D) (k : ℕ) (r : RangeInput D) → IsHonestSome s xs k r → (i : ℕ) → chosen r i ≡ true → leaf_given s.hashing r i ≡ leaf_of s.hashing xs i
+pub honest_leaves : {D : Type 0} (s : Scheme D) (xs : List D) (k : ℕ) (r : RangeInput D) → IsHonestSome s xs k r → (i : ℕ) → chosen r i ≡ true → leaf_given s.hashing r i ≡ leaf_of s.hashing xs i
 honest_leaves s xs k r honest i q =
     let v = was_chosen r i q in
     let m : i - r.start < length r.elements = omega (arith, v.0, v.1) in
     ap (λ z. get_or z (i - r.start) s.hashing.empty) honest.elements ∙ get_or-take (length r.elements) (drop r.start xs) (i - r.start) s.hashing.empty m ∙ get_or-drop r.start xs (i - r.start) s.hashing.empty
     ∙ ap (leaf_of s.hashing xs) (add-sub_of_le v.0)
 
-pub old_honest : {D : Type 0} (s : Setting D) (xs : List D) (k : ℕ) (r : RangeInput D) → IsHonestSome s xs k r → IsHonest s (leaf_of s.hashing xs) (length xs) k r
+pub old_honest : {D : Type 0} (s : Scheme D) (xs : List D) (k : ℕ) (r : RangeInput D) → IsHonestSome s xs k r → IsHonest s (leaf_of s.hashing xs) (length xs) k r
 old_honest s xs k r honest = record {
   leaves = honest.leaves;
   inactive = honest.inactive;
@@ -114,7 +115,7 @@ old_honest s xs k r honest = record {
   elements = λ j m. ap (λ z. get_or z j s.hashing.empty) honest.elements ∙ get_or-take (length r.elements) (drop r.start xs) j s.hashing.empty m ∙ get_or-drop r.start xs j s.hashing.empty;
 }
 
-module _ {D : Type 0} (s : Setting D) (size max_nodes : ℕ) (sound : Sound s size max_nodes) (xs : List D) (k : ℕ) (few : length xs ≤ s.max_leaves) (low : k ≤ length (peaks_of s.rule (length xs))) (r : RangeInput D) where
+module _ {D : Type 0} (s : Scheme D) (size max_nodes : ℕ) (sound : Sound s size max_nodes) (xs : List D) (k : ℕ) (few : length xs ≤ s.max_leaves) (low : k ≤ length (peaks_of s.rule (length xs))) (r : RangeInput D) where
   pub honest_some : IsHonestSome s xs k r → AcceptsSome s r (plan_root s xs k)
   honest_some honest =
       let e : length xs ≡ r.leaves = sym honest.leaves in

@@ -2,29 +2,21 @@
 use Rattle.std.specs.Prelude.{◌≡◌, ℕ, Bool, ◌&&◌, ◌⊎◌, ◌≤◌, ◌<◌, ◌+◌, ◌-◌, ◌^◌, nat_le, nat_lt, List, [], ◌∷◌, length, get_or, Option, Some, None, option_map}
 use Rattle.merkle_root_theory.specs.Expression.{Root, Bytes, Expression, value, Input, inputs}
 use Rattle.merkle_base.specs.Hashing.{Hashing, TellsApart}
+use Rattle.merkle_base.specs.Scheme.{Scheme}
 use Rattle.merkle_root_theory.specs.Collision.{Member, Collision, Collides}
 use Rattle.merkle_root_theory.specs.RootString.{ByteLaws}
 use Rattle.merkle_base.specs.Root.{root_string}
 use Rattle.merkle_base.specs.Tree.{Tree}
 use Rattle.merkle_base.specs.Places.{peaks_of}
 use Rattle.merkle_root_theory.specs.Plan.{Plan, whole, full, outer, inner, honest_digests}
-use Rattle.merkle_base.specs.declared.family.Bagging.{Bagging}
 use Rattle.merkle_root_theory.specs.Claim.{claim_of, InTree}
 
--- what is fixed for a family and a hasher
-pub record Setting (D : Type 0) : Type 0 where
-  pub hashing : Hashing D
-  pub rule : List ℕ → List ℕ
-  pub max_leaves : ℕ
-  pub bagging : Bagging
-  pub domain : ℕ
-
 -- the string of a root over the digest of an expression, if there is one
-abbrev pub string_of : {D : Type 0} → Setting D → ℕ → ℕ → Option (Expression D) → List ℕ
+abbrev pub string_of : {D : Type 0} → Scheme D → ℕ → ℕ → Option (Expression D) → List ℕ
 string_of s n k e = root_string s.hashing s.domain s.bagging n k (option_map (value s.hashing) e)
 
 -- the root over it
-abbrev pub root_of : {D : Type 0} → Setting D → ℕ → ℕ → Option (Expression D) → D
+abbrev pub root_of : {D : Type 0} → Scheme D → ℕ → ℕ → Option (Expression D) → D
 root_of s n k e = s.hashing.hash (string_of s n k e)
 
 -- the inputs of an expression, if there is one
@@ -33,11 +25,11 @@ inputs_of h None = []
 inputs_of h (Some e) = inputs h e
 
 -- all inputs: the root's, and then those of the expression
-abbrev pub all_inputs : {D : Type 0} → Setting D → ℕ → ℕ → Option (Expression D) → List (Input D)
+abbrev pub all_inputs : {D : Type 0} → Scheme D → ℕ → ℕ → Option (Expression D) → List (Input D)
 all_inputs s n k e = record { place = Root; argument = Bytes (string_of s n k e) } ∷ inputs_of s.hashing e
 
 -- the expression of a list of n leaf digests for k
-abbrev pub list_expression : {D : Type 0} → Setting D → (ℕ → D) → ℕ → ℕ → Option (Expression D)
+abbrev pub list_expression : {D : Type 0} → Scheme D → (ℕ → D) → ℕ → ℕ → Option (Expression D)
 list_expression s X n k = option_map (full X) (whole s.bagging k (peaks_of s.rule n))
 
 -- a proof with the leaf digests of the elements from start on
@@ -57,11 +49,11 @@ abbrev pub leaf_given : {D : Type 0} → Hashing D → RangeInput D → ℕ → 
 leaf_given h r i = get_or r.elements (i - r.start) h.empty
 
 -- what a range check computes, if there are peaks
-abbrev pub range_expression : {D : Type 0} → Setting D → RangeInput D → Option (Expression D)
+abbrev pub range_expression : {D : Type 0} → Scheme D → RangeInput D → Option (Expression D)
 range_expression s r = option_map (λ p. claim_of s.hashing (chosen r) (leaf_given s.hashing r) p r.digests) (whole s.bagging r.inactive (peaks_of s.rule r.leaves))
 
 -- all that is hashed for a range input
-abbrev pub range_inputs : {D : Type 0} → Setting D → RangeInput D → List (Input D)
+abbrev pub range_inputs : {D : Type 0} → Scheme D → RangeInput D → List (Input D)
 range_inputs s r = all_inputs s r.leaves r.inactive (range_expression s r)
 
 -- the proof has the digests that its plan asks for
@@ -70,7 +62,7 @@ Counts r None = ⊥
 Counts r (Some p) = length r.digests ≡ length (outer (chosen r) p) + length (inner (chosen r) p)
 
 -- what a range check by plans accepts against a root
-pub record RangeAccepts {D : Type 0} (s : Setting D) (r : RangeInput D) (root : D) : Type 0 where
+pub record RangeAccepts {D : Type 0} (s : Scheme D) (r : RangeInput D) (root : D) : Type 0 where
   pub within : r.start + length r.elements ≤ r.leaves
   pub leaves : r.leaves < 2 ^ 64
   pub inactive : r.inactive < 2 ^ 64
@@ -78,12 +70,12 @@ pub record RangeAccepts {D : Type 0} (s : Setting D) (r : RangeInput D) (root : 
   pub root_is : root_of s r.leaves r.inactive (range_expression s r) ≡ root
 
 -- the digests are the honest ones of the plan
-abbrev pub HasHonestDigests : {D : Type 0} → Setting D → (ℕ → D) → RangeInput D → Option Plan → Type 0
+abbrev pub HasHonestDigests : {D : Type 0} → Scheme D → (ℕ → D) → RangeInput D → Option Plan → Type 0
 HasHonestDigests s X r None = ⊥
 HasHonestDigests s X r (Some p) = r.digests ≡ honest_digests s.hashing X (chosen r) p
 
 -- the honest proof of a list's leaves, with those leaves
-pub record IsHonest {D : Type 0} (s : Setting D) (X : ℕ → D) (n k : ℕ) (r : RangeInput D) : Type 0 where
+pub record IsHonest {D : Type 0} (s : Scheme D) (X : ℕ → D) (n k : ℕ) (r : RangeInput D) : Type 0 where
   pub leaves : r.leaves ≡ n
   pub inactive : r.inactive ≡ k
   pub digests : HasHonestDigests s X r (whole s.bagging k (peaks_of s.rule n))
@@ -95,7 +87,7 @@ Covers forest = (n i : ℕ) → i < n → (t : Tree) × Member (forest n) t × I
 
 -- what is accepted against the root of a list is honest, or collides with the list
 abbrev pub NoOtherRange : Type 0 → Type 0
-NoOtherRange D = (s : Setting D) (size : ℕ) → TellsApart s.hashing → ByteLaws s.hashing size → Covers (peaks_of s.rule)
+NoOtherRange D = (s : Scheme D) (size : ℕ) → TellsApart s.hashing → ByteLaws s.hashing size → Covers (peaks_of s.rule)
     → (X : ℕ → D) (n k : ℕ) → n < 2 ^ 64 → k < 2 ^ 64 → (r : RangeInput D) → RangeAccepts s r (root_of s n k (list_expression s X n k))
     → IsHonest s X n k r ⊎ ((c : Collision D) × Collides s.hashing (all_inputs s r.leaves r.inactive (range_expression s r)) (all_inputs s n k (list_expression s X n k)) c)
 
@@ -106,11 +98,11 @@ SharesLeaves h r q = (r.leaves ≡ q.leaves) × (r.inactive ≡ q.inactive)
 
 -- what is accepted against one root shares its leaves, or the two collide
 abbrev pub PairConsistent : Type 0 → Type 0
-PairConsistent D = (s : Setting D) (size : ℕ) → TellsApart s.hashing → ByteLaws s.hashing size → Covers (peaks_of s.rule)
+PairConsistent D = (s : Scheme D) (size : ℕ) → TellsApart s.hashing → ByteLaws s.hashing size → Covers (peaks_of s.rule)
     → (root : D) (r q : RangeInput D) → RangeAccepts s r root → RangeAccepts s q root
     → SharesLeaves s.hashing r q ⊎ ((c : Collision D) × Collides s.hashing (all_inputs s r.leaves r.inactive (range_expression s r)) (all_inputs s q.leaves q.inactive (range_expression s q)) c)
 
 -- an honest proof is accepted
 abbrev pub HonestRangeAccepted : Type 0 → Type 0
-HonestRangeAccepted D = (s : Setting D) (X : ℕ → D) (n k : ℕ) → n < 2 ^ 64 → k < 2 ^ 64 → (r : RangeInput D) → r.start + length r.elements ≤ n → IsHonest s X n k r
+HonestRangeAccepted D = (s : Scheme D) (X : ℕ → D) (n k : ℕ) → n < 2 ^ 64 → k < 2 ^ 64 → (r : RangeInput D) → r.start + length r.elements ≤ n → IsHonest s X n k r
     → RangeAccepts s r (root_of s n k (list_expression s X n k))

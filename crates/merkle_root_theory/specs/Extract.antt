@@ -8,7 +8,8 @@ use Rattle.merkle_base.specs.Hashing.{Hashing}
 use Rattle.merkle_root_theory.specs.Plan.{tree_meets, siblings, tree_digest}
 use Rattle.merkle_root_theory.specs.Claim.{next, tree_claim}
 use Rattle.merkle_root_theory.specs.Outside.{fold_all, folded_prefix, single_before, single_after}
-use Rattle.merkle_root_theory.specs.Check.{Setting, RangeInput, leaf_given}
+use Rattle.merkle_root_theory.specs.Check.{RangeInput, leaf_given}
+use Rattle.merkle_base.specs.Scheme.{Scheme}
 use Rattle.merkle_base.specs.Places.{peaks_of, wholly_before}
 use Rattle.merkle_root_theory.specs.Range.{in_range, overlapping, wholly_after, range_parts, end_of, leaf_of, AcceptsSome, plan_root, Sound, RangeCollides}
 
@@ -31,7 +32,7 @@ single_pairs h [] ds = []
 single_pairs h (t ∷ ts) ds = (position t, next h ds) ∷ single_pairs h ts (drop 1 ds)
 
 -- the individual peaks before, the overlapping peaks, the individual peaks after
-abbrev pub extracted : {D : Type 0} → Setting D → RangeInput D → List (ℕ × D)
+abbrev pub extracted : {D : Type 0} → Scheme D → RangeInput D → List (ℕ × D)
 extracted s r =
     let ts = peaks_of s.rule r.leaves in
     let before = wholly_before r.start ts in
@@ -44,10 +45,10 @@ extracted s r =
     ++ single_pairs s.hashing (single_after s.bagging r.inactive (length before + length over) after) (drop (length single) (drop folded r.digests)))
 
 -- a position of the list's forest with its digest
-abbrev pub IsNodePair : {D : Type 0} → Setting D → List D → (ℕ × D) → Type 0
+abbrev pub IsNodePair : {D : Type 0} → Scheme D → List D → (ℕ × D) → Type 0
 IsNodePair s xs x = (t : Tree) × (slice_get (forest s.rule (length xs)).nodes x.0 ≡ Some t) × (x.1 ≡ tree_digest s.hashing (leaf_of s.hashing xs) t)
 
 -- each pair of an accepted input is one, or there is a collision
 abbrev pub ExtractsNodes : Type 0 → Type 0
-ExtractsNodes D = (s : Setting D) (size max_nodes : ℕ) → Sound s size max_nodes → (xs : List D) (k : ℕ) → length xs ≤ s.max_leaves → k ≤ length (peaks_of s.rule (length xs)) → (r : RangeInput D)
+ExtractsNodes D = (s : Scheme D) (size max_nodes : ℕ) → Sound s size max_nodes → (xs : List D) (k : ℕ) → length xs ≤ s.max_leaves → k ≤ length (peaks_of s.rule (length xs)) → (r : RangeInput D)
     → AcceptsSome s r (plan_root s xs k) → AllByRecursion (IsNodePair s xs) (extracted s r) ⊎ RangeCollides s r xs k

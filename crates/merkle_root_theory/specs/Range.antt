@@ -10,7 +10,8 @@ use Rattle.merkle_root_theory.specs.RootString.{ByteLaws}
 use Rattle.merkle_root_theory.specs.Plan.{Plan, siblings, plan_digest, tree_digest}
 use Rattle.merkle_base.specs.declared.family.Bagging.{Bagging}
 use Rattle.merkle_root_theory.specs.Outside.{layout}
-use Rattle.merkle_root_theory.specs.Check.{Setting, root_of, all_inputs, list_expression, RangeInput, range_expression, range_inputs}
+use Rattle.merkle_root_theory.specs.Check.{root_of, all_inputs, list_expression, RangeInput, range_expression, range_inputs}
+use Rattle.merkle_base.specs.Scheme.{Scheme}
 use Rattle.merkle_base.specs.Places.{peaks_of, wholly_before}
 
 -- whether i lies in a..b
@@ -38,7 +39,7 @@ abbrev pub leaf_of : {D : Type 0} → Hashing D → List D → ℕ → D
 leaf_of h xs i = get_or xs i h.empty
 
 -- the digests of a proof of a..b
-abbrev pub range_digests : {D : Type 0} → Setting D → List D → ℕ → ℕ → ℕ → List D
+abbrev pub range_digests : {D : Type 0} → Scheme D → List D → ℕ → ℕ → ℕ → List D
 range_digests s xs k a b =
     map (plan_digest s.hashing (leaf_of s.hashing xs)) (range_parts s.bagging k a b (peaks_of s.rule (length xs)))
     ++ map (tree_digest s.hashing (leaf_of s.hashing xs)) (range_siblings a b (peaks_of s.rule (length xs)))
@@ -48,7 +49,7 @@ abbrev pub end_of : {D : Type 0} → RangeInput D → ℕ
 end_of r = r.start + length r.elements
 
 -- an accepted input with elements
-pub record AcceptsSome {D : Type 0} (s : Setting D) (r : RangeInput D) (root : D) : Type 0 where
+pub record AcceptsSome {D : Type 0} (s : Scheme D) (r : RangeInput D) (root : D) : Type 0 where
   pub some : 0 < length r.elements
   pub within : end_of r ≤ r.leaves
   pub leaves : r.leaves ≤ s.max_leaves
@@ -65,16 +66,16 @@ pub record IsEmptyInput {D : Type 0} (r : RangeInput D) : Type 0 where
   pub digests : r.digests ≡ []
 
 -- an accepted input: with elements, or the empty one
-abbrev pub Accepts : {D : Type 0} → Setting D → RangeInput D → D → Type 0
+abbrev pub Accepts : {D : Type 0} → Scheme D → RangeInput D → D → Type 0
 Accepts s r root = AcceptsSome s r root ⊎ (IsEmptyInput r × (root_of s 0 0 None ≡ root))
 
 -- P for each list, and number of inactive peaks, with this root
-abbrev pub ForRootOf : {D : Type 0} → Setting D → D → (List D → ℕ → Type 0) → Type 0
+abbrev pub ForRootOf : {D : Type 0} → Scheme D → D → (List D → ℕ → Type 0) → Type 0
 ForRootOf {D} s root P =
-    (xs : List D) (k : ℕ) → length xs ≤ s.max_leaves → k ≤ length (peaks_of s.rule (length xs)) → list_root s.hashing s.rule s.domain s.bagging xs k ≡ root → P xs k
+    (xs : List D) (k : ℕ) → length xs ≤ s.max_leaves → k ≤ length (peaks_of s.rule (length xs)) → list_root s xs k ≡ root → P xs k
 
 -- the honest proof of a nonempty range of a list, with its leaves
-pub record IsHonestSome {D : Type 0} (s : Setting D) (xs : List D) (k : ℕ) (r : RangeInput D) : Type 0 where
+pub record IsHonestSome {D : Type 0} (s : Scheme D) (xs : List D) (k : ℕ) (r : RangeInput D) : Type 0 where
   pub some : 0 < length r.elements
   pub within : end_of r ≤ length xs
   pub leaves : r.leaves ≡ length xs
@@ -83,33 +84,33 @@ pub record IsHonestSome {D : Type 0} (s : Setting D) (xs : List D) (k : ℕ) (r 
   pub elements : r.elements ≡ take (length r.elements) (drop r.start xs)
 
 -- an honest input: with elements, or the empty one of the empty list
-abbrev pub IsHonestRange : {D : Type 0} → Setting D → List D → ℕ → RangeInput D → Type 0
+abbrev pub IsHonestRange : {D : Type 0} → Scheme D → List D → ℕ → RangeInput D → Type 0
 IsHonestRange s xs k r = IsHonestSome s xs k r ⊎ (IsEmptyInput r × (xs ≡ []))
 
 -- the root of a list for k
-abbrev pub plan_root : {D : Type 0} → Setting D → List D → ℕ → D
+abbrev pub plan_root : {D : Type 0} → Scheme D → List D → ℕ → D
 plan_root s xs k = root_of s (length xs) k (list_expression s (leaf_of s.hashing xs) (length xs) k)
 
 -- all that is hashed for a list
-abbrev pub list_inputs : {D : Type 0} → Setting D → List D → ℕ → List (Input D)
+abbrev pub list_inputs : {D : Type 0} → Scheme D → List D → ℕ → List (Input D)
 list_inputs s xs k = all_inputs s (length xs) k (list_expression s (leaf_of s.hashing xs) (length xs) k)
 
 -- what the family, the hasher and its digests keep
-pub record Sound {D : Type 0} (s : Setting D) (size max_nodes : ℕ) : Type 0 where
+pub record Sound {D : Type 0} (s : Scheme D) (size max_nodes : ℕ) : Type 0 where
   pub laws : TellsApart s.hashing
   pub bytes : ByteLaws s.hashing size
   pub lawful : IsLawful s.rule s.max_leaves max_nodes
 
 -- a collision of a range input with the list
-abbrev pub RangeCollides : {D : Type 0} → Setting D → RangeInput D → List D → ℕ → Type 0
+abbrev pub RangeCollides : {D : Type 0} → Scheme D → RangeInput D → List D → ℕ → Type 0
 RangeCollides {D = D} s r xs k = (c : Collision D) × Collides s.hashing (range_inputs s r) (list_inputs s xs k) c
 
 -- the honest inputs are accepted
 abbrev pub HonestIsAccepted : Type 0 → Type 0
-HonestIsAccepted D = (s : Setting D) (size max_nodes : ℕ) → Sound s size max_nodes → (xs : List D) (k : ℕ) → length xs ≤ s.max_leaves → k ≤ length (peaks_of s.rule (length xs)) → (r : RangeInput D)
+HonestIsAccepted D = (s : Scheme D) (size max_nodes : ℕ) → Sound s size max_nodes → (xs : List D) (k : ℕ) → length xs ≤ s.max_leaves → k ≤ length (peaks_of s.rule (length xs)) → (r : RangeInput D)
     → IsHonestRange s xs k r → Accepts s r (plan_root s xs k)
 
 -- and no others, but for collisions
 abbrev pub AcceptedIsHonest : Type 0 → Type 0
-AcceptedIsHonest D = (s : Setting D) (size max_nodes : ℕ) → Sound s size max_nodes → (xs : List D) (k : ℕ) → length xs ≤ s.max_leaves → k ≤ length (peaks_of s.rule (length xs)) → (r : RangeInput D)
+AcceptedIsHonest D = (s : Scheme D) (size max_nodes : ℕ) → Sound s size max_nodes → (xs : List D) (k : ℕ) → length xs ≤ s.max_leaves → k ≤ length (peaks_of s.rule (length xs)) → (r : RangeInput D)
     → Accepts s r (plan_root s xs k) → IsHonestRange s xs k r ⊎ RangeCollides s r xs k

@@ -6,23 +6,24 @@ use Rattle.merkle_base.specs.Hashing.{Hashing}
 use Rattle.merkle_base.specs.Root.{list_root}
 use Rattle.merkle_root_theory.specs.Expression.{Root, Bytes, Expression, Input}
 use Rattle.merkle_root_theory.specs.Collision.{Collides}
-use Rattle.merkle_root_theory.specs.Check.{Setting, RangeInput, root_of, all_inputs, range_inputs}
+use Rattle.merkle_root_theory.specs.Check.{RangeInput, root_of, all_inputs, range_inputs}
+use Rattle.merkle_base.specs.Scheme.{Scheme}
 use Rattle.merkle_root_theory.specs.Range.{Accepts, list_inputs}
 
 -- the root is the hash of a string that begins with the family's byte, the bagging's byte and the leaf count in 8 bytes
-abbrev pub NamesRoot : {D : Type 0} → Setting D → ℕ → D → Type 0
+abbrev pub NamesRoot : {D : Type 0} → Scheme D → ℕ → D → Type 0
 NamesRoot s n root = (rest : List ℕ) × (root ≡ s.hashing.hash (s.domain ∷ bagging_byte s.bagging ∷ to_be_bytes w64 n ++ rest))
 
 -- so is each root that is computed
 abbrev pub RootIsNamed : Type 0 → Type 0
-RootIsNamed D = (s : Setting D) (n k : ℕ) (e : Option (Expression D)) → NamesRoot s n (root_of s n k e)
+RootIsNamed D = (s : Scheme D) (n k : ℕ) (e : Option (Expression D)) → NamesRoot s n (root_of s n k e)
 
 -- and each root that a range check accepts
 abbrev pub YesNamesRoot : Type 0 → Type 0
-YesNamesRoot D = (s : Setting D) (r : RangeInput D) (root : D) → Accepts s r root → NamesRoot s r.leaves root
+YesNamesRoot D = (s : Scheme D) (r : RangeInput D) (root : D) → Accepts s r root → NamesRoot s r.leaves root
 
 -- another family's byte or another bagging, over one plain hash
-pub record AreApart {D : Type 0} (s t : Setting D) : Type 0 where
+pub record AreApart {D : Type 0} (s t : Scheme D) : Type 0 where
   pub one_hash : s.hashing.hash ≡ t.hashing.hash
   pub apart : (s.domain ≡ t.domain) × (s.bagging ≡ t.bagging) → ⊥
 
@@ -32,15 +33,15 @@ RootsCollide h xs ys = (a b : List ℕ) × Collides h xs ys (record { place = Ro
 
 -- two equal roots of settings that are apart collide, whatever is hashed for them
 abbrev pub EqualRootsCollide : Type 0 → Type 0
-EqualRootsCollide D = (s t : Setting D) → AreApart s t → (n m k j : ℕ) (e f : Option (Expression D)) → root_of s n k e ≡ root_of t m j f
+EqualRootsCollide D = (s t : Scheme D) → AreApart s t → (n m k j : ℕ) (e f : Option (Expression D)) → root_of s n k e ≡ root_of t m j f
     → RootsCollide s.hashing (all_inputs s n k e) (all_inputs t m j f)
 
 -- so does an accepted root that is also the root of a list under the other setting
 abbrev pub OtherListCollides : Type 0 → Type 0
-OtherListCollides D = (s t : Setting D) → AreApart s t → (r : RangeInput D) (root : D) → Accepts s r root
-    → (xs : List D) (k : ℕ) → list_root t.hashing t.rule t.domain t.bagging xs k ≡ root → RootsCollide s.hashing (range_inputs s r) (list_inputs t xs k)
+OtherListCollides D = (s t : Scheme D) → AreApart s t → (r : RangeInput D) (root : D) → Accepts s r root
+    → (xs : List D) (k : ℕ) → list_root t xs k ≡ root → RootsCollide s.hashing (range_inputs s r) (list_inputs t xs k)
 
 -- and one that is accepted under both
 abbrev pub OtherYesCollides : Type 0 → Type 0
-OtherYesCollides D = (s t : Setting D) → AreApart s t → (r q : RangeInput D) (root : D) → Accepts s r root → Accepts t q root
+OtherYesCollides D = (s t : Scheme D) → AreApart s t → (r q : RangeInput D) (root : D) → Accepts s r root → Accepts t q root
     → RootsCollide s.hashing (range_inputs s r) (range_inputs t q)

@@ -2,6 +2,7 @@ use Rattle.std.proofs.Common.{◌≡◌, ◌≤◌, ◌+◌, arith, refl, sym, a
 use Rattle.std.proofs.lemmas.Result.{err_from_is_err_and}
 use Rattle.merkle_base.specs.Places.{peaks_of, wholly_before}
 use Rattle.merkle_base.specs.Root.{peaks_root}
+use Rattle.merkle_base.specs.Scheme.{scheme_of}
 use Rattle.merkle_root_theory.specs.Layouts.{count_before, count_after, count_inactive}
 use Rattle.merkle_root_theory.specs.Range.{overlapping, wholly_after}
 use Rattle.merkle_hasher.proofs.PeakNodes.{peaks_at}
@@ -12,7 +13,7 @@ use Rattle.merkle_root_theory.proofs.Extraction.{all_filter}
 pub returns-in_err-end-clause-err : goal.returns-in_err-end-clause-err
 returns-in_err-end-clause-err g c =
     let p = err_from_is_err_and c.from_residual.result c.from_residual.ensures.1 in
-    rw (p.1, p.2) (λ n shape.
+    rw (p.1, p.2, g.met.H.Hasher.scheme_is c.args.hasher.now) (λ n shape.
     let long = element_count (g.H.Hasher.hashing c.args.hasher.now) (g.H.Hasher.bagging_of c.args.hasher.now) g.F.Family.rule g.F.Family.MAX_LEAVES g.F.Family.DOMAIN c.args.parts.now.leaves c.args.parts.now.inactive c.args.parts.now.digests.now c.args.start (c.args.start + length c.args.elements.now) c.args.elements.now c.requires.some refl in
     absurd (omega (arith, c.in_err-end.ensures.err (omega (arith, shape.within, long)), shape.leaves)))
 
@@ -46,7 +47,7 @@ returns-in_err-peaks-clause-err g c =
     let laid = c.layout-layout.result in
     let m_is = subst (λ z. laid.before ≡ count_before z k (wholly_before a ts)) c.root_bagging.ensures (c.layout-layout.ensures.before a b ts held) in
     let n_is = subst (λ z. laid.after ≡ count_after z k (length (wholly_before a ts) + length (overlapping a b ts)) (wholly_after b ts)) c.root_bagging.ensures (c.layout-layout.ensures.after a b ts held) in
-    rw (p.1, p.2) (λ n.
+    rw (p.1, p.2, g.met.H.Hasher.scheme_is c.args.hasher.now) (λ n.
     misshapen h bagging g.F.Family.rule g.F.Family.MAX_LEAVES g.F.Family.DOMAIN c.args.parts.now.leaves k c.args.parts.now.digests.now a b c.args.elements.now c.requires.some end.0 end.1 laid.before laid.after m_is n_is
     (λ e. c.in_err-peaks.ensures.err n (overlapping a b ts) (c.deref.ensures.value ∙ held.over) (all_filter _ _ _ (peaks_at g.F.Family.rule g.F.Family.MAX_LEAVES c.args.parts.now.leaves end.2)) e))
 
@@ -91,6 +92,6 @@ returns-clause-ok g c =
     let all = c.in_ok-peaks.peaks.items in
     let low : k ≤ length ts = omega (arith, c.if-parts-count.false, c.count.ensures a b c.args.parts.now.leaves (omega (arith, end.0, c.requires.some)) held) in
     let w = c.in_ok-peaks.ensures.ok (overlapping a b ts) (c.deref.ensures.value ∙ held.over) (all_filter _ _ _ (peaks_at g.F.Family.rule g.F.Family.MAX_LEAVES c.args.parts.now.leaves end.2)) in
-    computed h bagging g.F.Family.rule g.F.Family.MAX_LEAVES g.F.Family.DOMAIN c.args.parts.now.leaves k c.args.parts.now.digests.now a b c.args.elements.now c.requires.some end.0 end.1 laid.before laid.after m_is n_is
+    rw (g.met.H.Hasher.scheme_is c.args.hasher.now) (computed h bagging g.F.Family.rule g.F.Family.MAX_LEAVES g.F.Family.DOMAIN c.args.parts.now.leaves k c.args.parts.now.digests.now a b c.args.elements.now c.requires.some end.0 end.1 laid.before laid.after m_is n_is
     end.2 low all w laid.inactive j_is c.in-Some.root
-    (c.in-Some.ensures.1 ∙ ap (peaks_root h g.F.Family.DOMAIN bagging c.args.parts.now.leaves laid.inactive k) c.deref-2.ensures.value)
+    (c.in-Some.ensures.1 ∙ ap (λ s. peaks_root s c.args.parts.now.leaves laid.inactive k c.deref-2.result.now) (g.met.H.Hasher.scheme_is c.args.hasher.now) ∙ ap (peaks_root (scheme_of h bagging g.F.Family.rule g.F.Family.MAX_LEAVES g.F.Family.DOMAIN) c.args.parts.now.leaves laid.inactive k) c.deref-2.ensures.value))

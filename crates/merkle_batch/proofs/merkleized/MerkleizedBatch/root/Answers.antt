@@ -14,7 +14,7 @@ returns-clause-ok g c = λ enough.
     let peaks : c.as_slice.result.now ≡ c.args.self.now.own.peaks_after =
     c.as_slice.ensures.value ∙ ap (λ r. r.peaks_after) (c.behind-self.view_is ∙ c.deref.ensures) ∙ ap (λ b. b.own.peaks_after) c.self.view_is in
     let linked : IsLinked g.F.Family.rule g.F.Family.MAX_LEAVES c.args.self.now = subst (IsLinked g.F.Family.rule g.F.Family.MAX_LEAVES) c.self.view_is c.self.invariant in
-    let root = peaks_root (g.H.Hasher.hashing c.args.hasher.now) g.F.Family.DOMAIN (g.H.Hasher.bagging_of c.args.hasher.now) in
+    let root = peaks_root (g.H.Hasher.scheme c.args.hasher.now) in
     c.root.ensures.ok (omega (arith, enough, ap length peaks, linked.peaks))
     ∙ ap (λ (n : ℕ). Ok (root n c.args.inactive c.args.inactive c.as_slice.result.now)) same ∙ ap (λ ps. Ok (root c.args.self.now.leaves c.args.inactive c.args.inactive ps)) peaks
 
@@ -33,7 +33,7 @@ returns-clause-listed g c = λ ls stands enough.
     let last = last_size h rule c.args.self.now ls stands in
     let linked : IsLinked rule g.F.Family.MAX_LEAVES c.args.self.now = subst (IsLinked rule g.F.Family.MAX_LEAVES) c.self.view_is c.self.invariant in
     let same : c.args.self.now.leaves ≡ length (last_list ls) = size_inj rule c.args.self.now.leaves (length (last_list ls)) (linked.counted.sized ∙ last.0) in
-    let root = peaks_root h g.F.Family.DOMAIN (g.H.Hasher.bagging_of c.args.hasher.now) in
+    let root = peaks_root (g.H.Hasher.scheme c.args.hasher.now) in
     returns-clause-ok g c (omega (arith, enough, ap (λ (n : ℕ). length (peaks_of rule n)) same))
     ∙ ap (λ (n : ℕ). Ok (root n c.args.inactive c.args.inactive c.args.self.now.own.peaks_after)) same ∙ ap (λ ps. Ok (root (length (last_list ls)) c.args.inactive c.args.inactive ps)) last.1
 

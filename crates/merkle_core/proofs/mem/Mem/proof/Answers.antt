@@ -6,7 +6,6 @@ use Rattle.merkle_base.proofs.Limits.{lawful_leaves}
 use Rattle.merkle_batch_theory.specs.Store.{node, contents}
 use Rattle.merkle_core.proofs.HonestReads.{is_memory, range_planned}
 use Rattle.merkle_core.proofs.KeptReads.{only_memory}
-use Rattle.merkle_proof.specs.Input.{setting}
 use Rattle.merkle_root_theory.specs.Range.{IsHonestRange}
 use Rattle.merkle_proof.specs.RangePlans.{LeafRange, IsBuildRefusal, IsBuiltProof, list_input}
 use Rattle.merkle_hasher.proofs.Comparisons.{ge_yes, ge_no}
@@ -36,7 +35,7 @@ add-requires g c =
 
 pub returns-in-Ok-clause-built : goal.returns-in-Ok-clause-built
 returns-in-Ok-clause-built g c =
-    let s = setting (g.H.Hasher.hashing c.args.hasher.now) (g.H.Hasher.bagging_of c.args.hasher.now) g.F.Family.rule g.F.Family.MAX_LEAVES g.F.Family.DOMAIN in
+    let s = g.H.Hasher.scheme c.args.hasher.now in
     let below : c.args.location < c.leaves-leaves.result = ge_no c.args.location c.leaves-leaves.result (sym c.ge.ensures ∙ c.if-ge.false) in
     let leaves : c.leaves-leaves.result ≡ c.args.self.now.leaves = c.leaves-leaves.ensures.count in
     let plan : c.in-Ok.plan ≡ record { leaves = c.args.self.now.leaves; start = c.args.location; end = c.args.location + 1 } =
@@ -46,7 +45,7 @@ returns-in-Ok-clause-built g c =
 pub returns-in-Ok-clause-honest : goal.returns-in-Ok-clause-honest
 returns-in-Ok-clause-honest g c = λ X agrees.
     let h = g.H.Hasher.hashing c.args.hasher.now in
-    let s = setting h (g.H.Hasher.bagging_of c.args.hasher.now) g.F.Family.rule g.F.Family.MAX_LEAVES g.F.Family.DOMAIN in
+    let s = g.H.Hasher.scheme c.args.hasher.now in
     let below : c.args.location < c.leaves-leaves.result = ge_no c.args.location c.leaves-leaves.result (sym c.ge.ensures ∙ c.if-ge.false) in
     let leaves : c.leaves-leaves.result ≡ length X = size_inj g.F.Family.rule c.leaves-leaves.result (length X) (c.leaves-leaves.ensures.sized ∙ agrees.sized) in
     let plan : c.in-Ok.plan ≡ record { leaves = c.leaves-leaves.result; start = c.args.location; end = c.args.location + 1 } = c.in-Ok.ensures.ok ∙ ap (λ e. record { leaves = c.leaves-leaves.result; start = c.args.location; end = e }) c.add.ensures in

@@ -4,14 +4,13 @@ use Rattle.merkle_base.proofs.Nodes.{size_inj}
 use Rattle.merkle_batch_theory.specs.Store.{node, contents}
 use Rattle.merkle_core.proofs.HonestReads.{is_memory, range_planned}
 use Rattle.merkle_core.proofs.KeptReads.{only_memory}
-use Rattle.merkle_proof.specs.Input.{setting}
 use Rattle.merkle_root_theory.specs.Range.{IsHonestRange}
 use Rattle.merkle_proof.specs.RangePlans.{LeafRange, IsRefusal, IsBuildRefusal, IsBuiltProof, list_input}
 use Rattle.merkle_core.proofs.mem.Mem.range_proof.Goals as goal
 
 pub returns-in-Ok-clause-built : goal.returns-in-Ok-clause-built
 returns-in-Ok-clause-built g c =
-    let s = setting (g.H.Hasher.hashing c.args.hasher.now) (g.H.Hasher.bagging_of c.args.hasher.now) g.F.Family.rule g.F.Family.MAX_LEAVES g.F.Family.DOMAIN in
+    let s = g.H.Hasher.scheme c.args.hasher.now in
     let leaves : c.leaves-leaves.result ≡ c.args.self.now.leaves = c.leaves-leaves.ensures.count in
     let plan : c.in-Ok.plan ≡ record { leaves = c.args.self.now.leaves; start = c.args.range.start; end = c.args.range.end } = c.in-Ok.ensures.ok ∙ ap (λ m. record { leaves = m; start = c.args.range.start; end = c.args.range.end }) leaves in
     let fits = c.in-Ok.ensures.within in
@@ -19,7 +18,7 @@ returns-in-Ok-clause-built g c =
 
 pub returns-in-Ok-clause-honest : goal.returns-in-Ok-clause-honest
 returns-in-Ok-clause-honest g c = λ X agrees.
-    let s = setting (g.H.Hasher.hashing c.args.hasher.now) (g.H.Hasher.bagging_of c.args.hasher.now) g.F.Family.rule g.F.Family.MAX_LEAVES g.F.Family.DOMAIN in
+    let s = g.H.Hasher.scheme c.args.hasher.now in
     let leaves : c.leaves-leaves.result ≡ length X = size_inj g.F.Family.rule c.leaves-leaves.result (length X) (c.leaves-leaves.ensures.sized ∙ agrees.sized) in
     let plan : c.in-Ok.plan ≡ record { leaves = c.leaves-leaves.result; start = c.args.range.start; end = c.args.range.end } = c.in-Ok.ensures.ok in
     let fits = c.in-Ok.ensures.within in

@@ -19,7 +19,7 @@ front-requires g c = (omega (arith, g.met.D.Digest.small), c.write_peaks-count.e
 pub returns-clause-ok : goal.returns-clause-ok
 returns-clause-ok g c = λ enough.
     let held = c.front.ensures ∙ c.write_peaks-count.ensures.held in
-    let root = peaks_root (g.H.Hasher.hashing c.args.hasher.now) g.F.Family.DOMAIN (g.H.Hasher.bagging_of c.args.hasher.now) in
+    let root = peaks_root (g.H.Hasher.scheme c.args.hasher.now) in
     c.root.ensures.ok (omega (arith, enough, ap length held, c.write_peaks-count.ensures.many))
     ∙ (λ j. Ok (root (c.leaves.ensures.count j) c.args.inactive c.args.inactive (held j)))
 
@@ -36,7 +36,7 @@ pub returns-clause-listed : goal.returns-clause-listed
 returns-clause-listed g c = λ X agrees enough.
     let h = g.H.Hasher.hashing c.args.hasher.now in
     let rule = g.F.Family.rule in
-    let root = peaks_root h g.F.Family.DOMAIN (g.H.Hasher.bagging_of c.args.hasher.now) in
+    let root = peaks_root (g.H.Hasher.scheme c.args.hasher.now) in
     let same = listed_length h rule c.args.self.now X c.leaves.result agrees c.leaves.ensures.count c.leaves.ensures.sized in
     returns-clause-ok g c (omega (arith, enough, ap (λ n. length (peaks_of rule n)) same))
     ∙ ap (λ n. Ok (root n c.args.inactive c.args.inactive (held_peaks rule n (contents c.args.self.now)))) same

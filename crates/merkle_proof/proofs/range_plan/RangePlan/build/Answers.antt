@@ -1,6 +1,6 @@
 use Rattle.std.proofs.Common.{◌≡◌, ◌≤◌, length, arith, refl, sym, subst, ap, ◌∙◌, inr}
 use Rattle.merkle_base.specs.Places.{peaks_of}
-use Rattle.merkle_proof.specs.Input.{setting}
+use Rattle.merkle_base.specs.Scheme.{scheme_of}
 use Rattle.merkle_root_theory.specs.Range.{IsHonestRange}
 use Rattle.merkle_proof.specs.RangePlans.{LeafRange, IsBuiltProof, IsBuildRefusal, IsFirstMissing, list_input}
 use Rattle.merkle_proof.specs.declared.proof.Proof.{Proof}
@@ -30,7 +30,7 @@ returns-clause-err g c = λ other.
 
 pub returns-in-Ok-clause-built : goal.returns-in-Ok-clause-built
 returns-in-Ok-clause-built g c = λ node agree.
-    let s = setting (g.H.Hasher.hashing c.args.hasher.now) (g.H.Hasher.bagging_of c.args.hasher.now) g.F.Family.rule g.F.Family.MAX_LEAVES g.F.Family.DOMAIN in
+    let s = scheme_of (g.H.Hasher.hashing c.args.hasher.now) (g.H.Hasher.bagging_of c.args.hasher.now) g.F.Family.rule g.F.Family.MAX_LEAVES g.F.Family.DOMAIN in
     let i = c.self.invariant in
     let p : Proof g.row.F.Denot g.row.H-Digest.Denot g.row.F-Peaks.Denot g.row.F-ParentHeights.Denot = record { leaves = c.self.inside.leaves; inactive_peaks = c.args.inactive; digests = c.in-Ok.digests } in
     let n = c.self.inside.leaves in let a = c.self.inside.range.start in let b = c.self.inside.range.end in
@@ -38,12 +38,12 @@ returns-in-Ok-clause-built g c = λ node agree.
     let runs = runs_of_plan g.F.Family.rule g.F.Family.MAX_LEAVES n a b c.self.inside.peaks c.self.inside.before c.self.inside.after c.self.inside.reads.items i s.bagging c.root_bagging-bagging.result c.root_bagging-bagging.ensures
     c.args.inactive c.prefix_count-prefix.result c.single_count-single.result c.prefix_count-prefix.ensures.exact c.single_count-single.ensures.exact
     _ _ _ _ c.deref.ensures.value c.deref-2.ensures.value c.deref-3.ensures.value c.deref-4.ensures.value in
-    subst (λ r. IsBuiltProof s node c.args.inactive r p) c.self.view_is
-    (is_built s (given.G-post g c.args.get_node) p c.args.inactive n a b refl refl few _ _ _ _ runs c.in-Ok.ensures.ok node agree)
+    rw (g.met.H.Hasher.scheme_is c.args.hasher.now) (subst (λ r. IsBuiltProof s node c.args.inactive r p) c.self.view_is
+    (is_built s (given.G-post g c.args.get_node) p c.args.inactive n a b refl refl few _ _ _ _ runs c.in-Ok.ensures.ok node agree))
 
 pub returns-in-Ok-clause-honest : goal.returns-in-Ok-clause-honest
 returns-in-Ok-clause-honest g c = λ xs long right.
-    let s = setting (g.H.Hasher.hashing c.args.hasher.now) (g.H.Hasher.bagging_of c.args.hasher.now) g.F.Family.rule g.F.Family.MAX_LEAVES g.F.Family.DOMAIN in
+    let s = scheme_of (g.H.Hasher.hashing c.args.hasher.now) (g.H.Hasher.bagging_of c.args.hasher.now) g.F.Family.rule g.F.Family.MAX_LEAVES g.F.Family.DOMAIN in
     let i = c.self.invariant in
     let p : Proof g.row.F.Denot g.row.H-Digest.Denot g.row.F-Peaks.Denot g.row.F-ParentHeights.Denot = record { leaves = c.self.inside.leaves; inactive_peaks = c.args.inactive; digests = c.in-Ok.digests } in
     let n = c.self.inside.leaves in let a = c.self.inside.range.start in let b = c.self.inside.range.end in
@@ -52,5 +52,5 @@ returns-in-Ok-clause-honest g c = λ xs long right.
     c.args.inactive c.prefix_count-prefix.result c.single_count-single.result c.prefix_count-prefix.ensures.exact c.single_count-single.ensures.exact
     _ _ _ _ c.deref.ensures.value c.deref-2.ensures.value c.deref-3.ensures.value c.deref-4.ensures.value in
     let at : length xs ≡ n = long ∙ sym (ap (λ (r : LeafRange). r.leaves) c.self.view_is) in
-    subst (λ (r : LeafRange). IsHonestRange s xs c.args.inactive (list_input p xs r.start r.end)) c.self.view_is
-    (is_honest s (given.G-post g c.args.get_node) p c.args.inactive n a b refl refl few _ _ _ _ runs c.in-Ok.ensures.ok i.some i.within xs at right)
+    rw (g.met.H.Hasher.scheme_is c.args.hasher.now) (subst (λ (r : LeafRange). IsHonestRange s xs c.args.inactive (list_input p xs r.start r.end)) c.self.view_is
+    (is_honest s (given.G-post g c.args.get_node) p c.args.inactive n a b refl refl few _ _ _ _ runs c.in-Ok.ensures.ok i.some i.within xs at right))
