@@ -1,10 +1,9 @@
 -- What a structure holds before and after a request.
 use Rattle.std.proofs.Common.{◌≡◌, ℕ, ◌≤◌, List, [], ◌∷◌, ◌++◌, length, Option, None, Some, true, Ok, arith, refl, sym, ap, ◌∙◌, subst, length-append}
 use Rattle.std.specs.Prelude.{is_some}
-use Rattle.std.specs.FinMap.{empty, get}
+use Rattle.std.specs.FinMap.{get}
 use Rattle.merkle_base.specs.Forest.{size}
 use Rattle.merkle_base.specs.Hashing.{Hashing, TellsApart}
-use Rattle.merkle_base.proofs.Nodes.{size_inj}
 use Rattle.merkle_batch_theory.specs.Contents.{Agrees, AgreesWithOne, held_peaks}
 use Rattle.merkle_batch_theory.specs.Pending.{Pending, forked, kept, kept_lists, leaf_total, pending_list, with_leaf}
 use Rattle.merkle_batch_theory.specs.Recorded.{Chain, records}

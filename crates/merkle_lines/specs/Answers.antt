@@ -7,7 +7,7 @@ use Rattle.merkle_base.specs.Forest.{size}
 use Rattle.merkle_base.specs.Hashing.{Hashing}
 use Rattle.merkle_base.specs.Places.{peaks_of}
 use Rattle.merkle_base.specs.Root.{list_root}
-use Rattle.merkle_core.specs.declared.family.Bagging.{Bagging}
+use Rattle.merkle_base.specs.Scheme.{Scheme}
 use Rattle.merkle_lines.specs.declared.command.Request.{Request}
 use Rattle.merkle_lines.specs.declared.command.Request.TheVariants.{Add, Commit, Root}
 

@@ -10,6 +10,7 @@ use Rattle.merkle_lines.specs.declared.command.FamilyName.TheVariants.{Mmr, Mmb}
 use Rattle.merkle_lines.specs.declared.command.HashName.{HashName}
 use Rattle.merkle_lines.specs.declared.command.HashName.TheVariants.{Sha256, Xor8}
 use Rattle.merkle_lines.specs.Answers.{Given, Kind, kind_of, nothing, error_line, IsAnswered}
+use Rattle.merkle_base.specs.Scheme.{scheme_of}
 use Rattle.merkle_lines.specs.Commands.{words_of, joined, IsCommand}
 use Rattle.merkle_lines.specs.Hashes.{sha256_hashing, xor8_hashing}
 

@@ -2,6 +2,7 @@
 ghost use Rattle.std.specs.Prelude.{◌≡◌, ◌≤◌, ℕ, List, Option, Some, None, codes, length, IfOk, IsOkUnless};
 ghost use Rattle.merkle_hasher.specs.Standard.{standard};
 ghost use Rattle.merkle_lines.specs.Answers.{Given, kind_of, nothing, IsAnswered};
+ghost use Rattle.merkle_base.specs.Scheme.{scheme_of};
 ghost use Rattle.merkle_lines.specs.AnswerText.{answer_text};
 ghost use Rattle.merkle_lines.specs.Commands.{IsCommand};
 ghost use Rattle.merkle_lines.specs.ErrorNames.{error_name, hex_error_name};

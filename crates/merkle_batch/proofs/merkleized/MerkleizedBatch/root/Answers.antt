@@ -1,6 +1,7 @@
-use Rattle.std.proofs.Common.{◌≡◌, Ok, Err, ℕ, length, arith, ap, ◌∙◌, subst}
+use Rattle.std.proofs.Common.{◌≡◌, Ok, Err, ℕ, length, arith, ap, sym, ◌∙◌, subst}
 use Rattle.merkle_base.specs.declared.error.Error.TheVariants.{InvalidInactivePeaks}
 use Rattle.merkle_base.specs.Places.{peaks_of}
+use Rattle.merkle_base.specs.Digests.{peak_digests}
 use Rattle.merkle_base.specs.Root.{peaks_root}
 use Rattle.merkle_batch_theory.specs.Linked.{IsLinked}
 use Rattle.merkle_batch_theory.specs.Stands.{last_list}
@@ -36,6 +37,7 @@ returns-clause-listed g c = λ ls stands enough.
     let root = peaks_root (g.H.Hasher.scheme c.args.hasher.now) in
     returns-clause-ok g c (omega (arith, enough, ap (λ (n : ℕ). length (peaks_of rule n)) same))
     ∙ ap (λ (n : ℕ). Ok (root n c.args.inactive c.args.inactive c.args.self.now.own.peaks_after)) same ∙ ap (λ ps. Ok (root (length (last_list ls)) c.args.inactive c.args.inactive ps)) last.1
+    ∙ ap (λ s. Ok (root (length (last_list ls)) c.args.inactive c.args.inactive (peak_digests s.hashing s.rule (last_list ls)))) (sym (g.met.H.Hasher.scheme_is c.args.hasher.now))
 
 pub returns-clause-too_many : goal.returns-clause-too_many
 returns-clause-too_many g c = λ h ls stands many.

@@ -3,6 +3,7 @@ use Rattle.merkle_base.specs.declared.error.Error.TheVariants.{InvalidInactivePe
 use Rattle.merkle_base.specs.Forest.{size}
 use Rattle.merkle_base.specs.Hashing.{Hashing}
 use Rattle.merkle_base.specs.Places.{peaks_of}
+use Rattle.merkle_base.specs.Digests.{peak_digests}
 use Rattle.merkle_base.specs.Root.{peaks_root}
 use Rattle.merkle_batch_theory.specs.Contents.{Agrees, held_peaks}
 use Rattle.merkle_batch_theory.specs.Store.{Store, contents}
@@ -41,6 +42,7 @@ returns-clause-listed g c = λ X agrees enough.
     returns-clause-ok g c (omega (arith, enough, ap (λ n. length (peaks_of rule n)) same))
     ∙ ap (λ n. Ok (root n c.args.inactive c.args.inactive (held_peaks rule n (contents c.args.self.now)))) same
     ∙ ap (λ peaks. Ok (root (length X) c.args.inactive c.args.inactive peaks)) (peaks_agree h rule (contents c.args.self.now) X agrees)
+    ∙ ap (λ s. Ok (root (length X) c.args.inactive c.args.inactive (peak_digests s.hashing s.rule X))) (sym (g.met.H.Hasher.scheme_is c.args.hasher.now))
 
 pub returns-clause-too_many : goal.returns-clause-too_many
 returns-clause-too_many g c = λ X agrees many.
