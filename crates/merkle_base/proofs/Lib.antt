@@ -1,4 +1,5 @@
 pub mod Cases
+pub mod FirstCases
 pub mod Lists
 pub mod Growth
 pub mod Nodes

@@ -6,6 +6,7 @@ pub mod Held
 pub mod Places
 pub mod Grafting
 pub mod Bagging
+pub mod Cases
 pub mod Hashing
 pub mod Digests
 pub mod Scheme

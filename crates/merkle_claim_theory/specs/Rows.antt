@@ -44,6 +44,10 @@ other_family = record small { domain = 1 }
 abbrev pub middle : ℕ → List ℕ → RangeInput ℕ
 middle inactive digests = record { leaves = 3; inactive = inactive; digests = digests; start = 1; elements = 3 ∷ [] }
 
+-- a proof without elements
+abbrev pub no_elements : (start inactive leaves : ℕ) → List ℕ → RangeInput ℕ
+no_elements start inactive leaves digests = record { leaves = leaves; inactive = inactive; digests = digests; start = start; elements = [] }
+
 -- up to three leaves of family 8, none merged, folded right to left; nothing is hashed, so that a root is its string
 abbrev pub bare : Scheme (List ℕ)
 bare = record { hashing = unhashed; rule = unmerged; max_leaves = 3; bagging = BackwardFold; domain = 8 }

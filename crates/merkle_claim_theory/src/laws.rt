@@ -33,10 +33,12 @@ ghost use Rattle.merkle_claim_theory.specs.PlainHash.{RangeCollision, MultiColli
 ghost use Rattle.merkle_root_theory.specs.Plan.{folding, full, siblings, whole};
 ghost use Rattle.merkle_root_theory.specs.Range.{HonestIsAccepted, AcceptedIsHonest, AcceptsSome, IsHonestSome, in_range, overlapping, wholly_after, range_siblings, range_digests};
 ghost use Rattle.merkle_proof.specs.RangePlans.{reading_order};
+ghost use Rattle.merkle_base.specs.declared.error.ReconstructionError.TheVariants.{InvalidProof, MissingDigests, ExtraDigests, InvalidStartLoc, InvalidEndLoc, MissingElements, InvalidSize};
+ghost use Rattle.merkle_root_theory.specs.Reconstruction.{reconstructed, LeadsIsAccepted};
 ghost use Rattle.merkle_root_theory.specs.RootNames.{NamesRoot, AreApart, RootsCollide};
 ghost use Rattle.merkle_root_theory.specs.RootNames.{RootIsNamed, YesNamesRoot, EqualRootsCollide, OtherListCollides, OtherYesCollides};
 ghost use Rattle.merkle_root_theory.specs.RootString.{RootStringTellsAll};
-ghost use Rattle.merkle_claim_theory.specs.Rows.{four, seven, single, alone, paired, small, middle, swapped_inputs, list_inputs};
+ghost use Rattle.merkle_claim_theory.specs.Rows.{four, seven, single, alone, paired, small, middle, no_elements, swapped_inputs, list_inputs};
 ghost use Rattle.merkle_claim_theory.specs.Rows.{other_family, other_inputs, bare, bare_root, xor_bytes, one_byte};
 ghost use Rattle.merkle_claim_theory.specs.Siblings.{PathHasSiblings};
 ghost use Rattle.merkle_claim_theory.specs.Store.{PartIsAccepted, SiblingsAreRead};
@@ -275,6 +277,21 @@ pub fn worked_rows()
     ensures collides_at_node { Collides xor_hashing (node_inputs xor_hashing paired (1 ∷ 3 ∷ 7 ∷ [])) (node_inputs xor_hashing paired (3 ∷ 1 ∷ 7 ∷ []))
         (record { place = Node 2; claimed = Pair 1 3; listed = Pair 3 1 }) }
 
+    // Each refusal of a proof of the middle one of three leaves, and of a proof without elements.
+    ensures leads { reconstructed small (middle 0 (1 ∷ 7 ∷ [])) ≡ Ok 6 }
+    ensures start_past { reconstructed small (record (middle 0 []) { start = 3 }) ≡ Err InvalidStartLoc }
+    ensures end_past_limit { reconstructed small (record (middle 0 []) { start = 2; leaves = 9; elements = 3 ∷ 3 ∷ [] }) ≡ Err InvalidEndLoc }
+    ensures end_past_leaves { reconstructed small (record (middle 0 []) { leaves = 1 }) ≡ Err InvalidEndLoc }
+    ensures leaves_past_limit { reconstructed small (record (middle 9 []) { leaves = 4 }) ≡ Err InvalidSize }
+    ensures inactive_past_peaks { reconstructed small (middle 4 []) ≡ Err InvalidSize }
+    ensures digest_missing { reconstructed small (middle 0 (1 ∷ [])) ≡ Err MissingDigests }
+    ensures digest_extra { reconstructed small (middle 0 (1 ∷ 7 ∷ 7 ∷ [])) ≡ Err ExtraDigests }
+    ensures empty_leads { reconstructed small (no_elements 0 0 0 []) ≡ Ok 0 }
+    ensures empty_start { reconstructed small (no_elements 1 1 1 []) ≡ Err MissingElements }
+    ensures empty_inactive { reconstructed small (no_elements 0 1 1 []) ≡ Err InvalidProof }
+    ensures empty_leaves { reconstructed small (no_elements 0 0 1 (1 ∷ [])) ≡ Err MissingElements }
+    ensures empty_digest { reconstructed small (no_elements 0 0 0 (1 ∷ [])) ≡ Err ExtraDigests }
+
     // Where none are merged a leaf's digests are those of all others.
     ensures positions { multi_positions small 3 (1 ∷ []) ≡ 0 ∷ 2 ∷ [] }
     ensures too_many_positions { FewPositions ℕ unmerged 124 → ⊥ }
@@ -284,6 +301,9 @@ pub fn worked_rows()
 pub fn range_checks<D>()
     ensures honest { HonestIsAccepted D }
     ensures others { AcceptedIsHonest D }
+
+    // The inputs that lead to a root without a refusal are those that are accepted against it.
+    ensures leads { LeadsIsAccepted D }
 
     // The check is one test.
     ensures decides { CheckDecides D }

@@ -1,5 +1,5 @@
 -- The root that a proof and elements lead to.
-use Rattle.std.proofs.Common.{◌≡◌, ◌≢◌, ◌↔◌, ℕ, ◌+◌, ◌<◌, ◌≤◌, true, Bool, List, [], ◌∷◌, ◌++◌, length, length-append, take, drop, refl, ap, ap₂, sym, ◌∙◌, subst, arith, inl, inr}
+use Rattle.std.proofs.Common.{◌≡◌, ℕ, ◌+◌, ◌<◌, ◌≤◌, true, Bool, List, [], ◌∷◌, ◌++◌, length, length-append, take, drop, refl, ap, ap₂, sym, ◌∙◌, subst, arith}
 use Rattle.std.specs.List.{flat_map}
 use Rattle.std.specs.Borrow.{Bor}
 use Rattle.std.proofs.lemmas.List.{length-map, length-reverse}
@@ -16,9 +16,10 @@ use Rattle.merkle_root_theory.specs.Plan.{siblings}
 use Rattle.merkle_root_theory.specs.Layouts.{count_before, count_after, count_inactive}
 use Rattle.merkle_root_theory.specs.Check.{RangeInput, chosen, leaf_given}
 use Rattle.merkle_base.specs.Scheme.{Scheme, scheme_of}
-use Rattle.merkle_root_theory.specs.Range.{in_range, overlapping, wholly_after, end_of, Accepts}
+use Rattle.merkle_root_theory.specs.Range.{in_range, overlapping, wholly_after, end_of}
+use Rattle.merkle_root_theory.specs.Reconstruction.{digest_count}
 use Rattle.merkle_root_theory.specs.Walk.{bytes_of, leaf_from, peak_values, ArePeakDigests}
-use Rattle.merkle_proof.specs.Input.{range_input, HasShape, IsComputed}
+use Rattle.merkle_proof.specs.Input.{range_input, IsComputed}
 use Rattle.merkle_hasher.specs.Subtrees.{subtree_of}
 use Rattle.merkle_proof.specs.GroupedPeaks.{HoldsGroups}
 use Rattle.merkle_proof.specs.declared.groups.Groups.{Groups}
@@ -111,12 +112,12 @@ module _ {D : Type 0} (h : Hashing D) (bagging : Bagging) (rule : List ℕ → L
           is ∙ ap (λ i. peaks_root scheme leaves i inactive all) j_is ∙ layout_root scheme input some_given within_given all v,
         )
 
-    pub misshapen : length given ≢ m + n + length (flat_map (siblings (in_range a b)) (overlapping a b (peaks_of rule leaves))) → ¬ HasShape scheme input
-    misshapen differ shape =
-        let e = shape.counts ∙ ap (λ z. z + length (flat_map (siblings (chosen input)) (overlapping a (end_of input) (peaks_of rule leaves)))) (layout_counts scheme input) in
-        let f : length given ≡ digests_before + digests_after b + length (flat_map (siblings (in_range a b)) (overlapping a b (peaks_of rule leaves))) =
-        subst (λ z. length given ≡ digests_before + digests_after z + length (flat_map (siblings (in_range a z)) (overlapping a z (peaks_of rule leaves)))) (sym end_same) e in
-        differ (f ∙ ap₂ (λ i j. i + j + length (flat_map (siblings (in_range a b)) (overlapping a b (peaks_of rule leaves)))) (sym m_is) (sym n_is))
+    -- as many digests are asked for as a proof of the input has
+    pub digests_asked : m + n + length (flat_map (siblings (in_range a b)) (overlapping a b (peaks_of rule leaves))) ≡ digest_count scheme input
+    digests_asked =
+        ap₂ (λ i j. i + j + length (flat_map (siblings (in_range a b)) (overlapping a b (peaks_of rule leaves)))) m_is n_is
+        ∙ ap (λ z. digests_before + digests_after z + length (flat_map (siblings (in_range a z)) (overlapping a z (peaks_of rule leaves)))) end_same
+        ∙ ap (λ z. z + length (flat_map (siblings (chosen input)) (overlapping a (end_of input) (peaks_of rule leaves)))) (sym (layout_counts scheme input))
 
     pub never_empty : (all : List D) → AreDigests b (leaf_from h rule a (bytes_of es)) m n all → length all ≡ 0 → ⊥
     never_empty all w e =
@@ -131,16 +132,3 @@ module _ {D : Type 0} (h : Hashing D) (bagging : Bagging) (rule : List ℕ → L
 -- an input is known by the parts of its proof
 pub same_input : {D : Type 0} (s : Scheme D) (a : ℕ) (es : List (List ℕ)) (n m k j : ℕ) (ds fs : List D) → n ≡ m → k ≡ j → ds ≡ fs → range_input s n k ds a es ≡ range_input s m j fs a es
 same_input s a es n m k j ds fs p q r = ap₂ (λ x y. range_input s x y ds a es) p q ∙ ap (λ z. range_input s m j z a es) r
-
--- an input with elements whose counts are wrong isn't accepted
-pub refused : {D : Type 0} (s : Scheme D) (r : RangeInput D) (root : D) → 0 < length r.elements → ¬ HasShape s r → ¬ Accepts s r root
-refused s r root some wrong (inl ok) = wrong (record { some = ok.some; within = ok.within; leaves = ok.leaves; inactive = ok.inactive; counts = ok.counts })
-refused s r root some wrong (inr ok) = absurd (omega (arith, some, ap length ok.0.elements))
-
--- with elements, the roots that accept an input are those equal to the one that it leads to
-pub accepting : {D : Type 0} (s : Scheme D) (r : RangeInput D) (root d : D) → IsComputed s r d → (d ≡ root) ↔ Accepts s r root
-accepting s r root d k = (λ e. inl (record { some = k.0.some; within = k.0.within; leaves = k.0.leaves; inactive = k.0.inactive; counts = k.0.counts; root_is = sym k.1 ∙ e }), back)
-  where
-    back : Accepts s r root → d ≡ root
-    back (inl ok) = k.1 ∙ ok.root_is
-    back (inr ok) = absurd (omega (arith, k.0.some, ap length ok.0.elements))

@@ -1,11 +1,10 @@
 -- What the checks of a proof are given.
-use Rattle.std.specs.Prelude.{◌≡◌, ℕ, suc, ◌+◌, ◌<◌, ◌≤◌, List, [], ◌∷◌, length}
+use Rattle.std.specs.Prelude.{◌≡◌, ℕ, suc, List, [], ◌∷◌}
 use Rattle.merkle_base.specs.Forest.{size}
 use Rattle.merkle_base.specs.Hashing.{Hashing}
-use Rattle.merkle_base.specs.Places.{peaks_of}
 use Rattle.merkle_root_theory.specs.Check.{RangeInput, root_of, range_expression}
 use Rattle.merkle_base.specs.Scheme.{Scheme}
-use Rattle.merkle_root_theory.specs.Range.{end_of, range_parts, range_siblings}
+use Rattle.merkle_root_theory.specs.Reconstruction.{HasShape}
 use Rattle.merkle_proof.specs.declared.proof.Proof.{Proof}
 
 -- the leaf digests of elements from location a on
@@ -21,14 +20,6 @@ range_input s leaves inactive digests a es = record { leaves = leaves; inactive 
 abbrev pub input_of : {F D Peaks Heights : Type 0} → Scheme D → Proof F D Peaks Heights → ℕ → List (List ℕ) → RangeInput D
 input_of s p a es = range_input s p.leaves p.inactive_peaks p.digests.items a es
 
--- the counts of an input with elements are right
-pub record HasShape {D : Type 0} (s : Scheme D) (r : RangeInput D) : Type 0 where
-  pub some : 0 < length r.elements
-  pub within : end_of r ≤ r.leaves
-  pub leaves : r.leaves ≤ s.max_leaves
-  pub inactive : r.inactive ≤ length (peaks_of s.rule r.leaves)
-  pub counts : length r.digests ≡ length (range_parts s.bagging r.inactive r.start (end_of r) (peaks_of s.rule r.leaves)) + length (range_siblings r.start (end_of r) (peaks_of s.rule r.leaves))
-
--- the root that an input leads to
+-- the root that an input with elements leads to
 abbrev pub IsComputed : {D : Type 0} → Scheme D → RangeInput D → D → Type 0
 IsComputed s r d = HasShape s r × (d ≡ root_of s r.leaves r.inactive (range_expression s r))

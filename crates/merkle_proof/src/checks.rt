@@ -1,13 +1,14 @@
 //! Checks of claims against a root, over the parts of their proofs.
-ghost use Rattle.std.specs.Prelude.{◌≡◌, ◌≢◌, ◌+◌, ◌<◌, ◌≤◌, [], ◌↔◌, List, None, IsTrue, IfOk, IfErr, length, map};
+ghost use Rattle.std.specs.Prelude.{◌≡◌, ◌≢◌, ◌+◌, ◌<◌, ◌≤◌, ◌⊎◌, [], ◌↔◌, List, Some, Ok, Err, IsTrue, IfOk, IfErr, length, map};
 ghost use Rattle.std.specs.List.{flat_map};
 ghost use Rattle.merkle_base.specs.Tree.{Tree};
 ghost use Rattle.merkle_root_theory.specs.Plan.{siblings};
-ghost use Rattle.merkle_root_theory.specs.Check.{root_of};
-ghost use Rattle.merkle_root_theory.specs.Range.{in_range, Accepts, IsEmptyInput};
+ghost use Rattle.merkle_base.specs.Cases.{first_case};
+ghost use Rattle.merkle_root_theory.specs.Range.{in_range};
+ghost use Rattle.merkle_root_theory.specs.Reconstruction.{range_refusals, reconstructed};
 ghost use Rattle.merkle_hasher.specs.Subtrees.{AreNodes, subtree_of};
 ghost use Rattle.merkle_root_theory.specs.Walk.{bytes_of, leaf_from, ArePeaksWalked, ArePeakDigests};
-ghost use Rattle.merkle_proof.specs.Input.{range_input, HasShape, IsComputed};
+ghost use Rattle.merkle_proof.specs.Input.{range_input, IsComputed};
 
 use crate::groups::Groups;
 use crate::siblings::reconstruct_digest;
@@ -32,8 +33,7 @@ pub(crate) struct ProofParts<'a, F, D> {
     pub(crate) alloc: Global,
 }
 
-/// Whether the elements are the leaves from a location on of the list behind the root, or there are none and the proof is
-/// the empty one.
+/// Whether the elements from a location on lead to the root.
 pub(crate) fn verify_range<F: Family, H: Hasher<F>>(
     parts: &ProofParts<'_, F, H::Digest>,
     hasher: &H,
@@ -43,12 +43,9 @@ pub(crate) fn verify_range<F: Family, H: Hasher<F>>(
 ) -> Result<bool, OutOfMemory>
     ensures { let s = H.scheme hasher.now in
         let r = range_input s parts.now.leaves parts.now.inactive parts.now.digests.now start (bytes_of elements.now) in
-        IfOk result (λ b. IsTrue b ↔ Accepts s r root.now) }
+        IfOk result (λ b. IsTrue b ↔ (reconstructed s r ≡ Ok root.now)) }
 {
-    if elements.is_empty() {
-        return Ok(verify_empty(parts, hasher, start, root));
-    }
-    match reconstruct_range_root(parts, hasher, elements, start) {
+    match reconstruct_root(parts, hasher, elements, start) {
         Ok(computed) => Ok(computed == *root),
         Err(error) => match error {
             ReconstructionError::OutOfMemory => Err(OutOfMemory),
@@ -57,7 +54,27 @@ pub(crate) fn verify_range<F: Family, H: Hasher<F>>(
     }
 }
 
-/// The root that the elements from a location on lead to, which are some.
+/// The root that the elements from a location on lead to, or the first refusal that applies.
+pub(crate) fn reconstruct_root<F: Family, H: Hasher<F>>(
+    parts: &ProofParts<'_, F, H::Digest>,
+    hasher: &H,
+    elements: &[&[u8]],
+    start: Location<F>,
+) -> Result<H::Digest, ReconstructionError>
+    ensures ok { let s = H.scheme hasher.now in
+        let r = range_input s parts.now.leaves parts.now.inactive parts.now.digests.now start (bytes_of elements.now) in
+        IfOk result (λ d. reconstructed s r ≡ Ok d) }
+    ensures err { let s = H.scheme hasher.now in
+        let r = range_input s parts.now.leaves parts.now.inactive parts.now.digests.now start (bytes_of elements.now) in
+        IfErr result (λ e. e ≢ ReconstructionError.OutOfMemory → reconstructed s r ≡ Err e) }
+{
+    if elements.is_empty() {
+        return reconstruct_empty_root(parts, hasher, start);
+    }
+    reconstruct_range_root(parts, hasher, elements, start)
+}
+
+/// The root that some elements from a location on lead to.
 pub(crate) fn reconstruct_range_root<F: Family, H: Hasher<F>>(
     parts: &ProofParts<'_, F, H::Digest>,
     hasher: &H,
@@ -70,7 +87,7 @@ pub(crate) fn reconstruct_range_root<F: Family, H: Hasher<F>>(
         IfOk result (λ d. IsComputed s r d) }
     ensures err { let s = H.scheme hasher.now in
         let r = range_input s parts.now.leaves parts.now.inactive parts.now.digests.now start (bytes_of elements.now) in
-        IfErr result (λ e. e ≢ ReconstructionError.OutOfMemory → ¬ HasShape s r) }
+        IfErr result (λ e. e ≢ ReconstructionError.OutOfMemory → first_case (range_refusals s r) ≡ Some e) }
 {
     let end = end_from(parts.leaves, start, elements.len())?;
     let range = start..end;
@@ -78,7 +95,7 @@ pub(crate) fn reconstruct_range_root<F: Family, H: Hasher<F>>(
         return Err(ReconstructionError::OutOfMemory);
     };
     if parts.inactive > groups.count() {
-        return Err(ReconstructionError::InvalidProof);
+        return Err(ReconstructionError::InvalidSize);
     }
     let layout = groups.layout(hasher.root_bagging(), parts.inactive);
     let peaks = peak_digests(
@@ -96,25 +113,29 @@ pub(crate) fn reconstruct_range_root<F: Family, H: Hasher<F>>(
     }
 }
 
-// Whether the proof is the empty one, of no elements from location 0 on, and the root that of no leaves.
-fn verify_empty<F: Family, H: Hasher<F>>(
+// The root that no elements lead to: that of no leaves, for the empty proof from location 0 on.
+fn reconstruct_empty_root<F: Family, H: Hasher<F>>(
     parts: &ProofParts<'_, F, H::Digest>,
     hasher: &H,
     start: Location<F>,
-    root: &H::Digest,
-) -> bool
+) -> Result<H::Digest, ReconstructionError>
     ensures { let s = H.scheme hasher.now in
-        let r = range_input s parts.now.leaves parts.now.inactive parts.now.digests.now start [] in
-        IsTrue result ↔ (IsEmptyInput r × (root_of s 0 0 None ≡ root.now)) }
+        result ≡ reconstructed s (range_input s parts.now.leaves parts.now.inactive parts.now.digests.now start []) }
 {
-    if start.as_u64() != 0 || parts.leaves.as_u64() != 0 {
-        return false;
+    if start.as_u64() != 0 {
+        return Err(ReconstructionError::MissingElements);
     }
-    if parts.inactive != 0 || !parts.digests.is_empty() {
-        return false;
+    if parts.inactive != 0 {
+        return Err(ReconstructionError::InvalidProof);
+    }
+    if parts.leaves.as_u64() != 0 {
+        return Err(ReconstructionError::MissingElements);
+    }
+    if !parts.digests.is_empty() {
+        return Err(ReconstructionError::ExtraDigests);
     }
     match hasher.root_with_folded_peaks(parts.leaves, 0, 0, &[]) {
-        Some(empty) => empty == *root,
+        Some(root) => Ok(root),
         None => unreachable!(),
     }
 }
@@ -126,15 +147,24 @@ fn end_from<F: Family>(
     count: usize,
 ) -> Result<Location<F>, ReconstructionError>
     ensures ok { IfOk result (λ end. (end ≡ start + count) × (end ≤ leaves) × (leaves ≤ F.MAX_LEAVES)) }
-    ensures err { IfErr result (λ _. start + count ≤ leaves → F.MAX_LEAVES < leaves) }
+    ensures err { IfErr result (λ e. ((F.MAX_LEAVES ≤ start) × (e ≡ ReconstructionError.InvalidStartLoc))
+        ⊎ ((start < F.MAX_LEAVES) × (F.MAX_LEAVES < start + count) × (e ≡ ReconstructionError.InvalidEndLoc))
+        ⊎ ((start < F.MAX_LEAVES) × (start + count ≤ F.MAX_LEAVES) × (leaves < start + count) × (e ≡ ReconstructionError.InvalidEndLoc))
+        ⊎ ((start < F.MAX_LEAVES) × (start + count ≤ leaves) × (start + count ≤ F.MAX_LEAVES) × (F.MAX_LEAVES < leaves) × (e ≡ ReconstructionError.InvalidSize))) }
 {
+    if !start.is_valid_index() {
+        return Err(ReconstructionError::InvalidStartLoc);
+    }
+    let Some(end) = start.checked_add(count as u64) else {
+        return Err(ReconstructionError::InvalidEndLoc);
+    };
+    if end > leaves {
+        return Err(ReconstructionError::InvalidEndLoc);
+    }
     if !leaves.is_valid() {
         return Err(ReconstructionError::InvalidSize);
     }
-    match start.checked_add(count as u64) {
-        Some(end) if end <= leaves => Ok(end),
-        _ => Err(ReconstructionError::InvalidEndLoc),
-    }
+    Ok(end)
 }
 
 // The digests of all that the root folds: the given ones before, those of the peaks that overlap the range, and the given
@@ -157,7 +187,9 @@ fn peak_digests<F: Family, H: Hasher<F>>(
         → ArePeakDigests h c X ts before after parts.now.digests.now v.items) }
     ensures err { let c = in_range range.now.start range.now.end in
         IfErr result (λ e. e ≢ ReconstructionError.OutOfMemory → (ts : List Tree) → peaks.now ≡ map subtree_of ts → AreNodes F.rule F.MAX_LEAVES ts
-        → length parts.now.digests.now ≢ before + after + length (flat_map (siblings c) ts)) }
+        → let asked = before + after + length (flat_map (siblings c) ts) in
+            ((length parts.now.digests.now < asked) × (e ≡ ReconstructionError.MissingDigests))
+            ⊎ ((asked < length parts.now.digests.now) × (e ≡ ReconstructionError.ExtraDigests))) }
 {
     let Some((before, others)) = parts.digests.split_at_checked(before) else {
         return Err(ReconstructionError::MissingDigests);
@@ -195,8 +227,9 @@ fn reconstruct_peaks<F: Family, H: Hasher<F>>(
         IfOk result (λ _. (ts : List Tree) → peaks.now ≡ map subtree_of ts → AreNodes F.rule F.MAX_LEAVES ts
         → ArePeaksWalked h c X ts digests.old.now out.old.items out.new.items digests.new.now) }
     ensures err { let c = in_range range.now.start range.now.end in
-        IfErr result (λ e. e ≢ ReconstructionError.OutOfMemory → (ts : List Tree) → peaks.now ≡ map subtree_of ts → AreNodes F.rule F.MAX_LEAVES ts
-        → length digests.old.now < length (flat_map (siblings c) ts)) }
+        IfErr result (λ e. e ≢ ReconstructionError.OutOfMemory → (e ≡ ReconstructionError.MissingDigests)
+            × ((ts : List Tree) → peaks.now ≡ map subtree_of ts → AreNodes F.rule F.MAX_LEAVES ts
+            → length digests.old.now < length (flat_map (siblings c) ts))) }
 {
     for peak in peaks {
         let digest = reconstruct_digest(peak, hasher, range, elements, digests)?;

@@ -1,14 +1,15 @@
 //! Proofs of leaves against a root.
-ghost use Rattle.std.specs.Prelude.{◌≡◌, ◌≤◌, [], ◌∷◌, ◌↔◌, ◌⊎◌, ℕ, IsTrue, IfOk, length};
+ghost use Rattle.std.specs.Prelude.{◌≡◌, ◌≢◌, ◌≤◌, [], ◌∷◌, ◌↔◌, ◌⊎◌, ℕ, Ok, Err, IsTrue, IfOk, IfErr, length};
 ghost use Rattle.merkle_base.specs.Places.{inactive_peaks};
-ghost use Rattle.merkle_root_theory.specs.Range.{Accepts, ForRootOf, IsHonestRange, RangeCollides};
+ghost use Rattle.merkle_root_theory.specs.Range.{ForRootOf, IsHonestRange, RangeCollides};
+ghost use Rattle.merkle_root_theory.specs.Reconstruction.{reconstructed};
 ghost use Rattle.merkle_root_theory.specs.RootNames.{NamesRoot};
 ghost use Rattle.merkle_root_theory.specs.Walk.{bytes_of};
 ghost use Rattle.merkle_proof.specs.Input.{input_of};
 
-use crate::checks::{ProofParts, verify_range};
+use crate::checks::{ProofParts, reconstruct_root, verify_range};
 pub use crate::range_plan::RangePlan;
-use merkle_base::error::OutOfMemory;
+use merkle_base::error::{OutOfMemory, ReconstructionError};
 use merkle_base::family::Family;
 use merkle_base::location::Location;
 use merkle_digest::digest::Digest;
@@ -80,6 +81,41 @@ impl<F: Family, D: Digest> Proof<F, D> {
         }
     }
 
+    /// The root that the elements from a location on lead to.
+    ///
+    /// With elements it is the root of every list whose honest proof this is. No elements lead to a root from location 0 on
+    /// in the empty proof alone, to that of no leaves.
+    ///
+    /// # Errors
+    ///
+    /// The first that applies, with no elements:
+    /// - `MissingElements` where `start` isn't 0
+    /// - `InvalidProof` where the inactive count isn't 0
+    /// - `MissingElements` where the leaf count isn't 0
+    /// - `ExtraDigests` where there are digests
+    ///
+    /// and with elements:
+    /// - `InvalidStartLoc` where `start` isn't a valid index
+    /// - `InvalidEndLoc` where the location after the last element is past the greatest leaf count, or past the proof's
+    /// - `InvalidSize` where the proof's leaf count is past the greatest, or its inactive count past its number of peaks
+    /// - `MissingDigests`, `ExtraDigests` where the proof has fewer or more digests than the range asks for
+    ///
+    /// `OutOfMemory` wherever there is no memory.
+    pub fn reconstruct_root<H: Hasher<F, Digest = D>>(
+        &self,
+        hasher: &H,
+        elements: &[&[u8]],
+        start: Location<F>,
+    ) -> Result<D, ReconstructionError>
+        ensures ok { let s = H.scheme hasher.now in
+            IfOk result (λ d. reconstructed s (input_of s self.now start (bytes_of elements.now)) ≡ Ok d) }
+        ensures err { let s = H.scheme hasher.now in
+            IfErr result (λ e. e ≢ ReconstructionError.OutOfMemory
+            → reconstructed s (input_of s self.now start (bytes_of elements.now)) ≡ Err e) }
+    {
+        reconstruct_root(&self.parts(), hasher, elements, start)
+    }
+
     /// Whether the elements are the leaves from a location on of the list behind the root.
     ///
     /// It is answered from the proof alone. `true` means that the proof is the honest one of these leaves, or else that
@@ -97,7 +133,7 @@ impl<F: Family, D: Digest> Proof<F, D> {
         root: &D,
     ) -> Result<bool, OutOfMemory>
         ensures exact { let s = H.scheme hasher.now in
-            IfOk result (λ yes. IsTrue yes ↔ Accepts s (input_of s self.now start (bytes_of elements.now)) root.now) }
+            IfOk result (λ yes. IsTrue yes ↔ (reconstructed s (input_of s self.now start (bytes_of elements.now)) ≡ Ok root.now)) }
         ensures names { let s = H.scheme hasher.now in
             IfOk result (λ yes. IsTrue yes → NamesRoot s self.now.leaves root.now) }
         ensures honest { let s = H.scheme hasher.now in
@@ -126,7 +162,7 @@ impl<F: Family, D: Digest> Proof<F, D> {
         root: &D,
     ) -> Result<bool, OutOfMemory>
         ensures exact { let s = H.scheme hasher.now in
-            IfOk result (λ yes. IsTrue yes ↔ Accepts s (input_of s self.now location (element.now ∷ [])) root.now) }
+            IfOk result (λ yes. IsTrue yes ↔ (reconstructed s (input_of s self.now location (element.now ∷ [])) ≡ Ok root.now)) }
         ensures names { let s = H.scheme hasher.now in
             IfOk result (λ yes. IsTrue yes → NamesRoot s self.now.leaves root.now) }
         ensures honest { let s = H.scheme hasher.now in

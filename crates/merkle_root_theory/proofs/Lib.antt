@@ -16,3 +16,4 @@ pub mod LayoutFolds
 pub mod LayoutRoot
 pub mod LayoutCounts
 pub mod NamedRoots
+pub mod Reconstruction

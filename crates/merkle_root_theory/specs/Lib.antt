@@ -11,3 +11,4 @@ pub mod Extract
 pub mod Walk
 pub mod ListRoot
 pub mod RootNames
+pub mod Reconstruction

@@ -1,7 +1,7 @@
 //! Calls of proofs, and checks of given ones.
 
 use crate::digests::{digest, digests, write_proof};
-use crate::refusal::{granted, refused};
+use crate::refusal::{granted, refused, unreconstructed};
 use crate::world::World;
 use merkle_core::digest::Digest;
 use merkle_core::family::Family;
@@ -91,6 +91,21 @@ impl<F: Family, H: Hasher<F> + Drop> World<F, H> {
         Ok(())
     }
 
+    // The root that a proof and its elements lead to.
+    pub fn reconstruct(&self, words: &[&str], answer: &mut Answer) -> Result<(), Refusal> {
+        let start = Location::new(number(words, 4)?);
+        let found = elements(self.alloc, word(words, 5))?;
+        let proof = self.read_proof(words)?;
+        let all = slices(self.alloc, found.as_slice())?;
+        match proof.reconstruct_root(&self.hasher, &all, start) {
+            Ok(root) => {
+                answer.bytes(root.as_bytes());
+                Ok(())
+            }
+            Err(error) => Err(unreconstructed(&error)),
+        }
+    }
+
     pub fn check_leaf(&self, words: &[&str], answer: &mut Answer) -> Result<(), Refusal> {
         let leaf = Location::new(number(words, 4)?);
         let root = digest(self.alloc, word(words, 6))?;
@@ -123,10 +138,16 @@ pub fn check_range<F: Family, H: Hasher<F>>(
     start: Location<F>,
     root: &H::Digest,
 ) -> Result<bool, Refusal> {
+    let all = slices(alloc, elements)?;
+    let checked = proof.verify_range_inclusion(hasher, &all, start, root);
+    checked.ok().ok_or(OUT_OF_MEMORY)
+}
+
+// The elements, lent.
+fn slices<'a>(alloc: Global, elements: &'a [Vec<u8>]) -> Result<Vec<&'a [u8]>, Refusal> {
     let mut all: Vec<&[u8]> = Vec::new(alloc);
     for element in elements {
         all.push(element.as_slice())?;
     }
-    let checked = proof.verify_range_inclusion(hasher, &all, start, root);
-    checked.ok().ok_or(OUT_OF_MEMORY)
+    Ok(all)
 }

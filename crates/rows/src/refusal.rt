@@ -1,6 +1,6 @@
 //! What is written for the errors of structures.
 
-use merkle_core::error::Error;
+use merkle_core::error::{Error, ReconstructionError};
 use merkle_core::family::Family;
 use rows_text::refusal::{OUT_OF_MEMORY, Refusal};
 
@@ -34,6 +34,20 @@ pub fn refused<F: Family>(error: &Error<F>) -> Refusal {
         Error::MissingNode(position) => Refusal::Of("MissingNode", position.as_u64()),
         Error::OutOfMemory => OUT_OF_MEMORY,
         _ => Refusal::Plain("other"),
+    }
+}
+
+/// What is written for a proof that leads to no root.
+pub fn unreconstructed(error: &ReconstructionError) -> Refusal {
+    match error {
+        ReconstructionError::InvalidProof => Refusal::Plain("InvalidProof"),
+        ReconstructionError::MissingDigests => Refusal::Plain("MissingDigests"),
+        ReconstructionError::ExtraDigests => Refusal::Plain("ExtraDigests"),
+        ReconstructionError::InvalidStartLoc => Refusal::Plain("InvalidStartLoc"),
+        ReconstructionError::InvalidEndLoc => Refusal::Plain("InvalidEndLoc"),
+        ReconstructionError::MissingElements => Refusal::Plain("MissingElements"),
+        ReconstructionError::InvalidSize => Refusal::Plain("InvalidSize"),
+        ReconstructionError::OutOfMemory => OUT_OF_MEMORY,
     }
 }
 

@@ -146,6 +146,7 @@ impl<F: Family, H: Hasher<F> + Drop> World<F, H> {
             ProofCall::ProveLeaves => self.prove_leaves(words, answer),
             ProofCall::ProveRanges => self.prove_ranges(words, answer),
             ProofCall::Range => self.range(words, answer),
+            ProofCall::Reconstruct => self.reconstruct(words, answer),
         }
     }
 }

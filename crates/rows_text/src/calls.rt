@@ -82,6 +82,7 @@ pub enum ProofCall {
     ProveLeaves,
     ProveRanges,
     Range,
+    Reconstruct,
 }
 
 // Below, each call with its first word and the number of its words.
@@ -138,7 +139,7 @@ const LEAF_CALLS: [(&str, usize, LeafCall); 9] = [
     ("update_list", 3, LeafCall::UpdateList),
 ];
 
-const PROOF_CALLS: [(&str, usize, ProofCall); 9] = [
+const PROOF_CALLS: [(&str, usize, ProofCall); 10] = [
     ("check", 7, ProofCall::Check),
     ("check_leaf", 7, ProofCall::CheckLeaf),
     ("plan", 4, ProofCall::Plan),
@@ -148,6 +149,7 @@ const PROOF_CALLS: [(&str, usize, ProofCall); 9] = [
     ("prove_leaves", 3, ProofCall::ProveLeaves),
     ("prove_ranges", 3, ProofCall::ProveRanges),
     ("range", 5, ProofCall::Range),
+    ("reconstruct", 6, ProofCall::Reconstruct),
 ];
 
 /// The call with this first word and so many words.

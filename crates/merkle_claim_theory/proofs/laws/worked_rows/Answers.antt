@@ -85,6 +85,19 @@ returns c = record {
   two_forms = (λ w. w, λ w. w);
   inputs_forest = refl;
   collides_at_node = record { claimed = inl refl; listed = inl refl; differ = λ e. absurd (cc); one_digest = refl };
+  leads = refl;
+  start_past = refl;
+  end_past_limit = refl;
+  end_past_leaves = refl;
+  leaves_past_limit = refl;
+  inactive_past_peaks = refl;
+  digest_missing = refl;
+  digest_extra = refl;
+  empty_leads = refl;
+  empty_start = refl;
+  empty_inactive = refl;
+  empty_leaves = refl;
+  empty_digest = refl;
   positions = refl;
   too_many_positions = λ f. absurd (let e : 123 ≤ 122 = f (record small { rule = unmerged; max_leaves = 124 }) refl refl 124 (omega arith) (0 ∷ []) (omega arith, tt) in omega (arith, e));
 }

@@ -1,4 +1,4 @@
-use Rattle.std.proofs.Common.{◌≡◌, length, arith, rules, ap, ◌∙◌}
+use Rattle.std.proofs.Common.{◌≡◌, length, arith, rules, ap, ◌∙◌, inl}
 use Rattle.std.specs.List.{IsSplitAt}
 use Rattle.std.proofs.lemmas.Result.{err_from_is_err_and}
 use Rattle.merkle_root_theory.proofs.PeakValues.{all_digests}
@@ -7,7 +7,7 @@ use Rattle.merkle_proof.proofs.checks.peak_digests.Goals as goal
 pub returns-in_err-reconstruct_peaks-clause-err : goal.returns-in_err-reconstruct_peaks-clause-err
 returns-in_err-reconstruct_peaks-clause-err g c =
     let p = err_from_is_err_and c.from_residual.result c.from_residual.ensures.1 in
-    rw (p.1, p.2) (λ n ts e h same. absurd (omega (arith, same, c.in_err-reconstruct_peaks.ensures.err n ts e h, c.in-Some.ensures.cases.4, c.in-Some-split_at_checked.ensures.cases.4)))
+    rw (p.1, p.2) (λ n ts e h. let w = c.in_err-reconstruct_peaks.ensures.err n in inl (omega (arith, w.1 ts e h, c.in-Some.ensures.cases.4, c.in-Some-split_at_checked.ensures.cases.4), w.0))
 
 pub returns-clause-ok : goal.returns-clause-ok
 returns-clause-ok g c = λ ts e h.

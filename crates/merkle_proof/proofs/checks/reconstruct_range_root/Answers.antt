@@ -1,21 +1,44 @@
-use Rattle.std.proofs.Common.{◌≡◌, ◌≤◌, ◌+◌, arith, refl, sym, ap, ◌∙◌, subst, length}
+use Rattle.std.proofs.Common.{◌≡◌, ◌≤◌, ◌<◌, ◌+◌, arith, refl, sym, ap, ◌∙◌, subst, length, inl, inr, Some}
 use Rattle.std.proofs.lemmas.Result.{err_from_is_err_and}
 use Rattle.merkle_base.specs.Places.{peaks_of, wholly_before}
 use Rattle.merkle_base.specs.Root.{peaks_root}
 use Rattle.merkle_base.specs.Scheme.{scheme_of}
 use Rattle.merkle_root_theory.specs.Layouts.{count_before, count_after, count_inactive}
-use Rattle.merkle_root_theory.specs.Range.{overlapping, wholly_after}
+use Rattle.merkle_root_theory.specs.Range.{overlapping, wholly_after, end_of}
+use Rattle.merkle_root_theory.specs.Walk.{bytes_of}
+use Rattle.merkle_root_theory.proofs.Reconstruction.{refusal-start, refusal-end_past_limit, refusal-end, refusal-leaves, refusal-inactive, refusal-missing, refusal-extra}
+use Rattle.merkle_proof.specs.Input.{range_input}
 use Rattle.merkle_hasher.proofs.PeakNodes.{peaks_at}
-use Rattle.merkle_proof.proofs.RangeRoot.{few_peaks, element_count, computed, misshapen, never_empty, folds_given}
+use Rattle.merkle_proof.proofs.RangeRoot.{few_peaks, element_count, computed, digests_asked, never_empty, folds_given}
 use Rattle.merkle_proof.proofs.checks.reconstruct_range_root.Goals as goal
 use Rattle.merkle_root_theory.proofs.Extraction.{all_filter}
 
 pub returns-in_err-end-clause-err : goal.returns-in_err-end-clause-err
 returns-in_err-end-clause-err g c =
     let p = err_from_is_err_and c.from_residual.result c.from_residual.ensures.1 in
-    rw (p.1, p.2, g.met.H.Hasher.scheme_is c.args.hasher.now) (λ n shape.
-    let long = element_count (g.H.Hasher.hashing c.args.hasher.now) (g.H.Hasher.bagging_of c.args.hasher.now) g.F.Family.rule g.F.Family.MAX_LEAVES g.F.Family.DOMAIN c.args.parts.now.leaves c.args.parts.now.inactive c.args.parts.now.digests.now c.args.start (c.args.start + length c.args.elements.now) c.args.elements.now c.requires.some refl in
-    absurd (omega (arith, c.in_err-end.ensures.err (omega (arith, shape.within, long)), shape.leaves)))
+    let h = g.H.Hasher.hashing c.args.hasher.now in
+    let bagging = g.H.Hasher.bagging_of c.args.hasher.now in
+    let s = scheme_of h bagging g.F.Family.rule g.F.Family.MAX_LEAVES g.F.Family.DOMAIN in
+    let r = range_input s c.args.parts.now.leaves c.args.parts.now.inactive c.args.parts.now.digests.now c.args.start (bytes_of c.args.elements.now) in
+    let long = element_count h bagging g.F.Family.rule g.F.Family.MAX_LEAVES g.F.Family.DOMAIN c.args.parts.now.leaves c.args.parts.now.inactive c.args.parts.now.digests.now c.args.start (c.args.start + length c.args.elements.now) c.args.elements.now c.requires.some refl in
+    rw (p.1, p.2, g.met.H.Hasher.scheme_is c.args.hasher.now) (λ _. elim c.in_err-end.ensures.err [
+      | inl x ↦ refusal-start s r x.0 ∙ ap Some (sym x.1)
+      | inr (inl x) ↦ refusal-end_past_limit s r x.0 (omega (arith, x.1, long)) ∙ ap Some (sym x.2)
+      | inr (inr (inl x)) ↦ refusal-end s r x.0 (omega (arith, x.1, long)) (omega (arith, x.2, long)) ∙ ap Some (sym x.3)
+      | inr (inr (inr x)) ↦ refusal-leaves s r x.0 (omega (arith, x.2, long)) (omega (arith, x.1, long)) x.3 ∙ ap Some (sym x.4)
+    ])
+
+pub returns-then-parts-count-clause-err : goal.returns-then-parts-count-clause-err
+returns-then-parts-count-clause-err g c =
+    let h = g.H.Hasher.hashing c.args.hasher.now in
+    let bagging = g.H.Hasher.bagging_of c.args.hasher.now in
+    let s = scheme_of h bagging g.F.Family.rule g.F.Family.MAX_LEAVES g.F.Family.DOMAIN in
+    let r = range_input s c.args.parts.now.leaves c.args.parts.now.inactive c.args.parts.now.digests.now c.args.start (bytes_of c.args.elements.now) in
+    let end = c.in_ok-end.ensures.ok in
+    let long = element_count h bagging g.F.Family.rule g.F.Family.MAX_LEAVES g.F.Family.DOMAIN c.args.parts.now.leaves c.args.parts.now.inactive c.args.parts.now.digests.now c.args.start (c.args.start + length c.args.elements.now) c.args.elements.now c.requires.some refl in
+    rw (g.met.H.Hasher.scheme_is c.args.hasher.now) (λ _.
+    refusal-inactive s r (omega (arith, c.requires.some, long)) (omega (arith, end.0, end.1, long)) end.2
+    (omega (arith, c.if-parts-count.true, c.count.ensures c.args.start c.in_ok-end.end c.args.parts.now.leaves (omega (arith, end.0, c.requires.some)) c.in-Ok.ensures)))
 
 pub layout-layout-requires-clause-inactive : goal.layout-layout-requires-clause-inactive
 layout-layout-requires-clause-inactive g c =
@@ -47,9 +70,18 @@ returns-in_err-peaks-clause-err g c =
     let laid = c.layout-layout.result in
     let m_is = subst (λ z. laid.before ≡ count_before z k (wholly_before a ts)) c.root_bagging.ensures (c.layout-layout.ensures.before a b ts held) in
     let n_is = subst (λ z. laid.after ≡ count_after z k (length (wholly_before a ts) + length (overlapping a b ts)) (wholly_after b ts)) c.root_bagging.ensures (c.layout-layout.ensures.after a b ts held) in
+    let s = scheme_of h bagging g.F.Family.rule g.F.Family.MAX_LEAVES g.F.Family.DOMAIN in
+    let r = range_input s c.args.parts.now.leaves k c.args.parts.now.digests.now a (bytes_of c.args.elements.now) in
+    let asked = digests_asked h bagging g.F.Family.rule g.F.Family.MAX_LEAVES g.F.Family.DOMAIN c.args.parts.now.leaves k c.args.parts.now.digests.now a b c.args.elements.now c.requires.some end.0 end.1 laid.before laid.after m_is n_is in
+    let long = element_count h bagging g.F.Family.rule g.F.Family.MAX_LEAVES g.F.Family.DOMAIN c.args.parts.now.leaves k c.args.parts.now.digests.now a b c.args.elements.now c.requires.some end.0 in
+    let some : 0 < length r.elements = omega (arith, c.requires.some, long) in
+    let within : end_of r ≤ r.leaves = omega (arith, end.0, end.1, long) in
+    let low : k ≤ length ts = omega (arith, c.if-parts-count.false, c.count.ensures a b c.args.parts.now.leaves (omega (arith, end.0, c.requires.some)) held) in
     rw (p.1, p.2, g.met.H.Hasher.scheme_is c.args.hasher.now) (λ n.
-    misshapen h bagging g.F.Family.rule g.F.Family.MAX_LEAVES g.F.Family.DOMAIN c.args.parts.now.leaves k c.args.parts.now.digests.now a b c.args.elements.now c.requires.some end.0 end.1 laid.before laid.after m_is n_is
-    (λ e. c.in_err-peaks.ensures.err n (overlapping a b ts) (c.deref.ensures.value ∙ held.over) (all_filter _ _ _ (peaks_at g.F.Family.rule g.F.Family.MAX_LEAVES c.args.parts.now.leaves end.2)) e))
+    elim (c.in_err-peaks.ensures.err n (overlapping a b ts) (c.deref.ensures.value ∙ held.over) (all_filter _ _ _ (peaks_at g.F.Family.rule g.F.Family.MAX_LEAVES c.args.parts.now.leaves end.2))) [
+      | inl x ↦ refusal-missing s r some within end.2 low (omega (arith, x.0, asked)) ∙ ap Some (sym x.1)
+      | inr x ↦ refusal-extra s r some within end.2 low (omega (arith, x.0, asked)) ∙ ap Some (sym x.1)
+    ])
 
 pub unreachable-requires : goal.unreachable-requires
 unreachable-requires g c =
