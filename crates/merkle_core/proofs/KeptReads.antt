@@ -74,7 +74,7 @@ module _ (rule : List ℕ → List ℕ) (boundary n : ℕ) (within : boundary �
 pub none_missing : {D : Type 0} (s : Scheme D) (h : Hashing D) (c : Contents D) (X : List D) → Agrees h s.rule c X → (k a b p : ℕ) → c.boundary ≤ a → IsFirstMissing (λ q r. r ≡ c.node q) (map position (reading_order s.bagging k s.rule (length X) a b)) p → ⊥
 none_missing s h c X agrees k a b p low missing =
     let order = reading_order s.bagging k s.rule (length X) a b in
-    let at = all_reading_order (λ u. slice_get (forest s.rule (length X)).nodes (position u) ≡ Some u) s.bagging k s.rule (length X) a b (reads_at s (length X) a b) in
+    let at = all_reading_order (λ u. slice_get (forest s.rule (length X)).nodes (position u) ≡ Some u) s.bagging k s.rule (length X) a b (reads_at s.rule (length X) a b) in
     let all_kept = all_reading_order (λ u. is_kept s.rule c.boundary (position u) ≡ true) s.bagging k s.rule (length X) a b (reads_kept s.rule c.boundary (length X) agrees.bounded a b low) in
     let t = position_of_node s.rule (length X) order at missing.before missing.after p missing.split in
     let kept = position_kept s.rule c.boundary (length X) agrees.bounded order all_kept missing.before missing.after p missing.split in

@@ -46,13 +46,13 @@ all_siblings_at ns c [] w = tt
 all_siblings_at ns c (t ∷ ts) w = all_append (λ u. slice_get ns (position u) ≡ Some u) (siblings c t) (flat_map (siblings c) ts) (siblings_at ns c t w.0) (all_siblings_at ns c ts w.1)
 
 -- so does all that is read
-pub reads_at : {D : Type 0} (s : Scheme D) (n a b : ℕ) → AreNodes s.rule n (nodes_read s.rule n a b)
-reads_at s n a b =
-    let ts = peaks_of s.rule n in
-    let P : Tree → Type 0 = λ u. slice_get (forest s.rule n).nodes (position u) ≡ Some u in
-    let at = peaks_at s.rule n n (omega arith) in
+pub reads_at : (rule : List ℕ → List ℕ) (n a b : ℕ) → AreNodes rule n (nodes_read rule n a b)
+reads_at rule n a b =
+    let ts = peaks_of rule n in
+    let P : Tree → Type 0 = λ u. slice_get (forest rule n).nodes (position u) ≡ Some u in
+    let at = peaks_at rule n n (omega arith) in
     all_append P (wholly_before a ts) (wholly_after b ts ++ range_siblings a b ts) (all_filter P _ ts at)
-    (all_append P (wholly_after b ts) (range_siblings a b ts) (all_filter P _ ts at) (all_siblings_at (forest s.rule n).nodes (in_range a b) (overlapping a b ts) (all_filter (IsBuilt (forest s.rule n).nodes) _ ts (peaks_built s.rule n))))
+    (all_append P (wholly_after b ts) (range_siblings a b ts) (all_filter P _ ts at) (all_siblings_at (forest rule n).nodes (in_range a b) (overlapping a b ts) (all_filter (IsBuilt (forest rule n).nodes) _ ts (peaks_built rule n))))
 
 list_answers : {D : Type 0} (h : Hashing D) (rule : List ℕ → List ℕ) (xs : List D) (answered : ℕ → Option D → Type 0) → AnswersList h rule xs answered → (ts : List Tree) → AreNodes rule (length xs) ts → (ds : List D)
     → AllZip (λ p d. answered p (Some d)) (map position ts) ds → ds ≡ map (tree_digest h (leaf_of h xs)) ts
@@ -78,7 +78,7 @@ module _ {F D P Q : Type 0} (s : Scheme D) (answered : ℕ → Option D → Type
       → ((ts : List Tree) (ds : List D) → AreNodes s.rule n ts → AreAnswered answered (map position ts) ds → map at ts ≡ map told ds)
       → map told p.digests.items ≡ map part (range_parts s.bagging k a b (peaks_of s.rule n)) ++ map at (range_siblings a b (peaks_of s.rule n))
   of_runs told at part stand f =
-      let there = all_runs (λ u. slice_get (forest s.rule n).nodes (position u) ≡ Some u) s.bagging k s.rule n a b (reads_at s n a b) in
+      let there = all_runs (λ u. slice_get (forest s.rule n).nodes (position u) ≡ Some u) s.bagging k s.rule n a b (reads_at s.rule n a b) in
       let g : (ts : List Tree) (ps : List ℕ) (ds : List D) → AreNodes s.rule n ts → ps ≡ map position ts → AreAnswered answered ps ds → map at ts ≡ map told ds =
       λ ts ps ds w e r. f ts ds w (subst (λ z. AreAnswered answered z ds) e r) in
       ap (map told) laid.laid

@@ -7,3 +7,5 @@ pub mod HasherLaws
 pub mod GivenLeaves
 pub mod ReadingOrder
 pub mod ReadRuns
+pub mod RisingLists
+pub mod ReadPositions

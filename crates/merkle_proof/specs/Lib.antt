@@ -1,3 +1,5 @@
+pub mod ElementPlans
 pub mod GroupedPeaks
 pub mod Input
+pub mod Positions
 pub mod RangePlans

@@ -2,8 +2,10 @@
 #![tactic(auto)]
 
 mod checks;
+pub mod element_plan;
 mod groups;
 mod layout;
+mod positions;
 pub mod proof;
 pub mod range_plan;
 mod reading;

@@ -8,6 +8,7 @@ ghost use Rattle.merkle_root_theory.specs.Walk.{bytes_of};
 ghost use Rattle.merkle_proof.specs.Input.{input_of};
 
 use crate::checks::{ProofParts, reconstruct_root, verify_range};
+pub use crate::element_plan::ElementPlan;
 pub use crate::range_plan::RangePlan;
 use merkle_base::error::{OutOfMemory, ReconstructionError};
 use merkle_base::family::Family;
@@ -15,6 +16,12 @@ use merkle_base::location::Location;
 use merkle_digest::digest::Digest;
 use merkle_hasher::hasher::Hasher;
 use std::alloc::{AllocError, Global};
+
+/// The greatest number of digests that a proof of one element has, in the Mountain Range and in the Mountain Belt.
+///
+/// A list has at most 62 peaks. Where a Mountain Range has so many, the first leaf has 61 siblings on its path, and its proof may
+/// have a digest for each of the 61 other peaks.
+pub const MAX_PROOF_DIGESTS_PER_ELEMENT: usize = 122;
 
 /// A proof that elements are leaves of the list behind a root.
 #[derive(Debug, Drop)]

@@ -2,10 +2,13 @@
 ghost use Rattle.std.specs.Prelude.{◌≡◌, ◌≢◌, ◌<◌, ◌≤◌, ℕ, List, Option, length, IfOk, IfErr};
 ghost use Rattle.merkle_base.specs.Places.{peaks_of};
 ghost use Rattle.merkle_root_theory.specs.Range.{IsHonestRange};
+ghost use Rattle.std.specs.List.Sorted.{IsStrictlyIncreasing};
+ghost use Rattle.merkle_proof.specs.Positions.{range_positions};
 ghost use Rattle.merkle_proof.specs.RangePlans.{IsRefusal, IsBuildRefusal, IsBuiltProof, AnswersList, list_input};
 
 use crate::groups::Groups;
 use crate::layout::{prefix_count, single_count};
+use crate::positions::ascending;
 use crate::proof::Proof;
 use crate::reading::read_digests;
 use merkle_base::error::Error;
@@ -13,7 +16,7 @@ use merkle_base::family::Family;
 use merkle_base::location::Location;
 use merkle_base::position::Position;
 use merkle_hasher::hasher::Hasher;
-use std::alloc::Global;
+use std::alloc::{AllocError, Global};
 use std::marker::Model;
 use std::ops::Range;
 
@@ -81,6 +84,25 @@ impl<F: Family> RangePlan<F> {
             after,
             reads,
         })
+    }
+
+    /// The number of leaves of the list.
+    pub fn leaves(&self) -> Location<F>
+        ensures { result ≡ self.now.leaves }
+    {
+        self.leaves
+    }
+
+    /// The positions of all that a proof of the range reads, ascending, each once: of the peaks outside the range and of the path
+    /// siblings.
+    ///
+    /// Neither the bagging nor the number of inactive peaks changes them. Refused for want of memory.
+    pub fn positions(&self) -> Result<Vec<Position<F>>, AllocError>
+        ensures ok { IfOk result (λ v. v.items ≡ range_positions F.rule self.now.leaves self.now.start self.now.end) }
+        ensures rises { IfOk result (λ v. IsStrictlyIncreasing v.items) }
+    {
+        let reads = self.reads.to_vec(*self.reads.allocator())?;
+        Ok(ascending(reads))
     }
 
     /// The proof over the digests that `get_node` answers at positions, with a number of peaks that count as inactive.

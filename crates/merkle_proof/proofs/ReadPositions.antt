@@ -1,0 +1,37 @@
+-- The positions of what a range proof reads, ascending.
+use Rattle.std.proofs.Common.{◌≡◌, ℕ, ◌<◌, ◌||◌, nat_eq, List, [], ◌∷◌, refl, ap₂, sym, ◌∙◌, subst, map}
+use Rattle.std.specs.List.{AllByRecursion, list_any, Contains}
+use Rattle.std.specs.Cmp.{nat_eq_equiv}
+use Rattle.std.proofs.lemmas.Bool.{eqb-true}
+use Rattle.std.proofs.lemmas.List.Elements.{All-contains, All-from_recursion}
+use Rattle.std.proofs.lemmas.Map.Views.{Contains-from_any, list_any-from_Contains}
+use Rattle.std.proofs.lemmas.Option.{slice_get_within}
+use Rattle.merkle_base.specs.Tree.{Tree, position}
+use Rattle.merkle_base.specs.Forest.{forest, size}
+use Rattle.merkle_hasher.specs.Subtrees.{AreNodes}
+use Rattle.merkle_proof.specs.Positions.{IsAscendingOf, positions_among, range_positions}
+use Rattle.merkle_proof.specs.RangePlans.{nodes_read}
+use Rattle.merkle_proof.proofs.BuiltDigests.{reads_at}
+use Rattle.merkle_proof.proofs.RisingLists.{rises_filter}
+
+-- whether a node stands at p
+stands : (ts : List Tree) (p : ℕ) → list_any (λ t. nat_eq (position t) p) ts ≡ list_any (nat_eq p) (map position ts)
+stands [] p = refl
+stands (t ∷ ts) p = ap₂ (λ a b. a || b) (nat_eq_equiv.symm (position t) p) (stands ts p)
+
+positions_below : (rule : List ℕ → List ℕ) (n : ℕ) (ts : List Tree) → AreNodes rule n ts → AllByRecursion (λ p. p < size rule n) (map position ts)
+positions_below rule n [] at = tt
+positions_below rule n (t ∷ ts) at = (slice_get_within (forest rule n).nodes (position t) t at.0, positions_below rule n ts at.1)
+
+-- an ascending list of the positions of some nodes is the list by the forest
+pub ascending_positions : (rule : List ℕ → List ℕ) (n : ℕ) (ts : List Tree) (xs zs : List ℕ) → AreNodes rule n ts → xs ≡ map position ts → IsAscendingOf xs zs → zs ≡ positions_among (size rule n) ts
+ascending_positions rule n ts xs zs at is once = rises_filter (λ p. list_any (λ t. nat_eq (position t) p) ts) (size rule n) zs once.rises
+    (λ p w.
+    let there : Contains (map position ts) p = subst (λ l. Contains l p) is (once.adds_none p w) in (
+      All-contains (λ q. q < size rule n) (map position ts) p (All-from_recursion (λ q. q < size rule n) (map position ts) (positions_below rule n ts at)) there,
+      stands ts p ∙ list_any-from_Contains nat_eq_equiv p (map position ts) there,
+    ))
+    (λ p w. once.keeps p (subst (λ l. Contains l p) (sym is) (Contains-from_any eqb-true p (map position ts) (sym (stands ts p) ∙ w))))
+
+pub range_ascending : (rule : List ℕ → List ℕ) (n a b : ℕ) (xs zs : List ℕ) → xs ≡ map position (nodes_read rule n a b) → IsAscendingOf xs zs → zs ≡ range_positions rule n a b
+range_ascending rule n a b xs zs is once = ascending_positions rule n (nodes_read rule n a b) xs zs (reads_at rule n a b) is once

@@ -1,0 +1,12 @@
+use Rattle.std.proofs.Common.{◌≡◌, ◌∙◌, subst, rules}
+use Rattle.merkle_proof.specs.Positions.{range_positions}
+use Rattle.merkle_proof.specs.RangePlans.{LeafRange}
+use Rattle.merkle_proof.proofs.ReadPositions.{range_ascending}
+use Rattle.merkle_proof.proofs.range_plan.RangePlan.positions.Goals as goal
+
+pub returns-clause-ok : goal.returns-clause-ok
+returns-clause-ok g c =
+    let i = c.self.inside in
+    let copied : c.in_ok-reads.reads.items ≡ i.reads.items = search rules in
+    subst (λ (r : LeafRange). c.ascending.result.items ≡ range_positions g.F.Family.rule r.leaves r.start r.end) c.self.view_is
+    (range_ascending g.F.Family.rule i.leaves i.range.start i.range.end _ _ (copied ∙ c.self.invariant.reads_are) c.ascending.ensures)

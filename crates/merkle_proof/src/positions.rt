@@ -1,0 +1,13 @@
+//! Positions in ascending order.
+ghost use Rattle.merkle_proof.specs.Positions.{IsAscendingOf};
+
+use merkle_base::position::Position;
+
+/// The positions in ascending order, each once.
+pub(crate) fn ascending<F>(mut positions: Vec<Position<F>>) -> Vec<Position<F>>
+    ensures { IsAscendingOf positions.items result.items }
+{
+    positions.sort_unstable();
+    positions.dedup();
+    positions
+}
