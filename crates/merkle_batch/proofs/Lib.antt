@@ -4,3 +4,4 @@ pub mod NewDigests
 pub mod Merkleizing
 pub mod MerkleizeFacts
 pub mod PeakCounts
+pub mod KeptReads

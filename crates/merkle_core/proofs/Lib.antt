@@ -1,2 +1,1 @@
 pub mod HonestReads
-pub mod KeptReads

@@ -14,7 +14,7 @@ ghost use Rattle.merkle_batch_theory.specs.Recorded.{records};
 ghost use Rattle.merkle_batch_theory.specs.Stands.{StandsOn, last_list};
 ghost use Rattle.merkle_batch_theory.specs.Replay.{applied, matched, refusal};
 ghost use Rattle.merkle_batch_theory.specs.Refusals.{error_of};
-ghost use Rattle.merkle_core.specs.ProofRefusals.{IsProofRefusal, IsRangeRefusal};
+ghost use Rattle.merkle_proof.specs.ProofRefusals.{IsProofRefusal, IsRangeRefusal};
 ghost use Rattle.merkle_root_theory.specs.Range.{IsHonestRange};
 ghost use Rattle.merkle_proof.specs.RangePlans.{IsBuildRefusal, IsBuiltProof, LeafRange, list_input};
 

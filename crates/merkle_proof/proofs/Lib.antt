@@ -9,3 +9,4 @@ pub mod ReadingOrder
 pub mod ReadRuns
 pub mod RisingLists
 pub mod ReadPositions
+pub mod RefusedProofs

@@ -2,4 +2,5 @@ pub mod ElementPlans
 pub mod GroupedPeaks
 pub mod Input
 pub mod Positions
+pub mod ProofRefusals
 pub mod RangePlans

@@ -4,8 +4,9 @@ use Rattle.std.proofs.lemmas.Result.{IfErr-weaker, IfOk-weaker}
 use Rattle.merkle_base.proofs.Nodes.{size_inj}
 use Rattle.merkle_base.proofs.Limits.{lawful_leaves}
 use Rattle.merkle_batch_theory.specs.Store.{node, contents}
-use Rattle.merkle_core.proofs.HonestReads.{is_memory, range_planned}
-use Rattle.merkle_core.proofs.KeptReads.{only_memory}
+use Rattle.merkle_batch.proofs.KeptReads.{only_memory}
+use Rattle.merkle_core.proofs.HonestReads.{answered_kept}
+use Rattle.merkle_proof.proofs.RefusedProofs.{is_memory, range_planned}
 use Rattle.merkle_root_theory.specs.Range.{IsHonestRange}
 use Rattle.merkle_proof.specs.RangePlans.{LeafRange, IsBuildRefusal, IsBuiltProof, list_input}
 use Rattle.merkle_hasher.proofs.Comparisons.{ge_yes, ge_no}
@@ -57,7 +58,7 @@ returns-in-Ok-clause-given g c = λ h X agrees low less few.
     let leaves : c.leaves-leaves.result ≡ length X = size_inj g.F.Family.rule c.leaves-leaves.result (length X) (c.leaves-leaves.ensures.sized ∙ agrees.sized) in
     let plan : c.in-Ok.plan ≡ record { leaves = length X; start = c.args.location; end = c.args.location + 1 } =
     c.in-Ok.ensures.ok ∙ ap (λ e. record { leaves = c.leaves-leaves.result; start = c.args.location; end = e }) c.add.ensures ∙ ap (λ m. record { leaves = m; start = c.args.location; end = c.args.location + 1 }) leaves in
-    IfErr-weaker c.build_proof.result _ _ (λ e refused. only_memory h (g.H.Hasher.bagging_of c.args.hasher.now) g.F.Family.rule (contents c.args.self.now) X agrees c.args.location (c.args.location + 1) c.args.inactive low few e
+    IfErr-weaker c.build_proof.result _ _ (λ e refused. only_memory h g.F.Family.rule c.args.self.now.boundary (length X) agrees.bounded (node c.args.self.now) (answered_kept h g.F.Family.rule (contents c.args.self.now) X agrees) (g.H.Hasher.bagging_of c.args.hasher.now) c.args.location (c.args.location + 1) c.args.inactive low few e
     (λ other. subst (λ r. IsBuildRefusal (g.H.Hasher.bagging_of c.args.hasher.now) g.F.Family.rule r c.args.inactive (λ p o. o ≡ node c.args.self.now p) e) plan (refused other))) c.build_proof.ensures.err
 
 pub returns-in-Ok-clause-err : goal.returns-in-Ok-clause-err

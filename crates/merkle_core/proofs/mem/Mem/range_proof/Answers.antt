@@ -2,8 +2,9 @@ use Rattle.std.proofs.Common.{◌≡◌, ℕ, length, arith, ap, sym, ◌∙◌,
 use Rattle.std.proofs.lemmas.Result.{IfErr-weaker, IfOk-weaker}
 use Rattle.merkle_base.proofs.Nodes.{size_inj}
 use Rattle.merkle_batch_theory.specs.Store.{node, contents}
-use Rattle.merkle_core.proofs.HonestReads.{is_memory, range_planned}
-use Rattle.merkle_core.proofs.KeptReads.{only_memory}
+use Rattle.merkle_batch.proofs.KeptReads.{only_memory}
+use Rattle.merkle_core.proofs.HonestReads.{answered_kept}
+use Rattle.merkle_proof.proofs.RefusedProofs.{is_memory, range_planned}
 use Rattle.merkle_root_theory.specs.Range.{IsHonestRange}
 use Rattle.merkle_proof.specs.RangePlans.{LeafRange, IsRefusal, IsBuildRefusal, IsBuiltProof, list_input}
 use Rattle.merkle_core.proofs.mem.Mem.range_proof.Goals as goal
@@ -29,7 +30,7 @@ pub returns-in-Ok-clause-given : goal.returns-in-Ok-clause-given
 returns-in-Ok-clause-given g c = λ h X agrees low some less few.
     let leaves : c.leaves-leaves.result ≡ length X = size_inj g.F.Family.rule c.leaves-leaves.result (length X) (c.leaves-leaves.ensures.sized ∙ agrees.sized) in
     let plan : c.in-Ok.plan ≡ record { leaves = length X; start = c.args.range.start; end = c.args.range.end } = c.in-Ok.ensures.ok ∙ ap (λ m. record { leaves = m; start = c.args.range.start; end = c.args.range.end }) leaves in
-    IfErr-weaker c.build_proof.result _ _ (λ e refused. only_memory h (g.H.Hasher.bagging_of c.args.hasher.now) g.F.Family.rule (contents c.args.self.now) X agrees c.args.range.start c.args.range.end c.args.inactive low few e
+    IfErr-weaker c.build_proof.result _ _ (λ e refused. only_memory h g.F.Family.rule c.args.self.now.boundary (length X) agrees.bounded (node c.args.self.now) (answered_kept h g.F.Family.rule (contents c.args.self.now) X agrees) (g.H.Hasher.bagging_of c.args.hasher.now) c.args.range.start c.args.range.end c.args.inactive low few e
     (λ other. subst (λ r. IsBuildRefusal (g.H.Hasher.bagging_of c.args.hasher.now) g.F.Family.rule r c.args.inactive (λ p o. o ≡ node c.args.self.now p) e) plan (refused other))) c.build_proof.ensures.err
 
 pub returns-in-Ok-clause-err : goal.returns-in-Ok-clause-err

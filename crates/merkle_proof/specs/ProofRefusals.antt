@@ -1,4 +1,4 @@
--- Why a structure gives no proof of a leaf, or of a range of leaves.
+-- Why a structure or a batch gives no proof of a leaf, or of a range of leaves.
 use Rattle.std.specs.Prelude.{◌≡◌, ℕ, ◌+◌, ◌≤◌, ◌<◌, ◌⊎◌, List, Option}
 use Rattle.merkle_base.specs.declared.family.Bagging.{Bagging}
 use Rattle.merkle_base.specs.declared.error.Error.{Error}

@@ -1,29 +1,26 @@
 -- What the proof of leaves at or after the boundary reads is held.
-use Rattle.std.proofs.Common.{inl, inr, ◌≡◌, ◌≢◌, ◌<◌, ℕ, ◌≤◌, List, [], ◌∷◌, ◌++◌, length, map, flat_map, Bool, true, cond, Some, None, slice_get, refl, ap, sym, ◌∙◌, subst, arith, leb, ltb}
+use Rattle.std.proofs.Common.{inl, inr, ◌≡◌, ◌≢◌, ◌<◌, ℕ, ◌≤◌, List, [], ◌∷◌, ◌++◌, length, map, flat_map, Bool, true, cond, Option, Some, None, slice_get, refl, sym, ◌∙◌, subst, arith, leb, ltb}
 use Rattle.std.specs.Prelude.{◌||◌}
 use Rattle.std.specs.List.{AllByRecursion}
 use Rattle.std.proofs.lemmas.Bool.{leb-true, and_parts, or_cases}
 use Rattle.merkle_base.specs.Tree.{Tree, leaf, join, position, IsUnder, IsBuilt}
 use Rattle.merkle_base.specs.Forest.{forest}
 use Rattle.merkle_base.specs.Hashing.{Hashing}
-use Rattle.merkle_base.specs.Digests.{digest_at, node_digests}
 use Rattle.merkle_base.specs.Places.{peaks_of, wholly_before}
 use Rattle.merkle_base.specs.declared.error.Error.{Error}
 use Rattle.merkle_base.specs.declared.error.Error.TheVariants.{OutOfMemory}
 use Rattle.merkle_base.specs.declared.family.Bagging.{Bagging}
 use Rattle.merkle_base.proofs.Nodes.{all_append}
-use Rattle.merkle_base.specs.Scheme.{Scheme, scheme_of}
 use Rattle.merkle_root_theory.specs.Plan.{siblings, tree_meets}
 use Rattle.merkle_root_theory.specs.Range.{in_range, overlapping, wholly_after, range_siblings}
 use Rattle.merkle_proof.specs.RangePlans.{IsBuildRefusal, IsFirstMissing, nodes_read, reading_order}
 use Rattle.merkle_proof.proofs.BuiltDigests.{reads_at}
 use Rattle.merkle_root_theory.proofs.Extraction.{all_filter}
 use Rattle.merkle_proof.proofs.ReadingOrder.{all_reading_order}
-use Rattle.merkle_batch_theory.specs.Contents.{Contents, Agrees, is_kept}
+use Rattle.merkle_batch_theory.specs.Contents.{is_kept}
 use Rattle.merkle_draft.proofs.NodePositions.{position_of_node}
-use Rattle.merkle_core.proofs.HonestReads.{is_memory}
+use Rattle.merkle_proof.proofs.RefusedProofs.{is_memory}
 use Rattle.merkle_batch_theory.proofs.Items.{get_reversed}
-use Rattle.merkle_batch_theory.proofs.Kept.{get_map}
 use Rattle.merkle_batch_theory.proofs.Needs.{sibling_kept, peaks_kept}
 use Rattle.merkle_base.proofs.Cases.{by_test}
 use Rattle.merkle_base.proofs.Lists.{all_from_get}
@@ -70,24 +67,29 @@ module _ (rule : List ℕ → List ℕ) (boundary n : ℕ) (within : boundary �
   position_kept (t ∷ ts) k [] rest p e = let same : position t ≡ p = cc in subst (λ q. is_kept rule boundary q ≡ true) same k.0
   position_kept (t ∷ ts) k (d ∷ done) rest p e = let more : map position ts ≡ done ++ p ∷ rest = cc in position_kept ts k.1 done rest p more
 
--- nothing that such a proof reads is missing
-pub none_missing : {D : Type 0} (s : Scheme D) (h : Hashing D) (c : Contents D) (X : List D) → Agrees h s.rule c X → (k a b p : ℕ) → c.boundary ≤ a → IsFirstMissing (λ q r. r ≡ c.node q) (map position (reading_order s.bagging k s.rule (length X) a b)) p → ⊥
-none_missing s h c X agrees k a b p low missing =
-    let order = reading_order s.bagging k s.rule (length X) a b in
-    let at = all_reading_order (λ u. slice_get (forest s.rule (length X)).nodes (position u) ≡ Some u) s.bagging k s.rule (length X) a b (reads_at s.rule (length X) a b) in
-    let all_kept = all_reading_order (λ u. is_kept s.rule c.boundary (position u) ≡ true) s.bagging k s.rule (length X) a b (reads_kept s.rule c.boundary (length X) agrees.bounded a b low) in
-    let t = position_of_node s.rule (length X) order at missing.before missing.after p missing.split in
-    let kept = position_kept s.rule c.boundary (length X) agrees.bounded order all_kept missing.before missing.after p missing.split in
-    let there : c.node p ≡ Some (digest_at h X t.0) = agrees.holds p ∙ ap (λ k. cond k (slice_get (node_digests h s.rule X) p) None) kept ∙ get_map (digest_at h X) (forest s.rule (length X)).nodes p t.0 t.1 in
-    let none : Some (digest_at h X t.0) ≡ None = sym there ∙ sym missing.missing in absurd (cc)
+-- nodes of n leaves are answered wherever the boundary keeps them
+abbrev pub IsAnsweredWhereKept : {D : Type 0} → (rule : List ℕ → List ℕ) → (boundary n : ℕ) → (ℕ → Option D) → Type 0
+IsAnsweredWhereKept {D} rule boundary n node = (p : ℕ) (t : Tree) → slice_get (forest rule n).nodes p ≡ Some t → is_kept rule boundary p ≡ true → (d : D) × (node p ≡ Some d)
 
--- the proof of leaves at or after the boundary is refused for want of memory alone
-pub only_memory : {F D : Type 0} (h : Hashing D) (bagging : Bagging) (rule : List ℕ → List ℕ) (c : Contents D) (X : List D) → Agrees h rule c X → (a b k : ℕ) → c.boundary ≤ a → k ≤ length (peaks_of rule (length X)) → (e : Error F)
-    → (e ≢ OutOfMemory → IsBuildRefusal bagging rule (record { leaves = length X; start = a; end = b }) k (λ p r. r ≡ c.node p) e) → e ≡ OutOfMemory
-only_memory {F} {D} h bagging rule c X agrees a b k low few e refused = elim (is_memory e) [
-  | inr is ↦ is
-  | inl other ↦ absurd (elim (refused other) [
-    | inl x ↦ (let no : length (peaks_of rule (length X)) < k = x.0 in omega (arith, no, few))
-    | inr x ↦ none_missing (scheme_of h bagging rule 0 0) h c X agrees k a b x.1.0 low x.1.2
-  ])
-]
+module _ {D : Type 0} (h : Hashing D) (rule : List ℕ → List ℕ) (boundary n : ℕ) (within : boundary ≤ n) (node : ℕ → Option D) (answered : IsAnsweredWhereKept rule boundary n node) where
+  -- then nothing that such a proof reads is missing
+  none_missing : (bagging : Bagging) (k a b p : ℕ) → boundary ≤ a → IsFirstMissing (λ q r. r ≡ node q) (map position (reading_order bagging k rule n a b)) p → ⊥
+  none_missing bagging k a b p low missing =
+      let order = reading_order bagging k rule n a b in
+      let at = all_reading_order (λ u. slice_get (forest rule n).nodes (position u) ≡ Some u) bagging k rule n a b (reads_at rule n a b) in
+      let all_kept = all_reading_order (λ u. is_kept rule boundary (position u) ≡ true) bagging k rule n a b (reads_kept rule boundary n within a b low) in
+      let t = position_of_node rule n order at missing.before missing.after p missing.split in
+      let kept = position_kept rule boundary n within order all_kept missing.before missing.after p missing.split in
+      let d = answered p t.0 t.1 kept in
+      let none : Some d.0 ≡ None = sym d.1 ∙ sym missing.missing in absurd (cc)
+
+  -- and the proof of leaves at or after the boundary is refused for want of memory alone
+  pub only_memory : {F : Type 0} (bagging : Bagging) (a b k : ℕ) → boundary ≤ a → k ≤ length (peaks_of rule n) → (e : Error F)
+      → (e ≢ OutOfMemory → IsBuildRefusal bagging rule (record { leaves = n; start = a; end = b }) k (λ p r. r ≡ node p) e) → e ≡ OutOfMemory
+  only_memory bagging a b k low few e refused = elim (is_memory e) [
+    | inr is ↦ is
+    | inl other ↦ absurd (elim (refused other) [
+      | inl x ↦ (let no : length (peaks_of rule n) < k = x.0 in omega (arith, no, few))
+      | inr x ↦ none_missing bagging k a b x.1.0 low x.1.2
+    ])
+  ]
