@@ -4,4 +4,5 @@
 #![tactic(auto)]
 
 pub mod batch;
+mod batch_proofs;
 mod merkleized;

@@ -1,0 +1,84 @@
+use Rattle.std.proofs.Common.{◌≡◌, ◌+◌, ◌<◌, ◌≤◌, length, arith, ap, sym, ◌∙◌, refl, inl, inr, subst}
+use Rattle.std.proofs.lemmas.Bool.{false≢true}
+use Rattle.std.proofs.lemmas.Result.{IfErr-weaker, IfOk-weaker}
+use Rattle.merkle_base.proofs.Limits.{lawful_leaves}
+use Rattle.merkle_batch_theory.specs.Read.{read_over}
+use Rattle.merkle_batch_theory.specs.Recorded.{records}
+use Rattle.merkle_batch_theory.specs.Stands.{last_list}
+use Rattle.merkle_batch.proofs.KeptReads.{only_memory}
+use Rattle.merkle_batch.proofs.BatchReads.{boundary_within, read_where_kept, leaves_of_last}
+use Rattle.merkle_proof.proofs.RefusedProofs.{is_memory, range_planned}
+use Rattle.merkle_root_theory.specs.Range.{IsHonestRange}
+use Rattle.merkle_proof.specs.RangePlans.{LeafRange, IsBuildRefusal, IsBuiltProof, list_input}
+use Rattle.merkle_hasher.proofs.Comparisons.{ge_yes, ge_no}
+use Rattle.merkle_batch.proofs.merkleized.MerkleizedBatch.proof.Goals as goal
+
+pub returns-then-not-is_valid_index-clause-given : goal.returns-then-not-is_valid_index-clause-given
+returns-then-not-is_valid_index-clause-given g c = λ h ls stands agrees low less few.
+    let leaves : c.leaves-leaves.result ≡ length (last_list ls) = leaves_of_last h g.F.Family.rule c.args.self.now ls stands c.leaves-leaves.result c.leaves-leaves.ensures.sized in
+    absurd (false≢true (c.if-not-is_valid_index.ensures.1 (omega (arith, leaves, less, c.leaves-leaves.ensures.bounded))))
+
+pub returns-then-ge-clause-given : goal.returns-then-ge-clause-given
+returns-then-ge-clause-given g c = λ h ls stands agrees low less few.
+    let leaves : c.leaves-leaves.result ≡ length (last_list ls) = leaves_of_last h g.F.Family.rule c.args.self.now ls stands c.leaves-leaves.result c.leaves-leaves.ensures.sized in
+    let past : c.leaves-leaves.result ≤ c.args.location = ge_yes c.args.location c.leaves-leaves.result (sym c.ge.ensures ∙ c.if-ge.true) in
+    absurd (omega (arith, leaves, past, less))
+
+pub returns-then-ge-clause-err : goal.returns-then-ge-clause-err
+returns-then-ge-clause-err g c = λ _.
+    let leaves : c.leaves-leaves.result ≡ c.args.self.now.leaves = c.leaves-leaves.ensures.count in
+    let past : c.leaves-leaves.result ≤ c.args.location = ge_yes c.args.location c.leaves-leaves.result (sym c.ge.ensures ∙ c.if-ge.true) in
+    inr (inl (c.if-not-is_valid_index.ensures.0 refl, omega (arith, leaves, past), refl))
+
+pub add-requires : goal.add-requires
+add-requires g c =
+    let below : c.args.location < c.leaves-leaves.result = ge_no c.args.location c.leaves-leaves.result (sym c.ge.ensures ∙ c.if-ge.false) in
+    omega (arith, below, c.leaves-leaves.ensures.bounded, lawful_leaves g.F.Family.rule g.F.Family.MAX_LEAVES g.F.Family.MAX_NODES g.met.F.Family.lawful)
+
+pub returns-in-Ok-clause-built : goal.returns-in-Ok-clause-built
+returns-in-Ok-clause-built g c =
+    let s = g.H.Hasher.scheme c.args.hasher.now in
+    let below : c.args.location < c.leaves-leaves.result = ge_no c.args.location c.leaves-leaves.result (sym c.ge.ensures ∙ c.if-ge.false) in
+    let leaves : c.leaves-leaves.result ≡ c.args.self.now.leaves = c.leaves-leaves.ensures.count in
+    let plan : c.in-Ok.plan ≡ record { leaves = c.args.self.now.leaves; start = c.args.location; end = c.args.location + 1 } =
+    c.in-Ok.ensures.ok ∙ ap (λ e. record { leaves = c.leaves-leaves.result; start = c.args.location; end = e }) c.add.ensures ∙ ap (λ m. record { leaves = m; start = c.args.location; end = c.args.location + 1 }) leaves in
+    IfOk-weaker c.build_proof.result _ _ (λ p built. (omega (arith, below, leaves), subst (λ (r : LeafRange). IsBuiltProof s (read_over (records c.args.self.now) (g.B.Base.contents c.args.base.now)) c.args.inactive r p) plan built)) c.build_proof.ensures.built
+
+pub returns-in-Ok-clause-honest : goal.returns-in-Ok-clause-honest
+returns-in-Ok-clause-honest g c = λ ls stands agrees.
+    let h = g.H.Hasher.hashing c.args.hasher.now in
+    let s = setting h (g.H.Hasher.bagging_of c.args.hasher.now) g.F.Family.rule g.F.Family.MAX_LEAVES g.F.Family.DOMAIN in
+    let below : c.args.location < c.leaves-leaves.result = ge_no c.args.location c.leaves-leaves.result (sym c.ge.ensures ∙ c.if-ge.false) in
+    let leaves : c.leaves-leaves.result ≡ length (last_list ls) = leaves_of_last h g.F.Family.rule c.args.self.now ls stands c.leaves-leaves.result c.leaves-leaves.ensures.sized in
+    let plan : c.in-Ok.plan ≡ record { leaves = c.leaves-leaves.result; start = c.args.location; end = c.args.location + 1 } = c.in-Ok.ensures.ok ∙ ap (λ e. record { leaves = c.leaves-leaves.result; start = c.args.location; end = e }) c.add.ensures in
+    IfOk-weaker c.build_proof.result _ _ (λ p honest. (omega (arith, below, leaves), subst (λ (r : LeafRange). IsHonestRange s (last_list ls) c.args.inactive (list_input p (last_list ls) r.start r.end)) plan honest))
+    (c.build_proof.ensures.honest ls (sym leaves ∙ sym (ap (λ (r : LeafRange). r.leaves) plan)) stands agrees)
+
+pub returns-in-Ok-clause-given : goal.returns-in-Ok-clause-given
+returns-in-Ok-clause-given g c = λ h ls stands agrees low less few.
+    let leaves : c.leaves-leaves.result ≡ length (last_list ls) = leaves_of_last h g.F.Family.rule c.args.self.now ls stands c.leaves-leaves.result c.leaves-leaves.ensures.sized in
+    let plan : c.in-Ok.plan ≡ record { leaves = length (last_list ls); start = c.args.location; end = c.args.location + 1 } =
+    c.in-Ok.ensures.ok ∙ ap (λ e. record { leaves = c.leaves-leaves.result; start = c.args.location; end = e }) c.add.ensures ∙ ap (λ m. record { leaves = m; start = c.args.location; end = c.args.location + 1 }) leaves in
+    IfErr-weaker c.build_proof.result _ _ (λ e refused. only_memory h g.F.Family.rule (g.B.Base.contents c.args.base.now).boundary (length (last_list ls)) (boundary_within h g.F.Family.rule (records c.args.self.now) (g.B.Base.contents c.args.base.now) ls stands agrees) (read_over (records c.args.self.now) (g.B.Base.contents c.args.base.now)) (read_where_kept h g.F.Family.rule (records c.args.self.now) (g.B.Base.contents c.args.base.now) ls stands agrees) (g.H.Hasher.bagging_of c.args.hasher.now) c.args.location (c.args.location + 1) c.args.inactive low few e
+    (λ other. subst (λ r. IsBuildRefusal (g.H.Hasher.bagging_of c.args.hasher.now) g.F.Family.rule r c.args.inactive (λ p o. o ≡ (read_over (records c.args.self.now) (g.B.Base.contents c.args.base.now)) p) e) plan (refused other))) c.build_proof.ensures.err
+
+pub returns-in-Ok-clause-err : goal.returns-in-Ok-clause-err
+returns-in-Ok-clause-err g c =
+    let below : c.args.location < c.leaves-leaves.result = ge_no c.args.location c.leaves-leaves.result (sym c.ge.ensures ∙ c.if-ge.false) in
+    let leaves : c.leaves-leaves.result ≡ c.args.self.now.leaves = c.leaves-leaves.ensures.count in
+    let plan : c.in-Ok.plan ≡ record { leaves = c.args.self.now.leaves; start = c.args.location; end = c.args.location + 1 } =
+    c.in-Ok.ensures.ok ∙ ap (λ e. record { leaves = c.leaves-leaves.result; start = c.args.location; end = e }) c.add.ensures ∙ ap (λ m. record { leaves = m; start = c.args.location; end = c.args.location + 1 }) leaves in
+    IfErr-weaker c.build_proof.result _ _ (λ e refused other. inr (inr (omega (arith, below, leaves), subst (λ r. IsBuildRefusal (g.H.Hasher.bagging_of c.args.hasher.now) g.F.Family.rule r c.args.inactive (λ p o. o ≡ (read_over (records c.args.self.now) (g.B.Base.contents c.args.base.now)) p) e) plan (refused other)))) c.build_proof.ensures.err
+
+pub returns-in-Err-clause-given : goal.returns-in-Err-clause-given
+returns-in-Err-clause-given g c = λ h ls stands agrees low less few.
+    let below : c.args.location < c.leaves-leaves.result = ge_no c.args.location c.leaves-leaves.result (sym c.ge.ensures ∙ c.if-ge.false) in
+    elim (is_memory c.in-Err.error) [
+      | inr is ↦ is
+      | inl other ↦ absurd (range_planned g.F.Family.MAX_LEAVES c.leaves-leaves.result c.args.location c.add.result c.in-Err.error (omega (arith, c.add.ensures)) (omega (arith, below, c.add.ensures)) c.leaves-leaves.ensures.bounded (c.in-Err.ensures.err other))
+    ]
+
+pub returns-in-Err-clause-err : goal.returns-in-Err-clause-err
+returns-in-Err-clause-err g c = λ other.
+    let below : c.args.location < c.leaves-leaves.result = ge_no c.args.location c.leaves-leaves.result (sym c.ge.ensures ∙ c.if-ge.false) in
+    absurd (range_planned g.F.Family.MAX_LEAVES c.leaves-leaves.result c.args.location c.add.result c.in-Err.error (omega (arith, c.add.ensures)) (omega (arith, below, c.add.ensures)) c.leaves-leaves.ensures.bounded (c.in-Err.ensures.err other))

@@ -1,0 +1,149 @@
+//! Proofs of leaves of a merkleized batch, over a base that holds what its records do not.
+ghost use Rattle.std.specs.Prelude.{◌≡◌, ◌≢◌, ◌+◌, ◌<◌, ◌≤◌, List, length, IfOk, IfErr, IsOkUnless};
+ghost use Rattle.merkle_base.specs.Hashing.{Hashing};
+ghost use Rattle.merkle_base.specs.Places.{peaks_of};
+ghost use Rattle.merkle_batch_theory.specs.Contents.{AgreesWithOne};
+ghost use Rattle.merkle_batch_theory.specs.Read.{read_over};
+ghost use Rattle.merkle_batch_theory.specs.Recorded.{records};
+ghost use Rattle.merkle_batch_theory.specs.Stands.{StandsOn, last_list};
+ghost use Rattle.merkle_proof.specs.ProofRefusals.{IsProofRefusal, IsRangeRefusal};
+ghost use Rattle.merkle_proof.specs.RangePlans.{IsBuildRefusal, IsBuiltProof, LeafRange, list_input};
+ghost use Rattle.merkle_root_theory.specs.Range.{IsHonestRange};
+
+use crate::merkleized::MerkleizedBatch;
+use merkle_base::error::Error;
+use merkle_base::family::Family;
+use merkle_base::location::Location;
+use merkle_base::position::Position;
+use merkle_digest::digest::Digest;
+use merkle_draft::base::Base;
+use merkle_hasher::hasher::Hasher;
+use merkle_proof::proof::Proof;
+use merkle_proof::range_plan::RangePlan;
+use std::ops::Range;
+
+// A batch and the base below it, of one lifetime, so that one closure can read both.
+#[derive(Drop)]
+struct BatchOver<'a, F: Family, D: Digest, B: Base<F, Digest = D>> {
+    batch: &'a MerkleizedBatch<F, D>,
+    base: &'a B,
+}
+
+impl<'a, F: Family, D: Digest, B: Base<F, Digest = D>> BatchOver<'a, F, D, B> {
+    // The digest of the node at a position, from the newest kept record that has it, or else from the base.
+    fn get_node(&self, position: Position<F>) -> Option<D>
+        ensures { result ≡ read_over (records self.now.batch.now) (B.contents self.now.base.now) position }
+    {
+        match self.batch.get_node(position) {
+            Some(digest) => Some(digest),
+            None => self.base.get_node(position),
+        }
+    }
+}
+
+impl<F: Family, D: Digest> MerkleizedBatch<F, D> {
+    // The proof of a plan, over the nodes that the batch and the base hold.
+    fn build_proof<B: Base<F, Digest = D>, H: Hasher<F, Digest = D>>(
+        &self,
+        base: &B,
+        plan: RangePlan<F>,
+        hasher: &H,
+        inactive: usize,
+    ) -> Result<Proof<F, D>, Error<F>>
+        ensures built { let s = H.scheme hasher.now in
+            IfOk result (λ p. IsBuiltProof s (read_over (records self.now) (B.contents base.now)) inactive plan p) }
+        ensures honest { let s = H.scheme hasher.now in
+            (ls : List (List D)) → length (last_list ls) ≡ plan.leaves → StandsOn (H.hashing hasher.now) F.rule (records self.now) ls
+            → AgreesWithOne (H.hashing hasher.now) F.rule (B.contents base.now) ls
+            → IfOk result (λ p. IsHonestRange s (last_list ls) inactive (list_input p (last_list ls) plan.start plan.end)) }
+        ensures err { let bagging = H.bagging_of hasher.now in let node = read_over (records self.now) (B.contents base.now) in
+            IfErr result (λ e. e ≢ Error.OutOfMemory → IsBuildRefusal bagging F.rule plan inactive (λ p r. r ≡ node p) e) }
+    {
+        let over = BatchOver { batch: self, base };
+        plan.build(hasher, inactive, move |position| over.get_node(position))
+    }
+
+    /// The proof of the leaf at a location, with a number of peaks that count as inactive.
+    ///
+    /// A node is read from the batch's own record, then from its kept ancestors' from the newest on, and then from the
+    /// base.
+    ///
+    /// Refused, in this order: with `LocationOverflow` where no list has such a location, with `LeafOutOfBounds` where
+    /// there is no such leaf, with `InvalidProof` where the number exceeds that of the peaks, and with `ElementPruned` of
+    /// the first node that none of them has, of the peaks before the leaf, the peaks after it that stand alone, the others
+    /// after it from the last one on, and the path siblings. Refused with `OutOfMemory` wherever there is no memory.
+    pub fn proof<B: Base<F, Digest = D>, H: Hasher<F, Digest = D>>(
+        &self,
+        base: &B,
+        hasher: &H,
+        location: Location<F>,
+        inactive: usize,
+    ) -> Result<Proof<F, D>, Error<F>>
+        ensures built { let s = H.scheme hasher.now in
+            let plan : LeafRange = record { leaves = self.now.leaves; start = location; end = location + 1 } in
+            IfOk result (λ p. location < self.now.leaves × IsBuiltProof s (read_over (records self.now) (B.contents base.now)) inactive plan p) }
+
+        // Where it stands on lists and the base agrees with one of them, it is the honest proof of the last list.
+        ensures honest { let s = H.scheme hasher.now in
+            (ls : List (List D)) → StandsOn (H.hashing hasher.now) F.rule (records self.now) ls → AgreesWithOne (H.hashing hasher.now) F.rule (B.contents base.now) ls
+            → let X = last_list ls in IfOk result (λ p. location < length X × IsHonestRange s X inactive (list_input p X location (location + 1))) }
+        ensures given { (h : Hashing D) → (ls : List (List D)) → StandsOn h F.rule (records self.now) ls
+            → AgreesWithOne h F.rule (B.contents base.now) ls → (B.contents base.now).boundary ≤ location → location < length (last_list ls)
+            → inactive ≤ length (peaks_of F.rule (length (last_list ls))) → IsOkUnless result Error.OutOfMemory }
+        ensures err { let bagging = H.bagging_of hasher.now in let node = read_over (records self.now) (B.contents base.now) in
+            IfErr result (λ e. e ≢ Error.OutOfMemory → IsProofRefusal bagging F.rule F.MAX_LEAVES self.now.leaves location inactive node e) }
+    {
+        let leaves = self.leaves();
+        if !location.is_valid_index() {
+            return Err(Error::LocationOverflow(location));
+        }
+        if location >= leaves {
+            return Err(Error::LeafOutOfBounds(location));
+        }
+        let alloc = self.allocator();
+        match RangePlan::new(alloc, leaves, location..location + 1) {
+            Ok(plan) => self.build_proof(base, plan, hasher, inactive),
+            Err(error) => Err(error),
+        }
+    }
+
+    /// The proof of the leaves in a range of locations, with a number of peaks that count as inactive.
+    ///
+    /// A node is read from the batch's own record, then from its kept ancestors' from the newest on, and then from the
+    /// base.
+    ///
+    /// Refused, in this order: with `Empty` where the range has no leaves, with `RangeOutOfBounds` of its end where that
+    /// is past the leaves, with `InvalidProof` where the number exceeds that of the peaks, and with `ElementPruned` of the
+    /// first node that none of them has, of the peaks before the range, the peaks after it that stand alone, the others
+    /// after it from the last one on, and the path siblings. Refused with `OutOfMemory` wherever there is no memory.
+    pub fn range_proof<B: Base<F, Digest = D>, H: Hasher<F, Digest = D>>(
+        &self,
+        base: &B,
+        hasher: &H,
+        range: Range<Location<F>>,
+        inactive: usize,
+    ) -> Result<Proof<F, D>, Error<F>>
+        ensures built { let s = H.scheme hasher.now in
+            let plan : LeafRange = record { leaves = self.now.leaves; start = range.start; end = range.end } in
+            let node = read_over (records self.now) (B.contents base.now) in
+            IfOk result (λ p. (range.start < range.end) × (range.end ≤ self.now.leaves) × IsBuiltProof s node inactive plan p) }
+
+        // Where it stands on lists and the base agrees with one of them, it is the honest proof of the last list.
+        ensures honest { let s = H.scheme hasher.now in
+            (ls : List (List D)) → StandsOn (H.hashing hasher.now) F.rule (records self.now) ls → AgreesWithOne (H.hashing hasher.now) F.rule (B.contents base.now) ls
+            → let X = last_list ls in IfOk result (λ p. (range.start < range.end) × (range.end ≤ length X)
+            × IsHonestRange s X inactive (list_input p X range.start range.end)) }
+        ensures given { (h : Hashing D) → (ls : List (List D)) → StandsOn h F.rule (records self.now) ls
+            → AgreesWithOne h F.rule (B.contents base.now) ls → (B.contents base.now).boundary ≤ range.start → range.start < range.end
+            → range.end ≤ length (last_list ls) → inactive ≤ length (peaks_of F.rule (length (last_list ls)))
+            → IsOkUnless result Error.OutOfMemory }
+        ensures err { let bagging = H.bagging_of hasher.now in let node = read_over (records self.now) (B.contents base.now) in
+            IfErr result (λ e. e ≢ Error.OutOfMemory → IsRangeRefusal bagging F.rule F.MAX_LEAVES self.now.leaves range.start range.end inactive node e) }
+    {
+        let leaves = self.leaves();
+        match RangePlan::new(self.allocator(), leaves, range) {
+            Ok(plan) => self.build_proof(base, plan, hasher, inactive),
+            Err(error) => Err(error),
+        }
+    }
+}
