@@ -21,7 +21,7 @@ returns-in-Ok-clause-built g c =
 pub returns-in-Ok-clause-honest : goal.returns-in-Ok-clause-honest
 returns-in-Ok-clause-honest g c = λ ls stands agrees.
     let h = g.H.Hasher.hashing c.args.hasher.now in
-    let s = setting h (g.H.Hasher.bagging_of c.args.hasher.now) g.F.Family.rule g.F.Family.MAX_LEAVES g.F.Family.DOMAIN in
+    let s = g.H.Hasher.scheme c.args.hasher.now in
     let leaves : c.leaves-leaves.result ≡ length (last_list ls) = leaves_of_last h g.F.Family.rule c.args.self.now ls stands c.leaves-leaves.result c.leaves-leaves.ensures.sized in
     let plan : c.in-Ok.plan ≡ record { leaves = c.leaves-leaves.result; start = c.args.range.start; end = c.args.range.end } = c.in-Ok.ensures.ok in
     let fits = c.in-Ok.ensures.within in
