@@ -5,6 +5,7 @@ pub mod BuiltDigests
 pub mod ListRoots
 pub mod HasherLaws
 pub mod GivenLeaves
+pub mod ExtractionWalks
 pub mod ReadingOrder
 pub mod ReadRuns
 pub mod RisingLists

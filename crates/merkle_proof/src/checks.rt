@@ -1,15 +1,17 @@
 //! Checks of claims against a root, over the parts of their proofs.
-ghost use Rattle.std.specs.Prelude.{◌≡◌, ◌≢◌, ◌+◌, ◌<◌, ◌≤◌, ◌⊎◌, [], ◌↔◌, List, Some, Ok, Err, IsTrue, IfOk, IfErr, length, map};
+ghost use Rattle.std.specs.Prelude.{◌≡◌, ◌≢◌, ◌+◌, ◌<◌, ◌≤◌, ◌⊎◌, [], ◌↔◌, List, Some, Ok, Err, IsTrue, IfOk, IfErr, length, map, drop};
 ghost use Rattle.std.specs.List.{flat_map};
 ghost use Rattle.merkle_base.specs.Tree.{Tree};
 ghost use Rattle.merkle_root_theory.specs.Plan.{siblings};
 ghost use Rattle.merkle_base.specs.Cases.{first_case};
+ghost use Rattle.merkle_root_theory.specs.Extract.{over_pairs};
 ghost use Rattle.merkle_root_theory.specs.Range.{in_range};
 ghost use Rattle.merkle_root_theory.specs.Reconstruction.{range_refusals, reconstructed};
 ghost use Rattle.merkle_hasher.specs.Subtrees.{AreNodes, subtree_of};
 ghost use Rattle.merkle_root_theory.specs.Walk.{bytes_of, leaf_from, ArePeaksWalked, ArePeakDigests};
 ghost use Rattle.merkle_proof.specs.Input.{range_input, IsComputed};
 
+use crate::collector::{Collector, Unlisted};
 use crate::groups::Groups;
 use crate::siblings::reconstruct_digest;
 use merkle_base::error::{OutOfMemory, ReconstructionError};
@@ -106,6 +108,7 @@ pub(crate) fn reconstruct_range_root<F: Family, H: Hasher<F>>(
         &groups.overlapping,
         layout.before,
         layout.after,
+        &mut Unlisted,
     )?;
     match hasher.root_with_folded_peaks(parts.leaves, layout.inactive, parts.inactive, &peaks) {
         Some(root) => Ok(root),
@@ -169,7 +172,7 @@ fn end_from<F: Family>(
 
 // The digests of all that the root folds: the given ones before, those of the peaks that overlap the range, and the given
 // ones after.
-fn peak_digests<F: Family, H: Hasher<F>>(
+fn peak_digests<F: Family, H: Hasher<F>, C: Collector<F, H::Digest>>(
     parts: &ProofParts<'_, F, H::Digest>,
     hasher: &H,
     range: &Range<Location<F>>,
@@ -177,6 +180,7 @@ fn peak_digests<F: Family, H: Hasher<F>>(
     peaks: &[Subtree<F>],
     before: usize,
     after: usize,
+    told: &mut C,
 ) -> Result<Vec<H::Digest>, ReconstructionError>
     requires nodes { (ts : List Tree) × (peaks.now ≡ map subtree_of ts) × AreNodes F.rule F.MAX_LEAVES ts }
     requires some { range.now.start < range.now.end }
@@ -185,6 +189,10 @@ fn peak_digests<F: Family, H: Hasher<F>>(
         let X = leaf_from h F.rule range.now.start (bytes_of elements.now) in
         IfOk result (λ v. (ts : List Tree) → peaks.now ≡ map subtree_of ts → AreNodes F.rule F.MAX_LEAVES ts
         → ArePeakDigests h c X ts before after parts.now.digests.now v.items) }
+    ensures taken { let h = H.hashing hasher.now in let c = in_range range.now.start range.now.end in
+        let X = leaf_from h F.rule range.now.start (bytes_of elements.now) in
+        IfOk result (λ _. (ts : List Tree) → peaks.now ≡ map subtree_of ts → AreNodes F.rule F.MAX_LEAVES ts
+        → C.Took told.old (over_pairs h c X ts (drop (before + after) parts.now.digests.now)) told.new) }
     ensures err { let c = in_range range.now.start range.now.end in
         IfErr result (λ e. e ≢ ReconstructionError.OutOfMemory → (ts : List Tree) → peaks.now ≡ map subtree_of ts → AreNodes F.rule F.MAX_LEAVES ts
         → let asked = before + after + length (flat_map (siblings c) ts) in
@@ -200,7 +208,7 @@ fn peak_digests<F: Family, H: Hasher<F>>(
     let Ok(mut all) = before.to_vec(parts.alloc) else {
         return Err(ReconstructionError::OutOfMemory);
     };
-    reconstruct_peaks(hasher, range, elements, peaks, &mut siblings, &mut all)?;
+    reconstruct_peaks(hasher, range, elements, peaks, &mut siblings, &mut all, told)?;
     if !siblings.is_empty() {
         return Err(ReconstructionError::ExtraDigests);
     }
@@ -211,13 +219,14 @@ fn peak_digests<F: Family, H: Hasher<F>>(
 }
 
 // Appends the digests of the peaks that overlap the range.
-fn reconstruct_peaks<F: Family, H: Hasher<F>>(
+fn reconstruct_peaks<F: Family, H: Hasher<F>, C: Collector<F, H::Digest>>(
     hasher: &H,
     range: &Range<Location<F>>,
     elements: &[&[u8]],
     peaks: &[Subtree<F>],
     digests: &mut &[H::Digest],
     out: &mut Vec<H::Digest>,
+    told: &mut C,
 ) -> Result<(), ReconstructionError>
     requires nodes { (ts : List Tree) × (peaks.now ≡ map subtree_of ts) × AreNodes F.rule F.MAX_LEAVES ts }
     requires some { range.now.start < range.now.end }
@@ -226,13 +235,20 @@ fn reconstruct_peaks<F: Family, H: Hasher<F>>(
         let X = leaf_from h F.rule range.now.start (bytes_of elements.now) in
         IfOk result (λ _. (ts : List Tree) → peaks.now ≡ map subtree_of ts → AreNodes F.rule F.MAX_LEAVES ts
         → ArePeaksWalked h c X ts digests.old.now out.old.items out.new.items digests.new.now) }
+    ensures taken { let h = H.hashing hasher.now in let c = in_range range.now.start range.now.end in
+        let X = leaf_from h F.rule range.now.start (bytes_of elements.now) in
+        IfOk result (λ _. (ts : List Tree) → peaks.now ≡ map subtree_of ts → AreNodes F.rule F.MAX_LEAVES ts
+        → C.Took told.old (over_pairs h c X ts digests.old.now) told.new) }
     ensures err { let c = in_range range.now.start range.now.end in
         IfErr result (λ e. e ≢ ReconstructionError.OutOfMemory → (e ≡ ReconstructionError.MissingDigests)
             × ((ts : List Tree) → peaks.now ≡ map subtree_of ts → AreNodes F.rule F.MAX_LEAVES ts
             → length digests.old.now < length (flat_map (siblings c) ts))) }
 {
     for peak in peaks {
-        let digest = reconstruct_digest(peak, hasher, range, elements, digests)?;
+        let digest = reconstruct_digest(peak, hasher, range, elements, digests, told)?;
+        if told.put(peak.position, &digest).is_err() {
+            return Err(ReconstructionError::OutOfMemory);
+        }
         if out.push(digest).is_err() {
             return Err(ReconstructionError::OutOfMemory);
         }

@@ -2,6 +2,7 @@
 #![tactic(auto)]
 
 mod checks;
+mod collector;
 pub mod element_plan;
 mod groups;
 mod layout;

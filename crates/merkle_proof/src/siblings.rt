@@ -1,11 +1,13 @@
 //! The digests of nodes from those outside a range of leaves.
-ghost use Rattle.std.specs.Prelude.{◌≡◌, ◌+◌, ◌<◌, ◌≤◌, not, true, [], ◌++◌, length, map, IfOk, IfErr};
+ghost use Rattle.std.specs.Prelude.{◌≡◌, ◌≢◌, ◌+◌, ◌<◌, ◌≤◌, not, true, [], ◌++◌, length, map, IfOk, IfErr};
 ghost use Rattle.merkle_base.specs.Tree.{Tree, position};
 ghost use Rattle.merkle_hasher.specs.Subtrees.{Means};
 ghost use Rattle.merkle_root_theory.specs.Plan.{tree_meets, siblings};
+ghost use Rattle.merkle_root_theory.specs.Extract.{inner_pairs};
 ghost use Rattle.merkle_root_theory.specs.Range.{in_range};
 ghost use Rattle.merkle_root_theory.specs.Walk.{bytes_of, leaf_from, IsWalked};
 
+use crate::collector::{Collector, put_both};
 use merkle_base::error::ReconstructionError;
 use merkle_base::family::Family;
 use merkle_base::location::Location;
@@ -34,12 +36,15 @@ fn is_inside<F: Family>(subtree: &Subtree<F>, range: &Range<Location<F>>) -> boo
 
 /// The digest of a node, from the elements of the range and the digests of the maximal nodes outside it, which are taken in
 /// order.
-pub(crate) fn reconstruct_digest<F: Family, H: Hasher<F>>(
+///
+/// The digests of the nodes below it are put where they are collected, both children after what is below them.
+pub(crate) fn reconstruct_digest<F: Family, H: Hasher<F>, C: Collector<F, H::Digest>>(
     subtree: &Subtree<F>,
     hasher: &H,
     range: &Range<Location<F>>,
     elements: &[&[u8]],
     digests: &mut &[H::Digest],
+    out: &mut C,
 ) -> Result<H::Digest, ReconstructionError>
     requires node { (t : Tree) × Means F.rule F.MAX_LEAVES subtree.now t }
     requires some { range.now.start < range.now.end }
@@ -47,7 +52,10 @@ pub(crate) fn reconstruct_digest<F: Family, H: Hasher<F>>(
     ensures ok { let h = H.hashing hasher.now in let leaf = leaf_from h F.rule range.now.start (bytes_of elements.now) in
         IfOk result (λ d. (t : Tree) → Means F.rule F.MAX_LEAVES subtree.now t
         → IsWalked h (in_range range.now.start range.now.end) leaf t digests.old.now d digests.new.now) }
-    ensures err { IfErr result (λ e. (e ≡ ReconstructionError.MissingDigests)
+    ensures taken { let h = H.hashing hasher.now in let leaf = leaf_from h F.rule range.now.start (bytes_of elements.now) in
+        IfOk result (λ _. (t : Tree) → Means F.rule F.MAX_LEAVES subtree.now t
+        → C.Took out.old (inner_pairs h (in_range range.now.start range.now.end) leaf t digests.old.now) out.new) }
+    ensures err { IfErr result (λ e. e ≢ ReconstructionError.OutOfMemory → (e ≡ ReconstructionError.MissingDigests)
         × ((t : Tree) → Means F.rule F.MAX_LEAVES subtree.now t → length digests.old.now < length (siblings (in_range range.now.start range.now.end) t))) }
 {
     if is_outside(subtree, range) {
@@ -62,9 +70,12 @@ pub(crate) fn reconstruct_digest<F: Family, H: Hasher<F>>(
         return Ok(hasher.leaf_digest(subtree.position, elements[index.as_u64() as usize]));
     }
     let (left, right) = subtree.children();
-    let left = reconstruct_digest(&left, hasher, range, elements, digests)?;
-    let right = reconstruct_digest(&right, hasher, range, elements, digests)?;
-    Ok(hasher.node_digest(subtree.position, &left, &right))
+    let first = reconstruct_digest(&left, hasher, range, elements, digests, out)?;
+    let second = reconstruct_digest(&right, hasher, range, elements, digests, out)?;
+    if put_both(left.position, &first, right.position, &second, out).is_err() {
+        return Err(ReconstructionError::OutOfMemory);
+    }
+    Ok(hasher.node_digest(subtree.position, &first, &second))
 }
 
 /// Appends the positions of the maximal nodes under a node outside the range, left to right.
