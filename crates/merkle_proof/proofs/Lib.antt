@@ -6,6 +6,7 @@ pub mod ListRoots
 pub mod HasherLaws
 pub mod GivenLeaves
 pub mod ExtractionWalks
+pub mod IndividualPeaks
 pub mod ReadingOrder
 pub mod ReadRuns
 pub mod RisingLists

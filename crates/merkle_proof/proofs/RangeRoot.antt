@@ -1,5 +1,5 @@
 -- The root that a proof and elements lead to.
-use Rattle.std.proofs.Common.{◌≡◌, ℕ, ◌+◌, ◌<◌, ◌≤◌, true, Bool, List, [], ◌∷◌, ◌++◌, length, length-append, take, drop, refl, ap, ap₂, sym, ◌∙◌, subst, arith}
+use Rattle.std.proofs.Common.{◌≡◌, ℕ, ◌+◌, ◌<◌, ◌≤◌, true, Bool, List, [], ◌∷◌, ◌++◌, length, length-append, take, drop, drop-drop, refl, ap, ap₂, sym, ◌∙◌, subst, arith}
 use Rattle.std.specs.List.{flat_map}
 use Rattle.std.specs.Borrow.{Bor}
 use Rattle.std.proofs.lemmas.List.{length-map, length-reverse}
@@ -13,10 +13,13 @@ use Rattle.merkle_base.specs.declared.family.Bagging.{Bagging}
 use Rattle.merkle_base.proofs.Balance.{heights_forest}
 use Rattle.merkle_base.proofs.Growth.{forest_grown}
 use Rattle.merkle_root_theory.specs.Plan.{siblings}
+use Rattle.merkle_root_theory.specs.Outside.{fold_all, folded_prefix, single_before, single_after}
+use Rattle.merkle_root_theory.specs.Extract.{single_pairs, over_pairs, extracted}
+use Rattle.merkle_proof.proofs.ExtractionWalks.{over_chosen}
 use Rattle.merkle_root_theory.specs.Layouts.{count_before, count_after, count_inactive}
 use Rattle.merkle_root_theory.specs.Check.{RangeInput, chosen, leaf_given}
 use Rattle.merkle_base.specs.Scheme.{Scheme, scheme_of}
-use Rattle.merkle_root_theory.specs.Range.{in_range, overlapping, wholly_after, end_of}
+use Rattle.merkle_root_theory.specs.Range.{in_range, overlapping, wholly_after, end_of, range_parts}
 use Rattle.merkle_root_theory.specs.Reconstruction.{digest_count}
 use Rattle.merkle_root_theory.specs.Walk.{bytes_of, leaf_from, peak_values, ArePeakDigests}
 use Rattle.merkle_proof.specs.Input.{range_input, IsComputed}
@@ -128,6 +131,29 @@ module _ {D : Type 0} (h : Hashing D) (bagging : Bagging) (rule : List ℕ → L
     pub folds_given : inactive ≤ length (peaks_of rule leaves) → (all : List D) → AreDigests b (leaf_from h rule a (bytes_of es)) m n all
         → (j : ℕ) → j ≡ count_inactive bagging inactive (wholly_before a (peaks_of rule leaves)) → j ≤ length all
     folds_given low all w j j_is = omega (arith, j_is, inactive_fits scheme input some_given all (as_input all w) low)
+
+    -- the pairs of the individual peaks before the range, of those that overlap it and of the individual ones after it are those of the input
+    module _ {C : Type 0} (Took : C → List (ℕ × D) → C → Type 0) (both : (s t u : C) (x y : List (ℕ × D)) → Took s x t → Took t y u → Took s (x ++ y) u) where
+      pub all_put : (s0 s1 s2 s3 : C) → Took s0 (single_pairs h (single_before bagging inactive (wholly_before a (peaks_of rule leaves))) (drop (length (fold_all (folded_prefix bagging inactive (wholly_before a (peaks_of rule leaves))))) given)) s1
+          → Took s1 (over_pairs h (in_range a b) (leaf_from h rule a (bytes_of es)) (overlapping a b (peaks_of rule leaves)) (drop (m + n) given)) s2
+          → Took s2 (single_pairs h (single_after bagging inactive (length (wholly_before a (peaks_of rule leaves)) + length (overlapping a b (peaks_of rule leaves))) (wholly_after b (peaks_of rule leaves))) (drop m given)) s3
+          → Took s0 (extracted scheme input) s3
+      all_put s0 s1 s2 s3 x y z =
+          let ts = peaks_of rule leaves in
+          let before = wholly_before a ts in
+          let single = single_before bagging inactive before in
+          let front = length (fold_all (folded_prefix bagging inactive before)) in
+          let X = leaf_from h rule a (bytes_of es) in
+          let e = end_of input in
+          let y1 : Took s1 (over_pairs h (in_range a e) X (overlapping a e ts) (drop (m + n) given)) s2 = subst (λ v. Took s1 (over_pairs h (in_range a v) X (overlapping a v ts) (drop (m + n) given)) s2) end_same y in
+          let count : m + n ≡ length (range_parts bagging inactive a e ts) = ap₂ (λ i j. i + j) m_is (n_is ∙ ap digests_after end_same) ∙ sym (layout_counts scheme input) in
+          let y2 : Took s1 (over_pairs h (in_range a e) (leaf_given h input) (overlapping a e ts) (drop (length (range_parts bagging inactive a e ts)) given)) s2 =
+          subst (λ v. Took s1 v s2) (over_chosen h (chosen input) X (leaf_given h input) given_leaves (overlapping a e ts) (drop (m + n) given) ∙ ap (λ v. over_pairs h (in_range a e) (leaf_given h input) (overlapping a e ts) (drop v given)) count) y1 in
+          let z1 : Took s2 (single_pairs h (single_after bagging inactive (length before + length (overlapping a e ts)) (wholly_after e ts)) (drop m given)) s3 =
+          subst (λ v. Took s2 (single_pairs h (single_after bagging inactive (length before + length (overlapping a v ts)) (wholly_after v ts)) (drop m given)) s3) end_same z in
+          let back : drop m given ≡ drop (length single) (drop front given) = ap (λ v. drop v given) m_is ∙ sym (drop-drop (length single) front given) in
+          let z2 = subst (λ v. Took s2 (single_pairs h (single_after bagging inactive (length before + length (overlapping a e ts)) (wholly_after e ts)) v) s3) back z1 in
+          both s0 s1 s3 _ _ x (both s1 s2 s3 _ _ y2 z2)
 
 -- an input is known by the parts of its proof
 pub same_input : {D : Type 0} (s : Scheme D) (a : ℕ) (es : List (List ℕ)) (n m k j : ℕ) (ds fs : List D) → n ≡ m → k ≡ j → ds ≡ fs → range_input s n k ds a es ≡ range_input s m j fs a es

@@ -4,7 +4,7 @@ ghost use Rattle.std.specs.List.{flat_map};
 ghost use Rattle.merkle_base.specs.Tree.{Tree};
 ghost use Rattle.merkle_root_theory.specs.Plan.{siblings};
 ghost use Rattle.merkle_base.specs.Cases.{first_case};
-ghost use Rattle.merkle_root_theory.specs.Extract.{over_pairs};
+ghost use Rattle.merkle_root_theory.specs.Extract.{over_pairs, extracted};
 ghost use Rattle.merkle_root_theory.specs.Range.{in_range};
 ghost use Rattle.merkle_root_theory.specs.Reconstruction.{range_refusals, reconstructed};
 ghost use Rattle.merkle_hasher.specs.Subtrees.{AreNodes, subtree_of};
@@ -12,6 +12,7 @@ ghost use Rattle.merkle_root_theory.specs.Walk.{bytes_of, leaf_from, ArePeaksWal
 ghost use Rattle.merkle_proof.specs.Input.{range_input, IsComputed};
 
 use crate::collector::{Collector, Unlisted};
+use crate::extraction::{put_after, put_before};
 use crate::groups::Groups;
 use crate::siblings::reconstruct_digest;
 use merkle_base::error::{OutOfMemory, ReconstructionError};
@@ -91,6 +92,32 @@ pub(crate) fn reconstruct_range_root<F: Family, H: Hasher<F>>(
         let r = range_input s parts.now.leaves parts.now.inactive parts.now.digests.now start (bytes_of elements.now) in
         IfErr result (λ e. e ≢ ReconstructionError.OutOfMemory → first_case (range_refusals s r) ≡ Some e) }
 {
+    reconstruct_root_into(parts, hasher, elements, start, &mut Unlisted)
+}
+
+/// The root that the elements from a location on lead to, which are some, and the digests that are computed or given for
+/// nodes, each put where they are collected.
+///
+/// These are those of the individual peaks before the range, of the peaks that overlap it, each after those of the nodes
+/// below it, and of the individual peaks after the range.
+pub(crate) fn reconstruct_root_into<F: Family, H: Hasher<F>, C: Collector<F, H::Digest>>(
+    parts: &ProofParts<'_, F, H::Digest>,
+    hasher: &H,
+    elements: &[&[u8]],
+    start: Location<F>,
+    told: &mut C,
+) -> Result<H::Digest, ReconstructionError>
+    requires some { 0 < length elements.now }
+    ensures ok { let s = H.scheme hasher.now in
+        let r = range_input s parts.now.leaves parts.now.inactive parts.now.digests.now start (bytes_of elements.now) in
+        IfOk result (λ d. IsComputed s r d) }
+    ensures taken { let s = H.scheme hasher.now in
+        let r = range_input s parts.now.leaves parts.now.inactive parts.now.digests.now start (bytes_of elements.now) in
+        IfOk result (λ _. C.Took told.old (extracted s r) told.new) }
+    ensures err { let s = H.scheme hasher.now in
+        let r = range_input s parts.now.leaves parts.now.inactive parts.now.digests.now start (bytes_of elements.now) in
+        IfErr result (λ e. e ≢ ReconstructionError.OutOfMemory → first_case (range_refusals s r) ≡ Some e) }
+{
     let end = end_from(parts.leaves, start, elements.len())?;
     let range = start..end;
     let Ok(groups) = Groups::of_peaks(parts.alloc, parts.leaves, &range) else {
@@ -100,6 +127,9 @@ pub(crate) fn reconstruct_range_root<F: Family, H: Hasher<F>>(
         return Err(ReconstructionError::InvalidSize);
     }
     let layout = groups.layout(hasher.root_bagging(), parts.inactive);
+    let Ok(()) = put_before(&groups, layout, parts.digests, told) else {
+        return Err(ReconstructionError::OutOfMemory);
+    };
     let peaks = peak_digests(
         parts,
         hasher,
@@ -108,8 +138,11 @@ pub(crate) fn reconstruct_range_root<F: Family, H: Hasher<F>>(
         &groups.overlapping,
         layout.before,
         layout.after,
-        &mut Unlisted,
+        told,
     )?;
+    let Ok(()) = put_after(&groups, layout, parts.digests, told) else {
+        return Err(ReconstructionError::OutOfMemory);
+    };
     match hasher.root_with_folded_peaks(parts.leaves, layout.inactive, parts.inactive, &peaks) {
         Some(root) => Ok(root),
         None => unreachable!(),

@@ -4,6 +4,7 @@ ghost use Rattle.std.specs.List.{flat_map};
 ghost use Rattle.merkle_base.specs.Tree.{Tree, position, end_leaf};
 ghost use Rattle.merkle_base.specs.Places.{peaks_of, wholly_before};
 ghost use Rattle.merkle_root_theory.specs.Plan.{siblings};
+ghost use Rattle.merkle_root_theory.specs.Outside.{folded_prefix, single_after};
 ghost use Rattle.merkle_root_theory.specs.Layouts.{count_before, count_after, count_inactive};
 ghost use Rattle.merkle_root_theory.specs.Range.{in_range, overlapping, wholly_after};
 ghost use Rattle.merkle_hasher.specs.Subtrees.{Means, AreNodes, subtree_of};
@@ -104,6 +105,9 @@ impl<F: Family> Groups<F> {
         ensures after { (a b : ℕ) (ts : List Tree) → HoldsGroups a b self.now ts
             → result.after ≡ count_after bagging inactive (length (wholly_before a ts) + length (overlapping a b ts)) (wholly_after b ts) }
         ensures inactive { (a b : ℕ) (ts : List Tree) → HoldsGroups a b self.now ts → result.inactive ≡ count_inactive bagging inactive (wholly_before a ts) }
+        ensures prefix { (a b : ℕ) (ts : List Tree) → HoldsGroups a b self.now ts → result.prefix ≡ length (folded_prefix bagging inactive (wholly_before a ts)) }
+        ensures single { (a b : ℕ) (ts : List Tree) → HoldsGroups a b self.now ts
+            → result.single ≡ length (single_after bagging inactive (length (wholly_before a ts) + length (overlapping a b ts)) (wholly_after b ts)) }
     {
         Layout::new(
             bagging,

@@ -37,6 +37,10 @@ pub(crate) struct Layout {
     pub(crate) before: usize,
     pub(crate) after: usize,
     pub(crate) inactive: usize,
+    /// How many peaks before the range are folded to one digest, the oldest ones.
+    pub(crate) prefix: usize,
+    /// How many peaks after the range stand alone, the oldest ones.
+    pub(crate) single: usize,
 }
 
 impl Layout {
@@ -53,6 +57,8 @@ impl Layout {
         ensures before { (ts : List Tree) → length ts ≡ before → result.before ≡ count_before bagging inactive ts }
         ensures after { (ts : List Tree) → length ts ≡ after → result.after ≡ count_after bagging inactive (before + over) ts }
         ensures inactive { (ts : List Tree) → length ts ≡ before → result.inactive ≡ count_inactive bagging inactive ts }
+        ensures prefix { (ts : List Tree) → length ts ≡ before → result.prefix ≡ length (folded_prefix bagging inactive ts) }
+        ensures single { (ts : List Tree) → length ts ≡ after → result.single ≡ length (single_after bagging inactive (before + over) ts) }
     {
         let prefix = prefix_count(bagging, inactive, before);
         let single = single_count(bagging, inactive, before + over, after);
@@ -61,6 +67,8 @@ impl Layout {
             before: front + (before - prefix),
             after: single + (after - single).min(1),
             inactive: front + inactive.saturating_sub(prefix),
+            prefix,
+            single,
         }
     }
 }

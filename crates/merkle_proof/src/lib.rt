@@ -4,6 +4,7 @@
 mod checks;
 mod collector;
 pub mod element_plan;
+mod extraction;
 mod groups;
 mod layout;
 mod positions;

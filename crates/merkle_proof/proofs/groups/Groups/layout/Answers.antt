@@ -2,6 +2,7 @@ use Rattle.std.proofs.Common.{◌≡◌, ◌+◌, length, arith, ap, ap₂, sym,
 use Rattle.std.proofs.lemmas.List.{length-map}
 use Rattle.merkle_base.specs.Places.{peaks_of, wholly_before}
 use Rattle.merkle_root_theory.specs.Layouts.{count_after}
+use Rattle.merkle_root_theory.specs.Outside.{single_after}
 use Rattle.merkle_root_theory.specs.Range.{overlapping, wholly_after}
 use Rattle.merkle_hasher.specs.Subtrees.{subtree_of}
 use Rattle.merkle_proof.proofs.RangeRoot.{group_count, outside_count, few_peaks}
@@ -34,3 +35,12 @@ returns-clause-after g c = λ a b ts held.
 
 pub returns-clause-inactive : goal.returns-clause-inactive
 returns-clause-inactive g c = λ a b ts held. c.new.ensures.inactive (wholly_before a ts) (sym held.before)
+
+pub returns-clause-prefix : goal.returns-clause-prefix
+returns-clause-prefix g c = λ a b ts held. c.new.ensures.prefix (wholly_before a ts) (sym held.before)
+
+pub returns-clause-single : goal.returns-clause-single
+returns-clause-single g c = λ a b ts held.
+    let over : c.len.result ≡ length (overlapping a b ts) = omega (arith, c.len.ensures, ap length held.over, length-map (overlapping a b ts) (subtree_of {F = g.row.F.Denot})) in
+    subst (λ m. c.new.result.single ≡ length (single_after c.args.bagging c.args.inactive m (wholly_after b ts))) (ap₂ (λ x y. x + y) held.before over)
+    (c.new.ensures.single (wholly_after b ts) (sym (c.after.ensures a b ts held)))

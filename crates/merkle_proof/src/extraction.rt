@@ -1,0 +1,111 @@
+//! The digests of nodes that a check of a range computes or is given.
+ghost use Rattle.std.specs.Prelude.{◌≡◌, ◌+◌, ◌<◌, ◌≤◌, ◌≢◌, ℕ, List, IfOk, IfErr, length, map, drop, take, min};
+ghost use Rattle.merkle_base.specs.Tree.{Tree, position};
+ghost use Rattle.merkle_base.specs.Hashing.{Hashing};
+ghost use Rattle.merkle_base.specs.Places.{wholly_before};
+ghost use Rattle.merkle_root_theory.specs.Extract.{single_pairs, extracted};
+ghost use Rattle.merkle_root_theory.specs.Range.{wholly_after};
+ghost use Rattle.merkle_root_theory.specs.Walk.{bytes_of};
+ghost use Rattle.merkle_proof.specs.GroupedPeaks.{HoldsGroups};
+ghost use Rattle.merkle_proof.specs.Input.{range_input, HasShape, IsComputed};
+
+use crate::checks::{ProofParts, reconstruct_root_into};
+use crate::collector::Collector;
+use crate::groups::Groups;
+use crate::layout::Layout;
+use merkle_base::error::ReconstructionError;
+use merkle_base::family::Family;
+use merkle_base::location::Location;
+use merkle_base::position::Position;
+use merkle_digest::digest::Digest;
+use merkle_hasher::hasher::Hasher;
+use std::alloc::AllocError;
+
+/// The root that the elements from a location on lead to, which are some, and the pairs of a position and the digest of
+/// the node there that are computed or given on the way.
+///
+/// The pairs are those of the individual peaks before the range, of the peaks that overlap it, each after the pairs below
+/// it, and of the individual peaks after the range. The pairs below a node that overlaps the range and isn't a leaf are
+/// those below its left child, those below its right child, the left child's and the right child's. Digests that stand for
+/// several peaks aren't among them.
+///
+/// Refused where the counts are wrong, or there is no memory.
+pub(crate) fn reconstruct_and_extract<F: Family, H: Hasher<F>>(
+    parts: &ProofParts<'_, F, H::Digest>,
+    hasher: &H,
+    elements: &[&[u8]],
+    start: Location<F>,
+) -> Result<(H::Digest, Vec<(Position<F>, H::Digest)>), ReconstructionError>
+    requires some { 0 < length elements.now }
+    ensures ok { let s = H.scheme hasher.now in
+        let r = range_input s parts.now.leaves parts.now.inactive parts.now.digests.now start (bytes_of elements.now) in
+        IfOk result (λ found. IsComputed s r found.0) }
+    ensures pairs { let s = H.scheme hasher.now in
+        let r = range_input s parts.now.leaves parts.now.inactive parts.now.digests.now start (bytes_of elements.now) in
+        IfOk result (λ found. found.1.items ≡ extracted s r) }
+    ensures err { let s = H.scheme hasher.now in
+        let r = range_input s parts.now.leaves parts.now.inactive parts.now.digests.now start (bytes_of elements.now) in
+        IfErr result (λ e. e ≢ ReconstructionError.OutOfMemory → ¬ HasShape s r) }
+{
+    let mut pairs = Vec::new(parts.alloc);
+    let root = reconstruct_root_into(parts, hasher, elements, start, &mut pairs)?;
+    Ok((root, pairs))
+}
+
+/// Puts the digests of the individual peaks before the range, of those that a proof gives.
+pub(crate) fn put_before<F: Family, D: Digest, C: Collector<F, D>>(
+    groups: &Groups<F>,
+    layout: Layout,
+    digests: &[D],
+    told: &mut C,
+) -> Result<(), AllocError>
+    requires prefix { layout.prefix ≤ groups.now.before }
+    requires before { groups.now.before ≤ length groups.now.outside.items }
+    ensures { IfOk result (λ _. (h : Hashing D) (a b : ℕ) (ts us : List Tree) → HoldsGroups a b groups.now ts → us ≡ drop layout.prefix (wholly_before a ts)
+        → min layout.prefix 1 + length us ≤ length digests.now → C.Took told.old (single_pairs h us (drop (min layout.prefix 1) digests.now)) told.new) }
+{
+    let Some((_, individual)) = digests.split_at_checked(layout.prefix.min(1)) else {
+        return Ok(());
+    };
+    put_each(&groups.outside[layout.prefix..groups.before], individual, told)?;
+    Ok(())
+}
+
+/// Puts the digests of the individual peaks after the range, of those that a proof gives.
+pub(crate) fn put_after<F: Family, D: Digest, C: Collector<F, D>>(
+    groups: &Groups<F>,
+    layout: Layout,
+    digests: &[D],
+    told: &mut C,
+) -> Result<(), AllocError>
+    requires single { groups.now.before + layout.single ≤ length groups.now.outside.items }
+    ensures { IfOk result (λ _. (h : Hashing D) (a b : ℕ) (ts us : List Tree) → HoldsGroups a b groups.now ts → us ≡ take layout.single (wholly_after b ts)
+        → layout.before + length us ≤ length digests.now → C.Took told.old (single_pairs h us (drop layout.before digests.now)) told.new) }
+{
+    let Some((_, individual)) = digests.split_at_checked(layout.before) else {
+        return Ok(());
+    };
+    let end = groups.before + layout.single;
+    put_each(&groups.outside[groups.before..end], individual, told)?;
+    Ok(())
+}
+
+// Puts the digests at the positions, one for each that has one.
+fn put_each<F: Family, D: Digest, C: Collector<F, D>>(
+    positions: &[Position<F>],
+    digests: &[D],
+    told: &mut C,
+) -> Result<(), AllocError>
+    ensures { IfOk result (λ _. (h : Hashing D) (ts : List Tree) → positions.now ≡ map position ts → length ts ≤ length digests.now
+        → C.Took told.old (single_pairs h ts digests.now) told.new) }
+{
+    let mut rest = digests;
+    for position in positions {
+        let Some((digest, others)) = rest.split_first() else {
+            return Ok(());
+        };
+        told.put(*position, digest)?;
+        rest = others;
+    }
+    Ok(())
+}
