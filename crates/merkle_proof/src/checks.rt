@@ -241,7 +241,15 @@ fn peak_digests<F: Family, H: Hasher<F>, C: Collector<F, H::Digest>>(
     let Ok(mut all) = before.to_vec(parts.alloc) else {
         return Err(ReconstructionError::OutOfMemory);
     };
-    reconstruct_peaks(hasher, range, elements, peaks, &mut siblings, &mut all, told)?;
+    reconstruct_peaks(
+        hasher,
+        range,
+        elements,
+        peaks,
+        &mut siblings,
+        &mut all,
+        told,
+    )?;
     if !siblings.is_empty() {
         return Err(ReconstructionError::ExtraDigests);
     }

@@ -67,7 +67,11 @@ pub(crate) fn put_before<F: Family, D: Digest, C: Collector<F, D>>(
     let Some((_, individual)) = digests.split_at_checked(layout.prefix.min(1)) else {
         return Ok(());
     };
-    put_each(&groups.outside[layout.prefix..groups.before], individual, told)?;
+    put_each(
+        &groups.outside[layout.prefix..groups.before],
+        individual,
+        told,
+    )?;
     Ok(())
 }
 

@@ -16,11 +16,12 @@ pub loop-peak-preserved : goal.loop-peak-preserved
 loop-peak-preserved g c = λ ts e h.
     let w = element_means g.F.Family.rule g.F.Family.MAX_LEAVES c.args.peaks.now ts e h c.loop-peak.peak-index c.loop-peak-test.true c.peak-item.result in
     let pushed : c.push.new.self.items ≡ c.loop-peak.out.items ++ c.in_ok-digest.digest ∷ [] = search rules in
-    let m = subst (λ s. Means g.F.Family.rule g.F.Family.MAX_LEAVES s w.0) (sym c.peak-item.is) w.1 in
-    (walk_more (g.H.Hasher.hashing c.args.hasher.now) _ _ (take c.loop-peak.peak-index ts) _ w.0 _ _ _ _ _ _ _ w.2 (c.loop-peak.invariant ts e h).0
-    (c.in_ok-digest.ensures.ok w.0 m) pushed,
-    put_more (g.H.Hasher.hashing c.args.hasher.now) _ _ g.C.Collector.Took g.met.C.Collector.took_both (take c.loop-peak.peak-index ts) _ w.0 _ _ _ _ _ _ _ _ _ _ _ w.2 (stands_at _ _ _ _ _ w.0 m) (c.loop-peak.invariant ts e h).0
-    (c.in_ok-digest.ensures.ok w.0 m) (c.loop-peak.invariant ts e h).1 (c.in_ok-digest.ensures.taken w.0 m) (search rules))
+    let m = subst (λ s. Means g.F.Family.rule g.F.Family.MAX_LEAVES s w.0) (sym c.peak-item.is) w.1 in (
+      walk_more (g.H.Hasher.hashing c.args.hasher.now) _ _ (take c.loop-peak.peak-index ts) _ w.0 _ _ _ _ _ _ _ w.2 (c.loop-peak.invariant ts e h).0
+          (c.in_ok-digest.ensures.ok w.0 m) pushed,
+      put_more (g.H.Hasher.hashing c.args.hasher.now) _ _ g.C.Collector.Took g.met.C.Collector.took_both (take c.loop-peak.peak-index ts) _ w.0 _ _ _ _ _ _ _ _ _ _ _ w.2 (stands_at _ _ _ _ _ w.0 m) (c.loop-peak.invariant ts e h).0
+          (c.in_ok-digest.ensures.ok w.0 m) (c.loop-peak.invariant ts e h).1 (c.in_ok-digest.ensures.taken w.0 m) (search rules),
+    )
 
 pub returns-in_err-digest-clause-err : goal.returns-in_err-digest-clause-err
 returns-in_err-digest-clause-err g c =

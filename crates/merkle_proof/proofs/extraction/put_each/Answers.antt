@@ -1,4 +1,4 @@
-use Rattle.std.proofs.Common.{◌≡◌, ◌≤◌, length, map, arith, rules, sym, ap, ◌∙◌, subst}
+use Rattle.std.proofs.Common.{length, arith, sym, ap, ◌∙◌, subst}
 use Rattle.std.proofs.lemmas.List.{length-map}
 use Rattle.merkle_base.specs.Tree.{position}
 use Rattle.merkle_root_theory.specs.Extract.{single_pairs}

@@ -1,4 +1,4 @@
-use Rattle.std.proofs.Common.{◌≡◌, List, ℕ, [], ◌∷◌, OnOk, arith, rules, sym, subst, ◌∙◌, refl, inl, inr}
+use Rattle.std.proofs.Common.{[], arith, rules, sym, subst, ◌∙◌, refl, inl, inr}
 use Rattle.std.proofs.lemmas.Result.{err_from_is_err_and}
 use Rattle.std.proofs.lemmas.List.{nil_from_length}
 use Rattle.std.proofs.lemmas.Bool.{not-true, not-false}
