@@ -1,4 +1,5 @@
 pub mod ElementPlans
+pub mod Extracting
 pub mod GroupedPeaks
 pub mod Input
 pub mod Positions

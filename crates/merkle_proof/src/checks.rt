@@ -149,8 +149,8 @@ pub(crate) fn reconstruct_root_into<F: Family, H: Hasher<F>, C: Collector<F, H::
     }
 }
 
-// The root that no elements lead to: that of no leaves, for the empty proof from location 0 on.
-fn reconstruct_empty_root<F: Family, H: Hasher<F>>(
+/// The root that no elements lead to: that of no leaves, for the empty proof from location 0 on.
+pub(crate) fn reconstruct_empty_root<F: Family, H: Hasher<F>>(
     parts: &ProofParts<'_, F, H::Digest>,
     hasher: &H,
     start: Location<F>,

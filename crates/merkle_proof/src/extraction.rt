@@ -1,25 +1,78 @@
 //! The digests of nodes that a check of a range computes or is given.
-ghost use Rattle.std.specs.Prelude.{◌≡◌, ◌+◌, ◌<◌, ◌≤◌, ◌≢◌, ℕ, List, IfOk, IfErr, length, map, drop, take, min};
+ghost use Rattle.std.specs.Prelude.{◌≡◌, ◌+◌, ◌<◌, ◌≤◌, ◌≢◌, ℕ, List, Some, Ok, Err, IfOk, IfErr, length, map, drop, take, min};
 ghost use Rattle.merkle_base.specs.Tree.{Tree, position};
 ghost use Rattle.merkle_base.specs.Hashing.{Hashing};
 ghost use Rattle.merkle_base.specs.Places.{wholly_before};
 ghost use Rattle.merkle_root_theory.specs.Extract.{single_pairs, extracted};
 ghost use Rattle.merkle_root_theory.specs.Range.{wholly_after};
+ghost use Rattle.merkle_root_theory.specs.Reconstruction.{range_refusals, reconstructed};
+ghost use Rattle.merkle_proof.specs.Extracting.{IsExtractionRefusal};
+ghost use Rattle.merkle_base.specs.Cases.{first_case};
 ghost use Rattle.merkle_root_theory.specs.Walk.{bytes_of};
 ghost use Rattle.merkle_proof.specs.GroupedPeaks.{HoldsGroups};
-ghost use Rattle.merkle_proof.specs.Input.{range_input, HasShape, IsComputed};
+ghost use Rattle.merkle_proof.specs.Input.{range_input, IsComputed};
 
-use crate::checks::{ProofParts, reconstruct_root_into};
+use crate::checks::{ProofParts, reconstruct_empty_root, reconstruct_root_into};
 use crate::collector::Collector;
 use crate::groups::Groups;
 use crate::layout::Layout;
-use merkle_base::error::ReconstructionError;
+use merkle_base::error::{Error, ReconstructionError};
 use merkle_base::family::Family;
 use merkle_base::location::Location;
 use merkle_base::position::Position;
 use merkle_digest::digest::Digest;
 use merkle_hasher::hasher::Hasher;
 use std::alloc::AllocError;
+
+/// The pairs of a position and a digest of a proof and elements that lead to the root.
+pub(crate) fn verify_and_extract<F: Family, H: Hasher<F>>(
+    parts: &ProofParts<'_, F, H::Digest>,
+    hasher: &H,
+    elements: &[&[u8]],
+    start: Location<F>,
+    root: &H::Digest,
+) -> Result<Vec<(Position<F>, H::Digest)>, Error<F>>
+    ensures ok { let s = H.scheme hasher.now in
+        let r = range_input s parts.now.leaves parts.now.inactive parts.now.digests.now start (bytes_of elements.now) in
+        IfOk result (λ pairs. (reconstructed s r ≡ Ok root.now) × (pairs.items ≡ extracted s r)) }
+    ensures err { let s = H.scheme hasher.now in
+        let r = range_input s parts.now.leaves parts.now.inactive parts.now.digests.now start (bytes_of elements.now) in
+        IfErr result (λ e. e ≢ Error.OutOfMemory → IsExtractionRefusal s r root.now e) }
+{
+    match reconstruct_or_extract(parts, hasher, elements, start) {
+        Ok((computed, pairs)) => {
+            if computed != *root {
+                return Err(Error::RootMismatch);
+            }
+            Ok(pairs)
+        }
+        Err(error) => match error {
+            ReconstructionError::OutOfMemory => Err(Error::OutOfMemory),
+            _ => Err(Error::InvalidProof),
+        },
+    }
+}
+
+// The root that the elements from a location on lead to, if there are any, and else that of no leaves, with its pairs.
+fn reconstruct_or_extract<F: Family, H: Hasher<F>>(
+    parts: &ProofParts<'_, F, H::Digest>,
+    hasher: &H,
+    elements: &[&[u8]],
+    start: Location<F>,
+) -> Result<(H::Digest, Vec<(Position<F>, H::Digest)>), ReconstructionError>
+    ensures ok { let s = H.scheme hasher.now in
+        let r = range_input s parts.now.leaves parts.now.inactive parts.now.digests.now start (bytes_of elements.now) in
+        IfOk result (λ found. (reconstructed s r ≡ Ok found.0) × (found.1.items ≡ extracted s r)) }
+    ensures err { let s = H.scheme hasher.now in
+        let r = range_input s parts.now.leaves parts.now.inactive parts.now.digests.now start (bytes_of elements.now) in
+        IfErr result (λ e. e ≢ ReconstructionError.OutOfMemory → reconstructed s r ≡ Err e) }
+{
+    if elements.is_empty() {
+        let root = reconstruct_empty_root(parts, hasher, start)?;
+        return Ok((root, Vec::new(parts.alloc)));
+    }
+    reconstruct_and_extract(parts, hasher, elements, start)
+}
 
 /// The root that the elements from a location on lead to, which are some, and the pairs of a position and the digest of
 /// the node there that are computed or given on the way.
@@ -45,7 +98,7 @@ pub(crate) fn reconstruct_and_extract<F: Family, H: Hasher<F>>(
         IfOk result (λ found. found.1.items ≡ extracted s r) }
     ensures err { let s = H.scheme hasher.now in
         let r = range_input s parts.now.leaves parts.now.inactive parts.now.digests.now start (bytes_of elements.now) in
-        IfErr result (λ e. e ≢ ReconstructionError.OutOfMemory → ¬ HasShape s r) }
+        IfErr result (λ e. e ≢ ReconstructionError.OutOfMemory → first_case (range_refusals s r) ≡ Some e) }
 {
     let mut pairs = Vec::new(parts.alloc);
     let root = reconstruct_root_into(parts, hasher, elements, start, &mut pairs)?;

@@ -1,18 +1,23 @@
 //! Proofs of leaves against a root.
 ghost use Rattle.std.specs.Prelude.{◌≡◌, ◌≢◌, ◌≤◌, [], ◌∷◌, ◌↔◌, ◌⊎◌, ℕ, Ok, Err, IsTrue, IfOk, IfErr, length};
+ghost use Rattle.std.specs.List.{AllByRecursion};
 ghost use Rattle.merkle_base.specs.Places.{inactive_peaks};
+ghost use Rattle.merkle_root_theory.specs.Extract.{extracted, IsNodePair};
 ghost use Rattle.merkle_root_theory.specs.Range.{ForRootOf, IsHonestRange, RangeCollides};
 ghost use Rattle.merkle_root_theory.specs.Reconstruction.{reconstructed};
 ghost use Rattle.merkle_root_theory.specs.RootNames.{NamesRoot};
 ghost use Rattle.merkle_root_theory.specs.Walk.{bytes_of};
+ghost use Rattle.merkle_proof.specs.Extracting.{IsExtractionRefusal};
 ghost use Rattle.merkle_proof.specs.Input.{input_of};
 
 use crate::checks::{ProofParts, reconstruct_root, verify_range};
 pub use crate::element_plan::ElementPlan;
+use crate::extraction::verify_and_extract;
 pub use crate::range_plan::RangePlan;
-use merkle_base::error::{OutOfMemory, ReconstructionError};
+use merkle_base::error::{Error, OutOfMemory, ReconstructionError};
 use merkle_base::family::Family;
 use merkle_base::location::Location;
+use merkle_base::position::Position;
 use merkle_digest::digest::Digest;
 use merkle_hasher::hasher::Hasher;
 use std::alloc::{AllocError, Global};
@@ -151,6 +156,43 @@ impl<F: Family, D: Digest> Proof<F, D> {
             IfOk result (λ yes. IsTrue yes → ForRootOf s root.now (λ xs k. IsHonestRange s xs k r ⊎ RangeCollides s r xs k)) }
     {
         verify_range(&self.parts(), hasher, elements, start, root)
+    }
+
+    /// The digests of nodes that a check of the elements computes or is given, each with its node's position.
+    ///
+    /// They come in this order: the individual peaks before the range; for each peak that overlaps it the nodes below and
+    /// then the peak; the individual peaks after the range. Below a node that overlaps the range and isn't a leaf are those
+    /// below its left child, those below its right child, the left child and the right child. A digest that stands for
+    /// several folded peaks isn't among them. The empty proof has none.
+    ///
+    /// Each is a node of the list behind the root with its digest, or else the computation and the list hash different
+    /// inputs to one digest at the same place.
+    ///
+    /// # Errors
+    ///
+    /// The first that applies:
+    /// - `InvalidProof` where [`reconstruct_root`](Proof::reconstruct_root) refuses
+    /// - `RootMismatch` where it leads to another root
+    ///
+    /// `OutOfMemory` wherever there is no memory.
+    pub fn verify_range_inclusion_and_extract_digests<H: Hasher<F, Digest = D>>(
+        &self,
+        hasher: &H,
+        elements: &[&[u8]],
+        start: Location<F>,
+        root: &D,
+    ) -> Result<Vec<(Position<F>, D)>, Error<F>>
+        ensures ok { let s = H.scheme hasher.now in
+            let r = input_of s self.now start (bytes_of elements.now) in
+            IfOk result (λ pairs. (reconstructed s r ≡ Ok root.now) × (pairs.items ≡ extracted s r)) }
+        ensures nodes { let s = H.scheme hasher.now in
+            let r = input_of s self.now start (bytes_of elements.now) in
+            IfOk result (λ pairs. ForRootOf s root.now (λ xs k. AllByRecursion (IsNodePair s xs) pairs.items ⊎ RangeCollides s r xs k)) }
+        ensures err { let s = H.scheme hasher.now in
+            IfErr result (λ e. e ≢ Error.OutOfMemory
+            → IsExtractionRefusal s (input_of s self.now start (bytes_of elements.now)) root.now e) }
+    {
+        verify_and_extract(&self.parts(), hasher, elements, start, root)
     }
 
     /// Whether the element is the leaf at a location of the list behind the root.

@@ -1,6 +1,7 @@
 -- Each extracted pair is a node with its digest.
 use Rattle.std.proofs.Common.{◌≡◌, ℕ, zero, suc, Bool, true, cond, ◌||◌, ◌+◌, List, [], ◌∷◌, ◌++◌, inl, inr, refl, ap, ap₂, sym, ◌∙◌, subst, ⊎_elim, length, map, flat_map, take, drop, filter, slice_get, Some, append-nil, drop_at, ◌-◌}
 use Rattle.std.specs.List.{AllByRecursion}
+use Rattle.std.proofs.Math.Seq.{drop-nil, take-nil}
 use Rattle.std.proofs.lemmas.List.{length-map}
 use Rattle.merkle_base.specs.Tree.{Tree, leaf, join, position, IsBuilt}
 use Rattle.merkle_base.specs.Forest.{forest}
@@ -16,7 +17,7 @@ use Rattle.merkle_root_theory.specs.Outside.{fold_all, bag_all, folded_prefix, s
 use Rattle.merkle_root_theory.specs.Check.{RangeInput, leaf_given, chosen}
 use Rattle.merkle_base.specs.Scheme.{Scheme}
 use Rattle.merkle_base.specs.Places.{peaks_of, wholly_before}
-use Rattle.merkle_root_theory.specs.Range.{overlapping, wholly_after, range_parts, range_siblings, end_of, leaf_of, IsHonestSome}
+use Rattle.merkle_root_theory.specs.Range.{in_range, overlapping, wholly_after, range_parts, range_siblings, end_of, leaf_of, IsHonestSome}
 use Rattle.merkle_root_theory.specs.Extract.{inner_pairs, over_pairs, single_pairs, extracted, IsNodePair, ExtractsNodes}
 use Rattle.merkle_base.proofs.Cases.{by_test}
 use Rattle.merkle_root_theory.proofs.Claims.{split_left, split_right, tree_honest}
@@ -115,3 +116,35 @@ extracts_nodes {D = D} s size max_nodes sound xs k few low r ok = ⊎_elim (λ w
         subst (λ n. AllByRecursion (λ (x : ℕ × D). (t : Tree) × (slice_get (forest s.rule n).nodes x.0 ≡ Some t) × (x.1 ≡ tree_digest s.hashing (leaf_of s.hashing xs) t)) (extracted s r)) w.leaves
         (pairs_right s (leaf_of s.hashing xs) r (honest_leaves s xs k r w) ns r.inactive (wholly_before r.start ts) (overlapping r.start (end_of r) ts) (wholly_after (end_of r) ts)
         (all_filter _ _ ts built) (all_filter _ _ ts built) (all_filter _ _ ts built) r.digests e)
+
+-- of no leaves there are no pairs
+no_single_before : (b : Bagging) (k : ℕ) → single_before b k [] ≡ []
+no_single_before ForwardFold k = refl
+no_single_before BackwardFold k = drop-nil k
+
+no_single_after : (b : Bagging) (k met : ℕ) → single_after b k met [] ≡ []
+no_single_after ForwardFold k met = refl
+no_single_after BackwardFold k met = take-nil (k - met)
+
+no_peaks_of : (rule : List ℕ → List ℕ) → peaks_of rule 0 ≡ []
+unfolding forest
+no_peaks_of rule = refl
+
+module _ {D : Type 0} (s : Scheme D) (r : RangeInput D) where
+  abbrev pairs_over : List Tree → List (ℕ × D)
+  pairs_over ts =
+      let before = wholly_before r.start ts in
+      let over = overlapping r.start (end_of r) ts in
+      let after = wholly_after (end_of r) ts in
+      let folded = length (fold_all (folded_prefix s.bagging r.inactive before)) in
+      let single = single_before s.bagging r.inactive before in
+      single_pairs s.hashing single (drop folded r.digests)
+      ++ (over_pairs s.hashing (in_range r.start (end_of r)) (leaf_given s.hashing r) over (drop (length (range_parts s.bagging r.inactive r.start (end_of r) ts)) r.digests)
+      ++ single_pairs s.hashing (single_after s.bagging r.inactive (length before + length over) after) (drop (length single) (drop folded r.digests)))
+
+  pub extracted-no_leaves : r.leaves ≡ 0 → extracted s r ≡ []
+  extracted-no_leaves e =
+      ap pairs_over (ap (peaks_of s.rule) e ∙ no_peaks_of s.rule)
+      ∙ ap₂ (λ x y. single_pairs s.hashing x (drop (length (fold_all (folded_prefix s.bagging r.inactive []))) r.digests)
+      ++ single_pairs s.hashing y (drop (length (single_before s.bagging r.inactive [])) (drop (length (fold_all (folded_prefix s.bagging r.inactive []))) r.digests)))
+      (no_single_before s.bagging r.inactive) (no_single_after s.bagging r.inactive 0)

@@ -197,3 +197,7 @@ leads_is_accepted {D} s r root = (to, from)
         reconstructed-none s r (ap length h.elements)
         ∙ ap (root_unless s r) (empty_refusal-none s r h.start h.inactive h.leaves (ap length h.digests))
         ∙ ap Ok (empty_root_of s r h.leaves h.inactive ∙ a.1)
+
+-- without elements a root is reached with no leaves alone
+pub leaves_of_empty : {D : Type 0} (s : Scheme D) (r : RangeInput D) (root : D) → length r.elements ≡ 0 → reconstructed s r ≡ Ok root → r.leaves ≡ 0
+leaves_of_empty s r root none e = (is_empty s r none (no_error s r root (first_case (empty_refusals r)) (sym (reconstructed-none s r none) ∙ e)).0).leaves

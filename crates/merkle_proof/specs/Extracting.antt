@@ -1,0 +1,14 @@
+-- Why no digests are extracted from a proof.
+use Rattle.std.specs.Prelude.{◌≡◌, ◌≢◌, ◌⊎◌, Ok, Err}
+use Rattle.merkle_base.specs.Scheme.{Scheme}
+use Rattle.merkle_base.specs.declared.error.Error.{Error}
+use Rattle.merkle_base.specs.declared.error.Error.TheVariants.{InvalidProof, RootMismatch}
+use Rattle.merkle_base.specs.declared.error.ReconstructionError.{ReconstructionError}
+use Rattle.merkle_root_theory.specs.Check.{RangeInput}
+use Rattle.merkle_root_theory.specs.Reconstruction.{reconstructed}
+
+-- the proof and its elements are refused, or lead to another root
+abbrev pub IsExtractionRefusal : {F D : Type 0} → Scheme D → RangeInput D → D → Error F → Type 0
+IsExtractionRefusal {D} s r root e =
+    ((x : ReconstructionError) × (reconstructed s r ≡ Err x) × (e ≡ InvalidProof))
+    ⊎ ((d : D) × (reconstructed s r ≡ Ok d) × (d ≢ root) × (e ≡ RootMismatch))
