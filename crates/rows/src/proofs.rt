@@ -35,6 +35,29 @@ impl<F: Family, H: Hasher<F> + Drop> World<F, H> {
         Ok(())
     }
 
+    // The proof of a leaf of a batch, over a structure.
+    pub fn proof_over(&self, words: &[&str], answer: &mut Answer) -> Result<(), Refusal> {
+        let batch = named(&self.batches, word(words, 1))?;
+        let base = named(&self.structures, word(words, 2))?;
+        let leaf = Location::new(number(words, 3)?);
+        let inactive = count(words, 4)?;
+        let proof = granted!(batch.proof(base, &self.hasher, leaf, inactive));
+        write_proof(answer, &proof);
+        Ok(())
+    }
+
+    // The proof of the leaves in a range of a batch, over a structure.
+    pub fn range_over(&self, words: &[&str], answer: &mut Answer) -> Result<(), Refusal> {
+        let batch = named(&self.batches, word(words, 1))?;
+        let base = named(&self.structures, word(words, 2))?;
+        let start = Location::new(number(words, 3)?);
+        let end = Location::new(number(words, 4)?);
+        let inactive = count(words, 5)?;
+        let proof = granted!(batch.range_proof(base, &self.hasher, start..end, inactive));
+        write_proof(answer, &proof);
+        Ok(())
+    }
+
     // The plan of the leaf count and the range that the words name.
     fn plan_of(&self, words: &[&str]) -> Result<RangePlan<F>, Refusal> {
         let leaves = Location::new(number(words, 1)?);

@@ -142,10 +142,12 @@ impl<F: Family, H: Hasher<F> + Drop> World<F, H> {
             ProofCall::Plan => self.plan(words),
             ProofCall::PlanAbove => self.plan_above(words, answer),
             ProofCall::Proof => self.proof(words, answer),
+            ProofCall::ProofOver => self.proof_over(words, answer),
             ProofCall::Prove => self.prove(words, answer),
             ProofCall::ProveLeaves => self.prove_leaves(words, answer),
             ProofCall::ProveRanges => self.prove_ranges(words, answer),
             ProofCall::Range => self.range(words, answer),
+            ProofCall::RangeOver => self.range_over(words, answer),
             ProofCall::Reconstruct => self.reconstruct(words, answer),
         }
     }

@@ -78,10 +78,12 @@ pub enum ProofCall {
     Plan,
     PlanAbove,
     Proof,
+    ProofOver,
     Prove,
     ProveLeaves,
     ProveRanges,
     Range,
+    RangeOver,
     Reconstruct,
 }
 
@@ -139,16 +141,18 @@ const LEAF_CALLS: [(&str, usize, LeafCall); 9] = [
     ("update_list", 3, LeafCall::UpdateList),
 ];
 
-const PROOF_CALLS: [(&str, usize, ProofCall); 10] = [
+const PROOF_CALLS: [(&str, usize, ProofCall); 12] = [
     ("check", 7, ProofCall::Check),
     ("check_leaf", 7, ProofCall::CheckLeaf),
     ("plan", 4, ProofCall::Plan),
     ("plan", 6, ProofCall::PlanAbove),
     ("proof", 4, ProofCall::Proof),
+    ("proof_over", 5, ProofCall::ProofOver),
     ("prove", 5, ProofCall::Prove),
     ("prove_leaves", 3, ProofCall::ProveLeaves),
     ("prove_ranges", 3, ProofCall::ProveRanges),
     ("range", 5, ProofCall::Range),
+    ("range_over", 6, ProofCall::RangeOver),
     ("reconstruct", 6, ProofCall::Reconstruct),
 ];
 
