@@ -229,8 +229,8 @@ fn peak_digests<F: Family, H: Hasher<F>, C: Collector<F, H::Digest>>(
     ensures err { let c = in_range range.now.start range.now.end in
         IfErr result (λ e. e ≢ ReconstructionError.OutOfMemory → (ts : List Tree) → peaks.now ≡ map subtree_of ts → AreNodes F.rule F.MAX_LEAVES ts
         → let asked = before + after + length (flat_map (siblings c) ts) in
-            ((length parts.now.digests.now < asked) × (e ≡ ReconstructionError.MissingDigests))
-            ⊎ ((asked < length parts.now.digests.now) × (e ≡ ReconstructionError.ExtraDigests))) }
+        ((length parts.now.digests.now < asked) × (e ≡ ReconstructionError.MissingDigests))
+        ⊎ ((asked < length parts.now.digests.now) × (e ≡ ReconstructionError.ExtraDigests))) }
 {
     let Some((before, others)) = parts.digests.split_at_checked(before) else {
         return Err(ReconstructionError::MissingDigests);
@@ -282,8 +282,8 @@ fn reconstruct_peaks<F: Family, H: Hasher<F>, C: Collector<F, H::Digest>>(
         → C.Took told.old (over_pairs h c X ts digests.old.now) told.new) }
     ensures err { let c = in_range range.now.start range.now.end in
         IfErr result (λ e. e ≢ ReconstructionError.OutOfMemory → (e ≡ ReconstructionError.MissingDigests)
-            × ((ts : List Tree) → peaks.now ≡ map subtree_of ts → AreNodes F.rule F.MAX_LEAVES ts
-            → length digests.old.now < length (flat_map (siblings c) ts))) }
+        × ((ts : List Tree) → peaks.now ≡ map subtree_of ts → AreNodes F.rule F.MAX_LEAVES ts
+        → length digests.old.now < length (flat_map (siblings c) ts))) }
 {
     for peak in peaks {
         let digest = reconstruct_digest(peak, hasher, range, elements, digests, told)?;

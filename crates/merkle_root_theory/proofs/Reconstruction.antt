@@ -178,13 +178,13 @@ leads_is_accepted {D} s r root = (to, from)
     to : reconstructed s r ≡ Ok root → Accepts s r root
     to e = elim (none_or_some (length r.elements)) [
       | inr some ↦
-        let w = no_error s r root (first_case (range_refusals s r)) (sym (reconstructed-some s r some) ∙ e) in
-        let h = shape_of_none s r some w.0 in
-        inl (record { some = h.some; within = h.within; leaves = h.leaves; inactive = h.inactive; counts = h.counts; root_is = w.1 })
+          let w = no_error s r root (first_case (range_refusals s r)) (sym (reconstructed-some s r some) ∙ e) in
+          let h = shape_of_none s r some w.0 in
+          inl (record { some = h.some; within = h.within; leaves = h.leaves; inactive = h.inactive; counts = h.counts; root_is = w.1 })
       | inl none ↦
-        let w = no_error s r root (first_case (empty_refusals r)) (sym (reconstructed-none s r none) ∙ e) in
-        let h = is_empty s r none w.0 in
-        inr (h, sym (empty_root_of s r h.leaves h.inactive) ∙ w.1)
+          let w = no_error s r root (first_case (empty_refusals r)) (sym (reconstructed-none s r none) ∙ e) in
+          let h = is_empty s r none w.0 in
+          inr (h, sym (empty_root_of s r h.leaves h.inactive) ∙ w.1)
     ]
 
     from : Accepts s r root → reconstructed s r ≡ Ok root

@@ -26,7 +26,10 @@ loop-peak-preserved g c = λ ts e h.
 pub returns-in_err-digest-clause-err : goal.returns-in_err-digest-clause-err
 returns-in_err-digest-clause-err g c =
     let p = err_from_is_err_and c.from_residual.result c.from_residual.ensures.1 in
-    rw (p.1, p.2) (λ n. ((c.in_err-digest.ensures.err n).0, λ ts e h.
-    let w = element_means g.F.Family.rule g.F.Family.MAX_LEAVES c.args.peaks.now ts e h c.loop-peak.peak-index c.loop-peak-test.true c.peak-item.result in
-    short_peaks (g.H.Hasher.hashing c.args.hasher.now) _ _ ts _ c.loop-peak.peak-index w.0 _ _ _ _ w.2 refl (c.loop-peak.invariant ts e h).0
-    ((c.in_err-digest.ensures.err n).1 w.0 (subst (λ s. Means g.F.Family.rule g.F.Family.MAX_LEAVES s w.0) (sym c.peak-item.is) w.1))))
+    rw (p.1, p.2) (λ n. (
+      (c.in_err-digest.ensures.err n).0,
+      λ ts e h.
+          let w = element_means g.F.Family.rule g.F.Family.MAX_LEAVES c.args.peaks.now ts e h c.loop-peak.peak-index c.loop-peak-test.true c.peak-item.result in
+          short_peaks (g.H.Hasher.hashing c.args.hasher.now) _ _ ts _ c.loop-peak.peak-index w.0 _ _ _ _ w.2 refl (c.loop-peak.invariant ts e h).0
+          ((c.in_err-digest.ensures.err n).1 w.0 (subst (λ s. Means g.F.Family.rule g.F.Family.MAX_LEAVES s w.0) (sym c.peak-item.is) w.1)),
+    ))
