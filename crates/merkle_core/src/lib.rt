@@ -19,4 +19,4 @@ pub use merkle_batch::batch;
 pub use merkle_codec::codec;
 pub use merkle_digest::digest;
 pub use merkle_hasher::{hasher, path, read};
-pub use merkle_proof::proof;
+pub use merkle_proof::{element_plan, proof, range_plan};

@@ -1,5 +1,6 @@
 //! The Merkle Mountain Range, with the names of this crate at it.
 
+pub use merkle_proof::proof::MAX_PROOF_DIGESTS_PER_ELEMENT;
 pub use merkle_topology::mmr::{
     ChunkPeaks, Error, Family, Location, ParentHeights, PeakIterator, Position,
 };

@@ -51,6 +51,19 @@ pub fn write_digests<D: Digest>(answer: &mut Answer, digests: &[D]) {
     answer.or_dash(is_first);
 }
 
+/// Writes digests, each after its position, as one word.
+pub fn write_pairs<F: Family, D: Digest>(answer: &mut Answer, pairs: &[(Position<F>, D)]) {
+    let mut is_first = true;
+    for (position, digest) in pairs {
+        answer.separator(",", is_first);
+        answer.number(position.as_u64());
+        answer.text(":");
+        answer.bytes(digest.as_bytes());
+        is_first = false;
+    }
+    answer.or_dash(is_first);
+}
+
 /// Writes the digest of a node, or a dash for none.
 pub fn write_node<D: Digest>(answer: &mut Answer, digest: Option<D>) {
     match digest {
@@ -84,6 +97,17 @@ pub fn write_peaks<F: Family>(answer: &mut Answer, peaks: F::Peaks) {
 pub fn write_pins<F: Family>(answer: &mut Answer, pins: NodesToPin<F>) {
     let mut is_first = true;
     for position in pins {
+        answer.separator(" ", is_first);
+        answer.number(position.as_u64());
+        is_first = false;
+    }
+    answer.or_dash(is_first);
+}
+
+/// Writes the positions that a plan reads.
+pub fn write_positions<F: Family>(answer: &mut Answer, positions: &[Position<F>]) {
+    let mut is_first = true;
+    for position in positions {
         answer.separator(" ", is_first);
         answer.number(position.as_u64());
         is_first = false;

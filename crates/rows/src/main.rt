@@ -9,6 +9,7 @@ mod batches;
 mod checks;
 mod digests;
 mod families;
+mod plans;
 mod proofs;
 mod refusal;
 mod session;

@@ -1,15 +1,13 @@
 //! Calls of proofs, and checks of given ones.
 
-use crate::digests::{digest, digests, write_proof};
+use crate::digests::{digest, digests, write_pairs, write_proof};
 use crate::refusal::{granted, refused, unreconstructed};
 use crate::world::World;
 use merkle_core::digest::Digest;
 use merkle_core::family::Family;
 use merkle_core::hasher::Hasher;
 use merkle_core::location::Location;
-use merkle_core::position::Position;
 use merkle_core::proof::Proof;
-use merkle_proof::range_plan::RangePlan;
 use rows_text::answer::Answer;
 use rows_text::refusal::{OUT_OF_MEMORY, Refusal};
 use rows_text::words::{bytes, count, elements, named, number, word};
@@ -58,39 +56,6 @@ impl<F: Family, H: Hasher<F> + Drop> World<F, H> {
         Ok(())
     }
 
-    // The plan of the leaf count and the range that the words name.
-    fn plan_of(&self, words: &[&str]) -> Result<RangePlan<F>, Refusal> {
-        let leaves = Location::new(number(words, 1)?);
-        let start = Location::new(number(words, 2)?);
-        let end = Location::new(number(words, 3)?);
-        Ok(granted!(RangePlan::new(self.alloc, leaves, start..end)))
-    }
-
-    pub fn plan(&self, words: &[&str]) -> Result<(), Refusal> {
-        let _plan = self.plan_of(words)?;
-        Ok(())
-    }
-
-    // A plan over nodes of which those past a position alone are there, all with the digest of no nodes.
-    pub fn plan_above(&self, words: &[&str], answer: &mut Answer) -> Result<(), Refusal> {
-        let inactive = count(words, 4)?;
-        let above = number(words, 5)?;
-        let plan = self.plan_of(words)?;
-        let built = plan.build(
-            &self.hasher,
-            inactive,
-            move |position: Position<F>| -> Option<H::Digest> {
-                if position.as_u64() > above {
-                    Some(H::Digest::EMPTY)
-                } else {
-                    None
-                }
-            },
-        );
-        let _proof = granted!(built);
-        Ok(())
-    }
-
     // The proof that three words spell.
     fn read_proof(&self, words: &[&str]) -> Result<Proof<F, H::Digest>, Refusal> {
         let leaves = Location::new(number(words, 1)?);
@@ -111,6 +76,19 @@ impl<F: Family, H: Hasher<F> + Drop> World<F, H> {
         let found = found.as_slice();
         let is_right = check_range(self.alloc, &self.hasher, &proof, found, start, &root)?;
         answer.yes_or_no(is_right);
+        Ok(())
+    }
+
+    // The digests that a check of a range computes or is given, each after its position.
+    pub fn extract(&self, words: &[&str], answer: &mut Answer) -> Result<(), Refusal> {
+        let start = Location::new(number(words, 4)?);
+        let root = digest(self.alloc, word(words, 6))?;
+        let found = elements(self.alloc, word(words, 5))?;
+        let proof = self.read_proof(words)?;
+        let all = slices(self.alloc, found.as_slice())?;
+        let hasher = &self.hasher;
+        let pairs = proof.verify_range_inclusion_and_extract_digests(hasher, &all, start, &root);
+        write_pairs(answer, &granted!(pairs));
         Ok(())
     }
 

@@ -31,6 +31,7 @@ pub fn refused<F: Family>(error: &Error<F>) -> Refusal {
             requested: *requested,
             peaks: *peaks,
         },
+        Error::RootMismatch => Refusal::Plain("RootMismatch"),
         Error::MissingNode(position) => Refusal::Of("MissingNode", position.as_u64()),
         Error::OutOfMemory => OUT_OF_MEMORY,
         _ => Refusal::Plain("other"),

@@ -75,8 +75,13 @@ pub enum LeafCall {
 pub enum ProofCall {
     Check,
     CheckLeaf,
+    Extract,
     Plan,
     PlanAbove,
+    PlanLeaf,
+    PlanLeafAbove,
+    Positions,
+    PositionsLeaf,
     Proof,
     ProofOver,
     Prove,
@@ -141,11 +146,16 @@ const LEAF_CALLS: [(&str, usize, LeafCall); 9] = [
     ("update_list", 3, LeafCall::UpdateList),
 ];
 
-const PROOF_CALLS: [(&str, usize, ProofCall); 12] = [
+const PROOF_CALLS: [(&str, usize, ProofCall); 17] = [
     ("check", 7, ProofCall::Check),
     ("check_leaf", 7, ProofCall::CheckLeaf),
+    ("extract", 7, ProofCall::Extract),
     ("plan", 4, ProofCall::Plan),
     ("plan", 6, ProofCall::PlanAbove),
+    ("plan_leaf", 3, ProofCall::PlanLeaf),
+    ("plan_leaf", 5, ProofCall::PlanLeafAbove),
+    ("positions", 4, ProofCall::Positions),
+    ("positions_leaf", 3, ProofCall::PositionsLeaf),
     ("proof", 4, ProofCall::Proof),
     ("proof_over", 5, ProofCall::ProofOver),
     ("prove", 5, ProofCall::Prove),
