@@ -1,4 +1,4 @@
-use Rattle.std.proofs.Common.{◌≡◌, map, true, false, sym, ap, ◌∙◌}
+use Rattle.std.proofs.Common.{◌≡◌, true, false, sym, ap, ◌∙◌}
 use Rattle.std.specs.Prelude.{not}
 use Rattle.merkle_batch_theory.specs.Pending.{is_changed}
 use Rattle.merkle_draft.proofs.KeptRecords.{taken_over, with_own, without_own}
