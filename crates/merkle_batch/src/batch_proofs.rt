@@ -85,7 +85,8 @@ impl<F: Family, D: Digest> MerkleizedBatch<F, D> {
 
         // Where it stands on lists and the base agrees with one of them, it is the honest proof of the last list.
         ensures honest { let s = H.scheme hasher.now in
-            (ls : List (List D)) → StandsOn (H.hashing hasher.now) F.rule (records self.now) ls → AgreesWithOne (H.hashing hasher.now) F.rule (B.contents base.now) ls
+            (ls : List (List D)) → StandsOn (H.hashing hasher.now) F.rule (records self.now) ls
+            → AgreesWithOne (H.hashing hasher.now) F.rule (B.contents base.now) ls
             → let X = last_list ls in IfOk result (λ p. location < length X × IsHonestRange s X inactive (list_input p X location (location + 1))) }
         ensures given { (h : Hashing D) → (ls : List (List D)) → StandsOn h F.rule (records self.now) ls
             → AgreesWithOne h F.rule (B.contents base.now) ls → (B.contents base.now).boundary ≤ location → location < length (last_list ls)
@@ -130,7 +131,8 @@ impl<F: Family, D: Digest> MerkleizedBatch<F, D> {
 
         // Where it stands on lists and the base agrees with one of them, it is the honest proof of the last list.
         ensures honest { let s = H.scheme hasher.now in
-            (ls : List (List D)) → StandsOn (H.hashing hasher.now) F.rule (records self.now) ls → AgreesWithOne (H.hashing hasher.now) F.rule (B.contents base.now) ls
+            (ls : List (List D)) → StandsOn (H.hashing hasher.now) F.rule (records self.now) ls
+            → AgreesWithOne (H.hashing hasher.now) F.rule (B.contents base.now) ls
             → let X = last_list ls in IfOk result (λ p. (range.start < range.end) × (range.end ≤ length X)
             × IsHonestRange s X inactive (list_input p X range.start range.end)) }
         ensures given { (h : Hashing D) → (ls : List (List D)) → StandsOn h F.rule (records self.now) ls

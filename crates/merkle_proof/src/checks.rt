@@ -105,7 +105,7 @@ pub(crate) fn reconstruct_root_into<F: Family, H: Hasher<F>, C: Collector<F, H::
     hasher: &H,
     elements: &[&[u8]],
     start: Location<F>,
-    told: &mut C,
+    collector: &mut C,
 ) -> Result<H::Digest, ReconstructionError>
     requires some { 0 < length elements.now }
     ensures ok { let s = H.scheme hasher.now in
@@ -113,7 +113,7 @@ pub(crate) fn reconstruct_root_into<F: Family, H: Hasher<F>, C: Collector<F, H::
         IfOk result (λ d. IsComputed s r d) }
     ensures taken { let s = H.scheme hasher.now in
         let r = range_input s parts.now.leaves parts.now.inactive parts.now.digests.now start (bytes_of elements.now) in
-        IfOk result (λ _. C.Took told.old (extracted s r) told.new) }
+        IfOk result (λ _. C.Took collector.old (extracted s r) collector.new) }
     ensures err { let s = H.scheme hasher.now in
         let r = range_input s parts.now.leaves parts.now.inactive parts.now.digests.now start (bytes_of elements.now) in
         IfErr result (λ e. e ≢ ReconstructionError.OutOfMemory → first_case (range_refusals s r) ≡ Some e) }
@@ -127,7 +127,7 @@ pub(crate) fn reconstruct_root_into<F: Family, H: Hasher<F>, C: Collector<F, H::
         return Err(ReconstructionError::InvalidSize);
     }
     let layout = groups.layout(hasher.root_bagging(), parts.inactive);
-    let Ok(()) = put_before(&groups, layout, parts.digests, told) else {
+    let Ok(()) = put_before(&groups, layout, parts.digests, collector) else {
         return Err(ReconstructionError::OutOfMemory);
     };
     let peaks = peak_digests(
@@ -138,9 +138,9 @@ pub(crate) fn reconstruct_root_into<F: Family, H: Hasher<F>, C: Collector<F, H::
         &groups.overlapping,
         layout.before,
         layout.after,
-        told,
+        collector,
     )?;
-    let Ok(()) = put_after(&groups, layout, parts.digests, told) else {
+    let Ok(()) = put_after(&groups, layout, parts.digests, collector) else {
         return Err(ReconstructionError::OutOfMemory);
     };
     match hasher.root_with_folded_peaks(parts.leaves, layout.inactive, parts.inactive, &peaks) {
@@ -213,7 +213,7 @@ fn peak_digests<F: Family, H: Hasher<F>, C: Collector<F, H::Digest>>(
     peaks: &[Subtree<F>],
     before: usize,
     after: usize,
-    told: &mut C,
+    collector: &mut C,
 ) -> Result<Vec<H::Digest>, ReconstructionError>
     requires nodes { (ts : List Tree) × (peaks.now ≡ map subtree_of ts) × AreNodes F.rule F.MAX_LEAVES ts }
     requires some { range.now.start < range.now.end }
@@ -225,7 +225,7 @@ fn peak_digests<F: Family, H: Hasher<F>, C: Collector<F, H::Digest>>(
     ensures taken { let h = H.hashing hasher.now in let c = in_range range.now.start range.now.end in
         let X = leaf_from h F.rule range.now.start (bytes_of elements.now) in
         IfOk result (λ _. (ts : List Tree) → peaks.now ≡ map subtree_of ts → AreNodes F.rule F.MAX_LEAVES ts
-        → C.Took told.old (over_pairs h c X ts (drop (before + after) parts.now.digests.now)) told.new) }
+        → C.Took collector.old (over_pairs h c X ts (drop (before + after) parts.now.digests.now)) collector.new) }
     ensures err { let c = in_range range.now.start range.now.end in
         IfErr result (λ e. e ≢ ReconstructionError.OutOfMemory → (ts : List Tree) → peaks.now ≡ map subtree_of ts → AreNodes F.rule F.MAX_LEAVES ts
         → let asked = before + after + length (flat_map (siblings c) ts) in
@@ -248,7 +248,7 @@ fn peak_digests<F: Family, H: Hasher<F>, C: Collector<F, H::Digest>>(
         peaks,
         &mut siblings,
         &mut all,
-        told,
+        collector,
     )?;
     if !siblings.is_empty() {
         return Err(ReconstructionError::ExtraDigests);
@@ -267,7 +267,7 @@ fn reconstruct_peaks<F: Family, H: Hasher<F>, C: Collector<F, H::Digest>>(
     peaks: &[Subtree<F>],
     digests: &mut &[H::Digest],
     out: &mut Vec<H::Digest>,
-    told: &mut C,
+    collector: &mut C,
 ) -> Result<(), ReconstructionError>
     requires nodes { (ts : List Tree) × (peaks.now ≡ map subtree_of ts) × AreNodes F.rule F.MAX_LEAVES ts }
     requires some { range.now.start < range.now.end }
@@ -279,15 +279,15 @@ fn reconstruct_peaks<F: Family, H: Hasher<F>, C: Collector<F, H::Digest>>(
     ensures taken { let h = H.hashing hasher.now in let c = in_range range.now.start range.now.end in
         let X = leaf_from h F.rule range.now.start (bytes_of elements.now) in
         IfOk result (λ _. (ts : List Tree) → peaks.now ≡ map subtree_of ts → AreNodes F.rule F.MAX_LEAVES ts
-        → C.Took told.old (over_pairs h c X ts digests.old.now) told.new) }
+        → C.Took collector.old (over_pairs h c X ts digests.old.now) collector.new) }
     ensures err { let c = in_range range.now.start range.now.end in
         IfErr result (λ e. e ≢ ReconstructionError.OutOfMemory → (e ≡ ReconstructionError.MissingDigests)
         × ((ts : List Tree) → peaks.now ≡ map subtree_of ts → AreNodes F.rule F.MAX_LEAVES ts
         → length digests.old.now < length (flat_map (siblings c) ts))) }
 {
     for peak in peaks {
-        let digest = reconstruct_digest(peak, hasher, range, elements, digests, told)?;
-        if told.put(peak.position, &digest).is_err() {
+        let digest = reconstruct_digest(peak, hasher, range, elements, digests, collector)?;
+        if collector.put(peak.position, &digest).is_err() {
             return Err(ReconstructionError::OutOfMemory);
         }
         if out.push(digest).is_err() {

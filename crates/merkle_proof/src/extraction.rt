@@ -110,12 +110,13 @@ pub(crate) fn put_before<F: Family, D: Digest, C: Collector<F, D>>(
     groups: &Groups<F>,
     layout: Layout,
     digests: &[D],
-    told: &mut C,
+    collector: &mut C,
 ) -> Result<(), AllocError>
     requires prefix { layout.prefix ≤ groups.now.before }
     requires before { groups.now.before ≤ length groups.now.outside.items }
     ensures { IfOk result (λ _. (h : Hashing D) (a b : ℕ) (ts us : List Tree) → HoldsGroups a b groups.now ts → us ≡ drop layout.prefix (wholly_before a ts)
-        → min layout.prefix 1 + length us ≤ length digests.now → C.Took told.old (single_pairs h us (drop (min layout.prefix 1) digests.now)) told.new) }
+        → min layout.prefix 1 + length us ≤ length digests.now
+        → C.Took collector.old (single_pairs h us (drop (min layout.prefix 1) digests.now)) collector.new) }
 {
     let Some((_, individual)) = digests.split_at_checked(layout.prefix.min(1)) else {
         return Ok(());
@@ -123,7 +124,7 @@ pub(crate) fn put_before<F: Family, D: Digest, C: Collector<F, D>>(
     put_each(
         &groups.outside[layout.prefix..groups.before],
         individual,
-        told,
+        collector,
     )?;
     Ok(())
 }
@@ -133,17 +134,17 @@ pub(crate) fn put_after<F: Family, D: Digest, C: Collector<F, D>>(
     groups: &Groups<F>,
     layout: Layout,
     digests: &[D],
-    told: &mut C,
+    collector: &mut C,
 ) -> Result<(), AllocError>
     requires single { groups.now.before + layout.single ≤ length groups.now.outside.items }
     ensures { IfOk result (λ _. (h : Hashing D) (a b : ℕ) (ts us : List Tree) → HoldsGroups a b groups.now ts → us ≡ take layout.single (wholly_after b ts)
-        → layout.before + length us ≤ length digests.now → C.Took told.old (single_pairs h us (drop layout.before digests.now)) told.new) }
+        → layout.before + length us ≤ length digests.now → C.Took collector.old (single_pairs h us (drop layout.before digests.now)) collector.new) }
 {
     let Some((_, individual)) = digests.split_at_checked(layout.before) else {
         return Ok(());
     };
     let end = groups.before + layout.single;
-    put_each(&groups.outside[groups.before..end], individual, told)?;
+    put_each(&groups.outside[groups.before..end], individual, collector)?;
     Ok(())
 }
 
@@ -151,17 +152,17 @@ pub(crate) fn put_after<F: Family, D: Digest, C: Collector<F, D>>(
 fn put_each<F: Family, D: Digest, C: Collector<F, D>>(
     positions: &[Position<F>],
     digests: &[D],
-    told: &mut C,
+    collector: &mut C,
 ) -> Result<(), AllocError>
     ensures { IfOk result (λ _. (h : Hashing D) (ts : List Tree) → positions.now ≡ map position ts → length ts ≤ length digests.now
-        → C.Took told.old (single_pairs h ts digests.now) told.new) }
+        → C.Took collector.old (single_pairs h ts digests.now) collector.new) }
 {
     let mut rest = digests;
     for position in positions {
         let Some((digest, others)) = rest.split_first() else {
             return Ok(());
         };
-        told.put(*position, digest)?;
+        collector.put(*position, digest)?;
         rest = others;
     }
     Ok(())

@@ -105,7 +105,8 @@ impl<F: Family> Groups<F> {
         ensures after { (a b : ℕ) (ts : List Tree) → HoldsGroups a b self.now ts
             → result.after ≡ count_after bagging inactive (length (wholly_before a ts) + length (overlapping a b ts)) (wholly_after b ts) }
         ensures inactive { (a b : ℕ) (ts : List Tree) → HoldsGroups a b self.now ts → result.inactive ≡ count_inactive bagging inactive (wholly_before a ts) }
-        ensures prefix { (a b : ℕ) (ts : List Tree) → HoldsGroups a b self.now ts → result.prefix ≡ length (folded_prefix bagging inactive (wholly_before a ts)) }
+        ensures prefix { (a b : ℕ) (ts : List Tree) → HoldsGroups a b self.now ts
+            → result.prefix ≡ length (folded_prefix bagging inactive (wholly_before a ts)) }
         ensures single { (a b : ℕ) (ts : List Tree) → HoldsGroups a b self.now ts
             → result.single ≡ length (single_after bagging inactive (length (wholly_before a ts) + length (overlapping a b ts)) (wholly_after b ts)) }
     {

@@ -29,5 +29,5 @@ returns-clause-taken g c = λ ts e h.
     let s = c.in-Some.ensures.cases in
     let r = c.in-Some-split_at_checked.ensures.cases in
     let back : c.in-Some-split_at_checked.siblings.now ≡ drop (c.args.before + c.args.after) c.args.parts.now.digests.now = r.2 ∙ ap (drop c.args.after) s.2 ∙ drop-drop c.args.after c.args.before c.args.parts.now.digests.now in
-    subst (λ z. g.C.Collector.Took c.args.told.now (over_pairs h0 (in_range c.args.range.now.start c.args.range.now.end) (leaf_from h0 g.F.Family.rule c.args.range.now.start (bytes_of c.args.elements.now)) ts z) c.reconstruct_peaks.new.told) back
+    subst (λ z. g.C.Collector.Took c.args.collector.now (over_pairs h0 (in_range c.args.range.now.start c.args.range.now.end) (leaf_from h0 g.F.Family.rule c.args.range.now.start (bytes_of c.args.elements.now)) ts z) c.reconstruct_peaks.new.collector) back
     (c.in_ok-reconstruct_peaks.ensures.taken ts e h)

@@ -151,7 +151,7 @@ returns-clause-taken g c =
     let p_is = subst (λ z. laid.prefix ≡ length (folded_prefix z k before)) c.root_bagging.ensures (c.layout-layout.ensures.prefix a b ts held) in
     let q_is = subst (λ z. laid.single ≡ length (single_after z k met after)) c.root_bagging.ensures (c.layout-layout.ensures.single a b ts held) in
     let front : min laid.prefix 1 ≡ length (fold_all (folded_prefix bagging k before)) = ap (λ n. min n 1) p_is ∙ sym (length-fold_all (folded_prefix bagging k before)) in
-    let x = subst (λ z. g.C.Collector.Took c.args.told.now (single_pairs h (single_before bagging k before) (drop z given)) c.put_before.new.told) front
+    let x = subst (λ z. g.C.Collector.Took c.args.collector.now (single_pairs h (single_before bagging k before) (drop z given)) c.put_before.new.collector) front
     (c.in-Ok-put_before.ensures h a b ts (single_before bagging k before) held (before_dropped bagging k before ∙ ap (λ n. drop n before) (sym p_is)) (omega (arith, front, w.count, m_is))) in
     let y = c.in_ok-peaks.ensures.taken (overlapping a b ts) (c.deref.ensures.value ∙ held.over) (all_filter _ _ _ (peaks_at g.F.Family.rule g.F.Family.MAX_LEAVES c.args.parts.now.leaves end.2)) in
     let z = c.in-Ok-put_after.ensures h a b ts (single_after bagging k met after) held (after_taken bagging k met after ∙ ap (λ n. take n after) (sym q_is)) (omega (arith, w.count, n_is)) in

@@ -14,5 +14,5 @@ returns g c = λ h a b ts us held e l.
     let at : take (c.args.groups.now.before - p) (drop p c.deref.result.now) ≡ map position us =
     ap₂ (λ n xs. take (n - p) (drop p xs)) held.before (c.deref.ensures.value ∙ held.outside) ∙ before_positions (wholly_before a ts) (wholly_after b ts) p ∙ ap (map position) (sym e) in
     let back : c.in-Some.individual.now ≡ drop (min p 1) digests = c.in-Some.ensures.cases.2 ∙ ap (λ n. drop n digests) c.min.ensures in
-    subst (λ z. g.C.Collector.Took c.args.told.now (single_pairs h us z) c.put_each.new.told) back
+    subst (λ z. g.C.Collector.Took c.args.collector.now (single_pairs h us z) c.put_each.new.collector) back
     (c.in_ok-put_each.ensures h us at (omega (arith, l, ap length back, length-drop (min p 1) digests)))

@@ -17,6 +17,6 @@ loop-position-preserved g c =
 
 pub returns : goal.returns
 returns g c = λ h ts e l.
-    subst (λ z. g.C.Collector.Took c.args.told.now (single_pairs h z c.args.digests.now) c.loop-position.told)
+    subst (λ z. g.C.Collector.Took c.args.collector.now (single_pairs h z c.args.digests.now) c.loop-position.collector)
     (all_taken c.loop-position.position-index ts (omega (arith, c.loop-position-test.false, ap length e, length-map ts position)))
     (c.loop-position.invariant.1 h ts e l)
