@@ -13,7 +13,8 @@ use Rattle.merkle_base.specs.declared.family.Bagging.{Bagging}
 use Rattle.merkle_base.proofs.Nodes.{all_append}
 use Rattle.merkle_root_theory.specs.Plan.{siblings, tree_meets}
 use Rattle.merkle_root_theory.specs.Range.{in_range, overlapping, wholly_after, range_siblings}
-use Rattle.merkle_proof.specs.RangePlans.{IsBuildRefusal, IsFirstMissing, nodes_read, reading_order}
+use Rattle.merkle_proof.specs.RangePlans.{IsBuildRefusal, IsFirstMissing}
+use Rattle.merkle_root_theory.specs.Reads.{nodes_read, reading_order}
 use Rattle.merkle_proof.proofs.BuiltDigests.{reads_at}
 use Rattle.merkle_root_theory.proofs.Extraction.{all_filter}
 use Rattle.merkle_proof.proofs.ReadingOrder.{all_reading_order}

@@ -2,7 +2,7 @@
 use Rattle.std.proofs.Common.{None, sym, ◌∙◌, inl, inr, subst}
 use Rattle.merkle_root_theory.specs.RootNames.{NamesRoot, OtherListCollides}
 use Rattle.merkle_root_theory.proofs.NamedRoots.{named, accepted_root, equal_roots_collide}
-use Rattle.merkle_proof.proofs.ListRoots.{roots_agree}
+use Rattle.merkle_root_theory.proofs.ListRoots.{roots_agree}
 use Rattle.merkle_claim_theory.specs.Multiproof.{multi_expression}
 use Rattle.merkle_claim_theory.specs.Pinned.{pinned_expression}
 use Rattle.merkle_claim_theory.specs.ClaimRoots.{MultiNamesRoot, PinnedNamesRoot}

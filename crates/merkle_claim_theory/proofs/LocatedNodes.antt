@@ -13,7 +13,7 @@ use Rattle.merkle_root_theory.specs.Collision.{Member}
 use Rattle.merkle_root_theory.specs.Plan.{node_expression, tree_digest}
 use Rattle.merkle_root_theory.specs.Range.{leaf_of}
 use Rattle.merkle_root_theory.proofs.Collisions.{member_left, member_right}
-use Rattle.merkle_proof.proofs.BuiltDigests.{digest_at_is}
+use Rattle.merkle_root_theory.proofs.ListRoots.{digest_at_is}
 use Rattle.merkle_claim_theory.specs.Exact.{forest_inputs}
 use Rattle.merkle_claim_theory.specs.Located.{node_inputs, CollideIsLocated, LocatedIsCollide}
 use Rattle.merkle_claim_theory.proofs.NoCollisions.{member_split}

@@ -32,7 +32,7 @@ ghost use Rattle.merkle_claim_theory.specs.PlainHash.{IsPlain, joined_at, string
 ghost use Rattle.merkle_claim_theory.specs.PlainHash.{RangeCollision, MultiCollision, PinnedCollision, PairCollision, NodeCollision};
 ghost use Rattle.merkle_root_theory.specs.Plan.{folding, full, siblings, whole};
 ghost use Rattle.merkle_root_theory.specs.Range.{HonestIsAccepted, AcceptedIsHonest, AcceptsSome, IsHonestSome, in_range, overlapping, wholly_after, range_siblings, range_digests};
-ghost use Rattle.merkle_proof.specs.RangePlans.{reading_order};
+ghost use Rattle.merkle_root_theory.specs.Reads.{reading_order};
 ghost use Rattle.merkle_base.specs.declared.error.ReconstructionError.TheVariants.{InvalidProof, MissingDigests, ExtraDigests, InvalidStartLoc, InvalidEndLoc, MissingElements, InvalidSize};
 ghost use Rattle.merkle_root_theory.specs.Reconstruction.{reconstructed, LeadsIsAccepted};
 ghost use Rattle.merkle_root_theory.specs.RootNames.{NamesRoot, AreApart, RootsCollide};

@@ -12,14 +12,16 @@ use Rattle.merkle_root_theory.specs.Plan.{Plan, siblings, tree_meets, tree_diges
 use Rattle.merkle_root_theory.specs.Outside.{folded_prefix, single_before, single_after, folded_suffix}
 use Rattle.merkle_base.specs.Scheme.{Scheme}
 use Rattle.merkle_root_theory.specs.Range.{in_range, overlapping, wholly_after, range_parts, range_siblings, range_digests, leaf_of, end_of, IsHonestRange}
-use Rattle.merkle_proof.specs.RangePlans.{nodes_read, AnswersList, AreAnswered, IsLaidOut, IsBuiltProof, list_input, part_read}
+use Rattle.merkle_proof.specs.RangePlans.{AnswersList, AreAnswered, IsLaidOut, IsBuiltProof, list_input}
+use Rattle.merkle_root_theory.specs.Reads.{nodes_read, part_read}
 use Rattle.merkle_hasher.specs.Subtrees.{AreNodes}
 use Rattle.merkle_proof.specs.declared.proof.Proof.{Proof}
 use Rattle.merkle_base.proofs.Cases.{by_test}
 use Rattle.merkle_hasher.proofs.PeakNodes.{peaks_at}
 use Rattle.merkle_base.proofs.PeakLists.{peaks_built}
 use Rattle.merkle_root_theory.proofs.Extraction.{all_filter}
-use Rattle.merkle_proof.proofs.BuiltLayouts.{StandFor, at_node, nodes_stand, digests_stand, laid_out_read}
+use Rattle.merkle_root_theory.proofs.ListRoots.{digest_at_is}
+use Rattle.merkle_root_theory.proofs.BuiltLayouts.{StandFor, at_node, nodes_stand, digests_stand, laid_out_read}
 use Rattle.merkle_proof.proofs.ReadingOrder.{AreRuns, met_count, all_runs}
 
 -- answers that agree with a function
@@ -28,11 +30,6 @@ agreed node answered agree [] [] z = refl
 agreed node answered agree [] (d ∷ ds) z = absurd z
 agreed node answered agree (t ∷ ts) [] z = absurd z
 agreed node answered agree (t ∷ ts) (d ∷ ds) z = ap₂ (λ x y. x ∷ y) (sym (agree (position t) (Some d) z.0)) (agreed node answered agree ts ds z.1)
-
--- the digest of a list at a node, by location
-pub digest_at_is : {D : Type 0} (h : Hashing D) (xs : List D) (t : Tree) → digest_at h xs t ≡ tree_digest h (leaf_of h xs) t
-digest_at_is h xs (leaf p i) = refl
-digest_at_is h xs (join p l r) = ap₂ (h.node p) (digest_at_is h xs l) (digest_at_is h xs r)
 
 -- the path siblings stand in the forest
 siblings_at : (ns : List Tree) (c : ℕ → Bool) (t : Tree) → IsBuilt ns t → AllByRecursion (λ u. slice_get ns (position u) ≡ Some u) (siblings c t)

@@ -1,8 +1,6 @@
 pub mod PeakLoop
 pub mod RangeRoot
-pub mod BuiltLayouts
 pub mod BuiltDigests
-pub mod ListRoots
 pub mod HasherLaws
 pub mod GivenLeaves
 pub mod ExtractionWalks

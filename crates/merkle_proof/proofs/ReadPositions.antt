@@ -10,7 +10,7 @@ use Rattle.merkle_base.specs.Tree.{Tree, position}
 use Rattle.merkle_base.specs.Forest.{forest, size}
 use Rattle.merkle_hasher.specs.Subtrees.{AreNodes}
 use Rattle.merkle_proof.specs.Positions.{IsAscendingOf, positions_among, range_positions}
-use Rattle.merkle_proof.specs.RangePlans.{nodes_read}
+use Rattle.merkle_root_theory.specs.Reads.{nodes_read}
 use Rattle.merkle_proof.proofs.BuiltDigests.{reads_at}
 use Rattle.merkle_proof.proofs.RisingLists.{rises_filter}
 

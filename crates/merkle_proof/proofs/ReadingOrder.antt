@@ -8,8 +8,9 @@ use Rattle.merkle_base.specs.declared.family.Bagging.{Bagging}
 use Rattle.merkle_base.proofs.Nodes.{all_append}
 use Rattle.merkle_root_theory.specs.Outside.{folded_prefix, single_before, single_after, folded_suffix}
 use Rattle.merkle_root_theory.specs.Range.{overlapping, wholly_after, range_siblings}
-use Rattle.merkle_proof.specs.RangePlans.{nodes_read, reading_order, IsPlan}
-use Rattle.merkle_proof.proofs.BuiltLayouts.{map-append_four, folded_prefix_rest, single_after_rest}
+use Rattle.merkle_proof.specs.RangePlans.{IsPlan}
+use Rattle.merkle_root_theory.specs.Reads.{nodes_read, reading_order}
+use Rattle.merkle_root_theory.proofs.BuiltLayouts.{map-append_four, folded_prefix_rest, single_after_rest}
 use Rattle.merkle_root_theory.proofs.PeakGroups.{length-peaks_of}
 
 all_parts : {X : Type 0} (P : X → Type 0) (xs ys : List X) → AllByRecursion P (xs ++ ys) → AllByRecursion P xs × AllByRecursion P ys

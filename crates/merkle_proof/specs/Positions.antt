@@ -4,7 +4,7 @@ use Rattle.std.specs.List.{Contains, list_any, range_with_len}
 use Rattle.std.specs.List.Sorted.{IsStrictlyIncreasing}
 use Rattle.merkle_base.specs.Tree.{Tree, position}
 use Rattle.merkle_base.specs.Forest.{size}
-use Rattle.merkle_proof.specs.RangePlans.{nodes_read}
+use Rattle.merkle_root_theory.specs.Reads.{nodes_read}
 
 -- zs has the numbers of xs, ascending, each once
 pub record IsAscendingOf (xs zs : List ℕ) : Type 0 where

@@ -9,12 +9,10 @@ use Rattle.merkle_base.specs.Places.{peaks_of, wholly_before}
 use Rattle.merkle_base.specs.declared.family.Bagging.{Bagging}
 use Rattle.merkle_base.specs.declared.error.Error.{Error}
 use Rattle.merkle_base.specs.declared.error.Error.TheVariants.{Empty, RangeOutOfBounds, LocationOverflow, InvalidProof, ElementPruned}
-use Rattle.merkle_root_theory.specs.Expression.{hashed_at}
-use Rattle.merkle_root_theory.specs.Plan.{Plan, peak, folding}
 use Rattle.merkle_root_theory.specs.Check.{RangeInput}
 use Rattle.merkle_base.specs.Scheme.{Scheme}
 use Rattle.merkle_root_theory.specs.Layouts.{laid_out}
-use Rattle.merkle_root_theory.specs.Outside.{single_after, folded_suffix}
+use Rattle.merkle_root_theory.specs.Reads.{nodes_read, reading_order, part_read}
 use Rattle.merkle_root_theory.specs.Range.{overlapping, wholly_after, range_parts, range_siblings}
 use Rattle.merkle_proof.specs.declared.proof.Proof.{Proof}
 
@@ -23,18 +21,6 @@ pub record LeafRange : Type 0 where
   pub leaves : ℕ
   pub start : ℕ
   pub end : ℕ
-
--- the nodes that a proof of a..b reads: the peaks before the range, those after it, and the path siblings
-abbrev pub nodes_read : (List ℕ → List ℕ) → (n a b : ℕ) → List Tree
-nodes_read rule n a b = wholly_before a (peaks_of rule n) ++ (wholly_after b (peaks_of rule n) ++ range_siblings a b (peaks_of rule n))
-
--- the same in the order in which a proof reads them: of the peaks after the range those that stand alone, and the others from the last one on
-abbrev pub reading_order : Bagging → (k : ℕ) → (List ℕ → List ℕ) → (n a b : ℕ) → List Tree
-reading_order bagging k rule n a b =
-    let before = wholly_before a (peaks_of rule n) in
-    let after = wholly_after b (peaks_of rule n) in
-    let met = length before + length (overlapping a b (peaks_of rule n)) in
-    before ++ (single_after bagging k met after ++ (reverse (folded_suffix bagging k met after) ++ range_siblings a b (peaks_of rule n)))
 
 -- the range has leaves, there are that many leaves and peaks, and these nodes are read, of which the first so many are peaks before the range,
 -- and the next so many peaks after it
@@ -81,17 +67,6 @@ abbrev pub IsBuildRefusal : {F D : Type 0} → Bagging → (List ℕ → List �
 IsBuildRefusal bagging rule r k answered e =
     ((length (peaks_of rule r.leaves) < k) × (e ≡ InvalidProof))
     ⊎ ((k ≤ length (peaks_of rule r.leaves)) × ((p : ℕ) × (e ≡ ElementPruned p) × IsFirstMissing answered (map position (reading_order bagging k rule r.leaves r.start r.end)) p))
-
--- a function of two digests, where both are there
-abbrev pub both_read : {D : Type 0} → (D → D → D) → Option D → Option D → Option D
-both_read f None y = None
-both_read f (Some x) None = None
-both_read f (Some x) (Some y) = Some (f x y)
-
--- the digest of a part of a root, over the digests that stand at the positions of its peaks
-abbrev pub part_read : {D : Type 0} → Hashing D → (ℕ → Option D) → Plan → Option D
-part_read h node (peak t) = node (position t)
-part_read h node (folding place l r) = both_read (hashed_at h place) (part_read h node l) (part_read h node r)
 
 -- the proof has the digests of the layout, over those that stand at the positions of nodes
 pub record IsBuiltProof {F D Peaks Heights : Type 0} (s : Scheme D) (node : ℕ → Option D) (k : ℕ) (r : LeafRange) (p : Proof F D Peaks Heights) : Type 0 where

@@ -9,7 +9,7 @@ ghost use Rattle.merkle_root_theory.specs.Layouts.{count_before, count_after, co
 ghost use Rattle.merkle_root_theory.specs.Range.{in_range, overlapping, wholly_after};
 ghost use Rattle.merkle_hasher.specs.Subtrees.{Means, AreNodes, subtree_of};
 ghost use Rattle.merkle_proof.specs.GroupedPeaks.{HoldsGroups};
-ghost use Rattle.merkle_proof.specs.RangePlans.{nodes_read};
+ghost use Rattle.merkle_root_theory.specs.Reads.{nodes_read};
 
 use crate::layout::Layout;
 use crate::siblings::collect_siblings;

@@ -17,3 +17,5 @@ pub mod LayoutRoot
 pub mod LayoutCounts
 pub mod NamedRoots
 pub mod Reconstruction
+pub mod BuiltLayouts
+pub mod ListRoots

@@ -12,3 +12,4 @@ pub mod Walk
 pub mod ListRoot
 pub mod RootNames
 pub mod Reconstruction
+pub mod Reads

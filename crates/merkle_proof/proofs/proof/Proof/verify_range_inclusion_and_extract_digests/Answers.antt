@@ -11,7 +11,7 @@ use Rattle.merkle_root_theory.proofs.Reconstruction.{leads_is_accepted}
 use Rattle.merkle_proof.specs.Extracting.{IsExtractionRefusal}
 use Rattle.merkle_proof.specs.Input.{input_of}
 use Rattle.merkle_proof.proofs.HasherLaws.{sound}
-use Rattle.merkle_proof.proofs.ListRoots.{roots_agree}
+use Rattle.merkle_root_theory.proofs.ListRoots.{roots_agree}
 use Rattle.merkle_proof.proofs.RangeRoot.{same_input}
 use Rattle.merkle_proof.proofs.proof.Proof.verify_range_inclusion_and_extract_digests.Goals as goal
 

@@ -2,7 +2,7 @@
 use Rattle.std.proofs.Common.{◌≡◌, ℕ, suc, pred, ◌-◌, length, List, [], ◌∷◌, map, take, drop, refl, ap, ap₂, sym, ◌∙◌, arith, Some, option_map, fold}
 use Rattle.std.specs.Option.{option_map_or}
 use Rattle.std.proofs.lemmas.List.{take-map, drop-map}
-use Rattle.merkle_base.specs.Tree.{Tree}
+use Rattle.merkle_base.specs.Tree.{Tree, leaf, join}
 use Rattle.merkle_base.specs.Hashing.{Hashing}
 use Rattle.merkle_base.specs.Digests.{digest_at}
 use Rattle.merkle_base.specs.Places.{peaks_of}
@@ -14,8 +14,12 @@ use Rattle.merkle_root_theory.specs.Expression.{value}
 use Rattle.merkle_root_theory.specs.Plan.{Plan, peak, forward, join_bag, whole, full, tree_digest, plan_digest}
 use Rattle.merkle_root_theory.specs.Range.{leaf_of}
 use Rattle.merkle_root_theory.specs.ListRoot.{RootsAgree}
-use Rattle.merkle_proof.proofs.BuiltDigests.{digest_at_is}
-use Rattle.merkle_proof.proofs.BuiltLayouts.{fold_digests, bag_digests}
+use Rattle.merkle_root_theory.proofs.BuiltLayouts.{fold_digests, bag_digests}
+
+-- the digest of a list at a node, by location
+pub digest_at_is : {D : Type 0} (h : Hashing D) (xs : List D) (t : Tree) → digest_at h xs t ≡ tree_digest h (leaf_of h xs) t
+digest_at_is h xs (leaf p i) = refl
+digest_at_is h xs (join p l r) = ap₂ (h.node p) (digest_at_is h xs l) (digest_at_is h xs r)
 
 module _ {D : Type 0} (h : Hashing D) (X : ℕ → D) where
   join_is : (acc : Plan) (i : ℕ) (ts : List Tree) → root.with_bag h.fold (plan_digest h X acc) (map (tree_digest h X) ts) ≡ plan_digest h X (join_bag acc i ts)

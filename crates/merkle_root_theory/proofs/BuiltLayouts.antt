@@ -13,7 +13,7 @@ use Rattle.merkle_root_theory.specs.Expression.{PrefixFold, SuffixFold}
 use Rattle.merkle_root_theory.specs.Plan.{Plan, peak, folding, forward, bag, tree_digest, plan_digest}
 use Rattle.merkle_root_theory.specs.Outside.{fold_all, bag_all, folded_prefix, single_before, single_after, folded_suffix}
 use Rattle.merkle_root_theory.specs.Layouts.{laid_out}
-use Rattle.merkle_proof.specs.RangePlans.{both_read, part_read}
+use Rattle.merkle_root_theory.specs.Reads.{both_read, part_read}
 
 pub map-append_four : {X Y : Type 0} (g : X → Y) (xs ys zs us : List X) → map g (xs ++ (ys ++ (zs ++ us))) ≡ map g xs ++ (map g ys ++ (map g zs ++ map g us))
 map-append_four g xs ys zs us = map-append g xs (ys ++ (zs ++ us)) ∙ ap (λ w. map g xs ++ w) (map-append g ys (zs ++ us) ∙ ap (λ w. map g ys ++ w) (map-append g zs us))
