@@ -5,7 +5,7 @@ use Rattle.std.proofs.lemmas.Bool.{eqb-true, ne_eqb, eq-eqb, or_right, cases_lt}
 use Rattle.std.proofs.lemmas.List.{length-map, length-reverse, reverse-append}
 use Rattle.merkle_base.specs.Tree.{Tree, leaf, join, position, height, first_leaf, width, IsBuilt, IsBalanced, end_leaf}
 use Rattle.merkle_base.specs.Forest.{forest, size}
-use Rattle.merkle_base.specs.Heights.{peak_heights}
+use Rattle.merkle_base.specs.Heights.{peak_heights, IsLawful}
 use Rattle.merkle_base.proofs.Lists.{get_below}
 use Rattle.merkle_base.proofs.Lookup.{index_map}
 use Rattle.merkle_base.proofs.Balance.{heights_forest, peaks_balanced}
@@ -68,22 +68,28 @@ reverse_member [] t m = elim m [ ]
 reverse_member (x ∷ ts) t (inl e) = (0, ap Some e)
 reverse_member (x ∷ ts) t (inr m) = let w = reverse_member ts t m in (suc w.0, w.1)
 
+-- under a lawful rule a leaf needs no more nodes than there are peaks beside the one over it, and its height
+pub one_leaf_few : (rule : List ℕ → List ℕ) (max_leaves max_nodes : ℕ) → IsLawful rule max_leaves max_nodes → (n : ℕ) → n ≤ max_leaves
+    → ((j : ℕ) → j < length (peak_heights rule n) → slice_index (peak_heights rule n) j + length (peak_heights rule n) ≤ 123)
+    → (i : ℕ) → i < n → length (one_leaf_nodes i (peaks_of rule n)) ≤ 122
+one_leaf_few rule max_leaves max_nodes law n few bound i x =
+    let balanced = all_reverse IsBalanced (forest rule n).peaks (peaks_balanced rule max_leaves law.equal n few) in
+    let w = leaf_nodes_count (forest rule n).nodes i 0 n (peaks_of rule n) (peaks_spans rule n) (peaks_built rule n) balanced (omega arith) x in
+    let j = reverse_member (forest rule n).peaks w.0 (back (forest rule n).peaks w.0 w.1) in
+    let hs = heights_forest rule n in
+    let long : length (forest rule n).peaks ≡ length (peak_heights rule n) = sym (length-map (forest rule n).peaks height) ∙ ap length hs in
+    let high : height w.0 ≡ slice_index (peak_heights rule n) j.0 = index_map (forest rule n).peaks j.0 w.0 j.1 ∙ ap (λ z. slice_index z j.0) hs in
+    omega (arith, w.2, length-reverse (forest rule n).peaks, long, high, bound j.0 (omega (arith, get_below (forest rule n).peaks j.0 w.0 j.1, long)))
+  where
+    back : (us : List Tree) (t : Tree) → Member (reverse us) t → Member us t
+    back [] t m = elim m [ ]
+    back (u ∷ us) t m = ⊎_elim (λ a. inr (back us t a)) (⊎_elim inl (λ z. elim z [ ])) (member_split (reverse us) (u ∷ []) t (subst (λ l. Member l t) (reverse-append (u ∷ []) us) m))
+
 pub at_most_122 : {D : Type 0} → AtMost122 D
 at_most_122 {D = D} s max_nodes law n few bound locations below = all_below
   where
     one : (i : ℕ) → i < n → length (one_leaf_nodes i (peaks_of s.rule n)) ≤ 122
-    one i x =
-        let balanced = all_reverse IsBalanced (forest s.rule n).peaks (peaks_balanced s.rule s.max_leaves law.equal n few) in
-        let w = leaf_nodes_count (forest s.rule n).nodes i 0 n (peaks_of s.rule n) (peaks_spans s.rule n) (peaks_built s.rule n) balanced (omega arith) x in
-        let j = reverse_member (forest s.rule n).peaks w.0 (back (forest s.rule n).peaks w.0 w.1) in
-        let hs = heights_forest s.rule n in
-        let long : length (forest s.rule n).peaks ≡ length (peak_heights s.rule n) = sym (length-map (forest s.rule n).peaks height) ∙ ap length hs in
-        let high : height w.0 ≡ slice_index (peak_heights s.rule n) j.0 = index_map (forest s.rule n).peaks j.0 w.0 j.1 ∙ ap (λ z. slice_index z j.0) hs in
-        omega (arith, w.2, length-reverse (forest s.rule n).peaks, long, high, bound j.0 (omega (arith, get_below (forest s.rule n).peaks j.0 w.0 j.1, long)))
-      where
-        back : (us : List Tree) (t : Tree) → Member (reverse us) t → Member us t
-        back [] t m = elim m [ ]
-        back (u ∷ us) t m = ⊎_elim (λ a. inr (back us t a)) (⊎_elim inl (λ z. elim z [ ])) (member_split (reverse us) (u ∷ []) t (subst (λ l. Member l t) (reverse-append (u ∷ []) us) m))
+    one = one_leaf_few s.rule s.max_leaves max_nodes law n few bound
 
     sums : (is : List ℕ) → AllByRecursion (λ i. i < n) is → length (flat_map (λ i. map position (one_leaf_nodes i (peaks_of s.rule n))) is) ≤ 122 * length is
     sums [] h = omega arith

@@ -21,3 +21,4 @@ pub mod InputForms
 pub mod PlainStrings
 pub mod LocatedNodes
 pub mod FewDigests
+pub mod OneLeaf
