@@ -4,6 +4,7 @@ ghost use Rattle.merkle_base.specs.Places.{peaks_of, placed};
 ghost use Rattle.merkle_base.specs.Forest.{size};
 ghost use Rattle.merkle_base.specs.Root.{list_root, peaks_root};
 ghost use Rattle.merkle_base.specs.Shows.{Shows};
+ghost use Rattle.merkle_forest_theory.specs.FewPeaks.{FewPeaks};
 ghost use Rattle.merkle_batch_theory.specs.Store.{contents, no_leaves, node};
 ghost use Rattle.merkle_base.specs.Hashing.{Hashing};
 ghost use Rattle.merkle_batch_theory.specs.Applying.{IsApplied};
@@ -233,6 +234,7 @@ impl<F: Family, D: Digest> Mem<F, D> {
             → IfOk result (λ p. location < length X × IsHonestRange s X inactive (list_input p X location (location + 1))) }
         ensures given { (h : Hashing D) → (X : List D) → Agrees h F.rule (contents self.now) X → self.now.boundary ≤ location → location < length X
             → inactive ≤ length (peaks_of F.rule (length X)) → IsOkUnless result Error.OutOfMemory }
+        ensures few { FewPeaks F.rule F.MAX_LEAVES → IfOk result (λ p. length p.digests.items ≤ 122) }
         ensures err { let bagging = H.bagging_of hasher.now in
             IfErr result (λ e. e ≢ Error.OutOfMemory → IsProofRefusal bagging F.rule F.MAX_LEAVES self.now.leaves location inactive (node self.now) e) }
     {

@@ -10,3 +10,4 @@ pub mod ReadRuns
 pub mod RisingLists
 pub mod ReadPositions
 pub mod RefusedProofs
+pub mod FewDigests

@@ -7,6 +7,7 @@ use Rattle.merkle_batch_theory.specs.Recorded.{records}
 use Rattle.merkle_batch_theory.specs.Stands.{last_list}
 use Rattle.merkle_batch.proofs.KeptReads.{only_memory}
 use Rattle.merkle_batch.proofs.BatchReads.{boundary_within, read_where_kept, leaves_of_last}
+use Rattle.merkle_proof.proofs.FewDigests.{built_few}
 use Rattle.merkle_proof.proofs.RefusedProofs.{is_memory, range_planned}
 use Rattle.merkle_root_theory.specs.Range.{IsHonestRange}
 use Rattle.merkle_proof.specs.RangePlans.{LeafRange, IsBuildRefusal, IsBuiltProof, list_input}
@@ -61,6 +62,16 @@ returns-in-Ok-clause-given g c = λ h ls stands agrees low less few.
     c.in-Ok.ensures.ok ∙ ap (λ e. record { leaves = c.leaves-leaves.result; start = c.args.location; end = e }) c.add.ensures ∙ ap (λ m. record { leaves = m; start = c.args.location; end = c.args.location + 1 }) leaves in
     IfErr-weaker c.build_proof.result _ _ (λ e refused. only_memory h g.F.Family.rule (g.B.Base.contents c.args.base.now).boundary (length (last_list ls)) (boundary_within h g.F.Family.rule (records c.args.self.now) (g.B.Base.contents c.args.base.now) ls stands agrees) (read_over (records c.args.self.now) (g.B.Base.contents c.args.base.now)) (read_where_kept h g.F.Family.rule (records c.args.self.now) (g.B.Base.contents c.args.base.now) ls stands agrees) (g.H.Hasher.bagging_of c.args.hasher.now) c.args.location (c.args.location + 1) c.args.inactive low few e
     (λ other. subst (λ r. IsBuildRefusal (g.H.Hasher.bagging_of c.args.hasher.now) g.F.Family.rule r c.args.inactive (λ p o. o ≡ (read_over (records c.args.self.now) (g.B.Base.contents c.args.base.now)) p) e) plan (refused other))) c.build_proof.ensures.err
+
+pub returns-in-Ok-clause-few : goal.returns-in-Ok-clause-few
+returns-in-Ok-clause-few g c = λ few.
+    let s = g.H.Hasher.scheme c.args.hasher.now in
+    let node = read_over (records c.args.self.now) (g.B.Base.contents c.args.base.now) in
+    let below : c.args.location < c.leaves-leaves.result = ge_no c.args.location c.leaves-leaves.result (sym c.ge.ensures ∙ c.if-ge.false) in
+    let plan : c.in-Ok.plan ≡ record { leaves = c.leaves-leaves.result; start = c.args.location; end = c.args.location + 1 } = c.in-Ok.ensures.ok ∙ ap (λ e. record { leaves = c.leaves-leaves.result; start = c.args.location; end = e }) c.add.ensures in
+    IfOk-weaker c.build_proof.result _ _
+    (λ p built. built_few s g.F.Family.rule g.F.Family.MAX_LEAVES g.F.Family.MAX_NODES (ap (λ z. z.rule) (g.met.H.Hasher.scheme_is c.args.hasher.now)) g.met.F.Family.lawful few node c.args.inactive c.leaves-leaves.result c.args.location p
+    c.leaves-leaves.ensures.bounded below (subst (λ (r : LeafRange). IsBuiltProof s node c.args.inactive r p) plan built)) c.build_proof.ensures.built
 
 pub returns-in-Ok-clause-err : goal.returns-in-Ok-clause-err
 returns-in-Ok-clause-err g c =

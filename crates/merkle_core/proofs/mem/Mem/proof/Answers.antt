@@ -6,6 +6,7 @@ use Rattle.merkle_base.proofs.Limits.{lawful_leaves}
 use Rattle.merkle_batch_theory.specs.Store.{node, contents}
 use Rattle.merkle_batch.proofs.KeptReads.{only_memory}
 use Rattle.merkle_core.proofs.HonestReads.{answered_kept}
+use Rattle.merkle_proof.proofs.FewDigests.{built_few}
 use Rattle.merkle_proof.proofs.RefusedProofs.{is_memory, range_planned}
 use Rattle.merkle_root_theory.specs.Range.{IsHonestRange}
 use Rattle.merkle_proof.specs.RangePlans.{LeafRange, IsBuildRefusal, IsBuiltProof, list_input}
@@ -60,6 +61,15 @@ returns-in-Ok-clause-given g c = λ h X agrees low less few.
     c.in-Ok.ensures.ok ∙ ap (λ e. record { leaves = c.leaves-leaves.result; start = c.args.location; end = e }) c.add.ensures ∙ ap (λ m. record { leaves = m; start = c.args.location; end = c.args.location + 1 }) leaves in
     IfErr-weaker c.build_proof.result _ _ (λ e refused. only_memory h g.F.Family.rule c.args.self.now.boundary (length X) agrees.bounded (node c.args.self.now) (answered_kept h g.F.Family.rule (contents c.args.self.now) X agrees) (g.H.Hasher.bagging_of c.args.hasher.now) c.args.location (c.args.location + 1) c.args.inactive low few e
     (λ other. subst (λ r. IsBuildRefusal (g.H.Hasher.bagging_of c.args.hasher.now) g.F.Family.rule r c.args.inactive (λ p o. o ≡ node c.args.self.now p) e) plan (refused other))) c.build_proof.ensures.err
+
+pub returns-in-Ok-clause-few : goal.returns-in-Ok-clause-few
+returns-in-Ok-clause-few g c = λ few.
+    let s = g.H.Hasher.scheme c.args.hasher.now in
+    let below : c.args.location < c.leaves-leaves.result = ge_no c.args.location c.leaves-leaves.result (sym c.ge.ensures ∙ c.if-ge.false) in
+    let plan : c.in-Ok.plan ≡ record { leaves = c.leaves-leaves.result; start = c.args.location; end = c.args.location + 1 } = c.in-Ok.ensures.ok ∙ ap (λ e. record { leaves = c.leaves-leaves.result; start = c.args.location; end = e }) c.add.ensures in
+    IfOk-weaker c.build_proof.result _ _
+    (λ p built. built_few s g.F.Family.rule g.F.Family.MAX_LEAVES g.F.Family.MAX_NODES (ap (λ z. z.rule) (g.met.H.Hasher.scheme_is c.args.hasher.now)) g.met.F.Family.lawful few (node c.args.self.now) c.args.inactive c.leaves-leaves.result c.args.location p
+    c.leaves-leaves.ensures.bounded below (subst (λ (r : LeafRange). IsBuiltProof s (node c.args.self.now) c.args.inactive r p) plan built)) c.build_proof.ensures.built
 
 pub returns-in-Ok-clause-err : goal.returns-in-Ok-clause-err
 returns-in-Ok-clause-err g c =
