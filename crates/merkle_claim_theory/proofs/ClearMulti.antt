@@ -66,9 +66,9 @@ honest_multi_is_clear {D = D} s laws xs k r w =
     let back : length xs ≡ r.leaves = sym w.leaves in
     let pos : 0 < r.leaves = omega (arith, some_leaves_of, back) in
     let p = plan_for s r.leaves r.inactive pos in
-    let trees : AllByRecursion (HonestTree s.hashing (digest_for (multi_positions s r.leaves (locations_in r)) r.digests) (λ i. list_any (nat_eq i) (locations_in r)) (leaf_of s.hashing xs)) (peaks_of s.rule r.leaves) =
-    subst (λ m. AllByRecursion (HonestTree s.hashing (digest_for (multi_positions s m (locations_in r)) r.digests) (λ i. list_any (nat_eq i) (locations_in r)) (leaf_of s.hashing xs)) (peaks_of s.rule m)) back
-    (subst (λ ds. AllByRecursion (HonestTree s.hashing (digest_for (multi_positions s (length xs) (locations_in r)) ds) (λ i. list_any (nat_eq i) (locations_in r)) (leaf_of s.hashing xs)) (peaks_of s.rule (length xs))) (sym w.digests)
+    let trees : AllByRecursion (HonestTree s.hashing (digest_for (multi_positions s.rule r.leaves (locations_in r)) r.digests) (λ i. list_any (nat_eq i) (locations_in r)) (leaf_of s.hashing xs)) (peaks_of s.rule r.leaves) =
+    subst (λ m. AllByRecursion (HonestTree s.hashing (digest_for (multi_positions s.rule m (locations_in r)) r.digests) (λ i. list_any (nat_eq i) (locations_in r)) (leaf_of s.hashing xs)) (peaks_of s.rule m)) back
+    (subst (λ ds. AllByRecursion (HonestTree s.hashing (digest_for (multi_positions s.rule (length xs) (locations_in r)) ds) (λ i. list_any (nat_eq i) (locations_in r)) (leaf_of s.hashing xs)) (peaks_of s.rule (length xs))) (sym w.digests)
     (needs_peaks s xs (locations_in r) one.0 one.1)) in
     let agrees : (i : ℕ) → list_any (nat_eq i) (locations_in r) ≡ true → unwrap_or (digest_for (locations_in r) (leaves_in r) i) s.hashing.empty ≡ leaf_of s.hashing xs i =
     λ i q. ap (λ ds. unwrap_or (digest_for (locations_in r) ds i) s.hashing.empty) w.elements ∙ ap (λ o. unwrap_or o s.hashing.empty) (listed_some (locations_in r) (leaf_of s.hashing xs) i (chosen_in s xs (locations_in r) i q)) in

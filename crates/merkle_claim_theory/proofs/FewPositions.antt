@@ -95,7 +95,7 @@ at_most_122 {D = D} s max_nodes law n few bound locations below = all_below
     sums [] h = omega arith
     sums (i ∷ is) h = omega (arith, length-append (map position (one_leaf_nodes i (peaks_of s.rule n))) (flat_map (λ i. map position (one_leaf_nodes i (peaks_of s.rule n))) is), length-map (one_leaf_nodes i (peaks_of s.rule n)) position, one i h.0, sums is h.1)
 
-    inside : (p : ℕ) → Member (multi_positions s n locations) p → Member (flat_map (λ i. map position (one_leaf_nodes i (peaks_of s.rule n))) locations) p
+    inside : (p : ℕ) → Member (multi_positions s.rule n locations) p → Member (flat_map (λ i. map position (one_leaf_nodes i (peaks_of s.rule n))) locations) p
     inside p m =
         let u = filtered_member (λ p. list_any (is_one_leaf_position (peaks_of s.rule n) p) locations) (range_with_len 0 (size s.rule n)) p m in
         let v = member_any (is_one_leaf_position (peaks_of s.rule n) p) locations u.1 in
@@ -103,5 +103,5 @@ at_most_122 {D = D} s max_nodes law n few bound locations below = all_below
         member_flat (λ i. map position (one_leaf_nodes i (peaks_of s.rule n))) locations v.0 p v.1
         (subst (Member (map position (one_leaf_nodes v.0 (peaks_of s.rule n)))) (eqb-true (position x.0) p x.2) (member_map position (one_leaf_nodes v.0 (peaks_of s.rule n)) x.0 x.1))
 
-    all_below : length (multi_positions s n locations) ≤ 122 * length locations
-    all_below = omega (arith, no_longer (multi_positions s n locations) _ (distinct_filter _ (range_with_len 0 (size s.rule n)) (distinct_range 0 (size s.rule n))) inside, sums locations below)
+    all_below : length (multi_positions s.rule n locations) ≤ 122 * length locations
+    all_below = omega (arith, no_longer (multi_positions s.rule n locations) _ (distinct_filter _ (range_with_len 0 (size s.rule n)) (distinct_range 0 (size s.rule n))) inside, sums locations below)

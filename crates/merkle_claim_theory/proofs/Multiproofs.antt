@@ -114,7 +114,7 @@ module _ {D : Type 0} (s : Scheme D) (xs : List D) (locations : List ℕ) where
   X = leaf_of s.hashing xs
 
   abbrev ps : List ℕ
-  ps = multi_positions s (length xs) locations
+  ps = multi_positions s.rule (length xs) locations
 
   abbrev f : ℕ → D
   f = digest_at_position s xs
@@ -229,11 +229,11 @@ module _ {D : Type 0} (s : Scheme D) (size max_nodes : ℕ) (sound : Sound s siz
       let b2 = small_inactive s max_nodes (length xs) k sound.lawful few low in
       let holds : Holds s.hashing (multi_on s r p.0) = subst (λ o. AllHolds s (option_map (multi_on s r) o)) p.1 ok.redundant in
       ⊎_elim (λ w. ⊎_elim (λ v. inl (honest w.0 w.1 p.0 p.1 v.0 v.1 ok)) (λ v. inr (below_root s size sound.bytes (leaf_of s.hashing xs) (multi_on s r) r.leaves (length xs) r.inactive k a1 a2 b1 b2 p.0 p.1 w.0 w.1 v))
-      (no_other_multi s.hashing sound.laws (digest_for (multi_positions s r.leaves (locations_in r)) r.digests) (λ i. list_any (nat_eq i) (locations_in r)) (leaf_of s.hashing xs) Y p.0 holds w.2)) inr
+      (no_other_multi s.hashing sound.laws (digest_for (multi_positions s.rule r.leaves (locations_in r)) r.digests) (λ i. list_any (nat_eq i) (locations_in r)) (leaf_of s.hashing xs) Y p.0 holds w.2)) inr
       (roots s size sound.bytes (leaf_of s.hashing xs) (multi_on s r) r.leaves (length xs) r.inactive k a1 a2 b1 b2 pos p.0 p.1 ok.root_is)
     where
       honest : r.leaves ≡ length xs → r.inactive ≡ k → (p : Plan) → whole s.bagging r.inactive (peaks_of s.rule r.leaves) ≡ Some p
-          → Tells s.hashing (digest_for (multi_positions s r.leaves (locations_in r)) r.digests) (λ i. list_any (nat_eq i) (locations_in r)) (leaf_of s.hashing xs) p
+          → Tells s.hashing (digest_for (multi_positions s.rule r.leaves (locations_in r)) r.digests) (λ i. list_any (nat_eq i) (locations_in r)) (leaf_of s.hashing xs) p
           → SameLeaves (λ i. list_any (nat_eq i) (locations_in r)) (leaf_of s.hashing xs) Y p → AcceptsMultiSome s r (plan_root s xs k) → IsHonestMultiSome s xs k r
       honest e f p q tells same ok =
           let peaks = each_of _ s.bagging r.inactive (peaks_of s.rule r.leaves) p q (tells_each s.hashing _ _ _ p tells) in
@@ -244,10 +244,10 @@ module _ {D : Type 0} (s : Scheme D) (size max_nodes : ℕ) (sound : Sound s siz
             below = subst (λ m. AllByRecursion (λ i. i < m) (locations_in r)) e ok.below;
             leaves = e;
             inactive = f;
-            digests = listed (multi_positions s (length xs) (locations_in r)) r.digests (digest_at_position s xs) (distinct_positions s xs (locations_in r))
-                (subst (λ m. length r.digests ≡ length (multi_positions s m (locations_in r))) e ok.counts)
-                (told_listed s xs (locations_in r) (digest_for (multi_positions s (length xs) (locations_in r)) r.digests)
-                (subst (λ m. AllByRecursion (TellsTree s.hashing (digest_for (multi_positions s m (locations_in r)) r.digests) (λ i. list_any (nat_eq i) (locations_in r)) (leaf_of s.hashing xs)) (peaks_of s.rule m)) e peaks));
+            digests = listed (multi_positions s.rule (length xs) (locations_in r)) r.digests (digest_at_position s xs) (distinct_positions s xs (locations_in r))
+                (subst (λ m. length r.digests ≡ length (multi_positions s.rule m (locations_in r))) e ok.counts)
+                (told_listed s xs (locations_in r) (digest_for (multi_positions s.rule (length xs) (locations_in r)) r.digests)
+                (subst (λ m. AllByRecursion (TellsTree s.hashing (digest_for (multi_positions s.rule m (locations_in r)) r.digests) (λ i. list_any (nat_eq i) (locations_in r)) (leaf_of s.hashing xs)) (peaks_of s.rule m)) e peaks));
             elements = listed (locations_in r) (leaves_in r) (leaf_of s.hashing xs) (ascends_distinct 0 (locations_in r) ok.ascend) same_length
                 (λ i m. (let v = covers s r.leaves i (all_member (λ i. i < r.leaves) (locations_in r) i ok.below m) in
                 told_some s.hashing.empty (digest_for (locations_in r) (leaves_in r) i) (leaf_of s.hashing xs i)
@@ -261,13 +261,13 @@ module _ {D : Type 0} (s : Scheme D) (size max_nodes : ℕ) (sound : Sound s siz
       let pos : 0 < r.leaves = omega (arith, some_leaves (length xs) r.elements w.some w.below, back) in
       let p = plan_for s r.leaves r.inactive pos in
       let one = first_location r.elements w.some in
-      let trees : AllByRecursion (HonestTree s.hashing (digest_for (multi_positions s r.leaves (locations_in r)) r.digests) (λ i. list_any (nat_eq i) (locations_in r)) (leaf_of s.hashing xs)) (peaks_of s.rule r.leaves) =
-      subst (λ m. AllByRecursion (HonestTree s.hashing (digest_for (multi_positions s m (locations_in r)) r.digests) (λ i. list_any (nat_eq i) (locations_in r)) (leaf_of s.hashing xs)) (peaks_of s.rule m)) back
-      (subst (λ ds. AllByRecursion (HonestTree s.hashing (digest_for (multi_positions s (length xs) (locations_in r)) ds) (λ i. list_any (nat_eq i) (locations_in r)) (leaf_of s.hashing xs)) (peaks_of s.rule (length xs))) (sym w.digests)
+      let trees : AllByRecursion (HonestTree s.hashing (digest_for (multi_positions s.rule r.leaves (locations_in r)) r.digests) (λ i. list_any (nat_eq i) (locations_in r)) (leaf_of s.hashing xs)) (peaks_of s.rule r.leaves) =
+      subst (λ m. AllByRecursion (HonestTree s.hashing (digest_for (multi_positions s.rule m (locations_in r)) r.digests) (λ i. list_any (nat_eq i) (locations_in r)) (leaf_of s.hashing xs)) (peaks_of s.rule m)) back
+      (subst (λ ds. AllByRecursion (HonestTree s.hashing (digest_for (multi_positions s.rule (length xs) (locations_in r)) ds) (λ i. list_any (nat_eq i) (locations_in r)) (leaf_of s.hashing xs)) (peaks_of s.rule (length xs))) (sym w.digests)
       (needs_peaks s xs (locations_in r) one.0 one.1)) in
       let agrees : (i : ℕ) → list_any (nat_eq i) (locations_in r) ≡ true → Y i ≡ leaf_of s.hashing xs i =
       λ i q. ap (λ ds. unwrap_or (digest_for (locations_in r) ds i) s.hashing.empty) w.elements ∙ ap (λ o. unwrap_or o s.hashing.empty) (listed_some (locations_in r) (leaf_of s.hashing xs) i (chosen_in s xs (locations_in r) i q)) in
-      let v = honest_multi_accepted s.hashing (digest_for (multi_positions s r.leaves (locations_in r)) r.digests) (λ i. list_any (nat_eq i) (locations_in r)) (leaf_of s.hashing xs) Y p.0 agrees
+      let v = honest_multi_accepted s.hashing (digest_for (multi_positions s.rule r.leaves (locations_in r)) r.digests) (λ i. list_any (nat_eq i) (locations_in r)) (leaf_of s.hashing xs) Y p.0 agrees
       (each_honest s.hashing _ _ _ p.0 (of_each _ s.bagging r.inactive (peaks_of s.rule r.leaves) p.0 p.1 trees)) in
       record {
         some = w.some;
@@ -275,7 +275,7 @@ module _ {D : Type 0} (s : Scheme D) (size max_nodes : ℕ) (sound : Sound s siz
         below = subst (λ m. AllByRecursion (λ i. i < m) (locations_in r)) back w.below;
         leaves = omega (arith, few, back);
         inactive = subst (λ z. z ≤ length (peaks_of s.rule r.leaves)) (sym w.inactive) (subst (λ z. k ≤ length (peaks_of s.rule z)) back low);
-        counts = ap length w.digests ∙ length-map (multi_positions s (length xs) (locations_in r)) (digest_at_position s xs) ∙ ap (λ m. length (multi_positions s m (locations_in r))) back;
+        counts = ap length w.digests ∙ length-map (multi_positions s.rule (length xs) (locations_in r)) (digest_at_position s xs) ∙ ap (λ m. length (multi_positions s.rule m (locations_in r))) back;
         redundant = subst (λ o. AllHolds s (option_map (multi_on s r) o)) (sym p.1) v.0;
         root_is = roots_same s (leaf_of s.hashing xs) (multi_on s r) r.leaves r.inactive p.0 p.1 v.1
             ∙ ap₂ (λ n j. root_of s n j (list_expression s (leaf_of s.hashing xs) n j)) w.leaves w.inactive;

@@ -7,4 +7,4 @@ use Rattle.merkle_claim_theory.specs.Multiproof.{multi_positions}
 -- up to so many leaves, at most 122 positions for each location
 abbrev pub FewPositions : Type 0 → (List ℕ → List ℕ) → ℕ → Type 0
 FewPositions D rule max_leaves = (s : Scheme D) → s.rule ≡ rule → s.max_leaves ≡ max_leaves → (n : ℕ) → n ≤ max_leaves
-    → (locations : List ℕ) → AllByRecursion (λ i. i < n) locations → length (multi_positions s n locations) ≤ 122 * length locations
+    → (locations : List ℕ) → AllByRecursion (λ i. i < n) locations → length (multi_positions s.rule n locations) ≤ 122 * length locations

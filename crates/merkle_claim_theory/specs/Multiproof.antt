@@ -24,8 +24,8 @@ abbrev pub is_one_leaf_position : List Tree → ℕ → ℕ → Bool
 is_one_leaf_position ts p i = list_any (λ t. nat_eq (position t) p) (one_leaf_nodes i ts)
 
 -- their positions for some locations, ascending, each once
-abbrev pub multi_positions : {D : Type 0} → Scheme D → ℕ → List ℕ → List ℕ
-multi_positions s n locations = filter (λ p. list_any (is_one_leaf_position (peaks_of s.rule n) p) locations) (range_with_len 0 (size s.rule n))
+abbrev pub multi_positions : (List ℕ → List ℕ) → ℕ → List ℕ → List ℕ
+multi_positions rule n locations = filter (λ p. list_any (is_one_leaf_position (peaks_of rule n) p) locations) (range_with_len 0 (size rule n))
 
 -- a proof with leaf digests at locations
 pub record MultiInput (D : Type 0) : Type 0 where
@@ -44,7 +44,7 @@ leaves_in r = map (λ e. e.1) r.elements
 
 -- what the check computes of a plan
 abbrev pub multi_on : {D : Type 0} → Scheme D → MultiInput D → Plan → Expression D
-multi_on s r p = multi_claim s.hashing (digest_for (multi_positions s r.leaves (locations_in r)) r.digests) (λ i. list_any (nat_eq i) (locations_in r))
+multi_on s r p = multi_claim s.hashing (digest_for (multi_positions s.rule r.leaves (locations_in r)) r.digests) (λ i. list_any (nat_eq i) (locations_in r))
     (λ i. unwrap_or (digest_for (locations_in r) (leaves_in r) i) s.hashing.empty) p
 
 -- what the check computes, if there are peaks
@@ -63,7 +63,7 @@ pub record AcceptsMultiSome {D : Type 0} (s : Scheme D) (r : MultiInput D) (root
   pub below : AllByRecursion (λ i. i < r.leaves) (locations_in r)
   pub leaves : r.leaves ≤ s.max_leaves
   pub inactive : r.inactive ≤ length (peaks_of s.rule r.leaves)
-  pub counts : length r.digests ≡ length (multi_positions s r.leaves (locations_in r))
+  pub counts : length r.digests ≡ length (multi_positions s.rule r.leaves (locations_in r))
   pub redundant : AllHolds s (multi_expression s r)
   pub root_is : root_of s r.leaves r.inactive (multi_expression s r) ≡ root
 
@@ -85,7 +85,7 @@ pub record IsHonestMultiSome {D : Type 0} (s : Scheme D) (xs : List D) (k : ℕ)
   pub below : AllByRecursion (λ i. i < length xs) (locations_in r)
   pub leaves : r.leaves ≡ length xs
   pub inactive : r.inactive ≡ k
-  pub digests : r.digests ≡ map (digest_at_position s xs) (multi_positions s (length xs) (locations_in r))
+  pub digests : r.digests ≡ map (digest_at_position s xs) (multi_positions s.rule (length xs) (locations_in r))
   pub elements : leaves_in r ≡ map (leaf_of s.hashing xs) (locations_in r)
 
 -- an honest input: with elements, or the empty one of the empty list
@@ -110,4 +110,4 @@ AcceptedMultiIsHonest D = (s : Scheme D) (size max_nodes : ℕ) → Sound s size
 abbrev pub AtMost122 : Type 0 → Type 0
 AtMost122 D = (s : Scheme D) (max_nodes : ℕ) → IsLawful s.rule s.max_leaves max_nodes → (n : ℕ) → n ≤ s.max_leaves
     → ((i : ℕ) → i < length (peak_heights s.rule n) → slice_index (peak_heights s.rule n) i + length (peak_heights s.rule n) ≤ 123)
-    → (locations : List ℕ) → AllByRecursion (λ i. i < n) locations → length (multi_positions s n locations) ≤ 122 * length locations
+    → (locations : List ℕ) → AllByRecursion (λ i. i < n) locations → length (multi_positions s.rule n locations) ≤ 122 * length locations

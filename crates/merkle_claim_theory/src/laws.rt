@@ -293,7 +293,7 @@ pub fn worked_rows()
     ensures empty_digest { reconstructed small (no_elements 0 0 0 (1 ∷ [])) ≡ Err ExtraDigests }
 
     // Where none are merged a leaf's digests are those of all others.
-    ensures positions { multi_positions small 3 (1 ∷ []) ≡ 0 ∷ 2 ∷ [] }
+    ensures positions { multi_positions small.rule 3 (1 ∷ []) ≡ 0 ∷ 2 ∷ [] }
     ensures too_many_positions { FewPositions ℕ unmerged 124 → ⊥ }
 {}
 

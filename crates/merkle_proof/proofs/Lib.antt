@@ -11,3 +11,6 @@ pub mod RisingLists
 pub mod ReadPositions
 pub mod RefusedProofs
 pub mod FewDigests
+pub mod PeakWalk
+pub mod MultiRefusals
+pub mod ListedPositions

@@ -5,3 +5,4 @@ pub mod Input
 pub mod Positions
 pub mod ProofRefusals
 pub mod RangePlans
+pub mod MultiPositions

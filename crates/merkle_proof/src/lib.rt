@@ -7,6 +7,8 @@ pub mod element_plan;
 mod extraction;
 mod groups;
 mod layout;
+pub mod multi;
+mod peaks;
 mod positions;
 pub mod proof;
 pub mod range_plan;

@@ -13,6 +13,7 @@ ghost use Rattle.merkle_proof.specs.Input.{input_of};
 use crate::checks::{ProofParts, reconstruct_root, verify_range};
 pub use crate::element_plan::ElementPlan;
 use crate::extraction::verify_and_extract;
+pub use crate::multi::multi_proof_positions;
 pub use crate::range_plan::RangePlan;
 use merkle_base::error::{Error, OutOfMemory, ReconstructionError};
 use merkle_base::family::Family;
