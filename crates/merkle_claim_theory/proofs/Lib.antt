@@ -22,3 +22,4 @@ pub mod PlainStrings
 pub mod LocatedNodes
 pub mod FewDigests
 pub mod OneLeaf
+pub mod RebuiltPins

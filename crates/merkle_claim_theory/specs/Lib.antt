@@ -10,6 +10,7 @@ pub mod Complete
 pub mod Table
 pub mod Multiproof
 pub mod Pinned
+pub mod Rebuilt
 pub mod Store
 pub mod Verdict
 pub mod Siblings

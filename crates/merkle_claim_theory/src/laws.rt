@@ -26,6 +26,7 @@ ghost use Rattle.merkle_claim_theory.specs.Multiproof.{multi_positions, HonestMu
 ghost use Rattle.merkle_claim_theory.specs.Order.{PlacesInOrder, PlacesOnce};
 ghost use Rattle.merkle_root_theory.specs.Layouts.{count_before, count_after, count_inactive, laid_out};
 ghost use Rattle.merkle_root_theory.specs.Outside.{OutsideIsLayout, layout};
+ghost use Rattle.merkle_claim_theory.specs.Rebuilt.{PinnedIsRebuilt, PinsGiveOldRoot};
 ghost use Rattle.merkle_claim_theory.specs.Pinned.{HonestPinnedIsAccepted, AcceptedPinnedIsHonest, PinsAreOldPeaks};
 ghost use Rattle.merkle_claim_theory.specs.PinnedClaim.{NoOtherPins};
 ghost use Rattle.merkle_claim_theory.specs.PlainHash.{IsPlain, joined_at, string_at, IsHashCollision, SameForm, StandardIsPlain, RootCollision, PlainCollision};
@@ -331,6 +332,12 @@ pub fn pinned_checks<D>()
 
     // The honest pins are the peak digests of the leaves before the range.
     ensures peaks { PinsAreOldPeaks D }
+
+    // The check is the range check and a comparison of what lies before the range with what is rebuilt from the pins.
+    ensures parts { PinnedIsRebuilt D }
+
+    // The root over honest pins, for any inactive count, is that of the leaves before the range.
+    ensures old_roots { PinsGiveOldRoot D }
 {}
 
 /// What holds of proofs that are read off a proof of more.
