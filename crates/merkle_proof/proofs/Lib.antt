@@ -14,3 +14,8 @@ pub mod FewDigests
 pub mod PeakWalk
 pub mod MultiRefusals
 pub mod ListedPositions
+pub mod ToldTable
+pub mod ScatteredElements
+pub mod ScatteredWalk
+pub mod ScatteredPeaks
+pub mod ScatteredRoot

@@ -102,3 +102,16 @@ module _ (F : Type 0) (m n : ℕ) where
   loop_ends first others k before same l =
       let w = later_none first others (same ∙ ap (λ ls. first_case (later_refusals {F = F} m n before ls)) (drop_of_length-le others {i = k} l)) in
       (subst (λ (a : ℕ). AscendsFrom a others) (sym (add-one first)) w.0, w.1)
+
+  -- some leaves that ascend are not refused
+  none_later : (before : ℕ) (is : List ℕ) → n ≤ m → AscendsFrom (suc before) is → AllByRecursion (λ i. i < n) is → first_case (later_refusals {F = F} m n before is) ≡ None
+  none_later before [] l u b = refl
+  none_later before (i ∷ is) l u b = later_passed before i is (omega (arith, u.0)) (omega (arith, b.0, l)) b.0 ∙ none_later i is l u.1 b.1
+
+  pub none_refused : (locations : List ℕ) → AreLocations m n locations → first_case (multi_refusals {F = F} m n locations) ≡ None
+  none_refused [] w = absurd (omega (arith, w.some))
+  none_refused (i ∷ is) w =
+      after_leaves i is (i ∷ is) refl (omega (arith, w.below.0, w.leaves)) w.below.0 w.leaves ∙ none_later i is w.leaves w.ascend.1 w.below.1
+
+  pub refused_are_none : (locations : List ℕ) (e : Error F) → first_case (multi_refusals m n locations) ≡ Some e → AreLocations m n locations → ⊥
+  refused_are_none locations e is_refused w = let f : ◌≡◌ {A = Option (Error F)} None (Some e) = sym (none_refused locations w) ∙ is_refused in cc

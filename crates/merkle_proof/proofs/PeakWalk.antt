@@ -1,5 +1,6 @@
 -- A walk over the peaks, oldest first, of which something holds.
-use Rattle.std.proofs.Common.{◌≡◌, ℕ, ◌+◌, ◌≤◌, List, [], ◌∷◌, ◌++◌, map, Some, slice_get, arith, refl, ap, sym, ◌∙◌, subst, append-nil, append_assoc}
+use Rattle.std.proofs.Common.{◌≡◌, ℕ, ◌+◌, ◌≤◌, List, [], ◌∷◌, ◌++◌, map, Some, slice_get, refl, ap, sym, ◌∙◌, subst, append-nil, append_assoc}
+use Rattle.std.specs.List.{AllByRecursion}
 use Rattle.std.proofs.lemmas.List.{map-append}
 use Rattle.merkle_base.specs.Tree.{Tree, position, height, first_leaf, width}
 use Rattle.merkle_base.specs.Forest.{forest}
@@ -33,13 +34,19 @@ pass_begins rule m n left s P l e z h = record {
   holds = h;
 }
 
--- the next peak
+all_at : (R : Tree → Type 0) (xs : List Tree) (t : Tree) (ts : List Tree) → AllByRecursion R (xs ++ t ∷ ts) → R t
+all_at R [] t ts r = r.0
+all_at R (x ∷ xs) t ts r = all_at R xs t ts r.1
+
+-- the next peak, of which holds what holds of all
 pub pass_next : (rule : List ℕ → List ℕ) (m n : ℕ) (left : List (ℕ × ℕ)) (s : ℕ) (P : List Tree → Type 0) → Passed rule m n left s P → (p h : ℕ) (more : List (ℕ × ℕ)) → left ≡ (p, h) ∷ more
     → (t : Tree) × Stands rule m p h s t × (p ≡ position t) × ((Q : List Tree → Type 0) → ((done : List Tree) → P done → Q (done ++ t ∷ [])) → (s' : ℕ) → s' ≡ first_leaf t + width t → Passed rule m n more s' Q)
+    × ((R : Tree → Type 0) → AllByRecursion R (peaks_of rule n) → R t)
 pass_next rule m n left s P w p h more e = step w.rest w.all (sym e ∙ w.left_is) w.spans w.at
   where
     step : (rest : List Tree) → peaks_of rule n ≡ w.done ++ rest → (p, h) ∷ more ≡ map placed rest → Spans s n rest → AreNodes rule m rest
         → (t : Tree) × Stands rule m p h s t × (p ≡ position t) × ((Q : List Tree → Type 0) → ((done : List Tree) → P done → Q (done ++ t ∷ [])) → (s' : ℕ) → s' ≡ first_leaf t + width t → Passed rule m n more s' Q)
+        × ((R : Tree → Type 0) → AllByRecursion R (peaks_of rule n) → R t)
     step [] all l spans at = absurd (cc)
     step (t ∷ ts) all l spans at =
         let x : p ≡ position t = ap (λ q. q.0) (cons_head (p, h) (placed t) more (map placed ts) l) in
@@ -57,6 +64,7 @@ pass_next rule m n left s P w p h more e = step w.rest w.all (sym e ∙ w.left_i
             at = at.1;
             holds = f w.done w.holds;
           },
+          λ R r. all_at R w.done t ts (subst (AllByRecursion R) all r),
         )
 
 pub pass_ends : (rule : List ℕ → List ℕ) (m n : ℕ) (left : List (ℕ × ℕ)) (s : ℕ) (P : List Tree → Type 0) → Passed rule m n left s P → left ≡ [] → P (peaks_of rule n)

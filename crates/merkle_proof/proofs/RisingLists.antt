@@ -18,7 +18,7 @@ use Rattle.merkle_base.proofs.Cases.{by_test}
 abbrev pub Rises : List ℕ → Type 0
 Rises xs = AllPairs (λ x y. x < y) xs
 
-rises_tail : (x : ℕ) (xs : List ℕ) → Rises (x ∷ xs) → Rises xs
+pub rises_tail : (x : ℕ) (xs : List ℕ) → Rises (x ∷ xs) → Rises xs
 rises_tail x xs h i j d l within = h (suc i) (suc j) d (omega (arith, l)) (omega (arith, within))
 
 head_below : (x : ℕ) (xs : List ℕ) (p : ℕ) → Rises (x ∷ xs) → Contains xs p → x < p

@@ -1,10 +1,12 @@
 -- What the checks of a proof are given.
-use Rattle.std.specs.Prelude.{◌≡◌, ℕ, suc, List, [], ◌∷◌}
+use Rattle.std.specs.Prelude.{◌≡◌, ℕ, suc, List, [], ◌∷◌, map, drop}
+use Rattle.std.specs.Borrow.{Bor}
 use Rattle.merkle_base.specs.Forest.{size}
 use Rattle.merkle_base.specs.Hashing.{Hashing}
 use Rattle.merkle_root_theory.specs.Check.{RangeInput, root_of, range_expression}
 use Rattle.merkle_base.specs.Scheme.{Scheme}
 use Rattle.merkle_root_theory.specs.Reconstruction.{HasShape}
+use Rattle.merkle_claim_theory.specs.Multiproof.{MultiInput}
 use Rattle.merkle_proof.specs.declared.proof.Proof.{Proof}
 
 -- the leaf digests of elements from location a on
@@ -23,3 +25,19 @@ input_of s p a es = range_input s p.leaves p.inactive_peaks p.digests.items a es
 -- the root that an input with elements leads to
 abbrev pub IsComputed : {D : Type 0} → Scheme D → RangeInput D → D → Type 0
 IsComputed s r d = HasShape s r × (d ≡ root_of s r.leaves r.inactive (range_expression s r))
+
+-- the location and the leaf digest of each element
+abbrev pub element_leaves : {D : Type 0} → Hashing D → (List ℕ → List ℕ) → List (Bor (List ℕ) × ℕ) → List (ℕ × D)
+element_leaves h rule es = map (λ e. (e.1, h.leaf (size rule e.1) e.0.now)) es
+
+-- those of the elements from the n-th on
+abbrev pub leaves_left : {D : Type 0} → Hashing D → (List ℕ → List ℕ) → List (Bor (List ℕ) × ℕ) → ℕ → List (ℕ × D)
+leaves_left h rule es n = element_leaves h rule (drop n es)
+
+-- the parts of a proof with elements at locations
+abbrev pub multi_input : {D : Type 0} → Scheme D → (leaves inactive : ℕ) → List D → List (Bor (List ℕ) × ℕ) → MultiInput D
+multi_input s leaves inactive digests es = record { leaves = leaves; inactive = inactive; digests = digests; elements = element_leaves s.hashing s.rule es }
+
+-- a proof with elements at locations
+abbrev pub multi_input_of : {F D Peaks Heights : Type 0} → Scheme D → Proof F D Peaks Heights → List (Bor (List ℕ) × ℕ) → MultiInput D
+multi_input_of s p es = multi_input s p.leaves p.inactive_peaks p.digests.items es

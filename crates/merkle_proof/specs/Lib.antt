@@ -6,3 +6,4 @@ pub mod Positions
 pub mod ProofRefusals
 pub mod RangePlans
 pub mod MultiPositions
+pub mod Confirmed

@@ -2,18 +2,20 @@
 ghost use Rattle.std.specs.Prelude.{◌≡◌, ◌≢◌, ◌≤◌, [], ◌∷◌, ◌↔◌, ◌⊎◌, ℕ, Ok, Err, IsTrue, IfOk, IfErr, length};
 ghost use Rattle.std.specs.List.{AllByRecursion};
 ghost use Rattle.merkle_base.specs.Places.{inactive_peaks};
+ghost use Rattle.merkle_claim_theory.specs.Multiproof.{AcceptsMulti, IsHonestMulti, MultiCollides};
 ghost use Rattle.merkle_root_theory.specs.Extract.{extracted, IsNodePair};
 ghost use Rattle.merkle_root_theory.specs.Range.{ForRootOf, IsHonestRange, RangeCollides};
 ghost use Rattle.merkle_root_theory.specs.Reconstruction.{reconstructed};
 ghost use Rattle.merkle_root_theory.specs.RootNames.{NamesRoot};
 ghost use Rattle.merkle_root_theory.specs.Walk.{bytes_of};
 ghost use Rattle.merkle_proof.specs.Extracting.{IsExtractionRefusal};
-ghost use Rattle.merkle_proof.specs.Input.{input_of};
+ghost use Rattle.merkle_proof.specs.Input.{input_of, multi_input_of};
 
 use crate::checks::{ProofParts, reconstruct_root, verify_range};
 pub use crate::element_plan::ElementPlan;
 use crate::extraction::verify_and_extract;
 pub use crate::multi::multi_proof_positions;
+use crate::multi_checks::verify_multi;
 pub use crate::range_plan::RangePlan;
 use merkle_base::error::{Error, OutOfMemory, ReconstructionError};
 use merkle_base::family::Family;
@@ -223,5 +225,38 @@ impl<F: Family, D: Digest> Proof<F, D> {
             IfOk result (λ yes. IsTrue yes → ForRootOf s root.now (λ xs k. IsHonestRange s xs k r ⊎ RangeCollides s r xs k)) }
     {
         self.verify_range_inclusion(hasher, &[element], location, root)
+    }
+
+    /// Whether the elements, each at its location, are leaves of the list behind the root.
+    ///
+    /// It is answered from the proof alone. `true` means that the proof is the honest one of these leaves, or else that
+    /// the computation and the list hash different inputs to one digest at the same place. An honest proof is never
+    /// answered `false`. With `true` the root is the hash of a string that begins with the family's byte, the hasher's
+    /// bagging and the proof's leaf count.
+    ///
+    /// The proof has the digests at [`multi_proof_positions`], in that order. It is answered `false` where the elements
+    /// don't strictly ascend by location, or one is at or past the leaf count. Where the proof tells a digest of a node
+    /// that is computed too, the two must be equal, wherever that node stands. With no elements `true` is answered for the
+    /// empty proof, against the root of no leaves, and for nothing else.
+    ///
+    /// Refused only where there is no memory.
+    pub fn verify_multi_inclusion<H: Hasher<F, Digest = D>>(
+        &self,
+        hasher: &H,
+        elements: &[(&[u8], Location<F>)],
+        root: &D,
+    ) -> Result<bool, OutOfMemory>
+        ensures exact { let s = H.scheme hasher.now in
+            IfOk result (λ yes. IsTrue yes ↔ AcceptsMulti s (multi_input_of s self.now elements.now) root.now) }
+        ensures names { let s = H.scheme hasher.now in
+            IfOk result (λ yes. IsTrue yes → NamesRoot s self.now.leaves root.now) }
+        ensures honest { let s = H.scheme hasher.now in
+            let r = multi_input_of s self.now elements.now in
+            IfOk result (λ yes. ForRootOf s root.now (λ xs k. IsHonestMulti s xs k r → IsTrue yes)) }
+        ensures sound { let s = H.scheme hasher.now in
+            let r = multi_input_of s self.now elements.now in
+            IfOk result (λ yes. IsTrue yes → ForRootOf s root.now (λ xs k. IsHonestMulti s xs k r ⊎ MultiCollides s r xs k)) }
+    {
+        verify_multi(&self.parts(), hasher, elements, root)
     }
 }

@@ -9,7 +9,7 @@ use Rattle.merkle_base.specs.Root.{folded}
 use Rattle.merkle_base.specs.declared.family.Bagging.{Bagging}
 use Rattle.merkle_base.specs.declared.family.Bagging.TheVariants.{ForwardFold, BackwardFold}
 use Rattle.merkle_base.proofs.Lists.{cons_head, cons_tail}
-use Rattle.merkle_root_theory.specs.Expression.{PrefixFold, SuffixFold}
+use Rattle.merkle_root_theory.specs.Expression.{Place, PrefixFold, SuffixFold, Expression, hashed, value}
 use Rattle.merkle_root_theory.specs.Plan.{Plan, peak, folding, forward, bag, tree_digest, plan_digest}
 use Rattle.merkle_root_theory.specs.Outside.{fold_all, bag_all, folded_prefix, single_before, single_after, folded_suffix}
 use Rattle.merkle_root_theory.specs.Layouts.{laid_out}
@@ -91,12 +91,27 @@ module _ {D : Type 0} (h : Hashing D) (X : ℕ → D) where
   pub digests_stand : StandFor h.fold (λ d. d) (tree_digest h X) (plan_digest h X)
   digests_stand = record { alone = λ t. refl; prefix = λ i l t x y. ap₂ h.fold; suffix = λ i t r x y. ap₂ h.fold }
 
-  pub fold_digests : (acc : Plan) (i : ℕ) (ts : List Tree) → fold h.fold (plan_digest h X acc) (map (tree_digest h X) ts) ≡ plan_digest h X (forward acc i ts)
-  fold_digests acc i ts = let ds = map (tree_digest h X) ts in
-      sym (forward_read h.fold (λ d. d) (tree_digest h X) (plan_digest h X) digests_stand acc (plan_digest h X acc) i ts ds refl (sym (map-id ds)))
+-- expressions of plans, of which a fold's is that of its two parts at its place
+module _ {D : Type 0} (h : Hashing D) (E : Plan → Expression D) (folds : (place : Place) (l r : Plan) → E (folding place l r) ≡ hashed place (E l) (E r)) where
+  abbrev plan_value : Plan → D
+  plan_value p = value h (E p)
 
-  pub bag_digests : (i : ℕ) (t : Tree) (ts : List Tree) → root.bag h.fold (map (tree_digest h X) (t ∷ ts)) ≡ Some (plan_digest h X (bag i t ts))
-  bag_digests i t ts =
-      let ds = map (tree_digest h X) ts in
-      let w = bag_is h.fold (λ d. d) (tree_digest h X) (plan_digest h X) digests_stand i t ts (tree_digest h X t) ds refl (sym (map-id ds)) in
+  abbrev peak_value : Tree → D
+  peak_value t = plan_value (peak t)
+
+  values_stand : StandFor h.fold (λ d. d) peak_value plan_value
+  values_stand = record {
+    alone = λ t. refl;
+    prefix = λ i l t x y e f. ap (value h) (folds (PrefixFold i) l (peak t)) ∙ ap₂ h.fold e f;
+    suffix = λ i t r x y e f. ap (value h) (folds (SuffixFold i) (peak t) r) ∙ ap₂ h.fold e f;
+  }
+
+  pub fold_values : (acc : Plan) (i : ℕ) (ts : List Tree) → fold h.fold (plan_value acc) (map peak_value ts) ≡ plan_value (forward acc i ts)
+  fold_values acc i ts = let ds = map peak_value ts in
+      sym (forward_read h.fold (λ d. d) peak_value plan_value values_stand acc (plan_value acc) i ts ds refl (sym (map-id ds)))
+
+  pub bag_values : (i : ℕ) (t : Tree) (ts : List Tree) → root.bag h.fold (map peak_value (t ∷ ts)) ≡ Some (plan_value (bag i t ts))
+  bag_values i t ts =
+      let ds = map peak_value ts in
+      let w = bag_is h.fold (λ d. d) peak_value plan_value values_stand i t ts (peak_value t) ds refl (sym (map-id ds)) in
       w.1 ∙ ap Some (sym w.2)

@@ -10,32 +10,42 @@ use Rattle.merkle_base.specs.Root as root
 use Rattle.merkle_base.specs.Root.{folded, root_string}
 use Rattle.merkle_base.specs.declared.family.Bagging.{Bagging}
 use Rattle.merkle_base.specs.declared.family.Bagging.TheVariants.{ForwardFold, BackwardFold}
-use Rattle.merkle_root_theory.specs.Expression.{value}
-use Rattle.merkle_root_theory.specs.Plan.{Plan, peak, forward, join_bag, whole, full, tree_digest, plan_digest}
+use Rattle.merkle_root_theory.specs.Expression.{Place, Join, Expression, hashed, value}
+use Rattle.merkle_root_theory.specs.Plan.{Plan, peak, folding, forward, bag, join_bag, whole, full, tree_digest}
 use Rattle.merkle_root_theory.specs.Range.{leaf_of}
 use Rattle.merkle_root_theory.specs.ListRoot.{RootsAgree}
-use Rattle.merkle_root_theory.proofs.BuiltLayouts.{fold_digests, bag_digests}
+use Rattle.merkle_root_theory.proofs.BuiltLayouts.{fold_values, bag_values}
 
 -- the digest of a list at a node, by location
 pub digest_at_is : {D : Type 0} (h : Hashing D) (xs : List D) (t : Tree) → digest_at h xs t ≡ tree_digest h (leaf_of h xs) t
 digest_at_is h xs (leaf p i) = refl
 digest_at_is h xs (join p l r) = ap₂ (h.node p) (digest_at_is h xs l) (digest_at_is h xs r)
 
-module _ {D : Type 0} (h : Hashing D) (X : ℕ → D) where
-  join_is : (acc : Plan) (i : ℕ) (ts : List Tree) → root.with_bag h.fold (plan_digest h X acc) (map (tree_digest h X) ts) ≡ plan_digest h X (join_bag acc i ts)
-  join_is acc i [] = refl
-  join_is acc i (t ∷ ts) = ap (λ o. option_map_or (h.fold (plan_digest h X acc)) o (plan_digest h X acc)) (bag_digests h X i t ts)
+-- expressions of plans, of which a fold's is that of its two parts at its place
+module _ {D : Type 0} (h : Hashing D) (E : Plan → Expression D) (folds : (place : Place) (l r : Plan) → E (folding place l r) ≡ hashed place (E l) (E r)) where
+  abbrev plan_value : Plan → D
+  plan_value p = value h (E p)
 
-  folded_is : (bagging : Bagging) (k : ℕ) (ts : List Tree) → folded h.fold bagging k (map (tree_digest h X) ts) ≡ option_map (value h) (option_map (full X) (whole bagging k ts))
-  folded_is bagging k [] = refl
-  folded_is ForwardFold k (t ∷ ts) = ap Some (fold_digests h X (peak t) 1 ts)
-  folded_is BackwardFold k (t ∷ ts) =
-      let T = tree_digest h X in
+  abbrev peak_value : Tree → D
+  peak_value t = plan_value (peak t)
+
+  join_is : (acc : Plan) (i : ℕ) (ts : List Tree) → root.with_bag h.fold (plan_value acc) (map peak_value ts) ≡ plan_value (join_bag acc i ts)
+  join_is acc i [] = refl
+  join_is acc i (t ∷ ts) = ap (λ o. option_map_or (h.fold (plan_value acc)) o (plan_value acc)) (bag_values h E folds i t ts) ∙ sym (ap (value h) (folds Join acc (bag i t ts)))
+
+  -- the peaks' values are folded to the plan's
+  pub folded_values : (bagging : Bagging) (k : ℕ) (ts : List Tree) → folded h.fold bagging k (map peak_value ts) ≡ option_map (value h) (option_map E (whole bagging k ts))
+  folded_values bagging k [] = refl
+  folded_values ForwardFold k (t ∷ ts) = ap Some (fold_values h E folds (peak t) 1 ts)
+  folded_values BackwardFold k (t ∷ ts) =
       let less : k - 1 ≡ pred k = omega arith in
-      ap Some (ap (λ n. root.with_bag h.fold (fold h.fold (T t) (take n (map T ts))) (drop n (map T ts))) less
-      ∙ ap₂ (λ us vs. root.with_bag h.fold (fold h.fold (T t) us) vs) (take-map T (pred k) ts) (drop-map T (pred k) ts)
-      ∙ ap (λ z. root.with_bag h.fold z (map T (drop (pred k) ts))) (fold_digests h X (peak t) 1 (take (pred k) ts))
+      ap Some (ap (λ n. root.with_bag h.fold (fold h.fold (peak_value t) (take n (map peak_value ts))) (drop n (map peak_value ts))) less
+      ∙ ap₂ (λ us vs. root.with_bag h.fold (fold h.fold (peak_value t) us) vs) (take-map peak_value (pred k) ts) (drop-map peak_value (pred k) ts)
+      ∙ ap (λ z. root.with_bag h.fold z (map peak_value (drop (pred k) ts))) (fold_values h E folds (peak t) 1 (take (pred k) ts))
       ∙ join_is (forward (peak t) 1 (take (pred k) ts)) (suc (pred k)) (drop (pred k) ts))
+
+folded_is : {D : Type 0} (h : Hashing D) (X : ℕ → D) (bagging : Bagging) (k : ℕ) (ts : List Tree) → folded h.fold bagging k (map (tree_digest h X) ts) ≡ option_map (value h) (option_map (full X) (whole bagging k ts))
+folded_is h X bagging k ts = folded_values h (full X) (λ place l r. refl) bagging k ts
 
 digests_are : {D : Type 0} (h : Hashing D) (xs : List D) (ts : List Tree) → map (digest_at h xs) ts ≡ map (tree_digest h (leaf_of h xs)) ts
 digests_are h xs [] = refl

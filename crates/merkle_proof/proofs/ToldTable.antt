@@ -1,0 +1,47 @@
+-- Digests listed by rising positions, as a search finds them.
+use Rattle.std.proofs.Common.{◌≡◌, ℕ, zero, suc, cond, ◌<◌, ◌≤◌, List, [], ◌∷◌, length, get_or, slice_get, Option, None, Some, inl, inr, refl, ap, sym, ◌∙◌, arith}
+use Rattle.std.specs.Borrow.{Bor}
+use Rattle.std.specs.List.Sorted.{IsStrictlyIncreasing}
+use Rattle.std.specs.Option.{option_copied}
+use Rattle.std.specs.Slice.{IsItemAt}
+use Rattle.std.proofs.lemmas.Option.{slice_get_past, slice_get_read}
+use Rattle.std.proofs.lemmas.Bool.{eq-eqb, ne_eqb, cases_lt}
+use Rattle.std.proofs.lemmas.List.Kept.{AllPairs-from_increasing}
+use Rattle.merkle_claim_theory.specs.Table.{digest_for}
+use Rattle.merkle_proof.proofs.RisingLists.{Rises, rises_tail}
+
+-- what a look-up by index reads
+pub get_reads : {X : Type 0} (xs : List X) (i : ℕ) (r : Option (Bor X)) → IsItemAt xs i r → option_copied r ≡ slice_get xs i
+get_reads xs i None h = sym (slice_get_past xs i h.3)
+get_reads xs i (Some x) h = sym (slice_get_read xs (length xs) i x.now refl h.3.0 h.1)
+
+pub rises_weakly : (ps : List ℕ) → IsStrictlyIncreasing ps → (i j : ℕ) → i ≤ j → j < length ps → get_or ps i 0 ≤ get_or ps j 0
+rises_weakly ps h i j l within = elim (cases_lt i j) [
+  | inl x ↦ omega (arith, AllPairs-from_increasing ps h i j 0 x within)
+  | inr x ↦ (let same : i ≡ j = omega (arith, x, l) in omega (arith, ap (λ (k : ℕ). get_or ps k 0) same))
+]
+
+found : {D : Type 0} (ps : List ℕ) (ds : List D) (i p : ℕ) → Rises ps → i < length ps → get_or ps i 0 ≡ p → slice_get ds i ≡ digest_for ps ds p
+found [] ds i p r l e = absurd (omega (arith, l))
+found (q ∷ ps) [] i p r l e = refl
+found (q ∷ ps) (d ∷ ds) zero p r l e = ap (λ z. cond z (Some d) (digest_for ps ds p)) (sym (eq-eqb q p e))
+found (q ∷ ps) (d ∷ ds) (suc i) p r l e =
+    let below : q < get_or ps i 0 = r 0 (suc i) 0 (omega arith) l in
+    found ps ds i p (rises_tail q ps r) (omega (arith, l)) e ∙ sym (ap (λ z. cond z (Some d) (digest_for ps ds p)) (ne_eqb q p (λ f. absurd (omega (arith, f, e, below)))))
+
+-- what stands at the index of a position is its digest
+pub table_found : {D : Type 0} (ps : List ℕ) (ds : List D) (i p : ℕ) → IsStrictlyIncreasing ps → i < length ps → get_or ps i 0 ≡ p → slice_get ds i ≡ digest_for ps ds p
+table_found ps ds i p h l e = found ps ds i p (AllPairs-from_increasing ps h) l e
+
+absent : {D : Type 0} (ps : List ℕ) (ds : List D) (p : ℕ) → ((k : ℕ) → k < length ps → get_or ps k 0 ≡ p → ⊥) → digest_for ps ds p ≡ None
+absent [] ds p f = refl
+absent (q ∷ ps) [] p f = refl
+absent (q ∷ ps) (d ∷ ds) p f =
+    ap (λ z. cond z (Some d) (digest_for ps ds p)) (ne_eqb q p (f 0 (omega arith))) ∙ absent ps ds p (λ k l. f (suc k) (omega (arith, l)))
+
+-- where a search finds a gap no digest stands
+pub table_none : {D : Type 0} (ps : List ℕ) (ds : List D) (i p : ℕ) → ((k : ℕ) → k < i → get_or ps k 0 < p) → ((k : ℕ) → i ≤ k → k < length ps → p < get_or ps k 0) → digest_for ps ds p ≡ None
+table_none ps ds i p below above = absent ps ds p (λ k l e. elim (cases_lt k i) [
+  | inl x ↦ absurd (omega (arith, e, below k x))
+  | inr x ↦ absurd (omega (arith, e, above k x l))
+])

@@ -1,0 +1,93 @@
+//! The digests of nodes from scattered elements and told digests.
+ghost use Rattle.std.specs.Prelude.{◌≡◌, ◌≤◌, IfOk, IfSome, IsNone, map};
+ghost use Rattle.std.specs.List.Sorted.{IsStrictlyIncreasing};
+ghost use Rattle.merkle_base.specs.Places.{peaks_of};
+ghost use Rattle.merkle_base.specs.Tree.{Tree, end_leaf};
+ghost use Rattle.merkle_hasher.specs.Subtrees.{Means};
+ghost use Rattle.merkle_claim_theory.specs.Ascending.{AscendsFrom};
+ghost use Rattle.merkle_claim_theory.specs.Table.{digest_for};
+ghost use Rattle.merkle_proof.specs.Confirmed.{IsConfirmed, EachHolds, locations_of, node_checked, nodes_checked, elements_from};
+ghost use Rattle.merkle_proof.specs.Input.{element_leaves, leaves_left};
+
+use crate::told::Told;
+use merkle_base::family::Family;
+use merkle_base::location::Location;
+use merkle_hasher::hasher::Hasher;
+use merkle_hasher::subtree::Subtree;
+use std::alloc::{AllocError, Global};
+
+/// The digests of the peaks of that many leaves, oldest first, from the elements and the told digests.
+///
+/// The elements ascend. There are no digests where another than the computed one is told of a node.
+pub(crate) fn confirm_peaks<F: Family, H: Hasher<F>>(
+    alloc: Global,
+    leaves: Location<F>,
+    hasher: &H,
+    told: &Told<'_, F, H::Digest>,
+    elements: &[(&[u8], Location<F>)],
+) -> Result<Option<Vec<H::Digest>>, AllocError>
+    requires small { leaves ≤ F.MAX_LEAVES }
+    requires rises { IsStrictlyIncreasing told.now.positions.now }
+    requires ascend { AscendsFrom 0 (locations_of (element_leaves (H.hashing hasher.now) F.rule elements.now)) }
+    ensures some { let h = H.hashing hasher.now in let a = digest_for told.now.positions.now told.now.digests.now in
+        let es = element_leaves h F.rule elements.now in let peaks = peaks_of F.rule leaves in
+        IfOk result (λ o. IfSome o (λ v. EachHolds h a es peaks × (v.items ≡ nodes_checked h a es peaks))) }
+    ensures none { let h = H.hashing hasher.now in let a = digest_for told.now.positions.now told.now.digests.now in
+        IfOk result (λ o. IsNone o → ¬ EachHolds h a (element_leaves h F.rule elements.now) (peaks_of F.rule leaves)) }
+{
+    let mut digests = Vec::new(alloc);
+    let mut first_leaf = Location::new(0);
+    let mut taken = 0;
+    for (position, height) in F::peaks(F::location_to_position(leaves)) {
+        let peak = Subtree {
+            position,
+            height,
+            first_leaf,
+        };
+        first_leaf = peak.leaf_end();
+        let Some(digest) = confirm_digest(&peak, hasher, told, elements, &mut taken) else {
+            return Ok(None);
+        };
+        digests.push(digest)?;
+    }
+    Ok(Some(digests))
+}
+
+// The digest of a node, from the elements under it and the told digests of the maximal nodes that have none under them.
+//
+// The elements ascend, and those before the node are taken already; those under it are taken then. There is no digest where
+// another than the computed one is told of the node, or of one below it.
+fn confirm_digest<F: Family, H: Hasher<F>>(
+    subtree: &Subtree<F>,
+    hasher: &H,
+    told: &Told<'_, F, H::Digest>,
+    elements: &[(&[u8], Location<F>)],
+    taken: &mut usize,
+) -> Option<H::Digest>
+    requires node { (t : Tree) × Means F.rule F.MAX_LEAVES subtree.now t }
+    requires rises { IsStrictlyIncreasing told.now.positions.now }
+    requires ascend { AscendsFrom subtree.now.first_leaf (locations_of (leaves_left (H.hashing hasher.now) F.rule elements.now taken.old)) }
+    ensures digest { let h = H.hashing hasher.now in let a = digest_for told.now.positions.now told.now.digests.now in
+        (t : Tree) → Means F.rule F.MAX_LEAVES subtree.now t
+        → IsConfirmed h (node_checked h a (leaves_left h F.rule elements.now taken.old) t) result }
+    ensures rest { let h = H.hashing hasher.now in
+        IfSome result (λ _. (t : Tree) → Means F.rule F.MAX_LEAVES subtree.now t
+        → leaves_left h F.rule elements.now taken.new ≡ elements_from (end_leaf t) (leaves_left h F.rule elements.now taken.old)) }
+{
+    let Some(next) = elements.get(*taken) else {
+        return Some(told.or_empty(subtree.position));
+    };
+    if next.1 >= subtree.leaf_end() {
+        return Some(told.or_empty(subtree.position));
+    }
+    if subtree.height == 0 {
+        *taken += 1;
+        let computed = hasher.leaf_digest(subtree.position, next.0);
+        return told.confirmed(subtree.position, computed);
+    }
+    let (left, right) = subtree.children();
+    let first = confirm_digest(&left, hasher, told, elements, taken)?;
+    let second = confirm_digest(&right, hasher, told, elements, taken)?;
+    let computed = hasher.node_digest(subtree.position, &first, &second);
+    told.confirmed(subtree.position, computed)
+}

@@ -1,0 +1,124 @@
+//! Checks of scattered leaves against a root, over the parts of their proofs.
+ghost use Rattle.std.specs.Prelude.{◌≡◌, ◌<◌, [], ◌↔◌, IsTrue, IfOk, IfSome, IsNone, length, map};
+ghost use Rattle.std.specs.List.Sorted.{IsStrictlyIncreasing};
+ghost use Rattle.merkle_claim_theory.specs.Multiproof.{AcceptsMulti, multi_positions};
+ghost use Rattle.merkle_proof.specs.Input.{multi_input};
+ghost use Rattle.merkle_proof.specs.MultiPositions.{AreLocations};
+
+use crate::checks::{ProofParts, reconstruct_empty_root};
+use crate::confirm::confirm_peaks;
+use crate::multi::multi_proof_positions;
+use crate::told::Told;
+use merkle_base::error::{Error, OutOfMemory};
+use merkle_base::family::Family;
+use merkle_base::location::Location;
+use merkle_base::position::Position;
+use merkle_hasher::hasher::Hasher;
+use std::alloc::{AllocError, Global};
+
+/// Whether the elements, each at its location, lead to the root.
+pub(crate) fn verify_multi<F: Family, H: Hasher<F>>(
+    parts: &ProofParts<'_, F, H::Digest>,
+    hasher: &H,
+    elements: &[(&[u8], Location<F>)],
+    root: &H::Digest,
+) -> Result<bool, OutOfMemory>
+    ensures { let s = H.scheme hasher.now in
+        let r = multi_input s parts.now.leaves parts.now.inactive parts.now.digests.now elements.now in
+        IfOk result (λ yes. IsTrue yes ↔ AcceptsMulti s r root.now) }
+{
+    if elements.is_empty() {
+        return Ok(verify_none(parts, hasher, root));
+    }
+    verify_some(parts, hasher, elements, root)
+}
+
+// Whether the proof is the empty one, and the root that of no leaves.
+fn verify_none<F: Family, H: Hasher<F>>(
+    parts: &ProofParts<'_, F, H::Digest>,
+    hasher: &H,
+    root: &H::Digest,
+) -> bool
+    ensures { let s = H.scheme hasher.now in
+        IsTrue result ↔ AcceptsMulti s (multi_input s parts.now.leaves parts.now.inactive parts.now.digests.now []) root.now }
+{
+    match reconstruct_empty_root(parts, hasher, Location::new(0)) {
+        Ok(computed) => computed == *root,
+        Err(_) => false,
+    }
+}
+
+// Whether some elements, each at its location, lead to the root.
+fn verify_some<F: Family, H: Hasher<F>>(
+    parts: &ProofParts<'_, F, H::Digest>,
+    hasher: &H,
+    elements: &[(&[u8], Location<F>)],
+    root: &H::Digest,
+) -> Result<bool, OutOfMemory>
+    requires some { 0 < length elements.now }
+    ensures { let s = H.scheme hasher.now in
+        let r = multi_input s parts.now.leaves parts.now.inactive parts.now.digests.now elements.now in
+        IfOk result (λ yes. IsTrue yes ↔ AcceptsMulti s r root.now) }
+{
+    let Ok(read) = read_positions(parts.alloc, parts.leaves, elements) else {
+        return Err(OutOfMemory);
+    };
+    let Some(positions) = read else {
+        return Ok(false);
+    };
+    if positions.len() != parts.digests.len() {
+        return Ok(false);
+    }
+    let told = Told {
+        positions: &positions,
+        digests: parts.digests,
+    };
+    let Ok(confirmed) = confirm_peaks(parts.alloc, parts.leaves, hasher, &told, elements) else {
+        return Err(OutOfMemory);
+    };
+    let Some(peaks) = confirmed else {
+        return Ok(false);
+    };
+    match hasher.root_with_folded_peaks(parts.leaves, parts.inactive, parts.inactive, &peaks) {
+        Some(computed) => Ok(computed == *root),
+        None => Ok(false),
+    }
+}
+
+// The positions that a proof of the elements reads, if they stand at some of that many leaves, strictly ascending.
+fn read_positions<F: Family>(
+    alloc: Global,
+    leaves: Location<F>,
+    elements: &[(&[u8], Location<F>)],
+) -> Result<Option<Vec<Position<F>>>, OutOfMemory>
+    ensures some { let locations = map (λ e. e.1) elements.now in
+        IfOk result (λ o. IfSome o (λ v. v.items ≡ multi_positions F.rule leaves locations)) }
+    ensures rises { IfOk result (λ o. IfSome o (λ v. IsStrictlyIncreasing v.items)) }
+    ensures within { IfOk result (λ o. IfSome o (λ _. AreLocations F.MAX_LEAVES leaves (map (λ e. e.1) elements.now))) }
+    ensures none { IfOk result (λ o. IsNone o → ¬ AreLocations F.MAX_LEAVES leaves (map (λ e. e.1) elements.now)) }
+{
+    let Ok(locations) = list_locations(alloc, elements) else {
+        return Err(OutOfMemory);
+    };
+    match multi_proof_positions(alloc, leaves, &locations) {
+        Ok(positions) => Ok(Some(positions)),
+        Err(error) => match error {
+            Error::OutOfMemory => Err(OutOfMemory),
+            _ => Ok(None),
+        },
+    }
+}
+
+// The locations of the elements.
+fn list_locations<F: Family>(
+    alloc: Global,
+    elements: &[(&[u8], Location<F>)],
+) -> Result<Vec<Location<F>>, AllocError>
+    ensures { IfOk result (λ v. v.items ≡ map (λ e. e.1) elements.now) }
+{
+    let mut locations = Vec::with_capacity(alloc, elements.len())?;
+    for element in elements {
+        locations.push(element.1)?;
+    }
+    Ok(locations)
+}

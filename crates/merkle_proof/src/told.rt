@@ -1,0 +1,64 @@
+//! The digests that a proof of scattered leaves tells.
+ghost use Rattle.std.specs.Prelude.{◌≡◌};
+ghost use Rattle.std.specs.Option.{unwrap_or};
+ghost use Rattle.std.specs.List.Sorted.{IsStrictlyIncreasing};
+ghost use Rattle.merkle_base.specs.Hashing.{Hashing};
+ghost use Rattle.merkle_root_theory.specs.Expression.{Expression, Holds, value};
+ghost use Rattle.merkle_claim_theory.specs.MultiClaim.{also};
+ghost use Rattle.merkle_claim_theory.specs.Table.{digest_for};
+ghost use Rattle.merkle_proof.specs.Confirmed.{IsConfirmed};
+
+use merkle_base::family::Family;
+use merkle_base::position::Position;
+use merkle_digest::digest::Digest;
+
+/// Digests of nodes by position, which a proof tells.
+#[derive(Drop)]
+pub(crate) struct Told<'a, F, D> {
+    /// Ascending, each once.
+    pub(crate) positions: &'a [Position<F>],
+    /// One for each position.
+    pub(crate) digests: &'a [D],
+}
+
+impl<F: Family, D: Digest> Told<'_, F, D> {
+    /// The digest that is told at a position.
+    fn get(&self, position: Position<F>) -> Option<D>
+        requires { IsStrictlyIncreasing self.now.positions.now }
+        ensures { result ≡ digest_for self.now.positions.now self.now.digests.now position }
+    {
+        match self.positions.binary_search(&position) {
+            Ok(index) => self.digests.get(index).copied(),
+            Err(_) => None,
+        }
+    }
+
+    /// The digest that is told at a position, or else the empty one.
+    pub(crate) fn or_empty(&self, position: Position<F>) -> D
+        requires { IsStrictlyIncreasing self.now.positions.now }
+        ensures { result ≡ unwrap_or (digest_for self.now.positions.now self.now.digests.now position) D.EMPTY }
+    {
+        match self.get(position) {
+            Some(digest) => digest,
+            None => D::EMPTY,
+        }
+    }
+
+    /// The digest that is computed at a position, unless another is told there.
+    pub(crate) fn confirmed(&self, position: Position<F>, computed: D) -> Option<D>
+        requires { IsStrictlyIncreasing self.now.positions.now }
+        ensures { (h : Hashing D) (e : Expression D) → Holds h e → computed ≡ value h e
+            → IsConfirmed h (also (digest_for self.now.positions.now self.now.digests.now position) e) result }
+    {
+        match self.get(position) {
+            Some(digest) => {
+                if digest == computed {
+                    Some(computed)
+                } else {
+                    None
+                }
+            }
+            None => Some(computed),
+        }
+    }
+}
