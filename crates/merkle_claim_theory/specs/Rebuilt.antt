@@ -42,7 +42,11 @@ pub record IsRebuilt {D : Type 0} (s : Scheme D) (r : RangeInput D) (pins : List
 abbrev pub PinnedIsRebuilt : Type 0 → Type 0
 PinnedIsRebuilt D = (s : Scheme D) (r : RangeInput D) (pins : List D) (root : D) → AcceptsPinnedSome s r pins root ↔ (AcceptsSome s r root × IsRebuilt s r pins)
 
+-- the root over the pins, for any inactive count, is the one that the list had at start leaves
+abbrev pub GivesOldRoot : {D : Type 0} → Scheme D → List D → ℕ → List D → Type 0
+GivesOldRoot s xs start pins = (j : ℕ) → peaks_root s start j j pins ≡ list_root s (take start xs) j
+
 -- the root over honest pins is that of the leaves before the range
 abbrev pub PinsGiveOldRoot : Type 0 → Type 0
 PinsGiveOldRoot D = (s : Scheme D) (xs : List D) (k : ℕ) (r : RangeInput D) (pins : List D) → IsHonestPinned s xs k r pins
-    → (j : ℕ) → peaks_root s r.start j j pins ≡ list_root s (take r.start xs) j
+    → GivesOldRoot s xs r.start pins

@@ -31,6 +31,11 @@ pub before_dropped : (bagging : Bagging) (k : ℕ) (ts : List Tree) → single_b
 before_dropped ForwardFold k ts = sym (drop_length ts)
 before_dropped BackwardFold k ts = sym (drop_taken k ts)
 
+-- and those are the first
+pub prefix_taken : (bagging : Bagging) (k : ℕ) (ts : List Tree) → folded_prefix bagging k ts ≡ take (length (folded_prefix bagging k ts)) ts
+prefix_taken ForwardFold k ts = sym (take_length ts)
+prefix_taken BackwardFold k ts = sym (take_taken k ts)
+
 -- those after it stand before the peaks that are folded
 pub after_taken : (bagging : Bagging) (k met : ℕ) (ts : List Tree) → single_after bagging k met ts ≡ take (length (single_after bagging k met ts)) ts
 after_taken ForwardFold k met ts = sym (take_length ts)

@@ -19,3 +19,6 @@ pub mod ScatteredElements
 pub mod ScatteredWalk
 pub mod ScatteredPeaks
 pub mod ScatteredRoot
+pub mod PinWalks
+pub mod PinParts
+pub mod PinChecks

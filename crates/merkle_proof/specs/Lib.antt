@@ -7,3 +7,4 @@ pub mod ProofRefusals
 pub mod RangePlans
 pub mod MultiPositions
 pub mod Confirmed
+pub mod PinnedParts

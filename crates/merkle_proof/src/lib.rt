@@ -11,6 +11,7 @@ mod layout;
 pub mod multi;
 mod multi_checks;
 mod peaks;
+mod pins;
 mod positions;
 pub mod proof;
 pub mod range_plan;

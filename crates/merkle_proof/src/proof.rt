@@ -8,6 +8,8 @@ ghost use Rattle.merkle_root_theory.specs.Range.{ForRootOf, IsHonestRange, Range
 ghost use Rattle.merkle_root_theory.specs.Reconstruction.{reconstructed};
 ghost use Rattle.merkle_root_theory.specs.RootNames.{NamesRoot};
 ghost use Rattle.merkle_root_theory.specs.Walk.{bytes_of};
+ghost use Rattle.merkle_claim_theory.specs.Pinned.{AcceptsPinned, IsHonestPinned, PinnedCollides};
+ghost use Rattle.merkle_claim_theory.specs.Rebuilt.{GivesOldRoot};
 ghost use Rattle.merkle_proof.specs.Extracting.{IsExtractionRefusal};
 ghost use Rattle.merkle_proof.specs.Input.{input_of, multi_input_of};
 
@@ -16,6 +18,7 @@ pub use crate::element_plan::ElementPlan;
 use crate::extraction::verify_and_extract;
 pub use crate::multi::multi_proof_positions;
 use crate::multi_checks::verify_multi;
+use crate::pins::verify_pinned;
 pub use crate::range_plan::RangePlan;
 use merkle_base::error::{Error, OutOfMemory, ReconstructionError};
 use merkle_base::family::Family;
@@ -196,6 +199,46 @@ impl<F: Family, D: Digest> Proof<F, D> {
             → IsExtractionRefusal s (input_of s self.now start (bytes_of elements.now)) root.now e) }
     {
         verify_and_extract(&self.parts(), hasher, elements, start, root)
+    }
+
+    /// Whether the elements are the leaves from a location on of the list behind the root, and the pinned digests are those of
+    /// the peaks over the leaves before it.
+    ///
+    /// The pins are the digests of the peaks over the first `start` leaves, oldest first, as many as there are such peaks: any
+    /// other number is answered `false`. Each part of the proof that lies before the range is rebuilt from them and compared.
+    ///
+    /// It is answered from the proof and the pins alone. `true` means that the proof is the honest one of these leaves and the
+    /// pins are honest, or else that the computation and the list hash different inputs to one digest at the same place. So
+    /// the pins give the root that the list had at `start` leaves, for any inactive count. An honest proof with honest pins is
+    /// never answered `false`. With `true` the root is the hash of a string that begins with the family's byte, the hasher's
+    /// bagging and the proof's leaf count. With no elements `true` is answered for the empty proof with no pins, from location
+    /// 0 on and against the root of no leaves, and for nothing else.
+    ///
+    /// Refused only where there is no memory.
+    pub fn verify_proof_and_pinned_nodes<H: Hasher<F, Digest = D>>(
+        &self,
+        hasher: &H,
+        elements: &[&[u8]],
+        start: Location<F>,
+        pinned_nodes: &[D],
+        root: &D,
+    ) -> Result<bool, OutOfMemory>
+        ensures exact { let s = H.scheme hasher.now in
+            let r = input_of s self.now start (bytes_of elements.now) in
+            IfOk result (λ yes. IsTrue yes ↔ AcceptsPinned s r pinned_nodes.now root.now) }
+        ensures names { let s = H.scheme hasher.now in
+            IfOk result (λ yes. IsTrue yes → NamesRoot s self.now.leaves root.now) }
+        ensures honest { let s = H.scheme hasher.now in
+            let r = input_of s self.now start (bytes_of elements.now) in
+            IfOk result (λ yes. ForRootOf s root.now (λ xs k. IsHonestPinned s xs k r pinned_nodes.now → IsTrue yes)) }
+        ensures sound { let s = H.scheme hasher.now in
+            let r = input_of s self.now start (bytes_of elements.now) in
+            IfOk result (λ yes. IsTrue yes → ForRootOf s root.now (λ xs k. IsHonestPinned s xs k r pinned_nodes.now ⊎ PinnedCollides s r pinned_nodes.now xs k)) }
+        ensures old_root { let s = H.scheme hasher.now in
+            let r = input_of s self.now start (bytes_of elements.now) in
+            IfOk result (λ yes. IsTrue yes → ForRootOf s root.now (λ xs k. GivesOldRoot s xs start pinned_nodes.now ⊎ PinnedCollides s r pinned_nodes.now xs k)) }
+    {
+        verify_pinned(&self.parts(), hasher, elements, start, pinned_nodes, root)
     }
 
     /// Whether the element is the leaf at a location of the list behind the root.
