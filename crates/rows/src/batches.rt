@@ -1,13 +1,13 @@
 //! Calls of batches.
 
 use crate::digests::{digest, digests};
-use crate::refusal::{granted, refused};
 use crate::world::World;
 use merkle_core::batch::{MerkleizedBatch, UnmerkleizedBatch};
 use merkle_core::digest::Digest;
 use merkle_core::family::Family;
 use merkle_core::hasher::Hasher;
 use merkle_core::location::Location;
+use rows_checks::granted;
 use rows_text::answer::Answer;
 use rows_text::refusal::{Refusal, SYNTAX, UNKNOWN};
 use rows_text::words::{

@@ -11,7 +11,7 @@ mod digests;
 mod families;
 mod plans;
 mod proofs;
-mod refusal;
+mod scattered;
 mod session;
 mod structures;
 mod world;

@@ -1,7 +1,6 @@
 //! Calls of plans of proofs.
 
 use crate::digests::write_positions;
-use crate::refusal::{granted, refused};
 use crate::world::World;
 use merkle_core::digest::Digest;
 use merkle_core::family::Family;
@@ -9,6 +8,7 @@ use merkle_core::hasher::Hasher;
 use merkle_core::location::Location;
 use merkle_core::position::Position;
 use merkle_core::proof::{ElementPlan, RangePlan};
+use rows_checks::granted;
 use rows_text::answer::Answer;
 use rows_text::refusal::Refusal;
 use rows_text::words::{count, number};

@@ -1,13 +1,15 @@
 //! Calls of proofs, and checks of given ones.
 
 use crate::digests::{digest, digests, write_pairs, write_proof};
-use crate::refusal::{granted, refused, unreconstructed};
 use crate::world::World;
 use merkle_core::digest::Digest;
 use merkle_core::family::Family;
 use merkle_core::hasher::Hasher;
 use merkle_core::location::Location;
 use merkle_core::proof::Proof;
+use rows_checks::granted;
+use rows_checks::ranges::{check_leaf, check_range, slices};
+use rows_checks::refusal::unreconstructed;
 use rows_text::answer::Answer;
 use rows_text::refusal::{OUT_OF_MEMORY, Refusal};
 use rows_text::words::{bytes, count, elements, named, number, word};
@@ -56,8 +58,8 @@ impl<F: Family, H: Hasher<F> + Drop> World<F, H> {
         Ok(())
     }
 
-    // The proof that three words spell.
-    fn read_proof(&self, words: &[&str]) -> Result<Proof<F, H::Digest>, Refusal> {
+    /// The proof that three words spell.
+    pub fn read_proof(&self, words: &[&str]) -> Result<Proof<F, H::Digest>, Refusal> {
         let leaves = Location::new(number(words, 1)?);
         let inactive_peaks = count(words, 2)?;
         let digests = digests(self.alloc, word(words, 3))?;
@@ -116,39 +118,17 @@ impl<F: Family, H: Hasher<F> + Drop> World<F, H> {
         answer.yes_or_no(is_right);
         Ok(())
     }
-}
 
-/// Whether a proof is accepted with this element.
-pub fn check_leaf<F: Family, H: Hasher<F>>(
-    hasher: &H,
-    proof: &Proof<F, H::Digest>,
-    element: &[u8],
-    leaf: Location<F>,
-    root: &H::Digest,
-) -> Result<bool, Refusal> {
-    let checked = proof.verify_element_inclusion(hasher, element, leaf, root);
-    checked.ok().ok_or(OUT_OF_MEMORY)
-}
-
-/// Whether a proof is accepted with these elements.
-pub fn check_range<F: Family, H: Hasher<F>>(
-    alloc: Global,
-    hasher: &H,
-    proof: &Proof<F, H::Digest>,
-    elements: &[Vec<u8>],
-    start: Location<F>,
-    root: &H::Digest,
-) -> Result<bool, Refusal> {
-    let all = slices(alloc, elements)?;
-    let checked = proof.verify_range_inclusion(hasher, &all, start, root);
-    checked.ok().ok_or(OUT_OF_MEMORY)
-}
-
-// The elements, lent.
-fn slices<'a>(alloc: Global, elements: &'a [Vec<u8>]) -> Result<Vec<&'a [u8]>, Refusal> {
-    let mut all: Vec<&[u8]> = Vec::new(alloc);
-    for element in elements {
-        all.push(element.as_slice())?;
+    // Whether a proof of a range is accepted with the pins before it.
+    pub fn check_pinned(&self, words: &[&str], answer: &mut Answer) -> Result<(), Refusal> {
+        let start = Location::new(number(words, 4)?);
+        let root = digest(self.alloc, word(words, 7))?;
+        let found = elements(self.alloc, word(words, 5))?;
+        let pins = digests(self.alloc, word(words, 6))?;
+        let proof = self.read_proof(words)?;
+        let all = slices(self.alloc, found.as_slice())?;
+        let checked = proof.verify_proof_and_pinned_nodes(&self.hasher, &all, start, &pins, &root);
+        answer.yes_or_no(checked.ok().ok_or(OUT_OF_MEMORY)?);
+        Ok(())
     }
-    Ok(all)
 }

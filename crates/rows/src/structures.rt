@@ -1,14 +1,14 @@
 //! Calls of structures.
 
 use crate::digests::{digests, write_node, write_nodes, write_peaks};
-use crate::refusal::{granted, refused};
-use crate::world::{MOST_PEAKS, World};
+use crate::world::World;
 use merkle_core::digest::Digest;
 use merkle_core::family::Family;
 use merkle_core::hasher::Hasher;
 use merkle_core::location::Location;
 use merkle_core::mem::{Config, Mem};
 use merkle_core::position::Position;
+use rows_checks::{MOST_PEAKS, granted};
 use rows_text::answer::Answer;
 use rows_text::refusal::{Refusal, UNKNOWN};
 use rows_text::words::{count, give_name, named, number, word};

@@ -11,9 +11,6 @@ use std::alloc::Global;
 use std::collections::HashMap;
 use std::rc::Rc;
 
-/// No structure has more peaks.
-pub const MOST_PEAKS: usize = 64;
-
 /// What the lines so far have made.
 ///
 /// A structure, a batch that takes leaves and one with its nodes may have the same name.
@@ -139,7 +136,11 @@ impl<F: Family, H: Hasher<F> + Drop> World<F, H> {
         match call {
             ProofCall::Check => self.check(words, answer),
             ProofCall::CheckLeaf => self.check_leaf(words, answer),
+            ProofCall::CheckMulti => self.check_multi(words, answer),
+            ProofCall::CheckPinned => self.check_pinned(words, answer),
             ProofCall::Extract => self.extract(words, answer),
+            ProofCall::Multi => self.multi(words, answer),
+            ProofCall::MultiPositions => self.multi_positions(words, answer),
             ProofCall::Plan => self.plan(words),
             ProofCall::PlanAbove => self.plan_above(words),
             ProofCall::PlanLeaf => self.plan_leaf(words, answer),
@@ -150,7 +151,9 @@ impl<F: Family, H: Hasher<F> + Drop> World<F, H> {
             ProofCall::ProofOver => self.proof_over(words, answer),
             ProofCall::Prove => self.prove(words, answer),
             ProofCall::ProveLeaves => self.prove_leaves(words, answer),
+            ProofCall::ProvePins => self.prove_pins(words, answer),
             ProofCall::ProveRanges => self.prove_ranges(words, answer),
+            ProofCall::ProveSubsets => self.prove_subsets(words, answer),
             ProofCall::Range => self.range(words, answer),
             ProofCall::RangeOver => self.range_over(words, answer),
             ProofCall::Reconstruct => self.reconstruct(words, answer),

@@ -75,7 +75,11 @@ pub enum LeafCall {
 pub enum ProofCall {
     Check,
     CheckLeaf,
+    CheckMulti,
+    CheckPinned,
     Extract,
+    Multi,
+    MultiPositions,
     Plan,
     PlanAbove,
     PlanLeaf,
@@ -86,7 +90,9 @@ pub enum ProofCall {
     ProofOver,
     Prove,
     ProveLeaves,
+    ProvePins,
     ProveRanges,
+    ProveSubsets,
     Range,
     RangeOver,
     Reconstruct,
@@ -146,10 +152,14 @@ const LEAF_CALLS: [(&str, usize, LeafCall); 9] = [
     ("update_list", 3, LeafCall::UpdateList),
 ];
 
-const PROOF_CALLS: [(&str, usize, ProofCall); 17] = [
+const PROOF_CALLS: [(&str, usize, ProofCall); 23] = [
     ("check", 7, ProofCall::Check),
     ("check_leaf", 7, ProofCall::CheckLeaf),
+    ("check_multi", 6, ProofCall::CheckMulti),
+    ("check_pinned", 8, ProofCall::CheckPinned),
     ("extract", 7, ProofCall::Extract),
+    ("multi", 4, ProofCall::Multi),
+    ("multi_positions", 3, ProofCall::MultiPositions),
     ("plan", 4, ProofCall::Plan),
     ("plan", 6, ProofCall::PlanAbove),
     ("plan_leaf", 3, ProofCall::PlanLeaf),
@@ -160,7 +170,9 @@ const PROOF_CALLS: [(&str, usize, ProofCall); 17] = [
     ("proof_over", 5, ProofCall::ProofOver),
     ("prove", 5, ProofCall::Prove),
     ("prove_leaves", 3, ProofCall::ProveLeaves),
+    ("prove_pins", 3, ProofCall::ProvePins),
     ("prove_ranges", 3, ProofCall::ProveRanges),
+    ("prove_subsets", 4, ProofCall::ProveSubsets),
     ("range", 5, ProofCall::Range),
     ("range_over", 6, ProofCall::RangeOver),
     ("reconstruct", 6, ProofCall::Reconstruct),

@@ -58,6 +58,17 @@ fn push_elements(alloc: Global, all: &mut Vec<Vec<u8>>, item: &str) -> Result<()
     Ok(())
 }
 
+/// The numbers of a list.
+pub fn numbers(alloc: Global, word: &str) -> Result<Vec<u64>, Refusal> {
+    let mut all = Vec::new(alloc);
+    if word != "-" {
+        for item in word.split(',') {
+            all.push(read_number(item)?)?;
+        }
+    }
+    Ok(all)
+}
+
 /// The number of a leaf, with bytes for it.
 #[derive(Drop)]
 pub struct LeafBytes {

@@ -10,6 +10,10 @@ pub fn refused<F: Family>(error: &Error<F>) -> Refusal {
         Error::NonLeaf(position) => Refusal::Of("NonLeaf", position.as_u64()),
         Error::PositionOverflow(position) => Refusal::Of("PositionOverflow", position.as_u64()),
         Error::LocationOverflow(location) => Refusal::Of("LocationOverflow", location.as_u64()),
+        Error::DuplicateLocation(location) => {
+            Refusal::Of("DuplicateLocation", location.as_u64())
+        }
+        Error::UnsortedLocation(location) => Refusal::Of("UnsortedLocation", location.as_u64()),
         Error::Empty => Refusal::Plain("Empty"),
         Error::RangeOutOfBounds(location) => Refusal::Of("RangeOutOfBounds", location.as_u64()),
         Error::InvalidSize(size) => Refusal::Of("InvalidSize", *size),
@@ -56,13 +60,12 @@ pub fn unreconstructed(error: &ReconstructionError) -> Refusal {
 ///
 /// This is no `?`, since that passes the error to `From::from`, and the check has no rule for a call that takes an `Error`
 /// by value.
+#[macro_export]
 macro_rules! granted {
     ($result:expr) => {
         match $result {
             Ok(value) => value,
-            Err(error) => return Err(refused(&error)),
+            Err(error) => return Err($crate::refusal::refused(&error)),
         }
     };
 }
-
-pub(crate) use granted;

@@ -1,0 +1,12 @@
+//! Checks of proofs that the program `rows` makes, one by one and of all of a structure's leaves.
+#![tactic(auto)]
+
+pub mod changes;
+pub mod pinned;
+pub mod ranges;
+pub mod refusal;
+pub mod scattered;
+pub mod subsets;
+
+/// No structure has more peaks.
+pub const MOST_PEAKS: usize = 64;

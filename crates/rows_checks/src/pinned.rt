@@ -1,0 +1,189 @@
+//! How many ranges of a structure are proved with the pins before them.
+
+use crate::changes::other_digest;
+use crate::{MOST_PEAKS, granted};
+use merkle_core::digest::Digest;
+use merkle_core::family::Family;
+use merkle_core::hasher::Hasher;
+use merkle_core::location::Location;
+use merkle_core::mem::Mem;
+use merkle_core::proof::Proof;
+use rows_text::refusal::{OUT_OF_MEMORY, Refusal};
+use std::alloc::Global;
+
+/// How many ranges are proved with the pins before them, one after another for each number of inactive peaks.
+pub fn pinned_ranges_proved<F: Family, H: Hasher<F>>(
+    alloc: Global,
+    hasher: &H,
+    structure: &Mem<F, H::Digest>,
+    elements: &[&[u8]],
+) -> u64 {
+    let mut proved = 0u64;
+    for inactive in 0..=MOST_PEAKS {
+        let found = count_pinned(alloc, hasher, structure, elements, inactive);
+        proved = proved.saturating_add(found);
+    }
+    proved
+}
+
+// How many ranges are proved, with the pins before them, for a number of inactive peaks.
+fn count_pinned<F: Family, H: Hasher<F>>(
+    alloc: Global,
+    hasher: &H,
+    structure: &Mem<F, H::Digest>,
+    elements: &[&[u8]],
+    inactive: usize,
+) -> u64 {
+    let mut proved = 0u64;
+    for start in 0..elements.len() {
+        let found = &elements[start..];
+        let more = count_pinned_from(alloc, hasher, structure, found, start, inactive);
+        proved = proved.saturating_add(more);
+    }
+    proved
+}
+
+// How many of the ranges from a location on are proved, each with the first so many of the elements.
+fn count_pinned_from<F: Family, H: Hasher<F>>(
+    alloc: Global,
+    hasher: &H,
+    structure: &Mem<F, H::Digest>,
+    elements: &[&[u8]],
+    start: usize,
+    inactive: usize,
+) -> u64 {
+    let mut proved = 0u64;
+    for count in 1..=elements.len() {
+        let found = &elements[..count];
+        if let Ok(true) = proves_pins(alloc, hasher, structure, found, start, inactive) {
+            proved = proved.saturating_add(1);
+        }
+    }
+    proved
+}
+
+// Whether the proof of a range is accepted with the pins before it, and refused where a digest, a pin or the number of pins
+// is changed.
+fn proves_pins<F: Family, H: Hasher<F>>(
+    alloc: Global,
+    hasher: &H,
+    structure: &Mem<F, H::Digest>,
+    elements: &[&[u8]],
+    start: usize,
+    inactive: usize,
+) -> Result<bool, Refusal> {
+    let first = Location::from(start);
+    let end = Location::from(start.saturating_add(elements.len()));
+    let root = granted!(structure.root(hasher, inactive));
+    let proof = granted!(structure.range_proof(hasher, first..end, inactive));
+    let pins = pins_before(alloc, structure, first)?;
+    let mut claim = PinnedClaim {
+        alloc,
+        proof,
+        elements,
+        start: first,
+        pins,
+        root,
+    };
+    Ok(
+        claim.is_accepted(hasher)?
+            && claim.needs_each_digest(hasher)?
+            && claim.needs_each_pin(hasher)?
+            && claim.needs_no_more_pins(hasher)?,
+    )
+}
+
+// The digests of the peaks over the first so many leaves of a structure, oldest first.
+fn pins_before<F: Family, D: Digest>(
+    alloc: Global,
+    structure: &Mem<F, D>,
+    leaves: Location<F>,
+) -> Result<Vec<D>, Refusal> {
+    let mut pins = Vec::new(alloc);
+    if !leaves.is_valid() {
+        return Ok(pins);
+    }
+    for position in F::nodes_to_pin(leaves) {
+        match structure.get_node(position) {
+            Some(digest) => pins.push(digest)?,
+            None => return Err(Refusal::Of("ElementPruned", position.as_u64())),
+        }
+    }
+    Ok(pins)
+}
+
+// Elements from a location on, with a proof of them, the pins before them and a root.
+#[derive(Drop)]
+struct PinnedClaim<'a, F: Family, D: Digest> {
+    alloc: Global,
+    proof: Proof<F, D>,
+    elements: &'a [&'a [u8]],
+    start: Location<F>,
+    pins: Vec<D>,
+    root: D,
+}
+
+impl<F: Family, D: Digest> PinnedClaim<'_, F, D> {
+    fn is_accepted<H: Hasher<F, Digest = D>>(&self, hasher: &H) -> Result<bool, Refusal> {
+        let checked = self
+            .proof
+            .verify_proof_and_pinned_nodes(
+                hasher,
+                self.elements,
+                self.start,
+                &self.pins,
+                &self.root,
+            );
+        checked.ok().ok_or(OUT_OF_MEMORY)
+    }
+
+    // Whether it is refused with another in the place of any digest.
+    fn needs_each_digest<H: Hasher<F, Digest = D>>(&mut self, hasher: &H) -> Result<bool, Refusal> {
+        for index in 0..self.proof.digests.len() {
+            let Some(place) = self.proof.digests.get_mut(index) else {
+                return Ok(false);
+            };
+            let digest = *place;
+            *place = other_digest(self.alloc, &digest)?;
+            if self.is_accepted(hasher)? {
+                return Ok(false);
+            }
+            if let Some(place) = self.proof.digests.get_mut(index) {
+                *place = digest;
+            }
+        }
+        Ok(true)
+    }
+
+    // Whether it is refused with another in the place of any pin.
+    fn needs_each_pin<H: Hasher<F, Digest = D>>(&mut self, hasher: &H) -> Result<bool, Refusal> {
+        for index in 0..self.pins.len() {
+            let Some(place) = self.pins.get_mut(index) else {
+                return Ok(false);
+            };
+            let digest = *place;
+            *place = other_digest(self.alloc, &digest)?;
+            if self.is_accepted(hasher)? {
+                return Ok(false);
+            }
+            if let Some(place) = self.pins.get_mut(index) {
+                *place = digest;
+            }
+        }
+        Ok(true)
+    }
+
+    // Whether it is refused with one pin more, and with the last one left out.
+    fn needs_no_more_pins<H: Hasher<F, Digest = D>>(
+        &mut self,
+        hasher: &H,
+    ) -> Result<bool, Refusal> {
+        let root = self.root;
+        self.pins.push(root)?;
+        let is_more_accepted = self.is_accepted(hasher)?;
+        self.pins.pop();
+        let is_none_left_out = self.pins.pop().is_none();
+        let is_less_accepted = self.is_accepted(hasher)?;
+        Ok(!is_more_accepted && (is_none_left_out || !is_less_accepted))
+    }
+}

@@ -1,0 +1,209 @@
+//! Checks of leaves and ranges, and how many of a structure's are proved.
+
+use crate::changes::changed;
+use crate::{MOST_PEAKS, granted};
+use merkle_core::family::Family;
+use merkle_core::hasher::Hasher;
+use merkle_core::location::Location;
+use merkle_core::mem::Mem;
+use merkle_core::proof::Proof;
+use rows_text::refusal::{OUT_OF_MEMORY, Refusal};
+use std::alloc::Global;
+
+/// Whether a proof is accepted with this element.
+pub fn check_leaf<F: Family, H: Hasher<F>>(
+    hasher: &H,
+    proof: &Proof<F, H::Digest>,
+    element: &[u8],
+    leaf: Location<F>,
+    root: &H::Digest,
+) -> Result<bool, Refusal> {
+    let checked = proof.verify_element_inclusion(hasher, element, leaf, root);
+    checked.ok().ok_or(OUT_OF_MEMORY)
+}
+
+/// Whether a proof is accepted with these elements.
+pub fn check_range<F: Family, H: Hasher<F>>(
+    alloc: Global,
+    hasher: &H,
+    proof: &Proof<F, H::Digest>,
+    elements: &[Vec<u8>],
+    start: Location<F>,
+    root: &H::Digest,
+) -> Result<bool, Refusal> {
+    let all = slices(alloc, elements)?;
+    let checked = proof.verify_range_inclusion(hasher, &all, start, root);
+    checked.ok().ok_or(OUT_OF_MEMORY)
+}
+
+/// The elements, lent.
+pub fn slices<'a>(alloc: Global, elements: &'a [Vec<u8>]) -> Result<Vec<&'a [u8]>, Refusal> {
+    let mut all: Vec<&[u8]> = Vec::new(alloc);
+    for element in elements {
+        all.push(element.as_slice())?;
+    }
+    Ok(all)
+}
+
+/// How many leaves are proved, one after another for each number of inactive peaks.
+pub fn leaves_proved<F: Family, H: Hasher<F>>(
+    alloc: Global,
+    hasher: &H,
+    structure: &Mem<F, H::Digest>,
+    elements: &[Vec<u8>],
+) -> u64 {
+    let mut proved = 0u64;
+    for inactive in 0..=MOST_PEAKS {
+        let found = count_leaves(alloc, hasher, structure, elements, inactive);
+        proved = proved.saturating_add(found);
+    }
+    proved
+}
+
+// How many leaves are proved for a number of inactive peaks.
+fn count_leaves<F: Family, H: Hasher<F>>(
+    alloc: Global,
+    hasher: &H,
+    structure: &Mem<F, H::Digest>,
+    elements: &[Vec<u8>],
+    inactive: usize,
+) -> u64 {
+    let mut proved = 0u64;
+    for (leaf, element) in elements.iter().enumerate() {
+        let leaf = Location::from(leaf);
+        let element = element.as_slice();
+        if let Ok(true) = proves_leaf(alloc, hasher, structure, leaf, element, inactive) {
+            proved = proved.saturating_add(1);
+        }
+    }
+    proved
+}
+
+//// Whether the proof of a leaf, for a number of inactive peaks, has that count and the structure's, and is accepted with
+/// the element and refused with another.
+pub fn proves_leaf<F: Family, H: Hasher<F>>(
+    alloc: Global,
+    hasher: &H,
+    structure: &Mem<F, H::Digest>,
+    leaf: Location<F>,
+    element: &[u8],
+    inactive: usize,
+) -> Result<bool, Refusal> {
+    let root = granted!(structure.root(hasher, inactive));
+    let proof = granted!(structure.proof(hasher, leaf, inactive));
+    if proof.leaves != structure.leaves() || proof.inactive_peaks != inactive {
+        return Ok(false);
+    }
+    accepts_this_alone(alloc, hasher, &proof, element, leaf, &root)
+}
+
+// Whether a proof is accepted with the element and refused with another.
+fn accepts_this_alone<F: Family, H: Hasher<F>>(
+    alloc: Global,
+    hasher: &H,
+    proof: &Proof<F, H::Digest>,
+    element: &[u8],
+    leaf: Location<F>,
+    root: &H::Digest,
+) -> Result<bool, Refusal> {
+    let is_accepted = check_leaf(hasher, proof, element, leaf, root)?;
+    let other = changed(alloc, element)?;
+    let is_other_accepted = check_leaf(hasher, proof, other.as_slice(), leaf, root)?;
+    Ok(is_accepted && !is_other_accepted)
+}
+
+/// How many ranges are proved, one after another for each number of inactive peaks.
+pub fn ranges_proved<F: Family, H: Hasher<F>>(
+    alloc: Global,
+    hasher: &H,
+    structure: &Mem<F, H::Digest>,
+    elements: &[Vec<u8>],
+) -> u64 {
+    let mut proved = 0u64;
+    for inactive in 0..=MOST_PEAKS {
+        let found = count_ranges(alloc, hasher, structure, elements, inactive);
+        proved = proved.saturating_add(found);
+    }
+    proved
+}
+
+// How many ranges are proved for a number of inactive peaks.
+fn count_ranges<F: Family, H: Hasher<F>>(
+    alloc: Global,
+    hasher: &H,
+    structure: &Mem<F, H::Digest>,
+    elements: &[Vec<u8>],
+    inactive: usize,
+) -> u64 {
+    let mut proved = 0u64;
+    for start in 0..elements.len() {
+        let found = &elements[start..];
+        let more = count_ranges_from(alloc, hasher, structure, found, start, inactive);
+        proved = proved.saturating_add(more);
+    }
+    proved
+}
+
+// How many of the ranges from a location on are proved, each with the first so many of the elements.
+fn count_ranges_from<F: Family, H: Hasher<F>>(
+    alloc: Global,
+    hasher: &H,
+    structure: &Mem<F, H::Digest>,
+    elements: &[Vec<u8>],
+    start: usize,
+    inactive: usize,
+) -> u64 {
+    let mut proved = 0u64;
+    for count in 1..=elements.len() {
+        let found = &elements[..count];
+        if let Ok(true) = proves_range(alloc, hasher, structure, found, start, inactive) {
+            proved = proved.saturating_add(1);
+        }
+    }
+    proved
+}
+
+// Whether the proof of a range is accepted with its elements, and refused with another first one.
+fn proves_range<F: Family, H: Hasher<F>>(
+    alloc: Global,
+    hasher: &H,
+    structure: &Mem<F, H::Digest>,
+    elements: &[Vec<u8>],
+    start: usize,
+    inactive: usize,
+) -> Result<bool, Refusal> {
+    let first = Location::from(start);
+    let end = Location::from(start.saturating_add(elements.len()));
+    let root = granted!(structure.root(hasher, inactive));
+    let proof = granted!(structure.range_proof(hasher, first..end, inactive));
+    accept_these_alone(alloc, hasher, &proof, elements, first, &root)
+}
+
+// Whether a proof is accepted with the elements, and refused with another first one.
+fn accept_these_alone<F: Family, H: Hasher<F>>(
+    alloc: Global,
+    hasher: &H,
+    proof: &Proof<F, H::Digest>,
+    elements: &[Vec<u8>],
+    start: Location<F>,
+    root: &H::Digest,
+) -> Result<bool, Refusal> {
+    let is_accepted = check_range(alloc, hasher, proof, elements, start, root)?;
+    let others = with_another_first(alloc, elements)?;
+    let are_accepted = check_range(alloc, hasher, proof, others.as_slice(), start, root)?;
+    Ok(is_accepted && !are_accepted)
+}
+
+// The elements, with another in the place of the first.
+fn with_another_first(alloc: Global, elements: &[Vec<u8>]) -> Result<Vec<Vec<u8>>, Refusal> {
+    let mut others = Vec::new(alloc);
+    for (index, element) in elements.iter().enumerate() {
+        let other = if index == 0 {
+            changed(alloc, element.as_slice())?
+        } else {
+            element.clone()?
+        };
+        others.push(other)?;
+    }
+    Ok(others)
+}
