@@ -1,6 +1,6 @@
 -- The walks of the pinned check.
-use Rattle.std.proofs.Common.{◌≡◌, ◌≢◌, ℕ, zero, suc, ◌+◌, ◌<◌, ◌≤◌, Bool, true, false, cond, ◌||◌, List, [], ◌∷◌, ◌++◌, length, map, take, drop, get_or, Option, Some, None, IsTrue, ◌↔◌, refl, ap, ap₂, sym, ◌∙◌, subst, arith, inl, inr, add-one, length-append, take-append-drop}
-use Rattle.std.proofs.lemmas.Bool.{false≢true, ne_eqb, or_parts}
+use Rattle.std.proofs.Common.{◌≡◌, ◌≢◌, ℕ, suc, ◌+◌, ◌<◌, ◌≤◌, Bool, true, false, cond, ◌||◌, List, [], ◌∷◌, ◌++◌, length, map, take, drop, Option, Some, None, IsTrue, ◌↔◌, refl, ap, ap₂, sym, ◌∙◌, subst, arith, inl, inr, length-append, take-append-drop}
+use Rattle.std.proofs.lemmas.Bool.{false≢true, or_parts}
 use Rattle.std.proofs.lemmas.List.{length-take-le}
 use Rattle.merkle_base.proofs.Cases.{by_test}
 use Rattle.merkle_base.proofs.Growth.{forest_grown}
@@ -20,30 +20,7 @@ use Rattle.merkle_root_theory.proofs.Walks.{siblings_unmet, siblings_join}
 use Rattle.merkle_claim_theory.specs.MultiClaim.{or_empty}
 use Rattle.merkle_claim_theory.specs.PinnedClaim.{pinned_or, pin_tree}
 use Rattle.merkle_claim_theory.specs.Rebuilt.{AllRebuilt, rebuilt_node, rebuilt_part}
-use Rattle.merkle_claim_theory.specs.Table.{digest_for}
 use Rattle.merkle_claim_theory.proofs.RebuiltPins.{rebuilt_append, rebuilt_split}
-
--- ---- a digest by its position
-pub drop_get : {A : Type 0} (ps : List A) (i : ℕ) → i < length ps → (d : A) → drop i ps ≡ get_or ps i d ∷ drop (i + 1) ps
-drop_get [] i l d = absurd (omega arith)
-drop_get (p ∷ ps) zero l d = refl
-drop_get (p ∷ ps) (suc i) l d = drop_get ps i (omega arith) d ∙ ap (λ z. get_or ps i d ∷ z) (ap (λ n. drop n ps) (add-one i) ∙ sym (ap (λ n. drop n (p ∷ ps)) (add-one (suc i))))
-
-pub all_dropped : {A : Type 0} (ps : List A) (i : ℕ) → length ps ≤ i → drop i ps ≡ []
-all_dropped [] zero l = refl
-all_dropped [] (suc i) l = refl
-all_dropped (p ∷ ps) zero l = absurd (omega (arith, l))
-all_dropped (p ∷ ps) (suc i) l = all_dropped ps i (omega (arith, l))
-
-pub found_past : {D : Type 0} (ps qs : List ℕ) (ds es : List D) (q p : ℕ) (d : D) → ps ≡ q ∷ qs → ds ≡ d ∷ es → (q ≡ p → ⊥) → digest_for ps ds p ≡ digest_for qs es p
-found_past ps qs ds es q p d e f n = ap₂ (λ x y. digest_for x y p) e f ∙ ap (λ z. cond z (Some d) (digest_for qs es p)) (ne_eqb q p n)
-
-pub found_none : {D : Type 0} (ps : List ℕ) (ds : List D) (p : ℕ) → ds ≡ [] → digest_for ps ds p ≡ None
-found_none [] ds p e = refl
-found_none (q ∷ ps) ds p e = ap (λ z. digest_for (q ∷ ps) z p) e
-
-pub found_end : {D : Type 0} (ps : List ℕ) (ds : List D) (p : ℕ) → ps ≡ [] → digest_for ps ds p ≡ None
-found_end ps ds p e = ap (λ z. digest_for z ds p) e
 
 -- ---- a node rebuilt
 module _ (rule : List ℕ → List ℕ) (m p s : ℕ) (tall : ℕ) where

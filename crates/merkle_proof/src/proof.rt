@@ -233,10 +233,12 @@ impl<F: Family, D: Digest> Proof<F, D> {
             IfOk result (λ yes. ForRootOf s root.now (λ xs k. IsHonestPinned s xs k r pinned_nodes.now → IsTrue yes)) }
         ensures sound { let s = H.scheme hasher.now in
             let r = input_of s self.now start (bytes_of elements.now) in
-            IfOk result (λ yes. IsTrue yes → ForRootOf s root.now (λ xs k. IsHonestPinned s xs k r pinned_nodes.now ⊎ PinnedCollides s r pinned_nodes.now xs k)) }
+            IfOk result (λ yes. IsTrue yes
+            → ForRootOf s root.now (λ xs k. IsHonestPinned s xs k r pinned_nodes.now ⊎ PinnedCollides s r pinned_nodes.now xs k)) }
         ensures old_root { let s = H.scheme hasher.now in
             let r = input_of s self.now start (bytes_of elements.now) in
-            IfOk result (λ yes. IsTrue yes → ForRootOf s root.now (λ xs k. GivesOldRoot s xs start pinned_nodes.now ⊎ PinnedCollides s r pinned_nodes.now xs k)) }
+            IfOk result (λ yes. IsTrue yes
+            → ForRootOf s root.now (λ xs k. GivesOldRoot s xs start pinned_nodes.now ⊎ PinnedCollides s r pinned_nodes.now xs k)) }
     {
         verify_pinned(&self.parts(), hasher, elements, start, pinned_nodes, root)
     }

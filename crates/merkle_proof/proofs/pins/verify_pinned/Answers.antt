@@ -57,17 +57,15 @@ returns-then-len-pinned_nodes g c =
     let p = c.args.parts.now in
     let r = range_input s p.leaves p.inactive p.digests.now c.args.start (bytes_of c.args.elements.now) in
     let pins = c.args.pinned_nodes.now in let root = c.args.root.now in
-    let accepted = (leads_is_accepted s r root).0 (c.in_ok-verify_range.ensures.0 c.if-not-branch.false) in
     let h = g.H.Hasher.hashing c.args.hasher.now in let bagging = g.H.Hasher.bagging_of c.args.hasher.now in
     let rule = g.F.Family.rule in let most = g.F.Family.MAX_LEAVES in let domain = g.F.Family.DOMAIN in
     let is = g.met.H.Hasher.scheme_is c.args.hasher.now in
     let count = input_count h bagging rule most domain p.leaves p.inactive c.args.start p.digests.now c.args.elements.now s in
     let given : 0 < length c.args.elements.now = search rules in
     let some : 0 < length r.elements = omega (arith, given, count) in
-    let ok = some_accepted s r pins root some accepted in (
+    let rules_same = ap (λ (z : Scheme g.row.H-Digest.Denot). length (peaks_of z.rule c.args.start)) is in (
       (λ x. absurd (false≢true x)),
-      (λ v. absurd (c.if-len-pinned_nodes.true (
-          omega (arith, c.len.ensures, ap length c.in_ok-pins.ensures.positions, length-peak_positions rule c.args.start, pins_counted s r pins root some v, ap (λ (z : Scheme g.row.H-Digest.Denot). length (peaks_of z.rule c.args.start)) is)))),
+      (λ v. absurd (omega (arith, c.if-len-pinned_nodes.true, c.len.ensures, ap length c.in_ok-pins.ensures.positions, length-peak_positions rule c.args.start, pins_counted s r pins root some v, rules_same))),
     )
 
 pub add-requires : goal.add-requires
