@@ -145,7 +145,7 @@ part_is_accepted s r q root ok part = record {
 }
 
 -- ---- read from pairs
-found : {D : Type 0} (pairs : List (ℕ × D)) (x : ℕ × D) → Distinct (map (λ (y : ℕ × D). y.0) pairs) → Member pairs x → digest_for (map (λ (y : ℕ × D). y.0) pairs) (map (λ (y : ℕ × D). y.1) pairs) x.0 ≡ Some x.1
+pub found : {D : Type 0} (pairs : List (ℕ × D)) (x : ℕ × D) → Distinct (map (λ (y : ℕ × D). y.0) pairs) → Member pairs x → digest_for (map (λ (y : ℕ × D). y.0) pairs) (map (λ (y : ℕ × D). y.1) pairs) x.0 ≡ Some x.1
 found [] x u m = elim m [ ]
 found (y ∷ ys) x u (inl e) = ap (λ z. cond z (Some y.1) (digest_for (map (λ (y : ℕ × _). y.0) ys) (map (λ (y : ℕ × _). y.1) ys) x.0)) (eq-eqb y.0 x.0 (ap (λ (z : ℕ × _). z.0) e)) ∙ ap (λ (z : ℕ × _). Some z.1) e
 found (y ∷ ys) x u (inr m) = ap (λ z. cond z (Some y.1) (digest_for (map (λ (y : ℕ × _). y.0) ys) (map (λ (y : ℕ × _). y.1) ys) x.0)) (ne_eqb y.0 x.0 (λ e. u.0 (subst (Member (map (λ (y : ℕ × _). y.0) ys)) (sym e) (member_map (λ (y : ℕ × _). y.0) ys x m)))) ∙ found ys x u.1 m

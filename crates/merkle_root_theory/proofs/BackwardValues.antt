@@ -18,15 +18,15 @@ abbrev pub LastMet : (ℕ → Bool) → Tree → List Tree → Type 0
 LastMet c t [] = tree_meets c t ≡ true
 LastMet c t (u ∷ us) = LastMet c u us
 
-last_met : (c : ℕ → Bool) (t : Tree) (over : List Tree) → Met c (t ∷ over) → LastMet c t over
+pub last_met : (c : ℕ → Bool) (t : Tree) (over : List Tree) → Met c (t ∷ over) → LastMet c t over
 last_met c t [] m = m.0
 last_met c t (u ∷ over) m = last_met c u over m.1
 
-last_append : (c : ℕ → Bool) (b : Tree) (bs : List Tree) (t : Tree) (over : List Tree) → LastMet c t over → LastMet c b (bs ++ t ∷ over)
+pub last_append : (c : ℕ → Bool) (b : Tree) (bs : List Tree) (t : Tree) (over : List Tree) → LastMet c t over → LastMet c b (bs ++ t ∷ over)
 last_append c b [] t over m = m
 last_append c b (d ∷ bs) t over m = last_append c d bs t over m
 
-bag_met : (c : ℕ → Bool) (i : ℕ) (t : Tree) (ts after : List Tree) → LastMet c t ts → meets c (bag i t (ts ++ after)) ≡ true
+pub bag_met : (c : ℕ → Bool) (i : ℕ) (t : Tree) (ts after : List Tree) → LastMet c t ts → meets c (bag i t (ts ++ after)) ≡ true
 bag_met c i t [] [] m = m
 bag_met c i t [] (v ∷ vs) m = or_left (tree_meets c t) (meets c (bag (suc i) v vs)) m
 bag_met c i t (u ∷ us) after m = or_right (tree_meets c t) (meets c (bag (suc i) u (us ++ after))) (bag_met c (suc i) u us after m)
@@ -37,7 +37,7 @@ module _ {D : Type 0} (h : Hashing D) (c : ℕ → Bool) (X : ℕ → D) where
   bag_given i j v vs os is u = ap (value h) (claim_unmet h c X (bag i v vs) os is (bag_unmet c i v vs u) ∙ sym (claim_unmet h c X (bag j v vs) os is (bag_unmet c j v vs u)))
 
   -- the bag of peaks, the last of them met, and of others after them, which have one digest
-  bag_values : (i j : ℕ) (t : Tree) (ts after : List Tree) (os is : List D) → LastMet c t ts → Unmet c after
+  pub bag_values : (i j : ℕ) (t : Tree) (ts after : List Tree) (os is : List D) → LastMet c t ts → Unmet c after
       → root.bag h.fold (part_values h c X (map peak (t ∷ ts) ++ bag_all j after) os is) ≡ Some (value h (claim h c X (bag i t (ts ++ after)) os is))
   bag_values i j t [] [] os is m u = refl
   bag_values i j t [] (v ∷ vs) os is m u =

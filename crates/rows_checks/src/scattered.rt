@@ -44,7 +44,10 @@ pub fn check_scattered<F: Family, H: Hasher<F>>(
 ) -> Result<bool, Refusal> {
     let mut all: Vec<(&[u8], Location<F>)> = Vec::new(alloc);
     for element in elements {
-        all.push((element.bytes.as_slice(), Location::new(element.leaf)))?;
+        let located = (element.bytes.as_slice(), Location::new(element.leaf));
+        if all.push(located).is_err() {
+            return Err(OUT_OF_MEMORY);
+        }
     }
     let checked = proof.verify_multi_inclusion(hasher, &all, root);
     checked.ok().ok_or(OUT_OF_MEMORY)

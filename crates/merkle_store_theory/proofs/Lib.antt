@@ -1,0 +1,11 @@
+pub mod Flattened
+pub mod Gathered
+pub mod PairReads
+pub mod GroupedParts
+pub mod ClaimedParts
+pub mod RangeSplits
+pub mod StoreParts
+pub mod StoreProofs
+pub mod StoreHolds
+pub mod HonestStores
+pub mod PositionReads

@@ -1,0 +1,6 @@
+pub mod StoreValue
+pub mod StoreProof
+pub mod StoreLaws
+pub mod StoreRows
+pub mod StoreCode
+pub mod StoreReads
