@@ -4,6 +4,19 @@
 //! table to standard error, in nanoseconds of thread time a unit, and one fixed line to standard output.
 #![tactic(auto)]
 
+// The value of a result; without one, the measurement ends. This is no `?`, since that passes the error to `From::from`,
+// and the check has no rule for a call that takes an `Error` by value.
+macro_rules! granted {
+    ($result:expr) => {
+        match $result {
+            Ok(value) => value,
+            Err(_) => return Err(Halt::Refused),
+        }
+    };
+}
+
+mod proofs;
+mod scattered;
 mod stopwatch;
 mod trees;
 mod workload;

@@ -1,6 +1,6 @@
 //! The time that pieces of work take.
 
-use std::alloc::{AllocError, Global};
+use std::alloc::{AllocError, AllocFailed, Global};
 use std::fmt;
 use std::time::{CpuClock, Duration};
 use thiserror::Error;
@@ -127,6 +127,12 @@ impl<C> fmt::Display for Stopwatch<'_, C> {
 
 impl From<AllocError> for Halt {
     fn from(_error: AllocError) -> Self {
+        Halt::OutOfMemory
+    }
+}
+
+impl<T: Drop> From<AllocFailed<T>> for Halt {
+    fn from(_error: AllocFailed<T>) -> Self {
         Halt::OutOfMemory
     }
 }

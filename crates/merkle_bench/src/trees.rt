@@ -1,5 +1,7 @@
 //! The calls that are measured, at one family and one hash.
 
+use crate::proofs::Proofs;
+use crate::scattered::Scattered;
 use crate::stopwatch::{Halt, Stopwatch};
 use crate::workload::{Element, Workload};
 use merkle_core::batch::UnmerkleizedBatch;
@@ -9,20 +11,8 @@ use merkle_core::hasher::{Hasher, Standard};
 use merkle_core::location::Location;
 use merkle_core::mem::Mem;
 use merkle_core::position::Position;
-use merkle_core::proof::Proof;
 use std::alloc::Global;
 use std::time::CpuClock;
-
-// The value of a result; without one, the measurement ends. This is no `?`, since that passes the error to `From::from`,
-// and the check has no rule for a call that takes an `Error` by value.
-macro_rules! granted {
-    ($result:expr) => {
-        match $result {
-            Ok(value) => value,
-            Err(_) => return Err(Halt::Refused),
-        }
-    };
-}
 
 /// What is measured at one family and one hash, under a name in the table.
 #[derive(Drop)]
@@ -135,72 +125,32 @@ impl<H: PlainHasher> Trees<H> {
         &self,
         watch: &mut Stopwatch<C>,
         structure: &Mem<F, H::Digest>,
-    ) -> Result<H::Digest, Halt> {
+    ) -> Result<(), Halt> {
         let units = 100;
-        let mut root = H::Digest::EMPTY;
         let start = watch.now();
         for _ in 0..units {
-            root = granted!(structure.root(&self.hasher, 0));
+            let root = granted!(structure.root(&self.hasher, 0));
             watch.keep(root.as_bytes());
         }
         watch.note(self.name, "root", units, start);
-        Ok(root)
-    }
-
-    // Proofs of these leaves, one for each.
-    fn prove_all<F: Family>(
-        &self,
-        structure: &Mem<F, H::Digest>,
-        leaves: &[u64],
-    ) -> Result<Vec<Proof<F, H::Digest>>, Halt> {
-        let mut proofs = Vec::new(self.alloc);
-        for leaf in leaves {
-            let proof = granted!(structure.proof(&self.hasher, Location::new(*leaf), 0));
-            if proofs.push(proof).is_err() {
-                return Err(Halt::OutOfMemory);
-            }
-        }
-        Ok(proofs)
-    }
-
-    // Checks the proofs of these leaves.
-    fn check_all<F: Family>(
-        &self,
-        proofs: &[Proof<F, H::Digest>],
-        elements: &[Element],
-        leaves: &[u64],
-        root: &H::Digest,
-    ) -> Result<(), Halt> {
-        for (proof, leaf) in proofs.iter().zip(leaves) {
-            let Some(element) = elements.get(*leaf as usize) else {
-                return Err(Halt::Refused);
-            };
-            let location = Location::new(*leaf);
-            let is_right = proof.verify_element_inclusion(&self.hasher, element, location, root);
-            if !granted!(is_right) {
-                return Err(Halt::Refused);
-            }
-        }
         Ok(())
     }
 
-    // Proofs of scattered leaves, one for each, and their checks.
+    // Proofs of leaves and ranges, and their checks, by both baggings, and of scattered leaves together.
     fn proofs<F: Family, C: CpuClock>(
         &self,
         watch: &mut Stopwatch<C>,
         structure: &Mem<F, H::Digest>,
         elements: &[Element],
         leaves: &[u64],
-        root: &H::Digest,
     ) -> Result<(), Halt> {
-        let units = leaves.len() as u64;
-        let start = watch.now();
-        let proofs = self.prove_all(structure, leaves)?;
-        watch.note(self.name, "proof of one", units, start);
-        let start = watch.now();
-        self.check_all(&proofs, elements, leaves, root)?;
-        watch.note(self.name, "check of one", units, start);
-        Ok(())
+        let elements = views(self.alloc, elements)?;
+        let forward: Proofs<H> = Proofs::new(self.alloc, self.name, Bagging::ForwardFold);
+        forward.run(watch, structure, &elements, leaves)?;
+        let backward: Proofs<H> = Proofs::new(self.alloc, self.name, Bagging::BackwardFold);
+        backward.run(watch, structure, &elements, leaves)?;
+        let scattered: Scattered<H> = Scattered::new(self.alloc, self.name);
+        scattered.run(watch, structure, &elements, leaves)
     }
 
     // A copy, which is pruned to its half.
@@ -301,8 +251,8 @@ impl<H: PlainHasher> Trees<H> {
     ) -> Result<(), Halt> {
         self.append_at_once(watch, structure, elements)?;
         self.append_one_by_one::<F, C>(watch, elements)?;
-        let root = self.roots(watch, structure)?;
-        self.proofs(watch, structure, elements, scattered, &root)?;
+        self.roots(watch, structure)?;
+        self.proofs(watch, structure, elements, scattered)?;
         self.prune(watch, structure)?;
         self.update(watch, structure, scattered)?;
         self.locations::<F, C>(watch, elements.len() as u64, scattered)?;
@@ -321,6 +271,17 @@ impl<H: PlainHasher> Trees<H> {
         let mut structure: Mem<F, H::Digest> = Mem::new(self.alloc);
         self.calls(watch, &mut structure, elements, &scattered)
     }
+}
+
+// The elements as slices.
+fn views<'a>(alloc: Global, elements: &'a [Element]) -> Result<Vec<&'a [u8]>, Halt> {
+    let mut all: Vec<&[u8]> = Vec::new(alloc);
+    for element in elements {
+        if all.push(element.as_slice()).is_err() {
+            return Err(Halt::OutOfMemory);
+        }
+    }
+    Ok(all)
 }
 
 /// Measures all calls at a family and a hash, in as many rounds as the workload has, under that name in the table.
