@@ -5,7 +5,6 @@ use Rattle.std.proofs.lemmas.List.{length-take-le, length-drop, map-id}
 use Rattle.merkle_base.specs.Tree.{Tree, leaf, join, position, IsBuilt}
 use Rattle.merkle_base.specs.Forest.{forest}
 use Rattle.merkle_base.specs.Hashing.{Hashing}
-use Rattle.merkle_base.specs.Digests.{digest_at}
 use Rattle.merkle_base.specs.Places.{peaks_of, wholly_before}
 use Rattle.merkle_base.proofs.Nodes.{all_append}
 use Rattle.merkle_root_theory.specs.Plan.{Plan, siblings, tree_meets, tree_digest, plan_digest}
@@ -38,7 +37,7 @@ siblings_at ns c (join p l r) w =
     by_test (λ b. AllByRecursion (λ u. slice_get ns (position u) ≡ Some u) (cond b (siblings c l ++ siblings c r) (join p l r ∷ []))) (tree_meets c l || tree_meets c r)
     (λ _. all_append (λ u. slice_get ns (position u) ≡ Some u) (siblings c l) (siblings c r) (siblings_at ns c l w.4) (siblings_at ns c r w.5)) (λ _. (w.0, tt))
 
-pub all_siblings_at : (ns : List Tree) (c : ℕ → Bool) (ts : List Tree) → AllByRecursion (IsBuilt ns) ts → AllByRecursion (λ u. slice_get ns (position u) ≡ Some u) (flat_map (siblings c) ts)
+all_siblings_at : (ns : List Tree) (c : ℕ → Bool) (ts : List Tree) → AllByRecursion (IsBuilt ns) ts → AllByRecursion (λ u. slice_get ns (position u) ≡ Some u) (flat_map (siblings c) ts)
 all_siblings_at ns c [] w = tt
 all_siblings_at ns c (t ∷ ts) w = all_append (λ u. slice_get ns (position u) ≡ Some u) (siblings c t) (flat_map (siblings c) ts) (siblings_at ns c t w.0) (all_siblings_at ns c ts w.1)
 

@@ -13,7 +13,8 @@ pub mod RefusedProofs
 pub mod FewDigests
 pub mod PeakWalk
 pub mod MultiRefusals
-pub mod ListedPositions
+pub mod ReadOnce
+pub mod ScatteredPositions
 pub mod ToldTable
 pub mod ScatteredElements
 pub mod ScatteredWalk

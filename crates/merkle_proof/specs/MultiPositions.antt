@@ -1,12 +1,11 @@
 -- Locations of leaves that are proved together: why some are refused, and what their proofs read.
-use Rattle.std.specs.Prelude.{◌≡◌, ℕ, Bool, true, ◌+◌, ◌≤◌, ◌<◌, nat_eq, nat_le, nat_lt, List, [], ◌∷◌, ◌++◌, length, map}
+use Rattle.std.specs.Prelude.{ℕ, Bool, true, cond, not, ◌+◌, ◌≤◌, ◌<◌, nat_eq, nat_le, nat_lt, List, [], ◌∷◌, ◌++◌, length, map, filter}
 use Rattle.std.specs.List.{AllByRecursion, flat_map}
-use Rattle.merkle_base.specs.Tree.{position}
+use Rattle.merkle_base.specs.Tree.{Tree, leaf, join, position, first_leaf, end_leaf}
 use Rattle.merkle_base.specs.Places.{peaks_of}
 use Rattle.merkle_base.specs.declared.error.Error.{Error}
 use Rattle.merkle_base.specs.declared.error.Error.TheVariants.{Empty, RangeOutOfBounds, LocationOverflow, DuplicateLocation, UnsortedLocation}
 use Rattle.merkle_claim_theory.specs.Ascending.{AscendsFrom}
-use Rattle.merkle_claim_theory.specs.Multiproof.{one_leaf_nodes}
 
 -- some leaves of a list of n, strictly ascending, and a list may have n
 pub record AreLocations (max_leaves n : ℕ) (locations : List ℕ) : Type 0 where
@@ -32,6 +31,37 @@ abbrev pub multi_refusals : {F : Type 0} → (max_leaves n : ℕ) → List ℕ �
 multi_refusals max_leaves n [] = (true, Empty) ∷ []
 multi_refusals max_leaves n (i ∷ is) = location_refusals max_leaves n i ++ (nat_lt max_leaves n, LocationOverflow n) ∷ later_refusals max_leaves n i is
 
--- the positions of the nodes that the proofs of some leaves read, one proof after another
-abbrev pub listed_positions : (List ℕ → List ℕ) → ℕ → List ℕ → List ℕ
-listed_positions rule n locations = flat_map (λ i. map position (one_leaf_nodes i (peaks_of rule n))) locations
+-- of some locations those before another
+abbrev pub those_before : ℕ → List ℕ → List ℕ
+those_before e is = filter (λ i. nat_lt i e) is
+
+-- and those from it on
+abbrev pub those_from : ℕ → List ℕ → List ℕ
+those_from e is = filter (λ i. nat_le e i) is
+
+-- those of leaves under a node
+abbrev pub under : Tree → List ℕ → List ℕ
+under t is = those_before (end_leaf t) (those_from (first_leaf t) is)
+
+-- whether there are some
+abbrev pub are_some : List ℕ → Bool
+are_some is = not (nat_eq (length is) 0)
+
+-- a node that is read
+abbrev pub node_if : Bool → Tree → List Tree
+node_if b t = cond b (t ∷ []) []
+
+-- the nodes below a node that the proofs of the leaves at some locations under it read, each once, in the order of the nodes
+abbrev pub read_below : List ℕ → Tree → List Tree
+read_below is (leaf p i) = []
+read_below is (join p l r) =
+    read_below (those_before (first_leaf r) is) l ++ node_if (are_some (those_from (first_leaf r) is)) l
+    ++ read_below (those_from (first_leaf r) is) r ++ node_if (are_some (those_before (first_leaf r) is)) r
+
+-- and those of a peak: it is read itself where some location is not under it
+abbrev pub read_in : List ℕ → Tree → List Tree
+read_in is t = read_below (under t is) t ++ node_if (nat_lt (length (under t is)) (length is)) t
+
+-- the positions of all that the proofs of some leaves read, one peak after another
+abbrev pub positions_read : (List ℕ → List ℕ) → ℕ → List ℕ → List ℕ
+positions_read rule n is = map position (flat_map (read_in is) (peaks_of rule n))

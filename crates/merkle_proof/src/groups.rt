@@ -136,8 +136,8 @@ impl<F: Family> Groups<F> {
     }
 }
 
-/// Appends the positions of the maximal nodes outside the range under the peaks, left to right.
-pub(crate) fn append_siblings<F: Family>(
+// Appends the positions of the maximal nodes outside the range under the peaks, left to right.
+fn append_siblings<F: Family>(
     peaks: &[Subtree<F>],
     range: &Range<Location<F>>,
     out: &mut Vec<Position<F>>,

@@ -1,19 +1,20 @@
 //! The positions that a proof of scattered leaves reads.
-ghost use Rattle.std.specs.Prelude.{◌≡◌, ◌≢◌, ◌+◌, ◌<◌, ◌≤◌, ◌∷◌, List, ℕ, Some, IfOk, IfErr};
+ghost use Rattle.std.specs.Prelude.{◌≡◌, ◌≢◌, ◌+◌, ◌<◌, ◌≤◌, [], ◌∷◌, ◌++◌, List, ℕ, Some, IfOk, IfErr, cond, take, drop, map, length};
 ghost use Rattle.std.specs.List.{AllByRecursion};
-ghost use Rattle.std.specs.List.Sorted.{IsStrictlyIncreasing};
+ghost use Rattle.std.specs.List.Sorted.{IsNonDecreasing, IsStrictlyIncreasing};
 ghost use Rattle.merkle_base.specs.Cases.{first_case};
+ghost use Rattle.merkle_base.specs.Tree.{Tree, position};
 ghost use Rattle.merkle_claim_theory.specs.Ascending.{AscendsFrom};
 ghost use Rattle.merkle_claim_theory.specs.Multiproof.{multi_positions};
-ghost use Rattle.merkle_proof.specs.MultiPositions.{AreLocations, location_refusals, later_refusals, multi_refusals, listed_positions};
+ghost use Rattle.merkle_hasher.specs.Subtrees.{Means};
+ghost use Rattle.merkle_proof.specs.MultiPositions.{AreLocations, location_refusals, later_refusals, multi_refusals, those_before, those_from, read_below, positions_read};
 
-use crate::groups::append_siblings;
-use crate::peaks::peak_subtrees;
 use crate::positions::ascending;
 use merkle_base::error::Error;
 use merkle_base::family::Family;
 use merkle_base::location::Location;
 use merkle_base::position::Position;
+use merkle_hasher::subtree::Subtree;
 use std::alloc::{AllocError, Global};
 
 /// The positions of all that a proof of some leaves of a list of that many reads, ascending, each once.
@@ -50,27 +51,83 @@ pub fn multi_proof_positions<F: Family>(
     if let Err(error) = check_locations(leaves, locations) {
         return Err(error);
     }
-    let positions = one_leaf_positions(alloc, leaves, locations)?;
+    let positions = scattered_positions(alloc, leaves, locations)?;
     Ok(ascending(positions))
 }
 
-// The positions that the proofs of single leaves read, one proof after another.
-fn one_leaf_positions<F: Family>(
+// The positions that the proofs of single leaves at the locations, which ascend, read.
+fn scattered_positions<F: Family>(
     alloc: Global,
     leaves: Location<F>,
     locations: &[Location<F>],
 ) -> Result<Vec<Position<F>>, AllocError>
-    requires below { AllByRecursion (λ i. i < leaves) locations.now }
+    requires ascend { IsNonDecreasing locations.now }
     requires small { leaves ≤ F.MAX_LEAVES }
-    ensures { IfOk result (λ v. v.items ≡ listed_positions F.rule leaves locations.now) }
+    ensures { IfOk result (λ v. v.items ≡ positions_read F.rule leaves locations.now) }
 {
-    let peaks = peak_subtrees(alloc, leaves)?;
     let mut positions = Vec::new(alloc);
-    for location in locations {
-        let range = *location..*location + 1;
-        append_siblings(&peaks, &range, &mut positions)?;
+    let mut rest = locations;
+    let mut first_leaf = Location::new(0);
+    for (position, height) in F::peaks(F::location_to_position(leaves)) {
+        let peak = Subtree {
+            position,
+            height,
+            first_leaf,
+        };
+        first_leaf = peak.leaf_end();
+        let (under, others) = rest.split_at(count_before(rest, first_leaf));
+        collect_scattered(&peak, under, &mut positions)?;
+        append_if(under.len() < locations.len(), position, &mut positions)?;
+        rest = others;
     }
     Ok(positions)
+}
+
+// Appends the positions of the nodes below a node that the proofs of single leaves at the locations read, each once.
+//
+// The locations ascend, and each is that of a leaf under the node.
+fn collect_scattered<F: Family>(
+    subtree: &Subtree<F>,
+    locations: &[Location<F>],
+    out: &mut Vec<Position<F>>,
+) -> Result<(), AllocError>
+    requires node { (t : Tree) × Means F.rule F.MAX_LEAVES subtree.now t }
+    requires ascend { IsNonDecreasing locations.now }
+    ensures { IfOk result (λ _. (t : Tree) → Means F.rule F.MAX_LEAVES subtree.now t
+        → out.new.items ≡ out.old.items ++ map position (read_below locations.now t)) }
+{
+    if subtree.height == 0 || locations.is_empty() {
+        return Ok(());
+    }
+    let (left, right) = subtree.children();
+    let (first, second) = locations.split_at(count_before(locations, right.first_leaf));
+    collect_scattered(&left, first, out)?;
+    append_if(!second.is_empty(), left.position, out)?;
+    collect_scattered(&right, second, out)?;
+    append_if(!first.is_empty(), right.position, out)
+}
+
+// How many of the locations, which ascend, are before the end.
+fn count_before<F>(locations: &[Location<F>], end: Location<F>) -> usize
+    requires ascend { IsNonDecreasing locations.now }
+    ensures bound { result ≤ length locations.now }
+    ensures parts { (take result locations.now ≡ those_before end locations.now) × (drop result locations.now ≡ those_from end locations.now) }
+{
+    locations.partition_point(|location| *location < end)
+}
+
+// Appends a position that is read.
+fn append_if<F>(
+    is_read: bool,
+    position: Position<F>,
+    out: &mut Vec<Position<F>>,
+) -> Result<(), AllocError>
+    ensures { IfOk result (λ _. out.new.items ≡ out.old.items ++ cond is_read (position ∷ []) []) }
+{
+    if is_read {
+        out.push(position)?;
+    }
+    Ok(())
 }
 
 // Whether the locations are some of that many leaves, strictly ascending.
