@@ -17,6 +17,6 @@ pub mod proof;
 pub mod range_plan;
 mod reading;
 mod siblings;
-mod told;
+pub mod told;
 
 pub use merkle_hasher::{hasher, path, read};

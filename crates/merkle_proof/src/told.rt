@@ -1,4 +1,4 @@
-//! The digests that a proof of scattered leaves tells.
+//! Digests that are told by position.
 ghost use Rattle.std.specs.Prelude.{◌≡◌};
 ghost use Rattle.std.specs.Option.{unwrap_or};
 ghost use Rattle.std.specs.List.Sorted.{IsStrictlyIncreasing};
@@ -12,18 +12,18 @@ use merkle_base::family::Family;
 use merkle_base::position::Position;
 use merkle_digest::digest::Digest;
 
-/// Digests of nodes by position, which a proof tells.
+/// Digests of nodes by position, as a proof of scattered leaves tells them.
 #[derive(Drop)]
-pub(crate) struct Told<'a, F, D> {
+pub struct Told<'a, F, D> {
     /// Ascending, each once.
-    pub(crate) positions: &'a [Position<F>],
+    pub positions: &'a [Position<F>],
     /// One for each position.
-    pub(crate) digests: &'a [D],
+    pub digests: &'a [D],
 }
 
 impl<F: Family, D: Digest> Told<'_, F, D> {
-    /// The digest that is told at a position.
-    fn get(&self, position: Position<F>) -> Option<D>
+    /// The digest that is told at a position, or `None` where none is.
+    pub fn get(&self, position: Position<F>) -> Option<D>
         requires { IsStrictlyIncreasing self.now.positions.now }
         ensures { result ≡ digest_for self.now.positions.now self.now.digests.now position }
     {

@@ -1,0 +1,56 @@
+-- Proofs of scattered leaves over nodes that show a list.
+use Rattle.std.proofs.Common.{◌≡◌, ℕ, ◌<◌, List, [], ◌∷◌, length, map, Option, Some, inl, refl, ap, ap₂, sym, ◌∙◌, subst, arith}
+use Rattle.std.specs.List.{AllByRecursion}
+use Rattle.std.proofs.lemmas.List.{length-map}
+use Rattle.merkle_base.specs.Forest.{forest, size}
+use Rattle.merkle_base.specs.Digests.{digest_at}
+use Rattle.merkle_base.specs.Scheme.{Scheme}
+use Rattle.merkle_base.specs.Shows.{Shows}
+use Rattle.merkle_base.proofs.Lists.{cons_head, cons_tail}
+use Rattle.merkle_base.proofs.Nodes.{size_inj}
+use Rattle.merkle_root_theory.specs.Range.{leaf_of}
+use Rattle.merkle_root_theory.proofs.ListRoots.{digest_at_is}
+use Rattle.merkle_batch_theory.proofs.Kept.{get_mapped}
+use Rattle.merkle_claim_theory.specs.Ascending.{AscendsFrom}
+use Rattle.merkle_claim_theory.specs.Multiproof.{IsHonestMulti, multi_positions}
+use Rattle.merkle_claim_theory.specs.Table.{digest_of, digest_at_position}
+use Rattle.merkle_proof.specs.declared.proof.Proof.{Proof}
+use Rattle.merkle_verification.specs.ReaderProofs.{IsBuiltMulti, multi_list_input}
+
+-- numbers with a value at each: the numbers, and the values
+map-first : {D : Type 0} (f : ℕ → D) (is : List ℕ) → map (λ (e : ℕ × D). e.0) (map (λ i. (i, f i)) is) ≡ is
+map-first f [] = refl
+map-first f (i ∷ is) = ap (λ (js : List ℕ). i ∷ js) (map-first f is)
+
+map-second : {D : Type 0} (f : ℕ → D) (is : List ℕ) → map (λ (e : ℕ × D). e.1) (map (λ i. (i, f i)) is) ≡ map f is
+map-second f [] = refl
+map-second f (i ∷ is) = ap (λ ds. f i ∷ ds) (map-second f is)
+
+module _ {D : Type 0} (s : Scheme D) (m : ℕ) (node : ℕ → Option D) (X : List D) (shows : Shows s.hashing s.rule m node X) where
+  shown_at : (p : ℕ) (d : D) → node p ≡ Some d → d ≡ digest_at_position s X p
+  shown_at p d e =
+      let w = get_mapped (digest_at s.hashing X) (forest s.rule (length X)).nodes p d (shows.right p d e) in
+      w.2 ∙ digest_at_is s.hashing X w.0 ∙ sym (ap (digest_of s.hashing (leaf_of s.hashing X)) w.1)
+
+  all_shown : (ps : List ℕ) (ds : List D) → map Some ds ≡ map node ps → ds ≡ map (digest_at_position s X) ps
+  all_shown [] [] e = refl
+  all_shown [] (d ∷ ds) e = absurd (cc)
+  all_shown (p ∷ ps) [] e = absurd (cc)
+  all_shown (p ∷ ps) (d ∷ ds) e = ap₂ (λ x xs. x ∷ xs) (shown_at p d (sym (cons_head _ _ _ _ e))) (all_shown ps ds (cons_tail _ _ _ _ e))
+
+  -- the proof is the list's honest one
+  pub honest_multi : {F P Q : Type 0} (max_leaves k n : ℕ) (locations : List ℕ) (p : Proof F D P Q) → size s.rule n ≡ m → IsBuiltMulti s.rule max_leaves node k n locations p
+      → IsHonestMulti s X k (multi_list_input p s.hashing X locations)
+  honest_multi max_leaves k n locations p sized built =
+      let f = leaf_of s.hashing X in
+      let long : n ≡ length X = size_inj s.rule n (length X) (sized ∙ shows.sized) in
+      let at = map-first f locations in
+      inl (record {
+        some = omega (arith, built.within.some, length-map {B = ℕ × D} locations (λ i. (i, f i)));
+        ascend = subst (AscendsFrom 0) (sym at) built.within.ascend;
+        below = subst (AllByRecursion (λ i. i < length X)) (sym at) (subst (λ (l : ℕ). AllByRecursion (λ i. i < l) locations) long built.within.below);
+        leaves = built.leaves ∙ long;
+        inactive = built.inactive;
+        digests = all_shown (multi_positions s.rule n locations) p.digests.items built.digests ∙ ap₂ (λ l is. map (digest_at_position s X) (multi_positions s.rule l is)) long (sym at);
+        elements = map-second f locations ∙ ap (map f) (sym at);
+      })

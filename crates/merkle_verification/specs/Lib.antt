@@ -1,0 +1,2 @@
+pub mod ReaderRefusals
+pub mod ReaderProofs

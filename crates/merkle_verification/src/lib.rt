@@ -1,0 +1,4 @@
+//! Proofs over what holds nodes.
+#![tactic(auto)]
+
+pub mod readers;

@@ -1,0 +1,286 @@
+//! Proofs over what holds nodes.
+ghost use Rattle.std.specs.Prelude.{◌≡◌, ◌≢◌, ◌<◌, ◌≤◌, ℕ, List, Some, length, map, take, IfOk, IfErr, IsOkUnless};
+ghost use Rattle.std.specs.List.Sorted.{IsStrictlyIncreasing};
+ghost use Rattle.merkle_base.specs.Forest.{size};
+ghost use Rattle.merkle_base.specs.Places.{peaks_of};
+ghost use Rattle.merkle_base.specs.Scheme.{Scheme};
+ghost use Rattle.merkle_base.specs.Shows.{Shows};
+ghost use Rattle.merkle_root_theory.specs.Range.{IsHonestRange};
+ghost use Rattle.merkle_claim_theory.specs.Multiproof.{IsHonestMulti, multi_positions};
+ghost use Rattle.merkle_claim_theory.specs.Table.{digest_for};
+ghost use Rattle.merkle_proof.specs.MultiPositions.{AreLocations};
+ghost use Rattle.merkle_proof.specs.Positions.{range_positions};
+ghost use Rattle.merkle_proof.specs.RangePlans.{AnswersList, IsBuildRefusal, IsBuiltProof, IsFirstMissing, LeafRange, list_input};
+ghost use Rattle.merkle_verification.specs.ReaderProofs.{IsBuiltMulti, multi_list_input};
+ghost use Rattle.merkle_verification.specs.ReaderRefusals.{AreHeld, IsHistoricalRefusal, IsLocationsRefusal, IsMultiRefusal};
+ghost use Rattle.merkle_verification.specs.ReaderRefusals.{IsReadRefusal, IsReaderRefusal, IsSizeRefusal};
+
+use merkle_base::error::Error;
+use merkle_base::family::Family;
+use merkle_base::location::Location;
+use merkle_base::position::Position;
+use merkle_digest::digest::Digest;
+use merkle_hasher::hasher::Hasher;
+use merkle_hasher::read::Readable;
+use merkle_proof::multi::multi_proof_positions;
+use merkle_proof::proof::Proof;
+use merkle_proof::range_plan::RangePlan;
+use merkle_proof::told::Told;
+use std::alloc::Global;
+use std::ops::Range;
+
+/// The proof of a range of the leaves that a reader's nodes have, with a number of peaks that count as inactive.
+///
+/// Where the reader shows a list, it is the list's honest proof of the range. The size may be one that the reader hasn't
+/// got: no loop and no memory grows with it, only with the positions that the proof reads.
+///
+/// # Errors
+///
+/// The first that applies:
+/// - `PositionOverflow` of the reader's size where it exceeds `MAX_NODES`
+/// - `NonLeaf` of it where no leaf count has so many nodes
+/// - `Empty` where the range has no leaves
+/// - `RangeOutOfBounds` of its end where that is past the leaf count
+/// - `InvalidProof` where the number exceeds that of the peaks
+/// - `ElementPruned` of the least position that the proof reads and the reader has no node at
+///
+/// `OutOfMemory` wherever there is no memory.
+pub fn range_proof<R: Readable, H: Hasher<R::Family, Digest = R::Digest>>(
+    alloc: Global,
+    hasher: &H,
+    reader: &R,
+    range: Range<Location<R::Family>>,
+    inactive: usize,
+) -> Result<Proof<R::Family, R::Digest>, Error<R::Family>>
+    ensures sized { IfOk result (λ p. size R.Family.rule p.leaves ≡ R.size reader.now) }
+    ensures built { let s = H.scheme hasher.now in
+        IfOk result (λ p. IsBuiltProof s (R.node reader.now) inactive (record { leaves = p.leaves; start = range.start; end = range.end }) p) }
+
+    // It is the honest proof of every list that the reader shows.
+    ensures honest { let s = H.scheme hasher.now in
+        (X : List R.Digest) → Shows (H.hashing hasher.now) R.Family.rule (R.size reader.now) (R.node reader.now) X
+        → IfOk result (λ p. IsHonestRange s X inactive (list_input p X range.start range.end)) }
+    ensures held { (n : ℕ) → size R.Family.rule n ≡ R.size reader.now → range.start < range.end → range.end ≤ n → n ≤ R.Family.MAX_LEAVES
+        → inactive ≤ length (peaks_of R.Family.rule n) → AreHeld (R.node reader.now) (range_positions R.Family.rule n range.start range.end)
+        → IsOkUnless result Error.OutOfMemory }
+    ensures err { let rule = R.Family.rule in let max_nodes = R.Family.MAX_NODES in let max_leaves = R.Family.MAX_LEAVES in
+        IfErr result (λ e. e ≢ Error.OutOfMemory
+        → IsReaderRefusal rule max_nodes max_leaves (R.size reader.now) range.start range.end inactive (R.node reader.now) e) }
+{
+    match leaf_count(reader.size()) {
+        Ok(leaves) => historical_range_proof(alloc, hasher, reader, leaves, range, inactive),
+        Err(error) => Err(error),
+    }
+}
+
+/// The proof of a range of the first leaves, as many as are given, from the nodes of a reader that may have more, with a
+/// number of peaks that count as inactive.
+///
+/// Where the reader shows a list, it is the honest proof of the range of the list of its first leaves.
+///
+/// # Errors
+///
+/// The first that applies:
+/// - `Empty` where the range has no leaves
+/// - `RangeOutOfBounds` of its end where that is past the given leaf count
+/// - `LocationOverflow` of the leaf count where it exceeds `MAX_LEAVES`
+/// - `InvalidProof` where the number exceeds that of the peaks
+/// - `ElementPruned` of the least position that the proof reads and the reader has no node at
+///
+/// `OutOfMemory` wherever there is no memory.
+pub fn historical_range_proof<R: Readable, H: Hasher<R::Family, Digest = R::Digest>>(
+    alloc: Global,
+    hasher: &H,
+    reader: &R,
+    leaves: Location<R::Family>,
+    range: Range<Location<R::Family>>,
+    inactive: usize,
+) -> Result<Proof<R::Family, R::Digest>, Error<R::Family>>
+    ensures built { let s = H.scheme hasher.now in
+        IfOk result (λ p. IsBuiltProof s (R.node reader.now) inactive (record { leaves = leaves; start = range.start; end = range.end }) p) }
+
+    // It is the honest proof of the first leaves of every list that the reader shows.
+    ensures honest { let s = H.scheme hasher.now in
+        (X : List R.Digest) → Shows (H.hashing hasher.now) R.Family.rule (R.size reader.now) (R.node reader.now) X → leaves ≤ length X
+        → IfOk result (λ p. IsHonestRange s (take leaves X) inactive (list_input p (take leaves X) range.start range.end)) }
+    ensures held { range.start < range.end → range.end ≤ leaves → leaves ≤ R.Family.MAX_LEAVES → inactive ≤ length (peaks_of R.Family.rule leaves)
+        → AreHeld (R.node reader.now) (range_positions R.Family.rule leaves range.start range.end) → IsOkUnless result Error.OutOfMemory }
+    ensures err { IfErr result (λ e. e ≢ Error.OutOfMemory
+        → IsHistoricalRefusal R.Family.rule R.Family.MAX_LEAVES leaves range.start range.end inactive (R.node reader.now) e) }
+{
+    match RangePlan::new(alloc, leaves, range) {
+        Ok(plan) => prove_plan(alloc, hasher, reader, plan, inactive),
+        Err(error) => Err(error),
+    }
+}
+
+// The proof of a plan over the nodes of a reader.
+fn prove_plan<R: Readable, H: Hasher<R::Family, Digest = R::Digest>>(
+    alloc: Global,
+    hasher: &H,
+    reader: &R,
+    plan: RangePlan<R::Family>,
+    inactive: usize,
+) -> Result<Proof<R::Family, R::Digest>, Error<R::Family>>
+    requires small { plan.leaves ≤ R.Family.MAX_LEAVES }
+    ensures built { let s = H.scheme hasher.now in IfOk result (λ p. IsBuiltProof s (R.node reader.now) inactive plan p) }
+    ensures honest { let s = H.scheme hasher.now in
+        (X : List R.Digest) → Shows (H.hashing hasher.now) R.Family.rule (R.size reader.now) (R.node reader.now) X → plan.leaves ≤ length X
+        → IfOk result (λ p. IsHonestRange s (take plan.leaves X) inactive (list_input p (take plan.leaves X) plan.start plan.end)) }
+    ensures err { let rule = R.Family.rule in
+        IfErr result (λ e. e ≢ Error.OutOfMemory
+        → IsReadRefusal rule plan.leaves inactive (R.node reader.now) (range_positions rule plan.leaves plan.start plan.end) e) }
+{
+    if inactive > peak_count(plan.leaves()) {
+        return Err(Error::InvalidProof);
+    }
+    let positions = plan.positions()?;
+    match read_nodes(alloc, reader, &positions) {
+        Ok(digests) => build_proof(plan, hasher, inactive, &positions, &digests),
+        Err(error) => Err(error),
+    }
+}
+
+/// The proof of the leaves at some locations, of those that a reader's nodes have, with a number of peaks that count as
+/// inactive.
+///
+/// Its digests are those of the nodes at the positions of
+/// [`multi_proof_positions`](merkle_proof::multi::multi_proof_positions), in their order. Where the reader shows a list, it
+/// is the list's honest proof of the leaves. The size may be one that the reader hasn't got: no loop and no memory grows
+/// with it, only with the positions that the proof reads.
+///
+/// # Errors
+///
+/// The first that applies:
+/// - `PositionOverflow` of the reader's size where it exceeds `MAX_NODES`
+/// - `NonLeaf` of it where no leaf count has so many nodes
+/// - the error of [`multi_proof_positions`](merkle_proof::multi::multi_proof_positions) for that leaf count and the
+///   locations
+/// - `InvalidProof` where the number exceeds that of the peaks
+/// - `ElementPruned` of the least position that the proof reads and the reader has no node at
+///
+/// `OutOfMemory` wherever there is no memory.
+pub fn multi_proof<R: Readable>(
+    alloc: Global,
+    reader: &R,
+    inactive: usize,
+    locations: &[Location<R::Family>],
+) -> Result<Proof<R::Family, R::Digest>, Error<R::Family>>
+    ensures sized { IfOk result (λ p. size R.Family.rule p.leaves ≡ R.size reader.now) }
+    ensures built { let rule = R.Family.rule in let max_leaves = R.Family.MAX_LEAVES in
+        IfOk result (λ p. IsBuiltMulti rule max_leaves (R.node reader.now) inactive p.leaves locations.now p) }
+
+    // It is the honest proof of every list that the reader shows.
+    ensures honest { (s : Scheme R.Digest) → s.rule ≡ R.Family.rule
+        → (X : List R.Digest) → Shows s.hashing s.rule (R.size reader.now) (R.node reader.now) X
+        → IfOk result (λ p. IsHonestMulti s X inactive (multi_list_input p s.hashing X locations.now)) }
+    ensures held { (n : ℕ) → size R.Family.rule n ≡ R.size reader.now → AreLocations R.Family.MAX_LEAVES n locations.now
+        → inactive ≤ length (peaks_of R.Family.rule n) → AreHeld (R.node reader.now) (multi_positions R.Family.rule n locations.now)
+        → IsOkUnless result Error.OutOfMemory }
+    ensures err { let rule = R.Family.rule in let max_nodes = R.Family.MAX_NODES in let max_leaves = R.Family.MAX_LEAVES in
+        IfErr result (λ e. e ≢ Error.OutOfMemory
+        → IsMultiRefusal rule max_nodes max_leaves (R.size reader.now) inactive locations.now (R.node reader.now) e) }
+{
+    match leaf_count(reader.size()) {
+        Ok(leaves) => prove_locations(alloc, reader, leaves, inactive, locations),
+        Err(error) => Err(error),
+    }
+}
+
+// The proof of the leaves at some locations of that many over the nodes of a reader.
+fn prove_locations<R: Readable>(
+    alloc: Global,
+    reader: &R,
+    leaves: Location<R::Family>,
+    inactive: usize,
+    locations: &[Location<R::Family>],
+) -> Result<Proof<R::Family, R::Digest>, Error<R::Family>>
+    ensures built { IfOk result (λ p. IsBuiltMulti R.Family.rule R.Family.MAX_LEAVES (R.node reader.now) inactive leaves locations.now p) }
+    ensures err { IfErr result (λ e. e ≢ Error.OutOfMemory
+        → IsLocationsRefusal R.Family.rule R.Family.MAX_LEAVES leaves inactive locations.now (R.node reader.now) e) }
+{
+    let positions = match multi_proof_positions(alloc, leaves, locations) {
+        Ok(positions) => positions,
+        Err(error) => return Err(error),
+    };
+    if inactive > peak_count(leaves) {
+        return Err(Error::InvalidProof);
+    }
+    match read_nodes(alloc, reader, &positions) {
+        Ok(digests) => Ok(Proof {
+            leaves,
+            inactive_peaks: inactive,
+            digests,
+        }),
+        Err(error) => Err(error),
+    }
+}
+
+// The leaf count that has that many nodes.
+fn leaf_count<F: Family>(nodes: Position<F>) -> Result<Location<F>, Error<F>>
+    ensures ok { IfOk result (λ n. (size F.rule n ≡ nodes) × (nodes ≤ F.MAX_NODES)) }
+    ensures err { IfErr result (λ e. IsSizeRefusal F.rule F.MAX_NODES nodes e) }
+{
+    if !nodes.is_valid() {
+        return Err(Error::PositionOverflow(nodes));
+    }
+    match F::position_to_location(nodes) {
+        Some(leaves) => Ok(leaves),
+        None => Err(Error::NonLeaf(nodes)),
+    }
+}
+
+// How many peaks that many leaves have.
+fn peak_count<F: Family>(leaves: Location<F>) -> usize
+    requires { leaves ≤ F.MAX_LEAVES }
+    ensures { result ≡ length (peaks_of F.rule leaves) }
+{
+    F::inactive_peaks(leaves, leaves)
+}
+
+// The digests of the nodes at positions, each read once, in their order.
+fn read_nodes<R: Readable>(
+    alloc: Global,
+    reader: &R,
+    positions: &[Position<R::Family>],
+) -> Result<Vec<R::Digest>, Error<R::Family>>
+    ensures ok { IfOk result (λ v. map Some v.items ≡ map (R.node reader.now) positions.now) }
+    ensures err { IfErr result (λ e. e ≢ Error.OutOfMemory → (p : ℕ) × (e ≡ Error.ElementPruned p)
+        × IsFirstMissing (λ q o. o ≡ R.node reader.now q) positions.now p) }
+{
+    let mut digests = Vec::with_capacity(alloc, positions.len())?;
+    for position in positions {
+        match reader.get_node(*position) {
+            Some(digest) => digests.push(digest)?,
+            None => return Err(Error::ElementPruned(*position)),
+        }
+    }
+    Ok(digests)
+}
+
+// The proof of a plan over digests that are listed by position.
+fn build_proof<F: Family, H: Hasher<F>>(
+    plan: RangePlan<F>,
+    hasher: &H,
+    inactive: usize,
+    positions: &[Position<F>],
+    digests: &[H::Digest],
+) -> Result<Proof<F, H::Digest>, Error<F>>
+    requires { IsStrictlyIncreasing positions.now }
+    ensures built { let s = H.scheme hasher.now in IfOk result (λ p. IsBuiltProof s (digest_for positions.now digests.now) inactive plan p) }
+    ensures honest { let s = H.scheme hasher.now in
+        (xs : List H.Digest) → length xs ≡ plan.leaves → AnswersList (H.hashing hasher.now) F.rule xs (λ p r. r ≡ digest_for positions.now digests.now p)
+        → IfOk result (λ p. IsHonestRange s xs inactive (list_input p xs plan.start plan.end)) }
+    ensures err { let bagging = H.bagging_of hasher.now in
+        IfErr result (λ e. e ≢ Error.OutOfMemory
+        → IsBuildRefusal bagging F.rule plan inactive (λ p r. r ≡ digest_for positions.now digests.now p) e) }
+{
+    let told = Told { positions, digests };
+    plan.build(
+        hasher,
+        inactive,
+        move |position|
+            requires { IsStrictlyIncreasing told.positions.now }
+        { told.get(position) },
+    )
+}
