@@ -20,3 +20,4 @@ pub use merkle_codec::codec;
 pub use merkle_digest::digest;
 pub use merkle_hasher::{hasher, path, read};
 pub use merkle_proof::{element_plan, proof, range_plan};
+pub use merkle_verification::verification;
