@@ -8,7 +8,8 @@ use Rattle.merkle_proof.specs.MultiPositions.{AreLocations}
 use Rattle.merkle_proof.specs.declared.proof.Proof.{Proof}
 
 -- the proof of the leaves at some locations of n has the digests that stand at the positions which it reads
-pub record IsBuiltMulti {F D Peaks Heights : Type 0} (rule : List ℕ → List ℕ) (max_leaves : ℕ) (node : ℕ → Option D) (k n : ℕ) (locations : List ℕ) (p : Proof F D Peaks Heights) : Type 0 where
+pub record IsBuiltMulti {F D Peaks Heights : Type 0} (rule : List ℕ → List ℕ) (max_leaves : ℕ) (node : ℕ → Option D)
+    (k n : ℕ) (locations : List ℕ) (p : Proof F D Peaks Heights) : Type 0 where
   pub leaves : p.leaves ≡ n
   pub inactive : p.inactive_peaks ≡ k
   pub few : k ≤ length (peaks_of rule n)

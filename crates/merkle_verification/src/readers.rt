@@ -10,7 +10,7 @@ ghost use Rattle.merkle_claim_theory.specs.Multiproof.{IsHonestMulti, multi_posi
 ghost use Rattle.merkle_claim_theory.specs.Table.{digest_for};
 ghost use Rattle.merkle_proof.specs.MultiPositions.{AreLocations};
 ghost use Rattle.merkle_proof.specs.Positions.{range_positions};
-ghost use Rattle.merkle_proof.specs.RangePlans.{AnswersList, IsBuildRefusal, IsBuiltProof, IsFirstMissing, LeafRange, list_input};
+ghost use Rattle.merkle_proof.specs.RangePlans.{AnswersList, IsBuildRefusal, IsBuiltProof, IsFirstMissing, list_input};
 ghost use Rattle.merkle_verification.specs.ReaderProofs.{IsBuiltMulti, multi_list_input};
 ghost use Rattle.merkle_verification.specs.ReaderRefusals.{AreHeld, IsHistoricalRefusal, IsLocationsRefusal, IsMultiRefusal};
 ghost use Rattle.merkle_verification.specs.ReaderRefusals.{IsReadRefusal, IsReaderRefusal, IsSizeRefusal};
@@ -19,7 +19,6 @@ use merkle_base::error::Error;
 use merkle_base::family::Family;
 use merkle_base::location::Location;
 use merkle_base::position::Position;
-use merkle_digest::digest::Digest;
 use merkle_hasher::hasher::Hasher;
 use merkle_hasher::read::Readable;
 use merkle_proof::multi::multi_proof_positions;
@@ -268,12 +267,11 @@ fn build_proof<F: Family, H: Hasher<F>>(
 ) -> Result<Proof<F, H::Digest>, Error<F>>
     requires { IsStrictlyIncreasing positions.now }
     ensures built { let s = H.scheme hasher.now in IfOk result (λ p. IsBuiltProof s (digest_for positions.now digests.now) inactive plan p) }
-    ensures honest { let s = H.scheme hasher.now in
-        (xs : List H.Digest) → length xs ≡ plan.leaves → AnswersList (H.hashing hasher.now) F.rule xs (λ p r. r ≡ digest_for positions.now digests.now p)
+    ensures honest { let s = H.scheme hasher.now in let node = digest_for positions.now digests.now in
+        (xs : List H.Digest) → length xs ≡ plan.leaves → AnswersList (H.hashing hasher.now) F.rule xs (λ p r. r ≡ node p)
         → IfOk result (λ p. IsHonestRange s xs inactive (list_input p xs plan.start plan.end)) }
-    ensures err { let bagging = H.bagging_of hasher.now in
-        IfErr result (λ e. e ≢ Error.OutOfMemory
-        → IsBuildRefusal bagging F.rule plan inactive (λ p r. r ≡ digest_for positions.now digests.now p) e) }
+    ensures err { let bagging = H.bagging_of hasher.now in let node = digest_for positions.now digests.now in
+        IfErr result (λ e. e ≢ Error.OutOfMemory → IsBuildRefusal bagging F.rule plan inactive (λ p r. r ≡ node p) e) }
 {
     let told = Told { positions, digests };
     plan.build(
