@@ -47,7 +47,7 @@ under t is = those_before (end_leaf t) (those_from (first_leaf t) is)
 abbrev pub are_some : List ℕ → Bool
 are_some is = not (nat_eq (length is) 0)
 
--- a node that is read
+-- a node, where it is read
 abbrev pub node_if : Bool → Tree → List Tree
 node_if b t = cond b (t ∷ []) []
 

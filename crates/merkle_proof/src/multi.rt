@@ -55,7 +55,9 @@ pub fn multi_proof_positions<F: Family>(
     Ok(ascending(positions))
 }
 
-// The positions that the proofs of single leaves at the locations, which ascend, read.
+// The positions that the proofs of single leaves at the locations, which ascend, read, each once, in the order of the nodes.
+//
+// In a Mountain Range they ascend.
 fn scattered_positions<F: Family>(
     alloc: Global,
     leaves: Location<F>,
@@ -116,7 +118,7 @@ fn count_before<F>(locations: &[Location<F>], end: Location<F>) -> usize
     locations.partition_point(|location| *location < end)
 }
 
-// Appends a position that is read.
+// Appends a position where it is read.
 fn append_if<F>(
     is_read: bool,
     position: Position<F>,
