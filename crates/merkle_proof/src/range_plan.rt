@@ -1,7 +1,10 @@
 //! Plans of range proofs: which nodes a proof reads, and the proof made of what stands there.
-ghost use Rattle.std.specs.Prelude.{◌≡◌, ◌≢◌, ◌<◌, ◌≤◌, ℕ, List, Option, length, IfOk, IfErr};
-ghost use Rattle.merkle_base.specs.Places.{peaks_of};
-ghost use Rattle.merkle_root_theory.specs.Range.{IsHonestRange};
+ghost use Rattle.std.specs.Prelude.{◌≡◌, ◌≢◌, ◌<◌, ◌≤◌, ◌+◌, ℕ, List, Option, length, map, IfOk, IfErr};
+ghost use Rattle.merkle_base.specs.Places.{peaks_of, wholly_before};
+ghost use Rattle.merkle_base.specs.Tree.{position};
+ghost use Rattle.merkle_root_theory.specs.Outside.{folded_prefix, single_after};
+ghost use Rattle.merkle_root_theory.specs.Range.{IsHonestRange, overlapping, wholly_after};
+ghost use Rattle.merkle_root_theory.specs.Reads.{nodes_read};
 ghost use Rattle.std.specs.List.Sorted.{IsStrictlyIncreasing};
 ghost use Rattle.merkle_proof.specs.Positions.{range_positions};
 ghost use Rattle.merkle_proof.specs.RangePlans.{IsRefusal, IsBuildRefusal, IsBuiltProof, AnswersList, list_input};
@@ -12,13 +15,26 @@ use crate::positions::ascending;
 use crate::proof::Proof;
 use crate::reading::read_digests;
 use merkle_base::error::Error;
-use merkle_base::family::Family;
+use merkle_base::family::{Bagging, Family};
 use merkle_base::location::Location;
 use merkle_base::position::Position;
 use merkle_hasher::hasher::Hasher;
 use std::alloc::{AllocError, Global};
 use std::marker::Model;
 use std::ops::Range;
+
+/// How many of the positions that a plan reads have which part in a proof.
+#[derive(Clone, Copy, Debug)]
+pub struct RangeCounts {
+    /// How many are peaks before the range, the first ones.
+    pub before: usize,
+    /// How many are peaks after it, the next ones.
+    pub after: usize,
+    /// How many of those before the range are folded to one digest, the oldest ones.
+    pub folded: usize,
+    /// How many of those after it stand alone, the oldest ones; the others are folded to one digest.
+    pub single: usize,
+}
 
 /// What a proof of a range of leaves reads.
 ///
@@ -91,6 +107,34 @@ impl<F: Family> RangePlan<F> {
         ensures { result ≡ self.now.leaves }
     {
         self.leaves
+    }
+
+    /// How many of the positions that it reads have which part in a proof, for a bagging and a number of inactive peaks.
+    pub fn counts(&self, bagging: Bagging, inactive: usize) -> RangeCounts
+        ensures before { result.before ≡ length (wholly_before self.now.start (peaks_of F.rule self.now.leaves)) }
+        ensures after { result.after ≡ length (wholly_after self.now.end (peaks_of F.rule self.now.leaves)) }
+        ensures folded { let before = wholly_before self.now.start (peaks_of F.rule self.now.leaves) in
+            result.folded ≡ length (folded_prefix bagging inactive before) }
+        ensures single { let peaks = peaks_of F.rule self.now.leaves in
+            let met = length (wholly_before self.now.start peaks) + length (overlapping self.now.start self.now.end peaks) in
+            result.single ≡ length (single_after bagging inactive met (wholly_after self.now.end peaks)) }
+        ensures within { (result.folded ≤ result.before) × (result.single ≤ result.after) }
+        ensures read { result.before + result.after ≤ length (nodes_read F.rule self.now.leaves self.now.start self.now.end) }
+    {
+        RangeCounts {
+            before: self.before,
+            after: self.after,
+            folded: prefix_count(bagging, inactive, self.before),
+            single: single_count(bagging, inactive, self.peaks - self.after, self.after),
+        }
+    }
+
+    /// The positions of all that a proof of the range reads: of the peaks before the range, of those after it, and of the
+    /// path siblings.
+    pub fn reads(&self) -> &[Position<F>]
+        ensures { result.now ≡ map position (nodes_read F.rule self.now.leaves self.now.start self.now.end) }
+    {
+        &self.reads
     }
 
     /// The positions of all that a proof of the range reads, ascending, each once: of the peaks outside the range and of the path

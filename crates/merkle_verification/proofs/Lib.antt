@@ -4,3 +4,7 @@ pub mod HeldReads
 pub mod HonestReads
 pub mod ListedReads
 pub mod MultiReads
+pub mod StoreCallLaws
+pub mod PartReads
+pub mod KeptStores
+pub mod AnsweredProofs

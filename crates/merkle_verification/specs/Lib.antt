@@ -1,2 +1,6 @@
 pub mod ReaderRefusals
 pub mod ReaderProofs
+pub mod PairReads
+pub mod StoreCalls
+pub mod StoreParts
+pub mod StoreMulti

@@ -1,0 +1,26 @@
+use Rattle.std.proofs.Common.{◌≡◌, inl, inr, subst}
+use Rattle.std.proofs.lemmas.Result.{IfOk-weaker, IfErr-weaker}
+use Rattle.merkle_base.specs.declared.error.Error.{Error}
+use Rattle.merkle_base.specs.declared.error.Error.TheVariants.{OutOfMemory}
+use Rattle.merkle_root_theory.specs.Range.{AcceptsSome}
+use Rattle.merkle_store_theory.specs.StoreValue.{StoreValue}
+use Rattle.merkle_proof.specs.declared.proof.Proof.{Proof}
+use Rattle.merkle_proof.proofs.RefusedProofs.{is_memory}
+use Rattle.merkle_verification.specs.StoreCalls.{IsAnswered, IsStoreRefusal, part_input}
+use Rattle.merkle_verification.proofs.StoreCallLaws.{no_part_is_refused, answered_is_accepted}
+use Rattle.merkle_verification.proofs.store.ProofStore.range_proof.Goals as goal
+
+pub returns-clause-unrefused : goal.returns-clause-unrefused
+returns-clause-unrefused g c = λ r root same ok some low high.
+    let s = g.H.Hasher.scheme c.args.hasher.now in let a = c.args.range.start in let b = c.args.range.end in
+    IfErr-weaker c.answer.result _ (λ (e : Error g.row.F.Denot). e ≡ OutOfMemory) (λ (e : Error g.row.F.Denot) refused. elim (is_memory e) [
+      | inr is ↦ is
+      | inl other ↦ absurd (no_part_is_refused s r root a b e ok some low high (subst (λ (v : StoreValue g.row.D.Denot). IsStoreRefusal s v a b e) same (refused other)))
+    ]) c.answer.ensures.err
+
+pub returns-clause-accepted : goal.returns-clause-accepted
+returns-clause-accepted g c = λ r root same ok low high.
+    let s = g.H.Hasher.scheme c.args.hasher.now in let a = c.args.range.start in let b = c.args.range.end in
+    IfOk-weaker c.answer.result _ (λ (p : Proof g.row.F.Denot g.row.D.Denot g.row.F-Peaks.Denot g.row.F-ParentHeights.Denot). AcceptsSome s (part_input p r a b) root)
+    (λ (p : Proof g.row.F.Denot g.row.D.Denot g.row.F-Peaks.Denot g.row.F-ParentHeights.Denot) w.
+    answered_is_accepted s r root a b p ok low high (subst (λ (v : StoreValue g.row.D.Denot). IsAnswered s v a b p) same w)) c.answer.ensures.ok

@@ -1,0 +1,355 @@
+//! Stores of accepted range proofs, which answer the proofs of parts of the range.
+ghost use Rattle.std.specs.Prelude.{◌≡◌, ◌≢◌, ◌⊎◌, ◌≤◌, ◌<◌, ℕ, [], Ok, None, drop, length, IfOk, IfErr, IsOkUnless};
+ghost use Rattle.std.specs.Option.{option_to_list};
+ghost use Rattle.merkle_base.specs.Scheme.{Scheme};
+ghost use Rattle.merkle_root_theory.specs.Check.{RangeInput};
+ghost use Rattle.merkle_root_theory.specs.Range.{AcceptsSome, end_of};
+ghost use Rattle.merkle_root_theory.specs.Reconstruction.{reconstructed};
+ghost use Rattle.merkle_root_theory.specs.Walk.{bytes_of};
+ghost use Rattle.merkle_store_theory.specs.StoreProof.{first_lacking};
+ghost use Rattle.merkle_store_theory.specs.StoreReads.{prefix_at, suffix_at, suffix_refusal_at, proof_at};
+ghost use Rattle.merkle_store_theory.specs.StoreValue.{store_of};
+ghost use Rattle.merkle_proof.specs.Extracting.{IsExtractionRefusal};
+ghost use Rattle.merkle_proof.specs.Input.{input_of};
+ghost use Rattle.merkle_verification.specs.PairReads.{IsPruned};
+ghost use Rattle.merkle_verification.specs.StoreCalls.{IsAnswered, IsStoreRefusal, part_input};
+ghost use Rattle.merkle_verification.specs.StoreMulti.{IsMultiAnswered, IsStoreMultiRefusal};
+ghost use Rattle.merkle_verification.specs.StoreParts.{FitReads, IsFoldedCount, IsInput, counts_with, parts_refusal, shorter_refusal};
+
+use crate::multi_reads::read_known;
+use crate::pair_table::PairTable;
+use crate::store_reads::{
+    Parts, bag_onto, fold_onto, folded_digest, peak_at, push_some, read_each, suffix_front,
+};
+use merkle_base::error::Error;
+use merkle_base::family::{Bagging, Family};
+use merkle_base::location::Location;
+use merkle_base::position::Position;
+use merkle_digest::digest::Digest;
+use merkle_hasher::hasher::Hasher;
+use merkle_proof::multi::multi_proof_positions;
+use merkle_proof::proof::Proof;
+use merkle_proof::range_plan::{RangeCounts, RangePlan};
+use std::marker::Model;
+use std::ops::Range;
+
+/// What a light client keeps of one accepted range proof: it answers the proofs of every part of the range.
+///
+/// To a contract it is the leaf count, the number of inactive peaks and the bagging of the proof, its root and range, the pairs
+/// of positions and digests that its check computed or was given, the positions of the peaks folded in its suffix, and the
+/// digests of its folded prefix and suffix.
+#[derive(Debug, Drop)]
+pub struct ProofStore<F: Family, D: Digest> {
+    leaves: Location<F>,
+    inactive_peaks: usize,
+    bagging: Bagging,
+    root: D,
+    range: Range<Location<F>>,
+    pairs: PairTable<F, D>,
+    suffix_peaks: Vec<Position<F>>,
+    prefix: Option<D>,
+    suffix: Option<D>,
+    // how many peaks are folded in the prefix of the proof
+    held: usize,
+}
+
+impl<F: Family, D: Digest> Model for ProofStore<F, D> {
+    ghost use Rattle.std.specs.Prelude.{◌≤◌};
+    ghost use Rattle.merkle_store_theory.specs.StoreValue.{StoreValue};
+    ghost use Rattle.merkle_store_theory.specs.StoreCode.{store_value_code};
+    ghost use Rattle.merkle_verification.specs.StoreParts.{IsFoldedCount};
+
+    ghost Value = { StoreValue D };
+
+    ghost coded = { store_value_code D.code };
+
+    ghost view = { λ v. record {
+      leaves = v.leaves;
+      inactive = v.inactive_peaks;
+      bagging = v.bagging;
+      root = v.root;
+      start = v.range.start;
+      end = v.range.end;
+      pairs = v.pairs;
+      suffix_peaks = v.suffix_peaks.items;
+      prefix = v.prefix;
+      suffix = v.suffix;
+    } };
+
+    ghost invariant = { λ v. IsFoldedCount F.rule v.bagging v.leaves v.inactive_peaks v.range.start v.held × (v.leaves ≤ F.MAX_LEAVES) };
+}
+
+impl<F: Family, D: Digest> ProofStore<F, D> {
+    /// The store of a proof of the elements from a location on, which lead to the root.
+    ///
+    /// # Errors
+    ///
+    /// The first that applies:
+    /// - `InvalidProof` where [`reconstruct_root`](Proof::reconstruct_root) refuses
+    /// - `RootMismatch` where it leads to another root
+    /// - `Empty` where there are no elements
+    ///
+    /// `OutOfMemory` wherever there is no memory.
+    pub fn new<H: Hasher<F, Digest = D>>(
+        hasher: &H,
+        proof: &Proof<F, D>,
+        elements: &[&[u8]],
+        start: Location<F>,
+        root: &D,
+    ) -> Result<Self, Error<F>>
+        ensures ok { let s = H.scheme hasher.now in
+            IfOk result (λ v. v ≡ store_of s (input_of s proof.now start (bytes_of elements.now)) root.now) }
+        ensures accepted { let s = H.scheme hasher.now in
+            IfOk result (λ _. AcceptsSome s (input_of s proof.now start (bytes_of elements.now)) root.now) }
+        ensures err { let s = H.scheme hasher.now in
+            let r = input_of s proof.now start (bytes_of elements.now) in
+            IfErr result (λ e. e ≢ Error.OutOfMemory → IsExtractionRefusal s r root.now e
+            ⊎ ((reconstructed s r ≡ Ok root.now) × (elements.now ≡ []) × (e ≡ Error.Empty))) }
+    {
+        let pairs = match proof.verify_range_inclusion_and_extract_digests(
+            hasher, elements, start, root,
+        ) {
+            Ok(pairs) => pairs,
+            Err(error) => return Err(error),
+        };
+        if elements.is_empty() {
+            return Err(Error::Empty);
+        }
+        let end = start + elements.len() as u64;
+        Self::keep(hasher.root_bagging(), proof, start..end, root, pairs)
+    }
+
+    // The store of an accepted proof with some elements, of which these are the pairs.
+    fn keep(
+        bagging: Bagging,
+        proof: &Proof<F, D>,
+        range: Range<Location<F>>,
+        root: &D,
+        pairs: Vec<(Position<F>, D)>,
+    ) -> Result<Self, Error<F>>
+        requires some { range.start < range.end }
+        requires within { range.end ≤ proof.now.leaves }
+        requires small { proof.now.leaves ≤ F.MAX_LEAVES }
+        ensures ok { IfOk result (λ v. (s : Scheme D) (r : RangeInput D)
+            → IsInput s r F.rule bagging proof.now.leaves proof.now.inactive_peaks proof.now.digests.items range.start range.end pairs.items
+            → v ≡ store_of s r root.now) }
+        ensures only_memory { IsOkUnless result Error.OutOfMemory }
+    {
+        let alloc = *proof.digests.allocator();
+        let start = range.start;
+        let end = range.end;
+        let plan = match RangePlan::new(alloc, proof.leaves, range) {
+            Ok(plan) => plan,
+            Err(error) => return Err(error),
+        };
+        let counts = plan.counts(bagging, proof.inactive_peaks);
+        let parts = Parts::new(counts, plan.reads());
+        let alone = counts.folded.min(1) + parts.before.len() + parts.after.len();
+        let pairs = PairTable::new(pairs)?;
+        let suffix_peaks = parts.suffix.to_vec(alloc)?;
+        Ok(ProofStore {
+            leaves: proof.leaves,
+            inactive_peaks: proof.inactive_peaks,
+            bagging,
+            root: *root,
+            range: start..end,
+            pairs,
+            suffix_peaks,
+            prefix: folded_digest(&proof.digests, 0, counts.folded),
+            suffix: folded_digest(&proof.digests, alone, parts.suffix.len()),
+            held: counts.folded,
+        })
+    }
+
+    /// The positions of the peaks that are folded in the suffix of the proof, oldest first.
+    pub fn suffix_peak_positions(&self) -> &[Position<F>]
+        ensures { result.now ≡ self.now.suffix_peaks }
+    {
+        &self.suffix_peaks
+    }
+
+    // The digest of the folded prefix of a proof, whose peaks stand at these positions. So many of them are folded in the
+    // store's own.
+    fn prefix_digest<H: Hasher<F, Digest = D>>(
+        &self,
+        hasher: &H,
+        held: usize,
+        positions: &[Position<F>],
+    ) -> Result<Option<D>, Error<F>>
+        ensures held { IfOk result (λ _. first_lacking self.now.pairs (drop held positions.now) ≡ None) }
+        ensures read { IfOk result (λ o. option_to_list o ≡ prefix_at (H.hashing hasher.now) self.now held positions.now) }
+        ensures err { IfErr result (λ e. IsPruned (first_lacking self.now.pairs (drop held positions.now)) e) }
+    {
+        if positions.is_empty() {
+            return Ok(None);
+        }
+        let further = &positions[held.min(positions.len())..];
+        fold_onto(hasher, &self.pairs, self.prefix, further)
+    }
+
+    // The digest of the folded suffix of a proof, whose peaks stand at these positions.
+    fn suffix_digest<H: Hasher<F, Digest = D>>(
+        &self,
+        hasher: &H,
+        positions: &[Position<F>],
+    ) -> Result<Option<D>, Error<F>>
+        ensures held { IfOk result (λ _. suffix_refusal_at self.now positions.now ≡ None) }
+        ensures read { IfOk result (λ o. option_to_list o ≡ suffix_at (H.hashing hasher.now) self.now positions.now) }
+        ensures err { IfErr result (λ e. IsPruned (suffix_refusal_at self.now positions.now) e) }
+    {
+        if positions.is_empty() {
+            return Ok(None);
+        }
+        match suffix_front(positions, &self.suffix_peaks) {
+            Ok(front) => bag_onto(hasher, &self.pairs, self.suffix, front),
+            Err(error) => Err(error),
+        }
+    }
+
+    // The digests of a proof that reads these positions, of which so many have which part.
+    fn digests<H: Hasher<F, Digest = D>>(
+        &self,
+        hasher: &H,
+        counts: RangeCounts,
+        held: usize,
+        reads: &[Position<F>],
+    ) -> Result<Vec<D>, Error<F>>
+        requires { FitReads counts reads.now }
+        ensures held { IfOk result (λ _. parts_refusal self.now (counts_with counts held) reads.now ≡ None) }
+        ensures read { IfOk result (λ v. v.items ≡ proof_at (H.hashing hasher.now) self.now (counts_with counts held) reads.now) }
+        ensures err { IfErr result (λ e. e ≢ Error.OutOfMemory → IsPruned (parts_refusal self.now (counts_with counts held) reads.now) e) }
+    {
+        let parts = Parts::new(counts, reads);
+        let prefix = match self.prefix_digest(hasher, held, parts.prefix) {
+            Ok(prefix) => prefix,
+            Err(error) => return Err(error),
+        };
+        let mut digests = Vec::new(self.pairs.allocator());
+        push_some(prefix, &mut digests)?;
+        if let Err(error) = read_each(&self.pairs, parts.before, &mut digests) {
+            return Err(error);
+        }
+        if let Err(error) = read_each(&self.pairs, parts.after, &mut digests) {
+            return Err(error);
+        }
+        let suffix = match self.suffix_digest(hasher, parts.suffix) {
+            Ok(suffix) => suffix,
+            Err(error) => return Err(error),
+        };
+        push_some(suffix, &mut digests)?;
+        if let Err(error) = read_each(&self.pairs, parts.siblings, &mut digests) {
+            return Err(error);
+        }
+        Ok(digests)
+    }
+
+    // The position that is named where the folded prefix of a proof has peaks, and fewer than the store's own.
+    fn lacking_prefix(&self, counts: RangeCounts) -> Option<Position<F>>
+        ensures { (held : ℕ) → IsFoldedCount F.rule self.now.bagging self.now.leaves self.now.inactive self.now.start held
+            → result ≡ shorter_refusal F.rule self.now.leaves (counts_with counts held) }
+    {
+        if 0 < counts.folded && counts.folded < self.held {
+            peak_at(self.leaves, counts.before)
+        } else {
+            None
+        }
+    }
+
+    // The proof of a range of leaves, read from what the store has.
+    fn answer<H: Hasher<F, Digest = D>>(
+        &self,
+        hasher: &H,
+        range: Range<Location<F>>,
+    ) -> Result<Proof<F, D>, Error<F>>
+        ensures ok { IfOk result (λ p. IsAnswered (H.scheme hasher.now) self.now range.start range.end p) }
+        ensures err { IfErr result (λ e. e ≢ Error.OutOfMemory → IsStoreRefusal (H.scheme hasher.now) self.now range.start range.end e) }
+    {
+        let plan = match RangePlan::new(self.pairs.allocator(), self.leaves, range) {
+            Ok(plan) => plan,
+            Err(error) => return Err(error),
+        };
+        let counts = plan.counts(self.bagging, self.inactive_peaks);
+        if let Some(position) = self.lacking_prefix(counts) {
+            return Err(Error::ElementPruned(position));
+        }
+        match self.digests(hasher, counts, self.held, plan.reads()) {
+            Ok(digests) => Ok(Proof {
+                leaves: self.leaves,
+                inactive_peaks: self.inactive_peaks,
+                digests,
+            }),
+            Err(error) => Err(error),
+        }
+    }
+
+    /// The proof of a range of leaves, read from what the store has.
+    ///
+    /// Each part of the store's own range is answered, and the check accepts the proof against the store's root. Of another
+    /// range too the proof is answered, where all that it reads is there.
+    ///
+    /// # Errors
+    ///
+    /// The first that applies:
+    /// - `Empty` where the range has no leaves
+    /// - `RangeOutOfBounds` of its end where that is past the leaf count
+    /// - `ElementPruned` of a node that isn't there, or of a peak whose digest is known only folded with others
+    ///
+    /// `OutOfMemory` wherever there is no memory.
+    pub fn range_proof<H: Hasher<F, Digest = D>>(
+        &self,
+        hasher: &H,
+        range: Range<Location<F>>,
+    ) -> Result<Proof<F, D>, Error<F>>
+        ensures ok { IfOk result (λ p. IsAnswered (H.scheme hasher.now) self.now range.start range.end p) }
+        ensures err { IfErr result (λ e. e ≢ Error.OutOfMemory → IsStoreRefusal (H.scheme hasher.now) self.now range.start range.end e) }
+
+        // Of the store of an accepted proof each part of the range is answered, unless there is no memory.
+        ensures unrefused { let s = H.scheme hasher.now in
+            (r : RangeInput D) (root : D) → self.now ≡ store_of s r root → AcceptsSome s r root → range.start < range.end
+            → r.start ≤ range.start → range.end ≤ end_of r → IfErr result (λ e. e ≡ Error.OutOfMemory) }
+
+        // And the check accepts what is answered.
+        ensures accepted { let s = H.scheme hasher.now in
+            (r : RangeInput D) (root : D) → self.now ≡ store_of s r root → AcceptsSome s r root
+            → r.start ≤ range.start → range.end ≤ end_of r → IfOk result (λ p. AcceptsSome s (part_input p r range.start range.end) root) }
+    {
+        self.answer(hasher, range)
+    }
+
+    /// The proof of the leaves at some locations, read from what the store has and from the digests of peaks that are given.
+    ///
+    /// The last digest that is given at a position counts. None of them is checked: a proof over a wrong one is not accepted.
+    ///
+    /// # Errors
+    ///
+    /// Those of [`multi_proof_positions`], and then, of the first node whose digest neither the store has nor is given:
+    /// - `CompressedDigest` of its position where it is one of the peaks folded in the suffix of the store's proof
+    /// - `ElementPruned` of its position else
+    ///
+    /// `OutOfMemory` wherever there is no memory.
+    pub fn multi_proof(
+        &self,
+        locations: &[Location<F>],
+        peaks: &[(Position<F>, D)],
+    ) -> Result<Proof<F, D>, Error<F>>
+        ensures ok { IfOk result (λ p. IsMultiAnswered F.rule F.MAX_LEAVES self.now locations.now peaks.now p) }
+        ensures err { IfErr result (λ e. e ≢ Error.OutOfMemory → IsStoreMultiRefusal F.rule F.MAX_LEAVES self.now locations.now peaks.now e) }
+    {
+        let positions = match multi_proof_positions(
+            self.pairs.allocator(),
+            self.leaves,
+            locations,
+        ) {
+            Ok(positions) => positions,
+            Err(error) => return Err(error),
+        };
+        match read_known(&self.pairs, peaks, &self.suffix_peaks, &positions) {
+            Ok(digests) => Ok(Proof {
+                leaves: self.leaves,
+                inactive_peaks: self.inactive_peaks,
+                digests,
+            }),
+            Err(error) => Err(error),
+        }
+    }
+}
