@@ -1,66 +1,16 @@
-//! Proofs over nodes of three leaves of a Mountain Range, with digests that were chosen by hand.
-ghost use Rattle.std.specs.Prelude.{◌≡◌, None, get_or};
+//! What the tests share: digests of one byte.
 
-use merkle_base::family::Bagging;
-use merkle_digest::digest::{Digest, Xor8, Xor8Digest};
-use merkle_hasher::hasher::Standard;
-use merkle_hasher::read::Readable;
+mod readers;
+mod stores;
+
+use merkle_digest::digest::{Digest, Xor8Digest};
 use merkle_proof::proof::Proof;
-use merkle_topology::mmr::{Error, Family, Location, Position};
-use merkle_verification::readers::{historical_range_proof, multi_proof, range_proof};
+use merkle_topology::mmr::{Family, Location};
 use std::process::Abort;
-use std::test::Fail;
-
-/// The nodes up to position 3, and a size.
-#[derive(Drop)]
-struct Nodes {
-    size: Position,
-    held: [Option<Xor8Digest>; 4],
-}
-
-impl Readable for Nodes {
-    ghost use Rattle.std.specs.Prelude.{get_or, None};
-
-    type Family = Family;
-
-    type Digest = Xor8Digest;
-
-    ghost size = { λ nodes. nodes.size };
-
-    ghost node = { λ nodes p. get_or nodes.held p None };
-
-    fn size(&self) -> Position {
-        self.size
-    }
-
-    fn get_node(&self, position: Position) -> Option<Xor8Digest>
-        ensures { result ≡ get_or self.now.held position None }
-    {
-        let index = position.as_u64();
-        if index < 4 {
-            self.held[index as usize]
-        } else {
-            None
-        }
-    }
-}
 
 /// The digest of that byte.
 fn digest(rt: &impl Abort, byte: u8) -> Xor8Digest {
     Xor8Digest::from_bytes(&[byte]).expect(rt, "any byte is a digest")
-}
-
-/// The leaves 5 and 6 with the node 3 over them, and the leaf 9.
-fn three_leaves(rt: &impl Abort) -> Nodes {
-    Nodes {
-        size: Position::new(4),
-        held: [
-            Some(digest(rt, 5)),
-            Some(digest(rt, 6)),
-            Some(digest(rt, 3)),
-            Some(digest(rt, 9)),
-        ],
-    }
 }
 
 /// Whether a proof is of that many leaves, with no peak inactive, and has the digests of these bytes.
@@ -77,55 +27,4 @@ fn has_bytes(proof: &Proof<Family, Xor8Digest>, leaves: u64, bytes: &[u8]) -> bo
         }
     }
     true
-}
-
-#[test]
-fn proofs_of_ranges(rt: HostRuntime) -> Result<(), Fail> {
-    let nodes = three_leaves(&rt);
-    let hasher = Standard::<Xor8>::new(Bagging::ForwardFold);
-    let first = Location::new(0)..Location::new(1);
-    // the peak after the leaf, and the sibling
-    let whole = range_proof(rt.alloc(), &hasher, &nodes, first, 0);
-    assert!(rt; matches!(&whole, Ok(proof) if has_bytes(proof, 3, &[9, 6])));
-    // before the third leaf came there was no other peak
-    let first = Location::new(0)..Location::new(1);
-    let old = historical_range_proof(rt.alloc(), &hasher, &nodes, Location::new(2), first, 0);
-    assert!(rt; matches!(&old, Ok(proof) if has_bytes(proof, 2, &[6])));
-    Ok(())
-}
-
-#[test]
-fn proofs_of_scattered_leaves(rt: HostRuntime) -> Result<(), Fail> {
-    let nodes = three_leaves(&rt);
-    let locations = [Location::new(0), Location::new(2)];
-    let proof = multi_proof(rt.alloc(), &nodes, 0, &locations);
-    assert!(rt; matches!(&proof, Ok(proof) if has_bytes(proof, 3, &[6, 3, 9])));
-    Ok(())
-}
-
-#[test]
-fn refusals(rt: HostRuntime) -> Result<(), Fail> {
-    let mut nodes = three_leaves(&rt);
-    let hasher = Standard::<Xor8>::new(Bagging::ForwardFold);
-    nodes.held[1] = None;
-    nodes.held[3] = None;
-    // the least of the missing nodes is named, and the proof would begin with the other one
-    let first = Location::new(0)..Location::new(1);
-    let refused = range_proof(rt.alloc(), &hasher, &nodes, first, 0);
-    assert!(rt; matches!(&refused, Err(Error::ElementPruned(at)) if *at == Position::new(1)));
-    let refused = multi_proof(rt.alloc(), &nodes, 0, &[Location::new(1), Location::new(2)]);
-    assert!(rt; matches!(&refused, Err(Error::ElementPruned(at)) if *at == Position::new(3)));
-    // three leaves have two peaks
-    let refused = multi_proof(rt.alloc(), &nodes, 3, &[Location::new(1)]);
-    assert!(rt; matches!(&refused, Err(Error::InvalidProof)));
-    nodes.size = Position::new(5);
-    let refused = multi_proof(rt.alloc(), &nodes, 0, &[Location::new(1)]);
-    assert!(rt; matches!(&refused, Err(Error::NonLeaf(size)) if *size == Position::new(5)));
-    nodes.size = Position::new(u64::MAX);
-    let first = Location::new(0)..Location::new(1);
-    let refused = range_proof(rt.alloc(), &hasher, &nodes, first, 0);
-    assert!(rt;
-        matches!(&refused, Err(Error::PositionOverflow(size)) if *size == Position::new(u64::MAX))
-    );
-    Ok(())
 }
