@@ -81,7 +81,7 @@ fn parts_of_a_folded_suffix(rt: HostRuntime) -> Result<(), Fail> {
     let first: &[&[u8]] = &[&[1]];
     let kept = ProofStore::new(&hasher, &proof, first, Location::new(0), &digest(&rt, 5));
     let store = kept.ok().ok_or("the proof is accepted")?;
-    assert!(rt; store.suffix_peak_positions() == [Position::new(3)]);
+    assert!(rt; store.suffix_peak_positions() == [Position::new(3)].as_slice());
     // no peak is after the last leaf, and the peak before it is there
     let last = store.range_proof(&hasher, Location::new(2)..Location::new(3));
     assert!(rt; is_answered(&last, 3, &[0]));
@@ -107,7 +107,7 @@ fn peaks_given_to_a_store(rt: HostRuntime) -> Result<(), Fail> {
     let kept = ProofStore::new(&hasher, &proof, first, Location::new(0), &digest(&rt, 0x0f));
     let store = kept.ok().ok_or("the proof is accepted")?;
     let suffix = [Position::new(21), Position::new(24), Position::new(25)];
-    assert!(rt; store.suffix_peak_positions() == suffix);
+    assert!(rt; store.suffix_peak_positions() == suffix.as_slice());
     let own = [Location::new(0)];
     assert!(rt; is_compressed(&store.multi_proof(&own, &[]), 21));
     let peaks = [
