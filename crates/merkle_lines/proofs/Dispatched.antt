@@ -1,11 +1,11 @@
 -- The answer of a session is that of its structure.
 use Rattle.std.proofs.Common.{◌≡◌, ℕ, List, Option, Some, sym, ap, subst}
-use Rattle.merkle_core.specs.declared.family.Bagging.{Bagging}
-use Rattle.merkle_lines.specs.declared.command.Command.{Command}
-use Rattle.merkle_lines.specs.declared.command.Command.TheVariants.{Ask}
-use Rattle.merkle_lines.specs.declared.command.FamilyName.{FamilyName}
-use Rattle.merkle_lines.specs.declared.command.HashName.{HashName}
-use Rattle.merkle_lines.specs.declared.command.Request.{Request}
+use Rattle.merkle_base.specs.declared.family.Bagging.{Bagging}
+use Rattle.merkle_commands.specs.declared.command.Command.{Command}
+use Rattle.merkle_commands.specs.declared.command.Command.TheVariants.{Ask}
+use Rattle.merkle_commands.specs.declared.command.FamilyName.{FamilyName}
+use Rattle.merkle_commands.specs.declared.command.HashName.{HashName}
+use Rattle.merkle_commands.specs.declared.command.Request.{Request}
 use Rattle.merkle_lines.specs.Answers.{Given, IsAnswered}
 use Rattle.merkle_lines.specs.Transcript.{Told, named_kind, IsCommandAnswered}
 

@@ -1,5 +1,4 @@
 pub mod Additions
-pub mod AsciiLines
 pub mod Dispatched
 pub mod Holdings
 pub mod Replies

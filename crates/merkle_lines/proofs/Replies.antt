@@ -12,12 +12,12 @@ use Rattle.merkle_base.specs.Root.{list_root}
 use Rattle.merkle_base.specs.Scheme.{scheme_of}
 use Rattle.merkle_base.specs.declared.error.Error.{Error}
 use Rattle.merkle_base.specs.declared.error.Error.TheVariants as error
-use Rattle.merkle_core.specs.declared.family.Bagging.{Bagging}
+use Rattle.merkle_base.specs.declared.family.Bagging.{Bagging}
 use Rattle.merkle_batch_theory.specs.Store.{Store}
 use Rattle.merkle_base.proofs.Cases.{by_test}
-use Rattle.merkle_lines.specs.declared.hex_words.HexError.{HexError}
-use Rattle.merkle_lines.specs.declared.hex_words.HexError.TheVariants as hex
-use Rattle.merkle_lines.specs.declared.command.Request.TheVariants.{Add, Commit, Root}
+use Rattle.merkle_commands.specs.declared.hex_words.HexError.{HexError}
+use Rattle.merkle_commands.specs.declared.hex_words.HexError.TheVariants as hex
+use Rattle.merkle_commands.specs.declared.command.Request.TheVariants.{Add, Commit, Root}
 use Rattle.merkle_lines.specs.Answers.{Given, Kind, added, all_committed, count, error_line, kind_of, leaf_digests, with_element, without_added, IsAnswered}
 use Rattle.merkle_lines.specs.ErrorNames.{error_name, hex_error_name}
 use Rattle.merkle_lines.specs.Held.{IsHeld}

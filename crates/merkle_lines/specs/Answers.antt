@@ -8,8 +8,8 @@ use Rattle.merkle_base.specs.Hashing.{Hashing}
 use Rattle.merkle_base.specs.Places.{peaks_of}
 use Rattle.merkle_base.specs.Root.{list_root}
 use Rattle.merkle_base.specs.Scheme.{Scheme}
-use Rattle.merkle_lines.specs.declared.command.Request.{Request}
-use Rattle.merkle_lines.specs.declared.command.Request.TheVariants.{Add, Commit, Root}
+use Rattle.merkle_commands.specs.declared.command.Request.{Request}
+use Rattle.merkle_commands.specs.declared.command.Request.TheVariants.{Add, Commit, Root}
 
 -- the elements of the last commit, and those added since, each in the order of their lines
 pub record Given : Type 0 where

@@ -2,8 +2,8 @@
 use Rattle.std.specs.Prelude.{ℕ, List, codes}
 use Rattle.merkle_base.specs.declared.error.Error.{Error}
 use Rattle.merkle_base.specs.declared.error.Error.TheVariants as error
-use Rattle.merkle_lines.specs.declared.hex_words.HexError.{HexError}
-use Rattle.merkle_lines.specs.declared.hex_words.HexError.TheVariants as hex
+use Rattle.merkle_commands.specs.declared.hex_words.HexError.{HexError}
+use Rattle.merkle_commands.specs.declared.hex_words.HexError.TheVariants as hex
 
 -- that of the variant
 abbrev pub error_name : {F : Type 0} → Error F → List ℕ

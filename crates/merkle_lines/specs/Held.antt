@@ -7,8 +7,8 @@ use Rattle.merkle_batch_theory.specs.Roots.{root_batch}
 use Rattle.merkle_batch_theory.specs.Store.{Store, contents}
 use Rattle.merkle_forest_theory.specs.Mmb.{newest_pair}
 use Rattle.merkle_forest_theory.specs.Mmr.{carries}
-use Rattle.merkle_lines.specs.declared.command.FamilyName.TheVariants.{Mmr, Mmb}
-use Rattle.merkle_lines.specs.declared.command.HashName.TheVariants.{Sha256, Xor8}
+use Rattle.merkle_commands.specs.declared.command.FamilyName.TheVariants.{Mmr, Mmb}
+use Rattle.merkle_commands.specs.declared.command.HashName.TheVariants.{Sha256, Xor8}
 use Rattle.merkle_lines.specs.declared.session.Session.{Session}
 use Rattle.merkle_lines.specs.declared.session.Session.TheVariants.{Absent, MmrSha256, MmrXor8, MmbSha256, MmbXor8}
 use Rattle.merkle_lines.specs.Answers.{Given, leaf_digests}

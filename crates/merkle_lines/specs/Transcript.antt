@@ -1,17 +1,17 @@
 -- What is written for the lines that are read.
 use Rattle.std.specs.Prelude.{◌≡◌, ◌≢◌, ◌⊎◌, ◌+◌, ◌^◌, ◌==◌, ℕ, List, [], ◌∷◌, ◌++◌, length, Option, Some, None, cond, codes}
-use Rattle.merkle_core.specs.declared.family.Bagging.{Bagging}
+use Rattle.merkle_base.specs.declared.family.Bagging.{Bagging}
 use Rattle.merkle_forest_theory.specs.Mmb.{newest_pair}
 use Rattle.merkle_forest_theory.specs.Mmr.{carries}
-use Rattle.merkle_lines.specs.declared.command.Command.{Command}
-use Rattle.merkle_lines.specs.declared.command.Command.TheVariants.{New, Ask}
-use Rattle.merkle_lines.specs.declared.command.FamilyName.{FamilyName}
-use Rattle.merkle_lines.specs.declared.command.FamilyName.TheVariants.{Mmr, Mmb}
-use Rattle.merkle_lines.specs.declared.command.HashName.{HashName}
-use Rattle.merkle_lines.specs.declared.command.HashName.TheVariants.{Sha256, Xor8}
+use Rattle.merkle_commands.specs.declared.command.Command.{Command}
+use Rattle.merkle_commands.specs.declared.command.Command.TheVariants.{New, Ask}
+use Rattle.merkle_commands.specs.declared.command.FamilyName.{FamilyName}
+use Rattle.merkle_commands.specs.declared.command.FamilyName.TheVariants.{Mmr, Mmb}
+use Rattle.merkle_commands.specs.declared.command.HashName.{HashName}
+use Rattle.merkle_commands.specs.declared.command.HashName.TheVariants.{Sha256, Xor8}
 use Rattle.merkle_lines.specs.Answers.{Given, Kind, kind_of, nothing, error_line, IsAnswered}
 use Rattle.merkle_base.specs.Scheme.{scheme_of}
-use Rattle.merkle_lines.specs.Commands.{words_of, joined, IsCommand}
+use Rattle.merkle_commands.specs.Commands.{words_of, joined, IsCommand}
 use Rattle.merkle_lines.specs.Hashes.{sha256_hashing, xor8_hashing}
 
 -- a structure that was begun, and what it was given

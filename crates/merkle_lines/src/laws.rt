@@ -1,10 +1,10 @@
 //! The definitions of the lines on small cases.
 ghost use Rattle.std.specs.Prelude.{◌≡◌, [], ◌∷◌, ◌++◌, Ok, codes};
 ghost use Rattle.std.specs.Fmt.{decimal};
-ghost use Rattle.merkle_core.specs.declared.family.Bagging.TheVariants.{ForwardFold, BackwardFold};
-ghost use Rattle.merkle_lines.specs.declared.command.FamilyName.TheVariants.{Mmr};
-ghost use Rattle.merkle_lines.specs.declared.command.HashName.TheVariants.{Xor8};
-ghost use Rattle.merkle_lines.specs.declared.command.Request.TheVariants.{Commit};
+ghost use Rattle.merkle_base.specs.declared.family.Bagging.TheVariants.{ForwardFold, BackwardFold};
+ghost use Rattle.merkle_commands.specs.declared.command.FamilyName.TheVariants.{Mmr};
+ghost use Rattle.merkle_commands.specs.declared.command.HashName.TheVariants.{Xor8};
+ghost use Rattle.merkle_commands.specs.declared.command.Request.TheVariants.{Commit};
 ghost use Rattle.merkle_lines.specs.Answers.{added, answered, refused};
 ghost use Rattle.merkle_lines.specs.Transcript.{lines_of, named_kind};
 

@@ -4,11 +4,11 @@ ghost use Rattle.merkle_hasher.specs.Standard.{standard};
 ghost use Rattle.merkle_lines.specs.Answers.{Given, kind_of, nothing, IsAnswered};
 ghost use Rattle.merkle_base.specs.Scheme.{scheme_of};
 ghost use Rattle.merkle_lines.specs.AnswerText.{answer_text};
-ghost use Rattle.merkle_lines.specs.Commands.{IsCommand};
+ghost use Rattle.merkle_commands.specs.Commands.{IsCommand};
 ghost use Rattle.merkle_lines.specs.ErrorNames.{error_name, hex_error_name};
 ghost use Rattle.merkle_lines.specs.Held.{IsHeld, Tells, adding};
 ghost use Rattle.merkle_lines.specs.Transcript.{Told, IsCommandAnswered};
-ghost use Rattle.merkle_lines.specs.Words.{IsHexWord};
+ghost use Rattle.merkle_commands.specs.Words.{IsHexWord};
 
 use crate::command::{Command, FamilyName, HashName, Request};
 use crate::hex_words::{HexError, read_hex, write_hex};

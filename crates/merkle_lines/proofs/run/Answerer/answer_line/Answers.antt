@@ -1,6 +1,6 @@
 use Rattle.std.proofs.Common.{inr, refl, subst}
 use Rattle.std.specs.Str.{IsUtf8}
-use Rattle.merkle_lines.proofs.AsciiLines.{no_command}
+use Rattle.merkle_commands.proofs.AsciiLines.{no_command}
 use Rattle.merkle_lines.proofs.run.Answerer.answer_line.Goals as goal
 
 pub returns-in_default-clause-answered : goal.returns-in_default-clause-answered

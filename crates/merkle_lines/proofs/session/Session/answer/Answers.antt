@@ -1,8 +1,8 @@
 use Rattle.std.proofs.Common.{refl, subst}
-use Rattle.merkle_lines.specs.declared.command.FamilyName.TheVariants.{Mmr, Mmb}
-use Rattle.merkle_lines.specs.declared.command.HashName.TheVariants.{Sha256, Xor8}
+use Rattle.merkle_commands.specs.declared.command.FamilyName.TheVariants.{Mmr, Mmb}
+use Rattle.merkle_commands.specs.declared.command.HashName.TheVariants.{Sha256, Xor8}
 use Rattle.merkle_lines.specs.AnswerText.{answer_text}
-use Rattle.merkle_lines.specs.Commands.{IsCommand}
+use Rattle.merkle_commands.specs.Commands.{IsCommand}
 use Rattle.merkle_lines.specs.Held.{Tells}
 use Rattle.merkle_lines.proofs.Dispatched.{dispatched}
 use Rattle.merkle_lines.proofs.session.Session.answer.Goals as goal

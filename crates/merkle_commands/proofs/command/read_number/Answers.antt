@@ -5,8 +5,8 @@ use Rattle.std.specs.Fmt.{decimal}
 use Rattle.std.specs.Str.Parse.{AllDigits, digits_value, ParsesUnsigned}
 use Rattle.std.proofs.lemmas.Fmt.{decimal_digit, digits_decimal, decimal_nonempty, first_decimal, decimal-digits_value, parse-decimal}
 use Rattle.std.proofs.lemmas.Str.Parse.{IsNumeralModel, numerals_by_value, tells_digits, not_in_digits, parse_plain}
-use Rattle.merkle_lines.specs.Words.{IsPadded}
-use Rattle.merkle_lines.proofs.command.read_number.Goals as goal
+use Rattle.merkle_commands.specs.Words.{IsPadded}
+use Rattle.merkle_commands.proofs.command.read_number.Goals as goal
 
 numerals : IsNumeralModel (AllDigits 10) (digits_value 10)
 numerals = numerals_by_value (AllDigits 10) tells_digits

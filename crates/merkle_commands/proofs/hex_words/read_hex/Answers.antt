@@ -1,7 +1,7 @@
 use Rattle.std.proofs.Common.{sym, ◌∙◌, inl, inr}
 use Rattle.hex.proofs.HexLemmas.{decode_of-digits}
-use Rattle.merkle_lines.specs.Words.{IsHexWord}
-use Rattle.merkle_lines.proofs.hex_words.read_hex.Goals as goal
+use Rattle.merkle_commands.specs.Words.{IsHexWord}
+use Rattle.merkle_commands.proofs.hex_words.read_hex.Goals as goal
 
 -- a word that was tested decodes, so memory alone can fail
 pub unreachable-requires : goal.unreachable-requires

@@ -2,10 +2,10 @@
 ghost use Rattle.std.specs.Prelude.{◌≡◌, ◌↔◌, IsTrue, IfOk, IsErrOf, IsOkUnless, Ok};
 ghost use Rattle.std.specs.String.{string_bytes};
 ghost use Rattle.hex.specs.Hex.{decode_of, encode_lower, is_hex_digit};
-ghost use Rattle.merkle_lines.specs.Words.{IsHexWord};
+ghost use Rattle.merkle_commands.specs.Words.{IsHexWord};
 
 use hex::FromHexError;
-use merkle_core::error::OutOfMemory;
+use merkle_base::error::OutOfMemory;
 use std::alloc::Global;
 
 /// Why a word gave no bytes.

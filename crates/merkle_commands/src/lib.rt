@@ -1,0 +1,5 @@
+//! Lines as commands, and bytes as words of hexadecimal digits.
+#![tactic(auto)]
+
+pub mod command;
+pub mod hex_words;
