@@ -1,5 +1,7 @@
-pub mod Additions
+pub mod Commits
 pub mod Dispatched
 pub mod Holdings
+pub mod Making
 pub mod Replies
 pub mod Transcripts
+pub mod Updates

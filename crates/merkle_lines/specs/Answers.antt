@@ -1,80 +1,149 @@
 -- What is answered to the requests of a structure, in terms of the elements that it was given.
-use Rattle.std.specs.Prelude.{◌≡◌, ◌⊎◌, ℕ, suc, ◌+◌, List, [], ◌∷◌, ◌++◌, length, Result, Ok, Err, cond, nat_lt, nat_le, codes}
+use Rattle.std.specs.Prelude.{◌≡◌, ◌≢◌, ◌⊎◌, ℕ, ◌+◌, ◌-◌, ◌*◌, ◌^◌, ◌<◌, ◌≤◌, List, [], ◌∷◌, ◌++◌, length, map, Option, Some, None, Ok, Err, cond, min, nat_le, nat_lt, slice_get, codes, false}
 use Rattle.std.specs.Fmt.{decimal}
 use Rattle.hex.specs.Hex.{decode_of, encode_lower}
-use Rattle.hex.specs.declared.error.FromHexError.{FromHexError}
+use Rattle.merkle_base.specs.Digests.{node_digests}
 use Rattle.merkle_base.specs.Forest.{size}
-use Rattle.merkle_base.specs.Hashing.{Hashing}
 use Rattle.merkle_base.specs.Places.{peaks_of}
 use Rattle.merkle_base.specs.Root.{list_root}
 use Rattle.merkle_base.specs.Scheme.{Scheme}
+use Rattle.merkle_base.specs.Tree.{Tree, position}
+use Rattle.merkle_base.specs.declared.error.DecodeError.{DecodeError}
+use Rattle.merkle_base.specs.declared.error.DecodeError.TheVariants.{OutOfMemory}
+use Rattle.merkle_batch_theory.specs.Contents.{is_kept}
+use Rattle.merkle_batch_theory.specs.Needed.{IsNeeded}
+use Rattle.merkle_codec.specs.ProofSpelling.{parts_spelling, IsProofRefusal}
+use Rattle.merkle_commands.specs.Commands.{optional_words}
 use Rattle.merkle_commands.specs.declared.command.Request.{Request}
-use Rattle.merkle_commands.specs.declared.command.Request.TheVariants.{Add, Commit, Root}
+use Rattle.merkle_commands.specs.declared.command.Request.TheVariants.{Add, Update, Commit, Prune, Root, Prove, Check}
+use Rattle.merkle_proof.specs.Input.{leaf_digests, range_input}
+use Rattle.merkle_proof.specs.RangePlans.{IsFirstMissing}
+use Rattle.merkle_root_theory.specs.Range.{range_digests}
+use Rattle.merkle_root_theory.specs.Reads.{reading_order}
+use Rattle.merkle_root_theory.specs.Reconstruction.{reconstructed}
+use Rattle.merkle_lines.specs.ErrorNames.{decode_error_name}
+use Rattle.merkle_lines.specs.Given.{Given, all_committed, at_updated, changes, count, pruned_to, with_changes, with_element, with_update, without_changes}
 
--- the elements of the last commit, and those added since, each in the order of their lines
-pub record Given : Type 0 where
-  pub committed : List (List ℕ)
-  pub added : List (List ℕ)
-
-abbrev pub nothing : Given
-nothing = record { committed = []; added = [] }
-
--- how many there are
-abbrev pub count : Given → ℕ
-count g = length g.committed + length g.added
-
--- with one more
-abbrev pub with_element : Given → List ℕ → Given
-with_element g element = record { committed = g.committed; added = g.added ++ element ∷ [] }
-
--- with all of them committed
-abbrev pub all_committed : Given → Given
-all_committed g = record { committed = g.committed ++ g.added; added = [] }
-
--- without those added since the last commit
-abbrev pub without_added : Given → Given
-without_added g = record { committed = g.committed; added = [] }
-
--- the digests of elements as leaves, the first of them at location n
-abbrev pub leaf_digests : {D : Type 0} → Hashing D → (List ℕ → List ℕ) → ℕ → List (List ℕ) → List D
-leaf_digests h rule n [] = []
-leaf_digests h rule n (element ∷ elements) = h.leaf (size rule n) element ∷ leaf_digests h rule (suc n) elements
-
--- a kind of structure: its merge rule, its greatest leaf count, and the bytes of the root of elements for an inactive count
-pub record Kind : Type 0 where
-  pub rule : List ℕ → List ℕ
-  pub max_leaves : ℕ
-  pub root : List (List ℕ) → ℕ → List ℕ
-
--- the kind of a family with a hasher
-abbrev pub kind_of : {D : Type 0} → Scheme D → Kind
-kind_of s = record {
-  rule = s.rule;
-  max_leaves = s.max_leaves;
-  root = λ elements k. s.hashing.bytes (list_root s (leaf_digests s.hashing s.rule 0 elements) k);
-}
+-- the bytes that a word of digits spells; "-" spells none
+abbrev pub word_bytes : List ℕ → List ℕ
+word_bytes word = elim (decode_of word) [ Ok bytes ↦ bytes | Err e ↦ [] ]
 
 -- the line of a refusal
 abbrev pub error_line : List ℕ → List ℕ
 error_line name = codes "error " ++ name
 
--- what adding the element of some digits leaves, and the line that answers it
-abbrev pub added : Kind → Given → Result (List ℕ) FromHexError → Given × List ℕ
-added kind g (Ok element) = cond (nat_lt (count g) kind.max_leaves) (with_element g element, codes "ok " ++ decimal (count g)) (without_added g, error_line (codes "LocationOverflow"))
-added kind g (Err e) = (without_added g, error_line (codes "Syntax"))
+-- the leaf digests of the committed elements
+abbrev pub committed_list : {D : Type 0} → Scheme D → Given → List D
+committed_list s g = leaf_digests s.hashing s.rule 0 g.committed
 
--- what a request leaves, and the line that answers it
-abbrev pub answered : Kind → Given → Request → Given × List ℕ
-answered kind g (Add digits) = added kind g (decode_of digits.now)
-answered kind g Commit = (all_committed g, codes "ok " ++ decimal (count g) ++ codes " " ++ decimal (size kind.rule (count g)))
-answered kind g (Root k) = (g, cond (nat_le k (length (peaks_of kind.rule (length g.committed)))) (encode_lower (kind.root g.committed k)) (error_line (codes "InvalidInactivePeaks")))
+-- what adding an element leaves, and the line that answers it
+abbrev pub added : {D : Type 0} → Scheme D → Given → List ℕ → Given × List ℕ
+added s g element =
+    let c = changes g in
+    cond (nat_lt (length c.elements) s.max_leaves) (with_changes g (with_element c element), codes "ok " ++ decimal (length c.elements))
+    (without_changes g, error_line (codes "LocationOverflow"))
 
--- the same where memory was wanting
-abbrev pub refused : Given → Request → Given × List ℕ
-refused g (Add digits) = (without_added g, error_line (codes "OutOfMemory"))
-refused g Commit = (without_added g, error_line (codes "OutOfMemory"))
-refused g (Root k) = (g, error_line (codes "OutOfMemory"))
+-- what updating an element leaves, and the line that answers it
+abbrev pub updated : Given → ℕ → List ℕ → Given × List ℕ
+updated g location element =
+    let c = changes g in
+    cond (nat_le (length c.elements) location) (without_changes g, error_line (codes "LeafOutOfBounds"))
+    (cond (nat_lt location c.boundary) (without_changes g, error_line (codes "ElementPruned"))
+    (with_changes g (with_update (count g) c location element), codes "ok"))
+
+-- what pruning leaves, and the line that answers it
+abbrev pub pruned : Given → ℕ → Given × List ℕ
+pruned g location =
+    let p = pruned_to g location in
+    cond (nat_lt (count g) location) (g, error_line (codes "LeafOutOfBounds")) (p, codes "ok " ++ decimal p.boundary ++ codes " " ++ decimal (count g))
+
+-- the line that answers a root
+abbrev pub root_line : {D : Type 0} → Scheme D → Given → ℕ → List ℕ
+root_line s g inactive =
+    cond (nat_le inactive (length (peaks_of s.rule (count g)))) (encode_lower (s.hashing.bytes (list_root s (committed_list s g) inactive)))
+    (error_line (codes "InvalidInactivePeaks"))
+
+-- the changes need the node t, which was pruned
+abbrev pub IsLost : (List ℕ → List ℕ) → Given → Tree → Type 0
+IsLost rule g t =
+    let c = changes g in
+    IsNeeded rule (at_updated rule c.updated) (count g) (length c.elements) t × (is_kept rule g.boundary (position t) ≡ false)
+
+-- what committing leaves, and the line that answers it: it is refused where a node is lost that it needs
+abbrev pub IsCommitted : (List ℕ → List ℕ) → Given → Given → List ℕ → Type 0
+IsCommitted rule g u text =
+    let n = length (changes g).elements in
+    (((t : Tree) → ¬ (IsLost rule g t)) × (u ≡ all_committed g) × (text ≡ codes "ok " ++ decimal n ++ codes " " ++ decimal (size rule n)))
+    ⊎ ((t : Tree) × IsLost rule g t × (u ≡ without_changes g) × (text ≡ error_line (codes "MissingNode")))
+
+-- the committed list's node at a position, where it isn't pruned
+abbrev pub kept_node : {D : Type 0} → Scheme D → Given → ℕ → Option D
+kept_node s g p = cond (is_kept s.rule g.boundary p) (slice_get (node_digests s.hashing s.rule (committed_list s g)) p) None
+
+-- a node that a proof of the leaves from a on, before b, reads was pruned
+abbrev pub IsPruned : {D : Type 0} → Scheme D → Given → (a b inactive : ℕ) → Type 0
+IsPruned s g a b inactive = (p : ℕ) × IsFirstMissing (λ q node. node ≡ kept_node s g q) (map position (reading_order s.bagging inactive s.rule (count g) a b)) p
+
+-- the digits of the bytes that spell the honest proof of the leaves from a on, before b
+abbrev pub proof_line : {D : Type 0} → Scheme D → Given → (a b inactive : ℕ) → List ℕ
+proof_line s g a b inactive = encode_lower (parts_spelling s.hashing.bytes (count g) inactive (range_digests s (committed_list s g) inactive a b))
+
+-- the line that answers a proof: the first refusal that applies, or the proof
+abbrev pub IsProved : {D : Type 0} → Scheme D → Given → (a b inactive : ℕ) → List ℕ → Type 0
+IsProved s g a b inactive text =
+    ((b ≤ a) × (text ≡ error_line (codes "Empty")))
+    ⊎ ((a < b) × (count g < b) × (text ≡ error_line (codes "RangeOutOfBounds")))
+    ⊎ ((a < b) × (b ≤ count g) × (length (peaks_of s.rule (count g)) < inactive) × (text ≡ error_line (codes "InvalidProof")))
+    ⊎ ((a < b) × (b ≤ count g) × (inactive ≤ length (peaks_of s.rule (count g)))
+    × ((IsPruned s g a b inactive × (text ≡ error_line (codes "ElementPruned"))) ⊎ (text ≡ proof_line s g a b inactive)))
+
+-- the greatest number of digests that are read of a proof of so many elements, as far as 64 bits count
+abbrev pub most_digests : ℕ → ℕ
+most_digests elements = min (122 * elements) (2 ^ 64 - 1)
+
+-- the line says whether P holds
+abbrev pub Says : Type 0 → List ℕ → Type 0
+Says P text = (P × (text ≡ codes "yes")) ⊎ ((¬ P) × (text ≡ codes "no"))
+
+-- the line on bytes that begin with the spelling of a proof: whether nothing follows it, and it has that number of inactive peaks, and the elements
+-- from a on lead to the root with it
+abbrev pub IsVerdict : {D : Type 0} → Scheme D → (a inactive : ℕ) → (root : D) → (proof : List ℕ) → List (List ℕ) → List ℕ → Type 0
+IsVerdict {D} s a inactive root proof elements text =
+    (leaves peaks : ℕ) × (digests : List D) × (rest : List ℕ) × (leaves ≤ s.max_leaves) × (length digests ≤ most_digests (length elements))
+    × (proof ≡ parts_spelling s.hashing.bytes leaves peaks digests ++ rest)
+    × (((rest ≢ []) × (text ≡ error_line (codes "Trailing")))
+    ⊎ ((rest ≡ []) × Says ((peaks ≡ inactive) × (reconstructed s (range_input s leaves peaks digests a elements) ≡ Ok root)) text))
+
+-- the line that answers a check: the bytes of the root are no digest's, or those of the proof begin with no proof, or else the verdict
+abbrev pub IsChecked : {D : Type 0} → Scheme D → (size : ℕ) → (Spells : List ℕ → Type 0) → (a inactive : ℕ) → (root proof : List ℕ) → List (List ℕ) → List ℕ → Type 0
+IsChecked {D} s size Spells a inactive root proof elements text =
+    ((¬ (Spells root)) × (text ≡ error_line (codes "Syntax")))
+    ⊎ (Spells root × ((e : DecodeError) × (e ≢ OutOfMemory) × IsProofRefusal size Spells s.max_leaves (most_digests (length elements)) proof e
+    × (text ≡ error_line (decode_error_name e))))
+    ⊎ ((d : D) × (s.hashing.bytes d ≡ root) × IsVerdict s a inactive d proof elements text)
+
+-- what a request leaves, and the line that answers it; digests are read from so many bytes, of which each that spells one is a digest's
+abbrev pub IsDone : {D : Type 0} → Scheme D → (size : ℕ) → (Spells : List ℕ → Type 0) → Given → Request → Given → List ℕ → Type 0
+IsDone s size Spells g (Add digits) u text = (u, text) ≡ added s g (word_bytes digits.now)
+IsDone s size Spells g (Update location digits) u text = (u, text) ≡ updated g location (word_bytes digits.now)
+IsDone s size Spells g Commit u text = IsCommitted s.rule g u text
+IsDone s size Spells g (Prune location) u text = (u, text) ≡ pruned g location
+IsDone s size Spells g (Root inactive) u text = (u ≡ g) × (text ≡ root_line s g inactive)
+IsDone s size Spells g (Prove start end inactive) u text = (u ≡ g) × IsProved s g start end inactive text
+IsDone s size Spells g (Check start inactive root proof elements) u text =
+    (u ≡ g) × IsChecked s size Spells start inactive (word_bytes root.now) (word_bytes proof.now) (map word_bytes (optional_words elements)) text
+
+-- what is left where memory was wanting
+abbrev pub left : Given → Request → Given
+left g (Add digits) = without_changes g
+left g (Update location digits) = without_changes g
+left g Commit = without_changes g
+left g (Prune location) = g
+left g (Root inactive) = g
+left g (Prove start end inactive) = g
+left g (Check start inactive root proof elements) = g
 
 -- a request leaves u, and the text answers it
-abbrev pub IsAnswered : Kind → Given → Request → Given → List ℕ → Type 0
-IsAnswered kind g request u text = ((u, text) ≡ answered kind g request) ⊎ ((u, text) ≡ refused g request)
+abbrev pub IsAnswered : {D : Type 0} → Scheme D → (size : ℕ) → (Spells : List ℕ → Type 0) → Given → Request → Given → List ℕ → Type 0
+IsAnswered s size Spells g request u text =
+    IsDone s size Spells g request u text ⊎ ((u ≡ left g request) × (text ≡ error_line (codes "OutOfMemory")))

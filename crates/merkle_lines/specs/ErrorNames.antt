@@ -1,5 +1,7 @@
 -- The names of errors.
 use Rattle.std.specs.Prelude.{ℕ, List, codes}
+use Rattle.merkle_base.specs.declared.error.DecodeError.{DecodeError}
+use Rattle.merkle_base.specs.declared.error.DecodeError.TheVariants as decode
 use Rattle.merkle_base.specs.declared.error.Error.{Error}
 use Rattle.merkle_base.specs.declared.error.Error.TheVariants as error
 use Rattle.merkle_commands.specs.declared.hex_words.HexError.{HexError}
@@ -32,3 +34,10 @@ error_name error.OutOfMemory = codes "OutOfMemory"
 abbrev pub hex_error_name : HexError → List ℕ
 hex_error_name hex.Syntax = codes "Syntax"
 hex_error_name hex.OutOfMemory = codes "OutOfMemory"
+
+abbrev pub decode_error_name : DecodeError → List ℕ
+decode_error_name decode.EndOfBuffer = codes "EndOfBuffer"
+decode_error_name decode.InvalidVarint = codes "InvalidVarint"
+decode_error_name decode.Invalid = codes "Invalid"
+decode_error_name decode.TooMany = codes "TooMany"
+decode_error_name decode.OutOfMemory = codes "OutOfMemory"

@@ -9,7 +9,9 @@ use Rattle.merkle_commands.specs.declared.command.FamilyName.{FamilyName}
 use Rattle.merkle_commands.specs.declared.command.FamilyName.TheVariants.{Mmr, Mmb}
 use Rattle.merkle_commands.specs.declared.command.HashName.{HashName}
 use Rattle.merkle_commands.specs.declared.command.HashName.TheVariants.{Sha256, Xor8}
-use Rattle.merkle_lines.specs.Answers.{Given, Kind, kind_of, nothing, error_line, IsAnswered}
+use Rattle.merkle_commands.specs.declared.command.Request.{Request}
+use Rattle.merkle_lines.specs.Answers.{error_line, IsAnswered}
+use Rattle.merkle_lines.specs.Given.{Given, nothing}
 use Rattle.merkle_base.specs.Scheme.{scheme_of}
 use Rattle.merkle_commands.specs.Commands.{words_of, joined, IsCommand}
 use Rattle.merkle_lines.specs.Hashes.{sha256_hashing, xor8_hashing}
@@ -21,19 +23,20 @@ pub record Told : Type 0 where
   pub hash : HashName
   pub given : Given
 
--- the Range has at most 2^62 leaves, the Belt 30 more; their bytes are 0 and 1
-abbrev pub named_kind : FamilyName → Bagging → HashName → Kind
-named_kind Mmr bagging Sha256 = kind_of (scheme_of sha256_hashing bagging carries (2 ^ 62) 0)
-named_kind Mmr bagging Xor8 = kind_of (scheme_of xor8_hashing bagging carries (2 ^ 62) 0)
-named_kind Mmb bagging Sha256 = kind_of (scheme_of sha256_hashing bagging newest_pair (2 ^ 62 + 30) 1)
-named_kind Mmb bagging Xor8 = kind_of (scheme_of xor8_hashing bagging newest_pair (2 ^ 62 + 30) 1)
+-- a request of a structure of some kind leaves u, and the text answers it; the Range has at most 2^62 leaves, the Belt 30 more, and their
+-- bytes are 0 and 1; a digest of SHA-256 has 32 bytes, one of the exclusive or has one
+abbrev pub IsNamedAnswered : FamilyName → Bagging → HashName → Given → Request → Given → List ℕ → Type 0
+IsNamedAnswered Mmr bagging Sha256 = IsAnswered (scheme_of sha256_hashing bagging carries (2 ^ 62) 0) 32 (λ b. length b ≡ 32)
+IsNamedAnswered Mmr bagging Xor8 = IsAnswered (scheme_of xor8_hashing bagging carries (2 ^ 62) 0) 1 (λ b. length b ≡ 1)
+IsNamedAnswered Mmb bagging Sha256 = IsAnswered (scheme_of sha256_hashing bagging newest_pair (2 ^ 62 + 30) 1) 32 (λ b. length b ≡ 32)
+IsNamedAnswered Mmb bagging Xor8 = IsAnswered (scheme_of xor8_hashing bagging newest_pair (2 ^ 62 + 30) 1) 1 (λ b. length b ≡ 1)
 
 -- a command leaves u, and the text answers it; before the first `new` nothing was told
 abbrev pub IsCommandAnswered : Option Told → Command → Option Told → List ℕ → Type 0
 IsCommandAnswered told (New family bagging hash) u text = (u ≡ Some (record { family = family; bagging = bagging; hash = hash; given = nothing })) × (text ≡ codes "ok")
 IsCommandAnswered None (Ask request) u text = (u ≡ None) × (text ≡ error_line (codes "NoStructure"))
 IsCommandAnswered (Some t) (Ask request) u text =
-    (g : Given) × (u ≡ Some (record { family = t.family; bagging = t.bagging; hash = t.hash; given = g })) × IsAnswered (named_kind t.family t.bagging t.hash) t.given request g text
+    (g : Given) × (u ≡ Some (record { family = t.family; bagging = t.bagging; hash = t.hash; given = g })) × IsNamedAnswered t.family t.bagging t.hash t.given request g text
 
 -- a line leaves u, and the text answers it
 abbrev pub IsLineAnswered : Option Told → List ℕ → Option Told → List ℕ → Type 0

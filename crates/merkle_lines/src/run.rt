@@ -2,7 +2,7 @@
 ghost use Rattle.std.specs.Prelude.{◌≡◌, ℕ, [], ◌∷◌, ◌++◌, List, Option, None, OnOk};
 ghost use Rattle.std.specs.Io.KnownBytes.{Appends, Consumes, IsAtEnd, Keeps};
 ghost use Rattle.merkle_lines.specs.AnswerText.{answer_text};
-ghost use Rattle.merkle_lines.specs.Held.{Tells};
+ghost use Rattle.merkle_lines.specs.Tells.{Tells};
 ghost use Rattle.merkle_lines.specs.Transcript.{Told, IsLineAnswered, IsTranscript, Leads, lines_after, lines_of};
 
 use crate::command::read_command;

@@ -6,7 +6,7 @@ ghost use Rattle.merkle_base.specs.Scheme.{scheme_of};
 ghost use Rattle.merkle_lines.specs.AnswerText.{answer_text};
 ghost use Rattle.merkle_commands.specs.Commands.{IsCommand};
 ghost use Rattle.merkle_lines.specs.ErrorNames.{error_name, hex_error_name};
-ghost use Rattle.merkle_lines.specs.Held.{IsHeld, Tells, adding};
+ghost use Rattle.merkle_lines.specs.Held.{IsHeld, Makes};
 ghost use Rattle.merkle_lines.specs.Transcript.{Told, IsCommandAnswered};
 ghost use Rattle.merkle_commands.specs.Words.{IsHexWord};
 
@@ -31,8 +31,12 @@ pub enum Answer {
     Added(u64),
     /// The structure after a commit.
     Committed { leaves: u64, size: u64 },
-    /// A digest in hexadecimal digits.
-    Digest(String),
+    /// The bounds of the structure after it was pruned.
+    Pruned { start: u64, end: u64 },
+    /// A digest or a proof in hexadecimal digits.
+    Digits(String),
+    /// Whether a proof is accepted.
+    Verdict(bool),
     /// The name of what was wrong.
     Fault(&'static str),
 }
@@ -45,7 +49,10 @@ impl fmt::Display for Answer {
             Answer::Done => write!(f, "ok"),
             Answer::Added(location) => write!(f, "ok {location}"),
             Answer::Committed { leaves, size } => write!(f, "ok {leaves} {size}"),
-            Answer::Digest(digits) => write!(f, "{digits}"),
+            Answer::Pruned { start, end } => write!(f, "ok {start} {end}"),
+            Answer::Digits(digits) => write!(f, "{digits}"),
+            Answer::Verdict(true) => write!(f, "yes"),
+            Answer::Verdict(false) => write!(f, "no"),
             Answer::Fault(name) => write!(f, "error {name}"),
         }
     }
@@ -87,6 +94,20 @@ impl Named for OutOfMemory {
 
     fn name(&self) -> &'static str {
         "OutOfMemory"
+    }
+}
+
+impl Named for DecodeError {
+    ghost called = { decode_error_name };
+
+    fn name(&self) -> &'static str {
+        match self {
+            DecodeError::EndOfBuffer => "EndOfBuffer",
+            DecodeError::InvalidVarint => "InvalidVarint",
+            DecodeError::Invalid => "Invalid",
+            DecodeError::TooMany => "TooMany",
+            DecodeError::OutOfMemory => "OutOfMemory",
+        }
     }
 }
 
@@ -132,7 +153,7 @@ impl<F: Family, H: PlainHasher> Structure<F, H> {
     // The empty structure, without a pending batch.
     fn new(alloc: Global, bagging: Bagging) -> Self
         ensures kind { result.hasher ≡ bagging }
-        ensures held { IsHeld (standard H.digest_of H.Digest.bytes H.Digest.eq H.Digest.EMPTY) F.rule result.committed result.pending nothing }
+        ensures held { IsHeld (standard H.digest_of H.Digest.bytes H.Digest.eq H.Digest.EMPTY) F.rule F.MAX_LEAVES result.committed result.pending nothing }
     {
         Structure {
             hasher: Standard::new(bagging),
@@ -146,9 +167,8 @@ impl<F: Family, H: PlainHasher> Structure<F, H> {
         ensures kind { self.new.hasher ≡ self.old.hasher }
         ensures kept { self.new.committed ≡ self.old.committed }
         ensures gone { self.new.pending ≡ None }
-        ensures batch { IfOk result (λ b. (g : Given)
-            → IsHeld (standard H.digest_of H.Digest.bytes H.Digest.eq H.Digest.EMPTY) F.rule self.old.committed self.old.pending g
-            → b ≡ adding (standard H.digest_of H.Digest.bytes H.Digest.eq H.Digest.EMPTY) F.rule self.old.committed (length g.committed) g.added) }
+        ensures batch { let h = standard H.digest_of H.Digest.bytes H.Digest.eq H.Digest.EMPTY in IfOk result (λ b. (g : Given)
+            → IsHeld h F.rule F.MAX_LEAVES self.old.committed self.old.pending g → Makes h F.rule (leaf_digests h F.rule 0 g.committed) b (changes g)) }
         ensures refused { IsOkUnless result Error.OutOfMemory }
     {
         match self.pending.take() {
@@ -160,8 +180,8 @@ impl<F: Family, H: PlainHasher> Structure<F, H> {
     fn add(&mut self, alloc: Global, digits: &str) -> Answer
         ensures kind { self.new.hasher ≡ self.old.hasher }
         ensures answered { let h = standard H.digest_of H.Digest.bytes H.Digest.eq H.Digest.EMPTY in (g : Given) → IsHexWord digits.entry.now
-            → IsHeld h F.rule self.old.committed self.old.pending g → (u : Given) × IsHeld h F.rule self.new.committed self.new.pending u
-            × IsAnswered (kind_of (scheme_of h self.old.hasher F.rule F.MAX_LEAVES F.DOMAIN)) g (Request.Add digits.entry) u (answer_text result) }
+            → IsHeld h F.rule F.MAX_LEAVES self.old.committed self.old.pending g → (u : Given) × IsHeld h F.rule F.MAX_LEAVES self.new.committed self.new.pending u
+            × IsAnswered (scheme_of h self.old.hasher F.rule F.MAX_LEAVES F.DOMAIN) H.Digest.SIZE H.Digest.Spells g (Request.Add digits.entry) u (answer_text result) }
     {
         let batch = or_fault!(self.take_pending());
         let element = or_fault!(read_hex(alloc, digits));
@@ -170,11 +190,28 @@ impl<F: Family, H: PlainHasher> Structure<F, H> {
         Answer::Added(location.as_u64())
     }
 
+    fn update(&mut self, alloc: Global, location: u64, digits: &str) -> Answer
+        ensures kind { self.new.hasher ≡ self.old.hasher }
+        ensures answered { let h = standard H.digest_of H.Digest.bytes H.Digest.eq H.Digest.EMPTY in (g : Given) → IsHexWord digits.entry.now
+            → IsHeld h F.rule F.MAX_LEAVES self.old.committed self.old.pending g → (u : Given) × IsHeld h F.rule F.MAX_LEAVES self.new.committed self.new.pending u
+            × IsAnswered (scheme_of h self.old.hasher F.rule F.MAX_LEAVES F.DOMAIN) H.Digest.SIZE H.Digest.Spells g (Request.Update location digits.entry) u (answer_text result) }
+    {
+        let batch = or_fault!(self.take_pending());
+        let element = or_fault!(read_hex(alloc, digits));
+        let leaf = Location::new(location);
+        self.pending = Some(or_fault!(batch.update_leaf(
+            &self.hasher,
+            leaf,
+            element.as_slice()
+        )));
+        Answer::Done
+    }
+
     fn commit(&mut self) -> Answer
         ensures kind { self.new.hasher ≡ self.old.hasher }
         ensures answered { let h = standard H.digest_of H.Digest.bytes H.Digest.eq H.Digest.EMPTY in (g : Given)
-            → IsHeld h F.rule self.old.committed self.old.pending g → (u : Given) × IsHeld h F.rule self.new.committed self.new.pending u
-            × IsAnswered (kind_of (scheme_of h self.old.hasher F.rule F.MAX_LEAVES F.DOMAIN)) g Request.Commit u (answer_text result) }
+            → IsHeld h F.rule F.MAX_LEAVES self.old.committed self.old.pending g → (u : Given) × IsHeld h F.rule F.MAX_LEAVES self.new.committed self.new.pending u
+            × IsAnswered (scheme_of h self.old.hasher F.rule F.MAX_LEAVES F.DOMAIN) H.Digest.SIZE H.Digest.Spells g Request.Commit u (answer_text result) }
     {
         let batch = or_fault!(self.take_pending());
         let merkleized = or_fault!(batch.merkleize(&self.committed, &self.hasher));
@@ -185,25 +222,36 @@ impl<F: Family, H: PlainHasher> Structure<F, H> {
         }
     }
 
-    fn root(&self, alloc: Global, inactive: usize) -> Answer
-        ensures { let h = standard H.digest_of H.Digest.bytes H.Digest.eq H.Digest.EMPTY in (g : Given) → IsHeld h F.rule self.now.committed self.now.pending g
-            → IsAnswered (kind_of (scheme_of h self.now.hasher F.rule F.MAX_LEAVES F.DOMAIN)) g (Request.Root inactive) g (answer_text result) }
+    fn prune(&mut self, location: u64) -> Answer
+        ensures kind { self.new.hasher ≡ self.old.hasher }
+        ensures answered { let h = standard H.digest_of H.Digest.bytes H.Digest.eq H.Digest.EMPTY in (g : Given)
+            → IsHeld h F.rule F.MAX_LEAVES self.old.committed self.old.pending g → (u : Given) × IsHeld h F.rule F.MAX_LEAVES self.new.committed self.new.pending u
+            × IsAnswered (scheme_of h self.old.hasher F.rule F.MAX_LEAVES F.DOMAIN) H.Digest.SIZE H.Digest.Spells g (Request.Prune location) u (answer_text result) }
     {
-        let root = or_fault!(self.committed.root(&self.hasher, inactive));
-        Answer::Digest(or_fault!(write_hex(alloc, root.as_bytes())))
+        or_fault!(self.committed.prune(Location::new(location)));
+        Answer::Pruned {
+            start: self.committed.pruning_boundary().as_u64(),
+            end: self.committed.leaves().as_u64(),
+        }
     }
 
-    fn answer(&mut self, alloc: Global, request: Request<'_>) -> Answer
-        ensures kind { self.new.hasher ≡ self.old.hasher }
-        ensures answered { let h = standard H.digest_of H.Digest.bytes H.Digest.eq H.Digest.EMPTY in (g : Given) → IsCommand (Command.Ask request.entry)
-            → IsHeld h F.rule self.old.committed self.old.pending g → (u : Given) × IsHeld h F.rule self.new.committed self.new.pending u
-            × IsAnswered (kind_of (scheme_of h self.old.hasher F.rule F.MAX_LEAVES F.DOMAIN)) g request.entry u (answer_text result) }
+    fn root(&self, alloc: Global, inactive: usize) -> Answer
+        ensures { let h = standard H.digest_of H.Digest.bytes H.Digest.eq H.Digest.EMPTY in (g : Given) → IsHeld h F.rule F.MAX_LEAVES self.now.committed self.now.pending g
+            → IsAnswered (scheme_of h self.now.hasher F.rule F.MAX_LEAVES F.DOMAIN) H.Digest.SIZE H.Digest.Spells g (Request.Root inactive) g (answer_text result) }
     {
-        match request {
-            Request::Add(digits) => self.add(alloc, digits),
-            Request::Commit => self.commit(),
-            Request::Root(inactive) => self.root(alloc, inactive),
-        }
+        let root = or_fault!(self.committed.root(&self.hasher, inactive));
+        Answer::Digits(or_fault!(write_hex(alloc, root.as_bytes())))
+    }
+
+    fn prove(&self, alloc: Global, start: u64, end: u64, inactive: usize) -> Answer
+        ensures { let h = standard H.digest_of H.Digest.bytes H.Digest.eq H.Digest.EMPTY in (g : Given) → IsHeld h F.rule F.MAX_LEAVES self.now.committed self.now.pending g
+            → IsAnswered (scheme_of h self.now.hasher F.rule F.MAX_LEAVES F.DOMAIN) H.Digest.SIZE H.Digest.Spells g (Request.Prove start end inactive) g (answer_text result) }
+    {
+        let range = Location::new(start)..Location::new(end);
+        let proof = or_fault!(self.committed.range_proof(&self.hasher, range, inactive));
+        let mut bytes = Vec::new(alloc);
+        or_fault!(proof.write(&mut bytes));
+        Answer::Digits(or_fault!(write_hex(alloc, bytes.as_slice())))
     }
 }
 

@@ -1,7 +1,7 @@
 use Rattle.std.proofs.Common.{◌<◌, ◌++◌, [], None, length, take, arith, subst, sym, ◌∙◌}
 use Rattle.std.proofs.lemmas.Result.{on_ok_weaker}
 use Rattle.std.specs.Io.KnownBytes.{Appends, Consumes}
-use Rattle.merkle_lines.specs.Held.{Tells}
+use Rattle.merkle_lines.specs.Tells.{Tells}
 use Rattle.merkle_lines.specs.Transcript.{Leads}
 use Rattle.merkle_lines.proofs.Transcripts.{appends_then, consumes_all, consumes_kept, consumes_then, leads_all, leads_then}
 use Rattle.merkle_lines.proofs.run.Answerer.answer_all.Goals as goal

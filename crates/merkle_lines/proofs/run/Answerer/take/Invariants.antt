@@ -1,6 +1,6 @@
 use Rattle.std.proofs.Common.{◌≡◌, ◌≤◌, ℕ, List, Option, length, take}
 use Rattle.std.specs.Io.KnownBytes.{Appends}
-use Rattle.merkle_lines.specs.Held.{Tells}
+use Rattle.merkle_lines.specs.Tells.{Tells}
 use Rattle.merkle_lines.specs.Transcript.{Told, Leads}
 use Rattle.merkle_lines.proofs.run.Answerer.take.Given as goal
 

@@ -3,7 +3,7 @@ use Rattle.merkle_commands.specs.declared.command.FamilyName.TheVariants.{Mmr, M
 use Rattle.merkle_commands.specs.declared.command.HashName.TheVariants.{Sha256, Xor8}
 use Rattle.merkle_lines.specs.AnswerText.{answer_text}
 use Rattle.merkle_commands.specs.Commands.{IsCommand}
-use Rattle.merkle_lines.specs.Held.{Tells}
+use Rattle.merkle_lines.specs.Tells.{Tells}
 use Rattle.merkle_lines.proofs.Dispatched.{dispatched}
 use Rattle.merkle_lines.proofs.session.Session.answer.Goals as goal
 

@@ -1,53 +1,48 @@
-use Rattle.std.proofs.Common.{refl, sym, ap, subst, ◌∙◌, ◌≡◌, length, arith, inl, inr}
-use Rattle.merkle_base.specs.Forest.{size}
+use Rattle.std.proofs.Common.{refl, sym, ap, subst, ◌∙◌, ◌≡◌, List, length, ◌∷◌, [], ◌++◌, Ok, true, arith, inl, inr}
 use Rattle.merkle_base.specs.Hashing.{Hashing}
-use Rattle.merkle_batch_theory.specs.Pending.{leaf_total, with_leaf}
+use Rattle.merkle_base.specs.Scheme.{scheme_of}
 use Rattle.merkle_hasher.specs.Standard.{standard}
-use Rattle.merkle_lines.specs.Answers.{error_line, with_element, without_added}
-use Rattle.merkle_lines.specs.Held.{adding, IsHeld}
-use Rattle.merkle_lines.proofs.Holdings.{held_alone, held_more, total_counts}
-use Rattle.merkle_lines.proofs.Replies.{add_done, add_full, add_unread, add_wanting}
+use Rattle.merkle_proof.specs.Input.{leaf_digests}
+use Rattle.merkle_base.specs.Forest.{size}
+use Rattle.merkle_batch_theory.specs.Pending.{leaf_total, with_leaf}
+use Rattle.merkle_lines.specs.Answers.{error_line}
+use Rattle.merkle_lines.specs.Given.{changes, with_changes, with_element, without_changes}
+use Rattle.merkle_lines.specs.Held.{IsHeld, Makes}
+use Rattle.merkle_lines.proofs.Holdings.{held_with, held_without}
+use Rattle.merkle_lines.proofs.Making.{made_total, makes_more}
+use Rattle.merkle_lines.proofs.Replies.{add_done, add_full, wanting, wanting_hex}
+use Rattle.merkle_commands.specs.declared.command.Request.TheVariants.{Add}
 use Rattle.merkle_lines.proofs.session.Structure.add.Goals as goal
 
 pub returns-in-Err-clause-answered : goal.returns-in-Err-clause-answered
 returns-in-Err-clause-answered g c = λ given word held.
     let h : Hashing g.row.H-Digest.Denot = standard g.H.PlainHasher.digest_of g.H.Digest.Digest.bytes g.H.Digest.PartialEq.eq g.H.Digest.Digest.EMPTY in
     let rule = g.F.Family.rule in
+    let most = g.F.Family.MAX_LEAVES in
     let old = c.args.self.now in
-    let new = c.take_pending.new.self in
-    let same : new.committed ≡ old.committed = c.take_pending.ensures.kept in (
-      without_added given,
-      held_alone h rule old.committed old.pending given held _ _ same c.take_pending.ensures.gone,
-      add_wanting h rule g.F.Family.MAX_LEAVES g.F.Family.DOMAIN old.hasher given c.args.digits c.in-Err.error _ c.in-Err.ensures.refused (ap error_line c.name.ensures),
-    )
+    (without_changes given, held_without h rule most old.committed old.pending given held _ _ c.take_pending.ensures.kept c.take_pending.ensures.gone, wanting (scheme_of h c.args.self.now.hasher g.F.Family.rule g.F.Family.MAX_LEAVES g.F.Family.DOMAIN) g.H.Digest.Digest.SIZE g.H.Digest.Digest.Spells given (Add c.args.digits) c.in-Err.error _ c.in-Err.ensures.refused (ap error_line c.name.ensures))
 
 pub returns-in-Err-read_hex-clause-answered : goal.returns-in-Err-read_hex-clause-answered
 returns-in-Err-read_hex-clause-answered g c = λ given word held.
     let h : Hashing g.row.H-Digest.Denot = standard g.H.PlainHasher.digest_of g.H.Digest.Digest.bytes g.H.Digest.PartialEq.eq g.H.Digest.Digest.EMPTY in
     let rule = g.F.Family.rule in
+    let most = g.F.Family.MAX_LEAVES in
     let old = c.args.self.now in
-    let new = c.take_pending.new.self in
-    let same : new.committed ≡ old.committed = c.take_pending.ensures.kept in (
-      without_added given,
-      held_alone h rule old.committed old.pending given held _ _ same c.take_pending.ensures.gone,
-      add_unread h rule g.F.Family.MAX_LEAVES g.F.Family.DOMAIN old.hasher given c.args.digits c.in-Err-read_hex.error _ (c.in-Err-read_hex.ensures.spelled word) (ap error_line c.name-in-Err-read_hex.ensures),
-    )
+    (without_changes given, held_without h rule most old.committed old.pending given held _ _ c.take_pending.ensures.kept c.take_pending.ensures.gone, wanting_hex (scheme_of h c.args.self.now.hasher g.F.Family.rule g.F.Family.MAX_LEAVES g.F.Family.DOMAIN) g.H.Digest.Digest.SIZE g.H.Digest.Digest.Spells given (Add c.args.digits) c.in-Err-read_hex.error _ (c.in-Err-read_hex.ensures.spelled word) (ap error_line c.name-in-Err-read_hex.ensures))
 
 pub returns-in-Err-add-clause-answered : goal.returns-in-Err-add-clause-answered
 returns-in-Err-add-clause-answered g c = λ given word held.
     let h : Hashing g.row.H-Digest.Denot = standard g.H.PlainHasher.digest_of g.H.Digest.Digest.bytes g.H.Digest.PartialEq.eq g.H.Digest.Digest.EMPTY in
     let rule = g.F.Family.rule in
+    let most = g.F.Family.MAX_LEAVES in
     let old = c.args.self.now in
-    let new = c.take_pending.new.self in
-    let same : new.committed ≡ old.committed = c.take_pending.ensures.kept in
-    let held-new : IsHeld h rule new.committed old.pending given = subst (λ x. IsHeld h rule x old.pending given) (sym same) held in
-    let adds : c.in-Ok.value ≡ adding h rule new.committed (length given.committed) given.added = subst (λ x. c.in-Ok.value ≡ adding h rule x (length given.committed) given.added) (sym same) (c.in-Ok.ensures.batch given held) in
-    let total = total_counts h rule new.committed old.pending given held-new c.in-Ok.value adds in (
-      without_added given,
-      held_alone h rule old.committed old.pending given held _ _ same c.take_pending.ensures.gone,
+    let makes : Makes h rule (leaf_digests h rule 0 given.committed) c.in-Ok.value (changes given) = c.in-Ok.ensures.batch given held in
+    let total = made_total h rule _ c.in-Ok.value (changes given) makes in (
+      without_changes given,
+      held_without h rule most old.committed old.pending given held _ _ c.take_pending.ensures.kept c.take_pending.ensures.gone,
       elim c.in-Err-add.ensures.refused [
-        | inl full ↦ add_full h rule g.F.Family.MAX_LEAVES g.F.Family.DOMAIN old.hasher given c.args.digits c.in-Ok-read_hex.value.items c.in-Err-add.error _ c.in-Ok-read_hex.ensures.value (sym total ∙ full.1) full.0 (ap error_line c.name-in-Err-add.ensures)
-        | inr memory ↦ add_wanting h rule g.F.Family.MAX_LEAVES g.F.Family.DOMAIN old.hasher given c.args.digits c.in-Err-add.error _ memory.0 (ap error_line c.name-in-Err-add.ensures)
+        | inl full ↦ add_full (scheme_of h c.args.self.now.hasher g.F.Family.rule g.F.Family.MAX_LEAVES g.F.Family.DOMAIN) g.H.Digest.Digest.SIZE g.H.Digest.Digest.Spells given c.args.digits c.in-Err-add.error _ (sym total ∙ full.1) full.0 (ap error_line c.name-in-Err-add.ensures)
+        | inr memory ↦ wanting (scheme_of h c.args.self.now.hasher g.F.Family.rule g.F.Family.MAX_LEAVES g.F.Family.DOMAIN) g.H.Digest.Digest.SIZE g.H.Digest.Digest.Spells given (Add c.args.digits) c.in-Err-add.error _ memory.0 (ap error_line c.name-in-Err-add.ensures)
       ],
     )
 
@@ -55,15 +50,15 @@ pub returns-clause-answered : goal.returns-clause-answered
 returns-clause-answered g c = λ given word held.
     let h : Hashing g.row.H-Digest.Denot = standard g.H.PlainHasher.digest_of g.H.Digest.Digest.bytes g.H.Digest.PartialEq.eq g.H.Digest.Digest.EMPTY in
     let rule = g.F.Family.rule in
+    let most = g.F.Family.MAX_LEAVES in
     let old = c.args.self.now in
-    let new = c.take_pending.new.self in
-    let same : new.committed ≡ old.committed = c.take_pending.ensures.kept in
-    let held-new : IsHeld h rule new.committed old.pending given = subst (λ x. IsHeld h rule x old.pending given) (sym same) held in
-    let adds : c.in-Ok.value ≡ adding h rule new.committed (length given.committed) given.added = subst (λ x. c.in-Ok.value ≡ adding h rule x (length given.committed) given.added) (sym same) (c.in-Ok.ensures.batch given held) in
-    let total = total_counts h rule new.committed old.pending given held-new c.in-Ok.value adds in
-    let element = c.in-Ok-read_hex.value.items in (
-      with_element given element,
-      held_more h rule new.committed old.pending given held-new c.in-Ok.value c.in-Ok-add.value element adds
-          (subst (λ x. c.in-Ok-add.value ≡ with_leaf c.in-Ok.value (h.leaf (size rule (leaf_total c.in-Ok.value)) x)) c.as_slice.ensures.value c.in-Ok-add.ensures.added),
-      add_done h rule g.F.Family.MAX_LEAVES g.F.Family.DOMAIN old.hasher given c.args.digits element c.as_u64.result _ c.in-Ok-read_hex.ensures.value (c.as_u64.ensures ∙ c.leaves-location.ensures.count ∙ total) (omega (arith, c.in-Ok-add.ensures.room, c.as_u64.ensures, c.leaves-location.ensures.count)) refl,
+    let makes : Makes h rule (leaf_digests h rule 0 given.committed) c.in-Ok.value (changes given) = c.in-Ok.ensures.batch given held in
+    let total = made_total h rule _ c.in-Ok.value (changes given) makes in
+    let element = c.in-Ok-read_hex.value.items in
+    let more : c.in-Ok-add.value ≡ with_leaf c.in-Ok.value (h.leaf (size rule (leaf_total c.in-Ok.value)) element) =
+    subst (λ x. c.in-Ok-add.value ≡ with_leaf c.in-Ok.value (h.leaf (size rule (leaf_total c.in-Ok.value)) x)) c.as_slice.ensures.value c.in-Ok-add.ensures.added in (
+      with_changes given (with_element (changes given) element),
+      held_with h rule most old.committed old.pending given held _ c.in-Ok-add.value (with_element (changes given) element) c.take_pending.ensures.kept
+        (subst (λ b. Makes h rule (leaf_digests h rule 0 given.committed) b (with_element (changes given) element)) (sym more) (makes_more h rule _ c.in-Ok.value (changes given) makes element)),
+      add_done (scheme_of h c.args.self.now.hasher g.F.Family.rule g.F.Family.MAX_LEAVES g.F.Family.DOMAIN) g.H.Digest.Digest.SIZE g.H.Digest.Digest.Spells given c.args.digits element c.as_u64.result _ c.in-Ok-read_hex.ensures.value (c.as_u64.ensures ∙ c.leaves-location.ensures.count ∙ total) (omega (arith, c.in-Ok-add.ensures.room, c.as_u64.ensures, c.leaves-location.ensures.count)) refl,
     )

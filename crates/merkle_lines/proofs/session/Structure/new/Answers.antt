@@ -1,5 +1,11 @@
-use Rattle.std.proofs.Common.{ap, refl}
+use Rattle.std.proofs.Common.{ap, refl, arith}
 use Rattle.merkle_lines.proofs.session.Structure.new.Goals as goal
 
 pub returns-clause-held : goal.returns-clause-held
-returns-clause-held g c = record { agrees = c.new-2.ensures.agrees _; counted = ap (λ s. s.leaves) c.new-2.ensures.empty; adds = refl }
+returns-clause-held g c = record {
+  agrees = c.new-2.ensures.agrees _;
+  counted = ap (λ s. s.leaves) c.new-2.ensures.empty;
+  bounded = omega arith;
+  boundary = ap (λ s. s.boundary) c.new-2.ensures.empty;
+  makes = tt;
+}
