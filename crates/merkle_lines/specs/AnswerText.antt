@@ -2,8 +2,8 @@
 use Rattle.std.specs.Prelude.{ℕ, List, ◌++◌, cond, codes}
 use Rattle.std.specs.Fmt.{decimal}
 use Rattle.std.specs.String.{string_bytes}
-use Rattle.merkle_lines.specs.declared.session.Answer.{Answer}
-use Rattle.merkle_lines.specs.declared.session.Answer.TheVariants.{Done, Added, Committed, Pruned, Digits, Verdict, Fault}
+use Rattle.merkle_lines.specs.declared.answer.Answer.{Answer}
+use Rattle.merkle_lines.specs.declared.answer.Answer.TheVariants.{Done, Added, Committed, Pruned, Digits, Verdict, Fault}
 use Rattle.merkle_lines.specs.Answers.{error_line}
 
 -- the bytes of an answer, without the one that ends its line

@@ -114,13 +114,17 @@ IsVerdict {D} s a inactive root proof elements text =
     × (((rest ≢ []) × (text ≡ error_line (codes "Trailing")))
     ⊎ ((rest ≡ []) × Says ((peaks ≡ inactive) × (reconstructed s (range_input s leaves peaks digests a elements) ≡ Ok root)) text))
 
--- the line that answers a check: the bytes of the root are no digest's, or those of the proof begin with no proof, or else the verdict
+-- the line on the bytes of a proof: they begin with no proof, or else the verdict
+abbrev pub IsRead : {D : Type 0} → Scheme D → (size : ℕ) → (Spells : List ℕ → Type 0) → (a inactive : ℕ) → (root : D) → (proof : List ℕ) → List (List ℕ) → List ℕ → Type 0
+IsRead s size Spells a inactive root proof elements text =
+    ((e : DecodeError) × (e ≢ OutOfMemory) × IsProofRefusal size Spells s.max_leaves (most_digests (length elements)) proof e × (text ≡ error_line (decode_error_name e)))
+    ⊎ IsVerdict s a inactive root proof elements text
+
+-- the line that answers a check: the bytes of the root are no digest's, or else what the proof is against it
 abbrev pub IsChecked : {D : Type 0} → Scheme D → (size : ℕ) → (Spells : List ℕ → Type 0) → (a inactive : ℕ) → (root proof : List ℕ) → List (List ℕ) → List ℕ → Type 0
 IsChecked {D} s size Spells a inactive root proof elements text =
     ((¬ (Spells root)) × (text ≡ error_line (codes "Syntax")))
-    ⊎ (Spells root × ((e : DecodeError) × (e ≢ OutOfMemory) × IsProofRefusal size Spells s.max_leaves (most_digests (length elements)) proof e
-    × (text ≡ error_line (decode_error_name e))))
-    ⊎ ((d : D) × (s.hashing.bytes d ≡ root) × IsVerdict s a inactive d proof elements text)
+    ⊎ ((d : D) × (s.hashing.bytes d ≡ root) × IsRead s size Spells a inactive d proof elements text)
 
 -- what a request leaves, and the line that answers it; digests are read from so many bytes, of which each that spells one is a digest's
 abbrev pub IsDone : {D : Type 0} → Scheme D → (size : ℕ) → (Spells : List ℕ → Type 0) → Given → Request → Given → List ℕ → Type 0

@@ -6,9 +6,8 @@ ghost use Rattle.merkle_base.specs.Scheme.{scheme_of};
 ghost use Rattle.merkle_commands.specs.Commands.{optional_words, IsElementWord};
 ghost use Rattle.merkle_commands.specs.Words.{IsHexWord};
 ghost use Rattle.merkle_hasher.specs.Standard.{standard};
-ghost use Rattle.merkle_lines.specs.Answers.{error_line, most_digests, word_bytes, IsChecked};
+ghost use Rattle.merkle_lines.specs.Answers.{error_line, word_bytes, IsChecked, IsRead};
 ghost use Rattle.merkle_lines.specs.AnswerText.{answer_text};
-ghost use Rattle.merkle_lines.specs.Decoded.{IsRead};
 ghost use Rattle.merkle_root_theory.specs.Walk.{bytes_of};
 
 use crate::answer::{Answer, Named, or_fault};
@@ -67,4 +66,66 @@ fn lent(alloc: Global, elements: &[Vec<u8>]) -> Result<Vec<&[u8]>, OutOfMemory>
         }
     }
     Ok(all)
+}
+
+// Whether bytes spell a proof that is accepted with the elements from a location on, and has that number of inactive peaks.
+fn verdict<F: Family, H: PlainHasher>(
+    alloc: Global,
+    hasher: &Standard<H>,
+    start: u64,
+    inactive: usize,
+    root: &H::Digest,
+    bytes: &[u8],
+    elements: &[Vec<u8>],
+) -> Answer
+    ensures { let h = standard H.digest_of H.Digest.bytes H.Digest.eq H.Digest.EMPTY in let s = scheme_of h hasher.now F.rule F.MAX_LEAVES F.DOMAIN in
+        IsRead s H.Digest.SIZE H.Digest.Spells start inactive root.now bytes.now (map (λ bytes. bytes.items) elements.now) (answer_text result)
+        ⊎ (answer_text result ≡ error_line (codes "OutOfMemory")) }
+{
+    let lent = or_fault!(lent(alloc, elements));
+    let most = MAX_PROOF_DIGESTS_PER_ELEMENT.saturating_mul(elements.len());
+    let mut rest = bytes;
+    let proof: Proof<F, H::Digest> = or_fault!(Proof::read(alloc, &mut rest, &most));
+    if !rest.is_empty() {
+        return Answer::Fault("Trailing");
+    }
+    if proof.inactive_peaks != inactive {
+        return Answer::Verdict(false);
+    }
+    let first = Location::new(start);
+    Answer::Verdict(or_fault!(
+        proof.verify_range_inclusion(hasher, &lent, first, root)
+    ))
+}
+
+// Whether the proof of a word is accepted with the elements of others against the root of one.
+pub(crate) fn check<F: Family, H: PlainHasher>(
+    alloc: Global,
+    hasher: &Standard<H>,
+    start: u64,
+    inactive: usize,
+    root: &str,
+    proof: &str,
+    elements: Option<&str>,
+) -> Answer
+    ensures { let h = standard H.digest_of H.Digest.bytes H.Digest.eq H.Digest.EMPTY in let s = scheme_of h hasher.now F.rule F.MAX_LEAVES F.DOMAIN in
+        IsHexWord root.now → IsHexWord proof.now → AllByRecursion IsElementWord (optional_words elements.entry)
+        → IsChecked s H.Digest.SIZE H.Digest.Spells start inactive (word_bytes root.now) (word_bytes proof.now) (map word_bytes (optional_words elements.entry)) (answer_text result)
+        ⊎ (answer_text result ≡ error_line (codes "OutOfMemory")) }
+{
+    let root = or_fault!(read_hex(alloc, root));
+    let Some(root) = H::Digest::from_bytes(root.as_slice()) else {
+        return Answer::Fault("Syntax");
+    };
+    let proof = or_fault!(read_hex(alloc, proof));
+    let elements = or_fault!(read_elements(alloc, elements));
+    verdict::<F, H>(
+        alloc,
+        hasher,
+        start,
+        inactive,
+        &root,
+        proof.as_slice(),
+        elements.as_slice(),
+    )
 }

@@ -5,8 +5,9 @@ ghost use Rattle.merkle_lines.specs.AnswerText.{answer_text};
 ghost use Rattle.merkle_lines.specs.Tells.{Tells};
 ghost use Rattle.merkle_lines.specs.Transcript.{Told, IsLineAnswered, IsTranscript, Leads, lines_after, lines_of};
 
-use crate::command::read_command;
-use crate::session::{Answer, Session};
+use crate::answer::Answer;
+use crate::session::Session;
+use merkle_commands::command::read_command;
 use std::alloc::Global;
 use std::io;
 use std::str::from_utf8;

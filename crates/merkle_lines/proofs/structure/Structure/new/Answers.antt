@@ -1,5 +1,5 @@
 use Rattle.std.proofs.Common.{ap, refl, arith}
-use Rattle.merkle_lines.proofs.session.Structure.new.Goals as goal
+use Rattle.merkle_lines.proofs.structure.Structure.new.Goals as goal
 
 pub returns-clause-held : goal.returns-clause-held
 returns-clause-held g c = record {

@@ -1,7 +1,7 @@
 use Rattle.std.proofs.Common.{sym, ◌∙◌}
 use Rattle.std.proofs.lemmas.Result.{IfOk-weaker}
 use Rattle.merkle_lines.proofs.Holdings.{new_makes, pending_makes}
-use Rattle.merkle_lines.proofs.session.Structure.take_pending.Goals as goal
+use Rattle.merkle_lines.proofs.structure.Structure.take_pending.Goals as goal
 
 pub returns-in-None-clause-batch : goal.returns-in-None-clause-batch
 returns-in-None-clause-batch g c =

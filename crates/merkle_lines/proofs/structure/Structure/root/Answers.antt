@@ -6,7 +6,7 @@ use Rattle.merkle_proof.specs.Input.{leaf_digests}
 use Rattle.hex.specs.Hex.{encode_lower}
 use Rattle.merkle_lines.specs.Answers.{error_line}
 use Rattle.merkle_lines.proofs.Replies.{root_refused, root_told, wanting}
-use Rattle.merkle_lines.proofs.session.Structure.root.Goals as goal
+use Rattle.merkle_lines.proofs.structure.Structure.root.Goals as goal
 
 pub returns-in-Err : goal.returns-in-Err
 returns-in-Err g c = λ given held.

@@ -12,7 +12,7 @@ use Rattle.merkle_lines.specs.Held.{IsHeld}
 use Rattle.merkle_lines.proofs.Holdings.{held_pruned}
 use Rattle.merkle_lines.proofs.Replies.{prune_done, prune_out, wanting}
 use Rattle.merkle_commands.specs.declared.command.Request.TheVariants.{Prune}
-use Rattle.merkle_lines.proofs.session.Structure.prune.Goals as goal
+use Rattle.merkle_lines.proofs.structure.Structure.prune.Goals as goal
 
 pub returns-in-Err-clause-answered : goal.returns-in-Err-clause-answered
 returns-in-Err-clause-answered g c = λ given held.

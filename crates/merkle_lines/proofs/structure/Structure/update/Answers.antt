@@ -14,7 +14,7 @@ use Rattle.merkle_lines.proofs.Replies.{update_done, wanting, wanting_hex}
 use Rattle.merkle_lines.proofs.Updates.{update_allowed, update_failed}
 use Rattle.merkle_proof.proofs.GivenLeaves.{length-leaf_digests}
 use Rattle.merkle_commands.specs.declared.command.Request.TheVariants.{Update}
-use Rattle.merkle_lines.proofs.session.Structure.update.Goals as goal
+use Rattle.merkle_lines.proofs.structure.Structure.update.Goals as goal
 
 pub returns-in-Err-clause-answered : goal.returns-in-Err-clause-answered
 returns-in-Err-clause-answered g c = λ given word held.

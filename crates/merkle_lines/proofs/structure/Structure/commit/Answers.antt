@@ -20,7 +20,7 @@ use Rattle.merkle_lines.proofs.Holdings.{held_all, held_without, list_count}
 use Rattle.merkle_lines.proofs.Making.{made_accepted, made_applied, made_base, made_stands, made_total}
 use Rattle.merkle_lines.proofs.Replies.{commit_done, commit_lost, wanting}
 use Rattle.merkle_commands.specs.declared.command.Request.TheVariants.{Commit}
-use Rattle.merkle_lines.proofs.session.Structure.commit.Goals as goal
+use Rattle.merkle_lines.proofs.structure.Structure.commit.Goals as goal
 
 pub returns-in-Err-clause-answered : goal.returns-in-Err-clause-answered
 returns-in-Err-clause-answered g c = λ given held.

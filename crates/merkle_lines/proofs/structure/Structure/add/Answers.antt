@@ -12,7 +12,7 @@ use Rattle.merkle_lines.proofs.Holdings.{held_with, held_without}
 use Rattle.merkle_lines.proofs.Making.{made_total, makes_more}
 use Rattle.merkle_lines.proofs.Replies.{add_done, add_full, wanting, wanting_hex}
 use Rattle.merkle_commands.specs.declared.command.Request.TheVariants.{Add}
-use Rattle.merkle_lines.proofs.session.Structure.add.Goals as goal
+use Rattle.merkle_lines.proofs.structure.Structure.add.Goals as goal
 
 pub returns-in-Err-clause-answered : goal.returns-in-Err-clause-answered
 returns-in-Err-clause-answered g c = λ given word held.

@@ -1,0 +1,14 @@
+-- The honest proof of a range, by its parts.
+use Rattle.std.proofs.Common.{◌≡◌, ℕ, ◌+◌, ◌-◌, ◌<◌, ◌≤◌, List, [], length, take, drop, arith, refl, sym, ap, ◌∙◌, inl, inr}
+use Rattle.std.proofs.lemmas.List.{length-take, length-drop}
+use Rattle.merkle_base.specs.Scheme.{Scheme}
+use Rattle.merkle_root_theory.specs.Range.{IsHonestRange, end_of, range_digests}
+
+module _ {D : Type 0} (s : Scheme D) (X : List D) (k a b leaves inactive : ℕ) (digests : List D) (some : a < b) (within : b ≤ length X) where
+  ends : a + length (take (b - a) (drop a X)) ≡ b
+  ends = omega (arith, some, within, length-take (b - a) (drop a X), length-drop a X)
+
+  pub honest_parts : IsHonestRange s X k (record { leaves = leaves; inactive = inactive; digests = digests; start = a; elements = take (b - a) (drop a X) })
+      → (leaves ≡ length X) × (inactive ≡ k) × (digests ≡ range_digests s X k a b)
+  honest_parts (inl h) = (h.leaves, h.inactive, h.digests ∙ ap (λ e. range_digests s X k a e) ends)
+  honest_parts (inr (empty, none)) = absurd (omega (arith, some, within, ap length none))

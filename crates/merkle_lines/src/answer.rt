@@ -1,0 +1,129 @@
+//! What is printed for a line, and the names of errors.
+ghost use Rattle.std.specs.Prelude.{◌≡◌, ℕ, List, Some, codes};
+ghost use Rattle.merkle_lines.specs.AnswerText.{answer_text};
+ghost use Rattle.merkle_lines.specs.ErrorNames.{decode_error_name, error_name, hex_error_name};
+
+use merkle_commands::hex_words::HexError;
+use merkle_core::error::{DecodeError, Error, OutOfMemory};
+use std::fmt;
+
+/// What is printed for a line.
+#[derive(Debug, Drop)]
+pub enum Answer {
+    /// The line did its work, and has nothing to tell.
+    Done,
+    /// The location of the leaf that was added.
+    Added(u64),
+    /// The structure after a commit.
+    Committed { leaves: u64, size: u64 },
+    /// The bounds of the structure after it was pruned.
+    Pruned { start: u64, end: u64 },
+    /// A digest or a proof in hexadecimal digits.
+    Digits(String),
+    /// Whether a proof is accepted.
+    Verdict(bool),
+    /// The name of what was wrong.
+    Fault(&'static str),
+}
+
+impl fmt::Display for Answer {
+    ghost output = { λ a. Some (answer_text a) };
+
+    fn fmt<W: fmt::Write>(&self, f: &mut fmt::Formatter<W>) -> fmt::Result {
+        match self {
+            Answer::Done => write!(f, "ok"),
+            Answer::Added(location) => write!(f, "ok {location}"),
+            Answer::Committed { leaves, size } => write!(f, "ok {leaves} {size}"),
+            Answer::Pruned { start, end } => write!(f, "ok {start} {end}"),
+            Answer::Digits(digits) => write!(f, "{digits}"),
+            Answer::Verdict(true) => write!(f, "yes"),
+            Answer::Verdict(false) => write!(f, "no"),
+            Answer::Fault(name) => write!(f, "error {name}"),
+        }
+    }
+}
+
+// The value of a result; without one, the function's answer is the error's name. This is no `?`, since that passes the
+// error to `From::from`, and the check has no rule for a call that takes an `Error` by value.
+macro_rules! or_fault {
+    ($result:expr) => {
+        match $result {
+            Ok(value) => value,
+            Err(error) => return Answer::Fault(error.name()),
+        }
+    };
+}
+
+pub(crate) use or_fault;
+
+// An error that stops a request.
+pub(crate) trait Named {
+    ghost called: { Self → List ℕ };
+
+    // The name that is printed for it.
+    fn name(&self) -> &'static str
+        ensures { result.now ≡ called self.now };
+}
+
+impl Named for HexError {
+    ghost called = { hex_error_name };
+
+    fn name(&self) -> &'static str {
+        match self {
+            HexError::Syntax => "Syntax",
+            HexError::OutOfMemory => "OutOfMemory",
+        }
+    }
+}
+
+impl Named for OutOfMemory {
+    ghost called = { λ _. codes "OutOfMemory" };
+
+    fn name(&self) -> &'static str {
+        "OutOfMemory"
+    }
+}
+
+impl Named for DecodeError {
+    ghost called = { decode_error_name };
+
+    fn name(&self) -> &'static str {
+        match self {
+            DecodeError::EndOfBuffer => "EndOfBuffer",
+            DecodeError::InvalidVarint => "InvalidVarint",
+            DecodeError::Invalid => "Invalid",
+            DecodeError::TooMany => "TooMany",
+            DecodeError::OutOfMemory => "OutOfMemory",
+        }
+    }
+}
+
+impl<F> Named for Error<F> {
+    ghost called = { error_name };
+
+    fn name(&self) -> &'static str {
+        match self {
+            Error::NonLeaf(_) => "NonLeaf",
+            Error::PositionOverflow(_) => "PositionOverflow",
+            Error::LocationOverflow(_) => "LocationOverflow",
+            Error::Empty => "Empty",
+            Error::RangeOutOfBounds(_) => "RangeOutOfBounds",
+            Error::InvalidSize(_) => "InvalidSize",
+            Error::LeafOutOfBounds(_) => "LeafOutOfBounds",
+            Error::DuplicateLocation(_) => "DuplicateLocation",
+            Error::UnsortedLocation(_) => "UnsortedLocation",
+            Error::ElementPruned(_) => "ElementPruned",
+            Error::CompressedDigest(_) => "CompressedDigest",
+            Error::InvalidPinnedNodes => "InvalidPinnedNodes",
+            Error::StaleBatch { .. } => "StaleBatch",
+            Error::AncestorDropped { .. } => "AncestorDropped",
+            Error::InvalidProof => "InvalidProof",
+            Error::InvalidInactivePeaks { .. } => "InvalidInactivePeaks",
+            Error::RootMismatch => "RootMismatch",
+            Error::MissingNode(_) => "MissingNode",
+            Error::DataCorrupted(_) => "DataCorrupted",
+            Error::BitOutOfBounds(..) => "BitOutOfBounds",
+            Error::OutOfMemory => "OutOfMemory",
+        }
+    }
+}

@@ -1,0 +1,169 @@
+//! The structure that the lines work on.
+ghost use Rattle.std.specs.Prelude.{◌≡◌, ℕ, List, Option, None, length, IfOk, IsOkUnless};
+ghost use Rattle.merkle_base.specs.Scheme.{scheme_of};
+ghost use Rattle.merkle_commands.specs.Commands.{IsCommand};
+ghost use Rattle.merkle_commands.specs.Words.{IsHexWord};
+ghost use Rattle.merkle_hasher.specs.Standard.{standard};
+ghost use Rattle.merkle_lines.specs.AnswerText.{answer_text};
+ghost use Rattle.merkle_lines.specs.Answers.{IsAnswered};
+ghost use Rattle.merkle_lines.specs.Given.{Given, changes, nothing};
+ghost use Rattle.merkle_lines.specs.Held.{IsHeld, Makes};
+ghost use Rattle.merkle_proof.specs.Input.{leaf_digests};
+
+use crate::answer::{Answer, Named, or_fault};
+use crate::checking::check;
+use merkle_commands::command::{Command, Request};
+use merkle_commands::hex_words::{read_hex, write_hex};
+use merkle_core::batch::UnmerkleizedBatch;
+use merkle_core::codec::Write;
+use merkle_core::digest::{Digest, PlainHasher};
+use merkle_core::error::Error;
+use merkle_core::family::{Bagging, Family};
+use merkle_core::hasher::Standard;
+use merkle_core::location::Location;
+use merkle_core::mem::Mem;
+use std::alloc::Global;
+
+/// A structure of one family and hash, with its pending batch.
+#[derive(Drop)]
+pub(crate) struct Structure<F: Family, H: PlainHasher> {
+    pub(crate) hasher: Standard<H>,
+    pub(crate) committed: Mem<F, H::Digest>,
+    pub(crate) pending: Option<UnmerkleizedBatch<F, H::Digest>>,
+}
+
+impl<F: Family, H: PlainHasher> Structure<F, H> {
+    // The empty structure, without a pending batch.
+    pub(crate) fn new(alloc: Global, bagging: Bagging) -> Self
+        ensures kind { result.hasher ≡ bagging }
+        ensures held { IsHeld (standard H.digest_of H.Digest.bytes H.Digest.eq H.Digest.EMPTY) F.rule F.MAX_LEAVES result.committed result.pending nothing }
+    {
+        Structure {
+            hasher: Standard::new(bagging),
+            committed: Mem::new(alloc),
+            pending: None,
+        }
+    }
+
+    // The pending batch, which so is gone where the request is refused; without one, a new batch.
+    fn take_pending(&mut self) -> Result<UnmerkleizedBatch<F, H::Digest>, Error<F>>
+        ensures kind { self.new.hasher ≡ self.old.hasher }
+        ensures kept { self.new.committed ≡ self.old.committed }
+        ensures gone { self.new.pending ≡ None }
+        ensures batch { let h = standard H.digest_of H.Digest.bytes H.Digest.eq H.Digest.EMPTY in IfOk result (λ b. (g : Given)
+            → IsHeld h F.rule F.MAX_LEAVES self.old.committed self.old.pending g → Makes h F.rule (leaf_digests h F.rule 0 g.committed) b (changes g)) }
+        ensures refused { IsOkUnless result Error.OutOfMemory }
+    {
+        match self.pending.take() {
+            Some(batch) => Ok(batch),
+            None => self.committed.new_batch(),
+        }
+    }
+
+    fn add(&mut self, alloc: Global, digits: &str) -> Answer
+        ensures kind { self.new.hasher ≡ self.old.hasher }
+        ensures answered { let h = standard H.digest_of H.Digest.bytes H.Digest.eq H.Digest.EMPTY in (g : Given) → IsHexWord digits.entry.now
+            → IsHeld h F.rule F.MAX_LEAVES self.old.committed self.old.pending g → (u : Given) × IsHeld h F.rule F.MAX_LEAVES self.new.committed self.new.pending u
+            × IsAnswered (scheme_of h self.old.hasher F.rule F.MAX_LEAVES F.DOMAIN) H.Digest.SIZE H.Digest.Spells g (Request.Add digits.entry) u (answer_text result) }
+    {
+        let batch = or_fault!(self.take_pending());
+        let element = or_fault!(read_hex(alloc, digits));
+        let location = batch.leaves();
+        self.pending = Some(or_fault!(batch.add(&self.hasher, element.as_slice())));
+        Answer::Added(location.as_u64())
+    }
+
+    fn update(&mut self, alloc: Global, location: u64, digits: &str) -> Answer
+        ensures kind { self.new.hasher ≡ self.old.hasher }
+        ensures answered { let h = standard H.digest_of H.Digest.bytes H.Digest.eq H.Digest.EMPTY in (g : Given) → IsHexWord digits.entry.now
+            → IsHeld h F.rule F.MAX_LEAVES self.old.committed self.old.pending g → (u : Given) × IsHeld h F.rule F.MAX_LEAVES self.new.committed self.new.pending u
+            × IsAnswered (scheme_of h self.old.hasher F.rule F.MAX_LEAVES F.DOMAIN) H.Digest.SIZE H.Digest.Spells g (Request.Update location digits.entry) u (answer_text result) }
+    {
+        let batch = or_fault!(self.take_pending());
+        let element = or_fault!(read_hex(alloc, digits));
+        let leaf = Location::new(location);
+        self.pending = Some(or_fault!(batch.update_leaf(
+            &self.hasher,
+            leaf,
+            element.as_slice()
+        )));
+        Answer::Done
+    }
+
+    fn commit(&mut self) -> Answer
+        ensures kind { self.new.hasher ≡ self.old.hasher }
+        ensures answered { let h = standard H.digest_of H.Digest.bytes H.Digest.eq H.Digest.EMPTY in (g : Given)
+            → IsHeld h F.rule F.MAX_LEAVES self.old.committed self.old.pending g → (u : Given) × IsHeld h F.rule F.MAX_LEAVES self.new.committed self.new.pending u
+            × IsAnswered (scheme_of h self.old.hasher F.rule F.MAX_LEAVES F.DOMAIN) H.Digest.SIZE H.Digest.Spells g Request.Commit u (answer_text result) }
+    {
+        let batch = or_fault!(self.take_pending());
+        let merkleized = or_fault!(batch.merkleize(&self.committed, &self.hasher));
+        or_fault!(self.committed.apply_batch(&merkleized));
+        Answer::Committed {
+            leaves: self.committed.leaves().as_u64(),
+            size: self.committed.size().as_u64(),
+        }
+    }
+
+    fn prune(&mut self, location: u64) -> Answer
+        ensures kind { self.new.hasher ≡ self.old.hasher }
+        ensures answered { let h = standard H.digest_of H.Digest.bytes H.Digest.eq H.Digest.EMPTY in (g : Given)
+            → IsHeld h F.rule F.MAX_LEAVES self.old.committed self.old.pending g → (u : Given) × IsHeld h F.rule F.MAX_LEAVES self.new.committed self.new.pending u
+            × IsAnswered (scheme_of h self.old.hasher F.rule F.MAX_LEAVES F.DOMAIN) H.Digest.SIZE H.Digest.Spells g (Request.Prune location) u (answer_text result) }
+    {
+        or_fault!(self.committed.prune(Location::new(location)));
+        Answer::Pruned {
+            start: self.committed.pruning_boundary().as_u64(),
+            end: self.committed.leaves().as_u64(),
+        }
+    }
+
+    fn root(&self, alloc: Global, inactive: usize) -> Answer
+        ensures { let h = standard H.digest_of H.Digest.bytes H.Digest.eq H.Digest.EMPTY in (g : Given) → IsHeld h F.rule F.MAX_LEAVES self.now.committed self.now.pending g
+            → IsAnswered (scheme_of h self.now.hasher F.rule F.MAX_LEAVES F.DOMAIN) H.Digest.SIZE H.Digest.Spells g (Request.Root inactive) g (answer_text result) }
+    {
+        let root = or_fault!(self.committed.root(&self.hasher, inactive));
+        Answer::Digits(or_fault!(write_hex(alloc, root.as_bytes())))
+    }
+
+    fn prove(&self, alloc: Global, start: u64, end: u64, inactive: usize) -> Answer
+        ensures { let h = standard H.digest_of H.Digest.bytes H.Digest.eq H.Digest.EMPTY in (g : Given) → IsHeld h F.rule F.MAX_LEAVES self.now.committed self.now.pending g
+            → IsAnswered (scheme_of h self.now.hasher F.rule F.MAX_LEAVES F.DOMAIN) H.Digest.SIZE H.Digest.Spells g (Request.Prove start end inactive) g (answer_text result) }
+    {
+        let range = Location::new(start)..Location::new(end);
+        let proof = or_fault!(self.committed.range_proof(&self.hasher, range, inactive));
+        let mut bytes = Vec::new(alloc);
+        or_fault!(proof.write(&mut bytes));
+        Answer::Digits(or_fault!(write_hex(alloc, bytes.as_slice())))
+    }
+
+    // Does what the line asks, and answers it.
+    pub(crate) fn answer(&mut self, alloc: Global, request: Request<'_>) -> Answer
+        ensures kind { self.new.hasher ≡ self.old.hasher }
+        ensures answered { let h = standard H.digest_of H.Digest.bytes H.Digest.eq H.Digest.EMPTY in (g : Given) → IsCommand (Command.Ask request.entry)
+            → IsHeld h F.rule F.MAX_LEAVES self.old.committed self.old.pending g → (u : Given) × IsHeld h F.rule F.MAX_LEAVES self.new.committed self.new.pending u
+            × IsAnswered (scheme_of h self.old.hasher F.rule F.MAX_LEAVES F.DOMAIN) H.Digest.SIZE H.Digest.Spells g request.entry u (answer_text result) }
+    {
+        match request {
+            Request::Add(digits) => self.add(alloc, digits),
+            Request::Update { location, digits } => self.update(alloc, location, digits),
+            Request::Commit => self.commit(),
+            Request::Prune(location) => self.prune(location),
+            Request::Root(inactive) => self.root(alloc, inactive),
+            Request::Prove {
+                start,
+                end,
+                inactive,
+            } => self.prove(alloc, start, end, inactive),
+            Request::Check {
+                start,
+                inactive,
+                root,
+                proof,
+                elements,
+            } => {
+                check::<F, H>(alloc, &self.hasher, start, inactive, root, proof, elements)
+            },
+        }
+    }
+}
