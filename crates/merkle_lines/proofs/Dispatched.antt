@@ -6,11 +6,11 @@ use Rattle.merkle_commands.specs.declared.command.Command.TheVariants.{Ask}
 use Rattle.merkle_commands.specs.declared.command.FamilyName.{FamilyName}
 use Rattle.merkle_commands.specs.declared.command.HashName.{HashName}
 use Rattle.merkle_commands.specs.declared.command.Request.{Request}
-use Rattle.merkle_lines.specs.Answers.{Given, IsAnswered}
-use Rattle.merkle_lines.specs.Transcript.{Told, named_kind, IsCommandAnswered}
+use Rattle.merkle_lines.specs.Given.{Given}
+use Rattle.merkle_lines.specs.Transcript.{Told, IsCommandAnswered, IsNamedAnswered}
 
 pub dispatched : (family : FamilyName) (hash : HashName) (b c : Bagging) (g u : Given) (told : Option Told) (command : Command) (request : Request) (text : List ℕ)
-    → told ≡ Some (record { family = family; bagging = b; hash = hash; given = g }) → command ≡ Ask request → c ≡ b → IsAnswered (named_kind family b hash) g request u text
+    → told ≡ Some (record { family = family; bagging = b; hash = hash; given = g }) → command ≡ Ask request → c ≡ b → IsNamedAnswered family b hash g request u text
     → IsCommandAnswered told command (Some (record { family = family; bagging = c; hash = hash; given = u })) text
 dispatched family hash b c g u told command request text t k same answered =
     subst (λ x. IsCommandAnswered x command (Some (record { family = family; bagging = c; hash = hash; given = u })) text) (sym t)

@@ -57,10 +57,14 @@ pruned g location =
     let p = pruned_to g location in
     cond (nat_lt (count g) location) (g, error_line (codes "LeafOutOfBounds")) (p, codes "ok " ++ decimal p.boundary ++ codes " " ++ decimal (count g))
 
+-- the bytes of a root
+abbrev pub root_bytes : {D : Type 0} → Scheme D → Given → ℕ → List ℕ
+root_bytes s g inactive = s.hashing.bytes (list_root s (committed_list s g) inactive)
+
 -- the line that answers a root
 abbrev pub root_line : {D : Type 0} → Scheme D → Given → ℕ → List ℕ
 root_line s g inactive =
-    cond (nat_le inactive (length (peaks_of s.rule (count g)))) (encode_lower (s.hashing.bytes (list_root s (committed_list s g) inactive)))
+    cond (nat_le inactive (length (peaks_of s.rule (count g)))) (encode_lower (root_bytes s g inactive))
     (error_line (codes "InvalidInactivePeaks"))
 
 -- the changes need the node t, which was pruned
@@ -84,9 +88,9 @@ kept_node s g p = cond (is_kept s.rule g.boundary p) (slice_get (node_digests s.
 abbrev pub IsPruned : {D : Type 0} → Scheme D → Given → (a b inactive : ℕ) → Type 0
 IsPruned s g a b inactive = (p : ℕ) × IsFirstMissing (λ q node. node ≡ kept_node s g q) (map position (reading_order s.bagging inactive s.rule (count g) a b)) p
 
--- the digits of the bytes that spell the honest proof of the leaves from a on, before b
-abbrev pub proof_line : {D : Type 0} → Scheme D → Given → (a b inactive : ℕ) → List ℕ
-proof_line s g a b inactive = encode_lower (parts_spelling s.hashing.bytes (count g) inactive (range_digests s (committed_list s g) inactive a b))
+-- the bytes that spell the honest proof of the leaves from a on, before b
+abbrev pub proof_bytes : {D : Type 0} → Scheme D → Given → (a b inactive : ℕ) → List ℕ
+proof_bytes s g a b inactive = parts_spelling s.hashing.bytes (count g) inactive (range_digests s (committed_list s g) inactive a b)
 
 -- the line that answers a proof: the first refusal that applies, or the proof
 abbrev pub IsProved : {D : Type 0} → Scheme D → Given → (a b inactive : ℕ) → List ℕ → Type 0
@@ -95,7 +99,7 @@ IsProved s g a b inactive text =
     ⊎ ((a < b) × (count g < b) × (text ≡ error_line (codes "RangeOutOfBounds")))
     ⊎ ((a < b) × (b ≤ count g) × (length (peaks_of s.rule (count g)) < inactive) × (text ≡ error_line (codes "InvalidProof")))
     ⊎ ((a < b) × (b ≤ count g) × (inactive ≤ length (peaks_of s.rule (count g)))
-    × ((IsPruned s g a b inactive × (text ≡ error_line (codes "ElementPruned"))) ⊎ (text ≡ proof_line s g a b inactive)))
+    × ((IsPruned s g a b inactive × (text ≡ error_line (codes "ElementPruned"))) ⊎ (text ≡ encode_lower (proof_bytes s g a b inactive))))
 
 -- the greatest number of digests that are read of a proof of so many elements, as far as 64 bits count
 abbrev pub most_digests : ℕ → ℕ

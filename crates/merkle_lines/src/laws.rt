@@ -1,12 +1,13 @@
 //! The definitions of the lines on small cases.
-ghost use Rattle.std.specs.Prelude.{◌≡◌, [], ◌∷◌, ◌++◌, Ok, codes};
+ghost use Rattle.std.specs.Prelude.{◌≡◌, ◌^◌, [], ◌∷◌, ◌++◌, Some, None, List, ℕ, codes};
 ghost use Rattle.std.specs.Fmt.{decimal};
+ghost use Rattle.merkle_base.specs.Scheme.{scheme_of};
 ghost use Rattle.merkle_base.specs.declared.family.Bagging.TheVariants.{ForwardFold, BackwardFold};
-ghost use Rattle.merkle_commands.specs.declared.command.FamilyName.TheVariants.{Mmr};
-ghost use Rattle.merkle_commands.specs.declared.command.HashName.TheVariants.{Xor8};
-ghost use Rattle.merkle_commands.specs.declared.command.Request.TheVariants.{Commit};
-ghost use Rattle.merkle_lines.specs.Answers.{added, answered, refused};
-ghost use Rattle.merkle_lines.specs.Transcript.{lines_of, named_kind};
+ghost use Rattle.merkle_forest_theory.specs.Mmr.{carries};
+ghost use Rattle.merkle_lines.specs.Answers.{added, error_line, proof_bytes, pruned, root_bytes, updated};
+ghost use Rattle.merkle_lines.specs.Given.{Given, all_committed, with_changes};
+ghost use Rattle.merkle_lines.specs.Hashes.{xor8_hashing};
+ghost use Rattle.merkle_lines.specs.Transcript.{lines_of};
 
 /// Lines, and the answers to them, by computing. Elements are hashed to their exclusive or.
 pub fn worked_rows()
@@ -17,13 +18,32 @@ pub fn worked_rows()
     ensures empty_line { lines_of (10 ∷ 7 ∷ 10 ∷ []) ≡ [] ∷ (7 ∷ []) ∷ [] }
 
     // The second element is the leaf at location 1.
-    ensures adds { added (named_kind Mmr ForwardFold Xor8) (record { committed = (1 ∷ []) ∷ []; added = [] }) (Ok (2 ∷ []))
-        ≡ (record { committed = (1 ∷ []) ∷ []; added = (2 ∷ []) ∷ [] }, codes "ok " ++ decimal 1) }
-    ensures commits { answered (named_kind Mmr ForwardFold Xor8) (record { committed = (1 ∷ []) ∷ (2 ∷ []) ∷ []; added = (4 ∷ []) ∷ [] }) Commit
-        ≡ (record { committed = (1 ∷ []) ∷ (2 ∷ []) ∷ (4 ∷ []) ∷ []; added = [] }, codes "ok " ++ decimal 3 ++ codes " " ++ decimal 4) }
-    ensures gives_up { refused (record { committed = (1 ∷ []) ∷ []; added = (2 ∷ []) ∷ [] }) Commit ≡ (record { committed = (1 ∷ []) ∷ []; added = [] }, codes "error OutOfMemory") }
+    ensures adds { let g : Given = record { committed = (1 ∷ []) ∷ []; boundary = 0; pending = None } in
+        added (scheme_of xor8_hashing ForwardFold carries (2 ^ 62) 0) g (2 ∷ [])
+        ≡ (with_changes g (record { elements = (1 ∷ []) ∷ (2 ∷ []) ∷ []; updated = []; boundary = 0 }), codes "ok " ++ decimal 1) }
 
-    // The bytes of the roots of the elements 1, 2 and 4.
-    ensures root_forward { (named_kind Mmr ForwardFold Xor8).root ((1 ∷ []) ∷ (2 ∷ []) ∷ (4 ∷ []) ∷ []) 0 ≡ 4 ∷ [] }
-    ensures root_backward { (named_kind Mmr BackwardFold Xor8).root ((1 ∷ []) ∷ (2 ∷ []) ∷ (4 ∷ []) ∷ []) 0 ≡ 5 ∷ [] }
+    // An element that was committed is noted as updated; one that was added since isn't, and none is there past it.
+    ensures updates { let g : Given = record { committed = (1 ∷ []) ∷ []; boundary = 0; pending = None } in
+        updated g 0 (9 ∷ []) ≡ (with_changes g (record { elements = (9 ∷ []) ∷ []; updated = 0 ∷ []; boundary = 0 }), codes "ok") }
+    ensures updates_added { let g : Given = record { committed = (1 ∷ []) ∷ []; boundary = 1; pending = Some (record { elements = (1 ∷ []) ∷ (2 ∷ []) ∷ []; updated = []; boundary = 1 }) } in
+        updated g 1 (9 ∷ []) ≡ (with_changes g (record { elements = (1 ∷ []) ∷ (9 ∷ []) ∷ []; updated = []; boundary = 1 }), codes "ok") }
+    ensures updates_past { let g : Given = record { committed = (1 ∷ []) ∷ []; boundary = 0; pending = None } in
+        updated g 1 (9 ∷ []) ≡ (g, error_line (codes "LeafOutOfBounds")) }
+    ensures updates_pruned { let g : Given = record { committed = (1 ∷ []) ∷ []; boundary = 1; pending = None } in
+        updated g 0 (9 ∷ []) ≡ (g, error_line (codes "ElementPruned")) }
+
+    // Committed are the elements with the changes; the boundary stays.
+    ensures commits { all_committed (record { committed = (1 ∷ []) ∷ []; boundary = 1; pending = Some (record { elements = (1 ∷ []) ∷ (2 ∷ []) ∷ []; updated = []; boundary = 0 }) })
+        ≡ record { committed = (1 ∷ []) ∷ (2 ∷ []) ∷ []; boundary = 1; pending = None } }
+
+    // Pruning tells the bounds, and keeps those at which it was before.
+    ensures prunes { let g : Given = record { committed = (1 ∷ []) ∷ (2 ∷ []) ∷ []; boundary = 1; pending = None } in
+        pruned g 2 ≡ (record { committed = (1 ∷ []) ∷ (2 ∷ []) ∷ []; boundary = 2; pending = None }, codes "ok " ++ decimal 2 ++ codes " " ++ decimal 2) }
+    ensures prunes_back { let g : Given = record { committed = (1 ∷ []) ∷ (2 ∷ []) ∷ []; boundary = 1; pending = None } in
+        pruned g 0 ≡ (g, codes "ok " ++ decimal 1 ++ codes " " ++ decimal 2) }
+
+    // The bytes of the roots of the elements 1, 2 and 4, and of the proof of the first of them.
+    ensures root_forward { root_bytes (scheme_of xor8_hashing ForwardFold carries (2 ^ 62) 0) (record { committed = (1 ∷ []) ∷ (2 ∷ []) ∷ (4 ∷ []) ∷ []; boundary = 0; pending = None }) 0 ≡ 4 ∷ [] }
+    ensures root_backward { root_bytes (scheme_of xor8_hashing BackwardFold carries (2 ^ 62) 0) (record { committed = (1 ∷ []) ∷ (2 ∷ []) ∷ (4 ∷ []) ∷ []; boundary = 0; pending = None }) 0 ≡ 5 ∷ [] }
+    ensures proof { proof_bytes (scheme_of xor8_hashing ForwardFold carries (2 ^ 62) 0) (record { committed = (1 ∷ []) ∷ (2 ∷ []) ∷ (4 ∷ []) ∷ []; boundary = 0; pending = None }) 0 1 0 ≡ 3 ∷ 0 ∷ 2 ∷ 7 ∷ 3 ∷ [] }
 {}
