@@ -164,8 +164,8 @@ fn read_new(words: &str) -> Option<Command<'_>>
     })
 }
 
-// A row of words as its first word and the others, if there are more.
-fn cut(words: &str) -> (&str, Option<&str>)
+/// A row of words as its first word and the others, if there are more.
+pub fn cut(words: &str) -> (&str, Option<&str>)
     ensures words { words_in words.now ≡ result.0.now ∷ option_map_or (λ rest. words_in rest.now) result.1 [] }
     ensures shorter { IfSome result.1 (λ rest. length rest.now < length words.now) }
 {

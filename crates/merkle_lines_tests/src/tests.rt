@@ -64,9 +64,68 @@ const SESSIONS: [(&str, &str); 12] = [
     ),
 ];
 
-/// The number of the first session with other answers.
-fn first_wrong_session(alloc: Global) -> Option<usize> {
-    for (number, (lines, answers)) in SESSIONS.iter().enumerate() {
+// Sessions with proofs, and with updates and pruned leaves.
+const PROVED_SESSIONS: [(&str, &str); 12] = [
+    (
+        "new mmr backward xor8\nadd 01\nadd 02\ncommit\nadd 04\nupdate 0 11\ncommit\nroot 0\nprune 2\nroot 0\n",
+        "ok\nok 0\nok 1\nok 2 3\nok 2\nok\nok 3 4\n15\nok 2 3\n15\n",
+    ),
+    (
+        "new mmr backward xor8\nadd 11\nadd 02\nadd 04\ncommit\nprune 2\nprove 2 3 0\nprove 0 1 0\nprune 4\nupdate 0 22\n",
+        "ok\nok 0\nok 1\nok 2\nok 3 4\nok 2 3\n03000110\nerror ElementPruned\nerror LeafOutOfBounds\nerror ElementPruned\n",
+    ),
+    (
+        "new mmr backward xor8\ncheck 2 0 15 03000110 04\ncheck 2 1 15 03000110 04\ncheck 2 0 15 0300011000 04\ncheck 2 0 15 030001 04\n",
+        "ok\nyes\nno\nerror Trailing\nerror EndOfBuffer\n",
+    ),
+    // the empty proof, and a root of two bytes
+    (
+        "new mmr backward xor8\ncheck 0 0 01 000000\ncheck 1 0 01 000000\ncheck 0 1 01 000000\ncheck 0 0 0101 0000\n",
+        "ok\nyes\nno\nno\nerror Syntax\n",
+    ),
+    // what is wrong with the bytes of a proof, of which 122 digests are read for each element
+    (
+        "new mmr forward xor8\ncheck 0 0 04 03007a 01\ncheck 0 0 04 03007b 01\ncheck 0 0 04 03007b 01 02\ncheck 0 0 01 00000100\n",
+        "ok\nerror EndOfBuffer\nerror TooMany\nerror EndOfBuffer\nerror TooMany\n",
+    ),
+    (
+        "new mmr forward xor8\ncheck 0 0 04 80000000 01\ncheck 0 0 04 818080808080808040 01\nnew mmb forward xor8\ncheck 0 0 04 8180808080808080400000 01\n",
+        "ok\nerror InvalidVarint\nerror Invalid\nok\nno\n",
+    ),
+    // ranges and numbers of inactive peaks that have no proof
+    (
+        "new mmr forward xor8\nadd 01\nadd 02\nadd 04\ncommit\nprove 1 1 0\nprove 2 1 9\nprove 0 4 9\nprove 0 1 3\nprove 0 3 0\n",
+        "ok\nok 0\nok 1\nok 2\nok 3 4\nerror Empty\nerror Empty\nerror RangeOutOfBounds\nerror InvalidProof\n030000\n",
+    ),
+    // the empty element, alone and among others
+    (
+        "new mmr forward xor8\nadd -\ncommit\nroot 0\nprove 0 1 0\ncheck 0 0 01 010000 -\ncheck 0 0 01 010000 00\ncheck 0 0 01 010000\n",
+        "ok\nok 0\nok 1 1\n01\n010000\nyes\nyes\nno\n",
+    ),
+    (
+        "new mmr forward xor8\ncheck 0 0 04 030000 01 02 04\ncheck 0 0 04 030000 01 - 04\ncheck 0 0 04 030000 01 02\n",
+        "ok\nyes\nno\nno\n",
+    ),
+    // an update of what is pruned before its commit loses a sibling, and the changes with it
+    (
+        "new mmr forward xor8\nadd 01\nadd 02\ncommit\nupdate 0 11\nprune 2\nprune 1\ncommit\ncommit\nroot 0\n",
+        "ok\nok 0\nok 1\nok 2 3\nok\nok 2 2\nok 2 2\nerror MissingNode\nok 2 3\n02\n",
+    ),
+    // where the sibling is kept, it is committed
+    (
+        "new mmr forward xor8\nadd 01\nadd 02\nadd 04\ncommit\nupdate 0 11\nprune 1\ncommit\nroot 0\nupdate 0 01\n",
+        "ok\nok 0\nok 1\nok 2\nok 3 4\nok\nok 1 3\nok 3 4\n14\nerror ElementPruned\n",
+    ),
+    // an update of an element that was just added, one past the elements, after which the changes are gone
+    (
+        "prune 0\nprove 0 1 0\ncheck 0 0 01 00\nupdate 0 00\nnew mmb forward xor8\nadd 01\nupdate 0 -\nadd 02\nupdate 2 03\ncommit\n",
+        "error NoStructure\nerror NoStructure\nerror NoStructure\nerror NoStructure\nok\nok 0\nok\nok 1\nerror LeafOutOfBounds\nok 0 0\n",
+    ),
+];
+
+/// The number of the first of these sessions with other answers.
+fn first_wrong_session(alloc: Global, sessions: &[(&str, &str)]) -> Option<usize> {
+    for (number, (lines, answers)) in sessions.iter().enumerate() {
         if !has_answers(alloc, lines.as_bytes(), answers) {
             return Some(number);
         }
@@ -76,10 +135,11 @@ fn first_wrong_session(alloc: Global) -> Option<usize> {
 
 #[test]
 fn sessions(rt: HostRuntime) {
-    assert_eq!(rt; first_wrong_session(rt.alloc()), None);
+    assert_eq!(rt; first_wrong_session(rt.alloc(), &SESSIONS), None);
+    assert_eq!(rt; first_wrong_session(rt.alloc(), &PROVED_SESSIONS), None);
 }
 
-const MALFORMED: [&[u8]; 44] = [
+const MALFORMED: [&[u8]; 66] = [
     b"\n",
     b" \n",
     b"new\n",
@@ -121,8 +181,30 @@ const MALFORMED: [&[u8]; 44] = [
     b"root -\n",
     b"root 0x0\n",
     b"root 0 0\n",
-    b"update 0 01\n",
-    b"prune 0\n",
+    b"update 0\n",
+    b"update 0 \n",
+    b"update 00 01\n",
+    b"update 0 0\n",
+    b"update - 01\n",
+    b"update 0 01 \n",
+    b"update 18446744073709551616 01\n",
+    b"prune\n",
+    b"prune -1\n",
+    b"prune 0 0\n",
+    b"prove 0 1\n",
+    b"prove 0 1 0 \n",
+    b"prove 0 1 00\n",
+    b"prove 0  1 0\n",
+    b"check 0 0 00\n",
+    b"check 0 0 00 \n",
+    b"check 0 0 - 00\n",
+    b"check 0 0 00 -\n",
+    b"check 0 0 0 00\n",
+    b"check 0 0 00 00 \n",
+    b"check 0 0 00 00 01 \n",
+    b"check 0 0 00 00 01  02\n",
+    b"check 0 0 00 00 01 2\n",
+    b"check 0 00 00 00 01\n",
     b"check 0 00",
 ];
 
