@@ -18,6 +18,7 @@ macro_rules! granted {
 mod proofs;
 mod scattered;
 mod stopwatch;
+mod stores;
 mod trees;
 mod workload;
 

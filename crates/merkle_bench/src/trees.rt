@@ -3,6 +3,7 @@
 use crate::proofs::Proofs;
 use crate::scattered::Scattered;
 use crate::stopwatch::{Halt, Stopwatch};
+use crate::stores::Stores;
 use crate::workload::{Element, Workload};
 use merkle_core::batch::UnmerkleizedBatch;
 use merkle_core::digest::{Digest, PlainHasher};
@@ -150,7 +151,22 @@ impl<H: PlainHasher> Trees<H> {
         let backward: Proofs<H> = Proofs::new(self.alloc, self.name, Bagging::BackwardFold);
         backward.run(watch, structure, &elements, leaves)?;
         let scattered: Scattered<H> = Scattered::new(self.alloc, self.name);
-        scattered.run(watch, structure, &elements, leaves)
+        scattered.run(watch, structure, &elements, leaves)?;
+        self.stores(watch, structure, &elements, leaves)
+    }
+
+    // Stores of a proof of leaves in a row, by both baggings.
+    fn stores<F: Family, C: CpuClock>(
+        &self,
+        watch: &mut Stopwatch<C>,
+        structure: &Mem<F, H::Digest>,
+        elements: &[&[u8]],
+        leaves: &[u64],
+    ) -> Result<(), Halt> {
+        let forward: Stores<H> = Stores::new(self.alloc, self.name, Bagging::ForwardFold);
+        forward.run(watch, structure, elements, leaves)?;
+        let backward: Stores<H> = Stores::new(self.alloc, self.name, Bagging::BackwardFold);
+        backward.run(watch, structure, elements, leaves)
     }
 
     // A copy, which is pruned to its half.

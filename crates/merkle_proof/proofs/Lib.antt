@@ -1,17 +1,11 @@
-pub mod PeakLoop
-pub mod RangeRoot
 pub mod BuiltDigests
 pub mod HasherLaws
-pub mod GivenLeaves
-pub mod ExtractionWalks
-pub mod IndividualPeaks
 pub mod ReadingOrder
 pub mod ReadRuns
 pub mod RisingLists
 pub mod ReadPositions
 pub mod RefusedProofs
 pub mod FewDigests
-pub mod PeakWalk
 pub mod MultiRefusals
 pub mod ReadOnce
 pub mod ScatteredPositions
@@ -20,6 +14,3 @@ pub mod ScatteredElements
 pub mod ScatteredWalk
 pub mod ScatteredPeaks
 pub mod ScatteredRoot
-pub mod PinWalks
-pub mod PinParts
-pub mod PinChecks

@@ -1,30 +1,17 @@
 -- What the checks of a proof are given.
-use Rattle.std.specs.Prelude.{◌≡◌, ℕ, suc, List, [], ◌∷◌, map, drop}
+use Rattle.std.specs.Prelude.{ℕ, List, map, drop}
 use Rattle.std.specs.Borrow.{Bor}
 use Rattle.merkle_base.specs.Forest.{size}
 use Rattle.merkle_base.specs.Hashing.{Hashing}
-use Rattle.merkle_root_theory.specs.Check.{RangeInput, root_of, range_expression}
+use Rattle.merkle_root_theory.specs.Check.{RangeInput}
 use Rattle.merkle_base.specs.Scheme.{Scheme}
-use Rattle.merkle_root_theory.specs.Reconstruction.{HasShape}
 use Rattle.merkle_claim_theory.specs.Multiproof.{MultiInput}
+use Rattle.merkle_range.specs.Input.{range_input}
 use Rattle.merkle_proof.specs.declared.proof.Proof.{Proof}
-
--- the leaf digests of elements from location a on
-abbrev pub leaf_digests : {D : Type 0} → Hashing D → (List ℕ → List ℕ) → ℕ → List (List ℕ) → List D
-leaf_digests h rule a [] = []
-leaf_digests h rule a (e ∷ es) = h.leaf (size rule a) e ∷ leaf_digests h rule (suc a) es
-
--- the parts of a proof with the elements from location a on
-abbrev pub range_input : {D : Type 0} → Scheme D → (leaves inactive : ℕ) → List D → ℕ → List (List ℕ) → RangeInput D
-range_input s leaves inactive digests a es = record { leaves = leaves; inactive = inactive; digests = digests; start = a; elements = leaf_digests s.hashing s.rule a es }
 
 -- a proof with the elements from location a on
 abbrev pub input_of : {F D Peaks Heights : Type 0} → Scheme D → Proof F D Peaks Heights → ℕ → List (List ℕ) → RangeInput D
 input_of s p a es = range_input s p.leaves p.inactive_peaks p.digests.items a es
-
--- the root that an input with elements leads to
-abbrev pub IsComputed : {D : Type 0} → Scheme D → RangeInput D → D → Type 0
-IsComputed s r d = HasShape s r × (d ≡ root_of s r.leaves r.inactive (range_expression s r))
 
 -- the location and the leaf digest of each element
 abbrev pub element_leaves : {D : Type 0} → Hashing D → (List ℕ → List ℕ) → List (Bor (List ℕ) × ℕ) → List (ℕ × D)

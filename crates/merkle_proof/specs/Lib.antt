@@ -1,10 +1,7 @@
 pub mod ElementPlans
-pub mod Extracting
-pub mod GroupedPeaks
 pub mod Input
 pub mod Positions
 pub mod ProofRefusals
 pub mod RangePlans
 pub mod MultiPositions
 pub mod Confirmed
-pub mod PinnedParts

@@ -5,7 +5,6 @@ ghost use Rattle.merkle_claim_theory.specs.Multiproof.{AcceptsMulti, multi_posit
 ghost use Rattle.merkle_proof.specs.Input.{multi_input};
 ghost use Rattle.merkle_proof.specs.MultiPositions.{AreLocations};
 
-use crate::checks::{ProofParts, reconstruct_empty_root};
 use crate::confirm::confirm_peaks;
 use crate::multi::multi_proof_positions;
 use crate::told::Told;
@@ -14,6 +13,7 @@ use merkle_base::family::Family;
 use merkle_base::location::Location;
 use merkle_base::position::Position;
 use merkle_hasher::hasher::Hasher;
+use merkle_range::checks::{ProofParts, reconstruct_empty_root};
 use std::alloc::{AllocError, Global};
 
 /// Whether the elements, each at its location, lead to the root.

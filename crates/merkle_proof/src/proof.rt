@@ -10,15 +10,12 @@ ghost use Rattle.merkle_root_theory.specs.RootNames.{NamesRoot};
 ghost use Rattle.merkle_root_theory.specs.Walk.{bytes_of};
 ghost use Rattle.merkle_claim_theory.specs.Pinned.{AcceptsPinned, IsHonestPinned, PinnedCollides};
 ghost use Rattle.merkle_claim_theory.specs.Rebuilt.{GivesOldRoot};
-ghost use Rattle.merkle_proof.specs.Extracting.{IsExtractionRefusal};
+ghost use Rattle.merkle_range.specs.Extracting.{IsExtractionRefusal};
 ghost use Rattle.merkle_proof.specs.Input.{input_of, multi_input_of};
 
-use crate::checks::{ProofParts, reconstruct_root, verify_range};
 pub use crate::element_plan::ElementPlan;
-use crate::extraction::verify_and_extract;
 pub use crate::multi::multi_proof_positions;
 use crate::multi_checks::verify_multi;
-use crate::pins::verify_pinned;
 pub use crate::range_plan::RangePlan;
 use merkle_base::error::{Error, OutOfMemory, ReconstructionError};
 use merkle_base::family::Family;
@@ -26,6 +23,9 @@ use merkle_base::location::Location;
 use merkle_base::position::Position;
 use merkle_digest::digest::Digest;
 use merkle_hasher::hasher::Hasher;
+use merkle_range::checks::{ProofParts, reconstruct_root, verify_range};
+use merkle_range::extraction::verify_and_extract;
+use merkle_range::pins::verify_pinned;
 use std::alloc::{AllocError, Global};
 
 /// The greatest number of digests that a proof of one element has, in the Mountain Range and in the Mountain Belt.

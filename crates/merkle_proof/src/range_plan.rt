@@ -9,8 +9,6 @@ ghost use Rattle.std.specs.List.Sorted.{IsStrictlyIncreasing};
 ghost use Rattle.merkle_proof.specs.Positions.{range_positions};
 ghost use Rattle.merkle_proof.specs.RangePlans.{IsRefusal, IsBuildRefusal, IsBuiltProof, AnswersList, list_input};
 
-use crate::groups::Groups;
-use crate::layout::{prefix_count, single_count};
 use crate::positions::ascending;
 use crate::proof::Proof;
 use crate::reading::read_digests;
@@ -19,6 +17,8 @@ use merkle_base::family::{Bagging, Family};
 use merkle_base::location::Location;
 use merkle_base::position::Position;
 use merkle_hasher::hasher::Hasher;
+use merkle_range::groups::Groups;
+use merkle_range::layout::{prefix_count, single_count};
 use std::alloc::{AllocError, Global};
 use std::marker::Model;
 use std::ops::Range;

@@ -9,7 +9,7 @@ ghost use Rattle.merkle_root_theory.specs.Walk.{bytes_of};
 ghost use Rattle.merkle_store_theory.specs.StoreProof.{first_lacking};
 ghost use Rattle.merkle_store_theory.specs.StoreReads.{prefix_at, suffix_at, suffix_refusal_at, proof_at};
 ghost use Rattle.merkle_store_theory.specs.StoreValue.{store_of};
-ghost use Rattle.merkle_proof.specs.Extracting.{IsExtractionRefusal};
+ghost use Rattle.merkle_range.specs.Extracting.{IsExtractionRefusal};
 ghost use Rattle.merkle_proof.specs.Input.{input_of};
 ghost use Rattle.merkle_verification.specs.PairReads.{IsPruned};
 ghost use Rattle.merkle_verification.specs.StoreCalls.{IsAnswered, IsStoreRefusal, part_input};

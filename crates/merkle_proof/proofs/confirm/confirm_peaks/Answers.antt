@@ -3,7 +3,7 @@ use Rattle.merkle_claim_theory.specs.Table.{digest_for}
 use Rattle.merkle_root_theory.specs.Expression.{Holds}
 use Rattle.merkle_proof.specs.Confirmed.{node_checked}
 use Rattle.merkle_proof.specs.Input.{element_leaves, leaves_left}
-use Rattle.merkle_proof.proofs.PeakWalk.{pass_begins, pass_next, pass_ends}
+use Rattle.merkle_range.proofs.PeakWalk.{pass_begins, pass_next, pass_ends}
 use Rattle.merkle_proof.proofs.ScatteredPeaks.{confirm_begins, left_ascend, peak_holds, confirm_more}
 use Rattle.merkle_proof.proofs.confirm.confirm_peaks.Goals as goal
 

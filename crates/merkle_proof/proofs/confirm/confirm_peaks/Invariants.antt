@@ -1,6 +1,6 @@
 use Rattle.merkle_claim_theory.specs.Table.{digest_for}
 use Rattle.merkle_proof.specs.Input.{element_leaves, leaves_left}
-use Rattle.merkle_proof.proofs.PeakWalk.{Passed}
+use Rattle.merkle_range.proofs.PeakWalk.{Passed}
 use Rattle.merkle_proof.proofs.ScatteredPeaks.{Confirmed}
 use Rattle.merkle_proof.proofs.confirm.confirm_peaks.Given as goal
 

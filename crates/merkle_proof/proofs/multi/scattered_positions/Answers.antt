@@ -3,7 +3,7 @@ use Rattle.std.specs.List.Sorted.{IsNonDecreasing}
 use Rattle.std.proofs.lemmas.List.Kept.{IsNonDecreasingBy-filter}
 use Rattle.std.proofs.lemmas.List.Sorted.{IsNonDecreasingBy-take}
 use Rattle.std.proofs.Common.{nat_le}
-use Rattle.merkle_proof.proofs.PeakWalk.{pass_begins, pass_next, pass_ends}
+use Rattle.merkle_range.proofs.PeakWalk.{pass_begins, pass_next, pass_ends}
 use Rattle.merkle_proof.proofs.ScatteredPositions.{collected_none, collected_more}
 use Rattle.merkle_proof.proofs.multi.scattered_positions.Goals as goal
 

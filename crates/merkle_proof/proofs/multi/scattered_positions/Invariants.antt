@@ -1,4 +1,4 @@
-use Rattle.merkle_proof.proofs.PeakWalk.{Passed}
+use Rattle.merkle_range.proofs.PeakWalk.{Passed}
 use Rattle.merkle_proof.proofs.ScatteredPositions.{Collected}
 use Rattle.merkle_proof.proofs.multi.scattered_positions.Given as goal
 

@@ -1,6 +1,6 @@
 use Rattle.std.proofs.Common.{◌≡◌, [], false, IsTrue, Result, Ok, Err, ap, sym, ◌∙◌}
 use Rattle.merkle_root_theory.specs.Reconstruction.{reconstructed}
-use Rattle.merkle_proof.specs.Input.{range_input}
+use Rattle.merkle_range.specs.Input.{range_input}
 use Rattle.merkle_proof.proofs.ScatteredRoot.{empty_accepted}
 use Rattle.merkle_proof.proofs.multi_checks.verify_none.Goals as goal
 

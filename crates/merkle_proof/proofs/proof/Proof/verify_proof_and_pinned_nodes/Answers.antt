@@ -8,8 +8,8 @@ use Rattle.merkle_root_theory.proofs.ListRoots.{roots_agree}
 use Rattle.merkle_root_theory.proofs.NamedRoots.{yes_names_root}
 use Rattle.merkle_proof.specs.Input.{input_of}
 use Rattle.merkle_proof.proofs.HasherLaws.{sound}
-use Rattle.merkle_proof.proofs.PinChecks.{range_accepted}
-use Rattle.merkle_proof.proofs.RangeRoot.{same_input}
+use Rattle.merkle_range.proofs.PinChecks.{range_accepted}
+use Rattle.merkle_range.proofs.RangeRoot.{same_input}
 use Rattle.merkle_proof.proofs.proof.Proof.verify_proof_and_pinned_nodes.Goals as goal
 
 pub returns-clause-exact : goal.returns-clause-exact

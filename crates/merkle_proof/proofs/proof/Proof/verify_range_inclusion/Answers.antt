@@ -6,7 +6,7 @@ use Rattle.merkle_proof.specs.Input.{input_of}
 use Rattle.merkle_root_theory.specs.Walk.{bytes_of}
 use Rattle.merkle_root_theory.proofs.NamedRoots.{yes_names_root}
 use Rattle.merkle_root_theory.proofs.RangeChecks.{honest_is_accepted, accepted_is_honest}
-use Rattle.merkle_proof.proofs.RangeRoot.{same_input}
+use Rattle.merkle_range.proofs.RangeRoot.{same_input}
 use Rattle.merkle_root_theory.proofs.ListRoots.{roots_agree}
 use Rattle.merkle_proof.proofs.HasherLaws.{sound}
 use Rattle.merkle_root_theory.proofs.Grouping.{if_ok}

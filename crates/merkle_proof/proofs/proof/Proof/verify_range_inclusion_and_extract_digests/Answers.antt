@@ -8,11 +8,11 @@ use Rattle.merkle_root_theory.specs.Reconstruction.{reconstructed}
 use Rattle.merkle_root_theory.specs.Walk.{bytes_of}
 use Rattle.merkle_root_theory.proofs.Extraction.{extracts_nodes, extracted-no_leaves}
 use Rattle.merkle_root_theory.proofs.Reconstruction.{leads_is_accepted}
-use Rattle.merkle_proof.specs.Extracting.{IsExtractionRefusal}
+use Rattle.merkle_range.specs.Extracting.{IsExtractionRefusal}
 use Rattle.merkle_proof.specs.Input.{input_of}
 use Rattle.merkle_proof.proofs.HasherLaws.{sound}
 use Rattle.merkle_root_theory.proofs.ListRoots.{roots_agree}
-use Rattle.merkle_proof.proofs.RangeRoot.{same_input}
+use Rattle.merkle_range.proofs.RangeRoot.{same_input}
 use Rattle.merkle_proof.proofs.proof.Proof.verify_range_inclusion_and_extract_digests.Goals as goal
 
 pub returns-clause-ok : goal.returns-clause-ok

@@ -1,4 +1,0 @@
-use Rattle.merkle_proof.proofs.pins.+are_siblings_rebuilt.Given as goal
-
-abbrev pub decreases-are_siblings_rebuilt : goal.decreases-are_siblings_rebuilt
-decreases-are_siblings_rebuilt g l = l.subtree.now.height

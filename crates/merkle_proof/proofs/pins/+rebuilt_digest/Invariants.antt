@@ -1,4 +1,0 @@
-use Rattle.merkle_proof.proofs.pins.+rebuilt_digest.Given as goal
-
-abbrev pub decreases-rebuilt_digest : goal.decreases-rebuilt_digest
-decreases-rebuilt_digest g l = l.subtree.now.height

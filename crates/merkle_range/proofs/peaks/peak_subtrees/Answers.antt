@@ -1,0 +1,30 @@
+use Rattle.std.proofs.Common.{ap, sym, ◌∙◌}
+use Rattle.merkle_range.proofs.PeakWalk.{pass_begins, pass_next, pass_ends, lists_more}
+use Rattle.merkle_range.proofs.peaks.peak_subtrees.Goals as goal
+
+pub loop-position-init : goal.loop-position-init
+loop-position-init g c =
+    let e = c.into_iter-position-iterator.ensures.into_iter_gives in (
+      g.met.F.Peaks.Listed.may_go c.into_iter-position-iterator.result,
+      g.met.F.Peaks.Listed.ends c.into_iter-position-iterator.result,
+      pass_begins _ _ _ _ _ _ c.requires.small (ap g.F.Peaks.Listed.left e ∙ c.peaks-position-items.ensures c.args.leaves c.requires.small (sym c.location_to_position.ensures)) c.new-first_leaf.ensures c.new-peaks.ensures.items,
+    )
+
+pub leaf_end-first_leaf-requires : goal.leaf_end-first_leaf-requires
+leaf_end-first_leaf-requires g c =
+    let y = g.met.F.Peaks.Listed.gives_first _ _ _ c.in-Some.ensures.steps in
+    let n = pass_next _ _ _ _ _ _ c.loop-position.invariant.2 _ _ _ y in (n.0, n.1)
+
+pub loop-position-preserved : goal.loop-position-preserved
+loop-position-preserved g c =
+    let y = g.met.F.Peaks.Listed.gives_first _ _ _ c.in-Some.ensures.steps in
+    let n = pass_next _ _ _ _ _ _ c.loop-position.invariant.2 _ _ _ y in (
+      g.met.F.Peaks.Listed.may_go c.next.new.self,
+      g.met.F.Peaks.Listed.ends c.next.new.self,
+      n.3 _ (lists_more _ _ _ _ _ n.0 _ _ n.1 n.2 c.in_ok-push.ensures.items) c.leaf_end-first_leaf.result (c.leaf_end-first_leaf.ensures n.0 n.1),
+    )
+
+pub returns : goal.returns
+returns g c =
+    let y = g.met.F.Peaks.Listed.gives_first _ _ _ c.in-None.ensures.steps in
+    pass_ends _ _ _ _ _ _ c.loop-position.invariant.2 y.0

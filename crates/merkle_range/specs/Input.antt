@@ -1,0 +1,20 @@
+-- What a check of a range is given.
+use Rattle.std.specs.Prelude.{◌≡◌, ℕ, suc, List, [], ◌∷◌}
+use Rattle.merkle_base.specs.Forest.{size}
+use Rattle.merkle_base.specs.Hashing.{Hashing}
+use Rattle.merkle_root_theory.specs.Check.{RangeInput, root_of, range_expression}
+use Rattle.merkle_base.specs.Scheme.{Scheme}
+use Rattle.merkle_root_theory.specs.Reconstruction.{HasShape}
+
+-- the leaf digests of elements from location a on
+abbrev pub leaf_digests : {D : Type 0} → Hashing D → (List ℕ → List ℕ) → ℕ → List (List ℕ) → List D
+leaf_digests h rule a [] = []
+leaf_digests h rule a (e ∷ es) = h.leaf (size rule a) e ∷ leaf_digests h rule (suc a) es
+
+-- the parts of a proof with the elements from location a on
+abbrev pub range_input : {D : Type 0} → Scheme D → (leaves inactive : ℕ) → List D → ℕ → List (List ℕ) → RangeInput D
+range_input s leaves inactive digests a es = record { leaves = leaves; inactive = inactive; digests = digests; start = a; elements = leaf_digests s.hashing s.rule a es }
+
+-- the root that an input with elements leads to
+abbrev pub IsComputed : {D : Type 0} → Scheme D → RangeInput D → D → Type 0
+IsComputed s r d = HasShape s r × (d ≡ root_of s r.leaves r.inactive (range_expression s r))

@@ -1,0 +1,4 @@
+pub mod Extracting
+pub mod GroupedPeaks
+pub mod Input
+pub mod PinnedParts

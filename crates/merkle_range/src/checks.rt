@@ -1,0 +1,318 @@
+//! Checks of ranges against a root, over the parts of their proofs.
+ghost use Rattle.std.specs.Prelude.{◌≡◌, ◌≢◌, ◌+◌, ◌<◌, ◌≤◌, ◌⊎◌, [], ◌↔◌, List, Some, Ok, Err, IsTrue, IfOk, IfErr, length, map, drop};
+ghost use Rattle.std.specs.List.{flat_map};
+ghost use Rattle.merkle_base.specs.Tree.{Tree};
+ghost use Rattle.merkle_root_theory.specs.Plan.{siblings};
+ghost use Rattle.merkle_base.specs.Cases.{first_case};
+ghost use Rattle.merkle_root_theory.specs.Extract.{over_pairs, extracted};
+ghost use Rattle.merkle_root_theory.specs.Range.{in_range};
+ghost use Rattle.merkle_root_theory.specs.Reconstruction.{range_refusals, reconstructed};
+ghost use Rattle.merkle_hasher.specs.Subtrees.{AreNodes, subtree_of};
+ghost use Rattle.merkle_root_theory.specs.Walk.{bytes_of, leaf_from, ArePeaksWalked, ArePeakDigests};
+ghost use Rattle.merkle_range.specs.Input.{range_input, IsComputed};
+
+use crate::collector::{Collector, Unlisted};
+use crate::extraction::{put_after, put_before};
+use crate::groups::Groups;
+use crate::siblings::reconstruct_digest;
+use merkle_base::error::{OutOfMemory, ReconstructionError};
+use merkle_base::family::Family;
+use merkle_base::location::Location;
+use merkle_hasher::hasher::Hasher;
+use merkle_hasher::subtree::Subtree;
+use std::alloc::Global;
+use std::ops::Range;
+
+/// The parts of a proof that a check is given.
+#[derive(Drop)]
+pub struct ProofParts<'a, F, D> {
+    /// The number of leaves of the list.
+    pub leaves: Location<F>,
+    /// The number of peaks that count as inactive.
+    pub inactive: usize,
+    /// The digests of what the elements don't tell.
+    pub digests: &'a [D],
+    /// Where memory is requested.
+    pub alloc: Global,
+}
+
+/// Whether the elements from a location on lead to the root.
+///
+/// Refused only where there is no memory.
+pub fn verify_range<F: Family, H: Hasher<F>>(
+    parts: &ProofParts<'_, F, H::Digest>,
+    hasher: &H,
+    elements: &[&[u8]],
+    start: Location<F>,
+    root: &H::Digest,
+) -> Result<bool, OutOfMemory>
+    ensures { let s = H.scheme hasher.now in
+        let r = range_input s parts.now.leaves parts.now.inactive parts.now.digests.now start (bytes_of elements.now) in
+        IfOk result (λ b. IsTrue b ↔ (reconstructed s r ≡ Ok root.now)) }
+{
+    match reconstruct_root(parts, hasher, elements, start) {
+        Ok(computed) => Ok(computed == *root),
+        Err(error) => match error {
+            ReconstructionError::OutOfMemory => Err(OutOfMemory),
+            _ => Ok(false),
+        },
+    }
+}
+
+/// The root that the elements from a location on lead to.
+///
+/// # Errors
+///
+/// With no elements those of [`reconstruct_empty_root`]; with elements the first that applies:
+/// - `InvalidStartLoc` where `start` isn't a valid index
+/// - `InvalidEndLoc` where the location after the last element is past the greatest leaf count, or past the proof's
+/// - `InvalidSize` where the proof's leaf count is past the greatest, or its inactive count past its number of peaks
+/// - `MissingDigests`, `ExtraDigests` where there are fewer or more digests than the range asks for
+///
+/// `OutOfMemory` wherever there is no memory.
+pub fn reconstruct_root<F: Family, H: Hasher<F>>(
+    parts: &ProofParts<'_, F, H::Digest>,
+    hasher: &H,
+    elements: &[&[u8]],
+    start: Location<F>,
+) -> Result<H::Digest, ReconstructionError>
+    ensures ok { let s = H.scheme hasher.now in
+        let r = range_input s parts.now.leaves parts.now.inactive parts.now.digests.now start (bytes_of elements.now) in
+        IfOk result (λ d. reconstructed s r ≡ Ok d) }
+    ensures err { let s = H.scheme hasher.now in
+        let r = range_input s parts.now.leaves parts.now.inactive parts.now.digests.now start (bytes_of elements.now) in
+        IfErr result (λ e. e ≢ ReconstructionError.OutOfMemory → reconstructed s r ≡ Err e) }
+{
+    if elements.is_empty() {
+        return reconstruct_empty_root(parts, hasher, start);
+    }
+    reconstruct_range_root(parts, hasher, elements, start)
+}
+
+/// The root that some elements from a location on lead to.
+pub(crate) fn reconstruct_range_root<F: Family, H: Hasher<F>>(
+    parts: &ProofParts<'_, F, H::Digest>,
+    hasher: &H,
+    elements: &[&[u8]],
+    start: Location<F>,
+) -> Result<H::Digest, ReconstructionError>
+    requires some { 0 < length elements.now }
+    ensures ok { let s = H.scheme hasher.now in
+        let r = range_input s parts.now.leaves parts.now.inactive parts.now.digests.now start (bytes_of elements.now) in
+        IfOk result (λ d. IsComputed s r d) }
+    ensures err { let s = H.scheme hasher.now in
+        let r = range_input s parts.now.leaves parts.now.inactive parts.now.digests.now start (bytes_of elements.now) in
+        IfErr result (λ e. e ≢ ReconstructionError.OutOfMemory → first_case (range_refusals s r) ≡ Some e) }
+{
+    reconstruct_root_into(parts, hasher, elements, start, &mut Unlisted)
+}
+
+/// The root that the elements from a location on lead to, which are some, and the digests that are computed or given for
+/// nodes, each put where they are collected.
+///
+/// These are those of the individual peaks before the range, of the peaks that overlap it, each after those of the nodes
+/// below it, and of the individual peaks after the range.
+pub(crate) fn reconstruct_root_into<F: Family, H: Hasher<F>, C: Collector<F, H::Digest>>(
+    parts: &ProofParts<'_, F, H::Digest>,
+    hasher: &H,
+    elements: &[&[u8]],
+    start: Location<F>,
+    collector: &mut C,
+) -> Result<H::Digest, ReconstructionError>
+    requires some { 0 < length elements.now }
+    ensures ok { let s = H.scheme hasher.now in
+        let r = range_input s parts.now.leaves parts.now.inactive parts.now.digests.now start (bytes_of elements.now) in
+        IfOk result (λ d. IsComputed s r d) }
+    ensures taken { let s = H.scheme hasher.now in
+        let r = range_input s parts.now.leaves parts.now.inactive parts.now.digests.now start (bytes_of elements.now) in
+        IfOk result (λ _. C.Took collector.old (extracted s r) collector.new) }
+    ensures err { let s = H.scheme hasher.now in
+        let r = range_input s parts.now.leaves parts.now.inactive parts.now.digests.now start (bytes_of elements.now) in
+        IfErr result (λ e. e ≢ ReconstructionError.OutOfMemory → first_case (range_refusals s r) ≡ Some e) }
+{
+    let end = end_from(parts.leaves, start, elements.len())?;
+    let range = start..end;
+    let Ok(groups) = Groups::of_peaks(parts.alloc, parts.leaves, &range) else {
+        return Err(ReconstructionError::OutOfMemory);
+    };
+    if parts.inactive > groups.count() {
+        return Err(ReconstructionError::InvalidSize);
+    }
+    let layout = groups.layout(hasher.root_bagging(), parts.inactive);
+    let Ok(()) = put_before(&groups, layout, parts.digests, collector) else {
+        return Err(ReconstructionError::OutOfMemory);
+    };
+    let peaks = peak_digests(
+        parts,
+        hasher,
+        &range,
+        elements,
+        &groups.overlapping,
+        layout.before,
+        layout.after,
+        collector,
+    )?;
+    let Ok(()) = put_after(&groups, layout, parts.digests, collector) else {
+        return Err(ReconstructionError::OutOfMemory);
+    };
+    match hasher.root_with_folded_peaks(parts.leaves, layout.inactive, parts.inactive, &peaks) {
+        Some(root) => Ok(root),
+        None => unreachable!(),
+    }
+}
+
+/// The root that no elements lead to: that of no leaves, for the empty proof from location 0 on.
+///
+/// # Errors
+///
+/// The first that applies:
+/// - `MissingElements` where `start` isn't 0
+/// - `InvalidProof` where the inactive count isn't 0
+/// - `MissingElements` where the leaf count isn't 0
+/// - `ExtraDigests` where there are digests
+pub fn reconstruct_empty_root<F: Family, H: Hasher<F>>(
+    parts: &ProofParts<'_, F, H::Digest>,
+    hasher: &H,
+    start: Location<F>,
+) -> Result<H::Digest, ReconstructionError>
+    ensures { let s = H.scheme hasher.now in
+        result ≡ reconstructed s (range_input s parts.now.leaves parts.now.inactive parts.now.digests.now start []) }
+{
+    if start.as_u64() != 0 {
+        return Err(ReconstructionError::MissingElements);
+    }
+    if parts.inactive != 0 {
+        return Err(ReconstructionError::InvalidProof);
+    }
+    if parts.leaves.as_u64() != 0 {
+        return Err(ReconstructionError::MissingElements);
+    }
+    if !parts.digests.is_empty() {
+        return Err(ReconstructionError::ExtraDigests);
+    }
+    match hasher.root_with_folded_peaks(parts.leaves, 0, 0, &[]) {
+        Some(root) => Ok(root),
+        None => unreachable!(),
+    }
+}
+
+// The location after that many of the leaves from `start` on.
+fn end_from<F: Family>(
+    leaves: Location<F>,
+    start: Location<F>,
+    count: usize,
+) -> Result<Location<F>, ReconstructionError>
+    ensures ok { IfOk result (λ end. (end ≡ start + count) × (end ≤ leaves) × (leaves ≤ F.MAX_LEAVES)) }
+    ensures err { IfErr result (λ e. ((F.MAX_LEAVES ≤ start) × (e ≡ ReconstructionError.InvalidStartLoc))
+        ⊎ ((start < F.MAX_LEAVES) × (F.MAX_LEAVES < start + count) × (e ≡ ReconstructionError.InvalidEndLoc))
+        ⊎ ((start < F.MAX_LEAVES) × (start + count ≤ F.MAX_LEAVES) × (leaves < start + count) × (e ≡ ReconstructionError.InvalidEndLoc))
+        ⊎ ((start < F.MAX_LEAVES) × (start + count ≤ leaves) × (start + count ≤ F.MAX_LEAVES) × (F.MAX_LEAVES < leaves) × (e ≡ ReconstructionError.InvalidSize))) }
+{
+    if !start.is_valid_index() {
+        return Err(ReconstructionError::InvalidStartLoc);
+    }
+    let Some(end) = start.checked_add(count as u64) else {
+        return Err(ReconstructionError::InvalidEndLoc);
+    };
+    if end > leaves {
+        return Err(ReconstructionError::InvalidEndLoc);
+    }
+    if !leaves.is_valid() {
+        return Err(ReconstructionError::InvalidSize);
+    }
+    Ok(end)
+}
+
+// The digests of all that the root folds: the given ones before, those of the peaks that overlap the range, and the given
+// ones after.
+fn peak_digests<F: Family, H: Hasher<F>, C: Collector<F, H::Digest>>(
+    parts: &ProofParts<'_, F, H::Digest>,
+    hasher: &H,
+    range: &Range<Location<F>>,
+    elements: &[&[u8]],
+    peaks: &[Subtree<F>],
+    before: usize,
+    after: usize,
+    collector: &mut C,
+) -> Result<Vec<H::Digest>, ReconstructionError>
+    requires nodes { (ts : List Tree) × (peaks.now ≡ map subtree_of ts) × AreNodes F.rule F.MAX_LEAVES ts }
+    requires some { range.now.start < range.now.end }
+    requires all { range.now.end ≤ range.now.start + length elements.now }
+    ensures ok { let h = H.hashing hasher.now in let c = in_range range.now.start range.now.end in
+        let X = leaf_from h F.rule range.now.start (bytes_of elements.now) in
+        IfOk result (λ v. (ts : List Tree) → peaks.now ≡ map subtree_of ts → AreNodes F.rule F.MAX_LEAVES ts
+        → ArePeakDigests h c X ts before after parts.now.digests.now v.items) }
+    ensures taken { let h = H.hashing hasher.now in let c = in_range range.now.start range.now.end in
+        let X = leaf_from h F.rule range.now.start (bytes_of elements.now) in
+        IfOk result (λ _. (ts : List Tree) → peaks.now ≡ map subtree_of ts → AreNodes F.rule F.MAX_LEAVES ts
+        → C.Took collector.old (over_pairs h c X ts (drop (before + after) parts.now.digests.now)) collector.new) }
+    ensures err { let c = in_range range.now.start range.now.end in
+        IfErr result (λ e. e ≢ ReconstructionError.OutOfMemory → (ts : List Tree) → peaks.now ≡ map subtree_of ts → AreNodes F.rule F.MAX_LEAVES ts
+        → let asked = before + after + length (flat_map (siblings c) ts) in
+        ((length parts.now.digests.now < asked) × (e ≡ ReconstructionError.MissingDigests))
+        ⊎ ((asked < length parts.now.digests.now) × (e ≡ ReconstructionError.ExtraDigests))) }
+{
+    let Some((before, others)) = parts.digests.split_at_checked(before) else {
+        return Err(ReconstructionError::MissingDigests);
+    };
+    let Some((after, mut siblings)) = others.split_at_checked(after) else {
+        return Err(ReconstructionError::MissingDigests);
+    };
+    let Ok(mut all) = before.to_vec(parts.alloc) else {
+        return Err(ReconstructionError::OutOfMemory);
+    };
+    reconstruct_peaks(
+        hasher,
+        range,
+        elements,
+        peaks,
+        &mut siblings,
+        &mut all,
+        collector,
+    )?;
+    if !siblings.is_empty() {
+        return Err(ReconstructionError::ExtraDigests);
+    }
+    let Ok(()) = all.extend_from_slice(after) else {
+        return Err(ReconstructionError::OutOfMemory);
+    };
+    Ok(all)
+}
+
+// Appends the digests of the peaks that overlap the range.
+fn reconstruct_peaks<F: Family, H: Hasher<F>, C: Collector<F, H::Digest>>(
+    hasher: &H,
+    range: &Range<Location<F>>,
+    elements: &[&[u8]],
+    peaks: &[Subtree<F>],
+    digests: &mut &[H::Digest],
+    out: &mut Vec<H::Digest>,
+    collector: &mut C,
+) -> Result<(), ReconstructionError>
+    requires nodes { (ts : List Tree) × (peaks.now ≡ map subtree_of ts) × AreNodes F.rule F.MAX_LEAVES ts }
+    requires some { range.now.start < range.now.end }
+    requires all { range.now.end ≤ range.now.start + length elements.now }
+    ensures ok { let h = H.hashing hasher.now in let c = in_range range.now.start range.now.end in
+        let X = leaf_from h F.rule range.now.start (bytes_of elements.now) in
+        IfOk result (λ _. (ts : List Tree) → peaks.now ≡ map subtree_of ts → AreNodes F.rule F.MAX_LEAVES ts
+        → ArePeaksWalked h c X ts digests.old.now out.old.items out.new.items digests.new.now) }
+    ensures taken { let h = H.hashing hasher.now in let c = in_range range.now.start range.now.end in
+        let X = leaf_from h F.rule range.now.start (bytes_of elements.now) in
+        IfOk result (λ _. (ts : List Tree) → peaks.now ≡ map subtree_of ts → AreNodes F.rule F.MAX_LEAVES ts
+        → C.Took collector.old (over_pairs h c X ts digests.old.now) collector.new) }
+    ensures err { let c = in_range range.now.start range.now.end in
+        IfErr result (λ e. e ≢ ReconstructionError.OutOfMemory → (e ≡ ReconstructionError.MissingDigests)
+        × ((ts : List Tree) → peaks.now ≡ map subtree_of ts → AreNodes F.rule F.MAX_LEAVES ts
+        → length digests.old.now < length (flat_map (siblings c) ts))) }
+{
+    for peak in peaks {
+        let digest = reconstruct_digest(peak, hasher, range, elements, digests, collector)?;
+        if collector.put(peak.position, &digest).is_err() {
+            return Err(ReconstructionError::OutOfMemory);
+        }
+        if out.push(digest).is_err() {
+            return Err(ReconstructionError::OutOfMemory);
+        }
+    }
+    Ok(())
+}

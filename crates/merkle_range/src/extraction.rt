@@ -1,0 +1,178 @@
+//! The digests of nodes that a check of a range computes or is given.
+ghost use Rattle.std.specs.Prelude.{◌≡◌, ◌+◌, ◌<◌, ◌≤◌, ◌≢◌, ℕ, List, Some, Ok, Err, IfOk, IfErr, length, map, drop, take, min};
+ghost use Rattle.merkle_base.specs.Tree.{Tree, position};
+ghost use Rattle.merkle_base.specs.Hashing.{Hashing};
+ghost use Rattle.merkle_base.specs.Places.{wholly_before};
+ghost use Rattle.merkle_root_theory.specs.Extract.{single_pairs, extracted};
+ghost use Rattle.merkle_root_theory.specs.Range.{wholly_after};
+ghost use Rattle.merkle_root_theory.specs.Reconstruction.{range_refusals, reconstructed};
+ghost use Rattle.merkle_range.specs.Extracting.{IsExtractionRefusal};
+ghost use Rattle.merkle_base.specs.Cases.{first_case};
+ghost use Rattle.merkle_root_theory.specs.Walk.{bytes_of};
+ghost use Rattle.merkle_range.specs.GroupedPeaks.{HoldsGroups};
+ghost use Rattle.merkle_range.specs.Input.{range_input, IsComputed};
+
+use crate::checks::{ProofParts, reconstruct_empty_root, reconstruct_root_into};
+use crate::collector::Collector;
+use crate::groups::Groups;
+use crate::layout::Layout;
+use merkle_base::error::{Error, ReconstructionError};
+use merkle_base::family::Family;
+use merkle_base::location::Location;
+use merkle_base::position::Position;
+use merkle_digest::digest::Digest;
+use merkle_hasher::hasher::Hasher;
+use std::alloc::AllocError;
+
+/// The pairs of a position and the digest of the node there that the parts of a proof and its elements tell, where they lead
+/// to the root.
+///
+/// # Errors
+///
+/// The first that applies:
+/// - `InvalidProof` where [`reconstruct_root`](crate::checks::reconstruct_root) refuses
+/// - `RootMismatch` where it leads to another root
+///
+/// `OutOfMemory` wherever there is no memory.
+pub fn verify_and_extract<F: Family, H: Hasher<F>>(
+    parts: &ProofParts<'_, F, H::Digest>,
+    hasher: &H,
+    elements: &[&[u8]],
+    start: Location<F>,
+    root: &H::Digest,
+) -> Result<Vec<(Position<F>, H::Digest)>, Error<F>>
+    ensures ok { let s = H.scheme hasher.now in
+        let r = range_input s parts.now.leaves parts.now.inactive parts.now.digests.now start (bytes_of elements.now) in
+        IfOk result (λ pairs. (reconstructed s r ≡ Ok root.now) × (pairs.items ≡ extracted s r)) }
+    ensures err { let s = H.scheme hasher.now in
+        let r = range_input s parts.now.leaves parts.now.inactive parts.now.digests.now start (bytes_of elements.now) in
+        IfErr result (λ e. e ≢ Error.OutOfMemory → IsExtractionRefusal s r root.now e) }
+{
+    match reconstruct_or_extract(parts, hasher, elements, start) {
+        Ok((computed, pairs)) => {
+            if computed != *root {
+                return Err(Error::RootMismatch);
+            }
+            Ok(pairs)
+        }
+        Err(error) => match error {
+            ReconstructionError::OutOfMemory => Err(Error::OutOfMemory),
+            _ => Err(Error::InvalidProof),
+        },
+    }
+}
+
+// The root that the elements from a location on lead to, if there are any, and else that of no leaves, with its pairs.
+fn reconstruct_or_extract<F: Family, H: Hasher<F>>(
+    parts: &ProofParts<'_, F, H::Digest>,
+    hasher: &H,
+    elements: &[&[u8]],
+    start: Location<F>,
+) -> Result<(H::Digest, Vec<(Position<F>, H::Digest)>), ReconstructionError>
+    ensures ok { let s = H.scheme hasher.now in
+        let r = range_input s parts.now.leaves parts.now.inactive parts.now.digests.now start (bytes_of elements.now) in
+        IfOk result (λ found. (reconstructed s r ≡ Ok found.0) × (found.1.items ≡ extracted s r)) }
+    ensures err { let s = H.scheme hasher.now in
+        let r = range_input s parts.now.leaves parts.now.inactive parts.now.digests.now start (bytes_of elements.now) in
+        IfErr result (λ e. e ≢ ReconstructionError.OutOfMemory → reconstructed s r ≡ Err e) }
+{
+    if elements.is_empty() {
+        let root = reconstruct_empty_root(parts, hasher, start)?;
+        return Ok((root, Vec::new(parts.alloc)));
+    }
+    reconstruct_and_extract(parts, hasher, elements, start)
+}
+
+/// The root that the elements from a location on lead to, which are some, and the pairs of a position and the digest of
+/// the node there that are computed or given on the way.
+///
+/// The pairs are those of the individual peaks before the range, of the peaks that overlap it, each after the pairs below
+/// it, and of the individual peaks after the range. The pairs below a node that overlaps the range and isn't a leaf are
+/// those below its left child, those below its right child, the left child's and the right child's. Digests that stand for
+/// several peaks aren't among them.
+///
+/// Refused where the counts are wrong, or there is no memory.
+pub(crate) fn reconstruct_and_extract<F: Family, H: Hasher<F>>(
+    parts: &ProofParts<'_, F, H::Digest>,
+    hasher: &H,
+    elements: &[&[u8]],
+    start: Location<F>,
+) -> Result<(H::Digest, Vec<(Position<F>, H::Digest)>), ReconstructionError>
+    requires some { 0 < length elements.now }
+    ensures ok { let s = H.scheme hasher.now in
+        let r = range_input s parts.now.leaves parts.now.inactive parts.now.digests.now start (bytes_of elements.now) in
+        IfOk result (λ found. IsComputed s r found.0) }
+    ensures pairs { let s = H.scheme hasher.now in
+        let r = range_input s parts.now.leaves parts.now.inactive parts.now.digests.now start (bytes_of elements.now) in
+        IfOk result (λ found. found.1.items ≡ extracted s r) }
+    ensures err { let s = H.scheme hasher.now in
+        let r = range_input s parts.now.leaves parts.now.inactive parts.now.digests.now start (bytes_of elements.now) in
+        IfErr result (λ e. e ≢ ReconstructionError.OutOfMemory → first_case (range_refusals s r) ≡ Some e) }
+{
+    let mut pairs = Vec::new(parts.alloc);
+    let root = reconstruct_root_into(parts, hasher, elements, start, &mut pairs)?;
+    Ok((root, pairs))
+}
+
+/// Puts the digests of the individual peaks before the range, of those that a proof gives.
+pub(crate) fn put_before<F: Family, D: Digest, C: Collector<F, D>>(
+    groups: &Groups<F>,
+    layout: Layout,
+    digests: &[D],
+    collector: &mut C,
+) -> Result<(), AllocError>
+    requires prefix { layout.prefix ≤ groups.now.before }
+    requires before { groups.now.before ≤ length groups.now.outside.items }
+    ensures { IfOk result (λ _. (h : Hashing D) (a b : ℕ) (ts us : List Tree) → HoldsGroups a b groups.now ts → us ≡ drop layout.prefix (wholly_before a ts)
+        → min layout.prefix 1 + length us ≤ length digests.now
+        → C.Took collector.old (single_pairs h us (drop (min layout.prefix 1) digests.now)) collector.new) }
+{
+    let Some((_, individual)) = digests.split_at_checked(layout.prefix.min(1)) else {
+        return Ok(());
+    };
+    put_each(
+        &groups.outside[layout.prefix..groups.before],
+        individual,
+        collector,
+    )?;
+    Ok(())
+}
+
+/// Puts the digests of the individual peaks after the range, of those that a proof gives.
+pub(crate) fn put_after<F: Family, D: Digest, C: Collector<F, D>>(
+    groups: &Groups<F>,
+    layout: Layout,
+    digests: &[D],
+    collector: &mut C,
+) -> Result<(), AllocError>
+    requires single { groups.now.before + layout.single ≤ length groups.now.outside.items }
+    ensures { IfOk result (λ _. (h : Hashing D) (a b : ℕ) (ts us : List Tree) → HoldsGroups a b groups.now ts → us ≡ take layout.single (wholly_after b ts)
+        → layout.before + length us ≤ length digests.now → C.Took collector.old (single_pairs h us (drop layout.before digests.now)) collector.new) }
+{
+    let Some((_, individual)) = digests.split_at_checked(layout.before) else {
+        return Ok(());
+    };
+    let end = groups.before + layout.single;
+    put_each(&groups.outside[groups.before..end], individual, collector)?;
+    Ok(())
+}
+
+// Puts the digests at the positions, one for each that has one.
+fn put_each<F: Family, D: Digest, C: Collector<F, D>>(
+    positions: &[Position<F>],
+    digests: &[D],
+    collector: &mut C,
+) -> Result<(), AllocError>
+    ensures { IfOk result (λ _. (h : Hashing D) (ts : List Tree) → positions.now ≡ map position ts → length ts ≤ length digests.now
+        → C.Took collector.old (single_pairs h ts digests.now) collector.new) }
+{
+    let mut rest = digests;
+    for position in positions {
+        let Some((digest, others)) = rest.split_first() else {
+            return Ok(());
+        };
+        collector.put(*position, digest)?;
+        rest = others;
+    }
+    Ok(())
+}

@@ -1,0 +1,156 @@
+//! The peaks of a forest by where they stand to a range.
+ghost use Rattle.std.specs.Prelude.{◌≡◌, ◌<◌, ◌≤◌, ◌+◌, ◌++◌, [], ◌∷◌, ℕ, List, map, length, IfOk};
+ghost use Rattle.std.specs.List.{flat_map};
+ghost use Rattle.merkle_base.specs.Tree.{Tree, position, end_leaf};
+ghost use Rattle.merkle_base.specs.Places.{peaks_of, wholly_before};
+ghost use Rattle.merkle_root_theory.specs.Plan.{siblings};
+ghost use Rattle.merkle_root_theory.specs.Outside.{folded_prefix, single_after};
+ghost use Rattle.merkle_root_theory.specs.Layouts.{count_before, count_after, count_inactive};
+ghost use Rattle.merkle_root_theory.specs.Range.{in_range, overlapping, wholly_after};
+ghost use Rattle.merkle_hasher.specs.Subtrees.{Means, AreNodes, subtree_of};
+ghost use Rattle.merkle_range.specs.GroupedPeaks.{HoldsGroups};
+ghost use Rattle.merkle_root_theory.specs.Reads.{nodes_read};
+
+use crate::layout::Layout;
+use crate::siblings::collect_siblings;
+use merkle_base::family::{Bagging, Family};
+use merkle_base::location::Location;
+use merkle_base::position::Position;
+use merkle_hasher::subtree::Subtree;
+use std::alloc::{AllocError, Global};
+use std::ops::Range;
+
+/// Room for the peaks outside a range and for what a proof of one leaf reads beside them, which are seldom more.
+const ROOM: usize = 128;
+
+/// The peaks that overlap a range, and the positions of the others, each oldest first.
+#[derive(Drop)]
+pub struct Groups<F> {
+    /// How many peaks are before the range.
+    pub before: usize,
+    /// The peaks that overlap the range.
+    pub overlapping: Vec<Subtree<F>>,
+    /// The positions of the peaks before the range, and then of those after it.
+    pub outside: Vec<Position<F>>,
+}
+
+impl<F: Family> Groups<F> {
+    /// Appends a peak to its group.
+    fn put(&mut self, peak: Subtree<F>, range: &Range<Location<F>>) -> Result<(), AllocError>
+        requires node { (t : Tree) × Means F.rule F.MAX_LEAVES peak t }
+        requires some { range.now.start < range.now.end }
+        ensures { IfOk result (λ _. (done : List Tree) (t : Tree) → Means F.rule F.MAX_LEAVES peak t
+            → (end_leaf t ≤ range.now.start → wholly_after range.now.end done ≡ [])
+            → HoldsGroups range.now.start range.now.end self.old done → HoldsGroups range.now.start range.now.end self.new (done ++ t ∷ [])) }
+    {
+        if peak.leaf_end() <= range.start {
+            self.outside.push(peak.position)?;
+            self.before = self.outside.len();
+        } else if peak.first_leaf >= range.end {
+            self.outside.push(peak.position)?;
+        } else {
+            self.overlapping.push(peak)?;
+        }
+        Ok(())
+    }
+
+    /// The groups of the peaks of that many leaves.
+    ///
+    /// Refused for want of memory.
+    pub fn of_peaks(
+        alloc: Global,
+        leaves: Location<F>,
+        range: &Range<Location<F>>,
+    ) -> Result<Self, AllocError>
+        requires some { range.now.start < range.now.end }
+        requires small { leaves ≤ F.MAX_LEAVES }
+        ensures { IfOk result (λ gs. HoldsGroups range.now.start range.now.end gs (peaks_of F.rule leaves)) }
+    {
+        let mut groups = Groups {
+            before: 0,
+            overlapping: Vec::new(alloc),
+            outside: Vec::with_capacity(alloc, ROOM)?,
+        };
+        let mut first_leaf = Location::new(0);
+        for (position, height) in F::peaks(F::location_to_position(leaves)) {
+            let peak = Subtree {
+                position,
+                height,
+                first_leaf,
+            };
+            first_leaf = peak.leaf_end();
+            groups.put(peak, range)?;
+        }
+        Ok(groups)
+    }
+
+    /// The number of peaks.
+    pub fn count(&self) -> usize
+        requires { (a : ℕ) × (b : ℕ) × (n : ℕ) × (a < b) × (n ≤ F.MAX_LEAVES) × HoldsGroups a b self.now (peaks_of F.rule n) }
+        ensures { (a b n : ℕ) → a < b → HoldsGroups a b self.now (peaks_of F.rule n) → result ≡ length (peaks_of F.rule n) }
+    {
+        self.overlapping.len() + self.outside.len()
+    }
+
+    /// The number of peaks after the range.
+    pub fn after(&self) -> usize
+        requires { (a : ℕ) × (b : ℕ) × (ts : List Tree) × HoldsGroups a b self.now ts }
+        ensures { (a b : ℕ) (ts : List Tree) → HoldsGroups a b self.now ts → result ≡ length (wholly_after b ts) }
+    {
+        self.outside.len() - self.before
+    }
+
+    /// The layout of a proof of the range, where so many peaks are inactive.
+    pub(crate) fn layout(&self, bagging: Bagging, inactive: usize) -> Layout
+        requires groups { (a : ℕ) × (b : ℕ) × (n : ℕ) × (a < b) × (n ≤ F.MAX_LEAVES) × HoldsGroups a b self.now (peaks_of F.rule n) }
+        requires inactive { inactive ≤ 64 }
+        ensures before { (a b : ℕ) (ts : List Tree) → HoldsGroups a b self.now ts → result.before ≡ count_before bagging inactive (wholly_before a ts) }
+        ensures after { (a b : ℕ) (ts : List Tree) → HoldsGroups a b self.now ts
+            → result.after ≡ count_after bagging inactive (length (wholly_before a ts) + length (overlapping a b ts)) (wholly_after b ts) }
+        ensures inactive { (a b : ℕ) (ts : List Tree) → HoldsGroups a b self.now ts → result.inactive ≡ count_inactive bagging inactive (wholly_before a ts) }
+        ensures prefix { (a b : ℕ) (ts : List Tree) → HoldsGroups a b self.now ts
+            → result.prefix ≡ length (folded_prefix bagging inactive (wholly_before a ts)) }
+        ensures single { (a b : ℕ) (ts : List Tree) → HoldsGroups a b self.now ts
+            → result.single ≡ length (single_after bagging inactive (length (wholly_before a ts) + length (overlapping a b ts)) (wholly_after b ts)) }
+    {
+        Layout::new(
+            bagging,
+            inactive,
+            self.before,
+            self.overlapping.len(),
+            self.after(),
+        )
+    }
+
+    /// The positions of the peaks before the range, of those after it, and of the maximal nodes outside it under the
+    /// others, left to right.
+    ///
+    /// Refused for want of memory.
+    pub fn into_reads(self, range: &Range<Location<F>>) -> Result<Vec<Position<F>>, AllocError>
+        requires some { range.now.start < range.now.end }
+        requires groups { (n : ℕ) × (n ≤ F.MAX_LEAVES) × HoldsGroups range.now.start range.now.end self (peaks_of F.rule n) }
+        ensures { IfOk result (λ v. (n : ℕ) → n ≤ F.MAX_LEAVES → HoldsGroups range.now.start range.now.end self (peaks_of F.rule n)
+            → v.items ≡ map position (nodes_read F.rule n range.now.start range.now.end)) }
+    {
+        let mut reads = self.outside;
+        append_siblings(&self.overlapping, range, &mut reads)?;
+        Ok(reads)
+    }
+}
+
+// Appends the positions of the maximal nodes outside the range under the peaks, left to right.
+fn append_siblings<F: Family>(
+    peaks: &[Subtree<F>],
+    range: &Range<Location<F>>,
+    out: &mut Vec<Position<F>>,
+) -> Result<(), AllocError>
+    requires nodes { (ts : List Tree) × (peaks.now ≡ map subtree_of ts) × AreNodes F.rule F.MAX_LEAVES ts }
+    requires some { range.now.start < range.now.end }
+    ensures { IfOk result (λ _. (ts : List Tree) → peaks.now ≡ map subtree_of ts → AreNodes F.rule F.MAX_LEAVES ts
+        → out.new.items ≡ out.old.items ++ map position (flat_map (siblings (in_range range.now.start range.now.end)) ts)) }
+{
+    for peak in peaks {
+        collect_siblings(peak, range, out)?;
+    }
+    Ok(())
+}

@@ -1,0 +1,11 @@
+//! Checks of ranges of leaves against a root, over the parts of their proofs.
+#![tactic(auto)]
+
+pub mod checks;
+mod collector;
+pub mod extraction;
+pub mod groups;
+pub mod layout;
+mod peaks;
+pub mod pins;
+mod siblings;
