@@ -7,8 +7,8 @@ use Rattle.merkle_batch_theory.specs.Missing.{IsMissing}
 use Rattle.merkle_batch_theory.specs.Needed.{IsNeeded}
 use Rattle.merkle_batch_theory.specs.Pending.{Pending}
 use Rattle.merkle_batch_theory.specs.Store.{Store, contents}
-use Rattle.merkle_proof.specs.Input.{leaf_digests}
-use Rattle.merkle_proof.proofs.GivenLeaves.{length-leaf_digests}
+use Rattle.merkle_range.specs.Input.{leaf_digests}
+use Rattle.merkle_range.proofs.GivenLeaves.{length-leaf_digests}
 use Rattle.merkle_lines.specs.Answers.{IsLost}
 use Rattle.merkle_lines.specs.Given.{Given, at_updated, changes}
 use Rattle.merkle_lines.specs.Held.{IsHeld, Makes}

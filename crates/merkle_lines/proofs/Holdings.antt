@@ -13,8 +13,8 @@ use Rattle.merkle_batch_theory.specs.Pending.{Pending, forked, pending_list}
 use Rattle.merkle_batch_theory.specs.Roots.{root_batch}
 use Rattle.merkle_batch_theory.specs.Stands.{replaced}
 use Rattle.merkle_batch_theory.specs.Store.{Store, contents}
-use Rattle.merkle_proof.specs.Input.{leaf_digests}
-use Rattle.merkle_proof.proofs.GivenLeaves.{length-leaf_digests}
+use Rattle.merkle_range.specs.Input.{leaf_digests}
+use Rattle.merkle_range.proofs.GivenLeaves.{length-leaf_digests}
 use Rattle.merkle_lines.specs.Given.{Changes, Given, all_committed, changes, pruned_to, with_changes, without_changes}
 use Rattle.merkle_lines.specs.Held.{IsHeld, Makes, MakesPending}
 

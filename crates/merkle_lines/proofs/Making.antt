@@ -25,8 +25,8 @@ use Rattle.merkle_batch_theory.proofs.Matching.{accepts}
 use Rattle.merkle_batch_theory.proofs.PendingUpdates.{leaves_list, parent_kept, update_list, updated_new, updated_old}
 use Rattle.merkle_batch_theory.proofs.RootBatch.{root_stands}
 use Rattle.merkle_batch_theory.proofs.Steps.{digests_length, replaced_length}
-use Rattle.merkle_proof.specs.Input.{leaf_digests}
-use Rattle.merkle_proof.proofs.GivenLeaves.{length-leaf_digests}
+use Rattle.merkle_range.specs.Input.{leaf_digests}
+use Rattle.merkle_range.proofs.GivenLeaves.{length-leaf_digests}
 use Rattle.merkle_lines.specs.Given.{Changes, at_updated, with_element}
 use Rattle.merkle_lines.specs.Given as given
 use Rattle.merkle_lines.specs.Held.{Makes}

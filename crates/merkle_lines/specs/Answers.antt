@@ -16,7 +16,7 @@ use Rattle.merkle_codec.specs.ProofSpelling.{parts_spelling, IsProofRefusal}
 use Rattle.merkle_commands.specs.Commands.{optional_words}
 use Rattle.merkle_commands.specs.declared.command.Request.{Request}
 use Rattle.merkle_commands.specs.declared.command.Request.TheVariants.{Add, Update, Commit, Prune, Root, Prove, Check}
-use Rattle.merkle_proof.specs.Input.{leaf_digests, range_input}
+use Rattle.merkle_range.specs.Input.{leaf_digests, range_input}
 use Rattle.merkle_proof.specs.RangePlans.{IsFirstMissing}
 use Rattle.merkle_root_theory.specs.Range.{range_digests}
 use Rattle.merkle_root_theory.specs.Reads.{reading_order}

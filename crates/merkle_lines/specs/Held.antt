@@ -8,7 +8,7 @@ use Rattle.merkle_batch_theory.specs.Contents.{Agrees, Contents}
 use Rattle.merkle_batch_theory.specs.Pending.{Pending, pending_list}
 use Rattle.merkle_batch_theory.specs.Roots.{root_batch}
 use Rattle.merkle_batch_theory.specs.Store.{Store, contents}
-use Rattle.merkle_proof.specs.Input.{leaf_digests}
+use Rattle.merkle_range.specs.Input.{leaf_digests}
 use Rattle.merkle_lines.specs.Given.{Changes, Given}
 
 -- the pending batch makes the changes of a list: it was forked from a structure that agreed with it, at its boundary then

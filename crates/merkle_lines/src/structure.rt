@@ -8,7 +8,7 @@ ghost use Rattle.merkle_lines.specs.AnswerText.{answer_text};
 ghost use Rattle.merkle_lines.specs.Answers.{IsAnswered};
 ghost use Rattle.merkle_lines.specs.Given.{Given, changes, nothing};
 ghost use Rattle.merkle_lines.specs.Held.{IsHeld, Makes};
-ghost use Rattle.merkle_proof.specs.Input.{leaf_digests};
+ghost use Rattle.merkle_range.specs.Input.{leaf_digests};
 
 use crate::answer::{Answer, Named, or_fault};
 use crate::checking::check;

@@ -2,7 +2,7 @@ use Rattle.std.proofs.Common.{refl, sym, ap, subst, ◌∙◌, ◌≡◌, List, 
 use Rattle.merkle_base.specs.Hashing.{Hashing}
 use Rattle.merkle_base.specs.Scheme.{scheme_of}
 use Rattle.merkle_hasher.specs.Standard.{standard}
-use Rattle.merkle_proof.specs.Input.{leaf_digests}
+use Rattle.merkle_range.specs.Input.{leaf_digests}
 use Rattle.merkle_base.specs.Forest.{size}
 use Rattle.merkle_batch_theory.specs.Pending.{leaf_total, with_leaf}
 use Rattle.merkle_lines.specs.Answers.{error_line}

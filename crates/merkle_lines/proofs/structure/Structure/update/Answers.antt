@@ -2,7 +2,7 @@ use Rattle.std.proofs.Common.{refl, sym, ap, subst, ◌∙◌, ◌≡◌, List, 
 use Rattle.merkle_base.specs.Hashing.{Hashing}
 use Rattle.merkle_base.specs.Scheme.{scheme_of}
 use Rattle.merkle_hasher.specs.Standard.{standard}
-use Rattle.merkle_proof.specs.Input.{leaf_digests}
+use Rattle.merkle_range.specs.Input.{leaf_digests}
 use Rattle.merkle_base.specs.Forest.{size}
 use Rattle.merkle_batch_theory.specs.Pending as pending
 use Rattle.merkle_lines.specs.Answers.{error_line}
@@ -12,7 +12,7 @@ use Rattle.merkle_lines.proofs.Holdings.{held_with, held_without}
 use Rattle.merkle_lines.proofs.Making.{makes_update}
 use Rattle.merkle_lines.proofs.Replies.{update_done, wanting, wanting_hex}
 use Rattle.merkle_lines.proofs.Updates.{update_allowed, update_failed}
-use Rattle.merkle_proof.proofs.GivenLeaves.{length-leaf_digests}
+use Rattle.merkle_range.proofs.GivenLeaves.{length-leaf_digests}
 use Rattle.merkle_commands.specs.declared.command.Request.TheVariants.{Update}
 use Rattle.merkle_lines.proofs.structure.Structure.update.Goals as goal
 
