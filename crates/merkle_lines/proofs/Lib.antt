@@ -6,3 +6,4 @@ pub mod Proving
 pub mod Replies
 pub mod Transcripts
 pub mod Updates
+pub mod Verdicts
