@@ -6,7 +6,7 @@ use Rattle.merkle_base.specs.declared.error.DecodeError.{DecodeError}
 use Rattle.merkle_codec.specs.Spelling.{option_spelling, IsDigestRefusal, IsOptionRefusal}
 
 -- lists that begin with parts of one length and are equal have equal parts
-append_once : (a b r s : List ℕ) → length a ≡ length b → a ++ r ≡ b ++ s → (a ≡ b) × (r ≡ s)
+pub append_once : (a b r s : List ℕ) → length a ≡ length b → a ++ r ≡ b ++ s → (a ≡ b) × (r ≡ s)
 append_once [] [] r s p e = (refl, e)
 append_once [] (y ∷ b) r s p e = search (rules, p)
 append_once (x ∷ a) [] r s p e = search (rules, p)
@@ -21,7 +21,7 @@ option_spelling_once bytes size sized decide (Some x) (Some y) r s e =
     let t = append_once (bytes x) (bytes y) r s (sized x ∙ sym (sized y)) (grind (arith, e)) in (ap Some (decide x y t.0), t.1)
 
 -- bytes that are refused as a digest begin with none
-IsDigestRefusal_spells_none : (size : ℕ) (Spells : List ℕ → Type 0) (b : List ℕ) (e : DecodeError) → IsDigestRefusal size Spells b e → (a rest : List ℕ) → length a ≡ size → Spells a → ¬ b ≡ a ++ rest
+pub IsDigestRefusal_spells_none : (size : ℕ) (Spells : List ℕ → Type 0) (b : List ℕ) (e : DecodeError) → IsDigestRefusal size Spells b e → (a rest : List ℕ) → length a ≡ size → Spells a → ¬ b ≡ a ++ rest
 IsDigestRefusal_spells_none size Spells b e (inl few) a rest sized s k =
     omega (arith, few.0, ap length k, length-append a rest, sized)
 IsDigestRefusal_spells_none size Spells b e (inr none) a rest sized s k =

@@ -3,6 +3,7 @@ ghost use Rattle.std.specs.Prelude.{◌≡◌, ◌≢◌, ◌+◌, ◌^◌, ◌<
 ghost use Rattle.merkle_codec.specs.Spelling.{option_spelling, IsDigestRefusal, IsOptionRefusal};
 ghost use Rattle.merkle_codec.specs.SpellingLaws.{option_spelling_once, IsOptionRefusal_spells_none, IsOptionRefusal_once};
 
+pub use crate::proof::max_encode_size;
 use merkle_base::error::{DecodeError, OutOfMemory};
 use merkle_digest::digest::Digest;
 use std::alloc::Global;
@@ -14,12 +15,15 @@ pub trait EncodeSize {
     // the bytes that spell the value
     ghost spelling: { Self → List ℕ };
 
+    // one value, wherever it lies in memory
+    ghost same: { Self → Self → Type 0 };
+
     /// The number of bytes of the spelling, which fits a `usize`.
     fn encode_size(&self) -> usize
         requires { length (spelling self.now) < 2 ^ 64 }
         ensures { result ≡ length (spelling self.now) };
 
-    ghost one_spelling: { (x y : Self) (r s : List ℕ) → spelling x ++ r ≡ spelling y ++ s → (x ≡ y) × (r ≡ s) };
+    ghost one_spelling: { (x y : Self) (r s : List ℕ) → spelling x ++ r ≡ spelling y ++ s → same x y × (r ≡ s) };
 }
 
 /// What can be written as its spelling.
@@ -74,7 +78,7 @@ pub trait Read: Sized {
 
 // The digest that the bytes begin with, and the bytes after it: `EndOfBuffer` where there are too few bytes, `Invalid`
 // where the first so many are no digest's.
-fn read_digest<D: Digest>(bytes: &[u8]) -> Result<(D, &[u8]), DecodeError>
+pub(crate) fn read_digest<D: Digest>(bytes: &[u8]) -> Result<(D, &[u8]), DecodeError>
     ensures ok { IfOk result (λ p. bytes.now ≡ D.bytes p.0 ++ p.1.now) }
     ensures refused { IfErr result (λ e. IsDigestRefusal D.SIZE D.Spells bytes.now e) }
 {
@@ -90,6 +94,8 @@ fn read_digest<D: Digest>(bytes: &[u8]) -> Result<(D, &[u8]), DecodeError>
 /// `00` for none; `01` and then the digest's bytes for a digest.
 impl<D: Digest> EncodeSize for Option<D> {
     ghost spelling = { option_spelling D.bytes };
+
+    ghost same = { ◌≡◌ };
 
     fn encode_size(&self) -> usize {
         match self {

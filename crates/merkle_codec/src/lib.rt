@@ -2,4 +2,6 @@
 #![tactic(auto)]
 
 pub mod codec;
+mod number;
 pub mod pending;
+mod proof;

@@ -32,6 +32,8 @@ pub trait PendingChunk<D>: Clone + Debug + Eq + Write + Read<Cfg = ()> {
 
     ghost one_holds: { (x y : Self) → held x ≡ held y → x ≡ y };
 
+    ghost same_equal: { (x y : Self) → Self.same x y → x ≡ y };
+
     ghost same_spelling: { (x : Self) → Self.spelled_by x ≡ Self.spelling x };
 
     ghost all_within: { (x : Self) → Self.within tt x };
@@ -60,6 +62,8 @@ pub struct Unused;
 
 impl EncodeSize for Unused {
     ghost spelling = { λ _. [] };
+
+    ghost same = { ◌≡◌ };
 
     fn encode_size(&self) -> usize {
         0
@@ -112,6 +116,8 @@ impl<D: Drop> PendingChunk<D> for Unused {
 
     ghost one_holds = { λ _ _ _. refl };
 
+    ghost same_equal = { λ _ _ e. e };
+
     ghost same_spelling = { λ _. refl };
 
     ghost all_within = { λ _. tt };
@@ -132,6 +138,8 @@ impl<D: Digest> PendingChunk<D> for Option<D> {
     }
 
     ghost one_holds = { λ _ _ e. e };
+
+    ghost same_equal = { λ _ _ e. e };
 
     ghost same_spelling = { λ _. refl };
 

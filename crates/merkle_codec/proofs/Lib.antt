@@ -1,0 +1,2 @@
+pub mod NumberGroups
+pub mod ProofBytes
