@@ -1,15 +1,17 @@
-//! Words as digests, and values as text.
+//! Words as digests, locations and ranges, and values as text.
 
 use merkle_base::pins::NodesToPin;
 use merkle_core::digest::Digest;
 use merkle_core::family::Family;
+use merkle_core::location::Location;
 use merkle_core::position::Position;
 use merkle_core::proof::Proof;
 use merkle_core::read::Readable;
 use rows_text::answer::Answer;
 use rows_text::refusal::{Refusal, SYNTAX};
-use rows_text::words::{bytes, repeated};
+use rows_text::words::{bytes, located, number, numbers, repeated};
 use std::alloc::Global;
+use std::ops::Range;
 
 /// The greatest number of nodes that is written.
 const SHOWN: u64 = 256;
@@ -38,6 +40,35 @@ fn push_digests<D: Digest>(alloc: Global, all: &mut Vec<D>, item: &str) -> Resul
         all.push(digest)?;
     }
     Ok(())
+}
+
+/// The locations of a list.
+pub fn locations<F: Family>(alloc: Global, word: &str) -> Result<Vec<Location<F>>, Refusal> {
+    let mut all = Vec::new(alloc);
+    for number in &numbers(alloc, word)? {
+        all.push(Location::new(*number))?;
+    }
+    Ok(all)
+}
+
+/// The range of leaves whose first location and end the first two words are.
+pub fn leaf_range<F: Family>(words: &[&str]) -> Result<Range<Location<F>>, Refusal> {
+    let start = Location::new(number(words, 0)?);
+    let end = Location::new(number(words, 1)?);
+    Ok(start..end)
+}
+
+/// The positions of a list, each with its digest.
+pub fn pairs<F: Family, D: Digest>(
+    alloc: Global,
+    word: &str,
+) -> Result<Vec<(Position<F>, D)>, Refusal> {
+    let mut all = Vec::new(alloc);
+    for item in &located(alloc, word)? {
+        let digest = D::from_bytes(item.bytes.as_slice()).ok_or(SYNTAX)?;
+        all.push((Position::new(item.leaf), digest))?;
+    }
+    Ok(all)
 }
 
 /// Writes digests as one word.
