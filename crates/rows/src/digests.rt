@@ -1,4 +1,4 @@
-//! Words as digests, locations and ranges, and values as text.
+//! Words as digests, locations and pairs, and values as text.
 
 use merkle_base::pins::NodesToPin;
 use merkle_core::digest::Digest;
@@ -9,9 +9,8 @@ use merkle_core::proof::Proof;
 use merkle_core::read::Readable;
 use rows_text::answer::Answer;
 use rows_text::refusal::{Refusal, SYNTAX};
-use rows_text::words::{bytes, located, number, numbers, repeated};
+use rows_text::words::{bytes, located, numbers, repeated};
 use std::alloc::Global;
-use std::ops::Range;
 
 /// The greatest number of nodes that is written.
 const SHOWN: u64 = 256;
@@ -49,13 +48,6 @@ pub fn locations<F: Family>(alloc: Global, word: &str) -> Result<Vec<Location<F>
         all.push(Location::new(*number))?;
     }
     Ok(all)
-}
-
-/// The range of leaves whose first location and end the first two words are.
-pub fn leaf_range<F: Family>(words: &[&str]) -> Result<Range<Location<F>>, Refusal> {
-    let start = Location::new(number(words, 0)?);
-    let end = Location::new(number(words, 1)?);
-    Ok(start..end)
 }
 
 /// The positions of a list, each with its digest.

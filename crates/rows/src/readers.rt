@@ -1,6 +1,6 @@
 //! Calls of proofs over what holds nodes.
 
-use crate::digests::{digests, leaf_range, locations, write_proof};
+use crate::digests::{digests, locations, write_proof};
 use crate::world::World;
 use merkle_core::batch::MerkleizedBatch;
 use merkle_core::family::Family;
@@ -83,9 +83,10 @@ fn write_range<R: Readable, H: Hasher<R::Family, Digest = R::Digest>>(
     words: &[&str],
     answer: &mut Answer,
 ) -> Result<(), Refusal> {
-    let range = leaf_range(words)?;
+    let start = Location::new(number(words, 0)?);
+    let end = Location::new(number(words, 1)?);
     let inactive = count(words, 2)?;
-    let proof = granted!(range_proof(alloc, hasher, reader, range, inactive));
+    let proof = granted!(range_proof(alloc, hasher, reader, start..end, inactive));
     write_proof(answer, &proof);
     Ok(())
 }
@@ -99,9 +100,10 @@ fn write_history<R: Readable, H: Hasher<R::Family, Digest = R::Digest>>(
     answer: &mut Answer,
 ) -> Result<(), Refusal> {
     let leaves = Location::new(number(words, 0)?);
-    let range = leaf_range(words_from(words, 1))?;
+    let start = Location::new(number(words, 1)?);
+    let end = Location::new(number(words, 2)?);
     let inactive = count(words, 3)?;
-    let proof = historical_range_proof(alloc, hasher, reader, leaves, range, inactive);
+    let proof = historical_range_proof(alloc, hasher, reader, leaves, start..end, inactive);
     write_proof(answer, &granted!(proof));
     Ok(())
 }

@@ -1,6 +1,6 @@
 //! Calls of stores of proofs.
 
-use crate::digests::{digest, leaf_range, locations, pairs, write_positions, write_proof};
+use crate::digests::{digest, locations, pairs, write_positions, write_proof};
 use crate::world::World;
 use merkle_core::family::Family;
 use merkle_core::hasher::Hasher;
@@ -32,8 +32,9 @@ impl<F: Family, H: Hasher<F> + Drop> World<F, H> {
     // A store's proof of a range.
     pub fn store_range(&self, words: &[&str], answer: &mut Answer) -> Result<(), Refusal> {
         let store = named(&self.stores, word(words, 1))?;
-        let range = leaf_range(words_from(words, 2))?;
-        let proof = granted!(store.range_proof(&self.hasher, range));
+        let start = Location::new(number(words, 2)?);
+        let end = Location::new(number(words, 3)?);
+        let proof = granted!(store.range_proof(&self.hasher, start..end));
         write_proof(answer, &proof);
         Ok(())
     }
