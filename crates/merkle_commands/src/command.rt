@@ -49,7 +49,10 @@ pub enum Request<'a> {
     /// Add the element with these digits to the pending batch.
     Add(&'a str),
     /// Give the leaf at a location the element with these digits, in the pending batch.
-    Update { location: u64, digits: &'a str },
+    Update {
+        location: u64,
+        digits: &'a str,
+    },
     /// Apply the pending batch.
     Commit,
     /// Prune the committed structure to a location.

@@ -29,5 +29,5 @@ module _ {D : Type 0} (h : Hashing D) (rule : List ℕ → List ℕ) (max_leaves
   pub lost_held : ((t : Tree) → ¬ (IsMissing rule b (contents s) t)) → (t : Tree) → ¬ (IsLost rule g t)
   lost_held none t lost =
       none t (lost_missing h rule list b (changes g) m s held.agrees t
-        (subst (λ n. IsNeeded rule (at_updated rule (changes g).updated) n (length (changes g).elements) t) (sym (length-leaf_digests h rule 0 g.committed)) lost.0)
-        (ap (λ k. is_kept rule k (position t)) held.boundary ∙ lost.1))
+      (subst (λ n. IsNeeded rule (at_updated rule (changes g).updated) n (length (changes g).elements) t) (sym (length-leaf_digests h rule 0 g.committed)) lost.0)
+      (ap (λ k. is_kept rule k (position t)) held.boundary ∙ lost.1))

@@ -25,9 +25,9 @@ replaced_nothing rule n (d ∷ ds) = rw (get-empty nat_cmp (size rule n), replac
 
 greater : (a b : ℕ) → cond (nat_lt a b) b a ≡ max a b
 greater a b = elim (cases_lt a b) [
-    | inl less ↦ ap (λ t. cond t b a) (lt-ltb a b less) ∙ omega (arith, less)
-    | inr not_less ↦ ap (λ t. cond t b a) (le-ltb a b not_less) ∙ omega (arith, not_less)
-  ]
+  | inl less ↦ ap (λ t. cond t b a) (lt-ltb a b less) ∙ omega (arith, less)
+  | inr not_less ↦ ap (λ t. cond t b a) (le-ltb a b not_less) ∙ omega (arith, not_less)
+]
 
 module _ {D : Type 0} (h : Hashing D) (rule : List ℕ → List ℕ) (max_leaves : ℕ) (s : Store D) (p : Option (Pending D)) (g : Given) (held : IsHeld h rule max_leaves s p g) where
   abbrev list : List D
@@ -49,6 +49,7 @@ module _ {D : Type 0} (h : Hashing D) (rule : List ℕ → List ℕ) (max_leaves
     where
       begun : Changes
       begun = record { elements = g.committed; updated = []; boundary = g.boundary }
+
       first : Makes h rule list (forked (root_batch rule s.leaves (contents s))) begun
       first = record {
         origin = contents s;
@@ -60,6 +61,7 @@ module _ {D : Type 0} (h : Hashing D) (rule : List ℕ → List ℕ) (max_leaves
         elements = append-nil (replaced rule (get (empty {R = nat_cmp})) 0 list) ∙ replaced_nothing rule 0 list;
         updates = λ q. ap is_some (get-empty nat_cmp q);
       }
+
       none_of : (o : Option Changes) → MakesPending h rule list None o → Makes h rule list b (unwrap_or o begun)
       none_of None m = subst (λ x. Makes h rule list x begun) (sym new) first
       none_of (Some c) m = absurd m

@@ -108,35 +108,37 @@ module _ {D : Type 0} (h : Hashing D) (rule : List ℕ → List ℕ) (X : List D
   -- with another element at a location
   pub makes_update : (k : ℕ) (e : List ℕ) → Makes h rule X (with_update rule b k (h.leaf (size rule k) e)) (given.with_update (length X) c k e)
   makes_update k e = elim (cases_lt k b.leaves_before) [
-      | inl old ↦ subst (λ x. Makes h rule X x (given.with_update (length X) c k e)) (sym (updated_old rule b k d old)) (record {
-        origin = m.origin;
-        agreed = m.agreed;
-        forked = m.forked;
-        boundary = m.boundary;
-        whole = m.whole;
-        before = m.before;
-        elements = subst (λ x. pending_list rule x X ≡ leaf_digests h rule 0 (set c.elements k e)) (updated_old rule b k d old) made;
-        updates = λ p.
-            ap is_some (inserted_at b.overwritten (size rule k) d p) ∙ either p (p == size rule k) (m.updates p)
-            ∙ ap (λ t. list_any (λ j. p == size rule j) (cond t (k ∷ c.updated) c.updated)) (sym (lt-ltb k (length X) (omega (arith, old, m.before))));
-      })
-      | inr new ↦ subst (λ x. Makes h rule X x (given.with_update (length X) c k e)) (sym (updated_new rule b k d new)) (record {
-        origin = m.origin;
-        agreed = m.agreed;
-        forked = m.forked;
-        boundary = m.boundary;
-        whole = m.whole;
-        before = m.before;
-        elements = subst (λ x. pending_list rule x X ≡ leaf_digests h rule 0 (set c.elements k e)) (updated_new rule b k d new) made;
-        updates = λ p. m.updates p ∙ ap (λ t. list_any (λ j. p == size rule j) (cond t (k ∷ c.updated) c.updated)) (sym (le-ltb k (length X) (omega (arith, new, m.before))));
-      })
-    ]
+    | inl old ↦ subst (λ x. Makes h rule X x (given.with_update (length X) c k e)) (sym (updated_old rule b k d old)) (record {
+      origin = m.origin;
+      agreed = m.agreed;
+      forked = m.forked;
+      boundary = m.boundary;
+      whole = m.whole;
+      before = m.before;
+      elements = subst (λ x. pending_list rule x X ≡ leaf_digests h rule 0 (set c.elements k e)) (updated_old rule b k d old) made;
+      updates = λ p.
+          ap is_some (inserted_at b.overwritten (size rule k) d p) ∙ either p (p == size rule k) (m.updates p)
+          ∙ ap (λ t. list_any (λ j. p == size rule j) (cond t (k ∷ c.updated) c.updated)) (sym (lt-ltb k (length X) (omega (arith, old, m.before))));
+    })
+    | inr new ↦ subst (λ x. Makes h rule X x (given.with_update (length X) c k e)) (sym (updated_new rule b k d new)) (record {
+      origin = m.origin;
+      agreed = m.agreed;
+      forked = m.forked;
+      boundary = m.boundary;
+      whole = m.whole;
+      before = m.before;
+      elements = subst (λ x. pending_list rule x X ≡ leaf_digests h rule 0 (set c.elements k e)) (updated_new rule b k d new) made;
+      updates = λ p. m.updates p ∙ ap (λ t. list_any (λ j. p == size rule j) (cond t (k ∷ c.updated) c.updated)) (sym (le-ltb k (length X) (omega (arith, new, m.before))));
+    })
+  ]
     where
       d : D
       d = h.leaf (size rule k) e
+
       made : pending_list rule (with_update rule b k d) X ≡ leaf_digests h rule 0 (set c.elements k e)
       made = update_list rule b k d X (sym m.before) ∙ ap (λ ds. set ds k d) m.elements
           ∙ ap (λ j. set (leaf_digests h rule 0 c.elements) k (h.leaf (size rule j) e)) (let n : k ≡ 0 + k = omega arith in n) ∙ sym (leaf_digests_set h rule 0 c.elements k e)
+
       either : (p : ℕ) (t : Bool) → is_some (get b.overwritten p) ≡ list_any (λ j. p == size rule j) c.updated
           → is_some (cond t (Some d) (get b.overwritten p)) ≡ t || list_any (λ j. p == size rule j) c.updated
       either p true same = refl

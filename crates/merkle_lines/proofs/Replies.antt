@@ -47,7 +47,7 @@ module _ {D : Type 0} (s : Scheme D) (size_of : ℕ) (Spells : List ℕ → Type
       → IsAnswered s size_of Spells g (Add digits) (with_changes g (with_element (changes g) element)) text
   add_done digits element n text d c l t =
       inl (subst (λ b. ◌≡◌ {A = Given × List ℕ} (with_changes g (with_element (changes g) element), text) (added s g b)) (sym (read_bytes digits.now element d))
-        (rw (lt-ltb (length (changes g).elements) s.max_leaves (omega (arith, l, c))) (ap (λ x. (with_changes g (with_element (changes g) element), x)) (t ∙ ap (λ m. codes "ok " ++ decimal m) c))))
+      (rw (lt-ltb (length (changes g).elements) s.max_leaves (omega (arith, l, c))) (ap (λ x. (with_changes g (with_element (changes g) element), x)) (t ∙ ap (λ m. codes "ok " ++ decimal m) c))))
 
   pub add_full : {F : Type 0} (digits : Bor (List ℕ)) (e : Error F) (text : List ℕ) → length (changes g).elements ≡ s.max_leaves → e ≡ error.LocationOverflow s.max_leaves → text ≡ error_line (error_name e)
       → IsAnswered s size_of Spells g (Add digits) (without_changes g) text
@@ -59,7 +59,7 @@ module _ {D : Type 0} (s : Scheme D) (size_of : ℕ) (Spells : List ℕ → Type
       → IsAnswered s size_of Spells g (Update location digits) (with_changes g (with_update (count g) (changes g) location element)) text
   update_done location digits element text d l b t =
       inl (subst (λ x. ◌≡◌ {A = Given × List ℕ} (with_changes g (with_update (count g) (changes g) location element), text) (updated g location x)) (sym (read_bytes digits.now element d))
-        (rw (lt-leb (length (changes g).elements) location l, le-ltb location (changes g).boundary b) (ap (λ x. (with_changes g (with_update (count g) (changes g) location element), x)) t)))
+      (rw (lt-leb (length (changes g).elements) location l, le-ltb location (changes g).boundary b) (ap (λ x. (with_changes g (with_update (count g) (changes g) location element), x)) t)))
 
   pub update_out : {F : Type 0} (location : ℕ) (digits : Bor (List ℕ)) (e : Error F) (text : List ℕ) → length (changes g).elements ≤ location → e ≡ error.LeafOutOfBounds location → text ≡ error_line (error_name e)
       → IsAnswered s size_of Spells g (Update location digits) (without_changes g) text
@@ -101,15 +101,21 @@ module _ {D : Type 0} (s : Scheme D) (size_of : ℕ) (Spells : List ℕ → Type
 
     pub root_told : (d : D) → r ≡ Ok d → text ≡ encode_lower (s.hashing.bytes d) → IsAnswered s size_of Spells g (Root k) g text
     root_told d e t =
-        inl (refl, by_test Texts within
-        (λ w. let f = ok (omega (arith, leb-true k _ w, peaks_same)) in let same : d ≡ list_root s (committed_list s g) k = (cc) in t ∙ ap (λ x. encode_lower (s.hashing.bytes x)) same)
-        (λ w. absurd (let f = err (omega (arith, leb-false k _ w, peaks_same)) in cc)))
+        inl (
+          refl,
+          by_test Texts within
+              (λ w. let f = ok (omega (arith, leb-true k _ w, peaks_same)) in let same : d ≡ list_root s (committed_list s g) k = (cc) in t ∙ ap (λ x. encode_lower (s.hashing.bytes x)) same)
+              (λ w. absurd (let f = err (omega (arith, leb-false k _ w, peaks_same)) in cc)),
+        )
 
     pub root_refused : (e : Error F) → r ≡ Err e → text ≡ error_line (error_name e) → IsAnswered s size_of Spells g (Root k) g text
     root_refused e i t =
-        inl (refl, by_test Texts within
-        (λ w. absurd (let f = ok (omega (arith, leb-true k _ w, peaks_same)) in cc))
-        (λ w. let f = err (omega (arith, leb-false k _ w, peaks_same)) in let same : e ≡ error.InvalidInactivePeaks k (length (peaks_of s.rule (length (committed_list s g)))) = (cc) in t ∙ ap (λ x. error_line (error_name x)) same))
+        inl (
+          refl,
+          by_test Texts within
+              (λ w. absurd (let f = ok (omega (arith, leb-true k _ w, peaks_same)) in cc))
+              (λ w. let f = err (omega (arith, leb-false k _ w, peaks_same)) in let same : e ≡ error.InvalidInactivePeaks k (length (peaks_of s.rule (length (committed_list s g)))) = (cc) in t ∙ ap (λ x. error_line (error_name x)) same),
+        )
 
 -- ---- proofs
 module _ {D : Type 0} (s : Scheme D) (size_of : ℕ) (Spells : List ℕ → Type 0) (g : Given) (node : ℕ → Option D) (here : (p : ℕ) → node p ≡ kept_node s g p) (n : ℕ) (counted : n ≡ count g) (few : n ≤ s.max_leaves) (a b k : ℕ) where
@@ -119,8 +125,10 @@ module _ {D : Type 0} (s : Scheme D) (size_of : ℕ) (Spells : List ℕ → Type
     where
       named : {f : Error F} → e ≡ f → text ≡ error_line (error_name f)
       named same = t ∙ ap (λ x. error_line (error_name x)) same
+
       missing : (p : ℕ) → IsFirstMissing (λ q r. r ≡ node q) (map position (reading_order s.bagging k s.rule n a b)) p → IsFirstMissing (λ q r. r ≡ kept_node s g q) (map position (reading_order s.bagging k s.rule (count g) a b)) p
       missing p m = subst (λ c. IsFirstMissing (λ q r. r ≡ kept_node s g q) (map position (reading_order s.bagging k s.rule c a b)) p) counted (subst (λ (f : ℕ → Option D). IsFirstMissing (λ q r. r ≡ f q) (map position (reading_order s.bagging k s.rule n a b)) p) (λ i q. here q i) m)
+
       told : IsRangeRefusal s.bagging s.rule s.max_leaves n a b k node e → IsProved s g a b k text
       told (inl (inl (empty, is))) = inl (empty, named is)
       told (inl (inr (inl (some, past, is)))) = inr (inl (some, omega (arith, past, counted), named is))
@@ -133,6 +141,14 @@ module _ {D : Type 0} (s : Scheme D) (size_of : ℕ) (Spells : List ℕ → Type
   pub prove_told : (leaves inactive : ℕ) (digests : List D) (text : List ℕ) → a < b → b ≤ count g → leaves ≡ n → inactive ≡ k → k ≤ length (peaks_of s.rule n) → digests ≡ range_digests s (committed_list s g) k a b
       → text ≡ encode_lower (parts_spelling s.hashing.bytes leaves inactive digests) → IsAnswered s size_of Spells g (Prove a b k) g text
   prove_told leaves inactive digests text some within is_n is_k enough is t =
-      inl (refl, inr (inr (inr (some, within, subst (λ c. k ≤ length (peaks_of s.rule c)) counted enough, inr (
-        t ∙ (λ i. encode_lower (parts_spelling s.hashing.bytes ((is_n ∙ counted) i) (is_k i) (is i)))
-      )))))
+      inl (
+        refl,
+        inr (inr (inr (
+          some,
+          within,
+          subst (λ c. k ≤ length (peaks_of s.rule c)) counted enough,
+          inr (
+              t ∙ (λ i. encode_lower (parts_spelling s.hashing.bytes ((is_n ∙ counted) i) (is_k i) (is i)))
+              ),
+        ))),
+      )

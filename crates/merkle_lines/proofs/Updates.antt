@@ -29,21 +29,21 @@ module _ {D : Type 0} (s : Scheme D) (size_of : ℕ) (Spells : List ℕ → Type
 
   pub update_allowed : ((fault : Fault) → update_fault s.rule b location ≡ Some fault → ⊥) → (location < length (changes g).elements) × ((changes g).boundary ≤ location)
   update_allowed none = elim (cases_lt location (leaf_total b)) [
-      | inr past ↦ absurd (none (OutOfBounds location) (out_of_bounds s.rule b location past))
-      | inl there ↦ elim (cases_lt location b.parent.boundary) [
-        | inl before ↦ absurd (none (Pruned (size s.rule location)) (pruned_fault s.rule b location there before))
-        | inr kept ↦ (omega (arith, there, total), omega (arith, kept, made_boundary))
-      ]
+    | inr past ↦ absurd (none (OutOfBounds location) (out_of_bounds s.rule b location past))
+    | inl there ↦ elim (cases_lt location b.parent.boundary) [
+      | inl before ↦ absurd (none (Pruned (size s.rule location)) (pruned_fault s.rule b location there before))
+      | inr kept ↦ (omega (arith, there, total), omega (arith, kept, made_boundary))
     ]
+  ]
 
   pub update_failed : {F : Type 0} (digits : Bor (List ℕ)) (e : Error F) (text : List ℕ) → ((fault : Fault) → update_fault s.rule b location ≡ Some fault → e ≡ fault_error fault) → (update_fault s.rule b location ≡ None → e ≡ error.OutOfMemory)
       → text ≡ error_line (error_name e) → IsAnswered s size_of Spells g (Update location digits) (without_changes g) text
   update_failed digits e text refused allowed t = elim (cases_lt location (leaf_total b)) [
-      | inr past ↦ update_out s size_of Spells g location digits e text (omega (arith, past, total)) (refused (OutOfBounds location) (out_of_bounds s.rule b location past)) t
-      | inl there ↦ elim (cases_lt location b.parent.boundary) [
-        | inl before ↦
-            update_pruned s size_of Spells g location (size s.rule location) digits e text (omega (arith, there, total)) (omega (arith, before, made_boundary))
-            (refused (Pruned (size s.rule location)) (pruned_fault s.rule b location there before)) t
-        | inr kept ↦ wanting s size_of Spells g (Update location digits) e text (allowed (no_fault there kept)) t
-      ]
+    | inr past ↦ update_out s size_of Spells g location digits e text (omega (arith, past, total)) (refused (OutOfBounds location) (out_of_bounds s.rule b location past)) t
+    | inl there ↦ elim (cases_lt location b.parent.boundary) [
+      | inl before ↦
+          update_pruned s size_of Spells g location (size s.rule location) digits e text (omega (arith, there, total)) (omega (arith, before, made_boundary))
+          (refused (Pruned (size s.rule location)) (pruned_fault s.rule b location there before)) t
+      | inr kept ↦ wanting s size_of Spells g (Update location digits) e text (allowed (no_fault there kept)) t
     ]
+  ]

@@ -93,9 +93,7 @@ fn verdict<F: Family, H: PlainHasher>(
         return Answer::Verdict(false);
     }
     let first = Location::new(start);
-    Answer::Verdict(or_fault!(
-        proof.verify_range_inclusion(hasher, &lent, first, root)
-    ))
+    Answer::Verdict(or_fault!(proof.verify_range_inclusion(hasher, &lent, first, root)))
 }
 
 // Whether the proof of a word is accepted with the elements of others against the root of one.

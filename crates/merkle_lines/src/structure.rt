@@ -82,11 +82,7 @@ impl<F: Family, H: PlainHasher> Structure<F, H> {
         let batch = or_fault!(self.take_pending());
         let element = or_fault!(read_hex(alloc, digits));
         let leaf = Location::new(location);
-        self.pending = Some(or_fault!(batch.update_leaf(
-            &self.hasher,
-            leaf,
-            element.as_slice()
-        )));
+        self.pending = Some(or_fault!(batch.update_leaf(&self.hasher, leaf, element.as_slice())));
         Answer::Done
     }
 
@@ -161,9 +157,7 @@ impl<F: Family, H: PlainHasher> Structure<F, H> {
                 root,
                 proof,
                 elements,
-            } => {
-                check::<F, H>(alloc, &self.hasher, start, inactive, root, proof, elements)
-            },
+            } => { check::<F, H>(alloc, &self.hasher, start, inactive, root, proof, elements) },
         }
     }
 }

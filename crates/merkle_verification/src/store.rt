@@ -224,7 +224,7 @@ impl<F: Family, D: Digest> ProofStore<F, D> {
             Ok(prefix) => prefix,
             Err(error) => return Err(error),
         };
-        let mut digests = Vec::new(self.pairs.allocator());
+        let mut digests = Vec::with_capacity(self.pairs.allocator(), reads.len())?;
         push_some(prefix, &mut digests)?;
         if let Err(error) = read_each(&self.pairs, parts.before, &mut digests) {
             return Err(error);

@@ -6,6 +6,7 @@ use merkle_core::hasher::Hasher;
 use merkle_core::location::Location;
 use rows_checks::pinned::pinned_ranges_proved;
 use rows_checks::ranges::{leaves_proved, proves_leaf, ranges_proved, slices};
+use rows_checks::stores::parts_proved;
 use rows_checks::subsets::subsets_proved;
 use rows_text::answer::Answer;
 use rows_text::refusal::Refusal;
@@ -49,6 +50,15 @@ impl<F: Family, H: Hasher<F> + Drop> World<F, H> {
         let all = slices(self.alloc, list.as_slice())?;
         let proved = pinned_ranges_proved(self.alloc, &self.hasher, structure, &all);
         write_proved(answer, proved);
+        Ok(())
+    }
+
+    // Proves each part of each range by the range's store for each number of inactive peaks, and counts the proofs.
+    pub fn prove_stores(&self, words: &[&str], answer: &mut Answer) -> Result<(), Refusal> {
+        let structure = named(&self.structures, word(words, 1))?;
+        let list = elements(self.alloc, word(words, 2))?;
+        let all = slices(self.alloc, list.as_slice())?;
+        write_proved(answer, parts_proved(&self.hasher, structure, &all));
         Ok(())
     }
 

@@ -1,14 +1,15 @@
-//! Words as digests, and values as text.
+//! Words as digests, locations and pairs, and values as text.
 
 use merkle_base::pins::NodesToPin;
 use merkle_core::digest::Digest;
 use merkle_core::family::Family;
+use merkle_core::location::Location;
 use merkle_core::position::Position;
 use merkle_core::proof::Proof;
 use merkle_core::read::Readable;
 use rows_text::answer::Answer;
 use rows_text::refusal::{Refusal, SYNTAX};
-use rows_text::words::{bytes, repeated};
+use rows_text::words::{bytes, located, numbers, repeated};
 use std::alloc::Global;
 
 /// The greatest number of nodes that is written.
@@ -38,6 +39,28 @@ fn push_digests<D: Digest>(alloc: Global, all: &mut Vec<D>, item: &str) -> Resul
         all.push(digest)?;
     }
     Ok(())
+}
+
+/// The locations of a list.
+pub fn locations<F: Family>(alloc: Global, word: &str) -> Result<Vec<Location<F>>, Refusal> {
+    let mut all = Vec::new(alloc);
+    for number in &numbers(alloc, word)? {
+        all.push(Location::new(*number))?;
+    }
+    Ok(all)
+}
+
+/// The positions of a list, each with its digest.
+pub fn pairs<F: Family, D: Digest>(
+    alloc: Global,
+    word: &str,
+) -> Result<Vec<(Position<F>, D)>, Refusal> {
+    let mut all = Vec::new(alloc);
+    for item in &located(alloc, word)? {
+        let digest = D::from_bytes(item.bytes.as_slice()).ok_or(SYNTAX)?;
+        all.push((Position::new(item.leaf), digest))?;
+    }
+    Ok(all)
 }
 
 /// Writes digests as one word.

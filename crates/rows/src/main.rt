@@ -11,8 +11,10 @@ mod digests;
 mod families;
 mod plans;
 mod proofs;
+mod readers;
 mod scattered;
 mod session;
+mod stores;
 mod structures;
 mod world;
 

@@ -1,6 +1,6 @@
 //! Calls of proofs of scattered leaves, and checks of given ones.
 
-use crate::digests::{digest, write_positions, write_proof};
+use crate::digests::{digest, locations, write_positions, write_proof};
 use crate::world::World;
 use merkle_core::family::Family;
 use merkle_core::hasher::Hasher;
@@ -10,8 +10,7 @@ use rows_checks::granted;
 use rows_checks::scattered::{check_scattered, scattered_proof};
 use rows_text::answer::Answer;
 use rows_text::refusal::Refusal;
-use rows_text::words::{count, located, named, number, numbers, word};
-use std::alloc::Global;
+use rows_text::words::{count, located, named, number, word};
 
 impl<F: Family, H: Hasher<F> + Drop> World<F, H> {
     // The positions that a proof of leaves anywhere reads.
@@ -42,13 +41,4 @@ impl<F: Family, H: Hasher<F> + Drop> World<F, H> {
         answer.yes_or_no(is_right);
         Ok(())
     }
-}
-
-// The locations of a list.
-fn locations<F: Family>(alloc: Global, word: &str) -> Result<Vec<Location<F>>, Refusal> {
-    let mut all = Vec::new(alloc);
-    for number in &numbers(alloc, word)? {
-        all.push(Location::new(*number))?;
-    }
-    Ok(all)
 }

@@ -4,8 +4,11 @@ use merkle_core::batch::{MerkleizedBatch, UnmerkleizedBatch};
 use merkle_core::family::Family;
 use merkle_core::hasher::Hasher;
 use merkle_core::mem::Mem;
+use merkle_core::verification::ProofStore;
 use rows_text::answer::Answer;
-use rows_text::calls::{BatchCall, Call, FamilyCall, LeafCall, ProofCall, StructureCall};
+use rows_text::calls::{
+    BatchCall, Call, FamilyCall, LeafCall, ProofCall, StoreCall, StructureCall,
+};
 use rows_text::refusal::Refusal;
 use std::alloc::Global;
 use std::collections::HashMap;
@@ -13,7 +16,7 @@ use std::rc::Rc;
 
 /// What the lines so far have made.
 ///
-/// A structure, a batch that takes leaves and one with its nodes may have the same name.
+/// A structure, a batch that takes leaves, one with its nodes and a store of a proof may have the same name.
 #[derive(Drop)]
 pub struct World<F: Family, H: Hasher<F> + Drop> {
     pub alloc: Global,
@@ -21,6 +24,7 @@ pub struct World<F: Family, H: Hasher<F> + Drop> {
     pub structures: HashMap<String, Mem<F, H::Digest>>,
     pub drafts: HashMap<String, UnmerkleizedBatch<F, H::Digest>>,
     pub batches: HashMap<String, Rc<MerkleizedBatch<F, H::Digest>>>,
+    pub stores: HashMap<String, ProofStore<F, H::Digest>>,
 }
 
 impl<F: Family, H: Hasher<F> + Drop> World<F, H> {
@@ -32,6 +36,7 @@ impl<F: Family, H: Hasher<F> + Drop> World<F, H> {
             structures: HashMap::new(alloc),
             drafts: HashMap::new(alloc),
             batches: HashMap::new(alloc),
+            stores: HashMap::new(alloc),
         }
     }
 
@@ -48,6 +53,7 @@ impl<F: Family, H: Hasher<F> + Drop> World<F, H> {
             Call::Batch(call) => self.answer_batch(call, words, answer)?,
             Call::Leaf(call) => self.answer_leaf(call, words)?,
             Call::Proof(call) => self.answer_proof(call, words, answer)?,
+            Call::Store(call) => self.answer_store(call, words, answer)?,
         }
         answer.end()
     }
@@ -157,6 +163,27 @@ impl<F: Family, H: Hasher<F> + Drop> World<F, H> {
             ProofCall::Range => self.range(words, answer),
             ProofCall::RangeOver => self.range_over(words, answer),
             ProofCall::Reconstruct => self.reconstruct(words, answer),
+        }
+    }
+
+    fn answer_store(
+        &mut self,
+        call: StoreCall,
+        words: &[&str],
+        answer: &mut Answer,
+    ) -> Result<(), Refusal> {
+        match call {
+            StoreCall::ProveStores => self.prove_stores(words, answer),
+            StoreCall::ReadHistory => self.read_history(words, answer),
+            StoreCall::ReadMulti => self.read_multi(words, answer),
+            StoreCall::ReadRange => self.read_range(words, answer),
+            StoreCall::SliceHistory => self.slice_history(words, answer),
+            StoreCall::SliceMulti => self.slice_multi(words, answer),
+            StoreCall::SliceRange => self.slice_range(words, answer),
+            StoreCall::Store => self.store(words),
+            StoreCall::StoreMulti => self.store_multi(words, answer),
+            StoreCall::StoreRange => self.store_range(words, answer),
+            StoreCall::SuffixPeaks => self.suffix_peaks(words, answer),
         }
     }
 }

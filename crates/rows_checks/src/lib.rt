@@ -4,8 +4,10 @@
 pub mod changes;
 pub mod pinned;
 pub mod ranges;
+pub mod readers;
 pub mod refusal;
 pub mod scattered;
+pub mod stores;
 pub mod subsets;
 
 /// No structure has more peaks.

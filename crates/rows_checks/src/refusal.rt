@@ -19,6 +19,7 @@ pub fn refused<F: Family>(error: &Error<F>) -> Refusal {
         Error::InvalidSize(size) => Refusal::Of("InvalidSize", *size),
         Error::LeafOutOfBounds(location) => Refusal::Of("LeafOutOfBounds", location.as_u64()),
         Error::ElementPruned(position) => Refusal::Of("ElementPruned", position.as_u64()),
+        Error::CompressedDigest(position) => Refusal::Of("CompressedDigest", position.as_u64()),
         Error::InvalidPinnedNodes => Refusal::Plain("InvalidPinnedNodes"),
         Error::StaleBatch { expected, actual } => Refusal::Sizes {
             name: "StaleBatch",

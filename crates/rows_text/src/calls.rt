@@ -8,6 +8,7 @@ pub enum Call {
     Batch(BatchCall),
     Leaf(LeafCall),
     Proof(ProofCall),
+    Store(StoreCall),
 }
 
 /// The calls of the family alone.
@@ -98,6 +99,22 @@ pub enum ProofCall {
     Reconstruct,
 }
 
+/// The calls of proofs over what holds nodes, and of stores of proofs.
+#[derive(Clone, Copy)]
+pub enum StoreCall {
+    ProveStores,
+    ReadHistory,
+    ReadMulti,
+    ReadRange,
+    SliceHistory,
+    SliceMulti,
+    SliceRange,
+    Store,
+    StoreMulti,
+    StoreRange,
+    SuffixPeaks,
+}
+
 // Below, each call with its first word and the number of its words.
 
 const FAMILY_CALLS: [(&str, usize, FamilyCall); 8] = [
@@ -178,6 +195,20 @@ const PROOF_CALLS: [(&str, usize, ProofCall); 23] = [
     ("reconstruct", 6, ProofCall::Reconstruct),
 ];
 
+const STORE_CALLS: [(&str, usize, StoreCall); 11] = [
+    ("prove_stores", 3, StoreCall::ProveStores),
+    ("read_history", 6, StoreCall::ReadHistory),
+    ("read_multi", 4, StoreCall::ReadMulti),
+    ("read_range", 5, StoreCall::ReadRange),
+    ("slice_history", 7, StoreCall::SliceHistory),
+    ("slice_multi", 5, StoreCall::SliceMulti),
+    ("slice_range", 6, StoreCall::SliceRange),
+    ("store", 8, StoreCall::Store),
+    ("store_multi", 4, StoreCall::StoreMulti),
+    ("store_range", 4, StoreCall::StoreRange),
+    ("suffix_peaks", 2, StoreCall::SuffixPeaks),
+];
+
 /// The call with this first word and so many words.
 pub fn find_call(name: &str, count: usize) -> Option<Call> {
     family_call(name, count)
@@ -185,6 +216,7 @@ pub fn find_call(name: &str, count: usize) -> Option<Call> {
         .or_else(|| batch_call(name, count))
         .or_else(|| leaf_call(name, count))
         .or_else(|| proof_call(name, count))
+        .or_else(|| store_call(name, count))
 }
 
 fn family_call(name: &str, count: usize) -> Option<Call> {
@@ -205,6 +237,10 @@ fn leaf_call(name: &str, count: usize) -> Option<Call> {
 
 fn proof_call(name: &str, count: usize) -> Option<Call> {
     Some(Call::Proof(find(&PROOF_CALLS, name, count)?))
+}
+
+fn store_call(name: &str, count: usize) -> Option<Call> {
+    Some(Call::Store(find(&STORE_CALLS, name, count)?))
 }
 
 fn find<C: Copy>(calls: &[(&str, usize, C)], name: &str, count: usize) -> Option<C> {

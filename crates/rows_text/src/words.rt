@@ -12,6 +12,11 @@ pub fn word<'a>(words: &[&'a str], index: usize) -> &'a str {
     }
 }
 
+/// The words from an index on.
+pub fn words_from<'a, 'b>(words: &'b [&'a str], index: usize) -> &'b [&'a str] {
+    &words[index.min(words.len())..]
+}
+
 /// The number that the word at an index is in decimal digits.
 pub fn number(words: &[&str], index: usize) -> Result<u64, Refusal> {
     read_number(word(words, index))

@@ -59,6 +59,6 @@ returns-clause-answered g c = λ given word held.
     subst (λ x. c.in-Ok-add.value ≡ with_leaf c.in-Ok.value (h.leaf (size rule (leaf_total c.in-Ok.value)) x)) c.as_slice.ensures.value c.in-Ok-add.ensures.added in (
       with_changes given (with_element (changes given) element),
       held_with h rule most old.committed old.pending given held _ c.in-Ok-add.value (with_element (changes given) element) c.take_pending.ensures.kept
-        (subst (λ b. Makes h rule (leaf_digests h rule 0 given.committed) b (with_element (changes given) element)) (sym more) (makes_more h rule _ c.in-Ok.value (changes given) makes element)),
+          (subst (λ b. Makes h rule (leaf_digests h rule 0 given.committed) b (with_element (changes given) element)) (sym more) (makes_more h rule _ c.in-Ok.value (changes given) makes element)),
       add_done (scheme_of h c.args.self.now.hasher g.F.Family.rule g.F.Family.MAX_LEAVES g.F.Family.DOMAIN) g.H.Digest.Digest.SIZE g.H.Digest.Digest.Spells given c.args.digits element c.as_u64.result _ c.in-Ok-read_hex.ensures.value (c.as_u64.ensures ∙ c.leaves-location.ensures.count ∙ total) (omega (arith, c.in-Ok-add.ensures.room, c.as_u64.ensures, c.leaves-location.ensures.count)) refl,
     )

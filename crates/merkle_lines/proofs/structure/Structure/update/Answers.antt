@@ -43,8 +43,8 @@ returns-in-Err-update_leaf-clause-answered g c = λ given word held.
       without_changes given,
       held_without h rule most old.committed old.pending given held _ _ c.take_pending.ensures.kept c.take_pending.ensures.gone,
       update_failed (scheme_of h c.args.self.now.hasher g.F.Family.rule g.F.Family.MAX_LEAVES g.F.Family.DOMAIN) g.H.Digest.Digest.SIZE g.H.Digest.Digest.Spells given c.in-Ok.value makes c.args.location c.args.digits c.in-Err-update_leaf.error _
-        (λ fault is. let e = c.in-Err-update_leaf.ensures.refused fault (ap (λ k. pending.update_fault rule c.in-Ok.value k) there ∙ is) in (cc))
-        (λ none. c.in-Err-update_leaf.ensures.allowed (ap (λ k. pending.update_fault rule c.in-Ok.value k) there ∙ none)) (ap error_line c.name-in-Err-update_leaf.ensures),
+          (λ fault is. let e = c.in-Err-update_leaf.ensures.refused fault (ap (λ k. pending.update_fault rule c.in-Ok.value k) there ∙ is) in (cc))
+          (λ none. c.in-Err-update_leaf.ensures.allowed (ap (λ k. pending.update_fault rule c.in-Ok.value k) there ∙ none)) (ap error_line c.name-in-Err-update_leaf.ensures),
     )
 
 pub returns-clause-answered : goal.returns-clause-answered
@@ -64,8 +64,8 @@ returns-clause-answered g c = λ given word held.
     let next = with_update (count given) (changes given) c.args.location element in (
       with_changes given next,
       held_with h rule most old.committed old.pending given held _ c.in-Ok-update_leaf.value next c.take_pending.ensures.kept
-        (subst (λ b. Makes h rule (leaf_digests h rule 0 given.committed) b next) (sym changed)
-        (subst (λ n. Makes h rule (leaf_digests h rule 0 given.committed) (pending.with_update rule c.in-Ok.value c.args.location (h.leaf (size rule c.args.location) element)) (with_update n (changes given) c.args.location element)) counted
-        (makes_update h rule _ c.in-Ok.value (changes given) makes c.args.location element))),
+          (subst (λ b. Makes h rule (leaf_digests h rule 0 given.committed) b next) (sym changed)
+          (subst (λ n. Makes h rule (leaf_digests h rule 0 given.committed) (pending.with_update rule c.in-Ok.value c.args.location (h.leaf (size rule c.args.location) element)) (with_update n (changes given) c.args.location element)) counted
+          (makes_update h rule _ c.in-Ok.value (changes given) makes c.args.location element))),
       update_done (scheme_of h c.args.self.now.hasher g.F.Family.rule g.F.Family.MAX_LEAVES g.F.Family.DOMAIN) g.H.Digest.Digest.SIZE g.H.Digest.Digest.Spells given c.args.location c.args.digits element _ c.in-Ok-read_hex.ensures.value allowed.0 allowed.1 refl,
     )

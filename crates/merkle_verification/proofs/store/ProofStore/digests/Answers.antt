@@ -71,11 +71,11 @@ returns-clause-read g c =
     let h = g.H.Hasher.hashing c.args.hasher.now in
     let v = c.args.self.now in let e = c.new-parts.ensures in let p = c.new-parts.result in
     let same = ap (λ (w : StoreValue g.row.D.Denot). w.pairs) c.self.view_is in
-    let one = c.new-digests.result.items in let two = c.push_some.new.out.items in let three = c.read_each.new.out.items in
+    let one = c.in_ok-digests.digests.items in let two = c.push_some.new.out.items in let three = c.read_each.new.out.items in
     let four = c.read_each-2.new.out.items in let five = c.push_some-2.new.out.items in
     parts_read v h c.args.counts c.args.held c.args.reads.now p.prefix.now p.before.now p.after.now p.suffix.now p.siblings.now one two three four five c.read_each-3.new.out.items
     (option_to_list c.in-Ok.prefix) (option_to_list c.in-Ok-suffix_digest.suffix) e.prefix e.before e.after e.suffix e.siblings c.in-Ok.ensures.read c.in-Ok-suffix_digest.ensures.read
-    c.new-digests.ensures.items c.in_ok-push_some.ensures
+    c.in_ok-digests.ensures.items c.in_ok-push_some.ensures
     (c.in_default.ensures.read h ∙ ap (λ z. two ++ read_all h z p.before.now) same)
     (c.in_default-read_each.ensures.read h ∙ ap (λ z. three ++ read_all h z p.after.now) same)
     c.in_ok-push_some-2.ensures

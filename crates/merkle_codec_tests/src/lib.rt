@@ -1,0 +1,5 @@
+//! Tests of positions, locations and proofs as bytes.
+#![tactic(auto)]
+
+#[cfg(test)]
+mod tests;
