@@ -1,5 +1,5 @@
 -- Which nodes are lost to a commit.
-use Rattle.std.proofs.Common.{◌≡◌, ℕ, List, length, Option, false, ap, sym, subst, ◌∙◌}
+use Rattle.std.proofs.Common.{ℕ, List, length, Option, ap, sym, subst, ◌∙◌}
 use Rattle.merkle_base.specs.Hashing.{Hashing}
 use Rattle.merkle_base.specs.Tree.{Tree, position}
 use Rattle.merkle_batch_theory.specs.Contents.{is_kept}

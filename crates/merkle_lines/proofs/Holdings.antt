@@ -1,15 +1,14 @@
 -- What a structure holds before and after a request.
-use Rattle.std.proofs.Common.{◌≡◌, ℕ, ◌<◌, ◌≤◌, List, [], ◌∷◌, ◌++◌, length, suc, Option, None, Some, Bool, true, false, cond, arith, refl, sym, ap, ◌∙◌, subst, inl, inr, append-nil}
-use Rattle.std.specs.Prelude.{is_some, max, nat_lt, ◌==◌}
-use Rattle.std.specs.List.{list_any}
+use Rattle.std.proofs.Common.{◌≡◌, ℕ, ◌≤◌, List, [], ◌∷◌, length, suc, Option, None, Some, Bool, true, false, cond, arith, refl, sym, ap, ◌∙◌, subst, inl, inr, append-nil}
+use Rattle.std.specs.Prelude.{is_some, max, nat_lt}
 use Rattle.std.specs.Option.{unwrap_or}
 use Rattle.std.specs.Ordering.{nat_cmp}
 use Rattle.std.specs.FinMap.{get, empty, get-empty}
 use Rattle.std.proofs.lemmas.Bool.{cases_lt, lt-ltb, le-ltb}
 use Rattle.merkle_base.specs.Forest.{size}
 use Rattle.merkle_base.specs.Hashing.{Hashing}
-use Rattle.merkle_batch_theory.specs.Contents.{Agrees, Contents, is_kept, pruned}
-use Rattle.merkle_batch_theory.specs.Pending.{Pending, forked, pending_list}
+use Rattle.merkle_batch_theory.specs.Contents.{Agrees, is_kept, pruned}
+use Rattle.merkle_batch_theory.specs.Pending.{Pending, forked}
 use Rattle.merkle_batch_theory.specs.Roots.{root_batch}
 use Rattle.merkle_batch_theory.specs.Stands.{replaced}
 use Rattle.merkle_batch_theory.specs.Store.{Store, contents}

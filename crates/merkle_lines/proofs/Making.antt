@@ -1,18 +1,18 @@
 -- A pending batch makes changes, and what it is merkleized to is accepted.
-use Rattle.std.proofs.Common.{◌≡◌, ℕ, zero, suc, ◌+◌, ◌-◌, ◌<◌, ◌≤◌, List, [], ◌∷◌, ◌++◌, length, drop, set, slice_get, Option, None, Some, Bool, true, false, Ok, Err, Result, cond, arith, refl, sym, ap, inl, inr, ◌∙◌, subst, length-append, leb}
-use Rattle.std.specs.Prelude.{◌==◌, ◌||◌, not, is_some, nat_lt, nat_le, ⊤}
+use Rattle.std.proofs.Common.{◌≡◌, ℕ, zero, suc, ◌+◌, ◌<◌, List, [], ◌∷◌, ◌++◌, length, drop, set, slice_get, Option, None, Some, Bool, true, false, Ok, Err, Result, cond, arith, refl, sym, ap, inl, inr, ◌∙◌, subst, length-append}
+use Rattle.std.specs.Prelude.{◌==◌, ◌||◌, not, is_some, nat_le, ⊤}
 use Rattle.std.specs.List.{list_any}
 use Rattle.std.specs.Ordering.{nat_cmp}
-use Rattle.std.specs.FinMap.{get, empty, insert, len-empty}
+use Rattle.std.specs.FinMap.{get, len-empty}
 use Rattle.std.proofs.lemmas.Bool.{cases_lt, lt-ltb, le-ltb}
-use Rattle.merkle_base.specs.Forest.{forest, size}
+use Rattle.merkle_base.specs.Forest.{size}
 use Rattle.merkle_base.specs.Hashing.{Hashing, TellsApart}
 use Rattle.merkle_base.specs.Digests.{node_digests}
 use Rattle.merkle_base.specs.Tree.{Tree, leaf, join, position}
 use Rattle.merkle_batch_theory.specs.Contents.{Contents, Agrees, AgreesWithOne, held_peaks, is_kept}
 use Rattle.merkle_batch_theory.specs.Missing.{IsMissing}
 use Rattle.merkle_batch_theory.specs.Needed.{is_computed, IsChanged, IsNeeded, IsUsed}
-use Rattle.merkle_batch_theory.specs.Pending.{Pending, forked, is_changed, kept, kept_lists, leaf_total, pending_list, with_leaf, with_update, without_last}
+use Rattle.merkle_batch_theory.specs.Pending.{Pending, is_changed, kept, kept_lists, leaf_total, pending_list, with_leaf, with_update, without_last}
 use Rattle.merkle_batch_theory.specs.Read.{read_over}
 use Rattle.merkle_batch_theory.specs.Recorded.{Chain, Recorded, records}
 use Rattle.merkle_batch_theory.specs.Replay.{Refusal, applied, begins_at, ends_at, all_laid, laid, last_match, matched, oldest, refusal}
@@ -22,7 +22,7 @@ use Rattle.merkle_batch_theory.specs.Store.{Store, contents}
 use Rattle.merkle_batch_theory.proofs.Agreed.{agree_all}
 use Rattle.merkle_batch_theory.proofs.MapFacts.{inserted_at}
 use Rattle.merkle_batch_theory.proofs.Matching.{accepts}
-use Rattle.merkle_batch_theory.proofs.PendingUpdates.{leaves_list, parent_kept, update_list, updated_new, updated_old}
+use Rattle.merkle_batch_theory.proofs.PendingUpdates.{leaves_list, update_list, updated_new, updated_old}
 use Rattle.merkle_batch_theory.proofs.RootBatch.{root_stands}
 use Rattle.merkle_batch_theory.proofs.Steps.{digests_length, replaced_length}
 use Rattle.merkle_range.specs.Input.{leaf_digests}

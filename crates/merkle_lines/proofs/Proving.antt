@@ -1,8 +1,8 @@
 -- The honest proof of a range, by its parts.
-use Rattle.std.proofs.Common.{◌≡◌, ℕ, ◌+◌, ◌-◌, ◌<◌, ◌≤◌, List, [], length, take, drop, arith, refl, sym, ap, ◌∙◌, inl, inr}
+use Rattle.std.proofs.Common.{◌≡◌, ℕ, ◌+◌, ◌-◌, ◌<◌, ◌≤◌, List, length, take, drop, arith, ap, ◌∙◌, inl, inr}
 use Rattle.std.proofs.lemmas.List.{length-take, length-drop}
 use Rattle.merkle_base.specs.Scheme.{Scheme}
-use Rattle.merkle_root_theory.specs.Range.{IsHonestRange, end_of, range_digests}
+use Rattle.merkle_root_theory.specs.Range.{IsHonestRange, range_digests}
 
 module _ {D : Type 0} (s : Scheme D) (X : List D) (k a b leaves inactive : ℕ) (digests : List D) (some : a < b) (within : b ≤ length X) where
   ends : a + length (take (b - a) (drop a X)) ≡ b

@@ -1,12 +1,11 @@
 -- Answers are those of the definitions.
-use Rattle.std.proofs.Common.{◌≡◌, ◌≢◌, ℕ, ◌+◌, ◌<◌, ◌≤◌, List, [], ◌∷◌, ◌++◌, length, map, drop, take, Option, None, Some, Bool, true, false, Ok, Err, Result, cond, slice_get, arith, refl, sym, ap, ◌∙◌, subst, inl, inr}
-use Rattle.std.specs.Prelude.{codes, nat_le, nat_lt}
+use Rattle.std.proofs.Common.{◌≡◌, ℕ, ◌<◌, ◌≤◌, List, [], ◌++◌, length, map, Option, Bool, Ok, Err, Result, cond, arith, refl, sym, ap, ◌∙◌, subst, inl, inr}
+use Rattle.std.specs.Prelude.{codes, nat_le}
 use Rattle.std.specs.Borrow.{Bor}
 use Rattle.std.specs.Fmt.{decimal}
-use Rattle.std.proofs.lemmas.Bool.{cases_lt, leb-true, leb-false, le-leb, lt-leb, lt-ltb, le-ltb}
+use Rattle.std.proofs.lemmas.Bool.{leb-true, leb-false, le-leb, lt-leb, lt-ltb, le-ltb}
 use Rattle.hex.specs.Hex.{decode_of, encode_lower}
 use Rattle.merkle_base.proofs.Cases.{by_test}
-use Rattle.merkle_base.specs.Digests.{node_digests}
 use Rattle.merkle_base.specs.Forest.{size}
 use Rattle.merkle_base.specs.Places.{peaks_of}
 use Rattle.merkle_base.specs.Root.{list_root}
@@ -14,10 +13,8 @@ use Rattle.merkle_base.specs.Scheme.{Scheme}
 use Rattle.merkle_base.specs.Tree.{Tree, position}
 use Rattle.merkle_base.specs.declared.error.Error.{Error}
 use Rattle.merkle_base.specs.declared.error.Error.TheVariants as error
-use Rattle.merkle_batch_theory.specs.Pending.{Fault, OutOfBounds, Pruned, Pending, leaf_total, update_fault}
-use Rattle.merkle_batch_theory.proofs.PendingUpdates.{out_of_bounds, pruned_fault}
 use Rattle.merkle_commands.specs.declared.command.Request.{Request}
-use Rattle.merkle_commands.specs.declared.command.Request.TheVariants.{Add, Update, Commit, Prune, Root, Prove, Check}
+use Rattle.merkle_commands.specs.declared.command.Request.TheVariants.{Add, Update, Commit, Prune, Root, Prove}
 use Rattle.merkle_commands.specs.declared.hex_words.HexError.{HexError}
 use Rattle.merkle_commands.specs.declared.hex_words.HexError.TheVariants as hex
 use Rattle.merkle_range.proofs.GivenLeaves.{length-leaf_digests}
@@ -26,7 +23,7 @@ use Rattle.merkle_proof.specs.ProofRefusals.{IsRangeRefusal}
 use Rattle.merkle_proof.specs.RangePlans.{IsFirstMissing}
 use Rattle.merkle_root_theory.specs.Range.{range_digests}
 use Rattle.merkle_root_theory.specs.Reads.{reading_order}
-use Rattle.merkle_lines.specs.Answers.{added, committed_list, error_line, kept_node, left, pruned, root_line, updated, word_bytes, IsAnswered, IsCommitted, IsLost, IsProved}
+use Rattle.merkle_lines.specs.Answers.{added, committed_list, error_line, kept_node, left, updated, word_bytes, IsAnswered, IsLost, IsProved}
 use Rattle.merkle_lines.specs.ErrorNames.{error_name, hex_error_name}
 use Rattle.merkle_lines.specs.Given.{Given, all_committed, changes, count, pruned_to, with_changes, with_element, with_update, without_changes}
 

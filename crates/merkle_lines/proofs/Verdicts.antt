@@ -1,5 +1,5 @@
 -- What is said of a proof that comes in words.
-use Rattle.std.proofs.Common.{◌≡◌, ◌≢◌, ℕ, ◌≤◌, ◌⊎◌, List, [], ◌∷◌, ◌++◌, length, Bool, true, false, Ok, cond, rules, refl, sym, ap, inl, inr, ◌∙◌}
+use Rattle.std.proofs.Common.{◌≡◌, ◌≢◌, ℕ, ◌≤◌, ◌⊎◌, List, [], ◌∷◌, ◌++◌, length, Bool, true, false, Ok, cond, rules, refl, inl, inr}
 use Rattle.std.specs.Prelude.{◌↔◌, ◌==◌, IsTrue, codes}
 use Rattle.merkle_base.specs.Scheme.{Scheme}
 use Rattle.merkle_base.specs.declared.error.DecodeError.{DecodeError}

@@ -1,5 +1,5 @@
 -- What is answered to the requests of a structure, in terms of the elements that it was given.
-use Rattle.std.specs.Prelude.{◌≡◌, ◌≢◌, ◌⊎◌, ℕ, ◌+◌, ◌-◌, ◌*◌, ◌^◌, ◌<◌, ◌≤◌, List, [], ◌∷◌, ◌++◌, length, map, Option, Some, None, Ok, Err, cond, min, nat_le, nat_lt, slice_get, codes, false}
+use Rattle.std.specs.Prelude.{◌≡◌, ◌≢◌, ◌⊎◌, ℕ, ◌-◌, ◌*◌, ◌^◌, ◌<◌, ◌≤◌, List, [], ◌++◌, length, map, Option, None, Ok, Err, cond, min, nat_le, nat_lt, slice_get, codes, false}
 use Rattle.std.specs.Fmt.{decimal}
 use Rattle.hex.specs.Hex.{decode_of, encode_lower}
 use Rattle.merkle_base.specs.Digests.{node_digests}
@@ -119,13 +119,16 @@ IsVerdict {D} s a inactive root proof elements text =
     ⊎ ((rest ≡ []) × Says ((peaks ≡ inactive) × (reconstructed s (range_input s leaves peaks digests a elements) ≡ Ok root)) text))
 
 -- the line on the bytes of a proof: they begin with no proof, or else the verdict
-abbrev pub IsRead : {D : Type 0} → Scheme D → (size : ℕ) → (Spells : List ℕ → Type 0) → (a inactive : ℕ) → (root : D) → (proof : List ℕ) → List (List ℕ) → List ℕ → Type 0
+abbrev pub IsRead : {D : Type 0} → Scheme D → (size : ℕ) → (Spells : List ℕ → Type 0) → (a inactive : ℕ) → (root : D) → (proof : List ℕ)
+    → List (List ℕ) → List ℕ → Type 0
 IsRead s size Spells a inactive root proof elements text =
-    ((e : DecodeError) × (e ≢ OutOfMemory) × IsProofRefusal size Spells s.max_leaves (most_digests (length elements)) proof e × (text ≡ error_line (decode_error_name e)))
+    ((e : DecodeError) × (e ≢ OutOfMemory) × IsProofRefusal size Spells s.max_leaves (most_digests (length elements)) proof e
+    × (text ≡ error_line (decode_error_name e)))
     ⊎ IsVerdict s a inactive root proof elements text
 
 -- the line that answers a check: the bytes of the root are no digest's, or else what the proof is against it
-abbrev pub IsChecked : {D : Type 0} → Scheme D → (size : ℕ) → (Spells : List ℕ → Type 0) → (a inactive : ℕ) → (root proof : List ℕ) → List (List ℕ) → List ℕ → Type 0
+abbrev pub IsChecked : {D : Type 0} → Scheme D → (size : ℕ) → (Spells : List ℕ → Type 0) → (a inactive : ℕ) → (root proof : List ℕ)
+    → List (List ℕ) → List ℕ → Type 0
 IsChecked {D} s size Spells a inactive root proof elements text =
     ((¬ (Spells root)) × (text ≡ error_line (codes "Syntax")))
     ⊎ ((d : D) × (s.hashing.bytes d ≡ root) × IsRead s size Spells a inactive d proof elements text)

@@ -30,7 +30,8 @@ MakesPending h rule X (Some batch) None = ⊥
 MakesPending h rule X (Some batch) (Some c) = Makes h rule X batch c
 
 -- the structure agrees with the committed elements, and its pending batch makes the changes
-pub record IsHeld {D : Type 0} (h : Hashing D) (rule : List ℕ → List ℕ) (max_leaves : ℕ) (store : Store D) (pending : Option (Pending D)) (g : Given) : Type 0 where
+pub record IsHeld {D : Type 0} (h : Hashing D) (rule : List ℕ → List ℕ) (max_leaves : ℕ)
+    (store : Store D) (pending : Option (Pending D)) (g : Given) : Type 0 where
   pub agrees : Agrees h rule (contents store) (leaf_digests h rule 0 g.committed)
   pub counted : store.leaves ≡ length g.committed
   pub bounded : length g.committed ≤ max_leaves

@@ -14,7 +14,15 @@ use Rattle.merkle_lines.specs.Transcript.{Told}
 -- the structure of the session holds what was told
 abbrev pub Tells : Session → Option Told → Type 0
 Tells Absent told = told ≡ None
-Tells (MmrSha256 s) told = (g : Given) × (told ≡ Some (record { family = Mmr; bagging = s.hasher; hash = Sha256; given = g })) × IsHeld sha256_hashing carries (2 ^ 62) s.committed s.pending g
-Tells (MmrXor8 s) told = (g : Given) × (told ≡ Some (record { family = Mmr; bagging = s.hasher; hash = Xor8; given = g })) × IsHeld xor8_hashing carries (2 ^ 62) s.committed s.pending g
-Tells (MmbSha256 s) told = (g : Given) × (told ≡ Some (record { family = Mmb; bagging = s.hasher; hash = Sha256; given = g })) × IsHeld sha256_hashing newest_pair (2 ^ 62 + 30) s.committed s.pending g
-Tells (MmbXor8 s) told = (g : Given) × (told ≡ Some (record { family = Mmb; bagging = s.hasher; hash = Xor8; given = g })) × IsHeld xor8_hashing newest_pair (2 ^ 62 + 30) s.committed s.pending g
+Tells (MmrSha256 s) told =
+    (g : Given) × (told ≡ Some (record { family = Mmr; bagging = s.hasher; hash = Sha256; given = g }))
+    × IsHeld sha256_hashing carries (2 ^ 62) s.committed s.pending g
+Tells (MmrXor8 s) told =
+    (g : Given) × (told ≡ Some (record { family = Mmr; bagging = s.hasher; hash = Xor8; given = g }))
+    × IsHeld xor8_hashing carries (2 ^ 62) s.committed s.pending g
+Tells (MmbSha256 s) told =
+    (g : Given) × (told ≡ Some (record { family = Mmb; bagging = s.hasher; hash = Sha256; given = g }))
+    × IsHeld sha256_hashing newest_pair (2 ^ 62 + 30) s.committed s.pending g
+Tells (MmbXor8 s) told =
+    (g : Given) × (told ≡ Some (record { family = Mmb; bagging = s.hasher; hash = Xor8; given = g }))
+    × IsHeld xor8_hashing newest_pair (2 ^ 62 + 30) s.committed s.pending g

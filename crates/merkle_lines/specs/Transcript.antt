@@ -33,10 +33,12 @@ IsNamedAnswered Mmb bagging Xor8 = IsAnswered (scheme_of xor8_hashing bagging ne
 
 -- a command leaves u, and the text answers it; before the first `new` nothing was told
 abbrev pub IsCommandAnswered : Option Told → Command → Option Told → List ℕ → Type 0
-IsCommandAnswered told (New family bagging hash) u text = (u ≡ Some (record { family = family; bagging = bagging; hash = hash; given = nothing })) × (text ≡ codes "ok")
+IsCommandAnswered told (New family bagging hash) u text =
+    (u ≡ Some (record { family = family; bagging = bagging; hash = hash; given = nothing })) × (text ≡ codes "ok")
 IsCommandAnswered None (Ask request) u text = (u ≡ None) × (text ≡ error_line (codes "NoStructure"))
 IsCommandAnswered (Some t) (Ask request) u text =
-    (g : Given) × (u ≡ Some (record { family = t.family; bagging = t.bagging; hash = t.hash; given = g })) × IsNamedAnswered t.family t.bagging t.hash t.given request g text
+    (g : Given) × (u ≡ Some (record { family = t.family; bagging = t.bagging; hash = t.hash; given = g }))
+    × IsNamedAnswered t.family t.bagging t.hash t.given request g text
 
 -- a line leaves u, and the text answers it
 abbrev pub IsLineAnswered : Option Told → List ℕ → Option Told → List ℕ → Type 0
@@ -47,7 +49,8 @@ IsLineAnswered told line u text =
 -- the output has an answer for each of the lines, in their order, each ended by the byte 10
 abbrev pub IsTranscript : Option Told → List (List ℕ) → List ℕ → Type 0
 IsTranscript told [] output = output ≡ []
-IsTranscript told (line ∷ lines) output = (u : Option Told) × (text rest : List ℕ) × IsLineAnswered told line u text × (output ≡ text ++ 10 ∷ rest) × IsTranscript u lines rest
+IsTranscript told (line ∷ lines) output =
+    (u : Option Told) × (text rest : List ℕ) × IsLineAnswered told line u text × (output ≡ text ++ 10 ∷ rest) × IsTranscript u lines rest
 
 -- the lines of bytes, where `begun` stands before them on the first line; each byte 10 ends one, and the last may lack it
 abbrev pub lines_after : (bytes begun : List ℕ) → List (List ℕ)
@@ -59,4 +62,5 @@ lines_of bytes = lines_after bytes []
 
 -- bytes are answered by the output, which leaves v and what is begun of the next line, whatever comes after them
 abbrev pub Leads : (told : Option Told) → (begun bytes output : List ℕ) → (v : Option Told) → (next : List ℕ) → Type 0
-Leads told begun bytes output v next = (more rest : List ℕ) → IsTranscript v (lines_after more next) rest → IsTranscript told (lines_after (bytes ++ more) begun) (output ++ rest)
+Leads told begun bytes output v next =
+    (more rest : List ℕ) → IsTranscript v (lines_after more next) rest → IsTranscript told (lines_after (bytes ++ more) begun) (output ++ rest)

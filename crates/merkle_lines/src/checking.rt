@@ -108,7 +108,8 @@ pub(crate) fn check<F: Family, H: PlainHasher>(
 ) -> Answer
     ensures { let h = standard H.digest_of H.Digest.bytes H.Digest.eq H.Digest.EMPTY in let s = scheme_of h hasher.now F.rule F.MAX_LEAVES F.DOMAIN in
         IsHexWord root.now → IsHexWord proof.now → AllByRecursion IsElementWord (optional_words elements.entry)
-        → IsChecked s H.Digest.SIZE H.Digest.Spells start inactive (word_bytes root.now) (word_bytes proof.now) (map word_bytes (optional_words elements.entry)) (answer_text result)
+        → IsChecked s H.Digest.SIZE H.Digest.Spells start inactive (word_bytes root.now) (word_bytes proof.now)
+        (map word_bytes (optional_words elements.entry)) (answer_text result)
         ⊎ (answer_text result ≡ error_line (codes "OutOfMemory")) }
 {
     let root = or_fault!(read_hex(alloc, root));

@@ -25,7 +25,11 @@ pub fn worked_rows()
     // An element that was committed is noted as updated; one that was added since isn't, and none is there past it.
     ensures updates { let g : Given = record { committed = (1 ∷ []) ∷ []; boundary = 0; pending = None } in
         updated g 0 (9 ∷ []) ≡ (with_changes g (record { elements = (9 ∷ []) ∷ []; updated = 0 ∷ []; boundary = 0 }), codes "ok") }
-    ensures updates_added { let g : Given = record { committed = (1 ∷ []) ∷ []; boundary = 1; pending = Some (record { elements = (1 ∷ []) ∷ (2 ∷ []) ∷ []; updated = []; boundary = 1 }) } in
+    ensures updates_added { let g : Given = record {
+      committed = (1 ∷ []) ∷ [];
+      boundary = 1;
+      pending = Some (record { elements = (1 ∷ []) ∷ (2 ∷ []) ∷ []; updated = []; boundary = 1 });
+    } in
         updated g 1 (9 ∷ []) ≡ (with_changes g (record { elements = (1 ∷ []) ∷ (9 ∷ []) ∷ []; updated = []; boundary = 1 }), codes "ok") }
     ensures updates_past { let g : Given = record { committed = (1 ∷ []) ∷ []; boundary = 0; pending = None } in
         updated g 1 (9 ∷ []) ≡ (g, error_line (codes "LeafOutOfBounds")) }
@@ -33,7 +37,11 @@ pub fn worked_rows()
         updated g 0 (9 ∷ []) ≡ (g, error_line (codes "ElementPruned")) }
 
     // Committed are the elements with the changes; the boundary stays.
-    ensures commits { all_committed (record { committed = (1 ∷ []) ∷ []; boundary = 1; pending = Some (record { elements = (1 ∷ []) ∷ (2 ∷ []) ∷ []; updated = []; boundary = 0 }) })
+    ensures commits { all_committed (record {
+      committed = (1 ∷ []) ∷ [];
+      boundary = 1;
+      pending = Some (record { elements = (1 ∷ []) ∷ (2 ∷ []) ∷ []; updated = []; boundary = 0 });
+    })
         ≡ record { committed = (1 ∷ []) ∷ (2 ∷ []) ∷ []; boundary = 1; pending = None } }
 
     // Pruning tells the bounds, and keeps those at which it was before.
@@ -43,7 +51,10 @@ pub fn worked_rows()
         pruned g 0 ≡ (g, codes "ok " ++ decimal 1 ++ codes " " ++ decimal 2) }
 
     // The bytes of the roots of the elements 1, 2 and 4, and of the proof of the first of them.
-    ensures root_forward { root_bytes (scheme_of xor8_hashing ForwardFold carries (2 ^ 62) 0) (record { committed = (1 ∷ []) ∷ (2 ∷ []) ∷ (4 ∷ []) ∷ []; boundary = 0; pending = None }) 0 ≡ 4 ∷ [] }
-    ensures root_backward { root_bytes (scheme_of xor8_hashing BackwardFold carries (2 ^ 62) 0) (record { committed = (1 ∷ []) ∷ (2 ∷ []) ∷ (4 ∷ []) ∷ []; boundary = 0; pending = None }) 0 ≡ 5 ∷ [] }
-    ensures proof { proof_bytes (scheme_of xor8_hashing ForwardFold carries (2 ^ 62) 0) (record { committed = (1 ∷ []) ∷ (2 ∷ []) ∷ (4 ∷ []) ∷ []; boundary = 0; pending = None }) 0 1 0 ≡ 3 ∷ 0 ∷ 2 ∷ 7 ∷ 3 ∷ [] }
+    ensures root_forward { let g : Given = record { committed = (1 ∷ []) ∷ (2 ∷ []) ∷ (4 ∷ []) ∷ []; boundary = 0; pending = None } in
+        root_bytes (scheme_of xor8_hashing ForwardFold carries (2 ^ 62) 0) g 0 ≡ 4 ∷ [] }
+    ensures root_backward { let g : Given = record { committed = (1 ∷ []) ∷ (2 ∷ []) ∷ (4 ∷ []) ∷ []; boundary = 0; pending = None } in
+        root_bytes (scheme_of xor8_hashing BackwardFold carries (2 ^ 62) 0) g 0 ≡ 5 ∷ [] }
+    ensures proof { let g : Given = record { committed = (1 ∷ []) ∷ (2 ∷ []) ∷ (4 ∷ []) ∷ []; boundary = 0; pending = None } in
+        proof_bytes (scheme_of xor8_hashing ForwardFold carries (2 ^ 62) 0) g 0 1 0 ≡ 3 ∷ 0 ∷ 2 ∷ 7 ∷ 3 ∷ [] }
 {}

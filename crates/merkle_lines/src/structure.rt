@@ -63,8 +63,10 @@ impl<F: Family, H: PlainHasher> Structure<F, H> {
     fn add(&mut self, alloc: Global, digits: &str) -> Answer
         ensures kind { self.new.hasher ≡ self.old.hasher }
         ensures answered { let h = standard H.digest_of H.Digest.bytes H.Digest.eq H.Digest.EMPTY in (g : Given) → IsHexWord digits.entry.now
-            → IsHeld h F.rule F.MAX_LEAVES self.old.committed self.old.pending g → (u : Given) × IsHeld h F.rule F.MAX_LEAVES self.new.committed self.new.pending u
-            × IsAnswered (scheme_of h self.old.hasher F.rule F.MAX_LEAVES F.DOMAIN) H.Digest.SIZE H.Digest.Spells g (Request.Add digits.entry) u (answer_text result) }
+            → IsHeld h F.rule F.MAX_LEAVES self.old.committed self.old.pending g → (u : Given)
+            × IsHeld h F.rule F.MAX_LEAVES self.new.committed self.new.pending u
+            × IsAnswered (scheme_of h self.old.hasher F.rule F.MAX_LEAVES F.DOMAIN) H.Digest.SIZE H.Digest.Spells
+            g (Request.Add digits.entry) u (answer_text result) }
     {
         let batch = or_fault!(self.take_pending());
         let element = or_fault!(read_hex(alloc, digits));
@@ -76,8 +78,10 @@ impl<F: Family, H: PlainHasher> Structure<F, H> {
     fn update(&mut self, alloc: Global, location: u64, digits: &str) -> Answer
         ensures kind { self.new.hasher ≡ self.old.hasher }
         ensures answered { let h = standard H.digest_of H.Digest.bytes H.Digest.eq H.Digest.EMPTY in (g : Given) → IsHexWord digits.entry.now
-            → IsHeld h F.rule F.MAX_LEAVES self.old.committed self.old.pending g → (u : Given) × IsHeld h F.rule F.MAX_LEAVES self.new.committed self.new.pending u
-            × IsAnswered (scheme_of h self.old.hasher F.rule F.MAX_LEAVES F.DOMAIN) H.Digest.SIZE H.Digest.Spells g (Request.Update location digits.entry) u (answer_text result) }
+            → IsHeld h F.rule F.MAX_LEAVES self.old.committed self.old.pending g → (u : Given)
+            × IsHeld h F.rule F.MAX_LEAVES self.new.committed self.new.pending u
+            × IsAnswered (scheme_of h self.old.hasher F.rule F.MAX_LEAVES F.DOMAIN) H.Digest.SIZE H.Digest.Spells
+            g (Request.Update location digits.entry) u (answer_text result) }
     {
         let batch = or_fault!(self.take_pending());
         let element = or_fault!(read_hex(alloc, digits));
@@ -89,8 +93,10 @@ impl<F: Family, H: PlainHasher> Structure<F, H> {
     fn commit(&mut self) -> Answer
         ensures kind { self.new.hasher ≡ self.old.hasher }
         ensures answered { let h = standard H.digest_of H.Digest.bytes H.Digest.eq H.Digest.EMPTY in (g : Given)
-            → IsHeld h F.rule F.MAX_LEAVES self.old.committed self.old.pending g → (u : Given) × IsHeld h F.rule F.MAX_LEAVES self.new.committed self.new.pending u
-            × IsAnswered (scheme_of h self.old.hasher F.rule F.MAX_LEAVES F.DOMAIN) H.Digest.SIZE H.Digest.Spells g Request.Commit u (answer_text result) }
+            → IsHeld h F.rule F.MAX_LEAVES self.old.committed self.old.pending g → (u : Given)
+            × IsHeld h F.rule F.MAX_LEAVES self.new.committed self.new.pending u
+            × IsAnswered (scheme_of h self.old.hasher F.rule F.MAX_LEAVES F.DOMAIN) H.Digest.SIZE H.Digest.Spells
+            g Request.Commit u (answer_text result) }
     {
         let batch = or_fault!(self.take_pending());
         let merkleized = or_fault!(batch.merkleize(&self.committed, &self.hasher));
@@ -104,8 +110,10 @@ impl<F: Family, H: PlainHasher> Structure<F, H> {
     fn prune(&mut self, location: u64) -> Answer
         ensures kind { self.new.hasher ≡ self.old.hasher }
         ensures answered { let h = standard H.digest_of H.Digest.bytes H.Digest.eq H.Digest.EMPTY in (g : Given)
-            → IsHeld h F.rule F.MAX_LEAVES self.old.committed self.old.pending g → (u : Given) × IsHeld h F.rule F.MAX_LEAVES self.new.committed self.new.pending u
-            × IsAnswered (scheme_of h self.old.hasher F.rule F.MAX_LEAVES F.DOMAIN) H.Digest.SIZE H.Digest.Spells g (Request.Prune location) u (answer_text result) }
+            → IsHeld h F.rule F.MAX_LEAVES self.old.committed self.old.pending g → (u : Given)
+            × IsHeld h F.rule F.MAX_LEAVES self.new.committed self.new.pending u
+            × IsAnswered (scheme_of h self.old.hasher F.rule F.MAX_LEAVES F.DOMAIN) H.Digest.SIZE H.Digest.Spells
+            g (Request.Prune location) u (answer_text result) }
     {
         or_fault!(self.committed.prune(Location::new(location)));
         Answer::Pruned {
@@ -115,16 +123,20 @@ impl<F: Family, H: PlainHasher> Structure<F, H> {
     }
 
     fn root(&self, alloc: Global, inactive: usize) -> Answer
-        ensures { let h = standard H.digest_of H.Digest.bytes H.Digest.eq H.Digest.EMPTY in (g : Given) → IsHeld h F.rule F.MAX_LEAVES self.now.committed self.now.pending g
-            → IsAnswered (scheme_of h self.now.hasher F.rule F.MAX_LEAVES F.DOMAIN) H.Digest.SIZE H.Digest.Spells g (Request.Root inactive) g (answer_text result) }
+        ensures { let h = standard H.digest_of H.Digest.bytes H.Digest.eq H.Digest.EMPTY in (g : Given)
+            → IsHeld h F.rule F.MAX_LEAVES self.now.committed self.now.pending g
+            → IsAnswered (scheme_of h self.now.hasher F.rule F.MAX_LEAVES F.DOMAIN) H.Digest.SIZE H.Digest.Spells
+            g (Request.Root inactive) g (answer_text result) }
     {
         let root = or_fault!(self.committed.root(&self.hasher, inactive));
         Answer::Digits(or_fault!(write_hex(alloc, root.as_bytes())))
     }
 
     fn prove(&self, alloc: Global, start: u64, end: u64, inactive: usize) -> Answer
-        ensures { let h = standard H.digest_of H.Digest.bytes H.Digest.eq H.Digest.EMPTY in (g : Given) → IsHeld h F.rule F.MAX_LEAVES self.now.committed self.now.pending g
-            → IsAnswered (scheme_of h self.now.hasher F.rule F.MAX_LEAVES F.DOMAIN) H.Digest.SIZE H.Digest.Spells g (Request.Prove start end inactive) g (answer_text result) }
+        ensures { let h = standard H.digest_of H.Digest.bytes H.Digest.eq H.Digest.EMPTY in (g : Given)
+            → IsHeld h F.rule F.MAX_LEAVES self.now.committed self.now.pending g
+            → IsAnswered (scheme_of h self.now.hasher F.rule F.MAX_LEAVES F.DOMAIN) H.Digest.SIZE H.Digest.Spells
+            g (Request.Prove start end inactive) g (answer_text result) }
     {
         let range = Location::new(start)..Location::new(end);
         let proof = or_fault!(self.committed.range_proof(&self.hasher, range, inactive));
@@ -137,8 +149,10 @@ impl<F: Family, H: PlainHasher> Structure<F, H> {
     pub(crate) fn answer(&mut self, alloc: Global, request: Request<'_>) -> Answer
         ensures kind { self.new.hasher ≡ self.old.hasher }
         ensures answered { let h = standard H.digest_of H.Digest.bytes H.Digest.eq H.Digest.EMPTY in (g : Given) → IsCommand (Command.Ask request.entry)
-            → IsHeld h F.rule F.MAX_LEAVES self.old.committed self.old.pending g → (u : Given) × IsHeld h F.rule F.MAX_LEAVES self.new.committed self.new.pending u
-            × IsAnswered (scheme_of h self.old.hasher F.rule F.MAX_LEAVES F.DOMAIN) H.Digest.SIZE H.Digest.Spells g request.entry u (answer_text result) }
+            → IsHeld h F.rule F.MAX_LEAVES self.old.committed self.old.pending g → (u : Given)
+            × IsHeld h F.rule F.MAX_LEAVES self.new.committed self.new.pending u
+            × IsAnswered (scheme_of h self.old.hasher F.rule F.MAX_LEAVES F.DOMAIN) H.Digest.SIZE H.Digest.Spells
+            g request.entry u (answer_text result) }
     {
         match request {
             Request::Add(digits) => self.add(alloc, digits),

@@ -1,6 +1,5 @@
-use Rattle.std.proofs.Common.{◌≡◌, List, map, sym, ap, subst, inl, inr, ◌∙◌}
+use Rattle.std.proofs.Common.{◌≡◌, map, sym, ap, subst, inl, inr, ◌∙◌}
 use Rattle.merkle_base.specs.Scheme.{scheme_of}
-use Rattle.merkle_commands.specs.Commands.{optional_words}
 use Rattle.merkle_hasher.specs.Standard.{standard}
 use Rattle.merkle_lines.specs.Answers.{word_bytes, IsRead}
 use Rattle.merkle_lines.specs.AnswerText.{answer_text}

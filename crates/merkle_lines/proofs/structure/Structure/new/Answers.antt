@@ -1,4 +1,4 @@
-use Rattle.std.proofs.Common.{ap, refl, arith}
+use Rattle.std.proofs.Common.{ap, arith}
 use Rattle.merkle_lines.proofs.structure.Structure.new.Goals as goal
 
 pub returns-clause-held : goal.returns-clause-held

@@ -1,9 +1,9 @@
-use Rattle.std.proofs.Common.{refl, sym, ap, subst, ◌∙◌, ◌≡◌, ◌≤◌, ℕ, List, [], ◌++◌, rules, arith, inl, inr, length, cond, slice_get, None}
+use Rattle.std.proofs.Common.{sym, ap, subst, ◌∙◌, ◌≡◌, ℕ, List, [], ◌++◌, rules, arith, inl, inr, cond, slice_get, None}
 use Rattle.std.specs.String.{string_bytes}
 use Rattle.hex.specs.Hex.{encode_lower}
 use Rattle.merkle_base.specs.Hashing.{Hashing}
 use Rattle.merkle_base.specs.Scheme.{scheme_of}
-use Rattle.merkle_batch_theory.specs.Store.{contents, node}
+use Rattle.merkle_batch_theory.specs.Store.{node}
 use Rattle.merkle_codec.specs.ProofSpelling.{parts_spelling, proof_spelling}
 use Rattle.merkle_hasher.specs.Standard.{standard}
 use Rattle.merkle_range.specs.Input.{leaf_digests}

@@ -1,8 +1,7 @@
-use Rattle.std.proofs.Common.{refl, sym, ap, subst, ◌∙◌, ◌≡◌, ◌≤◌, List, length, ◌∷◌, [], ◌++◌, Ok, true, arith, inl, inr}
+use Rattle.std.proofs.Common.{refl, sym, ap, subst, ◌∙◌, ◌≡◌, ◌≤◌, arith, inl, inr}
 use Rattle.merkle_base.specs.Hashing.{Hashing}
 use Rattle.merkle_base.specs.Scheme.{scheme_of}
 use Rattle.merkle_hasher.specs.Standard.{standard}
-use Rattle.merkle_range.specs.Input.{leaf_digests}
 use Rattle.std.proofs.lemmas.Bool.{cases_lt}
 use Rattle.merkle_batch_theory.specs.Contents.{pruned}
 use Rattle.merkle_batch_theory.specs.Store.{contents}

@@ -1,11 +1,10 @@
-use Rattle.std.proofs.Common.{refl, sym, ap, subst, ◌∙◌, ◌≡◌, List, length, ◌∷◌, [], ◌++◌, Ok, true, arith, inl, inr}
+use Rattle.std.proofs.Common.{ap, ◌∙◌}
 use Rattle.merkle_base.specs.Hashing.{Hashing}
 use Rattle.merkle_base.specs.Scheme.{scheme_of}
 use Rattle.merkle_hasher.specs.Standard.{standard}
-use Rattle.merkle_range.specs.Input.{leaf_digests}
 use Rattle.hex.specs.Hex.{encode_lower}
 use Rattle.merkle_lines.specs.Answers.{error_line}
-use Rattle.merkle_lines.proofs.Replies.{root_refused, root_told, wanting}
+use Rattle.merkle_lines.proofs.Replies.{root_refused, root_told}
 use Rattle.merkle_lines.proofs.structure.Structure.root.Goals as goal
 
 pub returns-in-Err : goal.returns-in-Err

@@ -1,4 +1,3 @@
-use Rattle.std.proofs.Common.{sym, ◌∙◌}
 use Rattle.std.proofs.lemmas.Result.{IfOk-weaker}
 use Rattle.merkle_lines.proofs.Holdings.{new_makes, pending_makes}
 use Rattle.merkle_lines.proofs.structure.Structure.take_pending.Goals as goal

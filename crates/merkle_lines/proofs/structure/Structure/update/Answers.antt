@@ -1,4 +1,4 @@
-use Rattle.std.proofs.Common.{refl, sym, ap, subst, ◌∙◌, ◌≡◌, List, length, ◌∷◌, [], ◌++◌, Ok, true, arith, inl, inr}
+use Rattle.std.proofs.Common.{refl, sym, ap, subst, ◌∙◌, ◌≡◌}
 use Rattle.merkle_base.specs.Hashing.{Hashing}
 use Rattle.merkle_base.specs.Scheme.{scheme_of}
 use Rattle.merkle_hasher.specs.Standard.{standard}
@@ -7,7 +7,7 @@ use Rattle.merkle_base.specs.Forest.{size}
 use Rattle.merkle_batch_theory.specs.Pending as pending
 use Rattle.merkle_lines.specs.Answers.{error_line}
 use Rattle.merkle_lines.specs.Given.{changes, count, with_changes, with_update, without_changes}
-use Rattle.merkle_lines.specs.Held.{IsHeld, Makes}
+use Rattle.merkle_lines.specs.Held.{Makes}
 use Rattle.merkle_lines.proofs.Holdings.{held_with, held_without}
 use Rattle.merkle_lines.proofs.Making.{makes_update}
 use Rattle.merkle_lines.proofs.Replies.{update_done, wanting, wanting_hex}
