@@ -91,8 +91,8 @@ postorder_position n (leaf p k) b o = omega (arith, (leaf_at carries n p p k b).
 postorder_position n (join p l r) b o = omega (arith, postorder_position n l b.4 o.2, o.0, pow-suc 2 (suc (height l)))
 
 -- a node of height h over the leaves from s on stands 2 ^ (h + 1) - 2 after the position of leaf s
-pub mmr_position : (n p : ℕ) (t : Tree) → slice_get (forest carries n).nodes p ≡ Some t → p + 2 ≡ size carries (first_leaf t) + 2 ^ suc (height t)
-mmr_position n p t e = omega (arith, postorder_position n t (node_built carries n p t e) (mmr_children n p t e), (forest_grown carries n).placed p t e)
+pub mmr_place : (n p : ℕ) (t : Tree) → slice_get (forest carries n).nodes p ≡ Some t → p + 2 ≡ size carries (first_leaf t) + 2 ^ suc (height t)
+mmr_place n p t e = omega (arith, postorder_position n t (node_built carries n p t e) (mmr_children n p t e), (forest_grown carries n).placed p t e)
 
 -- ---- births
 pub mmr_equal : (m : ℕ) → MergesEqual carries m
@@ -151,7 +151,7 @@ mmr_born (suc n) p t e =
       | inr h ↦
           (let q : IsBornAt (suc n) t = all_get (IsBornAt (suc n)) (leaf (size carries n) n ∷ s.0) h.0 t ((omega arith, (n, omega arith)), s.2) h.2 in
           record {
-            position = mmr_position (suc n) p t e;
+            position = mmr_place (suc n) p t e;
             present = rw q.0 l;
             absent = λ b d. omega (arith, size_le carries b n (omega (arith, q.0)), h.1);
             aligned = q.1;

@@ -23,7 +23,7 @@ if_some P (Some a) x = x
 
 -- what is told of a node beside an expression of the same digest confirms it
 abbrev pub Confirms : {D : Type 0} → Hashing D → Option D → D → Option D → Type 0
-Confirms {D} h told computed o = (e : Expression D) → Holds h e → computed ≡ value h e → IsConfirmed h (also told e) o
+Confirms {D} h told answer o = (e : Expression D) → Holds h e → answer ≡ value h e → IsConfirmed h (also told e) o
 
 module _ (rule : List ℕ → List ℕ) (m p s tall : ℕ) {D : Type 0} (h : Hashing D) (a : ℕ → Option D) (es : List (ℕ × D)) where
   abbrev IsHere : Tree → Type 0
@@ -55,8 +55,8 @@ module _ (rule : List ℕ → List ℕ) (m p s tall : ℕ) {D : Type 0} (h : Has
     next_leaf = ap (λ z. leaf_located h z x) at ∙ ap (λ z. unwrap_or (cond z (Some d) (digest_for (locations_of more) (map (λ e. e.1) more) x)) h.empty) (eq-eqb x x refl)
 
     -- and the node is its leaf
-    pub walk_leaf : (bytes : List ℕ) → d ≡ h.leaf (size rule x) bytes → (t : Tree) → IsHere t → tall ≡ 0 → x < end_leaf t → (computed : D) (o : Option D) → computed ≡ h.leaf p bytes → Confirms h (a p) computed o → IsConfirmed h (node_checked h a es t) o
-    walk_leaf bytes d_is (leaf q i) w flat l computed o is f =
+    pub walk_leaf : (bytes : List ℕ) → d ≡ h.leaf (size rule x) bytes → (t : Tree) → IsHere t → tall ≡ 0 → x < end_leaf t → (answer : D) (o : Option D) → answer ≡ h.leaf p bytes → Confirms h (a p) answer o → IsConfirmed h (node_checked h a es t) o
+    walk_leaf bytes d_is (leaf q i) w flat l answer o is f =
         let same : i ≡ x = omega (arith, w.first_is, next_up.0, l) in
         let placed : q ≡ p = (forest_grown rule m).placed p (leaf q i) w.at in
         let stands : q ≡ size rule i = (leaf_at rule m p q i w.at).0 in
@@ -64,7 +64,7 @@ module _ (rule : List ℕ → List ℕ) (m p s tall : ℕ) {D : Type 0} (h : Has
         let told : node_checked h a es (leaf q i) ≡ also (a p) (given d) =
         ap₂ (λ z y. cond z (also (a q) (given y)) (given (or_empty h (a q)))) there (ap (leaf_located h es) same ∙ next_leaf) ∙ ap (λ (n : ℕ). also (a n) (given d)) placed in
         subst (λ e. IsConfirmed h e o) (sym told) (f (given d) tt (is ∙ ap (λ (n : ℕ). h.leaf n bytes) (sym placed ∙ stands ∙ ap (size rule) same) ∙ sym d_is))
-    walk_leaf bytes d_is (join q l r) w flat u computed o is f = absurd (omega (arith, w.height_is, flat))
+    walk_leaf bytes d_is (join q l r) w flat u answer o is f = absurd (omega (arith, w.height_is, flat))
 
     pub rest_leaf : (t : Tree) → IsHere t → tall ≡ 0 → x < end_leaf t → more ≡ elements_from (end_leaf t) es
     rest_leaf (leaf q i) w flat l =
@@ -85,9 +85,9 @@ module _ (rule : List ℕ → List ℕ) (m p s tall : ℕ) {D : Type 0} (h : Has
 
     pub walk_inner : (t : Tree) → IsHere t → tall ≢ 0 → x < end_leaf t → (y z : D)
         → ((q : ℕ) (l r : Tree) → IsHere (join q l r) → IsConfirmed h (node_checked h a es l) (Some y) × IsConfirmed h (node_checked h a (elements_from (end_leaf l) es) r) (Some z))
-        → (computed : D) (o : Option D) → computed ≡ h.node p y z → Confirms h (a p) computed o → IsConfirmed h (node_checked h a es t) o
-    walk_inner (leaf q i) w tall_is k y z f computed o is g = absurd (tall_is (omega (arith, w.height_is)))
-    walk_inner (join q l r) w tall_is k y z f computed o is g =
+        → (answer : D) (o : Option D) → answer ≡ h.node p y z → Confirms h (a p) answer o → IsConfirmed h (node_checked h a es t) o
+    walk_inner (leaf q i) w tall_is k y z f answer o is g = absurd (tall_is (omega (arith, w.height_is)))
+    walk_inner (join q l r) w tall_is k y z f answer o is g =
         let u = f q l r w in
         subst (λ e. IsConfirmed h e o) (sym (checked_join q l r w k))
         (g (hashed (Node p) (node_checked h a es l) (node_checked h a (elements_from (end_leaf l) es) r)) (u.0.0, u.1.0) (is ∙ ap₂ (h.node p) u.0.1 u.1.1))
