@@ -3,7 +3,7 @@ use Rattle.std.proofs.Common.{◌≡◌, ℕ, zero, suc, ◌+◌, ◌*◌, ◌<�
 use Rattle.std.specs.List.{AllByRecursion}
 use Rattle.std.proofs.lemmas.List.{length-map}
 use Rattle.merkle_base.specs.Tree.{Tree, leaf, join, position, height, first_leaf, IsBalanced}
-use Rattle.merkle_base.specs.Forest.{Forest, planted, joined, joined_peaks, merged, all_merged, forest, size, Covers, IsJoin}
+use Rattle.merkle_base.specs.Forest.{Forest, append_leaf, parent_of_peaks, merge_peaks, merge_at, merge_all, forest, size, Covers, IsJoin}
 use Rattle.merkle_base.specs.Heights.{EqualAt, raised, AreEqualMerges, born_heights, peak_heights, parent_heights, MergesEqual, weight}
 use Rattle.merkle_base.proofs.Growth.{forest_grown}
 use Rattle.merkle_base.proofs.Nodes.{forest_step}
@@ -11,7 +11,7 @@ use Rattle.merkle_base.proofs.Balance.{heights_forest, heights_joined, balanced_
 
 -- the new node of a merge
 pub joined_born : (p i n : ℕ) (ts : List Tree) → EqualAt i (map height ts) → Covers n ts → AllByRecursion IsBalanced ts →
-    (t : Tree) × (joined p i ts ≡ t ∷ []) × (position t ≡ p) × (height t ≡ slice_index (raised i (map height ts)) i) × (first_leaf t + weight (take (suc (suc i)) (map height ts)) ≡ n)
+    (t : Tree) × (parent_of_peaks p i ts ≡ t ∷ []) × (position t ≡ p) × (height t ≡ slice_index (raised i (map height ts)) i) × (first_leaf t + weight (take (suc (suc i)) (map height ts)) ≡ n)
 joined_born p i n [] e c h = absurd e
 joined_born p zero n (b ∷ []) e c h = absurd e
 joined_born p zero n (b ∷ a ∷ ts) e c h = (join p a b, refl, refl, refl, omega (arith, c.0, c.1.0, balanced_count a h.1.0, balanced_count b h.0))
@@ -19,7 +19,7 @@ joined_born p (suc i) n (t ∷ ts) e c h =
     let k = joined_born p i (first_leaf t) ts e c.1 h.1 in
     (k.0, k.1, k.2, k.3, omega (arith, c.0, k.4, balanced_count t h.0))
 
-pub heights_born_joined : (p i : ℕ) (ts : List Tree) → EqualAt i (map height ts) → map height (joined p i ts) ≡ slice_index (raised i (map height ts)) i ∷ []
+pub heights_born_joined : (p i : ℕ) (ts : List Tree) → EqualAt i (map height ts) → map height (parent_of_peaks p i ts) ≡ slice_index (raised i (map height ts)) i ∷ []
 heights_born_joined p i [] e = absurd e
 heights_born_joined p zero (b ∷ []) e = absurd e
 heights_born_joined p zero (b ∷ a ∷ ts) e = refl
@@ -29,12 +29,12 @@ pub map-append : (xs ys : List Tree) → map height (xs ++ ys) ≡ map height xs
 map-append [] ys = refl
 map-append (x ∷ xs) ys = ap (λ (hs : List ℕ). height x ∷ hs) (map-append xs ys)
 
-pub merges_born : (is : List ℕ) (f : Forest) → AreEqualMerges is (map height f.peaks) → (js : List Tree) × ((all_merged is f).nodes ≡ f.nodes ++ js) × (map height js ≡ born_heights is (map height f.peaks))
+pub merges_born : (is : List ℕ) (f : Forest) → AreEqualMerges is (map height f.peaks) → (js : List Tree) × ((merge_all is f).nodes ≡ f.nodes ++ js) × (map height js ≡ born_heights is (map height f.peaks))
 merges_born [] f e = ([], sym (append-nil f.nodes), refl)
 merges_born (i ∷ is) f e =
-    let one : List Tree = joined (length f.nodes) i f.peaks in
-    let m : map height (joined_peaks (length f.nodes) i f.peaks) ≡ raised i (map height f.peaks) = heights_joined (length f.nodes) i f.peaks in
-    let h = merges_born is (merged i f) (subst (AreEqualMerges is) (sym m) e.1) in (
+    let one : List Tree = parent_of_peaks (length f.nodes) i f.peaks in
+    let m : map height (merge_peaks (length f.nodes) i f.peaks) ≡ raised i (map height f.peaks) = heights_joined (length f.nodes) i f.peaks in
+    let h = merges_born is (merge_at i f) (subst (AreEqualMerges is) (sym m) e.1) in (
       one ++ h.0,
       h.1 ∙ append_assoc f.nodes one h.0,
       map-append one h.0 ∙ ap (λ (hs : List ℕ). hs ++ map height h.0) (heights_born_joined (length f.nodes) i f.peaks e.0)
@@ -46,7 +46,7 @@ pub forest_born : (rule : List ℕ → List ℕ) (max_leaves : ℕ) → MergesEq
     (js : List Tree) × ((forest rule (suc n)).nodes ≡ (forest rule n).nodes ++ leaf (size rule n) n ∷ js) × (map height js ≡ parent_heights rule n)
 unfolding forest
 forest_born rule max_leaves equal n b =
-    let f : Forest = planted n (forest rule n) in
+    let f : Forest = append_leaf n (forest rule n) in
     let k : map height (forest rule n).peaks ≡ peak_heights rule n = heights_forest rule n in
     let h = merges_born (rule (map height f.peaks)) f (subst (λ (hs : List ℕ). AreEqualMerges (rule (0 ∷ hs)) (0 ∷ hs)) (sym k) (equal n b)) in
     (h.0, h.1 ∙ append_assoc (forest rule n).nodes (leaf (size rule n) n ∷ []) h.0, h.2 ∙ ap (λ (hs : List ℕ). born_heights (rule (0 ∷ hs)) (0 ∷ hs)) k)

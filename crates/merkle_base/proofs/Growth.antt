@@ -1,22 +1,22 @@
--- What a planted leaf and a merge keep, and so what holds of every forest.
+-- What a append_leaf leaf and a merge keep, and so what holds of every forest.
 use Rattle.std.proofs.Common.{◌≡◌, ℕ, zero, suc, ◌+◌, ◌<◌, ◌⊎◌, List, [], ◌∷◌, ◌++◌, length, map, length-append, append-nil, Some, slice_get, arith, refl, sym, inl, inr, ◌∙◌}
 use Rattle.std.specs.List.{AllByRecursion}
 use Rattle.merkle_base.specs.Tree.{Tree, leaf, join, position, height, first_leaf, IsUnder, IsBuilt}
-use Rattle.merkle_base.specs.Forest.{Forest, empty_forest, planted, joined, joined_peaks, merged, all_merged, forest, Covers, IsUnderOne}
+use Rattle.merkle_base.specs.Forest.{Forest, empty_forest, append_leaf, parent_of_peaks, merge_peaks, merge_at, merge_all, forest, Covers, IsUnderOne}
 use Rattle.merkle_base.specs.Laws.{IsGrown}
 use Rattle.merkle_base.proofs.Lists.{get_front, get_push, get_below, get_push_cases}
 
 -- ---- induction
-pub merges_keep : (P : ℕ → Forest → Type 0) → ((n i : ℕ) (f : Forest) → P n f → P n (merged i f)) → (n : ℕ) (is : List ℕ) (f : Forest) → P n f → P n (all_merged is f)
+pub merges_keep : (P : ℕ → Forest → Type 0) → ((n i : ℕ) (f : Forest) → P n f → P n (merge_at i f)) → (n : ℕ) (is : List ℕ) (f : Forest) → P n f → P n (merge_all is f)
 merges_keep P m n [] f h = h
-merges_keep P m n (i ∷ is) f h = merges_keep P m n is (merged i f) (m n i f h)
+merges_keep P m n (i ∷ is) f h = merges_keep P m n is (merge_at i f) (m n i f h)
 
--- what holds of the empty forest, and is kept by a planted leaf and by a merge, holds of each forest
-pub forest_induct : (P : ℕ → Forest → Type 0) → P 0 empty_forest → ((n : ℕ) (f : Forest) → P n f → P (suc n) (planted n f)) → ((n i : ℕ) (f : Forest) → P n f → P n (merged i f)) → (rule : List ℕ → List ℕ) (n : ℕ) → P n (forest rule n)
+-- what holds of the empty forest, and is kept by a append_leaf leaf and by a merge, holds of each forest
+pub forest_induct : (P : ℕ → Forest → Type 0) → P 0 empty_forest → ((n : ℕ) (f : Forest) → P n f → P (suc n) (append_leaf n f)) → ((n i : ℕ) (f : Forest) → P n f → P n (merge_at i f)) → (rule : List ℕ → List ℕ) (n : ℕ) → P n (forest rule n)
 unfolding forest
 forest_induct P z p m rule zero = z
 forest_induct P z p m rule (suc n) =
-    merges_keep P m (suc n) (rule (map height (planted n (forest rule n)).peaks)) (planted n (forest rule n)) (p n (forest rule n) (forest_induct P z p m rule n))
+    merges_keep P m (suc n) (rule (map height (append_leaf n (forest rule n)).peaks)) (append_leaf n (forest rule n)) (p n (forest rule n) (forest_induct P z p m rule n))
 
 -- ---- nodes
 pub IsBuilt-front : (ns ms : List Tree) (t : Tree) → IsBuilt ns t → IsBuilt (ns ++ ms) t
@@ -41,13 +41,13 @@ under_itself (leaf p n) = refl
 under_itself (join p l r) = inl refl
 
 -- ---- one merge
-pub covers_joined : (p i n : ℕ) (ts : List Tree) → Covers n ts → Covers n (joined_peaks p i ts)
+pub covers_joined : (p i n : ℕ) (ts : List Tree) → Covers n ts → Covers n (merge_peaks p i ts)
 covers_joined p i n [] h = h
 covers_joined p zero n (b ∷ []) h = h
 covers_joined p zero n (b ∷ a ∷ ts) h = (omega (arith, h.0, h.1.0), h.1.1)
 covers_joined p (suc i) n (t ∷ ts) h = (h.0, covers_joined p i (first_leaf t) ts h.1)
 
-pub built_joined : (ns : List Tree) (i n : ℕ) (ts : List Tree) → Covers n ts → AllByRecursion (IsBuilt ns) ts → AllByRecursion (IsBuilt (ns ++ joined (length ns) i ts)) (joined_peaks (length ns) i ts)
+pub built_joined : (ns : List Tree) (i n : ℕ) (ts : List Tree) → Covers n ts → AllByRecursion (IsBuilt ns) ts → AllByRecursion (IsBuilt (ns ++ parent_of_peaks (length ns) i ts)) (merge_peaks (length ns) i ts)
 built_joined ns i n [] c h = tt
 built_joined ns zero n (b ∷ []) c h = all_built_front ns [] (b ∷ []) h
 built_joined ns zero n (b ∷ a ∷ ts) c h =
@@ -56,29 +56,29 @@ built_joined ns zero n (b ∷ a ∷ ts) c h =
       all_built_front ns more ts h.1.1,
     )
 built_joined ns (suc i) n (t ∷ ts) c h =
-    (IsBuilt-front ns (joined (length ns) i ts) t h.0, built_joined ns i (first_leaf t) ts c.1 h.1)
+    (IsBuilt-front ns (parent_of_peaks (length ns) i ts) t h.0, built_joined ns i (first_leaf t) ts c.1 h.1)
 
-pub under_joined : (p i : ℕ) (ts : List Tree) (a : Tree) → IsUnderOne a ts → IsUnderOne a (joined_peaks p i ts)
+pub under_joined : (p i : ℕ) (ts : List Tree) (a : Tree) → IsUnderOne a ts → IsUnderOne a (merge_peaks p i ts)
 under_joined p i [] a h = h
 under_joined p zero (b ∷ []) a h = h
 under_joined p zero (b ∷ c ∷ ts) a h = elim h [ inl u ↦ inl (inr (inr u)) | inr v ↦ elim v [ inl u ↦ inl (inr (inl u)) | inr u ↦ inr u ] ]
 under_joined p (suc i) (t ∷ ts) a h = elim h [ inl u ↦ inl u | inr v ↦ inr (under_joined p i ts a v) ]
 
 -- there is no new node, or one, at p, which is a peak
-pub joined_cases : (p i : ℕ) (ts : List Tree) → (joined p i ts ≡ []) ⊎ ((t : Tree) × (joined p i ts ≡ t ∷ []) × (position t ≡ p) × IsUnderOne t (joined_peaks p i ts))
+pub joined_cases : (p i : ℕ) (ts : List Tree) → (parent_of_peaks p i ts ≡ []) ⊎ ((t : Tree) × (parent_of_peaks p i ts ≡ t ∷ []) × (position t ≡ p) × IsUnderOne t (merge_peaks p i ts))
 joined_cases p i [] = inl refl
 joined_cases p zero (b ∷ []) = inl refl
 joined_cases p zero (b ∷ a ∷ ts) = inr (join p a b, refl, refl, inl (inl refl))
 joined_cases p (suc i) (t ∷ ts) = elim (joined_cases p i ts) [ inl e ↦ inl e | inr h ↦ inr (h.0, h.1, h.2, inr h.3) ]
 
-pub length-joined : (p i : ℕ) (ts : List Tree) → length (joined p i ts) + length (joined_peaks p i ts) ≡ length ts
+pub length-joined : (p i : ℕ) (ts : List Tree) → length (parent_of_peaks p i ts) + length (merge_peaks p i ts) ≡ length ts
 length-joined p i [] = refl
 length-joined p zero (b ∷ []) = refl
 length-joined p zero (b ∷ a ∷ ts) = omega arith
 length-joined p (suc i) (t ∷ ts) = omega (arith, length-joined p i ts)
 
 -- a node of the list after a merge was there before, or is the new one
-pub get_joined_cases : (ns : List Tree) (i p : ℕ) (ts : List Tree) (t : Tree) → slice_get (ns ++ joined (length ns) i ts) p ≡ Some t → (slice_get ns p ≡ Some t) ⊎ ((p ≡ length ns) × (position t ≡ length ns) × IsUnderOne t (joined_peaks (length ns) i ts))
+pub get_joined_cases : (ns : List Tree) (i p : ℕ) (ts : List Tree) (t : Tree) → slice_get (ns ++ parent_of_peaks (length ns) i ts) p ≡ Some t → (slice_get ns p ≡ Some t) ⊎ ((p ≡ length ns) × (position t ≡ length ns) × IsUnderOne t (merge_peaks (length ns) i ts))
 get_joined_cases ns i p ts t e = elim (joined_cases (length ns) i ts) [
   | inl none ↦ inl (rw (none, append-nil) at e)
   | inr one ↦ elim (get_push_cases ns one.0 p t (rw one.1 at e)) [
@@ -91,8 +91,8 @@ get_joined_cases ns i p ts t e = elim (joined_cases (length ns) i ts) [
 pub grown_empty : IsGrown 0 empty_forest
 grown_empty = record { placed = λ p t e. absurd (cc); covers = refl; built = tt; under = λ p t e. absurd (cc); counted = refl }
 
-pub grown_planted : (n : ℕ) (f : Forest) → IsGrown n f → IsGrown (suc n) (planted n f)
-grown_planted n f g = record {
+pub grown_append_leaf : (n : ℕ) (f : Forest) → IsGrown n f → IsGrown (suc n) (append_leaf n f)
+grown_append_leaf n f g = record {
   placed = λ p t e. elim (get_push_cases f.nodes (leaf (length f.nodes) n) p t e) [ inl h ↦ g.placed p t h | inr h ↦ rw (h.1, h.0) refl ];
   covers = (omega arith, g.covers);
   built = (get_push f.nodes [] (leaf (length f.nodes) n), all_built_front f.nodes (leaf (length f.nodes) n ∷ []) f.peaks g.built);
@@ -100,14 +100,14 @@ grown_planted n f g = record {
   counted = omega (arith, g.counted, length-append f.nodes (leaf (length f.nodes) n ∷ []));
 }
 
-pub grown_merged : (n i : ℕ) (f : Forest) → IsGrown n f → IsGrown n (merged i f)
+pub grown_merged : (n i : ℕ) (f : Forest) → IsGrown n f → IsGrown n (merge_at i f)
 grown_merged n i f g = record {
   placed = λ p t e. elim (get_joined_cases f.nodes i p f.peaks t e) [ inl h ↦ g.placed p t h | inr h ↦ h.1 ∙ sym h.0 ];
   covers = covers_joined (length f.nodes) i n f.peaks g.covers;
   built = built_joined f.nodes i n f.peaks g.covers g.built;
   under = λ p t e. elim (get_joined_cases f.nodes i p f.peaks t e) [ inl h ↦ under_joined (length f.nodes) i f.peaks t (g.under p t h) | inr h ↦ h.2 ];
-  counted = omega (arith, g.counted, length-append f.nodes (joined (length f.nodes) i f.peaks), length-joined (length f.nodes) i f.peaks);
+  counted = omega (arith, g.counted, length-append f.nodes (parent_of_peaks (length f.nodes) i f.peaks), length-joined (length f.nodes) i f.peaks);
 }
 
 pub forest_grown : (rule : List ℕ → List ℕ) (n : ℕ) → IsGrown n (forest rule n)
-forest_grown rule n = forest_induct IsGrown grown_empty grown_planted grown_merged rule n
+forest_grown rule n = forest_induct IsGrown grown_empty grown_append_leaf grown_merged rule n

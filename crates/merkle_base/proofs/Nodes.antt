@@ -4,7 +4,7 @@ use Rattle.std.specs.List.{AllByRecursion, range_with_len}
 use Rattle.std.proofs.lemmas.List.{reverse-append}
 use Rattle.std.proofs.lemmas.Bool.{cases_lt}
 use Rattle.merkle_base.specs.Tree.{Tree, leaf, join, height, first_leaf, width, locations, IsUnder, IsBuilt}
-use Rattle.merkle_base.specs.Forest.{Forest, planted, joined, merged, all_merged, forest, size, Covers, IsUnderOne, IsJoin}
+use Rattle.merkle_base.specs.Forest.{Forest, append_leaf, parent_of_peaks, merge_at, merge_all, forest, size, Covers, IsUnderOne, IsJoin}
 use Rattle.merkle_base.specs.Laws.{IsGrown}
 use Rattle.merkle_base.proofs.Lists.{get_front, get_push, get_below}
 use Rattle.merkle_base.proofs.Growth.{forest_grown}
@@ -85,7 +85,7 @@ peak_unique ns n a (x ∷ ts) c h (suc i) zero s t d e u v =
 peak_unique ns n a (x ∷ ts) c h (suc i) (suc j) s t d e u v = ap suc (peak_unique ns (first_leaf x) a ts c.1 h.1 i j s t d e u v)
 
 -- ---- growth
-pub joins_of_joined : (p i : ℕ) (ts : List Tree) → AllByRecursion IsJoin (joined p i ts)
+pub joins_of_joined : (p i : ℕ) (ts : List Tree) → AllByRecursion IsJoin (parent_of_peaks p i ts)
 joins_of_joined p i [] = tt
 joins_of_joined p zero (b ∷ []) = tt
 joins_of_joined p zero (b ∷ a ∷ ts) = (tt, tt)
@@ -95,18 +95,18 @@ pub all_append : {X : Type 0} (P : X → Type 0) (xs ys : List X) → AllByRecur
 all_append P [] ys h k = k
 all_append P (x ∷ xs) ys h k = (h.0, all_append P xs ys h.1 k)
 
-pub merges_append : (is : List ℕ) (f : Forest) → (js : List Tree) × ((all_merged is f).nodes ≡ f.nodes ++ js) × AllByRecursion IsJoin js
+pub merges_append : (is : List ℕ) (f : Forest) → (js : List Tree) × ((merge_all is f).nodes ≡ f.nodes ++ js) × AllByRecursion IsJoin js
 merges_append [] f = ([], sym (append-nil f.nodes), tt)
 merges_append (i ∷ is) f =
-    let h = merges_append is (merged i f) in
-    let one : List Tree = joined (length f.nodes) i f.peaks in
+    let h = merges_append is (merge_at i f) in
+    let one : List Tree = parent_of_peaks (length f.nodes) i f.peaks in
     (one ++ h.0, h.1 ∙ append_assoc f.nodes one h.0, all_append IsJoin one h.0 (joins_of_joined (length f.nodes) i f.peaks) h.2)
 
 -- with leaf n come that leaf and then merged nodes
 pub forest_step : (rule : List ℕ → List ℕ) (n : ℕ) → (js : List Tree) × ((forest rule (suc n)).nodes ≡ (forest rule n).nodes ++ leaf (size rule n) n ∷ js) × AllByRecursion IsJoin js
 unfolding forest
 forest_step rule n =
-    let f : Forest = planted n (forest rule n) in
+    let f : Forest = append_leaf n (forest rule n) in
     let h = merges_append (rule (map height f.peaks)) f in
     (h.0, h.1 ∙ append_assoc (forest rule n).nodes (leaf (size rule n) n ∷ []) h.0, h.2)
 

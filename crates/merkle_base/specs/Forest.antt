@@ -11,40 +11,40 @@ abbrev pub empty_forest : Forest
 empty_forest = record { nodes = []; peaks = [] }
 
 -- leaf n at the next position
-abbrev pub planted : ℕ → Forest → Forest
-planted n f = record { nodes = f.nodes ++ leaf (length f.nodes) n ∷ []; peaks = leaf (length f.nodes) n ∷ f.peaks }
+abbrev pub append_leaf : ℕ → Forest → Forest
+append_leaf n f = record { nodes = f.nodes ++ leaf (length f.nodes) n ∷ []; peaks = leaf (length f.nodes) n ∷ f.peaks }
 
 -- the node at position p over the i-th newest peak and the one before it, where there are both
-abbrev pub joined : ℕ → ℕ → List Tree → List Tree
-joined p i [] = []
-joined p zero (b ∷ []) = []
-joined p zero (b ∷ a ∷ ts) = join p a b ∷ []
-joined p (suc i) (t ∷ ts) = joined p i ts
+abbrev pub parent_of_peaks : ℕ → ℕ → List Tree → List Tree
+parent_of_peaks p i [] = []
+parent_of_peaks p zero (b ∷ []) = []
+parent_of_peaks p zero (b ∷ a ∷ ts) = join p a b ∷ []
+parent_of_peaks p (suc i) (t ∷ ts) = parent_of_peaks p i ts
 
 -- the peaks with that node in the place of the two
-abbrev pub joined_peaks : ℕ → ℕ → List Tree → List Tree
-joined_peaks p i [] = []
-joined_peaks p zero (b ∷ []) = b ∷ []
-joined_peaks p zero (b ∷ a ∷ ts) = join p a b ∷ ts
-joined_peaks p (suc i) (t ∷ ts) = t ∷ joined_peaks p i ts
+abbrev pub merge_peaks : ℕ → ℕ → List Tree → List Tree
+merge_peaks p i [] = []
+merge_peaks p zero (b ∷ []) = b ∷ []
+merge_peaks p zero (b ∷ a ∷ ts) = join p a b ∷ ts
+merge_peaks p (suc i) (t ∷ ts) = t ∷ merge_peaks p i ts
 
 -- one merge
-abbrev pub merged : ℕ → Forest → Forest
-merged i f = record { nodes = f.nodes ++ joined (length f.nodes) i f.peaks; peaks = joined_peaks (length f.nodes) i f.peaks }
+abbrev pub merge_at : ℕ → Forest → Forest
+merge_at i f = record { nodes = f.nodes ++ parent_of_peaks (length f.nodes) i f.peaks; peaks = merge_peaks (length f.nodes) i f.peaks }
 
 -- one merge after another
-abbrev pub all_merged : List ℕ → Forest → Forest
-all_merged [] f = f
-all_merged (i ∷ is) f = all_merged is (merged i f)
+abbrev pub merge_all : List ℕ → Forest → Forest
+merge_all [] f = f
+merge_all (i ∷ is) f = merge_all is (merge_at i f)
 
 -- A rule answers, from the peak heights with the new leaf, newest first, the merges to be done one after another.
-abbrev pub grown : (List ℕ → List ℕ) → ℕ → Forest → Forest
-grown rule n f = all_merged (rule (map height (planted n f).peaks)) (planted n f)
+abbrev pub append_and_merge : (List ℕ → List ℕ) → ℕ → Forest → Forest
+append_and_merge rule n f = merge_all (rule (map height (append_leaf n f).peaks)) (append_leaf n f)
 
 -- the forest of n leaves
 unfoldable pub forest : (List ℕ → List ℕ) → ℕ → Forest
 forest rule zero = empty_forest
-forest rule (suc n) = grown rule n (forest rule n)
+forest rule (suc n) = append_and_merge rule n (forest rule n)
 
 -- the number of nodes
 abbrev pub size : (List ℕ → List ℕ) → ℕ → ℕ

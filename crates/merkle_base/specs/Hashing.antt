@@ -18,8 +18,8 @@ pub record Hashing (D : Type 0) : Type 0 where
   pub empty : D
 
 -- `same` says of any two digests whether they are equal
-abbrev pub TellsApart : {D : Type 0} → Hashing D → Type 0
-TellsApart {D} h = (a b : D) → Decides (h.same a b) (a ≡ b)
+abbrev pub EqDecides : {D : Type 0} → Hashing D → Type 0
+EqDecides {D} h = (a b : D) → Decides (h.same a b) (a ≡ b)
 
 -- its digests have these bytes, this equality and this empty one
 pub record IsOver {D : Type 0} (h : Hashing D) (spelled : D → List ℕ) (equal : D → D → Bool) (none : D) : Type 0 where

@@ -10,13 +10,13 @@ use Rattle.merkle_base.specs.Digests.{peak_digests}
 use Rattle.merkle_base.specs.Scheme.{Scheme}
 
 -- the last peak, which takes in the others right to left, if there is one
-abbrev pub bag : {D : Type 0} → (D → D → D) → List D → Option D
-bag f [] = None
-bag f (peak ∷ more) = option_map_or (λ b. Some (f peak b)) (bag f more) (Some peak)
+abbrev pub right_fold : {D : Type 0} → (D → D → D) → List D → Option D
+right_fold f [] = None
+right_fold f (peak ∷ more) = option_map_or (λ b. Some (f peak b)) (right_fold f more) (Some peak)
 
 -- acc, which takes in the bag of the peaks, if there are any
-abbrev pub with_bag : {D : Type 0} → (D → D → D) → D → List D → D
-with_bag f acc peaks = option_map_or (f acc) (bag f peaks) acc
+abbrev pub with_right_fold : {D : Type 0} → (D → D → D) → D → List D → D
+with_right_fold f acc peaks = option_map_or (f acc) (right_fold f peaks) acc
 
 -- the one digest that stands for the peaks, if there are any: all folded left to right,
 -- or the first max(inactive, 1) so and the others right to left
@@ -24,7 +24,7 @@ abbrev pub folded : {D : Type 0} → (D → D → D) → Bagging → ℕ → Lis
 folded f bagging inactive [] = None
 folded f ForwardFold inactive (first ∷ others) = Some (fold f first others)
 folded f BackwardFold inactive (first ∷ others) =
-    Some (with_bag f (fold f first (take (inactive - 1) others)) (drop (inactive - 1) others))
+    Some (with_right_fold f (fold f first (take (inactive - 1) others)) (drop (inactive - 1) others))
 
 -- the inactive count, unless it is zero
 abbrev pub inactive_bytes : ℕ → List ℕ

@@ -1,5 +1,5 @@
 pub mod OldNodes
-pub mod Missings
+pub mod MissingNodes
 pub mod NewDigests
 pub mod Merkleizing
 pub mod MerkleizeFacts

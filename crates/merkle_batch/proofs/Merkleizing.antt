@@ -15,49 +15,49 @@ use Rattle.merkle_base.proofs.Births.{leaf_at}
 use Rattle.merkle_base.proofs.Nodes.{node_built, size_inj}
 use Rattle.merkle_batch_theory.specs.Contents.{Contents, AgreesWithOne}
 use Rattle.merkle_batch_theory.specs.Missing.{IsMissing}
-use Rattle.merkle_batch_theory.specs.Pending.{IsPending, Pending, kept, kept_lists, leaf_total, pending_list}
+use Rattle.merkle_batch_theory.specs.Unmerkleized.{IsUnmerkleizedValid, UnmerkleizedModel, kept, kept_lists, leaf_total, pending_list}
 use Rattle.merkle_batch_theory.specs.Read.{read_over}
-use Rattle.merkle_batch_theory.specs.Recorded.{Recorded, records}
-use Rattle.merkle_draft.specs.Refreshed.{AreRefreshed, HasLeavesOf, all_computed_at, refreshed}
-use Rattle.merkle_batch_theory.specs.Replay.{over}
+use Rattle.merkle_batch_theory.specs.Records.{RecordModel, records}
+use Rattle.merkle_draft.specs.DirtyDigests.{HaveDirtyDigests, HasLeavesOf, all_computed_at, dirty_digest}
+use Rattle.merkle_batch_theory.specs.Replay.{overwritten_by}
 use Rattle.merkle_batch_theory.specs.Needed.{IsNeeded}
-use Rattle.merkle_batch_theory.specs.Stands.{is_touched, replaced, IsStep, StandsOn, last_list}
-use Rattle.merkle_batch_theory.specs.Truth.{LeavesAre, ReadsTrue}
+use Rattle.merkle_batch_theory.specs.History.{is_dirty, replaced, IsStep, IsHistory, last_list}
+use Rattle.merkle_batch_theory.specs.Assignment.{HasLeaves, ReadsAgree}
 use Rattle.merkle_batch_theory.proofs.Complete.{none_missing}
 use Rattle.merkle_batch_theory.proofs.Forking.{kept_stands, last_size, stands_more}
-use Rattle.merkle_batch_theory.proofs.ListTruths.{truth_of, truth_leaves}
-use Rattle.merkle_batch_theory.proofs.Makings.{changed, changed_length, changed_old, step_is}
+use Rattle.merkle_batch_theory.proofs.ListAssignments.{truth_of, truth_leaves}
+use Rattle.merkle_batch_theory.proofs.MerkleizeSteps.{changed, changed_length, changed_old, step_is}
 use Rattle.merkle_batch.proofs.NewDigests.{new_digest, new_digest_past, new_digest_some}
 use Rattle.merkle_batch.proofs.OldNodes.{old_digest, old_reads}
 use Rattle.merkle_batch_theory.proofs.Steps.{node_digest_at, replaced_length}
-use Rattle.merkle_batch_theory.proofs.Through.{read_right}
+use Rattle.merkle_batch_theory.proofs.ReadThroughRecords.{read_right}
 use Rattle.merkle_batch_theory.proofs.OptionFacts.{none_of, over_none}
 use Rattle.merkle_base.proofs.Lists.{get_exists}
 
-over_new : {D : Type 0} (d : D) (o : Option D) (x : D) → o ≡ Some x → over (Some d) o ≡ Some d
+over_new : {D : Type 0} (d : D) (o : Option D) (x : D) → o ≡ Some x → overwritten_by (Some d) o ≡ Some d
 over_new d None x e = absurd (cc)
 over_new d (Some y) x e = refl
 
 module _ {D : Type 0} (h : Hashing D) (rule : List ℕ → List ℕ) (m : ℕ → Option D) (X added : List D) where
   -- a node over no changed leaf keeps its digest
-  pub unchanged_digest : (t : Tree) → IsBuilt (forest rule (length X)).nodes t → is_touched m t ≡ false → digest_at h (changed h rule m X added) t ≡ digest_at h X t
+  pub unchanged_digest : (t : Tree) → IsBuilt (forest rule (length X)).nodes t → is_dirty m t ≡ false → digest_at h (changed h rule m X added) t ≡ digest_at h X t
   unchanged_digest (leaf q k) b u =
       let a = leaf_at rule (length X) q q k b in
       let Y : List D = changed h rule m X added in
       let x = get_exists X k a.1 in
-      let here : slice_get Y k ≡ Some x.0 = changed_old h rule m X added k a.1 ∙ ap (λ o. over o (slice_get X k)) (ap m (sym a.0) ∙ none_of (m q) u) ∙ over_none (slice_get X k) ∙ x.1 in
+      let here : slice_get Y k ≡ Some x.0 = changed_old h rule m X added k a.1 ∙ ap (λ o. overwritten_by o (slice_get X k)) (ap m (sym a.0) ∙ none_of (m q) u) ∙ over_none (slice_get X k) ∙ x.1 in
       get_or_from_slice_get Y k x.0 h.empty here ∙ sym (get_or_from_slice_get X k x.0 h.empty x.1)
   unchanged_digest (join q l r) b u =
-      let n = or_parts (is_touched m l) (is_touched m r) u in
+      let n = or_parts (is_dirty m l) (is_dirty m r) u in
       ap (λ d. h.node q d (digest_at h (changed h rule m X added) r)) (unchanged_digest l b.4 n.0) ∙ ap (λ d. h.node q (digest_at h X l) d) (unchanged_digest r b.5 n.1)
 
   -- a changed leaf has its new digest
   pub changed_digest : (k : ℕ) (d : D) → k < length X → m (size rule k) ≡ Some d → d ≡ digest_at h (changed h rule m X added) (leaf (size rule k) k)
   changed_digest k d l e =
       let x = get_exists X k l in
-      sym (get_or_from_slice_get (changed h rule m X added) k d h.empty (changed_old h rule m X added k l ∙ ap (λ o. over o (slice_get X k)) e ∙ over_new d (slice_get X k) x.0 x.1))
+      sym (get_or_from_slice_get (changed h rule m X added) k d h.empty (changed_old h rule m X added k l ∙ ap (λ o. overwritten_by o (slice_get X k)) e ∙ over_new d (slice_get X k) x.0 x.1))
 
-module _ {D : Type 0} (h : Hashing D) (rule : List ℕ → List ℕ) (max_leaves : ℕ) (p : Pending D) (pending : IsPending rule max_leaves p) (ls : List (List D)) (stands : StandsOn h rule (records p.parent) ls) where
+module _ {D : Type 0} (h : Hashing D) (rule : List ℕ → List ℕ) (max_leaves : ℕ) (p : UnmerkleizedModel D) (pending : IsUnmerkleizedValid rule max_leaves p) (ls : List (List D)) (stands : IsHistory h rule (records p.parent) ls) where
   abbrev last : List D
   last = last_list ls
 
@@ -78,13 +78,13 @@ module _ {D : Type 0} (h : Hashing D) (rule : List ℕ → List ℕ) (max_leaves
   leaves_of = pending.leaves
 
   -- the added leaves
-  pub list_leaves : LeavesAre (truth_of h rule max_leaves list) rule p.leaves_before p.added
-  list_leaves = subst (λ (n : ℕ). LeavesAre (truth_of h rule max_leaves list) rule n p.added) (replaced_length rule (get p.overwritten) 0 last ∙ sym leaves_are)
+  pub list_leaves : HasLeaves (truth_of h rule max_leaves list) rule p.leaves_before p.added
+  list_leaves = subst (λ (n : ℕ). HasLeaves (truth_of h rule max_leaves list) rule n p.added) (replaced_length rule (get p.overwritten) 0 last ∙ sym leaves_are)
       (truth_leaves h rule max_leaves list list_within (replaced rule (get p.overwritten) 0 last) p.added refl)
 
   module _ (base : Contents D) (agrees : AgreesWithOne h rule base (kept_lists p ls)) where
     -- an untouched node that is read has its digest of the new list
-    below_right : (q : ℕ) (t : Tree) (d : D) → slice_get (forest rule p.leaves_before).nodes q ≡ Some t → is_touched (get p.overwritten) t ≡ false → read_over (kept p) base q ≡ Some d → d ≡ digest_at h list t
+    below_right : (q : ℕ) (t : Tree) (d : D) → slice_get (forest rule p.leaves_before).nodes q ≡ Some t → is_dirty (get p.overwritten) t ≡ false → read_over (kept p) base q ≡ Some d → d ≡ digest_at h list t
     below_right q t d e u g =
         (let k = kept_stands h rule p ls pending.some stands in
         let there : slice_get (k.0 ∷ k.1) agrees.0 ≡ Some agrees.1 = ap (λ xs. slice_get xs agrees.0) (sym k.2) ∙ agrees.2 in
@@ -97,23 +97,23 @@ module _ {D : Type 0} (h : Hashing D) (rule : List ℕ → List ℕ) (max_leaves
     leaf_told : (k : ℕ) (d : D) → k < p.leaves_before → get p.overwritten (size rule k) ≡ Some d → d ≡ digest_at h list (leaf (size rule k) k)
     leaf_told k d l e = changed_digest h rule (get p.overwritten) last p.added k d (omega (arith, l, leaves_are)) e
 
-    module _ (O : FinMap nat_cmp D) (done : AreRefreshed h (get p.overwritten) (read_over (kept p) base) (peaks_of rule p.leaves_before))
+    module _ (O : FinMap nat_cmp D) (done : HaveDirtyDigests h (get p.overwritten) (read_over (kept p) base) (peaks_of rule p.leaves_before))
         (is : (q : ℕ) → get O q ≡ option_or (all_computed_at h (get p.overwritten) (read_over (kept p) base) (peaks_of rule p.leaves_before) q) (get p.overwritten q)) where
-      fact : (q : ℕ) (t : Tree) → slice_get (forest rule p.leaves_before).nodes q ≡ Some t → get O q ≡ cond (is_touched (get p.overwritten) t) (refreshed h (get p.overwritten) (read_over (kept p) base) t) None
+      fact : (q : ℕ) (t : Tree) → slice_get (forest rule p.leaves_before).nodes q ≡ Some t → get O q ≡ cond (is_dirty (get p.overwritten) t) (dirty_digest h (get p.overwritten) (read_over (kept p) base) t) None
       fact = new_digest h rule p.leaves_before (get p.overwritten) (read_over (kept p) base) (get O) leaves_of done is
 
-      some : (q : ℕ) (t : Tree) → slice_get (forest rule p.leaves_before).nodes q ≡ Some t → is_touched (get p.overwritten) t ≡ true → is_some (refreshed h (get p.overwritten) (read_over (kept p) base) t) ≡ true
+      some : (q : ℕ) (t : Tree) → slice_get (forest rule p.leaves_before).nodes q ≡ Some t → is_dirty (get p.overwritten) t ≡ true → is_some (dirty_digest h (get p.overwritten) (read_over (kept p) base) t) ≡ true
       some = new_digest_some h rule p.leaves_before (get p.overwritten) (read_over (kept p) base) (get O) leaves_of done is
 
       -- what is read at old positions is right
-      pub list_reads : ReadsTrue (λ q. option_or (get O q) (read_over (kept p) base q)) (size rule p.leaves_before) (truth_of h rule max_leaves list)
+      pub list_reads : ReadsAgree (λ q. option_or (get O q) (read_over (kept p) base q)) (size rule p.leaves_before) (truth_of h rule max_leaves list)
       list_reads =
           old_reads h rule p.leaves_before (get p.overwritten) (read_over (kept p) base) list (get O) fact some below_right leaf_told max_leaves list_within
           (omega (arith, pending.bounded))
 
       -- and the record with the new nodes and peaks makes the batch stand on lists
-      pub list_stands : (r : Recorded D) → r.before ≡ size rule p.leaves_before → r.overwritten ≡ O → r.appended ≡ drop (size rule p.leaves_before) (node_digests h rule list) → r.peaks_before ≡ p.parent.own.peaks_after → r.peaks_after ≡ peak_digests h rule list →
-          StandsOn h rule (kept p ++ r ∷ []) (kept_lists p ls ++ list ∷ [])
+      pub list_stands : (r : RecordModel D) → r.before ≡ size rule p.leaves_before → r.overwritten ≡ O → r.appended ≡ drop (size rule p.leaves_before) (node_digests h rule list) → r.peaks_before ≡ p.parent.own.peaks_after → r.peaks_after ≡ peak_digests h rule list →
+          IsHistory h rule (kept p ++ r ∷ []) (kept_lists p ls ++ list ∷ [])
       list_stands r before overwritten appended peaks_before peaks_after =
           (let k = kept_stands h rule p ls pending.some stands in
           let n : size rule p.leaves_before ≡ size rule (length last) = ap (size rule) leaves_are in
@@ -124,7 +124,7 @@ module _ {D : Type 0} (h : Hashing D) (rule : List ℕ → List ℕ) (max_leaves
           (peaks_before ∙ (last_size h rule p.parent ls stands).1) peaks_after in
           let made : record { before = size rule (length last); peaks_before = r.peaks_before; appended = r.appended; overwritten = O; peaks_after = r.peaks_after } ≡ r =
           (λ i. record { before = sym (before ∙ n) i; peaks_before = r.peaks_before; appended = r.appended; overwritten = sym overwritten i; peaks_after = r.peaks_after }) in
-          subst (λ xs. StandsOn h rule (kept p ++ r ∷ []) (xs ++ list ∷ [])) (sym k.2)
+          subst (λ xs. IsHistory h rule (kept p ++ r ∷ []) (xs ++ list ∷ [])) (sym k.2)
           (stands_more h rule (kept p) (k.0 ∷ k.1) r list k.3 (subst (λ X. IsStep h rule r X list) (sym k.4) (subst (λ s. IsStep h rule s last list) made step))))
 
     -- where the changed leaves stand at the base's boundary or after it no needed node is missing
@@ -133,7 +133,7 @@ module _ {D : Type 0} (h : Hashing D) (rule : List ℕ → List ℕ) (max_leaves
         (let k = kept_stands h rule p ls pending.some stands in
         let there : slice_get (k.0 ∷ k.1) agrees.0 ≡ Some agrees.1 = ap (λ xs. slice_get xs agrees.0) (sym k.2) ∙ agrees.2 in
         let n : p.leaves_before ≡ length (last_list (k.0 ∷ k.1)) = leaves_are ∙ ap length (sym k.4) in
-        let r : Recorded D = record { before = 0; peaks_before = []; appended = []; overwritten = p.overwritten; peaks_after = [] } in
+        let r : RecordModel D = record { before = 0; peaks_before = []; appended = []; overwritten = p.overwritten; peaks_after = [] } in
         let x = none_missing h rule (kept p) k.0 k.1 base agrees.0 agrees.1 k.3 there agrees.3 r (leaf_total p) (omega (arith, n)) above t
         (subst (λ (n : ℕ). IsNeeded rule (get p.overwritten) n (leaf_total p) t) n missing.0) in
         let c : None ≡ Some x.0 = sym missing.1 ∙ x.1 in cc)

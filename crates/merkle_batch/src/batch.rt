@@ -10,10 +10,10 @@ ghost use Rattle.merkle_base.specs.Places.{peaks_of};
 ghost use Rattle.merkle_base.specs.Tree.{Tree, position};
 ghost use Rattle.merkle_batch_theory.specs.Contents.{AgreesWithOne};
 ghost use Rattle.merkle_batch_theory.specs.Missing.{IsMissing};
-ghost use Rattle.merkle_batch_theory.specs.Pending.{Fault, first_fault, forked, kept, kept_lists, leaf_total, pending_list, update_fault, with_entries, with_leaf, with_leaves, with_update, with_updates, without_ancestors};
-ghost use Rattle.merkle_batch_theory.specs.Recorded.{after, records};
+ghost use Rattle.merkle_batch_theory.specs.Unmerkleized.{Fault, first_fault, forked, kept, kept_lists, leaf_total, pending_list, update_fault, with_entries, with_leaf, with_leaves, with_update, with_updates, without_ancestors};
+ghost use Rattle.merkle_batch_theory.specs.Records.{after, records};
 ghost use Rattle.merkle_batch_theory.specs.Refusals.{fault_error};
-ghost use Rattle.merkle_batch_theory.specs.Stands.{StandsOn, last_list};
+ghost use Rattle.merkle_batch_theory.specs.History.{IsHistory, last_list};
 
 pub use crate::merkleized::MerkleizedBatch;
 use merkle_base::error::Error;
@@ -48,11 +48,11 @@ pub struct UnmerkleizedBatch<F: Family, D: Digest> {
 
 impl<F: Family, D: Digest> Model for UnmerkleizedBatch<F, D> {
     ghost use Rattle.std.specs.FinMap.{from_entries};
-    ghost use Rattle.merkle_batch_theory.specs.Pending.{IsPending, Pending, pending_code};
+    ghost use Rattle.merkle_batch_theory.specs.Unmerkleized.{IsUnmerkleizedValid, UnmerkleizedModel, unmerkleized_model_code};
 
-    ghost Value = { Pending D };
+    ghost Value = { UnmerkleizedModel D };
 
-    ghost coded = { pending_code D.code };
+    ghost coded = { unmerkleized_model_code D.code };
 
     ghost view = { λ b. record {
       parent = b.parent.value;
@@ -62,7 +62,7 @@ impl<F: Family, D: Digest> Model for UnmerkleizedBatch<F, D> {
       forgotten = b.forgotten;
     } };
 
-    ghost invariant = { λ b. IsPending F.rule F.MAX_LEAVES (record {
+    ghost invariant = { λ b. IsUnmerkleizedValid F.rule F.MAX_LEAVES (record {
       parent = b.parent.value;
       leaves_before = b.leaves_before;
       added = b.added.items;
@@ -274,10 +274,10 @@ impl<F: Family, D: Digest> UnmerkleizedBatch<F, D> {
 
         // Where its parent stands on lists and the base agrees with one that the kept records start from or reach, it stands
         // on these and on the last of them with its changes.
-        ensures stands { let h = H.hashing hasher.now in IfOk result (λ b. (ls : List (List D)) → StandsOn h F.rule (records self.parent) ls
+        ensures stands { let h = H.hashing hasher.now in IfOk result (λ b. (ls : List (List D)) → IsHistory h F.rule (records self.parent) ls
             → AgreesWithOne h F.rule (B.contents base.now) (kept_lists self ls)
-            → StandsOn h F.rule (records b.value) (kept_lists self ls ++ pending_list F.rule self (last_list ls) ∷ [])) }
-        ensures given { (h : Hashing D) → (ls : List (List D)) → StandsOn h F.rule (records self.parent) ls
+            → IsHistory h F.rule (records b.value) (kept_lists self ls ++ pending_list F.rule self (last_list ls) ∷ [])) }
+        ensures given { (h : Hashing D) → (ls : List (List D)) → IsHistory h F.rule (records self.parent) ls
             → AgreesWithOne h F.rule (B.contents base.now) (kept_lists self ls)
             → ((k : ℕ) → is_some (get self.overwritten (size F.rule k)) ≡ true → (B.contents base.now).boundary ≤ k)
             → IsOkUnless result Error.OutOfMemory }
@@ -303,10 +303,10 @@ impl<F: Family, D: Digest> UnmerkleizedBatch<F, D> {
 
         // Where its parent stands on lists and the base agrees with one that the kept records start from or reach, it stands
         // on these and on the last of them with its changes.
-        ensures stands { let h = H.hashing hasher.now in IfOk result (λ b. (ls : List (List D)) → StandsOn h F.rule (records self.now.parent) ls
+        ensures stands { let h = H.hashing hasher.now in IfOk result (λ b. (ls : List (List D)) → IsHistory h F.rule (records self.now.parent) ls
             → AgreesWithOne h F.rule (B.contents base.now) (kept_lists self.now ls)
-            → StandsOn h F.rule (records b.value) (kept_lists self.now ls ++ pending_list F.rule self.now (last_list ls) ∷ [])) }
-        ensures given { (h : Hashing D) → (ls : List (List D)) → StandsOn h F.rule (records self.now.parent) ls
+            → IsHistory h F.rule (records b.value) (kept_lists self.now ls ++ pending_list F.rule self.now (last_list ls) ∷ [])) }
+        ensures given { (h : Hashing D) → (ls : List (List D)) → IsHistory h F.rule (records self.now.parent) ls
             → AgreesWithOne h F.rule (B.contents base.now) (kept_lists self.now ls)
             → ((k : ℕ) → is_some (get self.now.overwritten (size F.rule k)) ≡ true → (B.contents base.now).boundary ≤ k)
             → IsOkUnless result Error.OutOfMemory }

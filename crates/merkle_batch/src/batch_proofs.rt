@@ -5,8 +5,8 @@ ghost use Rattle.merkle_base.specs.Places.{peaks_of};
 ghost use Rattle.merkle_forest_theory.specs.FewPeaks.{FewPeaks};
 ghost use Rattle.merkle_batch_theory.specs.Contents.{AgreesWithOne};
 ghost use Rattle.merkle_batch_theory.specs.Read.{read_over};
-ghost use Rattle.merkle_batch_theory.specs.Recorded.{records};
-ghost use Rattle.merkle_batch_theory.specs.Stands.{StandsOn, last_list};
+ghost use Rattle.merkle_batch_theory.specs.Records.{records};
+ghost use Rattle.merkle_batch_theory.specs.History.{IsHistory, last_list};
 ghost use Rattle.merkle_proof.specs.ProofRefusals.{IsProofRefusal, IsRangeRefusal};
 ghost use Rattle.merkle_proof.specs.RangePlans.{IsBuildRefusal, IsBuiltProof, LeafRange, list_input};
 ghost use Rattle.merkle_root_theory.specs.Range.{IsHonestRange};
@@ -54,7 +54,7 @@ impl<F: Family, D: Digest> MerkleizedBatch<F, D> {
         ensures built { let s = H.scheme hasher.now in
             IfOk result (λ p. IsBuiltProof s (read_over (records self.now) (B.contents base.now)) inactive plan p) }
         ensures honest { let s = H.scheme hasher.now in
-            (ls : List (List D)) → length (last_list ls) ≡ plan.leaves → StandsOn (H.hashing hasher.now) F.rule (records self.now) ls
+            (ls : List (List D)) → length (last_list ls) ≡ plan.leaves → IsHistory (H.hashing hasher.now) F.rule (records self.now) ls
             → AgreesWithOne (H.hashing hasher.now) F.rule (B.contents base.now) ls
             → IfOk result (λ p. IsHonestRange s (last_list ls) inactive (list_input p (last_list ls) plan.start plan.end)) }
         ensures err { let bagging = H.bagging_of hasher.now in let node = read_over (records self.now) (B.contents base.now) in
@@ -86,10 +86,10 @@ impl<F: Family, D: Digest> MerkleizedBatch<F, D> {
 
         // Where it stands on lists and the base agrees with one of them, it is the honest proof of the last list.
         ensures honest { let s = H.scheme hasher.now in
-            (ls : List (List D)) → StandsOn (H.hashing hasher.now) F.rule (records self.now) ls
+            (ls : List (List D)) → IsHistory (H.hashing hasher.now) F.rule (records self.now) ls
             → AgreesWithOne (H.hashing hasher.now) F.rule (B.contents base.now) ls
             → let X = last_list ls in IfOk result (λ p. location < length X × IsHonestRange s X inactive (list_input p X location (location + 1))) }
-        ensures given { (h : Hashing D) → (ls : List (List D)) → StandsOn h F.rule (records self.now) ls
+        ensures given { (h : Hashing D) → (ls : List (List D)) → IsHistory h F.rule (records self.now) ls
             → AgreesWithOne h F.rule (B.contents base.now) ls → (B.contents base.now).boundary ≤ location → location < length (last_list ls)
             → inactive ≤ length (peaks_of F.rule (length (last_list ls))) → IsOkUnless result Error.OutOfMemory }
         ensures few { FewPeaks F.rule F.MAX_LEAVES → IfOk result (λ p. length p.digests.items ≤ 122) }
@@ -133,11 +133,11 @@ impl<F: Family, D: Digest> MerkleizedBatch<F, D> {
 
         // Where it stands on lists and the base agrees with one of them, it is the honest proof of the last list.
         ensures honest { let s = H.scheme hasher.now in
-            (ls : List (List D)) → StandsOn (H.hashing hasher.now) F.rule (records self.now) ls
+            (ls : List (List D)) → IsHistory (H.hashing hasher.now) F.rule (records self.now) ls
             → AgreesWithOne (H.hashing hasher.now) F.rule (B.contents base.now) ls
             → let X = last_list ls in IfOk result (λ p. (range.start < range.end) × (range.end ≤ length X)
             × IsHonestRange s X inactive (list_input p X range.start range.end)) }
-        ensures given { (h : Hashing D) → (ls : List (List D)) → StandsOn h F.rule (records self.now) ls
+        ensures given { (h : Hashing D) → (ls : List (List D)) → IsHistory h F.rule (records self.now) ls
             → AgreesWithOne h F.rule (B.contents base.now) ls → (B.contents base.now).boundary ≤ range.start → range.start < range.end
             → range.end ≤ length (last_list ls) → inactive ≤ length (peaks_of F.rule (length (last_list ls)))
             → IsOkUnless result Error.OutOfMemory }

@@ -2,7 +2,7 @@
 ghost use Rattle.std.specs.Prelude.{◌≡◌, List, ◌∷◌, [], ◌++◌, ◌≤◌, ◌<◌, Some, Ok, Err, cond, drop, slice_get, length, IfOk, IsOkUnless};
 ghost use Rattle.std.specs.Rc.{rc_slice_items};
 ghost use Rattle.merkle_batch.specs.Finished.{finished};
-ghost use Rattle.merkle_batch_theory.specs.Linked.{IsLinked};
+ghost use Rattle.merkle_batch_theory.specs.BatchValid.{IsBatchValid};
 ghost use Rattle.std.specs.FinMap.{empty};
 ghost use Rattle.merkle_base.specs.Digests.{node_digests};
 ghost use Rattle.merkle_base.specs.Forest.{size};
@@ -11,11 +11,11 @@ ghost use Rattle.merkle_base.specs.Places.{peaks_of};
 ghost use Rattle.merkle_base.specs.Root.{list_root, peaks_root};
 ghost use Rattle.merkle_base.specs.Shows.{Shows};
 ghost use Rattle.merkle_batch_theory.specs.Contents.{Agrees};
-ghost use Rattle.merkle_batch_theory.specs.Pending.{forked, is_changed};
+ghost use Rattle.merkle_batch_theory.specs.Unmerkleized.{forked, is_changed};
 ghost use Rattle.merkle_batch_theory.specs.Read.{newest};
-ghost use Rattle.merkle_batch_theory.specs.Recorded.{after, records};
+ghost use Rattle.merkle_batch_theory.specs.Records.{after, records};
 ghost use Rattle.merkle_batch_theory.specs.Roots.{root_batch};
-ghost use Rattle.merkle_batch_theory.specs.Stands.{StandsOn, last_list};
+ghost use Rattle.merkle_batch_theory.specs.History.{IsHistory, last_list};
 
 use crate::batch::UnmerkleizedBatch;
 use merkle_base::error::Error;
@@ -52,12 +52,12 @@ pub struct MerkleizedBatch<F: Family, D: Digest> {
 
 impl<F: Family, D: Digest> Model for MerkleizedBatch<F, D> {
     ghost use Rattle.std.specs.Prelude.{map};
-    ghost use Rattle.merkle_batch_theory.specs.Linked.{IsLinked};
-    ghost use Rattle.merkle_batch_theory.specs.Recorded.{Chain, chain_code};
+    ghost use Rattle.merkle_batch_theory.specs.BatchValid.{IsBatchValid};
+    ghost use Rattle.merkle_batch_theory.specs.Records.{MerkleizedModel, merkleized_model_code};
 
-    ghost Value = { Chain D };
+    ghost Value = { MerkleizedModel D };
 
-    ghost coded = { chain_code D.code };
+    ghost coded = { merkleized_model_code D.code };
 
     ghost view = { λ b. record {
       base_size = b.base_size;
@@ -67,7 +67,7 @@ impl<F: Family, D: Digest> Model for MerkleizedBatch<F, D> {
       leaves = b.leaves;
     } };
 
-    ghost invariant = { λ b. IsLinked F.rule F.MAX_LEAVES (record {
+    ghost invariant = { λ b. IsBatchValid F.rule F.MAX_LEAVES (record {
       base_size = b.base_size;
       boundary = b.pruning_boundary;
       ancestors = map (λ r. r.value) b.ancestors.items;
@@ -83,7 +83,7 @@ impl<F: Family, D: Digest> MerkleizedBatch<F, D> {
     pub fn from_mem<B: Base<F, Digest = D>>(base: &B) -> Result<Rc<Self>, Error<F>>
         ensures root { IfOk result (λ b. b.value ≡ root_batch F.rule (B.leaves base.now) (B.contents base.now)) }
         ensures of_list { IfOk result (λ b. (h : Hashing D) → (X : List D) → Agrees h F.rule (B.contents base.now) X
-            → StandsOn h F.rule (records b.value) (X ∷ X ∷ [])) }
+            → IsHistory h F.rule (records b.value) (X ∷ X ∷ [])) }
         ensures refused { IsOkUnless result Error.OutOfMemory }
     {
         Ok(Self::without_changes(base)?)
@@ -152,7 +152,7 @@ impl<F: Family, D: Digest> MerkleizedBatch<F, D> {
         ensures newest { result ≡ newest (records self.now) position }
 
         // Where it stands on lists, it is the last list's.
-        ensures listed { (h : Hashing D) → (ls : List (List D)) → (d : D) → StandsOn h F.rule (records self.now) ls → result ≡ Some d
+        ensures listed { (h : Hashing D) → (ls : List (List D)) → (d : D) → IsHistory h F.rule (records self.now) ls → result ≡ Some d
             → slice_get (node_digests h F.rule (last_list ls)) position ≡ Some d }
     {
         match self.own.get_node(position) {
@@ -170,10 +170,10 @@ impl<F: Family, D: Digest> MerkleizedBatch<F, D> {
         ensures err { let count = length (peaks_of F.rule self.now.leaves) in count < inactive → result ≡ Err (Error.InvalidInactivePeaks inactive count) }
 
         // Where it stands on lists, it is the last list's.
-        ensures listed { (ls : List (List D)) → StandsOn (H.hashing hasher.now) F.rule (records self.now) ls
+        ensures listed { (ls : List (List D)) → IsHistory (H.hashing hasher.now) F.rule (records self.now) ls
             → let X = last_list ls in inactive ≤ length (peaks_of F.rule (length X))
             → result ≡ Ok (list_root (H.scheme hasher.now) X inactive) }
-        ensures too_many { (h : Hashing D) → (ls : List (List D)) → StandsOn h F.rule (records self.now) ls
+        ensures too_many { (h : Hashing D) → (ls : List (List D)) → IsHistory h F.rule (records self.now) ls
             → let count = length (peaks_of F.rule (length (last_list ls))) in count < inactive → result ≡ Err (Error.InvalidInactivePeaks inactive count) }
     {
         hasher.root(self.leaves, inactive, self.own.peaks_after.as_slice())
@@ -214,7 +214,7 @@ impl<F: Family, D: Digest> MerkleizedBatch<F, D> {
         peaks_before: RcSlice<D>,
         peaks_after: RcSlice<D>,
     ) -> Result<Rc<Self>, AllocError>
-        requires { IsLinked F.rule F.MAX_LEAVES (finished self.now draft leaves (rc_slice_items peaks_before) (rc_slice_items peaks_after)) }
+        requires { IsBatchValid F.rule F.MAX_LEAVES (finished self.now draft leaves (rc_slice_items peaks_before) (rc_slice_items peaks_after)) }
         ensures { IfOk result (λ b. b.value ≡ finished self.now draft leaves (rc_slice_items peaks_before) (rc_slice_items peaks_after)) }
     {
         let alloc = self.allocator();
@@ -254,7 +254,7 @@ impl<F: Family, D: Digest> Readable for MerkleizedBatch<F, D> {
         ensures count { result ≡ after self.now.own }
 
         // Where it stands on lists, it shows the last of them.
-        ensures shows { (h : Hashing D) → (ls : List (List D)) → StandsOn h F.rule (records self.now) ls
+        ensures shows { (h : Hashing D) → (ls : List (List D)) → IsHistory h F.rule (records self.now) ls
             → Shows h F.rule (after self.now.own) (newest (records self.now)) (last_list ls) }
     {
         MerkleizedBatch::size(self)

@@ -10,14 +10,14 @@ use Rattle.merkle_base.specs.Forest.{forest, size}
 use Rattle.merkle_base.proofs.Lists.{get_front}
 use Rattle.merkle_base.proofs.Nodes.{size_le, size_inj}
 use Rattle.merkle_base.proofs.Lookup.{peak_node}
-use Rattle.merkle_base.specs.Hashing.{Hashing, TellsApart}
+use Rattle.merkle_base.specs.Hashing.{Hashing, EqDecides}
 use Rattle.merkle_base.specs.Digests.{digest_at, node_digests, peak_digests}
 use Rattle.merkle_batch_theory.specs.Contents.{Contents, Agrees, is_kept, held_peaks}
-use Rattle.merkle_batch_theory.specs.Recorded.{Recorded, Chain, records, after}
-use Rattle.merkle_batch_theory.specs.Replay.{all_laid, last_match, oldest, begins_at, ends_at, matched}
-use Rattle.merkle_batch_theory.specs.Stands.{IsStep, StandsOn, last_list}
+use Rattle.merkle_batch_theory.specs.Records.{RecordModel, MerkleizedModel, records, after}
+use Rattle.merkle_batch_theory.specs.Replay.{with_records, last_match, oldest, begins_at, ends_at, matched}
+use Rattle.merkle_batch_theory.specs.History.{IsStep, IsHistory, last_list}
 use Rattle.merkle_batch_theory.specs.Collision.{Collide}
-use Rattle.merkle_batch_theory.proofs.Items.{get_reversed}
+use Rattle.merkle_batch_theory.proofs.ListFacts.{get_reversed}
 use Rattle.merkle_batch_theory.proofs.Kept.{kept_before, kept_peak}
 use Rattle.merkle_batch_theory.proofs.Steps.{node_digest_at, step_size}
 use Rattle.merkle_batch_theory.proofs.Agreed.{agree_all}
@@ -54,7 +54,7 @@ module _ {D : Type 0} (h : Hashing D) (rule : List ℕ → List ℕ) where
       (node_digest_at h rule X (position t) t (peak_node rule (length X) j.0 t j.1))))
 
   -- the record at a place changes the list there to the next
-  pub stands_at : (rs : List (Recorded D)) (ls : List (List D)) (j : ℕ) (r : Recorded D) → StandsOn h rule rs ls → slice_get rs j ≡ Some r → (X Y : List D) × (slice_get ls j ≡ Some X) × (slice_get ls (suc j) ≡ Some Y) × IsStep h rule r X Y
+  pub stands_at : (rs : List (RecordModel D)) (ls : List (List D)) (j : ℕ) (r : RecordModel D) → IsHistory h rule rs ls → slice_get rs j ≡ Some r → (X Y : List D) × (slice_get ls j ≡ Some X) × (slice_get ls (suc j) ≡ Some Y) × IsStep h rule r X Y
   stands_at rs [] j r s e = absurd s
   stands_at [] (X ∷ ls) j r s e = absurd (cc)
   stands_at (q ∷ rs) (X ∷ []) j r s e = absurd s
@@ -62,9 +62,9 @@ module _ {D : Type 0} (h : Hashing D) (rule : List ℕ → List ℕ) where
   stands_at (q ∷ rs) (X ∷ Y ∷ ls) (suc j) r s e = stands_at rs (Y ∷ ls) j r s.1 e
 
   -- the records from there on stand on the lists from there on
-  pub stands_from : (rs : List (Recorded D)) (ls : List (List D)) (i : ℕ) (X : List D) → StandsOn h rule rs ls → slice_get ls i ≡ Some X → (more : List (List D)) × StandsOn h rule (drop i rs) (X ∷ more) × (last_list (X ∷ more) ≡ last_list ls)
+  pub stands_from : (rs : List (RecordModel D)) (ls : List (List D)) (i : ℕ) (X : List D) → IsHistory h rule rs ls → slice_get ls i ≡ Some X → (more : List (List D)) × IsHistory h rule (drop i rs) (X ∷ more) × (last_list (X ∷ more) ≡ last_list ls)
   stands_from rs [] i X s e = absurd s
-  stands_from rs (Y ∷ ls) zero X s e = (let d : Y ≡ X = cc in (ls, subst (λ z. StandsOn h rule rs (z ∷ ls)) d s, ap (λ z. last_list (z ∷ ls)) (sym d)))
+  stands_from rs (Y ∷ ls) zero X s e = (let d : Y ≡ X = cc in (ls, subst (λ z. IsHistory h rule rs (z ∷ ls)) d s, ap (λ z. last_list (z ∷ ls)) (sym d)))
   stands_from [] (Y ∷ []) (suc i) X s e = absurd (cc)
   stands_from [] (Y ∷ Z ∷ ls) (suc i) X s e = absurd s
   stands_from (r ∷ rs) (Y ∷ []) (suc i) X s e = absurd (cc)
@@ -73,18 +73,18 @@ module _ {D : Type 0} (h : Hashing D) (rule : List ℕ → List ℕ) where
   abbrev Accepts : ℕ → List D → List D → Type 0
   Accepts n ps Z = (n ≡ size rule (length Z)) × (ps ≡ peak_digests h rule Z)
 
-  matches : TellsApart h → (n : ℕ) (ps qs : List D) (m : ℕ) → (n == m) && pointwise h.same ps qs ≡ true → (n ≡ m) × (ps ≡ qs)
+  matches : EqDecides h → (n : ℕ) (ps qs : List D) (m : ℕ) → (n == m) && pointwise h.same ps qs ≡ true → (n ≡ m) × (ps ≡ qs)
   matches law n ps qs m e = (let k = and_parts (n == m) (pointwise h.same ps qs) e in (eqb-true n m k.0, (pointwise_decides law ps qs).0 k.1))
 
-  pub head_stands : (k : Chain D) (ls : List (List D)) → StandsOn h rule (records k) ls → (X Y : List D) × (slice_get ls 0 ≡ Some X) × (slice_get ls 1 ≡ Some Y) × IsStep h rule (oldest k) X Y
+  pub head_stands : (k : MerkleizedModel D) (ls : List (List D)) → IsHistory h rule (records k) ls → (X Y : List D) × (slice_get ls 0 ≡ Some X) × (slice_get ls 1 ≡ Some Y) × IsStep h rule (oldest k) X Y
   head_stands k ls s = stands_at (records k) ls 0 (oldest k) s (first k.ancestors k.own)
     where
-      first : (rs : List (Recorded D)) (own : Recorded D) → slice_get (rs ++ own ∷ []) 0 ≡ Some (elim rs [ [] ↦ own | r ∷ rs ↦ r ])
+      first : (rs : List (RecordModel D)) (own : RecordModel D) → slice_get (rs ++ own ∷ []) 0 ≡ Some (elim rs [ [] ↦ own | r ∷ rs ↦ r ])
       first [] own = refl
       first (r ∷ rs) own = refl
 
   -- the state that is matched is the one of a list of that size and those peak digests
-  pub matched_list : TellsApart h → (k : Chain D) (ls : List (List D)) (n : ℕ) (ps : List D) (i : ℕ) → StandsOn h rule (records k) ls → matched h.same n ps k ≡ Some i → (Z : List D) × (slice_get ls i ≡ Some Z) × Accepts n ps Z
+  pub matched_list : EqDecides h → (k : MerkleizedModel D) (ls : List (List D)) (n : ℕ) (ps : List D) (i : ℕ) → IsHistory h rule (records k) ls → matched h.same n ps k ≡ Some i → (Z : List D) × (slice_get ls i ≡ Some Z) × Accepts n ps Z
   matched_list law k ls n ps i s e = by_test (λ t. begins_at h.same n ps (oldest k) ≡ t → cond t (Some 0) (last_match (ends_at h.same n ps) k.ancestors) ≡ Some i → (Z : List D) × (slice_get ls i ≡ Some Z) × Accepts n ps Z) (begins_at h.same n ps (oldest k))
       (λ t u f. (let z : 0 ≡ i = cc in
       let w = head_stands k ls s in
@@ -97,8 +97,8 @@ module _ {D : Type 0} (h : Hashing D) (rule : List ℕ → List ℕ) where
       refl e
 
   -- an accepted batch: the `Mem` agrees with the last list after it, or its list and the one of the matched state collide
-  pub accepted : TellsApart h → (k : Chain D) (ls : List (List D)) (c : Contents D) (X : List D) (i : ℕ) → StandsOn h rule (records k) ls → Agrees h rule c X → matched h.same c.size (held_peaks rule (length X) c) k ≡ Some i →
-      (Z : List D) × (slice_get ls i ≡ Some Z) × (length X ≡ length Z) × (peak_digests h rule X ≡ peak_digests h rule Z) × (X ≡ Z → Agrees h rule (all_laid (drop i (records k)) c) (last_list ls)) × ((X ≡ Z → ⊥) → Collide h rule X Z)
+  pub accepted : EqDecides h → (k : MerkleizedModel D) (ls : List (List D)) (c : Contents D) (X : List D) (i : ℕ) → IsHistory h rule (records k) ls → Agrees h rule c X → matched h.same c.size (held_peaks rule (length X) c) k ≡ Some i →
+      (Z : List D) × (slice_get ls i ≡ Some Z) × (length X ≡ length Z) × (peak_digests h rule X ≡ peak_digests h rule Z) × (X ≡ Z → Agrees h rule (with_records (drop i (records k)) c) (last_list ls)) × ((X ≡ Z → ⊥) → Collide h rule X Z)
   accepted law k ls c X i s a e =
       let w = matched_list law k ls c.size (held_peaks rule (length X) c) i s e in
       let l : length X ≡ length w.0 = size_inj rule (length X) (length w.0) (sym a.sized ∙ w.2.0) in
@@ -108,6 +108,6 @@ module _ {D : Type 0} (h : Hashing D) (rule : List ℕ → List ℕ) where
         w.1,
         l,
         p,
-        λ d. subst (λ L. Agrees h rule (all_laid (drop i (records k)) c) L) f.2 (agree_all h rule (drop i (records k)) w.0 f.0 c f.1 (subst (λ L. Agrees h rule c L) d a)),
+        λ d. subst (λ L. Agrees h rule (with_records (drop i (records k)) c) L) f.2 (agree_all h rule (drop i (records k)) w.0 f.0 c f.1 (subst (λ L. Agrees h rule c L) d a)),
         λ n. elim (same_or_collide h rule law X w.0 l p) [ inl d ↦ absurd (n d) | inr x ↦ x ],
       )

@@ -6,14 +6,14 @@ use Rattle.merkle_base.proofs.Nodes.{size_le}
 use Rattle.merkle_base.specs.Hashing.{Hashing}
 use Rattle.merkle_base.specs.Digests.{node_digests}
 use Rattle.merkle_batch_theory.specs.Contents.{Contents, Agrees, is_kept, pruned}
-use Rattle.merkle_batch_theory.specs.Recorded.{Recorded}
-use Rattle.merkle_batch_theory.specs.Replay.{over, laid, all_laid}
-use Rattle.merkle_batch_theory.specs.Stands.{IsStep, StandsOn, last_list}
+use Rattle.merkle_batch_theory.specs.Records.{RecordModel}
+use Rattle.merkle_batch_theory.specs.Replay.{overwritten_by, with_record, with_records}
+use Rattle.merkle_batch_theory.specs.History.{IsStep, IsHistory, last_list}
 use Rattle.merkle_batch_theory.proofs.Kept.{kept_from, kept_before}
 use Rattle.merkle_batch_theory.proofs.Steps.{step_old, step_new, step_size}
 use Rattle.merkle_base.proofs.Cases.{by_test}
 
-pub over_cond : {D : Type 0} (n : Option D) (b : Bool) (o : Option D) → over n (cond b o None) ≡ cond b (over n o) None
+pub over_cond : {D : Type 0} (n : Option D) (b : Bool) (o : Option D) → overwritten_by n (cond b o None) ≡ cond b (overwritten_by n o) None
 over_cond n true o = refl
 over_cond n false o = refl
 
@@ -22,7 +22,7 @@ cond_and a true o k = rw (k refl) refl
 cond_and a false o k = refl
 
 module _ {D : Type 0} (h : Hashing D) (rule : List ℕ → List ℕ) where
-  pub agree_laid : (r : Recorded D) (X Y : List D) (c : Contents D) → IsStep h rule r X Y → Agrees h rule c X → Agrees h rule (laid r c) Y
+  pub agree_laid : (r : RecordModel D) (X Y : List D) (c : Contents D) → IsStep h rule r X Y → Agrees h rule c X → Agrees h rule (with_record r c) Y
   agree_laid r X Y c s a = record {
     sized = ap (λ n. n + length r.appended) a.sized ∙ step_size h rule r X Y s;
     bounded = omega (arith, a.bounded, s.longer);
@@ -32,11 +32,11 @@ module _ {D : Type 0} (h : Hashing D) (rule : List ℕ → List ℕ) where
     ];
   }
 
-  pub agree_all : (rs : List (Recorded D)) (X : List D) (ls : List (List D)) (c : Contents D) → StandsOn h rule rs (X ∷ ls) → Agrees h rule c X → Agrees h rule (all_laid rs c) (last_list (X ∷ ls))
+  pub agree_all : (rs : List (RecordModel D)) (X : List D) (ls : List (List D)) (c : Contents D) → IsHistory h rule rs (X ∷ ls) → Agrees h rule c X → Agrees h rule (with_records rs c) (last_list (X ∷ ls))
   agree_all [] X [] c s a = a
   agree_all [] X (Y ∷ ls) c s a = absurd s
   agree_all (r ∷ rs) X [] c s a = absurd s
-  agree_all (r ∷ rs) X (Y ∷ ls) c s a = agree_all rs Y ls (laid r c) s.1 (agree_laid r X Y c s.0 a)
+  agree_all (r ∷ rs) X (Y ∷ ls) c s a = agree_all rs Y ls (with_record r c) s.1 (agree_laid r X Y c s.0 a)
 
   pub agree_kept : (b : ℕ) (X : List D) (c : Contents D) → c.boundary < b → b ≤ length X → Agrees h rule c X → Agrees h rule (record { boundary = b; size = c.size; node = λ p. cond (is_kept rule b p) (c.node p) None }) X
   agree_kept b X c l m a = record {

@@ -9,9 +9,9 @@ use Rattle.merkle_base.specs.Forest.{size}
 use Rattle.merkle_base.specs.Hashing.{Hashing}
 use Rattle.merkle_base.specs.Digests.{digest_at, node_digests, peak_digests}
 use Rattle.merkle_batch_theory.specs.Contents.{Contents}
-use Rattle.merkle_batch_theory.specs.Recorded.{Recorded}
-use Rattle.merkle_batch_theory.specs.Replay.{over}
-use Rattle.merkle_batch_theory.specs.Stands.{edited, is_touched, IsStep, StandsOn, last_list}
+use Rattle.merkle_batch_theory.specs.Records.{RecordModel}
+use Rattle.merkle_batch_theory.specs.Replay.{overwritten_by}
+use Rattle.merkle_batch_theory.specs.History.{edited, is_dirty, IsStep, IsHistory, last_list}
 use Rattle.merkle_batch_theory.proofs.Steps.{digests_length}
 use Rattle.merkle_batch_theory.proofs.Edits.{same_gets, old_entry, new_entry}
 use Rattle.merkle_batch_theory.proofs.OptionFacts.{over_none}
@@ -19,7 +19,7 @@ use Rattle.merkle_batch_theory.proofs.OptionFacts.{over_none}
 pub same_contents : {D : Type 0} (a b : Contents D) → a.boundary ≡ b.boundary → a.size ≡ b.size → ((p : ℕ) → a.node p ≡ b.node p) → a ≡ b
 same_contents a b e f g = λ i. record { boundary = e i; size = f i; node = λ p. g p i }
 
-untouched : {D : Type 0} (m : ℕ → Option D) → ((p : ℕ) → m p ≡ None) → (t : Tree) → is_touched m t ≡ false
+untouched : {D : Type 0} (m : ℕ → Option D) → ((p : ℕ) → m p ≡ None) → (t : Tree) → is_dirty m t ≡ false
 untouched m n (leaf p k) = ap is_some (n p)
 untouched m n (join p l r) = (λ i. untouched m n l i || untouched m n r i)
 
@@ -30,14 +30,14 @@ drop_all (suc n) [] l = refl
 drop_all (suc n) (x ∷ xs) l = drop_all n xs (omega arith)
 
 module _ {D : Type 0} (h : Hashing D) (rule : List ℕ → List ℕ) where
-  edited_none : (r : Recorded D) (X : List D) → r.before ≡ size rule (length X) → r.appended ≡ [] → ((p : ℕ) → get r.overwritten p ≡ None) → edited rule r X ≡ X
+  edited_none : (r : RecordModel D) (X : List D) → r.before ≡ size rule (length X) → r.appended ≡ [] → ((p : ℕ) → get r.overwritten p ≡ None) → edited rule r X ≡ X
   edited_none r X b a o = same_gets (edited rule r X) X (λ k. elim (cases_lt k (length X)) [
-    | inl l ↦ old_entry rule r X k l ∙ ap (λ m. over m (slice_get X k)) (o (size rule k)) ∙ over_none (slice_get X k)
+    | inl l ↦ old_entry rule r X k l ∙ ap (λ m. overwritten_by m (slice_get X k)) (o (size rule k)) ∙ over_none (slice_get X k)
     | inr l ↦ new_entry rule r X k b l ∙ ap (λ ds. slice_get ds (size rule k - r.before)) a ∙ sym (slice_get_past X k l)
   ])
 
   -- a record without changes, as a `Mem` gives it
-  pub still : (r : Recorded D) (X : List D) → r.before ≡ size rule (length X) → r.appended ≡ [] → ((p : ℕ) → get r.overwritten p ≡ None) → r.peaks_before ≡ peak_digests h rule X → r.peaks_after ≡ peak_digests h rule X → IsStep h rule r X X
+  pub still : (r : RecordModel D) (X : List D) → r.before ≡ size rule (length X) → r.appended ≡ [] → ((p : ℕ) → get r.overwritten p ≡ None) → r.peaks_before ≡ peak_digests h rule X → r.peaks_after ≡ peak_digests h rule X → IsStep h rule r X X
   still r X b a o u v = record {
     edit = sym (edited_none r X b a o);
     before = b;
@@ -50,7 +50,7 @@ module _ {D : Type 0} (h : Hashing D) (rule : List ℕ → List ℕ) where
   }
 
   -- the last record taken off
-  pub splits : (rs : List (Recorded D)) (r : Recorded D) (X : List D) (ls : List (List D)) → StandsOn h rule (rs ++ r ∷ []) (X ∷ ls) → (ms : List (List D)) × StandsOn h rule rs (X ∷ ms) × IsStep h rule r (last_list (X ∷ ms)) (last_list (X ∷ ls))
+  pub splits : (rs : List (RecordModel D)) (r : RecordModel D) (X : List D) (ls : List (List D)) → IsHistory h rule (rs ++ r ∷ []) (X ∷ ls) → (ms : List (List D)) × IsHistory h rule rs (X ∷ ms) × IsStep h rule r (last_list (X ∷ ms)) (last_list (X ∷ ls))
   splits [] r X [] s = absurd s
   splits [] r X (Y ∷ []) s = ([], tt, s.0)
   splits [] r X (Y ∷ Z ∷ ls) s = absurd s.1

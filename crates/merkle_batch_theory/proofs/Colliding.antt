@@ -7,10 +7,10 @@ use Rattle.merkle_base.specs.Forest.{forest, size}
 use Rattle.merkle_base.proofs.Growth.{forest_grown}
 use Rattle.merkle_base.proofs.Paths.{leaf_under, peak_holding}
 use Rattle.merkle_base.proofs.Lookup.{peak_node}
-use Rattle.merkle_base.specs.Hashing.{Hashing, TellsApart}
+use Rattle.merkle_base.specs.Hashing.{Hashing, EqDecides}
 use Rattle.merkle_base.specs.Digests.{digest_at, peak_digests}
 use Rattle.merkle_batch_theory.specs.Collision.{Collide}
-use Rattle.merkle_batch_theory.proofs.Items.{get_reverse}
+use Rattle.merkle_batch_theory.proofs.ListFacts.{get_reverse}
 use Rattle.merkle_base.proofs.Cases.{by_test}
 use Rattle.merkle_base.proofs.Lists.{same_list}
 
@@ -19,7 +19,7 @@ map_here f g [] i x e d = absurd (cc)
 map_here f g (y ∷ ys) zero x e d = (let s : y ≡ x = cc in let t : f y ≡ g y = cc in subst (λ z. f z ≡ g z) s t)
 map_here f g (y ∷ ys) (suc i) x e d = (let t : map f ys ≡ map g ys = cc in map_here f g ys i x t d)
 
-module _ {D : Type 0} (h : Hashing D) (rule : List ℕ → List ℕ) (law : TellsApart h) (X Y : List D) where
+module _ {D : Type 0} (h : Hashing D) (rule : List ℕ → List ℕ) (law : EqDecides h) (X Y : List D) where
   abbrev Same : Tree → Type 0
   Same t = (q k : ℕ) → IsUnder (leaf q k) t → get_or X k h.empty ≡ get_or Y k h.empty
 

@@ -14,36 +14,36 @@ use Rattle.merkle_base.proofs.Lookup.{peak_node}
 use Rattle.merkle_base.specs.Hashing.{Hashing}
 use Rattle.merkle_base.specs.Digests.{digest_at, node_digests}
 use Rattle.merkle_batch_theory.specs.Contents.{Contents, Agrees}
-use Rattle.merkle_batch_theory.specs.Recorded.{Recorded}
-use Rattle.merkle_batch_theory.specs.Replay.{over}
-use Rattle.merkle_batch_theory.specs.Stands.{edited, is_touched, IsStep, StandsOn, last_list}
+use Rattle.merkle_batch_theory.specs.Records.{RecordModel}
+use Rattle.merkle_batch_theory.specs.Replay.{overwritten_by}
+use Rattle.merkle_batch_theory.specs.History.{edited, is_dirty, IsStep, IsHistory, last_list}
 use Rattle.merkle_batch_theory.specs.Read.{read_over}
 use Rattle.merkle_batch_theory.specs.Needed.{IsUsed, IsNeeded}
 use Rattle.merkle_batch_theory.specs.Completed.{IsCompleted}
-use Rattle.merkle_batch_theory.proofs.Items.{get_drop}
+use Rattle.merkle_batch_theory.proofs.ListFacts.{get_drop}
 use Rattle.merkle_batch_theory.proofs.Steps.{node_digest_at, digests_length}
 use Rattle.merkle_batch_theory.proofs.Edits.{same_gets, old_entry, new_entry, edited_same, edited_length}
-use Rattle.merkle_batch_theory.proofs.Through.{read_right, read_kept, unchanged}
-use Rattle.merkle_batch_theory.proofs.Needs.{used_kept}
+use Rattle.merkle_batch_theory.proofs.ReadThroughRecords.{read_right, read_kept, unchanged}
+use Rattle.merkle_batch_theory.proofs.NeededNodes.{used_kept}
 use Rattle.merkle_batch_theory.proofs.OptionFacts.{over_none}
 use Rattle.merkle_base.proofs.Lists.{get_exists}
 
 -- the same leaves touch the same trees
-pub same_touch : {D : Type 0} (rule : List ℕ → List ℕ) (m w : ℕ → Option D) (n : ℕ) → ((k : ℕ) → k < n → is_some (m (size rule k)) ≡ is_some (w (size rule k))) → (t : Tree) → IsBuilt (forest rule n).nodes t → is_touched m t ≡ is_touched w t
+pub same_touch : {D : Type 0} (rule : List ℕ → List ℕ) (m w : ℕ → Option D) (n : ℕ) → ((k : ℕ) → k < n → is_some (m (size rule k)) ≡ is_some (w (size rule k))) → (t : Tree) → IsBuilt (forest rule n).nodes t → is_dirty m t ≡ is_dirty w t
 same_touch rule m w n e (leaf q k) b = (let a = leaf_at rule n q q k b in ap (λ p. is_some (m p)) a.0 ∙ e k a.1 ∙ ap (λ p. is_some (w p)) (sym a.0))
 same_touch rule m w n e (join q x y) b = (λ i. same_touch rule m w n e x b.4 i || same_touch rule m w n e y b.5 i)
 
 module _ {D : Type 0} (h : Hashing D) (rule : List ℕ → List ℕ) where
-  leaf_same : (o s u v : Option D) (x e : D) → u ≡ Some x → v ≡ over o u → s ≡ cond (is_some o) (Some (unwrap_or v e)) None → o ≡ s
+  leaf_same : (o s u v : Option D) (x e : D) → u ≡ Some x → v ≡ overwritten_by o u → s ≡ cond (is_some o) (Some (unwrap_or v e)) None → o ≡ s
   leaf_same None s u v x e a b c = sym c
-  leaf_same (Some d) s u v x e a b c = sym (c ∙ ap (λ z. Some (unwrap_or z e)) (b ∙ ap (over (Some d)) a))
+  leaf_same (Some d) s u v x e a b c = sym (c ∙ ap (λ z. Some (unwrap_or z e)) (b ∙ ap (overwritten_by (Some d)) a))
 
   entry_read : (Y : List D) (k : ℕ) → get_or Y k h.empty ≡ unwrap_or (slice_get Y k) h.empty
   entry_read [] k = refl
   entry_read (y ∷ ys) zero = refl
   entry_read (y ∷ ys) (suc k) = entry_read ys k
 
-  module _ (r s : Recorded D) (X : List D) (n : ℕ) (before : r.before ≡ size rule (length X)) (longer : length X ≤ n) (sized : r.before + length r.appended ≡ size rule n) (done : IsCompleted h rule r s X) where
+  module _ (r s : RecordModel D) (X : List D) (n : ℕ) (before : r.before ≡ size rule (length X)) (longer : length X ≤ n) (sized : r.before + length r.appended ≡ size rule n) (done : IsCompleted h rule r s X) where
     same_overwritten : (k : ℕ) → k < length X → get r.overwritten (size rule k) ≡ get s.overwritten (size rule k)
     same_overwritten k l =
         (let x = get_exists X k l in
@@ -73,13 +73,13 @@ module _ {D : Type 0} (h : Hashing D) (rule : List ℕ → List ℕ) where
     }
 
   -- ---- chains of lists
-  pub stands_push : (rs : List (Recorded D)) (X : List D) (ls : List (List D)) (r : Recorded D) (Y : List D) → StandsOn h rule rs (X ∷ ls) → IsStep h rule r (last_list (X ∷ ls)) Y → StandsOn h rule (rs ++ r ∷ []) (X ∷ ls ++ Y ∷ []) × (last_list (X ∷ ls ++ Y ∷ []) ≡ Y)
+  pub stands_push : (rs : List (RecordModel D)) (X : List D) (ls : List (List D)) (r : RecordModel D) (Y : List D) → IsHistory h rule rs (X ∷ ls) → IsStep h rule r (last_list (X ∷ ls)) Y → IsHistory h rule (rs ++ r ∷ []) (X ∷ ls ++ Y ∷ []) × (last_list (X ∷ ls ++ Y ∷ []) ≡ Y)
   stands_push [] X [] r Y s t = ((t, tt), refl)
   stands_push [] X (Z ∷ ls) r Y s t = absurd s
   stands_push (q ∷ rs) X [] r Y s t = absurd s
   stands_push (q ∷ rs) X (Z ∷ ls) r Y s t = (let k = stands_push rs Z ls r Y s.1 t in ((s.0, k.0), k.1))
 
-  pub stands_longer : (rs : List (Recorded D)) (X : List D) (ls : List (List D)) (j : ℕ) (W : List D) → StandsOn h rule rs (X ∷ ls) → slice_get (X ∷ ls) j ≡ Some W → length W ≤ length (last_list (X ∷ ls))
+  pub stands_longer : (rs : List (RecordModel D)) (X : List D) (ls : List (List D)) (j : ℕ) (W : List D) → IsHistory h rule rs (X ∷ ls) → slice_get (X ∷ ls) j ≡ Some W → length W ≤ length (last_list (X ∷ ls))
   stands_longer [] X [] zero W s e = (let d : X ≡ W = cc in rw d (omega arith))
   stands_longer [] X [] (suc j) W s e = absurd (cc)
   stands_longer [] X (Z ∷ ls) j W s e = absurd s
@@ -88,9 +88,9 @@ module _ {D : Type 0} (h : Hashing D) (rule : List ℕ → List ℕ) where
   stands_longer (q ∷ rs) X (Z ∷ ls) (suc j) W s e = stands_longer rs Z ls j W s.1 e
 
   -- a record without changes changes nothing
-  pub no_change : (r : Recorded D) (X Y : List D) → IsStep h rule r X Y → r.appended ≡ [] → ((p : ℕ) → get r.overwritten p ≡ None) → Y ≡ X
+  pub no_change : (r : RecordModel D) (X Y : List D) → IsStep h rule r X Y → r.appended ≡ [] → ((p : ℕ) → get r.overwritten p ≡ None) → Y ≡ X
   no_change r X Y s a o = s.edit ∙ same_gets (edited rule r X) X (λ k. elim (cases_lt k (length X)) [
-    | inl l ↦ old_entry rule r X k l ∙ ap (λ m. over m (slice_get X k)) (o (size rule k)) ∙ over_none (slice_get X k)
+    | inl l ↦ old_entry rule r X k l ∙ ap (λ m. overwritten_by m (slice_get X k)) (o (size rule k)) ∙ over_none (slice_get X k)
     | inr l ↦ new_entry rule r X k s.before l ∙ ap (λ ds. slice_get ds (size rule k - r.before)) a ∙ sym (slice_get_past X k l)
   ])
 
@@ -101,8 +101,8 @@ module _ {D : Type 0} (h : Hashing D) (rule : List ℕ → List ℕ) where
     | inr x ↦ peak_node rule e x.1.0 t x.1.1
   ]
 
-  module _ (rs : List (Recorded D)) (X : List D) (ls : List (List D)) (base : Contents D) (j : ℕ) (W : List D)
-      (stands : StandsOn h rule rs (X ∷ ls)) (there : slice_get (X ∷ ls) j ≡ Some W) (agrees : Agrees h rule base W) (r : Recorded D) (e : ℕ) where
+  module _ (rs : List (RecordModel D)) (X : List D) (ls : List (List D)) (base : Contents D) (j : ℕ) (W : List D)
+      (stands : IsHistory h rule rs (X ∷ ls)) (there : slice_get (X ∷ ls) j ≡ Some W) (agrees : Agrees h rule base W) (r : RecordModel D) (e : ℕ) where
     -- a needed node that is read has its digest of the edited list
     pub needed_right : (t : Tree) (d : D) → IsNeeded rule (get r.overwritten) (length (last_list (X ∷ ls))) e t → read_over rs base (position t) ≡ Some d → slice_get (node_digests h rule (edited rule r (last_list (X ∷ ls)))) (position t) ≡ Some d
     needed_right t d n g =

@@ -9,9 +9,9 @@ use Rattle.merkle_base.specs.Forest.{size}
 use Rattle.merkle_base.proofs.Lists.{get_push, get_exists}
 use Rattle.merkle_base.proofs.Nodes.{size_le, size_lt, size_step}
 use Rattle.merkle_base.proofs.Lookup.{get_append_add}
-use Rattle.merkle_batch_theory.specs.Recorded.{Recorded}
-use Rattle.merkle_batch_theory.specs.Replay.{over}
-use Rattle.merkle_batch_theory.specs.Stands.{replaced, leaves_from, edited}
+use Rattle.merkle_batch_theory.specs.Records.{RecordModel}
+use Rattle.merkle_batch_theory.specs.Replay.{overwritten_by}
+use Rattle.merkle_batch_theory.specs.History.{replaced, leaves_from, edited}
 use Rattle.merkle_batch_theory.proofs.Steps.{replaced_length}
 use Rattle.merkle_base.proofs.Cases.{by_test}
 
@@ -44,10 +44,10 @@ get_set_other (y ∷ xs) (suc i) zero x n = refl
 get_set_other (y ∷ xs) (suc i) (suc j) x n = get_set_other xs i j x (λ e. n (ap suc e))
 
 module _ {D : Type 0} (rule : List ℕ → List ℕ) where
-  pub replaced_get : (m : ℕ → Option D) (n : ℕ) (X : List D) (k : ℕ) → slice_get (replaced rule m n X) k ≡ over (m (size rule (n + k))) (slice_get X k)
+  pub replaced_get : (m : ℕ → Option D) (n : ℕ) (X : List D) (k : ℕ) → slice_get (replaced rule m n X) k ≡ overwritten_by (m (size rule (n + k))) (slice_get X k)
   replaced_get m n [] k = refl
   replaced_get m n (d ∷ ds) zero = let z : n + 0 ≡ n = omega arith in ap (λ i. Some (unwrap_or (m (size rule i)) d)) (sym z)
-  replaced_get m n (d ∷ ds) (suc k) = let z : suc n + k ≡ n + suc k = omega arith in replaced_get m (suc n) ds k ∙ ap (λ i. over (m (size rule i)) (slice_get ds k)) z
+  replaced_get m n (d ∷ ds) (suc k) = let z : suc n + k ≡ n + suc k = omega arith in replaced_get m (suc n) ds k ∙ ap (λ i. overwritten_by (m (size rule i)) (slice_get ds k)) z
 
   leaf_here_or_later : (n p j : ℕ) (d : D) (ds : List D) → p ≡ size rule n → ((i : ℕ) → slice_get (leaves_from rule (suc n) (suc p) ds) i ≡ slice_get ds (size rule (suc n + i) - suc p)) →
       slice_get (d ∷ leaves_from rule (suc n) (suc p) ds) j ≡ slice_get (d ∷ ds) (size rule (n + j) - p)
@@ -72,14 +72,14 @@ module _ {D : Type 0} (rule : List ℕ → List ℕ) where
       less a b l n = grind (arith)
 
   -- an old entry
-  pub old_entry : (r : Recorded D) (X : List D) (k : ℕ) → k < length X → slice_get (edited rule r X) k ≡ over (get r.overwritten (size rule k)) (slice_get X k)
+  pub old_entry : (r : RecordModel D) (X : List D) (k : ℕ) → k < length X → slice_get (edited rule r X) k ≡ overwritten_by (get r.overwritten (size rule k)) (slice_get X k)
   old_entry r X k l =
       let z : 0 + k ≡ k = omega arith in
       get_left (replaced rule (get r.overwritten) 0 X) (leaves_from rule (length X) r.before r.appended) k (omega (arith, l, replaced_length rule (get r.overwritten) 0 X))
-      ∙ replaced_get (get r.overwritten) 0 X k ∙ ap (λ i. over (get r.overwritten (size rule i)) (slice_get X k)) z
+      ∙ replaced_get (get r.overwritten) 0 X k ∙ ap (λ i. overwritten_by (get r.overwritten (size rule i)) (slice_get X k)) z
 
   -- a new entry
-  pub new_entry : (r : Recorded D) (X : List D) (k : ℕ) → r.before ≡ size rule (length X) → length X ≤ k → slice_get (edited rule r X) k ≡ slice_get r.appended (size rule k - r.before)
+  pub new_entry : (r : RecordModel D) (X : List D) (k : ℕ) → r.before ≡ size rule (length X) → length X ≤ k → slice_get (edited rule r X) k ≡ slice_get r.appended (size rule k - r.before)
   new_entry r X k e l =
       let front : List D = replaced rule (get r.overwritten) 0 X in
       let y : length front + (k - length X) ≡ k = omega (arith, l, replaced_length rule (get r.overwritten) 0 X) in
@@ -88,18 +88,18 @@ module _ {D : Type 0} (rule : List ℕ → List ℕ) where
       ∙ leaves_get (length X) r.before r.appended (k - length X) (omega (arith, e)) ∙ ap (λ i. slice_get r.appended (size rule i - r.before)) z
 
   -- records with the same leaves make the same edit
-  pub edited_same : (r s : Recorded D) (X : List D) → r.before ≡ size rule (length X) → s.before ≡ size rule (length X) → ((k : ℕ) → k < length X → get r.overwritten (size rule k) ≡ get s.overwritten (size rule k)) →
+  pub edited_same : (r s : RecordModel D) (X : List D) → r.before ≡ size rule (length X) → s.before ≡ size rule (length X) → ((k : ℕ) → k < length X → get r.overwritten (size rule k) ≡ get s.overwritten (size rule k)) →
       ((k : ℕ) → length X ≤ k → slice_get r.appended (size rule k - r.before) ≡ slice_get s.appended (size rule k - s.before)) → edited rule r X ≡ edited rule s X
   edited_same r s X e f old new = same_gets (edited rule r X) (edited rule s X) (λ k. elim (cases_lt k (length X)) [
-    | inl l ↦ old_entry r X k l ∙ ap (λ o. over o (slice_get X k)) (old k l) ∙ sym (old_entry s X k l)
+    | inl l ↦ old_entry r X k l ∙ ap (λ o. overwritten_by o (slice_get X k)) (old k l) ∙ sym (old_entry s X k l)
     | inr l ↦ new_entry r X k e l ∙ new k l ∙ sym (new_entry s X k f l)
   ])
 
-  over_some : (o u : Option D) (d : D) → u ≡ Some d → (x : D) × (over o u ≡ Some x)
-  over_some o u d e = (unwrap_or o d, ap (over o) e)
+  over_some : (o u : Option D) (d : D) → u ≡ Some d → (x : D) × (overwritten_by o u ≡ Some x)
+  over_some o u d e = (unwrap_or o d, ap (overwritten_by o) e)
 
   -- how many entries there are
-  pub edited_length : (r : Recorded D) (X : List D) (m : ℕ) → r.before ≡ size rule (length X) → length X ≤ m → r.before + length r.appended ≡ size rule m → length (edited rule r X) ≡ m
+  pub edited_length : (r : RecordModel D) (X : List D) (m : ℕ) → r.before ≡ size rule (length X) → length X ≤ m → r.before + length r.appended ≡ size rule m → length (edited rule r X) ≡ m
   edited_length r X m e l f =
       let a : length (edited rule r X) ≤ m = none_past (edited rule r X) m (new_entry r X m e l ∙ slice_get_past r.appended (size rule m - r.before) (omega (arith, f))) in
       both (length (edited rule r X)) m a (λ b. some_none (edited rule r X) (elim (cases_lt (length (edited rule r X)) (length X)) [
@@ -118,12 +118,12 @@ module _ {D : Type 0} (rule : List ℕ → List ℕ) where
 
   -- ---- the edits of a batch
   -- a leaf and its parents are appended
-  pub added : (r s : Recorded D) (X : List D) (m : ℕ) (d : D) (more : List D) → r.before ≡ size rule (length X) → length X ≤ m → r.before + length r.appended ≡ size rule m → size rule m + 1 + length more ≡ size rule (suc m) →
+  pub added : (r s : RecordModel D) (X : List D) (m : ℕ) (d : D) (more : List D) → r.before ≡ size rule (length X) → length X ≤ m → r.before + length r.appended ≡ size rule m → size rule m + 1 + length more ≡ size rule (suc m) →
       s.before ≡ r.before → s.overwritten ≡ r.overwritten → s.appended ≡ r.appended ++ d ∷ more → edited rule s X ≡ edited rule r X ++ d ∷ []
   added r s X m d more e l f g sb so sa =
       let n : length (edited rule r X) ≡ m = edited_length r X m e l f in
       same_gets (edited rule s X) (edited rule r X ++ d ∷ []) (λ k. elim (cases_lt k (length X)) [
-        | inl a ↦ old_entry s X k a ∙ ap (λ o. over (get o (size rule k)) (slice_get X k)) so ∙ sym (old_entry r X k a) ∙ sym (get_left (edited rule r X) (d ∷ []) k (omega (arith, a, n, l)))
+        | inl a ↦ old_entry s X k a ∙ ap (λ o. overwritten_by (get o (size rule k)) (slice_get X k)) so ∙ sym (old_entry r X k a) ∙ sym (get_left (edited rule r X) (d ∷ []) k (omega (arith, a, n, l)))
         | inr a ↦ new_entry s X k (sb ∙ e) a ∙ (λ i. slice_get (sa i) (size rule k - sb i)) ∙ elim (cases_lt k m) [
           | inl b ↦ get_left r.appended (d ∷ more) (size rule k - r.before) (omega (arith, f, e, size_lt rule k m b, size_le rule (length X) k a)) ∙ sym (new_entry r X k e a) ∙ sym (get_left (edited rule r X) (d ∷ []) k (omega (arith, b, n)))
           | inr b ↦ elim (cases_lt m k) [
@@ -139,21 +139,21 @@ module _ {D : Type 0} (rule : List ℕ → List ℕ) where
       ])
 
   -- an old leaf is overwritten
-  pub overwritten : (r s : Recorded D) (X : List D) (k : ℕ) (d : D) → r.before ≡ size rule (length X) → k < length X → s.before ≡ r.before → s.appended ≡ r.appended →
+  pub overwritten : (r s : RecordModel D) (X : List D) (k : ℕ) (d : D) → r.before ≡ size rule (length X) → k < length X → s.before ≡ r.before → s.appended ≡ r.appended →
       ((p : ℕ) → get s.overwritten p ≡ cond (p == size rule k) (Some d) (get r.overwritten p)) → edited rule s X ≡ set (edited rule r X) k d
   overwritten r s X k d e l sb sa so =
       let n : k < length (edited rule r X) = omega (arith, l, length-append (replaced rule (get r.overwritten) 0 X) (leaves_from rule (length X) r.before r.appended), replaced_length rule (get r.overwritten) 0 X) in
       same_gets (edited rule s X) (set (edited rule r X) k d) (λ i. elim (cases_lt i (length X)) [
-        | inl a ↦ old_entry s X i a ∙ ap (λ o. over o (slice_get X i)) (so (size rule i)) ∙ here r X k d i l a n
+        | inl a ↦ old_entry s X i a ∙ ap (λ o. overwritten_by o (slice_get X i)) (so (size rule i)) ∙ here r X k d i l a n
         | inr a ↦ new_entry s X i (sb ∙ e) a ∙ (λ x. slice_get (sa x) (size rule i - sb x)) ∙ sym (new_entry r X i e a) ∙ sym (get_set_other (edited rule r X) k i d (λ q. absurd (omega (arith, q, a, l))))
       ])
     where
-      here : (r : Recorded D) (X : List D) (k : ℕ) (d : D) (i : ℕ) → k < length X → i < length X → k < length (edited rule r X) → over (cond (size rule i == size rule k) (Some d) (get r.overwritten (size rule i))) (slice_get X i) ≡ slice_get (set (edited rule r X) k d) i
+      here : (r : RecordModel D) (X : List D) (k : ℕ) (d : D) (i : ℕ) → k < length X → i < length X → k < length (edited rule r X) → overwritten_by (cond (size rule i == size rule k) (Some d) (get r.overwritten (size rule i))) (slice_get X i) ≡ slice_get (set (edited rule r X) k d) i
       here r X k d i l a n = elim (cases_order i k) [
         | inl q ↦ (let v = get_exists X i a in
-            ap (λ t. over (cond t (Some d) (get r.overwritten (size rule i))) (slice_get X i)) (eq-eqb (size rule i) (size rule k) (ap (size rule) q)) ∙ ap (over (Some d)) v.1 ∙ sym (ap (slice_get (set (edited rule r X) k d)) q ∙ get_set_same (edited rule r X) k d n))
+            ap (λ t. overwritten_by (cond t (Some d) (get r.overwritten (size rule i))) (slice_get X i)) (eq-eqb (size rule i) (size rule k) (ap (size rule) q)) ∙ ap (overwritten_by (Some d)) v.1 ∙ sym (ap (slice_get (set (edited rule r X) k d)) q ∙ get_set_same (edited rule r X) k d n))
         | inr q ↦
-            ap (λ t. over (cond t (Some d) (get r.overwritten (size rule i))) (slice_get X i)) (ne_eqb (size rule i) (size rule k) (apart i k q))
+            ap (λ t. overwritten_by (cond t (Some d) (get r.overwritten (size rule i))) (slice_get X i)) (ne_eqb (size rule i) (size rule k) (apart i k q))
             ∙ sym (old_entry r X i a) ∙ sym (get_set_other (edited rule r X) k i d (λ f. absurd (elim q [ inl x ↦ omega (arith, x, f) | inr x ↦ omega (arith, x, f) ])))
       ]
         where
@@ -161,12 +161,12 @@ module _ {D : Type 0} (rule : List ℕ → List ℕ) where
           apart i k q e = elim q [ inl x ↦ absurd (omega (arith, e, size_lt rule i k x)) | inr x ↦ absurd (omega (arith, e, size_lt rule k i x)) ]
 
   -- an appended leaf is replaced
-  pub replaced_new : (r s : Recorded D) (X : List D) (m k : ℕ) (d : D) → r.before ≡ size rule (length X) → length X ≤ k → k < m → r.before + length r.appended ≡ size rule m → s.before ≡ r.before → s.overwritten ≡ r.overwritten →
+  pub replaced_new : (r s : RecordModel D) (X : List D) (m k : ℕ) (d : D) → r.before ≡ size rule (length X) → length X ≤ k → k < m → r.before + length r.appended ≡ size rule m → s.before ≡ r.before → s.overwritten ≡ r.overwritten →
       s.appended ≡ set r.appended (size rule k - r.before) d → edited rule s X ≡ set (edited rule r X) k d
   replaced_new r s X m k d e l b f sb so sa =
       let n : length (edited rule r X) ≡ m = edited_length r X m e (omega (arith, l, b)) f in
       same_gets (edited rule s X) (set (edited rule r X) k d) (λ i. elim (cases_lt i (length X)) [
-        | inl a ↦ old_entry s X i a ∙ ap (λ o. over (get o (size rule i)) (slice_get X i)) so ∙ sym (old_entry r X i a) ∙ sym (get_set_other (edited rule r X) k i d (λ q. absurd (omega (arith, q, a, l))))
+        | inl a ↦ old_entry s X i a ∙ ap (λ o. overwritten_by (get o (size rule i)) (slice_get X i)) so ∙ sym (old_entry r X i a) ∙ sym (get_set_other (edited rule r X) k i d (λ q. absurd (omega (arith, q, a, l))))
         | inr a ↦ new_entry s X i (sb ∙ e) a ∙ (λ x. slice_get (sa x) (size rule i - sb x)) ∙ elim (cases_order i k) [
           | inl q ↦
               ap (λ x. slice_get (set r.appended (size rule k - r.before) d) (size rule x - r.before)) q

@@ -8,11 +8,11 @@ use Rattle.std.proofs.lemmas.List.{nil_from_length}
 use Rattle.merkle_base.specs.Forest.{size}
 use Rattle.merkle_base.specs.Hashing.{Hashing}
 use Rattle.merkle_base.specs.Digests.{peak_digests}
-use Rattle.merkle_batch_theory.specs.Linked.{RunsFrom, IsLinked}
-use Rattle.merkle_batch_theory.specs.Pending.{Pending, is_changed, kept, kept_lists, without_last}
-use Rattle.merkle_batch_theory.specs.Recorded.{Recorded, Chain, records, after}
+use Rattle.merkle_batch_theory.specs.BatchValid.{RunsFrom, IsBatchValid}
+use Rattle.merkle_batch_theory.specs.Unmerkleized.{UnmerkleizedModel, is_changed, kept, kept_lists, without_last}
+use Rattle.merkle_batch_theory.specs.Records.{RecordModel, MerkleizedModel, records, after}
 use Rattle.merkle_batch_theory.specs.Replay.{oldest}
-use Rattle.merkle_batch_theory.specs.Stands.{IsStep, StandsOn, last_list}
+use Rattle.merkle_batch_theory.specs.History.{IsStep, IsHistory, last_list}
 use Rattle.merkle_batch_theory.proofs.Steps.{step_size}
 use Rattle.merkle_batch_theory.proofs.Complete.{stands_push, no_change}
 use Rattle.merkle_batch_theory.proofs.Chains.{splits}
@@ -31,18 +31,18 @@ last_added (X ∷ Z ∷ ls) Y = last_added (Z ∷ ls) Y
 
 module _ {D : Type 0} where
   -- a record without changes appends and overwrites nothing
-  pub appends_nothing : (r : Recorded D) → is_changed r ≡ false → r.appended ≡ []
+  pub appends_nothing : (r : RecordModel D) → is_changed r ≡ false → r.appended ≡ []
   appends_nothing r e = nil_from_length r.appended (eqb-true (length r.appended) 0 (both_tests (length r.appended == 0) (len r.overwritten == 0) e).0)
 
-  pub overwrites_nothing : (r : Recorded D) → is_changed r ≡ false → (p : ℕ) → get r.overwritten p ≡ None
+  pub overwrites_nothing : (r : RecordModel D) → is_changed r ≡ false → (p : ℕ) → get r.overwritten p ≡ None
   overwrites_nothing r e p =
       let none : r.overwritten ≡ empty = empty_of_len r.overwritten (eqb-true (len r.overwritten) 0 (both_tests (length r.appended == 0) (len r.overwritten == 0) e).1) in
       ap (λ m. get m p) none ∙ get-empty nat_cmp p
 
 module _ {D : Type 0} (h : Hashing D) (rule : List ℕ → List ℕ) where
   -- the records that are not let go stand on the lists that are left
-  tail_stands : (rs : List (Recorded D)) (own : Recorded D) (n : ℕ) (ls : List (List D)) → n ≤ length rs → StandsOn h rule (rs ++ own ∷ []) ls →
-      (X : List D) × (more : List (List D)) × (drop n ls ≡ X ∷ more) × StandsOn h rule (drop n rs ++ own ∷ []) (X ∷ more) × (last_list (X ∷ more) ≡ last_list ls)
+  tail_stands : (rs : List (RecordModel D)) (own : RecordModel D) (n : ℕ) (ls : List (List D)) → n ≤ length rs → IsHistory h rule (rs ++ own ∷ []) ls →
+      (X : List D) × (more : List (List D)) × (drop n ls ≡ X ∷ more) × IsHistory h rule (drop n rs ++ own ∷ []) (X ∷ more) × (last_list (X ∷ more) ≡ last_list ls)
   tail_stands rs own n [] l s = absurd s
   tail_stands rs own zero (X ∷ ls) l s = (X, ls, refl, s, refl)
   tail_stands [] own (suc n) (X ∷ ls) l s = absurd (omega arith)
@@ -50,68 +50,68 @@ module _ {D : Type 0} (h : Hashing D) (rule : List ℕ → List ℕ) where
   tail_stands (r ∷ rs) own (suc n) (X ∷ Y ∷ ls) l s = tail_stands rs own n (Y ∷ ls) (omega arith) s.1
 
   -- without a last record that has no changes
-  off_last : (rs : List (Recorded D)) (r : Recorded D) (X : List D) (ls : List (List D)) → StandsOn h rule (rs ++ r ∷ []) (X ∷ ls) → r.appended ≡ [] → ((p : ℕ) → get r.overwritten p ≡ None) →
-      (more : List (List D)) × (without_last (X ∷ ls) ≡ X ∷ more) × StandsOn h rule rs (X ∷ more) × (last_list (X ∷ more) ≡ last_list (X ∷ ls))
+  off_last : (rs : List (RecordModel D)) (r : RecordModel D) (X : List D) (ls : List (List D)) → IsHistory h rule (rs ++ r ∷ []) (X ∷ ls) → r.appended ≡ [] → ((p : ℕ) → get r.overwritten p ≡ None) →
+      (more : List (List D)) × (without_last (X ∷ ls) ≡ X ∷ more) × IsHistory h rule rs (X ∷ more) × (last_list (X ∷ more) ≡ last_list (X ∷ ls))
   off_last [] r X [] s a o = absurd s
   off_last [] r X (Y ∷ []) s a o = ([], refl, tt, sym (no_change h rule r X Y s.0 a o))
   off_last [] r X (Y ∷ Z ∷ ls) s a o = absurd s.1
   off_last (q ∷ rs) r X [] s a o = absurd s
   off_last (q ∷ rs) r X (Y ∷ ls) s a o = (let k = off_last rs r Y ls s.1 a o in (Y ∷ k.0, ap (λ ms. X ∷ ms) k.1, (s.0, k.2), k.3))
 
-  abbrev KeptStands : List (Recorded D) → List (List D) → List D → Type 0
-  KeptStands rs ls last = (X : List D) × (more : List (List D)) × (ls ≡ X ∷ more) × StandsOn h rule rs (X ∷ more) × (last_list (X ∷ more) ≡ last)
+  abbrev KeptStands : List (RecordModel D) → List (List D) → List D → Type 0
+  KeptStands rs ls last = (X : List D) × (more : List (List D)) × (ls ≡ X ∷ more) × IsHistory h rule rs (X ∷ more) × (last_list (X ∷ more) ≡ last)
 
   -- what a fork keeps stands on the lists of it, and its last list is the parent's
-  pub kept_stands : (p : Pending D) (ls : List (List D)) → p.forgotten ≤ length p.parent.ancestors → StandsOn h rule (records p.parent) ls →
-      (X : List D) × (more : List (List D)) × (kept_lists p ls ≡ X ∷ more) × StandsOn h rule (kept p) (X ∷ more) × (last_list (X ∷ more) ≡ last_list ls)
+  pub kept_stands : (p : UnmerkleizedModel D) (ls : List (List D)) → p.forgotten ≤ length p.parent.ancestors → IsHistory h rule (records p.parent) ls →
+      (X : List D) × (more : List (List D)) × (kept_lists p ls ≡ X ∷ more) × IsHistory h rule (kept p) (X ∷ more) × (last_list (X ∷ more) ≡ last_list ls)
   kept_stands p ls l s =
-      let rs : List (Recorded D) = drop p.forgotten p.parent.ancestors in
-      let own : Recorded D = p.parent.own in
+      let rs : List (RecordModel D) = drop p.forgotten p.parent.ancestors in
+      let own : RecordModel D = p.parent.own in
       let k = tail_stands p.parent.ancestors own p.forgotten ls l s in
       by_test (λ b. KeptStands (rs ++ cond b (own ∷ []) []) (cond b (drop p.forgotten ls) (without_last (drop p.forgotten ls))) (last_list ls)) (is_changed own)
       (λ e. k)
       (λ e. (let m = off_last rs own k.0 k.1 k.3 (appends_nothing own e) (overwrites_nothing own e) in
-      (k.0, m.0, ap without_last k.2 ∙ m.1, subst (λ qs. StandsOn h rule qs (k.0 ∷ m.0)) (sym (append-nil rs)) m.2, m.3 ∙ k.4)))
+      (k.0, m.0, ap without_last k.2 ∙ m.1, subst (λ qs. IsHistory h rule qs (k.0 ∷ m.0)) (sym (append-nil rs)) m.2, m.3 ∙ k.4)))
 
   -- a step more
-  pub stands_more : (rs : List (Recorded D)) (ls : List (List D)) (r : Recorded D) (Y : List D) → StandsOn h rule rs ls → IsStep h rule r (last_list ls) Y → StandsOn h rule (rs ++ r ∷ []) (ls ++ Y ∷ [])
+  pub stands_more : (rs : List (RecordModel D)) (ls : List (List D)) (r : RecordModel D) (Y : List D) → IsHistory h rule rs ls → IsStep h rule r (last_list ls) Y → IsHistory h rule (rs ++ r ∷ []) (ls ++ Y ∷ [])
   stands_more rs [] r Y s t = absurd s
   stands_more rs (X ∷ ls) r Y s t = (stands_push h rule rs X ls r Y s t).0
 
   -- after the own record there is what the last list has
-  pub last_size : (c : Chain D) (ls : List (List D)) → StandsOn h rule (records c) ls → (after c.own ≡ size rule (length (last_list ls))) × (c.own.peaks_after ≡ peak_digests h rule (last_list ls))
+  pub last_size : (c : MerkleizedModel D) (ls : List (List D)) → IsHistory h rule (records c) ls → (after c.own ≡ size rule (length (last_list ls))) × (c.own.peaks_after ≡ peak_digests h rule (last_list ls))
   last_size c [] s = absurd s
   last_size c (X ∷ ls) s =
       let k = splits h rule c.ancestors c.own X ls s in
       (ap (λ (n : ℕ). n + length c.own.appended) k.2.before ∙ step_size h rule c.own (last_list (X ∷ k.0)) (last_list (X ∷ ls)) k.2, k.2.peaks_after)
 
 module _ {D : Type 0} where
-  tail_runs : (rs : List (Recorded D)) (own : Recorded D) (n m : ℕ) → n ≤ length rs → RunsFrom m (rs ++ own ∷ []) → (k : ℕ) × RunsFrom k (drop n rs ++ own ∷ [])
+  tail_runs : (rs : List (RecordModel D)) (own : RecordModel D) (n m : ℕ) → n ≤ length rs → RunsFrom m (rs ++ own ∷ []) → (k : ℕ) × RunsFrom k (drop n rs ++ own ∷ [])
   tail_runs rs own zero m l s = (m, s)
   tail_runs [] own (suc n) m l s = absurd (omega arith)
   tail_runs (r ∷ rs) own (suc n) m l s = tail_runs rs own n (after r) (omega arith) s.1
 
   -- one record after another
-  more_runs : (rs : List (Recorded D)) (own r : Recorded D) (m : ℕ) → RunsFrom m (rs ++ own ∷ []) → r.before ≡ after own → RunsFrom m ((rs ++ own ∷ []) ++ r ∷ [])
+  more_runs : (rs : List (RecordModel D)) (own r : RecordModel D) (m : ℕ) → RunsFrom m (rs ++ own ∷ []) → r.before ≡ after own → RunsFrom m ((rs ++ own ∷ []) ++ r ∷ [])
   more_runs [] own r m s e = (s.0, (e, tt))
   more_runs (q ∷ rs) own r m s e = (s.0, more_runs rs own r (after q) s.1 e)
 
   -- in the place of another that appends nothing
-  other_runs : (rs : List (Recorded D)) (own r : Recorded D) (m : ℕ) → RunsFrom m (rs ++ own ∷ []) → r.before ≡ own.before → RunsFrom m (rs ++ r ∷ [])
+  other_runs : (rs : List (RecordModel D)) (own r : RecordModel D) (m : ℕ) → RunsFrom m (rs ++ own ∷ []) → r.before ≡ own.before → RunsFrom m (rs ++ r ∷ [])
   other_runs [] own r m s e = (e ∙ s.0, tt)
   other_runs (q ∷ rs) own r m s e = (s.0, other_runs rs own r (after q) s.1 e)
 
-  first_runs : (base_size boundary leaves : ℕ) (rs : List (Recorded D)) (r : Recorded D) (m : ℕ) → RunsFrom m (rs ++ r ∷ []) →
+  first_runs : (base_size boundary leaves : ℕ) (rs : List (RecordModel D)) (r : RecordModel D) (m : ℕ) → RunsFrom m (rs ++ r ∷ []) →
       RunsFrom (oldest (record { base_size = base_size; boundary = boundary; ancestors = rs; own = r; leaves = leaves })).before (rs ++ r ∷ [])
   first_runs base_size boundary leaves [] r m s = (refl, tt)
   first_runs base_size boundary leaves (q ∷ rs) r m s = (refl, s.1)
 
   -- the records of a batch that is forked from a linked one follow one another
-  pub kept_runs : (rule : List ℕ → List ℕ) (max_leaves base_size boundary leaves : ℕ) (p : Pending D) (r : Recorded D) → IsLinked rule max_leaves p.parent → p.forgotten ≤ length p.parent.ancestors → r.before ≡ after p.parent.own →
+  pub kept_runs : (rule : List ℕ → List ℕ) (max_leaves base_size boundary leaves : ℕ) (p : UnmerkleizedModel D) (r : RecordModel D) → IsBatchValid rule max_leaves p.parent → p.forgotten ≤ length p.parent.ancestors → r.before ≡ after p.parent.own →
       RunsFrom (oldest (record { base_size = base_size; boundary = boundary; ancestors = kept p; own = r; leaves = leaves })).before (kept p ++ r ∷ [])
   kept_runs rule max_leaves base_size boundary leaves p r linked l e =
-      let rs : List (Recorded D) = drop p.forgotten p.parent.ancestors in
-      let own : Recorded D = p.parent.own in
+      let rs : List (RecordModel D) = drop p.forgotten p.parent.ancestors in
+      let own : RecordModel D = p.parent.own in
       let k = tail_runs p.parent.ancestors own p.forgotten (oldest p.parent).before l linked.runs in
       first_runs base_size boundary leaves (kept p) r k.0 (by_test (λ b. RunsFrom k.0 ((rs ++ cond b (own ∷ []) []) ++ r ∷ [])) (is_changed own)
       (λ _. more_runs rs own r k.0 k.1 e)

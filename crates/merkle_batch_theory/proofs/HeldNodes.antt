@@ -17,12 +17,12 @@ use Rattle.merkle_base.proofs.Lookup.{get_append_add, peak_node}
 use Rattle.merkle_base.proofs.Nodes.{size_le, size_lt}
 use Rattle.merkle_batch_theory.specs.Contents.{HoldsKept}
 use Rattle.merkle_batch_theory.specs.Held.{Held, PinsBefore, held_contents}
-use Rattle.merkle_batch_theory.specs.Store.{Store, contents, stored_of, no_leaves}
-use Rattle.merkle_batch_theory.specs.Whole.{IsCounted, IsKept}
-use Rattle.merkle_batch_theory.specs.Replay.{over}
+use Rattle.merkle_batch_theory.specs.MemModel.{MemModel, contents, stored_of, no_leaves}
+use Rattle.merkle_batch_theory.specs.MemValid.{HasLeafCount, IsMemValid}
+use Rattle.merkle_batch_theory.specs.Replay.{overwritten_by}
 use Rattle.merkle_batch_theory.proofs.Chains.{same_contents}
 use Rattle.merkle_batch_theory.proofs.Edits.{get_left, get_set_same, get_set_other}
-use Rattle.merkle_batch_theory.proofs.Items.{any_find, get_drop, get_reversed}
+use Rattle.merkle_batch_theory.proofs.ListFacts.{any_find, get_drop, get_reversed}
 use Rattle.merkle_batch_theory.proofs.Kept.{get_mapped}
 use Rattle.merkle_batch_theory.proofs.Stored.{held_before, held_from}
 
@@ -41,9 +41,9 @@ stored_reads pins start nodes before p = elim (cases_lt p start) [
 module _ {D : Type 0} (at : ℕ) (digest : D) where
   -- o with the digest in place of what is there, if that is at p
   abbrev pub replaced : ℕ → Option D → Option D
-  replaced p o = cond (p == at) (over (Some digest) o) o
+  replaced p o = cond (p == at) (overwritten_by (Some digest) o) o
 
-  none_replaced : (b : Bool) → cond b (over (Some digest) None) None ≡ None
+  none_replaced : (b : Bool) → cond b (overwritten_by (Some digest) None) None ≡ None
   none_replaced true = refl
   none_replaced false = refl
 
@@ -64,18 +64,18 @@ module _ {D : Type 0} (at : ℕ) (digest : D) where
     pub set_reads : (k : ℕ) → start ≤ at → k ≡ at - start → k < length nodes → (p : ℕ) → get (stored_of pins start (slice_set nodes k digest)) p ≡ replaced p (get (stored_of pins start nodes) p)
     set_reads k from is l = replaced_reads pins (slice_set nodes k digest) before (λ p. elim (cases_lt p start) [
       | inl h ↦ rw (lt-ltb p start h, ne_eqb p at (λ e. absurd (omega (arith, e, h, from)))) refl
-      | inr h ↦ rw (le-ltb p start h) (by_test (λ b. slice_get (slice_set nodes k digest) (p - start) ≡ cond b (over (Some digest) (slice_get nodes (p - start))) (slice_get nodes (p - start))) (p == at)
+      | inr h ↦ rw (le-ltb p start h) (by_test (λ b. slice_get (slice_set nodes k digest) (p - start) ≡ cond b (overwritten_by (Some digest) (slice_get nodes (p - start))) (slice_get nodes (p - start))) (p == at)
           (λ e. let same : p - start ≡ k = omega (arith, is, eqb-true p at e) in
-          ap (slice_get (slice_set nodes k digest)) same ∙ get_set_same nodes k digest l ∙ ap (over (Some digest)) (sym (ap (slice_get nodes) same ∙ slice_get-get_or nodes k digest l)))
+          ap (slice_get (slice_set nodes k digest)) same ∙ get_set_same nodes k digest l ∙ ap (overwritten_by (Some digest)) (sym (ap (slice_get nodes) same ∙ slice_get-get_or nodes k digest l)))
           (λ e. get_set_other nodes k (p - start) digest (λ same. eqb-false p at e (omega (arith, is, same, h, from)))))
     ])
 
     -- there is no such node
     pub unset_reads : start ≤ at → length nodes ≤ at - start → (p : ℕ) → get (stored_of pins start nodes) p ≡ replaced p (get (stored_of pins start nodes) p)
-    unset_reads from past p = by_test (λ b. get (stored_of pins start nodes) p ≡ cond b (over (Some digest) (get (stored_of pins start nodes) p)) (get (stored_of pins start nodes) p)) (p == at)
+    unset_reads from past p = by_test (λ b. get (stored_of pins start nodes) p ≡ cond b (overwritten_by (Some digest) (get (stored_of pins start nodes) p)) (get (stored_of pins start nodes) p)) (p == at)
         (λ e. let here : p ≡ at = eqb-true p at e in
         let none : get (stored_of pins start nodes) p ≡ None = held_from pins start nodes p (omega (arith, here, from)) (before p (omega (arith, here, from))) ∙ slice_get_past nodes (p - start) (omega (arith, here, past)) in
-        none ∙ sym (ap (over (Some digest)) none))
+        none ∙ sym (ap (overwritten_by (Some digest)) none))
         (λ e. refl)
 
 -- ---- nodes come or go
@@ -108,12 +108,12 @@ module _ {D : Type 0} (pins : List (ℕ × D)) (start : ℕ) (nodes : List D) (b
   ]
 
 -- ---- counts
-pub counted_nodes : (rule : List ℕ → List ℕ) (max_leaves max_nodes leaves n : ℕ) → IsLawful rule max_leaves max_nodes → IsCounted rule max_leaves leaves n → n ≤ max_nodes
+pub counted_nodes : (rule : List ℕ → List ℕ) (max_leaves max_nodes leaves n : ℕ) → IsLawful rule max_leaves max_nodes → HasLeafCount rule max_leaves leaves n → n ≤ max_nodes
 counted_nodes rule max_leaves max_nodes leaves n law k = omega (arith, size_le rule leaves max_leaves k.bounded, k.sized, law.full)
 
 -- the boundary is not past the leaves where its position is not past the nodes
-pub kept_counted : {D : Type 0} (rule : List ℕ → List ℕ) (max_leaves boundary leaves : ℕ) (held : Held D) → IsCounted rule max_leaves leaves held.size → held.start ≡ size rule boundary → held.start ≤ held.size
-    → HoldsKept rule (held_contents boundary held) → IsKept rule max_leaves boundary leaves held
+pub kept_counted : {D : Type 0} (rule : List ℕ → List ℕ) (max_leaves boundary leaves : ℕ) (held : Held D) → HasLeafCount rule max_leaves leaves held.size → held.start ≡ size rule boundary → held.start ≤ held.size
+    → HoldsKept rule (held_contents boundary held) → IsMemValid rule max_leaves boundary leaves held
 kept_counted rule max_leaves boundary leaves held counted starts l holds = record {
   starts = starts;
   within = elim (cases_lt leaves boundary) [ inl h ↦ absurd (omega (arith, size_lt rule leaves boundary h, counted.sized, starts, l)) | inr h ↦ h ];
@@ -137,5 +137,5 @@ pub no_peak_from : (rule : List ℕ → List ℕ) (b p : ℕ) → size rule b �
 no_peak_from rule b p l = by_test (λ t. t ≡ false) (list_any (nat_eq p) (peak_positions rule b)) (λ e. absurd (omega (arith, peak_before rule b p e, l))) (λ _. refl)
 
 -- ---- a structure of no leaves
-pub contents_none : {D : Type 0} (s : Store D) → s ≡ no_leaves → contents s ≡ record { boundary = 0; size = 0; node = λ p. None }
+pub contents_none : {D : Type 0} (s : MemModel D) → s ≡ no_leaves → contents s ≡ record { boundary = 0; size = 0; node = λ p. None }
 contents_none s e = ap contents e ∙ same_contents (contents no_leaves) (record { boundary = 0; size = 0; node = λ p. None }) refl refl (λ p. get-empty nat_cmp p)

@@ -12,9 +12,9 @@ use Rattle.merkle_base.proofs.Cases.{by_test}
 use Rattle.merkle_base.proofs.Nodes.{size_le}
 use Rattle.merkle_batch_theory.specs.Contents.{Contents, HoldsKept, held_peaks, is_kept, pruned}
 use Rattle.merkle_batch_theory.specs.Held.{Held, held_contents}
-use Rattle.merkle_batch_theory.specs.Recorded.{Recorded}
-use Rattle.merkle_batch_theory.specs.Replay.{all_laid, laid, over}
-use Rattle.merkle_batch_theory.specs.Store.{stored_of}
+use Rattle.merkle_batch_theory.specs.Records.{RecordModel}
+use Rattle.merkle_batch_theory.specs.Replay.{with_records, with_record, overwritten_by}
+use Rattle.merkle_batch_theory.specs.MemModel.{stored_of}
 use Rattle.merkle_batch_theory.proofs.HeldNodes.{peak_below, stored_at, stored_reads}
 use Rattle.merkle_batch_theory.proofs.Kept.{kept_before, kept_from}
 use Rattle.merkle_batch_theory.proofs.PinFacts.{lookup_zip, zip_before}
@@ -35,7 +35,7 @@ shifted n m p l = elim (cases_lt p (n + m)) [
   | inr h ↦ le-ltb (p - n) m (omega (arith, h, l)) ∙ sym (le-ltb p (n + m) h)
 ]
 
-some_over : {D : Type 0} (newer o : Option D) → is_some (over newer o) ≡ is_some o
+some_over : {D : Type 0} (newer o : Option D) → is_some (overwritten_by newer o) ≡ is_some o
 some_over newer None = refl
 some_over newer (Some d) = refl
 
@@ -72,16 +72,16 @@ module _ {D : Type 0} (rule : List ℕ → List ℕ) where
       (λ e. held)
 
   -- ---- records laid over what is held
-  laid_held : (r : Recorded D) (c : Contents D) → size rule c.boundary ≤ c.size → HoldsKept rule c → HoldsKept rule (laid r c)
+  laid_held : (r : RecordModel D) (c : Contents D) → size rule c.boundary ≤ c.size → HoldsKept rule c → HoldsKept rule (with_record r c)
   laid_held r c above held p = elim (cases_lt p c.size) [
     | inl h ↦ rw (lt-ltb p c.size h, lt-ltb p (c.size + length r.appended) (omega (arith, h))) (some_over (get r.overwritten p) (c.node p) ∙ held p ∙ ap (λ b. b && is_kept rule c.boundary p) (lt-ltb p c.size h))
     | inr h ↦ rw (le-ltb p c.size h, kept_from rule c.boundary p (omega (arith, h, above)))
         (some_below r.appended (p - c.size) ∙ shifted c.size (length r.appended) p h ∙ sym (and-true (nat_lt p (c.size + length r.appended))))
   ]
 
-  pub all_laid_held : (rs : List (Recorded D)) (c : Contents D) → size rule c.boundary ≤ c.size → HoldsKept rule c → HoldsKept rule (all_laid rs c)
-  all_laid_held [] c above held = held
-  all_laid_held (r ∷ rs) c above held = all_laid_held rs (laid r c) (omega (arith, above)) (laid_held r c above held)
+  pub with_records_held : (rs : List (RecordModel D)) (c : Contents D) → size rule c.boundary ≤ c.size → HoldsKept rule c → HoldsKept rule (with_records rs c)
+  with_records_held [] c above held = held
+  with_records_held (r ∷ rs) c above held = with_records_held rs (with_record r c) (omega (arith, above)) (laid_held r c above held)
 
   -- ---- peaks
   one_held : (o : Option D) → is_some o ≡ true → length (option_to_list o) ≡ 1

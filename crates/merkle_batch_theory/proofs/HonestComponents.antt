@@ -15,12 +15,12 @@ use Rattle.merkle_base.proofs.Lookup.{peak_node}
 use Rattle.merkle_base.proofs.Nodes.{size_le}
 use Rattle.merkle_batch_theory.specs.Contents.{Agrees, is_kept}
 use Rattle.merkle_batch_theory.specs.Components.{AreComponents, made_of}
-use Rattle.merkle_batch_theory.specs.Store.{contents}
+use Rattle.merkle_batch_theory.specs.MemModel.{contents}
 use Rattle.merkle_batch_theory.proofs.HeldNodes.{stored_at, stored_reads}
-use Rattle.merkle_batch_theory.proofs.Items.{get_drop, get_reversed}
+use Rattle.merkle_batch_theory.proofs.ListFacts.{get_drop, get_reversed}
 use Rattle.merkle_batch_theory.proofs.Kept.{kept_from}
 use Rattle.merkle_batch_theory.proofs.PinFacts.{zip_before}
-use Rattle.merkle_batch_theory.proofs.Shown.{taken}
+use Rattle.merkle_batch_theory.proofs.ShownLists.{taken}
 use Rattle.merkle_batch_theory.proofs.Steps.{node_digest_at, digests_length}
 
 -- at a peak's position its digest, which is that of all at this position

@@ -5,12 +5,12 @@ use Rattle.std.specs.Cmp.Lexicographic.{pointwise, pointwise_decides}
 use Rattle.std.proofs.lemmas.Bool.{eq-eqb}
 use Rattle.merkle_base.specs.Forest.{size}
 use Rattle.merkle_base.proofs.Lists.{get_front, get_exists}
-use Rattle.merkle_base.specs.Hashing.{Hashing, TellsApart}
+use Rattle.merkle_base.specs.Hashing.{Hashing, EqDecides}
 use Rattle.merkle_base.specs.Digests.{peak_digests}
 use Rattle.merkle_batch_theory.specs.Contents.{Contents, Agrees, held_peaks}
-use Rattle.merkle_batch_theory.specs.Recorded.{Chain, records, after}
+use Rattle.merkle_batch_theory.specs.Records.{MerkleizedModel, records, after}
 use Rattle.merkle_batch_theory.specs.Replay.{last_match, oldest, begins_at, ends_at, matched}
-use Rattle.merkle_batch_theory.specs.Stands.{StandsOn}
+use Rattle.merkle_batch_theory.specs.History.{IsHistory}
 use Rattle.merkle_batch_theory.proofs.Steps.{step_size}
 use Rattle.merkle_batch_theory.proofs.Accepted.{peaks_agree, stands_at, head_stands}
 
@@ -28,10 +28,10 @@ last_some test (y ∷ xs) (suc j) x e t = later (last_match test xs) (cond (test
     later (Some i) u t = refl
 
 module _ {D : Type 0} (h : Hashing D) (rule : List ℕ → List ℕ) where
-  both_true : TellsApart h → (n m : ℕ) (ps qs : List D) → n ≡ m → ps ≡ qs → (n == m) && pointwise h.same ps qs ≡ true
+  both_true : EqDecides h → (n m : ℕ) (ps qs : List D) → n ≡ m → ps ≡ qs → (n == m) && pointwise h.same ps qs ≡ true
   both_true law n m ps qs e f = ap (λ b. b && pointwise h.same ps qs) (eq-eqb n m e) ∙ (pointwise_decides law ps qs).1 f
 
-  pub accepts : TellsApart h → (k : Chain D) (ls : List (List D)) (c : Contents D) (X : List D) (i : ℕ) → StandsOn h rule (records k) ls → slice_get ls i ≡ Some X → i ≤ length k.ancestors → Agrees h rule c X →
+  pub accepts : EqDecides h → (k : MerkleizedModel D) (ls : List (List D)) (c : Contents D) (X : List D) (i : ℕ) → IsHistory h rule (records k) ls → slice_get ls i ≡ Some X → i ≤ length k.ancestors → Agrees h rule c X →
       is_some (matched h.same c.size (held_peaks rule (length X) c) k) ≡ true
   accepts law k ls c X zero s g l a =
       (let w = head_stands h rule k ls s in

@@ -2,7 +2,7 @@
 use Rattle.std.proofs.Common.{◌≡◌, ◌⊎◌, Option, Some, None, true, false, refl, inl, inr}
 use Rattle.std.specs.Prelude.{is_some}
 use Rattle.std.specs.Option.{option_or}
-use Rattle.merkle_batch_theory.specs.Replay.{over}
+use Rattle.merkle_batch_theory.specs.Replay.{overwritten_by}
 
 pub none_or_some : {D : Type 0} (o : Option D) → (o ≡ None) ⊎ ((d : D) × (o ≡ Some d))
 none_or_some None = inl refl
@@ -32,6 +32,6 @@ pub both_none : {D : Type 0} (a b : Option D) → option_or a b ≡ None → (a 
 both_none None b e = (refl, e)
 both_none (Some d) b e = absurd (cc)
 
-pub over_none : {D : Type 0} (o : Option D) → over None o ≡ o
+pub over_none : {D : Type 0} (o : Option D) → overwritten_by None o ≡ o
 over_none None = refl
 over_none (Some d) = refl

@@ -13,9 +13,9 @@ use Rattle.std.proofs.lemmas.Bool.Decides.{nat_tests}
 use Rattle.std.proofs.lemmas.List.{length-set, set-append_left, set-append_right}
 use Rattle.merkle_base.specs.Forest.{size}
 use Rattle.merkle_base.proofs.Nodes.{size_inj}
-use Rattle.merkle_batch_theory.specs.Pending.{Pending, IsPending, OutOfBounds, Pruned, leaf_total, with_update, with_updates, update_fault, first_fault, pending_list, with_entries, with_leaves}
-use Rattle.merkle_batch_theory.specs.Replay.{over}
-use Rattle.merkle_batch_theory.specs.Stands.{replaced}
+use Rattle.merkle_batch_theory.specs.Unmerkleized.{UnmerkleizedModel, IsUnmerkleizedValid, OutOfBounds, Pruned, leaf_total, with_update, with_updates, update_fault, first_fault, pending_list, with_entries, with_leaves}
+use Rattle.merkle_batch_theory.specs.Replay.{overwritten_by}
+use Rattle.merkle_batch_theory.specs.History.{replaced}
 use Rattle.merkle_batch_theory.proofs.Steps.{replaced_length}
 use Rattle.merkle_batch_theory.proofs.Edits.{same_gets, get_set_same, get_set_other, replaced_get}
 use Rattle.merkle_batch_theory.proofs.Stored.{find_lookup, lookup_at}
@@ -38,20 +38,20 @@ entries_inserted es fs k d e = same_map nat_cmp_total nat_cmp-IsAntisymmetric (f
 
 module _ {D : Type 0} (rule : List ℕ → List ℕ) where
   -- ---- one update
-  abbrev pub over_old : Pending D → FinMap nat_cmp D → Pending D
+  abbrev pub over_old : UnmerkleizedModel D → FinMap nat_cmp D → UnmerkleizedModel D
   over_old p m = record { parent = p.parent; leaves_before = p.leaves_before; added = p.added; overwritten = m; forgotten = p.forgotten }
 
-  abbrev pub over_new : Pending D → List D → Pending D
+  abbrev pub over_new : UnmerkleizedModel D → List D → UnmerkleizedModel D
   over_new p ds = record { parent = p.parent; leaves_before = p.leaves_before; added = ds; overwritten = p.overwritten; forgotten = p.forgotten }
 
-  pub updated_old : (p : Pending D) (k : ℕ) (d : D) → k < p.leaves_before → with_update rule p k d ≡ over_old p (insert p.overwritten (size rule k) d)
+  pub updated_old : (p : UnmerkleizedModel D) (k : ℕ) (d : D) → k < p.leaves_before → with_update rule p k d ≡ over_old p (insert p.overwritten (size rule k) d)
   updated_old p k d l = ap (λ b. cond b (over_old p (insert p.overwritten (size rule k) d)) (over_new p (set p.added (k - p.leaves_before) d))) (lt-ltb k p.leaves_before l)
 
-  pub updated_new : (p : Pending D) (k : ℕ) (d : D) → p.leaves_before ≤ k → with_update rule p k d ≡ over_new p (set p.added (k - p.leaves_before) d)
+  pub updated_new : (p : UnmerkleizedModel D) (k : ℕ) (d : D) → p.leaves_before ≤ k → with_update rule p k d ≡ over_new p (set p.added (k - p.leaves_before) d)
   updated_new p k d l = ap (λ b. cond b (over_old p (insert p.overwritten (size rule k) d)) (over_new p (set p.added (k - p.leaves_before) d))) (le-ltb k p.leaves_before l)
 
   -- an old leaf's update keeps the invariant
-  pub old_kept : (max_leaves : ℕ) (p : Pending D) (k : ℕ) (d : D) (m : FinMap nat_cmp D) → IsPending rule max_leaves p → k < p.leaves_before → m ≡ insert p.overwritten (size rule k) d → IsPending rule max_leaves (over_old p m)
+  pub old_kept : (max_leaves : ℕ) (p : UnmerkleizedModel D) (k : ℕ) (d : D) (m : FinMap nat_cmp D) → IsUnmerkleizedValid rule max_leaves p → k < p.leaves_before → m ≡ insert p.overwritten (size rule k) d → IsUnmerkleizedValid rule max_leaves (over_old p m)
   old_kept max_leaves p k d m is l e = record {
     bounded = is.bounded;
     sized = is.sized;
@@ -66,23 +66,23 @@ module _ {D : Type 0} (rule : List ℕ → List ℕ) where
   -- ---- what it does to the list
   old_list : (m : FinMap nat_cmp D) (X : List D) (k : ℕ) (d : D) → k < length X → replaced rule (get (insert m (size rule k) d)) 0 X ≡ set (replaced rule (get m) 0 X) k d
   old_list m X k d l = same_gets (replaced rule (get (insert m (size rule k) d)) 0 X) (set (replaced rule (get m) 0 X) k d) (λ i.
-      replaced_get rule (get (insert m (size rule k) d)) 0 X i ∙ ap (λ (j : ℕ). over (get (insert m (size rule k) d) (size rule j)) (slice_get X i)) (zero_more i)
-      ∙ ap (λ o. over o (slice_get X i)) (inserted_at m (size rule k) d (size rule i)) ∙ here i)
+      replaced_get rule (get (insert m (size rule k) d)) 0 X i ∙ ap (λ (j : ℕ). overwritten_by (get (insert m (size rule k) d) (size rule j)) (slice_get X i)) (zero_more i)
+      ∙ ap (λ o. overwritten_by o (slice_get X i)) (inserted_at m (size rule k) d (size rule i)) ∙ here i)
     where
       zero_more : (i : ℕ) → 0 + i ≡ i
       zero_more i = omega arith
 
-      here : (i : ℕ) → over (cond (size rule i == size rule k) (Some d) (get m (size rule i))) (slice_get X i) ≡ slice_get (set (replaced rule (get m) 0 X) k d) i
+      here : (i : ℕ) → overwritten_by (cond (size rule i == size rule k) (Some d) (get m (size rule i))) (slice_get X i) ≡ slice_get (set (replaced rule (get m) 0 X) k d) i
       here i = elim (cases_eq i k) [
         | inl q ↦ (let v = get_exists X i (omega (arith, q, l)) in
-            ap (λ t. over (cond t (Some d) (get m (size rule i))) (slice_get X i)) (eq-eqb (size rule i) (size rule k) (ap (size rule) q)) ∙ ap (over (Some d)) v.1
+            ap (λ t. overwritten_by (cond t (Some d) (get m (size rule i))) (slice_get X i)) (eq-eqb (size rule i) (size rule k) (ap (size rule) q)) ∙ ap (overwritten_by (Some d)) v.1
             ∙ sym (ap (slice_get (set (replaced rule (get m) 0 X) k d)) q ∙ get_set_same (replaced rule (get m) 0 X) k d (omega (arith, l, replaced_length rule (get m) 0 X))))
         | inr q ↦
-            ap (λ t. over (cond t (Some d) (get m (size rule i))) (slice_get X i)) (ne_eqb (size rule i) (size rule k) (λ e. q (size_inj rule i k e)))
-            ∙ ap (λ (j : ℕ). over (get m (size rule j)) (slice_get X i)) (sym (zero_more i)) ∙ sym (replaced_get rule (get m) 0 X i) ∙ sym (get_set_other (replaced rule (get m) 0 X) k i d q)
+            ap (λ t. overwritten_by (cond t (Some d) (get m (size rule i))) (slice_get X i)) (ne_eqb (size rule i) (size rule k) (λ e. q (size_inj rule i k e)))
+            ∙ ap (λ (j : ℕ). overwritten_by (get m (size rule j)) (slice_get X i)) (sym (zero_more i)) ∙ sym (replaced_get rule (get m) 0 X i) ∙ sym (get_set_other (replaced rule (get m) 0 X) k i d q)
       ]
 
-  pub update_list : (p : Pending D) (k : ℕ) (d : D) (X : List D) → length X ≡ p.leaves_before → pending_list rule (with_update rule p k d) X ≡ set (pending_list rule p X) k d
+  pub update_list : (p : UnmerkleizedModel D) (k : ℕ) (d : D) (X : List D) → length X ≡ p.leaves_before → pending_list rule (with_update rule p k d) X ≡ set (pending_list rule p X) k d
   update_list p k d X e = elim (cases_lt k p.leaves_before) [
     | inl l ↦
         ap (λ q. pending_list rule q X) (updated_old p k d l) ∙ ap (λ xs. xs ++ p.added) (old_list p.overwritten X k d (omega (arith, e, l)))
@@ -93,42 +93,42 @@ module _ {D : Type 0} (rule : List ℕ → List ℕ) where
   ]
 
   -- added leaves stand at its end
-  pub leaves_list : (p : Pending D) (ds : List D) (X : List D) → pending_list rule (with_leaves p ds) X ≡ pending_list rule p X ++ ds
+  pub leaves_list : (p : UnmerkleizedModel D) (ds : List D) (X : List D) → pending_list rule (with_leaves p ds) X ≡ pending_list rule p X ++ ds
   leaves_list p ds X = sym (append_assoc (replaced rule (get p.overwritten) 0 X) p.added ds)
 
   -- ---- faults
-  pub out_of_bounds : (p : Pending D) (k : ℕ) → leaf_total p ≤ k → update_fault rule p k ≡ Some (OutOfBounds k)
+  pub out_of_bounds : (p : UnmerkleizedModel D) (k : ℕ) → leaf_total p ≤ k → update_fault rule p k ≡ Some (OutOfBounds k)
   out_of_bounds p k l = ap (λ b. cond b (Some (OutOfBounds k)) (cond (ltb k p.parent.boundary) (Some (Pruned (size rule k))) None)) (le-leb (leaf_total p) k l)
 
-  pub pruned_fault : (p : Pending D) (k : ℕ) → k < leaf_total p → k < p.parent.boundary → update_fault rule p k ≡ Some (Pruned (size rule k))
+  pub pruned_fault : (p : UnmerkleizedModel D) (k : ℕ) → k < leaf_total p → k < p.parent.boundary → update_fault rule p k ≡ Some (Pruned (size rule k))
   pruned_fault p k l m =
       ap (λ b. cond b (Some (OutOfBounds k)) (cond (ltb k p.parent.boundary) (Some (Pruned (size rule k))) None)) (lt-leb (leaf_total p) k l)
       ∙ ap (λ b. cond b (Some (Pruned (size rule k))) None) (lt-ltb k p.parent.boundary m)
 
   -- an update keeps the number of leaves and the parent
-  pub total_kept : (p : Pending D) (k : ℕ) (d : D) → leaf_total (with_update rule p k d) ≡ leaf_total p
+  pub total_kept : (p : UnmerkleizedModel D) (k : ℕ) (d : D) → leaf_total (with_update rule p k d) ≡ leaf_total p
   total_kept p k d = by_test (λ b. leaf_total (cond b (over_old p (insert p.overwritten (size rule k) d)) (over_new p (set p.added (k - p.leaves_before) d))) ≡ leaf_total p) (ltb k p.leaves_before)
       (λ _. refl) (λ _. ap (λ (n : ℕ). p.leaves_before + n) (length-set p.added (k - p.leaves_before) d))
 
-  pub parent_kept : (p : Pending D) (k : ℕ) (d : D) → (with_update rule p k d).parent ≡ p.parent
+  pub parent_kept : (p : UnmerkleizedModel D) (k : ℕ) (d : D) → (with_update rule p k d).parent ≡ p.parent
   parent_kept p k d = by_test (λ b. (cond b (over_old p (insert p.overwritten (size rule k) d)) (over_new p (set p.added (k - p.leaves_before) d))).parent ≡ p.parent) (ltb k p.leaves_before)
       (λ _. refl) (λ _. refl)
 
-  before_kept : (p : Pending D) (k : ℕ) (d : D) → (with_update rule p k d).leaves_before ≡ p.leaves_before
+  before_kept : (p : UnmerkleizedModel D) (k : ℕ) (d : D) → (with_update rule p k d).leaves_before ≡ p.leaves_before
   before_kept p k d = by_test (λ b. (cond b (over_old p (insert p.overwritten (size rule k) d)) (over_new p (set p.added (k - p.leaves_before) d))).leaves_before ≡ p.leaves_before) (ltb k p.leaves_before)
       (λ _. refl) (λ _. refl)
 
   -- ---- several updates
-  pub fault_next : (p : Pending D) (us : List (ℕ × D)) (i : ℕ) (u : ℕ × D) → i < length us → u ≡ get_or us i u → first_fault rule p (drop i us) ≡ option_or (update_fault rule p u.0) (first_fault rule p (drop (i + 1) us))
+  pub fault_next : (p : UnmerkleizedModel D) (us : List (ℕ × D)) (i : ℕ) (u : ℕ × D) → i < length us → u ≡ get_or us i u → first_fault rule p (drop i us) ≡ option_or (update_fault rule p u.0) (first_fault rule p (drop (i + 1) us))
   fault_next p us i u l e =
       ap (first_fault rule p) (drop-cons us i u l) ∙ ap (λ v. option_or (update_fault rule p v.0) (first_fault rule p (drop (suc i) us))) (sym e)
       ∙ ap (λ (n : ℕ). option_or (update_fault rule p u.0) (first_fault rule p (drop n us))) (sym (add-one i))
 
-  pub updates_next : (p : Pending D) (us : List (ℕ × D)) (i : ℕ) (u : ℕ × D) → i < length us → u ≡ get_or us i u → with_updates rule p (drop i us) ≡ with_updates rule (with_update rule p u.0 u.1) (drop (i + 1) us)
+  pub updates_next : (p : UnmerkleizedModel D) (us : List (ℕ × D)) (i : ℕ) (u : ℕ × D) → i < length us → u ≡ get_or us i u → with_updates rule p (drop i us) ≡ with_updates rule (with_update rule p u.0 u.1) (drop (i + 1) us)
   updates_next p us i u l e =
       ap (with_updates rule p) (drop-cons us i u l) ∙ ap (λ v. with_updates rule (with_update rule p v.0 v.1) (drop (suc i) us)) (sym e)
       ∙ ap (λ (n : ℕ). with_updates rule (with_update rule p u.0 u.1) (drop n us)) (sym (add-one i))
 
-  pub updates_list : (p : Pending D) (us : List (ℕ × D)) (X : List D) → length X ≡ p.leaves_before → pending_list rule (with_updates rule p us) X ≡ with_entries (pending_list rule p X) us
+  pub updates_list : (p : UnmerkleizedModel D) (us : List (ℕ × D)) (X : List D) → length X ≡ p.leaves_before → pending_list rule (with_updates rule p us) X ≡ with_entries (pending_list rule p X) us
   updates_list p [] X e = refl
   updates_list p (u ∷ us) X e = updates_list (with_update rule p u.0 u.1) us X (e ∙ sym (before_kept p u.0 u.1)) ∙ ap (λ xs. with_entries xs us) (update_list p u.0 u.1 X e)

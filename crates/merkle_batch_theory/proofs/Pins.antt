@@ -2,7 +2,7 @@
 use Rattle.std.proofs.Common.{◌≡◌, ℕ, zero, suc, ◌<◌, ◌≤◌, List, [], ◌∷◌, ◌++◌, length, map, take, drop, Bool, true, false, Some, None, cond, arith, refl, sym, ap, ◌∙◌, nat_eq, get_or, slice_set}
 use Rattle.std.specs.Map.{lookup}
 use Rattle.std.proofs.lemmas.Bool.{eqb-true}
-use Rattle.merkle_batch_theory.specs.Replay.{over}
+use Rattle.merkle_batch_theory.specs.Replay.{overwritten_by}
 use Rattle.merkle_base.proofs.Cases.{by_test}
 
 -- the pair, with the digest if it stands at that position
@@ -28,20 +28,20 @@ module _ {D : Type 0} (position : ℕ) (digest : D) where
   put_not_here zero (y ∷ es) x l is e = let t : nat_eq y.0 position ≡ false = ap (λ z. nat_eq z.0 position) (sym is) ∙ e in ap (λ b. (y.0, cond b digest y.1) ∷ es) (sym t)
   put_not_here (suc i) (y ∷ es) x l is e = ap (λ zs. put position digest y ∷ zs) (put_not_here i es x (omega arith) is e)
 
-  none_put : (b : Bool) → None ≡ cond b (over (Some digest) None) None
+  none_put : (b : Bool) → None ≡ cond b (overwritten_by (Some digest) None) None
   none_put true = refl
   none_put false = refl
 
-  one_put : (b : Bool) (d : D) → Some (cond b digest d) ≡ cond b (over (Some digest) (Some d)) (Some d)
+  one_put : (b : Bool) (d : D) → Some (cond b digest d) ≡ cond b (overwritten_by (Some digest) (Some d)) (Some d)
   one_put true d = refl
   one_put false d = refl
 
-  pub lookup_put : (i : ℕ) (es : List (ℕ × D)) → length (put_first position digest i es) ≤ i → (p : ℕ) → lookup (nat_eq p) (put_first position digest i es) ≡ cond (nat_eq p position) (over (Some digest) (lookup (nat_eq p) es)) (lookup (nat_eq p) es)
+  pub lookup_put : (i : ℕ) (es : List (ℕ × D)) → length (put_first position digest i es) ≤ i → (p : ℕ) → lookup (nat_eq p) (put_first position digest i es) ≡ cond (nat_eq p position) (overwritten_by (Some digest) (lookup (nat_eq p) es)) (lookup (nat_eq p) es)
   lookup_put zero [] l p = none_put (nat_eq p position)
   lookup_put (suc i) [] l p = none_put (nat_eq p position)
   lookup_put zero (y ∷ es) l p = absurd (omega arith)
   lookup_put (suc i) (y ∷ es) l p = by_test
-      (λ b. cond b (Some (cond (nat_eq y.0 position) digest y.1)) (lookup (nat_eq p) (put_first position digest i es)) ≡ cond (nat_eq p position) (over (Some digest) (cond b (Some y.1) (lookup (nat_eq p) es))) (cond b (Some y.1) (lookup (nat_eq p) es)))
+      (λ b. cond b (Some (cond (nat_eq y.0 position) digest y.1)) (lookup (nat_eq p) (put_first position digest i es)) ≡ cond (nat_eq p position) (overwritten_by (Some digest) (cond b (Some y.1) (lookup (nat_eq p) es))) (cond b (Some y.1) (lookup (nat_eq p) es)))
       (nat_eq p y.0)
       (λ e. ap (λ q. Some (cond (nat_eq q position) digest y.1)) (sym (eqb-true p y.0 e)) ∙ one_put (nat_eq p position) y.1)
       (λ e. lookup_put i es (omega arith) p)

@@ -9,9 +9,9 @@ use Rattle.merkle_base.specs.Forest.{forest, size}
 use Rattle.merkle_base.proofs.Nodes.{size_le}
 use Rattle.merkle_base.specs.Places.{peak_positions}
 use Rattle.merkle_batch_theory.specs.Contents.{Contents, is_kept, pruned, held_peaks}
-use Rattle.merkle_batch_theory.specs.Recorded.{Recorded, Chain, records}
-use Rattle.merkle_batch_theory.specs.Replay.{laid, all_laid, matched, refusal, applied, Refusal}
-use Rattle.merkle_batch_theory.proofs.Items.{get_reversed}
+use Rattle.merkle_batch_theory.specs.Records.{RecordModel, MerkleizedModel, records}
+use Rattle.merkle_batch_theory.specs.Replay.{with_record, with_records, matched, refusal, applied, Refusal}
+use Rattle.merkle_batch_theory.proofs.ListFacts.{get_reversed}
 use Rattle.merkle_batch_theory.proofs.Kept.{kept_from, kept_before, kept_peak, get_mapped}
 use Rattle.merkle_batch_theory.proofs.Agreed.{over_cond}
 use Rattle.merkle_base.proofs.Cases.{by_test}
@@ -34,19 +34,19 @@ module _ {D : Type 0} (rule : List ℕ → List ℕ) where
   abbrev kept_of : ℕ → Contents D → Contents D
   kept_of b c = record { boundary = b; size = c.size; node = λ p. cond (is_kept rule b p) (c.node p) None }
 
-  laid_kept : (b : ℕ) (r : Recorded D) (c : Contents D) → size rule b ≤ c.size → laid r (kept_of b c) ≡ kept_of b (laid r c)
+  laid_kept : (b : ℕ) (r : RecordModel D) (c : Contents D) → size rule b ≤ c.size → with_record r (kept_of b c) ≡ kept_of b (with_record r c)
   laid_kept b r c l =
-      same_contents b (c.size + length r.appended) (c.size + length r.appended) (laid r (kept_of b c)).node (kept_of b (laid r c)).node refl (λ p. elim (cases_lt p c.size) [
+      same_contents b (c.size + length r.appended) (c.size + length r.appended) (with_record r (kept_of b c)).node (kept_of b (with_record r c)).node refl (λ p. elim (cases_lt p c.size) [
         | inl h ↦ rw (lt-ltb p c.size h) (over_cond (get r.overwritten p) (is_kept rule b p) (c.node p))
         | inr h ↦ rw (le-ltb p c.size h, kept_from rule b p (omega (arith, l, h))) refl
       ])
 
-  laid_pruned : (b : ℕ) (r : Recorded D) (c : Contents D) → size rule b ≤ c.size → laid r (pruned rule b c) ≡ pruned rule b (laid r c)
-  laid_pruned b r c l = by_test (λ t. laid r (cond t (kept_of b c) c) ≡ cond t (kept_of b (laid r c)) (laid r c)) (ltb c.boundary b) (λ e. laid_kept b r c l) (λ e. refl)
+  laid_pruned : (b : ℕ) (r : RecordModel D) (c : Contents D) → size rule b ≤ c.size → with_record r (pruned rule b c) ≡ pruned rule b (with_record r c)
+  laid_pruned b r c l = by_test (λ t. with_record r (cond t (kept_of b c) c) ≡ cond t (kept_of b (with_record r c)) (with_record r c)) (ltb c.boundary b) (λ e. laid_kept b r c l) (λ e. refl)
 
-  pub all_laid_pruned : (b : ℕ) (rs : List (Recorded D)) (c : Contents D) → size rule b ≤ c.size → all_laid rs (pruned rule b c) ≡ pruned rule b (all_laid rs c)
-  all_laid_pruned b [] c l = refl
-  all_laid_pruned b (r ∷ rs) c l = ap (all_laid rs) (laid_pruned b r c l) ∙ all_laid_pruned b rs (laid r c) (omega (arith, l))
+  pub with_records_pruned : (b : ℕ) (rs : List (RecordModel D)) (c : Contents D) → size rule b ≤ c.size → with_records rs (pruned rule b c) ≡ pruned rule b (with_records rs c)
+  with_records_pruned b [] c l = refl
+  with_records_pruned b (r ∷ rs) c l = ap (with_records rs) (laid_pruned b r c l) ∙ with_records_pruned b rs (with_record r c) (omega (arith, l))
 
   pub peaks_pruned : (b n : ℕ) (c : Contents D) → b ≤ n → held_peaks rule n (pruned rule b c) ≡ held_peaks rule n c
   peaks_pruned b n c l =
@@ -57,17 +57,17 @@ module _ {D : Type 0} (rule : List ℕ → List ℕ) where
   pub size_pruned : (b : ℕ) (c : Contents D) → (pruned rule b c).size ≡ c.size
   size_pruned b c = by_test (λ t. (cond t (kept_of b c) c).size ≡ c.size) (ltb c.boundary b) (λ e. refl) (λ e. refl)
 
-  after_match : (b : ℕ) (k : Chain D) (c : Contents D) (o : Option ℕ) → size rule b ≤ c.size →
-      ◌≡◌ {A = Result (Contents D) Refusal} (elim o [ Some i ↦ Ok (all_laid (drop i (records k)) (pruned rule b c)) | None ↦ Err (refusal c.size k) ])
-      (elim (elim o as (λ _. Result (Contents D) Refusal) [ Some i ↦ Ok (all_laid (drop i (records k)) c) | None ↦ Err (refusal c.size k) ]) [ Ok a ↦ Ok (pruned rule b a) | Err e ↦ Err e ])
+  after_match : (b : ℕ) (k : MerkleizedModel D) (c : Contents D) (o : Option ℕ) → size rule b ≤ c.size →
+      ◌≡◌ {A = Result (Contents D) Refusal} (elim o [ Some i ↦ Ok (with_records (drop i (records k)) (pruned rule b c)) | None ↦ Err (refusal c.size k) ])
+      (elim (elim o as (λ _. Result (Contents D) Refusal) [ Some i ↦ Ok (with_records (drop i (records k)) c) | None ↦ Err (refusal c.size k) ]) [ Ok a ↦ Ok (pruned rule b a) | Err e ↦ Err e ])
   after_match b k c None l = refl
-  after_match b k c (Some i) l = ap Ok (all_laid_pruned b (drop i (records k)) c l)
+  after_match b k c (Some i) l = ap Ok (with_records_pruned b (drop i (records k)) c l)
 
   -- prune then apply equals apply then prune
-  pub applied_pruned : (same : D → D → Bool) (n b : ℕ) (k : Chain D) (c : Contents D) → c.size ≡ size rule n → b ≤ n →
+  pub applied_pruned : (same : D → D → Bool) (n b : ℕ) (k : MerkleizedModel D) (c : Contents D) → c.size ≡ size rule n → b ≤ n →
       applied same rule n k (pruned rule b c) ≡ elim (applied same rule n k c) [ Ok a ↦ Ok (pruned rule b a) | Err e ↦ Err e ]
   applied_pruned same n b k c s l =
       let same_size : (pruned rule b c).size ≡ c.size = size_pruned b c in
       let same_peaks : held_peaks rule n (pruned rule b c) ≡ held_peaks rule n c = peaks_pruned b n c l in
-      (λ x. elim (matched same (same_size x) (same_peaks x) k) as (λ _. Result (Contents D) Refusal) [ Some i ↦ Ok (all_laid (drop i (records k)) (pruned rule b c)) | None ↦ Err (refusal (same_size x) k) ])
+      (λ x. elim (matched same (same_size x) (same_peaks x) k) as (λ _. Result (Contents D) Refusal) [ Some i ↦ Ok (with_records (drop i (records k)) (pruned rule b c)) | None ↦ Err (refusal (same_size x) k) ])
       ∙ after_match b k c (matched same c.size (held_peaks rule n c) k) (omega (arith, s, size_le rule b n l))

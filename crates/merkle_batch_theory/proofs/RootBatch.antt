@@ -7,13 +7,13 @@ use Rattle.merkle_base.specs.Hashing.{Hashing}
 use Rattle.merkle_base.specs.Heights.{IsLawful}
 use Rattle.merkle_base.proofs.Nodes.{size_le}
 use Rattle.merkle_batch_theory.specs.Contents.{Contents, Agrees}
-use Rattle.merkle_batch_theory.specs.Recorded.{records}
+use Rattle.merkle_batch_theory.specs.Records.{records}
 use Rattle.merkle_batch_theory.specs.Roots.{root_batch}
-use Rattle.merkle_batch_theory.specs.Stands.{StandsOn}
+use Rattle.merkle_batch_theory.specs.History.{IsHistory}
 use Rattle.merkle_batch_theory.proofs.Accepted.{peaks_agree}
 use Rattle.merkle_batch_theory.proofs.Chains.{still}
 
-pub root_stands : {D : Type 0} (h : Hashing D) (rule : List ℕ → List ℕ) (c : Contents D) (X : List D) → Agrees h rule c X → StandsOn h rule (records (root_batch rule (length X) c)) (X ∷ X ∷ [])
+pub root_stands : {D : Type 0} (h : Hashing D) (rule : List ℕ → List ℕ) (c : Contents D) (X : List D) → Agrees h rule c X → IsHistory h rule (records (root_batch rule (length X) c)) (X ∷ X ∷ [])
 root_stands h rule c X a =
     let held = peaks_agree h rule c X a in
     (still h rule (root_batch rule (length X) c).own X a.sized refl (get-empty nat_cmp) held held, tt)

@@ -8,12 +8,12 @@ use Rattle.merkle_base.specs.Forest.{size}
 use Rattle.merkle_base.proofs.Nodes.{size_le}
 use Rattle.merkle_batch_theory.specs.Contents.{Contents, HoldsKept, held_peaks}
 use Rattle.merkle_batch_theory.specs.Held.{Held, held_contents, total_appended}
-use Rattle.merkle_batch_theory.specs.Linked.{IsLinked, RunsFrom}
-use Rattle.merkle_batch_theory.specs.Recorded.{Recorded, Chain, after, records}
-use Rattle.merkle_batch_theory.specs.Replay.{laid, all_laid, last_match, begins_at, ends_at, oldest, matched, applied}
-use Rattle.merkle_batch_theory.specs.Whole.{IsCounted, IsKept}
+use Rattle.merkle_batch_theory.specs.BatchValid.{IsBatchValid, RunsFrom}
+use Rattle.merkle_batch_theory.specs.Records.{RecordModel, MerkleizedModel, after, records}
+use Rattle.merkle_batch_theory.specs.Replay.{with_record, with_records, last_match, begins_at, ends_at, oldest, matched, applied}
+use Rattle.merkle_batch_theory.specs.MemValid.{HasLeafCount, IsMemValid}
 use Rattle.merkle_batch_theory.proofs.HeldNodes.{kept_counted}
-use Rattle.merkle_batch_theory.proofs.HeldWhere.{all_laid_held}
+use Rattle.merkle_batch_theory.proofs.HeldWhere.{with_records_held}
 use Rattle.merkle_base.proofs.Cases.{by_test}
 
 same_size : (n m : ℕ) (b : Bool) → (n == m) && b ≡ true → n ≡ m
@@ -31,16 +31,16 @@ drop_map f (suc i) (x ∷ xs) = drop_map f i xs
 
 module _ {D : Type 0} where
   -- where records run to
-  ends : (n : ℕ) (rs : List (Recorded D)) (own : Recorded D) → RunsFrom n (rs ++ own ∷ []) → n + total_appended (rs ++ own ∷ []) ≡ after own
+  ends : (n : ℕ) (rs : List (RecordModel D)) (own : RecordModel D) → RunsFrom n (rs ++ own ∷ []) → n + total_appended (rs ++ own ∷ []) ≡ after own
   ends n [] own h = omega (arith, h.0)
   ends n (r ∷ rs) own h = omega (arith, h.0, ends (after r) rs own h.1)
 
   module _ (same : D → D → Bool) (n : ℕ) (peaks : List D) where
-    abbrev IsFound : List (Recorded D) → Recorded D → ℕ → Type 0
+    abbrev IsFound : List (RecordModel D) → RecordModel D → ℕ → Type 0
     IsFound rs own i = (i ≤ length rs) × (n + total_appended (drop i (rs ++ own ∷ [])) ≡ after own)
 
     -- the last record that ends at a size: the rest go on from it
-    ends_from : (rs : List (Recorded D)) (own : Recorded D) (m i : ℕ) → RunsFrom m (rs ++ own ∷ []) → last_match (ends_at same n peaks) rs ≡ Some i → IsFound rs own i
+    ends_from : (rs : List (RecordModel D)) (own : RecordModel D) (m i : ℕ) → RunsFrom m (rs ++ own ∷ []) → last_match (ends_at same n peaks) rs ≡ Some i → IsFound rs own i
     ends_from [] own m i h e = absurd (cc)
     ends_from (r ∷ rs) own m i h e =
         elim (last_match (ends_at same n peaks) rs) as (λ o. last_match (ends_at same n peaks) rs ≡ o → elim o [ Some j ↦ Some (suc j) | None ↦ cond (ends_at same n peaks r) (Some 1) None ] ≡ Some i → IsFound (r ∷ rs) own i) [
@@ -51,24 +51,24 @@ module _ {D : Type 0} where
         ] refl e
 
     -- what follows the state that is matched leads to the end
-    found : (c : Chain D) (i : ℕ) → RunsFrom (oldest c).before (records c) → matched same n peaks c ≡ Some i → IsFound c.ancestors c.own i
+    found : (c : MerkleizedModel D) (i : ℕ) → RunsFrom (oldest c).before (records c) → matched same n peaks c ≡ Some i → IsFound c.ancestors c.own i
     found c i runs e = by_test (λ b. begins_at same n peaks (oldest c) ≡ b → cond b (Some 0) (last_match (ends_at same n peaks) c.ancestors) ≡ Some i → IsFound c.ancestors c.own i) (begins_at same n peaks (oldest c))
         (λ _ t is. let at : 0 ≡ i = cc in subst (IsFound c.ancestors c.own) at (omega arith, omega (arith, same_size n (oldest c).before (pointwise same peaks (oldest c).peaks_before) t, ends (oldest c).before c.ancestors c.own runs)))
         (λ _ t is. ends_from c.ancestors c.own (oldest c).before i runs is) refl e
 
-  total_last : (rs : List (Recorded D)) (r : Recorded D) → total_appended (rs ++ r ∷ []) ≡ total_appended rs + length r.appended
+  total_last : (rs : List (RecordModel D)) (r : RecordModel D) → total_appended (rs ++ r ∷ []) ≡ total_appended rs + length r.appended
   total_last [] r = omega arith
   total_last (s ∷ rs) r = omega (arith, total_last rs r)
 
   -- the last record laid over what the others gave
-  all_last : (rs : List (Recorded D)) (r : Recorded D) (c : Contents D) → all_laid (rs ++ r ∷ []) c ≡ laid r (all_laid rs c)
+  all_last : (rs : List (RecordModel D)) (r : RecordModel D) (c : Contents D) → with_records (rs ++ r ∷ []) c ≡ with_record r (with_records rs c)
   all_last [] r c = refl
-  all_last (s ∷ rs) r c = all_last rs r (laid s c)
+  all_last (s ∷ rs) r c = all_last rs r (with_record s c)
 
 -- the kept records, as they lie in a vector
-module _ {D X : Type 0} (rule : List ℕ → List ℕ) (max_leaves : ℕ) (same : D → D → Bool) (c : Chain D) (linked : IsLinked rule max_leaves c) (value : X → Recorded D) (xs : List X) (are : map value xs ≡ c.ancestors)
+module _ {D X : Type 0} (rule : List ℕ → List ℕ) (max_leaves : ℕ) (same : D → D → Bool) (c : MerkleizedModel D) (linked : IsBatchValid rule max_leaves c) (value : X → RecordModel D) (xs : List X) (are : map value xs ≡ c.ancestors)
     (n first : ℕ) (peaks : List D) (m : matched same n peaks c ≡ Some first) where
-  abbrev kept_part : List (Recorded D)
+  abbrev kept_part : List (RecordModel D)
   kept_part = map value (take (length xs - first) (drop first xs))
 
   pub some_kept : first ≤ length xs
@@ -85,26 +85,26 @@ module _ {D X : Type 0} (rule : List ℕ → List ℕ) (max_leaves : ℕ) (same 
   total_laid = omega (arith, (found same n peaks c first linked.runs m).1, ap total_appended laid_records, total_last kept_part c.own)
 
   -- what the records give one after another they give together
-  all_records : (old mid new : Contents D) → mid ≡ all_laid kept_part old → new ≡ laid c.own mid → new ≡ all_laid (drop first (records c)) old
-  all_records old mid new laid1 laid2 = laid2 ∙ ap (laid c.own) laid1 ∙ sym (all_last kept_part c.own old) ∙ sym (ap (λ rs. all_laid rs old) laid_records)
+  all_records : (old mid new : Contents D) → mid ≡ with_records kept_part old → new ≡ with_record c.own mid → new ≡ with_records (drop first (records c)) old
+  all_records old mid new laid1 laid2 = laid2 ∙ ap (with_record c.own) laid1 ∙ sym (all_last kept_part c.own old) ∙ sym (ap (λ rs. with_records rs old) laid_records)
 
-  module _ (boundary leaves_before : ℕ) (old mid new : Held D) (kept : IsKept rule max_leaves boundary leaves_before old) (sized : n ≡ old.size)
+  module _ (boundary leaves_before : ℕ) (old mid new : Held D) (kept : IsMemValid rule max_leaves boundary leaves_before old) (sized : n ≡ old.size)
       (start : new.start ≡ old.start) (size1 : mid.size ≡ old.size + total_appended kept_part) (size2 : new.size ≡ mid.size + length c.own.appended)
-      (laid1 : held_contents boundary mid ≡ all_laid kept_part (held_contents boundary old)) (laid2 : held_contents boundary new ≡ laid c.own (held_contents boundary mid)) where
+      (laid1 : held_contents boundary mid ≡ with_records kept_part (held_contents boundary old)) (laid2 : held_contents boundary new ≡ with_record c.own (held_contents boundary mid)) where
     nodes_after : new.size ≡ after c.own
     nodes_after = omega (arith, total_laid, sized, size1, size2)
 
-    counted_after : IsCounted rule max_leaves c.leaves new.size
+    counted_after : HasLeafCount rule max_leaves c.leaves new.size
     counted_after = record { bounded = linked.counted.bounded; sized = linked.counted.sized ∙ sym nodes_after }
 
     -- what holds of the nodes held holds after the records are laid
-    pub kept_after : IsKept rule max_leaves boundary c.leaves new
+    pub kept_after : IsMemValid rule max_leaves boundary c.leaves new
     kept_after =
         let within : size rule boundary ≤ old.size = omega (arith, size_le rule boundary leaves_before kept.within, kept.counted.sized) in
         kept_counted rule max_leaves boundary c.leaves new counted_after (start ∙ kept.starts) (omega (arith, start, kept.starts, within, size1, size2))
         (subst (HoldsKept rule) (sym (all_records (held_contents boundary old) (held_contents boundary mid) (held_contents boundary new) laid1 laid2))
-        (all_laid_held rule (drop first (records c)) (held_contents boundary old) within kept.holds))
+        (with_records_held rule (drop first (records c)) (held_contents boundary old) within kept.holds))
 
   -- and the batch is applied
-  pub applied_after : (k : ℕ) (old mid new : Contents D) → mid ≡ all_laid kept_part old → new ≡ laid c.own mid → matched same old.size (held_peaks rule k old) c ≡ Some first → applied same rule k c old ≡ Ok new
+  pub applied_after : (k : ℕ) (old mid new : Contents D) → mid ≡ with_records kept_part old → new ≡ with_record c.own mid → matched same old.size (held_peaks rule k old) c ≡ Some first → applied same rule k c old ≡ Ok new
   applied_after k old mid new laid1 laid2 at = rw (applied, at) (ap Ok (sym (all_records old mid new laid1 laid2)))

@@ -12,7 +12,7 @@ use Rattle.std.specs.Map.{lookup}
 use Rattle.std.specs.List.{slice_get}
 use Rattle.std.specs.FinMap.{get, find, get-from_entries}
 use Rattle.std.specs.BTreeMap.{is_at}
-use Rattle.merkle_batch_theory.specs.Store.{numbered, stored_of}
+use Rattle.merkle_batch_theory.specs.MemModel.{numbered, stored_of}
 
 module _ {D : Type 0} where
   pub find_lookup : (p : ℕ) (es : List (ℕ × D)) → find nat_cmp p es ≡ lookup (nat_eq p) es

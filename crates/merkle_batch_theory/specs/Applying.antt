@@ -1,15 +1,15 @@
 -- What an accepted batch tells: the list at which it was accepted.
 use Rattle.std.specs.Prelude.{◌≡◌, ℕ, Bool, List, length, Some, slice_get}
-use Rattle.merkle_base.specs.Hashing.{Hashing, TellsApart}
+use Rattle.merkle_base.specs.Hashing.{Hashing, EqDecides}
 use Rattle.merkle_base.specs.Digests.{peak_digests}
 use Rattle.merkle_batch_theory.specs.Contents.{Contents, Agrees, held_peaks}
-use Rattle.merkle_batch_theory.specs.Recorded.{Chain, records}
+use Rattle.merkle_batch_theory.specs.Records.{MerkleizedModel, records}
 use Rattle.merkle_batch_theory.specs.Replay.{matched}
-use Rattle.merkle_batch_theory.specs.Stands.{StandsOn, last_list}
+use Rattle.merkle_batch_theory.specs.History.{IsHistory, last_list}
 use Rattle.merkle_batch_theory.specs.Collision.{Collide}
 
 -- a batch that stands on lists was applied to a structure that agreed with X
-pub record IsAppliedTo {D : Type 0} (h : Hashing D) (rule : List ℕ → List ℕ) (batch : Chain D) (ls : List (List D)) (X : List D) (old new : Contents D) : Type 0 where
+pub record IsAppliedTo {D : Type 0} (h : Hashing D) (rule : List ℕ → List ℕ) (batch : MerkleizedModel D) (ls : List (List D)) (X : List D) (old new : Contents D) : Type 0 where
   -- the state that was matched, and its list
   pub place : ℕ
   pub list : List D
@@ -23,7 +23,7 @@ pub record IsAppliedTo {D : Type 0} (h : Hashing D) (rule : List ℕ → List �
   pub collides : (X ≡ list → ⊥) → Collide h rule X list
 
 -- so it is for all lists that the structure agreed with and that the batch stands on
-abbrev pub IsApplied : {D : Type 0} → (D → D → Bool) → (List ℕ → List ℕ) → Chain D → (old new : Contents D) → Type 0
+abbrev pub IsApplied : {D : Type 0} → (D → D → Bool) → (List ℕ → List ℕ) → MerkleizedModel D → (old new : Contents D) → Type 0
 IsApplied {D} same rule batch old new =
-    (h : Hashing D) (X : List D) (ls : List (List D)) → TellsApart h → h.same ≡ same → Agrees h rule old X → StandsOn h rule (records batch) ls
+    (h : Hashing D) (X : List D) (ls : List (List D)) → EqDecides h → h.same ≡ same → Agrees h rule old X → IsHistory h rule (records batch) ls
     → IsAppliedTo h rule batch ls X old new

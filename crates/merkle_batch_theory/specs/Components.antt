@@ -4,10 +4,10 @@ use Rattle.merkle_base.specs.Forest.{size}
 use Rattle.merkle_base.specs.Hashing.{Hashing}
 use Rattle.merkle_base.specs.Digests.{node_digests, peak_digests}
 use Rattle.merkle_base.specs.Places.{peak_positions}
-use Rattle.merkle_batch_theory.specs.Store.{Store, stored_of}
+use Rattle.merkle_batch_theory.specs.MemModel.{MemModel, stored_of}
 
 -- n leaves, pruned to b: the pins at the peaks of b leaves, and the nodes from the position of leaf b on
-abbrev pub made_of : {D : Type 0} → (List ℕ → List ℕ) → (b n : ℕ) → (pins nodes : List D) → Store D
+abbrev pub made_of : {D : Type 0} → (List ℕ → List ℕ) → (b n : ℕ) → (pins nodes : List D) → MemModel D
 made_of rule b n pins nodes = record {
   boundary = b;
   leaves = n;

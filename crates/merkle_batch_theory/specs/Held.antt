@@ -5,7 +5,7 @@ use Rattle.std.specs.FinMap.{FinMap, code, get}
 use Rattle.std.specs.Map.{lookup}
 use Rattle.std.specs.Ordering.{nat_cmp}
 use Rattle.merkle_batch_theory.specs.Contents.{Contents}
-use Rattle.merkle_batch_theory.specs.Recorded.{Recorded}
+use Rattle.merkle_batch_theory.specs.Records.{RecordModel}
 
 pub record Held (D : Type 0) : Type 0 where
   -- the position from which on no node is missing
@@ -33,6 +33,6 @@ abbrev pub held_contents : {D : Type 0} → ℕ → Held D → Contents D
 held_contents b held = record { boundary = b; size = held.size; node = get held.stored }
 
 -- how many nodes the records append
-abbrev pub total_appended : {D : Type 0} → List (Recorded D) → ℕ
+abbrev pub total_appended : {D : Type 0} → List (RecordModel D) → ℕ
 total_appended [] = 0
 total_appended (r ∷ rs) = length r.appended + total_appended rs

@@ -3,12 +3,12 @@ use Rattle.std.specs.Prelude.{◌≡◌, ℕ, zero, suc, ◌+◌, ◌<◌, ◌�
 use Rattle.std.specs.List.{filter}
 use Rattle.merkle_base.specs.Tree.{Tree, leaf, join, position, height}
 use Rattle.merkle_base.specs.Forest.{forest, size}
-use Rattle.merkle_batch_theory.specs.Stands.{is_touched}
+use Rattle.merkle_batch_theory.specs.History.{is_dirty}
 
 -- whether the node is merged, and new after n leaves or an ancestor of a leaf that m has a digest for
 abbrev pub is_computed : {D : Type 0} → (List ℕ → List ℕ) → (ℕ → Option D) → ℕ → Tree → Bool
 is_computed rule m n (leaf p k) = false
-is_computed rule m n (join p l r) = nat_le (size rule n) p || is_touched m (join p l r)
+is_computed rule m n (join p l r) = nat_le (size rule n) p || is_dirty m (join p l r)
 
 -- the computed nodes of the forest of e leaves
 abbrev pub computed : {D : Type 0} → (List ℕ → List ℕ) → (ℕ → Option D) → ℕ → ℕ → List Tree
@@ -30,7 +30,7 @@ IsUsed rule m n e t =
 
 -- needed: used, old, and neither overwritten nor an ancestor of an overwritten leaf
 abbrev pub IsNeeded : {D : Type 0} → (List ℕ → List ℕ) → (ℕ → Option D) → ℕ → ℕ → Tree → Type 0
-IsNeeded rule m n e t = IsUsed rule m n e t × (position t < size rule n) × (is_touched m t ≡ false)
+IsNeeded rule m n e t = IsUsed rule m n e t × (position t < size rule n) × (is_dirty m t ≡ false)
 
 -- whether the node at a position, if there is one, passes
 abbrev pub passes : (Tree → Bool) → Option Tree → Bool

@@ -1,7 +1,7 @@
 -- Why a batch isn't applied or changed, as the error that a caller sees.
 use Rattle.merkle_base.specs.declared.error.Error.{Error}
 use Rattle.merkle_base.specs.declared.error.Error.TheVariants as error
-use Rattle.merkle_batch_theory.specs.Pending.{Fault, OutOfBounds, Pruned}
+use Rattle.merkle_batch_theory.specs.Unmerkleized.{Fault, OutOfBounds, Pruned}
 use Rattle.merkle_batch_theory.specs.Replay.{Refusal, AncestorDropped, StaleBatch}
 
 abbrev pub error_of : {F : Type 0} → Refusal → Error F

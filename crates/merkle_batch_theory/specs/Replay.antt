@@ -4,21 +4,21 @@ use Rattle.std.specs.Cmp.Lexicographic.{pointwise}
 use Rattle.std.specs.Option.{unwrap_or}
 use Rattle.std.specs.FinMap.{get}
 use Rattle.merkle_batch_theory.specs.Contents.{Contents, held_peaks}
-use Rattle.merkle_batch_theory.specs.Recorded.{Recorded, Chain, records, after}
+use Rattle.merkle_batch_theory.specs.Records.{RecordModel, MerkleizedModel, records, after}
 
 -- a held node takes the newer digest
-abbrev pub over : {D : Type 0} → Option D → Option D → Option D
-over newer None = None
-over newer (Some d) = Some (unwrap_or newer d)
+abbrev pub overwritten_by : {D : Type 0} → Option D → Option D → Option D
+overwritten_by newer None = None
+overwritten_by newer (Some d) = Some (unwrap_or newer d)
 
 -- a record laid over the old nodes, an overwrite of a node that is not held being dropped, and its new nodes appended
-abbrev pub laid : {D : Type 0} → Recorded D → Contents D → Contents D
-laid r c = record { boundary = c.boundary; size = c.size + length r.appended; node = λ p. cond (nat_lt p c.size) (over (get r.overwritten p) (c.node p)) (slice_get r.appended (p - c.size)) }
+abbrev pub with_record : {D : Type 0} → RecordModel D → Contents D → Contents D
+with_record r c = record { boundary = c.boundary; size = c.size + length r.appended; node = λ p. cond (nat_lt p c.size) (overwritten_by (get r.overwritten p) (c.node p)) (slice_get r.appended (p - c.size)) }
 
 -- record after record
-abbrev pub all_laid : {D : Type 0} → List (Recorded D) → Contents D → Contents D
-all_laid [] c = c
-all_laid (r ∷ rs) c = all_laid rs (laid r c)
+abbrev pub with_records : {D : Type 0} → List (RecordModel D) → Contents D → Contents D
+with_records [] c = c
+with_records (r ∷ rs) c = with_records rs (with_record r c)
 
 -- the place after the last record that passes
 abbrev pub last_match : {X : Type 0} → (X → Bool) → List X → Option ℕ
@@ -26,28 +26,28 @@ last_match test [] = None
 last_match test (r ∷ rs) = elim (last_match test rs) [ Some i ↦ Some (suc i) | None ↦ cond (test r) (Some 1) None ]
 
 -- the oldest kept record, or the batch's own
-abbrev pub oldest : {D : Type 0} → Chain D → Recorded D
+abbrev pub oldest : {D : Type 0} → MerkleizedModel D → RecordModel D
 oldest b = elim b.ancestors [ [] ↦ b.own | r ∷ rs ↦ r ]
 
 -- whether the state before the record has this size and these peaks
-abbrev pub begins_at : {D : Type 0} → (D → D → Bool) → ℕ → List D → Recorded D → Bool
+abbrev pub begins_at : {D : Type 0} → (D → D → Bool) → ℕ → List D → RecordModel D → Bool
 begins_at same size peaks r = (size == r.before) && pointwise same peaks r.peaks_before
 
 -- whether the state after it has
-abbrev pub ends_at : {D : Type 0} → (D → D → Bool) → ℕ → List D → Recorded D → Bool
+abbrev pub ends_at : {D : Type 0} → (D → D → Bool) → ℕ → List D → RecordModel D → Bool
 ends_at same size peaks r = (size == after r) && pointwise same peaks r.peaks_after
 
 -- how many records a state of this size and these peaks is behind: none if it is the one before the oldest, else those up to the newest kept ancestor that ends at it
-abbrev pub matched : {D : Type 0} → (D → D → Bool) → ℕ → List D → Chain D → Option ℕ
+abbrev pub matched : {D : Type 0} → (D → D → Bool) → ℕ → List D → MerkleizedModel D → Option ℕ
 matched same size peaks b = cond (begins_at same size peaks (oldest b)) (Some 0) (last_match (ends_at same size peaks) b.ancestors)
 
 pub data Refusal : Type 0 where
   AncestorDropped : (expected actual : ℕ) → Refusal
   StaleBatch : (expected actual : ℕ) → Refusal
 
-abbrev pub refusal : {D : Type 0} → ℕ → Chain D → Refusal
+abbrev pub refusal : {D : Type 0} → ℕ → MerkleizedModel D → Refusal
 refusal size b = cond (nat_le b.base_size size && nat_lt size (oldest b).before) (AncestorDropped (after b.own) size) (StaleBatch b.base_size size)
 
 -- a `Mem` of n leaves after a batch, or the refusal
-abbrev pub applied : {D : Type 0} → (D → D → Bool) → (List ℕ → List ℕ) → ℕ → Chain D → Contents D → Result (Contents D) Refusal
-applied same rule n b c = elim (matched same c.size (held_peaks rule n c) b) [ Some i ↦ Ok (all_laid (drop i (records b)) c) | None ↦ Err (refusal c.size b) ]
+abbrev pub applied : {D : Type 0} → (D → D → Bool) → (List ℕ → List ℕ) → ℕ → MerkleizedModel D → Contents D → Result (Contents D) Refusal
+applied same rule n b c = elim (matched same c.size (held_peaks rule n c) b) [ Some i ↦ Ok (with_records (drop i (records b)) c) | None ↦ Err (refusal c.size b) ]

@@ -2,10 +2,10 @@
 use Rattle.std.specs.Prelude.{ℕ, List, []}
 use Rattle.std.specs.FinMap.{empty}
 use Rattle.merkle_batch_theory.specs.Contents.{Contents, held_peaks}
-use Rattle.merkle_batch_theory.specs.Recorded.{Chain}
+use Rattle.merkle_batch_theory.specs.Records.{MerkleizedModel}
 
 -- a batch without changes to what a structure of n leaves holds
-abbrev pub root_batch : {D : Type 0} → (List ℕ → List ℕ) → ℕ → Contents D → Chain D
+abbrev pub root_batch : {D : Type 0} → (List ℕ → List ℕ) → ℕ → Contents D → MerkleizedModel D
 root_batch rule n c = record {
   base_size = c.size;
   boundary = c.boundary;

@@ -4,10 +4,10 @@ use Rattle.std.specs.FinMap.{empty, from_entries}
 use Rattle.merkle_base.specs.declared.family.Bagging.{Bagging}
 use Rattle.merkle_base.specs.Hashing.{Hashing}
 use Rattle.merkle_base.specs.Scheme.{Scheme, scheme_of}
-use Rattle.merkle_forest_theory.specs.Mmr.{carries}
+use Rattle.merkle_forest_theory.specs.Mmr.{mmr_merges}
 use Rattle.merkle_batch_theory.specs.Contents.{Contents, pruned}
-use Rattle.merkle_batch_theory.specs.Recorded.{Recorded, Chain}
-use Rattle.merkle_batch_theory.specs.Pending.{Pending, forked}
+use Rattle.merkle_batch_theory.specs.Records.{RecordModel, MerkleizedModel}
+use Rattle.merkle_batch_theory.specs.Unmerkleized.{UnmerkleizedModel, forked}
 use Rattle.merkle_batch_theory.specs.Roots.{root_batch}
 
 -- leaf, node and fold are the exclusive or of what they take, and so is the hash of bytes
@@ -24,17 +24,17 @@ xor = record {
 
 -- a Mountain Range over it
 abbrev pub xor_scheme : Bagging → Scheme ℕ
-xor_scheme bagging = scheme_of xor bagging carries (2 ^ 62) 0
+xor_scheme bagging = scheme_of xor bagging mmr_merges (2 ^ 62) 0
 
 -- two leaves over nothing
-abbrev pub first_record : Recorded ℕ
+abbrev pub first_record : RecordModel ℕ
 first_record = record { before = 0; peaks_before = []; appended = 1 ∷ 3 ∷ 0 ∷ []; overwritten = empty; peaks_after = 0 ∷ [] }
 
 -- leaf 0 changed, and a third leaf
-abbrev pub second_record : Recorded ℕ
+abbrev pub second_record : RecordModel ℕ
 second_record = record { before = 3; peaks_before = 0 ∷ []; appended = 7 ∷ []; overwritten = from_entries ((0, 17) ∷ (2, 16) ∷ []); peaks_after = 16 ∷ 7 ∷ [] }
 
-abbrev pub second_batch : Chain ℕ
+abbrev pub second_batch : MerkleizedModel ℕ
 second_batch = record { base_size = 0; boundary = 0; ancestors = first_record ∷ []; own = second_record; leaves = 3 }
 
 abbrev pub nothing : Contents ℕ
@@ -55,15 +55,15 @@ at_two a b p = cond (p == a || p == b) (Some 0) None
 abbrev pub five : Contents ℕ
 five = record { boundary = 0; size = 8; node = slice_get (1 ∷ 3 ∷ 0 ∷ 0 ∷ 0 ∷ 5 ∷ 3 ∷ 2 ∷ []) }
 
-abbrev pub change : Recorded ℕ
+abbrev pub change : RecordModel ℕ
 change = record { before = 8; peaks_before = 3 ∷ 2 ∷ []; appended = []; overwritten = from_entries ((0, 17) ∷ (2, 16) ∷ (6, 19) ∷ []); peaks_after = 19 ∷ 2 ∷ [] }
 
 -- the two leaves exchanged, which their peak does not tell
-abbrev pub exchange : Recorded ℕ
+abbrev pub exchange : RecordModel ℕ
 exchange = record { before = 3; peaks_before = 0 ∷ []; appended = []; overwritten = from_entries ((0, 3) ∷ (1, 1) ∷ (2, 0) ∷ []); peaks_after = 0 ∷ [] }
 
 -- a batch of that record alone
-abbrev pub exchanging : Chain ℕ
+abbrev pub exchanging : MerkleizedModel ℕ
 exchanging = record { base_size = 3; boundary = 0; ancestors = []; own = exchange; leaves = 2 }
 
 -- and the structure after it
@@ -71,20 +71,20 @@ abbrev pub two_exchanged : Contents ℕ
 two_exchanged = record { boundary = 0; size = 3; node = slice_get (3 ∷ 1 ∷ 0 ∷ []) }
 
 -- a third leaf
-abbrev pub addition : Recorded ℕ
+abbrev pub addition : RecordModel ℕ
 addition = record { before = 3; peaks_before = 0 ∷ []; appended = 7 ∷ []; overwritten = empty; peaks_after = 0 ∷ 7 ∷ [] }
 
-abbrev pub exchanged_batch : Chain ℕ
+abbrev pub exchanged_batch : MerkleizedModel ℕ
 exchanged_batch = record { base_size = 0; boundary = 0; ancestors = first_record ∷ exchange ∷ []; own = addition; leaves = 3 }
 
 -- a fourth leaf, over that batch without its oldest record
-abbrev pub fourth : Pending ℕ
+abbrev pub fourth : UnmerkleizedModel ℕ
 fourth = record { parent = exchanged_batch; leaves_before = 3; added = 9 ∷ []; overwritten = empty; forgotten = 1 }
 
 -- no changes, over a batch whose own record exchanges the leaves
-abbrev pub over_exchange : Pending ℕ
+abbrev pub over_exchange : UnmerkleizedModel ℕ
 over_exchange = forked (record { base_size = 0; boundary = 0; ancestors = first_record ∷ []; own = exchange; leaves = 2 })
 
 -- forked from five leaves of which four are pruned, taken for n leaves
-abbrev pub over_pruned : ℕ → Pending ℕ
-over_pruned n = forked (root_batch carries n (pruned carries 4 five))
+abbrev pub over_pruned : ℕ → UnmerkleizedModel ℕ
+over_pruned n = forked (root_batch mmr_merges n (pruned mmr_merges 4 five))

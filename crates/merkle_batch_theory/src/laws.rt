@@ -7,27 +7,27 @@ ghost use Rattle.std.specs.Option.{option_or};
 ghost use Rattle.std.specs.List.{IsDistinct, list_any};
 ghost use Rattle.merkle_base.specs.Tree.{Tree, leaf, join, position, height, IsUnder};
 ghost use Rattle.merkle_base.specs.Forest.{forest, size};
-ghost use Rattle.merkle_base.specs.Hashing.{Hashing, TellsApart};
+ghost use Rattle.merkle_base.specs.Hashing.{Hashing, EqDecides};
 ghost use Rattle.merkle_base.specs.Digests.{node_digests, peak_digests};
 ghost use Rattle.merkle_base.specs.Places.{peak_positions};
 ghost use Rattle.merkle_batch_theory.specs.Contents.{Contents, Agrees, HoldsKept, is_kept, pruned, held_peaks};
 ghost use Rattle.merkle_batch_theory.specs.Components.{AreComponents, made_of};
-ghost use Rattle.merkle_batch_theory.specs.Store.{contents, no_leaves};
+ghost use Rattle.merkle_batch_theory.specs.MemModel.{contents, no_leaves};
 ghost use Rattle.merkle_batch_theory.specs.Applying.{IsAppliedTo};
-ghost use Rattle.merkle_batch_theory.specs.Pending.{Pending, OutOfBounds, Pruned, kept, kept_lists, pending_list, update_fault, first_fault, forked, with_entries, with_updates, without_ancestors};
-ghost use Rattle.merkle_batch_theory.specs.Recorded.{Recorded, Chain, records, after};
-ghost use Rattle.merkle_batch_theory.specs.Replay.{laid, all_laid, matched, applied};
-ghost use Rattle.merkle_batch_theory.specs.Stands.{StandsOn, last_list, edited, replaced, leaves_from, is_touched, IsStep};
+ghost use Rattle.merkle_batch_theory.specs.Unmerkleized.{UnmerkleizedModel, OutOfBounds, Pruned, kept, kept_lists, pending_list, update_fault, first_fault, forked, with_entries, with_updates, without_ancestors};
+ghost use Rattle.merkle_batch_theory.specs.Records.{RecordModel, MerkleizedModel, records, after};
+ghost use Rattle.merkle_batch_theory.specs.Replay.{with_record, with_records, matched, applied};
+ghost use Rattle.merkle_batch_theory.specs.History.{IsHistory, last_list, edited, replaced, leaves_from, is_dirty, IsStep};
 ghost use Rattle.merkle_batch_theory.specs.Read.{newest, read_over};
 ghost use Rattle.merkle_base.specs.Shows.{Shows};
-ghost use Rattle.merkle_batch_theory.specs.Based.{IsBased};
+ghost use Rattle.merkle_batch_theory.specs.BaseAgrees.{IsBased};
 ghost use Rattle.merkle_batch_theory.specs.Needed.{computed, level, is_computed, passes, total, IsUsed, IsNeeded};
 ghost use Rattle.merkle_batch_theory.specs.Completed.{IsCompleted};
 ghost use Rattle.merkle_batch_theory.specs.Collision.{Collide};
 ghost use Rattle.std.specs.List.{range_with_len};
 ghost use Rattle.merkle_base.specs.Root.{list_root};
 ghost use Rattle.merkle_base.specs.declared.family.Bagging.TheVariants.{ForwardFold, BackwardFold};
-ghost use Rattle.merkle_forest_theory.specs.Mmr.{carries};
+ghost use Rattle.merkle_forest_theory.specs.Mmr.{mmr_merges};
 ghost use Rattle.merkle_batch_theory.specs.Rows.{xor, xor_scheme, first_record, second_record, second_batch, nothing, one, two, at_two, five, change, exchange, exchanging, two_exchanged, addition, exchanged_batch, fourth, over_exchange, over_pruned};
 ghost use Rattle.merkle_batch_theory.specs.Replay.{refusal, AncestorDropped, StaleBatch};
 ghost use Rattle.merkle_batch_theory.specs.Roots.{root_batch};
@@ -39,8 +39,8 @@ pub fn keeping()
 
 /// Agreement is kept by what a `Mem` does.
 pub fn agreement<D>()
-    ensures replayed { (h : Hashing D) → (rule : List ℕ → List ℕ) → (rs : List (Recorded D)) → (X : List D) → (ls : List (List D)) → (c : Contents D)
-        → StandsOn h rule rs (X ∷ ls) → Agrees h rule c X → Agrees h rule (all_laid rs c) (last_list (X ∷ ls)) }
+    ensures replayed { (h : Hashing D) → (rule : List ℕ → List ℕ) → (rs : List (RecordModel D)) → (X : List D) → (ls : List (List D)) → (c : Contents D)
+        → IsHistory h rule rs (X ∷ ls) → Agrees h rule c X → Agrees h rule (with_records rs c) (last_list (X ∷ ls)) }
     ensures pruned { (h : Hashing D) → (rule : List ℕ → List ℕ) → (b : ℕ) → (X : List D) → (c : Contents D) → b ≤ length X → Agrees h rule c X
         → Agrees h rule (pruned rule b c) X }
 {}
@@ -51,8 +51,8 @@ pub fn holding<D>()
     ensures made { (rule : List ℕ → List ℕ) → (b n : ℕ) → (pins nodes : List D) → length pins ≡ length (peak_positions rule b)
         → HoldsKept rule (contents (made_of rule b n pins nodes)) }
     ensures pruned { (rule : List ℕ → List ℕ) → (b : ℕ) → (c : Contents D) → HoldsKept rule c → HoldsKept rule (pruned rule b c) }
-    ensures replayed { (rule : List ℕ → List ℕ) → (rs : List (Recorded D)) → (c : Contents D) → size rule c.boundary ≤ c.size → HoldsKept rule c
-        → HoldsKept rule (all_laid rs c) }
+    ensures replayed { (rule : List ℕ → List ℕ) → (rs : List (RecordModel D)) → (c : Contents D) → size rule c.boundary ≤ c.size → HoldsKept rule c
+        → HoldsKept rule (with_records rs c) }
     ensures peaks { (rule : List ℕ → List ℕ) → (c : Contents D) → (n : ℕ) → HoldsKept rule c → c.boundary ≤ n → c.size ≡ size rule n
         → length (held_peaks rule n c) ≡ length (peak_positions rule n) }
 {}
@@ -66,28 +66,28 @@ pub fn components<D>()
 /// Prune then apply equals apply then prune, whatever the records are.
 pub fn commuting<D>()
     ensures same { (a b : Contents D) → a.boundary ≡ b.boundary → a.size ≡ b.size → ((p : ℕ) → a.node p ≡ b.node p) → a ≡ b }
-    ensures commutes { (same : D → D → Bool) → (rule : List ℕ → List ℕ) → (n b : ℕ) → (k : Chain D) → (c : Contents D) → c.size ≡ size rule n → b ≤ n
+    ensures commutes { (same : D → D → Bool) → (rule : List ℕ → List ℕ) → (n b : ℕ) → (k : MerkleizedModel D) → (c : Contents D) → c.size ≡ size rule n → b ≤ n
         → applied same rule n k (pruned rule b c) ≡ elim (applied same rule n k c) [ Ok a ↦ Ok (pruned rule b a) | Err e ↦ Err e ] }
 {}
 
 /// Two lists of one length with the same peak digests are equal, or collide at a node.
 pub fn collision<D>()
-    ensures collides { (h : Hashing D) → (rule : List ℕ → List ℕ) → TellsApart h → (X Y : List D) → length X ≡ length Y
+    ensures collides { (h : Hashing D) → (rule : List ℕ → List ℕ) → EqDecides h → (X Y : List D) → length X ≡ length Y
         → peak_digests h rule X ≡ peak_digests h rule Y → (X ≡ Y) ⊎ Collide h rule X Y }
 {}
 
 /// A batch that stands on lists is accepted at one of them, with the length and the peak digests of the `Mem`'s list: if it is
 /// that list, the `Mem` then agrees with the last list, and if it is not, the two lists collide at a node.
 pub fn acceptance<D>()
-    ensures accepted { (h : Hashing D) → (rule : List ℕ → List ℕ) → TellsApart h → (k : Chain D) → (ls : List (List D)) → (c : Contents D) → (X : List D)
-        → (i : ℕ) → StandsOn h rule (records k) ls → Agrees h rule c X → matched h.same c.size (held_peaks rule (length X) c) k ≡ Some i
+    ensures accepted { (h : Hashing D) → (rule : List ℕ → List ℕ) → EqDecides h → (k : MerkleizedModel D) → (ls : List (List D)) → (c : Contents D) → (X : List D)
+        → (i : ℕ) → IsHistory h rule (records k) ls → Agrees h rule c X → matched h.same c.size (held_peaks rule (length X) c) k ≡ Some i
         → (Z : List D) × (slice_get ls i ≡ Some Z) × (length X ≡ length Z) × (peak_digests h rule X ≡ peak_digests h rule Z)
-        × (X ≡ Z → Agrees h rule (all_laid (drop i (records k)) c) (last_list ls)) × ((X ≡ Z → ⊥) → Collide h rule X Z) }
-    ensures applied { (h : Hashing D) → (rule : List ℕ → List ℕ) → TellsApart h → (k : Chain D) → (ls : List (List D)) → (c d : Contents D) → (X : List D)
-        → StandsOn h rule (records k) ls → Agrees h rule c X → applied h.same rule (length X) k c ≡ Ok d → IsAppliedTo h rule k ls X c d }
-    ensures accepts { (h : Hashing D) → (rule : List ℕ → List ℕ) → TellsApart h → (k : Chain D) → (ls : List (List D)) → (c : Contents D) → (X : List D)
+        × (X ≡ Z → Agrees h rule (with_records (drop i (records k)) c) (last_list ls)) × ((X ≡ Z → ⊥) → Collide h rule X Z) }
+    ensures applied { (h : Hashing D) → (rule : List ℕ → List ℕ) → EqDecides h → (k : MerkleizedModel D) → (ls : List (List D)) → (c d : Contents D) → (X : List D)
+        → IsHistory h rule (records k) ls → Agrees h rule c X → applied h.same rule (length X) k c ≡ Ok d → IsAppliedTo h rule k ls X c d }
+    ensures accepts { (h : Hashing D) → (rule : List ℕ → List ℕ) → EqDecides h → (k : MerkleizedModel D) → (ls : List (List D)) → (c : Contents D) → (X : List D)
         → (i : ℕ)
-        → StandsOn h rule (records k) ls → slice_get ls i ≡ Some X → i ≤ length k.ancestors → Agrees h rule c X
+        → IsHistory h rule (records k) ls → slice_get ls i ≡ Some X → i ≤ length k.ancestors → Agrees h rule c X
         → is_some (matched h.same c.size (held_peaks rule (length X) c) k) ≡ true }
     ensures peaks { (h : Hashing D) → (rule : List ℕ → List ℕ) → (c : Contents D) → (X : List D) → Agrees h rule c X
         → held_peaks rule (length X) c ≡ peak_digests h rule X }
@@ -95,12 +95,12 @@ pub fn acceptance<D>()
 
 /// What is read through the records of a batch that stands on lists, and below them from a base that agrees with one of those lists.
 pub fn reading<D>()
-    ensures newest { (h : Hashing D) → (rule : List ℕ → List ℕ) → (rs : List (Recorded D)) → (X : List D) → (ls : List (List D)) → (p : ℕ)
-        → StandsOn h rule rs (X ∷ ls) → slice_get (node_digests h rule (last_list (X ∷ ls))) p ≡ option_or (newest rs p) (slice_get (node_digests h rule X) p) }
-    ensures right { (h : Hashing D) → (rule : List ℕ → List ℕ) → (rs : List (Recorded D)) → (X : List D) → (ls : List (List D)) → (base : Contents D)
+    ensures newest { (h : Hashing D) → (rule : List ℕ → List ℕ) → (rs : List (RecordModel D)) → (X : List D) → (ls : List (List D)) → (p : ℕ)
+        → IsHistory h rule rs (X ∷ ls) → slice_get (node_digests h rule (last_list (X ∷ ls))) p ≡ option_or (newest rs p) (slice_get (node_digests h rule X) p) }
+    ensures right { (h : Hashing D) → (rule : List ℕ → List ℕ) → (rs : List (RecordModel D)) → (X : List D) → (ls : List (List D)) → (base : Contents D)
         → IsBased h rule rs X ls base → (p : ℕ) → (d : D) → read_over rs base p ≡ Some d
         → slice_get (node_digests h rule (last_list (X ∷ ls))) p ≡ Some d }
-    ensures answered { (h : Hashing D) → (rule : List ℕ → List ℕ) → (rs : List (Recorded D)) → (X : List D) → (ls : List (List D)) → (base : Contents D)
+    ensures answered { (h : Hashing D) → (rule : List ℕ → List ℕ) → (rs : List (RecordModel D)) → (X : List D) → (ls : List (List D)) → (base : Contents D)
         → IsBased h rule rs X ls base → (p : ℕ) → is_kept rule base.boundary p ≡ true
         → read_over rs base p ≡ slice_get (node_digests h rule (last_list (X ∷ ls))) p }
 {}
@@ -111,24 +111,24 @@ pub fn computing<D>()
         → slice_get (forest rule (length Y)).nodes p ≡ Some (join p l r)
         → slice_get (node_digests h rule Y) (position l) ≡ Some a → slice_get (node_digests h rule Y) (position r) ≡ Some b
         → slice_get (node_digests h rule Y) p ≡ Some (h.node p a b) }
-    ensures unchanged { (h : Hashing D) → (rule : List ℕ → List ℕ) → (r : Recorded D) → (X : List D) → (p : ℕ) → (t : Tree)
+    ensures unchanged { (h : Hashing D) → (rule : List ℕ → List ℕ) → (r : RecordModel D) → (X : List D) → (p : ℕ) → (t : Tree)
         → slice_get (forest rule (length X)).nodes p ≡ Some t
-        → is_touched (get r.overwritten) t ≡ false → slice_get (node_digests h rule (edited rule r X)) p ≡ slice_get (node_digests h rule X) p }
+        → is_dirty (get r.overwritten) t ≡ false → slice_get (node_digests h rule (edited rule r X)) p ≡ slice_get (node_digests h rule X) p }
     ensures used { (rule : List ℕ → List ℕ) → (m : ℕ → Option D) → (b n e : ℕ) → b ≤ n → n ≤ e → ((k : ℕ) → is_some (m (size rule k)) ≡ true → b ≤ k)
         → (t : Tree) → IsUsed rule m n e t → is_kept rule b (position t) ≡ true }
 {}
 
 /// What the calls of a batch do to its list, n being the number of leaves with those that it appended.
 pub fn editing<D>()
-    ensures length { (rule : List ℕ → List ℕ) → (r : Recorded D) → (X : List D) → (n : ℕ) → r.before ≡ size rule (length X) → length X ≤ n
+    ensures length { (rule : List ℕ → List ℕ) → (r : RecordModel D) → (X : List D) → (n : ℕ) → r.before ≡ size rule (length X) → length X ≤ n
         → r.before + length r.appended ≡ size rule n → length (edited rule r X) ≡ n }
-    ensures added { (rule : List ℕ → List ℕ) → (r s : Recorded D) → (X : List D) → (n : ℕ) → (d : D) → (more : List D) → r.before ≡ size rule (length X)
+    ensures added { (rule : List ℕ → List ℕ) → (r s : RecordModel D) → (X : List D) → (n : ℕ) → (d : D) → (more : List D) → r.before ≡ size rule (length X)
         → length X ≤ n → r.before + length r.appended ≡ size rule n → size rule n + 1 + length more ≡ size rule (suc n)
         → s.before ≡ r.before → s.overwritten ≡ r.overwritten → s.appended ≡ r.appended ++ d ∷ more → edited rule s X ≡ edited rule r X ++ d ∷ [] }
-    ensures overwritten { (rule : List ℕ → List ℕ) → (r s : Recorded D) → (X : List D) → (k : ℕ) → (d : D) → r.before ≡ size rule (length X) → k < length X
+    ensures overwritten { (rule : List ℕ → List ℕ) → (r s : RecordModel D) → (X : List D) → (k : ℕ) → (d : D) → r.before ≡ size rule (length X) → k < length X
         → s.before ≡ r.before → s.appended ≡ r.appended → ((p : ℕ) → get s.overwritten p ≡ cond (p == size rule k) (Some d) (get r.overwritten p))
         → edited rule s X ≡ slice_set (edited rule r X) k d }
-    ensures replaced { (rule : List ℕ → List ℕ) → (r s : Recorded D) → (X : List D) → (n k : ℕ) → (d : D) → r.before ≡ size rule (length X) → length X ≤ k
+    ensures replaced { (rule : List ℕ → List ℕ) → (r s : RecordModel D) → (X : List D) → (n k : ℕ) → (d : D) → r.before ≡ size rule (length X) → length X ≤ k
         → k < n
         → r.before + length r.appended ≡ size rule n → s.before ≡ r.before → s.overwritten ≡ r.overwritten
         → s.appended ≡ slice_set r.appended (size rule k - r.before) d → edited rule s X ≡ slice_set (edited rule r X) k d }
@@ -136,43 +136,43 @@ pub fn editing<D>()
 
 /// What merkleizing makes: s of the pending record r, n leaves in all.
 pub fn completing<D>()
-    ensures step { (h : Hashing D) → (rule : List ℕ → List ℕ) → (r s : Recorded D) → (X : List D) → (n : ℕ) → r.before ≡ size rule (length X) → length X ≤ n
+    ensures step { (h : Hashing D) → (rule : List ℕ → List ℕ) → (r s : RecordModel D) → (X : List D) → (n : ℕ) → r.before ≡ size rule (length X) → length X ≤ n
         → r.before + length r.appended ≡ size rule n → IsCompleted h rule r s X → IsStep h rule s X (edited rule r X) }
-    ensures stands { (h : Hashing D) → (rule : List ℕ → List ℕ) → (rs : List (Recorded D)) → (X : List D) → (ls : List (List D)) → (r : Recorded D)
+    ensures stands { (h : Hashing D) → (rule : List ℕ → List ℕ) → (rs : List (RecordModel D)) → (X : List D) → (ls : List (List D)) → (r : RecordModel D)
         → (Y : List D)
-        → StandsOn h rule rs (X ∷ ls) → IsStep h rule r (last_list (X ∷ ls)) Y → StandsOn h rule (rs ++ r ∷ []) (X ∷ ls ++ Y ∷ [])
+        → IsHistory h rule rs (X ∷ ls) → IsStep h rule r (last_list (X ∷ ls)) Y → IsHistory h rule (rs ++ r ∷ []) (X ∷ ls ++ Y ∷ [])
         × (last_list (X ∷ ls ++ Y ∷ []) ≡ Y) }
-    ensures forgets { (h : Hashing D) → (rule : List ℕ → List ℕ) → (rs : List (Recorded D)) → (ls : List (List D)) → (i : ℕ) → (X : List D)
-        → StandsOn h rule rs ls → slice_get ls i ≡ Some X
-        → (more : List (List D)) × StandsOn h rule (drop i rs) (X ∷ more) × (last_list (X ∷ more) ≡ last_list ls) }
-    ensures splits { (h : Hashing D) → (rule : List ℕ → List ℕ) → (rs : List (Recorded D)) → (r : Recorded D) → (X : List D) → (ls : List (List D))
-        → StandsOn h rule (rs ++ r ∷ []) (X ∷ ls)
-        → (more : List (List D)) × StandsOn h rule rs (X ∷ more) × IsStep h rule r (last_list (X ∷ more)) (last_list (X ∷ ls)) }
-    ensures still { (h : Hashing D) → (rule : List ℕ → List ℕ) → (r : Recorded D) → (X : List D) → r.before ≡ size rule (length X) → r.appended ≡ []
+    ensures forgets { (h : Hashing D) → (rule : List ℕ → List ℕ) → (rs : List (RecordModel D)) → (ls : List (List D)) → (i : ℕ) → (X : List D)
+        → IsHistory h rule rs ls → slice_get ls i ≡ Some X
+        → (more : List (List D)) × IsHistory h rule (drop i rs) (X ∷ more) × (last_list (X ∷ more) ≡ last_list ls) }
+    ensures splits { (h : Hashing D) → (rule : List ℕ → List ℕ) → (rs : List (RecordModel D)) → (r : RecordModel D) → (X : List D) → (ls : List (List D))
+        → IsHistory h rule (rs ++ r ∷ []) (X ∷ ls)
+        → (more : List (List D)) × IsHistory h rule rs (X ∷ more) × IsStep h rule r (last_list (X ∷ more)) (last_list (X ∷ ls)) }
+    ensures still { (h : Hashing D) → (rule : List ℕ → List ℕ) → (r : RecordModel D) → (X : List D) → r.before ≡ size rule (length X) → r.appended ≡ []
         → ((p : ℕ) → get r.overwritten p ≡ None) → r.peaks_before ≡ peak_digests h rule X → r.peaks_after ≡ peak_digests h rule X → IsStep h rule r X X }
-    ensures no_change { (h : Hashing D) → (rule : List ℕ → List ℕ) → (r : Recorded D) → (X Y : List D) → IsStep h rule r X Y → r.appended ≡ []
+    ensures no_change { (h : Hashing D) → (rule : List ℕ → List ℕ) → (r : RecordModel D) → (X Y : List D) → IsStep h rule r X Y → r.appended ≡ []
         → ((p : ℕ) → get r.overwritten p ≡ None) → Y ≡ X }
-    ensures needed_right { (h : Hashing D) → (rule : List ℕ → List ℕ) → (rs : List (Recorded D)) → (X : List D) → (ls : List (List D)) → (base : Contents D)
-        → IsBased h rule rs X ls base → (r : Recorded D) → (e : ℕ) → (t : Tree) → (d : D)
+    ensures needed_right { (h : Hashing D) → (rule : List ℕ → List ℕ) → (rs : List (RecordModel D)) → (X : List D) → (ls : List (List D)) → (base : Contents D)
+        → IsBased h rule rs X ls base → (r : RecordModel D) → (e : ℕ) → (t : Tree) → (d : D)
         → IsNeeded rule (get r.overwritten) (length (last_list (X ∷ ls))) e t → read_over rs base (position t) ≡ Some d
         → slice_get (node_digests h rule (edited rule r (last_list (X ∷ ls)))) (position t) ≡ Some d }
-    ensures none_missing { (h : Hashing D) → (rule : List ℕ → List ℕ) → (rs : List (Recorded D)) → (X : List D) → (ls : List (List D)) → (base : Contents D)
-        → IsBased h rule rs X ls base → (r : Recorded D) → (e : ℕ) → length (last_list (X ∷ ls)) ≤ e
+    ensures none_missing { (h : Hashing D) → (rule : List ℕ → List ℕ) → (rs : List (RecordModel D)) → (X : List D) → (ls : List (List D)) → (base : Contents D)
+        → IsBased h rule rs X ls base → (r : RecordModel D) → (e : ℕ) → length (last_list (X ∷ ls)) ≤ e
         → ((k : ℕ) → is_some (get r.overwritten (size rule k)) ≡ true → base.boundary ≤ k) → (t : Tree)
         → IsNeeded rule (get r.overwritten) (length (last_list (X ∷ ls))) e t → (d : D) × (read_over rs base (position t) ≡ Some d) }
 {}
 
 /// A used node t, read from what the batch has so far (`own`, right wherever it has a digest, and with one for t if t is new or dirty), then from the kept records, then from the base.
 pub fn gathering<D>()
-    ensures right { (h : Hashing D) → (rule : List ℕ → List ℕ) → (rs : List (Recorded D)) → (X : List D) → (ls : List (List D)) → (base : Contents D)
-        → IsBased h rule rs X ls base → (r : Recorded D) → (e : ℕ)
+    ensures right { (h : Hashing D) → (rule : List ℕ → List ℕ) → (rs : List (RecordModel D)) → (X : List D) → (ls : List (List D)) → (base : Contents D)
+        → IsBased h rule rs X ls base → (r : RecordModel D) → (e : ℕ)
         → (own : ℕ → Option D) → ((p : ℕ) → (d : D) → own p ≡ Some d → slice_get (node_digests h rule (edited rule r (last_list (X ∷ ls)))) p ≡ Some d)
         → (t : Tree) → IsUsed rule (get r.overwritten) (length (last_list (X ∷ ls))) e t
-        → ((size rule (length (last_list (X ∷ ls))) ≤ position t) ⊎ (is_touched (get r.overwritten) t ≡ true) → is_some (own (position t)) ≡ true)
+        → ((size rule (length (last_list (X ∷ ls))) ≤ position t) ⊎ (is_dirty (get r.overwritten) t ≡ true) → is_some (own (position t)) ≡ true)
         → (d : D) → option_or (own (position t)) (read_over rs base (position t)) ≡ Some d
         → slice_get (node_digests h rule (edited rule r (last_list (X ∷ ls)))) (position t) ≡ Some d }
     ensures missing { (rule : List ℕ → List ℕ) → (m : ℕ → Option D) → (n e : ℕ) → (own : ℕ → Option D) → (t : Tree) → IsUsed rule m n e t
-        → ((size rule n ≤ position t) ⊎ (is_touched m t ≡ true) → is_some (own (position t)) ≡ true) → own (position t) ≡ None → IsNeeded rule m n e t }
+        → ((size rule n ≤ position t) ⊎ (is_dirty m t ≡ true) → is_some (own (position t)) ≡ true) → own (position t) ≡ None → IsNeeded rule m n e t }
 {}
 
 /// How many nodes a batch computes: a list without repetition of their positions is as long, and so are the levels together.
@@ -196,7 +196,7 @@ pub fn proving()
 pub fn showing<D>()
     ensures empty { (h : Hashing D) → (rule : List ℕ → List ℕ) → Agrees h rule (record { boundary = 0; size = 0; node = λ p. None }) [] }
     ensures agrees { (h : Hashing D) → (rule : List ℕ → List ℕ) → (c : Contents D) → (X : List D) → Agrees h rule c X → Shows h rule c.size c.node X }
-    ensures batch { (h : Hashing D) → (rule : List ℕ → List ℕ) → (k : Chain D) → (X : List D) → (ls : List (List D)) → StandsOn h rule (records k) (X ∷ ls)
+    ensures batch { (h : Hashing D) → (rule : List ℕ → List ℕ) → (k : MerkleizedModel D) → (X : List D) → (ls : List (List D)) → IsHistory h rule (records k) (X ∷ ls)
         → Shows h rule (after k.own) (newest (records k)) (last_list (X ∷ ls)) }
     ensures taken { (h : Hashing D) → (rule : List ℕ → List ℕ) → (X : List D) → (n p : ℕ) → (t : Tree) → n ≤ length X
         → slice_get (forest rule n).nodes p ≡ Some t → slice_get (node_digests h rule (take n X)) p ≡ slice_get (node_digests h rule X) p }
@@ -204,78 +204,78 @@ pub fn showing<D>()
 
 /// The dirty nodes are those over an overwritten leaf, and what is used is new, dirty or needed.
 pub fn marking<D>()
-    ensures over { (m : ℕ → Option D) → (t : Tree) → (q k : ℕ) → IsUnder (leaf q k) t → is_some (m q) ≡ true → is_touched m t ≡ true }
-    ensures under { (m : ℕ → Option D) → (t : Tree) → is_touched m t ≡ true → (q k : ℕ) × IsUnder (leaf q k) t × (is_some (m q) ≡ true) }
+    ensures over { (m : ℕ → Option D) → (t : Tree) → (q k : ℕ) → IsUnder (leaf q k) t → is_some (m q) ≡ true → is_dirty m t ≡ true }
+    ensures under { (m : ℕ → Option D) → (t : Tree) → is_dirty m t ≡ true → (q k : ℕ) × IsUnder (leaf q k) t × (is_some (m q) ≡ true) }
     ensures sources { (rule : List ℕ → List ℕ) → (m : ℕ → Option D) → (n e : ℕ) → (t : Tree) → IsUsed rule m n e t
-        → (size rule n ≤ position t) ⊎ ((is_touched m t ≡ true) ⊎ IsNeeded rule m n e t) }
+        → (size rule n ≤ position t) ⊎ ((is_dirty m t ≡ true) ⊎ IsNeeded rule m n e t) }
 {}
 
 /// What a fork keeps of the records of its parent, and the lists that these stand on.
 pub fn forking<D>()
-    ensures stands { (h : Hashing D) → (rule : List ℕ → List ℕ) → (p : Pending D) → (ls : List (List D)) → p.forgotten ≤ length p.parent.ancestors
-        → StandsOn h rule (records p.parent) ls
-        → (X : List D) × (more : List (List D)) × (kept_lists p ls ≡ X ∷ more) × StandsOn h rule (kept p) (X ∷ more) × (last_list (X ∷ more) ≡ last_list ls) }
+    ensures stands { (h : Hashing D) → (rule : List ℕ → List ℕ) → (p : UnmerkleizedModel D) → (ls : List (List D)) → p.forgotten ≤ length p.parent.ancestors
+        → IsHistory h rule (records p.parent) ls
+        → (X : List D) × (more : List (List D)) × (kept_lists p ls ≡ X ∷ more) × IsHistory h rule (kept p) (X ∷ more) × (last_list (X ∷ more) ≡ last_list ls) }
     ensures last { (ls : List (List D)) → (Y : List D) → last_list (ls ++ Y ∷ []) ≡ Y }
 {}
 
 /// The definitions on small cases, by computing.
 pub fn worked_rows()
     ensures leaves { xor.leaf 0 (1 ∷ []) ∷ xor.leaf 1 (2 ∷ []) ∷ xor.leaf 3 (4 ∷ []) ∷ [] ≡ 1 ∷ 3 ∷ 7 ∷ [] }
-    ensures digests { node_digests xor carries (1 ∷ 3 ∷ 7 ∷ []) ≡ 1 ∷ 3 ∷ 0 ∷ 7 ∷ [] }
-    ensures peaks { peak_digests xor carries (1 ∷ 3 ∷ 7 ∷ []) ≡ 0 ∷ 7 ∷ [] }
+    ensures digests { node_digests xor mmr_merges (1 ∷ 3 ∷ 7 ∷ []) ≡ 1 ∷ 3 ∷ 0 ∷ 7 ∷ [] }
+    ensures peaks { peak_digests xor mmr_merges (1 ∷ 3 ∷ 7 ∷ []) ≡ 0 ∷ 7 ∷ [] }
     ensures forward_root { list_root (xor_scheme ForwardFold) (1 ∷ 3 ∷ 7 ∷ []) 0 ≡ 4 }
     ensures forward_root_one { list_root (xor_scheme ForwardFold) (1 ∷ 3 ∷ 7 ∷ []) 1 ≡ 5 }
     ensures backward_root { list_root (xor_scheme BackwardFold) (1 ∷ 3 ∷ 7 ∷ []) 0 ≡ 5 }
     ensures backward_root_one { list_root (xor_scheme BackwardFold) (1 ∷ 3 ∷ 7 ∷ []) 1 ≡ 4 }
     ensures empty_root { (list_root (xor_scheme ForwardFold) [] 0 ≡ 0) × (list_root (xor_scheme BackwardFold) [] 0 ≡ 1) }
-    ensures count_leaf { computed carries (at_two 25 25) 15 15 ≡ [] }
-    ensures count_eight { map position (computed carries (at_two 0 22) 15 16) ≡ 2 ∷ 6 ∷ 14 ∷ 24 ∷ 27 ∷ 28 ∷ 29 ∷ 30 ∷ [] }
-    ensures count_three { map position (computed carries (at_two 0 1) 4 6) ≡ 2 ∷ 6 ∷ 9 ∷ [] }
-    ensures count_all { length (computed {D = ℕ} carries (λ p. Some 0) 8 8) ≡ 7 }
-    ensures count_new { length (computed {D = ℕ} carries (λ p. None) 0 2) ≡ 1 }
-    ensures edit { edited carries second_record (1 ∷ 3 ∷ []) ≡ 17 ∷ 3 ∷ 7 ∷ [] }
+    ensures count_leaf { computed mmr_merges (at_two 25 25) 15 15 ≡ [] }
+    ensures count_eight { map position (computed mmr_merges (at_two 0 22) 15 16) ≡ 2 ∷ 6 ∷ 14 ∷ 24 ∷ 27 ∷ 28 ∷ 29 ∷ 30 ∷ [] }
+    ensures count_three { map position (computed mmr_merges (at_two 0 1) 4 6) ≡ 2 ∷ 6 ∷ 9 ∷ [] }
+    ensures count_all { length (computed {D = ℕ} mmr_merges (λ p. Some 0) 8 8) ≡ 7 }
+    ensures count_new { length (computed {D = ℕ} mmr_merges (λ p. None) 0 2) ≡ 1 }
+    ensures edit { edited mmr_merges second_record (1 ∷ 3 ∷ []) ≡ 17 ∷ 3 ∷ 7 ∷ [] }
     ensures reads { map (newest (first_record ∷ second_record ∷ [])) (range_with_len 0 5) ≡ Some 17 ∷ Some 3 ∷ Some 16 ∷ Some 7 ∷ None ∷ [] }
     ensures matched { matched xor.same 0 [] second_batch ≡ Some 0 }
     ensures matched_later { matched xor.same 3 (0 ∷ []) second_batch ≡ Some 1 }
     ensures stale { (matched xor.same 4 (16 ∷ 7 ∷ []) second_batch ≡ None) × (refusal 4 second_batch ≡ StaleBatch 0 4) }
     ensures dropped { refusal 0 (record second_batch { ancestors = [] }) ≡ AncestorDropped 4 0 }
     ensures stale_of_that_size { refusal 3 (record second_batch { ancestors = [] }) ≡ StaleBatch 0 3 }
-    ensures applies { map (all_laid (first_record ∷ second_record ∷ []) nothing).node (range_with_len 0 5) ≡ Some 17 ∷ Some 3 ∷ Some 16 ∷ Some 7 ∷ None ∷ [] }
-    ensures prunes { map (laid change (pruned carries 4 five)).node (range_with_len 0 9) ≡ None ∷ None ∷ None ∷ None ∷ None ∷ None ∷ Some 19 ∷ Some 2 ∷ None ∷ [] }
-    ensures stands { StandsOn xor carries (first_record ∷ second_record ∷ []) ([] ∷ (1 ∷ 3 ∷ []) ∷ (17 ∷ 3 ∷ 7 ∷ []) ∷ []) }
-    ensures needs { IsNeeded carries (at_two 0 0) 2 2 (leaf 1 1) }
-    ensures collide { Collide xor carries (1 ∷ 3 ∷ []) (2 ∷ 0 ∷ []) }
+    ensures applies { map (with_records (first_record ∷ second_record ∷ []) nothing).node (range_with_len 0 5) ≡ Some 17 ∷ Some 3 ∷ Some 16 ∷ Some 7 ∷ None ∷ [] }
+    ensures prunes { map (with_record change (pruned mmr_merges 4 five)).node (range_with_len 0 9) ≡ None ∷ None ∷ None ∷ None ∷ None ∷ None ∷ Some 19 ∷ Some 2 ∷ None ∷ [] }
+    ensures stands { IsHistory xor mmr_merges (first_record ∷ second_record ∷ []) ([] ∷ (1 ∷ 3 ∷ []) ∷ (17 ∷ 3 ∷ 7 ∷ []) ∷ []) }
+    ensures needs { IsNeeded mmr_merges (at_two 0 0) 2 2 (leaf 1 1) }
+    ensures collide { Collide xor mmr_merges (1 ∷ 3 ∷ []) (2 ∷ 0 ∷ []) }
 
     // A batch that exchanges two leaves, which their peak does not tell, so its two lists collide. The structure of the list
     // before is accepted at its own list; the structure of the list after at the list before, which is another.
-    ensures exchange_stands { StandsOn xor carries (exchange ∷ []) ((1 ∷ 3 ∷ []) ∷ (3 ∷ 1 ∷ []) ∷ []) }
-    ensures exchange_collides { Collide xor carries (1 ∷ 3 ∷ []) (3 ∷ 1 ∷ []) }
+    ensures exchange_stands { IsHistory xor mmr_merges (exchange ∷ []) ((1 ∷ 3 ∷ []) ∷ (3 ∷ 1 ∷ []) ∷ []) }
+    ensures exchange_collides { Collide xor mmr_merges (1 ∷ 3 ∷ []) (3 ∷ 1 ∷ []) }
     ensures exchange_matched { matched xor.same 3 (0 ∷ []) exchanging ≡ Some 0 }
-    ensures own_agrees { Agrees xor carries two (1 ∷ 3 ∷ []) }
-    ensures own_applies { applied xor.same carries 2 exchanging two ≡ Ok (laid exchange two) }
-    ensures own_before { Agrees xor carries two (3 ∷ 1 ∷ []) → ⊥ }
-    ensures foreign_agrees { Agrees xor carries two_exchanged (3 ∷ 1 ∷ []) }
-    ensures foreign_applies { applied xor.same carries 2 exchanging two_exchanged ≡ Ok (laid exchange two_exchanged) }
+    ensures own_agrees { Agrees xor mmr_merges two (1 ∷ 3 ∷ []) }
+    ensures own_applies { applied xor.same mmr_merges 2 exchanging two ≡ Ok (with_record exchange two) }
+    ensures own_before { Agrees xor mmr_merges two (3 ∷ 1 ∷ []) → ⊥ }
+    ensures foreign_agrees { Agrees xor mmr_merges two_exchanged (3 ∷ 1 ∷ []) }
+    ensures foreign_applies { applied xor.same mmr_merges 2 exchanging two_exchanged ≡ Ok (with_record exchange two_exchanged) }
 
     // With a third leaf after the exchange the structure of the list before is accepted at the list after, and agrees with
     // no list of the batch then.
-    ensures foreign_differs { Agrees xor carries (laid addition two) (3 ∷ 1 ∷ 7 ∷ []) → ⊥ }
+    ensures foreign_differs { Agrees xor mmr_merges (with_record addition two) (3 ∷ 1 ∷ 7 ∷ []) → ⊥ }
 
     // All nodes of five leaves are held, not with the four oldest leaves counted as pruned; and of what was pruned some are
     // missing where nothing counts as pruned.
-    ensures holds_all { HoldsKept carries five }
-    ensures holds_too_many { HoldsKept carries (record five { boundary = 4 }) → ⊥ }
-    ensures holds_too_few { HoldsKept carries (record (pruned carries 4 five) { boundary = 0 }) → ⊥ }
+    ensures holds_all { HoldsKept mmr_merges five }
+    ensures holds_too_many { HoldsKept mmr_merges (record five { boundary = 4 }) → ⊥ }
+    ensures holds_too_few { HoldsKept mmr_merges (record (pruned mmr_merges 4 five) { boundary = 0 }) → ⊥ }
 
     // Three leaves pruned to the second: the pin of the first two leaves' peak, and the third leaf.
-    ensures makes { map (contents {D = ℕ} (made_of carries 2 3 (0 ∷ []) (7 ∷ []))).node (range_with_len 0 5) ≡ None ∷ None ∷ Some 0 ∷ Some 7 ∷ None ∷ [] }
+    ensures makes { map (contents {D = ℕ} (made_of mmr_merges 2 3 (0 ∷ []) (7 ∷ []))).node (range_with_len 0 5) ≡ None ∷ None ∷ Some 0 ∷ Some 7 ∷ None ∷ [] }
 
     // The leaves at the locations 2, 3 and 4 stand at the positions 3, 4 and 7.
-    ensures replaces { replaced carries (at_two 3 4) 0 (5 ∷ 6 ∷ 7 ∷ 8 ∷ []) ≡ 5 ∷ 6 ∷ 0 ∷ 0 ∷ [] }
-    ensures added_leaves { leaves_from {D = ℕ} carries 2 3 (7 ∷ 8 ∷ 15 ∷ 16 ∷ 9 ∷ []) ≡ 7 ∷ 8 ∷ 9 ∷ [] }
-    ensures touches { map (is_touched (at_two 0 0)) (leaf 1 1 ∷ join 2 (leaf 0 0) (leaf 1 1) ∷ []) ≡ false ∷ true ∷ [] }
-    ensures touched_unneeded { IsNeeded carries (at_two 0 0) 2 2 (leaf 0 0) → ⊥ }
-    ensures new_unneeded { IsNeeded {D = ℕ} carries (λ p. None) 1 2 (leaf 1 1) → ⊥ }
+    ensures replaces { replaced mmr_merges (at_two 3 4) 0 (5 ∷ 6 ∷ 7 ∷ 8 ∷ []) ≡ 5 ∷ 6 ∷ 0 ∷ 0 ∷ [] }
+    ensures added_leaves { leaves_from {D = ℕ} mmr_merges 2 3 (7 ∷ 8 ∷ 15 ∷ 16 ∷ 9 ∷ []) ≡ 7 ∷ 8 ∷ 9 ∷ [] }
+    ensures touches { map (is_dirty (at_two 0 0)) (leaf 1 1 ∷ join 2 (leaf 0 0) (leaf 1 1) ∷ []) ≡ false ∷ true ∷ [] }
+    ensures dirty_unneeded { IsNeeded mmr_merges (at_two 0 0) 2 2 (leaf 0 0) → ⊥ }
+    ensures new_unneeded { IsNeeded {D = ℕ} mmr_merges (λ p. None) 1 2 (leaf 1 1) → ⊥ }
 
     // The size before the oldest record, and after it, with another peak; then their peaks with another size.
     ensures unmatched { matched xor.same 0 (1 ∷ []) second_batch ≡ None }
@@ -286,37 +286,37 @@ pub fn worked_rows()
     // Two of the states have this size and this peak: the newer one counts, unless one of them is that before the oldest record.
     ensures matched_newest { matched xor.same 3 (0 ∷ []) exchanged_batch ≡ Some 2 }
     ensures matched_oldest { matched xor.same 3 (0 ∷ []) (record exchanged_batch { ancestors = exchange ∷ [] }) ≡ Some 0 }
-    ensures accepts_later { applied xor.same carries 2 second_batch two ≡ Ok (laid second_record two) }
-    ensures stale_below { refusal 3 (root_batch carries 5 five) ≡ StaleBatch 8 3 }
-    ensures forks { ((forked second_batch).leaves_before ≡ 3) × ((root_batch carries 5 five).leaves ≡ 5) }
-    ensures refuses { applied xor.same carries 1 second_batch one ≡ Err (StaleBatch 0 1) }
-    ensures agrees { Agrees xor carries (pruned carries 4 five) (1 ∷ 3 ∷ 0 ∷ 0 ∷ 2 ∷ []) }
+    ensures accepts_later { applied xor.same mmr_merges 2 second_batch two ≡ Ok (with_record second_record two) }
+    ensures stale_below { refusal 3 (root_batch mmr_merges 5 five) ≡ StaleBatch 8 3 }
+    ensures forks { ((forked second_batch).leaves_before ≡ 3) × ((root_batch mmr_merges 5 five).leaves ≡ 5) }
+    ensures refuses { applied xor.same mmr_merges 1 second_batch one ≡ Err (StaleBatch 0 1) }
+    ensures agrees { Agrees xor mmr_merges (pruned mmr_merges 4 five) (1 ∷ 3 ∷ 0 ∷ 0 ∷ 2 ∷ []) }
 
     // With another leaf, with pruned nodes, without a node, with fewer nodes, and pruned past the end.
-    ensures agrees_otherwise { Agrees xor carries five (1 ∷ 3 ∷ 0 ∷ 0 ∷ 4 ∷ []) → ⊥ }
-    ensures agrees_unpruned { Agrees xor carries (record five { boundary = 4 }) (1 ∷ 3 ∷ 0 ∷ 0 ∷ 2 ∷ []) → ⊥ }
-    ensures agrees_partly { Agrees xor carries (record (pruned carries 4 five) { boundary = 0 }) (1 ∷ 3 ∷ 0 ∷ 0 ∷ 2 ∷ []) → ⊥ }
-    ensures agrees_shorter { Agrees xor carries (record five { size = 7 }) (1 ∷ 3 ∷ 0 ∷ 0 ∷ 2 ∷ []) → ⊥ }
-    ensures agrees_beyond { Agrees xor carries (pruned carries 6 five) (1 ∷ 3 ∷ 0 ∷ 0 ∷ 2 ∷ []) → ⊥ }
-    ensures held { held_peaks carries 5 five ≡ 3 ∷ 2 ∷ [] }
-    ensures applied_size { (all_laid (first_record ∷ second_record ∷ []) nothing).size ≡ 4 }
-    ensures applied_boundary { (laid change (pruned carries 4 five)).boundary ≡ 4 }
-    ensures pruned_size { (pruned carries 4 five).size ≡ 8 }
-    ensures pruned_again { (pruned carries 2 (pruned carries 4 five)).boundary ≡ 4 }
+    ensures agrees_otherwise { Agrees xor mmr_merges five (1 ∷ 3 ∷ 0 ∷ 0 ∷ 4 ∷ []) → ⊥ }
+    ensures agrees_unpruned { Agrees xor mmr_merges (record five { boundary = 4 }) (1 ∷ 3 ∷ 0 ∷ 0 ∷ 2 ∷ []) → ⊥ }
+    ensures agrees_partly { Agrees xor mmr_merges (record (pruned mmr_merges 4 five) { boundary = 0 }) (1 ∷ 3 ∷ 0 ∷ 0 ∷ 2 ∷ []) → ⊥ }
+    ensures agrees_shorter { Agrees xor mmr_merges (record five { size = 7 }) (1 ∷ 3 ∷ 0 ∷ 0 ∷ 2 ∷ []) → ⊥ }
+    ensures agrees_beyond { Agrees xor mmr_merges (pruned mmr_merges 6 five) (1 ∷ 3 ∷ 0 ∷ 0 ∷ 2 ∷ []) → ⊥ }
+    ensures held { held_peaks mmr_merges 5 five ≡ 3 ∷ 2 ∷ [] }
+    ensures applied_size { (with_records (first_record ∷ second_record ∷ []) nothing).size ≡ 4 }
+    ensures applied_boundary { (with_record change (pruned mmr_merges 4 five)).boundary ≡ 4 }
+    ensures pruned_size { (pruned mmr_merges 4 five).size ≡ 8 }
+    ensures pruned_again { (pruned mmr_merges 2 (pruned mmr_merges 4 five)).boundary ≡ 4 }
     ensures reads_over { map (read_over (change ∷ []) five) (6 ∷ 7 ∷ 8 ∷ []) ≡ Some 19 ∷ Some 2 ∷ None ∷ [] }
     ensures keeps { kept fourth ≡ exchange ∷ addition ∷ [] }
     ensures keeps_lists { kept_lists fourth ([] ∷ (1 ∷ 3 ∷ []) ∷ (3 ∷ 1 ∷ []) ∷ (3 ∷ 1 ∷ 7 ∷ []) ∷ []) ≡ (1 ∷ 3 ∷ []) ∷ (3 ∷ 1 ∷ []) ∷ (3 ∷ 1 ∷ 7 ∷ []) ∷ [] }
     ensures keeps_overwritten { kept over_exchange ≡ first_record ∷ exchange ∷ [] }
     ensures keeps_none { kept (over_pruned 5) ≡ [] }
     ensures lets_go { (without_ancestors fourth 5).forgotten ≡ 2 }
-    ensures adds { pending_list carries fourth (3 ∷ 1 ∷ 7 ∷ []) ≡ 3 ∷ 1 ∷ 7 ∷ 9 ∷ [] }
+    ensures adds { pending_list mmr_merges fourth (3 ∷ 1 ∷ 7 ∷ []) ≡ 3 ∷ 1 ∷ 7 ∷ 9 ∷ [] }
 
     // Of several updates of one leaf the last one stays, of an old leaf and of an added one.
-    ensures updates { pending_list carries (with_updates carries fourth ((2, 5) ∷ (3, 6) ∷ (2, 8) ∷ (3, 4) ∷ [])) (3 ∷ 1 ∷ 7 ∷ []) ≡ 3 ∷ 1 ∷ 8 ∷ 4 ∷ [] }
+    ensures updates { pending_list mmr_merges (with_updates mmr_merges fourth ((2, 5) ∷ (3, 6) ∷ (2, 8) ∷ (3, 4) ∷ [])) (3 ∷ 1 ∷ 7 ∷ []) ≡ 3 ∷ 1 ∷ 8 ∷ 4 ∷ [] }
     ensures sets { with_entries {D = ℕ} (3 ∷ 1 ∷ 7 ∷ []) ((2, 5) ∷ (0, 6) ∷ (2, 8) ∷ []) ≡ 6 ∷ 1 ∷ 8 ∷ [] }
-    ensures faults { map (update_fault carries (over_pruned 5)) (0 ∷ 3 ∷ 4 ∷ 5 ∷ []) ≡ Some (Pruned 0) ∷ Some (Pruned 4) ∷ None ∷ Some (OutOfBounds 5) ∷ [] }
-    ensures first_of_faults { first_fault carries (over_pruned 5) ((4, 1) ∷ (5, 1) ∷ (3, 1) ∷ []) ≡ Some (OutOfBounds 5) }
+    ensures faults { map (update_fault mmr_merges (over_pruned 5)) (0 ∷ 3 ∷ 4 ∷ 5 ∷ []) ≡ Some (Pruned 0) ∷ Some (Pruned 4) ∷ None ∷ Some (OutOfBounds 5) ∷ [] }
+    ensures first_of_faults { first_fault mmr_merges (over_pruned 5) ((4, 1) ∷ (5, 1) ∷ (3, 1) ∷ []) ≡ Some (OutOfBounds 5) }
 
     // With fewer leaves than were pruned, which no call leads to, both faults hold, and that there is no such leaf is told.
-    ensures both_faults { update_fault carries (over_pruned 2) 3 ≡ Some (OutOfBounds 3) }
+    ensures both_faults { update_fault mmr_merges (over_pruned 2) 3 ≡ Some (OutOfBounds 3) }
 {}

@@ -1,8 +1,8 @@
 -- How many digests prove so many leaves, in both families.
 use Rattle.std.proofs.Common.{ℕ, ◌+◌, ◌-◌, ◌^◌, ◌<◌, ◌≤◌, List, length, slice_index, sym, subst}
 use Rattle.merkle_base.specs.Heights.{peak_heights, IsLawful}
-use Rattle.merkle_forest_theory.specs.Mmr.{carries}
-use Rattle.merkle_forest_theory.specs.Mmb.{newest_pair}
+use Rattle.merkle_forest_theory.specs.Mmr.{mmr_merges}
+use Rattle.merkle_forest_theory.specs.Mmb.{mmb_merges}
 use Rattle.merkle_forest_theory.specs.FewPeaks.{FewPeaks}
 use Rattle.merkle_forest_theory.proofs.RangeLawful.{mmr_lawful}
 use Rattle.merkle_forest_theory.proofs.BeltLawful.{mmb_lawful}
@@ -18,8 +18,8 @@ few_positions rule max_leaves max_nodes law few s same most n within locations b
     at_most_122 s max_nodes lawful n bounded
     (λ i. subst (λ r. (i < length (peak_heights r n)) → slice_index (peak_heights r n) i + length (peak_heights r n) ≤ 123) (sym same) (few n i within)) locations below
 
-pub range_positions : {D : Type 0} → FewPositions D carries (2 ^ 62)
-range_positions {D = D} = few_positions {D = D} carries (2 ^ 62) (2 ^ 63 - 1) mmr_lawful mmr_few
+pub range_positions : {D : Type 0} → FewPositions D mmr_merges (2 ^ 62)
+range_positions {D = D} = few_positions {D = D} mmr_merges (2 ^ 62) (2 ^ 63 - 1) mmr_lawful mmr_few
 
-pub belt_positions : {D : Type 0} → FewPositions D newest_pair (2 ^ 62 + 30)
-belt_positions {D = D} = few_positions {D = D} newest_pair (2 ^ 62 + 30) (2 ^ 63 - 2) mmb_lawful mmb_few
+pub belt_positions : {D : Type 0} → FewPositions D mmb_merges (2 ^ 62 + 30)
+belt_positions {D = D} = few_positions {D = D} mmb_merges (2 ^ 62 + 30) (2 ^ 63 - 2) mmb_lawful mmb_few

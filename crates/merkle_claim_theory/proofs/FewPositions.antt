@@ -13,8 +13,8 @@ use Rattle.merkle_root_theory.specs.Collision.{Member}
 use Rattle.merkle_claim_theory.specs.Order.{Distinct}
 use Rattle.merkle_root_theory.specs.Plan.{tree_meets, siblings}
 use Rattle.merkle_base.specs.Places.{peaks_of}
-use Rattle.merkle_claim_theory.specs.Multiproof.{one_leaf_nodes, is_one_leaf_position, multi_positions, AtMost122}
-use Rattle.merkle_claim_theory.proofs.NoCollisions.{member_split}
+use Rattle.merkle_claim_theory.specs.Multiproof.{one_leaf_nodes, is_one_leaf_position, multi_positions, MultiSizeBound}
+use Rattle.merkle_claim_theory.proofs.HonestClaims.{member_split}
 use Rattle.merkle_root_theory.proofs.Collisions.{member_left, member_right}
 use Rattle.merkle_base.proofs.PeakLists.{Spans, all_reverse, peaks_built, peaks_spans}
 use Rattle.merkle_claim_theory.proofs.PlacesOnce.{member_map}
@@ -85,7 +85,7 @@ one_leaf_few rule max_leaves max_nodes law n few bound i x =
     back [] t m = elim m [ ]
     back (u ∷ us) t m = ⊎_elim (λ a. inr (back us t a)) (⊎_elim inl (λ z. elim z [ ])) (member_split (reverse us) (u ∷ []) t (subst (λ l. Member l t) (reverse-append (u ∷ []) us) m))
 
-pub at_most_122 : {D : Type 0} → AtMost122 D
+pub at_most_122 : {D : Type 0} → MultiSizeBound D
 at_most_122 {D = D} s max_nodes law n few bound locations below = all_below
   where
     one : (i : ℕ) → i < n → length (one_leaf_nodes i (peaks_of s.rule n)) ≤ 122

@@ -4,7 +4,7 @@ use Rattle.std.proofs.lemmas.Slice.Eq.{bytes_eq-Decides}
 use Rattle.std.proofs.lemmas.Bool.Decides.{Decides-eqb, Decides-and, Decides-not}
 use Rattle.std.proofs.lemmas.Bool.{false≢true}
 use Rattle.merkle_root_theory.specs.Expression.{Place, Root, Join, PrefixFold, SuffixFold, Node, Argument, Pair, Bytes, digest_of_argument, Input}
-use Rattle.merkle_base.specs.Hashing.{Hashing, TellsApart}
+use Rattle.merkle_base.specs.Hashing.{Hashing, EqDecides}
 use Rattle.merkle_root_theory.specs.Collision.{Member, Collision, Collides}
 use Rattle.merkle_claim_theory.specs.FirstCollision.{same_place, same_argument, is_collision, or_else, first_for, first_collision, IsFirstCollision, FindsFirst}
 
@@ -16,7 +16,7 @@ Decides-place (SuffixFold i) (SuffixFold j) = let d : Decides (i == j) (i ≡ j)
 Decides-place (Node i) (Node j) = let d : Decides (i == j) (i ≡ j) = Decides-eqb i j in (λ e. ap Node (d.0 e), λ e. d.1 cc)
 Decides-place _ _ = (λ e. cc, λ e. cc)
 
-module _ {D : Type 0} (h : Hashing D) (laws : TellsApart h) where
+module _ {D : Type 0} (h : Hashing D) (laws : EqDecides h) where
   Decides-argument : (a b : Argument D) → Decides (same_argument h a b) (a ≡ b)
   Decides-argument (Pair a b) (Pair c d) = let e : Decides (h.same a c && h.same b d) ((a ≡ c) × (b ≡ d)) = Decides-and _ _ (laws a c) (laws b d) in (λ t. ap₂ Pair (e.0 t).0 (e.0 t).1, λ p. e.1 (cc, cc))
   Decides-argument (Bytes a) (Bytes b) = let e : Decides (bytes_eq a b) (a ≡ b) = bytes_eq-Decides a b in (λ t. ap Bytes (e.0 t), λ p. e.1 cc)

@@ -7,7 +7,7 @@ use Rattle.merkle_base.specs.Tree.{Tree}
 use Rattle.merkle_claim_theory.specs.Ascending.{AscendsFrom}
 use Rattle.merkle_root_theory.specs.Expression.{PrefixFold, Expression, value, inputs}
 use Rattle.merkle_root_theory.specs.Collision.{Member, Collision, Collides}
-use Rattle.merkle_root_theory.specs.Plan.{Plan, peak, folding, forward, bag, join_bag, whole, full, plan_digest}
+use Rattle.merkle_root_theory.specs.Plan.{Plan, peak, folding, left_fold_plan, right_fold_plan, with_right_fold_plan, root_plan, plan_expression, plan_digest}
 use Rattle.merkle_base.specs.declared.family.Bagging.{Bagging}
 use Rattle.merkle_base.specs.declared.family.Bagging.TheVariants.{ForwardFold, BackwardFold}
 use Rattle.merkle_claim_theory.specs.Order.{Distinct}
@@ -21,7 +21,7 @@ use Rattle.merkle_base.proofs.PeakLists.{Spans, peaks_spans}
 use Rattle.merkle_root_theory.proofs.Extraction.{all_take, all_drop}
 use Rattle.merkle_root_theory.specs.RootString.{ByteLaws, SameFolded}
 use Rattle.merkle_base.specs.Root.{root_string}
-use Rattle.merkle_root_theory.specs.Range.{leaf_of, plan_root, Sound}
+use Rattle.merkle_root_theory.specs.Range.{leaf_of, plan_root, IsLawfulScheme}
 use Rattle.merkle_root_theory.proofs.RangeChecks.{small_leaves, small_inactive, no_plan}
 
 -- ---- members
@@ -100,27 +100,27 @@ EachPeak P (peak t) = P t
 EachPeak P (folding place l r) = EachPeak P l × EachPeak P r
 
 module _ (P : Tree → Type 0) where
-  pub each_forward : (acc : Plan) (i : ℕ) (ts : List Tree) → EachPeak P (forward acc i ts) → EachPeak P acc × AllByRecursion P ts
+  pub each_forward : (acc : Plan) (i : ℕ) (ts : List Tree) → EachPeak P (left_fold_plan acc i ts) → EachPeak P acc × AllByRecursion P ts
   each_forward acc i [] w = (w, tt)
   each_forward acc i (t ∷ ts) w = let v = each_forward (folding (PrefixFold i) acc (peak t)) (suc i) ts w in (v.0.0, (v.0.1, v.1))
 
-  pub forward_each : (acc : Plan) (i : ℕ) (ts : List Tree) → EachPeak P acc → AllByRecursion P ts → EachPeak P (forward acc i ts)
+  pub forward_each : (acc : Plan) (i : ℕ) (ts : List Tree) → EachPeak P acc → AllByRecursion P ts → EachPeak P (left_fold_plan acc i ts)
   forward_each acc i [] w v = w
   forward_each acc i (t ∷ ts) w v = forward_each (folding (PrefixFold i) acc (peak t)) (suc i) ts (w, v.0) v.1
 
-  each_bag : (i : ℕ) (t : Tree) (ts : List Tree) → EachPeak P (bag i t ts) → AllByRecursion P (t ∷ ts)
+  each_bag : (i : ℕ) (t : Tree) (ts : List Tree) → EachPeak P (right_fold_plan i t ts) → AllByRecursion P (t ∷ ts)
   each_bag i t [] w = (w, tt)
   each_bag i t (u ∷ us) w = (w.0, each_bag (suc i) u us w.1)
 
-  bag_each : (i : ℕ) (t : Tree) (ts : List Tree) → AllByRecursion P (t ∷ ts) → EachPeak P (bag i t ts)
+  bag_each : (i : ℕ) (t : Tree) (ts : List Tree) → AllByRecursion P (t ∷ ts) → EachPeak P (right_fold_plan i t ts)
   bag_each i t [] w = w.0
   bag_each i t (u ∷ us) w = (w.0, bag_each (suc i) u us w.1)
 
-  each_join : (acc : Plan) (i : ℕ) (ts : List Tree) → EachPeak P (join_bag acc i ts) → EachPeak P acc × AllByRecursion P ts
+  each_join : (acc : Plan) (i : ℕ) (ts : List Tree) → EachPeak P (with_right_fold_plan acc i ts) → EachPeak P acc × AllByRecursion P ts
   each_join acc i [] w = (w, tt)
   each_join acc i (t ∷ ts) w = (w.0, each_bag i t ts w.1)
 
-  join_each : (acc : Plan) (i : ℕ) (ts : List Tree) → EachPeak P acc → AllByRecursion P ts → EachPeak P (join_bag acc i ts)
+  join_each : (acc : Plan) (i : ℕ) (ts : List Tree) → EachPeak P acc → AllByRecursion P ts → EachPeak P (with_right_fold_plan acc i ts)
   join_each acc i [] w v = w
   join_each acc i (t ∷ ts) w v = (w, bag_each i t ts v)
 
@@ -133,77 +133,77 @@ module _ (P : Tree → Type 0) where
   EachOf None = Unit {0}
   EachOf (Some p) = EachPeak P p
 
-  each_whole : (b : Bagging) (k : ℕ) (ts : List Tree) → EachOf (whole b k ts) → AllByRecursion P ts
+  each_whole : (b : Bagging) (k : ℕ) (ts : List Tree) → EachOf (root_plan b k ts) → AllByRecursion P ts
   each_whole ForwardFold k [] w = tt
   each_whole BackwardFold k [] w = tt
   each_whole ForwardFold k (t ∷ ts) w = each_forward (peak t) 1 ts w
   each_whole BackwardFold k (t ∷ ts) w = let v = each_join _ (suc (pred k)) (drop (pred k) ts) w in let u = each_forward (peak t) 1 (take (pred k) ts) v.0 in (u.0, all_cut (pred k) ts u.1 v.1)
 
-  whole_each : (b : Bagging) (k : ℕ) (ts : List Tree) → AllByRecursion P ts → EachOf (whole b k ts)
+  whole_each : (b : Bagging) (k : ℕ) (ts : List Tree) → AllByRecursion P ts → EachOf (root_plan b k ts)
   whole_each ForwardFold k [] w = tt
   whole_each BackwardFold k [] w = tt
   whole_each ForwardFold k (t ∷ ts) w = forward_each (peak t) 1 ts w.0 w.1
   whole_each BackwardFold k (t ∷ ts) w = join_each _ (suc (pred k)) (drop (pred k) ts) (forward_each (peak t) 1 (take (pred k) ts) w.0 (all_take P (pred k) ts w.1)) (all_drop P (pred k) ts w.1)
 
-  pub each_of : (b : Bagging) (k : ℕ) (ts : List Tree) (p : Plan) → whole b k ts ≡ Some p → EachPeak P p → AllByRecursion P ts
+  pub each_of : (b : Bagging) (k : ℕ) (ts : List Tree) (p : Plan) → root_plan b k ts ≡ Some p → EachPeak P p → AllByRecursion P ts
   each_of b k ts p e w = each_whole b k ts (subst EachOf (sym e) w)
 
-  pub of_each : (b : Bagging) (k : ℕ) (ts : List Tree) (p : Plan) → whole b k ts ≡ Some p → AllByRecursion P ts → EachPeak P p
+  pub of_each : (b : Bagging) (k : ℕ) (ts : List Tree) (p : Plan) → root_plan b k ts ≡ Some p → AllByRecursion P ts → EachPeak P p
   of_each b k ts p e w = subst EachOf e (whole_each b k ts w)
 
 -- ---- a plan's root
-pub plan_for : {D : Type 0} (s : Scheme D) (n k : ℕ) → 0 < n → (p : Plan) × (whole s.bagging k (peaks_of s.rule n) ≡ Some p)
+pub plan_for : {D : Type 0} (s : Scheme D) (n k : ℕ) → 0 < n → (p : Plan) × (root_plan s.bagging k (peaks_of s.rule n) ≡ Some p)
 plan_for s n k l = some_plan s.bagging (peaks_of s.rule n) (peaks_spans s.rule n)
   where
-    some_plan : (b : Bagging) (ts : List Tree) → Spans 0 n ts → (p : Plan) × (whole b k ts ≡ Some p)
+    some_plan : (b : Bagging) (ts : List Tree) → Spans 0 n ts → (p : Plan) × (root_plan b k ts ≡ Some p)
     some_plan b [] c = absurd (omega (arith, c, l))
     some_plan ForwardFold (t ∷ ts) c = (_, refl)
     some_plan BackwardFold (t ∷ ts) c = (_, refl)
 
-pub same_plan : (b : Bagging) (k : ℕ) (ts : List Tree) (p q : Plan) → whole b k ts ≡ Some p → whole b k ts ≡ Some q → p ≡ q
+pub same_plan : (b : Bagging) (k : ℕ) (ts : List Tree) (p q : Plan) → root_plan b k ts ≡ Some p → root_plan b k ts ≡ Some q → p ≡ q
 same_plan b k ts p q d e = cc
 
 -- one root: one leaf count, one inactive count, one value of the plan, or the root's strings collide
 module _ {D : Type 0} (s : Scheme D) (size : ℕ) (bytes : ByteLaws s.hashing size) (X : ℕ → D) (E : Plan → Expression D) (n n' k k' : ℕ) (a : n < 2 ^ 64) (a' : n' < 2 ^ 64) (b : k < 2 ^ 64) (b' : k' < 2 ^ 64) where
-  pub roots : 0 < n → (p : Plan) → whole s.bagging k (peaks_of s.rule n) ≡ Some p → root_of s n k (option_map E (whole s.bagging k (peaks_of s.rule n))) ≡ root_of s n' k' (list_expression s X n' k')
+  pub roots : 0 < n → (p : Plan) → root_plan s.bagging k (peaks_of s.rule n) ≡ Some p → root_of s n k (option_map E (root_plan s.bagging k (peaks_of s.rule n))) ≡ root_of s n' k' (list_expression s X n' k')
       → ((n ≡ n') × (k ≡ k') × (value s.hashing (E p) ≡ plan_digest s.hashing X p))
-      ⊎ ((c : Collision D) × Collides s.hashing (all_inputs s n k (option_map E (whole s.bagging k (peaks_of s.rule n)))) (all_inputs s n' k' (list_expression s X n' k')) c)
-  roots l p e same = ⊎_elim (λ w. inl (told w)) inr (root_tells s size bytes n n' k k' (option_map E (whole s.bagging k (peaks_of s.rule n))) (list_expression s X n' k') a a' b b' same)
+      ⊎ ((c : Collision D) × Collides s.hashing (all_inputs s n k (option_map E (root_plan s.bagging k (peaks_of s.rule n)))) (all_inputs s n' k' (list_expression s X n' k')) c)
+  roots l p e same = ⊎_elim (λ w. inl (told w)) inr (root_tells s size bytes n n' k k' (option_map E (root_plan s.bagging k (peaks_of s.rule n))) (list_expression s X n' k') a a' b b' same)
     where
-      told : (n ≡ n') × SameFolded k (option_map (value s.hashing) (option_map E (whole s.bagging k (peaks_of s.rule n)))) k' (option_map (value s.hashing) (list_expression s X n' k')) → (n ≡ n') × (k ≡ k') × (value s.hashing (E p) ≡ plan_digest s.hashing X p)
+      told : (n ≡ n') × SameFolded k (option_map (value s.hashing) (option_map E (root_plan s.bagging k (peaks_of s.rule n)))) k' (option_map (value s.hashing) (list_expression s X n' k')) → (n ≡ n') × (k ≡ k') × (value s.hashing (E p) ≡ plan_digest s.hashing X p)
       told w =
           let q = plan_for s n' k' (omega (arith, l, w.0)) in
           let v : SameFolded k (Some (value s.hashing (E p))) k' (Some (plan_digest s.hashing X q.0)) =
-          subst (λ z. SameFolded k (Some (value s.hashing (E p))) k' (option_map (value s.hashing) (option_map (full X) z))) q.1 (subst (λ z. SameFolded k (option_map (value s.hashing) (option_map E z)) k' (option_map (value s.hashing) (list_expression s X n' k'))) e w.1) in
-          let f : q.0 ≡ p = same_plan s.bagging k (peaks_of s.rule n) q.0 p (ap₂ (λ x y. whole s.bagging x (peaks_of s.rule y)) v.0 w.0 ∙ q.1) e in
+          subst (λ z. SameFolded k (Some (value s.hashing (E p))) k' (option_map (value s.hashing) (option_map (plan_expression X) z))) q.1 (subst (λ z. SameFolded k (option_map (value s.hashing) (option_map E z)) k' (option_map (value s.hashing) (list_expression s X n' k'))) e w.1) in
+          let f : q.0 ≡ p = same_plan s.bagging k (peaks_of s.rule n) q.0 p (ap₂ (λ x y. root_plan s.bagging x (peaks_of s.rule y)) v.0 w.0 ∙ q.1) e in
           (w.0, v.0, v.1 ∙ ap (plan_digest s.hashing X) f)
 
   -- a collision below the root
-  pub below_root : (p : Plan) → whole s.bagging k (peaks_of s.rule n) ≡ Some p → n ≡ n' → k ≡ k' → ((c : Collision D) × Collides s.hashing (inputs s.hashing (E p)) (inputs s.hashing (full X p)) c)
-      → (c : Collision D) × Collides s.hashing (all_inputs s n k (option_map E (whole s.bagging k (peaks_of s.rule n)))) (all_inputs s n' k' (list_expression s X n' k')) c
+  pub below_root : (p : Plan) → root_plan s.bagging k (peaks_of s.rule n) ≡ Some p → n ≡ n' → k ≡ k' → ((c : Collision D) × Collides s.hashing (inputs s.hashing (E p)) (inputs s.hashing (plan_expression X p)) c)
+      → (c : Collision D) × Collides s.hashing (all_inputs s n k (option_map E (root_plan s.bagging k (peaks_of s.rule n)))) (all_inputs s n' k' (list_expression s X n' k')) c
   below_root p e f g c =
-      let e' : whole s.bagging k' (peaks_of s.rule n') ≡ Some p = ap₂ (λ x y. whole s.bagging x (peaks_of s.rule y)) (sym g) (sym f) ∙ e in (
+      let e' : root_plan s.bagging k' (peaks_of s.rule n') ≡ Some p = ap₂ (λ x y. root_plan s.bagging x (peaks_of s.rule y)) (sym g) (sym f) ∙ e in (
         c.0,
         record {
           claimed = inr (subst (λ z. Member (inputs_of s.hashing (option_map E z)) (record { place = c.0.place; argument = c.0.claimed })) (sym e) c.1.claimed);
-          listed = inr (subst (λ z. Member (inputs_of s.hashing (option_map (full X) z)) (record { place = c.0.place; argument = c.0.listed })) (sym e') c.1.listed);
+          listed = inr (subst (λ z. Member (inputs_of s.hashing (option_map (plan_expression X) z)) (record { place = c.0.place; argument = c.0.listed })) (sym e') c.1.listed);
           differ = c.1.differ;
           one_digest = c.1.one_digest;
         },
       )
 
 -- a plan with the list's value has the list's root
-pub roots_same : {D : Type 0} (s : Scheme D) (X : ℕ → D) (E : Plan → Expression D) (n k : ℕ) (p : Plan) → whole s.bagging k (peaks_of s.rule n) ≡ Some p → value s.hashing (E p) ≡ plan_digest s.hashing X p
-    → root_of s n k (option_map E (whole s.bagging k (peaks_of s.rule n))) ≡ root_of s n k (list_expression s X n k)
+pub roots_same : {D : Type 0} (s : Scheme D) (X : ℕ → D) (E : Plan → Expression D) (n k : ℕ) (p : Plan) → root_plan s.bagging k (peaks_of s.rule n) ≡ Some p → value s.hashing (E p) ≡ plan_digest s.hashing X p
+    → root_of s n k (option_map E (root_plan s.bagging k (peaks_of s.rule n))) ≡ root_of s n k (list_expression s X n k)
 roots_same s X E n k p e v = ap (λ o. s.hashing.hash (root_string s.hashing s.domain s.bagging n k o))
-    (ap (λ o. option_map (value s.hashing) (option_map E o)) e ∙ ap Some v ∙ ap (λ o. option_map (value s.hashing) (option_map (full X) o)) (sym e))
+    (ap (λ o. option_map (value s.hashing) (option_map E o)) e ∙ ap Some v ∙ ap (λ o. option_map (value s.hashing) (option_map (plan_expression X) o)) (sym e))
 
 -- the root of no leaves is the root of no list that has some, but for collisions
-module _ {D : Type 0} (s : Scheme D) (size max_nodes : ℕ) (sound : Sound s size max_nodes) (xs : List D) (k : ℕ) (few : length xs ≤ s.max_leaves) (low : k ≤ length (peaks_of s.rule (length xs))) where
+module _ {D : Type 0} (s : Scheme D) (size max_nodes : ℕ) (sound : IsLawfulScheme s size max_nodes) (xs : List D) (k : ℕ) (few : length xs ≤ s.max_leaves) (low : k ≤ length (peaks_of s.rule (length xs))) where
   pub no_other_list : (E : Plan → Expression D) (n j : ℕ) → n ≡ 0 → j ≡ 0 → root_of s 0 0 None ≡ plan_root s xs k
-      → (xs ≡ []) ⊎ ((c : Collision D) × Collides s.hashing (all_inputs s n j (option_map E (whole s.bagging j (peaks_of s.rule n)))) (all_inputs s (length xs) k (list_expression s (leaf_of s.hashing xs) (length xs) k)) c)
+      → (xs ≡ []) ⊎ ((c : Collision D) × Collides s.hashing (all_inputs s n j (option_map E (root_plan s.bagging j (peaks_of s.rule n)))) (all_inputs s (length xs) k (list_expression s (leaf_of s.hashing xs) (length xs) k)) c)
   no_other_list E n j e f same = ⊎_elim (λ w. inl (nil_from_length xs (sym w.0))) (λ c. inr (subst (λ z. (c : Collision D) × Collides s.hashing z (all_inputs s (length xs) k (list_expression s (leaf_of s.hashing xs) (length xs) k)) c) (sym inputs) c))
       (root_tells s size sound.bytes 0 (length xs) 0 k None (list_expression s (leaf_of s.hashing xs) (length xs) k) (omega arith) (small_leaves s max_nodes (length xs) sound.lawful few) (omega arith) (small_inactive s max_nodes (length xs) k sound.lawful few low) same)
     where
-      inputs : all_inputs s n j (option_map E (whole s.bagging j (peaks_of s.rule n))) ≡ all_inputs s 0 0 None
-      inputs = ap (λ o. all_inputs s n j (option_map E o)) (ap (λ m. whole s.bagging j (peaks_of s.rule m)) e ∙ no_plan s s.bagging j) ∙ ap₂ (λ a b. all_inputs s a b None) e f
+      inputs : all_inputs s n j (option_map E (root_plan s.bagging j (peaks_of s.rule n))) ≡ all_inputs s 0 0 None
+      inputs = ap (λ o. all_inputs s n j (option_map E o)) (ap (λ m. root_plan s.bagging j (peaks_of s.rule m)) e ∙ no_plan s s.bagging j) ∙ ap₂ (λ a b. all_inputs s a b None) e f

@@ -9,7 +9,7 @@ use Rattle.merkle_base.proofs.Growth.{built_at, built_below}
 use Rattle.merkle_root_theory.specs.Expression.{Holds}
 use Rattle.merkle_base.specs.Hashing.{Hashing}
 use Rattle.merkle_root_theory.specs.Collision.{Member}
-use Rattle.merkle_root_theory.specs.Plan.{Plan, peak, folding, whole, tree_meets, siblings, tree_digest}
+use Rattle.merkle_root_theory.specs.Plan.{Plan, peak, folding, root_plan, tree_meets, siblings, tree_digest}
 use Rattle.merkle_root_theory.specs.Claim.{InTree}
 use Rattle.merkle_claim_theory.specs.Order.{Distinct}
 use Rattle.merkle_claim_theory.specs.MultiClaim.{or_empty, TellsTree, Tells, SameTree, SameLeaves}
@@ -17,11 +17,11 @@ use Rattle.merkle_claim_theory.specs.Complete.{HonestTree, HonestPlan}
 use Rattle.merkle_root_theory.specs.Check.{root_of, list_expression}
 use Rattle.merkle_base.specs.Scheme.{Scheme}
 use Rattle.merkle_base.specs.Places.{peaks_of}
-use Rattle.merkle_root_theory.specs.Range.{leaf_of, plan_root, Sound}
+use Rattle.merkle_root_theory.specs.Range.{leaf_of, plan_root, IsLawfulScheme}
 use Rattle.merkle_claim_theory.specs.Table.{digest_for, digest_of, digest_at_position}
-use Rattle.merkle_claim_theory.specs.Multiproof.{one_leaf_nodes, is_one_leaf_position, multi_positions, MultiInput, locations_in, leaves_in, multi_on, AllHolds, AcceptsMultiSome, IsHonestMultiSome, MultiCollides, HonestMultiIsAccepted, AcceptedMultiIsHonest}
+use Rattle.merkle_claim_theory.specs.Multiproof.{one_leaf_nodes, is_one_leaf_position, multi_positions, MultiInput, locations_in, leaves_in, multi_on, AllHolds, AcceptsMultiSome, IsHonestMultiSome, MultiCollides, HonestMultiIsAccepted, MultiSound}
 use Rattle.merkle_root_theory.proofs.Collisions.{member_left, member_right}
-use Rattle.merkle_claim_theory.proofs.NoCollisions.{member_split}
+use Rattle.merkle_claim_theory.proofs.HonestClaims.{member_split}
 use Rattle.merkle_base.proofs.Cases.{by_test}
 use Rattle.merkle_claim_theory.proofs.ToldDigests.{no_other_multi}
 use Rattle.merkle_claim_theory.proofs.HonestTold.{honest_multi_accepted}
@@ -211,7 +211,7 @@ pub first_location : {D : Type 0} (es : List (ℕ × D)) → 0 < length es → (
 first_location [] l = absurd (omega arith)
 first_location (e ∷ es) l = (e.0, inl refl)
 
-module _ {D : Type 0} (s : Scheme D) (size max_nodes : ℕ) (sound : Sound s size max_nodes) (xs : List D) (k : ℕ) (few : length xs ≤ s.max_leaves) (low : k ≤ length (peaks_of s.rule (length xs))) (r : MultiInput D) where
+module _ {D : Type 0} (s : Scheme D) (size max_nodes : ℕ) (sound : IsLawfulScheme s size max_nodes) (xs : List D) (k : ℕ) (few : length xs ≤ s.max_leaves) (low : k ≤ length (peaks_of s.rule (length xs))) (r : MultiInput D) where
   same_length : length (leaves_in r) ≡ length (locations_in r)
   same_length = length-map r.elements _ ∙ sym (length-map r.elements _)
 
@@ -232,7 +232,7 @@ module _ {D : Type 0} (s : Scheme D) (size max_nodes : ℕ) (sound : Sound s siz
       (no_other_multi s.hashing sound.laws (digest_for (multi_positions s.rule r.leaves (locations_in r)) r.digests) (λ i. list_any (nat_eq i) (locations_in r)) (leaf_of s.hashing xs) Y p.0 holds w.2)) inr
       (roots s size sound.bytes (leaf_of s.hashing xs) (multi_on s r) r.leaves (length xs) r.inactive k a1 a2 b1 b2 pos p.0 p.1 ok.root_is)
     where
-      honest : r.leaves ≡ length xs → r.inactive ≡ k → (p : Plan) → whole s.bagging r.inactive (peaks_of s.rule r.leaves) ≡ Some p
+      honest : r.leaves ≡ length xs → r.inactive ≡ k → (p : Plan) → root_plan s.bagging r.inactive (peaks_of s.rule r.leaves) ≡ Some p
           → Tells s.hashing (digest_for (multi_positions s.rule r.leaves (locations_in r)) r.digests) (λ i. list_any (nat_eq i) (locations_in r)) (leaf_of s.hashing xs) p
           → SameLeaves (λ i. list_any (nat_eq i) (locations_in r)) (leaf_of s.hashing xs) Y p → AcceptsMultiSome s r (plan_root s xs k) → IsHonestMultiSome s xs k r
       honest e f p q tells same ok =
@@ -284,7 +284,7 @@ module _ {D : Type 0} (s : Scheme D) (size max_nodes : ℕ) (sound : Sound s siz
 pub honest_multi_is_accepted : {D : Type 0} → HonestMultiIsAccepted D
 honest_multi_is_accepted s size max_nodes sound xs k few low r honest = ⊎_elim (λ w. inl (honest_multi s size max_nodes sound xs k few low r w)) (λ w. inr (w.0, empty_root s xs k low w.1)) honest
 
-pub accepted_multi_is_honest : {D : Type 0} → AcceptedMultiIsHonest D
+pub accepted_multi_is_honest : {D : Type 0} → MultiSound D
 accepted_multi_is_honest s size max_nodes sound xs k few low r ok =
     ⊎_elim (λ w. ⊎_elim (λ z. inl (inl z)) inr (multi_honest s size max_nodes sound xs k few low r w))
     (λ w. ⊎_elim (λ z. inl (inr (w.0, z))) inr (no_other_list s size max_nodes sound xs k few low (multi_on s r) r.leaves r.inactive w.0.leaves w.0.inactive w.1)) ok

@@ -11,7 +11,7 @@ use Rattle.merkle_base.proofs.Paths.{position_under}
 use Rattle.merkle_root_theory.specs.Expression.{PrefixFold, Holds, value}
 use Rattle.merkle_base.specs.Hashing.{Hashing}
 use Rattle.merkle_root_theory.specs.Collision.{Member}
-use Rattle.merkle_root_theory.specs.Plan.{Plan, peak, folding, forward, whole, tree_meets, meets, siblings, outer, inner, tree_digest, plan_digest, honest_digests}
+use Rattle.merkle_root_theory.specs.Plan.{Plan, peak, folding, left_fold_plan, root_plan, tree_meets, meets, siblings, outside_parts, path_siblings, tree_digest, plan_digest, honest_digests}
 use Rattle.merkle_base.specs.declared.family.Bagging.{Bagging}
 use Rattle.merkle_base.specs.declared.family.Bagging.TheVariants.{ForwardFold, BackwardFold}
 use Rattle.merkle_root_theory.specs.Claim.{InTree, InPlan}
@@ -22,10 +22,10 @@ use Rattle.merkle_root_theory.specs.Outside.{fold_all, bag_all, layout, Unmet, H
 use Rattle.merkle_root_theory.specs.Check.{root_of, list_expression, RangeInput, chosen, leaf_given}
 use Rattle.merkle_base.specs.Scheme.{Scheme}
 use Rattle.merkle_base.specs.Places.{peaks_of, wholly_before}
-use Rattle.merkle_root_theory.specs.Range.{in_range, end_of, overlapping, wholly_after, range_parts, range_siblings, leaf_of, plan_root, Sound, IsHonestSome}
+use Rattle.merkle_root_theory.specs.Range.{in_range, end_of, overlapping, wholly_after, range_parts, range_siblings, leaf_of, plan_root, IsLawfulScheme, IsHonestNonempty}
 use Rattle.merkle_claim_theory.specs.Table.{digest_for, digest_of}
 use Rattle.merkle_claim_theory.specs.Pinned.{pin_positions, pinned_on, AcceptsPinnedSome, honest_pins, PinnedCollides, HonestPinnedIsAccepted, AcceptedPinnedIsHonest, PinsAreOldPeaks}
-use Rattle.merkle_claim_theory.proofs.NoCollisions.{member_split}
+use Rattle.merkle_claim_theory.proofs.HonestClaims.{member_split}
 use Rattle.merkle_base.proofs.Cases.{by_test}
 use Rattle.merkle_root_theory.proofs.PeakGroups.{meets_not, meets_yes, range_layout, groups}
 use Rattle.merkle_base.proofs.PeakLists.{Spans, spans_end, peaks_built, peaks_spans}
@@ -270,13 +270,13 @@ module _ {D : Type 0} (h : Hashing D) (b : ℕ → Option D) (X : ℕ → D) whe
     abbrev IsMet : Tree → Type 0
     IsMet t = tree_meets w t ≡ true
 
-    forward_met : (acc : Plan) (i : ℕ) (ts : List Tree) → meets w acc ≡ true → meets w (forward acc i ts) ≡ true
+    forward_met : (acc : Plan) (i : ℕ) (ts : List Tree) → meets w acc ≡ true → meets w (left_fold_plan acc i ts) ≡ true
     forward_met acc i [] e = e
     forward_met acc i (t ∷ ts) e = forward_met (folding (PrefixFold i) acc (peak t)) (suc i) ts (ap (λ z. z || tree_meets w t) e)
 
     unpack_folded : (ts : List Tree) → AllByRecursion IsMet ts → PinsAll h b w X (fold_all ts) → AllByRecursion (PinsTree h b X) ts
     unpack_folded [] m v = tt
-    unpack_folded (t ∷ ts) m v = let z = each_forward (PinsTree h b X) (peak t) 1 ts (plan_each (forward (peak t) 1 ts) (v.0 (forward_met (peak t) 1 ts m.0))) in (z.0, z.1)
+    unpack_folded (t ∷ ts) m v = let z = each_forward (PinsTree h b X) (peak t) 1 ts (plan_each (left_fold_plan (peak t) 1 ts) (v.0 (forward_met (peak t) 1 ts m.0))) in (z.0, z.1)
 
     unpack_single : (ts : List Tree) → AllByRecursion IsMet ts → PinsAll h b w X (map peak ts) → AllByRecursion (PinsTree h b X) ts
     unpack_single [] m v = tt
@@ -290,7 +290,7 @@ module _ {D : Type 0} (h : Hashing D) (b : ℕ → Option D) (X : ℕ → D) whe
 
     pack_folded : (ts : List Tree) → AllByRecursion (PinsTree h b X) ts → PinsAll h b w X (fold_all ts)
     pack_folded [] v = tt
-    pack_folded (t ∷ ts) v = ((λ _. each_plan (forward (peak t) 1 ts) (forward_each (PinsTree h b X) (peak t) 1 ts v.0 v.1)), tt)
+    pack_folded (t ∷ ts) v = ((λ _. each_plan (left_fold_plan (peak t) 1 ts) (forward_each (PinsTree h b X) (peak t) 1 ts v.0 v.1)), tt)
 
     pack_single : (ts : List Tree) → AllByRecursion (PinsTree h b X) ts → PinsAll h b w X (map peak ts)
     pack_single [] v = tt
@@ -402,7 +402,7 @@ each_in_plan : (P : ℕ → Type 0) (p : Plan) → ((i : ℕ) → InPlan p i →
 each_in_plan P (peak t) g = g
 each_in_plan P (folding place l r) g = (each_in_plan P l (λ i m. g i (inl m)), each_in_plan P r (λ i m. g i (inr m)))
 
-module _ {D : Type 0} (s : Scheme D) (size max_nodes : ℕ) (sound : Sound s size max_nodes) (xs : List D) (k : ℕ) (few : length xs ≤ s.max_leaves) (low : k ≤ length (peaks_of s.rule (length xs))) (r : RangeInput D) (pins : List D) where
+module _ {D : Type 0} (s : Scheme D) (size max_nodes : ℕ) (sound : IsLawfulScheme s size max_nodes) (xs : List D) (k : ℕ) (few : length xs ≤ s.max_leaves) (low : k ≤ length (peaks_of s.rule (length xs))) (r : RangeInput D) (pins : List D) where
   abbrev Z : ℕ → D
   Z = leaf_of s.hashing xs
 
@@ -411,14 +411,14 @@ module _ {D : Type 0} (s : Scheme D) (size max_nodes : ℕ) (sound : Sound s siz
 
   Known : RangeInput D → Plan → Type 0
   Known r p = (r.digests ≡ honest_digests s.hashing Z (chosen r) p) × ((i : ℕ) → InPlan p i → chosen r i ≡ true → leaf_given s.hashing r i ≡ Z i)
-      × PinsAll s.hashing bb (in_range 0 r.start) Z (outer (chosen r) p) × PinsTrees s.hashing bb (in_range 0 r.start) Z (inner (chosen r) p)
+      × PinsAll s.hashing bb (in_range 0 r.start) Z (outside_parts (chosen r) p) × PinsTrees s.hashing bb (in_range 0 r.start) Z (path_siblings (chosen r) p)
 
-  layout_at : AcceptsPinnedSome s r pins (plan_root s xs k) → (p : Plan) → whole s.bagging r.inactive (peaks_of s.rule r.leaves) ≡ Some p
+  layout_at : AcceptsPinnedSome s r pins (plan_root s xs k) → (p : Plan) → root_plan s.bagging r.inactive (peaks_of s.rule r.leaves) ≡ Some p
       → HasLayout (chosen r) (range_parts s.bagging r.inactive r.start (end_of r) (peaks_of s.rule r.leaves)) (range_siblings r.start (end_of r) (peaks_of s.rule r.leaves)) (Some p)
   layout_at ok p q = subst (HasLayout (chosen r) (range_parts s.bagging r.inactive r.start (end_of r) (peaks_of s.rule r.leaves)) (range_siblings r.start (end_of r) (peaks_of s.rule r.leaves))) q
       (range_layout s r.leaves r.inactive r.start (end_of r) (omega (arith, ok.some)) ok.within)
 
-  known_honest : (ok : AcceptsPinnedSome s r pins (plan_root s xs k)) → r.leaves ≡ length xs → r.inactive ≡ k → (p : Plan) → whole s.bagging r.inactive (peaks_of s.rule r.leaves) ≡ Some p → Known r p → IsHonestSome s xs k r × (pins ≡ honest_pins s xs r.start)
+  known_honest : (ok : AcceptsPinnedSome s r pins (plan_root s xs k)) → r.leaves ≡ length xs → r.inactive ≡ k → (p : Plan) → root_plan s.bagging r.inactive (peaks_of s.rule r.leaves) ≡ Some p → Known r p → IsHonestNonempty s xs k r × (pins ≡ honest_pins s xs r.start)
   unfolding Known
   known_honest ok d g p q w =
       let lay = layout_at ok p q in
@@ -438,7 +438,7 @@ module _ {D : Type 0} (s : Scheme D) (size max_nodes : ℕ) (sound : Sound s siz
             (subst (PinsAll s.hashing bb (in_range 0 r.start) Z) lay.0 w.2) (subst (PinsTrees s.hashing bb (in_range 0 r.start) Z) lay.1 w.3),
       )
 
-  pinned_honest : AcceptsPinnedSome s r pins (plan_root s xs k) → (IsHonestSome s xs k r × (pins ≡ honest_pins s xs r.start)) ⊎ PinnedCollides s r pins xs k
+  pinned_honest : AcceptsPinnedSome s r pins (plan_root s xs k) → (IsHonestNonempty s xs k r × (pins ≡ honest_pins s xs r.start)) ⊎ PinnedCollides s r pins xs k
   unfolding Known
   pinned_honest ok =
       let pos : 0 < r.leaves = omega (arith, ok.some, ok.within) in
@@ -453,7 +453,7 @@ module _ {D : Type 0} (s : Scheme D) (size max_nodes : ℕ) (sound : Sound s siz
       (no_other_pins s.hashing sound.laws bb (in_range 0 r.start) (chosen r) Z (leaf_given s.hashing r) p.0 r.digests (ok.counts ∙ sym (ap₂ (λ x y. length x + length y) lay.0 lay.1)) holds w.2)) inr
       (roots s size sound.bytes Z (pinned_on s r pins) r.leaves (length xs) r.inactive k a1 a2 b1 b2 pos p.0 p.1 ok.root_is)
 
-  honest_pinned : IsHonestSome s xs k r → pins ≡ honest_pins s xs r.start → AcceptsPinnedSome s r pins (plan_root s xs k)
+  honest_pinned : IsHonestNonempty s xs k r → pins ≡ honest_pins s xs r.start → AcceptsPinnedSome s r pins (plan_root s xs k)
   honest_pinned w q =
       let plain = honest_some s size max_nodes sound xs k few low r w in
       let more : r.start < end_of r = omega (arith, w.some) in

@@ -1,10 +1,10 @@
 -- The places of a list's inputs are those of the table, in its order.
 use Rattle.std.proofs.Common.{◌≡◌, ℕ, suc, zero, pred, Bool, true, false, not, cond, nat_lt, ◌+◌, ◌-◌, List, [], ◌∷◌, ◌++◌, refl, ap, ap₂, sym, ◌∙◌, arith, length, map, take, drop, flat_map, filter, append_assoc, append-nil, lt-ltb, le-ltb, take-append-drop}
 use Rattle.std.proofs.lemmas.List.{map-append, length-drop, take_all, length-take-le}
-use Rattle.merkle_root_theory.specs.Expression.{Place, Join, PrefixFold, SuffixFold, Node, Input, Expression, hashed, visited, inputs, is_node}
+use Rattle.merkle_root_theory.specs.Expression.{Place, Join, PrefixFold, SuffixFold, Node, Input, Expression, computed, visited, inputs, is_node}
 use Rattle.merkle_base.specs.Hashing.{Hashing}
 use Rattle.merkle_base.specs.Tree.{Tree, leaf, join}
-use Rattle.merkle_root_theory.specs.Plan.{Plan, peak, folding, forward, bag, join_bag, full, node_expression}
+use Rattle.merkle_root_theory.specs.Plan.{Plan, peak, folding, left_fold_plan, right_fold_plan, with_right_fold_plan, plan_expression, node_expression}
 use Rattle.merkle_base.specs.declared.family.Bagging.TheVariants.{ForwardFold, BackwardFold}
 use Rattle.merkle_claim_theory.specs.Order.{down, up, node_places, PlacesInOrder}
 
@@ -37,39 +37,39 @@ module _ {D : Type 0} (h : Hashing D) (X : ℕ → D) where
   nodes_tree (leaf p i) = refl
   nodes_tree (join p l r) = ap (λ z. Node p ∷ z) (places_both _ (visited h (node_expression X l)) (visited h (node_expression X r)) ∙ ap₂ ◌++◌ (nodes_tree l) (nodes_tree r))
 
-  folds_prefix : (i : ℕ) (l r : Expression D) → folds (hashed (PrefixFold i) l r) ≡ PrefixFold i ∷ (folds l ++ folds r)
+  folds_prefix : (i : ℕ) (l r : Expression D) → folds (computed (PrefixFold i) l r) ≡ PrefixFold i ∷ (folds l ++ folds r)
   unfolding folds
   folds_prefix i l r = ap (λ z. PrefixFold i ∷ z) (places_both _ (visited h l) (visited h r))
 
-  folds_suffix : (i : ℕ) (l r : Expression D) → folds (hashed (SuffixFold i) l r) ≡ SuffixFold i ∷ (folds l ++ folds r)
+  folds_suffix : (i : ℕ) (l r : Expression D) → folds (computed (SuffixFold i) l r) ≡ SuffixFold i ∷ (folds l ++ folds r)
   unfolding folds
   folds_suffix i l r = ap (λ z. SuffixFold i ∷ z) (places_both _ (visited h l) (visited h r))
 
-  folds_join : (l r : Expression D) → folds (hashed Join l r) ≡ Join ∷ (folds l ++ folds r)
+  folds_join : (l r : Expression D) → folds (computed Join l r) ≡ Join ∷ (folds l ++ folds r)
   unfolding folds
   folds_join l r = ap (λ z. Join ∷ z) (places_both _ (visited h l) (visited h r))
 
-  nodes_prefix : (i : ℕ) (l r : Expression D) → nodes (hashed (PrefixFold i) l r) ≡ nodes l ++ nodes r
+  nodes_prefix : (i : ℕ) (l r : Expression D) → nodes (computed (PrefixFold i) l r) ≡ nodes l ++ nodes r
   unfolding nodes
   nodes_prefix i l r = places_both _ (visited h l) (visited h r)
 
-  nodes_suffix : (i : ℕ) (l r : Expression D) → nodes (hashed (SuffixFold i) l r) ≡ nodes l ++ nodes r
+  nodes_suffix : (i : ℕ) (l r : Expression D) → nodes (computed (SuffixFold i) l r) ≡ nodes l ++ nodes r
   unfolding nodes
   nodes_suffix i l r = places_both _ (visited h l) (visited h r)
 
-  nodes_join : (l r : Expression D) → nodes (hashed Join l r) ≡ nodes l ++ nodes r
+  nodes_join : (l r : Expression D) → nodes (computed Join l r) ≡ nodes l ++ nodes r
   unfolding nodes
   nodes_join l r = places_both _ (visited h l) (visited h r)
 
-  nodes_forward : (acc : Plan) (i : ℕ) (ts : List Tree) → nodes (full X (forward acc i ts)) ≡ nodes (full X acc) ++ flat_map node_places ts
+  nodes_forward : (acc : Plan) (i : ℕ) (ts : List Tree) → nodes (plan_expression X (left_fold_plan acc i ts)) ≡ nodes (plan_expression X acc) ++ flat_map node_places ts
   nodes_forward acc i [] = sym (append-nil _)
-  nodes_forward acc i (t ∷ ts) = nodes_forward (folding (PrefixFold i) acc (peak t)) (suc i) ts ∙ ap (λ z. z ++ flat_map node_places ts) (nodes_prefix i _ _ ∙ ap (λ z. nodes (full X acc) ++ z) (nodes_tree t)) ∙ append_assoc _ (node_places t) (flat_map node_places ts)
+  nodes_forward acc i (t ∷ ts) = nodes_forward (folding (PrefixFold i) acc (peak t)) (suc i) ts ∙ ap (λ z. z ++ flat_map node_places ts) (nodes_prefix i _ _ ∙ ap (λ z. nodes (plan_expression X acc) ++ z) (nodes_tree t)) ∙ append_assoc _ (node_places t) (flat_map node_places ts)
 
-  nodes_bag : (i : ℕ) (t : Tree) (ts : List Tree) → nodes (full X (bag i t ts)) ≡ flat_map node_places (t ∷ ts)
+  nodes_bag : (i : ℕ) (t : Tree) (ts : List Tree) → nodes (plan_expression X (right_fold_plan i t ts)) ≡ flat_map node_places (t ∷ ts)
   nodes_bag i t [] = nodes_tree t ∙ sym (append-nil _)
   nodes_bag i t (u ∷ us) = nodes_suffix i _ _ ∙ ap₂ ◌++◌ (nodes_tree t) (nodes_bag (suc i) u us)
 
-  folds_bag : (i : ℕ) (t : Tree) (ts : List Tree) → folds (full X (bag i t ts)) ≡ up i (length ts)
+  folds_bag : (i : ℕ) (t : Tree) (ts : List Tree) → folds (plan_expression X (right_fold_plan i t ts)) ≡ up i (length ts)
   folds_bag i t [] = folds_tree t
   folds_bag i t (u ∷ us) = folds_suffix i _ _ ∙ ap (λ z. SuffixFold i ∷ z) (ap₂ ◌++◌ (folds_tree t) (folds_bag (suc i) u us))
 
@@ -88,17 +88,17 @@ module _ {D : Type 0} (h : Hashing D) (X : ℕ → D) where
   downs_down zero = refl
   downs_down (suc n) = downs_top 1 n ∙ ap₂ (λ a b. PrefixFold a ∷ b) (omega arith) (downs_down n)
 
-  folds_forward : (acc : Plan) (i : ℕ) (ts : List Tree) → folds (full X (forward acc i ts)) ≡ downs i (length ts) ++ folds (full X acc)
+  folds_forward : (acc : Plan) (i : ℕ) (ts : List Tree) → folds (plan_expression X (left_fold_plan acc i ts)) ≡ downs i (length ts) ++ folds (plan_expression X acc)
   unfolding downs
   folds_forward acc i [] = refl
   folds_forward acc i (t ∷ ts) = folds_forward (folding (PrefixFold i) acc (peak t)) (suc i) ts
-      ∙ ap (λ z. downs (suc i) (length ts) ++ z) (folds_prefix i _ _ ∙ ap (λ z. PrefixFold i ∷ (folds (full X acc) ++ z)) (folds_tree t) ∙ ap (λ z. PrefixFold i ∷ z) (append-nil _))
-      ∙ sym (append_assoc (downs (suc i) (length ts)) (PrefixFold i ∷ []) (folds (full X acc)))
+      ∙ ap (λ z. downs (suc i) (length ts) ++ z) (folds_prefix i _ _ ∙ ap (λ z. PrefixFold i ∷ (folds (plan_expression X acc) ++ z)) (folds_tree t) ∙ ap (λ z. PrefixFold i ∷ z) (append-nil _))
+      ∙ sym (append_assoc (downs (suc i) (length ts)) (PrefixFold i ∷ []) (folds (plan_expression X acc)))
 
-  folds_peaks : (t : Tree) (ts : List Tree) → folds (full X (forward (peak t) 1 ts)) ≡ down (length ts)
+  folds_peaks : (t : Tree) (ts : List Tree) → folds (plan_expression X (left_fold_plan (peak t) 1 ts)) ≡ down (length ts)
   folds_peaks t ts = folds_forward (peak t) 1 ts ∙ ap₂ ◌++◌ (downs_down (length ts)) (folds_tree t) ∙ append-nil _
 
-  nodes_peaks : (t : Tree) (ts : List Tree) → nodes (full X (forward (peak t) 1 ts)) ≡ flat_map node_places (t ∷ ts)
+  nodes_peaks : (t : Tree) (ts : List Tree) → nodes (plan_expression X (left_fold_plan (peak t) 1 ts)) ≡ flat_map node_places (t ∷ ts)
   nodes_peaks t ts = nodes_forward (peak t) 1 ts ∙ ap (λ z. z ++ flat_map node_places ts) (nodes_tree t)
 
   places_inputs : (e : Expression D) → map (λ (i : Input D). i.place) (inputs h e) ≡ folds e ++ nodes e
@@ -112,7 +112,7 @@ flat_both (x ∷ xs) ys = ap (λ z. node_places x ++ z) (flat_both xs ys) ∙ sy
 module _ {D : Type 0} (h : Hashing D) (X : ℕ → D) (t : Tree) (n : ℕ) (ts : List Tree) where
   -- the order, with what is left of the peaks after the accumulator
   InOrder : List Tree → Type 0
-  InOrder rest = folds h X (full X (join_bag (forward (peak t) 1 (take n ts)) (suc n) rest)) ++ nodes h X (full X (join_bag (forward (peak t) 1 (take n ts)) (suc n) rest))
+  InOrder rest = folds h X (plan_expression X (with_right_fold_plan (left_fold_plan (peak t) 1 (take n ts)) (suc n) rest)) ++ nodes h X (plan_expression X (with_right_fold_plan (left_fold_plan (peak t) 1 (take n ts)) (suc n) rest))
       ≡ cond (nat_lt (suc n) (suc (length ts))) (Join ∷ (down n ++ up (suc n) (pred (suc (length ts) - suc n)))) (down (length ts)) ++ flat_map node_places (t ∷ ts)
 
   in_order : (rest : List Tree) → rest ≡ drop n ts → InOrder rest
@@ -133,5 +133,5 @@ module _ {D : Type 0} (h : Hashing D) (X : ℕ → D) (t : Tree) (n : ℕ) (ts :
 
 pub places_in_order : {D : Type 0} → PlacesInOrder D
 unfolding InOrder
-places_in_order h X ForwardFold k t ts = places_inputs h X (full X (forward (peak t) 1 ts)) ∙ ap₂ ◌++◌ (folds_peaks h X t ts) (nodes_peaks h X t ts)
-places_in_order h X BackwardFold k t ts = places_inputs h X (full X (join_bag (forward (peak t) 1 (take (pred k) ts)) (suc (pred k)) (drop (pred k) ts))) ∙ in_order h X t (pred k) ts (drop (pred k) ts) refl
+places_in_order h X ForwardFold k t ts = places_inputs h X (plan_expression X (left_fold_plan (peak t) 1 ts)) ∙ ap₂ ◌++◌ (folds_peaks h X t ts) (nodes_peaks h X t ts)
+places_in_order h X BackwardFold k t ts = places_inputs h X (plan_expression X (with_right_fold_plan (left_fold_plan (peak t) 1 (take (pred k) ts)) (suc (pred k)) (drop (pred k) ts))) ∙ in_order h X t (pred k) ts (drop (pred k) ts) refl

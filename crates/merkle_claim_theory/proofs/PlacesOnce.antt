@@ -8,7 +8,7 @@ use Rattle.merkle_base.specs.declared.family.Bagging.{Bagging}
 use Rattle.merkle_base.specs.declared.family.Bagging.TheVariants.{ForwardFold, BackwardFold}
 use Rattle.merkle_claim_theory.specs.Order.{down, up, fold_places, node_places, Distinct, PlacesOnce}
 use Rattle.merkle_claim_theory.proofs.PlaceOrder.{places_in_order}
-use Rattle.merkle_claim_theory.proofs.NoCollisions.{member_split}
+use Rattle.merkle_claim_theory.proofs.HonestClaims.{member_split}
 
 pub member_map : {A B : Type 0} (f : A → B) (xs : List A) (x : A) → Member xs x → Member (map f xs) (f x)
 member_map f [] x m = elim m [ ]

@@ -10,7 +10,7 @@ use Rattle.merkle_base.proofs.Growth.{built_at}
 use Rattle.merkle_base.proofs.Nodes.{first_under, end_under, width_pos, built_under}
 use Rattle.merkle_base.proofs.Paths.{position_under}
 use Rattle.merkle_root_theory.specs.Expression.{Place, Node, Input}
-use Rattle.merkle_base.specs.Hashing.{Hashing, TellsApart}
+use Rattle.merkle_base.specs.Hashing.{Hashing, EqDecides}
 use Rattle.merkle_root_theory.specs.Collision.{Member, Collision, Collides}
 use Rattle.merkle_claim_theory.specs.FirstCollision.{first_collision, IsFirstCollision}
 use Rattle.merkle_claim_theory.specs.Order.{node_places, Distinct}
@@ -18,11 +18,11 @@ use Rattle.merkle_base.specs.Scheme.{Scheme}
 use Rattle.merkle_base.specs.Places.{peaks_of}
 use Rattle.merkle_root_theory.specs.Range.{leaf_of}
 use Rattle.merkle_claim_theory.specs.Verdict.{Verdicts, CheckDecides}
-use Rattle.merkle_claim_theory.proofs.NoCollisions.{member_split}
+use Rattle.merkle_claim_theory.proofs.HonestClaims.{member_split}
 use Rattle.merkle_claim_theory.proofs.PlacesOnce.{distinct_append}
 use Rattle.merkle_claim_theory.proofs.FirstCollisions.{finds_first}
 use Rattle.merkle_claim_theory.proofs.Audits.{none_shows, no_collision}
-use Rattle.merkle_claim_theory.proofs.ClearRange.{honest_is_clear}
+use Rattle.merkle_claim_theory.proofs.RangeNoCollision.{honest_is_clear}
 use Rattle.merkle_base.proofs.PeakLists.{Spans, peaks_built, peaks_spans}
 use Rattle.merkle_root_theory.proofs.RangeChecks.{accepted_is_honest, old_honest}
 use Rattle.merkle_claim_theory.proofs.Multiproofs.{accepted_multi_is_honest, all_member}
@@ -72,7 +72,7 @@ pub distinct_nodes : {D : Type 0} (s : Scheme D) (n : ℕ) → Distinct (flat_ma
 distinct_nodes s n = distinct_peaks (forest s.rule n).nodes 0 n (peaks_of s.rule n) (peaks_spans s.rule n) (peaks_built s.rule n)
 
 -- ---- verdicts
-verdict : {D P : Type 0} (h : Hashing D) → TellsApart h → (xs ys : List (Input D)) → P ⊎ ((c : Collision D) × Collides h xs ys c) → MatchOption (first_collision h xs ys) P (λ c. IsFirstCollision h xs ys c)
+verdict : {D P : Type 0} (h : Hashing D) → EqDecides h → (xs ys : List (Input D)) → P ⊎ ((c : Collision D) × Collides h xs ys c) → MatchOption (first_collision h xs ys) P (λ c. IsFirstCollision h xs ys c)
 verdict h laws xs ys w = none_shows (λ c. IsFirstCollision h xs ys c) (first_collision h xs ys) (no_collision h xs ys w) (finds_first h laws xs ys)
 
 pub verdicts : {D : Type 0} → Verdicts D

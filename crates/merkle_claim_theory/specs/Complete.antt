@@ -3,7 +3,7 @@ use Rattle.std.specs.Prelude.{◌≡◌, ℕ, Bool, true, cond, ◌||◌, Option
 use Rattle.merkle_root_theory.specs.Expression.{value, Holds}
 use Rattle.merkle_base.specs.Hashing.{Hashing}
 use Rattle.merkle_base.specs.Tree.{Tree, leaf, join}
-use Rattle.merkle_root_theory.specs.Plan.{Plan, peak, folding, tree_meets, outer, inner, tree_digest, plan_digest, honest_digests}
+use Rattle.merkle_root_theory.specs.Plan.{Plan, peak, folding, tree_meets, outside_parts, path_siblings, tree_digest, plan_digest, honest_digests}
 use Rattle.merkle_claim_theory.specs.MultiClaim.{or_empty, multi_claim}
 use Rattle.merkle_claim_theory.specs.PinnedClaim.{PinsAll, PinsTrees, pinned_of}
 
@@ -24,5 +24,5 @@ HonestMultiAccepted D = (h : Hashing D) (a : ℕ → Option D) (c : ℕ → Bool
 
 -- so does an honest pinned claim
 abbrev pub HonestPinsAccepted : Type 0 → Type 0
-HonestPinsAccepted D = (h : Hashing D) (b : ℕ → Option D) (w c : ℕ → Bool) (X Y : ℕ → D) (p : Plan) → ((i : ℕ) → c i ≡ true → Y i ≡ X i) → PinsAll h b w X (outer c p) → PinsTrees h b w X (inner c p)
+HonestPinsAccepted D = (h : Hashing D) (b : ℕ → Option D) (w c : ℕ → Bool) (X Y : ℕ → D) (p : Plan) → ((i : ℕ) → c i ≡ true → Y i ≡ X i) → PinsAll h b w X (outside_parts c p) → PinsTrees h b w X (path_siblings c p)
     → Holds h (pinned_of h b w c Y p (honest_digests h X c p)) × (value h (pinned_of h b w c Y p (honest_digests h X c p)) ≡ plan_digest h X p)

@@ -1,7 +1,7 @@
 -- The first collision of two lists of inputs, found by tests.
 use Rattle.std.specs.Prelude.{◌≡◌, Bool, true, false, not, cond, ◌&&◌, ◌==◌, List, [], ◌∷◌, ◌++◌, Option, Some, None, bytes_eq, MatchOption}
 use Rattle.merkle_root_theory.specs.Expression.{Place, Root, Join, PrefixFold, SuffixFold, Node, Argument, Pair, Bytes, digest_of_argument, Input}
-use Rattle.merkle_base.specs.Hashing.{Hashing, TellsApart}
+use Rattle.merkle_base.specs.Hashing.{Hashing, EqDecides}
 use Rattle.merkle_root_theory.specs.Collision.{Collision, Collides}
 
 -- whether two places are one
@@ -49,4 +49,4 @@ pub record IsFirstCollision {D : Type 0} (h : Hashing D) (xs ys : List (Input D)
 
 -- the search finds the first collision, or there is none
 abbrev pub FindsFirst : Type 0 → Type 0
-FindsFirst D = (h : Hashing D) → TellsApart h → (xs ys : List (Input D)) → MatchOption (first_collision h xs ys) ((c : Collision D) → Collides h xs ys c → ⊥) (λ c. IsFirstCollision h xs ys c)
+FindsFirst D = (h : Hashing D) → EqDecides h → (xs ys : List (Input D)) → MatchOption (first_collision h xs ys) ((c : Collision D) → Collides h xs ys c → ⊥) (λ c. IsFirstCollision h xs ys c)

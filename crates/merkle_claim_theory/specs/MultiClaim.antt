@@ -1,15 +1,15 @@
 -- What a multi-check claims: the folds are computed, and the proof tells digests at positions, some of which are computed too.
 use Rattle.std.specs.Prelude.{◌≡◌, ℕ, Bool, true, cond, ◌||◌, ◌⊎◌, Option, Some, None, IfSome, unwrap_or}
-use Rattle.merkle_root_theory.specs.Expression.{Node, Expression, given, hashed, told, value, Holds, inputs}
-use Rattle.merkle_base.specs.Hashing.{Hashing, TellsApart}
+use Rattle.merkle_root_theory.specs.Expression.{Node, Expression, supplied, computed, cross_checked, value, Holds, inputs}
+use Rattle.merkle_base.specs.Hashing.{Hashing, EqDecides}
 use Rattle.merkle_base.specs.Tree.{Tree, leaf, join}
-use Rattle.merkle_root_theory.specs.Plan.{Plan, peak, folding, full, tree_meets, tree_digest, plan_digest}
+use Rattle.merkle_root_theory.specs.Plan.{Plan, peak, folding, plan_expression, tree_meets, tree_digest, plan_digest}
 use Rattle.merkle_root_theory.specs.Collision.{Collision, Collides}
 
 -- an expression, whose digest the proof may tell too
 abbrev pub also : {D : Type 0} → Option D → Expression D → Expression D
 also None e = e
-also (Some d) e = told d e
+also (Some d) e = cross_checked d e
 
 -- what the proof tells, or the empty digest where it doesn't
 abbrev pub or_empty : {D : Type 0} → Hashing D → Option D → D
@@ -17,13 +17,13 @@ or_empty h o = unwrap_or o h.empty
 
 -- a: the digest that the proof tells at a position
 abbrev pub multi_tree : {D : Type 0} → Hashing D → (ℕ → Option D) → (ℕ → Bool) → (ℕ → D) → Tree → Expression D
-multi_tree h a c X (leaf p i) = cond (c i) (also (a p) (given (X i))) (given (or_empty h (a p)))
-multi_tree h a c X (join p l r) = cond (tree_meets c l || tree_meets c r) (also (a p) (hashed (Node p) (multi_tree h a c X l) (multi_tree h a c X r))) (given (or_empty h (a p)))
+multi_tree h a c X (leaf p i) = cond (c i) (also (a p) (supplied (X i))) (supplied (or_empty h (a p)))
+multi_tree h a c X (join p l r) = cond (tree_meets c l || tree_meets c r) (also (a p) (computed (Node p) (multi_tree h a c X l) (multi_tree h a c X r))) (supplied (or_empty h (a p)))
 
 -- the same of a plan: each fold is computed
 abbrev pub multi_claim : {D : Type 0} → Hashing D → (ℕ → Option D) → (ℕ → Bool) → (ℕ → D) → Plan → Expression D
 multi_claim h a c X (peak t) = multi_tree h a c X t
-multi_claim h a c X (folding place l r) = hashed place (multi_claim h a c X l) (multi_claim h a c X r)
+multi_claim h a c X (folding place l r) = computed place (multi_claim h a c X l) (multi_claim h a c X r)
 
 -- what is told at a tree's position is its digest, and so below it, down to the nodes under which no chosen location lies
 abbrev pub TellsTree : {D : Type 0} → Hashing D → (ℕ → Option D) → (ℕ → Bool) → (ℕ → D) → Tree → Type 0
@@ -46,6 +46,6 @@ SameLeaves c X Y (peak t) = SameTree c X Y t
 SameLeaves c X Y (folding place l r) = SameLeaves c X Y l × SameLeaves c X Y r
 
 -- what holds and has the list's value tells the list's digests, or collides with the list
-abbrev pub NoOtherMulti : Type 0 → Type 0
-NoOtherMulti D = (h : Hashing D) → TellsApart h → (a : ℕ → Option D) (c : ℕ → Bool) (X Y : ℕ → D) (p : Plan) → Holds h (multi_claim h a c Y p) → value h (multi_claim h a c Y p) ≡ plan_digest h X p
-    → (Tells h a c X p × SameLeaves c X Y p) ⊎ ((k : Collision D) × Collides h (inputs h (multi_claim h a c Y p)) (inputs h (full X p)) k)
+abbrev pub MultiClaimSound : Type 0 → Type 0
+MultiClaimSound D = (h : Hashing D) → EqDecides h → (a : ℕ → Option D) (c : ℕ → Bool) (X Y : ℕ → D) (p : Plan) → Holds h (multi_claim h a c Y p) → value h (multi_claim h a c Y p) ≡ plan_digest h X p
+    → (Tells h a c X p × SameLeaves c X Y p) ⊎ ((k : Collision D) × Collides h (inputs h (multi_claim h a c Y p)) (inputs h (plan_expression X p)) k)

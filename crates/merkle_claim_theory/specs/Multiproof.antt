@@ -7,12 +7,12 @@ use Rattle.merkle_claim_theory.specs.Ascending.{AscendsFrom}
 use Rattle.merkle_base.specs.Heights.{IsLawful, peak_heights}
 use Rattle.merkle_root_theory.specs.Expression.{Expression, Holds}
 use Rattle.merkle_root_theory.specs.Collision.{Collision, Collides}
-use Rattle.merkle_root_theory.specs.Plan.{Plan, whole, siblings}
+use Rattle.merkle_root_theory.specs.Plan.{Plan, root_plan, siblings}
 use Rattle.merkle_claim_theory.specs.MultiClaim.{multi_claim}
 use Rattle.merkle_root_theory.specs.Check.{root_of, all_inputs, list_expression}
 use Rattle.merkle_base.specs.Scheme.{Scheme}
 use Rattle.merkle_base.specs.Places.{peaks_of}
-use Rattle.merkle_root_theory.specs.Range.{leaf_of, plan_root, Sound}
+use Rattle.merkle_root_theory.specs.Range.{leaf_of, plan_root, IsLawfulScheme}
 use Rattle.merkle_claim_theory.specs.Table.{digest_for, digest_at_position}
 
 -- the nodes whose digests prove the leaf at i: the peaks that don't hold it, and the path siblings under the one that does
@@ -49,7 +49,7 @@ multi_on s r p = multi_claim s.hashing (digest_for (multi_positions s.rule r.lea
 
 -- what the check computes, if there are peaks
 abbrev pub multi_expression : {D : Type 0} → Scheme D → MultiInput D → Option (Expression D)
-multi_expression s r = option_map (multi_on s r) (whole s.bagging r.inactive (peaks_of s.rule r.leaves))
+multi_expression s r = option_map (multi_on s r) (root_plan s.bagging r.inactive (peaks_of s.rule r.leaves))
 
 -- each digest that is also computed is the computed one
 abbrev pub AllHolds : {D : Type 0} → Scheme D → Option (Expression D) → Type 0
@@ -98,16 +98,16 @@ MultiCollides {D = D} s r xs k = (c : Collision D) × Collides s.hashing (all_in
 
 -- the honest inputs are accepted
 abbrev pub HonestMultiIsAccepted : Type 0 → Type 0
-HonestMultiIsAccepted D = (s : Scheme D) (size max_nodes : ℕ) → Sound s size max_nodes → (xs : List D) (k : ℕ) → length xs ≤ s.max_leaves → k ≤ length (peaks_of s.rule (length xs)) → (r : MultiInput D)
+HonestMultiIsAccepted D = (s : Scheme D) (size max_nodes : ℕ) → IsLawfulScheme s size max_nodes → (xs : List D) (k : ℕ) → length xs ≤ s.max_leaves → k ≤ length (peaks_of s.rule (length xs)) → (r : MultiInput D)
     → IsHonestMulti s xs k r → AcceptsMulti s r (plan_root s xs k)
 
 -- and no others, but for collisions
-abbrev pub AcceptedMultiIsHonest : Type 0 → Type 0
-AcceptedMultiIsHonest D = (s : Scheme D) (size max_nodes : ℕ) → Sound s size max_nodes → (xs : List D) (k : ℕ) → length xs ≤ s.max_leaves → k ≤ length (peaks_of s.rule (length xs)) → (r : MultiInput D)
+abbrev pub MultiSound : Type 0 → Type 0
+MultiSound D = (s : Scheme D) (size max_nodes : ℕ) → IsLawfulScheme s size max_nodes → (xs : List D) (k : ℕ) → length xs ≤ s.max_leaves → k ≤ length (peaks_of s.rule (length xs)) → (r : MultiInput D)
     → AcceptsMulti s r (plan_root s xs k) → IsHonestMulti s xs k r ⊎ MultiCollides s r xs k
 
 -- at most 122 positions for each location
-abbrev pub AtMost122 : Type 0 → Type 0
-AtMost122 D = (s : Scheme D) (max_nodes : ℕ) → IsLawful s.rule s.max_leaves max_nodes → (n : ℕ) → n ≤ s.max_leaves
+abbrev pub MultiSizeBound : Type 0 → Type 0
+MultiSizeBound D = (s : Scheme D) (max_nodes : ℕ) → IsLawful s.rule s.max_leaves max_nodes → (n : ℕ) → n ≤ s.max_leaves
     → ((i : ℕ) → i < length (peak_heights s.rule n) → slice_index (peak_heights s.rule n) i + length (peak_heights s.rule n) ≤ 123)
     → (locations : List ℕ) → AllByRecursion (λ i. i < n) locations → length (multi_positions s.rule n locations) ≤ 122 * length locations

@@ -3,12 +3,12 @@ use Rattle.std.specs.Prelude.{◌≡◌, ℕ, ◌⊎◌, ◌≤◌, ◌<◌, ◌
 use Rattle.merkle_base.specs.Tree.{position}
 use Rattle.merkle_root_theory.specs.Expression.{Expression}
 use Rattle.merkle_root_theory.specs.Collision.{Collision, Collides}
-use Rattle.merkle_root_theory.specs.Plan.{Plan, whole, tree_digest}
+use Rattle.merkle_root_theory.specs.Plan.{Plan, root_plan, tree_digest}
 use Rattle.merkle_claim_theory.specs.PinnedClaim.{pinned_of}
 use Rattle.merkle_root_theory.specs.Check.{root_of, all_inputs, list_expression, RangeInput, chosen, leaf_given}
 use Rattle.merkle_base.specs.Scheme.{Scheme}
 use Rattle.merkle_base.specs.Places.{peaks_of}
-use Rattle.merkle_root_theory.specs.Range.{in_range, end_of, range_parts, range_siblings, leaf_of, plan_root, Sound, IsEmptyInput, IsHonestSome}
+use Rattle.merkle_root_theory.specs.Range.{in_range, end_of, range_parts, range_siblings, leaf_of, plan_root, IsLawfulScheme, IsEmptyInput, IsHonestNonempty}
 use Rattle.merkle_claim_theory.specs.Table.{digest_for}
 use Rattle.merkle_claim_theory.specs.Multiproof.{AllHolds}
 
@@ -22,7 +22,7 @@ pinned_on s r pins p = pinned_of s.hashing (digest_for (pin_positions s r.start)
 
 -- what the check computes, if there are peaks
 abbrev pub pinned_expression : {D : Type 0} → Scheme D → RangeInput D → List D → Option (Expression D)
-pinned_expression s r pins = option_map (pinned_on s r pins) (whole s.bagging r.inactive (peaks_of s.rule r.leaves))
+pinned_expression s r pins = option_map (pinned_on s r pins) (root_plan s.bagging r.inactive (peaks_of s.rule r.leaves))
 
 -- an accepted input with elements
 pub record AcceptsPinnedSome {D : Type 0} (s : Scheme D) (r : RangeInput D) (pins : List D) (root : D) : Type 0 where
@@ -45,7 +45,7 @@ honest_pins s xs start = map (tree_digest s.hashing (leaf_of s.hashing xs)) (pea
 
 -- an honest input with honest pins: with elements, or the empty one of the empty list
 abbrev pub IsHonestPinned : {D : Type 0} → Scheme D → List D → ℕ → RangeInput D → List D → Type 0
-IsHonestPinned s xs k r pins = (IsHonestSome s xs k r × (pins ≡ honest_pins s xs r.start)) ⊎ ((IsEmptyInput r × (pins ≡ [])) × (xs ≡ []))
+IsHonestPinned s xs k r pins = (IsHonestNonempty s xs k r × (pins ≡ honest_pins s xs r.start)) ⊎ ((IsEmptyInput r × (pins ≡ [])) × (xs ≡ []))
 
 -- a collision of a pinned input with the list
 abbrev pub PinnedCollides : {D : Type 0} → Scheme D → RangeInput D → List D → List D → ℕ → Type 0
@@ -53,12 +53,12 @@ PinnedCollides {D = D} s r pins xs k = (c : Collision D) × Collides s.hashing (
 
 -- the honest inputs are accepted
 abbrev pub HonestPinnedIsAccepted : Type 0 → Type 0
-HonestPinnedIsAccepted D = (s : Scheme D) (size max_nodes : ℕ) → Sound s size max_nodes → (xs : List D) (k : ℕ) → length xs ≤ s.max_leaves → k ≤ length (peaks_of s.rule (length xs)) → (r : RangeInput D) (pins : List D)
+HonestPinnedIsAccepted D = (s : Scheme D) (size max_nodes : ℕ) → IsLawfulScheme s size max_nodes → (xs : List D) (k : ℕ) → length xs ≤ s.max_leaves → k ≤ length (peaks_of s.rule (length xs)) → (r : RangeInput D) (pins : List D)
     → IsHonestPinned s xs k r pins → AcceptsPinned s r pins (plan_root s xs k)
 
 -- and no others, but for collisions
 abbrev pub AcceptedPinnedIsHonest : Type 0 → Type 0
-AcceptedPinnedIsHonest D = (s : Scheme D) (size max_nodes : ℕ) → Sound s size max_nodes → (xs : List D) (k : ℕ) → length xs ≤ s.max_leaves → k ≤ length (peaks_of s.rule (length xs)) → (r : RangeInput D) (pins : List D)
+AcceptedPinnedIsHonest D = (s : Scheme D) (size max_nodes : ℕ) → IsLawfulScheme s size max_nodes → (xs : List D) (k : ℕ) → length xs ≤ s.max_leaves → k ≤ length (peaks_of s.rule (length xs)) → (r : RangeInput D) (pins : List D)
     → AcceptsPinned s r pins (plan_root s xs k) → IsHonestPinned s xs k r pins ⊎ PinnedCollides s r pins xs k
 
 -- the honest pins are the peak digests of the list's first leaves

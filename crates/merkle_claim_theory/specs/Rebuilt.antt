@@ -9,7 +9,7 @@ use Rattle.merkle_root_theory.specs.Expression.{value}
 use Rattle.merkle_root_theory.specs.Plan.{Plan, tree_meets, meets}
 use Rattle.merkle_root_theory.specs.Claim.{next}
 use Rattle.merkle_root_theory.specs.Check.{RangeInput}
-use Rattle.merkle_root_theory.specs.Range.{in_range, end_of, range_parts, range_siblings, AcceptsSome}
+use Rattle.merkle_root_theory.specs.Range.{in_range, end_of, range_parts, range_siblings, AcceptsNonempty}
 use Rattle.merkle_claim_theory.specs.PinnedClaim.{pin_tree, pin_plan}
 use Rattle.merkle_claim_theory.specs.Table.{digest_for}
 use Rattle.merkle_claim_theory.specs.Pinned.{pin_positions, AcceptsPinnedSome, IsHonestPinned}
@@ -40,7 +40,7 @@ pub record IsRebuilt {D : Type 0} (s : Scheme D) (r : RangeInput D) (pins : List
 
 -- the pinned check accepts what the range check accepts where the pins rebuild what lies before the range
 abbrev pub PinnedIsRebuilt : Type 0 → Type 0
-PinnedIsRebuilt D = (s : Scheme D) (r : RangeInput D) (pins : List D) (root : D) → AcceptsPinnedSome s r pins root ↔ (AcceptsSome s r root × IsRebuilt s r pins)
+PinnedIsRebuilt D = (s : Scheme D) (r : RangeInput D) (pins : List D) (root : D) → AcceptsPinnedSome s r pins root ↔ (AcceptsNonempty s r root × IsRebuilt s r pins)
 
 -- the root over the pins, for any inactive count, is the one that the list had at start leaves
 abbrev pub GivesOldRoot : {D : Type 0} → Scheme D → List D → ℕ → List D → Type 0

@@ -3,12 +3,12 @@ use Rattle.std.specs.Prelude.{◌≡◌, ℕ, Bool, cond, ◌||◌, ◌≤◌, �
 use Rattle.merkle_base.specs.Tree.{Tree, leaf, join, position}
 use Rattle.merkle_root_theory.specs.Expression.{value}
 use Rattle.merkle_base.specs.Hashing.{Hashing}
-use Rattle.merkle_root_theory.specs.Plan.{Plan, peak, folding, whole, tree_meets, meets, siblings, outer, inner}
+use Rattle.merkle_root_theory.specs.Plan.{Plan, peak, folding, root_plan, tree_meets, meets, siblings, outside_parts, path_siblings}
 use Rattle.merkle_root_theory.specs.Claim.{tree_claim, claim}
 use Rattle.merkle_root_theory.specs.Check.{RangeInput, chosen, leaf_given}
 use Rattle.merkle_base.specs.Scheme.{Scheme}
 use Rattle.merkle_base.specs.Places.{peaks_of}
-use Rattle.merkle_root_theory.specs.Range.{end_of, AcceptsSome}
+use Rattle.merkle_root_theory.specs.Range.{end_of, AcceptsNonempty}
 use Rattle.merkle_root_theory.specs.Collision.{Member}
 use Rattle.merkle_claim_theory.specs.Order.{Distinct}
 use Rattle.merkle_claim_theory.specs.Table.{digest_for}
@@ -25,22 +25,22 @@ sub_siblings h c d X (join p l r) ds = cond (tree_meets d l || tree_meets d r)
 abbrev pub sub_outer : {D : Type 0} → Hashing D → (ℕ → Bool) → (ℕ → Bool) → (ℕ → D) → Plan → List D → List D → List D
 sub_outer h c d X (peak t) os is = cond (tree_meets d t) [] (value h (claim h c X (peak t) os is) ∷ [])
 sub_outer h c d X (folding place l r) os is = cond (meets d l || meets d r)
-    (sub_outer h c d X l os is ++ sub_outer h c d X r (drop (length (outer c l)) os) (drop (length (inner c l)) is))
+    (sub_outer h c d X l os is ++ sub_outer h c d X r (drop (length (outside_parts c l)) os) (drop (length (path_siblings c l)) is))
     (value h (claim h c X (folding place l r) os is) ∷ [])
 
 -- the same of the nodes within its peaks
 abbrev pub sub_inner : {D : Type 0} → Hashing D → (ℕ → Bool) → (ℕ → Bool) → (ℕ → D) → Plan → List D → List D → List D
 sub_inner h c d X (peak t) os is = cond (tree_meets d t) (sub_siblings h c d X t is) []
 sub_inner h c d X (folding place l r) os is = cond (meets d l || meets d r)
-    (sub_inner h c d X l os is ++ sub_inner h c d X r (drop (length (outer c l)) os) (drop (length (inner c l)) is))
+    (sub_inner h c d X l os is ++ sub_inner h c d X r (drop (length (outside_parts c l)) os) (drop (length (path_siblings c l)) is))
     []
 
 -- the digests of the proof of q's range, read off the claim of r
 abbrev pub sub_digests : {D : Type 0} → Scheme D → RangeInput D → RangeInput D → Option Plan → List D
 sub_digests s r q None = []
 sub_digests s r q (Some p) =
-    sub_outer s.hashing (chosen r) (chosen q) (leaf_given s.hashing r) p r.digests (drop (length (outer (chosen r) p)) r.digests)
-    ++ sub_inner s.hashing (chosen r) (chosen q) (leaf_given s.hashing r) p r.digests (drop (length (outer (chosen r) p)) r.digests)
+    sub_outer s.hashing (chosen r) (chosen q) (leaf_given s.hashing r) p r.digests (drop (length (outside_parts (chosen r) p)) r.digests)
+    ++ sub_inner s.hashing (chosen r) (chosen q) (leaf_given s.hashing r) p r.digests (drop (length (outside_parts (chosen r) p)) r.digests)
 
 -- q proves a part of r's range with digests read off r's claim
 pub record IsPartOf {D : Type 0} (s : Scheme D) (r q : RangeInput D) : Type 0 where
@@ -49,12 +49,12 @@ pub record IsPartOf {D : Type 0} (s : Scheme D) (r q : RangeInput D) : Type 0 wh
   pub to : end_of q ≤ end_of r
   pub leaves : q.leaves ≡ r.leaves
   pub inactive : q.inactive ≡ r.inactive
-  pub digests : q.digests ≡ sub_digests s r q (whole s.bagging r.inactive (peaks_of s.rule r.leaves))
+  pub digests : q.digests ≡ sub_digests s r q (root_plan s.bagging r.inactive (peaks_of s.rule r.leaves))
   pub elements : q.elements ≡ take (length q.elements) (drop (q.start - r.start) r.elements)
 
 -- what proves a range proves its parts, whatever the hash
 abbrev pub PartIsAccepted : Type 0 → Type 0
-PartIsAccepted D = (s : Scheme D) (r q : RangeInput D) (root : D) → AcceptsSome s r root → IsPartOf s r q → AcceptsSome s q root
+PartIsAccepted D = (s : Scheme D) (r q : RangeInput D) (root : D) → AcceptsNonempty s r root → IsPartOf s r q → AcceptsNonempty s q root
 
 -- the digest of the first pair at a position
 abbrev pub read_pair : {D : Type 0} → Hashing D → List (ℕ × D) → ℕ → D

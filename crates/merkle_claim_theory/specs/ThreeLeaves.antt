@@ -3,7 +3,7 @@ use Rattle.std.specs.Prelude.{◌≡◌, ℕ, [], ◌∷◌, bit_xor, Some, nat_
 use Rattle.merkle_root_theory.specs.Expression.{Pair, PrefixFold, inputs}
 use Rattle.merkle_base.specs.Hashing.{Hashing}
 use Rattle.merkle_base.specs.Tree.{leaf, join}
-use Rattle.merkle_root_theory.specs.Plan.{Plan, full, peak, honest_digests, forward}
+use Rattle.merkle_root_theory.specs.Plan.{Plan, plan_expression, peak, honest_digests, left_fold_plan}
 use Rattle.merkle_root_theory.specs.Claim.{claim_of}
 use Rattle.merkle_claim_theory.specs.FirstCollision.{first_collision}
 
@@ -17,12 +17,12 @@ three i = get_or (1 ∷ 3 ∷ 7 ∷ []) i 0
 
 -- their peaks, folded
 abbrev pub plan_of_three : Plan
-plan_of_three = forward (peak (join 2 (leaf 0 0) (leaf 1 1))) 1 (leaf 3 2 ∷ [])
+plan_of_three = left_fold_plan (peak (join 2 (leaf 0 0) (leaf 1 1))) 1 (leaf 3 2 ∷ [])
 
 -- the honest digests, and the collision of the swapped ones
 abbrev pub ThreeLeaves : Type 0
 ThreeLeaves = record {
   honest : honest_digests xor_hashing three (λ i. nat_lt i 1) plan_of_three ≡ 7 ∷ 3 ∷ [];
-  first : first_collision xor_hashing (inputs xor_hashing (claim_of xor_hashing (λ i. nat_lt i 1) three plan_of_three (3 ∷ 7 ∷ []))) (inputs xor_hashing (full three plan_of_three))
+  first : first_collision xor_hashing (inputs xor_hashing (claim_of xor_hashing (λ i. nat_lt i 1) three plan_of_three (3 ∷ 7 ∷ []))) (inputs xor_hashing (plan_expression three plan_of_three))
       ≡ Some (record { place = PrefixFold 1; claimed = Pair 4 3; listed = Pair 0 7 });
 }

@@ -1,12 +1,12 @@
 -- Verdicts of audits against a list, and the range check as a test.
 use Rattle.std.specs.Prelude.{◌≡◌, ℕ, Bool, ◌&&◌, ◌||◌, ◌≤◌, nat_le, nat_lt, nat_eq, ◌+◌, List, length, None, MatchOption, Decides, ◌<◌, map}
-use Rattle.merkle_base.specs.Hashing.{TellsApart}
+use Rattle.merkle_base.specs.Hashing.{EqDecides}
 use Rattle.merkle_root_theory.specs.Expression.{Input}
 use Rattle.merkle_claim_theory.specs.FirstCollision.{first_collision, IsFirstCollision}
 use Rattle.merkle_root_theory.specs.Check.{root_of, all_inputs, RangeInput, range_expression, range_inputs}
 use Rattle.merkle_base.specs.Scheme.{Scheme}
 use Rattle.merkle_base.specs.Places.{peaks_of}
-use Rattle.merkle_root_theory.specs.Range.{end_of, range_parts, range_siblings, list_inputs, plan_root, Sound, Accepts, IsHonestSome, IsHonestRange}
+use Rattle.merkle_root_theory.specs.Range.{end_of, range_parts, range_siblings, list_inputs, plan_root, IsLawfulScheme, Accepts, IsHonestNonempty, IsHonestRange}
 use Rattle.merkle_claim_theory.specs.Order.{Distinct}
 use Rattle.merkle_root_theory.specs.Extract.{extracted}
 use Rattle.merkle_claim_theory.specs.Multiproof.{MultiInput, multi_expression, AcceptsMulti, IsHonestMultiSome, IsHonestMulti}
@@ -22,14 +22,14 @@ pinned_inputs s r pins = all_inputs s r.leaves r.inactive (pinned_expression s r
 
 -- of accepted inputs: where no collision is found they are honest, and what is found is the first
 pub record Verdicts (D : Type 0) : Type 0 where
-  pub range : (s : Scheme D) (size max_nodes : ℕ) → Sound s size max_nodes → (xs : List D) (k : ℕ) → length xs ≤ s.max_leaves → k ≤ length (peaks_of s.rule (length xs)) → (r : RangeInput D) → Accepts s r (plan_root s xs k)
+  pub range : (s : Scheme D) (size max_nodes : ℕ) → IsLawfulScheme s size max_nodes → (xs : List D) (k : ℕ) → length xs ≤ s.max_leaves → k ≤ length (peaks_of s.rule (length xs)) → (r : RangeInput D) → Accepts s r (plan_root s xs k)
       → MatchOption (first_collision s.hashing (range_inputs s r) (list_inputs s xs k)) (IsHonestRange s xs k r) (λ c. IsFirstCollision s.hashing (range_inputs s r) (list_inputs s xs k) c)
-  pub multi : (s : Scheme D) (size max_nodes : ℕ) → Sound s size max_nodes → (xs : List D) (k : ℕ) → length xs ≤ s.max_leaves → k ≤ length (peaks_of s.rule (length xs)) → (r : MultiInput D) → AcceptsMulti s r (plan_root s xs k)
+  pub multi : (s : Scheme D) (size max_nodes : ℕ) → IsLawfulScheme s size max_nodes → (xs : List D) (k : ℕ) → length xs ≤ s.max_leaves → k ≤ length (peaks_of s.rule (length xs)) → (r : MultiInput D) → AcceptsMulti s r (plan_root s xs k)
       → MatchOption (first_collision s.hashing (multi_inputs s r) (list_inputs s xs k)) (IsHonestMulti s xs k r) (λ c. IsFirstCollision s.hashing (multi_inputs s r) (list_inputs s xs k) c)
-  pub pinned : (s : Scheme D) (size max_nodes : ℕ) → Sound s size max_nodes → (xs : List D) (k : ℕ) → length xs ≤ s.max_leaves → k ≤ length (peaks_of s.rule (length xs)) → (r : RangeInput D) (pins : List D) → AcceptsPinned s r pins (plan_root s xs k)
+  pub pinned : (s : Scheme D) (size max_nodes : ℕ) → IsLawfulScheme s size max_nodes → (xs : List D) (k : ℕ) → length xs ≤ s.max_leaves → k ≤ length (peaks_of s.rule (length xs)) → (r : RangeInput D) (pins : List D) → AcceptsPinned s r pins (plan_root s xs k)
       → MatchOption (first_collision s.hashing (pinned_inputs s r pins) (list_inputs s xs k)) (IsHonestPinned s xs k r pins) (λ c. IsFirstCollision s.hashing (pinned_inputs s r pins) (list_inputs s xs k) c)
   -- an honest range input has no collision
-  pub clear : (s : Scheme D) → TellsApart s.hashing → (xs : List D) (k : ℕ) (r : RangeInput D) → IsHonestSome s xs k r → first_collision s.hashing (range_inputs s r) (list_inputs s xs k) ≡ None
+  pub clear : (s : Scheme D) → EqDecides s.hashing → (xs : List D) (k : ℕ) (r : RangeInput D) → IsHonestNonempty s xs k r → first_collision s.hashing (range_inputs s r) (list_inputs s xs k) ≡ None
 
 -- the range check as a test
 abbrev pub range_check : {D : Type 0} → Scheme D → RangeInput D → D → Bool
@@ -49,16 +49,16 @@ range_check s r root =
 
 -- it answers yes exactly of what is accepted
 abbrev pub CheckDecides : Type 0 → Type 0
-CheckDecides D = (s : Scheme D) → TellsApart s.hashing → (r : RangeInput D) (root : D) → Decides (range_check s r root) (Accepts s r root)
+CheckDecides D = (s : Scheme D) → EqDecides s.hashing → (r : RangeInput D) (root : D) → Decides (range_check s r root) (Accepts s r root)
 
 -- no position stands twice among the extracted pairs
 abbrev pub ExtractsOnce : Type 0 → Type 0
 ExtractsOnce D = (s : Scheme D) (r : RangeInput D) → 0 < length r.elements → end_of r ≤ r.leaves → Distinct (map (λ x. x.0) (extracted s r))
 
 -- an honest multi input has no collision
-abbrev pub HonestMultiIsClear : Type 0 → Type 0
-HonestMultiIsClear D = (s : Scheme D) → TellsApart s.hashing → (xs : List D) (k : ℕ) (r : MultiInput D) → IsHonestMultiSome s xs k r → first_collision s.hashing (multi_inputs s r) (list_inputs s xs k) ≡ None
+abbrev pub HonestMultiHasNoCollision : Type 0 → Type 0
+HonestMultiHasNoCollision D = (s : Scheme D) → EqDecides s.hashing → (xs : List D) (k : ℕ) (r : MultiInput D) → IsHonestMultiSome s xs k r → first_collision s.hashing (multi_inputs s r) (list_inputs s xs k) ≡ None
 
 -- nor has an honest pinned input
-abbrev pub HonestPinnedIsClear : Type 0 → Type 0
-HonestPinnedIsClear D = (s : Scheme D) → TellsApart s.hashing → (xs : List D) (k : ℕ) (r : RangeInput D) (pins : List D) → IsHonestSome s xs k r → pins ≡ honest_pins s xs r.start → first_collision s.hashing (pinned_inputs s r pins) (list_inputs s xs k) ≡ None
+abbrev pub HonestPinnedHasNoCollision : Type 0 → Type 0
+HonestPinnedHasNoCollision D = (s : Scheme D) → EqDecides s.hashing → (xs : List D) (k : ℕ) (r : RangeInput D) (pins : List D) → IsHonestNonempty s xs k r → pins ≡ honest_pins s xs r.start → first_collision s.hashing (pinned_inputs s r pins) (list_inputs s xs k) ≡ None

@@ -4,13 +4,13 @@
 ghost use Rattle.std.specs.Prelude.{◌≡◌, ℕ, ◌+◌, ◌*◌, ◌^◌, [], ◌∷◌, true, false, nat_eq, Some, None, map};
 ghost use Rattle.merkle_base.specs.Tree.{position};
 ghost use Rattle.merkle_base.specs.declared.family.Bagging.TheVariants.{ForwardFold, BackwardFold};
-ghost use Rattle.merkle_forest_theory.specs.Mmr.{carries};
-ghost use Rattle.merkle_forest_theory.specs.Mmb.{newest_pair};
+ghost use Rattle.merkle_forest_theory.specs.Mmr.{mmr_merges};
+ghost use Rattle.merkle_forest_theory.specs.Mmb.{mmb_merges};
 ghost use Rattle.merkle_forest_theory.specs.Rows.{unmerged};
 ghost use Rattle.merkle_hasher.specs.Standard.{standard};
-ghost use Rattle.merkle_claim_theory.specs.Audit.{AuditsRange, AuditsPair, HonestIsClear};
-ghost use Rattle.merkle_root_theory.specs.Check.{HonestRangeAccepted, NoOtherRange, PairConsistent};
-ghost use Rattle.merkle_root_theory.specs.Claim.{HonestAccepted, NothingElse, PairAgrees};
+ghost use Rattle.merkle_claim_theory.specs.Audit.{AuditsRange, AuditsPair, HonestHasNoCollision};
+ghost use Rattle.merkle_root_theory.specs.Check.{HonestRangeAccepted, PlanCheckSound, PairConsistent};
+ghost use Rattle.merkle_root_theory.specs.Claim.{HonestAccepted, ClaimSound, PairAgrees};
 ghost use Rattle.merkle_root_theory.specs.Collision.{AgreeOrCollide, Collides};
 ghost use Rattle.merkle_claim_theory.specs.ClaimRoots.{MultiNamesRoot, PinnedNamesRoot};
 ghost use Rattle.merkle_claim_theory.specs.Complete.{HonestMultiAccepted, HonestPinsAccepted};
@@ -21,18 +21,18 @@ ghost use Rattle.merkle_claim_theory.specs.FewDigests.{FewPositions};
 ghost use Rattle.merkle_claim_theory.specs.FirstCollision.{FindsFirst, first_collision};
 ghost use Rattle.merkle_root_theory.specs.ListRoot.{RootsAgree};
 ghost use Rattle.merkle_claim_theory.specs.Located.{node_inputs, CollideIsLocated, LocatedIsCollide};
-ghost use Rattle.merkle_claim_theory.specs.MultiClaim.{NoOtherMulti};
-ghost use Rattle.merkle_claim_theory.specs.Multiproof.{multi_positions, HonestMultiIsAccepted, AcceptedMultiIsHonest, AtMost122};
+ghost use Rattle.merkle_claim_theory.specs.MultiClaim.{MultiClaimSound};
+ghost use Rattle.merkle_claim_theory.specs.Multiproof.{multi_positions, HonestMultiIsAccepted, MultiSound, MultiSizeBound};
 ghost use Rattle.merkle_claim_theory.specs.Order.{PlacesInOrder, PlacesOnce};
 ghost use Rattle.merkle_root_theory.specs.Layouts.{count_before, count_after, count_inactive, laid_out};
 ghost use Rattle.merkle_root_theory.specs.Outside.{OutsideIsLayout, layout};
 ghost use Rattle.merkle_claim_theory.specs.Rebuilt.{PinnedIsRebuilt, PinsGiveOldRoot};
 ghost use Rattle.merkle_claim_theory.specs.Pinned.{HonestPinnedIsAccepted, AcceptedPinnedIsHonest, PinsAreOldPeaks};
-ghost use Rattle.merkle_claim_theory.specs.PinnedClaim.{NoOtherPins};
+ghost use Rattle.merkle_claim_theory.specs.PinnedClaim.{PinnedClaimSound};
 ghost use Rattle.merkle_claim_theory.specs.PlainHash.{IsPlain, joined_at, string_at, IsHashCollision, SameForm, StandardIsPlain, RootCollision, PlainCollision};
 ghost use Rattle.merkle_claim_theory.specs.PlainHash.{RangeCollision, MultiCollision, PinnedCollision, PairCollision, NodeCollision};
-ghost use Rattle.merkle_root_theory.specs.Plan.{folding, full, siblings, whole};
-ghost use Rattle.merkle_root_theory.specs.Range.{HonestIsAccepted, AcceptedIsHonest, AcceptsSome, IsHonestSome, in_range, overlapping, wholly_after, range_siblings, range_digests};
+ghost use Rattle.merkle_root_theory.specs.Plan.{folding, plan_expression, siblings, root_plan};
+ghost use Rattle.merkle_root_theory.specs.Range.{HonestIsAccepted, RangeSound, AcceptsNonempty, IsHonestNonempty, in_range, overlapping, wholly_after, range_siblings, range_digests};
 ghost use Rattle.merkle_root_theory.specs.Reads.{reading_order};
 ghost use Rattle.merkle_base.specs.declared.error.ReconstructionError.TheVariants.{InvalidProof, MissingDigests, ExtraDigests, InvalidStartLoc, InvalidEndLoc, MissingElements, InvalidSize};
 ghost use Rattle.merkle_root_theory.specs.Reconstruction.{reconstructed, LeadsIsAccepted};
@@ -44,7 +44,7 @@ ghost use Rattle.merkle_claim_theory.specs.Rows.{other_family, other_inputs, bar
 ghost use Rattle.merkle_claim_theory.specs.Siblings.{PathHasSiblings};
 ghost use Rattle.merkle_claim_theory.specs.Store.{PartIsAccepted, SiblingsAreRead};
 ghost use Rattle.merkle_claim_theory.specs.ThreeLeaves.{ThreeLeaves, xor_hashing, three, plan_of_three};
-ghost use Rattle.merkle_claim_theory.specs.Verdict.{CheckDecides, ExtractsOnce, Verdicts, HonestMultiIsClear, HonestPinnedIsClear};
+ghost use Rattle.merkle_claim_theory.specs.Verdict.{CheckDecides, ExtractsOnce, Verdicts, HonestMultiHasNoCollision, HonestPinnedHasNoCollision};
 
 /// What holds of claims: trees of places in which some digests are given and the others computed.
 pub fn claims<D>()
@@ -55,7 +55,7 @@ pub fn claims<D>()
     ensures honest { HonestAccepted D }
 
     // A claim with the value of a list is honest, or collides with the list.
-    ensures others { NothingElse D }
+    ensures others { ClaimSound D }
 
     // Two claims of one value agree at the leaves that both choose, or collide.
     ensures pairs { PairAgrees D }
@@ -136,8 +136,8 @@ pub fn plain_hash<D>()
 
 /// A location needs at most 122 digests, in both families, up to their greatest leaf counts.
 pub fn few_digests<D>()
-    ensures range_positions { FewPositions D carries (2 ^ 62) }
-    ensures belt_positions { FewPositions D newest_pair (2 ^ 62 + 30) }
+    ensures range_positions { FewPositions D mmr_merges (2 ^ 62) }
+    ensures belt_positions { FewPositions D mmb_merges (2 ^ 62 + 30) }
 {}
 
 /// What holds of claims beside which the proof tells digests that are also computed.
@@ -149,10 +149,10 @@ pub fn told_digests<D>()
     ensures pins { HonestPinsAccepted D }
 
     // No other multi claims do, but for collisions.
-    ensures no_other_multi { NoOtherMulti D }
+    ensures no_other_multi { MultiClaimSound D }
 
     // Nor do other pinned claims.
-    ensures no_other_pins { NoOtherPins D }
+    ensures no_other_pins { PinnedClaimSound D }
 {}
 
 /// The parts of a plan outside a range are those of the layout, in its order.
@@ -168,11 +168,11 @@ pub fn paths()
 /// What holds of range checks against a list given by its leaf at each location, and of two checks against one root.
 pub fn list_checks<D>()
     ensures honest { HonestRangeAccepted D }
-    ensures others { NoOtherRange D }
+    ensures others { PlanCheckSound D }
     ensures pairs { PairConsistent D }
     ensures audit { AuditsRange D }
     ensures audit_pair { AuditsPair D }
-    ensures clear { HonestIsClear D }
+    ensures clear { HonestHasNoCollision D }
 {}
 
 /// A wrong proof of one of three leaves under exclusive or, which is accepted, and the place where it collides.
@@ -189,8 +189,8 @@ pub fn worked_rows()
     // Beside leaf 1 of four its neighbour, and then the node over the other two.
     ensures sibling_nodes { map position (siblings (in_range 1 2) four) ≡ 0 ∷ 5 ∷ [] }
     ensures sibling_nodes_two { map position (range_siblings 3 5 seven) ≡ 2 ∷ 3 ∷ 8 ∷ [] }
-    ensures plan_forward { whole ForwardFold 2 (single 0 ∷ single 1 ∷ single 2 ∷ []) ≡ Some (folding (PrefixFold 2) (folding (PrefixFold 1) (alone 0) (alone 1)) (alone 2)) }
-    ensures plan_backward { whole BackwardFold 2 (single 0 ∷ single 1 ∷ single 2 ∷ single 3 ∷ single 4 ∷ [])
+    ensures plan_forward { root_plan ForwardFold 2 (single 0 ∷ single 1 ∷ single 2 ∷ []) ≡ Some (folding (PrefixFold 2) (folding (PrefixFold 1) (alone 0) (alone 1)) (alone 2)) }
+    ensures plan_backward { root_plan BackwardFold 2 (single 0 ∷ single 1 ∷ single 2 ∷ single 3 ∷ single 4 ∷ [])
         ≡ Some (folding Join (folding (PrefixFold 1) (alone 0) (alone 1)) (folding (SuffixFold 2) (alone 2) (folding (SuffixFold 3) (alone 3) (alone 4)))) }
 
     // What a proof of the leaves of one peak begins with. Forward: the peaks before it folded, those after it single.
@@ -219,27 +219,27 @@ pub fn worked_rows()
     ensures digests { range_digests (record small { rule = paired }) (1 ∷ 3 ∷ 7 ∷ []) 0 0 1 ≡ 7 ∷ 3 ∷ [] }
 
     // The digests 1, 3 and 7 fold to 5, and with the leaf count hash to 6.
-    ensures honest { IsHonestSome small (1 ∷ 3 ∷ 7 ∷ []) 0 (middle 0 (1 ∷ 7 ∷ [])) }
-    ensures other_digests { IsHonestSome small (1 ∷ 3 ∷ 7 ∷ []) 0 (middle 0 (7 ∷ 1 ∷ [])) → ⊥ }
-    ensures other_element { IsHonestSome small (1 ∷ 2 ∷ 7 ∷ []) 0 (middle 0 (1 ∷ 7 ∷ [])) → ⊥ }
-    ensures accepts { AcceptsSome small (middle 0 (1 ∷ 7 ∷ [])) 6 }
-    ensures accepts_inactive { AcceptsSome small (middle 3 (1 ∷ 7 ∷ [])) 5 }
+    ensures honest { IsHonestNonempty small (1 ∷ 3 ∷ 7 ∷ []) 0 (middle 0 (1 ∷ 7 ∷ [])) }
+    ensures other_digests { IsHonestNonempty small (1 ∷ 3 ∷ 7 ∷ []) 0 (middle 0 (7 ∷ 1 ∷ [])) → ⊥ }
+    ensures other_element { IsHonestNonempty small (1 ∷ 2 ∷ 7 ∷ []) 0 (middle 0 (1 ∷ 7 ∷ [])) → ⊥ }
+    ensures accepts { AcceptsNonempty small (middle 0 (1 ∷ 7 ∷ [])) 6 }
+    ensures accepts_inactive { AcceptsNonempty small (middle 3 (1 ∷ 7 ∷ [])) 5 }
 
     // Each of these inputs has one thing wrong. All but the first are against the root that is computed for them.
-    ensures other_root { AcceptsSome small (middle 0 (1 ∷ 7 ∷ [])) 5 → ⊥ }
-    ensures too_many_inactive { AcceptsSome small (middle 4 (1 ∷ 7 ∷ [])) 2 → ⊥ }
-    ensures too_many_digests { AcceptsSome small (middle 0 (1 ∷ 7 ∷ 9 ∷ [])) 6 → ⊥ }
-    ensures too_many_elements { AcceptsSome small (record { leaves = 3; inactive = 0; digests = 2 ∷ []; start = 2; elements = 7 ∷ 9 ∷ [] }) 6 → ⊥ }
-    ensures too_many_leaves { AcceptsSome small (record { leaves = 4; inactive = 0; digests = 1 ∷ 7 ∷ 2 ∷ []; start = 1; elements = 3 ∷ [] }) 3 → ⊥ }
-    ensures no_elements { AcceptsSome small (record { leaves = 3; inactive = 0; digests = 1 ∷ 3 ∷ 7 ∷ []; start = 1; elements = [] }) 2 → ⊥ }
+    ensures other_root { AcceptsNonempty small (middle 0 (1 ∷ 7 ∷ [])) 5 → ⊥ }
+    ensures too_many_inactive { AcceptsNonempty small (middle 4 (1 ∷ 7 ∷ [])) 2 → ⊥ }
+    ensures too_many_digests { AcceptsNonempty small (middle 0 (1 ∷ 7 ∷ 9 ∷ [])) 6 → ⊥ }
+    ensures too_many_elements { AcceptsNonempty small (record { leaves = 3; inactive = 0; digests = 2 ∷ []; start = 2; elements = 7 ∷ 9 ∷ [] }) 6 → ⊥ }
+    ensures too_many_leaves { AcceptsNonempty small (record { leaves = 4; inactive = 0; digests = 1 ∷ 7 ∷ 2 ∷ []; start = 1; elements = 3 ∷ [] }) 3 → ⊥ }
+    ensures no_elements { AcceptsNonempty small (record { leaves = 3; inactive = 0; digests = 1 ∷ 3 ∷ 7 ∷ []; start = 1; elements = [] }) 2 → ⊥ }
 
     // What is hashed for a list: the string of the root, then the folds from the last one down, and then the nodes.
     ensures inputs_folds { list_inputs ≡ record { place = Root; argument = Bytes (0 ∷ 0 ∷ 0 ∷ 0 ∷ 0 ∷ 0 ∷ 0 ∷ 0 ∷ 0 ∷ 3 ∷ 5 ∷ []) }
         ∷ record { place = PrefixFold 2; argument = Pair 2 7 } ∷ record { place = PrefixFold 1; argument = Pair 1 3 } ∷ [] }
-    ensures inputs_nodes { inputs xor_hashing (full three plan_of_three) ≡ record { place = PrefixFold 1; argument = Pair 0 7 } ∷ record { place = Node 2; argument = Pair 1 3 } ∷ [] }
+    ensures inputs_nodes { inputs xor_hashing (plan_expression three plan_of_three) ≡ record { place = PrefixFold 1; argument = Pair 0 7 } ∷ record { place = Node 2; argument = Pair 1 3 } ∷ [] }
 
     // With its two digests swapped the proof of the middle leaf has the root too, and collides where the last peak is folded.
-    ensures accepts_swapped { AcceptsSome small (middle 0 (7 ∷ 1 ∷ [])) 6 }
+    ensures accepts_swapped { AcceptsNonempty small (middle 0 (7 ∷ 1 ∷ [])) 6 }
     ensures collides { Collides small.hashing swapped_inputs list_inputs (record { place = PrefixFold 2; claimed = Pair 4 1; listed = Pair 2 7 }) }
     ensures no_collision { Collides small.hashing swapped_inputs list_inputs (record { place = PrefixFold 1; claimed = Pair 7 3; listed = Pair 1 3 }) → ⊥ }
     ensures no_collision_alike { Collides small.hashing list_inputs list_inputs (record { place = PrefixFold 2; claimed = Pair 2 7; listed = Pair 2 7 }) → ⊥ }
@@ -301,7 +301,7 @@ pub fn worked_rows()
 /// What a range check accepts: the honest inputs and, but for located collisions, no others.
 pub fn range_checks<D>()
     ensures honest { HonestIsAccepted D }
-    ensures others { AcceptedIsHonest D }
+    ensures others { RangeSound D }
 
     // The inputs that lead to a root without a refusal are those that are accepted against it.
     ensures leads { LeadsIsAccepted D }
@@ -319,10 +319,10 @@ pub fn range_checks<D>()
 /// What a check of single leaves accepts: the honest inputs and, but for located collisions, no others.
 pub fn multi_checks<D>()
     ensures honest { HonestMultiIsAccepted D }
-    ensures others { AcceptedMultiIsHonest D }
+    ensures others { MultiSound D }
 
     // A location needs at most 122 digests.
-    ensures few { AtMost122 D }
+    ensures few { MultiSizeBound D }
 {}
 
 /// What a range check with pins accepts: the honest inputs with the honest pins and, but for located collisions, no others.
@@ -354,10 +354,10 @@ pub fn verdicts<D>()
     ensures all { Verdicts D }
 
     // An honest multi input has no collision.
-    ensures multi { HonestMultiIsClear D }
+    ensures multi { HonestMultiHasNoCollision D }
 
     // Nor has an honest pinned input.
-    ensures pinned { HonestPinnedIsClear D }
+    ensures pinned { HonestPinnedHasNoCollision D }
 {}
 
 /// The root over the plan of a list's peaks is the list's root, for every inactive count and both baggings.

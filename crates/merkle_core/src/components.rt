@@ -5,7 +5,7 @@ ghost use Rattle.merkle_base.specs.Places.{IsSize, peak_positions};
 ghost use Rattle.merkle_base.specs.Hashing.{Hashing};
 ghost use Rattle.merkle_batch_theory.specs.Components.{AreComponents, made_of};
 ghost use Rattle.merkle_batch_theory.specs.Contents.{Agrees};
-ghost use Rattle.merkle_batch_theory.specs.Store.{contents};
+ghost use Rattle.merkle_batch_theory.specs.MemModel.{contents};
 
 use crate::held_nodes::HeldNodes;
 use crate::mem::Mem;

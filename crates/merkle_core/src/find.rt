@@ -1,7 +1,7 @@
 //! Finding the state of a batch's chain that a structure is at.
 ghost use Rattle.std.specs.Prelude.{◌≡◌, ℕ, List, Option, map, ◌&&◌, ◌==◌};
 ghost use Rattle.std.specs.Cmp.Lexicographic.{pointwise};
-ghost use Rattle.merkle_batch_theory.specs.Recorded.{Recorded};
+ghost use Rattle.merkle_batch_theory.specs.Records.{RecordModel};
 ghost use Rattle.merkle_batch_theory.specs.Refusals.{error_of};
 ghost use Rattle.merkle_batch_theory.specs.Replay.{ends_at, last_match, matched, oldest, refusal};
 

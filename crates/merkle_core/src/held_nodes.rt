@@ -4,8 +4,8 @@ ghost use Rattle.std.specs.FinMap.{get};
 ghost use Rattle.std.specs.Map.{lookup};
 ghost use Rattle.std.specs.VecDeque.{deque_len, deque_capacity};
 ghost use Rattle.merkle_batch_theory.specs.Held.{PinsBefore};
-ghost use Rattle.merkle_batch_theory.specs.Replay.{over};
-ghost use Rattle.merkle_batch_theory.specs.Store.{stored_of};
+ghost use Rattle.merkle_batch_theory.specs.Replay.{overwritten_by};
+ghost use Rattle.merkle_batch_theory.specs.MemModel.{stored_of};
 
 use merkle_base::family::Family;
 use merkle_base::position::Position;
@@ -30,7 +30,7 @@ impl<F: Family, D: Digest> Model for HeldNodes<F, D> {
     ghost use Rattle.std.specs.Prelude.{◌+◌, length};
     ghost use Rattle.std.specs.VecDeque.{deque_capacity};
     ghost use Rattle.merkle_batch_theory.specs.Held.{Held, held_code, PinsBefore};
-    ghost use Rattle.merkle_batch_theory.specs.Store.{stored_of};
+    ghost use Rattle.merkle_batch_theory.specs.MemModel.{stored_of};
 
     ghost Value = { Held D };
 
@@ -132,7 +132,7 @@ impl<F: Family, D: Digest> HeldNodes<F, D> {
         ensures start { self.new.start ≡ self.old.start }
         ensures size { self.new.size ≡ self.old.size }
         ensures capacity { self.new.capacity ≡ self.old.capacity }
-        ensures stored { (p : ℕ) → get self.new.stored p ≡ cond (p == position) (over (Some digest) (get self.old.stored p)) (get self.old.stored p) }
+        ensures stored { (p : ℕ) → get self.new.stored p ≡ cond (p == position) (overwritten_by (Some digest) (get self.old.stored p)) (get self.old.stored p) }
     {
         if position < self.start {
             replace_pin(&mut self.pins, position, digest);
@@ -206,7 +206,7 @@ fn pinned<F, D: Copy>(pins: &[(Position<F>, D)], position: Position<F>) -> Optio
 
 // Gives the pin at a position, if there is one, a digest.
 fn replace_pin<F, D: Copy>(pins: &mut [(Position<F>, D)], position: Position<F>, digest: D)
-    ensures { (p : ℕ) → let old = lookup (λ q. p == q) pins.old in lookup (λ q. p == q) pins.new ≡ cond (p == position) (over (Some digest) old) old }
+    ensures { (p : ℕ) → let old = lookup (λ q. p == q) pins.old in lookup (λ q. p == q) pins.new ≡ cond (p == position) (overwritten_by (Some digest) old) old }
 {
     for (pin, held) in pins {
         if *pin == position {

@@ -5,14 +5,14 @@ ghost use Rattle.merkle_base.specs.Forest.{size};
 ghost use Rattle.merkle_base.specs.Root.{list_root, peaks_root};
 ghost use Rattle.merkle_base.specs.Shows.{Shows};
 ghost use Rattle.merkle_forest_theory.specs.FewPeaks.{FewPeaks};
-ghost use Rattle.merkle_batch_theory.specs.Store.{contents, no_leaves, node};
+ghost use Rattle.merkle_batch_theory.specs.MemModel.{contents, no_leaves, node};
 ghost use Rattle.merkle_base.specs.Hashing.{Hashing};
 ghost use Rattle.merkle_batch_theory.specs.Applying.{IsApplied};
 ghost use Rattle.merkle_batch_theory.specs.Contents.{Agrees, held_peaks, is_kept};
-ghost use Rattle.merkle_batch_theory.specs.Pending.{forked};
+ghost use Rattle.merkle_batch_theory.specs.Unmerkleized.{forked};
 ghost use Rattle.merkle_batch_theory.specs.Roots.{root_batch};
-ghost use Rattle.merkle_batch_theory.specs.Recorded.{records};
-ghost use Rattle.merkle_batch_theory.specs.Stands.{StandsOn, last_list};
+ghost use Rattle.merkle_batch_theory.specs.Records.{records};
+ghost use Rattle.merkle_batch_theory.specs.History.{IsHistory, last_list};
 ghost use Rattle.merkle_batch_theory.specs.Replay.{applied, matched, refusal};
 ghost use Rattle.merkle_batch_theory.specs.Refusals.{error_of};
 ghost use Rattle.merkle_proof.specs.ProofRefusals.{IsProofRefusal, IsRangeRefusal};
@@ -62,17 +62,17 @@ pub struct Mem<F: Family, D: Digest> {
 }
 
 impl<F: Family, D: Digest> Model for Mem<F, D> {
-    ghost use Rattle.merkle_batch_theory.specs.Store.{Store, store_code};
+    ghost use Rattle.merkle_batch_theory.specs.MemModel.{MemModel, mem_model_code};
 
-    ghost Value = { Store D };
+    ghost Value = { MemModel D };
 
-    ghost coded = { store_code D.code };
+    ghost coded = { mem_model_code D.code };
 
-    ghost use Rattle.merkle_batch_theory.specs.Whole.{IsKept};
+    ghost use Rattle.merkle_batch_theory.specs.MemValid.{IsMemValid};
 
     ghost view = { λ m. record { boundary = m.boundary; leaves = m.leaves; size = m.held.size; stored = m.held.stored } };
 
-    ghost invariant = { λ m. IsKept F.rule F.MAX_LEAVES m.boundary m.leaves m.held };
+    ghost invariant = { λ m. IsMemValid F.rule F.MAX_LEAVES m.boundary m.leaves m.held };
 }
 
 impl<F: Family, D: Digest> Mem<F, D> {
@@ -290,7 +290,7 @@ impl<F: Family, D: Digest> Mem<F, D> {
     pub fn new_batch(&self) -> Result<UnmerkleizedBatch<F, D>, Error<F>>
         ensures forked { IfOk result (λ b. b ≡ forked (root_batch F.rule self.now.leaves (contents self.now))) }
         ensures of_list { IfOk result (λ b. (h : Hashing D) → (X : List D) → Agrees h F.rule (contents self.now) X
-            → StandsOn h F.rule (records b.parent) (X ∷ X ∷ [])) }
+            → IsHistory h F.rule (records b.parent) (X ∷ X ∷ [])) }
         ensures refused { IsOkUnless result Error.OutOfMemory }
     {
         match MerkleizedBatch::from_mem(self) {

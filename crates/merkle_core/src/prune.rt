@@ -4,7 +4,7 @@ ghost use Rattle.merkle_base.specs.Hashing.{Hashing};
 ghost use Rattle.merkle_base.specs.Places.{peak_positions};
 ghost use Rattle.merkle_batch_theory.specs.Contents.{Agrees, pruned};
 ghost use Rattle.merkle_batch_theory.specs.HeldPeaks.{pins_of};
-ghost use Rattle.merkle_batch_theory.specs.Store.{contents};
+ghost use Rattle.merkle_batch_theory.specs.MemModel.{contents};
 
 use crate::mem::Mem;
 use merkle_base::error::Error;

@@ -2,7 +2,7 @@
 ghost use Rattle.std.specs.Prelude.{◌≡◌, ◌+◌, ◌≤◌, ℕ, length, map};
 ghost use Rattle.std.specs.FinMap.{get};
 ghost use Rattle.merkle_batch_theory.specs.Held.{held_contents, total_appended};
-ghost use Rattle.merkle_batch_theory.specs.Replay.{all_laid, laid, over};
+ghost use Rattle.merkle_batch_theory.specs.Replay.{with_records, with_record, overwritten_by};
 
 use crate::held_nodes::HeldNodes;
 use merkle_base::family::Family;
@@ -16,7 +16,7 @@ fn replace_all<F: Family, D: Digest>(held: &mut HeldNodes<F, D>, overwrites: &Ov
     ensures start { held.new.start ≡ held.old.start }
     ensures size { held.new.size ≡ held.old.size }
     ensures capacity { held.new.capacity ≡ held.old.capacity }
-    ensures stored { (p : ℕ) → get held.new.stored p ≡ over (get overwrites.now p) (get held.old.stored p) }
+    ensures stored { (p : ℕ) → get held.new.stored p ≡ overwritten_by (get overwrites.now p) (get held.old.stored p) }
 {
     let _len = overwrites.nodes.len();
     for (position, digest) in &overwrites.nodes {
@@ -30,7 +30,7 @@ pub(crate) fn lay<F: Family, D: Digest>(held: &mut HeldNodes<F, D>, change: &Rec
     ensures start { held.new.start ≡ held.old.start }
     ensures size { held.new.size ≡ held.old.size + length change.now.appended }
     ensures capacity { held.new.capacity ≡ held.old.capacity }
-    ensures laid { (b : ℕ) → held_contents b held.new ≡ laid change.now (held_contents b held.old) }
+    ensures with_record { (b : ℕ) → held_contents b held.new ≡ with_record change.now (held_contents b held.old) }
 {
     replace_all(held, &change.overwrites);
     held.append(&change.appended);
@@ -45,7 +45,7 @@ pub(crate) fn lay_all<F: Family, D: Digest>(
     ensures start { held.new.start ≡ held.old.start }
     ensures size { held.new.size ≡ held.old.size + total_appended (map (λ r. r.value) changes.now) }
     ensures capacity { held.new.capacity ≡ held.old.capacity }
-    ensures laid { (b : ℕ) → held_contents b held.new ≡ all_laid (map (λ r. r.value) changes.now) (held_contents b held.old) }
+    ensures with_record { (b : ℕ) → held_contents b held.new ≡ with_records (map (λ r. r.value) changes.now) (held_contents b held.old) }
 {
     for change in changes {
         lay(held, change);

@@ -17,11 +17,11 @@ use Rattle.merkle_base.proofs.Growth.{forest_grown}
 use Rattle.merkle_base.proofs.Lookup.{peak_node}
 use Rattle.merkle_base.proofs.Paths.{leaf_under, peak_holding}
 use Rattle.merkle_base.proofs.PeakLists.{Spans, covers_spans, all_reverse}
-use Rattle.merkle_draft.specs.Refreshed.{touched_leaves, HasLeavesOf}
-use Rattle.merkle_batch_theory.proofs.Items.{get_reverse}
-use Rattle.merkle_draft.proofs.RefreshedDigests.{or_left_some, or_right_some, cond_yes, cond_no}
-use Rattle.merkle_draft.proofs.RefreshedPeaks.{after_start}
-use Rattle.merkle_draft.proofs.Touched.{leaf_touched, leaf_untouched, Between, touched_between}
+use Rattle.merkle_draft.specs.DirtyDigests.{dirty_leaves, HasLeavesOf}
+use Rattle.merkle_batch_theory.proofs.ListFacts.{get_reverse}
+use Rattle.merkle_draft.proofs.DirtyDigests.{or_left_some, or_right_some, cond_yes, cond_no}
+use Rattle.merkle_draft.proofs.DirtyPeaks.{after_start}
+use Rattle.merkle_draft.proofs.DirtyFacts.{leaf_dirty, leaf_untouched, Between, dirty_between}
 use Rattle.merkle_batch_theory.proofs.OptionFacts.{none_or_some}
 use Rattle.merkle_base.proofs.Nodes.{all_append}
 use Rattle.merkle_base.proofs.Lists.{all_imply}
@@ -116,40 +116,40 @@ module _ {D : Type 0} where
 
 -- ---- the changed leaves of the peaks
 module _ {D : Type 0} (m : ℕ → Option D) where
-  touched_found : (t : Tree) → AllByRecursion (λ u. m u.0 ≡ Some u.1) (touched_leaves m t)
-  touched_found (leaf p n) = elim (none_or_some (m p)) [
+  dirty_found : (t : Tree) → AllByRecursion (λ u. m u.0 ≡ Some u.1) (dirty_leaves m t)
+  dirty_found (leaf p n) = elim (none_or_some (m p)) [
     | inl o ↦ subst (AllByRecursion (λ u. m u.0 ≡ Some u.1)) (sym (leaf_untouched m p n o)) tt
-    | inr o ↦ subst (AllByRecursion (λ u. m u.0 ≡ Some u.1)) (sym (leaf_touched m p n o.0 o.1)) (o.1, tt)
+    | inr o ↦ subst (AllByRecursion (λ u. m u.0 ≡ Some u.1)) (sym (leaf_dirty m p n o.0 o.1)) (o.1, tt)
   ]
-  touched_found (join p l r) = all_append (λ u. m u.0 ≡ Some u.1) (touched_leaves m l) (touched_leaves m r) (touched_found l) (touched_found r)
+  dirty_found (join p l r) = all_append (λ u. m u.0 ≡ Some u.1) (dirty_leaves m l) (dirty_leaves m r) (dirty_found l) (dirty_found r)
 
-  all_found : (ts : List Tree) → AllByRecursion (λ u. m u.0 ≡ Some u.1) (flat_map (touched_leaves m) ts)
+  all_found : (ts : List Tree) → AllByRecursion (λ u. m u.0 ≡ Some u.1) (flat_map (dirty_leaves m) ts)
   all_found [] = tt
-  all_found (t ∷ ts) = all_append (λ u. m u.0 ≡ Some u.1) (touched_leaves m t) (flat_map (touched_leaves m) ts) (touched_found t) (all_found ts)
+  all_found (t ∷ ts) = all_append (λ u. m u.0 ≡ Some u.1) (dirty_leaves m t) (flat_map (dirty_leaves m) ts) (dirty_found t) (all_found ts)
 
-  found_under : (t : Tree) (q k : ℕ) (d : D) → IsUnder (leaf q k) t → m q ≡ Some d → is_some (find nat_cmp q (touched_leaves m t)) ≡ true
+  found_under : (t : Tree) (q k : ℕ) (d : D) → IsUnder (leaf q k) t → m q ≡ Some d → is_some (find nat_cmp q (dirty_leaves m t)) ≡ true
   found_under (leaf p n) q k d u e =
       let c : q ≡ p = ap position u in
-      ap (λ xs. is_some (find nat_cmp q xs)) (leaf_touched m p n d (subst (λ z. m z ≡ Some d) c e)) ∙ ap (λ o. is_some o) (find_yes q (p, d) [] c)
-  found_under (join p l r) q k d u e = ap (λ o. is_some o) (find_append q (touched_leaves m l) (touched_leaves m r)) ∙ elim u [
+      ap (λ xs. is_some (find nat_cmp q xs)) (leaf_dirty m p n d (subst (λ z. m z ≡ Some d) c e)) ∙ ap (λ o. is_some o) (find_yes q (p, d) [] c)
+  found_under (join p l r) q k d u e = ap (λ o. is_some o) (find_append q (dirty_leaves m l) (dirty_leaves m r)) ∙ elim u [
     | inl v ↦ absurd (cc)
     | inr v ↦ elim v [
-      | inl w ↦ or_left_some (find nat_cmp q (touched_leaves m l)) (find nat_cmp q (touched_leaves m r)) (found_under l q k d w e)
-      | inr w ↦ or_right_some (find nat_cmp q (touched_leaves m l)) (find nat_cmp q (touched_leaves m r)) (found_under r q k d w e)
+      | inl w ↦ or_left_some (find nat_cmp q (dirty_leaves m l)) (find nat_cmp q (dirty_leaves m r)) (found_under l q k d w e)
+      | inr w ↦ or_right_some (find nat_cmp q (dirty_leaves m l)) (find nat_cmp q (dirty_leaves m r)) (found_under r q k d w e)
     ]
   ]
 
-  found_in : (ts : List Tree) (i : ℕ) (t : Tree) (q : ℕ) → slice_get ts i ≡ Some t → is_some (find nat_cmp q (touched_leaves m t)) ≡ true → is_some (find nat_cmp q (flat_map (touched_leaves m) ts)) ≡ true
+  found_in : (ts : List Tree) (i : ℕ) (t : Tree) (q : ℕ) → slice_get ts i ≡ Some t → is_some (find nat_cmp q (dirty_leaves m t)) ≡ true → is_some (find nat_cmp q (flat_map (dirty_leaves m) ts)) ≡ true
   found_in [] i t q e s = absurd (cc)
   found_in (x ∷ ts) zero t q e s = (let c : t ≡ x = cc in
-      ap (λ o. is_some o) (find_append q (touched_leaves m x) (flat_map (touched_leaves m) ts)) ∙ or_left_some (find nat_cmp q (touched_leaves m x)) (find nat_cmp q (flat_map (touched_leaves m) ts)) (subst (λ z. is_some (find nat_cmp q (touched_leaves m z)) ≡ true) c s))
+      ap (λ o. is_some o) (find_append q (dirty_leaves m x) (flat_map (dirty_leaves m) ts)) ∙ or_left_some (find nat_cmp q (dirty_leaves m x)) (find nat_cmp q (flat_map (dirty_leaves m) ts)) (subst (λ z. is_some (find nat_cmp q (dirty_leaves m z)) ≡ true) c s))
   found_in (x ∷ ts) (suc i) t q e s =
-      ap (λ o. is_some o) (find_append q (touched_leaves m x) (flat_map (touched_leaves m) ts)) ∙ or_right_some (find nat_cmp q (touched_leaves m x)) (find nat_cmp q (flat_map (touched_leaves m) ts)) (found_in ts i t q e s)
+      ap (λ o. is_some o) (find_append q (dirty_leaves m x) (flat_map (dirty_leaves m) ts)) ∙ or_right_some (find nat_cmp q (dirty_leaves m x)) (find nat_cmp q (flat_map (dirty_leaves m) ts)) (found_in ts i t q e s)
 
   module _ (rule : List ℕ → List ℕ) (n : ℕ) where
-    peaks_find : HasLeavesOf rule n m → (q : ℕ) → find nat_cmp q (flat_map (touched_leaves m) (peaks_of rule n)) ≡ m q
-    peaks_find leaves q = elim (none_or_some (find nat_cmp q (flat_map (touched_leaves m) (peaks_of rule n)))) [
-      | inr o ↦ o.1 ∙ sym (find_among (λ p d. m p ≡ Some d) (flat_map (touched_leaves m) (peaks_of rule n)) (all_found (peaks_of rule n)) q o.0 o.1)
+    peaks_find : HasLeavesOf rule n m → (q : ℕ) → find nat_cmp q (flat_map (dirty_leaves m) (peaks_of rule n)) ≡ m q
+    peaks_find leaves q = elim (none_or_some (find nat_cmp q (flat_map (dirty_leaves m) (peaks_of rule n)))) [
+      | inr o ↦ o.1 ∙ sym (find_among (λ p d. m p ≡ Some d) (flat_map (dirty_leaves m) (peaks_of rule n)) (all_found (peaks_of rule n)) q o.0 o.1)
       | inl o ↦ elim (none_or_some (m q)) [
         | inl v ↦ o ∙ sym v
         | inr v ↦ (let w = leaves q (ap is_some v.1) in
@@ -161,28 +161,28 @@ module _ {D : Type 0} (m : ℕ → Option D) where
       ]
     ]
 
-    rising_tree : (t : Tree) → IsBuilt (forest rule n).nodes t → Rising (touched_leaves m t)
+    rising_tree : (t : Tree) → IsBuilt (forest rule n).nodes t → Rising (dirty_leaves m t)
     unfolding Rising
-    rising_tree (leaf p k) b = elim (none_or_some (m p)) [ inl o ↦ subst Rising (sym (leaf_untouched m p k o)) tt | inr o ↦ subst Rising (sym (leaf_touched m p k o.0 o.1)) (tt, tt) ]
-    rising_tree (join p l r) b = rising_append (touched_leaves m l) (touched_leaves m r) (size rule (first_leaf r)) (rising_tree l b.4) (rising_tree r b.5)
-        (all_imply (Between rule (first_leaf l) (first_leaf l + width l)) (λ u. u.0 < size rule (first_leaf r)) (λ u w. omega (arith, w.1, ap (size rule) b.3)) (touched_leaves m l) (touched_between rule n m l b.4))
-        (all_imply (Between rule (first_leaf r) (first_leaf r + width r)) (λ u. size rule (first_leaf r) ≤ u.0) (λ u w. w.0) (touched_leaves m r) (touched_between rule n m r b.5))
+    rising_tree (leaf p k) b = elim (none_or_some (m p)) [ inl o ↦ subst Rising (sym (leaf_untouched m p k o)) tt | inr o ↦ subst Rising (sym (leaf_dirty m p k o.0 o.1)) (tt, tt) ]
+    rising_tree (join p l r) b = rising_append (dirty_leaves m l) (dirty_leaves m r) (size rule (first_leaf r)) (rising_tree l b.4) (rising_tree r b.5)
+        (all_imply (Between rule (first_leaf l) (first_leaf l + width l)) (λ u. u.0 < size rule (first_leaf r)) (λ u w. omega (arith, w.1, ap (size rule) b.3)) (dirty_leaves m l) (dirty_between rule n m l b.4))
+        (all_imply (Between rule (first_leaf r) (first_leaf r + width r)) (λ u. size rule (first_leaf r) ≤ u.0) (λ u w. w.0) (dirty_leaves m r) (dirty_between rule n m r b.5))
 
-    rising_trees : (o e : ℕ) (ts : List Tree) → Spans o e ts → AllByRecursion (IsBuilt (forest rule n).nodes) ts → Rising (flat_map (touched_leaves m) ts)
+    rising_trees : (o e : ℕ) (ts : List Tree) → Spans o e ts → AllByRecursion (IsBuilt (forest rule n).nodes) ts → Rising (flat_map (dirty_leaves m) ts)
     unfolding Rising
     rising_trees o e [] c b = tt
-    rising_trees o e (t ∷ ts) c b = rising_append (touched_leaves m t) (flat_map (touched_leaves m) ts) (size rule (o + width t)) (rising_tree t b.0) (rising_trees (o + width t) e ts c.1 b.1)
-        (all_imply (Between rule (first_leaf t) (first_leaf t + width t)) (λ u. u.0 < size rule (o + width t)) (λ u w. omega (arith, w.1, ap (λ (z : ℕ). size rule (z + width t)) c.0)) (touched_leaves m t) (touched_between rule n m t b.0))
+    rising_trees o e (t ∷ ts) c b = rising_append (dirty_leaves m t) (flat_map (dirty_leaves m) ts) (size rule (o + width t)) (rising_tree t b.0) (rising_trees (o + width t) e ts c.1 b.1)
+        (all_imply (Between rule (first_leaf t) (first_leaf t + width t)) (λ u. u.0 < size rule (o + width t)) (λ u w. omega (arith, w.1, ap (λ (z : ℕ). size rule (z + width t)) c.0)) (dirty_leaves m t) (dirty_between rule n m t b.0))
         (after_start rule n m (o + width t) e ts c.1 b.1)
 
     -- entries in order, in which m finds what it has
-    pub changed_leaves : HasLeavesOf rule n m → (es : List (ℕ × D)) → Rising es → ((q : ℕ) → m q ≡ find nat_cmp q es) → es ≡ flat_map (touched_leaves m) (peaks_of rule n)
-    changed_leaves leaves es h f = same_rising es (flat_map (touched_leaves m) (peaks_of rule n)) h
+    pub changed_leaves : HasLeavesOf rule n m → (es : List (ℕ × D)) → Rising es → ((q : ℕ) → m q ≡ find nat_cmp q es) → es ≡ flat_map (dirty_leaves m) (peaks_of rule n)
+    changed_leaves leaves es h f = same_rising es (flat_map (dirty_leaves m) (peaks_of rule n)) h
         (rising_trees 0 n (peaks_of rule n) (covers_spans n (forest rule n).peaks (forest_grown rule n).covers) (all_reverse (IsBuilt (forest rule n).nodes) (forest rule n).peaks (forest_grown rule n).built))
         (λ q. sym (f q) ∙ sym (peaks_find leaves q))
 
 -- the entries of a map of changed leaves
-pub entries_are : {D : Type 0} (rule : List ℕ → List ℕ) (n : ℕ) (es : List (ℕ × D)) → HasLeavesOf rule n (get {R = nat_cmp} (from_entries es)) → IsStrictlySortedBy nat_cmp (map (λ e. e.0) es) → es ≡ flat_map (touched_leaves (get {R = nat_cmp} (from_entries es))) (peaks_of rule n)
+pub entries_are : {D : Type 0} (rule : List ℕ → List ℕ) (n : ℕ) (es : List (ℕ × D)) → HasLeavesOf rule n (get {R = nat_cmp} (from_entries es)) → IsStrictlySortedBy nat_cmp (map (λ e. e.0) es) → es ≡ flat_map (dirty_leaves (get {R = nat_cmp} (from_entries es))) (peaks_of rule n)
 entries_are rule n es leaves h = changed_leaves (get {R = nat_cmp} (from_entries es)) rule n leaves es (keys_rise es h) (λ q. get-from_entries nat_cmp_total es q)
 
 -- ---- taking the entries one by one

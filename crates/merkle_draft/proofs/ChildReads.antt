@@ -8,8 +8,8 @@ use Rattle.merkle_base.specs.Places.{HasInner, AreChildren}
 use Rattle.merkle_base.proofs.Growth.{forest_grown}
 use Rattle.merkle_base.proofs.Nodes.{leaf_here, node_anywhere, size_lt}
 use Rattle.merkle_draft.specs.Drafts.{AreChildrenRead, LacksChild}
-use Rattle.merkle_draft.specs.Gaps.{IsGapAt}
-use Rattle.merkle_draft.specs.declared.gap.Gap.{Gap}
+use Rattle.merkle_draft.specs.NodeErrors.{IsGapAt}
+use Rattle.merkle_draft.specs.declared.node_error.NodeError.{NodeError}
 
 module _ (rule : List ℕ → List ℕ) (max_leaves : ℕ) where
   -- a leaf has no children
@@ -43,11 +43,11 @@ module _ (rule : List ℕ → List ℕ) (max_leaves : ℕ) where
   read_none a s read u k less = absurd (omega (arith, k.6, k.7))
 
   -- one that is not there, of some nodes among more
-  pub lacks_more : {F D : Type 0} (a b c d s : ℕ) (read : ℕ → Option D) (e : Gap F) → a ≤ b → c ≤ d → LacksChild rule max_leaves b c s read e → LacksChild rule max_leaves a d s read e
+  pub lacks_more : {F D : Type 0} (a b c d s : ℕ) (read : ℕ → Option D) (e : NodeError F) → a ≤ b → c ≤ d → LacksChild rule max_leaves b c s read e → LacksChild rule max_leaves a d s read e
   lacks_more a b c d s read e l m k = (k.0, (k.1.0, k.1.1, k.1.2, k.1.3, k.1.4, k.1.5, omega (arith, k.1.6, l), omega (arith, k.1.7, m), k.1.8), k.2, k.3)
 
   -- a child of one node that is not there
-  pub lacks_child : {F D : Type 0} (p height l r q s : ℕ) (read : ℕ → Option D) (e : Gap F) → HasInner rule max_leaves p height → AreChildren rule p l r → (q ≡ l) ⊎ (q ≡ r) → (q < s) × IsGapAt read q e → LacksChild rule max_leaves p (suc p) s read e
+  pub lacks_child : {F D : Type 0} (p height l r q s : ℕ) (read : ℕ → Option D) (e : NodeError F) → HasInner rule max_leaves p height → AreChildren rule p l r → (q ≡ l) ⊎ (q ≡ r) → (q < s) × IsGapAt read q e → LacksChild rule max_leaves p (suc p) s read e
   lacks_child {F} {D} p height l r q s read e inner children which gap = by_tree inner.1 inner.3 inner.4 inner.5
     where
       by_tree : (t : Tree) → slice_get (forest rule inner.0).nodes p ≡ Some t → tree_height t ≡ height → 0 < height → LacksChild rule max_leaves p (suc p) s read e

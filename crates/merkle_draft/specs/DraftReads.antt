@@ -7,43 +7,43 @@ use Rattle.std.specs.Option.{option_or}
 use Rattle.merkle_base.specs.Tree.{Tree, position}
 use Rattle.merkle_base.specs.Places.{peaks_of}
 use Rattle.merkle_batch_theory.specs.Contents.{Contents}
-use Rattle.merkle_draft.specs.Gaps.{IsGapAt}
+use Rattle.merkle_draft.specs.NodeErrors.{IsGapAt}
 use Rattle.merkle_batch_theory.specs.Read.{read_over}
-use Rattle.merkle_batch_theory.specs.Recorded.{Recorded, recorded_code}
-use Rattle.merkle_draft.specs.declared.gap.Gap.{Gap}
+use Rattle.merkle_batch_theory.specs.Records.{RecordModel, record_model_code}
+use Rattle.merkle_draft.specs.declared.node_error.NodeError.{NodeError}
 
 -- a batch in the making
-pub record Drafted (D : Type 0) : Type 0 where
+pub record DraftModel (D : Type 0) : Type 0 where
   -- the number of nodes before
   pub before : ℕ
   -- the records that it keeps, oldest first
-  pub kept : List (Recorded D)
+  pub kept : List (RecordModel D)
   -- the new digests of nodes that were there before, by position
   pub overwritten : FinMap nat_cmp D
   -- the nodes from position `before` on
   pub appended : List D
 
-abbrev pub drafted_code : {D : Type 0} → Coded D → Coded (Drafted D)
+abbrev pub drafted_code : {D : Type 0} → Coded D → Coded (DraftModel D)
 drafted_code d =
-    code_by _ (coded× coded_ℕ (coded× (coded_list (recorded_code d)) (coded× (code coded_ℕ d) (coded_list d))))
+    code_by _ (coded× coded_ℕ (coded× (coded_list (record_model_code d)) (coded× (code coded_ℕ d) (coded_list d))))
     (λ r. (r.before, (r.kept, (r.overwritten, r.appended))))
     (λ p. record { before = p.0; kept = p.1.0; overwritten = p.1.1.0; appended = p.1.1.1 })
     (λ _. refl)
 
 -- below its own nodes: what the newest kept record has, or else the base
-abbrev pub below : {D : Type 0} → Drafted D → Contents D → ℕ → Option D
+abbrev pub below : {D : Type 0} → DraftModel D → Contents D → ℕ → Option D
 below d base p = read_over d.kept base p
 
 -- at a position before those that it appends
-abbrev pub old_node : {D : Type 0} → Drafted D → Contents D → ℕ → Option D
+abbrev pub old_node : {D : Type 0} → DraftModel D → Contents D → ℕ → Option D
 old_node d base p = option_or (get d.overwritten p) (below d base p)
 
 -- new is old with other appended nodes
-abbrev pub OnlyAppends : {D : Type 0} → Drafted D → Drafted D → Type 0
+abbrev pub OnlyAppends : {D : Type 0} → DraftModel D → DraftModel D → Type 0
 OnlyAppends old new = (new.before ≡ old.before) × (new.kept ≡ old.kept) × (new.overwritten ≡ old.overwritten)
 
 -- new is old with other overwritten nodes
-abbrev pub OnlyOverwrites : {D : Type 0} → Drafted D → Drafted D → Type 0
+abbrev pub OnlyOverwrites : {D : Type 0} → DraftModel D → DraftModel D → Type 0
 OnlyOverwrites old new = (new.before ≡ old.before) × (new.kept ≡ old.kept) × (new.appended ≡ old.appended)
 
 -- the peaks of n leaves before position s are read
@@ -51,5 +51,5 @@ abbrev pub ArePeaksRead : {D : Type 0} → (List ℕ → List ℕ) → ℕ → �
 ArePeaksRead rule n s read = (i : ℕ) (t : Tree) → slice_get (peaks_of rule n) i ≡ Some t → position t < s → is_some (read (position t)) ≡ true
 
 -- one of them is not there
-abbrev pub IsPeakGap : {F D : Type 0} → (List ℕ → List ℕ) → ℕ → ℕ → (ℕ → Option D) → Gap F → Type 0
+abbrev pub IsPeakGap : {F D : Type 0} → (List ℕ → List ℕ) → ℕ → ℕ → (ℕ → Option D) → NodeError F → Type 0
 IsPeakGap rule n s read e = (i : ℕ) × (t : Tree) × (slice_get (peaks_of rule n) i ≡ Some t) × (position t < s) × IsGapAt read (position t) e

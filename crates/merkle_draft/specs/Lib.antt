@@ -1,4 +1,4 @@
-pub mod Gaps
-pub mod Refreshed
+pub mod NodeErrors
+pub mod DirtyDigests
 pub mod Drafts
 pub mod DraftReads

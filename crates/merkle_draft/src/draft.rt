@@ -7,12 +7,12 @@ ghost use Rattle.merkle_base.specs.Tree.{Tree, position};
 ghost use Rattle.merkle_batch_theory.specs.Contents.{Contents};
 ghost use Rattle.merkle_draft.specs.Drafts.{AreChildrenRead, LacksChild};
 ghost use Rattle.merkle_draft.specs.DraftReads.{below, old_node, OnlyAppends, IsPeakGap, ArePeaksRead};
-ghost use Rattle.merkle_batch_theory.specs.Pending.{is_changed};
-ghost use Rattle.merkle_batch_theory.specs.Recorded.{after};
-ghost use Rattle.merkle_batch_theory.specs.Truth.{IsTruth, LeavesAre, ReadsTrue, truths};
+ghost use Rattle.merkle_batch_theory.specs.Unmerkleized.{is_changed};
+ghost use Rattle.merkle_batch_theory.specs.Records.{after};
+ghost use Rattle.merkle_batch_theory.specs.Assignment.{IsAssignment, HasLeaves, ReadsAgree, digests_from};
 
 use crate::base::Base;
-use crate::gap::Gap;
+use crate::node_error::NodeError;
 use crate::overwrites::Overwrites;
 use crate::record::{Record, newest_node};
 use merkle_base::family::Family;
@@ -41,9 +41,9 @@ pub struct Draft<F: Family, D: Digest> {
 
 impl<F: Family, D: Digest> Model for Draft<F, D> {
     ghost use Rattle.std.specs.Prelude.{◌+◌, ◌<◌, ◌^◌, length, map};
-    ghost use Rattle.merkle_draft.specs.DraftReads.{Drafted, drafted_code};
+    ghost use Rattle.merkle_draft.specs.DraftReads.{DraftModel, drafted_code};
 
-    ghost Value = { Drafted D };
+    ghost Value = { DraftModel D };
 
     ghost coded = { drafted_code D.code };
 
@@ -99,11 +99,11 @@ impl<F: Family, D: Digest> Draft<F, D> {
         &self,
         base: &B,
         position: Position<F>,
-    ) -> Result<D, Gap<F>>
-        ensures right { IfOk result (λ d. (truth : ℕ → D) → ReadsTrue (old_node self.now (B.contents base.now)) self.now.before truth
-            → self.now.appended ≡ truths truth self.now.before (length self.now.appended) → d ≡ truth position) }
+    ) -> Result<D, NodeError<F>>
+        ensures right { IfOk result (λ d. (truth : ℕ → D) → ReadsAgree (old_node self.now (B.contents base.now)) self.now.before truth
+            → self.now.appended ≡ digests_from truth self.now.before (length self.now.appended) → d ≡ truth position) }
         ensures read { IfOk result (λ _. position < self.now.before → is_some (old_node self.now (B.contents base.now) position) ≡ true) }
-        ensures missing { IfErr result (λ e. (e ≡ Gap.Missing position)
+        ensures missing { IfErr result (λ e. (e ≡ NodeError.Missing position)
             × ((position < self.now.before → old_node self.now (B.contents base.now) position ≡ None)
             × (self.now.before ≤ position → self.now.before + length self.now.appended ≤ position))) }
     {
@@ -117,7 +117,7 @@ impl<F: Family, D: Digest> Draft<F, D> {
                 .get((position - self.size_before).as_u64() as usize)
                 .copied()
         };
-        found.ok_or(Gap::Missing(position))
+        found.ok_or(NodeError::Missing(position))
     }
 
     // The number of nodes with the appended ones.
@@ -143,19 +143,19 @@ impl<F: Family, D: Digest> Draft<F, D> {
         base: &B,
         hasher: &H,
         height: u32,
-    ) -> Result<(), Gap<F>>
+    ) -> Result<(), NodeError<F>>
         requires small { self.old.before + length self.old.appended < 2 ^ 64 }
         requires node { HasInner F.rule F.MAX_LEAVES (self.old.before + length self.old.appended) height }
         ensures only { OnlyAppends self.old self.new }
         ensures longer { OnOk result (length self.new.appended ≡ suc (length self.old.appended)) }
         ensures missing { let end = self.old.before + length self.old.appended in
-            IfErr result (λ e. e ≢ Gap.OutOfMemory → LacksChild F.rule F.MAX_LEAVES end (suc end) self.old.before (old_node self.old (B.contents base.now)) e) }
+            IfErr result (λ e. e ≢ NodeError.OutOfMemory → LacksChild F.rule F.MAX_LEAVES end (suc end) self.old.before (old_node self.old (B.contents base.now)) e) }
         ensures read { let end = self.old.before + length self.old.appended in
             OnOk result (AreChildrenRead F.rule F.MAX_LEAVES end (suc end) self.old.before (old_node self.old (B.contents base.now))) }
-        ensures right { OnOk result ((truth : ℕ → D) → IsTruth (H.hashing hasher.now) F.rule F.MAX_LEAVES truth
-            → ReadsTrue (old_node self.old (B.contents base.now)) self.old.before truth
-            → self.old.appended ≡ truths truth self.old.before (length self.old.appended)
-            → self.new.appended ≡ truths truth self.old.before (length self.new.appended)) }
+        ensures right { OnOk result ((truth : ℕ → D) → IsAssignment (H.hashing hasher.now) F.rule F.MAX_LEAVES truth
+            → ReadsAgree (old_node self.old (B.contents base.now)) self.old.before truth
+            → self.old.appended ≡ digests_from truth self.old.before (length self.old.appended)
+            → self.new.appended ≡ digests_from truth self.old.before (length self.new.appended)) }
     {
         let position = self.size();
         let (left, right) = F::children(position, height);
@@ -172,19 +172,19 @@ impl<F: Family, D: Digest> Draft<F, D> {
         hasher: &H,
         leaf: Location<F>,
         digest: D,
-    ) -> Result<(), Gap<F>>
+    ) -> Result<(), NodeError<F>>
         requires below { leaf < F.MAX_LEAVES }
         requires counted { self.old.before + length self.old.appended ≡ size F.rule leaf }
         ensures only { OnlyAppends self.old self.new }
         ensures counted { OnOk result (self.new.before + length self.new.appended ≡ size F.rule (suc leaf)) }
-        ensures missing { IfErr result (λ e. e ≢ Gap.OutOfMemory
+        ensures missing { IfErr result (λ e. e ≢ NodeError.OutOfMemory
             → LacksChild F.rule F.MAX_LEAVES (size F.rule leaf) (size F.rule (suc leaf)) self.old.before (old_node self.old (B.contents base.now)) e) }
         ensures read { let old = old_node self.old (B.contents base.now) in
             OnOk result (AreChildrenRead F.rule F.MAX_LEAVES (size F.rule leaf) (size F.rule (suc leaf)) self.old.before old) }
-        ensures right { OnOk result ((truth : ℕ → D) → IsTruth (H.hashing hasher.now) F.rule F.MAX_LEAVES truth
-            → ReadsTrue (old_node self.old (B.contents base.now)) self.old.before truth → digest ≡ truth (size F.rule leaf)
-            → self.old.appended ≡ truths truth self.old.before (length self.old.appended)
-            → self.new.appended ≡ truths truth self.old.before (length self.new.appended)) }
+        ensures right { OnOk result ((truth : ℕ → D) → IsAssignment (H.hashing hasher.now) F.rule F.MAX_LEAVES truth
+            → ReadsAgree (old_node self.old (B.contents base.now)) self.old.before truth → digest ≡ truth (size F.rule leaf)
+            → self.old.appended ≡ digests_from truth self.old.before (length self.old.appended)
+            → self.new.appended ≡ digests_from truth self.old.before (length self.new.appended)) }
     {
         self.push(digest)?;
         for height in F::parent_heights(leaf) {
@@ -200,20 +200,20 @@ impl<F: Family, D: Digest> Draft<F, D> {
         hasher: &H,
         leaves_before: Location<F>,
         added: &[D],
-    ) -> Result<(), Gap<F>>
+    ) -> Result<(), NodeError<F>>
         requires within { leaves_before + length added.now ≤ F.MAX_LEAVES }
         requires sized { size F.rule leaves_before ≡ self.old.before }
         requires nothing { self.old.appended ≡ [] }
         ensures only { OnlyAppends self.old self.new }
         ensures counted { OnOk result (self.new.before + length self.new.appended ≡ size F.rule (leaves_before + length added.now)) }
-        ensures missing { IfErr result (λ e. e ≢ Gap.OutOfMemory
+        ensures missing { IfErr result (λ e. e ≢ NodeError.OutOfMemory
             → let end = size F.rule (leaves_before + length added.now) in
             LacksChild F.rule F.MAX_LEAVES self.old.before end self.old.before (old_node self.old (B.contents base.now)) e) }
         ensures read { let end = size F.rule (leaves_before + length added.now) in
             OnOk result (AreChildrenRead F.rule F.MAX_LEAVES self.old.before end self.old.before (old_node self.old (B.contents base.now))) }
-        ensures right { OnOk result ((truth : ℕ → D) → IsTruth (H.hashing hasher.now) F.rule F.MAX_LEAVES truth
-            → ReadsTrue (old_node self.old (B.contents base.now)) self.old.before truth → LeavesAre truth F.rule leaves_before added.now
-            → self.new.appended ≡ truths truth self.old.before (length self.new.appended)) }
+        ensures right { OnOk result ((truth : ℕ → D) → IsAssignment (H.hashing hasher.now) F.rule F.MAX_LEAVES truth
+            → ReadsAgree (old_node self.old (B.contents base.now)) self.old.before truth → HasLeaves truth F.rule leaves_before added.now
+            → self.new.appended ≡ digests_from truth self.old.before (length self.new.appended)) }
     {
         let mut leaf = leaves_before;
         for digest in added {
@@ -228,13 +228,13 @@ impl<F: Family, D: Digest> Draft<F, D> {
         &self,
         base: &B,
         leaves: Location<F>,
-    ) -> Result<Vec<D>, Gap<F>>
+    ) -> Result<Vec<D>, NodeError<F>>
         requires within { leaves ≤ F.MAX_LEAVES }
         requires sized { self.now.before + length self.now.appended ≡ size F.rule leaves }
-        ensures missing { IfErr result (λ e. e ≢ Gap.OutOfMemory → IsPeakGap F.rule leaves self.now.before (old_node self.now (B.contents base.now)) e) }
+        ensures missing { IfErr result (λ e. e ≢ NodeError.OutOfMemory → IsPeakGap F.rule leaves self.now.before (old_node self.now (B.contents base.now)) e) }
         ensures read { IfOk result (λ _. ArePeaksRead F.rule leaves self.now.before (old_node self.now (B.contents base.now))) }
-        ensures right { IfOk result (λ v. (truth : ℕ → D) → ReadsTrue (old_node self.now (B.contents base.now)) self.now.before truth
-            → self.now.appended ≡ truths truth self.now.before (length self.now.appended) → v.items ≡ map truth (peak_positions F.rule leaves)) }
+        ensures right { IfOk result (λ v. (truth : ℕ → D) → ReadsAgree (old_node self.now (B.contents base.now)) self.now.before truth
+            → self.now.appended ≡ digests_from truth self.now.before (length self.now.appended) → v.items ≡ map truth (peak_positions F.rule leaves)) }
     {
         let mut digests = Vec::with_capacity(*self.appended.allocator(), PEAKS_ROOM)?;
         for (position, _) in F::peaks(F::location_to_position(leaves)) {

@@ -5,7 +5,7 @@
 
 pub mod base;
 pub mod draft;
-pub mod gap;
+pub mod node_error;
 pub mod overwrites;
 pub mod record;
 mod refresh;

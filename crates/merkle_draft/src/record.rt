@@ -1,8 +1,8 @@
 //! Records of batches: what each changed, and the states before and after it.
 ghost use Rattle.std.specs.Prelude.{◌≡◌, ℕ, List, Option, map, not};
-ghost use Rattle.merkle_batch_theory.specs.Pending.{is_changed};
+ghost use Rattle.merkle_batch_theory.specs.Unmerkleized.{is_changed};
 ghost use Rattle.merkle_batch_theory.specs.Read.{newest, written};
-ghost use Rattle.merkle_batch_theory.specs.Recorded.{after};
+ghost use Rattle.merkle_batch_theory.specs.Records.{after};
 
 use crate::overwrites::Overwrites;
 use merkle_base::family::Family;
@@ -25,11 +25,11 @@ pub struct Record<F: Family, D: Digest> {
 impl<F: Family, D: Digest> Model for Record<F, D> {
     ghost use Rattle.std.specs.Prelude.{◌+◌, ◌<◌, ◌^◌, length};
     ghost use Rattle.std.specs.Rc.{rc_slice_items};
-    ghost use Rattle.merkle_batch_theory.specs.Recorded.{Recorded, recorded_code};
+    ghost use Rattle.merkle_batch_theory.specs.Records.{RecordModel, record_model_code};
 
-    ghost Value = { Recorded D };
+    ghost Value = { RecordModel D };
 
-    ghost coded = { recorded_code D.code };
+    ghost coded = { record_model_code D.code };
 
     ghost view = { λ r. record { before = r.size_before; peaks_before = rc_slice_items r.peaks_before; appended = r.appended.items; overwritten = r.overwrites; peaks_after = rc_slice_items r.peaks_after } };
 

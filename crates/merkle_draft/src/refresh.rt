@@ -9,12 +9,12 @@ ghost use Rattle.merkle_base.specs.Places.{peaks_of};
 ghost use Rattle.merkle_base.specs.Tree.{Tree};
 ghost use Rattle.merkle_draft.specs.DraftReads.{below, OnlyOverwrites};
 ghost use Rattle.merkle_draft.specs.Drafts.{LacksFor};
-ghost use Rattle.merkle_draft.specs.Refreshed.{all_computed_at, are_before, AreRefreshed, computed_at, HasLeavesOf, LacksForOne, refreshed, touched_leaves};
-ghost use Rattle.merkle_hasher.specs.Subtrees.{Means};
+ghost use Rattle.merkle_draft.specs.DirtyDigests.{all_computed_at, are_before, HaveDirtyDigests, computed_at, HasLeavesOf, LacksForOne, dirty_digest, dirty_leaves};
+ghost use Rattle.merkle_hasher.specs.Subtrees.{Denotes};
 
 use crate::base::Base;
 use crate::draft::Draft;
-use crate::gap::Gap;
+use crate::node_error::NodeError;
 use merkle_base::family::Family;
 use merkle_base::location::Location;
 use merkle_base::position::Position;
@@ -45,21 +45,21 @@ impl<F: Family, D: Digest> Draft<F, D> {
         hasher: &H,
         subtree: &Subtree<F>,
         updates: &[(Position<F>, D)],
-    ) -> Result<D, Gap<F>>
-        requires node { (t : Tree) × Means F.rule F.MAX_LEAVES subtree.now t }
+    ) -> Result<D, NodeError<F>>
+        requires node { (t : Tree) × Denotes F.rule F.MAX_LEAVES subtree.now t }
         ensures only { OnlyOverwrites self.old self.new }
-        ensures digest { IfOk result (λ d. (t : Tree) → (m : ℕ → Option D) → Means F.rule F.MAX_LEAVES subtree.now t → updates.now ≡ touched_leaves m t
-            → refreshed (H.hashing hasher.now) m (below self.old (B.contents base.now)) t ≡ Some d) }
+        ensures digest { IfOk result (λ d. (t : Tree) → (m : ℕ → Option D) → Denotes F.rule F.MAX_LEAVES subtree.now t → updates.now ≡ dirty_leaves m t
+            → dirty_digest (H.hashing hasher.now) m (below self.old (B.contents base.now)) t ≡ Some d) }
         ensures computed { let under = below self.old (B.contents base.now) in
-            OnOk result ((t : Tree) → (m : ℕ → Option D) → Means F.rule F.MAX_LEAVES subtree.now t → updates.now ≡ touched_leaves m t → (p : ℕ)
+            OnOk result ((t : Tree) → (m : ℕ → Option D) → Denotes F.rule F.MAX_LEAVES subtree.now t → updates.now ≡ dirty_leaves m t → (p : ℕ)
             → get self.new.overwritten p ≡ option_or (computed_at (H.hashing hasher.now) m under t p) (get self.old.overwritten p)) }
-        ensures missing { IfErr result (λ e. e ≢ Gap.OutOfMemory → (t : Tree) → (m : ℕ → Option D) → Means F.rule F.MAX_LEAVES subtree.now t
-            → updates.now ≡ touched_leaves m t → LacksFor m (below self.old (B.contents base.now)) t e) }
+        ensures missing { IfErr result (λ e. e ≢ NodeError.OutOfMemory → (t : Tree) → (m : ℕ → Option D) → Denotes F.rule F.MAX_LEAVES subtree.now t
+            → updates.now ≡ dirty_leaves m t → LacksFor m (below self.old (B.contents base.now)) t e) }
     {
         let Some((_, digest)) = updates.last() else {
             return self
                 .read_below(base, subtree.position)
-                .ok_or(Gap::Missing(subtree.position));
+                .ok_or(NodeError::Missing(subtree.position));
         };
         if subtree.height == 0 {
             return Ok(*digest);
@@ -83,15 +83,15 @@ impl<F: Family, D: Digest> Draft<F, D> {
         hasher: &H,
         leaves: Location<F>,
         updates: &[(Position<F>, D)],
-    ) -> Result<(), Gap<F>>
+    ) -> Result<(), NodeError<F>>
         requires { leaves ≤ F.MAX_LEAVES }
         ensures only { OnlyOverwrites self.old self.new }
         ensures computed { let under = below self.old (B.contents base.now) in let peaks = peaks_of F.rule leaves in
-            OnOk result ((m : ℕ → Option D) → updates.now ≡ flat_map (touched_leaves m) peaks → (p : ℕ)
+            OnOk result ((m : ℕ → Option D) → updates.now ≡ flat_map (dirty_leaves m) peaks → (p : ℕ)
             → get self.new.overwritten p ≡ option_or (all_computed_at (H.hashing hasher.now) m under peaks p) (get self.old.overwritten p)) }
-        ensures refreshed { OnOk result ((m : ℕ → Option D) → updates.now ≡ flat_map (touched_leaves m) (peaks_of F.rule leaves)
-            → AreRefreshed (H.hashing hasher.now) m (below self.old (B.contents base.now)) (peaks_of F.rule leaves)) }
-        ensures missing { IfErr result (λ e. e ≢ Gap.OutOfMemory → (m : ℕ → Option D) → updates.now ≡ flat_map (touched_leaves m) (peaks_of F.rule leaves)
+        ensures dirty_digest { OnOk result ((m : ℕ → Option D) → updates.now ≡ flat_map (dirty_leaves m) (peaks_of F.rule leaves)
+            → HaveDirtyDigests (H.hashing hasher.now) m (below self.old (B.contents base.now)) (peaks_of F.rule leaves)) }
+        ensures missing { IfErr result (λ e. e ≢ NodeError.OutOfMemory → (m : ℕ → Option D) → updates.now ≡ flat_map (dirty_leaves m) (peaks_of F.rule leaves)
             → LacksForOne m (below self.old (B.contents base.now)) (peaks_of F.rule leaves) e) }
     {
         let mut rest = updates;
@@ -121,7 +121,7 @@ impl<F: Family, D: Digest> Draft<F, D> {
         hasher: &H,
         leaves: Location<F>,
         updates: &BTreeMap<Position<F>, D>,
-    ) -> Result<(), Gap<F>>
+    ) -> Result<(), NodeError<F>>
         requires within { leaves ≤ F.MAX_LEAVES }
         requires of { HasLeavesOf F.rule leaves (get {R = nat_cmp} (from_entries updates.now.entries)) }
         requires nothing { self.old.overwritten ≡ empty }
@@ -129,9 +129,9 @@ impl<F: Family, D: Digest> Draft<F, D> {
         ensures computed { let under = below self.old (B.contents base.now) in
             OnOk result (let m = get {R = nat_cmp} (from_entries updates.now.entries) in (p : ℕ)
             → get self.new.overwritten p ≡ option_or (all_computed_at (H.hashing hasher.now) m under (peaks_of F.rule leaves) p) (m p)) }
-        ensures refreshed { let m = get {R = nat_cmp} (from_entries updates.now.entries) in
-            OnOk result (AreRefreshed (H.hashing hasher.now) m (below self.old (B.contents base.now)) (peaks_of F.rule leaves)) }
-        ensures missing { IfErr result (λ e. e ≢ Gap.OutOfMemory
+        ensures dirty_digest { let m = get {R = nat_cmp} (from_entries updates.now.entries) in
+            OnOk result (HaveDirtyDigests (H.hashing hasher.now) m (below self.old (B.contents base.now)) (peaks_of F.rule leaves)) }
+        ensures missing { IfErr result (λ e. e ≢ NodeError.OutOfMemory
             → LacksForOne (get {R = nat_cmp} (from_entries updates.now.entries)) (below self.old (B.contents base.now)) (peaks_of F.rule leaves) e) }
     {
         let mut list = Vec::new(*self.appended.allocator());

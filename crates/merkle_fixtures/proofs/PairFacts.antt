@@ -2,7 +2,7 @@
 use Rattle.std.proofs.Common.{◌≡◌, ◌≢◌, ℕ, eqb, cond, ◌/◌, ◌%◌, zero, suc, ◌+◌, ◌-◌, ◌*◌, ◌<◌, ◌≤◌, ◌⊎◌, List, [], ◌∷◌, ◌++◌, map, reverse, length, append_assoc, append-nil, length-append, Some, slice_get, arith, refl, sym, ap, inl, inr, ◌∙◌}
 use Rattle.std.proofs.lemmas.List.{map-append, reverse-append}
 use Rattle.merkle_base.specs.Tree.{Tree, leaf, join, height, position}
-use Rattle.merkle_base.specs.Forest.{Forest, forest, size, grown}
+use Rattle.merkle_base.specs.Forest.{Forest, forest, size, append_and_merge}
 use Rattle.merkle_base.specs.Heights.{born_heights, parent_heights}
 use Rattle.merkle_base.specs.Places.{placed, peaks_of}
 use Rattle.merkle_base.proofs.Births.{get_append_cases}
@@ -32,12 +32,12 @@ length-paired (suc k) =
     omega (arith, length-paired k, length-append (paired_nodes k) (leaf (3 * k) (2 * k) ∷ leaf (3 * k + 1) (2 * k + 1) ∷ pair k ∷ []))
 
 -- a leaf after pairs stays single
-single : (k : ℕ) → grown pairing (2 * k) (paired k) ≡ record { nodes = paired_nodes k ++ leaf (3 * k) (2 * k) ∷ []; peaks = leaf (3 * k) (2 * k) ∷ paired_peaks k }
+single : (k : ℕ) → append_and_merge pairing (2 * k) (paired k) ≡ record { nodes = paired_nodes k ++ leaf (3 * k) (2 * k) ∷ []; peaks = leaf (3 * k) (2 * k) ∷ paired_peaks k }
 single zero = refl
 single (suc k) = rw (length-paired (suc k)) refl
 
 -- and is merged with the next
-merge : (k : ℕ) → grown pairing (2 * k + 1) (record { nodes = paired_nodes k ++ leaf (3 * k) (2 * k) ∷ []; peaks = leaf (3 * k) (2 * k) ∷ paired_peaks k }) ≡ paired (suc k)
+merge : (k : ℕ) → append_and_merge pairing (2 * k + 1) (record { nodes = paired_nodes k ++ leaf (3 * k) (2 * k) ∷ []; peaks = leaf (3 * k) (2 * k) ∷ paired_peaks k }) ≡ paired (suc k)
 merge k =
     let ns : List Tree = paired_nodes k in
     let a : Tree = leaf (3 * k) (2 * k) in

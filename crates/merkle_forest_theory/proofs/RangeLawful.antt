@@ -6,11 +6,11 @@ use Rattle.std.proofs.lemmas.Bool.Decides.{eqb_tells}
 use Rattle.merkle_base.specs.Forest.{size}
 use Rattle.merkle_base.specs.Heights.{EqualAt, raised, all_raised, AreEqualMerges, peak_heights, IsLawful, weight}
 use Rattle.merkle_base.proofs.Births.{size_peaks}
-use Rattle.merkle_forest_theory.specs.Mmr.{carries, carries_from, AscendsFrom}
+use Rattle.merkle_forest_theory.specs.Mmr.{mmr_merges, mmr_merges_from, AscendsFrom}
 
 -- ---- the merges of the rule
 -- each merge is of two equal peaks
-pub carries_equal : (h : ℕ) (hs : List ℕ) → AreEqualMerges (carries_from h hs) (h ∷ hs)
+pub carries_equal : (h : ℕ) (hs : List ℕ) → AreEqualMerges (mmr_merges_from h hs) (h ∷ hs)
 carries_equal h [] = tt
 carries_equal h (a ∷ hs) = elim (eqb_tells a h) [
   | inl e ↦ rw (e.0, e.1) (refl, carries_equal (suc h) hs)
@@ -18,17 +18,17 @@ carries_equal h (a ∷ hs) = elim (eqb_tells a h) [
 ]
 
 -- the peaks' heights strictly increase from the newest on
-pub carry_ascends : (k h : ℕ) (hs : List ℕ) → k ≤ h → AscendsFrom h hs → AscendsFrom k (all_raised (carries_from h hs) (h ∷ hs))
+pub carry_ascends : (k h : ℕ) (hs : List ℕ) → k ≤ h → AscendsFrom h hs → AscendsFrom k (all_raised (mmr_merges_from h hs) (h ∷ hs))
 carry_ascends k h [] l a = (l, tt)
 carry_ascends k h (b ∷ hs) l a = elim (eqb_tells b h) [
   | inl e ↦ rw (e.0, e.1) (carry_ascends k (suc h) hs (omega arith) (rw e.1 at a.1))
   | inr e ↦ rw e.0 (l, (omega (arith, a.0, e.1), a.1))
 ]
 
-pub mmr_ascends : (n : ℕ) → AscendsFrom 0 (peak_heights carries n)
+pub mmr_ascends : (n : ℕ) → AscendsFrom 0 (peak_heights mmr_merges n)
 unfolding peak_heights
 mmr_ascends zero = tt
-mmr_ascends (suc n) = carry_ascends 0 0 (peak_heights carries n) (omega arith) (mmr_ascends n)
+mmr_ascends (suc n) = carry_ascends 0 0 (peak_heights mmr_merges n) (omega arith) (mmr_ascends n)
 
 -- a merge of two equal peaks keeps the number of leaves
 pub raised_weight : (i : ℕ) (hs : List ℕ) → EqualAt i hs → weight (raised i hs) ≡ weight hs
@@ -41,12 +41,12 @@ pub all_raised_weight : (is hs : List ℕ) → AreEqualMerges is hs → weight (
 all_raised_weight [] hs e = refl
 all_raised_weight (i ∷ is) hs e = all_raised_weight is (raised i hs) e.1 ∙ raised_weight i hs e.0
 
-pub mmr_weight : (n : ℕ) → weight (peak_heights carries n) ≡ n
+pub mmr_weight : (n : ℕ) → weight (peak_heights mmr_merges n) ≡ n
 unfolding peak_heights
 mmr_weight zero = refl
 mmr_weight (suc n) =
-    let hs : List ℕ = peak_heights carries n in
-    omega (arith, all_raised_weight (carries_from 0 hs) (0 ∷ hs) (carries_equal 0 hs), mmr_weight n)
+    let hs : List ℕ = peak_heights mmr_merges n in
+    omega (arith, all_raised_weight (mmr_merges_from 0 hs) (0 ∷ hs) (carries_equal 0 hs), mmr_weight n)
 
 -- ---- the number of peaks
 pub pow_split : (k h : ℕ) → k ≤ h → 2 ^ h ≡ 2 ^ (h - k) * 2 ^ k
@@ -86,17 +86,17 @@ ascends_ones k (h ∷ hs) a =
     let below : 2 ^ h < 2 ^ suc h = omega (arith, pow-suc 2 h, pow_pos h) in
     ap count_ones e ∙ omega (arith, ones_cat (suc h) m.0 (2 ^ h) below, ones_pow h, ones_shift (suc h) m.0, ap count_ones m.1, ascends_ones (suc h) hs a.1)
 
-pub mmr_peak_count : (n : ℕ) → length (peak_heights carries n) ≡ count_ones n
-mmr_peak_count n = sym (ascends_ones 0 (peak_heights carries n) (mmr_ascends n)) ∙ ap count_ones (mmr_weight n)
+pub mmr_peak_count : (n : ℕ) → length (peak_heights mmr_merges n) ≡ count_ones n
+mmr_peak_count n = sym (ascends_ones 0 (peak_heights mmr_merges n) (mmr_ascends n)) ∙ ap count_ones (mmr_weight n)
 
 -- ---- sizes
-pub mmr_size : (n : ℕ) → size carries n ≡ 2 * n - count_ones n
-mmr_size n = omega (arith, size_peaks carries n, mmr_peak_count n)
+pub mmr_size : (n : ℕ) → size mmr_merges n ≡ 2 * n - count_ones n
+mmr_size n = omega (arith, size_peaks mmr_merges n, mmr_peak_count n)
 
 -- ---- lawful
-pub mmr_lawful : IsLawful carries (2 ^ 62) (2 ^ 63 - 1)
+pub mmr_lawful : IsLawful mmr_merges (2 ^ 62) (2 ^ 63 - 1)
 mmr_lawful = record {
-  equal = λ n h. carries_equal 0 (peak_heights carries n);
+  equal = λ n h. carries_equal 0 (peak_heights mmr_merges n);
   few = λ n h. omega (arith, mmr_peak_count n, ones-le 63 n (omega arith));
   full = omega (arith, mmr_size (2 ^ 62), ones_pow 62);
   small = omega arith;

@@ -4,14 +4,14 @@ use Rattle.merkle_base.specs.Forest.{forest, size}
 use Rattle.merkle_base.specs.Places.{placed}
 
 -- the index of the newest adjacent pair of equal height, if there is one, where the newest peak has height h and hs are the heights of the older ones
-abbrev pub pair_from : ℕ → List ℕ → List ℕ
-pair_from h [] = []
-pair_from h (a ∷ hs) = cond (eqb a h) (0 ∷ []) (map suc (pair_from a hs))
+abbrev pub mmb_merges_from : ℕ → List ℕ → List ℕ
+mmb_merges_from h [] = []
+mmb_merges_from h (a ∷ hs) = cond (eqb a h) (0 ∷ []) (map suc (mmb_merges_from a hs))
 
 -- The rule: at most one merge, of the newest adjacent pair of equal height.
-abbrev pub newest_pair : List ℕ → List ℕ
-newest_pair [] = []
-newest_pair (h ∷ hs) = pair_from h hs
+abbrev pub mmb_merges : List ℕ → List ℕ
+mmb_merges [] = []
+mmb_merges (h ∷ hs) = mmb_merges_from h hs
 
 -- the leaf with which the node of height h over the leaves from s on comes
 abbrev pub birth_leaf : (s h : ℕ) → ℕ
@@ -19,14 +19,14 @@ birth_leaf s zero = s
 birth_leaf s (suc h) = s + 3 * 2 ^ h - 2
 
 -- its position: that of the leaf, or the next one
-abbrev pub root_position : (s h : ℕ) → ℕ
-root_position s zero = size newest_pair s
-root_position s (suc h) = size newest_pair (s + 3 * 2 ^ h - 2) + 1
+abbrev pub mmb_position : (s h : ℕ) → ℕ
+mmb_position s zero = size mmb_merges s
+mmb_position s (suc h) = size mmb_merges (s + 3 * 2 ^ h - 2) + 1
 
 -- the least leaf count that has it
-abbrev pub belt_birth : (s h : ℕ) → ℕ
-belt_birth s h = birth_leaf s h + 1
+abbrev pub mmb_birth_leaf_count : (s h : ℕ) → ℕ
+mmb_birth_leaf_count s h = birth_leaf s h + 1
 
 -- the newest so many peaks of n leaves with their heights, oldest first
 abbrev pub newest_peaks : (count n : ℕ) → List (ℕ × ℕ)
-newest_peaks count n = map placed (reverse (take count (forest newest_pair n).peaks))
+newest_peaks count n = map placed (reverse (take count (forest mmb_merges n).peaks))

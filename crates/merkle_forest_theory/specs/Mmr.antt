@@ -4,14 +4,14 @@ use Rattle.merkle_base.specs.Forest.{size}
 use Rattle.merkle_base.specs.Tree.{Tree, leaf, join, position, height, first_leaf, width}
 
 -- the merges where the newest peak has height h and hs are the heights of the older ones
-abbrev pub carries_from : ℕ → List ℕ → List ℕ
-carries_from h [] = []
-carries_from h (a ∷ hs) = cond (eqb a h) (0 ∷ carries_from (suc h) hs) []
+abbrev pub mmr_merges_from : ℕ → List ℕ → List ℕ
+mmr_merges_from h [] = []
+mmr_merges_from h (a ∷ hs) = cond (eqb a h) (0 ∷ mmr_merges_from (suc h) hs) []
 
 -- The rule: the two newest peaks are merged while they have equal height.
-abbrev pub carries : List ℕ → List ℕ
-carries [] = []
-carries (h ∷ hs) = carries_from h hs
+abbrev pub mmr_merges : List ℕ → List ℕ
+mmr_merges [] = []
+mmr_merges (h ∷ hs) = mmr_merges_from h hs
 
 -- strictly increasing, and none below k
 abbrev pub AscendsFrom : ℕ → List ℕ → Type 0
@@ -33,9 +33,9 @@ abbrev pub IsBornAt : ℕ → Tree → Type 0
 IsBornAt n t = (first_leaf t + width t ≡ n) × ((a : ℕ) × (first_leaf t ≡ a * 2 ^ height t))
 
 -- the position of the node of height h over the leaves from s on
-abbrev pub range_root : (s h : ℕ) → ℕ
-range_root s h = size carries s + 2 ^ (h + 1) - 2
+abbrev pub mmr_position : (s h : ℕ) → ℕ
+mmr_position s h = size mmr_merges s + 2 ^ (h + 1) - 2
 
 -- the least leaf count that has it
-abbrev pub range_birth : (s h : ℕ) → ℕ
-range_birth s h = s + 2 ^ h
+abbrev pub mmr_birth_leaf_count : (s h : ℕ) → ℕ
+mmr_birth_leaf_count s h = s + 2 ^ h

@@ -4,7 +4,7 @@ use Rattle.std.specs.Cmp.Lexicographic.{pointwise}
 use Rattle.merkle_base.specs.declared.family.Bagging.{Bagging}
 use Rattle.merkle_base.specs.Hashing.{Hashing}
 use Rattle.merkle_base.specs.Scheme.{Scheme, scheme_of}
-use Rattle.merkle_forest_theory.specs.Mmr.{carries}
+use Rattle.merkle_forest_theory.specs.Mmr.{mmr_merges}
 
 -- a digest is the list of what it was made of: a node its position and its two children, a fold 99 and its two parts
 abbrev pub unhashed : Hashing (List ℕ)
@@ -20,7 +20,7 @@ unhashed = record {
 
 -- a Mountain Range over it, with 8 for the family's byte
 abbrev pub unhashed_scheme : Bagging → Scheme (List ℕ)
-unhashed_scheme bagging = scheme_of unhashed bagging carries (2 ^ 62) 8
+unhashed_scheme bagging = scheme_of unhashed bagging mmr_merges (2 ^ 62) 8
 
 -- the rule that merges none
 abbrev pub unmerged : List ℕ → List ℕ

@@ -13,113 +13,113 @@ ghost use Rattle.merkle_base.specs.Grafting.{AreCoordinates, nodes_inside};
 ghost use Rattle.merkle_base.specs.Digests.{node_digests, peak_digests};
 ghost use Rattle.merkle_base.specs.Root.{folded, list_root};
 ghost use Rattle.merkle_base.specs.declared.family.Bagging.TheVariants.{ForwardFold, BackwardFold};
-ghost use Rattle.merkle_forest_theory.specs.Mmr.{carries, AscendsFrom, IsPostorder, range_root, range_birth};
-ghost use Rattle.merkle_forest_theory.specs.Mmb.{newest_pair, birth_leaf, root_position, belt_birth};
+ghost use Rattle.merkle_forest_theory.specs.Mmr.{mmr_merges, AscendsFrom, IsPostorder, mmr_position, mmr_birth_leaf_count};
+ghost use Rattle.merkle_forest_theory.specs.Mmb.{mmb_merges, birth_leaf, mmb_position, mmb_birth_leaf_count};
 ghost use Rattle.merkle_forest_theory.specs.FewPeaks.{FewPeaks};
 ghost use Rattle.merkle_forest_theory.specs.Rows.{unhashed, unhashed_scheme, unmerged, three_digests, four_peaks};
 
 /// The Mountain Range: its merges are lawful, and its counts and places have formulas.
 pub fn mountain_range()
-    ensures lawful { IsLawful carries (2 ^ 62) (2 ^ 63 - 1) }
-    ensures size { (n : ℕ) → size carries n ≡ 2 * n - count_ones n }
+    ensures lawful { IsLawful mmr_merges (2 ^ 62) (2 ^ 63 - 1) }
+    ensures size { (n : ℕ) → size mmr_merges n ≡ 2 * n - count_ones n }
 
     // The parents that come with leaf n have heights 1, 2, .. up to the number of n's lowest ones.
-    ensures parents { (n : ℕ) → n + 1 < 2 ^ 64 → parent_heights carries n ≡ range_with_len 1 (trailing_ones w64 n) }
+    ensures parents { (n : ℕ) → n + 1 < 2 ^ 64 → parent_heights mmr_merges n ≡ range_with_len 1 (trailing_ones w64 n) }
 
     // There is a peak for each binary one of n, and an older peak is higher.
-    ensures peaks { (n : ℕ) → (length (peak_heights carries n) ≡ count_ones n) × AscendsFrom 0 (peak_heights carries n) }
-    ensures children { (n p : ℕ) → (t : Tree) → slice_get (forest carries n).nodes p ≡ Some t → IsPostorder t }
-    ensures place { (n p : ℕ) → (t : Tree) → slice_get (forest carries n).nodes p ≡ Some t → p ≡ size carries (first_leaf t) + 2 ^ (height t + 1) - 2 }
+    ensures peaks { (n : ℕ) → (length (peak_heights mmr_merges n) ≡ count_ones n) × AscendsFrom 0 (peak_heights mmr_merges n) }
+    ensures children { (n p : ℕ) → (t : Tree) → slice_get (forest mmr_merges n).nodes p ≡ Some t → IsPostorder t }
+    ensures place { (n p : ℕ) → (t : Tree) → slice_get (forest mmr_merges n).nodes p ≡ Some t → p ≡ size mmr_merges (first_leaf t) + 2 ^ (height t + 1) - 2 }
 
     // A node comes with the last leaf of its span.
-    ensures birth { (n p : ℕ) → (t : Tree) → slice_get (forest carries n).nodes p ≡ Some t
-        → (slice_get (forest carries (first_leaf t + 2 ^ height t)).nodes p ≡ Some t) × ((m : ℕ) → m < first_leaf t + 2 ^ height t → size carries m ≤ p) }
-    ensures aligned { (n p : ℕ) → (t : Tree) → slice_get (forest carries n).nodes p ≡ Some t → (a : ℕ) × (first_leaf t ≡ a * 2 ^ height t) }
+    ensures birth { (n p : ℕ) → (t : Tree) → slice_get (forest mmr_merges n).nodes p ≡ Some t
+        → (slice_get (forest mmr_merges (first_leaf t + 2 ^ height t)).nodes p ≡ Some t) × ((m : ℕ) → m < first_leaf t + 2 ^ height t → size mmr_merges m ≤ p) }
+    ensures aligned { (n p : ℕ) → (t : Tree) → slice_get (forest mmr_merges n).nodes p ≡ Some t → (a : ℕ) × (first_leaf t ≡ a * 2 ^ height t) }
 
     // Over each stretch of 2 ^ h leaves from a multiple of 2 ^ h on stands a node.
-    ensures range_has { (n s a h : ℕ) → s ≡ a * 2 ^ h → s + 2 ^ h ≤ n → (p : ℕ) × (t : Tree) × (slice_get (forest carries n).nodes p ≡ Some t)
+    ensures range_has { (n s a h : ℕ) → s ≡ a * 2 ^ h → s + 2 ^ h ≤ n → (p : ℕ) × (t : Tree) × (slice_get (forest mmr_merges n).nodes p ≡ Some t)
         × (first_leaf t ≡ s) × (height t ≡ h) }
-    ensures coordinates { AreCoordinates carries (2 ^ 62) range_root range_birth }
+    ensures coordinates { AreCoordinates mmr_merges (2 ^ 62) mmr_position mmr_birth_leaf_count }
 
     // A peak's height and the number of peaks are at most 123 together.
-    ensures few { FewPeaks carries (2 ^ 62) }
+    ensures few { FewPeaks mmr_merges (2 ^ 62) }
 {}
 
 /// The Mountain Belt: its merge is lawful, and its counts and places have formulas.
 pub fn mountain_belt()
-    ensures lawful { IsLawful newest_pair (2 ^ 62 + 30) (2 ^ 63 - 2) }
+    ensures lawful { IsLawful mmb_merges (2 ^ 62 + 30) (2 ^ 63 - 2) }
 
     // Here k is the binary logarithm of n + 1.
-    ensures size { (n k : ℕ) → 2 ^ k ≤ n + 1 → n + 1 < 2 ^ (k + 1) → size newest_pair n ≡ 2 * n - k }
+    ensures size { (n k : ℕ) → 2 ^ k ≤ n + 1 → n + 1 < 2 ^ (k + 1) → size mmb_merges n ≡ 2 * n - k }
 
     // No parent comes with leaf n where n + 2 is a power of two, and else one.
     ensures parents { (n : ℕ) → n + 2 < 2 ^ 64 →
-        ((parent_heights newest_pair n ≡ []) × ((k : ℕ) × (n + 2 ≡ 2 ^ k)))
-        ⊎ ((parent_heights newest_pair n ≡ (trailing_ones w64 (n + 1) + 1) ∷ []) × ((k : ℕ) → n + 2 ≢ 2 ^ k)) }
+        ((parent_heights mmb_merges n ≡ []) × ((k : ℕ) × (n + 2 ≡ 2 ^ k)))
+        ⊎ ((parent_heights mmb_merges n ≡ (trailing_ones w64 (n + 1) + 1) ∷ []) × ((k : ℕ) → n + 2 ≢ 2 ^ k)) }
 
     // There are as many peaks as the binary logarithm of n + 1.
-    ensures peaks { (n : ℕ) → (2 ^ length (peak_heights newest_pair n) ≤ n + 1) × (n + 1 < 2 ^ (length (peak_heights newest_pair n) + 1)) }
+    ensures peaks { (n : ℕ) → (2 ^ length (peak_heights mmb_merges n) ≤ n + 1) × (n + 1 < 2 ^ (length (peak_heights mmb_merges n) + 1)) }
 
     // Peak i, counted from the newest, has height i, and one more where bit i of n + 1 is set; so an older peak is no lower.
-    ensures heights { (n i : ℕ) → i < length (peak_heights newest_pair n) → slice_index (peak_heights newest_pair n) i ≡ i + bit_at (n + 1) i }
-    ensures older { (n i : ℕ) → i + 1 < length (peak_heights newest_pair n)
-        → slice_index (peak_heights newest_pair n) i ≤ slice_index (peak_heights newest_pair n) (i + 1) }
-    ensures children { (n p : ℕ) → (a b : Tree) → slice_get (forest newest_pair n).nodes p ≡ Some (join p a b)
-        → (position a ≡ root_position (first_leaf a) (height a)) × (position b ≡ root_position (first_leaf a + 2 ^ height a) (height a)) }
-    ensures place { (n p : ℕ) → (t : Tree) → slice_get (forest newest_pair n).nodes p ≡ Some t → p ≡ root_position (first_leaf t) (height t) }
+    ensures heights { (n i : ℕ) → i < length (peak_heights mmb_merges n) → slice_index (peak_heights mmb_merges n) i ≡ i + bit_at (n + 1) i }
+    ensures older { (n i : ℕ) → i + 1 < length (peak_heights mmb_merges n)
+        → slice_index (peak_heights mmb_merges n) i ≤ slice_index (peak_heights mmb_merges n) (i + 1) }
+    ensures children { (n p : ℕ) → (a b : Tree) → slice_get (forest mmb_merges n).nodes p ≡ Some (join p a b)
+        → (position a ≡ mmb_position (first_leaf a) (height a)) × (position b ≡ mmb_position (first_leaf a + 2 ^ height a) (height a)) }
+    ensures place { (n p : ℕ) → (t : Tree) → slice_get (forest mmb_merges n).nodes p ≡ Some t → p ≡ mmb_position (first_leaf t) (height t) }
 
     // A node comes with its birth leaf.
-    ensures birth { (n p : ℕ) → (t : Tree) → slice_get (forest newest_pair n).nodes p ≡ Some t
-        → (slice_get (forest newest_pair (birth_leaf (first_leaf t) (height t) + 1)).nodes p ≡ Some t)
-        × ((m : ℕ) → m ≤ birth_leaf (first_leaf t) (height t) → size newest_pair m ≤ p) }
-    ensures aligned { (n p : ℕ) → (t : Tree) → slice_get (forest newest_pair n).nodes p ≡ Some t → (a : ℕ) × (first_leaf t ≡ a * 2 ^ height t) }
+    ensures birth { (n p : ℕ) → (t : Tree) → slice_get (forest mmb_merges n).nodes p ≡ Some t
+        → (slice_get (forest mmb_merges (birth_leaf (first_leaf t) (height t) + 1)).nodes p ≡ Some t)
+        × ((m : ℕ) → m ≤ birth_leaf (first_leaf t) (height t) → size mmb_merges m ≤ p) }
+    ensures aligned { (n p : ℕ) → (t : Tree) → slice_get (forest mmb_merges n).nodes p ≡ Some t → (a : ℕ) × (first_leaf t ≡ a * 2 ^ height t) }
 
     // Over each stretch of 2 ^ h leaves from a multiple of 2 ^ h on stands a node, once its birth leaf is there.
-    ensures belt_has { (n s a h : ℕ) → s ≡ a * 2 ^ h → birth_leaf s h < n → (p : ℕ) × (t : Tree) × (slice_get (forest newest_pair n).nodes p ≡ Some t)
+    ensures belt_has { (n s a h : ℕ) → s ≡ a * 2 ^ h → birth_leaf s h < n → (p : ℕ) × (t : Tree) × (slice_get (forest mmb_merges n).nodes p ≡ Some t)
         × (first_leaf t ≡ s) × (height t ≡ h) }
-    ensures coordinates { AreCoordinates newest_pair (2 ^ 62 + 30) root_position belt_birth }
+    ensures coordinates { AreCoordinates mmb_merges (2 ^ 62 + 30) mmb_position mmb_birth_leaf_count }
 
     // A peak's height and the number of peaks are at most 123 together.
-    ensures few { FewPeaks newest_pair (2 ^ 62 + 30) }
+    ensures few { FewPeaks mmb_merges (2 ^ 62 + 30) }
 {}
 
 /// The definitions on small numbers, by computing.
 pub fn worked_rows()
-    ensures range_positions { map (size carries) (range_with_len 0 16) ≡ 0 ∷ 1 ∷ 3 ∷ 4 ∷ 7 ∷ 8 ∷ 10 ∷ 11 ∷ 15 ∷ 16 ∷ 18 ∷ 19 ∷ 22 ∷ 23 ∷ 25 ∷ 26 ∷ [] }
-    ensures range_peaks { map placed (peaks_of carries 11) ≡ (14, 3) ∷ (17, 1) ∷ (18, 0) ∷ [] }
-    ensures range_parents { map (parent_heights carries) (range_with_len 0 8) ≡ [] ∷ (1 ∷ []) ∷ [] ∷ (1 ∷ 2 ∷ []) ∷ [] ∷ (1 ∷ []) ∷ [] ∷ (1 ∷ 2 ∷ 3 ∷ []) ∷ [] }
-    ensures belt_positions { map (size newest_pair) (range_with_len 0 16) ≡ 0 ∷ 1 ∷ 3 ∷ 4 ∷ 6 ∷ 8 ∷ 10 ∷ 11 ∷ 13 ∷ 15 ∷ 17 ∷ 19 ∷ 21 ∷ 23 ∷ 25 ∷ 26 ∷ [] }
-    ensures belt_peaks_8 { map placed (peaks_of newest_pair 8) ≡ (7, 2) ∷ (9, 1) ∷ (12, 1) ∷ [] }
-    ensures belt_peaks_11 { map placed (peaks_of newest_pair 11) ≡ (18, 3) ∷ (16, 1) ∷ (17, 0) ∷ [] }
-    ensures belt_parents { map (parent_heights newest_pair) (range_with_len 0 16)
+    ensures range_positions { map (size mmr_merges) (range_with_len 0 16) ≡ 0 ∷ 1 ∷ 3 ∷ 4 ∷ 7 ∷ 8 ∷ 10 ∷ 11 ∷ 15 ∷ 16 ∷ 18 ∷ 19 ∷ 22 ∷ 23 ∷ 25 ∷ 26 ∷ [] }
+    ensures range_peaks { map placed (peaks_of mmr_merges 11) ≡ (14, 3) ∷ (17, 1) ∷ (18, 0) ∷ [] }
+    ensures range_parents { map (parent_heights mmr_merges) (range_with_len 0 8) ≡ [] ∷ (1 ∷ []) ∷ [] ∷ (1 ∷ 2 ∷ []) ∷ [] ∷ (1 ∷ []) ∷ [] ∷ (1 ∷ 2 ∷ 3 ∷ []) ∷ [] }
+    ensures belt_positions { map (size mmb_merges) (range_with_len 0 16) ≡ 0 ∷ 1 ∷ 3 ∷ 4 ∷ 6 ∷ 8 ∷ 10 ∷ 11 ∷ 13 ∷ 15 ∷ 17 ∷ 19 ∷ 21 ∷ 23 ∷ 25 ∷ 26 ∷ [] }
+    ensures belt_peaks_8 { map placed (peaks_of mmb_merges 8) ≡ (7, 2) ∷ (9, 1) ∷ (12, 1) ∷ [] }
+    ensures belt_peaks_11 { map placed (peaks_of mmb_merges 11) ≡ (18, 3) ∷ (16, 1) ∷ (17, 0) ∷ [] }
+    ensures belt_parents { map (parent_heights mmb_merges) (range_with_len 0 16)
         ≡ [] ∷ (1 ∷ []) ∷ [] ∷ (1 ∷ []) ∷ (2 ∷ []) ∷ (1 ∷ []) ∷ [] ∷ (1 ∷ []) ∷ (2 ∷ []) ∷ (1 ∷ []) ∷ (3 ∷ []) ∷ (1 ∷ []) ∷ (2 ∷ []) ∷ (1 ∷ []) ∷ [] ∷ (1 ∷ []) ∷ [] }
 
     // Leaf 9 comes where two pairs are equal, and the newer one is merged.
-    ensures belt_pairs { (0 ∷ peak_heights newest_pair 9 ≡ 0 ∷ 0 ∷ 2 ∷ 2 ∷ []) × (peak_heights newest_pair 10 ≡ 1 ∷ 2 ∷ 2 ∷ []) }
-    ensures belt_root { root_position 4 2 ≡ 14 }
+    ensures belt_pairs { (0 ∷ peak_heights mmb_merges 9 ≡ 0 ∷ 0 ∷ 2 ∷ 2 ∷ []) × (peak_heights mmb_merges 10 ≡ 1 ∷ 2 ∷ 2 ∷ []) }
+    ensures belt_root { mmb_position 4 2 ≡ 14 }
 
     // The node over the leaves 4 to 7: its position in the Mountain Range, and the least leaf counts that have it.
-    ensures range_stands { range_root 4 2 ≡ 13 }
-    ensures range_comes { range_birth 4 2 ≡ 8 }
-    ensures belt_comes { belt_birth 4 2 ≡ 9 }
+    ensures range_stands { mmr_position 4 2 ≡ 13 }
+    ensures range_comes { mmr_birth_leaf_count 4 2 ≡ 8 }
+    ensures belt_comes { mmb_birth_leaf_count 4 2 ≡ 9 }
 
     // Three leaves, of which the first two are merged at position 2, the older one on the left.
-    ensures three_nodes { (forest carries 3).nodes ≡ leaf 0 0 ∷ leaf 1 1 ∷ join 2 (leaf 0 0) (leaf 1 1) ∷ leaf 3 2 ∷ [] }
-    ensures three_peaks { (forest carries 3).peaks ≡ leaf 3 2 ∷ join 2 (leaf 0 0) (leaf 1 1) ∷ [] }
+    ensures three_nodes { (forest mmr_merges 3).nodes ≡ leaf 0 0 ∷ leaf 1 1 ∷ join 2 (leaf 0 0) (leaf 1 1) ∷ leaf 3 2 ∷ [] }
+    ensures three_peaks { (forest mmr_merges 3).peaks ≡ leaf 3 2 ∷ join 2 (leaf 0 0) (leaf 1 1) ∷ [] }
 
     // The peaks of 11 leaves end at the locations 8, 10 and 11.
-    ensures inactive { map (inactive_peaks carries 11) (7 ∷ 8 ∷ 9 ∷ 10 ∷ 11 ∷ []) ≡ 0 ∷ 1 ∷ 1 ∷ 2 ∷ 3 ∷ [] }
+    ensures inactive { map (inactive_peaks mmr_merges 11) (7 ∷ 8 ∷ 9 ∷ 10 ∷ 11 ∷ []) ≡ 0 ∷ 1 ∷ 1 ∷ 2 ∷ 3 ∷ [] }
 
     // Where none are merged there are as many peaks as leaves, each of height 0.
     ensures few { FewPeaks unmerged 123 }
     ensures too_many { FewPeaks unmerged 124 → ⊥ }
 
     // With 8 leaves the node over the last four of them has not come.
-    ensures belt_chunk { map placed (nodes_inside newest_pair 8 4 8) ≡ (9, 1) ∷ (12, 1) ∷ [] }
+    ensures belt_chunk { map placed (nodes_inside mmb_merges 8 4 8) ≡ (9, 1) ∷ (12, 1) ∷ [] }
 
     // Where nothing is hashed a digest tells what it was made of.
-    ensures digests { node_digests unhashed carries three_digests ≡ (5 ∷ []) ∷ (6 ∷ []) ∷ (2 ∷ 5 ∷ 6 ∷ []) ∷ (7 ∷ []) ∷ [] }
-    ensures digests_of_peaks { peak_digests unhashed carries three_digests ≡ (2 ∷ 5 ∷ 6 ∷ []) ∷ (7 ∷ []) ∷ [] }
+    ensures digests { node_digests unhashed mmr_merges three_digests ≡ (5 ∷ []) ∷ (6 ∷ []) ∷ (2 ∷ 5 ∷ 6 ∷ []) ∷ (7 ∷ []) ∷ [] }
+    ensures digests_of_peaks { peak_digests unhashed mmr_merges three_digests ≡ (2 ∷ 5 ∷ 6 ∷ []) ∷ (7 ∷ []) ∷ [] }
 
     // Four peaks left to right, right to left, and the first two left to right with the others right to left.
     ensures folds_forward { folded unhashed.fold ForwardFold 2 four_peaks ≡ Some (99 ∷ 99 ∷ 99 ∷ 1 ∷ 2 ∷ 3 ∷ 4 ∷ []) }

@@ -2,7 +2,7 @@
 use Rattle.std.specs.Prelude.{◌≡◌, ℕ, ◌+◌, ◌<◌, ◌≤◌, cond, nat_lt, List, [], ◌∷◌, Option, Some, None, slice_get}
 use Rattle.merkle_base.specs.Tree.{Tree, leaf, join, position, height, first_leaf, width}
 use Rattle.merkle_base.specs.Forest.{forest}
-use Rattle.merkle_hasher.specs.Subtrees.{Stands}
+use Rattle.merkle_hasher.specs.Subtrees.{IsNodeOf}
 
 -- the merged nodes from t down to the leaf at location k: the position of each, that of its other child, and its height
 abbrev pub path : ℕ → Tree → List (ℕ × ℕ × ℕ)
@@ -15,11 +15,11 @@ path_from k None = []
 path_from k (Some t) = path k t
 
 -- a node of height h whose first leaf is s stands at p in some forest up to the limit, and the leaf at location k is under it
-pub record StandsOver (rule : List ℕ → List ℕ) (max_leaves p h s k : ℕ) : Type 0 where
+pub record IsNodeAbove (rule : List ℕ → List ℕ) (max_leaves p h s k : ℕ) : Type 0 where
   pub leaves : ℕ
   pub node : Tree
   pub few : leaves ≤ max_leaves
-  pub stands : Stands rule leaves p h s node
+  pub stands : IsNodeOf rule leaves p h s node
   pub after : s ≤ k
   pub before : k < s + width node
 

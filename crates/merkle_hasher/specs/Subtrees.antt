@@ -6,14 +6,14 @@ use Rattle.merkle_base.specs.Forest.{forest}
 use Rattle.merkle_hasher.specs.declared.subtree.Subtree.{Subtree}
 
 -- t stands at p in the forest of n leaves, has height h, and its first leaf is s
-pub record Stands (rule : List ℕ → List ℕ) (n p h s : ℕ) (t : Tree) : Type 0 where
+pub record IsNodeOf (rule : List ℕ → List ℕ) (n p h s : ℕ) (t : Tree) : Type 0 where
   pub at : slice_get (forest rule n).nodes p ≡ Some t
   pub height_is : height t ≡ h
   pub first_is : first_leaf t ≡ s
 
 -- the subtree is the node t of the forest of n leaves
-abbrev pub Means : {F : Type 0} → (List ℕ → List ℕ) → ℕ → Subtree F → Tree → Type 0
-Means rule n s t = Stands rule n s.position s.height s.first_leaf t
+abbrev pub Denotes : {F : Type 0} → (List ℕ → List ℕ) → ℕ → Subtree F → Tree → Type 0
+Denotes rule n s t = IsNodeOf rule n s.position s.height s.first_leaf t
 
 -- the subtree that means t
 abbrev pub subtree_of : {F : Type 0} → Tree → Subtree F

@@ -6,7 +6,7 @@ ghost use Rattle.merkle_digest.specs.Bytes.{joined_parts};
 ghost use Rattle.merkle_base.specs.declared.family.Bagging.{Bagging};
 ghost use Rattle.merkle_base.specs.Hashing.{Hashing, IsOver};
 ghost use Rattle.merkle_base.specs.Scheme.{Scheme, scheme_of};
-ghost use Rattle.merkle_base.specs.Root.{bag, folded, root_string, peaks_root};
+ghost use Rattle.merkle_base.specs.Root.{right_fold, folded, root_string, peaks_root};
 ghost use Rattle.merkle_hasher.specs.Standard.{standard};
 
 use merkle_base::error::Error;
@@ -207,7 +207,7 @@ pub fn fold_all<F: Family, T: Hasher<F>>(
 
 /// The last peak, which takes in the others right to left, if there is one.
 pub fn bag_all<F: Family, T: Hasher<F>>(hasher: &T, peaks: &[T::Digest]) -> Option<T::Digest>
-    ensures { result ≡ bag (T.hashing hasher.now).fold peaks.now }
+    ensures { result ≡ right_fold (T.hashing hasher.now).fold peaks.now }
 {
     let mut bagged = None;
     let mut index = peaks.len();

@@ -1,7 +1,7 @@
 //! The path from a node, mostly a peak, down to a leaf.
 ghost use Rattle.std.specs.Prelude.{◌≡◌, length};
 ghost use Rattle.std.specs.Iterator.{YieldsFirst, item_count};
-ghost use Rattle.merkle_hasher.specs.Path.{StandsOver, IsPath};
+ghost use Rattle.merkle_hasher.specs.Path.{IsNodeAbove, IsPath};
 
 use crate::subtree::Subtree;
 use merkle_base::family::Family;
@@ -36,13 +36,13 @@ pub struct Iterator<F: Family> {
 impl<F: Family> Model for Iterator<F> {
     ghost use Rattle.std.specs.Prelude.{ℕ, List, slice_get};
     ghost use Rattle.merkle_base.specs.Forest.{forest};
-    ghost use Rattle.merkle_hasher.specs.Path.{path_from, StandsOver};
+    ghost use Rattle.merkle_hasher.specs.Path.{path_from, IsNodeAbove};
 
     ghost Value = { List (ℕ × ℕ × ℕ) };
 
     ghost view = { λ s. path_from s.target (slice_get (forest F.rule F.MAX_LEAVES).nodes s.node.position) };
 
-    ghost invariant = { λ s. StandsOver F.rule F.MAX_LEAVES s.node.position s.node.height s.node.first_leaf s.target };
+    ghost invariant = { λ s. IsNodeAbove F.rule F.MAX_LEAVES s.node.position s.node.height s.node.first_leaf s.target };
 }
 
 impl<F: Family> Iterator<F> {
@@ -56,7 +56,7 @@ impl<F: Family> Iterator<F> {
         first_leaf_loc: Location<F>,
         target_loc: Location<F>,
     ) -> Self
-        requires { StandsOver F.rule F.MAX_LEAVES peak_pos height first_leaf_loc target_loc }
+        requires { IsNodeAbove F.rule F.MAX_LEAVES peak_pos height first_leaf_loc target_loc }
         ensures path { IsPath F.rule peak_pos target_loc result }
         ensures count { length result ≡ height }
     {

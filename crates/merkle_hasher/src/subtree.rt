@@ -1,7 +1,7 @@
 //! Nodes of a forest with what stands under them.
 ghost use Rattle.std.specs.Prelude.{◌≡◌, ◌+◌};
 ghost use Rattle.merkle_base.specs.Tree.{Tree, join, first_leaf, width};
-ghost use Rattle.merkle_hasher.specs.Subtrees.{Means};
+ghost use Rattle.merkle_hasher.specs.Subtrees.{Denotes};
 
 use merkle_base::family::Family;
 use merkle_base::location::Location;
@@ -18,17 +18,17 @@ pub struct Subtree<F> {
 impl<F: Family> Subtree<F> {
     /// The location after its last leaf.
     pub fn leaf_end(&self) -> Location<F>
-        requires { (t : Tree) × Means F.rule F.MAX_LEAVES self.now t }
-        ensures { (t : Tree) → Means F.rule F.MAX_LEAVES self.now t → result ≡ first_leaf t + width t }
+        requires { (t : Tree) × Denotes F.rule F.MAX_LEAVES self.now t }
+        ensures { (t : Tree) → Denotes F.rule F.MAX_LEAVES self.now t → result ≡ first_leaf t + width t }
     {
         self.first_leaf + (1u64 << self.height)
     }
 
     /// Its two children.
     pub fn children(&self) -> (Self, Self)
-        requires { (p : _) × (a : Tree) × (b : Tree) × Means F.rule F.MAX_LEAVES self.now (join p a b) }
-        ensures { (p : _) (a b : Tree) → Means F.rule F.MAX_LEAVES self.now (join p a b) → Means F.rule F.MAX_LEAVES result.0 a
-            × Means F.rule F.MAX_LEAVES result.1 b }
+        requires { (p : _) × (a : Tree) × (b : Tree) × Denotes F.rule F.MAX_LEAVES self.now (join p a b) }
+        ensures { (p : _) (a b : Tree) → Denotes F.rule F.MAX_LEAVES self.now (join p a b) → Denotes F.rule F.MAX_LEAVES result.0 a
+            × Denotes F.rule F.MAX_LEAVES result.1 b }
     {
         let (left, right) = F::children(self.position, self.height);
         let height = self.height - 1;

@@ -5,17 +5,17 @@ use Rattle.merkle_base.specs.Tree.{Tree, position}
 use Rattle.merkle_batch_theory.specs.Contents.{is_kept}
 use Rattle.merkle_batch_theory.specs.Missing.{IsMissing}
 use Rattle.merkle_batch_theory.specs.Needed.{IsNeeded}
-use Rattle.merkle_batch_theory.specs.Pending.{Pending}
-use Rattle.merkle_batch_theory.specs.Store.{Store, contents}
+use Rattle.merkle_batch_theory.specs.Unmerkleized.{UnmerkleizedModel}
+use Rattle.merkle_batch_theory.specs.MemModel.{MemModel, contents}
 use Rattle.merkle_range.specs.Input.{leaf_digests}
 use Rattle.merkle_range.proofs.GivenLeaves.{length-leaf_digests}
 use Rattle.merkle_lines.specs.Answers.{IsLost}
-use Rattle.merkle_lines.specs.Given.{Given, at_updated, changes}
+use Rattle.merkle_lines.specs.StructureState.{StructureState, at_updated, changes}
 use Rattle.merkle_lines.specs.Held.{IsHeld, Makes}
 use Rattle.merkle_lines.proofs.Making.{lost_missing, missing_lost}
 
-module _ {D : Type 0} (h : Hashing D) (rule : List ℕ → List ℕ) (max_leaves : ℕ) (s : Store D) (p : Option (Pending D)) (g : Given) (held : IsHeld h rule max_leaves s p g)
-    (b : Pending D) (m : Makes h rule (leaf_digests h rule 0 g.committed) b (changes g)) where
+module _ {D : Type 0} (h : Hashing D) (rule : List ℕ → List ℕ) (max_leaves : ℕ) (s : MemModel D) (p : Option (UnmerkleizedModel D)) (g : StructureState) (held : IsHeld h rule max_leaves s p g)
+    (b : UnmerkleizedModel D) (m : Makes h rule (leaf_digests h rule 0 g.committed) b (changes g)) where
   abbrev list : List D
   list = leaf_digests h rule 0 g.committed
 

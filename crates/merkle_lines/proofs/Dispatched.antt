@@ -6,10 +6,10 @@ use Rattle.merkle_commands.specs.declared.command.Command.TheVariants.{Ask}
 use Rattle.merkle_commands.specs.declared.command.FamilyName.{FamilyName}
 use Rattle.merkle_commands.specs.declared.command.HashName.{HashName}
 use Rattle.merkle_commands.specs.declared.command.Request.{Request}
-use Rattle.merkle_lines.specs.Given.{Given}
-use Rattle.merkle_lines.specs.Transcript.{Told, IsCommandAnswered, IsNamedAnswered}
+use Rattle.merkle_lines.specs.StructureState.{StructureState}
+use Rattle.merkle_lines.specs.Transcript.{SessionState, IsCommandAnswered, IsNamedAnswered}
 
-pub dispatched : (family : FamilyName) (hash : HashName) (b c : Bagging) (g u : Given) (told : Option Told) (command : Command) (request : Request) (text : List ℕ)
+pub dispatched : (family : FamilyName) (hash : HashName) (b c : Bagging) (g u : StructureState) (told : Option SessionState) (command : Command) (request : Request) (text : List ℕ)
     → told ≡ Some (record { family = family; bagging = b; hash = hash; given = g }) → command ≡ Ask request → c ≡ b → IsNamedAnswered family b hash g request u text
     → IsCommandAnswered told command (Some (record { family = family; bagging = c; hash = hash; given = u })) text
 dispatched family hash b c g u told command request text t k same answered =

@@ -8,13 +8,13 @@ use Rattle.std.proofs.lemmas.Bool.{cases_lt, lt-ltb, le-ltb}
 use Rattle.merkle_base.specs.Forest.{size}
 use Rattle.merkle_base.specs.Hashing.{Hashing}
 use Rattle.merkle_batch_theory.specs.Contents.{Agrees, is_kept, pruned}
-use Rattle.merkle_batch_theory.specs.Pending.{Pending, forked}
+use Rattle.merkle_batch_theory.specs.Unmerkleized.{UnmerkleizedModel, forked}
 use Rattle.merkle_batch_theory.specs.Roots.{root_batch}
-use Rattle.merkle_batch_theory.specs.Stands.{replaced}
-use Rattle.merkle_batch_theory.specs.Store.{Store, contents}
+use Rattle.merkle_batch_theory.specs.History.{replaced}
+use Rattle.merkle_batch_theory.specs.MemModel.{MemModel, contents}
 use Rattle.merkle_range.specs.Input.{leaf_digests}
 use Rattle.merkle_range.proofs.GivenLeaves.{length-leaf_digests}
-use Rattle.merkle_lines.specs.Given.{Changes, Given, all_committed, changes, pruned_to, with_changes, without_changes}
+use Rattle.merkle_lines.specs.StructureState.{Changes, StructureState, all_committed, changes, pruned_to, with_changes, without_changes}
 use Rattle.merkle_lines.specs.Held.{IsHeld, Makes, MakesPending}
 
 -- nothing is replaced
@@ -28,7 +28,7 @@ greater a b = elim (cases_lt a b) [
   | inr not_less ↦ ap (λ t. cond t b a) (le-ltb a b not_less) ∙ omega (arith, not_less)
 ]
 
-module _ {D : Type 0} (h : Hashing D) (rule : List ℕ → List ℕ) (max_leaves : ℕ) (s : Store D) (p : Option (Pending D)) (g : Given) (held : IsHeld h rule max_leaves s p g) where
+module _ {D : Type 0} (h : Hashing D) (rule : List ℕ → List ℕ) (max_leaves : ℕ) (s : MemModel D) (p : Option (UnmerkleizedModel D)) (g : StructureState) (held : IsHeld h rule max_leaves s p g) where
   abbrev list : List D
   list = leaf_digests h rule 0 g.committed
 
@@ -36,14 +36,14 @@ module _ {D : Type 0} (h : Hashing D) (rule : List ℕ → List ℕ) (max_leaves
   list_count = held.counted ∙ sym (length-leaf_digests h rule 0 g.committed)
 
   -- the pending batch, or a new one
-  pub pending_makes : (b : Pending D) → p ≡ Some b → Makes h rule list b (changes g)
+  pub pending_makes : (b : UnmerkleizedModel D) → p ≡ Some b → Makes h rule list b (changes g)
   pending_makes b e = some_of g.pending (subst (λ q. MakesPending h rule list q g.pending) e held.makes)
     where
       some_of : (o : Option Changes) → MakesPending h rule list (Some b) o → Makes h rule list b (unwrap_or o (record { elements = g.committed; updated = []; boundary = g.boundary }))
       some_of None m = absurd m
       some_of (Some c) m = m
 
-  pub new_makes : (b : Pending D) → p ≡ None → b ≡ forked (root_batch rule s.leaves (contents s)) → Makes h rule list b (changes g)
+  pub new_makes : (b : UnmerkleizedModel D) → p ≡ None → b ≡ forked (root_batch rule s.leaves (contents s)) → Makes h rule list b (changes g)
   new_makes b e new = none_of g.pending (subst (λ q. MakesPending h rule list q g.pending) e held.makes)
     where
       begun : Changes
@@ -66,7 +66,7 @@ module _ {D : Type 0} (h : Hashing D) (rule : List ℕ → List ℕ) (max_leaves
       none_of (Some c) m = absurd m
 
   -- without pending changes
-  pub held_without : (t : Store D) (q : Option (Pending D)) → t ≡ s → q ≡ None → IsHeld h rule max_leaves t q (without_changes g)
+  pub held_without : (t : MemModel D) (q : Option (UnmerkleizedModel D)) → t ≡ s → q ≡ None → IsHeld h rule max_leaves t q (without_changes g)
   held_without t q e f = subst (λ x. IsHeld h rule max_leaves x q (without_changes g)) (sym e) (subst (λ x. IsHeld h rule max_leaves s x (without_changes g)) (sym f) (record {
     agrees = held.agrees;
     counted = held.counted;
@@ -76,7 +76,7 @@ module _ {D : Type 0} (h : Hashing D) (rule : List ℕ → List ℕ) (max_leaves
   }))
 
   -- with others
-  pub held_with : (t : Store D) (b : Pending D) (c : Changes) → t ≡ s → Makes h rule list b c → IsHeld h rule max_leaves t (Some b) (with_changes g c)
+  pub held_with : (t : MemModel D) (b : UnmerkleizedModel D) (c : Changes) → t ≡ s → Makes h rule list b c → IsHeld h rule max_leaves t (Some b) (with_changes g c)
   held_with t b c e m = subst (λ x. IsHeld h rule max_leaves x (Some b) (with_changes g c)) (sym e) (record {
     agrees = held.agrees;
     counted = held.counted;
@@ -86,7 +86,7 @@ module _ {D : Type 0} (h : Hashing D) (rule : List ℕ → List ℕ) (max_leaves
   })
 
   -- with all changes committed
-  pub held_all : (t : Store D) (q : Option (Pending D)) → q ≡ None → t.leaves ≡ length (changes g).elements → t.leaves ≤ max_leaves → Agrees h rule (contents t) (leaf_digests h rule 0 (changes g).elements) → t.boundary ≡ s.boundary
+  pub held_all : (t : MemModel D) (q : Option (UnmerkleizedModel D)) → q ≡ None → t.leaves ≡ length (changes g).elements → t.leaves ≤ max_leaves → Agrees h rule (contents t) (leaf_digests h rule 0 (changes g).elements) → t.boundary ≡ s.boundary
       → IsHeld h rule max_leaves t q (all_committed g)
   held_all t q e n few a same = subst (λ x. IsHeld h rule max_leaves t x (all_committed g)) (sym e) (record {
     agrees = a;
@@ -97,7 +97,7 @@ module _ {D : Type 0} (h : Hashing D) (rule : List ℕ → List ℕ) (max_leaves
   })
 
   -- pruned
-  pub held_pruned : (t : Store D) (k : ℕ) → contents t ≡ pruned rule k (contents s) → t.leaves ≡ s.leaves → Agrees h rule (contents t) list → IsHeld h rule max_leaves t p (pruned_to g k)
+  pub held_pruned : (t : MemModel D) (k : ℕ) → contents t ≡ pruned rule k (contents s) → t.leaves ≡ s.leaves → Agrees h rule (contents t) list → IsHeld h rule max_leaves t p (pruned_to g k)
   held_pruned t k e n a = record {
     agrees = a;
     counted = n ∙ held.counted;

@@ -6,19 +6,19 @@ use Rattle.std.specs.Ordering.{nat_cmp}
 use Rattle.std.specs.FinMap.{get, len-empty}
 use Rattle.std.proofs.lemmas.Bool.{cases_lt, lt-ltb, le-ltb}
 use Rattle.merkle_base.specs.Forest.{size}
-use Rattle.merkle_base.specs.Hashing.{Hashing, TellsApart}
+use Rattle.merkle_base.specs.Hashing.{Hashing, EqDecides}
 use Rattle.merkle_base.specs.Digests.{node_digests}
 use Rattle.merkle_base.specs.Tree.{Tree, leaf, join, position}
 use Rattle.merkle_batch_theory.specs.Contents.{Contents, Agrees, AgreesWithOne, held_peaks, is_kept}
 use Rattle.merkle_batch_theory.specs.Missing.{IsMissing}
 use Rattle.merkle_batch_theory.specs.Needed.{is_computed, IsChanged, IsNeeded, IsUsed}
-use Rattle.merkle_batch_theory.specs.Pending.{Pending, is_changed, kept, kept_lists, leaf_total, pending_list, with_leaf, with_update, without_last}
+use Rattle.merkle_batch_theory.specs.Unmerkleized.{UnmerkleizedModel, is_changed, kept, kept_lists, leaf_total, pending_list, with_leaf, with_update, without_last}
 use Rattle.merkle_batch_theory.specs.Read.{read_over}
-use Rattle.merkle_batch_theory.specs.Recorded.{Chain, Recorded, records}
-use Rattle.merkle_batch_theory.specs.Replay.{Refusal, applied, begins_at, ends_at, all_laid, laid, last_match, matched, oldest, refusal}
+use Rattle.merkle_batch_theory.specs.Records.{MerkleizedModel, RecordModel, records}
+use Rattle.merkle_batch_theory.specs.Replay.{Refusal, applied, begins_at, ends_at, with_records, with_record, last_match, matched, oldest, refusal}
 use Rattle.merkle_batch_theory.specs.Roots.{root_batch}
-use Rattle.merkle_batch_theory.specs.Stands.{StandsOn, is_touched, replaced}
-use Rattle.merkle_batch_theory.specs.Store.{Store, contents}
+use Rattle.merkle_batch_theory.specs.History.{IsHistory, is_dirty, replaced}
+use Rattle.merkle_batch_theory.specs.MemModel.{MemModel, contents}
 use Rattle.merkle_batch_theory.proofs.Agreed.{agree_all}
 use Rattle.merkle_batch_theory.proofs.MapFacts.{inserted_at}
 use Rattle.merkle_batch_theory.proofs.Matching.{accepts}
@@ -27,8 +27,8 @@ use Rattle.merkle_batch_theory.proofs.RootBatch.{root_stands}
 use Rattle.merkle_batch_theory.proofs.Steps.{digests_length, replaced_length}
 use Rattle.merkle_range.specs.Input.{leaf_digests}
 use Rattle.merkle_range.proofs.GivenLeaves.{length-leaf_digests}
-use Rattle.merkle_lines.specs.Given.{Changes, at_updated, with_element}
-use Rattle.merkle_lines.specs.Given as given
+use Rattle.merkle_lines.specs.StructureState.{Changes, at_updated, with_element}
+use Rattle.merkle_lines.specs.StructureState as given
 use Rattle.merkle_lines.specs.Held.{Makes}
 
 module _ {D : Type 0} (h : Hashing D) (rule : List ℕ → List ℕ) where
@@ -51,19 +51,19 @@ held_not_none (x ∷ xs) zero l e = absurd (cc e)
 held_not_none (x ∷ xs) (suc p) l e = held_not_none xs p (omega (arith, l)) e
 
 -- records keep the boundary
-laid_boundary : {D : Type 0} (rs : List (Recorded D)) (c : Contents D) → (all_laid rs c).boundary ≡ c.boundary
+laid_boundary : {D : Type 0} (rs : List (RecordModel D)) (c : Contents D) → (with_records rs c).boundary ≡ c.boundary
 laid_boundary [] c = refl
-laid_boundary (r ∷ rs) c = laid_boundary rs (laid r c)
+laid_boundary (r ∷ rs) c = laid_boundary rs (with_record r c)
 
 -- ---- what has an entry at the same places needs the same nodes
 module _ {D E : Type 0} (rule : List ℕ → List ℕ) (m : ℕ → Option D) (w : ℕ → Option E) (same : (p : ℕ) → is_some (m p) ≡ is_some (w p)) (n e : ℕ) where
-  touched_same : (t : Tree) → is_touched m t ≡ is_touched w t
-  touched_same (leaf p k) = same p
-  touched_same (join p l r) = λ i. ◌||◌ (touched_same l i) (touched_same r i)
+  dirty_same : (t : Tree) → is_dirty m t ≡ is_dirty w t
+  dirty_same (leaf p k) = same p
+  dirty_same (join p l r) = λ i. ◌||◌ (dirty_same l i) (dirty_same r i)
 
   computed_same : (t : Tree) → is_computed rule m n t ≡ is_computed rule w n t
   computed_same (leaf p k) = refl
-  computed_same (join p l r) = ap (λ b. nat_le (size rule n) p || b) (touched_same (join p l r))
+  computed_same (join p l r) = ap (λ b. nat_le (size rule n) p || b) (dirty_same (join p l r))
 
   changed_same : IsChanged rule m n e → IsChanged rule w n e
   changed_same (inl more) = inl more
@@ -74,14 +74,14 @@ module _ {D E : Type 0} (rule : List ℕ → List ℕ) (m : ℕ → Option D) (w
   used_same t (inr (changed, peak)) = inr (changed_same changed, peak)
 
   pub needed_same : (t : Tree) → IsNeeded rule m n e t → IsNeeded rule w n e t
-  needed_same t (used, old, untouched) = (used_same t used, old, sym (touched_same t) ∙ untouched)
+  needed_same t (used, old, untouched) = (used_same t used, old, sym (dirty_same t) ∙ untouched)
 
 -- the first batch of a chain keeps no records
 root_unchanged : {D : Type 0} (rule : List ℕ → List ℕ) (n : ℕ) (c : Contents D) → is_changed (root_batch rule n c).own ≡ false
 root_unchanged {D} rule n c = ap (λ k. not (k == 0)) (len-empty nat_cmp D)
 
 -- a batch that makes changes of the list X
-module _ {D : Type 0} (h : Hashing D) (rule : List ℕ → List ℕ) (X : List D) (b : Pending D) (c : Changes) (m : Makes h rule X b c) where
+module _ {D : Type 0} (h : Hashing D) (rule : List ℕ → List ℕ) (X : List D) (b : UnmerkleizedModel D) (c : Changes) (m : Makes h rule X b c) where
   -- the number of leaves with the changes
   pub made_total : leaf_total b ≡ length c.elements
   made_total =
@@ -145,8 +145,8 @@ module _ {D : Type 0} (h : Hashing D) (rule : List ℕ → List ℕ) (X : List D
       either p false same = same
 
   -- the lists that it stands on
-  pub made_stands : StandsOn h rule (records b.parent) (X ∷ X ∷ [])
-  made_stands = subst (λ q. StandsOn h rule (records q) (X ∷ X ∷ [])) (sym m.forked) (root_stands h rule m.origin X m.agreed)
+  pub made_stands : IsHistory h rule (records b.parent) (X ∷ X ∷ [])
+  made_stands = subst (λ q. IsHistory h rule (records q) (X ∷ X ∷ [])) (sym m.forked) (root_stands h rule m.origin X m.agreed)
 
   made_unchanged : is_changed b.parent.own ≡ false
   made_unchanged = ap (λ q. is_changed q.own) m.forked ∙ root_unchanged rule (length X) m.origin
@@ -178,7 +178,7 @@ module _ {D : Type 0} (h : Hashing D) (rule : List ℕ → List ℕ) (X : List D
       (subst (λ n. IsNeeded rule (at_updated rule c.updated) n (leaf_total b) t) (sym m.before) (subst (λ e. IsNeeded rule (at_updated rule c.updated) (length X) e t) (sym made_total) needed))
 
   -- over a structure that agrees with the list
-  module _ (s : Store D) (agrees : Agrees h rule (contents s) X) where
+  module _ (s : MemModel D) (agrees : Agrees h rule (contents s) X) where
     pub made_base : AgreesWithOne h rule (contents s) (kept_lists b (X ∷ X ∷ []))
     made_base = subst (AgreesWithOne h rule (contents s)) (sym made_lists) (0, X, refl, agrees)
 
@@ -200,20 +200,20 @@ module _ {D : Type 0} (h : Hashing D) (rule : List ℕ → List ℕ) (X : List D
     lost_missing t needed lost = (given_needed t needed, read_alone t ∙ agrees.holds (position t) ∙ ap (λ k. cond k (slice_get (node_digests h rule X) (position t)) None) lost)
 
     -- what it is merkleized to
-    module _ (k : Chain D) (stands : StandsOn h rule (records k) (kept_lists b (X ∷ X ∷ []) ++ pending_list rule b X ∷ [])) where
-      two_lists : StandsOn h rule (records k) (X ∷ leaf_digests h rule 0 c.elements ∷ [])
-      two_lists = subst (λ Y. StandsOn h rule (records k) (X ∷ Y ∷ [])) m.elements (subst (λ ls. StandsOn h rule (records k) (ls ++ pending_list rule b X ∷ [])) made_lists stands)
+    module _ (k : MerkleizedModel D) (stands : IsHistory h rule (records k) (kept_lists b (X ∷ X ∷ []) ++ pending_list rule b X ∷ [])) where
+      two_lists : IsHistory h rule (records k) (X ∷ leaf_digests h rule 0 c.elements ∷ [])
+      two_lists = subst (λ Y. IsHistory h rule (records k) (X ∷ Y ∷ [])) m.elements (subst (λ ls. IsHistory h rule (records k) (ls ++ pending_list rule b X ∷ [])) made_lists stands)
 
-      pub made_accepted : TellsApart h → is_some (matched h.same s.size (held_peaks rule (length X) (contents s)) k) ≡ true
+      pub made_accepted : EqDecides h → is_some (matched h.same s.size (held_peaks rule (length X) (contents s)) k) ≡ true
       made_accepted law = accepts h rule law k (X ∷ leaf_digests h rule 0 c.elements ∷ []) (contents s) X 0 two_lists refl (omega arith) agrees
 
       pub made_applied : (d : Contents D) → k.ancestors ≡ kept b → applied h.same rule (length X) k (contents s) ≡ Ok d → Agrees h rule d (leaf_digests h rule 0 c.elements) × (d.boundary ≡ s.boundary)
       made_applied d alone done =
           let peaks = held_peaks rule (length X) (contents s) in
-          let is : all_laid (records k) (contents s) ≡ d = taken (contents s) d (begins_at h.same s.size peaks (oldest k)) (last_match (ends_at h.same s.size peaks) k.ancestors) (ap (last_match (ends_at h.same s.size peaks)) (alone ∙ made_keeps)) done in
+          let is : with_records (records k) (contents s) ≡ d = taken (contents s) d (begins_at h.same s.size peaks (oldest k)) (last_match (ends_at h.same s.size peaks) k.ancestors) (ap (last_match (ends_at h.same s.size peaks)) (alone ∙ made_keeps)) done in
           (subst (λ x. Agrees h rule x (leaf_digests h rule 0 c.elements)) is (agree_all h rule (records k) X (leaf_digests h rule 0 c.elements ∷ []) (contents s) two_lists agrees), sym (ap (λ x. x.boundary) is) ∙ laid_boundary (records k) (contents s))
         where
-          taken : (c d : Contents D) (b : Bool) (o : Option ℕ) → o ≡ None → ◌≡◌ {A = Result (Contents D) Refusal} (elim (cond b (Some 0) o) [ Some i ↦ Ok (all_laid (drop i (records k)) c) | None ↦ Err (refusal c.size k) ]) (Ok d) → all_laid (records k) c ≡ d
+          taken : (c d : Contents D) (b : Bool) (o : Option ℕ) → o ≡ None → ◌≡◌ {A = Result (Contents D) Refusal} (elim (cond b (Some 0) o) [ Some i ↦ Ok (with_records (drop i (records k)) c) | None ↦ Err (refusal c.size k) ]) (Ok d) → with_records (records k) c ≡ d
           taken c d true o n e = (cc)
           taken c d false None n e = absurd (cc)
           taken c d false (Some i) n e = absurd (cc)

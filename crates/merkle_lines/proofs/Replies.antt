@@ -25,13 +25,13 @@ use Rattle.merkle_root_theory.specs.Range.{range_digests}
 use Rattle.merkle_root_theory.specs.Reads.{reading_order}
 use Rattle.merkle_lines.specs.Answers.{added, committed_list, error_line, kept_node, left, updated, word_bytes, IsAnswered, IsLost, IsProved}
 use Rattle.merkle_lines.specs.ErrorNames.{error_name, hex_error_name}
-use Rattle.merkle_lines.specs.Given.{Given, all_committed, changes, count, pruned_to, with_changes, with_element, with_update, without_changes}
+use Rattle.merkle_lines.specs.StructureState.{StructureState, all_committed, changes, count, pruned_to, with_changes, with_element, with_update, without_changes}
 
 -- the bytes of a word that was read
 pub read_bytes : (word bytes : List ℕ) → decode_of word ≡ Ok bytes → word_bytes word ≡ bytes
 read_bytes word bytes e = ap (λ r. elim r [ Ok b ↦ b | Err f ↦ [] ]) e
 
-module _ {D : Type 0} (s : Scheme D) (size_of : ℕ) (Spells : List ℕ → Type 0) (g : Given) where
+module _ {D : Type 0} (s : Scheme D) (size_of : ℕ) (Spells : List ℕ → Type 0) (g : StructureState) where
   -- want of memory
   pub wanting : {F : Type 0} (request : Request) (e : Error F) (text : List ℕ) → e ≡ error.OutOfMemory → text ≡ error_line (error_name e) → IsAnswered s size_of Spells g request (left g request) text
   wanting request e text w t = inr (refl, t ∙ ap (λ x. error_line (error_name x)) w)
@@ -43,7 +43,7 @@ module _ {D : Type 0} (s : Scheme D) (size_of : ℕ) (Spells : List ℕ → Type
   pub add_done : (digits : Bor (List ℕ)) (element : List ℕ) (n : ℕ) (text : List ℕ) → decode_of digits.now ≡ Ok element → n ≡ length (changes g).elements → n < s.max_leaves → text ≡ codes "ok " ++ decimal n
       → IsAnswered s size_of Spells g (Add digits) (with_changes g (with_element (changes g) element)) text
   add_done digits element n text d c l t =
-      inl (subst (λ b. ◌≡◌ {A = Given × List ℕ} (with_changes g (with_element (changes g) element), text) (added s g b)) (sym (read_bytes digits.now element d))
+      inl (subst (λ b. ◌≡◌ {A = StructureState × List ℕ} (with_changes g (with_element (changes g) element), text) (added s g b)) (sym (read_bytes digits.now element d))
       (rw (lt-ltb (length (changes g).elements) s.max_leaves (omega (arith, l, c))) (ap (λ x. (with_changes g (with_element (changes g) element), x)) (t ∙ ap (λ m. codes "ok " ++ decimal m) c))))
 
   pub add_full : {F : Type 0} (digits : Bor (List ℕ)) (e : Error F) (text : List ℕ) → length (changes g).elements ≡ s.max_leaves → e ≡ error.LocationOverflow s.max_leaves → text ≡ error_line (error_name e)
@@ -55,7 +55,7 @@ module _ {D : Type 0} (s : Scheme D) (size_of : ℕ) (Spells : List ℕ → Type
   pub update_done : (location : ℕ) (digits : Bor (List ℕ)) (element text : List ℕ) → decode_of digits.now ≡ Ok element → location < length (changes g).elements → (changes g).boundary ≤ location → text ≡ codes "ok"
       → IsAnswered s size_of Spells g (Update location digits) (with_changes g (with_update (count g) (changes g) location element)) text
   update_done location digits element text d l b t =
-      inl (subst (λ x. ◌≡◌ {A = Given × List ℕ} (with_changes g (with_update (count g) (changes g) location element), text) (updated g location x)) (sym (read_bytes digits.now element d))
+      inl (subst (λ x. ◌≡◌ {A = StructureState × List ℕ} (with_changes g (with_update (count g) (changes g) location element), text) (updated g location x)) (sym (read_bytes digits.now element d))
       (rw (lt-leb (length (changes g).elements) location l, le-ltb location (changes g).boundary b) (ap (λ x. (with_changes g (with_update (count g) (changes g) location element), x)) t)))
 
   pub update_out : {F : Type 0} (location : ℕ) (digits : Bor (List ℕ)) (e : Error F) (text : List ℕ) → length (changes g).elements ≤ location → e ≡ error.LeafOutOfBounds location → text ≡ error_line (error_name e)
@@ -115,7 +115,7 @@ module _ {D : Type 0} (s : Scheme D) (size_of : ℕ) (Spells : List ℕ → Type
         )
 
 -- ---- proofs
-module _ {D : Type 0} (s : Scheme D) (size_of : ℕ) (Spells : List ℕ → Type 0) (g : Given) (node : ℕ → Option D) (here : (p : ℕ) → node p ≡ kept_node s g p) (n : ℕ) (counted : n ≡ count g) (few : n ≤ s.max_leaves) (a b k : ℕ) where
+module _ {D : Type 0} (s : Scheme D) (size_of : ℕ) (Spells : List ℕ → Type 0) (g : StructureState) (node : ℕ → Option D) (here : (p : ℕ) → node p ≡ kept_node s g p) (n : ℕ) (counted : n ≡ count g) (few : n ≤ s.max_leaves) (a b k : ℕ) where
   -- why there is no proof
   pub prove_refused : {F : Type 0} (e : Error F) (text : List ℕ) → IsRangeRefusal s.bagging s.rule s.max_leaves n a b k node e → text ≡ error_line (error_name e) → IsAnswered s size_of Spells g (Prove a b k) g text
   prove_refused {F} e text r t = inl (refl, told r)

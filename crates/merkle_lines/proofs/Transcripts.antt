@@ -2,32 +2,32 @@
 use Rattle.std.proofs.Common.{◌≡◌, ℕ, List, [], ◌∷◌, ◌++◌, length, Option, None, Some, Result, Ok, Err, false, cond, refl, sym, ap, ◌∙◌, subst, append_assoc, append-nil}
 use Rattle.std.specs.Prelude.{◌==◌, OnOk}
 use Rattle.std.specs.Io.KnownBytes.{Appends, Consumes, Keeps}
-use Rattle.merkle_lines.specs.Transcript.{Told, IsLineAnswered, IsTranscript, Leads, lines_after}
+use Rattle.merkle_lines.specs.Transcript.{SessionState, IsLineAnswered, IsTranscript, ContinuesTo, lines_after}
 
 -- no bytes need no answer
-pub leads_none : (told : Option Told) (begun : List ℕ) → Leads told begun [] [] told begun
+pub leads_none : (told : Option SessionState) (begun : List ℕ) → ContinuesTo told begun [] [] told begun
 leads_none told begun more rest t = t
 
 -- a byte that ends no line
-pub leads_byte : (told : Option Told) (begun : List ℕ) (b : ℕ) → (b == 10) ≡ false → Leads told begun (b ∷ []) [] told (begun ++ b ∷ [])
+pub leads_byte : (told : Option SessionState) (begun : List ℕ) (b : ℕ) → (b == 10) ≡ false → ContinuesTo told begun (b ∷ []) [] told (begun ++ b ∷ [])
 leads_byte told begun b e more rest t = subst (λ c. IsTranscript told (cond c (begun ∷ lines_after more []) (lines_after more (begun ++ b ∷ []))) rest) (sym e) t
 
 -- the byte that ends a line, which is answered
-pub leads_end : (told v : Option Told) (begun text : List ℕ) → IsLineAnswered told begun v text → Leads told begun (10 ∷ []) (text ++ 10 ∷ []) v []
+pub leads_end : (told v : Option SessionState) (begun text : List ℕ) → IsLineAnswered told begun v text → ContinuesTo told begun (10 ∷ []) (text ++ 10 ∷ []) v []
 leads_end told v begun text answered more rest t = (v, text, rest, answered, append_assoc text (10 ∷ []) rest, t)
 
 -- bytes after bytes
-pub leads_then : (told u v : Option Told) (begun next last xs ys out more : List ℕ) → Leads told begun xs out u next → Leads u next ys more v last → Leads told begun (xs ++ ys) (out ++ more) v last
+pub leads_then : (told u v : Option SessionState) (begun next last xs ys out more : List ℕ) → ContinuesTo told begun xs out u next → ContinuesTo u next ys more v last → ContinuesTo told begun (xs ++ ys) (out ++ more) v last
 leads_then told u v begun next last xs ys out more first second zs rest t =
     let w = first (ys ++ zs) (more ++ rest) (second zs rest t) in
     subst (λ bs. IsTranscript told (lines_after bs begun) ((out ++ more) ++ rest)) (sym (append_assoc xs ys zs)) (subst (IsTranscript told (lines_after (xs ++ (ys ++ zs)) begun)) (sym (append_assoc out more rest)) w)
 
 -- a last line that nothing ends
-pub last_line : (told v : Option Told) (begun text : List ℕ) → (length begun == 0) ≡ false → IsLineAnswered told begun v text → IsTranscript told (lines_after [] begun) (text ++ 10 ∷ [])
+pub last_line : (told v : Option SessionState) (begun text : List ℕ) → (length begun == 0) ≡ false → IsLineAnswered told begun v text → IsTranscript told (lines_after [] begun) (text ++ 10 ∷ [])
 last_line told v begun text e answered = subst (λ c. IsTranscript told (cond c [] (begun ∷ [])) (text ++ 10 ∷ [])) (sym e) (v, text, [], answered, refl, refl)
 
 -- all bytes
-pub leads_all : (told v : Option Told) (begun next bytes out rest : List ℕ) → Leads told begun bytes out v next → IsTranscript v (lines_after [] next) rest → IsTranscript told (lines_after bytes begun) (out ++ rest)
+pub leads_all : (told v : Option SessionState) (begun next bytes out rest : List ℕ) → ContinuesTo told begun bytes out v next → IsTranscript v (lines_after [] next) rest → IsTranscript told (lines_after bytes begun) (out ++ rest)
 leads_all told v begun next bytes out rest l t = subst (λ bs. IsTranscript told (lines_after bs begun) (out ++ rest)) (append-nil bytes) (l [] rest t)
 
 -- known bytes that grow twice

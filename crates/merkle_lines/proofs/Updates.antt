@@ -6,18 +6,18 @@ use Rattle.merkle_base.specs.Forest.{size}
 use Rattle.merkle_base.specs.Scheme.{Scheme}
 use Rattle.merkle_base.specs.declared.error.Error.{Error}
 use Rattle.merkle_base.specs.declared.error.Error.TheVariants as error
-use Rattle.merkle_batch_theory.specs.Pending.{Fault, OutOfBounds, Pruned, Pending, leaf_total, update_fault}
+use Rattle.merkle_batch_theory.specs.Unmerkleized.{Fault, OutOfBounds, Pruned, UnmerkleizedModel, leaf_total, update_fault}
 use Rattle.merkle_batch_theory.specs.Refusals.{fault_error}
 use Rattle.merkle_batch_theory.proofs.PendingUpdates.{out_of_bounds, pruned_fault}
 use Rattle.merkle_commands.specs.declared.command.Request.TheVariants.{Update}
 use Rattle.merkle_lines.specs.Answers.{committed_list, error_line, IsAnswered}
 use Rattle.merkle_lines.specs.ErrorNames.{error_name}
-use Rattle.merkle_lines.specs.Given.{Given, changes, without_changes}
+use Rattle.merkle_lines.specs.StructureState.{StructureState, changes, without_changes}
 use Rattle.merkle_lines.specs.Held.{Makes}
 use Rattle.merkle_lines.proofs.Making.{made_total}
 use Rattle.merkle_lines.proofs.Replies.{update_out, update_pruned, wanting}
 
-module _ {D : Type 0} (s : Scheme D) (size_of : ℕ) (Spells : List ℕ → Type 0) (g : Given) (b : Pending D) (m : Makes s.hashing s.rule (committed_list s g) b (changes g)) (location : ℕ) where
+module _ {D : Type 0} (s : Scheme D) (size_of : ℕ) (Spells : List ℕ → Type 0) (g : StructureState) (b : UnmerkleizedModel D) (m : Makes s.hashing s.rule (committed_list s g) b (changes g)) (location : ℕ) where
   made_boundary : b.parent.boundary ≡ (changes g).boundary
   made_boundary = ap (λ p. p.boundary) m.forked ∙ m.boundary
 

@@ -22,7 +22,7 @@ use Rattle.merkle_root_theory.specs.Range.{range_digests}
 use Rattle.merkle_root_theory.specs.Reads.{reading_order}
 use Rattle.merkle_root_theory.specs.Reconstruction.{reconstructed}
 use Rattle.merkle_lines.specs.ErrorNames.{decode_error_name}
-use Rattle.merkle_lines.specs.Given.{Given, all_committed, at_updated, changes, count, pruned_to, with_changes, with_element, with_update, without_changes}
+use Rattle.merkle_lines.specs.StructureState.{StructureState, all_committed, at_updated, changes, count, pruned_to, with_changes, with_element, with_update, without_changes}
 
 -- the bytes that a word of digits spells; "-" spells none
 abbrev pub word_bytes : List ℕ → List ℕ
@@ -33,18 +33,18 @@ abbrev pub error_line : List ℕ → List ℕ
 error_line name = codes "error " ++ name
 
 -- the leaf digests of the committed elements
-abbrev pub committed_list : {D : Type 0} → Scheme D → Given → List D
+abbrev pub committed_list : {D : Type 0} → Scheme D → StructureState → List D
 committed_list s g = leaf_digests s.hashing s.rule 0 g.committed
 
 -- what adding an element leaves, and the line that answers it
-abbrev pub added : {D : Type 0} → Scheme D → Given → List ℕ → Given × List ℕ
+abbrev pub added : {D : Type 0} → Scheme D → StructureState → List ℕ → StructureState × List ℕ
 added s g element =
     let c = changes g in
     cond (nat_lt (length c.elements) s.max_leaves) (with_changes g (with_element c element), codes "ok " ++ decimal (length c.elements))
     (without_changes g, error_line (codes "LocationOverflow"))
 
 -- what updating an element leaves, and the line that answers it
-abbrev pub updated : Given → ℕ → List ℕ → Given × List ℕ
+abbrev pub updated : StructureState → ℕ → List ℕ → StructureState × List ℕ
 updated g location element =
     let c = changes g in
     cond (nat_le (length c.elements) location) (without_changes g, error_line (codes "LeafOutOfBounds"))
@@ -52,48 +52,48 @@ updated g location element =
     (with_changes g (with_update (count g) c location element), codes "ok"))
 
 -- what pruning leaves, and the line that answers it
-abbrev pub pruned : Given → ℕ → Given × List ℕ
+abbrev pub pruned : StructureState → ℕ → StructureState × List ℕ
 pruned g location =
     let p = pruned_to g location in
     cond (nat_lt (count g) location) (g, error_line (codes "LeafOutOfBounds")) (p, codes "ok " ++ decimal p.boundary ++ codes " " ++ decimal (count g))
 
 -- the bytes of a root
-abbrev pub root_bytes : {D : Type 0} → Scheme D → Given → ℕ → List ℕ
+abbrev pub root_bytes : {D : Type 0} → Scheme D → StructureState → ℕ → List ℕ
 root_bytes s g inactive = s.hashing.bytes (list_root s (committed_list s g) inactive)
 
 -- the line that answers a root
-abbrev pub root_line : {D : Type 0} → Scheme D → Given → ℕ → List ℕ
+abbrev pub root_line : {D : Type 0} → Scheme D → StructureState → ℕ → List ℕ
 root_line s g inactive =
     cond (nat_le inactive (length (peaks_of s.rule (count g)))) (encode_lower (root_bytes s g inactive))
     (error_line (codes "InvalidInactivePeaks"))
 
 -- the changes need the node t, which was pruned
-abbrev pub IsLost : (List ℕ → List ℕ) → Given → Tree → Type 0
+abbrev pub IsLost : (List ℕ → List ℕ) → StructureState → Tree → Type 0
 IsLost rule g t =
     let c = changes g in
     IsNeeded rule (at_updated rule c.updated) (count g) (length c.elements) t × (is_kept rule g.boundary (position t) ≡ false)
 
 -- what committing leaves, and the line that answers it: it is refused where a node is lost that it needs
-abbrev pub IsCommitted : (List ℕ → List ℕ) → Given → Given → List ℕ → Type 0
+abbrev pub IsCommitted : (List ℕ → List ℕ) → StructureState → StructureState → List ℕ → Type 0
 IsCommitted rule g u text =
     let n = length (changes g).elements in
     (((t : Tree) → ¬ (IsLost rule g t)) × (u ≡ all_committed g) × (text ≡ codes "ok " ++ decimal n ++ codes " " ++ decimal (size rule n)))
     ⊎ ((t : Tree) × IsLost rule g t × (u ≡ without_changes g) × (text ≡ error_line (codes "MissingNode")))
 
 -- the committed list's node at a position, where it isn't pruned
-abbrev pub kept_node : {D : Type 0} → Scheme D → Given → ℕ → Option D
+abbrev pub kept_node : {D : Type 0} → Scheme D → StructureState → ℕ → Option D
 kept_node s g p = cond (is_kept s.rule g.boundary p) (slice_get (node_digests s.hashing s.rule (committed_list s g)) p) None
 
 -- a node that a proof of the leaves from a on, before b, reads was pruned
-abbrev pub IsPruned : {D : Type 0} → Scheme D → Given → (a b inactive : ℕ) → Type 0
+abbrev pub IsPruned : {D : Type 0} → Scheme D → StructureState → (a b inactive : ℕ) → Type 0
 IsPruned s g a b inactive = (p : ℕ) × IsFirstMissing (λ q node. node ≡ kept_node s g q) (map position (reading_order s.bagging inactive s.rule (count g) a b)) p
 
 -- the bytes that spell the honest proof of the leaves from a on, before b
-abbrev pub proof_bytes : {D : Type 0} → Scheme D → Given → (a b inactive : ℕ) → List ℕ
+abbrev pub proof_bytes : {D : Type 0} → Scheme D → StructureState → (a b inactive : ℕ) → List ℕ
 proof_bytes s g a b inactive = parts_spelling s.hashing.bytes (count g) inactive (range_digests s (committed_list s g) inactive a b)
 
 -- the line that answers a proof: the first refusal that applies, or the proof
-abbrev pub IsProved : {D : Type 0} → Scheme D → Given → (a b inactive : ℕ) → List ℕ → Type 0
+abbrev pub IsProved : {D : Type 0} → Scheme D → StructureState → (a b inactive : ℕ) → List ℕ → Type 0
 IsProved s g a b inactive text =
     ((b ≤ a) × (text ≡ error_line (codes "Empty")))
     ⊎ ((a < b) × (count g < b) × (text ≡ error_line (codes "RangeOutOfBounds")))
@@ -134,7 +134,7 @@ IsChecked {D} s size Spells a inactive root proof elements text =
     ⊎ ((d : D) × (s.hashing.bytes d ≡ root) × IsRead s size Spells a inactive d proof elements text)
 
 -- what a request leaves, and the line that answers it; digests are read from so many bytes, of which each that spells one is a digest's
-abbrev pub IsDone : {D : Type 0} → Scheme D → (size : ℕ) → (Spells : List ℕ → Type 0) → Given → Request → Given → List ℕ → Type 0
+abbrev pub IsDone : {D : Type 0} → Scheme D → (size : ℕ) → (Spells : List ℕ → Type 0) → StructureState → Request → StructureState → List ℕ → Type 0
 IsDone s size Spells g (Add digits) u text = (u, text) ≡ added s g (word_bytes digits.now)
 IsDone s size Spells g (Update location digits) u text = (u, text) ≡ updated g location (word_bytes digits.now)
 IsDone s size Spells g Commit u text = IsCommitted s.rule g u text
@@ -145,7 +145,7 @@ IsDone s size Spells g (Check start inactive root proof elements) u text =
     (u ≡ g) × IsChecked s size Spells start inactive (word_bytes root.now) (word_bytes proof.now) (map word_bytes (optional_words elements)) text
 
 -- what is left where memory was wanting
-abbrev pub left : Given → Request → Given
+abbrev pub left : StructureState → Request → StructureState
 left g (Add digits) = without_changes g
 left g (Update location digits) = without_changes g
 left g Commit = without_changes g
@@ -155,6 +155,6 @@ left g (Prove start end inactive) = g
 left g (Check start inactive root proof elements) = g
 
 -- a request leaves u, and the text answers it
-abbrev pub IsAnswered : {D : Type 0} → Scheme D → (size : ℕ) → (Spells : List ℕ → Type 0) → Given → Request → Given → List ℕ → Type 0
+abbrev pub IsAnswered : {D : Type 0} → Scheme D → (size : ℕ) → (Spells : List ℕ → Type 0) → StructureState → Request → StructureState → List ℕ → Type 0
 IsAnswered s size Spells g request u text =
     IsDone s size Spells g request u text ⊎ ((u ≡ left g request) × (text ≡ error_line (codes "OutOfMemory")))

@@ -3,9 +3,9 @@ ghost use Rattle.std.specs.Prelude.{◌≡◌, ◌^◌, [], ◌∷◌, ◌++◌,
 ghost use Rattle.std.specs.Fmt.{decimal};
 ghost use Rattle.merkle_base.specs.Scheme.{scheme_of};
 ghost use Rattle.merkle_base.specs.declared.family.Bagging.TheVariants.{ForwardFold, BackwardFold};
-ghost use Rattle.merkle_forest_theory.specs.Mmr.{carries};
+ghost use Rattle.merkle_forest_theory.specs.Mmr.{mmr_merges};
 ghost use Rattle.merkle_lines.specs.Answers.{added, error_line, proof_bytes, pruned, root_bytes, updated};
-ghost use Rattle.merkle_lines.specs.Given.{Given, all_committed, with_changes};
+ghost use Rattle.merkle_lines.specs.StructureState.{StructureState, all_committed, with_changes};
 ghost use Rattle.merkle_lines.specs.Hashes.{xor8_hashing};
 ghost use Rattle.merkle_lines.specs.Transcript.{lines_of};
 
@@ -18,22 +18,22 @@ pub fn worked_rows()
     ensures empty_line { lines_of (10 ∷ 7 ∷ 10 ∷ []) ≡ [] ∷ (7 ∷ []) ∷ [] }
 
     // The second element is the leaf at location 1.
-    ensures adds { let g : Given = record { committed = (1 ∷ []) ∷ []; boundary = 0; pending = None } in
-        added (scheme_of xor8_hashing ForwardFold carries (2 ^ 62) 0) g (2 ∷ [])
+    ensures adds { let g : StructureState = record { committed = (1 ∷ []) ∷ []; boundary = 0; pending = None } in
+        added (scheme_of xor8_hashing ForwardFold mmr_merges (2 ^ 62) 0) g (2 ∷ [])
         ≡ (with_changes g (record { elements = (1 ∷ []) ∷ (2 ∷ []) ∷ []; updated = []; boundary = 0 }), codes "ok " ++ decimal 1) }
 
     // An element that was committed is noted as updated; one that was added since isn't, and none is there past it.
-    ensures updates { let g : Given = record { committed = (1 ∷ []) ∷ []; boundary = 0; pending = None } in
+    ensures updates { let g : StructureState = record { committed = (1 ∷ []) ∷ []; boundary = 0; pending = None } in
         updated g 0 (9 ∷ []) ≡ (with_changes g (record { elements = (9 ∷ []) ∷ []; updated = 0 ∷ []; boundary = 0 }), codes "ok") }
-    ensures updates_added { let g : Given = record {
+    ensures updates_added { let g : StructureState = record {
       committed = (1 ∷ []) ∷ [];
       boundary = 1;
       pending = Some (record { elements = (1 ∷ []) ∷ (2 ∷ []) ∷ []; updated = []; boundary = 1 });
     } in
         updated g 1 (9 ∷ []) ≡ (with_changes g (record { elements = (1 ∷ []) ∷ (9 ∷ []) ∷ []; updated = []; boundary = 1 }), codes "ok") }
-    ensures updates_past { let g : Given = record { committed = (1 ∷ []) ∷ []; boundary = 0; pending = None } in
+    ensures updates_past { let g : StructureState = record { committed = (1 ∷ []) ∷ []; boundary = 0; pending = None } in
         updated g 1 (9 ∷ []) ≡ (g, error_line (codes "LeafOutOfBounds")) }
-    ensures updates_pruned { let g : Given = record { committed = (1 ∷ []) ∷ []; boundary = 1; pending = None } in
+    ensures updates_pruned { let g : StructureState = record { committed = (1 ∷ []) ∷ []; boundary = 1; pending = None } in
         updated g 0 (9 ∷ []) ≡ (g, error_line (codes "ElementPruned")) }
 
     // Committed are the elements with the changes; the boundary stays.
@@ -45,16 +45,16 @@ pub fn worked_rows()
         ≡ record { committed = (1 ∷ []) ∷ (2 ∷ []) ∷ []; boundary = 1; pending = None } }
 
     // Pruning tells the bounds, and keeps those at which it was before.
-    ensures prunes { let g : Given = record { committed = (1 ∷ []) ∷ (2 ∷ []) ∷ []; boundary = 1; pending = None } in
+    ensures prunes { let g : StructureState = record { committed = (1 ∷ []) ∷ (2 ∷ []) ∷ []; boundary = 1; pending = None } in
         pruned g 2 ≡ (record { committed = (1 ∷ []) ∷ (2 ∷ []) ∷ []; boundary = 2; pending = None }, codes "ok " ++ decimal 2 ++ codes " " ++ decimal 2) }
-    ensures prunes_back { let g : Given = record { committed = (1 ∷ []) ∷ (2 ∷ []) ∷ []; boundary = 1; pending = None } in
+    ensures prunes_back { let g : StructureState = record { committed = (1 ∷ []) ∷ (2 ∷ []) ∷ []; boundary = 1; pending = None } in
         pruned g 0 ≡ (g, codes "ok " ++ decimal 1 ++ codes " " ++ decimal 2) }
 
     // The bytes of the roots of the elements 1, 2 and 4, and of the proof of the first of them.
-    ensures root_forward { let g : Given = record { committed = (1 ∷ []) ∷ (2 ∷ []) ∷ (4 ∷ []) ∷ []; boundary = 0; pending = None } in
-        root_bytes (scheme_of xor8_hashing ForwardFold carries (2 ^ 62) 0) g 0 ≡ 4 ∷ [] }
-    ensures root_backward { let g : Given = record { committed = (1 ∷ []) ∷ (2 ∷ []) ∷ (4 ∷ []) ∷ []; boundary = 0; pending = None } in
-        root_bytes (scheme_of xor8_hashing BackwardFold carries (2 ^ 62) 0) g 0 ≡ 5 ∷ [] }
-    ensures proof { let g : Given = record { committed = (1 ∷ []) ∷ (2 ∷ []) ∷ (4 ∷ []) ∷ []; boundary = 0; pending = None } in
-        proof_bytes (scheme_of xor8_hashing ForwardFold carries (2 ^ 62) 0) g 0 1 0 ≡ 3 ∷ 0 ∷ 2 ∷ 7 ∷ 3 ∷ [] }
+    ensures root_forward { let g : StructureState = record { committed = (1 ∷ []) ∷ (2 ∷ []) ∷ (4 ∷ []) ∷ []; boundary = 0; pending = None } in
+        root_bytes (scheme_of xor8_hashing ForwardFold mmr_merges (2 ^ 62) 0) g 0 ≡ 4 ∷ [] }
+    ensures root_backward { let g : StructureState = record { committed = (1 ∷ []) ∷ (2 ∷ []) ∷ (4 ∷ []) ∷ []; boundary = 0; pending = None } in
+        root_bytes (scheme_of xor8_hashing BackwardFold mmr_merges (2 ^ 62) 0) g 0 ≡ 5 ∷ [] }
+    ensures proof { let g : StructureState = record { committed = (1 ∷ []) ∷ (2 ∷ []) ∷ (4 ∷ []) ∷ []; boundary = 0; pending = None } in
+        proof_bytes (scheme_of xor8_hashing ForwardFold mmr_merges (2 ^ 62) 0) g 0 1 0 ≡ 3 ∷ 0 ∷ 2 ∷ 7 ∷ 3 ∷ [] }
 {}

@@ -2,8 +2,8 @@
 ghost use Rattle.std.specs.Prelude.{◌≡◌, ℕ, [], ◌∷◌, ◌++◌, List, Option, None, OnOk};
 ghost use Rattle.std.specs.Io.KnownBytes.{Appends, Consumes, IsAtEnd, Keeps};
 ghost use Rattle.merkle_lines.specs.AnswerText.{answer_text};
-ghost use Rattle.merkle_lines.specs.Tells.{Tells};
-ghost use Rattle.merkle_lines.specs.Transcript.{Told, IsLineAnswered, IsTranscript, Leads, lines_after, lines_of};
+ghost use Rattle.merkle_lines.specs.HoldsState.{HoldsState};
+ghost use Rattle.merkle_lines.specs.Transcript.{SessionState, IsLineAnswered, IsTranscript, ContinuesTo, lines_after, lines_of};
 
 use crate::answer::Answer;
 use crate::session::Session;
@@ -39,7 +39,7 @@ impl Answerer {
     // The answer to the line.
     fn answer_line(&mut self) -> Answer
         ensures line { self.new.line.items ≡ self.old.line.items }
-        ensures answered { (told : Option Told) → Tells self.old.session told → (v : Option Told) × Tells self.new.session v
+        ensures answered { (told : Option SessionState) → HoldsState self.old.session told → (v : Option SessionState) × HoldsState self.new.session v
             × IsLineAnswered told self.old.line.items v (answer_text result) }
     {
         let Ok(line) = from_utf8(self.line.as_slice()) else {
@@ -54,7 +54,7 @@ impl Answerer {
     // Answers the line, and begins the next one.
     fn end_line<W: io::Write>(&mut self, writer: &mut W) -> Result<(), RunError>
         ensures next { OnOk result (self.new.line.items ≡ []) }
-        ensures answered { OnOk result ((told : Option Told) → Tells self.old.session told → (v : Option Told) × (text : List ℕ) × Tells self.new.session v
+        ensures answered { OnOk result ((told : Option SessionState) → HoldsState self.old.session told → (v : Option SessionState) × (text : List ℕ) × HoldsState self.new.session v
             × IsLineAnswered told self.old.line.items v text × Appends (W.contents writer.old) (W.contents writer.new) (text ++ 10 ∷ [])) }
     {
         let answer = self.answer_line();
@@ -64,8 +64,8 @@ impl Answerer {
 
     // Takes in the next byte, and answers the line that it ends.
     fn take_byte<W: io::Write>(&mut self, byte: u8, writer: &mut W) -> Result<(), RunError>
-        ensures { OnOk result ((told : Option Told) → Tells self.old.session told → (v : Option Told) × (output : List ℕ) × Tells self.new.session v
-            × Appends (W.contents writer.old) (W.contents writer.new) output × Leads told self.old.line.items (byte ∷ []) output v self.new.line.items) }
+        ensures { OnOk result ((told : Option SessionState) → HoldsState self.old.session told → (v : Option SessionState) × (output : List ℕ) × HoldsState self.new.session v
+            × Appends (W.contents writer.old) (W.contents writer.new) output × ContinuesTo told self.old.line.items (byte ∷ []) output v self.new.line.items) }
     {
         if byte == b'\n' {
             return self.end_line(writer);
@@ -75,8 +75,8 @@ impl Answerer {
 
     // Takes in the next bytes, and answers each line that they end.
     fn take<W: io::Write>(&mut self, bytes: &[u8], writer: &mut W) -> Result<(), RunError>
-        ensures { OnOk result ((told : Option Told) → Tells self.old.session told → (v : Option Told) × (output : List ℕ) × Tells self.new.session v
-            × Appends (W.contents writer.old) (W.contents writer.new) output × Leads told self.old.line.items bytes.now output v self.new.line.items) }
+        ensures { OnOk result ((told : Option SessionState) → HoldsState self.old.session told → (v : Option SessionState) × (output : List ℕ) × HoldsState self.new.session v
+            × Appends (W.contents writer.old) (W.contents writer.new) output × ContinuesTo told self.old.line.items bytes.now output v self.new.line.items) }
     {
         for byte in bytes {
             self.take_byte(*byte, writer)?;
@@ -86,7 +86,7 @@ impl Answerer {
 
     // Answers a last line that nothing ended.
     fn finish<W: io::Write>(&mut self, writer: &mut W) -> Result<(), RunError>
-        ensures { OnOk result ((told : Option Told) → Tells self.old.session told → (output : List ℕ)
+        ensures { OnOk result ((told : Option SessionState) → HoldsState self.old.session told → (output : List ℕ)
             × Appends (W.contents writer.old) (W.contents writer.new) output × IsTranscript told (lines_after [] self.old.line.items) output) }
     {
         if self.line.is_empty() {
@@ -102,7 +102,7 @@ impl Answerer {
         reader: &mut R,
         writer: &mut W,
     ) -> Result<(), RunError>
-        requires absent { Tells self.old.session None }
+        requires absent { HoldsState self.old.session None }
         requires begun { self.old.line.items ≡ [] }
         ensures transcript { OnOk result ((input output : List ℕ) × Consumes (R.remaining reader.old) (R.remaining reader.new) input
             × IsAtEnd (R.remaining reader.new) × Appends (W.contents writer.old) (W.contents writer.new) output × IsTranscript None (lines_of input) output) }

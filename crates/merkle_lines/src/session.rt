@@ -2,9 +2,9 @@
 ghost use Rattle.std.specs.Prelude.{◌≡◌, ℕ, List, Option, Some, codes};
 ghost use Rattle.merkle_commands.specs.Commands.{IsCommand};
 ghost use Rattle.merkle_lines.specs.AnswerText.{answer_text};
-ghost use Rattle.merkle_lines.specs.Given.{nothing};
-ghost use Rattle.merkle_lines.specs.Tells.{Tells};
-ghost use Rattle.merkle_lines.specs.Transcript.{Told, IsCommandAnswered};
+ghost use Rattle.merkle_lines.specs.StructureState.{nothing};
+ghost use Rattle.merkle_lines.specs.HoldsState.{HoldsState};
+ghost use Rattle.merkle_lines.specs.Transcript.{SessionState, IsCommandAnswered};
 
 use crate::answer::Answer;
 use crate::structure::Structure;
@@ -27,7 +27,7 @@ pub enum Session {
 
 impl Session {
     fn open(alloc: Global, family: FamilyName, bagging: Bagging, hash: HashName) -> Session
-        ensures { Tells result (Some (record { family = family; bagging = bagging; hash = hash; given = nothing })) }
+        ensures { HoldsState result (Some (record { family = family; bagging = bagging; hash = hash; given = nothing })) }
     {
         match (family, hash) {
             (FamilyName::Mmr, HashName::Sha256) => {
@@ -45,7 +45,7 @@ impl Session {
     ///
     /// A refused `add` or `commit` leaves no pending batch, and the committed structure as it was.
     pub fn answer(&mut self, alloc: Global, command: Command<'_>) -> Answer
-        ensures { IsCommand command.entry → (told : Option Told) → Tells self.old told → (u : Option Told) × Tells self.new u
+        ensures { IsCommand command.entry → (told : Option SessionState) → HoldsState self.old told → (u : Option SessionState) × HoldsState self.new u
             × IsCommandAnswered told command.entry u (answer_text result) }
     {
         match command {

@@ -6,7 +6,7 @@ ghost use Rattle.merkle_commands.specs.Words.{IsHexWord};
 ghost use Rattle.merkle_hasher.specs.Standard.{standard};
 ghost use Rattle.merkle_lines.specs.AnswerText.{answer_text};
 ghost use Rattle.merkle_lines.specs.Answers.{IsAnswered};
-ghost use Rattle.merkle_lines.specs.Given.{Given, changes, nothing};
+ghost use Rattle.merkle_lines.specs.StructureState.{StructureState, changes, nothing};
 ghost use Rattle.merkle_lines.specs.Held.{IsHeld, Makes};
 ghost use Rattle.merkle_range.specs.Input.{leaf_digests};
 
@@ -50,7 +50,7 @@ impl<F: Family, H: PlainHasher> Structure<F, H> {
         ensures kind { self.new.hasher ≡ self.old.hasher }
         ensures kept { self.new.committed ≡ self.old.committed }
         ensures gone { self.new.pending ≡ None }
-        ensures batch { let h = standard H.digest_of H.Digest.bytes H.Digest.eq H.Digest.EMPTY in IfOk result (λ b. (g : Given)
+        ensures batch { let h = standard H.digest_of H.Digest.bytes H.Digest.eq H.Digest.EMPTY in IfOk result (λ b. (g : StructureState)
             → IsHeld h F.rule F.MAX_LEAVES self.old.committed self.old.pending g → Makes h F.rule (leaf_digests h F.rule 0 g.committed) b (changes g)) }
         ensures refused { IsOkUnless result Error.OutOfMemory }
     {
@@ -62,8 +62,8 @@ impl<F: Family, H: PlainHasher> Structure<F, H> {
 
     fn add(&mut self, alloc: Global, digits: &str) -> Answer
         ensures kind { self.new.hasher ≡ self.old.hasher }
-        ensures answered { let h = standard H.digest_of H.Digest.bytes H.Digest.eq H.Digest.EMPTY in (g : Given) → IsHexWord digits.entry.now
-            → IsHeld h F.rule F.MAX_LEAVES self.old.committed self.old.pending g → (u : Given)
+        ensures answered { let h = standard H.digest_of H.Digest.bytes H.Digest.eq H.Digest.EMPTY in (g : StructureState) → IsHexWord digits.entry.now
+            → IsHeld h F.rule F.MAX_LEAVES self.old.committed self.old.pending g → (u : StructureState)
             × IsHeld h F.rule F.MAX_LEAVES self.new.committed self.new.pending u
             × IsAnswered (scheme_of h self.old.hasher F.rule F.MAX_LEAVES F.DOMAIN) H.Digest.SIZE H.Digest.Spells
             g (Request.Add digits.entry) u (answer_text result) }
@@ -77,8 +77,8 @@ impl<F: Family, H: PlainHasher> Structure<F, H> {
 
     fn update(&mut self, alloc: Global, location: u64, digits: &str) -> Answer
         ensures kind { self.new.hasher ≡ self.old.hasher }
-        ensures answered { let h = standard H.digest_of H.Digest.bytes H.Digest.eq H.Digest.EMPTY in (g : Given) → IsHexWord digits.entry.now
-            → IsHeld h F.rule F.MAX_LEAVES self.old.committed self.old.pending g → (u : Given)
+        ensures answered { let h = standard H.digest_of H.Digest.bytes H.Digest.eq H.Digest.EMPTY in (g : StructureState) → IsHexWord digits.entry.now
+            → IsHeld h F.rule F.MAX_LEAVES self.old.committed self.old.pending g → (u : StructureState)
             × IsHeld h F.rule F.MAX_LEAVES self.new.committed self.new.pending u
             × IsAnswered (scheme_of h self.old.hasher F.rule F.MAX_LEAVES F.DOMAIN) H.Digest.SIZE H.Digest.Spells
             g (Request.Update location digits.entry) u (answer_text result) }
@@ -92,8 +92,8 @@ impl<F: Family, H: PlainHasher> Structure<F, H> {
 
     fn commit(&mut self) -> Answer
         ensures kind { self.new.hasher ≡ self.old.hasher }
-        ensures answered { let h = standard H.digest_of H.Digest.bytes H.Digest.eq H.Digest.EMPTY in (g : Given)
-            → IsHeld h F.rule F.MAX_LEAVES self.old.committed self.old.pending g → (u : Given)
+        ensures answered { let h = standard H.digest_of H.Digest.bytes H.Digest.eq H.Digest.EMPTY in (g : StructureState)
+            → IsHeld h F.rule F.MAX_LEAVES self.old.committed self.old.pending g → (u : StructureState)
             × IsHeld h F.rule F.MAX_LEAVES self.new.committed self.new.pending u
             × IsAnswered (scheme_of h self.old.hasher F.rule F.MAX_LEAVES F.DOMAIN) H.Digest.SIZE H.Digest.Spells
             g Request.Commit u (answer_text result) }
@@ -109,8 +109,8 @@ impl<F: Family, H: PlainHasher> Structure<F, H> {
 
     fn prune(&mut self, location: u64) -> Answer
         ensures kind { self.new.hasher ≡ self.old.hasher }
-        ensures answered { let h = standard H.digest_of H.Digest.bytes H.Digest.eq H.Digest.EMPTY in (g : Given)
-            → IsHeld h F.rule F.MAX_LEAVES self.old.committed self.old.pending g → (u : Given)
+        ensures answered { let h = standard H.digest_of H.Digest.bytes H.Digest.eq H.Digest.EMPTY in (g : StructureState)
+            → IsHeld h F.rule F.MAX_LEAVES self.old.committed self.old.pending g → (u : StructureState)
             × IsHeld h F.rule F.MAX_LEAVES self.new.committed self.new.pending u
             × IsAnswered (scheme_of h self.old.hasher F.rule F.MAX_LEAVES F.DOMAIN) H.Digest.SIZE H.Digest.Spells
             g (Request.Prune location) u (answer_text result) }
@@ -123,7 +123,7 @@ impl<F: Family, H: PlainHasher> Structure<F, H> {
     }
 
     fn root(&self, alloc: Global, inactive: usize) -> Answer
-        ensures { let h = standard H.digest_of H.Digest.bytes H.Digest.eq H.Digest.EMPTY in (g : Given)
+        ensures { let h = standard H.digest_of H.Digest.bytes H.Digest.eq H.Digest.EMPTY in (g : StructureState)
             → IsHeld h F.rule F.MAX_LEAVES self.now.committed self.now.pending g
             → IsAnswered (scheme_of h self.now.hasher F.rule F.MAX_LEAVES F.DOMAIN) H.Digest.SIZE H.Digest.Spells
             g (Request.Root inactive) g (answer_text result) }
@@ -133,7 +133,7 @@ impl<F: Family, H: PlainHasher> Structure<F, H> {
     }
 
     fn prove(&self, alloc: Global, start: u64, end: u64, inactive: usize) -> Answer
-        ensures { let h = standard H.digest_of H.Digest.bytes H.Digest.eq H.Digest.EMPTY in (g : Given)
+        ensures { let h = standard H.digest_of H.Digest.bytes H.Digest.eq H.Digest.EMPTY in (g : StructureState)
             → IsHeld h F.rule F.MAX_LEAVES self.now.committed self.now.pending g
             → IsAnswered (scheme_of h self.now.hasher F.rule F.MAX_LEAVES F.DOMAIN) H.Digest.SIZE H.Digest.Spells
             g (Request.Prove start end inactive) g (answer_text result) }
@@ -148,8 +148,8 @@ impl<F: Family, H: PlainHasher> Structure<F, H> {
     // Does what the line asks, and answers it.
     pub(crate) fn answer(&mut self, alloc: Global, request: Request<'_>) -> Answer
         ensures kind { self.new.hasher ≡ self.old.hasher }
-        ensures answered { let h = standard H.digest_of H.Digest.bytes H.Digest.eq H.Digest.EMPTY in (g : Given) → IsCommand (Command.Ask request.entry)
-            → IsHeld h F.rule F.MAX_LEAVES self.old.committed self.old.pending g → (u : Given)
+        ensures answered { let h = standard H.digest_of H.Digest.bytes H.Digest.eq H.Digest.EMPTY in (g : StructureState) → IsCommand (Command.Ask request.entry)
+            → IsHeld h F.rule F.MAX_LEAVES self.old.committed self.old.pending g → (u : StructureState)
             × IsHeld h F.rule F.MAX_LEAVES self.new.committed self.new.pending u
             × IsAnswered (scheme_of h self.old.hasher F.rule F.MAX_LEAVES F.DOMAIN) H.Digest.SIZE H.Digest.Spells
             g request.entry u (answer_text result) }

@@ -5,7 +5,7 @@ use Rattle.std.specs.Option.{option_map_or}
 use Rattle.std.proofs.Math.Seq.{drop-cons}
 use Rattle.std.proofs.lemmas.List.{reverse-append, take-append-drop}
 use Rattle.std.proofs.lemmas.List.Sums.{fold_push}
-use Rattle.merkle_base.specs.Root.{bag, folded}
+use Rattle.merkle_base.specs.Root.{right_fold, folded}
 use Rattle.merkle_base.specs.declared.family.Bagging.TheVariants.{ForwardFold}
 use Rattle.merkle_proof.specs.RangePlans.{AreAnswered, IsFirstMissing}
 use Rattle.merkle_root_theory.proofs.PeakValues.{zip_push}
@@ -76,13 +76,13 @@ module _ {D : Type 0} (f : D → D → D) where
   folded_push (x ∷ xs) d = ap Some (fold_push f x xs d)
 
   -- there is a bag where there is something to fold
-  pub bag_some : (ds : List D) (d : D) → bag f ds ≡ Some d → 0 < length ds
+  pub bag_some : (ds : List D) (d : D) → right_fold f ds ≡ Some d → 0 < length ds
   bag_some [] d e = absurd (cc)
   bag_some (x ∷ xs) d e = omega arith
 
-  pub bag_none : (ds : List D) → bag f ds ≡ None → length ds ≡ 0
+  pub bag_none : (ds : List D) → right_fold f ds ≡ None → length ds ≡ 0
   bag_none [] e = refl
-  bag_none (x ∷ xs) e = some (bag f xs) e
+  bag_none (x ∷ xs) e = some (right_fold f xs) e
     where
       some : (o : Option D) → option_map_or (λ b. Some (f x b)) o (Some x) ≡ None → suc (length xs) ≡ 0
       some None e = absurd (cc)

@@ -7,7 +7,7 @@ use Rattle.merkle_base.specs.Forest.{size}
 use Rattle.merkle_base.specs.Hashing.{Hashing}
 use Rattle.merkle_base.specs.Tree.{Tree, leaf, join, position, first_leaf, end_leaf, IsBuilt}
 use Rattle.merkle_base.proofs.Cases.{by_test}
-use Rattle.merkle_root_theory.specs.Expression.{Expression, Node, given, hashed, Holds}
+use Rattle.merkle_root_theory.specs.Expression.{Expression, Node, supplied, computed, Holds}
 use Rattle.merkle_root_theory.specs.Plan.{tree_meets}
 use Rattle.merkle_claim_theory.specs.Ascending.{AscendsFrom}
 use Rattle.merkle_claim_theory.specs.MultiClaim.{also, or_empty, multi_tree}
@@ -97,19 +97,19 @@ module _ {D : Type 0} (h : Hashing D) (a : ℕ → Option D) where
   meets_alike ns c d (join p l r) b f = ap₂ (λ x y. x || y) (meets_alike ns c d l b.4 f) (meets_alike ns c d r b.5 (λ i u. f i (omega (arith, u, b.3))))
 
   computed_alike : (ns : List Tree) (c d : ℕ → Bool) (X Y : ℕ → D) (t : Tree) → IsBuilt ns t → ((i : ℕ) → first_leaf t ≤ i → c i ≡ d i) → ((i : ℕ) → first_leaf t ≤ i → X i ≡ Y i) → multi_tree h a c X t ≡ multi_tree h a d Y t
-  computed_alike ns c d X Y (leaf p i) b f g = ap₂ (λ z x. cond z (also (a p) (given x)) (given (or_empty h (a p)))) (f i (omega arith)) (g i (omega arith))
+  computed_alike ns c d X Y (leaf p i) b f g = ap₂ (λ z x. cond z (also (a p) (supplied x)) (supplied (or_empty h (a p)))) (f i (omega arith)) (g i (omega arith))
   computed_alike ns c d X Y (join p l r) b f g =
-      ap₂ (λ z e. cond z (also (a p) e) (given (or_empty h (a p)))) (meets_alike ns c d (join p l r) b f)
-      (ap₂ (hashed (Node p)) (computed_alike ns c d X Y l b.4 f g) (computed_alike ns c d X Y r b.5 (λ i u. f i (omega (arith, u, b.3))) (λ i u. g i (omega (arith, u, b.3)))))
+      ap₂ (λ z e. cond z (also (a p) e) (supplied (or_empty h (a p)))) (meets_alike ns c d (join p l r) b f)
+      (ap₂ (computed (Node p)) (computed_alike ns c d X Y l b.4 f g) (computed_alike ns c d X Y r b.5 (λ i u. f i (omega (arith, u, b.3))) (λ i u. g i (omega (arith, u, b.3)))))
 
   pub checked_from : (ns : List Tree) (e : ℕ) (es : List (ℕ × D)) (t : Tree) → IsBuilt ns t → e ≤ first_leaf t → node_checked h a (elements_from e es) t ≡ node_checked h a es t
   checked_from ns e es t b l = computed_alike ns (is_located (elements_from e es)) (is_located es) (leaf_located h (elements_from e es)) (leaf_located h es) t b
       (λ i u. located_from e es i (omega (arith, l, u))) (λ i u. leaf_from h e es i (omega (arith, l, u)))
 
   -- a node without elements is given
-  pub given_unmet : (c : ℕ → Bool) (X : ℕ → D) (t : Tree) → tree_meets c t ≡ false → multi_tree h a c X t ≡ given (or_empty h (a (position t)))
-  given_unmet c X (leaf p i) e = ap (λ z. cond z (also (a p) (given (X i))) (given (or_empty h (a p)))) e
-  given_unmet c X (join p l r) e = ap (λ z. cond z (also (a p) (hashed (Node p) (multi_tree h a c X l) (multi_tree h a c X r))) (given (or_empty h (a p)))) e
+  pub given_unmet : (c : ℕ → Bool) (X : ℕ → D) (t : Tree) → tree_meets c t ≡ false → multi_tree h a c X t ≡ supplied (or_empty h (a (position t)))
+  given_unmet c X (leaf p i) e = ap (λ z. cond z (also (a p) (supplied (X i))) (supplied (or_empty h (a p)))) e
+  given_unmet c X (join p l r) e = ap (λ z. cond z (also (a p) (computed (Node p) (multi_tree h a c X l) (multi_tree h a c X r))) (supplied (or_empty h (a p)))) e
 
   pub also_holds : (o : Option D) (e : Expression D) → Holds h (also o e) → Holds h e
   also_holds None e w = w

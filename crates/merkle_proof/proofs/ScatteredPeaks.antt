@@ -5,7 +5,7 @@ use Rattle.merkle_base.specs.Hashing.{Hashing}
 use Rattle.merkle_base.specs.Tree.{Tree, end_leaf}
 use Rattle.merkle_base.specs.Forest.{forest}
 use Rattle.merkle_base.proofs.Nodes.{node_built, all_append}
-use Rattle.merkle_hasher.specs.Subtrees.{Stands}
+use Rattle.merkle_hasher.specs.Subtrees.{IsNodeOf}
 use Rattle.merkle_root_theory.specs.Expression.{value, Holds}
 use Rattle.merkle_claim_theory.specs.Ascending.{AscendsFrom}
 use Rattle.merkle_proof.specs.Confirmed.{IsConfirmed, EachHolds, locations_of, elements_from, node_checked, nodes_checked}
@@ -23,7 +23,7 @@ module _ {D : Type 0} (h : Hashing D) (a : ℕ → Option D) (es : List (ℕ × 
     pub left_ascend : (left : List (ℕ × D)) (s : ℕ) → left ≡ elements_from s es → AscendsFrom s (locations_of left)
     left_ascend left s e = subst (λ z. AscendsFrom s (locations_of z)) (sym e) (from_ascends 0 s es u (omega arith))
 
-  module _ (rule : List ℕ → List ℕ) (m p tall s : ℕ) (t : Tree) (w : Stands rule m p tall s t) (left : List (ℕ × D)) (e : left ≡ elements_from s es) where
+  module _ (rule : List ℕ → List ℕ) (m p tall s : ℕ) (t : Tree) (w : IsNodeOf rule m p tall s t) (left : List (ℕ × D)) (e : left ≡ elements_from s es) where
     peak_alike : node_checked h a left t ≡ node_checked h a es t
     peak_alike = ap (λ z. node_checked h a z t) e ∙ checked_from h a (forest rule m).nodes s es t (node_built rule m p t w.at) (omega (arith, w.first_is))
 

@@ -7,7 +7,7 @@ use Rattle.std.proofs.lemmas.List.{map-append}
 use Rattle.std.proofs.lemmas.List.Concat.{flat_map-append}
 use Rattle.merkle_base.specs.Tree.{Tree, leaf, join, position, first_leaf, end_leaf}
 use Rattle.merkle_base.proofs.Growth.{forest_grown}
-use Rattle.merkle_hasher.specs.Subtrees.{Stands}
+use Rattle.merkle_hasher.specs.Subtrees.{IsNodeOf}
 use Rattle.merkle_claim_theory.specs.Ascending.{AscendsFrom}
 use Rattle.merkle_proof.specs.MultiPositions.{those_before, those_from, under, are_some, node_if, read_below, read_in}
 
@@ -68,15 +68,15 @@ four_more : (o a f z e : List ℕ) (ts us vs ws : List Tree) → a ≡ o ++ map 
 four_more o a f z e ts us vs ws x y u v = two_more o z e (ts ++ us ++ vs) ws (two_more o f z (ts ++ us) vs (two_more o a f ts us x y) u) v
 
 module _ (rule : List ℕ → List ℕ) (m p s tall : ℕ) where
-  pub nothing_below : (is : List ℕ) (t : Tree) → Stands rule m p tall s t → tall ≡ 0 → read_below is t ≡ []
+  pub nothing_below : (is : List ℕ) (t : Tree) → IsNodeOf rule m p tall s t → tall ≡ 0 → read_below is t ≡ []
   nothing_below is (leaf q i) w e = refl
   nothing_below is (join q l r) w e = absurd (omega (arith, w.height_is, e))
 
-  pub inner_below : (is : List ℕ) (t : Tree) → Stands rule m p tall s t → tall ≢ 0 → (first second : List ℕ) (lp lh ls rp rh rs : ℕ) → (first ≡ those_before rs is) × (second ≡ those_from rs is)
-      → ((q : ℕ) (l r : Tree) → Stands rule m p tall s (join q l r) → Stands rule m lp lh ls l × Stands rule m rp rh rs r)
+  pub inner_below : (is : List ℕ) (t : Tree) → IsNodeOf rule m p tall s t → tall ≢ 0 → (first second : List ℕ) (lp lh ls rp rh rs : ℕ) → (first ≡ those_before rs is) × (second ≡ those_from rs is)
+      → ((q : ℕ) (l r : Tree) → IsNodeOf rule m p tall s (join q l r) → IsNodeOf rule m lp lh ls l × IsNodeOf rule m rp rh rs r)
       → (b c : Bool) → b ≡ are_some second → c ≡ are_some first → (o a f z e : List ℕ)
-      → ((t : Tree) → Stands rule m lp lh ls t → a ≡ o ++ map position (read_below first t)) → f ≡ a ++ cond b (lp ∷ []) []
-      → ((t : Tree) → Stands rule m rp rh rs t → z ≡ f ++ map position (read_below second t)) → e ≡ z ++ cond c (rp ∷ []) []
+      → ((t : Tree) → IsNodeOf rule m lp lh ls t → a ≡ o ++ map position (read_below first t)) → f ≡ a ++ cond b (lp ∷ []) []
+      → ((t : Tree) → IsNodeOf rule m rp rh rs t → z ≡ f ++ map position (read_below second t)) → e ≡ z ++ cond c (rp ∷ []) []
       → e ≡ o ++ map position (read_below is t)
   inner_below is (leaf q i) w tall_is first second lp lh ls rp rh rs parts f_children b c bs cs o a f z e x y u v = absurd (tall_is (omega (arith, w.height_is)))
   inner_below is (join q l r) w tall_is first second lp lh ls rp rh rs parts f_children b c bs cs o a f z e x y u v =
@@ -111,7 +111,7 @@ from_later a e l (i ∷ is) = both (nat_le a i) (nat_le e i) refl refl (from_lat
     both false false x y h = h
     both false true x y h = absurd (grind (arith, nat_tests, x, y, l))
 
-module _ (rule : List ℕ → List ℕ) (m p tall s : ℕ) (t : Tree) (w : Stands rule m p tall s t) (is rest : List ℕ) (e : ℕ) (end : e ≡ end_leaf t) where
+module _ (rule : List ℕ → List ℕ) (m p tall s : ℕ) (t : Tree) (w : IsNodeOf rule m p tall s t) (is rest : List ℕ) (e : ℕ) (end : e ≡ end_leaf t) where
   pub collected_more : (first second : List ℕ) → (first ≡ those_before e rest) × (second ≡ those_from e rest) → (b : Bool) → b ≡ nat_lt (length first) (length is) → (out middle new : List ℕ)
       → middle ≡ out ++ map position (read_below first t) → new ≡ middle ++ cond b (p ∷ []) [] → (done : List Tree) → Collected is out rest s done → Collected is new second e (done ++ t ∷ [])
   collected_more first second parts b bs out middle new x y done c =

@@ -7,8 +7,8 @@ use Rattle.merkle_base.specs.Forest.{forest, size}
 use Rattle.merkle_base.proofs.Births.{leaf_at}
 use Rattle.merkle_base.proofs.Growth.{forest_grown}
 use Rattle.merkle_base.proofs.Nodes.{node_built}
-use Rattle.merkle_hasher.specs.Subtrees.{Stands}
-use Rattle.merkle_root_theory.specs.Expression.{Expression, Node, given, hashed, value, Holds}
+use Rattle.merkle_hasher.specs.Subtrees.{IsNodeOf}
+use Rattle.merkle_root_theory.specs.Expression.{Expression, Node, supplied, computed, value, Holds}
 use Rattle.merkle_root_theory.specs.Plan.{tree_meets}
 use Rattle.merkle_claim_theory.specs.Ascending.{AscendsFrom}
 use Rattle.merkle_claim_theory.specs.MultiClaim.{also, or_empty}
@@ -27,14 +27,14 @@ Confirms {D} h told answer o = (e : Expression D) → Holds h e → answer ≡ v
 
 module _ (rule : List ℕ → List ℕ) (m p s tall : ℕ) {D : Type 0} (h : Hashing D) (a : ℕ → Option D) (es : List (ℕ × D)) where
   abbrev IsHere : Tree → Type 0
-  IsHere t = Stands rule m p tall s t
+  IsHere t = IsNodeOf rule m p tall s t
 
   -- no element lies under the node
   pub walk_outside : (t : Tree) → IsHere t → AscendsFrom (end_leaf t) (locations_of es) → (d : D) → d ≡ or_empty h (a p) → IsConfirmed h (node_checked h a es t) (Some d)
   walk_outside t w u d is =
       let built = node_built rule m p t w.at in
       let placed : position t ≡ p = (forest_grown rule m).placed p t w.at in
-      let out : node_checked h a es t ≡ given (or_empty h (a (position t))) = given_unmet h a (is_located es) (leaf_located h es) t (unmet_below (forest rule m).nodes (is_located es) t built (unlocated (end_leaf t) es u)) in
+      let out : node_checked h a es t ≡ supplied (or_empty h (a (position t))) = given_unmet h a (is_located es) (leaf_located h es) t (unmet_below (forest rule m).nodes (is_located es) t built (unlocated (end_leaf t) es u)) in
       subst (λ e. IsConfirmed h e (Some d)) (sym out) (tt, is ∙ ap (λ q. or_empty h (a q)) (sym placed))
 
   pub walk_none : es ≡ [] → (t : Tree) → IsHere t → (d : D) → d ≡ or_empty h (a p) → IsConfirmed h (node_checked h a es t) (Some d)
@@ -61,9 +61,9 @@ module _ (rule : List ℕ → List ℕ) (m p s tall : ℕ) {D : Type 0} (h : Has
         let placed : q ≡ p = (forest_grown rule m).placed p (leaf q i) w.at in
         let stands : q ≡ size rule i = (leaf_at rule m p q i w.at).0 in
         let there : is_located es i ≡ true = ap (is_located es) same ∙ next_located in
-        let told : node_checked h a es (leaf q i) ≡ also (a p) (given d) =
-        ap₂ (λ z y. cond z (also (a q) (given y)) (given (or_empty h (a q)))) there (ap (leaf_located h es) same ∙ next_leaf) ∙ ap (λ (n : ℕ). also (a n) (given d)) placed in
-        subst (λ e. IsConfirmed h e o) (sym told) (f (given d) tt (is ∙ ap (λ (n : ℕ). h.leaf n bytes) (sym placed ∙ stands ∙ ap (size rule) same) ∙ sym d_is))
+        let told : node_checked h a es (leaf q i) ≡ also (a p) (supplied d) =
+        ap₂ (λ z y. cond z (also (a q) (supplied y)) (supplied (or_empty h (a q)))) there (ap (leaf_located h es) same ∙ next_leaf) ∙ ap (λ (n : ℕ). also (a n) (supplied d)) placed in
+        subst (λ e. IsConfirmed h e o) (sym told) (f (supplied d) tt (is ∙ ap (λ (n : ℕ). h.leaf n bytes) (sym placed ∙ stands ∙ ap (size rule) same) ∙ sym d_is))
     walk_leaf bytes d_is (join q l r) w flat u answer o is f = absurd (omega (arith, w.height_is, flat))
 
     pub rest_leaf : (t : Tree) → IsHere t → tall ≡ 0 → x < end_leaf t → more ≡ elements_from (end_leaf t) es
@@ -74,14 +74,14 @@ module _ (rule : List ℕ → List ℕ) (m p s tall : ℕ) {D : Type 0} (h : Has
 
     -- or it lies under the node, which is an inner one
     checked_join : (q : ℕ) (l r : Tree) → IsHere (join q l r) → x < end_leaf (join q l r)
-        → node_checked h a es (join q l r) ≡ also (a p) (hashed (Node p) (node_checked h a es l) (node_checked h a (elements_from (end_leaf l) es) r))
+        → node_checked h a es (join q l r) ≡ also (a p) (computed (Node p) (node_checked h a es l) (node_checked h a (elements_from (end_leaf l) es) r))
     checked_join q l r w k =
         let built = node_built rule m p (join q l r) w.at in
         let placed : q ≡ p = (forest_grown rule m).placed p (join q l r) w.at in
         let met : tree_meets (is_located es) (join q l r) ≡ true = met_at (forest rule m).nodes (is_located es) x (join q l r) built (omega (arith, w.first_is, next_up.0)) k next_located in
-        ap (λ z. cond z (also (a q) (hashed (Node q) (node_checked h a es l) (node_checked h a es r))) (given (or_empty h (a q)))) met
-        ∙ ap (λ e. also (a q) (hashed (Node q) (node_checked h a es l) e)) (sym (checked_from h a (forest rule m).nodes (end_leaf l) es r built.5 (omega (arith, built.3))))
-        ∙ ap (λ (n : ℕ). also (a n) (hashed (Node n) (node_checked h a es l) (node_checked h a (elements_from (end_leaf l) es) r))) placed
+        ap (λ z. cond z (also (a q) (computed (Node q) (node_checked h a es l) (node_checked h a es r))) (supplied (or_empty h (a q)))) met
+        ∙ ap (λ e. also (a q) (computed (Node q) (node_checked h a es l) e)) (sym (checked_from h a (forest rule m).nodes (end_leaf l) es r built.5 (omega (arith, built.3))))
+        ∙ ap (λ (n : ℕ). also (a n) (computed (Node n) (node_checked h a es l) (node_checked h a (elements_from (end_leaf l) es) r))) placed
 
     pub walk_inner : (t : Tree) → IsHere t → tall ≢ 0 → x < end_leaf t → (y z : D)
         → ((q : ℕ) (l r : Tree) → IsHere (join q l r) → IsConfirmed h (node_checked h a es l) (Some y) × IsConfirmed h (node_checked h a (elements_from (end_leaf l) es) r) (Some z))
@@ -90,13 +90,13 @@ module _ (rule : List ℕ → List ℕ) (m p s tall : ℕ) {D : Type 0} (h : Has
     walk_inner (join q l r) w tall_is k y z f answer o is g =
         let u = f q l r w in
         subst (λ e. IsConfirmed h e o) (sym (checked_join q l r w k))
-        (g (hashed (Node p) (node_checked h a es l) (node_checked h a (elements_from (end_leaf l) es) r)) (u.0.0, u.1.0) (is ∙ ap₂ (h.node p) u.0.1 u.1.1))
+        (g (computed (Node p) (node_checked h a es l) (node_checked h a (elements_from (end_leaf l) es) r)) (u.0.0, u.1.0) (is ∙ ap₂ (h.node p) u.0.1 u.1.1))
 
     pub walk_refused : (t : Tree) → IsHere t → tall ≢ 0 → x < end_leaf t
         → ((q : ℕ) (l r : Tree) → IsHere (join q l r) → Holds h (node_checked h a es l) → Holds h (node_checked h a (elements_from (end_leaf l) es) r) → ⊥) → IsConfirmed h (node_checked h a es t) None
     walk_refused (leaf q i) w tall_is k f = absurd (tall_is (omega (arith, w.height_is)))
     walk_refused (join q l r) w tall_is k f = λ holds.
-        let both = also_holds h a (a p) (hashed (Node p) (node_checked h a es l) (node_checked h a (elements_from (end_leaf l) es) r)) (subst (Holds h) (checked_join q l r w k) holds) in
+        let both = also_holds h a (a p) (computed (Node p) (node_checked h a es l) (node_checked h a (elements_from (end_leaf l) es) r)) (subst (Holds h) (checked_join q l r w k) holds) in
         f q l r w both.0 both.1
 
   pub rest_inner : (t : Tree) → IsHere t → tall ≢ 0 → (mid rest : List (ℕ × D)) → ((q : ℕ) (l r : Tree) → IsHere (join q l r) → (mid ≡ elements_from (end_leaf l) es) × (rest ≡ elements_from (end_leaf r) mid)) → rest ≡ elements_from (end_leaf t) es
@@ -108,11 +108,11 @@ module _ (rule : List ℕ → List ℕ) (m p s tall : ℕ) {D : Type 0} (h : Has
       u.1 ∙ ap (elements_from (end_leaf r)) u.0 ∙ from_twice (end_leaf l) (end_leaf r) es (omega (arith, built.3)) ∙ ap (λ (n : ℕ). elements_from n es) end
 
 -- the elements ascend from the first leaf of the left child, and those after it from that of the right one
-module _ (rule : List ℕ → List ℕ) (m p s tall q : ℕ) (l r : Tree) (w : Stands rule m p tall s (join q l r)) {D : Type 0} (es : List (ℕ × D)) (u : AscendsFrom s (locations_of es)) where
-  pub left_ascends : (p' s' tall' : ℕ) → Stands rule m p' tall' s' l → AscendsFrom s' (locations_of es)
+module _ (rule : List ℕ → List ℕ) (m p s tall q : ℕ) (l r : Tree) (w : IsNodeOf rule m p tall s (join q l r)) {D : Type 0} (es : List (ℕ × D)) (u : AscendsFrom s (locations_of es)) where
+  pub left_ascends : (p' s' tall' : ℕ) → IsNodeOf rule m p' tall' s' l → AscendsFrom s' (locations_of es)
   left_ascends p' s' tall' v = subst (λ (n : ℕ). AscendsFrom n (locations_of es)) (sym w.first_is ∙ v.first_is) u
 
-  pub right_ascends : (p' s' tall' : ℕ) → Stands rule m p' tall' s' r → (rest : List (ℕ × D)) → rest ≡ elements_from (end_leaf l) es → AscendsFrom s' (locations_of rest)
+  pub right_ascends : (p' s' tall' : ℕ) → IsNodeOf rule m p' tall' s' r → (rest : List (ℕ × D)) → rest ≡ elements_from (end_leaf l) es → AscendsFrom s' (locations_of rest)
   right_ascends p' s' tall' v rest is =
       let built = node_built rule m p (join q l r) w.at in
       let end : end_leaf l ≡ s' = omega (arith, built.3, v.first_is) in

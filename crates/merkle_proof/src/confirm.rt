@@ -3,7 +3,7 @@ ghost use Rattle.std.specs.Prelude.{◌≡◌, ◌≤◌, IfOk, IfSome, IsNone, 
 ghost use Rattle.std.specs.List.Sorted.{IsStrictlyIncreasing};
 ghost use Rattle.merkle_base.specs.Places.{peaks_of};
 ghost use Rattle.merkle_base.specs.Tree.{Tree, end_leaf};
-ghost use Rattle.merkle_hasher.specs.Subtrees.{Means};
+ghost use Rattle.merkle_hasher.specs.Subtrees.{Denotes};
 ghost use Rattle.merkle_claim_theory.specs.Ascending.{AscendsFrom};
 ghost use Rattle.merkle_claim_theory.specs.Table.{digest_for};
 ghost use Rattle.merkle_proof.specs.Confirmed.{IsConfirmed, EachHolds, locations_of, node_checked, nodes_checked, elements_from};
@@ -64,14 +64,14 @@ fn confirm_digest<F: Family, H: Hasher<F>>(
     elements: &[(&[u8], Location<F>)],
     taken: &mut usize,
 ) -> Option<H::Digest>
-    requires node { (t : Tree) × Means F.rule F.MAX_LEAVES subtree.now t }
+    requires node { (t : Tree) × Denotes F.rule F.MAX_LEAVES subtree.now t }
     requires rises { IsStrictlyIncreasing told.now.positions.now }
     requires ascend { AscendsFrom subtree.now.first_leaf (locations_of (leaves_left (H.hashing hasher.now) F.rule elements.now taken.old)) }
     ensures digest { let h = H.hashing hasher.now in let a = digest_for told.now.positions.now told.now.digests.now in
-        (t : Tree) → Means F.rule F.MAX_LEAVES subtree.now t
+        (t : Tree) → Denotes F.rule F.MAX_LEAVES subtree.now t
         → IsConfirmed h (node_checked h a (leaves_left h F.rule elements.now taken.old) t) result }
     ensures rest { let h = H.hashing hasher.now in
-        IfSome result (λ _. (t : Tree) → Means F.rule F.MAX_LEAVES subtree.now t
+        IfSome result (λ _. (t : Tree) → Denotes F.rule F.MAX_LEAVES subtree.now t
         → leaves_left h F.rule elements.now taken.new ≡ elements_from (end_leaf t) (leaves_left h F.rule elements.now taken.old)) }
 {
     let Some(next) = elements.get(*taken) else {

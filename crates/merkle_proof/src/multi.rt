@@ -6,7 +6,7 @@ ghost use Rattle.merkle_base.specs.Cases.{first_case};
 ghost use Rattle.merkle_base.specs.Tree.{Tree, position};
 ghost use Rattle.merkle_claim_theory.specs.Ascending.{AscendsFrom};
 ghost use Rattle.merkle_claim_theory.specs.Multiproof.{multi_positions};
-ghost use Rattle.merkle_hasher.specs.Subtrees.{Means};
+ghost use Rattle.merkle_hasher.specs.Subtrees.{Denotes};
 ghost use Rattle.merkle_proof.specs.MultiPositions.{AreLocations, location_refusals, later_refusals, multi_refusals, those_before, those_from, read_below, positions_read};
 
 use crate::positions::ascending;
@@ -93,9 +93,9 @@ fn collect_scattered<F: Family>(
     locations: &[Location<F>],
     out: &mut Vec<Position<F>>,
 ) -> Result<(), AllocError>
-    requires node { (t : Tree) × Means F.rule F.MAX_LEAVES subtree.now t }
+    requires node { (t : Tree) × Denotes F.rule F.MAX_LEAVES subtree.now t }
     requires ascend { IsNonDecreasing locations.now }
-    ensures { IfOk result (λ _. (t : Tree) → Means F.rule F.MAX_LEAVES subtree.now t
+    ensures { IfOk result (λ _. (t : Tree) → Denotes F.rule F.MAX_LEAVES subtree.now t
         → out.new.items ≡ out.old.items ++ map position (read_below locations.now t)) }
 {
     if subtree.height == 0 || locations.is_empty() {

@@ -1,7 +1,7 @@
 //! The digests of a proof, read by the positions of their nodes.
 ghost use Rattle.std.specs.Prelude.{◌≡◌, ◌≢◌, ◌+◌, ◌^◌, ◌<◌, ◌≤◌, ◌++◌, ℕ, List, min, reverse, length, vec_len, vec_capacity, IfOk, IfErr};
 ghost use Rattle.std.specs.Option.{option_to_list};
-ghost use Rattle.merkle_base.specs.Root.{bag, folded};
+ghost use Rattle.merkle_base.specs.Root.{right_fold, folded};
 ghost use Rattle.merkle_base.specs.declared.family.Bagging.TheVariants.{ForwardFold};
 ghost use Rattle.merkle_proof.specs.RangePlans.{AreAnswered, IsFirstMissing, IsLaidOut};
 
@@ -95,7 +95,7 @@ fn read_bagged<F: Family, H: Hasher<F>, G: Fn(Position<F>) -> Option<H::Digest>>
     requires callable { G.IsAlwaysCallable get_node.now }
     requires room { vec_len out.old + min (length positions.now) 1 ≤ vec_capacity out.old }
     ensures ok { IfOk result (λ _. (ds : List H.Digest) × AreAnswered (G.post get_node.now) positions.now ds
-        × (out.new.items ≡ out.old.items ++ option_to_list (bag (H.hashing hasher.now).fold ds))) }
+        × (out.new.items ≡ out.old.items ++ option_to_list (right_fold (H.hashing hasher.now).fold ds))) }
     ensures room { IfOk result (λ _. (vec_len out.new ≡ vec_len out.old + min (length positions.now) 1) × (vec_capacity out.new ≡ vec_capacity out.old)) }
     ensures err { IfErr result (λ e. IsFirstMissing (G.post get_node.now) (reverse positions.now) e.position) }
 {

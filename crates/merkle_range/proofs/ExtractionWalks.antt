@@ -4,7 +4,7 @@ use Rattle.std.specs.List.{flat_map}
 use Rattle.merkle_base.specs.Tree.{Tree, leaf, join, position}
 use Rattle.merkle_base.specs.Hashing.{Hashing}
 use Rattle.merkle_base.proofs.Growth.{forest_grown}
-use Rattle.merkle_hasher.specs.Subtrees.{Stands}
+use Rattle.merkle_hasher.specs.Subtrees.{IsNodeOf}
 use Rattle.merkle_root_theory.specs.Expression.{value}
 use Rattle.merkle_root_theory.specs.Plan.{tree_meets, siblings}
 use Rattle.merkle_root_theory.specs.Claim.{tree_claim}
@@ -13,7 +13,7 @@ use Rattle.merkle_root_theory.specs.Extract.{inner_pairs, over_pairs}
 use Rattle.merkle_range.proofs.GivenLeaves.{reads_chosen}
 
 -- the position of a node
-pub stands_at : (rule : List ℕ → List ℕ) (m p tall s : ℕ) (t : Tree) → Stands rule m p tall s t → position t ≡ p
+pub stands_at : (rule : List ℕ → List ℕ) (m p tall s : ℕ) (t : Tree) → IsNodeOf rule m p tall s t → position t ≡ p
 stands_at rule m p tall s t w = (forest_grown rule m).placed p t w.at
 
 module _ {D : Type 0} (h : Hashing D) (c : ℕ → Bool) (X : ℕ → D) where
@@ -24,7 +24,7 @@ module _ {D : Type 0} (h : Hashing D) (c : ℕ → Bool) (X : ℕ → D) where
       ++ ((position l, value h (tree_claim h c X l ds)) ∷ (position r, value h (tree_claim h c X r (drop (length (siblings c l)) ds))) ∷ []))) []) e
 
   -- nor has a leaf
-  pub inner_leaf : (rule : List ℕ → List ℕ) (m p s tall : ℕ) (t : Tree) → Stands rule m p tall s t → tall ≡ 0 → (ds : List D) → inner_pairs h c X t ds ≡ []
+  pub inner_leaf : (rule : List ℕ → List ℕ) (m p s tall : ℕ) (t : Tree) → IsNodeOf rule m p tall s t → tall ≡ 0 → (ds : List D) → inner_pairs h c X t ds ≡ []
   inner_leaf rule m p s tall (leaf q i) w e ds = refl
   inner_leaf rule m p s tall (join q l r) w e ds = absurd (omega (arith, w.height_is, e))
 
@@ -52,8 +52,8 @@ module _ {D : Type 0} (h : Hashing D) (c : ℕ → Bool) (X : ℕ → D) where
 
   module _ {C : Type 0} (Took : C → List (ℕ × D) → C → Type 0) (both : (s t u : C) (a b : List (ℕ × D)) → Took s a t → Took t b u → Took s (a ++ b) u) where
     -- a node's walk puts its pairs, where those of its children do, and then these two are put
-    pub put_inner : (rule : List ℕ → List ℕ) (m p s tall : ℕ) (t : Tree) → Stands rule m p tall s t → tall ≢ 0 → tree_meets c t ≡ true → (pl pr : ℕ) (ds mid rest : List D) (x y : D) (s0 s1 s2 s3 : C)
-        → ((q : ℕ) (l r : Tree) → Stands rule m p tall s (join q l r) → (position l ≡ pl) × (position r ≡ pr) × IsWalked h c X l ds x mid × IsWalked h c X r mid y rest × Took s0 (inner_pairs h c X l ds) s1 × Took s1 (inner_pairs h c X r mid) s2)
+    pub put_inner : (rule : List ℕ → List ℕ) (m p s tall : ℕ) (t : Tree) → IsNodeOf rule m p tall s t → tall ≢ 0 → tree_meets c t ≡ true → (pl pr : ℕ) (ds mid rest : List D) (x y : D) (s0 s1 s2 s3 : C)
+        → ((q : ℕ) (l r : Tree) → IsNodeOf rule m p tall s (join q l r) → (position l ≡ pl) × (position r ≡ pr) × IsWalked h c X l ds x mid × IsWalked h c X r mid y rest × Took s0 (inner_pairs h c X l ds) s1 × Took s1 (inner_pairs h c X r mid) s2)
         → Took s2 ((pl, x) ∷ (pr, y) ∷ []) s3 → Took s0 (inner_pairs h c X t ds) s3
     put_inner rule m p s tall (leaf q i) w e k pl pr ds mid rest x y s0 s1 s2 s3 f last = absurd (e (omega (arith, w.height_is)))
     put_inner rule m p s tall (join q l r) w e k pl pr ds mid rest x y s0 s1 s2 s3 f last =

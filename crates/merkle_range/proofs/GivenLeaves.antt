@@ -3,7 +3,7 @@ use Rattle.std.proofs.Common.{◌≡◌, ℕ, zero, suc, ◌+◌, ◌<◌, Bool,
 use Rattle.merkle_base.specs.Tree.{Tree, leaf, join}
 use Rattle.merkle_base.specs.Forest.{size}
 use Rattle.merkle_base.specs.Hashing.{Hashing}
-use Rattle.merkle_root_theory.specs.Expression.{Node, given, hashed, value}
+use Rattle.merkle_root_theory.specs.Expression.{Node, supplied, computed, value}
 use Rattle.merkle_root_theory.specs.Plan.{tree_meets, siblings}
 use Rattle.merkle_root_theory.specs.Claim.{next, tree_claim}
 use Rattle.merkle_base.proofs.Cases.{by_test}
@@ -14,12 +14,12 @@ use Rattle.merkle_range.specs.Input.{leaf_digests}
 
 -- a claim reads the leaves at chosen locations alone
 pub reads_chosen : {D : Type 0} (h : Hashing D) (c : ℕ → Bool) (X Y : ℕ → D) → ((i : ℕ) → c i ≡ true → X i ≡ Y i) → (t : Tree) (ds : List D) → value h (tree_claim h c X t ds) ≡ value h (tree_claim h c Y t ds)
-reads_chosen h c X Y e (leaf p i) ds = by_test (λ b. value h (cond b (given (X i)) (given (next h ds))) ≡ value h (cond b (given (Y i)) (given (next h ds)))) (c i) (λ m. e i m) (λ _. refl)
+reads_chosen h c X Y e (leaf p i) ds = by_test (λ b. value h (cond b (supplied (X i)) (supplied (next h ds))) ≡ value h (cond b (supplied (Y i)) (supplied (next h ds)))) (c i) (λ m. e i m) (λ _. refl)
 reads_chosen h c X Y e (join p l r) ds =
     let u = reads_chosen h c X Y e l ds in
     let v = reads_chosen h c X Y e r (drop (length (siblings c l)) ds) in
-    by_test (λ b. value h (cond b (hashed (Node p) (tree_claim h c X l ds) (tree_claim h c X r (drop (length (siblings c l)) ds))) (given (next h ds)))
-    ≡ value h (cond b (hashed (Node p) (tree_claim h c Y l ds) (tree_claim h c Y r (drop (length (siblings c l)) ds))) (given (next h ds)))) (tree_meets c l || tree_meets c r)
+    by_test (λ b. value h (cond b (computed (Node p) (tree_claim h c X l ds) (tree_claim h c X r (drop (length (siblings c l)) ds))) (supplied (next h ds)))
+    ≡ value h (cond b (computed (Node p) (tree_claim h c Y l ds) (tree_claim h c Y r (drop (length (siblings c l)) ds))) (supplied (next h ds)))) (tree_meets c l || tree_meets c r)
     (λ _. ap₂ (h.node p) u v) (λ _. refl)
 
 -- so do the digests of peaks

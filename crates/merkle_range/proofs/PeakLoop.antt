@@ -3,13 +3,13 @@ use Rattle.std.proofs.Common.{◌≡◌, ℕ, ◌+◌, ◌<◌, ◌≤◌, List,
 use Rattle.std.specs.List.{flat_map}
 use Rattle.std.proofs.lemmas.List.{map-append}
 use Rattle.merkle_hasher.specs.declared.subtree.Subtree.{Subtree}
-use Rattle.merkle_hasher.specs.Subtrees.{Means}
+use Rattle.merkle_hasher.specs.Subtrees.{Denotes}
 use Rattle.merkle_root_theory.specs.Plan.{siblings}
 use Rattle.merkle_base.specs.Tree.{Tree, position, height, first_leaf, end_leaf, width}
 use Rattle.merkle_base.specs.Forest.{forest}
 use Rattle.merkle_base.proofs.Growth.{forest_grown}
 use Rattle.merkle_base.proofs.PeakLists.{Spans, spans_append, covers_spans}
-use Rattle.merkle_hasher.specs.Subtrees.{Stands}
+use Rattle.merkle_hasher.specs.Subtrees.{IsNodeOf}
 use Rattle.merkle_range.specs.declared.groups.Groups.{Groups}
 use Rattle.merkle_range.specs.GroupedPeaks.{HoldsGroups}
 use Rattle.merkle_root_theory.specs.Range.{wholly_after}
@@ -49,11 +49,11 @@ walk_begins rule m n a b left g l e h = record {
 
 -- the next peak
 pub next_peak : {F : Type 0} (rule : List ℕ → List ℕ) (m n a b : ℕ) (left : List (ℕ × ℕ)) (s : ℕ) (g : Groups F) → a < b → Walked rule m n a b left s g → (p h : ℕ) (more : List (ℕ × ℕ)) → left ≡ (p, h) ∷ more
-    → (t : Tree) × Stands rule m p h s t × ((g' : Groups F) → ((done : List Tree) → (end_leaf t ≤ a → wholly_after b done ≡ []) → HoldsGroups a b g done → HoldsGroups a b g' (done ++ t ∷ [])) → (s' : ℕ) → s' ≡ first_leaf t + width t → Walked rule m n a b more s' g')
+    → (t : Tree) × IsNodeOf rule m p h s t × ((g' : Groups F) → ((done : List Tree) → (end_leaf t ≤ a → wholly_after b done ≡ []) → HoldsGroups a b g done → HoldsGroups a b g' (done ++ t ∷ [])) → (s' : ℕ) → s' ≡ first_leaf t + width t → Walked rule m n a b more s' g')
 next_peak {F = F} rule m n a b left s g less w p h more e = step w.rest w.all (sym e ∙ w.left_is) w.spans w.at
   where
     step : (rest : List Tree) → reverse (forest rule n).peaks ≡ w.done ++ rest → (p, h) ∷ more ≡ map placed rest → Spans s n rest → AreNodes rule m rest
-        → (t : Tree) × Stands rule m p h s t × ((g' : Groups F) → ((done : List Tree) → (end_leaf t ≤ a → wholly_after b done ≡ []) → HoldsGroups a b g done → HoldsGroups a b g' (done ++ t ∷ [])) → (s' : ℕ) → s' ≡ first_leaf t + width t → Walked rule m n a b more s' g')
+        → (t : Tree) × IsNodeOf rule m p h s t × ((g' : Groups F) → ((done : List Tree) → (end_leaf t ≤ a → wholly_after b done ≡ []) → HoldsGroups a b g done → HoldsGroups a b g' (done ++ t ∷ [])) → (s' : ℕ) → s' ≡ first_leaf t + width t → Walked rule m n a b more s' g')
     step [] all l spans at = absurd (cc)
     step (t ∷ ts) all l spans at =
         let x : p ≡ position t = ap (λ q. q.0) (cons_head (p, h) (placed t) more (map placed ts) l) in
@@ -82,13 +82,13 @@ walk_ends rule m n a b left s g w e = step w.rest w.all (sym e ∙ w.left_is)
 
 -- element i of the subtrees of some nodes means node i
 pub element_means : {F : Type 0} (rule : List ℕ → List ℕ) (m : ℕ) (xs : List (Subtree F)) (ts : List Tree) → xs ≡ map subtree_of ts → AreNodes rule m ts → (i : ℕ) → i < length xs → (d : Subtree F)
-    → (t : Tree) × Means rule m (get_or xs i d) t × (take (i + 1) ts ≡ take i ts ++ t ∷ [])
-element_means {F = F} rule m xs ts e h i l d = subst (λ ys. (i < length ys) → (t : Tree) × Means rule m (get_or ys i d) t × (take (i + 1) ts ≡ take i ts ++ t ∷ [])) (sym e) (step ts i h) l
+    → (t : Tree) × Denotes rule m (get_or xs i d) t × (take (i + 1) ts ≡ take i ts ++ t ∷ [])
+element_means {F = F} rule m xs ts e h i l d = subst (λ ys. (i < length ys) → (t : Tree) × Denotes rule m (get_or ys i d) t × (take (i + 1) ts ≡ take i ts ++ t ∷ [])) (sym e) (step ts i h) l
   where
     one : (t : Tree) (ts : List Tree) → take (0 + 1) (t ∷ ts) ≡ take 0 (t ∷ ts) ++ t ∷ []
     one t ts = refl
 
-    step : (ts : List Tree) (i : ℕ) → AreNodes rule m ts → i < length (map (subtree_of {F = F}) ts) → (t : Tree) × Means rule m (get_or (map subtree_of ts) i d) t × (take (i + 1) ts ≡ take i ts ++ t ∷ [])
+    step : (ts : List Tree) (i : ℕ) → AreNodes rule m ts → i < length (map (subtree_of {F = F}) ts) → (t : Tree) × Denotes rule m (get_or (map subtree_of ts) i d) t × (take (i + 1) ts ≡ take i ts ++ t ∷ [])
     step [] i h l = absurd (omega arith)
     step (t ∷ ts) zero h l = (t, record { at = h.0; height_is = refl; first_is = refl }, one t ts)
     step (t ∷ ts) (suc i) h l = let w = step ts i h.1 (omega arith) in (w.0, w.1, ap (λ n. take n (t ∷ ts)) (add-one (suc i)) ∙ ap (λ z. t ∷ z) (ap (λ n. take n ts) (sym (add-one i)) ∙ w.2))

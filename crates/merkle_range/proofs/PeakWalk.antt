@@ -9,7 +9,7 @@ use Rattle.merkle_base.proofs.Growth.{forest_grown}
 use Rattle.merkle_base.proofs.Lists.{cons_head, cons_tail}
 use Rattle.merkle_base.proofs.PeakLists.{Spans, covers_spans}
 use Rattle.merkle_hasher.specs.declared.subtree.Subtree.{Subtree}
-use Rattle.merkle_hasher.specs.Subtrees.{Stands, AreNodes, subtree_of}
+use Rattle.merkle_hasher.specs.Subtrees.{IsNodeOf, AreNodes, subtree_of}
 use Rattle.merkle_hasher.proofs.PeakNodes.{peaks_at}
 use Rattle.merkle_range.proofs.PeakLoop.{placed}
 
@@ -40,12 +40,12 @@ all_at R (x ∷ xs) t ts r = all_at R xs t ts r.1
 
 -- the next peak, of which holds what holds of all
 pub pass_next : (rule : List ℕ → List ℕ) (m n : ℕ) (left : List (ℕ × ℕ)) (s : ℕ) (P : List Tree → Type 0) → Passed rule m n left s P → (p h : ℕ) (more : List (ℕ × ℕ)) → left ≡ (p, h) ∷ more
-    → (t : Tree) × Stands rule m p h s t × (p ≡ position t) × ((Q : List Tree → Type 0) → ((done : List Tree) → P done → Q (done ++ t ∷ [])) → (s' : ℕ) → s' ≡ first_leaf t + width t → Passed rule m n more s' Q)
+    → (t : Tree) × IsNodeOf rule m p h s t × (p ≡ position t) × ((Q : List Tree → Type 0) → ((done : List Tree) → P done → Q (done ++ t ∷ [])) → (s' : ℕ) → s' ≡ first_leaf t + width t → Passed rule m n more s' Q)
     × ((R : Tree → Type 0) → AllByRecursion R (peaks_of rule n) → R t)
 pass_next rule m n left s P w p h more e = step w.rest w.all (sym e ∙ w.left_is) w.spans w.at
   where
     step : (rest : List Tree) → peaks_of rule n ≡ w.done ++ rest → (p, h) ∷ more ≡ map placed rest → Spans s n rest → AreNodes rule m rest
-        → (t : Tree) × Stands rule m p h s t × (p ≡ position t) × ((Q : List Tree → Type 0) → ((done : List Tree) → P done → Q (done ++ t ∷ [])) → (s' : ℕ) → s' ≡ first_leaf t + width t → Passed rule m n more s' Q)
+        → (t : Tree) × IsNodeOf rule m p h s t × (p ≡ position t) × ((Q : List Tree → Type 0) → ((done : List Tree) → P done → Q (done ++ t ∷ [])) → (s' : ℕ) → s' ≡ first_leaf t + width t → Passed rule m n more s' Q)
         × ((R : Tree → Type 0) → AllByRecursion R (peaks_of rule n) → R t)
     step [] all l spans at = absurd (cc)
     step (t ∷ ts) all l spans at =
@@ -78,7 +78,7 @@ pass_ends rule m n left s P w e = step w.rest w.all (sym e ∙ w.left_is)
 abbrev pub Lists : {F : Type 0} → List (Subtree F) → List Tree → Type 0
 Lists xs done = xs ≡ map subtree_of done
 
-pub lists_more : {F : Type 0} (rule : List ℕ → List ℕ) (m p h s : ℕ) (t : Tree) (xs ys : List (Subtree F)) → Stands rule m p h s t → p ≡ position t → ys ≡ xs ++ record { position = p; height = h; first_leaf = s } ∷ []
+pub lists_more : {F : Type 0} (rule : List ℕ → List ℕ) (m p h s : ℕ) (t : Tree) (xs ys : List (Subtree F)) → IsNodeOf rule m p h s t → p ≡ position t → ys ≡ xs ++ record { position = p; height = h; first_leaf = s } ∷ []
     → (done : List Tree) → Lists xs done → Lists ys (done ++ t ∷ [])
 lists_more rule m p h s t xs ys w x e done l =
     e ∙ ap (λ z. z ++ record { position = p; height = h; first_leaf = s } ∷ []) l

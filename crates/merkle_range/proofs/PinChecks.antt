@@ -8,7 +8,7 @@ use Rattle.merkle_base.specs.Scheme.{Scheme, scheme_of}
 use Rattle.merkle_base.specs.Tree.{position}
 use Rattle.merkle_base.specs.declared.family.Bagging.{Bagging}
 use Rattle.merkle_root_theory.specs.Check.{RangeInput}
-use Rattle.merkle_root_theory.specs.Range.{Accepts, AcceptsSome, end_of, range_parts, range_siblings}
+use Rattle.merkle_root_theory.specs.Range.{Accepts, AcceptsNonempty, end_of, range_parts, range_siblings}
 use Rattle.merkle_root_theory.specs.Walk.{bytes_of}
 use Rattle.merkle_claim_theory.specs.Pinned.{AcceptsPinned}
 use Rattle.merkle_claim_theory.specs.Rebuilt.{IsRebuilt}
@@ -34,7 +34,7 @@ module _ {D : Type 0} (s : Scheme D) (r : RangeInput D) (pins : List D) (root : 
       none (inr y) = k.1 y.0.1
 
   -- some elements
-  pub some_accepted : 0 < length r.elements → Accepts s r root → AcceptsSome s r root
+  pub some_accepted : 0 < length r.elements → Accepts s r root → AcceptsNonempty s r root
   some_accepted l (inl x) = x
   some_accepted l (inr x) = absurd (omega (arith, l, ap length x.0.elements))
 
@@ -42,7 +42,7 @@ module _ {D : Type 0} (s : Scheme D) (r : RangeInput D) (pins : List D) (root : 
   pins_counted l (inl x) = x.pinned
   pins_counted l (inr x) = absurd (omega (arith, l, ap length x.0.0.elements))
 
-  pub rebuilt_accepted : AcceptsSome s r root → (bit : Bool) → (IsTrue bit ↔ IsRebuilt s r pins) → IsTrue bit ↔ AcceptsPinned s r pins root
+  pub rebuilt_accepted : AcceptsNonempty s r root → (bit : Bool) → (IsTrue bit ↔ IsRebuilt s r pins) → IsTrue bit ↔ AcceptsPinned s r pins root
   rebuilt_accepted ok bit k = ((λ y. inl ((pinned_is_rebuilt s r pins root).1 (ok, k.0 y))), back)
     where
       back : AcceptsPinned s r pins root → IsTrue bit
@@ -72,10 +72,10 @@ module _ {D : Type 0} (h : Hashing D) (bagging : Bagging) (rule : List ℕ → L
   end_same : (e : ℕ) → e ≡ a + length es → end_of (input hasher_scheme) ≡ e
   end_same e e_is = omega (arith, e_is, input_count hasher_scheme)
 
-  pub fitting : (s : Scheme D) → s ≡ hasher_scheme → (root : D) → AcceptsSome s (input s) root → (e : ℕ) → e ≡ a + length es → IsFitting bagging rule max_leaves leaves inactive (length ds) a e
-  fitting s is root ok e e_is = step (subst (λ z. AcceptsSome z (input z) root) is ok)
+  pub fitting : (s : Scheme D) → s ≡ hasher_scheme → (root : D) → AcceptsNonempty s (input s) root → (e : ℕ) → e ≡ a + length es → IsFitting bagging rule max_leaves leaves inactive (length ds) a e
+  fitting s is root ok e e_is = step (subst (λ z. AcceptsNonempty z (input z) root) is ok)
     where
-      step : AcceptsSome hasher_scheme (input hasher_scheme) root → IsFitting bagging rule max_leaves leaves inactive (length ds) a e
+      step : AcceptsNonempty hasher_scheme (input hasher_scheme) root → IsFitting bagging rule max_leaves leaves inactive (length ds) a e
       step ok = record {
         within = omega (arith, ok.within, end_same e e_is);
         small = ok.leaves;

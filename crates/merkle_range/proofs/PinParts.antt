@@ -14,7 +14,7 @@ use Rattle.merkle_base.specs.declared.family.Bagging.{Bagging}
 use Rattle.merkle_base.specs.declared.family.Bagging.TheVariants.{ForwardFold, BackwardFold}
 use Rattle.merkle_root_theory.specs.Expression.{PrefixFold}
 use Rattle.merkle_root_theory.specs.Outside.{fold_all, bag_all, folded_prefix, single_before, single_after, folded_suffix, layout, Unmet, Met}
-use Rattle.merkle_root_theory.specs.Plan.{Plan, peak, folding, forward, tree_meets, meets, siblings}
+use Rattle.merkle_root_theory.specs.Plan.{Plan, peak, folding, left_fold_plan, tree_meets, meets, siblings}
 use Rattle.merkle_root_theory.specs.Range.{in_range, overlapping, wholly_after, range_parts, range_siblings}
 use Rattle.merkle_root_theory.specs.Layouts.{count_before}
 use Rattle.merkle_root_theory.proofs.OutsideNodes.{bag_unmet, unmet_take, unmet_drop}
@@ -54,7 +54,7 @@ module _ (w : ℕ → Bool) where
   unmet_suffix ForwardFold k met ts u = tt
   unmet_suffix BackwardFold k met ts u = unmet_drop w (k - met) ts u
 
-  forward_met : (acc : Plan) (i : ℕ) (ts : List Tree) → meets w acc ≡ true → meets w (forward acc i ts) ≡ true
+  forward_met : (acc : Plan) (i : ℕ) (ts : List Tree) → meets w acc ≡ true → meets w (left_fold_plan acc i ts) ≡ true
   forward_met acc i [] e = e
   forward_met acc i (t ∷ ts) e = forward_met (folding (PrefixFold i) acc (peak t)) (suc i) ts (ap (λ z. z || tree_meets w t) e)
 

@@ -86,11 +86,11 @@ pub fn reconstruct_root<F: Family, H: Hasher<F>>(
     if elements.is_empty() {
         return reconstruct_empty_root(parts, hasher, start);
     }
-    reconstruct_range_root(parts, hasher, elements, start)
+    reconstruct_mmr_position(parts, hasher, elements, start)
 }
 
 /// The root that some elements from a location on lead to.
-pub(crate) fn reconstruct_range_root<F: Family, H: Hasher<F>>(
+pub(crate) fn reconstruct_mmr_position<F: Family, H: Hasher<F>>(
     parts: &ProofParts<'_, F, H::Digest>,
     hasher: &H,
     elements: &[&[u8]],

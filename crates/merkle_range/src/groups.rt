@@ -7,7 +7,7 @@ ghost use Rattle.merkle_root_theory.specs.Plan.{siblings};
 ghost use Rattle.merkle_root_theory.specs.Outside.{folded_prefix, single_after};
 ghost use Rattle.merkle_root_theory.specs.Layouts.{count_before, count_after, count_inactive};
 ghost use Rattle.merkle_root_theory.specs.Range.{in_range, overlapping, wholly_after};
-ghost use Rattle.merkle_hasher.specs.Subtrees.{Means, AreNodes, subtree_of};
+ghost use Rattle.merkle_hasher.specs.Subtrees.{Denotes, AreNodes, subtree_of};
 ghost use Rattle.merkle_range.specs.GroupedPeaks.{HoldsGroups};
 ghost use Rattle.merkle_root_theory.specs.Reads.{nodes_read};
 
@@ -37,9 +37,9 @@ pub struct Groups<F> {
 impl<F: Family> Groups<F> {
     /// Appends a peak to its group.
     fn put(&mut self, peak: Subtree<F>, range: &Range<Location<F>>) -> Result<(), AllocError>
-        requires node { (t : Tree) × Means F.rule F.MAX_LEAVES peak t }
+        requires node { (t : Tree) × Denotes F.rule F.MAX_LEAVES peak t }
         requires some { range.now.start < range.now.end }
-        ensures { IfOk result (λ _. (done : List Tree) (t : Tree) → Means F.rule F.MAX_LEAVES peak t
+        ensures { IfOk result (λ _. (done : List Tree) (t : Tree) → Denotes F.rule F.MAX_LEAVES peak t
             → (end_leaf t ≤ range.now.start → wholly_after range.now.end done ≡ [])
             → HoldsGroups range.now.start range.now.end self.old done → HoldsGroups range.now.start range.now.end self.new (done ++ t ∷ [])) }
     {

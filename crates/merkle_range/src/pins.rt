@@ -2,9 +2,9 @@
 ghost use Rattle.std.specs.Prelude.{◌≡◌, ◌+◌, ◌<◌, ◌≤◌, ◌↔◌, ℕ, true, List, IsTrue, IfOk, length, map, take, drop};
 ghost use Rattle.merkle_base.specs.Places.{peaks_of, peak_positions};
 ghost use Rattle.merkle_base.specs.Tree.{Tree, end_leaf};
-ghost use Rattle.merkle_hasher.specs.Subtrees.{Means, AreNodes, subtree_of};
+ghost use Rattle.merkle_hasher.specs.Subtrees.{Denotes, AreNodes, subtree_of};
 ghost use Rattle.merkle_root_theory.specs.Outside.{fold_all};
-ghost use Rattle.merkle_root_theory.specs.Plan.{forward, peak, siblings, tree_meets};
+ghost use Rattle.merkle_root_theory.specs.Plan.{left_fold_plan, peak, siblings, tree_meets};
 ghost use Rattle.merkle_root_theory.specs.Range.{in_range, range_parts, range_siblings};
 ghost use Rattle.merkle_root_theory.specs.Walk.{bytes_of};
 ghost use Rattle.merkle_claim_theory.specs.Pinned.{AcceptsPinned};
@@ -82,9 +82,9 @@ fn rebuilt_digest<F: Family, H: Hasher<F>>(
     hasher: &H,
     pins: &Pins<'_, F, H::Digest>,
 ) -> H::Digest
-    requires node { (t : Tree) × Means F.rule F.MAX_LEAVES subtree.now t }
+    requires node { (t : Tree) × Denotes F.rule F.MAX_LEAVES subtree.now t }
     ensures { let h = H.hashing hasher.now in let b = digest_for pins.now.positions.items pins.now.digests.now in
-        (t : Tree) → Means F.rule F.MAX_LEAVES subtree.now t → result ≡ rebuilt_node h b t }
+        (t : Tree) → Denotes F.rule F.MAX_LEAVES subtree.now t → result ≡ rebuilt_node h b t }
 {
     if let Some(digest) = pins.get(subtree.position) {
         return digest;
@@ -105,11 +105,11 @@ fn rebuilt_fold<F: Family, H: Hasher<F>>(
     hasher: &H,
     pins: &Pins<'_, F, H::Digest>,
 ) -> H::Digest
-    requires first { (t : Tree) × Means F.rule F.MAX_LEAVES oldest.now t }
+    requires first { (t : Tree) × Denotes F.rule F.MAX_LEAVES oldest.now t }
     requires nodes { (ts : List Tree) × (others.now ≡ map subtree_of ts) × AreNodes F.rule F.MAX_LEAVES ts }
     ensures { let h = H.hashing hasher.now in let b = digest_for pins.now.positions.items pins.now.digests.now in
-        (t : Tree) (ts : List Tree) → Means F.rule F.MAX_LEAVES oldest.now t → others.now ≡ map subtree_of ts → AreNodes F.rule F.MAX_LEAVES ts
-        → result ≡ rebuilt_part h b (forward (peak t) 1 ts) }
+        (t : Tree) (ts : List Tree) → Denotes F.rule F.MAX_LEAVES oldest.now t → others.now ≡ map subtree_of ts → AreNodes F.rule F.MAX_LEAVES ts
+        → result ≡ rebuilt_part h b (left_fold_plan (peak t) 1 ts) }
 {
     let mut folded = rebuilt_digest(oldest, hasher, pins);
     for peak in others {
@@ -175,9 +175,9 @@ fn are_siblings_rebuilt<F: Family, H: Hasher<F>>(
     pins: &Pins<'_, F, H::Digest>,
     digests: &[H::Digest],
 ) -> bool
-    requires node { (t : Tree) × Means F.rule F.MAX_LEAVES subtree.now t × (start < end_leaf t) }
+    requires node { (t : Tree) × Denotes F.rule F.MAX_LEAVES subtree.now t × (start < end_leaf t) }
     ensures { let h = H.hashing hasher.now in let b = digest_for pins.now.positions.items pins.now.digests.now in
-        (t : Tree) (end : ℕ) → Means F.rule F.MAX_LEAVES subtree.now t → start < end → length (siblings (in_range start end) t) ≤ length digests.now
+        (t : Tree) (end : ℕ) → Denotes F.rule F.MAX_LEAVES subtree.now t → start < end → length (siblings (in_range start end) t) ≤ length digests.now
         → IsTrue result ↔ AllRebuilt h (tree_meets (in_range 0 start)) (rebuilt_node h b) (siblings (in_range start end) t) digests.now }
 {
     if subtree.first_leaf >= start {

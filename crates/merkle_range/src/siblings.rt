@@ -1,7 +1,7 @@
 //! The digests of nodes from those outside a range of leaves.
 ghost use Rattle.std.specs.Prelude.{◌≡◌, ◌≢◌, ◌+◌, ◌<◌, ◌≤◌, not, true, [], ◌++◌, length, map, IfOk, IfErr};
 ghost use Rattle.merkle_base.specs.Tree.{Tree, position};
-ghost use Rattle.merkle_hasher.specs.Subtrees.{Means};
+ghost use Rattle.merkle_hasher.specs.Subtrees.{Denotes};
 ghost use Rattle.merkle_root_theory.specs.Plan.{tree_meets, siblings};
 ghost use Rattle.merkle_root_theory.specs.Extract.{inner_pairs};
 ghost use Rattle.merkle_root_theory.specs.Range.{in_range};
@@ -19,17 +19,17 @@ use std::ops::Range;
 
 // Whether no leaf of the range stands under a node.
 fn is_outside<F: Family>(subtree: &Subtree<F>, range: &Range<Location<F>>) -> bool
-    requires node { (t : Tree) × Means F.rule F.MAX_LEAVES subtree.now t }
+    requires node { (t : Tree) × Denotes F.rule F.MAX_LEAVES subtree.now t }
     requires some { range.now.start < range.now.end }
-    ensures { (t : Tree) → Means F.rule F.MAX_LEAVES subtree.now t → result ≡ not (tree_meets (in_range range.now.start range.now.end) t) }
+    ensures { (t : Tree) → Denotes F.rule F.MAX_LEAVES subtree.now t → result ≡ not (tree_meets (in_range range.now.start range.now.end) t) }
 {
     subtree.leaf_end() <= range.start || subtree.first_leaf >= range.end
 }
 
 // Whether each leaf of a node lies in the range.
 fn is_inside<F: Family>(subtree: &Subtree<F>, range: &Range<Location<F>>) -> bool
-    requires { (t : Tree) × Means F.rule F.MAX_LEAVES subtree.now t }
-    ensures { (t : Tree) → Means F.rule F.MAX_LEAVES subtree.now t → result ≡ true → siblings (in_range range.now.start range.now.end) t ≡ [] }
+    requires { (t : Tree) × Denotes F.rule F.MAX_LEAVES subtree.now t }
+    ensures { (t : Tree) → Denotes F.rule F.MAX_LEAVES subtree.now t → result ≡ true → siblings (in_range range.now.start range.now.end) t ≡ [] }
 {
     subtree.first_leaf >= range.start && subtree.leaf_end() <= range.end
 }
@@ -46,17 +46,17 @@ pub(crate) fn reconstruct_digest<F: Family, H: Hasher<F>, C: Collector<F, H::Dig
     digests: &mut &[H::Digest],
     out: &mut C,
 ) -> Result<H::Digest, ReconstructionError>
-    requires node { (t : Tree) × Means F.rule F.MAX_LEAVES subtree.now t }
+    requires node { (t : Tree) × Denotes F.rule F.MAX_LEAVES subtree.now t }
     requires some { range.now.start < range.now.end }
     requires all { range.now.end ≤ range.now.start + length elements.now }
     ensures ok { let h = H.hashing hasher.now in let leaf = leaf_from h F.rule range.now.start (bytes_of elements.now) in
-        IfOk result (λ d. (t : Tree) → Means F.rule F.MAX_LEAVES subtree.now t
+        IfOk result (λ d. (t : Tree) → Denotes F.rule F.MAX_LEAVES subtree.now t
         → IsWalked h (in_range range.now.start range.now.end) leaf t digests.old.now d digests.new.now) }
     ensures taken { let h = H.hashing hasher.now in let leaf = leaf_from h F.rule range.now.start (bytes_of elements.now) in
-        IfOk result (λ _. (t : Tree) → Means F.rule F.MAX_LEAVES subtree.now t
+        IfOk result (λ _. (t : Tree) → Denotes F.rule F.MAX_LEAVES subtree.now t
         → C.Took out.old (inner_pairs h (in_range range.now.start range.now.end) leaf t digests.old.now) out.new) }
     ensures err { IfErr result (λ e. e ≢ ReconstructionError.OutOfMemory → (e ≡ ReconstructionError.MissingDigests)
-        × ((t : Tree) → Means F.rule F.MAX_LEAVES subtree.now t → length digests.old.now < length (siblings (in_range range.now.start range.now.end) t))) }
+        × ((t : Tree) → Denotes F.rule F.MAX_LEAVES subtree.now t → length digests.old.now < length (siblings (in_range range.now.start range.now.end) t))) }
 {
     if is_outside(subtree, range) {
         let Some((first, others)) = digests.split_first() else {
@@ -84,9 +84,9 @@ pub(crate) fn collect_siblings<F: Family>(
     range: &Range<Location<F>>,
     out: &mut Vec<Position<F>>,
 ) -> Result<(), AllocError>
-    requires node { (t : Tree) × Means F.rule F.MAX_LEAVES subtree.now t }
+    requires node { (t : Tree) × Denotes F.rule F.MAX_LEAVES subtree.now t }
     requires some { range.now.start < range.now.end }
-    ensures { IfOk result (λ _. (t : Tree) → Means F.rule F.MAX_LEAVES subtree.now t
+    ensures { IfOk result (λ _. (t : Tree) → Denotes F.rule F.MAX_LEAVES subtree.now t
         → out.new.items ≡ out.old.items ++ map position (siblings (in_range range.now.start range.now.end) t)) }
 {
     if is_outside(subtree, range) {

@@ -7,7 +7,7 @@ use Rattle.merkle_base.specs.Tree.{Tree}
 use Rattle.merkle_base.specs.Hashing.{Hashing}
 use Rattle.merkle_base.specs.Root as root
 use Rattle.merkle_root_theory.specs.Expression.{Join, PrefixFold, SuffixFold, value}
-use Rattle.merkle_root_theory.specs.Plan.{Plan, peak, folding, forward, bag, join_bag, meets, tree_meets, outer, inner}
+use Rattle.merkle_root_theory.specs.Plan.{Plan, peak, folding, left_fold_plan, right_fold_plan, with_right_fold_plan, meets, tree_meets, outside_parts, path_siblings}
 use Rattle.merkle_root_theory.specs.Outside.{bag_all, Met, Unmet}
 use Rattle.merkle_root_theory.specs.Claim.{claim}
 use Rattle.merkle_root_theory.proofs.OutsideNodes.{bag_unmet}
@@ -26,67 +26,67 @@ pub last_append : (c : ℕ → Bool) (b : Tree) (bs : List Tree) (t : Tree) (ove
 last_append c b [] t over m = m
 last_append c b (d ∷ bs) t over m = last_append c d bs t over m
 
-pub bag_met : (c : ℕ → Bool) (i : ℕ) (t : Tree) (ts after : List Tree) → LastMet c t ts → meets c (bag i t (ts ++ after)) ≡ true
+pub bag_met : (c : ℕ → Bool) (i : ℕ) (t : Tree) (ts after : List Tree) → LastMet c t ts → meets c (right_fold_plan i t (ts ++ after)) ≡ true
 bag_met c i t [] [] m = m
-bag_met c i t [] (v ∷ vs) m = or_left (tree_meets c t) (meets c (bag (suc i) v vs)) m
-bag_met c i t (u ∷ us) after m = or_right (tree_meets c t) (meets c (bag (suc i) u (us ++ after))) (bag_met c (suc i) u us after m)
+bag_met c i t [] (v ∷ vs) m = or_left (tree_meets c t) (meets c (right_fold_plan (suc i) v vs)) m
+bag_met c i t (u ∷ us) after m = or_right (tree_meets c t) (meets c (right_fold_plan (suc i) u (us ++ after))) (bag_met c (suc i) u us after m)
 
 module _ {D : Type 0} (h : Hashing D) (c : ℕ → Bool) (X : ℕ → D) where
   -- a bag that isn't met is the next digest, whatever its number
-  bag_given : (i j : ℕ) (v : Tree) (vs : List Tree) (os is : List D) → Unmet c (v ∷ vs) → value h (claim h c X (bag i v vs) os is) ≡ value h (claim h c X (bag j v vs) os is)
-  bag_given i j v vs os is u = ap (value h) (claim_unmet h c X (bag i v vs) os is (bag_unmet c i v vs u) ∙ sym (claim_unmet h c X (bag j v vs) os is (bag_unmet c j v vs u)))
+  bag_given : (i j : ℕ) (v : Tree) (vs : List Tree) (os is : List D) → Unmet c (v ∷ vs) → value h (claim h c X (right_fold_plan i v vs) os is) ≡ value h (claim h c X (right_fold_plan j v vs) os is)
+  bag_given i j v vs os is u = ap (value h) (claim_unmet h c X (right_fold_plan i v vs) os is (bag_unmet c i v vs u) ∙ sym (claim_unmet h c X (right_fold_plan j v vs) os is (bag_unmet c j v vs u)))
 
   -- the bag of peaks, the last of them met, and of others after them, which have one digest
   pub bag_values : (i j : ℕ) (t : Tree) (ts after : List Tree) (os is : List D) → LastMet c t ts → Unmet c after
-      → root.bag h.fold (part_values h c X (map peak (t ∷ ts) ++ bag_all j after) os is) ≡ Some (value h (claim h c X (bag i t (ts ++ after)) os is))
+      → root.right_fold h.fold (part_values h c X (map peak (t ∷ ts) ++ bag_all j after) os is) ≡ Some (value h (claim h c X (right_fold_plan i t (ts ++ after)) os is))
   bag_values i j t [] [] os is m u = refl
   bag_values i j t [] (v ∷ vs) os is m u =
-      ap Some (ap (h.fold (value h (claim h c X (peak t) os is))) (bag_given j (suc i) v vs _ _ u) ∙ sym (value_folding h c X (SuffixFold i) (peak t) (bag (suc i) v vs) os is (bag_met c i t [] (v ∷ vs) m)))
+      ap Some (ap (h.fold (value h (claim h c X (peak t) os is))) (bag_given j (suc i) v vs _ _ u) ∙ sym (value_folding h c X (SuffixFold i) (peak t) (right_fold_plan (suc i) v vs) os is (bag_met c i t [] (v ∷ vs) m)))
   bag_values i j t (s ∷ ts) after os is m u =
-      ap (λ o. option_map_or (λ b. Some (h.fold (value h (claim h c X (peak t) os is)) b)) o (Some (value h (claim h c X (peak t) os is)))) (bag_values (suc i) j s ts after (drop (length (outer c (peak t))) os) (drop (length (inner c (peak t))) is) m u)
-      ∙ ap Some (sym (value_folding h c X (SuffixFold i) (peak t) (bag (suc i) s (ts ++ after)) os is (bag_met c i t (s ∷ ts) after m)))
+      ap (λ o. option_map_or (λ b. Some (h.fold (value h (claim h c X (peak t) os is)) b)) o (Some (value h (claim h c X (peak t) os is)))) (bag_values (suc i) j s ts after (drop (length (outside_parts c (peak t))) os) (drop (length (path_siblings c (peak t))) is) m u)
+      ∙ ap Some (sym (value_folding h c X (SuffixFold i) (peak t) (right_fold_plan (suc i) s (ts ++ after)) os is (bag_met c i t (s ∷ ts) after m)))
 
   -- joined to what stands before them
   join_values : (acc : Plan) (i j : ℕ) (t : Tree) (ts after : List Tree) (os is : List D) → LastMet c t ts → Unmet c after
-      → root.with_bag h.fold (value h (claim h c X acc os is)) (part_values h c X (map peak (t ∷ ts) ++ bag_all j after) (drop (length (outer c acc)) os) (drop (length (inner c acc)) is))
-      ≡ value h (claim h c X (join_bag acc i (t ∷ ts ++ after)) os is)
+      → root.with_right_fold h.fold (value h (claim h c X acc os is)) (part_values h c X (map peak (t ∷ ts) ++ bag_all j after) (drop (length (outside_parts c acc)) os) (drop (length (path_siblings c acc)) is))
+      ≡ value h (claim h c X (with_right_fold_plan acc i (t ∷ ts ++ after)) os is)
   join_values acc i j t ts after os is m u =
       let a = value h (claim h c X acc os is) in
-      ap (λ o. option_map_or (h.fold a) o a) (bag_values i j t ts after (drop (length (outer c acc)) os) (drop (length (inner c acc)) is) m u)
-      ∙ sym (value_folding h c X Join acc (bag i t (ts ++ after)) os is (or_right (meets c acc) _ (bag_met c i t ts after m)))
+      ap (λ o. option_map_or (h.fold a) o a) (bag_values i j t ts after (drop (length (outside_parts c acc)) os) (drop (length (path_siblings c acc)) is) m u)
+      ∙ sym (value_folding h c X Join acc (right_fold_plan i t (ts ++ after)) os is (or_right (meets c acc) _ (bag_met c i t ts after m)))
 
   -- where unmet peaks may stand before them
   pub join_reaches : (acc : Plan) (i j : ℕ) (bs : List Tree) (t : Tree) (over after : List Tree) (os is : List D) → Met c (t ∷ over) → Unmet c after
-      → root.with_bag h.fold (value h (claim h c X acc os is)) (part_values h c X (map peak bs ++ (map peak (t ∷ over) ++ bag_all j after)) (drop (length (outer c acc)) os) (drop (length (inner c acc)) is))
-      ≡ value h (claim h c X (join_bag acc i (bs ++ (t ∷ over ++ after))) os is)
+      → root.with_right_fold h.fold (value h (claim h c X acc os is)) (part_values h c X (map peak bs ++ (map peak (t ∷ over) ++ bag_all j after)) (drop (length (outside_parts c acc)) os) (drop (length (path_siblings c acc)) is))
+      ≡ value h (claim h c X (with_right_fold_plan acc i (bs ++ (t ∷ over ++ after))) os is)
   join_reaches acc i j [] t over after os is m u = join_values acc i j t over after os is (last_met c t over m) u
   join_reaches acc i j (b ∷ bs) t over after os is m u =
-      ap (λ ps. root.with_bag h.fold (value h (claim h c X acc os is)) (part_values h c X (peak b ∷ ps) (drop (length (outer c acc)) os) (drop (length (inner c acc)) is)))
+      ap (λ ps. root.with_right_fold h.fold (value h (claim h c X acc os is)) (part_values h c X (peak b ∷ ps) (drop (length (outside_parts c acc)) os) (drop (length (path_siblings c acc)) is)))
       (sym (append_assoc (map peak bs) (map peak (t ∷ over)) (bag_all j after)) ∙ ap (λ z. z ++ bag_all j after) (sym (map-append peak bs (t ∷ over))))
       ∙ join_values acc i j b (bs ++ t ∷ over) after os is (last_append c b bs t over (last_met c t over m)) u
-      ∙ ap (λ z. value h (claim h c X (join_bag acc i (b ∷ z)) os is)) (append_assoc bs (t ∷ over) after)
+      ∙ ap (λ z. value h (claim h c X (with_right_fold_plan acc i (b ∷ z)) os is)) (append_assoc bs (t ∷ over) after)
 
   -- and where a met part does
   join_met : (acc : Plan) (i j : ℕ) (over after : List Tree) (os is : List D) → meets c acc ≡ true → Met c over → Unmet c after
-      → root.with_bag h.fold (value h (claim h c X acc os is)) (part_values h c X (map peak over ++ bag_all j after) (drop (length (outer c acc)) os) (drop (length (inner c acc)) is))
-      ≡ value h (claim h c X (join_bag acc i (over ++ after)) os is)
+      → root.with_right_fold h.fold (value h (claim h c X acc os is)) (part_values h c X (map peak over ++ bag_all j after) (drop (length (outside_parts c acc)) os) (drop (length (path_siblings c acc)) is))
+      ≡ value h (claim h c X (with_right_fold_plan acc i (over ++ after)) os is)
   join_met acc i j [] [] os is e m u = refl
-  join_met acc i j [] (v ∷ vs) os is e m u = ap (h.fold (value h (claim h c X acc os is))) (bag_given j i v vs _ _ u) ∙ sym (value_folding h c X Join acc (bag i v vs) os is (or_left (meets c acc) _ e))
+  join_met acc i j [] (v ∷ vs) os is e m u = ap (h.fold (value h (claim h c X acc os is))) (bag_given j i v vs _ _ u) ∙ sym (value_folding h c X Join acc (right_fold_plan i v vs) os is (or_left (meets c acc) _ e))
   join_met acc i j (t ∷ over) after os is e m u = join_values acc i j t over after os is (last_met c t over m) u
 
   -- the first n digests after a met part are folded left to right onto its own, and the others are bagged
   abbrev pub folded_from : ℕ → Plan → List Plan → List D → List D → D
   folded_from n acc ps os is =
-      let es = part_values h c X ps (drop (length (outer c acc)) os) (drop (length (inner c acc)) is) in
-      root.with_bag h.fold (fold h.fold (value h (claim h c X acc os is)) (take n es)) (drop n es)
+      let es = part_values h c X ps (drop (length (outside_parts c acc)) os) (drop (length (path_siblings c acc)) is) in
+      root.with_right_fold h.fold (fold h.fold (value h (claim h c X acc os is)) (take n es)) (drop n es)
 
   pub folded_more : (n g : ℕ) (acc : Plan) (t : Tree) (ps : List Plan) (os is : List D) → meets c acc || tree_meets c t ≡ true → folded_from (suc n) acc (peak t ∷ ps) os is ≡ folded_from n (folding (PrefixFold g) acc (peak t)) ps os is
   folded_more n g acc t ps os is m =
-      ap₂ (λ x es. root.with_bag h.fold (fold h.fold x (take n es)) (drop n es)) (sym (value_folding h c X (PrefixFold g) acc (peak t) os is m)) (sym (values_folding h c X (PrefixFold g) acc (peak t) ps os is m))
+      ap₂ (λ x es. root.with_right_fold h.fold (fold h.fold x (take n es)) (drop n es)) (sym (value_folding h c X (PrefixFold g) acc (peak t) os is m)) (sym (values_folding h c X (PrefixFold g) acc (peak t) ps os is m))
 
   -- as a claim does where n peaks after a met part are folded so; m: how many of those after the range stand alone
   pub join_forward : (acc : Plan) (g i j n m : ℕ) (over after : List Tree) (os is : List D) → meets c acc ≡ true → Met c over → Unmet c after → m ≡ n - length over
-      → folded_from n acc (map peak over ++ (map peak (take m after) ++ bag_all j (drop m after))) os is ≡ value h (claim h c X (join_bag (forward acc g (take n (over ++ after))) i (drop n (over ++ after))) os is)
+      → folded_from n acc (map peak over ++ (map peak (take m after) ++ bag_all j (drop m after))) os is ≡ value h (claim h c X (with_right_fold_plan (left_fold_plan acc g (take n (over ++ after))) i (drop n (over ++ after))) os is)
   join_forward acc g i j zero zero over after os is e w u l = join_met acc i j over after os is e w u
   join_forward acc g i j zero (suc m) over after os is e w u l = absurd (omega (arith, l))
   join_forward acc g i j (suc n) zero [] after os is e w u l = absurd (omega (arith, l))

@@ -1,8 +1,8 @@
 -- If two alike expressions have one value, what they are given agrees, or they collide.
 use Rattle.std.proofs.Common.{◌≡◌, ◌≢◌, Bool, true, false, not, cond, List, [], ◌∷◌, ◌++◌, ◌⊎◌, inl, inr, refl, ap, ◌∙◌, filter, Decides, ⊎_elim}
 use Rattle.std.proofs.lemmas.Bool.{false≢true}
-use Rattle.merkle_root_theory.specs.Expression.{Place, Argument, Pair, Bytes, Input, Expression, hashed, value, Holds, visited, inputs, is_node, Alike, cut_left, cut_right, both, told_left, Agree}
-use Rattle.merkle_base.specs.Hashing.{Hashing, TellsApart}
+use Rattle.merkle_root_theory.specs.Expression.{Place, Argument, Pair, Bytes, Input, Expression, computed, value, Holds, visited, inputs, is_node, Alike, cut_left, cut_right, both, cross_checked_left, Agree}
+use Rattle.merkle_base.specs.Hashing.{Hashing, EqDecides}
 use Rattle.merkle_root_theory.specs.Collision.{Member, Collision, Collides, AgreeOrCollide}
 
 pub member_left : {X : Type 0} → (xs ys : List X) (x : X) → Member xs x → Member (xs ++ ys) x
@@ -51,7 +51,7 @@ left_same a b c d e = cc
 right_same : {D : Type 0} (a b c d : D) → Pair a b ≡ Pair c d → b ≡ d
 right_same a b c d e = cc
 
-module _ {D : Type 0} (h : Hashing D) (laws : TellsApart h) where
+module _ {D : Type 0} (h : Hashing D) (laws : EqDecides h) where
   unfoldable pub Collides_in : Expression D → Expression D → Type 0
   Collides_in e f = (c : Collision D) × Collides h (visited h e) (visited h f) c
 
@@ -60,26 +60,26 @@ module _ {D : Type 0} (h : Hashing D) (laws : TellsApart h) where
   unfolding Collides_in
   raised e f e' f' up up' c = (c.0, record { claimed = up _ c.1.claimed; listed = up' _ c.1.listed; differ = c.1.differ; one_digest = c.1.one_digest })
 
-  below : (place : Place) (l r l' r' : Expression D) → value h (hashed place l r) ≡ value h (hashed place l' r')
-      → ((value h l ≡ value h l') × (value h r ≡ value h r')) ⊎ Collides_in (hashed place l r) (hashed place l' r')
+  below : (place : Place) (l r l' r' : Expression D) → value h (computed place l r) ≡ value h (computed place l' r')
+      → ((value h l ≡ value h l') × (value h r ≡ value h r')) ⊎ Collides_in (computed place l r) (computed place l' r')
   unfolding Collides_in
   below place l r l' r' e = at_left (decided _ (laws (value h l) (value h l')))
     where
-      collision : (Pair (value h l) (value h r) ≢ Pair (value h l') (value h r')) → (c : Collision D) × Collides h (visited h (hashed place l r)) (visited h (hashed place l' r')) c
+      collision : (Pair (value h l) (value h r) ≢ Pair (value h l') (value h r')) → (c : Collision D) × Collides h (visited h (computed place l r)) (visited h (computed place l' r')) c
       collision n = (
         record { place = place; claimed = Pair (value h l) (value h r); listed = Pair (value h l') (value h r') },
         record { claimed = inl refl; listed = inl refl; differ = n; one_digest = e },
       )
 
-      at_right : value h l ≡ value h l' → ((value h r ≡ value h r') ⊎ (value h r ≡ value h r' → ⊥)) → ((value h l ≡ value h l') × (value h r ≡ value h r')) ⊎ ((c : Collision D) × Collides h (visited h (hashed place l r)) (visited h (hashed place l' r')) c)
+      at_right : value h l ≡ value h l' → ((value h r ≡ value h r') ⊎ (value h r ≡ value h r' → ⊥)) → ((value h l ≡ value h l') × (value h r ≡ value h r')) ⊎ ((c : Collision D) × Collides h (visited h (computed place l r)) (visited h (computed place l' r')) c)
       at_right p (inl q) = inl (p, q)
       at_right p (inr n) = inr (collision (λ q. n (right_same _ _ _ _ q)))
 
-      at_left : ((value h l ≡ value h l') ⊎ (value h l ≡ value h l' → ⊥)) → ((value h l ≡ value h l') × (value h r ≡ value h r')) ⊎ ((c : Collision D) × Collides h (visited h (hashed place l r)) (visited h (hashed place l' r')) c)
+      at_left : ((value h l ≡ value h l') ⊎ (value h l ≡ value h l' → ⊥)) → ((value h l ≡ value h l') × (value h r ≡ value h r')) ⊎ ((c : Collision D) × Collides h (visited h (computed place l r)) (visited h (computed place l' r')) c)
       at_left (inl p) = at_right p (decided _ (laws (value h r) (value h r')))
       at_left (inr n) = inr (collision (λ q. n (left_same _ _ _ _ q)))
 
-  joined : {A B : Type 0} (place : Place) (l r l' r' : Expression D) → A ⊎ Collides_in l l' → B ⊎ Collides_in r r' → (A × B) ⊎ Collides_in (hashed place l r) (hashed place l' r')
+  joined : {A B : Type 0} (place : Place) (l r l' r' : Expression D) → A ⊎ Collides_in l l' → B ⊎ Collides_in r r' → (A × B) ⊎ Collides_in (computed place l r) (computed place l' r')
   joined place l r l' r' (inl a) (inl b) = inl (a, b)
   joined place l r l' r' (inl a) (inr c) = inr (raised r r' _ _ (λ i m. inr (member_right (visited h l) (visited h r) i m)) (λ i m. inr (member_right (visited h l') (visited h r') i m)) c)
   joined place l r l' r' (inr c) b = inr (raised l l' _ _ (λ i m. inr (member_left (visited h l) (visited h r) i m)) (λ i m. inr (member_left (visited h l') (visited h r') i m)) c)
@@ -87,7 +87,7 @@ module _ {D : Type 0} (h : Hashing D) (laws : TellsApart h) where
   pub main_visited : {e f : Expression D} (a : Alike e f) → Holds h e → value h e ≡ value h f → Agree h a ⊎ Collides_in e f
   main_visited (cut_left d e) ok same = inl same
   main_visited (cut_right e d) ok same = inl same
-  main_visited (told_left d {e = e} {f = f} a) ok same = ⊎_elim (λ g. inl (ok.0 ∙ same, g)) (λ c. inr (raised e f _ _ (λ i m. m) (λ i m. m) c)) (main_visited a ok.1 same)
+  main_visited (cross_checked_left d {e = e} {f = f} a) ok same = ⊎_elim (λ g. inl (ok.0 ∙ same, g)) (λ c. inr (raised e f _ _ (λ i m. m) (λ i m. m) c)) (main_visited a ok.1 same)
   main_visited (both place {l = l} {l' = l'} {r = r} {r' = r'} a b) ok same =
       ⊎_elim (λ s. joined place l r l' r' (main_visited a ok.0 s.0) (main_visited b ok.1 s.1)) inr (below place l r l' r' same)
 

@@ -17,7 +17,7 @@ use Rattle.merkle_root_theory.specs.Outside.{fold_all, bag_all, folded_prefix, s
 use Rattle.merkle_root_theory.specs.Check.{RangeInput, leaf_given, chosen}
 use Rattle.merkle_base.specs.Scheme.{Scheme}
 use Rattle.merkle_base.specs.Places.{peaks_of, wholly_before}
-use Rattle.merkle_root_theory.specs.Range.{in_range, overlapping, wholly_after, range_parts, range_siblings, end_of, leaf_of, IsHonestSome}
+use Rattle.merkle_root_theory.specs.Range.{in_range, overlapping, wholly_after, range_parts, range_siblings, end_of, leaf_of, IsHonestNonempty}
 use Rattle.merkle_root_theory.specs.Extract.{inner_pairs, over_pairs, single_pairs, extracted, IsNodePair, ExtractsNodes}
 use Rattle.merkle_base.proofs.Cases.{by_test}
 use Rattle.merkle_root_theory.proofs.Claims.{split_left, split_right, tree_honest}
@@ -106,7 +106,7 @@ pub extracts_nodes : {D : Type 0} → ExtractsNodes D
 unfolding IsPair
 extracts_nodes {D = D} s size max_nodes sound xs k few low r ok = ⊎_elim (λ w. inl (right w)) inr (some_honest s size max_nodes sound xs k few low r ok)
   where
-    right : IsHonestSome s xs k r → AllByRecursion (IsNodePair s xs) (extracted s r)
+    right : IsHonestNonempty s xs k r → AllByRecursion (IsNodePair s xs) (extracted s r)
     right w =
         let ts = peaks_of s.rule r.leaves in
         let ns = (forest s.rule r.leaves).nodes in

@@ -8,10 +8,10 @@ use Rattle.merkle_base.proofs.Nodes.{width_pos}
 use Rattle.merkle_root_theory.specs.Plan.{tree_meets, siblings}
 use Rattle.merkle_root_theory.specs.Range.{overlapping, wholly_after}
 use Rattle.merkle_base.proofs.PeakLists.{filter_yes, filter_no}
-use Rattle.merkle_hasher.specs.Subtrees.{Stands}
+use Rattle.merkle_hasher.specs.Subtrees.{IsNodeOf}
 use Rattle.merkle_hasher.specs.declared.subtree.Subtree.{Subtree}
 use Rattle.merkle_hasher.specs.Subtrees.{subtree_of}
-use Rattle.merkle_hasher.specs.Subtrees.{Means}
+use Rattle.merkle_hasher.specs.Subtrees.{Denotes}
 use Rattle.merkle_root_theory.proofs.Walks.{siblings_unmet}
 use Rattle.merkle_base.specs.Places.{wholly_before}
 
@@ -23,7 +23,7 @@ if_ok (Err e) f h = tt
 pub none_more : (xs : List ℕ) (ts : List Tree) → ts ≡ [] → xs ≡ xs ++ map position ts
 none_more xs ts e = sym (append-nil xs) ∙ ap (λ z. xs ++ map position z) (sym e)
 
-pub outside_positions : (rule : List ℕ → List ℕ) (m p s tall : ℕ) (c : ℕ → Bool) (t : Tree) → Stands rule m p tall s t → tree_meets c t ≡ false → p ∷ [] ≡ map position (siblings c t)
+pub outside_positions : (rule : List ℕ → List ℕ) (m p s tall : ℕ) (c : ℕ → Bool) (t : Tree) → IsNodeOf rule m p tall s t → tree_meets c t ≡ false → p ∷ [] ≡ map position (siblings c t)
 outside_positions rule m p s tall c t w e = ap (λ q. q ∷ []) (sym ((forest_grown rule m).placed p t w.at)) ∙ ap (map position) (sym (siblings_unmet c t e))
 
 filter_push_yes : (p : Tree → Bool) (xs : List Tree) (t : Tree) → p t ≡ true → filter p (xs ++ t ∷ []) ≡ filter p xs ++ t ∷ []
@@ -73,14 +73,14 @@ module _ (a b : ℕ) (done : List Tree) (t : Tree) where
   outside_over l m = ap₂ ◌++◌ (before_no l) (after_no m)
 
 -- a subtree is known by its node
-pub subtree_is : {F : Type 0} (rule : List ℕ → List ℕ) (m : ℕ) (s : Subtree F) (t : Tree) → Means rule m s t → s ≡ subtree_of t
+pub subtree_is : {F : Type 0} (rule : List ℕ → List ℕ) (m : ℕ) (s : Subtree F) (t : Tree) → Denotes rule m s t → s ≡ subtree_of t
 subtree_is {F = F} rule m s t w =
     let make : ℕ → ℕ → ℕ → Subtree F = λ p h n. record { position = p; height = h; first_leaf = n } in
     ap (λ p. make p s.height s.first_leaf) (sym ((forest_grown rule m).placed s.position t w.at)) ∙ ap (λ h. make (position t) h s.first_leaf) (sym w.height_is) ∙ ap (make (position t) (height t)) (sym w.first_is)
 
 -- one more subtree, one more position
-pub push_subtree : {F : Type 0} (rule : List ℕ → List ℕ) (m : ℕ) (s : Subtree F) (t : Tree) → Means rule m s t → (xs ys : List (Subtree F)) (ts us : List Tree) → ys ≡ xs ++ s ∷ [] → xs ≡ map subtree_of ts → us ≡ ts ++ t ∷ [] → ys ≡ map subtree_of us
+pub push_subtree : {F : Type 0} (rule : List ℕ → List ℕ) (m : ℕ) (s : Subtree F) (t : Tree) → Denotes rule m s t → (xs ys : List (Subtree F)) (ts us : List Tree) → ys ≡ xs ++ s ∷ [] → xs ≡ map subtree_of ts → us ≡ ts ++ t ∷ [] → ys ≡ map subtree_of us
 push_subtree rule m s t w xs ys ts us e h u = e ∙ ap₂ (λ z x. z ++ x ∷ []) h (subtree_is rule m s t w) ∙ sym (map-append subtree_of ts (t ∷ [])) ∙ ap (map subtree_of) (sym u)
 
-pub push_position : {F : Type 0} (rule : List ℕ → List ℕ) (m : ℕ) (s : Subtree F) (t : Tree) → Means rule m s t → (xs ys : List ℕ) (ts us : List Tree) → ys ≡ xs ++ s.position ∷ [] → xs ≡ map position ts → us ≡ ts ++ t ∷ [] → ys ≡ map position us
+pub push_position : {F : Type 0} (rule : List ℕ → List ℕ) (m : ℕ) (s : Subtree F) (t : Tree) → Denotes rule m s t → (xs ys : List ℕ) (ts us : List Tree) → ys ≡ xs ++ s.position ∷ [] → xs ≡ map position ts → us ≡ ts ++ t ∷ [] → ys ≡ map position us
 push_position rule m s t w xs ys ts us e h u = e ∙ ap₂ (λ z x. z ++ x ∷ []) h (sym ((forest_grown rule m).placed s.position t w.at)) ∙ sym (map-append position ts (t ∷ [])) ∙ ap (map position) (sym u)

@@ -8,7 +8,7 @@ use Rattle.merkle_base.specs.Root.{folded, peaks_root, root_string}
 use Rattle.merkle_base.specs.declared.family.Bagging.{Bagging}
 use Rattle.merkle_base.specs.declared.family.Bagging.TheVariants.{ForwardFold, BackwardFold}
 use Rattle.merkle_root_theory.specs.Expression.{Expression, value}
-use Rattle.merkle_root_theory.specs.Plan.{Plan, peak, whole}
+use Rattle.merkle_root_theory.specs.Plan.{Plan, peak, root_plan}
 use Rattle.merkle_root_theory.specs.Claim.{claim, claim_of}
 use Rattle.merkle_root_theory.specs.Outside.{fold_all, bag_all, folded_prefix, single_before, single_after, folded_suffix, Met, Unmet, HasLayout}
 use Rattle.merkle_root_theory.specs.Layouts.{count_before, count_after, count_inactive}
@@ -55,7 +55,7 @@ module _ {D : Type 0} (h : Hashing D) (c : ℕ → Bool) (X : ℕ → D) (baggin
   IsFoldedTo before over after =
       let i = count_before bagging k before in let j = count_after bagging k (length before + length over) after in
       folded h.fold bagging (count_inactive bagging k before) (take i ds ++ (peak_values h c X over (drop (i + j) ds) ++ take j (drop i ds)))
-      ≡ option_map (λ p. value h (claim_of h c X p ds)) (whole bagging k (before ++ (over ++ after)))
+      ≡ option_map (λ p. value h (claim_of h c X p ds)) (root_plan bagging k (before ++ (over ++ after)))
 
   claim_counted : (n : ℕ) (os : List Plan) (is : List Tree) (o : Option Plan) → HasLayout c os is o → n ≡ length os → option_map (λ p. value h (claim h c X p ds (drop n ds))) o ≡ option_map (λ p. value h (claim_of h c X p ds)) o
   claim_counted n os is None w e = absurd w
@@ -72,7 +72,7 @@ module _ {D : Type 0} (h : Hashing D) (c : ℕ → Bool) (X : ℕ → D) (baggin
       (unmet_parts_before c bagging k before u) m (unmet_parts_after c bagging k met after v) (omega (arith, l, i_is, j_is))
       ∙ ap₂ (λ x y. take x ds ++ (peak_values h c X (t ∷ over) (drop (i + j) ds) ++ take y (drop x ds))) i_is j_is))
       ∙ parts_folded h c X k t over after m v ds (drop (i + j) ds) bagging before
-      ∙ claim_counted (i + j) _ _ (whole bagging k (before ++ (t ∷ over ++ after))) (outside_is_layout c bagging k before t over after u m v) (sym (length-layout bagging k before (t ∷ over) after))
+      ∙ claim_counted (i + j) _ _ (root_plan bagging k (before ++ (t ∷ over ++ after))) (outside_is_layout c bagging k before t over after u m v) (sym (length-layout bagging k before (t ∷ over) after))
 
 module _ {D : Type 0} (s : Scheme D) (r : RangeInput D) where
   abbrev all_peaks : List Tree
@@ -139,7 +139,7 @@ module _ {D : Type 0} (s : Scheme D) (r : RangeInput D) where
           let V : Plan → Expression D = λ p. claim_of s.hashing (chosen r) (leaf_given s.hashing r) p r.digests in
           ap (λ o. s.hashing.hash (root_string s.hashing s.domain s.bagging r.leaves r.inactive o))
           (ap (folded s.hashing.fold s.bagging (count_inactive s.bagging r.inactive (wholly_before r.start all_peaks))) w.digests ∙ input_folded (omega (arith, w.count))
-          ∙ ap (λ z. option_map (λ p. value s.hashing (V p)) (whole s.bagging r.inactive z)) (sym split) ∙ option_twice V (value s.hashing) (whole s.bagging r.inactive all_peaks))
+          ∙ ap (λ z. option_map (λ p. value s.hashing (V p)) (root_plan s.bagging r.inactive z)) (sym split) ∙ option_twice V (value s.hashing) (root_plan s.bagging r.inactive all_peaks))
         where
           option_twice : {A B C : Type 0} (f : A → B) (g : B → C) (o : Option A) → option_map (λ x. g (f x)) o ≡ option_map g (option_map f o)
           option_twice f g None = refl

@@ -10,8 +10,8 @@ use Rattle.merkle_base.specs.Root as root
 use Rattle.merkle_base.specs.Root.{folded, root_string}
 use Rattle.merkle_base.specs.declared.family.Bagging.{Bagging}
 use Rattle.merkle_base.specs.declared.family.Bagging.TheVariants.{ForwardFold, BackwardFold}
-use Rattle.merkle_root_theory.specs.Expression.{Place, Join, Expression, hashed, value}
-use Rattle.merkle_root_theory.specs.Plan.{Plan, peak, folding, forward, bag, join_bag, whole, full, tree_digest}
+use Rattle.merkle_root_theory.specs.Expression.{Place, Join, Expression, computed, value}
+use Rattle.merkle_root_theory.specs.Plan.{Plan, peak, folding, left_fold_plan, right_fold_plan, with_right_fold_plan, root_plan, plan_expression, tree_digest}
 use Rattle.merkle_root_theory.specs.Range.{leaf_of}
 use Rattle.merkle_root_theory.specs.ListRoot.{RootsAgree}
 use Rattle.merkle_root_theory.proofs.BuiltLayouts.{fold_values, bag_values}
@@ -22,30 +22,30 @@ digest_at_is h xs (leaf p i) = refl
 digest_at_is h xs (join p l r) = ap₂ (h.node p) (digest_at_is h xs l) (digest_at_is h xs r)
 
 -- expressions of plans, of which a fold's is that of its two parts at its place
-module _ {D : Type 0} (h : Hashing D) (E : Plan → Expression D) (folds : (place : Place) (l r : Plan) → E (folding place l r) ≡ hashed place (E l) (E r)) where
+module _ {D : Type 0} (h : Hashing D) (E : Plan → Expression D) (folds : (place : Place) (l r : Plan) → E (folding place l r) ≡ computed place (E l) (E r)) where
   abbrev plan_value : Plan → D
   plan_value p = value h (E p)
 
   abbrev peak_value : Tree → D
   peak_value t = plan_value (peak t)
 
-  join_is : (acc : Plan) (i : ℕ) (ts : List Tree) → root.with_bag h.fold (plan_value acc) (map peak_value ts) ≡ plan_value (join_bag acc i ts)
+  join_is : (acc : Plan) (i : ℕ) (ts : List Tree) → root.with_right_fold h.fold (plan_value acc) (map peak_value ts) ≡ plan_value (with_right_fold_plan acc i ts)
   join_is acc i [] = refl
-  join_is acc i (t ∷ ts) = ap (λ o. option_map_or (h.fold (plan_value acc)) o (plan_value acc)) (bag_values h E folds i t ts) ∙ sym (ap (value h) (folds Join acc (bag i t ts)))
+  join_is acc i (t ∷ ts) = ap (λ o. option_map_or (h.fold (plan_value acc)) o (plan_value acc)) (bag_values h E folds i t ts) ∙ sym (ap (value h) (folds Join acc (right_fold_plan i t ts)))
 
   -- the peaks' values are folded to the plan's
-  pub folded_values : (bagging : Bagging) (k : ℕ) (ts : List Tree) → folded h.fold bagging k (map peak_value ts) ≡ option_map (value h) (option_map E (whole bagging k ts))
+  pub folded_values : (bagging : Bagging) (k : ℕ) (ts : List Tree) → folded h.fold bagging k (map peak_value ts) ≡ option_map (value h) (option_map E (root_plan bagging k ts))
   folded_values bagging k [] = refl
   folded_values ForwardFold k (t ∷ ts) = ap Some (fold_values h E folds (peak t) 1 ts)
   folded_values BackwardFold k (t ∷ ts) =
       let less : k - 1 ≡ pred k = omega arith in
-      ap Some (ap (λ n. root.with_bag h.fold (fold h.fold (peak_value t) (take n (map peak_value ts))) (drop n (map peak_value ts))) less
-      ∙ ap₂ (λ us vs. root.with_bag h.fold (fold h.fold (peak_value t) us) vs) (take-map peak_value (pred k) ts) (drop-map peak_value (pred k) ts)
-      ∙ ap (λ z. root.with_bag h.fold z (map peak_value (drop (pred k) ts))) (fold_values h E folds (peak t) 1 (take (pred k) ts))
-      ∙ join_is (forward (peak t) 1 (take (pred k) ts)) (suc (pred k)) (drop (pred k) ts))
+      ap Some (ap (λ n. root.with_right_fold h.fold (fold h.fold (peak_value t) (take n (map peak_value ts))) (drop n (map peak_value ts))) less
+      ∙ ap₂ (λ us vs. root.with_right_fold h.fold (fold h.fold (peak_value t) us) vs) (take-map peak_value (pred k) ts) (drop-map peak_value (pred k) ts)
+      ∙ ap (λ z. root.with_right_fold h.fold z (map peak_value (drop (pred k) ts))) (fold_values h E folds (peak t) 1 (take (pred k) ts))
+      ∙ join_is (left_fold_plan (peak t) 1 (take (pred k) ts)) (suc (pred k)) (drop (pred k) ts))
 
-folded_is : {D : Type 0} (h : Hashing D) (X : ℕ → D) (bagging : Bagging) (k : ℕ) (ts : List Tree) → folded h.fold bagging k (map (tree_digest h X) ts) ≡ option_map (value h) (option_map (full X) (whole bagging k ts))
-folded_is h X bagging k ts = folded_values h (full X) (λ place l r. refl) bagging k ts
+folded_is : {D : Type 0} (h : Hashing D) (X : ℕ → D) (bagging : Bagging) (k : ℕ) (ts : List Tree) → folded h.fold bagging k (map (tree_digest h X) ts) ≡ option_map (value h) (option_map (plan_expression X) (root_plan bagging k ts))
+folded_is h X bagging k ts = folded_values h (plan_expression X) (λ place l r. refl) bagging k ts
 
 digests_are : {D : Type 0} (h : Hashing D) (xs : List D) (ts : List Tree) → map (digest_at h xs) ts ≡ map (tree_digest h (leaf_of h xs)) ts
 digests_are h xs [] = refl

@@ -10,7 +10,7 @@ use Rattle.merkle_base.specs.Places.{peaks_of}
 use Rattle.merkle_base.specs.Root.{root_string, inactive_bytes}
 use Rattle.merkle_base.proofs.Lists.{cons_head, cons_tail}
 use Rattle.merkle_root_theory.specs.Expression.{Argument, Bytes, Expression, value}
-use Rattle.merkle_root_theory.specs.Plan.{Plan, whole}
+use Rattle.merkle_root_theory.specs.Plan.{Plan, root_plan}
 use Rattle.merkle_root_theory.specs.Claim.{claim_of}
 use Rattle.merkle_root_theory.specs.Check.{RangeInput, root_of, string_of, chosen, leaf_given, range_expression}
 use Rattle.merkle_base.specs.Scheme.{Scheme}
@@ -22,7 +22,7 @@ use Rattle.merkle_root_theory.proofs.RangeChecks.{no_plan}
 nothing : {D : Type 0} (s : Scheme D) (r : RangeInput D) → IsEmptyInput r → range_expression s r ≡ None
 nothing s r empty =
     ap (λ (o : Option Plan). option_map (λ p. claim_of s.hashing (chosen r) (leaf_given s.hashing r) p r.digests) o)
-    (ap (λ n. whole s.bagging r.inactive (peaks_of s.rule n)) empty.leaves ∙ no_plan s s.bagging r.inactive)
+    (ap (λ n. root_plan s.bagging r.inactive (peaks_of s.rule n)) empty.leaves ∙ no_plan s s.bagging r.inactive)
 
 pub accepted_root : {D : Type 0} (s : Scheme D) (r : RangeInput D) (root : D) → Accepts s r root → root_of s r.leaves r.inactive (range_expression s r) ≡ root
 accepted_root s r root (inl a) = a.root_is

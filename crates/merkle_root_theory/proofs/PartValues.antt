@@ -3,8 +3,8 @@ use Rattle.std.proofs.Common.{◌≡◌, ℕ, Bool, true, false, cond, ◌||◌,
 use Rattle.std.specs.List.{AllByRecursion}
 use Rattle.merkle_base.specs.Tree.{Tree}
 use Rattle.merkle_base.specs.Hashing.{Hashing}
-use Rattle.merkle_root_theory.specs.Expression.{Place, value, hashed, hashed_at, given}
-use Rattle.merkle_root_theory.specs.Plan.{Plan, peak, folding, meets, siblings, outer, inner}
+use Rattle.merkle_root_theory.specs.Expression.{Place, value, computed, hashed_at, supplied}
+use Rattle.merkle_root_theory.specs.Plan.{Plan, peak, folding, meets, siblings, outside_parts, path_siblings}
 use Rattle.merkle_root_theory.specs.Outside.{Met, Unmet}
 use Rattle.merkle_root_theory.specs.Claim.{next, claim, tree_claim}
 use Rattle.merkle_root_theory.specs.Walk.{peak_values}
@@ -13,7 +13,7 @@ use Rattle.merkle_root_theory.proofs.OutsideNodes.{outer_unmet, inner_unmet}
 -- the digests of parts, from those given for the outer parts and for the inner nodes
 abbrev pub part_values : {D : Type 0} → Hashing D → (ℕ → Bool) → (ℕ → D) → List Plan → List D → List D → List D
 part_values h c X [] os is = []
-part_values h c X (p ∷ ps) os is = value h (claim h c X p os is) ∷ part_values h c X ps (drop (length (outer c p)) os) (drop (length (inner c p)) is)
+part_values h c X (p ∷ ps) os is = value h (claim h c X p os is) ∷ part_values h c X ps (drop (length (outside_parts c p)) os) (drop (length (path_siblings c p)) is)
 
 -- no chosen location lies under any part
 abbrev pub UnmetParts : (ℕ → Bool) → List Plan → Type 0
@@ -29,22 +29,22 @@ module _ (c : ℕ → Bool) where
   unmet_append (p ∷ ps) qs u v = (u.0, unmet_append ps qs u.1 v)
 
 module _ {D : Type 0} (h : Hashing D) (c : ℕ → Bool) (X : ℕ → D) where
-  pub claim_unmet : (p : Plan) (os is : List D) → meets c p ≡ false → claim h c X p os is ≡ given (next h os)
-  claim_unmet (peak t) os is e = ap (λ z. cond z (tree_claim h c X t is) (given (next h os))) e
-  claim_unmet (folding q l r) os is e = ap (λ z. cond z (hashed q (claim h c X l os is) (claim h c X r (drop (length (outer c l)) os) (drop (length (inner c l)) is))) (given (next h os))) e
+  pub claim_unmet : (p : Plan) (os is : List D) → meets c p ≡ false → claim h c X p os is ≡ supplied (next h os)
+  claim_unmet (peak t) os is e = ap (λ z. cond z (tree_claim h c X t is) (supplied (next h os))) e
+  claim_unmet (folding q l r) os is e = ap (λ z. cond z (computed q (claim h c X l os is) (claim h c X r (drop (length (outside_parts c l)) os) (drop (length (path_siblings c l)) is))) (supplied (next h os))) e
 
   -- a met folding hashes the digests of its sides
   pub value_folding : (q : Place) (l r : Plan) (os is : List D) → meets c l || meets c r ≡ true
-      → value h (claim h c X (folding q l r) os is) ≡ hashed_at h q (value h (claim h c X l os is)) (value h (claim h c X r (drop (length (outer c l)) os) (drop (length (inner c l)) is)))
-  value_folding q l r os is m = ap (λ z. value h (cond z (hashed q (claim h c X l os is) (claim h c X r (drop (length (outer c l)) os) (drop (length (inner c l)) is))) (given (next h os)))) m
+      → value h (claim h c X (folding q l r) os is) ≡ hashed_at h q (value h (claim h c X l os is)) (value h (claim h c X r (drop (length (outside_parts c l)) os) (drop (length (path_siblings c l)) is)))
+  value_folding q l r os is m = ap (λ z. value h (cond z (computed q (claim h c X l os is) (claim h c X r (drop (length (outside_parts c l)) os) (drop (length (path_siblings c l)) is))) (supplied (next h os)))) m
 
   -- and the parts after it take what the sides leave
   pub values_folding : (q : Place) (l r : Plan) (ps : List Plan) (os is : List D) → meets c l || meets c r ≡ true
-      → part_values h c X ps (drop (length (outer c (folding q l r))) os) (drop (length (inner c (folding q l r))) is)
-      ≡ part_values h c X ps (drop (length (outer c r)) (drop (length (outer c l)) os)) (drop (length (inner c r)) (drop (length (inner c l)) is))
+      → part_values h c X ps (drop (length (outside_parts c (folding q l r))) os) (drop (length (path_siblings c (folding q l r))) is)
+      ≡ part_values h c X ps (drop (length (outside_parts c r)) (drop (length (outside_parts c l)) os)) (drop (length (path_siblings c r)) (drop (length (path_siblings c l)) is))
   values_folding q l r ps os is m = ap₂ (part_values h c X ps)
-      (ap (λ z. drop (length (cond z (outer c l ++ outer c r) (folding q l r ∷ []))) os) m ∙ ap (λ n. drop n os) (length-append (outer c l) (outer c r)) ∙ sym (drop-drop (length (outer c r)) (length (outer c l)) os))
-      (ap (λ z. drop (length (cond z (inner c l ++ inner c r) [])) is) m ∙ ap (λ n. drop n is) (length-append (inner c l) (inner c r)) ∙ sym (drop-drop (length (inner c r)) (length (inner c l)) is))
+      (ap (λ z. drop (length (cond z (outside_parts c l ++ outside_parts c r) (folding q l r ∷ []))) os) m ∙ ap (λ n. drop n os) (length-append (outside_parts c l) (outside_parts c r)) ∙ sym (drop-drop (length (outside_parts c r)) (length (outside_parts c l)) os))
+      (ap (λ z. drop (length (cond z (path_siblings c l ++ path_siblings c r) [])) is) m ∙ ap (λ n. drop n is) (length-append (path_siblings c l) (path_siblings c r)) ∙ sym (drop-drop (length (path_siblings c r)) (length (path_siblings c l)) is))
 
   -- a part that isn't met takes the next digest
   values_unmet : (p : Plan) (ps : List Plan) (d : D) (os is : List D) → meets c p ≡ false → part_values h c X (p ∷ ps) (d ∷ os) is ≡ d ∷ part_values h c X ps os is
@@ -60,7 +60,7 @@ module _ {D : Type 0} (h : Hashing D) (c : ℕ → Bool) (X : ℕ → D) where
       → part_values h c X (map peak over ++ qs) os is ≡ peak_values h c X over is ++ take (length qs) os
   values_met [] qs os is m v l = values_given qs os is v l
   values_met (t ∷ over) qs os is m v l =
-      ap₂ (λ x y. x ∷ y) (ap (λ z. value h (cond z (tree_claim h c X t is) (given (next h os)))) m.0)
+      ap₂ (λ x y. x ∷ y) (ap (λ z. value h (cond z (tree_claim h c X t is) (supplied (next h os)))) m.0)
       (ap₂ (part_values h c X (map peak over ++ qs)) (ap (λ z. drop (length (cond z [] (peak t ∷ []))) os) m.0) (ap (λ z. drop (length (cond z (siblings c t) [])) is) m.0)
       ∙ values_met over qs os (drop (length (siblings c t)) is) m.1 v l)
 

@@ -5,7 +5,7 @@ use Rattle.std.proofs.lemmas.Bool.{lt-leb, or_right, and_parts, and_left, and_ri
 use Rattle.merkle_base.specs.Tree.{Tree, leaf, join, first_leaf, width, IsBuilt, end_leaf}
 use Rattle.merkle_base.proofs.PeakLists.{Spans, spans_end, filter_yes, filter_no, none_before, peaks_built, peaks_spans}
 use Rattle.merkle_base.proofs.Nodes.{width_pos}
-use Rattle.merkle_root_theory.specs.Plan.{whole, tree_meets, siblings}
+use Rattle.merkle_root_theory.specs.Plan.{root_plan, tree_meets, siblings}
 use Rattle.merkle_root_theory.specs.Outside.{layout, Unmet, Met, HasLayout}
 use Rattle.merkle_base.specs.Scheme.{Scheme}
 use Rattle.merkle_base.specs.Places.{peaks_of, wholly_before}
@@ -95,15 +95,15 @@ module _ (a b : ℕ) where
       (λ _ e. let w = and_parts (nat_lt (first_leaf t) b) (nat_lt a (end_leaf t)) e in (meets_yes ns t h.0 (ltb-true (first_leaf t) b w.0) (ltb-true a (end_leaf t) w.1) l, met_over ns ts l h.1)) (λ _ e. met_over ns ts l h.1) refl
 
 -- the parts outside a range are those of the table
-pub range_layout : {D : Type 0} (s : Scheme D) (n k a b : ℕ) → a < b → b ≤ n → HasLayout (in_range a b) (range_parts s.bagging k a b (peaks_of s.rule n)) (range_siblings a b (peaks_of s.rule n)) (whole s.bagging k (peaks_of s.rule n))
+pub range_layout : {D : Type 0} (s : Scheme D) (n k a b : ℕ) → a < b → b ≤ n → HasLayout (in_range a b) (range_parts s.bagging k a b (peaks_of s.rule n)) (range_siblings a b (peaks_of s.rule n)) (root_plan s.bagging k (peaks_of s.rule n))
 range_layout s n k a b l m =
     let ts = peaks_of s.rule n in
-    subst (λ z. HasLayout (in_range a b) (range_parts s.bagging k a b ts) (range_siblings a b ts) (whole s.bagging k z)) (sym (groups a b 0 n ts l (peaks_spans s.rule n)))
+    subst (λ z. HasLayout (in_range a b) (range_parts s.bagging k a b ts) (range_siblings a b ts) (root_plan s.bagging k z)) (sym (groups a b 0 n ts l (peaks_spans s.rule n)))
     (laid (wholly_before a ts) (overlapping a b ts) (wholly_after b ts) (some_over a b 0 n ts l (peaks_spans s.rule n) (omega arith) (omega arith))
     (unmet_before a b _ ts (peaks_built s.rule n)) (met_over a b _ ts l (peaks_built s.rule n)) (unmet_after a b _ ts (peaks_built s.rule n)))
   where
     laid : (before over after : List Tree) → (over ≡ [] → ⊥) → Unmet (in_range a b) before → Met (in_range a b) over → Unmet (in_range a b) after
-        → HasLayout (in_range a b) (layout s.bagging k before over after) (flat_map (siblings (in_range a b)) over) (whole s.bagging k (before ++ (over ++ after)))
+        → HasLayout (in_range a b) (layout s.bagging k before over after) (flat_map (siblings (in_range a b)) over) (root_plan s.bagging k (before ++ (over ++ after)))
     laid before [] after x u v w = absurd (x refl)
     laid before (t ∷ over) after x u v w = outside_is_layout (in_range a b) s.bagging k before t over after u v w
 

@@ -12,15 +12,15 @@ use Rattle.merkle_base.proofs.Nodes.{size_le}
 use Rattle.merkle_base.proofs.Lookup.{size_large}
 use Rattle.merkle_base.proofs.Balance.{heights_forest}
 use Rattle.merkle_root_theory.specs.Collision.{Member, Collision, Collides}
-use Rattle.merkle_root_theory.specs.Plan.{Plan, whole, full, plan_digest, tree_digest}
+use Rattle.merkle_root_theory.specs.Plan.{Plan, root_plan, plan_expression, plan_digest, tree_digest}
 use Rattle.merkle_base.specs.declared.family.Bagging.{Bagging}
 use Rattle.merkle_base.specs.declared.family.Bagging.TheVariants.{ForwardFold, BackwardFold}
 use Rattle.merkle_root_theory.specs.Claim.{InTree, claim_of}
 use Rattle.merkle_root_theory.specs.Outside.{HasLayout}
-use Rattle.merkle_root_theory.specs.Check.{root_of, all_inputs, list_expression, RangeInput, chosen, leaf_given, range_expression, Counts, HasHonestDigests, RangeAccepts, IsHonest, Covers}
+use Rattle.merkle_root_theory.specs.Check.{root_of, all_inputs, list_expression, RangeInput, chosen, leaf_given, range_expression, Counts, HasHonestDigests, AcceptsByPlan, IsHonestByPlan, Covers}
 use Rattle.merkle_base.specs.Scheme.{Scheme}
 use Rattle.merkle_base.specs.Places.{peaks_of}
-use Rattle.merkle_root_theory.specs.Range.{end_of, range_parts, range_siblings, leaf_of, range_digests, AcceptsSome, IsEmptyInput, IsHonestSome, plan_root, Sound, RangeCollides, HonestIsAccepted, AcceptedIsHonest}
+use Rattle.merkle_root_theory.specs.Range.{end_of, range_parts, range_siblings, leaf_of, range_digests, AcceptsNonempty, IsEmptyInput, IsHonestNonempty, plan_root, IsLawfulScheme, RangeCollides, HonestIsAccepted, RangeSound}
 use Rattle.merkle_root_theory.proofs.ListChecks.{was_chosen, no_other_range, honest_range_accepted, root_tells}
 use Rattle.merkle_root_theory.proofs.PeakGroups.{range_layout}
 use Rattle.merkle_base.proofs.PeakLists.{Spans, peaks_built, peaks_spans}
@@ -51,7 +51,7 @@ pub small_inactive : {D : Type 0} (s : Scheme D) (max_nodes n k : ℕ) → IsLaw
 small_inactive s max_nodes n k law l m = omega (arith, length-reverse (forest s.rule n).peaks, length-map (forest s.rule n).peaks height, ap length (heights_forest s.rule n), law.few n l)
 
 -- no leaves, no plan
-pub no_plan : {D : Type 0} (s : Scheme D) (b : Bagging) (k : ℕ) → whole b k (peaks_of s.rule 0) ≡ None
+pub no_plan : {D : Type 0} (s : Scheme D) (b : Bagging) (k : ℕ) → root_plan b k (peaks_of s.rule 0) ≡ None
 unfolding forest
 no_plan s ForwardFold k = refl
 no_plan s BackwardFold k = refl
@@ -65,7 +65,7 @@ pub empty_root : {D : Type 0} (s : Scheme D) (xs : List D) (k : ℕ) → k ≤ l
 empty_root s xs k low e =
     let l : 0 ≡ length xs = sym (ap length e) in
     let z : 0 ≡ k = omega (arith, subst (λ n. k ≤ length (peaks_of s.rule n)) (sym l) low, no_peaks s) in
-    ap (λ o. root_of s 0 0 (option_map (full (leaf_of s.hashing xs)) o)) (sym (no_plan s s.bagging 0))
+    ap (λ o. root_of s 0 0 (option_map (plan_expression (leaf_of s.hashing xs)) o)) (sym (no_plan s s.bagging 0))
     ∙ ap₂ (λ n j. root_of s n j (list_expression s (leaf_of s.hashing xs) n j)) l z
 
 module _ {D : Type 0} (s : Scheme D) (xs : List D) (r : RangeInput D) where
@@ -83,7 +83,7 @@ module _ {D : Type 0} (s : Scheme D) (xs : List D) (r : RangeInput D) where
   digests_of os is None w e = elim e [ ]
   digests_of os is (Some p) w e = e ∙ ap₂ (λ x y. map (plan_digest s.hashing (leaf_of s.hashing xs)) x ++ map (tree_digest s.hashing (leaf_of s.hashing xs)) y) w.0 w.1
 
-pub old_accepts : {D : Type 0} (s : Scheme D) (max_nodes : ℕ) → IsLawful s.rule s.max_leaves max_nodes → (r : RangeInput D) (root : D) → AcceptsSome s r root → RangeAccepts s r root
+pub old_accepts : {D : Type 0} (s : Scheme D) (max_nodes : ℕ) → IsLawful s.rule s.max_leaves max_nodes → (r : RangeInput D) (root : D) → AcceptsNonempty s r root → AcceptsByPlan s r root
 old_accepts s max_nodes law r root ok = record {
   within = ok.within;
   leaves = small_leaves s max_nodes r.leaves law ok.leaves;
@@ -100,14 +100,14 @@ elements_are s xs r within g =
     ∙ sym (get_or-take (length r.elements) (drop r.start xs) j s.hashing.empty m ∙ get_or-drop r.start xs j s.hashing.empty))
 
 -- an honest input is given the list's leaves
-pub honest_leaves : {D : Type 0} (s : Scheme D) (xs : List D) (k : ℕ) (r : RangeInput D) → IsHonestSome s xs k r → (i : ℕ) → chosen r i ≡ true → leaf_given s.hashing r i ≡ leaf_of s.hashing xs i
+pub honest_leaves : {D : Type 0} (s : Scheme D) (xs : List D) (k : ℕ) (r : RangeInput D) → IsHonestNonempty s xs k r → (i : ℕ) → chosen r i ≡ true → leaf_given s.hashing r i ≡ leaf_of s.hashing xs i
 honest_leaves s xs k r honest i q =
     let v = was_chosen r i q in
     let m : i - r.start < length r.elements = omega (arith, v.0, v.1) in
     ap (λ z. get_or z (i - r.start) s.hashing.empty) honest.elements ∙ get_or-take (length r.elements) (drop r.start xs) (i - r.start) s.hashing.empty m ∙ get_or-drop r.start xs (i - r.start) s.hashing.empty
     ∙ ap (leaf_of s.hashing xs) (add-sub_of_le v.0)
 
-pub old_honest : {D : Type 0} (s : Scheme D) (xs : List D) (k : ℕ) (r : RangeInput D) → IsHonestSome s xs k r → IsHonest s (leaf_of s.hashing xs) (length xs) k r
+pub old_honest : {D : Type 0} (s : Scheme D) (xs : List D) (k : ℕ) (r : RangeInput D) → IsHonestNonempty s xs k r → IsHonestByPlan s (leaf_of s.hashing xs) (length xs) k r
 old_honest s xs k r honest = record {
   leaves = honest.leaves;
   inactive = honest.inactive;
@@ -115,8 +115,8 @@ old_honest s xs k r honest = record {
   elements = λ j m. ap (λ z. get_or z j s.hashing.empty) honest.elements ∙ get_or-take (length r.elements) (drop r.start xs) j s.hashing.empty m ∙ get_or-drop r.start xs j s.hashing.empty;
 }
 
-module _ {D : Type 0} (s : Scheme D) (size max_nodes : ℕ) (sound : Sound s size max_nodes) (xs : List D) (k : ℕ) (few : length xs ≤ s.max_leaves) (low : k ≤ length (peaks_of s.rule (length xs))) (r : RangeInput D) where
-  pub honest_some : IsHonestSome s xs k r → AcceptsSome s r (plan_root s xs k)
+module _ {D : Type 0} (s : Scheme D) (size max_nodes : ℕ) (sound : IsLawfulScheme s size max_nodes) (xs : List D) (k : ℕ) (few : length xs ≤ s.max_leaves) (low : k ≤ length (peaks_of s.rule (length xs))) (r : RangeInput D) where
+  pub honest_some : IsHonestNonempty s xs k r → AcceptsNonempty s r (plan_root s xs k)
   honest_some honest =
       let e : length xs ≡ r.leaves = sym honest.leaves in
       let old = old_honest s xs k r honest in
@@ -136,11 +136,11 @@ module _ {D : Type 0} (s : Scheme D) (size max_nodes : ℕ) (sound : Sound s siz
           length_maps : {A B C : Type 0} (f : A → C) (g : B → C) (us : List A) (vs : List B) → length (map f us ++ map g vs) ≡ length us + length vs
           length_maps f g us vs = length-append (map f us) (map g vs) ∙ ap₂ ◌+◌ (length-map us f) (length-map vs g)
 
-  pub some_honest : AcceptsSome s r (plan_root s xs k) → IsHonestSome s xs k r ⊎ RangeCollides s r xs k
+  pub some_honest : AcceptsNonempty s r (plan_root s xs k) → IsHonestNonempty s xs k r ⊎ RangeCollides s r xs k
   some_honest ok = ⊎_elim (λ w. inl (honest w)) inr
       (no_other_range s size sound.laws sound.bytes (covers s) (leaf_of s.hashing xs) (length xs) k (small_leaves s max_nodes (length xs) sound.lawful few) (small_inactive s max_nodes (length xs) k sound.lawful few low) r (old_accepts s max_nodes sound.lawful r _ ok))
     where
-      honest : IsHonest s (leaf_of s.hashing xs) (length xs) k r → IsHonestSome s xs k r
+      honest : IsHonestByPlan s (leaf_of s.hashing xs) (length xs) k r → IsHonestNonempty s xs k r
       honest w =
           let within : end_of r ≤ length xs = omega (arith, ok.within, w.leaves) in
           let long : length r.elements ≡ length (take (length r.elements) (drop r.start xs)) = sym (length-take-le (length r.elements) (drop r.start xs) (omega (arith, within, length-drop r.start xs))) in
@@ -158,7 +158,7 @@ module _ {D : Type 0} (s : Scheme D) (size max_nodes : ℕ) (sound : Sound s siz
       (root_tells s size sound.bytes 0 (length xs) 0 k None (list_expression s (leaf_of s.hashing xs) (length xs) k) (omega arith) (small_leaves s max_nodes (length xs) sound.lawful few) (omega arith) (small_inactive s max_nodes (length xs) k sound.lawful few low) same)
     where
       nothing : range_expression s r ≡ None
-      nothing = ap (λ (o : Option Plan). option_map (λ p. claim_of s.hashing (chosen r) (leaf_given s.hashing r) p r.digests) o) (ap (λ n. whole s.bagging r.inactive (peaks_of s.rule n)) empty.leaves ∙ no_plan s s.bagging r.inactive)
+      nothing = ap (λ (o : Option Plan). option_map (λ p. claim_of s.hashing (chosen r) (leaf_given s.hashing r) p r.digests) o) (ap (λ n. root_plan s.bagging r.inactive (peaks_of s.rule n)) empty.leaves ∙ no_plan s s.bagging r.inactive)
 
       inputs : all_inputs s r.leaves r.inactive (range_expression s r) ≡ all_inputs s 0 0 None
       inputs = ap (λ e. all_inputs s r.leaves r.inactive e) nothing ∙ ap₂ (λ n j. all_inputs s n j None) empty.leaves empty.inactive
@@ -166,6 +166,6 @@ module _ {D : Type 0} (s : Scheme D) (size max_nodes : ℕ) (sound : Sound s siz
 pub honest_is_accepted : {D : Type 0} → HonestIsAccepted D
 honest_is_accepted s size max_nodes sound xs k few low r honest = ⊎_elim (λ w. inl (honest_some s size max_nodes sound xs k few low r w)) (λ w. inr (w.0, empty_root s xs k low w.1)) honest
 
-pub accepted_is_honest : {D : Type 0} → AcceptedIsHonest D
+pub accepted_is_honest : {D : Type 0} → RangeSound D
 accepted_is_honest s size max_nodes sound xs k few low r ok =
     ⊎_elim (λ w. ⊎_elim (λ z. inl (inl z)) inr (some_honest s size max_nodes sound xs k few low r w)) (λ w. ⊎_elim (λ z. inl (inr z)) inr (none_honest s size max_nodes sound xs k few low r w.0 w.1)) ok

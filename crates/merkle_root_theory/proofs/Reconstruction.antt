@@ -10,7 +10,7 @@ use Rattle.merkle_base.specs.declared.error.ReconstructionError.TheVariants.{Inv
 use Rattle.merkle_root_theory.specs.Check.{RangeInput, chosen, leaf_given, root_of, range_expression}
 use Rattle.merkle_root_theory.proofs.RangeChecks.{no_plan}
 use Rattle.merkle_root_theory.specs.Claim.{claim_of}
-use Rattle.merkle_root_theory.specs.Plan.{whole}
+use Rattle.merkle_root_theory.specs.Plan.{root_plan}
 use Rattle.merkle_root_theory.specs.Range.{end_of, Accepts, IsEmptyInput}
 use Rattle.merkle_root_theory.specs.Reconstruction.{digest_count, empty_refusals, range_refusals, root_unless, reconstructed, HasShape, LeadsIsAccepted}
 
@@ -158,7 +158,7 @@ module _ {D : Type 0} (s : Scheme D) (r : RangeInput D) where
 
   -- its root
   no_expression : r.leaves ≡ 0 → range_expression s r ≡ None
-  no_expression e = ap (option_map (λ p. claim_of s.hashing (chosen r) (leaf_given s.hashing r) p r.digests)) (ap (λ n. whole s.bagging r.inactive (peaks_of s.rule n)) e ∙ no_plan s s.bagging r.inactive)
+  no_expression e = ap (option_map (λ p. claim_of s.hashing (chosen r) (leaf_given s.hashing r) p r.digests)) (ap (λ n. root_plan s.bagging r.inactive (peaks_of s.rule n)) e ∙ no_plan s s.bagging r.inactive)
 
   pub empty_root_of : r.leaves ≡ 0 → r.inactive ≡ 0 → root_of s r.leaves r.inactive (range_expression s r) ≡ root_of s 0 0 None
   empty_root_of e f = ap (root_of s r.leaves r.inactive) (no_expression e) ∙ ap₂ (λ n k. root_of s n k None) e f

@@ -15,11 +15,11 @@ use Rattle.merkle_base.specs.Forest.{size}
 use Rattle.merkle_base.proofs.Growth.{forest_grown}
 use Rattle.merkle_base.proofs.Births.{leaf_at}
 use Rattle.merkle_base.specs.Hashing.{Hashing}
-use Rattle.merkle_root_theory.specs.Expression.{Node, given, hashed, value}
+use Rattle.merkle_root_theory.specs.Expression.{Node, supplied, computed, value}
 use Rattle.merkle_root_theory.specs.Plan.{tree_meets, siblings}
 use Rattle.merkle_root_theory.specs.Claim.{next, tree_claim}
 use Rattle.merkle_root_theory.specs.Range.{in_range}
-use Rattle.merkle_hasher.specs.Subtrees.{Stands}
+use Rattle.merkle_hasher.specs.Subtrees.{IsNodeOf}
 use Rattle.merkle_root_theory.specs.Walk.{bytes_of, leaf_from}
 use Rattle.merkle_root_theory.specs.Walk.{IsWalked}
 
@@ -43,12 +43,12 @@ pub flat_push : (c : ℕ → Bool) (ts : List Tree) (t : Tree) → flat_map (sib
 flat_push c ts t = flat_map-append (siblings c) ts (t ∷ []) ∙ ap (λ z. flat_map (siblings c) ts ++ z) (append-nil (siblings c t))
 
 module _ {D : Type 0} (h : Hashing D) (c : ℕ → Bool) (X : ℕ → D) where
-  claim_unmet : (t : Tree) (ds : List D) → tree_meets c t ≡ false → tree_claim h c X t ds ≡ given (next h ds)
-  claim_unmet (leaf p i) ds e = ap (λ z. cond z (given (X i)) (given (next h ds))) e
-  claim_unmet (join p l r) ds e = ap (λ z. cond z (hashed (Node p) (tree_claim h c X l ds) (tree_claim h c X r (drop (length (siblings c l)) ds))) (given (next h ds))) e
+  claim_unmet : (t : Tree) (ds : List D) → tree_meets c t ≡ false → tree_claim h c X t ds ≡ supplied (next h ds)
+  claim_unmet (leaf p i) ds e = ap (λ z. cond z (supplied (X i)) (supplied (next h ds))) e
+  claim_unmet (join p l r) ds e = ap (λ z. cond z (computed (Node p) (tree_claim h c X l ds) (tree_claim h c X r (drop (length (siblings c l)) ds))) (supplied (next h ds))) e
 
-  claim_join : (p : ℕ) (l r : Tree) (ds : List D) → tree_meets c (join p l r) ≡ true → tree_claim h c X (join p l r) ds ≡ hashed (Node p) (tree_claim h c X l ds) (tree_claim h c X r (drop (length (siblings c l)) ds))
-  claim_join p l r ds e = ap (λ z. cond z (hashed (Node p) (tree_claim h c X l ds) (tree_claim h c X r (drop (length (siblings c l)) ds))) (given (next h ds))) e
+  claim_join : (p : ℕ) (l r : Tree) (ds : List D) → tree_meets c (join p l r) ≡ true → tree_claim h c X (join p l r) ds ≡ computed (Node p) (tree_claim h c X l ds) (tree_claim h c X r (drop (length (siblings c l)) ds))
+  claim_join p l r ds e = ap (λ z. cond z (computed (Node p) (tree_claim h c X l ds) (tree_claim h c X r (drop (length (siblings c l)) ds))) (supplied (next h ds))) e
 
   pub walk_outside : (t : Tree) (ds : List D) (d : D) (rest : List D) → tree_meets c t ≡ false → ds ≡ d ∷ rest → IsWalked h c X t ds d rest
   walk_outside t ds d rest e s = record {
@@ -62,7 +62,7 @@ module _ {D : Type 0} (h : Hashing D) (c : ℕ → Bool) (X : ℕ → D) where
 
   pub walk_leaf : (p i : ℕ) (ds : List D) (d : D) → c i ≡ true → d ≡ X i → IsWalked h c X (leaf p i) ds d ds
   walk_leaf p i ds d e s = record {
-    digest = s ∙ ap (λ z. value h (cond z (given (X i)) (given (next h ds)))) (sym e);
+    digest = s ∙ ap (λ z. value h (cond z (supplied (X i)) (supplied (next h ds)))) (sym e);
     enough = omega (arith, ap length (siblings_leaf c p i e));
     rest = sym (ap (λ n. drop n ds) (ap length (siblings_leaf c p i e)));
   }
@@ -88,12 +88,12 @@ element_get (x ∷ es) (suc i) d e = element_get es i d e
 
 module _ (rule : List ℕ → List ℕ) (m p s : ℕ) (tall : ℕ) where
   -- a met leaf lies in the range
-  pub leaf_in_range : (a b : ℕ) (t : Tree) → Stands rule m p tall s t → tall ≡ 0 → tree_meets (in_range a b) t ≡ true → (a ≤ s) × (s < b)
+  pub leaf_in_range : (a b : ℕ) (t : Tree) → IsNodeOf rule m p tall s t → tall ≡ 0 → tree_meets (in_range a b) t ≡ true → (a ≤ s) × (s < b)
   leaf_in_range a b (leaf q i) w e k = let x : i ≡ s = w.first_is in (omega (arith, in_from a b i k, x), omega (arith, in_below a b i k, x))
   leaf_in_range a b (join q l r) w e k = absurd (omega (arith, w.height_is, e))
 
   module _ {D : Type 0} (h : Hashing D) where
-    pub walked_leaf : (a b : ℕ) (es : List (Bor (List ℕ))) (t : Tree) → Stands rule m p tall s t → tall ≡ 0 → tree_meets (in_range a b) t ≡ true
+    pub walked_leaf : (a b : ℕ) (es : List (Bor (List ℕ))) (t : Tree) → IsNodeOf rule m p tall s t → tall ≡ 0 → tree_meets (in_range a b) t ≡ true
         → (ds : List D) (r : D) (j : ℕ) (empty : Bor (List ℕ)) → empty.now ≡ [] → r ≡ h.leaf p (get_or es j empty).now → j ≡ s - a → IsWalked h (in_range a b) (leaf_from h rule a (bytes_of es)) t ds r ds
     walked_leaf a b es (leaf q i) w e k ds r j empty none is at =
         let x : i ≡ s = w.first_is in
@@ -104,21 +104,21 @@ module _ (rule : List ℕ → List ℕ) (m p s : ℕ) (tall : ℕ) where
     walked_leaf a b es (join q l r) w e k ds d j empty none is at = absurd (omega (arith, w.height_is, e))
 
     module _ (c : ℕ → Bool) (X : ℕ → D) where
-      pub walked_inner : (t : Tree) → Stands rule m p tall s t → tall ≢ 0 → tree_meets c t ≡ true → (ds mid rest : List D) (x y d : D)
-          → ((q : ℕ) (l r : Tree) → Stands rule m p tall s (join q l r) → IsWalked h c X l ds x mid × IsWalked h c X r mid y rest) → d ≡ h.node p x y → IsWalked h c X t ds d rest
+      pub walked_inner : (t : Tree) → IsNodeOf rule m p tall s t → tall ≢ 0 → tree_meets c t ≡ true → (ds mid rest : List D) (x y d : D)
+          → ((q : ℕ) (l r : Tree) → IsNodeOf rule m p tall s (join q l r) → IsWalked h c X l ds x mid × IsWalked h c X r mid y rest) → d ≡ h.node p x y → IsWalked h c X t ds d rest
       walked_inner (leaf q i) w e k ds mid rest x y d f is = absurd (e (omega (arith, w.height_is)))
       walked_inner (join q l r) w e k ds mid rest x y d f is =
           let u = f q l r w in
           let z : q ≡ p = (forest_grown rule m).placed p (join q l r) w.at in
           walk_join h c X q l r ds mid rest x y d k u.0 u.1 (is ∙ ap (λ n. h.node n x y) (sym z))
 
-      pub short_inner_left : (t : Tree) → Stands rule m p tall s t → tall ≢ 0 → tree_meets c t ≡ true → (ds : List D)
-          → ((q : ℕ) (l r : Tree) → Stands rule m p tall s (join q l r) → length ds < length (siblings c l)) → length ds < length (siblings c t)
+      pub short_inner_left : (t : Tree) → IsNodeOf rule m p tall s t → tall ≢ 0 → tree_meets c t ≡ true → (ds : List D)
+          → ((q : ℕ) (l r : Tree) → IsNodeOf rule m p tall s (join q l r) → length ds < length (siblings c l)) → length ds < length (siblings c t)
       short_inner_left (leaf q i) w e k ds f = absurd (e (omega (arith, w.height_is)))
       short_inner_left (join q l r) w e k ds f = short_left h c X q l r ds k (f q l r w)
 
-      pub short_inner_right : (t : Tree) → Stands rule m p tall s t → tall ≢ 0 → tree_meets c t ≡ true → (ds mid : List D) (x : D)
-          → ((q : ℕ) (l r : Tree) → Stands rule m p tall s (join q l r) → IsWalked h c X l ds x mid × (length mid < length (siblings c r))) → length ds < length (siblings c t)
+      pub short_inner_right : (t : Tree) → IsNodeOf rule m p tall s t → tall ≢ 0 → tree_meets c t ≡ true → (ds mid : List D) (x : D)
+          → ((q : ℕ) (l r : Tree) → IsNodeOf rule m p tall s (join q l r) → IsWalked h c X l ds x mid × (length mid < length (siblings c r))) → length ds < length (siblings c t)
       short_inner_right (leaf q i) w e k ds mid x f = absurd (e (omega (arith, w.height_is)))
       short_inner_right (join q l r) w e k ds mid x f = let u = f q l r w in short_right h c X q l r ds mid x k u.0 u.1
 
@@ -130,13 +130,13 @@ siblings_inside a b ns (join q l r) h x y =
     siblings_join (in_range a b) q l r m ∙ ap₂ ◌++◌ (siblings_inside a b ns l h.4 x (omega (arith, y))) (siblings_inside a b ns r h.5 (omega (arith, x, h.3)) (omega (arith, y, h.3)))
 
 module _ (rule : List ℕ → List ℕ) (m p s : ℕ) (tall : ℕ) where
-  pub siblings_met_leaf : (c : ℕ → Bool) (t : Tree) → Stands rule m p tall s t → tall ≡ 0 → tree_meets c t ≡ true → siblings c t ≡ []
+  pub siblings_met_leaf : (c : ℕ → Bool) (t : Tree) → IsNodeOf rule m p tall s t → tall ≡ 0 → tree_meets c t ≡ true → siblings c t ≡ []
   siblings_met_leaf c (leaf q i) w e k = siblings_leaf c q i k
   siblings_met_leaf c (join q l r) w e k = absurd (omega (arith, w.height_is, e))
 
   -- the positions outside of a tree are those of its children
-  pub siblings_inner : (c : ℕ → Bool) (t : Tree) → Stands rule m p tall s t → tall ≢ 0 → tree_meets c t ≡ true → (xs ys zs : List ℕ)
-      → ((q : ℕ) (l r : Tree) → Stands rule m p tall s (join q l r) → (ys ≡ xs ++ map position (siblings c l)) × (zs ≡ ys ++ map position (siblings c r))) → zs ≡ xs ++ map position (siblings c t)
+  pub siblings_inner : (c : ℕ → Bool) (t : Tree) → IsNodeOf rule m p tall s t → tall ≢ 0 → tree_meets c t ≡ true → (xs ys zs : List ℕ)
+      → ((q : ℕ) (l r : Tree) → IsNodeOf rule m p tall s (join q l r) → (ys ≡ xs ++ map position (siblings c l)) × (zs ≡ ys ++ map position (siblings c r))) → zs ≡ xs ++ map position (siblings c t)
   siblings_inner c (leaf q i) w e k xs ys zs f = absurd (e (omega (arith, w.height_is)))
   siblings_inner c (join q l r) w e k xs ys zs f =
       let u = f q l r w in

@@ -1,7 +1,7 @@
 -- Two different arguments at one place with one digest.
 use Rattle.std.specs.Prelude.{◌≡◌, ◌≢◌, List, [], ◌∷◌, ◌⊎◌}
 use Rattle.merkle_root_theory.specs.Expression.{Place, Argument, digest_of_argument, Input, Expression, inputs, value, Holds, Alike, Agree}
-use Rattle.merkle_base.specs.Hashing.{Hashing, TellsApart}
+use Rattle.merkle_base.specs.Hashing.{Hashing, EqDecides}
 
 -- x is one of the elements
 abbrev pub Member : {X : Type 0} → List X → X → Type 0
@@ -23,4 +23,4 @@ pub record Collides {D : Type 0} (h : Hashing D) (xs ys : List (Input D)) (c : C
 
 -- alike expressions with one value: what they are given agrees, or they collide
 abbrev pub AgreeOrCollide : Type 0 → Type 0
-AgreeOrCollide D = (h : Hashing D) → TellsApart h → (e f : Expression D) (a : Alike e f) → Holds h e → value h e ≡ value h f → Agree h a ⊎ ((c : Collision D) × Collides h (inputs h e) (inputs h f) c)
+AgreeOrCollide D = (h : Hashing D) → EqDecides h → (e f : Expression D) (a : Alike e f) → Holds h e → value h e ≡ value h f → Agree h a ⊎ ((c : Collision D) × Collides h (inputs h e) (inputs h f) c)

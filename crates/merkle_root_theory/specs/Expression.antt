@@ -32,27 +32,27 @@ pub record Input (D : Type 0) : Type 0 where
 
 -- how a digest comes about: given, hashed of two others at a place, or hashed and also told by the proof
 pub data Expression (D : Type 0) : Type 0 where
-  given : D → Expression D
-  hashed : Place → Expression D → Expression D → Expression D
-  told : D → Expression D → Expression D
+  supplied : D → Expression D
+  computed : Place → Expression D → Expression D → Expression D
+  cross_checked : D → Expression D → Expression D
 
 -- the digest that comes about
 abbrev pub value : {D : Type 0} → Hashing D → Expression D → D
-value h (given d) = d
-value h (hashed place l r) = hashed_at h place (value h l) (value h r)
-value h (told d e) = value h e
+value h (supplied d) = d
+value h (computed place l r) = hashed_at h place (value h l) (value h r)
+value h (cross_checked d e) = value h e
 
 -- each digest that the proof tells beside what is computed is the one that is computed
 abbrev pub Holds : {D : Type 0} → Hashing D → Expression D → Type 0
-Holds h (given d) = Unit {0}
-Holds h (hashed place l r) = Holds h l × Holds h r
-Holds h (told d e) = (d ≡ value h e) × Holds h e
+Holds h (supplied d) = Unit {0}
+Holds h (computed place l r) = Holds h l × Holds h r
+Holds h (cross_checked d e) = (d ≡ value h e) × Holds h e
 
 -- every input, each before those below it, the left side before the right
 abbrev pub visited : {D : Type 0} → Hashing D → Expression D → List (Input D)
-visited h (given d) = []
-visited h (hashed place l r) = record { place = place; argument = Pair (value h l) (value h r) } ∷ visited h l ++ visited h r
-visited h (told d e) = visited h e
+visited h (supplied d) = []
+visited h (computed place l r) = record { place = place; argument = Pair (value h l) (value h r) } ∷ visited h l ++ visited h r
+visited h (cross_checked d e) = visited h e
 
 -- whether a node is hashed there
 abbrev pub is_node : Place → Bool
@@ -68,14 +68,14 @@ inputs h e = filter (λ i. not (is_node i.place)) (visited h e) ++ filter (λ i.
 
 -- two expressions of one computation, each with some parts given
 pub data Alike {D : Type 0} : Expression D → Expression D → Type 0 where
-  cut_left : (d : D) (e : Expression D) → Alike (given d) e
-  cut_right : (e : Expression D) (d : D) → Alike e (given d)
-  both : (place : Place) {l l' r r' : Expression D} → Alike l l' → Alike r r' → Alike (hashed place l r) (hashed place l' r')
-  told_left : (d : D) {e f : Expression D} → Alike e f → Alike (told d e) f
+  cut_left : (d : D) (e : Expression D) → Alike (supplied d) e
+  cut_right : (e : Expression D) (d : D) → Alike e (supplied d)
+  both : (place : Place) {l l' r r' : Expression D} → Alike l l' → Alike r r' → Alike (computed place l r) (computed place l' r')
+  cross_checked_left : (d : D) {e f : Expression D} → Alike e f → Alike (cross_checked d e) f
 
 -- what is given or told on one side is the value on the other
 abbrev pub Agree : {D : Type 0} (h : Hashing D) {e f : Expression D} → Alike e f → Type 0
 Agree h (cut_left d e) = d ≡ value h e
 Agree h (cut_right e d) = value h e ≡ d
 Agree h (both place a b) = Agree h a × Agree h b
-Agree h (told_left d {f = f} a) = (d ≡ value h f) × Agree h a
+Agree h (cross_checked_left d {f = f} a) = (d ≡ value h f) × Agree h a

@@ -11,7 +11,7 @@ use Rattle.merkle_root_theory.specs.Outside.{fold_all, folded_prefix, single_bef
 use Rattle.merkle_root_theory.specs.Check.{RangeInput, leaf_given}
 use Rattle.merkle_base.specs.Scheme.{Scheme}
 use Rattle.merkle_base.specs.Places.{peaks_of, wholly_before}
-use Rattle.merkle_root_theory.specs.Range.{in_range, overlapping, wholly_after, range_parts, end_of, leaf_of, AcceptsSome, plan_root, Sound, RangeCollides}
+use Rattle.merkle_root_theory.specs.Range.{in_range, overlapping, wholly_after, range_parts, end_of, leaf_of, AcceptsNonempty, plan_root, IsLawfulScheme, RangeCollides}
 
 -- the pairs below a node that overlaps the range: those of its left child, those of its right child, the left child, the right child; ds: the digests for its siblings
 abbrev pub inner_pairs : {D : Type 0} → Hashing D → (ℕ → Bool) → (ℕ → D) → Tree → List D → List (ℕ × D)
@@ -50,5 +50,5 @@ IsNodePair s xs x = (t : Tree) × (slice_get (forest s.rule (length xs)).nodes x
 
 -- each pair of an accepted input is one, or there is a collision
 abbrev pub ExtractsNodes : Type 0 → Type 0
-ExtractsNodes D = (s : Scheme D) (size max_nodes : ℕ) → Sound s size max_nodes → (xs : List D) (k : ℕ) → length xs ≤ s.max_leaves → k ≤ length (peaks_of s.rule (length xs)) → (r : RangeInput D)
-    → AcceptsSome s r (plan_root s xs k) → AllByRecursion (IsNodePair s xs) (extracted s r) ⊎ RangeCollides s r xs k
+ExtractsNodes D = (s : Scheme D) (size max_nodes : ℕ) → IsLawfulScheme s size max_nodes → (xs : List D) (k : ℕ) → length xs ≤ s.max_leaves → k ≤ length (peaks_of s.rule (length xs)) → (r : RangeInput D)
+    → AcceptsNonempty s r (plan_root s xs k) → AllByRecursion (IsNodePair s xs) (extracted s r) ⊎ RangeCollides s r xs k

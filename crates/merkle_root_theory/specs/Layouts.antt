@@ -2,7 +2,7 @@
 use Rattle.std.specs.Prelude.{ℕ, ◌+◌, ◌-◌, List, ◌++◌, length}
 use Rattle.std.specs.Option.{option_to_list}
 use Rattle.merkle_base.specs.Tree.{Tree}
-use Rattle.merkle_base.specs.Root.{bag, folded}
+use Rattle.merkle_base.specs.Root.{right_fold, folded}
 use Rattle.merkle_base.specs.declared.family.Bagging.{Bagging}
 use Rattle.merkle_base.specs.declared.family.Bagging.TheVariants.{ForwardFold}
 use Rattle.merkle_root_theory.specs.Outside.{fold_all, bag_all, folded_prefix, single_before, single_after, folded_suffix}
@@ -22,4 +22,4 @@ count_inactive bagging k before = length (fold_all (folded_prefix bagging k befo
 
 -- the digests of a proof: the prefix folded left to right, the single ones, the suffix folded right to left, and those of the path siblings
 abbrev pub laid_out : {D : Type 0} → (D → D → D) → (prefix single suffix siblings : List D) → List D
-laid_out f prefix single suffix siblings = option_to_list (folded f ForwardFold 0 prefix) ++ (single ++ (option_to_list (bag f suffix) ++ siblings))
+laid_out f prefix single suffix siblings = option_to_list (folded f ForwardFold 0 prefix) ++ (single ++ (option_to_list (right_fold f suffix) ++ siblings))

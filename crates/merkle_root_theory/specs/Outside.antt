@@ -1,19 +1,19 @@
 -- The layout of a range proof by the peaks before the range, those that overlap it and those after it.
 use Rattle.std.specs.Prelude.{◌≡◌, ℕ, Bool, true, false, ◌+◌, ◌-◌, List, [], ◌∷◌, ◌++◌, take, drop, map, length, flat_map, Option, Some, None}
 use Rattle.merkle_base.specs.Tree.{Tree}
-use Rattle.merkle_root_theory.specs.Plan.{Plan, peak, forward, bag, whole, tree_meets, siblings, outer, inner}
+use Rattle.merkle_root_theory.specs.Plan.{Plan, peak, left_fold_plan, right_fold_plan, root_plan, tree_meets, siblings, outside_parts, path_siblings}
 use Rattle.merkle_base.specs.declared.family.Bagging.{Bagging}
 use Rattle.merkle_base.specs.declared.family.Bagging.TheVariants.{ForwardFold, BackwardFold}
 
 -- the fold of peaks left to right, if there are any
 abbrev pub fold_all : List Tree → List Plan
 fold_all [] = []
-fold_all (t ∷ ts) = forward (peak t) 1 ts ∷ []
+fold_all (t ∷ ts) = left_fold_plan (peak t) 1 ts ∷ []
 
 -- the fold of peaks right to left, if there are any; i: the number of the first
 abbrev pub bag_all : ℕ → List Tree → List Plan
 bag_all i [] = []
-bag_all i (t ∷ ts) = bag i t ts ∷ []
+bag_all i (t ∷ ts) = right_fold_plan i t ts ∷ []
 
 -- the table of the layout; met: the number of peaks before the range and of those that overlap it
 abbrev pub folded_prefix : Bagging → ℕ → List Tree → List Tree
@@ -57,9 +57,9 @@ Met c (t ∷ ts) = (tree_meets c t ≡ true) × Met c ts
 -- the plan has these outer parts and these inner nodes
 abbrev pub HasLayout : (ℕ → Bool) → List Plan → List Tree → Option Plan → Type 0
 HasLayout c os is None = ⊥
-HasLayout c os is (Some p) = (outer c p ≡ os) × (inner c p ≡ is)
+HasLayout c os is (Some p) = (outside_parts c p ≡ os) × (path_siblings c p ≡ is)
 
 -- the parts outside the range are those of the layout
 abbrev pub OutsideIsLayout : Type 0
 OutsideIsLayout = (c : ℕ → Bool) (bagging : Bagging) (k : ℕ) (before : List Tree) (t : Tree) (over after : List Tree) → Unmet c before → Met c (t ∷ over) → Unmet c after
-    → HasLayout c (layout bagging k before (t ∷ over) after) (flat_map (siblings c) (t ∷ over)) (whole bagging k (before ++ (t ∷ over ++ after)))
+    → HasLayout c (layout bagging k before (t ∷ over) after) (flat_map (siblings c) (t ∷ over)) (root_plan bagging k (before ++ (t ∷ over ++ after)))

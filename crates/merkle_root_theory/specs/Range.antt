@@ -2,7 +2,7 @@
 use Rattle.std.specs.Prelude.{◌≡◌, ℕ, Bool, ◌&&◌, ◌⊎◌, ◌≤◌, ◌<◌, ◌+◌, nat_le, nat_lt, List, [], ◌++◌, length, map, flat_map, filter, take, drop, get_or, None}
 use Rattle.merkle_base.specs.Tree.{Tree, first_leaf, end_leaf}
 use Rattle.merkle_base.specs.Heights.{IsLawful}
-use Rattle.merkle_base.specs.Hashing.{Hashing, TellsApart}
+use Rattle.merkle_base.specs.Hashing.{Hashing, EqDecides}
 use Rattle.merkle_base.specs.Root.{list_root}
 use Rattle.merkle_root_theory.specs.Expression.{Input}
 use Rattle.merkle_root_theory.specs.Collision.{Collision, Collides}
@@ -49,7 +49,7 @@ abbrev pub end_of : {D : Type 0} → RangeInput D → ℕ
 end_of r = r.start + length r.elements
 
 -- an accepted input with elements
-pub record AcceptsSome {D : Type 0} (s : Scheme D) (r : RangeInput D) (root : D) : Type 0 where
+pub record AcceptsNonempty {D : Type 0} (s : Scheme D) (r : RangeInput D) (root : D) : Type 0 where
   pub some : 0 < length r.elements
   pub within : end_of r ≤ r.leaves
   pub leaves : r.leaves ≤ s.max_leaves
@@ -67,7 +67,7 @@ pub record IsEmptyInput {D : Type 0} (r : RangeInput D) : Type 0 where
 
 -- an accepted input: with elements, or the empty one
 abbrev pub Accepts : {D : Type 0} → Scheme D → RangeInput D → D → Type 0
-Accepts s r root = AcceptsSome s r root ⊎ (IsEmptyInput r × (root_of s 0 0 None ≡ root))
+Accepts s r root = AcceptsNonempty s r root ⊎ (IsEmptyInput r × (root_of s 0 0 None ≡ root))
 
 -- P for each list, and number of inactive peaks, with this root
 abbrev pub ForRootOf : {D : Type 0} → Scheme D → D → (List D → ℕ → Type 0) → Type 0
@@ -75,7 +75,7 @@ ForRootOf {D} s root P =
     (xs : List D) (k : ℕ) → length xs ≤ s.max_leaves → k ≤ length (peaks_of s.rule (length xs)) → list_root s xs k ≡ root → P xs k
 
 -- the honest proof of a nonempty range of a list, with its leaves
-pub record IsHonestSome {D : Type 0} (s : Scheme D) (xs : List D) (k : ℕ) (r : RangeInput D) : Type 0 where
+pub record IsHonestNonempty {D : Type 0} (s : Scheme D) (xs : List D) (k : ℕ) (r : RangeInput D) : Type 0 where
   pub some : 0 < length r.elements
   pub within : end_of r ≤ length xs
   pub leaves : r.leaves ≡ length xs
@@ -85,7 +85,7 @@ pub record IsHonestSome {D : Type 0} (s : Scheme D) (xs : List D) (k : ℕ) (r :
 
 -- an honest input: with elements, or the empty one of the empty list
 abbrev pub IsHonestRange : {D : Type 0} → Scheme D → List D → ℕ → RangeInput D → Type 0
-IsHonestRange s xs k r = IsHonestSome s xs k r ⊎ (IsEmptyInput r × (xs ≡ []))
+IsHonestRange s xs k r = IsHonestNonempty s xs k r ⊎ (IsEmptyInput r × (xs ≡ []))
 
 -- the root of a list for k
 abbrev pub plan_root : {D : Type 0} → Scheme D → List D → ℕ → D
@@ -96,8 +96,8 @@ abbrev pub list_inputs : {D : Type 0} → Scheme D → List D → ℕ → List (
 list_inputs s xs k = all_inputs s (length xs) k (list_expression s (leaf_of s.hashing xs) (length xs) k)
 
 -- what the family, the hasher and its digests keep
-pub record Sound {D : Type 0} (s : Scheme D) (size max_nodes : ℕ) : Type 0 where
-  pub laws : TellsApart s.hashing
+pub record IsLawfulScheme {D : Type 0} (s : Scheme D) (size max_nodes : ℕ) : Type 0 where
+  pub laws : EqDecides s.hashing
   pub bytes : ByteLaws s.hashing size
   pub lawful : IsLawful s.rule s.max_leaves max_nodes
 
@@ -107,10 +107,10 @@ RangeCollides {D = D} s r xs k = (c : Collision D) × Collides s.hashing (range_
 
 -- the honest inputs are accepted
 abbrev pub HonestIsAccepted : Type 0 → Type 0
-HonestIsAccepted D = (s : Scheme D) (size max_nodes : ℕ) → Sound s size max_nodes → (xs : List D) (k : ℕ) → length xs ≤ s.max_leaves → k ≤ length (peaks_of s.rule (length xs)) → (r : RangeInput D)
+HonestIsAccepted D = (s : Scheme D) (size max_nodes : ℕ) → IsLawfulScheme s size max_nodes → (xs : List D) (k : ℕ) → length xs ≤ s.max_leaves → k ≤ length (peaks_of s.rule (length xs)) → (r : RangeInput D)
     → IsHonestRange s xs k r → Accepts s r (plan_root s xs k)
 
 -- and no others, but for collisions
-abbrev pub AcceptedIsHonest : Type 0 → Type 0
-AcceptedIsHonest D = (s : Scheme D) (size max_nodes : ℕ) → Sound s size max_nodes → (xs : List D) (k : ℕ) → length xs ≤ s.max_leaves → k ≤ length (peaks_of s.rule (length xs)) → (r : RangeInput D)
+abbrev pub RangeSound : Type 0 → Type 0
+RangeSound D = (s : Scheme D) (size max_nodes : ℕ) → IsLawfulScheme s size max_nodes → (xs : List D) (k : ℕ) → length xs ≤ s.max_leaves → k ≤ length (peaks_of s.rule (length xs)) → (r : RangeInput D)
     → Accepts s r (plan_root s xs k) → IsHonestRange s xs k r ⊎ RangeCollides s r xs k

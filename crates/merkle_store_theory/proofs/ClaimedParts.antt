@@ -7,7 +7,7 @@ use Rattle.merkle_base.specs.Root as root
 use Rattle.merkle_base.specs.declared.family.Bagging.{Bagging}
 use Rattle.merkle_base.specs.declared.family.Bagging.TheVariants.{ForwardFold, BackwardFold}
 use Rattle.merkle_root_theory.specs.Expression.{value}
-use Rattle.merkle_root_theory.specs.Plan.{Plan, peak, folding, whole, meets, tree_meets, outer, inner}
+use Rattle.merkle_root_theory.specs.Plan.{Plan, peak, folding, root_plan, meets, tree_meets, outside_parts, path_siblings}
 use Rattle.merkle_root_theory.specs.Claim.{claim}
 use Rattle.merkle_root_theory.specs.Outside.{fold_all, bag_all, folded_prefix, single_before, single_after, folded_suffix, Met, Unmet}
 use Rattle.merkle_claim_theory.specs.Store.{sub_siblings, sub_outer, sub_inner}
@@ -21,21 +21,21 @@ use Rattle.merkle_store_theory.proofs.PairReads.{over_given}
 -- each part outside the part's range gives its value, and each of its peaks the siblings
 module _ {D : Type 0} (h : Hashing D) (c d : ℕ → Bool) (X : ℕ → D) where
   outer_splits : Splits c d (sub_outer h c d X)
-  outer_splits q l r os is m = ap (λ b. cond b (sub_outer h c d X l os is ++ sub_outer h c d X r (drop (length (outer c l)) os) (drop (length (inner c l)) is)) (value h (claim h c X (folding q l r) os is) ∷ [])) m
+  outer_splits q l r os is m = ap (λ b. cond b (sub_outer h c d X l os is ++ sub_outer h c d X r (drop (length (outside_parts c l)) os) (drop (length (path_siblings c l)) is)) (value h (claim h c X (folding q l r) os is) ∷ [])) m
 
   outer_apart : (p : Plan) (os is : List D) → meets d p ≡ false → sub_outer h c d X p os is ≡ value h (claim h c X p os is) ∷ []
   outer_apart (peak t) os is e = ap (λ b. cond b [] (value h (claim h c X (peak t) os is) ∷ [])) e
-  outer_apart (folding q l r) os is e = ap (λ b. cond b (sub_outer h c d X l os is ++ sub_outer h c d X r (drop (length (outer c l)) os) (drop (length (inner c l)) is)) (value h (claim h c X (folding q l r) os is) ∷ [])) e
+  outer_apart (folding q l r) os is e = ap (λ b. cond b (sub_outer h c d X l os is ++ sub_outer h c d X r (drop (length (outside_parts c l)) os) (drop (length (path_siblings c l)) is)) (value h (claim h c X (folding q l r) os is) ∷ [])) e
 
   outer_over : (t : Tree) (os is : List D) → tree_meets d t ≡ true → sub_outer h c d X (peak t) os is ≡ []
   outer_over t os is e = ap (λ b. cond b [] (value h (claim h c X (peak t) os is) ∷ [])) e
 
   inner_splits : Splits c d (sub_inner h c d X)
-  inner_splits q l r os is m = ap (λ b. cond b (sub_inner h c d X l os is ++ sub_inner h c d X r (drop (length (outer c l)) os) (drop (length (inner c l)) is)) []) m
+  inner_splits q l r os is m = ap (λ b. cond b (sub_inner h c d X l os is ++ sub_inner h c d X r (drop (length (outside_parts c l)) os) (drop (length (path_siblings c l)) is)) []) m
 
   inner_apart : (p : Plan) (os is : List D) → meets d p ≡ false → sub_inner h c d X p os is ≡ []
   inner_apart (peak t) os is e = ap (λ b. cond b (sub_siblings h c d X t is) []) e
-  inner_apart (folding q l r) os is e = ap (λ b. cond b (sub_inner h c d X l os is ++ sub_inner h c d X r (drop (length (outer c l)) os) (drop (length (inner c l)) is)) []) e
+  inner_apart (folding q l r) os is e = ap (λ b. cond b (sub_inner h c d X l os is ++ sub_inner h c d X r (drop (length (outside_parts c l)) os) (drop (length (path_siblings c l)) is)) []) e
 
   inner_over : (t : Tree) (os is : List D) → tree_meets d t ≡ true → sub_inner h c d X (peak t) os is ≡ sub_siblings h c d X t is
   inner_over t os is e = ap (λ b. cond b (sub_siblings h c d X t is) []) e
@@ -96,7 +96,7 @@ module _ {D : Type 0} (h : Hashing D) (c d : ℕ → Bool) (within : (i : ℕ) �
   pub met_more : met_whole ≡ met_part + length more_after
   met_more = omega (arith, length-append before more_before, length-append more_before (t ∷ over ++ more_after), length-append (t ∷ over) more_after)
 
-  parts_are : (p : Plan) → whole bagging k ((before ++ more_before) ++ (t ∷ over ++ (more_after ++ after))) ≡ Some p
+  parts_are : (p : Plan) → root_plan bagging k ((before ++ more_before) ++ (t ∷ over ++ (more_after ++ after))) ≡ Some p
       → flat d p ≡ (fold_all (folded_prefix bagging k before ++ more_folded) ++ map peak (single_before bagging k before ++ more_single))
       ++ (map peak (t ∷ over) ++ (map peak (more_single_after ++ single_after bagging k met_whole after) ++ bag_all (met_part + (k - met_part)) (more_suffix ++ folded_suffix bagging k met_whole after)))
   parts_are p e =
@@ -110,7 +110,7 @@ module _ {D : Type 0} (h : Hashing D) (c d : ℕ → Bool) (within : (i : ℕ) �
   -- e1, .., e4: the digests of the folded prefix, of the peaks that stand alone before and after, and of the suffix
   module _ (e1 e2 e3 e4 rest is : List D) (l1 : length e1 ≡ length (fold_all (folded_prefix bagging k before))) (l2 : length e2 ≡ length (single_before bagging k before))
       (l3 : length e3 ≡ length (single_after bagging k met_whole after)) (l4 : length e4 ≡ length (bag_all 0 (folded_suffix bagging k met_whole after)))
-      (p : Plan) (whole_is : whole bagging k ((before ++ more_before) ++ (t ∷ over ++ (more_after ++ after))) ≡ Some p) where
+      (p : Plan) (whole_is : root_plan bagging k ((before ++ more_before) ++ (t ∷ over ++ (more_after ++ after))) ≡ Some p) where
     met_all : Met c (more_folded ++ (more_single ++ (t ∷ over ++ (more_single_after ++ more_suffix))))
     met_all = subst (Met c) all_met cm
 
@@ -134,7 +134,7 @@ module _ {D : Type 0} (h : Hashing D) (c d : ℕ → Bool) (within : (i : ℕ) �
     prefix_fold = option_to_list (root.folded h.fold ForwardFold 0 (e1 ++ peak_values h c X more_folded is))
 
     abbrev pub suffix_bag : List D
-    suffix_bag = option_to_list (root.bag h.fold (peak_values h c X more_suffix is4 ++ e4))
+    suffix_bag = option_to_list (root.right_fold h.fold (peak_values h c X more_suffix is4 ++ e4))
 
     given_by : (sub : Plan → List D → List D → List D) → Splits c d sub → (g : D → List D) (m : Tree → List D → List D) → ((p : Plan) (os is : List D) → meets d p ≡ false → sub p os is ≡ g (value h (claim h c X p os is)))
         → ((t : Tree) (os is : List D) → tree_meets d t ≡ true → sub (peak t) os is ≡ m t is)

@@ -104,7 +104,7 @@ module _ {D : Type 0} (h : Hashing D) (c d : ℕ → Bool) (within : (i : ℕ) �
     folds = option_to_list (root.folded h.fold ForwardFold 0 (e1 ++ peak_values h c X ts is))
 
     abbrev bags : List D
-    bags = option_to_list (root.bag h.fold (peak_values h c X ys is4 ++ e4))
+    bags = option_to_list (root.right_fold h.fold (peak_values h c X ys is4 ++ e4))
 
     abbrev after : List Plan
     after = map peak (xs ++ zs) ++ bag_all n (ys ++ bs)

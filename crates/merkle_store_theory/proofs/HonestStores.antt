@@ -7,7 +7,7 @@ use Rattle.merkle_base.specs.Hashing.{Hashing}
 use Rattle.merkle_base.specs.Places.{peaks_of}
 use Rattle.merkle_base.proofs.Cases.{by_test}
 use Rattle.merkle_root_theory.specs.Expression.{value}
-use Rattle.merkle_root_theory.specs.Plan.{Plan, peak, folding, whole, tree_meets, meets, siblings, outer, inner, plan_digest, tree_digest}
+use Rattle.merkle_root_theory.specs.Plan.{Plan, peak, folding, root_plan, tree_meets, meets, siblings, outside_parts, path_siblings, plan_digest, tree_digest}
 use Rattle.merkle_root_theory.specs.Claim.{tree_claim, claim}
 use Rattle.merkle_base.specs.Scheme.{Scheme}
 use Rattle.merkle_root_theory.specs.Check.{leaf_given}
@@ -33,36 +33,36 @@ module _ {D : Type 0} (h : Hashing D) (c d : ℕ → Bool) (X Y : ℕ → D) (wi
       ap₂ ◌++◌ (u (split_left _ (siblings c l) (siblings c r) ds rest f)) (v (split_right _ (siblings c l) (siblings c r) ds rest f)) ∙ sym (map-append (tree_digest h X) (siblings d l) (siblings d r)))
       (λ _. ap (λ z. z ∷ []) (tree_honest h c X Y agrees (join p l r) ds rest e))
 
-  outer_honest : (p : Plan) (os is ro ri : List D) → os ≡ map (plan_digest h X) (outer c p) ++ ro → is ≡ map (tree_digest h X) (inner c p) ++ ri → sub_outer h c d Y p os is ≡ map (plan_digest h X) (outer d p)
+  outer_honest : (p : Plan) (os is ro ri : List D) → os ≡ map (plan_digest h X) (outside_parts c p) ++ ro → is ≡ map (tree_digest h X) (path_siblings c p) ++ ri → sub_outer h c d Y p os is ≡ map (plan_digest h X) (outside_parts d p)
   outer_honest (peak t) os is ro ri e f = by_test (λ b. cond b [] (value h (claim h c Y (peak t) os is) ∷ []) ≡ map (plan_digest h X) (cond b [] (peak t ∷ []))) (tree_meets d t) (λ _. refl) (λ _. ap (λ z. z ∷ []) (plan_honest h c X Y agrees (peak t) os is ro ri e f))
   outer_honest (folding q l r) os is ro ri e f =
-      let u = outer_honest l os is (map (plan_digest h X) (outer c r) ++ ro) (map (tree_digest h X) (inner c r) ++ ri) in
-      let v = outer_honest r (drop (length (outer c l)) os) (drop (length (inner c l)) is) ro ri in
-      by_test (λ b. cond b (sub_outer h c d Y l os is ++ sub_outer h c d Y r (drop (length (outer c l)) os) (drop (length (inner c l)) is)) (value h (claim h c Y (folding q l r) os is) ∷ []) ≡ map (plan_digest h X) (cond b (outer d l ++ outer d r) (folding q l r ∷ []))) (meets d l || meets d r)
+      let u = outer_honest l os is (map (plan_digest h X) (outside_parts c r) ++ ro) (map (tree_digest h X) (path_siblings c r) ++ ri) in
+      let v = outer_honest r (drop (length (outside_parts c l)) os) (drop (length (path_siblings c l)) is) ro ri in
+      by_test (λ b. cond b (sub_outer h c d Y l os is ++ sub_outer h c d Y r (drop (length (outside_parts c l)) os) (drop (length (path_siblings c l)) is)) (value h (claim h c Y (folding q l r) os is) ∷ []) ≡ map (plan_digest h X) (cond b (outside_parts d l ++ outside_parts d r) (folding q l r ∷ []))) (meets d l || meets d r)
       (λ m. let w = plan_within c d within (folding q l r) m in
-      let eo = subst (λ z. os ≡ map (plan_digest h X) (cond z (outer c l ++ outer c r) (folding q l r ∷ [])) ++ ro) w e in
-      let ei = subst (λ z. is ≡ map (tree_digest h X) (cond z (inner c l ++ inner c r) []) ++ ri) w f in
-      ap₂ ◌++◌ (u (split_left _ (outer c l) (outer c r) os ro eo) (split_left _ (inner c l) (inner c r) is ri ei)) (v (split_right _ (outer c l) (outer c r) os ro eo) (split_right _ (inner c l) (inner c r) is ri ei))
-      ∙ sym (map-append (plan_digest h X) (outer d l) (outer d r)))
+      let eo = subst (λ z. os ≡ map (plan_digest h X) (cond z (outside_parts c l ++ outside_parts c r) (folding q l r ∷ [])) ++ ro) w e in
+      let ei = subst (λ z. is ≡ map (tree_digest h X) (cond z (path_siblings c l ++ path_siblings c r) []) ++ ri) w f in
+      ap₂ ◌++◌ (u (split_left _ (outside_parts c l) (outside_parts c r) os ro eo) (split_left _ (path_siblings c l) (path_siblings c r) is ri ei)) (v (split_right _ (outside_parts c l) (outside_parts c r) os ro eo) (split_right _ (path_siblings c l) (path_siblings c r) is ri ei))
+      ∙ sym (map-append (plan_digest h X) (outside_parts d l) (outside_parts d r)))
       (λ _. ap (λ z. z ∷ []) (plan_honest h c X Y agrees (folding q l r) os is ro ri e f))
 
-  inner_honest : (p : Plan) (os is ro ri : List D) → os ≡ map (plan_digest h X) (outer c p) ++ ro → is ≡ map (tree_digest h X) (inner c p) ++ ri → sub_inner h c d Y p os is ≡ map (tree_digest h X) (inner d p)
+  inner_honest : (p : Plan) (os is ro ri : List D) → os ≡ map (plan_digest h X) (outside_parts c p) ++ ro → is ≡ map (tree_digest h X) (path_siblings c p) ++ ri → sub_inner h c d Y p os is ≡ map (tree_digest h X) (path_siblings d p)
   inner_honest (peak t) os is ro ri e f = by_test (λ b. cond b (sub_siblings h c d Y t is) [] ≡ map (tree_digest h X) (cond b (siblings d t) [])) (tree_meets d t)
       (λ q. siblings_honest t is ri (subst (λ z. is ≡ map (tree_digest h X) (cond z (siblings c t) []) ++ ri) (meets_within c d within t q) f)) (λ _. refl)
   inner_honest (folding q l r) os is ro ri e f =
-      let u = inner_honest l os is (map (plan_digest h X) (outer c r) ++ ro) (map (tree_digest h X) (inner c r) ++ ri) in
-      let v = inner_honest r (drop (length (outer c l)) os) (drop (length (inner c l)) is) ro ri in
-      by_test (λ b. cond b (sub_inner h c d Y l os is ++ sub_inner h c d Y r (drop (length (outer c l)) os) (drop (length (inner c l)) is)) [] ≡ map (tree_digest h X) (cond b (inner d l ++ inner d r) [])) (meets d l || meets d r)
+      let u = inner_honest l os is (map (plan_digest h X) (outside_parts c r) ++ ro) (map (tree_digest h X) (path_siblings c r) ++ ri) in
+      let v = inner_honest r (drop (length (outside_parts c l)) os) (drop (length (path_siblings c l)) is) ro ri in
+      by_test (λ b. cond b (sub_inner h c d Y l os is ++ sub_inner h c d Y r (drop (length (outside_parts c l)) os) (drop (length (path_siblings c l)) is)) [] ≡ map (tree_digest h X) (cond b (path_siblings d l ++ path_siblings d r) [])) (meets d l || meets d r)
       (λ m. let w = plan_within c d within (folding q l r) m in
-      let eo = subst (λ z. os ≡ map (plan_digest h X) (cond z (outer c l ++ outer c r) (folding q l r ∷ [])) ++ ro) w e in
-      let ei = subst (λ z. is ≡ map (tree_digest h X) (cond z (inner c l ++ inner c r) []) ++ ri) w f in
-      ap₂ ◌++◌ (u (split_left _ (outer c l) (outer c r) os ro eo) (split_left _ (inner c l) (inner c r) is ri ei)) (v (split_right _ (outer c l) (outer c r) os ro eo) (split_right _ (inner c l) (inner c r) is ri ei))
-      ∙ sym (map-append (tree_digest h X) (inner d l) (inner d r)))
+      let eo = subst (λ z. os ≡ map (plan_digest h X) (cond z (outside_parts c l ++ outside_parts c r) (folding q l r ∷ [])) ++ ro) w e in
+      let ei = subst (λ z. is ≡ map (tree_digest h X) (cond z (path_siblings c l ++ path_siblings c r) []) ++ ri) w f in
+      ap₂ ◌++◌ (u (split_left _ (outside_parts c l) (outside_parts c r) os ro eo) (split_left _ (path_siblings c l) (path_siblings c r) is ri ei)) (v (split_right _ (outside_parts c l) (outside_parts c r) os ro eo) (split_right _ (path_siblings c l) (path_siblings c r) is ri ei))
+      ∙ sym (map-append (tree_digest h X) (path_siblings d l) (path_siblings d r)))
       (λ _. refl)
 
 -- the parts outside a range of so many leaves, and the siblings
-laid : {D : Type 0} (s : Scheme D) (n k a b : ℕ) → a < b → b ≤ n → (p : Plan) → whole s.bagging k (peaks_of s.rule n) ≡ Some p
-    → (outer (in_range a b) p ≡ range_parts s.bagging k a b (peaks_of s.rule n)) × (inner (in_range a b) p ≡ range_siblings a b (peaks_of s.rule n))
+laid : {D : Type 0} (s : Scheme D) (n k a b : ℕ) → a < b → b ≤ n → (p : Plan) → root_plan s.bagging k (peaks_of s.rule n) ≡ Some p
+    → (outside_parts (in_range a b) p ≡ range_parts s.bagging k a b (peaks_of s.rule n)) × (path_siblings (in_range a b) p ≡ range_siblings a b (peaks_of s.rule n))
 laid s n k a b l m p e = subst (HasLayout (in_range a b) (range_parts s.bagging k a b (peaks_of s.rule n)) (range_siblings a b (peaks_of s.rule n))) e (range_layout s n k a b l m)
 
 pub honest_store_is_honest : {D : Type 0} → HonestStoreIsHonest D
@@ -86,10 +86,10 @@ honest_store_is_honest s xs k r root a b honest ok some low high =
     let same : r.digests ≡ map f (range_parts s.bagging j r.start (end_of r) ts) ++ map g (range_siblings r.start (end_of r) ts) =
     honest.digests ∙ ap₂ (λ x y. map f (range_parts s.bagging x r.start (end_of r) (peaks_of s.rule y)) ++ map g (range_siblings r.start (end_of r) (peaks_of s.rule y))) (sym honest.inactive) (sym honest.leaves) in
     let is = drop (length (range_parts s.bagging j r.start (end_of r) ts)) r.digests in
-    let os_are : r.digests ≡ map f (outer c plan.0) ++ map g (range_siblings r.start (end_of r) ts) = same ∙ ap (λ z. map f z ++ map g (range_siblings r.start (end_of r) ts)) (sym lc.0) in
-    let is_are : is ≡ map g (inner c plan.0) ++ [] =
+    let os_are : r.digests ≡ map f (outside_parts c plan.0) ++ map g (range_siblings r.start (end_of r) ts) = same ∙ ap (λ z. map f z ++ map g (range_siblings r.start (end_of r) ts)) (sym lc.0) in
+    let is_are : is ≡ map g (path_siblings c plan.0) ++ [] =
     ap (drop (length (range_parts s.bagging j r.start (end_of r) ts))) same ∙ drop_at (map f (range_parts s.bagging j r.start (end_of r) ts)) (map g (range_siblings r.start (end_of r) ts)) _ (length-map (range_parts s.bagging j r.start (end_of r) ts) f)
-    ∙ ap (map g) (sym lc.1) ∙ sym (append-nil (map g (inner c plan.0))) in
+    ∙ ap (map g) (sym lc.1) ∙ sym (append-nil (map g (path_siblings c plan.0))) in
     answers_claim s r root ok a b some low high plan.0 plan.1
     ∙ ap₂ ◌++◌ (outer_honest h c d X Y within agrees plan.0 r.digests is _ [] os_are is_are ∙ ap (map f) ld.0) (inner_honest h c d X Y within agrees plan.0 r.digests is _ [] os_are is_are ∙ ap (map g) ld.1)
     ∙ ap₂ (λ x y. map f (range_parts s.bagging x a b (peaks_of s.rule y)) ++ map g (range_siblings a b (peaks_of s.rule y))) honest.inactive honest.leaves

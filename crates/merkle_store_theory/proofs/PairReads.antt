@@ -16,7 +16,7 @@ use Rattle.merkle_root_theory.specs.Extract.{inner_pairs, over_pairs, single_pai
 use Rattle.merkle_claim_theory.specs.Store.{read_pair, sub_siblings}
 use Rattle.merkle_root_theory.specs.Walk.{peak_values}
 use Rattle.merkle_root_theory.proofs.Collisions.{member_left, member_right}
-use Rattle.merkle_claim_theory.proofs.NoCollisions.{member_split}
+use Rattle.merkle_claim_theory.proofs.HonestClaims.{member_split}
 use Rattle.merkle_claim_theory.proofs.SubProofs.{found, siblings_are_read}
 use Rattle.merkle_store_theory.specs.StoreProof.{first_lacking}
 use Rattle.merkle_store_theory.proofs.Gathered.{past, meets_within}

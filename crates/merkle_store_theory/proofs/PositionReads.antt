@@ -42,7 +42,7 @@ module _ {D : Type 0} (h : Hashing D) (v : StoreValue D) where
 
   suffix_by : (ts : List Tree) → suffix_part h v ts ≡ suffix_at h v (map position ts)
   suffix_by [] = refl
-  suffix_by (t ∷ ts) = ap (λ z. option_to_list (root.bag h.fold (z ++ option_to_list v.suffix))) (read_all (suffix_front v (t ∷ ts)) ∙ ap (read_at h v) (front_by (t ∷ ts)))
+  suffix_by (t ∷ ts) = ap (λ z. option_to_list (root.right_fold h.fold (z ++ option_to_list v.suffix))) (read_all (suffix_front v (t ∷ ts)) ∙ ap (read_at h v) (front_by (t ∷ ts)))
 
   lacking_by : (qs : List ℕ) (ts : List Tree) → suffix_lacking v qs ts ≡ lacking_at v qs (map position ts)
   lacking_by [] ts = ap (first_lacking v.pairs) (map-reverse ts)

@@ -33,11 +33,11 @@ module _ {D : Type 0} (h : Hashing D) (v : StoreValue D) where
 
   -- the asked suffix is further peaks and the store's
   pub suffix_is : (ts us : List Tree) (es : List D) → v.suffix_peaks ≡ map position us → option_to_list v.suffix ≡ es → length es ≡ length (bag_all 0 us)
-      → suffix_part h v (ts ++ us) ≡ option_to_list (root.bag h.fold (read_nodes h v ts ++ es))
+      → suffix_part h v (ts ++ us) ≡ option_to_list (root.right_fold h.fold (read_nodes h v ts ++ es))
   suffix_is [] [] [] p e l = refl
   suffix_is [] [] (x ∷ es) p e l = absurd (omega (arith, l))
-  suffix_is [] (u ∷ us) es p e l = ap₂ (λ y z. option_to_list (root.bag h.fold (read_nodes h v y ++ z))) (front_is [] (u ∷ us) p) e
-  suffix_is (t ∷ ts) us es p e l = ap₂ (λ y z. option_to_list (root.bag h.fold (read_nodes h v y ++ z))) (front_is (t ∷ ts) us p) e
+  suffix_is [] (u ∷ us) es p e l = ap₂ (λ y z. option_to_list (root.right_fold h.fold (read_nodes h v y ++ z))) (front_is [] (u ∷ us) p) e
+  suffix_is (t ∷ ts) us es p e l = ap₂ (λ y z. option_to_list (root.right_fold h.fold (read_nodes h v y ++ z))) (front_is (t ∷ ts) us p) e
 
   -- ---- nothing is refused
   pub no_prefix_refusal : (a : ℕ) (us ts : List Tree) → prefix_refusal a us (us ++ ts) ≡ None

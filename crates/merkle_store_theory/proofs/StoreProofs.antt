@@ -13,18 +13,18 @@ use Rattle.merkle_base.specs.Root as root
 use Rattle.merkle_base.specs.declared.family.Bagging.TheVariants.{ForwardFold}
 use Rattle.merkle_base.proofs.Nodes.{all_append}
 use Rattle.merkle_base.proofs.PeakLists.{Spans, all_reverse, peaks_built, peaks_spans}
-use Rattle.merkle_root_theory.specs.Plan.{Plan, whole, siblings, outer}
+use Rattle.merkle_root_theory.specs.Plan.{Plan, root_plan, siblings, outside_parts}
 use Rattle.merkle_base.specs.Scheme.{Scheme}
 use Rattle.merkle_root_theory.specs.Check.{RangeInput, chosen, leaf_given}
 use Rattle.merkle_root_theory.specs.Extract.{single_pairs, over_pairs}
 use Rattle.merkle_claim_theory.specs.Order.{Distinct}
 use Rattle.merkle_root_theory.specs.Outside.{fold_all, bag_all, folded_prefix, single_before, single_after, folded_suffix, Met, Unmet, HasLayout}
-use Rattle.merkle_root_theory.specs.Range.{end_of, in_range, overlapping, wholly_after, range_parts, range_siblings, AcceptsSome}
+use Rattle.merkle_root_theory.specs.Range.{end_of, in_range, overlapping, wholly_after, range_parts, range_siblings, AcceptsNonempty}
 use Rattle.merkle_claim_theory.specs.Store.{sub_digests, sub_outer, sub_inner}
 use Rattle.merkle_root_theory.specs.Walk.{peak_values}
 use Rattle.merkle_root_theory.proofs.LayoutCounts.{length-fold_all, length-bag_all, length-layout}
 use Rattle.merkle_claim_theory.proofs.ListedDigests.{plan_for}
-use Rattle.merkle_claim_theory.proofs.PairsOnce.{extracts_once}
+use Rattle.merkle_claim_theory.proofs.ExtractedPositionsDistinct.{extracts_once}
 use Rattle.merkle_root_theory.proofs.PeakGroups as peaks
 use Rattle.merkle_claim_theory.proofs.SubProofs.{part_is_accepted}
 use Rattle.merkle_store_theory.specs.StoreValue.{StoreValue, store_of}
@@ -214,7 +214,7 @@ module _ {D : Type 0} (s : Scheme D) (v : StoreValue D) (c d : ℕ → Bool) (wi
           (given_read h v.pairs once own_after e3 r3 l3 (subst (λ z. Among h v.pairs once (single_pairs h own_after z)) (sym (take-append-drop (length own_after) r2)) among3))
           ∙ sym (map-append (read h v.pairs once) new_after own_after)
 
-      proof_is : v.suffix_peaks ≡ map position own_suffix → v.prefix ≡ slice_get e1 0 → v.suffix ≡ slice_get e4 0 → (p : Plan) → whole v.bagging k ((before ++ more_before) ++ (t ∷ over ++ (more_after ++ after))) ≡ Some p
+      proof_is : v.suffix_peaks ≡ map position own_suffix → v.prefix ≡ slice_get e1 0 → v.suffix ≡ slice_get e4 0 → (p : Plan) → root_plan v.bagging k ((before ++ more_before) ++ (t ∷ over ++ (more_after ++ after))) ≡ Some p
           → proof_by s v d (before ++ more_before) (t ∷ over) (more_after ++ after) own_prefix ≡ sub_outer h c d X p ds is ++ sub_inner h c d X p ds is
       proof_is ends pre suf p whole_is =
           let one : prefix_part h v (length own_prefix) (folded_prefix v.bagging k (before ++ more_before)) ≡ option_to_list (root.folded h.fold ForwardFold 0 (e1 ++ peak_values h c X new_prefix is)) =
@@ -224,27 +224,27 @@ module _ {D : Type 0} (s : Scheme D) (v : StoreValue D) (c d : ℕ → Bool) (wi
           let two : read_nodes h v (single_before v.bagging k (before ++ more_before) ++ single_after v.bagging k part_met (more_after ++ after)) ≡ (e2 ++ peak_values h c X new_single is1) ++ (peak_values h c X new_after is3 ++ e3) =
           map-append (read h v.pairs once) (single_before v.bagging k (before ++ more_before)) (single_after v.bagging k part_met (more_after ++ after))
           ∙ ap₂ ◌++◌ (ap (read_nodes h v) (before_split v.bagging k before more_before) ∙ sym value_single) (ap (read_nodes h v) (after_split v.bagging k part_met whole_met more_after after more) ∙ sym value_after) in
-          let three : suffix_part h v (folded_suffix v.bagging k part_met (more_after ++ after)) ≡ option_to_list (root.bag h.fold (peak_values h c X new_suffix is4 ++ e4)) =
+          let three : suffix_part h v (folded_suffix v.bagging k part_met (more_after ++ after)) ≡ option_to_list (root.right_fold h.fold (peak_values h c X new_suffix is4 ++ e4)) =
           ap (suffix_part h v) (suffix_split v.bagging k part_met whole_met more_after after more)
           ∙ suffix_is h v new_suffix own_suffix e4 ends (ap option_to_list suf ∙ first_of e4 (omega (arith, l4, length-bag_all 0 own_suffix))) l4
-          ∙ ap (λ z. option_to_list (root.bag h.fold (z ++ e4))) (sym (own_read h v.pairs once c X new_suffix is4 owned4)) in
+          ∙ ap (λ z. option_to_list (root.right_fold h.fold (z ++ e4))) (sym (own_read h v.pairs once c X new_suffix is4 owned4)) in
           let four : sub_inner h c d X p ds is ≡ read_nodes h v (flat_map (siblings d) (t ∷ over)) =
           ap (λ z. sub_inner h c d X p z is) ds_are
           ∙ inner_given h c d within X v.bagging k before more_before t over more_after after cu cm cv du dm dv e1 e2 e3 e4 rest is l1 l2 l3 l4 p whole_is
           ∙ siblings_read h v.pairs once c X d within (t ∷ over) is2 (own_left h v.pairs once c X (t ∷ over) _ is2 owned2) in
-          let five : sub_outer h c d X p ds is ≡ option_to_list (root.folded h.fold ForwardFold 0 (e1 ++ peak_values h c X new_prefix is)) ++ ((e2 ++ peak_values h c X new_single is1) ++ ((peak_values h c X new_after is3 ++ e3) ++ option_to_list (root.bag h.fold (peak_values h c X new_suffix is4 ++ e4)))) =
+          let five : sub_outer h c d X p ds is ≡ option_to_list (root.folded h.fold ForwardFold 0 (e1 ++ peak_values h c X new_prefix is)) ++ ((e2 ++ peak_values h c X new_single is1) ++ ((peak_values h c X new_after is3 ++ e3) ++ option_to_list (root.right_fold h.fold (peak_values h c X new_suffix is4 ++ e4)))) =
           ap (λ z. sub_outer h c d X p z is) ds_are ∙ outer_given h c d within X v.bagging k before more_before t over more_after after cu cm cv du dm dv e1 e2 e3 e4 rest is l1 l2 l3 l4 p whole_is in
           let a = option_to_list (root.folded h.fold ForwardFold 0 (e1 ++ peak_values h c X new_prefix is)) in
           let b = e2 ++ peak_values h c X new_single is1 in
           let f = peak_values h c X new_after is3 ++ e3 in
-          let z = option_to_list (root.bag h.fold (peak_values h c X new_suffix is4 ++ e4)) in
+          let z = option_to_list (root.right_fold h.fold (peak_values h c X new_suffix is4 ++ e4)) in
           ap₂ ◌++◌ one (ap₂ ◌++◌ two (ap₂ ◌++◌ three (sym four)))
           ∙ ap (λ y. a ++ y) (append_assoc b f (z ++ sub_inner h c d X p ds is) ∙ ap (λ y. b ++ y) (sym (append_assoc f z (sub_inner h c d X p ds is))) ∙ sym (append_assoc b (f ++ z) (sub_inner h c d X p ds is)))
           ∙ sym (append_assoc a (b ++ (f ++ z)) (sub_inner h c d X p ds is))
           ∙ ap (λ y. y ++ sub_inner h c d X p ds is) (sym five)
 
 -- ---- the store of an accepted input
-module _ {D : Type 0} (s : Scheme D) (r : RangeInput D) (root_digest : D) (ok : AcceptsSome s r root_digest) (a b : ℕ) (some : a < b) (low : r.start ≤ a) (high : b ≤ end_of r) where
+module _ {D : Type 0} (s : Scheme D) (r : RangeInput D) (root_digest : D) (ok : AcceptsNonempty s r root_digest) (a b : ℕ) (some : a < b) (low : r.start ≤ a) (high : b ≤ end_of r) where
   abbrev v : StoreValue D
   v = store_of s r root_digest
 
@@ -402,13 +402,13 @@ module _ {D : Type 0} (s : Scheme D) (r : RangeInput D) (root_digest : D) (ok : 
         among1 (subst (λ z. Among s.hashing v.pairs once (over_pairs s.hashing c X z is)) split_so among2) (subst (λ z. Among s.hashing v.pairs once (single_pairs s.hashing (single_of z) d2)) split_so among3)
         (ap (λ z. map position (suffix_of_held z)) split_so) a
 
-    reads_claim : (p : Plan) → whole s.bagging r.inactive ts ≡ Some p
+    reads_claim : (p : Plan) → root_plan s.bagging r.inactive ts ≡ Some p
         → proof_by s v d (before ++ more_before) (t ∷ over) (more_after ++ after) (folded_prefix s.bagging r.inactive before) ≡ sub_outer s.hashing c d X p r.digests is ++ sub_inner s.hashing c d X p r.digests is
     reads_claim p w =
         proof_is s v c d within X once before more_before t over more_after after cu (subst (Met c) split_so cm) cv du (subst (Met d) e dm) dv r.digests is
         among1 (subst (λ z. Among s.hashing v.pairs once (over_pairs s.hashing c X z is)) split_so among2) (subst (λ z. Among s.hashing v.pairs once (single_pairs s.hashing (single_of z) d2)) split_so among3)
         (subst IsEnough split_so enough) (ap (λ z. map position (suffix_of_held z)) split_so) refl (suffix_there ∙ ap suffix_digest split_so) p
-        (ap (whole s.bagging r.inactive) (sym (ts_are ∙ ap (λ z. (before ++ more_before) ++ (z ++ (more_after ++ after))) e)) ∙ w)
+        (ap (root_plan s.bagging r.inactive) (sym (ts_are ∙ ap (λ z. (before ++ more_before) ++ (z ++ (more_after ++ after))) e)) ∙ w)
 
   pub answers_none : store_refusal s v a b ≡ None
   answers_none = refusal_groups ∙ by_cases still refl
@@ -417,7 +417,7 @@ module _ {D : Type 0} (s : Scheme D) (r : RangeInput D) (root_digest : D) (ok : 
       by_cases [] e = absurd (reached e)
       by_cases (t ∷ over) e = refuses_none t over e
 
-  pub answers_claim : (p : Plan) → whole s.bagging r.inactive ts ≡ Some p → store_proof s v a b ≡ sub_outer s.hashing c d X p r.digests is ++ sub_inner s.hashing c d X p r.digests is
+  pub answers_claim : (p : Plan) → root_plan s.bagging r.inactive ts ≡ Some p → store_proof s v a b ≡ sub_outer s.hashing c d X p r.digests is ++ sub_inner s.hashing c d X p r.digests is
   answers_claim p w = as_groups ∙ by_cases still refl
     where
       by_cases : (over : List Tree) → still ≡ over → proof_by s v d (before ++ more_before) over (more_after ++ after) (folded_prefix s.bagging r.inactive before) ≡ sub_outer s.hashing c d X p r.digests is ++ sub_inner s.hashing c d X p r.digests is
@@ -431,7 +431,7 @@ pub store_reads_claim : {D : Type 0} → StoreReadsClaim D
 store_reads_claim s r q root ok some low high =
     let plan = plan_for s r.leaves r.inactive (omega (arith, ok.some, ok.within)) in
     let c = chosen r in
-    let lay : outer c plan.0 ≡ range_parts s.bagging r.inactive r.start (end_of r) (peaks_of s.rule r.leaves) =
+    let lay : outside_parts c plan.0 ≡ range_parts s.bagging r.inactive r.start (end_of r) (peaks_of s.rule r.leaves) =
     (subst (HasLayout c (range_parts s.bagging r.inactive r.start (end_of r) (peaks_of s.rule r.leaves)) (range_siblings r.start (end_of r) (peaks_of s.rule r.leaves))) plan.1
     (peaks.range_layout s r.leaves r.inactive r.start (end_of r) (omega (arith, ok.some)) ok.within)).0 in
     answers_claim s r root ok q.start (end_of q) (omega (arith, some)) low high plan.0 plan.1

@@ -3,10 +3,10 @@ use Rattle.std.specs.Prelude.{◌≡◌, ℕ, ◌<◌, ◌≤◌, ◌-◌, ◌�
 use Rattle.std.specs.List.{AllByRecursion}
 use Rattle.merkle_base.specs.Tree.{Tree, position, end_leaf}
 use Rattle.merkle_base.specs.Places.{peaks_of, wholly_before, peak_positions}
-use Rattle.merkle_root_theory.specs.Plan.{whole}
+use Rattle.merkle_root_theory.specs.Plan.{root_plan}
 use Rattle.merkle_base.specs.Scheme.{Scheme}
 use Rattle.merkle_root_theory.specs.Check.{RangeInput}
-use Rattle.merkle_root_theory.specs.Range.{end_of, range_siblings, range_digests, AcceptsSome, IsHonestSome}
+use Rattle.merkle_root_theory.specs.Range.{end_of, range_siblings, range_digests, AcceptsNonempty, IsHonestNonempty}
 use Rattle.merkle_claim_theory.specs.Table.{digest_for}
 use Rattle.merkle_claim_theory.specs.Store.{sub_digests}
 use Rattle.merkle_store_theory.specs.StoreValue.{StoreValue, store_of}
@@ -14,12 +14,12 @@ use Rattle.merkle_store_theory.specs.StoreProof.{held_prefix, asked_prefix, aske
 
 -- the store's proof has the digests that stand in the claim
 abbrev pub StoreReadsClaim : Type 0 → Type 0
-StoreReadsClaim D = (s : Scheme D) (r q : RangeInput D) (root : D) → AcceptsSome s r root → 0 < length q.elements → r.start ≤ q.start → end_of q ≤ end_of r
-    → store_proof s (store_of s r root) q.start (end_of q) ≡ sub_digests s r q (whole s.bagging r.inactive (peaks_of s.rule r.leaves))
+StoreReadsClaim D = (s : Scheme D) (r q : RangeInput D) (root : D) → AcceptsNonempty s r root → 0 < length q.elements → r.start ≤ q.start → end_of q ≤ end_of r
+    → store_proof s (store_of s r root) q.start (end_of q) ≡ sub_digests s r q (root_plan s.bagging r.inactive (peaks_of s.rule r.leaves))
 
 -- inside its range a store refuses nothing
 abbrev pub StoreAnswers : Type 0 → Type 0
-StoreAnswers D = (s : Scheme D) (r : RangeInput D) (root : D) (a b : ℕ) → AcceptsSome s r root → a < b → r.start ≤ a → b ≤ end_of r
+StoreAnswers D = (s : Scheme D) (r : RangeInput D) (root : D) (a b : ℕ) → AcceptsNonempty s r root → a < b → r.start ≤ a → b ≤ end_of r
     → store_refusal s (store_of s r root) a b ≡ None
 
 -- q has the proof that the store of r answers for a part of its range, with the elements of r there
@@ -34,7 +34,7 @@ pub record IsStoreProof {D : Type 0} (s : Scheme D) (r q : RangeInput D) (root :
 
 -- and is accepted, whatever the hash
 abbrev pub StoreIsAccepted : Type 0 → Type 0
-StoreIsAccepted D = (s : Scheme D) (r q : RangeInput D) (root : D) → AcceptsSome s r root → IsStoreProof s r q root → AcceptsSome s q root
+StoreIsAccepted D = (s : Scheme D) (r q : RangeInput D) (root : D) → AcceptsNonempty s r root → IsStoreProof s r q root → AcceptsNonempty s q root
 
 -- the pairs have a digest for each of the nodes
 abbrev pub AreHeld : {D : Type 0} → StoreValue D → List Tree → Type 0
@@ -76,5 +76,5 @@ ShorterIsNext D = (s : Scheme D) (v : StoreValue D) (a b : ℕ) → 0 < length (
 
 -- the store of a list's honest proof answers its honest proofs
 abbrev pub HonestStoreIsHonest : Type 0 → Type 0
-HonestStoreIsHonest D = (s : Scheme D) (xs : List D) (k : ℕ) (r : RangeInput D) (root : D) (a b : ℕ) → IsHonestSome s xs k r → AcceptsSome s r root → a < b → r.start ≤ a → b ≤ end_of r
+HonestStoreIsHonest D = (s : Scheme D) (xs : List D) (k : ℕ) (r : RangeInput D) (root : D) (a b : ℕ) → IsHonestNonempty s xs k r → AcceptsNonempty s r root → a < b → r.start ≤ a → b ≤ end_of r
     → store_proof s (store_of s r root) a b ≡ range_digests s xs k a b

@@ -5,7 +5,7 @@ use Rattle.std.specs.Cmp.Lexicographic.{pointwise}
 use Rattle.merkle_base.specs.Tree.{Tree, position, end_leaf}
 use Rattle.merkle_base.specs.Hashing.{Hashing}
 use Rattle.merkle_base.specs.Places.{peaks_of, wholly_before}
-use Rattle.merkle_base.specs.Root.{bag, folded}
+use Rattle.merkle_base.specs.Root.{right_fold, folded}
 use Rattle.merkle_base.specs.declared.family.Bagging.TheVariants.{ForwardFold}
 use Rattle.merkle_base.specs.Scheme.{Scheme}
 use Rattle.merkle_root_theory.specs.Outside.{folded_prefix, single_before, single_after, folded_suffix}
@@ -50,7 +50,7 @@ prefix_part h v held (t ∷ ts) = option_to_list (folded h.fold ForwardFold 0 (o
 -- the fold of the asked suffix, if there is one: the store's own, taken in by the peaks before it, from the last one on
 abbrev pub suffix_part : {D : Type 0} → Hashing D → StoreValue D → List Tree → List D
 suffix_part h v [] = []
-suffix_part h v (t ∷ ts) = option_to_list (bag h.fold (read_nodes h v (suffix_front v (t ∷ ts)) ++ option_to_list v.suffix))
+suffix_part h v (t ∷ ts) = option_to_list (right_fold h.fold (read_nodes h v (suffix_front v (t ∷ ts)) ++ option_to_list v.suffix))
 
 -- the digests of the proof of a..b
 abbrev pub store_proof : {D : Type 0} → Scheme D → StoreValue D → (a b : ℕ) → List D

@@ -4,7 +4,7 @@ use Rattle.std.specs.Option.{option_to_list, option_or}
 use Rattle.merkle_base.specs.Tree.{position}
 use Rattle.merkle_base.specs.Hashing.{Hashing}
 use Rattle.merkle_base.specs.Places.{peaks_of, wholly_before, peak_positions}
-use Rattle.merkle_base.specs.Root.{bag, folded}
+use Rattle.merkle_base.specs.Root.{right_fold, folded}
 use Rattle.merkle_base.specs.declared.family.Bagging.TheVariants.{ForwardFold}
 use Rattle.merkle_base.specs.Scheme.{Scheme}
 use Rattle.merkle_root_theory.specs.Outside.{single_after}
@@ -55,7 +55,7 @@ prefix_at h v held (p ∷ ps) = option_to_list (folded h.fold ForwardFold 0 (opt
 -- that of the asked suffix
 abbrev pub suffix_at : {D : Type 0} → Hashing D → StoreValue D → List ℕ → List D
 suffix_at h v [] = []
-suffix_at h v (p ∷ ps) = option_to_list (bag h.fold (read_at h v (take (length (p ∷ ps) - length v.suffix_peaks) (p ∷ ps)) ++ option_to_list v.suffix))
+suffix_at h v (p ∷ ps) = option_to_list (right_fold h.fold (read_at h v (take (length (p ∷ ps) - length v.suffix_peaks) (p ∷ ps)) ++ option_to_list v.suffix))
 
 -- the digests of the proof; ps: the positions that are read
 abbrev pub proof_at : {D : Type 0} → Hashing D → StoreValue D → Counts → List ℕ → List D

@@ -3,13 +3,13 @@ use Rattle.std.specs.Prelude.{ℕ, ◌+◌, ◌*◌, List, [], ◌∷◌}
 use Rattle.merkle_base.specs.declared.family.Bagging.{Bagging}
 use Rattle.merkle_base.specs.declared.family.Bagging.TheVariants.{ForwardFold, BackwardFold}
 use Rattle.merkle_base.specs.Scheme.{Scheme}
-use Rattle.merkle_forest_theory.specs.Mmr.{carries}
+use Rattle.merkle_forest_theory.specs.Mmr.{mmr_merges}
 use Rattle.merkle_claim_theory.specs.ThreeLeaves.{xor_hashing}
 use Rattle.merkle_store_theory.specs.StoreValue.{StoreValue, store_of}
 
 -- the digest of a node is its position, and a fold writes two of them one after the other
 abbrev pub numbered : Bagging → Scheme ℕ
-numbered bagging = record { hashing = record xor_hashing { node = λ p l r. p; fold = λ a b. 100 * a + b }; rule = carries; max_leaves = 100; bagging = bagging; domain = 0 }
+numbered bagging = record { hashing = record xor_hashing { node = λ p l r. p; fold = λ a b. 100 * a + b }; rule = mmr_merges; max_leaves = 100; bagging = bagging; domain = 0 }
 
 -- the store of a proof of leaves of seven, with that inactive count
 abbrev pub of_seven : Bagging → (inactive : ℕ) → (digests : List ℕ) → (start : ℕ) → (elements : List ℕ) → StoreValue ℕ
@@ -31,7 +31,7 @@ last_of_seven = of_seven ForwardFold 0 (609 ∷ []) 6 (10 ∷ [])
 
 -- exclusive or in the place of a hash, backward
 abbrev pub of_three : Scheme ℕ
-of_three = record { hashing = xor_hashing; rule = carries; max_leaves = 100; bagging = BackwardFold; domain = 0 }
+of_three = record { hashing = xor_hashing; rule = mmr_merges; max_leaves = 100; bagging = BackwardFold; domain = 0 }
 
 -- over it the store of the first of the leaves 1, 3 and 7
 abbrev pub first_of_three : StoreValue ℕ

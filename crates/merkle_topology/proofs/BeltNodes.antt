@@ -7,7 +7,7 @@ use Rattle.merkle_base.specs.Tree.{Tree, leaf, join, position, height, first_lea
 use Rattle.merkle_base.specs.Forest.{forest, size}
 use Rattle.merkle_base.specs.Heights.{parent_heights}
 use Rattle.merkle_base.specs.Places.{HasInner, IsHeightAt}
-use Rattle.merkle_forest_theory.specs.Mmb.{newest_pair, birth_leaf, root_position}
+use Rattle.merkle_forest_theory.specs.Mmb.{mmb_merges, birth_leaf, mmb_position}
 use Rattle.merkle_base.proofs.Growth.{forest_grown}
 use Rattle.merkle_base.proofs.Lists.{get_below}
 use Rattle.merkle_base.proofs.Nodes.{node_built, same_position}
@@ -37,29 +37,29 @@ pub record IsInner (p h birth : ℕ) : Type 0 where
   pub start : 3 * 2 ^ (h - 1) ≤ birth + 2
   pub left_birth : birth_leaf (birth + 2 - 3 * 2 ^ (h - 1)) (h - 1) ≤ 4611686018427387934
   pub right_birth : birth_leaf (birth + 2 - 3 * 2 ^ (h - 1) + 2 ^ (h - 1)) (h - 1) ≤ 4611686018427387934
-  pub children : (m : ℕ) (a b : Tree) → slice_get (forest newest_pair m).nodes p ≡ Some (join p a b)
-      → (root_position (birth + 2 - 3 * 2 ^ (h - 1)) (h - 1) ≡ position a) × (root_position (birth + 2 - 3 * 2 ^ (h - 1) + 2 ^ (h - 1)) (h - 1) ≡ position b)
+  pub children : (m : ℕ) (a b : Tree) → slice_get (forest mmb_merges m).nodes p ≡ Some (join p a b)
+      → (mmb_position (birth + 2 - 3 * 2 ^ (h - 1)) (h - 1) ≡ position a) × (mmb_position (birth + 2 - 3 * 2 ^ (h - 1) + 2 ^ (h - 1)) (h - 1) ≡ position b)
 
-inner_tree : (p h birth n : ℕ) (t : Tree) → n ≤ 4611686018427387934 → slice_get (forest newest_pair n).nodes p ≡ Some t → height t ≡ h → 0 < h →
-    birth ≤ 4611686018427387934 → size newest_pair birth ≤ p → p < size newest_pair (birth + 1) → IsInner p h birth
+inner_tree : (p h birth n : ℕ) (t : Tree) → n ≤ 4611686018427387934 → slice_get (forest mmb_merges n).nodes p ≡ Some t → height t ≡ h → 0 < h →
+    birth ≤ 4611686018427387934 → size mmb_merges birth ≤ p → p < size mmb_merges (birth + 1) → IsInner p h birth
 inner_tree p h birth n (leaf q k) l e d z small low high = absurd (omega arith)
 inner_tree p h birth n (join q a b) l e d z small low high =
-    let same : q ≡ p = (forest_grown newest_pair n).placed p (join q a b) e in
-    let here : slice_get (forest newest_pair n).nodes p ≡ Some (join p a b) = e ∙ ap (λ (y : ℕ). Some (join y a b)) same in
+    let same : q ≡ p = (forest_grown mmb_merges n).placed p (join q a b) e in
+    let here : slice_get (forest mmb_merges n).nodes p ≡ Some (join p a b) = e ∙ ap (λ (y : ℕ). Some (join y a b)) same in
     let k = mmb_children n p a b here in
     let up : suc (birth_leaf (first_leaf a) (suc (height a))) ≡ k.x + 1 = omega (arith, k.sum, pow_pos (height a)) in
-    let present : p < size newest_pair (k.x + 1) = subst (λ (y : ℕ). p < size newest_pair y) up (mmb_placed n p (join p a b) here).present in
-    let x : birth ≡ k.x = leaf_only newest_pair birth k.x p low high (omega (arith, k.at)) present in
+    let present : p < size mmb_merges (k.x + 1) = subst (λ (y : ℕ). p < size mmb_merges y) up (mmb_placed n p (join p a b) here).present in
+    let x : birth ≡ k.x = leaf_only mmb_merges birth k.x p low high (omega (arith, k.at)) present in
     let y : height a ≡ h - 1 = omega (arith, d) in
     let w : 2 ^ height a ≡ 2 ^ (h - 1) = ap (λ (v : ℕ). 2 ^ v) y in
     let first : first_leaf a ≡ birth + 2 - 3 * 2 ^ (h - 1) = omega (arith, k.sum) in
-    let left : root_position (birth + 2 - 3 * 2 ^ (h - 1)) (h - 1) ≡ position a =
-    sym (k.left ∙ ap (λ (v : ℕ). root_position v (height a)) first ∙ ap (root_position (birth + 2 - 3 * 2 ^ (h - 1))) y) in
-    let right : root_position (birth + 2 - 3 * 2 ^ (h - 1) + 2 ^ (h - 1)) (h - 1) ≡ position b =
-    sym (k.right ∙ ap (λ (v : ℕ). root_position v (height a)) (ap (λ (v : ℕ). v + 2 ^ height a) first ∙ ap (λ (v : ℕ). birth + 2 - 3 * 2 ^ (h - 1) + v) w)
-    ∙ ap (root_position (birth + 2 - 3 * 2 ^ (h - 1) + 2 ^ (h - 1))) y) in
-    let built = node_built newest_pair n p (join p a b) here in
-    let below : p < size newest_pair n = get_below (forest newest_pair n).nodes p (join p a b) here in
+    let left : mmb_position (birth + 2 - 3 * 2 ^ (h - 1)) (h - 1) ≡ position a =
+    sym (k.left ∙ ap (λ (v : ℕ). mmb_position v (height a)) first ∙ ap (mmb_position (birth + 2 - 3 * 2 ^ (h - 1))) y) in
+    let right : mmb_position (birth + 2 - 3 * 2 ^ (h - 1) + 2 ^ (h - 1)) (h - 1) ≡ position b =
+    sym (k.right ∙ ap (λ (v : ℕ). mmb_position v (height a)) (ap (λ (v : ℕ). v + 2 ^ height a) first ∙ ap (λ (v : ℕ). birth + 2 - 3 * 2 ^ (h - 1) + v) w)
+    ∙ ap (mmb_position (birth + 2 - 3 * 2 ^ (h - 1) + 2 ^ (h - 1))) y) in
+    let built = node_built mmb_merges n p (join p a b) here in
+    let below : p < size mmb_merges n = get_below (forest mmb_merges n).nodes p (join p a b) here in
     let bound : 3 * 2 ^ (h - 1) ≤ birth + 2 = omega (arith, k.sum) in
     let low : h - 1 < 62 = log_below (h - 1) 62 (2 ^ (h - 1)) (omega arith) (omega arith) in
     record {
@@ -68,34 +68,34 @@ inner_tree p h birth n (join q a b) l e d z small low high =
       start = bound;
       left_birth = omega (arith, birth_below (birth + 2 - 3 * 2 ^ (h - 1)) (h - 1) n (omega (arith, left, built.1)));
       right_birth = omega (arith, birth_below (birth + 2 - 3 * 2 ^ (h - 1) + 2 ^ (h - 1)) (h - 1) n (omega (arith, right, built.2)));
-      children = λ m u v f. (let r : join p u v ≡ join p a b = same_position newest_pair m n p (join p u v) (join p a b) f here in
+      children = λ m u v f. (let r : join p u v ≡ join p a b = same_position mmb_merges m n p (join p u v) (join p a b) f here in
           let ru : u ≡ a = cc in let rv : v ≡ b = cc in
           (left ∙ ap position (sym ru), right ∙ ap position (sym rv)));
     }
 
-pub mmb_inner : (p h birth : ℕ) → HasInner newest_pair 4611686018427387934 p h → birth ≤ 4611686018427387934 → size newest_pair birth ≤ p → p < size newest_pair (birth + 1) → IsInner p h birth
+pub mmb_inner : (p h birth : ℕ) → HasInner mmb_merges 4611686018427387934 p h → birth ≤ 4611686018427387934 → size mmb_merges birth ≤ p → p < size mmb_merges (birth + 1) → IsInner p h birth
 mmb_inner p h birth k small low high = inner_tree p h birth k.0 k.1 k.2 k.3 k.4 k.5 small low high
 
 -- ---- heights
 -- no parent, or one
-few_parents : (n : ℕ) → length (parent_heights newest_pair n) ≤ 1
+few_parents : (n : ℕ) → length (parent_heights mmb_merges n) ≤ 1
 few_parents n = elim (mmb_parents n) [ inl h ↦ rw h.0 (omega arith) | inr h ↦ rw h.1 (omega arith) ]
 
-pub mmb_leaf_height : (n p : ℕ) → size newest_pair n ≡ p → p < size newest_pair (n + 1) → IsHeightAt newest_pair p 0
+pub mmb_leaf_height : (n p : ℕ) → size mmb_merges n ≡ p → p < size mmb_merges (n + 1) → IsHeightAt mmb_merges p 0
 mmb_leaf_height n p at b w t e =
     let next : n + 1 ≡ suc n = omega arith in
-    let none : size newest_pair n + 0 ≡ p = omega arith in
-    let up : size newest_pair n + 0 < size newest_pair (suc n) = subst (λ (m : ℕ). size newest_pair n + 0 < size newest_pair m) next (omega arith) in
-    sym (height_at newest_pair (suc n) (mmb_equal (suc n)) n 0 w t (omega arith) up (rw (← none) at e))
+    let none : size mmb_merges n + 0 ≡ p = omega arith in
+    let up : size mmb_merges n + 0 < size mmb_merges (suc n) = subst (λ (m : ℕ). size mmb_merges n + 0 < size mmb_merges m) next (omega arith) in
+    sym (height_at mmb_merges (suc n) (mmb_equal (suc n)) n 0 w t (omega arith) up (rw (← none) at e))
 
 -- a node after the leaf that it comes with
-pub mmb_parent_height : (n p : ℕ) → n ≤ 4611686018427387934 → size newest_pair n ≤ p → size newest_pair n ≢ p → p < size newest_pair (n + 1) → IsHeightAt newest_pair p (trailing_ones w64 (n + 1) + 1)
+pub mmb_parent_height : (n p : ℕ) → n ≤ 4611686018427387934 → size mmb_merges n ≤ p → size mmb_merges n ≢ p → p < size mmb_merges (n + 1) → IsHeightAt mmb_merges p (trailing_ones w64 (n + 1) + 1)
 mmb_parent_height n p small a other b w t e =
     let next : n + 1 ≡ suc n = omega arith in
-    let more : size newest_pair (suc n) ≡ size newest_pair n + 1 + length (parent_heights newest_pair n) = size_suc newest_pair (suc n) (mmb_equal (suc n)) n (omega arith) in
-    let up : p < size newest_pair (suc n) = subst (λ (m : ℕ). p < size newest_pair m) next b in
-    let at : p ≡ size newest_pair n + 1 = grind (arith, few_parents n, more, up, a, other) in
-    let k = height_at newest_pair (suc n) (mmb_equal (suc n)) n 1 w t (omega arith) (omega arith) (rw at at e) in
+    let more : size mmb_merges (suc n) ≡ size mmb_merges n + 1 + length (parent_heights mmb_merges n) = size_suc mmb_merges (suc n) (mmb_equal (suc n)) n (omega arith) in
+    let up : p < size mmb_merges (suc n) = subst (λ (m : ℕ). p < size mmb_merges m) next b in
+    let at : p ≡ size mmb_merges n + 1 = grind (arith, few_parents n, more, up, a, other) in
+    let k = height_at mmb_merges (suc n) (mmb_equal (suc n)) n 1 w t (omega arith) (omega arith) (rw at at e) in
     elim (mmb_parents n) [
       | inl h ↦ absurd (omega (arith, ap length h.0))
       | inr h ↦ sym (k ∙ ap (λ (hs : List ℕ). slice_index (0 ∷ hs) 1) h.1 ∙ omega (arith, ends_trailing h.0 (n + 1) h.2 (omega arith)))
@@ -104,7 +104,7 @@ mmb_parent_height n p small a other b w t e =
 -- ---- the parent that comes with a leaf
 -- whether n + 2 is a power of two tells whether there is none
 pub mmb_parent : (n : ℕ) → n + 2 < 2 ^ 64 → (b : Bool) → b ≡ is_power_of_two (n + 2) →
-    (b ≡ true → parent_heights newest_pair n ≡ []) × (b ≡ false → parent_heights newest_pair n ≡ (trailing_ones w64 (n + 1) + 1) ∷ [])
+    (b ≡ true → parent_heights mmb_merges n ≡ []) × (b ≡ false → parent_heights mmb_merges n ≡ (trailing_ones w64 (n + 1) + 1) ∷ [])
 mmb_parent n l b e = elim (mmb_parents n) [
   | inl h ↦ (
     λ _. h.0,

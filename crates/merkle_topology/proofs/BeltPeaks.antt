@@ -10,7 +10,7 @@ use Rattle.merkle_base.specs.Tree.{Tree, position, height, first_leaf}
 use Rattle.merkle_base.specs.Forest.{forest, size}
 use Rattle.merkle_base.specs.Heights.{peak_heights, weight}
 use Rattle.merkle_base.specs.Places.{placed, peaks_of}
-use Rattle.merkle_forest_theory.specs.Mmb.{newest_pair, birth_leaf, root_position, newest_peaks}
+use Rattle.merkle_forest_theory.specs.Mmb.{mmb_merges, birth_leaf, mmb_position, newest_peaks}
 use Rattle.merkle_forest_theory.specs.BeltDigits.{digits_after, value, spread}
 use Rattle.merkle_forest_theory.proofs.BeltLawful.{mmb_heights, digits_value, length-spread, mmb_peak_count, same_log}
 use Rattle.merkle_base.proofs.Lists.{get_below, get_exists}
@@ -39,9 +39,9 @@ weight_spread k (suc i) (false ∷ bs) l =
     let h : (0 + 2 * value bs) / 2 ≡ value bs = omega arith in
     rw (e, half_shr (0 + 2 * value bs) (value bs) i h) (omega (arith, weight_spread (suc k) i bs (omega arith), pow-suc 2 k, ap (λ (x : ℕ). value bs * x) (pow-suc 2 k)))
 
-weight_newest : (n i : ℕ) → i ≤ length (peak_heights newest_pair n) → weight (take i (peak_heights newest_pair n)) + (n + 1) / 2 ^ i * 2 ^ i ≡ n + 2 ^ i
+weight_newest : (n i : ℕ) → i ≤ length (peak_heights mmb_merges n) → weight (take i (peak_heights mmb_merges n)) + (n + 1) / 2 ^ i * 2 ^ i ≡ n + 2 ^ i
 weight_newest n i l =
-    let e : length (peak_heights newest_pair n) ≡ length (digits_after n) = ap length (mmb_heights n) ∙ length-spread 0 (digits_after n) in
+    let e : length (peak_heights mmb_merges n) ≡ length (digits_after n) = ap length (mmb_heights n) ∙ length-spread 0 (digits_after n) in
     let z : 0 + i ≡ i = omega arith in
     let w : weight (take i (spread 0 (digits_after n))) + value (digits_after n) / 2 ^ i * 2 ^ (0 + i) + 2 ^ 0 ≡ value (digits_after n) * 2 ^ 0 + 2 ^ (0 + i) = weight_spread 0 i (digits_after n) (omega (arith, e)) in
     let v : weight (take i (spread 0 (digits_after n))) + (n + 1) / 2 ^ i * 2 ^ i + 1 ≡ (n + 1) * 1 + 2 ^ i = rw (z, digits_value n) at w in
@@ -70,9 +70,9 @@ one_less zero w l = absurd (omega arith)
 one_less (suc q) w l = (let e : suc q - 1 ≡ q = omega arith in rw e (omega arith))
 
 -- the leaf that a root comes with is there where the root is
-pub birth_below : (s h n : ℕ) → root_position s h < size newest_pair n → birth_leaf s h < n
-birth_below s zero n l = grind (arith, size_le newest_pair n s)
-birth_below s (suc h) n l = grind (arith, size_le newest_pair n (s + 3 * 2 ^ h - 2))
+pub birth_below : (s h n : ℕ) → mmb_position s h < size mmb_merges n → birth_leaf s h < n
+birth_below s zero n l = grind (arith, size_le mmb_merges n s)
+birth_below s (suc h) n l = grind (arith, size_le mmb_merges n (s + 3 * 2 ^ h - 2))
 
 take_get : (ts : List Tree) (i : ℕ) (t : Tree) → slice_get ts i ≡ Some t → take (suc i) ts ≡ take i ts ++ t ∷ []
 take_get ts i t e =
@@ -84,41 +84,41 @@ pub record IsPeak (n i : ℕ) : Type 0 where
   pub fits : 2 ^ peak_height n i ≤ peak_end n i
   pub last : peak_end n i ≤ n
   pub birth : birth_leaf (peak_end n i - 2 ^ peak_height n i) (peak_height n i) < n
-  pub first : newest_peaks (suc i) n ≡ (root_position (peak_end n i - 2 ^ peak_height n i) (peak_height n i), peak_height n i) ∷ newest_peaks i n
+  pub first : newest_peaks (suc i) n ≡ (mmb_position (peak_end n i - 2 ^ peak_height n i) (peak_height n i), peak_height n i) ∷ newest_peaks i n
 
-pub peak_count : (n k : ℕ) → 2 ^ k ≤ n + 1 → k ≤ length (peak_heights newest_pair n)
-peak_count n k l = omega (arith, log_below k (suc (length (peak_heights newest_pair n))) (n + 1) l (mmb_peak_count n).1)
+pub peak_count : (n k : ℕ) → 2 ^ k ≤ n + 1 → k ≤ length (peak_heights mmb_merges n)
+peak_count n k l = omega (arith, log_below k (suc (length (peak_heights mmb_merges n))) (n + 1) l (mmb_peak_count n).1)
 
-length-peaks : (n : ℕ) → length (forest newest_pair n).peaks ≡ length (peak_heights newest_pair n)
-length-peaks n = sym (length-map (forest newest_pair n).peaks height) ∙ ap length (heights_forest newest_pair n)
+length-peaks : (n : ℕ) → length (forest mmb_merges n).peaks ≡ length (peak_heights mmb_merges n)
+length-peaks n = sym (length-map (forest mmb_merges n).peaks height) ∙ ap length (heights_forest mmb_merges n)
 
 pub mmb_peak : (n i : ℕ) → 2 ^ suc i ≤ n + 1 → IsPeak n i
 mmb_peak n i l =
     let w : 2 ^ suc i ≡ 2 ^ i * 2 = pow-suc 2 i in
-    let within : suc i ≤ length (peak_heights newest_pair n) = peak_count n (suc i) l in
+    let within : suc i ≤ length (peak_heights mmb_merges n) = peak_count n (suc i) l in
     let some : 1 ≤ (n + 1) / 2 ^ i = some_shr (n + 1) i (omega arith) in
-    let g = get_exists (forest newest_pair n).peaks i (omega (arith, length-peaks n)) in
+    let g = get_exists (forest mmb_merges n).peaks i (omega (arith, length-peaks n)) in
     let t : Tree = g.0 in
-    let f = peak_first newest_pair n (mmb_equal n) i t g.1 in
+    let f = peak_first mmb_merges n (mmb_equal n) i t g.1 in
     let high : height t ≡ peak_height n i = f.1 ∙ mmb_peak_height n i within in
-    let same : 2 ^ slice_index (peak_heights newest_pair n) i ≡ 2 ^ height t = ap (λ (x : ℕ). 2 ^ x) (sym f.1) in
+    let same : 2 ^ slice_index (peak_heights mmb_merges n) i ≡ 2 ^ height t = ap (λ (x : ℕ). 2 ^ x) (sym f.1) in
     let less = one_less ((n + 1) / 2 ^ i) (2 ^ i) some in
     let end : first_leaf t + 2 ^ height t ≡ peak_end n i =
-    omega (arith, f.0, weight_suc (peak_heights newest_pair n) i within, same, weight_newest n i (omega arith), less) in
+    omega (arith, f.0, weight_suc (peak_heights mmb_merges n) i within, same, weight_newest n i (omega arith), less) in
     let up : 2 ^ height t ≡ 2 ^ peak_height n i = ap (λ (x : ℕ). 2 ^ x) high in
     let start : first_leaf t ≡ peak_end n i - 2 ^ peak_height n i = omega arith in
-    let node = peak_node newest_pair n i t g.1 in
-    let root : position t ≡ root_position (peak_end n i - 2 ^ peak_height n i) (peak_height n i) =
-    (mmb_placed n (position t) t node).position ∙ ap (λ (x : ℕ). root_position x (height t)) start ∙ ap (root_position (peak_end n i - 2 ^ peak_height n i)) high in
-    let turned : reverse (take (suc i) (forest newest_pair n).peaks) ≡ t ∷ reverse (take i (forest newest_pair n).peaks) =
-    ap reverse (take_get (forest newest_pair n).peaks i t g.1) ∙ reverse-append (take i (forest newest_pair n).peaks) (t ∷ []) in
+    let node = peak_node mmb_merges n i t g.1 in
+    let root : position t ≡ mmb_position (peak_end n i - 2 ^ peak_height n i) (peak_height n i) =
+    (mmb_placed n (position t) t node).position ∙ ap (λ (x : ℕ). mmb_position x (height t)) start ∙ ap (mmb_position (peak_end n i - 2 ^ peak_height n i)) high in
+    let turned : reverse (take (suc i) (forest mmb_merges n).peaks) ≡ t ∷ reverse (take i (forest mmb_merges n).peaks) =
+    ap reverse (take_get (forest mmb_merges n).peaks i t g.1) ∙ reverse-append (take i (forest mmb_merges n).peaks) (t ∷ []) in
     record {
       some = some;
       fits = omega arith;
       last = omega (arith, weight_newest n i (omega arith), less);
-      birth = birth_below (peak_end n i - 2 ^ peak_height n i) (peak_height n i) n (omega (arith, root, get_below (forest newest_pair n).nodes (position t) t node));
+      birth = birth_below (peak_end n i - 2 ^ peak_height n i) (peak_height n i) n (omega (arith, root, get_below (forest mmb_merges n).nodes (position t) t node));
       first = ap (map placed) turned ∙ ap (λ (p : ℕ). (p, height t) ∷ newest_peaks i n) root
-          ∙ ap (λ (h : ℕ). (root_position (peak_end n i - 2 ^ peak_height n i) (peak_height n i), h) ∷ newest_peaks i n) high;
+          ∙ ap (λ (h : ℕ). (mmb_position (peak_end n i - 2 ^ peak_height n i) (peak_height n i), h) ∷ newest_peaks i n) high;
     }
 
 -- the numbers that say so fit 64 bits
@@ -142,12 +142,12 @@ peak_fits n i small l =
 -- ---- so many peaks
 pub length-newest_peaks : (k n : ℕ) → 2 ^ k ≤ n + 1 → length (newest_peaks k n) ≡ k
 length-newest_peaks k n l =
-    length-map (reverse (take k (forest newest_pair n).peaks)) placed ∙ length-reverse (take k (forest newest_pair n).peaks)
-    ∙ length-take-le k (forest newest_pair n).peaks (omega (arith, peak_count n k l, length-peaks n))
+    length-map (reverse (take k (forest mmb_merges n).peaks)) placed ∙ length-reverse (take k (forest mmb_merges n).peaks)
+    ∙ length-take-le k (forest mmb_merges n).peaks (omega (arith, peak_count n k l, length-peaks n))
 
 -- all of them, where they are as many as the binary logarithm of n + 1
-pub newest_all : (k n : ℕ) → 2 ^ k ≤ n + 1 → n + 1 < 2 ^ suc k → newest_peaks k n ≡ map placed (peaks_of newest_pair n)
+pub newest_all : (k n : ℕ) → 2 ^ k ≤ n + 1 → n + 1 < 2 ^ suc k → newest_peaks k n ≡ map placed (peaks_of mmb_merges n)
 newest_all k n low high =
     let c = mmb_peak_count n in
-    let e : k ≡ length (forest newest_pair n).peaks = same_log k (length (peak_heights newest_pair n)) (n + 1) low high c.0 c.1 ∙ sym (length-peaks n) in
-    ap (λ (x : ℕ). newest_peaks x n) e ∙ ap (λ (ts : List Tree). map placed (reverse ts)) (take-length (forest newest_pair n).peaks)
+    let e : k ≡ length (forest mmb_merges n).peaks = same_log k (length (peak_heights mmb_merges n)) (n + 1) low high c.0 c.1 ∙ sym (length-peaks n) in
+    ap (λ (x : ℕ). newest_peaks x n) e ∙ ap (λ (ts : List Tree). map placed (reverse ts)) (take-length (forest mmb_merges n).peaks)

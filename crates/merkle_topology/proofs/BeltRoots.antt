@@ -6,29 +6,29 @@ use Rattle.merkle_base.specs.Forest.{size}
 use Rattle.merkle_base.specs.Grafting.{stretch_nodes}
 use Rattle.merkle_base.proofs.Limits.{log_below}
 use Rattle.merkle_base.proofs.Nodes.{size_le, size_lt}
-use Rattle.merkle_forest_theory.specs.Mmb.{newest_pair, birth_leaf, root_position, belt_birth}
+use Rattle.merkle_forest_theory.specs.Mmb.{mmb_merges, birth_leaf, mmb_position, mmb_birth_leaf_count}
 use Rattle.merkle_forest_theory.proofs.BeltLawful.{mmb_lawful}
 use Rattle.merkle_forest_theory.proofs.Coordinates.{mmb_coordinates}
 use Rattle.merkle_topology.proofs.LeafCounts.{size_only, leaves_within}
 
 -- the birth leaf of a root that stands within the limit is within the limit
-pub birth_within : (s h : ℕ) → root_position s h ≤ 9223372036854775806 → birth_leaf s h ≤ 4611686018427387934
-birth_within s zero l = leaves_within newest_pair 4611686018427387934 s (omega (arith, l, mmb_lawful.full))
-birth_within s (suc h) l = leaves_within newest_pair 4611686018427387934 (s + 3 * 2 ^ h - 2) (omega (arith, l, mmb_lawful.full))
+pub birth_within : (s h : ℕ) → mmb_position s h ≤ 9223372036854775806 → birth_leaf s h ≤ 4611686018427387934
+birth_within s zero l = leaves_within mmb_merges 4611686018427387934 s (omega (arith, l, mmb_lawful.full))
+birth_within s (suc h) l = leaves_within mmb_merges 4611686018427387934 (s + 3 * 2 ^ h - 2) (omega (arith, l, mmb_lawful.full))
 
 -- a root whose birth leaf is there stands within the limit
-pub root_within : (s h : ℕ) → birth_leaf s h < 4611686018427387934 → root_position s h ≤ 9223372036854775806
-root_within s zero l = omega (arith, size_le newest_pair s 4611686018427387934 (omega (arith, l)), mmb_lawful.full)
-root_within s (suc h) l = omega (arith, size_lt newest_pair (s + 3 * 2 ^ h - 2) 4611686018427387934 l, mmb_lawful.full)
+pub root_within : (s h : ℕ) → birth_leaf s h < 4611686018427387934 → mmb_position s h ≤ 9223372036854775806
+root_within s zero l = omega (arith, size_le mmb_merges s 4611686018427387934 (omega (arith, l)), mmb_lawful.full)
+root_within s (suc h) l = omega (arith, size_lt mmb_merges (s + 3 * 2 ^ h - 2) 4611686018427387934 l, mmb_lawful.full)
 
 -- a search for the last leaf count of no more nodes finds the birth leaf
-pub birth_found_leaf : (s h p n : ℕ) → h ≡ 0 → root_position s h ≡ p → size newest_pair n ≤ p → p < size newest_pair (n + 1) → n ≡ birth_leaf s h
-birth_found_leaf s zero p n z e a b = sym (size_only newest_pair n s p a b e)
+pub birth_found_leaf : (s h p n : ℕ) → h ≡ 0 → mmb_position s h ≡ p → size mmb_merges n ≤ p → p < size mmb_merges (n + 1) → n ≡ birth_leaf s h
+birth_found_leaf s zero p n z e a b = sym (size_only mmb_merges n s p a b e)
 birth_found_leaf s (suc h) p n z e a b = absurd (omega (arith, z))
 
-pub birth_found : (s h p n : ℕ) → h ≢ 0 → root_position s h ≡ p → size newest_pair n ≤ p - 1 → p - 1 < size newest_pair (n + 1) → n ≡ birth_leaf s h
+pub birth_found : (s h p n : ℕ) → h ≢ 0 → mmb_position s h ≡ p → size mmb_merges n ≤ p - 1 → p - 1 < size mmb_merges (n + 1) → n ≡ birth_leaf s h
 birth_found s zero p n some e a b = absurd (some refl)
-birth_found s (suc h) p n some e a b = sym (size_only newest_pair n (s + 3 * 2 ^ h - 2) (p - 1) a b (omega (arith, e)))
+birth_found s (suc h) p n some e a b = sym (size_only mmb_merges n (s + 3 * 2 ^ h - 2) (p - 1) a b (omega (arith, e)))
 
 -- ---- a stretch of leaves
 pub stretch_birth : (n s h : ℕ) → n ≤ 4611686018427387934 → s + 2 ^ h ≤ n → birth_leaf s h < 9223372036854775808
@@ -41,7 +41,7 @@ pub record IsHalved (n s h : ℕ) : Type 0 where
   pub low : h - 1 < 62
   pub birth : birth_leaf s (h - 1) < n
   pub within : s + 2 ^ (h - 1) + 2 ^ (h - 1) ≤ n
-  pub first : stretch_nodes root_position belt_birth n s h ≡ (root_position s (h - 1), h - 1) ∷ stretch_nodes root_position belt_birth n (s + 2 ^ (h - 1)) (h - 1)
+  pub first : stretch_nodes mmb_position mmb_birth_leaf_count n s h ≡ (mmb_position s (h - 1), h - 1) ∷ stretch_nodes mmb_position mmb_birth_leaf_count n (s + 2 ^ (h - 1)) (h - 1)
 
 pub stretch_halved : (n s h : ℕ) → n ≤ 4611686018427387934 → s + 2 ^ h ≤ n → n ≤ birth_leaf s h → IsHalved n s h
 stretch_halved n s zero l w b = absurd (omega (arith, w, b))
@@ -57,14 +57,14 @@ stretch_halved n s (suc k) l w b =
       first = rw z (halves n s k b);
     }
   where
-    halves : (n s k : ℕ) → n ≤ birth_leaf s (suc k) → stretch_nodes root_position belt_birth n s (suc k) ≡ (root_position s k, k) ∷ stretch_nodes root_position belt_birth n (s + 2 ^ k) k
-    halves n s k b = elim (leb_tells (belt_birth s (suc k)) n) [
+    halves : (n s k : ℕ) → n ≤ birth_leaf s (suc k) → stretch_nodes mmb_position mmb_birth_leaf_count n s (suc k) ≡ (mmb_position s k, k) ∷ stretch_nodes mmb_position mmb_birth_leaf_count n (s + 2 ^ k) k
+    halves n s k b = elim (leb_tells (mmb_birth_leaf_count s (suc k)) n) [
       | inl w ↦ absurd (omega (arith, b, w.1))
       | inr w ↦ rw w.0 refl
     ]
 
 -- what is left after its first item, in 64 bits
 pub stretch_first : (left : Bool) (n s h : ℕ) → left ≡ true → IsHalved n s h →
-    cond left (stretch_nodes root_position belt_birth n s h) []
-    ≡ (root_position s (h - 1), h - 1) ∷ cond left (stretch_nodes root_position belt_birth n (s + 1 * 2 ^ (h - 1) % 18446744073709551616) (h - 1)) []
+    cond left (stretch_nodes mmb_position mmb_birth_leaf_count n s h) []
+    ≡ (mmb_position s (h - 1), h - 1) ∷ cond left (stretch_nodes mmb_position mmb_birth_leaf_count n (s + 1 * 2 ^ (h - 1) % 18446744073709551616) (h - 1)) []
 stretch_first left n s h e k = rw (e, one_shl (h - 1) 64 (omega (arith, k.low))) k.first

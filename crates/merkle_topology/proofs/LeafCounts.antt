@@ -10,7 +10,7 @@ use Rattle.merkle_base.proofs.Births.{size_peaks}
 use Rattle.merkle_base.proofs.Nodes.{size_step, size_le, size_lt}
 use Rattle.merkle_base.proofs.Lookup.{size_suc, height_at}
 use Rattle.merkle_base.proofs.Limits.{log_below}
-use Rattle.merkle_forest_theory.specs.Mmr.{carries}
+use Rattle.merkle_forest_theory.specs.Mmr.{mmr_merges}
 use Rattle.merkle_forest_theory.proofs.RangeLawful.{mmr_lawful}
 use Rattle.merkle_forest_theory.proofs.MountainRange.{mmr_equal, mmr_parents}
 
@@ -66,27 +66,27 @@ size_nearest rule max_leaves low p l a b = record {
   ];
 }
 
-mmr_height_below : (n p : ℕ) → n < 4611686018427387904 → size carries n ≤ p → p < size carries (n + 1) → (p - size carries n < 63) × IsHeightAt carries p (p - size carries n)
+mmr_height_below : (n p : ℕ) → n < 4611686018427387904 → size mmr_merges n ≤ p → p < size mmr_merges (n + 1) → (p - size mmr_merges n < 63) × IsHeightAt mmr_merges p (p - size mmr_merges n)
 mmr_height_below n p l a b =
-    let k : ℕ = p - size carries n in
-    let at : size carries n + k ≡ p = omega arith in
+    let k : ℕ = p - size mmr_merges n in
+    let at : size mmr_merges n + k ≡ p = omega arith in
     let next : n + 1 ≡ suc n = omega arith in
-    let up : p < size carries (suc n) = subst (λ (m : ℕ). p < size carries m) next b in
+    let up : p < size mmr_merges (suc n) = subst (λ (m : ℕ). p < size mmr_merges m) next b in
     let t = mmr_parents n in
-    let count : length (parent_heights carries n) ≡ t.0 = ap length t.1 ∙ length-range_with_len 1 t.0 in
-    let below : k < suc t.0 = omega (arith, size_suc carries (suc n) (mmr_equal (suc n)) n (omega arith)) in
+    let count : length (parent_heights mmr_merges n) ≡ t.0 = ap length t.1 ∙ length-range_with_len 1 t.0 in
+    let below : k < suc t.0 = omega (arith, size_suc mmr_merges (suc n) (mmr_equal (suc n)) n (omega arith)) in
     let low : t.0 < 63 = log_below t.0 63 (n + 1) (omega (arith, t.2.1)) (omega arith) in (
       omega arith,
-      λ w x e. sym (height_at carries (suc n) (mmr_equal (suc n)) n k w x (omega arith) (omega arith) (rw at e)
+      λ w x e. sym (height_at mmr_merges (suc n) (mmr_equal (suc n)) n k w x (omega arith) (omega arith) (rw at e)
           ∙ ap (λ (hs : List ℕ). slice_index (0 ∷ hs) k) t.1 ∙ get_or-range_with_len 0 (suc t.0) k 0 below ∙ omega arith),
     )
 
 -- how far a node of the Mountain Range stands after the leaf with which it comes is its height, and it is below 63
-pub mmr_height : (n p : ℕ) → p < 9223372036854775807 → n ≤ 4611686018427387904 → size carries n ≤ p → p < size carries (n + 1) → (p - size carries n < 63) × IsHeightAt carries p (p - size carries n)
+pub mmr_height : (n p : ℕ) → p < 9223372036854775807 → n ≤ 4611686018427387904 → size mmr_merges n ≤ p → p < size mmr_merges (n + 1) → (p - size mmr_merges n < 63) × IsHeightAt mmr_merges p (p - size mmr_merges n)
 mmr_height n p low l a b = mmr_height_below n p (below n l a) a b
   where
-    below : (n : ℕ) → n ≤ 4611686018427387904 → size carries n ≤ p → n < 4611686018427387904
+    below : (n : ℕ) → n ≤ 4611686018427387904 → size mmr_merges n ≤ p → n < 4611686018427387904
     below n l a = elim (cases_lt n 4611686018427387904) [
       | inl h ↦ h
-      | inr g ↦ absurd (omega (arith, size_le carries 4611686018427387904 n g, mmr_lawful.full))
+      | inr g ↦ absurd (omega (arith, size_le mmr_merges 4611686018427387904 n g, mmr_lawful.full))
     ]

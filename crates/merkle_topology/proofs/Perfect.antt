@@ -7,7 +7,7 @@ use Rattle.merkle_base.specs.Forest.{forest, size}
 use Rattle.merkle_base.specs.Places.{placed, peaks_of}
 use Rattle.merkle_base.proofs.Balance.{heights_forest}
 use Rattle.merkle_base.proofs.Limits.{log_below}
-use Rattle.merkle_forest_theory.specs.Mmr.{carries, AscendsFrom, Stacked}
+use Rattle.merkle_forest_theory.specs.Mmr.{mmr_merges, AscendsFrom, Stacked}
 use Rattle.merkle_topology.specs.Perfect.{tallest, first_trees, trees_from}
 use Rattle.merkle_forest_theory.proofs.MountainRange.{mmr_stacked}
 use Rattle.merkle_forest_theory.proofs.RangeLawful.{mmr_ascends}
@@ -77,12 +77,12 @@ trees_stacked k s m (t ∷ ts) st a l =
     ∙ sym (append_assoc (map placed (reverse ts)) (placed t ∷ []) (trees_from s m)) ∙ ap (λ (xs : List (ℕ × ℕ)). xs ++ trees_from s m) (sym turned)
 
 -- the peaks, oldest first
-pub trees_forest : (n : ℕ) → trees_from 0 (size carries n) ≡ map placed (peaks_of carries n)
+pub trees_forest : (n : ℕ) → trees_from 0 (size mmr_merges n) ≡ map placed (peaks_of mmr_merges n)
 trees_forest n =
-    let up : AscendsFrom 0 (map height (forest carries n).peaks) = subst (AscendsFrom 0) (sym (heights_forest carries n)) (mmr_ascends n) in
-    let none : size carries n ≡ size carries n + 0 = omega arith in
-    ap (trees_from 0) none ∙ trees_stacked 0 (size carries n) 0 (forest carries n).peaks (mmr_stacked n) up (omega arith)
-    ∙ ap (λ (xs : List (ℕ × ℕ)). map placed (peaks_of carries n) ++ xs) (trees_none (size carries n)) ∙ append-nil (map placed (peaks_of carries n))
+    let up : AscendsFrom 0 (map height (forest mmr_merges n).peaks) = subst (AscendsFrom 0) (sym (heights_forest mmr_merges n)) (mmr_ascends n) in
+    let none : size mmr_merges n ≡ size mmr_merges n + 0 = omega arith in
+    ap (trees_from 0) none ∙ trees_stacked 0 (size mmr_merges n) 0 (forest mmr_merges n).peaks (mmr_stacked n) up (omega arith)
+    ∙ ap (λ (xs : List (ℕ × ℕ)). map placed (peaks_of mmr_merges n) ++ xs) (trees_none (size mmr_merges n)) ∙ append-nil (map placed (peaks_of mmr_merges n))
 
 -- twice half the power, in 64 bits
 abbrev pub doubled : ℕ → ℕ

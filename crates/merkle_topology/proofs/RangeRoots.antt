@@ -2,7 +2,7 @@
 use Rattle.std.proofs.Common.{◌≡◌, ℕ, suc, ◌+◌, ◌*◌, ◌%◌, ◌^◌, ◌≤◌, arith, refl, ap, pow-suc, pow_pos, pow_mono}
 use Rattle.merkle_base.proofs.Chunks.{root_below}
 use Rattle.merkle_base.proofs.Nodes.{size_le}
-use Rattle.merkle_forest_theory.specs.Mmr.{carries, range_root, range_birth}
+use Rattle.merkle_forest_theory.specs.Mmr.{mmr_merges, mmr_position, mmr_birth_leaf_count}
 use Rattle.merkle_forest_theory.proofs.Coordinates.{mmr_coordinates}
 use Rattle.merkle_forest_theory.proofs.MountainRange.{mmr_equal}
 use Rattle.merkle_forest_theory.proofs.RangeLawful.{mmr_lawful}
@@ -20,6 +20,6 @@ doubled_pos h =
     omega (arith, pow-suc 2 h, pow_pos h, ap (λ (x : ℕ). 2 ^ x) e)
 
 -- a chunk's own node stands within the limit
-pub chunk_root : (n i h : ℕ) → n ≤ 4611686018427387904 → (i + 1) * 2 ^ h ≤ n → range_root (i * 2 ^ h) h ≤ 9223372036854775807
+pub chunk_root : (n i h : ℕ) → n ≤ 4611686018427387904 → (i + 1) * 2 ^ h ≤ n → mmr_position (i * 2 ^ h) h ≤ 9223372036854775807
 chunk_root n i h l w =
-    omega (arith, root_below carries 4611686018427387904 (mmr_equal 4611686018427387904) range_root range_birth mmr_coordinates n (i * 2 ^ h) i h l refl (omega (arith, w)), size_le carries n 4611686018427387904 l, mmr_lawful.full)
+    omega (arith, root_below mmr_merges 4611686018427387904 (mmr_equal 4611686018427387904) mmr_position mmr_birth_leaf_count mmr_coordinates n (i * 2 ^ h) i h l refl (omega (arith, w)), size_le mmr_merges n 4611686018427387904 l, mmr_lawful.full)

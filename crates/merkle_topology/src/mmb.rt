@@ -10,7 +10,7 @@ ghost use Rattle.merkle_base.specs.Grafting.{HasChunk, AreChunkPeaks, IsNode, Is
 ghost use Rattle.merkle_base.specs.Heights.{parent_heights};
 ghost use Rattle.merkle_base.specs.Places.{IsSize, IsNearestSize, ArePeaks, HasInner, AreChildren, IsHeightAt};
 ghost use Rattle.merkle_base.specs.Tree.{Tree, first_leaf};
-ghost use Rattle.merkle_forest_theory.specs.Mmb.{newest_pair, birth_leaf, root_position, belt_birth, newest_peaks};
+ghost use Rattle.merkle_forest_theory.specs.Mmb.{mmb_merges, birth_leaf, mmb_position, mmb_birth_leaf_count, newest_peaks};
 ghost use Rattle.merkle_topology.specs.BeltIterators.{PeaksLeft};
 ghost use Rattle.merkle_forest_theory.proofs.BeltLawful.{mmb_lawful};
 ghost use Rattle.merkle_forest_theory.proofs.Coordinates.{mmb_coordinates};
@@ -60,9 +60,9 @@ impl PeakIterator {
     ///
     /// The node count is a valid size.
     pub fn new(nodes: Position) -> Self
-        requires { IsSize newest_pair MAX_LEAVES nodes }
-        ensures leaves { size newest_pair result.leaves ≡ nodes }
-        ensures peaks { ArePeaks newest_pair MAX_LEAVES nodes result.left }
+        requires { IsSize mmb_merges MAX_LEAVES nodes }
+        ensures leaves { size mmb_merges result.leaves ≡ nodes }
+        ensures peaks { ArePeaks mmb_merges MAX_LEAVES nodes result.left }
     {
         let leaves = leaf_count_by_log(nodes.as_u64());
         PeakIterator {
@@ -76,7 +76,7 @@ impl PeakIterator {
     /// The node count is at most 2^63 - 2.
     pub fn to_nearest_size(nodes: Position) -> Position
         requires { nodes ≤ MAX_NODES }
-        ensures { IsNearestSize newest_pair MAX_LEAVES nodes result }
+        ensures { IsNearestSize mmb_merges MAX_LEAVES nodes result }
     {
         Position::new(node_count(leaf_count_within(nodes.as_u64())))
     }
@@ -191,7 +191,7 @@ pub struct ChunkPeaks {
 impl Model for ChunkPeaks {
     ghost Value = { List (ℕ × ℕ) };
 
-    ghost view = { λ s. cond s.left (stretch_nodes root_position belt_birth s.leaves s.first s.height) [] };
+    ghost view = { λ s. cond s.left (stretch_nodes mmb_position mmb_birth_leaf_count s.leaves s.first s.height) [] };
 }
 
 impl Iterator for ChunkPeaks {
@@ -230,7 +230,7 @@ impl Listed for ChunkPeaks {
 /// The node count of that many leaves.
 fn node_count(leaves: u64) -> u64
     requires { leaves ≤ MAX_LEAVES }
-    ensures { result ≡ size newest_pair leaves }
+    ensures { result ≡ size mmb_merges leaves }
 {
     2 * leaves - u64::from((leaves + 1).ilog2())
 }
@@ -239,8 +239,8 @@ fn node_count(leaves: u64) -> u64
 fn leaf_count_within(nodes: u64) -> u64
     requires { nodes ≤ MAX_NODES }
     ensures limit { result ≤ MAX_LEAVES }
-    ensures within { size newest_pair result ≤ nodes }
-    ensures greatest { nodes < size newest_pair (result + 1) }
+    ensures within { size mmb_merges result ≤ nodes }
+    ensures greatest { nodes < size mmb_merges (result + 1) }
 {
     // n leaves have at most 2 * n nodes, and at least 2 * n - 64, since there are at most 64 peaks
     let mut low = nodes / 2;
@@ -260,8 +260,8 @@ fn leaf_count_within(nodes: u64) -> u64
 fn leaf_count_by_log(nodes: u64) -> u64
     requires { nodes ≤ MAX_NODES }
     ensures limit { result ≤ MAX_LEAVES }
-    ensures within { size newest_pair result ≤ nodes }
-    ensures greatest { nodes < size newest_pair (result + 1) }
+    ensures within { size mmb_merges result ≤ nodes }
+    ensures greatest { nodes < size mmb_merges (result + 1) }
 {
     // nodes and peaks together are twice the leaves, and about as many peaks as the logarithm says
     let low = (nodes + u64::from((nodes + 2).ilog2()) - 1) / 2;
@@ -289,7 +289,7 @@ fn birth_leaf(first: u64, height: u32) -> u64
 /// The position of the node of a height over the leaves from one on, which comes with its birth leaf.
 fn root_position(first: u64, height: u32) -> u64
     requires { birth_leaf first height ≤ MAX_LEAVES }
-    ensures { result ≡ root_position first height }
+    ensures { result ≡ mmb_position first height }
 {
     let leaf = node_count(birth_leaf(first, height));
     if height == 0 {
@@ -303,9 +303,9 @@ fn root_position(first: u64, height: u32) -> u64
 /// The position is what [`root_position`] answers for some leaf and the height.
 fn birth_leaf_of(position: u64, height: u32) -> u64
     requires within { position ≤ MAX_NODES }
-    requires some { (s : ℕ) × (root_position s height ≡ position) }
+    requires some { (s : ℕ) × (mmb_position s height ≡ position) }
     ensures limit { result ≤ MAX_LEAVES }
-    ensures birth { (s : ℕ) → root_position s height ≡ position → result ≡ birth_leaf s height }
+    ensures birth { (s : ℕ) → mmb_position s height ≡ position → result ≡ birth_leaf s height }
 {
     if height == 0 {
         return leaf_count_by_log(position);
@@ -318,8 +318,8 @@ fn birth_leaf_of(position: u64, height: u32) -> u64
 /// The position is what [`root_position`] answers for some leaf and the height.
 fn first_below(position: u64, height: u32) -> u64
     requires within { position ≤ MAX_NODES }
-    requires some { (s : ℕ) × (root_position s height ≡ position) }
-    ensures { root_position result height ≡ position }
+    requires some { (s : ℕ) × (mmb_position s height ≡ position) }
+    ensures { mmb_position result height ≡ position }
 {
     let birth = birth_leaf_of(position, height);
     if height == 0 {
@@ -360,19 +360,19 @@ impl family::Family for Family {
 
     ghost MAX_LEAVES = { 4611686018427387934 };
 
-    ghost rule = { newest_pair };
+    ghost rule = { mmb_merges };
 
     fn location_to_position(location: Location) -> Position
         requires { location ≤ MAX_LEAVES }
-        ensures { result ≡ size newest_pair location }
+        ensures { result ≡ size mmb_merges location }
     {
         Position::new(node_count(location.as_u64()))
     }
 
     fn position_to_location(position: Position) -> Option<Location>
         requires { position ≤ MAX_NODES }
-        ensures found { IfSome result (λ n. (n ≤ MAX_LEAVES) × (size newest_pair n ≡ position)) }
-        ensures none { IfNone result ((n : ℕ) → size newest_pair n ≢ position) }
+        ensures found { IfSome result (λ n. (n ≤ MAX_LEAVES) × (size mmb_merges n ≡ position)) }
+        ensures none { IfNone result ((n : ℕ) → size mmb_merges n ≢ position) }
     {
         let leaves = leaf_count_within(position.as_u64());
         if node_count(leaves) == position.as_u64() {
@@ -383,7 +383,7 @@ impl family::Family for Family {
     }
 
     fn is_valid_size(nodes: Position) -> bool
-        ensures { IsTrue result ↔ IsSize newest_pair MAX_LEAVES nodes }
+        ensures { IsTrue result ↔ IsSize mmb_merges MAX_LEAVES nodes }
     {
         let nodes = nodes.as_u64();
         nodes <= MAX_NODES && node_count(leaf_count_by_log(nodes)) == nodes
@@ -391,22 +391,22 @@ impl family::Family for Family {
 
     fn to_nearest_size(nodes: Position) -> Position
         requires { nodes ≤ MAX_NODES }
-        ensures { IsNearestSize newest_pair MAX_LEAVES nodes result }
+        ensures { IsNearestSize mmb_merges MAX_LEAVES nodes result }
     {
         PeakIterator::to_nearest_size(nodes)
     }
 
     fn peaks(nodes: Position) -> PeakIterator
-        requires { IsSize newest_pair MAX_LEAVES nodes }
-        ensures leaves { size newest_pair result.leaves ≡ nodes }
-        ensures peaks { ArePeaks newest_pair MAX_LEAVES nodes result.left }
+        requires { IsSize mmb_merges MAX_LEAVES nodes }
+        ensures leaves { size mmb_merges result.leaves ≡ nodes }
+        ensures peaks { ArePeaks mmb_merges MAX_LEAVES nodes result.left }
     {
         PeakIterator::new(nodes)
     }
 
     fn children(position: Position, height: u32) -> (Position, Position)
-        requires { HasInner newest_pair MAX_LEAVES position height }
-        ensures { AreChildren newest_pair position result.0 result.1 }
+        requires { HasInner mmb_merges MAX_LEAVES position height }
+        ensures { AreChildren mmb_merges position result.0 result.1 }
     {
         let birth = leaf_count_by_log(position.as_u64());
         let below = height - 1;
@@ -418,7 +418,7 @@ impl family::Family for Family {
 
     fn parent_heights(leaves: Location) -> ParentHeights
         requires { leaves < MAX_LEAVES }
-        ensures { result ≡ parent_heights newest_pair leaves }
+        ensures { result ≡ parent_heights mmb_merges leaves }
     {
         let leaves = leaves.as_u64();
         let height = if (leaves + 2).is_power_of_two() {
@@ -431,7 +431,7 @@ impl family::Family for Family {
 
     fn pos_to_height(position: Position) -> u32
         requires { position < MAX_NODES }
-        ensures { IsHeightAt newest_pair position result }
+        ensures { IsHeightAt mmb_merges position result }
     {
         let nodes = position.as_u64();
         let birth = leaf_count_by_log(nodes);
@@ -448,13 +448,13 @@ impl family::Family for Family {
 impl family::Graftable for Family {
     type ChunkPeaks = ChunkPeaks;
 
-    ghost root = { root_position };
+    ghost root = { mmb_position };
 
-    ghost birth = { belt_birth };
+    ghost birth = { mmb_birth_leaf_count };
 
     fn chunk_peaks(nodes: Position, chunk_idx: u64, grafting_height: u32) -> ChunkPeaks
-        requires { HasChunk newest_pair MAX_LEAVES nodes chunk_idx grafting_height }
-        ensures { AreChunkPeaks newest_pair MAX_LEAVES nodes chunk_idx grafting_height result }
+        requires { HasChunk mmb_merges MAX_LEAVES nodes chunk_idx grafting_height }
+        ensures { AreChunkPeaks mmb_merges MAX_LEAVES nodes chunk_idx grafting_height result }
     {
         ChunkPeaks {
             leaves: leaf_count_by_log(nodes.as_u64()),
@@ -466,9 +466,9 @@ impl family::Graftable for Family {
 
     fn subtree_root_position(leaf_start: Location, height: u32) -> Position
         requires low { height ≤ 62 }
-        requires within { root_position leaf_start height ≤ MAX_NODES }
-        ensures formula { result ≡ root_position leaf_start height }
-        ensures node { (p : ℕ) (t : Tree) → IsNode newest_pair MAX_LEAVES p height t → first_leaf t ≡ leaf_start → result ≡ p }
+        requires within { mmb_position leaf_start height ≤ MAX_NODES }
+        ensures formula { result ≡ mmb_position leaf_start height }
+        ensures node { (p : ℕ) (t : Tree) → IsNode mmb_merges MAX_LEAVES p height t → first_leaf t ≡ leaf_start → result ≡ p }
     {
         Position::new(root_position(leaf_start.as_u64(), height))
     }
@@ -476,9 +476,9 @@ impl family::Graftable for Family {
     fn leftmost_leaf(position: Position, height: u32) -> Location
         requires low { height ≤ 62 }
         requires within { position ≤ MAX_NODES }
-        requires some { (s : ℕ) × (root_position s height ≡ position) }
-        ensures formula { root_position result height ≡ position }
-        ensures node { (t : Tree) → IsNode newest_pair MAX_LEAVES position height t → result ≡ first_leaf t }
+        requires some { (s : ℕ) × (mmb_position s height ≡ position) }
+        ensures formula { mmb_position result height ≡ position }
+        ensures node { (t : Tree) → IsNode mmb_merges MAX_LEAVES position height t → result ≡ first_leaf t }
     {
         Location::new(first_below(position.as_u64(), height))
     }
@@ -486,9 +486,9 @@ impl family::Graftable for Family {
     fn peak_birth_size(position: Position, height: u32) -> u64
         requires low { height ≤ 62 }
         requires within { position ≤ MAX_NODES }
-        requires some { (s : ℕ) × (root_position s height ≡ position) }
-        ensures formula { (s : ℕ) → root_position s height ≡ position → result ≡ belt_birth s height }
-        ensures node { (t : Tree) → IsNode newest_pair MAX_LEAVES position height t → IsBirthSize newest_pair position result }
+        requires some { (s : ℕ) × (mmb_position s height ≡ position) }
+        ensures formula { (s : ℕ) → mmb_position s height ≡ position → result ≡ mmb_birth_leaf_count s height }
+        ensures node { (t : Tree) → IsNode mmb_merges MAX_LEAVES position height t → IsBirthSize mmb_merges position result }
     {
         birth_leaf_of(position.as_u64(), height) + 1
     }

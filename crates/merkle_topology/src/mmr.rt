@@ -11,7 +11,7 @@ ghost use Rattle.merkle_base.specs.Grafting.{HasChunk, AreChunkPeaks, IsNode, Is
 ghost use Rattle.merkle_base.specs.Heights.{parent_heights};
 ghost use Rattle.merkle_base.specs.Places.{IsSize, IsNearestSize, ArePeaks, HasInner, AreChildren, IsHeightAt};
 ghost use Rattle.merkle_base.specs.Tree.{Tree, first_leaf};
-ghost use Rattle.merkle_forest_theory.specs.Mmr.{carries, range_root, range_birth};
+ghost use Rattle.merkle_forest_theory.specs.Mmr.{mmr_merges, mmr_position, mmr_birth_leaf_count};
 ghost use Rattle.merkle_topology.specs.Perfect.{trees_from};
 ghost use Rattle.merkle_forest_theory.proofs.Coordinates.{mmr_coordinates};
 ghost use Rattle.merkle_forest_theory.proofs.RangeLawful.{mmr_lawful};
@@ -60,8 +60,8 @@ impl PeakIterator {
     ///
     /// The node count is a valid size.
     pub fn new(nodes: Position) -> Self
-        requires { IsSize carries MAX_LEAVES nodes }
-        ensures { ArePeaks carries MAX_LEAVES nodes result }
+        requires { IsSize mmr_merges MAX_LEAVES nodes }
+        ensures { ArePeaks mmr_merges MAX_LEAVES nodes result }
     {
         PeakIterator {
             next: 0,
@@ -74,7 +74,7 @@ impl PeakIterator {
     /// The node count is at most 2^63 - 1.
     pub fn to_nearest_size(nodes: Position) -> Position
         requires { nodes ≤ MAX_NODES }
-        ensures { IsNearestSize carries MAX_LEAVES nodes result }
+        ensures { IsNearestSize mmr_merges MAX_LEAVES nodes result }
     {
         Position::new(node_count(leaf_count_within(nodes.as_u64())))
     }
@@ -199,7 +199,7 @@ impl Listed for ChunkPeaks {
 /// The node count of that many leaves.
 fn node_count(leaves: u64) -> u64
     requires { leaves ≤ MAX_LEAVES }
-    ensures { result ≡ size carries leaves }
+    ensures { result ≡ size mmr_merges leaves }
 {
     2 * leaves - u64::from(leaves.count_ones())
 }
@@ -208,8 +208,8 @@ fn node_count(leaves: u64) -> u64
 fn leaf_count_within(nodes: u64) -> u64
     requires { nodes ≤ MAX_NODES }
     ensures limit { result ≤ MAX_LEAVES }
-    ensures within { size carries result ≤ nodes }
-    ensures greatest { nodes < size carries (result + 1) }
+    ensures within { size mmr_merges result ≤ nodes }
+    ensures greatest { nodes < size mmr_merges (result + 1) }
 {
     // n leaves have at most 2 * n nodes, and at least 2 * n - 64, since there are at most 64 peaks
     let mut low = nodes / 2;
@@ -236,8 +236,8 @@ fn nodes_below(height: u32) -> u64
 /// The position of the node of a height over the leaves from one on.
 fn root_position(first: u64, height: u32) -> u64
     requires low { height ≤ 62 }
-    requires within { range_root first height ≤ MAX_NODES }
-    ensures { result ≡ range_root first height }
+    requires within { mmr_position first height ≤ MAX_NODES }
+    ensures { result ≡ mmr_position first height }
 {
     node_count(first) + nodes_below(height)
 }
@@ -248,9 +248,9 @@ fn root_position(first: u64, height: u32) -> u64
 fn first_below(position: u64, height: u32) -> u64
     requires low { height ≤ 62 }
     requires within { position ≤ MAX_NODES }
-    requires some { (s : ℕ) × (range_root s height ≡ position) }
+    requires some { (s : ℕ) × (mmr_position s height ≡ position) }
     ensures limit { result ≤ MAX_LEAVES }
-    ensures root { range_root result height ≡ position }
+    ensures root { mmr_position result height ≡ position }
 {
     leaf_count_within(position - nodes_below(height))
 }
@@ -272,19 +272,19 @@ impl family::Family for Family {
 
     ghost MAX_LEAVES = { 4611686018427387904 };
 
-    ghost rule = { carries };
+    ghost rule = { mmr_merges };
 
     fn location_to_position(location: Location) -> Position
         requires { location ≤ MAX_LEAVES }
-        ensures { result ≡ size carries location }
+        ensures { result ≡ size mmr_merges location }
     {
         Position::new(node_count(location.as_u64()))
     }
 
     fn position_to_location(position: Position) -> Option<Location>
         requires { position ≤ MAX_NODES }
-        ensures found { IfSome result (λ n. (n ≤ MAX_LEAVES) × (size carries n ≡ position)) }
-        ensures none { IfNone result ((n : ℕ) → size carries n ≢ position) }
+        ensures found { IfSome result (λ n. (n ≤ MAX_LEAVES) × (size mmr_merges n ≡ position)) }
+        ensures none { IfNone result ((n : ℕ) → size mmr_merges n ≢ position) }
     {
         let leaves = leaf_count_within(position.as_u64());
         if node_count(leaves) == position.as_u64() {
@@ -295,7 +295,7 @@ impl family::Family for Family {
     }
 
     fn is_valid_size(nodes: Position) -> bool
-        ensures { IsTrue result ↔ IsSize carries MAX_LEAVES nodes }
+        ensures { IsTrue result ↔ IsSize mmr_merges MAX_LEAVES nodes }
     {
         let nodes = nodes.as_u64();
         nodes <= MAX_NODES && node_count(leaf_count_within(nodes)) == nodes
@@ -303,28 +303,28 @@ impl family::Family for Family {
 
     fn to_nearest_size(nodes: Position) -> Position
         requires { nodes ≤ MAX_NODES }
-        ensures { IsNearestSize carries MAX_LEAVES nodes result }
+        ensures { IsNearestSize mmr_merges MAX_LEAVES nodes result }
     {
         PeakIterator::to_nearest_size(nodes)
     }
 
     fn peaks(nodes: Position) -> PeakIterator
-        requires { IsSize carries MAX_LEAVES nodes }
-        ensures { ArePeaks carries MAX_LEAVES nodes result }
+        requires { IsSize mmr_merges MAX_LEAVES nodes }
+        ensures { ArePeaks mmr_merges MAX_LEAVES nodes result }
     {
         PeakIterator::new(nodes)
     }
 
     fn children(position: Position, height: u32) -> (Position, Position)
-        requires { HasInner carries MAX_LEAVES position height }
-        ensures { AreChildren carries position result.0 result.1 }
+        requires { HasInner mmr_merges MAX_LEAVES position height }
+        ensures { AreChildren mmr_merges position result.0 result.1 }
     {
         (position - (1 << height), position - 1)
     }
 
     fn parent_heights(leaves: Location) -> ParentHeights
         requires { leaves < MAX_LEAVES }
-        ensures { result ≡ parent_heights carries leaves }
+        ensures { result ≡ parent_heights mmr_merges leaves }
     {
         ParentHeights {
             next: 1,
@@ -334,7 +334,7 @@ impl family::Family for Family {
 
     fn pos_to_height(position: Position) -> u32
         requires { position < MAX_NODES }
-        ensures { IsHeightAt carries position result }
+        ensures { IsHeightAt mmr_merges position result }
     {
         let nodes = position.as_u64();
         (nodes - node_count(leaf_count_within(nodes))) as u32
@@ -346,13 +346,13 @@ impl family::Family for Family {
 impl family::Graftable for Family {
     type ChunkPeaks = ChunkPeaks;
 
-    ghost root = { range_root };
+    ghost root = { mmr_position };
 
-    ghost birth = { range_birth };
+    ghost birth = { mmr_birth_leaf_count };
 
     fn chunk_peaks(nodes: Position, chunk_idx: u64, grafting_height: u32) -> ChunkPeaks
-        requires { HasChunk carries MAX_LEAVES nodes chunk_idx grafting_height }
-        ensures { AreChunkPeaks carries MAX_LEAVES nodes chunk_idx grafting_height result }
+        requires { HasChunk mmr_merges MAX_LEAVES nodes chunk_idx grafting_height }
+        ensures { AreChunkPeaks mmr_merges MAX_LEAVES nodes chunk_idx grafting_height result }
     {
         let first = chunk_idx << grafting_height;
         let root = root_position(first, grafting_height);
@@ -363,9 +363,9 @@ impl family::Graftable for Family {
 
     fn subtree_root_position(leaf_start: Location, height: u32) -> Position
         requires low { height ≤ 62 }
-        requires within { range_root leaf_start height ≤ MAX_NODES }
-        ensures formula { result ≡ range_root leaf_start height }
-        ensures node { (p : ℕ) (t : Tree) → IsNode carries MAX_LEAVES p height t → first_leaf t ≡ leaf_start → result ≡ p }
+        requires within { mmr_position leaf_start height ≤ MAX_NODES }
+        ensures formula { result ≡ mmr_position leaf_start height }
+        ensures node { (p : ℕ) (t : Tree) → IsNode mmr_merges MAX_LEAVES p height t → first_leaf t ≡ leaf_start → result ≡ p }
     {
         Position::new(root_position(leaf_start.as_u64(), height))
     }
@@ -373,9 +373,9 @@ impl family::Graftable for Family {
     fn leftmost_leaf(position: Position, height: u32) -> Location
         requires low { height ≤ 62 }
         requires within { position ≤ MAX_NODES }
-        requires some { (s : ℕ) × (range_root s height ≡ position) }
-        ensures formula { range_root result height ≡ position }
-        ensures node { (t : Tree) → IsNode carries MAX_LEAVES position height t → result ≡ first_leaf t }
+        requires some { (s : ℕ) × (mmr_position s height ≡ position) }
+        ensures formula { mmr_position result height ≡ position }
+        ensures node { (t : Tree) → IsNode mmr_merges MAX_LEAVES position height t → result ≡ first_leaf t }
     {
         Location::new(first_below(position.as_u64(), height))
     }
@@ -383,9 +383,9 @@ impl family::Graftable for Family {
     fn peak_birth_size(position: Position, height: u32) -> u64
         requires low { height ≤ 62 }
         requires within { position ≤ MAX_NODES }
-        requires some { (s : ℕ) × (range_root s height ≡ position) }
-        ensures formula { (s : ℕ) → range_root s height ≡ position → result ≡ range_birth s height }
-        ensures node { (t : Tree) → IsNode carries MAX_LEAVES position height t → IsBirthSize carries position result }
+        requires some { (s : ℕ) × (mmr_position s height ≡ position) }
+        ensures formula { (s : ℕ) → mmr_position s height ≡ position → result ≡ mmr_birth_leaf_count s height }
+        ensures node { (t : Tree) → IsNode mmr_merges MAX_LEAVES position height t → IsBirthSize mmr_merges position result }
     {
         first_below(position.as_u64(), height) + (1 << height)
     }

@@ -9,7 +9,7 @@ use Rattle.merkle_root_theory.specs.Check.{RangeInput}
 use Rattle.merkle_root_theory.specs.Extract.{extracted}
 use Rattle.merkle_root_theory.specs.Layouts.{count_before}
 use Rattle.merkle_root_theory.specs.Outside.{bag_all, folded_prefix, single_before, single_after, folded_suffix}
-use Rattle.merkle_root_theory.specs.Range.{AcceptsSome, end_of, overlapping, wholly_after, range_siblings}
+use Rattle.merkle_root_theory.specs.Range.{AcceptsNonempty, end_of, overlapping, wholly_after, range_siblings}
 use Rattle.merkle_root_theory.specs.Reconstruction.{reconstructed}
 use Rattle.merkle_root_theory.proofs.Reconstruction.{leads_is_accepted}
 use Rattle.merkle_root_theory.specs.Reads.{nodes_read}
@@ -138,7 +138,7 @@ planned rule bagging n k a b q c reads e before after folded single is =
     subst (λ (z : LeafRange). ArePlanned rule bagging z.leaves k z.start z.end c reads) e (record { before_is = before; after_is = after; folded_is = folded; single_is = single; reads_is = is })
 
 -- an input with elements that leads to a root is accepted against it
-pub accepted_some : {D : Type 0} (s : Scheme D) (r : RangeInput D) (root : D) → reconstructed s r ≡ Ok root → 0 < length r.elements → AcceptsSome s r root
+pub accepted_some : {D : Type 0} (s : Scheme D) (r : RangeInput D) (root : D) → reconstructed s r ≡ Ok root → 0 < length r.elements → AcceptsNonempty s r root
 accepted_some s r root leads some = elim ((leads_is_accepted s r root).0 leads) [
   | inl w ↦ w
   | inr w ↦ (let none : length r.elements ≡ 0 = ap length w.0.elements in absurd (omega (arith, some, none)))

@@ -3,7 +3,7 @@ use Rattle.std.proofs.Common.{◌≡◌, ℕ, ◌+◌, ◌-◌, ◌<◌, List, [
 use Rattle.std.specs.Option.{option_to_list, option_or, option_map_or}
 use Rattle.std.proofs.lemmas.List.{length-drop, drop_min, take_all, map-append}
 use Rattle.merkle_base.specs.Hashing.{Hashing}
-use Rattle.merkle_base.specs.Root.{bag, folded}
+use Rattle.merkle_base.specs.Root.{right_fold, folded}
 use Rattle.merkle_base.specs.declared.family.Bagging.TheVariants.{ForwardFold}
 use Rattle.merkle_store_theory.specs.StoreValue.{StoreValue}
 use Rattle.merkle_store_theory.specs.StoreProof.{first_lacking, ends_with}
@@ -27,9 +27,9 @@ module _ {D : Type 0} (h : Hashing D) (v : StoreValue D) where
 
   -- the bag of the peaks before the store's own is that of the asked suffix
   pub suffix_read : (ps front : List ℕ) (o : Option D) → 0 < length ps → front ≡ take (length ps - length v.suffix_peaks) ps
-      → o ≡ bag h.fold (read_all h v.pairs front ++ option_to_list v.suffix) → option_to_list o ≡ suffix_at h v ps
+      → o ≡ right_fold h.fold (read_all h v.pairs front ++ option_to_list v.suffix) → option_to_list o ≡ suffix_at h v ps
   suffix_read [] front o some e w = absurd (omega (arith, some))
-  suffix_read (p ∷ ps) front o some e w = ap option_to_list (w ∙ ap (λ z. bag h.fold (read_all h v.pairs z ++ option_to_list v.suffix)) e)
+  suffix_read (p ∷ ps) front o some e w = ap option_to_list (w ∙ ap (λ z. right_fold h.fold (read_all h v.pairs z ++ option_to_list v.suffix)) e)
 
 module _ {D : Type 0} (v : StoreValue D) where
   lacking_front : (qs ps : List ℕ) → v.suffix_peaks ≡ qs → ends_with ps qs ≡ true → lacking_at v qs ps ≡ first_lacking v.pairs (reverse (take (length ps - length v.suffix_peaks) ps))

@@ -4,7 +4,7 @@ use Rattle.merkle_base.specs.Scheme.{Scheme}
 use Rattle.merkle_base.specs.declared.error.Error.{Error}
 use Rattle.merkle_base.specs.declared.error.Error.TheVariants.{ElementPruned}
 use Rattle.merkle_root_theory.specs.Check.{RangeInput}
-use Rattle.merkle_root_theory.specs.Range.{end_of, AcceptsSome}
+use Rattle.merkle_root_theory.specs.Range.{end_of, AcceptsNonempty}
 use Rattle.merkle_store_theory.specs.StoreValue.{StoreValue, store_of}
 use Rattle.merkle_store_theory.specs.StoreProof.{store_proof, store_refusal}
 use Rattle.merkle_proof.specs.RangePlans.{IsRefusal}
@@ -29,9 +29,9 @@ part_input p r a b = record { leaves = p.leaves; inactive = p.inactive_peaks; di
 
 -- the store of an accepted input refuses no part of its range
 abbrev pub NoPartIsRefused : Type 0 → Type 0 → Type 0
-NoPartIsRefused F D = (s : Scheme D) (r : RangeInput D) (root : D) (a b : ℕ) (e : Error F) → AcceptsSome s r root → a < b → r.start ≤ a → b ≤ end_of r → IsStoreRefusal s (store_of s r root) a b e → ⊥
+NoPartIsRefused F D = (s : Scheme D) (r : RangeInput D) (root : D) (a b : ℕ) (e : Error F) → AcceptsNonempty s r root → a < b → r.start ≤ a → b ≤ end_of r → IsStoreRefusal s (store_of s r root) a b e → ⊥
 
 -- and what it answers for it is accepted
 abbrev pub AnsweredIsAccepted : (F D Peaks Heights : Type 0) → Type 0
 AnsweredIsAccepted F D Peaks Heights = (s : Scheme D) (r : RangeInput D) (root : D) (a b : ℕ) (p : Proof F D Peaks Heights)
-    → AcceptsSome s r root → r.start ≤ a → b ≤ end_of r → IsAnswered s (store_of s r root) a b p → AcceptsSome s (part_input p r a b) root
+    → AcceptsNonempty s r root → r.start ≤ a → b ≤ end_of r → IsAnswered s (store_of s r root) a b p → AcceptsNonempty s (part_input p r a b) root

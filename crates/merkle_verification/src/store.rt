@@ -3,7 +3,7 @@ ghost use Rattle.std.specs.Prelude.{◌≡◌, ◌≢◌, ◌⊎◌, ◌≤◌, 
 ghost use Rattle.std.specs.Option.{option_to_list};
 ghost use Rattle.merkle_base.specs.Scheme.{Scheme};
 ghost use Rattle.merkle_root_theory.specs.Check.{RangeInput};
-ghost use Rattle.merkle_root_theory.specs.Range.{AcceptsSome, end_of};
+ghost use Rattle.merkle_root_theory.specs.Range.{AcceptsNonempty, end_of};
 ghost use Rattle.merkle_root_theory.specs.Reconstruction.{reconstructed};
 ghost use Rattle.merkle_root_theory.specs.Walk.{bytes_of};
 ghost use Rattle.merkle_store_theory.specs.StoreProof.{first_lacking};
@@ -100,7 +100,7 @@ impl<F: Family, D: Digest> ProofStore<F, D> {
         ensures ok { let s = H.scheme hasher.now in
             IfOk result (λ v. v ≡ store_of s (input_of s proof.now start (bytes_of elements.now)) root.now) }
         ensures accepted { let s = H.scheme hasher.now in
-            IfOk result (λ _. AcceptsSome s (input_of s proof.now start (bytes_of elements.now)) root.now) }
+            IfOk result (λ _. AcceptsNonempty s (input_of s proof.now start (bytes_of elements.now)) root.now) }
         ensures err { let s = H.scheme hasher.now in
             let r = input_of s proof.now start (bytes_of elements.now) in
             IfErr result (λ e. e ≢ Error.OutOfMemory → IsExtractionRefusal s r root.now e
@@ -305,13 +305,13 @@ impl<F: Family, D: Digest> ProofStore<F, D> {
 
         // Of the store of an accepted proof each part of the range is answered, unless there is no memory.
         ensures unrefused { let s = H.scheme hasher.now in
-            (r : RangeInput D) (root : D) → self.now ≡ store_of s r root → AcceptsSome s r root → range.start < range.end
+            (r : RangeInput D) (root : D) → self.now ≡ store_of s r root → AcceptsNonempty s r root → range.start < range.end
             → r.start ≤ range.start → range.end ≤ end_of r → IfErr result (λ e. e ≡ Error.OutOfMemory) }
 
         // And the check accepts what is answered.
         ensures accepted { let s = H.scheme hasher.now in
-            (r : RangeInput D) (root : D) → self.now ≡ store_of s r root → AcceptsSome s r root
-            → r.start ≤ range.start → range.end ≤ end_of r → IfOk result (λ p. AcceptsSome s (part_input p r range.start range.end) root) }
+            (r : RangeInput D) (root : D) → self.now ≡ store_of s r root → AcceptsNonempty s r root
+            → r.start ≤ range.start → range.end ≤ end_of r → IfOk result (λ p. AcceptsNonempty s (part_input p r range.start range.end) root) }
     {
         self.answer(hasher, range)
     }

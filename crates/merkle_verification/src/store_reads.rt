@@ -4,7 +4,7 @@ ghost use Rattle.std.specs.Prelude.{min, reverse, take, slice_get, IfOk, IfErr};
 ghost use Rattle.std.specs.Option.{option_to_list};
 ghost use Rattle.merkle_base.specs.Hashing.{Hashing};
 ghost use Rattle.merkle_base.specs.Places.{peak_positions};
-ghost use Rattle.merkle_base.specs.Root.{bag, folded};
+ghost use Rattle.merkle_base.specs.Root.{right_fold, folded};
 ghost use Rattle.merkle_base.specs.declared.family.Bagging.TheVariants.{ForwardFold};
 ghost use Rattle.merkle_store_theory.specs.StoreProof.{ends_with, first_lacking};
 ghost use Rattle.merkle_verification.specs.PairReads.{IsPruned, read_all};
@@ -122,7 +122,7 @@ pub(crate) fn bag_onto<F: Family, H: Hasher<F>>(
 ) -> Result<Option<H::Digest>, Error<F>>
     ensures held { IfOk result (λ _. first_lacking pairs.now (reverse positions.now) ≡ None) }
     ensures read { let h = H.hashing hasher.now in
-        IfOk result (λ o. o ≡ bag h.fold (read_all h pairs.now positions.now ++ option_to_list last)) }
+        IfOk result (λ o. o ≡ right_fold h.fold (read_all h pairs.now positions.now ++ option_to_list last)) }
     ensures err { IfErr result (λ e. IsPruned (first_lacking pairs.now (reverse positions.now)) e) }
 {
     let mut bagged = last;

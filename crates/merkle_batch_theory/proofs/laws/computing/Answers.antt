@@ -1,5 +1,5 @@
-use Rattle.merkle_batch_theory.proofs.Through.{made, unchanged}
-use Rattle.merkle_batch_theory.proofs.Needs.{used_kept}
+use Rattle.merkle_batch_theory.proofs.ReadThroughRecords.{made, unchanged}
+use Rattle.merkle_batch_theory.proofs.NeededNodes.{used_kept}
 use Rattle.merkle_batch_theory.proofs.laws.computing.Goals as goal
 
 pub returns : goal.returns

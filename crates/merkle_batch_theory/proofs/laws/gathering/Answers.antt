@@ -1,5 +1,5 @@
 use Rattle.merkle_batch_theory.proofs.Children.{left_needed}
-use Rattle.merkle_batch_theory.proofs.Bases.{based_used}
+use Rattle.merkle_batch_theory.proofs.BaseFacts.{based_used}
 use Rattle.merkle_batch_theory.proofs.laws.gathering.Goals as goal
 
 pub returns : goal.returns

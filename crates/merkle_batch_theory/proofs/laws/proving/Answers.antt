@@ -1,4 +1,4 @@
-use Rattle.merkle_batch_theory.proofs.Needs.{sibling_kept, peaks_kept}
+use Rattle.merkle_batch_theory.proofs.NeededNodes.{sibling_kept, peaks_kept}
 use Rattle.merkle_batch_theory.proofs.laws.proving.Goals as goal
 
 pub returns : goal.returns

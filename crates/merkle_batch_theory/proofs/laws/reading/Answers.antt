@@ -1,5 +1,5 @@
-use Rattle.merkle_batch_theory.proofs.Through.{newest_read}
-use Rattle.merkle_batch_theory.proofs.Bases.{based_right, based_answered}
+use Rattle.merkle_batch_theory.proofs.ReadThroughRecords.{newest_read}
+use Rattle.merkle_batch_theory.proofs.BaseFacts.{based_right, based_answered}
 use Rattle.merkle_batch_theory.proofs.laws.reading.Goals as goal
 
 pub returns : goal.returns

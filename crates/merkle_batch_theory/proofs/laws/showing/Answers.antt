@@ -1,4 +1,4 @@
-use Rattle.merkle_batch_theory.proofs.Shown.{agrees_empty, agrees_shows, batch_shows, taken}
+use Rattle.merkle_batch_theory.proofs.ShownLists.{agrees_empty, agrees_shows, batch_shows, taken}
 use Rattle.merkle_batch_theory.proofs.laws.showing.Goals as goal
 
 pub returns : goal.returns

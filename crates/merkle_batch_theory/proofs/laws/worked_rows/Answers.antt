@@ -1,7 +1,7 @@
 use Rattle.std.proofs.Common.{◌≡◌, ◌≤◌, refl, inl, inr, arith, true, false, Some, None}
 use Rattle.merkle_base.specs.Tree.{leaf}
 use Rattle.merkle_base.specs.Forest.{forest}
-use Rattle.merkle_batch_theory.proofs.Small.{edit_row, newest_row, applied_row, pruned_row, stands_row, over_row, exchange_row, none_row, added_row, updated_row}
+use Rattle.merkle_batch_theory.proofs.SmallCases.{edit_row, newest_row, applied_row, pruned_row, stands_row, over_row, exchange_row, none_row, added_row, updated_row}
 use Rattle.merkle_batch_theory.proofs.AppliedRows.{differs_row, foreign_row, held_row, made_row, own_row, stands_exchange}
 use Rattle.merkle_batch_theory.proofs.laws.worked_rows.Goals as goal
 
@@ -49,7 +49,7 @@ returns c = record {
   replaces = refl;
   added_leaves = refl;
   touches = refl;
-  touched_unneeded = λ n. absurd (let e : true ≡ false = n.2 in cc);
+  dirty_unneeded = λ n. absurd (let e : true ≡ false = n.2 in cc);
   new_unneeded = λ n. absurd (omega (arith, n.1));
   unmatched = refl;
   unmatched_later = refl;

@@ -1,6 +1,6 @@
 use Rattle.merkle_claim_theory.proofs.FirstCollisions.{finds_first}
 use Rattle.merkle_root_theory.proofs.RootStrings.{tells_all}
-use Rattle.merkle_claim_theory.proofs.NoCollisions.{same_peaks, honest_never_collides}
+use Rattle.merkle_claim_theory.proofs.HonestClaims.{same_peaks, honest_never_collides}
 use Rattle.merkle_claim_theory.proofs.PlaceOrder.{places_in_order}
 use Rattle.merkle_claim_theory.proofs.PlacesOnce.{places_once}
 use Rattle.merkle_claim_theory.proofs.LocatedNodes.{collide_is_located, located_is_collide}

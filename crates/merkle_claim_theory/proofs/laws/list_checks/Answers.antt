@@ -1,6 +1,6 @@
 use Rattle.merkle_root_theory.proofs.ListChecks.{honest_range_accepted, no_other_range, pair_consistent}
 use Rattle.merkle_claim_theory.proofs.Audits.{audits_range, audits_pair}
-use Rattle.merkle_claim_theory.proofs.ClearRange.{honest_is_clear}
+use Rattle.merkle_claim_theory.proofs.RangeNoCollision.{honest_is_clear}
 use Rattle.merkle_claim_theory.proofs.laws.list_checks.Goals as goal
 
 pub returns : goal.returns

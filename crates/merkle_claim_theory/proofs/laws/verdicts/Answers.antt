@@ -1,6 +1,6 @@
 use Rattle.merkle_claim_theory.proofs.Verdicts.{verdicts}
-use Rattle.merkle_claim_theory.proofs.ClearMulti.{honest_multi_is_clear}
-use Rattle.merkle_claim_theory.proofs.ClearPinned.{honest_pinned_is_clear}
+use Rattle.merkle_claim_theory.proofs.MultiNoCollision.{honest_multi_is_clear}
+use Rattle.merkle_claim_theory.proofs.PinnedNoCollision.{honest_pinned_is_clear}
 use Rattle.merkle_claim_theory.proofs.laws.verdicts.Goals as goal
 
 pub returns : goal.returns

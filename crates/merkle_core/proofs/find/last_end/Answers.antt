@@ -3,7 +3,7 @@ use Rattle.std.proofs.Common.{◌≡◌, suc, ◌-◌, ◌<◌, length, sym, ◌
 use Rattle.std.proofs.lemmas.List.{length-map, take_all}
 use Rattle.std.specs.Cmp.Lexicographic.{pointwise}
 use Rattle.merkle_batch_theory.specs.Replay.{last_match, ends_at}
-use Rattle.merkle_batch_theory.specs.Recorded.{after}
+use Rattle.merkle_batch_theory.specs.Records.{after}
 use Rattle.merkle_batch_theory.proofs.LastMatch.{last_match_yes, last_match_no, get_or_map}
 use Rattle.merkle_core.proofs.find.last_end.Goals as goal
 

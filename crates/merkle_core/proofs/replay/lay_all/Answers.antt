@@ -1,7 +1,7 @@
 use Rattle.std.proofs.Common.{◌≡◌, ◌+◌, ◌∷◌, length, ◌∙◌, ap, arith, map, drop, add-one}
 use Rattle.merkle_batch_theory.specs.Held.{held_contents, total_appended}
-use Rattle.merkle_batch_theory.specs.Replay.{laid}
-use Rattle.merkle_batch_theory.proofs.Laid.{all_step, drop_here}
+use Rattle.merkle_batch_theory.specs.Replay.{with_record}
+use Rattle.merkle_batch_theory.proofs.RecordFacts.{all_step, drop_here}
 use Rattle.merkle_core.proofs.replay.lay_all.Goals as goal
 
 pub lay-requires : goal.lay-requires
@@ -22,5 +22,5 @@ loop-change-preserved g c =
       c.lay.ensures.capacity ∙ c.loop-change.invariant.1,
       omega (arith, c.loop-change.invariant.2, ap total_appended here, alike, c.lay.ensures.size),
       (λ b. all_step (drop i rs) (drop (i + 1) rs) c.change-item.result.value (held_contents b c.loop-change.held) (held_contents b c.lay.new.held) _ here
-          (c.lay.ensures.laid b ∙ ap (λ r. laid r (held_contents b c.loop-change.held)) c.deref.ensures) (c.loop-change.invariant.3 b)),
+          (c.lay.ensures.laid b ∙ ap (λ r. with_record r (held_contents b c.loop-change.held)) c.deref.ensures) (c.loop-change.invariant.3 b)),
     )

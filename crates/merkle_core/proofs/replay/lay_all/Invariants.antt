@@ -1,6 +1,6 @@
 use Rattle.std.proofs.Common.{◌≡◌, ◌+◌, ℕ, map, drop}
 use Rattle.merkle_batch_theory.specs.Held.{held_contents, total_appended}
-use Rattle.merkle_batch_theory.specs.Replay.{all_laid}
+use Rattle.merkle_batch_theory.specs.Replay.{with_records}
 use Rattle.merkle_core.proofs.replay.lay_all.Given as goal
 
 abbrev pub invariant-loop-change : goal.invariant-loop-change
@@ -8,4 +8,4 @@ invariant-loop-change g l =
     (l.held.start ≡ l.initial.held.start)
     × (l.held.capacity ≡ l.initial.held.capacity)
     × (l.held.size + total_appended (drop l.change-index (map (λ r. r.value) l.changes)) ≡ l.initial.held.size + total_appended (map (λ r. r.value) l.changes))
-    × ((b : ℕ) → all_laid (drop l.change-index (map (λ r. r.value) l.changes)) (held_contents b l.held) ≡ all_laid (map (λ r. r.value) l.changes) (held_contents b l.initial.held))
+    × ((b : ℕ) → with_records (drop l.change-index (map (λ r. r.value) l.changes)) (held_contents b l.held) ≡ with_records (map (λ r. r.value) l.changes) (held_contents b l.initial.held))

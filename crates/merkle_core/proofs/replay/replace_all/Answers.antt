@@ -1,9 +1,9 @@
 use Rattle.std.proofs.Common.{◌≡◌, sym, ◌∙◌, ap, map}
 use Rattle.std.specs.FinMap.{get}
 use Rattle.std.specs.Map.Iter.{deref_pair}
-use Rattle.merkle_batch_theory.specs.Replay.{over}
+use Rattle.merkle_batch_theory.specs.Replay.{overwritten_by}
 use Rattle.merkle_batch_theory.proofs.MapFacts.{get_entries}
-use Rattle.merkle_batch_theory.proofs.Over.{over_push, latest_all, moved, all_came}
+use Rattle.merkle_batch_theory.proofs.OverwriteFacts.{over_push, latest_all, moved, all_came}
 use Rattle.merkle_core.proofs.replay.replace_all.Goals as goal
 
 pub loop-position-preserved : goal.loop-position-preserved
@@ -20,4 +20,4 @@ returns-clause-stored g c =
     let entries : c.into_iter-position-iterator.result ≡ c.overwrites.inside.nodes.entries = c.into_iter-position-iterator.ensures.into_iter_gives.0 in
     let all : map deref_pair c.loop-position.yielded ≡ c.overwrites.inside.nodes.entries = all_came c.loop-position.yielded c.loop-position.position-iterator c.overwrites.inside.nodes.entries c.in-None.ensures.steps.0 (c.loop-position.invariant.4 ∙ entries) in
     λ p. c.loop-position.invariant.3 p
-    ∙ ap (λ o. over o (get c.args.held.now.stored p)) (latest_all c.loop-position.yielded c.overwrites.inside.nodes.entries p all c.len-len.ensures.unique ∙ sym (get_entries c.overwrites.inside.nodes.entries p) ∙ ap (λ m. get m p) c.overwrites.view_is)
+    ∙ ap (λ o. overwritten_by o (get c.args.held.now.stored p)) (latest_all c.loop-position.yielded c.overwrites.inside.nodes.entries p all c.len-len.ensures.unique ∙ sym (get_entries c.overwrites.inside.nodes.entries p) ∙ ap (λ m. get m p) c.overwrites.view_is)

@@ -2,7 +2,7 @@ use Rattle.std.proofs.Common.{◌≡◌, ℕ, ◌+◌, ◌^◌, ◌<◌, ◌≤�
 use Rattle.merkle_base.specs.Forest.{size}
 use Rattle.merkle_base.specs.Tree.{height, first_leaf}
 use Rattle.merkle_base.specs.Heights.{peak_heights}
-use Rattle.merkle_forest_theory.specs.Mmb.{newest_pair, birth_leaf}
+use Rattle.merkle_forest_theory.specs.Mmb.{mmb_merges, birth_leaf}
 use Rattle.merkle_forest_theory.proofs.BeltLawful.{mmb_lawful, mmb_size, mmb_peak_count}
 use Rattle.merkle_base.proofs.Nodes.{node_anywhere}
 use Rattle.merkle_forest_theory.proofs.Digits.{ends_trailing}
@@ -20,17 +20,17 @@ returns c = record {
     | inl h ↦ inl h
     | inr h ↦ inr (h.1 ∙ ap (λ (x : ℕ). x ∷ []) (omega (arith, ends_trailing h.0 (n + 1) h.2 (omega arith))), h.3)
   ];
-  peaks = λ n. (let k = mmb_peak_count n in let e : length (peak_heights newest_pair n) + 1 ≡ suc (length (peak_heights newest_pair n)) = omega arith in
+  peaks = λ n. (let k = mmb_peak_count n in let e : length (peak_heights mmb_merges n) + 1 ≡ suc (length (peak_heights mmb_merges n)) = omega arith in
       (k.0, subst (λ (x : ℕ). n + 1 < 2 ^ x) (sym e) k.1));
   heights = mmb_peak_height;
   older = λ n i l. (let e : suc i ≡ i + 1 = omega arith in
-      subst (λ (x : ℕ). slice_index (peak_heights newest_pair n) i ≤ slice_index (peak_heights newest_pair n) x) e (mmb_older n i (omega arith)));
+      subst (λ (x : ℕ). slice_index (peak_heights mmb_merges n) i ≤ slice_index (peak_heights mmb_merges n) x) e (mmb_older n i (omega arith)));
   children = λ n p a b e. (let k = mmb_children n p a b e in (k.left, k.right));
   place = λ n p t e. (mmb_placed n p t e).position;
   birth = λ n p t e.
       (let k = mmb_placed n p t e in
       let d : birth_leaf (first_leaf t) (height t) + 1 ≡ suc (birth_leaf (first_leaf t) (height t)) = omega arith in (
-        node_anywhere newest_pair n (birth_leaf (first_leaf t) (height t) + 1) p t e (subst (λ (x : ℕ). p < size newest_pair x) (sym d) k.present),
+        node_anywhere mmb_merges n (birth_leaf (first_leaf t) (height t) + 1) p t e (subst (λ (x : ℕ). p < size mmb_merges x) (sym d) k.present),
         λ m l. omega (arith, size_root (first_leaf t) (height t) m l, k.position),
       ));
   aligned = λ n p t e. (mmb_placed n p t e).aligned;

@@ -2,7 +2,7 @@ use Rattle.std.proofs.Common.{◌≡◌, ℕ, ◌+◌, ◌^◌, ◌<◌, suc, ap
 use Rattle.std.specs.List.{range_with_len}
 use Rattle.merkle_base.specs.Forest.{size}
 use Rattle.merkle_base.specs.Tree.{height, first_leaf, width}
-use Rattle.merkle_forest_theory.specs.Mmr.{carries}
+use Rattle.merkle_forest_theory.specs.Mmr.{mmr_merges}
 use Rattle.merkle_base.proofs.Nodes.{node_anywhere}
 use Rattle.merkle_base.proofs.Balance.{node_balanced, balanced_count}
 use Rattle.merkle_forest_theory.proofs.Digits.{ends_trailing}
@@ -23,8 +23,8 @@ returns c = record {
   place = λ n p t e. (let d : height t + 1 ≡ suc (height t) = omega arith in omega (arith, mmr_place n p t e, ap (λ (x : ℕ). 2 ^ x) d));
   birth = λ n p t e.
       (let k = mmr_born n p t e in
-      let d : width t ≡ 2 ^ height t = balanced_count t (node_balanced carries n (mmr_equal n) n p t (omega arith) e) in (
-        node_anywhere carries n (first_leaf t + 2 ^ height t) p t e (subst (λ (x : ℕ). p < size carries (first_leaf t + x)) d k.present),
+      let d : width t ≡ 2 ^ height t = balanced_count t (node_balanced mmr_merges n (mmr_equal n) n p t (omega arith) e) in (
+        node_anywhere mmr_merges n (first_leaf t + 2 ^ height t) p t e (subst (λ (x : ℕ). p < size mmr_merges (first_leaf t + x)) d k.present),
         λ m l. k.absent m (omega (arith, d)),
       ));
   aligned = λ n p t e. (mmr_born n p t e).aligned;

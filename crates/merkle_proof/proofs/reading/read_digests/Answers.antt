@@ -1,7 +1,7 @@
 use Rattle.std.proofs.Common.{◌++◌, reverse, Some, ap, ◌∙◌}
 use Rattle.std.proofs.lemmas.Result.{err_from_is_err_and}
 use Rattle.std.specs.Option.{option_to_list}
-use Rattle.merkle_base.specs.Root.{bag, folded}
+use Rattle.merkle_base.specs.Root.{right_fold, folded}
 use Rattle.merkle_base.specs.declared.family.Bagging.TheVariants.{ForwardFold}
 use Rattle.merkle_proof.proofs.ReadRuns.{zip_reverse, missing_before, missing_after, appended_four}
 use Rattle.merkle_proof.proofs.reading.read_digests.Given as given
@@ -58,5 +58,5 @@ returns-clause-ok g c =
       single_read = single.1;
       suffix_read = suffix.1;
       siblings_read = siblings.1;
-      laid = appended_four (option_to_list (folded f ForwardFold 0 prefix.0)) single.0 (option_to_list (bag f suffix.0)) siblings.0 _ _ _ _ (prefix.2 ∙ ap (λ z. z ++ option_to_list (folded f ForwardFold 0 prefix.0)) c.in_ok-digests.ensures.items) single.2 suffix.2 siblings.2;
+      laid = appended_four (option_to_list (folded f ForwardFold 0 prefix.0)) single.0 (option_to_list (right_fold f suffix.0)) siblings.0 _ _ _ _ (prefix.2 ∙ ap (λ z. z ++ option_to_list (folded f ForwardFold 0 prefix.0)) c.in_ok-digests.ensures.items) single.2 suffix.2 siblings.2;
     }

@@ -3,7 +3,7 @@ use Rattle.std.proofs.lemmas.Bool.{not-true, not-false, false≢true}
 use Rattle.std.proofs.lemmas.List.{length-map, length-drop}
 use Rattle.merkle_claim_theory.specs.Rebuilt.{AllRebuilt, rebuilt_node}
 use Rattle.merkle_claim_theory.specs.Table.{digest_for}
-use Rattle.merkle_hasher.specs.Subtrees.{Means, subtree_of}
+use Rattle.merkle_hasher.specs.Subtrees.{Denotes, subtree_of}
 use Rattle.merkle_range.proofs.IndividualPeaks.{drop_next, all_taken}
 use Rattle.merkle_range.proofs.PeakLoop.{element_means}
 use Rattle.merkle_range.proofs.PinWalks.{each_more, each_other}
@@ -18,7 +18,7 @@ pub rebuilt_digest-requires : goal.rebuilt_digest-requires
 rebuilt_digest-requires g c =
     let n = c.requires.nodes in
     let w = element_means g.F.Family.rule g.F.Family.MAX_LEAVES c.args.peaks.now n.0 n.1 n.2 c.loop-peak.peak-index c.loop-peak-test.true c.peak-item.result in
-    record { node = (w.0, subst (λ s. Means g.F.Family.rule g.F.Family.MAX_LEAVES s w.0) (sym c.peak-item.is) w.1) }
+    record { node = (w.0, subst (λ s. Denotes g.F.Family.rule g.F.Family.MAX_LEAVES s w.0) (sym c.peak-item.is) w.1) }
 
 pub returns-then-ne : goal.returns-then-ne
 returns-then-ne g c = λ ts e h long.
@@ -26,7 +26,7 @@ returns-then-ne g c = λ ts e h long.
     let f = rebuilt_node (g.H.Hasher.hashing c.args.hasher.now) (digest_for c.args.pins.now.positions.items c.args.pins.now.digests.now) in
     let w = element_means g.F.Family.rule g.F.Family.MAX_LEAVES c.args.peaks.now ts e h i c.loop-peak-test.true c.peak-item.result in
     let l : i < length ts = omega (arith, c.loop-peak-test.true, ap length e, length-map ts (subtree_of {F = g.row.F.Denot})) in
-    let is = c.rebuilt_digest.ensures w.0 (subst (λ s. Means g.F.Family.rule g.F.Family.MAX_LEAVES s w.0) (sym c.peak-item.is) w.1) in
+    let is = c.rebuilt_digest.ensures w.0 (subst (λ s. Denotes g.F.Family.rule g.F.Family.MAX_LEAVES s w.0) (sym c.peak-item.is) w.1) in
     let equal = g.met.H.Digest.Digest.eq_decides c.rebuilt_digest.result c.in-Some.digest.now in
     let differs = not-true _ (sym c.ne.ensures ∙ c.if-ne.true) in (
       (λ x. absurd (false≢true x)),
@@ -42,7 +42,7 @@ loop-peak-preserved g c =
           let f = rebuilt_node (g.H.Hasher.hashing c.args.hasher.now) (digest_for c.args.pins.now.positions.items c.args.pins.now.digests.now) in
           let w = element_means g.F.Family.rule g.F.Family.MAX_LEAVES c.args.peaks.now ts e h i c.loop-peak-test.true c.peak-item.result in
           let l : i < length ts = omega (arith, c.loop-peak-test.true, ap length e, length-map ts (subtree_of {F = g.row.F.Denot})) in
-          let is = c.rebuilt_digest.ensures w.0 (subst (λ s. Means g.F.Family.rule g.F.Family.MAX_LEAVES s w.0) (sym c.peak-item.is) w.1) in
+          let is = c.rebuilt_digest.ensures w.0 (subst (λ s. Denotes g.F.Family.rule g.F.Family.MAX_LEAVES s w.0) (sym c.peak-item.is) w.1) in
           let equal = g.met.H.Digest.Digest.eq_decides c.rebuilt_digest.result c.in-Some.digest.now in
           let same = equal.0 (not-false _ (sym c.ne.ensures ∙ c.if-ne.false)) in
           each_more (g.H.Hasher.hashing c.args.hasher.now) f i ts w.0 c.args.digests.now c.loop-peak.rest.now _ _ _ w.2 l c.loop-peak.invariant.0 first is same (c.loop-peak.invariant.1 ts e h),

@@ -1,5 +1,5 @@
 use Rattle.std.proofs.Common.{◌≡◌, ◌+◌, ◌/◌, min, arith, rules}
-use Rattle.merkle_forest_theory.specs.Mmb.{newest_pair}
+use Rattle.merkle_forest_theory.specs.Mmb.{mmb_merges}
 use Rattle.merkle_forest_theory.proofs.BeltLawful.{mmb_lawful}
 use Rattle.merkle_topology.proofs.LeafCounts.{size_of_half, size_past_half}
 use Rattle.merkle_topology.proofs.mmb.leaf_count_within.Goals as goal
@@ -10,6 +10,6 @@ loop-low-init c =
     record {
       ordered = omega arith;
       limit = omega arith;
-      within = size_of_half newest_pair c.args.nodes;
-      greatest = rw high (size_past_half newest_pair _ _ mmb_lawful c.args.nodes (omega arith));
+      within = size_of_half mmb_merges c.args.nodes;
+      greatest = rw high (size_past_half mmb_merges _ _ mmb_lawful c.args.nodes (omega arith));
     }

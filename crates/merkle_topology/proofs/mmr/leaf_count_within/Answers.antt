@@ -1,5 +1,5 @@
 use Rattle.std.proofs.Common.{◌≡◌, ◌+◌, ◌/◌, min, arith, rules}
-use Rattle.merkle_forest_theory.specs.Mmr.{carries}
+use Rattle.merkle_forest_theory.specs.Mmr.{mmr_merges}
 use Rattle.merkle_forest_theory.proofs.RangeLawful.{mmr_lawful}
 use Rattle.merkle_topology.proofs.LeafCounts.{size_of_half, size_past_half}
 use Rattle.merkle_topology.proofs.mmr.leaf_count_within.Goals as goal
@@ -10,6 +10,6 @@ loop-low-init c =
     record {
       ordered = omega arith;
       limit = omega arith;
-      within = size_of_half carries c.args.nodes;
-      greatest = rw high (size_past_half carries _ _ mmr_lawful c.args.nodes (omega arith));
+      within = size_of_half mmr_merges c.args.nodes;
+      greatest = rw high (size_past_half mmr_merges _ _ mmr_lawful c.args.nodes (omega arith));
     }

@@ -1,14 +1,14 @@
 use Rattle.std.proofs.Common.{◌+◌, ◌-◌, ◌<◌, ◌≤◌}
 use Rattle.merkle_base.specs.Forest.{size}
-use Rattle.merkle_forest_theory.specs.Mmr.{carries}
+use Rattle.merkle_forest_theory.specs.Mmr.{mmr_merges}
 use Rattle.merkle_topology.proofs.mmr.leaf_count_within.Given as goal
 
 abbrev pub invariant-loop-low : goal.invariant-loop-low
 invariant-loop-low l = record {
   ordered : l.low ≤ l.high;
   limit : l.high ≤ 4611686018427387904;
-  within : size carries l.low ≤ l.nodes;
-  greatest : l.nodes < size carries (l.high + 1);
+  within : size mmr_merges l.low ≤ l.nodes;
+  greatest : l.nodes < size mmr_merges (l.high + 1);
 }
 
 abbrev pub decreases-loop-low : goal.decreases-loop-low

@@ -1,6 +1,6 @@
 use Rattle.std.proofs.Common.{IfOk, ◌≡◌, List, [], ◌∷◌, ◌++◌, ap, subst, ◌∙◌}
 use Rattle.merkle_base.specs.Forest.{size}
-use Rattle.merkle_batch_theory.specs.Pending.{pending_list, with_leaf}
+use Rattle.merkle_batch_theory.specs.Unmerkleized.{pending_list, with_leaf}
 use Rattle.merkle_batch.proofs.batch.UnmerkleizedBatch.add.Goals as goal
 
 pub returns-clause-added : goal.returns-clause-added

@@ -1,5 +1,5 @@
 use Rattle.std.proofs.Common.{[], ◌∷◌, ap, ◌∙◌}
-use Rattle.merkle_batch_theory.specs.Pending.{pending_list, with_leaf}
+use Rattle.merkle_batch_theory.specs.Unmerkleized.{pending_list, with_leaf}
 use Rattle.merkle_batch_theory.proofs.PendingUpdates.{leaves_list}
 use Rattle.merkle_batch.proofs.MerkleizeFacts.{of_fields}
 use Rattle.merkle_batch.proofs.batch.UnmerkleizedBatch.add_leaf_digest.Goals as goal

@@ -2,7 +2,7 @@ use Rattle.std.proofs.Common.{◌≡◌, ℕ, ◌≤◌, ◌<◌, arith, refl, s
 use Rattle.merkle_base.specs.Forest.{size}
 use Rattle.merkle_base.specs.declared.error.Error.TheVariants.{ElementPruned}
 use Rattle.merkle_hasher.proofs.Comparisons.{ge_yes, ge_no, lt_yes}
-use Rattle.merkle_batch_theory.specs.Pending.{OutOfBounds, Pruned}
+use Rattle.merkle_batch_theory.specs.Unmerkleized.{OutOfBounds, Pruned}
 use Rattle.merkle_batch_theory.proofs.PendingUpdates.{out_of_bounds, pruned_fault}
 use Rattle.merkle_batch.proofs.batch.UnmerkleizedBatch.check_update.Goals as goal
 

@@ -11,13 +11,13 @@ use Rattle.merkle_batch_theory.specs.Contents.{AgreesWithOne}
 use Rattle.merkle_draft.specs.Drafts.{AreChildrenRead, LacksChild}
 use Rattle.merkle_batch.specs.Finished.{finished}
 use Rattle.merkle_draft.specs.DraftReads.{ArePeaksRead, IsPeakGap, old_node}
-use Rattle.merkle_batch_theory.specs.Linked.{IsLinked}
+use Rattle.merkle_batch_theory.specs.BatchValid.{IsBatchValid}
 use Rattle.merkle_batch_theory.specs.Missing.{IsMissing}
 use Rattle.merkle_batch_theory.specs.Needed.{IsChanged}
-use Rattle.merkle_batch_theory.specs.Pending.{IsPending, is_changed, kept, kept_lists, leaf_total, Pending, pending_list}
-use Rattle.merkle_batch_theory.specs.Recorded.{after, records}
-use Rattle.merkle_batch_theory.specs.Stands.{last_list, StandsOn}
-use Rattle.merkle_batch_theory.specs.Truth.{IsTruth, LeavesAre, ReadsTrue, truths}
+use Rattle.merkle_batch_theory.specs.Unmerkleized.{IsUnmerkleizedValid, is_changed, kept, kept_lists, leaf_total, UnmerkleizedModel, pending_list}
+use Rattle.merkle_batch_theory.specs.Records.{after, records}
+use Rattle.merkle_batch_theory.specs.History.{last_list, IsHistory}
+use Rattle.merkle_batch_theory.specs.Assignment.{IsAssignment, HasLeaves, ReadsAgree, digests_from}
 use Rattle.merkle_batch.proofs.Merkleizing.{list_given}
 use Rattle.merkle_batch_theory.proofs.MapFacts.{no_entry}
 use Rattle.merkle_batch.proofs.MerkleizeFacts.{append_missing, batch_stands, changed_by_leaves, changed_by_updates, finished_linked, is_positive, named_given, named_refused, NamesMissing, none_is_missing, not_changed, of_fields, peak_missing, refresh_missing, same_peaks, some_entry}
@@ -29,7 +29,7 @@ pub returns-in_err-refresh_leaves-clause-refused : goal.returns-in_err-refresh_l
 returns-in_err-refresh_leaves-clause-refused g c =
     let rule = g.F.Family.rule in
     let base = g.B.Base.contents c.args.base.now in
-    let b : Pending g.row.D.Denot = of_fields c.self.inside.parent.value c.self.inside.leaves_before c.self.inside.added.items c.self.inside.updates.entries c.self.inside.forgotten in
+    let b : UnmerkleizedModel g.row.D.Denot = of_fields c.self.inside.parent.value c.self.inside.leaves_before c.self.inside.added.items c.self.inside.updates.entries c.self.inside.forgotten in
     let d0 = c.in_ok-draft.draft in
     let k0 : d0.kept ≡ kept b = c.in_ok-draft.ensures.kept ∙ ap (λ v. drop c.self.inside.forgotten v.ancestors ++ cond (is_changed v.own) (v.own ∷ []) []) c.deref.ensures in
     let gap = c.in_err-refresh_leaves.field-0.0 in
@@ -42,8 +42,8 @@ returns-in_err-refresh_leaves-clause-given g c = λ h ls stands agrees above.
     let rule = g.F.Family.rule in
     let max = g.F.Family.MAX_LEAVES in
     let base = g.B.Base.contents c.args.base.now in
-    let b : Pending g.row.D.Denot = of_fields c.self.inside.parent.value c.self.inside.leaves_before c.self.inside.added.items c.self.inside.updates.entries c.self.inside.forgotten in
-    let pending : IsPending rule max c.args.self.now = subst (IsPending rule max) c.self.view_is c.self.invariant in
+    let b : UnmerkleizedModel g.row.D.Denot = of_fields c.self.inside.parent.value c.self.inside.leaves_before c.self.inside.added.items c.self.inside.updates.entries c.self.inside.forgotten in
+    let pending : IsUnmerkleizedValid rule max c.args.self.now = subst (IsUnmerkleizedValid rule max) c.self.view_is c.self.invariant in
     let d0 = c.in_ok-draft.draft in
     let k0 : d0.kept ≡ kept b = c.in_ok-draft.ensures.kept ∙ ap (λ v. drop c.self.inside.forgotten v.ancestors ++ cond (is_changed v.own) (v.own ∷ []) []) c.deref.ensures in
     let gap = c.in_err-refresh_leaves.field-0.0 in
@@ -58,7 +58,7 @@ returns-in_err-append_leaves-clause-refused g c =
     let rule = g.F.Family.rule in
     let max = g.F.Family.MAX_LEAVES in
     let base = g.B.Base.contents c.args.base.now in
-    let b : Pending g.row.D.Denot = of_fields c.self.inside.parent.value c.self.inside.leaves_before c.self.inside.added.items c.self.inside.updates.entries c.self.inside.forgotten in
+    let b : UnmerkleizedModel g.row.D.Denot = of_fields c.self.inside.parent.value c.self.inside.leaves_before c.self.inside.added.items c.self.inside.updates.entries c.self.inside.forgotten in
     let d0 = c.in_ok-draft.draft in
     let d1 = c.refresh_leaves.new.self in
     let d2 = c.append_leaves.new.self in
@@ -77,8 +77,8 @@ returns-in_err-append_leaves-clause-given g c = λ k ls stands agrees above.
     let rule = g.F.Family.rule in
     let max = g.F.Family.MAX_LEAVES in
     let base = g.B.Base.contents c.args.base.now in
-    let b : Pending g.row.D.Denot = of_fields c.self.inside.parent.value c.self.inside.leaves_before c.self.inside.added.items c.self.inside.updates.entries c.self.inside.forgotten in
-    let pending : IsPending rule max c.args.self.now = subst (IsPending rule max) c.self.view_is c.self.invariant in
+    let b : UnmerkleizedModel g.row.D.Denot = of_fields c.self.inside.parent.value c.self.inside.leaves_before c.self.inside.added.items c.self.inside.updates.entries c.self.inside.forgotten in
+    let pending : IsUnmerkleizedValid rule max c.args.self.now = subst (IsUnmerkleizedValid rule max) c.self.view_is c.self.invariant in
     let d0 = c.in_ok-draft.draft in
     let d1 = c.refresh_leaves.new.self in
     let d2 = c.append_leaves.new.self in
@@ -98,7 +98,7 @@ returns-in_err-read_peaks-clause-refused g c =
     let rule = g.F.Family.rule in
     let max = g.F.Family.MAX_LEAVES in
     let base = g.B.Base.contents c.args.base.now in
-    let b : Pending g.row.D.Denot = of_fields c.self.inside.parent.value c.self.inside.leaves_before c.self.inside.added.items c.self.inside.updates.entries c.self.inside.forgotten in
+    let b : UnmerkleizedModel g.row.D.Denot = of_fields c.self.inside.parent.value c.self.inside.leaves_before c.self.inside.added.items c.self.inside.updates.entries c.self.inside.forgotten in
     let d0 = c.in_ok-draft.draft in
     let d1 = c.refresh_leaves.new.self in
     let d2 = c.append_leaves.new.self in
@@ -122,8 +122,8 @@ returns-in_err-read_peaks-clause-given g c = λ k ls stands agrees above.
     let rule = g.F.Family.rule in
     let max = g.F.Family.MAX_LEAVES in
     let base = g.B.Base.contents c.args.base.now in
-    let b : Pending g.row.D.Denot = of_fields c.self.inside.parent.value c.self.inside.leaves_before c.self.inside.added.items c.self.inside.updates.entries c.self.inside.forgotten in
-    let pending : IsPending rule max c.args.self.now = subst (IsPending rule max) c.self.view_is c.self.invariant in
+    let b : UnmerkleizedModel g.row.D.Denot = of_fields c.self.inside.parent.value c.self.inside.leaves_before c.self.inside.added.items c.self.inside.updates.entries c.self.inside.forgotten in
+    let pending : IsUnmerkleizedValid rule max c.args.self.now = subst (IsUnmerkleizedValid rule max) c.self.view_is c.self.invariant in
     let d0 = c.in_ok-draft.draft in
     let d1 = c.refresh_leaves.new.self in
     let d2 = c.append_leaves.new.self in
@@ -146,7 +146,7 @@ pub finish-requires : goal.finish-requires
 finish-requires g c =
     let rule = g.F.Family.rule in
     let max = g.F.Family.MAX_LEAVES in
-    let b : Pending g.row.D.Denot = of_fields c.self.inside.parent.value c.self.inside.leaves_before c.self.inside.added.items c.self.inside.updates.entries c.self.inside.forgotten in
+    let b : UnmerkleizedModel g.row.D.Denot = of_fields c.self.inside.parent.value c.self.inside.leaves_before c.self.inside.added.items c.self.inside.updates.entries c.self.inside.forgotten in
     let d0 = c.in_ok-draft.draft in
     let d2 = c.append_leaves.new.self in
     let only = c.refresh_leaves.ensures.only in
@@ -154,7 +154,7 @@ finish-requires g c =
     let k0 : d0.kept ≡ kept b = c.in_ok-draft.ensures.kept ∙ ap (λ v. drop c.self.inside.forgotten v.ancestors ++ cond (is_changed v.own) (v.own ∷ []) []) c.deref.ensures in
     let b0 : d0.before ≡ after b.parent.own = c.in_ok-draft.ensures.size ∙ ap (λ v. after v.own) c.deref.ensures in
     let total : c.leaves-leaves.result ≡ leaf_total b = c.leaves-leaves.ensures.count ∙ sym (ap leaf_total c.self.view_is) in
-    let linked : IsLinked rule max b.parent = subst (IsLinked rule max) (c.behind-self.view_is ∙ c.deref-3.ensures) c.behind-self.invariant in
+    let linked : IsBatchValid rule max b.parent = subst (IsBatchValid rule max) (c.behind-self.view_is ∙ c.deref-3.ensures) c.behind-self.invariant in
     let counted : size rule c.leaves-leaves.result ≡ d2.before + length d2.appended = ap (size rule) total ∙ ap (λ xs. size rule (c.self.inside.leaves_before + length xs)) (sym c.deref-2.ensures.value) ∙ sym c.in_ok-append_leaves.ensures.counted in
     let pb = rc_slice_items c.in_ok-peaks_before.peaks_before in
     let pa = rc_slice_items c.if-is_empty.peaks_after in
@@ -166,7 +166,7 @@ finish-requires g c =
       | else-is_empty+in_ok-read_peaks+in_ok-peaks_after-2 w ↦ (let made_of : pa ≡ w.in_ok-read_peaks.field-0.items = ap rc_slice_items w.peaks_after-is ∙ (let s : rc_slice_items w.in_ok-peaks_after-2.peaks_after ≡ w.in_ok-read_peaks.field-0.items = search rules in s) in
           ap length made_of ∙ as_many (old_node d2 (g.B.Base.contents c.args.base.now)) d2.before d2.appended (g.H.Hasher.hashing c.args.hasher.now).empty rule c.leaves-leaves.result w.in_ok-read_peaks.field-0.items w.in_ok-read_peaks.ensures.right)
     ] in
-    subst (λ v. IsLinked rule max (finished v d2 c.leaves-leaves.result pb pa)) (sym c.deref-5.ensures)
+    subst (λ v. IsBatchValid rule max (finished v d2 c.leaves-leaves.result pb pa)) (sym c.deref-5.ensures)
     (finished_linked rule max b c.leaves-leaves.result d2 pb pa linked c.self.invariant.some (more.1 ∙ only.1 ∙ k0) (more.0 ∙ only.0 ∙ b0) (omega (arith, total, c.self.invariant.bounded)) counted many)
 
 pub returns-clause-counted : goal.returns-clause-counted
@@ -186,7 +186,7 @@ returns-clause-complete g c = λ t missing.
     let rule = g.F.Family.rule in
     let max = g.F.Family.MAX_LEAVES in
     let base = g.B.Base.contents c.args.base.now in
-    let b : Pending g.row.D.Denot = of_fields c.self.inside.parent.value c.self.inside.leaves_before c.self.inside.added.items c.self.inside.updates.entries c.self.inside.forgotten in
+    let b : UnmerkleizedModel g.row.D.Denot = of_fields c.self.inside.parent.value c.self.inside.leaves_before c.self.inside.added.items c.self.inside.updates.entries c.self.inside.forgotten in
     let d0 = c.in_ok-draft.draft in
     let d1 = c.refresh_leaves.new.self in
     let d2 = c.append_leaves.new.self in
@@ -210,7 +210,7 @@ returns-clause-stands g c = λ ls stands agrees.
     let rule = g.F.Family.rule in
     let max = g.F.Family.MAX_LEAVES in
     let base = g.B.Base.contents c.args.base.now in
-    let b : Pending g.row.D.Denot = of_fields c.self.inside.parent.value c.self.inside.leaves_before c.self.inside.added.items c.self.inside.updates.entries c.self.inside.forgotten in
+    let b : UnmerkleizedModel g.row.D.Denot = of_fields c.self.inside.parent.value c.self.inside.leaves_before c.self.inside.added.items c.self.inside.updates.entries c.self.inside.forgotten in
     let d0 = c.in_ok-draft.draft in
     let d1 = c.refresh_leaves.new.self in
     let d2 = c.append_leaves.new.self in
@@ -222,9 +222,9 @@ returns-clause-stands g c = λ ls stands agrees.
     let pb = rc_slice_items c.in_ok-peaks_before.peaks_before in
     let pa = rc_slice_items c.if-is_empty.peaks_after in
     let before : pb ≡ b.parent.own.peaks_after = search rules in
-    let right : (truth : ℕ → g.row.D.Denot) → IsTruth h rule max truth → ReadsTrue (old_node d1 base) d1.before truth → LeavesAre truth rule b.leaves_before b.added → d2.appended ≡ truths truth d1.before (length d2.appended) =
-    λ truth it reads are. c.in_ok-append_leaves.ensures.right truth it reads (subst (λ xs. LeavesAre truth rule c.self.inside.leaves_before xs) (sym c.deref-2.ensures.value) are) in
-    let peaks : ((b.added ≡ []) × ((q : ℕ) → get b.overwritten q ≡ None) × (pa ≡ pb)) ⊎ ((truth : ℕ → g.row.D.Denot) → ReadsTrue (old_node d2 base) d2.before truth → d2.appended ≡ truths truth d2.before (length d2.appended) → pa ≡ map truth (peak_positions rule (leaf_total b))) =
+    let right : (truth : ℕ → g.row.D.Denot) → IsAssignment h rule max truth → ReadsAgree (old_node d1 base) d1.before truth → HasLeaves truth rule b.leaves_before b.added → d2.appended ≡ digests_from truth d1.before (length d2.appended) =
+    λ truth it reads are. c.in_ok-append_leaves.ensures.right truth it reads (subst (λ xs. HasLeaves truth rule c.self.inside.leaves_before xs) (sym c.deref-2.ensures.value) are) in
+    let peaks : ((b.added ≡ []) × ((q : ℕ) → get b.overwritten q ≡ None) × (pa ≡ pb)) ⊎ ((truth : ℕ → g.row.D.Denot) → ReadsAgree (old_node d2 base) d2.before truth → d2.appended ≡ digests_from truth d2.before (length d2.appended) → pa ≡ map truth (peak_positions rule (leaf_total b))) =
     elim c.if-is_empty.branch [
       | then-is_empty+then-is_empty-2+in_ok-peaks_after w ↦ (let none : length c.self.inside.added.items ≡ 0 = search rules in
           let same : length c.self.inside.updates.entries ≡ 0 = search rules in
@@ -235,6 +235,6 @@ returns-clause-stands g c = λ ls stands agrees.
           made_of ∙ w.in_ok-read_peaks.ensures.right truth reads made ∙ ap (λ (n : ℕ). map truth (peak_positions rule n)) total))
     ] in
     let made : c.in_ok-finish.field-0.value ≡ finished b.parent d2 c.leaves-leaves.result pb pa = c.in_ok-finish.ensures ∙ ap (λ v. finished v d2 c.leaves-leaves.result pb pa) c.deref-5.ensures in
-    subst (λ v. StandsOn h rule (records v) (kept_lists c.args.self.now ls ++ pending_list rule c.args.self.now (last_list ls) ∷ [])) (sym (made ∙ ap (λ s. finished s.parent d2 c.leaves-leaves.result pb pa) c.self.view_is))
-    (subst (λ s. StandsOn h rule (records s.parent) ls → AgreesWithOne h rule base (kept_lists s ls) → StandsOn h rule (records (finished s.parent d2 c.leaves-leaves.result pb pa)) (kept_lists s ls ++ pending_list rule s (last_list ls) ∷ [])) c.self.view_is
+    subst (λ v. IsHistory h rule (records v) (kept_lists c.args.self.now ls ++ pending_list rule c.args.self.now (last_list ls) ∷ [])) (sym (made ∙ ap (λ s. finished s.parent d2 c.leaves-leaves.result pb pa) c.self.view_is))
+    (subst (λ s. IsHistory h rule (records s.parent) ls → AgreesWithOne h rule base (kept_lists s ls) → IsHistory h rule (records (finished s.parent d2 c.leaves-leaves.result pb pa)) (kept_lists s ls ++ pending_list rule s (last_list ls) ∷ [])) c.self.view_is
     (λ st ag. batch_stands h rule max b c.self.invariant base d0 d1 d2 k0 b0 c.refresh_leaves.ensures.only more c.in_ok-refresh_leaves.ensures.computed c.in_ok-refresh_leaves.ensures.refreshed ls st ag counted right c.leaves-leaves.result pb pa before peaks) stands agrees)

@@ -1,7 +1,7 @@
 use Rattle.std.proofs.Common.{◌≡◌, ℕ, ◌+◌, length, arith, sym, ap, ◌∙◌}
 use Rattle.std.proofs.lemmas.List.{length-map}
 use Rattle.std.specs.Prelude.{min}
-use Rattle.merkle_batch_theory.specs.Pending.{without_ancestors}
+use Rattle.merkle_batch_theory.specs.Unmerkleized.{without_ancestors}
 use Rattle.merkle_batch.proofs.MerkleizeFacts.{of_fields}
 use Rattle.merkle_batch.proofs.batch.UnmerkleizedBatch.forget_ancestors.Goals as goal
 

@@ -2,7 +2,7 @@ use Rattle.std.proofs.Common.{◌≡◌, None, length, arith, ap, ◌∙◌}
 use Rattle.std.specs.Prelude.{is_some}
 use Rattle.std.specs.FinMap.{from_entries, get, get-empty}
 use Rattle.std.specs.Ordering.{nat_cmp}
-use Rattle.merkle_batch_theory.specs.Recorded.{after}
+use Rattle.merkle_batch_theory.specs.Records.{after}
 use Rattle.merkle_batch.proofs.batch.UnmerkleizedBatch.new.Goals as goal
 
 pub invariant_of-result : goal.invariant_of-result

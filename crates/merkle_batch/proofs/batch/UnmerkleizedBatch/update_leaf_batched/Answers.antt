@@ -3,7 +3,7 @@ use Rattle.std.proofs.lemmas.List.{at_drop_all}
 use Rattle.std.specs.Prelude.{nat_le, nat_lt}
 use Rattle.std.specs.Option.{option_or}
 use Rattle.merkle_base.specs.Forest.{size}
-use Rattle.merkle_batch_theory.specs.Pending.{OutOfBounds, Pruned, first_fault, leaf_total, pending_list, update_fault, with_update, with_updates}
+use Rattle.merkle_batch_theory.specs.Unmerkleized.{OutOfBounds, Pruned, first_fault, leaf_total, pending_list, update_fault, with_update, with_updates}
 use Rattle.merkle_batch_theory.specs.Refusals.{fault_error}
 use Rattle.merkle_batch_theory.proofs.PendingUpdates.{fault_next, updates_next, total_kept, parent_kept, updates_list}
 use Rattle.merkle_batch.proofs.batch.UnmerkleizedBatch.update_leaf_batched.Goals as goal

@@ -1,5 +1,5 @@
 use Rattle.std.proofs.Common.{◌≡◌, None, drop}
-use Rattle.merkle_batch_theory.specs.Pending.{first_fault, with_updates, leaf_total}
+use Rattle.merkle_batch_theory.specs.Unmerkleized.{first_fault, with_updates, leaf_total}
 use Rattle.merkle_batch.proofs.batch.UnmerkleizedBatch.update_leaf_batched.Given as goal
 
 -- the locations that are left have the first fault of all

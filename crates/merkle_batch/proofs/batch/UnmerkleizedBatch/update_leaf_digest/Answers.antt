@@ -3,7 +3,7 @@ use Rattle.std.specs.FinMap.{from_entries, insert}
 use Rattle.std.specs.Ordering.{nat_cmp}
 use Rattle.merkle_base.specs.Forest.{size}
 use Rattle.merkle_hasher.proofs.Comparisons.{lt_yes, lt_no}
-use Rattle.merkle_batch_theory.specs.Pending.{Pending, with_update, pending_list}
+use Rattle.merkle_batch_theory.specs.Unmerkleized.{UnmerkleizedModel, with_update, pending_list}
 use Rattle.merkle_batch_theory.proofs.PendingUpdates.{entries_inserted, old_kept, over_old, over_new, updated_old, updated_new, update_list}
 use Rattle.merkle_batch.proofs.batch.UnmerkleizedBatch.update_leaf_digest.Goals.{then-lt+in_ok-insert, else-lt}
 use Rattle.merkle_batch.proofs.batch.UnmerkleizedBatch.update_leaf_digest.Goals as goal
@@ -23,7 +23,7 @@ pub returns-clause-updated : goal.returns-clause-updated
 returns-clause-updated g c =
     let rule = g.F.Family.rule in
     let old = from_entries {R = nat_cmp} c.self.inside.updates.entries in
-    let before : Pending g.row.D.Denot = record { parent = c.self.inside.parent.value; leaves_before = c.self.inside.leaves_before; added = c.self.inside.added.items; overwritten = old; forgotten = c.self.inside.forgotten } in
+    let before : UnmerkleizedModel g.row.D.Denot = record { parent = c.self.inside.parent.value; leaves_before = c.self.inside.leaves_before; added = c.self.inside.added.items; overwritten = old; forgotten = c.self.inside.forgotten } in
     elim c.if-lt.branch [
       | then-lt+in_ok-insert w ↦ (let less : c.args.location < c.self.inside.leaves_before = lt_yes c.args.location c.self.inside.leaves_before (sym c.lt.ensures ∙ w.if-lt.true) in
           let put : from_entries {R = nat_cmp} w.insert.new.self.entries ≡ insert old (size rule c.args.location) c.args.digest =

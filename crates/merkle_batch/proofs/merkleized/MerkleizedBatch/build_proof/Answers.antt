@@ -1,8 +1,8 @@
 use Rattle.std.proofs.Common.{rules, ◌≡◌}
 use Rattle.std.proofs.lemmas.Result.{IfErr-weaker}
 use Rattle.merkle_batch_theory.specs.Read.{read_over}
-use Rattle.merkle_batch_theory.specs.Recorded.{records}
-use Rattle.merkle_batch_theory.specs.Stands.{last_list}
+use Rattle.merkle_batch_theory.specs.Records.{records}
+use Rattle.merkle_batch_theory.specs.History.{last_list}
 use Rattle.merkle_batch.proofs.BatchReads.{read_answers}
 use Rattle.merkle_proof.proofs.RefusedProofs.{refused_by}
 use Rattle.merkle_batch.proofs.merkleized.MerkleizedBatch.build_proof.Goals as goal

@@ -1,5 +1,5 @@
 use Rattle.std.proofs.Common.{◌≡◌, [], ◌∷◌, ◌++◌, cond, drop, map, IfOk, ap, ◌∙◌, subst}
-use Rattle.merkle_batch_theory.specs.Pending.{is_changed}
+use Rattle.merkle_batch_theory.specs.Unmerkleized.{is_changed}
 use Rattle.merkle_draft.proofs.KeptRecords.{map_from}
 use Rattle.merkle_batch.proofs.merkleized.MerkleizedBatch.draft.Goals as goal
 

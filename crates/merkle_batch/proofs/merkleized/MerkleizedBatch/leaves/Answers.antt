@@ -1,5 +1,5 @@
 use Rattle.std.proofs.Common.{ap, ◌∙◌}
-use Rattle.merkle_batch_theory.specs.Recorded.{after}
+use Rattle.merkle_batch_theory.specs.Records.{after}
 use Rattle.merkle_batch.proofs.merkleized.MerkleizedBatch.leaves.Goals as goal
 
 pub returns-clause-count : goal.returns-clause-count

@@ -3,8 +3,8 @@ use Rattle.std.proofs.lemmas.Bool.{false≢true}
 use Rattle.std.proofs.lemmas.Result.{IfErr-weaker, IfOk-weaker}
 use Rattle.merkle_base.proofs.Limits.{lawful_leaves}
 use Rattle.merkle_batch_theory.specs.Read.{read_over}
-use Rattle.merkle_batch_theory.specs.Recorded.{records}
-use Rattle.merkle_batch_theory.specs.Stands.{last_list}
+use Rattle.merkle_batch_theory.specs.Records.{records}
+use Rattle.merkle_batch_theory.specs.History.{last_list}
 use Rattle.merkle_batch.proofs.KeptReads.{only_memory}
 use Rattle.merkle_batch.proofs.BatchReads.{boundary_within, read_where_kept, leaves_of_last}
 use Rattle.merkle_proof.proofs.FewDigests.{built_few}

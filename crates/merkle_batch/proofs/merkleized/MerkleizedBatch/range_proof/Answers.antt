@@ -1,8 +1,8 @@
 use Rattle.std.proofs.Common.{◌≡◌, ℕ, length, arith, ap, sym, ◌∙◌, inl, inr, subst}
 use Rattle.std.proofs.lemmas.Result.{IfErr-weaker, IfOk-weaker}
 use Rattle.merkle_batch_theory.specs.Read.{read_over}
-use Rattle.merkle_batch_theory.specs.Recorded.{records}
-use Rattle.merkle_batch_theory.specs.Stands.{last_list}
+use Rattle.merkle_batch_theory.specs.Records.{records}
+use Rattle.merkle_batch_theory.specs.History.{last_list}
 use Rattle.merkle_batch.proofs.KeptReads.{only_memory}
 use Rattle.merkle_batch.proofs.BatchReads.{boundary_within, read_where_kept, leaves_of_last}
 use Rattle.merkle_proof.proofs.RefusedProofs.{is_memory, range_planned}

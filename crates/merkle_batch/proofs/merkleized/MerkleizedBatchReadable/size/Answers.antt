@@ -1,4 +1,4 @@
-use Rattle.merkle_batch_theory.proofs.Shown.{chain_shows}
+use Rattle.merkle_batch_theory.proofs.ShownLists.{chain_shows}
 use Rattle.merkle_batch.proofs.merkleized.MerkleizedBatchReadable.size.Goals as goal
 
 pub returns-clause-shows : goal.returns-clause-shows

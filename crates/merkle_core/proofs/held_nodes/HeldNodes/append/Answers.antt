@@ -2,7 +2,7 @@ use Rattle.std.proofs.Common.{◌≡◌, ℕ, ◌-◌, cond, ap, ◌∙◌, subs
 use Rattle.std.specs.Prelude.{nat_lt, slice_get}
 use Rattle.std.specs.FinMap.{get}
 use Rattle.merkle_batch_theory.specs.Held.{Held}
-use Rattle.merkle_batch_theory.specs.Store.{stored_of}
+use Rattle.merkle_batch_theory.specs.MemModel.{stored_of}
 use Rattle.merkle_batch_theory.proofs.HeldNodes.{append_reads}
 use Rattle.merkle_core.proofs.held_nodes.HeldNodes.append.Goals as goal
 

@@ -1,6 +1,6 @@
 use Rattle.std.proofs.Common.{rules, ◌≡◌, ◌∙◌, ap}
 use Rattle.merkle_batch_theory.specs.Held.{Held}
-use Rattle.merkle_batch_theory.specs.Store.{stored_of}
+use Rattle.merkle_batch_theory.specs.MemModel.{stored_of}
 use Rattle.merkle_core.proofs.held_nodes.HeldNodes.clone.Goals as goal
 
 pub returns-clause-start : goal.returns-clause-start

@@ -3,7 +3,7 @@ use Rattle.std.specs.Prelude.{nat_lt}
 use Rattle.std.specs.FinMap.{get}
 use Rattle.std.specs.Map.{lookup}
 use Rattle.merkle_batch_theory.specs.Held.{Held}
-use Rattle.merkle_batch_theory.specs.Store.{stored_of}
+use Rattle.merkle_batch_theory.specs.MemModel.{stored_of}
 use Rattle.merkle_batch_theory.proofs.HeldNodes.{drop_reads}
 use Rattle.merkle_core.proofs.held_nodes.HeldNodes.drop_before.Goals as goal
 

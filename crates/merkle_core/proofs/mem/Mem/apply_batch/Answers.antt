@@ -3,11 +3,11 @@ use Rattle.std.specs.FinMap.{get}
 use Rattle.merkle_base.proofs.Nodes.{size_inj}
 use Rattle.merkle_batch_theory.specs.Contents.{held_peaks}
 use Rattle.merkle_batch_theory.specs.Held.{held_contents}
-use Rattle.merkle_batch_theory.specs.Linked.{IsLinked}
-use Rattle.merkle_batch_theory.specs.Recorded.{Recorded}
-use Rattle.merkle_batch_theory.specs.Replay.{all_laid, applied, laid, matched}
-use Rattle.merkle_batch_theory.specs.Store.{contents}
-use Rattle.merkle_batch_theory.specs.Whole.{IsKept}
+use Rattle.merkle_batch_theory.specs.BatchValid.{IsBatchValid}
+use Rattle.merkle_batch_theory.specs.Records.{RecordModel}
+use Rattle.merkle_batch_theory.specs.Replay.{with_records, applied, with_record, matched}
+use Rattle.merkle_batch_theory.specs.MemModel.{contents}
+use Rattle.merkle_batch_theory.specs.MemValid.{IsMemValid}
 use Rattle.merkle_batch_theory.proofs.Applied.{applied_at}
 use Rattle.merkle_batch_theory.proofs.Runs.{some_kept, total_laid, kept_after, applied_after}
 use Rattle.merkle_core.proofs.mem.Mem.apply_batch.Goals as goal
@@ -17,7 +17,7 @@ sub-added-requires g c =
     let rule = g.F.Family.rule in
     let most = g.F.Family.MAX_LEAVES in
     let same = g.D.PartialEq.eq in
-    let linked = subst (IsLinked rule most) c.batch.view_is c.batch.invariant in
+    let linked = subst (IsBatchValid rule most) c.batch.view_is c.batch.invariant in
     let m : matched same c.size.result c.front.result.now c.args.batch.now ≡ Some c.in-Some.first = sym c.find_state.ensures ∙ c.in-Some.is in
     omega (arith, total_laid rule most same c.args.batch.now linked (λ r. r.value) c.batch.inside.ancestors.items (ap (λ b. b.ancestors) c.batch.view_is) c.size.result c.in-Some.first c.front.result.now m, c.size.ensures, c.size-2.ensures, c.size-3.ensures)
 
@@ -26,7 +26,7 @@ slice_bounds-lay_all-count g c =
     let rule = g.F.Family.rule in
     let most = g.F.Family.MAX_LEAVES in
     let same = g.D.PartialEq.eq in
-    let linked = subst (IsLinked rule most) c.batch.view_is c.batch.invariant in
+    let linked = subst (IsBatchValid rule most) c.batch.view_is c.batch.invariant in
     let m : matched same c.size.result c.front.result.now c.args.batch.now ≡ Some c.in-Some.first = sym c.find_state.ensures ∙ c.in-Some.is in
     some_kept rule most same c.args.batch.now linked (λ r. r.value) c.deref.result.now (ap (map (λ r. r.value)) c.deref.ensures.value ∙ ap (λ b. b.ancestors) c.batch.view_is) c.size.result c.in-Some.first c.front.result.now m
 
@@ -35,7 +35,7 @@ offset_bounds-deref-first g c =
     let rule = g.F.Family.rule in
     let most = g.F.Family.MAX_LEAVES in
     let same = g.D.PartialEq.eq in
-    let linked = subst (IsLinked rule most) c.batch.view_is c.batch.invariant in
+    let linked = subst (IsBatchValid rule most) c.batch.view_is c.batch.invariant in
     let m : matched same c.size.result c.front.result.now c.args.batch.now ≡ Some c.in-Some.first = sym c.find_state.ensures ∙ c.in-Some.is in
     let k : c.in-Some.first ≤ length c.deref.result.now = some_kept rule most same c.args.batch.now linked (λ r. r.value) c.deref.result.now (ap (map (λ r. r.value)) c.deref.ensures.value ∙ ap (λ b. b.ancestors) c.batch.view_is) c.size.result c.in-Some.first c.front.result.now m in
     search rules
@@ -45,7 +45,7 @@ slice_bounds-lay_all-start g c =
     let rule = g.F.Family.rule in
     let most = g.F.Family.MAX_LEAVES in
     let same = g.D.PartialEq.eq in
-    let linked = subst (IsLinked rule most) c.batch.view_is c.batch.invariant in
+    let linked = subst (IsBatchValid rule most) c.batch.view_is c.batch.invariant in
     let m : matched same c.size.result c.front.result.now c.args.batch.now ≡ Some c.in-Some.first = sym c.find_state.ensures ∙ c.in-Some.is in
     let k : c.in-Some.first ≤ length c.deref.result.now = some_kept rule most same c.args.batch.now linked (λ r. r.value) c.deref.result.now (ap (map (λ r. r.value)) c.deref.ensures.value ∙ ap (λ b. b.ancestors) c.batch.view_is) c.size.result c.in-Some.first c.front.result.now m in
     search rules
@@ -55,7 +55,7 @@ lay_all-requires g c =
     let rule = g.F.Family.rule in
     let most = g.F.Family.MAX_LEAVES in
     let same = g.D.PartialEq.eq in
-    let linked = subst (IsLinked rule most) c.batch.view_is c.batch.invariant in
+    let linked = subst (IsBatchValid rule most) c.batch.view_is c.batch.invariant in
     let m : matched same c.size.result c.front.result.now c.args.batch.now ≡ Some c.in-Some.first = sym c.find_state.ensures ∙ c.in-Some.is in
     omega (arith, total_laid rule most same c.args.batch.now linked (λ r. r.value) c.deref.result.now (ap (map (λ r. r.value)) c.deref.ensures.value ∙ ap (λ b. b.ancestors) c.batch.view_is) c.size.result c.in-Some.first c.front.result.now m, c.in_ok-reserve.ensures.room, c.reserve.ensures.size, ap (λ s. s.size) c.self.view_is, c.as_u64.ensures, c.sub-added.ensures, c.size.ensures, c.size-2.ensures, c.size-3.ensures)
 
@@ -64,36 +64,36 @@ lay-requires g c =
     let rule = g.F.Family.rule in
     let most = g.F.Family.MAX_LEAVES in
     let same = g.D.PartialEq.eq in
-    let linked = subst (IsLinked rule most) c.batch.view_is c.batch.invariant in
+    let linked = subst (IsBatchValid rule most) c.batch.view_is c.batch.invariant in
     let m : matched same c.size.result c.front.result.now c.args.batch.now ≡ Some c.in-Some.first = sym c.find_state.ensures ∙ c.in-Some.is in
     let own : c.deref-own.result.now ≡ c.args.batch.now.own = c.deref-own.ensures ∙ ap (λ b. b.own) c.batch.view_is in
-    omega (arith, total_laid rule most same c.args.batch.now linked (λ r. r.value) c.deref.result.now (ap (map (λ r. r.value)) c.deref.ensures.value ∙ ap (λ b. b.ancestors) c.batch.view_is) c.size.result c.in-Some.first c.front.result.now m, c.in_ok-reserve.ensures.room, c.reserve.ensures.size, ap (λ s. s.size) c.self.view_is, ap (λ (r : Recorded _). length r.appended) own, c.lay_all.ensures.capacity, c.lay_all.ensures.size, c.as_u64.ensures, c.sub-added.ensures, c.size.ensures, c.size-2.ensures, c.size-3.ensures)
+    omega (arith, total_laid rule most same c.args.batch.now linked (λ r. r.value) c.deref.result.now (ap (map (λ r. r.value)) c.deref.ensures.value ∙ ap (λ b. b.ancestors) c.batch.view_is) c.size.result c.in-Some.first c.front.result.now m, c.in_ok-reserve.ensures.room, c.reserve.ensures.size, ap (λ s. s.size) c.self.view_is, ap (λ (r : RecordModel _). length r.appended) own, c.lay_all.ensures.capacity, c.lay_all.ensures.size, c.as_u64.ensures, c.sub-added.ensures, c.size.ensures, c.size-2.ensures, c.size-3.ensures)
 
 pub invariant_of-self-2 : goal.invariant_of-self-2
 invariant_of-self-2 g c =
     let rule = g.F.Family.rule in
     let most = g.F.Family.MAX_LEAVES in
     let same = g.D.PartialEq.eq in
-    let linked = subst (IsLinked rule most) c.batch.view_is c.batch.invariant in
+    let linked = subst (IsBatchValid rule most) c.batch.view_is c.batch.invariant in
     let m : matched same c.size.result c.front.result.now c.args.batch.now ≡ Some c.in-Some.first = sym c.find_state.ensures ∙ c.in-Some.is in
     let own : c.deref-own.result.now ≡ c.args.batch.now.own = c.deref-own.ensures ∙ ap (λ b. b.own) c.batch.view_is in
     let i = c.self.inside in
     let changes = map (λ r. r.value) (take (length c.deref.result.now - c.in-Some.first) (drop c.in-Some.first c.deref.result.now)) in
     let reserved : held_contents i.boundary c.reserve.new.self ≡ held_contents i.boundary i.held = λ j. record { boundary = i.boundary; size = c.reserve.ensures.size j; node = get (c.reserve.ensures.stored j) } in
-    subst (λ n. IsKept rule most i.boundary n c.lay.new.held) (sym (ap (λ b. b.leaves) c.batch.view_is))
+    subst (λ n. IsMemValid rule most i.boundary n c.lay.new.held) (sym (ap (λ b. b.leaves) c.batch.view_is))
     (kept_after rule most same c.args.batch.now linked (λ r. r.value) c.deref.result.now (ap (map (λ r. r.value)) c.deref.ensures.value ∙ ap (λ b. b.ancestors) c.batch.view_is) c.size.result c.in-Some.first c.front.result.now m
     i.boundary i.leaves i.held c.lay_all.new.held c.lay.new.held c.self.invariant (c.size.ensures ∙ sym (ap (λ s. s.size) c.self.view_is))
     (c.lay.ensures.start ∙ c.lay_all.ensures.start ∙ c.reserve.ensures.start)
-    (omega (arith, c.lay_all.ensures.size, c.reserve.ensures.size)) (c.lay.ensures.size ∙ ap (λ (r : Recorded _). c.lay_all.new.held.size + length r.appended) own)
-    (c.lay_all.ensures.laid i.boundary ∙ ap (all_laid changes) reserved)
-    (c.lay.ensures.laid i.boundary ∙ ap (λ r. laid r (held_contents i.boundary c.lay_all.new.held)) own))
+    (omega (arith, c.lay_all.ensures.size, c.reserve.ensures.size)) (c.lay.ensures.size ∙ ap (λ (r : RecordModel _). c.lay_all.new.held.size + length r.appended) own)
+    (c.lay_all.ensures.laid i.boundary ∙ ap (with_records changes) reserved)
+    (c.lay.ensures.laid i.boundary ∙ ap (λ r. with_record r (held_contents i.boundary c.lay_all.new.held)) own))
 
 pub returns-clause-done : goal.returns-clause-done
 returns-clause-done g c =
     let rule = g.F.Family.rule in
     let most = g.F.Family.MAX_LEAVES in
     let same = g.D.PartialEq.eq in
-    let linked = subst (IsLinked rule most) c.batch.view_is c.batch.invariant in
+    let linked = subst (IsBatchValid rule most) c.batch.view_is c.batch.invariant in
     let m : matched same c.size.result c.front.result.now c.args.batch.now ≡ Some c.in-Some.first = sym c.find_state.ensures ∙ c.in-Some.is in
     let own : c.deref-own.result.now ≡ c.args.batch.now.own = c.deref-own.ensures ∙ ap (λ b. b.own) c.batch.view_is in
     let i = c.self.inside in
@@ -104,8 +104,8 @@ returns-clause-done g c =
     (λ j. record { boundary = i.boundary; size = c.reserve.ensures.size j; node = get (c.reserve.ensures.stored j) }) ∙ ap contents c.self.view_is in
     applied_after rule most same c.args.batch.now linked (λ r. r.value) c.deref.result.now (ap (map (λ r. r.value)) c.deref.ensures.value ∙ ap (λ b. b.ancestors) c.batch.view_is) c.size.result c.in-Some.first c.front.result.now m
     c.args.self.now.leaves (contents c.args.self.now) (held_contents i.boundary c.lay_all.new.held) (held_contents i.boundary c.lay.new.held)
-    (c.lay_all.ensures.laid i.boundary ∙ ap (all_laid changes) reserved)
-    (c.lay.ensures.laid i.boundary ∙ ap (λ r. laid r (held_contents i.boundary c.lay_all.new.held)) own) at
+    (c.lay_all.ensures.laid i.boundary ∙ ap (with_records changes) reserved)
+    (c.lay.ensures.laid i.boundary ∙ ap (λ r. with_record r (held_contents i.boundary c.lay_all.new.held)) own) at
 
 pub returns-clause-counted : goal.returns-clause-counted
 returns-clause-counted g c = ap (λ b. b.leaves) c.batch.view_is

@@ -1,6 +1,6 @@
 use Rattle.std.proofs.Common.{rules, ◌≡◌}
 use Rattle.std.proofs.lemmas.Result.{IfErr-weaker}
-use Rattle.merkle_batch_theory.specs.Store.{node, contents}
+use Rattle.merkle_batch_theory.specs.MemModel.{node, contents}
 use Rattle.merkle_core.proofs.HonestReads.{answers_list}
 use Rattle.merkle_proof.proofs.RefusedProofs.{refused_by}
 use Rattle.merkle_core.proofs.mem.Mem.build_proof.Goals as goal

@@ -4,7 +4,7 @@ use Rattle.merkle_base.specs.Forest.{size}
 use Rattle.merkle_base.specs.Places.{peak_positions}
 use Rattle.std.specs.List.{zip}
 use Rattle.merkle_batch_theory.specs.Contents.{Agrees}
-use Rattle.merkle_batch_theory.specs.Store.{Store, contents, stored_of}
+use Rattle.merkle_batch_theory.specs.MemModel.{MemModel, contents, stored_of}
 use Rattle.merkle_batch_theory.proofs.HeldNodes.{kept_counted}
 use Rattle.merkle_batch_theory.proofs.HeldWhere.{made_held}
 use Rattle.merkle_batch_theory.proofs.HonestComponents.{honest_agrees}
@@ -45,5 +45,5 @@ returns-in-Ok-pair_pins-clause-agrees g c = λ h X of.
     let made : c.in-Ok-pair_pins.pins.items ≡ zip (peak_positions rule b) pins = search rules in
     let sized : held.size ≡ size rule b + length nodes = omega (arith, c.from_parts.ensures.size, c.in-Ok.ensures.start) in
     let stored : held.stored ≡ stored_of (zip (peak_positions rule b) pins) (size rule b) nodes = c.from_parts.ensures.stored ∙ (λ j. stored_of (made j) (c.in-Ok.ensures.start j) nodes) in
-    subst (λ (s : Store _). Agrees h rule (contents s) X) (λ j. record { boundary = b; leaves = c.in-Ok.extent.1; size = sym sized j; stored = sym stored j })
+    subst (λ (s : MemModel _). Agrees h rule (contents s) X) (λ j. record { boundary = b; leaves = c.in-Ok.extent.1; size = sym sized j; stored = sym stored j })
     (honest_agrees h rule X b c.in-Ok.extent.1 pins nodes of)

@@ -1,7 +1,7 @@
 use Rattle.std.proofs.Common.{ap, ◌∙◌}
 use Rattle.std.specs.Prelude.{is_some, nat_lt, ◌&&◌}
 use Rattle.merkle_batch_theory.specs.Contents.{is_kept}
-use Rattle.merkle_batch_theory.specs.Store.{node}
+use Rattle.merkle_batch_theory.specs.MemModel.{node}
 use Rattle.merkle_core.proofs.mem.Mem.get_node.Goals as goal
 
 pub returns-clause-node : goal.returns-clause-node

@@ -7,7 +7,7 @@ use Rattle.merkle_batch_theory.specs.Contents.{Agrees}
 use Rattle.merkle_batch_theory.specs.Held.{held_contents}
 use Rattle.merkle_batch_theory.proofs.HeldNodes.{kept_counted, contents_none}
 use Rattle.merkle_batch_theory.proofs.HeldWhere.{nothing_held}
-use Rattle.merkle_batch_theory.proofs.Shown.{agrees_empty}
+use Rattle.merkle_batch_theory.proofs.ShownLists.{agrees_empty}
 use Rattle.merkle_core.proofs.mem.Mem.new.Goals as goal
 
 pub invariant_of-result : goal.invariant_of-result

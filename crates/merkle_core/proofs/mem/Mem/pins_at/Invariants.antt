@@ -1,7 +1,7 @@
 use Rattle.std.proofs.Common.{◌≡◌, ◌++◌}
 use Rattle.merkle_base.specs.Places.{peak_positions}
 use Rattle.merkle_batch_theory.specs.HeldPeaks.{pins_of}
-use Rattle.merkle_batch_theory.specs.Store.{contents}
+use Rattle.merkle_batch_theory.specs.MemModel.{contents}
 use Rattle.merkle_core.proofs.mem.Mem.pins_at.Given as goal
 
 abbrev pub invariant-loop-position : goal.invariant-loop-position

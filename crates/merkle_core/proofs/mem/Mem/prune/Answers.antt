@@ -1,7 +1,7 @@
 use Rattle.std.proofs.Common.{rules, ◌≡◌, ◌<◌, ◌≤◌, length, arith, ap, sym, ◌∙◌, subst}
 use Rattle.merkle_base.proofs.Nodes.{size_inj}
 use Rattle.merkle_batch_theory.specs.Contents.{Agrees}
-use Rattle.merkle_batch_theory.specs.Store.{contents}
+use Rattle.merkle_batch_theory.specs.MemModel.{contents}
 use Rattle.merkle_batch_theory.proofs.Agreed.{agree_pruned}
 use Rattle.merkle_core.proofs.mem.Mem.prune.Goals as goal
 

@@ -7,7 +7,7 @@ use Rattle.merkle_base.proofs.Nodes.{size_le}
 use Rattle.merkle_batch_theory.specs.Contents.{HoldsKept, pruned}
 use Rattle.merkle_batch_theory.specs.Held.{held_contents}
 use Rattle.merkle_batch_theory.specs.HeldPeaks.{pins_of}
-use Rattle.merkle_batch_theory.specs.Store.{contents}
+use Rattle.merkle_batch_theory.specs.MemModel.{contents}
 use Rattle.merkle_batch_theory.proofs.HeldWhere.{pruned_held}
 use Rattle.merkle_batch_theory.proofs.PinFacts.{pins_before, pruned_contents}
 use Rattle.merkle_core.proofs.mem.Mem.prune_to.Goals as goal

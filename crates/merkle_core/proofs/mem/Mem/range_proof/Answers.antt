@@ -1,7 +1,7 @@
 use Rattle.std.proofs.Common.{◌≡◌, ℕ, length, arith, ap, sym, ◌∙◌, inl, inr, subst}
 use Rattle.std.proofs.lemmas.Result.{IfErr-weaker, IfOk-weaker}
 use Rattle.merkle_base.proofs.Nodes.{size_inj}
-use Rattle.merkle_batch_theory.specs.Store.{node, contents}
+use Rattle.merkle_batch_theory.specs.MemModel.{node, contents}
 use Rattle.merkle_batch.proofs.KeptReads.{only_memory}
 use Rattle.merkle_core.proofs.HonestReads.{answered_kept}
 use Rattle.merkle_proof.proofs.RefusedProofs.{is_memory, range_planned}

@@ -6,7 +6,7 @@ use Rattle.merkle_base.specs.Places.{peaks_of}
 use Rattle.merkle_base.specs.Digests.{peak_digests}
 use Rattle.merkle_base.specs.Root.{peaks_root}
 use Rattle.merkle_batch_theory.specs.Contents.{Agrees, held_peaks}
-use Rattle.merkle_batch_theory.specs.Store.{Store, contents}
+use Rattle.merkle_batch_theory.specs.MemModel.{MemModel, contents}
 use Rattle.merkle_batch_theory.proofs.Accepted.{peaks_agree}
 use Rattle.merkle_base.proofs.Nodes.{size_inj}
 use Rattle.merkle_core.proofs.mem.Mem.root.Goals as goal
@@ -30,7 +30,7 @@ returns-clause-err g c = λ many.
     c.root.ensures.err (omega (arith, count, many)) ∙ ap (λ (n : ℕ). Err (InvalidInactivePeaks c.args.inactive n)) count
 
 -- the list that the structure agrees with has its number of leaves
-listed_length : {D : Type 0} (h : Hashing D) (rule : List ℕ → List ℕ) (s : Store D) (X : List D) (leaves : ℕ) → Agrees h rule (contents s) X → leaves ≡ s.leaves → size rule leaves ≡ s.size → s.leaves ≡ length X
+listed_length : {D : Type 0} (h : Hashing D) (rule : List ℕ → List ℕ) (s : MemModel D) (X : List D) (leaves : ℕ) → Agrees h rule (contents s) X → leaves ≡ s.leaves → size rule leaves ≡ s.size → s.leaves ≡ length X
 listed_length h rule s X leaves agrees same sized = sym same ∙ size_inj rule leaves (length X) (sized ∙ agrees.sized)
 
 pub returns-clause-listed : goal.returns-clause-listed

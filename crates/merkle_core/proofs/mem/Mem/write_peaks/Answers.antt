@@ -6,7 +6,7 @@ use Rattle.merkle_batch_theory.specs.HeldPeaks.{held_at}
 use Rattle.merkle_base.specs.Tree.{position}
 use Rattle.merkle_batch_theory.specs.Contents.{held_peaks}
 use Rattle.merkle_batch_theory.specs.Held.{held_contents}
-use Rattle.merkle_batch_theory.specs.Store.{Store, contents}
+use Rattle.merkle_batch_theory.specs.MemModel.{MemModel, contents}
 use Rattle.merkle_batch_theory.proofs.HeldNodes.{counted_nodes}
 use Rattle.merkle_batch_theory.proofs.HeldWhere.{many_held}
 use Rattle.merkle_core.proofs.mem.Mem.write_peaks.Goals as goal
@@ -39,4 +39,4 @@ returns-clause-many g c =
     let kept = c.self.invariant in
     let many : length (held_peaks rule i.leaves (held_contents i.boundary i.held)) ≡ length (peaks_of rule i.leaves) =
     many_held rule (held_contents i.boundary i.held) i.leaves kept.holds kept.within (sym kept.counted.sized) ∙ length-map (peaks_of rule i.leaves) position in
-    subst (λ (s : Store _). length (held_peaks rule s.leaves (contents s)) ≡ length (peaks_of rule s.leaves)) c.self.view_is many
+    subst (λ (s : MemModel _). length (held_peaks rule s.leaves (contents s)) ≡ length (peaks_of rule s.leaves)) c.self.view_is many

@@ -1,6 +1,6 @@
 use Rattle.std.proofs.Common.{◌≡◌, ◌+◌, ◌≤◌, ◌++◌, map, take, length}
 use Rattle.merkle_batch_theory.specs.Contents.{held_peaks}
-use Rattle.merkle_batch_theory.specs.Store.{contents}
+use Rattle.merkle_batch_theory.specs.MemModel.{contents}
 use Rattle.merkle_batch_theory.specs.HeldPeaks.{held_at}
 use Rattle.merkle_core.proofs.mem.Mem.write_peaks.Given as goal
 

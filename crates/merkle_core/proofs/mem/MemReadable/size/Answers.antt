@@ -1,5 +1,5 @@
-use Rattle.merkle_batch_theory.specs.Store.{contents}
-use Rattle.merkle_batch_theory.proofs.Shown.{agrees_shows}
+use Rattle.merkle_batch_theory.specs.MemModel.{contents}
+use Rattle.merkle_batch_theory.proofs.ShownLists.{agrees_shows}
 use Rattle.merkle_core.proofs.mem.MemReadable.size.Goals as goal
 
 pub returns-clause-shows : goal.returns-clause-shows

@@ -4,7 +4,7 @@ use Rattle.std.proofs.lemmas.Result.{err_from_is_err_and}
 use Rattle.merkle_draft.specs.DraftReads.{below}
 use Rattle.merkle_hasher.proofs.Spans.{heights_same, ends_low}
 use Rattle.merkle_hasher.proofs.NodeSteps.{inner_node, lower}
-use Rattle.merkle_draft.proofs.Befores.{before_within}
+use Rattle.merkle_draft.proofs.CountBefore.{before_within}
 use Rattle.merkle_draft.proofs.Refreshing.{on_ok_always, same_below, alone_digest, alone_computed, alone_missing, leaf_digest, leaf_computed, missing_left, missing_right, inner_digest, inner_computed}
 use Rattle.merkle_draft.proofs.draft.Draft.+refresh.Goals as goal
 

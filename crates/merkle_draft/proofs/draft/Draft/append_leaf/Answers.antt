@@ -6,10 +6,10 @@ use Rattle.merkle_base.proofs.Nodes.{size_le}
 use Rattle.merkle_base.proofs.Parents.{parent_there, parents_fit}
 use Rattle.merkle_draft.specs.Drafts.{AreChildrenRead, LacksChild}
 use Rattle.merkle_draft.specs.DraftReads.{old_node}
-use Rattle.merkle_batch_theory.specs.Truth.{ReadsTrue, truths}
+use Rattle.merkle_batch_theory.specs.Assignment.{ReadsAgree, digests_from}
 use Rattle.merkle_draft.proofs.ChildReads.{lacks_more, read_leaf, read_more}
 use Rattle.merkle_draft.proofs.DraftFacts.{same_old_node}
-use Rattle.merkle_batch_theory.proofs.TruthFacts.{truths_more}
+use Rattle.merkle_batch_theory.proofs.AssignmentFacts.{digests_from_more}
 use Rattle.merkle_draft.proofs.draft.Draft.append_leaf.Goals as goal
 
 pub loop-height-init : goal.loop-height-init
@@ -26,7 +26,7 @@ loop-height-init g c =
       ([], ap g.F.ParentHeights.Listed.left c.into_iter-height-iterator.ensures.into_iter_gives ∙ c.parent_heights-height-items.ensures, omega (arith, end)),
       subst (λ (q : ℕ). AreChildrenRead rule g.F.Family.MAX_LEAVES (size rule c.args.leaf) q c.args.self.now.before (old_node c.args.self.now (g.B.Base.contents c.args.base.now))) (sym end)
           (read_leaf rule g.F.Family.MAX_LEAVES c.args.leaf c.args.self.now.before (old_node c.args.self.now (g.B.Base.contents c.args.base.now))),
-      λ truth it reads is same. items ∙ truths_more truth c.args.self.now.before old c.args.digest same (is ∙ ap truth (sym c.requires.counted)) ∙ ap (λ xs. truths truth c.args.self.now.before (length xs)) (sym items),
+      λ truth it reads is same. items ∙ digests_from_more truth c.args.self.now.before old c.args.digest same (is ∙ ap truth (sym c.requires.counted)) ∙ ap (λ xs. digests_from truth c.args.self.now.before (length xs)) (sym items),
     )
 
 pub append_parent-requires-clause-small : goal.append_parent-requires-clause-small
@@ -76,9 +76,9 @@ loop-height-preserved g c =
       read_more rule max (size rule c.args.leaf) (self.before + length self.appended) (new.before + length new.appended) start.before (old_node start base) c.loop-height.invariant.4 now,
       λ truth it true is same.
           (let before = c.loop-height.invariant.5 truth it true is same in
-          let mine : ReadsTrue (old_node self base) self.before truth = subst (λ f. ReadsTrue f self.before truth) (sym reads) (subst (λ (q : ℕ). ReadsTrue (old_node start base) q truth) (sym only.0) true) in
-          let made = c.in_ok-append_parent.ensures.right truth it mine (before ∙ ap (λ (q : ℕ). truths truth q (length self.appended)) (sym only.0)) in
-          made ∙ ap (λ (q : ℕ). truths truth q (length new.appended)) only.0),
+          let mine : ReadsAgree (old_node self base) self.before truth = subst (λ f. ReadsAgree f self.before truth) (sym reads) (subst (λ (q : ℕ). ReadsAgree (old_node start base) q truth) (sym only.0) true) in
+          let made = c.in_ok-append_parent.ensures.right truth it mine (before ∙ ap (λ (q : ℕ). digests_from truth q (length self.appended)) (sym only.0)) in
+          made ∙ ap (λ (q : ℕ). digests_from truth q (length new.appended)) only.0),
     )
 
 pub returns-in_err-append_parent-clause-only : goal.returns-in_err-append_parent-clause-only

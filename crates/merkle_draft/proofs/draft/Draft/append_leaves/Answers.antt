@@ -6,7 +6,7 @@ use Rattle.merkle_base.proofs.Limits.{lawful_leaves}
 use Rattle.merkle_base.proofs.Nodes.{size_le}
 use Rattle.merkle_draft.specs.Drafts.{AreChildrenRead, LacksChild}
 use Rattle.merkle_draft.specs.DraftReads.{old_node}
-use Rattle.merkle_batch_theory.specs.Truth.{ReadsTrue, truths}
+use Rattle.merkle_batch_theory.specs.Assignment.{ReadsAgree, digests_from}
 use Rattle.merkle_draft.proofs.ChildReads.{lacks_more, read_more, read_none}
 use Rattle.merkle_draft.proofs.DraftFacts.{same_old_node}
 use Rattle.merkle_draft.proofs.draft.Draft.append_leaves.Goals as goal
@@ -21,7 +21,7 @@ loop-digest-init g c =
       omega (arith, none, c.requires.sized),
       subst (λ (q : ℕ). AreChildrenRead rule g.F.Family.MAX_LEAVES start.before q start.before (old_node start (g.B.Base.contents c.args.base.now))) (sym c.requires.sized)
           (read_none rule g.F.Family.MAX_LEAVES start.before start.before (old_node start (g.B.Base.contents c.args.base.now))),
-      λ truth it true are. c.requires.nothing ∙ ap (λ (n : ℕ). truths truth start.before n) (sym none),
+      λ truth it true are. c.requires.nothing ∙ ap (λ (n : ℕ). digests_from truth start.before n) (sym none),
     )
 
 pub append_leaf-requires-clause-below : goal.append_leaf-requires-clause-below
@@ -58,10 +58,10 @@ loop-digest-preserved g c =
       c.in_ok-append_leaf.ensures.counted ∙ ap (size rule) (sym next),
       read_more rule max start.before (size rule c.loop-digest.leaf) (size rule c.add_assign.new.self) start.before (old_node start base) c.loop-digest.invariant.3 now,
       λ truth it true are.
-          (let mine : ReadsTrue (old_node self base) self.before truth = subst (λ f. ReadsTrue f self.before truth) (sym reads) (subst (λ (q : ℕ). ReadsTrue (old_node start base) q truth) (sym only.0) true) in
+          (let mine : ReadsAgree (old_node self base) self.before truth = subst (λ f. ReadsAgree f self.before truth) (sym reads) (subst (λ (q : ℕ). ReadsAgree (old_node start base) q truth) (sym only.0) true) in
           let before = c.loop-digest.invariant.4 truth it true are in
-          c.in_ok-append_leaf.ensures.right truth it mine (are i digest there ∙ ap (λ (n : ℕ). truth (size rule n)) (sym c.loop-digest.invariant.0)) (before ∙ ap (λ (q : ℕ). truths truth q (length self.appended)) (sym only.0))
-          ∙ ap (λ (q : ℕ). truths truth q (length new.appended)) only.0),
+          c.in_ok-append_leaf.ensures.right truth it mine (are i digest there ∙ ap (λ (n : ℕ). truth (size rule n)) (sym c.loop-digest.invariant.0)) (before ∙ ap (λ (q : ℕ). digests_from truth q (length self.appended)) (sym only.0))
+          ∙ ap (λ (q : ℕ). digests_from truth q (length new.appended)) only.0),
     )
 
 pub returns-in_err-append_leaf-clause-only : goal.returns-in_err-append_leaf-clause-only

@@ -3,10 +3,10 @@ use Rattle.std.proofs.lemmas.Result.{err_from_is_err_and}
 use Rattle.merkle_base.specs.Places.{HasInner}
 use Rattle.merkle_draft.specs.Drafts.{AreChildrenRead, LacksChild}
 use Rattle.merkle_draft.specs.DraftReads.{old_node}
-use Rattle.merkle_batch_theory.specs.Truth.{truths}
+use Rattle.merkle_batch_theory.specs.Assignment.{digests_from}
 use Rattle.merkle_draft.proofs.ChildReads.{lacks_child, read_join}
-use Rattle.merkle_draft.proofs.GapFacts.{gap_below}
-use Rattle.merkle_batch_theory.proofs.TruthFacts.{truths_more, truth_joined, children_before}
+use Rattle.merkle_draft.proofs.NodeErrorFacts.{gap_below}
+use Rattle.merkle_batch_theory.proofs.AssignmentFacts.{digests_from_more, truth_joined, children_before}
 use Rattle.merkle_draft.proofs.draft.Draft.append_parent.Goals as goal
 
 pub children-left-requires : goal.children-left-requires
@@ -67,4 +67,4 @@ returns-clause-right g c = λ truth it reads same.
     let made : c.node_digest.result ≡ truth (before + length items) =
     c.node_digest.ensures ∙ ap (λ d. h.node c.size-position.result d c.in_ok-right.right) l ∙ ap (λ d. h.node c.size-position.result (truth c.children-left.result.0) d) r
     ∙ sym (truth_joined h rule truth max it c.size-position.result c.args.height c.children-left.result.0 c.children-left.result.1 inner c.children-left.ensures) ∙ ap truth c.size-position.ensures in
-    c.in_ok-push.ensures.pushed ∙ truths_more truth before items c.node_digest.result same made ∙ ap (λ xs. truths truth before (length xs)) (sym c.in_ok-push.ensures.pushed)
+    c.in_ok-push.ensures.pushed ∙ digests_from_more truth before items c.node_digest.result same made ∙ ap (λ xs. digests_from truth before (length xs)) (sym c.in_ok-push.ensures.pushed)

@@ -1,6 +1,6 @@
 use Rattle.std.proofs.Common.{◌≡◌, true, false, sym, ap, ◌∙◌}
 use Rattle.std.specs.Prelude.{not}
-use Rattle.merkle_batch_theory.specs.Pending.{is_changed}
+use Rattle.merkle_batch_theory.specs.Unmerkleized.{is_changed}
 use Rattle.merkle_draft.proofs.KeptRecords.{taken_over, with_own, without_own}
 use Rattle.merkle_draft.proofs.draft.Draft.new.Goals.{then-not-is_empty+in_ok-clone-2+in_ok-push-2, else-not-is_empty}
 use Rattle.merkle_draft.proofs.draft.Draft.new.Goals as goal

@@ -3,8 +3,8 @@ use Rattle.std.specs.FinMap.{get}
 use Rattle.std.specs.Option.{option_or}
 use Rattle.merkle_draft.specs.DraftReads.{below}
 use Rattle.merkle_batch_theory.proofs.Stored.{get_reads}
-use Rattle.merkle_draft.proofs.GapFacts.{if_found}
-use Rattle.merkle_batch_theory.proofs.TruthFacts.{truths_get}
+use Rattle.merkle_draft.proofs.NodeErrorFacts.{if_found}
+use Rattle.merkle_batch_theory.proofs.AssignmentFacts.{digests_from_get}
 use Rattle.merkle_draft.proofs.draft.Draft.read_node.Goals as goal
 use Rattle.merkle_draft.proofs.draft.Draft.read_node.Goals.{then-lt+in-Some, then-lt+in-None, else-lt}
 
@@ -26,5 +26,5 @@ returns-clause-right g c = if_found c.ok_or.result c.if-lt.found _ c.ok_or.ensur
           let items : c.self.inside.appended.items ≡ c.args.self.now.appended = ap (λ (r : _). r.appended) c.self.view_is in
           let got : slice_get c.args.self.now.appended w.as_u64.result ≡ Some d =
           ap (λ xs. slice_get xs w.as_u64.result) (sym items ∙ sym w.deref.ensures.value) ∙ sym (get_reads w.deref.result.now w.as_u64.result w.get-else-lt.result w.get-else-lt.ensures.lookup) ∙ sym w.copied-found.ensures ∙ sym w.found-is ∙ found in
-          truths_get truth start (length c.args.self.now.appended) w.as_u64.result d (sym (ap (λ xs. slice_get xs w.as_u64.result) same) ∙ got) ∙ ap truth index)
+          digests_from_get truth start (length c.args.self.now.appended) w.as_u64.result d (sym (ap (λ xs. slice_get xs w.as_u64.result) same) ∙ got) ∙ ap truth index)
     ])

@@ -3,7 +3,7 @@ use Rattle.std.proofs.lemmas.Result.{err_from_is_err_and}
 use Rattle.merkle_base.specs.Places.{peaks_of, placed}
 use Rattle.merkle_base.proofs.PeakLists.{first-placed}
 use Rattle.merkle_draft.specs.DraftReads.{IsPeakGap, old_node}
-use Rattle.merkle_draft.proofs.GapFacts.{gap_below, listed_below}
+use Rattle.merkle_draft.proofs.NodeErrorFacts.{gap_below, listed_below}
 use Rattle.merkle_draft.proofs.PeakReads.{all_read, first_more, first_none, peak_lacks}
 use Rattle.merkle_draft.proofs.draft.Draft.read_peaks.Goals as goal
 

@@ -3,7 +3,7 @@ use Rattle.std.specs.FinMap.{from_entries}
 use Rattle.merkle_batch_theory.specs.Read.{read_over}
 use Rattle.merkle_draft.specs.DraftReads.{below}
 use Rattle.merkle_draft.proofs.ChangedLeaves.{entries_moved, map_moved, entries_all}
-use Rattle.merkle_draft.proofs.RefreshedLeaves.{leaves_computed, leaves_refreshed, leaves_missing}
+use Rattle.merkle_draft.proofs.DirtyLeaves.{leaves_computed, leaves_refreshed, leaves_missing}
 use Rattle.merkle_draft.proofs.draft.Draft.refresh_leaves.Goals as goal
 
 pub loop-position-preserved : goal.loop-position-preserved

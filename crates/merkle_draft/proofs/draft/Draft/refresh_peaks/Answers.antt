@@ -1,9 +1,9 @@
 use Rattle.std.proofs.Common.{ℕ, arith, sym, ap, ◌∙◌, refl, subst}
 use Rattle.std.proofs.lemmas.Result.{err_from_is_err_and}
 use Rattle.merkle_draft.specs.DraftReads.{below}
-use Rattle.merkle_draft.proofs.Befores.{before_within}
+use Rattle.merkle_draft.proofs.CountBefore.{before_within}
 use Rattle.merkle_draft.proofs.Refreshing.{same_below}
-use Rattle.merkle_draft.proofs.RefreshedPeaks.{Refreshing, zero_yes, zero_no, peaks_begin, peaks_next, end_within, peak_skipped, peak_refreshed, peak_lacks, walk_computed, walk_refreshed}
+use Rattle.merkle_draft.proofs.DirtyPeaks.{Refreshing, zero_yes, zero_no, peaks_begin, peaks_next, end_within, peak_skipped, peak_refreshed, peak_lacks, walk_computed, walk_refreshed}
 use Rattle.merkle_draft.proofs.draft.Draft.refresh_peaks.Goals as goal
 
 pub loop-position-init : goal.loop-position-init

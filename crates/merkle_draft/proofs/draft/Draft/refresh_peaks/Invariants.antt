@@ -1,5 +1,5 @@
 use Rattle.merkle_draft.specs.DraftReads.{below, OnlyOverwrites}
-use Rattle.merkle_draft.proofs.RefreshedPeaks.{Refreshing}
+use Rattle.merkle_draft.proofs.DirtyPeaks.{Refreshing}
 use Rattle.merkle_draft.proofs.draft.Draft.refresh_peaks.Given as goal
 
 abbrev pub invariant-loop-position : goal.invariant-loop-position

@@ -1,6 +1,6 @@
 use Rattle.std.proofs.Common.{arith, sym, subst, ℕ, ◌-◌}
 use Rattle.merkle_base.specs.Tree.{join}
-use Rattle.merkle_hasher.specs.Subtrees.{Stands}
+use Rattle.merkle_hasher.specs.Subtrees.{IsNodeOf}
 use Rattle.merkle_hasher.proofs.Spans.{is_small, end_fits, left_stands, children_stand}
 use Rattle.merkle_hasher.proofs.subtree.Subtree.children.Goals as goal
 
@@ -15,4 +15,4 @@ add-requires g c =
 pub returns : goal.returns
 returns g c = λ p a b w.
     let d = children_stand _ _ _ g.met.F.Family.lawful _ _ _ p _ _ a b w c.children-left.ensures in
-    (d.0, subst (λ (x : ℕ). Stands g.F.Family.rule g.F.Family.MAX_LEAVES c.children-left.result.1 (c.args.self.now.height - 1) x b) (sym c.add.ensures) d.1)
+    (d.0, subst (λ (x : ℕ). IsNodeOf g.F.Family.rule g.F.Family.MAX_LEAVES c.children-left.result.1 (c.args.self.now.height - 1) x b) (sym c.add.ensures) d.1)

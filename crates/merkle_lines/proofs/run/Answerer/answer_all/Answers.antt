@@ -1,8 +1,8 @@
 use Rattle.std.proofs.Common.{◌<◌, ◌++◌, [], None, length, take, arith, subst, sym, ◌∙◌}
 use Rattle.std.proofs.lemmas.Result.{on_ok_weaker}
 use Rattle.std.specs.Io.KnownBytes.{Appends, Consumes}
-use Rattle.merkle_lines.specs.Tells.{Tells}
-use Rattle.merkle_lines.specs.Transcript.{Leads}
+use Rattle.merkle_lines.specs.HoldsState.{HoldsState}
+use Rattle.merkle_lines.specs.Transcript.{ContinuesTo}
 use Rattle.merkle_lines.proofs.Transcripts.{appends_then, consumes_all, consumes_kept, consumes_then, leads_all, leads_then}
 use Rattle.merkle_lines.proofs.run.Answerer.answer_all.Goals as goal
 use Rattle.merkle_lines.proofs.run.Answerer.answer_all.Goals.{in-Ok+in_ok-take-in-Ok, in-Err+else-ne}
@@ -39,19 +39,19 @@ loop-preserved g c =
             _,
             i.2 ++ t.1,
             t.0,
-            subst (λ a. Tells a.session t.0) (sym w.self-is) t.2,
+            subst (λ a. HoldsState a.session t.0) (sym w.self-is) t.2,
             consumes_then _ _ _ i.1 _ i.5 w.in-Ok.ensures.bytes.0,
             subst (λ x. Appends held (g.W.Write.contents x) (i.2 ++ t.1)) (sym w.writer-is) (appends_then _ _ _ i.2 t.1 i.6 t.3),
-            subst (λ a. Leads None [] (i.1 ++ take w.in-Ok.count c.read.new.buf) (i.2 ++ t.1) t.0 a.line.items) (sym w.self-is) (leads_then None i.3 t.0 [] c.loop.self.line.items w.take.new.self.line.items i.1 _ i.2 t.1 i.7 t.4),
+            subst (λ a. ContinuesTo None [] (i.1 ++ take w.in-Ok.count c.read.new.buf) (i.2 ++ t.1) t.0 a.line.items) (sym w.self-is) (leads_then None i.3 t.0 [] c.loop.self.line.items w.take.new.self.line.items i.1 _ i.2 t.1 i.7 t.4),
           ))
       | in-Err+else-ne w ↦ (
         c.read.auto.buf ∙ i.0,
         i.1,
         i.2,
         i.3,
-        subst (λ a. Tells a.session i.3) (sym w.self-is) i.4,
+        subst (λ a. HoldsState a.session i.3) (sym w.self-is) i.4,
         consumes_kept _ _ _ i.1 i.5 w.in-Err.ensures.bytes,
         subst (λ x. Appends held (g.W.Write.contents x) i.2) (sym w.writer-is) i.6,
-        subst (λ a. Leads None [] i.1 i.2 i.3 a.line.items) (sym w.self-is) i.7,
+        subst (λ a. ContinuesTo None [] i.1 i.2 i.3 a.line.items) (sym w.self-is) i.7,
       )
     ]

@@ -1,6 +1,6 @@
 use Rattle.std.proofs.Common.{◌<◌, ◌++◌, length, take, arith, refl, subst, sym}
 use Rattle.std.proofs.lemmas.Grind.{take_at_read}
-use Rattle.merkle_lines.specs.Transcript.{Leads}
+use Rattle.merkle_lines.specs.Transcript.{ContinuesTo}
 use Rattle.merkle_lines.proofs.Transcripts.{appends_then, leads_then}
 use Rattle.merkle_lines.proofs.run.Answerer.take.Goals as goal
 
@@ -21,6 +21,6 @@ loop-byte-preserved g c =
             w.1 ++ s.1,
             s.2,
             appends_then _ _ _ w.1 s.1 w.3 s.3,
-            subst (λ bs. Leads told begun bs (w.1 ++ s.1) s.0 next) (sym (take_at_read bytes i 0 within).1) (leads_then told w.0 s.0 begun c.loop-byte.self.line.items next (take i bytes) _ w.1 s.1 w.4 s.4),
+            subst (λ bs. ContinuesTo told begun bs (w.1 ++ s.1) s.0 next) (sym (take_at_read bytes i 0 within).1) (leads_then told w.0 s.0 begun c.loop-byte.self.line.items next (take i bytes) _ w.1 s.1 w.4 s.4),
           ),
     )

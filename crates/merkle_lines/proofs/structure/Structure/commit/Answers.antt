@@ -8,12 +8,12 @@ use Rattle.merkle_base.specs.Forest.{size}
 use Rattle.merkle_base.specs.declared.error.Error.TheVariants.{OutOfMemory}
 use Rattle.merkle_batch_theory.specs.Contents.{held_peaks}
 use Rattle.merkle_batch_theory.specs.Replay.{applied, matched}
-use Rattle.merkle_batch_theory.specs.Store.{contents}
-use Rattle.merkle_batch_theory.specs.Pending.{kept_lists, pending_list}
-use Rattle.merkle_batch_theory.specs.Recorded.{Chain, records}
-use Rattle.merkle_batch_theory.specs.Stands.{StandsOn}
+use Rattle.merkle_batch_theory.specs.MemModel.{contents}
+use Rattle.merkle_batch_theory.specs.Unmerkleized.{kept_lists, pending_list}
+use Rattle.merkle_batch_theory.specs.Records.{MerkleizedModel, records}
+use Rattle.merkle_batch_theory.specs.History.{IsHistory}
 use Rattle.merkle_lines.specs.Answers.{error_line}
-use Rattle.merkle_lines.specs.Given.{all_committed, changes, without_changes}
+use Rattle.merkle_lines.specs.StructureState.{all_committed, changes, without_changes}
 use Rattle.merkle_lines.specs.Held.{IsHeld, Makes}
 use Rattle.merkle_lines.proofs.Commits.{held_lost, lost_held}
 use Rattle.merkle_lines.proofs.Holdings.{held_all, held_without, list_count}
@@ -58,10 +58,10 @@ returns-in-Err-apply_batch-clause-answered g c = λ given held.
     let same : new.committed ≡ old.committed = c.take_pending.ensures.kept in
     let held-new : IsHeld h rule most new.committed old.pending given = subst (λ x. IsHeld h rule most x old.pending given) (sym same) held in
     let list : List g.row.H-Digest.Denot = leaf_digests h rule 0 given.committed in
-    let chain : Chain g.row.H-Digest.Denot = c.deref.result.now in
+    let chain : MerkleizedModel g.row.H-Digest.Denot = c.deref.result.now in
     let is : chain ≡ c.in-Ok-merkleize.value.value = c.deref.ensures in
-    let stands : StandsOn h rule (records chain) (kept_lists c.in-Ok.value (list ∷ list ∷ []) ++ pending_list rule c.in-Ok.value list ∷ []) =
-    subst (λ k. StandsOn h rule (records k) (kept_lists c.in-Ok.value (list ∷ list ∷ []) ++ pending_list rule c.in-Ok.value list ∷ [])) (sym is)
+    let stands : IsHistory h rule (records chain) (kept_lists c.in-Ok.value (list ∷ list ∷ []) ++ pending_list rule c.in-Ok.value list ∷ []) =
+    subst (λ k. IsHistory h rule (records k) (kept_lists c.in-Ok.value (list ∷ list ∷ []) ++ pending_list rule c.in-Ok.value list ∷ [])) (sym is)
     (c.in-Ok-merkleize.ensures.stands (list ∷ list ∷ []) (made_stands h rule list c.in-Ok.value (changes given) makes) (made_base h rule list c.in-Ok.value (changes given) makes new.committed held-new.agrees)) in
     let counted : new.committed.leaves ≡ length list = list_count h rule most new.committed old.pending given held-new in
     let memory : c.in-Err-apply_batch.error ≡ OutOfMemory =
@@ -84,17 +84,17 @@ returns-clause-answered g c = λ given held.
     let same : new.committed ≡ old.committed = c.take_pending.ensures.kept in
     let held-new : IsHeld h rule most new.committed old.pending given = subst (λ x. IsHeld h rule most x old.pending given) (sym same) held in
     let list : List g.row.H-Digest.Denot = leaf_digests h rule 0 given.committed in
-    let chain : Chain g.row.H-Digest.Denot = c.deref.result.now in
+    let chain : MerkleizedModel g.row.H-Digest.Denot = c.deref.result.now in
     let is : chain ≡ c.in-Ok-merkleize.value.value = c.deref.ensures in
-    let stands : StandsOn h rule (records chain) (kept_lists c.in-Ok.value (list ∷ list ∷ []) ++ pending_list rule c.in-Ok.value list ∷ []) =
-    subst (λ k. StandsOn h rule (records k) (kept_lists c.in-Ok.value (list ∷ list ∷ []) ++ pending_list rule c.in-Ok.value list ∷ [])) (sym is)
+    let stands : IsHistory h rule (records chain) (kept_lists c.in-Ok.value (list ∷ list ∷ []) ++ pending_list rule c.in-Ok.value list ∷ []) =
+    subst (λ k. IsHistory h rule (records k) (kept_lists c.in-Ok.value (list ∷ list ∷ []) ++ pending_list rule c.in-Ok.value list ∷ [])) (sym is)
     (c.in-Ok-merkleize.ensures.stands (list ∷ list ∷ []) (made_stands h rule list c.in-Ok.value (changes given) makes) (made_base h rule list c.in-Ok.value (changes given) makes new.committed held-new.agrees)) in
     let counted : new.committed.leaves ≡ length list = list_count h rule most new.committed old.pending given held-new in
     let next = c.apply_batch.new.self in
-    let done = made_applied h rule list c.in-Ok.value (changes given) makes new.committed held-new.agrees chain stands (contents next) (ap (λ (k : Chain g.row.H-Digest.Denot). k.ancestors) is ∙ c.in-Ok-merkleize.ensures.fork.2)
+    let done = made_applied h rule list c.in-Ok.value (changes given) makes new.committed held-new.agrees chain stands (contents next) (ap (λ (k : MerkleizedModel g.row.H-Digest.Denot). k.ancestors) is ∙ c.in-Ok-merkleize.ensures.fork.2)
     (subst (λ n. applied h.same rule n chain (contents new.committed) ≡ Ok (contents next)) counted c.in-Ok-apply_batch.ensures.done) in
     let leaves : next.leaves ≡ length (changes given).elements =
-    c.in-Ok-apply_batch.ensures.counted ∙ ap (λ (k : Chain g.row.H-Digest.Denot). k.leaves) is ∙ c.in-Ok-merkleize.ensures.counted.0 ∙ made_total h rule list c.in-Ok.value (changes given) makes in
+    c.in-Ok-apply_batch.ensures.counted ∙ ap (λ (k : MerkleizedModel g.row.H-Digest.Denot). k.leaves) is ∙ c.in-Ok-merkleize.ensures.counted.0 ∙ made_total h rule list c.in-Ok.value (changes given) makes in
     let none = lost_held h rule most new.committed old.pending given held-new c.in-Ok.value makes c.in-Ok-merkleize.ensures.complete in (
       all_committed given,
       held_all h rule most new.committed old.pending given held-new next _ c.take_pending.ensures.gone leaves (omega (arith, c.leaves.ensures.count, c.leaves.ensures.bounded)) done.0 done.1,

@@ -3,7 +3,7 @@ use Rattle.std.specs.String.{string_bytes}
 use Rattle.hex.specs.Hex.{encode_lower}
 use Rattle.merkle_base.specs.Hashing.{Hashing}
 use Rattle.merkle_base.specs.Scheme.{scheme_of}
-use Rattle.merkle_batch_theory.specs.Store.{node}
+use Rattle.merkle_batch_theory.specs.MemModel.{node}
 use Rattle.merkle_codec.specs.ProofSpelling.{parts_spelling, proof_spelling}
 use Rattle.merkle_hasher.specs.Standard.{standard}
 use Rattle.merkle_range.specs.Input.{leaf_digests}

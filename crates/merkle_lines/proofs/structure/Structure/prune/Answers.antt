@@ -4,9 +4,9 @@ use Rattle.merkle_base.specs.Scheme.{scheme_of}
 use Rattle.merkle_hasher.specs.Standard.{standard}
 use Rattle.std.proofs.lemmas.Bool.{cases_lt}
 use Rattle.merkle_batch_theory.specs.Contents.{pruned}
-use Rattle.merkle_batch_theory.specs.Store.{contents}
+use Rattle.merkle_batch_theory.specs.MemModel.{contents}
 use Rattle.merkle_lines.specs.Answers.{error_line}
-use Rattle.merkle_lines.specs.Given.{count, pruned_to}
+use Rattle.merkle_lines.specs.StructureState.{count, pruned_to}
 use Rattle.merkle_lines.specs.Held.{IsHeld}
 use Rattle.merkle_lines.proofs.Holdings.{held_pruned}
 use Rattle.merkle_lines.proofs.Replies.{prune_done, prune_out, wanting}

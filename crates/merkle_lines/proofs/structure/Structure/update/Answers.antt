@@ -4,9 +4,9 @@ use Rattle.merkle_base.specs.Scheme.{scheme_of}
 use Rattle.merkle_hasher.specs.Standard.{standard}
 use Rattle.merkle_range.specs.Input.{leaf_digests}
 use Rattle.merkle_base.specs.Forest.{size}
-use Rattle.merkle_batch_theory.specs.Pending as pending
+use Rattle.merkle_batch_theory.specs.Unmerkleized as pending
 use Rattle.merkle_lines.specs.Answers.{error_line}
-use Rattle.merkle_lines.specs.Given.{changes, count, with_changes, with_update, without_changes}
+use Rattle.merkle_lines.specs.StructureState.{changes, count, with_changes, with_update, without_changes}
 use Rattle.merkle_lines.specs.Held.{Makes}
 use Rattle.merkle_lines.proofs.Holdings.{held_with, held_without}
 use Rattle.merkle_lines.proofs.Making.{makes_update}

@@ -3,7 +3,7 @@ use Rattle.std.specs.List.{AllByRecursion}
 use Rattle.std.proofs.lemmas.Result.{IfOk-weaker}
 use Rattle.merkle_base.specs.declared.error.Error.TheVariants.{OutOfMemory}
 use Rattle.merkle_root_theory.specs.Extract.{extracted, IsNodePair}
-use Rattle.merkle_root_theory.specs.Range.{AcceptsSome, RangeCollides}
+use Rattle.merkle_root_theory.specs.Range.{AcceptsNonempty, RangeCollides}
 use Rattle.merkle_root_theory.specs.Reconstruction.{reconstructed}
 use Rattle.merkle_root_theory.specs.Walk.{bytes_of}
 use Rattle.merkle_root_theory.proofs.Extraction.{extracts_nodes, extracted-no_leaves}
@@ -35,7 +35,7 @@ returns-clause-nodes g c =
     let kept = sound _ _ _ _ (g.met.H.Hasher.over_digest c.args.hasher.now) s (g.H.Hasher.bagging_of c.args.hasher.now) g.F.Family.rule g.F.Family.MAX_LEAVES g.F.Family.MAX_NODES g.F.Family.DOMAIN g.D.Digest.SIZE (g.met.H.Hasher.scheme_is c.args.hasher.now) d.eq_decides g.D.Digest.Spells d.nonempty d.bytes_spell d.one_length d.bytes_decide g.met.F.Family.lawful in
     IfOk-weaker c.verify_and_extract.result _ _ (λ pairs w xs k l m is.
     let right : AllByRecursion (IsNodePair s xs) (extracted s r) ⊎ RangeCollides s r xs k = elim ((leads_is_accepted s r c.args.root.now).0 w.0) [
-      | inl a ↦ extracts_nodes s _ _ kept xs k l m r (subst (AcceptsSome s r) (sym (roots_agree s xs k ∙ is)) a)
+      | inl a ↦ extracts_nodes s _ _ kept xs k l m r (subst (AcceptsNonempty s r) (sym (roots_agree s xs k ∙ is)) a)
       | inr a ↦ inl (subst (AllByRecursion (IsNodePair s xs)) (sym (extracted-no_leaves s r a.0.leaves)) tt)
     ] in
     subst (λ ps. AllByRecursion (IsNodePair s xs) ps ⊎ RangeCollides s r xs k) (sym w.1) right) (returns-clause-ok g c)

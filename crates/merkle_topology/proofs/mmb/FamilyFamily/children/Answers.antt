@@ -3,18 +3,18 @@ use Rattle.std.proofs.lemmas.Nat.{one_shl}
 use Rattle.merkle_base.specs.Forest.{size}
 use Rattle.merkle_base.specs.Places.{HasInner}
 use Rattle.merkle_base.proofs.Limits.{lawful_position}
-use Rattle.merkle_forest_theory.specs.Mmb.{newest_pair}
+use Rattle.merkle_forest_theory.specs.Mmb.{mmb_merges}
 use Rattle.merkle_forest_theory.proofs.BeltLawful.{mmb_lawful}
 use Rattle.merkle_topology.proofs.BeltNodes.{mmb_inner, IsInner}
 use Rattle.merkle_topology.proofs.mmb.FamilyFamily.children.Goals as goal
 
-inner : (p h nodes birth : ℕ) → HasInner newest_pair 4611686018427387934 p h → nodes ≡ p → birth ≤ 4611686018427387934 → size newest_pair birth ≤ nodes → nodes < size newest_pair (birth + 1) → IsInner p h birth
+inner : (p h nodes birth : ℕ) → HasInner mmb_merges 4611686018427387934 p h → nodes ≡ p → birth ≤ 4611686018427387934 → size mmb_merges birth ≤ nodes → nodes < size mmb_merges (birth + 1) → IsInner p h birth
 inner p h nodes birth k e small a b = mmb_inner p h birth k small (omega arith) (omega arith)
 
 pub leaf_count_by_log-birth-requires : goal.leaf_count_by_log-birth-requires
 leaf_count_by_log-birth-requires c =
     let k = c.requires in
-    omega (arith, c.as_u64.ensures, lawful_position newest_pair 4611686018427387934 9223372036854775806 mmb_lawful k.0 c.args.position k.1 k.2 k.3)
+    omega (arith, c.as_u64.ensures, lawful_position mmb_merges 4611686018427387934 9223372036854775806 mmb_lawful k.0 c.args.position k.1 k.2 k.3)
 
 pub overflow_shl-first : goal.overflow_shl-first
 overflow_shl-first c =

@@ -1,6 +1,6 @@
 use Rattle.std.proofs.Common.{◌+◌, arith, ap, sym, ◌∙◌, subst}
 use Rattle.merkle_base.specs.Places.{IsHeightAt}
-use Rattle.merkle_forest_theory.specs.Mmb.{newest_pair}
+use Rattle.merkle_forest_theory.specs.Mmb.{mmb_merges}
 use Rattle.merkle_topology.proofs.BeltNodes.{mmb_leaf_height, mmb_parent_height}
 use Rattle.merkle_topology.proofs.mmb.FamilyFamily.pos_to_height.Goals as goal
 
@@ -12,5 +12,5 @@ pub returns-else-node_count-nodes : goal.returns-else-node_count-nodes
 returns-else-node_count-nodes c =
     let k = c.leaf_count_by_log-birth.ensures in
     let e = ap (λ n. n + 1) (sym c.trailing_ones.ensures) in
-    subst (IsHeightAt newest_pair c.args.position) e
+    subst (IsHeightAt mmb_merges c.args.position) e
     (mmb_parent_height c.leaf_count_by_log-birth.result c.args.position k.limit (omega (arith, k.within, c.as_u64-nodes.ensures)) (λ q. c.if-node_count-nodes.false (c.node_count.ensures ∙ q ∙ sym c.as_u64-nodes.ensures)) (omega (arith, k.greatest, c.as_u64-nodes.ensures)))

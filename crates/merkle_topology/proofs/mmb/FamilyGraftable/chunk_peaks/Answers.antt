@@ -3,7 +3,7 @@ use Rattle.merkle_base.specs.Places.{placed}
 use Rattle.merkle_base.specs.Grafting.{nodes_inside, stretch_nodes}
 use Rattle.merkle_base.proofs.Nodes.{size_inj, size_le}
 use Rattle.merkle_base.proofs.Chunks.{nodes_inside_stretch}
-use Rattle.merkle_forest_theory.specs.Mmb.{newest_pair, root_position, belt_birth}
+use Rattle.merkle_forest_theory.specs.Mmb.{mmb_merges, mmb_position, mmb_birth_leaf_count}
 use Rattle.merkle_forest_theory.proofs.Coordinates.{mmb_coordinates}
 use Rattle.merkle_forest_theory.proofs.MountainBelt.{mmb_equal}
 use Rattle.merkle_forest_theory.proofs.BeltLawful.{mmb_lawful}
@@ -12,7 +12,7 @@ use Rattle.merkle_topology.proofs.ChunkNumbers.{chunk_within}
 use Rattle.merkle_topology.proofs.mmb.FamilyGraftable.chunk_peaks.Goals as goal
 
 pub leaf_count_by_log-requires : goal.leaf_count_by_log-requires
-leaf_count_by_log-requires c = let k = c.requires in omega (arith, c.as_u64.ensures, size_le newest_pair k.0 4611686018427387934 k.1, k.2, mmb_lawful.full)
+leaf_count_by_log-requires c = let k = c.requires in omega (arith, c.as_u64.ensures, size_le mmb_merges k.0 4611686018427387934 k.1, k.2, mmb_lawful.full)
 
 pub overflow_shl-result : goal.overflow_shl-result
 overflow_shl-result c = let k = c.requires in omega (arith, (chunk_within k.0 c.args.chunk_idx c.args.grafting_height (omega (arith, k.1)) k.3).low)
@@ -22,7 +22,7 @@ invariant_of-result c =
     let k = c.requires in
     let w = chunk_within k.0 c.args.chunk_idx c.args.grafting_height (omega (arith, k.1)) k.3 in
     let f = c.leaf_count_by_log.ensures in
-    let found = size_only newest_pair c.leaf_count_by_log.result k.0 c.as_u64.result f.within f.greatest (k.2 ∙ sym c.as_u64.ensures) in
+    let found = size_only mmb_merges c.leaf_count_by_log.result k.0 c.as_u64.result f.within f.greatest (k.2 ∙ sym c.as_u64.ensures) in
     (f.limit, (rw (w.first) (omega (arith, w.end, found)), tt))
 
 pub returns : goal.returns
@@ -32,10 +32,10 @@ returns c = λ n l e.
     let k = c.requires in
     let w = chunk_within k.0 i h (omega (arith, k.1)) k.3 in
     let f = c.leaf_count_by_log.ensures in
-    let found = size_only newest_pair c.leaf_count_by_log.result n c.as_u64.result f.within f.greatest (e ∙ sym c.as_u64.ensures) in
-    let same : n ≡ k.0 = size_inj newest_pair n k.0 (e ∙ sym k.2) in
+    let found = size_only mmb_merges c.leaf_count_by_log.result n c.as_u64.result f.within f.greatest (e ∙ sym c.as_u64.ensures) in
+    let same : n ≡ k.0 = size_inj mmb_merges n k.0 (e ∙ sym k.2) in
     let end : i * 2 ^ h + 2 ^ h ≡ (i + 1) * 2 ^ h = omega arith in
-    ap (λ (s : ℕ). stretch_nodes root_position belt_birth c.leaf_count_by_log.result s h) w.first
-    ∙ ap (λ (m : ℕ). stretch_nodes root_position belt_birth m (i * 2 ^ h) h) (sym found)
-    ∙ sym (nodes_inside_stretch newest_pair 4611686018427387934 (mmb_equal 4611686018427387934) root_position belt_birth mmb_coordinates n (i * 2 ^ h) i h l refl (omega (arith, w.end, same)))
-    ∙ ap (λ (b : ℕ). map placed (nodes_inside newest_pair n (i * 2 ^ h) b)) end
+    ap (λ (s : ℕ). stretch_nodes mmb_position mmb_birth_leaf_count c.leaf_count_by_log.result s h) w.first
+    ∙ ap (λ (m : ℕ). stretch_nodes mmb_position mmb_birth_leaf_count m (i * 2 ^ h) h) (sym found)
+    ∙ sym (nodes_inside_stretch mmb_merges 4611686018427387934 (mmb_equal 4611686018427387934) mmb_position mmb_birth_leaf_count mmb_coordinates n (i * 2 ^ h) i h l refl (omega (arith, w.end, same)))
+    ∙ ap (λ (b : ℕ). map placed (nodes_inside mmb_merges n (i * 2 ^ h) b)) end

@@ -3,7 +3,7 @@ use Rattle.merkle_base.specs.Places.{placed}
 use Rattle.merkle_base.specs.Grafting.{nodes_inside}
 use Rattle.merkle_base.proofs.Nodes.{size_inj}
 use Rattle.merkle_base.proofs.Chunks.{nodes_inside_born}
-use Rattle.merkle_forest_theory.specs.Mmr.{carries, range_root, range_birth}
+use Rattle.merkle_forest_theory.specs.Mmr.{mmr_merges, mmr_position, mmr_birth_leaf_count}
 use Rattle.merkle_forest_theory.proofs.Coordinates.{mmr_coordinates}
 use Rattle.merkle_forest_theory.proofs.MountainRange.{mmr_equal}
 use Rattle.merkle_topology.proofs.ChunkNumbers.{chunk_within}
@@ -27,9 +27,9 @@ returns c = λ n l e.
     let i = c.args.chunk_idx in
     let h = c.args.grafting_height in
     let k = c.requires in
-    let same : n ≡ k.0 = size_inj carries n k.0 (e ∙ sym k.2) in
+    let same : n ≡ k.0 = size_inj mmr_merges n k.0 (e ∙ sym k.2) in
     let end : i * 2 ^ h + 2 ^ h ≡ (i + 1) * 2 ^ h = omega arith in
-    let root : range_root (i * 2 ^ h) h ≡ c.new.result = ap (λ (s : ℕ). range_root s h) (sym (chunk_within k.0 i h (omega (arith, k.1)) k.3).first) ∙ sym (c.new.ensures ∙ c.root_position-root.ensures) in
-    sym (ap (λ (b : ℕ). map placed (nodes_inside carries n (i * 2 ^ h) b)) (sym end)
-    ∙ nodes_inside_born carries 4611686018427387904 (mmr_equal 4611686018427387904) range_root range_birth mmr_coordinates n (i * 2 ^ h) i h l refl (omega (arith, end, same, k.3))
+    let root : mmr_position (i * 2 ^ h) h ≡ c.new.result = ap (λ (s : ℕ). mmr_position s h) (sym (chunk_within k.0 i h (omega (arith, k.1)) k.3).first) ∙ sym (c.new.ensures ∙ c.root_position-root.ensures) in
+    sym (ap (λ (b : ℕ). map placed (nodes_inside mmr_merges n (i * 2 ^ h) b)) (sym end)
+    ∙ nodes_inside_born mmr_merges 4611686018427387904 (mmr_equal 4611686018427387904) mmr_position mmr_birth_leaf_count mmr_coordinates n (i * 2 ^ h) i h l refl (omega (arith, end, same, k.3))
     ∙ ap (λ (p : ℕ). (p, h) ∷ []) root)

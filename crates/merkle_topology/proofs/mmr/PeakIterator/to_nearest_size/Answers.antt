@@ -1,11 +1,11 @@
 use Rattle.std.proofs.Common.{ℕ, sym, ◌∙◌, subst, arith}
 use Rattle.merkle_base.specs.Places.{IsNearestSize}
-use Rattle.merkle_forest_theory.specs.Mmr.{carries}
+use Rattle.merkle_forest_theory.specs.Mmr.{mmr_merges}
 use Rattle.merkle_topology.proofs.LeafCounts.{size_nearest}
 use Rattle.merkle_topology.proofs.mmr.PeakIterator.to_nearest_size.Goals as goal
 
 pub returns : goal.returns
 returns c =
     let k = c.leaf_count_within.ensures in
-    subst (λ (x : ℕ). IsNearestSize carries 4611686018427387904 c.args.nodes x) (sym (c.new.ensures ∙ c.node_count.ensures))
-    (size_nearest carries 4611686018427387904 c.leaf_count_within.result c.args.nodes k.limit (omega (arith, k.within, c.as_u64.ensures)) (omega (arith, k.greatest, c.as_u64.ensures)))
+    subst (λ (x : ℕ). IsNearestSize mmr_merges 4611686018427387904 c.args.nodes x) (sym (c.new.ensures ∙ c.node_count.ensures))
+    (size_nearest mmr_merges 4611686018427387904 c.leaf_count_within.result c.args.nodes k.limit (omega (arith, k.within, c.as_u64.ensures)) (omega (arith, k.greatest, c.as_u64.ensures)))

@@ -3,7 +3,7 @@ use Rattle.std.proofs.lemmas.List.{length-map}
 use Rattle.std.proofs.lemmas.Result.{IfOk-weaker}
 use Rattle.merkle_base.proofs.Limits.{lawful_leaves}
 use Rattle.merkle_base.specs.Scheme.{Scheme}
-use Rattle.merkle_root_theory.specs.Range.{AcceptsSome}
+use Rattle.merkle_root_theory.specs.Range.{AcceptsNonempty}
 use Rattle.merkle_root_theory.specs.Walk.{bytes_of}
 use Rattle.merkle_store_theory.specs.StoreValue.{StoreValue, store_of}
 use Rattle.merkle_proof.specs.Input.{input_of}
@@ -64,4 +64,4 @@ returns-clause-accepted g c =
     let count : length r.elements ≡ length es = length-leaf_digests s.hashing s.rule a (bytes_of es) ∙ length-map es (λ e. e.now) in
     let some : 0 < length es = search rules in
     let ok = accepted_some s r c.args.root.now c.in-Ok.ensures.ok.0 (omega (arith, count, some)) in
-    IfOk-weaker c.keep.result _ (λ _. AcceptsSome s r c.args.root.now) (λ v f. ok) c.keep.ensures.ok
+    IfOk-weaker c.keep.result _ (λ _. AcceptsNonempty s r c.args.root.now) (λ v f. ok) c.keep.ensures.ok

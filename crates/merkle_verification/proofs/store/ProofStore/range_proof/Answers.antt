@@ -2,7 +2,7 @@ use Rattle.std.proofs.Common.{◌≡◌, inl, inr, subst}
 use Rattle.std.proofs.lemmas.Result.{IfOk-weaker, IfErr-weaker}
 use Rattle.merkle_base.specs.declared.error.Error.{Error}
 use Rattle.merkle_base.specs.declared.error.Error.TheVariants.{OutOfMemory}
-use Rattle.merkle_root_theory.specs.Range.{AcceptsSome}
+use Rattle.merkle_root_theory.specs.Range.{AcceptsNonempty}
 use Rattle.merkle_store_theory.specs.StoreValue.{StoreValue}
 use Rattle.merkle_proof.specs.declared.proof.Proof.{Proof}
 use Rattle.merkle_proof.proofs.RefusedProofs.{is_memory}
@@ -21,6 +21,6 @@ returns-clause-unrefused g c = λ r root same ok some low high.
 pub returns-clause-accepted : goal.returns-clause-accepted
 returns-clause-accepted g c = λ r root same ok low high.
     let s = g.H.Hasher.scheme c.args.hasher.now in let a = c.args.range.start in let b = c.args.range.end in
-    IfOk-weaker c.answer.result _ (λ (p : Proof g.row.F.Denot g.row.D.Denot g.row.F-Peaks.Denot g.row.F-ParentHeights.Denot). AcceptsSome s (part_input p r a b) root)
+    IfOk-weaker c.answer.result _ (λ (p : Proof g.row.F.Denot g.row.D.Denot g.row.F-Peaks.Denot g.row.F-ParentHeights.Denot). AcceptsNonempty s (part_input p r a b) root)
     (λ (p : Proof g.row.F.Denot g.row.D.Denot g.row.F-Peaks.Denot g.row.F-ParentHeights.Denot) w.
     answered_is_accepted s r root a b p ok low high (subst (λ (v : StoreValue g.row.D.Denot). IsAnswered s v a b p) same w)) c.answer.ensures.ok

@@ -1,0 +1,44 @@
+-- What a `Mem` is to its callers: where it was pruned to, how many nodes it counts, and which it holds.
+use Rattle.std.specs.Prelude.{ℕ, ◌+◌, List, [], ◌∷◌, ◌++◌, Option, refl}
+use Rattle.std.specs.Ordering.{nat_cmp}
+use Rattle.std.specs.FinMap.{FinMap, get, code, empty, from_entries}
+use Rattle.std.specs.Coded.{Coded, code_by, coded×, coded_ℕ}
+use Rattle.merkle_batch_theory.specs.Contents.{Contents}
+
+pub record MemModel (D : Type 0) : Type 0 where
+  -- the location that it was pruned to
+  pub boundary : ℕ
+  -- the number of leaves, the pruned ones counted
+  pub leaves : ℕ
+  -- the number of nodes, the pruned ones counted
+  pub size : ℕ
+  -- the nodes held, by position
+  pub stored : FinMap nat_cmp D
+
+abbrev pub mem_model_code : {D : Type 0} → Coded D → Coded (MemModel D)
+mem_model_code d =
+    code_by _ (coded× coded_ℕ (coded× coded_ℕ (coded× coded_ℕ (code coded_ℕ d))))
+    (λ s. (s.boundary, (s.leaves, (s.size, s.stored))))
+    (λ p. record { boundary = p.0; leaves = p.1.0; size = p.1.1.0; stored = p.1.1.1 })
+    (λ _. refl)
+
+-- the node at position p, if it is held
+abbrev pub node : {D : Type 0} → MemModel D → ℕ → Option D
+node s p = get s.stored p
+
+-- with the node at each position as a function
+abbrev pub contents : {D : Type 0} → MemModel D → Contents D
+contents s = record { boundary = s.boundary; size = s.size; node = node s }
+
+-- the positions n, n + 1, .. with the digests
+abbrev pub numbered : {D : Type 0} → ℕ → List D → List (ℕ × D)
+numbered n [] = []
+numbered n (d ∷ ds) = (n, d) ∷ numbered (n + 1) ds
+
+-- what is held at a position: a pin, or one of the nodes from position start on
+abbrev pub stored_of : {D : Type 0} → List (ℕ × D) → ℕ → List D → FinMap nat_cmp D
+stored_of pins start nodes = from_entries (pins ++ numbered start nodes)
+
+-- the structure of no leaves
+abbrev pub no_leaves : {D : Type 0} → MemModel D
+no_leaves = record { boundary = 0; leaves = 0; size = 0; stored = empty }

@@ -1,0 +1,17 @@
+-- What holds of the fields of every structure and every batch.
+use Rattle.std.specs.Prelude.{◌≡◌, ℕ, ◌≤◌, List}
+use Rattle.merkle_base.specs.Forest.{size}
+use Rattle.merkle_batch_theory.specs.Contents.{HoldsKept}
+use Rattle.merkle_batch_theory.specs.Held.{Held, held_contents}
+
+-- so many leaves, within the limit, have so many nodes
+pub record HasLeafCount (rule : List ℕ → List ℕ) (max_leaves leaves nodes : ℕ) : Type 0 where
+  pub bounded : leaves ≤ max_leaves
+  pub sized : size rule leaves ≡ nodes
+
+-- so many leaves, pruned to the boundary, have the nodes held: from the boundary's position on all, and before it those that are kept
+pub record IsMemValid {D : Type 0} (rule : List ℕ → List ℕ) (max_leaves boundary leaves : ℕ) (held : Held D) : Type 0 where
+  pub starts : held.start ≡ size rule boundary
+  pub within : boundary ≤ leaves
+  pub counted : HasLeafCount rule max_leaves leaves held.size
+  pub holds : HoldsKept rule (held_contents boundary held)

@@ -1,0 +1,48 @@
+-- What a batch changed, and the states before and after it.
+use Rattle.std.specs.Prelude.{ℕ, ◌+◌, List, [], ◌∷◌, ◌++◌, length, refl}
+use Rattle.std.specs.Ordering.{nat_cmp}
+use Rattle.std.specs.FinMap.{FinMap, code}
+use Rattle.std.specs.Coded.{Coded, code_by, coded×, coded_ℕ, coded_list}
+
+pub record RecordModel (D : Type 0) : Type 0 where
+  -- the number of nodes before
+  pub before : ℕ
+  -- the digests of the peaks before, oldest first
+  pub peaks_before : List D
+  -- the nodes from position `before` on
+  pub appended : List D
+  -- the nodes replaced, by position
+  pub overwritten : FinMap nat_cmp D
+  -- the digests of the peaks after, oldest first
+  pub peaks_after : List D
+
+abbrev pub record_model_code : {D : Type 0} → Coded D → Coded (RecordModel D)
+record_model_code d =
+    code_by _ (coded× coded_ℕ (coded× (coded_list d) (coded× (coded_list d) (coded× (code coded_ℕ d) (coded_list d)))))
+    (λ r. (r.before, (r.peaks_before, (r.appended, (r.overwritten, r.peaks_after)))))
+    (λ p. record { before = p.0; peaks_before = p.1.0; appended = p.1.1.0; overwritten = p.1.1.1.0; peaks_after = p.1.1.1.1 })
+    (λ _. refl)
+
+-- the number of nodes after
+abbrev pub after : {D : Type 0} → RecordModel D → ℕ
+after r = r.before + length r.appended
+
+-- a batch: its own record behind those that it keeps, oldest first
+pub record MerkleizedModel (D : Type 0) : Type 0 where
+  -- the size and the pruning boundary of the `Mem` that it began with
+  pub base_size : ℕ
+  pub boundary : ℕ
+  pub ancestors : List (RecordModel D)
+  pub own : RecordModel D
+  -- the number of leaves after it
+  pub leaves : ℕ
+
+abbrev pub records : {D : Type 0} → MerkleizedModel D → List (RecordModel D)
+records c = c.ancestors ++ c.own ∷ []
+
+abbrev pub merkleized_model_code : {D : Type 0} → Coded D → Coded (MerkleizedModel D)
+merkleized_model_code d =
+    code_by _ (coded× coded_ℕ (coded× coded_ℕ (coded× (coded_list (record_model_code d)) (coded× (record_model_code d) coded_ℕ))))
+    (λ c. (c.base_size, (c.boundary, (c.ancestors, (c.own, c.leaves)))))
+    (λ p. record { base_size = p.0; boundary = p.1.0; ancestors = p.1.1.0; own = p.1.1.1.0; leaves = p.1.1.1.1 })
+    (λ _. refl)

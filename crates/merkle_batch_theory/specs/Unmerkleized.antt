@@ -1,0 +1,110 @@
+-- A batch that is not merkleized yet.
+use Rattle.std.specs.Prelude.{◌≡◌, ℕ, ◌+◌, ◌-◌, ◌<◌, ◌≤◌, List, [], ◌∷◌, ◌++◌, length, drop, slice_set, Bool, true, not, Option, Some, None, is_some, cond, nat_le, nat_lt, ◌==◌, ◌&&◌, min, refl}
+use Rattle.std.specs.Ordering.{nat_cmp}
+use Rattle.std.specs.FinMap.{FinMap, empty, get, insert, len, code}
+use Rattle.std.specs.Option.{option_or}
+use Rattle.std.specs.Coded.{Coded, code_by, coded×, coded_ℕ, coded_list}
+use Rattle.merkle_base.specs.Forest.{size}
+use Rattle.merkle_batch_theory.specs.Records.{RecordModel, MerkleizedModel, merkleized_model_code}
+use Rattle.merkle_batch_theory.specs.History.{replaced}
+
+-- what it was forked from, and the leaves that it changes and adds
+pub record UnmerkleizedModel (D : Type 0) : Type 0 where
+  -- the batch that it was forked from
+  pub parent : MerkleizedModel D
+  -- that batch's number of leaves
+  pub leaves_before : ℕ
+  -- the digests of the added leaves
+  pub added : List D
+  -- the new digests of leaves that were there before, by position
+  pub overwritten : FinMap nat_cmp D
+  -- how many of the parent's ancestors it lets go
+  pub forgotten : ℕ
+
+abbrev pub unmerkleized_model_code : {D : Type 0} → Coded D → Coded (UnmerkleizedModel D)
+unmerkleized_model_code d =
+    code_by _ (coded× (merkleized_model_code d) (coded× coded_ℕ (coded× (coded_list d) (coded× (code coded_ℕ d) coded_ℕ))))
+    (λ p. (p.parent, (p.leaves_before, (p.added, (p.overwritten, p.forgotten)))))
+    (λ q. record { parent = q.0; leaves_before = q.1.0; added = q.1.1.0; overwritten = q.1.1.1.0; forgotten = q.1.1.1.1 })
+    (λ _. refl)
+
+-- the number of leaves with the added ones
+abbrev pub leaf_total : {D : Type 0} → UnmerkleizedModel D → ℕ
+leaf_total p = p.leaves_before + length p.added
+
+-- the batch with more leaves
+abbrev pub with_leaves : {D : Type 0} → UnmerkleizedModel D → List D → UnmerkleizedModel D
+with_leaves p ds = record { parent = p.parent; leaves_before = p.leaves_before; added = p.added ++ ds; overwritten = p.overwritten; forgotten = p.forgotten }
+
+-- the batch with one leaf more
+abbrev pub with_leaf : {D : Type 0} → UnmerkleizedModel D → D → UnmerkleizedModel D
+with_leaf p d = with_leaves p (d ∷ [])
+
+-- the batch with another digest for the leaf at location k
+abbrev pub with_update : {D : Type 0} → (List ℕ → List ℕ) → UnmerkleizedModel D → ℕ → D → UnmerkleizedModel D
+with_update rule p k d =
+    cond (nat_lt k p.leaves_before) (record { parent = p.parent; leaves_before = p.leaves_before; added = p.added; overwritten = insert p.overwritten (size rule k) d; forgotten = p.forgotten })
+    (record { parent = p.parent; leaves_before = p.leaves_before; added = slice_set p.added (k - p.leaves_before) d; overwritten = p.overwritten; forgotten = p.forgotten })
+
+-- one update after another
+abbrev pub with_updates : {D : Type 0} → (List ℕ → List ℕ) → UnmerkleizedModel D → List (ℕ × D) → UnmerkleizedModel D
+with_updates rule p [] = p
+with_updates rule p (u ∷ us) = with_updates rule (with_update rule p u.0 u.1) us
+
+-- why a leaf is not updated: there is no leaf at that location, or the one at that position is pruned
+pub data Fault : Type 0 where
+  OutOfBounds : (location : ℕ) → Fault
+  Pruned : (position : ℕ) → Fault
+
+-- why the leaf at location k is not updated
+abbrev pub update_fault : {D : Type 0} → (List ℕ → List ℕ) → UnmerkleizedModel D → ℕ → Option Fault
+update_fault rule p k = cond (nat_le (leaf_total p) k) (Some (OutOfBounds k)) (cond (nat_lt k p.parent.boundary) (Some (Pruned (size rule k))) None)
+
+-- the first fault of some updates
+abbrev pub first_fault : {D : Type 0} → (List ℕ → List ℕ) → UnmerkleizedModel D → List (ℕ × D) → Option Fault
+first_fault rule p [] = None
+first_fault rule p (u ∷ us) = option_or (update_fault rule p u.0) (first_fault rule p us)
+
+-- the batch without so many more of its parent's oldest ancestors
+abbrev pub without_ancestors : {D : Type 0} → UnmerkleizedModel D → ℕ → UnmerkleizedModel D
+without_ancestors p n =
+    record { parent = p.parent; leaves_before = p.leaves_before; added = p.added; overwritten = p.overwritten; forgotten = min (p.forgotten + n) (length p.parent.ancestors) }
+
+-- a batch without changes, forked from c
+abbrev pub forked : {D : Type 0} → MerkleizedModel D → UnmerkleizedModel D
+forked c = record { parent = c; leaves_before = c.leaves; added = []; overwritten = empty; forgotten = 0 }
+
+-- whether a record has changes
+abbrev pub is_changed : {D : Type 0} → RecordModel D → Bool
+is_changed r = not ((length r.appended == 0) && (len r.overwritten == 0))
+
+-- the records that it keeps: those of the ancestors that are not let go, and the parent's own if that has changes
+abbrev pub kept : {D : Type 0} → UnmerkleizedModel D → List (RecordModel D)
+kept p = drop p.forgotten p.parent.ancestors ++ cond (is_changed p.parent.own) (p.parent.own ∷ []) []
+
+-- all but the last
+abbrev pub without_last : {X : Type 0} → List X → List X
+without_last [] = []
+without_last (x ∷ []) = []
+without_last (x ∷ y ∷ xs) = x ∷ without_last (y ∷ xs)
+
+-- of the lists that the parent stands on, those that the kept records stand on
+abbrev pub kept_lists : {D : Type 0} → UnmerkleizedModel D → List (List D) → List (List D)
+kept_lists p ls = cond (is_changed p.parent.own) (drop p.forgotten ls) (without_last (drop p.forgotten ls))
+
+-- what it makes of the parent's last list
+abbrev pub pending_list : {D : Type 0} → (List ℕ → List ℕ) → UnmerkleizedModel D → List D → List D
+pending_list rule p X = replaced rule (get p.overwritten) 0 X ++ p.added
+
+-- the list with each of these entries set to its digest, one after another
+abbrev pub with_entries : {D : Type 0} → List D → List (ℕ × D) → List D
+with_entries X [] = X
+with_entries X (u ∷ us) = with_entries (slice_set X u.0 u.1) us
+
+-- what holds of every batch that is not merkleized yet
+pub record IsUnmerkleizedValid {D : Type 0} (rule : List ℕ → List ℕ) (max_leaves : ℕ) (p : UnmerkleizedModel D) : Type 0 where
+  pub bounded : leaf_total p ≤ max_leaves
+  pub sized : size rule p.leaves_before ≡ p.parent.own.before + length p.parent.own.appended
+  -- only leaves that were there before are overwritten
+  pub leaves : (q : ℕ) → is_some (get p.overwritten q) ≡ true → (k : ℕ) × (k < p.leaves_before) × (q ≡ size rule k)
+  pub some : p.forgotten ≤ length p.parent.ancestors
