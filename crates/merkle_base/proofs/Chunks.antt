@@ -203,7 +203,7 @@ module _ (rule : List ℕ → List ℕ) (max_leaves : ℕ) (equal : MergesEqual 
   root_node s p h t k e = ap (λ (x : ℕ). root x h) (sym e) ∙ ap (root (first_leaf t)) (sym k.3) ∙ sym (formulas.place k.0 p t k.1 k.2)
 
   pub first_leaf_once : (s p h : ℕ) (t : Tree) → root s h ≡ p → IsNode rule max_leaves p h t → s ≡ first_leaf t
-  first_leaf_once s p h t e k = formulas.once s (first_leaf t) h (e ∙ sym (root_node (first_leaf t) p h t k refl))
+  first_leaf_once s p h t e k = formulas.injective s (first_leaf t) h (e ∙ sym (root_node (first_leaf t) p h t k refl))
 
   pub birth_least : (s p h : ℕ) (t : Tree) → root s h ≡ p → IsNode rule max_leaves p h t → IsBirthSize rule p (birth s h)
   birth_least s p h t e k =
@@ -212,13 +212,13 @@ module _ (rule : List ℕ → List ℕ) (max_leaves : ℕ) (equal : MergesEqual 
   -- a root that has come stands below the node count
   pub root_below : (n s a h : ℕ) → n ≤ max_leaves → s ≡ a * 2 ^ h → birth s h ≤ n → root s h < size rule n
   root_below n s a h l e b =
-      let k = formulas.there n s a h l e b in
+      let k = formulas.exists n s a h l e b in
       omega (arith, root_node s k.0 h k.1 (n, l, k.2, k.4) k.3, get_below (forest rule n).nodes k.0 k.1 k.2)
 
   -- what stands over a stretch from the leaf count on that the formula tells
   pub nodes_inside_born : (n s a h : ℕ) → n ≤ max_leaves → s ≡ a * 2 ^ h → birth s h ≤ n → map placed (nodes_inside rule n s (s + 2 ^ h)) ≡ (root s h, h) ∷ []
   nodes_inside_born n s a h l e b =
-      let k = formulas.there n s a h l e b in
+      let k = formulas.exists n s a h l e b in
       let w : width k.1 ≡ 2 ^ h = balanced_count k.1 (node_balanced rule max_leaves equal n k.0 k.1 l k.2) ∙ ap (λ (x : ℕ). 2 ^ x) k.4 in
       let end : end_leaf k.1 ≡ s + 2 ^ h = omega (arith, k.3, w) in
       let here : position k.1 ≡ root s h =
@@ -257,7 +257,7 @@ module _ (rule : List ℕ → List ℕ) (max_leaves : ℕ) (equal : MergesEqual 
 
   -- the maximal nodes inside a stretch within the leaves
   pub nodes_inside_stretch : (n s a h : ℕ) → n ≤ max_leaves → s ≡ a * 2 ^ h → s + 2 ^ h ≤ n → map placed (nodes_inside rule n s (s + 2 ^ h)) ≡ stretch_nodes root birth n s h
-  nodes_inside_stretch n s a zero l e b = nodes_inside_born n s a 0 l e (omega (arith, formulas.soon s 0))
+  nodes_inside_stretch n s a zero l e b = nodes_inside_born n s a 0 l e (omega (arith, formulas.born_before_end s 0))
   nodes_inside_stretch n s a (suc h) l e b =
       let two : 2 ^ suc h ≡ 2 ^ h * 2 = pow-suc 2 h in
       let start : s ≡ a * (2 ^ h * 2) = e ∙ ap (λ (x : ℕ). a * x) two in
@@ -267,7 +267,7 @@ module _ (rule : List ℕ → List ℕ) (max_leaves : ℕ) (equal : MergesEqual 
         | inr w ↦ rw w.0 (
             ap (map placed) (nodes_inside_split rule n s (s + 2 ^ h) (s + 2 ^ suc h) (omega arith) (omega arith) (halves_kept_all n s a h l e w.1 (peaks_of rule n) (peaks_built rule n)))
             ∙ map-append placed (nodes_inside rule n s (s + 2 ^ h)) (nodes_inside rule n (s + 2 ^ h) (s + 2 ^ suc h))
-            ∙ ap (λ (xs : List (ℕ × ℕ)). xs ++ map placed (nodes_inside rule n (s + 2 ^ h) (s + 2 ^ suc h))) (nodes_inside_born n s (2 * a) h l (omega arith) (omega (arith, formulas.soon s h)))
+            ∙ ap (λ (xs : List (ℕ × ℕ)). xs ++ map placed (nodes_inside rule n (s + 2 ^ h) (s + 2 ^ suc h))) (nodes_inside_born n s (2 * a) h l (omega arith) (omega (arith, formulas.born_before_end s h)))
             ∙ ap (λ (x : ℕ). (root s h, h) ∷ map placed (nodes_inside rule n (s + 2 ^ h) x)) (sym end)
             ∙ ap (λ (xs : List (ℕ × ℕ)). (root s h, h) ∷ xs) (nodes_inside_stretch n (s + 2 ^ h) (2 * a + 1) h l (omega arith) (omega arith)))
       ]

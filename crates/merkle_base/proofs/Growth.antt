@@ -88,11 +88,11 @@ get_joined_cases ns i p ts t e = elim (joined_cases (length ns) i ts) [
 ]
 
 -- ---- the law
-pub grown_empty : IsGrown 0 empty_forest
-grown_empty = record { placed = λ p t e. absurd (cc); covers = refl; built = tt; under = λ p t e. absurd (cc); counted = refl }
+pub append_and_merge_empty : IsGrown 0 empty_forest
+append_and_merge_empty = record { placed = λ p t e. absurd (cc); covers = refl; built = tt; under = λ p t e. absurd (cc); counted = refl }
 
-pub grown_append_leaf : (n : ℕ) (f : Forest) → IsGrown n f → IsGrown (suc n) (append_leaf n f)
-grown_append_leaf n f g = record {
+pub append_and_merge_append_leaf : (n : ℕ) (f : Forest) → IsGrown n f → IsGrown (suc n) (append_leaf n f)
+append_and_merge_append_leaf n f g = record {
   placed = λ p t e. elim (get_push_cases f.nodes (leaf (length f.nodes) n) p t e) [ inl h ↦ g.placed p t h | inr h ↦ rw (h.1, h.0) refl ];
   covers = (omega arith, g.covers);
   built = (get_push f.nodes [] (leaf (length f.nodes) n), all_built_front f.nodes (leaf (length f.nodes) n ∷ []) f.peaks g.built);
@@ -100,8 +100,8 @@ grown_append_leaf n f g = record {
   counted = omega (arith, g.counted, length-append f.nodes (leaf (length f.nodes) n ∷ []));
 }
 
-pub grown_merged : (n i : ℕ) (f : Forest) → IsGrown n f → IsGrown n (merge_at i f)
-grown_merged n i f g = record {
+pub append_and_merge_merged : (n i : ℕ) (f : Forest) → IsGrown n f → IsGrown n (merge_at i f)
+append_and_merge_merged n i f g = record {
   placed = λ p t e. elim (get_joined_cases f.nodes i p f.peaks t e) [ inl h ↦ g.placed p t h | inr h ↦ h.1 ∙ sym h.0 ];
   covers = covers_joined (length f.nodes) i n f.peaks g.covers;
   built = built_joined f.nodes i n f.peaks g.covers g.built;
@@ -110,4 +110,4 @@ grown_merged n i f g = record {
 }
 
 pub forest_grown : (rule : List ℕ → List ℕ) (n : ℕ) → IsGrown n (forest rule n)
-forest_grown rule n = forest_induct IsGrown grown_empty grown_append_leaf grown_merged rule n
+forest_grown rule n = forest_induct IsGrown append_and_merge_empty append_and_merge_append_leaf append_and_merge_merged rule n

@@ -19,14 +19,14 @@ pub lawful_height : (rule : List ℕ → List ℕ) (max_leaves max_nodes : ℕ) 
 lawful_height rule max_leaves max_nodes law n p t l e =
     let equal : MergesEqual rule n = λ m b. law.equal m (omega arith) in
     let high : 2 ^ height t ≤ n = omega (arith, height_bound rule n equal p t e) in
-    let small : n < 2 ^ 63 = omega (arith, size_large rule n, size_le rule n max_leaves l, law.full, law.small) in
+    let small : n < 2 ^ 63 = omega (arith, size_large rule n, size_le rule n max_leaves l, law.size_at_limit, law.limit_fits) in
     log_below (height t) 63 n high small
 
 -- and its position is below the limit
 pub lawful_position : (rule : List ℕ → List ℕ) (max_leaves max_nodes : ℕ) → IsLawful rule max_leaves max_nodes → (n p : ℕ) (t : Tree) → n ≤ max_leaves → slice_get (forest rule n).nodes p ≡ Some t → p < max_nodes
 lawful_position rule max_leaves max_nodes law n p t l e =
-    omega (arith, get_below (forest rule n).nodes p t e, size_le rule n max_leaves l, law.full)
+    omega (arith, get_below (forest rule n).nodes p t e, size_le rule n max_leaves l, law.size_at_limit)
 
 -- the greatest leaf count is below 2 ^ 63
 pub lawful_leaves : (rule : List ℕ → List ℕ) (max_leaves max_nodes : ℕ) → IsLawful rule max_leaves max_nodes → max_leaves < 2 ^ 63
-lawful_leaves rule max_leaves max_nodes law = omega (arith, size_large rule max_leaves, law.full, law.small)
+lawful_leaves rule max_leaves max_nodes law = omega (arith, size_large rule max_leaves, law.size_at_limit, law.limit_fits)

@@ -21,7 +21,7 @@ first-placed (t ∷ ts) = ap (λ (ps : List ℕ). position t ∷ ps) (first-plac
 -- under a lawful rule there are at most 64 of them
 pub few_peaks : (rule : List ℕ → List ℕ) (max_leaves max_nodes : ℕ) → IsLawful rule max_leaves max_nodes → (n : ℕ) → n ≤ max_leaves → length (peaks_of rule n) ≤ 64
 few_peaks rule max_leaves max_nodes law n l =
-    omega (arith, length-reverse (forest rule n).peaks, length-map (forest rule n).peaks height, ap length (heights_forest rule n), law.few n l)
+    omega (arith, length-reverse (forest rule n).peaks, length-map (forest rule n).peaks height, ap length (heights_forest rule n), law.at_most_64_peaks n l)
 
 -- ---- from left to right
 -- peaks, the oldest first, that reach from o to n without gap or overlap

@@ -46,9 +46,9 @@ MergesEqual rule max_leaves = (n : ℕ) → n < max_leaves → AreEqualMerges (r
 
 pub record IsLawful (rule : List ℕ → List ℕ) (max_leaves max_nodes : ℕ) : Type 0 where
   pub equal : MergesEqual rule max_leaves
-  pub few : (n : ℕ) → n ≤ max_leaves → length (peak_heights rule n) ≤ 64
-  pub full : size rule max_leaves ≡ max_nodes
-  pub small : max_nodes < 2 ^ 63
+  pub at_most_64_peaks : (n : ℕ) → n ≤ max_leaves → length (peak_heights rule n) ≤ 64
+  pub size_at_limit : size rule max_leaves ≡ max_nodes
+  pub limit_fits : max_nodes < 2 ^ 63
 
 -- how many leaves trees of these heights have
 abbrev pub weight : List ℕ → ℕ

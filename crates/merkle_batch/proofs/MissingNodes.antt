@@ -19,7 +19,7 @@ use Rattle.merkle_batch_theory.specs.History.{is_dirty}
 use Rattle.merkle_draft.specs.declared.node_error.NodeError.{NodeError}
 use Rattle.merkle_draft.specs.declared.node_error.NodeError.TheVariants.{Missing}
 use Rattle.merkle_batch_theory.proofs.ListFacts.{get_reverse, get_reversed}
-use Rattle.merkle_draft.proofs.DirtyDigests.{read_is_child, read_is_untouched, read_child, refreshed_reads, dirty_above, some_of}
+use Rattle.merkle_draft.proofs.DirtyDigests.{read_is_child, read_is_untouched, read_child, dirty_digest_reads, dirty_above, some_of}
 use Rattle.merkle_base.proofs.Cases.{by_test}
 use Rattle.merkle_batch_theory.proofs.OptionFacts.{both_none}
 
@@ -109,7 +109,7 @@ module _ {D : Type 0} (h : Hashing D) (rule : List ℕ → List ℕ) (n e : ℕ)
               let p = peak_of (join x.0 x.1 x.2) (forest rule n).peaks ((forest_grown rule n).under x.0 (join x.0 x.1 x.2) mine) in
               let k = get_reverse (forest rule n).peaks p.0 p.1 p.2 in
               let reads = read_child m p.1 t x.0 x.1 x.2 p.3 dirty x.5 need.2 in
-              refreshed_reads h m below p.1 t (done k.0 p.1 k.1 (dirty_above m (join x.0 x.1 x.2) p.1 p.3 dirty)) reads)
+              dirty_digest_reads h m below p.1 t (done k.0 p.1 k.1 (dirty_above m (join x.0 x.1 x.2) p.1 p.3 dirty)) reads)
         ])
     | inr x ↦ (let k = get_reverse (forest rule e).peaks x.1.0 t x.1.1 in
         let old = node_anywhere rule e n (position t) t (peak_node rule e x.1.0 t x.1.1) need.1 in

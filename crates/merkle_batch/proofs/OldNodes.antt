@@ -14,7 +14,7 @@ use Rattle.merkle_draft.specs.DirtyDigests.{dirty_digest}
 use Rattle.merkle_batch_theory.specs.History.{is_dirty}
 use Rattle.merkle_batch_theory.specs.Assignment.{ReadsAgree}
 use Rattle.merkle_batch_theory.proofs.ListAssignments.{truth_of, truth_at}
-use Rattle.merkle_draft.proofs.DirtyDigests.{refreshed_right, some_of}
+use Rattle.merkle_draft.proofs.DirtyDigests.{dirty_digest_right, some_of}
 use Rattle.merkle_base.proofs.Cases.{by_test}
 use Rattle.merkle_base.proofs.Lists.{get_exists}
 
@@ -35,7 +35,7 @@ module _ {D : Type 0} (h : Hashing D) (rule : List ℕ → List ℕ) (n : ℕ) (
   digest_right p t d e r =
       let ns : List Tree = (forest rule n).nodes in
       let b = node_built rule n p t e in
-      refreshed_right h m below Y t d r
+      dirty_digest_right h m below Y t d r
       (λ u a v g. (let w = read_under m t u v in right (position u) u a (built_at ns u (built_under ns u t w.0 b)) w.1 g))
       (λ q k a v g. (let w = leaf_at rule n q q k (built_under ns (leaf q k) t v b) in
       told k a w.1 (ap m (sym w.0) ∙ g) ∙ ap (λ (p : ℕ). digest_at h Y (leaf p k)) (sym w.0)))

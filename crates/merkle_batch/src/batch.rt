@@ -277,7 +277,7 @@ impl<F: Family, D: Digest> UnmerkleizedBatch<F, D> {
         ensures stands { let h = H.hashing hasher.now in IfOk result (λ b. (ls : List (List D)) → IsHistory h F.rule (records self.parent) ls
             → AgreesWithOne h F.rule (B.contents base.now) (kept_lists self ls)
             → IsHistory h F.rule (records b.value) (kept_lists self ls ++ pending_list F.rule self (last_list ls) ∷ [])) }
-        ensures given { (h : Hashing D) → (ls : List (List D)) → IsHistory h F.rule (records self.parent) ls
+        ensures granted { (h : Hashing D) → (ls : List (List D)) → IsHistory h F.rule (records self.parent) ls
             → AgreesWithOne h F.rule (B.contents base.now) (kept_lists self ls)
             → ((k : ℕ) → is_some (get self.overwritten (size F.rule k)) ≡ true → (B.contents base.now).boundary ≤ k)
             → IsOkUnless result Error.OutOfMemory }
@@ -306,7 +306,7 @@ impl<F: Family, D: Digest> UnmerkleizedBatch<F, D> {
         ensures stands { let h = H.hashing hasher.now in IfOk result (λ b. (ls : List (List D)) → IsHistory h F.rule (records self.now.parent) ls
             → AgreesWithOne h F.rule (B.contents base.now) (kept_lists self.now ls)
             → IsHistory h F.rule (records b.value) (kept_lists self.now ls ++ pending_list F.rule self.now (last_list ls) ∷ [])) }
-        ensures given { (h : Hashing D) → (ls : List (List D)) → IsHistory h F.rule (records self.now.parent) ls
+        ensures granted { (h : Hashing D) → (ls : List (List D)) → IsHistory h F.rule (records self.now.parent) ls
             → AgreesWithOne h F.rule (B.contents base.now) (kept_lists self.now ls)
             → ((k : ℕ) → is_some (get self.now.overwritten (size F.rule k)) ≡ true → (B.contents base.now).boundary ≤ k)
             → IsOkUnless result Error.OutOfMemory }

@@ -89,7 +89,7 @@ impl<F: Family, D: Digest> MerkleizedBatch<F, D> {
             (ls : List (List D)) → IsHistory (H.hashing hasher.now) F.rule (records self.now) ls
             → AgreesWithOne (H.hashing hasher.now) F.rule (B.contents base.now) ls
             → let X = last_list ls in IfOk result (λ p. location < length X × IsHonestRange s X inactive (list_input p X location (location + 1))) }
-        ensures given { (h : Hashing D) → (ls : List (List D)) → IsHistory h F.rule (records self.now) ls
+        ensures granted { (h : Hashing D) → (ls : List (List D)) → IsHistory h F.rule (records self.now) ls
             → AgreesWithOne h F.rule (B.contents base.now) ls → (B.contents base.now).boundary ≤ location → location < length (last_list ls)
             → inactive ≤ length (peaks_of F.rule (length (last_list ls))) → IsOkUnless result Error.OutOfMemory }
         ensures few { FewPeaks F.rule F.MAX_LEAVES → IfOk result (λ p. length p.digests.items ≤ 122) }
@@ -137,7 +137,7 @@ impl<F: Family, D: Digest> MerkleizedBatch<F, D> {
             → AgreesWithOne (H.hashing hasher.now) F.rule (B.contents base.now) ls
             → let X = last_list ls in IfOk result (λ p. (range.start < range.end) × (range.end ≤ length X)
             × IsHonestRange s X inactive (list_input p X range.start range.end)) }
-        ensures given { (h : Hashing D) → (ls : List (List D)) → IsHistory h F.rule (records self.now) ls
+        ensures granted { (h : Hashing D) → (ls : List (List D)) → IsHistory h F.rule (records self.now) ls
             → AgreesWithOne h F.rule (B.contents base.now) ls → (B.contents base.now).boundary ≤ range.start → range.start < range.end
             → range.end ≤ length (last_list ls) → inactive ≤ length (peaks_of F.rule (length (last_list ls)))
             → IsOkUnless result Error.OutOfMemory }

@@ -22,8 +22,8 @@ cond_and a true o k = rw (k refl) refl
 cond_and a false o k = refl
 
 module _ {D : Type 0} (h : Hashing D) (rule : List ℕ → List ℕ) where
-  pub agree_laid : (r : RecordModel D) (X Y : List D) (c : Contents D) → IsStep h rule r X Y → Agrees h rule c X → Agrees h rule (with_record r c) Y
-  agree_laid r X Y c s a = record {
+  pub agree_with_record : (r : RecordModel D) (X Y : List D) (c : Contents D) → IsStep h rule r X Y → Agrees h rule c X → Agrees h rule (with_record r c) Y
+  agree_with_record r X Y c s a = record {
     sized = ap (λ n. n + length r.appended) a.sized ∙ step_size h rule r X Y s;
     bounded = omega (arith, a.bounded, s.longer);
     holds = λ p. elim (cases_lt p c.size) [
@@ -36,7 +36,7 @@ module _ {D : Type 0} (h : Hashing D) (rule : List ℕ → List ℕ) where
   agree_all [] X [] c s a = a
   agree_all [] X (Y ∷ ls) c s a = absurd s
   agree_all (r ∷ rs) X [] c s a = absurd s
-  agree_all (r ∷ rs) X (Y ∷ ls) c s a = agree_all rs Y ls (with_record r c) s.1 (agree_laid r X Y c s.0 a)
+  agree_all (r ∷ rs) X (Y ∷ ls) c s a = agree_all rs Y ls (with_record r c) s.1 (agree_with_record r X Y c s.0 a)
 
   pub agree_kept : (b : ℕ) (X : List D) (c : Contents D) → c.boundary < b → b ≤ length X → Agrees h rule c X → Agrees h rule (record { boundary = b; size = c.size; node = λ p. cond (is_kept rule b p) (c.node p) None }) X
   agree_kept b X c l m a = record {

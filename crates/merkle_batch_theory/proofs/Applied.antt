@@ -17,4 +17,4 @@ pub applied_at : {D : Type 0} (h : Hashing D) (rule : List ℕ → List ℕ) →
 applied_at h rule law k ls c d X s a e =
     let m = answered (matched h.same c.size (held_peaks rule (length X) c) k) (λ i. with_records (drop i (records k)) c) (refusal c.size k) d e in
     let w = accepted h rule law k ls c X m.0 s a m.1 in
-    record { place = m.0; list = w.0; found = m.1; there = w.1; as_long = w.2; same_peaks = w.3; agrees = λ z. subst (λ x. Agrees h rule x (last_list ls)) m.2 (w.4 z); collides = w.5 }
+    record { place = m.0; list = w.0; found = m.1; listed = w.1; as_long = w.2; same_peaks = w.3; agrees = λ z. subst (λ x. Agrees h rule x (last_list ls)) m.2 (w.4 z); collides = w.5 }

@@ -109,7 +109,7 @@ module _ {D : Type 0} (pins : List (ℕ × D)) (start : ℕ) (nodes : List D) (b
 
 -- ---- counts
 pub counted_nodes : (rule : List ℕ → List ℕ) (max_leaves max_nodes leaves n : ℕ) → IsLawful rule max_leaves max_nodes → HasLeafCount rule max_leaves leaves n → n ≤ max_nodes
-counted_nodes rule max_leaves max_nodes leaves n law k = omega (arith, size_le rule leaves max_leaves k.bounded, k.sized, law.full)
+counted_nodes rule max_leaves max_nodes leaves n law k = omega (arith, size_le rule leaves max_leaves k.bounded, k.sized, law.size_at_limit)
 
 -- the boundary is not past the leaves where its position is not past the nodes
 pub kept_counted : {D : Type 0} (rule : List ℕ → List ℕ) (max_leaves boundary leaves : ℕ) (held : Held D) → HasLeafCount rule max_leaves leaves held.size → held.start ≡ size rule boundary → held.start ≤ held.size

@@ -72,8 +72,8 @@ module _ {D : Type 0} (rule : List ℕ → List ℕ) where
       (λ e. held)
 
   -- ---- records laid over what is held
-  laid_held : (r : RecordModel D) (c : Contents D) → size rule c.boundary ≤ c.size → HoldsKept rule c → HoldsKept rule (with_record r c)
-  laid_held r c above held p = elim (cases_lt p c.size) [
+  with_record_held : (r : RecordModel D) (c : Contents D) → size rule c.boundary ≤ c.size → HoldsKept rule c → HoldsKept rule (with_record r c)
+  with_record_held r c above held p = elim (cases_lt p c.size) [
     | inl h ↦ rw (lt-ltb p c.size h, lt-ltb p (c.size + length r.appended) (omega (arith, h))) (some_over (get r.overwritten p) (c.node p) ∙ held p ∙ ap (λ b. b && is_kept rule c.boundary p) (lt-ltb p c.size h))
     | inr h ↦ rw (le-ltb p c.size h, kept_from rule c.boundary p (omega (arith, h, above)))
         (some_below r.appended (p - c.size) ∙ shifted c.size (length r.appended) p h ∙ sym (and-true (nat_lt p (c.size + length r.appended))))
@@ -81,7 +81,7 @@ module _ {D : Type 0} (rule : List ℕ → List ℕ) where
 
   pub with_records_held : (rs : List (RecordModel D)) (c : Contents D) → size rule c.boundary ≤ c.size → HoldsKept rule c → HoldsKept rule (with_records rs c)
   with_records_held [] c above held = held
-  with_records_held (r ∷ rs) c above held = with_records_held rs (with_record r c) (omega (arith, above)) (laid_held r c above held)
+  with_records_held (r ∷ rs) c above held = with_records_held rs (with_record r c) (omega (arith, above)) (with_record_held r c above held)
 
   -- ---- peaks
   one_held : (o : Option D) → is_some o ≡ true → length (option_to_list o) ≡ 1

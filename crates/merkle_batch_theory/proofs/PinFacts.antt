@@ -27,7 +27,7 @@ lookup_zip p (q ∷ ps) (d ∷ ds) e =
 
 -- no more leaves than the limit: no more nodes
 pub size_within : (rule : List ℕ → List ℕ) (max_leaves max_nodes n : ℕ) → IsLawful rule max_leaves max_nodes → n ≤ max_leaves → size rule n ≤ max_nodes
-size_within rule max_leaves max_nodes n law l = omega (arith, size_le rule n max_leaves l, law.full)
+size_within rule max_leaves max_nodes n law l = omega (arith, size_le rule n max_leaves l, law.size_at_limit)
 
 -- digests at the peaks of b leaves stand before the position of leaf b
 pub zip_before : {D : Type 0} (rule : List ℕ → List ℕ) (b : ℕ) (ds : List D) → length ds ≡ length (peak_positions rule b) → PinsBefore (size rule b) (zip (peak_positions rule b) ds)

@@ -34,19 +34,19 @@ module _ {D : Type 0} (rule : List ℕ → List ℕ) where
   abbrev kept_of : ℕ → Contents D → Contents D
   kept_of b c = record { boundary = b; size = c.size; node = λ p. cond (is_kept rule b p) (c.node p) None }
 
-  laid_kept : (b : ℕ) (r : RecordModel D) (c : Contents D) → size rule b ≤ c.size → with_record r (kept_of b c) ≡ kept_of b (with_record r c)
-  laid_kept b r c l =
+  with_record_kept : (b : ℕ) (r : RecordModel D) (c : Contents D) → size rule b ≤ c.size → with_record r (kept_of b c) ≡ kept_of b (with_record r c)
+  with_record_kept b r c l =
       same_contents b (c.size + length r.appended) (c.size + length r.appended) (with_record r (kept_of b c)).node (kept_of b (with_record r c)).node refl (λ p. elim (cases_lt p c.size) [
         | inl h ↦ rw (lt-ltb p c.size h) (over_cond (get r.overwritten p) (is_kept rule b p) (c.node p))
         | inr h ↦ rw (le-ltb p c.size h, kept_from rule b p (omega (arith, l, h))) refl
       ])
 
-  laid_pruned : (b : ℕ) (r : RecordModel D) (c : Contents D) → size rule b ≤ c.size → with_record r (pruned rule b c) ≡ pruned rule b (with_record r c)
-  laid_pruned b r c l = by_test (λ t. with_record r (cond t (kept_of b c) c) ≡ cond t (kept_of b (with_record r c)) (with_record r c)) (ltb c.boundary b) (λ e. laid_kept b r c l) (λ e. refl)
+  with_record_pruned : (b : ℕ) (r : RecordModel D) (c : Contents D) → size rule b ≤ c.size → with_record r (pruned rule b c) ≡ pruned rule b (with_record r c)
+  with_record_pruned b r c l = by_test (λ t. with_record r (cond t (kept_of b c) c) ≡ cond t (kept_of b (with_record r c)) (with_record r c)) (ltb c.boundary b) (λ e. with_record_kept b r c l) (λ e. refl)
 
   pub with_records_pruned : (b : ℕ) (rs : List (RecordModel D)) (c : Contents D) → size rule b ≤ c.size → with_records rs (pruned rule b c) ≡ pruned rule b (with_records rs c)
   with_records_pruned b [] c l = refl
-  with_records_pruned b (r ∷ rs) c l = ap (with_records rs) (laid_pruned b r c l) ∙ with_records_pruned b rs (with_record r c) (omega (arith, l))
+  with_records_pruned b (r ∷ rs) c l = ap (with_records rs) (with_record_pruned b r c l) ∙ with_records_pruned b rs (with_record r c) (omega (arith, l))
 
   pub peaks_pruned : (b n : ℕ) (c : Contents D) → b ≤ n → held_peaks rule n (pruned rule b c) ≡ held_peaks rule n c
   peaks_pruned b n c l =

@@ -20,4 +20,4 @@ root_stands h rule c X a =
 
 -- a structure within the limit has fewer than 2 ^ 63 nodes
 pub lawful_size : (rule : List ℕ → List ℕ) (max_leaves max_nodes n : ℕ) → IsLawful rule max_leaves max_nodes → n ≤ max_leaves → size rule n < 2 ^ 63
-lawful_size rule max_leaves max_nodes n law l = omega (arith, size_le rule n max_leaves l, law.full, law.small)
+lawful_size rule max_leaves max_nodes n law l = omega (arith, size_le rule n max_leaves l, law.size_at_limit, law.limit_fits)

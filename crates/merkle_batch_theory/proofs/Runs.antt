@@ -78,21 +78,21 @@ module _ {D X : Type 0} (rule : List ℕ → List ℕ) (max_leaves : ℕ) (same 
   part = ap (map value) (take_all (length xs - first) (drop first xs) (omega (arith, length-drop first xs))) ∙ drop_map value first xs ∙ ap (drop first) are
 
   -- the records that are laid
-  laid_records : drop first (records c) ≡ kept_part ++ c.own ∷ []
-  laid_records = drop_left first c.ancestors (c.own ∷ []) (found same n peaks c first linked.runs m).0 ∙ ap (λ rs. rs ++ c.own ∷ []) (sym part)
+  with_record_records : drop first (records c) ≡ kept_part ++ c.own ∷ []
+  with_record_records = drop_left first c.ancestors (c.own ∷ []) (found same n peaks c first linked.runs m).0 ∙ ap (λ rs. rs ++ c.own ∷ []) (sym part)
 
-  pub total_laid : n + (total_appended kept_part + length c.own.appended) ≡ after c.own
-  total_laid = omega (arith, (found same n peaks c first linked.runs m).1, ap total_appended laid_records, total_last kept_part c.own)
+  pub total_with_record : n + (total_appended kept_part + length c.own.appended) ≡ after c.own
+  total_with_record = omega (arith, (found same n peaks c first linked.runs m).1, ap total_appended with_record_records, total_last kept_part c.own)
 
   -- what the records give one after another they give together
   all_records : (old mid new : Contents D) → mid ≡ with_records kept_part old → new ≡ with_record c.own mid → new ≡ with_records (drop first (records c)) old
-  all_records old mid new laid1 laid2 = laid2 ∙ ap (with_record c.own) laid1 ∙ sym (all_last kept_part c.own old) ∙ sym (ap (λ rs. with_records rs old) laid_records)
+  all_records old mid new laid1 laid2 = laid2 ∙ ap (with_record c.own) laid1 ∙ sym (all_last kept_part c.own old) ∙ sym (ap (λ rs. with_records rs old) with_record_records)
 
   module _ (boundary leaves_before : ℕ) (old mid new : Held D) (kept : IsMemValid rule max_leaves boundary leaves_before old) (sized : n ≡ old.size)
       (start : new.start ≡ old.start) (size1 : mid.size ≡ old.size + total_appended kept_part) (size2 : new.size ≡ mid.size + length c.own.appended)
       (laid1 : held_contents boundary mid ≡ with_records kept_part (held_contents boundary old)) (laid2 : held_contents boundary new ≡ with_record c.own (held_contents boundary mid)) where
     nodes_after : new.size ≡ after c.own
-    nodes_after = omega (arith, total_laid, sized, size1, size2)
+    nodes_after = omega (arith, total_with_record, sized, size1, size2)
 
     counted_after : HasLeafCount rule max_leaves c.leaves new.size
     counted_after = record { bounded = linked.counted.bounded; sized = linked.counted.sized ∙ sym nodes_after }

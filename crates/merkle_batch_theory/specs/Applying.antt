@@ -14,7 +14,7 @@ pub record IsAppliedTo {D : Type 0} (h : Hashing D) (rule : List ℕ → List �
   pub place : ℕ
   pub list : List D
   pub found : matched h.same old.size (held_peaks rule (length X) old) batch ≡ Some place
-  pub there : slice_get ls place ≡ Some list
+  pub listed : slice_get ls place ≡ Some list
   -- which has the length and the peak digests of X
   pub as_long : length X ≡ length list
   pub same_peaks : peak_digests h rule X ≡ peak_digests h rule list

@@ -10,5 +10,5 @@ pub record IsBased {D : Type 0} (h : Hashing D) (rule : List ℕ → List ℕ) (
   pub stands : IsHistory h rule rs (X ∷ ls)
   pub place : ℕ
   pub list : List D
-  pub there : slice_get (X ∷ ls) place ≡ Some list
+  pub listed : slice_get (X ∷ ls) place ≡ Some list
   pub agrees : Agrees h rule base list

@@ -67,17 +67,17 @@ abbrev FoldsBelow : Plan → Type 0
 FoldsBelow (peak t) = Unit {0}
 FoldsBelow (folding place l r) = IsBelow place × FoldsBelow l × FoldsBelow r
 
-forward_below : (acc : Plan) (i : ℕ) (ts : List Tree) → FoldsBelow acc → FoldsBelow (left_fold_plan acc i ts)
-forward_below acc i [] w = w
-forward_below acc i (t ∷ ts) w = forward_below (folding (PrefixFold i) acc (peak t)) (suc i) ts (tt, w, tt)
+left_fold_below : (acc : Plan) (i : ℕ) (ts : List Tree) → FoldsBelow acc → FoldsBelow (left_fold_plan acc i ts)
+left_fold_below acc i [] w = w
+left_fold_below acc i (t ∷ ts) w = left_fold_below (folding (PrefixFold i) acc (peak t)) (suc i) ts (tt, w, tt)
 
-bag_below : (i : ℕ) (t : Tree) (ts : List Tree) → FoldsBelow (right_fold_plan i t ts)
-bag_below i t [] = tt
-bag_below i t (u ∷ us) = (tt, tt, bag_below (suc i) u us)
+right_fold_below : (i : ℕ) (t : Tree) (ts : List Tree) → FoldsBelow (right_fold_plan i t ts)
+right_fold_below i t [] = tt
+right_fold_below i t (u ∷ us) = (tt, tt, right_fold_below (suc i) u us)
 
 join_below : (acc : Plan) (i : ℕ) (ts : List Tree) → FoldsBelow acc → FoldsBelow (with_right_fold_plan acc i ts)
 join_below acc i [] w = w
-join_below acc i (t ∷ ts) w = (tt, w, bag_below i t ts)
+join_below acc i (t ∷ ts) w = (tt, w, right_fold_below i t ts)
 
 abbrev AllBelow : Option Plan → Type 0
 AllBelow None = Unit {0}
@@ -86,8 +86,8 @@ AllBelow (Some p) = FoldsBelow p
 whole_below : (bagging : Bagging) (k : ℕ) (ts : List Tree) → AllBelow (root_plan bagging k ts)
 whole_below ForwardFold k [] = tt
 whole_below BackwardFold k [] = tt
-whole_below ForwardFold k (t ∷ ts) = forward_below (peak t) 1 ts tt
-whole_below BackwardFold k (t ∷ ts) = join_below (left_fold_plan (peak t) 1 (take (pred k) ts)) (suc (pred k)) (drop (pred k) ts) (forward_below (peak t) 1 (take (pred k) ts) tt)
+whole_below ForwardFold k (t ∷ ts) = left_fold_below (peak t) 1 ts tt
+whole_below BackwardFold k (t ∷ ts) = join_below (left_fold_plan (peak t) 1 (take (pred k) ts)) (suc (pred k)) (drop (pred k) ts) (left_fold_below (peak t) 1 (take (pred k) ts) tt)
 
 module _ {D : Type 0} (h : Hashing D) (X : ℕ → D) where
   node_rootless : (t : Tree) → Rootless (node_expression X t)

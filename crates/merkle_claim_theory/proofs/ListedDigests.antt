@@ -100,29 +100,29 @@ EachPeak P (peak t) = P t
 EachPeak P (folding place l r) = EachPeak P l × EachPeak P r
 
 module _ (P : Tree → Type 0) where
-  pub each_forward : (acc : Plan) (i : ℕ) (ts : List Tree) → EachPeak P (left_fold_plan acc i ts) → EachPeak P acc × AllByRecursion P ts
-  each_forward acc i [] w = (w, tt)
-  each_forward acc i (t ∷ ts) w = let v = each_forward (folding (PrefixFold i) acc (peak t)) (suc i) ts w in (v.0.0, (v.0.1, v.1))
+  pub each_left_fold : (acc : Plan) (i : ℕ) (ts : List Tree) → EachPeak P (left_fold_plan acc i ts) → EachPeak P acc × AllByRecursion P ts
+  each_left_fold acc i [] w = (w, tt)
+  each_left_fold acc i (t ∷ ts) w = let v = each_left_fold (folding (PrefixFold i) acc (peak t)) (suc i) ts w in (v.0.0, (v.0.1, v.1))
 
-  pub forward_each : (acc : Plan) (i : ℕ) (ts : List Tree) → EachPeak P acc → AllByRecursion P ts → EachPeak P (left_fold_plan acc i ts)
-  forward_each acc i [] w v = w
-  forward_each acc i (t ∷ ts) w v = forward_each (folding (PrefixFold i) acc (peak t)) (suc i) ts (w, v.0) v.1
+  pub left_fold_each : (acc : Plan) (i : ℕ) (ts : List Tree) → EachPeak P acc → AllByRecursion P ts → EachPeak P (left_fold_plan acc i ts)
+  left_fold_each acc i [] w v = w
+  left_fold_each acc i (t ∷ ts) w v = left_fold_each (folding (PrefixFold i) acc (peak t)) (suc i) ts (w, v.0) v.1
 
-  each_bag : (i : ℕ) (t : Tree) (ts : List Tree) → EachPeak P (right_fold_plan i t ts) → AllByRecursion P (t ∷ ts)
-  each_bag i t [] w = (w, tt)
-  each_bag i t (u ∷ us) w = (w.0, each_bag (suc i) u us w.1)
+  each_right_fold : (i : ℕ) (t : Tree) (ts : List Tree) → EachPeak P (right_fold_plan i t ts) → AllByRecursion P (t ∷ ts)
+  each_right_fold i t [] w = (w, tt)
+  each_right_fold i t (u ∷ us) w = (w.0, each_right_fold (suc i) u us w.1)
 
-  bag_each : (i : ℕ) (t : Tree) (ts : List Tree) → AllByRecursion P (t ∷ ts) → EachPeak P (right_fold_plan i t ts)
-  bag_each i t [] w = w.0
-  bag_each i t (u ∷ us) w = (w.0, bag_each (suc i) u us w.1)
+  right_fold_each : (i : ℕ) (t : Tree) (ts : List Tree) → AllByRecursion P (t ∷ ts) → EachPeak P (right_fold_plan i t ts)
+  right_fold_each i t [] w = w.0
+  right_fold_each i t (u ∷ us) w = (w.0, right_fold_each (suc i) u us w.1)
 
   each_join : (acc : Plan) (i : ℕ) (ts : List Tree) → EachPeak P (with_right_fold_plan acc i ts) → EachPeak P acc × AllByRecursion P ts
   each_join acc i [] w = (w, tt)
-  each_join acc i (t ∷ ts) w = (w.0, each_bag i t ts w.1)
+  each_join acc i (t ∷ ts) w = (w.0, each_right_fold i t ts w.1)
 
   join_each : (acc : Plan) (i : ℕ) (ts : List Tree) → EachPeak P acc → AllByRecursion P ts → EachPeak P (with_right_fold_plan acc i ts)
   join_each acc i [] w v = w
-  join_each acc i (t ∷ ts) w v = (w, bag_each i t ts v)
+  join_each acc i (t ∷ ts) w v = (w, right_fold_each i t ts v)
 
   pub all_cut : (n : ℕ) (ts : List Tree) → AllByRecursion P (take n ts) → AllByRecursion P (drop n ts) → AllByRecursion P ts
   all_cut zero ts u v = v
@@ -136,14 +136,14 @@ module _ (P : Tree → Type 0) where
   each_whole : (b : Bagging) (k : ℕ) (ts : List Tree) → EachOf (root_plan b k ts) → AllByRecursion P ts
   each_whole ForwardFold k [] w = tt
   each_whole BackwardFold k [] w = tt
-  each_whole ForwardFold k (t ∷ ts) w = each_forward (peak t) 1 ts w
-  each_whole BackwardFold k (t ∷ ts) w = let v = each_join _ (suc (pred k)) (drop (pred k) ts) w in let u = each_forward (peak t) 1 (take (pred k) ts) v.0 in (u.0, all_cut (pred k) ts u.1 v.1)
+  each_whole ForwardFold k (t ∷ ts) w = each_left_fold (peak t) 1 ts w
+  each_whole BackwardFold k (t ∷ ts) w = let v = each_join _ (suc (pred k)) (drop (pred k) ts) w in let u = each_left_fold (peak t) 1 (take (pred k) ts) v.0 in (u.0, all_cut (pred k) ts u.1 v.1)
 
   whole_each : (b : Bagging) (k : ℕ) (ts : List Tree) → AllByRecursion P ts → EachOf (root_plan b k ts)
   whole_each ForwardFold k [] w = tt
   whole_each BackwardFold k [] w = tt
-  whole_each ForwardFold k (t ∷ ts) w = forward_each (peak t) 1 ts w.0 w.1
-  whole_each BackwardFold k (t ∷ ts) w = join_each _ (suc (pred k)) (drop (pred k) ts) (forward_each (peak t) 1 (take (pred k) ts) w.0 (all_take P (pred k) ts w.1)) (all_drop P (pred k) ts w.1)
+  whole_each ForwardFold k (t ∷ ts) w = left_fold_each (peak t) 1 ts w.0 w.1
+  whole_each BackwardFold k (t ∷ ts) w = join_each _ (suc (pred k)) (drop (pred k) ts) (left_fold_each (peak t) 1 (take (pred k) ts) w.0 (all_take P (pred k) ts w.1)) (all_drop P (pred k) ts w.1)
 
   pub each_of : (b : Bagging) (k : ℕ) (ts : List Tree) (p : Plan) → root_plan b k ts ≡ Some p → EachPeak P p → AllByRecursion P ts
   each_of b k ts p e w = each_whole b k ts (subst EachOf (sym e) w)

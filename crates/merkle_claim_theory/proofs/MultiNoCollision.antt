@@ -61,8 +61,8 @@ module _ {D : Type 0} (s : Scheme D) (laws : EqDecides s.hashing) (X : ℕ → D
       (member_ordered s.hashing (plan_expression X p) i (w.1 i (member_unordered s.hashing (E p) i (subst (λ o. Member (inputs_of s.hashing (option_map E o)) i) q m)))))
       (once_in s.hashing X s.bagging k' (peaks_of s.rule n') (distinct_nodes s n')) (λ b m. no_root s.hashing X s.bagging k' (peaks_of s.rule n') b m))
 
-pub honest_multi_is_clear : {D : Type 0} → HonestMultiHasNoCollision D
-honest_multi_is_clear {D = D} s laws xs k r w =
+pub honest_multi_has_no_collision : {D : Type 0} → HonestMultiHasNoCollision D
+honest_multi_has_no_collision {D = D} s laws xs k r w =
     let back : length xs ≡ r.leaves = sym w.leaves in
     let pos : 0 < r.leaves = omega (arith, some_leaves_of, back) in
     let p = plan_for s r.leaves r.inactive pos in

@@ -29,12 +29,12 @@ use Rattle.merkle_claim_theory.proofs.HonestClaims.{member_split}
 use Rattle.merkle_base.proofs.Cases.{by_test}
 use Rattle.merkle_root_theory.proofs.PeakGroups.{meets_not, meets_yes, range_layout, groups}
 use Rattle.merkle_base.proofs.PeakLists.{Spans, spans_end, peaks_built, peaks_spans}
-use Rattle.merkle_root_theory.proofs.OutsideNodes.{bag_unmet, unmet_take, unmet_drop}
+use Rattle.merkle_root_theory.proofs.OutsideNodes.{right_fold_unmet, unmet_take, unmet_drop}
 use Rattle.merkle_root_theory.proofs.Extraction.{all_filter, all_take, all_drop}
 use Rattle.merkle_root_theory.proofs.RangeChecks.{covers, tree_in, small_leaves, small_inactive, honest_leaves, honest_some, elements_are, empty_root}
 use Rattle.merkle_root_theory.proofs.ListChecks.{is_chosen}
 use Rattle.merkle_claim_theory.specs.Multiproof.{AllHolds}
-use Rattle.merkle_claim_theory.proofs.ListedDigests.{filtered_member, EachPeak, each_forward, forward_each, all_cut, listed, listed_is, listed_some, each_of, plan_for, roots, below_root, roots_same, no_other_list}
+use Rattle.merkle_claim_theory.proofs.ListedDigests.{filtered_member, EachPeak, each_left_fold, left_fold_each, all_cut, listed, listed_is, listed_some, each_of, plan_for, roots, below_root, roots_same, no_other_list}
 use Rattle.merkle_claim_theory.proofs.Multiproofs.{all_member, member_all, told_some, if_some}
 use Rattle.merkle_claim_theory.proofs.ToldDigests.{pins_trees_append, pins_all_append, no_other_pins}
 use Rattle.merkle_claim_theory.proofs.HonestTold.{trees_left, plans_left, honest_pins_accepted}
@@ -270,13 +270,13 @@ module _ {D : Type 0} (h : Hashing D) (b : ℕ → Option D) (X : ℕ → D) whe
     abbrev IsMet : Tree → Type 0
     IsMet t = tree_meets w t ≡ true
 
-    forward_met : (acc : Plan) (i : ℕ) (ts : List Tree) → meets w acc ≡ true → meets w (left_fold_plan acc i ts) ≡ true
-    forward_met acc i [] e = e
-    forward_met acc i (t ∷ ts) e = forward_met (folding (PrefixFold i) acc (peak t)) (suc i) ts (ap (λ z. z || tree_meets w t) e)
+    left_fold_met : (acc : Plan) (i : ℕ) (ts : List Tree) → meets w acc ≡ true → meets w (left_fold_plan acc i ts) ≡ true
+    left_fold_met acc i [] e = e
+    left_fold_met acc i (t ∷ ts) e = left_fold_met (folding (PrefixFold i) acc (peak t)) (suc i) ts (ap (λ z. z || tree_meets w t) e)
 
     unpack_folded : (ts : List Tree) → AllByRecursion IsMet ts → PinsAll h b w X (fold_all ts) → AllByRecursion (PinsTree h b X) ts
     unpack_folded [] m v = tt
-    unpack_folded (t ∷ ts) m v = let z = each_forward (PinsTree h b X) (peak t) 1 ts (plan_each (left_fold_plan (peak t) 1 ts) (v.0 (forward_met (peak t) 1 ts m.0))) in (z.0, z.1)
+    unpack_folded (t ∷ ts) m v = let z = each_left_fold (PinsTree h b X) (peak t) 1 ts (plan_each (left_fold_plan (peak t) 1 ts) (v.0 (left_fold_met (peak t) 1 ts m.0))) in (z.0, z.1)
 
     unpack_single : (ts : List Tree) → AllByRecursion IsMet ts → PinsAll h b w X (map peak ts) → AllByRecursion (PinsTree h b X) ts
     unpack_single [] m v = tt
@@ -290,7 +290,7 @@ module _ {D : Type 0} (h : Hashing D) (b : ℕ → Option D) (X : ℕ → D) whe
 
     pack_folded : (ts : List Tree) → AllByRecursion (PinsTree h b X) ts → PinsAll h b w X (fold_all ts)
     pack_folded [] v = tt
-    pack_folded (t ∷ ts) v = ((λ _. each_plan (left_fold_plan (peak t) 1 ts) (forward_each (PinsTree h b X) (peak t) 1 ts v.0 v.1)), tt)
+    pack_folded (t ∷ ts) v = ((λ _. each_plan (left_fold_plan (peak t) 1 ts) (left_fold_each (PinsTree h b X) (peak t) 1 ts v.0 v.1)), tt)
 
     pack_single : (ts : List Tree) → AllByRecursion (PinsTree h b X) ts → PinsAll h b w X (map peak ts)
     pack_single [] v = tt
@@ -300,9 +300,9 @@ module _ {D : Type 0} (h : Hashing D) (b : ℕ → Option D) (X : ℕ → D) whe
     pack_after [] u = tt
     pack_after (t ∷ ts) u = ((λ e. absurd (false≢true (sym u.0 ∙ e))), pack_after ts u.1)
 
-    pack_bag : (i : ℕ) (ts : List Tree) → Unmet w ts → PinsAll h b w X (bag_all i ts)
-    pack_bag i [] u = tt
-    pack_bag i (t ∷ ts) u = ((λ e. absurd (false≢true (sym (bag_unmet w i t ts u) ∙ e))), tt)
+    pack_right_fold : (i : ℕ) (ts : List Tree) → Unmet w ts → PinsAll h b w X (bag_all i ts)
+    pack_right_fold i [] u = tt
+    pack_right_fold i (t ∷ ts) u = ((λ e. absurd (false≢true (sym (right_fold_unmet w i t ts u) ∙ e))), tt)
 
     pack : (bagging : Bagging) (k : ℕ) (before over after : List Tree) → AllByRecursion (PinsTree h b X) before → Unmet w after → PinsAll h b w X (layout bagging k before over after)
     pack ForwardFold k before over after v u = pins_all_append h b X w (fold_all before) _ (pack_folded before v) (pins_all_append h b X w (map peak after) [] (pack_after after u) tt)
@@ -311,7 +311,7 @@ module _ {D : Type 0} (h : Hashing D) (b : ℕ → Option D) (X : ℕ → D) whe
         pins_all_append h b X w (fold_all (take k before)) _ (pack_folded (take k before) (all_take (PinsTree h b X) k before v))
         (pins_all_append h b X w (map peak (drop k before)) _ (pack_single (drop k before) (all_drop (PinsTree h b X) k before v))
         (pins_all_append h b X w (map peak (take (k - met) after)) _ (pack_after (take (k - met) after) (unmet_take w (k - met) after u))
-        (pack_bag (met + (k - met)) (drop (k - met) after) (unmet_drop w (k - met) after u))))
+        (pack_right_fold (met + (k - met)) (drop (k - met) after) (unmet_drop w (k - met) after u))))
 
     -- the siblings of several peaks, and of one of them
     siblings_of : (c : ℕ → Bool) (ts : List Tree) (t : Tree) → Member ts t → PinsTrees h b w X (flat_map (siblings c) ts) → PinsTrees h b w X (siblings c t)

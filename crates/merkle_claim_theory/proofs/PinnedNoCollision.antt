@@ -75,8 +75,8 @@ module _ {D : Type 0} (h : Hashing D) (b : ℕ → Option D) (X : ℕ → D) whe
         (v (split_right _ (outside_parts c l) (outside_parts c r) os ro e) (split_right _ (path_siblings c l) (path_siblings c r) is ri f) x.1 y.1))
         (λ _ e f s z. outside_plan_in w (folding place l r) (next h os) (ap (next h) e) s.0)
 
-pub honest_pinned_is_clear : {D : Type 0} → HonestPinnedHasNoCollision D
-honest_pinned_is_clear s laws xs k r pins w q =
+pub honest_pinned_has_no_collision : {D : Type 0} → HonestPinnedHasNoCollision D
+honest_pinned_has_no_collision s laws xs k r pins w q =
     let Z = leaf_of s.hashing xs in
     let bb = digest_for (pin_positions s r.start) pins in
     let within : end_of r ≤ r.leaves = omega (arith, w.within, w.leaves) in

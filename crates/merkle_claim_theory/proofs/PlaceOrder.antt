@@ -61,17 +61,17 @@ module _ {D : Type 0} (h : Hashing D) (X : ℕ → D) where
   unfolding nodes
   nodes_join l r = places_both _ (visited h l) (visited h r)
 
-  nodes_forward : (acc : Plan) (i : ℕ) (ts : List Tree) → nodes (plan_expression X (left_fold_plan acc i ts)) ≡ nodes (plan_expression X acc) ++ flat_map node_places ts
-  nodes_forward acc i [] = sym (append-nil _)
-  nodes_forward acc i (t ∷ ts) = nodes_forward (folding (PrefixFold i) acc (peak t)) (suc i) ts ∙ ap (λ z. z ++ flat_map node_places ts) (nodes_prefix i _ _ ∙ ap (λ z. nodes (plan_expression X acc) ++ z) (nodes_tree t)) ∙ append_assoc _ (node_places t) (flat_map node_places ts)
+  nodes_left_fold : (acc : Plan) (i : ℕ) (ts : List Tree) → nodes (plan_expression X (left_fold_plan acc i ts)) ≡ nodes (plan_expression X acc) ++ flat_map node_places ts
+  nodes_left_fold acc i [] = sym (append-nil _)
+  nodes_left_fold acc i (t ∷ ts) = nodes_left_fold (folding (PrefixFold i) acc (peak t)) (suc i) ts ∙ ap (λ z. z ++ flat_map node_places ts) (nodes_prefix i _ _ ∙ ap (λ z. nodes (plan_expression X acc) ++ z) (nodes_tree t)) ∙ append_assoc _ (node_places t) (flat_map node_places ts)
 
-  nodes_bag : (i : ℕ) (t : Tree) (ts : List Tree) → nodes (plan_expression X (right_fold_plan i t ts)) ≡ flat_map node_places (t ∷ ts)
-  nodes_bag i t [] = nodes_tree t ∙ sym (append-nil _)
-  nodes_bag i t (u ∷ us) = nodes_suffix i _ _ ∙ ap₂ ◌++◌ (nodes_tree t) (nodes_bag (suc i) u us)
+  nodes_right_fold : (i : ℕ) (t : Tree) (ts : List Tree) → nodes (plan_expression X (right_fold_plan i t ts)) ≡ flat_map node_places (t ∷ ts)
+  nodes_right_fold i t [] = nodes_tree t ∙ sym (append-nil _)
+  nodes_right_fold i t (u ∷ us) = nodes_suffix i _ _ ∙ ap₂ ◌++◌ (nodes_tree t) (nodes_right_fold (suc i) u us)
 
-  folds_bag : (i : ℕ) (t : Tree) (ts : List Tree) → folds (plan_expression X (right_fold_plan i t ts)) ≡ up i (length ts)
-  folds_bag i t [] = folds_tree t
-  folds_bag i t (u ∷ us) = folds_suffix i _ _ ∙ ap (λ z. SuffixFold i ∷ z) (ap₂ ◌++◌ (folds_tree t) (folds_bag (suc i) u us))
+  folds_right_fold : (i : ℕ) (t : Tree) (ts : List Tree) → folds (plan_expression X (right_fold_plan i t ts)) ≡ up i (length ts)
+  folds_right_fold i t [] = folds_tree t
+  folds_right_fold i t (u ∷ us) = folds_suffix i _ _ ∙ ap (λ z. SuffixFold i ∷ z) (ap₂ ◌++◌ (folds_tree t) (folds_right_fold (suc i) u us))
 
   -- prefix folds from i + n - 1 down to i
   downs : ℕ → ℕ → List Place
@@ -88,18 +88,18 @@ module _ {D : Type 0} (h : Hashing D) (X : ℕ → D) where
   downs_down zero = refl
   downs_down (suc n) = downs_top 1 n ∙ ap₂ (λ a b. PrefixFold a ∷ b) (omega arith) (downs_down n)
 
-  folds_forward : (acc : Plan) (i : ℕ) (ts : List Tree) → folds (plan_expression X (left_fold_plan acc i ts)) ≡ downs i (length ts) ++ folds (plan_expression X acc)
+  folds_left_fold : (acc : Plan) (i : ℕ) (ts : List Tree) → folds (plan_expression X (left_fold_plan acc i ts)) ≡ downs i (length ts) ++ folds (plan_expression X acc)
   unfolding downs
-  folds_forward acc i [] = refl
-  folds_forward acc i (t ∷ ts) = folds_forward (folding (PrefixFold i) acc (peak t)) (suc i) ts
+  folds_left_fold acc i [] = refl
+  folds_left_fold acc i (t ∷ ts) = folds_left_fold (folding (PrefixFold i) acc (peak t)) (suc i) ts
       ∙ ap (λ z. downs (suc i) (length ts) ++ z) (folds_prefix i _ _ ∙ ap (λ z. PrefixFold i ∷ (folds (plan_expression X acc) ++ z)) (folds_tree t) ∙ ap (λ z. PrefixFold i ∷ z) (append-nil _))
       ∙ sym (append_assoc (downs (suc i) (length ts)) (PrefixFold i ∷ []) (folds (plan_expression X acc)))
 
   folds_peaks : (t : Tree) (ts : List Tree) → folds (plan_expression X (left_fold_plan (peak t) 1 ts)) ≡ down (length ts)
-  folds_peaks t ts = folds_forward (peak t) 1 ts ∙ ap₂ ◌++◌ (downs_down (length ts)) (folds_tree t) ∙ append-nil _
+  folds_peaks t ts = folds_left_fold (peak t) 1 ts ∙ ap₂ ◌++◌ (downs_down (length ts)) (folds_tree t) ∙ append-nil _
 
   nodes_peaks : (t : Tree) (ts : List Tree) → nodes (plan_expression X (left_fold_plan (peak t) 1 ts)) ≡ flat_map node_places (t ∷ ts)
-  nodes_peaks t ts = nodes_forward (peak t) 1 ts ∙ ap (λ z. z ++ flat_map node_places ts) (nodes_tree t)
+  nodes_peaks t ts = nodes_left_fold (peak t) 1 ts ∙ ap (λ z. z ++ flat_map node_places ts) (nodes_tree t)
 
   places_inputs : (e : Expression D) → map (λ (i : Input D). i.place) (inputs h e) ≡ folds e ++ nodes e
   unfolding folds nodes
@@ -127,8 +127,8 @@ module _ {D : Type 0} (h : Hashing D) (X : ℕ → D) (t : Tree) (n : ℕ) (ts :
       let short : length (take n ts) ≡ n = length-take-le n ts (omega arith) in
       let rest : length us ≡ pred (suc (length ts) - suc n) = omega arith in
       ap₂ ◌++◌
-      (folds_join h X _ _ ∙ ap₂ (λ a b. Join ∷ (a ++ b)) (folds_peaks h X t (take n ts) ∙ ap down short) (folds_bag h X (suc n) u us ∙ ap (up (suc n)) rest))
-      (nodes_join h X _ _ ∙ ap₂ ◌++◌ (nodes_peaks h X t (take n ts)) (nodes_bag h X (suc n) u us) ∙ sym (flat_both (t ∷ take n ts) (u ∷ us)) ∙ ap (λ z. flat_map node_places (t ∷ take n ts ++ z)) e ∙ ap (λ z. flat_map node_places (t ∷ z)) (take-append-drop n ts))
+      (folds_join h X _ _ ∙ ap₂ (λ a b. Join ∷ (a ++ b)) (folds_peaks h X t (take n ts) ∙ ap down short) (folds_right_fold h X (suc n) u us ∙ ap (up (suc n)) rest))
+      (nodes_join h X _ _ ∙ ap₂ ◌++◌ (nodes_peaks h X t (take n ts)) (nodes_right_fold h X (suc n) u us) ∙ sym (flat_both (t ∷ take n ts) (u ∷ us)) ∙ ap (λ z. flat_map node_places (t ∷ take n ts ++ z)) e ∙ ap (λ z. flat_map node_places (t ∷ z)) (take-append-drop n ts))
       ∙ ap (λ b. cond b (Join ∷ (down n ++ up (suc n) (pred (suc (length ts) - suc n)))) (down (length ts)) ++ flat_map node_places (t ∷ ts)) (sym (lt-ltb (suc n) (suc (length ts)) (omega arith)))
 
 pub places_in_order : {D : Type 0} → PlacesInOrder D

@@ -90,9 +90,9 @@ no_collision {D = D} h a b xs ys e sub once none c w = at_members w.claimed w.li
     at_members (inr m) (inl q) = none c.claimed (subst (λ z. Member ys (record { place = z; argument = c.claimed })) (sym (ap (λ (i : Input D). i.place) q)) (sub _ m))
     at_members (inr m) (inr n) = w.differ (ap (λ (i : Input D). i.argument) (once _ _ (sub _ m) n refl))
 
-pub honest_is_clear : {D : Type 0} → HonestHasNoCollision D
+pub honest_has_no_collision : {D : Type 0} → HonestHasNoCollision D
 unfolding claim_for
-honest_is_clear s laws X n k once r honest =
+honest_has_no_collision s laws X n k once r honest =
     let same : (i : ℕ) → chosen r i ≡ true → leaf_given s.hashing r i ≡ X i = honest_leaf s X n k r honest in
     let e : root_plan s.bagging r.inactive (peaks_of s.rule r.leaves) ≡ root_plan s.bagging k (peaks_of s.rule n) = ap₂ (λ x y. root_plan s.bagging x (peaks_of s.rule y)) honest.inactive honest.leaves in
     let text : string_of s r.leaves r.inactive (range_expression s r) ≡ string_of s n k (list_expression s X n k) =

@@ -13,7 +13,7 @@ use Rattle.merkle_base.specs.Scheme.{Scheme}
 use Rattle.merkle_base.specs.Places.{peaks_of}
 use Rattle.merkle_base.specs.Root.{root_string}
 use Rattle.merkle_root_theory.specs.Range.{end_of, range_parts, range_siblings, AcceptsNonempty}
-use Rattle.merkle_claim_theory.specs.Store.{sub_siblings, sub_outer, sub_inner, sub_digests, IsPartOf, PartIsAccepted, read_pair, SiblingsAreRead}
+use Rattle.merkle_claim_theory.specs.Store.{sub_siblings, sub_outside_parts, sub_inner, sub_digests, IsPartOf, PartIsAccepted, read_pair, SiblingsAreRead}
 use Rattle.merkle_root_theory.specs.Collision.{Member}
 use Rattle.merkle_claim_theory.specs.Order.{Distinct}
 use Rattle.merkle_claim_theory.specs.Table.{digest_for}
@@ -39,11 +39,11 @@ module _ {D : Type 0} (h : Hashing D) (c d : ℕ → Bool) (Y Z : ℕ → D) (wi
   sub_count (join p l r) ds = by_test (λ b. length (cond b (sub_siblings h c d Y l ds ++ sub_siblings h c d Y r (drop (length (siblings c l)) ds)) (value h (tree_claim h c Y (join p l r) ds) ∷ [])) ≡ length (cond b (siblings d l ++ siblings d r) (join p l r ∷ []))) (tree_meets d l || tree_meets d r)
       (λ _. length-append (sub_siblings h c d Y l ds) _ ∙ ap₂ ◌+◌ (sub_count l ds) (sub_count r (drop (length (siblings c l)) ds)) ∙ sym (length-append (siblings d l) (siblings d r))) (λ _. refl)
 
-  outer_count : (p : Plan) (os is : List D) → length (sub_outer h c d Y p os is) ≡ length (outside_parts d p)
-  outer_count (peak t) os is = by_test (λ b. length (cond b [] (value h (claim h c Y (peak t) os is) ∷ [])) ≡ length (cond b [] (peak t ∷ []))) (tree_meets d t) (λ _. refl) (λ _. refl)
-  outer_count (folding place l r) os is = by_test (λ b. length (cond b (sub_outer h c d Y l os is ++ sub_outer h c d Y r (drop (length (outside_parts c l)) os) (drop (length (path_siblings c l)) is)) (value h (claim h c Y (folding place l r) os is) ∷ []))
+  outside_parts_count : (p : Plan) (os is : List D) → length (sub_outside_parts h c d Y p os is) ≡ length (outside_parts d p)
+  outside_parts_count (peak t) os is = by_test (λ b. length (cond b [] (value h (claim h c Y (peak t) os is) ∷ [])) ≡ length (cond b [] (peak t ∷ []))) (tree_meets d t) (λ _. refl) (λ _. refl)
+  outside_parts_count (folding place l r) os is = by_test (λ b. length (cond b (sub_outside_parts h c d Y l os is ++ sub_outside_parts h c d Y r (drop (length (outside_parts c l)) os) (drop (length (path_siblings c l)) is)) (value h (claim h c Y (folding place l r) os is) ∷ []))
       ≡ length (cond b (outside_parts d l ++ outside_parts d r) (folding place l r ∷ []))) (meets d l || meets d r)
-      (λ _. length-append (sub_outer h c d Y l os is) _ ∙ ap₂ ◌+◌ (outer_count l os is) (outer_count r (drop (length (outside_parts c l)) os) (drop (length (path_siblings c l)) is)) ∙ sym (length-append (outside_parts d l) (outside_parts d r))) (λ _. refl)
+      (λ _. length-append (sub_outside_parts h c d Y l os is) _ ∙ ap₂ ◌+◌ (outside_parts_count l os is) (outside_parts_count r (drop (length (outside_parts c l)) os) (drop (length (path_siblings c l)) is)) ∙ sym (length-append (outside_parts d l) (outside_parts d r))) (λ _. refl)
 
   inner_count : (p : Plan) (os is : List D) → length (sub_inner h c d Y p os is) ≡ length (path_siblings d p)
   inner_count (peak t) os is = by_test (λ b. length (cond b (sub_siblings h c d Y t is) []) ≡ length (cond b (siblings d t) [])) (tree_meets d t) (λ _. sub_count t is) (λ _. refl)
@@ -70,22 +70,22 @@ module _ {D : Type 0} (h : Hashing D) (c d : ℕ → Bool) (Y Z : ℕ → D) (wi
       ∙ sym (ap (λ b. value h (cond b (computed (Node p) (tree_claim h c Y l ds) (tree_claim h c Y r (drop (length (siblings c l)) ds))) (supplied (next h ds)))) (meets_sub (join p l r) q)))
       (λ _ e. ap (next h) e)
 
-  plan_sub : (p : Plan) (os is xs ys ro ri : List D) → xs ≡ sub_outer h c d Y p os is ++ ro → ys ≡ sub_inner h c d Y p os is ++ ri → value h (claim h d Z p xs ys) ≡ value h (claim h c Y p os is)
+  plan_sub : (p : Plan) (os is xs ys ro ri : List D) → xs ≡ sub_outside_parts h c d Y p os is ++ ro → ys ≡ sub_inner h c d Y p os is ++ ri → value h (claim h d Z p xs ys) ≡ value h (claim h c Y p os is)
   plan_sub (peak t) os is xs ys ro ri = by_test (λ b. xs ≡ cond b [] (value h (claim h c Y (peak t) os is) ∷ []) ++ ro → ys ≡ cond b (sub_siblings h c d Y t is) [] ++ ri
       → value h (cond b (tree_claim h d Z t ys) (supplied (next h xs))) ≡ value h (claim h c Y (peak t) os is)) (tree_meets d t)
       (λ q e f. tree_sub t is ys ri f ∙ sym (ap (λ b. value h (cond b (tree_claim h c Y t is) (supplied (next h os)))) (meets_sub t q))) (λ _ e f. ap (next h) e)
   plan_sub (folding place l r) os is xs ys ro ri =
       let os' = drop (length (outside_parts c l)) os in
       let is' = drop (length (path_siblings c l)) is in
-      let ol = sub_outer h c d Y l os is in
-      let or = sub_outer h c d Y r os' is' in
+      let ol = sub_outside_parts h c d Y l os is in
+      let or = sub_outside_parts h c d Y r os' is' in
       let il = sub_inner h c d Y l os is in
       let ir = sub_inner h c d Y r os' is' in
       let u = plan_sub l os is xs ys (or ++ ro) (ir ++ ri) in
       let v = plan_sub r os' is' (drop (length (outside_parts d l)) xs) (drop (length (path_siblings d l)) ys) ro ri in
       by_test (λ b. xs ≡ cond b (ol ++ or) (value h (claim h c Y (folding place l r) os is) ∷ []) ++ ro → ys ≡ cond b (il ++ ir) [] ++ ri
       → value h (cond b (computed place (claim h d Z l xs ys) (claim h d Z r (drop (length (outside_parts d l)) xs) (drop (length (path_siblings d l)) ys))) (supplied (next h xs))) ≡ value h (claim h c Y (folding place l r) os is)) (meets d l || meets d r)
-      (λ q e f. ap₂ (hashed_at h place) (u (left_part ol or xs ro e) (left_part il ir ys ri f)) (v (right_part (length (outside_parts d l)) ol or xs ro (outer_count l os is) e) (right_part (length (path_siblings d l)) il ir ys ri (inner_count l os is) f))
+      (λ q e f. ap₂ (hashed_at h place) (u (left_part ol or xs ro e) (left_part il ir ys ri f)) (v (right_part (length (outside_parts d l)) ol or xs ro (outside_parts_count l os is) e) (right_part (length (path_siblings d l)) il ir ys ri (inner_count l os is) f))
       ∙ sym (ap (λ b. value h (cond b (computed place (claim h c Y l os is) (claim h c Y r os' is')) (supplied (next h os)))) (meets_sub_plan (folding place l r) q)))
       (λ _ e f. ap (next h) e)
 
@@ -105,7 +105,7 @@ module _ {D : Type 0} (s : Scheme D) (r q : RangeInput D) (root : D) (ok : Accep
       ∙ get_or-drop (q.start - r.start) r.elements (i - q.start) s.hashing.empty ∙ ap (λ z. get_or r.elements z s.hashing.empty) e
 
   abbrev os : List D
-  os = sub_outer s.hashing (chosen r) (chosen q) (leaf_given s.hashing r) plan.0 r.digests (drop (length (outside_parts (chosen r) plan.0)) r.digests)
+  os = sub_outside_parts s.hashing (chosen r) (chosen q) (leaf_given s.hashing r) plan.0 r.digests (drop (length (outside_parts (chosen r) plan.0)) r.digests)
 
   abbrev is : List D
   is = sub_inner s.hashing (chosen r) (chosen q) (leaf_given s.hashing r) plan.0 r.digests (drop (length (outside_parts (chosen r) plan.0)) r.digests)
@@ -114,7 +114,7 @@ module _ {D : Type 0} (s : Scheme D) (r q : RangeInput D) (root : D) (ok : Accep
   given_digests = part.digests ∙ ap (sub_digests s r q) plan.1
 
   few : length os ≡ length (outside_parts (chosen q) plan.0)
-  few = outer_count s.hashing (chosen r) (chosen q) (leaf_given s.hashing r) (leaf_given s.hashing q) inside agree plan.0 r.digests _
+  few = outside_parts_count s.hashing (chosen r) (chosen q) (leaf_given s.hashing r) (leaf_given s.hashing q) inside agree plan.0 r.digests _
 
   few_inner : length is ≡ length (path_siblings (chosen q) plan.0)
   few_inner = inner_count s.hashing (chosen r) (chosen q) (leaf_given s.hashing r) (leaf_given s.hashing q) inside agree plan.0 r.digests _

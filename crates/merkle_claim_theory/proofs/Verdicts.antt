@@ -22,7 +22,7 @@ use Rattle.merkle_claim_theory.proofs.HonestClaims.{member_split}
 use Rattle.merkle_claim_theory.proofs.PlacesOnce.{distinct_append}
 use Rattle.merkle_claim_theory.proofs.FirstCollisions.{finds_first}
 use Rattle.merkle_claim_theory.proofs.Audits.{none_shows, no_collision}
-use Rattle.merkle_claim_theory.proofs.RangeNoCollision.{honest_is_clear}
+use Rattle.merkle_claim_theory.proofs.RangeNoCollision.{honest_has_no_collision}
 use Rattle.merkle_base.proofs.PeakLists.{Spans, peaks_built, peaks_spans}
 use Rattle.merkle_root_theory.proofs.RangeChecks.{accepted_is_honest, old_honest}
 use Rattle.merkle_claim_theory.proofs.Multiproofs.{accepted_multi_is_honest, all_member}
@@ -80,7 +80,7 @@ verdicts = record {
   range = λ s size max_nodes sound xs k few low r ok. verdict s.hashing sound.laws _ _ (accepted_is_honest s size max_nodes sound xs k few low r ok);
   multi = λ s size max_nodes sound xs k few low r ok. verdict s.hashing sound.laws _ _ (accepted_multi_is_honest s size max_nodes sound xs k few low r ok);
   pinned = λ s size max_nodes sound xs k few low r pins ok. verdict s.hashing sound.laws _ _ (accepted_pinned_is_honest s size max_nodes sound xs k few low r pins ok);
-  clear = λ s laws xs k r honest. honest_is_clear s laws (leaf_of s.hashing xs) (length xs) k (distinct_nodes s (length xs)) r (old_honest s xs k r honest);
+  clear = λ s laws xs k r honest. honest_has_no_collision s laws (leaf_of s.hashing xs) (length xs) k (distinct_nodes s (length xs)) r (old_honest s xs k r honest);
 }
 
 -- ---- the test

@@ -22,10 +22,10 @@ sub_siblings h c d X (join p l r) ds = cond (tree_meets d l || tree_meets d r)
     (value h (tree_claim h c X (join p l r) ds) ∷ [])
 
 -- the same of the maximal parts of a plan
-abbrev pub sub_outer : {D : Type 0} → Hashing D → (ℕ → Bool) → (ℕ → Bool) → (ℕ → D) → Plan → List D → List D → List D
-sub_outer h c d X (peak t) os is = cond (tree_meets d t) [] (value h (claim h c X (peak t) os is) ∷ [])
-sub_outer h c d X (folding place l r) os is = cond (meets d l || meets d r)
-    (sub_outer h c d X l os is ++ sub_outer h c d X r (drop (length (outside_parts c l)) os) (drop (length (path_siblings c l)) is))
+abbrev pub sub_outside_parts : {D : Type 0} → Hashing D → (ℕ → Bool) → (ℕ → Bool) → (ℕ → D) → Plan → List D → List D → List D
+sub_outside_parts h c d X (peak t) os is = cond (tree_meets d t) [] (value h (claim h c X (peak t) os is) ∷ [])
+sub_outside_parts h c d X (folding place l r) os is = cond (meets d l || meets d r)
+    (sub_outside_parts h c d X l os is ++ sub_outside_parts h c d X r (drop (length (outside_parts c l)) os) (drop (length (path_siblings c l)) is))
     (value h (claim h c X (folding place l r) os is) ∷ [])
 
 -- the same of the nodes within its peaks
@@ -39,7 +39,7 @@ sub_inner h c d X (folding place l r) os is = cond (meets d l || meets d r)
 abbrev pub sub_digests : {D : Type 0} → Scheme D → RangeInput D → RangeInput D → Option Plan → List D
 sub_digests s r q None = []
 sub_digests s r q (Some p) =
-    sub_outer s.hashing (chosen r) (chosen q) (leaf_given s.hashing r) p r.digests (drop (length (outside_parts (chosen r) p)) r.digests)
+    sub_outside_parts s.hashing (chosen r) (chosen q) (leaf_given s.hashing r) p r.digests (drop (length (outside_parts (chosen r) p)) r.digests)
     ++ sub_inner s.hashing (chosen r) (chosen q) (leaf_given s.hashing r) p r.digests (drop (length (outside_parts (chosen r) p)) r.digests)
 
 -- q proves a part of r's range with digests read off r's claim

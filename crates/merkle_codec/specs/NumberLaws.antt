@@ -144,7 +144,7 @@ IsRefusalUpTo_once greatest above b e f (inr h) (inr k) = h.1 ∙ sym k.1
 
 -- the greatest node count and the greatest leaf count of a family fit 64 bits
 pub lawful_nodes : (rule : List ℕ → List ℕ) (max_leaves max_nodes : ℕ) → IsLawful rule max_leaves max_nodes → max_nodes < 2 ^ 64
-lawful_nodes rule max_leaves max_nodes law = omega (arith, law.small)
+lawful_nodes rule max_leaves max_nodes law = omega (arith, law.limit_fits)
 
 pub lawful_locations : (rule : List ℕ → List ℕ) (max_leaves max_nodes : ℕ) → IsLawful rule max_leaves max_nodes → max_leaves < 2 ^ 64
 lawful_locations rule max_leaves max_nodes law = omega (arith, lawful_leaves rule max_leaves max_nodes law)

@@ -232,7 +232,7 @@ impl<F: Family, D: Digest> Mem<F, D> {
         ensures honest { let s = H.scheme hasher.now in
             (X : List D) → Agrees (H.hashing hasher.now) F.rule (contents self.now) X
             → IfOk result (λ p. location < length X × IsHonestRange s X inactive (list_input p X location (location + 1))) }
-        ensures given { (h : Hashing D) → (X : List D) → Agrees h F.rule (contents self.now) X → self.now.boundary ≤ location → location < length X
+        ensures granted { (h : Hashing D) → (X : List D) → Agrees h F.rule (contents self.now) X → self.now.boundary ≤ location → location < length X
             → inactive ≤ length (peaks_of F.rule (length X)) → IsOkUnless result Error.OutOfMemory }
         ensures few { FewPeaks F.rule F.MAX_LEAVES → IfOk result (λ p. length p.digests.items ≤ 122) }
         ensures err { let bagging = H.bagging_of hasher.now in
@@ -272,7 +272,7 @@ impl<F: Family, D: Digest> Mem<F, D> {
         ensures honest { let s = H.scheme hasher.now in
             (X : List D) → Agrees (H.hashing hasher.now) F.rule (contents self.now) X
             → IfOk result (λ p. (range.start < range.end) × (range.end ≤ length X) × IsHonestRange s X inactive (list_input p X range.start range.end)) }
-        ensures given { (h : Hashing D) → (X : List D) → Agrees h F.rule (contents self.now) X → self.now.boundary ≤ range.start
+        ensures granted { (h : Hashing D) → (X : List D) → Agrees h F.rule (contents self.now) X → self.now.boundary ≤ range.start
             → range.start < range.end → range.end ≤ length X → inactive ≤ length (peaks_of F.rule (length X)) → IsOkUnless result Error.OutOfMemory }
         ensures err { let bagging = H.bagging_of hasher.now in let n = self.now.leaves in
             IfErr result (λ e. e ≢ Error.OutOfMemory → IsRangeRefusal bagging F.rule F.MAX_LEAVES n range.start range.end inactive (node self.now) e) }

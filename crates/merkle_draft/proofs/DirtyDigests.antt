@@ -74,44 +74,44 @@ dirty_above m a (join p l r) u e = elim u [
 ]
 
 module _ {D : Type 0} (h : Hashing D) (m below : ℕ → Option D) where
-  pub refreshed_dirty : (p : ℕ) (l r : Tree) → is_dirty m (join p l r) ≡ true → dirty_digest h m below (join p l r) ≡ of_both (h.node p) (dirty_digest h m below l) (dirty_digest h m below r)
-  refreshed_dirty p l r e = ap (λ b. cond b (of_both (h.node p) (dirty_digest h m below l) (dirty_digest h m below r)) (below p)) e
+  pub dirty_digest_dirty : (p : ℕ) (l r : Tree) → is_dirty m (join p l r) ≡ true → dirty_digest h m below (join p l r) ≡ of_both (h.node p) (dirty_digest h m below l) (dirty_digest h m below r)
+  dirty_digest_dirty p l r e = ap (λ b. cond b (of_both (h.node p) (dirty_digest h m below l) (dirty_digest h m below r)) (below p)) e
 
-  pub refreshed_untouched : (t : Tree) → is_dirty m t ≡ false → dirty_digest h m below t ≡ below (position t)
-  refreshed_untouched (leaf p n) e = or_second (m p) (below p) (none_of (m p) e)
-  refreshed_untouched (join p l r) e = ap (λ b. cond b (of_both (h.node p) (dirty_digest h m below l) (dirty_digest h m below r)) (below p)) e
+  pub dirty_digest_untouched : (t : Tree) → is_dirty m t ≡ false → dirty_digest h m below t ≡ below (position t)
+  dirty_digest_untouched (leaf p n) e = or_second (m p) (below p) (none_of (m p) e)
+  dirty_digest_untouched (join p l r) e = ap (λ b. cond b (of_both (h.node p) (dirty_digest h m below l) (dirty_digest h m below r)) (below p)) e
 
   -- ---- the new digests are those of a list that has the new leaves, and what is read
-  pub refreshed_right : (Y : List D) (t : Tree) (d : D) → dirty_digest h m below t ≡ Some d → ((u : Tree) (e : D) → IsReadFor m t u → below (position u) ≡ Some e → e ≡ digest_at h Y u) → ((q k : ℕ) (e : D) → IsUnder (leaf q k) t → m q ≡ Some e → e ≡ digest_at h Y (leaf q k)) → d ≡ digest_at h Y t
-  refreshed_right Y (leaf q k) d e reads new = elim (none_or_some (m q)) [
+  pub dirty_digest_right : (Y : List D) (t : Tree) (d : D) → dirty_digest h m below t ≡ Some d → ((u : Tree) (e : D) → IsReadFor m t u → below (position u) ≡ Some e → e ≡ digest_at h Y u) → ((q k : ℕ) (e : D) → IsUnder (leaf q k) t → m q ≡ Some e → e ≡ digest_at h Y (leaf q k)) → d ≡ digest_at h Y t
+  dirty_digest_right Y (leaf q k) d e reads new = elim (none_or_some (m q)) [
     | inl o ↦ reads (leaf q k) d (ap is_some o, refl) (sym (or_second (m q) (below q) o) ∙ e)
     | inr o ↦ (let c : o.0 ≡ d = (let g : Some o.0 ≡ Some d = sym (or_first (m q) (below q) o.0 o.1) ∙ e in cc) in
         sym c ∙ new q k o.0 refl o.1)
   ]
-  refreshed_right Y (join p l r) d e reads new = elim (cases_Bool (is_dirty m (join p l r))) [
-    | inl b ↦ (let w = both_some (h.node p) (dirty_digest h m below l) (dirty_digest h m below r) d (sym (refreshed_dirty p l r b) ∙ e) in
-        let x : w.0 ≡ digest_at h Y l = refreshed_right Y l w.0 w.2 (λ u a v. reads u a (inr (b, inl v))) (λ q k a v. new q k a (inr (inl v))) in
-        let y : w.1 ≡ digest_at h Y r = refreshed_right Y r w.1 w.3 (λ u a v. reads u a (inr (b, inr v))) (λ q k a v. new q k a (inr (inr v))) in
+  dirty_digest_right Y (join p l r) d e reads new = elim (cases_Bool (is_dirty m (join p l r))) [
+    | inl b ↦ (let w = both_some (h.node p) (dirty_digest h m below l) (dirty_digest h m below r) d (sym (dirty_digest_dirty p l r b) ∙ e) in
+        let x : w.0 ≡ digest_at h Y l = dirty_digest_right Y l w.0 w.2 (λ u a v. reads u a (inr (b, inl v))) (λ q k a v. new q k a (inr (inl v))) in
+        let y : w.1 ≡ digest_at h Y r = dirty_digest_right Y r w.1 w.3 (λ u a v. reads u a (inr (b, inr v))) (λ q k a v. new q k a (inr (inr v))) in
         w.4 ∙ ap (λ z. h.node p z w.1) x ∙ ap (λ z. h.node p (digest_at h Y l) z) y)
-    | inr b ↦ reads (join p l r) d (inl (b, refl)) (sym (refreshed_untouched (join p l r) b) ∙ e)
+    | inr b ↦ reads (join p l r) d (inl (b, refl)) (sym (dirty_digest_untouched (join p l r) b) ∙ e)
   ]
 
   -- ---- where a tree has its new digest, so has each changed node below it
-  pub refreshed_below : (a t : Tree) → IsUnder a t → is_dirty m a ≡ true → is_some (dirty_digest h m below t) ≡ true → is_some (dirty_digest h m below a) ≡ true
-  refreshed_below a (leaf p n) u b e = subst (λ s. is_some (dirty_digest h m below s) ≡ true) (sym u) e
-  refreshed_below a (join p l r) u b e = elim u [
+  pub dirty_digest_below : (a t : Tree) → IsUnder a t → is_dirty m a ≡ true → is_some (dirty_digest h m below t) ≡ true → is_some (dirty_digest h m below a) ≡ true
+  dirty_digest_below a (leaf p n) u b e = subst (λ s. is_some (dirty_digest h m below s) ≡ true) (sym u) e
+  dirty_digest_below a (join p l r) u b e = elim u [
     | inl d ↦ subst (λ s. is_some (dirty_digest h m below s) ≡ true) (sym d) e
-    | inr v ↦ (let w = both_are (h.node p) (dirty_digest h m below l) (dirty_digest h m below r) (ap is_some (sym (refreshed_dirty p l r (dirty_above m a (join p l r) (inr v) b))) ∙ e) in
-        elim v [ inl x ↦ refreshed_below a l x b w.0 | inr x ↦ refreshed_below a r x b w.1 ])
+    | inr v ↦ (let w = both_are (h.node p) (dirty_digest h m below l) (dirty_digest h m below r) (ap is_some (sym (dirty_digest_dirty p l r (dirty_above m a (join p l r) (inr v) b))) ∙ e) in
+        elim v [ inl x ↦ dirty_digest_below a l x b w.0 | inr x ↦ dirty_digest_below a r x b w.1 ])
   ]
 
   -- and each node that is read for it is there
-  pub refreshed_reads : (t u : Tree) → is_some (dirty_digest h m below t) ≡ true → IsReadFor m t u → is_some (below (position u)) ≡ true
-  refreshed_reads (leaf p n) u e v = subst (λ s. is_some (below (position s)) ≡ true) (sym v.1) (ap is_some (sym (refreshed_untouched (leaf p n) v.0)) ∙ e)
-  refreshed_reads (join p l r) u e v = elim v [
-    | inl x ↦ subst (λ s. is_some (below (position s)) ≡ true) (sym x.1) (ap is_some (sym (refreshed_untouched (join p l r) x.0)) ∙ e)
-    | inr x ↦ (let w = both_are (h.node p) (dirty_digest h m below l) (dirty_digest h m below r) (ap is_some (sym (refreshed_dirty p l r x.0)) ∙ e) in
-        elim x.1 [ inl y ↦ refreshed_reads l u w.0 y | inr y ↦ refreshed_reads r u w.1 y ])
+  pub dirty_digest_reads : (t u : Tree) → is_some (dirty_digest h m below t) ≡ true → IsReadFor m t u → is_some (below (position u)) ≡ true
+  dirty_digest_reads (leaf p n) u e v = subst (λ s. is_some (below (position s)) ≡ true) (sym v.1) (ap is_some (sym (dirty_digest_untouched (leaf p n) v.0)) ∙ e)
+  dirty_digest_reads (join p l r) u e v = elim v [
+    | inl x ↦ subst (λ s. is_some (below (position s)) ≡ true) (sym x.1) (ap is_some (sym (dirty_digest_untouched (join p l r) x.0)) ∙ e)
+    | inr x ↦ (let w = both_are (h.node p) (dirty_digest h m below l) (dirty_digest h m below r) (ap is_some (sym (dirty_digest_dirty p l r x.0)) ∙ e) in
+        elim x.1 [ inl y ↦ dirty_digest_reads l u w.0 y | inr y ↦ dirty_digest_reads r u w.1 y ])
   ]
 
   -- ---- where new digests are computed
@@ -153,7 +153,7 @@ module _ {D : Type 0} (h : Hashing D) (m below : ℕ → Option D) where
       ap is_some (computed_dirty p x y q t) ∙ elim u [
         | inl d ↦ (let k : q ≡ p = ap position d in
             ap is_some (cond_yes (q == p) (dirty_digest h m below (join p x y)) (option_or (computed_at h m below y q) (computed_at h m below x q)) (eqb_yes q p k)) ∙ s)
-        | inr v ↦ (let w = both_are (h.node p) (dirty_digest h m below x) (dirty_digest h m below y) (ap is_some (sym (refreshed_dirty p x y t)) ∙ s) in elim v [
+        | inr v ↦ (let w = both_are (h.node p) (dirty_digest h m below x) (dirty_digest h m below y) (ap is_some (sym (dirty_digest_dirty p x y t)) ∙ s) in elim v [
           | inl z ↦ (let low : q ≤ position x = position_under ns (join q l r) x z b.4 in
               ap is_some (cond_no (q == p) (dirty_digest h m below (join p x y)) (option_or (computed_at h m below y q) (computed_at h m below x q)) (eqb_no q p (omega (arith, low, b.1))))
               ∙ or_right_some (computed_at h m below y q) (computed_at h m below x q) (computed_some ns x q l r b.4 z e w.0))

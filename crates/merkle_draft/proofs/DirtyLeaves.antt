@@ -33,8 +33,8 @@ module _ {D : Type 0} (h : Hashing D) (rule : List ℕ → List ℕ) (n : ℕ) (
       subst (λ k. get new p ≡ option_or (all_computed_at h (get {R = nat_cmp} (from_entries es)) k (peaks_of rule n) p) (get low p)) same (f (get {R = nat_cmp} (from_entries es)) taken p)
       ∙ ap (λ z. option_or (all_computed_at h (get {R = nat_cmp} (from_entries es)) below (peaks_of rule n) p) (get z p)) (e ∙ ap (λ z. from_entries z) all))
 
-  pub leaves_refreshed : {T E : Type 0} (r : Result T E) → OnOk r ((m : ℕ → Option D) → items ≡ flat_map (dirty_leaves m) (peaks_of rule n) → HaveDirtyDigests h m then (peaks_of rule n)) → OnOk r (HaveDirtyDigests h (get {R = nat_cmp} (from_entries es)) below (peaks_of rule n))
-  leaves_refreshed r = on_ok r (λ f. subst (λ k. HaveDirtyDigests h (get {R = nat_cmp} (from_entries es)) k (peaks_of rule n)) same (f (get {R = nat_cmp} (from_entries es)) taken))
+  pub leaves_dirty_digest : {T E : Type 0} (r : Result T E) → OnOk r ((m : ℕ → Option D) → items ≡ flat_map (dirty_leaves m) (peaks_of rule n) → HaveDirtyDigests h m then (peaks_of rule n)) → OnOk r (HaveDirtyDigests h (get {R = nat_cmp} (from_entries es)) below (peaks_of rule n))
+  leaves_dirty_digest r = on_ok r (λ f. subst (λ k. HaveDirtyDigests h (get {R = nat_cmp} (from_entries es)) k (peaks_of rule n)) same (f (get {R = nat_cmp} (from_entries es)) taken))
 
   pub leaves_missing : {F T : Type 0} (r : Result T (NodeError F)) → IfErr r (λ e. e ≢ OutOfMemory → (m : ℕ → Option D) → items ≡ flat_map (dirty_leaves m) (peaks_of rule n) → LacksForOne m then (peaks_of rule n) e)
       → IfErr r (λ e. e ≢ OutOfMemory → LacksForOne (get {R = nat_cmp} (from_entries es)) below (peaks_of rule n) e)

@@ -47,8 +47,8 @@ module _ {D : Type 0} (h : Hashing D) (m below : ℕ → Option D) where
   all_computed_push (x ∷ ts) t q =
       ap (λ o. option_or o (computed_at h m below x q)) (all_computed_push ts t q) ∙ or_assoc (computed_at h m below t q) (all_computed_at h m below ts q) (computed_at h m below x q)
 
-  refreshed_push : (ts : List Tree) (t : Tree) → HaveDirtyDigests h m below ts → (is_dirty m t ≡ true → is_some (dirty_digest h m below t) ≡ true) → HaveDirtyDigests h m below (ts ++ t ∷ [])
-  refreshed_push ts t all f i x e b = elim (get_push_cases ts t i x e) [
+  dirty_digest_push : (ts : List Tree) (t : Tree) → HaveDirtyDigests h m below ts → (is_dirty m t ≡ true → is_some (dirty_digest h m below t) ≡ true) → HaveDirtyDigests h m below (ts ++ t ∷ [])
+  dirty_digest_push ts t all f i x e b = elim (get_push_cases ts t i x e) [
     | inl k ↦ all i x k b
     | inr k ↦ subst (λ z. is_some (dirty_digest h m below z) ≡ true) (sym k.1) (f (subst (λ z. is_dirty m z ≡ true) k.1 b))
   ]
@@ -153,18 +153,18 @@ module _ {D : Type 0} (h : Hashing D) (rule : List ℕ → List ℕ) (max n : �
         parted = λ m u. (parts m u).1;
         computed = λ m u q.
             w.computed m u q ∙ ap (λ o. option_or o (get old q)) (sym (all_computed_push h m below w.done w.tree q ∙ ap (λ o. option_or o (all_computed_at h m below w.done q)) (none_computed h m below w.tree q (quiet m u))));
-        fresh = λ m u. refreshed_push h m below w.done w.tree (w.fresh m u) (λ b. absurd (true≢false (sym b ∙ quiet m u)));
+        fresh = λ m u. dirty_digest_push h m below w.done w.tree (w.fresh m u) (λ b. absurd (true≢false (sym b ∙ quiet m u)));
       }
         where
           quiet : (m : ℕ → Option D) → all ≡ flat_map (dirty_leaves m) (peaks_of rule n) → is_dirty m w.tree ≡ false
           quiet m u = not_dirty m w.tree (sym (parts m u).0 ∙ nil_from_length front (omega arith))
 
       -- it has its new digest
-      pub peak_refreshed : (then : ℕ → Option D) (d : D) (newer : FinMap nat_cmp D) → then ≡ below
+      pub peak_dirty_digest : (then : ℕ → Option D) (d : D) (newer : FinMap nat_cmp D) → then ≡ below
           → ((t : Tree) (m : ℕ → Option D) → IsNodeOf rule max p tall s t → front ≡ dirty_leaves m t → dirty_digest h m then t ≡ Some d)
           → ((t : Tree) (m : ℕ → Option D) → IsNodeOf rule max p tall s t → front ≡ dirty_leaves m t → (q : ℕ) → get newer q ≡ option_or (computed_at h m then t q) (get new q))
           → Refreshing h rule max n below all old more end back newer
-      peak_refreshed then d newer same f g = record {
+      peak_dirty_digest then d newer same f g = record {
         done = w.done ++ w.tree ∷ [];
         rest = w.rest;
         all_is = w.all_is ∙ sym (append_assoc w.done (w.tree ∷ []) w.rest);
@@ -176,7 +176,7 @@ module _ {D : Type 0} (h : Hashing D) (rule : List ℕ → List ℕ) (max n : �
         computed = λ m u q.
             subst (λ k. get newer q ≡ option_or (computed_at h m k w.tree q) (get new q)) same (g w.tree m w.stands (parts m u).0 q) ∙ ap (option_or (computed_at h m below w.tree q)) (w.computed m u q)
             ∙ sym (or_assoc (computed_at h m below w.tree q) (all_computed_at h m below w.done q) (get old q)) ∙ ap (λ o. option_or o (get old q)) (sym (all_computed_push h m below w.done w.tree q));
-        fresh = λ m u. refreshed_push h m below w.done w.tree (w.fresh m u) (λ b. ap is_some (subst (λ k. dirty_digest h m k w.tree ≡ Some d) same (f w.tree m w.stands (parts m u).0)));
+        fresh = λ m u. dirty_digest_push h m below w.done w.tree (w.fresh m u) (λ b. ap is_some (subst (λ k. dirty_digest h m k w.tree ≡ Some d) same (f w.tree m w.stands (parts m u).0)));
       }
 
       -- a node that is read for it isn't there
@@ -202,5 +202,5 @@ module _ {D : Type 0} (h : Hashing D) (rule : List ℕ → List ℕ) (max n : �
     pub walk_computed : (m : ℕ → Option D) → all ≡ flat_map (dirty_leaves m) (peaks_of rule n) → (q : ℕ) → get new q ≡ option_or (all_computed_at h m below (peaks_of rule n) q) (get old q)
     walk_computed m u q = w.computed m u q ∙ ap (λ ts. option_or (all_computed_at h m below ts q) (get old q)) all_done
 
-    pub walk_refreshed : (m : ℕ → Option D) → all ≡ flat_map (dirty_leaves m) (peaks_of rule n) → HaveDirtyDigests h m below (peaks_of rule n)
-    walk_refreshed m u = subst (HaveDirtyDigests h m below) all_done (w.fresh m u)
+    pub walk_dirty_digest : (m : ℕ → Option D) → all ≡ flat_map (dirty_leaves m) (peaks_of rule n) → HaveDirtyDigests h m below (peaks_of rule n)
+    walk_dirty_digest m u = subst (HaveDirtyDigests h m below) all_done (w.fresh m u)

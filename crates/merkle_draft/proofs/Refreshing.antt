@@ -21,7 +21,7 @@ use Rattle.merkle_batch_theory.specs.History.{is_dirty}
 use Rattle.merkle_draft.specs.Drafts.{LacksFor}
 use Rattle.merkle_draft.specs.DraftReads.{DraftModel, below, OnlyOverwrites}
 use Rattle.merkle_draft.specs.DirtyDigests.{of_both, dirty_digest, computed_at, dirty_leaves, are_before}
-use Rattle.merkle_draft.proofs.DirtyDigests.{refreshed_dirty, refreshed_untouched, computed_dirty, computed_untouched, read_itself}
+use Rattle.merkle_draft.proofs.DirtyDigests.{dirty_digest_dirty, dirty_digest_untouched, computed_dirty, computed_untouched, read_itself}
 use Rattle.merkle_draft.proofs.DirtyFacts.{none_dirty, not_dirty, before_right, split_parts}
 use Rattle.merkle_batch_theory.proofs.OptionFacts.{or_assoc}
 use Rattle.merkle_batch_theory.proofs.MapFacts.{inserted_at}
@@ -51,7 +51,7 @@ module _ {F D : Type 0} (h : Hashing D) (rule : List ℕ → List ℕ) (n : ℕ)
     pub alone_digest : (below : ℕ → Option D) (o : Option D) (r : Result D (NodeError F)) → r ≡ ok_or o (Missing s.position) → o ≡ below s.position → IfOk r (λ d. (t : Tree) → (m : ℕ → Option D) → Denotes rule n s t → us ≡ dirty_leaves m t → dirty_digest h m below t ≡ Some d)
     alone_digest below None r e k = subst (λ x. IfOk x (λ d. (t : Tree) → (m : ℕ → Option D) → Denotes rule n s t → us ≡ dirty_leaves m t → dirty_digest h m below t ≡ Some d)) (sym e) tt
     alone_digest below (Some d) r e k = subst (λ x. IfOk x (λ d. (t : Tree) → (m : ℕ → Option D) → Denotes rule n s t → us ≡ dirty_leaves m t → dirty_digest h m below t ≡ Some d)) (sym e)
-        (λ t m w u. refreshed_untouched h m below t (untouched m t u) ∙ ap below ((forest_grown rule n).placed s.position t w.at) ∙ sym k)
+        (λ t m w u. dirty_digest_untouched h m below t (untouched m t u) ∙ ap below ((forest_grown rule n).placed s.position t w.at) ∙ sym k)
 
     pub alone_computed : (below : ℕ → Option D) (ow : FinMap nat_cmp D) (t : Tree) (m : ℕ → Option D) → Denotes rule n s t → us ≡ dirty_leaves m t → (q : ℕ) → get ow q ≡ option_or (computed_at h m below t q) (get ow q)
     alone_computed below ow t m w u q = sym (ap (λ o. option_or o (get ow q)) (none_computed h m below t q (untouched m t u)))
@@ -114,7 +114,7 @@ module _ {F D : Type 0} (h : Hashing D) (rule : List ℕ → List ℕ) (n : ℕ)
           let p = parted m q a b w u in
           let f : dirty_digest h m below b ≡ Some z = subst (λ g. dirty_digest h m g b ≡ Some z) same (right b m c.1 p.1) in
           let place : q ≡ s.position = (forest_grown rule n).placed s.position (join q a b) w.at in
-          refreshed_dirty h m below q a b (dirty m (join q a b) u) ∙ ap (λ o. of_both (h.node q) o (dirty_digest h m below b)) (left a m c.0 p.0) ∙ ap (of_both (h.node q) (Some y)) f
+          dirty_digest_dirty h m below q a b (dirty m (join q a b) u) ∙ ap (λ o. of_both (h.node q) o (dirty_digest h m below b)) (left a m c.0 p.0) ∙ ap (of_both (h.node q) (Some y)) f
           ∙ ap (λ i. Some (h.node i y z)) place ∙ ap Some (sym made)
 
       pub inner_computed : (old mid low new : FinMap nat_cmp D)

@@ -18,7 +18,7 @@ flat_size n = omega (arith, size_peaks never n, flat_peak_count n)
 pub flat_lawful : IsLawful never 64 64
 flat_lawful = record {
   equal = λ n h. tt;
-  few = λ n h. omega (arith, flat_peak_count n);
-  full = flat_size 64;
-  small = omega arith;
+  at_most_64_peaks = λ n h. omega (arith, flat_peak_count n);
+  size_at_limit = flat_size 64;
+  limit_fits = omega arith;
 }

@@ -64,7 +64,7 @@ peak_count n = (let h = halves n in elim h.1 [
 pub pairs_lawful : IsLawful pairing 100 150
 pairs_lawful = record {
   equal = λ n h. pairing_equal (peak_heights pairing n);
-  few = λ n h. omega (arith, peak_count n);
-  full = size_paired 50;
-  small = omega arith;
+  at_most_64_peaks = λ n h. omega (arith, peak_count n);
+  size_at_limit = size_paired 50;
+  limit_fits = omega arith;
 }

@@ -91,7 +91,7 @@ mmb_size n k low high =
 pub mmb_lawful : IsLawful mmb_merges (2 ^ 62 + 30) (2 ^ 63 - 2)
 mmb_lawful = record {
   equal = λ n h. pair_equal 0 (peak_heights mmb_merges n);
-  few = λ n h. omega (arith, log_below (length (peak_heights mmb_merges n)) 64 (n + 1) (mmb_peak_count n).0 (omega arith));
-  full = mmb_size (2 ^ 62 + 30) 62 (omega arith) (omega arith);
-  small = omega arith;
+  at_most_64_peaks = λ n h. omega (arith, log_below (length (peak_heights mmb_merges n)) 64 (n + 1) (mmb_peak_count n).0 (omega arith));
+  size_at_limit = mmb_size (2 ^ 62 + 30) 62 (omega arith) (omega arith);
+  limit_fits = omega arith;
 }

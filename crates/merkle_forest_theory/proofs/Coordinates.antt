@@ -25,9 +25,9 @@ mmr_coordinates = record {
   place = λ n p t l e. omega (arith, (mmr_born n p t e).position, ap (λ (x : ℕ). 2 ^ x) (let z : height t + 1 ≡ suc (height t) = omega arith in z));
   aligned = λ n p t l e. (mmr_born n p t e).aligned;
   born = λ n p t l e. range_born n p t e;
-  there = λ n s a h l e b. mmr_exists n s a h e b;
-  soon = λ s h. omega (arith, pow-suc 2 h, pow_pos h);
-  once = range_once;
+  exists = λ n s a h l e b. mmr_exists n s a h e b;
+  born_before_end = λ s h. omega (arith, pow-suc 2 h, pow_pos h);
+  injective = range_once;
 }
 
 belt_born : (n p : ℕ) (t : Tree) → slice_get (forest mmb_merges n).nodes p ≡ Some t → IsBirthSize mmb_merges p (mmb_birth_leaf_count (first_leaf t) (height t))
@@ -49,7 +49,7 @@ mmb_coordinates = record {
   place = λ n p t l e. (mmb_placed n p t e).position;
   aligned = λ n p t l e. (mmb_placed n p t e).aligned;
   born = λ n p t l e. belt_born n p t e;
-  there = λ n s a h l e b. mmb_exists n s a h e (omega (arith, b));
-  soon = belt_soon;
-  once = belt_once;
+  exists = λ n s a h l e b. mmb_exists n s a h e (omega (arith, b));
+  born_before_end = belt_soon;
+  injective = belt_once;
 }

@@ -7,25 +7,25 @@ use Rattle.merkle_base.specs.Forest.{Forest, append_leaf, parent_of_peaks, merge
 use Rattle.merkle_base.specs.Heights.{EqualAt, AreEqualMerges, born_heights, peak_heights, parent_heights, MergesEqual, weight}
 use Rattle.merkle_forest_theory.specs.Mmr.{mmr_merges, mmr_merges_from, AscendsFrom, IsPostorder, Stacked, IsBornAt}
 use Rattle.merkle_forest_theory.specs.Digits.{EndsInOnes}
-use Rattle.merkle_forest_theory.proofs.RangeLawful.{carries_equal, mmr_ascends, mmr_weight, ascends_multiple}
-use Rattle.merkle_base.proofs.Growth.{forest_grown, grown_append_leaf}
+use Rattle.merkle_forest_theory.proofs.RangeLawful.{mmr_merges_equal, mmr_ascends, mmr_weight, ascends_multiple}
+use Rattle.merkle_base.proofs.Growth.{forest_grown, append_and_merge_append_leaf}
 use Rattle.merkle_base.proofs.Lists.{get_below}
 use Rattle.merkle_base.proofs.Balance.{heights_forest, heights_joined, peaks_balanced, covers_weight}
 use Rattle.merkle_base.proofs.Births.{leaf_at, get_append_cases, all_get}
 use Rattle.merkle_base.proofs.Nodes.{node_built, size_le, no_node}
 
 -- ---- the parents
-pub carries_born : (h : ℕ) (hs : List ℕ) → born_heights (mmr_merges_from h hs) (h ∷ hs) ≡ range_with_len (suc h) (length (mmr_merges_from h hs))
-carries_born h [] = refl
-carries_born h (a ∷ hs) = elim (eqb_tells a h) [
-  | inl e ↦ (let d : suc h + 1 ≡ suc (suc h) = omega arith in rw (e.0, e.1, d) (ap (λ (xs : List ℕ). suc h ∷ xs) (carries_born (suc h) hs)))
+pub mmr_merges_born : (h : ℕ) (hs : List ℕ) → born_heights (mmr_merges_from h hs) (h ∷ hs) ≡ range_with_len (suc h) (length (mmr_merges_from h hs))
+mmr_merges_born h [] = refl
+mmr_merges_born h (a ∷ hs) = elim (eqb_tells a h) [
+  | inl e ↦ (let d : suc h + 1 ≡ suc (suc h) = omega arith in rw (e.0, e.1, d) (ap (λ (xs : List ℕ). suc h ∷ xs) (mmr_merges_born (suc h) hs)))
   | inr e ↦ rw e.0 refl
 ]
 
-pub carries_ends : (h : ℕ) (hs : List ℕ) → AscendsFrom h hs → (m : ℕ) × (weight hs + 2 ^ h ≡ (2 * m + 1) * 2 ^ (h + length (mmr_merges_from h hs)))
-carries_ends h [] a = (0, (let e : h + 0 ≡ h = omega arith in rw e (omega arith)))
-carries_ends h (b ∷ hs) a = elim (eqb_tells b h) [
-  | inl e ↦ (let k = carries_ends (suc h) hs (rw e.1 at a.1) in
+pub mmr_merges_ends : (h : ℕ) (hs : List ℕ) → AscendsFrom h hs → (m : ℕ) × (weight hs + 2 ^ h ≡ (2 * m + 1) * 2 ^ (h + length (mmr_merges_from h hs)))
+mmr_merges_ends h [] a = (0, (let e : h + 0 ≡ h = omega arith in rw e (omega arith)))
+mmr_merges_ends h (b ∷ hs) a = elim (eqb_tells b h) [
+  | inl e ↦ (let k = mmr_merges_ends (suc h) hs (rw e.1 at a.1) in
       let d : h + suc (length (mmr_merges_from (suc h) hs)) ≡ suc h + length (mmr_merges_from (suc h) hs) = omega arith in
       (k.0, rw (e.0, e.1, d) (omega (arith, k.1, pow-suc 2 h))))
   | inr e ↦ (let k = ascends_multiple (suc h) (b ∷ hs) (omega (arith, a.0, e.1), a.1) in
@@ -38,14 +38,14 @@ carries_ends h (b ∷ hs) a = elim (eqb_tells b h) [
 pub mmr_parents : (n : ℕ) → (t : ℕ) × (parent_heights mmr_merges n ≡ range_with_len 1 t) × EndsInOnes t n
 mmr_parents n =
     let hs : List ℕ = peak_heights mmr_merges n in
-    let k = carries_ends 0 hs (mmr_ascends n) in
+    let k = mmr_merges_ends 0 hs (mmr_ascends n) in
     let e : 0 + length (mmr_merges_from 0 hs) ≡ length (mmr_merges_from 0 hs) = omega arith in
-    (length (mmr_merges_from 0 hs), carries_born 0 hs, (k.0, omega (arith, rw e at k.1, mmr_weight n)))
+    (length (mmr_merges_from 0 hs), mmr_merges_born 0 hs, (k.0, omega (arith, rw e at k.1, mmr_weight n)))
 
 -- ---- positions
-pub carries_zero : (h : ℕ) (hs : List ℕ) → AllByRecursion (λ i. i ≡ 0) (mmr_merges_from h hs)
-carries_zero h [] = tt
-carries_zero h (a ∷ hs) = elim (eqb_tells a h) [ inl e ↦ rw e.0 (refl, carries_zero (suc h) hs) | inr e ↦ rw e.0 tt ]
+pub mmr_merges_zero : (h : ℕ) (hs : List ℕ) → AllByRecursion (λ i. i ≡ 0) (mmr_merges_from h hs)
+mmr_merges_zero h [] = tt
+mmr_merges_zero h (a ∷ hs) = elim (eqb_tells a h) [ inl e ↦ rw e.0 (refl, mmr_merges_zero (suc h) hs) | inr e ↦ rw e.0 tt ]
 
 stacked_merge : (ns ts : List Tree) → EqualAt 0 (map height ts) → Stacked (length ns) ts → Stacked (length (ns ++ parent_of_peaks (length ns) 0 ts)) (merge_peaks (length ns) 0 ts)
 stacked_merge ns [] e s = absurd e
@@ -72,7 +72,7 @@ mmr_stacked (suc n) =
     let f : Forest = append_leaf n (forest mmr_merges n) in
     let hs : List ℕ = map height (forest mmr_merges n).peaks in
     let l : length f.nodes ≡ size mmr_merges n + 1 = omega (arith, length-append (forest mmr_merges n).nodes (leaf (size mmr_merges n) n ∷ [])) in
-    stacked_merges (mmr_merges_from 0 hs) (carries_zero 0 hs) f (carries_equal 0 hs) (omega (arith, l), tt, (size mmr_merges n, omega (arith, l), mmr_stacked n))
+    stacked_merges (mmr_merges_from 0 hs) (mmr_merges_zero 0 hs) f (mmr_merges_equal 0 hs) (omega (arith, l), tt, (size mmr_merges n, omega (arith, l), mmr_stacked n))
 
 pub stacked_postorder : (s : ℕ) (a : Tree) (ts : List Tree) → Stacked s ts → IsUnderOne a ts → IsPostorder a
 stacked_postorder s a [] h u = absurd u
@@ -96,7 +96,7 @@ mmr_place n p t e = omega (arith, postorder_position n t (node_built mmr_merges 
 
 -- ---- births
 pub mmr_equal : (m : ℕ) → MergesEqual mmr_merges m
-mmr_equal m n h = carries_equal 0 (peak_heights mmr_merges n)
+mmr_equal m n h = mmr_merges_equal 0 (peak_heights mmr_merges n)
 
 mmr_new : (n : ℕ) (hs : List ℕ) (h : ℕ) (ns ts : List Tree) → map height ts ≡ h ∷ hs → AscendsFrom h hs → Covers n ts → AllByRecursion IsBalanced ts →
     (js : List Tree) × ((merge_all (mmr_merges_from h hs) (record { nodes = ns; peaks = ts })).nodes ≡ ns ++ js) × AllByRecursion (IsBornAt n) js
@@ -138,7 +138,7 @@ mmr_step n =
     let hs : List ℕ = map height (forest mmr_merges n).peaks in
     let k : hs ≡ peak_heights mmr_merges n = heights_forest mmr_merges n in
     let b = mmr_new (suc n) hs 0 f.nodes f.peaks refl (subst (AscendsFrom 0) (sym k) (mmr_ascends n))
-    (grown_append_leaf n (forest mmr_merges n) (forest_grown mmr_merges n)).covers (tt, peaks_balanced mmr_merges n (mmr_equal n) n (omega arith)) in
+    (append_and_merge_append_leaf n (forest mmr_merges n) (forest_grown mmr_merges n)).covers (tt, peaks_balanced mmr_merges n (mmr_equal n) n (omega arith)) in
     (b.0, b.1 ∙ append_assoc (forest mmr_merges n).nodes (leaf (size mmr_merges n) n ∷ []) b.0, b.2)
 
 pub mmr_born : (n p : ℕ) (t : Tree) → slice_get (forest mmr_merges n).nodes p ≡ Some t → IsPlaced p t

@@ -10,10 +10,10 @@ use Rattle.merkle_forest_theory.specs.Mmr.{mmr_merges, mmr_merges_from, AscendsF
 
 -- ---- the merges of the rule
 -- each merge is of two equal peaks
-pub carries_equal : (h : ℕ) (hs : List ℕ) → AreEqualMerges (mmr_merges_from h hs) (h ∷ hs)
-carries_equal h [] = tt
-carries_equal h (a ∷ hs) = elim (eqb_tells a h) [
-  | inl e ↦ rw (e.0, e.1) (refl, carries_equal (suc h) hs)
+pub mmr_merges_equal : (h : ℕ) (hs : List ℕ) → AreEqualMerges (mmr_merges_from h hs) (h ∷ hs)
+mmr_merges_equal h [] = tt
+mmr_merges_equal h (a ∷ hs) = elim (eqb_tells a h) [
+  | inl e ↦ rw (e.0, e.1) (refl, mmr_merges_equal (suc h) hs)
   | inr e ↦ rw e.0 tt
 ]
 
@@ -46,7 +46,7 @@ unfolding peak_heights
 mmr_weight zero = refl
 mmr_weight (suc n) =
     let hs : List ℕ = peak_heights mmr_merges n in
-    omega (arith, all_raised_weight (mmr_merges_from 0 hs) (0 ∷ hs) (carries_equal 0 hs), mmr_weight n)
+    omega (arith, all_raised_weight (mmr_merges_from 0 hs) (0 ∷ hs) (mmr_merges_equal 0 hs), mmr_weight n)
 
 -- ---- the number of peaks
 pub pow_split : (k h : ℕ) → k ≤ h → 2 ^ h ≡ 2 ^ (h - k) * 2 ^ k
@@ -96,8 +96,8 @@ mmr_size n = omega (arith, size_peaks mmr_merges n, mmr_peak_count n)
 -- ---- lawful
 pub mmr_lawful : IsLawful mmr_merges (2 ^ 62) (2 ^ 63 - 1)
 mmr_lawful = record {
-  equal = λ n h. carries_equal 0 (peak_heights mmr_merges n);
-  few = λ n h. omega (arith, mmr_peak_count n, ones-le 63 n (omega arith));
-  full = omega (arith, mmr_size (2 ^ 62), ones_pow 62);
-  small = omega arith;
+  equal = λ n h. mmr_merges_equal 0 (peak_heights mmr_merges n);
+  at_most_64_peaks = λ n h. omega (arith, mmr_peak_count n, ones-le 63 n (omega arith));
+  size_at_limit = omega (arith, mmr_size (2 ^ 62), ones_pow 62);
+  limit_fits = omega arith;
 }

@@ -32,7 +32,7 @@ path_length k (join p l r) b = ⊎_elim
 module _ (rule : List ℕ → List ℕ) (m : ℕ) where
   -- the node stands in the greatest forest too
   in_greatest : (p h s k : ℕ) (w : IsNodeAbove rule m p h s k) → IsNodeOf rule m p h s w.node
-  in_greatest p h s k w = record { at = node_stays rule w.leaves m p w.node w.few w.stands.at; height_is = w.stands.height_is; first_is = w.stands.first_is }
+  in_greatest p h s k w = record { at = node_stays rule w.leaves m p w.node w.bounded w.stands.at; height_is = w.stands.height_is; first_is = w.stands.first_is }
 
   from_node : (p h s k : ℕ) (t : Tree) → IsNodeOf rule m p h s t → path_from k (slice_get (forest rule m).nodes p) ≡ path k t
   from_node p h s k t w = ap (path_from k) w.at
@@ -73,7 +73,7 @@ module _ (rule : List ℕ → List ℕ) (m : ℕ) where
           record {
             leaves = m;
             node = a;
-            few = omega arith;
+            bounded = omega arith;
             stands = l;
             after = omega (arith, l.first_is, v.first_is, w.after);
             before = omega (arith, l.first_is, r.first_is, (node_built rule m p (join q a b) v.at).3, low);
@@ -89,7 +89,7 @@ module _ (rule : List ℕ → List ℕ) (m : ℕ) where
           record {
             leaves = m;
             node = b;
-            few = omega arith;
+            bounded = omega arith;
             stands = r;
             after = high;
             before = omega (arith, v.first_is, r.first_is, (node_built rule m p (join q a b) v.at).3, low);

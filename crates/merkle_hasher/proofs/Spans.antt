@@ -23,7 +23,7 @@ module _ (rule : List ℕ → List ℕ) (m k : ℕ) (law : IsLawful rule m k) wh
   ends_low p h s t w = omega (arith, height_bound rule m law.equal p t w.at, w.first_is, ap (λ (x : ℕ). 2 ^ x) w.height_is)
 
   pub max_small : m < 2 ^ 63
-  max_small = omega (arith, size_large rule m, law.full, law.small)
+  max_small = omega (arith, size_large rule m, law.size_at_limit, law.limit_fits)
 
   -- the end of its leaves, as code computes it
   pub end_fits : (p h s : ℕ) (t : Tree) → IsNodeOf rule m p h s t → s + 1 * 2 ^ h % 2 ^ 64 < 2 ^ 64

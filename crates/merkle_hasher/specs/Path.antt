@@ -18,7 +18,7 @@ path_from k (Some t) = path k t
 pub record IsNodeAbove (rule : List ℕ → List ℕ) (max_leaves p h s k : ℕ) : Type 0 where
   pub leaves : ℕ
   pub node : Tree
-  pub few : leaves ≤ max_leaves
+  pub bounded : leaves ≤ max_leaves
   pub stands : IsNodeOf rule leaves p h s node
   pub after : s ≤ k
   pub before : k < s + width node

@@ -10,9 +10,9 @@ use Rattle.merkle_lines.specs.StructureState.{StructureState}
 use Rattle.merkle_lines.specs.Transcript.{SessionState, IsCommandAnswered, IsNamedAnswered}
 
 pub dispatched : (family : FamilyName) (hash : HashName) (b c : Bagging) (g u : StructureState) (told : Option SessionState) (command : Command) (request : Request) (text : List ℕ)
-    → told ≡ Some (record { family = family; bagging = b; hash = hash; given = g }) → command ≡ Ask request → c ≡ b → IsNamedAnswered family b hash g request u text
-    → IsCommandAnswered told command (Some (record { family = family; bagging = c; hash = hash; given = u })) text
+    → told ≡ Some (record { family = family; bagging = b; hash = hash; structure = g }) → command ≡ Ask request → c ≡ b → IsNamedAnswered family b hash g request u text
+    → IsCommandAnswered told command (Some (record { family = family; bagging = c; hash = hash; structure = u })) text
 dispatched family hash b c g u told command request text t k same answered =
-    subst (λ x. IsCommandAnswered x command (Some (record { family = family; bagging = c; hash = hash; given = u })) text) (sym t)
-    (subst (λ x. IsCommandAnswered (Some (record { family = family; bagging = b; hash = hash; given = g })) x (Some (record { family = family; bagging = c; hash = hash; given = u })) text) (sym k)
-    (u, ap (λ x. Some (record { family = family; bagging = x; hash = hash; given = u })) same, answered))
+    subst (λ x. IsCommandAnswered x command (Some (record { family = family; bagging = c; hash = hash; structure = u })) text) (sym t)
+    (subst (λ x. IsCommandAnswered (Some (record { family = family; bagging = b; hash = hash; structure = g })) x (Some (record { family = family; bagging = c; hash = hash; structure = u })) text) (sym k)
+    (u, ap (λ x. Some (record { family = family; bagging = x; hash = hash; structure = u })) same, answered))

@@ -51,9 +51,9 @@ held_not_none (x ∷ xs) zero l e = absurd (cc e)
 held_not_none (x ∷ xs) (suc p) l e = held_not_none xs p (omega (arith, l)) e
 
 -- records keep the boundary
-laid_boundary : {D : Type 0} (rs : List (RecordModel D)) (c : Contents D) → (with_records rs c).boundary ≡ c.boundary
-laid_boundary [] c = refl
-laid_boundary (r ∷ rs) c = laid_boundary rs (with_record r c)
+with_record_boundary : {D : Type 0} (rs : List (RecordModel D)) (c : Contents D) → (with_records rs c).boundary ≡ c.boundary
+with_record_boundary [] c = refl
+with_record_boundary (r ∷ rs) c = with_record_boundary rs (with_record r c)
 
 -- ---- what has an entry at the same places needs the same nodes
 module _ {D E : Type 0} (rule : List ℕ → List ℕ) (m : ℕ → Option D) (w : ℕ → Option E) (same : (p : ℕ) → is_some (m p) ≡ is_some (w p)) (n e : ℕ) where
@@ -211,7 +211,7 @@ module _ {D : Type 0} (h : Hashing D) (rule : List ℕ → List ℕ) (X : List D
       made_applied d alone done =
           let peaks = held_peaks rule (length X) (contents s) in
           let is : with_records (records k) (contents s) ≡ d = taken (contents s) d (begins_at h.same s.size peaks (oldest k)) (last_match (ends_at h.same s.size peaks) k.ancestors) (ap (last_match (ends_at h.same s.size peaks)) (alone ∙ made_keeps)) done in
-          (subst (λ x. Agrees h rule x (leaf_digests h rule 0 c.elements)) is (agree_all h rule (records k) X (leaf_digests h rule 0 c.elements ∷ []) (contents s) two_lists agrees), sym (ap (λ x. x.boundary) is) ∙ laid_boundary (records k) (contents s))
+          (subst (λ x. Agrees h rule x (leaf_digests h rule 0 c.elements)) is (agree_all h rule (records k) X (leaf_digests h rule 0 c.elements ∷ []) (contents s) two_lists agrees), sym (ap (λ x. x.boundary) is) ∙ with_record_boundary (records k) (contents s))
         where
           taken : (c d : Contents D) (b : Bool) (o : Option ℕ) → o ≡ None → ◌≡◌ {A = Result (Contents D) Refusal} (elim (cond b (Some 0) o) [ Some i ↦ Ok (with_records (drop i (records k)) c) | None ↦ Err (refusal c.size k) ]) (Ok d) → with_records (records k) c ≡ d
           taken c d true o n e = (cc)

@@ -15,14 +15,14 @@ use Rattle.merkle_lines.specs.Transcript.{SessionState}
 abbrev pub HoldsState : Session → Option SessionState → Type 0
 HoldsState Absent told = told ≡ None
 HoldsState (MmrSha256 s) told =
-    (g : StructureState) × (told ≡ Some (record { family = Mmr; bagging = s.hasher; hash = Sha256; given = g }))
+    (g : StructureState) × (told ≡ Some (record { family = Mmr; bagging = s.hasher; hash = Sha256; structure = g }))
     × IsHeld sha256_hashing mmr_merges (2 ^ 62) s.committed s.pending g
 HoldsState (MmrXor8 s) told =
-    (g : StructureState) × (told ≡ Some (record { family = Mmr; bagging = s.hasher; hash = Xor8; given = g }))
+    (g : StructureState) × (told ≡ Some (record { family = Mmr; bagging = s.hasher; hash = Xor8; structure = g }))
     × IsHeld xor8_hashing mmr_merges (2 ^ 62) s.committed s.pending g
 HoldsState (MmbSha256 s) told =
-    (g : StructureState) × (told ≡ Some (record { family = Mmb; bagging = s.hasher; hash = Sha256; given = g }))
+    (g : StructureState) × (told ≡ Some (record { family = Mmb; bagging = s.hasher; hash = Sha256; structure = g }))
     × IsHeld sha256_hashing mmb_merges (2 ^ 62 + 30) s.committed s.pending g
 HoldsState (MmbXor8 s) told =
-    (g : StructureState) × (told ≡ Some (record { family = Mmb; bagging = s.hasher; hash = Xor8; given = g }))
+    (g : StructureState) × (told ≡ Some (record { family = Mmb; bagging = s.hasher; hash = Xor8; structure = g }))
     × IsHeld xor8_hashing mmb_merges (2 ^ 62 + 30) s.committed s.pending g

@@ -21,7 +21,7 @@ pub record SessionState : Type 0 where
   pub family : FamilyName
   pub bagging : Bagging
   pub hash : HashName
-  pub given : StructureState
+  pub structure : StructureState
 
 -- a request of a structure of some kind leaves u, and the text answers it; the Range has at most 2^62 leaves, the Belt 30 more, and their
 -- bytes are 0 and 1; a digest of SHA-256 has 32 bytes, one of the exclusive or has one
@@ -34,11 +34,11 @@ IsNamedAnswered Mmb bagging Xor8 = IsAnswered (scheme_of xor8_hashing bagging mm
 -- a command leaves u, and the text answers it; before the first `new` nothing was told
 abbrev pub IsCommandAnswered : Option SessionState → Command → Option SessionState → List ℕ → Type 0
 IsCommandAnswered told (New family bagging hash) u text =
-    (u ≡ Some (record { family = family; bagging = bagging; hash = hash; given = nothing })) × (text ≡ codes "ok")
+    (u ≡ Some (record { family = family; bagging = bagging; hash = hash; structure = nothing })) × (text ≡ codes "ok")
 IsCommandAnswered None (Ask request) u text = (u ≡ None) × (text ≡ error_line (codes "NoStructure"))
 IsCommandAnswered (Some t) (Ask request) u text =
-    (g : StructureState) × (u ≡ Some (record { family = t.family; bagging = t.bagging; hash = t.hash; given = g }))
-    × IsNamedAnswered t.family t.bagging t.hash t.given request g text
+    (g : StructureState) × (u ≡ Some (record { family = t.family; bagging = t.bagging; hash = t.hash; structure = g }))
+    × IsNamedAnswered t.family t.bagging t.hash t.structure request g text
 
 -- a line leaves u, and the text answers it
 abbrev pub IsLineAnswered : Option SessionState → List ℕ → Option SessionState → List ℕ → Type 0

@@ -27,7 +27,7 @@ pub enum Session {
 
 impl Session {
     fn open(alloc: Global, family: FamilyName, bagging: Bagging, hash: HashName) -> Session
-        ensures { HoldsState result (Some (record { family = family; bagging = bagging; hash = hash; given = nothing })) }
+        ensures { HoldsState result (Some (record { family = family; bagging = bagging; hash = hash; structure = nothing })) }
     {
         match (family, hash) {
             (FamilyName::Mmr, HashName::Sha256) => {

@@ -76,13 +76,13 @@ module _ {D : Type 0} (f : D → D → D) where
   folded_push (x ∷ xs) d = ap Some (fold_push f x xs d)
 
   -- there is a bag where there is something to fold
-  pub bag_some : (ds : List D) (d : D) → right_fold f ds ≡ Some d → 0 < length ds
-  bag_some [] d e = absurd (cc)
-  bag_some (x ∷ xs) d e = omega arith
+  pub right_fold_some : (ds : List D) (d : D) → right_fold f ds ≡ Some d → 0 < length ds
+  right_fold_some [] d e = absurd (cc)
+  right_fold_some (x ∷ xs) d e = omega arith
 
-  pub bag_none : (ds : List D) → right_fold f ds ≡ None → length ds ≡ 0
-  bag_none [] e = refl
-  bag_none (x ∷ xs) e = some (right_fold f xs) e
+  pub right_fold_none : (ds : List D) → right_fold f ds ≡ None → length ds ≡ 0
+  right_fold_none [] e = refl
+  right_fold_none (x ∷ xs) e = some (right_fold f xs) e
     where
       some : (o : Option D) → option_map_or (λ b. Some (f x b)) o (Some x) ≡ None → suc (length xs) ≡ 0
       some None e = absurd (cc)

@@ -17,7 +17,7 @@ use Rattle.merkle_root_theory.specs.Outside.{fold_all, bag_all, folded_prefix, s
 use Rattle.merkle_root_theory.specs.Plan.{Plan, peak, folding, left_fold_plan, tree_meets, meets, siblings}
 use Rattle.merkle_root_theory.specs.Range.{in_range, overlapping, wholly_after, range_parts, range_siblings}
 use Rattle.merkle_root_theory.specs.Layouts.{count_before}
-use Rattle.merkle_root_theory.proofs.OutsideNodes.{bag_unmet, unmet_take, unmet_drop}
+use Rattle.merkle_root_theory.proofs.OutsideNodes.{right_fold_unmet, unmet_take, unmet_drop}
 use Rattle.merkle_root_theory.proofs.PeakGroups.{groups, meets_yes, meets_not}
 use Rattle.merkle_claim_theory.specs.Rebuilt.{AllRebuilt, rebuilt_node, rebuilt_part}
 use Rattle.merkle_claim_theory.proofs.RebuiltPins.{rebuilt_append, rebuilt_split}
@@ -54,9 +54,9 @@ module _ (w : ℕ → Bool) where
   unmet_suffix ForwardFold k met ts u = tt
   unmet_suffix BackwardFold k met ts u = unmet_drop w (k - met) ts u
 
-  forward_met : (acc : Plan) (i : ℕ) (ts : List Tree) → meets w acc ≡ true → meets w (left_fold_plan acc i ts) ≡ true
-  forward_met acc i [] e = e
-  forward_met acc i (t ∷ ts) e = forward_met (folding (PrefixFold i) acc (peak t)) (suc i) ts (ap (λ z. z || tree_meets w t) e)
+  left_fold_met : (acc : Plan) (i : ℕ) (ts : List Tree) → meets w acc ≡ true → meets w (left_fold_plan acc i ts) ≡ true
+  left_fold_met acc i [] e = e
+  left_fold_met acc i (t ∷ ts) e = left_fold_met (folding (PrefixFold i) acc (peak t)) (suc i) ts (ap (λ z. z || tree_meets w t) e)
 
 -- ---- parts
 module _ {D : Type 0} (h : Hashing D) (b : ℕ → Option D) where
@@ -72,7 +72,7 @@ module _ {D : Type 0} (h : Hashing D) (b : ℕ → Option D) (w : ℕ → Bool) 
 
   fold_marked : (ts : List Tree) → Met w ts → (ds : List D) → Parts (fold_all ts) ds ↔ FoldRebuilt h b ts ds
   fold_marked [] m ds = ((λ x. x), (λ x. x))
-  fold_marked (t ∷ ts) m ds = ((λ x. ((λ _. x.0 (forward_met w (peak t) 1 ts m.0)), tt)), (λ x. ((λ _. x.0 refl), tt)))
+  fold_marked (t ∷ ts) m ds = ((λ x. ((λ _. x.0 (left_fold_met w (peak t) 1 ts m.0)), tt)), (λ x. ((λ _. x.0 refl), tt)))
 
   singles_marked : (ts : List Tree) → Met w ts → (ds : List D) → Parts (map peak ts) ds ↔ EachRebuilt h b ts ds
   singles_marked [] m ds = ((λ x. x), (λ x. x))
@@ -82,9 +82,9 @@ module _ {D : Type 0} (h : Hashing D) (b : ℕ → Option D) (w : ℕ → Bool) 
   singles_unmarked [] u ds = tt
   singles_unmarked (t ∷ ts) u ds = ((λ q. absurd (false≢true (sym u.0 ∙ q))), singles_unmarked ts u.1 (drop 1 ds))
 
-  bag_unmarked : (i : ℕ) (ts : List Tree) → Unmet w ts → (ds : List D) → Parts (bag_all i ts) ds
-  bag_unmarked i [] u ds = tt
-  bag_unmarked i (t ∷ ts) u ds = ((λ q. absurd (false≢true (sym (bag_unmet w i t ts u) ∙ q))), tt)
+  right_fold_unmarked : (i : ℕ) (ts : List Tree) → Unmet w ts → (ds : List D) → Parts (bag_all i ts) ds
+  right_fold_unmarked i [] u ds = tt
+  right_fold_unmarked i (t ∷ ts) u ds = ((λ q. absurd (false≢true (sym (right_fold_unmet w i t ts u) ∙ q))), tt)
 
   -- of the parts of a layout the fold before the range and the single peaks before it are compared
   pub layout_rebuilt : (bagging : Bagging) (k : ℕ) (before over after : List Tree) → Met w before → Unmet w after → (ds : List D)
@@ -100,7 +100,7 @@ module _ {D : Type 0} (h : Hashing D) (b : ℕ → Option D) (w : ℕ → Bool) 
       let second = singles_marked single (met_single w bagging k before m) rest in
       let end = drop (length (map peak single)) rest in
       let others = rebuilt_append h (meets w) (rebuilt_part h b) (map peak later) (bag_all i suffix) end (singles_unmarked later (unmet_single w bagging k met after u) end)
-      (bag_unmarked i suffix (unmet_suffix w bagging k met after u) (drop (length (map peak later)) end)) in (
+      (right_fold_unmarked i suffix (unmet_suffix w bagging k met after u) (drop (length (map peak later)) end)) in (
         (λ x. rebuilt_append h (meets w) (rebuilt_part h b) (fold_all prefix) (map peak single ++ (map peak later ++ bag_all i suffix)) ds (first.1 x.0)
             (rebuilt_append h (meets w) (rebuilt_part h b) (map peak single) (map peak later ++ bag_all i suffix) rest (second.1 x.1) others)),
         (λ x. let y = rebuilt_split h (meets w) (rebuilt_part h b) (fold_all prefix) (map peak single ++ (map peak later ++ bag_all i suffix)) ds x in

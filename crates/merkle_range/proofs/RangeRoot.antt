@@ -45,7 +45,7 @@ group_count {F} rule a b n g l held =
 
 -- and these are few
 pub few_peaks : (rule : List ℕ → List ℕ) (max_leaves max_nodes n : ℕ) → IsLawful rule max_leaves max_nodes → n ≤ max_leaves → length (peaks_of rule n) ≤ 64
-few_peaks rule max_leaves max_nodes n law l = omega (arith, length-reverse (forest rule n).peaks, length-map (forest rule n).peaks height, ap length (heights_forest rule n), law.few n l)
+few_peaks rule max_leaves max_nodes n law l = omega (arith, length-reverse (forest rule n).peaks, length-map (forest rule n).peaks height, ap length (heights_forest rule n), law.at_most_64_peaks n l)
 
 -- the digests of peaks read the leaves at chosen locations alone
 other_leaves : {D : Type 0} (h : Hashing D) (c : ℕ → Bool) (X Y : ℕ → D) (ts : List Tree) (m n : ℕ) (ds all : List D) → ((i : ℕ) → c i ≡ true → X i ≡ Y i) → ArePeakDigests h c X ts m n ds all → ArePeakDigests h c Y ts m n ds all

@@ -36,33 +36,33 @@ pub record StandFor {D E : Type 0} (f : D → D → D) (told : D → E) (at : Tr
   pub suffix : (i : ℕ) (t : Tree) (r : Plan) (x y : D) → at t ≡ told x → part r ≡ told y → part (folding (SuffixFold i) (peak t) r) ≡ told (f x y)
 
 module _ {D E : Type 0} (f : D → D → D) (told : D → E) (at : Tree → E) (part : Plan → E) (stand : StandFor f told at part) where
-  forward_read : (acc : Plan) (v : D) (i : ℕ) (ts : List Tree) (ds : List D) → part acc ≡ told v → map at ts ≡ map told ds → part (left_fold_plan acc i ts) ≡ told (fold f v ds)
-  forward_read acc v i [] [] e g = e
-  forward_read acc v i [] (d ∷ ds) e g = absurd (cc)
-  forward_read acc v i (t ∷ ts) [] e g = absurd (cc)
-  forward_read acc v i (t ∷ ts) (d ∷ ds) e g =
-      forward_read (folding (PrefixFold i) acc (peak t)) (f v d) (suc i) ts ds (stand.prefix i acc t v d e (cons_head _ _ _ _ g)) (cons_tail _ _ _ _ g)
+  left_fold_read : (acc : Plan) (v : D) (i : ℕ) (ts : List Tree) (ds : List D) → part acc ≡ told v → map at ts ≡ map told ds → part (left_fold_plan acc i ts) ≡ told (fold f v ds)
+  left_fold_read acc v i [] [] e g = e
+  left_fold_read acc v i [] (d ∷ ds) e g = absurd (cc)
+  left_fold_read acc v i (t ∷ ts) [] e g = absurd (cc)
+  left_fold_read acc v i (t ∷ ts) (d ∷ ds) e g =
+      left_fold_read (folding (PrefixFold i) acc (peak t)) (f v d) (suc i) ts ds (stand.prefix i acc t v d e (cons_head _ _ _ _ g)) (cons_tail _ _ _ _ g)
 
   folded_read : (ts : List Tree) (ds : List D) → map at ts ≡ map told ds → map told (option_to_list (folded f ForwardFold 0 ds)) ≡ map part (fold_all ts)
   folded_read [] [] e = refl
   folded_read [] (d ∷ ds) e = absurd (cc)
   folded_read (t ∷ ts) [] e = absurd (cc)
-  folded_read (t ∷ ts) (d ∷ ds) e = ap (λ z. z ∷ []) (sym (forward_read (peak t) d 1 ts ds (stand.alone t ∙ cons_head _ _ _ _ e) (cons_tail _ _ _ _ e)))
+  folded_read (t ∷ ts) (d ∷ ds) e = ap (λ z. z ∷ []) (sym (left_fold_read (peak t) d 1 ts ds (stand.alone t ∙ cons_head _ _ _ _ e) (cons_tail _ _ _ _ e)))
 
-  bag_is : (i : ℕ) (t : Tree) (ts : List Tree) (d : D) (ds : List D) → at t ≡ told d → map at ts ≡ map told ds → (v : D) × (root.right_fold f (d ∷ ds) ≡ Some v) × (part (right_fold_plan i t ts) ≡ told v)
-  bag_is i t [] d [] e g = (d, refl, stand.alone t ∙ e)
-  bag_is i t [] d (x ∷ xs) e g = absurd (cc)
-  bag_is i t (u ∷ us) d [] e g = absurd (cc)
-  bag_is i t (u ∷ us) d (x ∷ xs) e g =
-      let w = bag_is (suc i) u us x xs (cons_head _ _ _ _ g) (cons_tail _ _ _ _ g) in
+  right_fold_is : (i : ℕ) (t : Tree) (ts : List Tree) (d : D) (ds : List D) → at t ≡ told d → map at ts ≡ map told ds → (v : D) × (root.right_fold f (d ∷ ds) ≡ Some v) × (part (right_fold_plan i t ts) ≡ told v)
+  right_fold_is i t [] d [] e g = (d, refl, stand.alone t ∙ e)
+  right_fold_is i t [] d (x ∷ xs) e g = absurd (cc)
+  right_fold_is i t (u ∷ us) d [] e g = absurd (cc)
+  right_fold_is i t (u ∷ us) d (x ∷ xs) e g =
+      let w = right_fold_is (suc i) u us x xs (cons_head _ _ _ _ g) (cons_tail _ _ _ _ g) in
       (f d w.0, ap (λ o. option_map_or (λ b. Some (f d b)) o (Some d)) w.1, stand.suffix i t (right_fold_plan (suc i) u us) d w.0 e w.2)
 
-  bag_read : (i : ℕ) (ts : List Tree) (ds : List D) → map at ts ≡ map told ds → map told (option_to_list (root.right_fold f ds)) ≡ map part (bag_all i ts)
-  bag_read i [] [] e = refl
-  bag_read i [] (d ∷ ds) e = absurd (cc)
-  bag_read i (t ∷ ts) [] e = absurd (cc)
-  bag_read i (t ∷ ts) (d ∷ ds) e =
-      let w = bag_is i t ts d ds (cons_head _ _ _ _ e) (cons_tail _ _ _ _ e) in
+  right_fold_read : (i : ℕ) (ts : List Tree) (ds : List D) → map at ts ≡ map told ds → map told (option_to_list (root.right_fold f ds)) ≡ map part (bag_all i ts)
+  right_fold_read i [] [] e = refl
+  right_fold_read i [] (d ∷ ds) e = absurd (cc)
+  right_fold_read i (t ∷ ts) [] e = absurd (cc)
+  right_fold_read i (t ∷ ts) (d ∷ ds) e =
+      let w = right_fold_is i t ts d ds (cons_head _ _ _ _ e) (cons_tail _ _ _ _ e) in
       ap (λ o. map told (option_to_list o)) w.1 ∙ ap (λ z. z ∷ []) (sym w.2)
 
   singles_read : (ts : List Tree) → map at ts ≡ map part (map peak ts)
@@ -77,7 +77,7 @@ module _ {D E : Type 0} (f : D → D → D) (told : D → E) (at : Tree → E) (
       let singles : map told single ≡ map part (map peak ys) ++ map part (map peak zs) = sym q ∙ map-append at ys zs ∙ ap₂ ◌++◌ (singles_read ys) (singles_read zs) in
       let last = map part (bag_all i us) ++ map at inside in
       map-append_four told (option_to_list (folded f ForwardFold 0 prefix)) single (option_to_list (root.right_fold f suffix)) siblings
-      ∙ ap₂ ◌++◌ (folded_read xs prefix p) (ap₂ ◌++◌ singles (ap₂ ◌++◌ (bag_read i us suffix r) (sym s)) ∙ append_assoc (map part (map peak ys)) (map part (map peak zs)) last)
+      ∙ ap₂ ◌++◌ (folded_read xs prefix p) (ap₂ ◌++◌ singles (ap₂ ◌++◌ (right_fold_read i us suffix r) (sym s)) ∙ append_assoc (map part (map peak ys)) (map part (map peak zs)) last)
       ∙ sym (ap (λ w. w ++ map at inside) (map-append_four part (fold_all xs) (map peak ys) (map peak zs) (bag_all i us))
       ∙ append_assoc_four (map part (fold_all xs)) (map part (map peak ys)) (map part (map peak zs)) (map part (bag_all i us)) (map at inside))
 
@@ -108,10 +108,10 @@ module _ {D : Type 0} (h : Hashing D) (E : Plan → Expression D) (folds : (plac
 
   pub fold_values : (acc : Plan) (i : ℕ) (ts : List Tree) → fold h.fold (plan_value acc) (map peak_value ts) ≡ plan_value (left_fold_plan acc i ts)
   fold_values acc i ts = let ds = map peak_value ts in
-      sym (forward_read h.fold (λ d. d) peak_value plan_value values_stand acc (plan_value acc) i ts ds refl (sym (map-id ds)))
+      sym (left_fold_read h.fold (λ d. d) peak_value plan_value values_stand acc (plan_value acc) i ts ds refl (sym (map-id ds)))
 
-  pub bag_values : (i : ℕ) (t : Tree) (ts : List Tree) → root.right_fold h.fold (map peak_value (t ∷ ts)) ≡ Some (plan_value (right_fold_plan i t ts))
-  bag_values i t ts =
+  pub right_fold_values : (i : ℕ) (t : Tree) (ts : List Tree) → root.right_fold h.fold (map peak_value (t ∷ ts)) ≡ Some (plan_value (right_fold_plan i t ts))
+  right_fold_values i t ts =
       let ds = map peak_value ts in
-      let w = bag_is h.fold (λ d. d) peak_value plan_value values_stand i t ts (peak_value t) ds refl (sym (map-id ds)) in
+      let w = right_fold_is h.fold (λ d. d) peak_value plan_value values_stand i t ts (peak_value t) ds refl (sym (map-id ds)) in
       w.1 ∙ ap Some (sym w.2)

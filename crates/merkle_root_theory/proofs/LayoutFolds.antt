@@ -14,10 +14,10 @@ use Rattle.merkle_root_theory.specs.Claim.{claim}
 use Rattle.merkle_root_theory.specs.Outside.{fold_all, bag_all, folded_prefix, single_before, single_after, folded_suffix, Met, Unmet}
 use Rattle.merkle_root_theory.specs.Layouts.{count_inactive}
 use Rattle.merkle_root_theory.proofs.LayoutCounts.{length-fold_all}
-use Rattle.merkle_root_theory.proofs.OutsideNodes.{forward_append}
+use Rattle.merkle_root_theory.proofs.OutsideNodes.{left_fold_append}
 use Rattle.merkle_root_theory.proofs.PartValues.{part_values, value_folding, values_folding}
-use Rattle.merkle_root_theory.proofs.ForwardValues.{value_forward}
-use Rattle.merkle_root_theory.proofs.BackwardValues.{folded_from, folded_more, join_reaches, join_forward}
+use Rattle.merkle_root_theory.proofs.ForwardValues.{value_left_fold}
+use Rattle.merkle_root_theory.proofs.BackwardValues.{folded_from, folded_more, join_reaches, join_left_fold}
 
 -- what stands for the peaks before the range, and for those after it
 abbrev pub parts_before : Bagging → ℕ → List Tree → List Plan
@@ -47,16 +47,16 @@ module _ {D : Type 0} (h : Hashing D) (c : ℕ → Bool) (X : ℕ → D) (k : �
   all_single : map peak over ++ (map peak after ++ []) ≡ map peak (over ++ after)
   all_single = ap (λ z. map peak over ++ z) (append-nil (map peak after)) ∙ sym (map-append peak over after)
 
-  folded_forward : (before : List Tree) → IsFolded ForwardFold before
-  folded_forward [] =
-      ap Some (ap (λ ps. fold h.fold (digest_of (peak t)) (part_values h c X ps (drop (length (outside_parts c (peak t))) os) (drop (length (path_siblings c (peak t))) is))) all_single ∙ sym (value_forward h c X (peak t) 1 (over ++ after) os is m.0))
-  folded_forward (b ∷ bs) =
+  folded_left_fold : (before : List Tree) → IsFolded ForwardFold before
+  folded_left_fold [] =
+      ap Some (ap (λ ps. fold h.fold (digest_of (peak t)) (part_values h c X ps (drop (length (outside_parts c (peak t))) os) (drop (length (path_siblings c (peak t))) is))) all_single ∙ sym (value_left_fold h c X (peak t) 1 (over ++ after) os is m.0))
+  folded_left_fold (b ∷ bs) =
       let acc = left_fold_plan (peak b) 1 bs in let q = PrefixFold (1 + length bs) in
       let met : meets c acc || tree_meets c t ≡ true = or_right (meets c acc) (tree_meets c t) m.0 in
       ap Some (ap₂ (fold h.fold) (sym (value_folding h c X q acc (peak t) os is met)) (sym (values_folding h c X q acc (peak t) (map peak over ++ (map peak after ++ [])) os is met))
       ∙ ap (λ ps. fold h.fold (digest_of (folding q acc (peak t))) (part_values h c X ps (drop (length (outside_parts c (folding q acc (peak t)))) os) (drop (length (path_siblings c (folding q acc (peak t)))) is))) all_single
-      ∙ sym (value_forward h c X (folding q acc (peak t)) (suc (1 + length bs)) (over ++ after) os is met)
-      ∙ ap digest_of (sym (forward_append c (peak b) 1 bs (t ∷ (over ++ after)))))
+      ∙ sym (value_left_fold h c X (folding q acc (peak t)) (suc (1 + length bs)) (over ++ after) os is met)
+      ∙ ap digest_of (sym (left_fold_append c (peak b) 1 bs (t ∷ (over ++ after)))))
 
   folded_backward : (j n : ℕ) (ps : List Plan) (p : Plan) (qs : List Plan) → j - 1 ≡ n → ps ≡ p ∷ qs → folded h.fold BackwardFold j (part_values h c X ps os is) ≡ Some (folded_from h c X n p qs os is)
   folded_backward j n ps p qs e f = ap (λ z. folded h.fold BackwardFold j (part_values h c X z os is)) f ∙ ap (λ z. Some (folded_from h c X z p qs os is)) e
@@ -86,8 +86,8 @@ module _ {D : Type 0} (h : Hashing D) (c : ℕ → Bool) (X : ℕ → D) (k : �
       (omega (arith, length-fold_all (take k (b ∷ bs)), length-take k (b ∷ bs)))
       (ap (λ z. z ++ peak t ∷ later) (parts_before_cons k b bs ∙ ap₂ (λ x y. left_fold_plan (peak b) 1 x ∷ map peak y) (take_all (pred k) bs (omega arith)) (drop_of_length-le bs (omega arith))))
       ∙ ap Some (folded_more h c X n (1 + length bs) acc t later os is reached
-      ∙ join_forward h c X (folding q acc (peak t)) (suc (1 + length bs)) (suc (pred k)) (met + (k - met)) n (k - met) over after os is reached m.1 v (omega arith)
-      ∙ ap (λ z. digest_of (with_right_fold_plan z (suc (pred k)) (drop n (over ++ after)))) (sym (forward_append c (peak b) 1 bs (t ∷ take n (over ++ after))))
+      ∙ join_left_fold h c X (folding q acc (peak t)) (suc (1 + length bs)) (suc (pred k)) (met + (k - met)) n (k - met) over after os is reached m.1 v (omega arith)
+      ∙ ap (λ z. digest_of (with_right_fold_plan z (suc (pred k)) (drop n (over ++ after)))) (sym (left_fold_append c (peak b) 1 bs (t ∷ take n (over ++ after))))
       ∙ ap₂ (λ x y. digest_of (with_right_fold_plan (left_fold_plan (peak b) 1 x) (suc (pred k)) y))
       (sym (ap (λ z. take z (bs ++ (t ∷ over ++ after))) far ∙ take-append-add bs (t ∷ over ++ after) (suc n))) (sym (ap (λ z. drop z (bs ++ (t ∷ over ++ after))) far ∙ drop-append-add bs (t ∷ over ++ after) (suc n))))
 
@@ -97,9 +97,9 @@ module _ {D : Type 0} (h : Hashing D) (c : ℕ → Bool) (X : ℕ → D) (k : �
       let met = 0 + suc (length over) in
       let later = map peak over ++ parts_after BackwardFold k met after in
       folded_backward (count_inactive BackwardFold k []) (pred k) _ (peak t) later (omega (arith, length-fold_all (take k []), length-take {A = Tree} k [])) (ap (λ z. z ++ peak t ∷ later) (parts_before_nil k))
-      ∙ ap Some (join_forward h c X (peak t) 1 (suc (pred k)) (met + (k - met)) (pred k) (k - met) over after os is m.0 m.1 v (omega arith))
+      ∙ ap Some (join_left_fold h c X (peak t) 1 (suc (pred k)) (met + (k - met)) (pred k) (k - met) over after os is m.0 m.1 v (omega arith))
 
   pub parts_folded : (bagging : Bagging) (before : List Tree) → IsFolded bagging before
-  parts_folded ForwardFold before = folded_forward before
+  parts_folded ForwardFold before = folded_left_fold before
   parts_folded BackwardFold [] = folded_none
   parts_folded BackwardFold (b ∷ bs) = ⊎_elim (folded_past b bs) (folded_before b bs) (cases_lt (length bs) (pred k))

@@ -18,7 +18,7 @@ use Rattle.merkle_root_theory.specs.Range.{overlapping, wholly_after, range_part
 use Rattle.merkle_root_theory.specs.Walk.{peak_values, ArePeakDigests}
 use Rattle.merkle_base.proofs.PeakLists.{peaks_built, peaks_spans}
 use Rattle.merkle_root_theory.proofs.PeakGroups.{groups, some_over, unmet_before, unmet_after, met_over}
-use Rattle.merkle_root_theory.proofs.OutsideNodes.{outside_is_layout, forward_unmet, bag_unmet, unmet_take, unmet_drop}
+use Rattle.merkle_root_theory.proofs.OutsideNodes.{outside_is_layout, left_fold_unmet, right_fold_unmet, unmet_take, unmet_drop}
 use Rattle.merkle_root_theory.proofs.LayoutCounts.{length-layout, inactive_within}
 use Rattle.merkle_root_theory.proofs.PartValues.{UnmetParts, unmet_peaks, unmet_append, values_are, length-peak_values}
 use Rattle.merkle_root_theory.proofs.LayoutFolds.{parts_before, parts_after, parts_folded}
@@ -26,11 +26,11 @@ use Rattle.merkle_root_theory.proofs.LayoutFolds.{parts_before, parts_after, par
 module _ (c : ℕ → Bool) where
   unmet_fold : (ts : List Tree) → Unmet c ts → UnmetParts c (fold_all ts)
   unmet_fold [] u = tt
-  unmet_fold (t ∷ ts) u = (forward_unmet c (peak t) 1 ts u.0 u.1, tt)
+  unmet_fold (t ∷ ts) u = (left_fold_unmet c (peak t) 1 ts u.0 u.1, tt)
 
-  unmet_bag : (i : ℕ) (ts : List Tree) → Unmet c ts → UnmetParts c (bag_all i ts)
-  unmet_bag i [] u = tt
-  unmet_bag i (t ∷ ts) u = (bag_unmet c i t ts u, tt)
+  unmet_right_fold : (i : ℕ) (ts : List Tree) → Unmet c ts → UnmetParts c (bag_all i ts)
+  unmet_right_fold i [] u = tt
+  unmet_right_fold i (t ∷ ts) u = (right_fold_unmet c i t ts u, tt)
 
   unmet_parts_before : (bagging : Bagging) (k : ℕ) (before : List Tree) → Unmet c before → UnmetParts c (parts_before bagging k before)
   unmet_parts_before ForwardFold k before u = unmet_append c (fold_all before) [] (unmet_fold before u) tt
@@ -41,7 +41,7 @@ module _ (c : ℕ → Bool) where
   unmet_parts_after ForwardFold k met after u = unmet_append c (map peak after) [] (unmet_peaks c after u) tt
   unmet_parts_after BackwardFold k met after u =
       let n = k - met in
-      unmet_append c (map peak (take n after)) (bag_all (met + n) (drop n after)) (unmet_peaks c (take n after) (unmet_take c n after u)) (unmet_bag (met + n) (drop n after) (unmet_drop c n after u))
+      unmet_append c (map peak (take n after)) (bag_all (met + n) (drop n after)) (unmet_peaks c (take n after) (unmet_take c n after u)) (unmet_right_fold (met + n) (drop n after) (unmet_drop c n after u))
 
 length-parts_before : (bagging : Bagging) (k : ℕ) (before : List Tree) → length (parts_before bagging k before) ≡ count_before bagging k before
 length-parts_before bagging k before = omega (arith, length-append (fold_all (folded_prefix bagging k before)) (map peak (single_before bagging k before)), length-map (single_before bagging k before) peak)

@@ -22,28 +22,28 @@ use Rattle.merkle_root_theory.proofs.RootStrings.{tells_all}
 use Rattle.merkle_root_theory.proofs.Claims.{nothing_else, pair_agrees, honest_accepted}
 
 -- every peak's locations are the plan's
-forward_keeps : (acc : Plan) (i : ℕ) (ts : List Tree) (j : ℕ) → InPlan acc j → InPlan (left_fold_plan acc i ts) j
-forward_keeps acc i [] j m = m
-forward_keeps acc i (t ∷ ts) j m = forward_keeps _ (suc i) ts j (inl m)
+left_fold_keeps : (acc : Plan) (i : ℕ) (ts : List Tree) (j : ℕ) → InPlan acc j → InPlan (left_fold_plan acc i ts) j
+left_fold_keeps acc i [] j m = m
+left_fold_keeps acc i (t ∷ ts) j m = left_fold_keeps _ (suc i) ts j (inl m)
 
-forward_has : (acc : Plan) (i : ℕ) (ts : List Tree) (t : Tree) (j : ℕ) → Member ts t → InTree t j → InPlan (left_fold_plan acc i ts) j
-forward_has acc i [] t j m n = elim m [ ]
-forward_has acc i (u ∷ ts) t j (inl e) n = forward_keeps _ (suc i) ts j (inr (subst (λ v. InTree v j) (sym e) n))
-forward_has acc i (u ∷ ts) t j (inr m) n = forward_has _ (suc i) ts t j m n
+left_fold_has : (acc : Plan) (i : ℕ) (ts : List Tree) (t : Tree) (j : ℕ) → Member ts t → InTree t j → InPlan (left_fold_plan acc i ts) j
+left_fold_has acc i [] t j m n = elim m [ ]
+left_fold_has acc i (u ∷ ts) t j (inl e) n = left_fold_keeps _ (suc i) ts j (inr (subst (λ v. InTree v j) (sym e) n))
+left_fold_has acc i (u ∷ ts) t j (inr m) n = left_fold_has _ (suc i) ts t j m n
 
-bag_has : (i : ℕ) (u : Tree) (ts : List Tree) (t : Tree) (j : ℕ) → Member (u ∷ ts) t → InTree t j → InPlan (right_fold_plan i u ts) j
-bag_has i u [] t j (inl e) n = subst (λ v. InTree v j) (sym e) n
-bag_has i u [] t j (inr m) n = elim m [ ]
-bag_has i u (v ∷ ts) t j (inl e) n = inl (subst (λ v. InTree v j) (sym e) n)
-bag_has i u (v ∷ ts) t j (inr m) n = inr (bag_has (suc i) v ts t j m n)
+right_fold_has : (i : ℕ) (u : Tree) (ts : List Tree) (t : Tree) (j : ℕ) → Member (u ∷ ts) t → InTree t j → InPlan (right_fold_plan i u ts) j
+right_fold_has i u [] t j (inl e) n = subst (λ v. InTree v j) (sym e) n
+right_fold_has i u [] t j (inr m) n = elim m [ ]
+right_fold_has i u (v ∷ ts) t j (inl e) n = inl (subst (λ v. InTree v j) (sym e) n)
+right_fold_has i u (v ∷ ts) t j (inr m) n = inr (right_fold_has (suc i) v ts t j m n)
 
-join_bag_keeps : (acc : Plan) (i : ℕ) (ts : List Tree) (j : ℕ) → InPlan acc j → InPlan (with_right_fold_plan acc i ts) j
-join_bag_keeps acc i [] j m = m
-join_bag_keeps acc i (t ∷ ts) j m = inl m
+join_right_fold_keeps : (acc : Plan) (i : ℕ) (ts : List Tree) (j : ℕ) → InPlan acc j → InPlan (with_right_fold_plan acc i ts) j
+join_right_fold_keeps acc i [] j m = m
+join_right_fold_keeps acc i (t ∷ ts) j m = inl m
 
-join_bag_has : (acc : Plan) (i : ℕ) (ts : List Tree) (t : Tree) (j : ℕ) → Member ts t → InTree t j → InPlan (with_right_fold_plan acc i ts) j
-join_bag_has acc i [] t j m n = elim m [ ]
-join_bag_has acc i (u ∷ ts) t j m n = inr (bag_has i u ts t j m n)
+join_right_fold_has : (acc : Plan) (i : ℕ) (ts : List Tree) (t : Tree) (j : ℕ) → Member ts t → InTree t j → InPlan (with_right_fold_plan acc i ts) j
+join_right_fold_has acc i [] t j m n = elim m [ ]
+join_right_fold_has acc i (u ∷ ts) t j m n = inr (right_fold_has i u ts t j m n)
 
 member_cut : (n : ℕ) (ts : List Tree) (t : Tree) → Member ts t → Member (take n ts) t ⊎ Member (drop n ts) t
 member_cut zero ts t m = inr m
@@ -59,10 +59,10 @@ whole_has : (b : Bagging) (k : ℕ) (ts : List Tree) (t : Tree) (j : ℕ) → Me
 unfolding InWhole
 whole_has ForwardFold k [] t j m n = elim m [ ]
 whole_has BackwardFold k [] t j m n = elim m [ ]
-whole_has ForwardFold k (u ∷ ts) t j (inl e) n = forward_keeps (peak u) 1 ts j (subst (λ v. InTree v j) (sym e) n)
-whole_has ForwardFold k (u ∷ ts) t j (inr m) n = forward_has (peak u) 1 ts t j m n
-whole_has BackwardFold k (u ∷ ts) t j (inl e) n = join_bag_keeps _ _ (drop (pred k) ts) j (forward_keeps (peak u) 1 (take (pred k) ts) j (subst (λ v. InTree v j) (sym e) n))
-whole_has BackwardFold k (u ∷ ts) t j (inr m) n = ⊎_elim (λ w. join_bag_keeps _ _ (drop (pred k) ts) j (forward_has (peak u) 1 (take (pred k) ts) t j w n)) (λ w. join_bag_has _ _ (drop (pred k) ts) t j w n) (member_cut (pred k) ts t m)
+whole_has ForwardFold k (u ∷ ts) t j (inl e) n = left_fold_keeps (peak u) 1 ts j (subst (λ v. InTree v j) (sym e) n)
+whole_has ForwardFold k (u ∷ ts) t j (inr m) n = left_fold_has (peak u) 1 ts t j m n
+whole_has BackwardFold k (u ∷ ts) t j (inl e) n = join_right_fold_keeps _ _ (drop (pred k) ts) j (left_fold_keeps (peak u) 1 (take (pred k) ts) j (subst (λ v. InTree v j) (sym e) n))
+whole_has BackwardFold k (u ∷ ts) t j (inr m) n = ⊎_elim (λ w. join_right_fold_keeps _ _ (drop (pred k) ts) j (left_fold_has (peak u) 1 (take (pred k) ts) t j w n)) (λ w. join_right_fold_has _ _ (drop (pred k) ts) t j w n) (member_cut (pred k) ts t m)
 
 -- one root has one leaf count, one inactive count and one folded digest, or its strings collide
 module _ {D : Type 0} (s : Scheme D) (size : ℕ) (bytes : ByteLaws s.hashing size) (n n' k k' : ℕ) (e e' : Option (Expression D)) (a : n < 2 ^ 64) (a' : n' < 2 ^ 64) (b : k < 2 ^ 64) (b' : k' < 2 ^ 64) where

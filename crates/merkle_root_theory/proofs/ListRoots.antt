@@ -14,7 +14,7 @@ use Rattle.merkle_root_theory.specs.Expression.{Place, Join, Expression, compute
 use Rattle.merkle_root_theory.specs.Plan.{Plan, peak, folding, left_fold_plan, right_fold_plan, with_right_fold_plan, root_plan, plan_expression, tree_digest}
 use Rattle.merkle_root_theory.specs.Range.{leaf_of}
 use Rattle.merkle_root_theory.specs.ListRoot.{RootsAgree}
-use Rattle.merkle_root_theory.proofs.BuiltLayouts.{fold_values, bag_values}
+use Rattle.merkle_root_theory.proofs.BuiltLayouts.{fold_values, right_fold_values}
 
 -- the digest of a list at a node, by location
 pub digest_at_is : {D : Type 0} (h : Hashing D) (xs : List D) (t : Tree) → digest_at h xs t ≡ tree_digest h (leaf_of h xs) t
@@ -31,7 +31,7 @@ module _ {D : Type 0} (h : Hashing D) (E : Plan → Expression D) (folds : (plac
 
   join_is : (acc : Plan) (i : ℕ) (ts : List Tree) → root.with_right_fold h.fold (plan_value acc) (map peak_value ts) ≡ plan_value (with_right_fold_plan acc i ts)
   join_is acc i [] = refl
-  join_is acc i (t ∷ ts) = ap (λ o. option_map_or (h.fold (plan_value acc)) o (plan_value acc)) (bag_values h E folds i t ts) ∙ sym (ap (value h) (folds Join acc (right_fold_plan i t ts)))
+  join_is acc i (t ∷ ts) = ap (λ o. option_map_or (h.fold (plan_value acc)) o (plan_value acc)) (right_fold_values h E folds i t ts) ∙ sym (ap (value h) (folds Join acc (right_fold_plan i t ts)))
 
   -- the peaks' values are folded to the plan's
   pub folded_values : (bagging : Bagging) (k : ℕ) (ts : List Tree) → folded h.fold bagging k (map peak_value ts) ≡ option_map (value h) (option_map E (root_plan bagging k ts))

@@ -11,16 +11,16 @@ use Rattle.merkle_root_theory.specs.Outside.{fold_all, bag_all, layout, Unmet, M
 
 module _ (c : ℕ → Bool) where
   -- the parts of a plan that is met nowhere
-  pub outer_unmet : (p : Plan) → meets c p ≡ false → outside_parts c p ≡ p ∷ []
-  outer_unmet (peak t) e = ap (λ b. cond b [] (peak t ∷ [])) e
-  outer_unmet (folding place l r) e = ap (λ b. cond b (outside_parts c l ++ outside_parts c r) (folding place l r ∷ [])) e
+  pub outside_parts_unmet : (p : Plan) → meets c p ≡ false → outside_parts c p ≡ p ∷ []
+  outside_parts_unmet (peak t) e = ap (λ b. cond b [] (peak t ∷ [])) e
+  outside_parts_unmet (folding place l r) e = ap (λ b. cond b (outside_parts c l ++ outside_parts c r) (folding place l r ∷ [])) e
 
   pub inner_unmet : (p : Plan) → meets c p ≡ false → path_siblings c p ≡ []
   inner_unmet (peak t) e = ap (λ b. cond b (siblings c t) []) e
   inner_unmet (folding place l r) e = ap (λ b. cond b (path_siblings c l ++ path_siblings c r) []) e
 
-  outer_peak : (t : Tree) → tree_meets c t ≡ true → outside_parts c (peak t) ≡ []
-  outer_peak t e = ap (λ b. cond b [] (peak t ∷ [])) e
+  outside_parts_peak : (t : Tree) → tree_meets c t ≡ true → outside_parts c (peak t) ≡ []
+  outside_parts_peak t e = ap (λ b. cond b [] (peak t ∷ [])) e
 
   inner_peak : (t : Tree) → tree_meets c t ≡ true → path_siblings c (peak t) ≡ siblings c t
   inner_peak t e = ap (λ b. cond b (siblings c t) []) e
@@ -41,7 +41,7 @@ module _ (c : ℕ → Bool) where
 
   parts_peak : (t : Tree) → tree_meets c t ≡ true → Parts (peak t) [] (siblings c t)
   unfolding Parts
-  parts_peak t e = (e, outer_peak t e, inner_peak t e)
+  parts_peak t e = (e, outside_parts_peak t e, inner_peak t e)
 
   -- the same parts written otherwise
   parts_as : (p : Plan) (os os' : List Plan) (is is' : List Tree) → os ≡ os' → is ≡ is' → Parts p os is → Parts p os' is'
@@ -60,7 +60,7 @@ module _ (c : ℕ → Bool) where
   peaks_out_unmet : (ts : List Tree) → Unmet c ts → peaks_out ts ≡ map peak ts
   unfolding peaks_out
   peaks_out_unmet [] u = refl
-  peaks_out_unmet (t ∷ ts) u = ap₂ ◌++◌ (outer_unmet (peak t) u.0) (peaks_out_unmet ts u.1)
+  peaks_out_unmet (t ∷ ts) u = ap₂ ◌++◌ (outside_parts_unmet (peak t) u.0) (peaks_out_unmet ts u.1)
 
   peaks_in_unmet : (ts : List Tree) → Unmet c ts → peaks_in ts ≡ []
   unfolding peaks_in
@@ -70,7 +70,7 @@ module _ (c : ℕ → Bool) where
   peaks_out_met : (ts rest : List Tree) → Met c ts → peaks_out (ts ++ rest) ≡ peaks_out rest
   unfolding peaks_out
   peaks_out_met [] rest u = refl
-  peaks_out_met (t ∷ ts) rest u = ap₂ ◌++◌ (outer_peak t u.0) (peaks_out_met ts rest u.1)
+  peaks_out_met (t ∷ ts) rest u = ap₂ ◌++◌ (outside_parts_peak t u.0) (peaks_out_met ts rest u.1)
 
   peaks_in_met : (ts rest : List Tree) → Met c ts → peaks_in (ts ++ rest) ≡ flat_map (siblings c) ts ++ peaks_in rest
   unfolding peaks_in
@@ -78,55 +78,55 @@ module _ (c : ℕ → Bool) where
   peaks_in_met (t ∷ ts) rest u = ap₂ ◌++◌ (inner_peak t u.0) (peaks_in_met ts rest u.1) ∙ sym (append_assoc (siblings c t) (flat_map (siblings c) ts) (peaks_in rest))
 
   -- a fold from a met accumulator on
-  forward_met : (acc : Plan) (i : ℕ) (ts : List Tree) (os : List Plan) (is : List Tree) → Parts acc os is → Parts (left_fold_plan acc i ts) (os ++ peaks_out ts) (is ++ peaks_in ts)
+  left_fold_met : (acc : Plan) (i : ℕ) (ts : List Tree) (os : List Plan) (is : List Tree) → Parts acc os is → Parts (left_fold_plan acc i ts) (os ++ peaks_out ts) (is ++ peaks_in ts)
   unfolding peaks_out peaks_in
-  forward_met acc i [] os is w = parts_as acc os (os ++ []) is (is ++ []) (sym (append-nil os)) (sym (append-nil is)) w
-  forward_met acc i (t ∷ ts) os is w = parts_as _ _ _ _ _ (append_assoc os (outside_parts c (peak t)) (peaks_out ts)) (append_assoc is (path_siblings c (peak t)) (peaks_in ts))
-      (forward_met (folding (PrefixFold i) acc (peak t)) (suc i) ts (os ++ outside_parts c (peak t)) (is ++ path_siblings c (peak t)) (parts_left (PrefixFold i) acc (peak t) os is w))
+  left_fold_met acc i [] os is w = parts_as acc os (os ++ []) is (is ++ []) (sym (append-nil os)) (sym (append-nil is)) w
+  left_fold_met acc i (t ∷ ts) os is w = parts_as _ _ _ _ _ (append_assoc os (outside_parts c (peak t)) (peaks_out ts)) (append_assoc is (path_siblings c (peak t)) (peaks_in ts))
+      (left_fold_met (folding (PrefixFold i) acc (peak t)) (suc i) ts (os ++ outside_parts c (peak t)) (is ++ path_siblings c (peak t)) (parts_left (PrefixFold i) acc (peak t) os is w))
 
   or_false : (a b : Bool) → a ≡ false → b ≡ false → a || b ≡ false
   or_false a b e f = ap₂ ◌||◌ e f
 
-  pub forward_unmet : (acc : Plan) (i : ℕ) (ts : List Tree) → meets c acc ≡ false → Unmet c ts → meets c (left_fold_plan acc i ts) ≡ false
-  forward_unmet acc i [] e u = e
-  forward_unmet acc i (t ∷ ts) e u = forward_unmet (folding (PrefixFold i) acc (peak t)) (suc i) ts (or_false (meets c acc) (tree_meets c t) e u.0) u.1
+  pub left_fold_unmet : (acc : Plan) (i : ℕ) (ts : List Tree) → meets c acc ≡ false → Unmet c ts → meets c (left_fold_plan acc i ts) ≡ false
+  left_fold_unmet acc i [] e u = e
+  left_fold_unmet acc i (t ∷ ts) e u = left_fold_unmet (folding (PrefixFold i) acc (peak t)) (suc i) ts (or_false (meets c acc) (tree_meets c t) e u.0) u.1
 
-  pub bag_unmet : (i : ℕ) (t : Tree) (ts : List Tree) → Unmet c (t ∷ ts) → meets c (right_fold_plan i t ts) ≡ false
-  bag_unmet i t [] u = u.0
-  bag_unmet i t (v ∷ ts) u = or_false (tree_meets c t) (meets c (right_fold_plan (suc i) v ts)) u.0 (bag_unmet (suc i) v ts u.1)
+  pub right_fold_unmet : (i : ℕ) (t : Tree) (ts : List Tree) → Unmet c (t ∷ ts) → meets c (right_fold_plan i t ts) ≡ false
+  right_fold_unmet i t [] u = u.0
+  right_fold_unmet i t (v ∷ ts) u = or_false (tree_meets c t) (meets c (right_fold_plan (suc i) v ts)) u.0 (right_fold_unmet (suc i) v ts u.1)
 
-  pub forward_append : (acc : Plan) (i : ℕ) (xs ys : List Tree) → left_fold_plan acc i (xs ++ ys) ≡ left_fold_plan (left_fold_plan acc i xs) (i + length xs) ys
-  forward_append acc i [] ys = ap (λ n. left_fold_plan acc n ys) (sym (add-zero i))
-  forward_append acc i (x ∷ xs) ys = forward_append (folding (PrefixFold i) acc (peak x)) (suc i) xs ys ∙ ap (λ n. left_fold_plan (left_fold_plan acc i (x ∷ xs)) n ys) (omega arith)
+  pub left_fold_append : (acc : Plan) (i : ℕ) (xs ys : List Tree) → left_fold_plan acc i (xs ++ ys) ≡ left_fold_plan (left_fold_plan acc i xs) (i + length xs) ys
+  left_fold_append acc i [] ys = ap (λ n. left_fold_plan acc n ys) (sym (add-zero i))
+  left_fold_append acc i (x ∷ xs) ys = left_fold_append (folding (PrefixFold i) acc (peak x)) (suc i) xs ys ∙ ap (λ n. left_fold_plan (left_fold_plan acc i (x ∷ xs)) n ys) (omega arith)
 
   -- a fold of a met peak and further ones; of unmet peaks, a met one and further ones
   fold_met : (t : Tree) (ts : List Tree) → tree_meets c t ≡ true → Parts (left_fold_plan (peak t) 1 ts) (peaks_out ts) (siblings c t ++ peaks_in ts)
-  fold_met t ts e = forward_met (peak t) 1 ts [] (siblings c t) (parts_peak t e)
+  fold_met t ts e = left_fold_met (peak t) 1 ts [] (siblings c t) (parts_peak t e)
 
   fold_reaches : (b : Tree) (bs : List Tree) (t : Tree) (ts : List Tree) → Unmet c (b ∷ bs) → tree_meets c t ≡ true → Parts (left_fold_plan (peak b) 1 (bs ++ t ∷ ts)) (left_fold_plan (peak b) 1 bs ∷ peaks_out ts) (siblings c t ++ peaks_in ts)
   fold_reaches b bs t ts u e =
       let acc = left_fold_plan (peak b) 1 bs in
-      let low : meets c acc ≡ false = forward_unmet (peak b) 1 bs u.0 u.1 in
-      subst (λ p. Parts p (acc ∷ peaks_out ts) (siblings c t ++ peaks_in ts)) (sym (forward_append (peak b) 1 bs (t ∷ ts)))
-      (forward_met (folding (PrefixFold (1 + length bs)) acc (peak t)) (suc (1 + length bs)) ts (acc ∷ []) (siblings c t)
-      (parts_as _ _ _ _ _ (ap (λ x. x ++ []) (outer_unmet acc low)) (ap (λ x. x ++ siblings c t) (inner_unmet acc low)) (parts_right (PrefixFold (1 + length bs)) acc (peak t) [] (siblings c t) (parts_peak t e))))
+      let low : meets c acc ≡ false = left_fold_unmet (peak b) 1 bs u.0 u.1 in
+      subst (λ p. Parts p (acc ∷ peaks_out ts) (siblings c t ++ peaks_in ts)) (sym (left_fold_append (peak b) 1 bs (t ∷ ts)))
+      (left_fold_met (folding (PrefixFold (1 + length bs)) acc (peak t)) (suc (1 + length bs)) ts (acc ∷ []) (siblings c t)
+      (parts_as _ _ _ _ _ (ap (λ x. x ++ []) (outside_parts_unmet acc low)) (ap (λ x. x ++ siblings c t) (inner_unmet acc low)) (parts_right (PrefixFold (1 + length bs)) acc (peak t) [] (siblings c t) (parts_peak t e))))
 
   -- a bag of met peaks and unmet ones after them
-  bag_met : (i : ℕ) (t : Tree) (ts after : List Tree) → Met c (t ∷ ts) → Unmet c after → Parts (right_fold_plan i t (ts ++ after)) (bag_all (i + suc (length ts)) after) (siblings c t ++ flat_map (siblings c) ts)
-  bag_met i t [] [] m u = parts_as (peak t) [] [] (siblings c t) (siblings c t ++ []) refl (sym (append-nil _)) (parts_peak t m.0)
-  bag_met i t [] (v ∷ vs) m u =
-      let low : meets c (right_fold_plan (suc i) v vs) ≡ false = bag_unmet (suc i) v vs u in
-      parts_as _ _ _ _ _ (outer_unmet (right_fold_plan (suc i) v vs) low ∙ ap (λ n. bag_all n (v ∷ vs)) (sym (add-one i))) (ap (λ x. siblings c t ++ x) (inner_unmet (right_fold_plan (suc i) v vs) low))
+  right_fold_met : (i : ℕ) (t : Tree) (ts after : List Tree) → Met c (t ∷ ts) → Unmet c after → Parts (right_fold_plan i t (ts ++ after)) (bag_all (i + suc (length ts)) after) (siblings c t ++ flat_map (siblings c) ts)
+  right_fold_met i t [] [] m u = parts_as (peak t) [] [] (siblings c t) (siblings c t ++ []) refl (sym (append-nil _)) (parts_peak t m.0)
+  right_fold_met i t [] (v ∷ vs) m u =
+      let low : meets c (right_fold_plan (suc i) v vs) ≡ false = right_fold_unmet (suc i) v vs u in
+      parts_as _ _ _ _ _ (outside_parts_unmet (right_fold_plan (suc i) v vs) low ∙ ap (λ n. bag_all n (v ∷ vs)) (sym (add-one i))) (ap (λ x. siblings c t ++ x) (inner_unmet (right_fold_plan (suc i) v vs) low))
       (parts_left (SuffixFold i) (peak t) (right_fold_plan (suc i) v vs) [] (siblings c t) (parts_peak t m.0))
-  bag_met i t (v ∷ vs) after m u = parts_as _ _ _ _ _ (ap₂ ◌++◌ (outer_peak t m.0) (ap (λ n. bag_all n after) (omega arith))) (ap (λ x. x ++ (siblings c v ++ flat_map (siblings c) vs)) (inner_peak t m.0))
-      (parts_right (SuffixFold i) (peak t) (right_fold_plan (suc i) v (vs ++ after)) _ _ (bag_met (suc i) v vs after m.1 u))
+  right_fold_met i t (v ∷ vs) after m u = parts_as _ _ _ _ _ (ap₂ ◌++◌ (outside_parts_peak t m.0) (ap (λ n. bag_all n after) (omega arith))) (ap (λ x. x ++ (siblings c v ++ flat_map (siblings c) vs)) (inner_peak t m.0))
+      (parts_right (SuffixFold i) (peak t) (right_fold_plan (suc i) v (vs ++ after)) _ _ (right_fold_met (suc i) v vs after m.1 u))
 
-  bag_reaches : (i : ℕ) (b : Tree) (bs : List Tree) (t : Tree) (ts after : List Tree) → Unmet c (b ∷ bs) → Met c (t ∷ ts) → Unmet c after
+  right_fold_reaches : (i : ℕ) (b : Tree) (bs : List Tree) (t : Tree) (ts after : List Tree) → Unmet c (b ∷ bs) → Met c (t ∷ ts) → Unmet c after
       → Parts (right_fold_plan i b (bs ++ (t ∷ ts ++ after))) (map peak (b ∷ bs) ++ bag_all (i + suc (length bs) + suc (length ts)) after) (siblings c t ++ flat_map (siblings c) ts)
-  bag_reaches i b [] t ts after u m v = parts_as _ _ _ _ _ (ap₂ ◌++◌ (outer_unmet (peak b) u.0) (ap (λ n. bag_all n after) (omega arith))) (ap (λ x. x ++ (siblings c t ++ flat_map (siblings c) ts)) (inner_unmet (peak b) u.0))
-      (parts_right (SuffixFold i) (peak b) (right_fold_plan (suc i) t (ts ++ after)) _ _ (bag_met (suc i) t ts after m v))
-  bag_reaches i b (d ∷ bs) t ts after u m v = parts_as _ _ _ _ _ (ap₂ ◌++◌ (outer_unmet (peak b) u.0) (ap (λ n. map peak (d ∷ bs) ++ bag_all n after) (omega arith))) (ap (λ x. x ++ (siblings c t ++ flat_map (siblings c) ts)) (inner_unmet (peak b) u.0))
-      (parts_right (SuffixFold i) (peak b) (right_fold_plan (suc i) d (bs ++ (t ∷ ts ++ after))) _ _ (bag_reaches (suc i) d bs t ts after u.1 m v))
+  right_fold_reaches i b [] t ts after u m v = parts_as _ _ _ _ _ (ap₂ ◌++◌ (outside_parts_unmet (peak b) u.0) (ap (λ n. bag_all n after) (omega arith))) (ap (λ x. x ++ (siblings c t ++ flat_map (siblings c) ts)) (inner_unmet (peak b) u.0))
+      (parts_right (SuffixFold i) (peak b) (right_fold_plan (suc i) t (ts ++ after)) _ _ (right_fold_met (suc i) t ts after m v))
+  right_fold_reaches i b (d ∷ bs) t ts after u m v = parts_as _ _ _ _ _ (ap₂ ◌++◌ (outside_parts_unmet (peak b) u.0) (ap (λ n. map peak (d ∷ bs) ++ bag_all n after) (omega arith))) (ap (λ x. x ++ (siblings c t ++ flat_map (siblings c) ts)) (inner_unmet (peak b) u.0))
+      (parts_right (SuffixFold i) (peak b) (right_fold_plan (suc i) d (bs ++ (t ∷ ts ++ after))) _ _ (right_fold_reaches (suc i) d bs t ts after u.1 m v))
 
   flat_map_append : (xs ys : List Tree) → flat_map (siblings c) (xs ++ ys) ≡ flat_map (siblings c) xs ++ flat_map (siblings c) ys
   flat_map_append [] ys = refl
@@ -154,12 +154,12 @@ module _ (c : ℕ → Bool) where
   join_unmet : (acc : Plan) (i : ℕ) (ts : List Tree) (os : List Plan) (is : List Tree) → Unmet c ts → Parts acc os is → Parts (with_right_fold_plan acc i ts) (os ++ bag_all i ts) is
   join_unmet acc i [] os is u w = parts_as acc os (os ++ []) is is (sym (append-nil os)) refl w
   join_unmet acc i (t ∷ ts) os is u w =
-      let low : meets c (right_fold_plan i t ts) ≡ false = bag_unmet i t ts u in
-      parts_as _ _ _ _ _ (ap (λ x. os ++ x) (outer_unmet (right_fold_plan i t ts) low)) (ap (λ x. is ++ x) (inner_unmet (right_fold_plan i t ts) low) ∙ append-nil is) (parts_left Join acc (right_fold_plan i t ts) os is w)
+      let low : meets c (right_fold_plan i t ts) ≡ false = right_fold_unmet i t ts u in
+      parts_as _ _ _ _ _ (ap (λ x. os ++ x) (outside_parts_unmet (right_fold_plan i t ts) low)) (ap (λ x. is ++ x) (inner_unmet (right_fold_plan i t ts) low) ∙ append-nil is) (parts_left Join acc (right_fold_plan i t ts) os is w)
 
-  outer_of : (p : Plan) (os : List Plan) (is : List Tree) → Parts p os is → outside_parts c p ≡ os
+  outside_parts_of : (p : Plan) (os : List Plan) (is : List Tree) → Parts p os is → outside_parts c p ≡ os
   unfolding Parts
-  outer_of p os is w = w.1
+  outside_parts_of p os is w = w.1
 
   inner_of : (p : Plan) (os : List Plan) (is : List Tree) → Parts p os is → path_siblings c p ≡ is
   unfolding Parts
@@ -168,16 +168,16 @@ module _ (c : ℕ → Bool) where
   -- met peaks and unmet ones after them
   join_met : (acc : Plan) (i : ℕ) (t : Tree) (ts after : List Tree) (os : List Plan) (is : List Tree) → Met c (t ∷ ts) → Unmet c after → Parts acc os is
       → Parts (with_right_fold_plan acc i (t ∷ ts ++ after)) (os ++ bag_all (i + suc (length ts)) after) (is ++ (siblings c t ++ flat_map (siblings c) ts))
-  join_met acc i t ts after os is m u w = let v = bag_met i t ts after m u in
-      parts_as _ _ _ _ _ (ap (λ x. os ++ x) (outer_of _ _ _ v)) (ap (λ x. is ++ x) (inner_of _ _ _ v)) (parts_left Join acc (right_fold_plan i t (ts ++ after)) os is w)
+  join_met acc i t ts after os is m u w = let v = right_fold_met i t ts after m u in
+      parts_as _ _ _ _ _ (ap (λ x. os ++ x) (outside_parts_of _ _ _ v)) (ap (λ x. is ++ x) (inner_of _ _ _ v)) (parts_left Join acc (right_fold_plan i t (ts ++ after)) os is w)
 
   -- unmet peaks bagged onto an unmet accumulator, with met ones among them
   join_reaches : (acc : Plan) (i : ℕ) (bs : List Tree) (t : Tree) (ts after : List Tree) → meets c acc ≡ false → Unmet c bs → Met c (t ∷ ts) → Unmet c after
       → Parts (with_right_fold_plan acc i (bs ++ (t ∷ ts ++ after))) (acc ∷ (map peak bs ++ bag_all (i + length bs + suc (length ts)) after)) (siblings c t ++ flat_map (siblings c) ts)
-  join_reaches acc i [] t ts after e u m v = parts_as _ _ _ _ _ (ap₂ ◌++◌ (outer_unmet acc e) (ap (λ n. bag_all n after) (omega arith))) (ap (λ x. x ++ (siblings c t ++ flat_map (siblings c) ts)) (inner_unmet acc e))
-      (parts_right Join acc (right_fold_plan i t (ts ++ after)) _ _ (bag_met i t ts after m v))
-  join_reaches acc i (b ∷ bs) t ts after e u m v = parts_as _ _ _ _ _ (ap (λ x. x ++ (map peak (b ∷ bs) ++ bag_all (i + suc (length bs) + suc (length ts)) after)) (outer_unmet acc e)) (ap (λ x. x ++ (siblings c t ++ flat_map (siblings c) ts)) (inner_unmet acc e))
-      (parts_right Join acc (right_fold_plan i b (bs ++ (t ∷ ts ++ after))) _ _ (bag_reaches i b bs t ts after u m v))
+  join_reaches acc i [] t ts after e u m v = parts_as _ _ _ _ _ (ap₂ ◌++◌ (outside_parts_unmet acc e) (ap (λ n. bag_all n after) (omega arith))) (ap (λ x. x ++ (siblings c t ++ flat_map (siblings c) ts)) (inner_unmet acc e))
+      (parts_right Join acc (right_fold_plan i t (ts ++ after)) _ _ (right_fold_met i t ts after m v))
+  join_reaches acc i (b ∷ bs) t ts after e u m v = parts_as _ _ _ _ _ (ap (λ x. x ++ (map peak (b ∷ bs) ++ bag_all (i + suc (length bs) + suc (length ts)) after)) (outside_parts_unmet acc e)) (ap (λ x. x ++ (siblings c t ++ flat_map (siblings c) ts)) (inner_unmet acc e))
+      (parts_right Join acc (right_fold_plan i b (bs ++ (t ∷ ts ++ after))) _ _ (right_fold_reaches i b bs t ts after u m v))
 
   -- a list is cut within, or it isn't so long
   cut_within : (n : ℕ) (xs : List Tree) → ((ys : List Tree) × (z : Tree) × (zs : List Tree) × (xs ≡ ys ++ z ∷ zs) × (length ys ≡ n)) ⊎ (length xs ≤ n)
@@ -188,7 +188,7 @@ module _ (c : ℕ → Bool) where
   out_met : (ts : List Tree) → Met c ts → peaks_out ts ≡ []
   unfolding peaks_out
   out_met [] u = refl
-  out_met (t ∷ ts) u = ap₂ ◌++◌ (outer_peak t u.0) (out_met ts u.1)
+  out_met (t ∷ ts) u = ap₂ ◌++◌ (outside_parts_peak t u.0) (out_met ts u.1)
 
   in_met : (ts : List Tree) → Met c ts → peaks_in ts ≡ flat_map (siblings c) ts
   unfolding peaks_in
@@ -287,10 +287,10 @@ module _ (c : ℕ → Bool) (k : ℕ) (b : Tree) (bs : List Tree) (t : Tree) (ov
   IsLaid : Type 0
   IsLaid = HasLayout c (layout BackwardFold k (b ∷ bs) (t ∷ over) after) (flat_map (siblings c) (t ∷ over)) (root_plan BackwardFold k (b ∷ bs ++ (t ∷ over ++ after)))
 
-  laid_before : pred k ≤ length bs → IsLaid
+  with_record_before : pred k ≤ length bs → IsLaid
   unfolding IsLaid Parts
-  laid_before l =
-      let low : meets c (left_fold_plan (peak b) 1 (take (pred k) bs)) ≡ false = forward_unmet c (peak b) 1 (take (pred k) bs) u.0 (unmet_take c (pred k) bs u.1) in
+  with_record_before l =
+      let low : meets c (left_fold_plan (peak b) 1 (take (pred k) bs)) ≡ false = left_fold_unmet c (peak b) 1 (take (pred k) bs) u.0 (unmet_take c (pred k) bs u.1) in
       let w = join_reaches c (left_fold_plan (peak b) 1 (take (pred k) bs)) (suc (pred k)) (drop (pred k) bs) t over after low (unmet_drop c (pred k) bs u.1) m v in
       let x : take (pred k) (bs ++ (t ∷ over ++ after)) ≡ take (pred k) bs = take-append-le (pred k) bs (t ∷ over ++ after) l in
       let y : drop (pred k) (bs ++ (t ∷ over ++ after)) ≡ drop (pred k) bs ++ (t ∷ over ++ after) = drop-append-le (pred k) bs (t ∷ over ++ after) l in (
@@ -298,9 +298,9 @@ module _ (c : ℕ → Bool) (k : ℕ) (b : Tree) (bs : List Tree) (t : Tree) (ov
         ap₂ (λ x y. path_siblings c (with_right_fold_plan (left_fold_plan (peak b) 1 x) (suc (pred k)) y)) x y ∙ w.2,
       )
 
-  laid_past : length bs < pred k → IsLaid
+  with_record_past : length bs < pred k → IsLaid
   unfolding IsLaid Parts last_parts
-  laid_past l =
+  with_record_past l =
       let n = pred k - suc (length bs) in
       let far : pred k ≡ length bs + suc (pred k - suc (length bs)) = omega arith in
       let x : take (pred k) (bs ++ (t ∷ over ++ after)) ≡ bs ++ t ∷ take n (over ++ after) = ap (λ z. take z (bs ++ (t ∷ over ++ after))) far ∙ take-append-add bs (t ∷ over ++ after) (suc n) in
@@ -324,4 +324,4 @@ outside_is_layout c BackwardFold k [] t over after u m v =
     let first : suc (pred k) + (length over - pred k) ≡ 0 + suc (length over) + (k - (0 + suc (length over))) = omega arith in
     (w.1 ∙ ap₂ (last_parts after) most first ∙ ap₂ (λ x y. fold_all x ++ (map peak y ++ last_parts after (k - (0 + suc (length over))) (0 + suc (length over) + (k - (0 + suc (length over)))))) (sym (take_nil k)) (sym (drop_nil k)), w.2)
 outside_is_layout c BackwardFold k (b ∷ bs) t over after u m v =
-    ⊎_elim (λ l. laid_past c k b bs t over after u m v l) (λ l. laid_before c k b bs t over after u m v l) (cases_lt (length bs) (pred k))
+    ⊎_elim (λ l. with_record_past c k b bs t over after u m v l) (λ l. with_record_before c k b bs t over after u m v l) (cases_lt (length bs) (pred k))

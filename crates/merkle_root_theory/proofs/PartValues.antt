@@ -8,7 +8,7 @@ use Rattle.merkle_root_theory.specs.Plan.{Plan, peak, folding, meets, siblings, 
 use Rattle.merkle_root_theory.specs.Outside.{Met, Unmet}
 use Rattle.merkle_root_theory.specs.Claim.{next, claim, tree_claim}
 use Rattle.merkle_root_theory.specs.Walk.{peak_values}
-use Rattle.merkle_root_theory.proofs.OutsideNodes.{outer_unmet, inner_unmet}
+use Rattle.merkle_root_theory.proofs.OutsideNodes.{outside_parts_unmet, inner_unmet}
 
 -- the digests of parts, from those given for the outer parts and for the inner nodes
 abbrev pub part_values : {D : Type 0} → Hashing D → (ℕ → Bool) → (ℕ → D) → List Plan → List D → List D → List D
@@ -49,7 +49,7 @@ module _ {D : Type 0} (h : Hashing D) (c : ℕ → Bool) (X : ℕ → D) where
   -- a part that isn't met takes the next digest
   values_unmet : (p : Plan) (ps : List Plan) (d : D) (os is : List D) → meets c p ≡ false → part_values h c X (p ∷ ps) (d ∷ os) is ≡ d ∷ part_values h c X ps os is
   values_unmet p ps d os is e = ap₂ (λ x y. x ∷ y) (ap (value h) (claim_unmet p (d ∷ os) is e))
-      (ap₂ (part_values h c X ps) (ap (λ z. drop (length z) (d ∷ os)) (outer_unmet c p e)) (ap (λ z. drop (length z) is) (inner_unmet c p e)))
+      (ap₂ (part_values h c X ps) (ap (λ z. drop (length z) (d ∷ os)) (outside_parts_unmet c p e)) (ap (λ z. drop (length z) is) (inner_unmet c p e)))
 
   values_given : (ps : List Plan) (os is : List D) → UnmetParts c ps → length ps ≤ length os → part_values h c X ps os is ≡ take (length ps) os
   values_given [] os is u l = refl

@@ -45,10 +45,10 @@ covers s n i a = spans_cover (forest s.rule n).nodes 0 n i (peaks_of s.rule n) (
 
 -- the limits
 pub small_leaves : {D : Type 0} (s : Scheme D) (max_nodes n : ℕ) → IsLawful s.rule s.max_leaves max_nodes → n ≤ s.max_leaves → n < 2 ^ 64
-small_leaves s max_nodes n law l = omega (arith, size_large s.rule n, size_le s.rule n s.max_leaves l, law.full, law.small)
+small_leaves s max_nodes n law l = omega (arith, size_large s.rule n, size_le s.rule n s.max_leaves l, law.size_at_limit, law.limit_fits)
 
 pub small_inactive : {D : Type 0} (s : Scheme D) (max_nodes n k : ℕ) → IsLawful s.rule s.max_leaves max_nodes → n ≤ s.max_leaves → k ≤ length (peaks_of s.rule n) → k < 2 ^ 64
-small_inactive s max_nodes n k law l m = omega (arith, length-reverse (forest s.rule n).peaks, length-map (forest s.rule n).peaks height, ap length (heights_forest s.rule n), law.few n l)
+small_inactive s max_nodes n k law l m = omega (arith, length-reverse (forest s.rule n).peaks, length-map (forest s.rule n).peaks height, ap length (heights_forest s.rule n), law.at_most_64_peaks n l)
 
 -- no leaves, no plan
 pub no_plan : {D : Type 0} (s : Scheme D) (b : Bagging) (k : ℕ) → root_plan b k (peaks_of s.rule 0) ≡ None

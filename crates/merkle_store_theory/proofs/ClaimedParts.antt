@@ -10,7 +10,7 @@ use Rattle.merkle_root_theory.specs.Expression.{value}
 use Rattle.merkle_root_theory.specs.Plan.{Plan, peak, folding, root_plan, meets, tree_meets, outside_parts, path_siblings}
 use Rattle.merkle_root_theory.specs.Claim.{claim}
 use Rattle.merkle_root_theory.specs.Outside.{fold_all, bag_all, folded_prefix, single_before, single_after, folded_suffix, Met, Unmet}
-use Rattle.merkle_claim_theory.specs.Store.{sub_siblings, sub_outer, sub_inner}
+use Rattle.merkle_claim_theory.specs.Store.{sub_siblings, sub_outside_parts, sub_inner}
 use Rattle.merkle_root_theory.specs.Walk.{peak_values}
 use Rattle.merkle_root_theory.proofs.OutsideNodes.{unmet_take, unmet_drop}
 use Rattle.merkle_store_theory.proofs.Flattened.{flat, flat_whole}
@@ -20,15 +20,15 @@ use Rattle.merkle_store_theory.proofs.PairReads.{over_given}
 
 -- each part outside the part's range gives its value, and each of its peaks the siblings
 module _ {D : Type 0} (h : Hashing D) (c d : ℕ → Bool) (X : ℕ → D) where
-  outer_splits : Splits c d (sub_outer h c d X)
-  outer_splits q l r os is m = ap (λ b. cond b (sub_outer h c d X l os is ++ sub_outer h c d X r (drop (length (outside_parts c l)) os) (drop (length (path_siblings c l)) is)) (value h (claim h c X (folding q l r) os is) ∷ [])) m
+  outside_parts_splits : Splits c d (sub_outside_parts h c d X)
+  outside_parts_splits q l r os is m = ap (λ b. cond b (sub_outside_parts h c d X l os is ++ sub_outside_parts h c d X r (drop (length (outside_parts c l)) os) (drop (length (path_siblings c l)) is)) (value h (claim h c X (folding q l r) os is) ∷ [])) m
 
-  outer_apart : (p : Plan) (os is : List D) → meets d p ≡ false → sub_outer h c d X p os is ≡ value h (claim h c X p os is) ∷ []
-  outer_apart (peak t) os is e = ap (λ b. cond b [] (value h (claim h c X (peak t) os is) ∷ [])) e
-  outer_apart (folding q l r) os is e = ap (λ b. cond b (sub_outer h c d X l os is ++ sub_outer h c d X r (drop (length (outside_parts c l)) os) (drop (length (path_siblings c l)) is)) (value h (claim h c X (folding q l r) os is) ∷ [])) e
+  outside_parts_apart : (p : Plan) (os is : List D) → meets d p ≡ false → sub_outside_parts h c d X p os is ≡ value h (claim h c X p os is) ∷ []
+  outside_parts_apart (peak t) os is e = ap (λ b. cond b [] (value h (claim h c X (peak t) os is) ∷ [])) e
+  outside_parts_apart (folding q l r) os is e = ap (λ b. cond b (sub_outside_parts h c d X l os is ++ sub_outside_parts h c d X r (drop (length (outside_parts c l)) os) (drop (length (path_siblings c l)) is)) (value h (claim h c X (folding q l r) os is) ∷ [])) e
 
-  outer_over : (t : Tree) (os is : List D) → tree_meets d t ≡ true → sub_outer h c d X (peak t) os is ≡ []
-  outer_over t os is e = ap (λ b. cond b [] (value h (claim h c X (peak t) os is) ∷ [])) e
+  outside_parts_over : (t : Tree) (os is : List D) → tree_meets d t ≡ true → sub_outside_parts h c d X (peak t) os is ≡ []
+  outside_parts_over t os is e = ap (λ b. cond b [] (value h (claim h c X (peak t) os is) ∷ [])) e
 
   inner_splits : Splits c d (sub_inner h c d X)
   inner_splits q l r os is m = ap (λ b. cond b (sub_inner h c d X l os is ++ sub_inner h c d X r (drop (length (outside_parts c l)) os) (drop (length (path_siblings c l)) is)) []) m
@@ -133,13 +133,13 @@ module _ {D : Type 0} (h : Hashing D) (c d : ℕ → Bool) (within : (i : ℕ) �
     abbrev pub prefix_fold : List D
     prefix_fold = option_to_list (root.folded h.fold ForwardFold 0 (e1 ++ peak_values h c X more_folded is))
 
-    abbrev pub suffix_bag : List D
-    suffix_bag = option_to_list (root.right_fold h.fold (peak_values h c X more_suffix is4 ++ e4))
+    abbrev pub suffix_right_fold : List D
+    suffix_right_fold = option_to_list (root.right_fold h.fold (peak_values h c X more_suffix is4 ++ e4))
 
     given_by : (sub : Plan → List D → List D → List D) → Splits c d sub → (g : D → List D) (m : Tree → List D → List D) → ((p : Plan) (os is : List D) → meets d p ≡ false → sub p os is ≡ g (value h (claim h c X p os is)))
         → ((t : Tree) (os is : List D) → tree_meets d t ≡ true → sub (peak t) os is ≡ m t is)
         → sub p (e1 ++ (e2 ++ (e3 ++ (e4 ++ rest)))) is
-        ≡ flat_map g prefix_fold ++ (flat_map g (e2 ++ peak_values h c X more_single is1) ++ (over_given c m (t ∷ over) is2 ++ (flat_map g (peak_values h c X more_single_after is3 ++ e3) ++ flat_map g suffix_bag)))
+        ≡ flat_map g prefix_fold ++ (flat_map g (e2 ++ peak_values h c X more_single is1) ++ (over_given c m (t ∷ over) is2 ++ (flat_map g (peak_values h c X more_single_after is3 ++ e3) ++ flat_map g suffix_right_fold)))
     given_by sub splits g m apart over_is =
         sym (append-nil (sub p (e1 ++ (e2 ++ (e3 ++ (e4 ++ rest)))) is))
         ∙ flattened c d within sub splits p [] (e1 ++ (e2 ++ (e3 ++ (e4 ++ rest)))) is
@@ -154,13 +154,13 @@ module _ {D : Type 0} (h : Hashing D) (c d : ℕ → Bool) (within : (i : ℕ) �
         (subst (Unmet d) (suffix_split bagging k met_part met_whole more_after after met_more) (unmet_suffix d bagging k met_part (more_after ++ after) dv))
         e1 e2 e3 e4 rest is l1 l2 l3 l4
 
-    pub outer_given : sub_outer h c d X p (e1 ++ (e2 ++ (e3 ++ (e4 ++ rest)))) is ≡ prefix_fold ++ ((e2 ++ peak_values h c X more_single is1) ++ ((peak_values h c X more_single_after is3 ++ e3) ++ suffix_bag))
-    outer_given =
-        given_by (sub_outer h c d X) (outer_splits h c d X) (λ x. x ∷ []) (λ u es. []) (outer_apart h c d X) (outer_over h c d X)
-        ∙ ap₂ ◌++◌ (each_one prefix_fold) (ap₂ ◌++◌ (each_one (e2 ++ peak_values h c X more_single is1)) (ap₂ ◌++◌ (over_none c (t ∷ over) is2) (ap₂ ◌++◌ (each_one (peak_values h c X more_single_after is3 ++ e3)) (each_one suffix_bag))))
+    pub outside_parts_given : sub_outside_parts h c d X p (e1 ++ (e2 ++ (e3 ++ (e4 ++ rest)))) is ≡ prefix_fold ++ ((e2 ++ peak_values h c X more_single is1) ++ ((peak_values h c X more_single_after is3 ++ e3) ++ suffix_right_fold))
+    outside_parts_given =
+        given_by (sub_outside_parts h c d X) (outside_parts_splits h c d X) (λ x. x ∷ []) (λ u es. []) (outside_parts_apart h c d X) (outside_parts_over h c d X)
+        ∙ ap₂ ◌++◌ (each_one prefix_fold) (ap₂ ◌++◌ (each_one (e2 ++ peak_values h c X more_single is1)) (ap₂ ◌++◌ (over_none c (t ∷ over) is2) (ap₂ ◌++◌ (each_one (peak_values h c X more_single_after is3 ++ e3)) (each_one suffix_right_fold))))
 
     pub inner_given : sub_inner h c d X p (e1 ++ (e2 ++ (e3 ++ (e4 ++ rest)))) is ≡ over_given c (sub_siblings h c d X) (t ∷ over) is2
     inner_given =
         given_by (sub_inner h c d X) (inner_splits h c d X) (λ x. []) (sub_siblings h c d X) (inner_apart h c d X) (inner_over h c d X)
-        ∙ ap₂ ◌++◌ (each_none prefix_fold) (ap₂ ◌++◌ (each_none (e2 ++ peak_values h c X more_single is1)) (ap₂ (λ x y. over_given c (sub_siblings h c d X) (t ∷ over) is2 ++ (x ++ y)) (each_none (peak_values h c X more_single_after is3 ++ e3)) (each_none suffix_bag)))
+        ∙ ap₂ ◌++◌ (each_none prefix_fold) (ap₂ ◌++◌ (each_none (e2 ++ peak_values h c X more_single is1)) (ap₂ (λ x y. over_given c (sub_siblings h c d X) (t ∷ over) is2 ++ (x ++ y)) (each_none (peak_values h c X more_single_after is3 ++ e3)) (each_none suffix_right_fold)))
         ∙ append-nil (over_given c (sub_siblings h c d X) (t ∷ over) is2)

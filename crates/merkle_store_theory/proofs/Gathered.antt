@@ -12,11 +12,11 @@ use Rattle.merkle_root_theory.specs.Plan.{Plan, peak, folding, left_fold_plan, r
 use Rattle.merkle_root_theory.specs.Claim.{next, claim, tree_claim}
 use Rattle.merkle_root_theory.specs.Outside.{fold_all, bag_all, Met, Unmet}
 use Rattle.merkle_root_theory.specs.Walk.{peak_values}
-use Rattle.merkle_root_theory.proofs.OutsideNodes.{forward_unmet, bag_unmet, forward_append, outer_unmet, inner_unmet}
+use Rattle.merkle_root_theory.proofs.OutsideNodes.{left_fold_unmet, right_fold_unmet, left_fold_append, outside_parts_unmet, inner_unmet}
 use Rattle.merkle_root_theory.proofs.PartValues.{part_values, claim_unmet, value_folding, values_folding, values_are, UnmetParts}
-use Rattle.merkle_root_theory.proofs.ForwardValues.{value_forward}
+use Rattle.merkle_root_theory.proofs.ForwardValues.{value_left_fold}
 use Rattle.merkle_root_theory.proofs.LayoutCounts.{length-bag_all}
-use Rattle.merkle_root_theory.proofs.BackwardValues.{last_met, bag_values}
+use Rattle.merkle_root_theory.proofs.BackwardValues.{last_met, right_fold_values}
 use Rattle.merkle_store_theory.proofs.Flattened.{flat}
 
 -- what each part gives, the digests before it being taken by the parts before
@@ -87,14 +87,14 @@ module _ {D : Type 0} (h : Hashing D) (c d : ℕ → Bool) (X : ℕ → D) (sub 
   gives_given (t ∷ ts) (e ∷ es) os is u w l =
       gives_both c sub (peak t ∷ []) (map peak ts) (e ∷ es ++ os) is (g e) (es ++ os) is (flat_map g es) os is
       (gives_one c sub (peak t) (e ∷ es ++ os) is (g e) (es ++ os) is (apart (peak t) (e ∷ es ++ os) is w.0 ∙ ap (λ z. g (value h z)) (claim_unmet h c X (peak t) (e ∷ es ++ os) is u.0))
-      (ap (λ z. drop (length z) (e ∷ es ++ os)) (outer_unmet c (peak t) u.0)) (ap (λ z. drop (length z) is) (inner_unmet c (peak t) u.0)))
+      (ap (λ z. drop (length z) (e ∷ es ++ os)) (outside_parts_unmet c (peak t) u.0)) (ap (λ z. drop (length z) is) (inner_unmet c (peak t) u.0)))
       (gives_given ts es os is u.1 w.1 (omega (arith, l)))
 
   value_peak : (t : Tree) (os is : List D) → tree_meets c t ≡ true → value h (claim h c X (peak t) os is) ≡ value h (tree_claim h c X t is)
   value_peak t os is m = ap (λ z. value h (cond z (tree_claim h c X t is) (supplied (next h os)))) m
 
-  outer_met : (t : Tree) (os : List D) → tree_meets c t ≡ true → drop (length (outside_parts c (peak t))) os ≡ os
-  outer_met t os m = ap (λ z. drop (length (cond z [] (peak t ∷ []))) os) m
+  outside_parts_met : (t : Tree) (os : List D) → tree_meets c t ≡ true → drop (length (outside_parts c (peak t))) os ≡ os
+  outside_parts_met t os m = ap (λ z. drop (length (cond z [] (peak t ∷ []))) os) m
 
   inner_met : (t : Tree) (is : List D) → tree_meets c t ≡ true → drop (length (path_siblings c (peak t))) is ≡ drop (length (siblings c t)) is
   inner_met t is m = ap (λ z. drop (length (cond z (siblings c t) [])) is) m
@@ -105,19 +105,19 @@ module _ {D : Type 0} (h : Hashing D) (c d : ℕ → Bool) (X : ℕ → D) (sub 
   gives_own (t ∷ ts) os is m w =
       let is' = drop (length (siblings c t)) is in
       gives_both c sub (peak t ∷ []) (map peak ts) os is (g (value h (tree_claim h c X t is))) os is' (flat_map g (peak_values h c X ts is')) os (past c ts is')
-      (gives_one c sub (peak t) os is (g (value h (tree_claim h c X t is))) os is' (apart (peak t) os is w.0 ∙ ap g (value_peak t os is m.0)) (outer_met t os m.0) (inner_met t is m.0))
+      (gives_one c sub (peak t) os is (g (value h (tree_claim h c X t is))) os is' (apart (peak t) os is w.0 ∙ ap g (value_peak t os is m.0)) (outside_parts_met t os m.0) (inner_met t is m.0))
       (gives_own ts os is' m.1 w.1)
 
   met_values : (ts : List Tree) (os is : List D) → Met c ts → part_values h c X (map peak ts) os is ≡ peak_values h c X ts is
   met_values [] os is m = refl
-  met_values (t ∷ ts) os is m = ap₂ (λ x y. x ∷ y) (value_peak t os is m.0) (ap₂ (part_values h c X (map peak ts)) (outer_met t os m.0) (inner_met t is m.0) ∙ met_values ts os (drop (length (siblings c t)) is) m.1)
+  met_values (t ∷ ts) os is m = ap₂ (λ x y. x ∷ y) (value_peak t os is m.0) (ap₂ (part_values h c X (map peak ts)) (outside_parts_met t os m.0) (inner_met t is m.0) ∙ met_values ts os (drop (length (siblings c t)) is) m.1)
 
   -- ---- the folded prefix
-  outer_fold : (acc : Plan) (i : ℕ) (ts : List Tree) → meets c acc ≡ true → Met c ts → outside_parts c (left_fold_plan acc i ts) ≡ outside_parts c acc
-  outer_fold acc i [] e m = refl
-  outer_fold acc i (t ∷ ts) e m =
+  outside_parts_fold : (acc : Plan) (i : ℕ) (ts : List Tree) → meets c acc ≡ true → Met c ts → outside_parts c (left_fold_plan acc i ts) ≡ outside_parts c acc
+  outside_parts_fold acc i [] e m = refl
+  outside_parts_fold acc i (t ∷ ts) e m =
       let w = or_left (meets c acc) (tree_meets c t) e in
-      outer_fold (folding (PrefixFold i) acc (peak t)) (suc i) ts w m.1
+      outside_parts_fold (folding (PrefixFold i) acc (peak t)) (suc i) ts w m.1
       ∙ ap (λ z. cond z (outside_parts c acc ++ outside_parts c (peak t)) (folding (PrefixFold i) acc (peak t) ∷ [])) w
       ∙ ap (λ z. outside_parts c acc ++ cond z [] (peak t ∷ [])) m.0 ∙ append-nil (outside_parts c acc)
 
@@ -131,17 +131,17 @@ module _ {D : Type 0} (h : Hashing D) (c d : ℕ → Bool) (X : ℕ → D) (sub 
 
   fold_given : (b : Tree) (bs : List Tree) (e : D) (os is : List D) → Unmet c (b ∷ bs) → Unmet d (b ∷ bs) → Gives c sub (left_fold_plan (peak b) 1 bs ∷ []) (e ∷ os) is (g e) os is
   fold_given b bs e os is u w =
-      let low = forward_unmet c (peak b) 1 bs u.0 u.1 in
-      gives_one c sub (left_fold_plan (peak b) 1 bs) (e ∷ os) is (g e) os is (apart (left_fold_plan (peak b) 1 bs) (e ∷ os) is (forward_unmet d (peak b) 1 bs w.0 w.1) ∙ ap (λ z. g (value h z)) (claim_unmet h c X (left_fold_plan (peak b) 1 bs) (e ∷ os) is low))
-      (ap (λ z. drop (length z) (e ∷ os)) (outer_unmet c (left_fold_plan (peak b) 1 bs) low)) (ap (λ z. drop (length z) is) (inner_unmet c (left_fold_plan (peak b) 1 bs) low))
+      let low = left_fold_unmet c (peak b) 1 bs u.0 u.1 in
+      gives_one c sub (left_fold_plan (peak b) 1 bs) (e ∷ os) is (g e) os is (apart (left_fold_plan (peak b) 1 bs) (e ∷ os) is (left_fold_unmet d (peak b) 1 bs w.0 w.1) ∙ ap (λ z. g (value h z)) (claim_unmet h c X (left_fold_plan (peak b) 1 bs) (e ∷ os) is low))
+      (ap (λ z. drop (length z) (e ∷ os)) (outside_parts_unmet c (left_fold_plan (peak b) 1 bs) low)) (ap (λ z. drop (length z) is) (inner_unmet c (left_fold_plan (peak b) 1 bs) low))
 
   fold_own : (t : Tree) (ts : List Tree) (os is : List D) → Met c (t ∷ ts) → Unmet d (t ∷ ts)
       → Gives c sub (left_fold_plan (peak t) 1 ts ∷ []) os is (g (fold h.fold (value h (tree_claim h c X t is)) (peak_values h c X ts (drop (length (siblings c t)) is)))) os (past c (t ∷ ts) is)
   fold_own t ts os is m w =
       gives_one c sub (left_fold_plan (peak t) 1 ts) os is (g (fold h.fold (value h (tree_claim h c X t is)) (peak_values h c X ts (drop (length (siblings c t)) is)))) os (past c (t ∷ ts) is)
-      (apart (left_fold_plan (peak t) 1 ts) os is (forward_unmet d (peak t) 1 ts w.0 w.1)
-      ∙ ap g (value_forward h c X (peak t) 1 ts os is m.0 ∙ ap₂ (fold h.fold) (value_peak t os is m.0) (ap₂ (part_values h c X (map peak ts)) (outer_met t os m.0) (inner_met t is m.0) ∙ met_values ts os (drop (length (siblings c t)) is) m.1)))
-      (ap (λ z. drop (length z) os) (outer_fold (peak t) 1 ts m.0 m.1) ∙ outer_met t os m.0)
+      (apart (left_fold_plan (peak t) 1 ts) os is (left_fold_unmet d (peak t) 1 ts w.0 w.1)
+      ∙ ap g (value_left_fold h c X (peak t) 1 ts os is m.0 ∙ ap₂ (fold h.fold) (value_peak t os is m.0) (ap₂ (part_values h c X (map peak ts)) (outside_parts_met t os m.0) (inner_met t is m.0) ∙ met_values ts os (drop (length (siblings c t)) is) m.1)))
+      (ap (λ z. drop (length z) os) (outside_parts_fold (peak t) 1 ts m.0 m.1) ∙ outside_parts_met t os m.0)
       (past_fold (peak t) 1 ts is m.0 m.1 ∙ ap (past c ts) (inner_met t is m.0))
 
   fold_more : (b : Tree) (bs : List Tree) (t : Tree) (ts : List Tree) (e : D) (os is : List D) → Unmet c (b ∷ bs) → Met c (t ∷ ts) → Unmet d (b ∷ bs) → Unmet d (t ∷ ts)
@@ -150,10 +150,10 @@ module _ {D : Type 0} (h : Hashing D) (c d : ℕ → Bool) (X : ℕ → D) (sub 
       let q = PrefixFold (1 + length bs) in
       let acc = left_fold_plan (peak b) 1 bs in
       let n = suc (1 + length bs) in
-      let low : meets c acc ≡ false = forward_unmet c (peak b) 1 bs u.0 u.1 in
+      let low : meets c acc ≡ false = left_fold_unmet c (peak b) 1 bs u.0 u.1 in
       let met : meets c acc || tree_meets c t ≡ true = or_right (meets c acc) (tree_meets c t) m.0 in
       let is' = drop (length (siblings c t)) is in
-      let out : drop (length (outside_parts c acc)) (e ∷ os) ≡ os = ap (λ z. drop (length z) (e ∷ os)) (outer_unmet c acc low) in
+      let out : drop (length (outside_parts c acc)) (e ∷ os) ≡ os = ap (λ z. drop (length z) (e ∷ os)) (outside_parts_unmet c acc low) in
       let inn : drop (length (path_siblings c acc)) is ≡ is = ap (λ z. drop (length z) is) (inner_unmet c acc low) in
       let two : value h (claim h c X (folding q acc (peak t)) (e ∷ os) is) ≡ h.fold e (value h (tree_claim h c X t is)) =
       value_folding h c X q acc (peak t) (e ∷ os) is met
@@ -161,13 +161,13 @@ module _ {D : Type 0} (h : Hashing D) (c d : ℕ → Bool) (X : ℕ → D) (sub 
       let rest : part_values h c X (map peak ts) (drop (length (outside_parts c (folding q acc (peak t)))) (e ∷ os)) (drop (length (path_siblings c (folding q acc (peak t)))) is) ≡ peak_values h c X ts is' =
       values_folding h c X q acc (peak t) (map peak ts) (e ∷ os) is met
       ∙ ap₂ (λ y z. part_values h c X (map peak ts) (drop (length (outside_parts c (peak t))) y) (drop (length (path_siblings c (peak t))) z)) out inn
-      ∙ ap₂ (part_values h c X (map peak ts)) (outer_met t os m.0) (inner_met t is m.0) ∙ met_values ts os is' m.1 in
-      λ qs. ap (λ z. gathered c sub (z ∷ qs) (e ∷ os) is) (forward_append c (peak b) 1 bs (t ∷ ts))
+      ∙ ap₂ (part_values h c X (map peak ts)) (outside_parts_met t os m.0) (inner_met t is m.0) ∙ met_values ts os is' m.1 in
+      λ qs. ap (λ z. gathered c sub (z ∷ qs) (e ∷ os) is) (left_fold_append c (peak b) 1 bs (t ∷ ts))
       ∙ gives_one c sub (left_fold_plan (folding q acc (peak t)) n ts) (e ∷ os) is (g (fold h.fold (h.fold e (value h (tree_claim h c X t is))) (peak_values h c X ts is'))) os (past c ts is')
-      (apart (left_fold_plan (folding q acc (peak t)) n ts) (e ∷ os) is (forward_unmet d (folding q acc (peak t)) n ts (ap₂ ◌||◌ (forward_unmet d (peak b) 1 bs w.0 w.1) x.0) x.1)
-      ∙ ap g (value_forward h c X (folding q acc (peak t)) n ts (e ∷ os) is met ∙ ap₂ (fold h.fold) two rest))
-      (ap (λ z. drop (length z) (e ∷ os)) (outer_fold (folding q acc (peak t)) n ts met m.1
-      ∙ ap (λ z. cond z (outside_parts c acc ++ outside_parts c (peak t)) (folding q acc (peak t) ∷ [])) met ∙ ap₂ ◌++◌ (outer_unmet c acc low) (ap (λ z. cond z [] (peak t ∷ [])) m.0)))
+      (apart (left_fold_plan (folding q acc (peak t)) n ts) (e ∷ os) is (left_fold_unmet d (folding q acc (peak t)) n ts (ap₂ ◌||◌ (left_fold_unmet d (peak b) 1 bs w.0 w.1) x.0) x.1)
+      ∙ ap g (value_left_fold h c X (folding q acc (peak t)) n ts (e ∷ os) is met ∙ ap₂ (fold h.fold) two rest))
+      (ap (λ z. drop (length z) (e ∷ os)) (outside_parts_fold (folding q acc (peak t)) n ts met m.1
+      ∙ ap (λ z. cond z (outside_parts c acc ++ outside_parts c (peak t)) (folding q acc (peak t) ∷ [])) met ∙ ap₂ ◌++◌ (outside_parts_unmet c acc low) (ap (λ z. cond z [] (peak t ∷ [])) m.0)))
       (past_fold (folding q acc (peak t)) n ts is met m.1
       ∙ ap (past c ts) (ap (λ z. drop (length (cond z (path_siblings c acc ++ path_siblings c (peak t)) [])) is) met ∙ ap₂ (λ y z. drop (length (y ++ z)) is) (inner_unmet c acc low) (ap (λ z. cond z (siblings c t) []) m.0)))
       qs
@@ -184,24 +184,24 @@ module _ {D : Type 0} (h : Hashing D) (c d : ℕ → Bool) (X : ℕ → D) (sub 
   gives_fold (b ∷ bs) (t ∷ ts) (e ∷ []) os is u m w x l = λ qs. fold_more b bs t ts e os is u m w x qs ∙ ap (λ z. z ++ gathered c sub qs os (past c (t ∷ ts) is)) (sym (append-nil _))
 
   -- ---- the suffix
-  bag_parts : (j : ℕ) (ts : List Tree) → Unmet c ts → UnmetParts c (bag_all j ts)
-  bag_parts j [] u = tt
-  bag_parts j (t ∷ ts) u = (bag_unmet c j t ts u, tt)
+  right_fold_parts : (j : ℕ) (ts : List Tree) → Unmet c ts → UnmetParts c (bag_all j ts)
+  right_fold_parts j [] u = tt
+  right_fold_parts j (t ∷ ts) u = (right_fold_unmet c j t ts u, tt)
 
   -- the bag of met peaks, and of unmet ones after them, of which es has the digest
-  pub gives_bag : (j : ℕ) (ts us : List Tree) (es os is : List D) → Met c ts → Unmet c us → Unmet d (ts ++ us) → length es ≡ length (bag_all 0 us)
+  pub gives_right_fold : (j : ℕ) (ts us : List Tree) (es os is : List D) → Met c ts → Unmet c us → Unmet d (ts ++ us) → length es ≡ length (bag_all 0 us)
       → gathered c sub (bag_all j (ts ++ us)) (es ++ os) is ≡ flat_map g (option_to_list (root.right_fold h.fold (peak_values h c X ts is ++ es)))
-  gives_bag j [] [] [] os is m u w l = refl
-  gives_bag j [] [] (e ∷ es) os is m u w l = absurd (omega (arith, l))
-  gives_bag j [] (v ∷ vs) [] os is m u w l = absurd (omega (arith, l))
-  gives_bag j [] (v ∷ vs) (e ∷ f ∷ es) os is m u w l = absurd (omega (arith, l))
-  gives_bag j [] (v ∷ vs) (e ∷ []) os is m u w l = ap (λ z. z ++ []) (apart (right_fold_plan j v vs) (e ∷ os) is (bag_unmet d j v vs w) ∙ ap (λ z. g (value h z)) (claim_unmet h c X (right_fold_plan j v vs) (e ∷ os) is (bag_unmet c j v vs u)))
-  gives_bag j (t ∷ ts) us es os is m u w l =
+  gives_right_fold j [] [] [] os is m u w l = refl
+  gives_right_fold j [] [] (e ∷ es) os is m u w l = absurd (omega (arith, l))
+  gives_right_fold j [] (v ∷ vs) [] os is m u w l = absurd (omega (arith, l))
+  gives_right_fold j [] (v ∷ vs) (e ∷ f ∷ es) os is m u w l = absurd (omega (arith, l))
+  gives_right_fold j [] (v ∷ vs) (e ∷ []) os is m u w l = ap (λ z. z ++ []) (apart (right_fold_plan j v vs) (e ∷ os) is (right_fold_unmet d j v vs w) ∙ ap (λ z. g (value h z)) (claim_unmet h c X (right_fold_plan j v vs) (e ∷ os) is (right_fold_unmet c j v vs u)))
+  gives_right_fold j (t ∷ ts) us es os is m u w l =
       let qs = bag_all (suc j) us in
       let count : length (bag_all (suc j) us) ≡ length es = length-bag_all (suc j) us ∙ sym (length-bag_all 0 us) ∙ sym l in
       let enough : 0 + length (bag_all (suc j) us) ≤ length (es ++ os) = omega (arith, count, length-append es os) in
       let all : part_values h c X (map peak (t ∷ ts) ++ qs) (es ++ os) is ≡ peak_values h c X (t ∷ ts) is ++ es =
-      values_are h c X [] (t ∷ ts) qs (es ++ os) is tt m (bag_parts (suc j) us u) enough
+      values_are h c X [] (t ∷ ts) qs (es ++ os) is tt m (right_fold_parts (suc j) us u) enough
       ∙ ap (λ z. peak_values h c X (t ∷ ts) is ++ z) (ap (λ n. take n (es ++ os)) count ∙ take_at es os (length es) refl) in
-      ap (λ z. z ++ []) (apart (right_fold_plan j t (ts ++ us)) (es ++ os) is (bag_unmet d j t (ts ++ us) w))
-      ∙ ap (λ o. flat_map g (option_to_list o)) (sym (bag_values h c X j (suc j) t ts us (es ++ os) is (last_met c t ts m) u) ∙ ap (root.right_fold h.fold) all)
+      ap (λ z. z ++ []) (apart (right_fold_plan j t (ts ++ us)) (es ++ os) is (right_fold_unmet d j t (ts ++ us) w))
+      ∙ ap (λ o. flat_map g (option_to_list o)) (sym (right_fold_values h c X j (suc j) t ts us (es ++ os) is (last_met c t ts m) u) ∙ ap (root.right_fold h.fold) all)

@@ -13,7 +13,7 @@ use Rattle.merkle_root_theory.specs.Plan.{Plan, peak, meets, tree_meets, sibling
 use Rattle.merkle_root_theory.specs.Claim.{claim}
 use Rattle.merkle_root_theory.specs.Outside.{fold_all, bag_all, folded_prefix, single_before, single_after, folded_suffix, Met, Unmet}
 use Rattle.merkle_root_theory.specs.Walk.{peak_values}
-use Rattle.merkle_store_theory.proofs.Gathered.{gathered, Splits, Gives, gives_both, gives_one, past, gives_given, gives_own, gives_fold, gives_bag, meets_within}
+use Rattle.merkle_store_theory.proofs.Gathered.{gathered, Splits, Gives, gives_both, gives_one, past, gives_given, gives_own, gives_fold, gives_right_fold, meets_within}
 use Rattle.merkle_store_theory.proofs.PairReads.{over_given}
 
 -- ---- groups of two lists, one after the other
@@ -131,4 +131,4 @@ module _ {D : Type 0} (h : Hashing D) (c d : ℕ → Bool) (within : (i : ℕ) �
         ∙ ap (λ z. flat_map g folds ++ z) (gives_before (map peak over ++ after)
         ∙ ap (λ z. flat_map g (e2 ++ peak_values h c X ws is1) ++ z) (gives_over over (e3 ++ (e4 ++ rest)) is2 dover after
         ∙ ap (λ z. over_given c m over is2 ++ z) (gives_after (bag_all n (ys ++ bs))
-        ∙ ap (λ z. flat_map g (peak_values h c X xs is3 ++ e3) ++ z) (gives_bag h c d X sub g apart n ys bs e4 rest is4 cy cb dy l4))))
+        ∙ ap (λ z. flat_map g (peak_values h c X xs is3 ++ e3) ++ z) (gives_right_fold h c d X sub g apart n ys bs e4 rest is4 cy cb dy l4))))

@@ -13,7 +13,7 @@ use Rattle.merkle_base.specs.Scheme.{Scheme}
 use Rattle.merkle_root_theory.specs.Check.{leaf_given}
 use Rattle.merkle_root_theory.specs.Outside.{HasLayout}
 use Rattle.merkle_root_theory.specs.Range.{end_of, in_range, leaf_of, range_parts, range_siblings}
-use Rattle.merkle_claim_theory.specs.Store.{sub_siblings, sub_outer, sub_inner}
+use Rattle.merkle_claim_theory.specs.Store.{sub_siblings, sub_outside_parts, sub_inner}
 use Rattle.merkle_root_theory.proofs.Claims.{split_left, split_right, tree_honest, plan_honest}
 use Rattle.merkle_claim_theory.proofs.ListedDigests.{plan_for}
 use Rattle.merkle_root_theory.proofs.PeakGroups.{range_layout}
@@ -33,12 +33,12 @@ module _ {D : Type 0} (h : Hashing D) (c d : ℕ → Bool) (X Y : ℕ → D) (wi
       ap₂ ◌++◌ (u (split_left _ (siblings c l) (siblings c r) ds rest f)) (v (split_right _ (siblings c l) (siblings c r) ds rest f)) ∙ sym (map-append (tree_digest h X) (siblings d l) (siblings d r)))
       (λ _. ap (λ z. z ∷ []) (tree_honest h c X Y agrees (join p l r) ds rest e))
 
-  outer_honest : (p : Plan) (os is ro ri : List D) → os ≡ map (plan_digest h X) (outside_parts c p) ++ ro → is ≡ map (tree_digest h X) (path_siblings c p) ++ ri → sub_outer h c d Y p os is ≡ map (plan_digest h X) (outside_parts d p)
-  outer_honest (peak t) os is ro ri e f = by_test (λ b. cond b [] (value h (claim h c Y (peak t) os is) ∷ []) ≡ map (plan_digest h X) (cond b [] (peak t ∷ []))) (tree_meets d t) (λ _. refl) (λ _. ap (λ z. z ∷ []) (plan_honest h c X Y agrees (peak t) os is ro ri e f))
-  outer_honest (folding q l r) os is ro ri e f =
-      let u = outer_honest l os is (map (plan_digest h X) (outside_parts c r) ++ ro) (map (tree_digest h X) (path_siblings c r) ++ ri) in
-      let v = outer_honest r (drop (length (outside_parts c l)) os) (drop (length (path_siblings c l)) is) ro ri in
-      by_test (λ b. cond b (sub_outer h c d Y l os is ++ sub_outer h c d Y r (drop (length (outside_parts c l)) os) (drop (length (path_siblings c l)) is)) (value h (claim h c Y (folding q l r) os is) ∷ []) ≡ map (plan_digest h X) (cond b (outside_parts d l ++ outside_parts d r) (folding q l r ∷ []))) (meets d l || meets d r)
+  outside_parts_honest : (p : Plan) (os is ro ri : List D) → os ≡ map (plan_digest h X) (outside_parts c p) ++ ro → is ≡ map (tree_digest h X) (path_siblings c p) ++ ri → sub_outside_parts h c d Y p os is ≡ map (plan_digest h X) (outside_parts d p)
+  outside_parts_honest (peak t) os is ro ri e f = by_test (λ b. cond b [] (value h (claim h c Y (peak t) os is) ∷ []) ≡ map (plan_digest h X) (cond b [] (peak t ∷ []))) (tree_meets d t) (λ _. refl) (λ _. ap (λ z. z ∷ []) (plan_honest h c X Y agrees (peak t) os is ro ri e f))
+  outside_parts_honest (folding q l r) os is ro ri e f =
+      let u = outside_parts_honest l os is (map (plan_digest h X) (outside_parts c r) ++ ro) (map (tree_digest h X) (path_siblings c r) ++ ri) in
+      let v = outside_parts_honest r (drop (length (outside_parts c l)) os) (drop (length (path_siblings c l)) is) ro ri in
+      by_test (λ b. cond b (sub_outside_parts h c d Y l os is ++ sub_outside_parts h c d Y r (drop (length (outside_parts c l)) os) (drop (length (path_siblings c l)) is)) (value h (claim h c Y (folding q l r) os is) ∷ []) ≡ map (plan_digest h X) (cond b (outside_parts d l ++ outside_parts d r) (folding q l r ∷ []))) (meets d l || meets d r)
       (λ m. let w = plan_within c d within (folding q l r) m in
       let eo = subst (λ z. os ≡ map (plan_digest h X) (cond z (outside_parts c l ++ outside_parts c r) (folding q l r ∷ [])) ++ ro) w e in
       let ei = subst (λ z. is ≡ map (tree_digest h X) (cond z (path_siblings c l ++ path_siblings c r) []) ++ ri) w f in
@@ -91,5 +91,5 @@ honest_store_is_honest s xs k r root a b honest ok some low high =
     ap (drop (length (range_parts s.bagging j r.start (end_of r) ts))) same ∙ drop_at (map f (range_parts s.bagging j r.start (end_of r) ts)) (map g (range_siblings r.start (end_of r) ts)) _ (length-map (range_parts s.bagging j r.start (end_of r) ts) f)
     ∙ ap (map g) (sym lc.1) ∙ sym (append-nil (map g (path_siblings c plan.0))) in
     answers_claim s r root ok a b some low high plan.0 plan.1
-    ∙ ap₂ ◌++◌ (outer_honest h c d X Y within agrees plan.0 r.digests is _ [] os_are is_are ∙ ap (map f) ld.0) (inner_honest h c d X Y within agrees plan.0 r.digests is _ [] os_are is_are ∙ ap (map g) ld.1)
+    ∙ ap₂ ◌++◌ (outside_parts_honest h c d X Y within agrees plan.0 r.digests is _ [] os_are is_are ∙ ap (map f) ld.0) (inner_honest h c d X Y within agrees plan.0 r.digests is _ [] os_are is_are ∙ ap (map g) ld.1)
     ∙ ap₂ (λ x y. map f (range_parts s.bagging x a b (peaks_of s.rule y)) ++ map g (range_siblings a b (peaks_of s.rule y))) honest.inactive honest.leaves

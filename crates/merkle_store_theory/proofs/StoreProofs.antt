@@ -20,7 +20,7 @@ use Rattle.merkle_root_theory.specs.Extract.{single_pairs, over_pairs}
 use Rattle.merkle_claim_theory.specs.Order.{Distinct}
 use Rattle.merkle_root_theory.specs.Outside.{fold_all, bag_all, folded_prefix, single_before, single_after, folded_suffix, Met, Unmet, HasLayout}
 use Rattle.merkle_root_theory.specs.Range.{end_of, in_range, overlapping, wholly_after, range_parts, range_siblings, AcceptsNonempty}
-use Rattle.merkle_claim_theory.specs.Store.{sub_digests, sub_outer, sub_inner}
+use Rattle.merkle_claim_theory.specs.Store.{sub_digests, sub_outside_parts, sub_inner}
 use Rattle.merkle_root_theory.specs.Walk.{peak_values}
 use Rattle.merkle_root_theory.proofs.LayoutCounts.{length-fold_all, length-bag_all, length-layout}
 use Rattle.merkle_claim_theory.proofs.ListedDigests.{plan_for}
@@ -33,7 +33,7 @@ use Rattle.merkle_store_theory.specs.StoreLaws.{StoreReadsClaim, StoreAnswers, S
 use Rattle.merkle_store_theory.proofs.Gathered.{past}
 use Rattle.merkle_store_theory.proofs.PairReads.{Among, among_left, among_right, read, IsHeld, none_lacking, given_read, given_held, Own, own_left, own_right, own_read, own_held, siblings_read, siblings_held}
 use Rattle.merkle_store_theory.proofs.GroupedParts.{prefix_split, before_split, after_split, suffix_split}
-use Rattle.merkle_store_theory.proofs.ClaimedParts.{outer_given, inner_given, all_met}
+use Rattle.merkle_store_theory.proofs.ClaimedParts.{outside_parts_given, inner_given, all_met}
 use Rattle.merkle_store_theory.proofs.RangeSplits.{before_more, over_more, after_more, split_over}
 use Rattle.merkle_store_theory.proofs.StoreParts.{first_of, prefix_is, suffix_is, no_prefix_refusal, no_suffix_refusal}
 
@@ -215,7 +215,7 @@ module _ {D : Type 0} (s : Scheme D) (v : StoreValue D) (c d : ℕ → Bool) (wi
           ∙ sym (map-append (read h v.pairs once) new_after own_after)
 
       proof_is : v.suffix_peaks ≡ map position own_suffix → v.prefix ≡ slice_get e1 0 → v.suffix ≡ slice_get e4 0 → (p : Plan) → root_plan v.bagging k ((before ++ more_before) ++ (t ∷ over ++ (more_after ++ after))) ≡ Some p
-          → proof_by s v d (before ++ more_before) (t ∷ over) (more_after ++ after) own_prefix ≡ sub_outer h c d X p ds is ++ sub_inner h c d X p ds is
+          → proof_by s v d (before ++ more_before) (t ∷ over) (more_after ++ after) own_prefix ≡ sub_outside_parts h c d X p ds is ++ sub_inner h c d X p ds is
       proof_is ends pre suf p whole_is =
           let one : prefix_part h v (length own_prefix) (folded_prefix v.bagging k (before ++ more_before)) ≡ option_to_list (root.folded h.fold ForwardFold 0 (e1 ++ peak_values h c X new_prefix is)) =
           ap (prefix_part h v (length own_prefix)) (prefix_split v.bagging k before more_before)
@@ -232,8 +232,8 @@ module _ {D : Type 0} (s : Scheme D) (v : StoreValue D) (c d : ℕ → Bool) (wi
           ap (λ z. sub_inner h c d X p z is) ds_are
           ∙ inner_given h c d within X v.bagging k before more_before t over more_after after cu cm cv du dm dv e1 e2 e3 e4 rest is l1 l2 l3 l4 p whole_is
           ∙ siblings_read h v.pairs once c X d within (t ∷ over) is2 (own_left h v.pairs once c X (t ∷ over) _ is2 owned2) in
-          let five : sub_outer h c d X p ds is ≡ option_to_list (root.folded h.fold ForwardFold 0 (e1 ++ peak_values h c X new_prefix is)) ++ ((e2 ++ peak_values h c X new_single is1) ++ ((peak_values h c X new_after is3 ++ e3) ++ option_to_list (root.right_fold h.fold (peak_values h c X new_suffix is4 ++ e4)))) =
-          ap (λ z. sub_outer h c d X p z is) ds_are ∙ outer_given h c d within X v.bagging k before more_before t over more_after after cu cm cv du dm dv e1 e2 e3 e4 rest is l1 l2 l3 l4 p whole_is in
+          let five : sub_outside_parts h c d X p ds is ≡ option_to_list (root.folded h.fold ForwardFold 0 (e1 ++ peak_values h c X new_prefix is)) ++ ((e2 ++ peak_values h c X new_single is1) ++ ((peak_values h c X new_after is3 ++ e3) ++ option_to_list (root.right_fold h.fold (peak_values h c X new_suffix is4 ++ e4)))) =
+          ap (λ z. sub_outside_parts h c d X p z is) ds_are ∙ outside_parts_given h c d within X v.bagging k before more_before t over more_after after cu cm cv du dm dv e1 e2 e3 e4 rest is l1 l2 l3 l4 p whole_is in
           let a = option_to_list (root.folded h.fold ForwardFold 0 (e1 ++ peak_values h c X new_prefix is)) in
           let b = e2 ++ peak_values h c X new_single is1 in
           let f = peak_values h c X new_after is3 ++ e3 in
@@ -403,7 +403,7 @@ module _ {D : Type 0} (s : Scheme D) (r : RangeInput D) (root_digest : D) (ok : 
         (ap (λ z. map position (suffix_of_held z)) split_so) a
 
     reads_claim : (p : Plan) → root_plan s.bagging r.inactive ts ≡ Some p
-        → proof_by s v d (before ++ more_before) (t ∷ over) (more_after ++ after) (folded_prefix s.bagging r.inactive before) ≡ sub_outer s.hashing c d X p r.digests is ++ sub_inner s.hashing c d X p r.digests is
+        → proof_by s v d (before ++ more_before) (t ∷ over) (more_after ++ after) (folded_prefix s.bagging r.inactive before) ≡ sub_outside_parts s.hashing c d X p r.digests is ++ sub_inner s.hashing c d X p r.digests is
     reads_claim p w =
         proof_is s v c d within X once before more_before t over more_after after cu (subst (Met c) split_so cm) cv du (subst (Met d) e dm) dv r.digests is
         among1 (subst (λ z. Among s.hashing v.pairs once (over_pairs s.hashing c X z is)) split_so among2) (subst (λ z. Among s.hashing v.pairs once (single_pairs s.hashing (single_of z) d2)) split_so among3)
@@ -417,10 +417,10 @@ module _ {D : Type 0} (s : Scheme D) (r : RangeInput D) (root_digest : D) (ok : 
       by_cases [] e = absurd (reached e)
       by_cases (t ∷ over) e = refuses_none t over e
 
-  pub answers_claim : (p : Plan) → root_plan s.bagging r.inactive ts ≡ Some p → store_proof s v a b ≡ sub_outer s.hashing c d X p r.digests is ++ sub_inner s.hashing c d X p r.digests is
+  pub answers_claim : (p : Plan) → root_plan s.bagging r.inactive ts ≡ Some p → store_proof s v a b ≡ sub_outside_parts s.hashing c d X p r.digests is ++ sub_inner s.hashing c d X p r.digests is
   answers_claim p w = as_groups ∙ by_cases still refl
     where
-      by_cases : (over : List Tree) → still ≡ over → proof_by s v d (before ++ more_before) over (more_after ++ after) (folded_prefix s.bagging r.inactive before) ≡ sub_outer s.hashing c d X p r.digests is ++ sub_inner s.hashing c d X p r.digests is
+      by_cases : (over : List Tree) → still ≡ over → proof_by s v d (before ++ more_before) over (more_after ++ after) (folded_prefix s.bagging r.inactive before) ≡ sub_outside_parts s.hashing c d X p r.digests is ++ sub_inner s.hashing c d X p r.digests is
       by_cases [] e = absurd (reached e)
       by_cases (t ∷ over) e = reads_claim t over e p w
 
@@ -435,7 +435,7 @@ store_reads_claim s r q root ok some low high =
     (subst (HasLayout c (range_parts s.bagging r.inactive r.start (end_of r) (peaks_of s.rule r.leaves)) (range_siblings r.start (end_of r) (peaks_of s.rule r.leaves))) plan.1
     (peaks.range_layout s r.leaves r.inactive r.start (end_of r) (omega (arith, ok.some)) ok.within)).0 in
     answers_claim s r root ok q.start (end_of q) (omega (arith, some)) low high plan.0 plan.1
-    ∙ ap (λ z. sub_outer s.hashing c (chosen q) (leaf_given s.hashing r) plan.0 r.digests (drop (length z) r.digests) ++ sub_inner s.hashing c (chosen q) (leaf_given s.hashing r) plan.0 r.digests (drop (length z) r.digests)) (sym lay)
+    ∙ ap (λ z. sub_outside_parts s.hashing c (chosen q) (leaf_given s.hashing r) plan.0 r.digests (drop (length z) r.digests) ++ sub_inner s.hashing c (chosen q) (leaf_given s.hashing r) plan.0 r.digests (drop (length z) r.digests)) (sym lay)
     ∙ ap (sub_digests s r q) (sym plan.1)
 
 pub store_is_accepted : {D : Type 0} → StoreIsAccepted D

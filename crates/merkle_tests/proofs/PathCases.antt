@@ -15,14 +15,14 @@ unfolding forest
 six_at = refl
 
 pub over_six : (k : ℕ) → k < 4 → IsNodeAbove mmr_merges 4611686018427387904 6 2 0 k
-over_six k l = record { leaves = 4; node = six; few = omega arith; stands = record { at = six_at; height_is = refl; first_is = refl }; after = omega arith; before = l }
+over_six k l = record { leaves = 4; node = six; bounded = omega arith; stands = record { at = six_at; height_is = refl; first_is = refl }; after = omega arith; before = l }
 
 ten_at : slice_get (forest mmr_merges 7).nodes 10 ≡ Some (leaf 10 6)
 unfolding forest
 ten_at = refl
 
 pub over_ten : IsNodeAbove mmr_merges 4611686018427387904 10 0 6 6
-over_ten = record { leaves = 7; node = leaf 10 6; few = omega arith; stands = record { at = ten_at; height_is = refl; first_is = refl }; after = omega arith; before = omega arith }
+over_ten = record { leaves = 7; node = leaf 10 6; bounded = omega arith; stands = record { at = ten_at; height_is = refl; first_is = refl }; after = omega arith; before = omega arith }
 
 abbrev thirteen : Tree
 thirteen = join 13 (join 9 (leaf 7 4) (leaf 8 5)) (join 12 (leaf 10 6) (leaf 11 7))
@@ -32,7 +32,7 @@ unfolding forest
 thirteen_at = refl
 
 pub over_thirteen : IsNodeAbove mmr_merges 4611686018427387904 13 2 4 6
-over_thirteen = record { leaves = 8; node = thirteen; few = omega arith; stands = record { at = thirteen_at; height_is = refl; first_is = refl }; after = omega arith; before = omega arith }
+over_thirteen = record { leaves = 8; node = thirteen; bounded = omega arith; stands = record { at = thirteen_at; height_is = refl; first_is = refl }; after = omega arith; before = omega arith }
 
 abbrev second_pair : Tree
 second_pair = join 5 (leaf 3 2) (leaf 4 3)
@@ -42,7 +42,7 @@ unfolding forest
 pair_at = refl
 
 pub over_pair : IsNodeAbove pairing 100 5 1 2 3
-over_pair = record { leaves = 4; node = second_pair; few = omega arith; stands = record { at = pair_at; height_is = refl; first_is = refl }; after = omega arith; before = omega arith }
+over_pair = record { leaves = 4; node = second_pair; bounded = omega arith; stands = record { at = pair_at; height_is = refl; first_is = refl }; after = omega arith; before = omega arith }
 
 abbrev seven : Tree
 seven = join 7 (join 2 (leaf 0 0) (leaf 1 1)) (join 5 (leaf 3 2) (leaf 4 3))
@@ -52,4 +52,4 @@ unfolding forest
 seven_at = refl
 
 pub over_seven : IsNodeAbove mmb_merges 4611686018427387934 7 2 0 3
-over_seven = record { leaves = 5; node = seven; few = omega arith; stands = record { at = seven_at; height_is = refl; first_is = refl }; after = omega arith; before = omega arith }
+over_seven = record { leaves = 5; node = seven; bounded = omega arith; stands = record { at = seven_at; height_is = refl; first_is = refl }; after = omega arith; before = omega arith }

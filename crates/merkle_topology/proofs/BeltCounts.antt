@@ -29,4 +29,4 @@ size_past_log nodes log high =
 
 -- after the greatest leaf count come more nodes than the limit
 pub size_past_limit : (nodes low : ℕ) → nodes ≤ 9223372036854775806 → low ≡ 4611686018427387934 → nodes < size mmb_merges (low + 1)
-size_past_limit nodes low h e = subst (λ (n : ℕ). nodes < size mmb_merges (n + 1)) (sym e) (omega (arith, mmb_lawful.full, size_step mmb_merges 4611686018427387934))
+size_past_limit nodes low h e = subst (λ (n : ℕ). nodes < size mmb_merges (n + 1)) (sym e) (omega (arith, mmb_lawful.size_at_limit, size_step mmb_merges 4611686018427387934))

@@ -13,13 +13,13 @@ use Rattle.merkle_topology.proofs.LeafCounts.{size_only, leaves_within}
 
 -- the birth leaf of a root that stands within the limit is within the limit
 pub birth_within : (s h : ℕ) → mmb_position s h ≤ 9223372036854775806 → birth_leaf s h ≤ 4611686018427387934
-birth_within s zero l = leaves_within mmb_merges 4611686018427387934 s (omega (arith, l, mmb_lawful.full))
-birth_within s (suc h) l = leaves_within mmb_merges 4611686018427387934 (s + 3 * 2 ^ h - 2) (omega (arith, l, mmb_lawful.full))
+birth_within s zero l = leaves_within mmb_merges 4611686018427387934 s (omega (arith, l, mmb_lawful.size_at_limit))
+birth_within s (suc h) l = leaves_within mmb_merges 4611686018427387934 (s + 3 * 2 ^ h - 2) (omega (arith, l, mmb_lawful.size_at_limit))
 
 -- a root whose birth leaf is there stands within the limit
 pub root_within : (s h : ℕ) → birth_leaf s h < 4611686018427387934 → mmb_position s h ≤ 9223372036854775806
-root_within s zero l = omega (arith, size_le mmb_merges s 4611686018427387934 (omega (arith, l)), mmb_lawful.full)
-root_within s (suc h) l = omega (arith, size_lt mmb_merges (s + 3 * 2 ^ h - 2) 4611686018427387934 l, mmb_lawful.full)
+root_within s zero l = omega (arith, size_le mmb_merges s 4611686018427387934 (omega (arith, l)), mmb_lawful.size_at_limit)
+root_within s (suc h) l = omega (arith, size_lt mmb_merges (s + 3 * 2 ^ h - 2) 4611686018427387934 l, mmb_lawful.size_at_limit)
 
 -- a search for the last leaf count of no more nodes finds the birth leaf
 pub birth_found_leaf : (s h p n : ℕ) → h ≡ 0 → mmb_position s h ≡ p → size mmb_merges n ≤ p → p < size mmb_merges (n + 1) → n ≡ birth_leaf s h
@@ -52,7 +52,7 @@ stretch_halved n s (suc k) l w b =
     record {
       some = omega arith;
       low = omega (arith, low);
-      birth = rw z (omega (arith, mmb_coordinates.soon s k, w));
+      birth = rw z (omega (arith, mmb_coordinates.born_before_end s k, w));
       within = rw z (omega (arith, two, w));
       first = rw z (halves n s k b);
     }

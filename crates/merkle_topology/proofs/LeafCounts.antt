@@ -41,10 +41,10 @@ pub size_past_half : (rule : List ℕ → List ℕ) (max_leaves max_nodes : ℕ)
 size_past_half rule max_leaves max_nodes law nodes l = elim (cases_lt max_leaves (nodes / 2 + 33)) [
   | inl b ↦
       let last : min (nodes / 2 + 32) max_leaves + 1 ≡ suc max_leaves = omega (arith, min-eq_right {n = max_leaves} {m = nodes / 2 + 32} (omega (arith, b))) in
-      rw last (omega (arith, law.full, size_step rule max_leaves))
+      rw last (omega (arith, law.size_at_limit, size_step rule max_leaves))
   | inr a ↦
       let within : min (nodes / 2 + 32) max_leaves + 1 ≡ nodes / 2 + 33 = omega (arith, min-eq_left {n = nodes / 2 + 32} {m = max_leaves} (omega (arith, a))) in
-      rw within (omega (arith, size_peaks rule (nodes / 2 + 33), law.few (nodes / 2 + 33) a))
+      rw within (omega (arith, size_peaks rule (nodes / 2 + 33), law.at_most_64_peaks (nodes / 2 + 33) a))
 ]
 
 -- the test that a leaf count found by a search has that many nodes
@@ -88,5 +88,5 @@ mmr_height n p low l a b = mmr_height_below n p (below n l a) a b
     below : (n : ℕ) → n ≤ 4611686018427387904 → size mmr_merges n ≤ p → n < 4611686018427387904
     below n l a = elim (cases_lt n 4611686018427387904) [
       | inl h ↦ h
-      | inr g ↦ absurd (omega (arith, size_le mmr_merges 4611686018427387904 n g, mmr_lawful.full))
+      | inr g ↦ absurd (omega (arith, size_le mmr_merges 4611686018427387904 n g, mmr_lawful.size_at_limit))
     ]

@@ -31,7 +31,7 @@ read_held rule n k node ps few held e refused = elim refused [
 -- the nodes of a leaf count are its own
 pub sized_held : {F : Type 0} (rule : List ℕ → List ℕ) (max_leaves max_nodes : ℕ) → IsLawful rule max_leaves max_nodes → (n m : ℕ) → n ≤ max_leaves → size rule n ≡ m → (e : Error F) → IsSizeRefusal rule max_nodes m e → ⊥
 sized_held rule max_leaves max_nodes law n m l at e refused = elim refused [
-  | inl x ↦ absurd (let many : max_nodes < m = x.0 in omega (arith, many, at, size_le rule n max_leaves l, law.full))
+  | inl x ↦ absurd (let many : max_nodes < m = x.0 in omega (arith, many, at, size_le rule n max_leaves l, law.size_at_limit))
   | inr x ↦ x.1 n at
 ]
 

@@ -3,7 +3,7 @@ use Rattle.std.specs.Option.{option_map_or}
 use Rattle.std.proofs.lemmas.List.{length-drop}
 use Rattle.std.proofs.lemmas.Slice.Zip.{AllZip-long}
 use Rattle.merkle_proof.specs.RangePlans.{AreAnswered}
-use Rattle.merkle_proof.proofs.ReadRuns.{drop_back, missing_reversed, bag_some, bag_none}
+use Rattle.merkle_proof.proofs.ReadRuns.{drop_back, missing_reversed, right_fold_some, right_fold_none}
 use Rattle.merkle_proof.proofs.reading.read_bagged.Given as given
 use Rattle.merkle_proof.proofs.reading.read_bagged.Goals as goal
 use Rattle.merkle_proof.proofs.reading.read_bagged.Goals.{in-Some-bagged-2, in_default-bagged}
@@ -47,11 +47,11 @@ returns-clause-room g c =
     let long = AllZip-long _ (drop i ps) w.1 w.2 in
     elim c.match-bagged-2.branch [
       | in-Some-bagged-2 v ↦ (
-        ap vec_len v.out-is ∙ omega (arith, v.push_reserved.ensures.len, long, length-drop i ps, c.loop-index-test.false, bag_some f w.1 v.in-Some-bagged-2.digest (sym w.3 ∙ v.in-Some-bagged-2.is)),
+        ap vec_len v.out-is ∙ omega (arith, v.push_reserved.ensures.len, long, length-drop i ps, c.loop-index-test.false, right_fold_some f w.1 v.in-Some-bagged-2.digest (sym w.3 ∙ v.in-Some-bagged-2.is)),
         ap vec_capacity v.out-is ∙ v.push_reserved.ensures.capacity,
       )
       | in_default-bagged v ↦ (
-        ap vec_len v.out-is ∙ omega (arith, long, length-drop i ps, c.loop-index-test.false, bag_none f w.1 (sym w.3 ∙ v.in_default-bagged.is)),
+        ap vec_len v.out-is ∙ omega (arith, long, length-drop i ps, c.loop-index-test.false, right_fold_none f w.1 (sym w.3 ∙ v.in_default-bagged.is)),
         ap vec_capacity v.out-is,
       )
     ]

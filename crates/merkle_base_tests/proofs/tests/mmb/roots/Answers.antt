@@ -19,4 +19,4 @@ pub root_of-requires-5-clause-within : goal.root_of-requires-5-clause-within
 root_of-requires-5-clause-within g c = root_within 0 61 (omega arith)
 
 pub root_of-requires-6-clause-within : goal.root_of-requires-6-clause-within
-root_of-requires-6-clause-within g c = omega (arith, mmb_lawful.full)
+root_of-requires-6-clause-within g c = omega (arith, mmb_lawful.size_at_limit)

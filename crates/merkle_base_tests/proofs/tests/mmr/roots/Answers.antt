@@ -18,4 +18,4 @@ pub root_of-requires-4-clause-within : goal.root_of-requires-4-clause-within
 root_of-requires-4-clause-within g c = omega (arith, size_zero mmr_merges)
 
 pub root_of-requires-5-clause-within : goal.root_of-requires-5-clause-within
-root_of-requires-5-clause-within g c = omega (arith, mmr_lawful.full)
+root_of-requires-5-clause-within g c = omega (arith, mmr_lawful.size_at_limit)

@@ -37,8 +37,8 @@ returns-in_err-refresh_leaves-clause-refused g c =
     let q = named_refused rule c.args.self.now base gap (λ other. subst (λ s. NamesMissing rule s base gap) c.self.view_is (refresh_missing rule b base d0 gap k0 (c.in_err-refresh_leaves.ensures.missing other))) in
     rw p.1 (subst (λ e. (e ≡ error.OutOfMemory) ⊎ ((t : Tree) × (e ≡ error.MissingNode (position t)) × IsMissing rule c.args.self.now base t)) (sym p.2) q)
 
-pub returns-in_err-refresh_leaves-clause-given : goal.returns-in_err-refresh_leaves-clause-given
-returns-in_err-refresh_leaves-clause-given g c = λ h ls stands agrees above.
+pub returns-in_err-refresh_leaves-clause-granted : goal.returns-in_err-refresh_leaves-clause-granted
+returns-in_err-refresh_leaves-clause-granted g c = λ h ls stands agrees above.
     let rule = g.F.Family.rule in
     let max = g.F.Family.MAX_LEAVES in
     let base = g.B.Base.contents c.args.base.now in
@@ -71,8 +71,8 @@ returns-in_err-append_leaves-clause-refused g c =
     (subst (λ xs. LacksChild rule max d1.before (size rule (c.self.inside.leaves_before + length xs)) d1.before (old_node d1 base) gap) c.deref-2.ensures.value (c.in_err-append_leaves.ensures.missing other)))) in
     rw p.1 (subst (λ e. (e ≡ error.OutOfMemory) ⊎ ((t : Tree) × (e ≡ error.MissingNode (position t)) × IsMissing rule c.args.self.now base t)) (sym p.2) q)
 
-pub returns-in_err-append_leaves-clause-given : goal.returns-in_err-append_leaves-clause-given
-returns-in_err-append_leaves-clause-given g c = λ k ls stands agrees above.
+pub returns-in_err-append_leaves-clause-granted : goal.returns-in_err-append_leaves-clause-granted
+returns-in_err-append_leaves-clause-granted g c = λ k ls stands agrees above.
     let h = g.H.Hasher.hashing c.args.hasher.now in
     let rule = g.F.Family.rule in
     let max = g.F.Family.MAX_LEAVES in
@@ -116,8 +116,8 @@ returns-in_err-read_peaks-clause-refused g c =
     (subst (λ (n : ℕ). IsPeakGap rule n d2.before (old_node d2 base) gap) total (c.in_err-read_peaks.ensures.missing other)))) in
     rw p.1 (subst (λ e. (e ≡ error.OutOfMemory) ⊎ ((t : Tree) × (e ≡ error.MissingNode (position t)) × IsMissing rule c.args.self.now base t)) (sym p.2) q)
 
-pub returns-in_err-read_peaks-clause-given : goal.returns-in_err-read_peaks-clause-given
-returns-in_err-read_peaks-clause-given g c = λ k ls stands agrees above.
+pub returns-in_err-read_peaks-clause-granted : goal.returns-in_err-read_peaks-clause-granted
+returns-in_err-read_peaks-clause-granted g c = λ k ls stands agrees above.
     let h = g.H.Hasher.hashing c.args.hasher.now in
     let rule = g.F.Family.rule in
     let max = g.F.Family.MAX_LEAVES in

@@ -28,8 +28,8 @@ returns-in-Ok-clause-honest g c = λ ls stands agrees.
     IfOk-weaker c.build_proof.result _ _ (λ p honest. (fits.0, omega (arith, fits.1, leaves), subst (λ (r : LeafRange). IsHonestRange s (last_list ls) c.args.inactive (list_input p (last_list ls) r.start r.end)) plan honest))
     (c.build_proof.ensures.honest ls (sym leaves ∙ sym (ap (λ (r : LeafRange). r.leaves) plan)) stands agrees)
 
-pub returns-in-Ok-clause-given : goal.returns-in-Ok-clause-given
-returns-in-Ok-clause-given g c = λ h ls stands agrees low some less few.
+pub returns-in-Ok-clause-granted : goal.returns-in-Ok-clause-granted
+returns-in-Ok-clause-granted g c = λ h ls stands agrees low some less few.
     let leaves : c.leaves-leaves.result ≡ length (last_list ls) = leaves_of_last h g.F.Family.rule c.args.self.now ls stands c.leaves-leaves.result c.leaves-leaves.ensures.sized in
     let plan : c.in-Ok.plan ≡ record { leaves = length (last_list ls); start = c.args.range.start; end = c.args.range.end } = c.in-Ok.ensures.ok ∙ ap (λ m. record { leaves = m; start = c.args.range.start; end = c.args.range.end }) leaves in
     IfErr-weaker c.build_proof.result _ _ (λ e refused. only_memory h g.F.Family.rule (g.B.Base.contents c.args.base.now).boundary (length (last_list ls)) (boundary_within h g.F.Family.rule (records c.args.self.now) (g.B.Base.contents c.args.base.now) ls stands agrees) (read_over (records c.args.self.now) (g.B.Base.contents c.args.base.now)) (read_where_kept h g.F.Family.rule (records c.args.self.now) (g.B.Base.contents c.args.base.now) ls stands agrees) (g.H.Hasher.bagging_of c.args.hasher.now) c.args.range.start c.args.range.end c.args.inactive low few e
@@ -42,8 +42,8 @@ returns-in-Ok-clause-err g c =
     let fits = c.in-Ok.ensures.within in
     IfErr-weaker c.build_proof.result _ _ (λ e refused other. inr (fits.0, omega (arith, fits.1, leaves), subst (λ r. IsBuildRefusal (g.H.Hasher.bagging_of c.args.hasher.now) g.F.Family.rule r c.args.inactive (λ p o. o ≡ (read_over (records c.args.self.now) (g.B.Base.contents c.args.base.now)) p) e) plan (refused other))) c.build_proof.ensures.err
 
-pub returns-in-Err-clause-given : goal.returns-in-Err-clause-given
-returns-in-Err-clause-given g c = λ h ls stands agrees low some less few.
+pub returns-in-Err-clause-granted : goal.returns-in-Err-clause-granted
+returns-in-Err-clause-granted g c = λ h ls stands agrees low some less few.
     let leaves : c.leaves-leaves.result ≡ length (last_list ls) = leaves_of_last h g.F.Family.rule c.args.self.now ls stands c.leaves-leaves.result c.leaves-leaves.ensures.sized in
     elim (is_memory c.in-Err.error) [
       | inr is ↦ is

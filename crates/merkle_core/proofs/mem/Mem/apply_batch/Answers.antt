@@ -9,7 +9,7 @@ use Rattle.merkle_batch_theory.specs.Replay.{with_records, applied, with_record,
 use Rattle.merkle_batch_theory.specs.MemModel.{contents}
 use Rattle.merkle_batch_theory.specs.MemValid.{IsMemValid}
 use Rattle.merkle_batch_theory.proofs.Applied.{applied_at}
-use Rattle.merkle_batch_theory.proofs.Runs.{some_kept, total_laid, kept_after, applied_after}
+use Rattle.merkle_batch_theory.proofs.Runs.{some_kept, total_with_record, kept_after, applied_after}
 use Rattle.merkle_core.proofs.mem.Mem.apply_batch.Goals as goal
 
 pub sub-added-requires : goal.sub-added-requires
@@ -19,7 +19,7 @@ sub-added-requires g c =
     let same = g.D.PartialEq.eq in
     let linked = subst (IsBatchValid rule most) c.batch.view_is c.batch.invariant in
     let m : matched same c.size.result c.front.result.now c.args.batch.now ≡ Some c.in-Some.first = sym c.find_state.ensures ∙ c.in-Some.is in
-    omega (arith, total_laid rule most same c.args.batch.now linked (λ r. r.value) c.batch.inside.ancestors.items (ap (λ b. b.ancestors) c.batch.view_is) c.size.result c.in-Some.first c.front.result.now m, c.size.ensures, c.size-2.ensures, c.size-3.ensures)
+    omega (arith, total_with_record rule most same c.args.batch.now linked (λ r. r.value) c.batch.inside.ancestors.items (ap (λ b. b.ancestors) c.batch.view_is) c.size.result c.in-Some.first c.front.result.now m, c.size.ensures, c.size-2.ensures, c.size-3.ensures)
 
 pub slice_bounds-lay_all-count : goal.slice_bounds-lay_all-count
 slice_bounds-lay_all-count g c =
@@ -57,7 +57,7 @@ lay_all-requires g c =
     let same = g.D.PartialEq.eq in
     let linked = subst (IsBatchValid rule most) c.batch.view_is c.batch.invariant in
     let m : matched same c.size.result c.front.result.now c.args.batch.now ≡ Some c.in-Some.first = sym c.find_state.ensures ∙ c.in-Some.is in
-    omega (arith, total_laid rule most same c.args.batch.now linked (λ r. r.value) c.deref.result.now (ap (map (λ r. r.value)) c.deref.ensures.value ∙ ap (λ b. b.ancestors) c.batch.view_is) c.size.result c.in-Some.first c.front.result.now m, c.in_ok-reserve.ensures.room, c.reserve.ensures.size, ap (λ s. s.size) c.self.view_is, c.as_u64.ensures, c.sub-added.ensures, c.size.ensures, c.size-2.ensures, c.size-3.ensures)
+    omega (arith, total_with_record rule most same c.args.batch.now linked (λ r. r.value) c.deref.result.now (ap (map (λ r. r.value)) c.deref.ensures.value ∙ ap (λ b. b.ancestors) c.batch.view_is) c.size.result c.in-Some.first c.front.result.now m, c.in_ok-reserve.ensures.room, c.reserve.ensures.size, ap (λ s. s.size) c.self.view_is, c.as_u64.ensures, c.sub-added.ensures, c.size.ensures, c.size-2.ensures, c.size-3.ensures)
 
 pub lay-requires : goal.lay-requires
 lay-requires g c =
@@ -67,7 +67,7 @@ lay-requires g c =
     let linked = subst (IsBatchValid rule most) c.batch.view_is c.batch.invariant in
     let m : matched same c.size.result c.front.result.now c.args.batch.now ≡ Some c.in-Some.first = sym c.find_state.ensures ∙ c.in-Some.is in
     let own : c.deref-own.result.now ≡ c.args.batch.now.own = c.deref-own.ensures ∙ ap (λ b. b.own) c.batch.view_is in
-    omega (arith, total_laid rule most same c.args.batch.now linked (λ r. r.value) c.deref.result.now (ap (map (λ r. r.value)) c.deref.ensures.value ∙ ap (λ b. b.ancestors) c.batch.view_is) c.size.result c.in-Some.first c.front.result.now m, c.in_ok-reserve.ensures.room, c.reserve.ensures.size, ap (λ s. s.size) c.self.view_is, ap (λ (r : RecordModel _). length r.appended) own, c.lay_all.ensures.capacity, c.lay_all.ensures.size, c.as_u64.ensures, c.sub-added.ensures, c.size.ensures, c.size-2.ensures, c.size-3.ensures)
+    omega (arith, total_with_record rule most same c.args.batch.now linked (λ r. r.value) c.deref.result.now (ap (map (λ r. r.value)) c.deref.ensures.value ∙ ap (λ b. b.ancestors) c.batch.view_is) c.size.result c.in-Some.first c.front.result.now m, c.in_ok-reserve.ensures.room, c.reserve.ensures.size, ap (λ s. s.size) c.self.view_is, ap (λ (r : RecordModel _). length r.appended) own, c.lay_all.ensures.capacity, c.lay_all.ensures.size, c.as_u64.ensures, c.sub-added.ensures, c.size.ensures, c.size-2.ensures, c.size-3.ensures)
 
 pub invariant_of-self-2 : goal.invariant_of-self-2
 invariant_of-self-2 g c =

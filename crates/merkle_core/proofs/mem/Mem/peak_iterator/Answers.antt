@@ -6,7 +6,7 @@ use Rattle.merkle_core.proofs.mem.Mem.peak_iterator.Goals as goal
 pub size-nodes-requires : goal.size-nodes-requires
 size-nodes-requires g c =
     let law = g.met.F.Family.lawful in
-    omega (arith, law.small, counted_nodes g.F.Family.rule g.F.Family.MAX_LEAVES g.F.Family.MAX_NODES c.self.inside.leaves c.self.inside.held.size law c.self.invariant.counted)
+    omega (arith, law.limit_fits, counted_nodes g.F.Family.rule g.F.Family.MAX_LEAVES g.F.Family.MAX_NODES c.self.inside.leaves c.self.inside.held.size law c.self.invariant.counted)
 
 pub peaks-requires : goal.peaks-requires
 peaks-requires g c = (c.self.inside.leaves, c.self.invariant.counted.bounded, c.self.invariant.counted.sized ∙ sym c.size-nodes.ensures)

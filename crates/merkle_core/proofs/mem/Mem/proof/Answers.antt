@@ -13,13 +13,13 @@ use Rattle.merkle_proof.specs.RangePlans.{LeafRange, IsBuildRefusal, IsBuiltProo
 use Rattle.merkle_hasher.proofs.Comparisons.{ge_yes, ge_no}
 use Rattle.merkle_core.proofs.mem.Mem.proof.Goals as goal
 
-pub returns-then-not-is_valid_index-clause-given : goal.returns-then-not-is_valid_index-clause-given
-returns-then-not-is_valid_index-clause-given g c = λ h X agrees low less few.
+pub returns-then-not-is_valid_index-clause-granted : goal.returns-then-not-is_valid_index-clause-granted
+returns-then-not-is_valid_index-clause-granted g c = λ h X agrees low less few.
     let leaves : c.leaves-leaves.result ≡ length X = size_inj g.F.Family.rule c.leaves-leaves.result (length X) (c.leaves-leaves.ensures.sized ∙ agrees.sized) in
     absurd (false≢true (c.if-not-is_valid_index.ensures.1 (omega (arith, leaves, less, c.leaves-leaves.ensures.bounded))))
 
-pub returns-then-ge-clause-given : goal.returns-then-ge-clause-given
-returns-then-ge-clause-given g c = λ h X agrees low less few.
+pub returns-then-ge-clause-granted : goal.returns-then-ge-clause-granted
+returns-then-ge-clause-granted g c = λ h X agrees low less few.
     let leaves : c.leaves-leaves.result ≡ length X = size_inj g.F.Family.rule c.leaves-leaves.result (length X) (c.leaves-leaves.ensures.sized ∙ agrees.sized) in
     let past : c.leaves-leaves.result ≤ c.args.location = ge_yes c.args.location c.leaves-leaves.result (sym c.ge.ensures ∙ c.if-ge.true) in
     absurd (omega (arith, leaves, past, less))
@@ -54,8 +54,8 @@ returns-in-Ok-clause-honest g c = λ X agrees.
     IfOk-weaker c.build_proof.result _ _ (λ p honest. (omega (arith, below, leaves), subst (λ (r : LeafRange). IsHonestRange s X c.args.inactive (list_input p X r.start r.end)) plan honest))
     (c.build_proof.ensures.honest X (sym leaves ∙ sym (ap (λ (r : LeafRange). r.leaves) plan)) agrees)
 
-pub returns-in-Ok-clause-given : goal.returns-in-Ok-clause-given
-returns-in-Ok-clause-given g c = λ h X agrees low less few.
+pub returns-in-Ok-clause-granted : goal.returns-in-Ok-clause-granted
+returns-in-Ok-clause-granted g c = λ h X agrees low less few.
     let leaves : c.leaves-leaves.result ≡ length X = size_inj g.F.Family.rule c.leaves-leaves.result (length X) (c.leaves-leaves.ensures.sized ∙ agrees.sized) in
     let plan : c.in-Ok.plan ≡ record { leaves = length X; start = c.args.location; end = c.args.location + 1 } =
     c.in-Ok.ensures.ok ∙ ap (λ e. record { leaves = c.leaves-leaves.result; start = c.args.location; end = e }) c.add.ensures ∙ ap (λ m. record { leaves = m; start = c.args.location; end = c.args.location + 1 }) leaves in
@@ -79,8 +79,8 @@ returns-in-Ok-clause-err g c =
     c.in-Ok.ensures.ok ∙ ap (λ e. record { leaves = c.leaves-leaves.result; start = c.args.location; end = e }) c.add.ensures ∙ ap (λ m. record { leaves = m; start = c.args.location; end = c.args.location + 1 }) leaves in
     IfErr-weaker c.build_proof.result _ _ (λ e refused other. inr (inr (omega (arith, below, leaves), subst (λ r. IsBuildRefusal (g.H.Hasher.bagging_of c.args.hasher.now) g.F.Family.rule r c.args.inactive (λ p o. o ≡ node c.args.self.now p) e) plan (refused other)))) c.build_proof.ensures.err
 
-pub returns-in-Err-clause-given : goal.returns-in-Err-clause-given
-returns-in-Err-clause-given g c = λ h X agrees low less few.
+pub returns-in-Err-clause-granted : goal.returns-in-Err-clause-granted
+returns-in-Err-clause-granted g c = λ h X agrees low less few.
     let below : c.args.location < c.leaves-leaves.result = ge_no c.args.location c.leaves-leaves.result (sym c.ge.ensures ∙ c.if-ge.false) in
     elim (is_memory c.in-Err.error) [
       | inr is ↦ is

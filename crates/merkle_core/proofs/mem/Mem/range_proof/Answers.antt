@@ -26,8 +26,8 @@ returns-in-Ok-clause-honest g c = λ X agrees.
     IfOk-weaker c.build_proof.result _ _ (λ p honest. (fits.0, omega (arith, fits.1, leaves), subst (λ (r : LeafRange). IsHonestRange s X c.args.inactive (list_input p X r.start r.end)) plan honest))
     (c.build_proof.ensures.honest X (sym leaves ∙ sym (ap (λ (r : LeafRange). r.leaves) plan)) agrees)
 
-pub returns-in-Ok-clause-given : goal.returns-in-Ok-clause-given
-returns-in-Ok-clause-given g c = λ h X agrees low some less few.
+pub returns-in-Ok-clause-granted : goal.returns-in-Ok-clause-granted
+returns-in-Ok-clause-granted g c = λ h X agrees low some less few.
     let leaves : c.leaves-leaves.result ≡ length X = size_inj g.F.Family.rule c.leaves-leaves.result (length X) (c.leaves-leaves.ensures.sized ∙ agrees.sized) in
     let plan : c.in-Ok.plan ≡ record { leaves = length X; start = c.args.range.start; end = c.args.range.end } = c.in-Ok.ensures.ok ∙ ap (λ m. record { leaves = m; start = c.args.range.start; end = c.args.range.end }) leaves in
     IfErr-weaker c.build_proof.result _ _ (λ e refused. only_memory h g.F.Family.rule c.args.self.now.boundary (length X) agrees.bounded (node c.args.self.now) (answered_kept h g.F.Family.rule (contents c.args.self.now) X agrees) (g.H.Hasher.bagging_of c.args.hasher.now) c.args.range.start c.args.range.end c.args.inactive low few e
@@ -40,8 +40,8 @@ returns-in-Ok-clause-err g c =
     let fits = c.in-Ok.ensures.within in
     IfErr-weaker c.build_proof.result _ _ (λ e refused other. inr (fits.0, omega (arith, fits.1, leaves), subst (λ r. IsBuildRefusal (g.H.Hasher.bagging_of c.args.hasher.now) g.F.Family.rule r c.args.inactive (λ p o. o ≡ node c.args.self.now p) e) plan (refused other))) c.build_proof.ensures.err
 
-pub returns-in-Err-clause-given : goal.returns-in-Err-clause-given
-returns-in-Err-clause-given g c = λ h X agrees low some less few.
+pub returns-in-Err-clause-granted : goal.returns-in-Err-clause-granted
+returns-in-Err-clause-granted g c = λ h X agrees low some less few.
     let leaves : c.leaves-leaves.result ≡ length X = size_inj g.F.Family.rule c.leaves-leaves.result (length X) (c.leaves-leaves.ensures.sized ∙ agrees.sized) in
     elim (is_memory c.in-Err.error) [
       | inr is ↦ is

@@ -27,7 +27,7 @@ loop-position-init g c =
 pub size-requires : goal.size-requires
 size-requires g c =
     let law = g.met.F.Family.lawful in
-    omega (arith, law.small, counted_nodes g.F.Family.rule g.F.Family.MAX_LEAVES g.F.Family.MAX_NODES c.self.inside.leaves c.self.inside.held.size law c.self.invariant.counted)
+    omega (arith, law.limit_fits, counted_nodes g.F.Family.rule g.F.Family.MAX_LEAVES g.F.Family.MAX_NODES c.self.inside.leaves c.self.inside.held.size law c.self.invariant.counted)
 
 pub peaks-position-items-requires : goal.peaks-position-items-requires
 peaks-position-items-requires g c = (c.self.inside.leaves, c.self.invariant.counted.bounded, c.self.invariant.counted.sized ∙ sym c.size.ensures)

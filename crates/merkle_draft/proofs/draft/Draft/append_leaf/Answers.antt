@@ -36,7 +36,7 @@ append_parent-requires-clause-small g c =
     let k = c.loop-height.invariant.3 in
     let y = g.met.F.ParentHeights.Listed.gives_first _ _ _ c.in-Some.ensures.steps in
     let fit = parents_fit rule g.F.Family.MAX_LEAVES law.equal c.args.leaf c.requires.below k.0 (c.in-Some.height ∷ g.F.ParentHeights.Listed.left c.next.new.self) (ap (λ xs. k.0 ++ xs) (sym y) ∙ k.1) in
-    omega (arith, fit, k.2, size_le rule (suc c.args.leaf) g.F.Family.MAX_LEAVES (omega (arith, c.requires.below)), law.full, law.small)
+    omega (arith, fit, k.2, size_le rule (suc c.args.leaf) g.F.Family.MAX_LEAVES (omega (arith, c.requires.below)), law.size_at_limit, law.limit_fits)
 
 pub append_parent-requires-clause-node : goal.append_parent-requires-clause-node
 append_parent-requires-clause-node g c =

@@ -3,7 +3,7 @@ use Rattle.std.specs.FinMap.{from_entries}
 use Rattle.merkle_batch_theory.specs.Read.{read_over}
 use Rattle.merkle_draft.specs.DraftReads.{below}
 use Rattle.merkle_draft.proofs.ChangedLeaves.{entries_moved, map_moved, entries_all}
-use Rattle.merkle_draft.proofs.DirtyLeaves.{leaves_computed, leaves_refreshed, leaves_missing}
+use Rattle.merkle_draft.proofs.DirtyLeaves.{leaves_computed, leaves_dirty_digest, leaves_missing}
 use Rattle.merkle_draft.proofs.draft.Draft.refresh_leaves.Goals as goal
 
 pub loop-position-preserved : goal.loop-position-preserved
@@ -30,7 +30,7 @@ pub returns-clause-refreshed : goal.returns-clause-refreshed
 returns-clause-refreshed g c =
     let i = c.loop-position.invariant in
     let all = entries_all c.loop-position.list.items c.loop-position.position-iterator c.args.updates.now.entries c.in-None.ensures.steps.0 i.4 in
-    leaves_refreshed (g.H.Hasher.hashing c.args.hasher.now) g.F.Family.rule c.args.leaves c.args.updates.now.entries c.deref.result.now c.requires.of c.into_iter-position-iterator.ensures.into_iter_gives.5 (c.deref.ensures.value ∙ all) (below c.args.self.now (g.B.Base.contents c.args.base.now)) _
+    leaves_dirty_digest (g.H.Hasher.hashing c.args.hasher.now) g.F.Family.rule c.args.leaves c.args.updates.now.entries c.deref.result.now c.requires.of c.into_iter-position-iterator.ensures.into_iter_gives.5 (c.deref.ensures.value ∙ all) (below c.args.self.now (g.B.Base.contents c.args.base.now)) _
     (λ k p. read_over (i.1 k) (g.B.Base.contents c.args.base.now) p) c.refresh_peaks.result c.refresh_peaks.ensures.refreshed
 
 pub returns-clause-missing : goal.returns-clause-missing

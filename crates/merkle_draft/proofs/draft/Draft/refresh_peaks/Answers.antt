@@ -3,7 +3,7 @@ use Rattle.std.proofs.lemmas.Result.{err_from_is_err_and}
 use Rattle.merkle_draft.specs.DraftReads.{below}
 use Rattle.merkle_draft.proofs.CountBefore.{before_within}
 use Rattle.merkle_draft.proofs.Refreshing.{same_below}
-use Rattle.merkle_draft.proofs.DirtyPeaks.{Refreshing, zero_yes, zero_no, peaks_begin, peaks_next, end_within, peak_skipped, peak_refreshed, peak_lacks, walk_computed, walk_refreshed}
+use Rattle.merkle_draft.proofs.DirtyPeaks.{Refreshing, zero_yes, zero_no, peaks_begin, peaks_next, end_within, peak_skipped, peak_dirty_digest, peak_lacks, walk_computed, walk_dirty_digest}
 use Rattle.merkle_draft.proofs.draft.Draft.refresh_peaks.Goals as goal
 
 pub loop-position-init : goal.loop-position-init
@@ -58,7 +58,7 @@ loop-position-preserved-in_ok-refresh g c =
       g.met.F.Peaks.Listed.may_go c.next.new.self,
       g.met.F.Peaks.Listed.ends c.next.new.self,
       (more.0 ∙ only.0, more.1 ∙ only.1, more.2 ∙ only.2),
-      peak_refreshed (g.H.Hasher.hashing c.args.hasher.now) g.F.Family.rule g.F.Family.MAX_LEAVES c.args.leaves (below c.args.self.now (g.B.Base.contents c.args.base.now)) c.args.updates.now c.args.self.now.overwritten
+      peak_dirty_digest (g.H.Hasher.hashing c.args.hasher.now) g.F.Family.rule g.F.Family.MAX_LEAVES c.args.leaves (below c.args.self.now (g.B.Base.contents c.args.base.now)) c.args.updates.now c.args.self.now.overwritten
           _ _ _ _ _ _ n c.leaf_end-first_leaf.result (c.leaf_end-first_leaf.ensures n.tree n.stands) c.location_to_position-end.result c.count_before.result c.split_at.result.0.now c.split_at.result.1.now
           c.location_to_position-end.ensures c.count_before.ensures c.split_at.ensures.front c.split_at.ensures.back
           (below c.loop-position.self (g.B.Base.contents c.args.base.now)) c.in_ok-refresh.field-0 c.refresh.new.self.overwritten (same_below c.args.self.now c.loop-position.self (g.B.Base.contents c.args.base.now) c.loop-position.invariant.2)
@@ -87,5 +87,5 @@ returns-clause-computed g c =
 pub returns-clause-refreshed : goal.returns-clause-refreshed
 returns-clause-refreshed g c =
     let y = g.met.F.Peaks.Listed.gives_first _ _ _ c.in-None.ensures.steps in
-    walk_refreshed (g.H.Hasher.hashing c.args.hasher.now) g.F.Family.rule g.F.Family.MAX_LEAVES c.args.leaves (below c.args.self.now (g.B.Base.contents c.args.base.now)) c.args.updates.now c.args.self.now.overwritten
+    walk_dirty_digest (g.H.Hasher.hashing c.args.hasher.now) g.F.Family.rule g.F.Family.MAX_LEAVES c.args.leaves (below c.args.self.now (g.B.Base.contents c.args.base.now)) c.args.updates.now c.args.self.now.overwritten
     _ _ _ _ c.loop-position.invariant.3 y.0

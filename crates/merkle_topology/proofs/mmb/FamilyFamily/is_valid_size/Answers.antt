@@ -14,5 +14,5 @@ returns-then-nodes-le-MAX_NODES c =
 pub returns-else-nodes-le-MAX_NODES : goal.returns-else-nodes-le-MAX_NODES
 returns-else-nodes-le-MAX_NODES c = (
   λ t. absurd (omega (arith, leb-true c.as_u64-nodes.result 9223372036854775806 t, c.if-nodes-le-MAX_NODES.false)),
-  λ s. absurd (omega (arith, size_le mmb_merges s.0 4611686018427387934 s.1, s.2, mmb_lawful.full, c.as_u64-nodes.ensures, c.if-nodes-le-MAX_NODES.false)),
+  λ s. absurd (omega (arith, size_le mmb_merges s.0 4611686018427387934 s.1, s.2, mmb_lawful.size_at_limit, c.as_u64-nodes.ensures, c.if-nodes-le-MAX_NODES.false)),
 )

@@ -12,7 +12,7 @@ use Rattle.merkle_topology.proofs.ChunkNumbers.{chunk_within}
 use Rattle.merkle_topology.proofs.mmb.FamilyGraftable.chunk_peaks.Goals as goal
 
 pub leaf_count_by_log-requires : goal.leaf_count_by_log-requires
-leaf_count_by_log-requires c = let k = c.requires in omega (arith, c.as_u64.ensures, size_le mmb_merges k.0 4611686018427387934 k.1, k.2, mmb_lawful.full)
+leaf_count_by_log-requires c = let k = c.requires in omega (arith, c.as_u64.ensures, size_le mmb_merges k.0 4611686018427387934 k.1, k.2, mmb_lawful.size_at_limit)
 
 pub overflow_shl-result : goal.overflow_shl-result
 overflow_shl-result c = let k = c.requires in omega (arith, (chunk_within k.0 c.args.chunk_idx c.args.grafting_height (omega (arith, k.1)) k.3).low)

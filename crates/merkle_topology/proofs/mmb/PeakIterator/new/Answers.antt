@@ -9,7 +9,7 @@ use Rattle.merkle_topology.proofs.BeltPeaks.{newest_all}
 use Rattle.merkle_topology.proofs.mmb.PeakIterator.new.Goals as goal
 
 pub leaf_count_by_log-leaves-requires : goal.leaf_count_by_log-leaves-requires
-leaf_count_by_log-leaves-requires c = let k = c.requires in omega (arith, c.as_u64.ensures, size_le mmb_merges k.0 4611686018427387934 k.1, k.2, mmb_lawful.full)
+leaf_count_by_log-leaves-requires c = let k = c.requires in omega (arith, c.as_u64.ensures, size_le mmb_merges k.0 4611686018427387934 k.1, k.2, mmb_lawful.size_at_limit)
 
 pub returns-clause-leaves : goal.returns-clause-leaves
 returns-clause-leaves c =

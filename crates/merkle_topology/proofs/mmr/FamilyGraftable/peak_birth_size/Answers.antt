@@ -9,7 +9,7 @@ use Rattle.merkle_topology.proofs.mmr.FamilyGraftable.peak_birth_size.Goals as g
 
 pub returns-clause-formula : goal.returns-clause-formula
 returns-clause-formula c = λ s e.
-    let same = mmr_coordinates.once c.first_below.result s c.args.height (c.first_below.ensures.root ∙ c.as_u64.ensures ∙ sym e) in
+    let same = mmr_coordinates.injective c.first_below.result s c.args.height (c.first_below.ensures.root ∙ c.as_u64.ensures ∙ sym e) in
     omega (arith, same, one_shl c.args.height 64 (omega (arith, c.requires.low)))
 
 pub returns-clause-node : goal.returns-clause-node
