@@ -6,7 +6,7 @@ ghost use Rattle.std.specs.Process.{exit_status};
 ghost use Rattle.std.specs.Result.{is_ok};
 
 use merkle_lines::run::{RunError, run};
-use std::io;
+use std::io::{self, BufWriter};
 use std::process::ExitCode;
 
 // What the program ends with: success where every line was answered.
@@ -20,7 +20,11 @@ fn exit_code(answered: &Result<(), RunError>) -> ExitCode
 }
 
 fn main(rt: HostRuntime) -> ExitCode {
-    let answered = run(rt.alloc(), &mut rt.reader(), &mut io::writer(&rt));
+    // `run` flushes when it has answered what it has read.
+    let answered = match BufWriter::new(rt.alloc(), io::writer(&rt)) {
+        Ok(mut writer) => run(rt.alloc(), &mut rt.reader(), &mut writer),
+        Err(_) => Err(RunError::OutOfMemory),
+    };
     if let Err(error) = &answered {
         // Where this fails too, nothing is left to tell.
         let _ = rt.eprintln(error);

@@ -15,6 +15,8 @@ macro_rules! granted {
     };
 }
 
+mod codec;
+mod lines;
 mod proofs;
 mod scattered;
 mod stopwatch;
@@ -22,6 +24,7 @@ mod stores;
 mod trees;
 mod workload;
 
+use crate::lines::measure_lines;
 use crate::stopwatch::{Halt, Stopwatch};
 use crate::trees::measure;
 use crate::workload::Workload;
@@ -53,7 +56,7 @@ fn read_workload(rt: &impl Runtime) -> Option<Workload> {
     }
 }
 
-// Measures both families at both hashes.
+// Measures both families at both hashes, by calls and then by lines.
 fn measure_all<C: CpuClock>(
     alloc: Global,
     watch: &mut Stopwatch<C>,
@@ -62,7 +65,11 @@ fn measure_all<C: CpuClock>(
     measure::<mmr::Family, Sha256Plain, C>(alloc, watch, "mmr sha256", workload)?;
     measure::<mmb::Family, Sha256Plain, C>(alloc, watch, "mmb sha256", workload)?;
     measure::<mmr::Family, Xor8, C>(alloc, watch, "mmr xor8", workload)?;
-    measure::<mmb::Family, Xor8, C>(alloc, watch, "mmb xor8", workload)
+    measure::<mmb::Family, Xor8, C>(alloc, watch, "mmb xor8", workload)?;
+    measure_lines(alloc, watch, "mmr sha256", "new mmr forward", workload)?;
+    measure_lines(alloc, watch, "mmb sha256", "new mmb forward", workload)?;
+    measure_lines(alloc, watch, "mmr xor8", "new mmr forward xor8", workload)?;
+    measure_lines(alloc, watch, "mmb xor8", "new mmb forward xor8", workload)
 }
 
 fn main(rt: HostRuntime) -> ExitCode {

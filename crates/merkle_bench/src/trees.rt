@@ -1,5 +1,6 @@
 //! The calls that are measured, at one family and one hash.
 
+use crate::codec::measure_codec;
 use crate::proofs::Proofs;
 use crate::scattered::Scattered;
 use crate::stopwatch::{Halt, Stopwatch};
@@ -269,6 +270,14 @@ impl<H: PlainHasher> Trees<H> {
         self.append_one_by_one::<F, C>(watch, elements)?;
         self.roots(watch, structure)?;
         self.proofs(watch, structure, elements, scattered)?;
+        measure_codec(
+            self.alloc,
+            watch,
+            self.name,
+            &self.hasher,
+            structure,
+            scattered,
+        )?;
         self.prune(watch, structure)?;
         self.update(watch, structure, scattered)?;
         self.locations::<F, C>(watch, elements.len() as u64, scattered)?;

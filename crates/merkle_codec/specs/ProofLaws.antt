@@ -7,7 +7,7 @@ use Rattle.merkle_base.specs.declared.error.DecodeError.TheVariants.{Invalid, To
 use Rattle.merkle_proof.specs.declared.proof.Proof.{Proof}
 use Rattle.merkle_codec.specs.NumberSpelling.{number_spelling, IsRefusalFrom}
 use Rattle.merkle_codec.specs.NumberLaws.{number_spelling_once, IsRefusalFrom_after, IsRefusalFrom_once}
-use Rattle.merkle_codec.specs.ProofSpelling.{parts_spelling, proof_spelling, SameProof, IsReadable, IsDigestsRefusal, IsProofRefusal}
+use Rattle.merkle_codec.specs.ProofSpelling.{parts_spelling, proof_spelling, SameProof, IsReadable, IsDigestsRefusal, IsProofReadRefusal}
 use Rattle.merkle_codec.specs.SpellingLaws.{append_once}
 
 -- what lies past the first list
@@ -59,9 +59,9 @@ module _ {D : Type 0} (bytes : D → List ℕ) (size : ℕ) (sized : (x : D) →
       absurd (not (subst Spells (sym at) (spell x)))
 
   -- bytes that begin with a proof within the limits are refused for want of memory alone
-  pub IsProofRefusal_of_spelling : (Spells : List ℕ → Type 0) → ((x : D) → Spells (bytes x)) → (max_leaves limit : ℕ) → max_leaves < 2 ^ 64 → (b : List ℕ) (e : DecodeError) → IsProofRefusal size Spells max_leaves limit b e
+  pub IsProofReadRefusal_of_spelling : (Spells : List ℕ → Type 0) → ((x : D) → Spells (bytes x)) → (max_leaves limit : ℕ) → max_leaves < 2 ^ 64 → (b : List ℕ) (e : DecodeError) → IsProofReadRefusal size Spells max_leaves limit b e
       → {F Peaks Heights : Type 0} (p : Proof F D Peaks Heights) (rest : List ℕ) → IsReadable max_leaves limit p → b ≡ proof_spelling bytes p ++ rest → e ≡ OutOfMemory
-  IsProofRefusal_of_spelling Spells spell max_leaves limit fits b e h p rest within k =
+  IsProofReadRefusal_of_spelling Spells spell max_leaves limit fits b e h p rest within k =
       let ds = p.digests.items in
       let bs = flat_map bytes ds ++ rest in
       let left = number_spelling (length ds) ++ bs in
@@ -98,8 +98,8 @@ IsDigestsRefusal_once size Spells n b e f x y (inr (inr h)) (inr (inl k)) = absu
 IsDigestsRefusal_once size Spells n b e f x y (inr (inr h)) (inr (inr k)) = h.2 ∙ sym k.2
 
 -- bytes are refused as a proof with one error, want of memory aside
-pub IsProofRefusal_once : (size : ℕ) (Spells : List ℕ → Type 0) (max_leaves limit : ℕ) (b : List ℕ) (e f : DecodeError) → IsProofRefusal size Spells max_leaves limit b e → IsProofRefusal size Spells max_leaves limit b f → e ≢ OutOfMemory → f ≢ OutOfMemory → e ≡ f
-IsProofRefusal_once size Spells max_leaves limit b e f h k x y =
+pub IsProofReadRefusal_once : (size : ℕ) (Spells : List ℕ → Type 0) (max_leaves limit : ℕ) (b : List ℕ) (e f : DecodeError) → IsProofReadRefusal size Spells max_leaves limit b e → IsProofReadRefusal size Spells max_leaves limit b f → e ≢ OutOfMemory → f ≢ OutOfMemory → e ≡ f
+IsProofReadRefusal_once size Spells max_leaves limit b e f h k x y =
     let at_digests = IsDigestsRefusal size Spells in
     let at_count = IsRefusalFrom limit TooMany at_digests in
     let at_inactive = IsRefusalFrom (2 ^ 64 - 1) Invalid (λ _. at_count) in

@@ -39,6 +39,6 @@ IsDigestsRefusal size Spells n b e =
 
 -- bytes begin with no proof: they are refused at the number of leaves, after it at that of inactive peaks, after it at that of
 -- digests, or after it at the digests
-abbrev pub IsProofRefusal : (size : ℕ) → (List ℕ → Type 0) → (max_leaves limit : ℕ) → List ℕ → DecodeError → Type 0
-IsProofRefusal size Spells max_leaves limit =
+abbrev pub IsProofReadRefusal : (size : ℕ) → (List ℕ → Type 0) → (max_leaves limit : ℕ) → List ℕ → DecodeError → Type 0
+IsProofReadRefusal size Spells max_leaves limit =
     IsRefusalFrom max_leaves Invalid (λ _. IsRefusalFrom (2 ^ 64 - 1) Invalid (λ _. IsRefusalFrom limit TooMany (IsDigestsRefusal size Spells)))

@@ -5,8 +5,8 @@ ghost use Rattle.std.specs.Option.{SomeIff};
 ghost use Rattle.merkle_codec.specs.NumberSpelling.{number_spelling, IsRefusalFrom};
 ghost use Rattle.merkle_base.specs.declared.error.DecodeError.TheVariants.{TooMany};
 ghost use Rattle.merkle_codec.specs.NumberLaws.{lawful_locations};
-ghost use Rattle.merkle_codec.specs.ProofSpelling.{parts_spelling, proof_spelling, SameProof, IsReadable, IsDigestsRefusal, IsProofRefusal};
-ghost use Rattle.merkle_codec.specs.ProofLaws.{proof_spelling_once, IsProofRefusal_of_spelling, IsProofRefusal_once};
+ghost use Rattle.merkle_codec.specs.ProofSpelling.{parts_spelling, proof_spelling, SameProof, IsReadable, IsDigestsRefusal, IsProofReadRefusal};
+ghost use Rattle.merkle_codec.specs.ProofLaws.{proof_spelling_once, IsProofReadRefusal_of_spelling, IsProofReadRefusal_once};
 
 use crate::codec::{EncodeSize, Read, Write, read_digest};
 use crate::number::{number_size, read_up_to, write_number};
@@ -67,7 +67,7 @@ fn read_proof<F: Family, D: Digest>(
 ) -> Result<(Proof<F, D>, &[u8]), DecodeError>
     ensures within { IfOk result (λ p. IsReadable F.MAX_LEAVES max_digests p.0) }
     ensures read { IfOk result (λ p. bytes.now ≡ proof_spelling D.bytes p.0 ++ p.1.now) }
-    ensures refused { IfErr result (λ e. IsProofRefusal D.SIZE D.Spells F.MAX_LEAVES max_digests bytes.now e) }
+    ensures refused { IfErr result (λ e. IsProofReadRefusal D.SIZE D.Spells F.MAX_LEAVES max_digests bytes.now e) }
 {
     let (leaves, rest) = read_up_to(bytes, F::MAX_LEAVES, DecodeError::Invalid)?;
     let (inactive, rest) = read_up_to(rest, usize::MAX as u64, DecodeError::Invalid)?;
@@ -166,7 +166,7 @@ impl<F: Family, D: Digest> Read for Proof<F, D> {
 
     ghost within = { λ limit p. IsReadable F.MAX_LEAVES limit p };
 
-    ghost refuses = { λ limit b e. IsProofRefusal D.SIZE D.Spells F.MAX_LEAVES limit b e };
+    ghost refuses = { λ limit b e. IsProofReadRefusal D.SIZE D.Spells F.MAX_LEAVES limit b e };
 
     /// The proof of at most so many digests that the bytes begin with, which are left without it: each that is written is
     /// read back where its leaf count is at most [`MAX_LEAVES`](Family::MAX_LEAVES), unless memory is refused.
@@ -185,7 +185,7 @@ impl<F: Family, D: Digest> Read for Proof<F, D> {
     /// The slice is then unchanged.
     fn read(alloc: Global, input: &mut &[u8], max_digests: &usize) -> Result<Self, DecodeError>
         ensures ok { IfOk result (λ p. IsReadable F.MAX_LEAVES max_digests.now p × (input.old.now ≡ proof_spelling D.bytes p ++ input.new.now)) }
-        ensures refused { IfErr result (λ e. IsProofRefusal D.SIZE D.Spells F.MAX_LEAVES max_digests.now input.old.now e) }
+        ensures refused { IfErr result (λ e. IsProofReadRefusal D.SIZE D.Spells F.MAX_LEAVES max_digests.now input.old.now e) }
         ensures unchanged { OnErr result (input.new.now ≡ input.old.now) }
         ensures written { (p : _) (rest : List ℕ) → IsReadable F.MAX_LEAVES max_digests.now p → input.old.now ≡ proof_spelling D.bytes p ++ rest
             → IfOk result (λ q. SameProof q p × (input.new.now ≡ rest)) × IfErr result (λ e. e ≡ DecodeError.OutOfMemory) }
@@ -199,7 +199,7 @@ impl<F: Family, D: Digest> Read for Proof<F, D> {
         }
     }
 
-    ghost refused_spells_none = { λ limit b e h memory p rest within k. memory (IsProofRefusal_of_spelling D.bytes D.SIZE (λ x. D.one_length (D.bytes x) (D.bytes_spell x)) D.Spells D.bytes_spell F.MAX_LEAVES limit (lawful_locations F.rule F.MAX_LEAVES F.MAX_NODES F.lawful) b e h p rest within k) };
+    ghost refused_spells_none = { λ limit b e h memory p rest within k. memory (IsProofReadRefusal_of_spelling D.bytes D.SIZE (λ x. D.one_length (D.bytes x) (D.bytes_spell x)) D.Spells D.bytes_spell F.MAX_LEAVES limit (lawful_locations F.rule F.MAX_LEAVES F.MAX_NODES F.lawful) b e h p rest within k) };
 
-    ghost one_refusal = { λ limit b e f h k x y. IsProofRefusal_once D.SIZE D.Spells F.MAX_LEAVES limit b e f h k x y };
+    ghost one_refusal = { λ limit b e f h k x y. IsProofReadRefusal_once D.SIZE D.Spells F.MAX_LEAVES limit b e f h k x y };
 }

@@ -111,6 +111,21 @@ fn locations(rt: HostRuntime) {
 }
 
 #[test]
+fn bytes_after_a_location(rt: HostRuntime) -> Result<(), Fail> {
+    let location = Location::<mmb::Family>::new(16384);
+    let mut out = Vec::new(rt.alloc());
+    assert!(rt; location.write(&mut out).is_ok() && location.encode_size() == 3);
+    assert!(rt; out.as_slice() == [128, 128, 1].as_slice());
+    out.push(128)?;
+    let mut input = out.as_slice();
+    let read = Location::<mmb::Family>::read(rt.alloc(), &mut input, &());
+    assert!(rt; matches!(read, Ok(read) if read == location) && input == [128].as_slice());
+    let cut = Location::<mmb::Family>::read(rt.alloc(), &mut input, &());
+    assert!(rt; matches!(cut, Err(DecodeError::EndOfBuffer)) && input == [128].as_slice());
+    Ok(())
+}
+
+#[test]
 fn positions(rt: HostRuntime) -> Result<(), Fail> {
     let mut overlong: &[u8] = &[128, 0];
     let refused = Position::<mmr::Family>::read(rt.alloc(), &mut overlong, &());
@@ -140,7 +155,7 @@ fn long_digests(rt: HostRuntime) -> Result<(), Fail> {
         digests,
     };
     let mut out = Vec::new(rt.alloc());
-    assert!(rt; proof.write(&mut out).is_ok() && out.len() == 35);
+    assert!(rt; proof.write(&mut out).is_ok() && out.len() == 35 && proof.encode_size() == 35);
     let mut input = out.as_slice();
     let read = Proof::<mmb::Family, Sha256Digest>::read(rt.alloc(), &mut input, &1);
     assert!(rt; matches!(&read, Ok(read) if *read == proof) && input.is_empty());

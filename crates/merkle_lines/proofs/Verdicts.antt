@@ -4,7 +4,7 @@ use Rattle.std.specs.Prelude.{◌↔◌, ◌==◌, IsTrue, codes}
 use Rattle.merkle_base.specs.Scheme.{Scheme}
 use Rattle.merkle_base.specs.declared.error.DecodeError.{DecodeError}
 use Rattle.merkle_base.specs.declared.error.DecodeError.TheVariants.{EndOfBuffer, InvalidVarint, Invalid, TooMany, OutOfMemory}
-use Rattle.merkle_codec.specs.ProofSpelling.{parts_spelling, IsProofRefusal}
+use Rattle.merkle_codec.specs.ProofSpelling.{parts_spelling, IsProofReadRefusal}
 use Rattle.merkle_range.specs.Input.{range_input}
 use Rattle.merkle_root_theory.specs.Reconstruction.{reconstructed}
 use Rattle.merkle_lines.specs.Answers.{error_line, most_digests, IsRead, Says}
@@ -23,7 +23,7 @@ no_bytes (b ∷ bytes) false is none = absurd (search (rules, none))
 
 module _ {D : Type 0} (s : Scheme D) (size : ℕ) (Spells : List ℕ → Type 0) (a k : ℕ) (root : D) (bytes : List ℕ) (elements : List (List ℕ)) (text : List ℕ) where
   -- bytes that begin with no proof, or want of memory
-  pub unread : (e : DecodeError) → IsProofRefusal size Spells s.max_leaves (most_digests (length elements)) bytes e → text ≡ error_line (decode_error_name e)
+  pub unread : (e : DecodeError) → IsProofReadRefusal size Spells s.max_leaves (most_digests (length elements)) bytes e → text ≡ error_line (decode_error_name e)
       → IsRead s size Spells a k root bytes elements text ⊎ (text ≡ error_line (codes "OutOfMemory"))
   unread EndOfBuffer r t = inl (inl (EndOfBuffer, (λ e. search (rules, e)), r, t))
   unread InvalidVarint r t = inl (inl (InvalidVarint, (λ e. search (rules, e)), r, t))

@@ -12,7 +12,7 @@ use Rattle.merkle_base.specs.declared.error.DecodeError.{DecodeError}
 use Rattle.merkle_base.specs.declared.error.DecodeError.TheVariants.{OutOfMemory}
 use Rattle.merkle_batch_theory.specs.Contents.{is_kept}
 use Rattle.merkle_batch_theory.specs.Needed.{IsNeeded}
-use Rattle.merkle_codec.specs.ProofSpelling.{parts_spelling, IsProofRefusal}
+use Rattle.merkle_codec.specs.ProofSpelling.{parts_spelling, IsProofReadRefusal}
 use Rattle.merkle_commands.specs.Commands.{optional_words}
 use Rattle.merkle_commands.specs.declared.command.Request.{Request}
 use Rattle.merkle_commands.specs.declared.command.Request.TheVariants.{Add, Update, Commit, Prune, Root, Prove, Check}
@@ -122,7 +122,7 @@ IsVerdict {D} s a inactive root proof elements text =
 abbrev pub IsRead : {D : Type 0} → Scheme D → (size : ℕ) → (Spells : List ℕ → Type 0) → (a inactive : ℕ) → (root : D) → (proof : List ℕ)
     → List (List ℕ) → List ℕ → Type 0
 IsRead s size Spells a inactive root proof elements text =
-    ((e : DecodeError) × (e ≢ OutOfMemory) × IsProofRefusal size Spells s.max_leaves (most_digests (length elements)) proof e
+    ((e : DecodeError) × (e ≢ OutOfMemory) × IsProofReadRefusal size Spells s.max_leaves (most_digests (length elements)) proof e
     × (text ≡ error_line (decode_error_name e)))
     ⊎ IsVerdict s a inactive root proof elements text
 

@@ -4,6 +4,7 @@ use crate::world::World;
 use merkle_core::family::Family;
 use merkle_core::hasher::Hasher;
 use merkle_core::location::Location;
+use rows_checks::bytes::written_proved;
 use rows_checks::pinned::pinned_ranges_proved;
 use rows_checks::ranges::{leaves_proved, proves_leaf, ranges_proved, slices};
 use rows_checks::stores::parts_proved;
@@ -68,6 +69,16 @@ impl<F: Family, H: Hasher<F> + Drop> World<F, H> {
         let list = elements(self.alloc, word(words, 2))?;
         let most = number(words, 3)?;
         let proved = subsets_proved(self.alloc, &self.hasher, structure, list.as_slice(), most);
+        write_proved(answer, proved);
+        Ok(())
+    }
+
+    // Proves each range by the bytes of its proof for each number of inactive peaks, and counts the proofs.
+    pub fn prove_written(&self, words: &[&str], answer: &mut Answer) -> Result<(), Refusal> {
+        let structure = named(&self.structures, word(words, 1))?;
+        let list = elements(self.alloc, word(words, 2))?;
+        let all = slices(self.alloc, list.as_slice())?;
+        let proved = written_proved(self.alloc, &self.hasher, structure, &all);
         write_proved(answer, proved);
         Ok(())
     }

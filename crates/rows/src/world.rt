@@ -160,6 +160,7 @@ impl<F: Family, H: Hasher<F> + Drop> World<F, H> {
             ProofCall::ProvePins => self.prove_pins(words, answer),
             ProofCall::ProveRanges => self.prove_ranges(words, answer),
             ProofCall::ProveSubsets => self.prove_subsets(words, answer),
+            ProofCall::ProveWritten => self.prove_written(words, answer),
             ProofCall::Range => self.range(words, answer),
             ProofCall::RangeOver => self.range_over(words, answer),
             ProofCall::Reconstruct => self.reconstruct(words, answer),

@@ -1,6 +1,7 @@
 //! Checks of proofs that the program `rows` makes, one by one and of all of a structure's leaves.
 #![tactic(auto)]
 
+pub mod bytes;
 pub mod changes;
 pub mod pinned;
 pub mod ranges;

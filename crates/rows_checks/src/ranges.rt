@@ -79,7 +79,7 @@ fn count_leaves<F: Family, H: Hasher<F>>(
     proved
 }
 
-//// Whether the proof of a leaf, for a number of inactive peaks, has that count and the structure's, and is accepted with
+/// Whether the proof of a leaf, for a number of inactive peaks, has that count and the structure's, and is accepted with
 /// the element and refused with another.
 pub fn proves_leaf<F: Family, H: Hasher<F>>(
     alloc: Global,

@@ -94,6 +94,7 @@ pub enum ProofCall {
     ProvePins,
     ProveRanges,
     ProveSubsets,
+    ProveWritten,
     Range,
     RangeOver,
     Reconstruct,
@@ -169,7 +170,7 @@ const LEAF_CALLS: [(&str, usize, LeafCall); 9] = [
     ("update_list", 3, LeafCall::UpdateList),
 ];
 
-const PROOF_CALLS: [(&str, usize, ProofCall); 23] = [
+const PROOF_CALLS: [(&str, usize, ProofCall); 24] = [
     ("check", 7, ProofCall::Check),
     ("check_leaf", 7, ProofCall::CheckLeaf),
     ("check_multi", 6, ProofCall::CheckMulti),
@@ -190,6 +191,7 @@ const PROOF_CALLS: [(&str, usize, ProofCall); 23] = [
     ("prove_pins", 3, ProofCall::ProvePins),
     ("prove_ranges", 3, ProofCall::ProveRanges),
     ("prove_subsets", 4, ProofCall::ProveSubsets),
+    ("prove_written", 3, ProofCall::ProveWritten),
     ("range", 5, ProofCall::Range),
     ("range_over", 6, ProofCall::RangeOver),
     ("reconstruct", 6, ProofCall::Reconstruct),

@@ -2,7 +2,7 @@ use Rattle.std.proofs.Common.{◌≡◌, ◌≢◌, ℕ, [], Vec, Global, map, l
 use Rattle.std.specs.Prelude.{◌↔◌, IsTrue}
 use Rattle.std.proofs.lemmas.List.{length-map}
 use Rattle.merkle_base.specs.Scheme.{scheme_of}
-use Rattle.merkle_codec.specs.ProofSpelling.{IsProofRefusal}
+use Rattle.merkle_codec.specs.ProofSpelling.{IsProofReadRefusal}
 use Rattle.merkle_hasher.specs.Standard.{standard}
 use Rattle.merkle_range.specs.Input.{range_input}
 use Rattle.merkle_root_theory.specs.Reconstruction.{reconstructed}
@@ -16,7 +16,7 @@ returns-in-Err-read g c =
     let counted : length (map (λ (bytes : Vec ℕ Global). bytes.items) c.args.elements.now) ≡ length c.args.elements.now = length-map c.args.elements.now _ in
     let most : c.saturating_mul-most.result ≡ most_digests (length (map (λ (bytes : Vec ℕ Global). bytes.items) c.args.elements.now)) = omega (arith, c.saturating_mul-most.ensures, counted) in
     unread (scheme_of (standard g.H.PlainHasher.digest_of g.H.Digest.Digest.bytes g.H.Digest.PartialEq.eq g.H.Digest.Digest.EMPTY) c.args.hasher.now g.F.Family.rule g.F.Family.MAX_LEAVES g.F.Family.DOMAIN) g.H.Digest.Digest.SIZE g.H.Digest.Digest.Spells c.args.start c.args.inactive c.args.root.now c.args.bytes.now (map (λ (bytes : Vec ℕ Global). bytes.items) c.args.elements.now) _ c.in-Err-read.error
-    (subst (λ n. IsProofRefusal g.H.Digest.Digest.SIZE g.H.Digest.Digest.Spells g.F.Family.MAX_LEAVES n c.args.bytes.now c.in-Err-read.error) most c.in-Err-read.ensures.refused) (ap error_line c.name-in-Err-read.ensures)
+    (subst (λ n. IsProofReadRefusal g.H.Digest.Digest.SIZE g.H.Digest.Digest.Spells g.F.Family.MAX_LEAVES n c.args.bytes.now c.in-Err-read.error) most c.in-Err-read.ensures.refused) (ap error_line c.name-in-Err-read.ensures)
 
 pub returns-then-proof-inactive : goal.returns-then-proof-inactive
 returns-then-proof-inactive g c =

@@ -1,0 +1,172 @@
+//! How many of a structure's ranges have proofs that are accepted as they are written, and refused with a change.
+
+use crate::{MOST_PEAKS, granted};
+use merkle_core::codec::{Read, Write};
+use merkle_core::digest::Digest;
+use merkle_core::error::DecodeError;
+use merkle_core::family::Family;
+use merkle_core::hasher::Hasher;
+use merkle_core::location::Location;
+use merkle_core::mem::Mem;
+use merkle_core::proof::{MAX_PROOF_DIGESTS_PER_ELEMENT, Proof};
+use rows_text::refusal::{OUT_OF_MEMORY, Refusal};
+use std::alloc::Global;
+
+/// The bits of a byte that are flipped: the lowest, and the one that says whether a number goes on.
+const FLIPS: [u8; 2] = [0x01, 0x80];
+
+/// How many ranges are proved by bytes, one after another for each number of inactive peaks.
+pub fn written_proved<F: Family, H: Hasher<F>>(
+    alloc: Global,
+    hasher: &H,
+    structure: &Mem<F, H::Digest>,
+    elements: &[&[u8]],
+) -> u64 {
+    let mut proved = 0u64;
+    for inactive in 0..=MOST_PEAKS {
+        let found = count_written(alloc, hasher, structure, elements, inactive);
+        proved = proved.saturating_add(found);
+    }
+    proved
+}
+
+// How many ranges are proved by bytes for a number of inactive peaks.
+fn count_written<F: Family, H: Hasher<F>>(
+    alloc: Global,
+    hasher: &H,
+    structure: &Mem<F, H::Digest>,
+    elements: &[&[u8]],
+    inactive: usize,
+) -> u64 {
+    let mut proved = 0u64;
+    for start in 0..elements.len() {
+        let found = &elements[start..];
+        let more = count_written_from(alloc, hasher, structure, found, start, inactive);
+        proved = proved.saturating_add(more);
+    }
+    proved
+}
+
+// How many of the ranges from a location on are proved by bytes, each with the first so many of the elements.
+fn count_written_from<F: Family, H: Hasher<F>>(
+    alloc: Global,
+    hasher: &H,
+    structure: &Mem<F, H::Digest>,
+    elements: &[&[u8]],
+    start: usize,
+    inactive: usize,
+) -> u64 {
+    let mut proved = 0u64;
+    for count in 1..=elements.len() {
+        let found = &elements[..count];
+        if let Ok(true) = proves_written(alloc, hasher, structure, found, start, inactive) {
+            proved = proved.saturating_add(1);
+        }
+    }
+    proved
+}
+
+// Whether the bytes of a range's proof are accepted, and refused with a bit flipped, cut anywhere, or with a byte more.
+fn proves_written<F: Family, H: Hasher<F>>(
+    alloc: Global,
+    hasher: &H,
+    structure: &Mem<F, H::Digest>,
+    elements: &[&[u8]],
+    start: usize,
+    inactive: usize,
+) -> Result<bool, Refusal> {
+    let first = Location::from(start);
+    let end = Location::from(start.saturating_add(elements.len()));
+    let root = granted!(structure.root(hasher, inactive));
+    let proof = granted!(structure.range_proof(hasher, first..end, inactive));
+    let mut bytes = Vec::new(alloc);
+    if proof.write(&mut bytes).is_err() {
+        return Err(OUT_OF_MEMORY);
+    }
+    let mut written = Written {
+        alloc,
+        elements,
+        start: first,
+        root,
+        bytes,
+    };
+    Ok(
+        written.is_accepted(hasher)?
+            && written.is_refused_flipped(hasher)?
+            && written.is_refused_cut()
+            && written.is_refused_longer(hasher)?,
+    )
+}
+
+// The bytes of a proof, with the elements from a location on and a root.
+#[derive(Drop)]
+struct Written<'a, F: Family, D: Digest> {
+    alloc: Global,
+    elements: &'a [&'a [u8]],
+    start: Location<F>,
+    root: D,
+    bytes: Vec<u8>,
+}
+
+impl<'a, F: Family, D: Digest> Written<'a, F, D> {
+    // Whether the bytes are a proof and nothing more, which is accepted.
+    fn is_accepted<H: Hasher<F, Digest = D>>(&self, hasher: &H) -> Result<bool, Refusal> {
+        let most = MAX_PROOF_DIGESTS_PER_ELEMENT.saturating_mul(self.elements.len());
+        let mut rest = self.bytes.as_slice();
+        let proof: Proof<F, D> = match Proof::read(self.alloc, &mut rest, &most) {
+            Ok(proof) => proof,
+            Err(DecodeError::OutOfMemory) => return Err(OUT_OF_MEMORY),
+            Err(_) => return Ok(false),
+        };
+        if !rest.is_empty() {
+            return Ok(false);
+        }
+        let checked = proof.verify_range_inclusion(hasher, self.elements, self.start, &self.root);
+        checked.ok().ok_or(OUT_OF_MEMORY)
+    }
+
+    // Whether they are refused with one bit flipped, whichever it is of those of any byte.
+    fn is_refused_flipped<H: Hasher<F, Digest = D>>(
+        &mut self,
+        hasher: &H,
+    ) -> Result<bool, Refusal> {
+        for index in 0..self.bytes.len() {
+            for flip in FLIPS {
+                self.flip(index, flip);
+                if self.is_accepted(hasher)? {
+                    return Ok(false);
+                }
+                self.flip(index, flip);
+            }
+        }
+        Ok(true)
+    }
+
+    fn flip(&mut self, index: usize, flip: u8) {
+        if let Some(byte) = self.bytes.get_mut(index) {
+            *byte ^= flip;
+        }
+    }
+
+    // Whether no proof is read where they are cut, wherever that is.
+    fn is_refused_cut(&self) -> bool {
+        for length in 0..self.bytes.len() {
+            let mut cut = &self.bytes.as_slice()[..length];
+            let read: Result<Proof<F, D>, DecodeError> = Proof::read(
+                self.alloc,
+                &mut cut,
+                &usize::MAX,
+            );
+            if !matches!(read, Err(DecodeError::EndOfBuffer)) {
+                return false;
+            }
+        }
+        true
+    }
+
+    // Whether they are refused with one byte more.
+    fn is_refused_longer<H: Hasher<F, Digest = D>>(&mut self, hasher: &H) -> Result<bool, Refusal> {
+        self.bytes.push(0)?;
+        Ok(!self.is_accepted(hasher)?)
+    }
+}
