@@ -30,7 +30,7 @@ pub(crate) fn lay<F: Family, D: Digest>(held: &mut HeldNodes<F, D>, change: &Rec
     ensures start { held.new.start ≡ held.old.start }
     ensures size { held.new.size ≡ held.old.size + length change.now.appended }
     ensures capacity { held.new.capacity ≡ held.old.capacity }
-    ensures with_record { (b : ℕ) → held_contents b held.new ≡ with_record change.now (held_contents b held.old) }
+    ensures replayed { (b : ℕ) → held_contents b held.new ≡ with_record change.now (held_contents b held.old) }
 {
     replace_all(held, &change.overwrites);
     held.append(&change.appended);
@@ -45,7 +45,7 @@ pub(crate) fn lay_all<F: Family, D: Digest>(
     ensures start { held.new.start ≡ held.old.start }
     ensures size { held.new.size ≡ held.old.size + total_appended (map (λ r. r.value) changes.now) }
     ensures capacity { held.new.capacity ≡ held.old.capacity }
-    ensures with_record { (b : ℕ) → held_contents b held.new ≡ with_records (map (λ r. r.value) changes.now) (held_contents b held.old) }
+    ensures replayed { (b : ℕ) → held_contents b held.new ≡ with_records (map (λ r. r.value) changes.now) (held_contents b held.old) }
 {
     for change in changes {
         lay(held, change);

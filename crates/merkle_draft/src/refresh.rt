@@ -89,7 +89,7 @@ impl<F: Family, D: Digest> Draft<F, D> {
         ensures computed { let under = below self.old (B.contents base.now) in let peaks = peaks_of F.rule leaves in
             OnOk result ((m : ℕ → Option D) → updates.now ≡ flat_map (dirty_leaves m) peaks → (p : ℕ)
             → get self.new.overwritten p ≡ option_or (all_computed_at (H.hashing hasher.now) m under peaks p) (get self.old.overwritten p)) }
-        ensures dirty_digest { OnOk result ((m : ℕ → Option D) → updates.now ≡ flat_map (dirty_leaves m) (peaks_of F.rule leaves)
+        ensures dirty { OnOk result ((m : ℕ → Option D) → updates.now ≡ flat_map (dirty_leaves m) (peaks_of F.rule leaves)
             → HaveDirtyDigests (H.hashing hasher.now) m (below self.old (B.contents base.now)) (peaks_of F.rule leaves)) }
         ensures missing { IfErr result (λ e. e ≢ NodeError.OutOfMemory → (m : ℕ → Option D) → updates.now ≡ flat_map (dirty_leaves m) (peaks_of F.rule leaves)
             → LacksForOne m (below self.old (B.contents base.now)) (peaks_of F.rule leaves) e) }
@@ -129,7 +129,7 @@ impl<F: Family, D: Digest> Draft<F, D> {
         ensures computed { let under = below self.old (B.contents base.now) in
             OnOk result (let m = get {R = nat_cmp} (from_entries updates.now.entries) in (p : ℕ)
             → get self.new.overwritten p ≡ option_or (all_computed_at (H.hashing hasher.now) m under (peaks_of F.rule leaves) p) (m p)) }
-        ensures dirty_digest { let m = get {R = nat_cmp} (from_entries updates.now.entries) in
+        ensures dirty { let m = get {R = nat_cmp} (from_entries updates.now.entries) in
             OnOk result (HaveDirtyDigests (H.hashing hasher.now) m (below self.old (B.contents base.now)) (peaks_of F.rule leaves)) }
         ensures missing { IfErr result (λ e. e ≢ NodeError.OutOfMemory
             → LacksForOne (get {R = nat_cmp} (from_entries updates.now.entries)) (below self.old (B.contents base.now)) (peaks_of F.rule leaves) e) }

@@ -5,8 +5,8 @@ use Rattle.merkle_batch_theory.specs.Replay.{overwritten_by}
 use Rattle.merkle_batch_theory.proofs.RecordFacts.{with_record_by}
 use Rattle.merkle_core.proofs.replay.lay.Goals as goal
 
-pub returns-clause-laid : goal.returns-clause-laid
-returns-clause-laid g c = λ b.
+pub returns-clause-replayed : goal.returns-clause-replayed
+returns-clause-replayed g c = λ b.
     let mid = c.replace_all.new.held in
     let appended : c.deref.result.now ≡ c.args.change.now.appended = c.deref.ensures.value ∙ ap (λ r. r.appended) c.change.view_is in
     with_record_by b c.args.held.now mid c.append.new.self c.args.change.now c.replace_all.ensures.size

@@ -22,5 +22,5 @@ loop-change-preserved g c =
       c.lay.ensures.capacity ∙ c.loop-change.invariant.1,
       omega (arith, c.loop-change.invariant.2, ap total_appended here, alike, c.lay.ensures.size),
       (λ b. all_step (drop i rs) (drop (i + 1) rs) c.change-item.result.value (held_contents b c.loop-change.held) (held_contents b c.lay.new.held) _ here
-          (c.lay.ensures.laid b ∙ ap (λ r. with_record r (held_contents b c.loop-change.held)) c.deref.ensures) (c.loop-change.invariant.3 b)),
+          (c.lay.ensures.replayed b ∙ ap (λ r. with_record r (held_contents b c.loop-change.held)) c.deref.ensures) (c.loop-change.invariant.3 b)),
     )

@@ -67,7 +67,7 @@ returns-in_err-append_leaves-clause-refused g c =
     let gap = c.in_err-append_leaves.field-0.0 in
     let p = err_from_is_err_and c.from_residual-in_err-append_leaves.result c.from_residual-in_err-append_leaves.ensures.1 in
     let q = named_refused rule c.args.self.now base gap (λ other. subst (λ s. NamesMissing rule s base gap) c.self.view_is
-    (append_missing h rule max b c.self.invariant base d0 d1 d2 k0 b0 c.refresh_leaves.ensures.only c.append_leaves.ensures.only c.in_ok-refresh_leaves.ensures.computed c.in_ok-refresh_leaves.ensures.refreshed gap
+    (append_missing h rule max b c.self.invariant base d0 d1 d2 k0 b0 c.refresh_leaves.ensures.only c.append_leaves.ensures.only c.in_ok-refresh_leaves.ensures.computed c.in_ok-refresh_leaves.ensures.dirty gap
     (subst (λ xs. LacksChild rule max d1.before (size rule (c.self.inside.leaves_before + length xs)) d1.before (old_node d1 base) gap) c.deref-2.ensures.value (c.in_err-append_leaves.ensures.missing other)))) in
     rw p.1 (subst (λ e. (e ≡ error.OutOfMemory) ⊎ ((t : Tree) × (e ≡ error.MissingNode (position t)) × IsMissing rule c.args.self.now base t)) (sym p.2) q)
 
@@ -87,7 +87,7 @@ returns-in_err-append_leaves-clause-granted g c = λ k ls stands agrees above.
     let gap = c.in_err-append_leaves.field-0.0 in
     let p = err_from_is_err_and c.from_residual-in_err-append_leaves.result c.from_residual-in_err-append_leaves.ensures.1 in
     let q = named_given rule c.args.self.now base gap (λ other. subst (λ s. NamesMissing rule s base gap) c.self.view_is
-    (append_missing h rule max b c.self.invariant base d0 d1 d2 k0 b0 c.refresh_leaves.ensures.only c.append_leaves.ensures.only c.in_ok-refresh_leaves.ensures.computed c.in_ok-refresh_leaves.ensures.refreshed gap
+    (append_missing h rule max b c.self.invariant base d0 d1 d2 k0 b0 c.refresh_leaves.ensures.only c.append_leaves.ensures.only c.in_ok-refresh_leaves.ensures.computed c.in_ok-refresh_leaves.ensures.dirty gap
     (subst (λ xs. LacksChild rule max d1.before (size rule (c.self.inside.leaves_before + length xs)) d1.before (old_node d1 base) gap) c.deref-2.ensures.value (c.in_err-append_leaves.ensures.missing other))))
     (list_given k rule max c.args.self.now pending ls stands base agrees above) in
     rw p.1 (p.2 ∙ q)
@@ -112,7 +112,7 @@ returns-in_err-read_peaks-clause-refused g c =
     let gap = c.in_err-read_peaks.field-0.0 in
     let p = err_from_is_err_and c.from_residual-in_err-read_peaks.result c.from_residual-in_err-read_peaks.ensures.1 in
     let q = named_refused rule c.args.self.now base gap (λ other. subst (λ s. NamesMissing rule s base gap) c.self.view_is
-    (peak_missing h rule max b c.self.invariant base d0 d1 d2 k0 b0 c.refresh_leaves.ensures.only c.append_leaves.ensures.only c.in_ok-refresh_leaves.ensures.computed c.in_ok-refresh_leaves.ensures.refreshed gap changed
+    (peak_missing h rule max b c.self.invariant base d0 d1 d2 k0 b0 c.refresh_leaves.ensures.only c.append_leaves.ensures.only c.in_ok-refresh_leaves.ensures.computed c.in_ok-refresh_leaves.ensures.dirty gap changed
     (subst (λ (n : ℕ). IsPeakGap rule n d2.before (old_node d2 base) gap) total (c.in_err-read_peaks.ensures.missing other)))) in
     rw p.1 (subst (λ e. (e ≡ error.OutOfMemory) ⊎ ((t : Tree) × (e ≡ error.MissingNode (position t)) × IsMissing rule c.args.self.now base t)) (sym p.2) q)
 
@@ -137,7 +137,7 @@ returns-in_err-read_peaks-clause-granted g c = λ k ls stands agrees above.
     let gap = c.in_err-read_peaks.field-0.0 in
     let p = err_from_is_err_and c.from_residual-in_err-read_peaks.result c.from_residual-in_err-read_peaks.ensures.1 in
     let q = named_given rule c.args.self.now base gap (λ other. subst (λ s. NamesMissing rule s base gap) c.self.view_is
-    (peak_missing h rule max b c.self.invariant base d0 d1 d2 k0 b0 c.refresh_leaves.ensures.only c.append_leaves.ensures.only c.in_ok-refresh_leaves.ensures.computed c.in_ok-refresh_leaves.ensures.refreshed gap changed
+    (peak_missing h rule max b c.self.invariant base d0 d1 d2 k0 b0 c.refresh_leaves.ensures.only c.append_leaves.ensures.only c.in_ok-refresh_leaves.ensures.computed c.in_ok-refresh_leaves.ensures.dirty gap changed
     (subst (λ (n : ℕ). IsPeakGap rule n d2.before (old_node d2 base) gap) total (c.in_err-read_peaks.ensures.missing other))))
     (list_given k rule max c.args.self.now pending ls stands base agrees above) in
     rw p.1 (p.2 ∙ q)
@@ -201,7 +201,7 @@ returns-clause-complete g c = λ t missing.
           λ changed. absurd (not_changed rule max b (nil_from_length c.self.inside.added.items none) (no_entry c.self.inside.updates.entries same) changed))
       | else-is_empty+in_ok-read_peaks+in_ok-peaks_after-2 w ↦ λ changed. subst (λ (n : ℕ). ArePeaksRead rule n d2.before (old_node d2 base)) total w.in_ok-read_peaks.ensures.read
     ] in
-    none_is_missing h rule max b c.self.invariant base d0 d1 d2 k0 b0 c.refresh_leaves.ensures.only c.append_leaves.ensures.only c.in_ok-refresh_leaves.ensures.computed c.in_ok-refresh_leaves.ensures.refreshed children peaks t
+    none_is_missing h rule max b c.self.invariant base d0 d1 d2 k0 b0 c.refresh_leaves.ensures.only c.append_leaves.ensures.only c.in_ok-refresh_leaves.ensures.computed c.in_ok-refresh_leaves.ensures.dirty children peaks t
     (subst (λ s. IsMissing rule s base t) (sym c.self.view_is) missing)
 
 pub returns-clause-stands : goal.returns-clause-stands
@@ -237,4 +237,4 @@ returns-clause-stands g c = λ ls stands agrees.
     let made : c.in_ok-finish.field-0.value ≡ finished b.parent d2 c.leaves-leaves.result pb pa = c.in_ok-finish.ensures ∙ ap (λ v. finished v d2 c.leaves-leaves.result pb pa) c.deref-5.ensures in
     subst (λ v. IsHistory h rule (records v) (kept_lists c.args.self.now ls ++ pending_list rule c.args.self.now (last_list ls) ∷ [])) (sym (made ∙ ap (λ s. finished s.parent d2 c.leaves-leaves.result pb pa) c.self.view_is))
     (subst (λ s. IsHistory h rule (records s.parent) ls → AgreesWithOne h rule base (kept_lists s ls) → IsHistory h rule (records (finished s.parent d2 c.leaves-leaves.result pb pa)) (kept_lists s ls ++ pending_list rule s (last_list ls) ∷ [])) c.self.view_is
-    (λ st ag. batch_stands h rule max b c.self.invariant base d0 d1 d2 k0 b0 c.refresh_leaves.ensures.only more c.in_ok-refresh_leaves.ensures.computed c.in_ok-refresh_leaves.ensures.refreshed ls st ag counted right c.leaves-leaves.result pb pa before peaks) stands agrees)
+    (λ st ag. batch_stands h rule max b c.self.invariant base d0 d1 d2 k0 b0 c.refresh_leaves.ensures.only more c.in_ok-refresh_leaves.ensures.computed c.in_ok-refresh_leaves.ensures.dirty ls st ag counted right c.leaves-leaves.result pb pa before peaks) stands agrees)

@@ -85,8 +85,8 @@ invariant_of-self-2 g c =
     i.boundary i.leaves i.held c.lay_all.new.held c.lay.new.held c.self.invariant (c.size.ensures ∙ sym (ap (λ s. s.size) c.self.view_is))
     (c.lay.ensures.start ∙ c.lay_all.ensures.start ∙ c.reserve.ensures.start)
     (omega (arith, c.lay_all.ensures.size, c.reserve.ensures.size)) (c.lay.ensures.size ∙ ap (λ (r : RecordModel _). c.lay_all.new.held.size + length r.appended) own)
-    (c.lay_all.ensures.laid i.boundary ∙ ap (with_records changes) reserved)
-    (c.lay.ensures.laid i.boundary ∙ ap (λ r. with_record r (held_contents i.boundary c.lay_all.new.held)) own))
+    (c.lay_all.ensures.replayed i.boundary ∙ ap (with_records changes) reserved)
+    (c.lay.ensures.replayed i.boundary ∙ ap (λ r. with_record r (held_contents i.boundary c.lay_all.new.held)) own))
 
 pub returns-clause-done : goal.returns-clause-done
 returns-clause-done g c =
@@ -104,8 +104,8 @@ returns-clause-done g c =
     (λ j. record { boundary = i.boundary; size = c.reserve.ensures.size j; node = get (c.reserve.ensures.stored j) }) ∙ ap contents c.self.view_is in
     applied_after rule most same c.args.batch.now linked (λ r. r.value) c.deref.result.now (ap (map (λ r. r.value)) c.deref.ensures.value ∙ ap (λ b. b.ancestors) c.batch.view_is) c.size.result c.in-Some.first c.front.result.now m
     c.args.self.now.leaves (contents c.args.self.now) (held_contents i.boundary c.lay_all.new.held) (held_contents i.boundary c.lay.new.held)
-    (c.lay_all.ensures.laid i.boundary ∙ ap (with_records changes) reserved)
-    (c.lay.ensures.laid i.boundary ∙ ap (λ r. with_record r (held_contents i.boundary c.lay_all.new.held)) own) at
+    (c.lay_all.ensures.replayed i.boundary ∙ ap (with_records changes) reserved)
+    (c.lay.ensures.replayed i.boundary ∙ ap (λ r. with_record r (held_contents i.boundary c.lay_all.new.held)) own) at
 
 pub returns-clause-counted : goal.returns-clause-counted
 returns-clause-counted g c = ap (λ b. b.leaves) c.batch.view_is

@@ -26,12 +26,12 @@ returns-clause-computed g c =
     leaves_computed (g.H.Hasher.hashing c.args.hasher.now) g.F.Family.rule c.args.leaves c.args.updates.now.entries c.deref.result.now c.requires.of c.into_iter-position-iterator.ensures.into_iter_gives.5 (c.deref.ensures.value ∙ all) (below c.args.self.now (g.B.Base.contents c.args.base.now)) _
     (λ k p. read_over (i.1 k) (g.B.Base.contents c.args.base.now) p) c.refresh_peaks.result c.loop-position.self-inside.overwrites c.refresh_peaks.new.self.overwritten (i.3 ∙ ap (λ z. from_entries z) (sym c.deref.ensures.value)) c.refresh_peaks.ensures.computed
 
-pub returns-clause-refreshed : goal.returns-clause-refreshed
-returns-clause-refreshed g c =
+pub returns-clause-dirty : goal.returns-clause-dirty
+returns-clause-dirty g c =
     let i = c.loop-position.invariant in
     let all = entries_all c.loop-position.list.items c.loop-position.position-iterator c.args.updates.now.entries c.in-None.ensures.steps.0 i.4 in
     leaves_dirty_digest (g.H.Hasher.hashing c.args.hasher.now) g.F.Family.rule c.args.leaves c.args.updates.now.entries c.deref.result.now c.requires.of c.into_iter-position-iterator.ensures.into_iter_gives.5 (c.deref.ensures.value ∙ all) (below c.args.self.now (g.B.Base.contents c.args.base.now)) _
-    (λ k p. read_over (i.1 k) (g.B.Base.contents c.args.base.now) p) c.refresh_peaks.result c.refresh_peaks.ensures.refreshed
+    (λ k p. read_over (i.1 k) (g.B.Base.contents c.args.base.now) p) c.refresh_peaks.result c.refresh_peaks.ensures.dirty
 
 pub returns-clause-missing : goal.returns-clause-missing
 returns-clause-missing g c =

@@ -84,8 +84,8 @@ returns-clause-computed g c =
     walk_computed (g.H.Hasher.hashing c.args.hasher.now) g.F.Family.rule g.F.Family.MAX_LEAVES c.args.leaves (below c.args.self.now (g.B.Base.contents c.args.base.now)) c.args.updates.now c.args.self.now.overwritten
     _ _ _ _ c.loop-position.invariant.3 y.0
 
-pub returns-clause-refreshed : goal.returns-clause-refreshed
-returns-clause-refreshed g c =
+pub returns-clause-dirty : goal.returns-clause-dirty
+returns-clause-dirty g c =
     let y = g.met.F.Peaks.Listed.gives_first _ _ _ c.in-None.ensures.steps in
     walk_dirty_digest (g.H.Hasher.hashing c.args.hasher.now) g.F.Family.rule g.F.Family.MAX_LEAVES c.args.leaves (below c.args.self.now (g.B.Base.contents c.args.base.now)) c.args.updates.now c.args.self.now.overwritten
     _ _ _ _ c.loop-position.invariant.3 y.0
