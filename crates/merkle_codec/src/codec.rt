@@ -54,7 +54,8 @@ pub trait Write: EncodeSize {
     ///
     /// # Errors
     ///
-    /// - `OutOfMemory` if `out` has no room for the encoding and a memory request is refused
+    /// - `OutOfMemory` if `out` has no room for the encoding and gets none, because a memory
+    ///   request is refused or the encoding does not fit a `usize`
     ///
     /// The contents of `out` are unchanged on error.
     fn write(&self, out: &mut Vec<u8>) -> Result<(), OutOfMemory>

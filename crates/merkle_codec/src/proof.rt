@@ -149,7 +149,8 @@ impl<F: Family, D: Digest> Write for Proof<F, D> {
     ///
     /// # Errors
     ///
-    /// - `OutOfMemory` if `out` has no room for the encoding and a memory request is refused
+    /// - `OutOfMemory` if `out` has no room for the encoding and gets none, because a memory
+    ///   request is refused or the encoding does not fit a `usize`
     ///
     /// The contents of `out` are unchanged on error.
     fn write(&self, out: &mut Vec<u8>) -> Result<(), OutOfMemory> {
