@@ -57,8 +57,8 @@ impl<F: Family> Groups<F> {
 
     /// Groups the peaks of a structure with `leaves` leaves by where they are relative to `range`.
     ///
-    /// Requires `leaves` to be at most [`MAX_LEAVES`](Family::MAX_LEAVES). Fails only if a memory
-    /// request is refused.
+    /// Requires `range` to have a leaf and `leaves` to be at most
+    /// [`MAX_LEAVES`](Family::MAX_LEAVES). Fails only if a memory request is refused.
     pub fn of_peaks(
         alloc: Global,
         leaves: Location<F>,
