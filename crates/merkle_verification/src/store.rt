@@ -329,7 +329,7 @@ impl<F: Family, D: Digest> ProofStore<F, D> {
             (r : RangeInput D) (root : D) → self.now ≡ store_of s r root → AcceptsNonempty s r root → range.start < range.end
             → r.start ≤ range.start → range.end ≤ end_of r → IfErr result (λ e. e ≡ Error.OutOfMemory) }
 
-        // And the check accepts what is answered.
+        // And the check accepts what it returns.
         ensures accepted { let s = H.scheme hasher.now in
             (r : RangeInput D) (root : D) → self.now ≡ store_of s r root → AcceptsNonempty s r root
             → r.start ≤ range.start → range.end ≤ end_of r → IfOk result (λ p. AcceptsNonempty s (part_input p r range.start range.end) root) }
