@@ -126,7 +126,6 @@ fn prove_plan<R: Readable, H: Hasher<R::Family, Digest = R::Digest>>(
 ) -> Result<Proof<R::Family, R::Digest>, Error<R::Family>>
     requires small { plan.leaves ≤ R.Family.MAX_LEAVES }
     ensures built { let s = H.scheme hasher.now in IfOk result (λ p. IsBuiltProof s (R.node reader.now) inactive plan p) }
-    /// It is the honest proof of every list that the reader shows.
     ensures honest { let s = H.scheme hasher.now in
         (X : List R.Digest) → Shows (H.hashing hasher.now) R.Family.rule (R.size reader.now) (R.node reader.now) X → plan.leaves ≤ length X
         → IfOk result (λ p. IsHonestRange s (take plan.leaves X) inactive (list_input p (take plan.leaves X) plan.start plan.end)) }
