@@ -178,7 +178,8 @@ pub enum DecodeError {
     #[error("invalid varint")]
     InvalidVarint,
     /// A number exceeds the limit of its type, the first byte of an option is neither `00` nor
-    /// `01`, or the bytes of a digest are not those of any.
+    /// `01`, the bytes of a digest are not those of any, or a digest is given for a pending chunk
+    /// of a family that has none.
     #[error("invalid value")]
     Invalid,
     /// The number of digests exceeds the limit that the caller gave.

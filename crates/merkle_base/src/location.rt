@@ -112,7 +112,7 @@ pub trait LocationRangeExt {
 
     ghost end_of: { Self → ℕ };
 
-    /// Returns the range with both ends as `usize`, which is as wide as a location.
+    /// Returns the range with both ends as `usize`, which they fit.
     fn to_usize_range(&self) -> Range<usize>
         ensures start { result.start ≡ start_of self.now }
         ensures end { result.end ≡ end_of self.now };

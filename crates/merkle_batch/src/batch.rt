@@ -191,8 +191,8 @@ impl<F: Family, D: Digest> UnmerkleizedBatch<F, D> {
     ///
     /// # Errors
     ///
-    /// - `LocationOverflow` of [`MAX_LEAVES`](Family::MAX_LEAVES) if the batch would have more
-    ///   leaves than that
+    /// - `LocationOverflow` of [`MAX_LEAVES`](Family::MAX_LEAVES) if the batch would have more than
+    ///   that many leaves
     /// - `OutOfMemory` if a memory request is refused
     ///
     /// On error the batch is lost and the parent is unchanged.

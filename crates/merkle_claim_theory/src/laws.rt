@@ -320,7 +320,7 @@ pub fn range_checks<D>()
     // The inputs that lead to a root without an error are those that are accepted against it.
     ensures leads { LeadsIsAccepted D }
 
-    // The check is one comparison.
+    // The check is one test.
     ensures decides { CheckDecides D }
 
     // What is extracted are nodes of the list.

@@ -32,7 +32,7 @@ use std::alloc::Global;
 ///
 /// A value has exactly one encoding, and no encoding is a prefix of that of a different value.
 pub trait EncodeSize {
-    // the bytes that spell the value
+    // the bytes of the encoding
     ghost spelling: { Self → List ℕ };
 
     // equality of values, wherever they lie in memory
@@ -66,18 +66,18 @@ pub trait Write: EncodeSize {
 
 /// A value that can be decoded from the front of a byte slice.
 ///
-/// An implementation states which values are `within` a limit, and which errors it `refuses` which
-/// bytes with. By the laws of this trait, bytes that are refused encode no value within the limit.
-/// But they hold also for an implementation that refuses everything: they say nothing if no value
-/// is within the limit, or if the error is `OutOfMemory`. So a type without a limit must have all
-/// values within, and a type that requests no memory must never return `OutOfMemory`.
+/// An implementation states which values are `within` a limit, and which bytes it `refuses` with
+/// which error. The laws of this trait say that bytes that are refused encode no value within the
+/// limit. They also hold for an implementation that refuses everything: they say nothing if no
+/// value is within the limit, or if the error is `OutOfMemory`. So every type without a limit has
+/// all values within, and every type that requests no memory never returns `OutOfMemory`.
 pub trait Read: Sized {
     ghost use Rattle.merkle_base.specs.declared.error.DecodeError.{DecodeError};
 
     /// Limits the values that are decoded; `()` for a type without a limit.
     type Cfg;
 
-    // the bytes that spell the value
+    // the bytes of the encoding
     ghost spelled_by: { Self → List ℕ };
 
     // the values that are decoded under a limit

@@ -30,7 +30,7 @@ pub fn is_hex_word(word: &str) -> bool
     word.len() % 2 == 0 && word.as_bytes().iter().all(|byte| is_digit(*byte))
 }
 
-/// Decodes the bytes of a word, two digits for each byte.
+/// Decodes the bytes of a word, two digits for each byte. The empty word has no bytes.
 ///
 /// # Errors
 ///

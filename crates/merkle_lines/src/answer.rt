@@ -44,9 +44,9 @@ impl fmt::Display for Answer {
     }
 }
 
-// Unwraps a result; on an error, returns its name as the answer of the calling function. This
-// cannot be `?`, since that passes the error to `From::from`, and the check has no rule for a call
-// that takes an `Error` by value.
+// Unwraps a result; on an error, the calling function returns the name of the error as its answer.
+// This cannot be `?`, since that passes the error to `From::from`, and the check has no rule for a
+// call that takes an `Error` by value.
 macro_rules! or_fault {
     ($result:expr) => {
         match $result {

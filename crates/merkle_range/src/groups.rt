@@ -58,7 +58,11 @@ impl<F: Family> Groups<F> {
     /// Groups the peaks of a structure with `leaves` leaves by where they are relative to `range`.
     ///
     /// Requires `range` to have a leaf and `leaves` to be at most
-    /// [`MAX_LEAVES`](Family::MAX_LEAVES). Fails only if a memory request is refused.
+    /// [`MAX_LEAVES`](Family::MAX_LEAVES).
+    ///
+    /// # Errors
+    ///
+    /// - `AllocError` if a memory request is refused
     pub fn of_peaks(
         alloc: Global,
         leaves: Location<F>,
@@ -128,7 +132,11 @@ impl<F: Family> Groups<F> {
     /// the range, the peaks after it, and the maximal nodes outside it below the peaks that overlap
     /// it, left to right.
     ///
-    /// Fails only if a memory request is refused.
+    /// Requires `range` to be the one that the peaks were grouped by.
+    ///
+    /// # Errors
+    ///
+    /// - `AllocError` if a memory request is refused
     pub fn into_reads(self, range: &Range<Location<F>>) -> Result<Vec<Position<F>>, AllocError>
         requires some { range.now.start < range.now.end }
         requires groups { (n : ℕ) × (n ≤ F.MAX_LEAVES) × HoldsGroups range.now.start range.now.end self (peaks_of F.rule n) }
