@@ -80,8 +80,8 @@ pub trait Hasher<F: Family>: Clone {
     /// With [`Bagging::BackwardFold`] the first `to_fold` peaks are folded left to right and the
     /// rest right to left; with [`Bagging::ForwardFold`] all are folded left to right. `committed`
     /// is the number of inactive peaks that is hashed into the root. [`root`](Hasher::root) passes
-    /// the same number for both; they differ where a digest already stands for several inactive
-    /// peaks.
+    /// the same number for both; they differ if one of the digests is already the fold of several
+    /// inactive peaks.
     final fn root_with_folded_peaks(
         &self,
         leaves: Location<F>,
