@@ -1,4 +1,4 @@
-//! The program `merkle`: commands on standard input, one answer line for each.
+//! The program `merkle`: commands on standard input, one line of answer for each.
 #![tactic(auto)]
 
 ghost use Rattle.std.specs.Prelude.{◌≡◌, cond};
@@ -9,7 +9,7 @@ use merkle_lines::run::{RunError, run};
 use std::io::{self, BufWriter};
 use std::process::ExitCode;
 
-// What the program ends with: success where every line was answered.
+// Returns the exit status: success if every line was answered.
 fn exit_code(answered: &Result<(), RunError>) -> ExitCode
     ensures { exit_status result ≡ cond (is_ok answered.now) 0 1 }
 {
@@ -26,7 +26,7 @@ fn main(rt: HostRuntime) -> ExitCode {
         Err(_) => Err(RunError::OutOfMemory),
     };
     if let Err(error) = &answered {
-        // Where this fails too, nothing is left to tell.
+        // If this fails too, there is no way left to report the error.
         let _ = rt.eprintln(error);
     }
     exit_code(&answered)

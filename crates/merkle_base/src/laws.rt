@@ -1,4 +1,4 @@
-//! What holds of every forest: the theory that the layers above rest on.
+//! Laws of every forest: the theory that the layers above build on.
 //!
 //! Each function is empty. Its contract is a law of the definitions in `specs/`.
 ghost use Rattle.std.specs.Prelude.{◌≡◌, ℕ, suc, ◌+◌, ◌*◌, ◌^◌, ◌<◌, ◌≤◌, List, [], ◌∷◌, ◌++◌, map, reverse, length, slice_get, Some};
@@ -11,12 +11,12 @@ ghost use Rattle.merkle_base.specs.Held.{ChildrenHeld};
 ghost use Rattle.merkle_base.specs.Places.{placed};
 ghost use Rattle.merkle_base.specs.Grafting.{nodes_inside, stretch_nodes, AreCoordinates};
 
-/// What holds of every forest, under any rule.
+/// Laws of every forest, under any merge rule.
 pub fn every_forest()
     ensures grown { (rule : List ℕ → List ℕ) → (n : ℕ) → IsGrown n (forest rule n) }
 
-    // A node and all under it stand at their positions, children before parents, with the leaves of a right child right
-    // after those of the left one.
+    // A node and all nodes below it are at their positions, children before parents, and the leaves
+    // of a right child follow those of the left one.
     ensures built { (rule : List ℕ → List ℕ) → (n p : ℕ) → (t : Tree) → slice_get (forest rule n).nodes p ≡ Some t → IsBuilt (forest rule n).nodes t }
 
     // A node keeps its position, and with it its height, children and span, in every larger forest.
@@ -33,7 +33,7 @@ pub fn every_forest()
         × ((j : ℕ) → (b : Tree) → slice_get (forest rule n).peaks j ≡ Some b → IsUnder t b → i ≡ j) }
 {}
 
-/// What holds under a lawful rule, up to its greatest leaf count.
+/// Laws of forests under a lawful rule, up to its greatest leaf count.
 pub fn lawful_forest()
     ensures counts { (rule : List ℕ → List ℕ) → (max_leaves max_nodes : ℕ) → IsLawful rule max_leaves max_nodes → (n p : ℕ) → (t : Tree) → n ≤ max_leaves
         → slice_get (forest rule n).nodes p ≡ Some t → width t ≡ 2 ^ height t }
@@ -46,7 +46,7 @@ pub fn lawful_forest()
         → slice_get (forest rule n).nodes p ≡ Some t → (height t < 63) × (p < max_nodes) }
 {}
 
-/// What a structure that dropped the nodes of its oldest leaves still has, under any rule.
+/// What a structure still has after the nodes of its oldest leaves were dropped, under any rule.
 pub fn pruned_forest()
     ensures held { (rule : List ℕ → List ℕ) → (b n p : ℕ) → (t : Tree) → b ≤ n → slice_get (forest rule n).nodes p ≡ Some t → size rule b ≤ p
         → ChildrenHeld (size rule b) (forest rule b).peaks t }
@@ -56,13 +56,14 @@ pub fn pruned_forest()
         × (k < first_leaf t + width t) }
 {}
 
-/// What stands over a stretch of leaves.
+/// Laws of the nodes over an aligned range of leaves.
 pub fn grafted_forest()
-    // Over a node's own leaves that node is the only maximal one, under any rule.
+    // Over the leaves of a node, that node is the only maximal one, under any rule.
     ensures own { (rule : List ℕ → List ℕ) → (n p : ℕ) → (t : Tree) → slice_get (forest rule n).nodes p ≡ Some t
         → nodes_inside rule n (first_leaf t) (end_leaf t) ≡ t ∷ [] }
 
-    // Under a lawful rule whose nodes are told by formulas, the formulas tell the maximal nodes inside a stretch.
+    // Under a lawful rule whose nodes are given by formulas, the formulas give the maximal nodes
+    // inside an aligned range of leaves.
     ensures stretch { (rule : List ℕ → List ℕ) → (max_leaves max_nodes : ℕ) → IsLawful rule max_leaves max_nodes → (root birth : ℕ → ℕ → ℕ)
         → AreCoordinates rule max_leaves root birth
         → (n s a h : ℕ) → n ≤ max_leaves → s ≡ a * 2 ^ h → s + 2 ^ h ≤ n → map placed (nodes_inside rule n s (s + 2 ^ h)) ≡ stretch_nodes root birth n s h }

@@ -1,7 +1,8 @@
-//! Numbers, families and errors: the words that every layer above speaks in.
+//! Positions and locations, families and errors: the vocabulary of every layer above.
 //!
-//! `specs/` has the definitions: a forest that a merge rule grows leaf by leaf, the digest of a list of leaf digests at
-//! each of its nodes, and the root of a list. `proofs/` has the theory of forests, which the module [`laws`] states.
+//! `specs/` has the definitions: the forest that a merge rule grows leaf by leaf, the digest of a
+//! list of leaf digests at each node, and the root of a list. `proofs/` has the theory of forests,
+//! which the module [`laws`] states.
 #![tactic(auto)]
 
 pub mod error;

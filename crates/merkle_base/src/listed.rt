@@ -1,8 +1,8 @@
-//! Iterators whose items a contract can name.
+//! Iterators whose remaining items a contract can name.
 ghost use Rattle.std.specs.Prelude.{◌≡◌, List};
 ghost use Rattle.std.specs.Iterator.{YieldsFirst, IsFinite};
 
-/// An iterator that knows the items that are left: it gives them in order, and then ends.
+/// A finite iterator with a known list of remaining items, which it yields in order.
 pub trait Listed: Iterator {
     // the items that are left
     ghost left: { Self → List Self.Item };

@@ -1,4 +1,4 @@
-//! Leaf indices and leaf counts.
+//! Locations: leaf indices and leaf counts.
 ghost use Rattle.std.specs.Prelude.{◌≡◌, ◌+◌, ◌<◌, ◌≤◌, ◌↔◌, ◌++◌, ℕ, IsTrue, if◌then◌else◌, nat_le, Some, codes};
 ghost use Rattle.std.specs.Option.{SomeIff};
 ghost use Rattle.std.specs.Fmt.{decimal};
@@ -10,25 +10,36 @@ use crate::position::Position;
 use std::fmt;
 use std::ops::Range;
 
-/// A leaf index or a leaf count of a family: a number that prints as `Location(42)`.
+/// A leaf index (location) or a leaf count of a family; it prints as `Location(42)`.
+///
+/// # Examples
+///
+/// ```
+/// // In a Mountain Range the leaf at location 2 is the node at position 3, and node 2 is a parent.
+/// let leaf: mmr::Location = Location::new(2);
+/// assert!(rt; mmr::Position::try_from(leaf).ok() == Some(Position::new(3)));
+/// assert!(rt; mmr::Location::try_from(mmr::Position::new(3)).ok() == Some(leaf));
+/// assert!(rt; mmr::Location::try_from(mmr::Position::new(2)).is_err());
+/// assert!(rt; leaf + 1 == Location::new(3) && leaf.checked_sub(3).is_none());
+/// ```
 pub type Location<F> = Number<F, Leaves>;
 
 impl<F: Family> Location<F> {
-    /// Whether it is a count of the family: at most [`MAX_LEAVES`](Family::MAX_LEAVES).
+    /// Whether this is a possible leaf count: at most [`MAX_LEAVES`](Family::MAX_LEAVES).
     pub fn is_valid(self) -> bool
         ensures { IsTrue result ↔ (self ≤ F.MAX_LEAVES) }
     {
         self.index <= F::MAX_LEAVES
     }
 
-    /// Whether it is an index of the family: below [`MAX_LEAVES`](Family::MAX_LEAVES).
+    /// Whether a leaf can be at this location: below [`MAX_LEAVES`](Family::MAX_LEAVES).
     pub fn is_valid_index(self) -> bool
         ensures { IsTrue result ↔ (self < F.MAX_LEAVES) }
     {
         self.index < F::MAX_LEAVES
     }
 
-    /// The sum, or `None` past [`MAX_LEAVES`](Family::MAX_LEAVES).
+    /// Returns the sum, or `None` if it exceeds [`MAX_LEAVES`](Family::MAX_LEAVES).
     pub fn checked_add(self, rhs: u64) -> Option<Self>
         ensures { SomeIff result (self + rhs ≤ F.MAX_LEAVES) (self + rhs) }
     {
@@ -40,7 +51,7 @@ impl<F: Family> Location<F> {
         }
     }
 
-    /// The sum, or [`MAX_LEAVES`](Family::MAX_LEAVES) where the sum is past it.
+    /// Returns the sum, or [`MAX_LEAVES`](Family::MAX_LEAVES) if the sum exceeds it.
     pub fn saturating_add(self, rhs: u64) -> Self
         ensures { result ≡ (if nat_le (self + rhs) F.MAX_LEAVES then self + rhs else F.MAX_LEAVES) }
     {
@@ -67,10 +78,13 @@ impl<F> fmt::Debug for Location<F> {
     }
 }
 
-/// The location of the leaf at a position, which is the leaf count of that many nodes.
+/// The location of the leaf at a position, which is also the leaf count of a structure with that
+/// many nodes.
 ///
-/// Refused with `PositionOverflow` where the position is past the greatest node count, and then with `NonLeaf` where no
-/// leaf count has that many nodes.
+/// # Errors
+///
+/// - `PositionOverflow` if the position exceeds [`MAX_NODES`](Family::MAX_NODES)
+/// - `NonLeaf` if no leaf count has that many nodes
 impl<F: Family> TryFrom<Position<F>> for Location<F> {
     ghost use Rattle.std.specs.Prelude.{◌≡◌, ◌≢◌, ◌<◌, ◌≤◌, Ok, Err};
     ghost use Rattle.merkle_base.specs.Forest.{size};
@@ -91,14 +105,14 @@ impl<F: Family> TryFrom<Position<F>> for Location<F> {
     }
 }
 
-/// Ranges of locations as ranges of indices.
+/// Conversion of ranges of locations to ranges of indices.
 pub trait LocationRangeExt {
     // the numbers of both ends
     ghost start_of: { Self → ℕ };
 
     ghost end_of: { Self → ℕ };
 
-    /// The range with both ends as `usize`, which they fit.
+    /// Returns the range with both ends as `usize`, which they fit.
     fn to_usize_range(&self) -> Range<usize>
         ensures start { result.start ≡ start_of self.now }
         ensures end { result.end ≡ end_of self.now };

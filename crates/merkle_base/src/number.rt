@@ -1,4 +1,4 @@
-//! Numbers of a family: of nodes, and of leaves.
+//! Numbers with a family and a unit: nodes or leaves.
 ghost use Rattle.std.specs.Prelude.{◌≡◌, ◌+◌, ◌-◌, ◌^◌, ◌<◌, ◌≤◌, ◌==◌, ℕ, ⊤};
 ghost use Rattle.std.specs.Option.{SomeIff};
 ghost use Rattle.std.proofs.Common.{rules};
@@ -13,7 +13,7 @@ use std::hash::{Hash, Hasher};
 use std::marker::{Model, PhantomData};
 use std::ops::{Add, AddAssign, Sub, SubAssign};
 
-/// The unit of positions and node counts.
+/// The unit of positions and sizes in nodes.
 #[derive(Clone, Copy, Debug, Default, PartialEq, Eq)]
 pub struct Nodes;
 
@@ -21,7 +21,10 @@ pub struct Nodes;
 #[derive(Clone, Copy, Debug, Default, PartialEq, Eq)]
 pub struct Leaves;
 
-/// An index or a count of a family `F` in a unit `U`, [`Nodes`] or [`Leaves`].
+/// An index or a count of family `F` in the unit `U`, which is [`Nodes`] or [`Leaves`].
+///
+/// Sums must fit a `u64`, and differences must not be negative: see
+/// [`checked_sub`](Number::checked_sub).
 pub struct Number<F, U> {
     pub(crate) index: u64,
     of: PhantomData<(F, U)>,
@@ -109,7 +112,7 @@ impl<F, U> Default for Number<F, U> {
 }
 
 impl<F, U> Number<F, U> {
-    /// The number of this value.
+    /// Wraps an index or a count. Any `u64` is allowed; the limits of the family are not checked.
     pub fn new(index: u64) -> Self
         ensures { result ≡ index }
     {
@@ -119,14 +122,14 @@ impl<F, U> Number<F, U> {
         }
     }
 
-    /// Its value.
+    /// Returns the index or count without its unit.
     pub fn as_u64(self) -> u64
         ensures { result ≡ self }
     {
         u64::from(self)
     }
 
-    /// The difference, or `None` below zero.
+    /// Returns the difference, or `None` if it is negative.
     pub fn checked_sub(self, rhs: u64) -> Option<Self>
         ensures { SomeIff result (rhs ≤ self) (self - rhs) }
     {
@@ -137,7 +140,7 @@ impl<F, U> Number<F, U> {
         }
     }
 
-    /// The difference, or zero where it would be below.
+    /// Returns the difference, or 0 if it is negative.
     pub fn saturating_sub(self, rhs: u64) -> Self
         ensures { result ≡ self - rhs }
     {

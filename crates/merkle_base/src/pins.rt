@@ -1,4 +1,4 @@
-//! The nodes that stand for what was pruned.
+//! The nodes that are kept when older ones are pruned.
 ghost use Rattle.std.specs.Prelude.{ℕ, List, map};
 ghost use Rattle.std.specs.Iterator.{YieldsFirst, item_count};
 
@@ -7,7 +7,8 @@ use crate::listed::Listed;
 use crate::position::Position;
 use std::marker::Model;
 
-/// The positions of the nodes to pin, from the oldest peak on.
+/// Iterates over the positions of the nodes to pin, from the oldest peak on. Returned by
+/// [`nodes_to_pin`](Family::nodes_to_pin).
 #[derive(Drop)]
 pub struct NodesToPin<F: Family> {
     pub(crate) peaks: F::Peaks,

@@ -1,4 +1,4 @@
-//! Node indices and node counts.
+//! Positions: node indices and sizes in nodes.
 ghost use Rattle.std.specs.Prelude.{◌≡◌, ◌+◌, ◌<◌, ◌≤◌, ◌↔◌, ◌++◌, IsTrue, if◌then◌else◌, nat_le, Some, codes};
 ghost use Rattle.std.specs.Option.{SomeIff};
 ghost use Rattle.std.specs.Fmt.{decimal};
@@ -10,25 +10,34 @@ use crate::location::Location;
 pub use crate::number::{Nodes, Number};
 use std::fmt;
 
-/// A node index or a node count of a family: a number that prints as `Position(42)`.
+/// A node index (position) or a size in nodes of a family; it prints as `Position(42)`.
+///
+/// # Examples
+///
+/// ```
+/// // Three leaves of a Mountain Range have four nodes: the leaves 0, 1 and 3, and the parent 2.
+/// let size: mmr::Position = Position::new(4);
+/// assert!(rt; size.is_valid_size() && !(size + 1).is_valid_size());
+/// assert!(rt; mmr::Location::try_from(size).ok() == Some(Location::new(3)));
+/// ```
 pub type Position<F> = Number<F, Nodes>;
 
 impl<F: Family> Position<F> {
-    /// Whether it is a count of the family: at most [`MAX_NODES`](Family::MAX_NODES).
+    /// Whether this is at most [`MAX_NODES`](Family::MAX_NODES), the greatest size.
     pub fn is_valid(self) -> bool
         ensures { IsTrue result ↔ (self ≤ F.MAX_NODES) }
     {
         self.index <= F::MAX_NODES
     }
 
-    /// Whether it is an index of the family: below [`MAX_NODES`](Family::MAX_NODES).
+    /// Whether a node can be at this position: below [`MAX_NODES`](Family::MAX_NODES).
     pub fn is_valid_index(self) -> bool
         ensures { IsTrue result ↔ (self < F.MAX_NODES) }
     {
         self.index < F::MAX_NODES
     }
 
-    /// The sum, or `None` past [`MAX_NODES`](Family::MAX_NODES).
+    /// Returns the sum, or `None` if it exceeds [`MAX_NODES`](Family::MAX_NODES).
     pub fn checked_add(self, rhs: u64) -> Option<Self>
         ensures { SomeIff result (self + rhs ≤ F.MAX_NODES) (self + rhs) }
     {
@@ -40,7 +49,7 @@ impl<F: Family> Position<F> {
         }
     }
 
-    /// The sum, or [`MAX_NODES`](Family::MAX_NODES) where the sum is past it.
+    /// Returns the sum, or [`MAX_NODES`](Family::MAX_NODES) if the sum exceeds it.
     pub fn saturating_add(self, rhs: u64) -> Self
         ensures { result ≡ (if nat_le (self + rhs) F.MAX_NODES then self + rhs else F.MAX_NODES) }
     {
@@ -74,9 +83,12 @@ impl<F> fmt::Debug for Position<F> {
     }
 }
 
-/// The position of the leaf at a location, which is the node count of that many leaves.
+/// The position of the leaf at a location, which is also the size in nodes of a structure with that
+/// many leaves.
 ///
-/// Refused with `LocationOverflow` where the location is past the greatest leaf count.
+/// # Errors
+///
+/// - `LocationOverflow` if the location exceeds [`MAX_LEAVES`](Family::MAX_LEAVES)
 impl<F: Family> TryFrom<Location<F>> for Position<F> {
     ghost use Rattle.std.specs.Prelude.{◌≡◌, ◌<◌, ◌≤◌, Ok, Err};
     ghost use Rattle.merkle_base.specs.Forest.{size};

@@ -1,7 +1,9 @@
-//! Speculative batches: leaves to be added and changed, over a structure or over another batch.
+//! Speculative batches of added and updated leaves, over a structure or over another batch.
 //!
-//! A batch is forked, takes leaves and updates, and is merkleized. Merkleized batches can be stacked and forked to any
-//! depth; each of them can be applied to a structure at any state that its kept records start from or reach.
+//! A batch is forked, takes added and updated leaves, and is merkleized. Merkleized batches can be
+//! stacked and forked to any depth. A merkleized batch can be applied to a structure that is at the
+//! state before the oldest record that the batch keeps, or at the state after one of its kept
+//! ancestors.
 ghost use Rattle.std.specs.Prelude.{◌≡◌, ◌<◌, ◌≤◌, ◌⊎◌, ◌+◌, ◌++◌, ℕ, List, ◌∷◌, [], None, Some, Err, true, slice_set, is_some, length, IfOk, IfErr, IsOkUnless};
 ghost use Rattle.std.specs.FinMap.{get};
 ghost use Rattle.merkle_base.specs.Forest.{size};
@@ -27,12 +29,44 @@ use std::collections::BTreeMap;
 use std::marker::Model;
 use std::rc::{Rc, RcSlice};
 
-/// A batch whose nodes aren't computed yet: the leaves that it adds, and those of its parent that it changes.
+/// A batch whose nodes are not computed yet: added leaves, and updates of leaves.
 ///
-/// Each call takes the batch and gives it back changed; after a refusal it is gone, and its parent is as it was.
+/// Each call that changes it consumes the batch and returns it updated; on error the batch is lost
+/// and the parent is unchanged.
 ///
-/// To a contract it is its parent, the digests of the added leaves, those of the changed ones, and how many of the
-/// parent's ancestors it lets go.
+/// Contracts model it as its parent, the digests of the added leaves, those of the updated ones,
+/// and the number of the parent's ancestor records that it drops.
+///
+/// # Examples
+///
+/// ```
+/// let Ok(batch) = log.new_batch() else {
+///     return None;
+/// };
+/// let Ok(batch) = batch.add(&hasher, &[1]) else {
+///     return None;
+/// };
+/// let Ok(batch) = batch.update_leaf(&hasher, Location::new(0), &[4]) else {
+///     return None;
+/// };
+/// let Ok(first) = batch.merkleize(&log, &hasher) else {
+///     return None;
+/// };
+/// // A second batch over the first one, which is not applied yet.
+/// let Ok(batch) = first.new_batch() else {
+///     return None;
+/// };
+/// let Ok(batch) = batch.add(&hasher, &[8]) else {
+///     return None;
+/// };
+/// let Ok(second) = batch.merkleize(&log, &hasher) else {
+///     return None;
+/// };
+/// // Applying the second batch applies the first one too.
+/// let Ok(()) = log.apply_batch(&second) else {
+///     return None;
+/// };
+/// ```
 #[derive(Debug, Drop)]
 pub struct UnmerkleizedBatch<F: Family, D: Digest> {
     parent: Rc<MerkleizedBatch<F, D>>,
@@ -42,7 +76,7 @@ pub struct UnmerkleizedBatch<F: Family, D: Digest> {
     added: Vec<D>,
     // the new digests of the parent's leaves, by position
     updates: BTreeMap<Position<F>, D>,
-    // how many of the parent's kept records are let go, at most all
+    // how many of the parent's ancestor records are dropped, at most all
     forgotten: usize,
 }
 
@@ -72,7 +106,7 @@ impl<F: Family, D: Digest> Model for UnmerkleizedBatch<F, D> {
 }
 
 impl<F: Family, D: Digest> UnmerkleizedBatch<F, D> {
-    /// A batch without changes, forked from another one.
+    /// Creates a batch without changes over `parent`.
     pub fn new(parent: Rc<MerkleizedBatch<F, D>>) -> Self
         ensures { result ≡ forked parent.value }
     {
@@ -87,7 +121,7 @@ impl<F: Family, D: Digest> UnmerkleizedBatch<F, D> {
         }
     }
 
-    /// The number of leaves, with the added ones.
+    /// Returns the leaf count, with the added leaves.
     pub fn leaves(&self) -> Location<F>
         ensures count { result ≡ leaf_total self.now }
         ensures bounded { result ≤ F.MAX_LEAVES }
@@ -95,10 +129,11 @@ impl<F: Family, D: Digest> UnmerkleizedBatch<F, D> {
         self.leaves_before + self.added.len() as u64
     }
 
-    /// Lets the oldest records of the parent's ancestors go, so many of those that are still kept and at most all.
+    /// Drops the `count` oldest ancestor records that are still kept; all of them if there are
+    /// fewer.
     ///
-    /// The parent's own record stays. The merkleized batch can't be applied to a structure at a state before the records
-    /// that it keeps.
+    /// The parent's own record is kept. The merkleized batch cannot be applied to a structure at a
+    /// state before the oldest record that it keeps.
     pub fn forget_ancestors(mut self, count: usize) -> Self
         ensures { result ≡ without_ancestors self count }
     {
@@ -107,10 +142,15 @@ impl<F: Family, D: Digest> UnmerkleizedBatch<F, D> {
         self
     }
 
-    /// Adds a leaf with this element.
+    /// Adds a leaf with this element. Its location is the present
+    /// [`leaves`](UnmerkleizedBatch::leaves).
     ///
-    /// Refused with `LocationOverflow` of the greatest leaf count where the batch has that many leaves, and else with
-    /// `OutOfMemory`; the batch is gone then.
+    /// # Errors
+    ///
+    /// - `LocationOverflow` of [`MAX_LEAVES`](Family::MAX_LEAVES) if the batch has that many leaves
+    /// - `OutOfMemory` if a memory request is refused
+    ///
+    /// On error the batch is lost and the parent is unchanged.
     pub fn add<H: Hasher<F, Digest = D>>(self, hasher: &H, element: &[u8]) -> Result<Self, Error<F>>
         ensures added { IfOk result (λ b. b ≡ with_leaf self ((H.hashing hasher.now).leaf (size F.rule (leaf_total self)) element.now)) }
         ensures edited { let digest = (H.hashing hasher.now).leaf (size F.rule (leaf_total self)) element.now in
@@ -124,10 +164,15 @@ impl<F: Family, D: Digest> UnmerkleizedBatch<F, D> {
         self.add_leaf_digest(digest)
     }
 
-    /// Adds a leaf with this digest.
+    /// Adds a leaf with this digest. Its location is the present
+    /// [`leaves`](UnmerkleizedBatch::leaves).
     ///
-    /// Refused with `LocationOverflow` of the greatest leaf count where the batch has that many leaves, and else with
-    /// `OutOfMemory`; the batch is gone then.
+    /// # Errors
+    ///
+    /// - `LocationOverflow` of [`MAX_LEAVES`](Family::MAX_LEAVES) if the batch has that many leaves
+    /// - `OutOfMemory` if a memory request is refused
+    ///
+    /// On error the batch is lost and the parent is unchanged.
     pub fn add_leaf_digest(mut self, digest: D) -> Result<Self, Error<F>>
         ensures added { IfOk result (λ b. b ≡ with_leaf self digest) }
         ensures edited { IfOk result (λ b. (X : List D) → pending_list F.rule b X ≡ pending_list F.rule self X ++ digest ∷ []) }
@@ -144,8 +189,13 @@ impl<F: Family, D: Digest> UnmerkleizedBatch<F, D> {
 
     /// Adds leaves with these digests, in their order.
     ///
-    /// Refused with `LocationOverflow` of the greatest leaf count where they would pass it, and else with `OutOfMemory`;
-    /// the batch is gone then.
+    /// # Errors
+    ///
+    /// - `LocationOverflow` of [`MAX_LEAVES`](Family::MAX_LEAVES) if the batch would have more than
+    ///   that many leaves
+    /// - `OutOfMemory` if a memory request is refused
+    ///
+    /// On error the batch is lost and the parent is unchanged.
     pub fn add_leaf_digests(mut self, digests: &[D]) -> Result<Self, Error<F>>
         ensures added { IfOk result (λ b. b ≡ with_leaves self digests.now) }
         ensures edited { IfOk result (λ b. (X : List D) → pending_list F.rule b X ≡ pending_list F.rule self X ++ digests.now) }
@@ -160,7 +210,7 @@ impl<F: Family, D: Digest> UnmerkleizedBatch<F, D> {
         Ok(self)
     }
 
-    // Refuses a location that is no leaf of the batch, or that is pruned.
+    // Checks that a location is that of a leaf of the batch that is not pruned.
     fn check_update(&self, location: Location<F>) -> Result<(), Error<F>>
         ensures ok { IfOk result (λ _. update_fault F.rule self.now location ≡ None) }
         ensures err { IfErr result (λ e. (fault : Fault) × (update_fault F.rule self.now location ≡ Some fault) × (e ≡ fault_error fault)) }
@@ -174,9 +224,12 @@ impl<F: Family, D: Digest> UnmerkleizedBatch<F, D> {
         Ok(())
     }
 
-    /// Gives the leaf at a location this element.
+    /// Updates the leaf at `location` to this element.
     ///
-    /// Refused as [`update_leaf_digest`](UnmerkleizedBatch::update_leaf_digest).
+    /// # Errors
+    ///
+    /// Those of [`update_leaf_digest`](UnmerkleizedBatch::update_leaf_digest). On error the batch
+    /// is lost and the parent is unchanged.
     pub fn update_leaf<H: Hasher<F, Digest = D>>(
         self,
         hasher: &H,
@@ -198,11 +251,16 @@ impl<F: Family, D: Digest> UnmerkleizedBatch<F, D> {
         }
     }
 
-    /// Gives the leaf at a location this digest.
+    /// Updates the leaf at `location`, which may be an added one, to this digest.
     ///
-    /// Refused, in this order: with `LeafOutOfBounds` where the batch has no such leaf, its added ones counted, with
-    /// `ElementPruned` of the leaf's position where the location is below the boundary recorded at the fork, and with
-    /// `OutOfMemory`; the batch is gone then.
+    /// # Errors
+    ///
+    /// - `LeafOutOfBounds` of the location if the batch has no such leaf, the added ones included
+    /// - `ElementPruned` of the leaf's position if the location is below the pruning boundary that
+    ///   was recorded when the chain of batches was forked
+    /// - `OutOfMemory` if a memory request is refused
+    ///
+    /// On error the batch is lost and the parent is unchanged.
     pub fn update_leaf_digest(mut self, location: Location<F>, digest: D) -> Result<Self, Error<F>>
         ensures updated { IfOk result (λ b. b ≡ with_update F.rule self location digest) }
         ensures edited { IfOk result (λ b. (X : List D) → length X ≡ self.leaves_before
@@ -223,10 +281,16 @@ impl<F: Family, D: Digest> UnmerkleizedBatch<F, D> {
         Ok(self)
     }
 
-    /// Gives each of these leaves its digest, one after another, so that a repeated location keeps its last one.
+    /// Updates each of these leaves to its digest. If a location is repeated, the last digest is
+    /// used.
     ///
-    /// All locations are tested before any leaf is changed. Refused, for the first location where one applies, as
-    /// [`update_leaf_digest`](UnmerkleizedBatch::update_leaf_digest).
+    /// All locations are checked before any leaf is updated.
+    ///
+    /// # Errors
+    ///
+    /// For the first location to which one applies, those of
+    /// [`update_leaf_digest`](UnmerkleizedBatch::update_leaf_digest). On error the batch is lost
+    /// and the parent is unchanged.
     pub fn update_leaf_batched(mut self, updates: &[(Location<F>, D)]) -> Result<Self, Error<F>>
         ensures updated { IfOk result (λ b. b ≡ with_updates F.rule self updates.now) }
         ensures edited { IfOk result (λ b. (X : List D) → length X ≡ self.leaves_before
@@ -249,14 +313,19 @@ impl<F: Family, D: Digest> UnmerkleizedBatch<F, D> {
         Ok(self)
     }
 
-    /// Computes the nodes and peaks that follow from the added and changed leaves.
+    /// Computes the nodes and peaks that follow from the added and updated leaves.
     ///
-    /// The nodes that it needs are the children of the nodes that it computes and, if it has changes, the peaks of its end,
-    /// without those that it appends or overwrites itself. It reads them from the records that it keeps, the parent's own
-    /// among them, the newest first, and then from the base.
+    /// The nodes that it needs are the children of the nodes that it computes and, if the batch has
+    /// changes, the peaks after the batch, except those that it appends or overwrites itself. It
+    /// reads them from the records that it keeps, the parent's own among them, the newest first,
+    /// and then from `base`.
     ///
-    /// Refused with `MissingNode` of a needed node that is held by none of them, or with `OutOfMemory`; the batch is gone
-    /// then.
+    /// # Errors
+    ///
+    /// - `MissingNode` of a needed node that none of them holds
+    /// - `OutOfMemory` if a memory request is refused
+    ///
+    /// On error the batch is lost and the parent is unchanged.
     pub fn merkleize<B: Base<F, Digest = D>, H: Hasher<F, Digest = D>>(
         self,
         base: &B,
@@ -272,8 +341,9 @@ impl<F: Family, D: Digest> UnmerkleizedBatch<F, D> {
             ⊎ ((t : Tree) × (e ≡ Error.MissingNode (position t)) × IsMissing F.rule self (B.contents base.now) t)) }
         ensures complete { IfOk result (λ _. (t : Tree) → IsMissing F.rule self (B.contents base.now) t → ⊥) }
 
-        // Where its parent stands on lists and the base agrees with one that the kept records start from or reach, it stands
-        // on these and on the last of them with its changes.
+        // If some lists are a history of the parent and the base agrees with one of those that the
+        // kept records start or end at, then these, followed by the last of them with the changes,
+        // are a history of the batch.
         ensures stands { let h = H.hashing hasher.now in IfOk result (λ b. (ls : List (List D)) → IsHistory h F.rule (records self.parent) ls
             → AgreesWithOne h F.rule (B.contents base.now) (kept_lists self ls)
             → IsHistory h F.rule (records b.value) (kept_lists self ls ++ pending_list F.rule self (last_list ls) ∷ [])) }
@@ -285,7 +355,7 @@ impl<F: Family, D: Digest> UnmerkleizedBatch<F, D> {
         self.compute(base, hasher)
     }
 
-    // What `merkleize` answers.
+    // Implements `merkleize`.
     fn compute<B: Base<F, Digest = D>, H: Hasher<F, Digest = D>>(
         &self,
         base: &B,
@@ -301,8 +371,9 @@ impl<F: Family, D: Digest> UnmerkleizedBatch<F, D> {
             ⊎ ((t : Tree) × (e ≡ Error.MissingNode (position t)) × IsMissing F.rule self.now (B.contents base.now) t)) }
         ensures complete { IfOk result (λ _. (t : Tree) → IsMissing F.rule self.now (B.contents base.now) t → ⊥) }
 
-        // Where its parent stands on lists and the base agrees with one that the kept records start from or reach, it stands
-        // on these and on the last of them with its changes.
+        // If some lists are a history of the parent and the base agrees with one of those that the
+        // kept records start or end at, then these, followed by the last of them with the changes,
+        // are a history of the batch.
         ensures stands { let h = H.hashing hasher.now in IfOk result (λ b. (ls : List (List D)) → IsHistory h F.rule (records self.now.parent) ls
             → AgreesWithOne h F.rule (B.contents base.now) (kept_lists self.now ls)
             → IsHistory h F.rule (records b.value) (kept_lists self.now ls ++ pending_list F.rule self.now (last_list ls) ∷ [])) }

@@ -1,4 +1,5 @@
-//! Proofs of leaves of a merkleized batch, over a base that holds what its records do not.
+//! Proofs of leaves of a merkleized batch, over a base that holds the nodes that its records do
+//! not.
 ghost use Rattle.std.specs.Prelude.{◌≡◌, ◌≢◌, ◌+◌, ◌<◌, ◌≤◌, List, length, IfOk, IfErr, IsOkUnless};
 ghost use Rattle.merkle_base.specs.Hashing.{Hashing};
 ghost use Rattle.merkle_base.specs.Places.{peaks_of};
@@ -31,7 +32,8 @@ struct BatchOver<'a, F: Family, D: Digest, B: Base<F, Digest = D>> {
 }
 
 impl<'a, F: Family, D: Digest, B: Base<F, Digest = D>> BatchOver<'a, F, D, B> {
-    // The digest of the node at a position, from the newest kept record that has it, or else from the base.
+    // Returns the digest of the node at `position` from the newest kept record that has it, or else
+    // from the base.
     fn get_node(&self, position: Position<F>) -> Option<D>
         ensures { result ≡ read_over (records self.now.batch.now) (B.contents self.now.base.now) position }
     {
@@ -43,7 +45,7 @@ impl<'a, F: Family, D: Digest, B: Base<F, Digest = D>> BatchOver<'a, F, D, B> {
 }
 
 impl<F: Family, D: Digest> MerkleizedBatch<F, D> {
-    // The proof of a plan, over the nodes that the batch and the base hold.
+    // Builds the proof of a plan from the nodes that the batch and the base hold.
     fn build_proof<B: Base<F, Digest = D>, H: Hasher<F, Digest = D>>(
         &self,
         base: &B,
@@ -64,15 +66,22 @@ impl<F: Family, D: Digest> MerkleizedBatch<F, D> {
         plan.build(hasher, inactive, move |position| over.get_node(position))
     }
 
-    /// The proof of the leaf at a location, with a number of peaks that count as inactive.
+    /// Generates the proof of the leaf at `location`, with `inactive` inactive peaks.
     ///
-    /// A node is read from the batch's own record, then from its kept ancestors' from the newest on, and then from the
-    /// base.
+    /// A node is read from the batch's own record, then from those of its kept ancestors, the
+    /// newest first, and then from `base`.
     ///
-    /// Refused, in this order: with `LocationOverflow` where no list has such a location, with `LeafOutOfBounds` where
-    /// there is no such leaf, with `InvalidProof` where the number exceeds that of the peaks, and with `ElementPruned` of
-    /// the first node that none of them has, of the peaks before the leaf, the peaks after it that stand alone, the others
-    /// after it from the last one on, and the path siblings. Refused with `OutOfMemory` wherever there is no memory.
+    /// # Errors
+    ///
+    /// The first that applies:
+    /// - `LocationOverflow` of the location if it is not below [`MAX_LEAVES`](Family::MAX_LEAVES)
+    /// - `LeafOutOfBounds` of the location if there is no such leaf
+    /// - `InvalidProof` if `inactive` exceeds the number of peaks
+    /// - `ElementPruned` of the first node that none of them has; the nodes are read in this order:
+    ///   the peaks before the leaf, the individual peaks after it, the folded peaks after it from
+    ///   the last one on, and the path siblings
+    ///
+    /// `OutOfMemory` at any point if a memory request is refused. Nothing is changed.
     pub fn proof<B: Base<F, Digest = D>, H: Hasher<F, Digest = D>>(
         &self,
         base: &B,
@@ -84,7 +93,8 @@ impl<F: Family, D: Digest> MerkleizedBatch<F, D> {
             let plan : LeafRange = record { leaves = self.now.leaves; start = location; end = location + 1 } in
             IfOk result (λ p. location < self.now.leaves × IsBuiltProof s (read_over (records self.now) (B.contents base.now)) inactive plan p) }
 
-        // Where it stands on lists and the base agrees with one of them, it is the honest proof of the last list.
+        // If some lists are a history of the batch and the base agrees with one of them, this is
+        // the honest proof of the last list.
         ensures honest { let s = H.scheme hasher.now in
             (ls : List (List D)) → IsHistory (H.hashing hasher.now) F.rule (records self.now) ls
             → AgreesWithOne (H.hashing hasher.now) F.rule (B.contents base.now) ls
@@ -110,15 +120,22 @@ impl<F: Family, D: Digest> MerkleizedBatch<F, D> {
         }
     }
 
-    /// The proof of the leaves in a range of locations, with a number of peaks that count as inactive.
+    /// Generates the proof of the leaves in `range`, with `inactive` inactive peaks.
     ///
-    /// A node is read from the batch's own record, then from its kept ancestors' from the newest on, and then from the
-    /// base.
+    /// A node is read from the batch's own record, then from those of its kept ancestors, the
+    /// newest first, and then from `base`.
     ///
-    /// Refused, in this order: with `Empty` where the range has no leaves, with `RangeOutOfBounds` of its end where that
-    /// is past the leaves, with `InvalidProof` where the number exceeds that of the peaks, and with `ElementPruned` of the
-    /// first node that none of them has, of the peaks before the range, the peaks after it that stand alone, the others
-    /// after it from the last one on, and the path siblings. Refused with `OutOfMemory` wherever there is no memory.
+    /// # Errors
+    ///
+    /// The first that applies:
+    /// - `Empty` if the range has no leaves
+    /// - `RangeOutOfBounds` of the end of the range if it exceeds the leaf count
+    /// - `InvalidProof` if `inactive` exceeds the number of peaks
+    /// - `ElementPruned` of the first node that none of them has; the nodes are read in this order:
+    ///   the peaks before the range, the individual peaks after it, the folded peaks after it from
+    ///   the last one on, and the path siblings
+    ///
+    /// `OutOfMemory` at any point if a memory request is refused. Nothing is changed.
     pub fn range_proof<B: Base<F, Digest = D>, H: Hasher<F, Digest = D>>(
         &self,
         base: &B,
@@ -131,7 +148,8 @@ impl<F: Family, D: Digest> MerkleizedBatch<F, D> {
             let node = read_over (records self.now) (B.contents base.now) in
             IfOk result (λ p. (range.start < range.end) × (range.end ≤ self.now.leaves) × IsBuiltProof s node inactive plan p) }
 
-        // Where it stands on lists and the base agrees with one of them, it is the honest proof of the last list.
+        // If some lists are a history of the batch and the base agrees with one of them, this is
+        // the honest proof of the last list.
         ensures honest { let s = H.scheme hasher.now in
             (ls : List (List D)) → IsHistory (H.hashing hasher.now) F.rule (records self.now) ls
             → AgreesWithOne (H.hashing hasher.now) F.rule (B.contents base.now) ls

@@ -1,6 +1,8 @@
-//! Speculative batches over a structure: what they add and change, and the nodes that follow.
+//! Speculative batches over a structure: the leaves that they add and update, and the nodes that
+//! follow.
 //!
-//! A batch is forked from a [`Base`](batch::Base) or from another batch, takes leaves, and is merkleized.
+//! A batch is forked from a [`Base`](batch::Base) or from another batch, takes leaves, and is
+//! merkleized.
 #![tactic(auto)]
 
 pub mod batch;

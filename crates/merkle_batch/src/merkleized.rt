@@ -1,4 +1,4 @@
-//! Batches with their nodes computed.
+//! Merkleized batches: batches whose nodes are computed.
 ghost use Rattle.std.specs.Prelude.{◌≡◌, List, ◌∷◌, [], ◌++◌, ◌≤◌, ◌<◌, Some, Ok, Err, cond, drop, slice_get, length, IfOk, IsOkUnless};
 ghost use Rattle.std.specs.Rc.{rc_slice_items};
 ghost use Rattle.merkle_batch.specs.Finished.{finished};
@@ -33,20 +33,25 @@ use std::alloc::{AllocError, Global};
 use std::marker::Model;
 use std::rc::{Rc, RcSlice};
 
-/// A batch with its nodes computed: what it changes, and the states before and after it.
+/// A batch whose nodes are computed: what it changes, and the states before and after it.
 ///
-/// It keeps the records of its ancestors, so that it can be applied to a structure at any of their states. Batches are
-/// shared by `Rc`: any number of batches can be forked from one.
+/// It keeps the records of its ancestors, so that it can be applied to a structure at any of their
+/// states. Merkleized batches are shared by `Rc`, and any number of batches can be forked from one.
 ///
-/// To a contract it is its own record, behind those that it keeps of its ancestors, oldest first, and its leaf count.
+/// Contracts model it as the records that it keeps of its ancestors, oldest first, then its own
+/// record, and its leaf count.
 #[derive(Debug, Drop)]
 pub struct MerkleizedBatch<F: Family, D: Digest> {
+    /// What the batch itself changes.
     pub own: Rc<Record<F, D>>,
-    // the records of its ancestors that have changes, oldest first
+    /// The kept records of the ancestors that have changes, oldest first.
     pub ancestors: Vec<Rc<Record<F, D>>>,
-    // the leaf count after it
+    /// The leaf count after the batch.
     pub leaves: Location<F>,
+    /// The size in nodes of the structure that the chain of batches was forked from, at that time.
     pub base_size: Position<F>,
+    /// The pruning boundary of the structure that the chain of batches was forked from, at that
+    /// time.
     pub pruning_boundary: Location<F>,
 }
 
@@ -77,9 +82,11 @@ impl<F: Family, D: Digest> Model for MerkleizedBatch<F, D> {
 }
 
 impl<F: Family, D: Digest> MerkleizedBatch<F, D> {
-    /// A batch without changes to a structure.
+    /// Creates a batch without changes to a structure.
     ///
-    /// Refused with `OutOfMemory`.
+    /// # Errors
+    ///
+    /// - `OutOfMemory` if a memory request is refused
     pub fn from_mem<B: Base<F, Digest = D>>(base: &B) -> Result<Rc<Self>, Error<F>>
         ensures root { IfOk result (λ b. b.value ≡ root_batch F.rule (B.leaves base.now) (B.contents base.now)) }
         ensures of_list { IfOk result (λ b. (h : Hashing D) → (X : List D) → Agrees h F.rule (B.contents base.now) X
@@ -89,7 +96,7 @@ impl<F: Family, D: Digest> MerkleizedBatch<F, D> {
         Ok(Self::without_changes(base)?)
     }
 
-    // A batch without changes to a structure.
+    // Creates a batch without changes to a structure.
     fn without_changes<B: Base<F, Digest = D>>(base: &B) -> Result<Rc<Self>, AllocError>
         ensures root { IfOk result (λ b. b.value ≡ root_batch F.rule (B.leaves base.now) (B.contents base.now)) }
         ensures sized { IfOk result (λ _. size F.rule (B.leaves base.now) ≡ (B.contents base.now).size) }
@@ -116,14 +123,14 @@ impl<F: Family, D: Digest> MerkleizedBatch<F, D> {
         Ok(Rc::new(alloc, batch)?)
     }
 
-    /// The number of nodes after it.
+    /// Returns the size in nodes after the batch.
     pub fn size(&self) -> Position<F>
         ensures { result ≡ after self.now.own }
     {
         self.own.size()
     }
 
-    /// The number of leaves after it.
+    /// Returns the leaf count after the batch.
     pub fn leaves(&self) -> Location<F>
         ensures count { result ≡ self.now.leaves }
         ensures sized { size F.rule result ≡ after self.now.own }
@@ -132,26 +139,28 @@ impl<F: Family, D: Digest> MerkleizedBatch<F, D> {
         self.leaves
     }
 
-    /// The number of nodes of the structure that its chain began with, as it was then.
+    /// Returns the size in nodes of the structure that the chain of batches was forked from, at
+    /// that time.
     pub fn base_size(&self) -> Position<F>
         ensures { result ≡ self.now.base_size }
     {
         self.base_size
     }
 
-    /// The location that the structure that its chain began with was pruned to, as it was then.
+    /// Returns the location that the structure that the chain of batches was forked from was pruned
+    /// to, at that time.
     pub fn pruning_boundary(&self) -> Location<F>
         ensures { result ≡ self.now.boundary }
     {
         self.pruning_boundary
     }
 
-    /// The digest of the node at a position, from its own record or else from the newest kept ancestor's that has it;
-    /// `None` where none of them has it.
+    /// Returns the digest of the node at `position` from the batch's own record, or else from the
+    /// newest kept ancestor that has it; `None` if none of them has it.
     pub fn get_node(&self, position: Position<F>) -> Option<D>
         ensures newest { result ≡ newest (records self.now) position }
 
-        // Where it stands on lists, it is the last list's.
+        // If some lists are a history of the batch, it is the node of the last list.
         ensures listed { (h : Hashing D) → (ls : List (List D)) → (d : D) → IsHistory h F.rule (records self.now) ls → result ≡ Some d
             → slice_get (node_digests h F.rule (last_list ls)) position ≡ Some d }
     {
@@ -161,15 +170,17 @@ impl<F: Family, D: Digest> MerkleizedBatch<F, D> {
         }
     }
 
-    /// The root after it, for a number of inactive peaks, which are the oldest ones.
+    /// Returns the root after the batch with `inactive` inactive peaks, which are the oldest ones.
     ///
-    /// Refused with `InvalidInactivePeaks` exactly where that number exceeds the number of peaks that its leaf count has.
+    /// # Errors
+    ///
+    /// - `InvalidInactivePeaks` if `inactive` exceeds the number of peaks of its leaf count
     pub fn root<H: Hasher<F, Digest = D>>(&self, hasher: &H, inactive: usize) -> Result<D, Error<F>>
         ensures ok { let n = self.now.leaves in inactive ≤ length (peaks_of F.rule n)
             → result ≡ Ok (peaks_root (H.scheme hasher.now) n inactive inactive self.now.own.peaks_after) }
         ensures err { let count = length (peaks_of F.rule self.now.leaves) in count < inactive → result ≡ Err (Error.InvalidInactivePeaks inactive count) }
 
-        // Where it stands on lists, it is the last list's.
+        // If some lists are a history of the batch, it is the root of the last list.
         ensures listed { (ls : List (List D)) → IsHistory (H.hashing hasher.now) F.rule (records self.now) ls
             → let X = last_list ls in inactive ≤ length (peaks_of F.rule (length X))
             → result ≡ Ok (list_root (H.scheme hasher.now) X inactive) }
@@ -179,9 +190,11 @@ impl<F: Family, D: Digest> MerkleizedBatch<F, D> {
         hasher.root(self.leaves, inactive, self.own.peaks_after.as_slice())
     }
 
-    /// A batch without changes, forked from this one.
+    /// Creates a batch without changes over this one.
     ///
-    /// Refused with `OutOfMemory`.
+    /// # Errors
+    ///
+    /// - `OutOfMemory` if a memory request is refused
     pub fn new_batch(self: &Rc<Self>) -> Result<UnmerkleizedBatch<F, D>, Error<F>>
         ensures forked { IfOk result (λ b. b ≡ forked self.now.value) }
         ensures refused { IsOkUnless result Error.OutOfMemory }
@@ -189,8 +202,8 @@ impl<F: Family, D: Digest> MerkleizedBatch<F, D> {
         Ok(UnmerkleizedBatch::new(self.clone()?))
     }
 
-    // The draft of a batch without changes that lets the oldest records of its ancestors go, with room for the nodes of so
-    // many leaves.
+    // Creates the draft of a batch over this one that drops the `forgotten` oldest ancestor
+    // records, with capacity for the nodes of `leaves` leaves.
     pub(crate) fn draft(
         &self,
         forgotten: usize,
@@ -206,7 +219,7 @@ impl<F: Family, D: Digest> MerkleizedBatch<F, D> {
         Draft::new(self.allocator(), kept, &self.own, leaves)
     }
 
-    // The batch that a draft over this one makes, whose end has so many leaves.
+    // Creates the batch of a draft over this one; `leaves` is the leaf count after it.
     pub(crate) fn finish(
         &self,
         draft: Draft<F, D>,
@@ -235,7 +248,7 @@ impl<F: Family, D: Digest> MerkleizedBatch<F, D> {
         Ok(Rc::new(alloc, batch)?)
     }
 
-    // Where its memory comes from.
+    // Returns the allocator of the batch.
     pub(crate) fn allocator(&self) -> Global {
         *self.ancestors.allocator()
     }
@@ -253,7 +266,7 @@ impl<F: Family, D: Digest> Readable for MerkleizedBatch<F, D> {
     fn size(&self) -> Position<F>
         ensures count { result ≡ after self.now.own }
 
-        // Where it stands on lists, it shows the last of them.
+        // If some lists are a history of the batch, it shows the last of them.
         ensures shows { (h : Hashing D) → (ls : List (List D)) → IsHistory h F.rule (records self.now) ls
             → Shows h F.rule (after self.now.own) (newest (records self.now)) (last_list ls) }
     {

@@ -1,4 +1,4 @@
-//! What holds of structures that agree with a list, and of batches that stand on lists.
+//! Laws of structures that agree with a list, and of batches that have a history of lists.
 //!
 //! Each function is empty. Its contract is a law of the definitions in `specs/`.
 ghost use Rattle.std.specs.Prelude.{◌≡◌, ℕ, suc, ◌+◌, ◌-◌, [], ◌++◌, ◌==◌, cond, slice_set, take, map, ◌<◌, ◌≤◌, ◌⊎◌, List, ◌∷◌, length, drop, true, Bool, Some, Ok, Err, slice_get, None, Option, false, is_some, nat_eq};
@@ -32,12 +32,12 @@ ghost use Rattle.merkle_batch_theory.specs.Rows.{xor, xor_scheme, first_record, 
 ghost use Rattle.merkle_batch_theory.specs.Replay.{refusal, AncestorDropped, StaleBatch};
 ghost use Rattle.merkle_batch_theory.specs.Roots.{root_batch};
 
-/// What is kept at a later boundary is kept at an earlier one.
+/// A node that is kept at a later boundary is kept at an earlier one.
 pub fn keeping()
     ensures kept { (rule : List ℕ → List ℕ) → (a b p : ℕ) → a ≤ b → size rule a ≤ size rule b → is_kept rule b p ≡ true → is_kept rule a p ≡ true }
 {}
 
-/// Agreement is kept by what a `Mem` does.
+/// What a `Mem` does preserves agreement.
 pub fn agreement<D>()
     ensures replayed { (h : Hashing D) → (rule : List ℕ → List ℕ) → (rs : List (RecordModel D)) → (X : List D) → (ls : List (List D)) → (c : Contents D)
         → IsHistory h rule rs (X ∷ ls) → Agrees h rule c X → Agrees h rule (with_records rs c) (last_list (X ∷ ls)) }
@@ -45,7 +45,8 @@ pub fn agreement<D>()
         → Agrees h rule (pruned rule b c) X }
 {}
 
-/// A structure holds exactly the kept positions, whatever was pruned and applied, and as many peaks as its forest has.
+/// A structure holds exactly the kept positions, whatever was pruned and applied, and as many peaks
+/// as its forest has.
 pub fn holding<D>()
     ensures none { (rule : List ℕ → List ℕ) → HoldsKept rule (contents (no_leaves {D = D})) }
     ensures made { (rule : List ℕ → List ℕ) → (b n : ℕ) → (pins nodes : List D) → length pins ≡ length (peak_positions rule b)
@@ -57,27 +58,29 @@ pub fn holding<D>()
         → length (held_peaks rule n c) ≡ length (peak_positions rule n) }
 {}
 
-/// A structure made of the digests that a list defines, the nodes from a boundary on and the peaks at it, agrees with the list.
+/// A structure created from the digests of a list, those of the nodes from a boundary on and of the
+/// peaks at the boundary, agrees with the list.
 pub fn components<D>()
     ensures agrees { (h : Hashing D) → (rule : List ℕ → List ℕ) → (X : List D) → (b n : ℕ) → (pins nodes : List D)
         → AreComponents h rule X b pins nodes → Agrees h rule (contents (made_of rule b n pins nodes)) X }
 {}
 
-/// Prune then apply equals apply then prune, whatever the records are.
+/// Pruning and then applying equals applying and then pruning, whatever the records are.
 pub fn commuting<D>()
     ensures same { (a b : Contents D) → a.boundary ≡ b.boundary → a.size ≡ b.size → ((p : ℕ) → a.node p ≡ b.node p) → a ≡ b }
     ensures commutes { (same : D → D → Bool) → (rule : List ℕ → List ℕ) → (n b : ℕ) → (k : MerkleizedModel D) → (c : Contents D) → c.size ≡ size rule n → b ≤ n
         → applied same rule n k (pruned rule b c) ≡ elim (applied same rule n k c) [ Ok a ↦ Ok (pruned rule b a) | Err e ↦ Err e ] }
 {}
 
-/// Two lists of one length with the same peak digests are equal, or collide at a node.
+/// Two lists of the same length with the same peak digests are equal, or collide at a node.
 pub fn collision<D>()
     ensures collides { (h : Hashing D) → (rule : List ℕ → List ℕ) → EqDecides h → (X Y : List D) → length X ≡ length Y
         → peak_digests h rule X ≡ peak_digests h rule Y → (X ≡ Y) ⊎ Collide h rule X Y }
 {}
 
-/// A batch that stands on lists is accepted at one of them, with the length and the peak digests of the `Mem`'s list: if it is
-/// that list, the `Mem` then agrees with the last list, and if it is not, the two lists collide at a node.
+/// A batch with a history of lists is accepted at one of them, which has the length and the peak
+/// digests of the list of the `Mem`. If it is that list, the `Mem` then agrees with the last list;
+/// if it is not, the two lists collide at a node.
 pub fn acceptance<D>()
     ensures accepted { (h : Hashing D) → (rule : List ℕ → List ℕ) → EqDecides h → (k : MerkleizedModel D) → (ls : List (List D)) → (c : Contents D) → (X : List D)
         → (i : ℕ) → IsHistory h rule (records k) ls → Agrees h rule c X → matched h.same c.size (held_peaks rule (length X) c) k ≡ Some i
@@ -93,7 +96,8 @@ pub fn acceptance<D>()
         → held_peaks rule (length X) c ≡ peak_digests h rule X }
 {}
 
-/// What is read through the records of a batch that stands on lists, and below them from a base that agrees with one of those lists.
+/// What is read through the records of a batch with a history of lists, and below them from a base
+/// that agrees with one of those lists.
 pub fn reading<D>()
     ensures newest { (h : Hashing D) → (rule : List ℕ → List ℕ) → (rs : List (RecordModel D)) → (X : List D) → (ls : List (List D)) → (p : ℕ)
         → IsHistory h rule rs (X ∷ ls) → slice_get (node_digests h rule (last_list (X ∷ ls))) p ≡ option_or (newest rs p) (slice_get (node_digests h rule X) p) }
@@ -118,7 +122,7 @@ pub fn computing<D>()
         → (t : Tree) → IsUsed rule m n e t → is_kept rule b (position t) ≡ true }
 {}
 
-/// What the calls of a batch do to its list, n being the number of leaves with those that it appended.
+/// What the calls of a batch do to its list; n is the leaf count with the appended leaves.
 pub fn editing<D>()
     ensures length { (rule : List ℕ → List ℕ) → (r : RecordModel D) → (X : List D) → (n : ℕ) → r.before ≡ size rule (length X) → length X ≤ n
         → r.before + length r.appended ≡ size rule n → length (edited rule r X) ≡ n }
@@ -134,7 +138,7 @@ pub fn editing<D>()
         → s.appended ≡ slice_set r.appended (size rule k - r.before) d → edited rule s X ≡ slice_set (edited rule r X) k d }
 {}
 
-/// What merkleizing makes: s of the pending record r, n leaves in all.
+/// What merkleizing produces: the record s from the pending record r, with n leaves in all.
 pub fn completing<D>()
     ensures step { (h : Hashing D) → (rule : List ℕ → List ℕ) → (r s : RecordModel D) → (X : List D) → (n : ℕ) → r.before ≡ size rule (length X) → length X ≤ n
         → r.before + length r.appended ≡ size rule n → IsCompleted h rule r s X → IsStep h rule s X (edited rule r X) }
@@ -162,7 +166,11 @@ pub fn completing<D>()
         → IsNeeded rule (get r.overwritten) (length (last_list (X ∷ ls))) e t → (d : D) × (read_over rs base (position t) ≡ Some d) }
 {}
 
-/// A used node t, read from what the batch has so far (`own`, right wherever it has a digest, and with one for t if t is new or dirty), then from the kept records, then from the base.
+/// A used node t is read from what the batch has so far, then from the kept records, then from the
+/// base.
+///
+/// What the batch has so far (`own`) is right wherever it has a digest, and it has one for t if t
+/// is new or dirty.
 pub fn gathering<D>()
     ensures right { (h : Hashing D) → (rule : List ℕ → List ℕ) → (rs : List (RecordModel D)) → (X : List D) → (ls : List (List D)) → (base : Contents D)
         → IsBased h rule rs X ls base → (r : RecordModel D) → (e : ℕ)
@@ -175,7 +183,8 @@ pub fn gathering<D>()
         → ((size rule n ≤ position t) ⊎ (is_dirty m t ≡ true) → is_some (own (position t)) ≡ true) → own (position t) ≡ None → IsNeeded rule m n e t }
 {}
 
-/// How many nodes a batch computes: a list without repetition of their positions is as long, and so are the levels together.
+/// The number of nodes that a batch computes: it is the length of a list of their positions without
+/// repetition, and the sum of the lengths of the levels.
 pub fn counting<D>()
     ensures listed { (rule : List ℕ → List ℕ) → (m : ℕ → Option D) → (n e : ℕ) → (ps : List ℕ) → IsDistinct nat_eq ps
         → ((p : ℕ) → list_any (nat_eq p) ps ≡ passes (is_computed rule m n) (slice_get (forest rule e).nodes p)) → length ps ≡ length (computed rule m n e) }
@@ -184,7 +193,8 @@ pub fn counting<D>()
         → total (λ h. length (level rule m n e h)) k ≡ length (computed rule m n e) }
 {}
 
-/// What a proof of leaves at or after the boundary reads is kept: the peaks, and the children of each node over such a leaf.
+/// What a proof of leaves at or after the boundary reads is kept: the peaks, and the children of
+/// every node over such a leaf.
 pub fn proving()
     ensures peaks { (rule : List ℕ → List ℕ) → (b n i : ℕ) → (t : Tree) → b ≤ n → slice_get (forest rule n).peaks i ≡ Some t
         → is_kept rule b (position t) ≡ true }
@@ -192,7 +202,8 @@ pub fn proving()
         → IsUnder (leaf q k) (join p l r) → b ≤ k → (is_kept rule b (position l) ≡ true) × (is_kept rule b (position r) ≡ true) }
 {}
 
-/// What is shown: by an empty and by an agreeing `Mem`, by a batch, and of the first entries of a list.
+/// What is shown: by an empty and by an agreeing `Mem`, by a batch, and of the first entries of a
+/// list.
 pub fn showing<D>()
     ensures empty { (h : Hashing D) → (rule : List ℕ → List ℕ) → Agrees h rule (record { boundary = 0; size = 0; node = λ p. None }) [] }
     ensures agrees { (h : Hashing D) → (rule : List ℕ → List ℕ) → (c : Contents D) → (X : List D) → Agrees h rule c X → Shows h rule c.size c.node X }
@@ -210,7 +221,7 @@ pub fn marking<D>()
         → (size rule n ≤ position t) ⊎ ((is_dirty m t ≡ true) ⊎ IsNeeded rule m n e t) }
 {}
 
-/// What a fork keeps of the records of its parent, and the lists that these stand on.
+/// What a fork keeps of the records of its parent, and the lists that are their history.
 pub fn forking<D>()
     ensures stands { (h : Hashing D) → (rule : List ℕ → List ℕ) → (p : UnmerkleizedModel D) → (ls : List (List D)) → p.forgotten ≤ length p.parent.ancestors
         → IsHistory h rule (records p.parent) ls
@@ -218,7 +229,7 @@ pub fn forking<D>()
     ensures last { (ls : List (List D)) → (Y : List D) → last_list (ls ++ Y ∷ []) ≡ Y }
 {}
 
-/// The definitions on small cases, by computing.
+/// The definitions, computed on small cases.
 pub fn worked_rows()
     ensures leaves { xor.leaf 0 (1 ∷ []) ∷ xor.leaf 1 (2 ∷ []) ∷ xor.leaf 3 (4 ∷ []) ∷ [] ≡ 1 ∷ 3 ∷ 7 ∷ [] }
     ensures digests { node_digests xor mmr_merges (1 ∷ 3 ∷ 7 ∷ []) ≡ 1 ∷ 3 ∷ 0 ∷ 7 ∷ [] }
@@ -246,8 +257,9 @@ pub fn worked_rows()
     ensures needs { IsNeeded mmr_merges (at_two 0 0) 2 2 (leaf 1 1) }
     ensures collide { Collide xor mmr_merges (1 ∷ 3 ∷ []) (2 ∷ 0 ∷ []) }
 
-    // A batch that exchanges two leaves, which their peak does not tell, so its two lists collide. The structure of the list
-    // before is accepted at its own list; the structure of the list after at the list before, which is another.
+    // A batch that exchanges two leaves, which does not change their peak, so that its two lists
+    // collide. The structure of the first list is accepted at its own list; the structure of the
+    // second list is accepted at the first one, which differs from its own.
     ensures exchange_stands { IsHistory xor mmr_merges (exchange ∷ []) ((1 ∷ 3 ∷ []) ∷ (3 ∷ 1 ∷ []) ∷ []) }
     ensures exchange_collides { Collide xor mmr_merges (1 ∷ 3 ∷ []) (3 ∷ 1 ∷ []) }
     ensures exchange_matched { matched xor.same 3 (0 ∷ []) exchanging ≡ Some 0 }
@@ -257,33 +269,36 @@ pub fn worked_rows()
     ensures foreign_agrees { Agrees xor mmr_merges two_exchanged (3 ∷ 1 ∷ []) }
     ensures foreign_applies { applied xor.same mmr_merges 2 exchanging two_exchanged ≡ Ok (with_record exchange two_exchanged) }
 
-    // With a third leaf after the exchange the structure of the list before is accepted at the list after, and agrees with
-    // no list of the batch then.
+    // With a third leaf added after the exchange, the structure of the first list is accepted at
+    // the second one, and then agrees with no list of the batch.
     ensures foreign_differs { Agrees xor mmr_merges (with_record addition two) (3 ∷ 1 ∷ 7 ∷ []) → ⊥ }
 
-    // All nodes of five leaves are held, not with the four oldest leaves counted as pruned; and of what was pruned some are
-    // missing where nothing counts as pruned.
+    // All nodes of five leaves are held, but not with the four oldest leaves counted as pruned; and
+    // after pruning some are missing if nothing counts as pruned.
     ensures holds_all { HoldsKept mmr_merges five }
     ensures holds_too_many { HoldsKept mmr_merges (record five { boundary = 4 }) → ⊥ }
     ensures holds_too_few { HoldsKept mmr_merges (record (pruned mmr_merges 4 five) { boundary = 0 }) → ⊥ }
 
-    // Three leaves pruned to the second: the pin of the first two leaves' peak, and the third leaf.
+    // Three leaves pruned to location 2: the pinned peak of the first two leaves, and the third
+    // leaf.
     ensures makes { map (contents {D = ℕ} (made_of mmr_merges 2 3 (0 ∷ []) (7 ∷ []))).node (range_with_len 0 5) ≡ None ∷ None ∷ Some 0 ∷ Some 7 ∷ None ∷ [] }
 
-    // The leaves at the locations 2, 3 and 4 stand at the positions 3, 4 and 7.
+    // The leaves at the locations 2, 3 and 4 are at the positions 3, 4 and 7.
     ensures replaces { replaced mmr_merges (at_two 3 4) 0 (5 ∷ 6 ∷ 7 ∷ 8 ∷ []) ≡ 5 ∷ 6 ∷ 0 ∷ 0 ∷ [] }
     ensures added_leaves { leaves_from {D = ℕ} mmr_merges 2 3 (7 ∷ 8 ∷ 15 ∷ 16 ∷ 9 ∷ []) ≡ 7 ∷ 8 ∷ 9 ∷ [] }
     ensures touches { map (is_dirty (at_two 0 0)) (leaf 1 1 ∷ join 2 (leaf 0 0) (leaf 1 1) ∷ []) ≡ false ∷ true ∷ [] }
     ensures dirty_unneeded { IsNeeded mmr_merges (at_two 0 0) 2 2 (leaf 0 0) → ⊥ }
     ensures new_unneeded { IsNeeded {D = ℕ} mmr_merges (λ p. None) 1 2 (leaf 1 1) → ⊥ }
 
-    // The size before the oldest record, and after it, with another peak; then their peaks with another size.
+    // The size before the oldest record, and after it, with a different peak; then their peaks with
+    // a different size.
     ensures unmatched { matched xor.same 0 (1 ∷ []) second_batch ≡ None }
     ensures unmatched_later { matched xor.same 3 (1 ∷ []) second_batch ≡ None }
     ensures unmatched_size { matched xor.same 1 [] second_batch ≡ None }
     ensures unmatched_size_later { matched xor.same 4 (0 ∷ []) second_batch ≡ None }
 
-    // Two of the states have this size and this peak: the newer one counts, unless one of them is that before the oldest record.
+    // Two of the states have this size and this peak: the newer one is used, unless one of them is
+    // the state before the oldest record.
     ensures matched_newest { matched xor.same 3 (0 ∷ []) exchanged_batch ≡ Some 2 }
     ensures matched_oldest { matched xor.same 3 (0 ∷ []) (record exchanged_batch { ancestors = exchange ∷ [] }) ≡ Some 0 }
     ensures accepts_later { applied xor.same mmr_merges 2 second_batch two ≡ Ok (with_record second_record two) }
@@ -292,7 +307,8 @@ pub fn worked_rows()
     ensures refuses { applied xor.same mmr_merges 1 second_batch one ≡ Err (StaleBatch 0 1) }
     ensures agrees { Agrees xor mmr_merges (pruned mmr_merges 4 five) (1 ∷ 3 ∷ 0 ∷ 0 ∷ 2 ∷ []) }
 
-    // With another leaf, with pruned nodes, without a node, with fewer nodes, and pruned past the end.
+    // With a different leaf, with pruned nodes, without a node, with fewer nodes, and pruned past
+    // the end.
     ensures agrees_otherwise { Agrees xor mmr_merges five (1 ∷ 3 ∷ 0 ∷ 0 ∷ 4 ∷ []) → ⊥ }
     ensures agrees_unpruned { Agrees xor mmr_merges (record five { boundary = 4 }) (1 ∷ 3 ∷ 0 ∷ 0 ∷ 2 ∷ []) → ⊥ }
     ensures agrees_partly { Agrees xor mmr_merges (record (pruned mmr_merges 4 five) { boundary = 0 }) (1 ∷ 3 ∷ 0 ∷ 0 ∷ 2 ∷ []) → ⊥ }
@@ -311,12 +327,13 @@ pub fn worked_rows()
     ensures lets_go { (without_ancestors fourth 5).forgotten ≡ 2 }
     ensures adds { pending_list mmr_merges fourth (3 ∷ 1 ∷ 7 ∷ []) ≡ 3 ∷ 1 ∷ 7 ∷ 9 ∷ [] }
 
-    // Of several updates of one leaf the last one stays, of an old leaf and of an added one.
+    // Of several updates of one leaf the last one is kept, for an old leaf and for an added one.
     ensures updates { pending_list mmr_merges (with_updates mmr_merges fourth ((2, 5) ∷ (3, 6) ∷ (2, 8) ∷ (3, 4) ∷ [])) (3 ∷ 1 ∷ 7 ∷ []) ≡ 3 ∷ 1 ∷ 8 ∷ 4 ∷ [] }
     ensures sets { with_entries {D = ℕ} (3 ∷ 1 ∷ 7 ∷ []) ((2, 5) ∷ (0, 6) ∷ (2, 8) ∷ []) ≡ 6 ∷ 1 ∷ 8 ∷ [] }
     ensures faults { map (update_fault mmr_merges (over_pruned 5)) (0 ∷ 3 ∷ 4 ∷ 5 ∷ []) ≡ Some (Pruned 0) ∷ Some (Pruned 4) ∷ None ∷ Some (OutOfBounds 5) ∷ [] }
     ensures first_of_faults { first_fault mmr_merges (over_pruned 5) ((4, 1) ∷ (5, 1) ∷ (3, 1) ∷ []) ≡ Some (OutOfBounds 5) }
 
-    // With fewer leaves than were pruned, which no call leads to, both faults hold, and that there is no such leaf is told.
+    // With fewer leaves than were pruned, which no sequence of calls leads to, both errors apply,
+    // and the missing leaf is reported.
     ensures both_faults { update_fault mmr_merges (over_pruned 2) 3 ≡ Some (OutOfBounds 3) }
 {}

@@ -1,4 +1,4 @@
-//! What holds of proofs against roots: the theory that the checks rest on.
+//! Laws of proofs against roots: the theory that the checks build on.
 //!
 //! Each function is empty. Its contract is a law of the definitions in `specs/`.
 ghost use Rattle.std.specs.Prelude.{◌≡◌, ℕ, ◌+◌, ◌*◌, ◌^◌, [], ◌∷◌, true, false, nat_eq, Some, None, map};
@@ -46,9 +46,9 @@ ghost use Rattle.merkle_claim_theory.specs.Store.{PartIsAccepted, SiblingsAreRea
 ghost use Rattle.merkle_claim_theory.specs.ThreeLeaves.{ThreeLeaves, xor_hashing, three, plan_of_three};
 ghost use Rattle.merkle_claim_theory.specs.Verdict.{CheckDecides, ExtractsOnce, Verdicts, HonestMultiHasNoCollision, HonestPinnedHasNoCollision};
 
-/// What holds of claims: trees of places in which some digests are given and the others computed.
+/// Laws of claims: trees of places in which some digests are given and the rest are computed.
 pub fn claims<D>()
-    // Two of one shape and one value: what is given agrees, or they collide.
+    // Two claims of one shape and one value agree in what is given, or they collide.
     ensures collide { AgreeOrCollide D }
 
     // An honest claim has the value of the list.
@@ -61,12 +61,12 @@ pub fn claims<D>()
     ensures pairs { PairAgrees D }
 {}
 
-/// What holds of collisions, and of the strings and places in which they lie.
+/// Laws of collisions, and of the strings and places in which they are.
 pub fn collisions<D>()
-    // The search by tests finds the first collision if there is any.
+    // The search finds the first collision, if there is any.
     ensures first { FindsFirst D }
 
-    // The string of a root tells each of its parts.
+    // The string of a root determines each of its parts.
     ensures strings { RootStringTellsAll D }
 
     // Two lists with the same peak digests are the same, or collide at a node.
@@ -75,55 +75,56 @@ pub fn collisions<D>()
     // An honest claim never collides with its list.
     ensures honest { HonestNeverCollides D }
 
-    // The inputs of a list stand in the order of the places.
+    // The inputs of a list are in the order of the places.
     ensures order { PlacesInOrder D }
 
-    // No place stands there with two arguments.
+    // No place occurs there with two arguments.
     ensures once { PlacesOnce D }
 
-    // Where two lists of one length collide at a node, the inputs of their forests collide at its place.
+    // If two lists of one length collide at a node, the inputs of their forests collide at its
+    // place.
     ensures located { CollideIsLocated D }
 
-    // And the other way round.
+    // And conversely.
     ensures nodes { LocatedIsCollide D }
 {}
 
-/// What a root tells that a check accepts.
+/// What a root that a check accepts determines.
 pub fn root_names<D>()
     // The family's byte, the bagging and the leaf count are part of what was hashed.
     ensures names { YesNamesRoot D }
     ensures multi { MultiNamesRoot D }
     ensures pinned { PinnedNamesRoot D }
 
-    // They are of each root that is computed, of a list or of a proof of any kind.
+    // This holds for every root that is computed, of a list or of a proof of any kind.
     ensures computed { RootIsNamed D }
 
     // Equal roots of two families or two baggings are two different strings with one hash.
     ensures apart { EqualRootsCollide D }
 
-    // So it is where an accepted root is that of a list of another family or bagging.
+    // This is also so if an accepted root is that of a list of a different family or bagging.
     ensures lists { OtherListCollides D }
 
-    // And where it is accepted under both.
+    // And if it is accepted under both.
     ensures checks { OtherYesCollides D }
 {}
 
-/// Under a hasher whose nodes and folds are a plain hash of joined bytes a located collision is two different byte strings
-/// with one plain hash.
+/// Under a hasher whose nodes and folds are a plain hash of joined bytes, a located collision is
+/// two different byte strings with one plain hash.
 pub fn plain_hash<D>()
-    // The hasher over a plain hash function is such a one.
+    // The hasher over a plain hash function is such a hasher.
     ensures standard { StandardIsPlain D }
 
     // Two roots that collide are such a pair, under any hasher.
     ensures roots { RootCollision D }
 
-    // So it is wherever two arguments of one form collide.
+    // So are two arguments of one form that collide.
     ensures strings { PlainCollision D }
 
-    // All that collide between a range input and a list are of one form.
+    // Whatever collides between a range input and a list is of one form.
     ensures ranges { RangeCollision D }
 
-    // So are those of checks of single leaves and of checks with pins.
+    // This also holds for checks of scattered leaves and for checks with pins.
     ensures multi { MultiCollision D }
     ensures pinned { PinnedCollision D }
 
@@ -134,13 +135,14 @@ pub fn plain_hash<D>()
     ensures nodes { NodeCollision D }
 {}
 
-/// A location needs at most 122 digests, in both families, up to their greatest leaf counts.
+/// A proof needs at most 122 digests for each location, in both families, up to their greatest leaf
+/// counts.
 pub fn few_digests<D>()
     ensures range_positions { FewPositions D mmr_merges (2 ^ 62) }
     ensures belt_positions { FewPositions D mmb_merges (2 ^ 62 + 30) }
 {}
 
-/// What holds of claims beside which the proof tells digests that are also computed.
+/// Laws of claims for which the proof also supplies redundant digests, of nodes that are computed.
 pub fn told_digests<D>()
     // Honest multi claims hold and have the value of the list.
     ensures multi { HonestMultiAccepted D }
@@ -148,7 +150,7 @@ pub fn told_digests<D>()
     // So do honest pinned claims.
     ensures pins { HonestPinsAccepted D }
 
-    // No other multi claims do, but for collisions.
+    // No other multi claims do, except for collisions.
     ensures no_other_multi { MultiClaimSound D }
 
     // Nor do other pinned claims.
@@ -160,12 +162,14 @@ pub fn outside_nodes()
     ensures { OutsideIsLayout }
 {}
 
-/// The other children on the path to a leaf are the siblings that a proof of that leaf needs, from the top down.
+/// The siblings on the path to a leaf, from the top down, are those that a proof of that leaf
+/// needs.
 pub fn paths()
     ensures { PathHasSiblings }
 {}
 
-/// What holds of range checks against a list given by its leaf at each location, and of two checks against one root.
+/// Laws of range checks against a list that is given by its leaf at each location, and of two
+/// checks against one root.
 pub fn list_checks<D>()
     ensures honest { HonestRangeAccepted D }
     ensures others { PlanCheckSound D }
@@ -175,33 +179,36 @@ pub fn list_checks<D>()
     ensures clear { HonestHasNoCollision D }
 {}
 
-/// A wrong proof of one of three leaves under exclusive or, which is accepted, and the place where it collides.
+/// A wrong proof of one of three leaves under exclusive or, which is accepted, and the place of its
+/// collision.
 pub fn three_leaves()
     ensures { ThreeLeaves }
 {}
 
-/// The definitions of layouts, checks, roots and collisions on small cases, by computing.
+/// The definitions of layouts, checks, roots and collisions, computed on small cases.
 pub fn worked_rows()
     ensures inside { map (in_range 1 3) (0 ∷ 1 ∷ 2 ∷ 3 ∷ []) ≡ false ∷ true ∷ true ∷ false ∷ [] }
     ensures overlap { map position (overlapping 4 6 seven) ≡ 9 ∷ [] }
     ensures after { map position (wholly_after 4 seven) ≡ 9 ∷ 10 ∷ [] }
 
-    // Beside leaf 1 of four its neighbour, and then the node over the other two.
+    // For leaf 1 of four: its sibling, and then the node over the other two.
     ensures sibling_nodes { map position (siblings (in_range 1 2) four) ≡ 0 ∷ 5 ∷ [] }
     ensures sibling_nodes_two { map position (range_siblings 3 5 seven) ≡ 2 ∷ 3 ∷ 8 ∷ [] }
     ensures plan_forward { root_plan ForwardFold 2 (single 0 ∷ single 1 ∷ single 2 ∷ []) ≡ Some (folding (PrefixFold 2) (folding (PrefixFold 1) (alone 0) (alone 1)) (alone 2)) }
     ensures plan_backward { root_plan BackwardFold 2 (single 0 ∷ single 1 ∷ single 2 ∷ single 3 ∷ single 4 ∷ [])
         ≡ Some (folding Join (folding (PrefixFold 1) (alone 0) (alone 1)) (folding (SuffixFold 2) (alone 2) (folding (SuffixFold 3) (alone 3) (alone 4)))) }
 
-    // What a proof of the leaves of one peak begins with. Forward: the peaks before it folded, those after it single.
-    // Backward: of the peaks before it the inactive ones folded, of those after it the active ones, and the others single.
+    // The first part of a proof of the leaves of one peak. Forward: the peaks before it folded,
+    // those after it individual. Backward: the inactive peaks before it folded, the active peaks
+    // after it folded, and the rest individual.
     ensures layout_forward { layout ForwardFold 0 (single 0 ∷ single 1 ∷ []) (single 2 ∷ []) (single 3 ∷ single 4 ∷ []) ≡ folding (PrefixFold 1) (alone 0) (alone 1) ∷ alone 3 ∷ alone 4 ∷ [] }
     ensures layout_before { layout BackwardFold 1 (single 0 ∷ single 1 ∷ single 2 ∷ []) (single 3 ∷ []) (single 4 ∷ single 5 ∷ [])
         ≡ alone 0 ∷ alone 1 ∷ alone 2 ∷ folding (SuffixFold 4) (alone 4) (alone 5) ∷ [] }
     ensures layout_after { layout BackwardFold 5 (single 0 ∷ single 1 ∷ []) (single 2 ∷ []) (single 3 ∷ single 4 ∷ single 5 ∷ single 6 ∷ [])
         ≡ folding (PrefixFold 1) (alone 0) (alone 1) ∷ alone 3 ∷ alone 4 ∷ folding (SuffixFold 5) (alone 5) (alone 6) ∷ [] }
 
-    // The digests of these layouts: before, after, and of inactive peaks, of which the folded ones have one.
+    // The numbers of digests of these layouts: before, after, and of inactive peaks, of which the
+    // folded ones have one together.
     ensures counts_forward { count_before ForwardFold 0 (single 0 ∷ single 1 ∷ []) ∷ count_after ForwardFold 0 3 (single 3 ∷ single 4 ∷ []) ∷ count_inactive ForwardFold 0 (single 0 ∷ single 1 ∷ []) ∷ [] ≡ 1 ∷ 2 ∷ 1 ∷ [] }
     ensures counts_before { count_before BackwardFold 1 (single 0 ∷ single 1 ∷ single 2 ∷ []) ∷ count_after BackwardFold 1 4 (single 4 ∷ single 5 ∷ []) ∷ count_inactive BackwardFold 1 (single 0 ∷ single 1 ∷ single 2 ∷ []) ∷ [] ≡ 3 ∷ 1 ∷ 1 ∷ [] }
     ensures counts_after { count_before BackwardFold 5 (single 0 ∷ single 1 ∷ []) ∷ count_after BackwardFold 5 3 (single 3 ∷ single 4 ∷ single 5 ∷ single 6 ∷ []) ∷ count_inactive BackwardFold 5 (single 0 ∷ single 1 ∷ []) ∷ [] ≡ 1 ∷ 3 ∷ 4 ∷ [] }
@@ -215,7 +222,7 @@ pub fn worked_rows()
     ensures reads_backward { map position (reading_order BackwardFold 0 small.rule 5 1 2) ≡ 0 ∷ 4 ∷ 3 ∷ 2 ∷ [] }
     ensures reads_inactive { map position (reading_order BackwardFold 3 small.rule 5 1 2) ≡ 0 ∷ 2 ∷ 4 ∷ 3 ∷ [] }
 
-    // Of the first leaf, where the first two are merged: the peak after it, and then the second leaf.
+    // For the first leaf, if the first two are merged: the peak after it, and then the second leaf.
     ensures digests { range_digests (record small { rule = paired }) (1 ∷ 3 ∷ 7 ∷ []) 0 0 1 ≡ 7 ∷ 3 ∷ [] }
 
     // The digests 1, 3 and 7 fold to 5, and with the leaf count hash to 6.
@@ -225,7 +232,8 @@ pub fn worked_rows()
     ensures accepts { AcceptsNonempty small (middle 0 (1 ∷ 7 ∷ [])) 6 }
     ensures accepts_inactive { AcceptsNonempty small (middle 3 (1 ∷ 7 ∷ [])) 5 }
 
-    // Each of these inputs has one thing wrong. All but the first are against the root that is computed for them.
+    // Each of these inputs has one thing wrong. All but the first are against the root that is
+    // computed for them.
     ensures other_root { AcceptsNonempty small (middle 0 (1 ∷ 7 ∷ [])) 5 → ⊥ }
     ensures too_many_inactive { AcceptsNonempty small (middle 4 (1 ∷ 7 ∷ [])) 2 → ⊥ }
     ensures too_many_digests { AcceptsNonempty small (middle 0 (1 ∷ 7 ∷ 9 ∷ [])) 6 → ⊥ }
@@ -233,25 +241,29 @@ pub fn worked_rows()
     ensures too_many_leaves { AcceptsNonempty small (record { leaves = 4; inactive = 0; digests = 1 ∷ 7 ∷ 2 ∷ []; start = 1; elements = 3 ∷ [] }) 3 → ⊥ }
     ensures no_elements { AcceptsNonempty small (record { leaves = 3; inactive = 0; digests = 1 ∷ 3 ∷ 7 ∷ []; start = 1; elements = [] }) 2 → ⊥ }
 
-    // What is hashed for a list: the string of the root, then the folds from the last one down, and then the nodes.
+    // What is hashed for a list: the string of the root, then the folds from the last one down, and
+    // then the nodes.
     ensures inputs_folds { list_inputs ≡ record { place = Root; argument = Bytes (0 ∷ 0 ∷ 0 ∷ 0 ∷ 0 ∷ 0 ∷ 0 ∷ 0 ∷ 0 ∷ 3 ∷ 5 ∷ []) }
         ∷ record { place = PrefixFold 2; argument = Pair 2 7 } ∷ record { place = PrefixFold 1; argument = Pair 1 3 } ∷ [] }
     ensures inputs_nodes { inputs xor_hashing (plan_expression three plan_of_three) ≡ record { place = PrefixFold 1; argument = Pair 0 7 } ∷ record { place = Node 2; argument = Pair 1 3 } ∷ [] }
 
-    // With its two digests swapped the proof of the middle leaf has the root too, and collides where the last peak is folded.
+    // With its two digests swapped, the proof of the middle leaf has the root too, and collides
+    // where the last peak is folded.
     ensures accepts_swapped { AcceptsNonempty small (middle 0 (7 ∷ 1 ∷ [])) 6 }
     ensures collides { Collides small.hashing swapped_inputs list_inputs (record { place = PrefixFold 2; claimed = Pair 4 1; listed = Pair 2 7 }) }
     ensures no_collision { Collides small.hashing swapped_inputs list_inputs (record { place = PrefixFold 1; claimed = Pair 7 3; listed = Pair 1 3 }) → ⊥ }
     ensures no_collision_alike { Collides small.hashing list_inputs list_inputs (record { place = PrefixFold 2; claimed = Pair 2 7; listed = Pair 2 7 }) → ⊥ }
     ensures no_collision_elsewhere { first_collision small.hashing (record { place = PrefixFold 1; argument = Pair 4 1 } ∷ []) (record { place = PrefixFold 2; argument = Pair 2 7 } ∷ []) ≡ None }
 
-    // The string of a root of family 8 with three leaves, folded right to left, is none of another family, bagging or count.
+    // The string of a root of family 8 with three leaves, folded right to left, is none of a
+    // different family, bagging or leaf count.
     ensures names { NamesRoot bare 3 bare_root }
     ensures names_another_count { NamesRoot bare 4 bare_root → ⊥ }
     ensures names_another_family { NamesRoot (record bare { domain = 9 }) 3 bare_root → ⊥ }
     ensures names_another_bagging { NamesRoot (record bare { bagging = ForwardFold }) 3 bare_root → ⊥ }
 
-    // The root 6 of the leaves 1, 3 and 7 is under another family's byte that of 1, 3 and 6, whose fold is 4.
+    // The root 6 of the leaves 1, 3 and 7 is, with the byte of a different family, that of 1, 3 and
+    // 6, whose fold is 4.
     ensures apart_family { AreApart small other_family }
     ensures apart_bagging { AreApart small (record small { bagging = BackwardFold }) }
     ensures not_apart { AreApart small small → ⊥ }
@@ -259,7 +271,8 @@ pub fn worked_rows()
     ensures roots_collide { RootsCollide small.hashing list_inputs other_inputs }
     ensures no_roots_collide { RootsCollide small.hashing swapped_inputs list_inputs → ⊥ }
 
-    // The bytes of two digests, at a node after its position, and of a string. Positions above 255 have two bytes that count.
+    // The bytes of two digests, at a node after its position, and of a string. Positions above 255
+    // have two significant bytes.
     ensures joined_node { joined_at one_byte (Node 258) 7 9 ≡ 0 ∷ 0 ∷ 0 ∷ 0 ∷ 0 ∷ 0 ∷ 1 ∷ 2 ∷ 7 ∷ 9 ∷ [] }
     ensures joined_fold { joined_at one_byte (PrefixFold 258) 7 9 ≡ 7 ∷ 9 ∷ [] }
     ensures string_pair { string_at one_byte (Node 1) (Pair 7 9) ≡ 0 ∷ 0 ∷ 0 ∷ 0 ∷ 0 ∷ 0 ∷ 0 ∷ 1 ∷ 7 ∷ 9 ∷ [] }
@@ -273,12 +286,13 @@ pub fn worked_rows()
     ensures one_form { SameForm {D = ℕ} (Pair 1 2) (Pair 3 4) × SameForm {D = ℕ} (Bytes []) (Bytes (1 ∷ [])) }
     ensures two_forms { (SameForm {D = ℕ} (Pair 1 2) (Bytes (1 ∷ 2 ∷ [])) → ⊥) × (SameForm {D = ℕ} (Bytes (1 ∷ 2 ∷ [])) (Pair 1 2) → ⊥) }
 
-    // Three leaves of which the first two are merged at position 2, and the same with those two swapped.
+    // Three leaves of which the first two are merged at position 2, and the same with those two
+    // swapped.
     ensures inputs_forest { node_inputs xor_hashing paired (1 ∷ 3 ∷ 7 ∷ []) ≡ record { place = Node 2; argument = Pair 1 3 } ∷ [] }
     ensures collides_at_node { Collides xor_hashing (node_inputs xor_hashing paired (1 ∷ 3 ∷ 7 ∷ [])) (node_inputs xor_hashing paired (3 ∷ 1 ∷ 7 ∷ []))
         (record { place = Node 2; claimed = Pair 1 3; listed = Pair 3 1 }) }
 
-    // Each refusal of a proof of the middle one of three leaves, and of a proof without elements.
+    // Every error for a proof of the middle one of three leaves, and for a proof without elements.
     ensures leads { reconstructed small (middle 0 (1 ∷ 7 ∷ [])) ≡ Ok 6 }
     ensures start_past { reconstructed small (record (middle 0 []) { start = 3 }) ≡ Err InvalidStartLoc }
     ensures end_past_limit { reconstructed small (record (middle 0 []) { start = 2; leaves = 9; elements = 3 ∷ 3 ∷ [] }) ≡ Err InvalidEndLoc }
@@ -293,17 +307,17 @@ pub fn worked_rows()
     ensures empty_leaves { reconstructed small (no_elements 0 0 1 (1 ∷ [])) ≡ Err MissingElements }
     ensures empty_digest { reconstructed small (no_elements 0 0 0 (1 ∷ [])) ≡ Err ExtraDigests }
 
-    // Where none are merged a leaf's digests are those of all others.
+    // If nothing is merged, the digests for a leaf are those of all other leaves.
     ensures positions { multi_positions small.rule 3 (1 ∷ []) ≡ 0 ∷ 2 ∷ [] }
     ensures too_many_positions { FewPositions ℕ unmerged 124 → ⊥ }
 {}
 
-/// What a range check accepts: the honest inputs and, but for located collisions, no others.
+/// What a range check accepts: the honest inputs and, except for located collisions, no others.
 pub fn range_checks<D>()
     ensures honest { HonestIsAccepted D }
     ensures others { RangeSound D }
 
-    // The inputs that lead to a root without a refusal are those that are accepted against it.
+    // The inputs that lead to a root without an error are those that are accepted against it.
     ensures leads { LeadsIsAccepted D }
 
     // The check is one test.
@@ -316,7 +330,8 @@ pub fn range_checks<D>()
     ensures once { ExtractsOnce D }
 {}
 
-/// What a check of single leaves accepts: the honest inputs and, but for located collisions, no others.
+/// What a check of scattered leaves accepts: the honest inputs and, except for located collisions,
+/// no others.
 pub fn multi_checks<D>()
     ensures honest { HonestMultiIsAccepted D }
     ensures others { MultiSound D }
@@ -325,7 +340,8 @@ pub fn multi_checks<D>()
     ensures few { MultiSizeBound D }
 {}
 
-/// What a range check with pins accepts: the honest inputs with the honest pins and, but for located collisions, no others.
+/// What a range check with pins accepts: the honest inputs with the honest pins and, except for
+/// located collisions, no others.
 pub fn pinned_checks<D>()
     ensures honest { HonestPinnedIsAccepted D }
     ensures others { AcceptedPinnedIsHonest D }
@@ -333,34 +349,37 @@ pub fn pinned_checks<D>()
     // The honest pins are the peak digests of the leaves before the range.
     ensures peaks { PinsAreOldPeaks D }
 
-    // The check is the range check and a comparison of what lies before the range with what is rebuilt from the pins.
+    // The check is the range check and a comparison of what lies before the range with what is
+    // rebuilt from the pins.
     ensures parts { PinnedIsRebuilt D }
 
-    // The root over honest pins, for any inactive count, is that of the leaves before the range.
+    // The root over honest pins, for any number of inactive peaks, is that of the leaves before the
+    // range.
     ensures old_roots { PinsGiveOldRoot D }
 {}
 
-/// What holds of proofs that are read off a proof of more.
+/// Laws of proofs that are derived from a proof of a larger range.
 pub fn sub_proofs<D>()
     // What proves a range proves its parts.
     ensures accepted { PartIsAccepted D }
 
-    // The siblings under a peak are read by position.
+    // The siblings below a peak are read by position.
     ensures read { SiblingsAreRead D }
 {}
 
-/// What audits answer of accepted inputs: honest, or the first collision.
+/// What audits return for accepted inputs: honest, or the first collision.
 pub fn verdicts<D>()
     ensures all { Verdicts D }
 
     // An honest multi input has no collision.
     ensures multi { HonestMultiHasNoCollision D }
 
-    // Nor has an honest pinned input.
+    // Neither has an honest pinned input.
     ensures pinned { HonestPinnedHasNoCollision D }
 {}
 
-/// The root over the plan of a list's peaks is the list's root, for every inactive count and both baggings.
+/// The root over the plan of a list's peaks is the root of the list, for every number of inactive
+/// peaks and both baggings.
 pub fn roots<D>()
     ensures { RootsAgree D }
 {}

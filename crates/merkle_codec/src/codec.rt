@@ -1,4 +1,24 @@
-//! Values as bytes.
+//! Encoding values as bytes and decoding them.
+//!
+//! A number is encoded as an unsigned LEB128 varint in its shortest form: groups of seven bits, the
+//! least significant first, and the high bit of a byte set if another byte follows.
+//!
+//! # Examples
+//!
+//! ```
+//! let mut bytes = Vec::new(alloc);
+//! let Ok(()) = proof.write(&mut bytes) else {
+//!     return None;
+//! };
+//! // 3 leaves, 0 inactive peaks, and 2 digests of one byte: 07 and 03.
+//! assert!(rt; bytes.as_slice() == [3, 0, 2, 7, 3].as_slice());
+//!
+//! let mut input = bytes.as_slice();
+//! let Ok(decoded) = Proof::<mmr::Family, Xor8Digest>::read(alloc, &mut input, &2) else {
+//!     return None;
+//! };
+//! assert!(rt; decoded == proof && input.is_empty());
+//! ```
 ghost use Rattle.std.specs.Prelude.{◌≡◌, ◌≢◌, ◌+◌, ◌^◌, ◌<◌, ◌++◌, ℕ, List, IfOk, IfErr, OnOk, OnErr, length, vec_len, vec_capacity, ⊤};
 ghost use Rattle.merkle_codec.specs.Spelling.{option_spelling, IsDigestRefusal, IsOptionRefusal};
 ghost use Rattle.merkle_codec.specs.SpellingLaws.{option_spelling_once, IsOptionRefusal_spells_none, IsOptionRefusal_once};
@@ -8,17 +28,19 @@ use merkle_base::error::{DecodeError, OutOfMemory};
 use merkle_digest::digest::Digest;
 use std::alloc::Global;
 
-/// What has a spelling: bytes that stand for the value.
+/// A value with an encoding as bytes, which the contracts call its `spelling`.
 ///
-/// A value has one spelling, and no spelling begins another.
+/// A value has exactly one encoding, and no encoding is a prefix of that of a different value.
 pub trait EncodeSize {
-    // the bytes that spell the value
+    // the bytes of the encoding
     ghost spelling: { Self → List ℕ };
 
-    // one value, wherever it lies in memory
+    // equality of values, wherever they lie in memory
     ghost same: { Self → Self → Type 0 };
 
-    /// The number of bytes of the spelling, which fits a `usize`.
+    /// Returns the number of bytes of the encoding.
+    ///
+    /// Requires that number to fit a `usize`.
     fn encode_size(&self) -> usize
         requires { length (spelling self.now) < 2 ^ 64 }
         ensures { result ≡ length (spelling self.now) };
@@ -26,46 +48,53 @@ pub trait EncodeSize {
     ghost one_spelling: { (x y : Self) (r s : List ℕ) → spelling x ++ r ≡ spelling y ++ s → same x y × (r ≡ s) };
 }
 
-/// What can be written as its spelling.
+/// A value that can be encoded.
 pub trait Write: EncodeSize {
-    /// Appends the spelling.
+    /// Appends the encoding to `out`.
     ///
     /// # Errors
     ///
-    /// `OutOfMemory` where the vector has no room for the spelling and gets none. Then its bytes are unchanged.
+    /// - `OutOfMemory` if `out` has no room for the encoding and gets none, because a memory
+    ///   request is refused or the encoding does not fit a `usize`
+    ///
+    /// The contents of `out` are unchanged on error.
     fn write(&self, out: &mut Vec<u8>) -> Result<(), OutOfMemory>
         ensures ok { OnOk result (out.new.items ≡ out.old.items ++ Self.spelling self.now) }
         ensures err { OnErr result (out.new.items ≡ out.old.items) }
         ensures full { OnErr result (vec_capacity out.old < vec_len out.old + length (Self.spelling self.now)) };
 }
 
-/// What can be read from the front of bytes.
+/// A value that can be decoded from the front of a byte slice.
 ///
-/// A type states both: which values are `within` a limit, and with which error it `refuses` which bytes. The laws alone
-/// leave room for a reader that refuses everything: refused bytes spell no value within the limit, which says nothing where
-/// no value is, and want of memory says nothing of the bytes. So a type that has no limit has all values within, and one
-/// that requests no memory never refuses with `OutOfMemory`.
+/// An implementation states which values are `within` a limit, and which bytes it `refuses` with
+/// which error. The laws of this trait say that bytes that are refused encode no value within the
+/// limit. They also hold for an implementation that refuses everything: they say nothing if no
+/// value is within the limit, or if the error is `OutOfMemory`. So every type without a limit has
+/// all values within, and every type that requests no memory never returns `OutOfMemory`.
 pub trait Read: Sized {
     ghost use Rattle.merkle_base.specs.declared.error.DecodeError.{DecodeError};
 
-    /// What limits the values that are read.
+    /// Limits the values that are decoded; `()` for a type without a limit.
     type Cfg;
 
-    // the bytes that spell the value
+    // the bytes of the encoding
     ghost spelled_by: { Self → List ℕ };
 
-    // the values that are read under a limit
+    // the values that are decoded under a limit
     ghost within: { Self.Cfg → Self → Type 0 };
 
-    // which error stands in place of a value, for which bytes
+    // the error that is returned, by limit and bytes
     ghost refuses: { Self.Cfg → List ℕ → DecodeError → Type 0 };
 
-    /// The value whose spelling the bytes begin with, which are left without it.
+    /// Decodes the value whose encoding `input` begins with, and advances `input` past it.
     ///
     /// # Errors
     ///
-    /// Where the bytes begin with no spelling of a value within the limit, the type says which error it is. Where memory
-    /// is refused it is `OutOfMemory`. The slice is then unchanged.
+    /// - the error that the type documents, if `input` begins with no encoding of a value within
+    ///   the limit
+    /// - `OutOfMemory` if a memory request is refused
+    ///
+    /// `input` is unchanged on error.
     fn read(alloc: Global, input: &mut &[u8], cfg: &Self::Cfg) -> Result<Self, DecodeError>
         ensures ok { IfOk result (λ x. within cfg.now x × (input.old.now ≡ spelled_by x ++ input.new.now)) }
         ensures refused { IfErr result (λ e. refuses cfg.now input.old.now e) }
@@ -76,8 +105,10 @@ pub trait Read: Sized {
     ghost one_refusal: { (cfg : Self.Cfg) (b : List ℕ) (e f : DecodeError) → refuses cfg b e → refuses cfg b f → e ≢ DecodeError.OutOfMemory → f ≢ DecodeError.OutOfMemory → e ≡ f };
 }
 
-// The digest that the bytes begin with, and the bytes after it: `EndOfBuffer` where there are too few bytes, `Invalid`
-// where the first so many are no digest's.
+// Decodes the digest that `bytes` begin with, and returns it with the bytes after it.
+//
+// `EndOfBuffer` if there are fewer than [`SIZE`](Digest::SIZE) bytes, `Invalid` if the first of
+// them are not those of any digest.
 pub(crate) fn read_digest<D: Digest>(bytes: &[u8]) -> Result<(D, &[u8]), DecodeError>
     ensures ok { IfOk result (λ p. bytes.now ≡ D.bytes p.0 ++ p.1.now) }
     ensures refused { IfErr result (λ e. IsDigestRefusal D.SIZE D.Spells bytes.now e) }
@@ -91,7 +122,7 @@ pub(crate) fn read_digest<D: Digest>(bytes: &[u8]) -> Result<(D, &[u8]), DecodeE
     }
 }
 
-/// `00` for none; `01` and then the digest's bytes for a digest.
+/// The encoding is the byte `00` for `None`, and `01` and the bytes of the digest for `Some`.
 impl<D: Digest> EncodeSize for Option<D> {
     ghost spelling = { option_spelling D.bytes };
 
@@ -129,13 +160,17 @@ impl<D: Digest> Read for Option<D> {
 
     ghost refuses = { λ _ b e. IsOptionRefusal D.SIZE D.Spells b e };
 
-    /// The option of a digest whose spelling the bytes begin with, which are left without it.
+    /// Decodes the optional digest whose encoding `input` begins with, and advances `input` past
+    /// it.
     ///
     /// # Errors
     ///
-    /// In this order: `EndOfBuffer` where there is no first byte, `Invalid` where it is neither `00` nor `01`,
-    /// `EndOfBuffer` where fewer than [`SIZE`](Digest::SIZE) bytes follow the `01`, `Invalid` where those that follow are
-    /// no digest's. The slice is then unchanged. No memory is requested.
+    /// - `EndOfBuffer` if `input` is empty
+    /// - `Invalid` if the first byte is neither `00` nor `01`
+    /// - `EndOfBuffer` if the first byte is `01` and fewer than [`SIZE`](Digest::SIZE) bytes follow
+    /// - `Invalid` if the bytes that follow are not those of any digest
+    ///
+    /// `input` is unchanged on error. No memory is requested.
     fn read(_alloc: Global, input: &mut &[u8], _cfg: &()) -> Result<Self, DecodeError> {
         let Some((first, rest)) = input.split_first() else {
             return Err(DecodeError::EndOfBuffer);

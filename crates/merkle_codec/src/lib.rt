@@ -1,4 +1,4 @@
-//! Values as bytes: what spells them, and what is wrong with bytes that begin with no spelling.
+//! Encoding and decoding: numbers, digests, proofs and pending chunks as bytes.
 #![tactic(auto)]
 
 pub mod codec;

@@ -1,4 +1,4 @@
-//! Numbers as bytes, and positions and locations.
+//! Numbers as bytes, and so positions and locations.
 ghost use Rattle.std.specs.Prelude.{◌≡◌, ◌+◌, ◌-◌, ◌*◌, ◌^◌, ◌<◌, ◌≤◌, ◌++◌, ℕ, List, IfOk, IfErr, OnOk, OnErr, Ok, length, take, vec_len, vec_capacity};
 ghost use Rattle.merkle_codec.specs.NumberSpelling.{number_groups, number_spelling, IsGroupRefusal, IsNumberRefusal, IsRefusalUpTo};
 ghost use Rattle.merkle_codec.specs.NumberLaws.{number_spelling_once, IsRefusalUpTo_spells_none, IsRefusalUpTo_once, lawful_nodes, lawful_locations};
@@ -11,7 +11,7 @@ use merkle_base::location::Location;
 use merkle_base::position::Position;
 use std::alloc::Global;
 
-// The number that the groups from here on spell, of which so many are before, and the bytes after it.
+// Decodes a number from its group `before` on, and returns it with the bytes after it.
 fn read_groups(bytes: &[u8], before: u32) -> Result<(u64, &[u8]), DecodeError>
     requires { before ≤ 9 }
     ensures fits { IfOk result (λ p. p.0 < 2 ^ (64 - 7 * before)) }
@@ -38,12 +38,13 @@ fn read_groups(bytes: &[u8], before: u32) -> Result<(u64, &[u8]), DecodeError>
     }
 }
 
-/// The number that the bytes begin with, and the bytes after it.
+/// Decodes the number that `bytes` begin with, and returns it with the bytes after it.
 ///
 /// # Errors
 ///
-/// `EndOfBuffer` where the bytes end before the number does, `InvalidVarint` where its last byte is `00` and not its only
-/// one, or a tenth byte isn't `01`.
+/// - `EndOfBuffer` if the bytes end before the number does
+/// - `InvalidVarint` if the last byte of the number is `00` and not its only one, or its tenth byte
+///   is not `01`
 #[tactic(auto, unfolding(crate::specs::NumberSpelling::number_spelling, crate::specs::NumberSpelling::IsNumberRefusal))]
 pub(crate) fn read_number(bytes: &[u8]) -> Result<(u64, &[u8]), DecodeError>
     ensures read { IfOk result (λ p. bytes.now ≡ number_spelling p.0 ++ p.1.now) }
@@ -52,11 +53,13 @@ pub(crate) fn read_number(bytes: &[u8]) -> Result<(u64, &[u8]), DecodeError>
     read_groups(bytes, 0)
 }
 
-/// The number up to a greatest one that the bytes begin with, and the bytes after it.
+/// Decodes the number up to `greatest` that `bytes` begin with, and returns it with the bytes after
+/// it.
 ///
 /// # Errors
 ///
-/// As [`read_number`], and then the given one where the number is greater.
+/// - those of [`read_number`]
+/// - `above` if the number exceeds `greatest`
 pub(crate) fn read_up_to(
     bytes: &[u8],
     greatest: u64,
@@ -73,7 +76,7 @@ pub(crate) fn read_up_to(
     Ok((number, rest))
 }
 
-// The groups of a number, and how many there are.
+// Returns the bytes of a number's encoding, and how many there are.
 #[tactic(auto, unfolding(crate::specs::NumberSpelling::number_spelling))]
 fn groups_of(number: u64) -> ([u8; 10], usize)
     ensures few { result.1 ≤ 10 }
@@ -91,7 +94,7 @@ fn groups_of(number: u64) -> ([u8; 10], usize)
     (groups, len + 1)
 }
 
-/// The number of bytes of a number's spelling.
+/// Returns the number of bytes of a number's encoding.
 pub(crate) fn number_size(number: u64) -> usize
     ensures size { result ≡ length (number_spelling number) }
     ensures few { result ≤ 10 }
@@ -99,9 +102,10 @@ pub(crate) fn number_size(number: u64) -> usize
     groups_of(number).1
 }
 
-/// Appends a number's spelling.
+/// Appends a number's encoding.
 ///
-/// Refused where the vector has no room for it and gets none. Then its bytes are unchanged.
+/// `OutOfMemory` if `out` has no room for it and a memory request is refused; `out` is unchanged
+/// then.
 pub(crate) fn write_number(number: u64, out: &mut Vec<u8>) -> Result<(), OutOfMemory>
     ensures ok { OnOk result (out.new.items ≡ out.old.items ++ number_spelling number) }
     ensures len { OnOk result (vec_len out.new ≡ vec_len out.old + length (number_spelling number)) }
@@ -114,7 +118,7 @@ pub(crate) fn write_number(number: u64, out: &mut Vec<u8>) -> Result<(), OutOfMe
     Ok(())
 }
 
-/// The number of the position.
+/// A position is encoded as its number.
 impl<F: Family> EncodeSize for Position<F> {
     ghost spelling = { number_spelling };
 
@@ -142,13 +146,18 @@ impl<F: Family> Read for Position<F> {
 
     ghost refuses = { λ _ b e. IsRefusalUpTo F.MAX_NODES Invalid b e };
 
-    /// The position that the bytes begin with, which are left without it: each that is written is read back.
+    /// Decodes the position whose encoding `input` begins with, and advances `input` past it.
+    ///
+    /// Every position up to [`MAX_NODES`](Family::MAX_NODES) that was written is read back.
     ///
     /// # Errors
     ///
-    /// In this order: `EndOfBuffer` where the bytes end before the number does, `InvalidVarint` where its last byte is
-    /// `00` and not its only one, or a tenth byte isn't `01`, and `Invalid` where it is past
-    /// [`MAX_NODES`](Family::MAX_NODES). The slice is then unchanged. No memory is requested.
+    /// - `EndOfBuffer` if the bytes end before the number does
+    /// - `InvalidVarint` if the last byte of the number is `00` and not its only one, or its tenth
+    ///   byte is not `01`
+    /// - `Invalid` if the number exceeds [`MAX_NODES`](Family::MAX_NODES)
+    ///
+    /// `input` is unchanged on error. No memory is requested.
     fn read(_alloc: Global, input: &mut &[u8], _cfg: &()) -> Result<Self, DecodeError>
         ensures ok { IfOk result (λ x. (x ≤ F.MAX_NODES) × (input.old.now ≡ number_spelling x ++ input.new.now)) }
         ensures refused { IfErr result (λ e. IsRefusalUpTo F.MAX_NODES Invalid input.old.now e) }
@@ -166,7 +175,7 @@ impl<F: Family> Read for Position<F> {
     ghost one_refusal = { λ _ b e f h k _ _. IsRefusalUpTo_once F.MAX_NODES Invalid b e f h k };
 }
 
-/// The number of the location.
+/// A location is encoded as its number.
 impl<F: Family> EncodeSize for Location<F> {
     ghost spelling = { number_spelling };
 
@@ -194,13 +203,18 @@ impl<F: Family> Read for Location<F> {
 
     ghost refuses = { λ _ b e. IsRefusalUpTo F.MAX_LEAVES Invalid b e };
 
-    /// The location that the bytes begin with, which are left without it: each that is written is read back.
+    /// Decodes the location whose encoding `input` begins with, and advances `input` past it.
+    ///
+    /// Every location up to [`MAX_LEAVES`](Family::MAX_LEAVES) that was written is read back.
     ///
     /// # Errors
     ///
-    /// In this order: `EndOfBuffer` where the bytes end before the number does, `InvalidVarint` where its last byte is
-    /// `00` and not its only one, or a tenth byte isn't `01`, and `Invalid` where it is past
-    /// [`MAX_LEAVES`](Family::MAX_LEAVES). The slice is then unchanged. No memory is requested.
+    /// - `EndOfBuffer` if the bytes end before the number does
+    /// - `InvalidVarint` if the last byte of the number is `00` and not its only one, or its tenth
+    ///   byte is not `01`
+    /// - `Invalid` if the number exceeds [`MAX_LEAVES`](Family::MAX_LEAVES)
+    ///
+    /// `input` is unchanged on error. No memory is requested.
     fn read(_alloc: Global, input: &mut &[u8], _cfg: &()) -> Result<Self, DecodeError>
         ensures ok { IfOk result (λ x. (x ≤ F.MAX_LEAVES) × (input.old.now ≡ number_spelling x ++ input.new.now)) }
         ensures refused { IfErr result (λ e. IsRefusalUpTo F.MAX_LEAVES Invalid input.old.now e) }

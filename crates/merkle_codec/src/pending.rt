@@ -1,4 +1,4 @@
-//! Pending chunks: what a grafted structure keeps of a chunk whose subtree isn't whole yet.
+//! Pending chunks: what a grafted structure keeps of a chunk that does not have a single root yet.
 ghost use Rattle.std.specs.Prelude.{◌≡◌, ◌≢◌, ◌++◌, [], ℕ, List, Option, None, Ok, IfOk, IfErr, IsOk, IsErrOf, OnOk, OnErr, MatchOption, refl, ⊤};
 ghost use Rattle.std.specs.Option.{option_copied};
 
@@ -10,22 +10,23 @@ use merkle_topology::{mmb, mmr};
 use std::alloc::Global;
 use std::fmt::Debug;
 
-/// A pending chunk: it holds a digest, or none.
+/// What is kept of a pending chunk: a digest, or nothing.
 ///
-/// It is known by what it holds. Want of memory aside, each pending chunk is read back from its spelling.
+/// The value is determined by the digest. Every pending chunk is read back from its encoding,
+/// unless memory is refused.
 pub trait PendingChunk<D>: Clone + Debug + Eq + Write + Read<Cfg = ()> {
-    // the digest that it holds, if any
+    // the digest that is kept, if any
     ghost held: { Self → Option D };
 
-    /// The digest that it holds, if any.
+    /// Returns the digest that is kept, if any.
     fn as_ref(&self) -> Option<&D>
         ensures { option_copied result ≡ held self.now };
 
-    /// The pending chunk that holds the digest, or none.
+    /// Creates the pending chunk that keeps this digest, or none.
     ///
     /// # Errors
     ///
-    /// `Invalid` where no pending chunk of this type holds it.
+    /// - `Invalid` if no pending chunk of this type keeps it
     fn try_from_option(option: Option<D>) -> Result<Self, DecodeError>
         ensures ok { IfOk result (λ x. held x ≡ option) }
         ensures refused { IfErr result (λ e. (e ≡ DecodeError.Invalid) × ((x : Self) → held x ≢ option)) };
@@ -39,12 +40,13 @@ pub trait PendingChunk<D>: Clone + Debug + Eq + Write + Read<Cfg = ()> {
     ghost all_within: { (x : Self) → Self.within tt x };
 }
 
-/// A family on whose nodes structures are grafted, with what it keeps of a chunk that has no single root yet.
+/// A family on whose nodes structures are grafted, with what it keeps of a chunk that does not have
+/// a single root yet.
 ///
-/// The Mountain Range has the root of a chunk as soon as it has the chunk's leaves, and so keeps nothing; the Mountain Belt
-/// may have it later.
+/// The Mountain Range has the root of a chunk as soon as all leaves of the chunk are added, so it
+/// keeps nothing. The Mountain Belt may get the root only later.
 pub trait Grafting<D>: Graftable {
-    /// The pending chunk over digests.
+    /// What is kept of a pending chunk with digests of type `D`.
     type PendingChunk: PendingChunk<D>;
 }
 
@@ -56,7 +58,7 @@ impl<D: Digest> Grafting<D> for mmb::Family {
     type PendingChunk = Option<D>;
 }
 
-/// The pending chunk of a family that has none: it holds no digest and is spelled by no bytes.
+/// The pending chunk of a family that needs none. It keeps no digest, and its encoding is empty.
 #[derive(Clone, Copy, PartialEq, Eq, Debug, Default)]
 pub struct Unused;
 
@@ -87,7 +89,7 @@ impl Read for Unused {
 
     ghost refuses = { λ _ _ _. ⊥ };
 
-    /// Nothing is read, and nothing is refused.
+    /// Reads nothing and never fails.
     fn read(_alloc: Global, _input: &mut &[u8], _cfg: &()) -> Result<Self, DecodeError> {
         Ok(Unused)
     }
@@ -104,7 +106,11 @@ impl<D: Drop> PendingChunk<D> for Unused {
         None
     }
 
-    /// No pending chunk holds a digest: one is refused with `Invalid`.
+    /// Creates the pending chunk without a digest.
+    ///
+    /// # Errors
+    ///
+    /// - `Invalid` if `option` is a digest
     fn try_from_option(option: Option<D>) -> Result<Self, DecodeError>
         ensures { MatchOption option (IsOk result) (λ _. IsErrOf result DecodeError.Invalid) }
     {
@@ -130,7 +136,7 @@ impl<D: Digest> PendingChunk<D> for Option<D> {
         Option::as_ref(self)
     }
 
-    /// The option itself: nothing is refused.
+    /// Returns `option` itself; never fails.
     fn try_from_option(option: Option<D>) -> Result<Self, DecodeError>
         ensures { result ≡ Ok option }
     {

@@ -17,7 +17,7 @@ use merkle_digest::digest::Digest;
 use merkle_proof::proof::Proof;
 use std::alloc::Global;
 
-// The digests that the bytes begin with, so many, and the bytes after them.
+// Decodes the `count` digests that `bytes` begin with, and returns them with the bytes after them.
 fn read_digests<D: Digest>(
     alloc: Global,
     count: usize,
@@ -42,7 +42,8 @@ fn read_digests<D: Digest>(
     Ok((digests, rest))
 }
 
-// The digests that the bytes begin with after their number, at most so many, and the bytes after them.
+// Decodes a number of digests, at most `max_digests`, and these digests, and returns them with the
+// bytes after them.
 fn read_counted_digests<D: Digest>(
     alloc: Global,
     bytes: &[u8],
@@ -59,7 +60,8 @@ fn read_counted_digests<D: Digest>(
     }
 }
 
-// The proof that the bytes begin with, of at most so many digests, and the bytes after it.
+// Decodes the proof of at most `max_digests` digests that `bytes` begin with, and returns it with
+// the bytes after it.
 fn read_proof<F: Family, D: Digest>(
     alloc: Global,
     bytes: &[u8],
@@ -84,9 +86,9 @@ fn read_proof<F: Family, D: Digest>(
     }
 }
 
-// Appends the bytes of digests.
+// Appends the bytes of `digests`.
 //
-// Refused only where the vector has no room for them and gets none.
+// `OutOfMemory` only if `out` has no room for them and a memory request is refused.
 fn write_digests<D: Digest>(digests: &[D], out: &mut Vec<u8>) -> Result<(), OutOfMemory>
     ensures ok { OnOk result (out.new.items ≡ out.old.items ++ flat_map D.bytes digests.now) }
     ensures full { OnErr result (vec_capacity out.old < vec_len out.old + length digests.now * D.SIZE) }
@@ -97,7 +99,7 @@ fn write_digests<D: Digest>(digests: &[D], out: &mut Vec<u8>) -> Result<(), OutO
     Ok(())
 }
 
-// The number of bytes of a proof's three numbers.
+// Returns the number of bytes of a proof's three numbers.
 fn numbers_size<F: Family, D: Digest>(proof: &Proof<F, D>) -> usize
     ensures size { let p = proof.now in
         result ≡ length (number_spelling p.leaves) + length (number_spelling p.inactive_peaks) + length (number_spelling (length p.digests.items)) }
@@ -108,7 +110,7 @@ fn numbers_size<F: Family, D: Digest>(proof: &Proof<F, D>) -> usize
         + number_size(proof.digests.len() as u64)
 }
 
-// The number of bytes of a proof's spelling, or `None` where it fits no `usize`.
+// Returns the number of bytes of a proof's encoding, or `None` if it does not fit a `usize`.
 fn checked_size<F: Family, D: Digest>(proof: &Proof<F, D>) -> Option<usize>
     ensures { SomeIff result (length (proof_spelling D.bytes proof.now) < 2 ^ 64) (length (proof_spelling D.bytes proof.now)) }
 {
@@ -116,9 +118,10 @@ fn checked_size<F: Family, D: Digest>(proof: &Proof<F, D>) -> Option<usize>
     digests.checked_add(numbers_size(proof))
 }
 
-/// The greatest number of bytes that a proof of at most so many digests takes.
+/// Returns an upper bound of the number of bytes of the encoding of a proof with at most `digests`
+/// digests.
 ///
-/// The answer fits a `usize`.
+/// Requires the result to fit a `usize`.
 pub fn max_encode_size<D: Digest>(digests: usize) -> usize
     requires { 20 + length (number_spelling digests) + digests * D.SIZE < 2 ^ 64 }
     ensures size { result ≡ 20 + length (number_spelling digests) + digests * D.SIZE }
@@ -127,7 +130,8 @@ pub fn max_encode_size<D: Digest>(digests: usize) -> usize
     20 + number_size(digests as u64) + digests * D::SIZE
 }
 
-/// The number of leaves, the number of inactive peaks and the number of digests, and then the bytes of the digests.
+/// The encoding is the leaf count, the number of inactive peaks and the number of digests, each as
+/// a number, and then the bytes of the digests.
 impl<F: Family, D: Digest> EncodeSize for Proof<F, D> {
     ghost spelling = { proof_spelling D.bytes };
 
@@ -141,11 +145,14 @@ impl<F: Family, D: Digest> EncodeSize for Proof<F, D> {
 }
 
 impl<F: Family, D: Digest> Write for Proof<F, D> {
-    /// Appends the spelling. Room for all of it is made first.
+    /// Appends the encoding to `out`. Room for all of it is reserved first.
     ///
     /// # Errors
     ///
-    /// `OutOfMemory` where the vector has no room for the spelling and gets none. Then its bytes are unchanged.
+    /// - `OutOfMemory` if `out` has no room for the encoding and gets none, because a memory
+    ///   request is refused or the encoding does not fit a `usize`
+    ///
+    /// The contents of `out` are unchanged on error.
     fn write(&self, out: &mut Vec<u8>) -> Result<(), OutOfMemory> {
         let Some(size) = checked_size(self) else {
             return Err(OutOfMemory);
@@ -168,21 +175,26 @@ impl<F: Family, D: Digest> Read for Proof<F, D> {
 
     ghost refuses = { λ limit b e. IsProofReadRefusal D.SIZE D.Spells F.MAX_LEAVES limit b e };
 
-    /// The proof of at most so many digests that the bytes begin with, which are left without it: each that is written is
-    /// read back where its leaf count is at most [`MAX_LEAVES`](Family::MAX_LEAVES), unless memory is refused.
+    /// Decodes the proof of at most `max_digests` digests whose encoding `input` begins with, and
+    /// advances `input` past it.
+    ///
+    /// Every proof that was written is read back if its leaf count is at most
+    /// [`MAX_LEAVES`](Family::MAX_LEAVES) and it has at most `max_digests` digests, unless memory
+    /// is refused.
     ///
     /// # Errors
     ///
-    /// The first that applies:
-    /// - `EndOfBuffer` or `InvalidVarint` where no number of leaves is there, `Invalid` where it is past
-    ///   [`MAX_LEAVES`](Family::MAX_LEAVES)
-    /// - the same of the number of inactive peaks, which fits a `usize`
-    /// - `EndOfBuffer` or `InvalidVarint` where no number of digests is there, `TooMany` where it is past the limit
-    /// - `EndOfBuffer` where fewer bytes follow than so many digests have
-    /// - `OutOfMemory` where there is no memory for so many digests
-    /// - `Invalid` where the bytes of one are no digest's
+    /// - `EndOfBuffer` or `InvalidVarint` if `input` does not begin with a number, the leaf count
+    /// - `Invalid` if the leaf count exceeds [`MAX_LEAVES`](Family::MAX_LEAVES)
+    /// - `EndOfBuffer` or `InvalidVarint` if no number follows, the number of inactive peaks
+    /// - `Invalid` if the number of inactive peaks does not fit a `usize`
+    /// - `EndOfBuffer` or `InvalidVarint` if no number follows, the number of digests
+    /// - `TooMany` if the number of digests exceeds `max_digests`
+    /// - `EndOfBuffer` if fewer bytes follow than that number of digests has
+    /// - `OutOfMemory` if the memory request for the digests is refused
+    /// - `Invalid` if the bytes of a digest are not those of any
     ///
-    /// The slice is then unchanged.
+    /// `input` is unchanged on error.
     fn read(alloc: Global, input: &mut &[u8], max_digests: &usize) -> Result<Self, DecodeError>
         ensures ok { IfOk result (λ p. IsReadable F.MAX_LEAVES max_digests.now p × (input.old.now ≡ proof_spelling D.bytes p ++ input.new.now)) }
         ensures refused { IfErr result (λ e. IsProofReadRefusal D.SIZE D.Spells F.MAX_LEAVES max_digests.now input.old.now e) }

@@ -1,4 +1,4 @@
-//! A line as a command.
+//! Lines as commands.
 ghost use Rattle.std.specs.Prelude.{◌≡◌, ◌≢◌, ◌<◌, ◌^◌, ◌↔◌, ◌==◌, ℕ, List, [], ◌∷◌, codes, length, IsTrue, IfSome, IfNone, Some};
 ghost use Rattle.std.specs.Fmt.{decimal};
 ghost use Rattle.std.specs.List.{AllByRecursion};
@@ -14,79 +14,93 @@ ghost use Rattle.merkle_commands.specs.Words.{IsPadded, IsHexWord};
 use crate::hex_words::is_hex_word;
 use merkle_base::family::Bagging;
 
-/// The families.
+/// The families that a line can name.
 #[derive(Clone, Copy, Debug)]
 pub enum FamilyName {
-    /// The Mountain Range.
+    /// The Mountain Range: `mmr`.
     Mmr,
-    /// The Mountain Belt.
+    /// The Mountain Belt: `mmb`.
     Mmb,
 }
 
-/// The plain hashes.
+/// The plain hash functions that a line can name.
 #[derive(Clone, Copy, Debug)]
 pub enum HashName {
+    /// SHA-256, which is used if the line names none.
     Sha256,
+    /// The exclusive or of all bytes, a toy: `xor8`.
     Xor8,
 }
 
-/// One line. It borrows from the line, so it takes no memory.
+/// The command of one line. It borrows from the line, so it needs no memory.
 #[derive(Clone, Copy, Debug)]
 pub enum Command<'a> {
-    /// Begin anew, with an empty structure of this kind.
+    /// Start again with an empty structure of this kind.
     New {
+        /// The family of the structure.
         family: FamilyName,
+        /// How its peaks are folded for a root.
         bagging: Bagging,
+        /// The plain hash function of its hasher.
         hash: HashName,
     },
-    /// Ask the structure.
+    /// A request to the present structure.
     Ask(Request<'a>),
 }
 
-/// What a line asks of the structure. An element's digits are an even number of them: none for the empty element.
+/// What a line requests of the structure.
+///
+/// The digits of an element are an even number of hexadecimal digits, none for the empty element.
 #[derive(Clone, Copy, Debug)]
 pub enum Request<'a> {
-    /// Add the element with these digits to the pending batch.
+    /// Add a leaf with the element of these digits to the pending batch.
     Add(&'a str),
-    /// Give the leaf at a location the element with these digits, in the pending batch.
+    /// Update a leaf in the pending batch.
     Update {
+        /// The location of the leaf.
         location: u64,
+        /// The digits of its new element.
         digits: &'a str,
     },
-    /// Apply the pending batch.
+    /// Merkleize and apply the pending batch.
     Commit,
-    /// Prune the committed structure to a location.
+    /// Prune the committed structure to this location.
     Prune(u64),
-    /// Give the root with that many inactive peaks.
+    /// Compute the root of the committed structure for this number of inactive peaks.
     Root(usize),
-    /// Prove the leaves from a location on, before another, with that many inactive peaks.
+    /// Generate the proof of a range of leaves of the committed structure.
     Prove {
+        /// The location of the first leaf.
         start: u64,
+        /// The location after the last leaf.
         end: u64,
+        /// The number of inactive peaks.
         inactive: usize,
     },
-    /// Check a proof of the elements from a location on against a root.
+    /// Check a proof of consecutive elements against a root.
     Check {
+        /// The location of the first element.
         start: u64,
         /// The number of inactive peaks that the proof must have.
         inactive: usize,
         /// The digits of the root.
         root: &'a str,
-        /// The digits of the proof's bytes.
+        /// The digits of the bytes of the proof.
         proof: &'a str,
-        /// The words of the elements with one space between each two, where there are elements.
+        /// The words of the elements, separated by single spaces; `None` if there are no elements.
         elements: Option<&'a str>,
     },
 }
 
-// Whether the word begins with a sign, or with a zero that is not all of it.
+// Whether the word begins with `+`, or with a zero that is not the whole word.
 fn is_padded(word: &str) -> bool
     ensures { IsTrue result ↔ IsPadded word.now }
 {
     matches!(word.as_bytes(), [b'+', ..] | [b'0', _, ..])
 }
 
-/// The number below 2^64 that the word is in decimal digits, without leading zeros.
+/// Parses a number below 2^64 in decimal digits without leading zeros; `None` if the word is no
+/// such number.
 pub fn read_number(word: &str) -> Option<u64>
     ensures value { IfSome result (λ n. word.now ≡ decimal n) }
     ensures found { (n : ℕ) → n < 2 ^ 64 → word.now ≡ decimal n → result ≡ Some n }
@@ -97,7 +111,7 @@ pub fn read_number(word: &str) -> Option<u64>
     word.parse().ok()
 }
 
-/// The count that the word is, as [`read_number`] reads it.
+/// Parses a number as [`read_number`] does; `None` also if it does not fit a `usize`.
 pub fn read_count(word: &str) -> Option<usize>
     ensures value { IfSome result (λ n. word.now ≡ decimal n) }
     ensures found { (n : ℕ) → n < 2 ^ 64 → word.now ≡ decimal n → result ≡ Some n }
@@ -105,7 +119,7 @@ pub fn read_count(word: &str) -> Option<usize>
     usize::try_from(read_number(word)?).ok()
 }
 
-// The digits of an element, of which `-` is the empty one.
+// Returns the digits of an element, none for `-`; `None` if the word is no element.
 fn read_element(word: &str) -> Option<&str>
     ensures spelled { IfSome result (λ digits. word.now ≡ element_word digits.now) }
     ensures digits { IfSome result (λ digits. IsHexWord digits.now) }
@@ -140,7 +154,7 @@ fn read_bagging(word: &str) -> Option<Bagging>
     }
 }
 
-// The bagging, and the hash that the word after it names.
+// Parses a bagging, optionally followed by the name of a hash function.
 fn read_bagging_and_hash(words: &str) -> Option<(Bagging, HashName)>
     ensures spelled { IfSome result (λ both. words.now ≡ joined (bagging_word both.0 ∷ hash_words both.1)) }
     ensures none { IfNone result ((bagging : Bagging) (hash : HashName) → words.now ≢ joined (bagging_word bagging ∷ hash_words hash)) }
@@ -152,7 +166,7 @@ fn read_bagging_and_hash(words: &str) -> Option<(Bagging, HashName)>
     }
 }
 
-// The command of a line that is `new`, a space and these words.
+// Parses the words after `new`.
 fn read_new(words: &str) -> Option<Command<'_>>
     ensures spelled { IfSome result (λ command. joined (codes "new" ∷ words.now ∷ []) ≡ joined (words_of command)) }
     ensures allowed { IfSome result (λ command. IsCommand command) }
@@ -167,7 +181,7 @@ fn read_new(words: &str) -> Option<Command<'_>>
     })
 }
 
-/// A row of words as its first word and the others, if there are more.
+/// Splits words into the first one and the rest after the space that follows it, if there is one.
 pub fn cut(words: &str) -> (&str, Option<&str>)
     ensures words { words_in words.now ≡ result.0.now ∷ option_map_or (λ rest. words_in rest.now) result.1 [] }
     ensures shorter { IfSome result.1 (λ rest. length rest.now < length words.now) }
@@ -178,7 +192,7 @@ pub fn cut(words: &str) -> (&str, Option<&str>)
     }
 }
 
-// The digits of a root or of a proof.
+// Returns the digits of a root or a proof; `None` if the word is empty or no hexadecimal digits.
 fn read_digits(word: &str) -> Option<&str>
     ensures same { IfSome result (λ digits. digits.now ≡ word.now) }
     ensures digits { IfSome result (λ digits. IsDigitsWord digits.now) }
@@ -187,7 +201,7 @@ fn read_digits(word: &str) -> Option<&str>
     (!word.is_empty() && is_hex_word(word)).then_some(word)
 }
 
-// Whether each word of a row is that of an element.
+// Whether every word is that of an element.
 fn are_elements(words: &str) -> bool
     ensures { IsTrue result ↔ AllByRecursion IsElementWord (words_in words.now) }
 {
@@ -202,7 +216,7 @@ fn are_elements(words: &str) -> bool
     true
 }
 
-// The request of a line that is `update`, a space and these words.
+// Parses the words after `update`.
 fn read_update(words: &str) -> Option<Request<'_>>
     ensures spelled { IfSome result (λ request. joined (codes "update" ∷ words.now ∷ []) ≡ joined (words_of (Command.Ask request))) }
     ensures allowed { IfSome result (λ request. IsCommand (Command.Ask request)) }
@@ -215,7 +229,7 @@ fn read_update(words: &str) -> Option<Request<'_>>
     })
 }
 
-// The request of a line that is `prove`, a space and these words.
+// Parses the words after `prove`.
 fn read_prove(words: &str) -> Option<Request<'_>>
     ensures spelled { IfSome result (λ request. joined (codes "prove" ∷ words.now ∷ []) ≡ joined (words_of (Command.Ask request))) }
     ensures allowed { IfSome result (λ request. IsCommand (Command.Ask request)) }
@@ -230,7 +244,7 @@ fn read_prove(words: &str) -> Option<Request<'_>>
     })
 }
 
-// Whether each word of an optional row is that of an element.
+// Whether every word, if there are words, is that of an element.
 fn are_all_elements(words: Option<&str>) -> bool
     ensures { IsTrue result ↔ AllByRecursion IsElementWord (optional_words words.entry) }
 {
@@ -240,7 +254,7 @@ fn are_all_elements(words: Option<&str>) -> bool
     }
 }
 
-// The request of a line that is `check`, a space and these words.
+// Parses the words after `check`.
 fn read_check(words: &str) -> Option<Request<'_>>
     ensures spelled { IfSome result (λ request. joined (codes "check" ∷ words.now ∷ []) ≡ joined (words_of (Command.Ask request))) }
     ensures allowed { IfSome result (λ request. IsCommand (Command.Ask request)) }
@@ -262,20 +276,24 @@ fn read_check(words: &str) -> Option<Request<'_>>
     })
 }
 
-/// The command of a line, which lacks the byte that ended it; `None` where the line is none.
+/// Parses a line, without the byte that ended it; `None` if it is not a command.
 ///
-/// A command is its words, with one space between each two and nothing before or after them:
-/// - `new`, then `mmr` or `mmb`, then `forward` or `backward`, and then `xor8` where the hash is not SHA-256;
-/// - `add`, then an element;
-/// - `update`, then a location and an element;
-/// - `commit`;
-/// - `prune`, then a location;
-/// - `root`, then a number of inactive peaks;
-/// - `prove`, then the location of the first leaf, that after the last one, and a number of inactive peaks;
-/// - `check`, then the location of the first element, a number of inactive peaks, the root, the proof, and the elements.
+/// A command is a sequence of words separated by single spaces, with nothing before or after them:
+/// - `new`, then `mmr` or `mmb`, then `forward` or `backward`, and then `xor8` if the hash is not
+///   SHA-256
+/// - `add`, then an element
+/// - `update`, then a location and an element
+/// - `commit`
+/// - `prune`, then a location
+/// - `root`, then a number of inactive peaks
+/// - `prove`, then the location of the first leaf, the location after the last one, and a number of
+///   inactive peaks
+/// - `check`, then the location of the first element, a number of inactive peaks, the root, the
+///   proof, and the elements
 ///
-/// An element is an even number of hexadecimal digits of either case, or `-` for the empty one. So are the root and the
-/// proof, which aren't empty. A number is below 2^64, in decimal digits without leading zeros.
+/// An element is an even number of hexadecimal digits of either case, or `-` for the empty element.
+/// The root and the proof are nonempty words of that kind. A number is below 2^64, in decimal
+/// digits without leading zeros.
 pub fn read_command(line: &str) -> Option<Command<'_>>
     ensures spelled { IfSome result (λ command. line.now ≡ joined (words_of command)) }
     ensures allowed { IfSome result (λ command. IsCommand command) }

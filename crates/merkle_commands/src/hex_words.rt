@@ -8,12 +8,12 @@ use hex::FromHexError;
 use merkle_base::error::OutOfMemory;
 use std::alloc::Global;
 
-/// Why a word gave no bytes.
+/// Why a word could not be decoded.
 #[derive(Clone, Copy, Debug, PartialEq, Eq)]
 pub enum HexError {
-    /// The word is no even number of hexadecimal digits.
+    /// The word is not an even number of hexadecimal digits.
     Syntax,
-    /// A request for memory was refused.
+    /// A memory request was refused.
     OutOfMemory,
 }
 
@@ -23,17 +23,20 @@ fn is_digit(byte: u8) -> bool
     matches!(byte, b'0'..=b'9' | b'A'..=b'F' | b'a'..=b'f')
 }
 
-/// Whether the word is an even number of hexadecimal digits, of either case.
+/// Whether the word is an even number of hexadecimal digits, of either case. The empty word is.
 pub fn is_hex_word(word: &str) -> bool
     ensures { IsTrue result ↔ IsHexWord word.now }
 {
     word.len() % 2 == 0 && word.as_bytes().iter().all(|byte| is_digit(*byte))
 }
 
-/// The bytes that the word spells, two digits for each. The word without digits spells none.
+/// Decodes the bytes of a word, two digits for each byte. The empty word has no bytes.
 ///
-/// Refused with `Syntax` exactly where the word is no even number of hexadecimal digits, and else with `OutOfMemory`
-/// alone.
+/// # Errors
+///
+/// The first that applies:
+/// - `Syntax` if the word is not an even number of hexadecimal digits
+/// - `OutOfMemory` if a memory request is refused
 pub fn read_hex(alloc: Global, word: &str) -> Result<Vec<u8>, HexError>
     ensures value { IfOk result (λ bytes. decode_of word.now ≡ Ok bytes.items) }
     ensures spelled { IsHexWord word.now → IsOkUnless result HexError.OutOfMemory }
@@ -51,9 +54,11 @@ pub fn read_hex(alloc: Global, word: &str) -> Result<Vec<u8>, HexError>
     }
 }
 
-/// The bytes in lower case digits, two for each, which [`read_hex`] reads back.
+/// Encodes bytes in lower case digits, two for each byte. [`read_hex`] reads them back.
 ///
-/// Refused where a request for memory is.
+/// # Errors
+///
+/// - `OutOfMemory` if a memory request is refused
 pub fn write_hex(alloc: Global, bytes: &[u8]) -> Result<String, OutOfMemory>
     ensures digits { IfOk result (λ text. string_bytes text ≡ encode_lower bytes.now) }
     ensures reads_back { IfOk result (λ text. decode_of (string_bytes text) ≡ Ok bytes.now) }

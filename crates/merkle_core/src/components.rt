@@ -1,4 +1,4 @@
-//! Structures made of given components.
+//! Structures created from given components.
 ghost use Rattle.std.specs.Prelude.{◌≡◌, ◌≢◌, ◌+◌, ◌<◌, ◌≤◌, ◌^◌, ◌-◌, ℕ, List, Err, length, zip, IfOk, IsOk, IsOkUnless};
 ghost use Rattle.merkle_base.specs.Forest.{size};
 ghost use Rattle.merkle_base.specs.Places.{IsSize, peak_positions};
@@ -15,19 +15,24 @@ use merkle_base::location::Location;
 use merkle_base::position::Position;
 use merkle_digest::digest::Digest;
 
-/// What a structure is made of.
+/// The components of a structure.
 #[derive(Debug, Drop)]
 pub struct Config<F: Family, D: Digest> {
-    /// The nodes from the boundary's position on.
+    /// The digests of the nodes from the position of the pruning boundary on.
     pub nodes: Vec<D>,
-    /// The location that it was pruned to, 0 where it never was.
+    /// The location that the structure was pruned to; 0 if it was never pruned.
     pub pruning_boundary: Location<F>,
-    /// The digests of the peaks of that many leaves, in the order of [`Family::nodes_to_pin`].
+    /// The digests of the peaks of `pruning_boundary` leaves, in the order of
+    /// [`Family::nodes_to_pin`].
     pub pinned_nodes: Vec<D>,
 }
 
 impl<F: Family, D: Digest> Mem<F, D> {
-    /// The structure of these parts, as by [`from_components`](Mem::from_components).
+    /// Creates the structure with these components.
+    ///
+    /// # Errors
+    ///
+    /// Those of [`from_components`](Mem::from_components).
     pub fn init(config: Config<F, D>) -> Result<Self, Error<F>>
         ensures made { IfOk result (λ m. m ≡ made_of F.rule config.pruning_boundary m.leaves config.pinned_nodes.items config.nodes.items) }
         ensures counted { IfOk result (λ m. (m.leaves ≤ F.MAX_LEAVES) × (size F.rule m.leaves ≡ m.size)) }
@@ -53,13 +58,22 @@ impl<F: Family, D: Digest> Mem<F, D> {
         Self::from_components(nodes, pruning_boundary, pinned_nodes)
     }
 
-    /// The structure that was pruned to a location, with the nodes from the location's position on and the digests of the
-    /// peaks of that many leaves, in the order of [`Family::nodes_to_pin`].
+    /// Creates the structure that was pruned to `pruning_boundary`, from the digests of the nodes
+    /// from the position of the boundary on and those of the peaks of `pruning_boundary` leaves, in
+    /// the order of [`Family::nodes_to_pin`].
     ///
-    /// The digests are taken unchecked. Refused, in this order: with `LocationOverflow` of the boundary where no list has
-    /// that many leaves; with `InvalidSize` of the greatest `u64` where there are more nodes than any structure has; with
-    /// `InvalidSize` of the node count where no leaf count has that many; with `InvalidPinnedNodes` where the pins are fewer
-    /// or more than the peaks; and with `OutOfMemory`.
+    /// The digests are not checked.
+    ///
+    /// # Errors
+    ///
+    /// The first that applies:
+    /// - `LocationOverflow` of the boundary if it exceeds [`MAX_LEAVES`](Family::MAX_LEAVES)
+    /// - `InvalidSize` of `u64::MAX` if the size in nodes exceeds [`MAX_NODES`](Family::MAX_NODES)
+    /// - `InvalidSize` of the size in nodes if no leaf count has that many nodes
+    /// - `InvalidPinnedNodes` if the number of pinned digests differs from the number of peaks
+    /// - `OutOfMemory` if a memory request is refused
+    ///
+    /// On error the components are lost.
     pub fn from_components(
         nodes: Vec<D>,
         pruning_boundary: Location<F>,
@@ -96,7 +110,8 @@ impl<F: Family, D: Digest> Mem<F, D> {
     }
 }
 
-// The position that a structure of so many nodes after a boundary begins at, and the number of its leaves.
+// Returns the position of the boundary, and the leaf count of a structure with `count` nodes from
+// there on.
 fn measure<F: Family>(
     boundary: Location<F>,
     count: usize,
@@ -124,9 +139,10 @@ fn measure<F: Family>(
     }
 }
 
-// The peaks of so many leaves with these digests.
+// Pairs the digests with the positions of the peaks of `boundary` leaves.
 //
-// Refused with `InvalidPinnedNodes` where there are fewer digests or more, and with `OutOfMemory`.
+// `InvalidPinnedNodes` if there are fewer or more digests than peaks, else `OutOfMemory` if a
+// memory request is refused.
 fn pair_pins<F: Family, D: Digest>(
     boundary: Location<F>,
     digests: &Vec<D>,

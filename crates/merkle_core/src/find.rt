@@ -25,7 +25,7 @@ fn is_at<F: Family, D: Digest>(
     size == other && peaks == others
 }
 
-// The oldest record that is kept, or the batch's own.
+// Returns the oldest record that the batch keeps, which is its own if it keeps no ancestors.
 fn oldest_record<F: Family, D: Digest>(batch: &MerkleizedBatch<F, D>) -> &Record<F, D>
     ensures { result.now ≡ oldest batch.now }
 {
@@ -35,8 +35,8 @@ fn oldest_record<F: Family, D: Digest>(batch: &MerkleizedBatch<F, D>) -> &Record
     }
 }
 
-/// How many of the kept records a structure of this size with these peak digests is past; `None` where it is at no state
-/// of the chain.
+/// Returns how many of the kept ancestor records a structure of size `size` with these peak digests
+/// already has; `None` if it is at no state from which the batch can be applied.
 pub(crate) fn find_state<F: Family, D: Digest>(
     size: Position<F>,
     peaks: &[D],
@@ -56,7 +56,7 @@ pub(crate) fn find_state<F: Family, D: Digest>(
     last_end(size, peaks, &batch.ancestors)
 }
 
-// The place after the newest record that ends at this size with these peak digests.
+// Returns the index after the newest record that ends at this size with these peak digests.
 fn last_end<F: Family, D: Digest>(
     size: Position<F>,
     peaks: &[D],
@@ -75,7 +75,7 @@ fn last_end<F: Family, D: Digest>(
     None
 }
 
-/// Why a batch that matches no state of a structure of this size is refused.
+/// Returns the error for a batch that matches no state of a structure of size `size`.
 pub(crate) fn refusal<F: Family, D: Digest>(
     size: Position<F>,
     batch: &MerkleizedBatch<F, D>,

@@ -14,9 +14,10 @@ use std::alloc::{AllocError, Global};
 use std::collections::VecDeque;
 use std::marker::Model;
 
-/// The nodes that a structure holds: all from a position on, and pins before it.
+/// The nodes that a structure holds: all from position `start` on, and pinned ones before it.
 ///
-/// To a contract it is that position, the node count, the nodes by position, and how many nodes its memory has room for.
+/// Contracts model it as that position, the size in nodes, the nodes by position, and the number of
+/// nodes that its memory has room for.
 #[derive(Debug, Drop)]
 pub(crate) struct HeldNodes<F: Family, D: Digest> {
     start: Position<F>,
@@ -47,7 +48,7 @@ impl<F: Family, D: Digest> Model for HeldNodes<F, D> {
 }
 
 impl<F: Family, D: Digest> HeldNodes<F, D> {
-    /// No nodes.
+    /// Holds no nodes.
     pub(crate) fn new(alloc: Global) -> Self
         ensures start { result.start ≡ 0 }
         ensures size { result.size ≡ 0 }
@@ -60,7 +61,7 @@ impl<F: Family, D: Digest> HeldNodes<F, D> {
         }
     }
 
-    /// The nodes from a position on, and pins before it.
+    /// Holds the nodes from position `start` on, and pins before it.
     pub(crate) fn from_parts(start: Position<F>, pins: Vec<(Position<F>, D)>, nodes: Vec<D>) -> Self
         requires { PinsBefore start pins.items }
         ensures start { result.start ≡ start }
@@ -74,7 +75,7 @@ impl<F: Family, D: Digest> HeldNodes<F, D> {
         }
     }
 
-    /// The number of nodes, those that are not held counted.
+    /// Returns the size in nodes, including nodes that are not held.
     pub(crate) fn size(&self) -> Position<F>
         requires { self.now.size < 2 ^ 64 }
         ensures { result ≡ self.now.size }
@@ -82,7 +83,7 @@ impl<F: Family, D: Digest> HeldNodes<F, D> {
         self.start + self.nodes.len() as u64
     }
 
-    /// The digest of the node at a position, or `None` where none is held.
+    /// Returns the digest of the node at `position`, or `None` if it is not held.
     pub(crate) fn get(&self, position: Position<F>) -> Option<D>
         ensures { result ≡ get self.now.stored position }
     {
@@ -95,14 +96,12 @@ impl<F: Family, D: Digest> HeldNodes<F, D> {
         }
     }
 
-    /// Where its memory comes from.
+    /// Returns the allocator of the nodes.
     pub(crate) fn allocator(&self) -> Global {
         *self.nodes.allocator()
     }
 
-    /// The same nodes in memory of their own.
-    ///
-    /// Refused for want of memory.
+    /// Returns a deep copy. Fails only if a memory request is refused.
     pub(crate) fn clone(&self) -> Result<Self, AllocError>
         ensures start { IfOk result (λ h. h.start ≡ self.now.start) }
         ensures size { IfOk result (λ h. h.size ≡ self.now.size) }
@@ -115,9 +114,7 @@ impl<F: Family, D: Digest> HeldNodes<F, D> {
         })
     }
 
-    /// Makes room for so many more nodes.
-    ///
-    /// Refused for want of memory.
+    /// Reserves room for `count` more nodes. Fails only if a memory request is refused.
     pub(crate) fn reserve(&mut self, count: usize) -> Result<(), AllocError>
         ensures start { self.new.start ≡ self.old.start }
         ensures size { self.new.size ≡ self.old.size }
@@ -127,7 +124,7 @@ impl<F: Family, D: Digest> HeldNodes<F, D> {
         self.nodes.reserve(count)
     }
 
-    /// Gives the node at a position, if it is held, a digest.
+    /// Replaces the digest of the node at `position`, if it is held.
     pub(crate) fn replace(&mut self, position: Position<F>, digest: D)
         ensures start { self.new.start ≡ self.old.start }
         ensures size { self.new.size ≡ self.old.size }
@@ -155,7 +152,7 @@ impl<F: Family, D: Digest> HeldNodes<F, D> {
         push_all(&mut self.nodes, digests);
     }
 
-    /// Lets the nodes before a position go, but for these pins.
+    /// Drops the nodes before position `start`, and pins `pins`.
     pub(crate) fn drop_before(&mut self, start: Position<F>, pins: Vec<(Position<F>, D)>)
         requires later { self.old.start ≤ start }
         requires within { start ≤ self.old.size }
@@ -171,7 +168,7 @@ impl<F: Family, D: Digest> HeldNodes<F, D> {
     }
 }
 
-// The same nodes in memory of their own.
+// Returns a copy of the nodes.
 fn copied<D: Digest>(nodes: &VecDeque<D>) -> Result<VecDeque<D>, AllocError>
     ensures { IfOk result (λ copy. copy.items ≡ nodes.now.items) }
 {
@@ -182,7 +179,7 @@ fn copied<D: Digest>(nodes: &VecDeque<D>) -> Result<VecDeque<D>, AllocError>
     Ok(VecDeque::from(copy))
 }
 
-// The same pins in memory of their own.
+// Returns a copy of the pins.
 fn copied_pins<F: Family, D: Digest>(
     pins: &[(Position<F>, D)],
     alloc: Global,
@@ -192,7 +189,7 @@ fn copied_pins<F: Family, D: Digest>(
     pins.to_vec(alloc)
 }
 
-// The digest of the pin at a position, if there is one.
+// Returns the digest of the pin at `position`, if there is one.
 fn pinned<F, D: Copy>(pins: &[(Position<F>, D)], position: Position<F>) -> Option<D>
     ensures { result ≡ lookup (λ q. position == q) pins.now }
 {
@@ -204,7 +201,7 @@ fn pinned<F, D: Copy>(pins: &[(Position<F>, D)], position: Position<F>) -> Optio
     None
 }
 
-// Gives the pin at a position, if there is one, a digest.
+// Replaces the digest of the pin at `position`, if there is one.
 fn replace_pin<F, D: Copy>(pins: &mut [(Position<F>, D)], position: Position<F>, digest: D)
     ensures { (p : ℕ) → let old = lookup (λ q. p == q) pins.old in lookup (λ q. p == q) pins.new ≡ cond (p == position) (overwritten_by (Some digest) old) old }
 {

@@ -1,7 +1,8 @@
 //! Merkle structures in memory, changed by speculative batches.
 //!
-//! A [`Mem`](mem::Mem) holds the nodes of a structure. A batch is forked from it, takes leaves, is merkleized and applied.
-//! The modules of the crates below stand here too, under their own names.
+//! A [`Mem`](mem::Mem) holds the nodes of a structure. A batch is forked from it, takes leaves, is
+//! merkleized and is applied. The modules of the crates below are re-exported under their own
+//! names.
 #![tactic(auto)]
 
 mod components;

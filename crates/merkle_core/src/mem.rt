@@ -39,10 +39,10 @@ use std::alloc::{AllocError, Global};
 use std::marker::Model;
 use std::ops::Range;
 
-/// The greatest number of peaks of a family's structure.
+/// The greatest number of peaks of a structure, in every family.
 const MAX_PEAKS: usize = 64;
 
-// The first so many digests.
+// Returns the first `count` digests.
 fn front<D>(digests: &[D; MAX_PEAKS], count: usize) -> &[D]
     requires { count ≤ MAX_PEAKS }
     ensures { result.now ≡ take count digests.now }
@@ -52,10 +52,46 @@ fn front<D>(digests: &[D; MAX_PEAKS], count: usize) -> &[D]
 
 /// A Merkle structure in memory, changed by batches.
 ///
-/// To a contract it is its pruning boundary, its leaf count, its node count and the nodes that it holds.
+/// It holds the nodes from the position of its pruning boundary on, and pins the peaks of the
+/// leaves before it. Contracts model it as its pruning boundary, its leaf count, its size in nodes
+/// and the nodes that it holds.
+///
+/// # Examples
+///
+/// ```
+/// let hasher = Standard::<Sha256Plain>::new(Bagging::ForwardFold);
+/// let mut log: Mmr<Sha256Digest> = Mem::new(alloc);
+///
+/// let Ok(mut batch) = log.new_batch() else {
+///     return None;
+/// };
+/// for element in [b"a", b"b", b"c"] {
+///     let Ok(longer) = batch.add(&hasher, element) else {
+///         return None;
+///     };
+///     batch = longer;
+/// }
+/// let Ok(batch) = batch.merkleize(&log, &hasher) else {
+///     return None;
+/// };
+/// let Ok(()) = log.apply_batch(&batch) else {
+///     return None;
+/// };
+///
+/// // Three leaves have four nodes; the peaks are at the positions 2 and 3.
+/// assert!(rt; log.leaves() == Location::new(3) && log.size() == Position::new(4));
+/// let Ok(root) = log.root(&hasher, 0) else {
+///     return None;
+/// };
+/// let Ok(proof) = log.proof(&hasher, Location::new(1), 0) else {
+///     return None;
+/// };
+/// let checked = proof.verify_element_inclusion(&hasher, b"b", Location::new(1), &root);
+/// assert!(rt; matches!(&checked, Ok(true)));
+/// ```
 #[derive(Debug, Drop)]
 pub struct Mem<F: Family, D: Digest> {
-    // all from the boundary's position on, and the peaks of so many leaves
+    // all nodes from the boundary's position on, and the peaks of `boundary` leaves
     pub(crate) held: HeldNodes<F, D>,
     pub(crate) boundary: Location<F>,
     pub(crate) leaves: Location<F>,
@@ -76,7 +112,7 @@ impl<F: Family, D: Digest> Model for Mem<F, D> {
 }
 
 impl<F: Family, D: Digest> Mem<F, D> {
-    /// The structure of no leaves.
+    /// Creates the structure without leaves. No memory is requested.
     pub fn new(alloc: Global) -> Self
         ensures empty { result ≡ no_leaves }
         ensures agrees { (h : Hashing D) → Agrees h F.rule (contents result) [] }
@@ -88,14 +124,14 @@ impl<F: Family, D: Digest> Mem<F, D> {
         }
     }
 
-    /// The number of nodes.
+    /// Returns the size in nodes, including pruned ones.
     pub fn size(&self) -> Position<F>
         ensures { result ≡ self.now.size }
     {
         self.held.size()
     }
 
-    /// The number of leaves.
+    /// Returns the leaf count, including pruned leaves.
     pub fn leaves(&self) -> Location<F>
         ensures count { result ≡ self.now.leaves }
         ensures sized { size F.rule result ≡ self.now.size }
@@ -104,7 +140,7 @@ impl<F: Family, D: Digest> Mem<F, D> {
         self.leaves
     }
 
-    /// The location that it was pruned to; the leaves before it are gone.
+    /// Returns the location that the structure was pruned to; the leaves before it were dropped.
     pub fn pruning_boundary(&self) -> Location<F>
         ensures boundary { result ≡ self.now.boundary }
         ensures within { result ≤ self.now.leaves }
@@ -112,9 +148,10 @@ impl<F: Family, D: Digest> Mem<F, D> {
         self.boundary
     }
 
-    /// The digest of the node at a position, or `None` where none is held.
+    /// Returns the digest of the node at `position`, or `None` if it is not held.
     ///
-    /// Exactly the nodes from the boundary's position on are held, and the peaks of as many leaves as lie before it.
+    /// Exactly the nodes from the boundary's position on are held, and the peaks of the leaves
+    /// before the boundary.
     pub fn get_node(&self, position: Position<F>) -> Option<D>
         ensures node { result ≡ node self.now position }
         ensures held { is_some result ≡ nat_lt position self.now.size && is_kept F.rule self.now.boundary position }
@@ -122,7 +159,8 @@ impl<F: Family, D: Digest> Mem<F, D> {
         self.held.get(position)
     }
 
-    /// The locations of the leaves that are held: from the boundary to the leaf count.
+    /// Returns the locations of the leaves that are held: from the pruning boundary to the leaf
+    /// count.
     pub fn bounds(&self) -> Range<Location<F>>
         ensures start { result.start ≡ self.now.boundary }
         ensures end { result.end ≡ self.now.leaves }
@@ -133,7 +171,7 @@ impl<F: Family, D: Digest> Mem<F, D> {
         self.boundary..self.leaves
     }
 
-    /// The positions of the peaks with their heights, oldest first.
+    /// Iterates over the peaks, as pairs of position and height, from the oldest on.
     pub fn peak_iterator(&self) -> F::Peaks
         ensures { F.Peaks.left result ≡ map placed (peaks_of F.rule self.now.leaves) }
     {
@@ -141,14 +179,16 @@ impl<F: Family, D: Digest> Mem<F, D> {
         F::peaks(nodes)
     }
 
-    // Where its memory comes from.
+    // Returns the allocator of the structure.
     pub(crate) fn allocator(&self) -> Global {
         self.held.allocator()
     }
 
-    /// A structure of its own with the same nodes.
+    /// Returns a deep copy.
     ///
-    /// Refused for want of memory.
+    /// # Errors
+    ///
+    /// - `AllocError` if a memory request is refused
     pub fn clone(&self) -> Result<Self, AllocError>
         ensures { IfOk result (λ m. m ≡ self.now) }
     {
@@ -159,7 +199,7 @@ impl<F: Family, D: Digest> Mem<F, D> {
         })
     }
 
-    // Writes the digests of the peaks, oldest first, and answers their number.
+    // Writes the digests of the peaks, oldest first, and returns how many there are.
     fn write_peaks(&self, digests: &mut [D; MAX_PEAKS]) -> usize
         ensures few { result ≤ MAX_PEAKS }
         ensures held { take result digests.new ≡ held_peaks F.rule self.now.leaves (contents self.now) }
@@ -175,9 +215,11 @@ impl<F: Family, D: Digest> Mem<F, D> {
         count
     }
 
-    /// The root for a number of inactive peaks, which are the oldest ones.
+    /// Returns the root with `inactive` inactive peaks, which are the oldest ones.
     ///
-    /// Refused with `InvalidInactivePeaks` exactly where that number exceeds the number of peaks.
+    /// # Errors
+    ///
+    /// - `InvalidInactivePeaks` if `inactive` exceeds the number of peaks
     pub fn root<H: Hasher<F, Digest = D>>(&self, hasher: &H, inactive: usize) -> Result<D, Error<F>>
         ensures ok { let n = self.now.leaves in let peaks = held_peaks F.rule n (contents self.now) in inactive ≤ length (peaks_of F.rule n)
             → result ≡ Ok (peaks_root (H.scheme hasher.now) n inactive inactive peaks) }
@@ -194,7 +236,7 @@ impl<F: Family, D: Digest> Mem<F, D> {
         hasher.root(self.leaves(), inactive, front(&digests, count))
     }
 
-    // The proof of a plan, over the nodes that are held.
+    // Builds the proof of a plan from the nodes that are held.
     fn build_proof<H: Hasher<F, Digest = D>>(
         &self,
         plan: RangePlan<F>,
@@ -212,12 +254,19 @@ impl<F: Family, D: Digest> Mem<F, D> {
         plan.build(hasher, inactive, |position| self.get_node(position))
     }
 
-    /// The proof of the leaf at a location, with a number of peaks that count as inactive.
+    /// Generates the proof of the leaf at `location`, with `inactive` inactive peaks.
     ///
-    /// Refused, in this order: with `LocationOverflow` where no list has such a location, with `LeafOutOfBounds` where
-    /// there is no such leaf, with `InvalidProof` where the number exceeds that of the peaks, and with `ElementPruned` of
-    /// the first node that is missing, of the peaks before the leaf, the peaks after it that stand alone, the others after
-    /// it from the last one on, and the path siblings. Refused with `OutOfMemory` wherever there is no memory.
+    /// # Errors
+    ///
+    /// The first that applies:
+    /// - `LocationOverflow` of the location if it is not below [`MAX_LEAVES`](Family::MAX_LEAVES)
+    /// - `LeafOutOfBounds` of the location if there is no such leaf
+    /// - `InvalidProof` if `inactive` exceeds the number of peaks
+    /// - `ElementPruned` of the first node that is not held; the nodes are read in this order: the
+    ///   peaks before the leaf, the individual peaks after it, the folded peaks after it from the
+    ///   last one on, and the path siblings
+    ///
+    /// `OutOfMemory` at any point if a memory request is refused. Nothing is changed.
     pub fn proof<H: Hasher<F, Digest = D>>(
         &self,
         hasher: &H,
@@ -252,12 +301,19 @@ impl<F: Family, D: Digest> Mem<F, D> {
         }
     }
 
-    /// The proof of the leaves in a range of locations, with a number of peaks that count as inactive.
+    /// Generates the proof of the leaves in `range`, with `inactive` inactive peaks.
     ///
-    /// Refused, in this order: with `Empty` where the range has no leaves, with `RangeOutOfBounds` of its end where that
-    /// is past the leaves, with `InvalidProof` where the number exceeds that of the peaks, and with `ElementPruned` of the
-    /// first node that is missing, of the peaks before the range, the peaks after it that stand alone, the others after it
-    /// from the last one on, and the path siblings. Refused with `OutOfMemory` wherever there is no memory.
+    /// # Errors
+    ///
+    /// The first that applies:
+    /// - `Empty` if the range has no leaves
+    /// - `RangeOutOfBounds` of the end of the range if it exceeds the leaf count
+    /// - `InvalidProof` if `inactive` exceeds the number of peaks
+    /// - `ElementPruned` of the first node that is not held; the nodes are read in this order: the
+    ///   peaks before the range, the individual peaks after it, the folded peaks after it from the
+    ///   last one on, and the path siblings
+    ///
+    /// `OutOfMemory` at any point if a memory request is refused. Nothing is changed.
     pub fn range_proof<H: Hasher<F, Digest = D>>(
         &self,
         hasher: &H,
@@ -284,9 +340,11 @@ impl<F: Family, D: Digest> Mem<F, D> {
         }
     }
 
-    /// A batch without changes, forked from this structure.
+    /// Creates a batch without changes, forked from this structure.
     ///
-    /// Refused with `OutOfMemory`.
+    /// # Errors
+    ///
+    /// - `OutOfMemory` if a memory request is refused
     pub fn new_batch(&self) -> Result<UnmerkleizedBatch<F, D>, Error<F>>
         ensures forked { IfOk result (λ b. b ≡ forked (root_batch F.rule self.now.leaves (contents self.now))) }
         ensures of_list { IfOk result (λ b. (h : Hashing D) → (X : List D) → Agrees h F.rule (contents self.now) X
@@ -301,14 +359,23 @@ impl<F: Family, D: Digest> Mem<F, D> {
 
     /// Applies the records of a batch that follow the state that this structure is at.
     ///
-    /// Accepted exactly where the size and the peak digests are those before the oldest record that the batch keeps, its
-    /// own where it keeps no other, or those after one of the kept ancestors. The state before the oldest record is tried
-    /// first, and then those after the ancestors from the newest on. The records that follow that state are laid over the
-    /// nodes, the oldest first; a new digest of a node that isn't held is dropped.
+    /// The batch is accepted if the size and the peak digests of the structure are those before the
+    /// oldest record that the batch keeps (its own if it keeps no ancestors), or those after one of
+    /// its kept ancestors. The state before the oldest record is tried first, then those after the
+    /// ancestors from the newest on. The records that follow the matching state are applied in
+    /// order, the oldest first: each overwrites nodes and appends nodes. A new digest of a node
+    /// that is not held is dropped.
     ///
-    /// Refused else, with `AncestorDropped` where the size is at least that of the structure that the chain began with and
-    /// below the one before the oldest record that is kept, and with `StaleBatch` otherwise; or with `OutOfMemory`. Nothing
-    /// is changed by a refusal.
+    /// # Errors
+    ///
+    /// The first that applies:
+    /// - `AncestorDropped` if the structure is at none of these states, and its size is at least
+    ///   that of the structure that the chain of batches was forked from and less than that before
+    ///   the oldest kept record
+    /// - `StaleBatch` if the structure is at none of these states otherwise
+    /// - `OutOfMemory` if a memory request is refused
+    ///
+    /// On error the structure is unchanged.
     pub fn apply_batch(&mut self, batch: &MerkleizedBatch<F, D>) -> Result<(), Error<F>>
         ensures unchanged { OnErr result (self.new ≡ self.old) }
         ensures done { OnOk result (applied D.eq F.rule self.old.leaves batch.now (contents self.old) ≡ Ok (contents self.new)) }
@@ -318,8 +385,9 @@ impl<F: Family, D: Digest> Mem<F, D> {
         ensures refused { let peaks = held_peaks F.rule self.old.leaves (contents self.old) in
             matched D.eq self.old.size peaks batch.now ≡ None → result ≡ Err (error_of (refusal self.old.size batch.now)) }
 
-        // Where the structure agreed with a list and the batch stands on lists, it was accepted at one of these: if that is the
-        // structure's own list, the structure agrees with the last one now, and if it is another, the two collide at a node.
+        // If the structure agreed with a list and some lists are a history of the batch, then it
+        // was accepted at one of these: if that is the structure's own list, the structure now
+        // agrees with the last of them; if it is a different list, the two collide at a node.
         ensures on_lists { OnOk result (IsApplied D.eq F.rule batch.now (contents self.old) (contents self.new)) }
     {
         let own: &Record<F, D> = &batch.own;

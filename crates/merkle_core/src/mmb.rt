@@ -1,4 +1,4 @@
-//! The Merkle Mountain Belt, with the names of this crate at it.
+//! The Merkle Mountain Belt: the types of this crate for its family.
 
 pub use merkle_topology::mmb::{
     ChunkPeaks, Error, Family, Location, ParentHeights, PeakIterator, Position,
@@ -7,13 +7,13 @@ pub use merkle_topology::mmb::{
 /// A Mountain Belt in memory.
 pub type Mmb<D> = crate::mem::Mem<Family, D>;
 
-/// A batch of leaves to be added to a Mountain Belt.
+/// A batch of added and updated leaves of a Mountain Belt, whose nodes are not computed yet.
 pub type UnmerkleizedBatch<D> = merkle_batch::batch::UnmerkleizedBatch<Family, D>;
 
-/// A batch of a Mountain Belt with its nodes computed.
+/// A batch of a Mountain Belt whose nodes are computed.
 pub type MerkleizedBatch<D> = merkle_batch::batch::MerkleizedBatch<Family, D>;
 
-/// The hasher over a plain one.
+/// The hasher over the plain hash function `H`.
 pub type StandardHasher<H> = merkle_hasher::hasher::Standard<H>;
 
 /// A proof of leaves of a Mountain Belt.

@@ -1,4 +1,4 @@
-//! The Merkle Mountain Range, with the names of this crate at it.
+//! The Merkle Mountain Range: the types of this crate for its family.
 
 pub use merkle_proof::proof::MAX_PROOF_DIGESTS_PER_ELEMENT;
 pub use merkle_topology::mmr::{
@@ -8,13 +8,13 @@ pub use merkle_topology::mmr::{
 /// A Mountain Range in memory.
 pub type Mmr<D> = crate::mem::Mem<Family, D>;
 
-/// A batch of leaves to be added to a Mountain Range.
+/// A batch of added and updated leaves of a Mountain Range, whose nodes are not computed yet.
 pub type UnmerkleizedBatch<D> = merkle_batch::batch::UnmerkleizedBatch<Family, D>;
 
-/// A batch of a Mountain Range with its nodes computed.
+/// A batch of a Mountain Range whose nodes are computed.
 pub type MerkleizedBatch<D> = merkle_batch::batch::MerkleizedBatch<Family, D>;
 
-/// The hasher over a plain one.
+/// The hasher over the plain hash function `H`.
 pub type StandardHasher<H> = merkle_hasher::hasher::Standard<H>;
 
 /// A proof of leaves of a Mountain Range.

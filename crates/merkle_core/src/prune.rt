@@ -1,4 +1,4 @@
-//! Structures without their old nodes.
+//! Pruning: dropping the old nodes of a structure.
 ghost use Rattle.std.specs.Prelude.{◌≡◌, ◌<◌, ◌≤◌, ℕ, List, Err, OnErr, OnOk, IfOk, IsOkUnless};
 ghost use Rattle.merkle_base.specs.Hashing.{Hashing};
 ghost use Rattle.merkle_base.specs.Places.{peak_positions};
@@ -15,10 +15,17 @@ use merkle_digest::digest::Digest;
 use std::alloc::AllocError;
 
 impl<F: Family, D: Digest> Mem<F, D> {
-    /// Lets the nodes before the leaf at a location go, but for the peaks of that many leaves, which are pinned.
+    /// Drops the nodes before the leaf at `location`, except for the peaks of `location` leaves,
+    /// which are pinned.
     ///
-    /// Nothing happens at the boundary or below it. Refused with `LeafOutOfBounds` where the location exceeds the leaf count,
-    /// and with `OutOfMemory`; nothing is changed then.
+    /// Nothing happens if `location` is at or below the pruning boundary.
+    ///
+    /// # Errors
+    ///
+    /// - `LeafOutOfBounds` of the location if it exceeds the leaf count
+    /// - `OutOfMemory` if a memory request is refused
+    ///
+    /// On error the structure is unchanged.
     pub fn prune(&mut self, location: Location<F>) -> Result<(), Error<F>>
         ensures unchanged { OnErr result (self.new ≡ self.old) }
         ensures pruned { OnOk result (contents self.new ≡ pruned F.rule location (contents self.old)) }
@@ -33,9 +40,13 @@ impl<F: Family, D: Digest> Mem<F, D> {
         Ok(self.prune_to(location)?)
     }
 
-    /// Lets all nodes but the peaks go.
+    /// Drops all nodes except for the peaks, which are pinned.
     ///
-    /// Refused with `OutOfMemory`; nothing is changed then.
+    /// # Errors
+    ///
+    /// - `OutOfMemory` if a memory request is refused
+    ///
+    /// On error the structure is unchanged.
     pub fn prune_all(&mut self) -> Result<(), Error<F>>
         ensures unchanged { OnErr result (self.new ≡ self.old) }
         ensures pruned { OnOk result (contents self.new ≡ pruned F.rule self.old.leaves (contents self.old)) }
@@ -46,7 +57,7 @@ impl<F: Family, D: Digest> Mem<F, D> {
         Ok(self.prune_to(self.leaves)?)
     }
 
-    // Lets the nodes before a leaf of the structure go, but for the peaks of that many leaves.
+    // Drops the nodes before the leaf at `location`, except for the peaks of `location` leaves.
     fn prune_to(&mut self, location: Location<F>) -> Result<(), AllocError>
         requires { location ≤ self.old.leaves }
         ensures unchanged { OnErr result (self.new ≡ self.old) }
@@ -63,7 +74,7 @@ impl<F: Family, D: Digest> Mem<F, D> {
         Ok(())
     }
 
-    // What is held at the peaks of so many leaves, with their positions.
+    // Returns the digests that are held of the peaks of `location` leaves, with their positions.
     fn pins_at(&self, location: Location<F>) -> Result<Vec<(Position<F>, D)>, AllocError>
         requires { location ≤ F.MAX_LEAVES }
         ensures { IfOk result (λ v. v.items ≡ pins_of (contents self.now) (peak_positions F.rule location)) }

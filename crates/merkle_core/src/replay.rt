@@ -1,4 +1,4 @@
-//! Laying records over the nodes that are held.
+//! Applying records to the nodes that are held.
 ghost use Rattle.std.specs.Prelude.{◌≡◌, ◌+◌, ◌≤◌, ℕ, length, map};
 ghost use Rattle.std.specs.FinMap.{get};
 ghost use Rattle.merkle_batch_theory.specs.Held.{held_contents, total_appended};
@@ -11,7 +11,7 @@ use merkle_draft::overwrites::Overwrites;
 use merkle_draft::record::Record;
 use std::rc::Rc;
 
-// Gives each of these nodes that is held its new digest.
+// Replaces the digest of each overwritten node that is held.
 fn replace_all<F: Family, D: Digest>(held: &mut HeldNodes<F, D>, overwrites: &Overwrites<F, D>)
     ensures start { held.new.start ≡ held.old.start }
     ensures size { held.new.size ≡ held.old.size }
@@ -24,7 +24,7 @@ fn replace_all<F: Family, D: Digest>(held: &mut HeldNodes<F, D>, overwrites: &Ov
     }
 }
 
-/// Lays a record over the nodes that are held. There is room for the nodes that it appends.
+/// Applies a record to the nodes that are held. There is room for the nodes that it appends.
 pub(crate) fn lay<F: Family, D: Digest>(held: &mut HeldNodes<F, D>, change: &Record<F, D>)
     requires { held.old.size + length change.now.appended ≤ held.old.capacity }
     ensures start { held.new.start ≡ held.old.start }
@@ -36,7 +36,8 @@ pub(crate) fn lay<F: Family, D: Digest>(held: &mut HeldNodes<F, D>, change: &Rec
     held.append(&change.appended);
 }
 
-/// Lays records over the nodes that are held, one after another. There is room for the nodes that they append.
+/// Applies records to the nodes that are held, one after another. There is room for the nodes that
+/// they append.
 pub(crate) fn lay_all<F: Family, D: Digest>(
     held: &mut HeldNodes<F, D>,
     changes: &[Rc<Record<F, D>>],

@@ -1,4 +1,4 @@
-//! Digests, and the plain hash functions that give them.
+//! Digests, and the plain hash functions that compute them.
 ghost use Rattle.std.specs.Prelude.{◌≡◌, ◌+◌, ◌^◌, ◌<◌, ◌≤◌, ◌↔◌, ◌==◌, ◌++◌, ◌∷◌, [], ℕ, List, IsTrue, MatchOption, length, fold, bit_xor, replicate};
 ghost use Rattle.std.proofs.Common.{rules, ap};
 ghost use Rattle.std.specs.Mem.{type_size};
@@ -9,15 +9,17 @@ ghost use Rattle.sha2.specs.Sha256.{sha256};
 use sha2::{Digest as _, Sha256};
 use std::fmt::Debug;
 
-/// A digest: a small value that is known by its bytes.
+/// A digest: a small value that is determined by its bytes.
 ///
-/// Each type says which byte lists are digests. All of them have length `SIZE`, which is at least 1. Equal bytes mean
-/// equal digests, `==` decides equality, and a clone equals its digest.
+/// An implementation fixes which byte strings are digests. All of them have the same length
+/// [`SIZE`](Digest::SIZE), which is at least 1. Digests with equal bytes are equal, `==` decides
+/// equality, and a clone equals its original.
 pub trait Digest: Copy + Eq + Debug {
-    /// The number of bytes of each digest.
+    /// The number of bytes of every digest.
     const SIZE: usize;
 
-    /// A digest that stands where there is none yet.
+    /// A placeholder for a digest that is not known yet. It is a valid digest, and may be that of
+    /// some input.
     const EMPTY: Self;
 
     ghost SIZE: { ℕ };
@@ -30,11 +32,11 @@ pub trait Digest: Copy + Eq + Debug {
     // which byte lists are those of a digest
     ghost Spells: { List ℕ → Type 0 };
 
-    /// The bytes of the digest.
+    /// Returns the bytes of the digest.
     fn as_bytes(&self) -> &[u8]
         ensures { result.now ≡ bytes self.now };
 
-    /// The digest with these bytes, or `None` where there is none.
+    /// Returns the digest with these bytes, or `None` if there is none.
     fn from_bytes(spelling: &[u8]) -> Option<Self>
         ensures { MatchOption result (¬ Spells spelling.now) (λ d. bytes d ≡ spelling.now) };
 
@@ -53,19 +55,20 @@ pub trait Digest: Copy + Eq + Debug {
     ghost eq_decides: { (x y : Self) → IsTrue (Self.eq x y) ↔ (x ≡ y) };
 }
 
-/// A hash function over bytes. It is a function of the joined parts.
+/// A hash function over bytes: the digest depends only on the concatenation of the parts.
 pub trait PlainHasher {
-    /// What it answers.
+    /// The digest type.
     type Digest: Digest;
 
     // the digest of bytes
     ghost digest_of: { List ℕ → Self.Digest };
 
-    /// The digest of the parts, one after another.
+    /// Returns the digest of the concatenated parts.
     fn hash(parts: &[&[u8]]) -> Self::Digest
         ensures { result ≡ digest_of (joined_parts parts.now) };
 
-    /// Two digests, each as by [`hash`](PlainHasher::hash).
+    /// Returns two digests, each as by [`hash`](PlainHasher::hash). An implementation may compute
+    /// them together.
     fn hash_pair(a: &[&[u8]], b: &[&[u8]]) -> (Self::Digest, Self::Digest)
         ensures first { result.0 ≡ digest_of (joined_parts a.now) }
         ensures second { result.1 ≡ digest_of (joined_parts b.now) };
@@ -141,7 +144,7 @@ impl PlainHasher for Sha256Plain {
     }
 }
 
-/// A digest of [`Xor8`]: any byte.
+/// A digest of [`Xor8`]: any single byte.
 #[derive(Clone, Copy, PartialEq, Eq, Debug)]
 pub struct Xor8Digest {
     byte: u8,
@@ -186,10 +189,12 @@ impl Digest for Xor8Digest {
     ghost eq_decides = { Prim.search rules };
 }
 
-/// The exclusive or of all bytes, for tests: its collisions are easy to see.
+/// The exclusive or of all bytes. For tests and small examples only: collisions are easy to
+/// construct and to see.
 #[derive(Clone, Copy, Debug)]
 pub struct Xor8;
 
+// The exclusive or of `start` and the bytes of a part.
 fn xor_with(start: u8, part: &[u8]) -> u8
     ensures { result ≡ fold bit_xor start part.now }
 {

@@ -1,4 +1,4 @@
-//! Digests, and the plain hash functions that give them.
+//! Digests, and the plain hash functions that compute them.
 #![tactic(auto)]
 
 pub mod digest;

@@ -10,38 +10,41 @@ use merkle_base::position::Position;
 use merkle_digest::digest::Digest;
 use std::alloc::AllocError;
 
-/// A structure of a family that batches are forked from and read nodes of.
+/// A structure that batches are forked from, and that they read nodes of when they are merkleized.
 ///
-/// To a contract it is its pruning boundary, its node count and the nodes that it holds, and its leaf count.
+/// Contracts model it as its pruning boundary, its size in nodes, the nodes that it holds, and its
+/// leaf count.
 pub trait Base<F: Family> {
-    /// What its nodes are.
+    /// The digest type of the nodes.
     type Digest: Digest;
 
     ghost contents: { Self → Contents Self.Digest };
 
     ghost leaves: { Self → ℕ };
 
-    /// The number of nodes.
+    /// Returns the size in nodes, including nodes that are not held.
     fn size(&self) -> Position<F>
         ensures { result ≡ (contents self.now).size };
 
-    /// The number of leaves.
+    /// Returns the leaf count, including leaves that were pruned.
     fn leaves(&self) -> Location<F>
         ensures count { result ≡ leaves self.now }
         ensures sized { size F.rule result ≡ (contents self.now).size }
         ensures bounded { result ≤ F.MAX_LEAVES };
 
-    /// The location that it was pruned to; the leaves before it are gone.
+    /// Returns the location that the structure was pruned to; the leaves before it were dropped.
     fn pruning_boundary(&self) -> Location<F>
         ensures { result ≡ (contents self.now).boundary };
 
-    /// The digest of the node at a position, or `None` where none is held.
+    /// Returns the digest of the node at `position`, or `None` if it is not held.
     fn get_node(&self, position: Position<F>) -> Option<Self::Digest>
         ensures { result ≡ (contents self.now).node position };
 
-    /// The digests of the peaks, oldest first.
+    /// Returns the digests of the peaks, oldest first.
     ///
-    /// Refused for want of memory.
+    /// # Errors
+    ///
+    /// - `AllocError` if a memory request is refused
     fn peak_digests(&self) -> Result<Vec<Self::Digest>, AllocError>
         ensures held { IfOk result (λ v. v.items ≡ held_peaks F.rule (leaves self.now) (contents self.now)) }
 

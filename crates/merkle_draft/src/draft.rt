@@ -1,4 +1,4 @@
-//! A batch in the making: the nodes that follow from its leaves.
+//! A batch being merkleized: the nodes that follow from its leaves.
 ghost use Rattle.std.specs.Prelude.{◌≡◌, ◌≢◌, ◌+◌, ◌^◌, ◌++◌, ◌<◌, ◌≤◌, ℕ, suc, List, Option, [], ◌∷◌, None, is_some, true, cond, length, map, IfOk, IfErr, OnOk};
 ghost use Rattle.std.specs.FinMap.{empty, get};
 ghost use Rattle.merkle_base.specs.Forest.{size};
@@ -24,18 +24,19 @@ use std::alloc::{AllocError, Global};
 use std::marker::Model;
 use std::rc::Rc;
 
-/// Room for the peaks of a structure, which are seldom more.
+/// Initial capacity for the peaks of a structure; more peaks are rare.
 const PEAKS_ROOM: usize = 16;
 
-/// A batch in the making.
+/// A batch being merkleized.
 #[derive(Drop)]
 pub struct Draft<F: Family, D: Digest> {
+    /// The size in nodes before the batch.
     pub size_before: Position<F>,
-    // the records that it keeps, oldest first
+    /// The records that the batch keeps, oldest first.
     pub kept: Vec<Rc<Record<F, D>>>,
-    // the new digests of nodes before `size_before`
+    /// The new digests of dirty nodes before `size_before`.
     pub overwrites: Overwrites<F, D>,
-    // the nodes from `size_before` on
+    /// The digests of the nodes from `size_before` on.
     pub appended: Vec<D>,
 }
 
@@ -51,10 +52,15 @@ impl<F: Family, D: Digest> Model for Draft<F, D> {
 }
 
 impl<F: Family, D: Digest> Draft<F, D> {
-    /// The draft of a batch without changes over these records, the parent's last, with room for the nodes of so many
+    /// Creates the draft of a batch without changes, with capacity for the nodes of `leaves`
     /// leaves.
     ///
-    /// A parent without changes isn't kept.
+    /// It keeps the records of `ancestors`, and after them that of `parent` unless it has no
+    /// changes. Requires `leaves` to be at most [`MAX_LEAVES`](Family::MAX_LEAVES).
+    ///
+    /// # Errors
+    ///
+    /// - `AllocError` if a memory request is refused
     pub fn new(
         alloc: Global,
         ancestors: &[Rc<Record<F, D>>],
@@ -84,7 +90,8 @@ impl<F: Family, D: Digest> Draft<F, D> {
         })
     }
 
-    /// The node at a position that the newest kept record has, or else the base.
+    /// Returns the digest of the node at `position` before the batch: from the newest kept record
+    /// that has it, or else from the base.
     pub fn read_below<B: Base<F, Digest = D>>(&self, base: &B, position: Position<F>) -> Option<D>
         ensures { result ≡ below self.now (B.contents base.now) position }
     {
@@ -94,7 +101,8 @@ impl<F: Family, D: Digest> Draft<F, D> {
         }
     }
 
-    // The node at a position: one of those appended, or of the older ones its own, or else the one below.
+    // Returns the digest of the node at `position`: an appended one, or for older nodes the
+    // overwritten one, or else the one before the batch.
     fn read_node<B: Base<F, Digest = D>>(
         &self,
         base: &B,
@@ -120,7 +128,7 @@ impl<F: Family, D: Digest> Draft<F, D> {
         found.ok_or(NodeError::Missing(position))
     }
 
-    // The number of nodes with the appended ones.
+    // Returns the size in nodes, with the appended ones.
     fn size(&self) -> Position<F>
         requires { self.now.before + length self.now.appended < 2 ^ 64 }
         ensures { result ≡ self.now.before + length self.now.appended }
@@ -137,7 +145,7 @@ impl<F: Family, D: Digest> Draft<F, D> {
         Ok(())
     }
 
-    // Appends the merged node of a height that stands at the end.
+    // Appends the parent node of height `height` whose position is the present size.
     fn append_parent<B: Base<F, Digest = D>, H: Hasher<F, Digest = D>>(
         &mut self,
         base: &B,
@@ -165,7 +173,7 @@ impl<F: Family, D: Digest> Draft<F, D> {
         Ok(())
     }
 
-    // Appends the leaf at a location and the parents that come with it.
+    // Appends the leaf at location `leaf` and the parents that adding it creates.
     fn append_leaf<B: Base<F, Digest = D>, H: Hasher<F, Digest = D>>(
         &mut self,
         base: &B,
@@ -193,7 +201,14 @@ impl<F: Family, D: Digest> Draft<F, D> {
         Ok(())
     }
 
-    /// Appends the leaves from a location on and the parents that come with them.
+    /// Appends leaves from location `leaves_before` on, and the parents that adding them creates.
+    ///
+    /// # Errors
+    ///
+    /// - `Missing` if a child of a new parent is held neither by the draft nor by the base
+    /// - `OutOfMemory` if a memory request is refused
+    ///
+    /// The draft may have some of the new nodes after an error.
     pub fn append_leaves<B: Base<F, Digest = D>, H: Hasher<F, Digest = D>>(
         &mut self,
         base: &B,
@@ -223,7 +238,13 @@ impl<F: Family, D: Digest> Draft<F, D> {
         Ok(())
     }
 
-    /// The digests of the peaks of its end, which has so many leaves, oldest first.
+    /// Returns the digests of the peaks after the batch, oldest first. `leaves` is the leaf count
+    /// after it.
+    ///
+    /// # Errors
+    ///
+    /// - `Missing` if a peak is held neither by the draft nor by the base
+    /// - `OutOfMemory` if a memory request is refused
     pub fn read_peaks<B: Base<F, Digest = D>>(
         &self,
         base: &B,

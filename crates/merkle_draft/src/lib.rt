@@ -1,6 +1,8 @@
-//! A batch in the making: the records of batches, and the nodes that follow from a batch's leaves.
+//! Batches being merkleized: the records of batches, and the nodes that follow from a batch's
+//! leaves.
 //!
-//! A [`Draft`](draft::Draft) reads the records that it keeps, the newest first, and then a [`Base`](base::Base).
+//! A [`Draft`](draft::Draft) reads nodes from the records that it keeps, the newest first, and then
+//! from a [`Base`](base::Base).
 #![tactic(auto)]
 
 pub mod base;

@@ -1,16 +1,16 @@
-//! Why a node of a batch isn't computed.
+//! Why a node of a batch was not computed.
 ghost use Rattle.std.specs.Prelude.{◌≡◌};
 
 use merkle_base::error::Error;
 use merkle_base::position::Position;
 use std::alloc::{AllocError, AllocFailed};
 
-/// Why a node wasn't computed.
+/// Why a node of a batch was not computed.
 #[derive(Debug, Drop)]
 pub enum NodeError<F> {
-    /// A node that is needed is held nowhere.
+    /// The node at the position is needed, and neither the kept records nor the base hold it.
     Missing(Position<F>),
-    /// A request for memory was refused.
+    /// A memory request was refused.
     OutOfMemory,
 }
 

@@ -1,4 +1,4 @@
-//! Nodes that a batch replaces.
+//! The old nodes that a batch overwrites.
 ghost use Rattle.std.specs.Prelude.{◌≡◌, OnOk, OnErr, ◌==◌};
 ghost use Rattle.std.specs.FinMap.{empty, get, insert, len};
 
@@ -9,9 +9,10 @@ use std::alloc::{AllocError, Global};
 use std::collections::HashMap;
 use std::marker::Model;
 
-/// New digests of nodes by position.
+/// New digests of old nodes, by position.
 #[derive(Debug, Drop)]
 pub struct Overwrites<F: Family, D: Digest> {
+    /// The new digest for each position that has one.
     pub nodes: HashMap<Position<F>, D>,
 }
 
@@ -29,7 +30,7 @@ impl<F: Family, D: Digest> Model for Overwrites<F, D> {
 }
 
 impl<F: Family, D: Digest> Overwrites<F, D> {
-    /// None.
+    /// Creates an empty map.
     pub fn new(alloc: Global) -> Self
         ensures { result ≡ empty }
     {
@@ -38,14 +39,14 @@ impl<F: Family, D: Digest> Overwrites<F, D> {
         }
     }
 
-    /// Whether there are none.
+    /// Whether no node is overwritten.
     pub fn is_empty(&self) -> bool
         ensures { result ≡ (len self.now == 0) }
     {
         self.nodes.is_empty()
     }
 
-    /// The new digest of the node at a position, if it has one.
+    /// Returns the new digest of the node at `position`, if it has one.
     pub fn get(&self, position: Position<F>) -> Option<D>
         ensures { result ≡ get self.now position }
     {
@@ -56,7 +57,11 @@ impl<F: Family, D: Digest> Overwrites<F, D> {
         self.nodes.get(&position).copied()
     }
 
-    /// Gives the node at a position a digest.
+    /// Sets the new digest of the node at `position`.
+    ///
+    /// # Errors
+    ///
+    /// - `AllocError` if a memory request is refused
     pub fn insert(&mut self, position: Position<F>, digest: D) -> Result<(), AllocError>
         ensures inserted { OnOk result (self.new ≡ insert self.old position digest) }
         ensures unchanged { OnErr result (self.new ≡ self.old) }

@@ -14,11 +14,15 @@ use std::rc::{Rc, RcSlice};
 /// What a batch changed, and the states before and after it.
 #[derive(Debug, Drop)]
 pub struct Record<F: Family, D: Digest> {
+    /// The size in nodes before the batch.
     pub size_before: Position<F>,
+    /// The digests of the peaks before the batch, oldest first.
     pub peaks_before: RcSlice<D>,
-    // the nodes from `size_before` on
+    /// The digests of the nodes from `size_before` on.
     pub appended: Vec<D>,
+    /// The new digests of dirty nodes before `size_before`.
     pub overwrites: Overwrites<F, D>,
+    /// The digests of the peaks after the batch, oldest first.
     pub peaks_after: RcSlice<D>,
 }
 
@@ -37,21 +41,21 @@ impl<F: Family, D: Digest> Model for Record<F, D> {
 }
 
 impl<F: Family, D: Digest> Record<F, D> {
-    /// The number of nodes after it.
+    /// Returns the size in nodes after the batch.
     pub fn size(&self) -> Position<F>
         ensures { result ≡ after self.now }
     {
         self.size_before + self.appended.len() as u64
     }
 
-    /// Whether it has no changes.
+    /// Whether the batch changed nothing.
     pub fn is_empty(&self) -> bool
         ensures { result ≡ not (is_changed self.now) }
     {
         self.appended.is_empty() && self.overwrites.is_empty()
     }
 
-    /// The node that it has for a position, if any.
+    /// Returns the digest that the batch gave the node at `position`, if any.
     pub fn get_node(&self, position: Position<F>) -> Option<D>
         ensures { result ≡ written self.now position }
     {
@@ -65,7 +69,8 @@ impl<F: Family, D: Digest> Record<F, D> {
     }
 }
 
-/// What the newest record that has a node for a position has; the oldest record stands first.
+/// Returns the digest of the node at `position` from the newest record that has it. The records are
+/// ordered, the oldest first.
 pub fn newest_node<F: Family, D: Digest>(
     records: &[Rc<Record<F, D>>],
     position: Position<F>,

@@ -1,4 +1,4 @@
-//! The new digests of old nodes: those above the leaves that a batch changes.
+//! The new digests of old nodes: of the dirty leaves and the nodes above them.
 ghost use Rattle.std.specs.Prelude.{◌≡◌, ◌≢◌, ◌+◌, ◌<◌, ◌≤◌, ℕ, List, Option, Some, [], true, is_some, length, slice_get, IfOk, IfErr, OnOk};
 ghost use Rattle.std.specs.FinMap.{empty, from_entries, get};
 ghost use Rattle.std.specs.List.{flat_map};
@@ -23,7 +23,7 @@ use merkle_hasher::hasher::Hasher;
 use merkle_hasher::subtree::Subtree;
 use std::collections::BTreeMap;
 
-// How many of the updates, which stand in ascending order, are of positions before `end`.
+// Counts the updates, which ascend by position, that are before `end`.
 fn count_before<F, D>(updates: &[(Position<F>, D)], end: Position<F>) -> usize
     ensures { result ≡ are_before updates.now end }
 {
@@ -36,9 +36,9 @@ fn count_before<F, D>(updates: &[(Position<F>, D)], end: Position<F>) -> usize
 }
 
 impl<F: Family, D: Digest> Draft<F, D> {
-    // The new digest of a node, computed with those of all the nodes below it that change.
+    // Computes the new digest of a node, and overwrites it and every dirty node below it.
     //
-    // The updates are those of the leaves under it, left to right.
+    // `updates` are those of the leaves below the node, left to right.
     fn refresh<B: Base<F, Digest = D>, H: Hasher<F, Digest = D>>(
         &mut self,
         base: &B,
@@ -74,9 +74,10 @@ impl<F: Family, D: Digest> Draft<F, D> {
         Ok(digest)
     }
 
-    // Computes the new digests of the nodes above changed leaves of the forest of so many leaves.
+    // Computes the new digests of the nodes above the dirty leaves of a structure with `leaves`
+    // leaves.
     //
-    // The updates are those of its leaves, left to right.
+    // `updates` are those of its leaves, left to right.
     fn refresh_peaks<B: Base<F, Digest = D>, H: Hasher<F, Digest = D>>(
         &mut self,
         base: &B,
@@ -113,8 +114,16 @@ impl<F: Family, D: Digest> Draft<F, D> {
         Ok(())
     }
 
-    /// Gives leaves of the forest of so many leaves their new digests, by position, and computes those of the nodes above
-    /// them.
+    /// Gives leaves of a structure with `leaves` leaves their new digests, by position, and
+    /// computes those of the nodes above them.
+    ///
+    /// # Errors
+    ///
+    /// - `Missing` if the sibling of a dirty node is held neither by the kept records nor by the
+    ///   base
+    /// - `OutOfMemory` if a memory request is refused
+    ///
+    /// The draft may have some of the new digests after an error.
     pub fn refresh_leaves<B: Base<F, Digest = D>, H: Hasher<F, Digest = D>>(
         &mut self,
         base: &B,

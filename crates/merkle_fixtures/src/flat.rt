@@ -1,6 +1,6 @@
-//! A family with small limits that never merges: every leaf is a peak.
+//! A test family with small limits that never merges: every leaf is a peak.
 //!
-//! So n leaves have n nodes, and the leaf at a location has that number as its position.
+//! So `n` leaves have `n` nodes, and a leaf's position equals its location.
 ghost use Rattle.std.specs.Prelude.{◌≡◌, ◌≢◌, ◌+◌, ◌<◌, ◌≤◌, ◌↔◌, ℕ, IsTrue, IfSome, IfNone, List, []};
 ghost use Rattle.std.specs.Iterator.{YieldsFirst, item_count};
 ghost use Rattle.merkle_base.specs.Forest.{size};
@@ -13,28 +13,28 @@ use merkle_base::listed::Listed;
 use merkle_base::{error, family, location, position};
 use std::marker::Model;
 
-/// The greatest leaf count, and the greatest node count.
+/// The greatest leaf count and the greatest size in nodes.
 const MOST: u64 = 64;
 
 /// The family that never merges.
 #[derive(Clone, Copy, Debug, Default, PartialEq, Eq)]
 pub struct Family;
 
-/// A node index or a node count of the family.
+/// A node index (position) or a size in nodes of the family.
 pub type Position = position::Position<Family>;
 
-/// A leaf index or a leaf count of the family.
+/// A leaf index (location) or a leaf count of the family.
 pub type Location = location::Location<Family>;
 
-/// Why a call was refused.
+/// Why a call on a structure of the family failed.
 pub type Error = error::Error<Family>;
 
-/// The peaks, which are all leaves, oldest first.
+/// Iterates over the peaks, which are all leaves, from the oldest on.
 #[derive(Debug, Drop)]
 pub struct PeakIterator {
     // the next leaf
     next: u64,
-    // how many are left
+    // the number of leaves that are not yielded yet
     left: u64,
     ghost bounded: { next + left ≤ 64 },
 }
@@ -73,7 +73,7 @@ impl Listed for PeakIterator {
     ghost ends = { λ _. tt };
 }
 
-/// The heights of the parents that come with a leaf: none.
+/// Iterates over the heights of the parents that adding a leaf creates: there are none.
 #[derive(Debug, Drop)]
 pub struct NoParents;
 
@@ -157,7 +157,7 @@ impl family::Family for Family {
         }
     }
 
-    // No node has children, so there is nothing to ask for and any answer is right.
+    // No node has children, so this is never called and any result is right.
     fn children(position: Position, _height: u32) -> (Position, Position)
         ensures { AreChildren never position result.0 result.1 }
     {

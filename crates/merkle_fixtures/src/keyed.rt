@@ -9,7 +9,8 @@ use merkle_base::position::Position;
 use merkle_digest::digest::{Digest, PlainHasher, Xor8, Xor8Digest};
 use merkle_hasher::hasher::{Hasher, Standard};
 
-/// The hasher over [`Xor8`] with a key: each digest is the exclusive or of the key and what [`Standard`] gives.
+/// The hasher over [`Xor8`] with a key: each digest is the exclusive or of the key and the digest
+/// of [`Standard`].
 #[derive(Clone, Copy, Debug)]
 pub struct Keyed {
     key: u8,
@@ -17,21 +18,21 @@ pub struct Keyed {
 }
 
 impl Keyed {
-    /// The hasher with this key that folds peaks so.
+    /// Creates the hasher with this key that folds peaks by `bagging`.
     pub fn new(key: u8, bagging: Bagging) -> Self
         ensures { result ≡ record { key = key; bagging = bagging } }
     {
         Keyed { key, bagging }
     }
 
-    // The exclusive or of the key and a digest.
+    // Returns the exclusive or of the key and a digest.
     fn mask(&self, digest: Xor8Digest) -> Xor8Digest
         ensures { result ≡ ⟦<Xor8 as PlainHasher>⟧.digest_of (self.now.key ∷ ⟦<Xor8Digest as Digest>⟧.bytes digest) }
     {
         Xor8::hash(&[&[self.key], digest.as_bytes()])
     }
 
-    // The hasher without a key.
+    // Returns the hasher without a key.
     fn plain(&self) -> Standard<Xor8>
         ensures { result ≡ self.now.bagging }
     {

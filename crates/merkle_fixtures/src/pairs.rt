@@ -1,6 +1,6 @@
-//! A family with small limits that merges the two leaves of a pair, and nothing else.
+//! A test family with small limits that merges the two leaves of each pair, and nothing else.
 //!
-//! So n leaves have n + n / 2 nodes, of which each third one is the parent of the two before it.
+//! So `n` leaves have `n + n / 2` nodes, and every third node is the parent of the two before it.
 ghost use Rattle.std.specs.Prelude.{◌≡◌, ◌≢◌, ◌+◌, ◌<◌, ◌≤◌, ◌↔◌, ℕ, IsTrue, IfSome, IfNone, List, [], ◌∷◌, cond};
 ghost use Rattle.std.specs.Iterator.{YieldsFirst, item_count};
 ghost use Rattle.merkle_base.specs.Forest.{size};
@@ -13,31 +13,32 @@ use merkle_base::listed::Listed;
 use merkle_base::{error, family, location, position};
 use std::marker::Model;
 
-/// The greatest node count.
+/// The greatest size in nodes.
 const MAX_NODES: u64 = 150;
 
-/// The greatest leaf count, which has that many nodes.
+/// The greatest leaf count, which has [`MAX_NODES`] nodes.
 const MAX_LEAVES: u64 = 100;
 
 /// The family of pairs.
 #[derive(Clone, Copy, Debug, Default, PartialEq, Eq)]
 pub struct Family;
 
-/// A node index or a node count of the family.
+/// A node index (position) or a size in nodes of the family.
 pub type Position = position::Position<Family>;
 
-/// A leaf index or a leaf count of the family.
+/// A leaf index (location) or a leaf count of the family.
 pub type Location = location::Location<Family>;
 
-/// Why a call was refused.
+/// Why a call on a structure of the family failed.
 pub type Error = error::Error<Family>;
 
-/// The peaks, oldest first: the pairs, and then the leaf without another.
+/// Iterates over the peaks from the oldest on: the parents of the pairs, and then the leaf without
+/// a partner, if there is one.
 #[derive(Debug, Drop)]
 pub struct PeakIterator {
     // the position at which the next pair begins
     next: u64,
-    // the nodes from there on
+    // the number of nodes from there on
     left: u64,
     ghost bounded: { next + left ≤ 150 },
 }
@@ -77,7 +78,7 @@ impl Listed for PeakIterator {
     ghost ends = { λ _. tt };
 }
 
-/// The height of the parent that comes with a leaf, if there is one.
+/// Iterates over the heights of the parents that adding a leaf creates: at most one.
 #[derive(Debug, Drop)]
 pub struct ParentHeights {
     is_due: bool,

@@ -1,7 +1,7 @@
-//! The merge rules of the families, and the theory of the forests that they grow.
+//! The merge rules of the two families, and the theory of the forests that they grow.
 //!
-//! `specs/` has the rules, and the words of their closed formulas. The module [`laws`] states what holds of their forests;
-//! `proofs/` has it by subject.
+//! `specs/` has the rules and the definitions of the closed formulas. The module [`laws`] states
+//! the laws of their forests; `proofs/` has the proofs by subject.
 #![tactic(auto)]
 
 pub mod laws;

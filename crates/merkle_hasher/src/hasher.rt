@@ -1,4 +1,4 @@
-//! Hashers: the digests of leaves, nodes, folded peaks and roots.
+//! Hashers: the digests of leaves, parent nodes, folded peaks and roots.
 ghost use Rattle.std.specs.Prelude.{◌≡◌, ◌+◌, ◌<◌, ◌≤◌, ◌++◌, [], ◌∷◌, ℕ, List, ⊤, length, fold};
 ghost use Rattle.std.proofs.Common.{ap, refl};
 ghost use Rattle.std.specs.Option.{SomeIff};
@@ -17,11 +17,12 @@ use merkle_digest::digest::{Digest, PlainHasher};
 use std::alloc::AllocError;
 use std::marker::{Model, PhantomData};
 
-/// The digests of a family's leaves, nodes, folded peaks and roots.
+/// Computes the digests of a family's leaves, parent nodes, folded peaks and roots.
 ///
-/// Each is a function of the arguments and of the hasher's value; a clone computes the same.
+/// Every digest depends only on the arguments and on the value of the hasher; a clone computes the
+/// same digests.
 pub trait Hasher<F: Family>: Clone {
-    /// What it answers.
+    /// The digest type.
     type Digest: Digest;
 
     // the functions that it computes
@@ -30,18 +31,18 @@ pub trait Hasher<F: Family>: Clone {
     // how it folds peaks
     ghost bagging_of: { Self → Bagging };
 
-    // all that roots and proofs of the family depend on
+    // everything that roots and proofs of the family depend on
     ghost scheme: { Self → Scheme Self.Digest };
 
-    /// The digest of the parts, one after another.
+    /// Returns the digest of the concatenated parts.
     fn hash(&self, parts: &[&[u8]]) -> Self::Digest
         ensures { result ≡ (hashing self.now).hash (joined_parts parts.now) };
 
-    /// How the peaks are folded for a root.
+    /// Returns how the peaks are folded for a root.
     fn root_bagging(&self) -> Bagging
         ensures { result ≡ bagging_of self.now };
 
-    /// The digest of the merged node at a position, from its children's.
+    /// Returns the digest of the parent node at `position` from the digests of its children.
     fn node_digest(
         &self,
         position: Position<F>,
@@ -50,29 +51,37 @@ pub trait Hasher<F: Family>: Clone {
     ) -> Self::Digest
         ensures { result ≡ (hashing self.now).node position left.now right.now };
 
-    /// The digests of two merged nodes, each as by [`node_digest`](Hasher::node_digest).
+    /// Returns the digests of two parent nodes, each as by [`node_digest`](Hasher::node_digest). An
+    /// implementation may compute them together.
     fn node_digest_pair(
         &self,
         nodes: [(Position<F>, Self::Digest, Self::Digest); 2],
     ) -> (Self::Digest, Self::Digest)
         ensures { (d : _) (e : _) → nodes ≡ d ∷ e ∷ [] → (result.0 ≡ (hashing self.now).node d.0 d.1 d.2) × (result.1 ≡ (hashing self.now).node e.0 e.1 e.2) };
 
-    /// The digest of the leaf at a position, from its element.
+    /// Returns the digest of the leaf at `position` with this element.
     fn leaf_digest(&self, position: Position<F>, element: &[u8]) -> Self::Digest
         ensures { result ≡ (hashing self.now).leaf position element.now };
 
-    /// The digest of bytes.
+    /// Returns the digest of `bytes`.
     fn digest(&self, bytes: &[u8]) -> Self::Digest
         ensures { result ≡ (hashing self.now).hash bytes.now };
 
-    /// The digest of what is folded so far and the next peak.
+    /// Returns the digest of one step of a fold of peaks.
+    ///
+    /// When folding left to right, `acc` is the result so far and `peak` is the next peak; when
+    /// folding right to left, `acc` is the next peak and `peak` is the result so far.
     fn fold(&self, acc: &Self::Digest, peak: &Self::Digest) -> Self::Digest
         ensures { result ≡ (hashing self.now).fold acc.now peak.now };
 
-    /// The root of peaks, oldest first, of which the first `to_fold` are folded apart, with `committed` written as the
-    /// number of inactive ones.
+    /// Returns the root over the digests of the peaks, oldest first; `None` if `to_fold` exceeds
+    /// the number of peaks, or if there are no peaks and `committed` is not 0.
     ///
-    /// `None` exactly where `to_fold` exceeds the number of peaks, or there are none and `committed` isn't 0.
+    /// With [`Bagging::BackwardFold`] the first `to_fold` peaks are folded left to right and the
+    /// rest right to left; with [`Bagging::ForwardFold`] all are folded left to right. `committed`
+    /// is the number of inactive peaks that is hashed into the root. [`root`](Hasher::root) passes
+    /// the same number for both; they differ if one of the digests is already the fold of several
+    /// inactive peaks.
     final fn root_with_folded_peaks(
         &self,
         leaves: Location<F>,
@@ -97,9 +106,16 @@ pub trait Hasher<F: Family>: Clone {
         Some(root_of_folded(self, bagging, leaves, committed, &folded))
     }
 
-    /// The root of peaks, oldest first, for a number of inactive ones.
+    /// Returns the root over the digests of the peaks, oldest first, of which the first `inactive`
+    /// are inactive.
     ///
-    /// Refused with `InvalidInactivePeaks` exactly where that number exceeds the number of peaks.
+    /// The root is the hash of the family's [`DOMAIN`](Family::DOMAIN) byte, the bagging's byte,
+    /// the leaf count and, if there are peaks, `inactive` unless it is 0, and the digest of the
+    /// folded peaks. The two numbers are written as 8 bytes, the most significant first.
+    ///
+    /// # Errors
+    ///
+    /// - `InvalidInactivePeaks` if `inactive` exceeds the number of peaks
     final fn root(
         &self,
         leaves: Location<F>,
@@ -126,7 +142,7 @@ pub trait Hasher<F: Family>: Clone {
     ghost over_digest: { (x : Self) → IsOver (hashing x) Self.Digest.bytes Self.Digest.eq Self.Digest.EMPTY };
 }
 
-// The root of no leaves.
+// The root of a structure without leaves.
 fn empty_root<F: Family, T: Hasher<F>>(
     hasher: &T,
     bagging: Bagging,
@@ -141,7 +157,7 @@ fn empty_root<F: Family, T: Hasher<F>>(
     )
 }
 
-// The root over the one digest that stands for the peaks.
+// The root over the digest that the peaks were folded to.
 fn root_of_folded<F: Family, T: Hasher<F>>(
     hasher: &T,
     bagging: Bagging,
@@ -190,7 +206,7 @@ fn hash_four<F: Family, T: Hasher<F>>(
     hasher.hash(&[a, b, c, d])
 }
 
-/// The fold of the peaks onto the start, left to right.
+/// Folds `peaks` onto `start`, left to right.
 pub fn fold_all<F: Family, T: Hasher<F>>(
     hasher: &T,
     start: T::Digest,
@@ -205,7 +221,7 @@ pub fn fold_all<F: Family, T: Hasher<F>>(
     acc
 }
 
-/// The last peak, which takes in the others right to left, if there is one.
+/// Folds the peaks right to left; `None` if there are none.
 pub fn bag_all<F: Family, T: Hasher<F>>(hasher: &T, peaks: &[T::Digest]) -> Option<T::Digest>
     ensures { result ≡ right_fold (T.hashing hasher.now).fold peaks.now }
 {
@@ -221,7 +237,7 @@ pub fn bag_all<F: Family, T: Hasher<F>>(hasher: &T, peaks: &[T::Digest]) -> Opti
     bagged
 }
 
-// The one digest that stands for the peaks, the first and the others.
+// Folds all peaks, of which `first` is the oldest, to one digest.
 fn fold_peaks<F: Family, T: Hasher<F>>(
     hasher: &T,
     bagging: Bagging,
@@ -245,9 +261,21 @@ fn fold_peaks<F: Family, T: Hasher<F>>(
     }
 }
 
-/// The hasher over a plain one: positions and counts are hashed as 8 bytes, the most significant first.
+/// The hasher that every family shares, over a plain hash function `H`.
 ///
-/// To a contract it is its bagging.
+/// A leaf is hashed as its position and its element, a parent node as its position and the digests
+/// of its children, and a step of a fold as the two digests. Positions and counts are hashed as 8
+/// bytes, the most significant first. Contracts model a `Standard` as its bagging.
+///
+/// # Examples
+///
+/// ```
+/// let hasher = Standard::<Xor8>::new(Bagging::ForwardFold);
+/// let position: mmr::Position = Position::new(3);
+/// let leaf = hasher.leaf_digest(position, &[5]);
+/// // The exclusive or of the 8 bytes of the position and the byte of the element.
+/// assert!(rt; leaf.as_bytes() == [3 ^ 5].as_slice());
+/// ```
 pub struct Standard<H> {
     bagging: Bagging,
     of: PhantomData<H>,
@@ -278,7 +306,7 @@ impl<H> Clone for Standard<H> {
 }
 
 impl<H> Standard<H> {
-    /// The hasher that folds peaks so.
+    /// Creates a hasher that folds peaks by `bagging`.
     pub fn new(bagging: Bagging) -> Self
         ensures { result ≡ bagging }
     {
@@ -288,7 +316,7 @@ impl<H> Standard<H> {
         }
     }
 
-    /// How the peaks are folded for a root.
+    /// Returns how the peaks are folded for a root.
     pub fn root_bagging(&self) -> Bagging
         ensures { result ≡ self.now }
     {
@@ -297,14 +325,14 @@ impl<H> Standard<H> {
 }
 
 impl<H: PlainHasher> Standard<H> {
-    /// The digest of the parts, one after another.
+    /// Returns the digest of the concatenated parts.
     pub fn hash(&self, parts: &[&[u8]]) -> H::Digest
         ensures { result ≡ H.digest_of (joined_parts parts.now) }
     {
         H::hash(parts)
     }
 
-    /// The digest of bytes.
+    /// Returns the digest of `bytes`.
     pub fn digest(&self, bytes: &[u8]) -> H::Digest
         ensures { result ≡ H.digest_of bytes.now }
     {

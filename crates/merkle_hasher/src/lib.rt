@@ -1,4 +1,5 @@
-//! The digests of leaves, nodes and roots, the nodes of a forest as code carries them, and the paths down to leaves.
+//! Hashers, read access to nodes, nodes with the leaves below them, and paths from nodes down to
+//! leaves.
 #![tactic(auto)]
 
 pub mod hasher;

@@ -1,4 +1,4 @@
-//! The path from a node, mostly a peak, down to a leaf.
+//! The path from a node, usually a peak, down to a leaf.
 ghost use Rattle.std.specs.Prelude.{◌≡◌, length};
 ghost use Rattle.std.specs.Iterator.{YieldsFirst, item_count};
 ghost use Rattle.merkle_hasher.specs.Path.{IsNodeAbove, IsPath};
@@ -11,10 +11,11 @@ use merkle_base::position::Position;
 use std::iter;
 use std::marker::Model;
 
-/// The merged nodes from a node down to a leaf, the node itself first.
+/// Iterates over the parent nodes on the path from a node down to a leaf, from the top down.
 ///
-/// Each item is the node's position, the position of its other child, which is the one that the path doesn't go through,
-/// and the node's height. There are as many items as the first node is high, so a leaf gives none. In the forest
+/// Each item is the position of the node, the position of the sibling of the next node on the path,
+/// and the height of the node. The number of items is the height of the first node, so a path that
+/// begins at a leaf has none. In the tree
 ///
 /// ```text
 ///          6
@@ -24,12 +25,13 @@ use std::marker::Model;
 ///     0   1 3   4
 /// ```
 ///
-/// the path from the node 6 to the leaf at location 2, which stands at position 3, is `(6, 2, 2)` and `(5, 4, 1)`.
+/// the path from node 6 down to the leaf at location 2, which is at position 3, is `(6, 2, 2)`,
+/// `(5, 4, 1)`.
 #[derive(Debug, Drop)]
 pub struct Iterator<F: Family> {
-    // where the rest of the path begins
+    // the node at which the rest of the path begins
     node: Subtree<F>,
-    // the location of the leaf where it ends
+    // the location of the leaf at which the path ends
     target: Location<F>,
 }
 
@@ -46,10 +48,10 @@ impl<F: Family> Model for Iterator<F> {
 }
 
 impl<F: Family> Iterator<F> {
-    /// The path from the node at a position down to the leaf at a location.
+    /// Iterates over the path from the node at `peak_pos` down to the leaf at `target_loc`.
     ///
-    /// There is a node at the position, of that height, whose first leaf is at the given location, and the target is one
-    /// of its leaves.
+    /// Requires that there is a node of height `height` at `peak_pos`, that its first leaf is at
+    /// `first_leaf_loc`, and that the target is one of its leaves.
     pub fn new(
         peak_pos: Position<F>,
         height: u32,

@@ -1,4 +1,4 @@
-//! What holds nodes.
+//! Read access to nodes by position.
 ghost use Rattle.std.specs.Prelude.{◌≡◌, ℕ, Option};
 
 use merkle_base::family::Family;
@@ -6,25 +6,25 @@ use merkle_base::position::Position;
 use merkle_digest::digest::Digest;
 use std::rc::Rc;
 
-/// A value that has a node count and answers nodes by position.
+/// Read access to the nodes of a structure by position.
 ///
-/// Both are functions of the value.
+/// Both functions depend only on the value: repeated calls return the same result.
 pub trait Readable {
-    /// The family of its structure.
+    /// The family of the structure.
     type Family: Family;
 
-    /// What its nodes are.
+    /// The digest type of the nodes.
     type Digest: Digest;
 
     ghost size: { Self → ℕ };
 
     ghost node: { Self → ℕ → Option Self.Digest };
 
-    /// The number of nodes.
+    /// Returns the size of the structure in nodes, including nodes that are not held.
     fn size(&self) -> Position<Self::Family>
         ensures { result ≡ size self.now };
 
-    /// The digest of the node at a position, or `None` where none is held.
+    /// Returns the digest of the node at `position`, or `None` if it is not held.
     fn get_node(&self, position: Position<Self::Family>) -> Option<Self::Digest>
         ensures { result ≡ node self.now position };
 }

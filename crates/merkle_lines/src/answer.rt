@@ -10,19 +10,20 @@ use std::fmt;
 /// What is printed for a line.
 #[derive(Debug, Drop)]
 pub enum Answer {
-    /// The line did its work, and has nothing to tell.
+    /// `ok`: the line was carried out and there is nothing to report.
     Done,
-    /// The location of the leaf that was added.
+    /// `ok LOCATION`: the location of the added leaf.
     Added(u64),
-    /// The structure after a commit.
+    /// `ok LEAVES NODES`: the leaf count and the size in nodes of the structure after a commit.
     Committed { leaves: u64, size: u64 },
-    /// The bounds of the structure after it was pruned.
+    /// `ok START END`: the locations of the leaves that are held after pruning, from the first to
+    /// the one after the last.
     Pruned { start: u64, end: u64 },
-    /// A digest or a proof in hexadecimal digits.
+    /// The hexadecimal digits of a root or of a proof.
     Digits(String),
-    /// Whether a proof is accepted.
+    /// `yes` or `no`: whether a proof is accepted.
     Verdict(bool),
-    /// The name of what was wrong.
+    /// `error NAME`: the name of the error.
     Fault(&'static str),
 }
 
@@ -43,8 +44,9 @@ impl fmt::Display for Answer {
     }
 }
 
-// The value of a result; without one, the function's answer is the error's name. This is no `?`, since that passes the
-// error to `From::from`, and the check has no rule for a call that takes an `Error` by value.
+// Unwraps a result; on an error, the calling function returns the name of the error as its answer.
+// This cannot be `?`, since that passes the error to `From::from`, and the check has no rule for a
+// call that takes an `Error` by value.
 macro_rules! or_fault {
     ($result:expr) => {
         match $result {
@@ -56,11 +58,11 @@ macro_rules! or_fault {
 
 pub(crate) use or_fault;
 
-// An error that stops a request.
+// An error with a name to print.
 pub(crate) trait Named {
     ghost called: { Self → List ℕ };
 
-    // The name that is printed for it.
+    // Returns the name that is printed for the error.
     fn name(&self) -> &'static str
         ensures { result.now ≡ called self.now };
 }

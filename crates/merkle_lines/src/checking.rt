@@ -1,4 +1,4 @@
-//! Proofs that come in words, against roots that do.
+//! Checks of proofs that are given as words.
 ghost use Rattle.std.specs.Prelude.{◌≡◌, ℕ, [], ◌∷◌, ◌⊎◌, List, map, codes, length, IfOk, IsOkUnless, IsTrue};
 ghost use Rattle.std.specs.List.{AllByRecursion};
 ghost use Rattle.hex.specs.Hex.{decode_of};
@@ -22,7 +22,7 @@ use merkle_core::location::Location;
 use merkle_core::proof::{MAX_PROOF_DIGESTS_PER_ELEMENT, Proof};
 use std::alloc::Global;
 
-// The bytes of an element's word.
+// Returns the bytes of the word of an element.
 fn read_element(alloc: Global, word: &str) -> Result<Vec<u8>, HexError>
     ensures value { IfOk result (λ bytes. IsElementWord word.now → bytes.items ≡ word_bytes word.now) }
     ensures refused { IsElementWord word.now → IsOkUnless result HexError.OutOfMemory }
@@ -33,7 +33,7 @@ fn read_element(alloc: Global, word: &str) -> Result<Vec<u8>, HexError>
     }
 }
 
-// The bytes of the elements of an optional row of words.
+// Returns the bytes of the elements of some words; none if there are no words.
 fn read_elements(alloc: Global, words: Option<&str>) -> Result<Vec<Vec<u8>>, HexError>
     ensures value { IfOk result (λ all. AllByRecursion IsElementWord (optional_words words.entry)
         → map (λ bytes. bytes.items) all.items ≡ map word_bytes (optional_words words.entry)) }
@@ -55,7 +55,7 @@ fn read_elements(alloc: Global, words: Option<&str>) -> Result<Vec<Vec<u8>>, Hex
     Ok(all)
 }
 
-// The elements, lent.
+// Borrows the elements.
 fn lent(alloc: Global, elements: &[Vec<u8>]) -> Result<Vec<&[u8]>, OutOfMemory>
     ensures { IfOk result (λ all. bytes_of all.items ≡ map (λ bytes. bytes.items) elements.now) }
 {
@@ -68,7 +68,8 @@ fn lent(alloc: Global, elements: &[Vec<u8>]) -> Result<Vec<&[u8]>, OutOfMemory>
     Ok(all)
 }
 
-// Whether bytes spell a proof that is accepted with the elements from a location on, and has that number of inactive peaks.
+// Answers whether the bytes encode a proof with `inactive` inactive peaks that is accepted with the
+// elements, which are those from location `start` on.
 fn verdict<F: Family, H: PlainHasher>(
     alloc: Global,
     hasher: &Standard<H>,
@@ -96,7 +97,8 @@ fn verdict<F: Family, H: PlainHasher>(
     Answer::Verdict(or_fault!(proof.verify_range_inclusion(hasher, &lent, first, root)))
 }
 
-// Whether the proof of a word is accepted with the elements of others against the root of one.
+// Answers whether the proof is accepted with the elements against the root; all three are given as
+// words of hexadecimal digits.
 pub(crate) fn check<F: Family, H: PlainHasher>(
     alloc: Global,
     hasher: &Standard<H>,

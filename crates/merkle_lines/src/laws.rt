@@ -1,4 +1,4 @@
-//! The definitions of the lines on small cases.
+//! The definitions of the lines, computed on small cases.
 ghost use Rattle.std.specs.Prelude.{◌≡◌, ◌^◌, [], ◌∷◌, ◌++◌, Some, None, List, ℕ, codes};
 ghost use Rattle.std.specs.Fmt.{decimal};
 ghost use Rattle.merkle_base.specs.Scheme.{scheme_of};
@@ -9,11 +9,11 @@ ghost use Rattle.merkle_lines.specs.StructureState.{StructureState, all_committe
 ghost use Rattle.merkle_lines.specs.Hashes.{xor8_hashing};
 ghost use Rattle.merkle_lines.specs.Transcript.{lines_of};
 
-/// Lines, and the answers to them, by computing. Elements are hashed to their exclusive or.
+/// Lines and their answers, computed. The hash is the exclusive or.
 pub fn worked_rows()
     ensures no_lines { lines_of [] ≡ [] }
 
-    // The last line may lack the byte that ends it; an empty line is one where that byte is there.
+    // The last line may lack the byte that ends it; an empty line counts only if it has that byte.
     ensures two_lines { lines_of (7 ∷ 10 ∷ 8 ∷ 9 ∷ []) ≡ (7 ∷ []) ∷ (8 ∷ 9 ∷ []) ∷ [] }
     ensures empty_line { lines_of (10 ∷ 7 ∷ 10 ∷ []) ≡ [] ∷ (7 ∷ []) ∷ [] }
 
@@ -22,7 +22,8 @@ pub fn worked_rows()
         added (scheme_of xor8_hashing ForwardFold mmr_merges (2 ^ 62) 0) g (2 ∷ [])
         ≡ (with_changes g (record { elements = (1 ∷ []) ∷ (2 ∷ []) ∷ []; updated = []; boundary = 0 }), codes "ok " ++ decimal 1) }
 
-    // An element that was committed is noted as updated; one that was added since isn't, and none is there past it.
+    // A committed element that is replaced is recorded as updated; one that was added since is not,
+    // and past the last one there is no element.
     ensures updates { let g : StructureState = record { committed = (1 ∷ []) ∷ []; boundary = 0; pending = None } in
         updated g 0 (9 ∷ []) ≡ (with_changes g (record { elements = (9 ∷ []) ∷ []; updated = 0 ∷ []; boundary = 0 }), codes "ok") }
     ensures updates_added { let g : StructureState = record {
@@ -36,7 +37,7 @@ pub fn worked_rows()
     ensures updates_pruned { let g : StructureState = record { committed = (1 ∷ []) ∷ []; boundary = 1; pending = None } in
         updated g 0 (9 ∷ []) ≡ (g, error_line (codes "ElementPruned")) }
 
-    // Committed are the elements with the changes; the boundary stays.
+    // The elements with the changes are committed; the boundary is unchanged.
     ensures commits { all_committed (record {
       committed = (1 ∷ []) ∷ [];
       boundary = 1;
@@ -44,7 +45,7 @@ pub fn worked_rows()
     })
         ≡ record { committed = (1 ∷ []) ∷ (2 ∷ []) ∷ []; boundary = 1; pending = None } }
 
-    // Pruning tells the bounds, and keeps those at which it was before.
+    // Pruning returns the bounds; pruning to an earlier location changes nothing.
     ensures prunes { let g : StructureState = record { committed = (1 ∷ []) ∷ (2 ∷ []) ∷ []; boundary = 1; pending = None } in
         pruned g 2 ≡ (record { committed = (1 ∷ []) ∷ (2 ∷ []) ∷ []; boundary = 2; pending = None }, codes "ok " ++ decimal 2 ++ codes " " ++ decimal 2) }
     ensures prunes_back { let g : StructureState = record { committed = (1 ∷ []) ∷ (2 ∷ []) ∷ []; boundary = 1; pending = None } in

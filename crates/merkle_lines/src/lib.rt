@@ -1,4 +1,4 @@
-//! The lines of the program `merkle`: commands, their answers, and the loop that reads and writes them.
+//! The lines of the program `merkle`: the answers to commands, and the loop that reads and writes.
 #![tactic(auto)]
 
 mod answer;

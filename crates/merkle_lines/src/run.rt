@@ -16,18 +16,18 @@ use thiserror::Error;
 /// What stops the program before the end of its input.
 #[derive(Clone, Copy, Debug, PartialEq, Eq, Error)]
 pub enum RunError {
-    /// The reader failed.
+    /// The reader returned an error that is not an interruption.
     #[error("merkle: read failed")]
     ReadFailed,
-    /// The writer failed.
+    /// The writer returned an error.
     #[error("merkle: write failed")]
     WriteFailed,
-    /// There was no memory for a line.
+    /// A memory request for a line was refused.
     #[error("merkle: out of memory")]
     OutOfMemory,
 }
 
-// The work so far, and the line that has not ended yet.
+// The present session, and the line that is read and not ended yet.
 #[derive(Drop)]
 struct Answerer {
     alloc: Global,
@@ -36,7 +36,7 @@ struct Answerer {
 }
 
 impl Answerer {
-    // The answer to the line.
+    // Answers the present line.
     fn answer_line(&mut self) -> Answer
         ensures line { self.new.line.items ≡ self.old.line.items }
         ensures answered { (told : Option SessionState) → HoldsState self.old.session told → (v : Option SessionState) × HoldsState self.new.session v
@@ -51,7 +51,7 @@ impl Answerer {
         }
     }
 
-    // Answers the line, and begins the next one.
+    // Writes the answer to the present line, and begins the next one.
     fn end_line<W: io::Write>(&mut self, writer: &mut W) -> Result<(), RunError>
         ensures next { OnOk result (self.new.line.items ≡ []) }
         ensures answered { OnOk result ((told : Option SessionState) → HoldsState self.old.session told → (v : Option SessionState) × (text : List ℕ) × HoldsState self.new.session v
@@ -62,7 +62,7 @@ impl Answerer {
         writeln!(writer, "{answer}").map_err(|_| RunError::WriteFailed)
     }
 
-    // Takes in the next byte, and answers the line that it ends.
+    // Takes the next byte; if it ends the line, answers that.
     fn take_byte<W: io::Write>(&mut self, byte: u8, writer: &mut W) -> Result<(), RunError>
         ensures { OnOk result ((told : Option SessionState) → HoldsState self.old.session told → (v : Option SessionState) × (output : List ℕ) × HoldsState self.new.session v
             × Appends (W.contents writer.old) (W.contents writer.new) output × ContinuesTo told self.old.line.items (byte ∷ []) output v self.new.line.items) }
@@ -73,7 +73,7 @@ impl Answerer {
         self.line.push(byte).map_err(|_| RunError::OutOfMemory)
     }
 
-    // Takes in the next bytes, and answers each line that they end.
+    // Takes the next bytes, and answers each line that they end.
     fn take<W: io::Write>(&mut self, bytes: &[u8], writer: &mut W) -> Result<(), RunError>
         ensures { OnOk result ((told : Option SessionState) → HoldsState self.old.session told → (v : Option SessionState) × (output : List ℕ) × HoldsState self.new.session v
             × Appends (W.contents writer.old) (W.contents writer.new) output × ContinuesTo told self.old.line.items bytes.now output v self.new.line.items) }
@@ -84,7 +84,7 @@ impl Answerer {
         flush(writer)
     }
 
-    // Answers a last line that nothing ended.
+    // Answers a last line that no byte ended.
     fn finish<W: io::Write>(&mut self, writer: &mut W) -> Result<(), RunError>
         ensures { OnOk result ((told : Option SessionState) → HoldsState self.old.session told → (output : List ℕ)
             × Appends (W.contents writer.old) (W.contents writer.new) output × IsTranscript told (lines_after [] self.old.line.items) output) }
@@ -96,7 +96,8 @@ impl Answerer {
         flush(writer)
     }
 
-    // Answers each line of the reader, up to the end of input. There is no structure and no line yet.
+    // Answers each line of the reader up to the end of input. There is no structure and no line
+    // yet.
     fn answer_all<R: io::Read, W: io::Write>(
         &mut self,
         reader: &mut R,
@@ -132,9 +133,26 @@ fn flush<W: io::Write>(writer: &mut W) -> Result<(), RunError>
 
 /// Answers each line of the reader by one line on the writer, up to the end of input.
 ///
-/// Each byte 0A ends a line, and the last line may lack it. An error leaves the answers that were already written.
-/// `ReadFailed` where the reader fails, `WriteFailed` where the writer does, and `OutOfMemory` where there is no memory
-/// for a line; memory that a command lacks is the answer to its line.
+/// Each byte `0A` ends a line; the last line need not end with it. A command that runs out of
+/// memory is answered by `error OutOfMemory` and does not stop the loop.
+///
+/// # Errors
+///
+/// - `ReadFailed` if the reader returns an error that is not an interruption
+/// - `WriteFailed` if the writer returns an error
+/// - `OutOfMemory` if a memory request for a line is refused
+///
+/// On error the answers that were already written remain.
+///
+/// # Examples
+///
+/// ```
+/// let mut input: &[u8] = b"new mmr forward xor8\nadd 01\ncommit\nroot 0\n";
+/// let mut output = Vec::new(alloc);
+/// let result = run(alloc, &mut input, &mut output);
+/// assert!(rt; result.is_ok());
+/// assert!(rt; output.as_slice() == b"ok\nok 0\nok 1 1\n00\n".as_slice());
+/// ```
 pub fn run<R: io::Read, W: io::Write>(
     alloc: Global,
     reader: &mut R,

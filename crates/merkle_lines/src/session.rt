@@ -1,4 +1,4 @@
-//! What the lines have made, of each kind of structure.
+//! What the lines have created so far, for each kind of structure.
 ghost use Rattle.std.specs.Prelude.{◌≡◌, ℕ, List, Option, Some, codes};
 ghost use Rattle.merkle_commands.specs.Commands.{IsCommand};
 ghost use Rattle.merkle_lines.specs.AnswerText.{answer_text};
@@ -14,14 +14,18 @@ use merkle_core::family::Bagging;
 use merkle_core::{mmb, mmr};
 use std::alloc::Global;
 
-/// What the lines so far have made.
+/// What the lines so far have created.
 #[derive(Drop)]
 pub enum Session {
-    /// No structure, before the first `new`.
+    /// No structure: there was no `new` yet.
     Absent,
+    /// A Mountain Range over SHA-256.
     MmrSha256(Structure<mmr::Family, Sha256Plain>),
+    /// A Mountain Range over the exclusive or.
     MmrXor8(Structure<mmr::Family, Xor8>),
+    /// A Mountain Belt over SHA-256.
     MmbSha256(Structure<mmb::Family, Sha256Plain>),
+    /// A Mountain Belt over the exclusive or.
     MmbXor8(Structure<mmb::Family, Xor8>),
 }
 
@@ -41,9 +45,10 @@ impl Session {
         }
     }
 
-    /// Does what the line says, and answers it.
+    /// Carries out a command, and returns its answer.
     ///
-    /// A refused `add` or `commit` leaves no pending batch, and the committed structure as it was.
+    /// If an `add`, `update` or `commit` fails, there is no pending batch any more, and the
+    /// committed structure is unchanged.
     pub fn answer(&mut self, alloc: Global, command: Command<'_>) -> Answer
         ensures { IsCommand command.entry → (told : Option SessionState) → HoldsState self.old told → (u : Option SessionState) × HoldsState self.new u
             × IsCommandAnswered told command.entry u (answer_text result) }

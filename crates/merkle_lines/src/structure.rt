@@ -24,7 +24,7 @@ use merkle_core::location::Location;
 use merkle_core::mem::Mem;
 use std::alloc::Global;
 
-/// A structure of one family and hash, with its pending batch.
+/// A structure of one family and hash function, with its pending batch.
 #[derive(Drop)]
 pub(crate) struct Structure<F: Family, H: PlainHasher> {
     pub(crate) hasher: Standard<H>,
@@ -33,7 +33,7 @@ pub(crate) struct Structure<F: Family, H: PlainHasher> {
 }
 
 impl<F: Family, H: PlainHasher> Structure<F, H> {
-    // The empty structure, without a pending batch.
+    // Creates an empty structure without a pending batch.
     pub(crate) fn new(alloc: Global, bagging: Bagging) -> Self
         ensures kind { result.hasher ≡ bagging }
         ensures held { IsHeld (standard H.digest_of H.Digest.bytes H.Digest.eq H.Digest.EMPTY) F.rule F.MAX_LEAVES result.committed result.pending nothing }
@@ -45,7 +45,8 @@ impl<F: Family, H: PlainHasher> Structure<F, H> {
         }
     }
 
-    // The pending batch, which so is gone where the request is refused; without one, a new batch.
+    // Takes the pending batch out of the structure, so that it is lost if the request fails; if
+    // there is none, creates a new batch.
     fn take_pending(&mut self) -> Result<UnmerkleizedBatch<F, H::Digest>, Error<F>>
         ensures kind { self.new.hasher ≡ self.old.hasher }
         ensures kept { self.new.committed ≡ self.old.committed }
@@ -145,7 +146,7 @@ impl<F: Family, H: PlainHasher> Structure<F, H> {
         Answer::Digits(or_fault!(write_hex(alloc, bytes.as_slice())))
     }
 
-    // Does what the line asks, and answers it.
+    // Carries out a request, and returns its answer.
     pub(crate) fn answer(&mut self, alloc: Global, request: Request<'_>) -> Answer
         ensures kind { self.new.hasher ≡ self.old.hasher }
         ensures answered { let h = standard H.digest_of H.Digest.bytes H.Digest.eq H.Digest.EMPTY in (g : StructureState) → IsCommand (Command.Ask request.entry)

@@ -1,4 +1,4 @@
-//! The digests of nodes from scattered elements and told digests.
+//! The digests of nodes from scattered elements and the digests that a proof supplies.
 ghost use Rattle.std.specs.Prelude.{◌≡◌, ◌≤◌, IfOk, IfSome, IsNone, map};
 ghost use Rattle.std.specs.List.Sorted.{IsStrictlyIncreasing};
 ghost use Rattle.merkle_base.specs.Places.{peaks_of};
@@ -16,9 +16,11 @@ use merkle_hasher::hasher::Hasher;
 use merkle_hasher::subtree::Subtree;
 use std::alloc::{AllocError, Global};
 
-/// The digests of the peaks of that many leaves, oldest first, from the elements and the told digests.
+/// Computes the digests of the peaks of `leaves` leaves, oldest first, from the elements and the
+/// supplied digests.
 ///
-/// The elements ascend. There are no digests where another than the computed one is told of a node.
+/// The elements ascend by location. `None` if a supplied digest differs from the one that is
+/// computed for the same node.
 pub(crate) fn confirm_peaks<F: Family, H: Hasher<F>>(
     alloc: Global,
     leaves: Location<F>,
@@ -53,10 +55,12 @@ pub(crate) fn confirm_peaks<F: Family, H: Hasher<F>>(
     Ok(Some(digests))
 }
 
-// The digest of a node, from the elements under it and the told digests of the maximal nodes that have none under them.
+// Computes the digest of a node from the elements below it and the supplied digests of the maximal
+// nodes without elements.
 //
-// The elements ascend, and those before the node are taken already; those under it are taken then. There is no digest where
-// another than the computed one is told of the node, or of one below it.
+// The elements ascend by location, and the first `taken` of them are before the node; those below
+// it are counted as taken afterwards. `None` if a supplied digest differs from the one that is
+// computed for the node or for a node below it.
 fn confirm_digest<F: Family, H: Hasher<F>>(
     subtree: &Subtree<F>,
     hasher: &H,

@@ -1,4 +1,4 @@
-//! Plans of proofs of one leaf.
+//! Plans of proofs of a single leaf.
 ghost use Rattle.std.specs.Prelude.{◌≡◌, ◌≢◌, ◌<◌, ◌≤◌, ◌+◌, IfOk, IfErr};
 ghost use Rattle.std.specs.List.Sorted.{IsStrictlyIncreasing};
 ghost use Rattle.merkle_proof.specs.ElementPlans.{IsElementRefusal};
@@ -12,9 +12,9 @@ use merkle_base::position::Position;
 use std::alloc::{AllocError, Global};
 use std::marker::Model;
 
-/// What a proof of one leaf reads: the plan of the range of that leaf alone.
+/// What a proof of a single leaf reads: the plan of the range of that leaf alone.
 ///
-/// To a contract it is the location of the leaf, and the number of leaves of the list.
+/// Contracts model it as the location of the leaf and the leaf count of the list.
 #[derive(Debug, Drop)]
 pub struct ElementPlan<F: Family> {
     plan: RangePlan<F>,
@@ -33,11 +33,15 @@ impl<F: Family> Model for ElementPlan<F> {
 }
 
 impl<F: Family> ElementPlan<F> {
-    /// The plan of a proof of one leaf of a list of that many leaves.
+    /// Creates the plan of a proof of the leaf at `location` of a list of `leaves` leaves.
     ///
-    /// Refused, in this order: with `LocationOverflow` of the location where no list has it, with `RangeOutOfBounds` of the next
-    /// location where there is no such leaf, with `LocationOverflow` of the leaf count where there are more leaves than the
-    /// family has, and with `OutOfMemory`.
+    /// # Errors
+    ///
+    /// The first that applies:
+    /// - `LocationOverflow` of the location if it is not below [`MAX_LEAVES`](Family::MAX_LEAVES)
+    /// - `RangeOutOfBounds` of the location after it if the list has no such leaf
+    /// - `LocationOverflow` of the leaf count if it exceeds [`MAX_LEAVES`](Family::MAX_LEAVES)
+    /// - `OutOfMemory` if a memory request is refused
     pub fn new(alloc: Global, leaves: Location<F>, location: Location<F>) -> Result<Self, Error<F>>
         ensures ok { IfOk result (λ p. p ≡ record { leaves = leaves; location = location }) }
         ensures within { IfOk result (λ _. (location < leaves) × (leaves ≤ F.MAX_LEAVES)) }
@@ -52,17 +56,21 @@ impl<F: Family> ElementPlan<F> {
         }
     }
 
-    /// The location of the leaf.
+    /// Returns the location of the leaf.
     pub fn location(&self) -> Location<F>
         ensures { result ≡ self.now.location }
     {
         self.location
     }
 
-    /// The positions of all that a proof of the leaf reads, ascending, each once: of the peaks that don't hold it and of the
-    /// siblings on its path.
+    /// Returns the positions of all nodes that a proof of the leaf reads, ascending and each once:
+    /// the peaks that the leaf is not below, and the siblings on its path.
     ///
-    /// Neither the bagging nor the number of inactive peaks changes them. Refused for want of memory.
+    /// They do not depend on the bagging or the number of inactive peaks.
+    ///
+    /// # Errors
+    ///
+    /// - `AllocError` if a memory request is refused
     pub fn positions(&self) -> Result<Vec<Position<F>>, AllocError>
         ensures ok { IfOk result (λ v. v.items ≡ range_positions F.rule self.now.leaves self.now.location (self.now.location + 1)) }
         ensures rises { IfOk result (λ v. IsStrictlyIncreasing v.items) }
@@ -71,7 +79,7 @@ impl<F: Family> ElementPlan<F> {
     }
 }
 
-/// The same plan, of the range of that leaf alone.
+/// The same plan, as the plan of a range of one leaf.
 impl<F: Family> From<ElementPlan<F>> for RangePlan<F> {
     ghost use Rattle.std.specs.Prelude.{◌≡◌};
     ghost use Rattle.merkle_proof.specs.ElementPlans.{leaf_range};

@@ -1,4 +1,5 @@
-//! Digests of nodes and roots, and proofs against roots.
+//! Proofs that elements are leaves of the list behind a root: their plans, their generation from
+//! nodes, and their verification.
 #![tactic(auto)]
 
 mod confirm;

@@ -1,4 +1,4 @@
-//! The positions that a proof of scattered leaves reads.
+//! The positions of the nodes that a proof of scattered leaves reads.
 ghost use Rattle.std.specs.Prelude.{◌≡◌, ◌≢◌, ◌+◌, ◌<◌, ◌≤◌, [], ◌∷◌, ◌++◌, List, ℕ, Some, IfOk, IfErr, cond, take, drop, map, length};
 ghost use Rattle.std.specs.List.{AllByRecursion};
 ghost use Rattle.std.specs.List.Sorted.{IsNonDecreasing, IsStrictlyIncreasing};
@@ -17,27 +17,31 @@ use merkle_base::position::Position;
 use merkle_hasher::subtree::Subtree;
 use std::alloc::{AllocError, Global};
 
-/// The positions of all that a proof of some leaves of a list of that many reads, ascending, each once.
+/// Returns the positions of all nodes that a proof of the leaves at `locations` of a list of
+/// `leaves` leaves reads, ascending and each once.
 ///
-/// They are those that the proofs of its leaves, one by one, read: of the peaks that don't hold the leaf and of the siblings
-/// on its path. Neither the bagging nor the number of inactive peaks changes them. There are at most
-/// [`MAX_PROOF_DIGESTS_PER_ELEMENT`](crate::proof::MAX_PROOF_DIGESTS_PER_ELEMENT) for each location.
+/// They are those that the proofs of the leaves one by one read: the peaks that the leaf is not
+/// below, and the siblings on its path. They do not depend on the bagging or the number of inactive
+/// peaks. There are at most
+/// [`MAX_PROOF_DIGESTS_PER_ELEMENT`](crate::proof::MAX_PROOF_DIGESTS_PER_ELEMENT) for each
+/// location.
 ///
 /// # Errors
 ///
 /// The first that applies:
-/// - `Empty` where there are no locations
-/// - `LocationOverflow` of the first location where no list has it
-/// - `RangeOutOfBounds` of the location after the first one where the list has no such leaf
-/// - `LocationOverflow` of the leaf count where it exceeds `MAX_LEAVES`
+/// - `Empty` if there are no locations
+/// - `LocationOverflow` of the first location if it is not below [`MAX_LEAVES`](Family::MAX_LEAVES)
+/// - `RangeOutOfBounds` of the location after the first one if the list has no leaf at the first
+///   one
+/// - `LocationOverflow` of the leaf count if it exceeds [`MAX_LEAVES`](Family::MAX_LEAVES)
 ///
-/// then for each further location, in turn:
-/// - `DuplicateLocation` of it where it equals the one before
-/// - `UnsortedLocation` of it where it is below the one before
-/// - `LocationOverflow` of it where no list has it
-/// - `RangeOutOfBounds` of the location after it where the list has no such leaf
+/// then, for each further location in turn:
+/// - `DuplicateLocation` if it equals the location before it
+/// - `UnsortedLocation` if it is less than the location before it
+/// - `LocationOverflow` if it is not below [`MAX_LEAVES`](Family::MAX_LEAVES)
+/// - `RangeOutOfBounds` of the location after it if the list has no leaf at it
 ///
-/// `OutOfMemory` wherever there is no memory.
+/// `OutOfMemory` at any point if a memory request is refused.
 pub fn multi_proof_positions<F: Family>(
     alloc: Global,
     leaves: Location<F>,
@@ -55,9 +59,10 @@ pub fn multi_proof_positions<F: Family>(
     Ok(ascending(positions))
 }
 
-// The positions that the proofs of single leaves at the locations, which ascend, read, each once, in the order of the nodes.
+// Returns the positions that the proofs of the leaves at `locations`, which ascend, read one by
+// one; each once, in the order of a walk over the peaks and the nodes below them.
 //
-// In a Mountain Range they ascend.
+// In a Mountain Range that order is ascending.
 fn scattered_positions<F: Family>(
     alloc: Global,
     leaves: Location<F>,
@@ -85,9 +90,10 @@ fn scattered_positions<F: Family>(
     Ok(positions)
 }
 
-// Appends the positions of the nodes below a node that the proofs of single leaves at the locations read, each once.
+// Appends the positions of the nodes below a node that the proofs of the leaves at `locations`
+// read, each once.
 //
-// The locations ascend, and each is that of a leaf under the node.
+// The locations ascend, and each is that of a leaf below the node.
 fn collect_scattered<F: Family>(
     subtree: &Subtree<F>,
     locations: &[Location<F>],
@@ -109,7 +115,7 @@ fn collect_scattered<F: Family>(
     append_if(!first.is_empty(), right.position, out)
 }
 
-// How many of the locations, which ascend, are before the end.
+// Counts the locations, which ascend, that are before `end`.
 fn count_before<F>(locations: &[Location<F>], end: Location<F>) -> usize
     requires ascend { IsNonDecreasing locations.now }
     ensures bound { result ≤ length locations.now }
@@ -118,7 +124,7 @@ fn count_before<F>(locations: &[Location<F>], end: Location<F>) -> usize
     locations.partition_point(|location| *location < end)
 }
 
-// Appends a position where it is read.
+// Appends a position if `is_read` is set.
 fn append_if<F>(
     is_read: bool,
     position: Position<F>,
@@ -132,7 +138,7 @@ fn append_if<F>(
     Ok(())
 }
 
-// Whether the locations are some of that many leaves, strictly ascending.
+// Checks that the locations strictly ascend and are those of leaves of a list of `leaves` leaves.
 fn check_locations<F: Family>(
     leaves: Location<F>,
     locations: &[Location<F>],
@@ -152,7 +158,7 @@ fn check_locations<F: Family>(
     check_later_locations(leaves, *first, others)
 }
 
-// Whether the locations after one are some of that many leaves and go on ascending.
+// Checks that the locations after `first` go on ascending and are those of leaves.
 fn check_later_locations<F: Family>(
     leaves: Location<F>,
     first: Location<F>,
@@ -171,7 +177,7 @@ fn check_later_locations<F: Family>(
     Ok(())
 }
 
-// Whether a location after another is one of that many leaves, past the other.
+// Checks that a location is greater than the one before it and is that of a leaf.
 fn check_later_location<F: Family>(
     leaves: Location<F>,
     before: Location<F>,
@@ -189,7 +195,7 @@ fn check_later_location<F: Family>(
     check_location(leaves, location)
 }
 
-// Whether a location is one of that many leaves.
+// Checks that a location is that of one of the leaves.
 fn check_location<F: Family>(leaves: Location<F>, location: Location<F>) -> Result<(), Error<F>>
     ensures ok { IfOk result (λ _. (location < F.MAX_LEAVES) × (location < leaves)) }
     ensures err { IfErr result (λ e. first_case (location_refusals F.MAX_LEAVES leaves location) ≡ Some e) }

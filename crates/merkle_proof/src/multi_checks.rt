@@ -1,4 +1,4 @@
-//! Checks of scattered leaves against a root, over the parts of their proofs.
+//! Checks of scattered leaves against a root.
 ghost use Rattle.std.specs.Prelude.{◌≡◌, ◌<◌, [], ◌↔◌, IsTrue, IfOk, IfSome, IsNone, length, map};
 ghost use Rattle.std.specs.List.Sorted.{IsStrictlyIncreasing};
 ghost use Rattle.merkle_claim_theory.specs.Multiproof.{AcceptsMulti, multi_positions};
@@ -16,7 +16,7 @@ use merkle_hasher::hasher::Hasher;
 use merkle_range::checks::{ProofParts, reconstruct_empty_root};
 use std::alloc::{AllocError, Global};
 
-/// Whether the elements, each at its location, lead to the root.
+/// Whether the elements, each at its location, lead to `root`.
 pub(crate) fn verify_multi<F: Family, H: Hasher<F>>(
     parts: &ProofParts<'_, F, H::Digest>,
     hasher: &H,
@@ -33,7 +33,7 @@ pub(crate) fn verify_multi<F: Family, H: Hasher<F>>(
     verify_some(parts, hasher, elements, root)
 }
 
-// Whether the proof is the empty one, and the root that of no leaves.
+// Whether the proof is empty and `root` is the root of no leaves.
 fn verify_none<F: Family, H: Hasher<F>>(
     parts: &ProofParts<'_, F, H::Digest>,
     hasher: &H,
@@ -48,7 +48,7 @@ fn verify_none<F: Family, H: Hasher<F>>(
     }
 }
 
-// Whether some elements, each at its location, lead to the root.
+// Whether the elements, of which there is at least one, lead to `root`.
 fn verify_some<F: Family, H: Hasher<F>>(
     parts: &ProofParts<'_, F, H::Digest>,
     hasher: &H,
@@ -85,7 +85,8 @@ fn verify_some<F: Family, H: Hasher<F>>(
     }
 }
 
-// The positions that a proof of the elements reads, if they stand at some of that many leaves, strictly ascending.
+// Returns the positions that a proof of the elements reads; `None` if their locations do not
+// strictly ascend or are not those of leaves.
 fn read_positions<F: Family>(
     alloc: Global,
     leaves: Location<F>,
@@ -109,7 +110,7 @@ fn read_positions<F: Family>(
     }
 }
 
-// The locations of the elements.
+// Returns the locations of the elements.
 fn list_locations<F: Family>(
     alloc: Global,
     elements: &[(&[u8], Location<F>)],

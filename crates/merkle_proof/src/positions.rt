@@ -3,7 +3,7 @@ ghost use Rattle.merkle_proof.specs.Positions.{IsAscendingOf};
 
 use merkle_base::position::Position;
 
-/// The positions in ascending order, each once.
+/// Sorts the positions and drops repeated ones.
 pub(crate) fn ascending<F>(mut positions: Vec<Position<F>>) -> Vec<Position<F>>
     ensures { IsAscendingOf positions.items result.items }
 {

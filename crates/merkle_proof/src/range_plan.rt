@@ -1,4 +1,4 @@
-//! Plans of range proofs: which nodes a proof reads, and the proof made of what stands there.
+//! Plans of range proofs: the nodes that a proof reads, and the proof built from their digests.
 ghost use Rattle.std.specs.Prelude.{◌≡◌, ◌≢◌, ◌<◌, ◌≤◌, ◌+◌, ℕ, List, Option, length, map, IfOk, IfErr};
 ghost use Rattle.merkle_base.specs.Places.{peaks_of, wholly_before};
 ghost use Rattle.merkle_base.specs.Tree.{position};
@@ -23,33 +23,34 @@ use std::alloc::{AllocError, Global};
 use std::marker::Model;
 use std::ops::Range;
 
-/// How many of the positions that a plan reads have which part in a proof.
+/// The parts that the positions of a plan have in a proof.
 #[derive(Clone, Copy, Debug)]
 pub struct RangeCounts {
-    /// How many are peaks before the range, the first ones.
+    /// The number of peaks before the range, which come first.
     pub before: usize,
-    /// How many are peaks after it, the next ones.
+    /// The number of peaks after the range, which come next.
     pub after: usize,
-    /// How many of those before the range are folded to one digest, the oldest ones.
+    /// The number of peaks before the range that are folded to one digest, which are the oldest.
     pub folded: usize,
-    /// How many of those after it stand alone, the oldest ones; the others are folded to one digest.
+    /// The number of peaks after the range that have a digest of their own, which are the oldest;
+    /// the rest are folded to one digest.
     pub single: usize,
 }
 
 /// What a proof of a range of leaves reads.
 ///
-/// To a contract it is the range, and the number of leaves of the list.
+/// Contracts model it as the range and the leaf count of the list.
 #[derive(Debug, Drop)]
 pub struct RangePlan<F: Family> {
     leaves: Location<F>,
     range: Range<Location<F>>,
     // the number of peaks
     peaks: usize,
-    // how many of the positions are peaks before the range
+    // the number of peaks before the range
     before: usize,
-    // how many are peaks after it
+    // the number of peaks after the range
     after: usize,
-    // what is read, in order
+    // the positions of the nodes that are read, in order
     reads: Vec<Position<F>>,
 }
 
@@ -64,11 +65,15 @@ impl<F: Family> Model for RangePlan<F> {
 }
 
 impl<F: Family> RangePlan<F> {
-    /// The plan of a proof of a range of a list of that many leaves.
+    /// Creates the plan of a proof of `range` of a list of `leaves` leaves.
     ///
-    /// Refused, in this order: with `Empty` where the range has no leaves, with `RangeOutOfBounds` of its end where that
-    /// is past the leaves, with `LocationOverflow` where there are more leaves than the family has, and with
-    /// `OutOfMemory`.
+    /// # Errors
+    ///
+    /// The first that applies:
+    /// - `Empty` if the range has no leaves
+    /// - `RangeOutOfBounds` of the end of the range if it exceeds the leaf count
+    /// - `LocationOverflow` of the leaf count if it exceeds [`MAX_LEAVES`](Family::MAX_LEAVES)
+    /// - `OutOfMemory` if a memory request is refused
     pub fn new(
         alloc: Global,
         leaves: Location<F>,
@@ -102,14 +107,15 @@ impl<F: Family> RangePlan<F> {
         })
     }
 
-    /// The number of leaves of the list.
+    /// Returns the leaf count of the list.
     pub fn leaves(&self) -> Location<F>
         ensures { result ≡ self.now.leaves }
     {
         self.leaves
     }
 
-    /// How many of the positions that it reads have which part in a proof, for a bagging and a number of inactive peaks.
+    /// Returns the parts that the positions of [`reads`](RangePlan::reads) have in a proof, for a
+    /// bagging and a number of inactive peaks.
     pub fn counts(&self, bagging: Bagging, inactive: usize) -> RangeCounts
         ensures before { result.before ≡ length (wholly_before self.now.start (peaks_of F.rule self.now.leaves)) }
         ensures after { result.after ≡ length (wholly_after self.now.end (peaks_of F.rule self.now.leaves)) }
@@ -129,18 +135,22 @@ impl<F: Family> RangePlan<F> {
         }
     }
 
-    /// The positions of all that a proof of the range reads: of the peaks before the range, of those after it, and of the
-    /// path siblings.
+    /// Returns the positions of all nodes that a proof of the range reads: the peaks before the
+    /// range, the peaks after it, and the path siblings.
     pub fn reads(&self) -> &[Position<F>]
         ensures { result.now ≡ map position (nodes_read F.rule self.now.leaves self.now.start self.now.end) }
     {
         &self.reads
     }
 
-    /// The positions of all that a proof of the range reads, ascending, each once: of the peaks outside the range and of the path
-    /// siblings.
+    /// Returns the positions of all nodes that a proof of the range reads, ascending and each once:
+    /// the peaks outside the range and the path siblings.
     ///
-    /// Neither the bagging nor the number of inactive peaks changes them. Refused for want of memory.
+    /// They do not depend on the bagging or the number of inactive peaks.
+    ///
+    /// # Errors
+    ///
+    /// - `AllocError` if a memory request is refused
     pub fn positions(&self) -> Result<Vec<Position<F>>, AllocError>
         ensures ok { IfOk result (λ v. v.items ≡ range_positions F.rule self.now.leaves self.now.start self.now.end) }
         ensures rises { IfOk result (λ v. IsStrictlyIncreasing v.items) }
@@ -149,12 +159,21 @@ impl<F: Family> RangePlan<F> {
         Ok(ascending(reads))
     }
 
-    /// The proof over the digests that `get_node` answers at positions, with a number of peaks that count as inactive.
+    /// Builds the proof from the digests that `get_node` returns for positions, with `inactive`
+    /// inactive peaks.
     ///
-    /// Where each answer is the digest of a list at that node, the proof is the honest one of the range. Refused, in this
-    /// order: with `InvalidProof` where the number exceeds that of the peaks; with `ElementPruned` of the first node
-    /// that is missing, of the peaks before the range, the peaks after it that stand alone, the others after it from the
-    /// last one on, and the path siblings; and with `OutOfMemory` wherever there is no memory.
+    /// If `get_node` returns the digests of a list, the proof is the honest one of the range of
+    /// that list.
+    ///
+    /// # Errors
+    ///
+    /// The first that applies:
+    /// - `InvalidProof` if `inactive` exceeds the number of peaks
+    /// - `ElementPruned` of the first node that `get_node` returns `None` for; the nodes are read
+    ///   in this order: the peaks before the range, the individual peaks after it, the folded peaks
+    ///   after it from the last one on, and the path siblings
+    ///
+    /// `OutOfMemory` at any point if a memory request is refused.
     pub fn build<H: Hasher<F>, G: Fn(Position<F>) -> Option<H::Digest>>(
         self,
         hasher: &H,

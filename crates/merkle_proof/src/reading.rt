@@ -12,7 +12,7 @@ use merkle_digest::digest::Digest;
 use merkle_hasher::hasher::Hasher;
 use std::alloc::Global;
 
-/// Nothing is answered at a position.
+/// There is no digest for a position.
 #[derive(Debug, Drop)]
 struct Missing<F> {
     position: Position<F>,
@@ -29,7 +29,7 @@ impl<F> From<Missing<F>> for Error<F> {
     }
 }
 
-// Appends the digests that a closure answers at positions.
+// Appends the digests that `get_node` returns for the positions.
 fn read_each<F: Family, D: Digest, G: Fn(Position<F>) -> Option<D>>(
     positions: &[Position<F>],
     get_node: &G,
@@ -52,7 +52,8 @@ fn read_each<F: Family, D: Digest, G: Fn(Position<F>) -> Option<D>>(
     Ok(())
 }
 
-// Appends the digests that a closure answers at positions folded left to right to one, if there are any.
+// Folds the digests that `get_node` returns for the positions left to right, and appends the
+// result; nothing if there are no positions.
 fn read_folded<F: Family, H: Hasher<F>, G: Fn(Position<F>) -> Option<H::Digest>>(
     hasher: &H,
     positions: &[Position<F>],
@@ -84,8 +85,8 @@ fn read_folded<F: Family, H: Hasher<F>, G: Fn(Position<F>) -> Option<H::Digest>>
     Ok(())
 }
 
-// Appends the digests that a closure answers at positions folded right to left to one, if there are any. They are read
-// from the last one on.
+// Folds the digests that `get_node` returns for the positions right to left, and appends the
+// result; nothing if there are no positions. They are read from the last one on.
 fn read_bagged<F: Family, H: Hasher<F>, G: Fn(Position<F>) -> Option<H::Digest>>(
     hasher: &H,
     positions: &[Position<F>],
@@ -118,8 +119,8 @@ fn read_bagged<F: Family, H: Hasher<F>, G: Fn(Position<F>) -> Option<H::Digest>>
     Ok(())
 }
 
-/// The digests of a proof, from what a closure answers at positions: of the prefix one folded left to right, the single
-/// ones, of the suffix one folded right to left, and those of the siblings.
+/// Returns the digests of a proof, read by `get_node`: the prefix folded left to right to one, the
+/// single ones, the suffix folded right to left to one, and the siblings.
 ///
 /// They are read in this order, the suffix from its last position on.
 pub(crate) fn read_digests<F: Family, H: Hasher<F>, G: Fn(Position<F>) -> Option<H::Digest>>(

@@ -1,4 +1,4 @@
-//! Digests that are told by position.
+//! Digests that a proof supplies by position.
 ghost use Rattle.std.specs.Prelude.{◌≡◌};
 ghost use Rattle.std.specs.Option.{unwrap_or};
 ghost use Rattle.std.specs.List.Sorted.{IsStrictlyIncreasing};
@@ -12,17 +12,17 @@ use merkle_base::family::Family;
 use merkle_base::position::Position;
 use merkle_digest::digest::Digest;
 
-/// Digests of nodes by position, as a proof of scattered leaves tells them.
+/// The digests of nodes by position, as a proof of scattered leaves supplies them.
 #[derive(Drop)]
 pub struct Told<'a, F, D> {
-    /// Ascending, each once.
+    /// The positions, strictly ascending.
     pub positions: &'a [Position<F>],
-    /// One for each position.
+    /// The digests, one for each position.
     pub digests: &'a [D],
 }
 
 impl<F: Family, D: Digest> Told<'_, F, D> {
-    /// The digest that is told at a position, or `None` where none is.
+    /// Returns the digest that is supplied for `position`, or `None`.
     pub fn get(&self, position: Position<F>) -> Option<D>
         requires { IsStrictlyIncreasing self.now.positions.now }
         ensures { result ≡ digest_for self.now.positions.now self.now.digests.now position }
@@ -33,7 +33,7 @@ impl<F: Family, D: Digest> Told<'_, F, D> {
         }
     }
 
-    /// The digest that is told at a position, or else the empty one.
+    /// Returns the digest that is supplied for `position`, or the empty one.
     pub(crate) fn or_empty(&self, position: Position<F>) -> D
         requires { IsStrictlyIncreasing self.now.positions.now }
         ensures { result ≡ unwrap_or (digest_for self.now.positions.now self.now.digests.now position) D.EMPTY }
@@ -44,7 +44,7 @@ impl<F: Family, D: Digest> Told<'_, F, D> {
         }
     }
 
-    /// The digest that is computed at a position, unless another is told there.
+    /// Returns the computed digest; `None` if a different one is supplied for `position`.
     pub(crate) fn confirmed(&self, position: Position<F>, computed: D) -> Option<D>
         requires { IsStrictlyIncreasing self.now.positions.now }
         ensures { (h : Hashing D) (e : Expression D) → Holds h e → computed ≡ value h e

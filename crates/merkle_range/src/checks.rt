@@ -1,4 +1,4 @@
-//! Checks of ranges against a root, over the parts of their proofs.
+//! Checks of ranges of leaves against a root.
 ghost use Rattle.std.specs.Prelude.{◌≡◌, ◌≢◌, ◌+◌, ◌<◌, ◌≤◌, ◌⊎◌, [], ◌↔◌, List, Some, Ok, Err, IsTrue, IfOk, IfErr, length, map, drop};
 ghost use Rattle.std.specs.List.{flat_map};
 ghost use Rattle.merkle_base.specs.Tree.{Tree};
@@ -26,19 +26,21 @@ use std::ops::Range;
 /// The parts of a proof that a check is given.
 #[derive(Drop)]
 pub struct ProofParts<'a, F, D> {
-    /// The number of leaves of the list.
+    /// The leaf count of the list.
     pub leaves: Location<F>,
-    /// The number of peaks that count as inactive.
+    /// The number of inactive peaks.
     pub inactive: usize,
-    /// The digests of what the elements don't tell.
+    /// The digests of the nodes that the elements do not determine.
     pub digests: &'a [D],
-    /// Where memory is requested.
+    /// The allocator for memory requests.
     pub alloc: Global,
 }
 
-/// Whether the elements from a location on lead to the root.
+/// Whether the elements, which are those from location `start` on, lead to `root`.
 ///
-/// Refused only where there is no memory.
+/// # Errors
+///
+/// - `OutOfMemory` if a memory request is refused
 pub fn verify_range<F: Family, H: Hasher<F>>(
     parts: &ProofParts<'_, F, H::Digest>,
     hasher: &H,
@@ -59,17 +61,19 @@ pub fn verify_range<F: Family, H: Hasher<F>>(
     }
 }
 
-/// The root that the elements from a location on lead to.
+/// Computes the root that the elements, which are those from location `start` on, lead to.
 ///
 /// # Errors
 ///
-/// With no elements those of [`reconstruct_empty_root`]; with elements the first that applies:
-/// - `InvalidStartLoc` where `start` isn't a valid index
-/// - `InvalidEndLoc` where the location after the last element is past the greatest leaf count, or past the proof's
-/// - `InvalidSize` where the proof's leaf count is past the greatest, or its inactive count past its number of peaks
-/// - `MissingDigests`, `ExtraDigests` where there are fewer or more digests than the range asks for
+/// Without elements, those of [`reconstruct_empty_root`]; with elements, the first that applies:
+/// - `InvalidStartLoc` if `start` is not below [`MAX_LEAVES`](Family::MAX_LEAVES)
+/// - `InvalidEndLoc` if the location after the last element exceeds
+///   [`MAX_LEAVES`](Family::MAX_LEAVES) or the leaf count of the proof
+/// - `InvalidSize` if the leaf count of the proof exceeds [`MAX_LEAVES`](Family::MAX_LEAVES), or
+///   its number of inactive peaks exceeds the number of peaks
+/// - `MissingDigests` or `ExtraDigests` if there are fewer or more digests than the range needs
 ///
-/// `OutOfMemory` wherever there is no memory.
+/// `OutOfMemory` at any point if a memory request is refused.
 pub fn reconstruct_root<F: Family, H: Hasher<F>>(
     parts: &ProofParts<'_, F, H::Digest>,
     hasher: &H,
@@ -89,7 +93,7 @@ pub fn reconstruct_root<F: Family, H: Hasher<F>>(
     reconstruct_mmr_position(parts, hasher, elements, start)
 }
 
-/// The root that some elements from a location on lead to.
+/// Computes the root that the elements, which are at least one, lead to.
 pub(crate) fn reconstruct_mmr_position<F: Family, H: Hasher<F>>(
     parts: &ProofParts<'_, F, H::Digest>,
     hasher: &H,
@@ -107,11 +111,11 @@ pub(crate) fn reconstruct_mmr_position<F: Family, H: Hasher<F>>(
     reconstruct_root_into(parts, hasher, elements, start, &mut Unlisted)
 }
 
-/// The root that the elements from a location on lead to, which are some, and the digests that are computed or given for
-/// nodes, each put where they are collected.
+/// Computes the root that the elements, which are at least one, lead to, and passes every node
+/// digest that is computed or given to `collector`.
 ///
-/// These are those of the individual peaks before the range, of the peaks that overlap it, each after those of the nodes
-/// below it, and of the individual peaks after the range.
+/// The order is: the individual peaks before the range; each peak that overlaps it, after the nodes
+/// below that peak; the individual peaks after the range.
 pub(crate) fn reconstruct_root_into<F: Family, H: Hasher<F>, C: Collector<F, H::Digest>>(
     parts: &ProofParts<'_, F, H::Digest>,
     hasher: &H,
@@ -161,15 +165,16 @@ pub(crate) fn reconstruct_root_into<F: Family, H: Hasher<F>, C: Collector<F, H::
     }
 }
 
-/// The root that no elements lead to: that of no leaves, for the empty proof from location 0 on.
+/// Returns the root that no elements lead to: the root of no leaves, which the empty proof proves
+/// from location 0 on.
 ///
 /// # Errors
 ///
 /// The first that applies:
-/// - `MissingElements` where `start` isn't 0
-/// - `InvalidProof` where the inactive count isn't 0
-/// - `MissingElements` where the leaf count isn't 0
-/// - `ExtraDigests` where there are digests
+/// - `MissingElements` if `start` is not 0
+/// - `InvalidProof` if the number of inactive peaks is not 0
+/// - `MissingElements` if the leaf count is not 0
+/// - `ExtraDigests` if there are digests
 pub fn reconstruct_empty_root<F: Family, H: Hasher<F>>(
     parts: &ProofParts<'_, F, H::Digest>,
     hasher: &H,
@@ -196,7 +201,7 @@ pub fn reconstruct_empty_root<F: Family, H: Hasher<F>>(
     }
 }
 
-// The location after that many of the leaves from `start` on.
+// Returns the location after the `count` leaves from `start` on.
 fn end_from<F: Family>(
     leaves: Location<F>,
     start: Location<F>,
@@ -223,8 +228,8 @@ fn end_from<F: Family>(
     Ok(end)
 }
 
-// The digests of all that the root folds: the given ones before, those of the peaks that overlap the range, and the given
-// ones after.
+// Returns all digests that the root folds: the given ones before the range, those of the peaks that
+// overlap it, and the given ones after it.
 fn peak_digests<F: Family, H: Hasher<F>, C: Collector<F, H::Digest>>(
     parts: &ProofParts<'_, F, H::Digest>,
     hasher: &H,

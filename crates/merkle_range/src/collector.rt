@@ -1,4 +1,4 @@
-//! What is kept of the digests that a walk computes.
+//! What is kept of the node digests that a check computes.
 ghost use Rattle.std.specs.Prelude.{◌≡◌, [], ◌∷◌, ◌++◌, ℕ, List, ⊤, OnOk};
 ghost use Rattle.std.proofs.Common.{sym, ap, ◌∙◌, append-nil, append_assoc};
 
@@ -7,14 +7,12 @@ use merkle_base::position::Position;
 use merkle_digest::digest::Digest;
 use std::alloc::AllocError;
 
-/// Takes the digests of nodes, each with its node's position.
+/// Receives the digests of nodes, with their positions.
 pub(crate) trait Collector<F: Family, D: Digest> {
     // whether the second value is the first after it took these pairs in order
     ghost Took: { Self → List (ℕ × D) → Self → Type 0 };
 
-    /// Takes the digest of the node at a position.
-    ///
-    /// Refused where there is no memory.
+    /// Receives the digest of the node at `position`. Fails only if a memory request is refused.
     fn put(&mut self, position: Position<F>, digest: &D) -> Result<(), AllocError>
         ensures { OnOk result (Took self.old ((position, digest.now) ∷ []) self.new) };
 
@@ -23,7 +21,7 @@ pub(crate) trait Collector<F: Family, D: Digest> {
     ghost took_both: { (s t u : Self) (a b : List (ℕ × D)) → Took s a t → Took t b u → Took s (a ++ b) u };
 }
 
-/// Keeps nothing.
+/// A collector that keeps nothing.
 #[derive(Clone, Copy)]
 pub(crate) struct Unlisted;
 
@@ -41,7 +39,7 @@ impl<F: Family, D: Digest> Collector<F, D> for Unlisted {
     ghost took_both = { λ _ _ _ _ _ _ _. tt };
 }
 
-/// The pairs that were taken, in order.
+/// Keeps all pairs, in order.
 impl<F: Family, D: Digest> Collector<F, D> for Vec<(Position<F>, D)> {
     ghost Took = { λ s a t. t.items ≡ s.items ++ a };
 
@@ -57,9 +55,7 @@ impl<F: Family, D: Digest> Collector<F, D> for Vec<(Position<F>, D)> {
     ghost took_both = { λ s t u a b e f. f ∙ ap (λ z. z ++ b) e ∙ append_assoc s.items a b };
 }
 
-/// Takes the digests of two nodes, each with its node's position.
-///
-/// Refused where there is no memory.
+/// Passes the digests of two nodes to a collector. Fails only if a memory request is refused.
 pub(crate) fn put_both<F: Family, D: Digest, C: Collector<F, D>>(
     left: Position<F>,
     first: &D,

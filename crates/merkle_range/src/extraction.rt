@@ -1,4 +1,4 @@
-//! The digests of nodes that a check of a range computes or is given.
+//! The node digests that a check of a range computes or is given.
 ghost use Rattle.std.specs.Prelude.{◌≡◌, ◌+◌, ◌<◌, ◌≤◌, ◌≢◌, ℕ, List, Some, Ok, Err, IfOk, IfErr, length, map, drop, take, min};
 ghost use Rattle.merkle_base.specs.Tree.{Tree, position};
 ghost use Rattle.merkle_base.specs.Hashing.{Hashing};
@@ -24,16 +24,16 @@ use merkle_digest::digest::Digest;
 use merkle_hasher::hasher::Hasher;
 use std::alloc::AllocError;
 
-/// The pairs of a position and the digest of the node there that the parts of a proof and its elements tell, where they lead
-/// to the root.
+/// Checks that the elements lead to `root`, and returns the digests of the nodes that the check
+/// computes or is given, with their positions.
 ///
 /// # Errors
 ///
 /// The first that applies:
-/// - `InvalidProof` where [`reconstruct_root`](crate::checks::reconstruct_root) refuses
-/// - `RootMismatch` where it leads to another root
+/// - `InvalidProof` if [`reconstruct_root`](crate::checks::reconstruct_root) returns an error
+/// - `RootMismatch` if the computed root differs from `root`
 ///
-/// `OutOfMemory` wherever there is no memory.
+/// `OutOfMemory` at any point if a memory request is refused.
 pub fn verify_and_extract<F: Family, H: Hasher<F>>(
     parts: &ProofParts<'_, F, H::Digest>,
     hasher: &H,
@@ -62,7 +62,8 @@ pub fn verify_and_extract<F: Family, H: Hasher<F>>(
     }
 }
 
-// The root that the elements from a location on lead to, if there are any, and else that of no leaves, with its pairs.
+// Computes the root that the elements lead to, and the pairs; without elements, the root of no
+// leaves and no pairs.
 fn reconstruct_or_extract<F: Family, H: Hasher<F>>(
     parts: &ProofParts<'_, F, H::Digest>,
     hasher: &H,
@@ -83,15 +84,16 @@ fn reconstruct_or_extract<F: Family, H: Hasher<F>>(
     reconstruct_and_extract(parts, hasher, elements, start)
 }
 
-/// The root that the elements from a location on lead to, which are some, and the pairs of a position and the digest of
-/// the node there that are computed or given on the way.
+/// Computes the root that the elements, which are at least one, lead to, and the digests of the
+/// nodes that are computed or given on the way, with their positions.
 ///
-/// The pairs are those of the individual peaks before the range, of the peaks that overlap it, each after the pairs below
-/// it, and of the individual peaks after the range. The pairs below a node that overlaps the range and isn't a leaf are
-/// those below its left child, those below its right child, the left child's and the right child's. Digests that stand for
-/// several peaks aren't among them.
+/// The pairs are those of the individual peaks before the range, of the peaks that overlap it, each
+/// after the pairs below it, and of the individual peaks after the range. The pairs below a node
+/// that overlaps the range and is not a leaf are those below its left child, those below its right
+/// child, the left child's and the right child's. A digest to which several peaks are folded is not
+/// among them.
 ///
-/// Refused where the counts are wrong, or there is no memory.
+/// Fails as [`reconstruct_root`](crate::checks::reconstruct_root).
 pub(crate) fn reconstruct_and_extract<F: Family, H: Hasher<F>>(
     parts: &ProofParts<'_, F, H::Digest>,
     hasher: &H,
@@ -114,7 +116,8 @@ pub(crate) fn reconstruct_and_extract<F: Family, H: Hasher<F>>(
     Ok((root, pairs))
 }
 
-/// Puts the digests of the individual peaks before the range, of those that a proof gives.
+/// Passes the digests of the individual peaks before the range, which the proof gives, to a
+/// collector.
 pub(crate) fn put_before<F: Family, D: Digest, C: Collector<F, D>>(
     groups: &Groups<F>,
     layout: Layout,
@@ -138,7 +141,8 @@ pub(crate) fn put_before<F: Family, D: Digest, C: Collector<F, D>>(
     Ok(())
 }
 
-/// Puts the digests of the individual peaks after the range, of those that a proof gives.
+/// Passes the digests of the individual peaks after the range, which the proof gives, to a
+/// collector.
 pub(crate) fn put_after<F: Family, D: Digest, C: Collector<F, D>>(
     groups: &Groups<F>,
     layout: Layout,
@@ -157,7 +161,8 @@ pub(crate) fn put_after<F: Family, D: Digest, C: Collector<F, D>>(
     Ok(())
 }
 
-// Puts the digests at the positions, one for each that has one.
+// Passes the digests to a collector, each with the position at the same index; surplus positions or
+// digests are ignored.
 fn put_each<F: Family, D: Digest, C: Collector<F, D>>(
     positions: &[Position<F>],
     digests: &[D],

@@ -1,4 +1,4 @@
-//! The peaks of a forest by where they stand to a range.
+//! The peaks before a range of leaves, overlapping it and after it.
 ghost use Rattle.std.specs.Prelude.{◌≡◌, ◌<◌, ◌≤◌, ◌+◌, ◌++◌, [], ◌∷◌, ℕ, List, map, length, IfOk};
 ghost use Rattle.std.specs.List.{flat_map};
 ghost use Rattle.merkle_base.specs.Tree.{Tree, position, end_leaf};
@@ -20,22 +20,23 @@ use merkle_hasher::subtree::Subtree;
 use std::alloc::{AllocError, Global};
 use std::ops::Range;
 
-/// Room for the peaks outside a range and for what a proof of one leaf reads beside them, which are seldom more.
+/// Initial capacity for the peaks outside a range and the siblings of a proof of one leaf; more are
+/// rare.
 const ROOM: usize = 128;
 
-/// The peaks that overlap a range, and the positions of the others, each oldest first.
+/// The peaks that overlap a range, and the positions of the peaks outside it, each oldest first.
 #[derive(Drop)]
 pub struct Groups<F> {
-    /// How many peaks are before the range.
+    /// The number of peaks before the range.
     pub before: usize,
     /// The peaks that overlap the range.
     pub overlapping: Vec<Subtree<F>>,
-    /// The positions of the peaks before the range, and then of those after it.
+    /// The positions of the peaks before the range, followed by those of the peaks after it.
     pub outside: Vec<Position<F>>,
 }
 
 impl<F: Family> Groups<F> {
-    /// Appends a peak to its group.
+    /// Appends a peak to its group. Peaks come in order, the oldest first.
     fn put(&mut self, peak: Subtree<F>, range: &Range<Location<F>>) -> Result<(), AllocError>
         requires node { (t : Tree) × Denotes F.rule F.MAX_LEAVES peak t }
         requires some { range.now.start < range.now.end }
@@ -54,9 +55,14 @@ impl<F: Family> Groups<F> {
         Ok(())
     }
 
-    /// The groups of the peaks of that many leaves.
+    /// Groups the peaks of a structure with `leaves` leaves by where they are relative to `range`.
     ///
-    /// Refused for want of memory.
+    /// Requires `range` to have a leaf and `leaves` to be at most
+    /// [`MAX_LEAVES`](Family::MAX_LEAVES).
+    ///
+    /// # Errors
+    ///
+    /// - `AllocError` if a memory request is refused
     pub fn of_peaks(
         alloc: Global,
         leaves: Location<F>,
@@ -84,7 +90,7 @@ impl<F: Family> Groups<F> {
         Ok(groups)
     }
 
-    /// The number of peaks.
+    /// Returns the number of peaks.
     pub fn count(&self) -> usize
         requires { (a : ℕ) × (b : ℕ) × (n : ℕ) × (a < b) × (n ≤ F.MAX_LEAVES) × HoldsGroups a b self.now (peaks_of F.rule n) }
         ensures { (a b n : ℕ) → a < b → HoldsGroups a b self.now (peaks_of F.rule n) → result ≡ length (peaks_of F.rule n) }
@@ -92,7 +98,7 @@ impl<F: Family> Groups<F> {
         self.overlapping.len() + self.outside.len()
     }
 
-    /// The number of peaks after the range.
+    /// Returns the number of peaks after the range.
     pub fn after(&self) -> usize
         requires { (a : ℕ) × (b : ℕ) × (ts : List Tree) × HoldsGroups a b self.now ts }
         ensures { (a b : ℕ) (ts : List Tree) → HoldsGroups a b self.now ts → result ≡ length (wholly_after b ts) }
@@ -100,7 +106,7 @@ impl<F: Family> Groups<F> {
         self.outside.len() - self.before
     }
 
-    /// The layout of a proof of the range, where so many peaks are inactive.
+    /// Returns the layout of a proof of the range with `inactive` inactive peaks.
     pub(crate) fn layout(&self, bagging: Bagging, inactive: usize) -> Layout
         requires groups { (a : ℕ) × (b : ℕ) × (n : ℕ) × (a < b) × (n ≤ F.MAX_LEAVES) × HoldsGroups a b self.now (peaks_of F.rule n) }
         requires inactive { inactive ≤ 64 }
@@ -122,10 +128,15 @@ impl<F: Family> Groups<F> {
         )
     }
 
-    /// The positions of the peaks before the range, of those after it, and of the maximal nodes outside it under the
-    /// others, left to right.
+    /// Returns the positions of the nodes whose digests a proof of `range` reads: the peaks before
+    /// the range, the peaks after it, and the maximal nodes outside it below the peaks that overlap
+    /// it, left to right.
     ///
-    /// Refused for want of memory.
+    /// Requires `range` to be the one that the peaks were grouped by.
+    ///
+    /// # Errors
+    ///
+    /// - `AllocError` if a memory request is refused
     pub fn into_reads(self, range: &Range<Location<F>>) -> Result<Vec<Position<F>>, AllocError>
         requires some { range.now.start < range.now.end }
         requires groups { (n : ℕ) × (n ≤ F.MAX_LEAVES) × HoldsGroups range.now.start range.now.end self (peaks_of F.rule n) }
@@ -138,7 +149,7 @@ impl<F: Family> Groups<F> {
     }
 }
 
-// Appends the positions of the maximal nodes outside the range under the peaks, left to right.
+// Appends the positions of the maximal nodes outside the range below the peaks, left to right.
 fn append_siblings<F: Family>(
     peaks: &[Subtree<F>],
     range: &Range<Location<F>>,

@@ -1,4 +1,5 @@
-//! The layout of a proof of a range: which peaks outside it stand alone, and which are folded to one digest.
+//! The layout of a range proof: which peaks outside the range have a digest of their own, and which
+//! are folded to one digest.
 ghost use Rattle.std.specs.Prelude.{◌≡◌, ◌≤◌, ◌+◌, ℕ, List, length};
 ghost use Rattle.merkle_base.specs.Tree.{Tree};
 ghost use Rattle.merkle_root_theory.specs.Outside.{folded_prefix, single_after};
@@ -6,7 +7,10 @@ ghost use Rattle.merkle_root_theory.specs.Layouts.{count_before, count_after, co
 
 use merkle_base::family::Bagging;
 
-/// How many of that many peaks before a range are folded to one digest, the oldest ones: all, or the inactive ones.
+/// Returns how many of the `before` peaks before a range are folded to one digest.
+///
+/// These are the oldest ones: all with [`Bagging::ForwardFold`], the inactive ones with
+/// [`Bagging::BackwardFold`].
 pub fn prefix_count(bagging: Bagging, inactive: usize, before: usize) -> usize
     ensures exact { (ts : List Tree) → length ts ≡ before → result ≡ length (folded_prefix bagging inactive ts) }
     ensures within { result ≤ before }
@@ -17,9 +21,10 @@ pub fn prefix_count(bagging: Bagging, inactive: usize, before: usize) -> usize
     }
 }
 
-/// How many of that many peaks after a range stand alone, the oldest ones: all, or the inactive ones.
+/// Returns how many of the `after` peaks after a range have a digest of their own.
 ///
-/// `met` is the number of peaks before the range and of those that overlap it.
+/// These are the oldest ones: all with [`Bagging::ForwardFold`], the inactive ones with
+/// [`Bagging::BackwardFold`]. `met` is the number of peaks before the range or overlapping it.
 pub fn single_count(bagging: Bagging, inactive: usize, met: usize, after: usize) -> usize
     ensures exact { (ts : List Tree) → length ts ≡ after → result ≡ length (single_after bagging inactive met ts) }
     ensures within { result ≤ after }
@@ -30,21 +35,24 @@ pub fn single_count(bagging: Bagging, inactive: usize, met: usize, after: usize)
     }
 }
 
-/// How many digests stand for the peaks outside a range, and how many of all that a root folds are those of inactive
-/// peaks.
+/// The numbers of digests that a range proof has for the peaks outside the range.
 #[derive(Clone, Copy, Debug)]
 pub(crate) struct Layout {
+    /// The number of digests for the peaks before the range.
     pub(crate) before: usize,
+    /// The number of digests for the peaks after the range.
     pub(crate) after: usize,
+    /// Of all digests that the root folds, the number of those of inactive peaks, of which the
+    /// folded ones have one together.
     pub(crate) inactive: usize,
-    /// How many peaks before the range are folded to one digest, the oldest ones.
+    /// The number of peaks before the range that are folded to one digest, which are the oldest.
     pub(crate) prefix: usize,
-    /// How many peaks after the range stand alone, the oldest ones.
+    /// The number of peaks after the range that have a digest of their own, which are the oldest.
     pub(crate) single: usize,
 }
 
 impl Layout {
-    /// The layout where there are that many peaks before the range, met by it, and after it.
+    /// The layout for `before` peaks before the range, `over` overlapping it, and `after` after it.
     pub(crate) fn new(
         bagging: Bagging,
         inactive: usize,

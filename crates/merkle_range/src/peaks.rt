@@ -1,4 +1,4 @@
-//! The peaks of a forest as nodes with what stands under them.
+//! The peaks with the leaves below them.
 ghost use Rattle.std.specs.Prelude.{◌≡◌, ◌≤◌, map, IfOk};
 ghost use Rattle.merkle_base.specs.Places.{peaks_of};
 ghost use Rattle.merkle_hasher.specs.Subtrees.{subtree_of};
@@ -8,7 +8,7 @@ use merkle_base::location::Location;
 use merkle_hasher::subtree::Subtree;
 use std::alloc::{AllocError, Global};
 
-/// The peaks of that many leaves, oldest first.
+/// Returns the peaks of a structure with `leaves` leaves, oldest first.
 pub(crate) fn peak_subtrees<F: Family>(
     alloc: Global,
     leaves: Location<F>,

@@ -26,7 +26,7 @@ use merkle_hasher::subtree::Subtree;
 use std::alloc::{AllocError, Global};
 use std::ops::Range;
 
-/// Digests that are pinned at positions.
+/// Pinned digests with their positions.
 #[derive(Drop)]
 struct Pins<'a, F, D> {
     positions: Vec<Position<F>>,
@@ -34,7 +34,7 @@ struct Pins<'a, F, D> {
 }
 
 impl<'a, F: Family, D: Digest> Pins<'a, F, D> {
-    /// The digests at the peaks over that many leaves.
+    /// Pairs the digests with the positions of the peaks of `leaves` leaves.
     fn new(alloc: Global, leaves: Location<F>, digests: &'a [D]) -> Result<Self, AllocError>
         requires { leaves ≤ F.MAX_LEAVES }
         ensures positions { IfOk result (λ p. p.positions.items ≡ peak_positions F.rule leaves) }
@@ -47,7 +47,7 @@ impl<'a, F: Family, D: Digest> Pins<'a, F, D> {
         Ok(Pins { positions, digests })
     }
 
-    /// The digest at a position, if one is pinned there.
+    /// Returns the digest that is pinned at `position`, if any.
     fn get(&self, position: Position<F>) -> Option<D>
         ensures { result ≡ digest_for self.now.positions.items self.now.digests.now position }
     {
@@ -55,7 +55,7 @@ impl<'a, F: Family, D: Digest> Pins<'a, F, D> {
     }
 }
 
-// The digest in the place in which a position stands among the positions.
+// Returns the digest at the index that `position` has among `positions`.
 fn digest_at<F, D: Digest>(
     positions: &[Position<F>],
     digests: &[D],
@@ -76,7 +76,8 @@ fn digest_at<F, D: Digest>(
     None
 }
 
-/// The digest of a node, from those that are pinned below it.
+/// Computes the digest of a node from those that are pinned at it or below it. A leaf without a pin
+/// gets the empty digest.
 fn rebuilt_digest<F: Family, H: Hasher<F>>(
     subtree: &Subtree<F>,
     hasher: &H,
@@ -98,7 +99,7 @@ fn rebuilt_digest<F: Family, H: Hasher<F>>(
     hasher.node_digest(subtree.position, &first, &second)
 }
 
-// The fold of peaks left to right, each rebuilt.
+// Folds the rebuilt digests of the peaks left to right.
 fn rebuilt_fold<F: Family, H: Hasher<F>>(
     oldest: &Subtree<F>,
     others: &[Subtree<F>],
@@ -119,7 +120,8 @@ fn rebuilt_fold<F: Family, H: Hasher<F>>(
     folded
 }
 
-// Whether the first digest is that of the peaks folded left to right, each rebuilt, if there are any.
+// Whether the first of `digests` is that of the rebuilt peaks folded left to right; `true` if there
+// are no peaks.
 fn is_fold_rebuilt<F: Family, H: Hasher<F>>(
     peaks: &[Subtree<F>],
     hasher: &H,
@@ -140,7 +142,7 @@ fn is_fold_rebuilt<F: Family, H: Hasher<F>>(
     rebuilt_fold(oldest, others, hasher, pins) == *digest
 }
 
-// Whether each peak is rebuilt to the digest at its place.
+// Whether the rebuilt digest of every peak equals the digest at its index.
 fn are_rebuilt<F: Family, H: Hasher<F>>(
     peaks: &[Subtree<F>],
     hasher: &H,
@@ -165,9 +167,9 @@ fn are_rebuilt<F: Family, H: Hasher<F>>(
     true
 }
 
-// Whether each path sibling under a node that lies before the start is rebuilt to the digest at its place.
+// Whether every path sibling below the node that lies before `start` is rebuilt to the next digest.
 //
-// The node has leaves from the start on.
+// The node has a leaf at or after `start`.
 fn are_siblings_rebuilt<F: Family, H: Hasher<F>>(
     subtree: &Subtree<F>,
     hasher: &H,
@@ -196,8 +198,8 @@ fn are_siblings_rebuilt<F: Family, H: Hasher<F>>(
     are_siblings_rebuilt(&right, hasher, start, pins, others)
 }
 
-// Whether the fold of that many of the peaks, the oldest ones, and each of the others are rebuilt to the digests at their
-// places.
+// Whether the fold of the `folded` oldest peaks, and every further peak by itself, are rebuilt to
+// the digests at their indices.
 fn are_peaks_rebuilt<F: Family, H: Hasher<F>>(
     peaks: &[Subtree<F>],
     folded: usize,
@@ -223,7 +225,7 @@ fn are_peaks_rebuilt<F: Family, H: Hasher<F>>(
     are_rebuilt(others, hasher, pins, rest)
 }
 
-// Whether each part of a proof that lies before the range is rebuilt from the pins to the digest at its place.
+// Whether every part of a proof that lies before the range is rebuilt from the pins to its digest.
 fn is_before_rebuilt<F: Family, H: Hasher<F>>(
     parts: &ProofParts<'_, F, H::Digest>,
     hasher: &H,
@@ -256,10 +258,13 @@ fn is_before_rebuilt<F: Family, H: Hasher<F>>(
     Ok(are_siblings_rebuilt(crossed, hasher, range.start, pins, siblings))
 }
 
-/// Whether the elements from a location on lead to the root, and the digests for what lies before them are rebuilt from the
-/// pinned ones of the peaks over the leaves before them.
+/// Whether the elements, which are those from location `start` on, lead to `root`, and every digest
+/// of the proof for the leaves before them is the one that is rebuilt from `pinned_nodes`, the
+/// digests of the peaks of `start` leaves.
 ///
-/// Refused only where there is no memory.
+/// # Errors
+///
+/// - `OutOfMemory` if a memory request is refused
 pub fn verify_pinned<F: Family, H: Hasher<F>>(
     parts: &ProofParts<'_, F, H::Digest>,
     hasher: &H,

@@ -1,4 +1,4 @@
-//! The digests of nodes from those outside a range of leaves.
+//! The digest of a node from those of the maximal nodes outside a range of leaves.
 ghost use Rattle.std.specs.Prelude.{◌≡◌, ◌≢◌, ◌+◌, ◌<◌, ◌≤◌, not, true, [], ◌++◌, length, map, IfOk, IfErr};
 ghost use Rattle.merkle_base.specs.Tree.{Tree, position};
 ghost use Rattle.merkle_hasher.specs.Subtrees.{Denotes};
@@ -17,7 +17,7 @@ use merkle_hasher::subtree::Subtree;
 use std::alloc::AllocError;
 use std::ops::Range;
 
-// Whether no leaf of the range stands under a node.
+// Whether the node has no leaf in the range.
 fn is_outside<F: Family>(subtree: &Subtree<F>, range: &Range<Location<F>>) -> bool
     requires node { (t : Tree) × Denotes F.rule F.MAX_LEAVES subtree.now t }
     requires some { range.now.start < range.now.end }
@@ -26,7 +26,7 @@ fn is_outside<F: Family>(subtree: &Subtree<F>, range: &Range<Location<F>>) -> bo
     subtree.leaf_end() <= range.start || subtree.first_leaf >= range.end
 }
 
-// Whether each leaf of a node lies in the range.
+// Whether all leaves of the node are in the range.
 fn is_inside<F: Family>(subtree: &Subtree<F>, range: &Range<Location<F>>) -> bool
     requires { (t : Tree) × Denotes F.rule F.MAX_LEAVES subtree.now t }
     ensures { (t : Tree) → Denotes F.rule F.MAX_LEAVES subtree.now t → result ≡ true → siblings (in_range range.now.start range.now.end) t ≡ [] }
@@ -34,10 +34,11 @@ fn is_inside<F: Family>(subtree: &Subtree<F>, range: &Range<Location<F>>) -> boo
     subtree.first_leaf >= range.start && subtree.leaf_end() <= range.end
 }
 
-/// The digest of a node, from the elements of the range and the digests of the maximal nodes outside it, which are taken in
-/// order.
+/// Computes the digest of a node from the elements of the range and from `digests`, those of the
+/// maximal nodes outside the range, which are consumed in order.
 ///
-/// The digests of the nodes below it are put where they are collected, both children after what is below them.
+/// The digests of the nodes below it are passed to `out`: the two children of a node after all that
+/// is below them.
 pub(crate) fn reconstruct_digest<F: Family, H: Hasher<F>, C: Collector<F, H::Digest>>(
     subtree: &Subtree<F>,
     hasher: &H,
@@ -78,7 +79,8 @@ pub(crate) fn reconstruct_digest<F: Family, H: Hasher<F>, C: Collector<F, H::Dig
     Ok(hasher.node_digest(subtree.position, &first, &second))
 }
 
-/// Appends the positions of the maximal nodes under a node outside the range, left to right.
+/// Appends the positions of the maximal nodes outside the range at or below the node, left to
+/// right.
 pub(crate) fn collect_siblings<F: Family>(
     subtree: &Subtree<F>,
     range: &Range<Location<F>>,

@@ -1,6 +1,6 @@
-//! The families: merge rules with closed formulas, as code.
+//! The two families, with closed formulas for their positions and sizes.
 //!
-//! The rules and the theory of their forests stand in the crate below.
+//! Their merge rules and the theory of their forests are in `merkle_forest_theory`.
 #![tactic(auto)]
 
 pub mod mmb;

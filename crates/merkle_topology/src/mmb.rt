@@ -1,7 +1,20 @@
-//! The Merkle Mountain Belt: when a leaf comes, the newest adjacent pair of peaks of equal height is merged, if there is one.
+//! The Merkle Mountain Belt (MMB): after a leaf is added, the newest adjacent pair of peaks of
+//! equal height is merged, if there is one.
 //!
-//! So one parent at most comes with a leaf, and n leaves have as many peaks as the binary logarithm of n + 1. Peak i,
-//! counted from the newest, has height i, and one more where bit i of n + 1 is set.
+//! So adding a leaf creates at most one parent, and `n` leaves have as many peaks as the (integer)
+//! binary logarithm of `n + 1`. Counted from the newest as peak 0, peak `i` has height `i`, or
+//! `i + 1` if bit `i` of `n + 1` is set.
+//!
+//! Five leaves have eight nodes. The leaves are at the positions 0, 1, 3, 4 and 6, and the parent
+//! at 7 was created when the leaf at 6 was added; the peaks are 7 and 6.
+//!
+//! ```text
+//!       7
+//!     /   \
+//!    2     5
+//!   / \   / \
+//!  0   1 3   4   6
+//! ```
 ghost use Rattle.std.specs.Prelude.{◌≡◌, ◌≢◌, ◌+◌, ◌^◌, ◌<◌, ◌≤◌, ◌↔◌, ℕ, IsTrue, IfSome, IfNone, List, [], ◌∷◌, length, cond, Some};
 ghost use Rattle.std.specs.Iterator.{YieldsFirst, item_count};
 ghost use Rattle.std.specs.Option.{option_to_list};
@@ -19,31 +32,31 @@ use merkle_base::listed::Listed;
 use merkle_base::{error, family, location, position};
 use std::marker::Model;
 
-/// The greatest node count.
+/// The greatest size in nodes, 2^63 - 2.
 const MAX_NODES: u64 = 9223372036854775806;
 
-/// The greatest leaf count, which has that many nodes.
+/// The greatest leaf count, 2^62 + 30, which has [`MAX_NODES`] nodes.
 const MAX_LEAVES: u64 = 4611686018427387934;
 
-/// The Mountain Belt.
+/// The Mountain Belt family.
 #[derive(Clone, Copy, Debug, Default, PartialEq, Eq)]
 pub struct Family;
 
-/// A node index or a node count of the Mountain Belt.
+/// A node index (position) or a size in nodes of a Mountain Belt.
 pub type Position = position::Position<Family>;
 
-/// A leaf index or a leaf count of the Mountain Belt.
+/// A leaf index (location) or a leaf count of a Mountain Belt.
 pub type Location = location::Location<Family>;
 
-/// Why a call was refused.
+/// Why a call on a Mountain Belt failed.
 pub type Error = error::Error<Family>;
 
-/// The peaks of a node count with their heights, oldest first.
+/// Iterates over the peaks, as pairs of position and height, from the oldest on.
 #[derive(Debug, Drop)]
 pub struct PeakIterator {
     // the leaf count
     leaves: u64,
-    // how many of its peaks are left, the newest ones
+    // the number of peaks that are not yielded yet, which are the newest
     left: u32,
     ghost valid: { leaves ≤ 4611686018427387934 },
     ghost enough: { 2 ^ left ≤ leaves + 1 },
@@ -56,9 +69,9 @@ impl Model for PeakIterator {
 }
 
 impl PeakIterator {
-    /// The peaks of that many nodes.
+    /// Iterates over the peaks of a structure with `nodes` nodes.
     ///
-    /// The node count is a valid size.
+    /// Requires `nodes` to be a valid size.
     pub fn new(nodes: Position) -> Self
         requires { IsSize mmb_merges MAX_LEAVES nodes }
         ensures leaves { size mmb_merges result.leaves ≡ nodes }
@@ -71,9 +84,9 @@ impl PeakIterator {
         }
     }
 
-    /// The largest valid size that is not above a node count.
+    /// Returns the largest valid size that is at most `nodes`.
     ///
-    /// The node count is at most 2^63 - 2.
+    /// Requires `nodes` to be at most 2^63 - 2.
     pub fn to_nearest_size(nodes: Position) -> Position
         requires { nodes ≤ MAX_NODES }
         ensures { IsNearestSize mmb_merges MAX_LEAVES nodes result }
@@ -81,7 +94,7 @@ impl PeakIterator {
         Position::new(node_count(leaf_count_within(nodes.as_u64())))
     }
 
-    /// The leaf count of the node count that it was made for.
+    /// Returns the leaf count of the structure that this iterator was created for.
     pub fn leaves(&self) -> Location
         ensures { result ≡ self.now.leaves }
     {
@@ -92,7 +105,7 @@ impl PeakIterator {
 impl Default for PeakIterator {
     ghost is_default = { λ s. s ≡ record { leaves = 0; left = [] } };
 
-    /// No peaks, of no leaves.
+    /// No peaks: those of a structure without leaves.
     fn default() -> Self {
         PeakIterator { leaves: 0, left: 0 }
     }
@@ -137,7 +150,7 @@ impl Listed for PeakIterator {
     ghost ends = { λ _. tt };
 }
 
-/// The height of the parent that comes with a leaf, if one does.
+/// Iterates over the heights of the parents that adding a leaf creates: at most one.
 #[derive(Debug, Drop)]
 pub struct ParentHeights {
     height: Option<u32>,
@@ -171,16 +184,17 @@ impl Listed for ParentHeights {
     ghost ends = { λ _. tt };
 }
 
-/// The maximal nodes inside a chunk with their heights, left to right.
+/// Iterates over the maximal nodes inside a chunk, as pairs of position and height, left to right.
 ///
-/// A stretch of leaves has its own node, or, before that one comes, the node of its left half and those of its right half.
+/// An aligned range of leaves has one maximal node, its own, or, before that node is created, the
+/// node of its left half and then the maximal nodes of its right half.
 #[derive(Debug, Drop)]
 pub struct ChunkPeaks {
     // the leaf count
     leaves: u64,
-    // the first leaf of the stretch that the items left are over
+    // the first leaf of the range that is left to cover
     first: u64,
-    // its height
+    // the height of that range
     height: u32,
     // whether items are left
     left: bool,
@@ -227,7 +241,7 @@ impl Listed for ChunkPeaks {
     ghost ends = { λ _. tt };
 }
 
-/// The node count of that many leaves.
+/// Returns the size in nodes of a structure with `leaves` leaves.
 fn node_count(leaves: u64) -> u64
     requires { leaves ≤ MAX_LEAVES }
     ensures { result ≡ size mmb_merges leaves }
@@ -235,14 +249,15 @@ fn node_count(leaves: u64) -> u64
     2 * leaves - u64::from((leaves + 1).ilog2())
 }
 
-/// The greatest leaf count that has no more than so many nodes, by a search.
+/// Returns the greatest leaf count whose size is at most `nodes`, by binary search.
 fn leaf_count_within(nodes: u64) -> u64
     requires { nodes ≤ MAX_NODES }
     ensures limit { result ≤ MAX_LEAVES }
     ensures within { size mmb_merges result ≤ nodes }
     ensures greatest { nodes < size mmb_merges (result + 1) }
 {
-    // n leaves have at most 2 * n nodes, and at least 2 * n - 64, since there are at most 64 peaks
+    // `n` leaves have at most `2 * n` nodes, and at least `2 * n - 64`, since there are at most 64
+    // peaks
     let mut low = nodes / 2;
     let mut high = (low + 32).min(MAX_LEAVES);
     while low < high {
@@ -256,14 +271,15 @@ fn leaf_count_within(nodes: u64) -> u64
     low
 }
 
-/// The greatest leaf count that has no more than so many nodes, by the logarithm.
+/// Returns the greatest leaf count whose size is at most `nodes`, by a formula with the binary
+/// logarithm.
 fn leaf_count_by_log(nodes: u64) -> u64
     requires { nodes ≤ MAX_NODES }
     ensures limit { result ≤ MAX_LEAVES }
     ensures within { size mmb_merges result ≤ nodes }
     ensures greatest { nodes < size mmb_merges (result + 1) }
 {
-    // nodes and peaks together are twice the leaves, and about as many peaks as the logarithm says
+    // nodes and peaks together are twice the leaves, and the number of peaks is about the logarithm
     let low = (nodes + u64::from((nodes + 2).ilog2()) - 1) / 2;
     if low >= MAX_LEAVES {
         return low;
@@ -275,7 +291,7 @@ fn leaf_count_by_log(nodes: u64) -> u64
     }
 }
 
-/// The leaf with which the node of a height over the leaves from one on comes.
+/// Returns the leaf whose addition creates the node of height `height` whose first leaf is `first`.
 fn birth_leaf(first: u64, height: u32) -> u64
     requires { birth_leaf first height < 2 ^ 63 }
     ensures { result ≡ birth_leaf first height }
@@ -286,7 +302,7 @@ fn birth_leaf(first: u64, height: u32) -> u64
     first + (3 << (height - 1)) - 2
 }
 
-/// The position of the node of a height over the leaves from one on, which comes with its birth leaf.
+/// Returns the position of the node of height `height` whose first leaf is `first`.
 fn root_position(first: u64, height: u32) -> u64
     requires { birth_leaf first height ≤ MAX_LEAVES }
     ensures { result ≡ mmb_position first height }
@@ -298,9 +314,9 @@ fn root_position(first: u64, height: u32) -> u64
     leaf + 1
 }
 
-/// The birth leaf of the node of a height at a position.
+/// Returns the leaf whose addition creates the node of height `height` at `position`.
 ///
-/// The position is what [`root_position`] answers for some leaf and the height.
+/// Requires `position` to be the result of [`root_position`] for some leaf and this height.
 fn birth_leaf_of(position: u64, height: u32) -> u64
     requires within { position ≤ MAX_NODES }
     requires some { (s : ℕ) × (mmb_position s height ≡ position) }
@@ -313,9 +329,9 @@ fn birth_leaf_of(position: u64, height: u32) -> u64
     leaf_count_by_log(position - 1)
 }
 
-/// The first leaf of the node of a height at a position.
+/// Returns the first leaf of the node of height `height` at `position`.
 ///
-/// The position is what [`root_position`] answers for some leaf and the height.
+/// Requires `position` to be the result of [`root_position`] for some leaf and this height.
 fn first_below(position: u64, height: u32) -> u64
     requires within { position ≤ MAX_NODES }
     requires some { (s : ℕ) × (mmb_position s height ≡ position) }
@@ -328,9 +344,9 @@ fn first_below(position: u64, height: u32) -> u64
     birth + 2 - (3 << (height - 1))
 }
 
-/// A peak of so many leaves with its height, by its index from the newest.
+/// Returns the position and the height of peak `index`, counted from the newest as 0.
 ///
-/// There are more peaks than the index says.
+/// Requires that there are more than `index` peaks.
 fn peak(leaves: u64, index: u32) -> (Position, u32)
     requires valid { leaves ≤ MAX_LEAVES }
     requires there { 2 ^ (index + 1) ≤ leaves + 1 }

@@ -1,7 +1,19 @@
-//! The Merkle Mountain Range: when a leaf comes, the two newest peaks are merged while they have equal height.
+//! The Merkle Mountain Range (MMR): after a leaf is added, the two newest peaks are merged while
+//! they have equal height.
 //!
-//! So each peak is higher than the newer ones, and n leaves have a peak for each binary one of n. A node comes with the
-//! last leaf under it, right after its right child.
+//! So every peak is higher than the newer ones, and `n` leaves have one peak for each one bit of
+//! `n`. A node is created when the last leaf below it is added, and follows its right child.
+//!
+//! Five leaves have eight nodes. The leaves are at the positions 0, 1, 3, 4 and 7, and the peaks
+//! are 6 and 7.
+//!
+//! ```text
+//!       6
+//!     /   \
+//!    2     5
+//!   / \   / \
+//!  0   1 3   4   7
+//! ```
 ghost use Rattle.std.specs.Prelude.{◌≡◌, ◌≢◌, ◌+◌, ◌-◌, ◌^◌, ◌<◌, ◌≤◌, ◌↔◌, ℕ, IsTrue, IfSome, IfNone, List, []};
 ghost use Rattle.std.specs.Iterator.{YieldsFirst, item_count};
 ghost use Rattle.std.specs.List.{range_with_len};
@@ -20,31 +32,31 @@ use merkle_base::listed::Listed;
 use merkle_base::{error, family, location, position};
 use std::marker::Model;
 
-/// The greatest node count.
+/// The greatest size in nodes, 2^63 - 1.
 const MAX_NODES: u64 = 9223372036854775807;
 
-/// The greatest leaf count, which has that many nodes.
+/// The greatest leaf count, 2^62, which has [`MAX_NODES`] nodes.
 const MAX_LEAVES: u64 = 4611686018427387904;
 
-/// The Mountain Range.
+/// The Mountain Range family.
 #[derive(Clone, Copy, Debug, Default, PartialEq, Eq)]
 pub struct Family;
 
-/// A node index or a node count of the Mountain Range.
+/// A node index (position) or a size in nodes of a Mountain Range.
 pub type Position = position::Position<Family>;
 
-/// A leaf index or a leaf count of the Mountain Range.
+/// A leaf index (location) or a leaf count of a Mountain Range.
 pub type Location = location::Location<Family>;
 
-/// Why a call was refused.
+/// Why a call on a Mountain Range failed.
 pub type Error = error::Error<Family>;
 
-/// The peaks of a node count with their heights, oldest first.
+/// Iterates over the peaks, as pairs of position and height, from the oldest on.
 #[derive(Debug, Drop)]
 pub struct PeakIterator {
-    // the position at which the next tree begins
+    // the position at which the next peak's tree begins
     next: u64,
-    // the nodes from there on
+    // the number of nodes from there on
     left: u64,
     ghost bounded: { next + left < 2 ^ 63 },
 }
@@ -56,9 +68,9 @@ impl Model for PeakIterator {
 }
 
 impl PeakIterator {
-    /// The peaks of that many nodes.
+    /// Iterates over the peaks of a structure with `nodes` nodes.
     ///
-    /// The node count is a valid size.
+    /// Requires `nodes` to be a valid size.
     pub fn new(nodes: Position) -> Self
         requires { IsSize mmr_merges MAX_LEAVES nodes }
         ensures { ArePeaks mmr_merges MAX_LEAVES nodes result }
@@ -69,9 +81,9 @@ impl PeakIterator {
         }
     }
 
-    /// The largest valid size that is not above a node count.
+    /// Returns the largest valid size that is at most `nodes`.
     ///
-    /// The node count is at most 2^63 - 1.
+    /// Requires `nodes` to be at most 2^63 - 1.
     pub fn to_nearest_size(nodes: Position) -> Position
         requires { nodes ≤ MAX_NODES }
         ensures { IsNearestSize mmr_merges MAX_LEAVES nodes result }
@@ -83,7 +95,7 @@ impl PeakIterator {
 impl Default for PeakIterator {
     ghost is_default = { λ s. s ≡ [] };
 
-    /// No peaks.
+    /// No peaks: those of a structure without leaves.
     fn default() -> Self {
         PeakIterator { next: 0, left: 0 }
     }
@@ -118,12 +130,13 @@ impl Listed for PeakIterator {
     ghost ends = { λ _. tt };
 }
 
-/// The heights of the parents that come with a leaf, in the order of the merges: 1, 2, and so on.
+/// Iterates over the heights of the parents that adding a leaf creates, in the order of the merges:
+/// 1, 2, and so on.
 #[derive(Debug, Drop)]
 pub struct ParentHeights {
     // the next height
     next: u32,
-    // how many are left
+    // the number of heights that are not yielded yet
     left: u32,
     ghost bounded: { next + left ≤ 65 },
 }
@@ -162,7 +175,8 @@ impl Listed for ParentHeights {
     ghost ends = { λ _. tt };
 }
 
-/// The maximal nodes inside a chunk with their heights: the chunk's own node alone, which comes with its last leaf.
+/// Iterates over the maximal nodes inside a chunk: only the node of the chunk itself, which is
+/// created when the last leaf of the chunk is added.
 #[derive(Debug, Drop)]
 pub struct ChunkPeaks {
     peak: Option<(Position, u32)>,
@@ -196,7 +210,7 @@ impl Listed for ChunkPeaks {
     ghost ends = { λ _. tt };
 }
 
-/// The node count of that many leaves.
+/// Returns the size in nodes of a structure with `leaves` leaves.
 fn node_count(leaves: u64) -> u64
     requires { leaves ≤ MAX_LEAVES }
     ensures { result ≡ size mmr_merges leaves }
@@ -204,14 +218,15 @@ fn node_count(leaves: u64) -> u64
     2 * leaves - u64::from(leaves.count_ones())
 }
 
-/// The greatest leaf count that has no more than so many nodes.
+/// Returns the greatest leaf count whose size is at most `nodes`, by binary search.
 fn leaf_count_within(nodes: u64) -> u64
     requires { nodes ≤ MAX_NODES }
     ensures limit { result ≤ MAX_LEAVES }
     ensures within { size mmr_merges result ≤ nodes }
     ensures greatest { nodes < size mmr_merges (result + 1) }
 {
-    // n leaves have at most 2 * n nodes, and at least 2 * n - 64, since there are at most 64 peaks
+    // `n` leaves have at most `2 * n` nodes, and at least `2 * n - 64`, since there are at most 64
+    // peaks
     let mut low = nodes / 2;
     let mut high = (low + 32).min(MAX_LEAVES);
     while low < high {
@@ -225,7 +240,7 @@ fn leaf_count_within(nodes: u64) -> u64
     low
 }
 
-/// The nodes under a root of a height, without itself.
+/// Returns the number of nodes below a node of height `height`, without the node itself.
 fn nodes_below(height: u32) -> u64
     requires { height ≤ 62 }
     ensures { result + 2 ≡ 2 ^ (height + 1) }
@@ -233,7 +248,7 @@ fn nodes_below(height: u32) -> u64
     (2 << height) - 2
 }
 
-/// The position of the node of a height over the leaves from one on.
+/// Returns the position of the node of height `height` whose first leaf is `first`.
 fn root_position(first: u64, height: u32) -> u64
     requires low { height ≤ 62 }
     requires within { mmr_position first height ≤ MAX_NODES }
@@ -242,9 +257,9 @@ fn root_position(first: u64, height: u32) -> u64
     node_count(first) + nodes_below(height)
 }
 
-/// The first leaf of the node of a height at a position.
+/// Returns the first leaf of the node of height `height` at `position`.
 ///
-/// The position is what [`root_position`] answers for some leaf and the height.
+/// Requires `position` to be the result of [`root_position`] for some leaf and this height.
 fn first_below(position: u64, height: u32) -> u64
     requires low { height ≤ 62 }
     requires within { position ≤ MAX_NODES }

@@ -1,4 +1,4 @@
-//! Proofs over what holds nodes.
+//! Proofs over any reader of nodes, and stores that prove parts of a proved range.
 #![tactic(auto)]
 
 pub mod laws;

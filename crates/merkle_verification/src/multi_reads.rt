@@ -1,4 +1,4 @@
-//! The digests of a proof of scattered leaves, read from pairs and from given ones.
+//! The digests of a proof of scattered leaves, read from a table and from given pairs.
 ghost use Rattle.std.specs.Prelude.{◌≡◌, ◌≢◌, Some, map, reverse, IfOk, IfErr};
 ghost use Rattle.merkle_verification.specs.StoreMulti.{IsUnknown, either_at, known_at, unknown_error};
 
@@ -9,7 +9,7 @@ use merkle_base::position::Position;
 use merkle_digest::digest::Digest;
 use std::alloc::{AllocError, Global};
 
-// The pairs from the last one on.
+// Returns the pairs from the last one on.
 fn reversed<F: Family, D: Digest>(
     alloc: Global,
     pairs: &[(Position<F>, D)],
@@ -25,7 +25,7 @@ fn reversed<F: Family, D: Digest>(
     Ok(list)
 }
 
-// The digest at a position: that of the first pairs, or else of the second.
+// Returns the digest of the first table at `position`, or else that of the second.
 fn either_digest<F: Family, D: Digest>(
     first: &PairTable<F, D>,
     second: &PairTable<F, D>,
@@ -39,7 +39,8 @@ fn either_digest<F: Family, D: Digest>(
     }
 }
 
-// Why the digest at a position is unknown: it is folded with those of others, or the store never had it.
+// Returns the error for an unknown digest: it is folded with those of other peaks, or the store
+// never had it.
 fn unknown_digest<F: Family>(suffix_peaks: &[Position<F>], position: Position<F>) -> Error<F>
     ensures { result ≡ unknown_error suffix_peaks.now position }
 {
@@ -50,7 +51,7 @@ fn unknown_digest<F: Family>(suffix_peaks: &[Position<F>], position: Position<F>
     }
 }
 
-// The digests at positions: those of the first pairs, or else of the second.
+// Returns the digests at the positions, each from the first table or else from the second.
 fn read_either<F: Family, D: Digest>(
     first: &PairTable<F, D>,
     second: &PairTable<F, D>,
@@ -70,7 +71,8 @@ fn read_either<F: Family, D: Digest>(
     Ok(digests)
 }
 
-/// The digests at positions: those of the pairs, or else of what is given, of which the last one at a position counts.
+/// Returns the digests at the positions, each from `pairs` or else from `given`. If `given` has
+/// several digests for a position, the last one is used.
 pub(crate) fn read_known<F: Family, D: Digest>(
     pairs: &PairTable<F, D>,
     given: &[(Position<F>, D)],

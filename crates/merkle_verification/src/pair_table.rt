@@ -1,4 +1,4 @@
-//! Digests of nodes found by position.
+//! Digests of nodes, found by position.
 ghost use Rattle.std.specs.Prelude.{◌≡◌, IfOk};
 ghost use Rattle.merkle_verification.specs.PairReads.{found_at, AnswersPairs};
 
@@ -9,9 +9,9 @@ use std::alloc::{AllocError, Global};
 use std::collections::HashMap;
 use std::marker::Model;
 
-/// Pairs of a position and the digest of the node there, in an order, found by position.
+/// Pairs of a position and a digest, in order, with the digest found by position.
 ///
-/// To a contract it is the list of the pairs.
+/// Contracts model it as the list of the pairs.
 #[derive(Debug, Drop)]
 pub(crate) struct PairTable<F: Family, D: Digest> {
     pairs: Vec<(Position<F>, D)>,
@@ -33,7 +33,7 @@ impl<F: Family, D: Digest> Model for PairTable<F, D> {
     ghost invariant = { λ t. AnswersPairs t.digests.entries t.pairs.items };
 }
 
-// The digest of the first of the pairs at each position.
+// Maps each position to the digest of its first pair.
 fn by_position<F: Family, D: Digest>(
     alloc: Global,
     pairs: &[(Position<F>, D)],
@@ -51,9 +51,7 @@ fn by_position<F: Family, D: Digest>(
 }
 
 impl<F: Family, D: Digest> PairTable<F, D> {
-    /// The table of the pairs.
-    ///
-    /// Refused for want of memory.
+    /// Creates a table of the pairs. Fails only if a memory request is refused.
     pub(crate) fn new(pairs: Vec<(Position<F>, D)>) -> Result<Self, AllocError>
         ensures { IfOk result (λ t. t ≡ pairs.items) }
     {
@@ -61,14 +59,14 @@ impl<F: Family, D: Digest> PairTable<F, D> {
         Ok(PairTable { pairs, digests })
     }
 
-    /// The digest of the first pair at a position.
+    /// Returns the digest of the first pair at `position`.
     pub(crate) fn get(&self, position: Position<F>) -> Option<D>
         ensures { result ≡ found_at self.now position }
     {
         self.digests.get(&position).copied()
     }
 
-    /// Where its memory comes from.
+    /// Returns the allocator of the table.
     pub(crate) fn allocator(&self) -> Global {
         *self.pairs.allocator()
     }

@@ -1,4 +1,4 @@
-//! Proofs over what holds nodes.
+//! Proofs over any reader of nodes.
 ghost use Rattle.std.specs.Prelude.{◌≡◌, ◌≢◌, ◌<◌, ◌≤◌, ℕ, List, Some, length, map, take, IfOk, IfErr, IsOkUnless};
 ghost use Rattle.std.specs.List.Sorted.{IsStrictlyIncreasing};
 ghost use Rattle.merkle_base.specs.Forest.{size};
@@ -28,22 +28,24 @@ use merkle_proof::told::Told;
 use std::alloc::Global;
 use std::ops::Range;
 
-/// The proof of a range of the leaves that a reader's nodes have, with a number of peaks that count as inactive.
+/// Generates the proof of the leaves in `range`, from the nodes of a reader, with `inactive`
+/// inactive peaks.
 ///
-/// Where the reader shows a list, it is the list's honest proof of the range. The size may be one that the reader hasn't
-/// got: no loop and no memory grows with it, only with the positions that the proof reads.
+/// If the reader shows a list, this is the honest proof of the range of that list. The size that
+/// the reader returns need not be true: no loop and no memory request grows with it, only with the
+/// number of positions that the proof reads.
 ///
 /// # Errors
 ///
 /// The first that applies:
-/// - `PositionOverflow` of the reader's size where it exceeds `MAX_NODES`
-/// - `NonLeaf` of it where no leaf count has so many nodes
-/// - `Empty` where the range has no leaves
-/// - `RangeOutOfBounds` of its end where that is past the leaf count
-/// - `InvalidProof` where the number exceeds that of the peaks
-/// - `ElementPruned` of the least position that the proof reads and the reader has no node at
+/// - `PositionOverflow` of the size of the reader if it exceeds [`MAX_NODES`](Family::MAX_NODES)
+/// - `NonLeaf` of the size if no leaf count has that many nodes
+/// - `Empty` if the range has no leaves
+/// - `RangeOutOfBounds` of the end of the range if it exceeds the leaf count
+/// - `InvalidProof` if `inactive` exceeds the number of peaks
+/// - `ElementPruned` of the least position that the proof reads and the reader has no node for
 ///
-/// `OutOfMemory` wherever there is no memory.
+/// `OutOfMemory` at any point if a memory request is refused.
 pub fn range_proof<R: Readable, H: Hasher<R::Family, Digest = R::Digest>>(
     alloc: Global,
     hasher: &H,
@@ -72,21 +74,22 @@ pub fn range_proof<R: Readable, H: Hasher<R::Family, Digest = R::Digest>>(
     }
 }
 
-/// The proof of a range of the first leaves, as many as are given, from the nodes of a reader that may have more, with a
-/// number of peaks that count as inactive.
+/// Generates the proof of the leaves in `range` as of an older state with `leaves` leaves, from the
+/// nodes of a reader that may have more, with `inactive` inactive peaks.
 ///
-/// Where the reader shows a list, it is the honest proof of the range of the list of its first leaves.
+/// If the reader shows a list, this is the honest proof of the range of the list of its first
+/// `leaves` leaves.
 ///
 /// # Errors
 ///
 /// The first that applies:
-/// - `Empty` where the range has no leaves
-/// - `RangeOutOfBounds` of its end where that is past the given leaf count
-/// - `LocationOverflow` of the leaf count where it exceeds `MAX_LEAVES`
-/// - `InvalidProof` where the number exceeds that of the peaks
-/// - `ElementPruned` of the least position that the proof reads and the reader has no node at
+/// - `Empty` if the range has no leaves
+/// - `RangeOutOfBounds` of the end of the range if it exceeds `leaves`
+/// - `LocationOverflow` of `leaves` if it exceeds [`MAX_LEAVES`](Family::MAX_LEAVES)
+/// - `InvalidProof` if `inactive` exceeds the number of peaks
+/// - `ElementPruned` of the least position that the proof reads and the reader has no node for
 ///
-/// `OutOfMemory` wherever there is no memory.
+/// `OutOfMemory` at any point if a memory request is refused.
 pub fn historical_range_proof<R: Readable, H: Hasher<R::Family, Digest = R::Digest>>(
     alloc: Global,
     hasher: &H,
@@ -113,7 +116,7 @@ pub fn historical_range_proof<R: Readable, H: Hasher<R::Family, Digest = R::Dige
     }
 }
 
-// The proof of a plan over the nodes of a reader.
+// Generates the proof of a plan from the nodes of a reader.
 fn prove_plan<R: Readable, H: Hasher<R::Family, Digest = R::Digest>>(
     alloc: Global,
     hasher: &H,
@@ -140,25 +143,26 @@ fn prove_plan<R: Readable, H: Hasher<R::Family, Digest = R::Digest>>(
     }
 }
 
-/// The proof of the leaves at some locations, of those that a reader's nodes have, with a number of peaks that count as
-/// inactive.
+/// Generates the proof of the leaves at `locations`, from the nodes of a reader, with `inactive`
+/// inactive peaks.
 ///
-/// Its digests are those of the nodes at the positions of
-/// [`multi_proof_positions`](merkle_proof::multi::multi_proof_positions), in their order. Where the reader shows a list, it
-/// is the list's honest proof of the leaves. The size may be one that the reader hasn't got: no loop and no memory grows
-/// with it, only with the positions that the proof reads.
+/// The proof has the digests of the nodes at
+/// [`multi_proof_positions`](merkle_proof::multi::multi_proof_positions), in that order. If the
+/// reader shows a list, this is the honest proof of these leaves of the list. The size that the
+/// reader returns need not be true: no loop and no memory request grows with it, only with the
+/// number of positions that the proof reads.
 ///
 /// # Errors
 ///
 /// The first that applies:
-/// - `PositionOverflow` of the reader's size where it exceeds `MAX_NODES`
-/// - `NonLeaf` of it where no leaf count has so many nodes
-/// - the error of [`multi_proof_positions`](merkle_proof::multi::multi_proof_positions) for that leaf count and the
-///   locations
-/// - `InvalidProof` where the number exceeds that of the peaks
-/// - `ElementPruned` of the least position that the proof reads and the reader has no node at
+/// - `PositionOverflow` of the size of the reader if it exceeds [`MAX_NODES`](Family::MAX_NODES)
+/// - `NonLeaf` of the size if no leaf count has that many nodes
+/// - the error of [`multi_proof_positions`](merkle_proof::multi::multi_proof_positions) for that
+///   leaf count and the locations
+/// - `InvalidProof` if `inactive` exceeds the number of peaks
+/// - `ElementPruned` of the least position that the proof reads and the reader has no node for
 ///
-/// `OutOfMemory` wherever there is no memory.
+/// `OutOfMemory` at any point if a memory request is refused.
 pub fn multi_proof<R: Readable>(
     alloc: Global,
     reader: &R,
@@ -186,7 +190,8 @@ pub fn multi_proof<R: Readable>(
     }
 }
 
-// The proof of the leaves at some locations of that many over the nodes of a reader.
+// Generates the proof of the leaves at `locations` of a list of `leaves` leaves, from the nodes of
+// a reader.
 fn prove_locations<R: Readable>(
     alloc: Global,
     reader: &R,
@@ -215,7 +220,7 @@ fn prove_locations<R: Readable>(
     }
 }
 
-// The leaf count that has that many nodes.
+// Returns the leaf count of a structure with `nodes` nodes.
 fn leaf_count<F: Family>(nodes: Position<F>) -> Result<Location<F>, Error<F>>
     ensures ok { IfOk result (λ n. (size F.rule n ≡ nodes) × (nodes ≤ F.MAX_NODES)) }
     ensures err { IfErr result (λ e. IsSizeRefusal F.rule F.MAX_NODES nodes e) }
@@ -229,7 +234,7 @@ fn leaf_count<F: Family>(nodes: Position<F>) -> Result<Location<F>, Error<F>>
     }
 }
 
-// How many peaks that many leaves have.
+// Returns the number of peaks of `leaves` leaves.
 fn peak_count<F: Family>(leaves: Location<F>) -> usize
     requires { leaves ≤ F.MAX_LEAVES }
     ensures { result ≡ length (peaks_of F.rule leaves) }
@@ -237,7 +242,7 @@ fn peak_count<F: Family>(leaves: Location<F>) -> usize
     F::inactive_peaks(leaves, leaves)
 }
 
-// The digests of the nodes at positions, each read once, in their order.
+// Returns the digests of the nodes at the positions, reading each once, in order.
 fn read_nodes<R: Readable>(
     alloc: Global,
     reader: &R,
@@ -257,7 +262,7 @@ fn read_nodes<R: Readable>(
     Ok(digests)
 }
 
-// The proof of a plan over digests that are listed by position.
+// Builds the proof of a plan from digests that are listed by position.
 fn build_proof<F: Family, H: Hasher<F>>(
     plan: RangePlan<F>,
     hasher: &H,

@@ -1,4 +1,4 @@
-//! Stores of accepted range proofs, which answer the proofs of parts of the range.
+//! Stores of accepted range proofs, which prove parts of the proved range.
 ghost use Rattle.std.specs.Prelude.{◌≡◌, ◌≢◌, ◌⊎◌, ◌≤◌, ◌<◌, ℕ, [], Ok, None, drop, length, IfOk, IfErr, IsOkUnless};
 ghost use Rattle.std.specs.Option.{option_to_list};
 ghost use Rattle.merkle_base.specs.Scheme.{Scheme};
@@ -33,11 +33,28 @@ use merkle_proof::range_plan::{RangeCounts, RangePlan};
 use std::marker::Model;
 use std::ops::Range;
 
-/// What a light client keeps of one accepted range proof: it answers the proofs of every part of the range.
+/// What a light client keeps of an accepted range proof, to prove every part of the range itself.
 ///
-/// To a contract it is the leaf count, the number of inactive peaks and the bagging of the proof, its root and range, the pairs
-/// of positions and digests that its check computed or was given, the positions of the peaks folded in its suffix, and the
-/// digests of its folded prefix and suffix.
+/// Contracts model it as the leaf count, the number of inactive peaks and the bagging of the proof,
+/// its root and range, the pairs of positions and digests that its check computed or was given, the
+/// positions of the peaks that are folded in its suffix, and the digests of its folded prefix and
+/// suffix.
+///
+/// # Examples
+///
+/// ```
+/// // `proof` proves the elements 01 and 02 at the locations 0 and 1 against `root`.
+/// let elements: [&[u8]; 2] = [&[1], &[2]];
+/// let Ok(store) = ProofStore::new(&hasher, &proof, &elements, Location::new(0), &root) else {
+///     return None;
+/// };
+/// // The second of them alone is now proved without the structure.
+/// let Ok(part) = store.range_proof(&hasher, Location::new(1)..Location::new(2)) else {
+///     return None;
+/// };
+/// let checked = part.verify_element_inclusion(&hasher, &[2], Location::new(1), &root);
+/// assert!(rt; matches!(&checked, Ok(true)));
+/// ```
 #[derive(Debug, Drop)]
 pub struct ProofStore<F: Family, D: Digest> {
     leaves: Location<F>,
@@ -49,7 +66,7 @@ pub struct ProofStore<F: Family, D: Digest> {
     suffix_peaks: Vec<Position<F>>,
     prefix: Option<D>,
     suffix: Option<D>,
-    // how many peaks are folded in the prefix of the proof
+    // the number of peaks that are folded in the prefix of the proof
     held: usize,
 }
 
@@ -80,16 +97,17 @@ impl<F: Family, D: Digest> Model for ProofStore<F, D> {
 }
 
 impl<F: Family, D: Digest> ProofStore<F, D> {
-    /// The store of a proof of the elements from a location on, which lead to the root.
+    /// Checks the proof of the elements from location `start` on against `root`, and keeps what it
+    /// proves.
     ///
     /// # Errors
     ///
     /// The first that applies:
-    /// - `InvalidProof` where [`reconstruct_root`](Proof::reconstruct_root) refuses
-    /// - `RootMismatch` where it leads to another root
-    /// - `Empty` where there are no elements
+    /// - `InvalidProof` if [`reconstruct_root`](Proof::reconstruct_root) returns an error
+    /// - `RootMismatch` if the computed root differs from `root`
+    /// - `Empty` if there are no elements
     ///
-    /// `OutOfMemory` wherever there is no memory.
+    /// `OutOfMemory` at any point if a memory request is refused.
     pub fn new<H: Hasher<F, Digest = D>>(
         hasher: &H,
         proof: &Proof<F, D>,
@@ -119,7 +137,8 @@ impl<F: Family, D: Digest> ProofStore<F, D> {
         Self::keep(hasher.root_bagging(), proof, start..end, root, pairs)
     }
 
-    // The store of an accepted proof with some elements, of which these are the pairs.
+    // Creates the store of an accepted proof of at least one element, with the pairs that its check
+    // returned.
     fn keep(
         bagging: Bagging,
         proof: &Proof<F, D>,
@@ -161,15 +180,15 @@ impl<F: Family, D: Digest> ProofStore<F, D> {
         })
     }
 
-    /// The positions of the peaks that are folded in the suffix of the proof, oldest first.
+    /// Returns the positions of the peaks that are folded in the suffix of the proof, oldest first.
     pub fn suffix_peak_positions(&self) -> &[Position<F>]
         ensures { result.now ≡ self.now.suffix_peaks }
     {
         &self.suffix_peaks
     }
 
-    // The digest of the folded prefix of a proof, whose peaks stand at these positions. So many of them are folded in the
-    // store's own.
+    // Returns the digest of the folded prefix of a proof over the peaks at `positions`, of which
+    // the first `held` are folded in the store's own prefix.
     fn prefix_digest<H: Hasher<F, Digest = D>>(
         &self,
         hasher: &H,
@@ -187,7 +206,7 @@ impl<F: Family, D: Digest> ProofStore<F, D> {
         fold_onto(hasher, &self.pairs, self.prefix, further)
     }
 
-    // The digest of the folded suffix of a proof, whose peaks stand at these positions.
+    // Returns the digest of the folded suffix of a proof over the peaks at `positions`.
     fn suffix_digest<H: Hasher<F, Digest = D>>(
         &self,
         hasher: &H,
@@ -206,7 +225,7 @@ impl<F: Family, D: Digest> ProofStore<F, D> {
         }
     }
 
-    // The digests of a proof that reads these positions, of which so many have which part.
+    // Returns the digests of a proof that reads the nodes at `reads`, which have these parts in it.
     fn digests<H: Hasher<F, Digest = D>>(
         &self,
         hasher: &H,
@@ -243,7 +262,8 @@ impl<F: Family, D: Digest> ProofStore<F, D> {
         Ok(digests)
     }
 
-    // The position that is named where the folded prefix of a proof has peaks, and fewer than the store's own.
+    // Returns the position to report if the folded prefix of a proof has fewer peaks than the
+    // store's own, and at least one.
     fn lacking_prefix(&self, counts: RangeCounts) -> Option<Position<F>>
         ensures { (held : ℕ) → IsFoldedCount F.rule self.now.bagging self.now.leaves self.now.inactive self.now.start held
             → result ≡ shorter_refusal F.rule self.now.leaves (counts_with counts held) }
@@ -255,7 +275,7 @@ impl<F: Family, D: Digest> ProofStore<F, D> {
         }
     }
 
-    // The proof of a range of leaves, read from what the store has.
+    // Generates the proof of a range of leaves from what the store has.
     fn answer<H: Hasher<F, Digest = D>>(
         &self,
         hasher: &H,
@@ -282,19 +302,20 @@ impl<F: Family, D: Digest> ProofStore<F, D> {
         }
     }
 
-    /// The proof of a range of leaves, read from what the store has.
+    /// Generates the proof of the leaves in `range` from what the store has.
     ///
-    /// Each part of the store's own range is answered, and the check accepts the proof against the store's root. Of another
-    /// range too the proof is answered, where all that it reads is there.
+    /// Every part of the store's own range is proved, and the check accepts the proof against the
+    /// store's root. Other ranges are proved too if the store has all that the proof reads.
     ///
     /// # Errors
     ///
     /// The first that applies:
-    /// - `Empty` where the range has no leaves
-    /// - `RangeOutOfBounds` of its end where that is past the leaf count
-    /// - `ElementPruned` of a node that isn't there, or of a peak whose digest is known only folded with others
+    /// - `Empty` if the range has no leaves
+    /// - `RangeOutOfBounds` of the end of the range if it exceeds the leaf count
+    /// - `ElementPruned` of a node that the store does not have, or of a peak whose digest it has
+    ///   only folded with those of other peaks
     ///
-    /// `OutOfMemory` wherever there is no memory.
+    /// `OutOfMemory` at any point if a memory request is refused.
     pub fn range_proof<H: Hasher<F, Digest = D>>(
         &self,
         hasher: &H,
@@ -303,12 +324,12 @@ impl<F: Family, D: Digest> ProofStore<F, D> {
         ensures ok { IfOk result (λ p. IsAnswered (H.scheme hasher.now) self.now range.start range.end p) }
         ensures err { IfErr result (λ e. e ≢ Error.OutOfMemory → IsStoreRefusal (H.scheme hasher.now) self.now range.start range.end e) }
 
-        // Of the store of an accepted proof each part of the range is answered, unless there is no memory.
+        // The store of an accepted proof proves each part of its range, unless memory is refused.
         ensures unrefused { let s = H.scheme hasher.now in
             (r : RangeInput D) (root : D) → self.now ≡ store_of s r root → AcceptsNonempty s r root → range.start < range.end
             → r.start ≤ range.start → range.end ≤ end_of r → IfErr result (λ e. e ≡ Error.OutOfMemory) }
 
-        // And the check accepts what is answered.
+        // And the check accepts what it returns.
         ensures accepted { let s = H.scheme hasher.now in
             (r : RangeInput D) (root : D) → self.now ≡ store_of s r root → AcceptsNonempty s r root
             → r.start ≤ range.start → range.end ≤ end_of r → IfOk result (λ p. AcceptsNonempty s (part_input p r range.start range.end) root) }
@@ -316,17 +337,21 @@ impl<F: Family, D: Digest> ProofStore<F, D> {
         self.answer(hasher, range)
     }
 
-    /// The proof of the leaves at some locations, read from what the store has and from the digests of peaks that are given.
+    /// Generates the proof of the leaves at `locations` from what the store has and from `peaks`,
+    /// the digests of peaks that the caller supplies.
     ///
-    /// The last digest that is given at a position counts. None of them is checked: a proof over a wrong one is not accepted.
+    /// If `peaks` has several digests for a position, the last one is used. They are not checked: a
+    /// proof with a wrong one is not accepted.
     ///
     /// # Errors
     ///
-    /// Those of [`multi_proof_positions`], and then, of the first node whose digest neither the store has nor is given:
-    /// - `CompressedDigest` of its position where it is one of the peaks folded in the suffix of the store's proof
-    /// - `ElementPruned` of its position else
+    /// Those of [`multi_proof_positions`], and then, for the first node whose digest neither the
+    /// store nor `peaks` has:
+    /// - `CompressedDigest` of its position if it is one of the peaks that are folded in the suffix
+    ///   of the store's proof
+    /// - `ElementPruned` of its position otherwise
     ///
-    /// `OutOfMemory` wherever there is no memory.
+    /// `OutOfMemory` at any point if a memory request is refused.
     pub fn multi_proof(
         &self,
         locations: &[Location<F>],

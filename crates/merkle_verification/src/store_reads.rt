@@ -25,18 +25,18 @@ use std::alloc::AllocError;
 pub(crate) struct Parts<'a, F> {
     /// The peaks before the range that are folded to one digest.
     pub(crate) prefix: &'a [Position<F>],
-    /// Those that stand alone.
+    /// The peaks before the range that have a digest of their own.
     pub(crate) before: &'a [Position<F>],
-    /// The peaks after the range that stand alone.
+    /// The peaks after the range that have a digest of their own.
     pub(crate) after: &'a [Position<F>],
-    /// Those that are folded to one digest.
+    /// The peaks after the range that are folded to one digest.
     pub(crate) suffix: &'a [Position<F>],
     /// The path siblings.
     pub(crate) siblings: &'a [Position<F>],
 }
 
 impl<'a, F> Parts<'a, F> {
-    /// The parts of the positions, by their counts.
+    /// Splits the positions by the counts of the parts.
     pub(crate) fn new(counts: RangeCounts, reads: &'a [Position<F>]) -> Self
         requires { FitReads counts reads.now }
         ensures prefix { result.prefix.now ≡ take counts.folded reads.now }
@@ -59,7 +59,7 @@ impl<'a, F> Parts<'a, F> {
     }
 }
 
-/// Appends the digests at positions.
+/// Appends the digests at the positions.
 pub(crate) fn read_each<F: Family, D: Digest>(
     pairs: &PairTable<F, D>,
     positions: &[Position<F>],
@@ -88,7 +88,8 @@ pub(crate) fn push_some<D: Digest>(digest: Option<D>, out: &mut Vec<D>) -> Resul
     Ok(())
 }
 
-/// The digests at positions folded left to right onto one, if there is one.
+/// Folds the digests at the positions left to right onto `first`; without `first`, onto the digest
+/// at the first position. `None` if there are neither.
 pub(crate) fn fold_onto<F: Family, H: Hasher<F>>(
     hasher: &H,
     pairs: &PairTable<F, H::Digest>,
@@ -113,7 +114,9 @@ pub(crate) fn fold_onto<F: Family, H: Hasher<F>>(
     Ok(folded)
 }
 
-/// One digest, if there is one, taken in by the digests at positions right to left. They are read from the last one on.
+/// Folds the digests at the positions right to left, beginning with `last`; without `last`, with
+/// the digest at the last position. `None` if there are neither. They are read from the last
+/// position on.
 pub(crate) fn bag_onto<F: Family, H: Hasher<F>>(
     hasher: &H,
     pairs: &PairTable<F, H::Digest>,
@@ -141,7 +144,7 @@ pub(crate) fn bag_onto<F: Family, H: Hasher<F>>(
     Ok(bagged)
 }
 
-/// Of the peaks of a suffix those before the store's own, with which they end.
+/// Returns the peaks of a suffix before those of the store's own suffix, with which it must end.
 pub(crate) fn suffix_front<'a, F: Family>(
     positions: &'a [Position<F>],
     own: &[Position<F>],
@@ -159,7 +162,7 @@ pub(crate) fn suffix_front<'a, F: Family>(
     Ok(&positions[..positions.len() - own.len()])
 }
 
-/// The position of a peak of so many leaves, by its number from the oldest one on.
+/// Returns the position of the peak with index `number` of `leaves` leaves, the oldest being 0.
 pub(crate) fn peak_at<F: Family>(leaves: Location<F>, number: usize) -> Option<Position<F>>
     requires { leaves ≤ F.MAX_LEAVES }
     ensures { result ≡ slice_get (peak_positions F.rule leaves) number }
@@ -174,7 +177,7 @@ pub(crate) fn peak_at<F: Family>(leaves: Location<F>, number: usize) -> Option<P
     None
 }
 
-/// The digest at an index of a proof's, which stands for so many peaks, if there are any.
+/// Returns the digest at `index`, to which `peaks` peaks are folded; `None` if `peaks` is 0.
 pub(crate) fn folded_digest<D: Digest>(digests: &[D], index: usize, peaks: usize) -> Option<D>
     ensures { result ≡ slice_get (take (min peaks 1) (drop index digests.now)) 0 }
 {
