@@ -11,6 +11,7 @@ pub use crate::listed::Listed;
 use crate::location::Location;
 pub use crate::pins::NodesToPin;
 use crate::position::Position;
+pub use crate::work::Work;
 use std::fmt::Debug;
 
 /// No leaf count has more nodes to pin.

@@ -12,3 +12,4 @@ pub mod location;
 pub mod number;
 pub mod pins;
 pub mod position;
+mod work;
