@@ -15,6 +15,7 @@ ghost use Rattle.merkle_topology.specs.BeltIterators.{PeaksLeft};
 ghost use Rattle.merkle_forest_theory.proofs.BeltLawful.{mmb_lawful};
 ghost use Rattle.merkle_forest_theory.proofs.Coordinates.{mmb_coordinates};
 
+use merkle_base::family::Work;
 use merkle_base::listed::Listed;
 use merkle_base::{error, family, location, position};
 use std::marker::Model;
@@ -64,7 +65,7 @@ impl PeakIterator {
         ensures leaves { size mmb_merges result.leaves ≡ nodes }
         ensures peaks { ArePeaks mmb_merges MAX_LEAVES nodes result.left }
     {
-        let leaves = leaf_count_by_log(nodes.as_u64());
+        let leaves = leaf_count_within(nodes.as_u64());
         PeakIterator {
             leaves,
             left: (leaves + 1).ilog2(),
@@ -235,44 +236,66 @@ fn node_count(leaves: u64) -> u64
     2 * leaves - u64::from((leaves + 1).ilog2())
 }
 
-/// The greatest leaf count that has no more than so many nodes, by a search.
+/// The greatest leaf count that has no more than so many nodes, and with how many leaf counts' the nodes were compared.
+fn search(nodes: u64) -> (u64, u64)
+    requires { nodes ≤ MAX_NODES }
+    ensures limit { result.0 ≤ MAX_LEAVES }
+    ensures within { size mmb_merges result.0 ≤ nodes }
+    ensures greatest { nodes < size mmb_merges (result.0 + 1) }
+    ensures few { result.1 ≤ 1 }
+{
+    // nodes and peaks together are twice the leaves, and about as many peaks as the logarithm says
+    let low = (nodes + u64::from((nodes + 2).ilog2()) - 1) / 2;
+    if low >= MAX_LEAVES {
+        return (low, 0);
+    }
+    if node_count(low + 1) <= nodes {
+        (low + 1, 1)
+    } else {
+        (low, 1)
+    }
+}
+
+/// The greatest leaf count that has no more than so many nodes.
 fn leaf_count_within(nodes: u64) -> u64
     requires { nodes ≤ MAX_NODES }
     ensures limit { result ≤ MAX_LEAVES }
     ensures within { size mmb_merges result ≤ nodes }
     ensures greatest { nodes < size mmb_merges (result + 1) }
 {
-    // n leaves have at most 2 * n nodes, and at least 2 * n - 64, since there are at most 64 peaks
-    let mut low = nodes / 2;
-    let mut high = (low + 32).min(MAX_LEAVES);
-    while low < high {
-        let middle = high - (high - low) / 2;
-        if node_count(middle) <= nodes {
-            low = middle;
-        } else {
-            high = middle - 1;
-        }
-    }
-    low
+    search(nodes).0
 }
 
-/// The greatest leaf count that has no more than so many nodes, by the logarithm.
-fn leaf_count_by_log(nodes: u64) -> u64
-    requires { nodes ≤ MAX_NODES }
-    ensures limit { result ≤ MAX_LEAVES }
-    ensures within { size mmb_merges result ≤ nodes }
-    ensures greatest { nodes < size mmb_merges (result + 1) }
+/// The location of the leaf at a position, from the greatest leaf count that has no more nodes.
+fn location_of(leaves: u64, position: Position) -> Option<Location>
+    requires limit { leaves ≤ MAX_LEAVES }
+    requires within { size mmb_merges leaves ≤ position }
+    requires greatest { position < size mmb_merges (leaves + 1) }
+    ensures found { IfSome result (λ n. (n ≤ MAX_LEAVES) × (size mmb_merges n ≡ position)) }
+    ensures none { IfNone result ((n : ℕ) → size mmb_merges n ≢ position) }
 {
-    // nodes and peaks together are twice the leaves, and about as many peaks as the logarithm says
-    let low = (nodes + u64::from((nodes + 2).ilog2()) - 1) / 2;
-    if low >= MAX_LEAVES {
-        return low;
-    }
-    if node_count(low + 1) <= nodes {
-        low + 1
+    if node_count(leaves) == position.as_u64() {
+        Some(Location::new(leaves))
     } else {
-        low
+        None
     }
+}
+
+/// The location of the leaf at a position, as [`position_to_location`](family::Family::position_to_location) answers it.
+///
+/// The position is at most [`MAX_NODES`](family::Family::MAX_NODES). The probes of `work` are set to the number of
+/// comparisons of the position with that of a leaf count: 1 or 2.
+pub fn position_to_location_counted(position: Position, work: &mut Work) -> Option<Location>
+    requires { position ≤ MAX_NODES }
+    ensures found { IfSome result (λ n. (n ≤ MAX_LEAVES) × (size mmb_merges n ≡ position)) }
+    ensures none { IfNone result ((n : ℕ) → size mmb_merges n ≢ position) }
+    ensures some { 1 ≤ work.new.probes }
+    ensures few { work.new.probes ≤ 2 }
+    ensures kept { work.new.node_digests ≡ work.old.node_digests }
+{
+    let (leaves, probes) = search(position.as_u64());
+    work.set_probes(probes + 1);
+    location_of(leaves, position)
 }
 
 /// The leaf with which the node of a height over the leaves from one on comes.
@@ -308,9 +331,9 @@ fn birth_leaf_of(position: u64, height: u32) -> u64
     ensures birth { (s : ℕ) → mmb_position s height ≡ position → result ≡ birth_leaf s height }
 {
     if height == 0 {
-        return leaf_count_by_log(position);
+        return leaf_count_within(position);
     }
-    leaf_count_by_log(position - 1)
+    leaf_count_within(position - 1)
 }
 
 /// The first leaf of the node of a height at a position.
@@ -374,19 +397,14 @@ impl family::Family for Family {
         ensures found { IfSome result (λ n. (n ≤ MAX_LEAVES) × (size mmb_merges n ≡ position)) }
         ensures none { IfNone result ((n : ℕ) → size mmb_merges n ≢ position) }
     {
-        let leaves = leaf_count_within(position.as_u64());
-        if node_count(leaves) == position.as_u64() {
-            Some(Location::new(leaves))
-        } else {
-            None
-        }
+        location_of(leaf_count_within(position.as_u64()), position)
     }
 
     fn is_valid_size(nodes: Position) -> bool
         ensures { IsTrue result ↔ IsSize mmb_merges MAX_LEAVES nodes }
     {
         let nodes = nodes.as_u64();
-        nodes <= MAX_NODES && node_count(leaf_count_by_log(nodes)) == nodes
+        nodes <= MAX_NODES && node_count(leaf_count_within(nodes)) == nodes
     }
 
     fn to_nearest_size(nodes: Position) -> Position
@@ -408,7 +426,7 @@ impl family::Family for Family {
         requires { HasInner mmb_merges MAX_LEAVES position height }
         ensures { AreChildren mmb_merges position result.0 result.1 }
     {
-        let birth = leaf_count_by_log(position.as_u64());
+        let birth = leaf_count_within(position.as_u64());
         let below = height - 1;
         let first = birth + 2 - (3 << below);
         let left = root_position(first, below);
@@ -434,7 +452,7 @@ impl family::Family for Family {
         ensures { IsHeightAt mmb_merges position result }
     {
         let nodes = position.as_u64();
-        let birth = leaf_count_by_log(nodes);
+        let birth = leaf_count_within(nodes);
         if node_count(birth) == nodes {
             0
         } else {
@@ -457,7 +475,7 @@ impl family::Graftable for Family {
         ensures { AreChunkPeaks mmb_merges MAX_LEAVES nodes chunk_idx grafting_height result }
     {
         ChunkPeaks {
-            leaves: leaf_count_by_log(nodes.as_u64()),
+            leaves: leaf_count_within(nodes.as_u64()),
             first: chunk_idx << grafting_height,
             height: grafting_height,
             left: true,
