@@ -12,3 +12,4 @@ pub mod Digests
 pub mod Scheme
 pub mod Root
 pub mod Shows
+pub mod Work

@@ -11,6 +11,7 @@ pub use crate::listed::Listed;
 use crate::location::Location;
 pub use crate::pins::NodesToPin;
 use crate::position::Position;
+pub use crate::work::Work;
 use std::fmt::Debug;
 
 /// An upper bound of the number of nodes to pin, for every family and location.

@@ -13,3 +13,4 @@ pub mod location;
 pub mod number;
 pub mod pins;
 pub mod position;
+mod work;

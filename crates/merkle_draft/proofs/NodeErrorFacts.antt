@@ -1,8 +1,7 @@
 -- Why a node that is read isn't there.
-use Rattle.std.proofs.Common.{◌≡◌, ℕ, Result, Ok, Err, Option, Some, None, IfOk, ◌+◌, ◌<◌, ◌≤◌, List, ◌∷◌, ◌++◌, map, inl, inr, arith, ap, sym, ◌∙◌}
+use Rattle.std.proofs.Common.{◌≡◌, ℕ, Option, Some, None, IfSome, refl, ◌+◌, ◌<◌, ◌≤◌, List, ◌∷◌, ◌++◌, map, inl, inr, arith, ap, sym, ◌∙◌}
 use Rattle.std.proofs.lemmas.List.{map-append}
 use Rattle.std.proofs.lemmas.Bool.{cases_lt}
-use Rattle.std.specs.Result.{result_ok}
 use Rattle.merkle_base.specs.Tree.{position}
 use Rattle.merkle_base.specs.Forest.{forest, size}
 use Rattle.merkle_base.specs.Places.{peaks_of, placed}
@@ -14,10 +13,10 @@ use Rattle.merkle_draft.specs.NodeErrors.{IsGapAt}
 use Rattle.merkle_draft.specs.declared.node_error.NodeError.{NodeError}
 use Rattle.merkle_draft.specs.declared.node_error.NodeError.TheVariants.{Missing}
 
--- what holds of what is found holds of the answer
-pub if_found : {A E : Type 0} (r : Result A E) (o : Option A) (P : A → Type 0) → o ≡ result_ok r → ((x : A) → o ≡ Some x → P x) → IfOk r P
-if_found (Ok x) o P e f = f x e
-if_found (Err y) o P e f = tt
+-- what holds of each value that an option may have holds of the option
+pub if_some : {A : Type 0} (o : Option A) (P : A → Type 0) → ((x : A) → o ≡ Some x → P x) → IfSome o P
+if_some (Some x) P f = f x refl
+if_some None P f = tt
 
 -- what isn't read before the end of the appended nodes is one of the older ones
 pub gap_below : {F D : Type 0} (node : ℕ → Option D) (before count p : ℕ) (e : NodeError F) → (e ≡ Missing p) × ((p < before → node p ≡ None) × (before ≤ p → before + count ≤ p)) → p < before + count → (p < before) × IsGapAt node p e

@@ -1,5 +1,5 @@
 //! A batch being merkleized: the nodes that follow from its leaves.
-ghost use Rattle.std.specs.Prelude.{◌≡◌, ◌≢◌, ◌+◌, ◌^◌, ◌++◌, ◌<◌, ◌≤◌, ℕ, suc, List, Option, [], ◌∷◌, None, is_some, true, cond, length, map, IfOk, IfErr, OnOk};
+ghost use Rattle.std.specs.Prelude.{◌≡◌, ◌≢◌, ◌+◌, ◌^◌, ◌++◌, ◌<◌, ◌≤◌, ℕ, suc, List, Option, [], ◌∷◌, None, is_some, true, cond, length, map, IfOk, IfErr, IfNone, IfSome, OnOk};
 ghost use Rattle.std.specs.FinMap.{empty, get};
 ghost use Rattle.merkle_base.specs.Forest.{size};
 ghost use Rattle.merkle_base.specs.Places.{HasInner, peak_positions, peaks_of};
@@ -103,19 +103,14 @@ impl<F: Family, D: Digest> Draft<F, D> {
 
     // Returns the digest of the node at `position`: an appended one, or for older nodes the
     // overwritten one, or else the one before the batch.
-    fn read_node<B: Base<F, Digest = D>>(
-        &self,
-        base: &B,
-        position: Position<F>,
-    ) -> Result<D, NodeError<F>>
-        ensures right { IfOk result (λ d. (truth : ℕ → D) → ReadsAgree (old_node self.now (B.contents base.now)) self.now.before truth
+    fn read_node<B: Base<F, Digest = D>>(&self, base: &B, position: Position<F>) -> Option<D>
+        ensures right { IfSome result (λ d. (truth : ℕ → D) → ReadsAgree (old_node self.now (B.contents base.now)) self.now.before truth
             → self.now.appended ≡ digests_from truth self.now.before (length self.now.appended) → d ≡ truth position) }
-        ensures read { IfOk result (λ _. position < self.now.before → is_some (old_node self.now (B.contents base.now) position) ≡ true) }
-        ensures missing { IfErr result (λ e. (e ≡ NodeError.Missing position)
-            × ((position < self.now.before → old_node self.now (B.contents base.now) position ≡ None)
-            × (self.now.before ≤ position → self.now.before + length self.now.appended ≤ position))) }
+        ensures read { IfSome result (λ _. position < self.now.before → is_some (old_node self.now (B.contents base.now) position) ≡ true) }
+        ensures missing { IfNone result ((position < self.now.before → old_node self.now (B.contents base.now) position ≡ None)
+            × (self.now.before ≤ position → self.now.before + length self.now.appended ≤ position)) }
     {
-        let found = if position < self.size_before {
+        if position < self.size_before {
             match self.overwrites.get(position) {
                 Some(digest) => Some(digest),
                 None => self.read_below(base, position),
@@ -124,8 +119,7 @@ impl<F: Family, D: Digest> Draft<F, D> {
             self.appended
                 .get((position - self.size_before).as_u64() as usize)
                 .copied()
-        };
-        found.ok_or(NodeError::Missing(position))
+        }
     }
 
     // Returns the size in nodes, with the appended ones.
@@ -167,9 +161,13 @@ impl<F: Family, D: Digest> Draft<F, D> {
     {
         let position = self.size();
         let (left, right) = F::children(position, height);
-        let left = self.read_node(base, left)?;
-        let right = self.read_node(base, right)?;
-        self.push(hasher.node_digest(position, &left, &right))?;
+        let Some(left_digest) = self.read_node(base, left) else {
+            return Err(NodeError::Missing(left));
+        };
+        let Some(right_digest) = self.read_node(base, right) else {
+            return Err(NodeError::Missing(right));
+        };
+        self.push(hasher.node_digest(position, &left_digest, &right_digest))?;
         Ok(())
     }
 
@@ -259,7 +257,10 @@ impl<F: Family, D: Digest> Draft<F, D> {
     {
         let mut digests = Vec::with_capacity(*self.appended.allocator(), PEAKS_ROOM)?;
         for (position, _) in F::peaks(F::location_to_position(leaves)) {
-            digests.push(self.read_node(base, position)?)?;
+            let Some(digest) = self.read_node(base, position) else {
+                return Err(NodeError::Missing(position));
+            };
+            digests.push(digest)?;
         }
         Ok(digests)
     }

@@ -2,6 +2,7 @@ pub mod BeltCounts
 pub mod BeltPeaks
 pub mod Perfect
 pub mod LeafCounts
+pub mod Searches
 pub mod BeltNodes
 pub mod RangeRoots
 pub mod BeltRoots

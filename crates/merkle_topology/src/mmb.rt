@@ -28,6 +28,7 @@ ghost use Rattle.merkle_topology.specs.BeltIterators.{PeaksLeft};
 ghost use Rattle.merkle_forest_theory.proofs.BeltLawful.{mmb_lawful};
 ghost use Rattle.merkle_forest_theory.proofs.Coordinates.{mmb_coordinates};
 
+use merkle_base::family::Work;
 use merkle_base::listed::Listed;
 use merkle_base::{error, family, location, position};
 use std::marker::Model;
@@ -77,7 +78,7 @@ impl PeakIterator {
         ensures leaves { size mmb_merges result.leaves ≡ nodes }
         ensures peaks { ArePeaks mmb_merges MAX_LEAVES nodes result.left }
     {
-        let leaves = leaf_count_by_log(nodes.as_u64());
+        let leaves = leaf_count_within(nodes.as_u64());
         PeakIterator {
             leaves,
             left: (leaves + 1).ilog2(),
@@ -249,46 +250,69 @@ fn node_count(leaves: u64) -> u64
     2 * leaves - u64::from((leaves + 1).ilog2())
 }
 
-/// Returns the greatest leaf count whose size is at most `nodes`, by binary search.
+/// Returns the greatest leaf count whose size is at most `nodes`, and the number of leaf counts whose
+/// size was compared with `nodes`.
+fn search(nodes: u64) -> (u64, u64)
+    requires { nodes ≤ MAX_NODES }
+    ensures limit { result.0 ≤ MAX_LEAVES }
+    ensures within { size mmb_merges result.0 ≤ nodes }
+    ensures greatest { nodes < size mmb_merges (result.0 + 1) }
+    ensures few { result.1 ≤ 1 }
+{
+    // nodes and peaks together are twice the leaves, and the number of peaks is about the logarithm
+    let low = (nodes + u64::from((nodes + 2).ilog2()) - 1) / 2;
+    if low >= MAX_LEAVES {
+        return (low, 0);
+    }
+    if node_count(low + 1) <= nodes {
+        (low + 1, 1)
+    } else {
+        (low, 1)
+    }
+}
+
+/// Returns the greatest leaf count whose size is at most `nodes`.
 fn leaf_count_within(nodes: u64) -> u64
     requires { nodes ≤ MAX_NODES }
     ensures limit { result ≤ MAX_LEAVES }
     ensures within { size mmb_merges result ≤ nodes }
     ensures greatest { nodes < size mmb_merges (result + 1) }
 {
-    // `n` leaves have at most `2 * n` nodes, and at least `2 * n - 64`, since there are at most 64
-    // peaks
-    let mut low = nodes / 2;
-    let mut high = (low + 32).min(MAX_LEAVES);
-    while low < high {
-        let middle = high - (high - low) / 2;
-        if node_count(middle) <= nodes {
-            low = middle;
-        } else {
-            high = middle - 1;
-        }
-    }
-    low
+    search(nodes).0
 }
 
-/// Returns the greatest leaf count whose size is at most `nodes`, by a formula with the binary
-/// logarithm.
-fn leaf_count_by_log(nodes: u64) -> u64
-    requires { nodes ≤ MAX_NODES }
-    ensures limit { result ≤ MAX_LEAVES }
-    ensures within { size mmb_merges result ≤ nodes }
-    ensures greatest { nodes < size mmb_merges (result + 1) }
+/// Returns the location of the leaf at `position`, given the greatest leaf count whose size is at most
+/// `position`.
+fn location_of(leaves: u64, position: Position) -> Option<Location>
+    requires limit { leaves ≤ MAX_LEAVES }
+    requires within { size mmb_merges leaves ≤ position }
+    requires greatest { position < size mmb_merges (leaves + 1) }
+    ensures found { IfSome result (λ n. (n ≤ MAX_LEAVES) × (size mmb_merges n ≡ position)) }
+    ensures none { IfNone result ((n : ℕ) → size mmb_merges n ≢ position) }
 {
-    // nodes and peaks together are twice the leaves, and the number of peaks is about the logarithm
-    let low = (nodes + u64::from((nodes + 2).ilog2()) - 1) / 2;
-    if low >= MAX_LEAVES {
-        return low;
-    }
-    if node_count(low + 1) <= nodes {
-        low + 1
+    if node_count(leaves) == position.as_u64() {
+        Some(Location::new(leaves))
     } else {
-        low
+        None
     }
+}
+
+/// Returns the location of the leaf at `position`, as
+/// [`position_to_location`](family::Family::position_to_location) does, and counts its comparisons.
+///
+/// Requires `position` to be at most [`MAX_NODES`](family::Family::MAX_NODES). The probes of `work` are
+/// set to the number of comparisons of `position` with the position of a leaf count: 1 or 2.
+pub fn position_to_location_counted(position: Position, work: &mut Work) -> Option<Location>
+    requires { position ≤ MAX_NODES }
+    ensures found { IfSome result (λ n. (n ≤ MAX_LEAVES) × (size mmb_merges n ≡ position)) }
+    ensures none { IfNone result ((n : ℕ) → size mmb_merges n ≢ position) }
+    ensures some { 1 ≤ work.new.probes }
+    ensures few { work.new.probes ≤ 2 }
+    ensures kept { work.new.node_digests ≡ work.old.node_digests }
+{
+    let (leaves, probes) = search(position.as_u64());
+    work.set_probes(probes + 1);
+    location_of(leaves, position)
 }
 
 /// Returns the leaf whose addition creates the node of height `height` whose first leaf is `first`.
@@ -324,9 +348,9 @@ fn birth_leaf_of(position: u64, height: u32) -> u64
     ensures birth { (s : ℕ) → mmb_position s height ≡ position → result ≡ birth_leaf s height }
 {
     if height == 0 {
-        return leaf_count_by_log(position);
+        return leaf_count_within(position);
     }
-    leaf_count_by_log(position - 1)
+    leaf_count_within(position - 1)
 }
 
 /// Returns the first leaf of the node of height `height` at `position`.
@@ -390,19 +414,14 @@ impl family::Family for Family {
         ensures found { IfSome result (λ n. (n ≤ MAX_LEAVES) × (size mmb_merges n ≡ position)) }
         ensures none { IfNone result ((n : ℕ) → size mmb_merges n ≢ position) }
     {
-        let leaves = leaf_count_within(position.as_u64());
-        if node_count(leaves) == position.as_u64() {
-            Some(Location::new(leaves))
-        } else {
-            None
-        }
+        location_of(leaf_count_within(position.as_u64()), position)
     }
 
     fn is_valid_size(nodes: Position) -> bool
         ensures { IsTrue result ↔ IsSize mmb_merges MAX_LEAVES nodes }
     {
         let nodes = nodes.as_u64();
-        nodes <= MAX_NODES && node_count(leaf_count_by_log(nodes)) == nodes
+        nodes <= MAX_NODES && node_count(leaf_count_within(nodes)) == nodes
     }
 
     fn to_nearest_size(nodes: Position) -> Position
@@ -424,7 +443,7 @@ impl family::Family for Family {
         requires { HasInner mmb_merges MAX_LEAVES position height }
         ensures { AreChildren mmb_merges position result.0 result.1 }
     {
-        let birth = leaf_count_by_log(position.as_u64());
+        let birth = leaf_count_within(position.as_u64());
         let below = height - 1;
         let first = birth + 2 - (3 << below);
         let left = root_position(first, below);
@@ -450,7 +469,7 @@ impl family::Family for Family {
         ensures { IsHeightAt mmb_merges position result }
     {
         let nodes = position.as_u64();
-        let birth = leaf_count_by_log(nodes);
+        let birth = leaf_count_within(nodes);
         if node_count(birth) == nodes {
             0
         } else {
@@ -473,7 +492,7 @@ impl family::Graftable for Family {
         ensures { AreChunkPeaks mmb_merges MAX_LEAVES nodes chunk_idx grafting_height result }
     {
         ChunkPeaks {
-            leaves: leaf_count_by_log(nodes.as_u64()),
+            leaves: leaf_count_within(nodes.as_u64()),
             first: chunk_idx << grafting_height,
             height: grafting_height,
             left: true,

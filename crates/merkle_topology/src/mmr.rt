@@ -14,7 +14,7 @@
 //!   / \   / \
 //!  0   1 3   4   7
 //! ```
-ghost use Rattle.std.specs.Prelude.{◌≡◌, ◌≢◌, ◌+◌, ◌-◌, ◌^◌, ◌<◌, ◌≤◌, ◌↔◌, ℕ, IsTrue, IfSome, IfNone, List, []};
+ghost use Rattle.std.specs.Prelude.{◌≡◌, ◌≢◌, ◌⊎◌, ◌+◌, ◌-◌, ◌^◌, ◌<◌, ◌≤◌, ◌↔◌, ℕ, IsTrue, IfSome, IfNone, List, []};
 ghost use Rattle.std.specs.Iterator.{YieldsFirst, item_count};
 ghost use Rattle.std.specs.List.{range_with_len};
 ghost use Rattle.std.specs.Option.{option_to_list};
@@ -28,6 +28,7 @@ ghost use Rattle.merkle_topology.specs.Perfect.{trees_from};
 ghost use Rattle.merkle_forest_theory.proofs.Coordinates.{mmr_coordinates};
 ghost use Rattle.merkle_forest_theory.proofs.RangeLawful.{mmr_lawful};
 
+use merkle_base::family::Work;
 use merkle_base::listed::Listed;
 use merkle_base::{error, family, location, position};
 use std::marker::Model;
@@ -218,26 +219,117 @@ fn node_count(leaves: u64) -> u64
     2 * leaves - u64::from(leaves.count_ones())
 }
 
-/// Returns the greatest leaf count whose size is at most `nodes`, by binary search.
+/// Returns a leaf count whose size is about `nodes`.
+fn estimate(nodes: u64) -> u64
+    requires { nodes ≤ MAX_NODES }
+{
+    // nodes and peaks together are twice the leaves, and `n` leaves have a peak for each one bit of `n`
+    let mut leaves = nodes / 2;
+    for _ in 0..3 {
+        leaves = (nodes + u64::from(leaves.count_ones())) / 2;
+    }
+    leaves
+}
+
+/// Returns the first and the last of the leaf counts from `low` to `high` that remain once the size of
+/// `leaves` was compared with `nodes`.
+fn narrow(nodes: u64, low: u64, high: u64, leaves: u64) -> (u64, u64)
+    requires above { low < leaves }
+    requires below { leaves ≤ high }
+    requires limit { high ≤ MAX_LEAVES }
+    requires within { size mmr_merges low ≤ nodes }
+    requires greatest { nodes < size mmr_merges (high + 1) }
+    ensures kept { (low ≤ result.0) × (result.0 ≤ result.1) × (result.1 ≤ high) }
+    ensures within { size mmr_merges result.0 ≤ nodes }
+    ensures greatest { nodes < size mmr_merges (result.1 + 1) }
+    ensures narrowed { (result.1 + leaves ≤ result.0 + high) ⊎ (result.1 + 1 + low ≤ result.0 + leaves) }
+{
+    let count = node_count(leaves);
+    if count == nodes {
+        (leaves, leaves)
+    } else if count < nodes {
+        (leaves, high)
+    } else {
+        (low, leaves - 1)
+    }
+}
+
+/// Returns the greatest leaf count whose size is at most `nodes`, and the number of leaf counts whose
+/// size was compared with `nodes`.
+fn search(nodes: u64) -> (u64, u64)
+    requires { nodes ≤ MAX_NODES }
+    ensures limit { result.0 ≤ MAX_LEAVES }
+    ensures within { size mmr_merges result.0 ≤ nodes }
+    ensures greatest { nodes < size mmr_merges (result.0 + 1) }
+    ensures some { 1 ≤ result.1 }
+    ensures few { result.1 ≤ 8 }
+{
+    // `n` leaves have at most `2 * n` nodes, and at least `2 * n - 64`, since there are at most 64
+    // peaks
+    let mut low = nodes / 2;
+    let mut high = (low + 32).min(MAX_LEAVES);
+    let mut guess = estimate(nodes);
+    let mut probes = 0;
+    while low < high {
+        let leaves = if probes < 2 {
+            guess.max(low + 1).min(high)
+        } else {
+            high - (high - low) / 2
+        };
+        (low, high) = narrow(nodes, low, high, leaves);
+        guess = if low == leaves {
+            leaves + 1
+        } else {
+            leaves - 1
+        };
+        probes += 1;
+    }
+    (low, probes)
+}
+
+/// Returns the greatest leaf count whose size is at most `nodes`.
 fn leaf_count_within(nodes: u64) -> u64
     requires { nodes ≤ MAX_NODES }
     ensures limit { result ≤ MAX_LEAVES }
     ensures within { size mmr_merges result ≤ nodes }
     ensures greatest { nodes < size mmr_merges (result + 1) }
 {
-    // `n` leaves have at most `2 * n` nodes, and at least `2 * n - 64`, since there are at most 64
-    // peaks
-    let mut low = nodes / 2;
-    let mut high = (low + 32).min(MAX_LEAVES);
-    while low < high {
-        let middle = high - (high - low) / 2;
-        if node_count(middle) <= nodes {
-            low = middle;
-        } else {
-            high = middle - 1;
-        }
+    search(nodes).0
+}
+
+/// Returns the location of the leaf at `position`, given the greatest leaf count whose size is at most
+/// `position`.
+fn location_of(leaves: u64, position: Position) -> Option<Location>
+    requires limit { leaves ≤ MAX_LEAVES }
+    requires within { size mmr_merges leaves ≤ position }
+    requires greatest { position < size mmr_merges (leaves + 1) }
+    ensures found { IfSome result (λ n. (n ≤ MAX_LEAVES) × (size mmr_merges n ≡ position)) }
+    ensures none { IfNone result ((n : ℕ) → size mmr_merges n ≢ position) }
+{
+    if node_count(leaves) == position.as_u64() {
+        Some(Location::new(leaves))
+    } else {
+        None
     }
-    low
+}
+
+/// Returns the location of the leaf at `position`, as
+/// [`position_to_location`](family::Family::position_to_location) does, and counts its comparisons.
+///
+/// Requires `position` to be at most [`MAX_NODES`](family::Family::MAX_NODES). The probes of `work` are
+/// set to the number of comparisons of `position` with the position of a leaf count: at least 1 and at
+/// most 8.
+pub fn position_to_location_counted(position: Position, work: &mut Work) -> Option<Location>
+    requires { position ≤ MAX_NODES }
+    ensures found { IfSome result (λ n. (n ≤ MAX_LEAVES) × (size mmr_merges n ≡ position)) }
+    ensures none { IfNone result ((n : ℕ) → size mmr_merges n ≢ position) }
+    ensures some { 1 ≤ work.new.probes }
+    ensures few { work.new.probes ≤ 8 }
+    ensures kept { work.new.node_digests ≡ work.old.node_digests }
+{
+    let (leaves, probes) = search(position.as_u64());
+    work.set_probes(probes);
+    location_of(leaves, position)
 }
 
 /// Returns the number of nodes below a node of height `height`, without the node itself.
@@ -301,12 +393,7 @@ impl family::Family for Family {
         ensures found { IfSome result (λ n. (n ≤ MAX_LEAVES) × (size mmr_merges n ≡ position)) }
         ensures none { IfNone result ((n : ℕ) → size mmr_merges n ≢ position) }
     {
-        let leaves = leaf_count_within(position.as_u64());
-        if node_count(leaves) == position.as_u64() {
-            Some(Location::new(leaves))
-        } else {
-            None
-        }
+        location_of(leaf_count_within(position.as_u64()), position)
     }
 
     fn is_valid_size(nodes: Position) -> bool

@@ -1,10 +1,10 @@
-use Rattle.std.proofs.Common.{◌≡◌, [], ◌∷◌, ◌++◌, map, length, arith, ap, sym, ◌∙◌, subst, append_assoc, append-nil}
-use Rattle.std.proofs.lemmas.Result.{err_from_is_err_and}
+use Rattle.std.proofs.Common.{◌≡◌, [], ◌∷◌, ◌++◌, map, length, arith, ap, sym, ◌∙◌, subst, append_assoc, append-nil, refl}
 use Rattle.merkle_base.specs.Places.{peaks_of, placed}
 use Rattle.merkle_base.proofs.PeakLists.{first-placed}
 use Rattle.merkle_draft.specs.DraftReads.{IsPeakGap, old_node}
 use Rattle.merkle_draft.proofs.NodeErrorFacts.{gap_below, listed_below}
 use Rattle.merkle_draft.proofs.PeakReads.{all_read, first_more, first_none, peak_lacks}
+use Rattle.merkle_draft.specs.declared.node_error.NodeError.TheVariants.{Missing}
 use Rattle.merkle_draft.proofs.draft.Draft.read_peaks.Goals as goal
 
 pub loop-position-init : goal.loop-position-init
@@ -19,20 +19,18 @@ loop-position-init g c =
           ∙ ap (map truth) (first-placed (peaks_of g.F.Family.rule c.args.leaves)),
     )
 
-pub returns-in_err-read_node-clause-missing : goal.returns-in_err-read_node-clause-missing
-returns-in_err-read_node-clause-missing g c =
+pub returns-in_default-clause-missing : goal.returns-in_default-clause-missing
+returns-in_default-clause-missing g c =
     let rule = g.F.Family.rule in
     let self = c.args.self.now in
     let read = old_node self (g.B.Base.contents c.args.base.now) in
-    let p = err_from_is_err_and c.from_residual-in_err-read_node.result c.from_residual-in_err-read_node.ensures.1 in
     let k = c.loop-position.invariant.2 in
     let y = g.met.F.Peaks.Listed.gives_first _ _ _ c.in-Some.ensures.steps in
     let listed : k.0 ++ (c.in-Some.position, c.in-Some.field-0-1) ∷ g.F.Peaks.Listed.left c.next.new.self ≡ map placed (peaks_of rule c.args.leaves) = ap (λ xs. k.0 ++ xs) (sym y) ∙ k.1 in
     let below = listed_below rule c.args.leaves k.0 (g.F.Peaks.Listed.left c.next.new.self) (c.in-Some.position, c.in-Some.field-0-1) listed in
-    let error = c.in_err-read_node.field-0.0 in
-    rw p.1 (λ other. subst (λ e. IsPeakGap rule c.args.leaves self.before read e) (sym p.2)
-    (peak_lacks rule c.args.leaves self.before read k.0 (g.F.Peaks.Listed.left c.next.new.self) (c.in-Some.position, c.in-Some.field-0-1) error listed
-    (gap_below read self.before (length self.appended) c.in-Some.position error c.in_err-read_node.ensures.missing (omega (arith, c.requires.sized, below)))))
+    λ _.
+    (peak_lacks rule c.args.leaves self.before read k.0 (g.F.Peaks.Listed.left c.next.new.self) (c.in-Some.position, c.in-Some.field-0-1) (Missing c.in-Some.position) listed
+    (gap_below read self.before (length self.appended) c.in-Some.position (Missing c.in-Some.position) (refl, c.in_default.ensures.missing) (omega (arith, c.requires.sized, below))))
 
 pub loop-position-preserved : goal.loop-position-preserved
 loop-position-preserved g c =
@@ -45,12 +43,12 @@ loop-position-preserved g c =
       (
         k.0 ++ (c.in-Some.position, c.in-Some.field-0-1) ∷ [],
         append_assoc k.0 ((c.in-Some.position, c.in-Some.field-0-1) ∷ []) left ∙ ap (λ xs. k.0 ++ xs) (sym y) ∙ k.1,
-        first_more c.args.self.now.before (old_node c.args.self.now (g.B.Base.contents c.args.base.now)) k.0 (c.in-Some.position, c.in-Some.field-0-1) k.2 c.in_ok-read_node.ensures.read,
+        first_more c.args.self.now.before (old_node c.args.self.now (g.B.Base.contents c.args.base.now)) k.0 (c.in-Some.position, c.in-Some.field-0-1) k.2 c.in-Some-read_node.ensures.read,
       ),
       λ truth reads same.
           ap (λ xs. xs ++ map truth (map (λ q. q.0) left)) c.in_ok-push.ensures.items
-          ∙ append_assoc digests (c.in_ok-read_node.field-0 ∷ []) (map truth (map (λ q. q.0) left))
-          ∙ ap (λ d. digests ++ d ∷ map truth (map (λ q. q.0) left)) (c.in_ok-read_node.ensures.right truth reads same)
+          ∙ append_assoc digests (c.in-Some-read_node.digest ∷ []) (map truth (map (λ q. q.0) left))
+          ∙ ap (λ d. digests ++ d ∷ map truth (map (λ q. q.0) left)) (c.in-Some-read_node.ensures.right truth reads same)
           ∙ ap (λ qs. digests ++ map truth (map (λ q. q.0) qs)) (sym y)
           ∙ c.loop-position.invariant.3 truth reads same,
     )

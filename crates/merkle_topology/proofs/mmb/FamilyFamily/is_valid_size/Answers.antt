@@ -8,8 +8,8 @@ use Rattle.merkle_topology.proofs.mmb.FamilyFamily.is_valid_size.Goals as goal
 
 pub returns-then-nodes-le-MAX_NODES : goal.returns-then-nodes-le-MAX_NODES
 returns-then-nodes-le-MAX_NODES c =
-    let k = c.leaf_count_by_log.ensures in
-    size_tested mmb_merges 4611686018427387934 c.leaf_count_by_log.result c.node_count.result c.as_u64-nodes.result c.args.nodes c.as_u64-nodes.ensures k.limit c.node_count.ensures k.within k.greatest
+    let k = c.leaf_count_within.ensures in
+    size_tested mmb_merges 4611686018427387934 c.leaf_count_within.result c.node_count.result c.as_u64-nodes.result c.args.nodes c.as_u64-nodes.ensures k.limit c.node_count.ensures k.within k.greatest
 
 pub returns-else-nodes-le-MAX_NODES : goal.returns-else-nodes-le-MAX_NODES
 returns-else-nodes-le-MAX_NODES c = (

@@ -1,7 +1,7 @@
-use Rattle.std.proofs.Common.{◌+◌, ◌-◌, ◌<◌, ◌≤◌}
+use Rattle.std.proofs.Common.{◌+◌, ◌-◌, ◌*◌, ◌^◌, ◌<◌, ◌≤◌, ◌⊎◌}
 use Rattle.merkle_base.specs.Forest.{size}
 use Rattle.merkle_forest_theory.specs.Mmr.{mmr_merges}
-use Rattle.merkle_topology.proofs.mmr.leaf_count_within.Given as goal
+use Rattle.merkle_topology.proofs.mmr.search.Given as goal
 
 abbrev pub invariant-loop-low : goal.invariant-loop-low
 invariant-loop-low l = record {
@@ -9,6 +9,9 @@ invariant-loop-low l = record {
   limit : l.high ≤ 4611686018427387904;
   within : size mmr_merges l.low ≤ l.nodes;
   greatest : l.nodes < size mmr_merges (l.high + 1);
+  halved : (l.high - l.low) * 2 ^ (l.probes - 2) ≤ 32;
+  begun : (l.low < l.high) ⊎ (1 ≤ l.probes);
+  counted : l.probes ≤ 8;
 }
 
 abbrev pub decreases-loop-low : goal.decreases-loop-low

@@ -2,7 +2,7 @@ use Rattle.std.proofs.Common.{◌≡◌, ◌+◌, ◌-◌, ◌*◌, ◌/◌, ◌
 use Rattle.merkle_base.specs.Forest.{size}
 use Rattle.merkle_forest_theory.specs.Mmb.{mmb_merges}
 use Rattle.merkle_topology.proofs.BeltCounts.{size_of_log, size_past_log, size_past_limit}
-use Rattle.merkle_topology.proofs.mmb.leaf_count_by_log.Goals as goal
+use Rattle.merkle_topology.proofs.mmb.search.Goals as goal
 
 within : (nodes peaks log : ℕ) → peaks ≡ log → 2 ^ log ≤ nodes + 2 → size mmb_merges ((nodes + peaks - 1) / 2) ≤ nodes
 within nodes peaks log e low = subst (λ (n : ℕ). size mmb_merges ((nodes + n - 1) / 2) ≤ nodes) (sym e) (size_of_log nodes log low)

@@ -1,0 +1,10 @@
+use Rattle.std.proofs.Common.{ap, sym, ◌∙◌}
+use Rattle.merkle_base.specs.Forest.{size}
+use Rattle.merkle_forest_theory.specs.Mmr.{mmr_merges}
+use Rattle.merkle_topology.proofs.LeafCounts.{size_only}
+use Rattle.merkle_topology.proofs.mmr.location_of.Goals as goal
+
+pub returns-else-node_count-as_u64-clause-none : goal.returns-else-node_count-as_u64-clause-none
+returns-else-node_count-as_u64-clause-none c = λ n e.
+    let same = size_only mmr_merges c.args.leaves n c.args.position c.requires.within c.requires.greatest e in
+    c.if-node_count-as_u64.false (c.node_count.ensures ∙ ap (size mmr_merges) (sym same) ∙ e ∙ sym c.as_u64.ensures)
