@@ -3,6 +3,7 @@ ghost use Rattle.std.specs.Prelude.{◌+◌, ◌*◌, ◌^◌, ◌≤◌};
 mod base;
 mod codec;
 mod hasher;
+mod locations;
 mod mmb;
 mod mmr;
 mod pending;

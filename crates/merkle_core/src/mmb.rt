@@ -2,6 +2,7 @@
 
 pub use merkle_topology::mmb::{
     ChunkPeaks, Error, Family, Location, ParentHeights, PeakIterator, Position,
+    position_to_location_counted,
 };
 
 /// A Mountain Belt in memory.

@@ -3,6 +3,7 @@
 pub use merkle_proof::proof::MAX_PROOF_DIGESTS_PER_ELEMENT;
 pub use merkle_topology::mmr::{
     ChunkPeaks, Error, Family, Location, ParentHeights, PeakIterator, Position,
+    position_to_location_counted,
 };
 
 /// A Mountain Range in memory.
