@@ -15,7 +15,7 @@ use Rattle.merkle_batch_theory.specs.MemModel.{MemModel, contents}
 use Rattle.merkle_range.specs.Input.{leaf_digests}
 use Rattle.merkle_range.proofs.GivenLeaves.{length-leaf_digests}
 use Rattle.merkle_lines.specs.StructureState.{Changes, StructureState, all_committed, changes, pruned_to, with_changes, without_changes}
-use Rattle.merkle_lines.specs.Held.{IsHeld, Makes, MakesPending}
+use Rattle.merkle_lines.specs.Held.{IsStructureHeld, Makes, MakesPending}
 
 -- nothing is replaced
 replaced_nothing : {D : Type 0} (rule : List ℕ → List ℕ) (n : ℕ) (X : List D) → replaced rule (get (empty {R = nat_cmp})) n X ≡ X
@@ -28,7 +28,7 @@ greater a b = elim (cases_lt a b) [
   | inr not_less ↦ ap (λ t. cond t b a) (le-ltb a b not_less) ∙ omega (arith, not_less)
 ]
 
-module _ {D : Type 0} (h : Hashing D) (rule : List ℕ → List ℕ) (max_leaves : ℕ) (s : MemModel D) (p : Option (UnmerkleizedModel D)) (g : StructureState) (held : IsHeld h rule max_leaves s p g) where
+module _ {D : Type 0} (h : Hashing D) (rule : List ℕ → List ℕ) (max_leaves : ℕ) (s : MemModel D) (p : Option (UnmerkleizedModel D)) (g : StructureState) (held : IsStructureHeld h rule max_leaves s p g) where
   abbrev list : List D
   list = leaf_digests h rule 0 g.committed
 
@@ -66,8 +66,8 @@ module _ {D : Type 0} (h : Hashing D) (rule : List ℕ → List ℕ) (max_leaves
       none_of (Some c) m = absurd m
 
   -- without pending changes
-  pub held_without : (t : MemModel D) (q : Option (UnmerkleizedModel D)) → t ≡ s → q ≡ None → IsHeld h rule max_leaves t q (without_changes g)
-  held_without t q e f = subst (λ x. IsHeld h rule max_leaves x q (without_changes g)) (sym e) (subst (λ x. IsHeld h rule max_leaves s x (without_changes g)) (sym f) (record {
+  pub held_without : (t : MemModel D) (q : Option (UnmerkleizedModel D)) → t ≡ s → q ≡ None → IsStructureHeld h rule max_leaves t q (without_changes g)
+  held_without t q e f = subst (λ x. IsStructureHeld h rule max_leaves x q (without_changes g)) (sym e) (subst (λ x. IsStructureHeld h rule max_leaves s x (without_changes g)) (sym f) (record {
     agrees = held.agrees;
     counted = held.counted;
     bounded = held.bounded;
@@ -76,8 +76,8 @@ module _ {D : Type 0} (h : Hashing D) (rule : List ℕ → List ℕ) (max_leaves
   }))
 
   -- with others
-  pub held_with : (t : MemModel D) (b : UnmerkleizedModel D) (c : Changes) → t ≡ s → Makes h rule list b c → IsHeld h rule max_leaves t (Some b) (with_changes g c)
-  held_with t b c e m = subst (λ x. IsHeld h rule max_leaves x (Some b) (with_changes g c)) (sym e) (record {
+  pub held_with : (t : MemModel D) (b : UnmerkleizedModel D) (c : Changes) → t ≡ s → Makes h rule list b c → IsStructureHeld h rule max_leaves t (Some b) (with_changes g c)
+  held_with t b c e m = subst (λ x. IsStructureHeld h rule max_leaves x (Some b) (with_changes g c)) (sym e) (record {
     agrees = held.agrees;
     counted = held.counted;
     bounded = held.bounded;
@@ -87,8 +87,8 @@ module _ {D : Type 0} (h : Hashing D) (rule : List ℕ → List ℕ) (max_leaves
 
   -- with all changes committed
   pub held_all : (t : MemModel D) (q : Option (UnmerkleizedModel D)) → q ≡ None → t.leaves ≡ length (changes g).elements → t.leaves ≤ max_leaves → Agrees h rule (contents t) (leaf_digests h rule 0 (changes g).elements) → t.boundary ≡ s.boundary
-      → IsHeld h rule max_leaves t q (all_committed g)
-  held_all t q e n few a same = subst (λ x. IsHeld h rule max_leaves t x (all_committed g)) (sym e) (record {
+      → IsStructureHeld h rule max_leaves t q (all_committed g)
+  held_all t q e n few a same = subst (λ x. IsStructureHeld h rule max_leaves t x (all_committed g)) (sym e) (record {
     agrees = a;
     counted = n;
     bounded = omega (arith, n, few);
@@ -97,7 +97,7 @@ module _ {D : Type 0} (h : Hashing D) (rule : List ℕ → List ℕ) (max_leaves
   })
 
   -- pruned
-  pub held_pruned : (t : MemModel D) (k : ℕ) → contents t ≡ pruned rule k (contents s) → t.leaves ≡ s.leaves → Agrees h rule (contents t) list → IsHeld h rule max_leaves t p (pruned_to g k)
+  pub held_pruned : (t : MemModel D) (k : ℕ) → contents t ≡ pruned rule k (contents s) → t.leaves ≡ s.leaves → Agrees h rule (contents t) list → IsStructureHeld h rule max_leaves t p (pruned_to g k)
   held_pruned t k e n a = record {
     agrees = a;
     counted = n ∙ held.counted;

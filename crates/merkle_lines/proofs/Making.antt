@@ -106,9 +106,9 @@ module _ {D : Type 0} (h : Hashing D) (rule : List ℕ → List ℕ) (X : List D
   }
 
   -- with another element at a location
-  pub makes_update : (k : ℕ) (e : List ℕ) → Makes h rule X (with_update rule b k (h.leaf (size rule k) e)) (given.with_update (length X) c k e)
+  pub makes_update : (k : ℕ) (e : List ℕ) → Makes h rule X (with_update rule b k (h.leaf (size rule k) e)) (given.with_changed_element (length X) c k e)
   makes_update k e = elim (cases_lt k b.leaves_before) [
-    | inl old ↦ subst (λ x. Makes h rule X x (given.with_update (length X) c k e)) (sym (updated_old rule b k d old)) (record {
+    | inl old ↦ subst (λ x. Makes h rule X x (given.with_changed_element (length X) c k e)) (sym (updated_old rule b k d old)) (record {
       origin = m.origin;
       agreed = m.agreed;
       forked = m.forked;
@@ -120,7 +120,7 @@ module _ {D : Type 0} (h : Hashing D) (rule : List ℕ → List ℕ) (X : List D
           ap is_some (inserted_at b.overwritten (size rule k) d p) ∙ either p (p == size rule k) (m.updates p)
           ∙ ap (λ t. list_any (λ j. p == size rule j) (cond t (k ∷ c.updated) c.updated)) (sym (lt-ltb k (length X) (omega (arith, old, m.before))));
     })
-    | inr new ↦ subst (λ x. Makes h rule X x (given.with_update (length X) c k e)) (sym (updated_new rule b k d new)) (record {
+    | inr new ↦ subst (λ x. Makes h rule X x (given.with_changed_element (length X) c k e)) (sym (updated_new rule b k d new)) (record {
       origin = m.origin;
       agreed = m.agreed;
       forked = m.forked;

@@ -10,7 +10,7 @@ use Rattle.merkle_batch_theory.specs.Unmerkleized.{Fault, OutOfBounds, Pruned, U
 use Rattle.merkle_batch_theory.specs.Refusals.{fault_error}
 use Rattle.merkle_batch_theory.proofs.PendingUpdates.{out_of_bounds, pruned_fault}
 use Rattle.merkle_commands.specs.declared.command.Request.TheVariants.{Update}
-use Rattle.merkle_lines.specs.Answers.{committed_list, error_line, IsAnswered}
+use Rattle.merkle_lines.specs.Answers.{committed_list, error_line, IsRequestAnswered}
 use Rattle.merkle_lines.specs.ErrorNames.{error_name}
 use Rattle.merkle_lines.specs.StructureState.{StructureState, changes, without_changes}
 use Rattle.merkle_lines.specs.Held.{Makes}
@@ -37,7 +37,7 @@ module _ {D : Type 0} (s : Scheme D) (size_of : ℕ) (Spells : List ℕ → Type
   ]
 
   pub update_failed : {F : Type 0} (digits : Bor (List ℕ)) (e : Error F) (text : List ℕ) → ((fault : Fault) → update_fault s.rule b location ≡ Some fault → e ≡ fault_error fault) → (update_fault s.rule b location ≡ None → e ≡ error.OutOfMemory)
-      → text ≡ error_line (error_name e) → IsAnswered s size_of Spells g (Update location digits) (without_changes g) text
+      → text ≡ error_line (error_name e) → IsRequestAnswered s size_of Spells g (Update location digits) (without_changes g) text
   update_failed digits e text refused allowed t = elim (cases_lt location (leaf_total b)) [
     | inr past ↦ update_out s size_of Spells g location digits e text (omega (arith, past, total)) (refused (OutOfBounds location) (out_of_bounds s.rule b location past)) t
     | inl there ↦ elim (cases_lt location b.parent.boundary) [

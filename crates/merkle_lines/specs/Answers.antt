@@ -22,7 +22,7 @@ use Rattle.merkle_root_theory.specs.Range.{range_digests}
 use Rattle.merkle_root_theory.specs.Reads.{reading_order}
 use Rattle.merkle_root_theory.specs.Reconstruction.{reconstructed}
 use Rattle.merkle_lines.specs.ErrorNames.{decode_error_name}
-use Rattle.merkle_lines.specs.StructureState.{StructureState, all_committed, at_updated, changes, count, pruned_to, with_changes, with_element, with_update, without_changes}
+use Rattle.merkle_lines.specs.StructureState.{StructureState, all_committed, at_updated, changes, count, pruned_to, with_changes, with_element, with_changed_element, without_changes}
 
 -- the bytes that a word of digits spells; "-" spells none
 abbrev pub word_bytes : List ℕ → List ℕ
@@ -49,11 +49,11 @@ updated g location element =
     let c = changes g in
     cond (nat_le (length c.elements) location) (without_changes g, error_line (codes "LeafOutOfBounds"))
     (cond (nat_lt location c.boundary) (without_changes g, error_line (codes "ElementPruned"))
-    (with_changes g (with_update (count g) c location element), codes "ok"))
+    (with_changes g (with_changed_element (count g) c location element), codes "ok"))
 
 -- what pruning leaves, and the line that answers it
-abbrev pub pruned : StructureState → ℕ → StructureState × List ℕ
-pruned g location =
+abbrev pub prune_answer : StructureState → ℕ → StructureState × List ℕ
+prune_answer g location =
     let p = pruned_to g location in
     cond (nat_lt (count g) location) (g, error_line (codes "LeafOutOfBounds")) (p, codes "ok " ++ decimal p.boundary ++ codes " " ++ decimal (count g))
 
@@ -85,8 +85,8 @@ abbrev pub kept_node : {D : Type 0} → Scheme D → StructureState → ℕ → 
 kept_node s g p = cond (is_kept s.rule g.boundary p) (slice_get (node_digests s.hashing s.rule (committed_list s g)) p) None
 
 -- a node that a proof of the leaves from a on, before b, reads was pruned
-abbrev pub IsPruned : {D : Type 0} → Scheme D → StructureState → (a b inactive : ℕ) → Type 0
-IsPruned s g a b inactive = (p : ℕ) × IsFirstMissing (λ q node. node ≡ kept_node s g q) (map position (reading_order s.bagging inactive s.rule (count g) a b)) p
+abbrev pub IsRangePruned : {D : Type 0} → Scheme D → StructureState → (a b inactive : ℕ) → Type 0
+IsRangePruned s g a b inactive = (p : ℕ) × IsFirstMissing (λ q node. node ≡ kept_node s g q) (map position (reading_order s.bagging inactive s.rule (count g) a b)) p
 
 -- the bytes that spell the honest proof of the leaves from a on, before b
 abbrev pub proof_bytes : {D : Type 0} → Scheme D → StructureState → (a b inactive : ℕ) → List ℕ
@@ -99,7 +99,7 @@ IsProved s g a b inactive text =
     ⊎ ((a < b) × (count g < b) × (text ≡ error_line (codes "RangeOutOfBounds")))
     ⊎ ((a < b) × (b ≤ count g) × (length (peaks_of s.rule (count g)) < inactive) × (text ≡ error_line (codes "InvalidProof")))
     ⊎ ((a < b) × (b ≤ count g) × (inactive ≤ length (peaks_of s.rule (count g)))
-    × ((IsPruned s g a b inactive × (text ≡ error_line (codes "ElementPruned"))) ⊎ (text ≡ encode_lower (proof_bytes s g a b inactive))))
+    × ((IsRangePruned s g a b inactive × (text ≡ error_line (codes "ElementPruned"))) ⊎ (text ≡ encode_lower (proof_bytes s g a b inactive))))
 
 -- the greatest number of digests that are read of a proof of so many elements, as far as 64 bits count
 abbrev pub most_digests : ℕ → ℕ
@@ -138,7 +138,7 @@ abbrev pub IsDone : {D : Type 0} → Scheme D → (size : ℕ) → (Spells : Lis
 IsDone s size Spells g (Add digits) u text = (u, text) ≡ added s g (word_bytes digits.now)
 IsDone s size Spells g (Update location digits) u text = (u, text) ≡ updated g location (word_bytes digits.now)
 IsDone s size Spells g Commit u text = IsCommitted s.rule g u text
-IsDone s size Spells g (Prune location) u text = (u, text) ≡ pruned g location
+IsDone s size Spells g (Prune location) u text = (u, text) ≡ prune_answer g location
 IsDone s size Spells g (Root inactive) u text = (u ≡ g) × (text ≡ root_line s g inactive)
 IsDone s size Spells g (Prove start end inactive) u text = (u ≡ g) × IsProved s g start end inactive text
 IsDone s size Spells g (Check start inactive root proof elements) u text =
@@ -155,6 +155,6 @@ left g (Prove start end inactive) = g
 left g (Check start inactive root proof elements) = g
 
 -- a request leaves u, and the text answers it
-abbrev pub IsAnswered : {D : Type 0} → Scheme D → (size : ℕ) → (Spells : List ℕ → Type 0) → StructureState → Request → StructureState → List ℕ → Type 0
-IsAnswered s size Spells g request u text =
+abbrev pub IsRequestAnswered : {D : Type 0} → Scheme D → (size : ℕ) → (Spells : List ℕ → Type 0) → StructureState → Request → StructureState → List ℕ → Type 0
+IsRequestAnswered s size Spells g request u text =
     IsDone s size Spells g request u text ⊎ ((u ≡ left g request) × (text ≡ error_line (codes "OutOfMemory")))

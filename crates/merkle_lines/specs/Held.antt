@@ -30,7 +30,7 @@ MakesPending h rule X (Some batch) None = ⊥
 MakesPending h rule X (Some batch) (Some c) = Makes h rule X batch c
 
 -- the structure agrees with the committed elements, and its pending batch makes the changes
-pub record IsHeld {D : Type 0} (h : Hashing D) (rule : List ℕ → List ℕ) (max_leaves : ℕ)
+pub record IsStructureHeld {D : Type 0} (h : Hashing D) (rule : List ℕ → List ℕ) (max_leaves : ℕ)
     (store : MemModel D) (pending : Option (UnmerkleizedModel D)) (g : StructureState) : Type 0 where
   pub agrees : Agrees h rule (contents store) (leaf_digests h rule 0 g.committed)
   pub counted : store.leaves ≡ length g.committed

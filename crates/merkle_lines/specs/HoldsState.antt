@@ -8,7 +8,7 @@ use Rattle.merkle_lines.specs.declared.session.Session.{Session}
 use Rattle.merkle_lines.specs.declared.session.Session.TheVariants.{Absent, MmrSha256, MmrXor8, MmbSha256, MmbXor8}
 use Rattle.merkle_lines.specs.StructureState.{StructureState}
 use Rattle.merkle_lines.specs.Hashes.{sha256_hashing, xor8_hashing}
-use Rattle.merkle_lines.specs.Held.{IsHeld}
+use Rattle.merkle_lines.specs.Held.{IsStructureHeld}
 use Rattle.merkle_lines.specs.Transcript.{SessionState}
 
 -- the structure of the session holds what was told
@@ -16,13 +16,13 @@ abbrev pub HoldsState : Session → Option SessionState → Type 0
 HoldsState Absent told = told ≡ None
 HoldsState (MmrSha256 s) told =
     (g : StructureState) × (told ≡ Some (record { family = Mmr; bagging = s.hasher; hash = Sha256; structure = g }))
-    × IsHeld sha256_hashing mmr_merges (2 ^ 62) s.committed s.pending g
+    × IsStructureHeld sha256_hashing mmr_merges (2 ^ 62) s.committed s.pending g
 HoldsState (MmrXor8 s) told =
     (g : StructureState) × (told ≡ Some (record { family = Mmr; bagging = s.hasher; hash = Xor8; structure = g }))
-    × IsHeld xor8_hashing mmr_merges (2 ^ 62) s.committed s.pending g
+    × IsStructureHeld xor8_hashing mmr_merges (2 ^ 62) s.committed s.pending g
 HoldsState (MmbSha256 s) told =
     (g : StructureState) × (told ≡ Some (record { family = Mmb; bagging = s.hasher; hash = Sha256; structure = g }))
-    × IsHeld sha256_hashing mmb_merges (2 ^ 62 + 30) s.committed s.pending g
+    × IsStructureHeld sha256_hashing mmb_merges (2 ^ 62 + 30) s.committed s.pending g
 HoldsState (MmbXor8 s) told =
     (g : StructureState) × (told ≡ Some (record { family = Mmb; bagging = s.hasher; hash = Xor8; structure = g }))
-    × IsHeld xor8_hashing mmb_merges (2 ^ 62 + 30) s.committed s.pending g
+    × IsStructureHeld xor8_hashing mmb_merges (2 ^ 62 + 30) s.committed s.pending g

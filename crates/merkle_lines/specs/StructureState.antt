@@ -17,8 +17,8 @@ pub record StructureState : Type 0 where
   pub boundary : ℕ
   pub pending : Option Changes
 
-abbrev pub nothing : StructureState
-nothing = record { committed = []; boundary = 0; pending = None }
+abbrev pub empty_structure : StructureState
+empty_structure = record { committed = []; boundary = 0; pending = None }
 
 -- the number of committed elements
 abbrev pub count : StructureState → ℕ
@@ -49,8 +49,8 @@ abbrev pub with_element : Changes → List ℕ → Changes
 with_element c element = record { elements = c.elements ++ element ∷ []; updated = c.updated; boundary = c.boundary }
 
 -- with another element at a location, where n were committed
-abbrev pub with_update : (n : ℕ) → Changes → ℕ → List ℕ → Changes
-with_update n c location element =
+abbrev pub with_changed_element : (n : ℕ) → Changes → ℕ → List ℕ → Changes
+with_changed_element n c location element =
     record { elements = slice_set c.elements location element; updated = cond (nat_lt location n) (location ∷ c.updated) c.updated; boundary = c.boundary }
 
 -- something at the positions of the updated leaves

@@ -10,8 +10,8 @@ use Rattle.merkle_commands.specs.declared.command.FamilyName.TheVariants.{Mmr, M
 use Rattle.merkle_commands.specs.declared.command.HashName.{HashName}
 use Rattle.merkle_commands.specs.declared.command.HashName.TheVariants.{Sha256, Xor8}
 use Rattle.merkle_commands.specs.declared.command.Request.{Request}
-use Rattle.merkle_lines.specs.Answers.{error_line, IsAnswered}
-use Rattle.merkle_lines.specs.StructureState.{StructureState, nothing}
+use Rattle.merkle_lines.specs.Answers.{error_line, IsRequestAnswered}
+use Rattle.merkle_lines.specs.StructureState.{StructureState, empty_structure}
 use Rattle.merkle_base.specs.Scheme.{scheme_of}
 use Rattle.merkle_commands.specs.Commands.{words_of, joined, IsCommand}
 use Rattle.merkle_lines.specs.Hashes.{sha256_hashing, xor8_hashing}
@@ -26,15 +26,15 @@ pub record SessionState : Type 0 where
 -- a request of a structure of some kind leaves u, and the text answers it; the Range has at most 2^62 leaves, the Belt 30 more, and their
 -- bytes are 0 and 1; a digest of SHA-256 has 32 bytes, one of the exclusive or has one
 abbrev pub IsNamedAnswered : FamilyName → Bagging → HashName → StructureState → Request → StructureState → List ℕ → Type 0
-IsNamedAnswered Mmr bagging Sha256 = IsAnswered (scheme_of sha256_hashing bagging mmr_merges (2 ^ 62) 0) 32 (λ b. length b ≡ 32)
-IsNamedAnswered Mmr bagging Xor8 = IsAnswered (scheme_of xor8_hashing bagging mmr_merges (2 ^ 62) 0) 1 (λ b. length b ≡ 1)
-IsNamedAnswered Mmb bagging Sha256 = IsAnswered (scheme_of sha256_hashing bagging mmb_merges (2 ^ 62 + 30) 1) 32 (λ b. length b ≡ 32)
-IsNamedAnswered Mmb bagging Xor8 = IsAnswered (scheme_of xor8_hashing bagging mmb_merges (2 ^ 62 + 30) 1) 1 (λ b. length b ≡ 1)
+IsNamedAnswered Mmr bagging Sha256 = IsRequestAnswered (scheme_of sha256_hashing bagging mmr_merges (2 ^ 62) 0) 32 (λ b. length b ≡ 32)
+IsNamedAnswered Mmr bagging Xor8 = IsRequestAnswered (scheme_of xor8_hashing bagging mmr_merges (2 ^ 62) 0) 1 (λ b. length b ≡ 1)
+IsNamedAnswered Mmb bagging Sha256 = IsRequestAnswered (scheme_of sha256_hashing bagging mmb_merges (2 ^ 62 + 30) 1) 32 (λ b. length b ≡ 32)
+IsNamedAnswered Mmb bagging Xor8 = IsRequestAnswered (scheme_of xor8_hashing bagging mmb_merges (2 ^ 62 + 30) 1) 1 (λ b. length b ≡ 1)
 
 -- a command leaves u, and the text answers it; before the first `new` nothing was told
 abbrev pub IsCommandAnswered : Option SessionState → Command → Option SessionState → List ℕ → Type 0
 IsCommandAnswered told (New family bagging hash) u text =
-    (u ≡ Some (record { family = family; bagging = bagging; hash = hash; structure = nothing })) × (text ≡ codes "ok")
+    (u ≡ Some (record { family = family; bagging = bagging; hash = hash; structure = empty_structure })) × (text ≡ codes "ok")
 IsCommandAnswered None (Ask request) u text = (u ≡ None) × (text ≡ error_line (codes "NoStructure"))
 IsCommandAnswered (Some t) (Ask request) u text =
     (g : StructureState) × (u ≡ Some (record { family = t.family; bagging = t.bagging; hash = t.hash; structure = g }))

@@ -4,7 +4,7 @@ ghost use Rattle.std.specs.Fmt.{decimal};
 ghost use Rattle.merkle_base.specs.Scheme.{scheme_of};
 ghost use Rattle.merkle_base.specs.declared.family.Bagging.TheVariants.{ForwardFold, BackwardFold};
 ghost use Rattle.merkle_forest_theory.specs.Mmr.{mmr_merges};
-ghost use Rattle.merkle_lines.specs.Answers.{added, error_line, proof_bytes, pruned, root_bytes, updated};
+ghost use Rattle.merkle_lines.specs.Answers.{added, error_line, proof_bytes, prune_answer, root_bytes, updated};
 ghost use Rattle.merkle_lines.specs.StructureState.{StructureState, all_committed, with_changes};
 ghost use Rattle.merkle_lines.specs.Hashes.{xor8_hashing};
 ghost use Rattle.merkle_lines.specs.Transcript.{lines_of};
@@ -47,9 +47,9 @@ pub fn worked_rows()
 
     // Pruning returns the bounds; pruning to an earlier location changes nothing.
     ensures prunes { let g : StructureState = record { committed = (1 ∷ []) ∷ (2 ∷ []) ∷ []; boundary = 1; pending = None } in
-        pruned g 2 ≡ (record { committed = (1 ∷ []) ∷ (2 ∷ []) ∷ []; boundary = 2; pending = None }, codes "ok " ++ decimal 2 ++ codes " " ++ decimal 2) }
+        prune_answer g 2 ≡ (record { committed = (1 ∷ []) ∷ (2 ∷ []) ∷ []; boundary = 2; pending = None }, codes "ok " ++ decimal 2 ++ codes " " ++ decimal 2) }
     ensures prunes_back { let g : StructureState = record { committed = (1 ∷ []) ∷ (2 ∷ []) ∷ []; boundary = 1; pending = None } in
-        pruned g 0 ≡ (g, codes "ok " ++ decimal 1 ++ codes " " ++ decimal 2) }
+        prune_answer g 0 ≡ (g, codes "ok " ++ decimal 1 ++ codes " " ++ decimal 2) }
 
     // The bytes of the roots of the elements 1, 2 and 4, and of the proof of the first of them.
     ensures root_forward { let g : StructureState = record { committed = (1 ∷ []) ∷ (2 ∷ []) ∷ (4 ∷ []) ∷ []; boundary = 0; pending = None } in

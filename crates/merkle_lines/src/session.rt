@@ -2,7 +2,7 @@
 ghost use Rattle.std.specs.Prelude.{◌≡◌, ℕ, List, Option, Some, codes};
 ghost use Rattle.merkle_commands.specs.Commands.{IsCommand};
 ghost use Rattle.merkle_lines.specs.AnswerText.{answer_text};
-ghost use Rattle.merkle_lines.specs.StructureState.{nothing};
+ghost use Rattle.merkle_lines.specs.StructureState.{empty_structure};
 ghost use Rattle.merkle_lines.specs.HoldsState.{HoldsState};
 ghost use Rattle.merkle_lines.specs.Transcript.{SessionState, IsCommandAnswered};
 
@@ -31,7 +31,7 @@ pub enum Session {
 
 impl Session {
     fn open(alloc: Global, family: FamilyName, bagging: Bagging, hash: HashName) -> Session
-        ensures { HoldsState result (Some (record { family = family; bagging = bagging; hash = hash; structure = nothing })) }
+        ensures { HoldsState result (Some (record { family = family; bagging = bagging; hash = hash; structure = empty_structure })) }
     {
         match (family, hash) {
             (FamilyName::Mmr, HashName::Sha256) => {

@@ -5,9 +5,9 @@ ghost use Rattle.merkle_commands.specs.Commands.{IsCommand};
 ghost use Rattle.merkle_commands.specs.Words.{IsHexWord};
 ghost use Rattle.merkle_hasher.specs.Standard.{standard};
 ghost use Rattle.merkle_lines.specs.AnswerText.{answer_text};
-ghost use Rattle.merkle_lines.specs.Answers.{IsAnswered};
-ghost use Rattle.merkle_lines.specs.StructureState.{StructureState, changes, nothing};
-ghost use Rattle.merkle_lines.specs.Held.{IsHeld, Makes};
+ghost use Rattle.merkle_lines.specs.Answers.{IsRequestAnswered};
+ghost use Rattle.merkle_lines.specs.StructureState.{StructureState, changes, empty_structure};
+ghost use Rattle.merkle_lines.specs.Held.{IsStructureHeld, Makes};
 ghost use Rattle.merkle_range.specs.Input.{leaf_digests};
 
 use crate::answer::{Answer, Named, or_fault};
@@ -36,7 +36,7 @@ impl<F: Family, H: PlainHasher> Structure<F, H> {
     // Creates an empty structure without a pending batch.
     pub(crate) fn new(alloc: Global, bagging: Bagging) -> Self
         ensures kind { result.hasher ≡ bagging }
-        ensures held { IsHeld (standard H.digest_of H.Digest.bytes H.Digest.eq H.Digest.EMPTY) F.rule F.MAX_LEAVES result.committed result.pending nothing }
+        ensures held { IsStructureHeld (standard H.digest_of H.Digest.bytes H.Digest.eq H.Digest.EMPTY) F.rule F.MAX_LEAVES result.committed result.pending empty_structure }
     {
         Structure {
             hasher: Standard::new(bagging),
@@ -52,7 +52,7 @@ impl<F: Family, H: PlainHasher> Structure<F, H> {
         ensures kept { self.new.committed ≡ self.old.committed }
         ensures gone { self.new.pending ≡ None }
         ensures batch { let h = standard H.digest_of H.Digest.bytes H.Digest.eq H.Digest.EMPTY in IfOk result (λ b. (g : StructureState)
-            → IsHeld h F.rule F.MAX_LEAVES self.old.committed self.old.pending g → Makes h F.rule (leaf_digests h F.rule 0 g.committed) b (changes g)) }
+            → IsStructureHeld h F.rule F.MAX_LEAVES self.old.committed self.old.pending g → Makes h F.rule (leaf_digests h F.rule 0 g.committed) b (changes g)) }
         ensures refused { IsOkUnless result Error.OutOfMemory }
     {
         match self.pending.take() {
@@ -64,9 +64,9 @@ impl<F: Family, H: PlainHasher> Structure<F, H> {
     fn add(&mut self, alloc: Global, digits: &str) -> Answer
         ensures kind { self.new.hasher ≡ self.old.hasher }
         ensures answered { let h = standard H.digest_of H.Digest.bytes H.Digest.eq H.Digest.EMPTY in (g : StructureState) → IsHexWord digits.entry.now
-            → IsHeld h F.rule F.MAX_LEAVES self.old.committed self.old.pending g → (u : StructureState)
-            × IsHeld h F.rule F.MAX_LEAVES self.new.committed self.new.pending u
-            × IsAnswered (scheme_of h self.old.hasher F.rule F.MAX_LEAVES F.DOMAIN) H.Digest.SIZE H.Digest.Spells
+            → IsStructureHeld h F.rule F.MAX_LEAVES self.old.committed self.old.pending g → (u : StructureState)
+            × IsStructureHeld h F.rule F.MAX_LEAVES self.new.committed self.new.pending u
+            × IsRequestAnswered (scheme_of h self.old.hasher F.rule F.MAX_LEAVES F.DOMAIN) H.Digest.SIZE H.Digest.Spells
             g (Request.Add digits.entry) u (answer_text result) }
     {
         let batch = or_fault!(self.take_pending());
@@ -79,9 +79,9 @@ impl<F: Family, H: PlainHasher> Structure<F, H> {
     fn update(&mut self, alloc: Global, location: u64, digits: &str) -> Answer
         ensures kind { self.new.hasher ≡ self.old.hasher }
         ensures answered { let h = standard H.digest_of H.Digest.bytes H.Digest.eq H.Digest.EMPTY in (g : StructureState) → IsHexWord digits.entry.now
-            → IsHeld h F.rule F.MAX_LEAVES self.old.committed self.old.pending g → (u : StructureState)
-            × IsHeld h F.rule F.MAX_LEAVES self.new.committed self.new.pending u
-            × IsAnswered (scheme_of h self.old.hasher F.rule F.MAX_LEAVES F.DOMAIN) H.Digest.SIZE H.Digest.Spells
+            → IsStructureHeld h F.rule F.MAX_LEAVES self.old.committed self.old.pending g → (u : StructureState)
+            × IsStructureHeld h F.rule F.MAX_LEAVES self.new.committed self.new.pending u
+            × IsRequestAnswered (scheme_of h self.old.hasher F.rule F.MAX_LEAVES F.DOMAIN) H.Digest.SIZE H.Digest.Spells
             g (Request.Update location digits.entry) u (answer_text result) }
     {
         let batch = or_fault!(self.take_pending());
@@ -94,9 +94,9 @@ impl<F: Family, H: PlainHasher> Structure<F, H> {
     fn commit(&mut self) -> Answer
         ensures kind { self.new.hasher ≡ self.old.hasher }
         ensures answered { let h = standard H.digest_of H.Digest.bytes H.Digest.eq H.Digest.EMPTY in (g : StructureState)
-            → IsHeld h F.rule F.MAX_LEAVES self.old.committed self.old.pending g → (u : StructureState)
-            × IsHeld h F.rule F.MAX_LEAVES self.new.committed self.new.pending u
-            × IsAnswered (scheme_of h self.old.hasher F.rule F.MAX_LEAVES F.DOMAIN) H.Digest.SIZE H.Digest.Spells
+            → IsStructureHeld h F.rule F.MAX_LEAVES self.old.committed self.old.pending g → (u : StructureState)
+            × IsStructureHeld h F.rule F.MAX_LEAVES self.new.committed self.new.pending u
+            × IsRequestAnswered (scheme_of h self.old.hasher F.rule F.MAX_LEAVES F.DOMAIN) H.Digest.SIZE H.Digest.Spells
             g Request.Commit u (answer_text result) }
     {
         let batch = or_fault!(self.take_pending());
@@ -111,9 +111,9 @@ impl<F: Family, H: PlainHasher> Structure<F, H> {
     fn prune(&mut self, location: u64) -> Answer
         ensures kind { self.new.hasher ≡ self.old.hasher }
         ensures answered { let h = standard H.digest_of H.Digest.bytes H.Digest.eq H.Digest.EMPTY in (g : StructureState)
-            → IsHeld h F.rule F.MAX_LEAVES self.old.committed self.old.pending g → (u : StructureState)
-            × IsHeld h F.rule F.MAX_LEAVES self.new.committed self.new.pending u
-            × IsAnswered (scheme_of h self.old.hasher F.rule F.MAX_LEAVES F.DOMAIN) H.Digest.SIZE H.Digest.Spells
+            → IsStructureHeld h F.rule F.MAX_LEAVES self.old.committed self.old.pending g → (u : StructureState)
+            × IsStructureHeld h F.rule F.MAX_LEAVES self.new.committed self.new.pending u
+            × IsRequestAnswered (scheme_of h self.old.hasher F.rule F.MAX_LEAVES F.DOMAIN) H.Digest.SIZE H.Digest.Spells
             g (Request.Prune location) u (answer_text result) }
     {
         or_fault!(self.committed.prune(Location::new(location)));
@@ -125,8 +125,8 @@ impl<F: Family, H: PlainHasher> Structure<F, H> {
 
     fn root(&self, alloc: Global, inactive: usize) -> Answer
         ensures { let h = standard H.digest_of H.Digest.bytes H.Digest.eq H.Digest.EMPTY in (g : StructureState)
-            → IsHeld h F.rule F.MAX_LEAVES self.now.committed self.now.pending g
-            → IsAnswered (scheme_of h self.now.hasher F.rule F.MAX_LEAVES F.DOMAIN) H.Digest.SIZE H.Digest.Spells
+            → IsStructureHeld h F.rule F.MAX_LEAVES self.now.committed self.now.pending g
+            → IsRequestAnswered (scheme_of h self.now.hasher F.rule F.MAX_LEAVES F.DOMAIN) H.Digest.SIZE H.Digest.Spells
             g (Request.Root inactive) g (answer_text result) }
     {
         let root = or_fault!(self.committed.root(&self.hasher, inactive));
@@ -135,8 +135,8 @@ impl<F: Family, H: PlainHasher> Structure<F, H> {
 
     fn prove(&self, alloc: Global, start: u64, end: u64, inactive: usize) -> Answer
         ensures { let h = standard H.digest_of H.Digest.bytes H.Digest.eq H.Digest.EMPTY in (g : StructureState)
-            → IsHeld h F.rule F.MAX_LEAVES self.now.committed self.now.pending g
-            → IsAnswered (scheme_of h self.now.hasher F.rule F.MAX_LEAVES F.DOMAIN) H.Digest.SIZE H.Digest.Spells
+            → IsStructureHeld h F.rule F.MAX_LEAVES self.now.committed self.now.pending g
+            → IsRequestAnswered (scheme_of h self.now.hasher F.rule F.MAX_LEAVES F.DOMAIN) H.Digest.SIZE H.Digest.Spells
             g (Request.Prove start end inactive) g (answer_text result) }
     {
         let range = Location::new(start)..Location::new(end);
@@ -150,9 +150,9 @@ impl<F: Family, H: PlainHasher> Structure<F, H> {
     pub(crate) fn answer(&mut self, alloc: Global, request: Request<'_>) -> Answer
         ensures kind { self.new.hasher ≡ self.old.hasher }
         ensures answered { let h = standard H.digest_of H.Digest.bytes H.Digest.eq H.Digest.EMPTY in (g : StructureState) → IsCommand (Command.Ask request.entry)
-            → IsHeld h F.rule F.MAX_LEAVES self.old.committed self.old.pending g → (u : StructureState)
-            × IsHeld h F.rule F.MAX_LEAVES self.new.committed self.new.pending u
-            × IsAnswered (scheme_of h self.old.hasher F.rule F.MAX_LEAVES F.DOMAIN) H.Digest.SIZE H.Digest.Spells
+            → IsStructureHeld h F.rule F.MAX_LEAVES self.old.committed self.old.pending g → (u : StructureState)
+            × IsStructureHeld h F.rule F.MAX_LEAVES self.new.committed self.new.pending u
+            × IsRequestAnswered (scheme_of h self.old.hasher F.rule F.MAX_LEAVES F.DOMAIN) H.Digest.SIZE H.Digest.Spells
             g request.entry u (answer_text result) }
     {
         match request {

@@ -13,7 +13,7 @@ use Rattle.merkle_store_theory.proofs.PositionReads.{reads_by_position}
 use Rattle.merkle_proof.specs.RangePlans.{LeafRange}
 use Rattle.merkle_proof.specs.declared.proof.Proof.{Proof}
 use Rattle.merkle_proof.specs.declared.range_plan.RangeCounts.{RangeCounts}
-use Rattle.merkle_verification.specs.StoreCalls.{IsAnswered, IsStoreRefusal}
+use Rattle.merkle_verification.specs.StoreCalls.{IsPartProof, IsStoreRefusal}
 use Rattle.merkle_verification.specs.StoreParts.{IsFoldedCount, counts_with, parts_refusal, shorter_refusal}
 use Rattle.merkle_verification.proofs.PartReads.{or_skip, or_take}
 
@@ -56,7 +56,7 @@ module _ {F D : Type 0} (s : Scheme D) (v : StoreValue D) (a b : ℕ) (c : Range
 module _ {F D Peaks Heights : Type 0} (s : Scheme D) (v : StoreValue D) (a b : ℕ) (c : RangeCounts) (held : ℕ) (reads : List ℕ) (w : IsAsked s v a b c held reads) where
   -- where none is, the proof is answered
   pub is_answered : None ≡ shorter_refusal s.rule v.leaves (counts_with c held) → parts_refusal v (counts_with c held) reads ≡ None → (p : Proof F D Peaks Heights)
-      → p.leaves ≡ v.leaves → p.inactive_peaks ≡ v.inactive → p.digests.items ≡ proof_at s.hashing v (counts_with c held) reads → IsAnswered s v a b p
+      → p.leaves ≡ v.leaves → p.inactive_peaks ≡ v.inactive → p.digests.items ≡ proof_at s.hashing v (counts_with c held) reads → IsPartProof s v a b p
   is_answered none e p leaves inactive digests =
       let law = reads_by_position s v a b (counts_with c held) w.counts in record {
         some = w.some;

@@ -14,15 +14,15 @@ use Rattle.merkle_claim_theory.proofs.Multiproofs.{all_member}
 use Rattle.merkle_proof.specs.MultiPositions.{AreLocations}
 use Rattle.merkle_proof.specs.RangePlans.{IsFirstMissing}
 use Rattle.merkle_proof.proofs.MultiRefusals.{refused_are_none}
-use Rattle.merkle_verification.specs.ReaderRefusals.{AreHeld, IsLocationsRefusal, IsReadRefusal, IsSizeRefusal}
+use Rattle.merkle_verification.specs.ReaderRefusals.{AreNodesHeld, IsLocationsRefusal, IsReadRefusal, IsSizeRefusal}
 
-missing_held : {D : Type 0} (node : ℕ → Option D) (ps : List ℕ) (p : ℕ) → AreHeld node ps → IsFirstMissing (λ q o. o ≡ node q) ps p → ⊥
+missing_held : {D : Type 0} (node : ℕ → Option D) (ps : List ℕ) (p : ℕ) → AreNodesHeld node ps → IsFirstMissing (λ q o. o ≡ node q) ps p → ⊥
 missing_held node ps p held w =
     let m : Member ps p = subst (λ l. Member l p) (sym w.split) (member_right w.before (p ∷ w.after) p (inl refl)) in
     absurd (false≢true (ap is_some w.missing ∙ all_member (λ q. is_some (node q) ≡ true) ps p held m))
 
 -- no read of held nodes is refused
-pub read_held : {F D : Type 0} (rule : List ℕ → List ℕ) (n k : ℕ) (node : ℕ → Option D) (ps : List ℕ) → k ≤ length (peaks_of rule n) → AreHeld node ps → (e : Error F) → IsReadRefusal rule n k node ps e → ⊥
+pub read_held : {F D : Type 0} (rule : List ℕ → List ℕ) (n k : ℕ) (node : ℕ → Option D) (ps : List ℕ) → k ≤ length (peaks_of rule n) → AreNodesHeld node ps → (e : Error F) → IsReadRefusal rule n k node ps e → ⊥
 read_held rule n k node ps few held e refused = elim refused [
   | inl x ↦ absurd (let many : length (peaks_of rule n) < k = x.0 in omega (arith, many, few))
   | inr x ↦ missing_held node ps x.1.0 held x.1.2
@@ -37,7 +37,7 @@ sized_held rule max_leaves max_nodes law n m l at e refused = elim refused [
 
 -- nor are leaves whose nodes are held
 pub locations_held : {F D : Type 0} (rule : List ℕ → List ℕ) (max_leaves n k : ℕ) (locations : List ℕ) (node : ℕ → Option D) → AreLocations max_leaves n locations → k ≤ length (peaks_of rule n)
-    → AreHeld node (multi_positions rule n locations) → (e : Error F) → IsLocationsRefusal rule max_leaves n k locations node e → ⊥
+    → AreNodesHeld node (multi_positions rule n locations) → (e : Error F) → IsLocationsRefusal rule max_leaves n k locations node e → ⊥
 locations_held {F = F} rule max_leaves n k locations node within few held e refused = elim refused [
   | inl x ↦ refused_are_none F max_leaves n locations e x within
   | inr x ↦ read_held rule n k node (multi_positions rule n locations) few held e x.1

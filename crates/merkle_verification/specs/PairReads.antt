@@ -20,5 +20,5 @@ abbrev pub read_all : {D : Type 0} → Hashing D → List (ℕ × D) → List �
 read_all h pairs ps = map (λ p. read_pair h pairs p) ps
 
 -- there is such a position, and the refusal names it as pruned
-abbrev pub IsPruned : {F : Type 0} → Option ℕ → Error F → Type 0
-IsPruned o e = (p : ℕ) × (e ≡ ElementPruned p) × (o ≡ Some p)
+abbrev pub IsPrunedAt : {F : Type 0} → Option ℕ → Error F → Type 0
+IsPrunedAt o e = (p : ℕ) × (e ≡ ElementPruned p) × (o ≡ Some p)

@@ -12,8 +12,8 @@ use Rattle.merkle_proof.specs.Positions.{range_positions}
 use Rattle.merkle_proof.specs.RangePlans.{IsRefusal, IsFirstMissing}
 
 -- a node is held at each of the positions
-abbrev pub AreHeld : {D : Type 0} → (ℕ → Option D) → List ℕ → Type 0
-AreHeld node ps = AllByRecursion (λ p. is_some (node p) ≡ true) ps
+abbrev pub AreNodesHeld : {D : Type 0} → (ℕ → Option D) → List ℕ → Type 0
+AreNodesHeld node ps = AllByRecursion (λ p. is_some (node p) ≡ true) ps
 
 -- m nodes are too many, or no leaf count has so many
 abbrev pub IsSizeRefusal : {F : Type 0} → (rule : List ℕ → List ℕ) → (max_nodes m : ℕ) → Error F → Type 0

@@ -15,7 +15,7 @@ abbrev pub IsStoreRefusal : {F D : Type 0} → Scheme D → StoreValue D → (a 
 IsStoreRefusal s v a b e = IsRefusal s.max_leaves v.leaves a b e ⊎ ((a < b) × (b ≤ v.leaves) × ((p : ℕ) × (e ≡ ElementPruned p) × (store_refusal s v a b ≡ Some p)))
 
 -- p is the proof that it answers
-pub record IsAnswered {F D Peaks Heights : Type 0} (s : Scheme D) (v : StoreValue D) (a b : ℕ) (p : Proof F D Peaks Heights) : Type 0 where
+pub record IsPartProof {F D Peaks Heights : Type 0} (s : Scheme D) (v : StoreValue D) (a b : ℕ) (p : Proof F D Peaks Heights) : Type 0 where
   pub some : a < b
   pub within : b ≤ v.leaves
   pub leaves : p.leaves ≡ v.leaves
@@ -34,4 +34,4 @@ NoPartIsRefused F D = (s : Scheme D) (r : RangeInput D) (root : D) (a b : ℕ) (
 -- and what it answers for it is accepted
 abbrev pub AnsweredIsAccepted : (F D Peaks Heights : Type 0) → Type 0
 AnsweredIsAccepted F D Peaks Heights = (s : Scheme D) (r : RangeInput D) (root : D) (a b : ℕ) (p : Proof F D Peaks Heights)
-    → AcceptsNonempty s r root → r.start ≤ a → b ≤ end_of r → IsAnswered s (store_of s r root) a b p → AcceptsNonempty s (part_input p r a b) root
+    → AcceptsNonempty s r root → r.start ≤ a → b ≤ end_of r → IsPartProof s (store_of s r root) a b p → AcceptsNonempty s (part_input p r a b) root

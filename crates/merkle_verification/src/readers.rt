@@ -12,7 +12,7 @@ ghost use Rattle.merkle_proof.specs.MultiPositions.{AreLocations};
 ghost use Rattle.merkle_proof.specs.Positions.{range_positions};
 ghost use Rattle.merkle_proof.specs.RangePlans.{AnswersList, IsBuildRefusal, IsBuiltProof, IsFirstMissing, list_input};
 ghost use Rattle.merkle_verification.specs.ReaderProofs.{IsBuiltMulti, multi_list_input};
-ghost use Rattle.merkle_verification.specs.ReaderRefusals.{AreHeld, IsHistoricalRefusal, IsLocationsRefusal, IsMultiRefusal};
+ghost use Rattle.merkle_verification.specs.ReaderRefusals.{AreNodesHeld, IsHistoricalRefusal, IsLocationsRefusal, IsMultiRefusal};
 ghost use Rattle.merkle_verification.specs.ReaderRefusals.{IsReadRefusal, IsReaderRefusal, IsSizeRefusal};
 
 use merkle_base::error::Error;
@@ -62,7 +62,7 @@ pub fn range_proof<R: Readable, H: Hasher<R::Family, Digest = R::Digest>>(
         (X : List R.Digest) → Shows (H.hashing hasher.now) R.Family.rule (R.size reader.now) (R.node reader.now) X
         → IfOk result (λ p. IsHonestRange s X inactive (list_input p X range.start range.end)) }
     ensures held { (n : ℕ) → size R.Family.rule n ≡ R.size reader.now → range.start < range.end → range.end ≤ n → n ≤ R.Family.MAX_LEAVES
-        → inactive ≤ length (peaks_of R.Family.rule n) → AreHeld (R.node reader.now) (range_positions R.Family.rule n range.start range.end)
+        → inactive ≤ length (peaks_of R.Family.rule n) → AreNodesHeld (R.node reader.now) (range_positions R.Family.rule n range.start range.end)
         → IsOkUnless result Error.OutOfMemory }
     ensures err { let rule = R.Family.rule in let max_nodes = R.Family.MAX_NODES in let max_leaves = R.Family.MAX_LEAVES in
         IfErr result (λ e. e ≢ Error.OutOfMemory
@@ -106,7 +106,7 @@ pub fn historical_range_proof<R: Readable, H: Hasher<R::Family, Digest = R::Dige
         (X : List R.Digest) → Shows (H.hashing hasher.now) R.Family.rule (R.size reader.now) (R.node reader.now) X → leaves ≤ length X
         → IfOk result (λ p. IsHonestRange s (take leaves X) inactive (list_input p (take leaves X) range.start range.end)) }
     ensures held { range.start < range.end → range.end ≤ leaves → leaves ≤ R.Family.MAX_LEAVES → inactive ≤ length (peaks_of R.Family.rule leaves)
-        → AreHeld (R.node reader.now) (range_positions R.Family.rule leaves range.start range.end) → IsOkUnless result Error.OutOfMemory }
+        → AreNodesHeld (R.node reader.now) (range_positions R.Family.rule leaves range.start range.end) → IsOkUnless result Error.OutOfMemory }
     ensures err { IfErr result (λ e. e ≢ Error.OutOfMemory
         → IsHistoricalRefusal R.Family.rule R.Family.MAX_LEAVES leaves range.start range.end inactive (R.node reader.now) e) }
 {
@@ -178,7 +178,7 @@ pub fn multi_proof<R: Readable>(
         → (X : List R.Digest) → Shows s.hashing s.rule (R.size reader.now) (R.node reader.now) X
         → IfOk result (λ p. IsHonestMulti s X inactive (multi_list_input p s.hashing X locations.now)) }
     ensures held { (n : ℕ) → size R.Family.rule n ≡ R.size reader.now → AreLocations R.Family.MAX_LEAVES n locations.now
-        → inactive ≤ length (peaks_of R.Family.rule n) → AreHeld (R.node reader.now) (multi_positions R.Family.rule n locations.now)
+        → inactive ≤ length (peaks_of R.Family.rule n) → AreNodesHeld (R.node reader.now) (multi_positions R.Family.rule n locations.now)
         → IsOkUnless result Error.OutOfMemory }
     ensures err { let rule = R.Family.rule in let max_nodes = R.Family.MAX_NODES in let max_leaves = R.Family.MAX_LEAVES in
         IfErr result (λ e. e ≢ Error.OutOfMemory

@@ -11,8 +11,8 @@ ghost use Rattle.merkle_store_theory.specs.StoreReads.{prefix_at, suffix_at, suf
 ghost use Rattle.merkle_store_theory.specs.StoreValue.{store_of};
 ghost use Rattle.merkle_range.specs.Extracting.{IsExtractionRefusal};
 ghost use Rattle.merkle_proof.specs.Input.{input_of};
-ghost use Rattle.merkle_verification.specs.PairReads.{IsPruned};
-ghost use Rattle.merkle_verification.specs.StoreCalls.{IsAnswered, IsStoreRefusal, part_input};
+ghost use Rattle.merkle_verification.specs.PairReads.{IsPrunedAt};
+ghost use Rattle.merkle_verification.specs.StoreCalls.{IsPartProof, IsStoreRefusal, part_input};
 ghost use Rattle.merkle_verification.specs.StoreMulti.{IsMultiAnswered, IsStoreMultiRefusal};
 ghost use Rattle.merkle_verification.specs.StoreParts.{FitReads, IsFoldedCount, IsInput, counts_with, parts_refusal, shorter_refusal};
 
@@ -197,7 +197,7 @@ impl<F: Family, D: Digest> ProofStore<F, D> {
     ) -> Result<Option<D>, Error<F>>
         ensures held { IfOk result (λ _. first_lacking self.now.pairs (drop held positions.now) ≡ None) }
         ensures read { IfOk result (λ o. option_to_list o ≡ prefix_at (H.hashing hasher.now) self.now held positions.now) }
-        ensures err { IfErr result (λ e. IsPruned (first_lacking self.now.pairs (drop held positions.now)) e) }
+        ensures err { IfErr result (λ e. IsPrunedAt (first_lacking self.now.pairs (drop held positions.now)) e) }
     {
         if positions.is_empty() {
             return Ok(None);
@@ -214,7 +214,7 @@ impl<F: Family, D: Digest> ProofStore<F, D> {
     ) -> Result<Option<D>, Error<F>>
         ensures held { IfOk result (λ _. suffix_refusal_at self.now positions.now ≡ None) }
         ensures read { IfOk result (λ o. option_to_list o ≡ suffix_at (H.hashing hasher.now) self.now positions.now) }
-        ensures err { IfErr result (λ e. IsPruned (suffix_refusal_at self.now positions.now) e) }
+        ensures err { IfErr result (λ e. IsPrunedAt (suffix_refusal_at self.now positions.now) e) }
     {
         if positions.is_empty() {
             return Ok(None);
@@ -236,7 +236,7 @@ impl<F: Family, D: Digest> ProofStore<F, D> {
         requires { FitReads counts reads.now }
         ensures held { IfOk result (λ _. parts_refusal self.now (counts_with counts held) reads.now ≡ None) }
         ensures read { IfOk result (λ v. v.items ≡ proof_at (H.hashing hasher.now) self.now (counts_with counts held) reads.now) }
-        ensures err { IfErr result (λ e. e ≢ Error.OutOfMemory → IsPruned (parts_refusal self.now (counts_with counts held) reads.now) e) }
+        ensures err { IfErr result (λ e. e ≢ Error.OutOfMemory → IsPrunedAt (parts_refusal self.now (counts_with counts held) reads.now) e) }
     {
         let parts = Parts::new(counts, reads);
         let prefix = match self.prefix_digest(hasher, held, parts.prefix) {
@@ -281,7 +281,7 @@ impl<F: Family, D: Digest> ProofStore<F, D> {
         hasher: &H,
         range: Range<Location<F>>,
     ) -> Result<Proof<F, D>, Error<F>>
-        ensures ok { IfOk result (λ p. IsAnswered (H.scheme hasher.now) self.now range.start range.end p) }
+        ensures ok { IfOk result (λ p. IsPartProof (H.scheme hasher.now) self.now range.start range.end p) }
         ensures err { IfErr result (λ e. e ≢ Error.OutOfMemory → IsStoreRefusal (H.scheme hasher.now) self.now range.start range.end e) }
     {
         let plan = match RangePlan::new(self.pairs.allocator(), self.leaves, range) {
@@ -321,7 +321,7 @@ impl<F: Family, D: Digest> ProofStore<F, D> {
         hasher: &H,
         range: Range<Location<F>>,
     ) -> Result<Proof<F, D>, Error<F>>
-        ensures ok { IfOk result (λ p. IsAnswered (H.scheme hasher.now) self.now range.start range.end p) }
+        ensures ok { IfOk result (λ p. IsPartProof (H.scheme hasher.now) self.now range.start range.end p) }
         ensures err { IfErr result (λ e. e ≢ Error.OutOfMemory → IsStoreRefusal (H.scheme hasher.now) self.now range.start range.end e) }
 
         // The store of an accepted proof proves each part of its range, unless memory is refused.

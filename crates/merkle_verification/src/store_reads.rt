@@ -7,7 +7,7 @@ ghost use Rattle.merkle_base.specs.Places.{peak_positions};
 ghost use Rattle.merkle_base.specs.Root.{right_fold, folded};
 ghost use Rattle.merkle_base.specs.declared.family.Bagging.TheVariants.{ForwardFold};
 ghost use Rattle.merkle_store_theory.specs.StoreProof.{ends_with, first_lacking};
-ghost use Rattle.merkle_verification.specs.PairReads.{IsPruned, read_all};
+ghost use Rattle.merkle_verification.specs.PairReads.{IsPrunedAt, read_all};
 ghost use Rattle.merkle_verification.specs.StoreParts.{FitReads, IsOtherSuffix};
 
 use crate::pair_table::PairTable;
@@ -67,7 +67,7 @@ pub(crate) fn read_each<F: Family, D: Digest>(
 ) -> Result<(), Error<F>>
     ensures held { IfOk result (λ _. first_lacking pairs.now positions.now ≡ None) }
     ensures read { IfOk result (λ _. (h : Hashing D) → out.new.items ≡ out.old.items ++ read_all h pairs.now positions.now) }
-    ensures err { IfErr result (λ e. e ≢ Error.OutOfMemory → IsPruned (first_lacking pairs.now positions.now) e) }
+    ensures err { IfErr result (λ e. e ≢ Error.OutOfMemory → IsPrunedAt (first_lacking pairs.now positions.now) e) }
 {
     for position in positions {
         let Some(digest) = pairs.get(*position) else {
@@ -99,7 +99,7 @@ pub(crate) fn fold_onto<F: Family, H: Hasher<F>>(
     ensures held { IfOk result (λ _. first_lacking pairs.now positions.now ≡ None) }
     ensures read { let h = H.hashing hasher.now in
         IfOk result (λ o. o ≡ folded h.fold ForwardFold 0 (option_to_list first ++ read_all h pairs.now positions.now)) }
-    ensures err { IfErr result (λ e. IsPruned (first_lacking pairs.now positions.now) e) }
+    ensures err { IfErr result (λ e. IsPrunedAt (first_lacking pairs.now positions.now) e) }
 {
     let mut folded = first;
     for position in positions {
@@ -126,7 +126,7 @@ pub(crate) fn bag_onto<F: Family, H: Hasher<F>>(
     ensures held { IfOk result (λ _. first_lacking pairs.now (reverse positions.now) ≡ None) }
     ensures read { let h = H.hashing hasher.now in
         IfOk result (λ o. o ≡ right_fold h.fold (read_all h pairs.now positions.now ++ option_to_list last)) }
-    ensures err { IfErr result (λ e. IsPruned (first_lacking pairs.now (reverse positions.now)) e) }
+    ensures err { IfErr result (λ e. IsPrunedAt (first_lacking pairs.now (reverse positions.now)) e) }
 {
     let mut bagged = last;
     let mut index = positions.len();

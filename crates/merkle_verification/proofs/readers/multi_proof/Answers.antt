@@ -7,7 +7,7 @@ use Rattle.merkle_claim_theory.specs.Multiproof.{multi_positions}
 use Rattle.merkle_proof.specs.MultiPositions.{AreLocations}
 use Rattle.merkle_proof.proofs.RefusedProofs.{is_memory}
 use Rattle.merkle_verification.specs.ReaderProofs.{IsBuiltMulti}
-use Rattle.merkle_verification.specs.ReaderRefusals.{AreHeld, IsSizeRefusal}
+use Rattle.merkle_verification.specs.ReaderRefusals.{AreNodesHeld, IsSizeRefusal}
 use Rattle.merkle_verification.proofs.HeldReads.{locations_held, sized_held}
 use Rattle.merkle_verification.proofs.MultiReads.{honest_multi}
 use Rattle.merkle_verification.proofs.readers.multi_proof.Goals as goal
@@ -39,7 +39,7 @@ returns-in-Ok-clause-held g c = λ n at within few held.
       | inr is ↦ is
       | inl other ↦ absurd (locations_held rule g.R.Family.Family.MAX_LEAVES m c.args.inactive c.args.locations.now (g.R.Readable.node c.args.reader.now)
           (subst (λ l. AreLocations g.R.Family.Family.MAX_LEAVES l c.args.locations.now) same within) (subst (λ l. c.args.inactive ≤ length (peaks_of rule l)) same few)
-          (subst (λ l. AreHeld (g.R.Readable.node c.args.reader.now) (multi_positions rule l c.args.locations.now)) same held) e (refused other))
+          (subst (λ l. AreNodesHeld (g.R.Readable.node c.args.reader.now) (multi_positions rule l c.args.locations.now)) same held) e (refused other))
     ]) c.prove_locations.ensures.err
 
 pub returns-in-Ok-clause-err : goal.returns-in-Ok-clause-err

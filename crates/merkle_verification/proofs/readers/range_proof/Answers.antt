@@ -6,7 +6,7 @@ use Rattle.merkle_base.proofs.Nodes.{size_inj}
 use Rattle.merkle_proof.specs.Positions.{range_positions}
 use Rattle.merkle_proof.specs.RangePlans.{IsBuiltProof, list_input}
 use Rattle.merkle_root_theory.specs.Range.{IsHonestRange}
-use Rattle.merkle_verification.specs.ReaderRefusals.{AreHeld, IsSizeRefusal}
+use Rattle.merkle_verification.specs.ReaderRefusals.{AreNodesHeld, IsSizeRefusal}
 use Rattle.merkle_verification.proofs.HeldReads.{sized_held}
 use Rattle.merkle_verification.proofs.readers.range_proof.Goals as goal
 
@@ -34,7 +34,7 @@ returns-in-Ok-clause-held g c = λ n at some less within few held.
     let same : c.in-Ok.leaves ≡ n = size_inj rule c.in-Ok.leaves n (c.in-Ok.ensures.ok.0 ∙ c.size.ensures ∙ sym at) in
     c.historical_range_proof.ensures.held some (omega (arith, less, same)) (omega (arith, within, same))
     (subst (λ m. c.args.inactive ≤ length (peaks_of rule m)) (sym same) few)
-    (subst (λ m. AreHeld (g.R.Readable.node c.args.reader.now) (range_positions rule m c.args.range.start c.args.range.end)) (sym same) held)
+    (subst (λ m. AreNodesHeld (g.R.Readable.node c.args.reader.now) (range_positions rule m c.args.range.start c.args.range.end)) (sym same) held)
 
 pub returns-in-Ok-clause-err : goal.returns-in-Ok-clause-err
 returns-in-Ok-clause-err g c =

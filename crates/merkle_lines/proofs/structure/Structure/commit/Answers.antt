@@ -14,7 +14,7 @@ use Rattle.merkle_batch_theory.specs.Records.{MerkleizedModel, records}
 use Rattle.merkle_batch_theory.specs.History.{IsHistory}
 use Rattle.merkle_lines.specs.Answers.{error_line}
 use Rattle.merkle_lines.specs.StructureState.{all_committed, changes, without_changes}
-use Rattle.merkle_lines.specs.Held.{IsHeld, Makes}
+use Rattle.merkle_lines.specs.Held.{IsStructureHeld, Makes}
 use Rattle.merkle_lines.proofs.Commits.{held_lost, lost_held}
 use Rattle.merkle_lines.proofs.Holdings.{held_all, held_without, list_count}
 use Rattle.merkle_lines.proofs.Making.{made_accepted, made_applied, made_base, made_stands, made_total}
@@ -43,7 +43,7 @@ returns-in-Err-merkleize-clause-answered g c = λ given held.
       elim c.in-Err-merkleize.ensures.refused [
         | inl memory ↦ wanting (scheme_of h c.args.self.now.hasher g.F.Family.rule g.F.Family.MAX_LEAVES g.F.Family.DOMAIN) g.H.Digest.Digest.SIZE g.H.Digest.Digest.Spells given Commit c.in-Err-merkleize.error _ memory (ap error_line c.name-in-Err-merkleize.ensures)
         | inr (t, is, missing) ↦
-            commit_lost (scheme_of h c.args.self.now.hasher g.F.Family.rule g.F.Family.MAX_LEAVES g.F.Family.DOMAIN) g.H.Digest.Digest.SIZE g.H.Digest.Digest.Spells given c.in-Err-merkleize.error t _ (held_lost h rule most c.take_pending.new.self.committed old.pending given (subst (λ x. IsHeld h rule most x old.pending given) (sym here) held) c.in-Ok.value makes t missing) is (ap error_line c.name-in-Err-merkleize.ensures)
+            commit_lost (scheme_of h c.args.self.now.hasher g.F.Family.rule g.F.Family.MAX_LEAVES g.F.Family.DOMAIN) g.H.Digest.Digest.SIZE g.H.Digest.Digest.Spells given c.in-Err-merkleize.error t _ (held_lost h rule most c.take_pending.new.self.committed old.pending given (subst (λ x. IsStructureHeld h rule most x old.pending given) (sym here) held) c.in-Ok.value makes t missing) is (ap error_line c.name-in-Err-merkleize.ensures)
       ],
     )
 
@@ -56,7 +56,7 @@ returns-in-Err-apply_batch-clause-answered g c = λ given held.
     let makes : Makes h rule (leaf_digests h rule 0 given.committed) c.in-Ok.value (changes given) = c.in-Ok.ensures.batch given held in
     let new = c.take_pending.new.self in
     let same : new.committed ≡ old.committed = c.take_pending.ensures.kept in
-    let held-new : IsHeld h rule most new.committed old.pending given = subst (λ x. IsHeld h rule most x old.pending given) (sym same) held in
+    let held-new : IsStructureHeld h rule most new.committed old.pending given = subst (λ x. IsStructureHeld h rule most x old.pending given) (sym same) held in
     let list : List g.row.H-Digest.Denot = leaf_digests h rule 0 given.committed in
     let chain : MerkleizedModel g.row.H-Digest.Denot = c.deref.result.now in
     let is : chain ≡ c.in-Ok-merkleize.value.value = c.deref.ensures in
@@ -82,7 +82,7 @@ returns-clause-answered g c = λ given held.
     let makes : Makes h rule (leaf_digests h rule 0 given.committed) c.in-Ok.value (changes given) = c.in-Ok.ensures.batch given held in
     let new = c.take_pending.new.self in
     let same : new.committed ≡ old.committed = c.take_pending.ensures.kept in
-    let held-new : IsHeld h rule most new.committed old.pending given = subst (λ x. IsHeld h rule most x old.pending given) (sym same) held in
+    let held-new : IsStructureHeld h rule most new.committed old.pending given = subst (λ x. IsStructureHeld h rule most x old.pending given) (sym same) held in
     let list : List g.row.H-Digest.Denot = leaf_digests h rule 0 given.committed in
     let chain : MerkleizedModel g.row.H-Digest.Denot = c.deref.result.now in
     let is : chain ≡ c.in-Ok-merkleize.value.value = c.deref.ensures in

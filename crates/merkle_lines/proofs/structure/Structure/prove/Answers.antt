@@ -13,7 +13,7 @@ use Rattle.merkle_batch_theory.specs.Contents.{is_kept}
 use Rattle.merkle_proof.specs.ProofRefusals.{IsRangeRefusal}
 use Rattle.merkle_proof.proofs.RefusedProofs.{is_memory}
 use Rattle.merkle_commands.specs.declared.command.Request.TheVariants.{Prove}
-use Rattle.merkle_lines.specs.Answers.{error_line, kept_node, IsAnswered}
+use Rattle.merkle_lines.specs.Answers.{error_line, kept_node, IsRequestAnswered}
 use Rattle.merkle_lines.proofs.Proving.{honest_parts}
 use Rattle.merkle_lines.proofs.Replies.{prove_refused, prove_told, wanting}
 use Rattle.merkle_lines.proofs.structure.Structure.prove.Goals as goal
@@ -48,7 +48,7 @@ returns g c = λ given held.
     let parts = honest_parts s list c.args.inactive c.new.result c.new-2.result p.leaves p.inactive_peaks p.digests.items honest.0 honest.1 honest.2 in
     let text : string_bytes c.in-Ok-write_hex.value ≡ encode_lower (parts_spelling h.bytes p.leaves p.inactive_peaks p.digests.items) =
     c.in-Ok-write_hex.ensures.digits ∙ ap encode_lower (c.as_slice.ensures.value ∙ c.in-Ok-write.ensures.ok ∙ ap (λ bytes. bytes ++ proof_spelling h.bytes p) fresh) in
-    subst (λ a. IsAnswered (scheme_of h c.args.self.now.hasher g.F.Family.rule g.F.Family.MAX_LEAVES g.F.Family.DOMAIN) g.H.Digest.Digest.SIZE g.H.Digest.Digest.Spells given (Prove a c.args.end c.args.inactive) given (string_bytes c.in-Ok-write_hex.value)) c.new.ensures
-    (subst (λ b. IsAnswered (scheme_of h c.args.self.now.hasher g.F.Family.rule g.F.Family.MAX_LEAVES g.F.Family.DOMAIN) g.H.Digest.Digest.SIZE g.H.Digest.Digest.Spells given (Prove c.new.result b c.args.inactive) given (string_bytes c.in-Ok-write_hex.value)) c.new-2.ensures
+    subst (λ a. IsRequestAnswered (scheme_of h c.args.self.now.hasher g.F.Family.rule g.F.Family.MAX_LEAVES g.F.Family.DOMAIN) g.H.Digest.Digest.SIZE g.H.Digest.Digest.Spells given (Prove a c.args.end c.args.inactive) given (string_bytes c.in-Ok-write_hex.value)) c.new.ensures
+    (subst (λ b. IsRequestAnswered (scheme_of h c.args.self.now.hasher g.F.Family.rule g.F.Family.MAX_LEAVES g.F.Family.DOMAIN) g.H.Digest.Digest.SIZE g.H.Digest.Digest.Spells given (Prove c.new.result b c.args.inactive) given (string_bytes c.in-Ok-write_hex.value)) c.new-2.ensures
     (prove_told (scheme_of h c.args.self.now.hasher g.F.Family.rule g.F.Family.MAX_LEAVES g.F.Family.DOMAIN) g.H.Digest.Digest.SIZE g.H.Digest.Digest.Spells given (node old.committed) here old.committed.leaves held.counted (omega (arith, held.counted, held.bounded)) c.new.result c.new-2.result c.args.inactive
     p.leaves p.inactive_peaks p.digests.items _ honest.0 (omega (arith, honest.1, counted)) (parts.0 ∙ counted ∙ sym held.counted) parts.1 c.in-Ok.ensures.built.2.few parts.2 text))

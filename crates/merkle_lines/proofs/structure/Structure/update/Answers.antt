@@ -6,7 +6,7 @@ use Rattle.merkle_range.specs.Input.{leaf_digests}
 use Rattle.merkle_base.specs.Forest.{size}
 use Rattle.merkle_batch_theory.specs.Unmerkleized as pending
 use Rattle.merkle_lines.specs.Answers.{error_line}
-use Rattle.merkle_lines.specs.StructureState.{changes, count, with_changes, with_update, without_changes}
+use Rattle.merkle_lines.specs.StructureState.{changes, count, with_changes, with_changed_element, without_changes}
 use Rattle.merkle_lines.specs.Held.{Makes}
 use Rattle.merkle_lines.proofs.Holdings.{held_with, held_without}
 use Rattle.merkle_lines.proofs.Making.{makes_update}
@@ -61,11 +61,11 @@ returns-clause-answered g c = λ given word held.
     (subst (λ x. c.in-Ok-update_leaf.value ≡ pending.with_update rule c.in-Ok.value c.new-leaf.result (h.leaf (size rule c.new-leaf.result) x)) c.as_slice.ensures.value c.in-Ok-update_leaf.ensures.updated) in
     let allowed = update_allowed (scheme_of h c.args.self.now.hasher g.F.Family.rule g.F.Family.MAX_LEAVES g.F.Family.DOMAIN) g.H.Digest.Digest.SIZE g.H.Digest.Digest.Spells given c.in-Ok.value makes c.args.location (λ fault is. let e = c.in-Ok-update_leaf.ensures.refused fault (ap (λ k. pending.update_fault rule c.in-Ok.value k) there ∙ is) in (cc)) in
     let counted = length-leaf_digests h rule 0 given.committed in
-    let next = with_update (count given) (changes given) c.args.location element in (
+    let next = with_changed_element (count given) (changes given) c.args.location element in (
       with_changes given next,
       held_with h rule most old.committed old.pending given held _ c.in-Ok-update_leaf.value next c.take_pending.ensures.kept
           (subst (λ b. Makes h rule (leaf_digests h rule 0 given.committed) b next) (sym changed)
-          (subst (λ n. Makes h rule (leaf_digests h rule 0 given.committed) (pending.with_update rule c.in-Ok.value c.args.location (h.leaf (size rule c.args.location) element)) (with_update n (changes given) c.args.location element)) counted
+          (subst (λ n. Makes h rule (leaf_digests h rule 0 given.committed) (pending.with_update rule c.in-Ok.value c.args.location (h.leaf (size rule c.args.location) element)) (with_changed_element n (changes given) c.args.location element)) counted
           (makes_update h rule _ c.in-Ok.value (changes given) makes c.args.location element))),
       update_done (scheme_of h c.args.self.now.hasher g.F.Family.rule g.F.Family.MAX_LEAVES g.F.Family.DOMAIN) g.H.Digest.Digest.SIZE g.H.Digest.Digest.Spells given c.args.location c.args.digits element _ c.in-Ok-read_hex.ensures.value allowed.0 allowed.1 refl,
     )

@@ -6,7 +6,7 @@ use Rattle.merkle_root_theory.specs.Range.{AcceptsNonempty}
 use Rattle.merkle_store_theory.specs.StoreValue.{StoreValue}
 use Rattle.merkle_proof.specs.declared.proof.Proof.{Proof}
 use Rattle.merkle_proof.proofs.RefusedProofs.{is_memory}
-use Rattle.merkle_verification.specs.StoreCalls.{IsAnswered, IsStoreRefusal, part_input}
+use Rattle.merkle_verification.specs.StoreCalls.{IsPartProof, IsStoreRefusal, part_input}
 use Rattle.merkle_verification.proofs.StoreCallLaws.{no_part_is_refused, answered_is_accepted}
 use Rattle.merkle_verification.proofs.store.ProofStore.range_proof.Goals as goal
 
@@ -23,4 +23,4 @@ returns-clause-accepted g c = λ r root same ok low high.
     let s = g.H.Hasher.scheme c.args.hasher.now in let a = c.args.range.start in let b = c.args.range.end in
     IfOk-weaker c.answer.result _ (λ (p : Proof g.row.F.Denot g.row.D.Denot g.row.F-Peaks.Denot g.row.F-ParentHeights.Denot). AcceptsNonempty s (part_input p r a b) root)
     (λ (p : Proof g.row.F.Denot g.row.D.Denot g.row.F-Peaks.Denot g.row.F-ParentHeights.Denot) w.
-    answered_is_accepted s r root a b p ok low high (subst (λ (v : StoreValue g.row.D.Denot). IsAnswered s v a b p) same w)) c.answer.ensures.ok
+    answered_is_accepted s r root a b p ok low high (subst (λ (v : StoreValue g.row.D.Denot). IsPartProof s v a b p) same w)) c.answer.ensures.ok
