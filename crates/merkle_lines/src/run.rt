@@ -54,7 +54,8 @@ impl Answerer {
     // Writes the answer to the present line, and begins the next one.
     fn end_line<W: io::Write>(&mut self, writer: &mut W) -> Result<(), RunError>
         ensures next { OnOk result (self.new.line.items ≡ []) }
-        ensures answered { OnOk result ((told : Option SessionState) → HoldsState self.old.session told → (v : Option SessionState) × (text : List ℕ) × HoldsState self.new.session v
+        ensures answered { OnOk result ((told : Option SessionState) → HoldsState self.old.session told → (v : Option SessionState) × (text : List ℕ)
+            × HoldsState self.new.session v
             × IsLineAnswered told self.old.line.items v text × Appends (W.contents writer.old) (W.contents writer.new) (text ++ 10 ∷ [])) }
     {
         let answer = self.answer_line();
@@ -64,7 +65,8 @@ impl Answerer {
 
     // Takes the next byte; if it ends the line, answers that.
     fn take_byte<W: io::Write>(&mut self, byte: u8, writer: &mut W) -> Result<(), RunError>
-        ensures { OnOk result ((told : Option SessionState) → HoldsState self.old.session told → (v : Option SessionState) × (output : List ℕ) × HoldsState self.new.session v
+        ensures { OnOk result ((told : Option SessionState) → HoldsState self.old.session told → (v : Option SessionState) × (output : List ℕ)
+            × HoldsState self.new.session v
             × Appends (W.contents writer.old) (W.contents writer.new) output × ContinuesTo told self.old.line.items (byte ∷ []) output v self.new.line.items) }
     {
         if byte == b'\n' {
@@ -75,7 +77,8 @@ impl Answerer {
 
     // Takes the next bytes, and answers each line that they end.
     fn take<W: io::Write>(&mut self, bytes: &[u8], writer: &mut W) -> Result<(), RunError>
-        ensures { OnOk result ((told : Option SessionState) → HoldsState self.old.session told → (v : Option SessionState) × (output : List ℕ) × HoldsState self.new.session v
+        ensures { OnOk result ((told : Option SessionState) → HoldsState self.old.session told → (v : Option SessionState) × (output : List ℕ)
+            × HoldsState self.new.session v
             × Appends (W.contents writer.old) (W.contents writer.new) output × ContinuesTo told self.old.line.items bytes.now output v self.new.line.items) }
     {
         for byte in bytes {

@@ -36,7 +36,8 @@ impl<F: Family, H: PlainHasher> Structure<F, H> {
     // Creates an empty structure without a pending batch.
     pub(crate) fn new(alloc: Global, bagging: Bagging) -> Self
         ensures kind { result.hasher ≡ bagging }
-        ensures held { IsStructureHeld (standard H.digest_of H.Digest.bytes H.Digest.eq H.Digest.EMPTY) F.rule F.MAX_LEAVES result.committed result.pending empty_structure }
+        ensures held { IsStructureHeld (standard H.digest_of H.Digest.bytes H.Digest.eq H.Digest.EMPTY)
+            F.rule F.MAX_LEAVES result.committed result.pending empty_structure }
     {
         Structure {
             hasher: Standard::new(bagging),
@@ -52,7 +53,8 @@ impl<F: Family, H: PlainHasher> Structure<F, H> {
         ensures kept { self.new.committed ≡ self.old.committed }
         ensures gone { self.new.pending ≡ None }
         ensures batch { let h = standard H.digest_of H.Digest.bytes H.Digest.eq H.Digest.EMPTY in IfOk result (λ b. (g : StructureState)
-            → IsStructureHeld h F.rule F.MAX_LEAVES self.old.committed self.old.pending g → Makes h F.rule (leaf_digests h F.rule 0 g.committed) b (changes g)) }
+            → IsStructureHeld h F.rule F.MAX_LEAVES self.old.committed self.old.pending g
+            → Makes h F.rule (leaf_digests h F.rule 0 g.committed) b (changes g)) }
         ensures refused { IsOkUnless result Error.OutOfMemory }
     {
         match self.pending.take() {
@@ -149,7 +151,8 @@ impl<F: Family, H: PlainHasher> Structure<F, H> {
     // Carries out a request, and returns its answer.
     pub(crate) fn answer(&mut self, alloc: Global, request: Request<'_>) -> Answer
         ensures kind { self.new.hasher ≡ self.old.hasher }
-        ensures answered { let h = standard H.digest_of H.Digest.bytes H.Digest.eq H.Digest.EMPTY in (g : StructureState) → IsCommand (Command.Ask request.entry)
+        ensures answered { let h = standard H.digest_of H.Digest.bytes H.Digest.eq H.Digest.EMPTY in (g : StructureState)
+            → IsCommand (Command.Ask request.entry)
             → IsStructureHeld h F.rule F.MAX_LEAVES self.old.committed self.old.pending g → (u : StructureState)
             × IsStructureHeld h F.rule F.MAX_LEAVES self.new.committed self.new.pending u
             × IsRequestAnswered (scheme_of h self.old.hasher F.rule F.MAX_LEAVES F.DOMAIN) H.Digest.SIZE H.Digest.Spells
