@@ -1,0 +1,188 @@
+//! A transparency log and its clients: an example to copy.
+//!
+//! The log keeps all entries and publishes a root. A client keeps the root alone, and is shown by proofs which entries the log
+//! has, and that a newer root extends the one that it keeps.
+#![tactic(auto)]
+
+use hex::encode;
+use merkle_core::codec::{Read, Write};
+use merkle_core::digest::{Digest, Sha256Digest, Sha256Plain};
+use merkle_core::error::{DecodeError, Error, OutOfMemory};
+use merkle_core::family::{Bagging, Family as _};
+use merkle_core::granted;
+use merkle_core::hasher::Hasher;
+use merkle_core::mmr::{
+    Family, Location, MAX_PROOF_DIGESTS_PER_ELEMENT, Mmr, Proof, StandardHasher,
+};
+use merkle_core::verification::ProofStore;
+use std::alloc::{AllocError, Global};
+use std::io;
+use std::process::ExitCode;
+
+const FIRST: [&[u8]; 5] = [b"ann", b"bob", b"cleo", b"dan", b"eve"];
+
+const LATER: [&[u8]; 3] = [b"fay", b"gus", b"hal"];
+
+/// Why a step failed.
+#[derive(Debug, Drop, thiserror::Error)]
+enum LogError {
+    #[error("pruned")]
+    Pruned,
+    #[error("refused by the log")]
+    Refused,
+    #[error("no proof: {0}")]
+    NoProof(#[from] DecodeError),
+    #[error("out of memory")]
+    OutOfMemory(#[from(alloc)] AllocError),
+    #[error("no output: {0}")]
+    NoOutput(#[from] io::Error),
+}
+
+/// `granted!` passes the errors of the log on by this.
+impl From<&Error<Family>> for LogError {
+    fn from(error: &Error<Family>) -> Self {
+        match error {
+            Error::ElementPruned(_) => LogError::Pruned,
+            Error::OutOfMemory => LogError::OutOfMemory(AllocError),
+            _ => LogError::Refused,
+        }
+    }
+}
+
+/// `?` passes the errors of checks on by this.
+impl From<OutOfMemory> for LogError {
+    fn from(_: OutOfMemory) -> Self {
+        LogError::OutOfMemory(AllocError)
+    }
+}
+
+/// A log: its entries are the leaves of a Mountain Range. No peak of it counts as inactive.
+#[derive(Drop)]
+struct Log {
+    alloc: Global,
+    hasher: StandardHasher<Sha256Plain>,
+    tree: Mmr<Sha256Digest>,
+}
+
+impl Log {
+    fn new(alloc: Global) -> Self {
+        let hasher = StandardHasher::new(Bagging::ForwardFold);
+        let tree = Mmr::new(alloc);
+        Log {
+            alloc,
+            hasher,
+            tree,
+        }
+    }
+
+    /// Appends entries in one batch, and answers the new root.
+    fn append(&mut self, entries: &[&[u8]]) -> Result<Sha256Digest, LogError> {
+        let mut batch = granted!(self.tree.new_batch());
+        for entry in entries {
+            batch = granted!(batch.add(&self.hasher, entry));
+        }
+        let batch = granted!(batch.merkleize(&self.tree, &self.hasher));
+        granted!(self.tree.apply_batch(&batch));
+        Ok(granted!(self.tree.root(&self.hasher, 0)))
+    }
+
+    /// The digests of the peaks over the first so many entries.
+    fn pins(&self, count: Location) -> Result<Vec<Sha256Digest>, LogError> {
+        let mut pins = Vec::new(self.alloc);
+        if count.is_valid() {
+            for position in Family::nodes_to_pin(count) {
+                pins.push(self.tree.get_node(position).ok_or(LogError::Pruned)?)?;
+            }
+        }
+        Ok(pins)
+    }
+}
+
+/// The log proves an entry, and sends the proof as bytes to a client, who checks it against the root.
+fn show_entry(rt: &impl Print, log: &Log, root: &Sha256Digest) -> Result<(), LogError> {
+    let location = Location::new(2);
+    let mut bytes = Vec::new(log.alloc);
+    granted!(log.tree.proof(&log.hasher, location, 0)).write(&mut bytes)?;
+    println!(rt; "the proof of entry 2 has {} bytes", bytes.len())?;
+
+    let proof = Proof::read(
+        log.alloc,
+        &mut bytes.as_slice(),
+        &MAX_PROOF_DIGESTS_PER_ELEMENT,
+    )?;
+    let is_cleo = proof.verify_element_inclusion(&log.hasher, b"cleo", location, root)?;
+    let is_dan = proof.verify_element_inclusion(&log.hasher, b"dan", location, root)?;
+    println!(rt; "entry 2 is cleo: {is_cleo}, is dan: {is_dan}")?;
+    Ok(())
+}
+
+/// The log shows to a client that knows the root of the first entries that a newer root extends it.
+fn show_growth(
+    rt: &impl Print,
+    log: &Log,
+    old: &Sha256Digest,
+    root: &Sha256Digest,
+) -> Result<(), LogError> {
+    let start = Location::new(5);
+    let proof = granted!(
+        log.tree
+            .range_proof(&log.hasher, start..log.tree.leaves(), 0)
+    );
+    let pins = log.pins(start)?;
+
+    let old_of_pins: Sha256Digest = granted!(log.hasher.root(start, 0, &pins));
+    let is_new = proof.verify_proof_and_pinned_nodes(&log.hasher, &LATER, start, &pins, root)?;
+    println!(rt;
+        "the new root extends the old one: {}",
+        is_new && old_of_pins == *old
+    )?;
+    Ok(())
+}
+
+/// Who keeps the proof of a range serves the proofs of its parts, without the log.
+fn show_store(rt: &impl Print, log: &Log, root: &Sha256Digest) -> Result<(), LogError> {
+    let start = Location::new(5);
+    let proof = granted!(
+        log.tree
+            .range_proof(&log.hasher, start..log.tree.leaves(), 0)
+    );
+    let store = granted!(ProofStore::new(&log.hasher, &proof, &LATER, start, root));
+    let part = granted!(store.range_proof(&log.hasher, Location::new(6)..Location::new(8)));
+    let is_part = part.verify_range_inclusion(&log.hasher, &LATER[1..], Location::new(6), root)?;
+    println!(rt; "the store's proof of entries 6 and 7 is accepted: {is_part}")?;
+    Ok(())
+}
+
+/// The log forgets entries. Its root stays, and they have no proofs any more.
+fn show_pruning(rt: &impl Print, log: &mut Log, root: &Sha256Digest) -> Result<(), LogError> {
+    granted!(log.tree.prune(Location::new(4)));
+    let is_same = granted!(log.tree.root(&log.hasher, 0)) == *root;
+    println!(rt; "the root stays after pruning: {is_same}")?;
+    if let Err(error) = log.tree.proof(&log.hasher, Location::new(2), 0) {
+        println!(rt; "entry 2: {}", LogError::from(&error))?;
+    }
+    Ok(())
+}
+
+fn run(rt: &impl Print, alloc: Global) -> Result<(), LogError> {
+    let mut log = Log::new(alloc);
+    let old = log.append(&FIRST)?;
+    println!(rt; "root of 5 entries: {}", encode(alloc, old.as_bytes())?)?;
+    show_entry(rt, &log, &old)?;
+
+    let root = log.append(&LATER)?;
+    println!(rt; "root of 8 entries: {}", encode(alloc, root.as_bytes())?)?;
+    show_growth(rt, &log, &old, &root)?;
+    show_store(rt, &log, &root)?;
+    show_pruning(rt, &mut log, &root)
+}
+
+fn main(rt: HostRuntime) -> ExitCode {
+    match run(&rt, rt.alloc()) {
+        Ok(()) => ExitCode::SUCCESS,
+        Err(error) => {
+            let _ = rt.eprintln(error);
+            ExitCode::FAILURE
+        }
+    }
+}

@@ -1,0 +1,20 @@
+use Rattle.std.proofs.Common.{IsTrue}
+use Rattle.std.proofs.lemmas.Result.{IfOk-weaker}
+use Rattle.example_proved.proofs.Entries.{accepted, granted}
+use Rattle.example_proved.proofs.Client.accept.Goals as goal
+
+pub returns-clause-sound : goal.returns-clause-sound
+returns-clause-sound g c =
+    let s = g.H.Hasher.scheme c.args.hasher.now in
+    let p = c.args.proof.now in
+    IfOk-weaker c.verify_element_inclusion.result _ _
+    (λ yes known is_yes. accepted s c.args.self.now.root p.leaves p.inactive_peaks p.digests.items c.args.location c.args.entry.now (known is_yes))
+    c.verify_element_inclusion.ensures.sound
+
+pub returns-clause-honest : goal.returns-clause-honest
+returns-clause-honest g c =
+    let s = g.H.Hasher.scheme c.args.hasher.now in
+    let p = c.args.proof.now in
+    IfOk-weaker c.verify_element_inclusion.result _ _
+    (λ yes known. granted s c.args.self.now.root p.leaves p.inactive_peaks p.digests.items c.args.location c.args.entry.now (IsTrue yes) known)
+    c.verify_element_inclusion.ensures.honest

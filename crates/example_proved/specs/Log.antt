@@ -1,0 +1,54 @@
+-- Logs: lists of entries, and what a client that trusts a root knows of them.
+use Rattle.std.specs.Prelude.{◌≡◌, ◌≢◌, ℕ, ◌+◌, ◌≤◌, ◌⊎◌, List, length, take, Some, slice_get}
+use Rattle.merkle_base.specs.Forest.{size}
+use Rattle.merkle_base.specs.Places.{peaks_of}
+use Rattle.merkle_base.specs.Root.{list_root, peaks_root}
+use Rattle.merkle_base.specs.Scheme.{Scheme}
+use Rattle.merkle_range.specs.Input.{leaf_digests}
+use Rattle.merkle_root_theory.specs.Check.{RangeInput}
+use Rattle.merkle_root_theory.specs.Range.{range_digests, RangeCollides}
+
+-- the leaf digests of a log's entries
+abbrev pub leaves_of : {D : Type 0} → Scheme D → List (List ℕ) → List D
+leaves_of s entries = leaf_digests s.hashing s.rule 0 entries
+
+-- a log with this root, for a number of inactive peaks
+pub record IsLogOf {D : Type 0} (s : Scheme D) (root : D) (entries : List (List ℕ)) (inactive : ℕ) : Type 0 where
+  pub bounded : length entries ≤ s.max_leaves
+  pub peaks : inactive ≤ length (peaks_of s.rule (length entries))
+  pub root_is : list_root s (leaves_of s entries) inactive ≡ root
+
+-- P of each log with this root
+abbrev pub ForLogOf : {D : Type 0} → Scheme D → D → (List (List ℕ) → ℕ → Type 0) → Type 0
+ForLogOf s root P = (entries : List (List ℕ)) (inactive : ℕ) → IsLogOf s root entries inactive → P entries inactive
+
+-- the log has the entry at the location
+abbrev pub HasEntry : List (List ℕ) → ℕ → List ℕ → Type 0
+HasEntry entries location entry = slice_get entries location ≡ Some entry
+
+-- the log has another entry there, with the leaf digest of this one
+pub record HasTwin {D : Type 0} (s : Scheme D) (entries : List (List ℕ)) (location : ℕ) (entry : List ℕ) : Type 0 where
+  pub other : List ℕ
+  pub there : HasEntry entries location other
+  pub differ : other ≢ entry
+  pub one_digest : s.hashing.leaf (size s.rule location) other ≡ s.hashing.leaf (size s.rule location) entry
+
+-- two different inputs have one digest at one place: the entry and the log's own, or what the check and the log hash above
+abbrev pub EntryCollides : {D : Type 0} → Scheme D → RangeInput D → List ℕ → List (List ℕ) → ℕ → Type 0
+EntryCollides s r entry entries inactive = HasTwin s entries r.start entry ⊎ RangeCollides s r (leaves_of s entries) inactive
+
+-- a proof has the log's leaf count and inactive count, and the digests that the log has at what an entry doesn't tell
+pub record IsHonestFor {D : Type 0} (s : Scheme D) (r : RangeInput D) (entries : List (List ℕ)) (inactive : ℕ) : Type 0 where
+  pub leaves : r.leaves ≡ length entries
+  pub inactive_peaks : r.inactive ≡ inactive
+  pub digests : r.digests ≡ range_digests s (leaves_of s entries) inactive r.start (r.start + 1)
+
+-- the digests of the peaks over the first so many entries give this root
+pub record GivesRoot {D : Type 0} (s : Scheme D) (root : D) (leaves inactive : ℕ) (peaks : List D) : Type 0 where
+  pub enough : inactive ≤ length peaks
+  pub root_is : peaks_root s leaves inactive inactive peaks ≡ root
+
+-- the log begins with so many entries that have the old root, and the added ones, or twins of them, follow
+pub record Extends {D : Type 0} (s : Scheme D) (old_root : D) (leaves inactive : ℕ) (added entries : List (List ℕ)) : Type 0 where
+  pub before : IsLogOf s old_root (take leaves entries) inactive
+  pub after : (i : ℕ) (entry : List ℕ) → HasEntry added i entry → HasEntry entries (leaves + i) entry ⊎ HasTwin s entries (leaves + i) entry
