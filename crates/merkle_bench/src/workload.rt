@@ -1,5 +1,7 @@
 //! How much is measured, and on which elements.
 
+use rand_core::{Rng, SeedableRng};
+use rand_xoshiro::SplitMix64;
 use std::alloc::{AllocError, Global};
 
 /// The greatest number of leaves that is measured.
@@ -44,12 +46,9 @@ impl Workload {
         if bound == 0 {
             return Ok(numbers);
         }
-        let mut state: u64 = 0;
+        let mut generator = SplitMix64::seed_from_u64(0);
         for _ in 0..self.leaves.min(1000) {
-            // as SplitMix64 does, with one of its two mixing steps
-            state = state.wrapping_add(0x9E37_79B9_7F4A_7C15);
-            let number = (state ^ (state >> 29)).wrapping_mul(0xBF58_476D_1CE4_E5B9) >> 16;
-            numbers.push(number % bound)?;
+            numbers.push(generator.next_u64() % bound)?;
         }
         Ok(numbers)
     }
