@@ -94,8 +94,8 @@ is_honest s entries k leaves inactive digests i entry there honest =
     })
 
 -- an honest proof is accepted
-pub granted : {D : Type 0} (s : Scheme D) (root : D) (leaves inactive : ℕ) (digests : List D) (i : ℕ) (entry : List ℕ) (P : Type 0)
+pub honest_accepted : {D : Type 0} (s : Scheme D) (root : D) (leaves inactive : ℕ) (digests : List D) (i : ℕ) (entry : List ℕ) (P : Type 0)
     → ForRootOf s root (λ xs k. IsHonestRange s xs k (range_input s leaves inactive digests i (entry ∷ [])) → P)
     → ForLogOf s root (λ entries k. HasEntry entries i entry → IsHonestFor s (range_input s leaves inactive digests i (entry ∷ [])) entries k → P)
-granted s root leaves inactive digests i entry P known = λ entries k log there honest.
+honest_accepted s root leaves inactive digests i entry P known = λ entries k log there honest.
     of_logs s root _ known entries k log (is_honest s entries k leaves inactive digests i entry there honest)

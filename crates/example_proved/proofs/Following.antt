@@ -62,6 +62,7 @@ extends s old n j pins added entries k leaves inactive digests bounded given giv
     let within = honest.0.within in
     let pinned : length pins ≡ length (peaks_of s.rule n) = ap length honest.1 ∙ length-map (peaks_of s.rule n) _ in
     record {
+      long = omega (arith, counted, within);
       before = before s old n j pins entries bounded (omega (arith, counted, within)) (omega (arith, pinned, given.enough)) given gives;
       after = λ i entry there. entry_or_twin s entries (n + i) entry
           (range_there (leaves_of s entries) (leaf_digests s.hashing s.rule n added) n honest.0.elements i _ (digest_of_entry s.hashing s.rule n added i entry there));
@@ -71,6 +72,7 @@ extends s old n j pins added entries k leaves inactive digests bounded given giv
     let unpinned : length pins ≡ 0 = ap length honest.0.1 in
     let unadded : length added ≡ 0 = sym (length-leaf_digests s.hashing s.rule n added) ∙ ap length none.elements in
     record {
+      long = omega (arith, none.start);
       before = before s old n j pins entries bounded (omega (arith, none.start)) (omega (arith, unpinned, given.enough)) given gives;
       after = λ i entry there. absurd (omega (arith, unadded, slice_get_within added i entry there));
     }

@@ -50,5 +50,6 @@ pub record GivesRoot {D : Type 0} (s : Scheme D) (root : D) (leaves inactive : �
 
 -- the log begins with so many entries that have the old root, and the added ones, or twins of them, follow
 pub record Extends {D : Type 0} (s : Scheme D) (old_root : D) (leaves inactive : ℕ) (added entries : List (List ℕ)) : Type 0 where
+  pub long : leaves ≤ length entries
   pub before : IsLogOf s old_root (take leaves entries) inactive
   pub after : (i : ℕ) (entry : List ℕ) → HasEntry added i entry → HasEntry entries (leaves + i) entry ⊎ HasTwin s entries (leaves + i) entry

@@ -23,23 +23,35 @@ pub use merkle_hasher::{hasher, path, read};
 pub use merkle_proof::{element_plan, proof, range_plan};
 pub use merkle_verification::verification;
 
-/// The value of a result; without one, the function returns the error that `From` makes of a reference to the result's.
+/// The value of a result; without one, the function returns what `From` makes of a reference to the error.
 ///
-/// It stands for `?` after the calls whose error is [`Error`](error::Error). `?` passes the error on by value, and the
-/// check has no rule for a call that takes an `Error` so, since one of its variants holds a text of the program. A caller
-/// writes `impl From<&Error<F>> for` its own error. After all other calls `?` serves, also after its own functions, if its
-/// error holds no `Error`.
+/// It stands for `?` after the calls that return an [`Error`](error::Error). `?` and `map_err` pass the error on by value, and
+/// the check has no rule for that where the error holds a `&'static str`, as one variant of `Error` does. A caller writes
+/// `impl From<&Error<F>>` for an error of its own. After other calls, and after its own functions if their error holds no
+/// `Error`, `?` serves.
 ///
 /// # Examples
 ///
 /// ```
 /// use merkle_core::digest::{Sha256Digest, Sha256Plain};
+/// use merkle_core::error::Error;
 /// use merkle_core::granted;
-/// use merkle_core::mmr::{Mmr, StandardHasher};
+/// use merkle_core::mmr::{Family, Mmr, StandardHasher};
 ///
-/// fn root(log: &Mmr<Sha256Digest>) -> Result<Sha256Digest, LogError> {
-///     let hasher: StandardHasher<Sha256Plain> = StandardHasher::new(Bagging::ForwardFold);
-///     Ok(granted!(log.root(&hasher, 0)))
+/// #[derive(Debug, Drop)]
+/// struct Refused;
+///
+/// impl From<&Error<Family>> for Refused {
+///     fn from(_: &Error<Family>) -> Self {
+///         Refused
+///     }
+/// }
+///
+/// fn root_of(
+///     log: &Mmr<Sha256Digest>,
+///     hasher: &StandardHasher<Sha256Plain>,
+/// ) -> Result<Sha256Digest, Refused> {
+///     Ok(granted!(log.root(hasher, 0)))
 /// }
 /// ```
 #[macro_export]

@@ -1,6 +1,6 @@
 use Rattle.std.proofs.Common.{IsTrue}
 use Rattle.std.proofs.lemmas.Result.{IfOk-weaker}
-use Rattle.example_proved.proofs.Entries.{accepted, granted}
+use Rattle.example_proved.proofs.Entries.{accepted, honest_accepted}
 use Rattle.example_proved.proofs.Client.accept.Goals as goal
 
 pub returns-clause-sound : goal.returns-clause-sound
@@ -16,5 +16,5 @@ returns-clause-honest g c =
     let s = g.H.Hasher.scheme c.args.hasher.now in
     let p = c.args.proof.now in
     IfOk-weaker c.verify_element_inclusion.result _ _
-    (λ yes known. granted s c.args.self.now.root p.leaves p.inactive_peaks p.digests.items c.args.location c.args.entry.now (IsTrue yes) known)
+    (λ yes known. honest_accepted s c.args.self.now.root p.leaves p.inactive_peaks p.digests.items c.args.location c.args.entry.now (IsTrue yes) known)
     c.verify_element_inclusion.ensures.honest
