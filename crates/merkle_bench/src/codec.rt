@@ -27,7 +27,7 @@ pub fn measure_codec<F: Family, H: PlainHasher, C: CpuClock>(
     watch.note(tree, "write of a proof of one", units, start);
     let bytes = write_all(alloc, &proofs)?;
     let start = watch.now();
-    read_all::<F, H::Digest, C>(alloc, watch, &bytes)?;
+    read_all::<F, H::Digest, C>(alloc, watch, &bytes, units)?;
     watch.note(tree, "read of a proof of one", units, start);
     Ok(())
 }
@@ -70,14 +70,15 @@ fn write_all<F: Family, D: Digest>(alloc: Global, proofs: &[Proof<F, D>]) -> Res
     Ok(out)
 }
 
-// Reads the proofs that the bytes are, and lets them go.
+// Reads the `count` proofs that the bytes are, and drops them.
 fn read_all<F: Family, D: Digest, C: CpuClock>(
     alloc: Global,
     watch: &mut Stopwatch<C>,
     bytes: &[u8],
+    count: u64,
 ) -> Result<(), Halt> {
     let mut rest = bytes;
-    while !rest.is_empty() {
+    for _ in 0..count {
         let read: Result<Proof<F, D>, _> = Proof::read(
             alloc,
             &mut rest,
