@@ -20,13 +20,17 @@ trait Counted: Family {
 }
 
 impl Counted for mmr::Family {
-    fn find(position: mmr::Position, work: &mut Work) -> Option<mmr::Location> {
+    fn find(position: mmr::Position, work: &mut Work) -> Option<mmr::Location>
+        requires { position ≤ 9223372036854775807 }
+    {
         mmr::position_to_location_counted(position, work)
     }
 }
 
 impl Counted for mmb::Family {
-    fn find(position: mmb::Position, work: &mut Work) -> Option<mmb::Location> {
+    fn find(position: mmb::Position, work: &mut Work) -> Option<mmb::Location>
+        requires { position ≤ 9223372036854775806 }
+    {
         mmb::position_to_location_counted(position, work)
     }
 }
