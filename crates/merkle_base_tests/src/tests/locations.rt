@@ -16,7 +16,7 @@ const LATE_LEAF: u64 = 4611686018427387834;
 /// A family whose look-up of a position is counted.
 trait Counted: Family {
     fn find(position: Position<Self>, work: &mut Work) -> Option<Location<Self>>
-        requires { position ≤ MAX_NODES };
+        requires { position ≤ Self.MAX_NODES };
 }
 
 impl Counted for mmr::Family {
