@@ -32,7 +32,7 @@ impl Work {
         }
     }
 
-    /// The number of digests of merged nodes that the last counted merkleization computed.
+    /// The number of digests of merged nodes that were computed. No call of this library sets it yet.
     pub fn node_digests(&self) -> u64
         ensures { result ≡ self.now.node_digests }
     {
