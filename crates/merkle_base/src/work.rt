@@ -32,7 +32,8 @@ impl Work {
         }
     }
 
-    /// The number of digests of merged nodes that were computed. No call of this library sets it yet.
+    /// The number of digests of merged nodes that were computed. `merkleize_counted` of a batch sets
+    /// it.
     pub fn node_digests(&self) -> u64
         ensures { result ≡ self.now.node_digests }
     {

@@ -1,4 +1,3 @@
-pub mod OldNodes
 pub mod MissingNodes
 pub mod NewDigests
 pub mod Merkleizing

@@ -14,19 +14,18 @@ use Rattle.merkle_base.proofs.Nodes.{size_inj}
 use Rattle.merkle_base.specs.Digests.{node_digests, peak_digests}
 use Rattle.merkle_base.specs.Places.{peak_positions, peaks_of}
 use Rattle.merkle_batch_theory.specs.Contents.{Contents, AgreesWithOne}
-use Rattle.merkle_draft.specs.Drafts.{AreChildrenRead, LacksChild}
 use Rattle.merkle_batch.specs.Finished.{finished}
-use Rattle.merkle_draft.specs.DraftReads.{ArePeaksRead, below, DraftModel, IsPeakGap, old_node, OnlyAppends, OnlyOverwrites}
+use Rattle.merkle_draft.specs.DraftReads.{ArePeaksRead, below, DraftModel, IsPeakGap, old_node, stored_node}
+use Rattle.merkle_draft.specs.NewDigests.{AreNewDigests, LacksNeeded}
 use Rattle.merkle_batch_theory.specs.Missing.{IsMissing}
 use Rattle.merkle_batch_theory.specs.Needed.{IsChanged}
 use Rattle.merkle_batch_theory.specs.Unmerkleized.{IsUnmerkleizedValid, UnmerkleizedModel, kept, kept_lists, leaf_total, pending_list}
 use Rattle.merkle_batch_theory.specs.Read.{read_over}
 use Rattle.merkle_batch_theory.specs.BatchValid.{IsBatchValid, RunsFrom}
-use Rattle.merkle_batch_theory.specs.Records.{MerkleizedModel, after, records}
-use Rattle.merkle_draft.specs.DirtyDigests.{all_computed_at, HaveDirtyDigests, LacksForOne}
+use Rattle.merkle_batch_theory.specs.Records.{MerkleizedModel, RecordModel, records}
 use Rattle.merkle_batch_theory.specs.Replay.{oldest, overwritten_by}
 use Rattle.merkle_batch_theory.specs.History.{last_list, replaced, IsHistory}
-use Rattle.merkle_batch_theory.specs.Assignment.{IsAssignment, HasLeaves, ReadsAgree, digests_from}
+use Rattle.merkle_batch_theory.specs.Assignment.{ReadsAgree, digests_from}
 use Rattle.merkle_draft.specs.declared.node_error.NodeError.{NodeError}
 use Rattle.merkle_draft.specs.declared.node_error.NodeError.TheVariants.{Missing, OutOfMemory}
 use Rattle.merkle_base.specs.declared.error.Error.TheVariants as error
@@ -34,10 +33,10 @@ use Rattle.merkle_draft.specs.NodeErrors.{error_of}
 use Rattle.merkle_batch_theory.proofs.Edits.{same_gets, replaced_get}
 use Rattle.merkle_batch_theory.proofs.Forking.{kept_runs, last_size}
 use Rattle.merkle_batch_theory.proofs.Stored.{find_lookup}
-use Rattle.merkle_batch_theory.proofs.ListAssignments.{appended_whole, peaks_whole, truth_is, truth_of}
-use Rattle.merkle_batch.proofs.Merkleizing.{list_length, list_leaves, list_reads, list_stands, list_within}
-use Rattle.merkle_batch.proofs.MissingNodes.{append_gap, needed_read, NeededGap, peak_gap, refresh_gap}
-use Rattle.merkle_batch.proofs.NewDigests.{new_digest, new_digest_some}
+use Rattle.merkle_batch_theory.proofs.ListAssignments.{appended_whole, peaks_whole, truth_of}
+use Rattle.merkle_batch.proofs.Merkleizing.{list_appended, list_length, list_reads, list_stands, list_within}
+use Rattle.merkle_batch.proofs.MissingNodes.{needed_read, peak_gap}
+use Rattle.merkle_batch.proofs.PeakCounts.{as_many}
 use Rattle.merkle_batch_theory.proofs.OptionFacts.{over_none}
 
 -- it names a node that keeps the batch from being merkleized
@@ -50,112 +49,148 @@ unchanged_list rule p X none same =
     ap (λ ds. replaced rule (get p.overwritten) 0 X ++ ds) none ∙ append-nil (replaced rule (get p.overwritten) 0 X)
     ∙ same_gets (replaced rule (get p.overwritten) 0 X) X (λ k. replaced_get rule (get p.overwritten) 0 X k ∙ ap (λ o. overwritten_by o (slice_get X k)) (same (size rule (0 + k))) ∙ over_none (slice_get X k))
 
-module _ {D : Type 0} (rule : List ℕ → List ℕ) (p : UnmerkleizedModel D) (base : Contents D) where
-  total_more : p.leaves_before ≤ leaf_total p
-  total_more = omega arith
+-- a draft of the batch, without nodes of its own
+pub record IsDraft {D : Type 0} (rule : List ℕ → List ℕ) (max_leaves : ℕ) (p : UnmerkleizedModel D) (d : DraftModel D) : Type 0 where
+  pub valid : IsUnmerkleizedValid rule max_leaves p
+  pub records : d.kept ≡ kept p
+  pub sized : d.before ≡ size rule p.leaves_before
 
-  named : {F : Type 0} (g : NodeError F) → NeededGap rule p.leaves_before (leaf_total p) (get p.overwritten) (read_over (kept p) base) g → NamesMissing rule p base g
-  named g gap = (gap.0, gap.2, (gap.1, gap.3))
+-- and with them
+pub record IsFilled {D : Type 0} (h : Hashing D) (rule : List ℕ → List ℕ) (p : UnmerkleizedModel D) (base : Contents D) (d0 d1 : DraftModel D) : Type 0 where
+  pub only : (d1.before ≡ d0.before) × (d1.kept ≡ d0.kept)
+  pub counted : d1.before + length d1.appended ≡ size rule (leaf_total p)
+  pub stored : AreNewDigests h rule (get p.overwritten) (below d0 base) p.leaves_before p.added (stored_node d1)
+  pub old : (q : ℕ) → d0.before ≤ q → get d1.overwritten q ≡ None
 
-  -- a node that is read above changed leaves
-  pub refresh_missing : {F : Type 0} (d : DraftModel D) (g : NodeError F) → d.kept ≡ kept p → LacksForOne (get p.overwritten) (below d base) (peaks_of rule p.leaves_before) g → NamesMissing rule p base g
-  refresh_missing d g k lacks =
-      let same : below d base ≡ read_over (kept p) base = (λ i q. read_over (k i) base q) in
-      named g (refresh_gap rule p.leaves_before (leaf_total p) total_more (get p.overwritten) (read_over (kept p) base) g (subst (λ f. LacksForOne (get p.overwritten) f (peaks_of rule p.leaves_before) g) same lacks))
+-- the peaks of a batch: those of its parent where it has no changes, else those that are read
+abbrev pub ArePeaks : {D : Type 0} → (List ℕ → List ℕ) → UnmerkleizedModel D → Contents D → DraftModel D → (pb pa : List D) → Type 0
+ArePeaks {D} rule p base d pb pa =
+    ((p.added ≡ []) × ((q : ℕ) → get p.overwritten q ≡ None) × (pa ≡ pb))
+    ⊎ (ArePeaksRead rule (leaf_total p) d.before (old_node d base) × ((truth : ℕ → D) → ReadsAgree (old_node d base) d.before truth
+    → d.appended ≡ digests_from truth d.before (length d.appended) → pa ≡ map truth (peak_positions rule (leaf_total p))))
 
-module _ {D : Type 0} (h : Hashing D) (rule : List ℕ → List ℕ) (max_leaves : ℕ) (p : UnmerkleizedModel D) (pending : IsUnmerkleizedValid rule max_leaves p) (base : Contents D) (d0 d1 d2 : DraftModel D)
-    (k0 : d0.kept ≡ kept p) (b0 : d0.before ≡ size rule p.leaves_before) (only : OnlyOverwrites d0 d1) (more : OnlyAppends d1 d2)
-    (computed : (q : ℕ) → get d1.overwritten q ≡ option_or (all_computed_at h (get p.overwritten) (below d0 base) (peaks_of rule p.leaves_before) q) (get p.overwritten q))
-    (refreshed : HaveDirtyDigests h (get p.overwritten) (below d0 base) (peaks_of rule p.leaves_before)) where
-  below_is : below d0 base ≡ read_over (kept p) base
-  below_is = (λ i q. read_over (k0 i) base q)
+-- the nodes below a draft are those of the records that its batch keeps, and of the base
+below_is : {D : Type 0} (p : UnmerkleizedModel D) (d : DraftModel D) (base : Contents D) → d.kept ≡ kept p → below d base ≡ read_over (kept p) base
+below_is p d base k = (λ i q. read_over (k i) base q)
 
-  done : HaveDirtyDigests h (get p.overwritten) (read_over (kept p) base) (peaks_of rule p.leaves_before)
-  done = subst (λ f. HaveDirtyDigests h (get p.overwritten) f (peaks_of rule p.leaves_before)) below_is refreshed
+-- a needed node that is not below the draft
+pub needed_missing : {F D : Type 0} (rule : List ℕ → List ℕ) (p : UnmerkleizedModel D) (base : Contents D) (d : DraftModel D) (g : NodeError F)
+    → d.kept ≡ kept p → LacksNeeded rule (get p.overwritten) (below d base) p.leaves_before (leaf_total p) g → NamesMissing rule p base g
+needed_missing rule p base d g k lacks = (lacks.0, lacks.2.0, (lacks.1, ap (λ f. f (position lacks.0)) (sym (below_is p d base k)) ∙ lacks.2.1))
 
-  is : (q : ℕ) → get d1.overwritten q ≡ option_or (all_computed_at h (get p.overwritten) (read_over (kept p) base) (peaks_of rule p.leaves_before) q) (get p.overwritten q)
-  is q = computed q ∙ ap (λ f. option_or (all_computed_at h (get p.overwritten) f (peaks_of rule p.leaves_before) q) (get p.overwritten q)) below_is
+module _ {D : Type 0} (rule : List ℕ → List ℕ) (max_leaves : ℕ) (p : UnmerkleizedModel D) where
+  pub changed_by_leaves : 0 < length p.added → IsChanged rule (get p.overwritten) p.leaves_before (leaf_total p)
+  changed_by_leaves l = inl (omega (arith, l))
+
+  pub changed_by_updates : IsUnmerkleizedValid rule max_leaves p → (q : ℕ) × (is_some (get p.overwritten q) ≡ true)
+      → IsChanged rule (get p.overwritten) p.leaves_before (leaf_total p)
+  changed_by_updates pending w = (let k = pending.leaves w.0 w.1 in inr (k.0, k.1, subst (λ q. is_some (get p.overwritten q) ≡ true) k.2 w.1))
+
+  not_changed : p.added ≡ [] → ((q : ℕ) → get p.overwritten q ≡ None) → IsChanged rule (get p.overwritten) p.leaves_before (leaf_total p) → ⊥
+  not_changed none same changed = elim changed [
+    | inl l ↦ absurd (omega (arith, l, ap length none))
+    | inr k ↦ (let f : is_some {T = D} None ≡ true = ap is_some (sym (same (size rule k.0))) ∙ k.2 in absurd (cc))
+  ]
+
+  -- a batch without changes has as many peaks as its parent
+  same_peaks : (pa : List D) → IsUnmerkleizedValid rule max_leaves p → IsBatchValid rule max_leaves p.parent → p.added ≡ []
+      → pa ≡ p.parent.own.peaks_after → length pa ≡ length (peaks_of rule (leaf_total p))
+  same_peaks pa pending linked none same =
+      let here : p.leaves_before ≡ p.parent.leaves = size_inj rule p.leaves_before p.parent.leaves (pending.sized ∙ sym linked.counted.sized) in
+      ap length same ∙ linked.peaks ∙ ap (λ (n : ℕ). length (peaks_of rule n)) (omega (arith, here, ap length none))
+
+module _ {D : Type 0} (h : Hashing D) (rule : List ℕ → List ℕ) (max_leaves : ℕ) (p : UnmerkleizedModel D) (base : Contents D) (d0 d1 : DraftModel D)
+    (drafted : IsDraft rule max_leaves p d0) (filled : IsFilled h rule p base d0 d1) where
+  are : AreNewDigests h rule (get p.overwritten) (read_over (kept p) base) p.leaves_before p.added (stored_node d1)
+  are = subst (λ f. AreNewDigests h rule (get p.overwritten) f p.leaves_before p.added (stored_node d1)) (below_is p d0 base drafted.records) filled.stored
 
   abbrev read : ℕ → Option D
   read q = option_or (get d1.overwritten q) (read_over (kept p) base q)
 
+  kept_are : d1.kept ≡ kept p
+  kept_are = filled.only.1 ∙ drafted.records
+
   reads_are : old_node d1 base ≡ read
-  reads_are = (λ i q. option_or (get d1.overwritten q) (read_over ((only.1 ∙ k0) i) base q))
+  reads_are = (λ i q. option_or (get d1.overwritten q) (read_over (kept_are i) base q))
 
-  later_reads : old_node d2 base ≡ read
-  later_reads = (λ i q. option_or (get (more.2 i) q) (read_over ((more.1 ∙ only.1 ∙ k0) i) base q))
-
-  b1 : d1.before ≡ size rule p.leaves_before
-  b1 = only.0 ∙ b0
-
-  b2 : d2.before ≡ size rule p.leaves_before
-  b2 = more.0 ∙ b1
-
-  -- a node that is read for new ones
-  pub append_missing : {F : Type 0} (g : NodeError F) → LacksChild rule max_leaves d1.before (size rule (leaf_total p)) d1.before (old_node d1 base) g → NamesMissing rule p base g
-  append_missing g lacks =
-      named rule p base g (append_gap h rule p.leaves_before (leaf_total p) (total_more rule p base) (get p.overwritten) (read_over (kept p) base) (get d1.overwritten)
-      (new_digest h rule p.leaves_before (get p.overwritten) (read_over (kept p) base) (get d1.overwritten) pending.leaves done is)
-      (new_digest_some h rule p.leaves_before (get p.overwritten) (read_over (kept p) base) (get d1.overwritten) pending.leaves done is) max_leaves g
-      (subst (λ f. LacksChild rule max_leaves (size rule p.leaves_before) (size rule (leaf_total p)) (size rule p.leaves_before) f g) reads_are
-      (subst (λ (b : ℕ). LacksChild rule max_leaves b (size rule (leaf_total p)) b (old_node d1 base) g) b1 lacks)))
+  sized : d1.before ≡ size rule p.leaves_before
+  sized = filled.only.0 ∙ drafted.sized
 
   -- a peak that is read
-  pub peak_missing : {F : Type 0} (g : NodeError F) → IsChanged rule (get p.overwritten) p.leaves_before (leaf_total p) → IsPeakGap rule (leaf_total p) d2.before (old_node d2 base) g → NamesMissing rule p base g
+  pub peak_missing : {F : Type 0} (g : NodeError F) → IsChanged rule (get p.overwritten) p.leaves_before (leaf_total p)
+      → IsPeakGap rule (leaf_total p) d1.before (old_node d1 base) g → NamesMissing rule p base g
   peak_missing g changed gap =
-      named rule p base g (peak_gap h rule p.leaves_before (leaf_total p) (total_more rule p base) (get p.overwritten) (read_over (kept p) base) (get d1.overwritten)
-      (new_digest h rule p.leaves_before (get p.overwritten) (read_over (kept p) base) (get d1.overwritten) pending.leaves done is)
-      (new_digest_some h rule p.leaves_before (get p.overwritten) (read_over (kept p) base) (get d1.overwritten) pending.leaves done is) changed g
-      (subst (λ f. IsPeakGap rule (leaf_total p) (size rule p.leaves_before) f g) later_reads (subst (λ (b : ℕ). IsPeakGap rule (leaf_total p) b (old_node d2 base) g) b2 gap)))
+      (let lacks = peak_gap h rule (get p.overwritten) (read_over (kept p) base) p.leaves_before p.added d1 sized are changed g
+      (subst (λ f. IsPeakGap rule (leaf_total p) (size rule p.leaves_before) f g) reads_are
+      (subst (λ (b : ℕ). IsPeakGap rule (leaf_total p) b (old_node d1 base) g) sized gap)) in
+      (lacks.0, lacks.2.0, (lacks.1, lacks.2.1)))
 
-  -- no node is missing
-  pub none_is_missing : AreChildrenRead rule max_leaves d1.before (size rule (leaf_total p)) d1.before (old_node d1 base) → (IsChanged rule (get p.overwritten) p.leaves_before (leaf_total p) → ArePeaksRead rule (leaf_total p) d2.before (old_node d2 base)) →
-      (t : Tree) → IsMissing rule p base t → ⊥
-  none_is_missing children peaks t missing =
-      let there : is_some (read_over (kept p) base (position t)) ≡ true =
-      needed_read h rule p.leaves_before (leaf_total p) (total_more rule p base) (get p.overwritten) (read_over (kept p) base) (get d1.overwritten)
-      (new_digest h rule p.leaves_before (get p.overwritten) (read_over (kept p) base) (get d1.overwritten) pending.leaves done is)
-      (new_digest_some h rule p.leaves_before (get p.overwritten) (read_over (kept p) base) (get d1.overwritten) pending.leaves done is) max_leaves pending.bounded done
-      (subst (λ f. AreChildrenRead rule max_leaves (size rule p.leaves_before) (size rule (leaf_total p)) (size rule p.leaves_before) f) reads_are
-      (subst (λ (b : ℕ). AreChildrenRead rule max_leaves b (size rule (leaf_total p)) b (old_node d1 base)) b1 children))
-      (λ changed. subst (λ f. ArePeaksRead rule (leaf_total p) (size rule p.leaves_before) f) later_reads (subst (λ (b : ℕ). ArePeaksRead rule (leaf_total p) b (old_node d2 base)) b2 (peaks changed)))
-      t missing.0 in
-      let none : is_some (read_over (kept p) base (position t)) ≡ is_some {T = D} None = ap is_some missing.1 in absurd (cc)
+  module _ (pb pa : List D) (peaks : ArePeaks rule p base d1 pb pa) where
+    -- no node is missing
+    pub none_is_missing : (t : Tree) → IsMissing rule p base t → ⊥
+    none_is_missing t missing =
+        let there : is_some (read_over (kept p) base (position t)) ≡ true =
+        needed_read h rule (get p.overwritten) (read_over (kept p) base) p.leaves_before p.added d1 sized are
+        (λ changed. elim peaks [
+          | inl w ↦ absurd (not_changed rule max_leaves p w.0 w.1 changed)
+          | inr w ↦ subst (λ f. ArePeaksRead rule (leaf_total p) (size rule p.leaves_before) f) reads_are
+              (subst (λ (b : ℕ). ArePeaksRead rule (leaf_total p) b (old_node d1 base)) sized w.0)
+        ])
+        t missing.0 in
+        let none : is_some (read_over (kept p) base (position t)) ≡ is_some {T = D} None = ap is_some missing.1 in absurd (cc)
 
-  -- the batch stands on lists
-  pub batch_stands : (ls : List (List D)) → IsHistory h rule (records p.parent) ls → AgreesWithOne h rule base (kept_lists p ls) → d2.before + length d2.appended ≡ size rule (leaf_total p) →
-      ((truth : ℕ → D) → IsAssignment h rule max_leaves truth → ReadsAgree (old_node d1 base) d1.before truth → HasLeaves truth rule p.leaves_before p.added → d2.appended ≡ digests_from truth d1.before (length d2.appended)) →
-      (leaves : ℕ) (pb pa : List D) → pb ≡ p.parent.own.peaks_after →
-      ((p.added ≡ []) × ((q : ℕ) → get p.overwritten q ≡ None) × (pa ≡ pb)) ⊎ ((truth : ℕ → D) → ReadsAgree (old_node d2 base) d2.before truth → d2.appended ≡ digests_from truth d2.before (length d2.appended) → pa ≡ map truth (peak_positions rule (leaf_total p))) →
-      IsHistory h rule (records (finished p.parent d2 leaves pb pa)) (kept_lists p ls ++ pending_list rule p (last_list ls) ∷ [])
-  batch_stands ls stands agrees counted right leaves pb pa before after =
-      let list : List D = pending_list rule p (last_list ls) in
-      let long = list_within h rule max_leaves p pending ls stands in
-      let truth = truth_of h rule max_leaves list in
-      let true : ReadsAgree read (size rule p.leaves_before) truth = list_reads h rule max_leaves p pending ls stands base agrees d1.overwritten done is in
-      let total : leaf_total p ≡ length list = sym (list_length h rule max_leaves p pending ls stands) in
-      let made : d2.appended ≡ digests_from truth d1.before (length d2.appended) =
-      right truth (truth_is h rule max_leaves list long) (subst (λ f. ReadsAgree f d1.before truth) (sym reads_are) (subst (λ (b : ℕ). ReadsAgree read b truth) (sym b1) true)) (list_leaves h rule max_leaves p pending ls stands) in
-      let end : size rule p.leaves_before + length d2.appended ≡ size rule (length list) = omega (arith, b2, counted, ap (size rule) total) in
-      let appended : d2.appended ≡ drop (size rule p.leaves_before) (node_digests h rule list) =
-      appended_whole h rule max_leaves list long (size rule p.leaves_before) d2.appended end (made ∙ ap (λ (b : ℕ). digests_from truth b (length d2.appended)) b1) in
-      let peaks : pa ≡ peak_digests h rule list = elim after [
-        | inl w ↦ w.2 ∙ before ∙ (last_size h rule p.parent ls stands).1 ∙ ap (peak_digests h rule) (sym (unchanged_list rule p (last_list ls) w.0 w.1))
-        | inr f ↦ f truth (subst (λ r. ReadsAgree r d2.before truth) (sym later_reads) (subst (λ (b : ℕ). ReadsAgree read b truth) (sym b2) true)) (made ∙ ap (λ (b : ℕ). digests_from truth b (length d2.appended)) (sym more.0))
-            ∙ ap (λ (n : ℕ). map truth (peak_positions rule n)) total ∙ peaks_whole h rule max_leaves list long
-      ] in
-      subst (λ ks. IsHistory h rule (ks ++ (finished p.parent d2 leaves pb pa).own ∷ []) (kept_lists p ls ++ list ∷ [])) (sym (more.1 ∙ only.1 ∙ k0))
-      (list_stands h rule max_leaves p pending ls stands base agrees d1.overwritten done is (finished p.parent d2 leaves pb pa).own b2 more.2 appended before peaks)
+    module _ (before : pb ≡ p.parent.own.peaks_after) (leaves : ℕ) where
+      -- the batch that is made is linked
+      pub finished_linked : IsBatchValid rule max_leaves p.parent → leaves ≡ leaf_total p → IsBatchValid rule max_leaves (finished p.parent d1 leaves pb pa)
+      finished_linked linked total =
+          let own = (finished p.parent d1 leaves pb pa).own in
+          let with_ancestors : List (RecordModel D) → MerkleizedModel D =
+          (λ ks. record { base_size = p.parent.base_size; boundary = p.parent.boundary; ancestors = ks; own = own; leaves = leaves }) in
+          let many : length pa ≡ length (peaks_of rule (leaf_total p)) = elim peaks [
+            | inl w ↦ same_peaks rule max_leaves p pa drafted.valid linked w.0 (w.2 ∙ before)
+            | inr w ↦ as_many (old_node d1 base) d1.before d1.appended h.empty rule (leaf_total p) pa w.1
+          ] in record {
+            runs = subst (λ ks. RunsFrom (oldest (with_ancestors ks)).before (ks ++ own ∷ [])) (sym kept_are)
+                (kept_runs rule max_leaves p.parent.base_size p.parent.boundary leaves p own linked drafted.valid.some (sized ∙ drafted.valid.sized));
+            counted = record { bounded = omega (arith, total, drafted.valid.bounded); sized = ap (size rule) total ∙ sym filled.counted };
+            peaks = many ∙ ap (λ (n : ℕ). length (peaks_of rule n)) (sym total);
+          }
+
+      -- and it stands on lists
+      pub batch_stands : (ls : List (List D)) → IsHistory h rule (records p.parent) ls → AgreesWithOne h rule base (kept_lists p ls)
+          → IsHistory h rule (records (finished p.parent d1 leaves pb pa)) (kept_lists p ls ++ pending_list rule p (last_list ls) ∷ [])
+      batch_stands ls stands agrees =
+          let list : List D = pending_list rule p (last_list ls) in
+          let long = list_within h rule max_leaves p drafted.valid ls stands in
+          let truth = truth_of h rule max_leaves list in
+          let total : leaf_total p ≡ length list = sym (list_length h rule max_leaves p drafted.valid ls stands) in
+          let made : d1.appended ≡ digests_from truth d1.before (length d1.appended) =
+          list_appended h rule max_leaves p drafted.valid ls stands base agrees d1 sized are filled.counted in
+          let appended : d1.appended ≡ drop (size rule p.leaves_before) (node_digests h rule list) =
+          appended_whole h rule max_leaves list long d1.before d1.appended (filled.counted ∙ ap (size rule) total) made
+          ∙ ap (λ (b : ℕ). drop b (node_digests h rule list)) sized in
+          let reads : ReadsAgree (old_node d1 base) d1.before truth =
+          subst (λ f. ReadsAgree f d1.before truth) (sym reads_are) (subst (λ (b : ℕ). ReadsAgree read b truth) (sym sized)
+          (list_reads h rule max_leaves p drafted.valid ls stands base agrees d1 sized are)) in
+          let tops : pa ≡ peak_digests h rule list = elim peaks [
+            | inl w ↦ w.2 ∙ before ∙ (last_size h rule p.parent ls stands).1 ∙ ap (peak_digests h rule) (sym (unchanged_list rule p (last_list ls) w.0 w.1))
+            | inr w ↦ w.1 truth reads made ∙ ap (λ (n : ℕ). map truth (peak_positions rule n)) total ∙ peaks_whole h rule max_leaves list long
+          ] in
+          subst (λ ks. IsHistory h rule (ks ++ (finished p.parent d1 leaves pb pa).own ∷ []) (kept_lists p ls ++ list ∷ [])) (sym kept_are)
+          (list_stands h rule max_leaves p drafted.valid ls stands base agrees d1 sized are (finished p.parent d1 leaves pb pa).own sized refl
+          (λ q l. filled.old q (omega (arith, l, drafted.sized))) appended before tops)
 
 -- ---- why it fails
 -- the error names a missing node, or there is no memory
-pub named_refused : {F D : Type 0} (rule : List ℕ → List ℕ) (p : UnmerkleizedModel D) (base : Contents D) (gap : NodeError F) → (gap ≢ OutOfMemory → NamesMissing rule p base gap) →
-    (error_of gap ≡ error.OutOfMemory) ⊎ ((t : Tree) × (error_of gap ≡ error.MissingNode (position t)) × IsMissing rule p base t)
+pub named_refused : {F D : Type 0} (rule : List ℕ → List ℕ) (p : UnmerkleizedModel D) (base : Contents D) (gap : NodeError F)
+    → (gap ≢ OutOfMemory → NamesMissing rule p base gap)
+    → (error_of gap ≡ error.OutOfMemory) ⊎ ((t : Tree) × (error_of gap ≡ error.MissingNode (position t)) × IsMissing rule p base t)
 named_refused rule p base (Missing q) f = (let w = f (λ e. cc) in inr (w.0, ap error_of w.1, w.2))
 named_refused rule p base OutOfMemory f = inl refl
 
 -- and where none is missing there is no memory
-pub named_given : {F D : Type 0} (rule : List ℕ → List ℕ) (p : UnmerkleizedModel D) (base : Contents D) (gap : NodeError F) → (gap ≢ OutOfMemory → NamesMissing rule p base gap) → ((t : Tree) → IsMissing rule p base t → ⊥) → error_of gap ≡ error.OutOfMemory
+pub named_given : {F D : Type 0} (rule : List ℕ → List ℕ) (p : UnmerkleizedModel D) (base : Contents D) (gap : NodeError F)
+    → (gap ≢ OutOfMemory → NamesMissing rule p base gap) → ((t : Tree) → IsMissing rule p base t → ⊥) → error_of gap ≡ error.OutOfMemory
 named_given rule p base (Missing q) f none = (let w = f (λ e. cc) in absurd (none w.0 w.2))
 named_given rule p base OutOfMemory f none = refl
 
@@ -172,33 +207,3 @@ of_fields parent leaves_before added updates forgotten =
 pub is_positive : (n : ℕ) → n == 0 ≡ false → 0 < n
 is_positive zero e = absurd (cc)
 is_positive (suc n) e = omega arith
-
-module _ {D : Type 0} (rule : List ℕ → List ℕ) (max_leaves : ℕ) (p : UnmerkleizedModel D) where
-  pub changed_by_leaves : 0 < length p.added → IsChanged rule (get p.overwritten) p.leaves_before (leaf_total p)
-  changed_by_leaves l = inl (omega (arith, l))
-
-  pub changed_by_updates : IsUnmerkleizedValid rule max_leaves p → (q : ℕ) × (is_some (get p.overwritten q) ≡ true) → IsChanged rule (get p.overwritten) p.leaves_before (leaf_total p)
-  changed_by_updates pending w = (let k = pending.leaves w.0 w.1 in inr (k.0, k.1, subst (λ q. is_some (get p.overwritten q) ≡ true) k.2 w.1))
-
-  pub not_changed : p.added ≡ [] → ((q : ℕ) → get p.overwritten q ≡ None) → IsChanged rule (get p.overwritten) p.leaves_before (leaf_total p) → ⊥
-  not_changed none same changed = elim changed [
-    | inl l ↦ absurd (omega (arith, l, ap length none))
-    | inr k ↦ (let f : is_some {T = D} None ≡ true = ap is_some (sym (same (size rule k.0))) ∙ k.2 in absurd (cc))
-  ]
-
-  -- a batch without changes has as many peaks as its parent
-  pub same_peaks : (leaves : ℕ) (pa : List D) → IsUnmerkleizedValid rule max_leaves p → IsBatchValid rule max_leaves p.parent → p.added ≡ [] → leaves ≡ leaf_total p → pa ≡ p.parent.own.peaks_after → length pa ≡ length (peaks_of rule leaves)
-  same_peaks leaves pa pending linked none total same =
-      let here : p.leaves_before ≡ p.parent.leaves = size_inj rule p.leaves_before p.parent.leaves (pending.sized ∙ sym linked.counted.sized) in
-      ap length same ∙ linked.peaks ∙ ap (λ (n : ℕ). length (peaks_of rule n)) (omega (arith, here, total, ap length none))
-
-  -- the batch that is made is linked
-  pub finished_linked : (leaves : ℕ) (d : DraftModel D) (pb pa : List D) → IsBatchValid rule max_leaves p.parent → p.forgotten ≤ length p.parent.ancestors → d.kept ≡ kept p → d.before ≡ after p.parent.own → leaves ≤ max_leaves →
-      size rule leaves ≡ d.before + length d.appended → length pa ≡ length (peaks_of rule leaves) → IsBatchValid rule max_leaves (finished p.parent d leaves pb pa)
-  finished_linked leaves d pb pa linked some k b within counted many =
-      let own = (finished p.parent d leaves pb pa).own in record {
-        runs = subst (λ ks. RunsFrom (oldest (record { base_size = p.parent.base_size; boundary = p.parent.boundary; ancestors = ks; own = own; leaves = leaves })).before (ks ++ own ∷ [])) (sym k)
-            (kept_runs rule max_leaves p.parent.base_size p.parent.boundary leaves p own linked some b);
-        counted = record { bounded = within; sized = counted };
-        peaks = many;
-      }

@@ -1,16 +1,14 @@
 -- A batch over a base that agrees with one of its lists: what it makes stands on lists, and no needed node is missing.
-use Rattle.std.proofs.Common.{◌≡◌, ℕ, ◌<◌, ◌≤◌, List, [], ◌∷◌, ◌++◌, length, drop, Option, Some, None, true, false, cond, slice_get, arith, refl, sym, ap, ◌∙◌, subst}
-use Rattle.std.specs.Prelude.{is_some}
+use Rattle.std.proofs.Common.{◌≡◌, ℕ, ◌+◌, ◌<◌, ◌≤◌, List, [], ◌∷◌, ◌++◌, length, drop, Option, Some, None, true, false, slice_get, arith, refl, sym, ap, ◌∙◌, subst}
+use Rattle.std.specs.Prelude.{is_some, slice_index_or}
 use Rattle.std.specs.Option.{option_or}
-use Rattle.std.specs.Ordering.{nat_cmp}
-use Rattle.std.specs.FinMap.{FinMap, get}
+use Rattle.std.specs.FinMap.{get}
 use Rattle.std.proofs.lemmas.Option.{get_or_from_slice_get}
 use Rattle.std.proofs.lemmas.Bool.{or_parts}
 use Rattle.merkle_base.specs.Tree.{Tree, leaf, join, IsBuilt}
 use Rattle.merkle_base.specs.Forest.{forest, size}
 use Rattle.merkle_base.specs.Hashing.{Hashing}
 use Rattle.merkle_base.specs.Digests.{digest_at, node_digests, peak_digests}
-use Rattle.merkle_base.specs.Places.{peaks_of}
 use Rattle.merkle_base.proofs.Births.{leaf_at}
 use Rattle.merkle_base.proofs.Nodes.{node_built, size_inj}
 use Rattle.merkle_batch_theory.specs.Contents.{Contents, AgreesWithOne}
@@ -18,18 +16,18 @@ use Rattle.merkle_batch_theory.specs.Missing.{IsMissing}
 use Rattle.merkle_batch_theory.specs.Unmerkleized.{IsUnmerkleizedValid, UnmerkleizedModel, kept, kept_lists, leaf_total, pending_list}
 use Rattle.merkle_batch_theory.specs.Read.{read_over}
 use Rattle.merkle_batch_theory.specs.Records.{RecordModel, records}
-use Rattle.merkle_draft.specs.DirtyDigests.{HaveDirtyDigests, HasLeavesOf, all_computed_at, dirty_digest}
+use Rattle.merkle_draft.specs.DraftReads.{DraftModel, stored_node}
+use Rattle.merkle_draft.specs.NewDigests.{AreNewDigests}
 use Rattle.merkle_batch_theory.specs.Replay.{overwritten_by}
 use Rattle.merkle_batch_theory.specs.Needed.{IsNeeded}
-use Rattle.merkle_batch_theory.specs.History.{is_dirty, replaced, IsStep, IsHistory, last_list}
-use Rattle.merkle_batch_theory.specs.Assignment.{HasLeaves, ReadsAgree}
+use Rattle.merkle_batch_theory.specs.History.{is_dirty, IsStep, IsHistory, last_list}
+use Rattle.merkle_batch_theory.specs.Assignment.{ReadsAgree, digests_from}
 use Rattle.merkle_batch_theory.proofs.Complete.{none_missing}
 use Rattle.merkle_batch_theory.proofs.Forking.{kept_stands, last_size, stands_more}
-use Rattle.merkle_batch_theory.proofs.ListAssignments.{truth_of, truth_leaves}
-use Rattle.merkle_batch_theory.proofs.MerkleizeSteps.{changed, changed_length, changed_old, step_is}
-use Rattle.merkle_batch.proofs.NewDigests.{new_digest, new_digest_past, new_digest_some}
-use Rattle.merkle_batch.proofs.OldNodes.{old_digest, old_reads}
-use Rattle.merkle_batch_theory.proofs.Steps.{node_digest_at, replaced_length}
+use Rattle.merkle_batch_theory.proofs.ListAssignments.{truth_of}
+use Rattle.merkle_batch_theory.proofs.MerkleizeSteps.{changed, changed_length, changed_new, changed_old, step_is}
+use Rattle.merkle_batch.proofs.NewDigests.{appended_right, overwritten_right, reads_right}
+use Rattle.merkle_batch_theory.proofs.Steps.{node_digest_at}
 use Rattle.merkle_batch_theory.proofs.ReadThroughRecords.{read_right}
 use Rattle.merkle_batch_theory.proofs.OptionFacts.{none_of, over_none}
 use Rattle.merkle_base.proofs.Lists.{get_exists}
@@ -57,6 +55,10 @@ module _ {D : Type 0} (h : Hashing D) (rule : List ℕ → List ℕ) (m : ℕ �
       let x = get_exists X k l in
       sym (get_or_from_slice_get (changed h rule m X added) k d h.empty (changed_old h rule m X added k l ∙ ap (λ o. overwritten_by o (slice_get X k)) e ∙ over_new d (slice_get X k) x.0 x.1))
 
+  -- and an added one its own
+  pub added_digest : (k : ℕ) (d : D) → slice_get added k ≡ Some d → d ≡ digest_at h (changed h rule m X added) (leaf (size rule (length X + k)) (length X + k))
+  added_digest k d e = sym (get_or_from_slice_get (changed h rule m X added) (length X + k) d h.empty (changed_new h rule m X added k ∙ e))
+
 module _ {D : Type 0} (h : Hashing D) (rule : List ℕ → List ℕ) (max_leaves : ℕ) (p : UnmerkleizedModel D) (pending : IsUnmerkleizedValid rule max_leaves p) (ls : List (List D)) (stands : IsHistory h rule (records p.parent) ls) where
   abbrev last : List D
   last = last_list ls
@@ -74,13 +76,9 @@ module _ {D : Type 0} (h : Hashing D) (rule : List ℕ → List ℕ) (max_leaves
   pub list_within : length list ≤ max_leaves
   list_within = omega (arith, list_length, pending.bounded)
 
-  leaves_of : HasLeavesOf rule p.leaves_before (get p.overwritten)
-  leaves_of = pending.leaves
-
-  -- the added leaves
-  pub list_leaves : HasLeaves (truth_of h rule max_leaves list) rule p.leaves_before p.added
-  list_leaves = subst (λ (n : ℕ). HasLeaves (truth_of h rule max_leaves list) rule n p.added) (replaced_length rule (get p.overwritten) 0 last ∙ sym leaves_are)
-      (truth_leaves h rule max_leaves list list_within (replaced rule (get p.overwritten) 0 last) p.added refl)
+  -- the added leaves have their digests
+  list_added : (k : ℕ) (d : D) → slice_get p.added k ≡ Some d → d ≡ digest_at h list (leaf (size rule (p.leaves_before + k)) (p.leaves_before + k))
+  list_added k d e = added_digest h rule (get p.overwritten) last p.added k d e ∙ ap (λ (n : ℕ). slice_index_or list (n + k) h.empty) (sym leaves_are)
 
   module _ (base : Contents D) (agrees : AgreesWithOne h rule base (kept_lists p ls)) where
     -- an untouched node that is read has its digest of the new list
@@ -97,32 +95,38 @@ module _ {D : Type 0} (h : Hashing D) (rule : List ℕ → List ℕ) (max_leaves
     leaf_told : (k : ℕ) (d : D) → k < p.leaves_before → get p.overwritten (size rule k) ≡ Some d → d ≡ digest_at h list (leaf (size rule k) k)
     leaf_told k d l e = changed_digest h rule (get p.overwritten) last p.added k d (omega (arith, l, leaves_are)) e
 
-    module _ (O : FinMap nat_cmp D) (done : HaveDirtyDigests h (get p.overwritten) (read_over (kept p) base) (peaks_of rule p.leaves_before))
-        (is : (q : ℕ) → get O q ≡ option_or (all_computed_at h (get p.overwritten) (read_over (kept p) base) (peaks_of rule p.leaves_before) q) (get p.overwritten q)) where
-      fact : (q : ℕ) (t : Tree) → slice_get (forest rule p.leaves_before).nodes q ≡ Some t → get O q ≡ cond (is_dirty (get p.overwritten) t) (dirty_digest h (get p.overwritten) (read_over (kept p) base) t) None
-      fact = new_digest h rule p.leaves_before (get p.overwritten) (read_over (kept p) base) (get O) leaves_of done is
-
-      some : (q : ℕ) (t : Tree) → slice_get (forest rule p.leaves_before).nodes q ≡ Some t → is_dirty (get p.overwritten) t ≡ true → is_some (dirty_digest h (get p.overwritten) (read_over (kept p) base) t) ≡ true
-      some = new_digest_some h rule p.leaves_before (get p.overwritten) (read_over (kept p) base) (get O) leaves_of done is
-
+    -- where a draft stores the new digests
+    module _ (d : DraftModel D) (b : d.before ≡ size rule p.leaves_before)
+        (are : AreNewDigests h rule (get p.overwritten) (read_over (kept p) base) p.leaves_before p.added (stored_node d)) where
       -- what is read at old positions is right
-      pub list_reads : ReadsAgree (λ q. option_or (get O q) (read_over (kept p) base q)) (size rule p.leaves_before) (truth_of h rule max_leaves list)
+      pub list_reads : ReadsAgree (λ q. option_or (get d.overwritten q) (read_over (kept p) base q)) (size rule p.leaves_before)
+          (truth_of h rule max_leaves list)
       list_reads =
-          old_reads h rule p.leaves_before (get p.overwritten) (read_over (kept p) base) list (get O) fact some below_right leaf_told max_leaves list_within
-          (omega (arith, pending.bounded))
+          reads_right h rule (get p.overwritten) (read_over (kept p) base) p.leaves_before p.added list below_right leaf_told list_added d b are max_leaves
+          list_within pending.bounded
+
+      -- and so is what is appended
+      pub list_appended : d.before + length d.appended ≡ size rule (leaf_total p)
+          → d.appended ≡ digests_from (truth_of h rule max_leaves list) d.before (length d.appended)
+      list_appended =
+          appended_right h rule (get p.overwritten) (read_over (kept p) base) p.leaves_before p.added list below_right leaf_told list_added d b are max_leaves
+          list_within pending.bounded
 
       -- and the record with the new nodes and peaks makes the batch stand on lists
-      pub list_stands : (r : RecordModel D) → r.before ≡ size rule p.leaves_before → r.overwritten ≡ O → r.appended ≡ drop (size rule p.leaves_before) (node_digests h rule list) → r.peaks_before ≡ p.parent.own.peaks_after → r.peaks_after ≡ peak_digests h rule list →
-          IsHistory h rule (kept p ++ r ∷ []) (kept_lists p ls ++ list ∷ [])
-      list_stands r before overwritten appended peaks_before peaks_after =
+      pub list_stands : (r : RecordModel D) → r.before ≡ size rule p.leaves_before → r.overwritten ≡ d.overwritten
+          → ((q : ℕ) → size rule p.leaves_before ≤ q → get d.overwritten q ≡ None)
+          → r.appended ≡ drop (size rule p.leaves_before) (node_digests h rule list) → r.peaks_before ≡ p.parent.own.peaks_after
+          → r.peaks_after ≡ peak_digests h rule list → IsHistory h rule (kept p ++ r ∷ []) (kept_lists p ls ++ list ∷ [])
+      list_stands r before overwritten past appended peaks_before peaks_after =
           (let k = kept_stands h rule p ls pending.some stands in
           let n : size rule p.leaves_before ≡ size rule (length last) = ap (size rule) leaves_are in
-          let step = step_is h rule (get p.overwritten) last p.added O
-          (λ q t e. old_digest h rule p.leaves_before (get p.overwritten) (read_over (kept p) base) list (get O) fact some below_right leaf_told q t (ap (λ (n : ℕ). slice_get (forest rule n).nodes q) leaves_are ∙ e))
-          (λ q l. new_digest_past h rule p.leaves_before (get p.overwritten) (read_over (kept p) base) (get O) leaves_of done is q (omega (arith, l, n)))
+          let step = step_is h rule (get p.overwritten) last p.added d.overwritten
+          (λ q t e. overwritten_right h rule (get p.overwritten) (read_over (kept p) base) p.leaves_before p.added list below_right leaf_told list_added d b are
+          q t (ap (λ (n : ℕ). slice_get (forest rule n).nodes q) leaves_are ∙ e))
+          (λ q l. past q (omega (arith, l, n)))
           r.peaks_before r.appended r.peaks_after (appended ∙ ap (λ (b : ℕ). drop b (node_digests h rule list)) n)
           (peaks_before ∙ (last_size h rule p.parent ls stands).1) peaks_after in
-          let made : record { before = size rule (length last); peaks_before = r.peaks_before; appended = r.appended; overwritten = O; peaks_after = r.peaks_after } ≡ r =
+          let made : record { before = size rule (length last); peaks_before = r.peaks_before; appended = r.appended; overwritten = d.overwritten; peaks_after = r.peaks_after } ≡ r =
           (λ i. record { before = sym (before ∙ n) i; peaks_before = r.peaks_before; appended = r.appended; overwritten = sym overwritten i; peaks_after = r.peaks_after }) in
           subst (λ xs. IsHistory h rule (kept p ++ r ∷ []) (xs ++ list ∷ [])) (sym k.2)
           (stands_more h rule (kept p) (k.0 ∷ k.1) r list k.3 (subst (λ X. IsStep h rule r X list) (sym k.4) (subst (λ s. IsStep h rule s last list) made step))))

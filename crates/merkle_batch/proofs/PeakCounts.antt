@@ -8,7 +8,7 @@ use Rattle.merkle_base.specs.Tree.{position}
 use Rattle.merkle_batch_theory.specs.Assignment.{ReadsAgree, digests_from}
 
 -- a list whose entries are told at the positions from p on
-listed : {D : Type 0} (truth : ℕ → D) (p : ℕ) (ds : List D) → ((i : ℕ) (d : D) → slice_get ds i ≡ Some d → truth (p + i) ≡ d) → ds ≡ digests_from truth p (length ds)
+pub listed : {D : Type 0} (truth : ℕ → D) (p : ℕ) (ds : List D) → ((i : ℕ) (d : D) → slice_get ds i ≡ Some d → truth (p + i) ≡ d) → ds ≡ digests_from truth p (length ds)
 listed truth p [] e = refl
 listed truth p (d ∷ ds) e =
     let here : d ≡ truth p = (let z : p + 0 ≡ p = omega arith in sym (e 0 d refl) ∙ ap truth z) in

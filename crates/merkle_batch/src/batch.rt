@@ -4,7 +4,7 @@
 //! stacked and forked to any depth. A merkleized batch can be applied to a structure that is at the
 //! state before the oldest record that the batch keeps, or at the state after one of its kept
 //! ancestors.
-ghost use Rattle.std.specs.Prelude.{◌≡◌, ◌<◌, ◌≤◌, ◌⊎◌, ◌+◌, ◌++◌, ℕ, List, ◌∷◌, [], None, Some, Err, true, slice_set, is_some, length, IfOk, IfErr, IsOkUnless};
+ghost use Rattle.std.specs.Prelude.{◌≡◌, ◌<◌, ◌≤◌, ◌⊎◌, ◌+◌, ◌++◌, ℕ, List, ◌∷◌, [], None, Some, Err, true, slice_set, is_some, length, IfOk, IfErr, IsOkUnless, OnErr, OnOk};
 ghost use Rattle.std.specs.FinMap.{get};
 ghost use Rattle.merkle_base.specs.Forest.{size};
 ghost use Rattle.merkle_base.specs.Hashing.{Hashing};
@@ -12,6 +12,7 @@ ghost use Rattle.merkle_base.specs.Places.{peaks_of};
 ghost use Rattle.merkle_base.specs.Tree.{Tree, position};
 ghost use Rattle.merkle_batch_theory.specs.Contents.{AgreesWithOne};
 ghost use Rattle.merkle_batch_theory.specs.Missing.{IsMissing};
+ghost use Rattle.merkle_batch_theory.specs.Needed.{computed};
 ghost use Rattle.merkle_batch_theory.specs.Unmerkleized.{Fault, first_fault, forked, kept, kept_lists, leaf_total, pending_list, update_fault, with_entries, with_leaf, with_leaves, with_update, with_updates, without_ancestors};
 ghost use Rattle.merkle_batch_theory.specs.Records.{after, records};
 ghost use Rattle.merkle_batch_theory.specs.Refusals.{fault_error};
@@ -19,7 +20,7 @@ ghost use Rattle.merkle_batch_theory.specs.History.{IsHistory, last_list};
 
 pub use crate::merkleized::MerkleizedBatch;
 use merkle_base::error::Error;
-use merkle_base::family::Family;
+use merkle_base::family::{Family, Work};
 use merkle_base::location::Location;
 use merkle_base::position::Position;
 use merkle_digest::digest::Digest;
@@ -352,14 +353,56 @@ impl<F: Family, D: Digest> UnmerkleizedBatch<F, D> {
             → ((k : ℕ) → is_some (get self.overwritten (size F.rule k)) ≡ true → (B.contents base.now).boundary ≤ k)
             → IsOkUnless result Error.OutOfMemory }
     {
-        self.compute(base, hasher)
+        let mut work = Work::new();
+        self.compute(base, hasher, &mut work)
     }
 
-    // Implements `merkleize`.
+    /// Does what [`merkleize`](UnmerkleizedBatch::merkleize) does, and sets the number of node
+    /// digests in `work` to the number of parent nodes that it computed.
+    ///
+    /// # Errors
+    ///
+    /// Those of [`merkleize`](UnmerkleizedBatch::merkleize). On error the batch is lost, and the
+    /// parent and `work` are unchanged.
+    pub fn merkleize_counted<B: Base<F, Digest = D>, H: Hasher<F, Digest = D>>(
+        self,
+        base: &B,
+        hasher: &H,
+        work: &mut Work,
+    ) -> Result<Rc<MerkleizedBatch<F, D>>, Error<F>>
+        ensures fork { IfOk result (λ b. (b.value.base_size ≡ self.parent.base_size) × (b.value.boundary ≡ self.parent.boundary)
+            × (b.value.ancestors ≡ kept self)) }
+        ensures begins { IfOk result (λ b. (b.value.own.before ≡ after self.parent.own)
+            × (b.value.own.peaks_before ≡ self.parent.own.peaks_after)) }
+        ensures counted { IfOk result (λ b. (b.value.leaves ≡ leaf_total self) × (after b.value.own ≡ size F.rule (leaf_total self))) }
+        ensures peaks { IfOk result (λ b. length b.value.own.peaks_after ≡ length (peaks_of F.rule (leaf_total self))) }
+        ensures refused { IfErr result (λ e. (e ≡ Error.OutOfMemory)
+            ⊎ ((t : Tree) × (e ≡ Error.MissingNode (position t)) × IsMissing F.rule self (B.contents base.now) t)) }
+        ensures complete { IfOk result (λ _. (t : Tree) → IsMissing F.rule self (B.contents base.now) t → ⊥) }
+
+        // If some lists are a history of the parent and the base agrees with one of those that the
+        // kept records start or end at, then these, followed by the last of them with the changes,
+        // are a history of the batch.
+        ensures stands { let h = H.hashing hasher.now in IfOk result (λ b. (ls : List (List D)) → IsHistory h F.rule (records self.parent) ls
+            → AgreesWithOne h F.rule (B.contents base.now) (kept_lists self ls)
+            → IsHistory h F.rule (records b.value) (kept_lists self ls ++ pending_list F.rule self (last_list ls) ∷ [])) }
+        ensures granted { (h : Hashing D) → (ls : List (List D)) → IsHistory h F.rule (records self.parent) ls
+            → AgreesWithOne h F.rule (B.contents base.now) (kept_lists self ls)
+            → ((k : ℕ) → is_some (get self.overwritten (size F.rule k)) ≡ true → (B.contents base.now).boundary ≤ k)
+            → IsOkUnless result Error.OutOfMemory }
+        ensures work { let count = length (computed F.rule (get self.overwritten) self.leaves_before (leaf_total self)) in
+            OnOk result (work.new ≡ record { node_digests = count; probes = work.old.probes }) }
+        ensures unchanged { OnErr result (work.new ≡ work.old) }
+    {
+        self.compute(base, hasher, work)
+    }
+
+    // Implements `merkleize_counted`.
     fn compute<B: Base<F, Digest = D>, H: Hasher<F, Digest = D>>(
         &self,
         base: &B,
         hasher: &H,
+        work: &mut Work,
     ) -> Result<Rc<MerkleizedBatch<F, D>>, Error<F>>
         ensures fork { IfOk result (λ b. (b.value.base_size ≡ self.now.parent.base_size) × (b.value.boundary ≡ self.now.parent.boundary)
             × (b.value.ancestors ≡ kept self.now)) }
@@ -381,20 +424,23 @@ impl<F: Family, D: Digest> UnmerkleizedBatch<F, D> {
             → AgreesWithOne h F.rule (B.contents base.now) (kept_lists self.now ls)
             → ((k : ℕ) → is_some (get self.now.overwritten (size F.rule k)) ≡ true → (B.contents base.now).boundary ≤ k)
             → IsOkUnless result Error.OutOfMemory }
+        ensures work { let count = length (computed F.rule (get self.now.overwritten) self.now.leaves_before (leaf_total self.now)) in
+            OnOk result (work.new ≡ record { node_digests = count; probes = work.old.probes }) }
+        ensures unchanged { OnErr result (work.new ≡ work.old) }
     {
         let leaves = self.leaves();
         let mut draft = self.parent.draft(self.forgotten, leaves)?;
-        draft.refresh_leaves(base, hasher, self.leaves_before, &self.updates)?;
-        draft.append_leaves(base, hasher, self.leaves_before, &self.added)?;
+        let count = draft.compute(base, hasher, self.leaves_before, &self.updates, &self.added)?;
         let peaks_before = self.parent.own.peaks_after.clone()?;
         let peaks_after = if self.added.is_empty() && self.updates.is_empty() {
             peaks_before.clone()?
         } else {
             RcSlice::from_vec(draft.read_peaks(base, leaves)?)?
         };
-        Ok(
-            self.parent
-                .finish(draft, leaves, peaks_before, peaks_after)?,
-        )
+        let batch = self
+            .parent
+            .finish(draft, leaves, peaks_before, peaks_after)?;
+        work.set_node_digests(count);
+        Ok(batch)
     }
 }

@@ -17,6 +17,7 @@ macro_rules! granted {
 
 mod codec;
 mod lines;
+mod nodes;
 mod proofs;
 mod scattered;
 mod stopwatch;

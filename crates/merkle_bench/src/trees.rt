@@ -1,6 +1,7 @@
 //! The calls that are measured, at one family and one hash.
 
 use crate::codec::measure_codec;
+use crate::nodes::measure_nodes;
 use crate::proofs::Proofs;
 use crate::scattered::Scattered;
 use crate::stopwatch::{Halt, Stopwatch};
@@ -282,6 +283,7 @@ impl<H: PlainHasher> Trees<H> {
         self.update(watch, structure, scattered)?;
         self.locations::<F, C>(watch, elements.len() as u64, scattered)?;
         self.hashes(watch);
+        measure_nodes::<F, H, C>(self.alloc, watch, self.name, &self.hasher)?;
         watch.outcome()
     }
 

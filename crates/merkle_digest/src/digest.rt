@@ -72,6 +72,24 @@ pub trait PlainHasher {
     fn hash_pair(a: &[&[u8]], b: &[&[u8]]) -> (Self::Digest, Self::Digest)
         ensures first { result.0 ≡ digest_of (joined_parts a.now) }
         ensures second { result.1 ≡ digest_of (joined_parts b.now) };
+
+    /// Returns four digests, each as by [`hash`](PlainHasher::hash). An implementation may compute
+    /// them together; without one of its own, they are computed as two pairs.
+    fn hash_four(
+        a: &[&[u8]],
+        b: &[&[u8]],
+        c: &[&[u8]],
+        d: &[&[u8]],
+    ) -> (Self::Digest, Self::Digest, Self::Digest, Self::Digest)
+        ensures first { result.0 ≡ digest_of (joined_parts a.now) }
+        ensures second { result.1 ≡ digest_of (joined_parts b.now) }
+        ensures third { result.2 ≡ digest_of (joined_parts c.now) }
+        ensures fourth { result.3 ≡ digest_of (joined_parts d.now) }
+    {
+        let (first, second) = Self::hash_pair(a, b);
+        let (third, fourth) = Self::hash_pair(c, d);
+        (first, second, third, fourth)
+    }
 }
 
 /// A SHA-256 digest: any 32 bytes.
@@ -120,7 +138,8 @@ impl Digest for Sha256Digest {
     ghost eq_decides = { λ x y. (λ h. same_sized (λ b h. record { bytes = b; sized = h }) ((bytes_eq x.bytes y.bytes).0 h) x.sized y.sized, λ e. (bytes_eq x.bytes y.bytes).1 (ap (λ d. d.bytes) e)) };
 }
 
-/// SHA-256, as FIPS 180-4 defines it.
+/// SHA-256, as FIPS 180-4 defines it. Four messages of 72 bytes, as those of nodes are, are hashed
+/// together.
 #[derive(Clone, Copy, Debug)]
 pub struct Sha256Plain;
 
@@ -141,6 +160,21 @@ impl PlainHasher for Sha256Plain {
 
     fn hash_pair(a: &[&[u8]], b: &[&[u8]]) -> (Sha256Digest, Sha256Digest) {
         (Self::hash(a), Self::hash(b))
+    }
+
+    fn hash_four(
+        a: &[&[u8]],
+        b: &[&[u8]],
+        c: &[&[u8]],
+        d: &[&[u8]],
+    ) -> (Sha256Digest, Sha256Digest, Sha256Digest, Sha256Digest) {
+        let (first, second, third, fourth) = merkle_lanes::hash_four(a, b, c, d);
+        (
+            Sha256Digest { bytes: first },
+            Sha256Digest { bytes: second },
+            Sha256Digest { bytes: third },
+            Sha256Digest { bytes: fourth },
+        )
     }
 }
 

@@ -20,8 +20,7 @@ use Rattle.merkle_base.proofs.PeakLists.{Spans, covers_spans, all_reverse}
 use Rattle.merkle_draft.specs.DirtyDigests.{dirty_leaves, HasLeavesOf}
 use Rattle.merkle_batch_theory.proofs.ListFacts.{get_reverse}
 use Rattle.merkle_draft.proofs.DirtyDigests.{or_left_some, or_right_some, cond_yes, cond_no}
-use Rattle.merkle_draft.proofs.DirtyPeaks.{after_start}
-use Rattle.merkle_draft.proofs.DirtyFacts.{leaf_dirty, leaf_untouched, Between, dirty_between}
+use Rattle.merkle_draft.proofs.DirtyFacts.{leaf_dirty, leaf_untouched, Between, dirty_between, after_start}
 use Rattle.merkle_batch_theory.proofs.OptionFacts.{none_or_some}
 use Rattle.merkle_base.proofs.Nodes.{all_append}
 use Rattle.merkle_base.proofs.Lists.{all_imply}

@@ -1,13 +1,14 @@
 -- The changed leaves of a tree, in the order of their positions.
 use Rattle.std.proofs.Common.{◌≡◌, ℕ, suc, ◌+◌, ◌<◌, ◌≤◌, List, [], ◌∷◌, ◌++◌, length, take, drop, Option, Some, None, true, false, arith, refl, sym, ap, inl, inr, ◌∙◌, subst}
 use Rattle.std.specs.Prelude.{is_some, ◌||◌}
-use Rattle.std.specs.List.{AllByRecursion}
+use Rattle.std.specs.List.{AllByRecursion, flat_map}
 use Rattle.std.proofs.Math.Seq.{take-append_seam, drop-append_seam}
 use Rattle.std.proofs.lemmas.Bool.{or_parts, cases_Bool}
 use Rattle.merkle_base.specs.Tree.{Tree, leaf, join, first_leaf, width, IsBuilt}
 use Rattle.merkle_base.specs.Forest.{forest, size}
 use Rattle.merkle_base.proofs.Births.{leaf_at}
 use Rattle.merkle_base.proofs.Nodes.{size_le, size_step, all_append}
+use Rattle.merkle_base.proofs.PeakLists.{Spans}
 use Rattle.merkle_batch_theory.specs.History.{is_dirty}
 use Rattle.merkle_draft.specs.DirtyDigests.{dirty_leaves, are_before}
 use Rattle.merkle_draft.proofs.CountBefore.{before_none, before_here}
@@ -80,6 +81,14 @@ module _ {D : Type 0} (rule : List ℕ → List ℕ) (n : ℕ) (m : ℕ → Opti
   before_right p l r b = all_before (dirty_leaves m l) (dirty_leaves m r) (size rule (first_leaf r))
       (all_imply (Between rule (first_leaf l) (first_leaf l + width l)) _ (λ u w. omega (arith, w.1, ap (size rule) b.3)) (dirty_leaves m l) (dirty_between l b.4))
       (all_imply (Between rule (first_leaf r) (first_leaf r + width r)) _ (λ u w. w.0) (dirty_leaves m r) (dirty_between r b.5))
+
+  -- the changed leaves of trees that span from a location on stand from there on
+  pub after_start : (o e : ℕ) (ts : List Tree) → Spans o e ts → AllByRecursion (IsBuilt (forest rule n).nodes) ts → AllByRecursion (λ u. size rule o ≤ u.0) (flat_map (dirty_leaves m) ts)
+  after_start o e [] c b = tt
+  after_start o e (t ∷ ts) c b =
+      all_append (λ u. size rule o ≤ u.0) (dirty_leaves m t) (flat_map (dirty_leaves m) ts)
+      (all_imply (Between rule (first_leaf t) (first_leaf t + width t)) (λ u. size rule o ≤ u.0) (λ u w. omega (arith, w.0, ap (size rule) c.0)) (dirty_leaves m t) (dirty_between t b.0))
+      (all_imply (λ u. size rule (o + width t) ≤ u.0) (λ u. size rule o ≤ u.0) (λ u w. omega (arith, w, size_le rule o (o + width t) (omega arith))) (flat_map (dirty_leaves m) ts) (after_start (o + width t) e ts c.1 b.1))
 
 -- ---- a list in two parts
 pub split_parts : {X : Type 0} (us xs ys front back : List X) (c : ℕ) → us ≡ xs ++ ys → c ≡ length xs → front ≡ take c us → back ≡ drop c us → (front ≡ xs) × (back ≡ ys)

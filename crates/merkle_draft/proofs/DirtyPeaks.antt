@@ -14,7 +14,6 @@ use Rattle.merkle_base.specs.Hashing.{Hashing}
 use Rattle.merkle_base.specs.Places.{placed, peaks_of}
 use Rattle.merkle_base.proofs.Growth.{forest_grown}
 use Rattle.merkle_base.proofs.Lists.{get_push, get_push_cases, cons_head, cons_tail, all_imply}
-use Rattle.merkle_base.proofs.Nodes.{size_le, all_append}
 use Rattle.merkle_base.proofs.PeakLists.{Spans, covers_spans, spans_end, all_reverse}
 use Rattle.merkle_hasher.specs.Subtrees.{IsNodeOf, AreNodes}
 use Rattle.merkle_hasher.proofs.PeakNodes.{peaks_at}
@@ -24,7 +23,7 @@ use Rattle.merkle_batch_theory.specs.History.{is_dirty}
 use Rattle.merkle_draft.specs.Drafts.{LacksFor}
 use Rattle.merkle_draft.specs.DirtyDigests.{dirty_digest, computed_at, all_computed_at, dirty_leaves, are_before, HaveDirtyDigests, LacksForOne}
 use Rattle.merkle_draft.proofs.Refreshing.{none_computed}
-use Rattle.merkle_draft.proofs.DirtyFacts.{none_dirty, not_dirty, Between, dirty_between, all_before, split_parts}
+use Rattle.merkle_draft.proofs.DirtyFacts.{none_dirty, not_dirty, Between, dirty_between, all_before, after_start, split_parts}
 use Rattle.merkle_batch_theory.proofs.OptionFacts.{or_nothing, or_assoc}
 
 pub zero_yes : (n : ℕ) (b : Bool) → b ≡ (n == 0) → b ≡ true → n ≡ 0
@@ -32,14 +31,6 @@ zero_yes n b e f = elim (eqb_tells n 0) [ inl s ↦ s.1 | inr s ↦ absurd (true
 
 pub zero_no : (n : ℕ) (b : Bool) → b ≡ (n == 0) → b ≡ false → n ≢ 0
 zero_no n b e f = elim (eqb_tells n 0) [ inl s ↦ absurd (true≢false (sym s.0 ∙ sym e ∙ f)) | inr s ↦ s.1 ]
-
--- the changed leaves of trees that span from a location on stand from there on
-pub after_start : {D : Type 0} (rule : List ℕ → List ℕ) (n : ℕ) (m : ℕ → Option D) (o e : ℕ) (ts : List Tree) → Spans o e ts → AllByRecursion (IsBuilt (forest rule n).nodes) ts → AllByRecursion (λ u. size rule o ≤ u.0) (flat_map (dirty_leaves m) ts)
-after_start rule n m o e [] c b = tt
-after_start rule n m o e (t ∷ ts) c b =
-    all_append (λ u. size rule o ≤ u.0) (dirty_leaves m t) (flat_map (dirty_leaves m) ts)
-    (all_imply (Between rule (first_leaf t) (first_leaf t + width t)) (λ u. size rule o ≤ u.0) (λ u w. omega (arith, w.0, ap (size rule) c.0)) (dirty_leaves m t) (dirty_between rule n m t b.0))
-    (all_imply (λ u. size rule (o + width t) ≤ u.0) (λ u. size rule o ≤ u.0) (λ u w. omega (arith, w, size_le rule o (o + width t) (omega arith))) (flat_map (dirty_leaves m) ts) (after_start rule n m (o + width t) e ts c.1 b.1))
 
 module _ {D : Type 0} (h : Hashing D) (m below : ℕ → Option D) where
   all_computed_push : (ts : List Tree) (t : Tree) (q : ℕ) → all_computed_at h m below (ts ++ t ∷ []) q ≡ option_or (computed_at h m below t q) (all_computed_at h m below ts q)

@@ -1,3 +1,9 @@
+pub mod Computing
+pub mod LevelFacts
+pub mod Stages
+pub mod SettledWrites
+pub mod ParentReads
+pub mod SettledFacts
 pub mod ChildReads
 pub mod DraftFacts
 pub mod PeakReads
@@ -11,3 +17,9 @@ pub mod DirtyLeaves
 pub mod NodeErrorFacts
 pub mod NodePositions
 pub mod KeptRecords
+pub mod LevelLists
+pub mod Marking
+pub mod Adding
+pub mod DirtyParents
+pub mod PlannedNodes
+pub mod MarkedPeaks

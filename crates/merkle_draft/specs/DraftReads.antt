@@ -1,5 +1,5 @@
 -- What a draft reads.
-use Rattle.std.specs.Prelude.{◌≡◌, ℕ, ◌<◌, List, Option, Some, is_some, true, slice_get, refl}
+use Rattle.std.specs.Prelude.{◌≡◌, ℕ, ◌-◌, ◌<◌, List, Option, Some, is_some, true, slice_get, cond, nat_lt, refl}
 use Rattle.std.specs.Ordering.{nat_cmp}
 use Rattle.std.specs.FinMap.{FinMap, get, code}
 use Rattle.std.specs.Coded.{Coded, code_by, coded×, coded_ℕ, coded_list}
@@ -37,6 +37,10 @@ below d base p = read_over d.kept base p
 -- at a position before those that it appends
 abbrev pub old_node : {D : Type 0} → DraftModel D → Contents D → ℕ → Option D
 old_node d base p = option_or (get d.overwritten p) (below d base p)
+
+-- the digest that it stores for position p: an overwritten one before those that it appends, or one of these
+abbrev pub stored_node : {D : Type 0} → DraftModel D → ℕ → Option D
+stored_node d p = cond (nat_lt p d.before) (get d.overwritten p) (slice_get d.appended (p - d.before))
 
 -- new is old with other appended nodes
 abbrev pub OnlyAppends : {D : Type 0} → DraftModel D → DraftModel D → Type 0

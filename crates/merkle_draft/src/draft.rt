@@ -2,14 +2,13 @@
 ghost use Rattle.std.specs.Prelude.{◌≡◌, ◌≢◌, ◌+◌, ◌^◌, ◌++◌, ◌<◌, ◌≤◌, ℕ, suc, List, Option, [], ◌∷◌, None, is_some, true, cond, length, map, IfOk, IfErr, IfNone, IfSome, OnOk};
 ghost use Rattle.std.specs.FinMap.{empty, get};
 ghost use Rattle.merkle_base.specs.Forest.{size};
-ghost use Rattle.merkle_base.specs.Places.{HasInner, peak_positions, peaks_of};
-ghost use Rattle.merkle_base.specs.Tree.{Tree, position};
+ghost use Rattle.merkle_base.specs.Places.{peak_positions};
 ghost use Rattle.merkle_batch_theory.specs.Contents.{Contents};
-ghost use Rattle.merkle_draft.specs.Drafts.{AreChildrenRead, LacksChild};
 ghost use Rattle.merkle_draft.specs.DraftReads.{below, old_node, OnlyAppends, IsPeakGap, ArePeaksRead};
+ghost use Rattle.merkle_draft.specs.Settled.{read_at};
 ghost use Rattle.merkle_batch_theory.specs.Unmerkleized.{is_changed};
 ghost use Rattle.merkle_batch_theory.specs.Records.{after};
-ghost use Rattle.merkle_batch_theory.specs.Assignment.{IsAssignment, HasLeaves, ReadsAgree, digests_from};
+ghost use Rattle.merkle_batch_theory.specs.Assignment.{ReadsAgree, digests_from};
 
 use crate::base::Base;
 use crate::node_error::NodeError;
@@ -19,7 +18,6 @@ use merkle_base::family::Family;
 use merkle_base::location::Location;
 use merkle_base::position::Position;
 use merkle_digest::digest::Digest;
-use merkle_hasher::hasher::Hasher;
 use std::alloc::{AllocError, Global};
 use std::marker::Model;
 use std::rc::Rc;
@@ -103,7 +101,8 @@ impl<F: Family, D: Digest> Draft<F, D> {
 
     // Returns the digest of the node at `position`: an appended one, or for older nodes the
     // overwritten one, or else the one before the batch.
-    fn read_node<B: Base<F, Digest = D>>(&self, base: &B, position: Position<F>) -> Option<D>
+    pub(crate) fn read_node<B: Base<F, Digest = D>>(&self, base: &B, position: Position<F>) -> Option<D>
+        ensures value { result ≡ read_at self.now (B.contents base.now) position }
         ensures right { IfSome result (λ d. (truth : ℕ → D) → ReadsAgree (old_node self.now (B.contents base.now)) self.now.before truth
             → self.now.appended ≡ digests_from truth self.now.before (length self.now.appended) → d ≡ truth position) }
         ensures read { IfSome result (λ _. position < self.now.before → is_some (old_node self.now (B.contents base.now) position) ≡ true) }
@@ -123,7 +122,7 @@ impl<F: Family, D: Digest> Draft<F, D> {
     }
 
     // Returns the size in nodes, with the appended ones.
-    fn size(&self) -> Position<F>
+    pub(crate) fn size(&self) -> Position<F>
         requires { self.now.before + length self.now.appended < 2 ^ 64 }
         ensures { result ≡ self.now.before + length self.now.appended }
     {
@@ -131,108 +130,11 @@ impl<F: Family, D: Digest> Draft<F, D> {
     }
 
     // Appends a node.
-    fn push(&mut self, digest: D) -> Result<(), AllocError>
+    pub(crate) fn push(&mut self, digest: D) -> Result<(), AllocError>
         ensures only { OnlyAppends self.old self.new }
         ensures pushed { OnOk result (self.new.appended ≡ self.old.appended ++ digest ∷ []) }
     {
         self.appended.push(digest)?;
-        Ok(())
-    }
-
-    // Appends the parent node of height `height` whose position is the present size.
-    fn append_parent<B: Base<F, Digest = D>, H: Hasher<F, Digest = D>>(
-        &mut self,
-        base: &B,
-        hasher: &H,
-        height: u32,
-    ) -> Result<(), NodeError<F>>
-        requires small { self.old.before + length self.old.appended < 2 ^ 64 }
-        requires node { HasInner F.rule F.MAX_LEAVES (self.old.before + length self.old.appended) height }
-        ensures only { OnlyAppends self.old self.new }
-        ensures longer { OnOk result (length self.new.appended ≡ suc (length self.old.appended)) }
-        ensures missing { let end = self.old.before + length self.old.appended in
-            IfErr result (λ e. e ≢ NodeError.OutOfMemory → LacksChild F.rule F.MAX_LEAVES end (suc end) self.old.before (old_node self.old (B.contents base.now)) e) }
-        ensures read { let end = self.old.before + length self.old.appended in
-            OnOk result (AreChildrenRead F.rule F.MAX_LEAVES end (suc end) self.old.before (old_node self.old (B.contents base.now))) }
-        ensures right { OnOk result ((truth : ℕ → D) → IsAssignment (H.hashing hasher.now) F.rule F.MAX_LEAVES truth
-            → ReadsAgree (old_node self.old (B.contents base.now)) self.old.before truth
-            → self.old.appended ≡ digests_from truth self.old.before (length self.old.appended)
-            → self.new.appended ≡ digests_from truth self.old.before (length self.new.appended)) }
-    {
-        let position = self.size();
-        let (left, right) = F::children(position, height);
-        let Some(left_digest) = self.read_node(base, left) else {
-            return Err(NodeError::Missing(left));
-        };
-        let Some(right_digest) = self.read_node(base, right) else {
-            return Err(NodeError::Missing(right));
-        };
-        self.push(hasher.node_digest(position, &left_digest, &right_digest))?;
-        Ok(())
-    }
-
-    // Appends the leaf at location `leaf` and the parents that adding it creates.
-    fn append_leaf<B: Base<F, Digest = D>, H: Hasher<F, Digest = D>>(
-        &mut self,
-        base: &B,
-        hasher: &H,
-        leaf: Location<F>,
-        digest: D,
-    ) -> Result<(), NodeError<F>>
-        requires below { leaf < F.MAX_LEAVES }
-        requires counted { self.old.before + length self.old.appended ≡ size F.rule leaf }
-        ensures only { OnlyAppends self.old self.new }
-        ensures counted { OnOk result (self.new.before + length self.new.appended ≡ size F.rule (suc leaf)) }
-        ensures missing { IfErr result (λ e. e ≢ NodeError.OutOfMemory
-            → LacksChild F.rule F.MAX_LEAVES (size F.rule leaf) (size F.rule (suc leaf)) self.old.before (old_node self.old (B.contents base.now)) e) }
-        ensures read { let old = old_node self.old (B.contents base.now) in
-            OnOk result (AreChildrenRead F.rule F.MAX_LEAVES (size F.rule leaf) (size F.rule (suc leaf)) self.old.before old) }
-        ensures right { OnOk result ((truth : ℕ → D) → IsAssignment (H.hashing hasher.now) F.rule F.MAX_LEAVES truth
-            → ReadsAgree (old_node self.old (B.contents base.now)) self.old.before truth → digest ≡ truth (size F.rule leaf)
-            → self.old.appended ≡ digests_from truth self.old.before (length self.old.appended)
-            → self.new.appended ≡ digests_from truth self.old.before (length self.new.appended)) }
-    {
-        self.push(digest)?;
-        for height in F::parent_heights(leaf) {
-            self.append_parent(base, hasher, height)?;
-        }
-        Ok(())
-    }
-
-    /// Appends leaves from location `leaves_before` on, and the parents that adding them creates.
-    ///
-    /// # Errors
-    ///
-    /// - `Missing` if a child of a new parent is held neither by the draft nor by the base
-    /// - `OutOfMemory` if a memory request is refused
-    ///
-    /// The draft may have some of the new nodes after an error.
-    pub fn append_leaves<B: Base<F, Digest = D>, H: Hasher<F, Digest = D>>(
-        &mut self,
-        base: &B,
-        hasher: &H,
-        leaves_before: Location<F>,
-        added: &[D],
-    ) -> Result<(), NodeError<F>>
-        requires within { leaves_before + length added.now ≤ F.MAX_LEAVES }
-        requires sized { size F.rule leaves_before ≡ self.old.before }
-        requires nothing { self.old.appended ≡ [] }
-        ensures only { OnlyAppends self.old self.new }
-        ensures counted { OnOk result (self.new.before + length self.new.appended ≡ size F.rule (leaves_before + length added.now)) }
-        ensures missing { IfErr result (λ e. e ≢ NodeError.OutOfMemory
-            → let end = size F.rule (leaves_before + length added.now) in
-            LacksChild F.rule F.MAX_LEAVES self.old.before end self.old.before (old_node self.old (B.contents base.now)) e) }
-        ensures read { let end = size F.rule (leaves_before + length added.now) in
-            OnOk result (AreChildrenRead F.rule F.MAX_LEAVES self.old.before end self.old.before (old_node self.old (B.contents base.now))) }
-        ensures right { OnOk result ((truth : ℕ → D) → IsAssignment (H.hashing hasher.now) F.rule F.MAX_LEAVES truth
-            → ReadsAgree (old_node self.old (B.contents base.now)) self.old.before truth → HasLeaves truth F.rule leaves_before added.now
-            → self.new.appended ≡ digests_from truth self.old.before (length self.new.appended)) }
-    {
-        let mut leaf = leaves_before;
-        for digest in added {
-            self.append_leaf(base, hasher, leaf, *digest)?;
-            leaf += 1;
-        }
         Ok(())
     }
 

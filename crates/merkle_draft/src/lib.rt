@@ -6,8 +6,9 @@
 #![tactic(auto)]
 
 pub mod base;
+mod compute;
 pub mod draft;
 pub mod node_error;
 pub mod overwrites;
+mod plan;
 pub mod record;
-mod refresh;

@@ -4,3 +4,4 @@ pub mod Spans
 pub mod NodeSteps
 pub mod PeakNodes
 pub mod PathSteps
+pub mod FourNodes

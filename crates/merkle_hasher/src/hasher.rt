@@ -1,5 +1,5 @@
 //! Hashers: the digests of leaves, parent nodes, folded peaks and roots.
-ghost use Rattle.std.specs.Prelude.{◌≡◌, ◌+◌, ◌<◌, ◌≤◌, ◌++◌, [], ◌∷◌, ℕ, List, ⊤, length, fold};
+ghost use Rattle.std.specs.Prelude.{◌≡◌, ◌+◌, ◌<◌, ◌≤◌, ◌++◌, [], ◌∷◌, ℕ, List, ⊤, length, fold, map};
 ghost use Rattle.std.proofs.Common.{ap, refl};
 ghost use Rattle.std.specs.Option.{SomeIff};
 ghost use Rattle.merkle_digest.specs.Bytes.{joined_parts};
@@ -58,6 +58,23 @@ pub trait Hasher<F: Family>: Clone {
         nodes: [(Position<F>, Self::Digest, Self::Digest); 2],
     ) -> (Self::Digest, Self::Digest)
         ensures { (d : _) (e : _) → nodes ≡ d ∷ e ∷ [] → (result.0 ≡ (hashing self.now).node d.0 d.1 d.2) × (result.1 ≡ (hashing self.now).node e.0 e.1 e.2) };
+
+    /// Returns the digests of four parent nodes, each as by [`node_digest`](Hasher::node_digest). An
+    /// implementation may compute them together; without one of its own, they are computed as two
+    /// pairs. [`node_digests`](crate::nodes::node_digests) takes any number of nodes.
+    ///
+    /// Requires that there are four nodes.
+    fn node_digests_four(
+        &self,
+        nodes: &[(Position<F>, Self::Digest, Self::Digest)],
+    ) -> (Self::Digest, Self::Digest, Self::Digest, Self::Digest)
+        requires { length nodes.now ≡ 4 }
+        ensures { map (λ n. (hashing self.now).node n.0 n.1 n.2) nodes.now ≡ result.0 ∷ result.1 ∷ result.2 ∷ result.3 ∷ [] }
+    {
+        let (first, second) = self.node_digest_pair([nodes[0], nodes[1]]);
+        let (third, fourth) = self.node_digest_pair([nodes[2], nodes[3]]);
+        (first, second, third, fourth)
+    }
 
     /// Returns the digest of the leaf at `position` with this element.
     fn leaf_digest(&self, position: Position<F>, element: &[u8]) -> Self::Digest
@@ -354,6 +371,28 @@ fn hash_both<H: PlainHasher>(
     H::hash_pair(&[p, a, b], &[q, c, d])
 }
 
+fn hash_each<H: PlainHasher>(
+    p: &[u8],
+    a: &[u8],
+    b: &[u8],
+    q: &[u8],
+    c: &[u8],
+    d: &[u8],
+    r: &[u8],
+    e: &[u8],
+    f: &[u8],
+    s: &[u8],
+    g: &[u8],
+    h: &[u8],
+) -> (H::Digest, H::Digest, H::Digest, H::Digest)
+    ensures first { result.0 ≡ H.digest_of (p.now ++ a.now ++ b.now) }
+    ensures second { result.1 ≡ H.digest_of (q.now ++ c.now ++ d.now) }
+    ensures third { result.2 ≡ H.digest_of (r.now ++ e.now ++ f.now) }
+    ensures fourth { result.3 ≡ H.digest_of (s.now ++ g.now ++ h.now) }
+{
+    H::hash_four(&[p, a, b], &[q, c, d], &[r, e, f], &[s, g, h])
+}
+
 impl<F: Family, H: PlainHasher> Hasher<F> for Standard<H> {
     type Digest = H::Digest;
 
@@ -396,6 +435,26 @@ impl<F: Family, H: PlainHasher> Hasher<F> for Standard<H> {
             &q.as_u64().to_be_bytes(),
             c.as_bytes(),
             d.as_bytes(),
+        )
+    }
+
+    fn node_digests_four(
+        &self,
+        nodes: &[(Position<F>, H::Digest, H::Digest)],
+    ) -> (H::Digest, H::Digest, H::Digest, H::Digest) {
+        hash_each::<H>(
+            &nodes[0].0.as_u64().to_be_bytes(),
+            nodes[0].1.as_bytes(),
+            nodes[0].2.as_bytes(),
+            &nodes[1].0.as_u64().to_be_bytes(),
+            nodes[1].1.as_bytes(),
+            nodes[1].2.as_bytes(),
+            &nodes[2].0.as_u64().to_be_bytes(),
+            nodes[2].1.as_bytes(),
+            nodes[2].2.as_bytes(),
+            &nodes[3].0.as_u64().to_be_bytes(),
+            nodes[3].1.as_bytes(),
+            nodes[3].2.as_bytes(),
         )
     }
 
@@ -451,6 +510,13 @@ impl<F: Family, T: Hasher<F>> Hasher<F> for &T {
             × (result.1 ≡ (T.hashing self.now.now).node e.0 e.1 e.2) }
     {
         (**self).node_digest_pair(nodes)
+    }
+
+    fn node_digests_four(
+        &self,
+        nodes: &[(Position<F>, T::Digest, T::Digest)],
+    ) -> (T::Digest, T::Digest, T::Digest, T::Digest) {
+        (**self).node_digests_four(nodes)
     }
 
     fn leaf_digest(&self, position: Position<F>, element: &[u8]) -> T::Digest

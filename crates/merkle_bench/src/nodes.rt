@@ -1,0 +1,70 @@
+//! The digests of nodes, measured at one hash.
+
+use crate::stopwatch::{Halt, Stopwatch};
+use merkle_core::digest::{Digest, PlainHasher};
+use merkle_core::family::Family;
+use merkle_core::hasher::{Hasher, Standard};
+use merkle_core::nodes::node_digests;
+use merkle_core::position::Position;
+use std::alloc::{AllocError, Global};
+use std::time::CpuClock;
+
+/// A position, and the digests of the children of the node there.
+type Node<F, D> = (Position<F>, D, D);
+
+/// How many nodes are measured.
+const NODES: u64 = 1000;
+
+/// Computes the digests of nodes, one by one and then together.
+pub fn measure_nodes<F: Family, H: PlainHasher, C: CpuClock>(
+    alloc: Global,
+    watch: &mut Stopwatch<C>,
+    tree: &'static str,
+    hasher: &Standard<H>,
+) -> Result<(), Halt> {
+    let nodes: Vec<Node<F, H::Digest>> = some_nodes(alloc, hasher)?;
+    let mut digests = Vec::new(alloc);
+    let start = watch.now();
+    one_by_one(hasher, &nodes, &mut digests)?;
+    watch.note(tree, "digests of nodes, one by one", NODES, start);
+    keep_all(watch, &digests);
+    let mut digests = Vec::new(alloc);
+    let start = watch.now();
+    node_digests(hasher, &nodes, &mut digests)?;
+    watch.note(tree, "digests of nodes, together", NODES, start);
+    keep_all(watch, &digests);
+    Ok(())
+}
+
+// Nodes with children of their own.
+fn some_nodes<F: Family, H: PlainHasher>(
+    alloc: Global,
+    hasher: &Standard<H>,
+) -> Result<Vec<Node<F, H::Digest>>, AllocError> {
+    let mut nodes = Vec::new(alloc);
+    for i in 0..NODES {
+        let left = hasher.digest(&(2 * i).to_be_bytes());
+        let right = hasher.digest(&(2 * i + 1).to_be_bytes());
+        nodes.push((Position::new(i), left, right))?;
+    }
+    Ok(nodes)
+}
+
+// Appends the digest of each node by a call for each.
+fn one_by_one<F: Family, H: PlainHasher>(
+    hasher: &Standard<H>,
+    nodes: &[Node<F, H::Digest>],
+    digests: &mut Vec<H::Digest>,
+) -> Result<(), AllocError> {
+    for node in nodes {
+        digests.push(hasher.node_digest(node.0, &node.1, &node.2))?;
+    }
+    Ok(())
+}
+
+// Takes in all digests.
+fn keep_all<D: Digest, C: CpuClock>(watch: &mut Stopwatch<C>, digests: &[D]) {
+    for digest in digests {
+        watch.keep(digest.as_bytes());
+    }
+}

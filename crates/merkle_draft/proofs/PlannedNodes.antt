@@ -1,0 +1,101 @@
+-- What is listed when the dirty parents and then the new ones are added to empty lists.
+use Rattle.std.proofs.Common.{◌≡◌, ℕ, zero, suc, ◌+◌, ◌-◌, ◌<◌, ◌≤◌, List, [], ◌∷◌, ◌++◌, length, length-append, Option, Some, Bool, true, cond, slice_get, arith, refl, sym, ap, subst, inl, inr, ◌∙◌, le-leb}
+use Rattle.std.specs.Prelude.{Vec, ◌||◌}
+use Rattle.std.specs.List.{Contains, filter, flat_map}
+use Rattle.std.proofs.lemmas.Bool.{lt-leb, cases_lt}
+use Rattle.std.proofs.lemmas.List.Elements.{filter-append}
+use Rattle.merkle_base.specs.Tree.{Tree, leaf, join, position, height}
+use Rattle.merkle_base.specs.Forest.{forest, size, IsJoin}
+use Rattle.merkle_base.specs.Places.{peaks_of}
+use Rattle.merkle_base.proofs.Births.{all_get}
+use Rattle.merkle_base.proofs.Growth.{forest_grown}
+use Rattle.merkle_base.proofs.Lists.{get_below}
+use Rattle.merkle_base.proofs.Lookup.{get_append_add}
+use Rattle.merkle_base.proofs.Nodes.{forest_step, node_anywhere, node_stays, size_le}
+use Rattle.merkle_batch_theory.specs.History.{is_dirty}
+use Rattle.merkle_batch_theory.specs.Needed.{is_computed, computed}
+use Rattle.merkle_draft.specs.Levels.{level_at, from_height, ArePlanned, is_dirty_parent, dirty_at, AreMarked, AreAdded}
+use Rattle.merkle_draft.proofs.DirtyParents.{parents_sound, parents_complete, parents_counted}
+
+-- ---- filters by their tests
+filter_same : (p q : Tree → Bool) (ts : List Tree) → ((i : ℕ) (t : Tree) → slice_get ts i ≡ Some t → p t ≡ q t) → filter p ts ≡ filter q ts
+filter_same p q [] h = refl
+filter_same p q (t ∷ ts) h = (let rest = filter_same p q ts (λ i s e. h (suc i) s e) in λ i. cond (h 0 t refl i) (t ∷ rest i) (rest i))
+
+filter_all : (p : Tree → Bool) (ts : List Tree) → ((i : ℕ) (t : Tree) → slice_get ts i ≡ Some t → p t ≡ true) → filter p ts ≡ ts
+filter_all p [] h = refl
+filter_all p (t ∷ ts) h = ap (λ b. cond b (t ∷ filter p ts) (filter p ts)) (h 0 t refl) ∙ ap (λ xs. t ∷ xs) (filter_all p ts (λ i s e. h (suc i) s e))
+
+module _ {D : Type 0} (rule : List ℕ → List ℕ) (m : ℕ → Option D) (n : ℕ) where
+  -- ---- which nodes are computed
+  -- of the old nodes the dirty parents
+  old_computed : (t : Tree) → position t < size rule n → is_computed rule m n t ≡ is_dirty_parent m t
+  old_computed (leaf p k) l = refl
+  old_computed (join p a b) l = ap (λ x. x || is_dirty m (join p a b)) (lt-leb (size rule n) p l)
+
+  -- of the new ones all parents
+  new_computed : (t : Tree) → size rule n ≤ position t → IsJoin t → is_computed rule m n t ≡ true
+  new_computed (leaf p k) l j = absurd j
+  new_computed (join p a b) l j = ap (λ x. x || is_dirty m (join p a b)) (le-leb (size rule n) p l)
+
+  -- ---- how many
+  computed_counted : (k : ℕ) → length (computed rule m n (k + n)) + k + size rule n ≡ length (filter (is_dirty_parent m) (forest rule n).nodes) + size rule (k + n)
+  computed_counted zero =
+      (let e : 0 + n ≡ n = omega arith in
+      let same = filter_same (is_computed rule m n) (is_dirty_parent m) (forest rule n).nodes (λ i t f. old_computed t (omega (arith, (forest_grown rule n).placed i t f, get_below (forest rule n).nodes i t f))) in
+      subst (λ (x : ℕ). length (computed rule m n x) + 0 + size rule n ≡ length (filter (is_dirty_parent m) (forest rule n).nodes) + size rule x) (sym e) (omega (arith, ap length same)))
+  computed_counted (suc k) =
+      (let e : suc k + n ≡ suc (k + n) = omega arith in
+      let s = forest_step rule (k + n) in
+      let old : List Tree = (forest rule (k + n)).nodes in
+      let first : Tree = leaf (size rule (k + n)) (k + n) in
+      let fresh : filter (is_computed rule m n) s.0 ≡ s.0 = filter_all (is_computed rule m n) s.0 (λ i t f.
+      (let there : slice_get (forest rule (suc (k + n))).nodes (size rule (k + n) + suc i) ≡ Some t = ap (λ ns. slice_get ns (size rule (k + n) + suc i)) s.1 ∙ get_append_add old (first ∷ s.0) (suc i) ∙ f in
+      new_computed t (omega (arith, (forest_grown rule (suc (k + n))).placed (size rule (k + n) + suc i) t there, size_le rule n (k + n) (omega arith))) (all_get IsJoin s.0 i t s.2 f))) in
+      let grown : computed rule m n (suc (k + n)) ≡ computed rule m n (k + n) ++ s.0 =
+      ap (filter (is_computed rule m n)) s.1 ∙ filter-append (is_computed rule m n) old (first ∷ s.0) ∙ ap (λ xs. computed rule m n (k + n) ++ xs) fresh in
+      subst (λ (x : ℕ). length (computed rule m n x) + suc k + size rule n ≡ length (filter (is_dirty_parent m) (forest rule n).nodes) + size rule x) (sym e)
+      (omega (arith, computed_counted k, ap length grown, length-append (computed rule m n (k + n)) s.0, ap length s.1, length-append old (first ∷ s.0))))
+
+  pub all_counted : {A : Type 0} (e : ℕ) → n ≤ e → (old mid new : List (Vec ℕ A)) → old ≡ [] → AreMarked m (peaks_of rule n) old mid → (appended : ℕ) → length (from_height new 0) + (e - n) ≡ length (from_height mid 0) + appended
+      → size rule n + appended ≡ size rule e → length (from_height new 0) ≡ length (computed rule m n e)
+  all_counted e more old mid new none marked appended total sized =
+      (let same : (e - n) + n ≡ e = omega (arith, more) in
+      let k = subst (λ (x : ℕ). length (computed rule m n x) + (e - n) + size rule n ≡ length (filter (is_dirty_parent m) (forest rule n).nodes) + size rule x) same (computed_counted (e - n)) in
+      omega (arith, k, total, sized, marked.counted, ap (λ ls. length (from_height ls 0)) none, parents_counted m rule n))
+
+  -- ---- which positions
+  module _ {A : Type 0} (max e : ℕ) (more : n ≤ e) (within : e ≤ max) (old mid new : List (Vec ℕ A)) (none : old ≡ []) (marked : AreMarked m (peaks_of rule n) old mid) (added : AreAdded rule max (size rule n) (size rule e) mid new) where
+    -- the lists before the new parents
+    before_new : (h : ℕ) → level_at mid h ≡ flat_map (dirty_at m h) (peaks_of rule n)
+    before_new h = marked.listed h ∙ ap (λ ls. level_at ls h ++ flat_map (dirty_at m h) (peaks_of rule n)) none
+
+    planned_sound : (h p : ℕ) → Contains (level_at new h) p → (t : Tree) × (slice_get (forest rule e).nodes p ≡ Some t) × (height t ≡ h) × (is_computed rule m n t ≡ true)
+    planned_sound h p c = elim (added.sound h p c) [
+      | inl o ↦ (let w = parents_sound m rule n h p (subst (λ xs. Contains xs p) (before_new h) o) in
+          let low : position w.0 < size rule n = omega (arith, (forest_grown rule n).placed p w.0 w.1, get_below (forest rule n).nodes p w.0 w.1) in
+          (w.0, node_stays rule n e p w.0 more w.1, w.2, old_computed w.0 low ∙ w.3))
+      | inr i ↦ (let t = i.2.1 in
+          let there = node_anywhere rule i.2.0 e p t i.2.3 i.1 in
+          let high : size rule n ≤ position t = omega (arith, i.0, (forest_grown rule e).placed p t there) in
+          (t, there, i.2.4, new_computed t high (tall t (omega (arith, i.2.4, i.2.5)))))
+    ]
+      where
+        tall : (t : Tree) → 0 < height t → IsJoin t
+        tall (leaf q k) l = absurd (omega arith)
+        tall (join q a b) l = tt
+
+    planned_complete : (h p : ℕ) (t : Tree) → slice_get (forest rule e).nodes p ≡ Some t → height t ≡ h → is_computed rule m n t ≡ true → Contains (level_at new h) p
+    planned_complete h p t there tall c = elim (cases_lt p (size rule n)) [
+      | inl l ↦ (let here = node_anywhere rule e n p t there l in
+          let low : position t < size rule n = omega (arith, (forest_grown rule e).placed p t there, l) in
+          added.kept h p (subst (λ xs. Contains xs p) (sym (before_new h)) (subst (λ (k : ℕ). Contains (flat_map (dirty_at m k) (peaks_of rule n)) p) tall (parents_complete m rule n p t here (sym (old_computed t low) ∙ c)))))
+      | inr l ↦ added.complete h p l (get_below (forest rule e).nodes p t there) (e, t, within, there, tall, omega (arith, tall, inner t c))
+    ]
+      where
+        inner : (t : Tree) → is_computed rule m n t ≡ true → 0 < height t
+        inner (leaf q k) c = absurd (cc)
+        inner (join q a b) c = omega arith
+
+    pub all_planned : ArePlanned rule m n e new
+    all_planned h p = (planned_sound h p, planned_complete h p)

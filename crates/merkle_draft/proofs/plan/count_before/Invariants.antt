@@ -1,0 +1,6 @@
+use Rattle.std.specs.Prelude.{◌≡◌, ◌+◌, ◌≤◌, length, drop}
+use Rattle.merkle_draft.specs.DirtyDigests.{are_before}
+use Rattle.merkle_draft.proofs.plan.count_before.Given as goal
+
+abbrev pub invariant-loop-i : goal.invariant-loop-i
+invariant-loop-i g l = (l.i ≤ length l.updates) × (are_before l.updates l.end ≡ l.i + are_before (drop l.i l.updates) l.end)

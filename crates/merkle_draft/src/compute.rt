@@ -1,0 +1,247 @@
+//! The digests of the nodes that follow from a batch's leaves.
+ghost use Rattle.std.specs.Prelude.{◌≡◌, ◌≢◌, ◌+◌, ◌*◌, ◌++◌, ◌<◌, ◌≤◌, ◌^◌, ◌==◌, ℕ, List, Option, Some, [], length, map, None, cond, slice_get, IfErr, IfOk, IfNone, OnOk};
+ghost use Rattle.std.specs.FinMap.{empty, from_entries, get};
+ghost use Rattle.std.specs.List.{Contains, flat_map};
+ghost use Rattle.std.specs.Ordering.{nat_cmp};
+ghost use Rattle.merkle_base.specs.Forest.{size};
+ghost use Rattle.merkle_base.specs.Places.{HasInner, peaks_of};
+ghost use Rattle.merkle_batch_theory.specs.Needed.{computed};
+ghost use Rattle.merkle_draft.specs.DirtyDigests.{HasLeavesOf, dirty_leaves};
+ghost use Rattle.merkle_draft.specs.DraftReads.{below, stored_node, OnlyOverwrites};
+ghost use Rattle.merkle_draft.specs.Levels.{level_at, from_height};
+ghost use Rattle.merkle_draft.specs.NewDigests.{AreNewDigests, LacksNeeded};
+ghost use Rattle.merkle_draft.specs.Settled.{AreAnswers, AreParents, AreSettled, HasSameShape, IsReadyToCompute, IsStage, read_at};
+
+use crate::base::Base;
+use crate::draft::Draft;
+use crate::node_error::NodeError;
+use merkle_base::family::Family;
+use merkle_base::location::Location;
+use merkle_base::position::Position;
+use merkle_digest::digest::Digest;
+use merkle_hasher::hasher::Hasher;
+use merkle_hasher::nodes::node_digests;
+use std::alloc::AllocError;
+use std::collections::BTreeMap;
+
+/// How many nodes of a level are computed between two writes to the draft; a multiple of four, so
+/// that all but the last nodes are hashed four at a time.
+const NODES_AT_ONCE: usize = 64;
+
+impl<F: Family, D: Digest> Draft<F, D> {
+    // Sets the digest that the draft stores for the node at `position`, which is before its end.
+    fn set_node(&mut self, position: Position<F>, digest: D) -> Result<(), AllocError>
+        requires { position < self.old.before + length self.old.appended }
+        ensures shape { HasSameShape self.old self.new }
+        ensures old { (p : ℕ) → self.old.before ≤ p → get self.new.overwritten p ≡ get self.old.overwritten p }
+        ensures set { OnOk result ((p : ℕ) → stored_node self.new p ≡ cond (p == position) (Some digest) (stored_node self.old p)) }
+    {
+        if position < self.size_before {
+            self.overwrites.insert(position, digest)?;
+        } else {
+            let index = (position - self.size_before).as_u64() as usize;
+            self.appended[index] = digest;
+        }
+        Ok(())
+    }
+
+    // Appends to `parents` the nodes at these positions, with the digests of their children.
+    fn read_children<B: Base<F, Digest = D>>(
+        &self,
+        base: &B,
+        height: u32,
+        positions: &[Position<F>],
+        parents: &mut Vec<(Position<F>, D, D)>,
+    ) -> Result<(), NodeError<F>>
+        requires inner { (p : ℕ) → Contains positions.now p → HasInner F.rule F.MAX_LEAVES p height }
+        requires none { parents.old.items ≡ [] }
+        ensures read { OnOk result (AreParents F.rule (read_at self.now (B.contents base.now)) positions.now parents.new.items) }
+        ensures missing { let under = below self.now (B.contents base.now) in
+            IfErr result (λ e. e ≢ NodeError.OutOfMemory → (h : _) (m : ℕ → Option D) (n : ℕ) (ds : List D) (later : List ℕ)
+            → IsStage h F.rule F.MAX_LEAVES m under n ds self.now.before height positions.now later (stored_node self.now)
+            → LacksNeeded F.rule m under n (n + length ds) e) }
+    {
+        for position in positions {
+            let (left, right) = F::children(*position, height);
+            let Some(left_digest) = self.read_node(base, left) else {
+                return Err(NodeError::Missing(left));
+            };
+            let Some(right_digest) = self.read_node(base, right) else {
+                return Err(NodeError::Missing(right));
+            };
+            parents.push((*position, left_digest, right_digest))?;
+        }
+        Ok(())
+    }
+
+    // Sets the digests of the nodes at these positions.
+    fn set_nodes(&mut self, positions: &[Position<F>], digests: &[D]) -> Result<(), AllocError>
+        requires many { length digests.now ≡ length positions.now }
+        requires stored { (p : ℕ) → Contains positions.now p → p < self.old.before + length self.old.appended }
+        ensures shape { HasSameShape self.old self.new }
+        ensures old { (p : ℕ) → self.old.before ≤ p → get self.new.overwritten p ≡ get self.old.overwritten p }
+        ensures settled { OnOk result ((h : _) (m under : ℕ → Option D) (n : ℕ) (ds : List D) (later : List ℕ)
+            → AreAnswers h F.rule m under n ds positions.now digests.now
+            → AreSettled h F.rule m under n ds (positions.now ++ later) (stored_node self.old)
+            → AreSettled h F.rule m under n ds later (stored_node self.new)) }
+    {
+        for i in 0..positions.len() {
+            self.set_node(positions[i], digests[i])?;
+        }
+        Ok(())
+    }
+
+    // Computes the nodes at these positions, which have height `height`.
+    //
+    // `parents` and `digests` are only used for the memory that they have.
+    fn compute_nodes<B: Base<F, Digest = D>, H: Hasher<F, Digest = D>>(
+        &mut self,
+        base: &B,
+        hasher: &H,
+        height: u32,
+        positions: &[Position<F>],
+        parents: &mut Vec<(Position<F>, D, D)>,
+        digests: &mut Vec<D>,
+    ) -> Result<(), NodeError<F>>
+        requires inner { (p : ℕ) → Contains positions.now p → HasInner F.rule F.MAX_LEAVES p height }
+        requires stored { (p : ℕ) → Contains positions.now p → p < self.old.before + length self.old.appended }
+        ensures shape { HasSameShape self.old self.new }
+        ensures old { (p : ℕ) → self.old.before ≤ p → get self.new.overwritten p ≡ get self.old.overwritten p }
+        ensures settled { let h = H.hashing hasher.now in let under = below self.old (B.contents base.now) in
+            OnOk result ((m : ℕ → Option D) (n : ℕ) (ds : List D) (later : List ℕ)
+            → IsStage h F.rule F.MAX_LEAVES m under n ds self.old.before height positions.now later (stored_node self.old)
+            → AreSettled h F.rule m under n ds later (stored_node self.new)) }
+        ensures missing { let h = H.hashing hasher.now in let under = below self.old (B.contents base.now) in
+            IfErr result (λ e. e ≢ NodeError.OutOfMemory → (m : ℕ → Option D) (n : ℕ) (ds : List D) (later : List ℕ)
+            → IsStage h F.rule F.MAX_LEAVES m under n ds self.old.before height positions.now later (stored_node self.old)
+            → LacksNeeded F.rule m under n (n + length ds) e) }
+    {
+        parents.clear();
+        digests.clear();
+        self.read_children(base, height, positions, parents)?;
+        node_digests(hasher, parents, digests)?;
+        self.set_nodes(positions, digests)?;
+        Ok(())
+    }
+
+    // Computes the nodes of height `height` at these positions.
+    fn compute_level<B: Base<F, Digest = D>, H: Hasher<F, Digest = D>>(
+        &mut self,
+        base: &B,
+        hasher: &H,
+        height: u32,
+        positions: &[Position<F>],
+        parents: &mut Vec<(Position<F>, D, D)>,
+        digests: &mut Vec<D>,
+    ) -> Result<(), NodeError<F>>
+        requires inner { (p : ℕ) → Contains positions.now p → HasInner F.rule F.MAX_LEAVES p height }
+        requires stored { (p : ℕ) → Contains positions.now p → p < self.old.before + length self.old.appended }
+        ensures shape { HasSameShape self.old self.new }
+        ensures old { (p : ℕ) → self.old.before ≤ p → get self.new.overwritten p ≡ get self.old.overwritten p }
+        ensures settled { let h = H.hashing hasher.now in let under = below self.old (B.contents base.now) in
+            OnOk result ((m : ℕ → Option D) (n : ℕ) (ds : List D) (later : List ℕ)
+            → IsStage h F.rule F.MAX_LEAVES m under n ds self.old.before height positions.now later (stored_node self.old)
+            → AreSettled h F.rule m under n ds later (stored_node self.new)) }
+        ensures missing { let h = H.hashing hasher.now in let under = below self.old (B.contents base.now) in
+            IfErr result (λ e. e ≢ NodeError.OutOfMemory → (m : ℕ → Option D) (n : ℕ) (ds : List D) (later : List ℕ)
+            → IsStage h F.rule F.MAX_LEAVES m under n ds self.old.before height positions.now later (stored_node self.old)
+            → LacksNeeded F.rule m under n (n + length ds) e) }
+    {
+        for chunk in positions.chunks(NODES_AT_ONCE) {
+            self.compute_nodes(base, hasher, height, chunk, parents, digests)?;
+        }
+        Ok(())
+    }
+
+    // Computes the listed nodes, height by height, and returns how many they are.
+    fn compute_levels<B: Base<F, Digest = D>, H: Hasher<F, Digest = D>>(
+        &mut self,
+        base: &B,
+        hasher: &H,
+        levels: &[Vec<Position<F>>],
+    ) -> Result<u64, NodeError<F>>
+        requires low { length levels.now ≤ 64 }
+        requires few { length (from_height levels.now 0) < 2 ^ 64 }
+        requires inner { (k p : ℕ) → Contains (level_at levels.now k) p → HasInner F.rule F.MAX_LEAVES p k }
+        requires stored { (k p : ℕ) → Contains (level_at levels.now k) p → p < self.old.before + length self.old.appended }
+        ensures shape { HasSameShape self.old self.new }
+        ensures old { (p : ℕ) → self.old.before ≤ p → get self.new.overwritten p ≡ get self.old.overwritten p }
+        ensures settled { let h = H.hashing hasher.now in let under = below self.old (B.contents base.now) in
+            OnOk result ((m : ℕ → Option D) (n : ℕ) (ds : List D)
+            → IsReadyToCompute h F.rule F.MAX_LEAVES m under n ds self.old.before levels.now (stored_node self.old)
+            → AreSettled h F.rule m under n ds [] (stored_node self.new)) }
+        ensures missing { let h = H.hashing hasher.now in let under = below self.old (B.contents base.now) in
+            IfErr result (λ e. e ≢ NodeError.OutOfMemory → (m : ℕ → Option D) (n : ℕ) (ds : List D)
+            → IsReadyToCompute h F.rule F.MAX_LEAVES m under n ds self.old.before levels.now (stored_node self.old)
+            → LacksNeeded F.rule m under n (n + length ds) e) }
+        ensures work { IfOk result (λ k. k ≡ length (from_height levels.now 0)) }
+    {
+        let alloc = *self.appended.allocator();
+        let mut parents = Vec::new(alloc);
+        let mut digests = Vec::new(alloc);
+        let mut count = 0;
+        for height in 0..levels.len() {
+            let positions = levels[height].as_slice();
+            self.compute_level(base, hasher, height as u32, positions, &mut parents, &mut digests)?;
+            count += positions.len() as u64;
+        }
+        Ok(count)
+    }
+
+    // Sets the digests of leaves, and returns them left to right.
+    fn set_leaves(
+        &mut self,
+        updates: &BTreeMap<Position<F>, D>,
+    ) -> Result<Vec<(Position<F>, D)>, AllocError>
+        requires nothing { self.old.overwritten ≡ empty }
+        ensures only { OnlyOverwrites self.old self.new }
+        ensures set { OnOk result (self.new.overwritten ≡ from_entries updates.now.entries) }
+        ensures listed { let m = get {R = nat_cmp} (from_entries updates.now.entries) in
+            IfOk result (λ v. (n : ℕ) → HasLeavesOf F.rule n m → v.items ≡ flat_map (dirty_leaves m) (peaks_of F.rule n)) }
+    {
+        let mut list = Vec::new(*self.appended.allocator());
+        for (position, digest) in updates {
+            self.overwrites.insert(*position, *digest)?;
+            list.push((*position, *digest))?;
+        }
+        Ok(list)
+    }
+
+    /// Gives leaves of a structure with `leaves` leaves their new digests, by position, appends
+    /// leaves with the digests `added`, and computes the nodes that follow, each once. Returns the
+    /// number of parent nodes that it computed.
+    ///
+    /// # Errors
+    ///
+    /// - `Missing` if a needed node is held neither by the kept records nor by the base
+    /// - `OutOfMemory` if a memory request is refused
+    ///
+    /// The draft may have some of the new digests after an error.
+    pub fn compute<B: Base<F, Digest = D>, H: Hasher<F, Digest = D>>(
+        &mut self,
+        base: &B,
+        hasher: &H,
+        leaves: Location<F>,
+        updates: &BTreeMap<Position<F>, D>,
+        added: &[D],
+    ) -> Result<u64, NodeError<F>>
+        requires within { leaves + length added.now ≤ F.MAX_LEAVES }
+        requires sized { size F.rule leaves ≡ self.old.before }
+        requires of { HasLeavesOf F.rule leaves (get {R = nat_cmp} (from_entries updates.now.entries)) }
+        requires nothing { (self.old.overwritten ≡ empty) × (self.old.appended ≡ []) }
+        ensures only { (self.new.before ≡ self.old.before) × (self.new.kept ≡ self.old.kept) }
+        ensures counted { OnOk result (self.new.before + length self.new.appended ≡ size F.rule (leaves + length added.now)) }
+        ensures stored { let m = get {R = nat_cmp} (from_entries updates.now.entries) in let under = below self.old (B.contents base.now) in
+            OnOk result (AreNewDigests (H.hashing hasher.now) F.rule m under leaves added.now (stored_node self.new)) }
+        ensures old { OnOk result ((p : ℕ) → self.old.before ≤ p → get self.new.overwritten p ≡ None) }
+        ensures missing { let m = get {R = nat_cmp} (from_entries updates.now.entries) in let under = below self.old (B.contents base.now) in
+            IfErr result (λ e. e ≢ NodeError.OutOfMemory → LacksNeeded F.rule m under leaves (leaves + length added.now) e) }
+        ensures work { let m = get {R = nat_cmp} (from_entries updates.now.entries) in
+            IfOk result (λ k. k ≡ length (computed F.rule m leaves (leaves + length added.now))) }
+    {
+        let mut levels = Vec::new(*self.appended.allocator());
+        let updates = self.set_leaves(updates)?;
+        self.plan(&mut levels, leaves, &updates, added)?;
+        self.compute_levels(base, hasher, &levels)
+    }
+}

@@ -1,0 +1,3 @@
+mod counting;
+mod lanes;
+mod nodes;
