@@ -67,15 +67,15 @@ module _ {D : Type 0} (h : Hashing D) (rule : List ℕ → List ℕ) (m under : 
       let kids = children (n + length ds) a b at in
       let of_child : (u : Tree) → IsBuilt (forest rule (n + length ds)).nodes u → (Contains todo (position u) → ⊥) → (u ≡ a) ⊎ (u ≡ b) → q ≡ position u → LacksNeeded rule m under n (n + length ds) e =
       λ u there free child place.
-          (let read : None ≡ new_digest h rule m under n ds u = sym none ∙ ap (read_at d base) place ∙ settled_read d base todo same sized settled (position u) u (built_at (forest rule (n + length ds)).nodes u there) free in
-          let unwritten : is_written rule m n u ≡ false = by_test (λ c. is_written rule m n u ≡ c → c ≡ false) (is_written rule m n u)
-              (λ c i. elim (settled (position u) u (built_at (forest rule (n + length ds)).nodes u there)) [
-                | inl x ↦ absurd (free x)
-                | inr w ↦ absurd (let f : false ≡ true = ap is_some read ∙ w.1 c in cc)
-              ])
-              (λ c i. refl) refl in
-          let old = unwritten_old u unwritten in
-          (u, (inl (p, a, b, at, ready.4, child), old.0, old.1), (error ∙ ap Missing place, sym (read ∙ unwritten_digest u unwritten)))) in
+      (let read : None ≡ new_digest h rule m under n ds u = sym none ∙ ap (read_at d base) place ∙ settled_read d base todo same sized settled (position u) u (built_at (forest rule (n + length ds)).nodes u there) free in
+      let unwritten : is_written rule m n u ≡ false = by_test (λ c. is_written rule m n u ≡ c → c ≡ false) (is_written rule m n u)
+      (λ c i. elim (settled (position u) u (built_at (forest rule (n + length ds)).nodes u there)) [
+        | inl x ↦ absurd (free x)
+        | inr w ↦ absurd (let f : false ≡ true = ap is_some read ∙ w.1 c in cc)
+      ])
+      (λ c i. refl) refl in
+      let old = unwritten_old u unwritten in
+      (u, (inl (p, a, b, at, ready.4, child), old.0, old.1), (error ∙ ap Missing place, sym (read ∙ unwritten_digest u unwritten)))) in
       elim which [
         | inl i ↦ of_child a built.4 ready.5 (inl refl) (i ∙ kids.0)
         | inr i ↦ of_child b built.5 ready.6 (inr refl) (i ∙ kids.1)

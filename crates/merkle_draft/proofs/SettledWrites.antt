@@ -68,10 +68,10 @@ module _ {D : Type 0} (before p : ℕ) (ow : FinMap nat_cmp D) (xs : List D) (d 
         ap (λ b. cond b (get ow q) (slice_get (set xs i d) (q - before))) l ∙ ap (slice_get (set xs i d)) k ∙ get_set_same xs i d (omega (arith, is, past, short))
         ∙ sym (ap (λ b. cond b (Some d) (cond (nat_lt q before) (get ow q) (slice_get xs (q - before)))) s.0))
     | inr s ↦ (elim (cases_lt q before) [
-        | inl w ↦ (let l : nat_lt q before ≡ true = lt_yes q before w in
-            ap (λ b. cond b (get ow q) (slice_get (set xs i d) (q - before))) l ∙ sym (ap (λ b. cond b (get ow q) (slice_get xs (q - before))) l))
-        | inr w ↦ ap (cond (nat_lt q before) (get ow q)) (get_set_other xs i (q - before) d (λ e. s.1 (omega (arith, e, is, w, past))))
-      ]) ∙ sym (ap (λ b. cond b (Some d) (cond (nat_lt q before) (get ow q) (slice_get xs (q - before)))) s.0)
+      | inl w ↦ (let l : nat_lt q before ≡ true = lt_yes q before w in
+          ap (λ b. cond b (get ow q) (slice_get (set xs i d) (q - before))) l ∙ sym (ap (λ b. cond b (get ow q) (slice_get xs (q - before))) l))
+      | inr w ↦ ap (cond (nat_lt q before) (get ow q)) (get_set_other xs i (q - before) d (λ e. s.1 (omega (arith, e, is, w, past))))
+    ]) ∙ sym (ap (λ b. cond b (Some d) (cond (nat_lt q before) (get ow q) (slice_get xs (q - before)))) s.0)
   ]
 
 -- past the old nodes nothing is overwritten
@@ -80,4 +80,3 @@ past_overwritten before p ow d less q past = elim (eqb_tells q p) [
   | inl s ↦ absurd (omega (arith, less, past, s.1))
   | inr s ↦ inserted_at ow p d q ∙ ap (λ b. cond b (Some d) (get ow q)) s.0
 ]
-

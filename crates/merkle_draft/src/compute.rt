@@ -182,7 +182,14 @@ impl<F: Family, D: Digest> Draft<F, D> {
         let mut count = 0;
         for height in 0..levels.len() {
             let positions = levels[height].as_slice();
-            self.compute_level(base, hasher, height as u32, positions, &mut parents, &mut digests)?;
+            self.compute_level(
+                base,
+                hasher,
+                height as u32,
+                positions,
+                &mut parents,
+                &mut digests,
+            )?;
             count += positions.len() as u64;
         }
         Ok(count)

@@ -101,7 +101,11 @@ impl<F: Family, D: Digest> Draft<F, D> {
 
     // Returns the digest of the node at `position`: an appended one, or for older nodes the
     // overwritten one, or else the one before the batch.
-    pub(crate) fn read_node<B: Base<F, Digest = D>>(&self, base: &B, position: Position<F>) -> Option<D>
+    pub(crate) fn read_node<B: Base<F, Digest = D>>(
+        &self,
+        base: &B,
+        position: Position<F>,
+    ) -> Option<D>
         ensures value { result ≡ read_at self.now (B.contents base.now) position }
         ensures right { IfSome result (λ d. (truth : ℕ → D) → ReadsAgree (old_node self.now (B.contents base.now)) self.now.before truth
             → self.now.appended ≡ digests_from truth self.now.before (length self.now.appended) → d ≡ truth position) }

@@ -49,7 +49,7 @@ returns-clause-stored g c =
     let planned = subst (ArePlanned rule m n (n + length ds)) (sym c.deref-2.ensures.value) (c.in_ok-plan.ensures.planned m listed) in
     let same : below d2 base ≡ below c.args.self.now base = λ i p. read_over ((c.plan.ensures.only.1 ∙ c.set_leaves.ensures.only.1) i) base p in
     let ready = ready_to_compute h rule g.F.Family.MAX_LEAVES m (below d2 base) n ds d2.before ls c.requires.within (c.requires.sized ∙ sym (c.plan.ensures.only.0 ∙ c.set_leaves.ensures.only.0)) planned d2.overwritten d2.appended
-        c.requires.of (λ q. ap (λ w. get w q) (c.plan.ensures.only.2 ∙ c.in_ok-updates.ensures.set)) (λ i d e. subst (λ (b : ℕ). slice_get d2.appended (size rule (n + i) - b) ≡ Some d) (sym c.plan.ensures.only.0) (c.in_ok-plan.ensures.leaves i d e)) in
+    c.requires.of (λ q. ap (λ w. get w q) (c.plan.ensures.only.2 ∙ c.in_ok-updates.ensures.set)) (λ i d e. subst (λ (b : ℕ). slice_get d2.appended (size rule (n + i) - b) ≡ Some d) (sym c.plan.ensures.only.0) (c.in_ok-plan.ensures.leaves i d e)) in
     on_ok c.compute_levels.result (λ settled. subst (λ u. AreNewDigests h rule m u n ds (stored_node c.compute_levels.new.self)) same
     (all_settled h rule m (below d2 base) n ds (stored_node c.compute_levels.new.self) (settled m n ds ready))) c.compute_levels.ensures.settled
 
@@ -59,8 +59,8 @@ returns-clause-old g c =
     let m = get {R = nat_cmp} (from_entries c.args.updates.now.entries) in
     let old : (p : ℕ) → c.args.self.now.before ≤ p → get c.compute_levels.new.self.overwritten p ≡ None =
     λ p past.
-        (c.compute_levels.ensures.old p (omega (arith, past, c.plan.ensures.only.0, c.set_leaves.ensures.only.0)) ∙ ap (λ w. get w p) (c.plan.ensures.only.2 ∙ c.in_ok-updates.ensures.set)
-        ∙ no_leaf_past rule c.args.leaves m c.requires.of p (omega (arith, past, c.requires.sized))) in
+    (c.compute_levels.ensures.old p (omega (arith, past, c.plan.ensures.only.0, c.set_leaves.ensures.only.0)) ∙ ap (λ w. get w p) (c.plan.ensures.only.2 ∙ c.in_ok-updates.ensures.set)
+    ∙ no_leaf_past rule c.args.leaves m c.requires.of p (omega (arith, past, c.requires.sized))) in
     on_ok_always c.compute_levels.result old
 
 pub returns-clause-missing : goal.returns-clause-missing
@@ -78,7 +78,7 @@ returns-clause-missing g c =
     let planned = subst (ArePlanned rule m n (n + length ds)) (sym c.deref-2.ensures.value) (c.in_ok-plan.ensures.planned m listed) in
     let same : below d2 base ≡ below c.args.self.now base = λ i p. read_over ((c.plan.ensures.only.1 ∙ c.set_leaves.ensures.only.1) i) base p in
     let ready = ready_to_compute h rule g.F.Family.MAX_LEAVES m (below d2 base) n ds d2.before ls c.requires.within (c.requires.sized ∙ sym (c.plan.ensures.only.0 ∙ c.set_leaves.ensures.only.0)) planned d2.overwritten d2.appended
-        c.requires.of (λ q. ap (λ w. get w q) (c.plan.ensures.only.2 ∙ c.in_ok-updates.ensures.set)) (λ i d e. subst (λ (b : ℕ). slice_get d2.appended (size rule (n + i) - b) ≡ Some d) (sym c.plan.ensures.only.0) (c.in_ok-plan.ensures.leaves i d e)) in
+    c.requires.of (λ q. ap (λ w. get w q) (c.plan.ensures.only.2 ∙ c.in_ok-updates.ensures.set)) (λ i d e. subst (λ (b : ℕ). slice_get d2.appended (size rule (n + i) - b) ≡ Some d) (sym c.plan.ensures.only.0) (c.in_ok-plan.ensures.leaves i d e)) in
     if_err c.compute_levels.result (λ e lacks other. subst (λ u. LacksNeeded rule m u n (n + length ds) e) same (lacks other m n ds ready)) c.compute_levels.ensures.missing
 
 pub returns-clause-work : goal.returns-clause-work

@@ -30,6 +30,6 @@ loop-position-preserved g c =
     let p = c.position-item.result in
     let more : take (i + 1) ps ≡ take i ps ++ p ∷ [] = take_more ps i p c.loop-position-test.true ∙ ap (λ x. take i ps ++ x ∷ []) (sym c.position-item.is) in
     let all = parents_more g.F.Family.rule read (take i ps) c.loop-position.parents.items p c.children-left.result.0 c.children-left.result.1 c.in-Some.left_digest c.in-Some-read_node.right_digest
-        c.loop-position.invariant c.children-left.ensures (sym c.in-Some.ensures.value) (sym c.in-Some-read_node.ensures.value) in
+    c.loop-position.invariant c.children-left.ensures (sym c.in-Some.ensures.value) (sym c.in-Some-read_node.ensures.value) in
     subst (λ xs. AreParents g.F.Family.rule read xs c.push.new.self.items) (sym more)
     (subst (AreParents g.F.Family.rule read (take i ps ++ p ∷ [])) (sym c.in_ok-push.ensures.items) all)
