@@ -17,13 +17,26 @@ use Rattle.merkle_base.proofs.Growth.{forest_grown}
 use Rattle.merkle_base.proofs.Lookup.{peak_node}
 use Rattle.merkle_base.proofs.Paths.{leaf_under, peak_holding}
 use Rattle.merkle_base.proofs.PeakLists.{Spans, covers_spans, all_reverse}
-use Rattle.merkle_draft.specs.DirtyDigests.{dirty_leaves, HasLeavesOf}
+use Rattle.merkle_draft.specs.DirtyLeaves.{dirty_leaves, HasLeavesOf}
 use Rattle.merkle_batch_theory.proofs.ListFacts.{get_reverse}
-use Rattle.merkle_draft.proofs.DirtyDigests.{or_left_some, or_right_some, cond_yes, cond_no}
 use Rattle.merkle_draft.proofs.DirtyFacts.{leaf_dirty, leaf_untouched, Between, dirty_between, after_start}
 use Rattle.merkle_batch_theory.proofs.OptionFacts.{none_or_some}
 use Rattle.merkle_base.proofs.Nodes.{all_append}
 use Rattle.merkle_base.proofs.Lists.{all_imply}
+
+or_left_some : {D : Type 0} (a b : Option D) → is_some a ≡ true → is_some (option_or a b) ≡ true
+or_left_some None b e = absurd (false≢true e)
+or_left_some (Some x) b e = refl
+
+or_right_some : {D : Type 0} (a b : Option D) → is_some b ≡ true → is_some (option_or a b) ≡ true
+or_right_some None b e = e
+or_right_some (Some x) b e = refl
+
+cond_yes : {A : Type 0} (b : Bool) (x y : A) → b ≡ true → cond b x y ≡ x
+cond_yes b x y e = ap (λ z. cond z x y) e
+
+cond_no : {A : Type 0} (b : Bool) (x y : A) → b ≡ false → cond b x y ≡ y
+cond_no b x y e = ap (λ z. cond z x y) e
 
 abbrev keys : {D : Type 0} → List (ℕ × D) → List ℕ
 keys es = map (λ e. e.0) es

@@ -5,7 +5,7 @@ use Rattle.std.specs.List.{Contains, filter}
 use Rattle.std.specs.Option.{option_or}
 use Rattle.std.specs.Ordering.{nat_cmp}
 use Rattle.std.specs.FinMap.{FinMap, get}
-use Rattle.std.proofs.lemmas.Bool.{cases_lt, or_parts, or_cases, or_left, or_right, le-leb, leb-true}
+use Rattle.std.proofs.lemmas.Bool.{cases_lt, lt-ltb, le-ltb, lt-leb, or_parts, or_cases, or_left, or_right, le-leb, leb-true}
 use Rattle.std.proofs.lemmas.Bool.Decides.{nat_tests}
 use Rattle.std.proofs.lemmas.List.Elements.{Contains-append_left, Contains-append_right}
 use Rattle.merkle_base.specs.Heights.{IsLawful}
@@ -20,19 +20,10 @@ use Rattle.merkle_base.proofs.Lists.{get_below, get_exists, one_there}
 use Rattle.merkle_base.proofs.Nodes.{leaf_here, node_anywhere, size_le, size_lt}
 use Rattle.merkle_batch_theory.proofs.OptionFacts.{none_of, or_some}
 use Rattle.merkle_batch_theory.specs.Needed.{computed, is_computed}
-use Rattle.merkle_draft.specs.DirtyDigests.{HasLeavesOf}
+use Rattle.merkle_draft.specs.DirtyLeaves.{HasLeavesOf}
 use Rattle.merkle_draft.specs.Levels.{ArePlanned, from_height, level_at}
 use Rattle.merkle_draft.specs.NewDigests.{AreNewDigests, is_written, new_digest}
 use Rattle.merkle_draft.specs.Settled.{AreSettled, IsReadyToCompute}
-
-lt_yes : (a b : ℕ) → a < b → nat_lt a b ≡ true
-lt_yes a b h = grind (arith, nat_tests)
-
-lt_no : (a b : ℕ) → b ≤ a → nat_lt a b ≡ false
-lt_no a b h = grind (arith, nat_tests)
-
-le_no : (a b : ℕ) → b < a → nat_le a b ≡ false
-le_no a b h = grind (arith, nat_tests)
 
 -- what is listed at a height is listed
 pub listed_in_all : {A : Type 0} (ls : List (Vec ℕ A)) (k p : ℕ) → Contains (level_at ls k) p → Contains (from_height ls 0) p
@@ -71,10 +62,10 @@ module _ {D A : Type 0} (h : Hashing D) (rule : List ℕ → List ℕ) (max_leav
     stored p = cond (nat_lt p before) (get ow p) (slice_get xs (p - before))
 
     stored_old : (p : ℕ) → p < size rule n → stored p ≡ m p
-    stored_old p less = ap (λ b. cond b (get ow p) (slice_get xs (p - before))) (lt_yes p before (omega (arith, less, sized))) ∙ old p
+    stored_old p less = ap (λ b. cond b (get ow p) (slice_get xs (p - before))) (lt-ltb p before (omega (arith, less, sized))) ∙ old p
 
     stored_new : (i : ℕ) (d : D) → slice_get ds i ≡ Some d → stored (size rule (n + i)) ≡ Some d
-    stored_new i d e = ap (λ b. cond b (get ow (size rule (n + i))) (slice_get xs (size rule (n + i) - before))) (lt_no (size rule (n + i)) before (omega (arith, sized, size_le rule n (n + i) (omega arith)))) ∙ new i d e
+    stored_new i d e = ap (λ b. cond b (get ow (size rule (n + i))) (slice_get xs (size rule (n + i) - before))) (le-ltb (size rule (n + i)) before (omega (arith, sized, size_le rule n (n + i) (omega arith)))) ∙ new i d e
 
     -- the leaves have their digests from the start
     leaf_settled : (p q k : ℕ) → slice_get (forest rule (n + length ds)).nodes p ≡ Some (leaf q k) →
@@ -84,7 +75,7 @@ module _ {D A : Type 0} (h : Hashing D) (rule : List ℕ → List ℕ) (max_leav
         let here = leaf_at rule (n + length ds) p q k at in
         elim (cases_lt k n) [
           | inl less ↦ (let low : q < size rule n = omega (arith, here.0, size_lt rule k n less) in
-              let no : nat_le (size rule n) q ≡ false = le_no (size rule n) q low in
+              let no : nat_le (size rule n) q ≡ false = lt-leb (size rule n) q low in
               let is : stored p ≡ m q = stored_old p (omega (arith, low, place)) ∙ ap m (sym place) in
               let digest : new_digest h rule m under n ds (leaf q k) ≡ option_or (m q) (under q) = ap (λ b. cond b (slice_get ds (k - n)) (option_or (m q) (under q))) no in
               by_test (λ b. is_some (m q) ≡ b → (stored p ≡ cond (is_written rule m n (leaf q k)) (new_digest h rule m under n ds (leaf q k)) None) × (is_written rule m n (leaf q k) ≡ true → is_some (new_digest h rule m under n ds (leaf q k)) ≡ true)) (is_some (m q))

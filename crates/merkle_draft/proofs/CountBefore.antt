@@ -1,7 +1,7 @@
 -- How many pairs stand before a position.
 use Rattle.std.proofs.Common.{◌≡◌, ℕ, zero, suc, ◌<◌, ◌≤◌, List, [], ◌∷◌, length, drop, get_or, cond, arith, refl, ap}
 use Rattle.std.proofs.lemmas.Bool.{lt-ltb, le-ltb}
-use Rattle.merkle_draft.specs.DirtyDigests.{are_before}
+use Rattle.merkle_draft.specs.DirtyLeaves.{are_before}
 
 module _ {D : Type 0} where
   pub before_here : (u : ℕ × D) (us : List (ℕ × D)) (e : ℕ) → u.0 < e → are_before (u ∷ us) e ≡ suc (are_before us e)

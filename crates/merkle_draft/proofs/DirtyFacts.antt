@@ -10,7 +10,7 @@ use Rattle.merkle_base.proofs.Births.{leaf_at}
 use Rattle.merkle_base.proofs.Nodes.{size_le, size_step, all_append}
 use Rattle.merkle_base.proofs.PeakLists.{Spans}
 use Rattle.merkle_batch_theory.specs.History.{is_dirty}
-use Rattle.merkle_draft.specs.DirtyDigests.{dirty_leaves, are_before}
+use Rattle.merkle_draft.specs.DirtyLeaves.{dirty_leaves, are_before}
 use Rattle.merkle_draft.proofs.CountBefore.{before_none, before_here}
 use Rattle.merkle_batch_theory.proofs.OptionFacts.{none_of, none_or_some}
 use Rattle.merkle_base.proofs.Lists.{all_imply}
@@ -43,12 +43,6 @@ module _ {D : Type 0} (m : ℕ → Option D) where
   ]
   not_dirty (join p l r) e = (let k = both_empty (dirty_leaves m l) (dirty_leaves m r) e in
       ap (λ b. b || is_dirty m r) (not_dirty l k.0) ∙ not_dirty r k.1)
-
-  pub some_dirty : (t : Tree) (u : ℕ × D) (us : List (ℕ × D)) → u ∷ us ≡ dirty_leaves m t → is_dirty m t ≡ true
-  some_dirty t u us e = elim (cases_Bool (is_dirty m t)) [
-    | inl b ↦ b
-    | inr b ↦ absurd (let k : u ∷ us ≡ [] = e ∙ none_dirty t b in cc)
-  ]
 
 -- ---- their positions
 -- from that of leaf a on, before that of leaf b

@@ -4,16 +4,10 @@ pub mod Stages
 pub mod SettledWrites
 pub mod ParentReads
 pub mod SettledFacts
-pub mod ChildReads
-pub mod DraftFacts
 pub mod PeakReads
-pub mod DirtyDigests
 pub mod CountBefore
 pub mod DirtyFacts
-pub mod Refreshing
-pub mod DirtyPeaks
 pub mod ChangedLeaves
-pub mod DirtyLeaves
 pub mod NodeErrorFacts
 pub mod NodePositions
 pub mod KeptRecords

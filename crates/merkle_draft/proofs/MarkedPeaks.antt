@@ -9,7 +9,7 @@ use Rattle.merkle_base.proofs.Lists.{cons_head, cons_tail, all_imply}
 use Rattle.merkle_base.proofs.PeakLists.{Spans, peaks_spans, peaks_built, spans_end}
 use Rattle.merkle_hasher.specs.Subtrees.{IsNodeOf, AreNodes}
 use Rattle.merkle_hasher.proofs.PeakNodes.{peaks_at}
-use Rattle.merkle_draft.specs.DirtyDigests.{dirty_leaves, are_before}
+use Rattle.merkle_draft.specs.DirtyLeaves.{dirty_leaves, are_before}
 use Rattle.merkle_draft.specs.Levels.{AreMarked}
 use Rattle.merkle_draft.proofs.DirtyFacts.{Between, dirty_between, after_start, all_before, split_parts}
 use Rattle.merkle_draft.proofs.Marking.{marked_nothing, marked_append}

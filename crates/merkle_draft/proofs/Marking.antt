@@ -13,7 +13,7 @@ use Rattle.merkle_base.proofs.Nodes.{node_built}
 use Rattle.merkle_hasher.specs.Subtrees.{Denotes}
 use Rattle.merkle_hasher.specs.declared.subtree.Subtree.{Subtree}
 use Rattle.merkle_batch_theory.specs.History.{is_dirty}
-use Rattle.merkle_draft.specs.DirtyDigests.{dirty_leaves, are_before}
+use Rattle.merkle_draft.specs.DirtyLeaves.{dirty_leaves, are_before}
 use Rattle.merkle_draft.specs.Levels.{level_at, from_height, dirty_at, dirty_count, all_dirty_count, AreMarked}
 use Rattle.merkle_draft.proofs.DirtyFacts.{none_dirty, not_dirty, before_right, split_parts}
 

@@ -3,7 +3,7 @@ use Rattle.std.proofs.Common.{◌≡◌, ℕ, zero, suc, ◌+◌, ◌-◌, ◌<�
 use Rattle.std.specs.Prelude.{is_some, nat_le, nat_lt, ◌||◌, ◌==◌}
 use Rattle.std.specs.List.{Contains}
 use Rattle.std.specs.Option.{option_or}
-use Rattle.std.proofs.lemmas.Bool.{or_parts, or_left, le-leb, leb-true}
+use Rattle.std.proofs.lemmas.Bool.{lt-ltb, or_parts, or_left, le-leb, leb-true}
 use Rattle.std.proofs.lemmas.Bool.Decides.{nat_tests, eqb_tells}
 use Rattle.std.proofs.lemmas.List.Elements.{Contains-append_left, Contains-append_right, Contains-append_cases}
 use Rattle.merkle_base.specs.Tree.{Tree, leaf, join, position, height, IsBuilt}
@@ -21,9 +21,6 @@ use Rattle.merkle_draft.specs.NewDigests.{LacksNeeded, is_written, new_digest, o
 use Rattle.merkle_draft.specs.Settled.{AreParents, AreSettled, IsReady, IsStage, read_at}
 use Rattle.merkle_draft.specs.declared.node_error.NodeError.{NodeError}
 use Rattle.merkle_draft.specs.declared.node_error.NodeError.TheVariants.{Missing}
-
-lt_yes : (a b : ℕ) → a < b → nat_lt a b ≡ true
-lt_yes a b h = grind (arith, nat_tests)
 
 lt_from : (a b : ℕ) → nat_le a b ≡ false → b < a
 lt_from a b e = grind (arith, nat_tests)
@@ -51,7 +48,7 @@ module _ {D : Type 0} (h : Hashing D) (rule : List ℕ → List ℕ) (m under : 
         (λ b c. (let none : stored_node d p ≡ None = w.0 ∙ ap (λ x. cond x (new_digest h rule m under n ds t) None) b in
         let place : position t ≡ p = (forest_grown rule (n + length ds)).placed p t at in
         let old : position t < size rule n = (unwritten_old t b).0 in
-        let less : nat_lt p d.before ≡ true = lt_yes p d.before (omega (arith, place, old, sized)) in
+        let less : nat_lt p d.before ≡ true = lt-ltb p d.before (omega (arith, place, old, sized)) in
         ap (λ o. option_or o (cond (nat_lt p d.before) (below d base p) None)) none ∙ ap (λ x. cond x (below d base p) None) less
         ∙ ap (λ f. f p) (sym same) ∙ ap under (sym place) ∙ sym (unwritten_digest t b))) refl
   ]

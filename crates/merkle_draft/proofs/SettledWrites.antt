@@ -5,8 +5,8 @@ use Rattle.std.specs.List.{Contains}
 use Rattle.std.specs.Ordering.{nat_cmp}
 use Rattle.std.specs.FinMap.{FinMap, get, insert}
 use Rattle.std.proofs.Math.ListN.{set}
-use Rattle.std.proofs.lemmas.Bool.{cases_lt, ltb-true}
-use Rattle.std.proofs.lemmas.Bool.Decides.{nat_tests, eqb_tells}
+use Rattle.std.proofs.lemmas.Bool.{cases_lt, lt-ltb, le-ltb}
+use Rattle.std.proofs.lemmas.Bool.Decides.{eqb_tells}
 use Rattle.std.proofs.lemmas.List.Elements.{Contains-append_left, Contains-append_right, Contains-append_cases}
 use Rattle.merkle_base.specs.Tree.{Tree}
 use Rattle.merkle_base.specs.Forest.{forest}
@@ -17,20 +17,8 @@ use Rattle.merkle_batch_theory.proofs.MapFacts.{inserted_at}
 use Rattle.merkle_draft.specs.NewDigests.{is_written, new_digest}
 use Rattle.merkle_draft.specs.Settled.{AreSettled}
 
-lt_yes : (a b : ℕ) → a < b → nat_lt a b ≡ true
-lt_yes a b h = grind (arith, nat_tests)
-
-lt_no : (a b : ℕ) → b ≤ a → nat_lt a b ≡ false
-lt_no a b h = grind (arith, nat_tests)
-
 single : {X : Type 0} (x y : X) → Contains (x ∷ []) y → y ≡ x
 single x y c = (let z : c.0 ≡ 0 = omega (arith, c.1) in sym (sym (ap (λ k. get_or (x ∷ []) k y) z) ∙ c.2))
-
--- an element of what is left of a list is one of the list
-pub drop_within : {X : Type 0} (i : ℕ) (xs ys : List X) (x : X) → Contains (drop i xs ++ ys) x → Contains (xs ++ ys) x
-drop_within zero xs ys x c = c
-drop_within (suc i) [] ys x c = c
-drop_within (suc i) (z ∷ xs) ys x c = Contains-append_right (z ∷ []) (xs ++ ys) x (drop_within i xs ys x c)
 
 module _ {D : Type 0} (h : Hashing D) (rule : List ℕ → List ℕ) (m under : ℕ → Option D) (n : ℕ) (ds : List D) where
   -- one node is computed
@@ -53,7 +41,7 @@ module _ {D : Type 0} (before p : ℕ) (ow : FinMap nat_cmp D) (xs : List D) (d 
   -- an old node
   pub stored_overwritten : p < before → (q : ℕ) → cond (nat_lt q before) (get (insert ow p d) q) (slice_get xs (q - before)) ≡ cond (q == p) (Some d) (cond (nat_lt q before) (get ow q) (slice_get xs (q - before)))
   stored_overwritten less q = elim (eqb_tells q p) [
-    | inl s ↦ (let l : nat_lt q before ≡ true = lt_yes q before (omega (arith, less, s.1)) in
+    | inl s ↦ (let l : nat_lt q before ≡ true = lt-ltb q before (omega (arith, less, s.1)) in
         ap (λ b. cond b (get (insert ow p d) q) (slice_get xs (q - before))) l ∙ inserted_at ow p d q ∙ ap (λ b. cond b (Some d) (get ow q)) s.0 ∙ sym (ap (λ b. cond b (Some d) (cond (nat_lt q before) (get ow q) (slice_get xs (q - before)))) s.0))
     | inr s ↦ ap (λ o. cond (nat_lt q before) o (slice_get xs (q - before))) (inserted_at ow p d q ∙ ap (λ b. cond b (Some d) (get ow q)) s.0)
         ∙ sym (ap (λ b. cond b (Some d) (cond (nat_lt q before) (get ow q) (slice_get xs (q - before)))) s.0)
@@ -63,12 +51,12 @@ module _ {D : Type 0} (before p : ℕ) (ow : FinMap nat_cmp D) (xs : List D) (d 
   pub stored_appended : before ≤ p → p < before + length xs → (i : ℕ) → i ≡ p - before → (q : ℕ) →
       cond (nat_lt q before) (get ow q) (slice_get (set xs i d) (q - before)) ≡ cond (q == p) (Some d) (cond (nat_lt q before) (get ow q) (slice_get xs (q - before)))
   stored_appended past short i is q = elim (eqb_tells q p) [
-    | inl s ↦ (let l : nat_lt q before ≡ false = lt_no q before (omega (arith, past, s.1)) in
+    | inl s ↦ (let l : nat_lt q before ≡ false = le-ltb q before (omega (arith, past, s.1)) in
         let k : q - before ≡ i = omega (arith, is, s.1) in
         ap (λ b. cond b (get ow q) (slice_get (set xs i d) (q - before))) l ∙ ap (slice_get (set xs i d)) k ∙ get_set_same xs i d (omega (arith, is, past, short))
         ∙ sym (ap (λ b. cond b (Some d) (cond (nat_lt q before) (get ow q) (slice_get xs (q - before)))) s.0))
     | inr s ↦ (elim (cases_lt q before) [
-      | inl w ↦ (let l : nat_lt q before ≡ true = lt_yes q before w in
+      | inl w ↦ (let l : nat_lt q before ≡ true = lt-ltb q before w in
           ap (λ b. cond b (get ow q) (slice_get (set xs i d) (q - before))) l ∙ sym (ap (λ b. cond b (get ow q) (slice_get xs (q - before))) l))
       | inr w ↦ ap (cond (nat_lt q before) (get ow q)) (get_set_other xs i (q - before) d (λ e. s.1 (omega (arith, e, is, w, past))))
     ]) ∙ sym (ap (λ b. cond b (Some d) (cond (nat_lt q before) (get ow q) (slice_get xs (q - before)))) s.0)

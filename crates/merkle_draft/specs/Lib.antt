@@ -1,6 +1,5 @@
 pub mod NodeErrors
-pub mod DirtyDigests
-pub mod Drafts
+pub mod DirtyLeaves
 pub mod DraftReads
 pub mod NewDigests
 pub mod Levels

@@ -6,7 +6,7 @@ ghost use Rattle.std.specs.Ordering.{nat_cmp};
 ghost use Rattle.merkle_base.specs.Forest.{size};
 ghost use Rattle.merkle_base.specs.Places.{HasInner, peaks_of};
 ghost use Rattle.merkle_batch_theory.specs.Needed.{computed};
-ghost use Rattle.merkle_draft.specs.DirtyDigests.{HasLeavesOf, dirty_leaves};
+ghost use Rattle.merkle_draft.specs.DirtyLeaves.{HasLeavesOf, dirty_leaves};
 ghost use Rattle.merkle_draft.specs.DraftReads.{below, stored_node, OnlyOverwrites};
 ghost use Rattle.merkle_draft.specs.Levels.{level_at, from_height};
 ghost use Rattle.merkle_draft.specs.NewDigests.{AreNewDigests, LacksNeeded};

@@ -5,7 +5,7 @@ ghost use Rattle.merkle_base.specs.Forest.{size};
 ghost use Rattle.merkle_base.specs.Places.{peaks_of};
 ghost use Rattle.merkle_base.specs.Tree.{Tree};
 ghost use Rattle.merkle_batch_theory.specs.Needed.{computed};
-ghost use Rattle.merkle_draft.specs.DirtyDigests.{are_before, dirty_leaves};
+ghost use Rattle.merkle_draft.specs.DirtyLeaves.{are_before, dirty_leaves};
 ghost use Rattle.merkle_draft.specs.DraftReads.{OnlyAppends};
 ghost use Rattle.merkle_draft.specs.Levels.{level_at, from_height, ArePlanned, AreMarked, AreAdded};
 ghost use Rattle.merkle_hasher.specs.Subtrees.{Denotes};

@@ -1,10 +1,11 @@
 //! Families and a hasher for tests and programs that exercise generic code.
 //!
 //! Generic code is proved from its bounds alone. These are types that the crates with that code do
-//! not know: [`flat`] and [`pairs`] are families with small limits, and [`keyed`] is a hasher whose
-//! digests depend on its value.
+//! not know: [`flat`] and [`pairs`] are families with small limits, [`keyed`] is a hasher whose
+//! digests depend on its value, and [`counting`] one that counts its calls.
 #![tactic(auto)]
 
+pub mod counting;
 pub mod flat;
 pub mod keyed;
 pub mod pairs;

@@ -1,96 +1,9 @@
-ghost use Rattle.std.specs.Prelude.{◌≡◌, ◌∷◌, []};
-ghost use Rattle.std.proofs.Common.{refl, rules};
-ghost use Rattle.merkle_base.specs.Scheme.{scheme_of};
-
-use merkle_base::family::{Bagging, Family};
-use merkle_base::position::Position;
-use merkle_digest::digest::{Xor8, Xor8Digest};
+use merkle_base::family::Bagging;
+use merkle_fixtures::counting::Counting;
 use merkle_fixtures::flat;
-use merkle_hasher::hasher::{Hasher, Standard};
 use merkle_hasher::nodes::node_digests;
 use std::cell::Cell;
 use std::test::Fail;
-
-/// A hasher that counts the pairs of nodes and the single nodes that it computes.
-#[derive(Clone, Copy)]
-struct Counting<'a> {
-    bagging: Bagging,
-    pairs: &'a Cell<u64>,
-    singles: &'a Cell<u64>,
-}
-
-impl Counting<'_> {
-    fn plain(&self) -> Standard<Xor8>
-        ensures { result ≡ self.now.bagging }
-    {
-        Standard::new(self.bagging)
-    }
-}
-
-fn count(calls: &Cell<u64>) {
-    calls.set(calls.get().wrapping_add(1));
-}
-
-impl<F: Family> Hasher<F> for Counting<'_> {
-    type Digest = Xor8Digest;
-
-    ghost hashing = { λ s. ⟦<Standard<Xor8> as Hasher<F>>⟧.hashing s.bagging };
-
-    ghost bagging_of = { λ s. s.bagging };
-
-    ghost scheme = { λ s. scheme_of (⟦<Standard<Xor8> as Hasher<F>>⟧.hashing s.bagging) s.bagging F.rule F.MAX_LEAVES F.DOMAIN };
-
-    fn hash(&self, parts: &[&[u8]]) -> Xor8Digest {
-        self.plain().hash(parts)
-    }
-
-    fn root_bagging(&self) -> Bagging {
-        self.bagging
-    }
-
-    fn node_digest(
-        &self,
-        position: Position<F>,
-        left: &Xor8Digest,
-        right: &Xor8Digest,
-    ) -> Xor8Digest
-        ensures { result ≡ (⟦<Standard<Xor8> as Hasher<F>>⟧.hashing self.now.bagging).node position left.now right.now }
-    {
-        count(self.singles);
-        self.plain().node_digest(position, left, right)
-    }
-
-    fn node_digest_pair(
-        &self,
-        nodes: [(Position<F>, Xor8Digest, Xor8Digest); 2],
-    ) -> (Xor8Digest, Xor8Digest)
-        ensures { let h = ⟦<Standard<Xor8> as Hasher<F>>⟧.hashing self.now.bagging in (d : _) (e : _) → nodes ≡ d ∷ e ∷ []
-            → (result.0 ≡ h.node d.0 d.1 d.2) × (result.1 ≡ h.node e.0 e.1 e.2) }
-    {
-        count(self.pairs);
-        self.plain().node_digest_pair(nodes)
-    }
-
-    fn leaf_digest(&self, position: Position<F>, element: &[u8]) -> Xor8Digest
-        ensures { result ≡ (⟦<Standard<Xor8> as Hasher<F>>⟧.hashing self.now.bagging).leaf position element.now }
-    {
-        self.plain().leaf_digest(position, element)
-    }
-
-    fn digest(&self, bytes: &[u8]) -> Xor8Digest {
-        self.plain().digest(bytes)
-    }
-
-    fn fold(&self, acc: &Xor8Digest, peak: &Xor8Digest) -> Xor8Digest {
-        Hasher::<F>::fold(&self.plain(), acc, peak)
-    }
-
-    ghost clone_keeps = { Prim.search rules };
-
-    ghost scheme_is = { λ x. refl };
-
-    ghost over_digest = { λ x. record { bytes = refl; same = refl; empty = refl } };
-}
 
 #[test]
 fn pairs_and_single_nodes(rt: HostRuntime) -> Result<(), Fail> {

@@ -1,5 +1,5 @@
 use Rattle.std.specs.Prelude.{◌≡◌, ◌+◌, ◌≤◌, length, drop}
-use Rattle.merkle_draft.specs.DirtyDigests.{are_before}
+use Rattle.merkle_draft.specs.DirtyLeaves.{are_before}
 use Rattle.merkle_draft.proofs.plan.count_before.Given as goal
 
 abbrev pub invariant-loop-i : goal.invariant-loop-i

@@ -1,7 +1,7 @@
-use Rattle.std.proofs.Common.{◌≡◌, [], ◌∷◌, ◌++◌, map, length, arith, ap, sym, ◌∙◌, subst, append_assoc, append-nil, refl}
+use Rattle.std.proofs.Common.{◌≡◌, [], ◌∷◌, ◌++◌, map, length, arith, ap, sym, ◌∙◌, append_assoc, append-nil, refl}
 use Rattle.merkle_base.specs.Places.{peaks_of, placed}
 use Rattle.merkle_base.proofs.PeakLists.{first-placed}
-use Rattle.merkle_draft.specs.DraftReads.{IsPeakGap, old_node}
+use Rattle.merkle_draft.specs.DraftReads.{old_node}
 use Rattle.merkle_draft.proofs.NodeErrorFacts.{gap_below, listed_below}
 use Rattle.merkle_draft.proofs.PeakReads.{all_read, first_more, first_none, peak_lacks}
 use Rattle.merkle_draft.specs.declared.node_error.NodeError.TheVariants.{Missing}

@@ -1,4 +1,4 @@
-use Rattle.std.proofs.Common.{ap, sym, ◌∙◌}
+use Rattle.std.proofs.Common.{ap, ◌∙◌}
 use Rattle.std.specs.FinMap.{from_entries}
 use Rattle.merkle_draft.proofs.ChangedLeaves.{entries_moved, map_moved, entries_all, entries_are}
 use Rattle.merkle_draft.proofs.draft.Draft.set_leaves.Goals as goal
