@@ -15,7 +15,7 @@ use Rattle.merkle_hasher.specs.declared.subtree.Subtree.{Subtree}
 use Rattle.merkle_batch_theory.specs.History.{is_dirty}
 use Rattle.merkle_draft.specs.DirtyLeaves.{dirty_leaves, are_before}
 use Rattle.merkle_draft.specs.Levels.{level_at, from_height, dirty_at, dirty_count, all_dirty_count, AreMarked}
-use Rattle.merkle_draft.proofs.DirtyFacts.{none_dirty, not_dirty, before_right, split_parts}
+use Rattle.merkle_draft.proofs.DirtyFacts.{both_empty, none_dirty, not_dirty, before_right, split_parts}
 
 pub on_ok_both : {T E : Type 0} {P Q R : Type 0} (r : Result T E) → (P → Q → R) → OnOk r P → OnOk r Q → OnOk r R
 on_ok_both (Ok x) f p q = f p q
@@ -63,6 +63,13 @@ module _ {D : Type 0} (m : ℕ → Option D) where
       listed = λ h. sym (append-nil (level_at ls h)) ∙ ap (λ xs. level_at ls h ++ (xs ++ [])) (sym (none_at h t e));
       counted = omega (arith, none_counted t e);
     }
+
+    -- trees without dirty leaves
+    pub marked_none : (ts : List Tree) (ls : List (Vec ℕ A)) → flat_map (dirty_leaves m) ts ≡ [] → AreMarked m ts ls ls
+    marked_none [] ls e = marked_nothing ls
+    marked_none (t ∷ ts) ls e =
+        let none = both_empty (dirty_leaves m t) (flat_map (dirty_leaves m) ts) e in
+        marked_append (t ∷ []) ts ls ls ls (marked_quiet t ls (not_dirty m t none.0)) (marked_none ts ls none.1)
 
     pub marked_leaf : (p n : ℕ) (ls : List (Vec ℕ A)) → AreMarked m (leaf p n ∷ []) ls ls
     marked_leaf p n ls = record { listed = λ h. sym (append-nil (level_at ls h)); counted = omega arith }

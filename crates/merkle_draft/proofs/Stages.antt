@@ -1,5 +1,5 @@
 -- Parts of a level.
-use Rattle.std.proofs.Common.{◌≡◌, ℕ, ◌+◌, List, ◌++◌, length, Option, refl, sym, ap, inl, inr, ◌∙◌, subst, append_assoc}
+use Rattle.std.proofs.Common.{◌≡◌, ℕ, ◌+◌, ◌<◌, ◌≤◌, List, [], ◌∷◌, ◌++◌, length, get_or, Option, arith, refl, sym, ap, inl, inr, ◌∙◌, subst, append_assoc}
 use Rattle.std.specs.List.{Contains}
 use Rattle.std.proofs.lemmas.List.Elements.{Contains-append_left, Contains-append_right}
 use Rattle.merkle_base.specs.Hashing.{Hashing}
@@ -8,6 +8,12 @@ use Rattle.merkle_batch_theory.specs.Contents.{Contents}
 use Rattle.merkle_batch_theory.specs.Read.{read_over}
 use Rattle.merkle_draft.specs.DraftReads.{DraftModel, below}
 use Rattle.merkle_draft.specs.Settled.{AreSettled, HasSameShape, IsStage}
+
+-- a list of one element
+pub one_listed : (xs : List ℕ) (x : ℕ) → 1 ≤ length xs → length xs < 2 → x ≡ get_or xs 0 x → xs ≡ x ∷ []
+one_listed [] x some few at = absurd (omega (arith, some))
+one_listed (y ∷ []) x some few at = ap (λ z. z ∷ []) (sym at)
+one_listed (y ∷ z ∷ zs) x some few at = absurd (omega (arith, few))
 
 -- what lies below stays
 pub below_same : {D : Type 0} (old new : DraftModel D) (base : Contents D) → HasSameShape old new → below new base ≡ below old base

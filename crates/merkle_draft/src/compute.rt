@@ -1,5 +1,5 @@
 //! The digests of the nodes that follow from a batch's leaves.
-ghost use Rattle.std.specs.Prelude.{◌≡◌, ◌≢◌, ◌+◌, ◌*◌, ◌++◌, ◌<◌, ◌≤◌, ◌^◌, ◌==◌, ℕ, List, Option, Some, [], length, map, None, cond, slice_get, IfErr, IfOk, IfNone, OnOk};
+ghost use Rattle.std.specs.Prelude.{◌≡◌, ◌≢◌, ◌+◌, ◌*◌, ◌++◌, ◌∷◌, ◌<◌, ◌≤◌, ◌^◌, ◌==◌, ℕ, List, Option, Some, [], length, map, None, cond, slice_get, IfErr, IfOk, IfNone, OnOk};
 ghost use Rattle.std.specs.FinMap.{empty, from_entries, get};
 ghost use Rattle.std.specs.List.{Contains, flat_map};
 ghost use Rattle.std.specs.Ordering.{nat_cmp};
@@ -124,8 +124,8 @@ impl<F: Family, D: Digest> Draft<F, D> {
         Ok(())
     }
 
-    // Computes the nodes of height `height` at these positions.
-    fn compute_level<B: Base<F, Digest = D>, H: Hasher<F, Digest = D>>(
+    // Computes the nodes of height `height` at these positions, some at a time.
+    fn compute_chunks<B: Base<F, Digest = D>, H: Hasher<F, Digest = D>>(
         &mut self,
         base: &B,
         hasher: &H,
@@ -151,6 +151,69 @@ impl<F: Family, D: Digest> Draft<F, D> {
             self.compute_nodes(base, hasher, height, chunk, parents, digests)?;
         }
         Ok(())
+    }
+
+    // Computes the node at `position`, which has height `height`. No memory is used but that for the
+    // new digest, so that a level of one node, as each is where one leaf is added, costs little.
+    fn compute_node<B: Base<F, Digest = D>, H: Hasher<F, Digest = D>>(
+        &mut self,
+        base: &B,
+        hasher: &H,
+        height: u32,
+        position: Position<F>,
+    ) -> Result<(), NodeError<F>>
+        requires inner { HasInner F.rule F.MAX_LEAVES position height }
+        requires stored { position < self.old.before + length self.old.appended }
+        ensures shape { HasSameShape self.old self.new }
+        ensures old { (p : ℕ) → self.old.before ≤ p → get self.new.overwritten p ≡ get self.old.overwritten p }
+        ensures settled { let h = H.hashing hasher.now in let under = below self.old (B.contents base.now) in
+            OnOk result ((m : ℕ → Option D) (n : ℕ) (ds : List D) (later : List ℕ)
+            → IsStage h F.rule F.MAX_LEAVES m under n ds self.old.before height (position ∷ []) later (stored_node self.old)
+            → AreSettled h F.rule m under n ds later (stored_node self.new)) }
+        ensures missing { let h = H.hashing hasher.now in let under = below self.old (B.contents base.now) in
+            IfErr result (λ e. e ≢ NodeError.OutOfMemory → (m : ℕ → Option D) (n : ℕ) (ds : List D) (later : List ℕ)
+            → IsStage h F.rule F.MAX_LEAVES m under n ds self.old.before height (position ∷ []) later (stored_node self.old)
+            → LacksNeeded F.rule m under n (n + length ds) e) }
+    {
+        let (left, right) = F::children(position, height);
+        let Some(left_digest) = self.read_node(base, left) else {
+            return Err(NodeError::Missing(left));
+        };
+        let Some(right_digest) = self.read_node(base, right) else {
+            return Err(NodeError::Missing(right));
+        };
+        let digest = hasher.node_digest(position, &left_digest, &right_digest);
+        self.set_node(position, digest)?;
+        Ok(())
+    }
+
+    // Computes the nodes of height `height` at these positions.
+    fn compute_level<B: Base<F, Digest = D>, H: Hasher<F, Digest = D>>(
+        &mut self,
+        base: &B,
+        hasher: &H,
+        height: u32,
+        positions: &[Position<F>],
+        parents: &mut Vec<(Position<F>, D, D)>,
+        digests: &mut Vec<D>,
+    ) -> Result<(), NodeError<F>>
+        requires inner { (p : ℕ) → Contains positions.now p → HasInner F.rule F.MAX_LEAVES p height }
+        requires stored { (p : ℕ) → Contains positions.now p → p < self.old.before + length self.old.appended }
+        ensures shape { HasSameShape self.old self.new }
+        ensures old { (p : ℕ) → self.old.before ≤ p → get self.new.overwritten p ≡ get self.old.overwritten p }
+        ensures settled { let h = H.hashing hasher.now in let under = below self.old (B.contents base.now) in
+            OnOk result ((m : ℕ → Option D) (n : ℕ) (ds : List D) (later : List ℕ)
+            → IsStage h F.rule F.MAX_LEAVES m under n ds self.old.before height positions.now later (stored_node self.old)
+            → AreSettled h F.rule m under n ds later (stored_node self.new)) }
+        ensures missing { let h = H.hashing hasher.now in let under = below self.old (B.contents base.now) in
+            IfErr result (λ e. e ≢ NodeError.OutOfMemory → (m : ℕ → Option D) (n : ℕ) (ds : List D) (later : List ℕ)
+            → IsStage h F.rule F.MAX_LEAVES m under n ds self.old.before height positions.now later (stored_node self.old)
+            → LacksNeeded F.rule m under n (n + length ds) e) }
+    {
+        match positions {
+            [position] => self.compute_node(base, hasher, height, *position),
+            _ => self.compute_chunks(base, hasher, height, positions, parents, digests),
+        }
     }
 
     // Computes the listed nodes, height by height, and returns how many they are.

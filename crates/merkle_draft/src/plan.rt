@@ -93,6 +93,9 @@ fn mark_peaks<F: Family, D: Digest>(
     ensures marked { OnOk result ((m : ℕ → Option D) → updates.now ≡ flat_map (dirty_leaves m) (peaks_of F.rule leaves)
         → AreMarked m (peaks_of F.rule leaves) levels.old.items levels.new.items) }
 {
+    if updates.is_empty() {
+        return Ok(());
+    }
     let mut rest = updates;
     let mut first_leaf = Location::new(0);
     for (position, height) in F::peaks(F::location_to_position(leaves)) {

@@ -1,7 +1,13 @@
 use Rattle.std.proofs.Common.{ℕ, arith, sym, ap, ◌∙◌, subst}
+use Rattle.merkle_base.specs.Places.{peaks_of}
 use Rattle.merkle_draft.proofs.CountBefore.{before_within}
+use Rattle.merkle_draft.proofs.Marking.{empty_yes, marked_none}
 use Rattle.merkle_draft.proofs.MarkedPeaks.{PeaksMarked, none_marked, next_marked, ends_within, peak_marked, all_marked}
 use Rattle.merkle_draft.proofs.plan.mark_peaks.Goals as goal
+
+pub returns-then-is_empty-clause-marked : goal.returns-then-is_empty-clause-marked
+returns-then-is_empty-clause-marked g c = λ m u.
+    marked_none m (peaks_of g.F.Family.rule c.args.leaves) c.args.levels.now.items (sym u ∙ empty_yes c.args.updates.now c.is_empty.result c.is_empty.ensures c.if-is_empty.true)
 
 pub loop-position-init : goal.loop-position-init
 loop-position-init g c =

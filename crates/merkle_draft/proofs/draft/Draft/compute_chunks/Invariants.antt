@@ -3,7 +3,7 @@ use Rattle.std.specs.FinMap.{get}
 use Rattle.std.specs.Slice.Iter.{chunks_rest, chunks_size}
 use Rattle.merkle_draft.specs.DraftReads.{below, stored_node}
 use Rattle.merkle_draft.specs.Settled.{AreSettled, HasSameShape, IsStage}
-use Rattle.merkle_draft.proofs.draft.Draft.compute_level.Given as goal
+use Rattle.merkle_draft.proofs.draft.Draft.compute_chunks.Given as goal
 
 abbrev pub invariant-loop-chunk : goal.invariant-loop-chunk
 invariant-loop-chunk g l =
