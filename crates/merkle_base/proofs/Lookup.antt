@@ -39,14 +39,6 @@ pub size_zero : (rule : List ℕ → List ℕ) → size rule 0 ≡ 0
 unfolding forest
 size_zero rule = refl
 
--- each position came with one leaf
-pub birth_of : (rule : List ℕ → List ℕ) (m p : ℕ) → p < size rule m → (n : ℕ) × (n < m) × (size rule n ≤ p) × (p < size rule (suc n))
-birth_of rule zero p l = absurd (omega (arith, size_zero rule))
-birth_of rule (suc m) p l = elim (cases_lt p (size rule m)) [
-  | inl h ↦ (let k = birth_of rule m p h in (k.0, omega (arith, k.1), k.2, k.3))
-  | inr h ↦ (m, omega arith, h, l)
-]
-
 pub size_large : (rule : List ℕ → List ℕ) (n : ℕ) → n ≤ size rule n
 size_large rule zero = omega arith
 size_large rule (suc n) = omega (arith, size_large rule n, size_step rule n)
@@ -74,8 +66,3 @@ pub height_bound : (rule : List ℕ → List ℕ) (n : ℕ) → MergesEqual rule
 height_bound rule n equal p t e =
     let g : IsGrown n (forest rule n) = forest_grown rule n in
     omega (arith, end_under_one (forest rule n).nodes n t (forest rule n).peaks g.covers g.built (g.under p t e), balanced_count t (node_balanced rule n equal n p t (omega arith) e))
-
--- the heights of the peaks tell the number of leaves, so a rule that sees the heights sees all that there is to see
-pub heights_weight : (rule : List ℕ → List ℕ) (n : ℕ) → MergesEqual rule n → weight (peak_heights rule n) ≡ n
-heights_weight rule n equal =
-    ap weight (sym (heights_forest rule n)) ∙ covers_weight n (forest rule n).peaks (forest_grown rule n).covers (peaks_balanced rule n equal n (omega arith))

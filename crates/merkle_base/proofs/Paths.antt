@@ -7,10 +7,6 @@ use Rattle.merkle_base.proofs.Growth.{forest_grown, built_at}
 use Rattle.merkle_base.proofs.Nodes.{node_built, built_under}
 use Rattle.merkle_base.proofs.Births.{leaf_at}
 
-pub under_trans : (a b t : Tree) → IsUnder a b → IsUnder b t → IsUnder a t
-under_trans a b (leaf p n) u v = subst (IsUnder a) v u
-under_trans a b (join p l r) u v = elim v [ inl e ↦ subst (IsUnder a) e u | inr w ↦ elim w [ inl x ↦ inr (inl (under_trans a b l u x)) | inr x ↦ inr (inr (under_trans a b r u x)) ] ]
-
 -- an ancestor does not stand before what is under it
 pub position_under : (ns : List Tree) (a t : Tree) → IsUnder a t → IsBuilt ns t → position a ≤ position t
 position_under ns a (leaf p n) u h = rw u (omega arith)

@@ -35,10 +35,3 @@ module _ {D : Type 0} (h : Hashing D) (rule : List ℕ → List ℕ) (rs : List 
     | inl o ↦ needed_right h rule rs X ls base j W stands there agrees r e t d (left_needed rule (get r.overwritten) (length (last_list (X ∷ ls))) e own t used fresh o) (ap (λ x. option_or x (read_over rs base (position t))) (sym o) ∙ g)
     | inr o ↦ right (position t) d (o.1 ∙ sym (ap (λ x. option_or x (read_over rs base (position t))) o.1) ∙ g)
   ]
-
-  -- what is not read is a needed node that neither the records nor the base hold
-  pub used_missing : option_or (own (position t)) (read_over rs base (position t)) ≡ None → IsNeeded rule (get r.overwritten) (length (last_list (X ∷ ls))) e t × (read_over rs base (position t) ≡ None)
-  used_missing g = elim (none_or_some (own (position t))) [
-    | inl o ↦ (left_needed rule (get r.overwritten) (length (last_list (X ∷ ls))) e own t used fresh o, ap (λ x. option_or x (read_over rs base (position t))) (sym o) ∙ g)
-    | inr o ↦ absurd (let f : Some o.0 ≡ None = sym (ap (λ x. option_or x (read_over rs base (position t))) o.1) ∙ g in cc)
-  ]

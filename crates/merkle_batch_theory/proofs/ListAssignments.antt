@@ -1,21 +1,18 @@
 -- The digests of a list, as the digests that positions must have.
-use Rattle.std.proofs.Common.{◌≡◌, ℕ, suc, ◌+◌, ◌<◌, ◌≤◌, List, [], ◌∷◌, ◌++◌, length, map, drop, Some, slice_get, arith, refl, sym, ap, ◌∙◌}
+use Rattle.std.proofs.Common.{◌≡◌, ℕ, suc, ◌+◌, ◌≤◌, List, [], ◌∷◌, ◌++◌, length, map, drop, Some, slice_get, arith, refl, sym, ap, ◌∙◌}
 use Rattle.std.specs.Option.{option_map_or}
 use Rattle.std.specs.List.{range_with_len}
 use Rattle.std.proofs.Math.Seq.{drop-append_seam}
 use Rattle.std.proofs.lemmas.List.{map-append}
 use Rattle.std.proofs.lemmas.List.FromFn.{length-map-range_with_len}
-use Rattle.std.proofs.lemmas.Option.{get_or_from_slice_get}
-use Rattle.merkle_base.specs.Tree.{Tree, leaf, join, position}
+use Rattle.merkle_base.specs.Tree.{Tree, position}
 use Rattle.merkle_base.specs.Forest.{forest, size}
 use Rattle.merkle_base.specs.Hashing.{Hashing}
 use Rattle.merkle_base.specs.Digests.{digest_at, node_digests, peak_digests}
 use Rattle.merkle_base.specs.Places.{peaks_of, peak_positions}
-use Rattle.merkle_base.proofs.Growth.{built_at}
-use Rattle.merkle_base.proofs.Lists.{get_below}
-use Rattle.merkle_base.proofs.Lookup.{get_append_add, peak_node}
-use Rattle.merkle_base.proofs.Nodes.{node_built, node_stays, leaf_here, range-add}
-use Rattle.merkle_batch_theory.specs.Assignment.{IsAssignment, HasLeaves, digests_from}
+use Rattle.merkle_base.proofs.Lookup.{peak_node}
+use Rattle.merkle_base.proofs.Nodes.{node_stays, range-add}
+use Rattle.merkle_batch_theory.specs.Assignment.{digests_from}
 use Rattle.merkle_batch_theory.proofs.ListFacts.{get_reversed}
 
 -- the digest of a list at the node that stands at a position of the largest forest
@@ -26,21 +23,6 @@ module _ {D : Type 0} (h : Hashing D) (rule : List ℕ → List ℕ) (max_leaves
   pub truth_at : (n p : ℕ) (t : Tree) → n ≤ max_leaves → slice_get (forest rule n).nodes p ≡ Some t → truth_of h rule max_leaves Y p ≡ digest_at h Y t
   unfolding truth_of
   truth_at n p t l e = ap (λ o. option_map_or (digest_at h Y) o h.empty) (node_stays rule n max_leaves p t l e)
-
-  pub truth_is : IsAssignment h rule max_leaves (truth_of h rule max_leaves Y)
-  truth_is n p l r within e =
-      let b = node_built rule n p (join p l r) e in
-      truth_at n p (join p l r) within e
-      ∙ ap (λ d. h.node p d (digest_at h Y r)) (sym (truth_at n (position l) l within (built_at (forest rule n).nodes l b.4)))
-      ∙ ap (λ d. h.node p (truth_of h rule max_leaves Y (position l)) d) (sym (truth_at n (position r) r within (built_at (forest rule n).nodes r b.5)))
-
-  -- the leaves from location n on, where the list ends with their digests
-  pub truth_leaves : (front added : List D) → Y ≡ front ++ added → HasLeaves (truth_of h rule max_leaves Y) rule (length front) added
-  truth_leaves front added whole i d e =
-      let there : slice_get Y (length front + i) ≡ Some d = ap (λ xs. slice_get xs (length front + i)) whole ∙ get_append_add front added i ∙ e in
-      let below : length front + i < length Y = get_below Y (length front + i) d there in
-      sym (get_or_from_slice_get Y (length front + i) d h.empty there)
-      ∙ sym (truth_at (length Y) (size rule (length front + i)) (leaf (size rule (length front + i)) (length front + i)) long (leaf_here rule (length front + i) (length Y) below))
 
   -- the nodes of a forest are what they must be
   digests_from_of : (p : ℕ) (ns : List Tree) → ((i : ℕ) (t : Tree) → slice_get ns i ≡ Some t → truth_of h rule max_leaves Y (p + i) ≡ digest_at h Y t) → digests_from (truth_of h rule max_leaves Y) p (length ns) ≡ map (digest_at h Y) ns

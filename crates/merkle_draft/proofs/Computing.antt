@@ -1,28 +1,27 @@
 -- What a plan leaves to be computed, and what is stored when all is computed.
-use Rattle.std.proofs.Common.{◌≡◌, ◌≢◌, ℕ, zero, suc, ◌+◌, ◌-◌, ◌<◌, ◌≤◌, ◌^◌, ◌⊎◌, List, [], ◌∷◌, ◌++◌, length, Option, Some, None, Bool, true, false, cond, slice_get, flat_map, arith, refl, sym, ap, inl, inr, ◌∙◌, subst, Result, Ok, Err}
-use Rattle.std.specs.Prelude.{Vec, is_some, nat_le, nat_lt, ◌||◌, OnOk, IfOk, IfErr}
+use Rattle.std.proofs.Common.{◌≡◌, ℕ, zero, suc, ◌+◌, ◌-◌, ◌<◌, ◌≤◌, ◌^◌, ◌⊎◌, List, [], ◌∷◌, length, Option, Some, None, Bool, true, false, cond, slice_get, arith, refl, sym, ap, inl, inr, ◌∙◌, Result, Ok, Err}
+use Rattle.std.specs.Prelude.{Vec, is_some, nat_le, nat_lt, ◌||◌, OnOk}
 use Rattle.std.specs.List.{Contains, filter}
 use Rattle.std.specs.Option.{option_or}
 use Rattle.std.specs.Ordering.{nat_cmp}
 use Rattle.std.specs.FinMap.{FinMap, get}
-use Rattle.std.proofs.lemmas.Bool.{cases_lt, lt-ltb, le-ltb, lt-leb, or_parts, or_cases, or_left, or_right, le-leb, leb-true}
-use Rattle.std.proofs.lemmas.Bool.Decides.{nat_tests}
+use Rattle.std.proofs.lemmas.Bool.{cases_lt, lt-ltb, le-ltb, lt-leb, or_parts, or_left, or_right, le-leb}
 use Rattle.std.proofs.lemmas.List.Elements.{Contains-append_left, Contains-append_right}
 use Rattle.merkle_base.specs.Heights.{IsLawful}
-use Rattle.merkle_base.specs.Tree.{Tree, leaf, join, position, height}
+use Rattle.merkle_base.specs.Tree.{Tree, leaf, join, height}
 use Rattle.merkle_base.specs.Forest.{forest, size}
 use Rattle.merkle_base.specs.Hashing.{Hashing}
 use Rattle.merkle_base.specs.Places.{HasInner}
 use Rattle.merkle_base.proofs.Births.{leaf_at}
 use Rattle.merkle_base.proofs.Cases.{by_test}
 use Rattle.merkle_base.proofs.Growth.{forest_grown}
-use Rattle.merkle_base.proofs.Lists.{get_below, get_exists, one_there}
-use Rattle.merkle_base.proofs.Nodes.{leaf_here, node_anywhere, size_le, size_lt}
+use Rattle.merkle_base.proofs.Lists.{get_below, get_exists}
+use Rattle.merkle_base.proofs.Nodes.{leaf_here, size_le, size_lt}
 use Rattle.merkle_batch_theory.proofs.OptionFacts.{none_of, or_some}
 use Rattle.merkle_batch_theory.specs.Needed.{computed, is_computed}
 use Rattle.merkle_draft.specs.DirtyLeaves.{HasLeavesOf}
 use Rattle.merkle_draft.specs.Levels.{ArePlanned, from_height, level_at}
-use Rattle.merkle_draft.specs.NewDigests.{AreNewDigests, is_written, new_digest}
+use Rattle.merkle_draft.specs.NewDigests.{AreNewDigests, IsStoredAfter, is_written, new_digest}
 use Rattle.merkle_draft.specs.Settled.{AreSettled, IsReadyToCompute}
 
 -- what is listed at a height is listed
@@ -69,7 +68,7 @@ module _ {D A : Type 0} (h : Hashing D) (rule : List ℕ → List ℕ) (max_leav
 
     -- the leaves have their digests from the start
     leaf_settled : (p q k : ℕ) → slice_get (forest rule (n + length ds)).nodes p ≡ Some (leaf q k) →
-        (stored p ≡ cond (is_written rule m n (leaf q k)) (new_digest h rule m under n ds (leaf q k)) None) × (is_written rule m n (leaf q k) ≡ true → is_some (new_digest h rule m under n ds (leaf q k)) ≡ true)
+        IsStoredAfter h rule m under n ds stored p (leaf q k)
     leaf_settled p q k at =
         let place : q ≡ p = (forest_grown rule (n + length ds)).placed p (leaf q k) at in
         let here = leaf_at rule (n + length ds) p q k at in
@@ -78,7 +77,7 @@ module _ {D A : Type 0} (h : Hashing D) (rule : List ℕ → List ℕ) (max_leav
               let no : nat_le (size rule n) q ≡ false = lt-leb (size rule n) q low in
               let is : stored p ≡ m q = stored_old p (omega (arith, low, place)) ∙ ap m (sym place) in
               let digest : new_digest h rule m under n ds (leaf q k) ≡ option_or (m q) (under q) = ap (λ b. cond b (slice_get ds (k - n)) (option_or (m q) (under q))) no in
-              by_test (λ b. is_some (m q) ≡ b → (stored p ≡ cond (is_written rule m n (leaf q k)) (new_digest h rule m under n ds (leaf q k)) None) × (is_written rule m n (leaf q k) ≡ true → is_some (new_digest h rule m under n ds (leaf q k)) ≡ true)) (is_some (m q))
+              by_test (λ b. is_some (m q) ≡ b → IsStoredAfter h rule m under n ds stored p (leaf q k)) (is_some (m q))
               (λ b c. (let same : new_digest h rule m under n ds (leaf q k) ≡ m q = digest ∙ or_some (m q) (under q) b in
               (is ∙ sym same ∙ ap (λ x. cond x (new_digest h rule m under n ds (leaf q k)) None) (sym (or_right (nat_le (size rule n) q) (is_some (m q)) b)), (λ _. ap is_some same ∙ b))))
               (λ b c. (let not_written : is_written rule m n (leaf q k) ≡ false = ap (λ x. x || is_some (m q)) no ∙ b in
@@ -93,7 +92,7 @@ module _ {D A : Type 0} (h : Hashing D) (rule : List ℕ → List ℕ) (max_leav
 
     -- and nothing is stored for old merged nodes without dirty leaves
     join_settled : (p q : ℕ) (l r : Tree) → slice_get (forest rule (n + length ds)).nodes p ≡ Some (join q l r) → is_written rule m n (join q l r) ≡ false →
-        (stored p ≡ cond (is_written rule m n (join q l r)) (new_digest h rule m under n ds (join q l r)) None) × (is_written rule m n (join q l r) ≡ true → is_some (new_digest h rule m under n ds (join q l r)) ≡ true)
+        IsStoredAfter h rule m under n ds stored p (join q l r)
     join_settled p q l r at e =
         let place : q ≡ p = (forest_grown rule (n + length ds)).placed p (join q l r) at in
         let low : nat_le (size rule n) q ≡ false = (or_parts (nat_le (size rule n) q) _ e).0 in
@@ -106,7 +105,7 @@ module _ {D A : Type 0} (h : Hashing D) (rule : List ℕ → List ℕ) (max_leav
     start_settled : AreSettled h rule m under n ds (from_height ls 0) stored
     start_settled p (leaf q k) at = inr (leaf_settled p q k at)
     start_settled p (join q l r) at = by_test (λ b. is_written rule m n (join q l r) ≡ b → Contains (from_height ls 0) p
-        ⊎ ((stored p ≡ cond (is_written rule m n (join q l r)) (new_digest h rule m under n ds (join q l r)) None) × (is_written rule m n (join q l r) ≡ true → is_some (new_digest h rule m under n ds (join q l r)) ≡ true))) (is_written rule m n (join q l r))
+        ⊎ IsStoredAfter h rule m under n ds stored p (join q l r)) (is_written rule m n (join q l r))
         (λ b c. inl (listed_in_all ls (height (join q l r)) p ((planned (height (join q l r)) p).1 (join q l r) at refl b)))
         (λ b c. inr (join_settled p q l r at b)) refl
 
@@ -131,14 +130,6 @@ few_computed rule max_leaves most law m n e within = omega (arith, filter_within
 pub on_ok : {T E : Type 0} {P Q : Type 0} (r : Result T E) → (P → Q) → OnOk r P → OnOk r Q
 on_ok (Ok x) f h = f h
 on_ok (Err e) f h = tt
-
-pub if_ok : {T E : Type 0} {P Q : T → Type 0} (r : Result T E) → ((x : T) → P x → Q x) → IfOk r P → IfOk r Q
-if_ok (Ok x) f h = f x h
-if_ok (Err e) f h = tt
-
-pub if_err : {T E : Type 0} {P Q : E → Type 0} (r : Result T E) → ((e : E) → P e → Q e) → IfErr r P → IfErr r Q
-if_err (Ok x) f h = tt
-if_err (Err e) f h = f e h
 
 pub on_ok_always : {T E : Type 0} {P : Type 0} (r : Result T E) → P → OnOk r P
 on_ok_always (Ok x) p = p

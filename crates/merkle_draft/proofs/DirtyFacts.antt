@@ -1,9 +1,9 @@
 -- The changed leaves of a tree, in the order of their positions.
-use Rattle.std.proofs.Common.{◌≡◌, ℕ, suc, ◌+◌, ◌<◌, ◌≤◌, List, [], ◌∷◌, ◌++◌, length, take, drop, Option, Some, None, true, false, arith, refl, sym, ap, inl, inr, ◌∙◌, subst}
+use Rattle.std.proofs.Common.{◌≡◌, ℕ, suc, ◌+◌, ◌<◌, ◌≤◌, List, [], ◌∷◌, ◌++◌, length, take, drop, Option, Some, None, false, arith, refl, sym, ap, inl, inr, ◌∙◌, subst}
 use Rattle.std.specs.Prelude.{is_some, ◌||◌}
 use Rattle.std.specs.List.{AllByRecursion, flat_map}
 use Rattle.std.proofs.Math.Seq.{take-append_seam, drop-append_seam}
-use Rattle.std.proofs.lemmas.Bool.{or_parts, cases_Bool}
+use Rattle.std.proofs.lemmas.Bool.{or_parts}
 use Rattle.merkle_base.specs.Tree.{Tree, leaf, join, first_leaf, width, IsBuilt}
 use Rattle.merkle_base.specs.Forest.{forest, size}
 use Rattle.merkle_base.proofs.Births.{leaf_at}

@@ -1,20 +1,19 @@
 -- Levels of positions: what is listed, and that a level is ready when the lower ones are computed.
-use Rattle.std.proofs.Common.{◌≡◌, ℕ, zero, suc, ◌+◌, ◌<◌, ◌≤◌, ◌⊎◌, List, [], ◌∷◌, ◌++◌, length, drop, get_or, flat_map, Option, Some, None, true, false, slice_get, arith, refl, sym, ap, inl, inr, ◌∙◌, subst, length-append}
+use Rattle.std.proofs.Common.{◌≡◌, ℕ, zero, suc, ◌+◌, ◌<◌, ◌≤◌, List, [], ◌∷◌, ◌++◌, length, drop, get_or, flat_map, Option, Some, true, slice_get, arith, sym, ap, inl, inr, ◌∙◌, subst}
 use Rattle.std.specs.Prelude.{Vec}
 use Rattle.std.specs.List.{Contains}
 use Rattle.std.proofs.lemmas.List.{drop_all, drop_more}
 use Rattle.std.proofs.lemmas.List.Elements.{Contains-append_cases}
 use Rattle.merkle_base.specs.Heights.{IsLawful}
 use Rattle.merkle_base.specs.Tree.{Tree, leaf, join, position, height, IsBuilt}
-use Rattle.merkle_base.specs.Forest.{forest, size}
+use Rattle.merkle_base.specs.Forest.{forest}
 use Rattle.merkle_base.specs.Hashing.{Hashing}
 use Rattle.merkle_base.proofs.Balance.{node_balanced}
 use Rattle.merkle_base.proofs.Growth.{forest_grown, built_at}
 use Rattle.merkle_base.proofs.Lists.{one_there}
 use Rattle.merkle_base.proofs.Nodes.{node_built}
 use Rattle.merkle_batch_theory.specs.Needed.{is_computed}
-use Rattle.merkle_draft.specs.Levels.{ArePlanned, from_height, level_at}
-use Rattle.merkle_draft.specs.NewDigests.{is_written}
+use Rattle.merkle_draft.specs.Levels.{from_height, level_at}
 use Rattle.merkle_draft.specs.Settled.{AreSettled, IsReady, IsReadyToCompute, IsStage}
 
 module _ {A : Type 0} where

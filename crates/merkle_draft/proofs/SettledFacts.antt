@@ -1,24 +1,23 @@
 -- Nodes that have their digest after the changes, and how one more gets it.
-use Rattle.std.proofs.Common.{◌≡◌, ℕ, zero, suc, ◌+◌, ◌-◌, ◌<◌, ◌≤◌, ◌⊎◌, List, [], ◌∷◌, ◌++◌, length, map, drop, Option, Some, None, true, false, cond, slice_get, nat_eq, arith, refl, sym, ap, inl, inr, ◌∙◌, subst}
-use Rattle.std.specs.Prelude.{is_some, nat_le, nat_lt, ◌||◌, ◌==◌}
+use Rattle.std.proofs.Common.{◌≡◌, ℕ, ◌+◌, ◌-◌, ◌<◌, ◌⊎◌, List, length, Option, Some, None, true, false, cond, slice_get, arith, refl, sym, ap, inl, inr, ◌∙◌}
+use Rattle.std.specs.Prelude.{is_some, nat_le, nat_lt}
 use Rattle.std.specs.List.{Contains}
 use Rattle.std.specs.Option.{option_or}
-use Rattle.std.proofs.lemmas.Bool.{lt-ltb, or_parts, or_left, le-leb, leb-true}
-use Rattle.std.proofs.lemmas.Bool.Decides.{nat_tests, eqb_tells}
-use Rattle.std.proofs.lemmas.List.Elements.{Contains-append_left, Contains-append_right, Contains-append_cases}
-use Rattle.merkle_base.specs.Tree.{Tree, leaf, join, position, height, IsBuilt}
+use Rattle.std.proofs.lemmas.Bool.{lt-ltb, or_parts}
+use Rattle.std.proofs.lemmas.Bool.Decides.{nat_tests}
+use Rattle.merkle_base.specs.Tree.{Tree, leaf, join, position, IsBuilt}
 use Rattle.merkle_base.specs.Forest.{forest, size}
 use Rattle.merkle_base.specs.Hashing.{Hashing}
 use Rattle.merkle_base.specs.Places.{AreChildren}
 use Rattle.merkle_base.proofs.Cases.{by_test}
 use Rattle.merkle_base.proofs.Growth.{forest_grown, built_at}
-use Rattle.merkle_base.proofs.Nodes.{node_built, same_position}
+use Rattle.merkle_base.proofs.Nodes.{node_built}
 use Rattle.merkle_batch_theory.proofs.OptionFacts.{none_of, or_some, or_second}
 use Rattle.merkle_batch_theory.specs.Contents.{Contents}
 use Rattle.merkle_batch_theory.specs.History.{is_dirty}
 use Rattle.merkle_draft.specs.DraftReads.{DraftModel, below, stored_node}
 use Rattle.merkle_draft.specs.NewDigests.{LacksNeeded, is_written, new_digest, of_both}
-use Rattle.merkle_draft.specs.Settled.{AreParents, AreSettled, IsReady, IsStage, read_at}
+use Rattle.merkle_draft.specs.Settled.{AreSettled, IsReady, read_at}
 use Rattle.merkle_draft.specs.declared.node_error.NodeError.{NodeError}
 use Rattle.merkle_draft.specs.declared.node_error.NodeError.TheVariants.{Missing}
 

@@ -1,5 +1,5 @@
 -- Writing the digests of nodes that were still to be computed.
-use Rattle.std.proofs.Common.{◌≡◌, ◌≢◌, ℕ, zero, suc, ◌+◌, ◌-◌, ◌<◌, ◌≤◌, List, [], ◌∷◌, ◌++◌, length, drop, get_or, Option, Some, None, Bool, true, false, cond, slice_get, nat_eq, arith, refl, sym, ap, inl, inr, ◌∙◌, subst}
+use Rattle.std.proofs.Common.{◌≡◌, ℕ, ◌+◌, ◌-◌, ◌<◌, ◌≤◌, List, [], ◌∷◌, length, get_or, Option, Some, None, true, false, cond, slice_get, arith, sym, ap, inl, inr, ◌∙◌}
 use Rattle.std.specs.Prelude.{is_some, nat_lt, ◌==◌}
 use Rattle.std.specs.List.{Contains}
 use Rattle.std.specs.Ordering.{nat_cmp}
@@ -7,11 +7,10 @@ use Rattle.std.specs.FinMap.{FinMap, get, insert}
 use Rattle.std.proofs.Math.ListN.{set}
 use Rattle.std.proofs.lemmas.Bool.{cases_lt, lt-ltb, le-ltb}
 use Rattle.std.proofs.lemmas.Bool.Decides.{eqb_tells}
-use Rattle.std.proofs.lemmas.List.Elements.{Contains-append_left, Contains-append_right, Contains-append_cases}
+use Rattle.std.proofs.lemmas.List.Elements.{Contains-append_cases}
 use Rattle.merkle_base.specs.Tree.{Tree}
 use Rattle.merkle_base.specs.Forest.{forest}
 use Rattle.merkle_base.specs.Hashing.{Hashing}
-use Rattle.merkle_base.proofs.Cases.{by_test}
 use Rattle.merkle_batch_theory.proofs.Edits.{get_set_same, get_set_other}
 use Rattle.merkle_batch_theory.proofs.MapFacts.{inserted_at}
 use Rattle.merkle_draft.specs.NewDigests.{is_written, new_digest}

@@ -19,18 +19,23 @@ of_both f None b = None
 abbrev pub is_written : {D : Type 0} → (List ℕ → List ℕ) → (ℕ → Option D) → ℕ → Tree → Bool
 is_written rule m n t = nat_le (size rule n) (position t) || is_dirty m t
 
--- the digest of a node after the changes: of a leaf its own, of a merged node that is written what its children's make, and of every other node what is read below
+-- the digest of a node after the changes: of a leaf its own, of a merged node that is written what its children's make,
+-- and of every other node what is read below
 abbrev pub new_digest : {D : Type 0} → Hashing D → (List ℕ → List ℕ) → (m below : ℕ → Option D) → ℕ → List D → Tree → Option D
 new_digest h rule m below n ds (leaf p k) = cond (nat_le (size rule n) p) (slice_get ds (k - n)) (option_or (m p) (below p))
 new_digest h rule m below n ds (join p l r) =
     cond (is_written rule m n (join p l r)) (of_both (h.node p) (new_digest h rule m below n ds l) (new_digest h rule m below n ds r)) (below p)
 
+-- the node t at position p is stored with its digest after the changes if it is written, and else not
+abbrev pub IsStoredAfter : {D : Type 0} → Hashing D → (List ℕ → List ℕ) → (m below : ℕ → Option D) → ℕ → List D → (ℕ → Option D) → ℕ → Tree → Type 0
+IsStoredAfter h rule m below n ds stored p t =
+    (stored p ≡ cond (is_written rule m n t) (new_digest h rule m below n ds t) None)
+    × (is_written rule m n t ≡ true → is_some (new_digest h rule m below n ds t) ≡ true)
+
 -- of the forest of the n leaves and the added ones exactly the written nodes are stored, each with its digest after the changes
 abbrev pub AreNewDigests : {D : Type 0} → Hashing D → (List ℕ → List ℕ) → (m below : ℕ → Option D) → ℕ → List D → (ℕ → Option D) → Type 0
 AreNewDigests h rule m below n ds stored =
-    (p : ℕ) (t : Tree) → slice_get (forest rule (n + length ds)).nodes p ≡ Some t
-    → (stored p ≡ cond (is_written rule m n t) (new_digest h rule m below n ds t) None)
-    × (is_written rule m n t ≡ true → is_some (new_digest h rule m below n ds t) ≡ true)
+    (p : ℕ) (t : Tree) → slice_get (forest rule (n + length ds)).nodes p ≡ Some t → IsStoredAfter h rule m below n ds stored p t
 
 -- it names a needed node that is not there
 abbrev pub LacksNeeded : {F D : Type 0} → (List ℕ → List ℕ) → (m below : ℕ → Option D) → ℕ → ℕ → NodeError F → Type 0

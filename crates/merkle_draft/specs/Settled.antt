@@ -1,5 +1,5 @@
 -- Which nodes have their digest after the changes, while others are still to be computed.
-use Rattle.std.specs.Prelude.{◌≡◌, ℕ, ◌+◌, ◌≤◌, ◌<◌, ◌⊎◌, List, [], ◌∷◌, ◌++◌, length, true, Option, Some, None, is_some, slice_get, cond, nat_lt, Vec}
+use Rattle.std.specs.Prelude.{◌≡◌, ℕ, ◌+◌, ◌≤◌, ◌⊎◌, List, [], ◌∷◌, ◌++◌, length, true, Option, Some, None, slice_get, cond, nat_lt, Vec}
 use Rattle.std.specs.List.{Contains}
 use Rattle.std.specs.Option.{option_or}
 use Rattle.merkle_base.specs.Tree.{Tree, join, position, height}
@@ -8,7 +8,7 @@ use Rattle.merkle_base.specs.Hashing.{Hashing}
 use Rattle.merkle_batch_theory.specs.Contents.{Contents}
 use Rattle.merkle_draft.specs.DraftReads.{DraftModel, below, stored_node}
 use Rattle.merkle_draft.specs.Levels.{ArePlanned, from_height}
-use Rattle.merkle_draft.specs.NewDigests.{is_written, new_digest}
+use Rattle.merkle_draft.specs.NewDigests.{IsStoredAfter, is_written, new_digest}
 
 -- what a draft reads at position p: what it stores or, for old nodes, what lies below
 abbrev pub read_at : {D : Type 0} → DraftModel D → Contents D → ℕ → Option D
@@ -21,8 +21,7 @@ HasSameShape old new = (new.before ≡ old.before) × (new.kept ≡ old.kept) ×
 -- the nodes that aren't still to be computed are stored as the changes have them
 abbrev pub AreSettled : {D : Type 0} → Hashing D → (List ℕ → List ℕ) → (m below : ℕ → Option D) → ℕ → List D → List ℕ → (ℕ → Option D) → Type 0
 AreSettled h rule m below n ds todo stored =
-    (p : ℕ) (t : Tree) → slice_get (forest rule (n + length ds)).nodes p ≡ Some t → Contains todo p
-    ⊎ ((stored p ≡ cond (is_written rule m n t) (new_digest h rule m below n ds t) None) × (is_written rule m n t ≡ true → is_some (new_digest h rule m below n ds t) ≡ true))
+    (p : ℕ) (t : Tree) → slice_get (forest rule (n + length ds)).nodes p ≡ Some t → Contains todo p ⊎ IsStoredAfter h rule m below n ds stored p t
 
 -- at p is a written parent node of height k, and its children aren't still to be computed
 abbrev pub IsReady : {D : Type 0} → (List ℕ → List ℕ) → (ℕ → Option D) → ℕ → ℕ → ℕ → List ℕ → ℕ → Type 0
@@ -31,14 +30,16 @@ IsReady rule m n e k todo p =
     × (Contains todo (position l) → ⊥) × (Contains todo (position r) → ⊥)
 
 -- the changes fit, the nodes at the positions of height k are ready, and all but these and later ones are settled
-pub record IsStage {D : Type 0} (h : Hashing D) (rule : List ℕ → List ℕ) (max_leaves : ℕ) (m below : ℕ → Option D) (n : ℕ) (ds : List D) (before k : ℕ) (ps later : List ℕ) (stored : ℕ → Option D) : Type 0 where
+pub record IsStage {D : Type 0} (h : Hashing D) (rule : List ℕ → List ℕ) (max_leaves : ℕ) (m below : ℕ → Option D) (n : ℕ) (ds : List D)
+    (before k : ℕ) (ps later : List ℕ) (stored : ℕ → Option D) : Type 0 where
   pub within : n + length ds ≤ max_leaves
   pub sized : size rule n ≡ before
   pub ready : (p : ℕ) → Contains ps p → IsReady rule m n (n + length ds) k (ps ++ later) p
   pub settled : AreSettled h rule m below n ds (ps ++ later) stored
 
 -- the changes fit, the levels list exactly the computed nodes, and all other nodes are settled
-pub record IsReadyToCompute {D A : Type 0} (h : Hashing D) (rule : List ℕ → List ℕ) (max_leaves : ℕ) (m below : ℕ → Option D) (n : ℕ) (ds : List D) (before : ℕ) (ls : List (Vec ℕ A)) (stored : ℕ → Option D) : Type 0 where
+pub record IsReadyToCompute {D A : Type 0} (h : Hashing D) (rule : List ℕ → List ℕ) (max_leaves : ℕ) (m below : ℕ → Option D) (n : ℕ) (ds : List D)
+    (before : ℕ) (ls : List (Vec ℕ A)) (stored : ℕ → Option D) : Type 0 where
   pub within : n + length ds ≤ max_leaves
   pub sized : size rule n ≡ before
   pub planned : ArePlanned rule m n (n + length ds) ls

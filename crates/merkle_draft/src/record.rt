@@ -35,7 +35,13 @@ impl<F: Family, D: Digest> Model for Record<F, D> {
 
     ghost coded = { record_model_code D.code };
 
-    ghost view = { λ r. record { before = r.size_before; peaks_before = rc_slice_items r.peaks_before; appended = r.appended.items; overwritten = r.overwrites; peaks_after = rc_slice_items r.peaks_after } };
+    ghost view = { λ r. record {
+      before = r.size_before;
+      peaks_before = rc_slice_items r.peaks_before;
+      appended = r.appended.items;
+      overwritten = r.overwrites;
+      peaks_after = rc_slice_items r.peaks_after;
+    } };
 
     ghost invariant = { λ r. r.size_before + length r.appended.items < 2 ^ 63 };
 }

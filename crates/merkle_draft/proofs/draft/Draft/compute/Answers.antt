@@ -1,14 +1,13 @@
-use Rattle.std.proofs.Common.{rules, ◌≡◌, ◌+◌, ◌-◌, ◌<◌, ◌≤◌, ℕ, List, Some, None, length, slice_get, arith, refl, sym, ap, ◌∙◌, subst}
+use Rattle.std.proofs.Common.{◌≡◌, ◌+◌, ◌-◌, ◌≤◌, ℕ, Some, None, length, slice_get, arith, refl, sym, ap, ◌∙◌, subst}
+use Rattle.std.proofs.lemmas.Result.{IfErr-weaker, IfOk-weaker}
 use Rattle.std.specs.FinMap.{from_entries, get}
 use Rattle.std.specs.Ordering.{nat_cmp}
 use Rattle.merkle_base.specs.Forest.{size}
-use Rattle.merkle_batch_theory.specs.Needed.{computed}
 use Rattle.merkle_batch_theory.specs.Read.{read_over}
 use Rattle.merkle_draft.specs.DraftReads.{below, stored_node}
 use Rattle.merkle_draft.specs.Levels.{ArePlanned, from_height}
 use Rattle.merkle_draft.specs.NewDigests.{AreNewDigests, LacksNeeded}
-use Rattle.merkle_draft.specs.Settled.{AreSettled, IsReadyToCompute}
-use Rattle.merkle_draft.proofs.Computing.{all_settled, few_computed, if_err, if_ok, listed_below, listed_inner, no_leaf_past, on_ok, on_ok_always, ready_to_compute}
+use Rattle.merkle_draft.proofs.Computing.{all_settled, few_computed, listed_below, listed_inner, no_leaf_past, on_ok, on_ok_always, ready_to_compute}
 use Rattle.merkle_draft.proofs.draft.Draft.compute.Goals as goal
 
 pub compute_levels-requires-clause-few : goal.compute_levels-requires-clause-few
@@ -79,10 +78,10 @@ returns-clause-missing g c =
     let same : below d2 base ≡ below c.args.self.now base = λ i p. read_over ((c.plan.ensures.only.1 ∙ c.set_leaves.ensures.only.1) i) base p in
     let ready = ready_to_compute h rule g.F.Family.MAX_LEAVES m (below d2 base) n ds d2.before ls c.requires.within (c.requires.sized ∙ sym (c.plan.ensures.only.0 ∙ c.set_leaves.ensures.only.0)) planned d2.overwritten d2.appended
     c.requires.of (λ q. ap (λ w. get w q) (c.plan.ensures.only.2 ∙ c.in_ok-updates.ensures.set)) (λ i d e. subst (λ (b : ℕ). slice_get d2.appended (size rule (n + i) - b) ≡ Some d) (sym c.plan.ensures.only.0) (c.in_ok-plan.ensures.leaves i d e)) in
-    if_err c.compute_levels.result (λ e lacks other. subst (λ u. LacksNeeded rule m u n (n + length ds) e) same (lacks other m n ds ready)) c.compute_levels.ensures.missing
+    IfErr-weaker c.compute_levels.result _ _ (λ e lacks other. subst (λ u. LacksNeeded rule m u n (n + length ds) e) same (lacks other m n ds ready)) c.compute_levels.ensures.missing
 
 pub returns-clause-work : goal.returns-clause-work
 returns-clause-work g c =
     let m = get {R = nat_cmp} (from_entries c.args.updates.now.entries) in
     let listed = c.deref.ensures.value ∙ c.in_ok-updates.ensures.listed c.args.leaves c.requires.of in
-    if_ok c.compute_levels.result (λ k is. is ∙ ap (λ ls. length (from_height ls 0)) c.deref-2.ensures.value ∙ c.in_ok-plan.ensures.total m listed) c.compute_levels.ensures.work
+    IfOk-weaker c.compute_levels.result _ _ (λ k is. is ∙ ap (λ ls. length (from_height ls 0)) c.deref-2.ensures.value ∙ c.in_ok-plan.ensures.total m listed) c.compute_levels.ensures.work

@@ -1,6 +1,6 @@
 use Rattle.std.proofs.Common.{◌≡◌, ◌≤◌, ◌++◌, ℕ, List, Option}
 use Rattle.std.specs.FinMap.{get}
-use Rattle.std.specs.Slice.Iter.{chunks_rest, chunks_size}
+use Rattle.std.specs.Slice.Iter.{chunks_rest}
 use Rattle.merkle_draft.specs.DraftReads.{below, stored_node}
 use Rattle.merkle_draft.specs.Settled.{AreSettled, HasSameShape, IsStage}
 use Rattle.merkle_draft.proofs.draft.Draft.compute_chunks.Given as goal

@@ -1,4 +1,4 @@
-use Rattle.std.proofs.Common.{◌≡◌, ◌≢◌, ◌+◌, ◌∷◌, ◌<◌, [], ℕ, List, Option, length, arith, sym, subst}
+use Rattle.std.proofs.Common.{◌≢◌, ◌+◌, ℕ, List, Option, length, arith, sym, subst}
 use Rattle.std.specs.Prelude.{IfErr, OnOk}
 use Rattle.std.specs.List.{Contains}
 use Rattle.std.proofs.lemmas.List.Elements.{Contains-get_or}

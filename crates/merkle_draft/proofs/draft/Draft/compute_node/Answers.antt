@@ -1,4 +1,4 @@
-use Rattle.std.proofs.Common.{◌≡◌, ◌∷◌, ◌++◌, [], map, refl, sym, ap, inl, inr}
+use Rattle.std.proofs.Common.{◌∷◌, [], refl, sym, ap, inl, inr}
 use Rattle.merkle_draft.specs.DraftReads.{below, stored_node}
 use Rattle.merkle_draft.specs.Settled.{read_at}
 use Rattle.merkle_draft.proofs.Adding.{contains_one}

@@ -1,6 +1,5 @@
-use Rattle.std.proofs.Common.{rules, ◌≡◌, ◌+◌, ◌-◌, ◌<◌, ◌≤◌, length, arith, sym, ap, ◌∙◌}
+use Rattle.std.proofs.Common.{rules, ◌≡◌, ◌+◌, ◌-◌, ◌<◌, ◌≤◌, length, arith, ap, ◌∙◌}
 use Rattle.std.specs.FinMap.{get}
-use Rattle.merkle_draft.specs.DraftReads.{stored_node}
 use Rattle.merkle_draft.proofs.SettledWrites.{stored_appended, stored_overwritten, past_overwritten}
 use Rattle.merkle_draft.proofs.draft.Draft.set_node.Goals as goal
 
