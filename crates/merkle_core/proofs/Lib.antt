@@ -1,1 +1,2 @@
 pub mod HonestReads
+pub mod PinMaps

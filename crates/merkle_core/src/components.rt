@@ -1,5 +1,6 @@
 //! Structures created from given components.
-ghost use Rattle.std.specs.Prelude.{◌≡◌, ◌≢◌, ◌+◌, ◌<◌, ◌≤◌, ◌^◌, ◌-◌, ℕ, List, Err, length, zip, IfOk, IsOk, IsOkUnless};
+ghost use Rattle.std.specs.Prelude.{◌≡◌, ◌≢◌, ◌+◌, ◌<◌, ◌≤◌, ◌^◌, ◌-◌, ℕ, List, Err, length, zip, IfOk, IsOk, IsOkUnless, ◌==◌};
+ghost use Rattle.std.specs.Map.{lookup};
 ghost use Rattle.merkle_base.specs.Forest.{size};
 ghost use Rattle.merkle_base.specs.Places.{IsSize, peak_positions};
 ghost use Rattle.merkle_base.specs.Hashing.{Hashing};
@@ -14,6 +15,7 @@ use merkle_base::family::Family;
 use merkle_base::location::Location;
 use merkle_base::position::Position;
 use merkle_digest::digest::Digest;
+use std::collections::BTreeMap;
 
 /// The components of a structure.
 #[derive(Debug, Drop)]
@@ -139,27 +141,28 @@ fn measure<F: Family>(
     }
 }
 
-// Pairs the digests with the positions of the peaks of `boundary` leaves.
+// Returns the digests by the positions of the peaks of `boundary` leaves.
 //
 // `InvalidPinnedNodes` if there are fewer or more digests than peaks, else `OutOfMemory` if a
 // memory request is refused.
 fn pair_pins<F: Family, D: Digest>(
     boundary: Location<F>,
     digests: &Vec<D>,
-) -> Result<Vec<(Position<F>, D)>, Error<F>>
+) -> Result<BTreeMap<Position<F>, D>, Error<F>>
     requires { boundary ≤ F.MAX_LEAVES }
-    ensures made { IfOk result (λ v. v.items ≡ zip (peak_positions F.rule boundary) digests.now.items) }
-    ensures paired { IfOk result (λ v. length digests.now.items ≡ length (peak_positions F.rule boundary)) }
+    ensures made { let pins = zip (peak_positions F.rule boundary) digests.now.items in
+        IfOk result (λ m. (p : ℕ) → lookup (λ q. p == q) m.entries ≡ lookup (λ q. p == q) pins) }
+    ensures paired { IfOk result (λ m. length digests.now.items ≡ length (peak_positions F.rule boundary)) }
     ensures wrong { length digests.now.items ≢ length (peak_positions F.rule boundary) → result ≡ Err Error.InvalidPinnedNodes }
     ensures right { length digests.now.items ≡ length (peak_positions F.rule boundary) → IsOkUnless result Error.OutOfMemory }
 {
     if digests.len() != F::nodes_to_pin(boundary).count() {
         return Err(Error::InvalidPinnedNodes);
     }
-    let mut pins = Vec::new(*digests.allocator());
+    let mut pins = BTreeMap::new(*digests.allocator());
     for position in F::nodes_to_pin(boundary) {
         let digest = digests[pins.len()];
-        pins.push((position, digest))?;
+        pins.insert(position, digest)?;
     }
     Ok(pins)
 }

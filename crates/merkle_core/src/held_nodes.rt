@@ -11,7 +11,7 @@ use merkle_base::family::Family;
 use merkle_base::position::Position;
 use merkle_digest::digest::Digest;
 use std::alloc::{AllocError, Global};
-use std::collections::VecDeque;
+use std::collections::{BTreeMap, VecDeque};
 use std::marker::Model;
 
 /// The nodes that a structure holds: all from position `start` on, and pinned ones before it.
@@ -21,8 +21,8 @@ use std::marker::Model;
 #[derive(Debug, Drop)]
 pub(crate) struct HeldNodes<F: Family, D: Digest> {
     start: Position<F>,
-    // the nodes before `start` that are held, with their positions
-    pins: Vec<(Position<F>, D)>,
+    // the nodes before `start` that are held, by position
+    pins: BTreeMap<Position<F>, D>,
     // the nodes from position `start` on
     nodes: VecDeque<D>,
 }
@@ -40,11 +40,11 @@ impl<F: Family, D: Digest> Model for HeldNodes<F, D> {
     ghost view = { λ h. record {
       start = h.start;
       size = h.start + length h.nodes.items;
-      stored = stored_of h.pins.items h.start h.nodes.items;
+      stored = stored_of h.pins.entries h.start h.nodes.items;
       capacity = h.start + deque_capacity h.nodes;
     } };
 
-    ghost invariant = { λ h. PinsBefore h.start h.pins.items };
+    ghost invariant = { λ h. PinsBefore h.start h.pins.entries };
 }
 
 impl<F: Family, D: Digest> HeldNodes<F, D> {
@@ -56,17 +56,21 @@ impl<F: Family, D: Digest> HeldNodes<F, D> {
     {
         HeldNodes {
             start: Position::new(0),
-            pins: Vec::new(alloc),
+            pins: BTreeMap::new(alloc),
             nodes: VecDeque::new(alloc),
         }
     }
 
     /// Holds the nodes from position `start` on, and pins before it.
-    pub(crate) fn from_parts(start: Position<F>, pins: Vec<(Position<F>, D)>, nodes: Vec<D>) -> Self
-        requires { PinsBefore start pins.items }
+    pub(crate) fn from_parts(
+        start: Position<F>,
+        pins: BTreeMap<Position<F>, D>,
+        nodes: Vec<D>,
+    ) -> Self
+        requires { PinsBefore start pins.entries }
         ensures start { result.start ≡ start }
         ensures size { result.size ≡ start + length nodes.items }
-        ensures stored { result.stored ≡ stored_of pins.items start nodes.items }
+        ensures stored { result.stored ≡ stored_of pins.entries start nodes.items }
     {
         HeldNodes {
             start,
@@ -88,7 +92,7 @@ impl<F: Family, D: Digest> HeldNodes<F, D> {
         ensures { result ≡ get self.now.stored position }
     {
         if position < self.start {
-            pinned(&self.pins, position)
+            self.pins.get(&position).copied()
         } else {
             self.nodes
                 .get((position - self.start).as_u64() as usize)
@@ -109,7 +113,7 @@ impl<F: Family, D: Digest> HeldNodes<F, D> {
     {
         Ok(HeldNodes {
             start: self.start,
-            pins: copied_pins(&self.pins, self.allocator())?,
+            pins: self.pins.clone()?,
             nodes: copied(&self.nodes)?,
         })
     }
@@ -132,7 +136,9 @@ impl<F: Family, D: Digest> HeldNodes<F, D> {
         ensures stored { (p : ℕ) → get self.new.stored p ≡ cond (p == position) (overwritten_by (Some digest) (get self.old.stored p)) (get self.old.stored p) }
     {
         if position < self.start {
-            replace_pin(&mut self.pins, position, digest);
+            if let Some(pin) = self.pins.get_mut(&position) {
+                *pin = digest;
+            }
         } else if let Some(node) = self
             .nodes
             .get_mut((position - self.start).as_u64() as usize)
@@ -153,13 +159,13 @@ impl<F: Family, D: Digest> HeldNodes<F, D> {
     }
 
     /// Drops the nodes before position `start`, and pins `pins`.
-    pub(crate) fn drop_before(&mut self, start: Position<F>, pins: Vec<(Position<F>, D)>)
+    pub(crate) fn drop_before(&mut self, start: Position<F>, pins: BTreeMap<Position<F>, D>)
         requires later { self.old.start ≤ start }
         requires within { start ≤ self.old.size }
-        requires before { PinsBefore start pins.items }
+        requires before { PinsBefore start pins.entries }
         ensures start { self.new.start ≡ start }
         ensures size { self.new.size ≡ self.old.size }
-        ensures stored { (p : ℕ) → get self.new.stored p ≡ cond (nat_lt p start) (lookup (λ q. p == q) pins.items) (get self.old.stored p) }
+        ensures stored { (p : ℕ) → get self.new.stored p ≡ cond (nat_lt p start) (lookup (λ q. p == q) pins.entries) (get self.old.stored p) }
     {
         let gone = (start - self.start).as_u64() as usize;
         self.nodes.drain(..gone);
@@ -177,39 +183,6 @@ fn copied<D: Digest>(nodes: &VecDeque<D>) -> Result<VecDeque<D>, AllocError>
     copy.extend_from_slice(older)?;
     copy.extend_from_slice(newer)?;
     Ok(VecDeque::from(copy))
-}
-
-// Returns a copy of the pins.
-fn copied_pins<F: Family, D: Digest>(
-    pins: &[(Position<F>, D)],
-    alloc: Global,
-) -> Result<Vec<(Position<F>, D)>, AllocError>
-    ensures { IfOk result (λ copy. copy.items ≡ pins.now) }
-{
-    pins.to_vec(alloc)
-}
-
-// Returns the digest of the pin at `position`, if there is one.
-fn pinned<F, D: Copy>(pins: &[(Position<F>, D)], position: Position<F>) -> Option<D>
-    ensures { result ≡ lookup (λ q. position == q) pins.now }
-{
-    for (pin, digest) in pins {
-        if *pin == position {
-            return Some(*digest);
-        }
-    }
-    None
-}
-
-// Replaces the digest of the pin at `position`, if there is one.
-fn replace_pin<F, D: Copy>(pins: &mut [(Position<F>, D)], position: Position<F>, digest: D)
-    ensures { (p : ℕ) → let old = lookup (λ q. p == q) pins.old in lookup (λ q. p == q) pins.new ≡ cond (p == position) (overwritten_by (Some digest) old) old }
-{
-    for (pin, held) in pins {
-        if *pin == position {
-            *held = digest;
-        }
-    }
 }
 
 // Appends nodes, for which there is room.

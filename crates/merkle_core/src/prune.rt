@@ -1,5 +1,6 @@
 //! Pruning: dropping the old nodes of a structure.
-ghost use Rattle.std.specs.Prelude.{◌≡◌, ◌<◌, ◌≤◌, ℕ, List, Err, OnErr, OnOk, IfOk, IsOkUnless};
+ghost use Rattle.std.specs.Prelude.{◌≡◌, ◌<◌, ◌≤◌, ℕ, List, Err, OnErr, OnOk, IfOk, IsOkUnless, ◌==◌};
+ghost use Rattle.std.specs.Map.{lookup};
 ghost use Rattle.merkle_base.specs.Hashing.{Hashing};
 ghost use Rattle.merkle_base.specs.Places.{peak_positions};
 ghost use Rattle.merkle_batch_theory.specs.Contents.{Agrees, pruned};
@@ -13,6 +14,7 @@ use merkle_base::location::Location;
 use merkle_base::position::Position;
 use merkle_digest::digest::Digest;
 use std::alloc::AllocError;
+use std::collections::BTreeMap;
 
 impl<F: Family, D: Digest> Mem<F, D> {
     /// Drops the nodes before the leaf at `location`, except for the peaks of `location` leaves,
@@ -74,15 +76,16 @@ impl<F: Family, D: Digest> Mem<F, D> {
         Ok(())
     }
 
-    // Returns the digests that are held of the peaks of `location` leaves, with their positions.
-    fn pins_at(&self, location: Location<F>) -> Result<Vec<(Position<F>, D)>, AllocError>
+    // Returns the digests that are held of the peaks of `location` leaves, by position.
+    fn pins_at(&self, location: Location<F>) -> Result<BTreeMap<Position<F>, D>, AllocError>
         requires { location ≤ F.MAX_LEAVES }
-        ensures { IfOk result (λ v. v.items ≡ pins_of (contents self.now) (peak_positions F.rule location)) }
+        ensures { let pins = pins_of (contents self.now) (peak_positions F.rule location) in
+            IfOk result (λ m. (p : ℕ) → lookup (λ q. p == q) m.entries ≡ lookup (λ q. p == q) pins) }
     {
-        let mut pins = Vec::new(self.allocator());
+        let mut pins = BTreeMap::new(self.allocator());
         for position in F::nodes_to_pin(location) {
             if let Some(digest) = self.get_node(position) {
-                pins.push((position, digest))?;
+                pins.insert(position, digest)?;
             }
         }
         Ok(pins)

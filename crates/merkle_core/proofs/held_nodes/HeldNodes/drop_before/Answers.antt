@@ -13,5 +13,5 @@ returns-clause-stored g c =
     let nodes = c.drop-drain.new.self.0.items in
     let rest : nodes ≡ drop (c.args.start - i.start) i.nodes.items = search rules in
     let later : i.start ≤ c.args.start = omega (arith, c.requires.later, ap (λ (h : Held _). h.start) c.self.view_is) in
-    subst (λ (h : Held _). (p : ℕ) → get (stored_of c.args.pins.items c.args.start nodes) p ≡ cond (nat_lt p c.args.start) (lookup (nat_eq p) c.args.pins.items) (get h.stored p)) c.self.view_is
-    (drop_reads i.pins.items i.start i.nodes.items c.self.invariant c.args.pins.items c.args.start nodes c.requires.before later rest)
+    subst (λ (h : Held _). (p : ℕ) → get (stored_of c.args.pins.entries c.args.start nodes) p ≡ cond (nat_lt p c.args.start) (lookup (nat_eq p) c.args.pins.entries) (get h.stored p)) c.self.view_is
+    (drop_reads i.pins.entries i.start i.nodes.items c.self.invariant c.args.pins.entries c.args.start nodes c.requires.before later rest)

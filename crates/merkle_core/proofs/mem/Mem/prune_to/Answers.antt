@@ -1,4 +1,4 @@
-use Rattle.std.proofs.Common.{rules, ◌≡◌, ◌<◌, arith, ap, sym, ◌∙◌, cond, nat_eq, subst}
+use Rattle.std.proofs.Common.{rules, ◌≡◌, ◌<◌, ℕ, arith, ap, sym, ◌∙◌, cond, nat_eq, subst}
 use Rattle.std.specs.Prelude.{nat_lt}
 use Rattle.std.specs.FinMap.{get}
 use Rattle.std.specs.Map.{lookup}
@@ -26,7 +26,7 @@ drop_before-requires-clause-within g c =
 
 pub drop_before-requires-clause-before : goal.drop_before-requires-clause-before
 drop_before-requires-clause-before g c = λ p l.
-    ap (λ es. lookup (nat_eq p) es) c.in_ok-pins.ensures ∙ pins_before g.F.Family.rule c.args.location (contents c.args.self.now) p (omega (arith, l, c.location_to_position.ensures))
+    c.in_ok-pins.ensures p ∙ pins_before g.F.Family.rule c.args.location (contents c.args.self.now) p (omega (arith, l, c.location_to_position.ensures))
 
 pub invariant_of-self : goal.invariant_of-self
 invariant_of-self g c =
@@ -34,8 +34,9 @@ invariant_of-self g c =
     let i = c.self.inside in
     let later : i.boundary < c.args.location = search rules in
     let leaves = ap (λ s. s.leaves) c.self.view_is in
-    let pins : c.in_ok-pins.pins.items ≡ pins_of (held_contents i.boundary i.held) (peak_positions rule c.args.location) = c.in_ok-pins.ensures ∙ ap (λ s. pins_of (contents s) (peak_positions rule c.args.location)) (sym c.self.view_is) in
-    let new = pruned_contents rule i.boundary c.args.location i.held c.drop_before.new.self (λ p. c.drop_before.ensures.stored p ∙ (λ j. cond (nat_lt p (c.location_to_position.ensures j)) (lookup (nat_eq p) (pins j)) (get i.held.stored p))) later c.drop_before.ensures.size in
+    let pins : (p : ℕ) → lookup (nat_eq p) c.in_ok-pins.pins.entries ≡ lookup (nat_eq p) (pins_of (held_contents i.boundary i.held) (peak_positions rule c.args.location)) =
+    λ p. c.in_ok-pins.ensures p ∙ ap (λ s. lookup (nat_eq p) (pins_of (contents s) (peak_positions rule c.args.location))) (sym c.self.view_is) in
+    let new = pruned_contents rule i.boundary c.args.location i.held c.drop_before.new.self (λ p. c.drop_before.ensures.stored p ∙ (λ j. cond (nat_lt p (c.location_to_position.ensures j)) (pins p j) (get i.held.stored p))) later c.drop_before.ensures.size in
     record {
       starts = c.drop_before.ensures.start ∙ c.location_to_position.ensures;
       within = omega (arith, leaves, c.requires);
@@ -51,8 +52,9 @@ returns-clause-pruned g c =
     let rule = g.F.Family.rule in
     let i = c.self.inside in
     let later : i.boundary < c.args.location = search rules in
-    let pins : c.in_ok-pins.pins.items ≡ pins_of (held_contents i.boundary i.held) (peak_positions rule c.args.location) = c.in_ok-pins.ensures ∙ ap (λ s. pins_of (contents s) (peak_positions rule c.args.location)) (sym c.self.view_is) in
-    pruned_contents rule i.boundary c.args.location i.held c.drop_before.new.self (λ p. c.drop_before.ensures.stored p ∙ (λ j. cond (nat_lt p (c.location_to_position.ensures j)) (lookup (nat_eq p) (pins j)) (get i.held.stored p))) later c.drop_before.ensures.size
+    let pins : (p : ℕ) → lookup (nat_eq p) c.in_ok-pins.pins.entries ≡ lookup (nat_eq p) (pins_of (held_contents i.boundary i.held) (peak_positions rule c.args.location)) =
+    λ p. c.in_ok-pins.ensures p ∙ ap (λ s. lookup (nat_eq p) (pins_of (contents s) (peak_positions rule c.args.location))) (sym c.self.view_is) in
+    pruned_contents rule i.boundary c.args.location i.held c.drop_before.new.self (λ p. c.drop_before.ensures.stored p ∙ (λ j. cond (nat_lt p (c.location_to_position.ensures j)) (pins p j) (get i.held.stored p))) later c.drop_before.ensures.size
     ∙ ap (λ s. pruned rule c.args.location (contents s)) c.self.view_is
 
 pub returns-then-le-clause-pruned : goal.returns-then-le-clause-pruned
