@@ -138,8 +138,9 @@ impl Digest for Sha256Digest {
     ghost eq_decides = { λ x y. (λ h. same_sized (λ b h. record { bytes = b; sized = h }) ((bytes_eq x.bytes y.bytes).0 h) x.sized y.sized, λ e. (bytes_eq x.bytes y.bytes).1 (ap (λ d. d.bytes) e)) };
 }
 
-/// SHA-256, as FIPS 180-4 defines it. Four messages of 72 bytes, as those of nodes are, are hashed
-/// together.
+/// SHA-256, as FIPS 180-4 defines it. Four messages are hashed together if with their padding all
+/// have one block, or all have two, as those of nodes have: up to 55 bytes are one block, up to 119
+/// two.
 #[derive(Clone, Copy, Debug)]
 pub struct Sha256Plain;
 

@@ -5,3 +5,4 @@ pub mod NodeSteps
 pub mod PeakNodes
 pub mod PathSteps
 pub mod FourNodes
+pub mod MoreLeaves

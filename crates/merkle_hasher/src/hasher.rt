@@ -80,6 +80,25 @@ pub trait Hasher<F: Family>: Clone {
     fn leaf_digest(&self, position: Position<F>, element: &[u8]) -> Self::Digest
         ensures { result ≡ (hashing self.now).leaf position element.now };
 
+    /// Returns the digests of four leaves, each as by [`leaf_digest`](Hasher::leaf_digest). An
+    /// implementation may compute them together; without one of its own, they are computed one after
+    /// another. [`leaf_digests`](crate::leaves::leaf_digests) takes any number of leaves.
+    ///
+    /// Requires that there are four leaves.
+    fn leaf_digests_four(
+        &self,
+        leaves: &[(Position<F>, &[u8])],
+    ) -> (Self::Digest, Self::Digest, Self::Digest, Self::Digest)
+        requires { length leaves.now ≡ 4 }
+        ensures { map (λ l. (hashing self.now).leaf l.0 l.1.now) leaves.now ≡ result.0 ∷ result.1 ∷ result.2 ∷ result.3 ∷ [] }
+    {
+        let first = self.leaf_digest(leaves[0].0, leaves[0].1);
+        let second = self.leaf_digest(leaves[1].0, leaves[1].1);
+        let third = self.leaf_digest(leaves[2].0, leaves[2].1);
+        let fourth = self.leaf_digest(leaves[3].0, leaves[3].1);
+        (first, second, third, fourth)
+    }
+
     /// Returns the digest of `bytes`.
     fn digest(&self, bytes: &[u8]) -> Self::Digest
         ensures { result ≡ (hashing self.now).hash bytes.now };
@@ -393,6 +412,24 @@ fn hash_each<H: PlainHasher>(
     H::hash_four(&[p, a, b], &[q, c, d], &[r, e, f], &[s, g, h])
 }
 
+fn hash_each_pair<H: PlainHasher>(
+    p: &[u8],
+    a: &[u8],
+    q: &[u8],
+    b: &[u8],
+    r: &[u8],
+    c: &[u8],
+    s: &[u8],
+    d: &[u8],
+) -> (H::Digest, H::Digest, H::Digest, H::Digest)
+    ensures first { result.0 ≡ H.digest_of (p.now ++ a.now) }
+    ensures second { result.1 ≡ H.digest_of (q.now ++ b.now) }
+    ensures third { result.2 ≡ H.digest_of (r.now ++ c.now) }
+    ensures fourth { result.3 ≡ H.digest_of (s.now ++ d.now) }
+{
+    H::hash_four(&[p, a], &[q, b], &[r, c], &[s, d])
+}
+
 impl<F: Family, H: PlainHasher> Hasher<F> for Standard<H> {
     type Digest = H::Digest;
 
@@ -464,6 +501,22 @@ impl<F: Family, H: PlainHasher> Hasher<F> for Standard<H> {
         H::hash(&[&position.as_u64().to_be_bytes(), element])
     }
 
+    fn leaf_digests_four(
+        &self,
+        leaves: &[(Position<F>, &[u8])],
+    ) -> (H::Digest, H::Digest, H::Digest, H::Digest) {
+        hash_each_pair::<H>(
+            &leaves[0].0.as_u64().to_be_bytes(),
+            leaves[0].1,
+            &leaves[1].0.as_u64().to_be_bytes(),
+            leaves[1].1,
+            &leaves[2].0.as_u64().to_be_bytes(),
+            leaves[2].1,
+            &leaves[3].0.as_u64().to_be_bytes(),
+            leaves[3].1,
+        )
+    }
+
     fn digest(&self, bytes: &[u8]) -> H::Digest {
         Standard::digest(self, bytes)
     }
@@ -523,6 +576,13 @@ impl<F: Family, T: Hasher<F>> Hasher<F> for &T {
         ensures { result ≡ (T.hashing self.now.now).leaf position element.now }
     {
         (**self).leaf_digest(position, element)
+    }
+
+    fn leaf_digests_four(
+        &self,
+        leaves: &[(Position<F>, &[u8])],
+    ) -> (T::Digest, T::Digest, T::Digest, T::Digest) {
+        (**self).leaf_digests_four(leaves)
     }
 
     fn digest(&self, bytes: &[u8]) -> T::Digest {

@@ -1,8 +1,9 @@
-//! Hashers, the digests of many nodes, read access to nodes, nodes with the leaves below them, and
+//! Hashers, the digests of many leaves and nodes, read access to nodes, nodes with the leaves below them, and
 //! paths from nodes down to leaves.
 #![tactic(auto)]
 
 pub mod hasher;
+pub mod leaves;
 pub mod nodes;
 pub mod path;
 pub mod read;

@@ -6,27 +6,33 @@
 //! steps are those of FIPS 180-4, lane by lane. The digests are those of the library `sha2`, and
 //! are proved to be.
 //!
-//! The lanes are used for messages of 72 bytes. So long is what the digest of a parent node is the
-//! hash of: a position of 8 bytes and two digests of 32 bytes. Such a message is padded to two
-//! blocks of 64 bytes. [`hash_nodes`] takes four of them; [`hash_four`] takes any four messages,
-//! and hashes them one after another if one of them has another length.
+//! A message is hashed with its padding, in blocks of 64 bytes: one block if it has at most 55
+//! bytes, two if it has at most 119. The lanes are used for four messages that all have one block,
+//! or all have two; their lengths may differ. So a leaf with an element of up to 47 bytes, which is
+//! hashed after a position of 8 bytes, takes one block, and a parent node, which is hashed as a
+//! position and two digests of 32 bytes, takes two. [`hash_four`] takes any four messages, and
+//! hashes them one after another otherwise.
 #![tactic(auto)]
 
-ghost use Rattle.std.specs.Prelude.{◌≡◌, ℕ, List, IfSome, length, take};
+ghost use Rattle.std.specs.Prelude.{◌≡◌, List, take};
 ghost use Rattle.sha2.specs.Sha256.{sha256};
 ghost use Rattle.merkle_lanes.specs.Lanes.{joined_parts};
 
-pub use node::hash_nodes;
+use blocks::hash_blocks;
+use padding::padded;
 use sha2::{Digest, Sha256};
 
+mod blocks;
 mod compress;
-mod node;
+mod padding;
 mod vectors;
 
 /// Returns the SHA-256 digests of four messages, in their order. A message is the concatenation of
 /// its parts.
 ///
-/// If each message has 72 bytes, they are hashed together, else one after another.
+/// They are hashed together if with their padding all have one block, or all have two, and one
+/// after another otherwise. A message of at most 55 bytes has one block, one of 56 to 119 bytes has
+/// two.
 ///
 /// # Examples
 ///
@@ -47,27 +53,12 @@ pub fn hash_four(
     ensures third { result.2 ≡ sha256 (joined_parts c.now) }
     ensures fourth { result.3 ≡ sha256 (joined_parts d.now) }
 {
-    if let (Some(a), Some(b), Some(c), Some(d)) = (node_of(a), node_of(b), node_of(c), node_of(d)) {
-        return hash_nodes(&a, &b, &c, &d);
+    if let (Some(a), Some(b), Some(c), Some(d)) = (padded(a), padded(b), padded(c), padded(d)) {
+        if a.1 == b.1 && a.1 == c.1 && a.1 == d.1 {
+            return hash_blocks(&a.0, &b.0, &c.0, &d.0, a.1);
+        }
     }
     (hash_one(a), hash_one(b), hash_one(c), hash_one(d))
-}
-
-// The message, if it has 72 bytes.
-#[inline]
-fn node_of(parts: &[&[u8]]) -> Option<[u8; 72]>
-    ensures { IfSome result (λ m. m ≡ joined_parts parts.now) }
-{
-    let mut node = [0u8; 72];
-    let mut used = 0;
-    for part in parts {
-        if part.len() > 72 - used {
-            return None;
-        }
-        node[used..used + part.len()].copy_from_slice(part);
-        used += part.len();
-    }
-    if used == 72 { Some(node) } else { None }
 }
 
 fn hash_one(parts: &[&[u8]]) -> [u8; 32]

@@ -1,4 +1,4 @@
-use merkle_lanes::{hash_four, hash_nodes};
+use merkle_lanes::hash_four;
 use sha2::{Digest, Sha256};
 use std::process::Abort;
 use std::test::Fail;
@@ -25,7 +25,7 @@ fn known_nodes(rt: HostRuntime) -> Result<(), Fail> {
         counted[i] = i as u8;
     }
     let text = b"123456789012345678901234567890123456789012345678901234567890123456789012";
-    let digests = hash_nodes(&[0; 72], &[255; 72], &counted, text);
+    let digests = hash_four(&[&[0; 72]], &[&[255; 72]], &[&counted], &[text]);
     let wanted = [
         "834a709ba2534ebe3ee1397fd4f7bd288b2acc1d20a08d6c862dcd99b6f04400",
         "51cfa32fece0135f38198da2529e7c6a0c1f53747984d55705077b7f6920cc76",
@@ -35,18 +35,75 @@ fn known_nodes(rt: HostRuntime) -> Result<(), Fail> {
     assert_digests(&rt, digests, wanted)
 }
 
-// The messages of FIPS 180-4 and the empty one, in parts, beside a message of 72 bytes.
+// The empty message, the messages of FIPS 180-4 with one block and with two, and one of 72 bytes,
+// by OpenSSL, in hexadecimal digits.
+const EMPTY: &str = "e3b0c44298fc1c149afbf4c8996fb92427ae41e4649b934ca495991b7852b855";
+
+const ABC: &str = "ba7816bf8f01cfea414140de5dae2223b00361a396177a9cb410ff61f20015ad";
+
+const TWO_BLOCKS: &str = "248d6a61d20638b8e5c026930c3e6039a33ce45964ff2167f6ecedd419db06c1";
+
+const ZEROS: &str = "834a709ba2534ebe3ee1397fd4f7bd288b2acc1d20a08d6c862dcd99b6f04400";
+
+// Two messages of one block and two of two, each in each place.
 #[test]
 fn standard_messages(rt: HostRuntime) -> Result<(), Fail> {
-    let two = b"abcdbcdecdefdefgefghfghighijhijkijkljklmklmnlmnomnopnopq";
-    let digests = hash_four(&[], &[b"a", b"", b"bc"], &[two], &[&[0; 70], &[0; 2]]);
-    let wanted = [
-        "e3b0c44298fc1c149afbf4c8996fb92427ae41e4649b934ca495991b7852b855",
-        "ba7816bf8f01cfea414140de5dae2223b00361a396177a9cb410ff61f20015ad",
-        "248d6a61d20638b8e5c026930c3e6039a33ce45964ff2167f6ecedd419db06c1",
-        "834a709ba2534ebe3ee1397fd4f7bd288b2acc1d20a08d6c862dcd99b6f04400",
+    let none: &[&[u8]] = &[];
+    let abc: &[&[u8]] = &[b"a", b"", b"bc"];
+    let two: &[&[u8]] = &[b"abcdbcdecdefdefgefghfghighijhijkijkljklmklmnlmnomnopnopq"];
+    let zeros: &[&[u8]] = &[&[0; 70], &[0; 2]];
+    assert_digests(
+        &rt,
+        hash_four(none, abc, two, zeros),
+        [EMPTY, ABC, TWO_BLOCKS, ZEROS],
+    )?;
+    assert_digests(
+        &rt,
+        hash_four(abc, two, zeros, none),
+        [ABC, TWO_BLOCKS, ZEROS, EMPTY],
+    )?;
+    assert_digests(
+        &rt,
+        hash_four(two, zeros, none, abc),
+        [TWO_BLOCKS, ZEROS, EMPTY, ABC],
+    )?;
+    assert_digests(
+        &rt,
+        hash_four(zeros, none, abc, two),
+        [ZEROS, EMPTY, ABC, TWO_BLOCKS],
+    )
+}
+
+// The same in the lanes: four messages of one block, and four of two.
+#[test]
+fn standard_messages_together(rt: HostRuntime) -> Result<(), Fail> {
+    let none: &[&[u8]] = &[&[]];
+    let abc: &[&[u8]] = &[b"abc"];
+    let two: &[&[u8]] = &[
+        b"abcdbcdecdefdefgefghfghighij",
+        b"hijkijkljklmklmnlmnomnopnopq",
     ];
-    assert_digests(&rt, digests, wanted)
+    let zeros: &[&[u8]] = &[&[0; 72]];
+    assert_digests(
+        &rt,
+        hash_four(none, abc, abc, none),
+        [EMPTY, ABC, ABC, EMPTY],
+    )?;
+    assert_digests(
+        &rt,
+        hash_four(abc, none, none, abc),
+        [ABC, EMPTY, EMPTY, ABC],
+    )?;
+    assert_digests(
+        &rt,
+        hash_four(two, zeros, zeros, two),
+        [TWO_BLOCKS, ZEROS, ZEROS, TWO_BLOCKS],
+    )?;
+    assert_digests(
+        &rt,
+        hash_four(zeros, two, two, zeros),
+        [ZEROS, TWO_BLOCKS, TWO_BLOCKS, ZEROS],
+    )
 }
 
 /// Fills the bytes by a linear congruential generator.
@@ -60,21 +117,22 @@ fn fill(seed: &mut u64, bytes: &mut [u8]) {
 }
 
 /// Asserts that four messages, each given in other parts, have the digests that `sha2` gives them.
-fn assert_as_sha2(rt: &impl Abort, a: &[u8; 72], b: &[u8; 72], c: &[u8; 72], d: &[u8; 72]) {
+fn assert_as_sha2(rt: &impl Abort, a: &[u8], b: &[u8], c: &[u8], d: &[u8]) {
     let wanted = (
         Sha256::digest(a),
         Sha256::digest(b),
         Sha256::digest(c),
         Sha256::digest(d),
     );
-    assert!(rt; hash_nodes(a, b, c, d) == wanted);
-    let parts = hash_four(
+    let (b_first, b_last) = b.split_at(b.len() / 2);
+    let (d_first, d_last) = d.split_at(d.len() / 3);
+    let digests = hash_four(
         &[a],
-        &[&b[..8], &b[8..40], &b[40..]],
-        &[&[], &c[..71], &[], &c[71..]],
-        &[&d[..36], &d[36..]],
+        &[b_first, b_last],
+        &[&[], c, &[]],
+        &[d_first, &[], d_last],
     );
-    assert!(rt; parts == wanted);
+    assert!(rt; digests == wanted);
 }
 
 #[test]
@@ -86,5 +144,21 @@ fn nodes_as_sha2(rt: HostRuntime) {
             fill(&mut seed, node);
         }
         assert_as_sha2(&rt, &nodes[0], &nodes[1], &nodes[2], &nodes[3]);
+    }
+}
+
+// Each length up to past the two blocks: alike, one more from lane to lane, and far apart.
+#[test]
+fn lengths_as_sha2(rt: HostRuntime) {
+    let mut seed = 2;
+    let mut messages = [[0u8; 134]; 4];
+    for message in &mut messages {
+        fill(&mut seed, message);
+    }
+    let [a, b, c, d] = &messages;
+    for n in 0..131 {
+        assert_as_sha2(&rt, &a[..n], &b[..n], &c[..n], &d[..n]);
+        assert_as_sha2(&rt, &a[..n], &b[..n + 1], &c[..n + 2], &d[..n + 3]);
+        assert_as_sha2(&rt, &a[..130 - n], &b[..n], &c[..n / 2], &d[..0]);
     }
 }

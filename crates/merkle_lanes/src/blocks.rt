@@ -1,7 +1,7 @@
-//! SHA-256 of four messages of 72 bytes. The padded message has two blocks.
+//! The hash values of four messages with the same number of blocks.
 
 ghost use Rattle.std.specs.Prelude.{◌≡◌, ℕ, ◌+◌, ◌*◌, ◌<◌, ◌≤◌, List, [], ◌∷◌, slice_index, length, map, take, drop};
-ghost use Rattle.sha2.specs.Sha256.{digest_bytes, initial_hash_256, padded_message, sha256, word_at};
+ghost use Rattle.sha2.specs.Sha256.{digest_bytes, hash_after, initial_hash_256, word_at};
 ghost use Rattle.merkle_lanes.specs.Lanes.{lane, message, state_lane};
 
 use crate::compress::compress;
@@ -10,8 +10,8 @@ use std::simd::u32x4;
 
 // The word at byte `i`, the most significant byte first.
 #[inline(always)]
-fn load(bytes: &[u8; 72], i: usize) -> u32
-    requires { i + 4 ≤ 72 }
+fn load(bytes: &[u8; 128], i: usize) -> u32
+    requires { i + 4 ≤ 128 }
     ensures { result ≡ word_at bytes.now i }
 {
     u32::from_be_bytes([bytes[i], bytes[i + 1], bytes[i + 2], bytes[i + 3]])
@@ -19,52 +19,25 @@ fn load(bytes: &[u8; 72], i: usize) -> u32
 
 // The word at byte `i` of each message.
 #[inline(always)]
-fn words(a: &[u8; 72], b: &[u8; 72], c: &[u8; 72], d: &[u8; 72], i: usize) -> u32x4
-    requires { i + 4 ≤ 72 }
+fn words(a: &[u8; 128], b: &[u8; 128], c: &[u8; 128], d: &[u8; 128], i: usize) -> u32x4
+    requires { i + 4 ≤ 128 }
     ensures { (j : ℕ) → j < 4 → slice_index result j ≡ word_at (message (a.now ∷ b.now ∷ c.now ∷ d.now ∷ []) j) i }
 {
     u32x4::from_array([load(a, i), load(b, i), load(c, i), load(d, i)])
 }
 
-// The first 64 bytes of each message.
+// The 64 bytes from byte `start` on of each message.
 #[inline(always)]
-fn first_block(a: &[u8; 72], b: &[u8; 72], c: &[u8; 72], d: &[u8; 72]) -> [u32x4; 16]
+fn block_at(a: &[u8; 128], b: &[u8; 128], c: &[u8; 128], d: &[u8; 128], start: usize) -> [u32x4; 16]
+    requires { start + 64 ≤ 128 }
     ensures { (j : ℕ) → j < 4 → (k : ℕ) → k < 16
-        → slice_index (lane j result) k ≡ word_at (message (a.now ∷ b.now ∷ c.now ∷ d.now ∷ []) j) (4 * k) }
+        → slice_index (lane j result) k ≡ word_at (message (a.now ∷ b.now ∷ c.now ∷ d.now ∷ []) j) (start + 4 * k) }
 {
     let mut block = [splat(0); 16];
     for i in 0..16 {
-        block[i] = words(a, b, c, d, 4 * i);
+        block[i] = words(a, b, c, d, start + 4 * i);
     }
     block
-}
-
-// The last eight bytes of each message and the padding of FIPS 180-4, section 5.1.1: a bit 1, zeros,
-// and the length, 576 bits.
-#[inline(always)]
-fn last_block(a: &[u8; 72], b: &[u8; 72], c: &[u8; 72], d: &[u8; 72]) -> [u32x4; 16]
-    ensures { (j : ℕ) → j < 4 → (k : ℕ) → k < 16
-        → slice_index (lane j result) k ≡ word_at (padded_message (message (a.now ∷ b.now ∷ c.now ∷ d.now ∷ []) j)) (64 + 4 * k) }
-{
-    let zero = splat(0);
-    [
-        words(a, b, c, d, 64),
-        words(a, b, c, d, 68),
-        splat(0x8000_0000),
-        zero,
-        zero,
-        zero,
-        zero,
-        zero,
-        zero,
-        zero,
-        zero,
-        zero,
-        zero,
-        zero,
-        zero,
-        splat(576),
-    ]
 }
 
 // The initial hash value of FIPS 180-4, section 5.3.3, in each lane.
@@ -85,7 +58,7 @@ fn initial_states() -> [u32x4; 8]
 }
 
 // The bytes of the hash value in lane `j`, the most significant byte of each word first.
-#[inline(always)]
+#[inline(never)]
 fn digest(state: &[u32x4; 8], j: usize) -> [u8; 32]
     requires { j < 4 }
     ensures { result ≡ digest_bytes (state_lane j state.now) 8 }
@@ -98,23 +71,28 @@ fn digest(state: &[u32x4; 8], j: usize) -> [u8; 32]
     out
 }
 
-/// Returns the SHA-256 digests of four messages of 72 bytes, in their order.
-pub fn hash_nodes(
-    a: &[u8; 72],
-    b: &[u8; 72],
-    c: &[u8; 72],
-    d: &[u8; 72],
+/// Returns the bytes of the hash values of four messages after their first `count` blocks, in the
+/// order of the messages.
+///
+/// Requires that there are at most two blocks.
+pub fn hash_blocks(
+    a: &[u8; 128],
+    b: &[u8; 128],
+    c: &[u8; 128],
+    d: &[u8; 128],
+    count: usize,
 ) -> ([u8; 32], [u8; 32], [u8; 32], [u8; 32])
-    ensures first { result.0 ≡ sha256 a.now }
-    ensures second { result.1 ≡ sha256 b.now }
-    ensures third { result.2 ≡ sha256 c.now }
-    ensures fourth { result.3 ≡ sha256 d.now }
+    requires { count ≤ 2 }
+    ensures first { result.0 ≡ digest_bytes (hash_after initial_hash_256 a.now count) 8 }
+    ensures second { result.1 ≡ digest_bytes (hash_after initial_hash_256 b.now count) 8 }
+    ensures third { result.2 ≡ digest_bytes (hash_after initial_hash_256 c.now count) 8 }
+    ensures fourth { result.3 ≡ digest_bytes (hash_after initial_hash_256 d.now count) 8 }
 {
     let mut state = initial_states();
-    let first = first_block(a, b, c, d);
-    compress(&mut state, &first);
-    let last = last_block(a, b, c, d);
-    compress(&mut state, &last);
+    for i in 0..count {
+        let block = block_at(a, b, c, d, 64 * i);
+        compress(&mut state, &block);
+    }
     (
         digest(&state, 0),
         digest(&state, 1),

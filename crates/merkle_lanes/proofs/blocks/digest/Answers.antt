@@ -6,7 +6,7 @@ use Rattle.sha2.proofs.Absorbing256.{digest_more}
 use Rattle.std.specs.Int.{w32, to_be_bytes}
 use Rattle.merkle_lanes.specs.Lanes.{state_lane}
 use Rattle.merkle_lanes.proofs.LaneLemmas.{slice_index-state_lane}
-use Rattle.merkle_lanes.proofs.node.digest.Goals as goal
+use Rattle.merkle_lanes.proofs.blocks.digest.Goals as goal
 
 pub loop-i-init : goal.loop-i-init
 unfolding digest_bytes
