@@ -59,6 +59,30 @@ impl<H: PlainHasher> Trees<H> {
         Ok(())
     }
 
+    // All leaves in one batch, whose digests are computed several at a time. The batch is dropped.
+    fn append_together<F: Family, C: CpuClock>(
+        &self,
+        watch: &mut Stopwatch<C>,
+        structure: &Mem<F, H::Digest>,
+        elements: &[Element],
+    ) -> Result<(), Halt> {
+        let mut parts: Vec<&[u8]> = Vec::with_capacity(self.alloc, elements.len())?;
+        for element in elements {
+            parts.push(element.as_slice())?;
+        }
+        let start = watch.now();
+        let batch = granted!(structure.new_batch());
+        let batch = granted!(batch.add_all(&self.hasher, &parts));
+        watch.note(
+            self.name,
+            "append at once: add_all",
+            elements.len() as u64,
+            start,
+        );
+        watch.keep(&batch.leaves().as_u64().to_be_bytes());
+        Ok(())
+    }
+
     // Computes the digests of a batch and applies it.
     fn commit<F: Family>(
         &self,
@@ -267,6 +291,7 @@ impl<H: PlainHasher> Trees<H> {
         elements: &[Element],
         scattered: &[u64],
     ) -> Result<(), Halt> {
+        self.append_together(watch, structure, elements)?;
         self.append_at_once(watch, structure, elements)?;
         self.append_one_by_one::<F, C>(watch, elements)?;
         self.roots(watch, structure)?;
