@@ -2,6 +2,7 @@
 //!
 //! A digest of `Xor8` is the exclusive or of the bytes that it hashes.
 
+mod additions;
 mod hashers;
 mod paths;
 mod values;
