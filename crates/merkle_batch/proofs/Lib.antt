@@ -5,3 +5,4 @@ pub mod MerkleizeFacts
 pub mod PeakCounts
 pub mod KeptReads
 pub mod BatchReads
+pub mod AddedLeaves

@@ -4,7 +4,7 @@
 //! stacked and forked to any depth. A merkleized batch can be applied to a structure that is at the
 //! state before the oldest record that the batch keeps, or at the state after one of its kept
 //! ancestors.
-ghost use Rattle.std.specs.Prelude.{◌≡◌, ◌<◌, ◌≤◌, ◌⊎◌, ◌+◌, ◌++◌, ℕ, List, ◌∷◌, [], None, Some, Err, true, slice_set, is_some, length, IfOk, IfErr, IsOkUnless, OnErr, OnOk};
+ghost use Rattle.std.specs.Prelude.{◌≡◌, ◌<◌, ◌≤◌, ◌⊎◌, ◌+◌, ◌++◌, ℕ, List, ◌∷◌, [], None, Some, Err, true, slice_set, is_some, length, map, IfOk, IfErr, IsOkUnless, OnErr, OnOk};
 ghost use Rattle.std.specs.FinMap.{get};
 ghost use Rattle.merkle_base.specs.Forest.{size};
 ghost use Rattle.merkle_base.specs.Hashing.{Hashing};
@@ -16,8 +16,10 @@ ghost use Rattle.merkle_batch_theory.specs.Needed.{computed};
 ghost use Rattle.merkle_batch_theory.specs.Unmerkleized.{Fault, first_fault, forked, kept, kept_lists, leaf_total, pending_list, update_fault, with_entries, with_leaf, with_leaves, with_update, with_updates, without_ancestors};
 ghost use Rattle.merkle_batch_theory.specs.Records.{after, records};
 ghost use Rattle.merkle_batch_theory.specs.Refusals.{fault_error};
+ghost use Rattle.merkle_range.specs.Input.{leaf_digests};
 ghost use Rattle.merkle_batch_theory.specs.History.{IsHistory, last_list};
 
+use crate::added::push_digests;
 pub use crate::merkleized::MerkleizedBatch;
 use merkle_base::error::Error;
 use merkle_base::family::{Family, Work};
@@ -163,6 +165,39 @@ impl<F: Family, D: Digest> UnmerkleizedBatch<F, D> {
         let position = F::location_to_position(self.leaves());
         let digest = hasher.leaf_digest(position, element);
         self.add_leaf_digest(digest)
+    }
+
+    /// Adds a leaf for each of these elements, in their order, several hashed at a time. The location
+    /// of the first one is the present [`leaves`](UnmerkleizedBatch::leaves).
+    ///
+    /// # Errors
+    ///
+    /// - `LocationOverflow` of [`MAX_LEAVES`](Family::MAX_LEAVES) if the batch would have more than
+    ///   that many leaves
+    /// - `OutOfMemory` if a memory request is refused
+    ///
+    /// On error the batch is lost and the parent is unchanged.
+    pub fn add_all<H: Hasher<F, Digest = D>>(
+        mut self,
+        hasher: &H,
+        elements: &[&[u8]],
+    ) -> Result<Self, Error<F>>
+        ensures added { let digests = leaf_digests (H.hashing hasher.now) F.rule (leaf_total self) (map (λ e. e.now) elements.now) in
+            IfOk result (λ b. b ≡ with_leaves self digests) }
+        ensures edited { let digests = leaf_digests (H.hashing hasher.now) F.rule (leaf_total self) (map (λ e. e.now) elements.now) in
+            IfOk result (λ b. (X : List D) → pending_list F.rule b X ≡ pending_list F.rule self X ++ digests) }
+        ensures room { IfOk result (λ _. leaf_total self + length elements.now ≤ F.MAX_LEAVES) }
+        ensures refused { IfErr result (λ e. ((e ≡ Error.LocationOverflow F.MAX_LEAVES) × (F.MAX_LEAVES < leaf_total self + length elements.now))
+            ⊎ ((e ≡ Error.OutOfMemory) × (leaf_total self + length elements.now ≤ F.MAX_LEAVES))) }
+    {
+        let first = self.leaves();
+        if elements.len() as u64 > F::MAX_LEAVES - first.as_u64() {
+            return Err(Error::LocationOverflow(Location::new(F::MAX_LEAVES)));
+        }
+        self.added.reserve(elements.len())?;
+        let alloc = self.parent.allocator();
+        push_digests(alloc, hasher, first, elements, &mut self.added)?;
+        Ok(self)
     }
 
     /// Adds a leaf with this digest. Its location is the present

@@ -5,6 +5,7 @@
 //! merkleized.
 #![tactic(auto)]
 
+mod added;
 pub mod batch;
 mod batch_proofs;
 mod merkleized;

@@ -1,7 +1,8 @@
-//! Hashers, paths, values and counts, with values that were worked out by hand.
+//! Hashers, paths, values, added leaves and counts, with values that were worked out by hand.
 //!
 //! A digest of `Xor8` is the exclusive or of the bytes that it hashes.
 
+mod additions;
 mod counts;
 mod hashers;
 mod paths;
