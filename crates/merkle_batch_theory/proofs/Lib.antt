@@ -27,7 +27,6 @@ pub mod LastMatch
 pub mod RecordFacts
 pub mod OverwriteFacts
 pub mod HeldNodes
-pub mod Pins
 pub mod MapFacts
 pub mod Forking
 pub mod NewestFirst

@@ -85,7 +85,7 @@ fn structure_read_as_any_other(rt: HostRuntime) -> Result<(), Fail> {
 }
 
 const STRUCTURE: &str =
-    "Mem { held: HeldNodes { start: Position(0), pins: [], nodes: [Xor8Digest { byte: 1 }, Xor8Digest { byte: 3 }, Xor8Digest { byte: 0 }] }";
+    "Mem { held: HeldNodes { start: Position(0), pins: {}, nodes: [Xor8Digest { byte: 1 }, Xor8Digest { byte: 3 }, Xor8Digest { byte: 0 }] }";
 
 #[test]
 fn what_is_printed_of_a_structure(rt: HostRuntime) -> Result<(), Fail> {
