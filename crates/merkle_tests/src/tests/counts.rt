@@ -80,6 +80,8 @@ fn counted_nodes(rt: HostRuntime) -> Result<(), Fail> {
     assert_eq!(rt; nodes_over::<mmr::Family>(alloc, 15, 0, &[14]), Some(0));
     // the nodes 2, 6, 14 and 24 are dirty, and 27 to 30 are new
     assert_eq!(rt; nodes_over::<mmr::Family>(alloc, 15, 1, &[0, 12]), Some(8));
+    // the nodes 2 and 6 are dirty, and 9 is new
+    assert_eq!(rt; nodes_over::<mmr::Family>(alloc, 4, 2, &[0, 1]), Some(3));
     assert_eq!(rt; nodes_over::<mmr::Family>(alloc, 0, 2, &[0]), Some(1));
     assert_eq!(rt;
         nodes_over::<mmr::Family>(alloc, 8, 0, &[0, 1, 2, 3, 4, 5, 6, 7]),
