@@ -9,7 +9,7 @@ use Rattle.merkle_base.specs.Hashing.{Hashing}
 use Rattle.merkle_base.specs.Places.{peaks_of}
 use Rattle.merkle_base.specs.Scheme.{Scheme}
 use Rattle.merkle_range.specs.Input.{leaf_digests, range_input}
-use Rattle.merkle_range.proofs.GivenLeaves.{length-leaf_digests}
+use Rattle.merkle_range.proofs.LeafDigests.{length-leaf_digests}
 use Rattle.merkle_root_theory.specs.Range.{ForRootOf, IsHonestRange, RangeCollides}
 use Rattle.example_proved.specs.Log.{leaves_of, ForLogOf, HasEntry, HasTwin, EntryCollides, IsHonestFor}
 

@@ -11,7 +11,7 @@ use Rattle.merkle_claim_theory.specs.Pinned.{IsHonestPinned, PinnedCollides}
 use Rattle.merkle_claim_theory.proofs.RebuiltPins.{pins_give_old_root}
 use Rattle.merkle_claim_theory.specs.Rebuilt.{GivesOldRoot}
 use Rattle.merkle_range.specs.Input.{leaf_digests, range_input}
-use Rattle.merkle_range.proofs.GivenLeaves.{length-leaf_digests}
+use Rattle.merkle_range.proofs.LeafDigests.{length-leaf_digests}
 use Rattle.merkle_root_theory.specs.Range.{ForRootOf}
 use Rattle.example_proved.specs.Log.{leaves_of, IsLogOf, ForLogOf, GivesRoot, Extends}
 use Rattle.example_proved.proofs.Entries.{digest_of_entry, entry_or_twin, of_logs}

@@ -5,4 +5,3 @@ pub mod MerkleizeFacts
 pub mod PeakCounts
 pub mod KeptReads
 pub mod BatchReads
-pub mod AddedLeaves

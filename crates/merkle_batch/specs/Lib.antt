@@ -1,2 +1,1 @@
 pub mod Finished
-pub mod Positioned

@@ -19,7 +19,6 @@ ghost use Rattle.merkle_batch_theory.specs.Refusals.{fault_error};
 ghost use Rattle.merkle_range.specs.Input.{leaf_digests};
 ghost use Rattle.merkle_batch_theory.specs.History.{IsHistory, last_list};
 
-use crate::added::push_digests;
 pub use crate::merkleized::MerkleizedBatch;
 use merkle_base::error::Error;
 use merkle_base::family::{Family, Work};
@@ -28,6 +27,7 @@ use merkle_base::position::Position;
 use merkle_digest::digest::Digest;
 pub use merkle_draft::base::Base;
 use merkle_hasher::hasher::Hasher;
+use merkle_range::leaves::push_leaf_digests;
 use std::collections::BTreeMap;
 use std::marker::Model;
 use std::rc::{Rc, RcSlice};
@@ -196,7 +196,7 @@ impl<F: Family, D: Digest> UnmerkleizedBatch<F, D> {
         }
         self.added.reserve(elements.len())?;
         let alloc = self.parent.allocator();
-        push_digests(alloc, hasher, first, elements, &mut self.added)?;
+        push_leaf_digests(alloc, hasher, first, elements, &mut self.added)?;
         Ok(self)
     }
 

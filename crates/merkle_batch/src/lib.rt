@@ -5,7 +5,6 @@
 //! merkleized.
 #![tactic(auto)]
 
-mod added;
 pub mod batch;
 mod batch_proofs;
 mod merkleized;

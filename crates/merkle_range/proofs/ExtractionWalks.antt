@@ -10,7 +10,6 @@ use Rattle.merkle_root_theory.specs.Plan.{tree_meets, siblings}
 use Rattle.merkle_root_theory.specs.Claim.{tree_claim}
 use Rattle.merkle_root_theory.specs.Walk.{IsWalked, ArePeaksWalked}
 use Rattle.merkle_root_theory.specs.Extract.{inner_pairs, over_pairs}
-use Rattle.merkle_range.proofs.GivenLeaves.{reads_chosen}
 
 -- the position of a node
 pub stands_at : (rule : List ℕ → List ℕ) (m p tall s : ℕ) (t : Tree) → IsNodeOf rule m p tall s t → position t ≡ p
@@ -70,16 +69,3 @@ module _ {D : Type 0} (h : Hashing D) (c : ℕ → Bool) (X : ℕ → D) where
         let two : Took s1 (inner_pairs h c X t rest ++ (position t, value h (tree_claim h c X t rest)) ∷ []) s3 =
         subst (λ z. Took s1 (inner_pairs h c X t z ++ (position t, value h (tree_claim h c X t z)) ∷ []) s3) w.rest (both s1 s2 s3 _ _ b one) in
         subst (λ z. Took s0 z s3) (sym (ap (λ z. over_pairs h c X z before) u ∙ over_push ts t before)) (both s0 s1 s3 _ _ a two)
-
--- they read the leaves at chosen locations alone
-module _ {D : Type 0} (h : Hashing D) (c : ℕ → Bool) (X Y : ℕ → D) (e : (i : ℕ) → c i ≡ true → X i ≡ Y i) where
-  inner_chosen : (t : Tree) (ds : List D) → inner_pairs h c X t ds ≡ inner_pairs h c Y t ds
-  inner_chosen (leaf p i) ds = refl
-  inner_chosen (join p l r) ds =
-      let rest = drop (length (siblings c l)) ds in
-      ap (λ z. cond (tree_meets c l || tree_meets c r) z []) (ap₂ ◌++◌ (inner_chosen l ds) (ap₂ ◌++◌ (inner_chosen r rest)
-      (ap₂ (λ x y. (position l, x) ∷ (position r, y) ∷ []) (reads_chosen h c X Y e l ds) (reads_chosen h c X Y e r rest))))
-
-  pub over_chosen : (ts : List Tree) (ds : List D) → over_pairs h c X ts ds ≡ over_pairs h c Y ts ds
-  over_chosen [] ds = refl
-  over_chosen (t ∷ ts) ds = ap₂ ◌++◌ (inner_chosen t ds) (ap₂ (λ x z. (position t, x) ∷ z) (reads_chosen h c X Y e t ds) (over_chosen ts (drop (length (siblings c t)) ds)))

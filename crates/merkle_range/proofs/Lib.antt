@@ -1,9 +1,9 @@
 pub mod PeakLoop
 pub mod RangeRoot
-pub mod GivenLeaves
 pub mod ExtractionWalks
 pub mod IndividualPeaks
 pub mod PeakWalk
 pub mod PinWalks
 pub mod PinParts
 pub mod PinChecks
+pub mod LeafDigests

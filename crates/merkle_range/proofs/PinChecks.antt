@@ -16,7 +16,7 @@ use Rattle.merkle_claim_theory.specs.Table.{digest_for}
 use Rattle.merkle_claim_theory.proofs.RebuiltPins.{pinned_is_rebuilt}
 use Rattle.merkle_range.specs.Input.{range_input}
 use Rattle.merkle_range.specs.PinnedParts.{IsBeforeRebuilt}
-use Rattle.merkle_range.proofs.GivenLeaves.{length-leaf_digests}
+use Rattle.merkle_range.proofs.LeafDigests.{length-leaf_digests}
 
 module _ {D : Type 0} (s : Scheme D) (r : RangeInput D) (pins : List D) (root : D) where
   -- what is accepted with pins is accepted without

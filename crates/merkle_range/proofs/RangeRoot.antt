@@ -15,20 +15,19 @@ use Rattle.merkle_base.proofs.Growth.{forest_grown}
 use Rattle.merkle_root_theory.specs.Plan.{siblings}
 use Rattle.merkle_root_theory.specs.Outside.{fold_all, folded_prefix, single_before, single_after}
 use Rattle.merkle_root_theory.specs.Extract.{single_pairs, over_pairs, extracted}
-use Rattle.merkle_range.proofs.ExtractionWalks.{over_chosen}
 use Rattle.merkle_root_theory.specs.Layouts.{count_before, count_after, count_inactive}
 use Rattle.merkle_root_theory.specs.Check.{RangeInput, chosen, leaf_given}
 use Rattle.merkle_base.specs.Scheme.{Scheme, scheme_of}
 use Rattle.merkle_root_theory.specs.Range.{in_range, overlapping, wholly_after, end_of, range_parts}
 use Rattle.merkle_root_theory.specs.Reconstruction.{digest_count}
-use Rattle.merkle_root_theory.specs.Walk.{bytes_of, leaf_from, peak_values, ArePeakDigests}
+use Rattle.merkle_root_theory.specs.Walk.{bytes_of, peak_values, ArePeakDigests}
 use Rattle.merkle_range.specs.Input.{range_input, IsComputed}
 use Rattle.merkle_hasher.specs.Subtrees.{subtree_of}
 use Rattle.merkle_range.specs.GroupedPeaks.{HoldsGroups}
 use Rattle.merkle_range.specs.declared.groups.Groups.{Groups}
 use Rattle.merkle_root_theory.proofs.PeakGroups.{length-peaks_of, some_over}
 use Rattle.merkle_base.proofs.PeakLists.{covers_spans}
-use Rattle.merkle_range.proofs.GivenLeaves.{values_chosen, length-leaf_digests, leaf_in_range}
+use Rattle.merkle_range.proofs.LeafDigests.{length-leaf_digests}
 use Rattle.merkle_root_theory.proofs.LayoutRoot.{layout_counts, layout_root, inactive_fits}
 
 -- groups have as many peaks outside the range as there are before it and after it
@@ -46,13 +45,6 @@ group_count {F} rule a b n g l held =
 -- and these are few
 pub few_peaks : (rule : List ℕ → List ℕ) (max_leaves max_nodes n : ℕ) → IsLawful rule max_leaves max_nodes → n ≤ max_leaves → length (peaks_of rule n) ≤ 64
 few_peaks rule max_leaves max_nodes n law l = omega (arith, length-reverse (forest rule n).peaks, length-map (forest rule n).peaks height, ap length (heights_forest rule n), law.at_most_64_peaks n l)
-
--- the digests of peaks read the leaves at chosen locations alone
-other_leaves : {D : Type 0} (h : Hashing D) (c : ℕ → Bool) (X Y : ℕ → D) (ts : List Tree) (m n : ℕ) (ds all : List D) → ((i : ℕ) → c i ≡ true → X i ≡ Y i) → ArePeakDigests h c X ts m n ds all → ArePeakDigests h c Y ts m n ds all
-other_leaves h c X Y ts m n ds all e w = record {
-  digests = w.digests ∙ ap (λ z. take m ds ++ (z ++ take n (drop m ds))) (values_chosen h c X Y e ts (drop (m + n) ds));
-  count = w.count;
-}
 
 none_joined : {A : Type 0} (xs ys zs : List A) → length (xs ++ (ys ++ zs)) ≡ 0 → length ys ≡ 0
 none_joined xs ys zs e = omega (arith, e, length-append xs (ys ++ zs), length-append ys zs)
@@ -74,9 +66,6 @@ module _ {D : Type 0} (h : Hashing D) (bagging : Bagging) (rule : List ℕ → L
   end_same : b ≡ end_of input
   end_same = omega (arith, end_is, element_count)
 
-  given_leaves : (i : ℕ) → chosen input i ≡ true → leaf_from h rule a (bytes_of es) i ≡ leaf_given h input i
-  given_leaves i m = leaf_in_range h rule (bytes_of es) a (end_of input) (omega (arith, length-leaf_digests h rule a (bytes_of es))) i m
-
   -- how many digests of a proof are for the peaks before the range, and for those after its end
   abbrev pub digests_before : ℕ
   digests_before = count_before bagging inactive (wholly_before a (peaks_of rule leaves))
@@ -95,13 +84,13 @@ module _ {D : Type 0} (h : Hashing D) (bagging : Bagging) (rule : List ℕ → L
     within_given : end_of input ≤ leaves
     within_given = omega (arith, within, end_same)
 
-    as_input : (all : List D) → AreDigests b (leaf_from h rule a (bytes_of es)) m n all → AreDigests (end_of input) (leaf_given h input) digests_before (digests_after (end_of input)) all
+    as_input : (all : List D) → AreDigests b (leaf_given h input) m n all → AreDigests (end_of input) (leaf_given h input) digests_before (digests_after (end_of input)) all
     as_input all w =
-        let X = leaf_from h rule a (bytes_of es) in
+        let X = leaf_given h input in
         let one : AreDigests b X digests_before (digests_after b) all = subst (λ i. AreDigests b X i (digests_after b) all) m_is (subst (λ j. AreDigests b X m j all) n_is w) in
-        other_leaves h (chosen input) X (leaf_given h input) _ _ _ given all given_leaves (subst (λ z. AreDigests z X digests_before (digests_after z) all) end_same one)
+        subst (λ z. AreDigests z X digests_before (digests_after z) all) end_same one
 
-    pub computed : leaves ≤ max_leaves → inactive ≤ length (peaks_of rule leaves) → (all : List D) → AreDigests b (leaf_from h rule a (bytes_of es)) m n all
+    pub computed : leaves ≤ max_leaves → inactive ≤ length (peaks_of rule leaves) → (all : List D) → AreDigests b (leaf_given h input) m n all
         → (j : ℕ) → j ≡ count_inactive bagging inactive (wholly_before a (peaks_of rule leaves)) → (d : D) → d ≡ peaks_root scheme leaves j inactive all → IsComputed scheme input d
     computed few low all w j j_is d is =
         let v = as_input all w in (
@@ -122,20 +111,20 @@ module _ {D : Type 0} (h : Hashing D) (bagging : Bagging) (rule : List ℕ → L
         ∙ ap (λ z. digests_before + digests_after z + length (flat_map (siblings (in_range a z)) (overlapping a z (peaks_of rule leaves)))) end_same
         ∙ ap (λ z. z + length (flat_map (siblings (chosen input)) (overlapping a (end_of input) (peaks_of rule leaves)))) (sym (layout_counts scheme input))
 
-    pub never_empty : (all : List D) → AreDigests b (leaf_from h rule a (bytes_of es)) m n all → length all ≡ 0 → ⊥
+    pub never_empty : (all : List D) → AreDigests b (leaf_given h input) m n all → length all ≡ 0 → ⊥
     never_empty all w e =
         some_over a b 0 leaves (peaks_of rule leaves) (omega (arith, some, end_is)) (covers_spans leaves (forest rule leaves).peaks (forest_grown rule leaves).covers) (omega arith) (omega (arith, some, end_is, within))
-        (no_peaks h (in_range a b) (leaf_from h rule a (bytes_of es)) _ _ (none_joined (take m given) _ _ (sym (ap length w.digests) ∙ e)))
+        (no_peaks h (in_range a b) (leaf_given h input) _ _ (none_joined (take m given) _ _ (sym (ap length w.digests) ∙ e)))
 
     -- there are as many as are folded apart
-    pub folds_given : inactive ≤ length (peaks_of rule leaves) → (all : List D) → AreDigests b (leaf_from h rule a (bytes_of es)) m n all
+    pub folds_given : inactive ≤ length (peaks_of rule leaves) → (all : List D) → AreDigests b (leaf_given h input) m n all
         → (j : ℕ) → j ≡ count_inactive bagging inactive (wholly_before a (peaks_of rule leaves)) → j ≤ length all
     folds_given low all w j j_is = omega (arith, j_is, inactive_fits scheme input some_given all (as_input all w) low)
 
     -- the pairs of the individual peaks before the range, of those that overlap it and of the individual ones after it are those of the input
     module _ {C : Type 0} (Took : C → List (ℕ × D) → C → Type 0) (both : (s t u : C) (x y : List (ℕ × D)) → Took s x t → Took t y u → Took s (x ++ y) u) where
       pub all_put : (s0 s1 s2 s3 : C) → Took s0 (single_pairs h (single_before bagging inactive (wholly_before a (peaks_of rule leaves))) (drop (length (fold_all (folded_prefix bagging inactive (wholly_before a (peaks_of rule leaves))))) given)) s1
-          → Took s1 (over_pairs h (in_range a b) (leaf_from h rule a (bytes_of es)) (overlapping a b (peaks_of rule leaves)) (drop (m + n) given)) s2
+          → Took s1 (over_pairs h (in_range a b) (leaf_given h input) (overlapping a b (peaks_of rule leaves)) (drop (m + n) given)) s2
           → Took s2 (single_pairs h (single_after bagging inactive (length (wholly_before a (peaks_of rule leaves)) + length (overlapping a b (peaks_of rule leaves))) (wholly_after b (peaks_of rule leaves))) (drop m given)) s3
           → Took s0 (extracted scheme input) s3
       all_put s0 s1 s2 s3 x y z =
@@ -143,12 +132,12 @@ module _ {D : Type 0} (h : Hashing D) (bagging : Bagging) (rule : List ℕ → L
           let before = wholly_before a ts in
           let single = single_before bagging inactive before in
           let front = length (fold_all (folded_prefix bagging inactive before)) in
-          let X = leaf_from h rule a (bytes_of es) in
+          let X = leaf_given h input in
           let e = end_of input in
           let y1 : Took s1 (over_pairs h (in_range a e) X (overlapping a e ts) (drop (m + n) given)) s2 = subst (λ v. Took s1 (over_pairs h (in_range a v) X (overlapping a v ts) (drop (m + n) given)) s2) end_same y in
           let count : m + n ≡ length (range_parts bagging inactive a e ts) = ap₂ (λ i j. i + j) m_is (n_is ∙ ap digests_after end_same) ∙ sym (layout_counts scheme input) in
           let y2 : Took s1 (over_pairs h (in_range a e) (leaf_given h input) (overlapping a e ts) (drop (length (range_parts bagging inactive a e ts)) given)) s2 =
-          subst (λ v. Took s1 v s2) (over_chosen h (chosen input) X (leaf_given h input) given_leaves (overlapping a e ts) (drop (m + n) given) ∙ ap (λ v. over_pairs h (in_range a e) (leaf_given h input) (overlapping a e ts) (drop v given)) count) y1 in
+          subst (λ v. Took s1 v s2) (ap (λ v. over_pairs h (in_range a e) X (overlapping a e ts) (drop v given)) count) y1 in
           let z1 : Took s2 (single_pairs h (single_after bagging inactive (length before + length (overlapping a e ts)) (wholly_after e ts)) (drop m given)) s3 =
           subst (λ v. Took s2 (single_pairs h (single_after bagging inactive (length before + length (overlapping a v ts)) (wholly_after v ts)) (drop m given)) s3) end_same z in
           let back : drop m given ≡ drop (length single) (drop front given) = ap (λ v. drop v given) m_is ∙ sym (drop-drop (length single) front given) in

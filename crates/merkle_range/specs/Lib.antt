@@ -2,3 +2,4 @@ pub mod Extracting
 pub mod GroupedPeaks
 pub mod Input
 pub mod PinnedParts
+pub mod Positioned

@@ -14,6 +14,7 @@ ghost use Rattle.merkle_range.specs.Input.{range_input, IsComputed};
 use crate::collector::{Collector, Unlisted};
 use crate::extraction::{put_after, put_before};
 use crate::groups::Groups;
+use crate::leaves::push_leaf_digests;
 use crate::siblings::reconstruct_digest;
 use merkle_base::error::{OutOfMemory, ReconstructionError};
 use merkle_base::family::Family;
@@ -142,6 +143,10 @@ pub(crate) fn reconstruct_root_into<F: Family, H: Hasher<F>, C: Collector<F, H::
     if parts.inactive > groups.count() {
         return Err(ReconstructionError::InvalidSize);
     }
+    let mut leaves = Vec::new(parts.alloc);
+    let Ok(()) = push_leaf_digests(parts.alloc, hasher, start, elements, &mut leaves) else {
+        return Err(ReconstructionError::OutOfMemory);
+    };
     let layout = groups.layout(hasher.root_bagging(), parts.inactive);
     let Ok(()) = put_before(&groups, layout, parts.digests, collector) else {
         return Err(ReconstructionError::OutOfMemory);
@@ -150,7 +155,7 @@ pub(crate) fn reconstruct_root_into<F: Family, H: Hasher<F>, C: Collector<F, H::
         parts,
         hasher,
         &range,
-        elements,
+        &leaves,
         &groups.overlapping,
         layout.before,
         layout.after,
@@ -229,12 +234,12 @@ fn end_from<F: Family>(
 }
 
 // Returns all digests that the root folds: the given ones before the range, those of the peaks that
-// overlap it, and the given ones after it.
+// overlap it, and the given ones after it. `leaves` are the digests of the leaves in the range.
 fn peak_digests<F: Family, H: Hasher<F>, C: Collector<F, H::Digest>>(
     parts: &ProofParts<'_, F, H::Digest>,
     hasher: &H,
     range: &Range<Location<F>>,
-    elements: &[&[u8]],
+    leaves: &[H::Digest],
     peaks: &[Subtree<F>],
     before: usize,
     after: usize,
@@ -242,13 +247,13 @@ fn peak_digests<F: Family, H: Hasher<F>, C: Collector<F, H::Digest>>(
 ) -> Result<Vec<H::Digest>, ReconstructionError>
     requires nodes { (ts : List Tree) × (peaks.now ≡ map subtree_of ts) × AreNodes F.rule F.MAX_LEAVES ts }
     requires some { range.now.start < range.now.end }
-    requires all { range.now.end ≤ range.now.start + length elements.now }
+    requires all { range.now.end ≤ range.now.start + length leaves.now }
     ensures ok { let h = H.hashing hasher.now in let c = in_range range.now.start range.now.end in
-        let X = leaf_from h F.rule range.now.start (bytes_of elements.now) in
+        let X = leaf_from h range.now.start leaves.now in
         IfOk result (λ v. (ts : List Tree) → peaks.now ≡ map subtree_of ts → AreNodes F.rule F.MAX_LEAVES ts
         → ArePeakDigests h c X ts before after parts.now.digests.now v.items) }
     ensures taken { let h = H.hashing hasher.now in let c = in_range range.now.start range.now.end in
-        let X = leaf_from h F.rule range.now.start (bytes_of elements.now) in
+        let X = leaf_from h range.now.start leaves.now in
         IfOk result (λ _. (ts : List Tree) → peaks.now ≡ map subtree_of ts → AreNodes F.rule F.MAX_LEAVES ts
         → C.Took collector.old (over_pairs h c X ts (drop (before + after) parts.now.digests.now)) collector.new) }
     ensures err { let c = in_range range.now.start range.now.end in
@@ -269,7 +274,7 @@ fn peak_digests<F: Family, H: Hasher<F>, C: Collector<F, H::Digest>>(
     reconstruct_peaks(
         hasher,
         range,
-        elements,
+        leaves,
         peaks,
         &mut siblings,
         &mut all,
@@ -284,11 +289,11 @@ fn peak_digests<F: Family, H: Hasher<F>, C: Collector<F, H::Digest>>(
     Ok(all)
 }
 
-// Appends the digests of the peaks that overlap the range.
+// Appends the digests of the peaks that overlap the range, whose leaves have the digests `leaves`.
 fn reconstruct_peaks<F: Family, H: Hasher<F>, C: Collector<F, H::Digest>>(
     hasher: &H,
     range: &Range<Location<F>>,
-    elements: &[&[u8]],
+    leaves: &[H::Digest],
     peaks: &[Subtree<F>],
     digests: &mut &[H::Digest],
     out: &mut Vec<H::Digest>,
@@ -296,13 +301,13 @@ fn reconstruct_peaks<F: Family, H: Hasher<F>, C: Collector<F, H::Digest>>(
 ) -> Result<(), ReconstructionError>
     requires nodes { (ts : List Tree) × (peaks.now ≡ map subtree_of ts) × AreNodes F.rule F.MAX_LEAVES ts }
     requires some { range.now.start < range.now.end }
-    requires all { range.now.end ≤ range.now.start + length elements.now }
+    requires all { range.now.end ≤ range.now.start + length leaves.now }
     ensures ok { let h = H.hashing hasher.now in let c = in_range range.now.start range.now.end in
-        let X = leaf_from h F.rule range.now.start (bytes_of elements.now) in
+        let X = leaf_from h range.now.start leaves.now in
         IfOk result (λ _. (ts : List Tree) → peaks.now ≡ map subtree_of ts → AreNodes F.rule F.MAX_LEAVES ts
         → ArePeaksWalked h c X ts digests.old.now out.old.items out.new.items digests.new.now) }
     ensures taken { let h = H.hashing hasher.now in let c = in_range range.now.start range.now.end in
-        let X = leaf_from h F.rule range.now.start (bytes_of elements.now) in
+        let X = leaf_from h range.now.start leaves.now in
         IfOk result (λ _. (ts : List Tree) → peaks.now ≡ map subtree_of ts → AreNodes F.rule F.MAX_LEAVES ts
         → C.Took collector.old (over_pairs h c X ts digests.old.now) collector.new) }
     ensures err { let c = in_range range.now.start range.now.end in
@@ -311,7 +316,7 @@ fn reconstruct_peaks<F: Family, H: Hasher<F>, C: Collector<F, H::Digest>>(
         → length digests.old.now < length (flat_map (siblings c) ts))) }
 {
     for peak in peaks {
-        let digest = reconstruct_digest(peak, hasher, range, elements, digests, collector)?;
+        let digest = reconstruct_digest(peak, hasher, range, leaves, digests, collector)?;
         if collector.put(peak.position, &digest).is_err() {
             return Err(ReconstructionError::OutOfMemory);
         }

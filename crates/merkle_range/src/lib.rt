@@ -6,6 +6,7 @@ mod collector;
 pub mod extraction;
 pub mod groups;
 pub mod layout;
+pub mod leaves;
 mod peaks;
 pub mod pins;
 mod siblings;

@@ -5,7 +5,7 @@ ghost use Rattle.merkle_hasher.specs.Subtrees.{Denotes};
 ghost use Rattle.merkle_root_theory.specs.Plan.{tree_meets, siblings};
 ghost use Rattle.merkle_root_theory.specs.Extract.{inner_pairs};
 ghost use Rattle.merkle_root_theory.specs.Range.{in_range};
-ghost use Rattle.merkle_root_theory.specs.Walk.{bytes_of, leaf_from, IsWalked};
+ghost use Rattle.merkle_root_theory.specs.Walk.{leaf_from, IsWalked};
 
 use crate::collector::{Collector, put_both};
 use merkle_base::error::ReconstructionError;
@@ -34,8 +34,8 @@ fn is_inside<F: Family>(subtree: &Subtree<F>, range: &Range<Location<F>>) -> boo
     subtree.first_leaf >= range.start && subtree.leaf_end() <= range.end
 }
 
-/// Computes the digest of a node from the elements of the range and from `digests`, those of the
-/// maximal nodes outside the range, which are consumed in order.
+/// Computes the digest of a node from `leaves`, the digests of the leaves in the range, and from
+/// `digests`, those of the maximal nodes outside the range, which are consumed in order.
 ///
 /// The digests of the nodes below it are passed to `out`: the two children of a node after all that
 /// is below them.
@@ -43,17 +43,17 @@ pub(crate) fn reconstruct_digest<F: Family, H: Hasher<F>, C: Collector<F, H::Dig
     subtree: &Subtree<F>,
     hasher: &H,
     range: &Range<Location<F>>,
-    elements: &[&[u8]],
+    leaves: &[H::Digest],
     digests: &mut &[H::Digest],
     out: &mut C,
 ) -> Result<H::Digest, ReconstructionError>
     requires node { (t : Tree) × Denotes F.rule F.MAX_LEAVES subtree.now t }
     requires some { range.now.start < range.now.end }
-    requires all { range.now.end ≤ range.now.start + length elements.now }
-    ensures ok { let h = H.hashing hasher.now in let leaf = leaf_from h F.rule range.now.start (bytes_of elements.now) in
+    requires all { range.now.end ≤ range.now.start + length leaves.now }
+    ensures ok { let h = H.hashing hasher.now in let leaf = leaf_from h range.now.start leaves.now in
         IfOk result (λ d. (t : Tree) → Denotes F.rule F.MAX_LEAVES subtree.now t
         → IsWalked h (in_range range.now.start range.now.end) leaf t digests.old.now d digests.new.now) }
-    ensures taken { let h = H.hashing hasher.now in let leaf = leaf_from h F.rule range.now.start (bytes_of elements.now) in
+    ensures taken { let h = H.hashing hasher.now in let leaf = leaf_from h range.now.start leaves.now in
         IfOk result (λ _. (t : Tree) → Denotes F.rule F.MAX_LEAVES subtree.now t
         → C.Took out.old (inner_pairs h (in_range range.now.start range.now.end) leaf t digests.old.now) out.new) }
     ensures err { IfErr result (λ e. e ≢ ReconstructionError.OutOfMemory → (e ≡ ReconstructionError.MissingDigests)
@@ -68,11 +68,11 @@ pub(crate) fn reconstruct_digest<F: Family, H: Hasher<F>, C: Collector<F, H::Dig
     }
     if subtree.height == 0 {
         let index = subtree.first_leaf - range.start;
-        return Ok(hasher.leaf_digest(subtree.position, elements[index.as_u64() as usize]));
+        return Ok(leaves[index.as_u64() as usize]);
     }
     let (left, right) = subtree.children();
-    let first = reconstruct_digest(&left, hasher, range, elements, digests, out)?;
-    let second = reconstruct_digest(&right, hasher, range, elements, digests, out)?;
+    let first = reconstruct_digest(&left, hasher, range, leaves, digests, out)?;
+    let second = reconstruct_digest(&right, hasher, range, leaves, digests, out)?;
     if put_both(left.position, &first, right.position, &second, out).is_err() {
         return Err(ReconstructionError::OutOfMemory);
     }

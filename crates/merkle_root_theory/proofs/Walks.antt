@@ -1,12 +1,12 @@
 -- Walks over a tree, step by step.
-use Rattle.std.proofs.Common.{◌≡◌, ℕ, zero, suc, Bool, true, false, cond, nat_le, nat_lt, ◌+◌, ◌-◌, ◌<◌, ◌≤◌, ◌≢◌, List, [], ◌∷◌, ◌++◌, length, drop, get_or, arith, refl, ap, ap₂, sym, ◌∙◌, length-append, drop-drop, leb-true, ltb-true, append-nil}
+use Rattle.std.proofs.Common.{◌≡◌, ℕ, zero, suc, Bool, true, false, cond, nat_le, nat_lt, Some, slice_get, ◌+◌, ◌-◌, ◌<◌, ◌≤◌, ◌≢◌, List, [], ◌∷◌, ◌++◌, length, drop, get_or, arith, refl, ap, ap₂, sym, ◌∙◌, length-append, drop-drop, leb-true, ltb-true, append-nil}
 use Rattle.std.proofs.lemmas.List.{length-drop}
+use Rattle.std.proofs.lemmas.Option.{get_or_from_slice_get, slice_get_read}
 use Rattle.std.proofs.Common.{map, append_assoc, le-leb, lt-ltb}
 use Rattle.std.proofs.lemmas.List.{map-append}
 use Rattle.merkle_base.specs.Tree.{IsBuilt}
 use Rattle.merkle_base.proofs.Nodes.{width_pos}
 use Rattle.merkle_root_theory.proofs.PeakGroups.{meets_yes}
-use Rattle.std.specs.Borrow.{Bor}
 use Rattle.std.proofs.lemmas.Bool.{and_parts, and_from}
 use Rattle.std.proofs.lemmas.Grind.{flat_map-append}
 use Rattle.std.specs.List.{flat_map}
@@ -20,7 +20,7 @@ use Rattle.merkle_root_theory.specs.Plan.{tree_meets, siblings}
 use Rattle.merkle_root_theory.specs.Claim.{next, tree_claim}
 use Rattle.merkle_root_theory.specs.Range.{in_range}
 use Rattle.merkle_hasher.specs.Subtrees.{IsNodeOf}
-use Rattle.merkle_root_theory.specs.Walk.{bytes_of, leaf_from}
+use Rattle.merkle_root_theory.specs.Walk.{leaf_from}
 use Rattle.merkle_root_theory.specs.Walk.{IsWalked}
 
 pub in_from : (a b i : ℕ) → in_range a b i ≡ true → a ≤ i
@@ -80,12 +80,6 @@ module _ {D : Type 0} (h : Hashing D) (c : ℕ → Bool) (X : ℕ → D) where
   pub short_right : (p : ℕ) (l r : Tree) (ds mid : List D) (x : D) → tree_meets c (join p l r) ≡ true → IsWalked h c X l ds x mid → length mid < length (siblings c r) → length ds < length (siblings c (join p l r))
   short_right p l r ds mid x e u s = omega (arith, ap length (siblings_join c p l r e), length-append (siblings c l) (siblings c r), ap length u.rest, length-drop (length (siblings c l)) ds, u.enough)
 
--- the bytes of an element, read with a default that has none
-pub element_get : (es : List (Bor (List ℕ))) (i : ℕ) (d : Bor (List ℕ)) → d.now ≡ [] → (get_or es i d).now ≡ get_or (bytes_of es) i []
-element_get [] i d e = e
-element_get (x ∷ es) zero d e = refl
-element_get (x ∷ es) (suc i) d e = element_get es i d e
-
 module _ (rule : List ℕ → List ℕ) (m p s : ℕ) (tall : ℕ) where
   -- a met leaf lies in the range
   pub leaf_in_range : (a b : ℕ) (t : Tree) → IsNodeOf rule m p tall s t → tall ≡ 0 → tree_meets (in_range a b) t ≡ true → (a ≤ s) × (s < b)
@@ -93,15 +87,14 @@ module _ (rule : List ℕ → List ℕ) (m p s : ℕ) (tall : ℕ) where
   leaf_in_range a b (join q l r) w e k = absurd (omega (arith, w.height_is, e))
 
   module _ {D : Type 0} (h : Hashing D) where
-    pub walked_leaf : (a b : ℕ) (es : List (Bor (List ℕ))) (t : Tree) → IsNodeOf rule m p tall s t → tall ≡ 0 → tree_meets (in_range a b) t ≡ true
-        → (ds : List D) (r : D) (j : ℕ) (empty : Bor (List ℕ)) → empty.now ≡ [] → r ≡ h.leaf p (get_or es j empty).now → j ≡ s - a → IsWalked h (in_range a b) (leaf_from h rule a (bytes_of es)) t ds r ds
-    walked_leaf a b es (leaf q i) w e k ds r j empty none is at =
+    pub walked_leaf : (a b : ℕ) (xs : List D) (t : Tree) → IsNodeOf rule m p tall s t → tall ≡ 0 → tree_meets (in_range a b) t ≡ true
+        → (ds : List D) (r : D) (j : ℕ) → j < length xs → r ≡ get_or xs j r → j ≡ s - a → IsWalked h (in_range a b) (leaf_from h a xs) t ds r ds
+    walked_leaf a b xs (leaf q i) w e k ds r j there is at =
         let x : i ≡ s = w.first_is in
-        let y : q ≡ p = (forest_grown rule m).placed p (leaf q i) w.at in
-        let z : q ≡ size rule i = (leaf_at rule m p q i w.at).0 in
-        walk_leaf h (in_range a b) (leaf_from h rule a (bytes_of es)) q i ds r k
-        (is ∙ ap₂ h.leaf (sym y ∙ z) (element_get es j empty none ∙ ap (λ n. get_or (bytes_of es) n []) (at ∙ ap (λ n. n - a) (sym x))))
-    walked_leaf a b es (join q l r) w e k ds d j empty none is at = absurd (omega (arith, w.height_is, e))
+        let here : slice_get xs j ≡ Some r = slice_get_read xs (length xs) j r refl there is in
+        walk_leaf h (in_range a b) (leaf_from h a xs) q i ds r k
+        (sym (get_or_from_slice_get xs j r h.empty here) ∙ ap (λ n. get_or xs n h.empty) (at ∙ ap (λ n. n - a) (sym x)))
+    walked_leaf a b xs (join q l r) w e k ds d j there is at = absurd (omega (arith, w.height_is, e))
 
     module _ (c : ℕ → Bool) (X : ℕ → D) where
       pub walked_inner : (t : Tree) → IsNodeOf rule m p tall s t → tall ≢ 0 → tree_meets c t ≡ true → (ds mid rest : List D) (x y d : D)

@@ -13,9 +13,9 @@ use Rattle.merkle_root_theory.specs.Claim.{tree_claim}
 abbrev pub bytes_of : List (Bor (List ℕ)) → List (List ℕ)
 bytes_of elements = map (λ e. e.now) elements
 
--- the leaf digest at location i, the first of the elements standing at location a
-abbrev pub leaf_from : {D : Type 0} → Hashing D → (List ℕ → List ℕ) → ℕ → List (List ℕ) → ℕ → D
-leaf_from h rule a elements i = h.leaf (size rule i) (get_or elements (i - a) [])
+-- the leaf digest at location i, the first of the digests being that of location a
+abbrev pub leaf_from : {D : Type 0} → Hashing D → ℕ → List D → ℕ → D
+leaf_from h a leaves i = get_or leaves (i - a) h.empty
 
 -- d is the value of the tree's claim, for which the walk took the first of the digests and left the others
 pub record IsWalked {D : Type 0} (h : Hashing D) (c : ℕ → Bool) (X : ℕ → D) (t : Tree) (before : List D) (d : D) (after : List D) : Type 0 where

@@ -4,7 +4,7 @@ use Rattle.std.proofs.lemmas.Result.{err_from_is_err_and}
 use Rattle.merkle_root_theory.proofs.PeakValues.{all_digests}
 use Rattle.merkle_root_theory.specs.Extract.{over_pairs}
 use Rattle.merkle_root_theory.specs.Range.{in_range}
-use Rattle.merkle_root_theory.specs.Walk.{bytes_of, leaf_from}
+use Rattle.merkle_root_theory.specs.Walk.{leaf_from}
 use Rattle.merkle_range.proofs.checks.peak_digests.Goals as goal
 
 pub returns-in_err-reconstruct_peaks-clause-err : goal.returns-in_err-reconstruct_peaks-clause-err
@@ -29,5 +29,5 @@ returns-clause-taken g c = λ ts e h.
     let s = c.in-Some.ensures.cases in
     let r = c.in-Some-split_at_checked.ensures.cases in
     let back : c.in-Some-split_at_checked.siblings.now ≡ drop (c.args.before + c.args.after) c.args.parts.now.digests.now = r.2 ∙ ap (drop c.args.after) s.2 ∙ drop-drop c.args.after c.args.before c.args.parts.now.digests.now in
-    subst (λ z. g.C.Collector.Took c.args.collector.now (over_pairs h0 (in_range c.args.range.now.start c.args.range.now.end) (leaf_from h0 g.F.Family.rule c.args.range.now.start (bytes_of c.args.elements.now)) ts z) c.reconstruct_peaks.new.collector) back
+    subst (λ z. g.C.Collector.Took c.args.collector.now (over_pairs h0 (in_range c.args.range.now.start c.args.range.now.end) (leaf_from h0 c.args.range.now.start c.args.leaves.now) ts z) c.reconstruct_peaks.new.collector) back
     (c.in_ok-reconstruct_peaks.ensures.taken ts e h)

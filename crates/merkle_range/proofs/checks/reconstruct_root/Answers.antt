@@ -5,7 +5,7 @@ use Rattle.merkle_root_theory.specs.Reconstruction.{root_unless}
 use Rattle.merkle_root_theory.specs.Walk.{bytes_of}
 use Rattle.merkle_root_theory.proofs.Reconstruction.{reconstructed-some, refusal-none}
 use Rattle.merkle_range.specs.Input.{range_input}
-use Rattle.merkle_range.proofs.GivenLeaves.{length-leaf_digests}
+use Rattle.merkle_range.proofs.LeafDigests.{length-leaf_digests}
 use Rattle.merkle_range.proofs.checks.reconstruct_root.Goals as goal
 
 pub returns-clause-ok : goal.returns-clause-ok

@@ -1,18 +1,19 @@
-use Rattle.std.proofs.Common.{◌≡◌, ◌≤◌, ◌<◌, ◌+◌, arith, refl, sym, ap, ◌∙◌, subst, length, min, take, drop, inl, inr, Some}
+use Rattle.std.proofs.Common.{◌≡◌, ◌≤◌, ◌<◌, ◌+◌, arith, refl, sym, ap, ◌∙◌, subst, List, length, min, take, drop, inl, inr, Some}
 use Rattle.std.proofs.lemmas.Result.{err_from_is_err_and}
 use Rattle.merkle_base.specs.Places.{peaks_of, wholly_before}
 use Rattle.merkle_base.specs.Root.{peaks_root}
 use Rattle.merkle_base.specs.Scheme.{scheme_of}
 use Rattle.merkle_root_theory.specs.Outside.{fold_all, folded_prefix, single_before, single_after}
-use Rattle.merkle_root_theory.specs.Extract.{single_pairs}
+use Rattle.merkle_root_theory.specs.Extract.{over_pairs, single_pairs}
 use Rattle.merkle_root_theory.proofs.LayoutCounts.{length-fold_all}
 use Rattle.merkle_range.proofs.IndividualPeaks.{before_dropped, after_taken}
 use Rattle.merkle_root_theory.specs.Layouts.{count_before, count_after, count_inactive}
-use Rattle.merkle_root_theory.specs.Range.{overlapping, wholly_after, end_of}
-use Rattle.merkle_root_theory.specs.Walk.{bytes_of}
+use Rattle.merkle_root_theory.specs.Range.{in_range, overlapping, wholly_after, end_of}
+use Rattle.merkle_root_theory.specs.Walk.{bytes_of, leaf_from, ArePeakDigests}
 use Rattle.merkle_root_theory.proofs.Reconstruction.{refusal-start, refusal-end_past_limit, refusal-end, refusal-leaves, refusal-inactive, refusal-missing, refusal-extra}
 use Rattle.merkle_range.specs.Input.{range_input}
 use Rattle.merkle_hasher.proofs.PeakNodes.{peaks_at}
+use Rattle.merkle_range.proofs.LeafDigests.{leaves_given}
 use Rattle.merkle_range.proofs.RangeRoot.{few_peaks, element_count, computed, digests_asked, never_empty, folds_given, all_put}
 use Rattle.merkle_range.proofs.checks.reconstruct_root_into.Goals as goal
 use Rattle.merkle_root_theory.proofs.Extraction.{all_filter}
@@ -58,7 +59,7 @@ layout-layout-requires-clause-inactive g c =
 pub peak_digests-requires-clause-nodes : goal.peak_digests-requires-clause-nodes
 peak_digests-requires-clause-nodes g c = (
   overlapping c.args.start c.in_ok-end.end (peaks_of g.F.Family.rule c.args.parts.now.leaves),
-  c.deref.ensures.value ∙ c.in-Ok.ensures.over,
+  c.deref-2.ensures.value ∙ c.in-Ok.ensures.over,
   all_filter _ _ _ (peaks_at g.F.Family.rule g.F.Family.MAX_LEAVES c.args.parts.now.leaves c.in_ok-end.ensures.ok.2),
 )
 
@@ -82,7 +83,7 @@ returns-in_err-peaks-clause-err g c =
     let within : end_of r ≤ r.leaves = omega (arith, end.0, end.1, long) in
     let low : k ≤ length ts = omega (arith, c.if-parts-count.false, c.count.ensures a b c.args.parts.now.leaves (omega (arith, end.0, c.requires.some)) held) in
     rw (p.1, p.2, g.met.H.Hasher.scheme_is c.args.hasher.now) (λ n.
-    elim (c.in_err-peaks.ensures.err n (overlapping a b ts) (c.deref.ensures.value ∙ held.over) (all_filter _ _ _ (peaks_at g.F.Family.rule g.F.Family.MAX_LEAVES c.args.parts.now.leaves end.2))) [
+    elim (c.in_err-peaks.ensures.err n (overlapping a b ts) (c.deref-2.ensures.value ∙ held.over) (all_filter _ _ _ (peaks_at g.F.Family.rule g.F.Family.MAX_LEAVES c.args.parts.now.leaves end.2))) [
       | inl x ↦ refusal-missing s r some within end.2 low (omega (arith, x.0, asked)) ∙ ap Some (sym x.1)
       | inr x ↦ refusal-extra s r some within end.2 low (omega (arith, x.0, asked)) ∙ ap Some (sym x.1)
     ])
@@ -101,8 +102,10 @@ unreachable-requires g c =
     let j_is = subst (λ z. laid.inactive ≡ count_inactive z k (wholly_before a ts)) c.root_bagging.ensures (c.layout-layout.ensures.inactive a b ts held) in
     let all = c.in_ok-peaks.peaks.items in
     let low : k ≤ length ts = omega (arith, c.if-parts-count.false, c.count.ensures a b c.args.parts.now.leaves (omega (arith, end.0, c.requires.some)) held) in
-    let w = c.in_ok-peaks.ensures.ok (overlapping a b ts) (c.deref.ensures.value ∙ held.over) (all_filter _ _ _ (peaks_at g.F.Family.rule g.F.Family.MAX_LEAVES c.args.parts.now.leaves end.2)) in
-    let same = ap length c.deref-2.ensures.value in
+    let leaves_are = leaves_given h g.F.Family.rule a c.args.elements.now c.new-leaves.result.items c.push_leaf_digests.new.digests.items c.deref.result.now c.new-leaves.ensures.items c.in-Ok-push_leaf_digests.ensures c.deref.ensures.value in
+    let w = subst (λ (xs : List _). ArePeakDigests h (in_range a b) (leaf_from h a xs) (overlapping a b ts) laid.before laid.after c.args.parts.now.digests.now c.in_ok-peaks.peaks.items) leaves_are
+    (c.in_ok-peaks.ensures.ok (overlapping a b ts) (c.deref-2.ensures.value ∙ held.over) (all_filter _ _ _ (peaks_at g.F.Family.rule g.F.Family.MAX_LEAVES c.args.parts.now.leaves end.2))) in
+    let same = ap length c.deref-3.ensures.value in
     c.in-None.ensures (
       omega (
         arith,
@@ -127,10 +130,12 @@ returns-clause-ok g c =
     let j_is = subst (λ z. laid.inactive ≡ count_inactive z k (wholly_before a ts)) c.root_bagging.ensures (c.layout-layout.ensures.inactive a b ts held) in
     let all = c.in_ok-peaks.peaks.items in
     let low : k ≤ length ts = omega (arith, c.if-parts-count.false, c.count.ensures a b c.args.parts.now.leaves (omega (arith, end.0, c.requires.some)) held) in
-    let w = c.in_ok-peaks.ensures.ok (overlapping a b ts) (c.deref.ensures.value ∙ held.over) (all_filter _ _ _ (peaks_at g.F.Family.rule g.F.Family.MAX_LEAVES c.args.parts.now.leaves end.2)) in
+    let leaves_are = leaves_given h g.F.Family.rule a c.args.elements.now c.new-leaves.result.items c.push_leaf_digests.new.digests.items c.deref.result.now c.new-leaves.ensures.items c.in-Ok-push_leaf_digests.ensures c.deref.ensures.value in
+    let w = subst (λ (xs : List _). ArePeakDigests h (in_range a b) (leaf_from h a xs) (overlapping a b ts) laid.before laid.after c.args.parts.now.digests.now c.in_ok-peaks.peaks.items) leaves_are
+    (c.in_ok-peaks.ensures.ok (overlapping a b ts) (c.deref-2.ensures.value ∙ held.over) (all_filter _ _ _ (peaks_at g.F.Family.rule g.F.Family.MAX_LEAVES c.args.parts.now.leaves end.2))) in
     rw (g.met.H.Hasher.scheme_is c.args.hasher.now) (computed h bagging g.F.Family.rule g.F.Family.MAX_LEAVES g.F.Family.DOMAIN c.args.parts.now.leaves k c.args.parts.now.digests.now a b c.args.elements.now c.requires.some end.0 end.1 laid.before laid.after m_is n_is
     end.2 low all w laid.inactive j_is c.in-Some.root
-    (c.in-Some.ensures.1 ∙ ap (λ s. peaks_root s c.args.parts.now.leaves laid.inactive k c.deref-2.result.now) (g.met.H.Hasher.scheme_is c.args.hasher.now) ∙ ap (peaks_root (scheme_of h bagging g.F.Family.rule g.F.Family.MAX_LEAVES g.F.Family.DOMAIN) c.args.parts.now.leaves laid.inactive k) c.deref-2.ensures.value))
+    (c.in-Some.ensures.1 ∙ ap (λ s. peaks_root s c.args.parts.now.leaves laid.inactive k c.deref-3.result.now) (g.met.H.Hasher.scheme_is c.args.hasher.now) ∙ ap (peaks_root (scheme_of h bagging g.F.Family.rule g.F.Family.MAX_LEAVES g.F.Family.DOMAIN) c.args.parts.now.leaves laid.inactive k) c.deref-3.ensures.value))
 
 pub returns-clause-taken : goal.returns-clause-taken
 returns-clause-taken g c =
@@ -143,7 +148,9 @@ returns-clause-taken g c =
     let laid = c.layout-layout.result in
     let m_is = subst (λ z. laid.before ≡ count_before z k (wholly_before a ts)) c.root_bagging.ensures (c.layout-layout.ensures.before a b ts held) in
     let n_is = subst (λ z. laid.after ≡ count_after z k (length (wholly_before a ts) + length (overlapping a b ts)) (wholly_after b ts)) c.root_bagging.ensures (c.layout-layout.ensures.after a b ts held) in
-    let w = c.in_ok-peaks.ensures.ok (overlapping a b ts) (c.deref.ensures.value ∙ held.over) (all_filter _ _ _ (peaks_at g.F.Family.rule g.F.Family.MAX_LEAVES c.args.parts.now.leaves end.2)) in
+    let leaves_are = leaves_given h g.F.Family.rule a c.args.elements.now c.new-leaves.result.items c.push_leaf_digests.new.digests.items c.deref.result.now c.new-leaves.ensures.items c.in-Ok-push_leaf_digests.ensures c.deref.ensures.value in
+    let w = subst (λ (xs : List _). ArePeakDigests h (in_range a b) (leaf_from h a xs) (overlapping a b ts) laid.before laid.after c.args.parts.now.digests.now c.in_ok-peaks.peaks.items) leaves_are
+    (c.in_ok-peaks.ensures.ok (overlapping a b ts) (c.deref-2.ensures.value ∙ held.over) (all_filter _ _ _ (peaks_at g.F.Family.rule g.F.Family.MAX_LEAVES c.args.parts.now.leaves end.2))) in
     let before = wholly_before a ts in
     let after = wholly_after b ts in
     let met = length before + length (overlapping a b ts) in
@@ -153,7 +160,8 @@ returns-clause-taken g c =
     let front : min laid.prefix 1 ≡ length (fold_all (folded_prefix bagging k before)) = ap (λ n. min n 1) p_is ∙ sym (length-fold_all (folded_prefix bagging k before)) in
     let x = subst (λ z. g.C.Collector.Took c.args.collector.now (single_pairs h (single_before bagging k before) (drop z given)) c.put_before.new.collector) front
     (c.in-Ok-put_before.ensures h a b ts (single_before bagging k before) held (before_dropped bagging k before ∙ ap (λ n. drop n before) (sym p_is)) (omega (arith, front, w.count, m_is))) in
-    let y = c.in_ok-peaks.ensures.taken (overlapping a b ts) (c.deref.ensures.value ∙ held.over) (all_filter _ _ _ (peaks_at g.F.Family.rule g.F.Family.MAX_LEAVES c.args.parts.now.leaves end.2)) in
+    let y = subst (λ (xs : List _). g.C.Collector.Took c.put_before.new.collector (over_pairs h (in_range a b) (leaf_from h a xs) (overlapping a b ts) (drop (laid.before + laid.after) given)) c.peak_digests.new.collector) leaves_are
+    (c.in_ok-peaks.ensures.taken (overlapping a b ts) (c.deref-2.ensures.value ∙ held.over) (all_filter _ _ _ (peaks_at g.F.Family.rule g.F.Family.MAX_LEAVES c.args.parts.now.leaves end.2))) in
     let z = c.in-Ok-put_after.ensures h a b ts (single_after bagging k met after) held (after_taken bagging k met after ∙ ap (λ n. take n after) (sym q_is)) (omega (arith, w.count, n_is)) in
     rw (g.met.H.Hasher.scheme_is c.args.hasher.now) (all_put h bagging g.F.Family.rule g.F.Family.MAX_LEAVES g.F.Family.DOMAIN c.args.parts.now.leaves k given a b c.args.elements.now c.requires.some end.0 end.1 laid.before laid.after m_is n_is
     g.C.Collector.Took g.met.C.Collector.took_both _ _ _ _ x y z)

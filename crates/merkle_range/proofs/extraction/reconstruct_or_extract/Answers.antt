@@ -6,7 +6,7 @@ use Rattle.merkle_root_theory.specs.Walk.{bytes_of}
 use Rattle.merkle_root_theory.proofs.Extraction.{extracted-no_leaves}
 use Rattle.merkle_root_theory.proofs.Reconstruction.{reconstructed-some, leaves_of_empty}
 use Rattle.merkle_range.specs.Input.{range_input}
-use Rattle.merkle_range.proofs.GivenLeaves.{length-leaf_digests}
+use Rattle.merkle_range.proofs.LeafDigests.{length-leaf_digests}
 use Rattle.merkle_range.proofs.extraction.reconstruct_or_extract.Goals as goal
 
 nothing_given : {A : Type 0} (xs : List A) → length xs ≡ 0 → xs ≡ []

@@ -1,9 +1,9 @@
-use Rattle.std.proofs.Common.{[], arith, rules, sym, subst, ◌∙◌, refl, inl, inr}
+use Rattle.std.proofs.Common.{arith, rules, sym, subst, ◌∙◌, refl, inl, inr}
 use Rattle.std.proofs.lemmas.Result.{err_from_is_err_and}
 use Rattle.std.proofs.lemmas.List.{nil_from_length}
 use Rattle.std.proofs.lemmas.Bool.{not-true, not-false}
 use Rattle.merkle_root_theory.specs.Range.{in_range}
-use Rattle.merkle_root_theory.specs.Walk.{bytes_of, leaf_from}
+use Rattle.merkle_root_theory.specs.Walk.{leaf_from}
 use Rattle.merkle_hasher.proofs.Spans.{heights_same}
 use Rattle.merkle_hasher.proofs.NodeSteps.{inner_node, lower}
 use Rattle.merkle_root_theory.proofs.Walks.{walk_outside, short_outside, walked_leaf, walked_inner, short_inner_left, short_inner_right, leaf_in_range}
@@ -14,7 +14,7 @@ pub returns-in_default-clause-err : goal.returns-in_default-clause-err
 returns-in_default-clause-err g t c = λ _. (
   refl,
   λ u w.
-      short_outside (g.H.Hasher.hashing c.args.hasher.now) (in_range c.args.range.now.start c.args.range.now.end) (leaf_from (g.H.Hasher.hashing c.args.hasher.now) g.F.Family.rule c.args.range.now.start (bytes_of c.args.elements.now)) u c.args.digests.now.now
+      short_outside (g.H.Hasher.hashing c.args.hasher.now) (in_range c.args.range.now.start c.args.range.now.end) (leaf_from (g.H.Hasher.hashing c.args.hasher.now) c.args.range.now.start c.args.leaves.now) u c.args.digests.now.now
       (not-true _ (sym (c.is_outside.ensures u w) ∙ c.if-is_outside.true)) (nil_from_length _ c.in_default.ensures.cases),
 )
 
@@ -26,19 +26,21 @@ pub sub-index-requires : goal.sub-index-requires
 sub-index-requires g t c = let n = c.requires.node in
     (leaf_in_range _ _ _ _ _ _ _ n.0 n.1 c.if-subtree-eq0.true (not-false _ (sym (c.is_outside.ensures n.0 n.1) ∙ c.if-is_outside.false))).0
 
-pub offset_bounds-elements-as_u64 : goal.offset_bounds-elements-as_u64
-offset_bounds-elements-as_u64 g t c = let n = c.requires.node in
+pub offset_bounds-leaves-as_u64 : goal.offset_bounds-leaves-as_u64
+offset_bounds-leaves-as_u64 g t c = let n = c.requires.node in
     let l = leaf_in_range _ _ _ _ _ _ _ n.0 n.1 c.if-subtree-eq0.true (not-false _ (sym (c.is_outside.ensures n.0 n.1) ∙ c.if-is_outside.false)) in
     omega (arith, c.as_u64.ensures, c.sub-index.ensures, c.requires.all, l.0, l.1)
 
-pub bounds-elements-as_u64 : goal.bounds-elements-as_u64
-bounds-elements-as_u64 g t c = let n = c.requires.node in
+pub bounds-leaves-as_u64 : goal.bounds-leaves-as_u64
+bounds-leaves-as_u64 g t c = let n = c.requires.node in
     let l = leaf_in_range _ _ _ _ _ _ _ n.0 n.1 c.if-subtree-eq0.true (not-false _ (sym (c.is_outside.ensures n.0 n.1) ∙ c.if-is_outside.false)) in
     omega (arith, c.as_u64.ensures, c.sub-index.ensures, c.requires.all, l.0, l.1)
 
 pub returns-then-subtree-eq0-clause-ok : goal.returns-then-subtree-eq0-clause-ok
 returns-then-subtree-eq0-clause-ok g t c = λ u w.
-    walked_leaf _ _ _ _ _ (g.H.Hasher.hashing c.args.hasher.now) _ _ c.args.elements.now u w c.if-subtree-eq0.true (not-false _ (sym (c.is_outside.ensures u w) ∙ c.if-is_outside.false)) _ _ _ (record { ref_ptr = (0, 0); now = [] }) refl c.leaf_digest.ensures (c.as_u64.ensures ∙ c.sub-index.ensures)
+    let met = not-false _ (sym (c.is_outside.ensures u w) ∙ c.if-is_outside.false) in
+    let l = leaf_in_range _ _ _ _ _ _ _ u w c.if-subtree-eq0.true met in
+    walked_leaf _ _ _ _ _ (g.H.Hasher.hashing c.args.hasher.now) _ _ c.args.leaves.now u w c.if-subtree-eq0.true met _ _ _ (omega (arith, c.as_u64.ensures, c.sub-index.ensures, c.requires.all, l.0, l.1)) c.index-leaves-as_u64.is (c.as_u64.ensures ∙ c.sub-index.ensures)
 
 pub children-left-requires : goal.children-left-requires
 children-left-requires g t c = let n = c.requires.node in inner_node _ _ _ _ _ n.0 n.1 c.if-subtree-eq0.false
@@ -56,7 +58,7 @@ returns-in_err-first-clause-err g t c =
     rw (p.1, p.2) (λ n. (
       (c.in_err-first.ensures.err n).0,
       λ u w.
-          short_inner_left _ _ _ _ _ (g.H.Hasher.hashing c.args.hasher.now) _ (leaf_from (g.H.Hasher.hashing c.args.hasher.now) g.F.Family.rule c.args.range.now.start (bytes_of c.args.elements.now)) u w c.if-subtree-eq0.false (not-false _ (sym (c.is_outside.ensures u w) ∙ c.if-is_outside.false)) _
+          short_inner_left _ _ _ _ _ (g.H.Hasher.hashing c.args.hasher.now) _ (leaf_from (g.H.Hasher.hashing c.args.hasher.now) c.args.range.now.start c.args.leaves.now) u w c.if-subtree-eq0.false (not-false _ (sym (c.is_outside.ensures u w) ∙ c.if-is_outside.false)) _
           (λ q l r v. (c.in_err-first.ensures.err n).1 l (c.children-left.ensures q l r v).0),
     ))
 
@@ -73,7 +75,7 @@ returns-in_err-second-clause-err g t c =
     rw (p.1, p.2) (λ n. (
       (c.in_err-second.ensures.err n).0,
       λ u w.
-          short_inner_right _ _ _ _ _ (g.H.Hasher.hashing c.args.hasher.now) _ (leaf_from (g.H.Hasher.hashing c.args.hasher.now) g.F.Family.rule c.args.range.now.start (bytes_of c.args.elements.now)) u w c.if-subtree-eq0.false (not-false _ (sym (c.is_outside.ensures u w) ∙ c.if-is_outside.false)) _ _ _
+          short_inner_right _ _ _ _ _ (g.H.Hasher.hashing c.args.hasher.now) _ (leaf_from (g.H.Hasher.hashing c.args.hasher.now) c.args.range.now.start c.args.leaves.now) u w c.if-subtree-eq0.false (not-false _ (sym (c.is_outside.ensures u w) ∙ c.if-is_outside.false)) _ _ _
           (λ q l r v. let k = c.children-left.ensures q l r v in (c.in_ok-first.ensures.ok l k.0, (c.in_err-second.ensures.err n).1 r k.1)),
     ))
 
@@ -85,7 +87,7 @@ returns-clause-ok g t c = λ u w.
 pub returns-then-is_outside-clause-taken : goal.returns-then-is_outside-clause-taken
 returns-then-is_outside-clause-taken g t c = λ u w.
     let h = g.H.Hasher.hashing c.args.hasher.now in
-    let none = inner_unmet h (in_range c.args.range.now.start c.args.range.now.end) (leaf_from h g.F.Family.rule c.args.range.now.start (bytes_of c.args.elements.now)) u c.args.digests.now.now
+    let none = inner_unmet h (in_range c.args.range.now.start c.args.range.now.end) (leaf_from h c.args.range.now.start c.args.leaves.now) u c.args.digests.now.now
     (not-true _ (sym (c.is_outside.ensures u w) ∙ c.if-is_outside.true)) in
     subst (λ z. g.C.Collector.Took c.args.out.now z c.args.out.now) (sym none) (g.met.C.Collector.took_none c.args.out.now)
 
@@ -98,5 +100,5 @@ returns-clause-taken g t c = λ u w.
 pub returns-then-subtree-eq0-clause-taken : goal.returns-then-subtree-eq0-clause-taken
 returns-then-subtree-eq0-clause-taken g t c = λ u w.
     let h = g.H.Hasher.hashing c.args.hasher.now in
-    let none = inner_leaf h (in_range c.args.range.now.start c.args.range.now.end) (leaf_from h g.F.Family.rule c.args.range.now.start (bytes_of c.args.elements.now)) _ _ _ _ _ u w c.if-subtree-eq0.true c.args.digests.now.now in
+    let none = inner_leaf h (in_range c.args.range.now.start c.args.range.now.end) (leaf_from h c.args.range.now.start c.args.leaves.now) _ _ _ _ _ u w c.if-subtree-eq0.true c.args.digests.now.now in
     subst (λ z. g.C.Collector.Took c.args.out.now z c.args.out.now) (sym none) (g.met.C.Collector.took_none c.args.out.now)

@@ -12,7 +12,7 @@ use Rattle.merkle_lines.proofs.Holdings.{held_with, held_without}
 use Rattle.merkle_lines.proofs.Making.{makes_update}
 use Rattle.merkle_lines.proofs.Replies.{update_done, wanting, wanting_hex}
 use Rattle.merkle_lines.proofs.Updates.{update_allowed, update_failed}
-use Rattle.merkle_range.proofs.GivenLeaves.{length-leaf_digests}
+use Rattle.merkle_range.proofs.LeafDigests.{length-leaf_digests}
 use Rattle.merkle_commands.specs.declared.command.Request.TheVariants.{Update}
 use Rattle.merkle_lines.proofs.structure.Structure.update.Goals as goal
 

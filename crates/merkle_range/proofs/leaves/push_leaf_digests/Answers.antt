@@ -2,8 +2,9 @@ use Rattle.std.proofs.Common.{◌≡◌, ℕ, ◌-◌, ◌+◌, ◌≤◌, ◌++
 use Rattle.std.proofs.lemmas.List.{length-take-le}
 use Rattle.merkle_base.proofs.Limits.{lawful_leaves}
 use Rattle.merkle_range.specs.Input.{leaf_digests}
-use Rattle.merkle_batch.proofs.AddedLeaves.{held_elements, more_digests}
-use Rattle.merkle_batch.proofs.added.push_digests.Goals as goal
+use Rattle.merkle_root_theory.specs.Walk.{bytes_of}
+use Rattle.merkle_range.proofs.LeafDigests.{more_digests}
+use Rattle.merkle_range.proofs.leaves.push_leaf_digests.Goals as goal
 
 pub add-location-requires : goal.add-location-requires
 add-location-requires g c =
@@ -21,6 +22,6 @@ loop-done-preserved g c =
     let before = c.loop-done.digests.items in (
       within,
       more_digests h rule c.args.first n k (n + c.min.result) es before c.push_chunk.new.digests.items _ (omega arith) long
-          (c.in_ok-push_chunk.ensures ∙ ap (λ l. before ++ leaf_digests h rule l (held_elements (take k (drop n es)))) c.add-location.ensures)
+          (c.in_ok-push_chunk.ensures ∙ ap (λ l. before ++ leaf_digests h rule l (bytes_of (take k (drop n es)))) c.add-location.ensures)
           c.loop-done.invariant.1,
     )

@@ -1,7 +1,8 @@
-//! The digests of the leaves that a batch adds.
-ghost use Rattle.std.specs.Prelude.{◌≡◌, ◌≤◌, ◌+◌, ◌++◌, List, [], OnOk, length, map};
-ghost use Rattle.merkle_batch.specs.Positioned.{positioned};
+//! The digests of the leaves of elements, several computed at a time.
+ghost use Rattle.std.specs.Prelude.{◌≡◌, ◌≤◌, ◌+◌, ◌++◌, List, [], OnOk, length};
+ghost use Rattle.merkle_range.specs.Positioned.{positioned};
 ghost use Rattle.merkle_range.specs.Input.{leaf_digests};
+ghost use Rattle.merkle_root_theory.specs.Walk.{bytes_of};
 
 use merkle_base::family::Family;
 use merkle_base::location::Location;
@@ -44,7 +45,7 @@ fn push_chunk<'a, F: Family, T: Hasher<F>>(
 ) -> Result<(), AllocError>
     requires { first + length elements.now ≤ F.MAX_LEAVES }
     ensures { OnOk result (digests.new.items ≡ digests.old.items
-        ++ leaf_digests (T.hashing hasher.now) F.rule first (map (λ e. e.now) elements.now)) }
+        ++ leaf_digests (T.hashing hasher.now) F.rule first (bytes_of elements.now)) }
 {
     leaves.clear();
     place_leaves(first, elements, leaves)?;
@@ -54,7 +55,7 @@ fn push_chunk<'a, F: Family, T: Hasher<F>>(
 /// Appends the digests of the leaves with these elements, in their order, from location `first` on.
 ///
 /// Requires that the last leaf is within [`MAX_LEAVES`](Family::MAX_LEAVES).
-pub fn push_digests<F: Family, T: Hasher<F>>(
+pub fn push_leaf_digests<F: Family, T: Hasher<F>>(
     alloc: Global,
     hasher: &T,
     first: Location<F>,
@@ -63,7 +64,7 @@ pub fn push_digests<F: Family, T: Hasher<F>>(
 ) -> Result<(), AllocError>
     requires { first + length elements.now ≤ F.MAX_LEAVES }
     ensures { OnOk result (digests.new.items ≡ digests.old.items
-        ++ leaf_digests (T.hashing hasher.now) F.rule first (map (λ e. e.now) elements.now)) }
+        ++ leaf_digests (T.hashing hasher.now) F.rule first (bytes_of elements.now)) }
 {
     let mut leaves = Vec::new(alloc);
     let mut done = 0;

@@ -1,8 +1,9 @@
 use Rattle.std.proofs.Common.{◌≡◌, ◌++◌, OnOk, map, ap, subst, ◌∙◌}
-use Rattle.merkle_batch.specs.Positioned.{positioned}
+use Rattle.merkle_range.specs.Positioned.{positioned}
 use Rattle.merkle_range.specs.Input.{leaf_digests}
-use Rattle.merkle_batch.proofs.AddedLeaves.{held_elements, placed_digests}
-use Rattle.merkle_batch.proofs.added.push_chunk.Goals as goal
+use Rattle.merkle_root_theory.specs.Walk.{bytes_of}
+use Rattle.merkle_range.proofs.LeafDigests.{placed_digests}
+use Rattle.merkle_range.proofs.leaves.push_chunk.Goals as goal
 
 pub returns : goal.returns
 returns g c =
@@ -11,6 +12,6 @@ returns g c =
     let es = c.args.elements.now in
     let leaves : c.deref.result.now ≡ positioned rule c.args.first es =
     c.deref.ensures.value ∙ c.in_ok-place_leaves.ensures ∙ ap (λ ls. ls ++ positioned rule c.args.first es) c.clear.ensures.items in
-    let whole : map (λ l. h.leaf l.0 l.1.now) c.deref.result.now ≡ leaf_digests h rule c.args.first (held_elements es) =
+    let whole : map (λ l. h.leaf l.0 l.1.now) c.deref.result.now ≡ leaf_digests h rule c.args.first (bytes_of es) =
     ap (map (λ l. h.leaf l.0 l.1.now)) leaves ∙ placed_digests h rule c.args.first es in
     subst (λ ds. OnOk c.leaf_digests.result (c.leaf_digests.new.digests.items ≡ c.args.digests.now.items ++ ds)) whole c.leaf_digests.ensures

@@ -1,15 +1,22 @@
--- The leaves of elements, and some more of them.
+-- The leaf digests of elements, and of some more of them.
 use Rattle.std.proofs.Common.{◌≡◌, ℕ, suc, ◌+◌, ◌<◌, List, [], ◌∷◌, ◌++◌, length, take, drop, get_or, map, arith, refl, sym, ap, ◌∙◌}
 use Rattle.std.specs.Borrow.{Bor}
 use Rattle.std.proofs.lemmas.List.{append_assoc, map-append, take-append-drop, take_more, drop-drop, length-take-le}
 use Rattle.merkle_base.specs.Forest.{size}
 use Rattle.merkle_base.specs.Hashing.{Hashing}
 use Rattle.merkle_range.specs.Input.{leaf_digests}
-use Rattle.merkle_batch.specs.Positioned.{positioned}
+use Rattle.merkle_root_theory.specs.Walk.{bytes_of}
+use Rattle.merkle_range.specs.Positioned.{positioned}
 
--- the elements themselves
-abbrev pub held_elements : List (Bor (List ℕ)) → List (List ℕ)
-held_elements es = map (λ e. e.now) es
+-- the leaf digests of elements are as many as these
+pub length-leaf_digests : {D : Type 0} (h : Hashing D) (rule : List ℕ → List ℕ) (a : ℕ) (es : List (List ℕ)) → length (leaf_digests h rule a es) ≡ length es
+length-leaf_digests h rule a [] = refl
+length-leaf_digests h rule a (e ∷ es) = ap suc (length-leaf_digests h rule (suc a) es)
+
+-- those that are appended to none
+pub leaves_given : {D : Type 0} (h : Hashing D) (rule : List ℕ → List ℕ) (a : ℕ) (es : List (Bor (List ℕ))) (none all read : List D)
+    → none ≡ [] → all ≡ none ++ leaf_digests h rule a (bytes_of es) → read ≡ all → read ≡ leaf_digests h rule a (bytes_of es)
+leaves_given h rule a es none all read empty appended same = same ∙ appended ∙ ap (λ xs. xs ++ leaf_digests h rule a (bytes_of es)) empty
 
 module _ (rule : List ℕ → List ℕ) where
   -- leaves that are positioned after others
@@ -20,27 +27,27 @@ module _ (rule : List ℕ → List ℕ) where
 
 module _ {D : Type 0} (h : Hashing D) (rule : List ℕ → List ℕ) where
   -- the digests of positioned leaves
-  pub placed_digests : (a : ℕ) (es : List (Bor (List ℕ))) → map (λ l. h.leaf l.0 l.1.now) (positioned rule a es) ≡ leaf_digests h rule a (held_elements es)
+  pub placed_digests : (a : ℕ) (es : List (Bor (List ℕ))) → map (λ l. h.leaf l.0 l.1.now) (positioned rule a es) ≡ leaf_digests h rule a (bytes_of es)
   placed_digests a [] = refl
   placed_digests a (e ∷ es) = ap (λ ds. h.leaf (size rule a) e.now ∷ ds) (placed_digests (suc a) es)
 
   -- the digests of leaves after others
-  digests-append : (a : ℕ) (es fs : List (Bor (List ℕ))) → leaf_digests h rule a (held_elements (es ++ fs)) ≡ leaf_digests h rule a (held_elements es) ++ leaf_digests h rule (a + length es) (held_elements fs)
-  digests-append a [] fs = ap (λ k. leaf_digests h rule k (held_elements fs)) (omega arith)
+  digests-append : (a : ℕ) (es fs : List (Bor (List ℕ))) → leaf_digests h rule a (bytes_of (es ++ fs)) ≡ leaf_digests h rule a (bytes_of es) ++ leaf_digests h rule (a + length es) (bytes_of fs)
+  digests-append a [] fs = ap (λ k. leaf_digests h rule k (bytes_of fs)) (omega arith)
   digests-append a (e ∷ es) fs =
-      ap (λ ds. h.leaf (size rule a) e.now ∷ ds) (digests-append (suc a) es fs ∙ ap (λ k. leaf_digests h rule (suc a) (held_elements es) ++ leaf_digests h rule k (held_elements fs)) (omega arith))
+      ap (λ ds. h.leaf (size rule a) e.now ∷ ds) (digests-append (suc a) es fs ∙ ap (λ k. leaf_digests h rule (suc a) (bytes_of es) ++ leaf_digests h rule k (bytes_of fs)) (omega arith))
 
   -- after k elements from place n on, those from place e on are left
   pub more_digests : (a n k e : ℕ) (es : List (Bor (List ℕ))) (before after all : List D) → n + k ≡ e → length (take k (drop n es)) ≡ k
-      → after ≡ before ++ leaf_digests h rule (a + n) (held_elements (take k (drop n es)))
-      → before ++ leaf_digests h rule (a + n) (held_elements (drop n es)) ≡ all
-      → after ++ leaf_digests h rule (a + e) (held_elements (drop e es)) ≡ all
+      → after ≡ before ++ leaf_digests h rule (a + n) (bytes_of (take k (drop n es)))
+      → before ++ leaf_digests h rule (a + n) (bytes_of (drop n es)) ≡ all
+      → after ++ leaf_digests h rule (a + e) (bytes_of (drop e es)) ≡ all
   more_digests a n k e es before after all place long step held =
       let ys = drop n es in
       let left : drop e es ≡ drop k ys = ap (λ i. drop i es) (sym place) ∙ sym (drop-drop k n es) in
       let at : a + e ≡ a + n + length (take k ys) = omega (arith, place, long) in
-      let whole : leaf_digests h rule (a + n) (held_elements (take k ys)) ++ leaf_digests h rule (a + n + length (take k ys)) (held_elements (drop k ys)) ≡ leaf_digests h rule (a + n) (held_elements ys) =
-      sym (digests-append (a + n) (take k ys) (drop k ys)) ∙ ap (λ zs. leaf_digests h rule (a + n) (held_elements zs)) (take-append-drop k ys) in
+      let whole : leaf_digests h rule (a + n) (bytes_of (take k ys)) ++ leaf_digests h rule (a + n + length (take k ys)) (bytes_of (drop k ys)) ≡ leaf_digests h rule (a + n) (bytes_of ys) =
+      sym (digests-append (a + n) (take k ys) (drop k ys)) ∙ ap (λ zs. leaf_digests h rule (a + n) (bytes_of zs)) (take-append-drop k ys) in
       rw (step, left, at, append_assoc, whole) held
 
 -- one leaf more

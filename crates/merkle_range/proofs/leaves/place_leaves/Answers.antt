@@ -1,7 +1,7 @@
 use Rattle.std.proofs.Common.{arith}
 use Rattle.merkle_base.proofs.Limits.{lawful_leaves}
-use Rattle.merkle_batch.proofs.AddedLeaves.{placed_push}
-use Rattle.merkle_batch.proofs.added.place_leaves.Goals as goal
+use Rattle.merkle_range.proofs.LeafDigests.{placed_push}
+use Rattle.merkle_range.proofs.leaves.place_leaves.Goals as goal
 
 pub add_assign-requires : goal.add_assign-requires
 add_assign-requires g c =
