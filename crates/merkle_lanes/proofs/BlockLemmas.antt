@@ -6,7 +6,7 @@ use Rattle.sha2.specs.Sha256.{digest_bytes, hash_after, initial_hash_256, padded
 use Rattle.sha2.proofs.Absorbing256.{hash_after-append}
 
 -- a word by its four bytes
-word_by_bytes : (a b : List ℕ) (i k : ℕ) → slice_index a i ≡ slice_index b k → slice_index a (i + 1) ≡ slice_index b (k + 1)
+pub word_by_bytes : (a b : List ℕ) (i k : ℕ) → slice_index a i ≡ slice_index b k → slice_index a (i + 1) ≡ slice_index b (k + 1)
     → slice_index a (i + 2) ≡ slice_index b (k + 2) → slice_index a (i + 3) ≡ slice_index b (k + 3) → word_at a i ≡ word_at b k
 word_by_bytes a b i k e0 e1 e2 e3 = rw (e0, e1, e2, e3) refl
 

@@ -42,7 +42,7 @@ fn block_at(a: &[u8; 128], b: &[u8; 128], c: &[u8; 128], d: &[u8; 128], start: u
 
 // The initial hash value of FIPS 180-4, section 5.3.3, in each lane.
 #[inline(always)]
-fn initial_states() -> [u32x4; 8]
+pub fn initial_states() -> [u32x4; 8]
     ensures { (j : ℕ) → j < 4 → state_lane j result ≡ initial_hash_256 }
 {
     [
@@ -59,7 +59,7 @@ fn initial_states() -> [u32x4; 8]
 
 // The bytes of the hash value in lane `j`, the most significant byte of each word first.
 #[inline(never)]
-fn digest(state: &[u32x4; 8], j: usize) -> [u8; 32]
+pub fn digest(state: &[u32x4; 8], j: usize) -> [u8; 32]
     requires { j < 4 }
     ensures { result ≡ digest_bytes (state_lane j state.now) 8 }
 {

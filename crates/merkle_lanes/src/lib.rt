@@ -10,20 +10,23 @@
 //! bytes, two if it has at most 119. The lanes are used for four messages that all have one block,
 //! or all have two; their lengths may differ. So a leaf with an element of up to 47 bytes, which is
 //! hashed after a position of 8 bytes, takes one block, and a parent node, which is hashed as a
-//! position and two digests of 32 bytes, takes two. [`hash_four`] takes any four messages, and
-//! hashes them one after another otherwise.
+//! position and two digests of 32 bytes, takes two. Four messages of 72 bytes, as those of nodes
+//! are, have a path of their own, since the padding of all of them is the same. [`hash_four`] takes
+//! any four messages, and hashes them one after another otherwise.
 #![tactic(auto)]
 
-ghost use Rattle.std.specs.Prelude.{◌≡◌, List, take};
+ghost use Rattle.std.specs.Prelude.{◌≡◌, List, IfSome, length, take};
 ghost use Rattle.sha2.specs.Sha256.{sha256};
 ghost use Rattle.merkle_lanes.specs.Lanes.{joined_parts};
 
 use blocks::hash_blocks;
+use node::hash_nodes;
 use padding::padded;
 use sha2::{Digest, Sha256};
 
 mod blocks;
 mod compress;
+mod node;
 mod padding;
 mod vectors;
 
@@ -53,12 +56,52 @@ pub fn hash_four(
     ensures third { result.2 ≡ sha256 (joined_parts c.now) }
     ensures fourth { result.3 ≡ sha256 (joined_parts d.now) }
 {
+    if let Some(nodes) = nodes_of(a, b, c, d) {
+        return hash_nodes(&nodes.0, &nodes.1, &nodes.2, &nodes.3);
+    }
     if let (Some(a), Some(b), Some(c), Some(d)) = (padded(a), padded(b), padded(c), padded(d)) {
         if a.1 == b.1 && a.1 == c.1 && a.1 == d.1 {
             return hash_blocks(&a.0, &b.0, &c.0, &d.0, a.1);
         }
     }
     (hash_one(a), hash_one(b), hash_one(c), hash_one(d))
+}
+
+// The four messages, if each has 72 bytes.
+#[inline(always)]
+fn nodes_of(
+    a: &[&[u8]],
+    b: &[&[u8]],
+    c: &[&[u8]],
+    d: &[&[u8]],
+) -> Option<([u8; 72], [u8; 72], [u8; 72], [u8; 72])>
+    ensures first { IfSome result (λ m. m.0 ≡ joined_parts a.now) }
+    ensures second { IfSome result (λ m. m.1 ≡ joined_parts b.now) }
+    ensures third { IfSome result (λ m. m.2 ≡ joined_parts c.now) }
+    ensures fourth { IfSome result (λ m. m.3 ≡ joined_parts d.now) }
+{
+    let a = node_of(a)?;
+    let b = node_of(b)?;
+    let c = node_of(c)?;
+    let d = node_of(d)?;
+    Some((a, b, c, d))
+}
+
+// The message, if it has 72 bytes.
+#[inline]
+fn node_of(parts: &[&[u8]]) -> Option<[u8; 72]>
+    ensures { IfSome result (λ m. m ≡ joined_parts parts.now) }
+{
+    let mut node = [0u8; 72];
+    let mut used = 0;
+    for part in parts {
+        if part.len() > 72 - used {
+            return None;
+        }
+        node[used..used + part.len()].copy_from_slice(part);
+        used += part.len();
+    }
+    if used == 72 { Some(node) } else { None }
 }
 
 fn hash_one(parts: &[&[u8]]) -> [u8; 32]

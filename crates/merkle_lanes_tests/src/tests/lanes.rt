@@ -78,30 +78,34 @@ fn standard_messages(rt: HostRuntime) -> Result<(), Fail> {
 #[test]
 fn standard_messages_together(rt: HostRuntime) -> Result<(), Fail> {
     let none: &[&[u8]] = &[&[]];
+    let nothing: &[&[u8]] = &[];
     let abc: &[&[u8]] = &[b"abc"];
-    let two: &[&[u8]] = &[
-        b"abcdbcdecdefdefgefghfghighij",
-        b"hijkijkljklmklmnlmnomnopnopq",
-    ];
-    let zeros: &[&[u8]] = &[&[0; 72]];
+    let letters: &[&[u8]] = &[b"a", b"b", b"c"];
     assert_digests(
         &rt,
-        hash_four(none, abc, abc, none),
+        hash_four(none, abc, letters, nothing),
         [EMPTY, ABC, ABC, EMPTY],
     )?;
     assert_digests(
         &rt,
-        hash_four(abc, none, none, abc),
+        hash_four(abc, none, nothing, letters),
         [ABC, EMPTY, EMPTY, ABC],
     )?;
+    let two: &[&[u8]] = &[
+        b"abcdbcdecdefdefgefghfghighij",
+        b"hijkijkljklmklmnlmnomnopnopq",
+    ];
+    let whole: &[&[u8]] = &[b"abcdbcdecdefdefgefghfghighijhijkijkljklmklmnlmnomnopnopq"];
+    let zeros: &[&[u8]] = &[&[0; 72]];
+    let halves: &[&[u8]] = &[&[0; 36], &[0; 36]];
     assert_digests(
         &rt,
-        hash_four(two, zeros, zeros, two),
+        hash_four(two, zeros, halves, whole),
         [TWO_BLOCKS, ZEROS, ZEROS, TWO_BLOCKS],
     )?;
     assert_digests(
         &rt,
-        hash_four(zeros, two, two, zeros),
+        hash_four(zeros, two, whole, halves),
         [ZEROS, TWO_BLOCKS, TWO_BLOCKS, ZEROS],
     )
 }
