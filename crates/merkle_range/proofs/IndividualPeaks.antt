@@ -41,6 +41,15 @@ pub after_taken : (bagging : Bagging) (k met : ℕ) (ts : List Tree) → single_
 after_taken ForwardFold k met ts = sym (take_length ts)
 after_taken BackwardFold k met ts = sym (take_taken (k - met) ts)
 
+-- and so they are at most as many
+take_within : (n : ℕ) (ts : List Tree) → length (take n ts) ≤ length ts
+take_within zero ts = omega arith
+take_within (suc n) [] = omega arith
+take_within (suc n) (t ∷ ts) = omega (arith, take_within n ts)
+
+pub single_within : (bagging : Bagging) (k met : ℕ) (ts : List Tree) → length (single_after bagging k met ts) ≤ length ts
+single_within bagging k met ts = omega (arith, ap length (after_taken bagging k met ts), take_within (length (single_after bagging k met ts)) ts)
+
 -- their positions, among those of the peaks before the range and after it
 front_positions : (xs ys : List Tree) → take (length xs) (map position (xs ++ ys)) ≡ map position xs
 front_positions [] ys = refl

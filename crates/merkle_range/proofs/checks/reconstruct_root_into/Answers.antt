@@ -1,4 +1,5 @@
 use Rattle.std.proofs.Common.{◌≡◌, ◌≤◌, ◌<◌, ◌+◌, arith, refl, sym, ap, ◌∙◌, subst, List, length, min, take, drop, inl, inr, Some}
+use Rattle.std.proofs.lemmas.List.{length-map}
 use Rattle.std.proofs.lemmas.Result.{err_from_is_err_and}
 use Rattle.merkle_base.specs.Places.{peaks_of, wholly_before}
 use Rattle.merkle_base.specs.Root.{peaks_root}
@@ -6,15 +7,15 @@ use Rattle.merkle_base.specs.Scheme.{scheme_of}
 use Rattle.merkle_root_theory.specs.Outside.{fold_all, folded_prefix, single_before, single_after}
 use Rattle.merkle_root_theory.specs.Extract.{over_pairs, single_pairs}
 use Rattle.merkle_root_theory.proofs.LayoutCounts.{length-fold_all}
-use Rattle.merkle_range.proofs.IndividualPeaks.{before_dropped, after_taken}
+use Rattle.merkle_range.proofs.IndividualPeaks.{before_dropped, after_taken, single_within}
 use Rattle.merkle_root_theory.specs.Layouts.{count_before, count_after, count_inactive}
 use Rattle.merkle_root_theory.specs.Range.{in_range, overlapping, wholly_after, end_of}
 use Rattle.merkle_root_theory.specs.Walk.{bytes_of, leaf_from, ArePeakDigests}
 use Rattle.merkle_root_theory.proofs.Reconstruction.{refusal-start, refusal-end_past_limit, refusal-end, refusal-leaves, refusal-inactive, refusal-missing, refusal-extra}
 use Rattle.merkle_range.specs.Input.{range_input}
 use Rattle.merkle_hasher.proofs.PeakNodes.{peaks_at}
-use Rattle.merkle_range.proofs.LeafDigests.{leaves_given}
-use Rattle.merkle_range.proofs.RangeRoot.{few_peaks, element_count, computed, digests_asked, never_empty, folds_given, all_put}
+use Rattle.merkle_range.proofs.LeafDigests.{leaves_given, length-leaf_digests}
+use Rattle.merkle_range.proofs.RangeRoot.{outside_count, few_peaks, element_count, computed, digests_asked, never_empty, folds_given, all_put}
 use Rattle.merkle_range.proofs.checks.reconstruct_root_into.Goals as goal
 use Rattle.merkle_root_theory.proofs.Extraction.{all_filter}
 
@@ -62,6 +63,26 @@ peak_digests-requires-clause-nodes g c = (
   c.deref-2.ensures.value ∙ c.in-Ok.ensures.over,
   all_filter _ _ _ (peaks_at g.F.Family.rule g.F.Family.MAX_LEAVES c.args.parts.now.leaves c.in_ok-end.ensures.ok.2),
 )
+
+pub peak_digests-requires-clause-all : goal.peak_digests-requires-clause-all
+peak_digests-requires-clause-all g c =
+    let h = g.H.Hasher.hashing c.args.hasher.now in
+    let a = c.args.start in
+    let es = c.args.elements.now in
+    let leaves_are = leaves_given h g.F.Family.rule a es c.new-leaves.result.items c.push_leaf_digests.new.digests.items c.deref.result.now c.new-leaves.ensures.items c.in-Ok-push_leaf_digests.ensures c.deref.ensures.value in
+    omega (arith, c.in_ok-end.ensures.ok.0, ap length leaves_are, length-leaf_digests h g.F.Family.rule a (bytes_of es), length-map es (λ e. e.now))
+
+pub put_after-requires : goal.put_after-requires
+put_after-requires g c =
+    let k = c.args.parts.now.inactive in
+    let a = c.args.start in let b = c.in_ok-end.end in
+    let ts = peaks_of g.F.Family.rule c.args.parts.now.leaves in
+    let held = c.in-Ok.ensures in
+    let bagging = c.root_bagging.result in
+    let single = single_after bagging k (length (wholly_before a ts) + length (overlapping a b ts)) (wholly_after b ts) in
+    let is : c.layout-layout.result.single ≡ length single = c.layout-layout.ensures.single a b ts held in
+    let few : length single ≤ length (wholly_after b ts) = single_within bagging k (length (wholly_before a ts) + length (overlapping a b ts)) (wholly_after b ts) in
+    record { single = omega (arith, is, few, held.before, outside_count a b c.in-Ok.groups ts held) }
 
 pub returns-in_err-peaks-clause-err : goal.returns-in_err-peaks-clause-err
 returns-in_err-peaks-clause-err g c =
