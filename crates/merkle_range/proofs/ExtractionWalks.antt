@@ -1,5 +1,5 @@
 -- The pairs that a walk over the nodes above a range puts.
-use Rattle.std.proofs.Common.{◌≡◌, ◌≢◌, ℕ, Bool, true, false, cond, ◌||◌, List, [], ◌∷◌, ◌++◌, length, drop, arith, refl, ap, ap₂, sym, ◌∙◌, subst, append_assoc, length-append, drop-drop}
+use Rattle.std.proofs.Common.{◌≡◌, ◌≢◌, ℕ, Bool, true, false, cond, List, [], ◌∷◌, ◌++◌, length, drop, arith, refl, ap, ap₂, sym, ◌∙◌, subst, append_assoc, length-append, drop-drop}
 use Rattle.std.specs.List.{flat_map}
 use Rattle.merkle_base.specs.Tree.{Tree, leaf, join, position}
 use Rattle.merkle_base.specs.Hashing.{Hashing}

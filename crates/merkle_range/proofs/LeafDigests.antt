@@ -1,7 +1,7 @@
 -- The leaf digests of elements, and of some more of them.
 use Rattle.std.proofs.Common.{◌≡◌, ℕ, suc, ◌+◌, ◌<◌, List, [], ◌∷◌, ◌++◌, length, take, drop, get_or, map, arith, refl, sym, ap, ◌∙◌}
 use Rattle.std.specs.Borrow.{Bor}
-use Rattle.std.proofs.lemmas.List.{append_assoc, map-append, take-append-drop, take_more, drop-drop, length-take-le}
+use Rattle.std.proofs.lemmas.List.{append_assoc, take-append-drop, take_more, drop-drop, length-take-le}
 use Rattle.merkle_base.specs.Forest.{size}
 use Rattle.merkle_base.specs.Hashing.{Hashing}
 use Rattle.merkle_range.specs.Input.{leaf_digests}

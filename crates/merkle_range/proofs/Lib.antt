@@ -7,3 +7,4 @@ pub mod PinWalks
 pub mod PinParts
 pub mod PinChecks
 pub mod LeafDigests
+pub mod InsideNodes

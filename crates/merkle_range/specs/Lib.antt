@@ -3,3 +3,4 @@ pub mod GroupedPeaks
 pub mod Input
 pub mod PinnedParts
 pub mod Positioned
+pub mod Inside

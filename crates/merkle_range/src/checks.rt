@@ -279,6 +279,7 @@ fn peak_digests<F: Family, H: Hasher<F>, C: Collector<F, H::Digest>>(
         &mut siblings,
         &mut all,
         collector,
+        parts.alloc,
     )?;
     if !siblings.is_empty() {
         return Err(ReconstructionError::ExtraDigests);
@@ -298,6 +299,7 @@ fn reconstruct_peaks<F: Family, H: Hasher<F>, C: Collector<F, H::Digest>>(
     digests: &mut &[H::Digest],
     out: &mut Vec<H::Digest>,
     collector: &mut C,
+    alloc: Global,
 ) -> Result<(), ReconstructionError>
     requires nodes { (ts : List Tree) × (peaks.now ≡ map subtree_of ts) × AreNodes F.rule F.MAX_LEAVES ts }
     requires some { range.now.start < range.now.end }
@@ -316,7 +318,7 @@ fn reconstruct_peaks<F: Family, H: Hasher<F>, C: Collector<F, H::Digest>>(
         → length digests.old.now < length (flat_map (siblings c) ts))) }
 {
     for peak in peaks {
-        let digest = reconstruct_digest(peak, hasher, range, leaves, digests, collector)?;
+        let digest = reconstruct_digest(peak, hasher, range, leaves, digests, collector, alloc)?;
         if collector.put(peak.position, &digest).is_err() {
             return Err(ReconstructionError::OutOfMemory);
         }

@@ -1,5 +1,5 @@
 //! What is kept of the node digests that a check computes.
-ghost use Rattle.std.specs.Prelude.{◌≡◌, [], ◌∷◌, ◌++◌, ℕ, List, ⊤, OnOk};
+ghost use Rattle.std.specs.Prelude.{◌≡◌, false, [], ◌∷◌, ◌++◌, ℕ, List, ⊤, OnOk};
 ghost use Rattle.std.proofs.Common.{sym, ap, ◌∙◌, append-nil, append_assoc};
 
 use merkle_base::family::Family;
@@ -15,6 +15,10 @@ pub(crate) trait Collector<F: Family, D: Digest> {
     /// Receives the digest of the node at `position`. Fails only if a memory request is refused.
     fn put(&mut self, position: Position<F>, digest: &D) -> Result<(), AllocError>
         ensures { OnOk result (Took self.old ((position, digest.now) ∷ []) self.new) };
+
+    /// Whether the digests that it receives are kept. Where they are not, none need be given.
+    fn keeps(&self) -> bool
+        ensures { result ≡ false → (ps : List (ℕ × D)) → Took self.now ps self.now };
 
     ghost took_none: { (s : Self) → Took s [] s };
 
@@ -34,6 +38,12 @@ impl<F: Family, D: Digest> Collector<F, D> for Unlisted {
         Ok(())
     }
 
+    fn keeps(&self) -> bool
+        ensures { result ≡ false → List (ℕ × D) → ⊤ }
+    {
+        false
+    }
+
     ghost took_none = { λ _. tt };
 
     ghost took_both = { λ _ _ _ _ _ _ _. tt };
@@ -48,6 +58,12 @@ impl<F: Family, D: Digest> Collector<F, D> for Vec<(Position<F>, D)> {
     {
         self.push((position, *digest))?;
         Ok(())
+    }
+
+    fn keeps(&self) -> bool
+        ensures { result ≡ false → (ps : List (ℕ × D)) → self.now.items ≡ self.now.items ++ ps }
+    {
+        true
     }
 
     ghost took_none = { λ s. sym (append-nil s.items) };

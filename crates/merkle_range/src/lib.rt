@@ -5,6 +5,7 @@ pub mod checks;
 mod collector;
 pub mod extraction;
 pub mod groups;
+mod inside;
 pub mod layout;
 pub mod leaves;
 mod peaks;

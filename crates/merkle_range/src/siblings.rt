@@ -1,6 +1,6 @@
 //! The digest of a node from those of the maximal nodes outside a range of leaves.
 ghost use Rattle.std.specs.Prelude.{◌≡◌, ◌≢◌, ◌+◌, ◌<◌, ◌≤◌, not, true, [], ◌++◌, length, map, IfOk, IfErr};
-ghost use Rattle.merkle_base.specs.Tree.{Tree, position};
+ghost use Rattle.merkle_base.specs.Tree.{Tree, position, first_leaf, end_leaf};
 ghost use Rattle.merkle_hasher.specs.Subtrees.{Denotes};
 ghost use Rattle.merkle_root_theory.specs.Plan.{tree_meets, siblings};
 ghost use Rattle.merkle_root_theory.specs.Extract.{inner_pairs};
@@ -8,13 +8,14 @@ ghost use Rattle.merkle_root_theory.specs.Range.{in_range};
 ghost use Rattle.merkle_root_theory.specs.Walk.{leaf_from, IsWalked};
 
 use crate::collector::{Collector, put_both};
+use crate::inside::digest_inside;
 use merkle_base::error::ReconstructionError;
 use merkle_base::family::Family;
 use merkle_base::location::Location;
 use merkle_base::position::Position;
 use merkle_hasher::hasher::Hasher;
 use merkle_hasher::subtree::Subtree;
-use std::alloc::AllocError;
+use std::alloc::{AllocError, Global};
 use std::ops::Range;
 
 // Whether the node has no leaf in the range.
@@ -29,7 +30,9 @@ fn is_outside<F: Family>(subtree: &Subtree<F>, range: &Range<Location<F>>) -> bo
 // Whether all leaves of the node are in the range.
 fn is_inside<F: Family>(subtree: &Subtree<F>, range: &Range<Location<F>>) -> bool
     requires { (t : Tree) × Denotes F.rule F.MAX_LEAVES subtree.now t }
-    ensures { (t : Tree) → Denotes F.rule F.MAX_LEAVES subtree.now t → result ≡ true → siblings (in_range range.now.start range.now.end) t ≡ [] }
+    ensures given { (t : Tree) → Denotes F.rule F.MAX_LEAVES subtree.now t
+        → result ≡ true → (range.now.start ≤ first_leaf t) × (end_leaf t ≤ range.now.end) }
+    ensures none { (t : Tree) → Denotes F.rule F.MAX_LEAVES subtree.now t → result ≡ true → siblings (in_range range.now.start range.now.end) t ≡ [] }
 {
     subtree.first_leaf >= range.start && subtree.leaf_end() <= range.end
 }
@@ -37,8 +40,9 @@ fn is_inside<F: Family>(subtree: &Subtree<F>, range: &Range<Location<F>>) -> boo
 /// Computes the digest of a node from `leaves`, the digests of the leaves in the range, and from
 /// `digests`, those of the maximal nodes outside the range, which are consumed in order.
 ///
-/// The digests of the nodes below it are passed to `out`: the two children of a node after all that
-/// is below them.
+/// The digests of the nodes below it are passed to `out`, if it keeps them: the two children of a
+/// node after all that is below them. Else the nodes below one that has all its leaves in the range
+/// are computed four at a time.
 pub(crate) fn reconstruct_digest<F: Family, H: Hasher<F>, C: Collector<F, H::Digest>>(
     subtree: &Subtree<F>,
     hasher: &H,
@@ -46,6 +50,7 @@ pub(crate) fn reconstruct_digest<F: Family, H: Hasher<F>, C: Collector<F, H::Dig
     leaves: &[H::Digest],
     digests: &mut &[H::Digest],
     out: &mut C,
+    alloc: Global,
 ) -> Result<H::Digest, ReconstructionError>
     requires node { (t : Tree) × Denotes F.rule F.MAX_LEAVES subtree.now t }
     requires some { range.now.start < range.now.end }
@@ -70,9 +75,16 @@ pub(crate) fn reconstruct_digest<F: Family, H: Hasher<F>, C: Collector<F, H::Dig
         let index = subtree.first_leaf - range.start;
         return Ok(leaves[index.as_u64() as usize]);
     }
+    // A lower node has no four parents of one height below it.
+    if subtree.height > 2 && !out.keeps() && is_inside(subtree, range) {
+        let Ok(digest) = digest_inside(alloc, subtree, hasher, range.start, leaves) else {
+            return Err(ReconstructionError::OutOfMemory);
+        };
+        return Ok(digest);
+    }
     let (left, right) = subtree.children();
-    let first = reconstruct_digest(&left, hasher, range, leaves, digests, out)?;
-    let second = reconstruct_digest(&right, hasher, range, leaves, digests, out)?;
+    let first = reconstruct_digest(&left, hasher, range, leaves, digests, out, alloc)?;
+    let second = reconstruct_digest(&right, hasher, range, leaves, digests, out, alloc)?;
     if put_both(left.position, &first, right.position, &second, out).is_err() {
         return Err(ReconstructionError::OutOfMemory);
     }

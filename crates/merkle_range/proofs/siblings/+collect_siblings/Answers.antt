@@ -14,7 +14,7 @@ pub returns-then-subtree-eq0 : goal.returns-then-subtree-eq0
 returns-then-subtree-eq0 g t c = λ u w. none_more c.args.out.now.items _ (
     elim c.then-subtree-eq0.branch [
       | then-subtree-eq0-via-then-subtree-eq0 v ↦ siblings_met_leaf _ _ _ _ _ _ u w v.if-subtree-eq0.true (not-false _ (sym (c.is_outside.ensures u w) ∙ c.if-is_outside.false))
-      | then-subtree-eq0-via-else-subtree-eq0+then-is_inside v ↦ v.is_inside.ensures u w v.if-is_inside.true
+      | then-subtree-eq0-via-else-subtree-eq0+then-is_inside v ↦ v.is_inside.ensures.none u w v.if-is_inside.true
     ])
 
 pub children-left-requires : goal.children-left-requires

@@ -7,6 +7,7 @@ use Rattle.merkle_root_theory.specs.Walk.{leaf_from}
 use Rattle.merkle_hasher.proofs.Spans.{heights_same}
 use Rattle.merkle_hasher.proofs.NodeSteps.{inner_node, lower}
 use Rattle.merkle_root_theory.proofs.Walks.{walk_outside, short_outside, walked_leaf, walked_inner, short_inner_left, short_inner_right, leaf_in_range}
+use Rattle.merkle_range.proofs.InsideNodes.{walked_inside}
 use Rattle.merkle_range.proofs.ExtractionWalks.{stands_at, inner_unmet, inner_leaf, put_inner}
 use Rattle.merkle_range.proofs.siblings.+reconstruct_digest.Goals as goal
 
@@ -102,3 +103,8 @@ returns-then-subtree-eq0-clause-taken g t c = λ u w.
     let h = g.H.Hasher.hashing c.args.hasher.now in
     let none = inner_leaf h (in_range c.args.range.now.start c.args.range.now.end) (leaf_from h c.args.range.now.start c.args.leaves.now) _ _ _ _ _ u w c.if-subtree-eq0.true c.args.digests.now.now in
     subst (λ z. g.C.Collector.Took c.args.out.now z c.args.out.now) (sym none) (g.met.C.Collector.took_none c.args.out.now)
+
+pub returns-then-is_inside-clause-ok : goal.returns-then-is_inside-clause-ok
+returns-then-is_inside-clause-ok g t c = λ u w.
+    walked_inside g.F.Family.rule g.F.Family.MAX_LEAVES (g.H.Hasher.hashing c.args.hasher.now) c.args.range.now.start c.args.leaves.now c.args.range.now.end c.requires.all c.args.subtree.now u w
+    (c.is_inside.ensures.given u w c.if-is_inside.true) (c.is_inside.ensures.none u w c.if-is_inside.true) c.in-Ok.digest c.in-Ok.ensures c.args.digests.now.now
