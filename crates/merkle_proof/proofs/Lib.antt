@@ -14,3 +14,4 @@ pub mod ScatteredElements
 pub mod ScatteredWalk
 pub mod ScatteredPeaks
 pub mod ScatteredRoot
+pub mod LocatedDigests

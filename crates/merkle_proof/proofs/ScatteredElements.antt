@@ -3,7 +3,6 @@ use Rattle.std.proofs.Common.{◌≡◌, ℕ, zero, suc, Bool, true, false, cond
 use Rattle.std.proofs.lemmas.Bool.{le-ltb, ltb-false, ne_eqb, or_right, cases_lt}
 use Rattle.std.specs.Borrow.{Bor}
 use Rattle.std.specs.Slice.{IsItemAt}
-use Rattle.merkle_base.specs.Forest.{size}
 use Rattle.merkle_base.specs.Hashing.{Hashing}
 use Rattle.merkle_base.specs.Tree.{Tree, leaf, join, position, first_leaf, end_leaf, IsBuilt}
 use Rattle.merkle_base.proofs.Cases.{by_test}
@@ -13,7 +12,6 @@ use Rattle.merkle_claim_theory.specs.Ascending.{AscendsFrom}
 use Rattle.merkle_claim_theory.specs.MultiClaim.{also, or_empty, multi_tree}
 use Rattle.merkle_claim_theory.specs.Table.{digest_for}
 use Rattle.merkle_proof.specs.Confirmed.{locations_of, is_located, leaf_located, elements_from, node_checked}
-use Rattle.merkle_proof.specs.Input.{element_leaves, leaves_left}
 use Rattle.merkle_proof.proofs.ToldTable.{get_reads}
 
 -- ---- what is left of a list
@@ -29,18 +27,12 @@ none_left [] (suc i) e = refl
 none_left (y ∷ xs) zero e = absurd (cc)
 none_left (y ∷ xs) (suc i) e = none_left xs i e
 
-item_left : {X : Type 0} (xs : List X) (i : ℕ) (x : Bor X) → IsItemAt xs i (Some x) → drop i xs ≡ x.now ∷ drop (i + 1) xs
+-- the item that is looked up is the first of those that are left
+pub item_left : {X : Type 0} (xs : List X) (i : ℕ) (x : Bor X) → IsItemAt xs i (Some x) → drop i xs ≡ x.now ∷ drop (i + 1) xs
 item_left xs i x h = left_at xs i x.now (get_reads xs i (Some x) h) ∙ ap (λ n. x.now ∷ drop n xs) (sym (add-one i))
 
-no_item_left : {X : Type 0} (xs : List X) (i : ℕ) → IsItemAt xs i None → drop i xs ≡ []
+pub no_item_left : {X : Type 0} (xs : List X) (i : ℕ) → IsItemAt xs i None → drop i xs ≡ []
 no_item_left xs i h = none_left xs i (get_reads xs i None h)
-
--- the element that is looked up is the first of those that are left
-pub next_left : {D : Type 0} (h : Hashing D) (rule : List ℕ → List ℕ) (es : List (Bor (List ℕ) × ℕ)) (k : ℕ) (x : Bor (Bor (List ℕ) × ℕ)) → IsItemAt es k (Some x) → leaves_left h rule es k ≡ (x.now.1, h.leaf (size rule x.now.1) x.now.0.now) ∷ leaves_left h rule es (k + 1)
-next_left h rule es k x l = ap (element_leaves h rule) (item_left es k x l)
-
-pub no_next_left : {D : Type 0} (h : Hashing D) (rule : List ℕ → List ℕ) (es : List (Bor (List ℕ) × ℕ)) (k : ℕ) → IsItemAt es k None → leaves_left h rule es k ≡ []
-no_next_left h rule es k l = ap (element_leaves h rule) (no_item_left es k l)
 
 -- ---- lists that ascend
 pub ascends_weaker : (a b : ℕ) (ps : List ℕ) → a ≤ b → AscendsFrom b ps → AscendsFrom a ps

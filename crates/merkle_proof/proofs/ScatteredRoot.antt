@@ -27,6 +27,18 @@ pub locations_given : {D : Type 0} (h : Hashing D) (rule : List ℕ → List ℕ
 locations_given h rule [] = refl
 locations_given h rule (e ∷ es) = ap (λ is. e.1 ∷ is) (locations_given h rule es)
 
+-- leaves are within the limit that their locations keep
+pub within_limit : {A : Type 0} {m n : ℕ} (es : List (A × ℕ)) → AreLocations m n (map (λ e. e.1) es) → AllByRecursion (λ e. e.1 ≤ m) es
+within_limit {A = A} {m = m} {n = n} es at = each_below es at.below
+  where
+    each_below : (es : List (A × ℕ)) → AllByRecursion (λ i. i < n) (map (λ e. e.1) es) → AllByRecursion (λ e. e.1 ≤ m) es
+    each_below [] below = tt
+    each_below (e ∷ es) below = (omega (arith, at.leaves, below.0), each_below es below.1)
+
+-- what a check that tells digests at positions finds of the peaks
+abbrev pub PeaksAre : {D : Type 0} → Hashing D → List ℕ → List D → List (ℕ × D) → List Tree → List D → Type 0
+PeaksAre h ps ds es ts found = EachHolds h (digest_for ps ds) es ts × (found ≡ nodes_checked h (digest_for ps ds) es ts)
+
 pub some_given : {D : Type 0} (h : Hashing D) (rule : List ℕ → List ℕ) (es : List (Bor (List ℕ) × ℕ)) → 0 < length es → 0 < length (element_leaves h rule es)
 some_given h rule [] l = absurd (omega (arith, l))
 some_given h rule (e ∷ es) l = omega arith

@@ -3,8 +3,7 @@ use Rattle.std.proofs.Common.{◌≡◌, ◌≢◌, ℕ, suc, true, cond, ◌||�
 use Rattle.std.proofs.lemmas.Bool.{eq-eqb}
 use Rattle.merkle_base.specs.Hashing.{Hashing}
 use Rattle.merkle_base.specs.Tree.{Tree, leaf, join, position, end_leaf}
-use Rattle.merkle_base.specs.Forest.{forest, size}
-use Rattle.merkle_base.proofs.Births.{leaf_at}
+use Rattle.merkle_base.specs.Forest.{forest}
 use Rattle.merkle_base.proofs.Growth.{forest_grown}
 use Rattle.merkle_base.proofs.Nodes.{node_built}
 use Rattle.merkle_hasher.specs.Subtrees.{IsNodeOf}
@@ -55,16 +54,15 @@ module _ (rule : List ℕ → List ℕ) (m p s tall : ℕ) {D : Type 0} (h : Has
     next_leaf = ap (λ z. leaf_located h z x) at ∙ ap (λ z. unwrap_or (cond z (Some d) (digest_for (locations_of more) (map (λ e. e.1) more) x)) h.empty) (eq-eqb x x refl)
 
     -- and the node is its leaf
-    pub walk_leaf : (bytes : List ℕ) → d ≡ h.leaf (size rule x) bytes → (t : Tree) → IsHere t → tall ≡ 0 → x < end_leaf t → (answer : D) (o : Option D) → answer ≡ h.leaf p bytes → Confirms h (a p) answer o → IsConfirmed h (node_checked h a es t) o
-    walk_leaf bytes d_is (leaf q i) w flat l answer o is f =
+    pub walk_leaf : (t : Tree) → IsHere t → tall ≡ 0 → x < end_leaf t → (o : Option D) → Confirms h (a p) d o → IsConfirmed h (node_checked h a es t) o
+    walk_leaf (leaf q i) w flat l o f =
         let same : i ≡ x = omega (arith, w.first_is, next_up.0, l) in
         let placed : q ≡ p = (forest_grown rule m).placed p (leaf q i) w.at in
-        let stands : q ≡ size rule i = (leaf_at rule m p q i w.at).0 in
         let there : is_located es i ≡ true = ap (is_located es) same ∙ next_located in
         let told : node_checked h a es (leaf q i) ≡ also (a p) (supplied d) =
         ap₂ (λ z y. cond z (also (a q) (supplied y)) (supplied (or_empty h (a q)))) there (ap (leaf_located h es) same ∙ next_leaf) ∙ ap (λ (n : ℕ). also (a n) (supplied d)) placed in
-        subst (λ e. IsConfirmed h e o) (sym told) (f (supplied d) tt (is ∙ ap (λ (n : ℕ). h.leaf n bytes) (sym placed ∙ stands ∙ ap (size rule) same) ∙ sym d_is))
-    walk_leaf bytes d_is (join q l r) w flat u answer o is f = absurd (omega (arith, w.height_is, flat))
+        subst (λ e. IsConfirmed h e o) (sym told) (f (supplied d) tt refl)
+    walk_leaf (join q l r) w flat u o f = absurd (omega (arith, w.height_is, flat))
 
     pub rest_leaf : (t : Tree) → IsHere t → tall ≡ 0 → x < end_leaf t → more ≡ elements_from (end_leaf t) es
     rest_leaf (leaf q i) w flat l =

@@ -1,5 +1,5 @@
 -- What the checks of a proof are given.
-use Rattle.std.specs.Prelude.{ℕ, List, map, drop}
+use Rattle.std.specs.Prelude.{ℕ, List, map}
 use Rattle.std.specs.Borrow.{Bor}
 use Rattle.merkle_base.specs.Forest.{size}
 use Rattle.merkle_base.specs.Hashing.{Hashing}
@@ -16,10 +16,6 @@ input_of s p a es = range_input s p.leaves p.inactive_peaks p.digests.items a es
 -- the location and the leaf digest of each element
 abbrev pub element_leaves : {D : Type 0} → Hashing D → (List ℕ → List ℕ) → List (Bor (List ℕ) × ℕ) → List (ℕ × D)
 element_leaves h rule es = map (λ e. (e.1, h.leaf (size rule e.1) e.0.now)) es
-
--- those of the elements from the n-th on
-abbrev pub leaves_left : {D : Type 0} → Hashing D → (List ℕ → List ℕ) → List (Bor (List ℕ) × ℕ) → ℕ → List (ℕ × D)
-leaves_left h rule es n = element_leaves h rule (drop n es)
 
 -- the parts of a proof with elements at locations
 abbrev pub multi_input : {D : Type 0} → Scheme D → (leaves inactive : ℕ) → List D → List (Bor (List ℕ) × ℕ) → MultiInput D

@@ -1,5 +1,5 @@
 -- What a range proof reads, and what it is made of.
-use Rattle.std.specs.Prelude.{◌≡◌, ℕ, ◌≤◌, ◌<◌, ◌⊎◌, List, ◌∷◌, ◌++◌, map, length, Option, Some, None, slice_get, take, drop, reverse, ◌+◌, ◌-◌}
+use Rattle.std.specs.Prelude.{◌≡◌, ℕ, ◌≤◌, ◌<◌, ◌⊎◌, List, ◌∷◌, ◌++◌, map, length, Option, Some, None, slice_get, take, drop, ◌-◌}
 use Rattle.std.specs.List.{AllZip}
 use Rattle.merkle_base.specs.Tree.{Tree, position}
 use Rattle.merkle_base.specs.Forest.{forest}
@@ -13,7 +13,7 @@ use Rattle.merkle_root_theory.specs.Check.{RangeInput}
 use Rattle.merkle_base.specs.Scheme.{Scheme}
 use Rattle.merkle_root_theory.specs.Layouts.{laid_out}
 use Rattle.merkle_root_theory.specs.Reads.{nodes_read, reading_order, part_read}
-use Rattle.merkle_root_theory.specs.Range.{overlapping, wholly_after, range_parts, range_siblings}
+use Rattle.merkle_root_theory.specs.Range.{wholly_after, range_parts, range_siblings}
 use Rattle.merkle_proof.specs.declared.proof.Proof.{Proof}
 
 -- a range of a number of leaves

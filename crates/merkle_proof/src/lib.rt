@@ -4,6 +4,7 @@
 
 mod confirm;
 pub mod element_plan;
+mod leaves;
 pub mod multi;
 mod multi_checks;
 mod positions;

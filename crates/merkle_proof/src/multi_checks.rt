@@ -6,6 +6,7 @@ ghost use Rattle.merkle_proof.specs.Input.{multi_input};
 ghost use Rattle.merkle_proof.specs.MultiPositions.{AreLocations};
 
 use crate::confirm::confirm_peaks;
+use crate::leaves::located_digests;
 use crate::multi::multi_proof_positions;
 use crate::told::Told;
 use merkle_base::error::{Error, OutOfMemory};
@@ -73,7 +74,10 @@ fn verify_some<F: Family, H: Hasher<F>>(
         positions: &positions,
         digests: parts.digests,
     };
-    let Ok(confirmed) = confirm_peaks(parts.alloc, parts.leaves, hasher, &told, elements) else {
+    let Ok(located) = located_digests(parts.alloc, hasher, elements) else {
+        return Err(OutOfMemory);
+    };
+    let Ok(confirmed) = confirm_peaks(parts.alloc, parts.leaves, hasher, &told, &located) else {
         return Err(OutOfMemory);
     };
     let Some(peaks) = confirmed else {

@@ -1,11 +1,10 @@
-use Rattle.std.proofs.Common.{◌≡◌, ◌<◌, ◌≤◌, None, Some, refl, arith, rules, ap, sym, subst, ◌∙◌, inl, inr, unwrap_or}
+use Rattle.std.proofs.Common.{◌≡◌, ◌<◌, ◌≤◌, None, Some, refl, arith, rules, ap, sym, subst, ◌∙◌, inl, inr, drop, unwrap_or}
 use Rattle.merkle_hasher.proofs.Spans.{heights_same}
 use Rattle.merkle_hasher.proofs.NodeSteps.{inner_node, lower}
 use Rattle.merkle_claim_theory.specs.Table.{digest_for}
 use Rattle.merkle_root_theory.specs.Expression.{Holds}
 use Rattle.merkle_proof.specs.Confirmed.{IsConfirmed, node_checked}
-use Rattle.merkle_proof.specs.Input.{leaves_left}
-use Rattle.merkle_proof.proofs.ScatteredElements.{next_left, no_next_left}
+use Rattle.merkle_proof.proofs.ScatteredElements.{item_left, no_item_left}
 use Rattle.merkle_proof.proofs.ScatteredWalk.{if_some, walk_none, walk_past, walk_leaf, rest_leaf, walk_inner, walk_refused, rest_inner, left_ascends, right_ascends}
 use Rattle.merkle_proof.proofs.confirm.+confirm_digest.Goals as goal
 
@@ -13,15 +12,15 @@ pub returns-in_default-clause-digest : goal.returns-in_default-clause-digest
 returns-in_default-clause-digest g t c = λ u w.
     let h = g.H.Hasher.hashing c.args.hasher.now in
     let a = digest_for c.args.told.now.positions.now c.args.told.now.digests.now in
-    walk_none _ _ _ _ _ h a _ (no_next_left h g.F.Family.rule c.args.elements.now c.args.taken.now c.in_default.ensures.lookup) u w c.or_empty.result
+    walk_none _ _ _ _ _ h a _ (no_item_left c.args.located.now c.args.taken.now c.in_default.ensures.lookup) u w c.or_empty.result
     (c.or_empty.ensures ∙ ap (unwrap_or (a c.args.subtree.now.position)) (sym (g.met.H.Hasher.over_digest c.args.hasher.now).empty))
 
 pub returns-then-ge-clause-digest : goal.returns-then-ge-clause-digest
 returns-then-ge-clause-digest g t c = λ u w.
     let h = g.H.Hasher.hashing c.args.hasher.now in
     let a = digest_for c.args.told.now.positions.now c.args.told.now.digests.now in
-    let at = next_left h g.F.Family.rule c.args.elements.now c.args.taken.now c.in-Some.next c.in-Some.ensures.lookup in
-    let past : c.leaf_end.result ≤ c.in-Some.next.now.1 = search rules in
+    let at = item_left c.args.located.now c.args.taken.now c.in-Some.next c.in-Some.ensures.lookup in
+    let past : c.leaf_end.result ≤ c.in-Some.next.now.0 = search rules in
     walk_past _ _ _ _ _ h a _ _ _ _ at c.requires.ascend u w (omega (arith, past, c.leaf_end.ensures u w)) c.or_empty-then-ge.result
     (c.or_empty-then-ge.ensures ∙ ap (unwrap_or (a c.args.subtree.now.position)) (sym (g.met.H.Hasher.over_digest c.args.hasher.now).empty))
 
@@ -29,17 +28,17 @@ pub returns-then-subtree-eq0-clause-digest : goal.returns-then-subtree-eq0-claus
 returns-then-subtree-eq0-clause-digest g t c = λ u w.
     let h = g.H.Hasher.hashing c.args.hasher.now in
     let a = digest_for c.args.told.now.positions.now c.args.told.now.digests.now in
-    let at = next_left h g.F.Family.rule c.args.elements.now c.args.taken.now c.in-Some.next c.in-Some.ensures.lookup in
-    let under : c.in-Some.next.now.1 < c.leaf_end.result = search rules in
-    walk_leaf _ _ _ _ _ h a _ _ _ _ at c.requires.ascend c.in-Some.next.now.0.now refl u w c.if-subtree-eq0.true (omega (arith, under, c.leaf_end.ensures u w))
-    c.leaf_digest-computed.result c.confirmed.result c.leaf_digest-computed.ensures (c.confirmed.ensures h)
+    let at = item_left c.args.located.now c.args.taken.now c.in-Some.next c.in-Some.ensures.lookup in
+    let under : c.in-Some.next.now.0 < c.leaf_end.result = search rules in
+    walk_leaf _ _ _ _ _ h a _ _ _ _ at c.requires.ascend u w c.if-subtree-eq0.true (omega (arith, under, c.leaf_end.ensures u w))
+    c.confirmed.result (c.confirmed.ensures h)
 
 pub returns-then-subtree-eq0-clause-rest : goal.returns-then-subtree-eq0-clause-rest
 returns-then-subtree-eq0-clause-rest g t c = if_some _ c.confirmed.result (λ u w.
     let h = g.H.Hasher.hashing c.args.hasher.now in
     let a = digest_for c.args.told.now.positions.now c.args.told.now.digests.now in
-    let at = next_left h g.F.Family.rule c.args.elements.now c.args.taken.now c.in-Some.next c.in-Some.ensures.lookup in
-    let under : c.in-Some.next.now.1 < c.leaf_end.result = search rules in
+    let at = item_left c.args.located.now c.args.taken.now c.in-Some.next c.in-Some.ensures.lookup in
+    let under : c.in-Some.next.now.0 < c.leaf_end.result = search rules in
     rest_leaf _ _ _ _ _ h a _ _ _ _ at c.requires.ascend u w c.if-subtree-eq0.true (omega (arith, under, c.leaf_end.ensures u w)))
 
 pub children-left-requires : goal.children-left-requires
@@ -50,7 +49,7 @@ confirm_digest-requires g t c κs within =
     let n = c.requires.node in
     let i = inner_node _ _ _ _ _ n.0 n.1 c.if-subtree-eq0.false in
     let k = c.children-left.ensures i.0 i.1 i.2 i.3 in
-    let es = leaves_left (g.H.Hasher.hashing c.args.hasher.now) g.F.Family.rule c.args.elements.now c.args.taken.now in
+    let es = drop c.args.taken.now c.args.located.now in
     let u = left_ascends _ _ _ _ _ _ i.1 i.2 i.3 es c.requires.ascend _ _ _ k.0 in
     (omega (arith, lower _ _ _ _ _ _ _ _ _ _ _ _ i.3 k.0 (inl refl), c.decreases), (within.0, (within.1.0, (within.1.1.0, (within.1.1.1.0, (within.1.1.1.1, ((i.1, k.0), (c.requires.rises, u))))))))
 
@@ -58,9 +57,9 @@ pub returns-in_err-first-clause-digest : goal.returns-in_err-first-clause-digest
 returns-in_err-first-clause-digest g t c = λ u w.
     let h = g.H.Hasher.hashing c.args.hasher.now in
     let a = digest_for c.args.told.now.positions.now c.args.told.now.digests.now in
-    let at = next_left h g.F.Family.rule c.args.elements.now c.args.taken.now c.in-Some.next c.in-Some.ensures.lookup in
-    let es = leaves_left h g.F.Family.rule c.args.elements.now c.args.taken.now in
-    let under : c.in-Some.next.now.1 < c.leaf_end.result = search rules in
+    let at = item_left c.args.located.now c.args.taken.now c.in-Some.next c.in-Some.ensures.lookup in
+    let es = drop c.args.taken.now c.args.located.now in
+    let under : c.in-Some.next.now.0 < c.leaf_end.result = search rules in
     let none : c.from_residual.result ≡ None = search rules in
     subst (IsConfirmed h (node_checked h a es u)) (sym none)
     (walk_refused _ _ _ _ _ h a es _ _ _ at c.requires.ascend u w c.if-subtree-eq0.false (omega (arith, under, c.leaf_end.ensures u w))
@@ -71,7 +70,7 @@ confirm_digest-requires-2 g t c κs within =
     let n = c.requires.node in
     let i = inner_node _ _ _ _ _ n.0 n.1 c.if-subtree-eq0.false in
     let k = c.children-left.ensures i.0 i.1 i.2 i.3 in
-    let es = leaves_left (g.H.Hasher.hashing c.args.hasher.now) g.F.Family.rule c.args.elements.now c.args.taken.now in
+    let es = drop c.args.taken.now c.args.located.now in
     let u = right_ascends _ _ _ _ _ _ i.1 i.2 i.3 es c.requires.ascend _ _ _ k.1 _ (c.in_ok-first.ensures.rest i.1 k.0) in
     (omega (arith, lower _ _ _ _ _ _ _ _ _ _ _ _ i.3 k.1 (inr (heights_same _ _ _ g.met.F.Family.lawful _ _ _ _ _ _ i.3)), c.decreases), (within.0, (within.1.0, (within.1.1.0, (within.1.1.1.0, (within.1.1.1.1, ((i.2, k.1), (c.requires.rises, u))))))))
 
@@ -79,9 +78,9 @@ pub returns-in_err-second-clause-digest : goal.returns-in_err-second-clause-dige
 returns-in_err-second-clause-digest g t c = λ u w.
     let h = g.H.Hasher.hashing c.args.hasher.now in
     let a = digest_for c.args.told.now.positions.now c.args.told.now.digests.now in
-    let at = next_left h g.F.Family.rule c.args.elements.now c.args.taken.now c.in-Some.next c.in-Some.ensures.lookup in
-    let es = leaves_left h g.F.Family.rule c.args.elements.now c.args.taken.now in
-    let under : c.in-Some.next.now.1 < c.leaf_end.result = search rules in
+    let at = item_left c.args.located.now c.args.taken.now c.in-Some.next c.in-Some.ensures.lookup in
+    let es = drop c.args.taken.now c.args.located.now in
+    let under : c.in-Some.next.now.0 < c.leaf_end.result = search rules in
     let none : c.from_residual-in_err-second.result ≡ None = search rules in
     subst (IsConfirmed h (node_checked h a es u)) (sym none)
     (walk_refused _ _ _ _ _ h a es _ _ _ at c.requires.ascend u w c.if-subtree-eq0.false (omega (arith, under, c.leaf_end.ensures u w))
@@ -93,8 +92,8 @@ pub returns-clause-digest : goal.returns-clause-digest
 returns-clause-digest g t c = λ u w.
     let h = g.H.Hasher.hashing c.args.hasher.now in
     let a = digest_for c.args.told.now.positions.now c.args.told.now.digests.now in
-    let at = next_left h g.F.Family.rule c.args.elements.now c.args.taken.now c.in-Some.next c.in-Some.ensures.lookup in
-    let under : c.in-Some.next.now.1 < c.leaf_end.result = search rules in
+    let at = item_left c.args.located.now c.args.taken.now c.in-Some.next c.in-Some.ensures.lookup in
+    let under : c.in-Some.next.now.0 < c.leaf_end.result = search rules in
     walk_inner _ _ _ _ _ h a _ _ _ _ at c.requires.ascend u w c.if-subtree-eq0.false (omega (arith, under, c.leaf_end.ensures u w)) c.in_ok-first.first c.in_ok-second.second
     (λ q l r v.
     let k = c.children-left.ensures q l r v in
@@ -105,6 +104,6 @@ pub returns-clause-rest : goal.returns-clause-rest
 returns-clause-rest g t c = if_some _ c.confirmed-2.result (λ u w.
     let h = g.H.Hasher.hashing c.args.hasher.now in
     let a = digest_for c.args.told.now.positions.now c.args.told.now.digests.now in
-    let es = leaves_left h g.F.Family.rule c.args.elements.now c.args.taken.now in
+    let es = drop c.args.taken.now c.args.located.now in
     rest_inner _ _ _ _ _ h a es u w c.if-subtree-eq0.false _ _
     (λ q l r v. let k = c.children-left.ensures q l r v in (c.in_ok-first.ensures.rest l k.0, c.in_ok-second.ensures.rest r k.1)))

@@ -1,8 +1,7 @@
-use Rattle.std.proofs.Common.{ap, sym, ◌∙◌}
+use Rattle.std.proofs.Common.{drop, ap, sym, ◌∙◌}
 use Rattle.merkle_claim_theory.specs.Table.{digest_for}
 use Rattle.merkle_root_theory.specs.Expression.{Holds}
 use Rattle.merkle_proof.specs.Confirmed.{node_checked}
-use Rattle.merkle_proof.specs.Input.{element_leaves, leaves_left}
 use Rattle.merkle_range.proofs.PeakWalk.{pass_begins, pass_next, pass_ends}
 use Rattle.merkle_proof.proofs.ScatteredPeaks.{confirm_begins, left_ascend, peak_holds, confirm_more}
 use Rattle.merkle_proof.proofs.confirm.confirm_peaks.Goals as goal
@@ -11,7 +10,7 @@ pub loop-position-init : goal.loop-position-init
 loop-position-init g c =
     let h = g.H.Hasher.hashing c.args.hasher.now in
     let a = digest_for c.args.told.now.positions.now c.args.told.now.digests.now in
-    let es = element_leaves h g.F.Family.rule c.args.elements.now in
+    let es = c.args.located.now in
     let e = c.into_iter-position-iterator.ensures.into_iter_gives in (
       g.met.F.Peaks.Listed.may_go c.into_iter-position-iterator.result,
       g.met.F.Peaks.Listed.ends c.into_iter-position-iterator.result,
@@ -33,15 +32,15 @@ pub confirm_digest-requires-clause-ascend : goal.confirm_digest-requires-clause-
 confirm_digest-requires-clause-ascend g c =
     let h = g.H.Hasher.hashing c.args.hasher.now in
     let a = digest_for c.args.told.now.positions.now c.args.told.now.digests.now in
-    left_ascend h a (element_leaves h g.F.Family.rule c.args.elements.now) c.requires.ascend _ _ c.loop-position.invariant.2.holds.2
+    left_ascend h a c.args.located.now c.requires.ascend _ _ c.loop-position.invariant.2.holds.2
 
 pub returns-in_default-clause-none : goal.returns-in_default-clause-none
 returns-in_default-clause-none g c = λ _ all.
     let h = g.H.Hasher.hashing c.args.hasher.now in
     let rule = g.F.Family.rule in
     let a = digest_for c.args.told.now.positions.now c.args.told.now.digests.now in
-    let es = element_leaves h rule c.args.elements.now in
-    let left = leaves_left h rule c.args.elements.now c.loop-position.taken in
+    let es = c.args.located.now in
+    let left = drop c.loop-position.taken es in
     let y = g.met.F.Peaks.Listed.gives_first _ _ _ c.in-Some.ensures.steps in
     let n = pass_next _ _ _ _ _ _ c.loop-position.invariant.2 _ _ _ y in
     c.in_default.ensures.digest n.0 n.1
@@ -52,8 +51,8 @@ loop-position-preserved g c =
     let h = g.H.Hasher.hashing c.args.hasher.now in
     let rule = g.F.Family.rule in
     let a = digest_for c.args.told.now.positions.now c.args.told.now.digests.now in
-    let es = element_leaves h rule c.args.elements.now in
-    let left = leaves_left h rule c.args.elements.now c.loop-position.taken in
+    let es = c.args.located.now in
+    let left = drop c.loop-position.taken es in
     let y = g.met.F.Peaks.Listed.gives_first _ _ _ c.in-Some.ensures.steps in
     let n = pass_next _ _ _ _ _ _ c.loop-position.invariant.2 _ _ _ y in
     let more = confirm_more h a es rule g.F.Family.MAX_LEAVES c.in-Some.position c.in-Some.height c.loop-position.first_leaf n.0 n.1 left c.loop-position.invariant.2.holds.2 _ _ _ _ _

@@ -1,5 +1,5 @@
+use Rattle.std.proofs.Common.{drop}
 use Rattle.merkle_claim_theory.specs.Table.{digest_for}
-use Rattle.merkle_proof.specs.Input.{element_leaves, leaves_left}
 use Rattle.merkle_range.proofs.PeakWalk.{Passed}
 use Rattle.merkle_proof.proofs.ScatteredPeaks.{Confirmed}
 use Rattle.merkle_proof.proofs.confirm.confirm_peaks.Given as goal
@@ -11,4 +11,4 @@ invariant-loop-position g l =
     (goal.iterator-loop-position g).can_next l.position-iterator ×
     (goal.iterator-loop-position g).is_finite l.position-iterator ×
     Passed rule g.F.Family.MAX_LEAVES l.fn.leaves (g.F.Peaks.Listed.left l.position-iterator) l.first_leaf
-    (Confirmed h (digest_for l.told.positions.now l.told.digests.now) (element_leaves h rule l.elements) l.digests.items (leaves_left h rule l.elements l.taken) l.first_leaf)
+    (Confirmed h (digest_for l.told.positions.now l.told.digests.now) l.located l.digests.items (drop l.taken l.located) l.first_leaf)
