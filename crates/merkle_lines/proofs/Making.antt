@@ -26,18 +26,12 @@ use Rattle.merkle_batch_theory.proofs.PendingUpdates.{leaves_list, update_list, 
 use Rattle.merkle_batch_theory.proofs.RootBatch.{root_stands}
 use Rattle.merkle_batch_theory.proofs.Steps.{digests_length, replaced_length}
 use Rattle.merkle_range.specs.Input.{leaf_digests}
-use Rattle.merkle_range.proofs.LeafDigests.{length-leaf_digests}
+use Rattle.merkle_range.proofs.LeafDigests.{length-leaf_digests, leaf_digests-append}
 use Rattle.merkle_lines.specs.StructureState.{Changes, at_updated, with_element}
 use Rattle.merkle_lines.specs.StructureState as given
 use Rattle.merkle_lines.specs.Held.{Makes}
 
 module _ {D : Type 0} (h : Hashing D) (rule : List ℕ → List ℕ) where
-  -- the leaves of elements and more elements
-  pub leaf_digests_joined : (a : ℕ) (es fs : List (List ℕ)) → leaf_digests h rule a (es ++ fs) ≡ leaf_digests h rule a es ++ leaf_digests h rule (a + length es) fs
-  leaf_digests_joined a [] fs = ap (λ k. leaf_digests h rule k fs) (omega arith)
-  leaf_digests_joined a (e ∷ es) fs =
-      ap (λ ds. h.leaf (size rule a) e ∷ ds) (leaf_digests_joined (suc a) es fs ∙ ap (λ k. leaf_digests h rule (suc a) es ++ leaf_digests h rule k fs) (omega arith))
-
   -- the leaves of elements, of which one is set
   pub leaf_digests_set : (a : ℕ) (es : List (List ℕ)) (k : ℕ) (e : List ℕ) → leaf_digests h rule a (set es k e) ≡ set (leaf_digests h rule a es) k (h.leaf (size rule (a + k)) e)
   leaf_digests_set a [] k e = refl
@@ -101,7 +95,7 @@ module _ {D : Type 0} (h : Hashing D) (rule : List ℕ → List ℕ) (X : List D
         let d = h.leaf (size rule (leaf_total b)) e in
         leaves_list rule b (d ∷ []) X ∙ ap (λ ds. ds ++ d ∷ []) m.elements ∙ ap (λ k. leaf_digests h rule 0 c.elements ++ h.leaf (size rule k) e ∷ []) made_total
         ∙ ap (λ k. leaf_digests h rule 0 c.elements ++ leaf_digests h rule k (e ∷ [])) (let n : length c.elements ≡ 0 + length c.elements = omega arith in n)
-        ∙ sym (leaf_digests_joined h rule 0 c.elements (e ∷ []));
+        ∙ sym (leaf_digests-append h rule 0 c.elements (e ∷ []));
     updates = m.updates;
   }
 

@@ -1,7 +1,7 @@
 -- The leaf digests of elements, and of some more of them.
 use Rattle.std.proofs.Common.{◌≡◌, ℕ, suc, ◌+◌, ◌<◌, List, [], ◌∷◌, ◌++◌, length, take, drop, get_or, map, arith, refl, sym, ap, ◌∙◌}
 use Rattle.std.specs.Borrow.{Bor}
-use Rattle.std.proofs.lemmas.List.{append_assoc, take-append-drop, take_more, drop-drop, length-take-le}
+use Rattle.std.proofs.lemmas.List.{append_assoc, take-append-drop, take_more, drop-drop, length-take-le, length-map, map-append}
 use Rattle.merkle_base.specs.Forest.{size}
 use Rattle.merkle_base.specs.Hashing.{Hashing}
 use Rattle.merkle_range.specs.Input.{leaf_digests}
@@ -12,6 +12,13 @@ use Rattle.merkle_range.specs.Positioned.{positioned}
 pub length-leaf_digests : {D : Type 0} (h : Hashing D) (rule : List ℕ → List ℕ) (a : ℕ) (es : List (List ℕ)) → length (leaf_digests h rule a es) ≡ length es
 length-leaf_digests h rule a [] = refl
 length-leaf_digests h rule a (e ∷ es) = ap suc (length-leaf_digests h rule (suc a) es)
+
+-- the leaf digests of elements and more elements
+pub leaf_digests-append : {D : Type 0} (h : Hashing D) (rule : List ℕ → List ℕ) (a : ℕ) (es fs : List (List ℕ))
+    → leaf_digests h rule a (es ++ fs) ≡ leaf_digests h rule a es ++ leaf_digests h rule (a + length es) fs
+leaf_digests-append h rule a [] fs = ap (λ k. leaf_digests h rule k fs) (omega arith)
+leaf_digests-append h rule a (e ∷ es) fs =
+    ap (λ ds. h.leaf (size rule a) e ∷ ds) (leaf_digests-append h rule (suc a) es fs ∙ ap (λ k. leaf_digests h rule (suc a) es ++ leaf_digests h rule k fs) (omega arith))
 
 -- those that are appended to none
 pub leaves_given : {D : Type 0} (h : Hashing D) (rule : List ℕ → List ℕ) (a : ℕ) (es : List (Bor (List ℕ))) (none all read : List D)
@@ -31,11 +38,10 @@ module _ {D : Type 0} (h : Hashing D) (rule : List ℕ → List ℕ) where
   placed_digests a [] = refl
   placed_digests a (e ∷ es) = ap (λ ds. h.leaf (size rule a) e.now ∷ ds) (placed_digests (suc a) es)
 
-  -- the digests of leaves after others
-  digests-append : (a : ℕ) (es fs : List (Bor (List ℕ))) → leaf_digests h rule a (bytes_of (es ++ fs)) ≡ leaf_digests h rule a (bytes_of es) ++ leaf_digests h rule (a + length es) (bytes_of fs)
-  digests-append a [] fs = ap (λ k. leaf_digests h rule k (bytes_of fs)) (omega arith)
-  digests-append a (e ∷ es) fs =
-      ap (λ ds. h.leaf (size rule a) e.now ∷ ds) (digests-append (suc a) es fs ∙ ap (λ k. leaf_digests h rule (suc a) (bytes_of es) ++ leaf_digests h rule k (bytes_of fs)) (omega arith))
+  bytes_joined : (a : ℕ) (es fs : List (Bor (List ℕ))) → leaf_digests h rule a (bytes_of es) ++ leaf_digests h rule (a + length es) (bytes_of fs) ≡ leaf_digests h rule a (bytes_of (es ++ fs))
+  bytes_joined a es fs =
+      ap (λ n. leaf_digests h rule a (bytes_of es) ++ leaf_digests h rule (a + n) (bytes_of fs)) (sym (length-map es (λ e. e.now)))
+      ∙ sym (leaf_digests-append h rule a (bytes_of es) (bytes_of fs)) ∙ ap (leaf_digests h rule a) (sym (map-append (λ e. e.now) es fs))
 
   -- after k elements from place n on, those from place e on are left
   pub more_digests : (a n k e : ℕ) (es : List (Bor (List ℕ))) (before after all : List D) → n + k ≡ e → length (take k (drop n es)) ≡ k
@@ -47,7 +53,7 @@ module _ {D : Type 0} (h : Hashing D) (rule : List ℕ → List ℕ) where
       let left : drop e es ≡ drop k ys = ap (λ i. drop i es) (sym place) ∙ sym (drop-drop k n es) in
       let at : a + e ≡ a + n + length (take k ys) = omega (arith, place, long) in
       let whole : leaf_digests h rule (a + n) (bytes_of (take k ys)) ++ leaf_digests h rule (a + n + length (take k ys)) (bytes_of (drop k ys)) ≡ leaf_digests h rule (a + n) (bytes_of ys) =
-      sym (digests-append (a + n) (take k ys) (drop k ys)) ∙ ap (λ zs. leaf_digests h rule (a + n) (bytes_of zs)) (take-append-drop k ys) in
+      bytes_joined (a + n) (take k ys) (drop k ys) ∙ ap (λ zs. leaf_digests h rule (a + n) (bytes_of zs)) (take-append-drop k ys) in
       rw (step, left, at, append_assoc, whole) held
 
 -- one leaf more
