@@ -1,11 +1,11 @@
-//! The compression of a block, FIPS 180-4, section 6.2.2, on four blocks at once.
+//! The compression of a block, FIPS 180-4, section 6.2.2, on N blocks at once.
 
 ghost use Rattle.std.specs.Prelude.{◌≡◌, ℕ, ◌+◌, ◌*◌, ◌<◌, ◌≤◌, List, slice_index, slice_set, length};
 ghost use Rattle.sha2.specs.Sha256.{IsRoundsAt, IsWindow, add_state, compress, rounds, schedule, word_at};
 ghost use Rattle.merkle_lanes.specs.Lanes.{lane, lane_at, state_lane};
 
 use crate::vectors::{add, next_word, round};
-use std::simd::u32x4;
+use std::simd::Simd;
 
 // The constants of the 64 rounds.
 const K: [u32; 64] = [
@@ -21,95 +21,106 @@ const K: [u32; 64] = [
 
 // Round `t`, one of the first 16, whose word of the schedule is word `t` of the block.
 #[inline(always)]
-fn block_round(w: &[u32x4; 16], v: [u32x4; 8], t: usize) -> [u32x4; 8]
+fn block_round<const N: usize>(w: &[Simd<u32, N>; 16], v: &mut [Simd<u32, N>; 8], t: usize)
     requires { t < 16 }
-    ensures { (j : ℕ) → j < 4 → (b h : List ℕ) → IsWindow (lane j w.now) (schedule b 48) 16
-        → state_lane j v ≡ rounds h (schedule b 48) t
-        → state_lane j result ≡ rounds h (schedule b 48) (t + 1) }
+    ensures { (j : ℕ) → j < N → (b h : List ℕ) → IsWindow (lane j w.now) (schedule b 48) 16
+        → state_lane j v.old ≡ rounds h (schedule b 48) t
+        → state_lane j v.new ≡ rounds h (schedule b 48) (t + 1) }
 {
-    round(v, K[t], w[t])
+    round(v, K[t], w[t]);
 }
 
 // The four rounds from `t` on.
 #[inline(always)]
-fn four_block_rounds(w: &[u32x4; 16], v: [u32x4; 8], t: usize) -> [u32x4; 8]
+fn four_block_rounds<const N: usize>(w: &[Simd<u32, N>; 16], v: &mut [Simd<u32, N>; 8], t: usize)
     requires { t + 4 ≤ 16 }
-    ensures { (j : ℕ) → j < 4 → (b h : List ℕ) → IsWindow (lane j w.now) (schedule b 48) 16
-        → state_lane j v ≡ rounds h (schedule b 48) t
-        → state_lane j result ≡ rounds h (schedule b 48) (t + 4) }
+    ensures { (j : ℕ) → j < N → (b h : List ℕ) → IsWindow (lane j w.now) (schedule b 48) 16
+        → state_lane j v.old ≡ rounds h (schedule b 48) t
+        → state_lane j v.new ≡ rounds h (schedule b 48) (t + 4) }
 {
-    let v = block_round(w, v, t);
-    let v = block_round(w, v, t + 1);
-    let v = block_round(w, v, t + 2);
-    block_round(w, v, t + 3)
+    block_round(w, v, t);
+    block_round(w, v, t + 1);
+    block_round(w, v, t + 2);
+    block_round(w, v, t + 3);
 }
 
 // Round `16 * turn + place`, one from round 16 on, whose word of the schedule is computed first.
 #[inline(always)]
-fn schedule_round(w: &mut [u32x4; 16], v: [u32x4; 8], turn: usize, place: usize) -> [u32x4; 8]
+fn schedule_round<const N: usize>(
+    w: &mut [Simd<u32, N>; 16],
+    v: &mut [Simd<u32, N>; 8],
+    turn: usize,
+    place: usize,
+)
     requires low { 1 ≤ turn }
     requires high { turn < 4 }
     requires place { place < 16 }
-    ensures { (j : ℕ) → j < 4 → (b h : List ℕ)
-        → IsRoundsAt b h (lane j w.old) (state_lane j v) (16 * turn + place)
-        → IsRoundsAt b h (lane j w.new) (state_lane j result) (16 * turn + (place + 1)) }
+    ensures { (j : ℕ) → j < N → (b h : List ℕ)
+        → IsRoundsAt b h (lane j w.old) (state_lane j v.old) (16 * turn + place)
+        → IsRoundsAt b h (lane j w.new) (state_lane j v.new) (16 * turn + (place + 1)) }
 {
     let word = next_word(w, place);
-    round(v, K[16 * turn + place], word)
+    round(v, K[16 * turn + place], word);
 }
 
 // The four rounds from `16 * turn + place` on.
 #[inline(always)]
-fn four_schedule_rounds(w: &mut [u32x4; 16], v: [u32x4; 8], turn: usize, place: usize) -> [u32x4; 8]
+fn four_schedule_rounds<const N: usize>(
+    w: &mut [Simd<u32, N>; 16],
+    v: &mut [Simd<u32, N>; 8],
+    turn: usize,
+    place: usize,
+)
     requires low { 1 ≤ turn }
     requires high { turn < 4 }
     requires place { place + 4 ≤ 16 }
-    ensures { (j : ℕ) → j < 4 → (b h : List ℕ)
-        → IsRoundsAt b h (lane j w.old) (state_lane j v) (16 * turn + place)
-        → IsRoundsAt b h (lane j w.new) (state_lane j result) (16 * turn + (place + 4)) }
+    ensures { (j : ℕ) → j < N → (b h : List ℕ)
+        → IsRoundsAt b h (lane j w.old) (state_lane j v.old) (16 * turn + place)
+        → IsRoundsAt b h (lane j w.new) (state_lane j v.new) (16 * turn + (place + 4)) }
 {
-    let v = schedule_round(w, v, turn, place);
-    let v = schedule_round(w, v, turn, place + 1);
-    let v = schedule_round(w, v, turn, place + 2);
-    schedule_round(w, v, turn, place + 3)
+    schedule_round(w, v, turn, place);
+    schedule_round(w, v, turn, place + 1);
+    schedule_round(w, v, turn, place + 2);
+    schedule_round(w, v, turn, place + 3);
 }
 
-// The sums of the words of the hash value and of the working variables.
+// Adds the words of the working variables to those of the hash value.
 #[inline(always)]
-fn sums(state: &[u32x4; 8], v: &[u32x4; 8]) -> [u32x4; 8]
-    ensures { (j : ℕ) → j < 4 → state_lane j result ≡ add_state (state_lane j state.now) (state_lane j v.now) }
+fn add_words<const N: usize>(state: &mut [Simd<u32, N>; 8], v: &[Simd<u32, N>; 8])
+    ensures { (j : ℕ) → j < N → state_lane j state.new ≡ add_state (state_lane j state.old) (state_lane j v.now) }
 {
-    [
-        add(state[0], v[0]),
-        add(state[1], v[1]),
-        add(state[2], v[2]),
-        add(state[3], v[3]),
-        add(state[4], v[4]),
-        add(state[5], v[5]),
-        add(state[6], v[6]),
-        add(state[7], v[7]),
-    ]
+    let (a, b, c, d) = (state[0], state[1], state[2], state[3]);
+    let (e, f, g, h) = (state[4], state[5], state[6], state[7]);
+    state[0] = add(a, v[0]);
+    state[1] = add(b, v[1]);
+    state[2] = add(c, v[2]);
+    state[3] = add(d, v[3]);
+    state[4] = add(e, v[4]);
+    state[5] = add(f, v[5]);
+    state[6] = add(g, v[6]);
+    state[7] = add(h, v[7]);
 }
 
-/// Compresses four blocks into four hash values: vector k of `block` has word k of each block, and
-/// vector k of `state` word k of each hash value.
+/// Compresses N blocks into N hash values: vector k of `block` has word k of each block, and vector
+/// k of `state` word k of each hash value.
 #[inline(always)]
-pub fn compress(state: &mut [u32x4; 8], block: &[u32x4; 16])
-    ensures { (j : ℕ) → j < 4 → (b : List ℕ)
+pub fn compress<const N: usize>(state: &mut [Simd<u32, N>; 8], block: &[Simd<u32, N>; 16])
+    ensures { (j : ℕ) → j < N → (b : List ℕ)
         → ((k : ℕ) → k < 16 → slice_index (lane j block.now) k ≡ word_at b (4 * k))
         → state_lane j state.new ≡ compress (state_lane j state.old) b }
 {
     let mut w = *block;
-    let mut v = four_block_rounds(&w, *state, 0);
-    v = four_block_rounds(&w, v, 4);
-    v = four_block_rounds(&w, v, 8);
-    v = four_block_rounds(&w, v, 12);
+    let mut v = *state;
+    four_block_rounds(&w, &mut v, 0);
+    four_block_rounds(&w, &mut v, 4);
+    four_block_rounds(&w, &mut v, 8);
+    four_block_rounds(&w, &mut v, 12);
     // Sixteen rounds a turn, so that the place of each word in the ring is a constant.
     for turn in 1..4 {
-        v = four_schedule_rounds(&mut w, v, turn, 0);
-        v = four_schedule_rounds(&mut w, v, turn, 4);
-        v = four_schedule_rounds(&mut w, v, turn, 8);
-        v = four_schedule_rounds(&mut w, v, turn, 12);
+        four_schedule_rounds(&mut w, &mut v, turn, 0);
+        four_schedule_rounds(&mut w, &mut v, turn, 4);
+        four_schedule_rounds(&mut w, &mut v, turn, 8);
+        four_schedule_rounds(&mut w, &mut v, turn, 12);
     }
-    *state = sums(state, &v);
+    add_words(state, &v);
 }

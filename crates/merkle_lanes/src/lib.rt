@@ -19,13 +19,13 @@ ghost use Rattle.std.specs.Prelude.{◌≡◌, List, IfSome, length, take};
 ghost use Rattle.sha2.specs.Sha256.{sha256};
 ghost use Rattle.merkle_lanes.specs.Lanes.{joined_parts};
 
-use blocks::hash_blocks;
-use node::hash_nodes;
+use four::{hash_blocks, hash_nodes};
 use padding::padded;
 use sha2::{Digest, Sha256};
 
 mod blocks;
 mod compress;
+mod four;
 mod node;
 mod padding;
 mod vectors;

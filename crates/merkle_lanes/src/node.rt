@@ -1,96 +1,60 @@
-//! SHA-256 of four messages of 72 bytes, as those of parent nodes are. The padded message has two
-//! blocks, the last of which is nearly all padding: its words are constants here, which saves a tenth
-//! of the time.
+//! The hash values of N messages of 72 bytes, as those of parent nodes are. The padded message has
+//! two blocks, the last of which is nearly all padding: its words are constants here, which saves a
+//! tenth of the time.
 
-ghost use Rattle.std.specs.Prelude.{◌≡◌, ℕ, ◌+◌, ◌*◌, ◌<◌, ◌≤◌, List, [], ◌∷◌, slice_index};
-ghost use Rattle.sha2.specs.Sha256.{padded_message, sha256, word_at};
-ghost use Rattle.merkle_lanes.specs.Lanes.{lane, message};
+ghost use Rattle.std.specs.Prelude.{◌≡◌, ℕ, ◌+◌, ◌*◌, ◌<◌, slice_index, length};
+ghost use Rattle.sha2.specs.Sha256.{digest_bytes, padded_message, sha256, word_at};
+ghost use Rattle.merkle_lanes.specs.Lanes.{lane, message, state_lane};
 
-use crate::blocks::{digest, initial_states};
+use crate::blocks::{initialize, load_block, words};
 use crate::compress::compress;
 use crate::vectors::splat;
-use std::simd::u32x4;
+use std::simd::Simd;
 
-// The word at byte `i`, the most significant byte first.
+// Sets `block` to the last eight bytes of each message and the padding of FIPS 180-4, section 5.1.1:
+// a bit 1, zeros, and the length, 576 bits.
 #[inline(always)]
-fn load(bytes: &[u8; 72], i: usize) -> u32
-    requires { i + 4 ≤ 72 }
-    ensures { result ≡ word_at bytes.now i }
-{
-    u32::from_be_bytes([bytes[i], bytes[i + 1], bytes[i + 2], bytes[i + 3]])
-}
-
-// The word at byte `i` of each message.
-#[inline(always)]
-fn words(a: &[u8; 72], b: &[u8; 72], c: &[u8; 72], d: &[u8; 72], i: usize) -> u32x4
-    requires { i + 4 ≤ 72 }
-    ensures { (j : ℕ) → j < 4 → slice_index result j ≡ word_at (message (a.now ∷ b.now ∷ c.now ∷ d.now ∷ []) j) i }
-{
-    u32x4::from_array([load(a, i), load(b, i), load(c, i), load(d, i)])
-}
-
-// The first 64 bytes of each message.
-#[inline(always)]
-fn first_block(a: &[u8; 72], b: &[u8; 72], c: &[u8; 72], d: &[u8; 72]) -> [u32x4; 16]
-    ensures { (j : ℕ) → j < 4 → (k : ℕ) → k < 16
-        → slice_index (lane j result) k ≡ word_at (message (a.now ∷ b.now ∷ c.now ∷ d.now ∷ []) j) (4 * k) }
-{
-    let mut block = [splat(0); 16];
-    for i in 0..16 {
-        block[i] = words(a, b, c, d, 4 * i);
-    }
-    block
-}
-
-// The last eight bytes of each message and the padding of FIPS 180-4, section 5.1.1: a bit 1, zeros,
-// and the length, 576 bits.
-#[inline(always)]
-fn last_block(a: &[u8; 72], b: &[u8; 72], c: &[u8; 72], d: &[u8; 72]) -> [u32x4; 16]
-    ensures { (j : ℕ) → j < 4 → (k : ℕ) → k < 16
-        → slice_index (lane j result) k ≡ word_at (padded_message (message (a.now ∷ b.now ∷ c.now ∷ d.now ∷ []) j)) (64 + 4 * k) }
+fn load_last_block<const N: usize>(block: &mut [Simd<u32, N>; 16], messages: &[&[u8]])
+    requires number { length messages.now ≡ N }
+    requires long { (j : ℕ) → j < N → length (message messages.now j) ≡ 72 }
+    ensures { (j : ℕ) → j < N → (k : ℕ) → k < 16
+        → slice_index (lane j block.new) k ≡ word_at (padded_message (message messages.now j)) (64 + 4 * k) }
 {
     let zero = splat(0);
-    [
-        words(a, b, c, d, 64),
-        words(a, b, c, d, 68),
-        splat(0x8000_0000),
-        zero,
-        zero,
-        zero,
-        zero,
-        zero,
-        zero,
-        zero,
-        zero,
-        zero,
-        zero,
-        zero,
-        zero,
-        splat(576),
-    ]
+    block[0] = words(messages, 64);
+    block[1] = words(messages, 68);
+    block[2] = splat(0x8000_0000);
+    block[3] = zero;
+    block[4] = zero;
+    block[5] = zero;
+    block[6] = zero;
+    block[7] = zero;
+    block[8] = zero;
+    block[9] = zero;
+    block[10] = zero;
+    block[11] = zero;
+    block[12] = zero;
+    block[13] = zero;
+    block[14] = zero;
+    block[15] = splat(576);
 }
 
-/// Returns the SHA-256 digests of four messages of 72 bytes, in their order.
-pub fn hash_nodes(
-    a: &[u8; 72],
-    b: &[u8; 72],
-    c: &[u8; 72],
-    d: &[u8; 72],
-) -> ([u8; 32], [u8; 32], [u8; 32], [u8; 32])
-    ensures first { result.0 ≡ sha256 a.now }
-    ensures second { result.1 ≡ sha256 b.now }
-    ensures third { result.2 ≡ sha256 c.now }
-    ensures fourth { result.3 ≡ sha256 d.now }
+/// Sets `state` to the words of the digests of the messages. `block` is room for a block of each.
+///
+/// Requires that there are N messages, each of 72 bytes.
+#[inline(always)]
+pub fn compress_nodes<const N: usize>(
+    state: &mut [Simd<u32, N>; 8],
+    block: &mut [Simd<u32, N>; 16],
+    messages: &[&[u8]],
+)
+    requires number { length messages.now ≡ N }
+    requires long { (j : ℕ) → j < N → length (message messages.now j) ≡ 72 }
+    ensures { (j : ℕ) → j < N → digest_bytes (state_lane j state.new) 8 ≡ sha256 (message messages.now j) }
 {
-    let mut state = initial_states();
-    let first = first_block(a, b, c, d);
-    compress(&mut state, &first);
-    let last = last_block(a, b, c, d);
-    compress(&mut state, &last);
-    (
-        digest(&state, 0),
-        digest(&state, 1),
-        digest(&state, 2),
-        digest(&state, 3),
-    )
+    initialize(state);
+    load_block(block, messages, 0);
+    compress(state, block);
+    load_last_block(block, messages);
+    compress(state, block);
 }

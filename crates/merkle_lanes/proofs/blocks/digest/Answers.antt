@@ -10,10 +10,10 @@ use Rattle.merkle_lanes.proofs.blocks.digest.Goals as goal
 
 pub loop-i-init : goal.loop-i-init
 unfolding digest_bytes
-loop-i-init c = search rules
+loop-i-init g c = search rules
 
 pub loop-i-preserved : goal.loop-i-preserved
-loop-i-preserved c =
+loop-i-preserved g c =
     let state = c.args.state.now in (
       search (rules, overwrites),
       digest_more c.loop-i.out (state_lane c.args.j state) _ c.loop-i.i _ c.loop-i.invariant.1 (omega arith)
@@ -21,6 +21,6 @@ loop-i-preserved c =
     )
 
 pub returns : goal.returns
-returns c =
+returns g c =
     let done : c.loop-i.i ≡ 8 = omega arith in
     sym (take_all 32 c.loop-i.out (omega arith)) ∙ rw done at c.loop-i.invariant.1

@@ -5,6 +5,6 @@ use Rattle.merkle_lanes.proofs.LaneLemmas.{slice_index-lane}
 use Rattle.merkle_lanes.proofs.compress.block_round.Goals as goal
 
 pub returns : goal.returns
-returns c j h = λ b i window held.
-    rounds_first b i (lane j c.args.w.now) (state_lane j c.args.v) c.args.t _ _ _ c.requires window held refl
+returns g c j h = λ b i window held.
+    rounds_first b i (lane j c.args.w.now) (state_lane j c.args.v.now) c.args.t _ _ _ c.requires window held refl
     (sym (slice_index-lane j c.args.w.now c.args.t)) (c.round.ensures j h)

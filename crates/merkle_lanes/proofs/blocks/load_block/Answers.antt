@@ -3,10 +3,10 @@ use Rattle.std.proofs.lemmas.List.{get_or-set_same, get_or-set_other}
 use Rattle.std.proofs.lemmas.Bool.{cases_lt}
 use Rattle.merkle_lanes.specs.Lanes.{lane}
 use Rattle.merkle_lanes.proofs.LaneLemmas.{lane-set, length-lane}
-use Rattle.merkle_lanes.proofs.blocks.block_at.Goals as goal
+use Rattle.merkle_lanes.proofs.blocks.load_block.Goals as goal
 
 pub loop-i-preserved : goal.loop-i-preserved
-loop-i-preserved c = (
+loop-i-preserved g c = (
   search rules,
   λ j h k lt.
       let x = slice_index c.words.result j in

@@ -1,0 +1,66 @@
+//! Messages in four lanes. The number of lanes is chosen here alone: what is called takes any number.
+
+ghost use Rattle.std.specs.Prelude.{◌≡◌, ◌≤◌};
+ghost use Rattle.sha2.specs.Sha256.{digest_bytes, hash_after, initial_hash_256, sha256};
+ghost use Rattle.merkle_lanes.specs.Lanes.{state_lane};
+
+use crate::blocks::{compress_blocks, digest};
+use crate::node::compress_nodes;
+use std::simd::u32x4;
+
+// The bytes of the hash values, in the order of the lanes.
+#[inline(always)]
+fn digests(state: &[u32x4; 8]) -> ([u8; 32], [u8; 32], [u8; 32], [u8; 32])
+    ensures first { result.0 ≡ digest_bytes (state_lane 0 state.now) 8 }
+    ensures second { result.1 ≡ digest_bytes (state_lane 1 state.now) 8 }
+    ensures third { result.2 ≡ digest_bytes (state_lane 2 state.now) 8 }
+    ensures fourth { result.3 ≡ digest_bytes (state_lane 3 state.now) 8 }
+{
+    (
+        digest(state, 0),
+        digest(state, 1),
+        digest(state, 2),
+        digest(state, 3),
+    )
+}
+
+/// Returns the bytes of the hash values of four messages after their first `count` blocks, in the
+/// order of the messages.
+///
+/// Requires that there are at most two blocks.
+pub fn hash_blocks(
+    a: &[u8; 128],
+    b: &[u8; 128],
+    c: &[u8; 128],
+    d: &[u8; 128],
+    count: usize,
+) -> ([u8; 32], [u8; 32], [u8; 32], [u8; 32])
+    requires { count ≤ 2 }
+    ensures first { result.0 ≡ digest_bytes (hash_after initial_hash_256 a.now count) 8 }
+    ensures second { result.1 ≡ digest_bytes (hash_after initial_hash_256 b.now count) 8 }
+    ensures third { result.2 ≡ digest_bytes (hash_after initial_hash_256 c.now count) 8 }
+    ensures fourth { result.3 ≡ digest_bytes (hash_after initial_hash_256 d.now count) 8 }
+{
+    let mut state = [u32x4::splat(0); 8];
+    let mut block = [u32x4::splat(0); 16];
+    compress_blocks(&mut state, &mut block, &[a, b, c, d], count);
+    digests(&state)
+}
+
+/// Returns the SHA-256 digests of four messages of 72 bytes, in their order.
+pub fn hash_nodes(
+    a: &[u8; 72],
+    b: &[u8; 72],
+    c: &[u8; 72],
+    d: &[u8; 72],
+) -> ([u8; 32], [u8; 32], [u8; 32], [u8; 32])
+    ensures first { result.0 ≡ sha256 a.now }
+    ensures second { result.1 ≡ sha256 b.now }
+    ensures third { result.2 ≡ sha256 c.now }
+    ensures fourth { result.3 ≡ sha256 d.now }
+{
+    let mut state = [u32x4::splat(0); 8];
+    let mut block = [u32x4::splat(0); 16];
+    compress_nodes(&mut state, &mut block, &[a, b, c, d]);
+    digests(&state)
+}
