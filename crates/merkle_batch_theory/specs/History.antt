@@ -35,7 +35,8 @@ pub record IsStep {D : Type 0} (h : Hashing D) (rule : List ℕ → List ℕ) (r
   pub peaks_before : r.peaks_before ≡ peak_digests h rule X
   pub peaks_after : r.peaks_after ≡ peak_digests h rule Y
   pub appended : r.appended ≡ drop r.before (node_digests h rule Y)
-  pub overwritten : (p : ℕ) (t : Tree) → slice_get (forest rule (length X)).nodes p ≡ Some t → get r.overwritten p ≡ cond (is_dirty (get r.overwritten) t) (Some (digest_at h Y t)) None
+  pub overwritten : (p : ℕ) (t : Tree) → slice_get (forest rule (length X)).nodes p ≡ Some t
+      → get r.overwritten p ≡ cond (is_dirty (get r.overwritten) t) (Some (digest_at h Y t)) None
   pub old : (p : ℕ) → r.before ≤ p → get r.overwritten p ≡ None
 
 -- the records stand on lists: each records the change of one list to the next

@@ -82,14 +82,16 @@ pub fn collision<D>()
 /// digests of the list of the `Mem`. If it is that list, the `Mem` then agrees with the last list;
 /// if it is not, the two lists collide at a node.
 pub fn acceptance<D>()
-    ensures accepted { (h : Hashing D) → (rule : List ℕ → List ℕ) → EqDecides h → (k : MerkleizedModel D) → (ls : List (List D)) → (c : Contents D) → (X : List D)
-        → (i : ℕ) → IsHistory h rule (records k) ls → Agrees h rule c X → matched h.same c.size (held_peaks rule (length X) c) k ≡ Some i
+    ensures accepted { (h : Hashing D) → (rule : List ℕ → List ℕ) → EqDecides h
+        → (k : MerkleizedModel D) → (ls : List (List D)) → (c : Contents D) → (X : List D) → (i : ℕ)
+        → IsHistory h rule (records k) ls → Agrees h rule c X → matched h.same c.size (held_peaks rule (length X) c) k ≡ Some i
         → (Z : List D) × (slice_get ls i ≡ Some Z) × (length X ≡ length Z) × (peak_digests h rule X ≡ peak_digests h rule Z)
         × (X ≡ Z → Agrees h rule (with_records (drop i (records k)) c) (last_list ls)) × ((X ≡ Z → ⊥) → Collide h rule X Z) }
-    ensures applied { (h : Hashing D) → (rule : List ℕ → List ℕ) → EqDecides h → (k : MerkleizedModel D) → (ls : List (List D)) → (c d : Contents D) → (X : List D)
+    ensures applied { (h : Hashing D) → (rule : List ℕ → List ℕ) → EqDecides h
+        → (k : MerkleizedModel D) → (ls : List (List D)) → (c d : Contents D) → (X : List D)
         → IsHistory h rule (records k) ls → Agrees h rule c X → applied h.same rule (length X) k c ≡ Ok d → IsAppliedTo h rule k ls X c d }
-    ensures accepts { (h : Hashing D) → (rule : List ℕ → List ℕ) → EqDecides h → (k : MerkleizedModel D) → (ls : List (List D)) → (c : Contents D) → (X : List D)
-        → (i : ℕ)
+    ensures accepts { (h : Hashing D) → (rule : List ℕ → List ℕ) → EqDecides h
+        → (k : MerkleizedModel D) → (ls : List (List D)) → (c : Contents D) → (X : List D) → (i : ℕ)
         → IsHistory h rule (records k) ls → slice_get ls i ≡ Some X → i ≤ length k.ancestors → Agrees h rule c X
         → is_some (matched h.same c.size (held_peaks rule (length X) c) k) ≡ true }
     ensures peaks { (h : Hashing D) → (rule : List ℕ → List ℕ) → (c : Contents D) → (X : List D) → Agrees h rule c X
@@ -100,7 +102,8 @@ pub fn acceptance<D>()
 /// that agrees with one of those lists.
 pub fn reading<D>()
     ensures newest { (h : Hashing D) → (rule : List ℕ → List ℕ) → (rs : List (RecordModel D)) → (X : List D) → (ls : List (List D)) → (p : ℕ)
-        → IsHistory h rule rs (X ∷ ls) → slice_get (node_digests h rule (last_list (X ∷ ls))) p ≡ option_or (newest rs p) (slice_get (node_digests h rule X) p) }
+        → IsHistory h rule rs (X ∷ ls)
+        → slice_get (node_digests h rule (last_list (X ∷ ls))) p ≡ option_or (newest rs p) (slice_get (node_digests h rule X) p) }
     ensures right { (h : Hashing D) → (rule : List ℕ → List ℕ) → (rs : List (RecordModel D)) → (X : List D) → (ls : List (List D)) → (base : Contents D)
         → IsBased h rule rs X ls base → (p : ℕ) → (d : D) → read_over rs base p ≡ Some d
         → slice_get (node_digests h rule (last_list (X ∷ ls))) p ≡ Some d }
@@ -207,7 +210,8 @@ pub fn proving()
 pub fn showing<D>()
     ensures empty { (h : Hashing D) → (rule : List ℕ → List ℕ) → Agrees h rule (record { boundary = 0; size = 0; node = λ p. None }) [] }
     ensures agrees { (h : Hashing D) → (rule : List ℕ → List ℕ) → (c : Contents D) → (X : List D) → Agrees h rule c X → Shows h rule c.size c.node X }
-    ensures batch { (h : Hashing D) → (rule : List ℕ → List ℕ) → (k : MerkleizedModel D) → (X : List D) → (ls : List (List D)) → IsHistory h rule (records k) (X ∷ ls)
+    ensures batch { (h : Hashing D) → (rule : List ℕ → List ℕ) → (k : MerkleizedModel D) → (X : List D) → (ls : List (List D))
+        → IsHistory h rule (records k) (X ∷ ls)
         → Shows h rule (after k.own) (newest (records k)) (last_list (X ∷ ls)) }
     ensures taken { (h : Hashing D) → (rule : List ℕ → List ℕ) → (X : List D) → (n p : ℕ) → (t : Tree) → n ≤ length X
         → slice_get (forest rule n).nodes p ≡ Some t → slice_get (node_digests h rule (take n X)) p ≡ slice_get (node_digests h rule X) p }
@@ -251,8 +255,10 @@ pub fn worked_rows()
     ensures stale { (matched xor.same 4 (16 ∷ 7 ∷ []) second_batch ≡ None) × (refusal 4 second_batch ≡ StaleBatch 0 4) }
     ensures dropped { refusal 0 (record second_batch { ancestors = [] }) ≡ AncestorDropped 4 0 }
     ensures stale_of_that_size { refusal 3 (record second_batch { ancestors = [] }) ≡ StaleBatch 0 3 }
-    ensures applies { map (with_records (first_record ∷ second_record ∷ []) nothing).node (range_with_len 0 5) ≡ Some 17 ∷ Some 3 ∷ Some 16 ∷ Some 7 ∷ None ∷ [] }
-    ensures prunes { map (with_record change (pruned mmr_merges 4 five)).node (range_with_len 0 9) ≡ None ∷ None ∷ None ∷ None ∷ None ∷ None ∷ Some 19 ∷ Some 2 ∷ None ∷ [] }
+    ensures applies { map (with_records (first_record ∷ second_record ∷ []) nothing).node (range_with_len 0 5)
+        ≡ Some 17 ∷ Some 3 ∷ Some 16 ∷ Some 7 ∷ None ∷ [] }
+    ensures prunes { map (with_record change (pruned mmr_merges 4 five)).node (range_with_len 0 9)
+        ≡ None ∷ None ∷ None ∷ None ∷ None ∷ None ∷ Some 19 ∷ Some 2 ∷ None ∷ [] }
     ensures stands { IsHistory xor mmr_merges (first_record ∷ second_record ∷ []) ([] ∷ (1 ∷ 3 ∷ []) ∷ (17 ∷ 3 ∷ 7 ∷ []) ∷ []) }
     ensures needs { IsNeeded mmr_merges (at_two 0 0) 2 2 (leaf 1 1) }
     ensures collide { Collide xor mmr_merges (1 ∷ 3 ∷ []) (2 ∷ 0 ∷ []) }

@@ -100,9 +100,11 @@ pub trait Read: Sized {
         ensures refused { IfErr result (λ e. refuses cfg.now input.old.now e) }
         ensures unchanged { OnErr result (input.new.now ≡ input.old.now) };
 
-    ghost refused_spells_none: { (cfg : Self.Cfg) (b : List ℕ) (e : DecodeError) → refuses cfg b e → e ≢ DecodeError.OutOfMemory → (x : Self) (rest : List ℕ) → within cfg x → ¬ b ≡ spelled_by x ++ rest };
+    ghost refused_spells_none: { (cfg : Self.Cfg) (b : List ℕ) (e : DecodeError) → refuses cfg b e → e ≢ DecodeError.OutOfMemory
+        → (x : Self) (rest : List ℕ) → within cfg x → ¬ b ≡ spelled_by x ++ rest };
 
-    ghost one_refusal: { (cfg : Self.Cfg) (b : List ℕ) (e f : DecodeError) → refuses cfg b e → refuses cfg b f → e ≢ DecodeError.OutOfMemory → f ≢ DecodeError.OutOfMemory → e ≡ f };
+    ghost one_refusal: { (cfg : Self.Cfg) (b : List ℕ) (e f : DecodeError) → refuses cfg b e → refuses cfg b f
+        → e ≢ DecodeError.OutOfMemory → f ≢ DecodeError.OutOfMemory → e ≡ f };
 }
 
 // Decodes the digest that `bytes` begin with, and returns it with the bytes after it.

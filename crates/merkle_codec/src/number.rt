@@ -170,7 +170,8 @@ impl<F: Family> Read for Position<F> {
         Ok(Position::new(number))
     }
 
-    ghost refused_spells_none = { λ _ b e h _ x rest within. IsRefusalUpTo_spells_none F.MAX_NODES Invalid b e h (lawful_nodes F.rule F.MAX_LEAVES F.MAX_NODES F.lawful) x rest within };
+    ghost refused_spells_none = { λ _ b e h _ x rest within.
+        IsRefusalUpTo_spells_none F.MAX_NODES Invalid b e h (lawful_nodes F.rule F.MAX_LEAVES F.MAX_NODES F.lawful) x rest within };
 
     ghost one_refusal = { λ _ b e f h k _ _. IsRefusalUpTo_once F.MAX_NODES Invalid b e f h k };
 }
@@ -227,7 +228,8 @@ impl<F: Family> Read for Location<F> {
         Ok(Location::new(number))
     }
 
-    ghost refused_spells_none = { λ _ b e h _ x rest within. IsRefusalUpTo_spells_none F.MAX_LEAVES Invalid b e h (lawful_locations F.rule F.MAX_LEAVES F.MAX_NODES F.lawful) x rest within };
+    ghost refused_spells_none = { λ _ b e h _ x rest within.
+        IsRefusalUpTo_spells_none F.MAX_LEAVES Invalid b e h (lawful_locations F.rule F.MAX_LEAVES F.MAX_NODES F.lawful) x rest within };
 
     ghost one_refusal = { λ _ b e f h k _ _. IsRefusalUpTo_once F.MAX_LEAVES Invalid b e f h k };
 }

@@ -211,7 +211,9 @@ impl<F: Family, D: Digest> Read for Proof<F, D> {
         }
     }
 
-    ghost refused_spells_none = { λ limit b e h memory p rest within k. memory (IsProofReadRefusal_of_spelling D.bytes D.SIZE (λ x. D.one_length (D.bytes x) (D.bytes_spell x)) D.Spells D.bytes_spell F.MAX_LEAVES limit (lawful_locations F.rule F.MAX_LEAVES F.MAX_NODES F.lawful) b e h p rest within k) };
+    ghost refused_spells_none = { λ limit b e h memory p rest within k.
+        memory (IsProofReadRefusal_of_spelling D.bytes D.SIZE (λ x. D.one_length (D.bytes x) (D.bytes_spell x)) D.Spells D.bytes_spell
+        F.MAX_LEAVES limit (lawful_locations F.rule F.MAX_LEAVES F.MAX_NODES F.lawful) b e h p rest within k) };
 
     ghost one_refusal = { λ limit b e f h k x y. IsProofReadRefusal_once D.SIZE D.Spells F.MAX_LEAVES limit b e f h k x y };
 }

@@ -90,12 +90,14 @@ pub fn mountain_belt()
 pub fn worked_rows()
     ensures range_positions { map (size mmr_merges) (range_with_len 0 16) ≡ 0 ∷ 1 ∷ 3 ∷ 4 ∷ 7 ∷ 8 ∷ 10 ∷ 11 ∷ 15 ∷ 16 ∷ 18 ∷ 19 ∷ 22 ∷ 23 ∷ 25 ∷ 26 ∷ [] }
     ensures range_peaks { map placed (peaks_of mmr_merges 11) ≡ (14, 3) ∷ (17, 1) ∷ (18, 0) ∷ [] }
-    ensures range_parents { map (parent_heights mmr_merges) (range_with_len 0 8) ≡ [] ∷ (1 ∷ []) ∷ [] ∷ (1 ∷ 2 ∷ []) ∷ [] ∷ (1 ∷ []) ∷ [] ∷ (1 ∷ 2 ∷ 3 ∷ []) ∷ [] }
+    ensures range_parents { map (parent_heights mmr_merges) (range_with_len 0 8)
+        ≡ [] ∷ (1 ∷ []) ∷ [] ∷ (1 ∷ 2 ∷ []) ∷ [] ∷ (1 ∷ []) ∷ [] ∷ (1 ∷ 2 ∷ 3 ∷ []) ∷ [] }
     ensures belt_positions { map (size mmb_merges) (range_with_len 0 16) ≡ 0 ∷ 1 ∷ 3 ∷ 4 ∷ 6 ∷ 8 ∷ 10 ∷ 11 ∷ 13 ∷ 15 ∷ 17 ∷ 19 ∷ 21 ∷ 23 ∷ 25 ∷ 26 ∷ [] }
     ensures belt_peaks_8 { map placed (peaks_of mmb_merges 8) ≡ (7, 2) ∷ (9, 1) ∷ (12, 1) ∷ [] }
     ensures belt_peaks_11 { map placed (peaks_of mmb_merges 11) ≡ (18, 3) ∷ (16, 1) ∷ (17, 0) ∷ [] }
     ensures belt_parents { map (parent_heights mmb_merges) (range_with_len 0 16)
-        ≡ [] ∷ (1 ∷ []) ∷ [] ∷ (1 ∷ []) ∷ (2 ∷ []) ∷ (1 ∷ []) ∷ [] ∷ (1 ∷ []) ∷ (2 ∷ []) ∷ (1 ∷ []) ∷ (3 ∷ []) ∷ (1 ∷ []) ∷ (2 ∷ []) ∷ (1 ∷ []) ∷ [] ∷ (1 ∷ []) ∷ [] }
+        ≡ [] ∷ (1 ∷ []) ∷ [] ∷ (1 ∷ []) ∷ (2 ∷ []) ∷ (1 ∷ []) ∷ [] ∷ (1 ∷ []) ∷ (2 ∷ []) ∷ (1 ∷ [])
+        ∷ (3 ∷ []) ∷ (1 ∷ []) ∷ (2 ∷ []) ∷ (1 ∷ []) ∷ [] ∷ (1 ∷ []) ∷ [] }
 
     // Leaf 9 is added when there are two pairs of equal peaks, and the newer pair is merged.
     ensures belt_pairs { (0 ∷ peak_heights mmb_merges 9 ≡ 0 ∷ 0 ∷ 2 ∷ 2 ∷ []) × (peak_heights mmb_merges 10 ≡ 1 ∷ 2 ∷ 2 ∷ []) }

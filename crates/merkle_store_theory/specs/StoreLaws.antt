@@ -76,5 +76,6 @@ ShorterIsNext D = (s : Scheme D) (v : StoreValue D) (a b : ℕ) → 0 < length (
 
 -- the store of a list's honest proof answers its honest proofs
 abbrev pub HonestStoreIsHonest : Type 0 → Type 0
-HonestStoreIsHonest D = (s : Scheme D) (xs : List D) (k : ℕ) (r : RangeInput D) (root : D) (a b : ℕ) → IsHonestNonempty s xs k r → AcceptsNonempty s r root → a < b → r.start ≤ a → b ≤ end_of r
+HonestStoreIsHonest D = (s : Scheme D) (xs : List D) (k : ℕ) (r : RangeInput D) (root : D) (a b : ℕ)
+    → IsHonestNonempty s xs k r → AcceptsNonempty s r root → a < b → r.start ≤ a → b ≤ end_of r
     → store_proof s (store_of s r root) a b ≡ range_digests s xs k a b

@@ -9,11 +9,18 @@ use Rattle.merkle_store_theory.specs.StoreValue.{StoreValue, store_of}
 
 -- the digest of a node is its position, and a fold writes two of them one after the other
 abbrev pub numbered : Bagging → Scheme ℕ
-numbered bagging = record { hashing = record xor_hashing { node = λ p l r. p; fold = λ a b. 100 * a + b }; rule = mmr_merges; max_leaves = 100; bagging = bagging; domain = 0 }
+numbered bagging = record {
+  hashing = record xor_hashing { node = λ p l r. p; fold = λ a b. 100 * a + b };
+  rule = mmr_merges;
+  max_leaves = 100;
+  bagging = bagging;
+  domain = 0;
+}
 
 -- the store of a proof of leaves of seven, with that inactive count
 abbrev pub of_seven : Bagging → (inactive : ℕ) → (digests : List ℕ) → (start : ℕ) → (elements : List ℕ) → StoreValue ℕ
-of_seven bagging inactive digests start elements = store_of (numbered bagging) (record { leaves = 7; inactive = inactive; digests = digests; start = start; elements = elements }) 0
+of_seven bagging inactive digests start elements =
+    store_of (numbered bagging) (record { leaves = 7; inactive = inactive; digests = digests; start = start; elements = elements }) 0
 
 -- those of the last three of them, of all, and, backward, of all but the last
 abbrev pub last_three : Bagging → (inactive : ℕ) → StoreValue ℕ
