@@ -50,7 +50,8 @@ pub record AreCoordinates (rule : List ℕ → List ℕ) (max_leaves : ℕ) (roo
   pub aligned : (n p : ℕ) (t : Tree) → n ≤ max_leaves → slice_get (forest rule n).nodes p ≡ Some t → (a : ℕ) × (first_leaf t ≡ a * 2 ^ height t)
   pub born : (n p : ℕ) (t : Tree) → n ≤ max_leaves → slice_get (forest rule n).nodes p ≡ Some t → IsBirthSize rule p (birth (first_leaf t) (height t))
   -- over each stretch of 2 ^ h leaves from a multiple of 2 ^ h on stands a node, from that leaf count on
-  pub exists : (n s a h : ℕ) → n ≤ max_leaves → s ≡ a * 2 ^ h → birth s h ≤ n → (p : ℕ) × (t : Tree) × (slice_get (forest rule n).nodes p ≡ Some t) × (first_leaf t ≡ s) × (height t ≡ h)
+  pub exists : (n s a h : ℕ) → n ≤ max_leaves → s ≡ a * 2 ^ h → birth s h ≤ n
+      → (p : ℕ) × (t : Tree) × (slice_get (forest rule n).nodes p ≡ Some t) × (first_leaf t ≡ s) × (height t ≡ h)
   -- that leaf count is before the end of the stretch twice as wide
   pub born_before_end : (s h : ℕ) → birth s h < s + 2 ^ suc h
   -- position and height tell the first leaf

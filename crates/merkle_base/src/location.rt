@@ -92,7 +92,8 @@ impl<F: Family> TryFrom<Position<F>> for Location<F> {
 
     type Error = Error<F>;
 
-    ghost try_from_gives = { λ p r. (F.MAX_NODES < p → r ≡ Err (PositionOverflow p)) × (p ≤ F.MAX_NODES → ((n : ℕ) → size F.rule n ≡ p → r ≡ Ok n) × (((n : ℕ) → size F.rule n ≢ p) → r ≡ Err (NonLeaf p))) };
+    ghost try_from_gives = { λ p r. (F.MAX_NODES < p → r ≡ Err (PositionOverflow p))
+        × (p ≤ F.MAX_NODES → ((n : ℕ) → size F.rule n ≡ p → r ≡ Ok n) × (((n : ℕ) → size F.rule n ≢ p) → r ≡ Err (NonLeaf p))) };
 
     fn try_from(position: Position<F>) -> Result<Self, Error<F>> {
         if !position.is_valid() {

@@ -9,7 +9,8 @@ use Rattle.merkle_batch_theory.specs.History.{IsHistory, last_list}
 use Rattle.merkle_batch_theory.specs.Collision.{Collide}
 
 -- a batch that stands on lists was applied to a structure that agreed with X
-pub record IsAppliedTo {D : Type 0} (h : Hashing D) (rule : List ℕ → List ℕ) (batch : MerkleizedModel D) (ls : List (List D)) (X : List D) (old new : Contents D) : Type 0 where
+pub record IsAppliedTo {D : Type 0} (h : Hashing D) (rule : List ℕ → List ℕ)
+    (batch : MerkleizedModel D) (ls : List (List D)) (X : List D) (old new : Contents D) : Type 0 where
   -- the state that was matched, and its list
   pub place : ℕ
   pub list : List D

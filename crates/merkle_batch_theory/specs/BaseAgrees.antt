@@ -6,7 +6,8 @@ use Rattle.merkle_batch_theory.specs.Records.{RecordModel}
 use Rattle.merkle_batch_theory.specs.History.{IsHistory}
 
 -- the records stand on X and the lists after it, and the base agrees with one of these
-pub record IsBased {D : Type 0} (h : Hashing D) (rule : List ℕ → List ℕ) (rs : List (RecordModel D)) (X : List D) (ls : List (List D)) (base : Contents D) : Type 0 where
+pub record IsBased {D : Type 0} (h : Hashing D) (rule : List ℕ → List ℕ)
+    (rs : List (RecordModel D)) (X : List D) (ls : List (List D)) (base : Contents D) : Type 0 where
   pub stands : IsHistory h rule rs (X ∷ ls)
   pub place : ℕ
   pub list : List D

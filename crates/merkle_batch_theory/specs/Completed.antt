@@ -14,5 +14,6 @@ pub record IsCompleted {D : Type 0} (h : Hashing D) (rule : List ℕ → List �
   pub peaks_before : s.peaks_before ≡ peak_digests h rule X
   pub peaks_after : s.peaks_after ≡ peak_digests h rule (edited rule r X)
   pub appended : s.appended ≡ drop s.before (node_digests h rule (edited rule r X))
-  pub overwritten : (p : ℕ) (t : Tree) → slice_get (forest rule (length X)).nodes p ≡ Some t → get s.overwritten p ≡ cond (is_dirty (get r.overwritten) t) (Some (digest_at h (edited rule r X) t)) None
+  pub overwritten : (p : ℕ) (t : Tree) → slice_get (forest rule (length X)).nodes p ≡ Some t
+      → get s.overwritten p ≡ cond (is_dirty (get r.overwritten) t) (Some (digest_at h (edited rule r X) t)) None
   pub old : (p : ℕ) → s.before ≤ p → get s.overwritten p ≡ None

@@ -13,7 +13,11 @@ overwritten_by newer (Some d) = Some (unwrap_or newer d)
 
 -- a record laid over the old nodes, an overwrite of a node that is not held being dropped, and its new nodes appended
 abbrev pub with_record : {D : Type 0} → RecordModel D → Contents D → Contents D
-with_record r c = record { boundary = c.boundary; size = c.size + length r.appended; node = λ p. cond (nat_lt p c.size) (overwritten_by (get r.overwritten p) (c.node p)) (slice_get r.appended (p - c.size)) }
+with_record r c = record {
+  boundary = c.boundary;
+  size = c.size + length r.appended;
+  node = λ p. cond (nat_lt p c.size) (overwritten_by (get r.overwritten p) (c.node p)) (slice_get r.appended (p - c.size));
+}
 
 -- record after record
 abbrev pub with_records : {D : Type 0} → List (RecordModel D) → Contents D → Contents D
@@ -37,7 +41,8 @@ begins_at same size peaks r = (size == r.before) && pointwise same peaks r.peaks
 abbrev pub ends_at : {D : Type 0} → (D → D → Bool) → ℕ → List D → RecordModel D → Bool
 ends_at same size peaks r = (size == after r) && pointwise same peaks r.peaks_after
 
--- how many records a state of this size and these peaks is behind: none if it is the one before the oldest, else those up to the newest kept ancestor that ends at it
+-- how many records a state of this size and these peaks is behind: none if it is the one before the oldest,
+-- else those up to the newest kept ancestor that ends at it
 abbrev pub matched : {D : Type 0} → (D → D → Bool) → ℕ → List D → MerkleizedModel D → Option ℕ
 matched same size peaks b = cond (begins_at same size peaks (oldest b)) (Some 0) (last_match (ends_at same size peaks) b.ancestors)
 
@@ -50,4 +55,7 @@ refusal size b = cond (nat_le b.base_size size && nat_lt size (oldest b).before)
 
 -- a `Mem` of n leaves after a batch, or the refusal
 abbrev pub applied : {D : Type 0} → (D → D → Bool) → (List ℕ → List ℕ) → ℕ → MerkleizedModel D → Contents D → Result (Contents D) Refusal
-applied same rule n b c = elim (matched same c.size (held_peaks rule n c) b) [ Some i ↦ Ok (with_records (drop i (records b)) c) | None ↦ Err (refusal c.size b) ]
+applied same rule n b c = elim (matched same c.size (held_peaks rule n c) b) [
+  | Some i ↦ Ok (with_records (drop i (records b)) c)
+  | None ↦ Err (refusal c.size b)
+]

@@ -56,7 +56,13 @@ abbrev pub five : Contents ℕ
 five = record { boundary = 0; size = 8; node = slice_get (1 ∷ 3 ∷ 0 ∷ 0 ∷ 0 ∷ 5 ∷ 3 ∷ 2 ∷ []) }
 
 abbrev pub change : RecordModel ℕ
-change = record { before = 8; peaks_before = 3 ∷ 2 ∷ []; appended = []; overwritten = from_entries ((0, 17) ∷ (2, 16) ∷ (6, 19) ∷ []); peaks_after = 19 ∷ 2 ∷ [] }
+change = record {
+  before = 8;
+  peaks_before = 3 ∷ 2 ∷ [];
+  appended = [];
+  overwritten = from_entries ((0, 17) ∷ (2, 16) ∷ (6, 19) ∷ []);
+  peaks_after = 19 ∷ 2 ∷ [];
+}
 
 -- the two leaves exchanged, which their peak does not tell
 abbrev pub exchange : RecordModel ℕ

@@ -34,7 +34,7 @@ leaf_total p = p.leaves_before + length p.added
 
 -- the batch with more leaves
 abbrev pub with_leaves : {D : Type 0} → UnmerkleizedModel D → List D → UnmerkleizedModel D
-with_leaves p ds = record { parent = p.parent; leaves_before = p.leaves_before; added = p.added ++ ds; overwritten = p.overwritten; forgotten = p.forgotten }
+with_leaves p ds = record p { added = p.added ++ ds }
 
 -- the batch with one leaf more
 abbrev pub with_leaf : {D : Type 0} → UnmerkleizedModel D → D → UnmerkleizedModel D
@@ -43,8 +43,9 @@ with_leaf p d = with_leaves p (d ∷ [])
 -- the batch with another digest for the leaf at location k
 abbrev pub with_update : {D : Type 0} → (List ℕ → List ℕ) → UnmerkleizedModel D → ℕ → D → UnmerkleizedModel D
 with_update rule p k d =
-    cond (nat_lt k p.leaves_before) (record { parent = p.parent; leaves_before = p.leaves_before; added = p.added; overwritten = insert p.overwritten (size rule k) d; forgotten = p.forgotten })
-    (record { parent = p.parent; leaves_before = p.leaves_before; added = slice_set p.added (k - p.leaves_before) d; overwritten = p.overwritten; forgotten = p.forgotten })
+    cond (nat_lt k p.leaves_before)
+    (record p { overwritten = insert p.overwritten (size rule k) d })
+    (record p { added = slice_set p.added (k - p.leaves_before) d })
 
 -- one update after another
 abbrev pub with_updates : {D : Type 0} → (List ℕ → List ℕ) → UnmerkleizedModel D → List (ℕ × D) → UnmerkleizedModel D
@@ -67,8 +68,7 @@ first_fault rule p (u ∷ us) = option_or (update_fault rule p u.0) (first_fault
 
 -- the batch without so many more of its parent's oldest ancestors
 abbrev pub without_ancestors : {D : Type 0} → UnmerkleizedModel D → ℕ → UnmerkleizedModel D
-without_ancestors p n =
-    record { parent = p.parent; leaves_before = p.leaves_before; added = p.added; overwritten = p.overwritten; forgotten = min (p.forgotten + n) (length p.parent.ancestors) }
+without_ancestors p n = record p { forgotten = min (p.forgotten + n) (length p.parent.ancestors) }
 
 -- a batch without changes, forked from c
 abbrev pub forked : {D : Type 0} → MerkleizedModel D → UnmerkleizedModel D
@@ -107,4 +107,4 @@ pub record IsUnmerkleizedValid {D : Type 0} (rule : List ℕ → List ℕ) (max_
   pub sized : size rule p.leaves_before ≡ p.parent.own.before + length p.parent.own.appended
   -- only leaves that were there before are overwritten
   pub leaves : (q : ℕ) → is_some (get p.overwritten q) ≡ true → (k : ℕ) × (k < p.leaves_before) × (q ≡ size rule k)
-  pub some : p.forgotten ≤ length p.parent.ancestors
+  pub forgotten : p.forgotten ≤ length p.parent.ancestors

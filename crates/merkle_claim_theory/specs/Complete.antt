@@ -10,7 +10,9 @@ use Rattle.merkle_claim_theory.specs.PinnedClaim.{PinsAll, PinsTrees, pinned_of}
 -- a tells each maximal node under which no chosen location lies, and nothing wrong above them
 abbrev pub HonestTree : {D : Type 0} → Hashing D → (ℕ → Option D) → (ℕ → Bool) → (ℕ → D) → Tree → Type 0
 HonestTree h a c X (leaf p i) = cond (c i) (IfSome (a p) (λ d. d ≡ X i)) (or_empty h (a p) ≡ X i)
-HonestTree h a c X (join p l r) = cond (tree_meets c l || tree_meets c r) (IfSome (a p) (λ d. d ≡ tree_digest h X (join p l r)) × HonestTree h a c X l × HonestTree h a c X r) (or_empty h (a p) ≡ tree_digest h X (join p l r))
+HonestTree h a c X (join p l r) = cond (tree_meets c l || tree_meets c r)
+    (IfSome (a p) (λ d. d ≡ tree_digest h X (join p l r)) × HonestTree h a c X l × HonestTree h a c X r)
+    (or_empty h (a p) ≡ tree_digest h X (join p l r))
 
 -- the same of each peak
 abbrev pub HonestPlan : {D : Type 0} → Hashing D → (ℕ → Option D) → (ℕ → Bool) → (ℕ → D) → Plan → Type 0
@@ -24,5 +26,6 @@ HonestMultiAccepted D = (h : Hashing D) (a : ℕ → Option D) (c : ℕ → Bool
 
 -- so does an honest pinned claim
 abbrev pub HonestPinsAccepted : Type 0 → Type 0
-HonestPinsAccepted D = (h : Hashing D) (b : ℕ → Option D) (w c : ℕ → Bool) (X Y : ℕ → D) (p : Plan) → ((i : ℕ) → c i ≡ true → Y i ≡ X i) → PinsAll h b w X (outside_parts c p) → PinsTrees h b w X (path_siblings c p)
+HonestPinsAccepted D = (h : Hashing D) (b : ℕ → Option D) (w c : ℕ → Bool) (X Y : ℕ → D) (p : Plan) → ((i : ℕ) → c i ≡ true → Y i ≡ X i)
+    → PinsAll h b w X (outside_parts c p) → PinsTrees h b w X (path_siblings c p)
     → Holds h (pinned_of h b w c Y p (honest_digests h X c p)) × (value h (pinned_of h b w c Y p (honest_digests h X c p)) ≡ plan_digest h X p)

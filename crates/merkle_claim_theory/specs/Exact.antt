@@ -14,7 +14,8 @@ forest_inputs h X ts = flat_map (λ t. visited h (node_expression X t)) ts
 -- two lists with one digest at each peak are the same or collide at a node
 abbrev pub SamePeaks : Type 0 → Type 0
 SamePeaks D = (h : Hashing D) → EqDecides h → (X Y : ℕ → D) (ts : List Tree) → map (tree_digest h X) ts ≡ map (tree_digest h Y) ts
-    → ((t : Tree) → Member ts t → (i : ℕ) → InTree t i → X i ≡ Y i) ⊎ ((c : Collision D) × Collides h (forest_inputs h X ts) (forest_inputs h Y ts) c × (is_node c.place ≡ true))
+    → ((t : Tree) → Member ts t → (i : ℕ) → InTree t i → X i ≡ Y i)
+    ⊎ ((c : Collision D) × Collides h (forest_inputs h X ts) (forest_inputs h Y ts) c × (is_node c.place ≡ true))
 
 -- no place stands with two arguments
 abbrev pub IsMap : {D : Type 0} → List (Input D) → Type 0

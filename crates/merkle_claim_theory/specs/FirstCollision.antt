@@ -22,7 +22,8 @@ same_argument h (Bytes c) (Pair a b) = false
 
 -- one place, two arguments, one digest
 abbrev pub is_collision : {D : Type 0} → Hashing D → Input D → Input D → Bool
-is_collision h x y = same_place x.place y.place && not (same_argument h x.argument y.argument) && h.same (digest_of_argument h x.place x.argument) (digest_of_argument h y.place y.argument)
+is_collision h x y = same_place x.place y.place && not (same_argument h x.argument y.argument)
+    && h.same (digest_of_argument h x.place x.argument) (digest_of_argument h y.place y.argument)
 
 -- the first answer
 abbrev pub or_else : {X : Type 0} → Option X → Option X → Option X
@@ -49,4 +50,5 @@ pub record IsFirstCollision {D : Type 0} (h : Hashing D) (xs ys : List (Input D)
 
 -- the search finds the first collision, or there is none
 abbrev pub FindsFirst : Type 0 → Type 0
-FindsFirst D = (h : Hashing D) → EqDecides h → (xs ys : List (Input D)) → MatchOption (first_collision h xs ys) ((c : Collision D) → Collides h xs ys c → ⊥) (λ c. IsFirstCollision h xs ys c)
+FindsFirst D = (h : Hashing D) → EqDecides h
+    → (xs ys : List (Input D)) → MatchOption (first_collision h xs ys) ((c : Collision D) → Collides h xs ys c → ⊥) (λ c. IsFirstCollision h xs ys c)

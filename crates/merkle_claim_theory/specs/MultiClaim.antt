@@ -18,7 +18,9 @@ or_empty h o = unwrap_or o h.empty
 -- a: the digest that the proof tells at a position
 abbrev pub multi_tree : {D : Type 0} → Hashing D → (ℕ → Option D) → (ℕ → Bool) → (ℕ → D) → Tree → Expression D
 multi_tree h a c X (leaf p i) = cond (c i) (also (a p) (supplied (X i))) (supplied (or_empty h (a p)))
-multi_tree h a c X (join p l r) = cond (tree_meets c l || tree_meets c r) (also (a p) (computed (Node p) (multi_tree h a c X l) (multi_tree h a c X r))) (supplied (or_empty h (a p)))
+multi_tree h a c X (join p l r) = cond (tree_meets c l || tree_meets c r)
+    (also (a p) (computed (Node p) (multi_tree h a c X l) (multi_tree h a c X r)))
+    (supplied (or_empty h (a p)))
 
 -- the same of a plan: each fold is computed
 abbrev pub multi_claim : {D : Type 0} → Hashing D → (ℕ → Option D) → (ℕ → Bool) → (ℕ → D) → Plan → Expression D
@@ -28,7 +30,8 @@ multi_claim h a c X (folding place l r) = computed place (multi_claim h a c X l)
 -- what is told at a tree's position is its digest, and so below it, down to the nodes under which no chosen location lies
 abbrev pub TellsTree : {D : Type 0} → Hashing D → (ℕ → Option D) → (ℕ → Bool) → (ℕ → D) → Tree → Type 0
 TellsTree h a c X (leaf p i) = IfSome (a p) (λ d. d ≡ X i)
-TellsTree h a c X (join p l r) = IfSome (a p) (λ d. d ≡ tree_digest h X (join p l r)) × cond (tree_meets c l || tree_meets c r) (TellsTree h a c X l × TellsTree h a c X r) (Unit {0})
+TellsTree h a c X (join p l r) = IfSome (a p) (λ d. d ≡ tree_digest h X (join p l r))
+    × cond (tree_meets c l || tree_meets c r) (TellsTree h a c X l × TellsTree h a c X r) (Unit {0})
 
 -- the same of each peak
 abbrev pub Tells : {D : Type 0} → Hashing D → (ℕ → Option D) → (ℕ → Bool) → (ℕ → D) → Plan → Type 0
@@ -47,5 +50,6 @@ SameLeaves c X Y (folding place l r) = SameLeaves c X Y l × SameLeaves c X Y r
 
 -- what holds and has the list's value tells the list's digests, or collides with the list
 abbrev pub MultiClaimSound : Type 0 → Type 0
-MultiClaimSound D = (h : Hashing D) → EqDecides h → (a : ℕ → Option D) (c : ℕ → Bool) (X Y : ℕ → D) (p : Plan) → Holds h (multi_claim h a c Y p) → value h (multi_claim h a c Y p) ≡ plan_digest h X p
+MultiClaimSound D = (h : Hashing D) → EqDecides h → (a : ℕ → Option D) (c : ℕ → Bool) (X Y : ℕ → D) (p : Plan)
+    → Holds h (multi_claim h a c Y p) → value h (multi_claim h a c Y p) ≡ plan_digest h X p
     → (Tells h a c X p × SameLeaves c X Y p) ⊎ ((k : Collision D) × Collides h (inputs h (multi_claim h a c Y p)) (inputs h (plan_expression X p)) k)

@@ -3,16 +3,16 @@ use Rattle.std.specs.Prelude.{◌≡◌, ℕ, Bool, ◌⊎◌, ◌≤◌, ◌<�
 use Rattle.std.specs.List.{AllByRecursion, list_any, range_with_len}
 use Rattle.merkle_base.specs.Tree.{Tree, position}
 use Rattle.merkle_base.specs.Forest.{size}
-use Rattle.merkle_claim_theory.specs.Ascending.{AscendsFrom}
+use Rattle.merkle_forest_theory.specs.Ascending.{AscendsFrom}
 use Rattle.merkle_base.specs.Heights.{IsLawful, peak_heights}
 use Rattle.merkle_root_theory.specs.Expression.{Expression, Holds}
 use Rattle.merkle_root_theory.specs.Collision.{Collision, Collides}
 use Rattle.merkle_root_theory.specs.Plan.{Plan, root_plan, siblings}
 use Rattle.merkle_claim_theory.specs.MultiClaim.{multi_claim}
-use Rattle.merkle_root_theory.specs.Check.{root_of, all_inputs, list_expression}
+use Rattle.merkle_root_theory.specs.Check.{root_of, all_inputs}
 use Rattle.merkle_base.specs.Scheme.{Scheme}
 use Rattle.merkle_base.specs.Places.{peaks_of}
-use Rattle.merkle_root_theory.specs.Range.{leaf_of, plan_root, IsLawfulScheme}
+use Rattle.merkle_root_theory.specs.Range.{leaf_of, list_inputs, plan_root, IsLawfulScheme}
 use Rattle.merkle_claim_theory.specs.Table.{digest_for, digest_at_position}
 
 -- the nodes whose digests prove the leaf at i: the peaks that don't hold it, and the path siblings under the one that does
@@ -58,7 +58,7 @@ AllHolds s (Some e) = Holds s.hashing e
 
 -- an accepted input with elements
 pub record AcceptsMultiSome {D : Type 0} (s : Scheme D) (r : MultiInput D) (root : D) : Type 0 where
-  pub some : 0 < length r.elements
+  pub nonempty : 0 < length r.elements
   pub ascend : AscendsFrom 0 (locations_in r)
   pub below : AllByRecursion (λ i. i < r.leaves) (locations_in r)
   pub leaves : r.leaves ≤ s.max_leaves
@@ -80,7 +80,7 @@ AcceptsMulti s r root = AcceptsMultiSome s r root ⊎ (IsEmptyMulti r × (root_o
 
 -- the honest multi-proof of a list for strictly ascending locations, with the leaves there
 pub record IsHonestMultiSome {D : Type 0} (s : Scheme D) (xs : List D) (k : ℕ) (r : MultiInput D) : Type 0 where
-  pub some : 0 < length r.elements
+  pub nonempty : 0 < length r.elements
   pub ascend : AscendsFrom 0 (locations_in r)
   pub below : AllByRecursion (λ i. i < length xs) (locations_in r)
   pub leaves : r.leaves ≡ length xs
@@ -94,16 +94,18 @@ IsHonestMulti s xs k r = IsHonestMultiSome s xs k r ⊎ (IsEmptyMulti r × (xs �
 
 -- a collision of a multi input with the list
 abbrev pub MultiCollides : {D : Type 0} → Scheme D → MultiInput D → List D → ℕ → Type 0
-MultiCollides {D = D} s r xs k = (c : Collision D) × Collides s.hashing (all_inputs s r.leaves r.inactive (multi_expression s r)) (all_inputs s (length xs) k (list_expression s (leaf_of s.hashing xs) (length xs) k)) c
+MultiCollides {D = D} s r xs k = (c : Collision D) × Collides s.hashing (all_inputs s r.leaves r.inactive (multi_expression s r)) (list_inputs s xs k) c
 
 -- the honest inputs are accepted
 abbrev pub HonestMultiIsAccepted : Type 0 → Type 0
-HonestMultiIsAccepted D = (s : Scheme D) (size max_nodes : ℕ) → IsLawfulScheme s size max_nodes → (xs : List D) (k : ℕ) → length xs ≤ s.max_leaves → k ≤ length (peaks_of s.rule (length xs)) → (r : MultiInput D)
+HonestMultiIsAccepted D = (s : Scheme D) (size max_nodes : ℕ) → IsLawfulScheme s size max_nodes
+    → (xs : List D) (k : ℕ) → length xs ≤ s.max_leaves → k ≤ length (peaks_of s.rule (length xs)) → (r : MultiInput D)
     → IsHonestMulti s xs k r → AcceptsMulti s r (plan_root s xs k)
 
 -- and no others, but for collisions
 abbrev pub MultiSound : Type 0 → Type 0
-MultiSound D = (s : Scheme D) (size max_nodes : ℕ) → IsLawfulScheme s size max_nodes → (xs : List D) (k : ℕ) → length xs ≤ s.max_leaves → k ≤ length (peaks_of s.rule (length xs)) → (r : MultiInput D)
+MultiSound D = (s : Scheme D) (size max_nodes : ℕ) → IsLawfulScheme s size max_nodes
+    → (xs : List D) (k : ℕ) → length xs ≤ s.max_leaves → k ≤ length (peaks_of s.rule (length xs)) → (r : MultiInput D)
     → AcceptsMulti s r (plan_root s xs k) → IsHonestMulti s xs k r ⊎ MultiCollides s r xs k
 
 -- at most 122 positions for each location

@@ -33,7 +33,8 @@ node_places (join p l r) = Node p ∷ node_places l ++ node_places r
 -- the places of a list's inputs: the folds, and then the nodes of each peak
 abbrev pub PlacesInOrder : Type 0 → Type 0
 PlacesInOrder D = (h : Hashing D) (X : ℕ → D) (bagging : Bagging) (k : ℕ) (t : Tree) (ts : List Tree)
-    → map (λ (i : Input D). i.place) (inputs_of h (option_map (plan_expression X) (root_plan bagging k (t ∷ ts)))) ≡ fold_places bagging k (suc (length ts)) ++ flat_map node_places (t ∷ ts)
+    → map (λ (i : Input D). i.place) (inputs_of h (option_map (plan_expression X) (root_plan bagging k (t ∷ ts))))
+    ≡ fold_places bagging k (suc (length ts)) ++ flat_map node_places (t ∷ ts)
 
 -- no element stands twice
 abbrev pub Distinct : {A : Type 0} → List A → Type 0
@@ -42,4 +43,5 @@ Distinct (x ∷ xs) = (Member xs x → ⊥) × Distinct xs
 
 -- where no position stands twice in the peaks, no place stands with two arguments
 abbrev pub PlacesOnce : Type 0 → Type 0
-PlacesOnce D = (h : Hashing D) (X : ℕ → D) (bagging : Bagging) (k : ℕ) (t : Tree) (ts : List Tree) → Distinct (flat_map node_places (t ∷ ts)) → IsMap (inputs_of h (option_map (plan_expression X) (root_plan bagging k (t ∷ ts))))
+PlacesOnce D = (h : Hashing D) (X : ℕ → D) (bagging : Bagging) (k : ℕ) (t : Tree) (ts : List Tree) → Distinct (flat_map node_places (t ∷ ts))
+    → IsMap (inputs_of h (option_map (plan_expression X) (root_plan bagging k (t ∷ ts))))

@@ -5,10 +5,10 @@ use Rattle.merkle_root_theory.specs.Expression.{Expression}
 use Rattle.merkle_root_theory.specs.Collision.{Collision, Collides}
 use Rattle.merkle_root_theory.specs.Plan.{Plan, root_plan, tree_digest}
 use Rattle.merkle_claim_theory.specs.PinnedClaim.{pinned_of}
-use Rattle.merkle_root_theory.specs.Check.{root_of, all_inputs, list_expression, RangeInput, chosen, leaf_given}
+use Rattle.merkle_root_theory.specs.Check.{root_of, all_inputs, RangeInput, chosen, leaf_given}
 use Rattle.merkle_base.specs.Scheme.{Scheme}
 use Rattle.merkle_base.specs.Places.{peaks_of}
-use Rattle.merkle_root_theory.specs.Range.{in_range, end_of, range_parts, range_siblings, leaf_of, plan_root, IsLawfulScheme, IsEmptyInput, IsHonestNonempty}
+use Rattle.merkle_root_theory.specs.Range.{in_range, end_of, range_parts, range_siblings, leaf_of, list_inputs, plan_root, IsLawfulScheme, IsEmptyInput, IsHonestNonempty}
 use Rattle.merkle_claim_theory.specs.Table.{digest_for}
 use Rattle.merkle_claim_theory.specs.Multiproof.{AllHolds}
 
@@ -26,11 +26,13 @@ pinned_expression s r pins = option_map (pinned_on s r pins) (root_plan s.baggin
 
 -- an accepted input with elements
 pub record AcceptsPinnedSome {D : Type 0} (s : Scheme D) (r : RangeInput D) (pins : List D) (root : D) : Type 0 where
-  pub some : 0 < length r.elements
+  pub nonempty : 0 < length r.elements
   pub within : end_of r ≤ r.leaves
   pub leaves : r.leaves ≤ s.max_leaves
   pub inactive : r.inactive ≤ length (peaks_of s.rule r.leaves)
-  pub counts : length r.digests ≡ length (range_parts s.bagging r.inactive r.start (end_of r) (peaks_of s.rule r.leaves)) + length (range_siblings r.start (end_of r) (peaks_of s.rule r.leaves))
+  pub counts : length r.digests
+      ≡ length (range_parts s.bagging r.inactive r.start (end_of r) (peaks_of s.rule r.leaves))
+      + length (range_siblings r.start (end_of r) (peaks_of s.rule r.leaves))
   pub pinned : length pins ≡ length (peaks_of s.rule r.start)
   pub rebuilt : AllHolds s (pinned_expression s r pins)
   pub root_is : root_of s r.leaves r.inactive (pinned_expression s r pins) ≡ root
@@ -49,18 +51,22 @@ IsHonestPinned s xs k r pins = (IsHonestNonempty s xs k r × (pins ≡ honest_pi
 
 -- a collision of a pinned input with the list
 abbrev pub PinnedCollides : {D : Type 0} → Scheme D → RangeInput D → List D → List D → ℕ → Type 0
-PinnedCollides {D = D} s r pins xs k = (c : Collision D) × Collides s.hashing (all_inputs s r.leaves r.inactive (pinned_expression s r pins)) (all_inputs s (length xs) k (list_expression s (leaf_of s.hashing xs) (length xs) k)) c
+PinnedCollides {D = D} s r pins xs k =
+    (c : Collision D) × Collides s.hashing (all_inputs s r.leaves r.inactive (pinned_expression s r pins)) (list_inputs s xs k) c
 
 -- the honest inputs are accepted
 abbrev pub HonestPinnedIsAccepted : Type 0 → Type 0
-HonestPinnedIsAccepted D = (s : Scheme D) (size max_nodes : ℕ) → IsLawfulScheme s size max_nodes → (xs : List D) (k : ℕ) → length xs ≤ s.max_leaves → k ≤ length (peaks_of s.rule (length xs)) → (r : RangeInput D) (pins : List D)
+HonestPinnedIsAccepted D = (s : Scheme D) (size max_nodes : ℕ) → IsLawfulScheme s size max_nodes
+    → (xs : List D) (k : ℕ) → length xs ≤ s.max_leaves → k ≤ length (peaks_of s.rule (length xs)) → (r : RangeInput D) (pins : List D)
     → IsHonestPinned s xs k r pins → AcceptsPinned s r pins (plan_root s xs k)
 
 -- and no others, but for collisions
 abbrev pub AcceptedPinnedIsHonest : Type 0 → Type 0
-AcceptedPinnedIsHonest D = (s : Scheme D) (size max_nodes : ℕ) → IsLawfulScheme s size max_nodes → (xs : List D) (k : ℕ) → length xs ≤ s.max_leaves → k ≤ length (peaks_of s.rule (length xs)) → (r : RangeInput D) (pins : List D)
+AcceptedPinnedIsHonest D = (s : Scheme D) (size max_nodes : ℕ) → IsLawfulScheme s size max_nodes
+    → (xs : List D) (k : ℕ) → length xs ≤ s.max_leaves → k ≤ length (peaks_of s.rule (length xs)) → (r : RangeInput D) (pins : List D)
     → AcceptsPinned s r pins (plan_root s xs k) → IsHonestPinned s xs k r pins ⊎ PinnedCollides s r pins xs k
 
 -- the honest pins are the peak digests of the list's first leaves
 abbrev pub PinsAreOldPeaks : Type 0 → Type 0
-PinsAreOldPeaks D = (s : Scheme D) (xs : List D) (start : ℕ) → start ≤ length xs → honest_pins s xs start ≡ map (tree_digest s.hashing (leaf_of s.hashing (take start xs))) (peaks_of s.rule start)
+PinsAreOldPeaks D = (s : Scheme D) (xs : List D) (start : ℕ) → start ≤ length xs
+    → honest_pins s xs start ≡ map (tree_digest s.hashing (leaf_of s.hashing (take start xs))) (peaks_of s.rule start)

@@ -69,9 +69,12 @@ abbrev pub PinsTrees : {D : Type 0} → Hashing D → (ℕ → Option D) → (�
 PinsTrees h b w X [] = Unit {0}
 PinsTrees h b w X (t ∷ ts) = (tree_meets w t ≡ true → PinsTree h b X t) × PinsTrees h b w X ts
 
--- a pinned input that has as many digests as the plan asks, whose told digests hold, and that has the list's value: its range input is honest and so are its pins, or it collides
+-- a pinned input that has as many digests as the plan asks, whose told digests hold, and that has the list's value:
+-- its range input is honest and so are its pins, or it collides
 abbrev pub PinnedClaimSound : Type 0 → Type 0
-PinnedClaimSound D = (h : Hashing D) → EqDecides h → (b : ℕ → Option D) (w c : ℕ → Bool) (X Y : ℕ → D) (p : Plan) (ds : List D) → length ds ≡ length (outside_parts c p) + length (path_siblings c p)
+PinnedClaimSound D = (h : Hashing D) → EqDecides h → (b : ℕ → Option D) (w c : ℕ → Bool) (X Y : ℕ → D) (p : Plan) (ds : List D)
+    → length ds ≡ length (outside_parts c p) + length (path_siblings c p)
     → Holds h (pinned_of h b w c Y p ds) → value h (pinned_of h b w c Y p ds) ≡ plan_digest h X p
-    → ((ds ≡ honest_digests h X c p) × ((i : ℕ) → InPlan p i → c i ≡ true → Y i ≡ X i) × PinsAll h b w X (outside_parts c p) × PinsTrees h b w X (path_siblings c p))
+    → ((ds ≡ honest_digests h X c p) × ((i : ℕ) → InPlan p i → c i ≡ true → Y i ≡ X i)
+    × PinsAll h b w X (outside_parts c p) × PinsTrees h b w X (path_siblings c p))
     ⊎ ((k : Collision D) × Collides h (inputs h (pinned_of h b w c Y p ds)) (inputs h (plan_expression X p)) k)

@@ -34,13 +34,16 @@ pin_at s start pins = digest_for (pin_positions s start) pins
 -- there is a pin for each peak over the leaves before the range, and what lies before it is rebuilt from them
 pub record IsRebuilt {D : Type 0} (s : Scheme D) (r : RangeInput D) (pins : List D) : Type 0 where
   pub pinned : length pins ≡ length (peaks_of s.rule r.start)
-  pub parts : AllRebuilt s.hashing (meets (in_range 0 r.start)) (rebuilt_part s.hashing (pin_at s r.start pins)) (range_parts s.bagging r.inactive r.start (end_of r) (peaks_of s.rule r.leaves)) r.digests
-  pub nodes : AllRebuilt s.hashing (tree_meets (in_range 0 r.start)) (rebuilt_node s.hashing (pin_at s r.start pins)) (range_siblings r.start (end_of r) (peaks_of s.rule r.leaves))
+  pub parts : AllRebuilt s.hashing (meets (in_range 0 r.start)) (rebuilt_part s.hashing (pin_at s r.start pins))
+      (range_parts s.bagging r.inactive r.start (end_of r) (peaks_of s.rule r.leaves)) r.digests
+  pub nodes : AllRebuilt s.hashing (tree_meets (in_range 0 r.start)) (rebuilt_node s.hashing (pin_at s r.start pins))
+      (range_siblings r.start (end_of r) (peaks_of s.rule r.leaves))
       (drop (length (range_parts s.bagging r.inactive r.start (end_of r) (peaks_of s.rule r.leaves))) r.digests)
 
 -- the pinned check accepts what the range check accepts where the pins rebuild what lies before the range
 abbrev pub PinnedIsRebuilt : Type 0 → Type 0
-PinnedIsRebuilt D = (s : Scheme D) (r : RangeInput D) (pins : List D) (root : D) → AcceptsPinnedSome s r pins root ↔ (AcceptsNonempty s r root × IsRebuilt s r pins)
+PinnedIsRebuilt D = (s : Scheme D) (r : RangeInput D) (pins : List D) (root : D)
+    → AcceptsPinnedSome s r pins root ↔ (AcceptsNonempty s r root × IsRebuilt s r pins)
 
 -- the root over the pins, for any inactive count, is the one that the list had at start leaves
 abbrev pub GivesOldRoot : {D : Type 0} → Scheme D → List D → ℕ → List D → Type 0

@@ -44,7 +44,7 @@ sub_digests s r q (Some p) =
 
 -- q proves a part of r's range with digests read off r's claim
 pub record IsPartOf {D : Type 0} (s : Scheme D) (r q : RangeInput D) : Type 0 where
-  pub some : 0 < length q.elements
+  pub nonempty : 0 < length q.elements
   pub from : r.start ≤ q.start
   pub to : end_of q ≤ end_of r
   pub leaves : q.leaves ≡ r.leaves
@@ -62,6 +62,7 @@ read_pair h pairs p = unwrap_or (digest_for (map (λ x. x.0) pairs) (map (λ x. 
 
 -- within a peak that overlaps the range the sub-proof's siblings are read from the pairs, where these tell no position twice
 abbrev pub SiblingsAreRead : Type 0 → Type 0
-SiblingsAreRead D = (h : Hashing D) (c d : ℕ → Bool) → ((i : ℕ) → d i ≡ true → c i ≡ true) → (Y : ℕ → D) (t : Tree) (ds : List D) (pairs : List (ℕ × D)) → Distinct (map (λ x. x.0) pairs)
+SiblingsAreRead D = (h : Hashing D) (c d : ℕ → Bool) → ((i : ℕ) → d i ≡ true → c i ≡ true)
+    → (Y : ℕ → D) (t : Tree) (ds : List D) (pairs : List (ℕ × D)) → Distinct (map (λ x. x.0) pairs)
     → ((x : ℕ × D) → Member (inner_pairs h c Y t ds ++ (position t, value h (tree_claim h c Y t ds)) ∷ []) x → Member pairs x)
     → sub_siblings h c d Y t ds ≡ map (λ u. read_pair h pairs (position u)) (siblings d t)

@@ -9,7 +9,15 @@ use Rattle.merkle_claim_theory.specs.FirstCollision.{first_collision}
 
 -- the exclusive or of what is hashed
 abbrev pub xor_hashing : Hashing ℕ
-xor_hashing = record { leaf = λ p e. 0; node = λ p l r. bit_xor p (bit_xor l r); fold = λ a b. bit_xor a b; hash = λ bs. 0; bytes = λ d. d ∷ []; same = nat_eq; empty = 0 }
+xor_hashing = record {
+  leaf = λ p e. 0;
+  node = λ p l r. bit_xor p (bit_xor l r);
+  fold = λ a b. bit_xor a b;
+  hash = λ bs. 0;
+  bytes = λ d. d ∷ [];
+  same = nat_eq;
+  empty = 0;
+}
 
 -- the leaf digests 1, 3 and 7
 abbrev pub three : ℕ → ℕ
@@ -23,6 +31,8 @@ plan_of_three = left_fold_plan (peak (join 2 (leaf 0 0) (leaf 1 1))) 1 (leaf 3 2
 abbrev pub ThreeLeaves : Type 0
 ThreeLeaves = record {
   honest : honest_digests xor_hashing three (λ i. nat_lt i 1) plan_of_three ≡ 7 ∷ 3 ∷ [];
-  first : first_collision xor_hashing (inputs xor_hashing (claim_of xor_hashing (λ i. nat_lt i 1) three plan_of_three (3 ∷ 7 ∷ []))) (inputs xor_hashing (plan_expression three plan_of_three))
+  first : first_collision xor_hashing
+      (inputs xor_hashing (claim_of xor_hashing (λ i. nat_lt i 1) three plan_of_three (3 ∷ 7 ∷ [])))
+      (inputs xor_hashing (plan_expression three plan_of_three))
       ≡ Some (record { place = PrefixFold 1; claimed = Pair 4 3; listed = Pair 0 7 });
 }

@@ -22,14 +22,24 @@ pinned_inputs s r pins = all_inputs s r.leaves r.inactive (pinned_expression s r
 
 -- of accepted inputs: where no collision is found they are honest, and what is found is the first
 pub record Verdicts (D : Type 0) : Type 0 where
-  pub range : (s : Scheme D) (size max_nodes : ℕ) → IsLawfulScheme s size max_nodes → (xs : List D) (k : ℕ) → length xs ≤ s.max_leaves → k ≤ length (peaks_of s.rule (length xs)) → (r : RangeInput D) → Accepts s r (plan_root s xs k)
-      → MatchOption (first_collision s.hashing (range_inputs s r) (list_inputs s xs k)) (IsHonestRange s xs k r) (λ c. IsFirstCollision s.hashing (range_inputs s r) (list_inputs s xs k) c)
-  pub multi : (s : Scheme D) (size max_nodes : ℕ) → IsLawfulScheme s size max_nodes → (xs : List D) (k : ℕ) → length xs ≤ s.max_leaves → k ≤ length (peaks_of s.rule (length xs)) → (r : MultiInput D) → AcceptsMulti s r (plan_root s xs k)
-      → MatchOption (first_collision s.hashing (multi_inputs s r) (list_inputs s xs k)) (IsHonestMulti s xs k r) (λ c. IsFirstCollision s.hashing (multi_inputs s r) (list_inputs s xs k) c)
-  pub pinned : (s : Scheme D) (size max_nodes : ℕ) → IsLawfulScheme s size max_nodes → (xs : List D) (k : ℕ) → length xs ≤ s.max_leaves → k ≤ length (peaks_of s.rule (length xs)) → (r : RangeInput D) (pins : List D) → AcceptsPinned s r pins (plan_root s xs k)
-      → MatchOption (first_collision s.hashing (pinned_inputs s r pins) (list_inputs s xs k)) (IsHonestPinned s xs k r pins) (λ c. IsFirstCollision s.hashing (pinned_inputs s r pins) (list_inputs s xs k) c)
+  pub range : (s : Scheme D) (size max_nodes : ℕ) → IsLawfulScheme s size max_nodes
+      → (xs : List D) (k : ℕ) → length xs ≤ s.max_leaves → k ≤ length (peaks_of s.rule (length xs))
+      → (r : RangeInput D) → Accepts s r (plan_root s xs k)
+      → MatchOption (first_collision s.hashing (range_inputs s r) (list_inputs s xs k)) (IsHonestRange s xs k r)
+      (λ c. IsFirstCollision s.hashing (range_inputs s r) (list_inputs s xs k) c)
+  pub multi : (s : Scheme D) (size max_nodes : ℕ) → IsLawfulScheme s size max_nodes
+      → (xs : List D) (k : ℕ) → length xs ≤ s.max_leaves → k ≤ length (peaks_of s.rule (length xs))
+      → (r : MultiInput D) → AcceptsMulti s r (plan_root s xs k)
+      → MatchOption (first_collision s.hashing (multi_inputs s r) (list_inputs s xs k)) (IsHonestMulti s xs k r)
+      (λ c. IsFirstCollision s.hashing (multi_inputs s r) (list_inputs s xs k) c)
+  pub pinned : (s : Scheme D) (size max_nodes : ℕ) → IsLawfulScheme s size max_nodes
+      → (xs : List D) (k : ℕ) → length xs ≤ s.max_leaves → k ≤ length (peaks_of s.rule (length xs))
+      → (r : RangeInput D) (pins : List D) → AcceptsPinned s r pins (plan_root s xs k)
+      → MatchOption (first_collision s.hashing (pinned_inputs s r pins) (list_inputs s xs k)) (IsHonestPinned s xs k r pins)
+      (λ c. IsFirstCollision s.hashing (pinned_inputs s r pins) (list_inputs s xs k) c)
   -- an honest range input has no collision
-  pub clear : (s : Scheme D) → EqDecides s.hashing → (xs : List D) (k : ℕ) (r : RangeInput D) → IsHonestNonempty s xs k r → first_collision s.hashing (range_inputs s r) (list_inputs s xs k) ≡ None
+  pub clear : (s : Scheme D) → EqDecides s.hashing → (xs : List D) (k : ℕ) (r : RangeInput D) → IsHonestNonempty s xs k r
+      → first_collision s.hashing (range_inputs s r) (list_inputs s xs k) ≡ None
 
 -- the range check as a test
 abbrev pub range_check : {D : Type 0} → Scheme D → RangeInput D → D → Bool
@@ -38,7 +48,9 @@ range_check s r root =
     && (nat_le (end_of r) r.leaves
     && (nat_le r.leaves s.max_leaves
     && (nat_le r.inactive (length (peaks_of s.rule r.leaves))
-    && (nat_eq (length r.digests) (length (range_parts s.bagging r.inactive r.start (end_of r) (peaks_of s.rule r.leaves)) + length (range_siblings r.start (end_of r) (peaks_of s.rule r.leaves)))
+    && (nat_eq (length r.digests)
+    (length (range_parts s.bagging r.inactive r.start (end_of r) (peaks_of s.rule r.leaves))
+    + length (range_siblings r.start (end_of r) (peaks_of s.rule r.leaves)))
     && s.hashing.same (root_of s r.leaves r.inactive (range_expression s r)) root)))))
     || (nat_eq (length r.elements) 0
     && (nat_eq r.start 0
@@ -57,8 +69,11 @@ ExtractsOnce D = (s : Scheme D) (r : RangeInput D) → 0 < length r.elements →
 
 -- an honest multi input has no collision
 abbrev pub HonestMultiHasNoCollision : Type 0 → Type 0
-HonestMultiHasNoCollision D = (s : Scheme D) → EqDecides s.hashing → (xs : List D) (k : ℕ) (r : MultiInput D) → IsHonestMultiSome s xs k r → first_collision s.hashing (multi_inputs s r) (list_inputs s xs k) ≡ None
+HonestMultiHasNoCollision D = (s : Scheme D) → EqDecides s.hashing → (xs : List D) (k : ℕ) (r : MultiInput D) → IsHonestMultiSome s xs k r
+    → first_collision s.hashing (multi_inputs s r) (list_inputs s xs k) ≡ None
 
 -- nor has an honest pinned input
 abbrev pub HonestPinnedHasNoCollision : Type 0 → Type 0
-HonestPinnedHasNoCollision D = (s : Scheme D) → EqDecides s.hashing → (xs : List D) (k : ℕ) (r : RangeInput D) (pins : List D) → IsHonestNonempty s xs k r → pins ≡ honest_pins s xs r.start → first_collision s.hashing (pinned_inputs s r pins) (list_inputs s xs k) ≡ None
+HonestPinnedHasNoCollision D = (s : Scheme D) → EqDecides s.hashing
+    → (xs : List D) (k : ℕ) (r : RangeInput D) (pins : List D) → IsHonestNonempty s xs k r → pins ≡ honest_pins s xs r.start
+    → first_collision s.hashing (pinned_inputs s r pins) (list_inputs s xs k) ≡ None

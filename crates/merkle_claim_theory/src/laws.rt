@@ -39,7 +39,7 @@ ghost use Rattle.merkle_root_theory.specs.Reconstruction.{reconstructed, LeadsIs
 ghost use Rattle.merkle_root_theory.specs.RootNames.{NamesRoot, AreApart, RootsCollide};
 ghost use Rattle.merkle_root_theory.specs.RootNames.{RootIsNamed, YesNamesRoot, EqualRootsCollide, OtherListCollides, OtherYesCollides};
 ghost use Rattle.merkle_root_theory.specs.RootString.{RootStringTellsAll};
-ghost use Rattle.merkle_claim_theory.specs.Rows.{four, seven, single, alone, paired, small, middle, no_elements, swapped_inputs, list_inputs};
+ghost use Rattle.merkle_claim_theory.specs.Rows.{four, seven, single, alone, paired, small, middle, no_elements, swapped_inputs, three_inputs};
 ghost use Rattle.merkle_claim_theory.specs.Rows.{other_family, other_inputs, bare, bare_root, xor_bytes, one_byte};
 ghost use Rattle.merkle_claim_theory.specs.Siblings.{PathHasSiblings};
 ghost use Rattle.merkle_claim_theory.specs.Store.{PartIsAccepted, SiblingsAreRead};
@@ -194,14 +194,16 @@ pub fn worked_rows()
     // For leaf 1 of four: its sibling, and then the node over the other two.
     ensures sibling_nodes { map position (siblings (in_range 1 2) four) ≡ 0 ∷ 5 ∷ [] }
     ensures sibling_nodes_two { map position (range_siblings 3 5 seven) ≡ 2 ∷ 3 ∷ 8 ∷ [] }
-    ensures plan_forward { root_plan ForwardFold 2 (single 0 ∷ single 1 ∷ single 2 ∷ []) ≡ Some (folding (PrefixFold 2) (folding (PrefixFold 1) (alone 0) (alone 1)) (alone 2)) }
+    ensures plan_forward { root_plan ForwardFold 2 (single 0 ∷ single 1 ∷ single 2 ∷ [])
+        ≡ Some (folding (PrefixFold 2) (folding (PrefixFold 1) (alone 0) (alone 1)) (alone 2)) }
     ensures plan_backward { root_plan BackwardFold 2 (single 0 ∷ single 1 ∷ single 2 ∷ single 3 ∷ single 4 ∷ [])
         ≡ Some (folding Join (folding (PrefixFold 1) (alone 0) (alone 1)) (folding (SuffixFold 2) (alone 2) (folding (SuffixFold 3) (alone 3) (alone 4)))) }
 
     // The first part of a proof of the leaves of one peak. Forward: the peaks before it folded,
     // those after it individual. Backward: the inactive peaks before it folded, the active peaks
     // after it folded, and the rest individual.
-    ensures layout_forward { layout ForwardFold 0 (single 0 ∷ single 1 ∷ []) (single 2 ∷ []) (single 3 ∷ single 4 ∷ []) ≡ folding (PrefixFold 1) (alone 0) (alone 1) ∷ alone 3 ∷ alone 4 ∷ [] }
+    ensures layout_forward { layout ForwardFold 0 (single 0 ∷ single 1 ∷ []) (single 2 ∷ []) (single 3 ∷ single 4 ∷ [])
+        ≡ folding (PrefixFold 1) (alone 0) (alone 1) ∷ alone 3 ∷ alone 4 ∷ [] }
     ensures layout_before { layout BackwardFold 1 (single 0 ∷ single 1 ∷ single 2 ∷ []) (single 3 ∷ []) (single 4 ∷ single 5 ∷ [])
         ≡ alone 0 ∷ alone 1 ∷ alone 2 ∷ folding (SuffixFold 4) (alone 4) (alone 5) ∷ [] }
     ensures layout_after { layout BackwardFold 5 (single 0 ∷ single 1 ∷ []) (single 2 ∷ []) (single 3 ∷ single 4 ∷ single 5 ∷ single 6 ∷ [])
@@ -209,9 +211,18 @@ pub fn worked_rows()
 
     // The numbers of digests of these layouts: before, after, and of inactive peaks, of which the
     // folded ones have one together.
-    ensures counts_forward { count_before ForwardFold 0 (single 0 ∷ single 1 ∷ []) ∷ count_after ForwardFold 0 3 (single 3 ∷ single 4 ∷ []) ∷ count_inactive ForwardFold 0 (single 0 ∷ single 1 ∷ []) ∷ [] ≡ 1 ∷ 2 ∷ 1 ∷ [] }
-    ensures counts_before { count_before BackwardFold 1 (single 0 ∷ single 1 ∷ single 2 ∷ []) ∷ count_after BackwardFold 1 4 (single 4 ∷ single 5 ∷ []) ∷ count_inactive BackwardFold 1 (single 0 ∷ single 1 ∷ single 2 ∷ []) ∷ [] ≡ 3 ∷ 1 ∷ 1 ∷ [] }
-    ensures counts_after { count_before BackwardFold 5 (single 0 ∷ single 1 ∷ []) ∷ count_after BackwardFold 5 3 (single 3 ∷ single 4 ∷ single 5 ∷ single 6 ∷ []) ∷ count_inactive BackwardFold 5 (single 0 ∷ single 1 ∷ []) ∷ [] ≡ 1 ∷ 3 ∷ 4 ∷ [] }
+    ensures counts_forward { count_before ForwardFold 0 (single 0 ∷ single 1 ∷ [])
+        ∷ count_after ForwardFold 0 3 (single 3 ∷ single 4 ∷ [])
+        ∷ count_inactive ForwardFold 0 (single 0 ∷ single 1 ∷ []) ∷ []
+        ≡ 1 ∷ 2 ∷ 1 ∷ [] }
+    ensures counts_before { count_before BackwardFold 1 (single 0 ∷ single 1 ∷ single 2 ∷ [])
+        ∷ count_after BackwardFold 1 4 (single 4 ∷ single 5 ∷ [])
+        ∷ count_inactive BackwardFold 1 (single 0 ∷ single 1 ∷ single 2 ∷ []) ∷ []
+        ≡ 3 ∷ 1 ∷ 1 ∷ [] }
+    ensures counts_after { count_before BackwardFold 5 (single 0 ∷ single 1 ∷ [])
+        ∷ count_after BackwardFold 5 3 (single 3 ∷ single 4 ∷ single 5 ∷ single 6 ∷ [])
+        ∷ count_inactive BackwardFold 5 (single 0 ∷ single 1 ∷ []) ∷ []
+        ≡ 1 ∷ 3 ∷ 4 ∷ [] }
 
     // The prefix is folded left to right, and the suffix right to left.
     ensures laid { laid_out (λ a b. 10 * a + b) (1 ∷ 2 ∷ []) (3 ∷ 4 ∷ []) (5 ∷ 6 ∷ []) (7 ∷ []) ≡ 12 ∷ 3 ∷ 4 ∷ 56 ∷ 7 ∷ [] }
@@ -243,17 +254,19 @@ pub fn worked_rows()
 
     // What is hashed for a list: the string of the root, then the folds from the last one down, and
     // then the nodes.
-    ensures inputs_folds { list_inputs ≡ record { place = Root; argument = Bytes (0 ∷ 0 ∷ 0 ∷ 0 ∷ 0 ∷ 0 ∷ 0 ∷ 0 ∷ 0 ∷ 3 ∷ 5 ∷ []) }
+    ensures inputs_folds { three_inputs ≡ record { place = Root; argument = Bytes (0 ∷ 0 ∷ 0 ∷ 0 ∷ 0 ∷ 0 ∷ 0 ∷ 0 ∷ 0 ∷ 3 ∷ 5 ∷ []) }
         ∷ record { place = PrefixFold 2; argument = Pair 2 7 } ∷ record { place = PrefixFold 1; argument = Pair 1 3 } ∷ [] }
-    ensures inputs_nodes { inputs xor_hashing (plan_expression three plan_of_three) ≡ record { place = PrefixFold 1; argument = Pair 0 7 } ∷ record { place = Node 2; argument = Pair 1 3 } ∷ [] }
+    ensures inputs_nodes { inputs xor_hashing (plan_expression three plan_of_three)
+        ≡ record { place = PrefixFold 1; argument = Pair 0 7 } ∷ record { place = Node 2; argument = Pair 1 3 } ∷ [] }
 
     // With its two digests swapped, the proof of the middle leaf has the root too, and collides
     // where the last peak is folded.
     ensures accepts_swapped { AcceptsNonempty small (middle 0 (7 ∷ 1 ∷ [])) 6 }
-    ensures collides { Collides small.hashing swapped_inputs list_inputs (record { place = PrefixFold 2; claimed = Pair 4 1; listed = Pair 2 7 }) }
-    ensures no_collision { Collides small.hashing swapped_inputs list_inputs (record { place = PrefixFold 1; claimed = Pair 7 3; listed = Pair 1 3 }) → ⊥ }
-    ensures no_collision_alike { Collides small.hashing list_inputs list_inputs (record { place = PrefixFold 2; claimed = Pair 2 7; listed = Pair 2 7 }) → ⊥ }
-    ensures no_collision_elsewhere { first_collision small.hashing (record { place = PrefixFold 1; argument = Pair 4 1 } ∷ []) (record { place = PrefixFold 2; argument = Pair 2 7 } ∷ []) ≡ None }
+    ensures collides { Collides small.hashing swapped_inputs three_inputs (record { place = PrefixFold 2; claimed = Pair 4 1; listed = Pair 2 7 }) }
+    ensures no_collision { Collides small.hashing swapped_inputs three_inputs (record { place = PrefixFold 1; claimed = Pair 7 3; listed = Pair 1 3 }) → ⊥ }
+    ensures no_collision_alike { Collides small.hashing three_inputs three_inputs (record { place = PrefixFold 2; claimed = Pair 2 7; listed = Pair 2 7 }) → ⊥ }
+    ensures no_collision_elsewhere { first_collision small.hashing
+        (record { place = PrefixFold 1; argument = Pair 4 1 } ∷ []) (record { place = PrefixFold 2; argument = Pair 2 7 } ∷ []) ≡ None }
 
     // The string of a root of family 8 with three leaves, folded right to left, is none of a
     // different family, bagging or leaf count.
@@ -268,8 +281,8 @@ pub fn worked_rows()
     ensures apart_bagging { AreApart small (record small { bagging = BackwardFold }) }
     ensures not_apart { AreApart small small → ⊥ }
     ensures not_apart_in_hash { AreApart small (record other_family { hashing = xor_hashing }) → ⊥ }
-    ensures roots_collide { RootsCollide small.hashing list_inputs other_inputs }
-    ensures no_roots_collide { RootsCollide small.hashing swapped_inputs list_inputs → ⊥ }
+    ensures roots_collide { RootsCollide small.hashing three_inputs other_inputs }
+    ensures no_roots_collide { RootsCollide small.hashing swapped_inputs three_inputs → ⊥ }
 
     // The bytes of two digests, at a node after its position, and of a string. Positions above 255
     // have two significant bytes.
@@ -337,7 +350,7 @@ pub fn multi_checks<D>()
     ensures others { MultiSound D }
 
     // A location needs at most 122 digests.
-    ensures few { MultiSizeBound D }
+    ensures at_most_122_each { MultiSizeBound D }
 {}
 
 /// What a range check with pins accepts: the honest inputs with the honest pins and, except for
@@ -369,7 +382,7 @@ pub fn sub_proofs<D>()
 
 /// What audits return for accepted inputs: honest, or the first collision.
 pub fn verdicts<D>()
-    ensures all { Verdicts D }
+    ensures of_accepted { Verdicts D }
 
     // An honest multi input has no collision.
     ensures multi { HonestMultiHasNoCollision D }

@@ -29,7 +29,8 @@ last more m n r s a b e =
 
 mixed : (more m n : ℕ) (r s : List ℕ) → m < 128 → 128 ≤ n → ¬ number_groups (suc more) m ++ r ≡ number_groups (suc more) n ++ s
 mixed more m n r s low over e =
-    let h = heads m (128 + n % 128) r (number_groups more (n / 128) ++ s) (ap (λ l. l ++ r) (sym (number_groups-last (suc more) m low)) ∙ e ∙ ap (λ l. l ++ s) (number_groups-more more n over)) in
+    let h = heads m (128 + n % 128) r (number_groups more (n / 128) ++ s)
+    (ap (λ l. l ++ r) (sym (number_groups-last (suc more) m low)) ∙ e ∙ ap (λ l. l ++ s) (number_groups-more more n over)) in
     omega (arith, h.0, low)
 
 both : (more m n : ℕ) (r s : List ℕ) → 128 ≤ m → 128 ≤ n → number_groups (suc more) m ++ r ≡ number_groups (suc more) n ++ s
@@ -44,7 +45,10 @@ both more m n r s a b e once =
 pub number_groups_once : (more m n : ℕ) (r s : List ℕ) → number_groups more m ++ r ≡ number_groups more n ++ s → (m ≡ n) × (r ≡ s)
 number_groups_once zero m n r s e = heads m n r s e
 number_groups_once (suc more) m n r s e = elim (leb_tells 128 m) [
-  | inl above ↦ elim (leb_tells 128 n) [ inl over ↦ both more m n r s above.1 over.1 e (number_groups_once more (m / 128) (n / 128) r s) | inr low ↦ absurd (mixed more n m s r low.1 above.1 (sym e)) ]
+  | inl above ↦ elim (leb_tells 128 n) [
+    | inl over ↦ both more m n r s above.1 over.1 e (number_groups_once more (m / 128) (n / 128) r s)
+    | inr low ↦ absurd (mixed more n m s r low.1 above.1 (sym e))
+  ]
   | inr below ↦ elim (leb_tells 128 n) [ inl over ↦ absurd (mixed more m n r s below.1 over.1 e) | inr low ↦ last more m n r s below.1 low.1 e ]
 ]
 
@@ -60,7 +64,8 @@ begins_last before n b rest low k = k ∙ ap (λ l. l ++ rest) (number_groups-la
 begins_more : (before n : ℕ) (b rest : List ℕ) → before ≤ 9 → n < 2 ^ (64 - 7 * before) → 128 ≤ n → b ≡ number_groups (9 - before) n ++ rest
     → (before < 9) × (n / 128 < 2 ^ (64 - 7 * suc before)) × (b ≡ (128 + n % 128) ∷ (number_groups (9 - suc before) (n / 128) ++ rest))
 begins_more before n b rest few fits over k =
-    let full : before ≡ 9 → before < 9 = λ h. absurd (let small : n < 2 ^ (64 - 7 * 9) = subst (λ j. n < 2 ^ (64 - 7 * j)) h fits in omega (arith, small, over)) in
+    let full : before ≡ 9 → before < 9 = λ h.
+    absurd (let small : n < 2 ^ (64 - 7 * 9) = subst (λ j. n < 2 ^ (64 - 7 * j)) h fits in omega (arith, small, over)) in
     let below : before < 9 = ⊎_elim full (λ h. h) (eq-or-lt_of_le few) in
     let next : 9 - before ≡ suc (9 - suc before) = omega (arith, below) in
     let power : 2 ^ (64 - 7 * before) ≡ 128 * 2 ^ (64 - 7 * suc before) =
@@ -69,7 +74,8 @@ begins_more before n b rest few fits over k =
     (below, omega (arith, fits'), k ∙ ap (λ j. number_groups j n ++ rest) next ∙ ap (λ l. l ++ rest) (number_groups-more (9 - suc before) n over))
 
 -- bytes that are refused as groups begin with none
-not_last : (before group : ℕ) (more : List ℕ) (e : DecodeError) → IsGroupRefusal before (group ∷ more) e → (n : ℕ) (rest : List ℕ) → n < 2 ^ (64 - 7 * before) → (1 ≤ before → 1 ≤ n) → n < 128 → ¬ group ∷ more ≡ n ∷ rest
+not_last : (before group : ℕ) (more : List ℕ) (e : DecodeError) → IsGroupRefusal before (group ∷ more) e
+    → (n : ℕ) (rest : List ℕ) → n < 2 ^ (64 - 7 * before) → (1 ≤ before → 1 ≤ n) → n < 128 → ¬ group ∷ more ≡ n ∷ rest
 not_last before group more e (inl h) n rest fits some low k =
     let small : n < 2 ^ (64 - 7 * 9) = subst (λ j. n < 2 ^ (64 - 7 * j)) h.0 fits in
     h.1 ((heads group n more rest k).0 ∙ omega (arith, small, some, h.0))
@@ -119,7 +125,8 @@ unfolding IsNumberRefusal
 IsNumberRefusal_once b e f h k = IsGroupRefusal_once 0 b e f h k
 
 -- the number that bytes begin with is one, and what is after it
-pub BeginsWithNumber_once : (P Q : ℕ → List ℕ → Type 0) (b : List ℕ) → BeginsWithNumber P b → BeginsWithNumber Q b → BeginsWithNumber (λ n rest. P n rest × Q n rest) b
+pub BeginsWithNumber_once : (P Q : ℕ → List ℕ → Type 0) (b : List ℕ)
+    → BeginsWithNumber P b → BeginsWithNumber Q b → BeginsWithNumber (λ n rest. P n rest × Q n rest) b
 BeginsWithNumber_once P Q b (m, r, fits, s, p) (n, t, _, u, q) =
     let same = number_spelling_once m n r t (sym s ∙ u) in
     (m, r, fits, s, (p, subst (λ k. Q k r) (sym same.0) (subst (λ l. Q n l) (sym same.1) q)))
@@ -136,7 +143,8 @@ IsRefusalUpTo_spells_none greatest above b e (inr ((m, r, _, s, over), _)) small
     omega (arith, over, within, (number_spelling_once m n r rest (sym s ∙ k)).0)
 
 -- bytes are refused as such a number with one error
-pub IsRefusalUpTo_once : (greatest : ℕ) (above : DecodeError) (b : List ℕ) (e f : DecodeError) → IsRefusalUpTo greatest above b e → IsRefusalUpTo greatest above b f → e ≡ f
+pub IsRefusalUpTo_once : (greatest : ℕ) (above : DecodeError) (b : List ℕ) (e f : DecodeError)
+    → IsRefusalUpTo greatest above b e → IsRefusalUpTo greatest above b f → e ≡ f
 IsRefusalUpTo_once greatest above b e f (inl h) (inl k) = IsNumberRefusal_once b e f h k
 IsRefusalUpTo_once greatest above b e f (inl h) (inr k) = absurd (BeginsWithNumber_not_refused (λ n _. greatest < n) b e k.0 h)
 IsRefusalUpTo_once greatest above b e f (inr h) (inl k) = absurd (BeginsWithNumber_not_refused (λ n _. greatest < n) b f h.0 k)
@@ -150,7 +158,8 @@ pub lawful_locations : (rule : List ℕ → List ℕ) (max_leaves max_nodes : �
 lawful_locations rule max_leaves max_nodes law = omega (arith, lawful_leaves rule max_leaves max_nodes law)
 
 -- bytes that begin with a number up to the greatest aren't refused at it
-not_at_number : (greatest : ℕ) (above : DecodeError) (P : ℕ → List ℕ → Type 0) (b : List ℕ) (e : DecodeError) → IsRefusalUpTo greatest above b e → ¬ BeginsWithNumber (λ n rest. (n ≤ greatest) × P n rest) b
+not_at_number : (greatest : ℕ) (above : DecodeError) (P : ℕ → List ℕ → Type 0) (b : List ℕ) (e : DecodeError)
+    → IsRefusalUpTo greatest above b e → ¬ BeginsWithNumber (λ n rest. (n ≤ greatest) × P n rest) b
 not_at_number greatest above P b e (inl h) k = BeginsWithNumber_not_refused (λ n rest. (n ≤ greatest) × P n rest) b e k h
 not_at_number greatest above P b e (inr h) k =
     let (n, rest, fits, s, both) = BeginsWithNumber_once (λ n _. greatest < n) (λ n rest. (n ≤ greatest) × P n rest) b h.0 k in
@@ -166,7 +175,8 @@ IsRefusalFrom_after greatest above after b e (inr (m, r, _, s, p)) small n rest 
 
 -- bytes are refused with one error, at the number or after it
 pub IsRefusalFrom_once : (greatest : ℕ) (above : DecodeError) (after : ℕ → List ℕ → DecodeError → Type 0) (b : List ℕ) (e f : DecodeError)
-    → ((n : ℕ) (rest : List ℕ) → after n rest e → after n rest f → e ≡ f) → IsRefusalFrom greatest above after b e → IsRefusalFrom greatest above after b f → e ≡ f
+    → ((n : ℕ) (rest : List ℕ) → after n rest e → after n rest f → e ≡ f)
+    → IsRefusalFrom greatest above after b e → IsRefusalFrom greatest above after b f → e ≡ f
 IsRefusalFrom_once greatest above after b e f once (inl h) (inl k) = IsRefusalUpTo_once greatest above b e f h k
 IsRefusalFrom_once greatest above after b e f once (inl h) (inr k) = absurd (not_at_number greatest above (λ n rest. after n rest f) b e h k)
 IsRefusalFrom_once greatest above after b e f once (inr h) (inl k) = absurd (not_at_number greatest above (λ n rest. after n rest e) b f k h)

@@ -61,7 +61,7 @@ pub trait Write: EncodeSize {
     fn write(&self, out: &mut Vec<u8>) -> Result<(), OutOfMemory>
         ensures ok { OnOk result (out.new.items ≡ out.old.items ++ Self.spelling self.now) }
         ensures err { OnErr result (out.new.items ≡ out.old.items) }
-        ensures full { OnErr result (vec_capacity out.old < vec_len out.old + length (Self.spelling self.now)) };
+        ensures no_room { OnErr result (vec_capacity out.old < vec_len out.old + length (Self.spelling self.now)) };
 }
 
 /// A value that can be decoded from the front of a byte slice.
@@ -100,9 +100,11 @@ pub trait Read: Sized {
         ensures refused { IfErr result (λ e. refuses cfg.now input.old.now e) }
         ensures unchanged { OnErr result (input.new.now ≡ input.old.now) };
 
-    ghost refused_spells_none: { (cfg : Self.Cfg) (b : List ℕ) (e : DecodeError) → refuses cfg b e → e ≢ DecodeError.OutOfMemory → (x : Self) (rest : List ℕ) → within cfg x → ¬ b ≡ spelled_by x ++ rest };
+    ghost refused_spells_none: { (cfg : Self.Cfg) (b : List ℕ) (e : DecodeError) → refuses cfg b e → e ≢ DecodeError.OutOfMemory
+        → (x : Self) (rest : List ℕ) → within cfg x → ¬ b ≡ spelled_by x ++ rest };
 
-    ghost one_refusal: { (cfg : Self.Cfg) (b : List ℕ) (e f : DecodeError) → refuses cfg b e → refuses cfg b f → e ≢ DecodeError.OutOfMemory → f ≢ DecodeError.OutOfMemory → e ≡ f };
+    ghost one_refusal: { (cfg : Self.Cfg) (b : List ℕ) (e f : DecodeError) → refuses cfg b e → refuses cfg b f
+        → e ≢ DecodeError.OutOfMemory → f ≢ DecodeError.OutOfMemory → e ≡ f };
 }
 
 // Decodes the digest that `bytes` begin with, and returns it with the bytes after it.

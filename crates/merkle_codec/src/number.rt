@@ -110,7 +110,7 @@ pub(crate) fn write_number(number: u64, out: &mut Vec<u8>) -> Result<(), OutOfMe
     ensures ok { OnOk result (out.new.items ≡ out.old.items ++ number_spelling number) }
     ensures len { OnOk result (vec_len out.new ≡ vec_len out.old + length (number_spelling number)) }
     ensures err { OnErr result (out.new.items ≡ out.old.items) }
-    ensures full { OnErr result (vec_capacity out.old < vec_len out.old + length (number_spelling number)) }
+    ensures no_room { OnErr result (vec_capacity out.old < vec_len out.old + length (number_spelling number)) }
     ensures capacity { vec_capacity out.old ≤ vec_capacity out.new }
 {
     let (groups, len) = groups_of(number);
@@ -170,7 +170,8 @@ impl<F: Family> Read for Position<F> {
         Ok(Position::new(number))
     }
 
-    ghost refused_spells_none = { λ _ b e h _ x rest within. IsRefusalUpTo_spells_none F.MAX_NODES Invalid b e h (lawful_nodes F.rule F.MAX_LEAVES F.MAX_NODES F.lawful) x rest within };
+    ghost refused_spells_none = { λ _ b e h _ x rest within.
+        IsRefusalUpTo_spells_none F.MAX_NODES Invalid b e h (lawful_nodes F.rule F.MAX_LEAVES F.MAX_NODES F.lawful) x rest within };
 
     ghost one_refusal = { λ _ b e f h k _ _. IsRefusalUpTo_once F.MAX_NODES Invalid b e f h k };
 }
@@ -227,7 +228,8 @@ impl<F: Family> Read for Location<F> {
         Ok(Location::new(number))
     }
 
-    ghost refused_spells_none = { λ _ b e h _ x rest within. IsRefusalUpTo_spells_none F.MAX_LEAVES Invalid b e h (lawful_locations F.rule F.MAX_LEAVES F.MAX_NODES F.lawful) x rest within };
+    ghost refused_spells_none = { λ _ b e h _ x rest within.
+        IsRefusalUpTo_spells_none F.MAX_LEAVES Invalid b e h (lawful_locations F.rule F.MAX_LEAVES F.MAX_NODES F.lawful) x rest within };
 
     ghost one_refusal = { λ _ b e f h k _ _. IsRefusalUpTo_once F.MAX_LEAVES Invalid b e f h k };
 }

@@ -91,7 +91,7 @@ fn read_proof<F: Family, D: Digest>(
 // `OutOfMemory` only if `out` has no room for them and a memory request is refused.
 fn write_digests<D: Digest>(digests: &[D], out: &mut Vec<u8>) -> Result<(), OutOfMemory>
     ensures ok { OnOk result (out.new.items ≡ out.old.items ++ flat_map D.bytes digests.now) }
-    ensures full { OnErr result (vec_capacity out.old < vec_len out.old + length digests.now * D.SIZE) }
+    ensures no_room { OnErr result (vec_capacity out.old < vec_len out.old + length digests.now * D.SIZE) }
 {
     for digest in digests {
         out.extend_from_slice(digest.as_bytes())?;
@@ -211,7 +211,9 @@ impl<F: Family, D: Digest> Read for Proof<F, D> {
         }
     }
 
-    ghost refused_spells_none = { λ limit b e h memory p rest within k. memory (IsProofReadRefusal_of_spelling D.bytes D.SIZE (λ x. D.one_length (D.bytes x) (D.bytes_spell x)) D.Spells D.bytes_spell F.MAX_LEAVES limit (lawful_locations F.rule F.MAX_LEAVES F.MAX_NODES F.lawful) b e h p rest within k) };
+    ghost refused_spells_none = { λ limit b e h memory p rest within k.
+        memory (IsProofReadRefusal_of_spelling D.bytes D.SIZE (λ x. D.one_length (D.bytes x) (D.bytes_spell x)) D.Spells D.bytes_spell
+        F.MAX_LEAVES limit (lawful_locations F.rule F.MAX_LEAVES F.MAX_NODES F.lawful) b e h p rest within k) };
 
     ghost one_refusal = { λ limit b e f h k x y. IsProofReadRefusal_once D.SIZE D.Spells F.MAX_LEAVES limit b e f h k x y };
 }

@@ -30,7 +30,8 @@ claim_of h c X p ds = claim h c X p ds (drop (length (outside_parts c p)) ds)
 
 -- an honest proof's claim has the list's value
 abbrev pub HonestAccepted : Type 0 → Type 0
-HonestAccepted D = (h : Hashing D) (c : ℕ → Bool) (X Y : ℕ → D) (p : Plan) → ((i : ℕ) → c i ≡ true → Y i ≡ X i) → value h (claim_of h c Y p (honest_digests h X c p)) ≡ plan_digest h X p
+HonestAccepted D = (h : Hashing D) (c : ℕ → Bool) (X Y : ℕ → D) (p : Plan) → ((i : ℕ) → c i ≡ true → Y i ≡ X i)
+    → value h (claim_of h c Y p (honest_digests h X c p)) ≡ plan_digest h X p
 
 -- a location of a tree
 abbrev pub InTree : Tree → ℕ → Type 0
@@ -44,12 +45,15 @@ InPlan (folding place l r) j = InPlan l j ⊎ InPlan r j
 
 -- what has as many digests as the plan asks, and the list's value, is honest or collides with the list
 abbrev pub ClaimSound : Type 0 → Type 0
-ClaimSound D = (h : Hashing D) → EqDecides h → (c : ℕ → Bool) (X Y : ℕ → D) (p : Plan) (ds : List D) → length ds ≡ length (outside_parts c p) + length (path_siblings c p)
+ClaimSound D = (h : Hashing D) → EqDecides h → (c : ℕ → Bool) (X Y : ℕ → D) (p : Plan) (ds : List D)
+    → length ds ≡ length (outside_parts c p) + length (path_siblings c p)
     → value h (claim_of h c Y p ds) ≡ plan_digest h X p
-    → ((ds ≡ honest_digests h X c p) × ((i : ℕ) → InPlan p i → c i ≡ true → Y i ≡ X i)) ⊎ ((k : Collision D) × Collides h (inputs h (claim_of h c Y p ds)) (inputs h (plan_expression X p)) k)
+    → ((ds ≡ honest_digests h X c p) × ((i : ℕ) → InPlan p i → c i ≡ true → Y i ≡ X i))
+    ⊎ ((k : Collision D) × Collides h (inputs h (claim_of h c Y p ds)) (inputs h (plan_expression X p)) k)
 
 -- two claims of one value agree at each location that both choose, or they collide
 abbrev pub PairAgrees : Type 0 → Type 0
 PairAgrees D = (h : Hashing D) → EqDecides h → (c d : ℕ → Bool) (X Y : ℕ → D) (p : Plan) (xs ys : List D)
     → value h (claim_of h c X p xs) ≡ value h (claim_of h d Y p ys)
-    → ((i : ℕ) → InPlan p i → c i ≡ true → d i ≡ true → X i ≡ Y i) ⊎ ((k : Collision D) × Collides h (inputs h (claim_of h c X p xs)) (inputs h (claim_of h d Y p ys)) k)
+    → ((i : ℕ) → InPlan p i → c i ≡ true → d i ≡ true → X i ≡ Y i)
+    ⊎ ((k : Collision D) × Collides h (inputs h (claim_of h c X p xs)) (inputs h (claim_of h d Y p ys)) k)

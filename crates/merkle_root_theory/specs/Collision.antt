@@ -23,4 +23,5 @@ pub record Collides {D : Type 0} (h : Hashing D) (xs ys : List (Input D)) (c : C
 
 -- alike expressions with one value: what they are given agrees, or they collide
 abbrev pub AgreeOrCollide : Type 0 → Type 0
-AgreeOrCollide D = (h : Hashing D) → EqDecides h → (e f : Expression D) (a : Alike e f) → Holds h e → value h e ≡ value h f → Agree h a ⊎ ((c : Collision D) × Collides h (inputs h e) (inputs h f) c)
+AgreeOrCollide D = (h : Hashing D) → EqDecides h → (e f : Expression D) (a : Alike e f) → Holds h e → value h e ≡ value h f
+    → Agree h a ⊎ ((c : Collision D) × Collides h (inputs h e) (inputs h f) c)

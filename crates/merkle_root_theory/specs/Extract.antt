@@ -13,7 +13,8 @@ use Rattle.merkle_base.specs.Scheme.{Scheme}
 use Rattle.merkle_base.specs.Places.{peaks_of, wholly_before}
 use Rattle.merkle_root_theory.specs.Range.{in_range, overlapping, wholly_after, range_parts, end_of, leaf_of, AcceptsNonempty, plan_root, IsLawfulScheme, RangeCollides}
 
--- the pairs below a node that overlaps the range: those of its left child, those of its right child, the left child, the right child; ds: the digests for its siblings
+-- the pairs below a node that overlaps the range: those of its left child, those of its right child, the left child, the right child;
+-- ds: the digests for its siblings
 abbrev pub inner_pairs : {D : Type 0} → Hashing D → (ℕ → Bool) → (ℕ → D) → Tree → List D → List (ℕ × D)
 inner_pairs h c X (leaf p i) ds = []
 inner_pairs h c X (join p l r) ds = cond (tree_meets c l || tree_meets c r)
@@ -41,7 +42,8 @@ extracted s r =
     let folded = length (fold_all (folded_prefix s.bagging r.inactive before)) in
     let single = single_before s.bagging r.inactive before in
     single_pairs s.hashing single (drop folded r.digests)
-    ++ (over_pairs s.hashing (in_range r.start (end_of r)) (leaf_given s.hashing r) over (drop (length (range_parts s.bagging r.inactive r.start (end_of r) ts)) r.digests)
+    ++ (over_pairs s.hashing (in_range r.start (end_of r)) (leaf_given s.hashing r) over
+    (drop (length (range_parts s.bagging r.inactive r.start (end_of r) ts)) r.digests)
     ++ single_pairs s.hashing (single_after s.bagging r.inactive (length before + length over) after) (drop (length single) (drop folded r.digests)))
 
 -- a position of the list's forest with its digest
@@ -50,5 +52,6 @@ IsNodePair s xs x = (t : Tree) × (slice_get (forest s.rule (length xs)).nodes x
 
 -- each pair of an accepted input is one, or there is a collision
 abbrev pub ExtractsNodes : Type 0 → Type 0
-ExtractsNodes D = (s : Scheme D) (size max_nodes : ℕ) → IsLawfulScheme s size max_nodes → (xs : List D) (k : ℕ) → length xs ≤ s.max_leaves → k ≤ length (peaks_of s.rule (length xs)) → (r : RangeInput D)
+ExtractsNodes D = (s : Scheme D) (size max_nodes : ℕ) → IsLawfulScheme s size max_nodes
+    → (xs : List D) (k : ℕ) → length xs ≤ s.max_leaves → k ≤ length (peaks_of s.rule (length xs)) → (r : RangeInput D)
     → AcceptsNonempty s r (plan_root s xs k) → AllByRecursion (IsNodePair s xs) (extracted s r) ⊎ RangeCollides s r xs k

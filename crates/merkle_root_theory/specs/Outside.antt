@@ -61,5 +61,6 @@ HasLayout c os is (Some p) = (outside_parts c p ≡ os) × (path_siblings c p �
 
 -- the parts outside the range are those of the layout
 abbrev pub OutsideIsLayout : Type 0
-OutsideIsLayout = (c : ℕ → Bool) (bagging : Bagging) (k : ℕ) (before : List Tree) (t : Tree) (over after : List Tree) → Unmet c before → Met c (t ∷ over) → Unmet c after
+OutsideIsLayout = (c : ℕ → Bool) (bagging : Bagging) (k : ℕ) (before : List Tree) (t : Tree) (over after : List Tree)
+    → Unmet c before → Met c (t ∷ over) → Unmet c after
     → HasLayout c (layout bagging k before (t ∷ over) after) (flat_map (siblings c) (t ∷ over)) (root_plan bagging k (before ++ (t ∷ over ++ after)))

@@ -50,11 +50,13 @@ end_of r = r.start + length r.elements
 
 -- an accepted input with elements
 pub record AcceptsNonempty {D : Type 0} (s : Scheme D) (r : RangeInput D) (root : D) : Type 0 where
-  pub some : 0 < length r.elements
+  pub nonempty : 0 < length r.elements
   pub within : end_of r ≤ r.leaves
   pub leaves : r.leaves ≤ s.max_leaves
   pub inactive : r.inactive ≤ length (peaks_of s.rule r.leaves)
-  pub counts : length r.digests ≡ length (range_parts s.bagging r.inactive r.start (end_of r) (peaks_of s.rule r.leaves)) + length (range_siblings r.start (end_of r) (peaks_of s.rule r.leaves))
+  pub counts : length r.digests
+      ≡ length (range_parts s.bagging r.inactive r.start (end_of r) (peaks_of s.rule r.leaves))
+      + length (range_siblings r.start (end_of r) (peaks_of s.rule r.leaves))
   pub root_is : root_of s r.leaves r.inactive (range_expression s r) ≡ root
 
 -- the empty proof of no elements
@@ -76,7 +78,7 @@ ForRootOf {D} s root P =
 
 -- the honest proof of a nonempty range of a list, with its leaves
 pub record IsHonestNonempty {D : Type 0} (s : Scheme D) (xs : List D) (k : ℕ) (r : RangeInput D) : Type 0 where
-  pub some : 0 < length r.elements
+  pub nonempty : 0 < length r.elements
   pub within : end_of r ≤ length xs
   pub leaves : r.leaves ≡ length xs
   pub inactive : r.inactive ≡ k
@@ -107,10 +109,12 @@ RangeCollides {D = D} s r xs k = (c : Collision D) × Collides s.hashing (range_
 
 -- the honest inputs are accepted
 abbrev pub HonestIsAccepted : Type 0 → Type 0
-HonestIsAccepted D = (s : Scheme D) (size max_nodes : ℕ) → IsLawfulScheme s size max_nodes → (xs : List D) (k : ℕ) → length xs ≤ s.max_leaves → k ≤ length (peaks_of s.rule (length xs)) → (r : RangeInput D)
+HonestIsAccepted D = (s : Scheme D) (size max_nodes : ℕ) → IsLawfulScheme s size max_nodes
+    → (xs : List D) (k : ℕ) → length xs ≤ s.max_leaves → k ≤ length (peaks_of s.rule (length xs)) → (r : RangeInput D)
     → IsHonestRange s xs k r → Accepts s r (plan_root s xs k)
 
 -- and no others, but for collisions
 abbrev pub RangeSound : Type 0 → Type 0
-RangeSound D = (s : Scheme D) (size max_nodes : ℕ) → IsLawfulScheme s size max_nodes → (xs : List D) (k : ℕ) → length xs ≤ s.max_leaves → k ≤ length (peaks_of s.rule (length xs)) → (r : RangeInput D)
+RangeSound D = (s : Scheme D) (size max_nodes : ℕ) → IsLawfulScheme s size max_nodes
+    → (xs : List D) (k : ℕ) → length xs ≤ s.max_leaves → k ≤ length (peaks_of s.rule (length xs)) → (r : RangeInput D)
     → Accepts s r (plan_root s xs k) → IsHonestRange s xs k r ⊎ RangeCollides s r xs k

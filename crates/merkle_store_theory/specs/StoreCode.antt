@@ -26,7 +26,20 @@ bagging_code = code_by Bool coded_bool is_forward forward_if forward_if-is_forwa
 -- and what a store holds is its fields
 abbrev pub store_value_code : {D : Type 0} → Coded D → Coded (StoreValue D)
 store_value_code d =
-    code_by _ (coded× coded_ℕ (coded× coded_ℕ (coded× bagging_code (coded× d (coded× coded_ℕ (coded× coded_ℕ (coded× (coded_list (coded× coded_ℕ d)) (coded× (coded_list coded_ℕ) (coded× (coded_option d) (coded_option d))))))))))
+    code_by _
+    (coded× coded_ℕ (coded× coded_ℕ (coded× bagging_code (coded× d (coded× coded_ℕ (coded× coded_ℕ
+    (coded× (coded_list (coded× coded_ℕ d)) (coded× (coded_list coded_ℕ) (coded× (coded_option d) (coded_option d))))))))))
     (λ v. (v.leaves, (v.inactive, (v.bagging, (v.root, (v.start, (v.end, (v.pairs, (v.suffix_peaks, (v.prefix, v.suffix))))))))))
-    (λ p. record { leaves = p.0; inactive = p.1.0; bagging = p.1.1.0; root = p.1.1.1.0; start = p.1.1.1.1.0; end = p.1.1.1.1.1.0; pairs = p.1.1.1.1.1.1.0; suffix_peaks = p.1.1.1.1.1.1.1.0; prefix = p.1.1.1.1.1.1.1.1.0; suffix = p.1.1.1.1.1.1.1.1.1 })
+    (λ p. record {
+      leaves = p.0;
+      inactive = p.1.0;
+      bagging = p.1.1.0;
+      root = p.1.1.1.0;
+      start = p.1.1.1.1.0;
+      end = p.1.1.1.1.1.0;
+      pairs = p.1.1.1.1.1.1.0;
+      suffix_peaks = p.1.1.1.1.1.1.1.0;
+      prefix = p.1.1.1.1.1.1.1.1.0;
+      suffix = p.1.1.1.1.1.1.1.1.1;
+    })
     (λ _. refl)

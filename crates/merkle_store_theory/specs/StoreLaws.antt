@@ -24,7 +24,7 @@ StoreAnswers D = (s : Scheme D) (r : RangeInput D) (root : D) (a b : ℕ) → Ac
 
 -- q has the proof that the store of r answers for a part of its range, with the elements of r there
 pub record IsStoreProof {D : Type 0} (s : Scheme D) (r q : RangeInput D) (root : D) : Type 0 where
-  pub some : 0 < length q.elements
+  pub nonempty : 0 < length q.elements
   pub from : r.start ≤ q.start
   pub to : end_of q ≤ end_of r
   pub leaves : q.leaves ≡ r.leaves
@@ -76,5 +76,6 @@ ShorterIsNext D = (s : Scheme D) (v : StoreValue D) (a b : ℕ) → 0 < length (
 
 -- the store of a list's honest proof answers its honest proofs
 abbrev pub HonestStoreIsHonest : Type 0 → Type 0
-HonestStoreIsHonest D = (s : Scheme D) (xs : List D) (k : ℕ) (r : RangeInput D) (root : D) (a b : ℕ) → IsHonestNonempty s xs k r → AcceptsNonempty s r root → a < b → r.start ≤ a → b ≤ end_of r
+HonestStoreIsHonest D = (s : Scheme D) (xs : List D) (k : ℕ) (r : RangeInput D) (root : D) (a b : ℕ)
+    → IsHonestNonempty s xs k r → AcceptsNonempty s r root → a < b → r.start ≤ a → b ≤ end_of r
     → store_proof s (store_of s r root) a b ≡ range_digests s xs k a b

@@ -28,7 +28,8 @@ asked_met s v a b = length (wholly_before a (peaks_of s.rule v.leaves)) + length
 
 -- those that stand alone, before the range and after it
 abbrev pub asked_single : {D : Type 0} → Scheme D → StoreValue D → (a b : ℕ) → List Tree
-asked_single s v a b = single_before v.bagging v.inactive (wholly_before a (peaks_of s.rule v.leaves)) ++ single_after v.bagging v.inactive (asked_met s v a b) (wholly_after b (peaks_of s.rule v.leaves))
+asked_single s v a b = single_before v.bagging v.inactive (wholly_before a (peaks_of s.rule v.leaves))
+    ++ single_after v.bagging v.inactive (asked_met s v a b) (wholly_after b (peaks_of s.rule v.leaves))
 
 -- those folded in the suffix
 abbrev pub asked_suffix : {D : Type 0} → Scheme D → StoreValue D → (a b : ℕ) → List Tree

@@ -59,7 +59,8 @@ suffix_at h v (p ∷ ps) = option_to_list (right_fold h.fold (read_at h v (take 
 
 -- the digests of the proof; ps: the positions that are read
 abbrev pub proof_at : {D : Type 0} → Hashing D → StoreValue D → Counts → List ℕ → List D
-proof_at h v n ps = prefix_at h v n.held (take n.folded ps) ++ (read_at h v (single_reads n ps) ++ (suffix_at h v (suffix_reads n ps) ++ read_at h v (sibling_reads n ps)))
+proof_at h v n ps = prefix_at h v n.held (take n.folded ps)
+    ++ (read_at h v (single_reads n ps) ++ (suffix_at h v (suffix_reads n ps) ++ read_at h v (sibling_reads n ps)))
 
 -- the refusal of a suffix with peaks; qs: the positions of the store's own
 abbrev pub lacking_at : {D : Type 0} → StoreValue D → (qs ps : List ℕ) → Option ℕ

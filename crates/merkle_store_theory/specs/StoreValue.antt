@@ -40,7 +40,8 @@ suffix_of s r = folded_suffix s.bagging r.inactive (met_by s r) (wholly_after (e
 abbrev pub suffix_given : {D : Type 0} → Scheme D → RangeInput D → Option D
 suffix_given s r =
     slice_get (take (length (bag_all 0 (suffix_of s r)))
-    (drop (count_before s.bagging r.inactive (wholly_before r.start (peaks_of s.rule r.leaves)) + length (single_after s.bagging r.inactive (met_by s r) (wholly_after (end_of r) (peaks_of s.rule r.leaves)))) r.digests)) 0
+    (drop (count_before s.bagging r.inactive (wholly_before r.start (peaks_of s.rule r.leaves))
+    + length (single_after s.bagging r.inactive (met_by s r) (wholly_after (end_of r) (peaks_of s.rule r.leaves)))) r.digests)) 0
 
 -- the store of an accepted input, which has that root
 abbrev pub store_of : {D : Type 0} → Scheme D → RangeInput D → D → StoreValue D

@@ -11,7 +11,8 @@ unfoldable pub first_trees : (count next left : ℕ) → List (ℕ × ℕ)
 first_trees zero next left = []
 first_trees (suc k) next zero = []
 first_trees (suc k) next (suc m) =
-    (next + 2 ^ suc (tallest m (suc m)) - 2, tallest m (suc m)) ∷ first_trees k (next + 2 ^ suc (tallest m (suc m)) - 1) (suc m + 1 - 2 ^ suc (tallest m (suc m)))
+    (next + 2 ^ suc (tallest m (suc m)) - 2, tallest m (suc m))
+    ∷ first_trees k (next + 2 ^ suc (tallest m (suc m)) - 1) (suc m + 1 - 2 ^ suc (tallest m (suc m)))
 
 -- where the trees that so many nodes from a position on make up have their roots, and how high they are:
 -- each tree is the highest that the nodes left hold
