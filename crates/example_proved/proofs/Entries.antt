@@ -85,7 +85,7 @@ is_honest s entries k leaves inactive digests i entry there honest =
     let placed : slice_get (leaves_of s entries) i ≡ Some (s.hashing.leaf (size s.rule i) entry) =
     digest_of_entry s.hashing s.rule 0 entries i entry there ∙ ap (λ n. Some (s.hashing.leaf (size s.rule n) entry)) (omega arith) in
     inl (record {
-      some = omega arith;
+      nonempty = omega arith;
       within = omega (arith, counted, within);
       leaves = honest.leaves ∙ sym counted;
       inactive = honest.inactive_peaks;

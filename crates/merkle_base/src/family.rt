@@ -107,7 +107,7 @@ pub trait Family: Copy + Debug + Default {
     final fn nodes_to_pin(location: Location<Self>) -> NodesToPin<Self>
         requires { location ≤ MAX_LEAVES }
         ensures peaks { result ≡ peak_positions rule location }
-        ensures few { length result ≤ MAX_PINNED_NODES }
+        ensures at_most_max_pinned { length result ≤ MAX_PINNED_NODES }
     {
         NodesToPin {
             peaks: Self::peaks(Self::location_to_position(location)),
@@ -182,7 +182,7 @@ pub trait Graftable: Family {
     fn leftmost_leaf(position: Position<Self>, height: u32) -> Location<Self>
         requires low { height ≤ 62 }
         requires within { position ≤ Self.MAX_NODES }
-        requires some { (s : ℕ) × (root s height ≡ position) }
+        requires is_root { (s : ℕ) × (root s height ≡ position) }
         ensures formula { root result height ≡ position }
         ensures node { (t : Tree) → IsNode Self.rule Self.MAX_LEAVES position height t → result ≡ first_leaf t };
 
@@ -194,7 +194,7 @@ pub trait Graftable: Family {
     fn peak_birth_size(position: Position<Self>, height: u32) -> u64
         requires low { height ≤ 62 }
         requires within { position ≤ Self.MAX_NODES }
-        requires some { (s : ℕ) × (root s height ≡ position) }
+        requires is_root { (s : ℕ) × (root s height ≡ position) }
         ensures formula { (s : ℕ) → root s height ≡ position → result ≡ birth s height }
         ensures node { (t : Tree) → IsNode Self.rule Self.MAX_LEAVES position height t → IsBirthSize Self.rule position result };
 

@@ -29,7 +29,7 @@ use Rattle.merkle_batch_theory.specs.Assignment.{ReadsAgree, digests_from}
 use Rattle.merkle_draft.specs.declared.node_error.NodeError.{NodeError}
 use Rattle.merkle_draft.specs.declared.node_error.NodeError.TheVariants.{Missing, OutOfMemory}
 use Rattle.merkle_base.specs.declared.error.Error.TheVariants as error
-use Rattle.merkle_draft.specs.NodeErrors.{error_of}
+use Rattle.merkle_draft.specs.NodeErrors.{node_error}
 use Rattle.merkle_batch_theory.proofs.Edits.{same_gets, replaced_get}
 use Rattle.merkle_batch_theory.proofs.Forking.{kept_runs, last_size}
 use Rattle.merkle_batch_theory.proofs.Stored.{find_lookup}
@@ -151,7 +151,7 @@ module _ {D : Type 0} (h : Hashing D) (rule : List ℕ → List ℕ) (max_leaves
             | inr w ↦ as_many (old_node d1 base) d1.before d1.appended h.empty rule (leaf_total p) pa w.1
           ] in record {
             runs = subst (λ ks. RunsFrom (oldest (with_ancestors ks)).before (ks ++ own ∷ [])) (sym kept_are)
-                (kept_runs rule max_leaves p.parent.base_size p.parent.boundary leaves p own linked drafted.valid.some (sized ∙ drafted.valid.sized));
+                (kept_runs rule max_leaves p.parent.base_size p.parent.boundary leaves p own linked drafted.valid.forgotten (sized ∙ drafted.valid.sized));
             counted = record { bounded = omega (arith, total, drafted.valid.bounded); sized = ap (size rule) total ∙ sym filled.counted };
             peaks = many ∙ ap (λ (n : ℕ). length (peaks_of rule n)) (sym total);
           }
@@ -184,13 +184,13 @@ module _ {D : Type 0} (h : Hashing D) (rule : List ℕ → List ℕ) (max_leaves
 -- the error names a missing node, or there is no memory
 pub named_refused : {F D : Type 0} (rule : List ℕ → List ℕ) (p : UnmerkleizedModel D) (base : Contents D) (gap : NodeError F)
     → (gap ≢ OutOfMemory → NamesMissing rule p base gap)
-    → (error_of gap ≡ error.OutOfMemory) ⊎ ((t : Tree) × (error_of gap ≡ error.MissingNode (position t)) × IsMissing rule p base t)
-named_refused rule p base (Missing q) f = (let w = f (λ e. cc) in inr (w.0, ap error_of w.1, w.2))
+    → (node_error gap ≡ error.OutOfMemory) ⊎ ((t : Tree) × (node_error gap ≡ error.MissingNode (position t)) × IsMissing rule p base t)
+named_refused rule p base (Missing q) f = (let w = f (λ e. cc) in inr (w.0, ap node_error w.1, w.2))
 named_refused rule p base OutOfMemory f = inl refl
 
 -- and where none is missing there is no memory
 pub named_given : {F D : Type 0} (rule : List ℕ → List ℕ) (p : UnmerkleizedModel D) (base : Contents D) (gap : NodeError F)
-    → (gap ≢ OutOfMemory → NamesMissing rule p base gap) → ((t : Tree) → IsMissing rule p base t → ⊥) → error_of gap ≡ error.OutOfMemory
+    → (gap ≢ OutOfMemory → NamesMissing rule p base gap) → ((t : Tree) → IsMissing rule p base t → ⊥) → node_error gap ≡ error.OutOfMemory
 named_given rule p base (Missing q) f none = (let w = f (λ e. cc) in absurd (none w.0 w.2))
 named_given rule p base OutOfMemory f none = refl
 

@@ -84,7 +84,7 @@ module _ {D : Type 0} (h : Hashing D) (rule : List ℕ → List ℕ) (max_leaves
     -- an untouched node that is read has its digest of the new list
     below_right : (q : ℕ) (t : Tree) (d : D) → slice_get (forest rule p.leaves_before).nodes q ≡ Some t → is_dirty (get p.overwritten) t ≡ false → read_over (kept p) base q ≡ Some d → d ≡ digest_at h list t
     below_right q t d e u g =
-        (let k = kept_stands h rule p ls pending.some stands in
+        (let k = kept_stands h rule p ls pending.forgotten stands in
         let there : slice_get (k.0 ∷ k.1) agrees.0 ≡ Some agrees.1 = ap (λ xs. slice_get xs agrees.0) (sym k.2) ∙ agrees.2 in
         let read : slice_get (node_digests h rule last) q ≡ Some d = ap (λ X. slice_get (node_digests h rule X) q) (sym k.4) ∙ read_right h rule (kept p) k.0 k.1 base agrees.0 agrees.1 k.3 there agrees.3 q d g in
         let node : slice_get (forest rule (length last)).nodes q ≡ Some t = ap (λ (n : ℕ). slice_get (forest rule n).nodes q) (sym leaves_are) ∙ e in
@@ -118,7 +118,7 @@ module _ {D : Type 0} (h : Hashing D) (rule : List ℕ → List ℕ) (max_leaves
           → r.appended ≡ drop (size rule p.leaves_before) (node_digests h rule list) → r.peaks_before ≡ p.parent.own.peaks_after
           → r.peaks_after ≡ peak_digests h rule list → IsHistory h rule (kept p ++ r ∷ []) (kept_lists p ls ++ list ∷ [])
       list_stands r before overwritten past appended peaks_before peaks_after =
-          (let k = kept_stands h rule p ls pending.some stands in
+          (let k = kept_stands h rule p ls pending.forgotten stands in
           let n : size rule p.leaves_before ≡ size rule (length last) = ap (size rule) leaves_are in
           let step = step_is h rule (get p.overwritten) last p.added d.overwritten
           (λ q t e. overwritten_right h rule (get p.overwritten) (read_over (kept p) base) p.leaves_before p.added list below_right leaf_told list_added d b are
@@ -134,7 +134,7 @@ module _ {D : Type 0} (h : Hashing D) (rule : List ℕ → List ℕ) (max_leaves
     -- where the changed leaves stand at the base's boundary or after it no needed node is missing
     pub list_given : ((k : ℕ) → is_some (get p.overwritten (size rule k)) ≡ true → base.boundary ≤ k) → (t : Tree) → IsMissing rule p base t → ⊥
     list_given above t missing =
-        (let k = kept_stands h rule p ls pending.some stands in
+        (let k = kept_stands h rule p ls pending.forgotten stands in
         let there : slice_get (k.0 ∷ k.1) agrees.0 ≡ Some agrees.1 = ap (λ xs. slice_get xs agrees.0) (sym k.2) ∙ agrees.2 in
         let n : p.leaves_before ≡ length (last_list (k.0 ∷ k.1)) = leaves_are ∙ ap length (sym k.4) in
         let r : RecordModel D = record { before = 0; peaks_before = []; appended = []; overwritten = p.overwritten; peaks_after = [] } in

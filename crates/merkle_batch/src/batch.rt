@@ -12,7 +12,7 @@ ghost use Rattle.merkle_base.specs.Places.{peaks_of};
 ghost use Rattle.merkle_base.specs.Tree.{Tree, position};
 ghost use Rattle.merkle_batch_theory.specs.Contents.{AgreesWithOne};
 ghost use Rattle.merkle_batch_theory.specs.Missing.{IsMissing};
-ghost use Rattle.merkle_batch_theory.specs.Needed.{computed};
+ghost use Rattle.merkle_batch_theory.specs.Needed.{computed_nodes};
 ghost use Rattle.merkle_batch_theory.specs.Unmerkleized.{Fault, first_fault, forked, kept, kept_lists, leaf_total, pending_list, update_fault, with_entries, with_leaf, with_leaves, with_update, with_updates, without_ancestors};
 ghost use Rattle.merkle_batch_theory.specs.Records.{after, records};
 ghost use Rattle.merkle_batch_theory.specs.Refusals.{fault_error};
@@ -425,7 +425,7 @@ impl<F: Family, D: Digest> UnmerkleizedBatch<F, D> {
             → AgreesWithOne h F.rule (B.contents base.now) (kept_lists self ls)
             → ((k : ℕ) → is_some (get self.overwritten (size F.rule k)) ≡ true → (B.contents base.now).boundary ≤ k)
             → IsOkUnless result Error.OutOfMemory }
-        ensures work { let count = length (computed F.rule (get self.overwritten) self.leaves_before (leaf_total self)) in
+        ensures work { let count = length (computed_nodes F.rule (get self.overwritten) self.leaves_before (leaf_total self)) in
             OnOk result (work.new ≡ record { node_digests = count; probes = work.old.probes }) }
         ensures unchanged { OnErr result (work.new ≡ work.old) }
     {
@@ -459,7 +459,7 @@ impl<F: Family, D: Digest> UnmerkleizedBatch<F, D> {
             → AgreesWithOne h F.rule (B.contents base.now) (kept_lists self.now ls)
             → ((k : ℕ) → is_some (get self.now.overwritten (size F.rule k)) ≡ true → (B.contents base.now).boundary ≤ k)
             → IsOkUnless result Error.OutOfMemory }
-        ensures work { let count = length (computed F.rule (get self.now.overwritten) self.now.leaves_before (leaf_total self.now)) in
+        ensures work { let count = length (computed_nodes F.rule (get self.now.overwritten) self.now.leaves_before (leaf_total self.now)) in
             OnOk result (work.new ≡ record { node_digests = count; probes = work.old.probes }) }
         ensures unchanged { OnErr result (work.new ≡ work.old) }
     {

@@ -102,7 +102,7 @@ impl<F: Family, D: Digest> MerkleizedBatch<F, D> {
         ensures granted { (h : Hashing D) → (ls : List (List D)) → IsHistory h F.rule (records self.now) ls
             → AgreesWithOne h F.rule (B.contents base.now) ls → (B.contents base.now).boundary ≤ location → location < length (last_list ls)
             → inactive ≤ length (peaks_of F.rule (length (last_list ls))) → IsOkUnless result Error.OutOfMemory }
-        ensures few { FewPeaks F.rule F.MAX_LEAVES → IfOk result (λ p. length p.digests.items ≤ 122) }
+        ensures at_most_122 { FewPeaks F.rule F.MAX_LEAVES → IfOk result (λ p. length p.digests.items ≤ 122) }
         ensures err { let bagging = H.bagging_of hasher.now in let node = read_over (records self.now) (B.contents base.now) in
             IfErr result (λ e. e ≢ Error.OutOfMemory → IsProofRefusal bagging F.rule F.MAX_LEAVES self.now.leaves location inactive node e) }
     {

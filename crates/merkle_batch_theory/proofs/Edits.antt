@@ -11,7 +11,7 @@ use Rattle.merkle_base.proofs.Nodes.{size_le, size_lt, size_step}
 use Rattle.merkle_base.proofs.Lookup.{get_append_add}
 use Rattle.merkle_batch_theory.specs.Records.{RecordModel}
 use Rattle.merkle_batch_theory.specs.Replay.{overwritten_by}
-use Rattle.merkle_batch_theory.specs.History.{replaced, leaves_from, edited}
+use Rattle.merkle_batch_theory.specs.History.{replaced, leaves_among, edited}
 use Rattle.merkle_batch_theory.proofs.Steps.{replaced_length}
 use Rattle.merkle_base.proofs.Cases.{by_test}
 
@@ -49,8 +49,8 @@ module _ {D : Type 0} (rule : List ℕ → List ℕ) where
   replaced_get m n (d ∷ ds) zero = let z : n + 0 ≡ n = omega arith in ap (λ i. Some (unwrap_or (m (size rule i)) d)) (sym z)
   replaced_get m n (d ∷ ds) (suc k) = let z : suc n + k ≡ n + suc k = omega arith in replaced_get m (suc n) ds k ∙ ap (λ i. overwritten_by (m (size rule i)) (slice_get ds k)) z
 
-  leaf_here_or_later : (n p j : ℕ) (d : D) (ds : List D) → p ≡ size rule n → ((i : ℕ) → slice_get (leaves_from rule (suc n) (suc p) ds) i ≡ slice_get ds (size rule (suc n + i) - suc p)) →
-      slice_get (d ∷ leaves_from rule (suc n) (suc p) ds) j ≡ slice_get (d ∷ ds) (size rule (n + j) - p)
+  leaf_here_or_later : (n p j : ℕ) (d : D) (ds : List D) → p ≡ size rule n → ((i : ℕ) → slice_get (leaves_among rule (suc n) (suc p) ds) i ≡ slice_get ds (size rule (suc n + i) - suc p)) →
+      slice_get (d ∷ leaves_among rule (suc n) (suc p) ds) j ≡ slice_get (d ∷ ds) (size rule (n + j) - p)
   leaf_here_or_later n p zero d ds e f =
       let z : n + 0 ≡ n = omega arith in
       let y : size rule (n + 0) - p ≡ 0 = omega (arith, e, ap (size rule) z) in
@@ -60,9 +60,9 @@ module _ {D : Type 0} (rule : List ℕ → List ℕ) where
       let y : size rule (n + suc j) - p ≡ suc (size rule (suc n + j) - suc p) = omega (arith, e, ap (size rule) z, size_lt rule n (n + suc j) (omega arith)) in
       f j ∙ ap (slice_get (d ∷ ds)) (sym y)
 
-  pub leaves_get : (n p : ℕ) (ds : List D) (j : ℕ) → p ≤ size rule n → slice_get (leaves_from rule n p ds) j ≡ slice_get ds (size rule (n + j) - p)
+  pub leaves_get : (n p : ℕ) (ds : List D) (j : ℕ) → p ≤ size rule n → slice_get (leaves_among rule n p ds) j ≡ slice_get ds (size rule (n + j) - p)
   leaves_get n p [] j l = refl
-  leaves_get n p (d ∷ ds) j l = by_test (λ t. slice_get (cond t (d ∷ leaves_from rule (suc n) (suc p) ds) (leaves_from rule n (suc p) ds)) j ≡ slice_get (d ∷ ds) (size rule (n + j) - p)) (p == size rule n)
+  leaves_get n p (d ∷ ds) j l = by_test (λ t. slice_get (cond t (d ∷ leaves_among rule (suc n) (suc p) ds) (leaves_among rule n (suc p) ds)) j ≡ slice_get (d ∷ ds) (size rule (n + j) - p)) (p == size rule n)
       (λ t. leaf_here_or_later n p j d ds (eqb-true p (size rule n) t) (λ i. leaves_get (suc n) (suc p) ds i (omega (arith, l, size_step rule n))))
       (λ t. (let b : suc p ≤ size rule n = less p (size rule n) l (eqb-false p (size rule n) t) in
       let y : size rule (n + j) - p ≡ suc (size rule (n + j) - suc p) = omega (arith, b, size_le rule n (n + j) (omega arith)) in
@@ -75,7 +75,7 @@ module _ {D : Type 0} (rule : List ℕ → List ℕ) where
   pub old_entry : (r : RecordModel D) (X : List D) (k : ℕ) → k < length X → slice_get (edited rule r X) k ≡ overwritten_by (get r.overwritten (size rule k)) (slice_get X k)
   old_entry r X k l =
       let z : 0 + k ≡ k = omega arith in
-      get_left (replaced rule (get r.overwritten) 0 X) (leaves_from rule (length X) r.before r.appended) k (omega (arith, l, replaced_length rule (get r.overwritten) 0 X))
+      get_left (replaced rule (get r.overwritten) 0 X) (leaves_among rule (length X) r.before r.appended) k (omega (arith, l, replaced_length rule (get r.overwritten) 0 X))
       ∙ replaced_get (get r.overwritten) 0 X k ∙ ap (λ i. overwritten_by (get r.overwritten (size rule i)) (slice_get X k)) z
 
   -- a new entry
@@ -84,7 +84,7 @@ module _ {D : Type 0} (rule : List ℕ → List ℕ) where
       let front : List D = replaced rule (get r.overwritten) 0 X in
       let y : length front + (k - length X) ≡ k = omega (arith, l, replaced_length rule (get r.overwritten) 0 X) in
       let z : length X + (k - length X) ≡ k = omega (arith, l) in
-      ap (slice_get (edited rule r X)) (sym y) ∙ get_append_add front (leaves_from rule (length X) r.before r.appended) (k - length X)
+      ap (slice_get (edited rule r X)) (sym y) ∙ get_append_add front (leaves_among rule (length X) r.before r.appended) (k - length X)
       ∙ leaves_get (length X) r.before r.appended (k - length X) (omega (arith, e)) ∙ ap (λ i. slice_get r.appended (size rule i - r.before)) z
 
   -- records with the same leaves make the same edit
@@ -142,7 +142,7 @@ module _ {D : Type 0} (rule : List ℕ → List ℕ) where
   pub overwritten : (r s : RecordModel D) (X : List D) (k : ℕ) (d : D) → r.before ≡ size rule (length X) → k < length X → s.before ≡ r.before → s.appended ≡ r.appended →
       ((p : ℕ) → get s.overwritten p ≡ cond (p == size rule k) (Some d) (get r.overwritten p)) → edited rule s X ≡ set (edited rule r X) k d
   overwritten r s X k d e l sb sa so =
-      let n : k < length (edited rule r X) = omega (arith, l, length-append (replaced rule (get r.overwritten) 0 X) (leaves_from rule (length X) r.before r.appended), replaced_length rule (get r.overwritten) 0 X) in
+      let n : k < length (edited rule r X) = omega (arith, l, length-append (replaced rule (get r.overwritten) 0 X) (leaves_among rule (length X) r.before r.appended), replaced_length rule (get r.overwritten) 0 X) in
       same_gets (edited rule s X) (set (edited rule r X) k d) (λ i. elim (cases_lt i (length X)) [
         | inl a ↦ old_entry s X i a ∙ ap (λ o. overwritten_by o (slice_get X i)) (so (size rule i)) ∙ here r X k d i l a n
         | inr a ↦ new_entry s X i (sb ∙ e) a ∙ (λ x. slice_get (sa x) (size rule i - sb x)) ∙ sym (new_entry r X i e a) ∙ sym (get_set_other (edited rule r X) k i d (λ q. absurd (omega (arith, q, a, l))))

@@ -56,7 +56,7 @@ module _ {D : Type 0} (rule : List ℕ → List ℕ) where
     bounded = is.bounded;
     sized = is.sized;
     leaves = λ q some. there q (sym (ap (λ n. is_some (get n q)) e ∙ ap is_some (inserted_at p.overwritten (size rule k) d q)) ∙ some);
-    some = is.some;
+    forgotten = is.forgotten;
   }
     where
       there : (q : ℕ) → is_some (cond (q == size rule k) (Some d) (get p.overwritten q)) ≡ true → (j : ℕ) × (j < p.leaves_before) × (q ≡ size rule j)

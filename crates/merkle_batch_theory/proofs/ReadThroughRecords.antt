@@ -13,7 +13,7 @@ use Rattle.merkle_base.specs.Digests.{digest_at, node_digests}
 use Rattle.merkle_batch_theory.specs.Contents.{Contents, Agrees, is_kept}
 use Rattle.merkle_batch_theory.specs.Records.{RecordModel}
 use Rattle.merkle_batch_theory.specs.Replay.{overwritten_by}
-use Rattle.merkle_batch_theory.specs.History.{edited, replaced, leaves_from, is_dirty, IsStep, IsHistory, last_list}
+use Rattle.merkle_batch_theory.specs.History.{edited, replaced, leaves_among, is_dirty, IsStep, IsHistory, last_list}
 use Rattle.merkle_batch_theory.specs.Read.{written, newest, read_over}
 use Rattle.merkle_batch_theory.proofs.Steps.{node_digest_at, digests_length, digest_kept, replaced_length, step_old, step_new}
 use Rattle.merkle_batch_theory.proofs.OptionFacts.{none_or_some, or_assoc, or_nothing, both_none}
@@ -88,7 +88,7 @@ module _ {D : Type 0} (h : Hashing D) (rule : List ℕ → List ℕ) where
       node_digest_at h rule Y p (join p l r) e ∙ ap (λ d. Some (h.node p d (digest_at h Y r))) f ∙ ap (λ d. Some (h.node p a d)) g
 
   pub edited_longer : (r : RecordModel D) (X : List D) → length X ≤ length (edited rule r X)
-  edited_longer r X = omega (arith, length-append (replaced rule (get r.overwritten) 0 X) (leaves_from rule (length X) r.before r.appended), replaced_length rule (get r.overwritten) 0 X)
+  edited_longer r X = omega (arith, length-append (replaced rule (get r.overwritten) 0 X) (leaves_among rule (length X) r.before r.appended), replaced_length rule (get r.overwritten) 0 X)
 
   -- an old node that is neither overwritten nor an ancestor of an overwritten leaf keeps its digest
   pub unchanged : (r : RecordModel D) (X : List D) (p : ℕ) (t : Tree) → slice_get (forest rule (length X)).nodes p ≡ Some t → is_dirty (get r.overwritten) t ≡ false → at_node (edited rule r X) p ≡ at_node X p

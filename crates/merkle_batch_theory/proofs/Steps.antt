@@ -13,7 +13,7 @@ use Rattle.merkle_base.specs.Hashing.{Hashing}
 use Rattle.merkle_base.specs.Digests.{digest_at, node_digests}
 use Rattle.merkle_batch_theory.specs.Records.{RecordModel}
 use Rattle.merkle_batch_theory.specs.Replay.{overwritten_by}
-use Rattle.merkle_batch_theory.specs.History.{replaced, leaves_from, edited, is_dirty, IsStep}
+use Rattle.merkle_batch_theory.specs.History.{replaced, leaves_among, edited, is_dirty, IsStep}
 use Rattle.merkle_batch_theory.proofs.ListFacts.{get_drop}
 use Rattle.merkle_batch_theory.proofs.Kept.{get_map}
 use Rattle.merkle_base.proofs.Lists.{get_exists}
@@ -33,7 +33,7 @@ module _ {D : Type 0} (h : Hashing D) (rule : List ℕ → List ℕ) where
   entry_at r X k l =
       let n : ℕ = length (replaced rule (get r.overwritten) 0 X) in
       let z : 0 + k ≡ k = omega arith in
-      get_or_append_left (replaced rule (get r.overwritten) 0 X) (leaves_from rule (length X) r.before r.appended) h.empty k (omega (arith, l, replaced_length rule (get r.overwritten) 0 X))
+      get_or_append_left (replaced rule (get r.overwritten) 0 X) (leaves_among rule (length X) r.before r.appended) h.empty k (omega (arith, l, replaced_length rule (get r.overwritten) 0 X))
       ∙ (rw z at (replaced_at (get r.overwritten) 0 X k h.empty l))
 
   untouched_leaf : (o : Option D) (d e : D) → is_some o ≡ false → e ≡ unwrap_or o d → e ≡ d

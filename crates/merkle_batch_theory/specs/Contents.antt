@@ -7,6 +7,8 @@ use Rattle.merkle_base.specs.Hashing.{Hashing}
 use Rattle.merkle_base.specs.Digests.{node_digests}
 use Rattle.merkle_base.specs.Places.{peak_positions}
 
+-- The value of a `Mem` is a `MemModel`, whose nodes are a finite map, as a value has a code; here they are a function, so that pruning
+-- and applying are said position by position, and so that anything that holds nodes can be the base of a batch.
 pub record Contents (D : Type 0) : Type 0 where
   -- the location that it was pruned to
   pub boundary : ℕ

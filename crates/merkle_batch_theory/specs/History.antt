@@ -14,13 +14,13 @@ replaced rule m n [] = []
 replaced rule m n (d ∷ ds) = unwrap_or (m (size rule n)) d ∷ replaced rule m (suc n) ds
 
 -- of the nodes from position p on, those that are leaves, the first of them at location n
-abbrev pub leaves_from : {D : Type 0} → (List ℕ → List ℕ) → ℕ → ℕ → List D → List D
-leaves_from rule n p [] = []
-leaves_from rule n p (d ∷ ds) = cond (p == size rule n) (d ∷ leaves_from rule (suc n) (suc p) ds) (leaves_from rule n (suc p) ds)
+abbrev pub leaves_among : {D : Type 0} → (List ℕ → List ℕ) → ℕ → ℕ → List D → List D
+leaves_among rule n p [] = []
+leaves_among rule n p (d ∷ ds) = cond (p == size rule n) (d ∷ leaves_among rule (suc n) (suc p) ds) (leaves_among rule n (suc p) ds)
 
 -- the list after a record: the entries of its overwritten leaves replaced, those of its appended leaves added
 abbrev pub edited : {D : Type 0} → (List ℕ → List ℕ) → RecordModel D → List D → List D
-edited rule r X = replaced rule (get r.overwritten) 0 X ++ leaves_from rule (length X) r.before r.appended
+edited rule r X = replaced rule (get r.overwritten) 0 X ++ leaves_among rule (length X) r.before r.appended
 
 -- whether m has a digest for a leaf of the tree
 abbrev pub is_dirty : {D : Type 0} → (ℕ → Option D) → Tree → Bool

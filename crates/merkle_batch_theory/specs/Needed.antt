@@ -11,8 +11,8 @@ is_computed rule m n (leaf p k) = false
 is_computed rule m n (join p l r) = nat_le (size rule n) p || is_dirty m (join p l r)
 
 -- the computed nodes of the forest of e leaves
-abbrev pub computed : {D : Type 0} → (List ℕ → List ℕ) → (ℕ → Option D) → ℕ → ℕ → List Tree
-computed rule m n e = filter (is_computed rule m n) (forest rule e).nodes
+abbrev pub computed_nodes : {D : Type 0} → (List ℕ → List ℕ) → (ℕ → Option D) → ℕ → ℕ → List Tree
+computed_nodes rule m n e = filter (is_computed rule m n) (forest rule e).nodes
 
 -- those of height k
 abbrev pub level : {D : Type 0} → (List ℕ → List ℕ) → (ℕ → Option D) → ℕ → ℕ → ℕ → List Tree

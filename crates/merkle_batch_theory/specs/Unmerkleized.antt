@@ -107,4 +107,4 @@ pub record IsUnmerkleizedValid {D : Type 0} (rule : List ℕ → List ℕ) (max_
   pub sized : size rule p.leaves_before ≡ p.parent.own.before + length p.parent.own.appended
   -- only leaves that were there before are overwritten
   pub leaves : (q : ℕ) → is_some (get p.overwritten q) ≡ true → (k : ℕ) × (k < p.leaves_before) × (q ≡ size rule k)
-  pub some : p.forgotten ≤ length p.parent.ancestors
+  pub forgotten : p.forgotten ≤ length p.parent.ancestors

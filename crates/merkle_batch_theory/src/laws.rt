@@ -17,11 +17,11 @@ ghost use Rattle.merkle_batch_theory.specs.Applying.{IsAppliedTo};
 ghost use Rattle.merkle_batch_theory.specs.Unmerkleized.{UnmerkleizedModel, OutOfBounds, Pruned, kept, kept_lists, pending_list, update_fault, first_fault, forked, with_entries, with_updates, without_ancestors};
 ghost use Rattle.merkle_batch_theory.specs.Records.{RecordModel, MerkleizedModel, records, after};
 ghost use Rattle.merkle_batch_theory.specs.Replay.{with_record, with_records, matched, applied};
-ghost use Rattle.merkle_batch_theory.specs.History.{IsHistory, last_list, edited, replaced, leaves_from, is_dirty, IsStep};
+ghost use Rattle.merkle_batch_theory.specs.History.{IsHistory, last_list, edited, replaced, leaves_among, is_dirty, IsStep};
 ghost use Rattle.merkle_batch_theory.specs.Read.{newest, read_over};
 ghost use Rattle.merkle_base.specs.Shows.{Shows};
 ghost use Rattle.merkle_batch_theory.specs.BaseAgrees.{IsBased};
-ghost use Rattle.merkle_batch_theory.specs.Needed.{computed, level, is_computed, passes, total, IsUsed, IsNeeded};
+ghost use Rattle.merkle_batch_theory.specs.Needed.{computed_nodes, level, is_computed, passes, total, IsUsed, IsNeeded};
 ghost use Rattle.merkle_batch_theory.specs.Completed.{IsCompleted};
 ghost use Rattle.merkle_batch_theory.specs.Collision.{Collide};
 ghost use Rattle.std.specs.List.{range_with_len};
@@ -190,10 +190,11 @@ pub fn gathering<D>()
 /// repetition, and the sum of the lengths of the levels.
 pub fn counting<D>()
     ensures listed { (rule : List ℕ → List ℕ) → (m : ℕ → Option D) → (n e : ℕ) → (ps : List ℕ) → IsDistinct nat_eq ps
-        → ((p : ℕ) → list_any (nat_eq p) ps ≡ passes (is_computed rule m n) (slice_get (forest rule e).nodes p)) → length ps ≡ length (computed rule m n e) }
+        → ((p : ℕ) → list_any (nat_eq p) ps ≡ passes (is_computed rule m n) (slice_get (forest rule e).nodes p))
+        → length ps ≡ length (computed_nodes rule m n e) }
     ensures levels { (rule : List ℕ → List ℕ) → (m : ℕ → Option D) → (n e k : ℕ)
         → ((p : ℕ) → (t : Tree) → slice_get (forest rule e).nodes p ≡ Some t → is_computed rule m n t ≡ true → height t < k)
-        → total (λ h. length (level rule m n e h)) k ≡ length (computed rule m n e) }
+        → total (λ h. length (level rule m n e h)) k ≡ length (computed_nodes rule m n e) }
 {}
 
 /// What a proof of leaves at or after the boundary reads is kept: the peaks, and the children of
@@ -243,11 +244,11 @@ pub fn worked_rows()
     ensures backward_root { list_root (xor_scheme BackwardFold) (1 ∷ 3 ∷ 7 ∷ []) 0 ≡ 5 }
     ensures backward_root_one { list_root (xor_scheme BackwardFold) (1 ∷ 3 ∷ 7 ∷ []) 1 ≡ 4 }
     ensures empty_root { (list_root (xor_scheme ForwardFold) [] 0 ≡ 0) × (list_root (xor_scheme BackwardFold) [] 0 ≡ 1) }
-    ensures count_leaf { computed mmr_merges (at_two 25 25) 15 15 ≡ [] }
-    ensures count_eight { map position (computed mmr_merges (at_two 0 22) 15 16) ≡ 2 ∷ 6 ∷ 14 ∷ 24 ∷ 27 ∷ 28 ∷ 29 ∷ 30 ∷ [] }
-    ensures count_three { map position (computed mmr_merges (at_two 0 1) 4 6) ≡ 2 ∷ 6 ∷ 9 ∷ [] }
-    ensures count_all { length (computed {D = ℕ} mmr_merges (λ p. Some 0) 8 8) ≡ 7 }
-    ensures count_new { length (computed {D = ℕ} mmr_merges (λ p. None) 0 2) ≡ 1 }
+    ensures count_leaf { computed_nodes mmr_merges (at_two 25 25) 15 15 ≡ [] }
+    ensures count_eight { map position (computed_nodes mmr_merges (at_two 0 22) 15 16) ≡ 2 ∷ 6 ∷ 14 ∷ 24 ∷ 27 ∷ 28 ∷ 29 ∷ 30 ∷ [] }
+    ensures count_three { map position (computed_nodes mmr_merges (at_two 0 1) 4 6) ≡ 2 ∷ 6 ∷ 9 ∷ [] }
+    ensures count_all { length (computed_nodes {D = ℕ} mmr_merges (λ p. Some 0) 8 8) ≡ 7 }
+    ensures count_new { length (computed_nodes {D = ℕ} mmr_merges (λ p. None) 0 2) ≡ 1 }
     ensures edit { edited mmr_merges second_record (1 ∷ 3 ∷ []) ≡ 17 ∷ 3 ∷ 7 ∷ [] }
     ensures reads { map (newest (first_record ∷ second_record ∷ [])) (range_with_len 0 5) ≡ Some 17 ∷ Some 3 ∷ Some 16 ∷ Some 7 ∷ None ∷ [] }
     ensures matched { matched xor.same 0 [] second_batch ≡ Some 0 }
@@ -291,7 +292,7 @@ pub fn worked_rows()
 
     // The leaves at the locations 2, 3 and 4 are at the positions 3, 4 and 7.
     ensures replaces { replaced mmr_merges (at_two 3 4) 0 (5 ∷ 6 ∷ 7 ∷ 8 ∷ []) ≡ 5 ∷ 6 ∷ 0 ∷ 0 ∷ [] }
-    ensures added_leaves { leaves_from {D = ℕ} mmr_merges 2 3 (7 ∷ 8 ∷ 15 ∷ 16 ∷ 9 ∷ []) ≡ 7 ∷ 8 ∷ 9 ∷ [] }
+    ensures added_leaves { leaves_among {D = ℕ} mmr_merges 2 3 (7 ∷ 8 ∷ 15 ∷ 16 ∷ 9 ∷ []) ≡ 7 ∷ 8 ∷ 9 ∷ [] }
     ensures touches { map (is_dirty (at_two 0 0)) (leaf 1 1 ∷ join 2 (leaf 0 0) (leaf 1 1) ∷ []) ≡ false ∷ true ∷ [] }
     ensures dirty_unneeded { IsNeeded mmr_merges (at_two 0 0) 2 2 (leaf 0 0) → ⊥ }
     ensures new_unneeded { IsNeeded {D = ℕ} mmr_merges (λ p. None) 1 2 (leaf 1 1) → ⊥ }

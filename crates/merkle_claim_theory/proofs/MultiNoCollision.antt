@@ -76,7 +76,7 @@ honest_multi_has_no_collision {D = D} s laws xs k r w =
     (plan_in_list s.hashing _ _ (leaf_of s.hashing xs) _ agrees p.0 (each_honest s.hashing _ _ _ p.0 (of_each _ s.bagging r.inactive (peaks_of s.rule r.leaves) p.0 p.1 trees)))
   where
     one : (i : ℕ) × Member (locations_in r) i
-    one = first_location r.elements w.some
+    one = first_location r.elements w.nonempty
 
     some_leaves_of : 0 < length xs
-    some_leaves_of = some_leaves (length xs) r.elements w.some w.below
+    some_leaves_of = some_leaves (length xs) r.elements w.nonempty w.below

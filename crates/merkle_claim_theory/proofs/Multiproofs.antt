@@ -221,7 +221,7 @@ module _ {D : Type 0} (s : Scheme D) (size max_nodes : ℕ) (sound : IsLawfulSch
   multi_honest : AcceptsMultiSome s r (plan_root s xs k) → IsHonestMultiSome s xs k r ⊎ MultiCollides s r xs k
   unfolding Y
   multi_honest ok =
-      let pos : 0 < r.leaves = some_leaves r.leaves r.elements ok.some ok.below in
+      let pos : 0 < r.leaves = some_leaves r.leaves r.elements ok.nonempty ok.below in
       let p = plan_for s r.leaves r.inactive pos in
       let a1 = small_leaves s max_nodes r.leaves sound.lawful ok.leaves in
       let a2 = small_leaves s max_nodes (length xs) sound.lawful few in
@@ -239,7 +239,7 @@ module _ {D : Type 0} (s : Scheme D) (size max_nodes : ℕ) (sound : IsLawfulSch
           let peaks = each_of _ s.bagging r.inactive (peaks_of s.rule r.leaves) p q (tells_each s.hashing _ _ _ p tells) in
           let trees = each_of _ s.bagging r.inactive (peaks_of s.rule r.leaves) p q (same_each _ _ _ p same) in
           record {
-            some = ok.some;
+            nonempty = ok.nonempty;
             ascend = ok.ascend;
             below = subst (λ m. AllByRecursion (λ i. i < m) (locations_in r)) e ok.below;
             leaves = e;
@@ -258,9 +258,9 @@ module _ {D : Type 0} (s : Scheme D) (size max_nodes : ℕ) (sound : IsLawfulSch
   unfolding Y
   honest_multi w =
       let back : length xs ≡ r.leaves = sym w.leaves in
-      let pos : 0 < r.leaves = omega (arith, some_leaves (length xs) r.elements w.some w.below, back) in
+      let pos : 0 < r.leaves = omega (arith, some_leaves (length xs) r.elements w.nonempty w.below, back) in
       let p = plan_for s r.leaves r.inactive pos in
-      let one = first_location r.elements w.some in
+      let one = first_location r.elements w.nonempty in
       let trees : AllByRecursion (HonestTree s.hashing (digest_for (multi_positions s.rule r.leaves (locations_in r)) r.digests) (λ i. list_any (nat_eq i) (locations_in r)) (leaf_of s.hashing xs)) (peaks_of s.rule r.leaves) =
       subst (λ m. AllByRecursion (HonestTree s.hashing (digest_for (multi_positions s.rule m (locations_in r)) r.digests) (λ i. list_any (nat_eq i) (locations_in r)) (leaf_of s.hashing xs)) (peaks_of s.rule m)) back
       (subst (λ ds. AllByRecursion (HonestTree s.hashing (digest_for (multi_positions s.rule (length xs) (locations_in r)) ds) (λ i. list_any (nat_eq i) (locations_in r)) (leaf_of s.hashing xs)) (peaks_of s.rule (length xs))) (sym w.digests)
@@ -270,7 +270,7 @@ module _ {D : Type 0} (s : Scheme D) (size max_nodes : ℕ) (sound : IsLawfulSch
       let v = honest_multi_accepted s.hashing (digest_for (multi_positions s.rule r.leaves (locations_in r)) r.digests) (λ i. list_any (nat_eq i) (locations_in r)) (leaf_of s.hashing xs) Y p.0 agrees
       (each_honest s.hashing _ _ _ p.0 (of_each _ s.bagging r.inactive (peaks_of s.rule r.leaves) p.0 p.1 trees)) in
       record {
-        some = w.some;
+        nonempty = w.nonempty;
         ascend = w.ascend;
         below = subst (λ m. AllByRecursion (λ i. i < m) (locations_in r)) back w.below;
         leaves = omega (arith, few, back);

@@ -416,17 +416,17 @@ module _ {D : Type 0} (s : Scheme D) (size max_nodes : ℕ) (sound : IsLawfulSch
   layout_at : AcceptsPinnedSome s r pins (plan_root s xs k) → (p : Plan) → root_plan s.bagging r.inactive (peaks_of s.rule r.leaves) ≡ Some p
       → HasLayout (chosen r) (range_parts s.bagging r.inactive r.start (end_of r) (peaks_of s.rule r.leaves)) (range_siblings r.start (end_of r) (peaks_of s.rule r.leaves)) (Some p)
   layout_at ok p q = subst (HasLayout (chosen r) (range_parts s.bagging r.inactive r.start (end_of r) (peaks_of s.rule r.leaves)) (range_siblings r.start (end_of r) (peaks_of s.rule r.leaves))) q
-      (range_layout s r.leaves r.inactive r.start (end_of r) (omega (arith, ok.some)) ok.within)
+      (range_layout s r.leaves r.inactive r.start (end_of r) (omega (arith, ok.nonempty)) ok.within)
 
   known_honest : (ok : AcceptsPinnedSome s r pins (plan_root s xs k)) → r.leaves ≡ length xs → r.inactive ≡ k → (p : Plan) → root_plan s.bagging r.inactive (peaks_of s.rule r.leaves) ≡ Some p → Known r p → IsHonestNonempty s xs k r × (pins ≡ honest_pins s xs r.start)
   unfolding Known
   known_honest ok d g p q w =
       let lay = layout_at ok p q in
       let within : end_of r ≤ length xs = omega (arith, ok.within, d) in
-      let more : r.start < end_of r = omega (arith, ok.some) in
+      let more : r.start < end_of r = omega (arith, ok.nonempty) in
       let leaves = each_of _ s.bagging r.inactive (peaks_of s.rule r.leaves) p q (each_in_plan (λ i. chosen r i ≡ true → leaf_given s.hashing r i ≡ Z i) p w.1) in (
         record {
-          some = ok.some;
+          nonempty = ok.nonempty;
           within = within;
           leaves = d;
           inactive = g;
@@ -441,7 +441,7 @@ module _ {D : Type 0} (s : Scheme D) (size max_nodes : ℕ) (sound : IsLawfulSch
   pinned_honest : AcceptsPinnedSome s r pins (plan_root s xs k) → (IsHonestNonempty s xs k r × (pins ≡ honest_pins s xs r.start)) ⊎ PinnedCollides s r pins xs k
   unfolding Known
   pinned_honest ok =
-      let pos : 0 < r.leaves = omega (arith, ok.some, ok.within) in
+      let pos : 0 < r.leaves = omega (arith, ok.nonempty, ok.within) in
       let p = plan_for s r.leaves r.inactive pos in
       let a1 = small_leaves s max_nodes r.leaves sound.lawful ok.leaves in
       let a2 = small_leaves s max_nodes (length xs) sound.lawful few in
@@ -456,8 +456,8 @@ module _ {D : Type 0} (s : Scheme D) (size max_nodes : ℕ) (sound : IsLawfulSch
   honest_pinned : IsHonestNonempty s xs k r → pins ≡ honest_pins s xs r.start → AcceptsPinnedSome s r pins (plan_root s xs k)
   honest_pinned w q =
       let plain = honest_some s size max_nodes sound xs k few low r w in
-      let more : r.start < end_of r = omega (arith, w.some) in
-      let pos : 0 < r.leaves = omega (arith, plain.some, plain.within) in
+      let more : r.start < end_of r = omega (arith, w.nonempty) in
+      let pos : 0 < r.leaves = omega (arith, plain.nonempty, plain.within) in
       let p = plan_for s r.leaves r.inactive pos in
       let lay = subst (HasLayout (chosen r) (range_parts s.bagging r.inactive r.start (end_of r) (peaks_of s.rule r.leaves)) (range_siblings r.start (end_of r) (peaks_of s.rule r.leaves))) p.1 (range_layout s r.leaves r.inactive r.start (end_of r) more plain.within) in
       let ds : r.digests ≡ honest_digests s.hashing Z (chosen r) p.0 = w.digests
@@ -469,7 +469,7 @@ module _ {D : Type 0} (s : Scheme D) (size max_nodes : ℕ) (sound : IsLawfulSch
       (honest_pins_accepted s.hashing bb (in_range 0 r.start) (chosen r) Z (leaf_given s.hashing r) p.0 (honest_leaves s xs k r w)
       (subst (PinsAll s.hashing bb (in_range 0 r.start) Z) (sym lay.0) z.0) (subst (PinsTrees s.hashing bb (in_range 0 r.start) Z) (sym lay.1) z.1)) in
       record {
-        some = plain.some;
+        nonempty = plain.nonempty;
         within = plain.within;
         leaves = plain.leaves;
         inactive = plain.inactive;

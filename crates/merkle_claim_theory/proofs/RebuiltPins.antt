@@ -175,12 +175,12 @@ module _ {D : Type 0} (s : Scheme D) (r : RangeInput D) (pins : List D) (root : 
 
   accepted_rebuilt : AcceptsPinnedSome s r pins root → AcceptsNonempty s r root × IsRebuilt s r pins
   accepted_rebuilt ok =
-      let p = plan_is ok.some ok.within in
+      let p = plan_is ok.nonempty ok.within in
       let holds : Holds s.hashing (pinned_on s r pins p.0) = subst (λ o. AllHolds s (option_map (pinned_on s r pins) o)) p.1.0 ok.rebuilt in
       let z = pinned_rebuilt s.hashing b before (chosen r) (leaf_given s.hashing r) p.0 r.digests (drop (length (outside_parts (chosen r) p.0)) r.digests) holds in
       let m = moved (outside_parts (chosen r) p.0) given_parts (path_siblings (chosen r) p.0) given_nodes p.1.1 p.1.2 (z.0, z.1) in (
         record {
-          some = ok.some;
+          nonempty = ok.nonempty;
           within = ok.within;
           leaves = ok.leaves;
           inactive = ok.inactive;
@@ -192,12 +192,12 @@ module _ {D : Type 0} (s : Scheme D) (r : RangeInput D) (pins : List D) (root : 
 
   rebuilt_accepted : AcceptsNonempty s r root → IsRebuilt s r pins → AcceptsPinnedSome s r pins root
   rebuilt_accepted ok v =
-      let p = plan_is ok.some ok.within in
+      let p = plan_is ok.nonempty ok.within in
       let m = moved given_parts (outside_parts (chosen r) p.0) given_nodes (path_siblings (chosen r) p.0) (sym p.1.1) (sym p.1.2) (v.parts, v.nodes) in
       let holds : Holds s.hashing (pinned_on s r pins p.0) = rebuilt_pinned s.hashing b before (chosen r) (leaf_given s.hashing r) p.0 r.digests (drop (length (outside_parts (chosen r) p.0)) r.digests) m.0 m.1 in
       let z = pinned_rebuilt s.hashing b before (chosen r) (leaf_given s.hashing r) p.0 r.digests (drop (length (outside_parts (chosen r) p.0)) r.digests) holds in
       record {
-        some = ok.some;
+        nonempty = ok.nonempty;
         within = ok.within;
         leaves = ok.leaves;
         inactive = ok.inactive;

@@ -91,7 +91,7 @@ module _ {D : Type 0} (h : Hashing D) (c d : ℕ → Bool) (Y Z : ℕ → D) (wi
 
 module _ {D : Type 0} (s : Scheme D) (r q : RangeInput D) (root : D) (ok : AcceptsNonempty s r root) (part : IsPartOf s r q) where
   abbrev plan : (p : Plan) × (root_plan s.bagging r.inactive (peaks_of s.rule r.leaves) ≡ Some p)
-  plan = plan_for s r.leaves r.inactive (omega (arith, ok.some, ok.within))
+  plan = plan_for s r.leaves r.inactive (omega (arith, ok.nonempty, ok.within))
 
   inside : (i : ℕ) → chosen q i ≡ true → chosen r i ≡ true
   inside i m = let w = was_chosen q i m in is_chosen r i (omega (arith, w.0, part.from)) (omega (arith, w.1, part.to))
@@ -122,7 +122,7 @@ module _ {D : Type 0} (s : Scheme D) (r q : RangeInput D) (root : D) (ok : Accep
   layout : HasLayout (chosen q) (range_parts s.bagging q.inactive q.start (end_of q) (peaks_of s.rule q.leaves)) (range_siblings q.start (end_of q) (peaks_of s.rule q.leaves)) (Some plan.0)
   layout = subst (HasLayout (chosen q) (range_parts s.bagging q.inactive q.start (end_of q) (peaks_of s.rule q.leaves)) (range_siblings q.start (end_of q) (peaks_of s.rule q.leaves)))
       (ap₂ (λ k n. root_plan s.bagging k (peaks_of s.rule n)) part.inactive part.leaves ∙ plan.1)
-      (range_layout s q.leaves q.inactive q.start (end_of q) (omega (arith, part.some)) (omega (arith, part.to, ok.within, part.leaves)))
+      (range_layout s q.leaves q.inactive q.start (end_of q) (omega (arith, part.nonempty)) (omega (arith, part.to, ok.within, part.leaves)))
 
   counts : length q.digests ≡ length (range_parts s.bagging q.inactive q.start (end_of q) (peaks_of s.rule q.leaves)) + length (range_siblings q.start (end_of q) (peaks_of s.rule q.leaves))
   counts = ap length given_digests ∙ length-append os is ∙ ap₂ ◌+◌ (few ∙ ap length layout.0) (few_inner ∙ ap length layout.1)
@@ -135,7 +135,7 @@ module _ {D : Type 0} (s : Scheme D) (r q : RangeInput D) (root : D) (ok : Accep
 
 pub part_is_accepted : {D : Type 0} → PartIsAccepted D
 part_is_accepted s r q root ok part = record {
-  some = part.some;
+  nonempty = part.nonempty;
   within = omega (arith, part.to, ok.within, part.leaves);
   leaves = omega (arith, ok.leaves, part.leaves);
   inactive = subst (λ z. z ≤ length (peaks_of s.rule q.leaves)) (sym part.inactive) (subst (λ z. r.inactive ≤ length (peaks_of s.rule z)) (sym part.leaves) ok.inactive);

@@ -92,7 +92,7 @@ empty_decides xs = ((λ e. nil_from_length xs (eqb-true (length xs) 0 e)), (λ e
 
 pub check_decides : {D : Type 0} → CheckDecides D
 check_decides s laws r root = Decides-or _ _
-    (Decides-like _ (λ w. record { some = w.0; within = w.1.0; leaves = w.1.1.0; inactive = w.1.1.1.0; counts = w.1.1.1.1.0; root_is = w.1.1.1.1.1 }) (λ w. (w.some, (w.within, (w.leaves, (w.inactive, (w.counts, w.root_is))))))
+    (Decides-like _ (λ w. record { nonempty = w.0; within = w.1.0; leaves = w.1.1.0; inactive = w.1.1.1.0; counts = w.1.1.1.1.0; root_is = w.1.1.1.1.1 }) (λ w. (w.nonempty, (w.within, (w.leaves, (w.inactive, (w.counts, w.root_is))))))
     (Decides-and _ _ (Decides-ltb _ _) (Decides-and _ _ (le_decides _ _) (Decides-and _ _ (le_decides _ _) (Decides-and _ _ (le_decides _ _) (Decides-and _ _ (Decides-eqb _ _) (laws _ _)))))))
     (Decides-like _ (λ w. (record { elements = w.0; start = w.1.0; leaves = w.1.1.0; inactive = w.1.1.1.0; digests = w.1.1.1.1.0 }, w.1.1.1.1.1)) (λ w. (w.0.elements, (w.0.start, (w.0.leaves, (w.0.inactive, (w.0.digests, w.1))))))
     (Decides-and _ _ (empty_decides r.elements) (Decides-and _ _ (Decides-eqb _ _) (Decides-and _ _ (Decides-eqb _ _) (Decides-and _ _ (Decides-eqb _ _) (Decides-and _ _ (empty_decides r.digests) (laws _ _)))))))

@@ -2,7 +2,7 @@
 use Rattle.std.specs.Prelude.{◌≡◌, ℕ, ◌<◌, ◌^◌, MatchOption, None, flat_map}
 use Rattle.merkle_claim_theory.specs.Order.{Distinct, node_places}
 use Rattle.merkle_base.specs.Hashing.{EqDecides}
-use Rattle.merkle_root_theory.specs.Check.{root_of, all_inputs, list_expression, RangeInput, AcceptsByPlan, range_inputs, IsHonestByPlan, SharesLeaves, Covers}
+use Rattle.merkle_root_theory.specs.Check.{root_of, all_inputs, list_expression, RangeInput, AcceptsByPlan, range_inputs, IsHonestByPlan, SharesLeaves, CoversEachLeaf}
 use Rattle.merkle_base.specs.Scheme.{Scheme}
 use Rattle.merkle_base.specs.Places.{peaks_of}
 use Rattle.merkle_claim_theory.specs.FirstCollision.{first_collision, IsFirstCollision}
@@ -10,7 +10,7 @@ use Rattle.merkle_root_theory.specs.RootString.{ByteLaws}
 
 -- of an accepted range input: no collision is found only if it is honest, and what is found is the first
 abbrev pub AuditsRange : Type 0 → Type 0
-AuditsRange D = (s : Scheme D) (size : ℕ) → EqDecides s.hashing → ByteLaws s.hashing size → Covers (peaks_of s.rule)
+AuditsRange D = (s : Scheme D) (size : ℕ) → EqDecides s.hashing → ByteLaws s.hashing size → CoversEachLeaf (peaks_of s.rule)
     → (X : ℕ → D) (n k : ℕ) → n < 2 ^ 64 → k < 2 ^ 64 → (r : RangeInput D) → AcceptsByPlan s r (root_of s n k (list_expression s X n k))
     → MatchOption (first_collision s.hashing (range_inputs s r) (all_inputs s n k (list_expression s X n k)))
     (IsHonestByPlan s X n k r)
@@ -18,7 +18,7 @@ AuditsRange D = (s : Scheme D) (size : ℕ) → EqDecides s.hashing → ByteLaws
 
 -- of two inputs that are accepted against one root
 abbrev pub AuditsPair : Type 0 → Type 0
-AuditsPair D = (s : Scheme D) (size : ℕ) → EqDecides s.hashing → ByteLaws s.hashing size → Covers (peaks_of s.rule)
+AuditsPair D = (s : Scheme D) (size : ℕ) → EqDecides s.hashing → ByteLaws s.hashing size → CoversEachLeaf (peaks_of s.rule)
     → (root : D) (r q : RangeInput D) → AcceptsByPlan s r root → AcceptsByPlan s q root
     → MatchOption (first_collision s.hashing (range_inputs s r) (range_inputs s q))
     (SharesLeaves s.hashing r q)

@@ -1,4 +1,3 @@
-pub mod Ascending
 pub mod FirstCollision
 pub mod MultiClaim
 pub mod PinnedClaim

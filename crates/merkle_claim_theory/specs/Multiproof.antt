@@ -3,7 +3,7 @@ use Rattle.std.specs.Prelude.{◌≡◌, ℕ, Bool, ◌⊎◌, ◌≤◌, ◌<�
 use Rattle.std.specs.List.{AllByRecursion, list_any, range_with_len}
 use Rattle.merkle_base.specs.Tree.{Tree, position}
 use Rattle.merkle_base.specs.Forest.{size}
-use Rattle.merkle_claim_theory.specs.Ascending.{AscendsFrom}
+use Rattle.merkle_forest_theory.specs.Ascending.{AscendsFrom}
 use Rattle.merkle_base.specs.Heights.{IsLawful, peak_heights}
 use Rattle.merkle_root_theory.specs.Expression.{Expression, Holds}
 use Rattle.merkle_root_theory.specs.Collision.{Collision, Collides}
@@ -58,7 +58,7 @@ AllHolds s (Some e) = Holds s.hashing e
 
 -- an accepted input with elements
 pub record AcceptsMultiSome {D : Type 0} (s : Scheme D) (r : MultiInput D) (root : D) : Type 0 where
-  pub some : 0 < length r.elements
+  pub nonempty : 0 < length r.elements
   pub ascend : AscendsFrom 0 (locations_in r)
   pub below : AllByRecursion (λ i. i < r.leaves) (locations_in r)
   pub leaves : r.leaves ≤ s.max_leaves
@@ -80,7 +80,7 @@ AcceptsMulti s r root = AcceptsMultiSome s r root ⊎ (IsEmptyMulti r × (root_o
 
 -- the honest multi-proof of a list for strictly ascending locations, with the leaves there
 pub record IsHonestMultiSome {D : Type 0} (s : Scheme D) (xs : List D) (k : ℕ) (r : MultiInput D) : Type 0 where
-  pub some : 0 < length r.elements
+  pub nonempty : 0 < length r.elements
   pub ascend : AscendsFrom 0 (locations_in r)
   pub below : AllByRecursion (λ i. i < length xs) (locations_in r)
   pub leaves : r.leaves ≡ length xs

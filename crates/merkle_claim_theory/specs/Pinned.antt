@@ -26,7 +26,7 @@ pinned_expression s r pins = option_map (pinned_on s r pins) (root_plan s.baggin
 
 -- an accepted input with elements
 pub record AcceptsPinnedSome {D : Type 0} (s : Scheme D) (r : RangeInput D) (pins : List D) (root : D) : Type 0 where
-  pub some : 0 < length r.elements
+  pub nonempty : 0 < length r.elements
   pub within : end_of r ≤ r.leaves
   pub leaves : r.leaves ≤ s.max_leaves
   pub inactive : r.inactive ≤ length (peaks_of s.rule r.leaves)

@@ -67,8 +67,8 @@ one_byte d = d ∷ []
 abbrev pub swapped_inputs : List (Input ℕ)
 swapped_inputs = all_inputs small 3 0 (range_expression small (middle 0 (7 ∷ 1 ∷ [])))
 
-abbrev pub list_inputs : List (Input ℕ)
-list_inputs = all_inputs small 3 0 (list_expression small (leaf_of small.hashing (1 ∷ 3 ∷ 7 ∷ [])) 3 0)
+abbrev pub three_inputs : List (Input ℕ)
+three_inputs = all_inputs small 3 0 (list_expression small (leaf_of small.hashing (1 ∷ 3 ∷ 7 ∷ [])) 3 0)
 
 -- what is hashed for the leaves 1, 3 and 6 under the other family's byte
 abbrev pub other_inputs : List (Input ℕ)

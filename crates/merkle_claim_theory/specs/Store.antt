@@ -44,7 +44,7 @@ sub_digests s r q (Some p) =
 
 -- q proves a part of r's range with digests read off r's claim
 pub record IsPartOf {D : Type 0} (s : Scheme D) (r q : RangeInput D) : Type 0 where
-  pub some : 0 < length q.elements
+  pub nonempty : 0 < length q.elements
   pub from : r.start ≤ q.start
   pub to : end_of q ≤ end_of r
   pub leaves : q.leaves ≡ r.leaves

@@ -39,7 +39,7 @@ ghost use Rattle.merkle_root_theory.specs.Reconstruction.{reconstructed, LeadsIs
 ghost use Rattle.merkle_root_theory.specs.RootNames.{NamesRoot, AreApart, RootsCollide};
 ghost use Rattle.merkle_root_theory.specs.RootNames.{RootIsNamed, YesNamesRoot, EqualRootsCollide, OtherListCollides, OtherYesCollides};
 ghost use Rattle.merkle_root_theory.specs.RootString.{RootStringTellsAll};
-ghost use Rattle.merkle_claim_theory.specs.Rows.{four, seven, single, alone, paired, small, middle, no_elements, swapped_inputs, list_inputs};
+ghost use Rattle.merkle_claim_theory.specs.Rows.{four, seven, single, alone, paired, small, middle, no_elements, swapped_inputs, three_inputs};
 ghost use Rattle.merkle_claim_theory.specs.Rows.{other_family, other_inputs, bare, bare_root, xor_bytes, one_byte};
 ghost use Rattle.merkle_claim_theory.specs.Siblings.{PathHasSiblings};
 ghost use Rattle.merkle_claim_theory.specs.Store.{PartIsAccepted, SiblingsAreRead};
@@ -254,7 +254,7 @@ pub fn worked_rows()
 
     // What is hashed for a list: the string of the root, then the folds from the last one down, and
     // then the nodes.
-    ensures inputs_folds { list_inputs ≡ record { place = Root; argument = Bytes (0 ∷ 0 ∷ 0 ∷ 0 ∷ 0 ∷ 0 ∷ 0 ∷ 0 ∷ 0 ∷ 3 ∷ 5 ∷ []) }
+    ensures inputs_folds { three_inputs ≡ record { place = Root; argument = Bytes (0 ∷ 0 ∷ 0 ∷ 0 ∷ 0 ∷ 0 ∷ 0 ∷ 0 ∷ 0 ∷ 3 ∷ 5 ∷ []) }
         ∷ record { place = PrefixFold 2; argument = Pair 2 7 } ∷ record { place = PrefixFold 1; argument = Pair 1 3 } ∷ [] }
     ensures inputs_nodes { inputs xor_hashing (plan_expression three plan_of_three)
         ≡ record { place = PrefixFold 1; argument = Pair 0 7 } ∷ record { place = Node 2; argument = Pair 1 3 } ∷ [] }
@@ -262,9 +262,9 @@ pub fn worked_rows()
     // With its two digests swapped, the proof of the middle leaf has the root too, and collides
     // where the last peak is folded.
     ensures accepts_swapped { AcceptsNonempty small (middle 0 (7 ∷ 1 ∷ [])) 6 }
-    ensures collides { Collides small.hashing swapped_inputs list_inputs (record { place = PrefixFold 2; claimed = Pair 4 1; listed = Pair 2 7 }) }
-    ensures no_collision { Collides small.hashing swapped_inputs list_inputs (record { place = PrefixFold 1; claimed = Pair 7 3; listed = Pair 1 3 }) → ⊥ }
-    ensures no_collision_alike { Collides small.hashing list_inputs list_inputs (record { place = PrefixFold 2; claimed = Pair 2 7; listed = Pair 2 7 }) → ⊥ }
+    ensures collides { Collides small.hashing swapped_inputs three_inputs (record { place = PrefixFold 2; claimed = Pair 4 1; listed = Pair 2 7 }) }
+    ensures no_collision { Collides small.hashing swapped_inputs three_inputs (record { place = PrefixFold 1; claimed = Pair 7 3; listed = Pair 1 3 }) → ⊥ }
+    ensures no_collision_alike { Collides small.hashing three_inputs three_inputs (record { place = PrefixFold 2; claimed = Pair 2 7; listed = Pair 2 7 }) → ⊥ }
     ensures no_collision_elsewhere { first_collision small.hashing
         (record { place = PrefixFold 1; argument = Pair 4 1 } ∷ []) (record { place = PrefixFold 2; argument = Pair 2 7 } ∷ []) ≡ None }
 
@@ -281,8 +281,8 @@ pub fn worked_rows()
     ensures apart_bagging { AreApart small (record small { bagging = BackwardFold }) }
     ensures not_apart { AreApart small small → ⊥ }
     ensures not_apart_in_hash { AreApart small (record other_family { hashing = xor_hashing }) → ⊥ }
-    ensures roots_collide { RootsCollide small.hashing list_inputs other_inputs }
-    ensures no_roots_collide { RootsCollide small.hashing swapped_inputs list_inputs → ⊥ }
+    ensures roots_collide { RootsCollide small.hashing three_inputs other_inputs }
+    ensures no_roots_collide { RootsCollide small.hashing swapped_inputs three_inputs → ⊥ }
 
     // The bytes of two digests, at a node after its position, and of a string. Positions above 255
     // have two significant bytes.
@@ -350,7 +350,7 @@ pub fn multi_checks<D>()
     ensures others { MultiSound D }
 
     // A location needs at most 122 digests.
-    ensures few { MultiSizeBound D }
+    ensures at_most_122_each { MultiSizeBound D }
 {}
 
 /// What a range check with pins accepts: the honest inputs with the honest pins and, except for
@@ -382,7 +382,7 @@ pub fn sub_proofs<D>()
 
 /// What audits return for accepted inputs: honest, or the first collision.
 pub fn verdicts<D>()
-    ensures all { Verdicts D }
+    ensures of_accepted { Verdicts D }
 
     // An honest multi input has no collision.
     ensures multi { HonestMultiHasNoCollision D }

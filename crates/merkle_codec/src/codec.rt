@@ -61,7 +61,7 @@ pub trait Write: EncodeSize {
     fn write(&self, out: &mut Vec<u8>) -> Result<(), OutOfMemory>
         ensures ok { OnOk result (out.new.items ≡ out.old.items ++ Self.spelling self.now) }
         ensures err { OnErr result (out.new.items ≡ out.old.items) }
-        ensures full { OnErr result (vec_capacity out.old < vec_len out.old + length (Self.spelling self.now)) };
+        ensures no_room { OnErr result (vec_capacity out.old < vec_len out.old + length (Self.spelling self.now)) };
 }
 
 /// A value that can be decoded from the front of a byte slice.

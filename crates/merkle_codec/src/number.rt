@@ -110,7 +110,7 @@ pub(crate) fn write_number(number: u64, out: &mut Vec<u8>) -> Result<(), OutOfMe
     ensures ok { OnOk result (out.new.items ≡ out.old.items ++ number_spelling number) }
     ensures len { OnOk result (vec_len out.new ≡ vec_len out.old + length (number_spelling number)) }
     ensures err { OnErr result (out.new.items ≡ out.old.items) }
-    ensures full { OnErr result (vec_capacity out.old < vec_len out.old + length (number_spelling number)) }
+    ensures no_room { OnErr result (vec_capacity out.old < vec_len out.old + length (number_spelling number)) }
     ensures capacity { vec_capacity out.old ≤ vec_capacity out.new }
 {
     let (groups, len) = groups_of(number);

@@ -91,7 +91,7 @@ fn read_proof<F: Family, D: Digest>(
 // `OutOfMemory` only if `out` has no room for them and a memory request is refused.
 fn write_digests<D: Digest>(digests: &[D], out: &mut Vec<u8>) -> Result<(), OutOfMemory>
     ensures ok { OnOk result (out.new.items ≡ out.old.items ++ flat_map D.bytes digests.now) }
-    ensures full { OnErr result (vec_capacity out.old < vec_len out.old + length digests.now * D.SIZE) }
+    ensures no_room { OnErr result (vec_capacity out.old < vec_len out.old + length digests.now * D.SIZE) }
 {
     for digest in digests {
         out.extend_from_slice(digest.as_bytes())?;

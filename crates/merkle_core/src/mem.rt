@@ -14,7 +14,7 @@ ghost use Rattle.merkle_batch_theory.specs.Roots.{root_batch};
 ghost use Rattle.merkle_batch_theory.specs.Records.{records};
 ghost use Rattle.merkle_batch_theory.specs.History.{IsHistory, last_list};
 ghost use Rattle.merkle_batch_theory.specs.Replay.{applied, matched, refusal};
-ghost use Rattle.merkle_batch_theory.specs.Refusals.{error_of};
+ghost use Rattle.merkle_batch_theory.specs.Refusals.{refusal_error};
 ghost use Rattle.merkle_proof.specs.ProofRefusals.{IsProofRefusal, IsRangeRefusal};
 ghost use Rattle.merkle_root_theory.specs.Range.{IsHonestRange};
 ghost use Rattle.merkle_proof.specs.RangePlans.{IsBuildRefusal, IsBuiltProof, LeafRange, list_input};
@@ -201,7 +201,7 @@ impl<F: Family, D: Digest> Mem<F, D> {
 
     // Writes the digests of the peaks, oldest first, and returns how many there are.
     fn write_peaks(&self, digests: &mut [D; MAX_PEAKS]) -> usize
-        ensures few { result ≤ MAX_PEAKS }
+        ensures at_most_max_peaks { result ≤ MAX_PEAKS }
         ensures held { take result digests.new ≡ held_peaks F.rule self.now.leaves (contents self.now) }
         ensures many { length (held_peaks F.rule self.now.leaves (contents self.now)) ≡ length (peaks_of F.rule self.now.leaves) }
     {
@@ -283,7 +283,7 @@ impl<F: Family, D: Digest> Mem<F, D> {
             → IfOk result (λ p. location < length X × IsHonestRange s X inactive (list_input p X location (location + 1))) }
         ensures granted { (h : Hashing D) → (X : List D) → Agrees h F.rule (contents self.now) X → self.now.boundary ≤ location → location < length X
             → inactive ≤ length (peaks_of F.rule (length X)) → IsOkUnless result Error.OutOfMemory }
-        ensures few { FewPeaks F.rule F.MAX_LEAVES → IfOk result (λ p. length p.digests.items ≤ 122) }
+        ensures at_most_122 { FewPeaks F.rule F.MAX_LEAVES → IfOk result (λ p. length p.digests.items ≤ 122) }
         ensures err { let bagging = H.bagging_of hasher.now in
             IfErr result (λ e. e ≢ Error.OutOfMemory → IsProofRefusal bagging F.rule F.MAX_LEAVES self.now.leaves location inactive (node self.now) e) }
     {
@@ -383,7 +383,7 @@ impl<F: Family, D: Digest> Mem<F, D> {
         ensures accepted { let peaks = held_peaks F.rule self.old.leaves (contents self.old) in
             is_some (matched D.eq self.old.size peaks batch.now) ≡ true → IsOkUnless result Error.OutOfMemory }
         ensures refused { let peaks = held_peaks F.rule self.old.leaves (contents self.old) in
-            matched D.eq self.old.size peaks batch.now ≡ None → result ≡ Err (error_of (refusal self.old.size batch.now)) }
+            matched D.eq self.old.size peaks batch.now ≡ None → result ≡ Err (refusal_error (refusal self.old.size batch.now)) }
 
         // If the structure agreed with a list and some lists are a history of the batch, then it
         // was accepted at one of these: if that is the structure's own list, the structure now

@@ -18,7 +18,7 @@ use Rattle.merkle_base.proofs.Growth.{forest_grown}
 use Rattle.merkle_base.proofs.Lists.{get_below, get_exists}
 use Rattle.merkle_base.proofs.Nodes.{leaf_here, size_le, size_lt}
 use Rattle.merkle_batch_theory.proofs.OptionFacts.{none_of, or_some}
-use Rattle.merkle_batch_theory.specs.Needed.{computed, is_computed}
+use Rattle.merkle_batch_theory.specs.Needed.{computed_nodes, is_computed}
 use Rattle.merkle_draft.specs.DirtyLeaves.{HasLeavesOf}
 use Rattle.merkle_draft.specs.Levels.{ArePlanned, from_height, level_at}
 use Rattle.merkle_draft.specs.NewDigests.{AreNewDigests, IsStoredAfter, is_written, new_digest}
@@ -123,7 +123,7 @@ filter_within f (x ∷ xs) = by_test (λ b. length (cond b (x ∷ filter f xs) (
     (λ b. omega (arith, filter_within f xs))
     (λ b. omega (arith, filter_within f xs))
 
-pub few_computed : {D : Type 0} (rule : List ℕ → List ℕ) (max_leaves most : ℕ) (law : IsLawful rule max_leaves most) (m : ℕ → Option D) (n e : ℕ) → e ≤ max_leaves → length (computed rule m n e) < 2 ^ 64
+pub few_computed : {D : Type 0} (rule : List ℕ → List ℕ) (max_leaves most : ℕ) (law : IsLawful rule max_leaves most) (m : ℕ → Option D) (n e : ℕ) → e ≤ max_leaves → length (computed_nodes rule m n e) < 2 ^ 64
 few_computed rule max_leaves most law m n e within = omega (arith, filter_within (is_computed rule m n) (forest rule e).nodes, size_le rule e max_leaves within, law.size_at_limit, law.limit_fits)
 
 -- ---- what holds of a result where something else does

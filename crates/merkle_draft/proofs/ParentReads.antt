@@ -12,7 +12,7 @@ use Rattle.merkle_base.proofs.Nodes.{node_built}
 use Rattle.merkle_batch_theory.specs.Contents.{Contents}
 use Rattle.merkle_draft.specs.DraftReads.{DraftModel, below, stored_node}
 use Rattle.merkle_draft.specs.NewDigests.{is_written, new_digest, of_both}
-use Rattle.merkle_draft.specs.Settled.{AreParents, AreSettled, IsReady, read_at}
+use Rattle.merkle_draft.specs.Settled.{AreParents, AreSettled, IsReady, draft_node}
 use Rattle.merkle_draft.proofs.SettledFacts.{settled_read}
 
 -- one more
@@ -46,12 +46,12 @@ parent_at rule read (q ∷ ps) (g ∷ gs) f (suc i) p d all e k = parent_at rule
 module _ {D : Type 0} (h : Hashing D) (rule : List ℕ → List ℕ) (m under : ℕ → Option D) (n : ℕ) (ds : List D) where
   -- what is made of the children of a ready node is its digest after the changes
   pub made_right : (d : DraftModel D) (base : Contents D) (k : ℕ) (ps todo : List ℕ) (gs : List (ℕ × D × D)) (xs : List D) → under ≡ below d base → size rule n ≡ d.before → AreSettled h rule m under n ds todo (stored_node d) →
-      ((p : ℕ) → Contains ps p → IsReady rule m n (n + length ds) k todo p) → AreParents rule (read_at d base) ps gs → xs ≡ map (λ g. h.node g.0 g.1 g.2) gs →
+      ((p : ℕ) → Contains ps p → IsReady rule m n (n + length ds) k todo p) → AreParents rule (draft_node d base) ps gs → xs ≡ map (λ g. h.node g.0 g.1 g.2) gs →
       (i p : ℕ) (x : D) (t : Tree) → slice_get ps i ≡ Some p → slice_get xs i ≡ Some x → slice_get (forest rule (n + length ds)).nodes p ≡ Some t → (is_written rule m n t ≡ true) × (new_digest h rule m under n ds t ≡ Some x)
   made_right d base k ps todo gs xs same sized settled ready parents made i p x t at is node =
       let w = ready p (listed_at ps i p at) in
       let here : join p w.0 w.1 ≡ t = one_there w.2 node in
-      let g = parent_at rule (read_at d base) ps gs (λ g. h.node g.0 g.1 g.2) i p x parents at (ap (λ ys. slice_get ys i) (sym made) ∙ is) in
+      let g = parent_at rule (draft_node d base) ps gs (λ g. h.node g.0 g.1 g.2) i p x parents at (ap (λ ys. slice_get ys i) (sym made) ∙ is) in
       let built = node_built rule (n + length ds) p (join p w.0 w.1) w.2 in
       let left : new_digest h rule m under n ds w.0 ≡ Some g.0.1 =
       sym (settled_read h rule m under n ds d base todo same sized settled (position w.0) w.0 (built_at (forest rule (n + length ds)).nodes w.0 built.4) w.5) ∙ (g.3 (n + length ds) w.0 w.1 w.2).0 in

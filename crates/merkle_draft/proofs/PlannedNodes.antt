@@ -13,7 +13,7 @@ use Rattle.merkle_base.proofs.Lists.{get_below}
 use Rattle.merkle_base.proofs.Lookup.{get_append_add}
 use Rattle.merkle_base.proofs.Nodes.{forest_step, node_anywhere, node_stays, size_le}
 use Rattle.merkle_batch_theory.specs.History.{is_dirty}
-use Rattle.merkle_batch_theory.specs.Needed.{is_computed, computed}
+use Rattle.merkle_batch_theory.specs.Needed.{is_computed, computed_nodes}
 use Rattle.merkle_draft.specs.Levels.{level_at, from_height, ArePlanned, is_dirty_parent, dirty_at, AreMarked, AreAdded}
 use Rattle.merkle_draft.proofs.DirtyParents.{parents_sound, parents_complete, parents_counted}
 
@@ -39,11 +39,11 @@ module _ {D : Type 0} (rule : List ℕ → List ℕ) (m : ℕ → Option D) (n :
   new_computed (join p a b) l j = ap (λ x. x || is_dirty m (join p a b)) (le-leb (size rule n) p l)
 
   -- ---- how many
-  computed_counted : (k : ℕ) → length (computed rule m n (k + n)) + k + size rule n ≡ length (filter (is_dirty_parent m) (forest rule n).nodes) + size rule (k + n)
+  computed_counted : (k : ℕ) → length (computed_nodes rule m n (k + n)) + k + size rule n ≡ length (filter (is_dirty_parent m) (forest rule n).nodes) + size rule (k + n)
   computed_counted zero =
       (let e : 0 + n ≡ n = omega arith in
       let same = filter_same (is_computed rule m n) (is_dirty_parent m) (forest rule n).nodes (λ i t f. old_computed t (omega (arith, (forest_grown rule n).placed i t f, get_below (forest rule n).nodes i t f))) in
-      subst (λ (x : ℕ). length (computed rule m n x) + 0 + size rule n ≡ length (filter (is_dirty_parent m) (forest rule n).nodes) + size rule x) (sym e) (omega (arith, ap length same)))
+      subst (λ (x : ℕ). length (computed_nodes rule m n x) + 0 + size rule n ≡ length (filter (is_dirty_parent m) (forest rule n).nodes) + size rule x) (sym e) (omega (arith, ap length same)))
   computed_counted (suc k) =
       (let e : suc k + n ≡ suc (k + n) = omega arith in
       let s = forest_step rule (k + n) in
@@ -52,16 +52,16 @@ module _ {D : Type 0} (rule : List ℕ → List ℕ) (m : ℕ → Option D) (n :
       let fresh : filter (is_computed rule m n) s.0 ≡ s.0 = filter_all (is_computed rule m n) s.0 (λ i t f.
       (let there : slice_get (forest rule (suc (k + n))).nodes (size rule (k + n) + suc i) ≡ Some t = ap (λ ns. slice_get ns (size rule (k + n) + suc i)) s.1 ∙ get_append_add old (first ∷ s.0) (suc i) ∙ f in
       new_computed t (omega (arith, (forest_grown rule (suc (k + n))).placed (size rule (k + n) + suc i) t there, size_le rule n (k + n) (omega arith))) (all_get IsJoin s.0 i t s.2 f))) in
-      let grown : computed rule m n (suc (k + n)) ≡ computed rule m n (k + n) ++ s.0 =
-      ap (filter (is_computed rule m n)) s.1 ∙ filter-append (is_computed rule m n) old (first ∷ s.0) ∙ ap (λ xs. computed rule m n (k + n) ++ xs) fresh in
-      subst (λ (x : ℕ). length (computed rule m n x) + suc k + size rule n ≡ length (filter (is_dirty_parent m) (forest rule n).nodes) + size rule x) (sym e)
-      (omega (arith, computed_counted k, ap length grown, length-append (computed rule m n (k + n)) s.0, ap length s.1, length-append old (first ∷ s.0))))
+      let grown : computed_nodes rule m n (suc (k + n)) ≡ computed_nodes rule m n (k + n) ++ s.0 =
+      ap (filter (is_computed rule m n)) s.1 ∙ filter-append (is_computed rule m n) old (first ∷ s.0) ∙ ap (λ xs. computed_nodes rule m n (k + n) ++ xs) fresh in
+      subst (λ (x : ℕ). length (computed_nodes rule m n x) + suc k + size rule n ≡ length (filter (is_dirty_parent m) (forest rule n).nodes) + size rule x) (sym e)
+      (omega (arith, computed_counted k, ap length grown, length-append (computed_nodes rule m n (k + n)) s.0, ap length s.1, length-append old (first ∷ s.0))))
 
   pub all_counted : {A : Type 0} (e : ℕ) → n ≤ e → (old mid new : List (Vec ℕ A)) → old ≡ [] → AreMarked m (peaks_of rule n) old mid → (appended : ℕ) → length (from_height new 0) + (e - n) ≡ length (from_height mid 0) + appended
-      → size rule n + appended ≡ size rule e → length (from_height new 0) ≡ length (computed rule m n e)
+      → size rule n + appended ≡ size rule e → length (from_height new 0) ≡ length (computed_nodes rule m n e)
   all_counted e more old mid new none marked appended total sized =
       (let same : (e - n) + n ≡ e = omega (arith, more) in
-      let k = subst (λ (x : ℕ). length (computed rule m n x) + (e - n) + size rule n ≡ length (filter (is_dirty_parent m) (forest rule n).nodes) + size rule x) same (computed_counted (e - n)) in
+      let k = subst (λ (x : ℕ). length (computed_nodes rule m n x) + (e - n) + size rule n ≡ length (filter (is_dirty_parent m) (forest rule n).nodes) + size rule x) same (computed_counted (e - n)) in
       omega (arith, k, total, sized, marked.counted, ap (λ ls. length (from_height ls 0)) none, parents_counted m rule n))
 
   -- ---- which positions

@@ -17,7 +17,7 @@ use Rattle.merkle_batch_theory.specs.Contents.{Contents}
 use Rattle.merkle_batch_theory.specs.History.{is_dirty}
 use Rattle.merkle_draft.specs.DraftReads.{DraftModel, below, stored_node}
 use Rattle.merkle_draft.specs.NewDigests.{LacksNeeded, is_written, new_digest, of_both}
-use Rattle.merkle_draft.specs.Settled.{AreSettled, IsReady, read_at}
+use Rattle.merkle_draft.specs.Settled.{AreSettled, IsReady, draft_node}
 use Rattle.merkle_draft.specs.declared.node_error.NodeError.{NodeError}
 use Rattle.merkle_draft.specs.declared.node_error.NodeError.TheVariants.{Missing}
 
@@ -38,10 +38,10 @@ module _ {D : Type 0} (h : Hashing D) (rule : List ℕ → List ℕ) (m under : 
 
   -- a node that isn't still to be computed reads as its digest after the changes
   pub settled_read : (d : DraftModel D) (base : Contents D) (todo : List ℕ) → under ≡ below d base → size rule n ≡ d.before → AreSettled h rule m under n ds todo (stored_node d) →
-      (p : ℕ) (t : Tree) → slice_get (forest rule (n + length ds)).nodes p ≡ Some t → (Contains todo p → ⊥) → read_at d base p ≡ new_digest h rule m under n ds t
+      (p : ℕ) (t : Tree) → slice_get (forest rule (n + length ds)).nodes p ≡ Some t → (Contains todo p → ⊥) → draft_node d base p ≡ new_digest h rule m under n ds t
   settled_read d base todo same sized settled p t at free = elim (settled p t at) [
     | inl c ↦ absurd (free c)
-    | inr w ↦ by_test (λ b. is_written rule m n t ≡ b → read_at d base p ≡ new_digest h rule m under n ds t) (is_written rule m n t)
+    | inr w ↦ by_test (λ b. is_written rule m n t ≡ b → draft_node d base p ≡ new_digest h rule m under n ds t) (is_written rule m n t)
         (λ b c. (let is : stored_node d p ≡ new_digest h rule m under n ds t = w.0 ∙ ap (λ x. cond x (new_digest h rule m under n ds t) None) b in
         ap (λ o. option_or o (cond (nat_lt p d.before) (below d base p) None)) is ∙ or_some (new_digest h rule m under n ds t) (cond (nat_lt p d.before) (below d base p) None) (w.1 b)))
         (λ b c. (let none : stored_node d p ≡ None = w.0 ∙ ap (λ x. cond x (new_digest h rule m under n ds t) None) b in
@@ -54,7 +54,7 @@ module _ {D : Type 0} (h : Hashing D) (rule : List ℕ → List ℕ) (m under : 
 
   -- a child of a ready node that is not read is a needed node that is not there
   pub ready_missing : {F : Type 0} (d : DraftModel D) (base : Contents D) (k : ℕ) (todo : List ℕ) → under ≡ below d base → size rule n ≡ d.before → AreSettled h rule m under n ds todo (stored_node d) →
-      (p q l r : ℕ) → IsReady rule m n (n + length ds) k todo p → AreChildren rule p l r → (q ≡ l) ⊎ (q ≡ r) → read_at d base q ≡ None → (e : NodeError F) → e ≡ Missing q → LacksNeeded rule m under n (n + length ds) e
+      (p q l r : ℕ) → IsReady rule m n (n + length ds) k todo p → AreChildren rule p l r → (q ≡ l) ⊎ (q ≡ r) → draft_node d base q ≡ None → (e : NodeError F) → e ≡ Missing q → LacksNeeded rule m under n (n + length ds) e
   ready_missing {F} d base k todo same sized settled p q l r ready children which none e error =
       let a : Tree = ready.0 in
       let b : Tree = ready.1 in
@@ -63,7 +63,7 @@ module _ {D : Type 0} (h : Hashing D) (rule : List ℕ → List ℕ) (m under : 
       let kids = children (n + length ds) a b at in
       let of_child : (u : Tree) → IsBuilt (forest rule (n + length ds)).nodes u → (Contains todo (position u) → ⊥) → (u ≡ a) ⊎ (u ≡ b) → q ≡ position u → LacksNeeded rule m under n (n + length ds) e =
       λ u there free child place.
-      (let read : None ≡ new_digest h rule m under n ds u = sym none ∙ ap (read_at d base) place ∙ settled_read d base todo same sized settled (position u) u (built_at (forest rule (n + length ds)).nodes u there) free in
+      (let read : None ≡ new_digest h rule m under n ds u = sym none ∙ ap (draft_node d base) place ∙ settled_read d base todo same sized settled (position u) u (built_at (forest rule (n + length ds)).nodes u there) free in
       let unwritten : is_written rule m n u ≡ false = by_test (λ c. is_written rule m n u ≡ c → c ≡ false) (is_written rule m n u)
       (λ c i. elim (settled (position u) u (built_at (forest rule (n + length ds)).nodes u there)) [
         | inl x ↦ absurd (free x)

@@ -5,9 +5,9 @@ use Rattle.merkle_base.specs.declared.error.Error.TheVariants as error
 use Rattle.merkle_draft.specs.declared.node_error.NodeError.{NodeError}
 use Rattle.merkle_draft.specs.declared.node_error.NodeError.TheVariants.{Missing, OutOfMemory}
 
-abbrev pub error_of : {F : Type 0} → NodeError F → Error F
-error_of (Missing position) = error.MissingNode position
-error_of OutOfMemory = error.OutOfMemory
+abbrev pub node_error : {F : Type 0} → NodeError F → Error F
+node_error (Missing position) = error.MissingNode position
+node_error OutOfMemory = error.OutOfMemory
 
 -- it names the position p, at which nothing is read
 abbrev pub IsGapAt : {F D : Type 0} → (ℕ → Option D) → ℕ → NodeError F → Type 0

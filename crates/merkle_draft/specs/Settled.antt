@@ -11,8 +11,8 @@ use Rattle.merkle_draft.specs.Levels.{ArePlanned, from_height}
 use Rattle.merkle_draft.specs.NewDigests.{IsStoredAfter, is_written, new_digest}
 
 -- what a draft reads at position p: what it stores or, for old nodes, what lies below
-abbrev pub read_at : {D : Type 0} → DraftModel D → Contents D → ℕ → Option D
-read_at d base p = option_or (stored_node d p) (cond (nat_lt p d.before) (below d base p) None)
+abbrev pub draft_node : {D : Type 0} → DraftModel D → Contents D → ℕ → Option D
+draft_node d base p = option_or (stored_node d p) (cond (nat_lt p d.before) (below d base p) None)
 
 -- the other draft has the same old nodes below and as many appended ones
 abbrev pub HasSameShape : {D : Type 0} → DraftModel D → DraftModel D → Type 0

@@ -5,12 +5,12 @@ ghost use Rattle.std.specs.List.{Contains, flat_map};
 ghost use Rattle.std.specs.Ordering.{nat_cmp};
 ghost use Rattle.merkle_base.specs.Forest.{size};
 ghost use Rattle.merkle_base.specs.Places.{HasInner, peaks_of};
-ghost use Rattle.merkle_batch_theory.specs.Needed.{computed};
+ghost use Rattle.merkle_batch_theory.specs.Needed.{computed_nodes};
 ghost use Rattle.merkle_draft.specs.DirtyLeaves.{HasLeavesOf, dirty_leaves};
 ghost use Rattle.merkle_draft.specs.DraftReads.{below, stored_node, OnlyOverwrites};
 ghost use Rattle.merkle_draft.specs.Levels.{level_at, from_height};
 ghost use Rattle.merkle_draft.specs.NewDigests.{AreNewDigests, LacksNeeded};
-ghost use Rattle.merkle_draft.specs.Settled.{AreAnswers, AreParents, AreSettled, HasSameShape, IsReadyToCompute, IsStage, read_at};
+ghost use Rattle.merkle_draft.specs.Settled.{AreAnswers, AreParents, AreSettled, HasSameShape, IsReadyToCompute, IsStage, draft_node};
 
 use crate::base::Base;
 use crate::draft::Draft;
@@ -55,7 +55,7 @@ impl<F: Family, D: Digest> Draft<F, D> {
     ) -> Result<(), NodeError<F>>
         requires inner { (p : ℕ) → Contains positions.now p → HasInner F.rule F.MAX_LEAVES p height }
         requires none { parents.old.items ≡ [] }
-        ensures read { OnOk result (AreParents F.rule (read_at self.now (B.contents base.now)) positions.now parents.new.items) }
+        ensures read { OnOk result (AreParents F.rule (draft_node self.now (B.contents base.now)) positions.now parents.new.items) }
         ensures missing { let under = below self.now (B.contents base.now) in
             IfErr result (λ e. e ≢ NodeError.OutOfMemory → (h : _) (m : ℕ → Option D) (n : ℕ) (ds : List D) (later : List ℕ)
             → IsStage h F.rule F.MAX_LEAVES m under n ds self.now.before height positions.now later (stored_node self.now)
@@ -307,7 +307,7 @@ impl<F: Family, D: Digest> Draft<F, D> {
         ensures missing { let m = get {R = nat_cmp} (from_entries updates.now.entries) in let under = below self.old (B.contents base.now) in
             IfErr result (λ e. e ≢ NodeError.OutOfMemory → LacksNeeded F.rule m under leaves (leaves + length added.now) e) }
         ensures work { let m = get {R = nat_cmp} (from_entries updates.now.entries) in
-            IfOk result (λ k. k ≡ length (computed F.rule m leaves (leaves + length added.now))) }
+            IfOk result (λ k. k ≡ length (computed_nodes F.rule m leaves (leaves + length added.now))) }
     {
         let mut levels = Vec::new(*self.appended.allocator());
         let updates = self.set_leaves(updates)?;

@@ -5,7 +5,7 @@ ghost use Rattle.merkle_base.specs.Forest.{size};
 ghost use Rattle.merkle_base.specs.Places.{peak_positions};
 ghost use Rattle.merkle_batch_theory.specs.Contents.{Contents};
 ghost use Rattle.merkle_draft.specs.DraftReads.{below, old_node, OnlyAppends, IsPeakGap, ArePeaksRead};
-ghost use Rattle.merkle_draft.specs.Settled.{read_at};
+ghost use Rattle.merkle_draft.specs.Settled.{draft_node};
 ghost use Rattle.merkle_batch_theory.specs.Unmerkleized.{is_changed};
 ghost use Rattle.merkle_batch_theory.specs.Records.{after};
 ghost use Rattle.merkle_batch_theory.specs.Assignment.{ReadsAgree, digests_from};
@@ -106,7 +106,7 @@ impl<F: Family, D: Digest> Draft<F, D> {
         base: &B,
         position: Position<F>,
     ) -> Option<D>
-        ensures value { result ≡ read_at self.now (B.contents base.now) position }
+        ensures value { result ≡ draft_node self.now (B.contents base.now) position }
         ensures right { IfSome result (λ d. (truth : ℕ → D) → ReadsAgree (old_node self.now (B.contents base.now)) self.now.before truth
             → self.now.appended ≡ digests_from truth self.now.before (length self.now.appended) → d ≡ truth position) }
         ensures read { IfSome result (λ _. position < self.now.before → is_some (old_node self.now (B.contents base.now) position) ≡ true) }

@@ -38,9 +38,9 @@ impl<F, T: Drop> From<AllocFailed<T>> for NodeError<F> {
 
 impl<F> From<NodeError<F>> for Error<F> {
     ghost use Rattle.std.specs.Prelude.{◌≡◌};
-    ghost use Rattle.merkle_draft.specs.NodeErrors.{error_of};
+    ghost use Rattle.merkle_draft.specs.NodeErrors.{node_error};
 
-    ghost from_gives = { λ gap e. e ≡ error_of gap };
+    ghost from_gives = { λ gap e. e ≡ node_error gap };
 
     fn from(gap: NodeError<F>) -> Self {
         match gap {

@@ -4,7 +4,7 @@ ghost use Rattle.std.specs.List.{flat_map};
 ghost use Rattle.merkle_base.specs.Forest.{size};
 ghost use Rattle.merkle_base.specs.Places.{peaks_of};
 ghost use Rattle.merkle_base.specs.Tree.{Tree};
-ghost use Rattle.merkle_batch_theory.specs.Needed.{computed};
+ghost use Rattle.merkle_batch_theory.specs.Needed.{computed_nodes};
 ghost use Rattle.merkle_draft.specs.DirtyLeaves.{are_before, dirty_leaves};
 ghost use Rattle.merkle_draft.specs.DraftReads.{OnlyAppends};
 ghost use Rattle.merkle_draft.specs.Levels.{level_at, from_height, ArePlanned, AreMarked, AreAdded};
@@ -138,7 +138,7 @@ impl<F: Family, D: Digest> Draft<F, D> {
         ensures planned { OnOk result ((m : ℕ → Option D) → updates.now ≡ flat_map (dirty_leaves m) (peaks_of F.rule leaves)
             → ArePlanned F.rule m leaves (leaves + length added.now) levels.new.items) }
         ensures total { OnOk result ((m : ℕ → Option D) → updates.now ≡ flat_map (dirty_leaves m) (peaks_of F.rule leaves)
-            → length (from_height levels.new.items 0) ≡ length (computed F.rule m leaves (leaves + length added.now))) }
+            → length (from_height levels.new.items 0) ≡ length (computed_nodes F.rule m leaves (leaves + length added.now))) }
     {
         mark_peaks(levels, leaves, updates)?;
         self.add_leaves(levels, leaves, added)

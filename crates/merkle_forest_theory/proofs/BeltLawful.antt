@@ -7,7 +7,7 @@ use Rattle.merkle_base.specs.Heights.{raised, all_raised, AreEqualMerges, peak_h
 use Rattle.merkle_base.proofs.Births.{size_peaks}
 use Rattle.merkle_base.proofs.Limits.{log_below}
 use Rattle.merkle_forest_theory.specs.Mmb.{mmb_merges, mmb_merges_from}
-use Rattle.merkle_forest_theory.specs.BeltDigits.{increment, digits_after, value, spread}
+use Rattle.merkle_forest_theory.specs.BeltDigits.{increment, digits_after, number_of_digits, spread}
 
 -- ---- the merges of the rule
 equal_merges_suc : (is : List ℕ) (h : ℕ) (hs : List ℕ) → AreEqualMerges is hs → AreEqualMerges (map suc is) (h ∷ hs)
@@ -45,26 +45,26 @@ unfolding peak_heights digits_after
 mmb_heights zero = refl
 mmb_heights (suc n) = rw (mmb_heights n) (spread_step 0 (digits_after n))
 
-pub value_increment : (bs : List Bool) → value (increment bs) ≡ suc (value bs)
-value_increment [] = refl
-value_increment (false ∷ bs) = omega arith
-value_increment (true ∷ bs) = omega (arith, value_increment bs)
+pub number_of_digits-increment : (bs : List Bool) → number_of_digits (increment bs) ≡ suc (number_of_digits bs)
+number_of_digits-increment [] = refl
+number_of_digits-increment (false ∷ bs) = omega arith
+number_of_digits-increment (true ∷ bs) = omega (arith, number_of_digits-increment bs)
 
-pub digits_value : (n : ℕ) → value (digits_after n) ≡ n + 1
+pub number_of_digits-digits_after : (n : ℕ) → number_of_digits (digits_after n) ≡ n + 1
 unfolding digits_after
-digits_value zero = refl
-digits_value (suc n) = omega (arith, value_increment (digits_after n), digits_value n)
+number_of_digits-digits_after zero = refl
+number_of_digits-digits_after (suc n) = omega (arith, number_of_digits-increment (digits_after n), number_of_digits-digits_after n)
 
 -- ---- the number of peaks
-pub value_low : (bs : List Bool) → 2 ^ length bs ≤ value bs
-value_low [] = omega arith
-value_low (true ∷ bs) = omega (arith, value_low bs, pow-suc 2 (length bs))
-value_low (false ∷ bs) = omega (arith, value_low bs, pow-suc 2 (length bs))
+pub number_of_digits_low : (bs : List Bool) → 2 ^ length bs ≤ number_of_digits bs
+number_of_digits_low [] = omega arith
+number_of_digits_low (true ∷ bs) = omega (arith, number_of_digits_low bs, pow-suc 2 (length bs))
+number_of_digits_low (false ∷ bs) = omega (arith, number_of_digits_low bs, pow-suc 2 (length bs))
 
-pub value_high : (bs : List Bool) → value bs < 2 ^ suc (length bs)
-value_high [] = omega arith
-value_high (true ∷ bs) = omega (arith, value_high bs, pow-suc 2 (suc (length bs)))
-value_high (false ∷ bs) = omega (arith, value_high bs, pow-suc 2 (suc (length bs)))
+pub number_of_digits_high : (bs : List Bool) → number_of_digits bs < 2 ^ suc (length bs)
+number_of_digits_high [] = omega arith
+number_of_digits_high (true ∷ bs) = omega (arith, number_of_digits_high bs, pow-suc 2 (suc (length bs)))
+number_of_digits_high (false ∷ bs) = omega (arith, number_of_digits_high bs, pow-suc 2 (suc (length bs)))
 
 pub length-spread : (k : ℕ) (bs : List Bool) → length (spread k bs) ≡ length bs
 length-spread k [] = refl
@@ -78,7 +78,7 @@ same_log a b n la ha lb hb = omega (arith, log_below a (suc b) n la hb, log_belo
 pub mmb_peak_count : (n : ℕ) → (2 ^ length (peak_heights mmb_merges n) ≤ n + 1) × (n + 1 < 2 ^ suc (length (peak_heights mmb_merges n)))
 mmb_peak_count n =
     let e : length (peak_heights mmb_merges n) ≡ length (digits_after n) = ap length (mmb_heights n) ∙ length-spread 0 (digits_after n) in
-    rw e (omega (arith, value_low (digits_after n), digits_value n), omega (arith, value_high (digits_after n), digits_value n))
+    rw e (omega (arith, number_of_digits_low (digits_after n), number_of_digits-digits_after n), omega (arith, number_of_digits_high (digits_after n), number_of_digits-digits_after n))
 
 -- ---- sizes
 pub mmb_size : (n k : ℕ) → 2 ^ k ≤ n + 1 → n + 1 < 2 ^ suc k → size mmb_merges n ≡ 2 * n - k

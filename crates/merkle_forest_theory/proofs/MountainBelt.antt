@@ -7,9 +7,9 @@ use Rattle.merkle_base.specs.Tree.{Tree, leaf, join, position, height, first_lea
 use Rattle.merkle_base.specs.Forest.{Forest, append_leaf, parent_of_peaks, merge_all, forest, size}
 use Rattle.merkle_base.specs.Heights.{EqualAt, raised, AreEqualMerges, born_heights, peak_heights, parent_heights, MergesEqual, weight}
 use Rattle.merkle_forest_theory.specs.Mmb.{mmb_merges, mmb_merges_from, birth_leaf, mmb_position}
-use Rattle.merkle_forest_theory.specs.BeltDigits.{digits_after, value, spread}
+use Rattle.merkle_forest_theory.specs.BeltDigits.{digits_after, number_of_digits, spread}
 use Rattle.merkle_forest_theory.specs.Digits.{EndsInOnes}
-use Rattle.merkle_forest_theory.proofs.BeltLawful.{pair_equal, eqb_same, eqb_suc, mmb_heights, digits_value, value_low, length-spread}
+use Rattle.merkle_forest_theory.proofs.BeltLawful.{pair_equal, eqb_same, eqb_suc, mmb_heights, number_of_digits-digits_after, number_of_digits_low, length-spread}
 use Rattle.merkle_base.proofs.Growth.{forest_grown, append_and_merge_append_leaf, built_at}
 use Rattle.merkle_base.proofs.Lists.{get_push_cases, get_below}
 use Rattle.merkle_base.proofs.Balance.{heights_forest, peaks_balanced, node_balanced, balanced_count}
@@ -19,21 +19,21 @@ use Rattle.merkle_forest_theory.proofs.OddMultiples.{odd_no_power}
 
 -- ---- the peaks' heights
 -- peak i from the newest has height i, and one more where bit i of n + 1 is set
-pub spread_bit : (k i : ℕ) (bs : List Bool) → i < length bs → slice_index (spread k bs) i ≡ k + i + bit_at (value bs) i
+pub spread_bit : (k i : ℕ) (bs : List Bool) → i < length bs → slice_index (spread k bs) i ≡ k + i + bit_at (number_of_digits bs) i
 spread_bit k i [] l = absurd (omega arith)
-spread_bit k zero (true ∷ bs) l = omega (arith, bit_at_lowest (1 + 2 * value bs))
-spread_bit k zero (false ∷ bs) l = omega (arith, bit_at_lowest (0 + 2 * value bs))
+spread_bit k zero (true ∷ bs) l = omega (arith, bit_at_lowest (1 + 2 * number_of_digits bs))
+spread_bit k zero (false ∷ bs) l = omega (arith, bit_at_lowest (0 + 2 * number_of_digits bs))
 spread_bit k (suc i) (true ∷ bs) l =
-    let e : (1 + 2 * value bs) / 2 ≡ value bs = omega arith in
-    omega (arith, spread_bit (suc k) i bs (omega arith), bit_at-suc (1 + 2 * value bs) i, ap (λ (x : ℕ). bit_at x i) e)
+    let e : (1 + 2 * number_of_digits bs) / 2 ≡ number_of_digits bs = omega arith in
+    omega (arith, spread_bit (suc k) i bs (omega arith), bit_at-suc (1 + 2 * number_of_digits bs) i, ap (λ (x : ℕ). bit_at x i) e)
 spread_bit k (suc i) (false ∷ bs) l =
-    let e : (0 + 2 * value bs) / 2 ≡ value bs = omega arith in
-    omega (arith, spread_bit (suc k) i bs (omega arith), bit_at-suc (0 + 2 * value bs) i, ap (λ (x : ℕ). bit_at x i) e)
+    let e : (0 + 2 * number_of_digits bs) / 2 ≡ number_of_digits bs = omega arith in
+    omega (arith, spread_bit (suc k) i bs (omega arith), bit_at-suc (0 + 2 * number_of_digits bs) i, ap (λ (x : ℕ). bit_at x i) e)
 
 pub mmb_peak_height : (n i : ℕ) → i < length (peak_heights mmb_merges n) → slice_index (peak_heights mmb_merges n) i ≡ i + bit_at (n + 1) i
 mmb_peak_height n i l =
     let e : length (peak_heights mmb_merges n) ≡ length (digits_after n) = ap length (mmb_heights n) ∙ length-spread 0 (digits_after n) in
-    omega (arith, ap (λ (hs : List ℕ). slice_index hs i) (mmb_heights n), spread_bit 0 i (digits_after n) (omega (arith, e)), ap (λ (x : ℕ). bit_at x i) (digits_value n))
+    omega (arith, ap (λ (hs : List ℕ). slice_index hs i) (mmb_heights n), spread_bit 0 i (digits_after n) (omega (arith, e)), ap (λ (x : ℕ). bit_at x i) (number_of_digits-digits_after n))
 
 -- an older peak is no lower
 pub mmb_older : (n i : ℕ) → suc i < length (peak_heights mmb_merges n) → slice_index (peak_heights mmb_merges n) i ≤ slice_index (peak_heights mmb_merges n) (suc i)
@@ -51,11 +51,11 @@ pub record MergesAt (k : ℕ) (bs : List Bool) (j : ℕ) : Type 0 where
   pub born : born_heights (mmb_merges_from k (spread k bs)) (k ∷ spread k bs) ≡ suc (k + j) ∷ []
   pub front : weight (take (suc (suc j)) (k ∷ spread k bs)) + 2 ^ k ≡ 3 * 2 ^ (k + j)
   pub rest : ℕ
-  pub ends : value bs + 1 ≡ (2 * rest + 1) * 2 ^ j
+  pub ends : number_of_digits bs + 1 ≡ (2 * rest + 1) * 2 ^ j
   pub above : 0 < rest
 
 -- no merge where all digits are ones, and else that one
-pub pair_cases : (k : ℕ) (bs : List Bool) → ((mmb_merges_from k (spread k bs) ≡ []) × (value bs + 1 ≡ 2 ^ suc (length bs))) ⊎ ((j : ℕ) × MergesAt k bs j)
+pub pair_cases : (k : ℕ) (bs : List Bool) → ((mmb_merges_from k (spread k bs) ≡ []) × (number_of_digits bs + 1 ≡ 2 ^ suc (length bs))) ⊎ ((j : ℕ) × MergesAt k bs j)
 pair_cases k [] = inl (refl, refl)
 pair_cases k (false ∷ bs) = inr (
   0,
@@ -63,9 +63,9 @@ pair_cases k (false ∷ bs) = inr (
     rule = rw (eqb_same k) refl;
     born = (let e : k + 0 ≡ k = omega arith in rw (eqb_same k, e) refl);
     front = (let e : k + 0 ≡ k = omega arith in rw e (omega arith));
-    rest = value bs;
+    rest = number_of_digits bs;
     ends = omega arith;
-    above = omega (arith, value_low bs, pow_pos (length bs));
+    above = omega (arith, number_of_digits_low bs, pow_pos (length bs));
   },
 )
 pair_cases k (true ∷ bs) = elim (pair_cases (suc k) bs) [
@@ -90,7 +90,7 @@ pub mmb_parents : (n : ℕ) →
     ((parent_heights mmb_merges n ≡ []) × ((k : ℕ) × (n + 2 ≡ 2 ^ k)))
     ⊎ ((j : ℕ) × (parent_heights mmb_merges n ≡ suc j ∷ []) × EndsInOnes j (n + 1) × ((k : ℕ) → n + 2 ≡ 2 ^ k → ⊥))
 mmb_parents n =
-    let v : value (digits_after n) ≡ n + 1 = digits_value n in
+    let v : number_of_digits (digits_after n) ≡ n + 1 = number_of_digits-digits_after n in
     elim (pair_cases 0 (digits_after n)) [
       | inl h ↦ inl (rw (mmb_heights n, h.0) refl, (suc (length (digits_after n)), omega (arith, h.1)))
       | inr h ↦ (let m = h.1 in
@@ -162,7 +162,7 @@ mmb_placed (suc n) p t e =
                 (let front : weight (take (suc (suc j)) (0 ∷ hs)) + 1 ≡ 3 * 2 ^ (0 + j) = ap (λ (xs : List ℕ). weight (take (suc (suc j)) (0 ∷ xs)) + 1) k ∙ m.front in
                 let z : 2 ^ (0 + j) ≡ 2 ^ j = (let y : 0 + j ≡ j = omega arith in ap (λ (x : ℕ). 2 ^ x) y) in
                 omega (arith, b.4, front, z))
-                (omega (arith, m.ends, digits_value n))
+                (omega (arith, m.ends, number_of_digits-digits_after n))
                 m.above)
           ])
     ]

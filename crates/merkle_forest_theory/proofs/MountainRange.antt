@@ -5,7 +5,8 @@ use Rattle.std.proofs.lemmas.Bool.Decides.{eqb_tells}
 use Rattle.merkle_base.specs.Tree.{Tree, leaf, join, position, height, first_leaf, width, IsUnder, IsBuilt, IsBalanced}
 use Rattle.merkle_base.specs.Forest.{Forest, append_leaf, parent_of_peaks, merge_peaks, merge_at, merge_all, forest, size, Covers, IsUnderOne}
 use Rattle.merkle_base.specs.Heights.{EqualAt, AreEqualMerges, born_heights, peak_heights, parent_heights, MergesEqual, weight}
-use Rattle.merkle_forest_theory.specs.Mmr.{mmr_merges, mmr_merges_from, AscendsFrom, IsPostorder, Stacked, IsBornAt}
+use Rattle.merkle_forest_theory.specs.Ascending.{AscendsFrom}
+use Rattle.merkle_forest_theory.specs.Mmr.{mmr_merges, mmr_merges_from, IsPostorder, Stacked, IsBornAt}
 use Rattle.merkle_forest_theory.specs.Digits.{EndsInOnes}
 use Rattle.merkle_forest_theory.proofs.RangeLawful.{mmr_merges_equal, mmr_ascends, mmr_weight, ascends_multiple}
 use Rattle.merkle_base.proofs.Growth.{forest_grown, append_and_merge_append_leaf}

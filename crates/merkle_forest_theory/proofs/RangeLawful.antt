@@ -6,7 +6,8 @@ use Rattle.std.proofs.lemmas.Bool.Decides.{eqb_tells}
 use Rattle.merkle_base.specs.Forest.{size}
 use Rattle.merkle_base.specs.Heights.{EqualAt, raised, all_raised, AreEqualMerges, peak_heights, IsLawful, weight}
 use Rattle.merkle_base.proofs.Births.{size_peaks}
-use Rattle.merkle_forest_theory.specs.Mmr.{mmr_merges, mmr_merges_from, AscendsFrom}
+use Rattle.merkle_forest_theory.specs.Ascending.{AscendsFrom}
+use Rattle.merkle_forest_theory.specs.Mmr.{mmr_merges, mmr_merges_from}
 
 -- ---- the merges of the rule
 -- each merge is of two equal peaks

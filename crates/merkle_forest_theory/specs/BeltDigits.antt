@@ -13,9 +13,9 @@ digits_after zero = []
 digits_after (suc n) = increment (digits_after n)
 
 -- the number with these digits
-abbrev pub value : List Bool → ℕ
-value [] = 1
-value (b ∷ bs) = cond b 1 0 + 2 * value bs
+abbrev pub number_of_digits : List Bool → ℕ
+number_of_digits [] = 1
+number_of_digits (b ∷ bs) = cond b 1 0 + 2 * number_of_digits bs
 
 -- height k + i at index i, and one more where digit i is set
 abbrev pub spread : ℕ → List Bool → List ℕ

@@ -1,4 +1,5 @@
 pub mod Digits
+pub mod Ascending
 pub mod Mmr
 pub mod Mmb
 pub mod BeltDigits

@@ -1,5 +1,5 @@
 -- The Merkle Mountain Range.
-use Rattle.std.specs.Prelude.{◌≡◌, ℕ, suc, ◌+◌, ◌-◌, ◌*◌, ◌≤◌, ◌^◌, cond, eqb, List, [], ◌∷◌}
+use Rattle.std.specs.Prelude.{◌≡◌, ℕ, suc, ◌+◌, ◌-◌, ◌*◌, ◌^◌, cond, eqb, List, [], ◌∷◌}
 use Rattle.merkle_base.specs.Forest.{size}
 use Rattle.merkle_base.specs.Tree.{Tree, leaf, join, position, height, first_leaf, width}
 
@@ -12,11 +12,6 @@ mmr_merges_from h (a ∷ hs) = cond (eqb a h) (0 ∷ mmr_merges_from (suc h) hs)
 abbrev pub mmr_merges : List ℕ → List ℕ
 mmr_merges [] = []
 mmr_merges (h ∷ hs) = mmr_merges_from h hs
-
--- strictly increasing, and none below k
-abbrev pub AscendsFrom : ℕ → List ℕ → Type 0
-AscendsFrom k [] = Unit {0}
-AscendsFrom k (h ∷ hs) = (k ≤ h) × AscendsFrom (suc h) hs
 
 -- the children of a merged node stand where its position and height say
 abbrev pub IsPostorder : Tree → Type 0

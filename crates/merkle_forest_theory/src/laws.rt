@@ -13,7 +13,8 @@ ghost use Rattle.merkle_base.specs.Grafting.{AreCoordinates, nodes_inside};
 ghost use Rattle.merkle_base.specs.Digests.{node_digests, peak_digests};
 ghost use Rattle.merkle_base.specs.Root.{folded, list_root};
 ghost use Rattle.merkle_base.specs.declared.family.Bagging.TheVariants.{ForwardFold, BackwardFold};
-ghost use Rattle.merkle_forest_theory.specs.Mmr.{mmr_merges, AscendsFrom, IsPostorder, mmr_position, mmr_birth_leaf_count};
+ghost use Rattle.merkle_forest_theory.specs.Ascending.{AscendsFrom};
+ghost use Rattle.merkle_forest_theory.specs.Mmr.{mmr_merges, IsPostorder, mmr_position, mmr_birth_leaf_count};
 ghost use Rattle.merkle_forest_theory.specs.Mmb.{mmb_merges, birth_leaf, mmb_position, mmb_birth_leaf_count};
 ghost use Rattle.merkle_forest_theory.specs.FewPeaks.{FewPeaks};
 ghost use Rattle.merkle_forest_theory.specs.Rows.{unhashed, unhashed_scheme, unmerged, three_digests, four_peaks};
@@ -43,7 +44,7 @@ pub fn mountain_range()
     ensures coordinates { AreCoordinates mmr_merges (2 ^ 62) mmr_position mmr_birth_leaf_count }
 
     // The height of a peak and the number of peaks add up to at most 123.
-    ensures few { FewPeaks mmr_merges (2 ^ 62) }
+    ensures few_peaks { FewPeaks mmr_merges (2 ^ 62) }
 {}
 
 /// The Mountain Belt: its merge rule is lawful, and its sizes and positions have formulas.
@@ -83,7 +84,7 @@ pub fn mountain_belt()
     ensures coordinates { AreCoordinates mmb_merges (2 ^ 62 + 30) mmb_position mmb_birth_leaf_count }
 
     // The height of a peak and the number of peaks add up to at most 123.
-    ensures few { FewPeaks mmb_merges (2 ^ 62 + 30) }
+    ensures few_peaks { FewPeaks mmb_merges (2 ^ 62 + 30) }
 {}
 
 /// The definitions, computed on small numbers.
@@ -117,7 +118,7 @@ pub fn worked_rows()
     ensures inactive { map (inactive_peaks mmr_merges 11) (7 ∷ 8 ∷ 9 ∷ 10 ∷ 11 ∷ []) ≡ 0 ∷ 1 ∷ 1 ∷ 2 ∷ 3 ∷ [] }
 
     // If nothing is merged there are as many peaks as leaves, each of height 0.
-    ensures few { FewPeaks unmerged 123 }
+    ensures few_peaks { FewPeaks unmerged 123 }
     ensures too_many { FewPeaks unmerged 124 → ⊥ }
 
     // With 8 leaves the node over the last four of them is not created yet.

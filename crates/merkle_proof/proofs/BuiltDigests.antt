@@ -106,7 +106,7 @@ module _ {F D P Q : Type 0} (s : Scheme D) (answered : ℕ → Option D → Type
       let count : length (take (b - a) (drop a xs)) ≡ b - a = length-take-le (b - a) (drop a xs) (omega (arith, less, within, long, length-drop a xs)) in
       let ends : b ≡ end_of (list_input p xs a b) = omega (arith, count, less) in
       inl (record {
-        some = omega (arith, count, less);
+        nonempty = omega (arith, count, less);
         within = omega (arith, count, less, within, long);
         leaves = leaves_are ∙ sym long;
         inactive = inactive_are;

@@ -14,7 +14,7 @@ module _ {D : Type 0} (h : Hashing D) (spelled : D → List ℕ) (equal : D → 
   byte_laws : (size : ℕ) (Spells : List ℕ → Type 0) → 1 ≤ size → ((x : D) → Spells (spelled x)) → ((b : List ℕ) → Spells b → length b ≡ size) → ((x y : D) → spelled x ≡ spelled y → x ≡ y) → ByteLaws h size
   byte_laws size Spells some spell long decide = record {
     length = λ d. ap (λ f. length (f d)) over.bytes ∙ long (spelled d) (spell d);
-    some = omega (arith, some);
+    nonempty = omega (arith, some);
     differ = λ a b e. decide a b (sym (ap (λ f. f a) over.bytes) ∙ e ∙ ap (λ f. f b) over.bytes);
   }
 

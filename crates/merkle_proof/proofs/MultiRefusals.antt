@@ -7,7 +7,7 @@ use Rattle.merkle_base.specs.Cases.{first_case}
 use Rattle.merkle_base.specs.declared.error.Error.{Error}
 use Rattle.merkle_base.specs.declared.error.Error.TheVariants.{RangeOutOfBounds, LocationOverflow, DuplicateLocation, UnsortedLocation}
 use Rattle.merkle_base.proofs.FirstCases.{first_case-true, first_case-false, first_case-none}
-use Rattle.merkle_claim_theory.specs.Ascending.{AscendsFrom}
+use Rattle.merkle_forest_theory.specs.Ascending.{AscendsFrom}
 use Rattle.merkle_proof.specs.MultiPositions.{AreLocations, location_refusals, later_refusals, multi_refusals}
 
 -- the first case of a table is that of a longer one

@@ -9,7 +9,7 @@ use Rattle.merkle_base.specs.Tree.{Tree, leaf, join, position, first_leaf, end_l
 use Rattle.merkle_base.proofs.Cases.{by_test}
 use Rattle.merkle_root_theory.specs.Expression.{Expression, Node, supplied, computed, Holds}
 use Rattle.merkle_root_theory.specs.Plan.{tree_meets}
-use Rattle.merkle_claim_theory.specs.Ascending.{AscendsFrom}
+use Rattle.merkle_forest_theory.specs.Ascending.{AscendsFrom}
 use Rattle.merkle_claim_theory.specs.MultiClaim.{also, or_empty, multi_tree}
 use Rattle.merkle_claim_theory.specs.Table.{digest_for}
 use Rattle.merkle_proof.specs.Confirmed.{locations_of, is_located, leaf_located, elements_from, node_checked}

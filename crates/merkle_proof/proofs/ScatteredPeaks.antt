@@ -7,7 +7,7 @@ use Rattle.merkle_base.specs.Forest.{forest}
 use Rattle.merkle_base.proofs.Nodes.{node_built, all_append}
 use Rattle.merkle_hasher.specs.Subtrees.{IsNodeOf}
 use Rattle.merkle_root_theory.specs.Expression.{value, Holds}
-use Rattle.merkle_claim_theory.specs.Ascending.{AscendsFrom}
+use Rattle.merkle_forest_theory.specs.Ascending.{AscendsFrom}
 use Rattle.merkle_proof.specs.Confirmed.{IsConfirmed, EachHolds, locations_of, elements_from, node_checked, nodes_checked}
 use Rattle.merkle_proof.proofs.ScatteredElements.{from_here, from_ascends, from_twice, checked_from}
 

@@ -8,7 +8,7 @@ use Rattle.std.proofs.lemmas.List.Concat.{flat_map-append}
 use Rattle.merkle_base.specs.Tree.{Tree, leaf, join, position, first_leaf, end_leaf}
 use Rattle.merkle_base.proofs.Growth.{forest_grown}
 use Rattle.merkle_hasher.specs.Subtrees.{IsNodeOf}
-use Rattle.merkle_claim_theory.specs.Ascending.{AscendsFrom}
+use Rattle.merkle_forest_theory.specs.Ascending.{AscendsFrom}
 use Rattle.merkle_proof.specs.MultiPositions.{those_before, those_from, under, are_some, node_if, read_below, read_in}
 
 -- ---- locations that ascend

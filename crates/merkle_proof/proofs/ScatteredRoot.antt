@@ -91,7 +91,7 @@ module _ {D : Type 0} (s : Scheme D) (r : MultiInput D) where
       accepts at count each low e =
           let p = plan_for s r.leaves r.inactive (some_leaves (locations_in r) some_located at.below) in
           inl (record {
-            some = some;
+            nonempty = some;
             ascend = at.ascend;
             below = at.below;
             leaves = at.leaves;
@@ -107,8 +107,8 @@ pub empty_accepted : {D : Type 0} (s : Scheme D) (leaves inactive : ℕ) (digest
 empty_accepted s leaves inactive digests root =
     let r = range_input s leaves inactive digests 0 [] in
     let w = leads_is_accepted s r root in (
-      λ e. ⊎_elim (λ v. absurd (omega (arith, v.some))) (λ v. inr (record { elements = refl; leaves = v.0.leaves; inactive = v.0.inactive; digests = v.0.digests }, v.1)) (w.0 e),
-      λ ok. w.1 (⊎_elim (λ v. absurd (omega (arith, v.some))) (λ v. inr (record { elements = refl; start = refl; leaves = v.0.leaves; inactive = v.0.inactive; digests = v.0.digests }, v.1)) ok),
+      λ e. ⊎_elim (λ v. absurd (omega (arith, v.nonempty))) (λ v. inr (record { elements = refl; leaves = v.0.leaves; inactive = v.0.inactive; digests = v.0.digests }, v.1)) (w.0 e),
+      λ ok. w.1 (⊎_elim (λ v. absurd (omega (arith, v.nonempty))) (λ v. inr (record { elements = refl; start = refl; leaves = v.0.leaves; inactive = v.0.inactive; digests = v.0.digests }, v.1)) ok),
     )
 
 -- an input is known by the parts of its proof

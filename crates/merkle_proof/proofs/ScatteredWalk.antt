@@ -10,7 +10,7 @@ use Rattle.merkle_base.proofs.Nodes.{node_built}
 use Rattle.merkle_hasher.specs.Subtrees.{IsNodeOf}
 use Rattle.merkle_root_theory.specs.Expression.{Expression, Node, supplied, computed, value, Holds}
 use Rattle.merkle_root_theory.specs.Plan.{tree_meets}
-use Rattle.merkle_claim_theory.specs.Ascending.{AscendsFrom}
+use Rattle.merkle_forest_theory.specs.Ascending.{AscendsFrom}
 use Rattle.merkle_claim_theory.specs.MultiClaim.{also, or_empty}
 use Rattle.merkle_claim_theory.specs.Table.{digest_for}
 use Rattle.merkle_proof.specs.Confirmed.{IsConfirmed, locations_of, is_located, leaf_located, elements_from, node_checked}

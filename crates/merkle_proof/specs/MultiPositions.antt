@@ -5,7 +5,7 @@ use Rattle.merkle_base.specs.Tree.{Tree, leaf, join, position, first_leaf, end_l
 use Rattle.merkle_base.specs.Places.{peaks_of}
 use Rattle.merkle_base.specs.declared.error.Error.{Error}
 use Rattle.merkle_base.specs.declared.error.Error.TheVariants.{Empty, RangeOutOfBounds, LocationOverflow, DuplicateLocation, UnsortedLocation}
-use Rattle.merkle_claim_theory.specs.Ascending.{AscendsFrom}
+use Rattle.merkle_forest_theory.specs.Ascending.{AscendsFrom}
 
 -- some leaves of a list of n, strictly ascending, and a list may have n
 pub record AreLocations (max_leaves n : ℕ) (locations : List ℕ) : Type 0 where

@@ -4,7 +4,7 @@ ghost use Rattle.std.specs.List.Sorted.{IsStrictlyIncreasing};
 ghost use Rattle.merkle_base.specs.Places.{peaks_of};
 ghost use Rattle.merkle_base.specs.Tree.{Tree, end_leaf};
 ghost use Rattle.merkle_hasher.specs.Subtrees.{Denotes};
-ghost use Rattle.merkle_claim_theory.specs.Ascending.{AscendsFrom};
+ghost use Rattle.merkle_forest_theory.specs.Ascending.{AscendsFrom};
 ghost use Rattle.merkle_claim_theory.specs.Table.{digest_for};
 ghost use Rattle.merkle_proof.specs.Confirmed.{IsConfirmed, EachHolds, locations_of, node_checked, nodes_checked, elements_from};
 ghost use Rattle.merkle_proof.specs.Input.{element_leaves, leaves_left};

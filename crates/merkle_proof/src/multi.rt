@@ -4,7 +4,7 @@ ghost use Rattle.std.specs.List.{AllByRecursion};
 ghost use Rattle.std.specs.List.Sorted.{IsNonDecreasing, IsStrictlyIncreasing};
 ghost use Rattle.merkle_base.specs.Cases.{first_case};
 ghost use Rattle.merkle_base.specs.Tree.{Tree, position};
-ghost use Rattle.merkle_claim_theory.specs.Ascending.{AscendsFrom};
+ghost use Rattle.merkle_forest_theory.specs.Ascending.{AscendsFrom};
 ghost use Rattle.merkle_claim_theory.specs.Multiproof.{multi_positions};
 ghost use Rattle.merkle_hasher.specs.Subtrees.{Denotes};
 ghost use Rattle.merkle_proof.specs.MultiPositions.{AreLocations, location_refusals, later_refusals, multi_refusals, those_before, those_from, read_below, positions_read};

@@ -26,11 +26,11 @@ module _ {D : Type 0} (s : Scheme D) (r : RangeInput D) (pins : List D) (root : 
 
   -- no elements
   pub empty_accepted : length r.elements ≡ 0 → Accepts s r root → (bit : Bool) → (IsTrue bit ↔ (pins ≡ [])) → IsTrue bit ↔ AcceptsPinned s r pins root
-  empty_accepted e (inl x) bit k = absurd (omega (arith, e, x.some))
+  empty_accepted e (inl x) bit k = absurd (omega (arith, e, x.nonempty))
   empty_accepted e (inr x) bit k = ((λ y. inr ((x.0, k.0 y), x.1)), none)
     where
       none : AcceptsPinned s r pins root → IsTrue bit
-      none (inl y) = absurd (omega (arith, e, y.some))
+      none (inl y) = absurd (omega (arith, e, y.nonempty))
       none (inr y) = k.1 y.0.1
 
   -- some elements
@@ -47,7 +47,7 @@ module _ {D : Type 0} (s : Scheme D) (r : RangeInput D) (pins : List D) (root : 
     where
       back : AcceptsPinned s r pins root → IsTrue bit
       back (inl y) = k.1 ((pinned_is_rebuilt s r pins root).0 y).1
-      back (inr y) = absurd (omega (arith, ok.some, ap length y.0.0.elements))
+      back (inr y) = absurd (omega (arith, ok.nonempty, ap length y.0.0.elements))
 
 pub length-peak_positions : (rule : List ℕ → List ℕ) (n : ℕ) → length (peak_positions rule n) ≡ length (peaks_of rule n)
 length-peak_positions rule n = length-map (peaks_of rule n) position

@@ -95,7 +95,7 @@ module _ {D : Type 0} (h : Hashing D) (bagging : Bagging) (rule : List ℕ → L
     computed few low all w j j_is d is =
         let v = as_input all w in (
           record {
-            some = some_given;
+            nonempty = some_given;
             within = within_given;
             leaves = few;
             inactive = low;

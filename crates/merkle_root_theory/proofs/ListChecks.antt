@@ -14,7 +14,7 @@ use Rattle.merkle_root_theory.specs.Plan.{Plan, peak, left_fold_plan, right_fold
 use Rattle.merkle_base.specs.declared.family.Bagging.{Bagging}
 use Rattle.merkle_base.specs.declared.family.Bagging.TheVariants.{ForwardFold, BackwardFold}
 use Rattle.merkle_root_theory.specs.Claim.{claim_of, InTree, InPlan}
-use Rattle.merkle_root_theory.specs.Check.{string_of, root_of, inputs_of, all_inputs, list_expression, RangeInput, chosen, leaf_given, range_expression, Counts, HasHonestDigests, IsHonestByPlan, Covers, PlanCheckSound, SharesLeaves, PairConsistent, HonestRangeAccepted}
+use Rattle.merkle_root_theory.specs.Check.{string_of, root_of, inputs_of, all_inputs, list_expression, RangeInput, chosen, leaf_given, range_expression, HasDigestCount, HasHonestDigests, IsHonestByPlan, CoversEachLeaf, PlanCheckSound, SharesLeaves, PairConsistent, HonestRangeAccepted}
 use Rattle.merkle_base.specs.Scheme.{Scheme}
 use Rattle.merkle_base.specs.Places.{peaks_of}
 use Rattle.merkle_root_theory.proofs.Collisions.{decided}
@@ -78,7 +78,7 @@ module _ {D : Type 0} (s : Scheme D) (size : ℕ) (bytes : ByteLaws s.hashing si
         record { claimed = inl refl; listed = inl refl; differ = λ p. q cc; one_digest = same },
       )
 
-same_inactive : {A D : Type 0} (f : A → D) (k k' : ℕ) (r : RangeInput D) (o : Option Plan) (g : Plan → A) (x : Option D) → Counts r o → SameFolded k (option_map f (option_map g o)) k' x → k ≡ k'
+same_inactive : {A D : Type 0} (f : A → D) (k k' : ℕ) (r : RangeInput D) (o : Option Plan) (g : Plan → A) (x : Option D) → HasDigestCount r o → SameFolded k (option_map f (option_map g o)) k' x → k ≡ k'
 same_inactive f k k' r None g x c w = elim c [ ]
 same_inactive f k k' r (Some p) g None c w = elim w [ ]
 same_inactive f k k' r (Some p) g (Some y) c w = w.0
@@ -86,7 +86,7 @@ same_inactive f k k' r (Some p) g (Some y) c w = w.0
 pub is_chosen : {D : Type 0} (r : RangeInput D) (i : ℕ) → r.start ≤ i → i < r.start + length r.elements → chosen r i ≡ true
 is_chosen r i a b = ap₂ ◌&&◌ (le-leb r.start i a) (lt-ltb i (r.start + length r.elements) b)
 
-in_whole : {D : Type 0} (s : Scheme D) → Covers (peaks_of s.rule) → (n k i : ℕ) → i < n → InWhole (root_plan s.bagging k (peaks_of s.rule n)) i
+in_whole : {D : Type 0} (s : Scheme D) → CoversEachLeaf (peaks_of s.rule) → (n k i : ℕ) → i < n → InWhole (root_plan s.bagging k (peaks_of s.rule n)) i
 in_whole s covers n k i a = let w = covers n i a in whole_has s.bagging k (peaks_of s.rule n) w.0 i w.1 w.2
 
 module _ {D : Type 0} (s : Scheme D) (laws : EqDecides s.hashing) where
@@ -101,14 +101,14 @@ module _ {D : Type 0} (s : Scheme D) (laws : EqDecides s.hashing) where
     Told : Option Plan → Type 0
     Told o = HasHonestDigests s X r o × ((i : ℕ) → InWhole o i → chosen r i ≡ true → leaf_given s.hashing r i ≡ X i)
 
-    below_root : (o : Option Plan) → Counts r o → SameFolded k (option_map (value s.hashing) (option_map (claim_at r) o)) k' (option_map (value s.hashing) (option_map (plan_expression X) o))
+    below_root : (o : Option Plan) → HasDigestCount r o → SameFolded k (option_map (value s.hashing) (option_map (claim_at r) o)) k' (option_map (value s.hashing) (option_map (plan_expression X) o))
         → Told o ⊎ ((c : Collision D) × Collides s.hashing (inputs_of s.hashing (option_map (claim_at r) o)) (inputs_of s.hashing (option_map (plan_expression X) o)) c)
     unfolding claim_at Told InWhole
     below_root None c w = elim c [ ]
     below_root (Some p) c w = nothing_else s.hashing laws (chosen r) X (leaf_given s.hashing r) p r.digests c w.1
 
   module _ (r q : RangeInput D) (k k' : ℕ) where
-    pair_below_root : (o : Option Plan) → Counts r o → SameFolded k (option_map (value s.hashing) (option_map (claim_at r) o)) k' (option_map (value s.hashing) (option_map (claim_at q) o))
+    pair_below_root : (o : Option Plan) → HasDigestCount r o → SameFolded k (option_map (value s.hashing) (option_map (claim_at r) o)) k' (option_map (value s.hashing) (option_map (claim_at q) o))
         → ((i : ℕ) → InWhole o i → chosen r i ≡ true → chosen q i ≡ true → leaf_given s.hashing r i ≡ leaf_given s.hashing q i) ⊎ ((c : Collision D) × Collides s.hashing (inputs_of s.hashing (option_map (claim_at r) o)) (inputs_of s.hashing (option_map (claim_at q) o)) c)
     unfolding claim_at InWhole
     pair_below_root None c w = elim c [ ]
@@ -174,7 +174,7 @@ pair_consistent {D = D} s size laws bytes covers root r q ok ok' =
         ⊎_elim (λ x. inl (shares w.0 t x)) (λ c. inr (lifted s laws r.leaves q.leaves r.inactive q.inactive (range_expression s r) (range_expression s q) c)) v
 
 module _ {D : Type 0} (s : Scheme D) (X : ℕ → D) (r : RangeInput D) where
-  honest_counts : (o : Option Plan) → HasHonestDigests s X r o → Counts r o
+  honest_counts : (o : Option Plan) → HasHonestDigests s X r o → HasDigestCount r o
   honest_counts None w = w
   honest_counts (Some p) w = ap length w ∙ length-append (map (plan_digest s.hashing X) (outside_parts (chosen r) p)) _ ∙ ap₂ ◌+◌ (length-map (outside_parts (chosen r) p) (plan_digest s.hashing X)) (length-map (path_siblings (chosen r) p) (tree_digest s.hashing X))
 

@@ -17,7 +17,7 @@ use Rattle.merkle_base.specs.declared.family.Bagging.{Bagging}
 use Rattle.merkle_base.specs.declared.family.Bagging.TheVariants.{ForwardFold, BackwardFold}
 use Rattle.merkle_root_theory.specs.Claim.{InTree, claim_of}
 use Rattle.merkle_root_theory.specs.Outside.{HasLayout}
-use Rattle.merkle_root_theory.specs.Check.{root_of, all_inputs, list_expression, RangeInput, chosen, leaf_given, range_expression, Counts, HasHonestDigests, AcceptsByPlan, IsHonestByPlan, Covers}
+use Rattle.merkle_root_theory.specs.Check.{root_of, all_inputs, list_expression, RangeInput, chosen, leaf_given, range_expression, HasDigestCount, HasHonestDigests, AcceptsByPlan, IsHonestByPlan, CoversEachLeaf}
 use Rattle.merkle_base.specs.Scheme.{Scheme}
 use Rattle.merkle_base.specs.Places.{peaks_of}
 use Rattle.merkle_root_theory.specs.Range.{end_of, range_parts, range_siblings, leaf_of, range_digests, AcceptsNonempty, IsEmptyInput, IsHonestNonempty, plan_root, IsLawfulScheme, RangeCollides, HonestIsAccepted, RangeSound}
@@ -40,7 +40,7 @@ spans_cover ns o n i [] c h a b = absurd (omega (arith, c))
 spans_cover ns o n i (t ∷ ts) c h a b = ⊎_elim (λ x. (t, inl refl, in_tree ns t i h.0 (omega (arith, c.0)) x))
     (λ x. let w = spans_cover ns (o + width t) n i ts c.1 h.1 (omega (arith, c.0, x)) b in (w.0, inr w.1, w.2)) (cases_lt i (end_leaf t))
 
-pub covers : {D : Type 0} (s : Scheme D) → Covers (peaks_of s.rule)
+pub covers : {D : Type 0} (s : Scheme D) → CoversEachLeaf (peaks_of s.rule)
 covers s n i a = spans_cover (forest s.rule n).nodes 0 n i (peaks_of s.rule n) (peaks_spans s.rule n) (peaks_built s.rule n) (omega arith) a
 
 -- the limits
@@ -69,7 +69,7 @@ empty_root s xs k low e =
     ∙ ap₂ (λ n j. root_of s n j (list_expression s (leaf_of s.hashing xs) n j)) l z
 
 module _ {D : Type 0} (s : Scheme D) (xs : List D) (r : RangeInput D) where
-  counts_of : (os : List Plan) (is : List Tree) (o : Option Plan) → HasLayout (chosen r) os is o → length r.digests ≡ length os + length is → Counts r o
+  counts_of : (os : List Plan) (is : List Tree) (o : Option Plan) → HasLayout (chosen r) os is o → length r.digests ≡ length os + length is → HasDigestCount r o
   counts_of os is None w e = w
   counts_of os is (Some p) w e = e ∙ sym (ap₂ (λ x y. length x + length y) w.0 w.1)
 
@@ -88,7 +88,7 @@ old_accepts s max_nodes law r root ok = record {
   within = ok.within;
   leaves = small_leaves s max_nodes r.leaves law ok.leaves;
   inactive = small_inactive s max_nodes r.leaves r.inactive law ok.leaves ok.inactive;
-  counts = counts_of s [] r _ _ _ (range_layout s r.leaves r.inactive r.start (end_of r) (omega (arith, ok.some)) ok.within) ok.counts;
+  counts = counts_of s [] r _ _ _ (range_layout s r.leaves r.inactive r.start (end_of r) (omega (arith, ok.nonempty)) ok.within) ok.counts;
   root_is = ok.root_is;
 }
 
@@ -111,7 +111,7 @@ pub old_honest : {D : Type 0} (s : Scheme D) (xs : List D) (k : ℕ) (r : RangeI
 old_honest s xs k r honest = record {
   leaves = honest.leaves;
   inactive = honest.inactive;
-  digests = honest_of s xs r _ _ _ (range_layout s (length xs) k r.start (end_of r) (omega (arith, honest.some)) honest.within) honest.digests;
+  digests = honest_of s xs r _ _ _ (range_layout s (length xs) k r.start (end_of r) (omega (arith, honest.nonempty)) honest.within) honest.digests;
   elements = λ j m. ap (λ z. get_or z j s.hashing.empty) honest.elements ∙ get_or-take (length r.elements) (drop r.start xs) j s.hashing.empty m ∙ get_or-drop r.start xs j s.hashing.empty;
 }
 
@@ -122,7 +122,7 @@ module _ {D : Type 0} (s : Scheme D) (size max_nodes : ℕ) (sound : IsLawfulSch
       let old = old_honest s xs k r honest in
       let ok = honest_range_accepted s (leaf_of s.hashing xs) (length xs) k (small_leaves s max_nodes (length xs) sound.lawful few) (small_inactive s max_nodes (length xs) k sound.lawful few low) r honest.within old in
       record {
-        some = honest.some;
+        nonempty = honest.nonempty;
         within = omega (arith, honest.within, e);
         leaves = omega (arith, few, e);
         inactive = subst (λ z. z ≤ length (peaks_of s.rule r.leaves)) (sym honest.inactive) (subst (λ z. k ≤ length (peaks_of s.rule z)) e low);
@@ -145,11 +145,11 @@ module _ {D : Type 0} (s : Scheme D) (size max_nodes : ℕ) (sound : IsLawfulSch
           let within : end_of r ≤ length xs = omega (arith, ok.within, w.leaves) in
           let long : length r.elements ≡ length (take (length r.elements) (drop r.start xs)) = sym (length-take-le (length r.elements) (drop r.start xs) (omega (arith, within, length-drop r.start xs))) in
           record {
-            some = ok.some;
+            nonempty = ok.nonempty;
             within = within;
             leaves = w.leaves;
             inactive = w.inactive;
-            digests = digests_of s xs r _ _ _ (range_layout s (length xs) k r.start (end_of r) (omega (arith, ok.some)) within) w.digests;
+            digests = digests_of s xs r _ _ _ (range_layout s (length xs) k r.start (end_of r) (omega (arith, ok.nonempty)) within) w.digests;
             elements = same_list s.hashing.empty r.elements _ long (λ j m. w.elements j m ∙ sym (get_or-take (length r.elements) (drop r.start xs) j s.hashing.empty m ∙ get_or-drop r.start xs j s.hashing.empty));
           }
 

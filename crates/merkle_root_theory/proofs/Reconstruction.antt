@@ -81,7 +81,7 @@ module _ {D : Type 0} (s : Scheme D) (r : RangeInput D) where
 
   -- none applies exactly to inputs of the right shape
   pub refusal-none : HasShape s r → refusal ≡ None
-  refusal-none h = after_missing h.some h.within h.leaves h.inactive (omega (arith, h.counts)) ∙ first_case-false (nat_lt (digest_count s r) (length r.digests)) ExtraDigests [] (le-ltb (digest_count s r) (length r.digests) (omega (arith, h.counts)))
+  refusal-none h = after_missing h.nonempty h.within h.leaves h.inactive (omega (arith, h.counts)) ∙ first_case-false (nat_lt (digest_count s r) (length r.digests)) ExtraDigests [] (le-ltb (digest_count s r) (length r.digests) (omega (arith, h.counts)))
 
   pub shape_of_none : 0 < length r.elements → refusal ≡ None → HasShape s r
   shape_of_none some e =
@@ -93,7 +93,7 @@ module _ {D : Type 0} (s : Scheme D) (r : RangeInput D) where
       let many = first_case-none (nat_lt (length r.digests) (digest_count s r)) MissingDigests extra few.1 in
       let none = first_case-none (nat_lt (digest_count s r) (length r.digests)) ExtraDigests [] many.1 in
       record {
-        some = some;
+        nonempty = some;
         within = ltb-false r.leaves (end_of r) size.0;
         leaves = ltb-false s.max_leaves r.leaves count.0;
         inactive = ltb-false (length (peaks_of s.rule r.leaves)) r.inactive few.0;
@@ -180,7 +180,7 @@ leads_is_accepted {D} s r root = (to, from)
       | inr some ↦
           let w = no_error s r root (first_case (range_refusals s r)) (sym (reconstructed-some s r some) ∙ e) in
           let h = shape_of_none s r some w.0 in
-          inl (record { some = h.some; within = h.within; leaves = h.leaves; inactive = h.inactive; counts = h.counts; root_is = w.1 })
+          inl (record { nonempty = h.nonempty; within = h.within; leaves = h.leaves; inactive = h.inactive; counts = h.counts; root_is = w.1 })
       | inl none ↦
           let w = no_error s r root (first_case (empty_refusals r)) (sym (reconstructed-none s r none) ∙ e) in
           let h = is_empty s r none w.0 in
@@ -189,8 +189,8 @@ leads_is_accepted {D} s r root = (to, from)
 
     from : Accepts s r root → reconstructed s r ≡ Ok root
     from (inl a) =
-        reconstructed-some s r a.some
-        ∙ ap (root_unless s r) (refusal-none s r (record { some = a.some; within = a.within; leaves = a.leaves; inactive = a.inactive; counts = a.counts }))
+        reconstructed-some s r a.nonempty
+        ∙ ap (root_unless s r) (refusal-none s r (record { nonempty = a.nonempty; within = a.within; leaves = a.leaves; inactive = a.inactive; counts = a.counts }))
         ∙ ap Ok a.root_is
     from (inr a) =
         let h = a.0 in

@@ -58,16 +58,16 @@ abbrev pub range_inputs : {D : Type 0} → Scheme D → RangeInput D → List (I
 range_inputs s r = all_inputs s r.leaves r.inactive (range_expression s r)
 
 -- the proof has the digests that its plan asks for
-abbrev pub Counts : {D : Type 0} → RangeInput D → Option Plan → Type 0
-Counts r None = ⊥
-Counts r (Some p) = length r.digests ≡ length (outside_parts (chosen r) p) + length (path_siblings (chosen r) p)
+abbrev pub HasDigestCount : {D : Type 0} → RangeInput D → Option Plan → Type 0
+HasDigestCount r None = ⊥
+HasDigestCount r (Some p) = length r.digests ≡ length (outside_parts (chosen r) p) + length (path_siblings (chosen r) p)
 
 -- what a range check by plans accepts against a root
 pub record AcceptsByPlan {D : Type 0} (s : Scheme D) (r : RangeInput D) (root : D) : Type 0 where
   pub within : r.start + length r.elements ≤ r.leaves
   pub leaves : r.leaves < 2 ^ 64
   pub inactive : r.inactive < 2 ^ 64
-  pub counts : Counts r (root_plan s.bagging r.inactive (peaks_of s.rule r.leaves))
+  pub counts : HasDigestCount r (root_plan s.bagging r.inactive (peaks_of s.rule r.leaves))
   pub root_is : root_of s r.leaves r.inactive (range_expression s r) ≡ root
 
 -- the digests are the honest ones of the plan
@@ -83,12 +83,12 @@ pub record IsHonestByPlan {D : Type 0} (s : Scheme D) (X : ℕ → D) (n k : ℕ
   pub elements : (j : ℕ) → j < length r.elements → get_or r.elements j s.hashing.empty ≡ X (r.start + j)
 
 -- the peaks cover every leaf
-abbrev pub Covers : (ℕ → List Tree) → Type 0
-Covers forest = (n i : ℕ) → i < n → (t : Tree) × Member (forest n) t × InTree t i
+abbrev pub CoversEachLeaf : (ℕ → List Tree) → Type 0
+CoversEachLeaf forest = (n i : ℕ) → i < n → (t : Tree) × Member (forest n) t × InTree t i
 
 -- what is accepted against the root of a list is honest, or collides with the list
 abbrev pub PlanCheckSound : Type 0 → Type 0
-PlanCheckSound D = (s : Scheme D) (size : ℕ) → EqDecides s.hashing → ByteLaws s.hashing size → Covers (peaks_of s.rule)
+PlanCheckSound D = (s : Scheme D) (size : ℕ) → EqDecides s.hashing → ByteLaws s.hashing size → CoversEachLeaf (peaks_of s.rule)
     → (X : ℕ → D) (n k : ℕ) → n < 2 ^ 64 → k < 2 ^ 64 → (r : RangeInput D) → AcceptsByPlan s r (root_of s n k (list_expression s X n k))
     → IsHonestByPlan s X n k r ⊎ ((c : Collision D) × Collides s.hashing (range_inputs s r) (all_inputs s n k (list_expression s X n k)) c)
 
@@ -99,7 +99,7 @@ SharesLeaves h r q = (r.leaves ≡ q.leaves) × (r.inactive ≡ q.inactive)
 
 -- what is accepted against one root shares its leaves, or the two collide
 abbrev pub PairConsistent : Type 0 → Type 0
-PairConsistent D = (s : Scheme D) (size : ℕ) → EqDecides s.hashing → ByteLaws s.hashing size → Covers (peaks_of s.rule)
+PairConsistent D = (s : Scheme D) (size : ℕ) → EqDecides s.hashing → ByteLaws s.hashing size → CoversEachLeaf (peaks_of s.rule)
     → (root : D) (r q : RangeInput D) → AcceptsByPlan s r root → AcceptsByPlan s q root
     → SharesLeaves s.hashing r q ⊎ ((c : Collision D) × Collides s.hashing (range_inputs s r) (range_inputs s q) c)
 

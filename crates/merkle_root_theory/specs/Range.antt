@@ -50,7 +50,7 @@ end_of r = r.start + length r.elements
 
 -- an accepted input with elements
 pub record AcceptsNonempty {D : Type 0} (s : Scheme D) (r : RangeInput D) (root : D) : Type 0 where
-  pub some : 0 < length r.elements
+  pub nonempty : 0 < length r.elements
   pub within : end_of r ≤ r.leaves
   pub leaves : r.leaves ≤ s.max_leaves
   pub inactive : r.inactive ≤ length (peaks_of s.rule r.leaves)
@@ -78,7 +78,7 @@ ForRootOf {D} s root P =
 
 -- the honest proof of a nonempty range of a list, with its leaves
 pub record IsHonestNonempty {D : Type 0} (s : Scheme D) (xs : List D) (k : ℕ) (r : RangeInput D) : Type 0 where
-  pub some : 0 < length r.elements
+  pub nonempty : 0 < length r.elements
   pub within : end_of r ≤ length xs
   pub leaves : r.leaves ≡ length xs
   pub inactive : r.inactive ≡ k

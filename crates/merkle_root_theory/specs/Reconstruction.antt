@@ -44,7 +44,7 @@ reconstructed s r = root_unless s r (first_case (cond (nat_lt 0 (length r.elemen
 
 -- an input with elements to which no refusal applies
 pub record HasShape {D : Type 0} (s : Scheme D) (r : RangeInput D) : Type 0 where
-  pub some : 0 < length r.elements
+  pub nonempty : 0 < length r.elements
   pub within : end_of r ≤ r.leaves
   pub leaves : r.leaves ≤ s.max_leaves
   pub inactive : r.inactive ≤ length (peaks_of s.rule r.leaves)

@@ -7,7 +7,7 @@ use Rattle.merkle_base.specs.Hashing.{Hashing}
 -- digests are told apart by their bytes, which all have one length
 pub record ByteLaws {D : Type 0} (h : Hashing D) (size : ℕ) : Type 0 where
   pub length : (d : D) → length (h.bytes d) ≡ size
-  pub some : 0 < size
+  pub nonempty : 0 < size
   pub differ : (a b : D) → h.bytes a ≡ h.bytes b → a ≡ b
 
 -- the parts of two root strings

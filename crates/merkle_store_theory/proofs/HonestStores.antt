@@ -77,8 +77,8 @@ honest_store_is_honest s xs k r root a b honest ok some low high =
     let Y = leaf_given s.hashing r in
     let f = plan_digest h X in
     let g = tree_digest h X in
-    let plan = plan_for s r.leaves r.inactive (omega (arith, ok.some, ok.within)) in
-    let lc = laid s r.leaves r.inactive r.start (end_of r) (omega (arith, ok.some)) ok.within plan.0 plan.1 in
+    let plan = plan_for s r.leaves r.inactive (omega (arith, ok.nonempty, ok.within)) in
+    let lc = laid s r.leaves r.inactive r.start (end_of r) (omega (arith, ok.nonempty)) ok.within plan.0 plan.1 in
     let ld = laid s r.leaves r.inactive a b some (omega (arith, high, ok.within)) plan.0 plan.1 in
     let within : (i : ℕ) → in_range a b i ≡ true → in_range r.start (end_of r) i ≡ true =
     λ i e. let w = and_parts (nat_le a i) (nat_lt i b) e in let x = leb-true a i w.0 in let y = ltb-true i b w.1 in and_from _ _ (le-leb r.start i (omega (arith, x, low))) (lt-ltb i (end_of r) (omega (arith, y, high))) in

@@ -277,7 +277,7 @@ module _ {D : Type 0} (s : Scheme D) (r : RangeInput D) (root_digest : D) (ok : 
       and_from _ _ (le-leb r.start i (omega (arith, l, low))) (lt-ltb i (end_of r) (omega (arith, g, high)))
 
   once : Distinct (map (λ (x : ℕ × D). x.0) v.pairs)
-  once = extracts_once s r ok.some ok.within
+  once = extracts_once s r ok.nonempty ok.within
 
   abbrev before : List Tree
   before = wholly_before r.start ts
@@ -429,22 +429,22 @@ store_answers s r root a b ok some low high = answers_none s r root ok a b some 
 
 pub store_reads_claim : {D : Type 0} → StoreReadsClaim D
 store_reads_claim s r q root ok some low high =
-    let plan = plan_for s r.leaves r.inactive (omega (arith, ok.some, ok.within)) in
+    let plan = plan_for s r.leaves r.inactive (omega (arith, ok.nonempty, ok.within)) in
     let c = chosen r in
     let lay : outside_parts c plan.0 ≡ range_parts s.bagging r.inactive r.start (end_of r) (peaks_of s.rule r.leaves) =
     (subst (HasLayout c (range_parts s.bagging r.inactive r.start (end_of r) (peaks_of s.rule r.leaves)) (range_siblings r.start (end_of r) (peaks_of s.rule r.leaves))) plan.1
-    (peaks.range_layout s r.leaves r.inactive r.start (end_of r) (omega (arith, ok.some)) ok.within)).0 in
+    (peaks.range_layout s r.leaves r.inactive r.start (end_of r) (omega (arith, ok.nonempty)) ok.within)).0 in
     answers_claim s r root ok q.start (end_of q) (omega (arith, some)) low high plan.0 plan.1
     ∙ ap (λ z. sub_outside_parts s.hashing c (chosen q) (leaf_given s.hashing r) plan.0 r.digests (drop (length z) r.digests) ++ sub_inner s.hashing c (chosen q) (leaf_given s.hashing r) plan.0 r.digests (drop (length z) r.digests)) (sym lay)
     ∙ ap (sub_digests s r q) (sym plan.1)
 
 pub store_is_accepted : {D : Type 0} → StoreIsAccepted D
 store_is_accepted s r q root ok w = part_is_accepted s r q root ok (record {
-  some = w.some;
+  nonempty = w.nonempty;
   from = w.from;
   to = w.to;
   leaves = w.leaves;
   inactive = w.inactive;
-  digests = w.digests ∙ store_reads_claim s r q root ok w.some w.from w.to;
+  digests = w.digests ∙ store_reads_claim s r q root ok w.nonempty w.from w.to;
   elements = w.elements;
 })

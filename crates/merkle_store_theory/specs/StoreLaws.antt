@@ -24,7 +24,7 @@ StoreAnswers D = (s : Scheme D) (r : RangeInput D) (root : D) (a b : ℕ) → Ac
 
 -- q has the proof that the store of r answers for a part of its range, with the elements of r there
 pub record IsStoreProof {D : Type 0} (s : Scheme D) (r q : RangeInput D) (root : D) : Type 0 where
-  pub some : 0 < length q.elements
+  pub nonempty : 0 < length q.elements
   pub from : r.start ≤ q.start
   pub to : end_of q ≤ end_of r
   pub leaves : q.leaves ≡ r.leaves

@@ -8,8 +8,8 @@ use Rattle.merkle_claim_theory.specs.ThreeLeaves.{xor_hashing}
 use Rattle.merkle_store_theory.specs.StoreValue.{StoreValue, store_of}
 
 -- the digest of a node is its position, and a fold writes two of them one after the other
-abbrev pub numbered : Bagging → Scheme ℕ
-numbered bagging = record {
+abbrev pub position_scheme : Bagging → Scheme ℕ
+position_scheme bagging = record {
   hashing = record xor_hashing { node = λ p l r. p; fold = λ a b. 100 * a + b };
   rule = mmr_merges;
   max_leaves = 100;
@@ -20,7 +20,7 @@ numbered bagging = record {
 -- the store of a proof of leaves of seven, with that inactive count
 abbrev pub of_seven : Bagging → (inactive : ℕ) → (digests : List ℕ) → (start : ℕ) → (elements : List ℕ) → StoreValue ℕ
 of_seven bagging inactive digests start elements =
-    store_of (numbered bagging) (record { leaves = 7; inactive = inactive; digests = digests; start = start; elements = elements }) 0
+    store_of (position_scheme bagging) (record { leaves = 7; inactive = inactive; digests = digests; start = start; elements = elements }) 0
 
 -- those of the last three of them, of all, and, backward, of all but the last
 abbrev pub last_three : Bagging → (inactive : ℕ) → StoreValue ℕ
@@ -46,4 +46,5 @@ first_of_three = store_of of_three (record { leaves = 3; inactive = 0; digests =
 
 -- the store of the first of fifteen leaves, backward
 abbrev pub first_of_fifteen : StoreValue ℕ
-first_of_fifteen = store_of (numbered BackwardFold) (record { leaves = 15; inactive = 0; digests = 212425 ∷ 1 ∷ 5 ∷ 13 ∷ []; start = 0; elements = 0 ∷ [] }) 0
+first_of_fifteen = store_of (position_scheme BackwardFold)
+    (record { leaves = 15; inactive = 0; digests = 212425 ∷ 1 ∷ 5 ∷ 13 ∷ []; start = 0; elements = 0 ∷ [] }) 0

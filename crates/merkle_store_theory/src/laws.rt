@@ -7,7 +7,7 @@ ghost use Rattle.merkle_store_theory.specs.StoreLaws.{StoreReadsClaim, StoreAnsw
 ghost use Rattle.merkle_store_theory.specs.StoreLaws.{AnsweredIsHeld, ShorterIsRefused, ShorterIsNext};
 ghost use Rattle.merkle_store_theory.specs.StoreProof.{store_proof, store_refusal};
 ghost use Rattle.merkle_store_theory.specs.StoreReads.{ReadsByPosition};
-ghost use Rattle.merkle_store_theory.specs.StoreRows.{numbered, last_three, all_seven, first_six, last_of_seven, of_three, first_of_three, first_of_fifteen};
+ghost use Rattle.merkle_store_theory.specs.StoreRows.{position_scheme, last_three, all_seven, first_six, last_of_seven, of_three, first_of_three, first_of_fifteen};
 
 /// What a store returns, inside its range and beyond.
 pub fn stores<D>()
@@ -47,32 +47,32 @@ pub fn worked_stores()
 
     // A prefix that is shorter and nonempty is an error, which reports the first peak that is not
     // wholly before the range.
-    ensures last_shorter { store_refusal (numbered ForwardFold) last_of_seven 4 6 ≡ Some 9 }
-    ensures last_shorter_whole { store_refusal (numbered ForwardFold) last_of_seven 5 7 ≡ Some 9 }
+    ensures last_shorter { store_refusal (position_scheme ForwardFold) last_of_seven 4 6 ≡ Some 9 }
+    ensures last_shorter_whole { store_refusal (position_scheme ForwardFold) last_of_seven 5 7 ≡ Some 9 }
 
     // An empty prefix is no error.
-    ensures last_none { store_refusal (numbered ForwardFold) last_of_seven 0 6 ≡ None }
-    ensures last_none_proof { store_proof (numbered ForwardFold) last_of_seven 0 6 ≡ 10 ∷ [] }
+    ensures last_none { store_refusal (position_scheme ForwardFold) last_of_seven 0 6 ≡ None }
+    ensures last_none_proof { store_proof (position_scheme ForwardFold) last_of_seven 0 6 ≡ 10 ∷ [] }
 
     // Then an individual peak may be missing, or a sibling.
-    ensures last_single { store_refusal (numbered ForwardFold) last_of_seven 0 3 ≡ Some 9 }
-    ensures last_siblings { store_refusal (numbered ForwardFold) last_of_seven 1 6 ≡ Some 0 }
+    ensures last_single { store_refusal (position_scheme ForwardFold) last_of_seven 0 3 ≡ Some 9 }
+    ensures last_siblings { store_refusal (position_scheme ForwardFold) last_of_seven 1 6 ≡ Some 0 }
 
     // For its own range it returns its own proof.
-    ensures last_own { store_proof (numbered ForwardFold) last_of_seven 6 7 ≡ 609 ∷ [] }
+    ensures last_own { store_proof (position_scheme ForwardFold) last_of_seven 6 7 ≡ 609 ∷ [] }
 
     // A longer prefix continues the store's own fold, or begins with its pairs if it has none.
-    ensures prefix_more { store_proof (numbered ForwardFold) (last_three ForwardFold 0) 6 7 ≡ 609 ∷ [] }
-    ensures prefix_first { store_proof (numbered ForwardFold) (all_seven ForwardFold) 6 7 ≡ 609 ∷ [] }
-    ensures prefix_same { store_proof (numbered ForwardFold) (last_three ForwardFold 0) 4 5 ≡ 6 ∷ 10 ∷ 8 ∷ [] }
+    ensures prefix_more { store_proof (position_scheme ForwardFold) (last_three ForwardFold 0) 6 7 ≡ 609 ∷ [] }
+    ensures prefix_first { store_proof (position_scheme ForwardFold) (all_seven ForwardFold) 6 7 ≡ 609 ∷ [] }
+    ensures prefix_same { store_proof (position_scheme ForwardFold) (last_three ForwardFold 0) 4 5 ≡ 6 ∷ 10 ∷ 8 ∷ [] }
 
     // Backward, only the inactive peaks before a range are folded, and the active peaks after it.
-    ensures inactive_two { store_proof (numbered BackwardFold) (last_three BackwardFold 2) 6 7 ≡ 609 ∷ [] }
-    ensures inactive_one { store_proof (numbered BackwardFold) (last_three BackwardFold 1) 6 7 ≡ 6 ∷ 9 ∷ [] }
-    ensures inactive_none { store_proof (numbered BackwardFold) (last_three BackwardFold 0) 6 7 ≡ 6 ∷ 9 ∷ [] }
-    ensures suffix_first { store_proof (numbered BackwardFold) (all_seven BackwardFold) 0 4 ≡ 910 ∷ [] }
-    ensures suffix_more { store_proof (numbered BackwardFold) (first_six 0) 0 4 ≡ 910 ∷ [] }
-    ensures suffix_inactive { store_proof (numbered BackwardFold) (first_six 2) 0 4 ≡ 9 ∷ 10 ∷ [] }
+    ensures inactive_two { store_proof (position_scheme BackwardFold) (last_three BackwardFold 2) 6 7 ≡ 609 ∷ [] }
+    ensures inactive_one { store_proof (position_scheme BackwardFold) (last_three BackwardFold 1) 6 7 ≡ 6 ∷ 9 ∷ [] }
+    ensures inactive_none { store_proof (position_scheme BackwardFold) (last_three BackwardFold 0) 6 7 ≡ 6 ∷ 9 ∷ [] }
+    ensures suffix_first { store_proof (position_scheme BackwardFold) (all_seven BackwardFold) 0 4 ≡ 910 ∷ [] }
+    ensures suffix_more { store_proof (position_scheme BackwardFold) (first_six 0) 0 4 ≡ 910 ∷ [] }
+    ensures suffix_inactive { store_proof (position_scheme BackwardFold) (first_six 2) 0 4 ≡ 9 ∷ 10 ∷ [] }
 
     // The store of the first of three leaves proves the last one, whose suffix is empty.
     ensures three_pairs { first_of_three.pairs ≡ (0, 1) ∷ (1, 3) ∷ (2, 0) ∷ [] }
@@ -82,12 +82,12 @@ pub fn worked_stores()
 
     // The store of the first of fifteen leaves folds the peaks 21, 24 and 25.
     ensures fifteen_suffix { first_of_fifteen.suffix_peaks ≡ 21 ∷ 24 ∷ 25 ∷ [] }
-    ensures fifteen_own { store_proof (numbered BackwardFold) first_of_fifteen 0 1 ≡ 212425 ∷ 1 ∷ 5 ∷ 13 ∷ [] }
+    ensures fifteen_own { store_proof (position_scheme BackwardFold) first_of_fifteen 0 1 ≡ 212425 ∷ 1 ∷ 5 ∷ 13 ∷ [] }
 
     // A suffix that does not end with them is an error, which reports the first of them.
-    ensures fifteen_shorter { store_refusal (numbered BackwardFold) first_of_fifteen 8 9 ≡ Some 21 }
-    ensures fifteen_single { store_refusal (numbered BackwardFold) first_of_fifteen 12 13 ≡ Some 21 }
+    ensures fifteen_shorter { store_refusal (position_scheme BackwardFold) first_of_fifteen 8 9 ≡ Some 21 }
+    ensures fifteen_single { store_refusal (position_scheme BackwardFold) first_of_fifteen 12 13 ≡ Some 21 }
 
     // If the suffix is the same, a sibling may be missing.
-    ensures fifteen_sibling { store_refusal (numbered BackwardFold) first_of_fifteen 4 5 ≡ Some 8 }
+    ensures fifteen_sibling { store_refusal (position_scheme BackwardFold) first_of_fifteen 4 5 ≡ Some 8 }
 {}

@@ -11,8 +11,8 @@ use Rattle.merkle_base.specs.Forest.{forest, size}
 use Rattle.merkle_base.specs.Heights.{peak_heights, weight}
 use Rattle.merkle_base.specs.Places.{placed, peaks_of}
 use Rattle.merkle_forest_theory.specs.Mmb.{mmb_merges, birth_leaf, mmb_position, newest_peaks}
-use Rattle.merkle_forest_theory.specs.BeltDigits.{digits_after, value, spread}
-use Rattle.merkle_forest_theory.proofs.BeltLawful.{mmb_heights, digits_value, length-spread, mmb_peak_count, same_log}
+use Rattle.merkle_forest_theory.specs.BeltDigits.{digits_after, number_of_digits, spread}
+use Rattle.merkle_forest_theory.proofs.BeltLawful.{mmb_heights, number_of_digits-digits_after, length-spread, mmb_peak_count, same_log}
 use Rattle.merkle_base.proofs.Lists.{get_below, get_exists}
 use Rattle.merkle_base.proofs.Nodes.{size_le}
 use Rattle.merkle_base.proofs.Lookup.{peak_node, peak_first}
@@ -27,24 +27,24 @@ half_shr n m i e =
     sym (shr-shr n 1 i ∙ ap (λ (x : ℕ). n / 2 ^ x) s) ∙ ap (λ (x : ℕ). x / 2 ^ i) e
 
 -- with digit i and all above it moved to the end
-weight_spread : (k i : ℕ) (bs : List Bool) → i ≤ length bs → weight (take i (spread k bs)) + value bs / 2 ^ i * 2 ^ (k + i) + 2 ^ k ≡ value bs * 2 ^ k + 2 ^ (k + i)
-weight_spread k zero bs l = let e : k + 0 ≡ k = omega arith in rw (e, div-one (value bs)) (omega arith)
+weight_spread : (k i : ℕ) (bs : List Bool) → i ≤ length bs → weight (take i (spread k bs)) + number_of_digits bs / 2 ^ i * 2 ^ (k + i) + 2 ^ k ≡ number_of_digits bs * 2 ^ k + 2 ^ (k + i)
+weight_spread k zero bs l = let e : k + 0 ≡ k = omega arith in rw (e, div-one (number_of_digits bs)) (omega arith)
 weight_spread k (suc i) [] l = absurd (omega arith)
 weight_spread k (suc i) (true ∷ bs) l =
     let e : k + suc i ≡ suc k + i = omega arith in
-    let h : (1 + 2 * value bs) / 2 ≡ value bs = omega arith in
-    rw (e, half_shr (1 + 2 * value bs) (value bs) i h) (omega (arith, weight_spread (suc k) i bs (omega arith), pow-suc 2 k, ap (λ (x : ℕ). value bs * x) (pow-suc 2 k)))
+    let h : (1 + 2 * number_of_digits bs) / 2 ≡ number_of_digits bs = omega arith in
+    rw (e, half_shr (1 + 2 * number_of_digits bs) (number_of_digits bs) i h) (omega (arith, weight_spread (suc k) i bs (omega arith), pow-suc 2 k, ap (λ (x : ℕ). number_of_digits bs * x) (pow-suc 2 k)))
 weight_spread k (suc i) (false ∷ bs) l =
     let e : k + suc i ≡ suc k + i = omega arith in
-    let h : (0 + 2 * value bs) / 2 ≡ value bs = omega arith in
-    rw (e, half_shr (0 + 2 * value bs) (value bs) i h) (omega (arith, weight_spread (suc k) i bs (omega arith), pow-suc 2 k, ap (λ (x : ℕ). value bs * x) (pow-suc 2 k)))
+    let h : (0 + 2 * number_of_digits bs) / 2 ≡ number_of_digits bs = omega arith in
+    rw (e, half_shr (0 + 2 * number_of_digits bs) (number_of_digits bs) i h) (omega (arith, weight_spread (suc k) i bs (omega arith), pow-suc 2 k, ap (λ (x : ℕ). number_of_digits bs * x) (pow-suc 2 k)))
 
 weight_newest : (n i : ℕ) → i ≤ length (peak_heights mmb_merges n) → weight (take i (peak_heights mmb_merges n)) + (n + 1) / 2 ^ i * 2 ^ i ≡ n + 2 ^ i
 weight_newest n i l =
     let e : length (peak_heights mmb_merges n) ≡ length (digits_after n) = ap length (mmb_heights n) ∙ length-spread 0 (digits_after n) in
     let z : 0 + i ≡ i = omega arith in
-    let w : weight (take i (spread 0 (digits_after n))) + value (digits_after n) / 2 ^ i * 2 ^ (0 + i) + 2 ^ 0 ≡ value (digits_after n) * 2 ^ 0 + 2 ^ (0 + i) = weight_spread 0 i (digits_after n) (omega (arith, e)) in
-    let v : weight (take i (spread 0 (digits_after n))) + (n + 1) / 2 ^ i * 2 ^ i + 1 ≡ (n + 1) * 1 + 2 ^ i = rw (z, digits_value n) at w in
+    let w : weight (take i (spread 0 (digits_after n))) + number_of_digits (digits_after n) / 2 ^ i * 2 ^ (0 + i) + 2 ^ 0 ≡ number_of_digits (digits_after n) * 2 ^ 0 + 2 ^ (0 + i) = weight_spread 0 i (digits_after n) (omega (arith, e)) in
+    let v : weight (take i (spread 0 (digits_after n))) + (n + 1) / 2 ^ i * 2 ^ i + 1 ≡ (n + 1) * 1 + 2 ^ i = rw (z, number_of_digits-digits_after n) at w in
     omega (arith, v, ap (λ (hs : List ℕ). weight (take i hs)) (mmb_heights n))
 
 weight_suc : (hs : List ℕ) (i : ℕ) → i < length hs → weight (take (suc i) hs) ≡ weight (take i hs) + 2 ^ slice_index hs i

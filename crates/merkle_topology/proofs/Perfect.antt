@@ -7,7 +7,8 @@ use Rattle.merkle_base.specs.Forest.{forest, size}
 use Rattle.merkle_base.specs.Places.{placed, peaks_of}
 use Rattle.merkle_base.proofs.Balance.{heights_forest}
 use Rattle.merkle_base.proofs.Limits.{log_below}
-use Rattle.merkle_forest_theory.specs.Mmr.{mmr_merges, AscendsFrom, Stacked}
+use Rattle.merkle_forest_theory.specs.Ascending.{AscendsFrom}
+use Rattle.merkle_forest_theory.specs.Mmr.{mmr_merges, Stacked}
 use Rattle.merkle_topology.specs.Perfect.{tallest, first_trees, trees_from}
 use Rattle.merkle_forest_theory.proofs.MountainRange.{mmr_stacked}
 use Rattle.merkle_forest_theory.proofs.RangeLawful.{mmr_ascends}

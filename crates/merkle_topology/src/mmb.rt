@@ -257,7 +257,7 @@ fn search(nodes: u64) -> (u64, u64)
     ensures limit { result.0 ≤ MAX_LEAVES }
     ensures within { size mmb_merges result.0 ≤ nodes }
     ensures greatest { nodes < size mmb_merges (result.0 + 1) }
-    ensures few { result.1 ≤ 1 }
+    ensures at_most_1 { result.1 ≤ 1 }
 {
     // nodes and peaks together are twice the leaves, and the number of peaks is about the logarithm
     let low = (nodes + u64::from((nodes + 2).ilog2()) - 1) / 2;
@@ -306,8 +306,8 @@ pub fn position_to_location_counted(position: Position, work: &mut Work) -> Opti
     requires { position ≤ MAX_NODES }
     ensures found { IfSome result (λ n. (n ≤ MAX_LEAVES) × (size mmb_merges n ≡ position)) }
     ensures none { IfNone result ((n : ℕ) → size mmb_merges n ≢ position) }
-    ensures some { 1 ≤ work.new.probes }
-    ensures few { work.new.probes ≤ 2 }
+    ensures at_least_one { 1 ≤ work.new.probes }
+    ensures at_most_2 { work.new.probes ≤ 2 }
     ensures kept { work.new.node_digests ≡ work.old.node_digests }
 {
     let (leaves, probes) = search(position.as_u64());
@@ -343,7 +343,7 @@ fn root_position(first: u64, height: u32) -> u64
 /// Requires `position` to be the result of [`root_position`] for some leaf and this height.
 fn birth_leaf_of(position: u64, height: u32) -> u64
     requires within { position ≤ MAX_NODES }
-    requires some { (s : ℕ) × (mmb_position s height ≡ position) }
+    requires is_root { (s : ℕ) × (mmb_position s height ≡ position) }
     ensures limit { result ≤ MAX_LEAVES }
     ensures birth { (s : ℕ) → mmb_position s height ≡ position → result ≡ birth_leaf s height }
 {
@@ -358,7 +358,7 @@ fn birth_leaf_of(position: u64, height: u32) -> u64
 /// Requires `position` to be the result of [`root_position`] for some leaf and this height.
 fn first_below(position: u64, height: u32) -> u64
     requires within { position ≤ MAX_NODES }
-    requires some { (s : ℕ) × (mmb_position s height ≡ position) }
+    requires is_root { (s : ℕ) × (mmb_position s height ≡ position) }
     ensures { mmb_position result height ≡ position }
 {
     let birth = birth_leaf_of(position, height);
@@ -511,7 +511,7 @@ impl family::Graftable for Family {
     fn leftmost_leaf(position: Position, height: u32) -> Location
         requires low { height ≤ 62 }
         requires within { position ≤ MAX_NODES }
-        requires some { (s : ℕ) × (mmb_position s height ≡ position) }
+        requires is_root { (s : ℕ) × (mmb_position s height ≡ position) }
         ensures formula { mmb_position result height ≡ position }
         ensures node { (t : Tree) → IsNode mmb_merges MAX_LEAVES position height t → result ≡ first_leaf t }
     {
@@ -521,7 +521,7 @@ impl family::Graftable for Family {
     fn peak_birth_size(position: Position, height: u32) -> u64
         requires low { height ≤ 62 }
         requires within { position ≤ MAX_NODES }
-        requires some { (s : ℕ) × (mmb_position s height ≡ position) }
+        requires is_root { (s : ℕ) × (mmb_position s height ≡ position) }
         ensures formula { (s : ℕ) → mmb_position s height ≡ position → result ≡ mmb_birth_leaf_count s height }
         ensures node { (t : Tree) → IsNode mmb_merges MAX_LEAVES position height t → IsBirthSize mmb_merges position result }
     {

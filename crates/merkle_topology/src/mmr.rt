@@ -261,8 +261,8 @@ fn search(nodes: u64) -> (u64, u64)
     ensures limit { result.0 ≤ MAX_LEAVES }
     ensures within { size mmr_merges result.0 ≤ nodes }
     ensures greatest { nodes < size mmr_merges (result.0 + 1) }
-    ensures some { 1 ≤ result.1 }
-    ensures few { result.1 ≤ 8 }
+    ensures at_least_one { 1 ≤ result.1 }
+    ensures at_most_8 { result.1 ≤ 8 }
 {
     // `n` leaves have at most `2 * n` nodes, and at least `2 * n - 64`, since there are at most 64
     // peaks
@@ -323,8 +323,8 @@ pub fn position_to_location_counted(position: Position, work: &mut Work) -> Opti
     requires { position ≤ MAX_NODES }
     ensures found { IfSome result (λ n. (n ≤ MAX_LEAVES) × (size mmr_merges n ≡ position)) }
     ensures none { IfNone result ((n : ℕ) → size mmr_merges n ≢ position) }
-    ensures some { 1 ≤ work.new.probes }
-    ensures few { work.new.probes ≤ 8 }
+    ensures at_least_one { 1 ≤ work.new.probes }
+    ensures at_most_8 { work.new.probes ≤ 8 }
     ensures kept { work.new.node_digests ≡ work.old.node_digests }
 {
     let (leaves, probes) = search(position.as_u64());
@@ -355,7 +355,7 @@ fn root_position(first: u64, height: u32) -> u64
 fn first_below(position: u64, height: u32) -> u64
     requires low { height ≤ 62 }
     requires within { position ≤ MAX_NODES }
-    requires some { (s : ℕ) × (mmr_position s height ≡ position) }
+    requires is_root { (s : ℕ) × (mmr_position s height ≡ position) }
     ensures limit { result ≤ MAX_LEAVES }
     ensures root { mmr_position result height ≡ position }
 {
@@ -475,7 +475,7 @@ impl family::Graftable for Family {
     fn leftmost_leaf(position: Position, height: u32) -> Location
         requires low { height ≤ 62 }
         requires within { position ≤ MAX_NODES }
-        requires some { (s : ℕ) × (mmr_position s height ≡ position) }
+        requires is_root { (s : ℕ) × (mmr_position s height ≡ position) }
         ensures formula { mmr_position result height ≡ position }
         ensures node { (t : Tree) → IsNode mmr_merges MAX_LEAVES position height t → result ≡ first_leaf t }
     {
@@ -485,7 +485,7 @@ impl family::Graftable for Family {
     fn peak_birth_size(position: Position, height: u32) -> u64
         requires low { height ≤ 62 }
         requires within { position ≤ MAX_NODES }
-        requires some { (s : ℕ) × (mmr_position s height ≡ position) }
+        requires is_root { (s : ℕ) × (mmr_position s height ≡ position) }
         ensures formula { (s : ℕ) → mmr_position s height ≡ position → result ≡ mmr_birth_leaf_count s height }
         ensures node { (t : Tree) → IsNode mmr_merges MAX_LEAVES position height t → IsBirthSize mmr_merges position result }
     {

@@ -21,7 +21,7 @@ use Rattle.merkle_verification.proofs.PartReads.{or_skip, or_take}
 pub record IsAsked {D : Type 0} (s : Scheme D) (v : StoreValue D) (a b : ℕ) (c : RangeCounts) (held : ℕ) (reads : List ℕ) : Type 0 where
   pub counts : AreCounts s v a b (counts_with c held)
   pub reads_is : reads ≡ map position (nodes_read s.rule v.leaves a b)
-  pub some : a < b
+  pub nonempty : a < b
   pub within : b ≤ v.leaves
 
 pub asked : {D : Type 0} (s : Scheme D) (v w : StoreValue D) (a b : ℕ) (q : LeafRange) (c : RangeCounts) (held : ℕ) (reads : List ℕ) → v ≡ w → q ≡ record { leaves = v.leaves; start = a; end = b }
@@ -39,19 +39,19 @@ asked s v w a b q c held reads same e before after folded single holds is some w
     held = holds;
   };
   reads_is = is ∙ ap (λ (z : LeafRange). map position (nodes_read s.rule z.leaves z.start z.end)) e;
-  some = some;
+  nonempty = some;
   within = within;
 })
 
 module _ {F D : Type 0} (s : Scheme D) (v : StoreValue D) (a b : ℕ) (c : RangeCounts) (held : ℕ) (reads : List ℕ) (w : IsAsked s v a b c held reads) where
   -- a prefix that is shorter than the store's is refused
   pub shorter_refused : (p : ℕ) → Some p ≡ shorter_refusal s.rule v.leaves (counts_with c held) → IsStoreRefusal {F = F} s v a b (ElementPruned p)
-  shorter_refused p e = inr (w.some, w.within, (p, refl, (reads_by_position s v a b (counts_with c held) w.counts).1 ∙ or_take _ _ p (sym e)))
+  shorter_refused p e = inr (w.nonempty, w.within, (p, refl, (reads_by_position s v a b (counts_with c held) w.counts).1 ∙ or_take _ _ p (sym e)))
 
   -- else the first part that is lacking
   pub lacking_refused : None ≡ shorter_refusal s.rule v.leaves (counts_with c held) → (p : ℕ) → parts_refusal v (counts_with c held) reads ≡ Some p → IsStoreRefusal {F = F} s v a b (ElementPruned p)
   lacking_refused none p e =
-      inr (w.some, w.within, (p, refl, (reads_by_position s v a b (counts_with c held) w.counts).1 ∙ or_skip _ _ _ (sym none) (ap (parts_refusal v (counts_with c held)) (sym w.reads_is) ∙ e)))
+      inr (w.nonempty, w.within, (p, refl, (reads_by_position s v a b (counts_with c held) w.counts).1 ∙ or_skip _ _ _ (sym none) (ap (parts_refusal v (counts_with c held)) (sym w.reads_is) ∙ e)))
 
 module _ {F D Peaks Heights : Type 0} (s : Scheme D) (v : StoreValue D) (a b : ℕ) (c : RangeCounts) (held : ℕ) (reads : List ℕ) (w : IsAsked s v a b c held reads) where
   -- where none is, the proof is answered
@@ -59,7 +59,7 @@ module _ {F D Peaks Heights : Type 0} (s : Scheme D) (v : StoreValue D) (a b : �
       → p.leaves ≡ v.leaves → p.inactive_peaks ≡ v.inactive → p.digests.items ≡ proof_at s.hashing v (counts_with c held) reads → IsPartProof s v a b p
   is_answered none e p leaves inactive digests =
       let law = reads_by_position s v a b (counts_with c held) w.counts in record {
-        some = w.some;
+        nonempty = w.nonempty;
         within = w.within;
         leaves = leaves;
         inactive = inactive;

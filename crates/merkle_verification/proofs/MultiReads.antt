@@ -11,7 +11,7 @@ use Rattle.merkle_base.proofs.Nodes.{size_inj}
 use Rattle.merkle_root_theory.specs.Range.{leaf_of}
 use Rattle.merkle_root_theory.proofs.ListRoots.{digest_at_is}
 use Rattle.merkle_batch_theory.proofs.Kept.{get_mapped}
-use Rattle.merkle_claim_theory.specs.Ascending.{AscendsFrom}
+use Rattle.merkle_forest_theory.specs.Ascending.{AscendsFrom}
 use Rattle.merkle_claim_theory.specs.Multiproof.{IsHonestMulti, multi_positions}
 use Rattle.merkle_claim_theory.specs.Table.{digest_of, digest_at_position}
 use Rattle.merkle_proof.specs.declared.proof.Proof.{Proof}
@@ -46,7 +46,7 @@ module _ {D : Type 0} (s : Scheme D) (m : ℕ) (node : ℕ → Option D) (X : Li
       let long : n ≡ length X = size_inj s.rule n (length X) (sized ∙ shows.sized) in
       let at = map-first f locations in
       inl (record {
-        some = omega (arith, built.within.some, length-map {B = ℕ × D} locations (λ i. (i, f i)));
+        nonempty = omega (arith, built.within.some, length-map {B = ℕ × D} locations (λ i. (i, f i)));
         ascend = subst (AscendsFrom 0) (sym at) built.within.ascend;
         below = subst (AllByRecursion (λ i. i < length X)) (sym at) (subst (λ (l : ℕ). AllByRecursion (λ i. i < l) locations) long built.within.below);
         leaves = built.leaves ∙ long;

@@ -19,12 +19,12 @@ no_part_is_refused s r root a b e ok some low high (inr w) = nothing w.2.0 (sym 
 pub answered_is_accepted : {F D Peaks Heights : Type 0} → AnsweredIsAccepted F D Peaks Heights
 answered_is_accepted s r root a b p ok low high w =
     let q = part_input p r a b in
-    let count : length (take (b - a) (drop (a - r.start) r.elements)) ≡ b - a = omega (arith, length-take (b - a) (drop (a - r.start) r.elements), length-drop (a - r.start) r.elements, high, low, w.some) in
-    let stop : b ≡ end_of (part_input p r a b) = omega (arith, count, w.some) in
+    let count : length (take (b - a) (drop (a - r.start) r.elements)) ≡ b - a = omega (arith, length-take (b - a) (drop (a - r.start) r.elements), length-drop (a - r.start) r.elements, high, low, w.nonempty) in
+    let stop : b ≡ end_of (part_input p r a b) = omega (arith, count, w.nonempty) in
     store_is_accepted s r q root ok (record {
-      some = omega (arith, count, w.some);
+      nonempty = omega (arith, count, w.nonempty);
       from = low;
-      to = omega (arith, count, w.some, high);
+      to = omega (arith, count, w.nonempty, high);
       leaves = w.leaves;
       inactive = w.inactive;
       digests = w.digests ∙ ap (store_proof s (store_of s r root) a) stop;

@@ -12,7 +12,7 @@ pub record IsBuiltMulti {F D Peaks Heights : Type 0} (rule : List ℕ → List �
     (k n : ℕ) (locations : List ℕ) (p : Proof F D Peaks Heights) : Type 0 where
   pub leaves : p.leaves ≡ n
   pub inactive : p.inactive_peaks ≡ k
-  pub few : k ≤ length (peaks_of rule n)
+  pub at_most_peaks : k ≤ length (peaks_of rule n)
   pub within : AreLocations max_leaves n locations
   pub digests : map Some p.digests.items ≡ map node (multi_positions rule n locations)
 

@@ -12,11 +12,12 @@ use Rattle.merkle_proof.specs.declared.proof.Proof.{Proof}
 
 -- why a store answers no proof of a..b: there is no plan of it, or a node is pruned
 abbrev pub IsStoreRefusal : {F D : Type 0} → Scheme D → StoreValue D → (a b : ℕ) → Error F → Type 0
-IsStoreRefusal s v a b e = IsRefusal s.max_leaves v.leaves a b e ⊎ ((a < b) × (b ≤ v.leaves) × ((p : ℕ) × (e ≡ ElementPruned p) × (store_refusal s v a b ≡ Some p)))
+IsStoreRefusal s v a b e = IsRefusal s.max_leaves v.leaves a b e
+    ⊎ ((a < b) × (b ≤ v.leaves) × ((p : ℕ) × (e ≡ ElementPruned p) × (store_refusal s v a b ≡ Some p)))
 
 -- p is the proof that it answers
 pub record IsPartProof {F D Peaks Heights : Type 0} (s : Scheme D) (v : StoreValue D) (a b : ℕ) (p : Proof F D Peaks Heights) : Type 0 where
-  pub some : a < b
+  pub nonempty : a < b
   pub within : b ≤ v.leaves
   pub leaves : p.leaves ≡ v.leaves
   pub inactive : p.inactive_peaks ≡ v.inactive
@@ -25,11 +26,18 @@ pub record IsPartProof {F D Peaks Heights : Type 0} (s : Scheme D) (v : StoreVal
 
 -- a proof with those elements of an input that lie in a..b
 abbrev pub part_input : {F D Peaks Heights : Type 0} → Proof F D Peaks Heights → RangeInput D → (a b : ℕ) → RangeInput D
-part_input p r a b = record { leaves = p.leaves; inactive = p.inactive_peaks; digests = p.digests.items; start = a; elements = take (b - a) (drop (a - r.start) r.elements) }
+part_input p r a b = record {
+  leaves = p.leaves;
+  inactive = p.inactive_peaks;
+  digests = p.digests.items;
+  start = a;
+  elements = take (b - a) (drop (a - r.start) r.elements);
+}
 
 -- the store of an accepted input refuses no part of its range
 abbrev pub NoPartIsRefused : Type 0 → Type 0 → Type 0
-NoPartIsRefused F D = (s : Scheme D) (r : RangeInput D) (root : D) (a b : ℕ) (e : Error F) → AcceptsNonempty s r root → a < b → r.start ≤ a → b ≤ end_of r → IsStoreRefusal s (store_of s r root) a b e → ⊥
+NoPartIsRefused F D = (s : Scheme D) (r : RangeInput D) (root : D) (a b : ℕ) (e : Error F)
+    → AcceptsNonempty s r root → a < b → r.start ≤ a → b ≤ end_of r → IsStoreRefusal s (store_of s r root) a b e → ⊥
 
 -- and what it answers for it is accepted
 abbrev pub AnsweredIsAccepted : (F D Peaks Heights : Type 0) → Type 0

@@ -33,14 +33,16 @@ abbrev pub IsUnknown : {F D : Type 0} → (ℕ → Option D) → (suffix_peaks p
 IsUnknown node suffix_peaks ps e = (p : ℕ) × (e ≡ unknown_error suffix_peaks p) × (first_unknown node ps ≡ Some p)
 
 -- p is the proof of the leaves at some locations that a store answers, to which peaks are given
-pub record IsMultiAnswered {F D Peaks Heights : Type 0} (rule : List ℕ → List ℕ) (max_leaves : ℕ) (v : StoreValue D) (locations : List ℕ) (given : List (ℕ × D)) (p : Proof F D Peaks Heights) : Type 0 where
+pub record IsMultiAnswered {F D Peaks Heights : Type 0} (rule : List ℕ → List ℕ) (max_leaves : ℕ) (v : StoreValue D)
+    (locations : List ℕ) (given : List (ℕ × D)) (p : Proof F D Peaks Heights) : Type 0 where
   pub leaves : p.leaves ≡ v.leaves
   pub inactive : p.inactive_peaks ≡ v.inactive
   pub within : AreLocations max_leaves v.leaves locations
   pub digests : map Some p.digests.items ≡ map (known_at v.pairs given) (multi_positions rule v.leaves locations)
 
 -- why it answers none: there are no such leaves, or a node is unknown
-abbrev pub IsStoreMultiRefusal : {F D : Type 0} → (List ℕ → List ℕ) → (max_leaves : ℕ) → StoreValue D → (locations : List ℕ) → (given : List (ℕ × D)) → Error F → Type 0
+abbrev pub IsStoreMultiRefusal : {F D : Type 0} → (List ℕ → List ℕ) → (max_leaves : ℕ) → StoreValue D
+    → (locations : List ℕ) → (given : List (ℕ × D)) → Error F → Type 0
 IsStoreMultiRefusal rule max_leaves v locations given e =
     (first_case (multi_refusals max_leaves v.leaves locations) ≡ Some e)
     ⊎ (AreLocations max_leaves v.leaves locations × IsUnknown (known_at v.pairs given) v.suffix_peaks (multi_positions rule v.leaves locations) e)

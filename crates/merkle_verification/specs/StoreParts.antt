@@ -46,7 +46,8 @@ abbrev pub IsOtherSuffix : {F : Type 0} → (positions own : List ℕ) → Error
 IsOtherSuffix positions own e = (q : ℕ) × (qs : List ℕ) × (own ≡ q ∷ qs) × (ends_with positions own ≡ false) × (e ≡ ElementPruned q)
 
 -- an input with these parts, whose pairs are these
-pub record IsInput {D : Type 0} (s : Scheme D) (r : RangeInput D) (rule : List ℕ → List ℕ) (bagging : Bagging) (leaves inactive : ℕ) (digests : List D) (start end : ℕ) (pairs : List (ℕ × D)) : Type 0 where
+pub record IsInput {D : Type 0} (s : Scheme D) (r : RangeInput D)
+    (rule : List ℕ → List ℕ) (bagging : Bagging) (leaves inactive : ℕ) (digests : List D) (start end : ℕ) (pairs : List (ℕ × D)) : Type 0 where
   pub rule_is : rule ≡ s.rule
   pub bagging_is : bagging ≡ s.bagging
   pub leaves_is : leaves ≡ r.leaves

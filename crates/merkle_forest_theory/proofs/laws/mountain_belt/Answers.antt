@@ -36,5 +36,5 @@ returns c = record {
   aligned = λ n p t e. (mmb_placed n p t e).aligned;
   belt_has = mmb_exists;
   coordinates = mmb_coordinates;
-  few = mmb_few;
+  few_peaks = mmb_few;
 }

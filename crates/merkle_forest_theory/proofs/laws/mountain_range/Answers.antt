@@ -30,5 +30,5 @@ returns c = record {
   aligned = λ n p t e. (mmr_born n p t e).aligned;
   range_has = mmr_exists;
   coordinates = mmr_coordinates;
-  few = mmr_few;
+  few_peaks = mmr_few;
 }

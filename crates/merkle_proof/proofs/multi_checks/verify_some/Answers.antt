@@ -2,7 +2,7 @@ use Rattle.std.proofs.Common.{◌≡◌, ◌≢◌, ◌<◌, length, map, false,
 use Rattle.merkle_base.specs.Places.{peaks_of}
 use Rattle.merkle_base.specs.Root.{peaks_root}
 use Rattle.merkle_base.specs.Scheme.{scheme_of}
-use Rattle.merkle_claim_theory.specs.Ascending.{AscendsFrom}
+use Rattle.merkle_forest_theory.specs.Ascending.{AscendsFrom}
 use Rattle.merkle_claim_theory.specs.Multiproof.{multi_positions, locations_in}
 use Rattle.merkle_claim_theory.specs.Table.{digest_for}
 use Rattle.merkle_proof.specs.Confirmed.{EachHolds, nodes_checked}

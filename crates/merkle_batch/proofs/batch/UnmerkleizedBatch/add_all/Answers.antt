@@ -43,5 +43,5 @@ invariant_of-self g c =
       bounded = omega (arith, count, fresh, many, before, total, c.if-elements-MAX_LEAVES.false, c.MAX_LEAVES.ensures, c.as_u64.ensures, c.leaves-first.ensures.count, c.leaves-first.ensures.bounded);
       sized = valid.sized;
       leaves = valid.leaves;
-      some = valid.some;
+      forgotten = valid.forgotten;
     }

@@ -11,7 +11,7 @@ use Rattle.merkle_base.specs.declared.error.Error.TheVariants as error
 use Rattle.merkle_batch_theory.specs.BatchValid.{IsBatchValid}
 use Rattle.merkle_batch_theory.specs.History.{last_list, IsHistory}
 use Rattle.merkle_batch_theory.specs.Missing.{IsMissing}
-use Rattle.merkle_batch_theory.specs.Needed.{computed, IsChanged}
+use Rattle.merkle_batch_theory.specs.Needed.{computed_nodes, IsChanged}
 use Rattle.merkle_batch_theory.specs.Records.{after, records}
 use Rattle.merkle_batch_theory.specs.Unmerkleized.{is_changed, kept, kept_lists, leaf_total, UnmerkleizedModel, pending_list}
 use Rattle.merkle_batch_theory.proofs.MapFacts.{no_entry}
@@ -213,7 +213,7 @@ returns-clause-work g c =
     let rule = g.F.Family.rule in
     let n : ℕ = c.self.inside.leaves_before in
     let m = get {R = nat_cmp} (from_entries c.self.inside.updates.entries) in
-    let count : c.in_ok-count.count ≡ length (computed rule (get c.args.self.now.overwritten) c.args.self.now.leaves_before (leaf_total c.args.self.now)) =
-    c.in_ok-count.ensures.work ∙ ap (λ xs. length (computed rule m n (n + length xs))) c.deref-2.ensures.value
-    ∙ ap (λ s. length (computed rule (get s.overwritten) s.leaves_before (leaf_total s))) c.self.view_is in
+    let count : c.in_ok-count.count ≡ length (computed_nodes rule (get c.args.self.now.overwritten) c.args.self.now.leaves_before (leaf_total c.args.self.now)) =
+    c.in_ok-count.ensures.work ∙ ap (λ xs. length (computed_nodes rule m n (n + length xs))) c.deref-2.ensures.value
+    ∙ ap (λ s. length (computed_nodes rule (get s.overwritten) s.leaves_before (leaf_total s))) c.self.view_is in
     c.set_node_digests.ensures ∙ ap (λ (k : ℕ). record { node_digests = k; probes = c.args.work.now.probes }) count

@@ -8,7 +8,7 @@ use Rattle.merkle_batch.proofs.batch.UnmerkleizedBatch.forget_ancestors.Goals as
 pub invariant_of-self : goal.invariant_of-self
 invariant_of-self g c =
     let all : length c.behind-self.inside.ancestors.items ≡ length c.self.inside.parent.value.ancestors = sym (length-map c.behind-self.inside.ancestors.items _) ∙ ap (λ v. length v.ancestors) (c.behind-self.view_is ∙ c.deref.ensures) in
-    record { bounded = c.self.invariant.bounded; sized = c.self.invariant.sized; leaves = c.self.invariant.leaves; some = omega (arith, all, c.min.ensures, c.len-kept.ensures) }
+    record { bounded = c.self.invariant.bounded; sized = c.self.invariant.sized; leaves = c.self.invariant.leaves; forgotten = omega (arith, all, c.min.ensures, c.len-kept.ensures) }
 
 pub returns : goal.returns
 returns g c =

@@ -12,7 +12,7 @@ invariant_of-result g c = record {
   leaves = λ q some.
       let none : get (from_entries {R = nat_cmp} c.new-2.result.entries) q ≡ None = ap (λ es. get (from_entries {R = nat_cmp} es) q) c.new-2.ensures.empty ∙ get-empty nat_cmp q in
       absurd (let same = ap is_some none in cc);
-  some = omega arith;
+  forgotten = omega arith;
 }
 
 pub returns : goal.returns

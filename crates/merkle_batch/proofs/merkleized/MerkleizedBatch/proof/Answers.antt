@@ -63,8 +63,8 @@ returns-in-Ok-clause-granted g c = λ h ls stands agrees low less few.
     IfErr-weaker c.build_proof.result _ _ (λ e refused. only_memory h g.F.Family.rule (g.B.Base.contents c.args.base.now).boundary (length (last_list ls)) (boundary_within h g.F.Family.rule (records c.args.self.now) (g.B.Base.contents c.args.base.now) ls stands agrees) (read_over (records c.args.self.now) (g.B.Base.contents c.args.base.now)) (read_where_kept h g.F.Family.rule (records c.args.self.now) (g.B.Base.contents c.args.base.now) ls stands agrees) (g.H.Hasher.bagging_of c.args.hasher.now) c.args.location (c.args.location + 1) c.args.inactive low few e
     (λ other. subst (λ r. IsBuildRefusal (g.H.Hasher.bagging_of c.args.hasher.now) g.F.Family.rule r c.args.inactive (λ p o. o ≡ (read_over (records c.args.self.now) (g.B.Base.contents c.args.base.now)) p) e) plan (refused other))) c.build_proof.ensures.err
 
-pub returns-in-Ok-clause-few : goal.returns-in-Ok-clause-few
-returns-in-Ok-clause-few g c = λ few.
+pub returns-in-Ok-clause-at_most_122 : goal.returns-in-Ok-clause-at_most_122
+returns-in-Ok-clause-at_most_122 g c = λ few.
     let s = g.H.Hasher.scheme c.args.hasher.now in
     let node = read_over (records c.args.self.now) (g.B.Base.contents c.args.base.now) in
     let below : c.args.location < c.leaves-leaves.result = ge_no c.args.location c.leaves-leaves.result (sym c.ge.ensures ∙ c.if-ge.false) in

@@ -10,7 +10,7 @@ returns-in_err-write_digests-clause-err g c =
     let bytes = g.D.Digest.bytes in
     let p = c.args.self.now in
     let whole = length-parts bytes g.D.Digest.SIZE (λ x. D.one_length (bytes x) (D.bytes_spell x)) p.leaves p.inactive_peaks p.digests.items in
-    let few : vec_capacity c.write_number-3.new.out < vec_len c.write_number-3.new.out + length c.deref.result.now * g.D.Digest.SIZE = c.in_err-write_digests.ensures.full in
+    let few : vec_capacity c.write_number-3.new.out < vec_len c.write_number-3.new.out + length c.deref.result.now * g.D.Digest.SIZE = c.in_err-write_digests.ensures.no_room in
     let same : length c.deref.result.now * g.D.Digest.SIZE ≡ length p.digests.items * g.D.Digest.SIZE = ap (λ xs. length xs * g.D.Digest.SIZE) c.deref.ensures.value in
     let l : length (number_spelling c.as_u64.result) ≡ length (number_spelling p.leaves) = ap (λ n. length (number_spelling n)) c.as_u64.ensures in
     let n : length (number_spelling c.len.result) ≡ length (number_spelling (length p.digests.items)) = ap (λ n. length (number_spelling n)) (c.len.ensures ∙ p.digests.ok.0) in
@@ -24,13 +24,13 @@ returns-in_err-write_digests-clause-err g c =
     let size : c.in-Some.size ≡ length (proof_spelling bytes p) = c.in-Some.ensures.1 in
     absurd (omega (arith, whole))
 
-pub returns-in_err-write_digests-clause-full : goal.returns-in_err-write_digests-clause-full
-returns-in_err-write_digests-clause-full g c =
+pub returns-in_err-write_digests-clause-no_room : goal.returns-in_err-write_digests-clause-no_room
+returns-in_err-write_digests-clause-no_room g c =
     let D = g.met.D.Digest in
     let bytes = g.D.Digest.bytes in
     let p = c.args.self.now in
     let whole = length-parts bytes g.D.Digest.SIZE (λ x. D.one_length (bytes x) (D.bytes_spell x)) p.leaves p.inactive_peaks p.digests.items in
-    let few : vec_capacity c.write_number-3.new.out < vec_len c.write_number-3.new.out + length c.deref.result.now * g.D.Digest.SIZE = c.in_err-write_digests.ensures.full in
+    let few : vec_capacity c.write_number-3.new.out < vec_len c.write_number-3.new.out + length c.deref.result.now * g.D.Digest.SIZE = c.in_err-write_digests.ensures.no_room in
     let same : length c.deref.result.now * g.D.Digest.SIZE ≡ length p.digests.items * g.D.Digest.SIZE = ap (λ xs. length xs * g.D.Digest.SIZE) c.deref.ensures.value in
     let l : length (number_spelling c.as_u64.result) ≡ length (number_spelling p.leaves) = ap (λ n. length (number_spelling n)) c.as_u64.ensures in
     let n : length (number_spelling c.len.result) ≡ length (number_spelling (length p.digests.items)) = ap (λ n. length (number_spelling n)) (c.len.ensures ∙ p.digests.ok.0) in

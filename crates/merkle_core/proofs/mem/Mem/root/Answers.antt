@@ -15,7 +15,7 @@ pub write_peaks-count-requires : goal.write_peaks-count-requires
 write_peaks-count-requires g c = omega (arith, g.met.D.Digest.small)
 
 pub front-requires : goal.front-requires
-front-requires g c = (omega (arith, g.met.D.Digest.small), c.write_peaks-count.ensures.few)
+front-requires g c = (omega (arith, g.met.D.Digest.small), c.write_peaks-count.ensures.at_most_max_peaks)
 
 pub returns-clause-ok : goal.returns-clause-ok
 returns-clause-ok g c = λ enough.

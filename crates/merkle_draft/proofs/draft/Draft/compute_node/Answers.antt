@@ -1,6 +1,6 @@
 use Rattle.std.proofs.Common.{◌∷◌, [], refl, sym, ap, inl, inr}
 use Rattle.merkle_draft.specs.DraftReads.{below, stored_node}
-use Rattle.merkle_draft.specs.Settled.{read_at}
+use Rattle.merkle_draft.specs.Settled.{draft_node}
 use Rattle.merkle_draft.proofs.Adding.{contains_one}
 use Rattle.merkle_draft.proofs.ParentReads.{made_right, parents_more}
 use Rattle.merkle_draft.proofs.SettledFacts.{ready_missing}
@@ -32,7 +32,7 @@ returns-clause-settled g c = λ m n ds later stage.
     let p = c.args.position in
     let a = c.in-Some.left_digest in
     let b = c.in-Some-read_node.right_digest in
-    let parents = parents_more rule (read_at c.args.self.now base) [] [] p c.children-left.result.0 c.children-left.result.1 a b tt c.children-left.ensures (sym c.in-Some.ensures.value) (sym c.in-Some-read_node.ensures.value) in
+    let parents = parents_more rule (draft_node c.args.self.now base) [] [] p c.children-left.result.0 c.children-left.result.1 a b tt c.children-left.ensures (sym c.in-Some.ensures.value) (sym c.in-Some-read_node.ensures.value) in
     settle_one h rule m under n ds later (stored_node c.args.self.now) (stored_node c.set_node.new.self) p c.node_digest-digest.result stage.settled
     (λ t at. made_right h rule m under n ds c.args.self.now base c.args.height (p ∷ []) (p ∷ later) ((p, a, b) ∷ []) (c.node_digest-digest.result ∷ []) refl stage.sized stage.settled stage.ready parents
     (ap (λ z. z ∷ []) c.node_digest-digest.ensures) 0 p c.node_digest-digest.result t refl refl at) c.in_ok-set_node.ensures.set

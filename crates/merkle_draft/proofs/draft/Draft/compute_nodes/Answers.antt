@@ -3,7 +3,7 @@ use Rattle.std.proofs.lemmas.List.{length-map}
 use Rattle.std.proofs.lemmas.Result.{err_from_is_err_and}
 use Rattle.merkle_draft.specs.DraftReads.{below}
 use Rattle.merkle_draft.specs.NewDigests.{LacksNeeded}
-use Rattle.merkle_draft.specs.Settled.{read_at}
+use Rattle.merkle_draft.specs.Settled.{draft_node}
 use Rattle.merkle_draft.proofs.ParentReads.{made_right, parents_length}
 use Rattle.merkle_draft.proofs.draft.Draft.compute_nodes.Goals as goal
 
@@ -19,7 +19,7 @@ set_nodes-requires-clause-many g c =
     let node = (g.H.Hasher.hashing c.args.hasher.now).node in
     let made : c.deref-2.result.now ≡ map (λ n. node n.0 n.1 n.2) c.read_children.new.parents.items =
     c.deref-2.ensures.value ∙ c.in_ok-node_digests.ensures ∙ ap (λ xs. xs ++ map (λ n. node n.0 n.1 n.2) c.deref.result.now) c.clear-2.ensures.items ∙ ap (map (λ n. node n.0 n.1 n.2)) c.deref.ensures.value in
-    ap length made ∙ length-map c.read_children.new.parents.items _ ∙ parents_length g.F.Family.rule (read_at c.args.self.now (g.B.Base.contents c.args.base.now)) c.args.positions.now c.read_children.new.parents.items c.in_ok-read_children.ensures.read
+    ap length made ∙ length-map c.read_children.new.parents.items _ ∙ parents_length g.F.Family.rule (draft_node c.args.self.now (g.B.Base.contents c.args.base.now)) c.args.positions.now c.read_children.new.parents.items c.in_ok-read_children.ensures.read
 
 pub returns-clause-settled : goal.returns-clause-settled
 returns-clause-settled g c = λ m n ds later stage.

@@ -3,7 +3,7 @@ use Rattle.std.specs.List.{Contains}
 use Rattle.std.proofs.lemmas.List.{take_more}
 use Rattle.std.proofs.lemmas.List.Elements.{Contains-get_or}
 use Rattle.merkle_draft.specs.DraftReads.{below}
-use Rattle.merkle_draft.specs.Settled.{AreParents, read_at}
+use Rattle.merkle_draft.specs.Settled.{AreParents, draft_node}
 use Rattle.merkle_draft.proofs.ParentReads.{parents_more}
 use Rattle.merkle_draft.proofs.SettledFacts.{ready_missing}
 use Rattle.merkle_draft.proofs.draft.Draft.read_children.Goals as goal
@@ -24,7 +24,7 @@ returns-in_default-read_node-clause-missing g c = λ _ h m n ds later stage.
 
 pub loop-position-preserved : goal.loop-position-preserved
 loop-position-preserved g c =
-    let read = read_at c.args.self.now (g.B.Base.contents c.args.base.now) in
+    let read = draft_node c.args.self.now (g.B.Base.contents c.args.base.now) in
     let i = c.loop-position.position-index in
     let ps = c.args.positions.now in
     let p = c.position-item.result in
