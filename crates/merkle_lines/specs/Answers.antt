@@ -86,7 +86,8 @@ kept_node s g p = cond (is_kept s.rule g.boundary p) (slice_get (node_digests s.
 
 -- a node that a proof of the leaves from a on, before b, reads was pruned
 abbrev pub IsRangePruned : {D : Type 0} → Scheme D → StructureState → (a b inactive : ℕ) → Type 0
-IsRangePruned s g a b inactive = (p : ℕ) × IsFirstMissing (λ q node. node ≡ kept_node s g q) (map position (reading_order s.bagging inactive s.rule (count g) a b)) p
+IsRangePruned s g a b inactive = (p : ℕ)
+    × IsFirstMissing (λ q node. node ≡ kept_node s g q) (map position (reading_order s.bagging inactive s.rule (count g) a b)) p
 
 -- the bytes that spell the honest proof of the leaves from a on, before b
 abbrev pub proof_bytes : {D : Type 0} → Scheme D → StructureState → (a b inactive : ℕ) → List ℕ

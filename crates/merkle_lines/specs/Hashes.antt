@@ -10,7 +10,8 @@ use Rattle.merkle_hasher.specs.Standard.{standard}
 
 -- SHA-256
 abbrev pub sha256_hashing : Hashing Sha256Digest
-sha256_hashing = standard (λ m. record { bytes = sha256 m; sized = length-sha256 m }) (λ d. d.bytes) (λ a b. pointwise eqb a.bytes b.bytes) (record { bytes = no_bytes; sized = length-no_bytes })
+sha256_hashing = standard (λ m. record { bytes = sha256 m; sized = length-sha256 m }) (λ d. d.bytes) (λ a b. pointwise eqb a.bytes b.bytes)
+    (record { bytes = no_bytes; sized = length-no_bytes })
 
 -- the exclusive or of all bytes
 abbrev pub xor8_hashing : Hashing Xor8Digest
