@@ -24,7 +24,7 @@ pub record IsReadable {F D Peaks Heights : Type 0} (max_leaves limit : ℕ) (p :
   pub leaves : p.leaves ≤ max_leaves
   pub inactive : p.inactive_peaks < 2 ^ 64
   pub digests : length p.digests.items ≤ limit
-  pub small : limit < 2 ^ 64
+  pub limit_fits : limit < 2 ^ 64
 
 -- bytes have no digest at one of the first n places
 abbrev pub HasNoDigest : (size : ℕ) → (List ℕ → Type 0) → (n : ℕ) → List ℕ → Type 0

@@ -15,7 +15,7 @@ use std::alloc::Global;
 fn read_groups(bytes: &[u8], before: u32) -> Result<(u64, &[u8]), DecodeError>
     requires { before ≤ 9 }
     ensures fits { IfOk result (λ p. p.0 < 2 ^ (64 - 7 * before)) }
-    ensures some { IfOk result (λ p. 1 ≤ before → 1 ≤ p.0) }
+    ensures nonzero { IfOk result (λ p. 1 ≤ before → 1 ≤ p.0) }
     ensures read { IfOk result (λ p. bytes.now ≡ number_groups (9 - before) p.0 ++ p.1.now) }
     ensures refused { IfErr result (λ e. IsGroupRefusal before bytes.now e) }
 {
@@ -79,7 +79,7 @@ pub(crate) fn read_up_to(
 // Returns the bytes of a number's encoding, and how many there are.
 #[tactic(auto, unfolding(crate::specs::NumberSpelling::number_spelling))]
 fn groups_of(number: u64) -> ([u8; 10], usize)
-    ensures few { result.1 ≤ 10 }
+    ensures at_most_10 { result.1 ≤ 10 }
     ensures spells { take result.1 result.0 ≡ number_spelling number }
 {
     let mut groups = [0u8; 10];
@@ -97,7 +97,7 @@ fn groups_of(number: u64) -> ([u8; 10], usize)
 /// Returns the number of bytes of a number's encoding.
 pub(crate) fn number_size(number: u64) -> usize
     ensures size { result ≡ length (number_spelling number) }
-    ensures few { result ≤ 10 }
+    ensures at_most_10 { result ≤ 10 }
 {
     groups_of(number).1
 }

@@ -49,7 +49,7 @@ fn read_counted_digests<D: Digest>(
     bytes: &[u8],
     max_digests: usize,
 ) -> Result<(Vec<D>, &[u8]), DecodeError>
-    ensures few { IfOk result (λ p. length p.0.items ≤ max_digests) }
+    ensures at_most_max_digests { IfOk result (λ p. length p.0.items ≤ max_digests) }
     ensures read { IfOk result (λ p. bytes.now ≡ number_spelling (length p.0.items) ++ (flat_map D.bytes p.0.items ++ p.1.now)) }
     ensures refused { IfErr result (λ e. IsRefusalFrom max_digests TooMany (IsDigestsRefusal D.SIZE D.Spells) bytes.now e) }
 {
@@ -103,7 +103,7 @@ fn write_digests<D: Digest>(digests: &[D], out: &mut Vec<u8>) -> Result<(), OutO
 fn numbers_size<F: Family, D: Digest>(proof: &Proof<F, D>) -> usize
     ensures size { let p = proof.now in
         result ≡ length (number_spelling p.leaves) + length (number_spelling p.inactive_peaks) + length (number_spelling (length p.digests.items)) }
-    ensures few { result ≤ 30 }
+    ensures at_most_30 { result ≤ 30 }
 {
     number_size(proof.leaves.as_u64())
         + number_size(proof.inactive_peaks as u64)

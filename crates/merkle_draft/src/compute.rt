@@ -224,7 +224,7 @@ impl<F: Family, D: Digest> Draft<F, D> {
         levels: &[Vec<Position<F>>],
     ) -> Result<u64, NodeError<F>>
         requires low { length levels.now ≤ 64 }
-        requires few { length (from_height levels.now 0) < 2 ^ 64 }
+        requires fits { length (from_height levels.now 0) < 2 ^ 64 }
         requires inner { (k p : ℕ) → Contains (level_at levels.now k) p → HasInner F.rule F.MAX_LEAVES p k }
         requires stored { (k p : ℕ) → Contains (level_at levels.now k) p → p < self.old.before + length self.old.appended }
         ensures shape { HasSameShape self.old self.new }

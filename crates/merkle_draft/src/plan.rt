@@ -37,8 +37,8 @@ fn push_node<F>(
     position: Position<F>,
 ) -> Result<(), AllocError>
     requires low { height < 64 }
-    requires few { length levels.old.items ≤ 64 }
-    ensures few { length levels.new.items ≤ 64 }
+    requires at_most_64_levels { length levels.old.items ≤ 64 }
+    ensures at_most_64_levels { length levels.new.items ≤ 64 }
     ensures pushed { OnOk result ((h : ℕ) → level_at levels.new.items h ≡ level_at levels.old.items h ++ cond (h == height) (position ∷ []) []) }
     ensures more { OnOk result (length (from_height levels.new.items 0) ≡ suc (length (from_height levels.old.items 0))) }
 {
@@ -60,8 +60,8 @@ fn mark<F: Family, D: Digest>(
     updates: &[(Position<F>, D)],
 ) -> Result<(), AllocError>
     requires node { (t : Tree) × Denotes F.rule F.MAX_LEAVES subtree.now t }
-    requires few { length levels.old.items ≤ 64 }
-    ensures few { length levels.new.items ≤ 64 }
+    requires at_most_64_levels { length levels.old.items ≤ 64 }
+    ensures at_most_64_levels { length levels.new.items ≤ 64 }
     ensures marked { OnOk result ((t : Tree) → (m : ℕ → Option D) → Denotes F.rule F.MAX_LEAVES subtree.now t → updates.now ≡ dirty_leaves m t
         → AreMarked m (t ∷ []) levels.old.items levels.new.items) }
 {
@@ -88,8 +88,8 @@ fn mark_peaks<F: Family, D: Digest>(
     updates: &[(Position<F>, D)],
 ) -> Result<(), AllocError>
     requires within { leaves ≤ F.MAX_LEAVES }
-    requires few { length levels.old.items ≤ 64 }
-    ensures few { length levels.new.items ≤ 64 }
+    requires at_most_64_levels { length levels.old.items ≤ 64 }
+    ensures at_most_64_levels { length levels.new.items ≤ 64 }
     ensures marked { OnOk result ((m : ℕ → Option D) → updates.now ≡ flat_map (dirty_leaves m) (peaks_of F.rule leaves)
         → AreMarked m (peaks_of F.rule leaves) levels.old.items levels.new.items) }
 {
@@ -154,9 +154,9 @@ impl<F: Family, D: Digest> Draft<F, D> {
     ) -> Result<(), AllocError>
         requires below { leaf < F.MAX_LEAVES }
         requires counted { self.old.before + length self.old.appended ≡ size F.rule leaf }
-        requires few { length levels.old.items ≤ 64 }
+        requires at_most_64_levels { length levels.old.items ≤ 64 }
         ensures only { OnlyAppends self.old self.new }
-        ensures few { length levels.new.items ≤ 64 }
+        ensures at_most_64_levels { length levels.new.items ≤ 64 }
         ensures counted { OnOk result (self.new.before + length self.new.appended ≡ size F.rule (suc leaf)) }
         ensures placed { OnOk result ((more : List D) × (self.new.appended ≡ self.old.appended ++ digest ∷ more)) }
         ensures listed { OnOk result (AreAdded F.rule F.MAX_LEAVES (size F.rule leaf) (size F.rule (suc leaf)) levels.old.items levels.new.items) }
@@ -182,9 +182,9 @@ impl<F: Family, D: Digest> Draft<F, D> {
         requires within { leaves + length added.now ≤ F.MAX_LEAVES }
         requires sized { size F.rule leaves ≡ self.old.before }
         requires nothing { self.old.appended ≡ [] }
-        requires few { length levels.old.items ≤ 64 }
+        requires at_most_64_levels { length levels.old.items ≤ 64 }
         ensures only { OnlyAppends self.old self.new }
-        ensures few { length levels.new.items ≤ 64 }
+        ensures at_most_64_levels { length levels.new.items ≤ 64 }
         ensures counted { OnOk result (self.new.before + length self.new.appended ≡ size F.rule (leaves + length added.now)) }
         ensures leaves { OnOk result ((i : ℕ) (d : D) → slice_get added.now i ≡ Some d
             → slice_get self.new.appended (size F.rule (leaves + i) - self.old.before) ≡ Some d) }

@@ -86,7 +86,7 @@ pub fn compress_blocks<const N: usize>(
     count: usize,
 )
     requires number { length messages.now ≡ N }
-    requires few { count ≤ 2 }
+    requires at_most_two { count ≤ 2 }
     requires long { (j : ℕ) → j < N → 64 * count ≤ length (message messages.now j) }
     ensures { (j : ℕ) → j < N → state_lane j state.new ≡ hash_after initial_hash_256 (message messages.now j) count }
 {

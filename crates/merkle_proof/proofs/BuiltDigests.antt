@@ -77,7 +77,7 @@ module _ {F D P Q : Type 0} (s : Scheme D) (answered : ℕ → Option D → Type
       let there = all_runs (λ u. slice_get (forest s.rule n).nodes (position u) ≡ Some u) s.bagging k s.rule n a b (reads_at s.rule n a b) in
       let g : (ts : List Tree) (ps : List ℕ) (ds : List D) → AreNodes s.rule n ts → ps ≡ map position ts → AreAnswered answered ps ds → map at ts ≡ map told ds =
       λ ts ps ds w e r. f ts ds w (subst (λ z. AreAnswered answered z ds) e r) in
-      ap (map told) laid.laid
+      ap (map told) laid.digests_are
       ∙ laid_out_read s.hashing.fold told at part stand (met + (k - met)) (folded_prefix s.bagging k before) (single_before s.bagging k before) (single_after s.bagging k met after) (folded_suffix s.bagging k met after)
       (range_siblings a b (peaks_of s.rule n)) laid.of_prefix laid.of_single laid.of_suffix laid.of_siblings
       (g _ prefix laid.of_prefix there.0 runs.prefix_is laid.prefix_read) (g _ single laid.of_single there.1 runs.single_is laid.single_read)
@@ -88,7 +88,7 @@ module _ {F D P Q : Type 0} (s : Scheme D) (answered : ℕ → Option D → Type
   is_built node agree = record {
     leaves = leaves_are;
     inactive = inactive_are;
-    few = few;
+    enough_peaks = few;
     digests = of_runs Some (at_node node) (part_read s.hashing node) (nodes_stand s.hashing node) (λ ts ds w r. agreed node answered agree ts ds r);
   }
 

@@ -83,7 +83,7 @@ module _ (F : Type 0) (m n : ℕ) where
 
     pub all_found : first < n → n ≤ m → AscendsFrom (first + 1) others × AllByRecursion (λ i. i < n) others → AreLocations m n locations
     all_found b l w =
-        subst (AreLocations m n) (sym at) (record { some = omega arith; ascend = (omega arith, subst (λ (a : ℕ). AscendsFrom a others) (add-one first) w.0); below = (b, w.1); leaves = l })
+        subst (AreLocations m n) (sym at) (record { nonempty = omega arith; ascend = (omega arith, subst (λ (a : ℕ). AscendsFrom a others) (add-one first) w.0); below = (b, w.1); leaves = l })
 
   -- a loop over the locations after the first
   pub loop_refused : (first : ℕ) (others : List ℕ) (k before i : ℕ) (e : Error F) → first_case (later_refusals {F = F} m n first others) ≡ first_case (later_refusals m n before (drop k others)) → k < length others → i ≡ get_or others k i
@@ -109,7 +109,7 @@ module _ (F : Type 0) (m n : ℕ) where
   none_later before (i ∷ is) l u b = later_passed before i is (omega (arith, u.0)) (omega (arith, b.0, l)) b.0 ∙ none_later i is l u.1 b.1
 
   pub none_refused : (locations : List ℕ) → AreLocations m n locations → first_case (multi_refusals {F = F} m n locations) ≡ None
-  none_refused [] w = absurd (omega (arith, w.some))
+  none_refused [] w = absurd (omega (arith, w.nonempty))
   none_refused (i ∷ is) w =
       after_leaves i is (i ∷ is) refl (omega (arith, w.below.0, w.leaves)) w.below.0 w.leaves ∙ none_later i is w.leaves w.ascend.1 w.below.1
 

@@ -97,7 +97,7 @@ pub runs_of_plan : (rule : List ℕ → List ℕ) (max_leaves n a b peaks before
 runs_of_plan rule max_leaves n a b peaks before after reads plan bagging own same k prefix single p s one two three four d e f g =
     let ts = peaks_of rule n in let olds = wholly_before a ts in let news = wholly_after b ts in let inside = range_siblings a b ts in
     let met = met_count rule n a b in
-    let met_is : peaks - after ≡ met = omega (arith, plan.peaks_are, plan.after_are, length-peaks_of rule n a b plan.some) in
+    let met_is : peaks - after ≡ met = omega (arith, plan.peaks_are, plan.after_are, length-peaks_of rule n a b plan.nonempty) in
     let xs = folded_prefix bagging k olds in let ys = single_before bagging k olds in let zs = single_after bagging k met news in let us = folded_suffix bagging k met news in
     let old = folded_prefix_rest bagging k olds in let new = single_after_rest bagging k met news in
     let prefix_is : prefix ≡ length xs = p olds (sym plan.before_are) ∙ ap (λ z. length (folded_prefix z k olds)) same in

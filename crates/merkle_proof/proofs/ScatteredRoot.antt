@@ -76,7 +76,7 @@ module _ {D : Type 0} (s : Scheme D) (r : MultiInput D) where
 
     -- what is known of an accepted input
     pub accepted_locations : AcceptsMulti s r root → AreLocations s.max_leaves r.leaves (locations_in r)
-    accepted_locations ok = let w = accepted_some ok in record { some = some_located; ascend = w.ascend; below = w.below; leaves = w.leaves }
+    accepted_locations ok = let w = accepted_some ok in record { nonempty = some_located; ascend = w.ascend; below = w.below; leaves = w.leaves }
 
     pub accepted_count : AcceptsMulti s r root → length (multi_positions s.rule r.leaves (locations_in r)) ≡ length r.digests
     accepted_count ok = sym (accepted_some ok).counts

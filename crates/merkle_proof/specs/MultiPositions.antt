@@ -9,7 +9,7 @@ use Rattle.merkle_forest_theory.specs.Ascending.{AscendsFrom}
 
 -- some leaves of a list of n, strictly ascending, and a list may have n
 pub record AreLocations (max_leaves n : ℕ) (locations : List ℕ) : Type 0 where
-  pub some : 0 < length locations
+  pub nonempty : 0 < length locations
   pub ascend : AscendsFrom 0 locations
   pub below : AllByRecursion (λ i. i < n) locations
   pub leaves : n ≤ max_leaves

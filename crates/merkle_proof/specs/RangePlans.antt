@@ -25,9 +25,9 @@ pub record LeafRange : Type 0 where
 -- the range has leaves, there are that many leaves and peaks, and these nodes are read, of which the first so many are peaks before the range,
 -- and the next so many peaks after it
 pub record IsPlan (rule : List ℕ → List ℕ) (max_leaves n a b peaks before after : ℕ) (reads : List ℕ) : Type 0 where
-  pub some : a < b
+  pub nonempty : a < b
   pub within : b ≤ n
-  pub small : n ≤ max_leaves
+  pub within_max_leaves : n ≤ max_leaves
   pub peaks_are : peaks ≡ length (peaks_of rule n)
   pub before_are : before ≡ length (wholly_before a (peaks_of rule n))
   pub after_are : after ≡ length (wholly_after b (peaks_of rule n))
@@ -51,7 +51,7 @@ pub record IsLaidOut {D : Type 0} (f : D → D → D) (answered : ℕ → Option
   pub single_read : AreAnswered answered single of_single
   pub suffix_read : AreAnswered answered suffix of_suffix
   pub siblings_read : AreAnswered answered siblings of_siblings
-  pub laid : digests ≡ laid_out f of_prefix of_single of_suffix of_siblings
+  pub digests_are : digests ≡ laid_out f of_prefix of_single of_suffix of_siblings
 
 -- something is answered at each of the positions before p, and nothing at p
 pub record IsFirstMissing {D : Type 0} (answered : ℕ → Option D → Type 0) (ps : List ℕ) (p : ℕ) : Type 0 where
@@ -72,7 +72,7 @@ IsBuildRefusal bagging rule r k answered e =
 pub record IsBuiltProof {F D Peaks Heights : Type 0} (s : Scheme D) (node : ℕ → Option D) (k : ℕ) (r : LeafRange) (p : Proof F D Peaks Heights) : Type 0 where
   pub leaves : p.leaves ≡ r.leaves
   pub inactive : p.inactive_peaks ≡ k
-  pub few : k ≤ length (peaks_of s.rule r.leaves)
+  pub enough_peaks : k ≤ length (peaks_of s.rule r.leaves)
   pub digests : map Some p.digests.items ≡ map (part_read s.hashing node) (range_parts s.bagging k r.start r.end (peaks_of s.rule r.leaves)) ++ map (λ t. node (position t)) (range_siblings r.start r.end (peaks_of s.rule r.leaves))
 
 -- each answer at the position of a node is the list's digest at it

@@ -27,7 +27,7 @@ pub(crate) fn confirm_peaks<F: Family, H: Hasher<F>>(
     told: &Told<'_, F, H::Digest>,
     located: &[(Location<F>, H::Digest)],
 ) -> Result<Option<Vec<H::Digest>>, AllocError>
-    requires small { leaves ≤ F.MAX_LEAVES }
+    requires within_max_leaves { leaves ≤ F.MAX_LEAVES }
     requires rises { IsStrictlyIncreasing told.now.positions.now }
     requires ascend { AscendsFrom 0 (locations_of located.now) }
     ensures some { let h = H.hashing hasher.now in let a = digest_for told.now.positions.now told.now.digests.now in

@@ -69,7 +69,7 @@ fn scattered_positions<F: Family>(
     locations: &[Location<F>],
 ) -> Result<Vec<Position<F>>, AllocError>
     requires ascend { IsNonDecreasing locations.now }
-    requires small { leaves ≤ F.MAX_LEAVES }
+    requires within_max_leaves { leaves ≤ F.MAX_LEAVES }
     ensures { IfOk result (λ v. v.items ≡ positions_read F.rule leaves locations.now) }
 {
     let mut positions = Vec::new(alloc);

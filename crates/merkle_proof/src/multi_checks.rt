@@ -29,13 +29,13 @@ pub(crate) fn verify_multi<F: Family, H: Hasher<F>>(
         IfOk result (λ yes. IsTrue yes ↔ AcceptsMulti s r root.now) }
 {
     if elements.is_empty() {
-        return Ok(verify_none(parts, hasher, root));
+        return Ok(verify_empty(parts, hasher, root));
     }
-    verify_some(parts, hasher, elements, root)
+    verify_nonempty(parts, hasher, elements, root)
 }
 
 // Whether the proof is empty and `root` is the root of no leaves.
-fn verify_none<F: Family, H: Hasher<F>>(
+fn verify_empty<F: Family, H: Hasher<F>>(
     parts: &ProofParts<'_, F, H::Digest>,
     hasher: &H,
     root: &H::Digest,
@@ -50,13 +50,13 @@ fn verify_none<F: Family, H: Hasher<F>>(
 }
 
 // Whether the elements, of which there is at least one, lead to `root`.
-fn verify_some<F: Family, H: Hasher<F>>(
+fn verify_nonempty<F: Family, H: Hasher<F>>(
     parts: &ProofParts<'_, F, H::Digest>,
     hasher: &H,
     elements: &[(&[u8], Location<F>)],
     root: &H::Digest,
 ) -> Result<bool, OutOfMemory>
-    requires some { 0 < length elements.now }
+    requires nonempty { 0 < length elements.now }
     ensures { let s = H.scheme hasher.now in
         let r = multi_input s parts.now.leaves parts.now.inactive parts.now.digests.now elements.now in
         IfOk result (λ yes. IsTrue yes ↔ AcceptsMulti s r root.now) }

@@ -133,7 +133,7 @@ pub(crate) fn read_digests<F: Family, H: Hasher<F>, G: Fn(Position<F>) -> Option
     get_node: &G,
 ) -> Result<Vec<H::Digest>, Error<F>>
     requires callable { G.IsAlwaysCallable get_node.now }
-    requires few { length prefix.now + length single.now + length suffix.now + length siblings.now < 2 ^ 64 }
+    requires fits { length prefix.now + length single.now + length suffix.now + length siblings.now < 2 ^ 64 }
     ensures ok { IfOk result (λ v. IsLaidOut (H.hashing hasher.now).fold (G.post get_node.now) prefix.now single.now suffix.now siblings.now v.items) }
     ensures err { IfErr result (λ e. e ≢ Error.OutOfMemory → (p : ℕ) × (e ≡ Error.ElementPruned p)
         × IsFirstMissing (G.post get_node.now) (prefix.now ++ (single.now ++ (reverse suffix.now ++ siblings.now))) p) }

@@ -101,7 +101,7 @@ pub(crate) fn reconstruct_mmr_position<F: Family, H: Hasher<F>>(
     elements: &[&[u8]],
     start: Location<F>,
 ) -> Result<H::Digest, ReconstructionError>
-    requires some { 0 < length elements.now }
+    requires nonempty { 0 < length elements.now }
     ensures ok { let s = H.scheme hasher.now in
         let r = range_input s parts.now.leaves parts.now.inactive parts.now.digests.now start (bytes_of elements.now) in
         IfOk result (λ d. IsComputed s r d) }
@@ -124,7 +124,7 @@ pub(crate) fn reconstruct_root_into<F: Family, H: Hasher<F>, C: Collector<F, H::
     start: Location<F>,
     collector: &mut C,
 ) -> Result<H::Digest, ReconstructionError>
-    requires some { 0 < length elements.now }
+    requires nonempty { 0 < length elements.now }
     ensures ok { let s = H.scheme hasher.now in
         let r = range_input s parts.now.leaves parts.now.inactive parts.now.digests.now start (bytes_of elements.now) in
         IfOk result (λ d. IsComputed s r d) }
@@ -246,8 +246,8 @@ fn peak_digests<F: Family, H: Hasher<F>, C: Collector<F, H::Digest>>(
     collector: &mut C,
 ) -> Result<Vec<H::Digest>, ReconstructionError>
     requires nodes { (ts : List Tree) × (peaks.now ≡ map subtree_of ts) × AreNodes F.rule F.MAX_LEAVES ts }
-    requires some { range.now.start < range.now.end }
-    requires all { range.now.end ≤ range.now.start + length leaves.now }
+    requires nonempty { range.now.start < range.now.end }
+    requires covered { range.now.end ≤ range.now.start + length leaves.now }
     ensures ok { let h = H.hashing hasher.now in let c = in_range range.now.start range.now.end in
         let X = leaf_from h range.now.start leaves.now in
         IfOk result (λ v. (ts : List Tree) → peaks.now ≡ map subtree_of ts → AreNodes F.rule F.MAX_LEAVES ts
@@ -302,8 +302,8 @@ fn reconstruct_peaks<F: Family, H: Hasher<F>, C: Collector<F, H::Digest>>(
     alloc: Global,
 ) -> Result<(), ReconstructionError>
     requires nodes { (ts : List Tree) × (peaks.now ≡ map subtree_of ts) × AreNodes F.rule F.MAX_LEAVES ts }
-    requires some { range.now.start < range.now.end }
-    requires all { range.now.end ≤ range.now.start + length leaves.now }
+    requires nonempty { range.now.start < range.now.end }
+    requires covered { range.now.end ≤ range.now.start + length leaves.now }
     ensures ok { let h = H.hashing hasher.now in let c = in_range range.now.start range.now.end in
         let X = leaf_from h range.now.start leaves.now in
         IfOk result (λ _. (ts : List Tree) → peaks.now ≡ map subtree_of ts → AreNodes F.rule F.MAX_LEAVES ts

@@ -100,7 +100,7 @@ pub(crate) fn reconstruct_and_extract<F: Family, H: Hasher<F>>(
     elements: &[&[u8]],
     start: Location<F>,
 ) -> Result<(H::Digest, Vec<(Position<F>, H::Digest)>), ReconstructionError>
-    requires some { 0 < length elements.now }
+    requires nonempty { 0 < length elements.now }
     ensures ok { let s = H.scheme hasher.now in
         let r = range_input s parts.now.leaves parts.now.inactive parts.now.digests.now start (bytes_of elements.now) in
         IfOk result (λ found. IsComputed s r found.0) }

@@ -39,7 +39,7 @@ impl<F: Family> Groups<F> {
     /// Appends a peak to its group. Peaks come in order, the oldest first.
     fn put(&mut self, peak: Subtree<F>, range: &Range<Location<F>>) -> Result<(), AllocError>
         requires node { (t : Tree) × Denotes F.rule F.MAX_LEAVES peak t }
-        requires some { range.now.start < range.now.end }
+        requires nonempty { range.now.start < range.now.end }
         ensures { IfOk result (λ _. (done : List Tree) (t : Tree) → Denotes F.rule F.MAX_LEAVES peak t
             → (end_leaf t ≤ range.now.start → wholly_after range.now.end done ≡ [])
             → HoldsGroups range.now.start range.now.end self.old done → HoldsGroups range.now.start range.now.end self.new (done ++ t ∷ [])) }
@@ -68,8 +68,8 @@ impl<F: Family> Groups<F> {
         leaves: Location<F>,
         range: &Range<Location<F>>,
     ) -> Result<Self, AllocError>
-        requires some { range.now.start < range.now.end }
-        requires small { leaves ≤ F.MAX_LEAVES }
+        requires nonempty { range.now.start < range.now.end }
+        requires within_max_leaves { leaves ≤ F.MAX_LEAVES }
         ensures { IfOk result (λ gs. HoldsGroups range.now.start range.now.end gs (peaks_of F.rule leaves)) }
     {
         let mut groups = Groups {
@@ -138,7 +138,7 @@ impl<F: Family> Groups<F> {
     ///
     /// - `AllocError` if a memory request is refused
     pub fn into_reads(self, range: &Range<Location<F>>) -> Result<Vec<Position<F>>, AllocError>
-        requires some { range.now.start < range.now.end }
+        requires nonempty { range.now.start < range.now.end }
         requires groups { (n : ℕ) × (n ≤ F.MAX_LEAVES) × HoldsGroups range.now.start range.now.end self (peaks_of F.rule n) }
         ensures { IfOk result (λ v. (n : ℕ) → n ≤ F.MAX_LEAVES → HoldsGroups range.now.start range.now.end self (peaks_of F.rule n)
             → v.items ≡ map position (nodes_read F.rule n range.now.start range.now.end)) }
@@ -156,7 +156,7 @@ fn append_siblings<F: Family>(
     out: &mut Vec<Position<F>>,
 ) -> Result<(), AllocError>
     requires nodes { (ts : List Tree) × (peaks.now ≡ map subtree_of ts) × AreNodes F.rule F.MAX_LEAVES ts }
-    requires some { range.now.start < range.now.end }
+    requires nonempty { range.now.start < range.now.end }
     ensures { IfOk result (λ _. (ts : List Tree) → peaks.now ≡ map subtree_of ts → AreNodes F.rule F.MAX_LEAVES ts
         → out.new.items ≡ out.old.items ++ map position (flat_map (siblings (in_range range.now.start range.now.end)) ts)) }
 {

@@ -60,7 +60,7 @@ impl Layout {
         over: usize,
         after: usize,
     ) -> Self
-        requires few { before + over + after ≤ 64 }
+        requires at_most_64_peaks { before + over + after ≤ 64 }
         requires inactive { inactive ≤ 64 }
         ensures before { (ts : List Tree) → length ts ≡ before → result.before ≡ count_before bagging inactive ts }
         ensures after { (ts : List Tree) → length ts ≡ after → result.after ≡ count_after bagging inactive (before + over) ts }

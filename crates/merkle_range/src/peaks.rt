@@ -13,7 +13,7 @@ pub(crate) fn peak_subtrees<F: Family>(
     alloc: Global,
     leaves: Location<F>,
 ) -> Result<Vec<Subtree<F>>, AllocError>
-    requires small { leaves ≤ F.MAX_LEAVES }
+    requires within_max_leaves { leaves ≤ F.MAX_LEAVES }
     ensures { IfOk result (λ v. v.items ≡ map subtree_of (peaks_of F.rule leaves)) }
 {
     let mut peaks = Vec::new(alloc);

@@ -232,9 +232,9 @@ fn is_before_rebuilt<F: Family, H: Hasher<F>>(
     range: &Range<Location<F>>,
     pins: &Pins<'_, F, H::Digest>,
 ) -> Result<bool, OutOfMemory>
-    requires some { range.now.start < range.now.end }
+    requires nonempty { range.now.start < range.now.end }
     requires within { range.now.end ≤ parts.now.leaves }
-    requires small { parts.now.leaves ≤ F.MAX_LEAVES }
+    requires within_max_leaves { parts.now.leaves ≤ F.MAX_LEAVES }
     requires inactive { parts.now.inactive ≤ length (peaks_of F.rule parts.now.leaves) }
     requires count { let ts = peaks_of F.rule parts.now.leaves in
         length parts.now.digests.now ≡ length (range_parts (H.bagging_of hasher.now) parts.now.inactive range.now.start range.now.end ts)

@@ -21,7 +21,7 @@ use std::ops::Range;
 // Whether the node has no leaf in the range.
 fn is_outside<F: Family>(subtree: &Subtree<F>, range: &Range<Location<F>>) -> bool
     requires node { (t : Tree) × Denotes F.rule F.MAX_LEAVES subtree.now t }
-    requires some { range.now.start < range.now.end }
+    requires nonempty { range.now.start < range.now.end }
     ensures { (t : Tree) → Denotes F.rule F.MAX_LEAVES subtree.now t → result ≡ not (tree_meets (in_range range.now.start range.now.end) t) }
 {
     subtree.leaf_end() <= range.start || subtree.first_leaf >= range.end
@@ -30,7 +30,7 @@ fn is_outside<F: Family>(subtree: &Subtree<F>, range: &Range<Location<F>>) -> bo
 // Whether all leaves of the node are in the range.
 fn is_inside<F: Family>(subtree: &Subtree<F>, range: &Range<Location<F>>) -> bool
     requires { (t : Tree) × Denotes F.rule F.MAX_LEAVES subtree.now t }
-    ensures given { (t : Tree) → Denotes F.rule F.MAX_LEAVES subtree.now t
+    ensures inside { (t : Tree) → Denotes F.rule F.MAX_LEAVES subtree.now t
         → result ≡ true → (range.now.start ≤ first_leaf t) × (end_leaf t ≤ range.now.end) }
     ensures none { (t : Tree) → Denotes F.rule F.MAX_LEAVES subtree.now t → result ≡ true → siblings (in_range range.now.start range.now.end) t ≡ [] }
 {
@@ -53,8 +53,8 @@ pub(crate) fn reconstruct_digest<F: Family, H: Hasher<F>, C: Collector<F, H::Dig
     alloc: Global,
 ) -> Result<H::Digest, ReconstructionError>
     requires node { (t : Tree) × Denotes F.rule F.MAX_LEAVES subtree.now t }
-    requires some { range.now.start < range.now.end }
-    requires all { range.now.end ≤ range.now.start + length leaves.now }
+    requires nonempty { range.now.start < range.now.end }
+    requires covered { range.now.end ≤ range.now.start + length leaves.now }
     ensures ok { let h = H.hashing hasher.now in let leaf = leaf_from h range.now.start leaves.now in
         IfOk result (λ d. (t : Tree) → Denotes F.rule F.MAX_LEAVES subtree.now t
         → IsWalked h (in_range range.now.start range.now.end) leaf t digests.old.now d digests.new.now) }
@@ -99,7 +99,7 @@ pub(crate) fn collect_siblings<F: Family>(
     out: &mut Vec<Position<F>>,
 ) -> Result<(), AllocError>
     requires node { (t : Tree) × Denotes F.rule F.MAX_LEAVES subtree.now t }
-    requires some { range.now.start < range.now.end }
+    requires nonempty { range.now.start < range.now.end }
     ensures { IfOk result (λ _. (t : Tree) → Denotes F.rule F.MAX_LEAVES subtree.now t
         → out.new.items ≡ out.old.items ++ map position (siblings (in_range range.now.start range.now.end) t)) }
 {

@@ -373,7 +373,7 @@ fn first_below(position: u64, height: u32) -> u64
 /// Requires that there are more than `index` peaks.
 fn peak(leaves: u64, index: u32) -> (Position, u32)
     requires valid { leaves ≤ MAX_LEAVES }
-    requires there { 2 ^ (index + 1) ≤ leaves + 1 }
+    requires exists { 2 ^ (index + 1) ≤ leaves + 1 }
     ensures { newest_peaks (index + 1) leaves ≡ result ∷ newest_peaks index leaves }
 {
     let digits = (leaves + 1) >> index;

@@ -56,7 +56,7 @@ module _ {D : Type 0} (f g : ℕ → Option D) (more : (p : ℕ) (d : D) → f p
   built_more s k r p built = record {
     leaves = built.leaves;
     inactive = built.inactive;
-    few = built.few;
+    enough_peaks = built.enough_peaks;
     digests = both_more (part_read s.hashing f) (part_read s.hashing g) (λ t. f (position t)) (λ t. g (position t)) (part_more s.hashing) (λ t. more (position t))
         (range_parts s.bagging k r.start r.end (peaks_of s.rule r.leaves)) (range_siblings r.start r.end (peaks_of s.rule r.leaves)) p.digests.items built.digests;
   }

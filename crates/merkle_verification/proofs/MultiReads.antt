@@ -46,7 +46,7 @@ module _ {D : Type 0} (s : Scheme D) (m : ℕ) (node : ℕ → Option D) (X : Li
       let long : n ≡ length X = size_inj s.rule n (length X) (sized ∙ shows.sized) in
       let at = map-first f locations in
       inl (record {
-        nonempty = omega (arith, built.within.some, length-map {B = ℕ × D} locations (λ i. (i, f i)));
+        nonempty = omega (arith, built.within.nonempty, length-map {B = ℕ × D} locations (λ i. (i, f i)));
         ascend = subst (AscendsFrom 0) (sym at) built.within.ascend;
         below = subst (AllByRecursion (λ i. i < length X)) (sym at) (subst (λ (l : ℕ). AllByRecursion (λ i. i < l) locations) long built.within.below);
         leaves = built.leaves ∙ long;

@@ -124,7 +124,7 @@ fn prove_plan<R: Readable, H: Hasher<R::Family, Digest = R::Digest>>(
     plan: RangePlan<R::Family>,
     inactive: usize,
 ) -> Result<Proof<R::Family, R::Digest>, Error<R::Family>>
-    requires small { plan.leaves ≤ R.Family.MAX_LEAVES }
+    requires within_max_leaves { plan.leaves ≤ R.Family.MAX_LEAVES }
     ensures built { let s = H.scheme hasher.now in IfOk result (λ p. IsBuiltProof s (R.node reader.now) inactive plan p) }
     ensures honest { let s = H.scheme hasher.now in
         (X : List R.Digest) → Shows (H.hashing hasher.now) R.Family.rule (R.size reader.now) (R.node reader.now) X → plan.leaves ≤ length X

@@ -146,9 +146,9 @@ impl<F: Family, D: Digest> ProofStore<F, D> {
         root: &D,
         pairs: Vec<(Position<F>, D)>,
     ) -> Result<Self, Error<F>>
-        requires some { range.start < range.end }
+        requires nonempty { range.start < range.end }
         requires within { range.end ≤ proof.now.leaves }
-        requires small { proof.now.leaves ≤ F.MAX_LEAVES }
+        requires within_max_leaves { proof.now.leaves ≤ F.MAX_LEAVES }
         ensures ok { IfOk result (λ v. (s : Scheme D) (r : RangeInput D)
             → IsInput s r F.rule bagging proof.now.leaves proof.now.inactive_peaks proof.now.digests.items range.start range.end pairs.items
             → v ≡ store_of s r root.now) }

@@ -32,7 +32,7 @@ mark-requires g t c κs within =
     let i = inner_node _ _ _ _ _ n.0 n.1 c.if-subtree-eq0.false in
     let k = c.children.ensures i.0 i.1 i.2 i.3 in
     let low : c.children.result.0.height < c.args.subtree.now.height = lower _ _ _ _ _ _ _ _ _ _ _ _ i.3 k.0 (inl refl) in
-    (omega (arith, low, c.decreases), (within.0, (within.1.0, (within.1.1.0, (within.1.1.1, ((i.1, k.0), c.requires.few))))))
+    (omega (arith, low, c.decreases), (within.0, (within.1.0, (within.1.1.0, (within.1.1.1, ((i.1, k.0), c.requires.at_most_64_levels))))))
 
 pub mark-requires-2 : goal.mark-requires-2
 mark-requires-2 g t c κs within =
@@ -40,7 +40,7 @@ mark-requires-2 g t c κs within =
     let i = inner_node _ _ _ _ _ n.0 n.1 c.if-subtree-eq0.false in
     let k = c.children.ensures i.0 i.1 i.2 i.3 in
     let low : c.children.result.1.height < c.args.subtree.now.height = lower _ _ _ _ _ _ _ _ _ _ _ _ i.3 k.1 (inr (heights_same _ _ _ g.met.F.Family.lawful _ _ _ _ _ _ i.3)) in
-    (omega (arith, low, c.decreases), (within.0, (within.1.0, (within.1.1.0, (within.1.1.1, ((i.2, k.1), c.in_ok-mark.ensures.few))))))
+    (omega (arith, low, c.decreases), (within.0, (within.1.0, (within.1.1.0, (within.1.1.1, ((i.2, k.1), c.in_ok-mark.ensures.at_most_64_levels))))))
 
 pub push_node-requires-clause-low : goal.push_node-requires-clause-low
 push_node-requires-clause-low g t c = omega (arith, is_small _ _ _ g.met.F.Family.lawful _ _ _ c.requires.node.0 c.requires.node.1)

@@ -14,7 +14,7 @@ loop-position-init g c =
     let e = c.into_iter-position-iterator.ensures.into_iter_gives in (
       g.met.F.Peaks.Listed.may_go c.into_iter-position-iterator.result,
       g.met.F.Peaks.Listed.ends c.into_iter-position-iterator.result,
-      c.requires.few,
+      c.requires.at_most_64_levels,
       subst (λ (s : ℕ). PeaksMarked g.F.Family.rule g.F.Family.MAX_LEAVES c.args.leaves c.args.updates.now c.args.levels.now.items (g.F.Peaks.Listed.left c.into_iter-position-iterator.result) s c.args.updates.now c.args.levels.now.items)
           (sym c.new-first_leaf.ensures)
           (none_marked g.F.Family.rule g.F.Family.MAX_LEAVES c.args.leaves c.args.updates.now c.args.levels.now.items (g.F.Peaks.Listed.left c.into_iter-position-iterator.result) c.requires.within
@@ -47,7 +47,7 @@ loop-position-preserved g c =
     let n = next_marked _ _ _ _ _ _ _ _ _ c.loop-position.invariant.3 _ _ _ y in (
       g.met.F.Peaks.Listed.may_go c.next.new.self,
       g.met.F.Peaks.Listed.ends c.next.new.self,
-      c.in_ok-mark.ensures.few,
+      c.in_ok-mark.ensures.at_most_64_levels,
       peak_marked g.F.Family.rule g.F.Family.MAX_LEAVES c.args.leaves c.args.updates.now c.args.levels.now.items
           _ _ _ _ _ _ n c.leaf_end-first_leaf.result (c.leaf_end-first_leaf.ensures n.tree n.stands) c.location_to_position-end.result c.count_before.result c.split_at.result.0.now c.split_at.result.1.now
           c.location_to_position-end.ensures c.count_before.ensures c.split_at.ensures.front c.split_at.ensures.back

@@ -14,7 +14,7 @@ loop-position-init g c =
     let e = c.into_iter-position-iterator.ensures.into_iter_gives in (
       g.met.F.Peaks.Listed.may_go c.into_iter-position-iterator.result,
       g.met.F.Peaks.Listed.ends c.into_iter-position-iterator.result,
-      pass_begins _ _ _ _ _ _ c.requires.small (ap g.F.Peaks.Listed.left e ∙ c.peaks-position-items.ensures c.args.leaves c.requires.small (sym c.location_to_position.ensures)) c.new-first_leaf.ensures
+      pass_begins _ _ _ _ _ _ c.requires.within_max_leaves (ap g.F.Peaks.Listed.left e ∙ c.peaks-position-items.ensures c.args.leaves c.requires.within_max_leaves (sym c.location_to_position.ensures)) c.new-first_leaf.ensures
           (confirm_begins h a es c.requires.ascend _ _ c.new-digests.ensures.items c.new-first_leaf.ensures),
     )
 

@@ -26,7 +26,7 @@ returns-in_err-end-clause-err g c =
     let bagging = g.H.Hasher.bagging_of c.args.hasher.now in
     let s = scheme_of h bagging g.F.Family.rule g.F.Family.MAX_LEAVES g.F.Family.DOMAIN in
     let r = range_input s c.args.parts.now.leaves c.args.parts.now.inactive c.args.parts.now.digests.now c.args.start (bytes_of c.args.elements.now) in
-    let long = element_count h bagging g.F.Family.rule g.F.Family.MAX_LEAVES g.F.Family.DOMAIN c.args.parts.now.leaves c.args.parts.now.inactive c.args.parts.now.digests.now c.args.start (c.args.start + length c.args.elements.now) c.args.elements.now c.requires.some refl in
+    let long = element_count h bagging g.F.Family.rule g.F.Family.MAX_LEAVES g.F.Family.DOMAIN c.args.parts.now.leaves c.args.parts.now.inactive c.args.parts.now.digests.now c.args.start (c.args.start + length c.args.elements.now) c.args.elements.now c.requires.nonempty refl in
     rw (p.1, p.2, g.met.H.Hasher.scheme_is c.args.hasher.now) (λ _. elim c.in_err-end.ensures.err [
       | inl x ↦ refusal-start s r x.0 ∙ ap Some (sym x.1)
       | inr (inl x) ↦ refusal-end_past_limit s r x.0 (omega (arith, x.1, long)) ∙ ap Some (sym x.2)
@@ -41,10 +41,10 @@ returns-then-parts-count-clause-err g c =
     let s = scheme_of h bagging g.F.Family.rule g.F.Family.MAX_LEAVES g.F.Family.DOMAIN in
     let r = range_input s c.args.parts.now.leaves c.args.parts.now.inactive c.args.parts.now.digests.now c.args.start (bytes_of c.args.elements.now) in
     let end = c.in_ok-end.ensures.ok in
-    let long = element_count h bagging g.F.Family.rule g.F.Family.MAX_LEAVES g.F.Family.DOMAIN c.args.parts.now.leaves c.args.parts.now.inactive c.args.parts.now.digests.now c.args.start (c.args.start + length c.args.elements.now) c.args.elements.now c.requires.some refl in
+    let long = element_count h bagging g.F.Family.rule g.F.Family.MAX_LEAVES g.F.Family.DOMAIN c.args.parts.now.leaves c.args.parts.now.inactive c.args.parts.now.digests.now c.args.start (c.args.start + length c.args.elements.now) c.args.elements.now c.requires.nonempty refl in
     rw (g.met.H.Hasher.scheme_is c.args.hasher.now) (λ _.
-    refusal-inactive s r (omega (arith, c.requires.some, long)) (omega (arith, end.0, end.1, long)) end.2
-    (omega (arith, c.if-parts-count.true, c.count.ensures c.args.start c.in_ok-end.end c.args.parts.now.leaves (omega (arith, end.0, c.requires.some)) c.in-Ok.ensures)))
+    refusal-inactive s r (omega (arith, c.requires.nonempty, long)) (omega (arith, end.0, end.1, long)) end.2
+    (omega (arith, c.if-parts-count.true, c.count.ensures c.args.start c.in_ok-end.end c.args.parts.now.leaves (omega (arith, end.0, c.requires.nonempty)) c.in-Ok.ensures)))
 
 pub layout-layout-requires-clause-inactive : goal.layout-layout-requires-clause-inactive
 layout-layout-requires-clause-inactive g c =
@@ -53,7 +53,7 @@ layout-layout-requires-clause-inactive g c =
     omega (
       arith,
       c.if-parts-count.false,
-      c.count.ensures c.args.start c.in_ok-end.end n (omega (arith, end.0, c.requires.some)) c.in-Ok.ensures,
+      c.count.ensures c.args.start c.in_ok-end.end n (omega (arith, end.0, c.requires.nonempty)) c.in-Ok.ensures,
       few_peaks g.F.Family.rule g.F.Family.MAX_LEAVES g.F.Family.MAX_NODES n g.met.F.Family.lawful end.2,
     )
 
@@ -64,8 +64,8 @@ peak_digests-requires-clause-nodes g c = (
   all_filter _ _ _ (peaks_at g.F.Family.rule g.F.Family.MAX_LEAVES c.args.parts.now.leaves c.in_ok-end.ensures.ok.2),
 )
 
-pub peak_digests-requires-clause-all : goal.peak_digests-requires-clause-all
-peak_digests-requires-clause-all g c =
+pub peak_digests-requires-clause-covered : goal.peak_digests-requires-clause-covered
+peak_digests-requires-clause-covered g c =
     let h = g.H.Hasher.hashing c.args.hasher.now in
     let a = c.args.start in
     let es = c.args.elements.now in
@@ -98,11 +98,11 @@ returns-in_err-peaks-clause-err g c =
     let n_is = subst (λ z. laid.after ≡ count_after z k (length (wholly_before a ts) + length (overlapping a b ts)) (wholly_after b ts)) c.root_bagging.ensures (c.layout-layout.ensures.after a b ts held) in
     let s = scheme_of h bagging g.F.Family.rule g.F.Family.MAX_LEAVES g.F.Family.DOMAIN in
     let r = range_input s c.args.parts.now.leaves k c.args.parts.now.digests.now a (bytes_of c.args.elements.now) in
-    let asked = digests_asked h bagging g.F.Family.rule g.F.Family.MAX_LEAVES g.F.Family.DOMAIN c.args.parts.now.leaves k c.args.parts.now.digests.now a b c.args.elements.now c.requires.some end.0 end.1 laid.before laid.after m_is n_is in
-    let long = element_count h bagging g.F.Family.rule g.F.Family.MAX_LEAVES g.F.Family.DOMAIN c.args.parts.now.leaves k c.args.parts.now.digests.now a b c.args.elements.now c.requires.some end.0 in
-    let some : 0 < length r.elements = omega (arith, c.requires.some, long) in
+    let asked = digests_asked h bagging g.F.Family.rule g.F.Family.MAX_LEAVES g.F.Family.DOMAIN c.args.parts.now.leaves k c.args.parts.now.digests.now a b c.args.elements.now c.requires.nonempty end.0 end.1 laid.before laid.after m_is n_is in
+    let long = element_count h bagging g.F.Family.rule g.F.Family.MAX_LEAVES g.F.Family.DOMAIN c.args.parts.now.leaves k c.args.parts.now.digests.now a b c.args.elements.now c.requires.nonempty end.0 in
+    let some : 0 < length r.elements = omega (arith, c.requires.nonempty, long) in
     let within : end_of r ≤ r.leaves = omega (arith, end.0, end.1, long) in
-    let low : k ≤ length ts = omega (arith, c.if-parts-count.false, c.count.ensures a b c.args.parts.now.leaves (omega (arith, end.0, c.requires.some)) held) in
+    let low : k ≤ length ts = omega (arith, c.if-parts-count.false, c.count.ensures a b c.args.parts.now.leaves (omega (arith, end.0, c.requires.nonempty)) held) in
     rw (p.1, p.2, g.met.H.Hasher.scheme_is c.args.hasher.now) (λ n.
     elim (c.in_err-peaks.ensures.err n (overlapping a b ts) (c.deref-2.ensures.value ∙ held.over) (all_filter _ _ _ (peaks_at g.F.Family.rule g.F.Family.MAX_LEAVES c.args.parts.now.leaves end.2))) [
       | inl x ↦ refusal-missing s r some within end.2 low (omega (arith, x.0, asked)) ∙ ap Some (sym x.1)
@@ -122,7 +122,7 @@ unreachable-requires g c =
     let n_is = subst (λ z. laid.after ≡ count_after z k (length (wholly_before a ts) + length (overlapping a b ts)) (wholly_after b ts)) c.root_bagging.ensures (c.layout-layout.ensures.after a b ts held) in
     let j_is = subst (λ z. laid.inactive ≡ count_inactive z k (wholly_before a ts)) c.root_bagging.ensures (c.layout-layout.ensures.inactive a b ts held) in
     let all = c.in_ok-peaks.peaks.items in
-    let low : k ≤ length ts = omega (arith, c.if-parts-count.false, c.count.ensures a b c.args.parts.now.leaves (omega (arith, end.0, c.requires.some)) held) in
+    let low : k ≤ length ts = omega (arith, c.if-parts-count.false, c.count.ensures a b c.args.parts.now.leaves (omega (arith, end.0, c.requires.nonempty)) held) in
     let leaves_are = leaves_given h g.F.Family.rule a c.args.elements.now c.new-leaves.result.items c.push_leaf_digests.new.digests.items c.deref.result.now c.new-leaves.ensures.items c.in-Ok-push_leaf_digests.ensures c.deref.ensures.value in
     let w = subst (λ (xs : List _). ArePeakDigests h (in_range a b) (leaf_from h a xs) (overlapping a b ts) laid.before laid.after c.args.parts.now.digests.now c.in_ok-peaks.peaks.items) leaves_are
     (c.in_ok-peaks.ensures.ok (overlapping a b ts) (c.deref-2.ensures.value ∙ held.over) (all_filter _ _ _ (peaks_at g.F.Family.rule g.F.Family.MAX_LEAVES c.args.parts.now.leaves end.2))) in
@@ -131,10 +131,10 @@ unreachable-requires g c =
       omega (
         arith,
         same,
-        folds_given h bagging g.F.Family.rule g.F.Family.MAX_LEAVES g.F.Family.DOMAIN c.args.parts.now.leaves k c.args.parts.now.digests.now a b c.args.elements.now c.requires.some end.0 end.1 laid.before laid.after m_is n_is low all w laid.inactive j_is,
+        folds_given h bagging g.F.Family.rule g.F.Family.MAX_LEAVES g.F.Family.DOMAIN c.args.parts.now.leaves k c.args.parts.now.digests.now a b c.args.elements.now c.requires.nonempty end.0 end.1 laid.before laid.after m_is n_is low all w laid.inactive j_is,
       ),
       λ e. absurd (
-          never_empty h bagging g.F.Family.rule g.F.Family.MAX_LEAVES g.F.Family.DOMAIN c.args.parts.now.leaves k c.args.parts.now.digests.now a b c.args.elements.now c.requires.some end.0 end.1 laid.before laid.after m_is n_is all w (sym same ∙ e)),
+          never_empty h bagging g.F.Family.rule g.F.Family.MAX_LEAVES g.F.Family.DOMAIN c.args.parts.now.leaves k c.args.parts.now.digests.now a b c.args.elements.now c.requires.nonempty end.0 end.1 laid.before laid.after m_is n_is all w (sym same ∙ e)),
     )
 
 pub returns-clause-ok : goal.returns-clause-ok
@@ -150,11 +150,11 @@ returns-clause-ok g c =
     let n_is = subst (λ z. laid.after ≡ count_after z k (length (wholly_before a ts) + length (overlapping a b ts)) (wholly_after b ts)) c.root_bagging.ensures (c.layout-layout.ensures.after a b ts held) in
     let j_is = subst (λ z. laid.inactive ≡ count_inactive z k (wholly_before a ts)) c.root_bagging.ensures (c.layout-layout.ensures.inactive a b ts held) in
     let all = c.in_ok-peaks.peaks.items in
-    let low : k ≤ length ts = omega (arith, c.if-parts-count.false, c.count.ensures a b c.args.parts.now.leaves (omega (arith, end.0, c.requires.some)) held) in
+    let low : k ≤ length ts = omega (arith, c.if-parts-count.false, c.count.ensures a b c.args.parts.now.leaves (omega (arith, end.0, c.requires.nonempty)) held) in
     let leaves_are = leaves_given h g.F.Family.rule a c.args.elements.now c.new-leaves.result.items c.push_leaf_digests.new.digests.items c.deref.result.now c.new-leaves.ensures.items c.in-Ok-push_leaf_digests.ensures c.deref.ensures.value in
     let w = subst (λ (xs : List _). ArePeakDigests h (in_range a b) (leaf_from h a xs) (overlapping a b ts) laid.before laid.after c.args.parts.now.digests.now c.in_ok-peaks.peaks.items) leaves_are
     (c.in_ok-peaks.ensures.ok (overlapping a b ts) (c.deref-2.ensures.value ∙ held.over) (all_filter _ _ _ (peaks_at g.F.Family.rule g.F.Family.MAX_LEAVES c.args.parts.now.leaves end.2))) in
-    rw (g.met.H.Hasher.scheme_is c.args.hasher.now) (computed h bagging g.F.Family.rule g.F.Family.MAX_LEAVES g.F.Family.DOMAIN c.args.parts.now.leaves k c.args.parts.now.digests.now a b c.args.elements.now c.requires.some end.0 end.1 laid.before laid.after m_is n_is
+    rw (g.met.H.Hasher.scheme_is c.args.hasher.now) (computed h bagging g.F.Family.rule g.F.Family.MAX_LEAVES g.F.Family.DOMAIN c.args.parts.now.leaves k c.args.parts.now.digests.now a b c.args.elements.now c.requires.nonempty end.0 end.1 laid.before laid.after m_is n_is
     end.2 low all w laid.inactive j_is c.in-Some.root
     (c.in-Some.ensures.1 ∙ ap (λ s. peaks_root s c.args.parts.now.leaves laid.inactive k c.deref-3.result.now) (g.met.H.Hasher.scheme_is c.args.hasher.now) ∙ ap (peaks_root (scheme_of h bagging g.F.Family.rule g.F.Family.MAX_LEAVES g.F.Family.DOMAIN) c.args.parts.now.leaves laid.inactive k) c.deref-3.ensures.value))
 
@@ -184,5 +184,5 @@ returns-clause-taken g c =
     let y = subst (λ (xs : List _). g.C.Collector.Took c.put_before.new.collector (over_pairs h (in_range a b) (leaf_from h a xs) (overlapping a b ts) (drop (laid.before + laid.after) given)) c.peak_digests.new.collector) leaves_are
     (c.in_ok-peaks.ensures.taken (overlapping a b ts) (c.deref-2.ensures.value ∙ held.over) (all_filter _ _ _ (peaks_at g.F.Family.rule g.F.Family.MAX_LEAVES c.args.parts.now.leaves end.2))) in
     let z = c.in-Ok-put_after.ensures h a b ts (single_after bagging k met after) held (after_taken bagging k met after ∙ ap (λ n. take n after) (sym q_is)) (omega (arith, w.count, n_is)) in
-    rw (g.met.H.Hasher.scheme_is c.args.hasher.now) (all_put h bagging g.F.Family.rule g.F.Family.MAX_LEAVES g.F.Family.DOMAIN c.args.parts.now.leaves k given a b c.args.elements.now c.requires.some end.0 end.1 laid.before laid.after m_is n_is
+    rw (g.met.H.Hasher.scheme_is c.args.hasher.now) (all_put h bagging g.F.Family.rule g.F.Family.MAX_LEAVES g.F.Family.DOMAIN c.args.parts.now.leaves k given a b c.args.elements.now c.requires.nonempty end.0 end.1 laid.before laid.after m_is n_is
     g.C.Collector.Took g.met.C.Collector.took_both _ _ _ _ x y z)

@@ -7,7 +7,7 @@ loop-position-init g c =
     let e = c.into_iter-position-iterator.ensures.into_iter_gives in (
       g.met.F.Peaks.Listed.may_go c.into_iter-position-iterator.result,
       g.met.F.Peaks.Listed.ends c.into_iter-position-iterator.result,
-      pass_begins _ _ _ _ _ _ c.requires.small (ap g.F.Peaks.Listed.left e ∙ c.peaks-position-items.ensures c.args.leaves c.requires.small (sym c.location_to_position.ensures)) c.new-first_leaf.ensures c.new-peaks.ensures.items,
+      pass_begins _ _ _ _ _ _ c.requires.within_max_leaves (ap g.F.Peaks.Listed.left e ∙ c.peaks-position-items.ensures c.args.leaves c.requires.within_max_leaves (sym c.location_to_position.ensures)) c.new-first_leaf.ensures c.new-peaks.ensures.items,
     )
 
 pub leaf_end-first_leaf-requires : goal.leaf_end-first_leaf-requires

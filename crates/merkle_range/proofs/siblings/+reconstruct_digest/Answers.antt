@@ -30,18 +30,18 @@ sub-index-requires g t c = let n = c.requires.node in
 pub offset_bounds-leaves-as_u64 : goal.offset_bounds-leaves-as_u64
 offset_bounds-leaves-as_u64 g t c = let n = c.requires.node in
     let l = leaf_in_range _ _ _ _ _ _ _ n.0 n.1 c.if-subtree-eq0.true (not-false _ (sym (c.is_outside.ensures n.0 n.1) ∙ c.if-is_outside.false)) in
-    omega (arith, c.as_u64.ensures, c.sub-index.ensures, c.requires.all, l.0, l.1)
+    omega (arith, c.as_u64.ensures, c.sub-index.ensures, c.requires.covered, l.0, l.1)
 
 pub bounds-leaves-as_u64 : goal.bounds-leaves-as_u64
 bounds-leaves-as_u64 g t c = let n = c.requires.node in
     let l = leaf_in_range _ _ _ _ _ _ _ n.0 n.1 c.if-subtree-eq0.true (not-false _ (sym (c.is_outside.ensures n.0 n.1) ∙ c.if-is_outside.false)) in
-    omega (arith, c.as_u64.ensures, c.sub-index.ensures, c.requires.all, l.0, l.1)
+    omega (arith, c.as_u64.ensures, c.sub-index.ensures, c.requires.covered, l.0, l.1)
 
 pub returns-then-subtree-eq0-clause-ok : goal.returns-then-subtree-eq0-clause-ok
 returns-then-subtree-eq0-clause-ok g t c = λ u w.
     let met = not-false _ (sym (c.is_outside.ensures u w) ∙ c.if-is_outside.false) in
     let l = leaf_in_range _ _ _ _ _ _ _ u w c.if-subtree-eq0.true met in
-    walked_leaf _ _ _ _ _ (g.H.Hasher.hashing c.args.hasher.now) _ _ c.args.leaves.now u w c.if-subtree-eq0.true met _ _ _ (omega (arith, c.as_u64.ensures, c.sub-index.ensures, c.requires.all, l.0, l.1)) c.index-leaves-as_u64.is (c.as_u64.ensures ∙ c.sub-index.ensures)
+    walked_leaf _ _ _ _ _ (g.H.Hasher.hashing c.args.hasher.now) _ _ c.args.leaves.now u w c.if-subtree-eq0.true met _ _ _ (omega (arith, c.as_u64.ensures, c.sub-index.ensures, c.requires.covered, l.0, l.1)) c.index-leaves-as_u64.is (c.as_u64.ensures ∙ c.sub-index.ensures)
 
 pub children-left-requires : goal.children-left-requires
 children-left-requires g t c = let n = c.requires.node in inner_node _ _ _ _ _ n.0 n.1 c.if-subtree-eq0.false
@@ -51,7 +51,7 @@ reconstruct_digest-requires g t c κs within =
     let n = c.requires.node in
     let i = inner_node _ _ _ _ _ n.0 n.1 c.if-subtree-eq0.false in
     let k = c.children-left.ensures i.0 i.1 i.2 i.3 in
-    (omega (arith, lower _ _ _ _ _ _ _ _ _ _ _ _ i.3 k.0 (inl refl), c.decreases), (within.0, (within.1.0, (within.1.1.0, (within.1.1.1.0, (within.1.1.1.1.0, (within.1.1.1.1.1, ((i.1, k.0), (c.requires.some, c.requires.all)))))))))
+    (omega (arith, lower _ _ _ _ _ _ _ _ _ _ _ _ i.3 k.0 (inl refl), c.decreases), (within.0, (within.1.0, (within.1.1.0, (within.1.1.1.0, (within.1.1.1.1.0, (within.1.1.1.1.1, ((i.1, k.0), (c.requires.nonempty, c.requires.covered)))))))))
 
 pub returns-in_err-first-clause-err : goal.returns-in_err-first-clause-err
 returns-in_err-first-clause-err g t c =
@@ -68,7 +68,7 @@ reconstruct_digest-requires-2 g t c κs within =
     let n = c.requires.node in
     let i = inner_node _ _ _ _ _ n.0 n.1 c.if-subtree-eq0.false in
     let k = c.children-left.ensures i.0 i.1 i.2 i.3 in
-    (omega (arith, lower _ _ _ _ _ _ _ _ _ _ _ _ i.3 k.1 (inr (heights_same _ _ _ g.met.F.Family.lawful _ _ _ _ _ _ i.3)), c.decreases), (within.0, (within.1.0, (within.1.1.0, (within.1.1.1.0, (within.1.1.1.1.0, (within.1.1.1.1.1, ((i.2, k.1), (c.requires.some, c.requires.all)))))))))
+    (omega (arith, lower _ _ _ _ _ _ _ _ _ _ _ _ i.3 k.1 (inr (heights_same _ _ _ g.met.F.Family.lawful _ _ _ _ _ _ i.3)), c.decreases), (within.0, (within.1.0, (within.1.1.0, (within.1.1.1.0, (within.1.1.1.1.0, (within.1.1.1.1.1, ((i.2, k.1), (c.requires.nonempty, c.requires.covered)))))))))
 
 pub returns-in_err-second-clause-err : goal.returns-in_err-second-clause-err
 returns-in_err-second-clause-err g t c =
@@ -106,5 +106,5 @@ returns-then-subtree-eq0-clause-taken g t c = λ u w.
 
 pub returns-then-is_inside-clause-ok : goal.returns-then-is_inside-clause-ok
 returns-then-is_inside-clause-ok g t c = λ u w.
-    walked_inside g.F.Family.rule g.F.Family.MAX_LEAVES (g.H.Hasher.hashing c.args.hasher.now) c.args.range.now.start c.args.leaves.now c.args.range.now.end c.requires.all c.args.subtree.now u w
-    (c.is_inside.ensures.given u w c.if-is_inside.true) (c.is_inside.ensures.none u w c.if-is_inside.true) c.in-Ok.digest c.in-Ok.ensures c.args.digests.now.now
+    walked_inside g.F.Family.rule g.F.Family.MAX_LEAVES (g.H.Hasher.hashing c.args.hasher.now) c.args.range.now.start c.args.leaves.now c.args.range.now.end c.requires.covered c.args.subtree.now u w
+    (c.is_inside.ensures.inside u w c.if-is_inside.true) (c.is_inside.ensures.none u w c.if-is_inside.true) c.in-Ok.digest c.in-Ok.ensures c.args.digests.now.now

@@ -4,8 +4,8 @@ use Rattle.merkle_hasher.proofs.Comparisons.{le_yes, ge_yes}
 use Rattle.merkle_root_theory.proofs.Walks.{siblings_inside}
 use Rattle.merkle_range.proofs.siblings.is_inside.Goals as goal
 
-pub returns-then-ge-clause-given : goal.returns-then-ge-clause-given
-returns-then-ge-clause-given g c = λ t w e.
+pub returns-then-ge-clause-inside : goal.returns-then-ge-clause-inside
+returns-then-ge-clause-inside g c = λ t w e.
     let l = ge_yes c.args.subtree.now.first_leaf c.args.range.now.start (sym c.ge.ensures ∙ c.if-ge.true) in
     let u = le_yes c.leaf_end.result c.args.range.now.end (sym c.le.ensures ∙ e) in
     (omega (arith, w.first_is, l), omega (arith, c.leaf_end.ensures t w, u))

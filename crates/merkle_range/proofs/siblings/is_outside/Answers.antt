@@ -22,6 +22,6 @@ returns-else-le g c = λ t w.
     let s = c.args.subtree.now.first_leaf in
     let x = le_no c.leaf_end.result c.args.range.now.start (sym c.le.ensures ∙ c.if-le.false) in
     ⊎_elim
-    (λ y. c.ge.ensures ∙ ge_if_not s b y ∙ ap not (sym (meets_yes a b _ t h (omega (arith, w.first_is, y)) (omega (arith, l, x)) c.requires.some)))
+    (λ y. c.ge.ensures ∙ ge_if_not s b y ∙ ap not (sym (meets_yes a b _ t h (omega (arith, w.first_is, y)) (omega (arith, l, x)) c.requires.nonempty)))
     (λ y. c.ge.ensures ∙ ge_if s b y ∙ ap not (sym (meets_not a b _ t h (inr (omega (arith, w.first_is, y))))))
     (cases_lt s b)

@@ -19,7 +19,7 @@ loop-height-init g c =
       g.met.F.ParentHeights.Listed.may_go c.into_iter-height-iterator.result,
       g.met.F.ParentHeights.Listed.ends c.into_iter-height-iterator.result,
       c.push.ensures.only,
-      c.requires.few,
+      c.requires.at_most_64_levels,
       ([], ap g.F.ParentHeights.Listed.left c.into_iter-height-iterator.ensures.into_iter_gives ∙ c.parent_heights-height-items.ensures, omega (arith, end)),
       subst (λ (q : ℕ). AreAdded rule g.F.Family.MAX_LEAVES (size rule c.args.leaf) q c.args.levels.now.items c.args.levels.now.items) (sym end) (added_leaf rule g.F.Family.MAX_LEAVES c.args.leaf c.args.levels.now.items),
       ([], items),
@@ -64,7 +64,7 @@ loop-height-preserved g c =
       g.met.F.ParentHeights.Listed.may_go c.next.new.self,
       g.met.F.ParentHeights.Listed.ends c.next.new.self,
       (more.0 ∙ only.0, more.1 ∙ only.1, more.2 ∙ only.2),
-      c.in_ok-push_node.ensures.few,
+      c.in_ok-push_node.ensures.at_most_64_levels,
       (
         k.0 ++ c.in-Some.height ∷ [],
         append_assoc k.0 (c.in-Some.height ∷ []) left ∙ heights,

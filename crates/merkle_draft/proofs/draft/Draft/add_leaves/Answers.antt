@@ -14,7 +14,7 @@ loop-digest-init g c =
     let none : length start.appended ≡ 0 = ap length c.requires.nothing in (
       omega arith,
       (refl, refl, refl),
-      c.requires.few,
+      c.requires.at_most_64_levels,
       omega (arith, none, c.requires.sized),
       λ i d l. absurd (omega arith),
       subst (λ (q : ℕ). AreAdded rule g.F.Family.MAX_LEAVES start.before q c.args.levels.now.items c.args.levels.now.items) (sym c.requires.sized) (added_nothing rule g.F.Family.MAX_LEAVES start.before c.args.levels.now.items),
@@ -50,7 +50,7 @@ loop-digest-preserved g c =
     let one : i + 1 ≡ suc i = omega arith in (
       omega (arith, next, c.loop-digest.invariant.0),
       (more.0 ∙ only.0, more.1 ∙ only.1, more.2 ∙ only.2),
-      c.add_leaf.ensures.few,
+      c.add_leaf.ensures.at_most_64_levels,
       c.in_ok-add_leaf.ensures.counted ∙ ap (size rule) (sym next),
       λ j d l. places_kept rule c.args.leaves start.before i c.args.added.now self.appended new.appended placed.0 digest there placed.1 stands c.loop-digest.invariant.4 j d (omega (arith, l)),
       subst (λ (n : ℕ). AreAdded rule max start.before (size rule n) c.args.levels.now.items c.add_leaf.new.levels.items) (sym next)

@@ -10,8 +10,8 @@ use Rattle.merkle_draft.specs.NewDigests.{AreNewDigests, LacksNeeded}
 use Rattle.merkle_draft.proofs.Computing.{all_settled, few_computed, listed_below, listed_inner, no_leaf_past, on_ok, on_ok_always, ready_to_compute}
 use Rattle.merkle_draft.proofs.draft.Draft.compute.Goals as goal
 
-pub compute_levels-requires-clause-few : goal.compute_levels-requires-clause-few
-compute_levels-requires-clause-few g c =
+pub compute_levels-requires-clause-fits : goal.compute_levels-requires-clause-fits
+compute_levels-requires-clause-fits g c =
     let m = get {R = nat_cmp} (from_entries c.args.updates.now.entries) in
     let listed = c.deref.ensures.value ∙ c.in_ok-updates.ensures.listed c.args.leaves c.requires.of in
     let total = ap (λ ls. length (from_height ls 0)) c.deref-2.ensures.value ∙ c.in_ok-plan.ensures.total m listed in

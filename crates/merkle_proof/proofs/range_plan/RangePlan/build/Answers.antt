@@ -13,7 +13,7 @@ use Rattle.merkle_proof.proofs.range_plan.RangePlan.build.Goals as goal
 pub overflow_sub-self-inside : goal.overflow_sub-self-inside
 overflow_sub-self-inside g c =
     let i = c.self.invariant in
-    omega (arith, i.peaks_are, i.after_are, length-peaks_of g.F.Family.rule c.self.inside.leaves c.self.inside.range.start c.self.inside.range.end i.some)
+    omega (arith, i.peaks_are, i.after_are, length-peaks_of g.F.Family.rule c.self.inside.leaves c.self.inside.range.start c.self.inside.range.end i.nonempty)
 
 pub returns-clause-err : goal.returns-clause-err
 returns-clause-err g c = λ other.
@@ -53,4 +53,4 @@ returns-in-Ok-clause-honest g c = λ xs long right.
     _ _ _ _ c.deref.ensures.value c.deref-2.ensures.value c.deref-3.ensures.value c.deref-4.ensures.value in
     let at : length xs ≡ n = long ∙ sym (ap (λ (r : LeafRange). r.leaves) c.self.view_is) in
     rw (g.met.H.Hasher.scheme_is c.args.hasher.now) (subst (λ (r : LeafRange). IsHonestRange s xs c.args.inactive (list_input p xs r.start r.end)) c.self.view_is
-    (is_honest s (given.G-post g c.args.get_node) p c.args.inactive n a b refl refl few _ _ _ _ runs c.in-Ok.ensures.ok i.some i.within xs at right))
+    (is_honest s (given.G-post g c.args.get_node) p c.args.inactive n a b refl refl few _ _ _ _ runs c.in-Ok.ensures.ok i.nonempty i.within xs at right))

@@ -10,14 +10,14 @@ use Rattle.merkle_proof.proofs.range_plan.RangePlan.counts.Goals as goal
 pub overflow_sub-self-inside : goal.overflow_sub-self-inside
 overflow_sub-self-inside g c =
     let i = c.self.invariant in
-    omega (arith, i.peaks_are, i.after_are, length-peaks_of g.F.Family.rule c.self.inside.leaves c.self.inside.range.start c.self.inside.range.end i.some)
+    omega (arith, i.peaks_are, i.after_are, length-peaks_of g.F.Family.rule c.self.inside.leaves c.self.inside.range.start c.self.inside.range.end i.nonempty)
 
 pub returns : goal.returns
 returns g c =
     let i = c.self.invariant in let rule = g.F.Family.rule in
     let n = c.self.inside.leaves in let a = c.self.inside.range.start in let b = c.self.inside.range.end in
     let ts = peaks_of rule n in let olds = wholly_before a ts in let news = wholly_after b ts in
-    let met_is : c.self.inside.peaks - c.self.inside.after ≡ length olds + length (overlapping a b ts) = omega (arith, i.peaks_are, i.after_are, length-peaks_of rule n a b i.some) in
+    let met_is : c.self.inside.peaks - c.self.inside.after ≡ length olds + length (overlapping a b ts) = omega (arith, i.peaks_are, i.after_are, length-peaks_of rule n a b i.nonempty) in
     record {
       before = subst (λ (r : LeafRange). c.self.inside.before ≡ length (wholly_before r.start (peaks_of rule r.leaves))) c.self.view_is i.before_are;
       after = subst (λ (r : LeafRange). c.self.inside.after ≡ length (wholly_after r.end (peaks_of rule r.leaves))) c.self.view_is i.after_are;

@@ -12,9 +12,9 @@ invariant_of-result g c =
     let less : a < b = search rules in
     let few : n ≤ g.F.Family.MAX_LEAVES = search rules in
     record {
-      some = less;
+      nonempty = less;
       within = search rules;
-      small = few;
+      within_max_leaves = few;
       peaks_are = c.count-peaks.ensures a b n less held;
       before_are = held.before;
       after_are = c.after-after.ensures a b (peaks_of g.F.Family.rule n) held;

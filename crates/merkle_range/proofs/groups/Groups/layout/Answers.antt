@@ -11,8 +11,8 @@ use Rattle.merkle_range.proofs.groups.Groups.layout.Goals as goal
 pub after-requires : goal.after-requires
 after-requires g c = let w = c.requires.groups in (w.0, w.1, peaks_of g.F.Family.rule w.2, w.5)
 
-pub new-requires-clause-few : goal.new-requires-clause-few
-new-requires-clause-few g c =
+pub new-requires-clause-at_most_64_peaks : goal.new-requires-clause-at_most_64_peaks
+new-requires-clause-at_most_64_peaks g c =
     let w = c.requires.groups in let ts = peaks_of g.F.Family.rule w.2 in
     omega (
       arith,

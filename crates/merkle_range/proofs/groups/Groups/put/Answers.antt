@@ -15,8 +15,8 @@ returns-in_ok-push g c = λ done t w none held.
     let l = le_yes c.leaf_end.result a (sym c.le.ensures ∙ c.if-le.true) in
     let later = none (omega (arith, e, l)) in
     let before = wholly_before a (done ++ t ∷ []) in let after = wholly_after b (done ++ t ∷ []) in
-    let last : after ≡ [] = after_no a b done t (omega (arith, e, l, c.requires.some)) ∙ later in
-    let outside = push_position _ _ c.args.peak t w _ _ _ _ c.in_ok-push.ensures.items held.outside (outside_before a b done t (omega (arith, e, l)) c.requires.some later) in
+    let last : after ≡ [] = after_no a b done t (omega (arith, e, l, c.requires.nonempty)) ∙ later in
+    let outside = push_position _ _ c.args.peak t w _ _ _ _ c.in_ok-push.ensures.items held.outside (outside_before a b done t (omega (arith, e, l)) c.requires.nonempty later) in
     record {
       before = omega (arith, c.len-self.ensures, ap length outside, length-map (before ++ after) position, length-append before after, ap length last);
       over = held.over ∙ ap (map subtree_of) (sym (over_no_before a b done t (omega (arith, e, l))));

@@ -30,8 +30,8 @@ keep-requires-clause-within g c =
     let ok = accepted_some s r c.args.root.now c.in-Ok.ensures.ok.0 (omega (arith, count, some)) in
     omega (arith, ok.within, count, c.add-end.ensures)
 
-pub keep-requires-clause-small : goal.keep-requires-clause-small
-keep-requires-clause-small g c =
+pub keep-requires-clause-within_max_leaves : goal.keep-requires-clause-within_max_leaves
+keep-requires-clause-within_max_leaves g c =
     let s = g.H.Hasher.scheme c.args.hasher.now in let es = c.args.elements.now in let a = c.args.start in
     let r = input_of s c.args.proof.now a (bytes_of es) in
     let count : length r.elements ≡ length es = length-leaf_digests s.hashing s.rule a (bytes_of es) ∙ length-map es (λ e. e.now) in

@@ -2,7 +2,7 @@ use Rattle.std.proofs.Common.{◌≡◌, [], false, IsTrue, Result, Ok, Err, ap,
 use Rattle.merkle_root_theory.specs.Reconstruction.{reconstructed}
 use Rattle.merkle_range.specs.Input.{range_input}
 use Rattle.merkle_proof.proofs.ScatteredRoot.{empty_accepted}
-use Rattle.merkle_proof.proofs.multi_checks.verify_none.Goals as goal
+use Rattle.merkle_proof.proofs.multi_checks.verify_empty.Goals as goal
 
 never : IsTrue false → ⊥
 never e = cc

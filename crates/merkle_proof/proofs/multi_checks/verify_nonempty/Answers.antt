@@ -9,7 +9,7 @@ use Rattle.merkle_proof.specs.Confirmed.{EachHolds, locations_of}
 use Rattle.merkle_proof.specs.Input.{multi_input, element_leaves}
 use Rattle.merkle_proof.specs.MultiPositions.{AreLocations}
 use Rattle.merkle_proof.proofs.ScatteredRoot.{PeaksAre, within_limit, locations_given, some_given, accepted_locations, accepted_count, accepted_each, accepted_root, accepts}
-use Rattle.merkle_proof.proofs.multi_checks.verify_some.Goals as goal
+use Rattle.merkle_proof.proofs.multi_checks.verify_nonempty.Goals as goal
 
 never : IsTrue false → ⊥
 never e = cc
@@ -23,7 +23,7 @@ returns-in_default-read g c =
     let elements = c.args.elements.now in
     let s = scheme_of h (g.H.Hasher.bagging_of c.args.hasher.now) rule g.F.Family.MAX_LEAVES g.F.Family.DOMAIN in
     let r = multi_input s n c.args.parts.now.inactive digests elements in
-    let some : 0 < length r.elements = some_given h rule elements c.requires.some in
+    let some : 0 < length r.elements = some_given h rule elements c.requires.nonempty in
     let root = c.args.root.now in
     let located = locations_given h rule elements in
     let none : IsNone c.in-Ok.read = search rules in
@@ -39,7 +39,7 @@ returns-then-len-parts g c =
     let elements = c.args.elements.now in
     let s = scheme_of h (g.H.Hasher.bagging_of c.args.hasher.now) rule g.F.Family.MAX_LEAVES g.F.Family.DOMAIN in
     let r = multi_input s n c.args.parts.now.inactive digests elements in
-    let some : 0 < length r.elements = some_given h rule elements c.requires.some in
+    let some : 0 < length r.elements = some_given h rule elements c.requires.nonempty in
     let root = c.args.root.now in
     let located = locations_given h rule elements in
     let positions : c.in-Some.positions.items ≡ multi_positions rule n (map (λ e. e.1) elements) = search rules in
@@ -69,7 +69,7 @@ returns-in_default-confirmed g c =
     let elements = c.args.elements.now in
     let s = scheme_of h (g.H.Hasher.bagging_of c.args.hasher.now) rule g.F.Family.MAX_LEAVES g.F.Family.DOMAIN in
     let r = multi_input s n c.args.parts.now.inactive digests elements in
-    let some : 0 < length r.elements = some_given h rule elements c.requires.some in
+    let some : 0 < length r.elements = some_given h rule elements c.requires.nonempty in
     let root = c.args.root.now in
     let located = locations_given h rule elements in
     let positions : c.in-Some.positions.items ≡ multi_positions rule n (map (λ e. e.1) elements) = search rules in
@@ -93,7 +93,7 @@ returns-in-Some-root_with_folded_peaks g c =
     let elements = c.args.elements.now in
     let s = scheme_of h (g.H.Hasher.bagging_of c.args.hasher.now) rule g.F.Family.MAX_LEAVES g.F.Family.DOMAIN in
     let r = multi_input s n c.args.parts.now.inactive digests elements in
-    let some : 0 < length r.elements = some_given h rule elements c.requires.some in
+    let some : 0 < length r.elements = some_given h rule elements c.requires.nonempty in
     let root = c.args.root.now in
     let located = locations_given h rule elements in
     let positions : c.in-Some.positions.items ≡ multi_positions rule n (map (λ e. e.1) elements) = search rules in
