@@ -86,7 +86,7 @@ module _ {D : Type 0} (bytes : D → List ℕ) (size : ℕ) (sized : (x : D) →
       let later = number_spelling p.inactive_peaks ++ left in
       let first = IsRefusalFrom_after max_leaves Invalid (λ _. at_inactive) b e h fits p.leaves later within.leaves whole in
       let second = IsRefusalFrom_after (2 ^ 64 - 1) Invalid (λ _. at_count) later e first below p.inactive_peaks left fewer refl in
-      let third = IsRefusalFrom_after limit TooMany (IsDigestsRefusal size Spells) left e second within.small (length ds) bs within.digests refl in
+      let third = IsRefusalFrom_after limit TooMany (IsDigestsRefusal size Spells) left e second within.limit_fits (length ds) bs within.digests refl in
       digests_not_refused Spells spell ds rest e third
 
   -- a proof has one spelling, and no spelling begins another

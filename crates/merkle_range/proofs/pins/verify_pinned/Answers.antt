@@ -101,9 +101,9 @@ is_before_rebuilt-requires g c =
     let ok = some_accepted s r pins root some accepted in
     let fits = fitting h bagging rule most domain p.leaves p.inactive c.args.start p.digests.now c.args.elements.now s is root ok c.add.result c.add.ensures in
     record {
-      some = omega (arith, given, c.add.ensures);
+      nonempty = omega (arith, given, c.add.ensures);
       within = fits.within;
-      small = fits.small;
+      within_max_leaves = fits.small;
       inactive = fits.inactive_few;
       count = fits.counted;
     }
