@@ -51,4 +51,4 @@ returns g c = λ given held.
     subst (λ a. IsRequestAnswered (scheme_of h c.args.self.now.hasher g.F.Family.rule g.F.Family.MAX_LEAVES g.F.Family.DOMAIN) g.H.Digest.Digest.SIZE g.H.Digest.Digest.Spells given (Prove a c.args.end c.args.inactive) given (string_bytes c.in-Ok-write_hex.value)) c.new.ensures
     (subst (λ b. IsRequestAnswered (scheme_of h c.args.self.now.hasher g.F.Family.rule g.F.Family.MAX_LEAVES g.F.Family.DOMAIN) g.H.Digest.Digest.SIZE g.H.Digest.Digest.Spells given (Prove c.new.result b c.args.inactive) given (string_bytes c.in-Ok-write_hex.value)) c.new-2.ensures
     (prove_told (scheme_of h c.args.self.now.hasher g.F.Family.rule g.F.Family.MAX_LEAVES g.F.Family.DOMAIN) g.H.Digest.Digest.SIZE g.H.Digest.Digest.Spells given (node old.committed) here old.committed.leaves held.counted (omega (arith, held.counted, held.bounded)) c.new.result c.new-2.result c.args.inactive
-    p.leaves p.inactive_peaks p.digests.items _ honest.0 (omega (arith, honest.1, counted)) (parts.0 ∙ counted ∙ sym held.counted) parts.1 c.in-Ok.ensures.built.2.few parts.2 text))
+    p.leaves p.inactive_peaks p.digests.items _ honest.0 (omega (arith, honest.1, counted)) (parts.0 ∙ counted ∙ sym held.counted) parts.1 c.in-Ok.ensures.built.2.enough_peaks parts.2 text))
