@@ -86,7 +86,7 @@ impl Log {
         Ok(granted!(self.tree.root(&self.hasher, 0)))
     }
 
-    /// The digests of the peaks over the first so many entries.
+    /// The digests of the peaks over the first `count` entries.
     fn pins(&self, count: Location) -> Result<Vec<Sha256Digest>, LogError> {
         let mut pins = Vec::new(self.alloc);
         if count.is_valid() {

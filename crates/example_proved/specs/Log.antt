@@ -43,12 +43,12 @@ pub record IsHonestFor {D : Type 0} (s : Scheme D) (r : RangeInput D) (entries :
   pub inactive_peaks : r.inactive ≡ inactive
   pub digests : r.digests ≡ range_digests s (leaves_of s entries) inactive r.start (r.start + 1)
 
--- the digests of the peaks over the first so many entries give this root
+-- the digests of the peaks over the first `leaves` entries give this root
 pub record GivesRoot {D : Type 0} (s : Scheme D) (root : D) (leaves inactive : ℕ) (peaks : List D) : Type 0 where
   pub enough : inactive ≤ length peaks
   pub root_is : peaks_root s leaves inactive inactive peaks ≡ root
 
--- the log begins with so many entries that have the old root, and the added ones, or twins of them, follow
+-- the log begins with `leaves` entries that have the old root, and the added ones, or twins of them, follow
 pub record Extends {D : Type 0} (s : Scheme D) (old_root : D) (leaves inactive : ℕ) (added entries : List (List ℕ)) : Type 0 where
   pub long : leaves ≤ length entries
   pub before : IsLogOf s old_root (take leaves entries) inactive

@@ -38,7 +38,7 @@ root_string h domain bagging leaves inactive None = domain ∷ bagging_byte bagg
 root_string h domain bagging leaves inactive (Some d) =
     domain ∷ bagging_byte bagging ∷ to_be_bytes w64 leaves ++ (inactive_bytes inactive ++ h.bytes d)
 
--- the root over the digests of peaks, of which the first so many are folded apart, with an inactive count written
+-- the root over the digests of peaks, of which the first `to_fold` are folded apart, with an inactive count written
 abbrev pub peaks_root : {D : Type 0} → Scheme D → (leaves to_fold inactive : ℕ) → List D → D
 peaks_root s leaves to_fold inactive peaks =
     s.hashing.hash (root_string s.hashing s.domain s.bagging leaves inactive (folded s.hashing.fold s.bagging to_fold peaks))

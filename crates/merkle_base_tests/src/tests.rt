@@ -58,7 +58,7 @@ fn assert_refusals<F: Family>(
     assert!(rt; found == [true; 3]);
 }
 
-/// Whether these are the positions and heights of the maximal nodes inside a chunk of so many leaves, left to right.
+/// Whether these are the positions and heights of the maximal nodes inside a chunk of leaves, left to right.
 fn has_chunk<F: Graftable>(
     leaves: u64,
     chunk_idx: u64,

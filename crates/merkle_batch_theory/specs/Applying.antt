@@ -1,4 +1,4 @@
--- What an accepted batch tells: the list at which it was accepted.
+-- What is known of an accepted batch: the list at which it was accepted.
 use Rattle.std.specs.Prelude.{◌≡◌, ℕ, Bool, List, length, Some, slice_get}
 use Rattle.merkle_base.specs.Hashing.{Hashing, EqDecides}
 use Rattle.merkle_base.specs.Digests.{peak_digests}

@@ -4,12 +4,13 @@ use Rattle.merkle_base.specs.Forest.{size}
 use Rattle.merkle_batch_theory.specs.Contents.{HoldsKept}
 use Rattle.merkle_batch_theory.specs.Held.{Held, held_contents}
 
--- so many leaves, within the limit, have so many nodes
+-- the leaf count is within the limit, and `nodes` is its size in nodes
 pub record HasLeafCount (rule : List ℕ → List ℕ) (max_leaves leaves nodes : ℕ) : Type 0 where
   pub bounded : leaves ≤ max_leaves
   pub sized : size rule leaves ≡ nodes
 
--- so many leaves, pruned to the boundary, have the nodes held: from the boundary's position on all, and before it those that are kept
+-- the nodes held are those of a structure of `leaves` leaves that was pruned to the boundary: all from the boundary's position on, and before it
+-- those that are kept
 pub record IsMemValid {D : Type 0} (rule : List ℕ → List ℕ) (max_leaves boundary leaves : ℕ) (held : Held D) : Type 0 where
   pub starts : held.start ≡ size rule boundary
   pub within : boundary ≤ leaves

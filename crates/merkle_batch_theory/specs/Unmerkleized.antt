@@ -66,7 +66,7 @@ abbrev pub first_fault : {D : Type 0} → (List ℕ → List ℕ) → Unmerkleiz
 first_fault rule p [] = None
 first_fault rule p (u ∷ us) = option_or (update_fault rule p u.0) (first_fault rule p us)
 
--- the batch without so many more of its parent's oldest ancestors
+-- the batch without n more of its parent's oldest ancestors
 abbrev pub without_ancestors : {D : Type 0} → UnmerkleizedModel D → ℕ → UnmerkleizedModel D
 without_ancestors p n = record p { forgotten = min (p.forgotten + n) (length p.parent.ancestors) }
 

@@ -306,7 +306,7 @@ fn range_elements<'a>(elements: &'a [&'a [u8]], start: u64) -> Result<&'a [&'a [
     }
 }
 
-// The digests of the peaks over the first so many leaves of a structure, oldest first.
+// The digests of the peaks of the first leaves of a structure, oldest first.
 fn pins_of<F: Family, D: Digest>(
     alloc: Global,
     structure: &Mem<F, D>,

@@ -19,7 +19,7 @@ pub enum Halt {
     Refused,
 }
 
-/// What was measured: so many units of work, and the least time of the rounds.
+/// What was measured: a number of units of work, and the least time of the rounds.
 #[derive(Clone, Copy)]
 struct Row {
     tree: &'static str,
@@ -88,7 +88,7 @@ impl<'a, C: CpuClock> Stopwatch<'a, C> {
             .position(|row| row.tree == tree && row.work == work)
     }
 
-    /// Notes that so many units of work took the time since `start`. A failure is remembered.
+    /// Notes that `units` units of work took the time since `start`. A failure is remembered.
     pub fn note(&mut self, tree: &'static str, work: &'static str, units: u64, start: Duration) {
         let spent = self.now().saturating_sub(start).as_nanos();
         if let Some(i) = self.place(tree, work)

@@ -113,7 +113,7 @@ impl<H: PlainHasher> Stores<H> {
         Ok(())
     }
 
-    // The digests that the proof tells, several times. They are let go.
+    // Collects the digests of the proof several times, and drops them.
     fn extractions<F: Family, C: CpuClock>(
         &self,
         watch: &mut Stopwatch<C>,
@@ -232,13 +232,13 @@ impl<H: PlainHasher> Stores<H> {
     }
 }
 
-// A range from a third of so many leaves on.
+// A range that begins after a third of the leaves.
 fn middle(leaves: u64) -> Range<u64> {
     let start = leaves / 3;
     start..start.saturating_add(MOST_IN_STORE).min(leaves)
 }
 
-// Parts of a range, of at most so many leaves each, that begin where some numbers say.
+// Parts of a range, each of a limited number of leaves, that begin at given locations.
 fn parts_of(
     alloc: Global,
     within: &Range<u64>,

@@ -213,7 +213,7 @@ impl<H: PlainHasher> Trees<H> {
         Ok(())
     }
 
-    // The positions of so many leaves.
+    // The positions of the leaves.
     fn leaf_positions<F: Family>(&self, leaves: u64) -> Result<Vec<Position<F>>, Halt> {
         let mut positions = Vec::new(self.alloc);
         for leaf in 0..leaves {

@@ -18,7 +18,7 @@ pub struct Workload {
 }
 
 impl Workload {
-    /// Work at so many leaves, which are at least 1, and so many rounds.
+    /// Work over a number of leaves, at least 1, in a number of rounds.
     pub fn new(leaves: u64, rounds: u64) -> Option<Self> {
         if leaves == 0 || leaves > MOST_LEAVES {
             return None;

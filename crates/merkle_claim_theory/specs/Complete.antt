@@ -7,7 +7,7 @@ use Rattle.merkle_root_theory.specs.Plan.{Plan, peak, folding, tree_meets, outsi
 use Rattle.merkle_claim_theory.specs.MultiClaim.{or_empty, multi_claim}
 use Rattle.merkle_claim_theory.specs.PinnedClaim.{PinsAll, PinsTrees, pinned_of}
 
--- a tells each maximal node under which no chosen location lies, and nothing wrong above them
+-- a has the digest of each maximal node under which no chosen location lies, and no wrong digest above them
 abbrev pub HonestTree : {D : Type 0} → Hashing D → (ℕ → Option D) → (ℕ → Bool) → (ℕ → D) → Tree → Type 0
 HonestTree h a c X (leaf p i) = cond (c i) (IfSome (a p) (λ d. d ≡ X i)) (or_empty h (a p) ≡ X i)
 HonestTree h a c X (join p l r) = cond (tree_meets c l || tree_meets c r)

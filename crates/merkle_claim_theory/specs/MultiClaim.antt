@@ -1,4 +1,4 @@
--- What a multi-check claims: the folds are computed, and the proof tells digests at positions, some of which are computed too.
+-- What a multi-check claims: the folds are computed, and the proof supplies digests at positions, some of which are computed too.
 use Rattle.std.specs.Prelude.{◌≡◌, ℕ, Bool, true, cond, ◌||◌, ◌⊎◌, Option, Some, None, IfSome, unwrap_or}
 use Rattle.merkle_root_theory.specs.Expression.{Node, Expression, supplied, computed, cross_checked, value, Holds, inputs}
 use Rattle.merkle_base.specs.Hashing.{Hashing, EqDecides}
@@ -11,11 +11,11 @@ abbrev pub also : {D : Type 0} → Option D → Expression D → Expression D
 also None e = e
 also (Some d) e = cross_checked d e
 
--- what the proof tells, or the empty digest where it doesn't
+-- the digest that the proof supplies, or the empty digest where it supplies none
 abbrev pub or_empty : {D : Type 0} → Hashing D → Option D → D
 or_empty h o = unwrap_or o h.empty
 
--- a: the digest that the proof tells at a position
+-- a: the digest that the proof supplies at a position
 abbrev pub multi_tree : {D : Type 0} → Hashing D → (ℕ → Option D) → (ℕ → Bool) → (ℕ → D) → Tree → Expression D
 multi_tree h a c X (leaf p i) = cond (c i) (also (a p) (supplied (X i))) (supplied (or_empty h (a p)))
 multi_tree h a c X (join p l r) = cond (tree_meets c l || tree_meets c r)
@@ -48,7 +48,7 @@ abbrev pub SameLeaves : {D : Type 0} → (ℕ → Bool) → (ℕ → D) → (ℕ
 SameLeaves c X Y (peak t) = SameTree c X Y t
 SameLeaves c X Y (folding place l r) = SameLeaves c X Y l × SameLeaves c X Y r
 
--- what holds and has the list's value tells the list's digests, or collides with the list
+-- a claim that holds and has the list's value supplies the list's digests, or collides with the list
 abbrev pub MultiClaimSound : Type 0 → Type 0
 MultiClaimSound D = (h : Hashing D) → EqDecides h → (a : ℕ → Option D) (c : ℕ → Bool) (X Y : ℕ → D) (p : Plan)
     → Holds h (multi_claim h a c Y p) → value h (multi_claim h a c Y p) ≡ plan_digest h X p

@@ -119,7 +119,7 @@ pub IsNumberRefusal_spells_none : (b : List ℕ) (e : DecodeError) → IsNumberR
 unfolding number_spelling IsNumberRefusal
 IsNumberRefusal_spells_none b e h n rest fits k = IsGroupRefusal_spells_none 0 b e h (omega arith) n rest fits (λ z. absurd (omega (arith, z))) k
 
--- bytes are refused as a number with one error, which isn't want of memory
+-- bytes are refused as a number with one error, which is not `OutOfMemory`
 pub IsNumberRefusal_once : (b : List ℕ) (e f : DecodeError) → IsNumberRefusal b e → IsNumberRefusal b f → e ≡ f
 unfolding IsNumberRefusal
 IsNumberRefusal_once b e f h k = IsGroupRefusal_once 0 b e f h k

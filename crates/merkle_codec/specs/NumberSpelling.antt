@@ -3,7 +3,7 @@ use Rattle.std.specs.Prelude.{◌≡◌, ◌≢◌, ℕ, zero, suc, ◌+◌, ◌
 use Rattle.merkle_base.specs.declared.error.DecodeError.{DecodeError}
 use Rattle.merkle_base.specs.declared.error.DecodeError.TheVariants.{EndOfBuffer, InvalidVarint}
 
--- the groups of 7 bits of a number, lowest first, a byte each: the top bit is set on all but the last. So many may follow the first
+-- the groups of 7 bits of a number, lowest first, a byte each: the top bit is set on all but the last. At most `more` groups follow the first
 abbrev pub number_groups : (more : ℕ) → ℕ → List ℕ
 number_groups zero n = n ∷ []
 number_groups (suc more) n = if nat_lt n 128 then n ∷ [] else (128 + n % 128) ∷ number_groups more (n / 128)
@@ -12,7 +12,7 @@ number_groups (suc more) n = if nat_lt n 128 then n ∷ [] else (128 + n % 128) 
 unfoldable pub number_spelling : ℕ → List ℕ
 number_spelling n = number_groups 9 n
 
--- bytes go on with no groups of a number, of which so many are before: there is none, the tenth isn't 1, a later one than the first
+-- bytes go on with no groups of a number, of which `before` are read: there is none, the tenth isn't 1, a later one than the first
 -- is 0, or one says that more follow, and those are refused
 abbrev pub IsGroupRefusal : (before : ℕ) → List ℕ → DecodeError → Type 0
 IsGroupRefusal before [] e = e ≡ EndOfBuffer

@@ -59,7 +59,7 @@ module _ {D : Type 0} (bytes : D → List ℕ) (size : ℕ) (sized : (x : D) →
       ∙ drop_past (bytes d) (flat_map bytes ds ++ rest) (i * size) in
       (x, ap (take size) skip ∙ e)
 
-  -- bytes that begin with n digests are refused as n for want of memory alone
+  -- bytes that begin with n digests are refused as n with `OutOfMemory` alone
   digests_not_refused : (Spells : List ℕ → Type 0) → ((x : D) → Spells (bytes x))
       → (ds : List D) (rest : List ℕ) (e : DecodeError) → IsDigestsRefusal size Spells (length ds) (flat_map bytes ds ++ rest) e → e ≡ OutOfMemory
   digests_not_refused Spells spell ds rest e (inl few) = absurd (omega (arith, few.0, length-append (flat_map bytes ds) rest, length-digests ds))
@@ -69,7 +69,7 @@ module _ {D : Type 0} (bytes : D → List ℕ) (size : ℕ) (sized : (x : D) →
       let (x, at) = digest_at_place ds rest i below in
       absurd (not (subst Spells (sym at) (spell x)))
 
-  -- bytes that begin with a proof within the limits are refused for want of memory alone
+  -- bytes that begin with a proof within the limits are refused with `OutOfMemory` alone
   pub IsProofReadRefusal_of_spelling : (Spells : List ℕ → Type 0) → ((x : D) → Spells (bytes x)) → (max_leaves limit : ℕ) → max_leaves < 2 ^ 64
       → (b : List ℕ) (e : DecodeError) → IsProofReadRefusal size Spells max_leaves limit b e
       → {F Peaks Heights : Type 0} (p : Proof F D Peaks Heights) (rest : List ℕ)
@@ -103,7 +103,7 @@ module _ {D : Type 0} (bytes : D → List ℕ) (size : ℕ) (sized : (x : D) →
       let last = digests_once decide ds es r s third.0 third.1 in
       (record { leaves = first.0; inactive = second.0; digests = last.0 }, last.1)
 
--- digests are refused with one error, want of memory aside
+-- digests are refused with one error, `OutOfMemory` aside
 IsDigestsRefusal_once : (size : ℕ) (Spells : List ℕ → Type 0) (n : ℕ) (b : List ℕ) (e f : DecodeError) → e ≢ OutOfMemory → f ≢ OutOfMemory
     → IsDigestsRefusal size Spells n b e → IsDigestsRefusal size Spells n b f → e ≡ f
 IsDigestsRefusal_once size Spells n b e f x y (inl h) (inl k) = h.1 ∙ sym k.1
@@ -114,7 +114,7 @@ IsDigestsRefusal_once size Spells n b e f x y (inr (inr h)) (inl k) = absurd (om
 IsDigestsRefusal_once size Spells n b e f x y (inr (inr h)) (inr (inl k)) = absurd (y k.1)
 IsDigestsRefusal_once size Spells n b e f x y (inr (inr h)) (inr (inr k)) = h.2 ∙ sym k.2
 
--- bytes are refused as a proof with one error, want of memory aside
+-- bytes are refused as a proof with one error, `OutOfMemory` aside
 pub IsProofReadRefusal_once : (size : ℕ) (Spells : List ℕ → Type 0) (max_leaves limit : ℕ) (b : List ℕ) (e f : DecodeError)
     → IsProofReadRefusal size Spells max_leaves limit b e → IsProofReadRefusal size Spells max_leaves limit b f
     → e ≢ OutOfMemory → f ≢ OutOfMemory → e ≡ f

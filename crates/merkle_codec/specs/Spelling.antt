@@ -8,7 +8,7 @@ abbrev pub option_spelling : {D : Type 0} → (D → List ℕ) → Option D → 
 option_spelling bytes None = 0 ∷ []
 option_spelling bytes (Some d) = 1 ∷ bytes d
 
--- bytes begin with no digest, whose size is given with what spells one: too few are left, or the first so many spell none
+-- bytes begin with no digest, whose size is given with what spells one: too few are left, or the first `size` spell none
 abbrev pub IsDigestRefusal : (size : ℕ) → (List ℕ → Type 0) → List ℕ → DecodeError → Type 0
 IsDigestRefusal size Spells b e =
     ((length b < size) × (e ≡ EndOfBuffer))

@@ -5,7 +5,7 @@ use Rattle.std.specs.Prelude.{ℕ, zero, suc, ◌+◌, List, [], ◌∷◌}
 abbrev pub never : List ℕ → List ℕ
 never hs = []
 
--- so many leaves from a position on, each with its height
+-- the positions of `count` leaves from a position on, each with its height
 abbrev pub leaves_from : (next count : ℕ) → List (ℕ × ℕ)
 leaves_from next zero = []
 leaves_from next (suc k) = (next, 0) ∷ leaves_from (next + 1) k

@@ -9,7 +9,7 @@ pairing (zero ∷ zero ∷ hs) = 0 ∷ []
 pairing (zero ∷ suc a ∷ hs) = []
 pairing (suc h ∷ a ∷ hs) = []
 
--- The peaks among so many nodes from a position on, each with its height: a pair for every three nodes, and then leaves.
+-- The peaks among `left` nodes from a position on, each with its height: a pair for every three nodes, and then leaves.
 abbrev pub pairs_from : (next left : ℕ) → List (ℕ × ℕ)
 pairs_from next zero = []
 pairs_from next (suc zero) = (next, 0) ∷ []

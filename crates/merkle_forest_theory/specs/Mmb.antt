@@ -27,6 +27,6 @@ mmb_position s (suc h) = size mmb_merges (s + 3 * 2 ^ h - 2) + 1
 abbrev pub mmb_birth_leaf_count : (s h : ℕ) → ℕ
 mmb_birth_leaf_count s h = birth_leaf s h + 1
 
--- the newest so many peaks of n leaves with their heights, oldest first
+-- the newest `count` peaks of n leaves with their heights, oldest first
 abbrev pub newest_peaks : (count n : ℕ) → List (ℕ × ℕ)
 newest_peaks count n = map placed (reverse (take count (forest mmb_merges n).peaks))

@@ -102,7 +102,7 @@ IsProved s g a b inactive text =
     ⊎ ((a < b) × (b ≤ count g) × (inactive ≤ length (peaks_of s.rule (count g)))
     × ((IsRangePruned s g a b inactive × (text ≡ error_line (codes "ElementPruned"))) ⊎ (text ≡ encode_lower (proof_bytes s g a b inactive))))
 
--- the greatest number of digests that are read of a proof of so many elements, as far as 64 bits count
+-- the greatest number of digests that are read of a proof of `elements` elements, as far as 64 bits count
 abbrev pub most_digests : ℕ → ℕ
 most_digests elements = min (122 * elements) (2 ^ 64 - 1)
 
@@ -134,7 +134,7 @@ IsChecked {D} s size Spells a inactive root proof elements text =
     ((¬ (Spells root)) × (text ≡ error_line (codes "Syntax")))
     ⊎ ((d : D) × (s.hashing.bytes d ≡ root) × IsRead s size Spells a inactive d proof elements text)
 
--- what a request leaves, and the line that answers it; digests are read from so many bytes, of which each that spells one is a digest's
+-- what a request leaves, and the line that answers it; digests are read from `size` bytes, of which each that spells one is a digest's
 abbrev pub IsDone : {D : Type 0} → Scheme D → (size : ℕ) → (Spells : List ℕ → Type 0) → StructureState → Request → StructureState → List ℕ → Type 0
 IsDone s size Spells g (Add digits) u text = (u, text) ≡ added s g (word_bytes digits.now)
 IsDone s size Spells g (Update location digits) u text = (u, text) ≡ updated g location (word_bytes digits.now)

@@ -24,7 +24,7 @@ abbrev pub elements_from : {D : Type 0} → ℕ → List (ℕ × D) → List (�
 elements_from i [] = []
 elements_from i (e ∷ es) = cond (nat_lt e.0 i) (elements_from i es) (e ∷ es)
 
--- what is computed of a node; a: the digest that the proof tells at a position
+-- what is computed of a node; a: the digest that the proof supplies at a position
 abbrev pub node_checked : {D : Type 0} → Hashing D → (ℕ → Option D) → List (ℕ × D) → Tree → Expression D
 node_checked h a es t = multi_tree h a (is_located es) (leaf_located h es) t
 

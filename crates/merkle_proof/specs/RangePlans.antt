@@ -22,8 +22,8 @@ pub record LeafRange : Type 0 where
   pub start : ℕ
   pub end : ℕ
 
--- the range has leaves, there are that many leaves and peaks, and these nodes are read, of which the first so many are peaks before the range,
--- and the next so many peaks after it
+-- the range has leaves, the counts are those of the list and of its peaks, and these nodes are read: first the `before` peaks before the
+-- range, then the `after` peaks after it
 pub record IsPlan (rule : List ℕ → List ℕ) (max_leaves n a b peaks before after : ℕ) (reads : List ℕ) : Type 0 where
   pub nonempty : a < b
   pub within : b ≤ n

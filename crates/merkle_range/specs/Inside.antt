@@ -7,7 +7,7 @@ use Rattle.merkle_root_theory.specs.Walk.{leaf_from}
 use Rattle.merkle_hasher.specs.declared.subtree.Subtree.{Subtree}
 use Rattle.merkle_hasher.specs.Subtrees.{Denotes}
 
--- the subtree is the node t of the forest of n leaves, and its leaves are among the leaves from location start on, so many as count
+-- the subtree is the node t of the forest of n leaves, and its leaves are among the `count` leaves from location start on
 abbrev pub IsInside : {F : Type 0} → (List ℕ → List ℕ) → ℕ → ℕ → ℕ → Subtree F → Tree → Type 0
 IsInside rule n start count s t = Denotes rule n s t × (start ≤ first_leaf t) × (end_leaf t ≤ start + count)
 

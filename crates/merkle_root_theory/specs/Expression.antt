@@ -42,7 +42,7 @@ value h (supplied d) = d
 value h (computed place l r) = hashed_at h place (value h l) (value h r)
 value h (cross_checked d e) = value h e
 
--- each digest that the proof tells beside what is computed is the one that is computed
+-- each digest that the proof supplies beside a computed one equals it
 abbrev pub Holds : {D : Type 0} → Hashing D → Expression D → Type 0
 Holds h (supplied d) = Unit {0}
 Holds h (computed place l r) = Holds h l × Holds h r

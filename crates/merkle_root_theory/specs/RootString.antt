@@ -1,4 +1,4 @@
--- What the string of a root tells.
+-- What the string of a root determines.
 use Rattle.std.specs.Prelude.{◌≡◌, ℕ, ◌<◌, ◌^◌, Option, Some, None, length}
 use Rattle.merkle_base.specs.declared.family.Bagging.{Bagging}
 use Rattle.merkle_base.specs.Root.{root_string}

@@ -15,7 +15,7 @@ use Rattle.merkle_proof.specs.RangePlans.{IsRefusal, IsFirstMissing}
 abbrev pub AreNodesHeld : {D : Type 0} → (ℕ → Option D) → List ℕ → Type 0
 AreNodesHeld node ps = AllByRecursion (λ p. is_some (node p) ≡ true) ps
 
--- m nodes are too many, or no leaf count has so many
+-- m nodes are too many, or no leaf count has m nodes
 abbrev pub IsSizeRefusal : {F : Type 0} → (rule : List ℕ → List ℕ) → (max_nodes m : ℕ) → Error F → Type 0
 IsSizeRefusal rule max_nodes m e =
     ((max_nodes < m) × (e ≡ PositionOverflow m)) ⊎ ((m ≤ max_nodes) × ((n : ℕ) → size rule n ≢ m) × (e ≡ NonLeaf m))

@@ -77,7 +77,7 @@ impl<F: Family, H: Hasher<F> + Drop> World<F, H> {
         Ok(())
     }
 
-    // What a batch tells of the structure that its chain began with.
+    // What a batch records of the structure that its chain began with.
     pub fn base(&self, words: &[&str], answer: &mut Answer) -> Result<(), Refusal> {
         let batch = named(&self.batches, word(words, 1))?;
         answer.text("size ");
@@ -251,7 +251,7 @@ fn with_elements<F: Family, H: Hasher<F>>(
     Ok(draft)
 }
 
-// The draft with so many leaves more, of 32 bytes, of which the first 8 are the number of its location.
+// The draft with `times` more leaves, of 32 bytes, of which the first 8 are the number of its location.
 fn with_numbers<F: Family, H: Hasher<F>>(
     mut draft: UnmerkleizedBatch<F, H::Digest>,
     hasher: &H,

@@ -63,7 +63,7 @@ impl<F: Family, H: Hasher<F> + Drop> World<F, H> {
         Ok(())
     }
 
-    // Proves each choice of so many leaves at most for each number of inactive peaks, and counts the proofs.
+    // Proves each choice of a limited number of leaves for each number of inactive peaks, and counts the proofs.
     pub fn prove_subsets(&self, words: &[&str], answer: &mut Answer) -> Result<(), Refusal> {
         let structure = named(&self.structures, word(words, 1))?;
         let list = elements(self.alloc, word(words, 2))?;

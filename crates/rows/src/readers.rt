@@ -28,7 +28,7 @@ impl<F: Family, H: Hasher<F> + Drop> World<F, H> {
         write_range(self.alloc, &self.hasher, batch, asked, answer)
     }
 
-    // The proof of a range of the first so many leaves over a structure, or else over a batch.
+    // The proof of a range of the first leaves, over a structure or over a batch.
     pub fn read_history(&self, words: &[&str], answer: &mut Answer) -> Result<(), Refusal> {
         let name = word(words, 1);
         let asked = words_from(words, 2);
@@ -91,7 +91,7 @@ fn write_range<R: Readable, H: Hasher<R::Family, Digest = R::Digest>>(
     Ok(())
 }
 
-// Writes the proof of a range of the first so many leaves, which the words name, over what holds nodes.
+// Writes the proof of a range of the first leaves, which the words name, over what holds nodes.
 fn write_history<R: Readable, H: Hasher<R::Family, Digest = R::Digest>>(
     alloc: Global,
     hasher: &H,

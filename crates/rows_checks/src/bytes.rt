@@ -47,7 +47,7 @@ fn count_written<F: Family, H: Hasher<F>>(
     proved
 }
 
-// How many of the ranges from a location on are proved by bytes, each with the first so many of the elements.
+// How many of the ranges from a location on are proved by bytes, each with the first of the elements.
 fn count_written_from<F: Family, H: Hasher<F>>(
     alloc: Global,
     hasher: &H,

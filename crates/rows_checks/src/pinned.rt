@@ -43,7 +43,7 @@ fn count_pinned<F: Family, H: Hasher<F>>(
     proved
 }
 
-// How many of the ranges from a location on are proved, each with the first so many of the elements.
+// How many of the ranges from a location on are proved, each with the first of the elements.
 fn count_pinned_from<F: Family, H: Hasher<F>>(
     alloc: Global,
     hasher: &H,
@@ -93,7 +93,7 @@ fn proves_pins<F: Family, H: Hasher<F>>(
     )
 }
 
-// The digests of the peaks over the first so many leaves of a structure, oldest first.
+// The digests of the peaks of the first leaves of a structure, oldest first.
 fn pins_before<F: Family, D: Digest>(
     alloc: Global,
     structure: &Mem<F, D>,

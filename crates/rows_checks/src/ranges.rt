@@ -144,7 +144,7 @@ fn count_ranges<F: Family, H: Hasher<F>>(
     proved
 }
 
-// How many of the ranges from a location on are proved, each with the first so many of the elements.
+// How many of the ranges from a location on are proved, each with the first of the elements.
 fn count_ranges_from<F: Family, H: Hasher<F>>(
     alloc: Global,
     hasher: &H,

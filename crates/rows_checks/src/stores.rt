@@ -39,7 +39,7 @@ fn count_stores<F: Family, H: Hasher<F>>(
     proved
 }
 
-// How many parts are proved of the ranges from a location on, each with the first so many of the elements.
+// How many parts are proved of the ranges from a location on, each with the first of the elements.
 fn count_stores_from<F: Family, H: Hasher<F>>(
     hasher: &H,
     structure: &Mem<F, H::Digest>,
@@ -103,7 +103,7 @@ impl<'a, F: Family, D: Digest> KeptRange<'a, F, D> {
         proved
     }
 
-    // How many of the parts from a location on are proved, each with the first so many of the elements.
+    // How many of the parts from a location on are proved, each with the first of the elements.
     fn count_parts_from<H: Hasher<F, Digest = D>>(
         &self,
         hasher: &H,

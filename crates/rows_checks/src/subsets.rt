@@ -17,7 +17,7 @@ use std::mem;
 /// No structure has more leaves where every choice of them is proved.
 const MOST_LEAVES: usize = 16;
 
-/// How many choices of so many leaves at most are proved, one after another for each number of inactive peaks.
+/// How many choices of leaves, up to a number of them, are proved, one after another for each number of inactive peaks.
 pub fn subsets_proved<F: Family, H: Hasher<F>>(
     alloc: Global,
     hasher: &H,
@@ -33,7 +33,7 @@ pub fn subsets_proved<F: Family, H: Hasher<F>>(
     proved
 }
 
-// How many choices of so many leaves at most are proved for a number of inactive peaks.
+// How many choices of leaves, up to a number of them, are proved for a number of inactive peaks.
 fn count_subsets<F: Family, H: Hasher<F>>(
     alloc: Global,
     hasher: &H,

@@ -211,7 +211,7 @@ const STORE_CALLS: [(&str, usize, StoreCall); 11] = [
     ("suffix_peaks", 2, StoreCall::SuffixPeaks),
 ];
 
-/// The call with this first word and so many words.
+/// The call with this first word and this number of words.
 pub fn find_call(name: &str, count: usize) -> Option<Call> {
     family_call(name, count)
         .or_else(|| structure_call(name, count))

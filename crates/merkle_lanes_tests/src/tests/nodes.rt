@@ -10,7 +10,7 @@ use std::test::Fail;
 
 type Node<D> = (Position, D, D);
 
-/// So many nodes, each with children of its own.
+/// A list of nodes, each with children of its own.
 pub fn some_nodes<H: Hasher<Family>>(
     alloc: Global,
     hasher: &H,

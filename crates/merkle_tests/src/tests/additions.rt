@@ -45,7 +45,7 @@ fn root_of<F: Family, H: PlainHasher>(
     log.root(&hasher, 0).ok()
 }
 
-/// Asserts that so many elements, the first of which are of that length and the others each one byte
+/// Asserts that `count` elements, the first of which are of that length and the others each one byte
 /// longer than the one before, have the same root however they are added.
 fn assert_added<F: Family, H: PlainHasher>(
     rt: &(impl Abort + AllocGlobal),

@@ -11,7 +11,7 @@ use std::alloc::Global;
 use std::cell::Cell;
 use std::test::Fail;
 
-/// A structure of so many leaves, with elements of one byte; `None` where a call is refused.
+/// A structure of `leaves` leaves, with elements of one byte; `None` where a call is refused.
 fn structure_of<F: Family, H: Hasher<F>>(
     alloc: Global,
     hasher: &H,
@@ -66,7 +66,7 @@ fn nodes_computed<F: Family, H: Hasher<F>>(
     Some(work.node_digests())
 }
 
-/// The same over a structure of so many leaves.
+/// The same over a structure of `leaves` leaves.
 fn nodes_over<F: Family>(alloc: Global, leaves: u8, added: u8, changed: &[u64]) -> Option<u64> {
     let hasher = Standard::<Xor8>::new(Bagging::ForwardFold);
     let structure = structure_of::<F, _>(alloc, &hasher, leaves)?;

@@ -57,7 +57,7 @@ fn digests(rt: HostRuntime) -> Result<(), Fail> {
     Ok(())
 }
 
-/// The root of so many leaves over peaks of which some are folded to the first of these, and the others follow.
+/// The root of `leaves` leaves over peaks of which some are folded to the first of these, and the others follow.
 fn folded_root<H: Hasher<Family, Digest = Xor8Digest>>(
     hasher: &H,
     leaves: u64,
