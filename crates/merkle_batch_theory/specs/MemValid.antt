@@ -9,8 +9,8 @@ pub record HasLeafCount (rule : List ℕ → List ℕ) (max_leaves leaves nodes 
   pub bounded : leaves ≤ max_leaves
   pub sized : size rule leaves ≡ nodes
 
--- the nodes held are those of a structure of `leaves` leaves that was pruned to the boundary: all from the boundary's position on, and before it
--- those that are kept
+-- the nodes held are those of a structure of `leaves` leaves that was pruned to the boundary: all from the position of the boundary on,
+-- and before it those that are kept
 pub record IsMemValid {D : Type 0} (rule : List ℕ → List ℕ) (max_leaves boundary leaves : ℕ) (held : Held D) : Type 0 where
   pub starts : held.start ≡ size rule boundary
   pub within : boundary ≤ leaves

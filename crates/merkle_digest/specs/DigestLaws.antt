@@ -11,7 +11,8 @@ use Rattle.std.proofs.lemmas.Bool.Decides.{Decides-eqb}
 use Rattle.std.proofs.lemmas.Slice.Eq.{slice_eq-Decides}
 
 -- a value made of a list and a proof of its length is known by the list
-pub same_sized : {B : Type 0} {n : ℕ} (make : (b : List ℕ) → length b ≡ n → B) → {a b : List ℕ} → (e : a ≡ b) → (p : length a ≡ n) → (q : length b ≡ n) → make a p ≡ make b q
+pub same_sized : {B : Type 0} {n : ℕ} (make : (b : List ℕ) → length b ≡ n → B) → {a b : List ℕ}
+    → (e : a ≡ b) → (p : length a ≡ n) → (q : length b ≡ n) → make a p ≡ make b q
 same_sized {B} {n} make {a} {b} e p =
     let P : List ℕ → Type 0 = λ c. (q : length c ≡ n) → make a p ≡ make c q in
     subst P e (λ q. ap (make a) (ℕ_set (length a) n p q))

@@ -35,7 +35,9 @@ pub record IsPlan (rule : List ℕ → List ℕ) (max_leaves n a b peaks before 
 
 -- why there is no plan: the range is empty, or ends past the leaves, or these are too many
 abbrev pub IsRefusal : {F : Type 0} → (max_leaves n a b : ℕ) → Error F → Type 0
-IsRefusal max_leaves n a b e = ((b ≤ a) × (e ≡ Empty)) ⊎ (((a < b) × (n < b) × (e ≡ RangeOutOfBounds b)) ⊎ ((a < b) × (b ≤ n) × (max_leaves < n) × (e ≡ LocationOverflow n)))
+IsRefusal max_leaves n a b e =
+    ((b ≤ a) × (e ≡ Empty))
+    ⊎ (((a < b) × (n < b) × (e ≡ RangeOutOfBounds b)) ⊎ ((a < b) × (b ≤ n) × (max_leaves < n) × (e ≡ LocationOverflow n)))
 
 -- these digests are answered at these positions, one at each
 abbrev pub AreAnswered : {D : Type 0} → (ℕ → Option D → Type 0) → List ℕ → List D → Type 0
@@ -66,18 +68,22 @@ pub record IsFirstMissing {D : Type 0} (answered : ℕ → Option D → Type 0) 
 abbrev pub IsBuildRefusal : {F D : Type 0} → Bagging → (List ℕ → List ℕ) → LeafRange → ℕ → (ℕ → Option D → Type 0) → Error F → Type 0
 IsBuildRefusal bagging rule r k answered e =
     ((length (peaks_of rule r.leaves) < k) × (e ≡ InvalidProof))
-    ⊎ ((k ≤ length (peaks_of rule r.leaves)) × ((p : ℕ) × (e ≡ ElementPruned p) × IsFirstMissing answered (map position (reading_order bagging k rule r.leaves r.start r.end)) p))
+    ⊎ ((k ≤ length (peaks_of rule r.leaves))
+    × ((p : ℕ) × (e ≡ ElementPruned p) × IsFirstMissing answered (map position (reading_order bagging k rule r.leaves r.start r.end)) p))
 
 -- the proof has the digests of the layout, over those that stand at the positions of nodes
 pub record IsBuiltProof {F D Peaks Heights : Type 0} (s : Scheme D) (node : ℕ → Option D) (k : ℕ) (r : LeafRange) (p : Proof F D Peaks Heights) : Type 0 where
   pub leaves : p.leaves ≡ r.leaves
   pub inactive : p.inactive_peaks ≡ k
   pub enough_peaks : k ≤ length (peaks_of s.rule r.leaves)
-  pub digests : map Some p.digests.items ≡ map (part_read s.hashing node) (range_parts s.bagging k r.start r.end (peaks_of s.rule r.leaves)) ++ map (λ t. node (position t)) (range_siblings r.start r.end (peaks_of s.rule r.leaves))
+  pub digests : map Some p.digests.items
+      ≡ map (part_read s.hashing node) (range_parts s.bagging k r.start r.end (peaks_of s.rule r.leaves))
+      ++ map (λ t. node (position t)) (range_siblings r.start r.end (peaks_of s.rule r.leaves))
 
 -- each answer at the position of a node is the list's digest at it
 abbrev pub AnswersList : {D : Type 0} → Hashing D → (List ℕ → List ℕ) → List D → (ℕ → Option D → Type 0) → Type 0
-AnswersList {D} h rule xs answered = (p : ℕ) (t : Tree) (d : D) → slice_get (forest rule (length xs)).nodes p ≡ Some t → answered p (Some d) → d ≡ digest_at h xs t
+AnswersList {D} h rule xs answered = (p : ℕ) (t : Tree) (d : D) → slice_get (forest rule (length xs)).nodes p ≡ Some t
+    → answered p (Some d) → d ≡ digest_at h xs t
 
 -- a proof with the leaves of a list from a on up to b
 abbrev pub list_input : {F D Peaks Heights : Type 0} → Proof F D Peaks Heights → List D → (a b : ℕ) → RangeInput D

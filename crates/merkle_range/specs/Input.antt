@@ -13,7 +13,13 @@ leaf_digests h rule a (e ∷ es) = h.leaf (size rule a) e ∷ leaf_digests h rul
 
 -- the parts of a proof with the elements from location a on
 abbrev pub range_input : {D : Type 0} → Scheme D → (leaves inactive : ℕ) → List D → ℕ → List (List ℕ) → RangeInput D
-range_input s leaves inactive digests a es = record { leaves = leaves; inactive = inactive; digests = digests; start = a; elements = leaf_digests s.hashing s.rule a es }
+range_input s leaves inactive digests a es = record {
+  leaves = leaves;
+  inactive = inactive;
+  digests = digests;
+  start = a;
+  elements = leaf_digests s.hashing s.rule a es;
+}
 
 -- the root that an input with elements leads to
 abbrev pub IsComputed : {D : Type 0} → Scheme D → RangeInput D → D → Type 0

@@ -216,7 +216,8 @@ fn end_from<F: Family>(
     ensures err { IfErr result (λ e. ((F.MAX_LEAVES ≤ start) × (e ≡ ReconstructionError.InvalidStartLoc))
         ⊎ ((start < F.MAX_LEAVES) × (F.MAX_LEAVES < start + count) × (e ≡ ReconstructionError.InvalidEndLoc))
         ⊎ ((start < F.MAX_LEAVES) × (start + count ≤ F.MAX_LEAVES) × (leaves < start + count) × (e ≡ ReconstructionError.InvalidEndLoc))
-        ⊎ ((start < F.MAX_LEAVES) × (start + count ≤ leaves) × (start + count ≤ F.MAX_LEAVES) × (F.MAX_LEAVES < leaves) × (e ≡ ReconstructionError.InvalidSize))) }
+        ⊎ ((start < F.MAX_LEAVES) × (start + count ≤ leaves) × (start + count ≤ F.MAX_LEAVES) × (F.MAX_LEAVES < leaves)
+        × (e ≡ ReconstructionError.InvalidSize))) }
 {
     if !start.is_valid_index() {
         return Err(ReconstructionError::InvalidStartLoc);
