@@ -15,7 +15,7 @@
 //! any four messages, and hashes them one after another otherwise.
 #![tactic(auto)]
 
-ghost use Rattle.std.specs.Prelude.{◌≡◌, List, IfSome, length, take};
+ghost use Rattle.std.specs.Prelude.{◌≡◌, ◌+◌, ◌≤◌, ◌++◌, List, IfSome, length, take};
 ghost use Rattle.sha2.specs.Sha256.{sha256};
 ghost use Rattle.merkle_lanes.specs.Lanes.{joined_parts};
 
@@ -90,6 +90,43 @@ fn nodes_of(
 // The message, if it has 72 bytes.
 #[inline]
 fn node_of(parts: &[&[u8]]) -> Option<[u8; 72]>
+    ensures { IfSome result (λ m. m ≡ joined_parts parts.now) }
+{
+    if let [position, left, right] = parts {
+        if position.len() == 8 && left.len() == 32 && right.len() == 32 {
+            return Some(join_node(position, left, right));
+        }
+    }
+    gather_node(parts)
+}
+
+// The message of a parent node from its parts. That their lengths are constants makes it cheaper than
+// from any parts.
+#[inline(always)]
+fn join_node(position: &[u8], left: &[u8], right: &[u8]) -> [u8; 72]
+    requires position { length position.now ≡ 8 }
+    requires left { length left.now ≡ 32 }
+    requires right { length right.now ≡ 32 }
+    ensures { result ≡ position.now ++ (left.now ++ right.now) }
+{
+    let mut node = [0u8; 72];
+    put(&mut node, 0, position);
+    put(&mut node, 8, left);
+    put(&mut node, 40, right);
+    node
+}
+
+// Writes a part to the message from byte `at` on.
+#[inline(always)]
+fn put(node: &mut [u8; 72], at: usize, part: &[u8])
+    requires { at + length part.now ≤ 72 }
+    ensures { take (at + length part.now) node.new ≡ take at node.old ++ part.now }
+{
+    node[at..at + part.len()].copy_from_slice(part);
+}
+
+// The message from any parts, if it has 72 bytes.
+fn gather_node(parts: &[&[u8]]) -> Option<[u8; 72]>
     ensures { IfSome result (λ m. m ≡ joined_parts parts.now) }
 {
     let mut node = [0u8; 72];
