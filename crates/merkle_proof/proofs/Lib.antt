@@ -11,7 +11,10 @@ pub mod ReadOnce
 pub mod ScatteredPositions
 pub mod ToldTable
 pub mod ScatteredElements
-pub mod ScatteredWalk
-pub mod ScatteredPeaks
+pub mod LocatedIndices
+pub mod CheckedNodes
+pub mod CheckedDigests
+pub mod CheckedPeaks
+pub mod ConfirmedNodes
 pub mod ScatteredRoot
 pub mod LocatedDigests

@@ -2,6 +2,7 @@
 //! nodes, and their verification.
 #![tactic(auto)]
 
+mod checked_node;
 mod confirm;
 pub mod element_plan;
 mod leaves;

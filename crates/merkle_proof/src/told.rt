@@ -1,12 +1,8 @@
 //! Digests that a proof supplies by position.
-ghost use Rattle.std.specs.Prelude.{◌≡◌};
+ghost use Rattle.std.specs.Prelude.{◌≡◌, ◌↔◌, IfSome, IsTrue};
 ghost use Rattle.std.specs.Option.{unwrap_or};
 ghost use Rattle.std.specs.List.Sorted.{IsStrictlyIncreasing};
-ghost use Rattle.merkle_base.specs.Hashing.{Hashing};
-ghost use Rattle.merkle_root_theory.specs.Expression.{Expression, Holds, value};
-ghost use Rattle.merkle_claim_theory.specs.MultiClaim.{also};
 ghost use Rattle.merkle_claim_theory.specs.Table.{digest_for};
-ghost use Rattle.merkle_proof.specs.Confirmed.{IsConfirmed};
 
 use merkle_base::family::Family;
 use merkle_base::position::Position;
@@ -44,21 +40,14 @@ impl<F: Family, D: Digest> Told<'_, F, D> {
         }
     }
 
-    /// Returns the computed digest; `None` if a different one is supplied for `position`.
-    pub(crate) fn confirmed(&self, position: Position<F>, computed: D) -> Option<D>
+    /// Whether no digest other than `computed` is supplied for `position`.
+    pub(crate) fn agrees(&self, position: Position<F>, computed: &D) -> bool
         requires { IsStrictlyIncreasing self.now.positions.now }
-        ensures { (h : Hashing D) (e : Expression D) → Holds h e → computed ≡ value h e
-            → IsConfirmed h (also (digest_for self.now.positions.now self.now.digests.now position) e) result }
+        ensures { IsTrue result ↔ IfSome (digest_for self.now.positions.now self.now.digests.now position) (λ d. d ≡ computed.now) }
     {
         match self.get(position) {
-            Some(digest) => {
-                if digest == computed {
-                    Some(computed)
-                } else {
-                    None
-                }
-            }
-            None => Some(computed),
+            Some(digest) => digest == *computed,
+            None => true,
         }
     }
 }
