@@ -1,8 +1,8 @@
--- The locations of elements with the digests of their leaves, one after another.
-use Rattle.std.proofs.Common.{◌≡◌, ℕ, zero, suc, ◌+◌, ◌<◌, List, [], ◌∷◌, ◌++◌, length, map, take, drop, get_or, arith, refl, sym, ap, ap₂, ◌∙◌, append_assoc, add-one}
+-- The digests of the leaves of elements, one after another, and the locations of the elements with them.
+use Rattle.std.proofs.Common.{◌≡◌, ℕ, zero, suc, ◌+◌, ◌<◌, List, [], ◌∷◌, ◌++◌, length, map, take, get_or, arith, refl, sym, ap, ap₂, ◌∙◌, append_assoc, add-one}
 use Rattle.std.specs.Borrow.{Bor}
 use Rattle.std.specs.List.{zip}
-use Rattle.std.proofs.lemmas.List.{map-append, take-append-drop, drop-drop}
+use Rattle.std.proofs.lemmas.List.{map-append, take_more}
 use Rattle.merkle_base.specs.Forest.{size}
 use Rattle.merkle_base.specs.Hashing.{Hashing}
 use Rattle.merkle_proof.specs.Input.{element_leaves}
@@ -33,14 +33,17 @@ module _ {D : Type 0} (h : Hashing D) (rule : List ℕ → List ℕ) where
   zip-hashed [] = refl
   zip-hashed (e ∷ es) = ap (λ ls. (e.1, h.leaf (size rule e.1) e.0.now) ∷ ls) (zip-hashed es)
 
-  -- after k elements from place n on, those from place e on are left
-  pub more_located : (n k e : ℕ) (es : List (Bor (List ℕ) × ℕ)) (ds : List D) (before after all : List (ℕ × D)) → n + k ≡ e → ds ≡ hashed (take k (drop n es))
-      → after ≡ before ++ zip (map (λ e. e.1) (take k (drop n es))) ds → before ++ element_leaves h rule (drop n es) ≡ all → after ++ element_leaves h rule (drop e es) ≡ all
-  more_located n k e es ds before after all place done step held =
-      let ys = drop n es in
-      let left : drop e es ≡ drop k ys = ap (λ i. drop i es) (sym place) ∙ sym (drop-drop k n es) in
-      let whole : element_leaves h rule (take k ys) ++ element_leaves h rule (drop e es) ≡ element_leaves h rule ys =
-      ap (λ zs. element_leaves h rule (take k ys) ++ element_leaves h rule zs) left
-      ∙ sym (map-append (λ e. (e.1, h.leaf (size rule e.1) e.0.now)) (take k ys) (drop k ys)) ∙ ap (element_leaves h rule) (take-append-drop k ys) in
-      ap (λ zs. zs ++ element_leaves h rule (drop e es)) (step ∙ ap (λ zs. before ++ zs) (ap (zip (map (λ e. e.1) (take k ys))) done ∙ zip-hashed (take k ys)))
-      ∙ append_assoc before (element_leaves h rule (take k ys)) (element_leaves h rule (drop e es)) ∙ ap (λ zs. before ++ zs) whole ∙ held
+  -- those of one element more, of which the last are waited for
+  pub hashed-queued : (es : List (Bor (List ℕ) × ℕ)) (i : ℕ) (e : Bor (List ℕ) × ℕ) (p : ℕ) (before waiting after still : List D) → i < length es → e ≡ get_or es i e → p ≡ size rule e.1
+      → before ++ waiting ≡ hashed (take i es) → after ++ still ≡ (before ++ waiting) ++ h.leaf p e.0.now ∷ [] → after ++ still ≡ hashed (take (i + 1) es)
+  hashed-queued es i e p before waiting after still below e_is at held step =
+      step
+      ∙ ap (λ ds. ds ++ h.leaf p e.0.now ∷ []) held
+      ∙ ap (λ q. hashed (take i es) ++ h.leaf q e.0.now ∷ []) at
+      ∙ ap (λ x. hashed (take i es) ++ h.leaf (size rule x.1) x.0.now ∷ []) e_is
+      ∙ sym (ap hashed (take_more es i e below) ∙ map-append (λ x. h.leaf (size rule x.1) x.0.now) (take i es) (get_or es i e ∷ []))
+
+  -- the locations with these digests, that are appended to none
+  pub located-hashed : (es : List (Bor (List ℕ) × ℕ)) (ds : List D) (none all : List (ℕ × D)) → none ≡ [] → ds ≡ hashed es → all ≡ none ++ zip (map (λ e. e.1) es) ds
+      → all ≡ element_leaves h rule es
+  located-hashed es ds none all empty same step = step ∙ ap₂ (λ xs ys. xs ++ zip (map (λ e. e.1) es) ys) empty same ∙ zip-hashed es

@@ -6,48 +6,29 @@ ghost use Rattle.merkle_proof.specs.Input.{element_leaves};
 
 use merkle_base::family::Family;
 use merkle_base::location::Location;
-use merkle_base::position::Position;
 use merkle_digest::digest::Digest;
 use merkle_hasher::hasher::Hasher;
 use merkle_hasher::leaves::leaf_digests;
+use merkle_range::leaves::queue_leaf;
 use std::alloc::{AllocError, Global};
 
-/// How many leaves are positioned before they are hashed; a multiple of four, so that all but the last
-/// leaves are hashed four at a time.
-const LEAVES_AT_ONCE: usize = 64;
-
-// Appends the positions of the leaves with these elements, each with its element.
-fn place_leaves<'a, F: Family>(
-    elements: &[(&'a [u8], Location<F>)],
-    leaves: &mut Vec<(Position<F>, &'a [u8])>,
-) -> Result<(), AllocError>
+// The digests of the leaves with these elements.
+fn element_digests<F: Family, H: Hasher<F>>(
+    alloc: Global,
+    hasher: &H,
+    elements: &[(&[u8], Location<F>)],
+) -> Result<Vec<H::Digest>, AllocError>
     requires { AllByRecursion (λ e. e.1 ≤ F.MAX_LEAVES) elements.now }
-    ensures { OnOk result (leaves.new.items ≡ leaves.old.items ++ map (λ e. (size F.rule e.1, e.0)) elements.now) }
+    ensures { IfOk result (λ v. v.items ≡ map (λ e. (H.hashing hasher.now).leaf (size F.rule e.1) e.0.now) elements.now) }
 {
+    let mut digests = Vec::with_capacity(alloc, elements.len())?;
+    let mut waiting = Vec::new(alloc);
     for element in elements {
         let position = F::location_to_position(element.1);
-        let Ok(()) = leaves.push((position, element.0)) else {
-            return Err(AllocError);
-        };
+        queue_leaf(hasher, position, element.0, &mut waiting, &mut digests)?;
     }
-    Ok(())
-}
-
-// Writes the digests of the leaves with these elements to `digests`. The leaves are positioned in
-// `leaves`. Whatever the two have is dropped first.
-fn hash_chunk<'a, F: Family, H: Hasher<F>>(
-    hasher: &H,
-    elements: &[(&'a [u8], Location<F>)],
-    leaves: &mut Vec<(Position<F>, &'a [u8])>,
-    digests: &mut Vec<H::Digest>,
-) -> Result<(), AllocError>
-    requires { AllByRecursion (λ e. e.1 ≤ F.MAX_LEAVES) elements.now }
-    ensures { OnOk result (digests.new.items ≡ map (λ e. (H.hashing hasher.now).leaf (size F.rule e.1) e.0.now) elements.now) }
-{
-    leaves.clear();
-    digests.clear();
-    place_leaves(elements, leaves)?;
-    leaf_digests(hasher, leaves, digests)
+    leaf_digests(hasher, &waiting, &mut digests)?;
+    Ok(digests)
 }
 
 // Appends the locations of the elements, each with the digest at the same place.
@@ -76,16 +57,8 @@ pub(crate) fn located_digests<F: Family, H: Hasher<F>>(
     requires { AllByRecursion (λ e. e.1 ≤ F.MAX_LEAVES) elements.now }
     ensures { IfOk result (λ v. v.items ≡ element_leaves (H.hashing hasher.now) F.rule elements.now) }
 {
+    let digests = element_digests(alloc, hasher, elements)?;
     let mut located = Vec::with_capacity(alloc, elements.len())?;
-    let mut leaves = Vec::new(alloc);
-    let mut digests = Vec::new(alloc);
-    let mut done = 0;
-    while done < elements.len() {
-        let end = done + (elements.len() - done).min(LEAVES_AT_ONCE);
-        let chunk = &elements[done..end];
-        hash_chunk(hasher, chunk, &mut leaves, &mut digests)?;
-        push_located(chunk, &digests, &mut located)?;
-        done = end;
-    }
+    push_located(elements, &digests, &mut located)?;
     Ok(located)
 }

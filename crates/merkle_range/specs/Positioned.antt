@@ -1,9 +1,8 @@
--- The leaves of elements, as they are hashed.
-use Rattle.std.specs.Prelude.{ℕ, suc, List, [], ◌∷◌}
+-- Leaves as they are hashed.
+use Rattle.std.specs.Prelude.{ℕ, List, map}
 use Rattle.std.specs.Borrow.{Bor}
-use Rattle.merkle_base.specs.Forest.{size}
+use Rattle.merkle_base.specs.Hashing.{Hashing}
 
--- the positions of the leaves from location a on, each with its element
-abbrev pub positioned : (List ℕ → List ℕ) → ℕ → List (Bor (List ℕ)) → List (ℕ × Bor (List ℕ))
-positioned rule a [] = []
-positioned rule a (e ∷ es) = (size rule a, e) ∷ positioned rule (suc a) es
+-- the digests of leaves, each of which is given as its position and its element
+abbrev pub positioned_digests : {D : Type 0} → Hashing D → List (ℕ × Bor (List ℕ)) → List D
+positioned_digests h leaves = map (λ l. h.leaf l.0 l.1.now) leaves

@@ -1,6 +1,6 @@
 //! The digests of the leaves of elements, several computed at a time.
-ghost use Rattle.std.specs.Prelude.{◌≡◌, ◌≤◌, ◌+◌, ◌++◌, List, [], OnOk, length};
-ghost use Rattle.merkle_range.specs.Positioned.{positioned};
+ghost use Rattle.std.specs.Prelude.{◌≡◌, ◌≤◌, ◌+◌, ◌++◌, ◌∷◌, List, [], OnOk, length};
+ghost use Rattle.merkle_range.specs.Positioned.{positioned_digests};
 ghost use Rattle.merkle_range.specs.Input.{leaf_digests};
 ghost use Rattle.merkle_root_theory.specs.Walk.{bytes_of};
 
@@ -15,41 +15,45 @@ use std::alloc::{AllocError, Global};
 /// leaves are hashed four at a time.
 const LEAVES_AT_ONCE: usize = 64;
 
-// Appends the positions of the leaves from location `first` on, each with its element.
-fn place_leaves<'a, F: Family>(
-    first: Location<F>,
-    elements: &[&'a [u8]],
-    leaves: &mut Vec<(Position<F>, &'a [u8])>,
-) -> Result<(), AllocError>
-    requires { first + length elements.now ≤ F.MAX_LEAVES }
-    ensures { OnOk result (leaves.new.items ≡ leaves.old.items ++ positioned F.rule first elements.now) }
-{
-    let mut location = first;
-    for element in elements {
-        match leaves.push((F::location_to_position(location), *element)) {
-            Ok(()) => location += 1,
-            Err(_) => return Err(AllocError),
-        }
-    }
-    Ok(())
-}
-
-// Appends the digests of the leaves with these elements, from location `first` on. The leaves are
-// positioned in `leaves`, whatever it has.
-fn push_chunk<'a, F: Family, T: Hasher<F>>(
+/// Appends a leaf to those that wait to be hashed.
+///
+/// Once they are [`LEAVES_AT_ONCE`], their digests are appended to `digests`, in their order, and none
+/// waits any more. So the digests and after them those of the waiting leaves are those of all leaves
+/// so far.
+///
+/// # Errors
+///
+/// - `AllocError` if a memory request is refused.
+///
+/// # Examples
+///
+/// ```
+/// let mut waiting = Vec::new(alloc);
+/// let mut digests = Vec::new(alloc);
+/// for (location, element) in leaves {
+///     queue_leaf(hasher, F::location_to_position(location), element, &mut waiting, &mut digests)?;
+/// }
+/// leaf_digests(hasher, &waiting, &mut digests)?;
+/// ```
+pub fn queue_leaf<'a, F: Family, T: Hasher<F>>(
     hasher: &T,
-    first: Location<F>,
-    elements: &[&'a [u8]],
-    leaves: &mut Vec<(Position<F>, &'a [u8])>,
+    position: Position<F>,
+    element: &'a [u8],
+    waiting: &mut Vec<(Position<F>, &'a [u8])>,
     digests: &mut Vec<T::Digest>,
 ) -> Result<(), AllocError>
-    requires { first + length elements.now ≤ F.MAX_LEAVES }
-    ensures { OnOk result (digests.new.items ≡ digests.old.items
-        ++ leaf_digests (T.hashing hasher.now) F.rule first (bytes_of elements.now)) }
+    ensures { OnOk result (digests.new.items ++ positioned_digests (T.hashing hasher.now) waiting.new.items
+        ≡ (digests.old.items ++ positioned_digests (T.hashing hasher.now) waiting.old.items) ++ (T.hashing hasher.now).leaf position element.now ∷ []) }
 {
-    leaves.clear();
-    place_leaves(first, elements, leaves)?;
-    leaf_digests(hasher, leaves, digests)
+    let Ok(()) = waiting.push((position, element)) else {
+        return Err(AllocError);
+    };
+    if waiting.len() < LEAVES_AT_ONCE {
+        return Ok(());
+    }
+    leaf_digests(hasher, waiting, digests)?;
+    waiting.clear();
+    Ok(())
 }
 
 /// Appends the digests of the leaves with these elements, in their order, from location `first` on.
@@ -66,13 +70,12 @@ pub fn push_leaf_digests<F: Family, T: Hasher<F>>(
     ensures { OnOk result (digests.new.items ≡ digests.old.items
         ++ leaf_digests (T.hashing hasher.now) F.rule first (bytes_of elements.now)) }
 {
-    let mut leaves = Vec::new(alloc);
-    let mut done = 0;
-    while done < elements.len() {
-        let end = done + (elements.len() - done).min(LEAVES_AT_ONCE);
-        let location = first + done as u64;
-        push_chunk(hasher, location, &elements[done..end], &mut leaves, digests)?;
-        done = end;
+    let mut waiting = Vec::new(alloc);
+    let mut location = first;
+    for element in elements {
+        let position = F::location_to_position(location);
+        queue_leaf(hasher, position, element, &mut waiting, digests)?;
+        location += 1;
     }
-    Ok(())
+    leaf_digests(hasher, &waiting, digests)
 }
