@@ -42,14 +42,17 @@ pub fn read_hex(alloc: Global, word: &str) -> Result<Vec<u8>, HexError>
     ensures spelled { IsHexWord word.now → IsOkUnless result HexError.OutOfMemory }
     ensures syntax { IsErrOf result HexError.Syntax ↔ ¬ (IsHexWord word.now) }
 {
-    if !is_hex_word(word) {
-        return Err(HexError::Syntax);
-    }
     match hex::decode(alloc, word) {
         Ok(bytes) => Ok(bytes),
         Err(e) => match e {
-            FromHexError::OutOfMemory => Err(HexError::OutOfMemory),
-            _ => unreachable!(),
+            FromHexError::OutOfMemory => {
+                if is_hex_word(word) {
+                    Err(HexError::OutOfMemory)
+                } else {
+                    Err(HexError::Syntax)
+                }
+            }
+            _ => Err(HexError::Syntax),
         },
     }
 }
