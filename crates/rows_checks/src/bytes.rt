@@ -1,6 +1,7 @@
 //! How many of a structure's ranges have proofs that are accepted as they are written, and refused with a change.
 
-use crate::{MOST_PEAKS, granted};
+use crate::granted;
+use crate::sweep::{sum_by_inactive, sum_by_range};
 use merkle_core::codec::{Read, Write};
 use merkle_core::digest::Digest;
 use merkle_core::error::DecodeError;
@@ -22,48 +23,12 @@ pub fn written_proved<F: Family, H: Hasher<F>>(
     structure: &Mem<F, H::Digest>,
     elements: &[&[u8]],
 ) -> u64 {
-    let mut proved = 0u64;
-    for inactive in 0..=MOST_PEAKS {
-        let found = count_written(alloc, hasher, structure, elements, inactive);
-        proved = proved.saturating_add(found);
-    }
-    proved
-}
-
-// How many ranges are proved by bytes for a number of inactive peaks.
-fn count_written<F: Family, H: Hasher<F>>(
-    alloc: Global,
-    hasher: &H,
-    structure: &Mem<F, H::Digest>,
-    elements: &[&[u8]],
-    inactive: usize,
-) -> u64 {
-    let mut proved = 0u64;
-    for start in 0..elements.len() {
-        let found = &elements[start..];
-        let more = count_written_from(alloc, hasher, structure, found, start, inactive);
-        proved = proved.saturating_add(more);
-    }
-    proved
-}
-
-// How many of the ranges from a location on are proved by bytes, each with the first of the elements.
-fn count_written_from<F: Family, H: Hasher<F>>(
-    alloc: Global,
-    hasher: &H,
-    structure: &Mem<F, H::Digest>,
-    elements: &[&[u8]],
-    start: usize,
-    inactive: usize,
-) -> u64 {
-    let mut proved = 0u64;
-    for count in 1..=elements.len() {
-        let found = &elements[..count];
-        if let Ok(true) = proves_written(alloc, hasher, structure, found, start, inactive) {
-            proved = proved.saturating_add(1);
-        }
-    }
-    proved
+    sum_by_inactive(|inactive| {
+        sum_by_range(elements, |found, start| {
+            let is_proved = proves_written(alloc, hasher, structure, found, start, inactive);
+            u64::from(matches!(is_proved, Ok(true)))
+        })
+    })
 }
 
 // Whether the bytes of a range's proof are accepted, and refused with a bit flipped, cut anywhere, or with a byte more.

@@ -10,6 +10,7 @@ pub mod refusal;
 pub mod scattered;
 pub mod stores;
 pub mod subsets;
+mod sweep;
 
 /// No structure has more peaks.
 pub const MOST_PEAKS: usize = 64;

@@ -1,7 +1,8 @@
 //! How many ranges of a structure are proved with the pins before them.
 
 use crate::changes::other_digest;
-use crate::{MOST_PEAKS, granted};
+use crate::granted;
+use crate::sweep::{sum_by_inactive, sum_by_range};
 use merkle_core::digest::Digest;
 use merkle_core::family::Family;
 use merkle_core::hasher::Hasher;
@@ -18,48 +19,12 @@ pub fn pinned_ranges_proved<F: Family, H: Hasher<F>>(
     structure: &Mem<F, H::Digest>,
     elements: &[&[u8]],
 ) -> u64 {
-    let mut proved = 0u64;
-    for inactive in 0..=MOST_PEAKS {
-        let found = count_pinned(alloc, hasher, structure, elements, inactive);
-        proved = proved.saturating_add(found);
-    }
-    proved
-}
-
-// How many ranges are proved, with the pins before them, for a number of inactive peaks.
-fn count_pinned<F: Family, H: Hasher<F>>(
-    alloc: Global,
-    hasher: &H,
-    structure: &Mem<F, H::Digest>,
-    elements: &[&[u8]],
-    inactive: usize,
-) -> u64 {
-    let mut proved = 0u64;
-    for start in 0..elements.len() {
-        let found = &elements[start..];
-        let more = count_pinned_from(alloc, hasher, structure, found, start, inactive);
-        proved = proved.saturating_add(more);
-    }
-    proved
-}
-
-// How many of the ranges from a location on are proved, each with the first of the elements.
-fn count_pinned_from<F: Family, H: Hasher<F>>(
-    alloc: Global,
-    hasher: &H,
-    structure: &Mem<F, H::Digest>,
-    elements: &[&[u8]],
-    start: usize,
-    inactive: usize,
-) -> u64 {
-    let mut proved = 0u64;
-    for count in 1..=elements.len() {
-        let found = &elements[..count];
-        if let Ok(true) = proves_pins(alloc, hasher, structure, found, start, inactive) {
-            proved = proved.saturating_add(1);
-        }
-    }
-    proved
+    sum_by_inactive(|inactive| {
+        sum_by_range(elements, |found, start| {
+            let is_proved = proves_pins(alloc, hasher, structure, found, start, inactive);
+            u64::from(matches!(is_proved, Ok(true)))
+        })
+    })
 }
 
 // Whether the proof of a range is accepted with the pins before it, and refused where a digest, a pin or the number of pins

@@ -1,7 +1,8 @@
 //! Checks of leaves and ranges, and how many of a structure's are proved.
 
 use crate::changes::changed;
-use crate::{MOST_PEAKS, granted};
+use crate::granted;
+use crate::sweep::{sum_by_inactive, sum_by_range};
 use merkle_core::family::Family;
 use merkle_core::hasher::Hasher;
 use merkle_core::location::Location;
@@ -52,12 +53,7 @@ pub fn leaves_proved<F: Family, H: Hasher<F>>(
     structure: &Mem<F, H::Digest>,
     elements: &[Vec<u8>],
 ) -> u64 {
-    let mut proved = 0u64;
-    for inactive in 0..=MOST_PEAKS {
-        let found = count_leaves(alloc, hasher, structure, elements, inactive);
-        proved = proved.saturating_add(found);
-    }
-    proved
+    sum_by_inactive(|inactive| count_leaves(alloc, hasher, structure, elements, inactive))
 }
 
 // How many leaves are proved for a number of inactive peaks.
@@ -119,48 +115,12 @@ pub fn ranges_proved<F: Family, H: Hasher<F>>(
     structure: &Mem<F, H::Digest>,
     elements: &[Vec<u8>],
 ) -> u64 {
-    let mut proved = 0u64;
-    for inactive in 0..=MOST_PEAKS {
-        let found = count_ranges(alloc, hasher, structure, elements, inactive);
-        proved = proved.saturating_add(found);
-    }
-    proved
-}
-
-// How many ranges are proved for a number of inactive peaks.
-fn count_ranges<F: Family, H: Hasher<F>>(
-    alloc: Global,
-    hasher: &H,
-    structure: &Mem<F, H::Digest>,
-    elements: &[Vec<u8>],
-    inactive: usize,
-) -> u64 {
-    let mut proved = 0u64;
-    for start in 0..elements.len() {
-        let found = &elements[start..];
-        let more = count_ranges_from(alloc, hasher, structure, found, start, inactive);
-        proved = proved.saturating_add(more);
-    }
-    proved
-}
-
-// How many of the ranges from a location on are proved, each with the first of the elements.
-fn count_ranges_from<F: Family, H: Hasher<F>>(
-    alloc: Global,
-    hasher: &H,
-    structure: &Mem<F, H::Digest>,
-    elements: &[Vec<u8>],
-    start: usize,
-    inactive: usize,
-) -> u64 {
-    let mut proved = 0u64;
-    for count in 1..=elements.len() {
-        let found = &elements[..count];
-        if let Ok(true) = proves_range(alloc, hasher, structure, found, start, inactive) {
-            proved = proved.saturating_add(1);
-        }
-    }
-    proved
+    sum_by_inactive(|inactive| {
+        sum_by_range(elements, |found, start| {
+            let is_proved = proves_range(alloc, hasher, structure, found, start, inactive);
+            u64::from(matches!(is_proved, Ok(true)))
+        })
+    })
 }
 
 // Whether the proof of a range is accepted with its elements, and refused with another first one.

@@ -1,6 +1,7 @@
 //! How many parts of a structure's ranges are proved by stores.
 
-use crate::{MOST_PEAKS, granted};
+use crate::granted;
+use crate::sweep::{sum_by_inactive, sum_by_range};
 use merkle_core::digest::Digest;
 use merkle_core::family::Family;
 use merkle_core::hasher::Hasher;
@@ -15,46 +16,14 @@ pub fn parts_proved<F: Family, H: Hasher<F>>(
     structure: &Mem<F, H::Digest>,
     elements: &[&[u8]],
 ) -> u64 {
-    let mut proved = 0u64;
-    for inactive in 0..=MOST_PEAKS {
-        let found = count_stores(hasher, structure, elements, inactive);
-        proved = proved.saturating_add(found);
-    }
-    proved
-}
-
-// How many parts of ranges are proved for a number of inactive peaks.
-fn count_stores<F: Family, H: Hasher<F>>(
-    hasher: &H,
-    structure: &Mem<F, H::Digest>,
-    elements: &[&[u8]],
-    inactive: usize,
-) -> u64 {
-    let mut proved = 0u64;
-    for start in 0..elements.len() {
-        let found = &elements[start..];
-        let more = count_stores_from(hasher, structure, found, start, inactive);
-        proved = proved.saturating_add(more);
-    }
-    proved
-}
-
-// How many parts are proved of the ranges from a location on, each with the first of the elements.
-fn count_stores_from<F: Family, H: Hasher<F>>(
-    hasher: &H,
-    structure: &Mem<F, H::Digest>,
-    elements: &[&[u8]],
-    start: usize,
-    inactive: usize,
-) -> u64 {
-    let mut proved = 0u64;
-    for count in 1..=elements.len() {
-        let found = &elements[..count];
-        if let Ok(kept) = KeptRange::new(hasher, structure, found, start, inactive) {
-            proved = proved.saturating_add(kept.count_parts(hasher));
-        }
-    }
-    proved
+    sum_by_inactive(|inactive| {
+        sum_by_range(elements, |found, start| {
+            match KeptRange::new(hasher, structure, found, start, inactive) {
+                Ok(kept) => kept.count_parts(hasher),
+                Err(_) => 0,
+            }
+        })
+    })
 }
 
 // The store of a structure's own proof of some elements.
@@ -94,29 +63,10 @@ impl<'a, F: Family, D: Digest> KeptRange<'a, F, D> {
 
     // How many parts of the range are proved.
     fn count_parts<H: Hasher<F, Digest = D>>(&self, hasher: &H) -> u64 {
-        let mut proved = 0u64;
-        for skipped in 0..self.elements.len() {
-            let found = &self.elements[skipped..];
+        sum_by_range(self.elements, |found, skipped| {
             let start = self.start.saturating_add(skipped);
-            proved = proved.saturating_add(self.count_parts_from(hasher, found, start));
-        }
-        proved
-    }
-
-    // How many of the parts from a location on are proved, each with the first of the elements.
-    fn count_parts_from<H: Hasher<F, Digest = D>>(
-        &self,
-        hasher: &H,
-        elements: &[&[u8]],
-        start: usize,
-    ) -> u64 {
-        let mut proved = 0u64;
-        for count in 1..=elements.len() {
-            if let Ok(true) = self.proves_part(hasher, &elements[..count], start) {
-                proved = proved.saturating_add(1);
-            }
-        }
-        proved
+            u64::from(matches!(self.proves_part(hasher, found, start), Ok(true)))
+        })
     }
 
     // Whether the store's proof of a part is the structure's own, and is accepted with the elements.

@@ -1,8 +1,9 @@
 //! How many choices of a structure's leaves are proved.
 
 use crate::changes::{changed, other_digest};
+use crate::granted;
 use crate::scattered::{check_scattered, scattered_proof};
-use crate::{MOST_PEAKS, granted};
+use crate::sweep::sum_by_inactive;
 use merkle_core::digest::Digest;
 use merkle_core::family::Family;
 use merkle_core::hasher::Hasher;
@@ -25,12 +26,9 @@ pub fn subsets_proved<F: Family, H: Hasher<F>>(
     elements: &[Vec<u8>],
     most: u64,
 ) -> u64 {
-    let mut proved = 0u64;
-    for inactive in 0..=MOST_PEAKS {
-        let found = count_subsets(alloc, hasher, structure, elements, most, inactive);
-        proved = proved.saturating_add(found);
-    }
-    proved
+    sum_by_inactive(|inactive| {
+        count_subsets(alloc, hasher, structure, elements, most, inactive)
+    })
 }
 
 // How many choices of leaves, up to a number of them, are proved for a number of inactive peaks.
