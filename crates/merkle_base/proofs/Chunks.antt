@@ -215,7 +215,7 @@ module _ (rule : List ℕ → List ℕ) (max_leaves : ℕ) (equal : MergesEqual 
       let k = formulas.exists n s a h l e b in
       omega (arith, root_node s k.0 h k.1 (n, l, k.2, k.4) k.3, get_below (forest rule n).nodes k.0 k.1 k.2)
 
-  -- what stands over a stretch from the leaf count on that the formula tells
+  -- the nodes over a stretch of leaves, from the leaf count on that the formula gives
   pub nodes_inside_born : (n s a h : ℕ) → n ≤ max_leaves → s ≡ a * 2 ^ h → birth s h ≤ n → map placed (nodes_inside rule n s (s + 2 ^ h)) ≡ (root s h, h) ∷ []
   nodes_inside_born n s a h l e b =
       let k = formulas.exists n s a h l e b in

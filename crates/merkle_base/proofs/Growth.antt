@@ -1,4 +1,4 @@
--- What a append_leaf leaf and a merge keep, and so what holds of every forest.
+-- What an appended leaf and a merge preserve, and so what holds of every forest.
 use Rattle.std.proofs.Common.{◌≡◌, ℕ, zero, suc, ◌+◌, ◌<◌, ◌⊎◌, List, [], ◌∷◌, ◌++◌, length, map, length-append, append-nil, Some, slice_get, arith, refl, sym, inl, inr, ◌∙◌}
 use Rattle.std.specs.List.{AllByRecursion}
 use Rattle.merkle_base.specs.Tree.{Tree, leaf, join, position, height, first_leaf, IsUnder, IsBuilt}
@@ -11,7 +11,7 @@ pub merges_keep : (P : ℕ → Forest → Type 0) → ((n i : ℕ) (f : Forest) 
 merges_keep P m n [] f h = h
 merges_keep P m n (i ∷ is) f h = merges_keep P m n is (merge_at i f) (m n i f h)
 
--- what holds of the empty forest, and is kept by a append_leaf leaf and by a merge, holds of each forest
+-- what holds of the empty forest, and is preserved by an appended leaf and by a merge, holds of each forest
 pub forest_induct : (P : ℕ → Forest → Type 0) → P 0 empty_forest → ((n : ℕ) (f : Forest) → P n f → P (suc n) (append_leaf n f)) → ((n i : ℕ) (f : Forest) → P n f → P n (merge_at i f)) → (rule : List ℕ → List ℕ) (n : ℕ) → P n (forest rule n)
 unfolding forest
 forest_induct P z p m rule zero = z
@@ -88,11 +88,11 @@ get_joined_cases ns i p ts t e = elim (joined_cases (length ns) i ts) [
 ]
 
 -- ---- the law
-pub append_and_merge_empty : IsGrown 0 empty_forest
-append_and_merge_empty = record { placed = λ p t e. absurd (cc); covers = refl; built = tt; under = λ p t e. absurd (cc); counted = refl }
+pub grown-empty : IsGrown 0 empty_forest
+grown-empty = record { placed = λ p t e. absurd (cc); covers = refl; built = tt; under = λ p t e. absurd (cc); counted = refl }
 
-pub append_and_merge_append_leaf : (n : ℕ) (f : Forest) → IsGrown n f → IsGrown (suc n) (append_leaf n f)
-append_and_merge_append_leaf n f g = record {
+pub grown-append_leaf : (n : ℕ) (f : Forest) → IsGrown n f → IsGrown (suc n) (append_leaf n f)
+grown-append_leaf n f g = record {
   placed = λ p t e. elim (get_push_cases f.nodes (leaf (length f.nodes) n) p t e) [ inl h ↦ g.placed p t h | inr h ↦ rw (h.1, h.0) refl ];
   covers = (omega arith, g.covers);
   built = (get_push f.nodes [] (leaf (length f.nodes) n), all_built_front f.nodes (leaf (length f.nodes) n ∷ []) f.peaks g.built);
@@ -100,8 +100,8 @@ append_and_merge_append_leaf n f g = record {
   counted = omega (arith, g.counted, length-append f.nodes (leaf (length f.nodes) n ∷ []));
 }
 
-pub append_and_merge_merged : (n i : ℕ) (f : Forest) → IsGrown n f → IsGrown n (merge_at i f)
-append_and_merge_merged n i f g = record {
+pub grown-merge_at : (n i : ℕ) (f : Forest) → IsGrown n f → IsGrown n (merge_at i f)
+grown-merge_at n i f g = record {
   placed = λ p t e. elim (get_joined_cases f.nodes i p f.peaks t e) [ inl h ↦ g.placed p t h | inr h ↦ h.1 ∙ sym h.0 ];
   covers = covers_joined (length f.nodes) i n f.peaks g.covers;
   built = built_joined f.nodes i n f.peaks g.covers g.built;
@@ -110,4 +110,4 @@ append_and_merge_merged n i f g = record {
 }
 
 pub forest_grown : (rule : List ℕ → List ℕ) (n : ℕ) → IsGrown n (forest rule n)
-forest_grown rule n = forest_induct IsGrown append_and_merge_empty append_and_merge_append_leaf append_and_merge_merged rule n
+forest_grown rule n = forest_induct IsGrown grown-empty grown-append_leaf grown-merge_at rule n

@@ -60,13 +60,13 @@ none_before a o n [] c l = refl
 none_before a o n (t ∷ ts) c l = filter_no (λ u. nat_le (end_leaf u) a) t ts (lt-leb (end_leaf t) a (omega (arith, c.0))) ∙ none_before a (o + width t) n ts c.1 (omega arith)
 
 -- ---- counting them
--- so many of the peaks are counted, those that are left begin at a location, and are placed so
+-- of the peaks, `count` are counted; those that are left begin at location `begin` and are placed as `left` says
 pub record Counted (rule : List ℕ → List ℕ) (n floor : ℕ) (left : List (ℕ × ℕ)) (begin count : ℕ) : Type 0 where
   pub rest : List Tree
   pub left_is : left ≡ map placed rest
   pub spans : Spans begin n rest
   pub balanced : AllByRecursion IsBalanced rest
-  pub few : count ≤ begin
+  pub at_most_begin : count ≤ begin
   pub counted : count + length (wholly_before floor rest) ≡ inactive_peaks rule n floor
 
 pub counting : (rule : List ℕ → List ℕ) (n floor : ℕ) (left : List (ℕ × ℕ)) → MergesEqual rule n → left ≡ map placed (peaks_of rule n) → Counted rule n floor left 0 0
@@ -75,7 +75,7 @@ counting rule n floor left equal e = record {
   left_is = e;
   spans = peaks_spans rule n;
   balanced = all_reverse IsBalanced (forest rule n).peaks (peaks_balanced rule n equal n (omega arith));
-  few = omega arith;
+  at_most_begin = omega arith;
   counted = omega arith;
 }
 
@@ -87,7 +87,7 @@ spans_end o n (t ∷ ts) c = omega (arith, spans_end (o + width t) n ts c.1)
 -- the next peak, of height h: where it ends, and what it counts
 pub record Next (rule : List ℕ → List ℕ) (n floor h : ℕ) (more : List (ℕ × ℕ)) (end count : ℕ) : Type 0 where
   pub low : h < 63
-  pub few : count < end
+  pub below_end : count < end
   pub within : end ≤ n
   pub below : end ≤ floor → Counted rule n floor more end (count + 1)
   pub above : floor < end → count ≡ inactive_peaks rule n floor
@@ -106,14 +106,14 @@ next_counted rule m k law n floor l left begin count w p h more e = step w.rest 
         let ends : begin + width t ≡ begin + 1 * 2 ^ h % 2 ^ 64 = omega (arith, wide, one_shl h 64 (omega (arith, low))) in
         let here : end_leaf t ≡ begin + width t = omega (arith, s.0) in record {
           low = low;
-          few = omega (arith, w.few, width_pos t, ends);
+          below_end = omega (arith, w.at_most_begin, width_pos t, ends);
           within = omega (arith, within, ends);
           below = λ u. record {
             rest = ts;
             left_is = others;
             spans = subst (λ (q : ℕ). Spans q n ts) ends s.1;
             balanced = b.1;
-            few = omega (arith, w.few, width_pos t, ends);
+            at_most_begin = omega (arith, w.at_most_begin, width_pos t, ends);
             counted = omega (arith, c, ap length (filter_yes (λ (v : Tree). nat_le (end_leaf v) floor) t ts (le-leb (end_leaf t) floor (omega (arith, u, here, ends)))));
           };
           above = λ u. omega (arith, c, ap length (filter_no (λ (v : Tree). nat_le (end_leaf v) floor) t ts (lt-leb (end_leaf t) floor (omega (arith, u, here, ends))) ∙ none_before floor (begin + width t) n ts s.1 (omega (arith, u, ends))));

@@ -42,8 +42,7 @@ abbrev pub stretch_nodes : (root birth : ℕ → ℕ → ℕ) → (n s h : ℕ) 
 stretch_nodes root birth n s zero = (root s 0, 0) ∷ []
 stretch_nodes root birth n s (suc h) = cond (leb (birth s (suc h)) n) ((root s (suc h), suc h) ∷ []) ((root s h, h) ∷ stretch_nodes root birth n (s + 2 ^ h) h)
 
--- What formulas tell of a family's nodes: the node of height h over the leaves from s on stands at `root s h`, and comes with leaf count
--- `birth s h`.
+-- What formulas give of a family's nodes: the node of height h over the leaves from s on is at `root s h`, from leaf count `birth s h` on.
 pub record AreCoordinates (rule : List ℕ → List ℕ) (max_leaves : ℕ) (root birth : ℕ → ℕ → ℕ) : Type 0 where
   -- a node stands there, from a multiple of its own number of leaves on
   pub place : (n p : ℕ) (t : Tree) → n ≤ max_leaves → slice_get (forest rule n).nodes p ≡ Some t → p ≡ root (first_leaf t) (height t)

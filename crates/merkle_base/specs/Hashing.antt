@@ -3,18 +3,12 @@ use Rattle.std.specs.Prelude.{◌≡◌, ℕ, Bool, List, Decides}
 
 -- the functions of a hasher and of its digests; `empty` stands where a list has no entry
 pub record Hashing (D : Type 0) : Type 0 where
-  -- of a leaf: its position and its element
-  pub leaf : ℕ → List ℕ → D
-  -- of a merged node: its position and its children's digests
-  pub node : ℕ → D → D → D
-  -- of what is folded so far and the next peak
-  pub fold : D → D → D
-  -- of bytes
-  pub hash : List ℕ → D
-  -- the bytes of a digest
-  pub bytes : D → List ℕ
-  -- whether two digests are equal
-  pub same : D → D → Bool
+  pub leaf : ℕ → List ℕ → D  -- of a leaf: its position and its element
+  pub node : ℕ → D → D → D  -- of a merged node: its position and its children's digests
+  pub fold : D → D → D  -- of what is folded so far and the next peak
+  pub hash : List ℕ → D  -- of bytes
+  pub bytes : D → List ℕ  -- the bytes of a digest
+  pub same : D → D → Bool  -- whether two digests are equal
   pub empty : D
 
 -- `same` says of any two digests whether they are equal

@@ -2,7 +2,5 @@
 use Rattle.std.specs.Prelude.{ℕ}
 
 pub record WorkCounts : Type 0 where
-  -- the digests of merged nodes that were computed
-  pub node_digests : ℕ
-  -- the comparisons of a position with the node count of some leaves
-  pub probes : ℕ
+  pub node_digests : ℕ  -- the digests of merged nodes that were computed
+  pub probes : ℕ  -- the comparisons of a position with the size in nodes of a leaf count

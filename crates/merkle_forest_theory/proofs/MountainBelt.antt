@@ -10,7 +10,7 @@ use Rattle.merkle_forest_theory.specs.Mmb.{mmb_merges, mmb_merges_from, birth_le
 use Rattle.merkle_forest_theory.specs.BeltDigits.{digits_after, number_of_digits, spread}
 use Rattle.merkle_forest_theory.specs.Digits.{EndsInOnes}
 use Rattle.merkle_forest_theory.proofs.BeltLawful.{pair_equal, eqb_same, eqb_suc, mmb_heights, number_of_digits-digits_after, number_of_digits_low, length-spread}
-use Rattle.merkle_base.proofs.Growth.{forest_grown, append_and_merge_append_leaf, built_at}
+use Rattle.merkle_base.proofs.Growth.{forest_grown, grown-append_leaf, built_at}
 use Rattle.merkle_base.proofs.Lists.{get_push_cases, get_below}
 use Rattle.merkle_base.proofs.Balance.{heights_forest, peaks_balanced, node_balanced, balanced_count}
 use Rattle.merkle_base.proofs.Births.{joined_born}
@@ -153,7 +153,7 @@ mmb_placed (suc n) p t e =
           let q : mmb_merges_from 0 hs ≡ j ∷ [] = ap (mmb_merges_from 0) k ∙ m.rule in
           let d : slice_get (f.nodes ++ parent_of_peaks (length f.nodes) j f.peaks) p ≡ Some t = subst (λ (is : List ℕ). slice_get (merge_all is f).nodes p ≡ Some t) q e in
           let equal : EqualAt j (0 ∷ hs) = (subst (λ (is : List ℕ). AreEqualMerges is (0 ∷ hs)) q (pair_equal 0 hs)).0 in
-          let b = joined_born (length f.nodes) j (suc n) f.peaks equal (append_and_merge_append_leaf n (forest mmb_merges n) (forest_grown mmb_merges n)).covers (tt, peaks_balanced mmb_merges n (mmb_equal n) n (omega arith)) in
+          let b = joined_born (length f.nodes) j (suc n) f.peaks equal (grown-append_leaf n (forest mmb_merges n) (forest_grown mmb_merges n)).covers (tt, peaks_balanced mmb_merges n (mmb_equal n) n (omega arith)) in
           elim (get_push_cases f.nodes b.0 p t (rw b.1 at d)) [
             | inl o ↦ old o
             | inr o ↦ rw o.1 (placed_join n p j m.rest b.0 l
@@ -177,7 +177,7 @@ before : (n p x : ℕ) → p ≡ size mmb_merges x + 1 → p < size mmb_merges n
 before n p x e l = elim (cases_lt x n) [ inl h ↦ h | inr h ↦ absurd (omega (arith, size_le mmb_merges n x h)) ]
 
 -- ---- children
--- What holds of a merged node at p and its children: it comes with leaf x.
+-- What holds of a merged node at p and its children: it is created with leaf x.
 pub record IsJoined (n p : ℕ) (a b : Tree) : Type 0 where
   pub x : ℕ
   pub at : p ≡ size mmb_merges x + 1

@@ -9,7 +9,7 @@ use Rattle.merkle_forest_theory.specs.Ascending.{AscendsFrom}
 use Rattle.merkle_forest_theory.specs.Mmr.{mmr_merges, mmr_merges_from, IsPostorder, Stacked, IsBornAt}
 use Rattle.merkle_forest_theory.specs.Digits.{EndsInOnes}
 use Rattle.merkle_forest_theory.proofs.RangeLawful.{mmr_merges_equal, mmr_ascends, mmr_weight, ascends_multiple}
-use Rattle.merkle_base.proofs.Growth.{forest_grown, append_and_merge_append_leaf}
+use Rattle.merkle_base.proofs.Growth.{forest_grown, grown-append_leaf}
 use Rattle.merkle_base.proofs.Lists.{get_below}
 use Rattle.merkle_base.proofs.Balance.{heights_forest, heights_joined, peaks_balanced, covers_weight}
 use Rattle.merkle_base.proofs.Births.{leaf_at, get_append_cases, all_get}
@@ -139,7 +139,7 @@ mmr_step n =
     let hs : List ℕ = map height (forest mmr_merges n).peaks in
     let k : hs ≡ peak_heights mmr_merges n = heights_forest mmr_merges n in
     let b = mmr_new (suc n) hs 0 f.nodes f.peaks refl (subst (AscendsFrom 0) (sym k) (mmr_ascends n))
-    (append_and_merge_append_leaf n (forest mmr_merges n) (forest_grown mmr_merges n)).covers (tt, peaks_balanced mmr_merges n (mmr_equal n) n (omega arith)) in
+    (grown-append_leaf n (forest mmr_merges n) (forest_grown mmr_merges n)).covers (tt, peaks_balanced mmr_merges n (mmr_equal n) n (omega arith)) in
     (b.0, b.1 ∙ append_assoc (forest mmr_merges n).nodes (leaf (size mmr_merges n) n ∷ []) b.0, b.2)
 
 pub mmr_born : (n p : ℕ) (t : Tree) → slice_get (forest mmr_merges n).nodes p ≡ Some t → IsPlaced p t

@@ -1,4 +1,4 @@
--- The greatest leaf count that has no more than so many nodes, by the logarithm.
+-- The greatest leaf count whose size in nodes does not exceed a number, by the logarithm.
 use Rattle.std.proofs.Common.{◌≡◌, ℕ, zero, suc, ◌+◌, ◌*◌, ◌^◌, ◌-◌, ◌/◌, ◌<◌, ◌≤◌, length, arith, pow-suc, sym, subst}
 use Rattle.merkle_base.specs.Forest.{size}
 use Rattle.merkle_base.specs.Heights.{peak_heights}

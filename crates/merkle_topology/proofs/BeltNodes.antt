@@ -88,7 +88,7 @@ mmb_leaf_height n p at b w t e =
     let up : size mmb_merges n + 0 < size mmb_merges (suc n) = subst (λ (m : ℕ). size mmb_merges n + 0 < size mmb_merges m) next (omega arith) in
     sym (height_at mmb_merges (suc n) (mmb_equal (suc n)) n 0 w t (omega arith) up (rw (← none) at e))
 
--- a node after the leaf that it comes with
+-- a node after the leaf that it is created with
 pub mmb_parent_height : (n p : ℕ) → n ≤ 4611686018427387934 → size mmb_merges n ≤ p → size mmb_merges n ≢ p → p < size mmb_merges (n + 1) → IsHeightAt mmb_merges p (trailing_ones w64 (n + 1) + 1)
 mmb_parent_height n p small a other b w t e =
     let next : n + 1 ≡ suc n = omega arith in
@@ -101,8 +101,8 @@ mmb_parent_height n p small a other b w t e =
       | inr h ↦ sym (k ∙ ap (λ (hs : List ℕ). slice_index (0 ∷ hs) 1) h.1 ∙ omega (arith, ends_trailing h.0 (n + 1) h.2 (omega arith)))
     ]
 
--- ---- the parent that comes with a leaf
--- whether n + 2 is a power of two tells whether there is none
+-- ---- the parent that is created with a leaf
+-- there is none exactly where n + 2 is a power of two
 pub mmb_parent : (n : ℕ) → n + 2 < 2 ^ 64 → (b : Bool) → b ≡ is_power_of_two (n + 2) →
     (b ≡ true → parent_heights mmb_merges n ≡ []) × (b ≡ false → parent_heights mmb_merges n ≡ (trailing_ones w64 (n + 1) + 1) ∷ [])
 mmb_parent n l b e = elim (mmb_parents n) [

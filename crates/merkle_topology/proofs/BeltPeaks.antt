@@ -69,7 +69,7 @@ one_less : (q w : ℕ) → 1 ≤ q → (q - 1) * w + w ≡ q * w
 one_less zero w l = absurd (omega arith)
 one_less (suc q) w l = (let e : suc q - 1 ≡ q = omega arith in rw e (omega arith))
 
--- the leaf that a root comes with is there where the root is
+-- where a root is, the leaf that it is created with is too
 pub birth_below : (s h n : ℕ) → mmb_position s h < size mmb_merges n → birth_leaf s h < n
 birth_below s zero n l = grind (arith, size_le mmb_merges n s)
 birth_below s (suc h) n l = grind (arith, size_le mmb_merges n (s + 3 * 2 ^ h - 2))
@@ -139,7 +139,7 @@ peak_fits n i small l =
       width = one_shl (peak_height n i) 64 (omega arith);
     }
 
--- ---- so many peaks
+-- ---- the number of peaks
 pub length-newest_peaks : (k n : ℕ) → 2 ^ k ≤ n + 1 → length (newest_peaks k n) ≡ k
 length-newest_peaks k n l =
     length-map (reverse (take k (forest mmb_merges n).peaks)) placed ∙ length-reverse (take k (forest mmb_merges n).peaks)

@@ -27,7 +27,7 @@ pub overflow_add-count : goal.overflow_add-count
 overflow_add-count g c =
     let y = g.met.F.Peaks.Listed.gives_first _ _ _ c.in-Some.ensures.steps in
     let n = next_counted _ _ _ g.met.F.Family.lawful _ _ c.requires _ _ _ c.loop-height.invariant.2 _ _ _ y in
-    omega (arith, n.few, n.within, c.requires, lawful_leaves _ _ _ g.met.F.Family.lawful)
+    omega (arith, n.below_end, n.within, c.requires, lawful_leaves _ _ _ g.met.F.Family.lawful)
 
 pub loop-height-preserved : goal.loop-height-preserved
 loop-height-preserved g c =
