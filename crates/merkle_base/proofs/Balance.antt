@@ -2,10 +2,11 @@
 use Rattle.std.proofs.Common.{◌≡◌, ℕ, zero, suc, ◌^◌, ◌≤◌, List, [], ◌∷◌, length, map, Some, slice_get, arith, refl, sym, ap, inl, inr, ◌∙◌, subst, pow-suc}
 use Rattle.std.specs.List.{AllByRecursion}
 use Rattle.merkle_base.specs.Tree.{Tree, leaf, join, height, first_leaf, width, IsUnder, IsBuilt, IsBalanced}
-use Rattle.merkle_base.specs.Forest.{Forest, append_leaf, merge_peaks, merge_at, merge_all, forest, Covers, IsUnderOne}
+use Rattle.merkle_base.specs.Forest.{Forest, append_leaf, forest, Covers, IsUnderOne}
 use Rattle.merkle_base.specs.Heights.{EqualAt, raised, all_raised, AreEqualMerges, peak_heights, MergesEqual, weight}
 use Rattle.merkle_base.specs.Laws.{IsGrown}
 use Rattle.merkle_base.proofs.Growth.{forest_grown}
+use Rattle.merkle_base.proofs.Merges.{merge_peaks, merged, all_merged, merge_all-parts}
 use Rattle.merkle_base.proofs.Nodes.{first_under, end_under, end_under_one, width_pos}
 
 -- ---- the heights of the peaks
@@ -15,16 +16,18 @@ heights_joined p zero (b ∷ []) = refl
 heights_joined p zero (b ∷ a ∷ ts) = refl
 heights_joined p (suc i) (t ∷ ts) = ap (λ (hs : List ℕ). height t ∷ hs) (heights_joined p i ts)
 
-pub heights_merges : (is : List ℕ) (f : Forest) → map height (merge_all is f).peaks ≡ all_raised is (map height f.peaks)
+pub heights_merges : (is : List ℕ) (f : Forest) → map height (all_merged is f).peaks ≡ all_raised is (map height f.peaks)
 heights_merges [] f = refl
-heights_merges (i ∷ is) f = heights_merges is (merge_at i f) ∙ ap (all_raised is) (heights_joined (length f.nodes) i f.peaks)
+heights_merges (i ∷ is) f = heights_merges is (merged i f) ∙ ap (all_raised is) (heights_joined (length f.nodes) i f.peaks)
 
 -- the heights of the peaks grow by themselves
 pub heights_forest : (rule : List ℕ → List ℕ) (n : ℕ) → map height (forest rule n).peaks ≡ peak_heights rule n
 unfolding forest peak_heights
 heights_forest rule zero = refl
 heights_forest rule (suc n) =
-    heights_merges (rule (0 ∷ map height (forest rule n).peaks)) (append_leaf n (forest rule n)) ∙ ap (λ (hs : List ℕ). all_raised (rule (0 ∷ hs)) (0 ∷ hs)) (heights_forest rule n)
+    let f : Forest = append_leaf n (forest rule n) in
+    ap (λ (g : Forest). map height g.peaks) (merge_all-parts (rule (map height f.peaks)) f)
+    ∙ heights_merges (rule (0 ∷ map height (forest rule n).peaks)) (append_leaf n (forest rule n)) ∙ ap (λ (hs : List ℕ). all_raised (rule (0 ∷ hs)) (0 ∷ hs)) (heights_forest rule n)
 
 -- ---- balance
 pub balanced_joined : (p i : ℕ) (ts : List Tree) → EqualAt i (map height ts) → AllByRecursion IsBalanced ts → AllByRecursion IsBalanced (merge_peaks p i ts)
@@ -33,19 +36,20 @@ balanced_joined p zero (b ∷ []) e h = h
 balanced_joined p zero (b ∷ a ∷ ts) e h = ((e, h.1.0, h.0), h.1.1)
 balanced_joined p (suc i) (t ∷ ts) e h = (h.0, balanced_joined p i ts e h.1)
 
-pub balanced_merges : (is : List ℕ) (f : Forest) → AreEqualMerges is (map height f.peaks) → AllByRecursion IsBalanced f.peaks → AllByRecursion IsBalanced (merge_all is f).peaks
+pub balanced_merges : (is : List ℕ) (f : Forest) → AreEqualMerges is (map height f.peaks) → AllByRecursion IsBalanced f.peaks → AllByRecursion IsBalanced (all_merged is f).peaks
 balanced_merges [] f e h = h
 balanced_merges (i ∷ is) f e h =
-    balanced_merges is (merge_at i f) (subst (AreEqualMerges is) (sym (heights_joined (length f.nodes) i f.peaks)) e.1) (balanced_joined (length f.nodes) i f.peaks e.0 h)
+    balanced_merges is (merged i f) (subst (AreEqualMerges is) (sym (heights_joined (length f.nodes) i f.peaks)) e.1) (balanced_joined (length f.nodes) i f.peaks e.0 h)
 
 pub peaks_balanced : (rule : List ℕ → List ℕ) (max_leaves : ℕ) → MergesEqual rule max_leaves → (n : ℕ) → n ≤ max_leaves → AllByRecursion IsBalanced (forest rule n).peaks
 unfolding forest
 peaks_balanced rule max_leaves equal zero h = tt
 peaks_balanced rule max_leaves equal (suc n) h =
     let f : Forest = append_leaf n (forest rule n) in
-    balanced_merges (rule (map height f.peaks)) f
+    subst (λ (g : Forest). AllByRecursion IsBalanced g.peaks) (sym (merge_all-parts (rule (map height f.peaks)) f))
+    (balanced_merges (rule (map height f.peaks)) f
     (subst (λ (hs : List ℕ). AreEqualMerges (rule (0 ∷ hs)) (0 ∷ hs)) (sym (heights_forest rule n)) (equal n h))
-    (tt, peaks_balanced rule max_leaves equal n (omega arith))
+    (tt, peaks_balanced rule max_leaves equal n (omega arith)))
 
 pub balanced_under : (a t : Tree) → IsUnder a t → IsBalanced t → IsBalanced a
 balanced_under a (leaf p n) u h = subst IsBalanced (sym u) h

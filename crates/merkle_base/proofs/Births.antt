@@ -3,9 +3,10 @@ use Rattle.std.proofs.Common.{◌≡◌, ℕ, zero, suc, ◌+◌, ◌*◌, ◌<�
 use Rattle.std.specs.List.{AllByRecursion}
 use Rattle.std.proofs.lemmas.List.{length-map}
 use Rattle.merkle_base.specs.Tree.{Tree, leaf, join, position, height, first_leaf, IsBalanced}
-use Rattle.merkle_base.specs.Forest.{Forest, append_leaf, parent_of_peaks, merge_peaks, merge_at, merge_all, forest, size, Covers, IsJoin}
+use Rattle.merkle_base.specs.Forest.{Forest, append_leaf, forest, size, Covers, IsJoin}
 use Rattle.merkle_base.specs.Heights.{EqualAt, raised, AreEqualMerges, born_heights, peak_heights, parent_heights, MergesEqual, weight}
 use Rattle.merkle_base.proofs.Growth.{forest_grown}
+use Rattle.merkle_base.proofs.Merges.{parent_of_peaks, merge_peaks, merged, all_merged, merge_all-parts}
 use Rattle.merkle_base.proofs.Nodes.{forest_step}
 use Rattle.merkle_base.proofs.Balance.{heights_forest, heights_joined, balanced_count}
 
@@ -29,12 +30,12 @@ pub map-append : (xs ys : List Tree) → map height (xs ++ ys) ≡ map height xs
 map-append [] ys = refl
 map-append (x ∷ xs) ys = ap (λ (hs : List ℕ). height x ∷ hs) (map-append xs ys)
 
-pub merges_born : (is : List ℕ) (f : Forest) → AreEqualMerges is (map height f.peaks) → (js : List Tree) × ((merge_all is f).nodes ≡ f.nodes ++ js) × (map height js ≡ born_heights is (map height f.peaks))
+pub merges_born : (is : List ℕ) (f : Forest) → AreEqualMerges is (map height f.peaks) → (js : List Tree) × ((all_merged is f).nodes ≡ f.nodes ++ js) × (map height js ≡ born_heights is (map height f.peaks))
 merges_born [] f e = ([], sym (append-nil f.nodes), refl)
 merges_born (i ∷ is) f e =
     let one : List Tree = parent_of_peaks (length f.nodes) i f.peaks in
     let m : map height (merge_peaks (length f.nodes) i f.peaks) ≡ raised i (map height f.peaks) = heights_joined (length f.nodes) i f.peaks in
-    let h = merges_born is (merge_at i f) (subst (AreEqualMerges is) (sym m) e.1) in (
+    let h = merges_born is (merged i f) (subst (AreEqualMerges is) (sym m) e.1) in (
       one ++ h.0,
       h.1 ∙ append_assoc f.nodes one h.0,
       map-append one h.0 ∙ ap (λ (hs : List ℕ). hs ++ map height h.0) (heights_born_joined (length f.nodes) i f.peaks e.0)
@@ -49,7 +50,7 @@ forest_born rule max_leaves equal n b =
     let f : Forest = append_leaf n (forest rule n) in
     let k : map height (forest rule n).peaks ≡ peak_heights rule n = heights_forest rule n in
     let h = merges_born (rule (map height f.peaks)) f (subst (λ (hs : List ℕ). AreEqualMerges (rule (0 ∷ hs)) (0 ∷ hs)) (sym k) (equal n b)) in
-    (h.0, h.1 ∙ append_assoc (forest rule n).nodes (leaf (size rule n) n ∷ []) h.0, h.2 ∙ ap (λ (hs : List ℕ). born_heights (rule (0 ∷ hs)) (0 ∷ hs)) k)
+    (h.0, ap (λ (g : Forest). g.nodes) (merge_all-parts (rule (map height f.peaks)) f) ∙ h.1 ∙ append_assoc (forest rule n).nodes (leaf (size rule n) n ∷ []) h.0, h.2 ∙ ap (λ (hs : List ℕ). born_heights (rule (0 ∷ hs)) (0 ∷ hs)) k)
 
 -- ---- where leaves stand
 pub all_get : {X : Type 0} (P : X → Type 0) (xs : List X) (i : ℕ) (x : X) → AllByRecursion P xs → slice_get xs i ≡ Some x → P x

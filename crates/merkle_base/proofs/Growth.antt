@@ -1,22 +1,25 @@
 -- What an appended leaf and a merge preserve, and so what holds of every forest.
-use Rattle.std.proofs.Common.{◌≡◌, ℕ, zero, suc, ◌+◌, ◌<◌, ◌⊎◌, List, [], ◌∷◌, ◌++◌, length, map, length-append, append-nil, Some, slice_get, arith, refl, sym, inl, inr, ◌∙◌}
+use Rattle.std.proofs.Common.{◌≡◌, ℕ, zero, suc, ◌+◌, ◌<◌, ◌⊎◌, List, [], ◌∷◌, ◌++◌, length, map, length-append, append-nil, Some, slice_get, arith, refl, sym, subst, inl, inr, ◌∙◌}
 use Rattle.std.specs.List.{AllByRecursion}
 use Rattle.merkle_base.specs.Tree.{Tree, leaf, join, position, height, first_leaf, IsUnder, IsBuilt}
-use Rattle.merkle_base.specs.Forest.{Forest, empty_forest, append_leaf, parent_of_peaks, merge_peaks, merge_at, merge_all, forest, Covers, IsUnderOne}
+use Rattle.merkle_base.specs.Forest.{Forest, append_leaf, forest, Covers, IsUnderOne}
 use Rattle.merkle_base.specs.Laws.{IsGrown}
 use Rattle.merkle_base.proofs.Lists.{get_front, get_push, get_below, get_push_cases}
+use Rattle.merkle_base.proofs.Merges.{empty_forest, parent_of_peaks, merge_peaks, merged, all_merged, merge_all-parts}
 
 -- ---- induction
-pub merges_keep : (P : ℕ → Forest → Type 0) → ((n i : ℕ) (f : Forest) → P n f → P n (merge_at i f)) → (n : ℕ) (is : List ℕ) (f : Forest) → P n f → P n (merge_all is f)
+pub merges_keep : (P : ℕ → Forest → Type 0) → ((n i : ℕ) (f : Forest) → P n f → P n (merged i f)) → (n : ℕ) (is : List ℕ) (f : Forest) → P n f → P n (all_merged is f)
 merges_keep P m n [] f h = h
-merges_keep P m n (i ∷ is) f h = merges_keep P m n is (merge_at i f) (m n i f h)
+merges_keep P m n (i ∷ is) f h = merges_keep P m n is (merged i f) (m n i f h)
 
 -- what holds of the empty forest, and is preserved by an appended leaf and by a merge, holds of each forest
-pub forest_induct : (P : ℕ → Forest → Type 0) → P 0 empty_forest → ((n : ℕ) (f : Forest) → P n f → P (suc n) (append_leaf n f)) → ((n i : ℕ) (f : Forest) → P n f → P n (merge_at i f)) → (rule : List ℕ → List ℕ) (n : ℕ) → P n (forest rule n)
+pub forest_induct : (P : ℕ → Forest → Type 0) → P 0 empty_forest → ((n : ℕ) (f : Forest) → P n f → P (suc n) (append_leaf n f)) → ((n i : ℕ) (f : Forest) → P n f → P n (merged i f)) → (rule : List ℕ → List ℕ) (n : ℕ) → P n (forest rule n)
 unfolding forest
 forest_induct P z p m rule zero = z
 forest_induct P z p m rule (suc n) =
-    merges_keep P m (suc n) (rule (map height (append_leaf n (forest rule n)).peaks)) (append_leaf n (forest rule n)) (p n (forest rule n) (forest_induct P z p m rule n))
+    let f : Forest = append_leaf n (forest rule n) in
+    let is : List ℕ = rule (map height f.peaks) in
+    subst (P (suc n)) (sym (merge_all-parts is f)) (merges_keep P m (suc n) is f (p n (forest rule n) (forest_induct P z p m rule n)))
 
 -- ---- nodes
 pub IsBuilt-front : (ns ms : List Tree) (t : Tree) → IsBuilt ns t → IsBuilt (ns ++ ms) t
@@ -100,8 +103,8 @@ grown-append_leaf n f g = record {
   counted = omega (arith, g.counted, length-append f.nodes (leaf (length f.nodes) n ∷ []));
 }
 
-pub grown-merge_at : (n i : ℕ) (f : Forest) → IsGrown n f → IsGrown n (merge_at i f)
-grown-merge_at n i f g = record {
+pub grown-merged : (n i : ℕ) (f : Forest) → IsGrown n f → IsGrown n (merged i f)
+grown-merged n i f g = record {
   placed = λ p t e. elim (get_joined_cases f.nodes i p f.peaks t e) [ inl h ↦ g.placed p t h | inr h ↦ h.1 ∙ sym h.0 ];
   covers = covers_joined (length f.nodes) i n f.peaks g.covers;
   built = built_joined f.nodes i n f.peaks g.covers g.built;
@@ -110,4 +113,4 @@ grown-merge_at n i f g = record {
 }
 
 pub forest_grown : (rule : List ℕ → List ℕ) (n : ℕ) → IsGrown n (forest rule n)
-forest_grown rule n = forest_induct IsGrown grown-empty grown-append_leaf grown-merge_at rule n
+forest_grown rule n = forest_induct IsGrown grown-empty grown-append_leaf grown-merged rule n

@@ -1,11 +1,12 @@
 -- A merged node that came after the first b leaves has children that came after them too, or were peaks over them.
-use Rattle.std.proofs.Common.{◌≡◌, ℕ, zero, suc, ◌+◌, ◌-◌, ◌≤◌, ◌⊎◌, List, [], ◌∷◌, length, map, length-append, Some, slice_get, arith, refl, inl, inr, subst, append-nil}
+use Rattle.std.proofs.Common.{◌≡◌, ℕ, zero, suc, ◌+◌, ◌-◌, ◌≤◌, ◌⊎◌, List, [], ◌∷◌, length, map, length-append, Some, slice_get, arith, refl, sym, inl, inr, subst, append-nil}
 use Rattle.std.specs.List.{AllByRecursion}
 use Rattle.merkle_base.specs.Tree.{Tree, leaf, join, height}
-use Rattle.merkle_base.specs.Forest.{Forest, append_leaf, parent_of_peaks, merge_peaks, merge_at, forest, size}
+use Rattle.merkle_base.specs.Forest.{Forest, append_leaf, forest, size}
 use Rattle.merkle_base.specs.Held.{IsHeld, ChildrenHeld}
 use Rattle.merkle_base.proofs.Lists.{get_below, get_push_cases, all_from_get}
 use Rattle.merkle_base.proofs.Growth.{merges_keep}
+use Rattle.merkle_base.proofs.Merges.{parent_of_peaks, merge_peaks, merged, merge_all-parts}
 
 record IsHeldForest (b : ℕ) (old : List Tree) (f : Forest) : Type 0 where
   enough : b ≤ length f.nodes
@@ -31,7 +32,7 @@ held_append_leaf b old n f h = record {
   nodes = λ p t e l. elim (get_push_cases f.nodes (leaf (length f.nodes) n) p t e) [ inl d ↦ h.nodes p t d l | inr d ↦ rw d.1 tt ];
 }
 
-held_merged : (b : ℕ) (old : List Tree) (i : ℕ) (f : Forest) → IsHeldForest b old f → IsHeldForest b old (merge_at i f)
+held_merged : (b : ℕ) (old : List Tree) (i : ℕ) (f : Forest) → IsHeldForest b old f → IsHeldForest b old (merged i f)
 held_merged b old i f h = record {
   enough = omega (arith, h.enough, length-append f.nodes (parent_of_peaks (length f.nodes) i f.peaks));
   peaks = held_joined b old (length f.nodes) i f.peaks h.enough h.peaks;
@@ -51,8 +52,9 @@ held_forest rule b zero = (let e : 0 + b ≡ b = omega arith in rw e record {
 held_forest rule b (suc k) =
     (let e : suc k + b ≡ suc (k + b) = omega arith in
     let f : Forest = append_leaf (k + b) (forest rule (k + b)) in
-    rw e (merges_keep (λ n. IsHeldForest (size rule b) (forest rule b).peaks) (λ n. held_merged (size rule b) (forest rule b).peaks) 0
-    (rule (map height f.peaks)) f (held_append_leaf (size rule b) (forest rule b).peaks (k + b) (forest rule (k + b)) (held_forest rule b k))))
+    rw e (subst (IsHeldForest (size rule b) (forest rule b).peaks) (sym (merge_all-parts (rule (map height f.peaks)) f))
+    (merges_keep (λ n. IsHeldForest (size rule b) (forest rule b).peaks) (λ n. held_merged (size rule b) (forest rule b).peaks) 0
+    (rule (map height f.peaks)) f (held_append_leaf (size rule b) (forest rule b).peaks (k + b) (forest rule (k + b)) (held_forest rule b k)))))
 
 -- the children of a node at the size of b leaves or after it stand there too, or are peaks of b leaves
 pub children_held : (rule : List ℕ → List ℕ) (b n p : ℕ) (t : Tree) → b ≤ n → slice_get (forest rule n).nodes p ≡ Some t → size rule b ≤ p → ChildrenHeld (size rule b) (forest rule b).peaks t

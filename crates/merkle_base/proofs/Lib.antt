@@ -1,6 +1,8 @@
+pub mod RightFolds
 pub mod Cases
 pub mod FirstCases
 pub mod Lists
+pub mod Merges
 pub mod Growth
 pub mod Nodes
 pub mod Balance

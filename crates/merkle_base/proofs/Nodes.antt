@@ -4,10 +4,11 @@ use Rattle.std.specs.List.{AllByRecursion, range_with_len}
 use Rattle.std.proofs.lemmas.List.{reverse-append}
 use Rattle.std.proofs.lemmas.Bool.{cases_lt}
 use Rattle.merkle_base.specs.Tree.{Tree, leaf, join, height, first_leaf, width, locations, IsUnder, IsBuilt}
-use Rattle.merkle_base.specs.Forest.{Forest, append_leaf, parent_of_peaks, merge_at, merge_all, forest, size, Covers, IsUnderOne, IsJoin}
+use Rattle.merkle_base.specs.Forest.{Forest, append_leaf, forest, size, Covers, IsUnderOne, IsJoin}
 use Rattle.merkle_base.specs.Laws.{IsGrown}
 use Rattle.merkle_base.proofs.Lists.{get_front, get_push, get_below}
 use Rattle.merkle_base.proofs.Growth.{forest_grown}
+use Rattle.merkle_base.proofs.Merges.{parent_of_peaks, merged, all_merged, merge_all-parts}
 
 -- ---- what stands under a built tree is built
 pub built_under : (ns : List Tree) (a t : Tree) → IsUnder a t → IsBuilt ns t → IsBuilt ns a
@@ -95,10 +96,10 @@ pub all_append : {X : Type 0} (P : X → Type 0) (xs ys : List X) → AllByRecur
 all_append P [] ys h k = k
 all_append P (x ∷ xs) ys h k = (h.0, all_append P xs ys h.1 k)
 
-pub merges_append : (is : List ℕ) (f : Forest) → (js : List Tree) × ((merge_all is f).nodes ≡ f.nodes ++ js) × AllByRecursion IsJoin js
+pub merges_append : (is : List ℕ) (f : Forest) → (js : List Tree) × ((all_merged is f).nodes ≡ f.nodes ++ js) × AllByRecursion IsJoin js
 merges_append [] f = ([], sym (append-nil f.nodes), tt)
 merges_append (i ∷ is) f =
-    let h = merges_append is (merge_at i f) in
+    let h = merges_append is (merged i f) in
     let one : List Tree = parent_of_peaks (length f.nodes) i f.peaks in
     (one ++ h.0, h.1 ∙ append_assoc f.nodes one h.0, all_append IsJoin one h.0 (joins_of_joined (length f.nodes) i f.peaks) h.2)
 
@@ -108,7 +109,7 @@ unfolding forest
 forest_step rule n =
     let f : Forest = append_leaf n (forest rule n) in
     let h = merges_append (rule (map height f.peaks)) f in
-    (h.0, h.1 ∙ append_assoc (forest rule n).nodes (leaf (size rule n) n ∷ []) h.0, h.2)
+    (h.0, ap (λ (g : Forest). g.nodes) (merge_all-parts (rule (map height f.peaks)) f) ∙ h.1 ∙ append_assoc (forest rule n).nodes (leaf (size rule n) n ∷ []) h.0, h.2)
 
 pub forest_prefix_add : (rule : List ℕ → List ℕ) (n k : ℕ) → (js : List Tree) × ((forest rule (k + n)).nodes ≡ (forest rule n).nodes ++ js)
 forest_prefix_add rule n zero = ([], rw (e, append-nil) refl)

@@ -1,5 +1,5 @@
 -- Forests that grow leaf by leaf under a merge rule.
-use Rattle.std.specs.Prelude.{◌≡◌, ℕ, zero, suc, ◌+◌, ◌⊎◌, List, [], ◌∷◌, ◌++◌, map, length}
+use Rattle.std.specs.Prelude.{◌≡◌, ℕ, zero, suc, ◌+◌, ◌⊎◌, List, [], ◌∷◌, ◌++◌, map, length, take, drop, fold}
 use Rattle.merkle_base.specs.Tree.{Tree, leaf, join, height, first_leaf, width, IsUnder}
 
 -- The nodes in the order of their positions, and the peaks, the newest first.
@@ -7,44 +7,22 @@ pub record Forest : Type 0 where
   pub nodes : List Tree
   pub peaks : List Tree
 
-abbrev pub empty_forest : Forest
-empty_forest = record { nodes = []; peaks = [] }
-
 -- leaf n at the next position
 abbrev pub append_leaf : ℕ → Forest → Forest
 append_leaf n f = record { nodes = f.nodes ++ leaf (length f.nodes) n ∷ []; peaks = leaf (length f.nodes) n ∷ f.peaks }
 
--- the node at position p over the i-th newest peak and the one before it, where there are both
-abbrev pub parent_of_peaks : ℕ → ℕ → List Tree → List Tree
-parent_of_peaks p i [] = []
-parent_of_peaks p zero (b ∷ []) = []
-parent_of_peaks p zero (b ∷ a ∷ ts) = join p a b ∷ []
-parent_of_peaks p (suc i) (t ∷ ts) = parent_of_peaks p i ts
-
--- the peaks with that node in the place of the two
-abbrev pub merge_peaks : ℕ → ℕ → List Tree → List Tree
-merge_peaks p i [] = []
-merge_peaks p zero (b ∷ []) = b ∷ []
-merge_peaks p zero (b ∷ a ∷ ts) = join p a b ∷ ts
-merge_peaks p (suc i) (t ∷ ts) = t ∷ merge_peaks p i ts
-
--- one merge
+-- one merge: the i-th newest peak b and the one before it, a, get a parent at the next position, which takes the place of both
 abbrev pub merge_at : ℕ → Forest → Forest
-merge_at i f = record { nodes = f.nodes ++ parent_of_peaks (length f.nodes) i f.peaks; peaks = merge_peaks (length f.nodes) i f.peaks }
+merge_at i f = elim (drop i f.peaks) [
+  | b ∷ a ∷ ts ↦ let t = join (length f.nodes) a b in record { nodes = f.nodes ++ t ∷ []; peaks = take i f.peaks ++ t ∷ ts }
+  | _ ↦ f
+]
 
--- one merge after another
-abbrev pub merge_all : List ℕ → Forest → Forest
-merge_all [] f = f
-merge_all (i ∷ is) f = merge_all is (merge_at i f)
-
--- A rule answers, from the peak heights with the new leaf, newest first, the merges to be done one after another.
-abbrev pub append_and_merge : (List ℕ → List ℕ) → ℕ → Forest → Forest
-append_and_merge rule n f = merge_all (rule (map height (append_leaf n f).peaks)) (append_leaf n f)
-
--- the forest of n leaves
+-- the forest of n leaves: a leaf is appended, and then one merge is done after another; a rule answers them, from the peak heights with
+-- the new leaf, the newest first
 unfoldable pub forest : (List ℕ → List ℕ) → ℕ → Forest
-forest rule zero = empty_forest
-forest rule (suc n) = append_and_merge rule n (forest rule n)
+forest rule zero = record { nodes = []; peaks = [] }
+forest rule (suc n) = let f = append_leaf n (forest rule n) in fold (λ g i. merge_at i g) f (rule (map height f.peaks))
 
 -- the number of nodes
 abbrev pub size : (List ℕ → List ℕ) → ℕ → ℕ

@@ -14,17 +14,13 @@ abbrev pub right_fold : {D : Type 0} → (D → D → D) → List D → Option D
 right_fold f [] = None
 right_fold f (peak ∷ more) = option_map_or (λ b. Some (f peak b)) (right_fold f more) (Some peak)
 
--- acc, which takes in the bag of the peaks, if there are any
-abbrev pub with_right_fold : {D : Type 0} → (D → D → D) → D → List D → D
-with_right_fold f acc peaks = option_map_or (f acc) (right_fold f peaks) acc
-
 -- the one digest that stands for the peaks, if there are any: all folded left to right,
 -- or the first max(inactive, 1) so and the others right to left
 abbrev pub folded : {D : Type 0} → (D → D → D) → Bagging → ℕ → List D → Option D
 folded f bagging inactive [] = None
 folded f ForwardFold inactive (first ∷ others) = Some (fold f first others)
 folded f BackwardFold inactive (first ∷ others) =
-    Some (with_right_fold f (fold f first (take (inactive - 1) others)) (drop (inactive - 1) others))
+    let acc = fold f first (take (inactive - 1) others) in Some (option_map_or (f acc) (right_fold f (drop (inactive - 1) others)) acc)
 
 -- the inactive count, unless it is zero
 abbrev pub inactive_bytes : ℕ → List ℕ

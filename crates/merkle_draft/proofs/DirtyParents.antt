@@ -8,7 +8,8 @@ use Rattle.std.proofs.lemmas.Grind.{flat_map-append}
 use Rattle.std.proofs.lemmas.List.{reverse-append}
 use Rattle.std.proofs.lemmas.List.Elements.{Contains-append_left, Contains-append_right, Contains-append_cases, filter-append}
 use Rattle.merkle_base.specs.Tree.{Tree, leaf, join, position, height, IsUnder, IsBuilt}
-use Rattle.merkle_base.specs.Forest.{parent_of_peaks, merge_peaks, forest}
+use Rattle.merkle_base.specs.Forest.{forest}
+use Rattle.merkle_base.proofs.Merges.{parent_of_peaks, merge_peaks}
 use Rattle.merkle_base.specs.Places.{peaks_of}
 use Rattle.merkle_base.proofs.Births.{all_get}
 use Rattle.merkle_base.proofs.Growth.{forest_induct, forest_grown, built_at}

@@ -2,7 +2,8 @@
 use Rattle.std.proofs.Common.{◌≡◌, ◌≢◌, ℕ, eqb, cond, ◌/◌, ◌%◌, zero, suc, ◌+◌, ◌-◌, ◌*◌, ◌<◌, ◌≤◌, ◌⊎◌, List, [], ◌∷◌, ◌++◌, map, reverse, length, append_assoc, append-nil, length-append, Some, slice_get, arith, refl, sym, ap, inl, inr, ◌∙◌}
 use Rattle.std.proofs.lemmas.List.{map-append, reverse-append}
 use Rattle.merkle_base.specs.Tree.{Tree, leaf, join, height, position}
-use Rattle.merkle_base.specs.Forest.{Forest, forest, size, append_and_merge}
+use Rattle.merkle_base.specs.Forest.{Forest, forest, size}
+use Rattle.merkle_base.proofs.Merges.{append_and_merge}
 use Rattle.merkle_base.specs.Heights.{born_heights, parent_heights}
 use Rattle.merkle_base.specs.Places.{placed, peaks_of}
 use Rattle.merkle_base.proofs.Births.{get_append_cases}

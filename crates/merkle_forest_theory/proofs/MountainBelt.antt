@@ -4,13 +4,14 @@ use Rattle.std.specs.Int.{bit_at}
 use Rattle.std.proofs.lemmas.Nat.Bits.{bit_at-suc, bit_at_lowest, bit_at-lt}
 use Rattle.std.proofs.lemmas.Bool.{cases_lt}
 use Rattle.merkle_base.specs.Tree.{Tree, leaf, join, position, height, first_leaf, IsBalanced}
-use Rattle.merkle_base.specs.Forest.{Forest, append_leaf, parent_of_peaks, merge_all, forest, size}
+use Rattle.merkle_base.specs.Forest.{Forest, append_leaf, forest, size}
 use Rattle.merkle_base.specs.Heights.{EqualAt, raised, AreEqualMerges, born_heights, peak_heights, parent_heights, MergesEqual, weight}
 use Rattle.merkle_forest_theory.specs.Mmb.{mmb_merges, mmb_merges_from, birth_leaf, mmb_position}
 use Rattle.merkle_forest_theory.specs.BeltDigits.{digits_after, number_of_digits, spread}
 use Rattle.merkle_forest_theory.specs.Digits.{EndsInOnes}
 use Rattle.merkle_forest_theory.proofs.BeltLawful.{pair_equal, eqb_same, eqb_suc, mmb_heights, number_of_digits-digits_after, number_of_digits_low, length-spread}
 use Rattle.merkle_base.proofs.Growth.{forest_grown, grown-append_leaf, built_at}
+use Rattle.merkle_base.proofs.Merges.{merge_all, parent_of_peaks, merge_at-parts}
 use Rattle.merkle_base.proofs.Lists.{get_push_cases, get_below}
 use Rattle.merkle_base.proofs.Balance.{heights_forest, peaks_balanced, node_balanced, balanced_count}
 use Rattle.merkle_base.proofs.Births.{joined_born}
@@ -151,7 +152,7 @@ mmb_placed (suc n) p t e =
           (let m = h.1 in let j : ℕ = h.0 in
           let hs : List ℕ = map height (forest mmb_merges n).peaks in
           let q : mmb_merges_from 0 hs ≡ j ∷ [] = ap (mmb_merges_from 0) k ∙ m.rule in
-          let d : slice_get (f.nodes ++ parent_of_peaks (length f.nodes) j f.peaks) p ≡ Some t = subst (λ (is : List ℕ). slice_get (merge_all is f).nodes p ≡ Some t) q e in
+          let d : slice_get (f.nodes ++ parent_of_peaks (length f.nodes) j f.peaks) p ≡ Some t = subst (λ (g : Forest). slice_get g.nodes p ≡ Some t) (merge_at-parts j f) (subst (λ (is : List ℕ). slice_get (merge_all is f).nodes p ≡ Some t) q e) in
           let equal : EqualAt j (0 ∷ hs) = (subst (λ (is : List ℕ). AreEqualMerges is (0 ∷ hs)) q (pair_equal 0 hs)).0 in
           let b = joined_born (length f.nodes) j (suc n) f.peaks equal (grown-append_leaf n (forest mmb_merges n) (forest_grown mmb_merges n)).covers (tt, peaks_balanced mmb_merges n (mmb_equal n) n (omega arith)) in
           elim (get_push_cases f.nodes b.0 p t (rw b.1 at d)) [

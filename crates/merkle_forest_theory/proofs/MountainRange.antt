@@ -3,13 +3,14 @@ use Rattle.std.proofs.Common.{◌≡◌, ℕ, zero, suc, ◌+◌, ◌*◌, ◌^�
 use Rattle.std.specs.List.{AllByRecursion, range_with_len}
 use Rattle.std.proofs.lemmas.Bool.Decides.{eqb_tells}
 use Rattle.merkle_base.specs.Tree.{Tree, leaf, join, position, height, first_leaf, width, IsUnder, IsBuilt, IsBalanced}
-use Rattle.merkle_base.specs.Forest.{Forest, append_leaf, parent_of_peaks, merge_peaks, merge_at, merge_all, forest, size, Covers, IsUnderOne}
+use Rattle.merkle_base.specs.Forest.{Forest, append_leaf, forest, size, Covers, IsUnderOne}
 use Rattle.merkle_base.specs.Heights.{EqualAt, AreEqualMerges, born_heights, peak_heights, parent_heights, MergesEqual, weight}
 use Rattle.merkle_forest_theory.specs.Ascending.{AscendsFrom}
 use Rattle.merkle_forest_theory.specs.Mmr.{mmr_merges, mmr_merges_from, IsPostorder, Stacked, IsBornAt}
 use Rattle.merkle_forest_theory.specs.Digits.{EndsInOnes}
 use Rattle.merkle_forest_theory.proofs.RangeLawful.{mmr_merges_equal, mmr_ascends, mmr_weight, ascends_multiple}
 use Rattle.merkle_base.proofs.Growth.{forest_grown, grown-append_leaf}
+use Rattle.merkle_base.proofs.Merges.{parent_of_peaks, merge_peaks, merged, all_merged, merge_all-parts}
 use Rattle.merkle_base.proofs.Lists.{get_below}
 use Rattle.merkle_base.proofs.Balance.{heights_forest, heights_joined, peaks_balanced, covers_weight}
 use Rattle.merkle_base.proofs.Births.{leaf_at, get_append_cases, all_get}
@@ -60,10 +61,10 @@ stacked_merge ns (b ∷ a ∷ ts) e s =
       (older.2.0, omega (arith, l, older.2.1, s.2.1, same, pow-suc 2 (suc (height a))), older.2.2),
     )
 
-stacked_merges : (is : List ℕ) → AllByRecursion (λ i. i ≡ 0) is → (f : Forest) → AreEqualMerges is (map height f.peaks) → Stacked (length f.nodes) f.peaks → Stacked (length (merge_all is f).nodes) (merge_all is f).peaks
+stacked_merges : (is : List ℕ) → AllByRecursion (λ i. i ≡ 0) is → (f : Forest) → AreEqualMerges is (map height f.peaks) → Stacked (length f.nodes) f.peaks → Stacked (length (all_merged is f).nodes) (all_merged is f).peaks
 stacked_merges [] z f e s = s
 stacked_merges (zero ∷ is) z f e s =
-    stacked_merges is z.1 (merge_at 0 f) (subst (AreEqualMerges is) (sym (heights_joined (length f.nodes) 0 f.peaks)) e.1) (stacked_merge f.nodes f.peaks e.0 s)
+    stacked_merges is z.1 (merged 0 f) (subst (AreEqualMerges is) (sym (heights_joined (length f.nodes) 0 f.peaks)) e.1) (stacked_merge f.nodes f.peaks e.0 s)
 stacked_merges (suc i ∷ is) z f e s = absurd (omega (arith, z.0))
 
 pub mmr_stacked : (n : ℕ) → Stacked (size mmr_merges n) (forest mmr_merges n).peaks
@@ -73,7 +74,8 @@ mmr_stacked (suc n) =
     let f : Forest = append_leaf n (forest mmr_merges n) in
     let hs : List ℕ = map height (forest mmr_merges n).peaks in
     let l : length f.nodes ≡ size mmr_merges n + 1 = omega (arith, length-append (forest mmr_merges n).nodes (leaf (size mmr_merges n) n ∷ [])) in
-    stacked_merges (mmr_merges_from 0 hs) (mmr_merges_zero 0 hs) f (mmr_merges_equal 0 hs) (omega (arith, l), tt, (size mmr_merges n, omega (arith, l), mmr_stacked n))
+    subst (λ (g : Forest). Stacked (length g.nodes) g.peaks) (sym (merge_all-parts (mmr_merges_from 0 hs) f))
+    (stacked_merges (mmr_merges_from 0 hs) (mmr_merges_zero 0 hs) f (mmr_merges_equal 0 hs) (omega (arith, l), tt, (size mmr_merges n, omega (arith, l), mmr_stacked n)))
 
 pub stacked_postorder : (s : ℕ) (a : Tree) (ts : List Tree) → Stacked s ts → IsUnderOne a ts → IsPostorder a
 stacked_postorder s a [] h u = absurd u
@@ -100,7 +102,7 @@ pub mmr_equal : (m : ℕ) → MergesEqual mmr_merges m
 mmr_equal m n h = mmr_merges_equal 0 (peak_heights mmr_merges n)
 
 mmr_new : (n : ℕ) (hs : List ℕ) (h : ℕ) (ns ts : List Tree) → map height ts ≡ h ∷ hs → AscendsFrom h hs → Covers n ts → AllByRecursion IsBalanced ts →
-    (js : List Tree) × ((merge_all (mmr_merges_from h hs) (record { nodes = ns; peaks = ts })).nodes ≡ ns ++ js) × AllByRecursion (IsBornAt n) js
+    (js : List Tree) × ((all_merged (mmr_merges_from h hs) (record { nodes = ns; peaks = ts })).nodes ≡ ns ++ js) × AllByRecursion (IsBornAt n) js
 mmr_new n [] h ns ts e a c b = ([], sym (append-nil ns), tt)
 mmr_new n (x ∷ hs) h ns [] e a c b = absurd (cc)
 mmr_new n (x ∷ hs) h ns (u ∷ []) e a c b = absurd (cc)
@@ -140,7 +142,7 @@ mmr_step n =
     let k : hs ≡ peak_heights mmr_merges n = heights_forest mmr_merges n in
     let b = mmr_new (suc n) hs 0 f.nodes f.peaks refl (subst (AscendsFrom 0) (sym k) (mmr_ascends n))
     (grown-append_leaf n (forest mmr_merges n) (forest_grown mmr_merges n)).covers (tt, peaks_balanced mmr_merges n (mmr_equal n) n (omega arith)) in
-    (b.0, b.1 ∙ append_assoc (forest mmr_merges n).nodes (leaf (size mmr_merges n) n ∷ []) b.0, b.2)
+    (b.0, ap (λ (g : Forest). g.nodes) (merge_all-parts (mmr_merges_from 0 hs) f) ∙ b.1 ∙ append_assoc (forest mmr_merges n).nodes (leaf (size mmr_merges n) n ∷ []) b.0, b.2)
 
 pub mmr_born : (n p : ℕ) (t : Tree) → slice_get (forest mmr_merges n).nodes p ≡ Some t → IsPlaced p t
 mmr_born zero p t e = absurd (no_node mmr_merges p t e)

@@ -6,6 +6,7 @@ use Rattle.std.proofs.lemmas.List.{map-append}
 use Rattle.merkle_base.specs.Tree.{Tree}
 use Rattle.merkle_base.specs.Hashing.{Hashing}
 use Rattle.merkle_base.specs.Root as root
+use Rattle.merkle_base.proofs.RightFolds.{with_right_fold}
 use Rattle.merkle_root_theory.specs.Expression.{Join, PrefixFold, SuffixFold, value}
 use Rattle.merkle_root_theory.specs.Plan.{Plan, peak, folding, left_fold_plan, right_fold_plan, with_right_fold_plan, meets, tree_meets, outside_parts, path_siblings}
 use Rattle.merkle_root_theory.specs.Outside.{bag_all, Met, Unmet}
@@ -48,7 +49,7 @@ module _ {D : Type 0} (h : Hashing D) (c : ℕ → Bool) (X : ℕ → D) where
 
   -- joined to what stands before them
   join_values : (acc : Plan) (i j : ℕ) (t : Tree) (ts after : List Tree) (os is : List D) → LastMet c t ts → Unmet c after
-      → root.with_right_fold h.fold (value h (claim h c X acc os is)) (part_values h c X (map peak (t ∷ ts) ++ bag_all j after) (drop (length (outside_parts c acc)) os) (drop (length (path_siblings c acc)) is))
+      → with_right_fold h.fold (value h (claim h c X acc os is)) (part_values h c X (map peak (t ∷ ts) ++ bag_all j after) (drop (length (outside_parts c acc)) os) (drop (length (path_siblings c acc)) is))
       ≡ value h (claim h c X (with_right_fold_plan acc i (t ∷ ts ++ after)) os is)
   join_values acc i j t ts after os is m u =
       let a = value h (claim h c X acc os is) in
@@ -57,18 +58,18 @@ module _ {D : Type 0} (h : Hashing D) (c : ℕ → Bool) (X : ℕ → D) where
 
   -- where unmet peaks may stand before them
   pub join_reaches : (acc : Plan) (i j : ℕ) (bs : List Tree) (t : Tree) (over after : List Tree) (os is : List D) → Met c (t ∷ over) → Unmet c after
-      → root.with_right_fold h.fold (value h (claim h c X acc os is)) (part_values h c X (map peak bs ++ (map peak (t ∷ over) ++ bag_all j after)) (drop (length (outside_parts c acc)) os) (drop (length (path_siblings c acc)) is))
+      → with_right_fold h.fold (value h (claim h c X acc os is)) (part_values h c X (map peak bs ++ (map peak (t ∷ over) ++ bag_all j after)) (drop (length (outside_parts c acc)) os) (drop (length (path_siblings c acc)) is))
       ≡ value h (claim h c X (with_right_fold_plan acc i (bs ++ (t ∷ over ++ after))) os is)
   join_reaches acc i j [] t over after os is m u = join_values acc i j t over after os is (last_met c t over m) u
   join_reaches acc i j (b ∷ bs) t over after os is m u =
-      ap (λ ps. root.with_right_fold h.fold (value h (claim h c X acc os is)) (part_values h c X (peak b ∷ ps) (drop (length (outside_parts c acc)) os) (drop (length (path_siblings c acc)) is)))
+      ap (λ ps. with_right_fold h.fold (value h (claim h c X acc os is)) (part_values h c X (peak b ∷ ps) (drop (length (outside_parts c acc)) os) (drop (length (path_siblings c acc)) is)))
       (sym (append_assoc (map peak bs) (map peak (t ∷ over)) (bag_all j after)) ∙ ap (λ z. z ++ bag_all j after) (sym (map-append peak bs (t ∷ over))))
       ∙ join_values acc i j b (bs ++ t ∷ over) after os is (last_append c b bs t over (last_met c t over m)) u
       ∙ ap (λ z. value h (claim h c X (with_right_fold_plan acc i (b ∷ z)) os is)) (append_assoc bs (t ∷ over) after)
 
   -- and where a met part does
   join_met : (acc : Plan) (i j : ℕ) (over after : List Tree) (os is : List D) → meets c acc ≡ true → Met c over → Unmet c after
-      → root.with_right_fold h.fold (value h (claim h c X acc os is)) (part_values h c X (map peak over ++ bag_all j after) (drop (length (outside_parts c acc)) os) (drop (length (path_siblings c acc)) is))
+      → with_right_fold h.fold (value h (claim h c X acc os is)) (part_values h c X (map peak over ++ bag_all j after) (drop (length (outside_parts c acc)) os) (drop (length (path_siblings c acc)) is))
       ≡ value h (claim h c X (with_right_fold_plan acc i (over ++ after)) os is)
   join_met acc i j [] [] os is e m u = refl
   join_met acc i j [] (v ∷ vs) os is e m u = ap (h.fold (value h (claim h c X acc os is))) (right_fold_given j i v vs _ _ u) ∙ sym (value_folding h c X Join acc (right_fold_plan i v vs) os is (or_left (meets c acc) _ e))
@@ -78,11 +79,11 @@ module _ {D : Type 0} (h : Hashing D) (c : ℕ → Bool) (X : ℕ → D) where
   abbrev pub folded_from : ℕ → Plan → List Plan → List D → List D → D
   folded_from n acc ps os is =
       let es = part_values h c X ps (drop (length (outside_parts c acc)) os) (drop (length (path_siblings c acc)) is) in
-      root.with_right_fold h.fold (fold h.fold (value h (claim h c X acc os is)) (take n es)) (drop n es)
+      with_right_fold h.fold (fold h.fold (value h (claim h c X acc os is)) (take n es)) (drop n es)
 
   pub folded_more : (n g : ℕ) (acc : Plan) (t : Tree) (ps : List Plan) (os is : List D) → meets c acc || tree_meets c t ≡ true → folded_from (suc n) acc (peak t ∷ ps) os is ≡ folded_from n (folding (PrefixFold g) acc (peak t)) ps os is
   folded_more n g acc t ps os is m =
-      ap₂ (λ x es. root.with_right_fold h.fold (fold h.fold x (take n es)) (drop n es)) (sym (value_folding h c X (PrefixFold g) acc (peak t) os is m)) (sym (values_folding h c X (PrefixFold g) acc (peak t) ps os is m))
+      ap₂ (λ x es. with_right_fold h.fold (fold h.fold x (take n es)) (drop n es)) (sym (value_folding h c X (PrefixFold g) acc (peak t) os is m)) (sym (values_folding h c X (PrefixFold g) acc (peak t) ps os is m))
 
   -- as a claim does where n peaks after a met part are folded so; m: how many of those after the range stand alone
   pub join_left_fold : (acc : Plan) (g i j n m : ℕ) (over after : List Tree) (os is : List D) → meets c acc ≡ true → Met c over → Unmet c after → m ≡ n - length over

@@ -6,7 +6,7 @@ use Rattle.merkle_base.specs.Tree.{Tree, leaf, join}
 use Rattle.merkle_base.specs.Hashing.{Hashing}
 use Rattle.merkle_base.specs.Digests.{digest_at}
 use Rattle.merkle_base.specs.Places.{peaks_of}
-use Rattle.merkle_base.specs.Root as root
+use Rattle.merkle_base.proofs.RightFolds.{with_right_fold}
 use Rattle.merkle_base.specs.Root.{folded, root_string}
 use Rattle.merkle_base.specs.declared.family.Bagging.{Bagging}
 use Rattle.merkle_base.specs.declared.family.Bagging.TheVariants.{ForwardFold, BackwardFold}
@@ -29,7 +29,7 @@ module _ {D : Type 0} (h : Hashing D) (E : Plan → Expression D) (folds : (plac
   abbrev peak_value : Tree → D
   peak_value t = plan_value (peak t)
 
-  join_is : (acc : Plan) (i : ℕ) (ts : List Tree) → root.with_right_fold h.fold (plan_value acc) (map peak_value ts) ≡ plan_value (with_right_fold_plan acc i ts)
+  join_is : (acc : Plan) (i : ℕ) (ts : List Tree) → with_right_fold h.fold (plan_value acc) (map peak_value ts) ≡ plan_value (with_right_fold_plan acc i ts)
   join_is acc i [] = refl
   join_is acc i (t ∷ ts) = ap (λ o. option_map_or (h.fold (plan_value acc)) o (plan_value acc)) (right_fold_values h E folds i t ts) ∙ sym (ap (value h) (folds Join acc (right_fold_plan i t ts)))
 
@@ -39,9 +39,9 @@ module _ {D : Type 0} (h : Hashing D) (E : Plan → Expression D) (folds : (plac
   folded_values ForwardFold k (t ∷ ts) = ap Some (fold_values h E folds (peak t) 1 ts)
   folded_values BackwardFold k (t ∷ ts) =
       let less : k - 1 ≡ pred k = omega arith in
-      ap Some (ap (λ n. root.with_right_fold h.fold (fold h.fold (peak_value t) (take n (map peak_value ts))) (drop n (map peak_value ts))) less
-      ∙ ap₂ (λ us vs. root.with_right_fold h.fold (fold h.fold (peak_value t) us) vs) (take-map peak_value (pred k) ts) (drop-map peak_value (pred k) ts)
-      ∙ ap (λ z. root.with_right_fold h.fold z (map peak_value (drop (pred k) ts))) (fold_values h E folds (peak t) 1 (take (pred k) ts))
+      ap Some (ap (λ n. with_right_fold h.fold (fold h.fold (peak_value t) (take n (map peak_value ts))) (drop n (map peak_value ts))) less
+      ∙ ap₂ (λ us vs. with_right_fold h.fold (fold h.fold (peak_value t) us) vs) (take-map peak_value (pred k) ts) (drop-map peak_value (pred k) ts)
+      ∙ ap (λ z. with_right_fold h.fold z (map peak_value (drop (pred k) ts))) (fold_values h E folds (peak t) 1 (take (pred k) ts))
       ∙ join_is (left_fold_plan (peak t) 1 (take (pred k) ts)) (suc (pred k)) (drop (pred k) ts))
 
 folded_is : {D : Type 0} (h : Hashing D) (X : ℕ → D) (bagging : Bagging) (k : ℕ) (ts : List Tree) → folded h.fold bagging k (map (tree_digest h X) ts) ≡ option_map (value h) (option_map (plan_expression X) (root_plan bagging k ts))
