@@ -23,3 +23,4 @@ pub mod LocatedNodes
 pub mod FewDigests
 pub mod OneLeaf
 pub mod RebuiltPins
+pub mod AcceptedInputs

@@ -19,7 +19,7 @@ use Rattle.merkle_root_theory.specs.Range.{in_range, end_of, range_parts, range_
 use Rattle.merkle_root_theory.proofs.ListRoots.{digest_at_is}
 use Rattle.merkle_root_theory.proofs.PeakGroups.{range_layout}
 use Rattle.merkle_claim_theory.specs.Multiproof.{AllHolds}
-use Rattle.merkle_claim_theory.specs.Pinned.{pinned_on, AcceptsPinnedSome, honest_pins}
+use Rattle.merkle_claim_theory.specs.Pinned.{pinned_on, pinned_expression, AcceptsPinnedSome, honest_pins}
 use Rattle.merkle_claim_theory.specs.PinnedClaim.{pinned_or, pin_tree, pin_plan, outside_tree, outside_plan, pinned_tree, pinned_claim}
 use Rattle.merkle_claim_theory.specs.Rebuilt.{AllRebuilt, rebuilt_node, rebuilt_part, pin_at, IsRebuilt, PinnedIsRebuilt, PinsGiveOldRoot}
 use Rattle.merkle_claim_theory.proofs.ListedDigests.{plan_for}
@@ -204,6 +204,23 @@ module _ {D : Type 0} (s : Scheme D) (r : RangeInput D) (pins : List D) (root : 
         counts = ok.counts;
         pinned = v.pinned;
         rebuilt = subst (λ o. AllHolds s (option_map (pinned_on s r pins) o)) (sym p.1.0) holds;
+        root_is = same_root (pinned_on s r pins) claimed (root_plan s.bagging r.inactive ts) p.0 p.1.0 z.2 ∙ ok.root_is;
+      }
+
+  -- what the range check accepts, where the digests that are given beside rebuilt ones are those
+  pub held_accepted : AcceptsNonempty s r root → length pins ≡ length (peaks_of s.rule r.start) → AllHolds s (pinned_expression s r pins) → AcceptsPinnedSome s r pins root
+  held_accepted ok count held =
+      let p = plan_is ok.nonempty ok.within in
+      let holds : Holds s.hashing (pinned_on s r pins p.0) = subst (λ o. AllHolds s (option_map (pinned_on s r pins) o)) p.1.0 held in
+      let z = pinned_rebuilt s.hashing b before (chosen r) (leaf_given s.hashing r) p.0 r.digests (drop (length (outside_parts (chosen r) p.0)) r.digests) holds in
+      record {
+        nonempty = ok.nonempty;
+        within = ok.within;
+        leaves = ok.leaves;
+        inactive = ok.inactive;
+        counts = ok.counts;
+        pinned = count;
+        rebuilt = held;
         root_is = same_root (pinned_on s r pins) claimed (root_plan s.bagging r.inactive ts) p.0 p.1.0 z.2 ∙ ok.root_is;
       }
 

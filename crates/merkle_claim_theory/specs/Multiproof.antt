@@ -1,5 +1,5 @@
 -- A multi-proof: digests at the positions that one-leaf proofs of its locations need.
-use Rattle.std.specs.Prelude.{◌≡◌, ℕ, Bool, ◌⊎◌, ◌≤◌, ◌<◌, ◌+◌, ◌*◌, nat_eq, List, [], length, map, flat_map, filter, None, Option, Some, option_map, unwrap_or, slice_index}
+use Rattle.std.specs.Prelude.{◌≡◌, ℕ, Bool, ◌↔◌, ◌⊎◌, ◌≤◌, ◌<◌, ◌+◌, ◌*◌, nat_eq, List, [], length, map, flat_map, filter, None, Option, Some, option_map, unwrap_or, slice_index}
 use Rattle.std.specs.List.{AllByRecursion, list_any, range_with_len}
 use Rattle.merkle_base.specs.Tree.{Tree, position}
 use Rattle.merkle_base.specs.Forest.{size}
@@ -78,6 +78,17 @@ pub record IsEmptyMulti {D : Type 0} (r : MultiInput D) : Type 0 where
 abbrev pub AcceptsMulti : {D : Type 0} → Scheme D → MultiInput D → D → Type 0
 AcceptsMulti s r root = AcceptsMultiSome s r root ⊎ (IsEmptyMulti r × (root_of s 0 0 None ≡ root))
 
+-- an input that is accepted against a root: some leaves with their proof, or none with the empty proof of no leaves
+pub record NewAcceptsMulti {D : Type 0} (s : Scheme D) (r : MultiInput D) (root : D) : Type 0 where
+  pub nonempty : (0 < length r.elements) ⊎ (r.leaves ≡ 0)
+  pub ascend : AscendsFrom 0 (locations_in r)
+  pub below : AllByRecursion (λ i. i < r.leaves) (locations_in r)
+  pub leaves : r.leaves ≤ s.max_leaves
+  pub inactive : r.inactive ≤ length (peaks_of s.rule r.leaves)
+  pub counts : length r.digests ≡ length (multi_positions s.rule r.leaves (locations_in r))
+  pub redundant : AllHolds s (multi_expression s r)
+  pub root_is : root_of s r.leaves r.inactive (multi_expression s r) ≡ root
+
 -- the honest multi-proof of a list for strictly ascending locations, with the leaves there
 pub record IsHonestMultiSome {D : Type 0} (s : Scheme D) (xs : List D) (k : ℕ) (r : MultiInput D) : Type 0 where
   pub nonempty : 0 < length r.elements
@@ -95,6 +106,10 @@ IsHonestMulti s xs k r = IsHonestMultiSome s xs k r ⊎ (IsEmptyMulti r × (xs �
 -- a collision of a multi input with the list
 abbrev pub MultiCollides : {D : Type 0} → Scheme D → MultiInput D → List D → ℕ → Type 0
 MultiCollides {D = D} s r xs k = (c : Collision D) × Collides s.hashing (all_inputs s r.leaves r.inactive (multi_expression s r)) (list_inputs s xs k) c
+
+-- the inputs that are accepted, by the two cases
+abbrev pub MultiByCases : Type 0 → Type 0
+MultiByCases D = (s : Scheme D) (r : MultiInput D) (root : D) → AcceptsMulti s r root ↔ NewAcceptsMulti s r root
 
 -- the honest inputs are accepted
 abbrev pub HonestMultiIsAccepted : Type 0 → Type 0

@@ -1,5 +1,5 @@
 -- The pinned check: a range check with the peaks over the leaves before it.
-use Rattle.std.specs.Prelude.{◌≡◌, ℕ, ◌⊎◌, ◌≤◌, ◌<◌, ◌+◌, List, [], length, map, take, None, Option, option_map}
+use Rattle.std.specs.Prelude.{◌≡◌, ℕ, ◌↔◌, ◌⊎◌, ◌≤◌, ◌<◌, ◌+◌, List, [], length, map, take, None, Ok, Option, option_map}
 use Rattle.merkle_base.specs.Tree.{position}
 use Rattle.merkle_root_theory.specs.Expression.{Expression}
 use Rattle.merkle_root_theory.specs.Collision.{Collision, Collides}
@@ -9,6 +9,7 @@ use Rattle.merkle_root_theory.specs.Check.{root_of, all_inputs, RangeInput, chos
 use Rattle.merkle_base.specs.Scheme.{Scheme}
 use Rattle.merkle_base.specs.Places.{peaks_of}
 use Rattle.merkle_root_theory.specs.Range.{in_range, end_of, range_parts, range_siblings, leaf_of, list_inputs, plan_root, IsLawfulScheme, IsEmptyInput, IsHonestNonempty}
+use Rattle.merkle_root_theory.specs.Reconstruction.{reconstructed}
 use Rattle.merkle_claim_theory.specs.Table.{digest_for}
 use Rattle.merkle_claim_theory.specs.Multiproof.{AllHolds}
 
@@ -41,6 +42,12 @@ pub record AcceptsPinnedSome {D : Type 0} (s : Scheme D) (r : RangeInput D) (pin
 abbrev pub AcceptsPinned : {D : Type 0} → Scheme D → RangeInput D → List D → D → Type 0
 AcceptsPinned s r pins root = AcceptsPinnedSome s r pins root ⊎ ((IsEmptyInput r × (pins ≡ [])) × (root_of s 0 0 None ≡ root))
 
+-- an accepted input: the range check accepts it, there is a pin for each peak over the leaves before the range, and the pins give each
+-- digest of the proof that lies before it
+abbrev pub NewAcceptsPinned : {D : Type 0} → Scheme D → RangeInput D → List D → D → Type 0
+NewAcceptsPinned s r pins root =
+    (reconstructed s r ≡ Ok root) × (length pins ≡ length (peaks_of s.rule r.start)) × AllHolds s (pinned_expression s r pins)
+
 -- the digests of the peaks over the first leaves of a list, oldest first
 abbrev pub honest_pins : {D : Type 0} → Scheme D → List D → ℕ → List D
 honest_pins s xs start = map (tree_digest s.hashing (leaf_of s.hashing xs)) (peaks_of s.rule start)
@@ -53,6 +60,10 @@ IsHonestPinned s xs k r pins = (IsHonestNonempty s xs k r × (pins ≡ honest_pi
 abbrev pub PinnedCollides : {D : Type 0} → Scheme D → RangeInput D → List D → List D → ℕ → Type 0
 PinnedCollides {D = D} s r pins xs k =
     (c : Collision D) × Collides s.hashing (all_inputs s r.leaves r.inactive (pinned_expression s r pins)) (list_inputs s xs k) c
+
+-- the inputs that are accepted, by the two cases
+abbrev pub PinnedByCases : Type 0 → Type 0
+PinnedByCases D = (s : Scheme D) (r : RangeInput D) (pins : List D) (root : D) → AcceptsPinned s r pins root ↔ NewAcceptsPinned s r pins root
 
 -- the honest inputs are accepted
 abbrev pub HonestPinnedIsAccepted : Type 0 → Type 0

@@ -22,12 +22,12 @@ ghost use Rattle.merkle_claim_theory.specs.FirstCollision.{FindsFirst, first_col
 ghost use Rattle.merkle_root_theory.specs.ListRoot.{RootsAgree};
 ghost use Rattle.merkle_claim_theory.specs.Located.{node_inputs, CollideIsLocated, LocatedIsCollide};
 ghost use Rattle.merkle_claim_theory.specs.MultiClaim.{MultiClaimSound};
-ghost use Rattle.merkle_claim_theory.specs.Multiproof.{multi_positions, HonestMultiIsAccepted, MultiSound, MultiSizeBound};
+ghost use Rattle.merkle_claim_theory.specs.Multiproof.{multi_positions, HonestMultiIsAccepted, MultiSound, MultiSizeBound, MultiByCases};
 ghost use Rattle.merkle_claim_theory.specs.Order.{PlacesInOrder, PlacesOnce};
 ghost use Rattle.merkle_root_theory.specs.Layouts.{count_before, count_after, count_inactive, laid_out};
 ghost use Rattle.merkle_root_theory.specs.Outside.{OutsideIsLayout, layout};
 ghost use Rattle.merkle_claim_theory.specs.Rebuilt.{PinnedIsRebuilt, PinsGiveOldRoot};
-ghost use Rattle.merkle_claim_theory.specs.Pinned.{HonestPinnedIsAccepted, AcceptedPinnedIsHonest, PinsAreOldPeaks};
+ghost use Rattle.merkle_claim_theory.specs.Pinned.{HonestPinnedIsAccepted, AcceptedPinnedIsHonest, PinsAreOldPeaks, PinnedByCases};
 ghost use Rattle.merkle_claim_theory.specs.PinnedClaim.{PinnedClaimSound};
 ghost use Rattle.merkle_claim_theory.specs.PlainHash.{IsPlain, joined_at, string_at, IsHashCollision, SameForm, StandardIsPlain, RootCollision, PlainCollision};
 ghost use Rattle.merkle_claim_theory.specs.PlainHash.{RangeCollision, MultiCollision, PinnedCollision, PairCollision, NodeCollision};
@@ -349,6 +349,9 @@ pub fn multi_checks<D>()
     ensures honest { HonestMultiIsAccepted D }
     ensures others { MultiSound D }
 
+    // The two cases, some leaves and none, have one form.
+    ensures cases { MultiByCases D }
+
     // A location needs at most 122 digests.
     ensures at_most_122_each { MultiSizeBound D }
 {}
@@ -358,6 +361,9 @@ pub fn multi_checks<D>()
 pub fn pinned_checks<D>()
     ensures honest { HonestPinnedIsAccepted D }
     ensures others { AcceptedPinnedIsHonest D }
+
+    // The two cases, some leaves and none, have one form.
+    ensures cases { PinnedByCases D }
 
     // The honest pins are the peak digests of the leaves before the range.
     ensures peaks { PinsAreOldPeaks D }
