@@ -15,10 +15,7 @@ pub data Argument (D : Type 0) : Type 0 where
 -- the digest of two digests at a place
 abbrev pub hashed_at : {D : Type 0} → Hashing D → Place → D → D → D
 hashed_at h (Node p) l r = h.node p l r
-hashed_at h Root l r = h.fold l r
-hashed_at h Join l r = h.fold l r
-hashed_at h (PrefixFold i) l r = h.fold l r
-hashed_at h (SuffixFold i) l r = h.fold l r
+hashed_at h place l r = h.fold l r
 
 -- the digest of an argument at a place
 abbrev pub digest_of_argument : {D : Type 0} → Hashing D → Place → Argument D → D
@@ -56,11 +53,8 @@ visited h (cross_checked d e) = visited h e
 
 -- whether a node is hashed there
 abbrev pub is_node : Place → Bool
-is_node Root = false
-is_node Join = false
-is_node (PrefixFold i) = false
-is_node (SuffixFold i) = false
 is_node (Node p) = true
+is_node place = false
 
 -- the inputs in order: the folds, and then the nodes
 abbrev pub inputs : {D : Type 0} → Hashing D → Expression D → List (Input D)
