@@ -12,7 +12,12 @@ use Rattle.merkle_root_theory.proofs.RangeChecks.{no_plan}
 use Rattle.merkle_root_theory.specs.Claim.{claim_of}
 use Rattle.merkle_root_theory.specs.Plan.{root_plan}
 use Rattle.merkle_root_theory.specs.Range.{end_of, Accepts, IsEmptyInput}
-use Rattle.merkle_root_theory.specs.Reconstruction.{digest_count, empty_refusals, range_refusals, root_unless, reconstructed, HasShape, LeadsIsAccepted}
+use Rattle.merkle_root_theory.specs.Reconstruction.{digest_count, empty_refusals, range_refusals, reconstructed, HasShape, LeadsIsAccepted}
+
+-- the root that an input leads to, unless it is refused
+abbrev pub root_unless : {D : Type 0} → Scheme D → RangeInput D → Option ReconstructionError → Result D ReconstructionError
+root_unless s r (Some e) = Err e
+root_unless s r None = Ok (root_of s r.leaves r.inactive (range_expression s r))
 
 module _ {D : Type 0} (s : Scheme D) (r : RangeInput D) where
   -- the refusals from each one on

@@ -33,14 +33,12 @@ range_refusals s r =
     ∷ (nat_lt (length r.digests) (digest_count s r), MissingDigests)
     ∷ (nat_lt (digest_count s r) (length r.digests), ExtraDigests) ∷ []
 
--- the root that an input leads to, unless it is refused
-abbrev pub root_unless : {D : Type 0} → Scheme D → RangeInput D → Option ReconstructionError → Result D ReconstructionError
-root_unless s r (Some e) = Err e
-root_unless s r None = Ok (root_of s r.leaves r.inactive (range_expression s r))
-
 -- the first refusal that applies, or else the root
 abbrev pub reconstructed : {D : Type 0} → Scheme D → RangeInput D → Result D ReconstructionError
-reconstructed s r = root_unless s r (first_case (cond (nat_lt 0 (length r.elements)) (range_refusals s r) (empty_refusals r)))
+reconstructed s r = elim (first_case (cond (nat_lt 0 (length r.elements)) (range_refusals s r) (empty_refusals r))) [
+  | Some e ↦ Err e
+  | None ↦ Ok (root_of s r.leaves r.inactive (range_expression s r))
+]
 
 -- an input with elements to which no refusal applies
 pub record HasShape {D : Type 0} (s : Scheme D) (r : RangeInput D) : Type 0 where

@@ -1,7 +1,6 @@
 use Rattle.std.proofs.Common.{◌≡◌, [], length, Ok, rules, refl, sym, ap, ◌∙◌}
 use Rattle.merkle_base.specs.Root.{peaks_root}
-use Rattle.merkle_root_theory.proofs.Reconstruction.{reconstructed-none, empty_refusal-none, empty_root_of}
-use Rattle.merkle_root_theory.specs.Reconstruction.{root_unless}
+use Rattle.merkle_root_theory.proofs.Reconstruction.{root_unless, reconstructed-none, empty_refusal-none, empty_root_of}
 use Rattle.merkle_range.specs.Input.{range_input}
 use Rattle.merkle_range.proofs.checks.reconstruct_empty_root.Goals as goal
 

@@ -1,10 +1,10 @@
 use Rattle.std.proofs.Common.{◌≡◌, ◌<◌, List, length, Ok, [], ◌∷◌, refl, rules, arith, ap, sym, ◌∙◌}
 use Rattle.std.proofs.lemmas.List.{length-map}
 use Rattle.std.proofs.lemmas.Result.{IfErr-weaker}
-use Rattle.merkle_root_theory.specs.Reconstruction.{root_unless, reconstructed}
+use Rattle.merkle_root_theory.specs.Reconstruction.{reconstructed}
 use Rattle.merkle_root_theory.specs.Walk.{bytes_of}
 use Rattle.merkle_root_theory.proofs.Extraction.{extracted-no_leaves}
-use Rattle.merkle_root_theory.proofs.Reconstruction.{reconstructed-some, leaves_of_empty}
+use Rattle.merkle_root_theory.proofs.Reconstruction.{root_unless, reconstructed-some, leaves_of_empty}
 use Rattle.merkle_range.specs.Input.{range_input}
 use Rattle.merkle_range.proofs.LeafDigests.{length-leaf_digests}
 use Rattle.merkle_range.proofs.extraction.reconstruct_or_extract.Goals as goal
