@@ -1,10 +1,13 @@
 -- Each extracted pair is a node with its digest.
-use Rattle.std.proofs.Common.{◌≡◌, ℕ, zero, suc, Bool, true, cond, ◌||◌, ◌+◌, List, [], ◌∷◌, ◌++◌, inl, inr, refl, ap, ap₂, sym, ◌∙◌, subst, ⊎_elim, length, map, flat_map, take, drop, filter, slice_get, Some, append-nil, drop_at, ◌-◌}
+use Rattle.std.proofs.Common.{◌≡◌, ℕ, zero, suc, Bool, true, cond, ◌||◌, ◌+◌, List, [], ◌∷◌, ◌++◌, inl, inr, refl, ap, ap₂, sym, ◌∙◌, subst, ⊎_elim, length, map, flat_map, take, drop, filter, slice_get, Some, option_map, append-nil, drop_at, ◌-◌}
 use Rattle.std.specs.List.{AllByRecursion}
 use Rattle.std.proofs.Math.Seq.{drop-nil, take-nil}
 use Rattle.std.proofs.lemmas.List.{length-map}
+use Rattle.std.proofs.lemmas.Option.{slice_get-map}
 use Rattle.merkle_base.specs.Tree.{Tree, leaf, join, position, IsBuilt}
+use Rattle.merkle_base.specs.Digests.{digest_at}
 use Rattle.merkle_base.specs.Forest.{forest}
+use Rattle.merkle_base.proofs.Lists.{all_imply}
 use Rattle.merkle_base.proofs.Growth.{built_at}
 use Rattle.merkle_base.proofs.Nodes.{all_append}
 use Rattle.merkle_root_theory.specs.Expression.{value}
@@ -21,6 +24,7 @@ use Rattle.merkle_root_theory.specs.Range.{in_range, overlapping, wholly_after, 
 use Rattle.merkle_root_theory.specs.Extract.{inner_pairs, over_pairs, single_pairs, extracted, IsNodePair, ExtractsNodes}
 use Rattle.merkle_base.proofs.Cases.{by_test}
 use Rattle.merkle_root_theory.proofs.Claims.{split_left, split_right, tree_honest}
+use Rattle.merkle_root_theory.proofs.ListRoots.{digest_at_is}
 use Rattle.merkle_root_theory.proofs.RangeChecks.{some_honest, honest_leaves}
 use Rattle.merkle_base.proofs.PeakLists.{peaks_built}
 
@@ -106,8 +110,12 @@ pub extracts_nodes : {D : Type 0} → ExtractsNodes D
 unfolding IsPair
 extracts_nodes {D = D} s size max_nodes sound xs k few low r ok = ⊎_elim (λ w. inl (right w)) inr (some_honest s size max_nodes sound xs k few low r ok)
   where
-    right : IsHonestNonempty s xs k r → AllByRecursion (IsNodePair s xs) (extracted s r)
-    right w =
+    is_pair : (x : ℕ × D) → (t : Tree) × (slice_get (forest s.rule (length xs)).nodes x.0 ≡ Some t) × (x.1 ≡ tree_digest s.hashing (leaf_of s.hashing xs) t) → IsNodePair s xs x
+    is_pair x w = slice_get-map (digest_at s.hashing xs) (forest s.rule (length xs)).nodes x.0 ∙ ap (option_map (digest_at s.hashing xs)) w.1 ∙ ap Some (digest_at_is s.hashing xs w.0 ∙ sym w.2)
+
+    nodes : IsHonestNonempty s xs k r
+        → AllByRecursion (λ (x : ℕ × D). (t : Tree) × (slice_get (forest s.rule (length xs)).nodes x.0 ≡ Some t) × (x.1 ≡ tree_digest s.hashing (leaf_of s.hashing xs) t)) (extracted s r)
+    nodes w =
         let ts = peaks_of s.rule r.leaves in
         let ns = (forest s.rule r.leaves).nodes in
         let built = peaks_built s.rule r.leaves in
@@ -116,6 +124,10 @@ extracts_nodes {D = D} s size max_nodes sound xs k few low r ok = ⊎_elim (λ w
         subst (λ n. AllByRecursion (λ (x : ℕ × D). (t : Tree) × (slice_get (forest s.rule n).nodes x.0 ≡ Some t) × (x.1 ≡ tree_digest s.hashing (leaf_of s.hashing xs) t)) (extracted s r)) w.leaves
         (pairs_right s (leaf_of s.hashing xs) r (honest_leaves s xs k r w) ns r.inactive (wholly_before r.start ts) (overlapping r.start (end_of r) ts) (wholly_after (end_of r) ts)
         (all_filter _ _ ts built) (all_filter _ _ ts built) (all_filter _ _ ts built) r.digests e)
+
+    right : IsHonestNonempty s xs k r → AllByRecursion (IsNodePair s xs) (extracted s r)
+    right w =
+        all_imply _ _ is_pair (extracted s r) (nodes w)
 
 -- of no leaves there are no pairs
 no_single_before : (b : Bagging) (k : ℕ) → single_before b k [] ≡ []

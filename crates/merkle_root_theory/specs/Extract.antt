@@ -2,16 +2,16 @@
 use Rattle.std.specs.Prelude.{◌≡◌, ℕ, Bool, cond, ◌||◌, ◌⊎◌, ◌≤◌, ◌+◌, List, [], ◌∷◌, ◌++◌, length, drop, slice_get, Some}
 use Rattle.std.specs.List.{AllByRecursion}
 use Rattle.merkle_base.specs.Tree.{Tree, leaf, join, position}
-use Rattle.merkle_base.specs.Forest.{forest}
+use Rattle.merkle_base.specs.Digests.{node_digests}
 use Rattle.merkle_root_theory.specs.Expression.{value}
 use Rattle.merkle_base.specs.Hashing.{Hashing}
-use Rattle.merkle_root_theory.specs.Plan.{tree_meets, siblings, tree_digest}
+use Rattle.merkle_root_theory.specs.Plan.{tree_meets, siblings}
 use Rattle.merkle_root_theory.specs.Claim.{next, tree_claim}
 use Rattle.merkle_root_theory.specs.Outside.{fold_all, folded_prefix, single_before, single_after}
 use Rattle.merkle_root_theory.specs.Check.{RangeInput, leaf_given}
 use Rattle.merkle_base.specs.Scheme.{Scheme}
 use Rattle.merkle_base.specs.Places.{peaks_of, wholly_before}
-use Rattle.merkle_root_theory.specs.Range.{in_range, overlapping, wholly_after, range_parts, end_of, leaf_of, AcceptsNonempty, plan_root, IsLawfulScheme, RangeCollides}
+use Rattle.merkle_root_theory.specs.Range.{in_range, overlapping, wholly_after, range_parts, end_of, AcceptsNonempty, plan_root, IsLawfulScheme, RangeCollides}
 
 -- the pairs below a node that overlaps the range: those of its left child, those of its right child, the left child, the right child;
 -- ds: the digests for its siblings
@@ -46,9 +46,9 @@ extracted s r =
     (drop (length (range_parts s.bagging r.inactive r.start (end_of r) ts)) r.digests)
     ++ single_pairs s.hashing (single_after s.bagging r.inactive (length before + length over) after) (drop (length single) (drop folded r.digests)))
 
--- a position of the list's forest with its digest
+-- a position with the list's digest there
 abbrev pub IsNodePair : {D : Type 0} → Scheme D → List D → (ℕ × D) → Type 0
-IsNodePair s xs x = (t : Tree) × (slice_get (forest s.rule (length xs)).nodes x.0 ≡ Some t) × (x.1 ≡ tree_digest s.hashing (leaf_of s.hashing xs) t)
+IsNodePair s xs x = slice_get (node_digests s.hashing s.rule xs) x.0 ≡ Some x.1
 
 -- each pair of an accepted input is one, or there is a collision
 abbrev pub ExtractsNodes : Type 0 → Type 0
