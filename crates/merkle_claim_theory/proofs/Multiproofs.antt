@@ -3,7 +3,9 @@ use Rattle.std.proofs.Common.{◌≡◌, ℕ, Bool, true, false, cond, ◌||◌,
 use Rattle.std.specs.List.{AllByRecursion, list_any, range_with_len}
 use Rattle.std.proofs.lemmas.Bool.{eqb-true, eq-eqb, or_right, cases_Bool, or_cases, false≢true}
 use Rattle.std.proofs.lemmas.List.{length-map}
+use Rattle.std.proofs.lemmas.Option.{get_or_from_slice_get}
 use Rattle.merkle_base.specs.Tree.{Tree, leaf, join, position, IsBuilt}
+use Rattle.merkle_base.specs.Digests.{node_digests}
 use Rattle.merkle_base.specs.Forest.{forest, size}
 use Rattle.merkle_base.proofs.Growth.{built_at, built_below}
 use Rattle.merkle_root_theory.specs.Expression.{Holds}
@@ -18,13 +20,14 @@ use Rattle.merkle_root_theory.specs.Check.{root_of, list_expression}
 use Rattle.merkle_base.specs.Scheme.{Scheme}
 use Rattle.merkle_base.specs.Places.{peaks_of}
 use Rattle.merkle_root_theory.specs.Range.{leaf_of, plan_root, IsLawfulScheme}
-use Rattle.merkle_claim_theory.specs.Table.{digest_for, digest_of, digest_at_position}
+use Rattle.merkle_claim_theory.specs.Table.{digest_for, digest_at_position}
 use Rattle.merkle_claim_theory.specs.Multiproof.{one_leaf_nodes, is_one_leaf_position, multi_positions, MultiInput, locations_in, leaves_in, multi_on, AllHolds, AcceptsMultiSome, IsHonestMultiSome, MultiCollides, HonestMultiIsAccepted, MultiSound}
 use Rattle.merkle_root_theory.proofs.Collisions.{member_left, member_right}
 use Rattle.merkle_claim_theory.proofs.HonestClaims.{member_split}
 use Rattle.merkle_base.proofs.Cases.{by_test}
 use Rattle.merkle_claim_theory.proofs.ToldDigests.{no_other_multi}
 use Rattle.merkle_claim_theory.proofs.HonestTold.{honest_multi_accepted}
+use Rattle.merkle_root_theory.proofs.ListRoots.{node_digest_is}
 use Rattle.merkle_root_theory.proofs.RangeChecks.{covers, small_leaves, small_inactive, empty_root}
 use Rattle.merkle_claim_theory.proofs.ListedDigests.{any_member, member_any, member_filtered, filtered_member, range_member, distinct_range, distinct_filter, ascends_distinct, listed, listed_is, listed_some, EachPeak, each_of, of_each, plan_for, roots, below_root, roots_same, no_other_list}
 use Rattle.merkle_base.proofs.PeakLists.{peaks_built}
@@ -123,7 +126,7 @@ module _ {D : Type 0} (s : Scheme D) (xs : List D) (locations : List ℕ) where
   c i = list_any (nat_eq i) locations
 
   pub node_digest : (t : Tree) → IsBuilt ns t → f (position t) ≡ tree_digest s.hashing X t
-  node_digest t b = ap (digest_of s.hashing X) (built_at ns t b)
+  node_digest t b = get_or_from_slice_get (node_digests s.hashing s.rule xs) (position t) (tree_digest s.hashing X t) s.hashing.empty (node_digest_is s.hashing s.rule xs (position t) t (built_at ns t b))
 
   pub chosen_in : (i : ℕ) → c i ≡ true → Member locations i
   chosen_in i e = let w = member_any (nat_eq i) locations e in subst (Member locations) (sym (eqb-true i w.0 w.2)) w.1

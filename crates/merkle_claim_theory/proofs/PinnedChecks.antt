@@ -2,7 +2,7 @@
 use Rattle.std.proofs.Common.{◌≡◌, ℕ, zero, suc, Bool, true, false, cond, ◌||◌, nat_le, leb-true, ◌+◌, ◌-◌, ◌≤◌, ◌<◌, List, [], ◌∷◌, ◌++◌, ◌⊎◌, inl, inr, refl, ap, ap₂, sym, ◌∙◌, subst, ⊎_elim, arith, length, map, flat_map, take, drop, reverse, Option, Some, None, option_map, IfSome, MatchOption, slice_get}
 use Rattle.std.specs.List.{AllByRecursion}
 use Rattle.std.proofs.lemmas.Bool.{ne_eqb, cases_Bool, cases_lt, false≢true}
-use Rattle.std.proofs.lemmas.List.{length-map, get_or-take, reverse-append}
+use Rattle.std.proofs.lemmas.List.{length-map, length-take-le, get_or-take, reverse-append}
 use Rattle.merkle_base.specs.Tree.{Tree, leaf, join, position, first_leaf, width, IsUnder, IsBuilt, end_leaf}
 use Rattle.merkle_base.specs.Forest.{forest, size}
 use Rattle.merkle_base.proofs.Growth.{forest_grown, built_at, IsBuilt-front}
@@ -23,7 +23,7 @@ use Rattle.merkle_root_theory.specs.Check.{root_of, list_expression, RangeInput,
 use Rattle.merkle_base.specs.Scheme.{Scheme}
 use Rattle.merkle_base.specs.Places.{peaks_of, wholly_before}
 use Rattle.merkle_root_theory.specs.Range.{in_range, end_of, overlapping, wholly_after, range_parts, range_siblings, leaf_of, plan_root, IsLawfulScheme, IsHonestNonempty}
-use Rattle.merkle_claim_theory.specs.Table.{digest_for, digest_of}
+use Rattle.merkle_claim_theory.specs.Table.{digest_for}
 use Rattle.merkle_claim_theory.specs.Pinned.{pin_positions, pinned_on, AcceptsPinnedSome, honest_pins, PinnedCollides, HonestPinnedIsAccepted, AcceptedPinnedIsHonest, PinsAreOldPeaks}
 use Rattle.merkle_claim_theory.proofs.HonestClaims.{member_split}
 use Rattle.merkle_base.proofs.Cases.{by_test}
@@ -33,6 +33,8 @@ use Rattle.merkle_root_theory.proofs.OutsideNodes.{right_fold_unmet, unmet_take,
 use Rattle.merkle_root_theory.proofs.Extraction.{all_filter, all_take, all_drop}
 use Rattle.merkle_root_theory.proofs.RangeChecks.{covers, tree_in, small_leaves, small_inactive, honest_leaves, honest_some, elements_are, empty_root}
 use Rattle.merkle_root_theory.proofs.ListChecks.{is_chosen}
+use Rattle.merkle_root_theory.proofs.ListRoots.{digests_are}
+use Rattle.merkle_root_theory.proofs.RangeDigests.{range_digests_are}
 use Rattle.merkle_claim_theory.specs.Multiproof.{AllHolds}
 use Rattle.merkle_claim_theory.proofs.ListedDigests.{filtered_member, EachPeak, each_left_fold, left_fold_each, all_cut, listed, listed_is, listed_some, each_of, plan_for, roots, below_root, roots_same, no_other_list}
 use Rattle.merkle_claim_theory.proofs.Multiproofs.{all_member, member_all, told_some, if_some}
@@ -42,6 +44,11 @@ use Rattle.merkle_root_theory.proofs.Walks.{siblings_unmet, siblings_join}
 use Rattle.merkle_root_theory.proofs.Collisions.{member_left, member_right}
 use Rattle.merkle_base.proofs.Lists.{one_there}
 use Rattle.merkle_claim_theory.proofs.PlacesOnce.{member_map}
+
+-- the digest of a node, if there is one
+abbrev digest_of : {D : Type 0} → Hashing D → (ℕ → D) → Option Tree → D
+digest_of h X None = h.empty
+digest_of h X (Some t) = tree_digest h X t
 
 -- ---- peaks of one forest
 pub spans_first : (o n : ℕ) (ts : List Tree) (u : Tree) → Spans o n ts → Member ts u → o ≤ first_leaf u
@@ -397,6 +404,26 @@ module _ {D : Type 0} (s : Scheme D) (n start e : ℕ) (l : start ≤ n) (more :
         of_siblings s.hashing (digest_for (pin_positions s start) pins) X (in_range 0 start) (in_range start e) (overlapping start e ts) (all_filter _ _ ts all),
       )
 
+-- ---- the pins are the digests of the peaks of the first leaves
+module _ {D : Type 0} (s : Scheme D) (xs : List D) (start : ℕ) (l : start ≤ length xs) where
+  same_tree : (t : Tree) → IsBuilt (forest s.rule start).nodes t → end_leaf t ≤ start → tree_digest s.hashing (leaf_of s.hashing (take start xs)) t ≡ tree_digest s.hashing (leaf_of s.hashing xs) t
+  same_tree (leaf p i) b e = get_or-take start xs i s.hashing.empty (omega arith)
+  same_tree (join p a a') b e = ap₂ (s.hashing.node p) (same_tree a b.4 (omega (arith, e, b.3))) (same_tree a' b.5 (omega (arith, e, b.3)))
+
+  same_map : (us : List Tree) → AllByRecursion (IsBuilt (forest s.rule start).nodes) us → ((u : Tree) → Member us u → end_leaf u ≤ start) → map (tree_digest s.hashing (leaf_of s.hashing (take start xs))) us ≡ map (tree_digest s.hashing (leaf_of s.hashing xs)) us
+  same_map [] b f = refl
+  same_map (u ∷ us) b f = ap₂ (λ x y. x ∷ y) (same_tree u b.0 (f u (inl refl))) (same_map us b.1 (λ v m. f v (inr m)))
+
+  pub honest_pins_are : honest_pins s xs start ≡ map (tree_digest s.hashing (leaf_of s.hashing xs)) (peaks_of s.rule start)
+  honest_pins_are =
+      let old = take start xs in
+      digests_are s.hashing old (peaks_of s.rule (length old))
+      ∙ ap (λ n. map (tree_digest s.hashing (leaf_of s.hashing old)) (peaks_of s.rule n)) (length-take-le start xs l)
+      ∙ same_map (peaks_of s.rule start) (peaks_built s.rule start) (λ u m. spans_last 0 start (peaks_of s.rule start) u (peaks_spans s.rule start) m)
+
+pub pins_are_old_peaks : {D : Type 0} → PinsAreOldPeaks D
+pins_are_old_peaks s xs start l = honest_pins_are s xs start l ∙ sym (digests_are s.hashing xs (peaks_of s.rule start))
+
 -- ---- the check
 each_in_plan : (P : ℕ → Type 0) (p : Plan) → ((i : ℕ) → InPlan p i → P i) → EachPeak (λ t. (i : ℕ) → InTree t i → P i) p
 each_in_plan P (peak t) g = g
@@ -431,11 +458,13 @@ module _ {D : Type 0} (s : Scheme D) (size max_nodes : ℕ) (sound : IsLawfulSch
           leaves = d;
           inactive = g;
           digests = w.0 ∙ ap₂ (λ x y. map (plan_digest s.hashing Z) x ++ map (tree_digest s.hashing Z) y) lay.0 lay.1
-              ∙ ap₂ (λ x y. map (plan_digest s.hashing Z) (range_parts s.bagging x r.start (end_of r) (peaks_of s.rule y)) ++ map (tree_digest s.hashing Z) (range_siblings r.start (end_of r) (peaks_of s.rule y))) g d;
+              ∙ ap₂ (λ x y. map (plan_digest s.hashing Z) (range_parts s.bagging x r.start (end_of r) (peaks_of s.rule y)) ++ map (tree_digest s.hashing Z) (range_siblings r.start (end_of r) (peaks_of s.rule y))) g d
+              ∙ sym (range_digests_are s xs k r.start (end_of r));
           elements = elements_are s xs r within (λ i a b. (let t = covers s r.leaves i (omega (arith, b, ok.within)) in all_member _ (peaks_of s.rule r.leaves) t.0 leaves t.1 i t.2 (is_chosen r i a b)));
         },
         pins_are s r.leaves r.start (end_of r) (omega (arith, ok.within)) more Z s.bagging r.inactive pins ok.within ok.pinned
-            (subst (PinsAll s.hashing bb (in_range 0 r.start) Z) lay.0 w.2) (subst (PinsTrees s.hashing bb (in_range 0 r.start) Z) lay.1 w.3),
+            (subst (PinsAll s.hashing bb (in_range 0 r.start) Z) lay.0 w.2) (subst (PinsTrees s.hashing bb (in_range 0 r.start) Z) lay.1 w.3)
+            ∙ sym (honest_pins_are s xs r.start (omega (arith, within))),
       )
 
   pinned_honest : AcceptsPinnedSome s r pins (plan_root s xs k) → (IsHonestNonempty s xs k r × (pins ≡ honest_pins s xs r.start)) ⊎ PinnedCollides s r pins xs k
@@ -460,10 +489,11 @@ module _ {D : Type 0} (s : Scheme D) (size max_nodes : ℕ) (sound : IsLawfulSch
       let pos : 0 < r.leaves = omega (arith, plain.nonempty, plain.within) in
       let p = plan_for s r.leaves r.inactive pos in
       let lay = subst (HasLayout (chosen r) (range_parts s.bagging r.inactive r.start (end_of r) (peaks_of s.rule r.leaves)) (range_siblings r.start (end_of r) (peaks_of s.rule r.leaves))) p.1 (range_layout s r.leaves r.inactive r.start (end_of r) more plain.within) in
-      let ds : r.digests ≡ honest_digests s.hashing Z (chosen r) p.0 = w.digests
+      let ds : r.digests ≡ honest_digests s.hashing Z (chosen r) p.0 = w.digests ∙ range_digests_are s xs k r.start (end_of r)
       ∙ ap₂ (λ x y. map (plan_digest s.hashing Z) (range_parts s.bagging x r.start (end_of r) (peaks_of s.rule y)) ++ map (tree_digest s.hashing Z) (range_siblings r.start (end_of r) (peaks_of s.rule y))) (sym w.inactive) (sym w.leaves)
       ∙ sym (ap₂ (λ x y. map (plan_digest s.hashing Z) x ++ map (tree_digest s.hashing Z) y) lay.0 lay.1) in
-      let z = pins_rebuild s r.leaves r.start (end_of r) (omega (arith, plain.within)) more Z s.bagging r.inactive pins plain.within q in
+      let old = q ∙ honest_pins_are s xs r.start (omega (arith, w.within)) in
+      let z = pins_rebuild s r.leaves r.start (end_of r) (omega (arith, plain.within)) more Z s.bagging r.inactive pins plain.within old in
       let v : Holds s.hashing (pinned_on s r pins p.0) × (value s.hashing (pinned_on s r pins p.0) ≡ plan_digest s.hashing Z p.0) =
       subst (λ x. Holds s.hashing (pinned_of s.hashing bb (in_range 0 r.start) (chosen r) (leaf_given s.hashing r) p.0 x) × (value s.hashing (pinned_of s.hashing bb (in_range 0 r.start) (chosen r) (leaf_given s.hashing r) p.0 x) ≡ plan_digest s.hashing Z p.0)) (sym ds)
       (honest_pins_accepted s.hashing bb (in_range 0 r.start) (chosen r) Z (leaf_given s.hashing r) p.0 (honest_leaves s xs k r w)
@@ -474,7 +504,7 @@ module _ {D : Type 0} (s : Scheme D) (size max_nodes : ℕ) (sound : IsLawfulSch
         leaves = plain.leaves;
         inactive = plain.inactive;
         counts = plain.counts;
-        pinned = ap length q ∙ length-map (peaks_of s.rule r.start) (tree_digest s.hashing Z);
+        pinned = ap length old ∙ length-map (peaks_of s.rule r.start) (tree_digest s.hashing Z);
         rebuilt = subst (λ o. AllHolds s (option_map (pinned_on s r pins) o)) (sym p.1) v.0;
         root_is = roots_same s Z (pinned_on s r pins) r.leaves r.inactive p.0 p.1 v.1 ∙ ap₂ (λ n j. root_of s n j (list_expression s Z n j)) w.leaves w.inactive;
       }
@@ -486,15 +516,3 @@ pub accepted_pinned_is_honest : {D : Type 0} → AcceptedPinnedIsHonest D
 accepted_pinned_is_honest s size max_nodes sound xs k few low r pins ok =
     ⊎_elim (λ w. ⊎_elim (λ z. inl (inl z)) inr (pinned_honest s size max_nodes sound xs k few low r pins w))
     (λ w. ⊎_elim (λ z. inl (inr (w.0, z))) inr (no_other_list s size max_nodes sound xs k few low (pinned_on s r pins) r.leaves r.inactive w.0.0.leaves w.0.0.inactive w.1)) ok
-
--- ---- the pins are the peaks of the first leaves
-pub pins_are_old_peaks : {D : Type 0} → PinsAreOldPeaks D
-pins_are_old_peaks s xs start l = same_map (peaks_of s.rule start) (peaks_built s.rule start) (λ u m. spans_last 0 start (peaks_of s.rule start) u (peaks_spans s.rule start) m)
-  where
-    same_tree : (t : Tree) → IsBuilt (forest s.rule start).nodes t → end_leaf t ≤ start → tree_digest s.hashing (leaf_of s.hashing xs) t ≡ tree_digest s.hashing (leaf_of s.hashing (take start xs)) t
-    same_tree (leaf p i) b e = sym (get_or-take start xs i s.hashing.empty (omega arith))
-    same_tree (join p a a') b e = ap₂ (s.hashing.node p) (same_tree a b.4 (omega (arith, e, b.3))) (same_tree a' b.5 (omega (arith, e, b.3)))
-
-    same_map : (us : List Tree) → AllByRecursion (IsBuilt (forest s.rule start).nodes) us → ((u : Tree) → Member us u → end_leaf u ≤ start) → map (tree_digest s.hashing (leaf_of s.hashing xs)) us ≡ map (tree_digest s.hashing (leaf_of s.hashing (take start xs))) us
-    same_map [] b f = refl
-    same_map (u ∷ us) b f = ap₂ (λ x y. x ∷ y) (same_tree u b.0 (f u (inl refl))) (same_map us b.1 (λ v m. f v (inr m)))

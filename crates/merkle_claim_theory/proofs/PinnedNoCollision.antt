@@ -20,8 +20,9 @@ use Rattle.merkle_root_theory.proofs.Claims.{split_left, split_right}
 use Rattle.merkle_claim_theory.proofs.HonestTold.{trees_left, plans_left}
 use Rattle.merkle_root_theory.proofs.PeakGroups.{range_layout}
 use Rattle.merkle_root_theory.proofs.RangeChecks.{honest_leaves}
+use Rattle.merkle_root_theory.proofs.RangeDigests.{range_digests_are}
 use Rattle.merkle_claim_theory.proofs.ListedDigests.{plan_for}
-use Rattle.merkle_claim_theory.proofs.PinnedChecks.{pins_rebuild}
+use Rattle.merkle_claim_theory.proofs.PinnedChecks.{pins_rebuild, honest_pins_are}
 use Rattle.merkle_claim_theory.proofs.MultiNoCollision.{clear_of}
 
 module _ {D : Type 0} (h : Hashing D) (b : ℕ → Option D) (X : ℕ → D) where
@@ -83,10 +84,10 @@ honest_pinned_has_no_collision s laws xs k r pins w q =
     let more : r.start < end_of r = omega (arith, w.nonempty) in
     let p = plan_for s r.leaves r.inactive (omega (arith, within, more)) in
     let lay = subst (HasLayout (chosen r) (range_parts s.bagging r.inactive r.start (end_of r) (peaks_of s.rule r.leaves)) (range_siblings r.start (end_of r) (peaks_of s.rule r.leaves))) p.1 (range_layout s r.leaves r.inactive r.start (end_of r) more within) in
-    let ds : r.digests ≡ honest_digests s.hashing Z (chosen r) p.0 = w.digests
+    let ds : r.digests ≡ honest_digests s.hashing Z (chosen r) p.0 = w.digests ∙ range_digests_are s xs k r.start (end_of r)
     ∙ ap₂ (λ x y. map (plan_digest s.hashing Z) (range_parts s.bagging x r.start (end_of r) (peaks_of s.rule y)) ++ map (tree_digest s.hashing Z) (range_siblings r.start (end_of r) (peaks_of s.rule y))) (sym w.inactive) (sym w.leaves)
     ∙ sym (ap₂ (λ x y. map (plan_digest s.hashing Z) x ++ map (tree_digest s.hashing Z) y) lay.0 lay.1) in
-    let z = pins_rebuild s r.leaves r.start (end_of r) (omega (arith, within)) more Z s.bagging r.inactive pins within q in
+    let z = pins_rebuild s r.leaves r.start (end_of r) (omega (arith, within)) more Z s.bagging r.inactive pins within (q ∙ honest_pins_are s xs r.start (omega (arith, w.within))) in
     clear_of s laws Z (pinned_on s r pins) r.leaves (length xs) r.inactive k w.leaves w.inactive p.0 p.1
     (pins_in s.hashing bb Z (in_range 0 r.start) (chosen r) (leaf_given s.hashing r) (honest_leaves s xs k r w) p.0 r.digests (drop (length (outside_parts (chosen r) p.0)) r.digests) (map (tree_digest s.hashing Z) (path_siblings (chosen r) p.0)) [] ds
     (ap (drop (length (outside_parts (chosen r) p.0))) ds ∙ drop_at (map (plan_digest s.hashing Z) (outside_parts (chosen r) p.0)) _ (length (outside_parts (chosen r) p.0)) (length-map (outside_parts (chosen r) p.0) (plan_digest s.hashing Z)) ∙ sym (append-nil _))

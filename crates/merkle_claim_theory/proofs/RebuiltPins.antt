@@ -232,18 +232,9 @@ none_pinned : {D : Type 0} (s : Scheme D) (xs : List D) → honest_pins s xs 0 �
 unfolding forest
 none_pinned s xs = refl
 
-digests_are : {D : Type 0} (h : Hashing D) (xs : List D) (ts : List Tree) → map (digest_at h xs) ts ≡ map (tree_digest h (leaf_of h xs)) ts
-digests_are h xs [] = refl
-digests_are h xs (t ∷ ts) = ap₂ (λ d ds. d ∷ ds) (digest_at_is h xs t) (digests_are h xs ts)
-
 module _ {D : Type 0} (s : Scheme D) (xs : List D) (start : ℕ) (pins : List D) (j : ℕ) where
   old_root : start ≤ length xs → pins ≡ honest_pins s xs start → peaks_root s start j j pins ≡ list_root s (take start xs) j
-  old_root within e =
-      let old = take start xs in
-      let digest = tree_digest s.hashing (leaf_of s.hashing old) in
-      ap (peaks_root s start j j) (e ∙ pins_are_old_peaks s xs start within)
-      ∙ ap (λ n. peaks_root s n j j (map digest (peaks_of s.rule n))) (sym (length-take-le start xs within))
-      ∙ ap (peaks_root s (length old) j j) (sym (digests_are s.hashing old (peaks_of s.rule (length old))))
+  old_root within e = ap (peaks_root s start j j) e ∙ ap (λ n. peaks_root s n j j (honest_pins s xs start)) (sym (length-take-le start xs within))
 
 pub pins_give_old_root : {D : Type 0} → PinsGiveOldRoot D
 pins_give_old_root s xs k r pins (inl w) j = old_root s xs r.start pins j (omega (arith, w.0.within)) w.1

@@ -1,14 +1,15 @@
 -- The pinned check: a range check with the peaks over the leaves before it.
 use Rattle.std.specs.Prelude.{◌≡◌, ℕ, ◌↔◌, ◌⊎◌, ◌≤◌, ◌<◌, ◌+◌, List, [], length, map, take, None, Ok, Option, option_map}
+use Rattle.merkle_base.specs.Digests.{digest_at, peak_digests}
 use Rattle.merkle_base.specs.Tree.{position}
 use Rattle.merkle_root_theory.specs.Expression.{Expression}
 use Rattle.merkle_root_theory.specs.Collision.{Collision, Collides}
-use Rattle.merkle_root_theory.specs.Plan.{Plan, root_plan, tree_digest}
+use Rattle.merkle_root_theory.specs.Plan.{Plan, root_plan}
 use Rattle.merkle_claim_theory.specs.PinnedClaim.{pinned_of}
 use Rattle.merkle_root_theory.specs.Check.{root_of, all_inputs, RangeInput, chosen, leaf_given}
 use Rattle.merkle_base.specs.Scheme.{Scheme}
 use Rattle.merkle_base.specs.Places.{peaks_of}
-use Rattle.merkle_root_theory.specs.Range.{in_range, end_of, range_parts, range_siblings, leaf_of, list_inputs, plan_root, IsLawfulScheme, IsEmptyInput, IsHonestNonempty}
+use Rattle.merkle_root_theory.specs.Range.{in_range, end_of, range_parts, range_siblings, list_inputs, plan_root, IsLawfulScheme, IsEmptyInput, IsHonestNonempty}
 use Rattle.merkle_root_theory.specs.Reconstruction.{reconstructed}
 use Rattle.merkle_claim_theory.specs.Table.{digest_for}
 use Rattle.merkle_claim_theory.specs.Multiproof.{AllHolds}
@@ -48,9 +49,9 @@ abbrev pub NewAcceptsPinned : {D : Type 0} → Scheme D → RangeInput D → Lis
 NewAcceptsPinned s r pins root =
     (reconstructed s r ≡ Ok root) × (length pins ≡ length (peaks_of s.rule r.start)) × AllHolds s (pinned_expression s r pins)
 
--- the digests of the peaks over the first leaves of a list, oldest first
+-- the peak digests of the first leaves of a list
 abbrev pub honest_pins : {D : Type 0} → Scheme D → List D → ℕ → List D
-honest_pins s xs start = map (tree_digest s.hashing (leaf_of s.hashing xs)) (peaks_of s.rule start)
+honest_pins s xs start = peak_digests s.hashing s.rule (take start xs)
 
 -- an honest input with honest pins: with elements, or the empty one of the empty list
 abbrev pub IsHonestPinned : {D : Type 0} → Scheme D → List D → ℕ → RangeInput D → List D → Type 0
@@ -77,7 +78,7 @@ AcceptedPinnedIsHonest D = (s : Scheme D) (size max_nodes : ℕ) → IsLawfulSch
     → (xs : List D) (k : ℕ) → length xs ≤ s.max_leaves → k ≤ length (peaks_of s.rule (length xs)) → (r : RangeInput D) (pins : List D)
     → AcceptsPinned s r pins (plan_root s xs k) → IsHonestPinned s xs k r pins ⊎ PinnedCollides s r pins xs k
 
--- the honest pins are the peak digests of the list's first leaves
+-- the honest pins are the list's digests at the peaks over its first leaves
 abbrev pub PinsAreOldPeaks : Type 0 → Type 0
 PinsAreOldPeaks D = (s : Scheme D) (xs : List D) (start : ℕ) → start ≤ length xs
-    → honest_pins s xs start ≡ map (tree_digest s.hashing (leaf_of s.hashing (take start xs))) (peaks_of s.rule start)
+    → honest_pins s xs start ≡ map (digest_at s.hashing xs) (peaks_of s.rule start)

@@ -20,6 +20,7 @@ use Rattle.merkle_hasher.proofs.PeakNodes.{peaks_at}
 use Rattle.merkle_base.proofs.PeakLists.{peaks_built}
 use Rattle.merkle_root_theory.proofs.Extraction.{all_filter}
 use Rattle.merkle_root_theory.proofs.ListRoots.{digest_at_is}
+use Rattle.merkle_root_theory.proofs.RangeDigests.{range_digests_are}
 use Rattle.merkle_root_theory.proofs.BuiltLayouts.{StandFor, at_node, nodes_stand, digests_stand, laid_out_read}
 use Rattle.merkle_proof.proofs.ReadingOrder.{AreRuns, met_count, all_runs}
 
@@ -100,6 +101,7 @@ module _ {F D P Q : Type 0} (s : Scheme D) (answered : ℕ → Option D → Type
       ∙ of_runs (λ d. d) T (plan_digest s.hashing X) (digests_stand s.hashing X)
       (λ ts ds w r. sym (map-id ds ∙ list_answers s.hashing s.rule xs answered right ts (subst (λ m. AreNodes s.rule m ts) (sym long) w) ds r))
       ∙ ap (λ m. map (plan_digest s.hashing X) (range_parts s.bagging k a b (peaks_of s.rule m)) ++ map T (range_siblings a b (peaks_of s.rule m))) (sym long)
+      ∙ sym (range_digests_are s xs k a b)
 
   pub is_honest : a < b → b ≤ n → (xs : List D) → length xs ≡ n → AnswersList s.hashing s.rule xs answered → IsHonestRange s xs k (list_input p xs a b)
   is_honest less within xs long right =

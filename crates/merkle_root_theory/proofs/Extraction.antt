@@ -1,11 +1,9 @@
 -- Each extracted pair is a node with its digest.
-use Rattle.std.proofs.Common.{◌≡◌, ℕ, zero, suc, Bool, true, cond, ◌||◌, ◌+◌, List, [], ◌∷◌, ◌++◌, inl, inr, refl, ap, ap₂, sym, ◌∙◌, subst, ⊎_elim, length, map, flat_map, take, drop, filter, slice_get, Some, option_map, append-nil, drop_at, ◌-◌}
+use Rattle.std.proofs.Common.{◌≡◌, ℕ, zero, suc, Bool, true, cond, ◌||◌, ◌+◌, List, [], ◌∷◌, ◌++◌, inl, inr, refl, ap, ap₂, sym, ◌∙◌, subst, ⊎_elim, length, map, flat_map, take, drop, filter, slice_get, Some, append-nil, drop_at, ◌-◌}
 use Rattle.std.specs.List.{AllByRecursion}
 use Rattle.std.proofs.Math.Seq.{drop-nil, take-nil}
 use Rattle.std.proofs.lemmas.List.{length-map}
-use Rattle.std.proofs.lemmas.Option.{slice_get-map}
 use Rattle.merkle_base.specs.Tree.{Tree, leaf, join, position, IsBuilt}
-use Rattle.merkle_base.specs.Digests.{digest_at}
 use Rattle.merkle_base.specs.Forest.{forest}
 use Rattle.merkle_base.proofs.Lists.{all_imply}
 use Rattle.merkle_base.proofs.Growth.{built_at}
@@ -24,8 +22,9 @@ use Rattle.merkle_root_theory.specs.Range.{in_range, overlapping, wholly_after, 
 use Rattle.merkle_root_theory.specs.Extract.{inner_pairs, over_pairs, single_pairs, extracted, IsNodePair, ExtractsNodes}
 use Rattle.merkle_base.proofs.Cases.{by_test}
 use Rattle.merkle_root_theory.proofs.Claims.{split_left, split_right, tree_honest}
-use Rattle.merkle_root_theory.proofs.ListRoots.{digest_at_is}
+use Rattle.merkle_root_theory.proofs.ListRoots.{node_digest_is}
 use Rattle.merkle_root_theory.proofs.RangeChecks.{some_honest, honest_leaves}
+use Rattle.merkle_root_theory.proofs.RangeDigests.{range_digests_are}
 use Rattle.merkle_base.proofs.PeakLists.{peaks_built}
 
 pub all_filter : {A : Type 0} (P : A → Type 0) (t : A → Bool) (xs : List A) → AllByRecursion P xs → AllByRecursion P (filter t xs)
@@ -111,7 +110,7 @@ unfolding IsPair
 extracts_nodes {D = D} s size max_nodes sound xs k few low r ok = ⊎_elim (λ w. inl (right w)) inr (some_honest s size max_nodes sound xs k few low r ok)
   where
     is_pair : (x : ℕ × D) → (t : Tree) × (slice_get (forest s.rule (length xs)).nodes x.0 ≡ Some t) × (x.1 ≡ tree_digest s.hashing (leaf_of s.hashing xs) t) → IsNodePair s xs x
-    is_pair x w = slice_get-map (digest_at s.hashing xs) (forest s.rule (length xs)).nodes x.0 ∙ ap (option_map (digest_at s.hashing xs)) w.1 ∙ ap Some (digest_at_is s.hashing xs w.0 ∙ sym w.2)
+    is_pair x w = node_digest_is s.hashing s.rule xs x.0 w.0 w.1 ∙ ap Some (sym w.2)
 
     nodes : IsHonestNonempty s xs k r
         → AllByRecursion (λ (x : ℕ × D). (t : Tree) × (slice_get (forest s.rule (length xs)).nodes x.0 ≡ Some t) × (x.1 ≡ tree_digest s.hashing (leaf_of s.hashing xs) t)) (extracted s r)
@@ -120,7 +119,7 @@ extracts_nodes {D = D} s size max_nodes sound xs k few low r ok = ⊎_elim (λ w
         let ns = (forest s.rule r.leaves).nodes in
         let built = peaks_built s.rule r.leaves in
         let e : r.digests ≡ map (plan_digest s.hashing (leaf_of s.hashing xs)) (range_parts s.bagging r.inactive r.start (end_of r) ts) ++ map (tree_digest s.hashing (leaf_of s.hashing xs)) (range_siblings r.start (end_of r) ts) =
-        w.digests ∙ ap₂ (λ x y. map (plan_digest s.hashing (leaf_of s.hashing xs)) (range_parts s.bagging x r.start (end_of r) (peaks_of s.rule y)) ++ map (tree_digest s.hashing (leaf_of s.hashing xs)) (range_siblings r.start (end_of r) (peaks_of s.rule y))) (sym w.inactive) (sym w.leaves) in
+        w.digests ∙ range_digests_are s xs k r.start (end_of r) ∙ ap₂ (λ x y. map (plan_digest s.hashing (leaf_of s.hashing xs)) (range_parts s.bagging x r.start (end_of r) (peaks_of s.rule y)) ++ map (tree_digest s.hashing (leaf_of s.hashing xs)) (range_siblings r.start (end_of r) (peaks_of s.rule y))) (sym w.inactive) (sym w.leaves) in
         subst (λ n. AllByRecursion (λ (x : ℕ × D). (t : Tree) × (slice_get (forest s.rule n).nodes x.0 ≡ Some t) × (x.1 ≡ tree_digest s.hashing (leaf_of s.hashing xs) t)) (extracted s r)) w.leaves
         (pairs_right s (leaf_of s.hashing xs) r (honest_leaves s xs k r w) ns r.inactive (wholly_before r.start ts) (overlapping r.start (end_of r) ts) (wholly_after (end_of r) ts)
         (all_filter _ _ ts built) (all_filter _ _ ts built) (all_filter _ _ ts built) r.digests e)

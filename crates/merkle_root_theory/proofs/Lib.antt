@@ -19,3 +19,4 @@ pub mod NamedRoots
 pub mod Reconstruction
 pub mod BuiltLayouts
 pub mod ListRoots
+pub mod RangeDigests

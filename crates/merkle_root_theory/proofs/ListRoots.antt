@@ -1,10 +1,12 @@
 -- The root over the plan of a list's peaks is the list's root.
-use Rattle.std.proofs.Common.{◌≡◌, ℕ, suc, pred, ◌-◌, length, List, [], ◌∷◌, map, take, drop, refl, ap, ap₂, sym, ◌∙◌, arith, Some, option_map, fold}
+use Rattle.std.proofs.Common.{◌≡◌, ℕ, suc, pred, ◌-◌, length, List, [], ◌∷◌, map, take, drop, refl, ap, ap₂, sym, ◌∙◌, arith, Some, option_map, fold, slice_get}
 use Rattle.std.specs.Option.{option_map_or}
 use Rattle.std.proofs.lemmas.List.{take-map, drop-map}
+use Rattle.std.proofs.lemmas.Option.{slice_get-map}
 use Rattle.merkle_base.specs.Tree.{Tree, leaf, join}
 use Rattle.merkle_base.specs.Hashing.{Hashing}
-use Rattle.merkle_base.specs.Digests.{digest_at}
+use Rattle.merkle_base.specs.Digests.{digest_at, node_digests}
+use Rattle.merkle_base.specs.Forest.{forest}
 use Rattle.merkle_base.specs.Places.{peaks_of}
 use Rattle.merkle_base.proofs.RightFolds.{with_right_fold}
 use Rattle.merkle_base.specs.Root.{folded, root_string}
@@ -20,6 +22,12 @@ use Rattle.merkle_root_theory.proofs.BuiltLayouts.{fold_values, right_fold_value
 pub digest_at_is : {D : Type 0} (h : Hashing D) (xs : List D) (t : Tree) → digest_at h xs t ≡ tree_digest h (leaf_of h xs) t
 digest_at_is h xs (leaf p i) = refl
 digest_at_is h xs (join p l r) = ap₂ (h.node p) (digest_at_is h xs l) (digest_at_is h xs r)
+
+-- and by position
+pub node_digest_is : {D : Type 0} (h : Hashing D) (rule : List ℕ → List ℕ) (xs : List D) (p : ℕ) (t : Tree) → slice_get (forest rule (length xs)).nodes p ≡ Some t
+    → slice_get (node_digests h rule xs) p ≡ Some (tree_digest h (leaf_of h xs) t)
+node_digest_is h rule xs p t e =
+    slice_get-map (digest_at h xs) (forest rule (length xs)).nodes p ∙ ap (option_map (digest_at h xs)) e ∙ ap Some (digest_at_is h xs t)
 
 -- expressions of plans, of which a fold's is that of its two parts at its place
 module _ {D : Type 0} (h : Hashing D) (E : Plan → Expression D) (folds : (place : Place) (l r : Plan) → E (folding place l r) ≡ computed place (E l) (E r)) where
@@ -47,7 +55,7 @@ module _ {D : Type 0} (h : Hashing D) (E : Plan → Expression D) (folds : (plac
 folded_is : {D : Type 0} (h : Hashing D) (X : ℕ → D) (bagging : Bagging) (k : ℕ) (ts : List Tree) → folded h.fold bagging k (map (tree_digest h X) ts) ≡ option_map (value h) (option_map (plan_expression X) (root_plan bagging k ts))
 folded_is h X bagging k ts = folded_values h (plan_expression X) (λ place l r. refl) bagging k ts
 
-digests_are : {D : Type 0} (h : Hashing D) (xs : List D) (ts : List Tree) → map (digest_at h xs) ts ≡ map (tree_digest h (leaf_of h xs)) ts
+pub digests_are : {D : Type 0} (h : Hashing D) (xs : List D) (ts : List Tree) → map (digest_at h xs) ts ≡ map (tree_digest h (leaf_of h xs)) ts
 digests_are h xs [] = refl
 digests_are h xs (t ∷ ts) = ap₂ (λ d ds. d ∷ ds) (digest_at_is h xs t) (digests_are h xs ts)
 

@@ -20,9 +20,10 @@ use Rattle.merkle_root_theory.specs.Outside.{HasLayout}
 use Rattle.merkle_root_theory.specs.Check.{root_of, all_inputs, list_expression, RangeInput, chosen, leaf_given, range_expression, HasDigestCount, HasHonestDigests, AcceptsByPlan, IsHonestByPlan, CoversEachLeaf}
 use Rattle.merkle_base.specs.Scheme.{Scheme}
 use Rattle.merkle_base.specs.Places.{peaks_of}
-use Rattle.merkle_root_theory.specs.Range.{end_of, range_parts, range_siblings, leaf_of, range_digests, AcceptsNonempty, IsEmptyInput, IsHonestNonempty, plan_root, IsLawfulScheme, RangeCollides, HonestIsAccepted, RangeSound}
+use Rattle.merkle_root_theory.specs.Range.{end_of, range_parts, range_siblings, leaf_of, AcceptsNonempty, IsEmptyInput, IsHonestNonempty, plan_root, IsLawfulScheme, RangeCollides, HonestIsAccepted, RangeSound}
 use Rattle.merkle_root_theory.proofs.ListChecks.{was_chosen, no_other_range, honest_range_accepted, root_tells}
 use Rattle.merkle_root_theory.proofs.PeakGroups.{range_layout}
+use Rattle.merkle_root_theory.proofs.RangeDigests.{range_digests_are, length-range_digests}
 use Rattle.merkle_base.proofs.PeakLists.{Spans, peaks_built, peaks_spans}
 
 -- a tree has the locations of its span, and no others
@@ -111,7 +112,7 @@ pub old_honest : {D : Type 0} (s : Scheme D) (xs : List D) (k : ℕ) (r : RangeI
 old_honest s xs k r honest = record {
   leaves = honest.leaves;
   inactive = honest.inactive;
-  digests = honest_of s xs r _ _ _ (range_layout s (length xs) k r.start (end_of r) (omega (arith, honest.nonempty)) honest.within) honest.digests;
+  digests = honest_of s xs r _ _ _ (range_layout s (length xs) k r.start (end_of r) (omega (arith, honest.nonempty)) honest.within) (honest.digests ∙ range_digests_are s xs k r.start (end_of r));
   elements = λ j m. ap (λ z. get_or z j s.hashing.empty) honest.elements ∙ get_or-take (length r.elements) (drop r.start xs) j s.hashing.empty m ∙ get_or-drop r.start xs j s.hashing.empty;
 }
 
@@ -126,15 +127,9 @@ module _ {D : Type 0} (s : Scheme D) (size max_nodes : ℕ) (sound : IsLawfulSch
         within = omega (arith, honest.within, e);
         leaves = omega (arith, few, e);
         inactive = subst (λ z. z ≤ length (peaks_of s.rule r.leaves)) (sym honest.inactive) (subst (λ z. k ≤ length (peaks_of s.rule z)) e low);
-        counts = ap length honest.digests ∙ lengths ∙ ap₂ (λ x y. length (range_parts s.bagging x r.start (end_of r) (peaks_of s.rule y)) + length (range_siblings r.start (end_of r) (peaks_of s.rule y))) (sym honest.inactive) e;
+        counts = ap length honest.digests ∙ length-range_digests s xs k r.start (end_of r) ∙ ap₂ (λ x y. length (range_parts s.bagging x r.start (end_of r) (peaks_of s.rule y)) + length (range_siblings r.start (end_of r) (peaks_of s.rule y))) (sym honest.inactive) e;
         root_is = ok.root_is;
       }
-    where
-      lengths : length (range_digests s xs k r.start (end_of r)) ≡ length (range_parts s.bagging k r.start (end_of r) (peaks_of s.rule (length xs))) + length (range_siblings r.start (end_of r) (peaks_of s.rule (length xs)))
-      lengths = length_maps (plan_digest s.hashing (leaf_of s.hashing xs)) (tree_digest s.hashing (leaf_of s.hashing xs)) _ _
-        where
-          length_maps : {A B C : Type 0} (f : A → C) (g : B → C) (us : List A) (vs : List B) → length (map f us ++ map g vs) ≡ length us + length vs
-          length_maps f g us vs = length-append (map f us) (map g vs) ∙ ap₂ ◌+◌ (length-map us f) (length-map vs g)
 
   pub some_honest : AcceptsNonempty s r (plan_root s xs k) → IsHonestNonempty s xs k r ⊎ RangeCollides s r xs k
   some_honest ok = ⊎_elim (λ w. inl (honest w)) inr
@@ -149,7 +144,7 @@ module _ {D : Type 0} (s : Scheme D) (size max_nodes : ℕ) (sound : IsLawfulSch
             within = within;
             leaves = w.leaves;
             inactive = w.inactive;
-            digests = digests_of s xs r _ _ _ (range_layout s (length xs) k r.start (end_of r) (omega (arith, ok.nonempty)) within) w.digests;
+            digests = digests_of s xs r _ _ _ (range_layout s (length xs) k r.start (end_of r) (omega (arith, ok.nonempty)) within) w.digests ∙ sym (range_digests_are s xs k r.start (end_of r));
             elements = same_list s.hashing.empty r.elements _ long (λ j m. w.elements j m ∙ sym (get_or-take (length r.elements) (drop r.start xs) j s.hashing.empty m ∙ get_or-drop r.start xs j s.hashing.empty));
           }
 

@@ -3,13 +3,15 @@ use Rattle.std.specs.Prelude.{◌≡◌, ℕ, Bool, ◌&&◌, ◌⊎◌, ◌≤�
 use Rattle.merkle_base.specs.Tree.{Tree, first_leaf, end_leaf}
 use Rattle.merkle_base.specs.Heights.{IsLawful}
 use Rattle.merkle_base.specs.Hashing.{Hashing, EqDecides}
+use Rattle.merkle_base.specs.Digests.{digest_at}
 use Rattle.merkle_base.specs.Root.{list_root}
 use Rattle.merkle_root_theory.specs.Expression.{Input}
 use Rattle.merkle_root_theory.specs.Collision.{Collision, Collides}
 use Rattle.merkle_root_theory.specs.RootString.{ByteLaws}
 use Rattle.merkle_root_theory.specs.Plan.{Plan, siblings, plan_digest, tree_digest}
 use Rattle.merkle_base.specs.declared.family.Bagging.{Bagging}
-use Rattle.merkle_root_theory.specs.Outside.{layout}
+use Rattle.merkle_root_theory.specs.Outside.{layout, folded_prefix, single_before, single_after, folded_suffix}
+use Rattle.merkle_root_theory.specs.Layouts.{laid_out}
 use Rattle.merkle_root_theory.specs.Check.{root_of, all_inputs, list_expression, RangeInput, range_expression, range_inputs}
 use Rattle.merkle_base.specs.Scheme.{Scheme}
 use Rattle.merkle_base.specs.Places.{peaks_of, wholly_before}
@@ -40,7 +42,19 @@ leaf_of h xs i = get_or xs i h.empty
 
 -- the digests of a proof of a..b
 abbrev pub range_digests : {D : Type 0} → Scheme D → List D → ℕ → ℕ → ℕ → List D
-range_digests s xs k a b =
+range_digests {D} s xs k a b =
+    let at : List Tree → List D = map (digest_at s.hashing xs) in
+    let ts = peaks_of s.rule (length xs) in
+    let before = wholly_before a ts in
+    let after = wholly_after b ts in
+    let met = length before + length (overlapping a b ts) in
+    laid_out s.hashing.fold (at (folded_prefix s.bagging k before))
+    (at (single_before s.bagging k before ++ single_after s.bagging k met after))
+    (at (folded_suffix s.bagging k met after)) (at (range_siblings a b ts))
+
+-- the same by the parts of a plan
+abbrev pub plan_digests : {D : Type 0} → Scheme D → List D → ℕ → ℕ → ℕ → List D
+plan_digests s xs k a b =
     map (plan_digest s.hashing (leaf_of s.hashing xs)) (range_parts s.bagging k a b (peaks_of s.rule (length xs)))
     ++ map (tree_digest s.hashing (leaf_of s.hashing xs)) (range_siblings a b (peaks_of s.rule (length xs)))
 

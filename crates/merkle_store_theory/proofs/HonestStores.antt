@@ -18,6 +18,7 @@ use Rattle.merkle_root_theory.proofs.Claims.{split_left, split_right, tree_hones
 use Rattle.merkle_claim_theory.proofs.ListedDigests.{plan_for}
 use Rattle.merkle_root_theory.proofs.PeakGroups.{range_layout}
 use Rattle.merkle_root_theory.proofs.RangeChecks.{honest_leaves}
+use Rattle.merkle_root_theory.proofs.RangeDigests.{range_digests_are}
 use Rattle.merkle_store_theory.specs.StoreLaws.{HonestStoreIsHonest}
 use Rattle.merkle_store_theory.proofs.Gathered.{meets_within, plan_within}
 use Rattle.merkle_store_theory.proofs.StoreProofs.{answers_claim}
@@ -84,7 +85,7 @@ honest_store_is_honest s xs k r root a b honest ok some low high =
     λ i e. let w = and_parts (nat_le a i) (nat_lt i b) e in let x = leb-true a i w.0 in let y = ltb-true i b w.1 in and_from _ _ (le-leb r.start i (omega (arith, x, low))) (lt-ltb i (end_of r) (omega (arith, y, high))) in
     let agrees = honest_leaves s xs k r honest in
     let same : r.digests ≡ map f (range_parts s.bagging j r.start (end_of r) ts) ++ map g (range_siblings r.start (end_of r) ts) =
-    honest.digests ∙ ap₂ (λ x y. map f (range_parts s.bagging x r.start (end_of r) (peaks_of s.rule y)) ++ map g (range_siblings r.start (end_of r) (peaks_of s.rule y))) (sym honest.inactive) (sym honest.leaves) in
+    honest.digests ∙ range_digests_are s xs k r.start (end_of r) ∙ ap₂ (λ x y. map f (range_parts s.bagging x r.start (end_of r) (peaks_of s.rule y)) ++ map g (range_siblings r.start (end_of r) (peaks_of s.rule y))) (sym honest.inactive) (sym honest.leaves) in
     let is = drop (length (range_parts s.bagging j r.start (end_of r) ts)) r.digests in
     let os_are : r.digests ≡ map f (outside_parts c plan.0) ++ map g (range_siblings r.start (end_of r) ts) = same ∙ ap (λ z. map f z ++ map g (range_siblings r.start (end_of r) ts)) (sym lc.0) in
     let is_are : is ≡ map g (path_siblings c plan.0) ++ [] =
@@ -93,3 +94,4 @@ honest_store_is_honest s xs k r root a b honest ok some low high =
     answers_claim s r root ok a b some low high plan.0 plan.1
     ∙ ap₂ ◌++◌ (outside_parts_honest h c d X Y within agrees plan.0 r.digests is _ [] os_are is_are ∙ ap (map f) ld.0) (inner_honest h c d X Y within agrees plan.0 r.digests is _ [] os_are is_are ∙ ap (map g) ld.1)
     ∙ ap₂ (λ x y. map f (range_parts s.bagging x a b (peaks_of s.rule y)) ++ map g (range_siblings a b (peaks_of s.rule y))) honest.inactive honest.leaves
+    ∙ sym (range_digests_are s xs k a b)

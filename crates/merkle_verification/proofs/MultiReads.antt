@@ -2,18 +2,17 @@
 use Rattle.std.proofs.Common.{◌≡◌, ℕ, ◌<◌, List, [], ◌∷◌, length, map, Option, Some, inl, refl, ap, ap₂, sym, ◌∙◌, subst, arith}
 use Rattle.std.specs.List.{AllByRecursion}
 use Rattle.std.proofs.lemmas.List.{length-map}
-use Rattle.merkle_base.specs.Forest.{forest, size}
-use Rattle.merkle_base.specs.Digests.{digest_at}
+use Rattle.std.proofs.lemmas.Option.{get_or_from_slice_get}
+use Rattle.merkle_base.specs.Forest.{size}
+use Rattle.merkle_base.specs.Digests.{node_digests}
 use Rattle.merkle_base.specs.Scheme.{Scheme}
 use Rattle.merkle_base.specs.Shows.{Shows}
 use Rattle.merkle_base.proofs.Lists.{cons_head, cons_tail}
 use Rattle.merkle_base.proofs.Nodes.{size_inj}
 use Rattle.merkle_root_theory.specs.Range.{leaf_of}
-use Rattle.merkle_root_theory.proofs.ListRoots.{digest_at_is}
-use Rattle.merkle_batch_theory.proofs.Kept.{get_mapped}
 use Rattle.merkle_forest_theory.specs.Ascending.{AscendsFrom}
 use Rattle.merkle_claim_theory.specs.Multiproof.{IsHonestMulti, multi_positions}
-use Rattle.merkle_claim_theory.specs.Table.{digest_of, digest_at_position}
+use Rattle.merkle_claim_theory.specs.Table.{digest_at_position}
 use Rattle.merkle_proof.specs.declared.proof.Proof.{Proof}
 use Rattle.merkle_verification.specs.ReaderProofs.{IsBuiltMulti, multi_list_input}
 
@@ -28,9 +27,7 @@ map-second f (i ∷ is) = ap (λ ds. f i ∷ ds) (map-second f is)
 
 module _ {D : Type 0} (s : Scheme D) (m : ℕ) (node : ℕ → Option D) (X : List D) (shows : Shows s.hashing s.rule m node X) where
   shown_at : (p : ℕ) (d : D) → node p ≡ Some d → d ≡ digest_at_position s X p
-  shown_at p d e =
-      let w = get_mapped (digest_at s.hashing X) (forest s.rule (length X)).nodes p d (shows.right p d e) in
-      w.2 ∙ digest_at_is s.hashing X w.0 ∙ sym (ap (digest_of s.hashing (leaf_of s.hashing X)) w.1)
+  shown_at p d e = sym (get_or_from_slice_get (node_digests s.hashing s.rule X) p d s.hashing.empty (shows.right p d e))
 
   all_shown : (ps : List ℕ) (ds : List D) → map Some ds ≡ map node ps → ds ≡ map (digest_at_position s X) ps
   all_shown [] [] e = refl
