@@ -11,6 +11,7 @@ use Rattle.merkle_base.specs.Scheme.{Scheme}
 use Rattle.merkle_range.specs.Input.{leaf_digests, range_input}
 use Rattle.merkle_range.proofs.LeafDigests.{length-leaf_digests}
 use Rattle.merkle_root_theory.specs.Range.{ForRootOf, IsHonestRange, RangeCollides}
+use Rattle.merkle_root_theory.proofs.HonestInputs.{range_of_some, some_of_range}
 use Rattle.example_proved.specs.Log.{leaves_of, ForLogOf, HasEntry, HasTwin, EntryCollides, IsHonestFor}
 
 -- a leaf digest is that of the entry at its location
@@ -56,9 +57,9 @@ entry_or_twin s entries i entry there =
 -- an honest range of one entry is the log's, or the log has a twin of it
 is_entry : {D : Type 0} (s : Scheme D) (entries : List (List ℕ)) (k leaves inactive : ℕ) (digests : List D) (i : ℕ) (entry : List ℕ)
     → IsHonestRange s (leaves_of s entries) k (range_input s leaves inactive digests i (entry ∷ [])) → HasEntry entries i entry ⊎ HasTwin s entries i entry
-is_entry s entries k leaves inactive digests i entry (inl honest) =
-    entry_or_twin s entries i entry (one_there (leaves_of s entries) i (s.hashing.leaf (size s.rule i) entry) honest.elements)
-is_entry s entries k leaves inactive digests i entry (inr empty) = absurd (cc (empty.0.elements))
+is_entry s entries k leaves inactive digests i entry honest =
+    let some = some_of_range s (leaves_of s entries) k (range_input s leaves inactive digests i (entry ∷ [])) (omega arith) honest in
+    entry_or_twin s entries i entry (one_there (leaves_of s entries) i (s.hashing.leaf (size s.rule i) entry) some.elements)
 
 -- what is known of each list with a root, of each log with that root
 pub of_logs : {D : Type 0} (s : Scheme D) (root : D) (P : List D → ℕ → Type 0) → ForRootOf s root P → ForLogOf s root (λ entries k. P (leaves_of s entries) k)
@@ -84,7 +85,7 @@ is_honest s entries k leaves inactive digests i entry there honest =
     let within : i < length entries = slice_get_within entries i entry there in
     let placed : slice_get (leaves_of s entries) i ≡ Some (s.hashing.leaf (size s.rule i) entry) =
     digest_of_entry s.hashing s.rule 0 entries i entry there ∙ ap (λ n. Some (s.hashing.leaf (size s.rule n) entry)) (omega arith) in
-    inl (record {
+    range_of_some s (leaves_of s entries) k (range_input s leaves inactive digests i (entry ∷ [])) (record {
       nonempty = omega arith;
       within = omega (arith, counted, within);
       leaves = honest.leaves ∙ sym counted;

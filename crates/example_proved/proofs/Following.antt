@@ -1,17 +1,18 @@
 -- A log that begins with the entries of an older one.
-use Rattle.std.proofs.Common.{◌≡◌, ℕ, zero, suc, ◌+◌, ◌≤◌, ◌⊎◌, List, [], ◌∷◌, length, take, drop, Some, slice_get, arith, refl, sym, ap, subst, ◌∙◌, inl, inr}
+use Rattle.std.proofs.Common.{◌≡◌, ℕ, zero, suc, ◌+◌, ◌-◌, ◌≤◌, ◌⊎◌, List, [], ◌∷◌, length, take, drop, Some, slice_get, arith, refl, sym, ap, subst, ◌∙◌, inl, inr}
 use Rattle.std.proofs.lemmas.List.{length-map, length-take-le}
 use Rattle.std.proofs.lemmas.Option.{slice_get_within}
-use Rattle.merkle_base.specs.Forest.{size, forest}
+use Rattle.merkle_base.specs.Forest.{size}
 use Rattle.merkle_base.specs.Hashing.{Hashing}
 use Rattle.merkle_base.specs.Places.{peaks_of}
 use Rattle.merkle_base.specs.Root.{list_root}
 use Rattle.merkle_base.specs.Scheme.{Scheme}
-use Rattle.merkle_claim_theory.specs.Pinned.{IsHonestPinned, PinnedCollides}
+use Rattle.merkle_claim_theory.specs.Pinned.{honest_pins, IsHonestPinned, PinnedCollides}
 use Rattle.merkle_claim_theory.proofs.RebuiltPins.{pins_give_old_root}
 use Rattle.merkle_claim_theory.specs.Rebuilt.{GivesOldRoot}
 use Rattle.merkle_range.specs.Input.{leaf_digests, range_input}
 use Rattle.merkle_range.proofs.LeafDigests.{length-leaf_digests}
+use Rattle.merkle_root_theory.specs.Check.{RangeInput}
 use Rattle.merkle_root_theory.specs.Range.{ForRootOf}
 use Rattle.example_proved.specs.Log.{leaves_of, IsLogOf, ForLogOf, GivesRoot, Extends}
 use Rattle.example_proved.proofs.Entries.{digest_of_entry, entry_or_twin, of_logs}
@@ -53,28 +54,28 @@ before s old n j pins entries bounded long peaks given gives =
       root_is = ap (λ xs. list_root s xs j) (sym (take-leaf_digests s.hashing s.rule 0 entries n)) ∙ (sym (gives j) ∙ given.root_is);
     }
 
+-- as many honest pins as peaks
+pins_count : {D : Type 0} (s : Scheme D) (xs pins : List D) (n : ℕ) → n ≤ length xs → pins ≡ honest_pins s xs n → length pins ≡ length (peaks_of s.rule n)
+pins_count s xs pins n there honest =
+    ap length honest ∙ length-map (peaks_of s.rule (length (take n xs))) _ ∙ ap (λ m. length (peaks_of s.rule m)) (length-take-le n xs there)
+
 -- honest pins and elements extend the old log
 extends : {D : Type 0} (s : Scheme D) (old : D) (n j : ℕ) (pins : List D) (added entries : List (List ℕ)) (k leaves inactive : ℕ) (digests : List D) → length entries ≤ s.max_leaves
     → GivesRoot s old n j pins → GivesOldRoot s (leaves_of s entries) n pins → IsHonestPinned s (leaves_of s entries) k (range_input s leaves inactive digests n added) pins
     → Extends s old n j added entries
-extends s old n j pins added entries k leaves inactive digests bounded given gives (inl honest) =
+extends {D} s old n j pins added entries k leaves inactive digests bounded given gives honest =
     let counted = length-leaf_digests s.hashing s.rule 0 entries in
-    let within = honest.0.within in
-    let pinned : length pins ≡ length (peaks_of s.rule n) = ap length honest.1 ∙ length-map (peaks_of s.rule n) _ in
+    let within = honest.0.0 in
+    let there : n ≤ length (leaves_of s entries) = omega (arith, within) in
+    let pinned : length pins ≡ length (peaks_of s.rule n) = pins_count s (leaves_of s entries) pins n there honest.1 in
+    let new = leaf_digests s.hashing s.rule n added in
+    let count : (n + length new) - n ≡ length new = omega arith in
+    let elements : new ≡ take (length new) (drop n (leaves_of s entries)) = ap (λ (r : RangeInput D). r.elements) honest.0.2 ∙ ap (λ m. take m (drop n (leaves_of s entries))) count in
     record {
       long = omega (arith, counted, within);
       before = before s old n j pins entries bounded (omega (arith, counted, within)) (omega (arith, pinned, given.enough)) given gives;
       after = λ i entry there. entry_or_twin s entries (n + i) entry
-          (range_there (leaves_of s entries) (leaf_digests s.hashing s.rule n added) n honest.0.elements i _ (digest_of_entry s.hashing s.rule n added i entry there));
-    }
-extends s old n j pins added entries k leaves inactive digests bounded given gives (inr honest) =
-    let none = honest.0.0 in
-    let unpinned : length pins ≡ 0 = ap length honest.0.1 in
-    let unadded : length added ≡ 0 = sym (length-leaf_digests s.hashing s.rule n added) ∙ ap length none.elements in
-    record {
-      long = omega (arith, none.start);
-      before = before s old n j pins entries bounded (omega (arith, none.start)) (omega (arith, unpinned, given.enough)) given gives;
-      after = λ i entry there. absurd (omega (arith, unadded, slice_get_within added i entry there));
+          (range_there (leaves_of s entries) new n elements i _ (digest_of_entry s.hashing s.rule n added i entry there));
     }
 
 -- an accepted update extends the old log, or something collides
@@ -91,20 +92,13 @@ followed s root old n j pins added leaves inactive digests given sound old_root 
       | inr collides ↦ inr collides
     ]
 
--- no entries have no peaks
-no_peaks : (rule : List ℕ → List ℕ) → length (peaks_of rule 0) ≡ 0
-unfolding forest
-no_peaks rule = refl
-
 -- as many pins as peaks
 length-pins : {D : Type 0} (s : Scheme D) (xs : List D) (k : ℕ) (pins : List D) (added : List (List ℕ)) (n leaves inactive : ℕ) (digests : List D)
     → IsHonestPinned s xs k (range_input s leaves inactive digests n added) pins → (length pins ≡ length (peaks_of s.rule n)) × (n ≤ length xs)
-length-pins s xs k pins added n leaves inactive digests (inl honest) =
-    let within = honest.0.within in
-    (ap length honest.1 ∙ length-map (peaks_of s.rule n) _, omega (arith, within))
-length-pins s xs k pins added n leaves inactive digests (inr honest) =
-    let start : n ≡ 0 = honest.0.0.start in
-    (ap length honest.0.1 ∙ sym (ap (λ m. length (peaks_of s.rule m)) start ∙ no_peaks s.rule), omega (arith, start))
+length-pins s xs k pins added n leaves inactive digests honest =
+    let within = honest.0.0 in
+    let there : n ≤ length xs = omega (arith, within) in
+    (pins_count s xs pins n there honest.1, there)
 
 -- honest pins give the root of the log's first entries
 pub pins_give : {D : Type 0} (s : Scheme D) (old : D) (n j : ℕ) (pins : List D) (added entries : List (List ℕ)) (k leaves inactive : ℕ) (digests : List D)

@@ -24,3 +24,4 @@ pub mod FewDigests
 pub mod OneLeaf
 pub mod RebuiltPins
 pub mod AcceptedInputs
+pub mod HonestMultis

@@ -26,6 +26,7 @@ use Rattle.merkle_root_theory.proofs.Collisions.{member_left, member_right}
 use Rattle.merkle_claim_theory.proofs.HonestClaims.{member_split}
 use Rattle.merkle_base.proofs.Cases.{by_test}
 use Rattle.merkle_claim_theory.proofs.ToldDigests.{no_other_multi}
+use Rattle.merkle_claim_theory.proofs.HonestMultis.{multi_of_some, multi_of_cases, cases_of_multi}
 use Rattle.merkle_claim_theory.proofs.HonestTold.{honest_multi_accepted}
 use Rattle.merkle_root_theory.proofs.ListRoots.{node_digest_is}
 use Rattle.merkle_root_theory.proofs.RangeChecks.{covers, small_leaves, small_inactive, empty_root}
@@ -285,9 +286,10 @@ module _ {D : Type 0} (s : Scheme D) (size max_nodes : ℕ) (sound : IsLawfulSch
       }
 
 pub honest_multi_is_accepted : {D : Type 0} → HonestMultiIsAccepted D
-honest_multi_is_accepted s size max_nodes sound xs k few low r honest = ⊎_elim (λ w. inl (honest_multi s size max_nodes sound xs k few low r w)) (λ w. inr (w.0, empty_root s xs k low w.1)) honest
+honest_multi_is_accepted s size max_nodes sound xs k few low r honest =
+    ⊎_elim (λ w. inl (honest_multi s size max_nodes sound xs k few low r w)) (λ w. inr (w.0, empty_root s xs k low w.1)) (cases_of_multi s xs k r low honest)
 
 pub accepted_multi_is_honest : {D : Type 0} → MultiSound D
 accepted_multi_is_honest s size max_nodes sound xs k few low r ok =
-    ⊎_elim (λ w. ⊎_elim (λ z. inl (inl z)) inr (multi_honest s size max_nodes sound xs k few low r w))
-    (λ w. ⊎_elim (λ z. inl (inr (w.0, z))) inr (no_other_list s size max_nodes sound xs k few low (multi_on s r) r.leaves r.inactive w.0.leaves w.0.inactive w.1)) ok
+    ⊎_elim (λ w. ⊎_elim (λ z. inl (multi_of_some s xs k r z)) inr (multi_honest s size max_nodes sound xs k few low r w))
+    (λ w. ⊎_elim (λ z. inl (multi_of_cases s xs k r low (inr (w.0, z)))) inr (no_other_list s size max_nodes sound xs k few low (multi_on s r) r.leaves r.inactive w.0.leaves w.0.inactive w.1)) ok

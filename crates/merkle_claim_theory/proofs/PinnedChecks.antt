@@ -2,8 +2,10 @@
 use Rattle.std.proofs.Common.{◌≡◌, ℕ, zero, suc, Bool, true, false, cond, ◌||◌, nat_le, leb-true, ◌+◌, ◌-◌, ◌≤◌, ◌<◌, List, [], ◌∷◌, ◌++◌, ◌⊎◌, inl, inr, refl, ap, ap₂, sym, ◌∙◌, subst, ⊎_elim, arith, length, map, flat_map, take, drop, reverse, Option, Some, None, option_map, IfSome, MatchOption, slice_get}
 use Rattle.std.specs.List.{AllByRecursion}
 use Rattle.std.proofs.lemmas.Bool.{ne_eqb, cases_Bool, cases_lt, false≢true}
+use Rattle.std.proofs.Math.Seq.{take-nil}
 use Rattle.std.proofs.lemmas.List.{length-map, length-take-le, get_or-take, reverse-append}
 use Rattle.merkle_base.specs.Tree.{Tree, leaf, join, position, first_leaf, width, IsUnder, IsBuilt, end_leaf}
+use Rattle.merkle_base.specs.Digests.{peak_digests}
 use Rattle.merkle_base.specs.Forest.{forest, size}
 use Rattle.merkle_base.proofs.Growth.{forest_grown, built_at, IsBuilt-front}
 use Rattle.merkle_base.proofs.Nodes.{forest_prefix, first_under, end_under, width_pos, peak_of}
@@ -34,6 +36,7 @@ use Rattle.merkle_root_theory.proofs.Extraction.{all_filter, all_take, all_drop}
 use Rattle.merkle_root_theory.proofs.RangeChecks.{covers, tree_in, small_leaves, small_inactive, honest_leaves, honest_some, elements_are, empty_root}
 use Rattle.merkle_root_theory.proofs.ListChecks.{is_chosen}
 use Rattle.merkle_root_theory.proofs.ListRoots.{digests_are}
+use Rattle.merkle_root_theory.proofs.HonestInputs.{range_of_some, range_of_cases, cases_of_range}
 use Rattle.merkle_root_theory.proofs.RangeDigests.{range_digests_are}
 use Rattle.merkle_claim_theory.specs.Multiproof.{AllHolds}
 use Rattle.merkle_claim_theory.proofs.ListedDigests.{filtered_member, EachPeak, each_left_fold, left_fold_each, all_cut, listed, listed_is, listed_some, each_of, plan_for, roots, below_root, roots_same, no_other_list}
@@ -421,6 +424,14 @@ module _ {D : Type 0} (s : Scheme D) (xs : List D) (start : ℕ) (l : start ≤ 
       ∙ ap (λ n. map (tree_digest s.hashing (leaf_of s.hashing old)) (peaks_of s.rule n)) (length-take-le start xs l)
       ∙ same_map (peaks_of s.rule start) (peaks_built s.rule start) (λ u m. spans_last 0 start (peaks_of s.rule start) u (peaks_spans s.rule start) m)
 
+none_pinned : {D : Type 0} (s : Scheme D) → peak_digests s.hashing s.rule [] ≡ []
+unfolding forest
+none_pinned s = refl
+
+-- those of the empty list
+no_pins : {D : Type 0} (s : Scheme D) (xs : List D) (start : ℕ) → xs ≡ [] → honest_pins s xs start ≡ []
+no_pins s xs start none = ap (λ (ys : List _). honest_pins s ys start) none ∙ ap (peak_digests s.hashing s.rule) (take-nil start) ∙ none_pinned s
+
 pub pins_are_old_peaks : {D : Type 0} → PinsAreOldPeaks D
 pins_are_old_peaks s xs start l = honest_pins_are s xs start l ∙ sym (digests_are s.hashing xs (peaks_of s.rule start))
 
@@ -510,9 +521,11 @@ module _ {D : Type 0} (s : Scheme D) (size max_nodes : ℕ) (sound : IsLawfulSch
       }
 
 pub honest_pinned_is_accepted : {D : Type 0} → HonestPinnedIsAccepted D
-honest_pinned_is_accepted s size max_nodes sound xs k few low r pins honest = ⊎_elim (λ w. inl (honest_pinned s size max_nodes sound xs k few low r pins w.0 w.1)) (λ w. inr (w.0, empty_root s xs k low w.1)) honest
+honest_pinned_is_accepted s size max_nodes sound xs k few low r pins honest = ⊎_elim (λ w. inl (honest_pinned s size max_nodes sound xs k few low r pins w honest.1))
+    (λ w. inr ((w.0, honest.1 ∙ no_pins s xs r.start w.1), empty_root s xs k low w.1)) (cases_of_range s xs k r low honest.0)
 
 pub accepted_pinned_is_honest : {D : Type 0} → AcceptedPinnedIsHonest D
 accepted_pinned_is_honest s size max_nodes sound xs k few low r pins ok =
-    ⊎_elim (λ w. ⊎_elim (λ z. inl (inl z)) inr (pinned_honest s size max_nodes sound xs k few low r pins w))
-    (λ w. ⊎_elim (λ z. inl (inr (w.0, z))) inr (no_other_list s size max_nodes sound xs k few low (pinned_on s r pins) r.leaves r.inactive w.0.0.leaves w.0.0.inactive w.1)) ok
+    ⊎_elim (λ w. ⊎_elim (λ z. inl (range_of_some s xs k r z.0, z.1)) inr (pinned_honest s size max_nodes sound xs k few low r pins w))
+    (λ w. ⊎_elim (λ z. inl (range_of_cases s xs k r low (inr (w.0.0, z)), w.0.1 ∙ sym (no_pins s xs r.start z))) inr
+    (no_other_list s size max_nodes sound xs k few low (pinned_on s r pins) r.leaves r.inactive w.0.0.leaves w.0.0.inactive w.1)) ok

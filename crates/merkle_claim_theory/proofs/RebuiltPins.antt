@@ -3,8 +3,6 @@ use Rattle.std.proofs.Common.{◌≡◌, ℕ, Bool, true, false, cond, ◌||◌,
 use Rattle.std.proofs.lemmas.Bool.{false≢true}
 use Rattle.std.proofs.lemmas.List.{length-take-le}
 use Rattle.merkle_base.proofs.Cases.{by_test}
-use Rattle.merkle_base.specs.Digests.{digest_at}
-use Rattle.merkle_base.specs.Forest.{forest}
 use Rattle.merkle_base.specs.Hashing.{Hashing}
 use Rattle.merkle_base.specs.Places.{peaks_of}
 use Rattle.merkle_base.specs.Root.{root_string, peaks_root, list_root}
@@ -16,14 +14,12 @@ use Rattle.merkle_root_theory.specs.Claim.{next, tree_claim, claim, claim_of}
 use Rattle.merkle_root_theory.specs.Outside.{HasLayout}
 use Rattle.merkle_root_theory.specs.Check.{RangeInput, root_of, chosen, leaf_given}
 use Rattle.merkle_root_theory.specs.Range.{in_range, end_of, range_parts, range_siblings, leaf_of, AcceptsNonempty}
-use Rattle.merkle_root_theory.proofs.ListRoots.{digest_at_is}
 use Rattle.merkle_root_theory.proofs.PeakGroups.{range_layout}
 use Rattle.merkle_claim_theory.specs.Multiproof.{AllHolds}
 use Rattle.merkle_claim_theory.specs.Pinned.{pinned_on, pinned_expression, AcceptsPinnedSome, honest_pins}
 use Rattle.merkle_claim_theory.specs.PinnedClaim.{pinned_or, pin_tree, pin_plan, outside_tree, outside_plan, pinned_tree, pinned_claim}
 use Rattle.merkle_claim_theory.specs.Rebuilt.{AllRebuilt, rebuilt_node, rebuilt_part, pin_at, IsRebuilt, PinnedIsRebuilt, PinsGiveOldRoot}
 use Rattle.merkle_claim_theory.proofs.ListedDigests.{plan_for}
-use Rattle.merkle_claim_theory.proofs.PinnedChecks.{pins_are_old_peaks}
 
 -- ---- lists of parts
 module _ {A D : Type 0} (h : Hashing D) (marked : A → Bool) (f : A → D) where
@@ -228,16 +224,9 @@ pub pinned_is_rebuilt : {D : Type 0} → PinnedIsRebuilt D
 pinned_is_rebuilt s r pins root = (accepted_rebuilt s r pins root, λ x. rebuilt_accepted s r pins root x.0 x.1)
 
 -- ---- the root over the pins
-none_pinned : {D : Type 0} (s : Scheme D) (xs : List D) → honest_pins s xs 0 ≡ []
-unfolding forest
-none_pinned s xs = refl
-
 module _ {D : Type 0} (s : Scheme D) (xs : List D) (start : ℕ) (pins : List D) (j : ℕ) where
   old_root : start ≤ length xs → pins ≡ honest_pins s xs start → peaks_root s start j j pins ≡ list_root s (take start xs) j
   old_root within e = ap (peaks_root s start j j) e ∙ ap (λ n. peaks_root s n j j (honest_pins s xs start)) (sym (length-take-le start xs within))
 
 pub pins_give_old_root : {D : Type 0} → PinsGiveOldRoot D
-pins_give_old_root s xs k r pins (inl w) j = old_root s xs r.start pins j (omega (arith, w.0.within)) w.1
-pins_give_old_root s xs k r pins (inr w) j =
-    let none : r.start ≡ 0 = w.0.0.start in
-    old_root s xs r.start pins j (omega (arith, none)) (w.0.1 ∙ sym (none_pinned s xs) ∙ ap (honest_pins s xs) (sym none))
+pins_give_old_root s xs k r pins w j = old_root s xs r.start pins j (omega (arith, w.0.0)) w.1

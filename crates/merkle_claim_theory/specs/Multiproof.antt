@@ -89,7 +89,21 @@ pub record NewAcceptsMulti {D : Type 0} (s : Scheme D) (r : MultiInput D) (root 
   pub redundant : AllHolds s (multi_expression s r)
   pub root_is : root_of s r.leaves r.inactive (multi_expression s r) ≡ root
 
--- the honest multi-proof of a list for strictly ascending locations, with the leaves there
+-- the honest input of a list's leaves at some locations
+abbrev pub honest_multi_input : {D : Type 0} → Scheme D → List D → ℕ → List ℕ → MultiInput D
+honest_multi_input s xs k locations = record {
+  leaves = length xs;
+  inactive = k;
+  digests = map (digest_at_position s xs) (multi_positions s.rule (length xs) locations);
+  elements = map (λ i. (i, leaf_of s.hashing xs i)) locations;
+}
+
+-- r is that of its locations, which ascend strictly and lie within the list, and of which there are some unless the list is empty
+abbrev pub IsHonestMulti : {D : Type 0} → Scheme D → List D → ℕ → MultiInput D → Type 0
+IsHonestMulti s xs k r = AscendsFrom 0 (locations_in r) × AllByRecursion (λ i. i < length xs) (locations_in r)
+    × ((0 < length r.elements) ⊎ (xs ≡ [])) × (r ≡ honest_multi_input s xs k (locations_in r))
+
+-- the same of some locations
 pub record IsHonestMultiSome {D : Type 0} (s : Scheme D) (xs : List D) (k : ℕ) (r : MultiInput D) : Type 0 where
   pub nonempty : 0 < length r.elements
   pub ascend : AscendsFrom 0 (locations_in r)
@@ -99,9 +113,9 @@ pub record IsHonestMultiSome {D : Type 0} (s : Scheme D) (xs : List D) (k : ℕ)
   pub digests : r.digests ≡ map (digest_at_position s xs) (multi_positions s.rule (length xs) (locations_in r))
   pub elements : leaves_in r ≡ map (leaf_of s.hashing xs) (locations_in r)
 
--- an honest input: with elements, or the empty one of the empty list
-abbrev pub IsHonestMulti : {D : Type 0} → Scheme D → List D → ℕ → MultiInput D → Type 0
-IsHonestMulti s xs k r = IsHonestMultiSome s xs k r ⊎ (IsEmptyMulti r × (xs ≡ []))
+-- the same by cases: with elements, or the empty input of the empty list
+abbrev pub IsHonestMultiByCases : {D : Type 0} → Scheme D → List D → ℕ → MultiInput D → Type 0
+IsHonestMultiByCases s xs k r = IsHonestMultiSome s xs k r ⊎ (IsEmptyMulti r × (xs ≡ []))
 
 -- a collision of a multi input with the list
 abbrev pub MultiCollides : {D : Type 0} → Scheme D → MultiInput D → List D → ℕ → Type 0

@@ -9,7 +9,7 @@ use Rattle.merkle_claim_theory.specs.PinnedClaim.{pinned_of}
 use Rattle.merkle_root_theory.specs.Check.{root_of, all_inputs, RangeInput, chosen, leaf_given}
 use Rattle.merkle_base.specs.Scheme.{Scheme}
 use Rattle.merkle_base.specs.Places.{peaks_of}
-use Rattle.merkle_root_theory.specs.Range.{in_range, end_of, range_parts, range_siblings, list_inputs, plan_root, IsLawfulScheme, IsEmptyInput, IsHonestNonempty}
+use Rattle.merkle_root_theory.specs.Range.{in_range, end_of, range_parts, range_siblings, list_inputs, plan_root, IsLawfulScheme, IsEmptyInput, IsHonestRange}
 use Rattle.merkle_root_theory.specs.Reconstruction.{reconstructed}
 use Rattle.merkle_claim_theory.specs.Table.{digest_for}
 use Rattle.merkle_claim_theory.specs.Multiproof.{AllHolds}
@@ -53,9 +53,9 @@ NewAcceptsPinned s r pins root =
 abbrev pub honest_pins : {D : Type 0} → Scheme D → List D → ℕ → List D
 honest_pins s xs start = peak_digests s.hashing s.rule (take start xs)
 
--- an honest input with honest pins: with elements, or the empty one of the empty list
+-- an honest input with honest pins
 abbrev pub IsHonestPinned : {D : Type 0} → Scheme D → List D → ℕ → RangeInput D → List D → Type 0
-IsHonestPinned s xs k r pins = (IsHonestNonempty s xs k r × (pins ≡ honest_pins s xs r.start)) ⊎ ((IsEmptyInput r × (pins ≡ [])) × (xs ≡ []))
+IsHonestPinned s xs k r pins = IsHonestRange s xs k r × (pins ≡ honest_pins s xs r.start)
 
 -- a collision of a pinned input with the list
 abbrev pub PinnedCollides : {D : Type 0} → Scheme D → RangeInput D → List D → List D → ℕ → Type 0

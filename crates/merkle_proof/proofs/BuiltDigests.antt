@@ -107,11 +107,10 @@ module _ {F D P Q : Type 0} (s : Scheme D) (answered : ℕ → Option D → Type
   is_honest less within xs long right =
       let count : length (take (b - a) (drop a xs)) ≡ b - a = length-take-le (b - a) (drop a xs) (omega (arith, less, within, long, length-drop a xs)) in
       let ends : b ≡ end_of (list_input p xs a b) = omega (arith, count, less) in
-      inl (record {
-        nonempty = omega (arith, count, less);
-        within = omega (arith, count, less, within, long);
-        leaves = leaves_are ∙ sym long;
-        inactive = inactive_are;
-        digests = honest_digests_are xs long right ∙ ap (range_digests s xs k a) ends;
-        elements = ap (λ m. take m (drop a xs)) (sym count);
-      })
+      let leaves : p.leaves ≡ length xs = leaves_are ∙ sym long in
+      let digests : p.digests.items ≡ range_digests s xs k a (end_of (list_input p xs a b)) = honest_digests_are xs long right ∙ ap (range_digests s xs k a) ends in
+      let elements : take (b - a) (drop a xs) ≡ take (end_of (list_input p xs a b) - a) (drop a xs) = ap (λ e. take (e - a) (drop a xs)) ends in (
+        omega (arith, count, less, within, long),
+        inl (omega (arith, count, less)),
+        λ i. record { leaves = leaves i; inactive = inactive_are i; digests = digests i; start = a; elements = elements i },
+      )

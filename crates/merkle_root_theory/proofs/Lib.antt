@@ -20,3 +20,4 @@ pub mod Reconstruction
 pub mod BuiltLayouts
 pub mod ListRoots
 pub mod RangeDigests
+pub mod HonestInputs

@@ -23,6 +23,7 @@ use Rattle.merkle_base.specs.Places.{peaks_of}
 use Rattle.merkle_root_theory.specs.Range.{end_of, range_parts, range_siblings, leaf_of, AcceptsNonempty, IsEmptyInput, IsHonestNonempty, plan_root, IsLawfulScheme, RangeCollides, HonestIsAccepted, RangeSound}
 use Rattle.merkle_root_theory.proofs.ListChecks.{was_chosen, no_other_range, honest_range_accepted, root_tells}
 use Rattle.merkle_root_theory.proofs.PeakGroups.{range_layout}
+use Rattle.merkle_root_theory.proofs.HonestInputs.{range_of_some, range_of_cases, cases_of_range}
 use Rattle.merkle_root_theory.proofs.RangeDigests.{range_digests_are, length-range_digests}
 use Rattle.merkle_base.proofs.PeakLists.{Spans, peaks_built, peaks_spans}
 
@@ -159,8 +160,10 @@ module _ {D : Type 0} (s : Scheme D) (size max_nodes : ℕ) (sound : IsLawfulSch
       inputs = ap (λ e. all_inputs s r.leaves r.inactive e) nothing ∙ ap₂ (λ n j. all_inputs s n j None) empty.leaves empty.inactive
 
 pub honest_is_accepted : {D : Type 0} → HonestIsAccepted D
-honest_is_accepted s size max_nodes sound xs k few low r honest = ⊎_elim (λ w. inl (honest_some s size max_nodes sound xs k few low r w)) (λ w. inr (w.0, empty_root s xs k low w.1)) honest
+honest_is_accepted s size max_nodes sound xs k few low r honest =
+    ⊎_elim (λ w. inl (honest_some s size max_nodes sound xs k few low r w)) (λ w. inr (w.0, empty_root s xs k low w.1)) (cases_of_range s xs k r low honest)
 
 pub accepted_is_honest : {D : Type 0} → RangeSound D
 accepted_is_honest s size max_nodes sound xs k few low r ok =
-    ⊎_elim (λ w. ⊎_elim (λ z. inl (inl z)) inr (some_honest s size max_nodes sound xs k few low r w)) (λ w. ⊎_elim (λ z. inl (inr z)) inr (none_honest s size max_nodes sound xs k few low r w.0 w.1)) ok
+    ⊎_elim (λ w. ⊎_elim (λ z. inl (range_of_some s xs k r z)) inr (some_honest s size max_nodes sound xs k few low r w))
+    (λ w. ⊎_elim (λ z. inl (range_of_cases s xs k r low (inr z))) inr (none_honest s size max_nodes sound xs k few low r w.0 w.1)) ok

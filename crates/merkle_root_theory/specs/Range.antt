@@ -1,5 +1,5 @@
 -- A range check by the table of the layout: what it accepts, and what is honest.
-use Rattle.std.specs.Prelude.{◌≡◌, ℕ, Bool, ◌&&◌, ◌⊎◌, ◌≤◌, ◌<◌, ◌+◌, nat_le, nat_lt, List, [], ◌++◌, length, map, flat_map, filter, take, drop, get_or, None}
+use Rattle.std.specs.Prelude.{◌≡◌, ℕ, Bool, ◌&&◌, ◌⊎◌, ◌≤◌, ◌<◌, ◌+◌, ◌-◌, nat_le, nat_lt, List, [], ◌++◌, length, map, flat_map, filter, take, drop, get_or, None}
 use Rattle.merkle_base.specs.Tree.{Tree, first_leaf, end_leaf}
 use Rattle.merkle_base.specs.Heights.{IsLawful}
 use Rattle.merkle_base.specs.Hashing.{Hashing, EqDecides}
@@ -90,7 +90,15 @@ abbrev pub ForRootOf : {D : Type 0} → Scheme D → D → (List D → ℕ → T
 ForRootOf {D} s root P =
     (xs : List D) (k : ℕ) → length xs ≤ s.max_leaves → k ≤ length (peaks_of s.rule (length xs)) → list_root s xs k ≡ root → P xs k
 
--- the honest proof of a nonempty range of a list, with its leaves
+-- the honest input of a range of a list
+abbrev pub honest_input : {D : Type 0} → Scheme D → List D → ℕ → ℕ → ℕ → RangeInput D
+honest_input s xs k a b = record { leaves = length xs; inactive = k; digests = range_digests s xs k a b; start = a; elements = take (b - a) (drop a xs) }
+
+-- r is that of its range, which lies within the list and has elements unless the list is empty
+abbrev pub IsHonestRange : {D : Type 0} → Scheme D → List D → ℕ → RangeInput D → Type 0
+IsHonestRange s xs k r = (end_of r ≤ length xs) × ((0 < length r.elements) ⊎ (xs ≡ [])) × (r ≡ honest_input s xs k r.start (end_of r))
+
+-- the same of a range with elements
 pub record IsHonestNonempty {D : Type 0} (s : Scheme D) (xs : List D) (k : ℕ) (r : RangeInput D) : Type 0 where
   pub nonempty : 0 < length r.elements
   pub within : end_of r ≤ length xs
@@ -99,9 +107,9 @@ pub record IsHonestNonempty {D : Type 0} (s : Scheme D) (xs : List D) (k : ℕ) 
   pub digests : r.digests ≡ range_digests s xs k r.start (end_of r)
   pub elements : r.elements ≡ take (length r.elements) (drop r.start xs)
 
--- an honest input: with elements, or the empty one of the empty list
-abbrev pub IsHonestRange : {D : Type 0} → Scheme D → List D → ℕ → RangeInput D → Type 0
-IsHonestRange s xs k r = IsHonestNonempty s xs k r ⊎ (IsEmptyInput r × (xs ≡ []))
+-- the same by cases: with elements, or the empty input of the empty list
+abbrev pub IsHonestByCases : {D : Type 0} → Scheme D → List D → ℕ → RangeInput D → Type 0
+IsHonestByCases s xs k r = IsHonestNonempty s xs k r ⊎ (IsEmptyInput r × (xs ≡ []))
 
 -- the root of a list for k
 abbrev pub plan_root : {D : Type 0} → Scheme D → List D → ℕ → D

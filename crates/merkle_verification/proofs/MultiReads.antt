@@ -13,17 +13,9 @@ use Rattle.merkle_root_theory.specs.Range.{leaf_of}
 use Rattle.merkle_forest_theory.specs.Ascending.{AscendsFrom}
 use Rattle.merkle_claim_theory.specs.Multiproof.{IsHonestMulti, multi_positions}
 use Rattle.merkle_claim_theory.specs.Table.{digest_at_position}
+use Rattle.merkle_claim_theory.proofs.HonestMultis.{map-first}
 use Rattle.merkle_proof.specs.declared.proof.Proof.{Proof}
 use Rattle.merkle_verification.specs.ReaderProofs.{IsBuiltMulti, multi_list_input}
-
--- numbers with a value at each: the numbers, and the values
-map-first : {D : Type 0} (f : ℕ → D) (is : List ℕ) → map (λ (e : ℕ × D). e.0) (map (λ i. (i, f i)) is) ≡ is
-map-first f [] = refl
-map-first f (i ∷ is) = ap (λ (js : List ℕ). i ∷ js) (map-first f is)
-
-map-second : {D : Type 0} (f : ℕ → D) (is : List ℕ) → map (λ (e : ℕ × D). e.1) (map (λ i. (i, f i)) is) ≡ map f is
-map-second f [] = refl
-map-second f (i ∷ is) = ap (λ ds. f i ∷ ds) (map-second f is)
 
 module _ {D : Type 0} (s : Scheme D) (m : ℕ) (node : ℕ → Option D) (X : List D) (shows : Shows s.hashing s.rule m node X) where
   shown_at : (p : ℕ) (d : D) → node p ≡ Some d → d ≡ digest_at_position s X p
@@ -42,12 +34,12 @@ module _ {D : Type 0} (s : Scheme D) (m : ℕ) (node : ℕ → Option D) (X : Li
       let f = leaf_of s.hashing X in
       let long : n ≡ length X = size_inj s.rule n (length X) (sized ∙ shows.sized) in
       let at = map-first f locations in
-      inl (record {
-        nonempty = omega (arith, built.within.nonempty, length-map {B = ℕ × D} locations (λ i. (i, f i)));
-        ascend = subst (AscendsFrom 0) (sym at) built.within.ascend;
-        below = subst (AllByRecursion (λ i. i < length X)) (sym at) (subst (λ (l : ℕ). AllByRecursion (λ i. i < l) locations) long built.within.below);
-        leaves = built.leaves ∙ long;
-        inactive = built.inactive;
-        digests = all_shown (multi_positions s.rule n locations) p.digests.items built.digests ∙ ap₂ (λ l is. map (digest_at_position s X) (multi_positions s.rule l is)) long (sym at);
-        elements = map-second f locations ∙ ap (map f) (sym at);
-      })
+      let digests : p.digests.items ≡ map (digest_at_position s X) (multi_positions s.rule (length X) (map (λ (e : ℕ × D). e.0) (map (λ i. (i, f i)) locations))) =
+      all_shown (multi_positions s.rule n locations) p.digests.items built.digests ∙ ap₂ (λ l is. map (digest_at_position s X) (multi_positions s.rule l is)) long (sym at) in
+      let leaves : p.leaves ≡ length X = built.leaves ∙ long in
+      let elements : map (λ i. (i, f i)) locations ≡ map (λ i. (i, f i)) (map (λ (e : ℕ × D). e.0) (map (λ i. (i, f i)) locations)) = ap (λ (is : List ℕ). map (λ i. (i, f i)) is) (sym at) in (
+        subst (AscendsFrom 0) (sym at) built.within.ascend,
+        subst (AllByRecursion (λ i. i < length X)) (sym at) (subst (λ (l : ℕ). AllByRecursion (λ i. i < l) locations) long built.within.below),
+        inl (omega (arith, built.within.nonempty, length-map {B = ℕ × D} locations (λ i. (i, f i)))),
+        λ i. record { leaves = leaves i; inactive = built.inactive i; digests = digests i; elements = elements i },
+      )
