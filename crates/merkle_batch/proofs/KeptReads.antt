@@ -12,7 +12,8 @@ use Rattle.merkle_base.specs.declared.error.Error.TheVariants.{OutOfMemory}
 use Rattle.merkle_base.specs.declared.family.Bagging.{Bagging}
 use Rattle.merkle_base.proofs.Nodes.{all_append}
 use Rattle.merkle_root_theory.specs.Plan.{siblings, tree_meets}
-use Rattle.merkle_root_theory.specs.Range.{in_range, overlapping, wholly_after, range_siblings}
+use Rattle.merkle_root_theory.specs.Check.{in_range}
+use Rattle.merkle_root_theory.specs.Range.{overlapping, wholly_after, range_siblings}
 use Rattle.merkle_proof.specs.RangePlans.{IsBuildRefusal, IsFirstMissing}
 use Rattle.merkle_root_theory.specs.Reads.{nodes_read, reading_order}
 use Rattle.merkle_proof.proofs.BuiltDigests.{reads_at}

@@ -15,9 +15,9 @@ use Rattle.merkle_base.specs.declared.family.Bagging.{Bagging}
 use Rattle.merkle_base.specs.declared.family.Bagging.TheVariants.{ForwardFold, BackwardFold}
 use Rattle.merkle_root_theory.specs.Claim.{tree_claim}
 use Rattle.merkle_root_theory.specs.Outside.{single_before, single_after}
-use Rattle.merkle_root_theory.specs.Check.{leaf_given}
+use Rattle.merkle_root_theory.specs.Check.{in_range, leaf_given}
 use Rattle.merkle_base.specs.Places.{peaks_of, wholly_before}
-use Rattle.merkle_root_theory.specs.Range.{end_of, in_range, overlapping, wholly_after}
+use Rattle.merkle_root_theory.specs.Range.{end_of, overlapping, wholly_after}
 use Rattle.merkle_root_theory.specs.Extract.{inner_pairs, over_pairs, single_pairs}
 use Rattle.merkle_claim_theory.specs.Verdict.{ExtractsOnce}
 use Rattle.merkle_claim_theory.proofs.HonestClaims.{member_split}

@@ -9,9 +9,8 @@ use Rattle.merkle_root_theory.specs.Expression.{Place, Root, Join, PrefixFold, S
 use Rattle.merkle_root_theory.specs.Collision.{Member}
 use Rattle.merkle_root_theory.specs.Plan.{Plan, peak, folding, left_fold_plan, right_fold_plan, with_right_fold_plan, root_plan, plan_expression, node_expression, tree_meets, meets, siblings, outside_parts, path_siblings}
 use Rattle.merkle_root_theory.specs.Claim.{tree_claim, claim}
-use Rattle.merkle_root_theory.specs.Check.{RangeInput, string_of, inputs_of, all_inputs, list_expression, chosen, leaf_given, range_expression}
+use Rattle.merkle_root_theory.specs.Check.{in_range, RangeInput, string_of, inputs_of, all_inputs, list_expression, chosen, leaf_given, range_expression}
 use Rattle.merkle_base.specs.Scheme.{Scheme}
-use Rattle.merkle_root_theory.specs.Range.{in_range}
 use Rattle.merkle_claim_theory.specs.MultiClaim.{also, multi_tree, multi_claim}
 use Rattle.merkle_claim_theory.specs.Multiproof.{MultiInput, multi_on, multi_expression}
 use Rattle.merkle_claim_theory.specs.PinnedClaim.{pinned_or, pin_tree, pin_plan, outside_tree, outside_plan, pinned_tree, pinned_claim}

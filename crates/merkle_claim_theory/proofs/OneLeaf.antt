@@ -13,7 +13,8 @@ use Rattle.merkle_forest_theory.specs.FewPeaks.{FewPeaks}
 use Rattle.merkle_root_theory.specs.Plan.{tree_meets, siblings}
 use Rattle.merkle_root_theory.specs.Outside.{folded_prefix, folded_suffix, Unmet}
 use Rattle.merkle_root_theory.specs.Layouts.{count_before, count_after}
-use Rattle.merkle_root_theory.specs.Range.{in_range, overlapping, wholly_after, range_parts, range_siblings}
+use Rattle.merkle_root_theory.specs.Check.{in_range}
+use Rattle.merkle_root_theory.specs.Range.{overlapping, wholly_after, range_parts, range_siblings}
 use Rattle.merkle_root_theory.proofs.Walks.{siblings_unmet}
 use Rattle.merkle_root_theory.proofs.PeakGroups.{groups, unmet_before, unmet_after}
 use Rattle.merkle_root_theory.proofs.LayoutCounts.{length-fold_all, length-bag_all, length-single_before, length-folded_suffix, length-layout}

@@ -10,7 +10,7 @@ use Rattle.merkle_base.proofs.Nodes.{node_built}
 use Rattle.merkle_hasher.specs.Path.{path}
 use Rattle.merkle_hasher.proofs.PathSteps.{path_left, path_right}
 use Rattle.merkle_root_theory.specs.Plan.{siblings}
-use Rattle.merkle_root_theory.specs.Range.{in_range}
+use Rattle.merkle_root_theory.specs.Check.{in_range}
 use Rattle.merkle_root_theory.proofs.PeakGroups.{meets_not, meets_yes}
 use Rattle.merkle_root_theory.proofs.Walks.{siblings_unmet, siblings_join, siblings_inside}
 use Rattle.merkle_claim_theory.specs.Siblings.{PathHasSiblings}

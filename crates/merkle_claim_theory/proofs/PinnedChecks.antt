@@ -21,10 +21,10 @@ use Rattle.merkle_claim_theory.specs.Order.{Distinct}
 use Rattle.merkle_claim_theory.specs.MultiClaim.{or_empty}
 use Rattle.merkle_claim_theory.specs.PinnedClaim.{pinned_of, PinsTree, PinsPlan, PinsAll, PinsTrees}
 use Rattle.merkle_root_theory.specs.Outside.{fold_all, bag_all, layout, Unmet, HasLayout}
-use Rattle.merkle_root_theory.specs.Check.{root_of, list_expression, RangeInput, chosen, leaf_given}
+use Rattle.merkle_root_theory.specs.Check.{in_range, root_of, list_expression, RangeInput, chosen, leaf_given}
 use Rattle.merkle_base.specs.Scheme.{Scheme}
 use Rattle.merkle_base.specs.Places.{peaks_of, wholly_before}
-use Rattle.merkle_root_theory.specs.Range.{in_range, end_of, overlapping, wholly_after, range_parts, range_siblings, leaf_of, plan_root, IsLawfulScheme, IsHonestNonempty}
+use Rattle.merkle_root_theory.specs.Range.{end_of, overlapping, wholly_after, range_parts, range_siblings, leaf_of, plan_root, IsLawfulScheme, IsHonestNonempty}
 use Rattle.merkle_claim_theory.specs.Table.{digest_for}
 use Rattle.merkle_claim_theory.specs.Pinned.{pin_positions, pinned_on, AcceptsPinnedSome, honest_pins, PinnedCollides, HonestPinnedIsAccepted, AcceptedPinnedIsHonest, PinsAreOldPeaks}
 use Rattle.merkle_claim_theory.proofs.HonestClaims.{member_split}
@@ -37,7 +37,7 @@ use Rattle.merkle_root_theory.proofs.RangeChecks.{covers, tree_in, small_leaves,
 use Rattle.merkle_root_theory.proofs.ListChecks.{is_chosen}
 use Rattle.merkle_root_theory.proofs.ListRoots.{digests_are}
 use Rattle.merkle_root_theory.proofs.HonestInputs.{range_of_some, range_of_cases, cases_of_range}
-use Rattle.merkle_root_theory.proofs.RangeDigests.{range_digests_are}
+use Rattle.merkle_root_theory.proofs.RangeDigests.{range_digests_are, digest_count_is}
 use Rattle.merkle_claim_theory.specs.Multiproof.{AllHolds}
 use Rattle.merkle_claim_theory.proofs.ListedDigests.{filtered_member, EachPeak, each_left_fold, left_fold_each, all_cut, listed, listed_is, listed_some, each_of, plan_for, roots, below_root, roots_same, no_other_list}
 use Rattle.merkle_claim_theory.proofs.Multiproofs.{all_member, member_all, told_some, if_some}
@@ -490,7 +490,7 @@ module _ {D : Type 0} (s : Scheme D) (size max_nodes : ℕ) (sound : IsLawfulSch
       let lay = layout_at ok p.0 p.1 in
       let holds : Holds s.hashing (pinned_on s r pins p.0) = subst (λ o. AllHolds s (option_map (pinned_on s r pins) o)) p.1 ok.rebuilt in
       ⊎_elim (λ w. ⊎_elim (λ v. inl (known_honest ok w.0 w.1 p.0 p.1 v)) (λ v. inr (below_root s size sound.bytes Z (pinned_on s r pins) r.leaves (length xs) r.inactive k a1 a2 b1 b2 p.0 p.1 w.0 w.1 v))
-      (no_other_pins s.hashing sound.laws bb (in_range 0 r.start) (chosen r) Z (leaf_given s.hashing r) p.0 r.digests (ok.counts ∙ sym (ap₂ (λ x y. length x + length y) lay.0 lay.1)) holds w.2)) inr
+      (no_other_pins s.hashing sound.laws bb (in_range 0 r.start) (chosen r) Z (leaf_given s.hashing r) p.0 r.digests (ok.counts ∙ digest_count_is s r ∙ sym (ap₂ (λ x y. length x + length y) lay.0 lay.1)) holds w.2)) inr
       (roots s size sound.bytes Z (pinned_on s r pins) r.leaves (length xs) r.inactive k a1 a2 b1 b2 pos p.0 p.1 ok.root_is)
 
   honest_pinned : IsHonestNonempty s xs k r → pins ≡ honest_pins s xs r.start → AcceptsPinnedSome s r pins (plan_root s xs k)
@@ -514,7 +514,7 @@ module _ {D : Type 0} (s : Scheme D) (size max_nodes : ℕ) (sound : IsLawfulSch
         within = plain.within;
         leaves = plain.leaves;
         inactive = plain.inactive;
-        counts = plain.counts;
+        counts = plain.counts ∙ sym (digest_count_is s r);
         pinned = ap length old ∙ length-map (peaks_of s.rule r.start) (tree_digest s.hashing Z);
         rebuilt = subst (λ o. AllHolds s (option_map (pinned_on s r pins) o)) (sym p.1) v.0;
         root_is = roots_same s Z (pinned_on s r pins) r.leaves r.inactive p.0 p.1 v.1 ∙ ap₂ (λ n j. root_of s n j (list_expression s Z n j)) w.leaves w.inactive;

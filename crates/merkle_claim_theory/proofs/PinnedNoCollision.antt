@@ -8,9 +8,9 @@ use Rattle.merkle_root_theory.specs.Plan.{Plan, peak, folding, plan_expression, 
 use Rattle.merkle_root_theory.specs.Claim.{next}
 use Rattle.merkle_claim_theory.specs.PinnedClaim.{pinned_or, pin_tree, pin_plan, outside_tree, outside_plan, pinned_tree, pinned_claim, PinsTree, PinsPlan, PinsAll, PinsTrees}
 use Rattle.merkle_root_theory.specs.Outside.{HasLayout}
-use Rattle.merkle_root_theory.specs.Check.{chosen, leaf_given}
+use Rattle.merkle_root_theory.specs.Check.{in_range, chosen, leaf_given}
 use Rattle.merkle_base.specs.Places.{peaks_of}
-use Rattle.merkle_root_theory.specs.Range.{in_range, end_of, range_parts, range_siblings, leaf_of}
+use Rattle.merkle_root_theory.specs.Range.{end_of, range_parts, range_siblings, leaf_of}
 use Rattle.merkle_claim_theory.specs.Table.{digest_for}
 use Rattle.merkle_claim_theory.specs.Pinned.{pin_positions, pinned_on}
 use Rattle.merkle_claim_theory.specs.Verdict.{HonestPinnedHasNoCollision}

@@ -12,9 +12,10 @@ use Rattle.merkle_root_theory.specs.Expression.{Node, Expression, supplied, comp
 use Rattle.merkle_root_theory.specs.Plan.{Plan, peak, folding, root_plan, tree_meets, meets, siblings, outside_parts, path_siblings, tree_digest}
 use Rattle.merkle_root_theory.specs.Claim.{next, tree_claim, claim, claim_of}
 use Rattle.merkle_root_theory.specs.Outside.{HasLayout}
-use Rattle.merkle_root_theory.specs.Check.{RangeInput, root_of, chosen, leaf_given}
-use Rattle.merkle_root_theory.specs.Range.{in_range, end_of, range_parts, range_siblings, leaf_of, AcceptsNonempty}
+use Rattle.merkle_root_theory.specs.Check.{in_range, RangeInput, root_of, chosen, leaf_given}
+use Rattle.merkle_root_theory.specs.Range.{end_of, range_parts, range_siblings, leaf_of, AcceptsNonempty}
 use Rattle.merkle_root_theory.proofs.PeakGroups.{range_layout}
+use Rattle.merkle_root_theory.proofs.RangeDigests.{digest_count_is}
 use Rattle.merkle_claim_theory.specs.Multiproof.{AllHolds}
 use Rattle.merkle_claim_theory.specs.Pinned.{pinned_on, pinned_expression, AcceptsPinnedSome, honest_pins}
 use Rattle.merkle_claim_theory.specs.PinnedClaim.{pinned_or, pin_tree, pin_plan, outside_tree, outside_plan, pinned_tree, pinned_claim}
@@ -180,7 +181,7 @@ module _ {D : Type 0} (s : Scheme D) (r : RangeInput D) (pins : List D) (root : 
           within = ok.within;
           leaves = ok.leaves;
           inactive = ok.inactive;
-          counts = ok.counts;
+          counts = ok.counts ∙ digest_count_is s r;
           root_is = same_root claimed (pinned_on s r pins) (root_plan s.bagging r.inactive ts) p.0 p.1.0 (sym z.2) ∙ ok.root_is;
         },
         record { pinned = ok.pinned; parts = m.0; nodes = m.1 },
@@ -197,7 +198,7 @@ module _ {D : Type 0} (s : Scheme D) (r : RangeInput D) (pins : List D) (root : 
         within = ok.within;
         leaves = ok.leaves;
         inactive = ok.inactive;
-        counts = ok.counts;
+        counts = ok.counts ∙ sym (digest_count_is s r);
         pinned = v.pinned;
         rebuilt = subst (λ o. AllHolds s (option_map (pinned_on s r pins) o)) (sym p.1.0) holds;
         root_is = same_root (pinned_on s r pins) claimed (root_plan s.bagging r.inactive ts) p.0 p.1.0 z.2 ∙ ok.root_is;

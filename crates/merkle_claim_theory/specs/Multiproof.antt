@@ -1,5 +1,5 @@
 -- A multi-proof: digests at the positions that one-leaf proofs of its locations need.
-use Rattle.std.specs.Prelude.{◌≡◌, ℕ, Bool, ◌↔◌, ◌⊎◌, ◌≤◌, ◌<◌, ◌+◌, ◌*◌, nat_eq, List, [], length, map, flat_map, filter, None, Option, Some, option_map, unwrap_or, slice_index}
+use Rattle.std.specs.Prelude.{◌≡◌, ℕ, Bool, ◌↔◌, ◌⊎◌, ◌≤◌, ◌<◌, ◌+◌, ◌*◌, nat_eq, List, [], length, map, flat_map, filter, None, Option, Some, option_map, IfSome, unwrap_or, slice_index}
 use Rattle.std.specs.List.{AllByRecursion, list_any, range_with_len}
 use Rattle.merkle_base.specs.Tree.{Tree, position}
 use Rattle.merkle_base.specs.Forest.{size}
@@ -53,8 +53,7 @@ multi_expression s r = option_map (multi_on s r) (root_plan s.bagging r.inactive
 
 -- each digest that is also computed is the computed one
 abbrev pub AllHolds : {D : Type 0} → Scheme D → Option (Expression D) → Type 0
-AllHolds s None = Unit {0}
-AllHolds s (Some e) = Holds s.hashing e
+AllHolds s e = IfSome e (Holds s.hashing)
 
 -- an accepted input with elements
 pub record AcceptsMultiSome {D : Type 0} (s : Scheme D) (r : MultiInput D) (root : D) : Type 0 where

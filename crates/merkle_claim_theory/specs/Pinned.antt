@@ -1,15 +1,15 @@
 -- The pinned check: a range check with the peaks over the leaves before it.
-use Rattle.std.specs.Prelude.{◌≡◌, ℕ, ◌↔◌, ◌⊎◌, ◌≤◌, ◌<◌, ◌+◌, List, [], length, map, take, None, Ok, Option, option_map}
+use Rattle.std.specs.Prelude.{◌≡◌, ℕ, ◌↔◌, ◌⊎◌, ◌≤◌, ◌<◌, ◌-◌, List, [], length, map, take, get_or, None, Ok, Option, option_map}
 use Rattle.merkle_base.specs.Digests.{digest_at, peak_digests}
 use Rattle.merkle_base.specs.Tree.{position}
 use Rattle.merkle_root_theory.specs.Expression.{Expression}
 use Rattle.merkle_root_theory.specs.Collision.{Collision, Collides}
 use Rattle.merkle_root_theory.specs.Plan.{Plan, root_plan}
 use Rattle.merkle_claim_theory.specs.PinnedClaim.{pinned_of}
-use Rattle.merkle_root_theory.specs.Check.{root_of, all_inputs, RangeInput, chosen, leaf_given}
+use Rattle.merkle_root_theory.specs.Check.{in_range, root_of, all_inputs, RangeInput}
 use Rattle.merkle_base.specs.Scheme.{Scheme}
 use Rattle.merkle_base.specs.Places.{peaks_of}
-use Rattle.merkle_root_theory.specs.Range.{in_range, end_of, range_parts, range_siblings, list_inputs, plan_root, IsLawfulScheme, IsEmptyInput, IsHonestRange}
+use Rattle.merkle_root_theory.specs.Range.{end_of, digest_count, list_inputs, plan_root, IsLawfulScheme, IsEmptyInput, IsHonestRange}
 use Rattle.merkle_root_theory.specs.Reconstruction.{reconstructed}
 use Rattle.merkle_claim_theory.specs.Table.{digest_for}
 use Rattle.merkle_claim_theory.specs.Multiproof.{AllHolds}
@@ -20,7 +20,8 @@ pin_positions s start = map position (peaks_of s.rule start)
 
 -- what the check computes of a plan
 abbrev pub pinned_on : {D : Type 0} → Scheme D → RangeInput D → List D → Plan → Expression D
-pinned_on s r pins p = pinned_of s.hashing (digest_for (pin_positions s r.start) pins) (in_range 0 r.start) (chosen r) (leaf_given s.hashing r) p r.digests
+pinned_on s r pins p = pinned_of s.hashing (digest_for (pin_positions s r.start) pins) (in_range 0 r.start)
+    (in_range r.start (end_of r)) (λ i. get_or r.elements (i - r.start) s.hashing.empty) p r.digests
 
 -- what the check computes, if there are peaks
 abbrev pub pinned_expression : {D : Type 0} → Scheme D → RangeInput D → List D → Option (Expression D)
@@ -32,9 +33,7 @@ pub record AcceptsPinnedSome {D : Type 0} (s : Scheme D) (r : RangeInput D) (pin
   pub within : end_of r ≤ r.leaves
   pub leaves : r.leaves ≤ s.max_leaves
   pub inactive : r.inactive ≤ length (peaks_of s.rule r.leaves)
-  pub counts : length r.digests
-      ≡ length (range_parts s.bagging r.inactive r.start (end_of r) (peaks_of s.rule r.leaves))
-      + length (range_siblings r.start (end_of r) (peaks_of s.rule r.leaves))
+  pub counts : length r.digests ≡ digest_count s r
   pub pinned : length pins ≡ length (peaks_of s.rule r.start)
   pub rebuilt : AllHolds s (pinned_expression s r pins)
   pub root_is : root_of s r.leaves r.inactive (pinned_expression s r pins) ≡ root

@@ -8,8 +8,8 @@ use Rattle.merkle_base.specs.Tree.{Tree}
 use Rattle.merkle_root_theory.specs.Expression.{value}
 use Rattle.merkle_root_theory.specs.Plan.{Plan, tree_meets, meets}
 use Rattle.merkle_root_theory.specs.Claim.{next}
-use Rattle.merkle_root_theory.specs.Check.{RangeInput}
-use Rattle.merkle_root_theory.specs.Range.{in_range, end_of, range_parts, range_siblings, AcceptsNonempty}
+use Rattle.merkle_root_theory.specs.Check.{in_range, RangeInput}
+use Rattle.merkle_root_theory.specs.Range.{end_of, range_parts, range_siblings, AcceptsNonempty}
 use Rattle.merkle_claim_theory.specs.PinnedClaim.{pin_tree, pin_plan}
 use Rattle.merkle_claim_theory.specs.Table.{digest_for}
 use Rattle.merkle_claim_theory.specs.Pinned.{pin_positions, AcceptsPinnedSome, IsHonestPinned}

@@ -5,7 +5,7 @@ use Rattle.merkle_base.specs.Tree.{Tree, position, first_leaf, width}
 use Rattle.merkle_base.specs.Forest.{forest}
 use Rattle.merkle_hasher.specs.Path.{path}
 use Rattle.merkle_root_theory.specs.Plan.{siblings}
-use Rattle.merkle_root_theory.specs.Range.{in_range}
+use Rattle.merkle_root_theory.specs.Check.{in_range}
 
 -- the other children on the path to a leaf are the siblings of that leaf, from the top down instead of from left to right
 abbrev pub PathHasSiblings : Type 0

@@ -10,7 +10,8 @@ use Rattle.merkle_base.proofs.Nodes.{all_append}
 use Rattle.merkle_root_theory.specs.Plan.{Plan, siblings, tree_meets, tree_digest, plan_digest}
 use Rattle.merkle_root_theory.specs.Outside.{folded_prefix, single_before, single_after, folded_suffix}
 use Rattle.merkle_base.specs.Scheme.{Scheme}
-use Rattle.merkle_root_theory.specs.Range.{in_range, overlapping, wholly_after, range_parts, range_siblings, range_digests, leaf_of, end_of, IsHonestRange}
+use Rattle.merkle_root_theory.specs.Check.{in_range}
+use Rattle.merkle_root_theory.specs.Range.{overlapping, wholly_after, range_parts, range_siblings, range_digests, leaf_of, end_of, IsHonestRange}
 use Rattle.merkle_proof.specs.RangePlans.{AnswersList, AreAnswered, IsLaidOut, IsBuiltProof, list_input}
 use Rattle.merkle_root_theory.specs.Reads.{nodes_read, part_read}
 use Rattle.merkle_hasher.specs.Subtrees.{AreNodes}

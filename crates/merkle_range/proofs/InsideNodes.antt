@@ -11,7 +11,7 @@ use Rattle.merkle_hasher.specs.Subtrees.{Denotes}
 use Rattle.merkle_hasher.proofs.Spans.{heights_same}
 use Rattle.merkle_root_theory.specs.Plan.{tree_digest, siblings}
 use Rattle.merkle_root_theory.specs.Walk.{leaf_from, IsWalked}
-use Rattle.merkle_root_theory.specs.Range.{in_range}
+use Rattle.merkle_root_theory.specs.Check.{in_range}
 use Rattle.merkle_root_theory.proofs.Claims.{tree_honest}
 use Rattle.merkle_range.specs.Inside.{IsInside, IsDigestInside}
 

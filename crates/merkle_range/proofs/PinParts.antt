@@ -15,7 +15,8 @@ use Rattle.merkle_base.specs.declared.family.Bagging.TheVariants.{ForwardFold, B
 use Rattle.merkle_root_theory.specs.Expression.{PrefixFold}
 use Rattle.merkle_root_theory.specs.Outside.{fold_all, bag_all, folded_prefix, single_before, single_after, folded_suffix, layout, Unmet, Met}
 use Rattle.merkle_root_theory.specs.Plan.{Plan, peak, folding, left_fold_plan, tree_meets, meets, siblings}
-use Rattle.merkle_root_theory.specs.Range.{in_range, overlapping, wholly_after, range_parts, range_siblings}
+use Rattle.merkle_root_theory.specs.Check.{in_range}
+use Rattle.merkle_root_theory.specs.Range.{overlapping, wholly_after, range_parts, range_siblings}
 use Rattle.merkle_root_theory.specs.Layouts.{count_before}
 use Rattle.merkle_root_theory.proofs.OutsideNodes.{right_fold_unmet, unmet_take, unmet_drop}
 use Rattle.merkle_root_theory.proofs.PeakGroups.{groups, meets_yes, meets_not}

@@ -14,7 +14,7 @@ use Rattle.merkle_root_theory.specs.Claim.{next}
 use Rattle.merkle_root_theory.specs.Expression.{Node, PrefixFold, computed, value}
 use Rattle.merkle_root_theory.specs.Outside.{fold_all}
 use Rattle.merkle_root_theory.specs.Plan.{Plan, peak, folding, left_fold_plan, tree_meets, siblings}
-use Rattle.merkle_root_theory.specs.Range.{in_range}
+use Rattle.merkle_root_theory.specs.Check.{in_range}
 use Rattle.merkle_root_theory.proofs.PeakGroups.{meets_not, meets_yes}
 use Rattle.merkle_root_theory.proofs.Walks.{siblings_unmet, siblings_join}
 use Rattle.merkle_claim_theory.specs.MultiClaim.{or_empty}

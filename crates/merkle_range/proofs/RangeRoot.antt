@@ -16,10 +16,10 @@ use Rattle.merkle_root_theory.specs.Plan.{siblings}
 use Rattle.merkle_root_theory.specs.Outside.{fold_all, folded_prefix, single_before, single_after}
 use Rattle.merkle_root_theory.specs.Extract.{single_pairs, over_pairs, extracted}
 use Rattle.merkle_root_theory.specs.Layouts.{count_before, count_after, count_inactive}
-use Rattle.merkle_root_theory.specs.Check.{RangeInput, chosen, leaf_given}
+use Rattle.merkle_root_theory.specs.Check.{in_range, RangeInput, chosen, leaf_given}
 use Rattle.merkle_base.specs.Scheme.{Scheme, scheme_of}
-use Rattle.merkle_root_theory.specs.Range.{in_range, overlapping, wholly_after, end_of, range_parts}
-use Rattle.merkle_root_theory.specs.Reconstruction.{digest_count}
+use Rattle.merkle_root_theory.specs.Range.{overlapping, wholly_after, end_of, range_parts}
+use Rattle.merkle_root_theory.specs.Range.{digest_count}
 use Rattle.merkle_root_theory.specs.Walk.{bytes_of, peak_values, ArePeakDigests}
 use Rattle.merkle_range.specs.Input.{range_input, IsComputed}
 use Rattle.merkle_hasher.specs.Subtrees.{subtree_of}
@@ -28,6 +28,7 @@ use Rattle.merkle_range.specs.declared.groups.Groups.{Groups}
 use Rattle.merkle_root_theory.proofs.PeakGroups.{length-peaks_of, some_over}
 use Rattle.merkle_base.proofs.PeakLists.{covers_spans}
 use Rattle.merkle_range.proofs.LeafDigests.{length-leaf_digests}
+use Rattle.merkle_root_theory.proofs.RangeDigests.{digest_count_is}
 use Rattle.merkle_root_theory.proofs.LayoutRoot.{layout_counts, layout_root, inactive_fits}
 
 -- groups have as many peaks outside the range as there are before it and after it
@@ -99,7 +100,7 @@ module _ {D : Type 0} (h : Hashing D) (bagging : Bagging) (rule : List ℕ → L
             within = within_given;
             leaves = few;
             inactive = low;
-            counts = v.count ∙ ap (λ z. z + length (flat_map (siblings (chosen input)) (overlapping a (end_of input) (peaks_of rule leaves)))) (sym (layout_counts scheme input));
+            counts = v.count ∙ ap (λ z. z + length (flat_map (siblings (chosen input)) (overlapping a (end_of input) (peaks_of rule leaves)))) (sym (layout_counts scheme input)) ∙ sym (digest_count_is scheme input);
           },
           is ∙ ap (λ i. peaks_root scheme leaves i inactive all) j_is ∙ layout_root scheme input some_given within_given all v,
         )
@@ -110,6 +111,7 @@ module _ {D : Type 0} (h : Hashing D) (bagging : Bagging) (rule : List ℕ → L
         ap₂ (λ i j. i + j + length (flat_map (siblings (in_range a b)) (overlapping a b (peaks_of rule leaves)))) m_is n_is
         ∙ ap (λ z. digests_before + digests_after z + length (flat_map (siblings (in_range a z)) (overlapping a z (peaks_of rule leaves)))) end_same
         ∙ ap (λ z. z + length (flat_map (siblings (chosen input)) (overlapping a (end_of input) (peaks_of rule leaves)))) (sym (layout_counts scheme input))
+        ∙ sym (digest_count_is scheme input)
 
     pub never_empty : (all : List D) → AreDigests b (leaf_given h input) m n all → length all ≡ 0 → ⊥
     never_empty all w e =

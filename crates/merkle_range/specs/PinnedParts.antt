@@ -4,7 +4,8 @@ use Rattle.merkle_base.specs.Hashing.{Hashing}
 use Rattle.merkle_base.specs.Tree.{Tree}
 use Rattle.merkle_base.specs.declared.family.Bagging.{Bagging}
 use Rattle.merkle_root_theory.specs.Plan.{tree_meets, meets}
-use Rattle.merkle_root_theory.specs.Range.{in_range, range_parts, range_siblings}
+use Rattle.merkle_root_theory.specs.Check.{in_range}
+use Rattle.merkle_root_theory.specs.Range.{range_parts, range_siblings}
 use Rattle.merkle_claim_theory.specs.Rebuilt.{AllRebuilt, rebuilt_node, rebuilt_part}
 
 -- of a proof of the range a..e under the peaks ts, what lies before the range is rebuilt to the digests at its places;

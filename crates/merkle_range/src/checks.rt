@@ -5,7 +5,7 @@ ghost use Rattle.merkle_base.specs.Tree.{Tree};
 ghost use Rattle.merkle_root_theory.specs.Plan.{siblings};
 ghost use Rattle.merkle_base.specs.Cases.{first_case};
 ghost use Rattle.merkle_root_theory.specs.Extract.{over_pairs, extracted};
-ghost use Rattle.merkle_root_theory.specs.Range.{in_range};
+ghost use Rattle.merkle_root_theory.specs.Check.{in_range};
 ghost use Rattle.merkle_root_theory.specs.Reconstruction.{range_refusals, reconstructed};
 ghost use Rattle.merkle_hasher.specs.Subtrees.{AreNodes, subtree_of};
 ghost use Rattle.merkle_root_theory.specs.Walk.{bytes_of, leaf_from, ArePeaksWalked, ArePeakDigests};

@@ -4,7 +4,7 @@ ghost use Rattle.merkle_base.specs.Tree.{Tree, position, first_leaf, end_leaf};
 ghost use Rattle.merkle_hasher.specs.Subtrees.{Denotes};
 ghost use Rattle.merkle_root_theory.specs.Plan.{tree_meets, siblings};
 ghost use Rattle.merkle_root_theory.specs.Extract.{inner_pairs};
-ghost use Rattle.merkle_root_theory.specs.Range.{in_range};
+ghost use Rattle.merkle_root_theory.specs.Check.{in_range};
 ghost use Rattle.merkle_root_theory.specs.Walk.{leaf_from, IsWalked};
 
 use crate::collector::{Collector, put_both};

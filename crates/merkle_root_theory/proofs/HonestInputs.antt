@@ -29,12 +29,12 @@ no_layout f at BackwardFold k met =
 module _ {D : Type 0} (s : Scheme D) (xs : List D) (k : ℕ) where
   digests_over : ℕ → ℕ → List D → List Tree → List D
   digests_over a b ys ts =
-      let at : List Tree → List D = map (digest_at s.hashing ys) in
+      let at = digest_at s.hashing ys in
       let before = wholly_before a ts in
       let after = wholly_after b ts in
       let met = length before + length (overlapping a b ts) in
-      laid_out s.hashing.fold (at (folded_prefix s.bagging k before)) (at (single_before s.bagging k before ++ single_after s.bagging k met after))
-      (at (folded_suffix s.bagging k met after)) (at (range_siblings a b ts))
+      laid_out s.hashing.fold (map at (folded_prefix s.bagging k before)) (map at (single_before s.bagging k before ++ single_after s.bagging k met after))
+      (map at (folded_suffix s.bagging k met after)) (map at (range_siblings a b ts))
 
   no_digests : (a b : ℕ) → xs ≡ [] → range_digests s xs k a b ≡ []
   unfolding digests_over

@@ -9,7 +9,8 @@ use Rattle.merkle_root_theory.specs.Plan.{root_plan, tree_meets, siblings}
 use Rattle.merkle_root_theory.specs.Outside.{layout, Unmet, Met, HasLayout}
 use Rattle.merkle_base.specs.Scheme.{Scheme}
 use Rattle.merkle_base.specs.Places.{peaks_of, wholly_before}
-use Rattle.merkle_root_theory.specs.Range.{in_range, overlapping, wholly_after, range_parts, range_siblings}
+use Rattle.merkle_root_theory.specs.Check.{in_range}
+use Rattle.merkle_root_theory.specs.Range.{overlapping, wholly_after, range_parts, range_siblings}
 use Rattle.merkle_base.proofs.Cases.{by_test}
 use Rattle.merkle_root_theory.proofs.OutsideNodes.{outside_is_layout}
 

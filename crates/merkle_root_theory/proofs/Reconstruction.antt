@@ -9,10 +9,11 @@ use Rattle.merkle_base.specs.declared.error.ReconstructionError.{ReconstructionE
 use Rattle.merkle_base.specs.declared.error.ReconstructionError.TheVariants.{InvalidProof, MissingDigests, ExtraDigests, InvalidStartLoc, InvalidEndLoc, MissingElements, InvalidSize}
 use Rattle.merkle_root_theory.specs.Check.{RangeInput, chosen, leaf_given, root_of, range_expression}
 use Rattle.merkle_root_theory.proofs.RangeChecks.{no_plan}
+use Rattle.merkle_root_theory.proofs.RangeDigests.{digest_count_is}
 use Rattle.merkle_root_theory.specs.Claim.{claim_of}
 use Rattle.merkle_root_theory.specs.Plan.{root_plan}
-use Rattle.merkle_root_theory.specs.Range.{end_of, Accepts, IsEmptyInput}
-use Rattle.merkle_root_theory.specs.Reconstruction.{digest_count, empty_refusals, range_refusals, reconstructed, HasShape, LeadsIsAccepted}
+use Rattle.merkle_root_theory.specs.Range.{end_of, digest_count, Accepts, IsEmptyInput}
+use Rattle.merkle_root_theory.specs.Reconstruction.{empty_refusals, range_refusals, reconstructed, HasShape, LeadsIsAccepted}
 
 -- the root that an input leads to, unless it is refused
 abbrev pub root_unless : {D : Type 0} → Scheme D → RangeInput D → Option ReconstructionError → Result D ReconstructionError
@@ -185,7 +186,7 @@ leads_is_accepted {D} s r root = (to, from)
       | inr some ↦
           let w = no_error s r root (first_case (range_refusals s r)) (sym (reconstructed-some s r some) ∙ e) in
           let h = shape_of_none s r some w.0 in
-          inl (record { nonempty = h.nonempty; within = h.within; leaves = h.leaves; inactive = h.inactive; counts = h.counts; root_is = w.1 })
+          inl (record { nonempty = h.nonempty; within = h.within; leaves = h.leaves; inactive = h.inactive; counts = h.counts ∙ digest_count_is s r; root_is = w.1 })
       | inl none ↦
           let w = no_error s r root (first_case (empty_refusals r)) (sym (reconstructed-none s r none) ∙ e) in
           let h = is_empty s r none w.0 in
@@ -195,7 +196,7 @@ leads_is_accepted {D} s r root = (to, from)
     from : Accepts s r root → reconstructed s r ≡ Ok root
     from (inl a) =
         reconstructed-some s r a.nonempty
-        ∙ ap (root_unless s r) (refusal-none s r (record { nonempty = a.nonempty; within = a.within; leaves = a.leaves; inactive = a.inactive; counts = a.counts }))
+        ∙ ap (root_unless s r) (refusal-none s r (record { nonempty = a.nonempty; within = a.within; leaves = a.leaves; inactive = a.inactive; counts = a.counts ∙ sym (digest_count_is s r) }))
         ∙ ap Ok a.root_is
     from (inr a) =
         let h = a.0 in

@@ -18,7 +18,7 @@ use Rattle.merkle_base.specs.Hashing.{Hashing}
 use Rattle.merkle_root_theory.specs.Expression.{Node, supplied, computed, value}
 use Rattle.merkle_root_theory.specs.Plan.{tree_meets, siblings}
 use Rattle.merkle_root_theory.specs.Claim.{next, tree_claim}
-use Rattle.merkle_root_theory.specs.Range.{in_range}
+use Rattle.merkle_root_theory.specs.Check.{in_range}
 use Rattle.merkle_hasher.specs.Subtrees.{IsNodeOf}
 use Rattle.merkle_root_theory.specs.Walk.{leaf_from}
 use Rattle.merkle_root_theory.specs.Walk.{IsWalked}

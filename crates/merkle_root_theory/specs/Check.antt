@@ -19,14 +19,14 @@ string_of s n k e = root_string s.hashing s.domain s.bagging n k (option_map (va
 abbrev pub root_of : {D : Type 0} → Scheme D → ℕ → ℕ → Option (Expression D) → D
 root_of s n k e = s.hashing.hash (string_of s n k e)
 
--- the inputs of an expression, if there is one
+-- all inputs: the root's, and then those of the expression, if there is one
+abbrev pub all_inputs : {D : Type 0} → Scheme D → ℕ → ℕ → Option (Expression D) → List (Input D)
+all_inputs s n k e = record { place = Root; argument = Bytes (string_of s n k e) } ∷ (elim e [ Some x ↦ inputs s.hashing x | None ↦ [] ])
+
+-- those of the expression
 abbrev pub inputs_of : {D : Type 0} → Hashing D → Option (Expression D) → List (Input D)
 inputs_of h None = []
 inputs_of h (Some e) = inputs h e
-
--- all inputs: the root's, and then those of the expression
-abbrev pub all_inputs : {D : Type 0} → Scheme D → ℕ → ℕ → Option (Expression D) → List (Input D)
-all_inputs s n k e = record { place = Root; argument = Bytes (string_of s n k e) } ∷ inputs_of s.hashing e
 
 -- the expression of a list of n leaf digests for k
 abbrev pub list_expression : {D : Type 0} → Scheme D → (ℕ → D) → ℕ → ℕ → Option (Expression D)
@@ -40,18 +40,23 @@ pub record RangeInput (D : Type 0) : Type 0 where
   pub start : ℕ
   pub elements : List D
 
+-- whether i lies in a..b
+abbrev pub in_range : ℕ → ℕ → ℕ → Bool
+in_range a b i = nat_le a i && nat_lt i b
+
+-- what a range check computes, if there are peaks
+abbrev pub range_expression : {D : Type 0} → Scheme D → RangeInput D → Option (Expression D)
+range_expression s r = option_map
+    (λ p. claim_of s.hashing (in_range r.start (r.start + length r.elements)) (λ i. get_or r.elements (i - r.start) s.hashing.empty) p r.digests)
+    (root_plan s.bagging r.inactive (peaks_of s.rule r.leaves))
+
 -- whether a location lies in the range of the elements
 abbrev pub chosen : {D : Type 0} → RangeInput D → ℕ → Bool
-chosen r i = nat_le r.start i && nat_lt i (r.start + length r.elements)
+chosen r = in_range r.start (r.start + length r.elements)
 
 -- the leaf digest that the elements give at a location
 abbrev pub leaf_given : {D : Type 0} → Hashing D → RangeInput D → ℕ → D
 leaf_given h r i = get_or r.elements (i - r.start) h.empty
-
--- what a range check computes, if there are peaks
-abbrev pub range_expression : {D : Type 0} → Scheme D → RangeInput D → Option (Expression D)
-range_expression s r = option_map (λ p. claim_of s.hashing (chosen r) (leaf_given s.hashing r) p r.digests)
-    (root_plan s.bagging r.inactive (peaks_of s.rule r.leaves))
 
 -- all that is hashed for a range input
 abbrev pub range_inputs : {D : Type 0} → Scheme D → RangeInput D → List (Input D)

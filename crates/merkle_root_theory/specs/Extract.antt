@@ -8,10 +8,10 @@ use Rattle.merkle_base.specs.Hashing.{Hashing}
 use Rattle.merkle_root_theory.specs.Plan.{tree_meets, siblings}
 use Rattle.merkle_root_theory.specs.Claim.{next, tree_claim}
 use Rattle.merkle_root_theory.specs.Outside.{fold_all, folded_prefix, single_before, single_after}
-use Rattle.merkle_root_theory.specs.Check.{RangeInput, leaf_given}
+use Rattle.merkle_root_theory.specs.Check.{in_range, RangeInput, leaf_given}
 use Rattle.merkle_base.specs.Scheme.{Scheme}
 use Rattle.merkle_base.specs.Places.{peaks_of, wholly_before}
-use Rattle.merkle_root_theory.specs.Range.{in_range, overlapping, wholly_after, range_parts, end_of, AcceptsNonempty, plan_root, IsLawfulScheme, RangeCollides}
+use Rattle.merkle_root_theory.specs.Range.{overlapping, wholly_after, range_parts, end_of, AcceptsNonempty, plan_root, IsLawfulScheme, RangeCollides}
 
 -- the pairs below a node that overlaps the range: those of its left child, those of its right child, the left child, the right child;
 -- ds: the digests for its siblings

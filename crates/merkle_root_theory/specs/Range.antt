@@ -12,13 +12,9 @@ use Rattle.merkle_root_theory.specs.Plan.{Plan, siblings, plan_digest, tree_dige
 use Rattle.merkle_base.specs.declared.family.Bagging.{Bagging}
 use Rattle.merkle_root_theory.specs.Outside.{layout, folded_prefix, single_before, single_after, folded_suffix}
 use Rattle.merkle_root_theory.specs.Layouts.{laid_out}
-use Rattle.merkle_root_theory.specs.Check.{root_of, all_inputs, list_expression, RangeInput, range_expression, range_inputs}
+use Rattle.merkle_root_theory.specs.Check.{in_range, root_of, all_inputs, list_expression, RangeInput, range_expression, range_inputs}
 use Rattle.merkle_base.specs.Scheme.{Scheme}
 use Rattle.merkle_base.specs.Places.{peaks_of, wholly_before}
-
--- whether i lies in a..b
-abbrev pub in_range : ℕ → ℕ → ℕ → Bool
-in_range a b i = nat_le a i && nat_lt i b
 
 -- of some peaks those that overlap the range a..b
 abbrev pub overlapping : ℕ → ℕ → List Tree → List Tree
@@ -40,17 +36,20 @@ range_siblings a b ts = flat_map (siblings (in_range a b)) (overlapping a b ts)
 abbrev pub leaf_of : {D : Type 0} → Hashing D → List D → ℕ → D
 leaf_of h xs i = get_or xs i h.empty
 
--- the digests of a proof of a..b
-abbrev pub range_digests : {D : Type 0} → Scheme D → List D → ℕ → ℕ → ℕ → List D
-range_digests {D} s xs k a b =
-    let at : List Tree → List D = map (digest_at s.hashing xs) in
-    let ts = peaks_of s.rule (length xs) in
+-- what a proof of a..b of n leaves has, of what stands at each node; f: what stands for two
+abbrev pub range_laid_out : {D E : Type 0} → Scheme D → (E → E → E) → (Tree → E) → (n k a b : ℕ) → List E
+range_laid_out s f at n k a b =
+    let ts = peaks_of s.rule n in
     let before = wholly_before a ts in
     let after = wholly_after b ts in
     let met = length before + length (overlapping a b ts) in
-    laid_out s.hashing.fold (at (folded_prefix s.bagging k before))
-    (at (single_before s.bagging k before ++ single_after s.bagging k met after))
-    (at (folded_suffix s.bagging k met after)) (at (range_siblings a b ts))
+    laid_out f (map at (folded_prefix s.bagging k before))
+    (map at (single_before s.bagging k before ++ single_after s.bagging k met after))
+    (map at (folded_suffix s.bagging k met after)) (map at (range_siblings a b ts))
+
+-- the digests of a proof of a..b
+abbrev pub range_digests : {D : Type 0} → Scheme D → List D → ℕ → ℕ → ℕ → List D
+range_digests s xs k a b = range_laid_out s s.hashing.fold (digest_at s.hashing xs) (length xs) k a b
 
 -- the same by the parts of a plan
 abbrev pub plan_digests : {D : Type 0} → Scheme D → List D → ℕ → ℕ → ℕ → List D
@@ -61,6 +60,10 @@ plan_digests s xs k a b =
 -- the location after the last element
 abbrev pub end_of : {D : Type 0} → RangeInput D → ℕ
 end_of r = r.start + length r.elements
+
+-- how many digests a proof of the range has
+abbrev pub digest_count : {D : Type 0} → Scheme D → RangeInput D → ℕ
+digest_count s r = length (range_laid_out s (λ t u. t) (λ (t : Tree). t) r.leaves r.inactive r.start (end_of r))
 
 -- an accepted input with elements
 pub record AcceptsNonempty {D : Type 0} (s : Scheme D) (r : RangeInput D) (root : D) : Type 0 where

@@ -6,13 +6,7 @@ use Rattle.merkle_base.specs.Scheme.{Scheme}
 use Rattle.merkle_base.specs.declared.error.ReconstructionError.{ReconstructionError}
 use Rattle.merkle_base.specs.declared.error.ReconstructionError.TheVariants.{InvalidProof, MissingDigests, ExtraDigests, InvalidStartLoc, InvalidEndLoc, MissingElements, InvalidSize}
 use Rattle.merkle_root_theory.specs.Check.{RangeInput, root_of, range_expression}
-use Rattle.merkle_root_theory.specs.Range.{end_of, range_parts, range_siblings, Accepts}
-
--- how many digests a proof of the range has
-abbrev pub digest_count : {D : Type 0} → Scheme D → RangeInput D → ℕ
-digest_count s r =
-    let peaks = peaks_of s.rule r.leaves in
-    length (range_parts s.bagging r.inactive r.start (end_of r) peaks) + length (range_siblings r.start (end_of r) peaks)
+use Rattle.merkle_root_theory.specs.Range.{end_of, digest_count, Accepts}
 
 -- why an input without elements is refused
 abbrev pub empty_refusals : {D : Type 0} → RangeInput D → List (Bool × ReconstructionError)

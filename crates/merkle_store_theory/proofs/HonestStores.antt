@@ -10,9 +10,9 @@ use Rattle.merkle_root_theory.specs.Expression.{value}
 use Rattle.merkle_root_theory.specs.Plan.{Plan, peak, folding, root_plan, tree_meets, meets, siblings, outside_parts, path_siblings, plan_digest, tree_digest}
 use Rattle.merkle_root_theory.specs.Claim.{tree_claim, claim}
 use Rattle.merkle_base.specs.Scheme.{Scheme}
-use Rattle.merkle_root_theory.specs.Check.{leaf_given}
+use Rattle.merkle_root_theory.specs.Check.{in_range, leaf_given}
 use Rattle.merkle_root_theory.specs.Outside.{HasLayout}
-use Rattle.merkle_root_theory.specs.Range.{end_of, in_range, leaf_of, range_parts, range_siblings}
+use Rattle.merkle_root_theory.specs.Range.{end_of, leaf_of, range_parts, range_siblings}
 use Rattle.merkle_claim_theory.specs.Store.{sub_siblings, sub_outside_parts, sub_inner}
 use Rattle.merkle_root_theory.proofs.Claims.{split_left, split_right, tree_honest, plan_honest}
 use Rattle.merkle_claim_theory.proofs.ListedDigests.{plan_for}

@@ -15,11 +15,11 @@ use Rattle.merkle_base.proofs.Nodes.{all_append}
 use Rattle.merkle_base.proofs.PeakLists.{Spans, all_reverse, peaks_built, peaks_spans}
 use Rattle.merkle_root_theory.specs.Plan.{Plan, root_plan, siblings, outside_parts}
 use Rattle.merkle_base.specs.Scheme.{Scheme}
-use Rattle.merkle_root_theory.specs.Check.{RangeInput, chosen, leaf_given}
+use Rattle.merkle_root_theory.specs.Check.{in_range, RangeInput, chosen, leaf_given}
 use Rattle.merkle_root_theory.specs.Extract.{single_pairs, over_pairs}
 use Rattle.merkle_claim_theory.specs.Order.{Distinct}
 use Rattle.merkle_root_theory.specs.Outside.{fold_all, bag_all, folded_prefix, single_before, single_after, folded_suffix, Met, Unmet, HasLayout}
-use Rattle.merkle_root_theory.specs.Range.{end_of, in_range, overlapping, wholly_after, range_parts, range_siblings, AcceptsNonempty}
+use Rattle.merkle_root_theory.specs.Range.{end_of, overlapping, wholly_after, range_parts, range_siblings, AcceptsNonempty}
 use Rattle.merkle_claim_theory.specs.Store.{sub_digests, sub_outside_parts, sub_inner}
 use Rattle.merkle_root_theory.specs.Walk.{peak_values}
 use Rattle.merkle_root_theory.proofs.LayoutCounts.{length-fold_all, length-bag_all, length-layout}

@@ -3,7 +3,7 @@ use Rattle.std.specs.List.{IsSplitAt}
 use Rattle.std.proofs.lemmas.Result.{err_from_is_err_and}
 use Rattle.merkle_root_theory.proofs.PeakValues.{all_digests}
 use Rattle.merkle_root_theory.specs.Extract.{over_pairs}
-use Rattle.merkle_root_theory.specs.Range.{in_range}
+use Rattle.merkle_root_theory.specs.Check.{in_range}
 use Rattle.merkle_root_theory.specs.Walk.{leaf_from}
 use Rattle.merkle_range.proofs.checks.peak_digests.Goals as goal
 

@@ -9,7 +9,8 @@ use Rattle.merkle_root_theory.specs.Extract.{over_pairs, single_pairs}
 use Rattle.merkle_root_theory.proofs.LayoutCounts.{length-fold_all}
 use Rattle.merkle_range.proofs.IndividualPeaks.{before_dropped, after_taken, single_within}
 use Rattle.merkle_root_theory.specs.Layouts.{count_before, count_after, count_inactive}
-use Rattle.merkle_root_theory.specs.Range.{in_range, overlapping, wholly_after, end_of}
+use Rattle.merkle_root_theory.specs.Check.{in_range}
+use Rattle.merkle_root_theory.specs.Range.{overlapping, wholly_after, end_of}
 use Rattle.merkle_root_theory.specs.Walk.{bytes_of, leaf_from, ArePeakDigests}
 use Rattle.merkle_root_theory.proofs.Reconstruction.{refusal-start, refusal-end_past_limit, refusal-end, refusal-leaves, refusal-inactive, refusal-missing, refusal-extra}
 use Rattle.merkle_range.specs.Input.{range_input}

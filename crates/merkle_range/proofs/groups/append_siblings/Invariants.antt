@@ -2,7 +2,7 @@ use Rattle.std.proofs.Common.{◌≡◌, ◌++◌, List, map, take}
 use Rattle.std.specs.List.{flat_map}
 use Rattle.merkle_base.specs.Tree.{Tree, position}
 use Rattle.merkle_root_theory.specs.Plan.{siblings}
-use Rattle.merkle_root_theory.specs.Range.{in_range}
+use Rattle.merkle_root_theory.specs.Check.{in_range}
 use Rattle.merkle_hasher.specs.Subtrees.{AreNodes, subtree_of}
 use Rattle.merkle_range.proofs.groups.append_siblings.Given as goal
 

@@ -7,7 +7,7 @@ use Rattle.merkle_hasher.proofs.Comparisons.{ge_yes, ge_no, lt_yes, lt_no}
 use Rattle.merkle_hasher.proofs.NodeSteps.{inner_node, lower}
 use Rattle.merkle_hasher.proofs.Spans.{heights_same}
 use Rattle.merkle_root_theory.specs.Plan.{tree_meets, siblings}
-use Rattle.merkle_root_theory.specs.Range.{in_range}
+use Rattle.merkle_root_theory.specs.Check.{in_range}
 use Rattle.merkle_range.proofs.PinWalks.{crossed_node, past_start, right_past, by_children, before_none, before_left, before_right, before_other, before_short}
 use Rattle.merkle_range.proofs.pins.+are_siblings_rebuilt.Goals as goal
 

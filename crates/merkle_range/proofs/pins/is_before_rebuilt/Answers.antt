@@ -10,7 +10,8 @@ use Rattle.merkle_hasher.proofs.PeakNodes.{peaks_at}
 use Rattle.merkle_root_theory.specs.Layouts.{count_before, count_after}
 use Rattle.merkle_root_theory.specs.Outside.{folded_prefix}
 use Rattle.merkle_root_theory.specs.Plan.{tree_meets, siblings}
-use Rattle.merkle_root_theory.specs.Range.{in_range, overlapping, wholly_after, range_parts}
+use Rattle.merkle_root_theory.specs.Check.{in_range}
+use Rattle.merkle_root_theory.specs.Range.{overlapping, wholly_after, range_parts}
 use Rattle.merkle_root_theory.proofs.Extraction.{all_filter}
 use Rattle.merkle_root_theory.proofs.LayoutCounts.{length-layout}
 use Rattle.merkle_root_theory.proofs.PeakGroups.{length-peaks_of, some_over}

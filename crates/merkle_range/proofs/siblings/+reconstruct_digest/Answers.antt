@@ -2,7 +2,7 @@ use Rattle.std.proofs.Common.{arith, rules, sym, subst, ◌∙◌, refl, inl, in
 use Rattle.std.proofs.lemmas.Result.{err_from_is_err_and}
 use Rattle.std.proofs.lemmas.List.{nil_from_length}
 use Rattle.std.proofs.lemmas.Bool.{not-true, not-false}
-use Rattle.merkle_root_theory.specs.Range.{in_range}
+use Rattle.merkle_root_theory.specs.Check.{in_range}
 use Rattle.merkle_root_theory.specs.Walk.{leaf_from}
 use Rattle.merkle_hasher.proofs.Spans.{heights_same}
 use Rattle.merkle_hasher.proofs.NodeSteps.{inner_node, lower}
