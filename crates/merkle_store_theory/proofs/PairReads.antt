@@ -18,7 +18,7 @@ use Rattle.merkle_root_theory.specs.Walk.{peak_values}
 use Rattle.merkle_root_theory.proofs.Collisions.{member_left, member_right}
 use Rattle.merkle_claim_theory.proofs.HonestClaims.{member_split}
 use Rattle.merkle_claim_theory.proofs.SubProofs.{found, siblings_are_read}
-use Rattle.merkle_store_theory.specs.StoreProof.{first_lacking}
+use Rattle.merkle_store_theory.specs.StoreProof.{found_at, first_lacking}
 use Rattle.merkle_store_theory.proofs.Gathered.{past, meets_within}
 
 -- what each of the met trees gives, the digests before it being taken by those before
@@ -47,9 +47,9 @@ module _ {D : Type 0} (h : Hashing D) (pairs : List (ℕ × D)) (once : Distinct
   abbrev pub IsHeld : Tree → Type 0
   IsHeld t = (e : D) × Member pairs (position t, e)
 
-  pub none_lacking : (ts : List Tree) → AllByRecursion IsHeld ts → first_lacking pairs (map position ts) ≡ None
+  pub none_lacking : (ts : List Tree) → AllByRecursion IsHeld ts → first_lacking (found_at pairs) (map position ts) ≡ None
   none_lacking [] a = refl
-  none_lacking (t ∷ ts) a = ap (λ o. option_map_or (λ (d : D). first_lacking pairs (map position ts)) o (Some (position t))) (found pairs (position t, a.0.0) once a.0.1) ∙ none_lacking ts a.1
+  none_lacking (t ∷ ts) a = ap (λ o. option_map_or (λ (d : D). first_lacking (found_at pairs) (map position ts)) o (Some (position t))) (found pairs (position t, a.0.0) once a.0.1) ∙ none_lacking ts a.1
 
   -- ---- peaks that stand alone
   pub given_read : (ts : List Tree) (es rest : List D) → length es ≡ length ts → Among (single_pairs h ts (es ++ rest)) → es ≡ map read ts

@@ -16,7 +16,7 @@ use Rattle.merkle_root_theory.specs.Range.{wholly_after, range_siblings}
 use Rattle.merkle_root_theory.specs.Reads.{nodes_read}
 use Rattle.merkle_claim_theory.specs.Store.{read_pair}
 use Rattle.merkle_store_theory.specs.StoreValue.{StoreValue}
-use Rattle.merkle_store_theory.specs.StoreProof.{held_prefix, asked_prefix, asked_met, asked_suffix, suffix_front, read_nodes, prefix_part, suffix_part, prefix_refusal, first_reaching, first_lacking, ends_with, suffix_lacking, suffix_refusal, store_proof, store_refusal}
+use Rattle.merkle_store_theory.specs.StoreProof.{found_at, held_prefix, asked_prefix, asked_met, asked_suffix, suffix_front, read_nodes, prefix_part, suffix_part, prefix_refusal, first_reaching, first_lacking, ends_with, suffix_lacking, suffix_refusal, store_proof, store_refusal}
 use Rattle.merkle_store_theory.specs.StoreReads.{Counts, AreCounts, single_reads, suffix_reads, sibling_reads, read_at, prefix_at, suffix_at, proof_at, lacking_at, suffix_refusal_at, refusal_at, ReadsByPosition}
 use Rattle.merkle_store_theory.proofs.GroupedParts.{before_whole, after_whole}
 use Rattle.merkle_store_theory.proofs.StoreHolds.{prefix_reach}
@@ -45,8 +45,8 @@ module _ {D : Type 0} (h : Hashing D) (v : StoreValue D) where
   suffix_by (t ∷ ts) = ap (λ z. option_to_list (root.right_fold h.fold (z ++ option_to_list v.suffix))) (read_all (suffix_front v (t ∷ ts)) ∙ ap (read_at h v) (front_by (t ∷ ts)))
 
   lacking_by : (qs : List ℕ) (ts : List Tree) → suffix_lacking v qs ts ≡ lacking_at v qs (map position ts)
-  lacking_by [] ts = ap (first_lacking v.pairs) (map-reverse ts)
-  lacking_by (q ∷ qs) ts = ap (λ z. cond (ends_with (map position ts) (q ∷ qs)) (first_lacking v.pairs z) (Some q)) (map-reverse (suffix_front v ts) ∙ ap reverse (front_by ts))
+  lacking_by [] ts = ap (first_lacking (found_at v.pairs)) (map-reverse ts)
+  lacking_by (q ∷ qs) ts = ap (λ z. cond (ends_with (map position ts) (q ∷ qs)) (first_lacking (found_at v.pairs) z) (Some q)) (map-reverse (suffix_front v ts) ∙ ap reverse (front_by ts))
 
   suffix_refusal_by : (ts : List Tree) → suffix_refusal v ts ≡ suffix_refusal_at v (map position ts)
   suffix_refusal_by [] = refl
@@ -154,9 +154,9 @@ module _ {D : Type 0} (s : Scheme D) (v : StoreValue D) (a b : ℕ) (n : Counts)
 
   refusal_by_position : store_refusal s v a b ≡ refusal_at v n (peak_positions s.rule v.leaves) reads
   refusal_by_position = ap₂ option_or prefix_refusal_by
-      (ap₂ option_or (ap (first_lacking v.pairs) (sym (drop-map position (length (held_prefix s v)) us) ∙ ap₂ drop (sym c.held) folded_are))
-      (ap₂ option_or (ap (first_lacking v.pairs) single_are)
-      (ap₂ option_or (suffix_refusal_by s.hashing v ys ∙ ap (suffix_refusal_at v) suffix_are) (ap (first_lacking v.pairs) siblings_are))))
+      (ap₂ option_or (ap (first_lacking (found_at v.pairs)) (sym (drop-map position (length (held_prefix s v)) us) ∙ ap₂ drop (sym c.held) folded_are))
+      (ap₂ option_or (ap (first_lacking (found_at v.pairs)) single_are)
+      (ap₂ option_or (suffix_refusal_by s.hashing v ys ∙ ap (suffix_refusal_at v) suffix_are) (ap (first_lacking (found_at v.pairs)) siblings_are))))
 
 pub reads_by_position : {D : Type 0} → ReadsByPosition D
 reads_by_position s v a b n c = (proof_by_position s v a b n c, refusal_by_position s v a b n c)

@@ -18,7 +18,7 @@ use Rattle.merkle_root_theory.specs.Outside.{folded_prefix}
 use Rattle.merkle_root_theory.specs.Range.{range_siblings}
 use Rattle.merkle_claim_theory.specs.Table.{digest_for}
 use Rattle.merkle_store_theory.specs.StoreValue.{StoreValue}
-use Rattle.merkle_store_theory.specs.StoreProof.{held_prefix, asked_prefix, asked_single, asked_suffix, suffix_front, prefix_refusal, first_reaching, suffix_lacking, suffix_refusal, first_lacking, ends_with}
+use Rattle.merkle_store_theory.specs.StoreProof.{found_at, held_prefix, asked_prefix, asked_single, asked_suffix, suffix_front, prefix_refusal, first_reaching, suffix_lacking, suffix_refusal, first_lacking, ends_with}
 use Rattle.merkle_store_theory.specs.StoreLaws.{AreHeld, AnsweredIsHeld, IsFirstReaching, ShorterIsRefused, ShorterIsNext}
 use Rattle.merkle_store_theory.proofs.GroupedParts.{prefix_split}
 
@@ -26,18 +26,18 @@ module _ {D : Type 0} (v : StoreValue D) where
   abbrev found : Tree → Option D
   found t = digest_for (map (λ (x : ℕ × D). x.0) v.pairs) (map (λ (x : ℕ × D). x.1) v.pairs) (position t)
 
-  held_all : (ts : List Tree) → first_lacking v.pairs (map position ts) ≡ None → AreHeld v ts
+  held_all : (ts : List Tree) → first_lacking (found_at v.pairs) (map position ts) ≡ None → AreHeld v ts
   held_all [] e = tt
   held_all (t ∷ ts) e = by_found (found t) (held_all ts) refl
     where
-      by_found : (o : Option D) → (first_lacking v.pairs (map position ts) ≡ None → AreHeld v ts) → found t ≡ o → AreHeld v (t ∷ ts)
-      by_found None others f = absurd (nothing (sym (ap (λ o. option_map_or (λ (d : D). first_lacking v.pairs (map position ts)) o (Some (position t))) f) ∙ e))
+      by_found : (o : Option D) → (first_lacking (found_at v.pairs) (map position ts) ≡ None → AreHeld v ts) → found t ≡ o → AreHeld v (t ∷ ts)
+      by_found None others f = absurd (nothing (sym (ap (λ o. option_map_or (λ (d : D). first_lacking (found_at v.pairs) (map position ts)) o (Some (position t))) f) ∙ e))
         where
           nothing : Some (position t) ≡ None → ⊥
           nothing e = cc
-      by_found (Some d) others f = ((d, f), others (sym (ap (λ o. option_map_or (λ (d : D). first_lacking v.pairs (map position ts)) o (Some (position t))) f) ∙ e))
+      by_found (Some d) others f = ((d, f), others (sym (ap (λ o. option_map_or (λ (d : D). first_lacking (found_at v.pairs) (map position ts)) o (Some (position t))) f) ∙ e))
 
-  held_back : (ts : List Tree) → first_lacking v.pairs (map position (reverse ts)) ≡ None → AreHeld v ts
+  held_back : (ts : List Tree) → first_lacking (found_at v.pairs) (map position (reverse ts)) ≡ None → AreHeld v ts
   held_back ts e = subst (AreHeld v) (reverse-reverse ts) (all_reverse (λ t. (d : D) × (found t ≡ Some d)) (reverse ts) (held_all (reverse ts) e))
 
   front_none : (n : ℕ) → AreHeld v (take n [])
@@ -49,7 +49,7 @@ module _ {D : Type 0} (v : StoreValue D) where
     where
       all : length ts - length v.suffix_peaks ≡ length ts
       all = omega (arith, ap length f)
-  suffix_held (p ∷ ps) ts f e = by_test (λ b. cond b (first_lacking v.pairs (map position (reverse (suffix_front v ts)))) (Some p) ≡ None → AreHeld v (suffix_front v ts)) (ends_with (map position ts) (p ∷ ps))
+  suffix_held (p ∷ ps) ts f e = by_test (λ b. cond b (first_lacking (found_at v.pairs) (map position (reverse (suffix_front v ts)))) (Some p) ≡ None → AreHeld v (suffix_front v ts)) (ends_with (map position ts) (p ∷ ps))
       (λ _ e. held_back (suffix_front v ts) e) (λ _ e. absurd (nothing e)) e
     where
       nothing : Some p ≡ None → ⊥
@@ -72,7 +72,7 @@ module _ {D : Type 0} (v : StoreValue D) where
   suffix_ends [] ts f e =
       let all : length ts ≡ length ts - length v.suffix_peaks = omega (arith, ap length f) in
       sym (append-nil (map position ts)) ∙ ap₂ (λ y z. map position y ++ z) (sym (take-length ts) ∙ ap (λ n. take n ts) all) (sym f)
-  suffix_ends (p ∷ ps) ts f e = by_test (λ b. ends_with (map position ts) (p ∷ ps) ≡ b → cond b (first_lacking v.pairs (map position (reverse (suffix_front v ts)))) (Some p) ≡ None → map position ts ≡ map position (suffix_front v ts) ++ v.suffix_peaks) (ends_with (map position ts) (p ∷ ps))
+  suffix_ends (p ∷ ps) ts f e = by_test (λ b. ends_with (map position ts) (p ∷ ps) ≡ b → cond b (first_lacking (found_at v.pairs) (map position (reverse (suffix_front v ts)))) (Some p) ≡ None → map position ts ≡ map position (suffix_front v ts) ++ v.suffix_peaks) (ends_with (map position ts) (p ∷ ps))
       (λ _ g _. ends_as ts (p ∷ ps) f g) (λ _ _ e. absurd (nothing e)) refl e
     where
       nothing : Some p ≡ None → ⊥
@@ -170,10 +170,10 @@ prefix_begins bagging k a x n ts c e = by_asked (folded_prefix bagging k (wholly
 pub answered_is_held : {D : Type 0} → AnsweredIsHeld D
 answered_is_held s v a b e =
     let one = prefix_refusal a (held_prefix s v) (asked_prefix s v a) in
-    let two = first_lacking v.pairs (map position (drop (length (held_prefix s v)) (asked_prefix s v a))) in
-    let three = first_lacking v.pairs (map position (asked_single s v a b)) in
+    let two = first_lacking (found_at v.pairs) (map position (drop (length (held_prefix s v)) (asked_prefix s v a))) in
+    let three = first_lacking (found_at v.pairs) (map position (asked_single s v a b)) in
     let four = suffix_refusal v (asked_suffix s v a b) in
-    let five = first_lacking v.pairs (map position (range_siblings a b (peaks_of s.rule v.leaves))) in
+    let five = first_lacking (found_at v.pairs) (map position (range_siblings a b (peaks_of s.rule v.leaves))) in
     let e1 = both_none one (option_or two (option_or three (option_or four five))) e in
     let e2 = both_none two (option_or three (option_or four five)) e1.1 in
     let e3 = both_none three (option_or four five) e2.1 in
@@ -189,10 +189,10 @@ answered_is_held s v a b e =
 -- what is refused after the prefix
 abbrev others : {D : Type 0} → Scheme D → StoreValue D → (a b : ℕ) → Option ℕ
 others s v a b =
-    option_or (first_lacking v.pairs (map position (drop (length (held_prefix s v)) (asked_prefix s v a))))
-    (option_or (first_lacking v.pairs (map position (asked_single s v a b)))
+    option_or (first_lacking (found_at v.pairs) (map position (drop (length (held_prefix s v)) (asked_prefix s v a))))
+    (option_or (first_lacking (found_at v.pairs) (map position (asked_single s v a b)))
     (option_or (suffix_refusal v (asked_suffix s v a b))
-    (first_lacking v.pairs (map position (range_siblings a b (peaks_of s.rule v.leaves))))))
+    (first_lacking (found_at v.pairs) (map position (range_siblings a b (peaks_of s.rule v.leaves))))))
 
 refused : (a : ℕ) (held us : List Tree) → 0 < length us → length us < length held → prefix_refusal a held us ≡ first_reaching a held
 refused a held [] m l = absurd (omega (arith, m))

@@ -11,7 +11,7 @@ use Rattle.merkle_base.specs.Root as root
 use Rattle.merkle_base.specs.declared.family.Bagging.TheVariants.{ForwardFold}
 use Rattle.merkle_root_theory.specs.Outside.{fold_all, bag_all}
 use Rattle.merkle_store_theory.specs.StoreValue.{StoreValue}
-use Rattle.merkle_store_theory.specs.StoreProof.{read_nodes, prefix_part, suffix_part, suffix_front, first_lacking, prefix_refusal, ends_with, suffix_lacking, suffix_refusal, first_reaching}
+use Rattle.merkle_store_theory.specs.StoreProof.{found_at, read_nodes, prefix_part, suffix_part, suffix_front, first_lacking, prefix_refusal, ends_with, suffix_lacking, suffix_refusal, first_reaching}
 
 -- the first of at most one
 pub first_of : {D : Type 0} (xs : List D) → length xs ≤ 1 → option_to_list (slice_get xs 0) ≡ xs
@@ -56,15 +56,15 @@ module _ {D : Type 0} (h : Hashing D) (v : StoreValue D) where
       and_from _ _ (le-leb (length (map position us)) (length (map position (ts ++ us))) (omega (arith, ap length e, length-append (map position ts) (map position us))))
       (ap (λ z. pointwise nat_eq z (map position us)) (ap₂ drop n e ∙ drop-append_seam (map position ts) (map position us)) ∙ same_all (map position us))
 
-  no_lacking : (ts us : List Tree) (ps : List ℕ) → v.suffix_peaks ≡ map position us → ps ≡ map position us → first_lacking v.pairs (map position (reverse ts)) ≡ None → suffix_lacking v ps (ts ++ us) ≡ None
-  no_lacking ts [] [] e f w = ap (λ z. first_lacking v.pairs (map position (reverse z))) (append-nil ts) ∙ w
+  no_lacking : (ts us : List Tree) (ps : List ℕ) → v.suffix_peaks ≡ map position us → ps ≡ map position us → first_lacking (found_at v.pairs) (map position (reverse ts)) ≡ None → suffix_lacking v ps (ts ++ us) ≡ None
+  no_lacking ts [] [] e f w = ap (λ z. first_lacking (found_at v.pairs) (map position (reverse z))) (append-nil ts) ∙ w
   no_lacking ts [] (p ∷ ps) e f w = cc
   no_lacking ts (u ∷ us) [] e f w = cc
   no_lacking ts (u ∷ us) (p ∷ ps) e f w =
-      ap (λ b. cond b (first_lacking v.pairs (map position (reverse (suffix_front v (ts ++ u ∷ us))))) (Some p)) (ap (ends_with (map position (ts ++ u ∷ us))) f ∙ ends_so ts (u ∷ us))
-      ∙ ap (λ z. first_lacking v.pairs (map position (reverse z))) (front_is ts (u ∷ us) e) ∙ w
+      ap (λ b. cond b (first_lacking (found_at v.pairs) (map position (reverse (suffix_front v (ts ++ u ∷ us))))) (Some p)) (ap (ends_with (map position (ts ++ u ∷ us))) f ∙ ends_so ts (u ∷ us))
+      ∙ ap (λ z. first_lacking (found_at v.pairs) (map position (reverse z))) (front_is ts (u ∷ us) e) ∙ w
 
-  pub no_suffix_refusal : (ts us : List Tree) → v.suffix_peaks ≡ map position us → first_lacking v.pairs (map position (reverse ts)) ≡ None → suffix_refusal v (ts ++ us) ≡ None
+  pub no_suffix_refusal : (ts us : List Tree) → v.suffix_peaks ≡ map position us → first_lacking (found_at v.pairs) (map position (reverse ts)) ≡ None → suffix_refusal v (ts ++ us) ≡ None
   no_suffix_refusal [] [] e w = refl
   no_suffix_refusal [] (u ∷ us) e w = no_lacking [] (u ∷ us) v.suffix_peaks e e w
   no_suffix_refusal (t ∷ ts) us e w = no_lacking (t ∷ ts) us v.suffix_peaks e e w

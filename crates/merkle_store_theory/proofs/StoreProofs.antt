@@ -28,7 +28,7 @@ use Rattle.merkle_claim_theory.proofs.ExtractedPositionsDistinct.{extracts_once}
 use Rattle.merkle_root_theory.proofs.PeakGroups as peaks
 use Rattle.merkle_claim_theory.proofs.SubProofs.{part_is_accepted}
 use Rattle.merkle_store_theory.specs.StoreValue.{StoreValue, store_of}
-use Rattle.merkle_store_theory.specs.StoreProof.{store_proof, store_refusal, read_nodes, prefix_part, suffix_part, prefix_refusal, suffix_refusal, first_lacking}
+use Rattle.merkle_store_theory.specs.StoreProof.{found_at, store_proof, store_refusal, read_nodes, prefix_part, suffix_part, prefix_refusal, suffix_refusal, first_lacking}
 use Rattle.merkle_store_theory.specs.StoreLaws.{StoreReadsClaim, StoreAnswers, StoreIsAccepted}
 use Rattle.merkle_store_theory.proofs.Gathered.{past}
 use Rattle.merkle_store_theory.proofs.PairReads.{Among, among_left, among_right, read, IsHeld, none_lacking, given_read, given_held, Own, own_left, own_right, own_read, own_held, siblings_read, siblings_held}
@@ -51,10 +51,10 @@ abbrev refusal_by : {D : Type 0} → StoreValue D → (ℕ → Bool) → ℕ →
 refusal_by v d a before over after held =
     let met = length before + length over in
     option_or (prefix_refusal a held (folded_prefix v.bagging v.inactive before))
-    (option_or (first_lacking v.pairs (map position (drop (length held) (folded_prefix v.bagging v.inactive before))))
-    (option_or (first_lacking v.pairs (map position (single_before v.bagging v.inactive before ++ single_after v.bagging v.inactive met after)))
+    (option_or (first_lacking (found_at v.pairs) (map position (drop (length held) (folded_prefix v.bagging v.inactive before))))
+    (option_or (first_lacking (found_at v.pairs) (map position (single_before v.bagging v.inactive before ++ single_after v.bagging v.inactive met after)))
     (option_or (suffix_refusal v (folded_suffix v.bagging v.inactive met after))
-    (first_lacking v.pairs (map position (flat_map (siblings d) over))))))
+    (first_lacking (found_at v.pairs) (map position (flat_map (siblings d) over))))))
 
 -- ---- by the groups of peaks; more_before, more_after: of those that overlap the store's range the ones before the part, and those after it
 module _ {D : Type 0} (s : Scheme D) (v : StoreValue D) (c d : ℕ → Bool) (within : (i : ℕ) → d i ≡ true → c i ≡ true) (X : ℕ → D) (once : Distinct (map (λ (x : ℕ × D). x.0) v.pairs))
@@ -164,13 +164,13 @@ module _ {D : Type 0} (s : Scheme D) (v : StoreValue D) (c d : ℕ → Bool) (wi
     refusal_none : v.suffix_peaks ≡ map position own_suffix → (a : ℕ) → refusal_by v d a (before ++ more_before) (t ∷ over) (more_after ++ after) own_prefix ≡ None
     refusal_none ends a =
         let one : prefix_refusal a own_prefix (folded_prefix v.bagging k (before ++ more_before)) ≡ None = ap (prefix_refusal a own_prefix) (prefix_split v.bagging k before more_before) ∙ no_prefix_refusal h v a own_prefix new_prefix in
-        let two : first_lacking v.pairs (map position (drop (length own_prefix) (folded_prefix v.bagging k (before ++ more_before)))) ≡ None =
-        ap (λ z. first_lacking v.pairs (map position z)) (ap (drop (length own_prefix)) (prefix_split v.bagging k before more_before) ∙ drop-append_seam own_prefix new_prefix)
+        let two : first_lacking (found_at v.pairs) (map position (drop (length own_prefix) (folded_prefix v.bagging k (before ++ more_before)))) ≡ None =
+        ap (λ z. first_lacking (found_at v.pairs) (map position z)) (ap (drop (length own_prefix)) (prefix_split v.bagging k before more_before) ∙ drop-append_seam own_prefix new_prefix)
         ∙ none_lacking h v.pairs once new_prefix (own_held h v.pairs once c X new_prefix is (own_left h v.pairs once c X new_prefix _ is owned)) in
         let four : suffix_refusal v (folded_suffix v.bagging k part_met (more_after ++ after)) ≡ None =
         ap (suffix_refusal v) (suffix_split v.bagging k part_met whole_met more_after after more)
         ∙ no_suffix_refusal h v new_suffix own_suffix ends (none_lacking h v.pairs once (reverse new_suffix) (all_reverse (IsHeld h v.pairs once) new_suffix (own_held h v.pairs once c X new_suffix _ owned4))) in
-        let five : first_lacking v.pairs (map position (flat_map (siblings d) (t ∷ over))) ≡ None = none_lacking h v.pairs once (flat_map (siblings d) (t ∷ over)) (siblings_held h v.pairs once c X d within (t ∷ over) _ (own_left h v.pairs once c X (t ∷ over) _ _ owned2)) in
+        let five : first_lacking (found_at v.pairs) (map position (flat_map (siblings d) (t ∷ over))) ≡ None = none_lacking h v.pairs once (flat_map (siblings d) (t ∷ over)) (siblings_held h v.pairs once c X d within (t ∷ over) _ (own_left h v.pairs once c X (t ∷ over) _ _ owned2)) in
         ap₂ option_or one (ap₂ option_or two (ap₂ option_or (none_lacking h v.pairs once _ held_single) (ap₂ option_or four five)))
 
     -- ---- and what is read is the claim's

@@ -1,6 +1,6 @@
 -- The proof that a store answers for a range, and why it answers none.
 use Rattle.std.specs.Prelude.{ℕ, ◌+◌, ◌-◌, ◌&&◌, Bool, cond, nat_le, nat_lt, nat_eq, List, [], ◌∷◌, ◌++◌, map, length, take, drop, reverse, Option, Some, None}
-use Rattle.std.specs.Option.{option_to_list, option_map_or, option_or}
+use Rattle.std.specs.Option.{option_to_list, option_map_or, option_or, unwrap_or}
 use Rattle.std.specs.Cmp.Lexicographic.{pointwise}
 use Rattle.merkle_base.specs.Tree.{Tree, position, end_leaf}
 use Rattle.merkle_base.specs.Hashing.{Hashing}
@@ -10,9 +10,12 @@ use Rattle.merkle_base.specs.declared.family.Bagging.TheVariants.{ForwardFold}
 use Rattle.merkle_base.specs.Scheme.{Scheme}
 use Rattle.merkle_root_theory.specs.Outside.{folded_prefix, single_before, single_after, folded_suffix}
 use Rattle.merkle_root_theory.specs.Range.{overlapping, wholly_after, range_siblings}
-use Rattle.merkle_claim_theory.specs.Store.{read_pair}
 use Rattle.merkle_claim_theory.specs.Table.{digest_for}
 use Rattle.merkle_store_theory.specs.StoreValue.{StoreValue}
+
+-- the digest of the first of the pairs at a position
+abbrev pub found_at : {D : Type 0} → List (ℕ × D) → ℕ → Option D
+found_at pairs p = digest_for (map (λ x. x.0) pairs) (map (λ x. x.1) pairs) p
 
 -- the peaks folded in the prefix of the store's own proof
 abbrev pub held_prefix : {D : Type 0} → Scheme D → StoreValue D → List Tree
@@ -41,7 +44,7 @@ suffix_front v ts = take (length ts - length v.suffix_peaks) ts
 
 -- the digests of nodes, read from the pairs
 abbrev pub read_nodes : {D : Type 0} → Hashing D → StoreValue D → List Tree → List D
-read_nodes h v ts = map (λ t. read_pair h v.pairs (position t)) ts
+read_nodes h v ts = map (λ t. unwrap_or (found_at v.pairs (position t)) h.empty) ts
 
 -- the fold of the asked prefix, if there is one: the store's own, and onto it the peaks after the first `held`
 abbrev pub prefix_part : {D : Type 0} → Hashing D → StoreValue D → (held : ℕ) → List Tree → List D
@@ -66,10 +69,10 @@ abbrev pub first_reaching : ℕ → List Tree → Option ℕ
 first_reaching a [] = None
 first_reaching a (t ∷ ts) = cond (nat_le (end_leaf t) a) (first_reaching a ts) (Some (position t))
 
--- the first of some positions that the pairs lack
-abbrev pub first_lacking : {D : Type 0} → List (ℕ × D) → List ℕ → Option ℕ
-first_lacking pairs [] = None
-first_lacking {D} pairs (p ∷ ps) = option_map_or (λ (d : D). first_lacking pairs ps) (digest_for (map (λ x. x.0) pairs) (map (λ x. x.1) pairs) p) (Some p)
+-- the first of some positions at which there is none
+abbrev pub first_lacking : {D : Type 0} → (ℕ → Option D) → List ℕ → Option ℕ
+first_lacking node [] = None
+first_lacking {D} node (p ∷ ps) = option_map_or (λ (d : D). first_lacking node ps) (node p) (Some p)
 
 -- the refusal of a prefix: it is nonempty and shorter than the store's
 abbrev pub prefix_refusal : ℕ → (held asked : List Tree) → Option ℕ
@@ -82,8 +85,8 @@ ends_with ps qs = nat_le (length qs) (length ps) && pointwise nat_eq (drop (leng
 
 -- that of a suffix with peaks: it doesn't end with the given positions, the store's own, or a node before those is lacking, the last one first
 abbrev pub suffix_lacking : {D : Type 0} → StoreValue D → List ℕ → List Tree → Option ℕ
-suffix_lacking v [] ts = first_lacking v.pairs (map position (reverse ts))
-suffix_lacking v (p ∷ ps) ts = cond (ends_with (map position ts) (p ∷ ps)) (first_lacking v.pairs (map position (reverse (suffix_front v ts)))) (Some p)
+suffix_lacking v [] ts = first_lacking (found_at v.pairs) (map position (reverse ts))
+suffix_lacking v (p ∷ ps) ts = cond (ends_with (map position ts) (p ∷ ps)) (first_lacking (found_at v.pairs) (map position (reverse (suffix_front v ts)))) (Some p)
 
 -- the refusal of a suffix, if there is one
 abbrev pub suffix_refusal : {D : Type 0} → StoreValue D → List Tree → Option ℕ
@@ -94,7 +97,7 @@ suffix_refusal v (t ∷ ts) = suffix_lacking v v.suffix_peaks (t ∷ ts)
 abbrev pub store_refusal : {D : Type 0} → Scheme D → StoreValue D → (a b : ℕ) → Option ℕ
 store_refusal s v a b =
     option_or (prefix_refusal a (held_prefix s v) (asked_prefix s v a))
-    (option_or (first_lacking v.pairs (map position (drop (length (held_prefix s v)) (asked_prefix s v a))))
-    (option_or (first_lacking v.pairs (map position (asked_single s v a b)))
+    (option_or (first_lacking (found_at v.pairs) (map position (drop (length (held_prefix s v)) (asked_prefix s v a))))
+    (option_or (first_lacking (found_at v.pairs) (map position (asked_single s v a b)))
     (option_or (suffix_refusal v (asked_suffix s v a b))
-    (first_lacking v.pairs (map position (range_siblings a b (peaks_of s.rule v.leaves)))))))
+    (first_lacking (found_at v.pairs) (map position (range_siblings a b (peaks_of s.rule v.leaves)))))))

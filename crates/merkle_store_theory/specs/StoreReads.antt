@@ -12,7 +12,7 @@ use Rattle.merkle_root_theory.specs.Range.{wholly_after}
 use Rattle.merkle_root_theory.specs.Reads.{nodes_read}
 use Rattle.merkle_claim_theory.specs.Store.{read_pair}
 use Rattle.merkle_store_theory.specs.StoreValue.{StoreValue}
-use Rattle.merkle_store_theory.specs.StoreProof.{held_prefix, asked_prefix, asked_met, first_lacking, ends_with, store_proof, store_refusal}
+use Rattle.merkle_store_theory.specs.StoreProof.{found_at, held_prefix, asked_prefix, asked_met, first_lacking, ends_with, store_proof, store_refusal}
 
 -- how many of the positions that are read are of peaks before the range, and of peaks after it; how many of the former are folded,
 -- and how many of the latter stand alone; and how many are folded in the store's own prefix
@@ -64,8 +64,8 @@ proof_at h v n ps = prefix_at h v n.held (take n.folded ps)
 
 -- the refusal of a suffix with peaks; qs: the positions of the store's own
 abbrev pub lacking_at : {D : Type 0} → StoreValue D → (qs ps : List ℕ) → Option ℕ
-lacking_at v [] ps = first_lacking v.pairs (reverse ps)
-lacking_at v (q ∷ qs) ps = cond (ends_with ps (q ∷ qs)) (first_lacking v.pairs (reverse (take (length ps - length v.suffix_peaks) ps))) (Some q)
+lacking_at v [] ps = first_lacking (found_at v.pairs) (reverse ps)
+lacking_at v (q ∷ qs) ps = cond (ends_with ps (q ∷ qs)) (first_lacking (found_at v.pairs) (reverse (take (length ps - length v.suffix_peaks) ps))) (Some q)
 
 -- the refusal of a suffix, if there is one
 abbrev pub suffix_refusal_at : {D : Type 0} → StoreValue D → List ℕ → Option ℕ
@@ -76,10 +76,10 @@ suffix_refusal_at v (p ∷ ps) = lacking_at v v.suffix_peaks (p ∷ ps)
 abbrev pub refusal_at : {D : Type 0} → StoreValue D → Counts → (peaks ps : List ℕ) → Option ℕ
 refusal_at v n peaks ps =
     option_or (cond (nat_lt 0 n.folded && nat_lt n.folded n.held) (slice_get peaks n.before) None)
-    (option_or (first_lacking v.pairs (drop n.held (take n.folded ps)))
-    (option_or (first_lacking v.pairs (single_reads n ps))
+    (option_or (first_lacking (found_at v.pairs) (drop n.held (take n.folded ps)))
+    (option_or (first_lacking (found_at v.pairs) (single_reads n ps))
     (option_or (suffix_refusal_at v (suffix_reads n ps))
-    (first_lacking v.pairs (sibling_reads n ps)))))
+    (first_lacking (found_at v.pairs) (sibling_reads n ps)))))
 
 -- by these counts both are what they are by the peaks
 abbrev pub ReadsByPosition : Type 0 → Type 0

@@ -5,11 +5,7 @@ use Rattle.merkle_base.specs.Hashing.{Hashing}
 use Rattle.merkle_base.specs.declared.error.Error.{Error}
 use Rattle.merkle_base.specs.declared.error.Error.TheVariants.{ElementPruned}
 use Rattle.merkle_claim_theory.specs.Store.{read_pair}
-use Rattle.merkle_claim_theory.specs.Table.{digest_for}
-
--- the digest of the first of the pairs at a position
-abbrev pub found_at : {D : Type 0} → List (ℕ × D) → ℕ → Option D
-found_at pairs p = digest_for (map (λ x. x.0) pairs) (map (λ x. x.1) pairs) p
+use Rattle.merkle_store_theory.specs.StoreProof.{found_at}
 
 -- a map's entries answer as the pairs do
 abbrev pub AnswersPairs : {D : Type 0} → List (ℕ × D) → List (ℕ × D) → Type 0

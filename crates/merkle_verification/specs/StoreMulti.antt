@@ -1,7 +1,7 @@
 -- The proof of scattered leaves that a store answers.
 use Rattle.std.specs.Prelude.{◌≡◌, ℕ, ◌⊎◌, nat_eq, cond, List, [], ◌∷◌, map, reverse, Option, Some, None}
 use Rattle.std.specs.List.{list_any}
-use Rattle.std.specs.Option.{option_map_or, option_or}
+use Rattle.std.specs.Option.{option_or}
 use Rattle.merkle_base.specs.Cases.{first_case}
 use Rattle.merkle_base.specs.declared.error.Error.{Error}
 use Rattle.merkle_base.specs.declared.error.Error.TheVariants.{CompressedDigest, ElementPruned}
@@ -9,7 +9,7 @@ use Rattle.merkle_claim_theory.specs.Multiproof.{multi_positions}
 use Rattle.merkle_store_theory.specs.StoreValue.{StoreValue}
 use Rattle.merkle_proof.specs.MultiPositions.{AreLocations, multi_refusals}
 use Rattle.merkle_proof.specs.declared.proof.Proof.{Proof}
-use Rattle.merkle_verification.specs.PairReads.{found_at}
+use Rattle.merkle_store_theory.specs.StoreProof.{found_at, first_lacking}
 
 -- the digest at a position: that of the first pairs, or else of the second
 abbrev pub either_at : {D : Type 0} → (first second : List (ℕ × D)) → ℕ → Option D
@@ -19,18 +19,13 @@ either_at first second p = option_or (found_at first p) (found_at second p)
 abbrev pub known_at : {D : Type 0} → (pairs given : List (ℕ × D)) → ℕ → Option D
 known_at pairs given = either_at pairs (reverse given)
 
--- the first of some positions at which there is none
-abbrev pub first_unknown : {D : Type 0} → (ℕ → Option D) → List ℕ → Option ℕ
-first_unknown node [] = None
-first_unknown {D} node (p ∷ ps) = option_map_or (λ (d : D). first_unknown node ps) (node p) (Some p)
-
 -- it is known only folded with others, or it isn't known
 abbrev pub unknown_error : {F : Type 0} → (suffix_peaks : List ℕ) → ℕ → Error F
 unknown_error suffix_peaks p = cond (list_any (λ q. nat_eq q p) suffix_peaks) (CompressedDigest p) (ElementPruned p)
 
 -- the refusal names the first unknown position
 abbrev pub IsUnknown : {F D : Type 0} → (ℕ → Option D) → (suffix_peaks ps : List ℕ) → Error F → Type 0
-IsUnknown node suffix_peaks ps e = (p : ℕ) × (e ≡ unknown_error suffix_peaks p) × (first_unknown node ps ≡ Some p)
+IsUnknown node suffix_peaks ps e = (p : ℕ) × (e ≡ unknown_error suffix_peaks p) × (first_lacking node ps ≡ Some p)
 
 -- p is the proof of the leaves at some locations that a store answers, to which peaks are given
 pub record IsMultiAnswered {F D Peaks Heights : Type 0} (rule : List ℕ → List ℕ) (max_leaves : ℕ) (v : StoreValue D)

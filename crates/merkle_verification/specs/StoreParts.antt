@@ -11,7 +11,7 @@ use Rattle.merkle_root_theory.specs.Extract.{extracted}
 use Rattle.merkle_root_theory.specs.Outside.{folded_prefix}
 use Rattle.merkle_root_theory.specs.Range.{end_of}
 use Rattle.merkle_store_theory.specs.StoreValue.{StoreValue}
-use Rattle.merkle_store_theory.specs.StoreProof.{ends_with, first_lacking}
+use Rattle.merkle_store_theory.specs.StoreProof.{found_at, ends_with, first_lacking}
 use Rattle.merkle_store_theory.specs.StoreReads.{Counts, single_reads, suffix_reads, sibling_reads, suffix_refusal_at}
 use Rattle.merkle_proof.specs.declared.range_plan.RangeCounts.{RangeCounts}
 
@@ -30,10 +30,10 @@ shorter_refusal rule leaves n = cond (nat_lt 0 n.folded && nat_lt n.folded n.hel
 -- the position named where it isn't, if one is lacking
 abbrev pub parts_refusal : {D : Type 0} → StoreValue D → Counts → List ℕ → Option ℕ
 parts_refusal v n ps =
-    option_or (first_lacking v.pairs (drop n.held (take n.folded ps)))
-    (option_or (first_lacking v.pairs (single_reads n ps))
+    option_or (first_lacking (found_at v.pairs) (drop n.held (take n.folded ps)))
+    (option_or (first_lacking (found_at v.pairs) (single_reads n ps))
     (option_or (suffix_refusal_at v (suffix_reads n ps))
-    (first_lacking v.pairs (sibling_reads n ps))))
+    (first_lacking (found_at v.pairs) (sibling_reads n ps))))
 
 -- no more are folded or stand alone than there are, and all are read
 pub record FitReads (c : RangeCounts) (ps : List ℕ) : Type 0 where

@@ -1,6 +1,7 @@
 //! Digests of nodes, found by position.
 ghost use Rattle.std.specs.Prelude.{◌≡◌, IfOk};
-ghost use Rattle.merkle_verification.specs.PairReads.{found_at, AnswersPairs};
+ghost use Rattle.merkle_store_theory.specs.StoreProof.{found_at};
+ghost use Rattle.merkle_verification.specs.PairReads.{AnswersPairs};
 
 use merkle_base::family::Family;
 use merkle_base::position::Position;

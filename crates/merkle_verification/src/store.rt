@@ -6,7 +6,7 @@ ghost use Rattle.merkle_root_theory.specs.Check.{RangeInput};
 ghost use Rattle.merkle_root_theory.specs.Range.{AcceptsNonempty, end_of};
 ghost use Rattle.merkle_root_theory.specs.Reconstruction.{reconstructed};
 ghost use Rattle.merkle_root_theory.specs.Walk.{bytes_of};
-ghost use Rattle.merkle_store_theory.specs.StoreProof.{first_lacking};
+ghost use Rattle.merkle_store_theory.specs.StoreProof.{found_at, first_lacking};
 ghost use Rattle.merkle_store_theory.specs.StoreReads.{prefix_at, suffix_at, suffix_refusal_at, proof_at};
 ghost use Rattle.merkle_store_theory.specs.StoreValue.{store_of};
 ghost use Rattle.merkle_range.specs.Extracting.{IsExtractionRefusal};
@@ -195,9 +195,9 @@ impl<F: Family, D: Digest> ProofStore<F, D> {
         held: usize,
         positions: &[Position<F>],
     ) -> Result<Option<D>, Error<F>>
-        ensures held { IfOk result (λ _. first_lacking self.now.pairs (drop held positions.now) ≡ None) }
+        ensures held { IfOk result (λ _. first_lacking (found_at self.now.pairs) (drop held positions.now) ≡ None) }
         ensures read { IfOk result (λ o. option_to_list o ≡ prefix_at (H.hashing hasher.now) self.now held positions.now) }
-        ensures err { IfErr result (λ e. IsPrunedAt (first_lacking self.now.pairs (drop held positions.now)) e) }
+        ensures err { IfErr result (λ e. IsPrunedAt (first_lacking (found_at self.now.pairs) (drop held positions.now)) e) }
     {
         if positions.is_empty() {
             return Ok(None);

@@ -6,7 +6,7 @@ ghost use Rattle.merkle_base.specs.Hashing.{Hashing};
 ghost use Rattle.merkle_base.specs.Places.{peak_positions};
 ghost use Rattle.merkle_base.specs.Root.{right_fold, folded};
 ghost use Rattle.merkle_base.specs.declared.family.Bagging.TheVariants.{ForwardFold};
-ghost use Rattle.merkle_store_theory.specs.StoreProof.{ends_with, first_lacking};
+ghost use Rattle.merkle_store_theory.specs.StoreProof.{found_at, ends_with, first_lacking};
 ghost use Rattle.merkle_verification.specs.PairReads.{IsPrunedAt, read_all};
 ghost use Rattle.merkle_verification.specs.StoreParts.{FitReads, IsOtherSuffix};
 
@@ -65,9 +65,9 @@ pub(crate) fn read_each<F: Family, D: Digest>(
     positions: &[Position<F>],
     out: &mut Vec<D>,
 ) -> Result<(), Error<F>>
-    ensures held { IfOk result (λ _. first_lacking pairs.now positions.now ≡ None) }
+    ensures held { IfOk result (λ _. first_lacking (found_at pairs.now) positions.now ≡ None) }
     ensures read { IfOk result (λ _. (h : Hashing D) → out.new.items ≡ out.old.items ++ read_all h pairs.now positions.now) }
-    ensures err { IfErr result (λ e. e ≢ Error.OutOfMemory → IsPrunedAt (first_lacking pairs.now positions.now) e) }
+    ensures err { IfErr result (λ e. e ≢ Error.OutOfMemory → IsPrunedAt (first_lacking (found_at pairs.now) positions.now) e) }
 {
     for position in positions {
         let Some(digest) = pairs.get(*position) else {
@@ -96,10 +96,10 @@ pub(crate) fn fold_onto<F: Family, H: Hasher<F>>(
     first: Option<H::Digest>,
     positions: &[Position<F>],
 ) -> Result<Option<H::Digest>, Error<F>>
-    ensures held { IfOk result (λ _. first_lacking pairs.now positions.now ≡ None) }
+    ensures held { IfOk result (λ _. first_lacking (found_at pairs.now) positions.now ≡ None) }
     ensures read { let h = H.hashing hasher.now in
         IfOk result (λ o. o ≡ folded h.fold ForwardFold 0 (option_to_list first ++ read_all h pairs.now positions.now)) }
-    ensures err { IfErr result (λ e. IsPrunedAt (first_lacking pairs.now positions.now) e) }
+    ensures err { IfErr result (λ e. IsPrunedAt (first_lacking (found_at pairs.now) positions.now) e) }
 {
     let mut folded = first;
     for position in positions {
@@ -123,10 +123,10 @@ pub(crate) fn bag_onto<F: Family, H: Hasher<F>>(
     last: Option<H::Digest>,
     positions: &[Position<F>],
 ) -> Result<Option<H::Digest>, Error<F>>
-    ensures held { IfOk result (λ _. first_lacking pairs.now (reverse positions.now) ≡ None) }
+    ensures held { IfOk result (λ _. first_lacking (found_at pairs.now) (reverse positions.now) ≡ None) }
     ensures read { let h = H.hashing hasher.now in
         IfOk result (λ o. o ≡ right_fold h.fold (read_all h pairs.now positions.now ++ option_to_list last)) }
-    ensures err { IfErr result (λ e. IsPrunedAt (first_lacking pairs.now (reverse positions.now)) e) }
+    ensures err { IfErr result (λ e. IsPrunedAt (first_lacking (found_at pairs.now) (reverse positions.now)) e) }
 {
     let mut bagged = last;
     let mut index = positions.len();

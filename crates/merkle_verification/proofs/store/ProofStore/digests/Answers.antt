@@ -1,6 +1,6 @@
 use Rattle.std.proofs.Common.{◌++◌, sym, ap, ◌∙◌}
 use Rattle.std.specs.Option.{option_to_list}
-use Rattle.merkle_store_theory.specs.StoreProof.{first_lacking}
+use Rattle.merkle_store_theory.specs.StoreProof.{found_at, first_lacking}
 use Rattle.merkle_store_theory.specs.StoreValue.{StoreValue}
 use Rattle.merkle_verification.specs.PairReads.{read_all}
 use Rattle.merkle_verification.proofs.PartReads.{or_skip, or_take, parts_lack, parts_read}
@@ -14,7 +14,7 @@ returns-in-Err-read_each-clause-err g c = λ other.
     let x = c.in-Err-read_each.ensures.err other in (
       x.0,
       x.1,
-      all ∙ or_skip _ _ _ c.in-Ok.ensures.held (or_take _ _ _ (ap (λ z. first_lacking z p.before.now) same ∙ x.2)),
+      all ∙ or_skip _ _ _ c.in-Ok.ensures.held (or_take _ _ _ (ap (λ z. first_lacking (found_at z) p.before.now) same ∙ x.2)),
     )
 
 pub returns-in-Err-read_each-2-clause-err : goal.returns-in-Err-read_each-2-clause-err
@@ -26,7 +26,7 @@ returns-in-Err-read_each-2-clause-err g c = λ other.
       x.0,
       x.1,
       all ∙ or_skip _ _ _ c.in-Ok.ensures.held
-          (or_skip _ _ _ (ap (λ z. first_lacking z p.before.now) same ∙ c.in_default.ensures.held) (or_take _ _ _ (ap (λ z. first_lacking z p.after.now) same ∙ x.2))),
+          (or_skip _ _ _ (ap (λ z. first_lacking (found_at z) p.before.now) same ∙ c.in_default.ensures.held) (or_take _ _ _ (ap (λ z. first_lacking (found_at z) p.after.now) same ∙ x.2))),
     )
 
 pub returns-in-Err-suffix_digest-clause-err : goal.returns-in-Err-suffix_digest-clause-err
@@ -38,8 +38,8 @@ returns-in-Err-suffix_digest-clause-err g c = λ other.
       x.0,
       x.1,
       all ∙ or_skip _ _ _ c.in-Ok.ensures.held
-          (or_skip _ _ _ (ap (λ z. first_lacking z p.before.now) same ∙ c.in_default.ensures.held)
-          (or_skip _ _ _ (ap (λ z. first_lacking z p.after.now) same ∙ c.in_default-read_each.ensures.held) (or_take _ _ _ x.2))),
+          (or_skip _ _ _ (ap (λ z. first_lacking (found_at z) p.before.now) same ∙ c.in_default.ensures.held)
+          (or_skip _ _ _ (ap (λ z. first_lacking (found_at z) p.after.now) same ∙ c.in_default-read_each.ensures.held) (or_take _ _ _ x.2))),
     )
 
 pub returns-in-Err-read_each-3-clause-err : goal.returns-in-Err-read_each-3-clause-err
@@ -51,9 +51,9 @@ returns-in-Err-read_each-3-clause-err g c = λ other.
       x.0,
       x.1,
       all ∙ or_skip _ _ _ c.in-Ok.ensures.held
-          (or_skip _ _ _ (ap (λ z. first_lacking z p.before.now) same ∙ c.in_default.ensures.held)
-          (or_skip _ _ _ (ap (λ z. first_lacking z p.after.now) same ∙ c.in_default-read_each.ensures.held)
-          (or_skip _ _ _ c.in-Ok-suffix_digest.ensures.held (ap (λ z. first_lacking z p.siblings.now) same ∙ x.2)))),
+          (or_skip _ _ _ (ap (λ z. first_lacking (found_at z) p.before.now) same ∙ c.in_default.ensures.held)
+          (or_skip _ _ _ (ap (λ z. first_lacking (found_at z) p.after.now) same ∙ c.in_default-read_each.ensures.held)
+          (or_skip _ _ _ c.in-Ok-suffix_digest.ensures.held (ap (λ z. first_lacking (found_at z) p.siblings.now) same ∙ x.2)))),
     )
 
 pub returns-clause-held : goal.returns-clause-held
@@ -62,9 +62,9 @@ returns-clause-held g c =
     let all = parts_lack v c.args.counts c.args.held c.args.reads.now p.prefix.now p.before.now p.after.now p.suffix.now p.siblings.now e.prefix e.before e.after e.suffix e.siblings in
     let same = sym (ap (λ (w : StoreValue g.row.D.Denot). w.pairs) c.self.view_is) in
     all ∙ or_skip _ _ _ c.in-Ok.ensures.held
-    (or_skip _ _ _ (ap (λ z. first_lacking z p.before.now) same ∙ c.in_default.ensures.held)
-    (or_skip _ _ _ (ap (λ z. first_lacking z p.after.now) same ∙ c.in_default-read_each.ensures.held)
-    (or_skip _ _ _ c.in-Ok-suffix_digest.ensures.held (ap (λ z. first_lacking z p.siblings.now) same ∙ c.in_default-read_each-2.ensures.held))))
+    (or_skip _ _ _ (ap (λ z. first_lacking (found_at z) p.before.now) same ∙ c.in_default.ensures.held)
+    (or_skip _ _ _ (ap (λ z. first_lacking (found_at z) p.after.now) same ∙ c.in_default-read_each.ensures.held)
+    (or_skip _ _ _ c.in-Ok-suffix_digest.ensures.held (ap (λ z. first_lacking (found_at z) p.siblings.now) same ∙ c.in_default-read_each-2.ensures.held))))
 
 pub returns-clause-read : goal.returns-clause-read
 returns-clause-read g c =
