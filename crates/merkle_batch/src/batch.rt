@@ -13,9 +13,8 @@ ghost use Rattle.merkle_base.specs.Tree.{Tree, position};
 ghost use Rattle.merkle_batch_theory.specs.Contents.{AgreesWithOne};
 ghost use Rattle.merkle_batch_theory.specs.Missing.{IsMissing};
 ghost use Rattle.merkle_batch_theory.specs.Needed.{computed_nodes};
-ghost use Rattle.merkle_batch_theory.specs.Unmerkleized.{Fault, first_fault, forked, kept, kept_lists, leaf_total, pending_list, update_fault, with_entries, with_leaf, with_leaves, with_update, with_updates, without_ancestors};
+ghost use Rattle.merkle_batch_theory.specs.Unmerkleized.{first_error, forked, kept, kept_lists, leaf_total, pending_list, update_error, with_entries, with_leaf, with_leaves, with_update, with_updates, without_ancestors};
 ghost use Rattle.merkle_batch_theory.specs.Records.{after, records};
-ghost use Rattle.merkle_batch_theory.specs.Refusals.{fault_error};
 ghost use Rattle.merkle_range.specs.Input.{leaf_digests};
 ghost use Rattle.merkle_batch_theory.specs.History.{IsHistory, last_list};
 
@@ -248,8 +247,8 @@ impl<F: Family, D: Digest> UnmerkleizedBatch<F, D> {
 
     // Checks that a location is that of a leaf of the batch that is not pruned.
     fn check_update(&self, location: Location<F>) -> Result<(), Error<F>>
-        ensures ok { IfOk result (λ _. update_fault F.rule self.now location ≡ None) }
-        ensures err { IfErr result (λ e. (fault : Fault) × (update_fault F.rule self.now location ≡ Some fault) × (e ≡ fault_error fault)) }
+        ensures ok { IfOk result (λ _. update_error {F = F} F.rule self.now location ≡ None) }
+        ensures err { IfErr result (λ e. update_error F.rule self.now location ≡ Some e) }
     {
         if location >= self.leaves() {
             return Err(Error::LeafOutOfBounds(location));
@@ -275,8 +274,8 @@ impl<F: Family, D: Digest> UnmerkleizedBatch<F, D> {
         ensures updated { IfOk result (λ b. b ≡ with_update F.rule self location ((H.hashing hasher.now).leaf (size F.rule location) element.now)) }
         ensures edited { let digest = (H.hashing hasher.now).leaf (size F.rule location) element.now in IfOk result (λ b. (X : List D)
             → length X ≡ self.leaves_before → pending_list F.rule b X ≡ slice_set (pending_list F.rule self X) location digest) }
-        ensures refused { (fault : Fault) → update_fault F.rule self location ≡ Some fault → result ≡ Err (fault_error fault) }
-        ensures allowed { update_fault F.rule self location ≡ None → IsOkUnless result Error.OutOfMemory }
+        ensures refused { (e : Error F) → update_error F.rule self location ≡ Some e → result ≡ Err e }
+        ensures allowed { update_error {F = F} F.rule self location ≡ None → IsOkUnless result Error.OutOfMemory }
     {
         match self.check_update(location) {
             Ok(()) => {
@@ -301,8 +300,8 @@ impl<F: Family, D: Digest> UnmerkleizedBatch<F, D> {
         ensures updated { IfOk result (λ b. b ≡ with_update F.rule self location digest) }
         ensures edited { IfOk result (λ b. (X : List D) → length X ≡ self.leaves_before
             → pending_list F.rule b X ≡ slice_set (pending_list F.rule self X) location digest) }
-        ensures refused { (fault : Fault) → update_fault F.rule self location ≡ Some fault → result ≡ Err (fault_error fault) }
-        ensures allowed { update_fault F.rule self location ≡ None → IsOkUnless result Error.OutOfMemory }
+        ensures refused { (e : Error F) → update_error F.rule self location ≡ Some e → result ≡ Err e }
+        ensures allowed { update_error {F = F} F.rule self location ≡ None → IsOkUnless result Error.OutOfMemory }
     {
         match self.check_update(location) {
             Ok(()) => {}
@@ -331,8 +330,8 @@ impl<F: Family, D: Digest> UnmerkleizedBatch<F, D> {
         ensures updated { IfOk result (λ b. b ≡ with_updates F.rule self updates.now) }
         ensures edited { IfOk result (λ b. (X : List D) → length X ≡ self.leaves_before
             → pending_list F.rule b X ≡ with_entries (pending_list F.rule self X) updates.now) }
-        ensures refused { (fault : Fault) → first_fault F.rule self updates.now ≡ Some fault → result ≡ Err (fault_error fault) }
-        ensures allowed { first_fault F.rule self updates.now ≡ None → IsOkUnless result Error.OutOfMemory }
+        ensures refused { (e : Error F) → first_error F.rule self updates.now ≡ Some e → result ≡ Err e }
+        ensures allowed { first_error {F = F} F.rule self updates.now ≡ None → IsOkUnless result Error.OutOfMemory }
     {
         for (location, _) in updates {
             match self.check_update(*location) {

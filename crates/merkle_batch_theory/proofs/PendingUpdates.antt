@@ -13,7 +13,8 @@ use Rattle.std.proofs.lemmas.Bool.Decides.{nat_tests}
 use Rattle.std.proofs.lemmas.List.{length-set, set-append_left, set-append_right}
 use Rattle.merkle_base.specs.Forest.{size}
 use Rattle.merkle_base.proofs.Nodes.{size_inj}
-use Rattle.merkle_batch_theory.specs.Unmerkleized.{UnmerkleizedModel, IsUnmerkleizedValid, OutOfBounds, Pruned, leaf_total, with_update, with_updates, update_fault, first_fault, pending_list, with_entries, with_leaves}
+use Rattle.merkle_base.specs.declared.error.Error.TheVariants as error
+use Rattle.merkle_batch_theory.specs.Unmerkleized.{UnmerkleizedModel, IsUnmerkleizedValid, leaf_total, with_update, with_updates, update_error, first_error, pending_list, with_entries, with_leaves}
 use Rattle.merkle_batch_theory.specs.Replay.{overwritten_by}
 use Rattle.merkle_batch_theory.specs.History.{replaced}
 use Rattle.merkle_batch_theory.proofs.Steps.{replaced_length}
@@ -96,14 +97,14 @@ module _ {D : Type 0} (rule : List ℕ → List ℕ) where
   pub leaves_list : (p : UnmerkleizedModel D) (ds : List D) (X : List D) → pending_list rule (with_leaves p ds) X ≡ pending_list rule p X ++ ds
   leaves_list p ds X = sym (append_assoc (replaced rule (get p.overwritten) 0 X) p.added ds)
 
-  -- ---- faults
-  pub out_of_bounds : (p : UnmerkleizedModel D) (k : ℕ) → leaf_total p ≤ k → update_fault rule p k ≡ Some (OutOfBounds k)
-  out_of_bounds p k l = ap (λ b. cond b (Some (OutOfBounds k)) (cond (ltb k p.parent.boundary) (Some (Pruned (size rule k))) None)) (le-leb (leaf_total p) k l)
+  -- ---- errors
+  pub out_of_bounds : {F : Type 0} (p : UnmerkleizedModel D) (k : ℕ) → leaf_total p ≤ k → update_error {F = F} rule p k ≡ Some (error.LeafOutOfBounds k)
+  out_of_bounds p k l = ap (λ b. cond b (Some (error.LeafOutOfBounds k)) (cond (ltb k p.parent.boundary) (Some (error.ElementPruned (size rule k))) None)) (le-leb (leaf_total p) k l)
 
-  pub pruned_fault : (p : UnmerkleizedModel D) (k : ℕ) → k < leaf_total p → k < p.parent.boundary → update_fault rule p k ≡ Some (Pruned (size rule k))
-  pruned_fault p k l m =
-      ap (λ b. cond b (Some (OutOfBounds k)) (cond (ltb k p.parent.boundary) (Some (Pruned (size rule k))) None)) (lt-leb (leaf_total p) k l)
-      ∙ ap (λ b. cond b (Some (Pruned (size rule k))) None) (lt-ltb k p.parent.boundary m)
+  pub pruned_error : {F : Type 0} (p : UnmerkleizedModel D) (k : ℕ) → k < leaf_total p → k < p.parent.boundary → update_error {F = F} rule p k ≡ Some (error.ElementPruned (size rule k))
+  pruned_error p k l m =
+      ap (λ b. cond b (Some (error.LeafOutOfBounds k)) (cond (ltb k p.parent.boundary) (Some (error.ElementPruned (size rule k))) None)) (lt-leb (leaf_total p) k l)
+      ∙ ap (λ b. cond b (Some (error.ElementPruned (size rule k))) None) (lt-ltb k p.parent.boundary m)
 
   -- an update keeps the number of leaves and the parent
   pub total_kept : (p : UnmerkleizedModel D) (k : ℕ) (d : D) → leaf_total (with_update rule p k d) ≡ leaf_total p
@@ -119,10 +120,10 @@ module _ {D : Type 0} (rule : List ℕ → List ℕ) where
       (λ _. refl) (λ _. refl)
 
   -- ---- several updates
-  pub fault_next : (p : UnmerkleizedModel D) (us : List (ℕ × D)) (i : ℕ) (u : ℕ × D) → i < length us → u ≡ get_or us i u → first_fault rule p (drop i us) ≡ option_or (update_fault rule p u.0) (first_fault rule p (drop (i + 1) us))
-  fault_next p us i u l e =
-      ap (first_fault rule p) (drop-cons us i u l) ∙ ap (λ v. option_or (update_fault rule p v.0) (first_fault rule p (drop (suc i) us))) (sym e)
-      ∙ ap (λ (n : ℕ). option_or (update_fault rule p u.0) (first_fault rule p (drop n us))) (sym (add-one i))
+  pub error_next : {F : Type 0} (p : UnmerkleizedModel D) (us : List (ℕ × D)) (i : ℕ) (u : ℕ × D) → i < length us → u ≡ get_or us i u → first_error {F = F} rule p (drop i us) ≡ option_or (update_error rule p u.0) (first_error rule p (drop (i + 1) us))
+  error_next {F = F} p us i u l e =
+      ap (first_error {F = F} rule p) (drop-cons us i u l) ∙ ap (λ v. option_or (update_error rule p v.0) (first_error rule p (drop (suc i) us))) (sym e)
+      ∙ ap (λ (n : ℕ). option_or (update_error rule p u.0) (first_error rule p (drop n us))) (sym (add-one i))
 
   pub updates_next : (p : UnmerkleizedModel D) (us : List (ℕ × D)) (i : ℕ) (u : ℕ × D) → i < length us → u ≡ get_or us i u → with_updates rule p (drop i us) ≡ with_updates rule (with_update rule p u.0 u.1) (drop (i + 1) us)
   updates_next p us i u l e =

@@ -8,9 +8,10 @@ use Rattle.merkle_base.specs.Tree.{position}
 use Rattle.merkle_base.specs.Forest.{forest, size}
 use Rattle.merkle_base.proofs.Nodes.{size_le}
 use Rattle.merkle_base.specs.Places.{peak_positions}
+use Rattle.merkle_base.specs.declared.error.Error.{Error}
 use Rattle.merkle_batch_theory.specs.Contents.{Contents, is_kept, pruned, held_peaks}
 use Rattle.merkle_batch_theory.specs.Records.{RecordModel, MerkleizedModel, records}
-use Rattle.merkle_batch_theory.specs.Replay.{with_record, with_records, matched, refusal, applied, Refusal}
+use Rattle.merkle_batch_theory.specs.Replay.{with_record, with_records, matched, apply_error, applied}
 use Rattle.merkle_batch_theory.proofs.ListFacts.{get_reversed}
 use Rattle.merkle_batch_theory.proofs.Kept.{kept_from, kept_before, kept_peak, get_mapped}
 use Rattle.merkle_batch_theory.proofs.Agreed.{over_cond}
@@ -57,17 +58,17 @@ module _ {D : Type 0} (rule : List ℕ → List ℕ) where
   pub size_pruned : (b : ℕ) (c : Contents D) → (pruned rule b c).size ≡ c.size
   size_pruned b c = by_test (λ t. (cond t (kept_of b c) c).size ≡ c.size) (ltb c.boundary b) (λ e. refl) (λ e. refl)
 
-  after_match : (b : ℕ) (k : MerkleizedModel D) (c : Contents D) (o : Option ℕ) → size rule b ≤ c.size →
-      ◌≡◌ {A = Result (Contents D) Refusal} (elim o [ Some i ↦ Ok (with_records (drop i (records k)) (pruned rule b c)) | None ↦ Err (refusal c.size k) ])
-      (elim (elim o as (λ _. Result (Contents D) Refusal) [ Some i ↦ Ok (with_records (drop i (records k)) c) | None ↦ Err (refusal c.size k) ]) [ Ok a ↦ Ok (pruned rule b a) | Err e ↦ Err e ])
+  after_match : {F : Type 0} (b : ℕ) (k : MerkleizedModel D) (c : Contents D) (o : Option ℕ) → size rule b ≤ c.size →
+      ◌≡◌ {A = Result (Contents D) (Error F)} (elim o [ Some i ↦ Ok (with_records (drop i (records k)) (pruned rule b c)) | None ↦ Err (apply_error c.size k) ])
+      (elim (elim o as (λ _. Result (Contents D) (Error F)) [ Some i ↦ Ok (with_records (drop i (records k)) c) | None ↦ Err (apply_error c.size k) ]) [ Ok a ↦ Ok (pruned rule b a) | Err e ↦ Err e ])
   after_match b k c None l = refl
   after_match b k c (Some i) l = ap Ok (with_records_pruned b (drop i (records k)) c l)
 
   -- prune then apply equals apply then prune
-  pub applied_pruned : (same : D → D → Bool) (n b : ℕ) (k : MerkleizedModel D) (c : Contents D) → c.size ≡ size rule n → b ≤ n →
-      applied same rule n k (pruned rule b c) ≡ elim (applied same rule n k c) [ Ok a ↦ Ok (pruned rule b a) | Err e ↦ Err e ]
-  applied_pruned same n b k c s l =
+  pub applied_pruned : {F : Type 0} (same : D → D → Bool) (n b : ℕ) (k : MerkleizedModel D) (c : Contents D) → c.size ≡ size rule n → b ≤ n →
+      applied {F = F} same rule n k (pruned rule b c) ≡ elim (applied same rule n k c) [ Ok a ↦ Ok (pruned rule b a) | Err e ↦ Err e ]
+  applied_pruned {F = F} same n b k c s l =
       let same_size : (pruned rule b c).size ≡ c.size = size_pruned b c in
       let same_peaks : held_peaks rule n (pruned rule b c) ≡ held_peaks rule n c = peaks_pruned b n c l in
-      (λ x. elim (matched same (same_size x) (same_peaks x) k) as (λ _. Result (Contents D) Refusal) [ Some i ↦ Ok (with_records (drop i (records k)) (pruned rule b c)) | None ↦ Err (refusal (same_size x) k) ])
+      (λ x. elim (matched same (same_size x) (same_peaks x) k) as (λ _. Result (Contents D) (Error F)) [ Some i ↦ Ok (with_records (drop i (records k)) (pruned rule b c)) | None ↦ Err (apply_error (same_size x) k) ])
       ∙ after_match b k c (matched same c.size (held_peaks rule n c) k) (omega (arith, s, size_le rule b n l))

@@ -106,5 +106,5 @@ module _ {D X : Type 0} (rule : List ℕ → List ℕ) (max_leaves : ℕ) (same 
         (with_records_held rule (drop first (records c)) (held_contents boundary old) within kept.holds))
 
   -- and the batch is applied
-  pub applied_after : (k : ℕ) (old mid new : Contents D) → mid ≡ with_records kept_part old → new ≡ with_record c.own mid → matched same old.size (held_peaks rule k old) c ≡ Some first → applied same rule k c old ≡ Ok new
+  pub applied_after : {F : Type 0} (k : ℕ) (old mid new : Contents D) → mid ≡ with_records kept_part old → new ≡ with_record c.own mid → matched same old.size (held_peaks rule k old) c ≡ Some first → applied {F = F} same rule k c old ≡ Ok new
   applied_after k old mid new laid1 laid2 at = rw (applied, at) (ap Ok (sym (all_records old mid new laid1 laid2)))

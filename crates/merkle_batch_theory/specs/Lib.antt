@@ -12,7 +12,6 @@ pub mod Unmerkleized
 pub mod MemValid
 pub mod Assignment
 pub mod HeldPeaks
-pub mod Refusals
 pub mod Rows
 pub mod Missing
 pub mod BatchValid

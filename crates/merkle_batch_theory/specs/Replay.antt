@@ -3,6 +3,8 @@ use Rattle.std.specs.Prelude.{ℕ, suc, ◌+◌, ◌-◌, List, [], ◌∷◌, l
 use Rattle.std.specs.Cmp.Lexicographic.{pointwise}
 use Rattle.std.specs.Option.{unwrap_or}
 use Rattle.std.specs.FinMap.{get}
+use Rattle.merkle_base.specs.declared.error.Error.{Error}
+use Rattle.merkle_base.specs.declared.error.Error.TheVariants as error
 use Rattle.merkle_batch_theory.specs.Contents.{Contents, held_peaks}
 use Rattle.merkle_batch_theory.specs.Records.{RecordModel, MerkleizedModel, records, after}
 
@@ -46,16 +48,14 @@ ends_at same size peaks r = (size == after r) && pointwise same peaks r.peaks_af
 abbrev pub matched : {D : Type 0} → (D → D → Bool) → ℕ → List D → MerkleizedModel D → Option ℕ
 matched same size peaks b = cond (begins_at same size peaks (oldest b)) (Some 0) (last_match (ends_at same size peaks) b.ancestors)
 
-pub data Refusal : Type 0 where
-  AncestorDropped : (expected actual : ℕ) → Refusal
-  StaleBatch : (expected actual : ℕ) → Refusal
+-- why a batch is not applied to a structure of this size
+abbrev pub apply_error : {F D : Type 0} → ℕ → MerkleizedModel D → Error F
+apply_error size b =
+    cond (nat_le b.base_size size && nat_lt size (oldest b).before) (error.AncestorDropped (after b.own) size) (error.StaleBatch b.base_size size)
 
-abbrev pub refusal : {D : Type 0} → ℕ → MerkleizedModel D → Refusal
-refusal size b = cond (nat_le b.base_size size && nat_lt size (oldest b).before) (AncestorDropped (after b.own) size) (StaleBatch b.base_size size)
-
--- a `Mem` of n leaves after a batch, or the refusal
-abbrev pub applied : {D : Type 0} → (D → D → Bool) → (List ℕ → List ℕ) → ℕ → MerkleizedModel D → Contents D → Result (Contents D) Refusal
+-- a `Mem` of n leaves after a batch, or the error
+abbrev pub applied : {F D : Type 0} → (D → D → Bool) → (List ℕ → List ℕ) → ℕ → MerkleizedModel D → Contents D → Result (Contents D) (Error F)
 applied same rule n b c = elim (matched same c.size (held_peaks rule n c) b) [
   | Some i ↦ Ok (with_records (drop i (records b)) c)
-  | None ↦ Err (refusal c.size b)
+  | None ↦ Err (apply_error c.size b)
 ]

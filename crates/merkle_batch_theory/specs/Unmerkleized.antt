@@ -5,6 +5,8 @@ use Rattle.std.specs.FinMap.{FinMap, empty, get, insert, len, code}
 use Rattle.std.specs.Option.{option_or}
 use Rattle.std.specs.Coded.{Coded, code_by, coded×, coded_ℕ, coded_list}
 use Rattle.merkle_base.specs.Forest.{size}
+use Rattle.merkle_base.specs.declared.error.Error.{Error}
+use Rattle.merkle_base.specs.declared.error.Error.TheVariants as error
 use Rattle.merkle_batch_theory.specs.Records.{RecordModel, MerkleizedModel, merkleized_model_code}
 use Rattle.merkle_batch_theory.specs.History.{replaced}
 
@@ -52,19 +54,15 @@ abbrev pub with_updates : {D : Type 0} → (List ℕ → List ℕ) → Unmerklei
 with_updates rule p [] = p
 with_updates rule p (u ∷ us) = with_updates rule (with_update rule p u.0 u.1) us
 
--- why a leaf is not updated: there is no leaf at that location, or the one at that position is pruned
-pub data Fault : Type 0 where
-  OutOfBounds : (location : ℕ) → Fault
-  Pruned : (position : ℕ) → Fault
+-- why the leaf at location k is not updated: there is no such leaf, or it is pruned
+abbrev pub update_error : {F D : Type 0} → (List ℕ → List ℕ) → UnmerkleizedModel D → ℕ → Option (Error F)
+update_error rule p k =
+    cond (nat_le (leaf_total p) k) (Some (error.LeafOutOfBounds k)) (cond (nat_lt k p.parent.boundary) (Some (error.ElementPruned (size rule k))) None)
 
--- why the leaf at location k is not updated
-abbrev pub update_fault : {D : Type 0} → (List ℕ → List ℕ) → UnmerkleizedModel D → ℕ → Option Fault
-update_fault rule p k = cond (nat_le (leaf_total p) k) (Some (OutOfBounds k)) (cond (nat_lt k p.parent.boundary) (Some (Pruned (size rule k))) None)
-
--- the first fault of some updates
-abbrev pub first_fault : {D : Type 0} → (List ℕ → List ℕ) → UnmerkleizedModel D → List (ℕ × D) → Option Fault
-first_fault rule p [] = None
-first_fault rule p (u ∷ us) = option_or (update_fault rule p u.0) (first_fault rule p us)
+-- the first error of some updates
+abbrev pub first_error : {F D : Type 0} → (List ℕ → List ℕ) → UnmerkleizedModel D → List (ℕ × D) → Option (Error F)
+first_error rule p [] = None
+first_error rule p (u ∷ us) = option_or (update_error rule p u.0) (first_error rule p us)
 
 -- the batch without n more of its parent's oldest ancestors
 abbrev pub without_ancestors : {D : Type 0} → UnmerkleizedModel D → ℕ → UnmerkleizedModel D

@@ -14,7 +14,7 @@ ghost use Rattle.merkle_batch_theory.specs.Contents.{Contents, Agrees, HoldsKept
 ghost use Rattle.merkle_batch_theory.specs.Components.{AreComponents, made_of};
 ghost use Rattle.merkle_batch_theory.specs.MemModel.{contents, no_leaves};
 ghost use Rattle.merkle_batch_theory.specs.Applying.{IsAppliedTo};
-ghost use Rattle.merkle_batch_theory.specs.Unmerkleized.{UnmerkleizedModel, OutOfBounds, Pruned, kept, kept_lists, pending_list, update_fault, first_fault, forked, with_entries, with_updates, without_ancestors};
+ghost use Rattle.merkle_batch_theory.specs.Unmerkleized.{UnmerkleizedModel, kept, kept_lists, pending_list, update_error, first_error, forked, with_entries, with_updates, without_ancestors};
 ghost use Rattle.merkle_batch_theory.specs.Records.{RecordModel, MerkleizedModel, records, after};
 ghost use Rattle.merkle_batch_theory.specs.Replay.{with_record, with_records, matched, applied};
 ghost use Rattle.merkle_batch_theory.specs.History.{IsHistory, last_list, edited, replaced, leaves_among, is_dirty, IsStep};
@@ -29,7 +29,8 @@ ghost use Rattle.merkle_base.specs.Root.{list_root};
 ghost use Rattle.merkle_base.specs.declared.family.Bagging.TheVariants.{ForwardFold, BackwardFold};
 ghost use Rattle.merkle_forest_theory.specs.Mmr.{mmr_merges};
 ghost use Rattle.merkle_batch_theory.specs.Rows.{xor, xor_scheme, first_record, second_record, second_batch, nothing, one, two, at_two, five, change, exchange, exchanging, two_exchanged, addition, exchanged_batch, fourth, over_exchange, over_pruned};
-ghost use Rattle.merkle_batch_theory.specs.Replay.{refusal, AncestorDropped, StaleBatch};
+ghost use Rattle.merkle_base.specs.declared.error.Error.TheVariants.{AncestorDropped, ElementPruned, LeafOutOfBounds, StaleBatch};
+ghost use Rattle.merkle_batch_theory.specs.Replay.{apply_error};
 ghost use Rattle.merkle_batch_theory.specs.Roots.{root_batch};
 
 /// A node that is kept at a later boundary is kept at an earlier one.
@@ -66,10 +67,10 @@ pub fn components<D>()
 {}
 
 /// Pruning and then applying equals applying and then pruning, whatever the records are.
-pub fn commuting<D>()
+pub fn commuting<F, D>()
     ensures same { (a b : Contents D) → a.boundary ≡ b.boundary → a.size ≡ b.size → ((p : ℕ) → a.node p ≡ b.node p) → a ≡ b }
     ensures commutes { (same : D → D → Bool) → (rule : List ℕ → List ℕ) → (n b : ℕ) → (k : MerkleizedModel D) → (c : Contents D) → c.size ≡ size rule n → b ≤ n
-        → applied same rule n k (pruned rule b c) ≡ elim (applied same rule n k c) [ Ok a ↦ Ok (pruned rule b a) | Err e ↦ Err e ] }
+        → applied {F = F} same rule n k (pruned rule b c) ≡ elim (applied same rule n k c) [ Ok a ↦ Ok (pruned rule b a) | Err e ↦ Err e ] }
 {}
 
 /// Two lists of the same length with the same peak digests are equal, or collide at a node.
@@ -81,7 +82,7 @@ pub fn collision<D>()
 /// A batch with a history of lists is accepted at one of them, which has the length and the peak
 /// digests of the list of the `Mem`. If it is that list, the `Mem` then agrees with the last list;
 /// if it is not, the two lists collide at a node.
-pub fn acceptance<D>()
+pub fn acceptance<F, D>()
     ensures accepted { (h : Hashing D) → (rule : List ℕ → List ℕ) → EqDecides h
         → (k : MerkleizedModel D) → (ls : List (List D)) → (c : Contents D) → (X : List D) → (i : ℕ)
         → IsHistory h rule (records k) ls → Agrees h rule c X → matched h.same c.size (held_peaks rule (length X) c) k ≡ Some i
@@ -89,7 +90,7 @@ pub fn acceptance<D>()
         × (X ≡ Z → Agrees h rule (with_records (drop i (records k)) c) (last_list ls)) × ((X ≡ Z → ⊥) → Collide h rule X Z) }
     ensures applied { (h : Hashing D) → (rule : List ℕ → List ℕ) → EqDecides h
         → (k : MerkleizedModel D) → (ls : List (List D)) → (c d : Contents D) → (X : List D)
-        → IsHistory h rule (records k) ls → Agrees h rule c X → applied h.same rule (length X) k c ≡ Ok d → IsAppliedTo h rule k ls X c d }
+        → IsHistory h rule (records k) ls → Agrees h rule c X → applied {F = F} h.same rule (length X) k c ≡ Ok d → IsAppliedTo h rule k ls X c d }
     ensures accepts { (h : Hashing D) → (rule : List ℕ → List ℕ) → EqDecides h
         → (k : MerkleizedModel D) → (ls : List (List D)) → (c : Contents D) → (X : List D) → (i : ℕ)
         → IsHistory h rule (records k) ls → slice_get ls i ≡ Some X → i ≤ length k.ancestors → Agrees h rule c X
@@ -253,9 +254,9 @@ pub fn worked_rows()
     ensures reads { map (newest (first_record ∷ second_record ∷ [])) (range_with_len 0 5) ≡ Some 17 ∷ Some 3 ∷ Some 16 ∷ Some 7 ∷ None ∷ [] }
     ensures matched { matched xor.same 0 [] second_batch ≡ Some 0 }
     ensures matched_later { matched xor.same 3 (0 ∷ []) second_batch ≡ Some 1 }
-    ensures stale { (matched xor.same 4 (16 ∷ 7 ∷ []) second_batch ≡ None) × (refusal 4 second_batch ≡ StaleBatch 0 4) }
-    ensures dropped { refusal 0 (record second_batch { ancestors = [] }) ≡ AncestorDropped 4 0 }
-    ensures stale_of_that_size { refusal 3 (record second_batch { ancestors = [] }) ≡ StaleBatch 0 3 }
+    ensures stale { (matched xor.same 4 (16 ∷ 7 ∷ []) second_batch ≡ None) × (apply_error {F = ℕ} 4 second_batch ≡ StaleBatch 0 4) }
+    ensures dropped { apply_error {F = ℕ} 0 (record second_batch { ancestors = [] }) ≡ AncestorDropped 4 0 }
+    ensures stale_of_that_size { apply_error {F = ℕ} 3 (record second_batch { ancestors = [] }) ≡ StaleBatch 0 3 }
     ensures applies { map (with_records (first_record ∷ second_record ∷ []) nothing).node (range_with_len 0 5)
         ≡ Some 17 ∷ Some 3 ∷ Some 16 ∷ Some 7 ∷ None ∷ [] }
     ensures prunes { map (with_record change (pruned mmr_merges 4 five)).node (range_with_len 0 9)
@@ -271,10 +272,10 @@ pub fn worked_rows()
     ensures exchange_collides { Collide xor mmr_merges (1 ∷ 3 ∷ []) (3 ∷ 1 ∷ []) }
     ensures exchange_matched { matched xor.same 3 (0 ∷ []) exchanging ≡ Some 0 }
     ensures own_agrees { Agrees xor mmr_merges two (1 ∷ 3 ∷ []) }
-    ensures own_applies { applied xor.same mmr_merges 2 exchanging two ≡ Ok (with_record exchange two) }
+    ensures own_applies { applied {F = ℕ} xor.same mmr_merges 2 exchanging two ≡ Ok (with_record exchange two) }
     ensures own_before { Agrees xor mmr_merges two (3 ∷ 1 ∷ []) → ⊥ }
     ensures foreign_agrees { Agrees xor mmr_merges two_exchanged (3 ∷ 1 ∷ []) }
-    ensures foreign_applies { applied xor.same mmr_merges 2 exchanging two_exchanged ≡ Ok (with_record exchange two_exchanged) }
+    ensures foreign_applies { applied {F = ℕ} xor.same mmr_merges 2 exchanging two_exchanged ≡ Ok (with_record exchange two_exchanged) }
 
     // With a third leaf added after the exchange, the structure of the first list is accepted at
     // the second one, and then agrees with no list of the batch.
@@ -308,10 +309,10 @@ pub fn worked_rows()
     // the state before the oldest record.
     ensures matched_newest { matched xor.same 3 (0 ∷ []) exchanged_batch ≡ Some 2 }
     ensures matched_oldest { matched xor.same 3 (0 ∷ []) (record exchanged_batch { ancestors = exchange ∷ [] }) ≡ Some 0 }
-    ensures accepts_later { applied xor.same mmr_merges 2 second_batch two ≡ Ok (with_record second_record two) }
-    ensures stale_below { refusal 3 (root_batch mmr_merges 5 five) ≡ StaleBatch 8 3 }
+    ensures accepts_later { applied {F = ℕ} xor.same mmr_merges 2 second_batch two ≡ Ok (with_record second_record two) }
+    ensures stale_below { apply_error {F = ℕ} 3 (root_batch mmr_merges 5 five) ≡ StaleBatch 8 3 }
     ensures forks { ((forked second_batch).leaves_before ≡ 3) × ((root_batch mmr_merges 5 five).leaves ≡ 5) }
-    ensures refuses { applied xor.same mmr_merges 1 second_batch one ≡ Err (StaleBatch 0 1) }
+    ensures refuses { applied {F = ℕ} xor.same mmr_merges 1 second_batch one ≡ Err (StaleBatch 0 1) }
     ensures agrees { Agrees xor mmr_merges (pruned mmr_merges 4 five) (1 ∷ 3 ∷ 0 ∷ 0 ∷ 2 ∷ []) }
 
     // With a different leaf, with pruned nodes, without a node, with fewer nodes, and pruned past
@@ -337,10 +338,10 @@ pub fn worked_rows()
     // Of several updates of one leaf the last one is kept, for an old leaf and for an added one.
     ensures updates { pending_list mmr_merges (with_updates mmr_merges fourth ((2, 5) ∷ (3, 6) ∷ (2, 8) ∷ (3, 4) ∷ [])) (3 ∷ 1 ∷ 7 ∷ []) ≡ 3 ∷ 1 ∷ 8 ∷ 4 ∷ [] }
     ensures sets { with_entries {D = ℕ} (3 ∷ 1 ∷ 7 ∷ []) ((2, 5) ∷ (0, 6) ∷ (2, 8) ∷ []) ≡ 6 ∷ 1 ∷ 8 ∷ [] }
-    ensures faults { map (update_fault mmr_merges (over_pruned 5)) (0 ∷ 3 ∷ 4 ∷ 5 ∷ []) ≡ Some (Pruned 0) ∷ Some (Pruned 4) ∷ None ∷ Some (OutOfBounds 5) ∷ [] }
-    ensures first_of_faults { first_fault mmr_merges (over_pruned 5) ((4, 1) ∷ (5, 1) ∷ (3, 1) ∷ []) ≡ Some (OutOfBounds 5) }
+    ensures errors { map (update_error {F = ℕ} mmr_merges (over_pruned 5)) (0 ∷ 3 ∷ 4 ∷ 5 ∷ []) ≡ Some (ElementPruned 0) ∷ Some (ElementPruned 4) ∷ None ∷ Some (LeafOutOfBounds 5) ∷ [] }
+    ensures first_of_errors { first_error {F = ℕ} mmr_merges (over_pruned 5) ((4, 1) ∷ (5, 1) ∷ (3, 1) ∷ []) ≡ Some (LeafOutOfBounds 5) }
 
     // With fewer leaves than were pruned, which no sequence of calls leads to, both errors apply,
     // and the missing leaf is reported.
-    ensures both_faults { update_fault mmr_merges (over_pruned 2) 3 ≡ Some (OutOfBounds 3) }
+    ensures both_errors { update_error {F = ℕ} mmr_merges (over_pruned 2) 3 ≡ Some (LeafOutOfBounds 3) }
 {}

@@ -2,8 +2,7 @@
 ghost use Rattle.std.specs.Prelude.{◌≡◌, ℕ, List, Option, map, ◌&&◌, ◌==◌};
 ghost use Rattle.std.specs.Cmp.Lexicographic.{pointwise};
 ghost use Rattle.merkle_batch_theory.specs.Records.{RecordModel};
-ghost use Rattle.merkle_batch_theory.specs.Refusals.{refusal_error};
-ghost use Rattle.merkle_batch_theory.specs.Replay.{ends_at, last_match, matched, oldest, refusal};
+ghost use Rattle.merkle_batch_theory.specs.Replay.{apply_error, ends_at, last_match, matched, oldest};
 
 use merkle_base::error::Error;
 use merkle_base::family::Family;
@@ -80,7 +79,7 @@ pub(crate) fn refusal<F: Family, D: Digest>(
     size: Position<F>,
     batch: &MerkleizedBatch<F, D>,
 ) -> Error<F>
-    ensures { result ≡ refusal_error (refusal size batch.now) }
+    ensures { result ≡ apply_error size batch.now }
 {
     if batch.base_size <= size && size < oldest_record(batch).size_before {
         return Error::AncestorDropped {

@@ -13,8 +13,7 @@ ghost use Rattle.merkle_batch_theory.specs.Unmerkleized.{forked};
 ghost use Rattle.merkle_batch_theory.specs.Roots.{root_batch};
 ghost use Rattle.merkle_batch_theory.specs.Records.{records};
 ghost use Rattle.merkle_batch_theory.specs.History.{IsHistory, last_list};
-ghost use Rattle.merkle_batch_theory.specs.Replay.{applied, matched, refusal};
-ghost use Rattle.merkle_batch_theory.specs.Refusals.{refusal_error};
+ghost use Rattle.merkle_batch_theory.specs.Replay.{applied, apply_error, matched};
 ghost use Rattle.merkle_proof.specs.ProofRefusals.{IsProofRefusal, IsRangeRefusal};
 ghost use Rattle.merkle_root_theory.specs.Range.{IsHonestRange};
 ghost use Rattle.merkle_proof.specs.RangePlans.{IsBuildRefusal, IsBuiltProof, LeafRange, list_input};
@@ -378,12 +377,12 @@ impl<F: Family, D: Digest> Mem<F, D> {
     /// On error the structure is unchanged.
     pub fn apply_batch(&mut self, batch: &MerkleizedBatch<F, D>) -> Result<(), Error<F>>
         ensures unchanged { OnErr result (self.new ≡ self.old) }
-        ensures done { OnOk result (applied D.eq F.rule self.old.leaves batch.now (contents self.old) ≡ Ok (contents self.new)) }
+        ensures done { OnOk result (applied {F = F} D.eq F.rule self.old.leaves batch.now (contents self.old) ≡ Ok (contents self.new)) }
         ensures counted { OnOk result (self.new.leaves ≡ batch.now.leaves) }
         ensures accepted { let peaks = held_peaks F.rule self.old.leaves (contents self.old) in
             is_some (matched D.eq self.old.size peaks batch.now) ≡ true → IsOkUnless result Error.OutOfMemory }
         ensures refused { let peaks = held_peaks F.rule self.old.leaves (contents self.old) in
-            matched D.eq self.old.size peaks batch.now ≡ None → result ≡ Err (refusal_error (refusal self.old.size batch.now)) }
+            matched D.eq self.old.size peaks batch.now ≡ None → result ≡ Err (apply_error self.old.size batch.now) }
 
         // If the structure agreed with a list and some lists are a history of the batch, then it
         // was accepted at one of these: if that is the structure's own list, the structure now

@@ -6,9 +6,8 @@ use Rattle.merkle_base.specs.Forest.{size}
 use Rattle.merkle_base.specs.Scheme.{Scheme}
 use Rattle.merkle_base.specs.declared.error.Error.{Error}
 use Rattle.merkle_base.specs.declared.error.Error.TheVariants as error
-use Rattle.merkle_batch_theory.specs.Unmerkleized.{Fault, OutOfBounds, Pruned, UnmerkleizedModel, leaf_total, update_fault}
-use Rattle.merkle_batch_theory.specs.Refusals.{fault_error}
-use Rattle.merkle_batch_theory.proofs.PendingUpdates.{out_of_bounds, pruned_fault}
+use Rattle.merkle_batch_theory.specs.Unmerkleized.{UnmerkleizedModel, leaf_total, update_error}
+use Rattle.merkle_batch_theory.proofs.PendingUpdates.{out_of_bounds, pruned_error}
 use Rattle.merkle_commands.specs.declared.command.Request.TheVariants.{Update}
 use Rattle.merkle_lines.specs.Answers.{committed_list, error_line, IsRequestAnswered}
 use Rattle.merkle_lines.specs.ErrorNames.{error_name}
@@ -24,26 +23,26 @@ module _ {D : Type 0} (s : Scheme D) (size_of : ℕ) (Spells : List ℕ → Type
   total : leaf_total b ≡ length (changes g).elements
   total = made_total s.hashing s.rule (committed_list s g) b (changes g) m
 
-  no_fault : location < leaf_total b → b.parent.boundary ≤ location → update_fault s.rule b location ≡ None
-  no_fault l k = rw (lt-leb (leaf_total b) location l, le-ltb location b.parent.boundary k) refl
+  no_error : {F : Type 0} → location < leaf_total b → b.parent.boundary ≤ location → update_error {F = F} s.rule b location ≡ None
+  no_error l k = rw (lt-leb (leaf_total b) location l, le-ltb location b.parent.boundary k) refl
 
-  pub update_allowed : ((fault : Fault) → update_fault s.rule b location ≡ Some fault → ⊥) → (location < length (changes g).elements) × ((changes g).boundary ≤ location)
+  pub update_allowed : {F : Type 0} → ((e : Error F) → update_error s.rule b location ≡ Some e → ⊥) → (location < length (changes g).elements) × ((changes g).boundary ≤ location)
   update_allowed none = elim (cases_lt location (leaf_total b)) [
-    | inr past ↦ absurd (none (OutOfBounds location) (out_of_bounds s.rule b location past))
+    | inr past ↦ absurd (none (error.LeafOutOfBounds location) (out_of_bounds s.rule b location past))
     | inl there ↦ elim (cases_lt location b.parent.boundary) [
-      | inl before ↦ absurd (none (Pruned (size s.rule location)) (pruned_fault s.rule b location there before))
+      | inl before ↦ absurd (none (error.ElementPruned (size s.rule location)) (pruned_error s.rule b location there before))
       | inr kept ↦ (omega (arith, there, total), omega (arith, kept, made_boundary))
     ]
   ]
 
-  pub update_failed : {F : Type 0} (digits : Bor (List ℕ)) (e : Error F) (text : List ℕ) → ((fault : Fault) → update_fault s.rule b location ≡ Some fault → e ≡ fault_error fault) → (update_fault s.rule b location ≡ None → e ≡ error.OutOfMemory)
+  pub update_failed : {F : Type 0} (digits : Bor (List ℕ)) (e : Error F) (text : List ℕ) → ((other : Error F) → update_error s.rule b location ≡ Some other → e ≡ other) → (update_error {F = F} s.rule b location ≡ None → e ≡ error.OutOfMemory)
       → text ≡ error_line (error_name e) → IsRequestAnswered s size_of Spells g (Update location digits) (without_changes g) text
   update_failed digits e text refused allowed t = elim (cases_lt location (leaf_total b)) [
-    | inr past ↦ update_out s size_of Spells g location digits e text (omega (arith, past, total)) (refused (OutOfBounds location) (out_of_bounds s.rule b location past)) t
+    | inr past ↦ update_out s size_of Spells g location digits e text (omega (arith, past, total)) (refused (error.LeafOutOfBounds location) (out_of_bounds s.rule b location past)) t
     | inl there ↦ elim (cases_lt location b.parent.boundary) [
       | inl before ↦
           update_pruned s size_of Spells g location (size s.rule location) digits e text (omega (arith, there, total)) (omega (arith, before, made_boundary))
-          (refused (Pruned (size s.rule location)) (pruned_fault s.rule b location there before)) t
-      | inr kept ↦ wanting s size_of Spells g (Update location digits) e text (allowed (no_fault there kept)) t
+          (refused (error.ElementPruned (size s.rule location)) (pruned_error s.rule b location there before)) t
+      | inr kept ↦ wanting s size_of Spells g (Update location digits) e text (allowed (no_error there kept)) t
     ]
   ]

@@ -81,7 +81,7 @@ returns c = record {
   adds = added_row;
   updates = updated_row;
   sets = refl;
-  faults = refl;
-  first_of_faults = refl;
-  both_faults = refl;
+  errors = refl;
+  first_of_errors = refl;
+  both_errors = refl;
 }
