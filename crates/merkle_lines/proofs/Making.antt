@@ -8,6 +8,7 @@ use Rattle.std.proofs.lemmas.Bool.{cases_lt, lt-ltb, le-ltb}
 use Rattle.merkle_base.specs.Forest.{size}
 use Rattle.merkle_base.specs.Hashing.{Hashing, EqDecides}
 use Rattle.merkle_base.specs.Digests.{node_digests}
+use Rattle.merkle_base.specs.declared.error.Error.{Error}
 use Rattle.merkle_base.specs.Tree.{Tree, leaf, join, position}
 use Rattle.merkle_batch_theory.specs.Contents.{Contents, Agrees, AgreesWithOne, held_peaks, is_kept}
 use Rattle.merkle_batch_theory.specs.Missing.{IsMissing}
