@@ -1,5 +1,5 @@
 -- The records that a fork keeps, and the lists that they stand on.
-use Rattle.std.proofs.Common.{◌≡◌, ℕ, zero, suc, ◌+◌, ◌≤◌, List, [], ◌∷◌, ◌++◌, length, drop, None, Bool, true, false, cond, arith, refl, sym, ap, ◌∙◌, subst, append-nil}
+use Rattle.std.proofs.Common.{◌≡◌, ℕ, zero, suc, ◌+◌, ◌≤◌, List, [], ◌∷◌, ◌++◌, length, take, drop, None, Bool, true, false, cond, arith, refl, sym, ap, ◌∙◌, subst, append-nil}
 use Rattle.std.specs.Prelude.{◌==◌, ◌&&◌, not}
 use Rattle.std.specs.Ordering.{nat_cmp}
 use Rattle.std.specs.FinMap.{get, len, empty, empty_of_len, get-empty}
@@ -9,7 +9,7 @@ use Rattle.merkle_base.specs.Forest.{size}
 use Rattle.merkle_base.specs.Hashing.{Hashing}
 use Rattle.merkle_base.specs.Digests.{peak_digests}
 use Rattle.merkle_batch_theory.specs.BatchValid.{RunsFrom, IsBatchValid}
-use Rattle.merkle_batch_theory.specs.Unmerkleized.{UnmerkleizedModel, is_changed, kept, kept_lists, without_last}
+use Rattle.merkle_batch_theory.specs.Unmerkleized.{UnmerkleizedModel, is_changed, kept, kept_lists}
 use Rattle.merkle_batch_theory.specs.Records.{RecordModel, MerkleizedModel, records, after}
 use Rattle.merkle_batch_theory.specs.Replay.{oldest}
 use Rattle.merkle_batch_theory.specs.History.{IsStep, IsHistory, last_list}
@@ -49,9 +49,17 @@ module _ {D : Type 0} (h : Hashing D) (rule : List ℕ → List ℕ) where
   tail_stands (r ∷ rs) own (suc n) (X ∷ []) l s = absurd s
   tail_stands (r ∷ rs) own (suc n) (X ∷ Y ∷ ls) l s = tail_stands rs own n (Y ∷ ls) (omega arith) s.1
 
+  -- no list is left over
+  whole : (rs : List (RecordModel D)) (ls : List (List D)) → IsHistory h rule rs ls → take (suc (length rs)) ls ≡ ls
+  whole rs [] s = absurd s
+  whole [] (X ∷ []) s = refl
+  whole [] (X ∷ Y ∷ ls) s = absurd s
+  whole (r ∷ rs) (X ∷ []) s = absurd s
+  whole (r ∷ rs) (X ∷ Y ∷ ls) s = ap (λ ms. X ∷ ms) (whole rs (Y ∷ ls) s.1)
+
   -- without a last record that has no changes
   off_last : (rs : List (RecordModel D)) (r : RecordModel D) (X : List D) (ls : List (List D)) → IsHistory h rule (rs ++ r ∷ []) (X ∷ ls) → r.appended ≡ [] → ((p : ℕ) → get r.overwritten p ≡ None) →
-      (more : List (List D)) × (without_last (X ∷ ls) ≡ X ∷ more) × IsHistory h rule rs (X ∷ more) × (last_list (X ∷ more) ≡ last_list (X ∷ ls))
+      (more : List (List D)) × (take (suc (length rs)) (X ∷ ls) ≡ X ∷ more) × IsHistory h rule rs (X ∷ more) × (last_list (X ∷ more) ≡ last_list (X ∷ ls))
   off_last [] r X [] s a o = absurd s
   off_last [] r X (Y ∷ []) s a o = ([], refl, tt, sym (no_change h rule r X Y s.0 a o))
   off_last [] r X (Y ∷ Z ∷ ls) s a o = absurd s.1
@@ -68,10 +76,10 @@ module _ {D : Type 0} (h : Hashing D) (rule : List ℕ → List ℕ) where
       let rs : List (RecordModel D) = drop p.forgotten p.parent.ancestors in
       let own : RecordModel D = p.parent.own in
       let k = tail_stands p.parent.ancestors own p.forgotten ls l s in
-      by_test (λ b. KeptStands (rs ++ cond b (own ∷ []) []) (cond b (drop p.forgotten ls) (without_last (drop p.forgotten ls))) (last_list ls)) (is_changed own)
-      (λ e. k)
+      by_test (λ b. KeptStands (rs ++ cond b (own ∷ []) []) (take (suc (length (rs ++ cond b (own ∷ []) []))) (drop p.forgotten ls)) (last_list ls)) (is_changed own)
+      (λ e. (k.0, k.1, ap (take (suc (length (rs ++ own ∷ [])))) k.2 ∙ whole (rs ++ own ∷ []) (k.0 ∷ k.1) k.3, k.3, k.4))
       (λ e. (let m = off_last rs own k.0 k.1 k.3 (appends_nothing own e) (overwrites_nothing own e) in
-      (k.0, m.0, ap without_last k.2 ∙ m.1, subst (λ qs. IsHistory h rule qs (k.0 ∷ m.0)) (sym (append-nil rs)) m.2, m.3 ∙ k.4)))
+      (k.0, m.0, ap (take (suc (length (rs ++ [])))) k.2 ∙ ap (λ qs. take (suc (length qs)) (k.0 ∷ k.1)) (append-nil rs) ∙ m.1, subst (λ qs. IsHistory h rule qs (k.0 ∷ m.0)) (sym (append-nil rs)) m.2, m.3 ∙ k.4)))
 
   -- a step more
   pub stands_more : (rs : List (RecordModel D)) (ls : List (List D)) (r : RecordModel D) (Y : List D) → IsHistory h rule rs ls → IsStep h rule r (last_list ls) Y → IsHistory h rule (rs ++ r ∷ []) (ls ++ Y ∷ [])

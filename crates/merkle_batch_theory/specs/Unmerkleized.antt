@@ -1,5 +1,5 @@
 -- A batch that is not merkleized yet.
-use Rattle.std.specs.Prelude.{◌≡◌, ℕ, ◌+◌, ◌-◌, ◌<◌, ◌≤◌, List, [], ◌∷◌, ◌++◌, length, drop, slice_set, Bool, true, not, Option, Some, None, is_some, cond, nat_le, nat_lt, ◌==◌, ◌&&◌, min, refl}
+use Rattle.std.specs.Prelude.{◌≡◌, ℕ, suc, ◌+◌, ◌-◌, ◌<◌, ◌≤◌, List, [], ◌∷◌, ◌++◌, length, take, drop, slice_set, Bool, true, not, Option, Some, None, is_some, cond, nat_le, nat_lt, ◌==◌, ◌&&◌, min, refl}
 use Rattle.std.specs.Ordering.{nat_cmp}
 use Rattle.std.specs.FinMap.{FinMap, empty, get, insert, len, code}
 use Rattle.std.specs.Option.{option_or}
@@ -80,15 +80,9 @@ is_changed r = not ((length r.appended == 0) && (len r.overwritten == 0))
 abbrev pub kept : {D : Type 0} → UnmerkleizedModel D → List (RecordModel D)
 kept p = drop p.forgotten p.parent.ancestors ++ cond (is_changed p.parent.own) (p.parent.own ∷ []) []
 
--- all but the last
-abbrev pub without_last : {X : Type 0} → List X → List X
-without_last [] = []
-without_last (x ∷ []) = []
-without_last (x ∷ y ∷ xs) = x ∷ without_last (y ∷ xs)
-
--- of the lists that the parent stands on, those that the kept records stand on
+-- of the lists that the parent stands on, those that the kept records stand on: one more than there are records
 abbrev pub kept_lists : {D : Type 0} → UnmerkleizedModel D → List (List D) → List (List D)
-kept_lists p ls = cond (is_changed p.parent.own) (drop p.forgotten ls) (without_last (drop p.forgotten ls))
+kept_lists p ls = take (suc (length (kept p))) (drop p.forgotten ls)
 
 -- what it makes of the parent's last list
 abbrev pub pending_list : {D : Type 0} → (List ℕ → List ℕ) → UnmerkleizedModel D → List D → List D

@@ -1,5 +1,5 @@
 -- A pending batch makes changes, and what it is merkleized to is accepted.
-use Rattle.std.proofs.Common.{◌≡◌, ℕ, zero, suc, ◌+◌, ◌<◌, List, [], ◌∷◌, ◌++◌, length, drop, set, slice_get, Option, None, Some, Bool, true, false, Ok, Err, Result, cond, arith, refl, sym, ap, inl, inr, ◌∙◌, subst, length-append}
+use Rattle.std.proofs.Common.{◌≡◌, ℕ, zero, suc, ◌+◌, ◌<◌, List, [], ◌∷◌, ◌++◌, length, take, drop, set, slice_get, Option, None, Some, Bool, true, false, Ok, Err, Result, cond, arith, refl, sym, ap, inl, inr, ◌∙◌, subst, length-append}
 use Rattle.std.specs.Prelude.{◌==◌, ◌||◌, not, is_some, nat_le, ⊤}
 use Rattle.std.specs.List.{list_any}
 use Rattle.std.specs.Ordering.{nat_cmp}
@@ -13,7 +13,7 @@ use Rattle.merkle_base.specs.Tree.{Tree, leaf, join, position}
 use Rattle.merkle_batch_theory.specs.Contents.{Contents, Agrees, AgreesWithOne, held_peaks, is_kept}
 use Rattle.merkle_batch_theory.specs.Missing.{IsMissing}
 use Rattle.merkle_batch_theory.specs.Needed.{is_computed, IsChanged, IsNeeded, IsUsed}
-use Rattle.merkle_batch_theory.specs.Unmerkleized.{UnmerkleizedModel, is_changed, kept, kept_lists, leaf_total, pending_list, with_leaf, with_update, without_last}
+use Rattle.merkle_batch_theory.specs.Unmerkleized.{UnmerkleizedModel, is_changed, kept, kept_lists, leaf_total, pending_list, with_leaf, with_update}
 use Rattle.merkle_batch_theory.specs.Read.{read_over}
 use Rattle.merkle_batch_theory.specs.Records.{MerkleizedModel, RecordModel, records}
 use Rattle.merkle_batch_theory.specs.Replay.{applied, apply_error, begins_at, ends_at, with_records, with_record, last_match, matched, oldest}
@@ -143,16 +143,13 @@ module _ {D : Type 0} (h : Hashing D) (rule : List ℕ → List ℕ) (X : List D
   pub made_stands : IsHistory h rule (records b.parent) (X ∷ X ∷ [])
   made_stands = subst (λ q. IsHistory h rule (records q) (X ∷ X ∷ [])) (sym m.forked) (root_stands h rule m.origin X m.agreed)
 
-  made_unchanged : is_changed b.parent.own ≡ false
-  made_unchanged = ap (λ q. is_changed q.own) m.forked ∙ root_unchanged rule (length X) m.origin
-
   pub made_keeps : kept b ≡ []
   made_keeps =
       ap (λ q. drop b.forgotten q.ancestors ++ cond (is_changed q.own) (q.own ∷ []) []) m.forked ∙ ap (λ n. drop n [] ++ cond (is_changed (root_batch rule (length X) m.origin).own) ((root_batch rule (length X) m.origin).own ∷ []) []) m.whole
       ∙ ap (λ t. cond t ((root_batch rule (length X) m.origin).own ∷ []) []) (root_unchanged rule (length X) m.origin)
 
   made_lists : kept_lists b (X ∷ X ∷ []) ≡ X ∷ []
-  made_lists = ap (λ t. cond t (drop b.forgotten (X ∷ X ∷ [])) (without_last (drop b.forgotten (X ∷ X ∷ [])))) made_unchanged ∙ ap (λ n. without_last (drop n (X ∷ X ∷ []))) m.whole
+  made_lists = ap (λ rs. take (suc (length rs)) (drop b.forgotten (X ∷ X ∷ []))) made_keeps ∙ ap (λ n. take 1 (drop n (X ∷ X ∷ []))) m.whole
 
   -- the nodes that it needs
   made_same : (p : ℕ) → is_some (get b.overwritten p) ≡ is_some (at_updated rule c.updated p)
