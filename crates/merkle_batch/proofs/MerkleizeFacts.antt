@@ -23,7 +23,8 @@ use Rattle.merkle_batch_theory.specs.Unmerkleized.{IsUnmerkleizedValid, Unmerkle
 use Rattle.merkle_batch_theory.specs.Read.{read_over}
 use Rattle.merkle_batch_theory.specs.BatchValid.{IsBatchValid, RunsFrom}
 use Rattle.merkle_batch_theory.specs.Records.{MerkleizedModel, RecordModel, records}
-use Rattle.merkle_batch_theory.specs.Replay.{oldest, overwritten_by}
+use Rattle.merkle_batch_theory.specs.Replay.{oldest}
+use Rattle.merkle_batch_theory.specs.Held.{overwritten_by}
 use Rattle.merkle_batch_theory.specs.History.{last_list, replaced, IsHistory}
 use Rattle.merkle_batch_theory.specs.Assignment.{ReadsAgree, digests_from}
 use Rattle.merkle_draft.specs.declared.node_error.NodeError.{NodeError}

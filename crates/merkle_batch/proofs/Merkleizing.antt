@@ -18,7 +18,7 @@ use Rattle.merkle_batch_theory.specs.Read.{read_over}
 use Rattle.merkle_batch_theory.specs.Records.{RecordModel, records}
 use Rattle.merkle_draft.specs.DraftReads.{DraftModel, stored_node}
 use Rattle.merkle_draft.specs.NewDigests.{AreNewDigests}
-use Rattle.merkle_batch_theory.specs.Replay.{overwritten_by}
+use Rattle.merkle_batch_theory.specs.Held.{overwritten_by}
 use Rattle.merkle_batch_theory.specs.Needed.{IsNeeded}
 use Rattle.merkle_batch_theory.specs.History.{is_dirty, IsStep, IsHistory, last_list}
 use Rattle.merkle_batch_theory.specs.Assignment.{ReadsAgree, digests_from}

@@ -7,7 +7,8 @@ use Rattle.merkle_base.specs.Hashing.{Hashing}
 use Rattle.merkle_base.specs.Digests.{node_digests}
 use Rattle.merkle_batch_theory.specs.Contents.{Contents, Agrees, is_kept, pruned}
 use Rattle.merkle_batch_theory.specs.Records.{RecordModel}
-use Rattle.merkle_batch_theory.specs.Replay.{overwritten_by, with_record, with_records}
+use Rattle.merkle_batch_theory.specs.Replay.{with_record, with_records}
+use Rattle.merkle_batch_theory.specs.Held.{overwritten_by}
 use Rattle.merkle_batch_theory.specs.History.{IsStep, IsHistory, last_list}
 use Rattle.merkle_batch_theory.proofs.Kept.{kept_from, kept_before}
 use Rattle.merkle_batch_theory.proofs.Steps.{step_old, step_new, step_size}

@@ -15,7 +15,8 @@ use Rattle.merkle_base.specs.Digests.{digest_at}
 use Rattle.merkle_forest_theory.specs.Mmr.{mmr_merges}
 use Rattle.merkle_batch_theory.specs.Components.{made_of}
 use Rattle.merkle_batch_theory.specs.Contents.{Agrees, HoldsKept, is_kept}
-use Rattle.merkle_batch_theory.specs.Replay.{with_record, overwritten_by}
+use Rattle.merkle_batch_theory.specs.Replay.{with_record}
+use Rattle.merkle_batch_theory.specs.Held.{overwritten_by}
 use Rattle.merkle_batch_theory.specs.History.{edited, is_dirty, IsStep, IsHistory}
 use Rattle.merkle_batch_theory.specs.MemModel.{contents}
 use Rattle.merkle_batch_theory.specs.Rows.{addition, exchange, five, two, two_exchanged, xor}

@@ -10,7 +10,7 @@ use Rattle.merkle_base.specs.Hashing.{Hashing}
 use Rattle.merkle_base.specs.Digests.{digest_at, node_digests, peak_digests}
 use Rattle.merkle_batch_theory.specs.Contents.{Contents}
 use Rattle.merkle_batch_theory.specs.Records.{RecordModel}
-use Rattle.merkle_batch_theory.specs.Replay.{overwritten_by}
+use Rattle.merkle_batch_theory.specs.Held.{overwritten_by}
 use Rattle.merkle_batch_theory.specs.History.{edited, is_dirty, IsStep, IsHistory, last_list}
 use Rattle.merkle_batch_theory.proofs.Steps.{digests_length}
 use Rattle.merkle_batch_theory.proofs.Edits.{same_gets, old_entry, new_entry}

@@ -10,7 +10,7 @@ use Rattle.merkle_base.proofs.Lists.{get_push, get_exists}
 use Rattle.merkle_base.proofs.Nodes.{size_le, size_lt, size_step}
 use Rattle.merkle_base.proofs.Lookup.{get_append_add}
 use Rattle.merkle_batch_theory.specs.Records.{RecordModel}
-use Rattle.merkle_batch_theory.specs.Replay.{overwritten_by}
+use Rattle.merkle_batch_theory.specs.Held.{overwritten_by}
 use Rattle.merkle_batch_theory.specs.History.{replaced, leaves_among, edited}
 use Rattle.merkle_batch_theory.proofs.Steps.{replaced_length}
 use Rattle.merkle_base.proofs.Cases.{by_test}

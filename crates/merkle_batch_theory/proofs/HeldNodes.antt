@@ -16,10 +16,9 @@ use Rattle.merkle_base.proofs.Lists.{get_below}
 use Rattle.merkle_base.proofs.Lookup.{get_append_add, peak_node}
 use Rattle.merkle_base.proofs.Nodes.{size_le, size_lt}
 use Rattle.merkle_batch_theory.specs.Contents.{HoldsKept}
-use Rattle.merkle_batch_theory.specs.Held.{Held, PinsBefore, held_contents}
+use Rattle.merkle_batch_theory.specs.Held.{Held, PinsBefore, held_contents, overwritten_by}
 use Rattle.merkle_batch_theory.specs.MemModel.{MemModel, contents, stored_of, no_leaves}
 use Rattle.merkle_batch_theory.specs.MemValid.{HasLeafCount, IsMemValid}
-use Rattle.merkle_batch_theory.specs.Replay.{overwritten_by}
 use Rattle.merkle_batch_theory.proofs.Chains.{same_contents}
 use Rattle.merkle_batch_theory.proofs.Edits.{get_left, get_set_same, get_set_other}
 use Rattle.merkle_batch_theory.proofs.ListFacts.{any_find, get_drop, get_reversed}

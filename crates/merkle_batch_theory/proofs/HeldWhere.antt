@@ -11,9 +11,9 @@ use Rattle.merkle_base.specs.Places.{peak_positions}
 use Rattle.merkle_base.proofs.Cases.{by_test}
 use Rattle.merkle_base.proofs.Nodes.{size_le}
 use Rattle.merkle_batch_theory.specs.Contents.{Contents, HoldsKept, held_peaks, is_kept, pruned}
-use Rattle.merkle_batch_theory.specs.Held.{Held, held_contents}
+use Rattle.merkle_batch_theory.specs.Held.{Held, held_contents, overwritten_by}
 use Rattle.merkle_batch_theory.specs.Records.{RecordModel}
-use Rattle.merkle_batch_theory.specs.Replay.{with_records, with_record, overwritten_by}
+use Rattle.merkle_batch_theory.specs.Replay.{with_records, with_record}
 use Rattle.merkle_batch_theory.specs.MemModel.{stored_of}
 use Rattle.merkle_batch_theory.proofs.HeldNodes.{peak_below, stored_at, stored_reads}
 use Rattle.merkle_batch_theory.proofs.Kept.{kept_before, kept_from}

@@ -12,7 +12,7 @@ use Rattle.merkle_base.specs.Digests.{digest_at, node_digests, peak_digests}
 use Rattle.merkle_base.proofs.Lookup.{get_append_add}
 use Rattle.merkle_base.proofs.Nodes.{node_built, leaf_here, size_le}
 use Rattle.merkle_batch_theory.specs.Records.{RecordModel}
-use Rattle.merkle_batch_theory.specs.Replay.{overwritten_by}
+use Rattle.merkle_batch_theory.specs.Held.{overwritten_by}
 use Rattle.merkle_batch_theory.specs.History.{edited, is_dirty, replaced, IsStep}
 use Rattle.merkle_batch_theory.proofs.Complete.{same_touch}
 use Rattle.merkle_batch_theory.proofs.Edits.{get_left, same_gets, old_entry, new_entry, replaced_get}

@@ -2,7 +2,7 @@
 use Rattle.std.proofs.Common.{◌≡◌, ◌⊎◌, Option, Some, None, true, false, refl, inl, inr}
 use Rattle.std.specs.Prelude.{is_some}
 use Rattle.std.specs.Option.{option_or}
-use Rattle.merkle_batch_theory.specs.Replay.{overwritten_by}
+use Rattle.merkle_batch_theory.specs.Held.{overwritten_by}
 
 pub none_or_some : {D : Type 0} (o : Option D) → (o ≡ None) ⊎ ((d : D) × (o ≡ Some d))
 none_or_some None = inl refl

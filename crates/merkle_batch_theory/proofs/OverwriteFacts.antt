@@ -8,7 +8,7 @@ use Rattle.std.specs.Map.{lookup, update_all, keys_of}
 use Rattle.std.specs.Map.Iter.{deref_pair}
 use Rattle.std.proofs.lemmas.Map.{update_all_push}
 use Rattle.std.proofs.lemmas.Map.Made.{update_all_distinct}
-use Rattle.merkle_batch_theory.specs.Replay.{overwritten_by}
+use Rattle.merkle_batch_theory.specs.Held.{overwritten_by}
 use Rattle.merkle_batch_theory.proofs.MapFacts.{eqb_comm}
 use Rattle.merkle_batch_theory.proofs.OptionFacts.{or_nothing}
 

@@ -15,7 +15,7 @@ use Rattle.merkle_base.specs.Forest.{size}
 use Rattle.merkle_base.proofs.Nodes.{size_inj}
 use Rattle.merkle_base.specs.declared.error.Error.TheVariants as error
 use Rattle.merkle_batch_theory.specs.Unmerkleized.{UnmerkleizedModel, IsUnmerkleizedValid, leaf_total, with_update, with_updates, update_error, first_error, pending_list, with_entries, with_leaves}
-use Rattle.merkle_batch_theory.specs.Replay.{overwritten_by}
+use Rattle.merkle_batch_theory.specs.Held.{overwritten_by}
 use Rattle.merkle_batch_theory.specs.History.{replaced}
 use Rattle.merkle_batch_theory.proofs.Steps.{replaced_length}
 use Rattle.merkle_batch_theory.proofs.Edits.{same_gets, get_set_same, get_set_other, replaced_get}

@@ -12,7 +12,7 @@ use Rattle.merkle_base.specs.Hashing.{Hashing}
 use Rattle.merkle_base.specs.Digests.{digest_at, node_digests}
 use Rattle.merkle_batch_theory.specs.Contents.{Contents, Agrees, is_kept}
 use Rattle.merkle_batch_theory.specs.Records.{RecordModel}
-use Rattle.merkle_batch_theory.specs.Replay.{overwritten_by}
+use Rattle.merkle_batch_theory.specs.Held.{overwritten_by}
 use Rattle.merkle_batch_theory.specs.History.{edited, replaced, leaves_among, is_dirty, IsStep, IsHistory, last_list}
 use Rattle.merkle_batch_theory.specs.Read.{written, newest, read_over}
 use Rattle.merkle_batch_theory.proofs.Steps.{node_digest_at, digests_length, digest_kept, replaced_length, step_old, step_new}

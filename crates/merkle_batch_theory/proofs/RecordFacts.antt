@@ -3,9 +3,9 @@ use Rattle.std.proofs.Common.{◌≡◌, ℕ, zero, suc, ◌+◌, ◌-◌, ◌<�
 use Rattle.std.specs.Prelude.{nat_lt, slice_get}
 use Rattle.std.specs.FinMap.{get}
 use Rattle.merkle_batch_theory.specs.Contents.{Contents}
-use Rattle.merkle_batch_theory.specs.Held.{Held, held_contents}
+use Rattle.merkle_batch_theory.specs.Held.{Held, held_contents, overwritten_by}
 use Rattle.merkle_batch_theory.specs.Records.{RecordModel}
-use Rattle.merkle_batch_theory.specs.Replay.{overwritten_by, with_record, with_records}
+use Rattle.merkle_batch_theory.specs.Replay.{with_record, with_records}
 use Rattle.merkle_batch_theory.proofs.Chains.{same_contents}
 
 -- the overwrites first, and then the new nodes

@@ -14,7 +14,8 @@ use Rattle.merkle_batch_theory.specs.History.{edited, is_dirty, IsStep, IsHistor
 use Rattle.merkle_base.specs.Digests.{digest_at}
 use Rattle.merkle_batch_theory.specs.Contents.{pruned}
 use Rattle.merkle_base.specs.Tree.{Tree, leaf, join}
-use Rattle.merkle_batch_theory.specs.Replay.{overwritten_by, with_record, with_records}
+use Rattle.merkle_batch_theory.specs.Replay.{with_record, with_records}
+use Rattle.merkle_batch_theory.specs.Held.{overwritten_by}
 use Rattle.merkle_batch_theory.specs.Read.{newest, read_over}
 use Rattle.merkle_batch_theory.specs.Unmerkleized.{kept, pending_list, with_updates}
 use Rattle.merkle_batch_theory.specs.Rows.{xor, first_record, second_record, nothing, five, change, exchange, fourth, over_exchange, over_pruned}

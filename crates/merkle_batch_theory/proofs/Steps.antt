@@ -12,7 +12,7 @@ use Rattle.merkle_base.proofs.Births.{leaf_at}
 use Rattle.merkle_base.specs.Hashing.{Hashing}
 use Rattle.merkle_base.specs.Digests.{digest_at, node_digests}
 use Rattle.merkle_batch_theory.specs.Records.{RecordModel}
-use Rattle.merkle_batch_theory.specs.Replay.{overwritten_by}
+use Rattle.merkle_batch_theory.specs.Held.{overwritten_by}
 use Rattle.merkle_batch_theory.specs.History.{replaced, leaves_among, edited, is_dirty, IsStep}
 use Rattle.merkle_batch_theory.proofs.ListFacts.{get_drop}
 use Rattle.merkle_batch_theory.proofs.Kept.{get_map}

@@ -1,5 +1,6 @@
 -- The nodes that a structure holds.
-use Rattle.std.specs.Prelude.{◌≡◌, ℕ, ◌+◌, ◌≤◌, List, [], ◌∷◌, length, None, ◌==◌, refl}
+use Rattle.std.specs.Prelude.{◌≡◌, ℕ, ◌+◌, ◌≤◌, List, [], ◌∷◌, length, Option, None, ◌==◌, refl}
+use Rattle.std.specs.Option.{option_map, unwrap_or}
 use Rattle.std.specs.Coded.{Coded, code_by, coded×, coded_ℕ}
 use Rattle.std.specs.FinMap.{FinMap, code, get}
 use Rattle.std.specs.Map.{lookup}
@@ -23,6 +24,10 @@ held_code d =
     (λ h. (h.start, (h.size, (h.stored, h.capacity))))
     (λ p. record { start = p.0; size = p.1.0; stored = p.1.1.0; capacity = p.1.1.1 })
     (λ _. refl)
+
+-- a held node takes the newer digest
+abbrev pub overwritten_by : {D : Type 0} → Option D → Option D → Option D
+overwritten_by newer old = option_map (unwrap_or newer) old
 
 -- no pin stands at position n or after it
 abbrev pub PinsBefore : {D : Type 0} → ℕ → List (ℕ × D) → Type 0

@@ -1,24 +1,19 @@
 -- At which state a batch is accepted, and what a `Mem` is after it.
 use Rattle.std.specs.Prelude.{ℕ, suc, ◌+◌, ◌-◌, List, [], ◌∷◌, length, drop, Bool, Option, Some, None, Result, Ok, Err, cond, nat_lt, nat_le, ◌&&◌, ◌==◌, slice_get}
 use Rattle.std.specs.Cmp.Lexicographic.{pointwise}
-use Rattle.std.specs.Option.{unwrap_or}
+use Rattle.std.specs.Option.{option_map, unwrap_or}
 use Rattle.std.specs.FinMap.{get}
 use Rattle.merkle_base.specs.declared.error.Error.{Error}
 use Rattle.merkle_base.specs.declared.error.Error.TheVariants as error
 use Rattle.merkle_batch_theory.specs.Contents.{Contents, held_peaks}
 use Rattle.merkle_batch_theory.specs.Records.{RecordModel, MerkleizedModel, records, after}
 
--- a held node takes the newer digest
-abbrev pub overwritten_by : {D : Type 0} → Option D → Option D → Option D
-overwritten_by newer None = None
-overwritten_by newer (Some d) = Some (unwrap_or newer d)
-
 -- a record laid over the old nodes, an overwrite of a node that is not held being dropped, and its new nodes appended
 abbrev pub with_record : {D : Type 0} → RecordModel D → Contents D → Contents D
 with_record r c = record {
   boundary = c.boundary;
   size = c.size + length r.appended;
-  node = λ p. cond (nat_lt p c.size) (overwritten_by (get r.overwritten p) (c.node p)) (slice_get r.appended (p - c.size));
+  node = λ p. cond (nat_lt p c.size) (option_map (unwrap_or (get r.overwritten p)) (c.node p)) (slice_get r.appended (p - c.size));
 }
 
 -- record after record

@@ -17,10 +17,9 @@ use Rattle.merkle_base.proofs.Lookup.{peak_node}
 use Rattle.merkle_base.proofs.Nodes.{width_pos}
 use Rattle.merkle_base.proofs.PeakLists.{Spans, peaks_spans}
 use Rattle.merkle_batch_theory.specs.Contents.{Contents}
-use Rattle.merkle_batch_theory.specs.Held.{PinsBefore}
+use Rattle.merkle_batch_theory.specs.Held.{PinsBefore, overwritten_by}
 use Rattle.merkle_batch_theory.specs.HeldPeaks.{pins_of}
 use Rattle.merkle_batch_theory.specs.MemModel.{numbered, stored_of}
-use Rattle.merkle_batch_theory.specs.Replay.{overwritten_by}
 use Rattle.merkle_batch_theory.proofs.HeldNodes.{replaced}
 use Rattle.merkle_batch_theory.proofs.Kept.{get_mapped}
 use Rattle.merkle_batch_theory.proofs.ListFacts.{any_find, get_reversed}

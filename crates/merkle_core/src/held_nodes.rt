@@ -3,8 +3,7 @@ ghost use Rattle.std.specs.Prelude.{◌≡◌, ◌+◌, ◌-◌, ◌^◌, ◌<�
 ghost use Rattle.std.specs.FinMap.{get};
 ghost use Rattle.std.specs.Map.{lookup};
 ghost use Rattle.std.specs.VecDeque.{deque_len, deque_capacity};
-ghost use Rattle.merkle_batch_theory.specs.Held.{PinsBefore};
-ghost use Rattle.merkle_batch_theory.specs.Replay.{overwritten_by};
+ghost use Rattle.merkle_batch_theory.specs.Held.{PinsBefore, overwritten_by};
 ghost use Rattle.merkle_batch_theory.specs.MemModel.{stored_of};
 
 use merkle_base::family::Family;

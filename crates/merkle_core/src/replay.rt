@@ -1,8 +1,8 @@
 //! Applying records to the nodes that are held.
 ghost use Rattle.std.specs.Prelude.{◌≡◌, ◌+◌, ◌≤◌, ℕ, length, map};
 ghost use Rattle.std.specs.FinMap.{get};
-ghost use Rattle.merkle_batch_theory.specs.Held.{held_contents, total_appended};
-ghost use Rattle.merkle_batch_theory.specs.Replay.{with_records, with_record, overwritten_by};
+ghost use Rattle.merkle_batch_theory.specs.Held.{held_contents, total_appended, overwritten_by};
+ghost use Rattle.merkle_batch_theory.specs.Replay.{with_records, with_record};
 
 use crate::held_nodes::HeldNodes;
 use merkle_base::family::Family;

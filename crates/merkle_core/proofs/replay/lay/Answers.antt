@@ -1,7 +1,7 @@
 use Rattle.std.proofs.Common.{◌≡◌, ◌+◌, ◌-◌, length, cond, ◌∙◌, ap}
 use Rattle.std.specs.Prelude.{nat_lt, slice_get}
 use Rattle.std.specs.FinMap.{get}
-use Rattle.merkle_batch_theory.specs.Replay.{overwritten_by}
+use Rattle.merkle_batch_theory.specs.Held.{overwritten_by}
 use Rattle.merkle_batch_theory.proofs.RecordFacts.{with_record_by}
 use Rattle.merkle_core.proofs.replay.lay.Goals as goal
 

@@ -1,7 +1,7 @@
 use Rattle.std.proofs.Common.{◌≡◌, sym, ◌∙◌, ap, map}
 use Rattle.std.specs.FinMap.{get}
 use Rattle.std.specs.Map.Iter.{deref_pair}
-use Rattle.merkle_batch_theory.specs.Replay.{overwritten_by}
+use Rattle.merkle_batch_theory.specs.Held.{overwritten_by}
 use Rattle.merkle_batch_theory.proofs.MapFacts.{get_entries}
 use Rattle.merkle_batch_theory.proofs.OverwriteFacts.{over_push, latest_all, moved, all_came}
 use Rattle.merkle_core.proofs.replay.replace_all.Goals as goal
