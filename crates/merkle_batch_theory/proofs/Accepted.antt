@@ -14,7 +14,7 @@ use Rattle.merkle_base.specs.Hashing.{Hashing, EqDecides}
 use Rattle.merkle_base.specs.Digests.{digest_at, node_digests, peak_digests}
 use Rattle.merkle_batch_theory.specs.Contents.{Contents, Agrees, is_kept, held_peaks}
 use Rattle.merkle_batch_theory.specs.Records.{RecordModel, MerkleizedModel, records, after}
-use Rattle.merkle_batch_theory.specs.Replay.{with_records, last_match, oldest, begins_at, ends_at, matched}
+use Rattle.merkle_batch_theory.specs.Replay.{with_records, last_match, oldest, matched, is_state}
 use Rattle.merkle_batch_theory.specs.History.{IsStep, IsHistory, last_list}
 use Rattle.merkle_batch_theory.specs.Collision.{Collide}
 use Rattle.merkle_batch_theory.proofs.ListFacts.{get_reversed}
@@ -85,12 +85,12 @@ module _ {D : Type 0} (h : Hashing D) (rule : List ℕ → List ℕ) where
 
   -- the state that is matched is the one of a list of that size and those peak digests
   pub matched_list : EqDecides h → (k : MerkleizedModel D) (ls : List (List D)) (n : ℕ) (ps : List D) (i : ℕ) → IsHistory h rule (records k) ls → matched h.same n ps k ≡ Some i → (Z : List D) × (slice_get ls i ≡ Some Z) × Accepts n ps Z
-  matched_list law k ls n ps i s e = by_test (λ t. begins_at h.same n ps (oldest k) ≡ t → cond t (Some 0) (last_match (ends_at h.same n ps) k.ancestors) ≡ Some i → (Z : List D) × (slice_get ls i ≡ Some Z) × Accepts n ps Z) (begins_at h.same n ps (oldest k))
+  matched_list law k ls n ps i s e = by_test (λ t. is_state h.same n ps (oldest k).before (oldest k).peaks_before ≡ t → cond t (Some 0) (last_match (λ r. is_state h.same n ps (after r) r.peaks_after) k.ancestors) ≡ Some i → (Z : List D) × (slice_get ls i ≡ Some Z) × Accepts n ps Z) (is_state h.same n ps (oldest k).before (oldest k).peaks_before)
       (λ t u f. (let z : 0 ≡ i = cc in
       let w = head_stands k ls s in
       let m = matches law n ps (oldest k).peaks_before (oldest k).before u in
       (w.0, ap (slice_get ls) (sym z) ∙ w.2, (m.0 ∙ w.4.before, m.1 ∙ w.4.peaks_before))))
-      (λ t u f. (let j = last_found (ends_at h.same n ps) k.ancestors i f in
+      (λ t u f. (let j = last_found (λ r. is_state h.same n ps (after r) r.peaks_after) k.ancestors i f in
       let w = stands_at (records k) ls j.0 j.1 s (get_front k.ancestors (k.own ∷ []) j.0 j.1 j.3) in
       let m = matches law n ps j.1.peaks_after (after j.1) j.4 in
       (w.1, ap (slice_get ls) j.2 ∙ w.3, (m.0 ∙ ap (λ a. a + length j.1.appended) w.4.before ∙ step_size h rule j.1 w.0 w.1 w.4, m.1 ∙ w.4.peaks_after))))

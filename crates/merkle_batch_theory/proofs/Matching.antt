@@ -9,7 +9,7 @@ use Rattle.merkle_base.specs.Hashing.{Hashing, EqDecides}
 use Rattle.merkle_base.specs.Digests.{peak_digests}
 use Rattle.merkle_batch_theory.specs.Contents.{Contents, Agrees, held_peaks}
 use Rattle.merkle_batch_theory.specs.Records.{MerkleizedModel, records, after}
-use Rattle.merkle_batch_theory.specs.Replay.{last_match, oldest, begins_at, ends_at, matched}
+use Rattle.merkle_batch_theory.specs.Replay.{last_match, oldest, matched, is_state}
 use Rattle.merkle_batch_theory.specs.History.{IsHistory}
 use Rattle.merkle_batch_theory.proofs.Steps.{step_size}
 use Rattle.merkle_batch_theory.proofs.Accepted.{peaks_agree, stands_at, head_stands}
@@ -36,18 +36,18 @@ module _ {D : Type 0} (h : Hashing D) (rule : List ℕ → List ℕ) where
   accepts law k ls c X zero s g l a =
       (let w = head_stands h rule k ls s in
       let d : w.0 ≡ X = (let m : Some w.0 ≡ Some X = sym w.2 ∙ g in cc) in
-      let b : begins_at h.same c.size (held_peaks rule (length X) c) (oldest k) ≡ true =
+      let b : is_state h.same c.size (held_peaks rule (length X) c) (oldest k).before (oldest k).peaks_before ≡ true =
       both_true law c.size (oldest k).before (held_peaks rule (length X) c) (oldest k).peaks_before
       (a.sized ∙ ap (λ Z. size rule (length Z)) (sym d) ∙ sym w.4.before) (peaks_agree h rule c X a ∙ ap (peak_digests h rule) (sym d) ∙ sym w.4.peaks_before) in
-      ap (λ t. is_some {T = ℕ} (cond t (Some 0) (last_match (ends_at h.same c.size (held_peaks rule (length X) c)) k.ancestors))) b)
+      ap (λ t. is_some {T = ℕ} (cond t (Some 0) (last_match (λ r. is_state h.same c.size (held_peaks rule (length X) c) (after r) r.peaks_after) k.ancestors))) b)
   accepts law k ls c X (suc i) s g l a =
       (let r = get_exists k.ancestors i (omega (arith, l)) in
       let w = stands_at h rule (records k) ls i r.0 s (get_front k.ancestors (k.own ∷ []) i r.0 r.1) in
       let d : w.1 ≡ X = (let m : Some w.1 ≡ Some X = sym w.3 ∙ g in cc) in
-      let b : ends_at h.same c.size (held_peaks rule (length X) c) r.0 ≡ true =
+      let b : is_state h.same c.size (held_peaks rule (length X) c) (after r.0) r.0.peaks_after ≡ true =
       both_true law c.size (after r.0) (held_peaks rule (length X) c) r.0.peaks_after
       (a.sized ∙ ap (λ Z. size rule (length Z)) (sym d) ∙ sym (ap (λ n. n + length r.0.appended) w.4.before ∙ step_size h rule r.0 w.0 w.1 w.4)) (peaks_agree h rule c X a ∙ ap (peak_digests h rule) (sym d) ∙ sym w.4.peaks_after) in
-      either (begins_at h.same c.size (held_peaks rule (length X) c) (oldest k)) (last_match (ends_at h.same c.size (held_peaks rule (length X) c)) k.ancestors) (last_some (ends_at h.same c.size (held_peaks rule (length X) c)) k.ancestors i r.0 r.1 b))
+      either (is_state h.same c.size (held_peaks rule (length X) c) (oldest k).before (oldest k).peaks_before) (last_match (λ r. is_state h.same c.size (held_peaks rule (length X) c) (after r) r.peaks_after) k.ancestors) (last_some (λ r. is_state h.same c.size (held_peaks rule (length X) c) (after r) r.peaks_after) k.ancestors i r.0 r.1 b))
     where
       either : (b : Bool) (o : Option ℕ) → is_some o ≡ true → is_some {T = ℕ} (cond b (Some 0) o) ≡ true
       either true o e = refl

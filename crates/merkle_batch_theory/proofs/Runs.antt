@@ -10,7 +10,7 @@ use Rattle.merkle_batch_theory.specs.Contents.{Contents, HoldsKept, held_peaks}
 use Rattle.merkle_batch_theory.specs.Held.{Held, held_contents, total_appended}
 use Rattle.merkle_batch_theory.specs.BatchValid.{IsBatchValid, RunsFrom}
 use Rattle.merkle_batch_theory.specs.Records.{RecordModel, MerkleizedModel, after, records}
-use Rattle.merkle_batch_theory.specs.Replay.{with_record, with_records, last_match, begins_at, ends_at, oldest, matched, applied}
+use Rattle.merkle_batch_theory.specs.Replay.{with_record, with_records, last_match, oldest, matched, applied, is_state}
 use Rattle.merkle_batch_theory.specs.MemValid.{HasLeafCount, IsMemValid}
 use Rattle.merkle_batch_theory.proofs.HeldNodes.{kept_counted}
 use Rattle.merkle_batch_theory.proofs.HeldWhere.{with_records_held}
@@ -40,19 +40,19 @@ module _ {D : Type 0} where
     IsFound rs own i = (i ≤ length rs) × (n + total_appended (drop i (rs ++ own ∷ [])) ≡ after own)
 
     -- the last record that ends at a size: the rest go on from it
-    ends_from : (rs : List (RecordModel D)) (own : RecordModel D) (m i : ℕ) → RunsFrom m (rs ++ own ∷ []) → last_match (ends_at same n peaks) rs ≡ Some i → IsFound rs own i
+    ends_from : (rs : List (RecordModel D)) (own : RecordModel D) (m i : ℕ) → RunsFrom m (rs ++ own ∷ []) → last_match (λ r. is_state same n peaks (after r) r.peaks_after) rs ≡ Some i → IsFound rs own i
     ends_from [] own m i h e = absurd (cc)
     ends_from (r ∷ rs) own m i h e =
-        elim (last_match (ends_at same n peaks) rs) as (λ o. last_match (ends_at same n peaks) rs ≡ o → elim o [ Some j ↦ Some (suc j) | None ↦ cond (ends_at same n peaks r) (Some 1) None ] ≡ Some i → IsFound (r ∷ rs) own i) [
+        elim (last_match (λ r. is_state same n peaks (after r) r.peaks_after) rs) as (λ o. last_match (λ r. is_state same n peaks (after r) r.peaks_after) rs ≡ o → elim o [ Some j ↦ Some (suc j) | None ↦ cond (is_state same n peaks (after r) r.peaks_after) (Some 1) None ] ≡ Some i → IsFound (r ∷ rs) own i) [
           | Some j ↦ λ was is. (let k = ends_from rs own (after r) j h.1 was in let at : suc j ≡ i = cc in subst (IsFound (r ∷ rs) own) at (omega (arith, k.0), k.1))
-          | None ↦ λ was is. by_test (λ b. ends_at same n peaks r ≡ b → cond b (Some 1) None ≡ Some i → IsFound (r ∷ rs) own i) (ends_at same n peaks r)
+          | None ↦ λ was is. by_test (λ b. is_state same n peaks (after r) r.peaks_after ≡ b → cond b (Some 1) None ≡ Some i → IsFound (r ∷ rs) own i) (is_state same n peaks (after r) r.peaks_after)
               (λ _ t is'. let at : 1 ≡ i = cc in subst (IsFound (r ∷ rs) own) at (omega arith, omega (arith, same_size n (after r) (pointwise same peaks r.peaks_after) t, ends (after r) rs own h.1)))
               (λ _ t is'. absurd (cc)) refl is
         ] refl e
 
     -- what follows the state that is matched leads to the end
     found : (c : MerkleizedModel D) (i : ℕ) → RunsFrom (oldest c).before (records c) → matched same n peaks c ≡ Some i → IsFound c.ancestors c.own i
-    found c i runs e = by_test (λ b. begins_at same n peaks (oldest c) ≡ b → cond b (Some 0) (last_match (ends_at same n peaks) c.ancestors) ≡ Some i → IsFound c.ancestors c.own i) (begins_at same n peaks (oldest c))
+    found c i runs e = by_test (λ b. is_state same n peaks (oldest c).before (oldest c).peaks_before ≡ b → cond b (Some 0) (last_match (λ r. is_state same n peaks (after r) r.peaks_after) c.ancestors) ≡ Some i → IsFound c.ancestors c.own i) (is_state same n peaks (oldest c).before (oldest c).peaks_before)
         (λ _ t is. let at : 0 ≡ i = cc in subst (IsFound c.ancestors c.own) at (omega arith, omega (arith, same_size n (oldest c).before (pointwise same peaks (oldest c).peaks_before) t, ends (oldest c).before c.ancestors c.own runs)))
         (λ _ t is. ends_from c.ancestors c.own (oldest c).before i runs is) refl e
 

@@ -30,18 +30,16 @@ last_match test (r ∷ rs) = elim (last_match test rs) [ Some i ↦ Some (suc i)
 abbrev pub oldest : {D : Type 0} → MerkleizedModel D → RecordModel D
 oldest b = elim b.ancestors [ [] ↦ b.own | r ∷ rs ↦ r ]
 
--- whether the state before the record has this size and these peaks
-abbrev pub begins_at : {D : Type 0} → (D → D → Bool) → ℕ → List D → RecordModel D → Bool
-begins_at same size peaks r = (size == r.before) && pointwise same peaks r.peaks_before
-
--- whether the state after it has
-abbrev pub ends_at : {D : Type 0} → (D → D → Bool) → ℕ → List D → RecordModel D → Bool
-ends_at same size peaks r = (size == after r) && pointwise same peaks r.peaks_after
+-- whether a state of this size and these peaks is the one of n nodes with the peaks ps
+abbrev pub is_state : {D : Type 0} → (D → D → Bool) → ℕ → List D → ℕ → List D → Bool
+is_state same size peaks n ps = (size == n) && pointwise same peaks ps
 
 -- how many records a state of this size and these peaks is behind: none if it is the one before the oldest,
 -- else those up to the newest kept ancestor that ends at it
 abbrev pub matched : {D : Type 0} → (D → D → Bool) → ℕ → List D → MerkleizedModel D → Option ℕ
-matched same size peaks b = cond (begins_at same size peaks (oldest b)) (Some 0) (last_match (ends_at same size peaks) b.ancestors)
+matched same size peaks b =
+    cond (is_state same size peaks (oldest b).before (oldest b).peaks_before) (Some 0)
+    (last_match (λ r. is_state same size peaks (after r) r.peaks_after) b.ancestors)
 
 -- why a batch is not applied to a structure of this size
 abbrev pub apply_error : {F D : Type 0} → ℕ → MerkleizedModel D → Error F

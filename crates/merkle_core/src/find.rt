@@ -1,8 +1,7 @@
 //! Finding the state of a batch's chain that a structure is at.
-ghost use Rattle.std.specs.Prelude.{◌≡◌, ℕ, List, Option, map, ◌&&◌, ◌==◌};
-ghost use Rattle.std.specs.Cmp.Lexicographic.{pointwise};
-ghost use Rattle.merkle_batch_theory.specs.Records.{RecordModel};
-ghost use Rattle.merkle_batch_theory.specs.Replay.{apply_error, ends_at, last_match, matched, oldest};
+ghost use Rattle.std.specs.Prelude.{◌≡◌, ℕ, List, Option, map};
+ghost use Rattle.merkle_batch_theory.specs.Records.{after};
+ghost use Rattle.merkle_batch_theory.specs.Replay.{apply_error, last_match, matched, oldest, is_state};
 
 use merkle_base::error::Error;
 use merkle_base::family::Family;
@@ -19,7 +18,7 @@ fn is_at<F: Family, D: Digest>(
     other: Position<F>,
     others: &[D],
 ) -> bool
-    ensures { result ≡ ((size == other) && pointwise D.eq peaks.now others.now) }
+    ensures { result ≡ is_state D.eq size peaks.now other others.now }
 {
     size == other && peaks == others
 }
@@ -61,7 +60,7 @@ fn last_end<F: Family, D: Digest>(
     peaks: &[D],
     records: &[Rc<Record<F, D>>],
 ) -> Option<usize>
-    ensures { result ≡ last_match (ends_at D.eq size peaks.now) (map (λ r. r.value) records.now) }
+    ensures { result ≡ last_match (λ r. is_state D.eq size peaks.now (after r) r.peaks_after) (map (λ r. r.value) records.now) }
 {
     let mut i = records.len();
     while 0 < i {

@@ -15,8 +15,8 @@ use Rattle.merkle_batch_theory.specs.Missing.{IsMissing}
 use Rattle.merkle_batch_theory.specs.Needed.{is_computed, IsChanged, IsNeeded, IsUsed}
 use Rattle.merkle_batch_theory.specs.Unmerkleized.{UnmerkleizedModel, is_changed, kept, kept_lists, leaf_total, pending_list, with_leaf, with_update}
 use Rattle.merkle_batch_theory.specs.Read.{read_over}
-use Rattle.merkle_batch_theory.specs.Records.{MerkleizedModel, RecordModel, records}
-use Rattle.merkle_batch_theory.specs.Replay.{applied, apply_error, begins_at, ends_at, with_records, with_record, last_match, matched, oldest}
+use Rattle.merkle_batch_theory.specs.Records.{MerkleizedModel, RecordModel, after, records}
+use Rattle.merkle_batch_theory.specs.Replay.{applied, apply_error, with_records, with_record, last_match, matched, oldest, is_state}
 use Rattle.merkle_batch_theory.specs.Roots.{root_batch}
 use Rattle.merkle_batch_theory.specs.History.{IsHistory, is_dirty, replaced}
 use Rattle.merkle_batch_theory.specs.MemModel.{MemModel, contents}
@@ -202,7 +202,7 @@ module _ {D : Type 0} (h : Hashing D) (rule : List ℕ → List ℕ) (X : List D
       pub made_applied : {F : Type 0} (d : Contents D) → k.ancestors ≡ kept b → applied {F = F} h.same rule (length X) k (contents s) ≡ Ok d → Agrees h rule d (leaf_digests h rule 0 c.elements) × (d.boundary ≡ s.boundary)
       made_applied {F = F} d alone done =
           let peaks = held_peaks rule (length X) (contents s) in
-          let is : with_records (records k) (contents s) ≡ d = taken (contents s) d (begins_at h.same s.size peaks (oldest k)) (last_match (ends_at h.same s.size peaks) k.ancestors) (ap (last_match (ends_at h.same s.size peaks)) (alone ∙ made_keeps)) done in
+          let is : with_records (records k) (contents s) ≡ d = taken (contents s) d (is_state h.same s.size peaks (oldest k).before (oldest k).peaks_before) (last_match (λ r. is_state h.same s.size peaks (after r) r.peaks_after) k.ancestors) (ap (last_match (λ r. is_state h.same s.size peaks (after r) r.peaks_after)) (alone ∙ made_keeps)) done in
           (subst (λ x. Agrees h rule x (leaf_digests h rule 0 c.elements)) is (agree_all h rule (records k) X (leaf_digests h rule 0 c.elements ∷ []) (contents s) two_lists agrees), sym (ap (λ x. x.boundary) is) ∙ with_record_boundary (records k) (contents s))
         where
           taken : (c d : Contents D) (b : Bool) (o : Option ℕ) → o ≡ None → ◌≡◌ {A = Result (Contents D) (Error F)} (elim (cond b (Some 0) o) [ Some i ↦ Ok (with_records (drop i (records k)) c) | None ↦ Err (apply_error c.size k) ]) (Ok d) → with_records (records k) c ≡ d
