@@ -13,7 +13,7 @@ ghost use Rattle.merkle_base.specs.Tree.{Tree, position};
 ghost use Rattle.merkle_batch_theory.specs.Contents.{AgreesWithOne};
 ghost use Rattle.merkle_batch_theory.specs.Missing.{IsMissing};
 ghost use Rattle.merkle_batch_theory.specs.Needed.{computed_nodes};
-ghost use Rattle.merkle_batch_theory.specs.Unmerkleized.{first_error, forked, kept, kept_lists, leaf_total, pending_list, update_error, with_entries, with_leaf, with_leaves, with_update, with_updates, without_ancestors};
+ghost use Rattle.merkle_batch_theory.specs.Unmerkleized.{first_error, forked, kept, kept_lists, leaf_total, pending_list, update_error, with_entries, with_leaves, with_update, with_updates, without_ancestors};
 ghost use Rattle.merkle_batch_theory.specs.Records.{after, records};
 ghost use Rattle.merkle_range.specs.Input.{leaf_digests};
 ghost use Rattle.merkle_batch_theory.specs.History.{IsHistory, last_list};
@@ -154,7 +154,7 @@ impl<F: Family, D: Digest> UnmerkleizedBatch<F, D> {
     ///
     /// On error the batch is lost and the parent is unchanged.
     pub fn add<H: Hasher<F, Digest = D>>(self, hasher: &H, element: &[u8]) -> Result<Self, Error<F>>
-        ensures added { IfOk result (λ b. b ≡ with_leaf self ((H.hashing hasher.now).leaf (size F.rule (leaf_total self)) element.now)) }
+        ensures added { IfOk result (λ b. b ≡ with_leaves self ((H.hashing hasher.now).leaf (size F.rule (leaf_total self)) element.now ∷ [])) }
         ensures edited { let digest = (H.hashing hasher.now).leaf (size F.rule (leaf_total self)) element.now in
             IfOk result (λ b. (X : List D) → pending_list F.rule b X ≡ pending_list F.rule self X ++ digest ∷ []) }
         ensures room { IfOk result (λ _. leaf_total self < F.MAX_LEAVES) }
@@ -209,7 +209,7 @@ impl<F: Family, D: Digest> UnmerkleizedBatch<F, D> {
     ///
     /// On error the batch is lost and the parent is unchanged.
     pub fn add_leaf_digest(mut self, digest: D) -> Result<Self, Error<F>>
-        ensures added { IfOk result (λ b. b ≡ with_leaf self digest) }
+        ensures added { IfOk result (λ b. b ≡ with_leaves self (digest ∷ [])) }
         ensures edited { IfOk result (λ b. (X : List D) → pending_list F.rule b X ≡ pending_list F.rule self X ++ digest ∷ []) }
         ensures room { IfOk result (λ _. leaf_total self < F.MAX_LEAVES) }
         ensures refused { IfErr result (λ e. ((e ≡ Error.LocationOverflow F.MAX_LEAVES) × (leaf_total self ≡ F.MAX_LEAVES))

@@ -9,10 +9,14 @@ use Rattle.std.specs.Option.{option_or}
 use Rattle.std.specs.Ordering.{nat_cmp}
 use Rattle.std.specs.Cmp.{nat_cmp_total, unsigned_tied}
 use Rattle.std.specs.Map.{lookup}
-use Rattle.std.specs.List.{slice_get}
+use Rattle.std.specs.List.{slice_get, range_with_len, zip}
 use Rattle.std.specs.FinMap.{get, find, get-from_entries}
 use Rattle.std.specs.BTreeMap.{is_at}
-use Rattle.merkle_batch_theory.specs.MemModel.{numbered, stored_of}
+use Rattle.merkle_batch_theory.specs.MemModel.{stored_of}
+
+-- the positions n, n + 1, .. with the digests
+abbrev pub numbered : {D : Type 0} → ℕ → List D → List (ℕ × D)
+numbered n ds = zip (range_with_len n (length ds)) ds
 
 module _ {D : Type 0} where
   pub find_lookup : (p : ℕ) (es : List (ℕ × D)) → find nat_cmp p es ≡ lookup (nat_eq p) es

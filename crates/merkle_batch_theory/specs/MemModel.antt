@@ -1,5 +1,6 @@
 -- What a `Mem` is to its callers: where it was pruned to, how many nodes it counts, and which it holds.
-use Rattle.std.specs.Prelude.{ℕ, ◌+◌, List, [], ◌∷◌, ◌++◌, Option, refl}
+use Rattle.std.specs.Prelude.{ℕ, List, ◌++◌, length, zip, Option, refl}
+use Rattle.std.specs.List.{range_with_len}
 use Rattle.std.specs.Ordering.{nat_cmp}
 use Rattle.std.specs.FinMap.{FinMap, get, code, empty, from_entries}
 use Rattle.std.specs.Coded.{Coded, code_by, coded×, coded_ℕ}
@@ -30,14 +31,9 @@ node s p = get s.stored p
 abbrev pub contents : {D : Type 0} → MemModel D → Contents D
 contents s = record { boundary = s.boundary; size = s.size; node = node s }
 
--- the positions n, n + 1, .. with the digests
-abbrev pub numbered : {D : Type 0} → ℕ → List D → List (ℕ × D)
-numbered n [] = []
-numbered n (d ∷ ds) = (n, d) ∷ numbered (n + 1) ds
-
 -- what is held at a position: a pin, or one of the nodes from position start on
 abbrev pub stored_of : {D : Type 0} → List (ℕ × D) → ℕ → List D → FinMap nat_cmp D
-stored_of pins start nodes = from_entries (pins ++ numbered start nodes)
+stored_of pins start nodes = from_entries (pins ++ zip (range_with_len start (length nodes)) nodes)
 
 -- the structure of no leaves
 abbrev pub no_leaves : {D : Type 0} → MemModel D

@@ -1,6 +1,7 @@
 -- At which state a batch is accepted, and what a `Mem` is after it.
 use Rattle.std.specs.Prelude.{ℕ, suc, ◌+◌, ◌-◌, List, [], ◌∷◌, length, drop, Bool, Option, Some, None, Result, Ok, Err, cond, nat_lt, nat_le, ◌&&◌, ◌==◌, slice_get}
 use Rattle.std.specs.Cmp.Lexicographic.{pointwise}
+use Rattle.std.specs.List.{fold}
 use Rattle.std.specs.Option.{option_map, unwrap_or}
 use Rattle.std.specs.FinMap.{get}
 use Rattle.merkle_base.specs.declared.error.Error.{Error}
@@ -18,8 +19,7 @@ with_record r c = record {
 
 -- record after record
 abbrev pub with_records : {D : Type 0} → List (RecordModel D) → Contents D → Contents D
-with_records [] c = c
-with_records (r ∷ rs) c = with_records rs (with_record r c)
+with_records rs c = fold (λ c r. with_record r c) c rs
 
 -- the place after the last record that passes
 abbrev pub last_match : {X : Type 0} → (X → Bool) → List X → Option ℕ

@@ -2,6 +2,7 @@
 use Rattle.std.specs.Prelude.{◌≡◌, ℕ, suc, ◌+◌, ◌-◌, ◌<◌, ◌≤◌, List, [], ◌∷◌, ◌++◌, length, take, drop, slice_set, Bool, true, not, Option, Some, None, is_some, cond, nat_le, nat_lt, ◌==◌, ◌&&◌, min, refl}
 use Rattle.std.specs.Ordering.{nat_cmp}
 use Rattle.std.specs.FinMap.{FinMap, empty, get, insert, len, code}
+use Rattle.std.specs.List.{fold}
 use Rattle.std.specs.Option.{option_or}
 use Rattle.std.specs.Coded.{Coded, code_by, coded×, coded_ℕ, coded_list}
 use Rattle.merkle_base.specs.Forest.{size}
@@ -38,10 +39,6 @@ leaf_total p = p.leaves_before + length p.added
 abbrev pub with_leaves : {D : Type 0} → UnmerkleizedModel D → List D → UnmerkleizedModel D
 with_leaves p ds = record p { added = p.added ++ ds }
 
--- the batch with one leaf more
-abbrev pub with_leaf : {D : Type 0} → UnmerkleizedModel D → D → UnmerkleizedModel D
-with_leaf p d = with_leaves p (d ∷ [])
-
 -- the batch with another digest for the leaf at location k
 abbrev pub with_update : {D : Type 0} → (List ℕ → List ℕ) → UnmerkleizedModel D → ℕ → D → UnmerkleizedModel D
 with_update rule p k d =
@@ -51,8 +48,7 @@ with_update rule p k d =
 
 -- one update after another
 abbrev pub with_updates : {D : Type 0} → (List ℕ → List ℕ) → UnmerkleizedModel D → List (ℕ × D) → UnmerkleizedModel D
-with_updates rule p [] = p
-with_updates rule p (u ∷ us) = with_updates rule (with_update rule p u.0 u.1) us
+with_updates rule p us = fold (λ p u. with_update rule p u.0 u.1) p us
 
 -- why the leaf at location k is not updated: there is no such leaf, or it is pruned
 abbrev pub update_error : {F D : Type 0} → (List ℕ → List ℕ) → UnmerkleizedModel D → ℕ → Option (Error F)
@@ -90,8 +86,7 @@ pending_list rule p X = replaced rule (get p.overwritten) 0 X ++ p.added
 
 -- the list with each of these entries set to its digest, one after another
 abbrev pub with_entries : {D : Type 0} → List D → List (ℕ × D) → List D
-with_entries X [] = X
-with_entries X (u ∷ us) = with_entries (slice_set X u.0 u.1) us
+with_entries X us = fold (λ X u. slice_set X u.0 u.1) X us
 
 -- what holds of every batch that is not merkleized yet
 pub record IsUnmerkleizedValid {D : Type 0} (rule : List ℕ → List ℕ) (max_leaves : ℕ) (p : UnmerkleizedModel D) : Type 0 where

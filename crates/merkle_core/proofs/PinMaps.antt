@@ -19,13 +19,13 @@ use Rattle.merkle_base.proofs.PeakLists.{Spans, peaks_spans}
 use Rattle.merkle_batch_theory.specs.Contents.{Contents}
 use Rattle.merkle_batch_theory.specs.Held.{PinsBefore, overwritten_by}
 use Rattle.merkle_batch_theory.specs.HeldPeaks.{pins_of}
-use Rattle.merkle_batch_theory.specs.MemModel.{numbered, stored_of}
+use Rattle.merkle_batch_theory.specs.MemModel.{stored_of}
 use Rattle.merkle_batch_theory.proofs.HeldNodes.{replaced}
 use Rattle.merkle_batch_theory.proofs.Kept.{get_mapped}
 use Rattle.merkle_batch_theory.proofs.ListFacts.{any_find, get_reversed}
 use Rattle.merkle_batch_theory.proofs.MapFacts.{eqb_comm}
 use Rattle.merkle_batch_theory.proofs.OptionFacts.{or_nothing}
-use Rattle.merkle_batch_theory.proofs.Stored.{held, held_before, lookup_at}
+use Rattle.merkle_batch_theory.proofs.Stored.{numbered, held, held_before, lookup_at}
 
 -- ---- one value is replaced
 module _ {D : Type 0} (at : ℕ) (d : D) (p : ℕ) where

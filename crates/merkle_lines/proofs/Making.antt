@@ -13,7 +13,7 @@ use Rattle.merkle_base.specs.Tree.{Tree, leaf, join, position}
 use Rattle.merkle_batch_theory.specs.Contents.{Contents, Agrees, AgreesWithOne, held_peaks, is_kept}
 use Rattle.merkle_batch_theory.specs.Missing.{IsMissing}
 use Rattle.merkle_batch_theory.specs.Needed.{is_computed, IsChanged, IsNeeded, IsUsed}
-use Rattle.merkle_batch_theory.specs.Unmerkleized.{UnmerkleizedModel, is_changed, kept, kept_lists, leaf_total, pending_list, with_leaf, with_update}
+use Rattle.merkle_batch_theory.specs.Unmerkleized.{UnmerkleizedModel, is_changed, kept, kept_lists, leaf_total, pending_list, with_update, with_leaves}
 use Rattle.merkle_batch_theory.specs.Read.{read_over}
 use Rattle.merkle_batch_theory.specs.Records.{MerkleizedModel, RecordModel, after, records}
 use Rattle.merkle_batch_theory.specs.Replay.{applied, apply_error, with_records, with_record, last_match, matched, oldest, is_state}
@@ -84,7 +84,7 @@ module _ {D : Type 0} (h : Hashing D) (rule : List ℕ → List ℕ) (X : List D
       ∙ ap length m.elements ∙ length-leaf_digests h rule 0 c.elements
 
   -- with one element more
-  pub makes_more : (e : List ℕ) → Makes h rule X (with_leaf b (h.leaf (size rule (leaf_total b)) e)) (with_element c e)
+  pub makes_more : (e : List ℕ) → Makes h rule X (with_leaves b ((h.leaf (size rule (leaf_total b)) e) ∷ [])) (with_element c e)
   makes_more e = record {
     origin = m.origin;
     agreed = m.agreed;

@@ -1,5 +1,5 @@
 use Rattle.std.proofs.Common.{[], ◌∷◌, ap, ◌∙◌}
-use Rattle.merkle_batch_theory.specs.Unmerkleized.{pending_list, with_leaf}
+use Rattle.merkle_batch_theory.specs.Unmerkleized.{pending_list, with_leaves}
 use Rattle.merkle_batch_theory.proofs.PendingUpdates.{leaves_list}
 use Rattle.merkle_batch.proofs.MerkleizeFacts.{of_fields}
 use Rattle.merkle_batch.proofs.batch.UnmerkleizedBatch.add_leaf_digest.Goals as goal
@@ -7,7 +7,7 @@ use Rattle.merkle_batch.proofs.batch.UnmerkleizedBatch.add_leaf_digest.Goals as 
 pub returns-clause-added : goal.returns-clause-added
 returns-clause-added g c =
     ap (λ xs. of_fields c.self.inside.parent.value c.self.inside.leaves_before xs c.self.inside.updates.entries c.self.inside.forgotten) c.in_ok-push.ensures.items
-    ∙ ap (λ b. with_leaf b c.args.digest) c.self.view_is
+    ∙ ap (λ b. with_leaves b (c.args.digest ∷ [])) c.self.view_is
 
 pub returns-clause-edited : goal.returns-clause-edited
 returns-clause-edited g c = λ X.

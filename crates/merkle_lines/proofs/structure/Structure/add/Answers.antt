@@ -4,7 +4,7 @@ use Rattle.merkle_base.specs.Scheme.{scheme_of}
 use Rattle.merkle_hasher.specs.Standard.{standard}
 use Rattle.merkle_range.specs.Input.{leaf_digests}
 use Rattle.merkle_base.specs.Forest.{size}
-use Rattle.merkle_batch_theory.specs.Unmerkleized.{leaf_total, with_leaf}
+use Rattle.merkle_batch_theory.specs.Unmerkleized.{leaf_total, with_leaves}
 use Rattle.merkle_lines.specs.Answers.{error_line}
 use Rattle.merkle_lines.specs.StructureState.{changes, with_changes, with_element, without_changes}
 use Rattle.merkle_lines.specs.Held.{Makes}
@@ -55,8 +55,8 @@ returns-clause-answered g c = λ given word held.
     let makes : Makes h rule (leaf_digests h rule 0 given.committed) c.in-Ok.value (changes given) = c.in-Ok.ensures.batch given held in
     let total = made_total h rule _ c.in-Ok.value (changes given) makes in
     let element = c.in-Ok-read_hex.value.items in
-    let more : c.in-Ok-add.value ≡ with_leaf c.in-Ok.value (h.leaf (size rule (leaf_total c.in-Ok.value)) element) =
-    subst (λ x. c.in-Ok-add.value ≡ with_leaf c.in-Ok.value (h.leaf (size rule (leaf_total c.in-Ok.value)) x)) c.as_slice.ensures.value c.in-Ok-add.ensures.added in (
+    let more : c.in-Ok-add.value ≡ with_leaves c.in-Ok.value ((h.leaf (size rule (leaf_total c.in-Ok.value)) element) ∷ []) =
+    subst (λ x. c.in-Ok-add.value ≡ with_leaves c.in-Ok.value ((h.leaf (size rule (leaf_total c.in-Ok.value)) x) ∷ [])) c.as_slice.ensures.value c.in-Ok-add.ensures.added in (
       with_changes given (with_element (changes given) element),
       held_with h rule most old.committed old.pending given held _ c.in-Ok-add.value (with_element (changes given) element) c.take_pending.ensures.kept
           (subst (λ b. Makes h rule (leaf_digests h rule 0 given.committed) b (with_element (changes given) element)) (sym more) (makes_more h rule _ c.in-Ok.value (changes given) makes element)),
