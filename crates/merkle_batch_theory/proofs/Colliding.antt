@@ -38,8 +38,8 @@ module _ {D : Type 0} (h : Hashing D) (rule : List ℕ → List ℕ) (law : EqDe
         | inl x ↦ elim (tree_same r b.5 ((law (digest_at h X r) (digest_at h Y r)).0 t)) [ inl y ↦ inl (same_join p l r x y) | inr c ↦ inr c ]
         | inr c ↦ inr c
       ])
-      (λ t. inr (p, l, r, b.0, record { one_digest = e; differ = λ d. false≢true (sym t ∙ (law (digest_at h X r) (digest_at h Y r)).1 d.1) })))
-      (λ s. inr (p, l, r, b.0, record { one_digest = e; differ = λ d. false≢true (sym s ∙ (law (digest_at h X l) (digest_at h Y l)).1 d.0) }))
+      (λ t. inr (p, l, r, b.0, e, λ d. false≢true (sym t ∙ (law (digest_at h X r) (digest_at h Y r)).1 d.1))))
+      (λ s. inr (p, l, r, b.0, e, λ d. false≢true (sym s ∙ (law (digest_at h X l) (digest_at h Y l)).1 d.0)))
 
   trees_same : (ts : List Tree) → AllByRecursion (IsBuilt (forest rule (length X)).nodes) ts → ((i : ℕ) (t : Tree) → slice_get ts i ≡ Some t → digest_at h X t ≡ digest_at h Y t) → ((i : ℕ) (t : Tree) → slice_get ts i ≡ Some t → Same t) ⊎ Collide h rule X Y
   trees_same [] b e = inl (λ i t d. absurd (cc))

@@ -5,10 +5,9 @@ use Rattle.merkle_base.specs.Forest.{forest}
 use Rattle.merkle_base.specs.Hashing.{Hashing}
 use Rattle.merkle_base.specs.Digests.{digest_at}
 
-pub record CollideAt {D : Type 0} (h : Hashing D) (X Y : List D) (p : ℕ) (l r : Tree) : Type 0 where
-  pub one_digest : h.node p (digest_at h X l) (digest_at h X r) ≡ h.node p (digest_at h Y l) (digest_at h Y r)
-  pub differ : (digest_at h X l ≡ digest_at h Y l) × (digest_at h X r ≡ digest_at h Y r) → ⊥
-
--- X and Y, of one length, collide at a node of their forest
+-- X and Y, of one length, collide at a node of their forest: its children have one digest in both, and are not the same
 abbrev pub Collide : {D : Type 0} → Hashing D → (List ℕ → List ℕ) → List D → List D → Type 0
-Collide h rule X Y = (p : ℕ) × (l r : Tree) × (slice_get (forest rule (length X)).nodes p ≡ Some (join p l r)) × CollideAt h X Y p l r
+Collide h rule X Y =
+    (p : ℕ) × (l r : Tree) × (slice_get (forest rule (length X)).nodes p ≡ Some (join p l r))
+    × (h.node p (digest_at h X l) (digest_at h X r) ≡ h.node p (digest_at h Y l) (digest_at h Y r))
+    × ((digest_at h X l ≡ digest_at h Y l) × (digest_at h X r ≡ digest_at h Y r) → ⊥)

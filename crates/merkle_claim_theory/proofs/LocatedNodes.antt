@@ -83,8 +83,8 @@ collide_is_located h rule X Z long w = (
   record {
     claimed = list_node h X rule (length X) refl w.0 w.1 w.2 w.3;
     listed = list_node h Z rule (length X) long w.0 w.1 w.2 w.3;
-    differ = λ e. w.4.differ (two_parts _ _ _ _ e);
-    one_digest = w.4.one_digest;
+    differ = λ e. w.5 (two_parts _ _ _ _ e);
+    one_digest = w.4;
   },
   refl,
 )
@@ -96,11 +96,13 @@ located_is_collide {D = D} h rule X Z long c k p here =
     let same = one_node p x.0 x.1 z.0 z.1 (sym x.2 ∙ ap (λ m. slice_get (forest rule m).nodes p) long ∙ z.2) in
     let claimed : c.claimed ≡ Pair (digest_at h X x.0) (digest_at h X x.1) = x.3 ∙ pair_is h X x.0 x.1 in
     let listed : c.listed ≡ Pair (digest_at h Z x.0) (digest_at h Z x.1) = z.3 ∙ pair_is h Z z.0 z.1 ∙ ap₂ (λ l r. Pair (digest_at h Z l) (digest_at h Z r)) (sym same.0) (sym same.1) in (
-      x.0,
-      x.1,
-      x.2,
-      record {
-        one_digest = sym (ap₂ (λ q a. digest_of_argument h q a) here claimed) ∙ k.one_digest ∙ ap₂ (λ q a. digest_of_argument h q a) here listed;
-        differ = λ e. k.differ (claimed ∙ ap₂ (λ a b. Pair a b) e.0 e.1 ∙ sym listed);
-      },
+      (
+        p,
+        x.0,
+        x.1,
+        x.2,
+        sym (ap₂ (λ q a. digest_of_argument h q a) here claimed) ∙ k.one_digest ∙ ap₂ (λ q a. digest_of_argument h q a) here listed,
+        λ e. k.differ (claimed ∙ ap₂ (λ a b. Pair a b) e.0 e.1 ∙ sym listed),
+      ),
+      refl,
     )

@@ -62,9 +62,9 @@ plain_collision h plain size laws xs ys c form k = record {
 }
 
 pub node_collision : {D : Type 0} → NodeCollision D
-node_collision h plain size laws X Y p l r k = record {
-  differ = λ e. k.differ (string_tells h size laws (Node p) (digest_at h X l) (digest_at h X r) (digest_at h Y l) (digest_at h Y r) e);
-  one_hash = sym (plain.node p (digest_at h X l) (digest_at h X r)) ∙ k.one_digest ∙ plain.node p (digest_at h Y l) (digest_at h Y r);
+node_collision h plain size laws X Y p l r one differ = record {
+  differ = λ e. differ (string_tells h size laws (Node p) (digest_at h X l) (digest_at h X r) (digest_at h Y l) (digest_at h Y r) e);
+  one_hash = sym (plain.node p (digest_at h X l) (digest_at h X r)) ∙ one ∙ plain.node p (digest_at h Y l) (digest_at h Y r);
 }
 
 -- ---- of what is hashed for the checks

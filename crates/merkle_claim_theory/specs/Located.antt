@@ -1,10 +1,8 @@
 -- A collision of two lists at a node, as a located collision of the inputs of their forests.
-use Rattle.std.specs.Prelude.{◌≡◌, ℕ, List, length, Some, slice_get}
-use Rattle.merkle_base.specs.Tree.{Tree, join}
-use Rattle.merkle_base.specs.Forest.{forest}
+use Rattle.std.specs.Prelude.{◌≡◌, ℕ, List, length}
 use Rattle.merkle_base.specs.Hashing.{Hashing}
 use Rattle.merkle_base.specs.Places.{peaks_of}
-use Rattle.merkle_batch_theory.specs.Collision.{CollideAt, Collide}
+use Rattle.merkle_batch_theory.specs.Collision.{Collide}
 use Rattle.merkle_root_theory.specs.Expression.{Node, Input}
 use Rattle.merkle_root_theory.specs.Collision.{Collision, Collides}
 use Rattle.merkle_root_theory.specs.Range.{leaf_of}
@@ -23,4 +21,4 @@ CollideIsLocated D = (h : Hashing D) (rule : List ℕ → List ℕ) (X Z : List 
 abbrev pub LocatedIsCollide : Type 0 → Type 0
 LocatedIsCollide D = (h : Hashing D) (rule : List ℕ → List ℕ) (X Z : List D) → length X ≡ length Z
     → (c : Collision D) → Collides h (node_inputs h rule X) (node_inputs h rule Z) c → (p : ℕ) → c.place ≡ Node p
-    → (l r : Tree) × (slice_get (forest rule (length X)).nodes p ≡ Some (join p l r)) × CollideAt h X Z p l r
+    → (w : Collide h rule X Z) × (w.0 ≡ p)

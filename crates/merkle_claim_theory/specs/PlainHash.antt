@@ -4,7 +4,6 @@ use Rattle.std.specs.Int.{to_be_bytes, w64}
 use Rattle.merkle_base.specs.Hashing.{Hashing}
 use Rattle.merkle_base.specs.Tree.{Tree}
 use Rattle.merkle_base.specs.Digests.{digest_at}
-use Rattle.merkle_batch_theory.specs.Collision.{CollideAt}
 use Rattle.merkle_hasher.specs.Standard.{standard}
 use Rattle.merkle_root_theory.specs.Expression.{Place, Root, Join, PrefixFold, SuffixFold, Node, Argument, Pair, Bytes, Input}
 use Rattle.merkle_root_theory.specs.Collision.{Collision, Collides}
@@ -86,5 +85,7 @@ PairCollision D = (s : Scheme D) → IsPlain s.hashing → (size : ℕ) → Byte
 
 -- and of two lists at a node
 abbrev pub NodeCollision : Type 0 → Type 0
-NodeCollision D = (h : Hashing D) → IsPlain h → (size : ℕ) → ByteLaws h size → (X Y : List D) (p : ℕ) (l r : Tree) → CollideAt h X Y p l r
+NodeCollision D = (h : Hashing D) → IsPlain h → (size : ℕ) → ByteLaws h size → (X Y : List D) (p : ℕ) (l r : Tree)
+    → h.node p (digest_at h X l) (digest_at h X r) ≡ h.node p (digest_at h Y l) (digest_at h Y r)
+    → ((digest_at h X l ≡ digest_at h Y l) × (digest_at h X r ≡ digest_at h Y r) → ⊥)
     → IsHashCollision h.hash (joined_at h.bytes (Node p) (digest_at h X l) (digest_at h X r)) (joined_at h.bytes (Node p) (digest_at h Y l) (digest_at h Y r))

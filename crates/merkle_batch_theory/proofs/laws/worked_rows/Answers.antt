@@ -32,9 +32,9 @@ returns c = record {
   prunes = pruned_row;
   stands = stands_row;
   needs = (inl (2, leaf 0 0, leaf 1 1, refl, refl, inr refl), omega arith, refl);
-  collide = (2, leaf 0 0, leaf 1 1, refl, record { one_digest = refl; differ = λ d. absurd (cc) });
+  collide = (2, leaf 0 0, leaf 1 1, refl, refl, λ d. absurd (cc));
   exchange_stands = stands_exchange;
-  exchange_collides = (2, leaf 0 0, leaf 1 1, refl, record { one_digest = refl; differ = λ d. absurd (cc) });
+  exchange_collides = (2, leaf 0 0, leaf 1 1, refl, refl, λ d. absurd (cc));
   exchange_matched = refl;
   own_agrees = own_row;
   own_applies = refl;
