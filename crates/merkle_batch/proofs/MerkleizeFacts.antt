@@ -18,7 +18,7 @@ use Rattle.merkle_batch.specs.Finished.{finished}
 use Rattle.merkle_draft.specs.DraftReads.{ArePeaksRead, below, DraftModel, IsPeakGap, old_node, stored_node}
 use Rattle.merkle_draft.specs.NewDigests.{AreNewDigests, LacksNeeded}
 use Rattle.merkle_batch_theory.specs.Missing.{IsMissing}
-use Rattle.merkle_batch_theory.specs.Needed.{IsChanged}
+use Rattle.merkle_batch_theory.proofs.NeededNodes.{IsChanged}
 use Rattle.merkle_batch_theory.specs.Unmerkleized.{IsUnmerkleizedValid, UnmerkleizedModel, kept, kept_lists, leaf_total, pending_list}
 use Rattle.merkle_batch_theory.specs.Read.{read_over}
 use Rattle.merkle_batch_theory.specs.BatchValid.{IsBatchValid, RunsFrom}

@@ -9,7 +9,8 @@ use Rattle.merkle_base.specs.Forest.{forest, size}
 use Rattle.merkle_base.specs.Hashing.{Hashing}
 use Rattle.merkle_base.proofs.Lookup.{peak_node}
 use Rattle.merkle_base.proofs.Nodes.{node_anywhere}
-use Rattle.merkle_batch_theory.specs.Needed.{IsChanged, IsNeeded}
+use Rattle.merkle_batch_theory.specs.Needed.{IsNeeded}
+use Rattle.merkle_batch_theory.proofs.NeededNodes.{IsChanged}
 use Rattle.merkle_batch_theory.specs.History.{is_dirty}
 use Rattle.merkle_batch_theory.proofs.ListFacts.{get_reverse, get_reversed}
 use Rattle.merkle_draft.specs.declared.node_error.NodeError.{NodeError}

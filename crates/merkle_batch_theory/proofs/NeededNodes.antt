@@ -1,5 +1,5 @@
 -- What is needed is kept.
-use Rattle.std.proofs.Common.{◌≡◌, ℕ, ◌≤◌, List, Option, Some, true, slice_get, arith, refl, sym, inl, inr, subst}
+use Rattle.std.proofs.Common.{◌≡◌, ℕ, ◌<◌, ◌≤◌, ◌⊎◌, List, Option, Some, true, slice_get, arith, refl, sym, inl, inr, subst}
 use Rattle.std.specs.Prelude.{is_some}
 use Rattle.std.proofs.lemmas.Bool.{leb-true, or_cases}
 use Rattle.std.proofs.Common.{leb}
@@ -14,6 +14,10 @@ use Rattle.merkle_batch_theory.specs.Contents.{is_kept}
 use Rattle.merkle_batch_theory.specs.History.{is_dirty}
 use Rattle.merkle_batch_theory.specs.Needed.{is_computed, IsUsed}
 use Rattle.merkle_batch_theory.proofs.Kept.{kept_held}
+
+-- there are leaves after n, or m has a digest for one before
+abbrev pub IsChanged : {D : Type 0} → (List ℕ → List ℕ) → (ℕ → Option D) → ℕ → ℕ → Type 0
+IsChanged rule m n e = (n < e) ⊎ ((k : ℕ) × (k < n) × (is_some (m (size rule k)) ≡ true))
 
 -- a leaf under a dirty tree has a digest
 pub dirty_leaf : {D : Type 0} (m : ℕ → Option D) (t : Tree) → is_dirty m t ≡ true → (q k : ℕ) × IsUnder (leaf q k) t × (is_some (m q) ≡ true)

@@ -12,7 +12,8 @@ use Rattle.merkle_base.specs.declared.error.Error.{Error}
 use Rattle.merkle_base.specs.Tree.{Tree, leaf, join, position}
 use Rattle.merkle_batch_theory.specs.Contents.{Contents, Agrees, AgreesWithOne, held_peaks, is_kept}
 use Rattle.merkle_batch_theory.specs.Missing.{IsMissing}
-use Rattle.merkle_batch_theory.specs.Needed.{is_computed, IsChanged, IsNeeded, IsUsed}
+use Rattle.merkle_batch_theory.specs.Needed.{is_computed, IsNeeded, IsUsed}
+use Rattle.merkle_batch_theory.proofs.NeededNodes.{IsChanged}
 use Rattle.merkle_batch_theory.specs.Unmerkleized.{UnmerkleizedModel, is_changed, kept, kept_lists, leaf_total, pending_list, with_update, with_leaves}
 use Rattle.merkle_batch_theory.specs.Read.{read_over}
 use Rattle.merkle_batch_theory.specs.Records.{MerkleizedModel, RecordModel, after, records}

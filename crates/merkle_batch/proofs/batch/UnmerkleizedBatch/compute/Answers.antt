@@ -11,7 +11,8 @@ use Rattle.merkle_base.specs.declared.error.Error.TheVariants as error
 use Rattle.merkle_batch_theory.specs.BatchValid.{IsBatchValid}
 use Rattle.merkle_batch_theory.specs.History.{last_list, IsHistory}
 use Rattle.merkle_batch_theory.specs.Missing.{IsMissing}
-use Rattle.merkle_batch_theory.specs.Needed.{computed_nodes, IsChanged}
+use Rattle.merkle_batch_theory.specs.Needed.{computed_nodes}
+use Rattle.merkle_batch_theory.proofs.NeededNodes.{IsChanged}
 use Rattle.merkle_batch_theory.specs.Records.{after, records}
 use Rattle.merkle_batch_theory.specs.Unmerkleized.{is_changed, kept, kept_lists, leaf_total, UnmerkleizedModel, pending_list}
 use Rattle.merkle_batch_theory.proofs.MapFacts.{no_entry}
