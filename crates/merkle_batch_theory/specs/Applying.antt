@@ -11,17 +11,14 @@ use Rattle.merkle_batch_theory.specs.Collision.{Collide}
 -- a batch that stands on lists was applied to a structure that agreed with X
 pub record IsAppliedTo {D : Type 0} (h : Hashing D) (rule : List ℕ → List ℕ)
     (batch : MerkleizedModel D) (ls : List (List D)) (X : List D) (old new : Contents D) : Type 0 where
-  -- the state that was matched, and its list
-  pub place : ℕ
+  pub place : ℕ  -- the state that was matched, and its list
   pub list : List D
   pub found : matched h.same old.size (held_peaks rule (length X) old) batch ≡ Some place
   pub listed : slice_get ls place ≡ Some list
-  -- which has the length and the peak digests of X
-  pub as_long : length X ≡ length list
+  pub as_long : length X ≡ length list  -- which has the length and the peak digests of X
   pub same_peaks : peak_digests h rule X ≡ peak_digests h rule list
-  -- if it is X, the structure agrees with the last list; if it is not, the two collide at a node
-  pub agrees : X ≡ list → Agrees h rule new (last_list ls)
-  pub collides : (X ≡ list → ⊥) → Collide h rule X list
+  pub agrees : X ≡ list → Agrees h rule new (last_list ls)  -- if it is X, the structure agrees with the last list
+  pub collides : (X ≡ list → ⊥) → Collide h rule X list  -- if it is not, the two collide at a node
 
 -- so it is for all lists that the structure agreed with and that the batch stands on
 abbrev pub IsApplied : {D : Type 0} → (D → D → Bool) → (List ℕ → List ℕ) → MerkleizedModel D → (old new : Contents D) → Type 0

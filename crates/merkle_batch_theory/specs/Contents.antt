@@ -10,12 +10,9 @@ use Rattle.merkle_base.specs.Places.{peak_positions}
 -- The value of a `Mem` is a `MemModel`, whose nodes are a finite map, as a value has a code; here they are a function, so that pruning
 -- and applying are said position by position, and so that anything that holds nodes can be the base of a batch.
 pub record Contents (D : Type 0) : Type 0 where
-  -- the location that it was pruned to
-  pub boundary : ℕ
-  -- the number of nodes, the pruned ones counted
-  pub size : ℕ
-  -- the node at a position, if it is held
-  pub node : ℕ → Option D
+  pub boundary : ℕ  -- the location that it was pruned to
+  pub size : ℕ  -- the number of nodes, the pruned ones counted
+  pub node : ℕ → Option D  -- the node at a position, if it is held
 
 -- whether position p is kept when all before location b is pruned: it stands at b or after it, or is a peak of b leaves
 abbrev pub is_kept : (List ℕ → List ℕ) → ℕ → ℕ → Bool

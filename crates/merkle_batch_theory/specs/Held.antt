@@ -9,14 +9,10 @@ use Rattle.merkle_batch_theory.specs.Contents.{Contents}
 use Rattle.merkle_batch_theory.specs.Records.{RecordModel}
 
 pub record Held (D : Type 0) : Type 0 where
-  -- the position from which on no node is missing
-  pub start : ℕ
-  -- the number of nodes, those that are not held counted
-  pub size : ℕ
-  -- the nodes held, by position
-  pub stored : FinMap nat_cmp D
-  -- how many nodes there can be before more memory is needed
-  pub capacity : ℕ
+  pub start : ℕ  -- the position from which on no node is missing
+  pub size : ℕ  -- the number of nodes, those that are not held counted
+  pub stored : FinMap nat_cmp D  -- the nodes held, by position
+  pub capacity : ℕ  -- how many nodes there can be before more memory is needed
 
 abbrev pub held_code : {D : Type 0} → Coded D → Coded (Held D)
 held_code d =

@@ -7,14 +7,10 @@ use Rattle.std.specs.Coded.{Coded, code_by, coded×, coded_ℕ}
 use Rattle.merkle_batch_theory.specs.Contents.{Contents}
 
 pub record MemModel (D : Type 0) : Type 0 where
-  -- the location that it was pruned to
-  pub boundary : ℕ
-  -- the number of leaves, the pruned ones counted
-  pub leaves : ℕ
-  -- the number of nodes, the pruned ones counted
-  pub size : ℕ
-  -- the nodes held, by position
-  pub stored : FinMap nat_cmp D
+  pub boundary : ℕ  -- the location that it was pruned to
+  pub leaves : ℕ  -- the number of leaves, the pruned ones counted
+  pub size : ℕ  -- the number of nodes, the pruned ones counted
+  pub stored : FinMap nat_cmp D  -- the nodes held, by position
 
 abbrev pub mem_model_code : {D : Type 0} → Coded D → Coded (MemModel D)
 mem_model_code d =

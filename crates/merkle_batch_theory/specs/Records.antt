@@ -5,16 +5,11 @@ use Rattle.std.specs.FinMap.{FinMap, code}
 use Rattle.std.specs.Coded.{Coded, code_by, coded×, coded_ℕ, coded_list}
 
 pub record RecordModel (D : Type 0) : Type 0 where
-  -- the number of nodes before
-  pub before : ℕ
-  -- the digests of the peaks before, oldest first
-  pub peaks_before : List D
-  -- the nodes from position `before` on
-  pub appended : List D
-  -- the nodes replaced, by position
-  pub overwritten : FinMap nat_cmp D
-  -- the digests of the peaks after, oldest first
-  pub peaks_after : List D
+  pub before : ℕ  -- the number of nodes before
+  pub peaks_before : List D  -- the digests of the peaks before, oldest first
+  pub appended : List D  -- the nodes from position `before` on
+  pub overwritten : FinMap nat_cmp D  -- the nodes replaced, by position
+  pub peaks_after : List D  -- the digests of the peaks after, oldest first
 
 abbrev pub record_model_code : {D : Type 0} → Coded D → Coded (RecordModel D)
 record_model_code d =
@@ -29,13 +24,11 @@ after r = r.before + length r.appended
 
 -- a batch: its own record behind those that it keeps, oldest first
 pub record MerkleizedModel (D : Type 0) : Type 0 where
-  -- the size and the pruning boundary of the `Mem` that it began with
-  pub base_size : ℕ
-  pub boundary : ℕ
+  pub base_size : ℕ  -- the size of the `Mem` that it began with
+  pub boundary : ℕ  -- and its pruning boundary
   pub ancestors : List (RecordModel D)
   pub own : RecordModel D
-  -- the number of leaves after it
-  pub leaves : ℕ
+  pub leaves : ℕ  -- the number of leaves after it
 
 abbrev pub records : {D : Type 0} → MerkleizedModel D → List (RecordModel D)
 records c = c.ancestors ++ c.own ∷ []

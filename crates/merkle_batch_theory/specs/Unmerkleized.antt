@@ -13,16 +13,11 @@ use Rattle.merkle_batch_theory.specs.History.{replaced}
 
 -- what it was forked from, and the leaves that it changes and adds
 pub record UnmerkleizedModel (D : Type 0) : Type 0 where
-  -- the batch that it was forked from
-  pub parent : MerkleizedModel D
-  -- that batch's number of leaves
-  pub leaves_before : ℕ
-  -- the digests of the added leaves
-  pub added : List D
-  -- the new digests of leaves that were there before, by position
-  pub overwritten : FinMap nat_cmp D
-  -- how many of the parent's ancestors it lets go
-  pub forgotten : ℕ
+  pub parent : MerkleizedModel D  -- the batch that it was forked from
+  pub leaves_before : ℕ  -- that batch's number of leaves
+  pub added : List D  -- the digests of the added leaves
+  pub overwritten : FinMap nat_cmp D  -- the new digests of leaves that were there before, by position
+  pub forgotten : ℕ  -- how many of the parent's ancestors it lets go
 
 abbrev pub unmerkleized_model_code : {D : Type 0} → Coded D → Coded (UnmerkleizedModel D)
 unmerkleized_model_code d =
