@@ -1,5 +1,6 @@
 -- When records are those of a chain of lists.
 use Rattle.std.specs.Prelude.{◌≡◌, ℕ, suc, ◌≤◌, List, [], ◌∷◌, ◌++◌, length, drop, Bool, Option, Some, None, is_some, cond, ◌||◌, ◌==◌, slice_get}
+use Rattle.std.specs.List.{last_or}
 use Rattle.std.specs.Option.{unwrap_or}
 use Rattle.std.specs.FinMap.{get}
 use Rattle.merkle_base.specs.Tree.{Tree, leaf, join}
@@ -49,6 +50,4 @@ IsHistory h rule (r ∷ rs) (X ∷ Y ∷ ls) = IsStep h rule r X Y × IsHistory 
 
 -- the last list
 abbrev pub last_list : {D : Type 0} → List (List D) → List D
-last_list [] = []
-last_list (X ∷ []) = X
-last_list (X ∷ Y ∷ ls) = last_list (Y ∷ ls)
+last_list ls = unwrap_or (last_or None ls) []
