@@ -1,5 +1,5 @@
 -- What a `Mem` is to its callers: where it was pruned to, how many nodes it counts, and which it holds.
-use Rattle.std.specs.Prelude.{ℕ, List, ◌++◌, length, zip, Option, refl}
+use Rattle.std.specs.Prelude.{ℕ, List, ◌++◌, length, zip, refl}
 use Rattle.std.specs.List.{range_with_len}
 use Rattle.std.specs.Ordering.{nat_cmp}
 use Rattle.std.specs.FinMap.{FinMap, get, code, empty, from_entries}
@@ -19,13 +19,9 @@ mem_model_code d =
     (λ p. record { boundary = p.0; leaves = p.1.0; size = p.1.1.0; stored = p.1.1.1 })
     (λ _. refl)
 
--- the node at position p, if it is held
-abbrev pub node : {D : Type 0} → MemModel D → ℕ → Option D
-node s p = get s.stored p
-
 -- with the node at each position as a function
 abbrev pub contents : {D : Type 0} → MemModel D → Contents D
-contents s = record { boundary = s.boundary; size = s.size; node = node s }
+contents s = record { boundary = s.boundary; size = s.size; node = get s.stored }
 
 -- what is held at a position: a pin, or one of the nodes from position start on
 abbrev pub stored_of : {D : Type 0} → List (ℕ × D) → ℕ → List D → FinMap nat_cmp D

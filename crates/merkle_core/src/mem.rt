@@ -1,11 +1,12 @@
 //! Merkle structures in memory.
 ghost use Rattle.std.specs.Prelude.{◌≡◌, ◌≢◌, ◌+◌, ◌<◌, ◌≤◌, ◌&&◌, ℕ, List, [], ◌∷◌, Err, None, Ok, is_some, map, nat_lt, take, true, length, OnErr, OnOk, IfOk, IfErr, IsOkUnless};
+ghost use Rattle.std.specs.FinMap.{get};
 ghost use Rattle.merkle_base.specs.Places.{peaks_of, placed};
 ghost use Rattle.merkle_base.specs.Forest.{size};
 ghost use Rattle.merkle_base.specs.Root.{list_root, peaks_root};
 ghost use Rattle.merkle_base.specs.Shows.{Shows};
 ghost use Rattle.merkle_forest_theory.specs.FewPeaks.{FewPeaks};
-ghost use Rattle.merkle_batch_theory.specs.MemModel.{contents, no_leaves, node};
+ghost use Rattle.merkle_batch_theory.specs.MemModel.{contents, no_leaves};
 ghost use Rattle.merkle_base.specs.Hashing.{Hashing};
 ghost use Rattle.merkle_batch_theory.specs.Applying.{IsApplied};
 ghost use Rattle.merkle_batch_theory.specs.Contents.{Agrees, held_peaks, is_kept};
@@ -152,7 +153,7 @@ impl<F: Family, D: Digest> Mem<F, D> {
     /// Exactly the nodes from the boundary's position on are held, and the peaks of the leaves
     /// before the boundary.
     pub fn get_node(&self, position: Position<F>) -> Option<D>
-        ensures node { result ≡ node self.now position }
+        ensures node { result ≡ get self.now.stored position }
         ensures held { is_some result ≡ nat_lt position self.now.size && is_kept F.rule self.now.boundary position }
     {
         self.held.get(position)
@@ -243,12 +244,12 @@ impl<F: Family, D: Digest> Mem<F, D> {
         inactive: usize,
     ) -> Result<Proof<F, D>, Error<F>>
         ensures built { let s = H.scheme hasher.now in
-            IfOk result (λ p. IsBuiltProof s (node self.now) inactive plan p) }
+            IfOk result (λ p. IsBuiltProof s (get self.now.stored) inactive plan p) }
         ensures honest { let s = H.scheme hasher.now in
             (X : List D) → length X ≡ plan.leaves → Agrees (H.hashing hasher.now) F.rule (contents self.now) X
             → IfOk result (λ p. IsHonestRange s X inactive (list_input p X plan.start plan.end)) }
         ensures err { let bagging = H.bagging_of hasher.now in
-            IfErr result (λ e. e ≢ Error.OutOfMemory → IsBuildRefusal bagging F.rule plan inactive (λ p r. r ≡ node self.now p) e) }
+            IfErr result (λ e. e ≢ Error.OutOfMemory → IsBuildRefusal bagging F.rule plan inactive (λ p r. r ≡ get self.now.stored p) e) }
     {
         plan.build(hasher, inactive, |position| self.get_node(position))
     }
@@ -274,7 +275,7 @@ impl<F: Family, D: Digest> Mem<F, D> {
     ) -> Result<Proof<F, D>, Error<F>>
         ensures built { let s = H.scheme hasher.now in
             let plan : LeafRange = record { leaves = self.now.leaves; start = location; end = location + 1 } in
-            IfOk result (λ p. location < self.now.leaves × IsBuiltProof s (node self.now) inactive plan p) }
+            IfOk result (λ p. location < self.now.leaves × IsBuiltProof s (get self.now.stored) inactive plan p) }
 
         // It is the honest proof of every list that the structure agrees with.
         ensures honest { let s = H.scheme hasher.now in
@@ -284,7 +285,7 @@ impl<F: Family, D: Digest> Mem<F, D> {
             → inactive ≤ length (peaks_of F.rule (length X)) → IsOkUnless result Error.OutOfMemory }
         ensures at_most_122 { FewPeaks F.rule F.MAX_LEAVES → IfOk result (λ p. length p.digests.items ≤ 122) }
         ensures err { let bagging = H.bagging_of hasher.now in
-            IfErr result (λ e. e ≢ Error.OutOfMemory → IsProofRefusal bagging F.rule F.MAX_LEAVES self.now.leaves location inactive (node self.now) e) }
+            IfErr result (λ e. e ≢ Error.OutOfMemory → IsProofRefusal bagging F.rule F.MAX_LEAVES self.now.leaves location inactive (get self.now.stored) e) }
     {
         let leaves = self.leaves();
         if !location.is_valid_index() {
@@ -321,7 +322,7 @@ impl<F: Family, D: Digest> Mem<F, D> {
     ) -> Result<Proof<F, D>, Error<F>>
         ensures built { let s = H.scheme hasher.now in
             let plan : LeafRange = record { leaves = self.now.leaves; start = range.start; end = range.end } in
-            IfOk result (λ p. (range.start < range.end) × (range.end ≤ self.now.leaves) × IsBuiltProof s (node self.now) inactive plan p) }
+            IfOk result (λ p. (range.start < range.end) × (range.end ≤ self.now.leaves) × IsBuiltProof s (get self.now.stored) inactive plan p) }
 
         // It is the honest proof of every list that the structure agrees with.
         ensures honest { let s = H.scheme hasher.now in
@@ -330,7 +331,7 @@ impl<F: Family, D: Digest> Mem<F, D> {
         ensures granted { (h : Hashing D) → (X : List D) → Agrees h F.rule (contents self.now) X → self.now.boundary ≤ range.start
             → range.start < range.end → range.end ≤ length X → inactive ≤ length (peaks_of F.rule (length X)) → IsOkUnless result Error.OutOfMemory }
         ensures err { let bagging = H.bagging_of hasher.now in let n = self.now.leaves in
-            IfErr result (λ e. e ≢ Error.OutOfMemory → IsRangeRefusal bagging F.rule F.MAX_LEAVES n range.start range.end inactive (node self.now) e) }
+            IfErr result (λ e. e ≢ Error.OutOfMemory → IsRangeRefusal bagging F.rule F.MAX_LEAVES n range.start range.end inactive (get self.now.stored) e) }
     {
         let leaves = self.leaves();
         match RangePlan::new(self.allocator(), leaves, range) {
@@ -411,19 +412,19 @@ impl<F: Family, D: Digest> Readable for Mem<F, D> {
 
     ghost size = { λ m. m.size };
 
-    ghost node = { λ m p. node m p };
+    ghost node = { λ m. get m.stored };
 
     fn size(&self) -> Position<F>
         ensures count { result ≡ self.now.size }
 
         // It shows every list that it agrees with.
-        ensures shows { (h : Hashing D) → (X : List D) → Agrees h F.rule (contents self.now) X → Shows h F.rule self.now.size (node self.now) X }
+        ensures shows { (h : Hashing D) → (X : List D) → Agrees h F.rule (contents self.now) X → Shows h F.rule self.now.size (get self.now.stored) X }
     {
         Mem::size(self)
     }
 
     fn get_node(&self, position: Position<F>) -> Option<D>
-        ensures { result ≡ node self.now position }
+        ensures { result ≡ get self.now.stored position }
     {
         Mem::get_node(self, position)
     }
@@ -449,7 +450,7 @@ impl<F: Family, D: Digest> Base<F> for Mem<F, D> {
     }
 
     fn get_node(&self, position: Position<F>) -> Option<D>
-        ensures { result ≡ node self.now position }
+        ensures { result ≡ get self.now.stored position }
     {
         Readable::get_node(self, position)
     }

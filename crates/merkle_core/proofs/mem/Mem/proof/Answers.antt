@@ -3,7 +3,8 @@ use Rattle.std.proofs.lemmas.Bool.{false≢true}
 use Rattle.std.proofs.lemmas.Result.{IfErr-weaker, IfOk-weaker}
 use Rattle.merkle_base.proofs.Nodes.{size_inj}
 use Rattle.merkle_base.proofs.Limits.{lawful_leaves}
-use Rattle.merkle_batch_theory.specs.MemModel.{node, contents}
+use Rattle.std.specs.FinMap.{get}
+use Rattle.merkle_batch_theory.specs.MemModel.{contents}
 use Rattle.merkle_batch.proofs.KeptReads.{only_memory}
 use Rattle.merkle_core.proofs.HonestReads.{answered_kept}
 use Rattle.merkle_proof.proofs.FewDigests.{built_few}
@@ -42,7 +43,7 @@ returns-in-Ok-clause-built g c =
     let leaves : c.leaves-leaves.result ≡ c.args.self.now.leaves = c.leaves-leaves.ensures.count in
     let plan : c.in-Ok.plan ≡ record { leaves = c.args.self.now.leaves; start = c.args.location; end = c.args.location + 1 } =
     c.in-Ok.ensures.ok ∙ ap (λ e. record { leaves = c.leaves-leaves.result; start = c.args.location; end = e }) c.add.ensures ∙ ap (λ m. record { leaves = m; start = c.args.location; end = c.args.location + 1 }) leaves in
-    IfOk-weaker c.build_proof.result _ _ (λ p built. (omega (arith, below, leaves), subst (λ (r : LeafRange). IsBuiltProof s (node c.args.self.now) c.args.inactive r p) plan built)) c.build_proof.ensures.built
+    IfOk-weaker c.build_proof.result _ _ (λ p built. (omega (arith, below, leaves), subst (λ (r : LeafRange). IsBuiltProof s (get c.args.self.now.stored) c.args.inactive r p) plan built)) c.build_proof.ensures.built
 
 pub returns-in-Ok-clause-honest : goal.returns-in-Ok-clause-honest
 returns-in-Ok-clause-honest g c = λ X agrees.
@@ -59,8 +60,8 @@ returns-in-Ok-clause-granted g c = λ h X agrees low less few.
     let leaves : c.leaves-leaves.result ≡ length X = size_inj g.F.Family.rule c.leaves-leaves.result (length X) (c.leaves-leaves.ensures.sized ∙ agrees.sized) in
     let plan : c.in-Ok.plan ≡ record { leaves = length X; start = c.args.location; end = c.args.location + 1 } =
     c.in-Ok.ensures.ok ∙ ap (λ e. record { leaves = c.leaves-leaves.result; start = c.args.location; end = e }) c.add.ensures ∙ ap (λ m. record { leaves = m; start = c.args.location; end = c.args.location + 1 }) leaves in
-    IfErr-weaker c.build_proof.result _ _ (λ e refused. only_memory h g.F.Family.rule c.args.self.now.boundary (length X) agrees.bounded (node c.args.self.now) (answered_kept h g.F.Family.rule (contents c.args.self.now) X agrees) (g.H.Hasher.bagging_of c.args.hasher.now) c.args.location (c.args.location + 1) c.args.inactive low few e
-    (λ other. subst (λ r. IsBuildRefusal (g.H.Hasher.bagging_of c.args.hasher.now) g.F.Family.rule r c.args.inactive (λ p o. o ≡ node c.args.self.now p) e) plan (refused other))) c.build_proof.ensures.err
+    IfErr-weaker c.build_proof.result _ _ (λ e refused. only_memory h g.F.Family.rule c.args.self.now.boundary (length X) agrees.bounded (get c.args.self.now.stored) (answered_kept h g.F.Family.rule (contents c.args.self.now) X agrees) (g.H.Hasher.bagging_of c.args.hasher.now) c.args.location (c.args.location + 1) c.args.inactive low few e
+    (λ other. subst (λ r. IsBuildRefusal (g.H.Hasher.bagging_of c.args.hasher.now) g.F.Family.rule r c.args.inactive (λ p o. o ≡ get c.args.self.now.stored p) e) plan (refused other))) c.build_proof.ensures.err
 
 pub returns-in-Ok-clause-at_most_122 : goal.returns-in-Ok-clause-at_most_122
 returns-in-Ok-clause-at_most_122 g c = λ few.
@@ -68,8 +69,8 @@ returns-in-Ok-clause-at_most_122 g c = λ few.
     let below : c.args.location < c.leaves-leaves.result = ge_no c.args.location c.leaves-leaves.result (sym c.ge.ensures ∙ c.if-ge.false) in
     let plan : c.in-Ok.plan ≡ record { leaves = c.leaves-leaves.result; start = c.args.location; end = c.args.location + 1 } = c.in-Ok.ensures.ok ∙ ap (λ e. record { leaves = c.leaves-leaves.result; start = c.args.location; end = e }) c.add.ensures in
     IfOk-weaker c.build_proof.result _ _
-    (λ p built. built_few s g.F.Family.rule g.F.Family.MAX_LEAVES g.F.Family.MAX_NODES (ap (λ z. z.rule) (g.met.H.Hasher.scheme_is c.args.hasher.now)) g.met.F.Family.lawful few (node c.args.self.now) c.args.inactive c.leaves-leaves.result c.args.location p
-    c.leaves-leaves.ensures.bounded below (subst (λ (r : LeafRange). IsBuiltProof s (node c.args.self.now) c.args.inactive r p) plan built)) c.build_proof.ensures.built
+    (λ p built. built_few s g.F.Family.rule g.F.Family.MAX_LEAVES g.F.Family.MAX_NODES (ap (λ z. z.rule) (g.met.H.Hasher.scheme_is c.args.hasher.now)) g.met.F.Family.lawful few (get c.args.self.now.stored) c.args.inactive c.leaves-leaves.result c.args.location p
+    c.leaves-leaves.ensures.bounded below (subst (λ (r : LeafRange). IsBuiltProof s (get c.args.self.now.stored) c.args.inactive r p) plan built)) c.build_proof.ensures.built
 
 pub returns-in-Ok-clause-err : goal.returns-in-Ok-clause-err
 returns-in-Ok-clause-err g c =
@@ -77,7 +78,7 @@ returns-in-Ok-clause-err g c =
     let leaves : c.leaves-leaves.result ≡ c.args.self.now.leaves = c.leaves-leaves.ensures.count in
     let plan : c.in-Ok.plan ≡ record { leaves = c.args.self.now.leaves; start = c.args.location; end = c.args.location + 1 } =
     c.in-Ok.ensures.ok ∙ ap (λ e. record { leaves = c.leaves-leaves.result; start = c.args.location; end = e }) c.add.ensures ∙ ap (λ m. record { leaves = m; start = c.args.location; end = c.args.location + 1 }) leaves in
-    IfErr-weaker c.build_proof.result _ _ (λ e refused other. inr (inr (omega (arith, below, leaves), subst (λ r. IsBuildRefusal (g.H.Hasher.bagging_of c.args.hasher.now) g.F.Family.rule r c.args.inactive (λ p o. o ≡ node c.args.self.now p) e) plan (refused other)))) c.build_proof.ensures.err
+    IfErr-weaker c.build_proof.result _ _ (λ e refused other. inr (inr (omega (arith, below, leaves), subst (λ r. IsBuildRefusal (g.H.Hasher.bagging_of c.args.hasher.now) g.F.Family.rule r c.args.inactive (λ p o. o ≡ get c.args.self.now.stored p) e) plan (refused other)))) c.build_proof.ensures.err
 
 pub returns-in-Err-clause-granted : goal.returns-in-Err-clause-granted
 returns-in-Err-clause-granted g c = λ h X agrees low less few.
