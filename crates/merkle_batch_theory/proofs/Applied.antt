@@ -1,5 +1,6 @@
 -- What an answered Ok of apply means.
-use Rattle.std.proofs.Common.{◌≡◌, ℕ, List, length, drop, Option, Some, None, Ok, Err, Result, refl, subst}
+use Rattle.std.proofs.Common.{◌≡◌, ℕ, List, length, drop, Option, Some, None, Ok, Result, refl, subst}
+use Rattle.std.specs.Option.{ok_or, option_map}
 use Rattle.merkle_base.specs.Hashing.{Hashing, EqDecides}
 use Rattle.merkle_batch_theory.specs.Contents.{Contents, Agrees, held_peaks}
 use Rattle.merkle_batch_theory.specs.Records.{MerkleizedModel, records}
@@ -8,7 +9,7 @@ use Rattle.merkle_batch_theory.specs.History.{IsHistory, last_list}
 use Rattle.merkle_batch_theory.specs.Applying.{IsAppliedTo}
 use Rattle.merkle_batch_theory.proofs.Accepted.{accepted}
 
-answered : {D E : Type 0} (o : Option ℕ) (f : ℕ → Contents D) (r : E) (d : Contents D) → ◌≡◌ {A = Result (Contents D) E} (elim o [ Some i ↦ Ok (f i) | None ↦ Err r ]) (Ok d) → (i : ℕ) × (o ≡ Some i) × (f i ≡ d)
+answered : {D E : Type 0} (o : Option ℕ) (f : ℕ → Contents D) (r : E) (d : Contents D) → ◌≡◌ {A = Result (Contents D) E} (ok_or (option_map f o) r) (Ok d) → (i : ℕ) × (o ≡ Some i) × (f i ≡ d)
 answered None f r d e = absurd (cc)
 answered (Some i) f r d e = (i, refl, cc)
 

@@ -2,7 +2,7 @@
 use Rattle.std.proofs.Common.{◌≡◌, ℕ, suc, ◌+◌, ◌≤◌, List, [], ◌∷◌, ◌++◌, length, drop, reverse, Option, Some, None, Ok, Err, Result, Bool, true, cond, slice_get, arith, refl, sym, ap, inl, inr, ◌∙◌, subst, ltb}
 use Rattle.std.specs.FinMap.{get}
 use Rattle.std.specs.List.{flat_map}
-use Rattle.std.specs.Option.{option_to_list}
+use Rattle.std.specs.Option.{ok_or, option_map, option_to_list}
 use Rattle.std.proofs.lemmas.Bool.{lt-ltb, le-ltb, cases_lt}
 use Rattle.merkle_base.specs.Tree.{position}
 use Rattle.merkle_base.specs.Forest.{forest, size}
@@ -59,8 +59,8 @@ module _ {D : Type 0} (rule : List ℕ → List ℕ) where
   size_pruned b c = by_test (λ t. (cond t (kept_of b c) c).size ≡ c.size) (ltb c.boundary b) (λ e. refl) (λ e. refl)
 
   after_match : {F : Type 0} (b : ℕ) (k : MerkleizedModel D) (c : Contents D) (o : Option ℕ) → size rule b ≤ c.size →
-      ◌≡◌ {A = Result (Contents D) (Error F)} (elim o [ Some i ↦ Ok (with_records (drop i (records k)) (pruned rule b c)) | None ↦ Err (apply_error c.size k) ])
-      (elim (elim o as (λ _. Result (Contents D) (Error F)) [ Some i ↦ Ok (with_records (drop i (records k)) c) | None ↦ Err (apply_error c.size k) ]) [ Ok a ↦ Ok (pruned rule b a) | Err e ↦ Err e ])
+      ◌≡◌ {A = Result (Contents D) (Error F)} (ok_or (option_map (λ i. with_records (drop i (records k)) (pruned rule b c)) o) (apply_error c.size k))
+      (elim (ok_or (option_map (λ i. with_records (drop i (records k)) c) o) (apply_error c.size k)) [ Ok a ↦ Ok (pruned rule b a) | Err e ↦ Err e ])
   after_match b k c None l = refl
   after_match b k c (Some i) l = ap Ok (with_records_pruned b (drop i (records k)) c l)
 
@@ -70,5 +70,5 @@ module _ {D : Type 0} (rule : List ℕ → List ℕ) where
   applied_pruned {F = F} same n b k c s l =
       let same_size : (pruned rule b c).size ≡ c.size = size_pruned b c in
       let same_peaks : held_peaks rule n (pruned rule b c) ≡ held_peaks rule n c = peaks_pruned b n c l in
-      (λ x. elim (matched same (same_size x) (same_peaks x) k) as (λ _. Result (Contents D) (Error F)) [ Some i ↦ Ok (with_records (drop i (records k)) (pruned rule b c)) | None ↦ Err (apply_error (same_size x) k) ])
+      (λ x. ok_or {E = Error F} (option_map (λ i. with_records (drop i (records k)) (pruned rule b c)) (matched same (same_size x) (same_peaks x) k)) (apply_error (same_size x) k))
       ∙ after_match b k c (matched same c.size (held_peaks rule n c) k) (omega (arith, s, size_le rule b n l))

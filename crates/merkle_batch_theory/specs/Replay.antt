@@ -1,8 +1,8 @@
 -- At which state a batch is accepted, and what a `Mem` is after it.
-use Rattle.std.specs.Prelude.{ℕ, suc, ◌+◌, ◌-◌, List, [], ◌∷◌, length, drop, Bool, Option, Some, None, Result, Ok, Err, cond, nat_lt, nat_le, ◌&&◌, ◌==◌, slice_get}
+use Rattle.std.specs.Prelude.{ℕ, suc, ◌+◌, ◌-◌, List, [], ◌∷◌, length, drop, Bool, Option, Some, None, Result, cond, nat_lt, nat_le, ◌&&◌, ◌==◌, slice_get}
 use Rattle.std.specs.Cmp.Lexicographic.{pointwise}
 use Rattle.std.specs.List.{fold}
-use Rattle.std.specs.Option.{option_map, unwrap_or}
+use Rattle.std.specs.Option.{ok_or, option_map, unwrap_or}
 use Rattle.std.specs.FinMap.{get}
 use Rattle.merkle_base.specs.declared.error.Error.{Error}
 use Rattle.merkle_base.specs.declared.error.Error.TheVariants as error
@@ -48,7 +48,5 @@ apply_error size b =
 
 -- a `Mem` of n leaves after a batch, or the error
 abbrev pub applied : {F D : Type 0} → (D → D → Bool) → (List ℕ → List ℕ) → ℕ → MerkleizedModel D → Contents D → Result (Contents D) (Error F)
-applied same rule n b c = elim (matched same c.size (held_peaks rule n c) b) [
-  | Some i ↦ Ok (with_records (drop i (records b)) c)
-  | None ↦ Err (apply_error c.size b)
-]
+applied same rule n b c =
+    ok_or (option_map (λ i. with_records (drop i (records b)) c) (matched same c.size (held_peaks rule n c) b)) (apply_error c.size b)

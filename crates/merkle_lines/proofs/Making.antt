@@ -1,7 +1,8 @@
 -- A pending batch makes changes, and what it is merkleized to is accepted.
-use Rattle.std.proofs.Common.{◌≡◌, ℕ, zero, suc, ◌+◌, ◌<◌, List, [], ◌∷◌, ◌++◌, length, take, drop, set, slice_get, Option, None, Some, Bool, true, false, Ok, Err, Result, cond, arith, refl, sym, ap, inl, inr, ◌∙◌, subst, length-append}
+use Rattle.std.proofs.Common.{◌≡◌, ℕ, zero, suc, ◌+◌, ◌<◌, List, [], ◌∷◌, ◌++◌, length, take, drop, set, slice_get, Option, None, Some, Bool, true, false, Ok, Result, cond, arith, refl, sym, ap, inl, inr, ◌∙◌, subst, length-append}
 use Rattle.std.specs.Prelude.{◌==◌, ◌||◌, not, is_some, nat_le, ⊤}
 use Rattle.std.specs.List.{list_any}
+use Rattle.std.specs.Option.{ok_or, option_map}
 use Rattle.std.specs.Ordering.{nat_cmp}
 use Rattle.std.specs.FinMap.{get, len-empty}
 use Rattle.std.proofs.lemmas.Bool.{cases_lt, lt-ltb, le-ltb}
@@ -206,7 +207,7 @@ module _ {D : Type 0} (h : Hashing D) (rule : List ℕ → List ℕ) (X : List D
           let is : with_records (records k) (contents s) ≡ d = taken (contents s) d (is_state h.same s.size peaks (oldest k).before (oldest k).peaks_before) (last_match (λ r. is_state h.same s.size peaks (after r) r.peaks_after) k.ancestors) (ap (last_match (λ r. is_state h.same s.size peaks (after r) r.peaks_after)) (alone ∙ made_keeps)) done in
           (subst (λ x. Agrees h rule x (leaf_digests h rule 0 c.elements)) is (agree_all h rule (records k) X (leaf_digests h rule 0 c.elements ∷ []) (contents s) two_lists agrees), sym (ap (λ x. x.boundary) is) ∙ with_record_boundary (records k) (contents s))
         where
-          taken : (c d : Contents D) (b : Bool) (o : Option ℕ) → o ≡ None → ◌≡◌ {A = Result (Contents D) (Error F)} (elim (cond b (Some 0) o) [ Some i ↦ Ok (with_records (drop i (records k)) c) | None ↦ Err (apply_error c.size k) ]) (Ok d) → with_records (records k) c ≡ d
+          taken : (c d : Contents D) (b : Bool) (o : Option ℕ) → o ≡ None → ◌≡◌ {A = Result (Contents D) (Error F)} (ok_or (option_map (λ i. with_records (drop i (records k)) c) (cond b (Some 0) o)) (apply_error c.size k)) (Ok d) → with_records (records k) c ≡ d
           taken c d true o n e = (cc)
           taken c d false None n e = absurd (cc)
           taken c d false (Some i) n e = absurd (cc)
