@@ -1,5 +1,5 @@
 //! Finding the state of a batch's chain that a structure is at.
-ghost use Rattle.std.specs.Prelude.{◌≡◌, ℕ, List, Option, map};
+ghost use Rattle.std.specs.Prelude.{◌≡◌, Option, map};
 ghost use Rattle.merkle_batch_theory.specs.Records.{after};
 ghost use Rattle.merkle_batch_theory.specs.Replay.{apply_error, last_match, matched, oldest, is_state};
 
