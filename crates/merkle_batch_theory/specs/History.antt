@@ -44,9 +44,8 @@ pub record IsStep {D : Type 0} (h : Hashing D) (rule : List ℕ → List ℕ) (r
 abbrev pub IsHistory : {D : Type 0} → Hashing D → (List ℕ → List ℕ) → List (RecordModel D) → List (List D) → Type 0
 IsHistory h rule rs [] = ⊥
 IsHistory h rule [] (X ∷ []) = Unit {0}
-IsHistory h rule [] (X ∷ Y ∷ ls) = ⊥
-IsHistory h rule (r ∷ rs) (X ∷ []) = ⊥
 IsHistory h rule (r ∷ rs) (X ∷ Y ∷ ls) = IsStep h rule r X Y × IsHistory h rule rs (Y ∷ ls)
+IsHistory h rule rs ls = ⊥
 
 -- the last list
 abbrev pub last_list : {D : Type 0} → List (List D) → List D

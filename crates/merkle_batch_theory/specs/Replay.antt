@@ -5,7 +5,7 @@ use Rattle.std.specs.List.{fold}
 use Rattle.std.specs.Option.{ok_or, option_map, unwrap_or}
 use Rattle.std.specs.FinMap.{get}
 use Rattle.merkle_base.specs.declared.error.Error.{Error}
-use Rattle.merkle_base.specs.declared.error.Error.TheVariants as error
+use Rattle.merkle_base.specs.declared.error.Error.TheVariants.{AncestorDropped, StaleBatch}
 use Rattle.merkle_batch_theory.specs.Contents.{Contents, held_peaks}
 use Rattle.merkle_batch_theory.specs.Records.{RecordModel, MerkleizedModel, records, after}
 
@@ -34,8 +34,7 @@ oldest b = elim b.ancestors [ [] ↦ b.own | r ∷ rs ↦ r ]
 abbrev pub is_state : {D : Type 0} → (D → D → Bool) → ℕ → List D → ℕ → List D → Bool
 is_state same size peaks n ps = (size == n) && pointwise same peaks ps
 
--- how many records a state of this size and these peaks is behind: none if it is the one before the oldest,
--- else those up to the newest kept ancestor that ends at it
+-- how many records a state of this size and these peaks is behind: none before the oldest, else those up to the newest kept ancestor that ends at it
 abbrev pub matched : {D : Type 0} → (D → D → Bool) → ℕ → List D → MerkleizedModel D → Option ℕ
 matched same size peaks b =
     cond (is_state same size peaks (oldest b).before (oldest b).peaks_before) (Some 0)
@@ -43,8 +42,7 @@ matched same size peaks b =
 
 -- why a batch is not applied to a structure of this size
 abbrev pub apply_error : {F D : Type 0} → ℕ → MerkleizedModel D → Error F
-apply_error size b =
-    cond (nat_le b.base_size size && nat_lt size (oldest b).before) (error.AncestorDropped (after b.own) size) (error.StaleBatch b.base_size size)
+apply_error size b = cond (nat_le b.base_size size && nat_lt size (oldest b).before) (AncestorDropped (after b.own) size) (StaleBatch b.base_size size)
 
 -- a `Mem` of n leaves after a batch, or the error
 abbrev pub applied : {F D : Type 0} → (D → D → Bool) → (List ℕ → List ℕ) → ℕ → MerkleizedModel D → Contents D → Result (Contents D) (Error F)

@@ -7,7 +7,7 @@ use Rattle.std.specs.Option.{option_or}
 use Rattle.std.specs.Coded.{Coded, code_by, coded×, coded_ℕ, coded_list}
 use Rattle.merkle_base.specs.Forest.{size}
 use Rattle.merkle_base.specs.declared.error.Error.{Error}
-use Rattle.merkle_base.specs.declared.error.Error.TheVariants as error
+use Rattle.merkle_base.specs.declared.error.Error.TheVariants.{ElementPruned, LeafOutOfBounds}
 use Rattle.merkle_batch_theory.specs.Records.{RecordModel, MerkleizedModel, merkleized_model_code}
 use Rattle.merkle_batch_theory.specs.History.{replaced}
 
@@ -47,8 +47,7 @@ with_updates rule p us = fold (λ p u. with_update rule p u.0 u.1) p us
 
 -- why the leaf at location k is not updated: there is no such leaf, or it is pruned
 abbrev pub update_error : {F D : Type 0} → (List ℕ → List ℕ) → UnmerkleizedModel D → ℕ → Option (Error F)
-update_error rule p k =
-    cond (nat_le (leaf_total p) k) (Some (error.LeafOutOfBounds k)) (cond (nat_lt k p.parent.boundary) (Some (error.ElementPruned (size rule k))) None)
+update_error rule p k = cond (nat_le (leaf_total p) k) (Some (LeafOutOfBounds k)) (cond (nat_lt k p.parent.boundary) (Some (ElementPruned (size rule k))) None)
 
 -- the first error of some updates
 abbrev pub first_error : {F D : Type 0} → (List ℕ → List ℕ) → UnmerkleizedModel D → List (ℕ × D) → Option (Error F)
