@@ -127,4 +127,4 @@ returns-clause-on_lists g c = λ h X ls tells same agrees stands.
     let old = contents c.args.self.now in
     let leaves : c.args.self.now.leaves ≡ length X = sym (ap (λ s. s.leaves) c.self.view_is) ∙ size_inj rule i.leaves (length X) (c.self.invariant.counted.sized ∙ ap (λ s. s.size) c.self.view_is ∙ agrees.sized) in
     applied_at h rule tells c.args.batch.now ls old _ X stands agrees
-    (ap (λ equal. applied equal rule (length X) c.args.batch.now old) same ∙ ap (λ n. applied g.D.PartialEq.eq rule n c.args.batch.now old) (sym leaves) ∙ returns-clause-done g c)
+    (ap (λ equal. applied {F = g.row.F.Denot} equal rule (length X) c.args.batch.now old) same ∙ ap (λ n. applied {F = g.row.F.Denot} g.D.PartialEq.eq rule n c.args.batch.now old) (sym leaves) ∙ returns-clause-done g c)

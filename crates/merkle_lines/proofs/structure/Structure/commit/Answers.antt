@@ -92,7 +92,7 @@ returns-clause-answered g c = λ given held.
     let counted : new.committed.leaves ≡ length list = list_count h rule most new.committed old.pending given held-new in
     let next = c.apply_batch.new.self in
     let done = made_applied h rule list c.in-Ok.value (changes given) makes new.committed held-new.agrees chain stands (contents next) (ap (λ (k : MerkleizedModel g.row.H-Digest.Denot). k.ancestors) is ∙ c.in-Ok-merkleize.ensures.fork.2)
-    (subst (λ n. applied h.same rule n chain (contents new.committed) ≡ Ok (contents next)) counted c.in-Ok-apply_batch.ensures.done) in
+    (subst (λ n. applied {F = g.row.F.Denot} h.same rule n chain (contents new.committed) ≡ Ok (contents next)) counted c.in-Ok-apply_batch.ensures.done) in
     let leaves : next.leaves ≡ length (changes given).elements =
     c.in-Ok-apply_batch.ensures.counted ∙ ap (λ (k : MerkleizedModel g.row.H-Digest.Denot). k.leaves) is ∙ c.in-Ok-merkleize.ensures.counted.0 ∙ made_total h rule list c.in-Ok.value (changes given) makes in
     let none = lost_held h rule most new.committed old.pending given held-new c.in-Ok.value makes c.in-Ok-merkleize.ensures.complete in (

@@ -43,8 +43,8 @@ returns-in-Err-update_leaf-clause-answered g c = λ given word held.
       without_changes given,
       held_without h rule most old.committed old.pending given held _ _ c.take_pending.ensures.kept c.take_pending.ensures.gone,
       update_failed (scheme_of h c.args.self.now.hasher g.F.Family.rule g.F.Family.MAX_LEAVES g.F.Family.DOMAIN) g.H.Digest.Digest.SIZE g.H.Digest.Digest.Spells given c.in-Ok.value makes c.args.location c.args.digits c.in-Err-update_leaf.error _
-          (λ other is. let e = c.in-Err-update_leaf.ensures.refused other (ap (λ k. pending.update_error rule c.in-Ok.value k) there ∙ is) in (cc))
-          (λ none. c.in-Err-update_leaf.ensures.allowed (ap (λ k. pending.update_error rule c.in-Ok.value k) there ∙ none)) (ap error_line c.name-in-Err-update_leaf.ensures),
+          (λ other is. let e = c.in-Err-update_leaf.ensures.refused other (ap (λ k. pending.update_error {F = g.row.F.Denot} rule c.in-Ok.value k) there ∙ is) in (cc))
+          (λ none. c.in-Err-update_leaf.ensures.allowed (ap (λ k. pending.update_error {F = g.row.F.Denot} rule c.in-Ok.value k) there ∙ none)) (ap error_line c.name-in-Err-update_leaf.ensures),
     )
 
 pub returns-clause-answered : goal.returns-clause-answered
@@ -59,7 +59,7 @@ returns-clause-answered g c = λ given word held.
     let changed : c.in-Ok-update_leaf.value ≡ pending.with_update rule c.in-Ok.value c.args.location (h.leaf (size rule c.args.location) element) =
     subst (λ k. c.in-Ok-update_leaf.value ≡ pending.with_update rule c.in-Ok.value k (h.leaf (size rule k) element)) there
     (subst (λ x. c.in-Ok-update_leaf.value ≡ pending.with_update rule c.in-Ok.value c.new-leaf.result (h.leaf (size rule c.new-leaf.result) x)) c.as_slice.ensures.value c.in-Ok-update_leaf.ensures.updated) in
-    let allowed = update_allowed (scheme_of h c.args.self.now.hasher g.F.Family.rule g.F.Family.MAX_LEAVES g.F.Family.DOMAIN) g.H.Digest.Digest.SIZE g.H.Digest.Digest.Spells given c.in-Ok.value makes c.args.location (λ other is. let e = c.in-Ok-update_leaf.ensures.refused other (ap (λ k. pending.update_error rule c.in-Ok.value k) there ∙ is) in (cc)) in
+    let allowed = update_allowed (scheme_of h c.args.self.now.hasher g.F.Family.rule g.F.Family.MAX_LEAVES g.F.Family.DOMAIN) g.H.Digest.Digest.SIZE g.H.Digest.Digest.Spells given c.in-Ok.value makes c.args.location (λ other is. let e = c.in-Ok-update_leaf.ensures.refused other (ap (λ k. pending.update_error {F = g.row.F.Denot} rule c.in-Ok.value k) there ∙ is) in (cc)) in
     let counted = length-leaf_digests h rule 0 given.committed in
     let next = with_changed_element (count given) (changes given) c.args.location element in (
       with_changes given next,
