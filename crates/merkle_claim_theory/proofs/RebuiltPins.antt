@@ -215,7 +215,7 @@ module _ {D : Type 0} (s : Scheme D) (r : RangeInput D) (pins : List D) (root : 
         within = ok.within;
         leaves = ok.leaves;
         inactive = ok.inactive;
-        counts = ok.counts;
+        counts = ok.counts ∙ sym (digest_count_is s r);
         pinned = count;
         rebuilt = held;
         root_is = same_root (pinned_on s r pins) claimed (root_plan s.bagging r.inactive ts) p.0 p.1.0 z.2 ∙ ok.root_is;
