@@ -9,7 +9,7 @@ use Rattle.merkle_base.proofs.Lists.{cons_head, cons_tail}
 use Rattle.merkle_root_theory.specs.Range.{leaf_of}
 use Rattle.merkle_root_theory.proofs.HonestInputs.{none_inactive}
 use Rattle.merkle_claim_theory.specs.Table.{digest_at_position}
-use Rattle.merkle_claim_theory.specs.Multiproof.{MultiInput, locations_in, leaves_in, multi_positions, IsEmptyMulti, honest_multi_input, IsHonestMulti, IsHonestMultiSome, IsHonestMultiByCases}
+use Rattle.merkle_claim_theory.specs.Multiproof.{MultiInput, locations_in, leaves_in, multi_positions, IsEmptyMulti, IsHonestMulti, IsHonestMultiSome, IsHonestMultiByCases}
 
 -- numbers with a value at each: the numbers, and the values
 pub map-first : {D : Type 0} (f : ℕ → D) (is : List ℕ) → map (λ (e : ℕ × D). e.0) (map (λ i. (i, f i)) is) ≡ is

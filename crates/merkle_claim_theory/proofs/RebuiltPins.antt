@@ -1,5 +1,5 @@
 -- The pinned check is the range check and a comparison of what lies before the range with what the pins give.
-use Rattle.std.proofs.Common.{◌≡◌, ℕ, Bool, true, false, cond, ◌||◌, ◌+◌, ◌<◌, ◌≤◌, suc, List, [], ◌∷◌, ◌++◌, inl, inr, map, take, refl, ap, ap₂, sym, ◌∙◌, subst, arith, length, drop, Option, Some, None, option_map, drop-drop}
+use Rattle.std.proofs.Common.{◌≡◌, ℕ, Bool, true, false, cond, ◌||◌, ◌+◌, ◌<◌, ◌≤◌, suc, List, [], ◌∷◌, ◌++◌, take, refl, ap, ap₂, sym, ◌∙◌, subst, arith, length, drop, Option, Some, None, option_map, drop-drop}
 use Rattle.std.proofs.lemmas.Bool.{false≢true}
 use Rattle.std.proofs.lemmas.List.{length-take-le}
 use Rattle.merkle_base.proofs.Cases.{by_test}
@@ -9,11 +9,11 @@ use Rattle.merkle_base.specs.Root.{root_string, peaks_root, list_root}
 use Rattle.merkle_base.specs.Scheme.{Scheme}
 use Rattle.merkle_base.specs.Tree.{Tree, leaf, join}
 use Rattle.merkle_root_theory.specs.Expression.{Node, Expression, supplied, computed, hashed_at, cross_checked, value, Holds}
-use Rattle.merkle_root_theory.specs.Plan.{Plan, peak, folding, root_plan, tree_meets, meets, siblings, outside_parts, path_siblings, tree_digest}
+use Rattle.merkle_root_theory.specs.Plan.{Plan, peak, folding, root_plan, tree_meets, meets, siblings, outside_parts, path_siblings}
 use Rattle.merkle_root_theory.specs.Claim.{next, tree_claim, claim, claim_of}
 use Rattle.merkle_root_theory.specs.Outside.{HasLayout}
 use Rattle.merkle_root_theory.specs.Check.{in_range, RangeInput, root_of, chosen, leaf_given}
-use Rattle.merkle_root_theory.specs.Range.{end_of, range_parts, range_siblings, leaf_of, AcceptsNonempty}
+use Rattle.merkle_root_theory.specs.Range.{end_of, range_parts, range_siblings, AcceptsNonempty}
 use Rattle.merkle_root_theory.proofs.PeakGroups.{range_layout}
 use Rattle.merkle_root_theory.proofs.RangeDigests.{digest_count_is}
 use Rattle.merkle_claim_theory.specs.Multiproof.{AllHolds}

@@ -1,5 +1,5 @@
 -- A multi-proof: digests at the positions that one-leaf proofs of its locations need.
-use Rattle.std.specs.Prelude.{◌≡◌, ℕ, Bool, ◌↔◌, ◌⊎◌, ◌≤◌, ◌<◌, ◌+◌, ◌*◌, nat_eq, List, [], length, map, flat_map, filter, None, Option, Some, option_map, IfSome, unwrap_or, slice_index}
+use Rattle.std.specs.Prelude.{◌≡◌, ℕ, Bool, ◌↔◌, ◌⊎◌, ◌≤◌, ◌<◌, ◌+◌, ◌*◌, nat_eq, List, [], length, map, flat_map, filter, None, Option, option_map, IfSome, unwrap_or, slice_index}
 use Rattle.std.specs.List.{AllByRecursion, list_any, range_with_len}
 use Rattle.merkle_base.specs.Tree.{Tree, position}
 use Rattle.merkle_base.specs.Forest.{size}

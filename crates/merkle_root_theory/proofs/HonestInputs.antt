@@ -12,7 +12,7 @@ use Rattle.merkle_base.specs.declared.family.Bagging.TheVariants.{ForwardFold, B
 use Rattle.merkle_root_theory.specs.Check.{RangeInput}
 use Rattle.merkle_root_theory.specs.Outside.{folded_prefix, single_before, single_after, folded_suffix}
 use Rattle.merkle_root_theory.specs.Layouts.{laid_out}
-use Rattle.merkle_root_theory.specs.Range.{overlapping, wholly_after, range_siblings, range_digests, end_of, IsEmptyInput, honest_input, IsHonestRange, IsHonestNonempty, IsHonestByCases}
+use Rattle.merkle_root_theory.specs.Range.{overlapping, wholly_after, range_siblings, range_digests, end_of, IsEmptyInput, IsHonestRange, IsHonestNonempty, IsHonestByCases}
 
 no_peaks_of : (rule : List ℕ → List ℕ) → peaks_of rule 0 ≡ []
 unfolding forest

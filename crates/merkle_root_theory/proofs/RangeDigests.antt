@@ -6,7 +6,7 @@ use Rattle.merkle_base.specs.Digests.{digest_at}
 use Rattle.merkle_base.specs.Places.{peaks_of, wholly_before}
 use Rattle.merkle_base.specs.Scheme.{Scheme}
 use Rattle.merkle_root_theory.specs.Check.{RangeInput}
-use Rattle.merkle_root_theory.specs.Plan.{Plan, peak, folding, plan_digest, tree_digest}
+use Rattle.merkle_root_theory.specs.Plan.{Plan, peak, folding, plan_digest}
 use Rattle.merkle_root_theory.specs.Outside.{folded_prefix, single_before, single_after, folded_suffix}
 use Rattle.merkle_root_theory.specs.Range.{overlapping, wholly_after, range_parts, range_siblings, leaf_of, range_laid_out, range_digests, end_of, digest_count, plan_digests}
 use Rattle.merkle_root_theory.proofs.BuiltLayouts.{StandFor, laid_out_read}

@@ -1,5 +1,5 @@
 -- Walks over a tree, step by step.
-use Rattle.std.proofs.Common.{◌≡◌, ℕ, zero, suc, Bool, true, false, cond, nat_le, nat_lt, Some, slice_get, ◌+◌, ◌-◌, ◌<◌, ◌≤◌, ◌≢◌, List, [], ◌∷◌, ◌++◌, length, drop, get_or, arith, refl, ap, ap₂, sym, ◌∙◌, length-append, drop-drop, leb-true, ltb-true, append-nil}
+use Rattle.std.proofs.Common.{◌≡◌, ℕ, Bool, true, false, cond, nat_le, nat_lt, Some, slice_get, ◌+◌, ◌-◌, ◌<◌, ◌≤◌, ◌≢◌, List, [], ◌∷◌, ◌++◌, length, drop, get_or, arith, refl, ap, ap₂, sym, ◌∙◌, length-append, drop-drop, leb-true, ltb-true, append-nil}
 use Rattle.std.proofs.lemmas.List.{length-drop}
 use Rattle.std.proofs.lemmas.Option.{get_or_from_slice_get, slice_get_read}
 use Rattle.std.proofs.Common.{map, append_assoc, le-leb, lt-ltb}
@@ -11,9 +11,7 @@ use Rattle.std.proofs.lemmas.Bool.{and_parts, and_from}
 use Rattle.std.proofs.lemmas.Grind.{flat_map-append}
 use Rattle.std.specs.List.{flat_map}
 use Rattle.merkle_base.specs.Tree.{Tree, leaf, join, position, first_leaf, width}
-use Rattle.merkle_base.specs.Forest.{size}
 use Rattle.merkle_base.proofs.Growth.{forest_grown}
-use Rattle.merkle_base.proofs.Births.{leaf_at}
 use Rattle.merkle_base.specs.Hashing.{Hashing}
 use Rattle.merkle_root_theory.specs.Expression.{Node, supplied, computed, value}
 use Rattle.merkle_root_theory.specs.Plan.{tree_meets, siblings}

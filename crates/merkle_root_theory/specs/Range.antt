@@ -1,5 +1,5 @@
 -- A range check by the table of the layout: what it accepts, and what is honest.
-use Rattle.std.specs.Prelude.{◌≡◌, ℕ, Bool, ◌&&◌, ◌⊎◌, ◌≤◌, ◌<◌, ◌+◌, ◌-◌, nat_le, nat_lt, List, [], ◌++◌, length, map, flat_map, filter, take, drop, get_or, None}
+use Rattle.std.specs.Prelude.{◌≡◌, ℕ, ◌&&◌, ◌⊎◌, ◌≤◌, ◌<◌, ◌+◌, ◌-◌, nat_le, nat_lt, List, [], ◌++◌, length, map, flat_map, filter, take, drop, get_or, None}
 use Rattle.merkle_base.specs.Tree.{Tree, first_leaf, end_leaf}
 use Rattle.merkle_base.specs.Heights.{IsLawful}
 use Rattle.merkle_base.specs.Hashing.{Hashing, EqDecides}

@@ -1,5 +1,5 @@
 -- The root that a range input leads to, or the first refusal that applies.
-use Rattle.std.specs.Prelude.{◌≡◌, ℕ, Bool, ◌+◌, ◌<◌, ◌≤◌, nat_le, nat_lt, cond, List, [], ◌∷◌, length, Option, Some, None, Result, Ok, Err, ◌↔◌}
+use Rattle.std.specs.Prelude.{◌≡◌, Bool, ◌<◌, ◌≤◌, nat_le, nat_lt, cond, List, [], ◌∷◌, length, Some, None, Result, Ok, Err, ◌↔◌}
 use Rattle.merkle_base.specs.Cases.{first_case}
 use Rattle.merkle_base.specs.Places.{peaks_of}
 use Rattle.merkle_base.specs.Scheme.{Scheme}

@@ -3,7 +3,6 @@ use Rattle.std.specs.Prelude.{◌≡◌, ℕ, ◌-◌, ◌≤◌, List, [], ◌�
 use Rattle.std.specs.List.{flat_map}
 use Rattle.std.specs.Borrow.{Bor}
 use Rattle.merkle_base.specs.Tree.{Tree}
-use Rattle.merkle_base.specs.Forest.{size}
 use Rattle.merkle_base.specs.Hashing.{Hashing}
 use Rattle.merkle_root_theory.specs.Expression.{value}
 use Rattle.merkle_root_theory.specs.Plan.{siblings}
