@@ -22,6 +22,7 @@ use Rattle.merkle_base.proofs.PeakLists.{peaks_built}
 use Rattle.merkle_root_theory.proofs.Extraction.{all_filter}
 use Rattle.merkle_root_theory.proofs.ListRoots.{digest_at_is}
 use Rattle.merkle_root_theory.proofs.RangeDigests.{range_digests_are}
+use Rattle.merkle_root_theory.proofs.ReadLayouts.{reads_laid_out}
 use Rattle.merkle_root_theory.proofs.BuiltLayouts.{StandFor, at_node, nodes_stand, digests_stand, laid_out_read}
 use Rattle.merkle_proof.proofs.ReadingOrder.{AreRuns, met_count, all_runs}
 
@@ -91,7 +92,7 @@ module _ {F D P Q : Type 0} (s : Scheme D) (answered : ℕ → Option D → Type
     leaves = leaves_are;
     inactive = inactive_are;
     enough_peaks = few;
-    digests = of_runs Some (at_node node) (part_read s.hashing node) (nodes_stand s.hashing node) (λ ts ds w r. agreed node answered agree ts ds r);
+    digests = of_runs Some (at_node node) (part_read s.hashing node) (nodes_stand s.hashing node) (λ ts ds w r. agreed node answered agree ts ds r) ∙ sym (reads_laid_out s node n k a b);
   }
 
   -- the digests of the honest proof

@@ -1,5 +1,5 @@
 -- How many digests the proof of one leaf has.
-use Rattle.std.proofs.Common.{◌≡◌, ℕ, ◌+◌, ◌<◌, ◌≤◌, List, length, map, ap, sym, subst, arith, length-append, Option, Some}
+use Rattle.std.proofs.Common.{◌≡◌, ℕ, ◌+◌, ◌<◌, ◌≤◌, List, length, map, ap, sym, ◌∙◌, subst, arith, length-append, Option, Some}
 use Rattle.std.proofs.lemmas.List.{length-map}
 use Rattle.merkle_base.specs.Tree.{position}
 use Rattle.merkle_base.specs.Heights.{IsLawful}
@@ -8,6 +8,7 @@ use Rattle.merkle_base.specs.Scheme.{Scheme}
 use Rattle.merkle_forest_theory.specs.FewPeaks.{FewPeaks}
 use Rattle.merkle_root_theory.specs.Range.{range_parts, range_siblings}
 use Rattle.merkle_root_theory.specs.Reads.{part_read}
+use Rattle.merkle_root_theory.proofs.ReadLayouts.{reads_laid_out}
 use Rattle.merkle_claim_theory.proofs.OneLeaf.{range_digests-few}
 use Rattle.merkle_proof.specs.RangePlans.{IsBuiltProof}
 use Rattle.merkle_proof.specs.declared.proof.Proof.{Proof}
@@ -23,7 +24,7 @@ built_few s rule max_leaves max_nodes same law few node k n i p most less built 
     omega (
       arith,
       bounded,
-      ap length built.digests,
+      ap length (built.digests ∙ reads_laid_out s node n k i (i + 1)),
       length-map p.digests.items (λ d. Some d),
       length-append (map (part_read s.hashing node) parts) (map (λ t. node (position t)) siblings),
       length-map parts (part_read s.hashing node),

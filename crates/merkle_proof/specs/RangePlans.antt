@@ -12,8 +12,8 @@ use Rattle.merkle_base.specs.declared.error.Error.TheVariants.{Empty, RangeOutOf
 use Rattle.merkle_root_theory.specs.Check.{RangeInput}
 use Rattle.merkle_base.specs.Scheme.{Scheme}
 use Rattle.merkle_root_theory.specs.Layouts.{laid_out}
-use Rattle.merkle_root_theory.specs.Reads.{nodes_read, reading_order, part_read}
-use Rattle.merkle_root_theory.specs.Range.{wholly_after, range_parts, range_siblings}
+use Rattle.merkle_root_theory.specs.Reads.{nodes_read, reading_order, both_read}
+use Rattle.merkle_root_theory.specs.Range.{wholly_after, range_laid_out}
 use Rattle.merkle_proof.specs.declared.proof.Proof.{Proof}
 
 -- a range of a number of leaves
@@ -76,9 +76,7 @@ pub record IsBuiltProof {F D Peaks Heights : Type 0} (s : Scheme D) (node : ℕ 
   pub leaves : p.leaves ≡ r.leaves
   pub inactive : p.inactive_peaks ≡ k
   pub enough_peaks : k ≤ length (peaks_of s.rule r.leaves)
-  pub digests : map Some p.digests.items
-      ≡ map (part_read s.hashing node) (range_parts s.bagging k r.start r.end (peaks_of s.rule r.leaves))
-      ++ map (λ t. node (position t)) (range_siblings r.start r.end (peaks_of s.rule r.leaves))
+  pub digests : map Some p.digests.items ≡ range_laid_out s (both_read s.hashing.fold) (λ t. node (position t)) r.leaves k r.start r.end
 
 -- each answer at the position of a node is the list's digest at it
 abbrev pub AnswersList : {D : Type 0} → Hashing D → (List ℕ → List ℕ) → List D → (ℕ → Option D → Type 0) → Type 0

@@ -20,4 +20,5 @@ pub mod Reconstruction
 pub mod BuiltLayouts
 pub mod ListRoots
 pub mod RangeDigests
+pub mod ReadLayouts
 pub mod HonestInputs

@@ -86,7 +86,8 @@ ends_with ps qs = nat_le (length qs) (length ps) && pointwise nat_eq (drop (leng
 -- that of a suffix with peaks: it doesn't end with the given positions, the store's own, or a node before those is lacking, the last one first
 abbrev pub suffix_lacking : {D : Type 0} → StoreValue D → List ℕ → List Tree → Option ℕ
 suffix_lacking v [] ts = first_lacking (found_at v.pairs) (map position (reverse ts))
-suffix_lacking v (p ∷ ps) ts = cond (ends_with (map position ts) (p ∷ ps)) (first_lacking (found_at v.pairs) (map position (reverse (suffix_front v ts)))) (Some p)
+suffix_lacking v (p ∷ ps) ts =
+    cond (ends_with (map position ts) (p ∷ ps)) (first_lacking (found_at v.pairs) (map position (reverse (suffix_front v ts)))) (Some p)
 
 -- the refusal of a suffix, if there is one
 abbrev pub suffix_refusal : {D : Type 0} → StoreValue D → List Tree → Option ℕ

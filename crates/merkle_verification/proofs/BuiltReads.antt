@@ -16,6 +16,7 @@ use Rattle.merkle_root_theory.specs.Expression.{hashed_at}
 use Rattle.merkle_root_theory.specs.Plan.{Plan, peak, folding}
 use Rattle.merkle_root_theory.specs.Range.{range_parts, range_siblings}
 use Rattle.merkle_root_theory.specs.Reads.{nodes_read, reading_order, both_read, part_read}
+use Rattle.merkle_root_theory.proofs.ReadLayouts.{reads_laid_out}
 use Rattle.merkle_claim_theory.specs.Table.{digest_for}
 use Rattle.merkle_claim_theory.proofs.ListedDigests.{any_member, member_filtered, range_member}
 use Rattle.merkle_claim_theory.proofs.Multiproofs.{all_member, member_all}
@@ -58,7 +59,8 @@ module _ {D : Type 0} (f g : ℕ → Option D) (more : (p : ℕ) (d : D) → f p
     inactive = built.inactive;
     enough_peaks = built.enough_peaks;
     digests = both_more (part_read s.hashing f) (part_read s.hashing g) (λ t. f (position t)) (λ t. g (position t)) (part_more s.hashing) (λ t. more (position t))
-        (range_parts s.bagging k r.start r.end (peaks_of s.rule r.leaves)) (range_siblings r.start r.end (peaks_of s.rule r.leaves)) p.digests.items built.digests;
+        (range_parts s.bagging k r.start r.end (peaks_of s.rule r.leaves)) (range_siblings r.start r.end (peaks_of s.rule r.leaves)) p.digests.items (built.digests ∙ reads_laid_out s f r.leaves k r.start r.end)
+        ∙ sym (reads_laid_out s g r.leaves k r.start r.end);
   }
 
 -- ---- what is read is listed
