@@ -15,7 +15,7 @@ pub record IsAppliedTo {D : Type 0} (h : Hashing D) (rule : List ℕ → List �
   pub list : List D
   pub found : matched h.same old.size (held_peaks rule (length X) old) batch ≡ Some place
   pub listed : slice_get ls place ≡ Some list
-  pub as_long : length X ≡ length list  -- which has the length and the peak digests of X
+  pub as_long : length X ≡ length list  -- it has the length and the peak digests of X
   pub same_peaks : peak_digests h rule X ≡ peak_digests h rule list
   pub agrees : X ≡ list → Agrees h rule new (last_list ls)  -- if it is X, the structure agrees with the last list
   pub collides : (X ≡ list → ⊥) → Collide h rule X list  -- if it is not, the two collide at a node

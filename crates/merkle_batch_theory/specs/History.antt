@@ -40,7 +40,7 @@ pub record IsStep {D : Type 0} (h : Hashing D) (rule : List ℕ → List ℕ) (r
       → get r.overwritten p ≡ cond (is_dirty (get r.overwritten) t) (Some (digest_at h Y t)) None
   pub old : (p : ℕ) → r.before ≤ p → get r.overwritten p ≡ None
 
--- the records stand on lists: each records the change of one list to the next
+-- the records stand on lists, of which there is one more: each records the change of one list to the next
 abbrev pub IsHistory : {D : Type 0} → Hashing D → (List ℕ → List ℕ) → List (RecordModel D) → List (List D) → Type 0
 IsHistory h rule rs [] = ⊥
 IsHistory h rule [] (X ∷ []) = Unit {0}
