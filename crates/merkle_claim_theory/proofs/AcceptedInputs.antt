@@ -10,8 +10,8 @@ use Rattle.merkle_root_theory.specs.Plan.{root_plan}
 use Rattle.merkle_root_theory.specs.Range.{Accepts}
 use Rattle.merkle_root_theory.specs.Reconstruction.{reconstructed}
 use Rattle.merkle_root_theory.proofs.Reconstruction.{leads_is_accepted}
-use Rattle.merkle_claim_theory.specs.Multiproof.{MultiInput, locations_in, multi_positions, multi_on, multi_expression, AllHolds, AcceptsMulti, NewAcceptsMulti}
-use Rattle.merkle_claim_theory.specs.Pinned.{pinned_on, pinned_expression, AcceptsPinned, NewAcceptsPinned}
+use Rattle.merkle_claim_theory.specs.Multiproof.{MultiInput, locations_in, multi_positions, multi_on, multi_expression, AllHolds, AcceptsMultiCases, AcceptsMulti}
+use Rattle.merkle_claim_theory.specs.Pinned.{pinned_on, pinned_expression, AcceptsPinnedCases, AcceptsPinned}
 use Rattle.merkle_claim_theory.proofs.RebuiltPins.{pinned_is_rebuilt, held_accepted}
 
 -- ---- no leaves
@@ -44,7 +44,7 @@ module _ {D : Type 0} (s : Scheme D) (r : MultiInput D) (root : D) where
       ap (root_of s r.leaves r.inactive) (nothing_computed z)
       ∙ ap (λ x. root_of s x r.inactive None) e ∙ ap (λ x. root_of s n x None) f
 
-  from_cases : AcceptsMulti s r root → NewAcceptsMulti s r root
+  from_cases : AcceptsMultiCases s r root → AcceptsMulti s r root
   from_cases (inl w) = record {
     nonempty = inl w.nonempty;
     ascend = w.ascend;
@@ -68,7 +68,7 @@ module _ {D : Type 0} (s : Scheme D) (r : MultiInput D) (root : D) where
         root_is = root_same 0 0 w.0.leaves w.0.inactive w.0.leaves ∙ w.1;
       }
 
-  to_cases : NewAcceptsMulti s r root → AcceptsMulti s r root
+  to_cases : AcceptsMulti s r root → AcceptsMultiCases s r root
   to_cases w = elim (w.nonempty) [
     | inl some ↦ inl (record {
       nonempty = some;
@@ -93,7 +93,7 @@ module _ {D : Type 0} (s : Scheme D) (r : MultiInput D) (root : D) where
         ))
   ]
 
-  pub multi_cases : AcceptsMulti s r root ↔ NewAcceptsMulti s r root
+  pub multi_cases : AcceptsMultiCases s r root ↔ AcceptsMulti s r root
   multi_cases = (from_cases, to_cases)
 
 -- ---- pins
@@ -101,7 +101,7 @@ module _ {D : Type 0} (s : Scheme D) (r : RangeInput D) (pins : List D) (root : 
   nothing_pinned : r.leaves ≡ 0 → pinned_expression s r pins ≡ None
   nothing_pinned e = ap (option_map (pinned_on s r pins)) (no_plan s.bagging r.inactive s.rule r.leaves e)
 
-  from_pinned : AcceptsPinned s r pins root → NewAcceptsPinned s r pins root
+  from_pinned : AcceptsPinnedCases s r pins root → AcceptsPinned s r pins root
   from_pinned (inl w) = ((leads_is_accepted s r root).1 (inl ((pinned_is_rebuilt s r pins root).0 w).0), w.pinned, w.rebuilt)
   from_pinned (inr w) = (
     (leads_is_accepted s r root).1 (inr (w.0.0, w.1)),
@@ -109,11 +109,11 @@ module _ {D : Type 0} (s : Scheme D) (r : RangeInput D) (pins : List D) (root : 
     subst (AllHolds s) (sym (nothing_pinned w.0.0.leaves)) tt,
   )
 
-  to_pinned : NewAcceptsPinned s r pins root → AcceptsPinned s r pins root
+  to_pinned : AcceptsPinned s r pins root → AcceptsPinnedCases s r pins root
   to_pinned w = elim ((leads_is_accepted s r root).0 w.0) [
     | inl ok ↦ inl (held_accepted s r pins root ok w.1 w.2)
     | inr none ↦ inr ((none.0, no_items pins (w.1 ∙ ap length (no_peaks s.rule r.start none.0.start))), none.1)
   ]
 
-  pub pinned_cases : AcceptsPinned s r pins root ↔ NewAcceptsPinned s r pins root
+  pub pinned_cases : AcceptsPinnedCases s r pins root ↔ AcceptsPinned s r pins root
   pinned_cases = (from_pinned, to_pinned)

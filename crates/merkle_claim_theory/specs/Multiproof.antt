@@ -74,11 +74,11 @@ pub record IsEmptyMulti {D : Type 0} (r : MultiInput D) : Type 0 where
   pub digests : r.digests ≡ []
 
 -- an accepted input
-abbrev pub AcceptsMulti : {D : Type 0} → Scheme D → MultiInput D → D → Type 0
-AcceptsMulti s r root = AcceptsMultiSome s r root ⊎ (IsEmptyMulti r × (root_of s 0 0 None ≡ root))
+abbrev pub AcceptsMultiCases : {D : Type 0} → Scheme D → MultiInput D → D → Type 0
+AcceptsMultiCases s r root = AcceptsMultiSome s r root ⊎ (IsEmptyMulti r × (root_of s 0 0 None ≡ root))
 
 -- an input that is accepted against a root: some leaves with their proof, or none with the empty proof of no leaves
-pub record NewAcceptsMulti {D : Type 0} (s : Scheme D) (r : MultiInput D) (root : D) : Type 0 where
+pub record AcceptsMulti {D : Type 0} (s : Scheme D) (r : MultiInput D) (root : D) : Type 0 where
   pub nonempty : (0 < length r.elements) ⊎ (r.leaves ≡ 0)
   pub ascend : AscendsFrom 0 (locations_in r)
   pub below : AllByRecursion (λ i. i < r.leaves) (locations_in r)
@@ -122,19 +122,19 @@ MultiCollides {D = D} s r xs k = (c : Collision D) × Collides s.hashing (all_in
 
 -- the inputs that are accepted, by the two cases
 abbrev pub MultiByCases : Type 0 → Type 0
-MultiByCases D = (s : Scheme D) (r : MultiInput D) (root : D) → AcceptsMulti s r root ↔ NewAcceptsMulti s r root
+MultiByCases D = (s : Scheme D) (r : MultiInput D) (root : D) → AcceptsMultiCases s r root ↔ AcceptsMulti s r root
 
 -- the honest inputs are accepted
 abbrev pub HonestMultiIsAccepted : Type 0 → Type 0
 HonestMultiIsAccepted D = (s : Scheme D) (size max_nodes : ℕ) → IsLawfulScheme s size max_nodes
     → (xs : List D) (k : ℕ) → length xs ≤ s.max_leaves → k ≤ length (peaks_of s.rule (length xs)) → (r : MultiInput D)
-    → IsHonestMulti s xs k r → AcceptsMulti s r (plan_root s xs k)
+    → IsHonestMulti s xs k r → AcceptsMultiCases s r (plan_root s xs k)
 
 -- and no others, but for collisions
 abbrev pub MultiSound : Type 0 → Type 0
 MultiSound D = (s : Scheme D) (size max_nodes : ℕ) → IsLawfulScheme s size max_nodes
     → (xs : List D) (k : ℕ) → length xs ≤ s.max_leaves → k ≤ length (peaks_of s.rule (length xs)) → (r : MultiInput D)
-    → AcceptsMulti s r (plan_root s xs k) → IsHonestMulti s xs k r ⊎ MultiCollides s r xs k
+    → AcceptsMultiCases s r (plan_root s xs k) → IsHonestMulti s xs k r ⊎ MultiCollides s r xs k
 
 -- at most 122 positions for each location
 abbrev pub MultiSizeBound : Type 0 → Type 0

@@ -39,13 +39,13 @@ pub record AcceptsPinnedSome {D : Type 0} (s : Scheme D) (r : RangeInput D) (pin
   pub root_is : root_of s r.leaves r.inactive (pinned_expression s r pins) ≡ root
 
 -- an accepted input
-abbrev pub AcceptsPinned : {D : Type 0} → Scheme D → RangeInput D → List D → D → Type 0
-AcceptsPinned s r pins root = AcceptsPinnedSome s r pins root ⊎ ((IsEmptyInput r × (pins ≡ [])) × (root_of s 0 0 None ≡ root))
+abbrev pub AcceptsPinnedCases : {D : Type 0} → Scheme D → RangeInput D → List D → D → Type 0
+AcceptsPinnedCases s r pins root = AcceptsPinnedSome s r pins root ⊎ ((IsEmptyInput r × (pins ≡ [])) × (root_of s 0 0 None ≡ root))
 
 -- an accepted input: the range check accepts it, there is a pin for each peak over the leaves before the range, and the pins give each
 -- digest of the proof that lies before it
-abbrev pub NewAcceptsPinned : {D : Type 0} → Scheme D → RangeInput D → List D → D → Type 0
-NewAcceptsPinned s r pins root =
+abbrev pub AcceptsPinned : {D : Type 0} → Scheme D → RangeInput D → List D → D → Type 0
+AcceptsPinned s r pins root =
     (reconstructed s r ≡ Ok root) × (length pins ≡ length (peaks_of s.rule r.start)) × AllHolds s (pinned_expression s r pins)
 
 -- the peak digests of the first leaves of a list
@@ -63,19 +63,19 @@ PinnedCollides {D = D} s r pins xs k =
 
 -- the inputs that are accepted, by the two cases
 abbrev pub PinnedByCases : Type 0 → Type 0
-PinnedByCases D = (s : Scheme D) (r : RangeInput D) (pins : List D) (root : D) → AcceptsPinned s r pins root ↔ NewAcceptsPinned s r pins root
+PinnedByCases D = (s : Scheme D) (r : RangeInput D) (pins : List D) (root : D) → AcceptsPinnedCases s r pins root ↔ AcceptsPinned s r pins root
 
 -- the honest inputs are accepted
 abbrev pub HonestPinnedIsAccepted : Type 0 → Type 0
 HonestPinnedIsAccepted D = (s : Scheme D) (size max_nodes : ℕ) → IsLawfulScheme s size max_nodes
     → (xs : List D) (k : ℕ) → length xs ≤ s.max_leaves → k ≤ length (peaks_of s.rule (length xs)) → (r : RangeInput D) (pins : List D)
-    → IsHonestPinned s xs k r pins → AcceptsPinned s r pins (plan_root s xs k)
+    → IsHonestPinned s xs k r pins → AcceptsPinnedCases s r pins (plan_root s xs k)
 
 -- and no others, but for collisions
 abbrev pub AcceptedPinnedIsHonest : Type 0 → Type 0
 AcceptedPinnedIsHonest D = (s : Scheme D) (size max_nodes : ℕ) → IsLawfulScheme s size max_nodes
     → (xs : List D) (k : ℕ) → length xs ≤ s.max_leaves → k ≤ length (peaks_of s.rule (length xs)) → (r : RangeInput D) (pins : List D)
-    → AcceptsPinned s r pins (plan_root s xs k) → IsHonestPinned s xs k r pins ⊎ PinnedCollides s r pins xs k
+    → AcceptsPinnedCases s r pins (plan_root s xs k) → IsHonestPinned s xs k r pins ⊎ PinnedCollides s r pins xs k
 
 -- the honest pins are the list's digests at the peaks over its first leaves
 abbrev pub PinsAreOldPeaks : Type 0 → Type 0

@@ -9,8 +9,8 @@ use Rattle.merkle_base.specs.Places.{peaks_of}
 use Rattle.merkle_root_theory.specs.Range.{end_of, range_parts, range_siblings, list_inputs, plan_root, IsLawfulScheme, Accepts, IsHonestNonempty, IsHonestRange}
 use Rattle.merkle_claim_theory.specs.Order.{Distinct}
 use Rattle.merkle_root_theory.specs.Extract.{extracted}
-use Rattle.merkle_claim_theory.specs.Multiproof.{MultiInput, multi_expression, AcceptsMulti, IsHonestMultiSome, IsHonestMulti}
-use Rattle.merkle_claim_theory.specs.Pinned.{honest_pins, pinned_expression, AcceptsPinned, IsHonestPinned}
+use Rattle.merkle_claim_theory.specs.Multiproof.{MultiInput, multi_expression, AcceptsMultiCases, IsHonestMultiSome, IsHonestMulti}
+use Rattle.merkle_claim_theory.specs.Pinned.{honest_pins, pinned_expression, AcceptsPinnedCases, IsHonestPinned}
 
 -- all that is hashed for a multi input
 abbrev pub multi_inputs : {D : Type 0} → Scheme D → MultiInput D → List (Input D)
@@ -29,12 +29,12 @@ pub record Verdicts (D : Type 0) : Type 0 where
       (λ c. IsFirstCollision s.hashing (range_inputs s r) (list_inputs s xs k) c)
   pub multi : (s : Scheme D) (size max_nodes : ℕ) → IsLawfulScheme s size max_nodes
       → (xs : List D) (k : ℕ) → length xs ≤ s.max_leaves → k ≤ length (peaks_of s.rule (length xs))
-      → (r : MultiInput D) → AcceptsMulti s r (plan_root s xs k)
+      → (r : MultiInput D) → AcceptsMultiCases s r (plan_root s xs k)
       → MatchOption (first_collision s.hashing (multi_inputs s r) (list_inputs s xs k)) (IsHonestMulti s xs k r)
       (λ c. IsFirstCollision s.hashing (multi_inputs s r) (list_inputs s xs k) c)
   pub pinned : (s : Scheme D) (size max_nodes : ℕ) → IsLawfulScheme s size max_nodes
       → (xs : List D) (k : ℕ) → length xs ≤ s.max_leaves → k ≤ length (peaks_of s.rule (length xs))
-      → (r : RangeInput D) (pins : List D) → AcceptsPinned s r pins (plan_root s xs k)
+      → (r : RangeInput D) (pins : List D) → AcceptsPinnedCases s r pins (plan_root s xs k)
       → MatchOption (first_collision s.hashing (pinned_inputs s r pins) (list_inputs s xs k)) (IsHonestPinned s xs k r pins)
       (λ c. IsFirstCollision s.hashing (pinned_inputs s r pins) (list_inputs s xs k) c)
   -- an honest range input has no collision

@@ -14,7 +14,7 @@ use Rattle.merkle_root_theory.specs.Plan.{Plan, peak, folding}
 use Rattle.merkle_root_theory.specs.Reconstruction.{reconstructed}
 use Rattle.merkle_root_theory.proofs.ListRoots.{folded_values}
 use Rattle.merkle_root_theory.proofs.Reconstruction.{leads_is_accepted}
-use Rattle.merkle_claim_theory.specs.Multiproof.{MultiInput, multi_positions, locations_in, multi_on, multi_expression, AllHolds, AcceptsMulti, AcceptsMultiSome}
+use Rattle.merkle_claim_theory.specs.Multiproof.{MultiInput, multi_positions, locations_in, multi_on, multi_expression, AllHolds, AcceptsMultiCases, AcceptsMultiSome}
 use Rattle.merkle_claim_theory.specs.Table.{digest_for}
 use Rattle.merkle_claim_theory.proofs.ListedDigests.{EachPeak, each_of, of_each, plan_for}
 use Rattle.merkle_proof.specs.Confirmed.{EachHolds, node_checked, nodes_checked, locations_of}
@@ -63,7 +63,7 @@ module _ {D : Type 0} (s : Scheme D) (r : MultiInput D) where
   each_holds (folding place l q) w = (each_holds l w.0, each_holds q w.1)
 
   module _ (some : 0 < length r.elements) (root : D) where
-    accepted_some : AcceptsMulti s r root → AcceptsMultiSome s r root
+    accepted_some : AcceptsMultiCases s r root → AcceptsMultiSome s r root
     accepted_some (inl w) = w
     accepted_some (inr w) = absurd (omega (arith, some, ap length w.0.elements))
 
@@ -75,13 +75,13 @@ module _ {D : Type 0} (s : Scheme D) (r : MultiInput D) where
     some_located = omega (arith, some, length-map r.elements (λ e. e.0))
 
     -- what is known of an accepted input
-    pub accepted_locations : AcceptsMulti s r root → AreLocations s.max_leaves r.leaves (locations_in r)
+    pub accepted_locations : AcceptsMultiCases s r root → AreLocations s.max_leaves r.leaves (locations_in r)
     accepted_locations ok = let w = accepted_some ok in record { nonempty = some_located; ascend = w.ascend; below = w.below; leaves = w.leaves }
 
-    pub accepted_count : AcceptsMulti s r root → length (multi_positions s.rule r.leaves (locations_in r)) ≡ length r.digests
+    pub accepted_count : AcceptsMultiCases s r root → length (multi_positions s.rule r.leaves (locations_in r)) ≡ length r.digests
     accepted_count ok = sym (accepted_some ok).counts
 
-    pub accepted_each : AcceptsMulti s r root → EachIn
+    pub accepted_each : AcceptsMultiCases s r root → EachIn
     accepted_each ok =
         let w = accepted_some ok in
         let p = plan_for s r.leaves r.inactive (some_leaves (locations_in r) some_located w.below) in
@@ -96,10 +96,10 @@ module _ {D : Type 0} (s : Scheme D) (r : MultiInput D) where
       root_is : computed ≡ root_of s r.leaves r.inactive (multi_expression s r)
       root_is = computed_is ∙ ap (peaks_root s r.leaves r.inactive r.inactive) ds_are ∙ root_computed
 
-      pub accepted_root : AcceptsMulti s r root → computed ≡ root
+      pub accepted_root : AcceptsMultiCases s r root → computed ≡ root
       accepted_root ok = root_is ∙ (accepted_some ok).root_is
 
-      pub accepts : AreLocations s.max_leaves r.leaves (locations_in r) → length (multi_positions s.rule r.leaves (locations_in r)) ≡ length r.digests → EachIn → r.inactive ≤ length ds → computed ≡ root → AcceptsMulti s r root
+      pub accepts : AreLocations s.max_leaves r.leaves (locations_in r) → length (multi_positions s.rule r.leaves (locations_in r)) ≡ length r.digests → EachIn → r.inactive ≤ length ds → computed ≡ root → AcceptsMultiCases s r root
       accepts at count each low e =
           let p = plan_for s r.leaves r.inactive (some_leaves (locations_in r) some_located at.below) in
           inl (record {
@@ -115,7 +115,7 @@ module _ {D : Type 0} (s : Scheme D) (r : MultiInput D) where
           })
 
 -- without elements the inputs that are accepted are those of a range
-pub empty_accepted : {D : Type 0} (s : Scheme D) (leaves inactive : ℕ) (digests : List D) (root : D) → (reconstructed s (range_input s leaves inactive digests 0 []) ≡ Ok root) ↔ AcceptsMulti s (multi_input s leaves inactive digests []) root
+pub empty_accepted : {D : Type 0} (s : Scheme D) (leaves inactive : ℕ) (digests : List D) (root : D) → (reconstructed s (range_input s leaves inactive digests 0 []) ≡ Ok root) ↔ AcceptsMultiCases s (multi_input s leaves inactive digests []) root
 empty_accepted s leaves inactive digests root =
     let r = range_input s leaves inactive digests 0 [] in
     let w = leads_is_accepted s r root in (

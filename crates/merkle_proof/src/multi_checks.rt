@@ -1,7 +1,7 @@
 //! Checks of scattered leaves against a root.
 ghost use Rattle.std.specs.Prelude.{◌≡◌, ◌<◌, [], ◌↔◌, IsTrue, IfOk, IfSome, IsNone, length, map};
 ghost use Rattle.std.specs.List.Sorted.{IsStrictlyIncreasing};
-ghost use Rattle.merkle_claim_theory.specs.Multiproof.{AcceptsMulti, multi_positions};
+ghost use Rattle.merkle_claim_theory.specs.Multiproof.{AcceptsMultiCases, multi_positions};
 ghost use Rattle.merkle_proof.specs.Input.{multi_input};
 ghost use Rattle.merkle_proof.specs.MultiPositions.{AreLocations};
 
@@ -26,7 +26,7 @@ pub(crate) fn verify_multi<F: Family, H: Hasher<F>>(
 ) -> Result<bool, OutOfMemory>
     ensures { let s = H.scheme hasher.now in
         let r = multi_input s parts.now.leaves parts.now.inactive parts.now.digests.now elements.now in
-        IfOk result (λ yes. IsTrue yes ↔ AcceptsMulti s r root.now) }
+        IfOk result (λ yes. IsTrue yes ↔ AcceptsMultiCases s r root.now) }
 {
     if elements.is_empty() {
         return Ok(verify_empty(parts, hasher, root));
@@ -41,7 +41,7 @@ fn verify_empty<F: Family, H: Hasher<F>>(
     root: &H::Digest,
 ) -> bool
     ensures { let s = H.scheme hasher.now in
-        IsTrue result ↔ AcceptsMulti s (multi_input s parts.now.leaves parts.now.inactive parts.now.digests.now []) root.now }
+        IsTrue result ↔ AcceptsMultiCases s (multi_input s parts.now.leaves parts.now.inactive parts.now.digests.now []) root.now }
 {
     match reconstruct_empty_root(parts, hasher, Location::new(0)) {
         Ok(computed) => computed == *root,
@@ -59,7 +59,7 @@ fn verify_nonempty<F: Family, H: Hasher<F>>(
     requires nonempty { 0 < length elements.now }
     ensures { let s = H.scheme hasher.now in
         let r = multi_input s parts.now.leaves parts.now.inactive parts.now.digests.now elements.now in
-        IfOk result (λ yes. IsTrue yes ↔ AcceptsMulti s r root.now) }
+        IfOk result (λ yes. IsTrue yes ↔ AcceptsMultiCases s r root.now) }
 {
     let Ok(read) = read_positions(parts.alloc, parts.leaves, elements) else {
         return Err(OutOfMemory);

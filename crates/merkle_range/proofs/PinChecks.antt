@@ -10,7 +10,7 @@ use Rattle.merkle_base.specs.declared.family.Bagging.{Bagging}
 use Rattle.merkle_root_theory.specs.Check.{RangeInput}
 use Rattle.merkle_root_theory.specs.Range.{Accepts, AcceptsNonempty, end_of, range_parts, range_siblings}
 use Rattle.merkle_root_theory.specs.Walk.{bytes_of}
-use Rattle.merkle_claim_theory.specs.Pinned.{AcceptsPinned}
+use Rattle.merkle_claim_theory.specs.Pinned.{AcceptsPinnedCases}
 use Rattle.merkle_claim_theory.specs.Rebuilt.{IsRebuilt}
 use Rattle.merkle_claim_theory.specs.Table.{digest_for}
 use Rattle.merkle_claim_theory.proofs.RebuiltPins.{pinned_is_rebuilt}
@@ -20,16 +20,16 @@ use Rattle.merkle_range.proofs.LeafDigests.{length-leaf_digests}
 
 module _ {D : Type 0} (s : Scheme D) (r : RangeInput D) (pins : List D) (root : D) where
   -- what is accepted with pins is accepted without
-  pub range_accepted : AcceptsPinned s r pins root → Accepts s r root
+  pub range_accepted : AcceptsPinnedCases s r pins root → Accepts s r root
   range_accepted (inl x) = inl ((pinned_is_rebuilt s r pins root).0 x).0
   range_accepted (inr x) = inr (x.0.0, x.1)
 
   -- no elements
-  pub empty_accepted : length r.elements ≡ 0 → Accepts s r root → (bit : Bool) → (IsTrue bit ↔ (pins ≡ [])) → IsTrue bit ↔ AcceptsPinned s r pins root
+  pub empty_accepted : length r.elements ≡ 0 → Accepts s r root → (bit : Bool) → (IsTrue bit ↔ (pins ≡ [])) → IsTrue bit ↔ AcceptsPinnedCases s r pins root
   empty_accepted e (inl x) bit k = absurd (omega (arith, e, x.nonempty))
   empty_accepted e (inr x) bit k = ((λ y. inr ((x.0, k.0 y), x.1)), none)
     where
-      none : AcceptsPinned s r pins root → IsTrue bit
+      none : AcceptsPinnedCases s r pins root → IsTrue bit
       none (inl y) = absurd (omega (arith, e, y.nonempty))
       none (inr y) = k.1 y.0.1
 
@@ -38,14 +38,14 @@ module _ {D : Type 0} (s : Scheme D) (r : RangeInput D) (pins : List D) (root : 
   some_accepted l (inl x) = x
   some_accepted l (inr x) = absurd (omega (arith, l, ap length x.0.elements))
 
-  pub pins_counted : 0 < length r.elements → AcceptsPinned s r pins root → length pins ≡ length (peaks_of s.rule r.start)
+  pub pins_counted : 0 < length r.elements → AcceptsPinnedCases s r pins root → length pins ≡ length (peaks_of s.rule r.start)
   pins_counted l (inl x) = x.pinned
   pins_counted l (inr x) = absurd (omega (arith, l, ap length x.0.0.elements))
 
-  pub rebuilt_accepted : AcceptsNonempty s r root → (bit : Bool) → (IsTrue bit ↔ IsRebuilt s r pins) → IsTrue bit ↔ AcceptsPinned s r pins root
+  pub rebuilt_accepted : AcceptsNonempty s r root → (bit : Bool) → (IsTrue bit ↔ IsRebuilt s r pins) → IsTrue bit ↔ AcceptsPinnedCases s r pins root
   rebuilt_accepted ok bit k = ((λ y. inl ((pinned_is_rebuilt s r pins root).1 (ok, k.0 y))), back)
     where
-      back : AcceptsPinned s r pins root → IsTrue bit
+      back : AcceptsPinnedCases s r pins root → IsTrue bit
       back (inl y) = k.1 ((pinned_is_rebuilt s r pins root).0 y).1
       back (inr y) = absurd (omega (arith, ok.nonempty, ap length y.0.0.elements))
 

@@ -8,7 +8,7 @@ ghost use Rattle.merkle_root_theory.specs.Plan.{left_fold_plan, peak, siblings, 
 ghost use Rattle.merkle_root_theory.specs.Check.{in_range};
 ghost use Rattle.merkle_root_theory.specs.Range.{range_parts, range_siblings};
 ghost use Rattle.merkle_root_theory.specs.Walk.{bytes_of};
-ghost use Rattle.merkle_claim_theory.specs.Pinned.{AcceptsPinned};
+ghost use Rattle.merkle_claim_theory.specs.Pinned.{AcceptsPinnedCases};
 ghost use Rattle.merkle_claim_theory.specs.Rebuilt.{AllRebuilt, rebuilt_node, rebuilt_part};
 ghost use Rattle.merkle_claim_theory.specs.Table.{digest_for};
 ghost use Rattle.merkle_range.specs.Input.{range_input};
@@ -276,7 +276,7 @@ pub fn verify_pinned<F: Family, H: Hasher<F>>(
 ) -> Result<bool, OutOfMemory>
     ensures { let s = H.scheme hasher.now in
         let r = range_input s parts.now.leaves parts.now.inactive parts.now.digests.now start (bytes_of elements.now) in
-        IfOk result (λ yes. IsTrue yes ↔ AcceptsPinned s r pinned_nodes.now root.now) }
+        IfOk result (λ yes. IsTrue yes ↔ AcceptsPinnedCases s r pinned_nodes.now root.now) }
 {
     if !verify_range(parts, hasher, elements, start, root)? {
         return Ok(false);
