@@ -11,15 +11,9 @@ abbrev pub leaf_digests : {D : Type 0} → Hashing D → (List ℕ → List ℕ)
 leaf_digests h rule a [] = []
 leaf_digests h rule a (e ∷ es) = h.leaf (size rule a) e ∷ leaf_digests h rule (suc a) es
 
--- the parts of a proof with the elements from location a on
-abbrev pub range_input : {D : Type 0} → Scheme D → (leaves inactive : ℕ) → List D → ℕ → List (List ℕ) → RangeInput D
-range_input s leaves inactive digests a es = record {
-  leaves = leaves;
-  inactive = inactive;
-  digests = digests;
-  start = a;
-  elements = leaf_digests s.hashing s.rule a es;
-}
+-- a proof of n leaves, of which k peaks are inactive, with the elements from location a on
+abbrev pub range_input : {D : Type 0} → Scheme D → (n k : ℕ) → List D → ℕ → List (List ℕ) → RangeInput D
+range_input s n k ds a es = record { leaves = n; inactive = k; digests = ds; start = a; elements = leaf_digests s.hashing s.rule a es }
 
 -- the root that an input with elements leads to
 abbrev pub IsComputed : {D : Type 0} → Scheme D → RangeInput D → D → Type 0

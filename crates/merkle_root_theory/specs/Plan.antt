@@ -30,7 +30,9 @@ with_right_fold_plan acc i (t ∷ ts) = folding Join acc (right_fold_plan i t ts
 abbrev pub root_plan : Bagging → ℕ → List Tree → Option Plan
 root_plan bagging k [] = None
 root_plan ForwardFold k (t ∷ ts) = Some (left_fold_plan (peak t) 1 ts)
-root_plan BackwardFold k (t ∷ ts) = Some (with_right_fold_plan (left_fold_plan (peak t) 1 (take (pred k) ts)) (suc (pred k)) (drop (pred k) ts))
+root_plan BackwardFold k (t ∷ ts) =
+    let left = left_fold_plan (peak t) 1 (take (pred k) ts) in
+    Some (elim (drop (pred k) ts) [ [] ↦ left | u ∷ us ↦ folding Join left (right_fold_plan (suc (pred k)) u us) ])
 
 -- the expression of a tree, with X the leaf digest at each location
 abbrev pub node_expression : {D : Type 0} → (ℕ → D) → Tree → Expression D
