@@ -1,9 +1,9 @@
 -- Nodes that have all their leaves among those whose digests are given, step by step.
-use Rattle.std.proofs.Common.{◌≡◌, ◌≢◌, ℕ, suc, ◌+◌, ◌-◌, ◌<◌, ◌≤◌, List, [], ◌++◌, length, map, drop, Some, slice_get, arith, refl, ap, ap₂, sym, ◌∙◌}
+use Rattle.std.proofs.Common.{◌≡◌, ◌≢◌, ℕ, suc, ◌+◌, ◌-◌, ◌<◌, ◌≤◌, List, [], ◌++◌, length, map, drop, Option, Some, slice_get, arith, refl, ap, ap₂, sym, ◌∙◌}
 use Rattle.std.proofs.lemmas.Option.{get_or_from_slice_get}
 use Rattle.merkle_base.specs.Hashing.{Hashing}
 use Rattle.merkle_base.specs.Heights.{IsLawful}
-use Rattle.merkle_base.specs.Tree.{Tree, leaf, join, first_leaf, end_leaf}
+use Rattle.merkle_base.specs.Tree.{Tree, leaf, join}
 use Rattle.merkle_base.proofs.Growth.{forest_grown}
 use Rattle.merkle_base.proofs.Nodes.{node_built, width_pos}
 use Rattle.merkle_hasher.specs.declared.subtree.Subtree.{Subtree}
@@ -13,7 +13,10 @@ use Rattle.merkle_root_theory.specs.Plan.{tree_digest, siblings}
 use Rattle.merkle_root_theory.specs.Walk.{leaf_from, IsWalked}
 use Rattle.merkle_root_theory.specs.Check.{in_range}
 use Rattle.merkle_root_theory.proofs.Claims.{tree_honest}
-use Rattle.merkle_range.specs.Inside.{IsInside, IsDigestInside}
+use Rattle.merkle_range.specs.Inside.{IsInside, IsDigestInside, IsDigestAt}
+
+one_node : (t u : Tree) → ◌≡◌ {A = Option Tree} (Some t) (Some u) → t ≡ u
+one_node t u e = cc
 
 module _ {F : Type 0} (rule : List ℕ → List ℕ) (m : ℕ) where
   -- a and b are the children of s, if s has any
@@ -62,11 +65,15 @@ module _ {F : Type 0} (rule : List ℕ → List ℕ) (m : ℕ) where
         is ∙ ap₂ (h.node s.position) (u l k.0) (v r k.1)
         ∙ ap (λ n. h.node n (tree_digest h (leaf_from h start leaves) l) (tree_digest h (leaf_from h start leaves) r)) (sym ((forest_grown rule m).placed s.position (join q l r) w.0.at))
 
-    -- the walk over a node that has all its leaves in the range takes no sibling
-    pub walked_inside : (end : ℕ) → end ≤ start + length leaves → (s : Subtree F) (t : Tree) → Denotes rule m s t → (start ≤ first_leaf t) × (end_leaf t ≤ end) → siblings (in_range start end) t ≡ []
-        → (d : D) → IsDigestInside h rule m start leaves s d → (ds : List D) → IsWalked h (in_range start end) (leaf_from h start leaves) t ds d ds
-    walked_inside end within s t w given none d is ds = record {
-      digest = is t (w, given.0, omega (arith, given.1, within)) ∙ sym (tree_honest h (in_range start end) (leaf_from h start leaves) (leaf_from h start leaves) (λ i e. refl) t ds ds (ap (λ z. map (tree_digest h (leaf_from h start leaves)) z ++ ds) (sym none)));
-      enough = omega (arith, ap length none);
-      rest = ap (λ z. drop (length z) ds) (sym none);
-    }
+    -- the digest of such a node is that of the node at its position
+    pub digest_at_node : (s : Subtree F) → HasInside start (length leaves) s → (d : D) → IsDigestInside h rule m start leaves s d → IsDigestAt h rule m (leaf_from h start leaves) s.position d
+    digest_at_node s (t, w) d is u at = is t w ∙ ap (tree_digest h (leaf_from h start leaves)) (one_node t u (sym w.0.at ∙ at))
+
+-- the walk over a node that has no node outside the range takes no sibling
+pub walked_inside : {D : Type 0} (h : Hashing D) (start : ℕ) (leaves : List D) (end : ℕ) (t : Tree) → siblings (in_range start end) t ≡ []
+    → (d : D) → d ≡ tree_digest h (leaf_from h start leaves) t → (ds : List D) → IsWalked h (in_range start end) (leaf_from h start leaves) t ds d ds
+walked_inside h start leaves end t none d is ds = record {
+  digest = is ∙ sym (tree_honest h (in_range start end) (leaf_from h start leaves) (leaf_from h start leaves) (λ i e. refl) t ds ds (ap (λ z. map (tree_digest h (leaf_from h start leaves)) z ++ ds) (sym none)));
+  enough = omega (arith, ap length none);
+  rest = ap (λ z. drop (length z) ds) (sym none);
+}

@@ -8,3 +8,4 @@ pub mod PinParts
 pub mod PinChecks
 pub mod LeafDigests
 pub mod InsideNodes
+pub mod InsideLists

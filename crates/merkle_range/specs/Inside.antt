@@ -1,7 +1,10 @@
 -- Nodes that have all their leaves among those whose digests are given.
-use Rattle.std.specs.Prelude.{◌≡◌, ℕ, ◌+◌, ◌≤◌, List, length}
+use Rattle.std.specs.Prelude.{◌≡◌, ℕ, ◌+◌, ◌≤◌, List, [], ◌∷◌, Some, slice_get, length, ⊤}
+use Rattle.std.specs.List.{AllByRecursion}
+use Rattle.merkle_base.specs.Forest.{forest}
 use Rattle.merkle_base.specs.Tree.{Tree, first_leaf, end_leaf}
 use Rattle.merkle_base.specs.Hashing.{Hashing}
+use Rattle.merkle_claim_theory.specs.Table.{digest_for}
 use Rattle.merkle_root_theory.specs.Plan.{tree_digest}
 use Rattle.merkle_root_theory.specs.Walk.{leaf_from}
 use Rattle.merkle_hasher.specs.declared.subtree.Subtree.{Subtree}
@@ -14,3 +17,27 @@ IsInside rule n start count s t = Denotes rule n s t × (start ≤ first_leaf t)
 -- d is the digest of such a node, the leaves from location start on having these digests
 abbrev pub IsDigestInside : {F D : Type 0} → Hashing D → (List ℕ → List ℕ) → ℕ → ℕ → List D → Subtree F → D → Type 0
 IsDigestInside h rule n start leaves s d = (t : Tree) → IsInside rule n start (length leaves) s t → d ≡ tree_digest h (leaf_from h start leaves) t
+
+-- d is the digest of the node at p, if there is one, in the forest of n leaves, the leaves having the digests `leaf`
+abbrev pub IsDigestAt : {D : Type 0} → Hashing D → (List ℕ → List ℕ) → ℕ → (ℕ → D) → ℕ → D → Type 0
+IsDigestAt h rule n leaf p d = (t : Tree) → slice_get (forest rule n).nodes p ≡ Some t → d ≡ tree_digest h leaf t
+
+-- each of the subtrees has height 2 or more and is a node that has its leaves among the `count` leaves from location start on
+abbrev pub AreTall : {F : Type 0} → (List ℕ → List ℕ) → ℕ → ℕ → ℕ → List (Subtree F) → Type 0
+AreTall {F = F} rule n start count ss = AllByRecursion (λ (s : Subtree F). ((t : Tree) × IsInside rule n start count s t) × (2 ≤ s.height)) ss
+
+-- each of the positions is that of a node whose children have the digests beside it
+abbrev pub AreParents : {D : Type 0} → Hashing D → (List ℕ → List ℕ) → ℕ → (ℕ → D) → List (ℕ × D × D) → Type 0
+AreParents {D = D} h rule n leaf es = AllByRecursion (λ (e : ℕ × D × D). IsDigestAt h rule n leaf e.0 (h.node e.0 e.1 e.2)) es
+
+-- each of the subtrees has two children with these digests, in order
+abbrev pub AreChildDigests : {F D : Type 0} → Hashing D → (List ℕ → List ℕ) → ℕ → (ℕ → D) → List (Subtree F) → List D → Type 0
+AreChildDigests h rule n leaf [] [] = ⊤
+AreChildDigests h rule n leaf [] (x ∷ ds) = ⊥
+AreChildDigests h rule n leaf (s ∷ ss) [] = ⊥
+AreChildDigests h rule n leaf (s ∷ ss) (x ∷ []) = ⊥
+AreChildDigests h rule n leaf (s ∷ ss) (x ∷ y ∷ ds) = IsDigestAt h rule n leaf s.position (h.node s.position x y) × AreChildDigests h rule n leaf ss ds
+
+-- each digest that ds lists for a position in ps is that of the node there
+abbrev pub AreKnown : {D : Type 0} → Hashing D → (List ℕ → List ℕ) → ℕ → (ℕ → D) → List ℕ → List D → Type 0
+AreKnown {D = D} h rule n leaf ps ds = (p : ℕ) (d : D) → digest_for ps ds p ≡ Some d → IsDigestAt h rule n leaf p d

@@ -10,10 +10,13 @@ ghost use Rattle.merkle_root_theory.specs.Reconstruction.{range_refusals, recons
 ghost use Rattle.merkle_hasher.specs.Subtrees.{AreNodes, subtree_of};
 ghost use Rattle.merkle_root_theory.specs.Walk.{bytes_of, leaf_from, ArePeaksWalked, ArePeakDigests};
 ghost use Rattle.merkle_range.specs.Input.{range_input, IsComputed};
+ghost use Rattle.merkle_range.specs.Inside.{AreKnown};
 
 use crate::collector::{Collector, Unlisted};
 use crate::extraction::{put_after, put_before};
 use crate::groups::Groups;
+use crate::inside::digests_inside;
+use crate::known::Known;
 use crate::leaves::push_leaf_digests;
 use crate::siblings::reconstruct_digest;
 use merkle_base::error::{OutOfMemory, ReconstructionError};
@@ -272,15 +275,19 @@ fn peak_digests<F: Family, H: Hasher<F>, C: Collector<F, H::Digest>>(
     let Ok(mut all) = before.to_vec(parts.alloc) else {
         return Err(ReconstructionError::OutOfMemory);
     };
+    let is_wanted = !collector.keeps();
+    let Ok(known) = digests_inside(parts.alloc, peaks, hasher, range, leaves, is_wanted) else {
+        return Err(ReconstructionError::OutOfMemory);
+    };
     reconstruct_peaks(
         hasher,
         range,
         leaves,
+        &known,
         peaks,
         &mut siblings,
         &mut all,
         collector,
-        parts.alloc,
     )?;
     if !siblings.is_empty() {
         return Err(ReconstructionError::ExtraDigests);
@@ -296,15 +303,17 @@ fn reconstruct_peaks<F: Family, H: Hasher<F>, C: Collector<F, H::Digest>>(
     hasher: &H,
     range: &Range<Location<F>>,
     leaves: &[H::Digest],
+    known: &Known<F, H::Digest>,
     peaks: &[Subtree<F>],
     digests: &mut &[H::Digest],
     out: &mut Vec<H::Digest>,
     collector: &mut C,
-    alloc: Global,
 ) -> Result<(), ReconstructionError>
     requires nodes { (ts : List Tree) × (peaks.now ≡ map subtree_of ts) × AreNodes F.rule F.MAX_LEAVES ts }
     requires nonempty { range.now.start < range.now.end }
     requires covered { range.now.end ≤ range.now.start + length leaves.now }
+    requires known { let h = H.hashing hasher.now in
+        AreKnown h F.rule F.MAX_LEAVES (leaf_from h range.now.start leaves.now) known.now.positions.items known.now.digests.items }
     ensures ok { let h = H.hashing hasher.now in let c = in_range range.now.start range.now.end in
         let X = leaf_from h range.now.start leaves.now in
         IfOk result (λ _. (ts : List Tree) → peaks.now ≡ map subtree_of ts → AreNodes F.rule F.MAX_LEAVES ts
@@ -319,7 +328,7 @@ fn reconstruct_peaks<F: Family, H: Hasher<F>, C: Collector<F, H::Digest>>(
         → length digests.old.now < length (flat_map (siblings c) ts))) }
 {
     for peak in peaks {
-        let digest = reconstruct_digest(peak, hasher, range, leaves, digests, collector, alloc)?;
+        let digest = reconstruct_digest(peak, hasher, range, leaves, known, digests, collector)?;
         if collector.put(peak.position, &digest).is_err() {
             return Err(ReconstructionError::OutOfMemory);
         }

@@ -6,6 +6,7 @@ mod collector;
 pub mod extraction;
 pub mod groups;
 mod inside;
+mod known;
 pub mod layout;
 pub mod leaves;
 mod peaks;

@@ -16,6 +16,7 @@ ghost use Rattle.merkle_range.specs.PinnedParts.{IsBeforeRebuilt};
 
 use crate::checks::{ProofParts, verify_range};
 use crate::groups::Groups;
+use crate::known::digest_at;
 use crate::peaks::peak_subtrees;
 use merkle_base::error::OutOfMemory;
 use merkle_base::family::Family;
@@ -54,27 +55,6 @@ impl<'a, F: Family, D: Digest> Pins<'a, F, D> {
     {
         digest_at(&self.positions, self.digests, position)
     }
-}
-
-// Returns the digest at the index that `position` has among `positions`.
-fn digest_at<F, D: Digest>(
-    positions: &[Position<F>],
-    digests: &[D],
-    position: Position<F>,
-) -> Option<D>
-    ensures { result ≡ digest_for positions.now digests.now position }
-{
-    let mut rest = digests;
-    for pinned in positions {
-        let Some((digest, others)) = rest.split_first() else {
-            return None;
-        };
-        if *pinned == position {
-            return Some(*digest);
-        }
-        rest = others;
-    }
-    None
 }
 
 /// Computes the digest of a node from those that are pinned at it or below it. A leaf without a pin

@@ -6,20 +6,21 @@ ghost use Rattle.merkle_root_theory.specs.Plan.{tree_meets, siblings};
 ghost use Rattle.merkle_root_theory.specs.Extract.{inner_pairs};
 ghost use Rattle.merkle_root_theory.specs.Check.{in_range};
 ghost use Rattle.merkle_root_theory.specs.Walk.{leaf_from, IsWalked};
+ghost use Rattle.merkle_range.specs.Inside.{AreKnown};
 
 use crate::collector::{Collector, put_both};
-use crate::inside::digest_inside;
+use crate::known::Known;
 use merkle_base::error::ReconstructionError;
 use merkle_base::family::Family;
 use merkle_base::location::Location;
 use merkle_base::position::Position;
 use merkle_hasher::hasher::Hasher;
 use merkle_hasher::subtree::Subtree;
-use std::alloc::{AllocError, Global};
+use std::alloc::AllocError;
 use std::ops::Range;
 
-// Whether the node has no leaf in the range.
-fn is_outside<F: Family>(subtree: &Subtree<F>, range: &Range<Location<F>>) -> bool
+/// Whether the node has no leaf in the range.
+pub(crate) fn is_outside<F: Family>(subtree: &Subtree<F>, range: &Range<Location<F>>) -> bool
     requires node { (t : Tree) × Denotes F.rule F.MAX_LEAVES subtree.now t }
     requires nonempty { range.now.start < range.now.end }
     ensures { (t : Tree) → Denotes F.rule F.MAX_LEAVES subtree.now t → result ≡ not (tree_meets (in_range range.now.start range.now.end) t) }
@@ -27,8 +28,8 @@ fn is_outside<F: Family>(subtree: &Subtree<F>, range: &Range<Location<F>>) -> bo
     subtree.leaf_end() <= range.start || subtree.first_leaf >= range.end
 }
 
-// Whether all leaves of the node are in the range.
-fn is_inside<F: Family>(subtree: &Subtree<F>, range: &Range<Location<F>>) -> bool
+/// Whether all leaves of the node are in the range.
+pub(crate) fn is_inside<F: Family>(subtree: &Subtree<F>, range: &Range<Location<F>>) -> bool
     requires { (t : Tree) × Denotes F.rule F.MAX_LEAVES subtree.now t }
     ensures inside { (t : Tree) → Denotes F.rule F.MAX_LEAVES subtree.now t
         → result ≡ true → (range.now.start ≤ first_leaf t) × (end_leaf t ≤ range.now.end) }
@@ -41,20 +42,21 @@ fn is_inside<F: Family>(subtree: &Subtree<F>, range: &Range<Location<F>>) -> boo
 /// `digests`, those of the maximal nodes outside the range, which are consumed in order.
 ///
 /// The digests of the nodes below it are passed to `out`, if it keeps them: the two children of a
-/// node after all that is below them. Else the nodes below one that has all its leaves in the range
-/// are computed four at a time.
+/// node after all that is below them. Else those that are `known` are not computed again.
 pub(crate) fn reconstruct_digest<F: Family, H: Hasher<F>, C: Collector<F, H::Digest>>(
     subtree: &Subtree<F>,
     hasher: &H,
     range: &Range<Location<F>>,
     leaves: &[H::Digest],
+    known: &Known<F, H::Digest>,
     digests: &mut &[H::Digest],
     out: &mut C,
-    alloc: Global,
 ) -> Result<H::Digest, ReconstructionError>
     requires node { (t : Tree) × Denotes F.rule F.MAX_LEAVES subtree.now t }
     requires nonempty { range.now.start < range.now.end }
     requires covered { range.now.end ≤ range.now.start + length leaves.now }
+    requires known { let h = H.hashing hasher.now in
+        AreKnown h F.rule F.MAX_LEAVES (leaf_from h range.now.start leaves.now) known.now.positions.items known.now.digests.items }
     ensures ok { let h = H.hashing hasher.now in let leaf = leaf_from h range.now.start leaves.now in
         IfOk result (λ d. (t : Tree) → Denotes F.rule F.MAX_LEAVES subtree.now t
         → IsWalked h (in_range range.now.start range.now.end) leaf t digests.old.now d digests.new.now) }
@@ -75,16 +77,14 @@ pub(crate) fn reconstruct_digest<F: Family, H: Hasher<F>, C: Collector<F, H::Dig
         let index = subtree.first_leaf - range.start;
         return Ok(leaves[index.as_u64() as usize]);
     }
-    // A lower node has no four parents of one height below it.
-    if subtree.height > 2 && !out.keeps() && is_inside(subtree, range) {
-        let Ok(digest) = digest_inside(alloc, subtree, hasher, range.start, leaves) else {
-            return Err(ReconstructionError::OutOfMemory);
-        };
-        return Ok(digest);
+    if !out.keeps() && is_inside(subtree, range) {
+        if let Some(digest) = known.get(subtree.position) {
+            return Ok(digest);
+        }
     }
     let (left, right) = subtree.children();
-    let first = reconstruct_digest(&left, hasher, range, leaves, digests, out, alloc)?;
-    let second = reconstruct_digest(&right, hasher, range, leaves, digests, out, alloc)?;
+    let first = reconstruct_digest(&left, hasher, range, leaves, known, digests, out)?;
+    let second = reconstruct_digest(&right, hasher, range, leaves, known, digests, out)?;
     if put_both(left.position, &first, right.position, &second, out).is_err() {
         return Err(ReconstructionError::OutOfMemory);
     }

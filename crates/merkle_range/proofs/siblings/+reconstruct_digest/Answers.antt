@@ -51,7 +51,7 @@ reconstruct_digest-requires g t c κs within =
     let n = c.requires.node in
     let i = inner_node _ _ _ _ _ n.0 n.1 c.if-subtree-eq0.false in
     let k = c.children-left.ensures i.0 i.1 i.2 i.3 in
-    (omega (arith, lower _ _ _ _ _ _ _ _ _ _ _ _ i.3 k.0 (inl refl), c.decreases), (within.0, (within.1.0, (within.1.1.0, (within.1.1.1.0, (within.1.1.1.1.0, (within.1.1.1.1.1, ((i.1, k.0), (c.requires.nonempty, c.requires.covered)))))))))
+    (omega (arith, lower _ _ _ _ _ _ _ _ _ _ _ _ i.3 k.0 (inl refl), c.decreases), (within.0, (within.1.0, (within.1.1.0, (within.1.1.1.0, (within.1.1.1.1.0, (within.1.1.1.1.1, ((i.1, k.0), (c.requires.nonempty, (c.requires.covered, c.requires.known))))))))))
 
 pub returns-in_err-first-clause-err : goal.returns-in_err-first-clause-err
 returns-in_err-first-clause-err g t c =
@@ -68,7 +68,7 @@ reconstruct_digest-requires-2 g t c κs within =
     let n = c.requires.node in
     let i = inner_node _ _ _ _ _ n.0 n.1 c.if-subtree-eq0.false in
     let k = c.children-left.ensures i.0 i.1 i.2 i.3 in
-    (omega (arith, lower _ _ _ _ _ _ _ _ _ _ _ _ i.3 k.1 (inr (heights_same _ _ _ g.met.F.Family.lawful _ _ _ _ _ _ i.3)), c.decreases), (within.0, (within.1.0, (within.1.1.0, (within.1.1.1.0, (within.1.1.1.1.0, (within.1.1.1.1.1, ((i.2, k.1), (c.requires.nonempty, c.requires.covered)))))))))
+    (omega (arith, lower _ _ _ _ _ _ _ _ _ _ _ _ i.3 k.1 (inr (heights_same _ _ _ g.met.F.Family.lawful _ _ _ _ _ _ i.3)), c.decreases), (within.0, (within.1.0, (within.1.1.0, (within.1.1.1.0, (within.1.1.1.1.0, (within.1.1.1.1.1, ((i.2, k.1), (c.requires.nonempty, (c.requires.covered, c.requires.known))))))))))
 
 pub returns-in_err-second-clause-err : goal.returns-in_err-second-clause-err
 returns-in_err-second-clause-err g t c =
@@ -104,7 +104,7 @@ returns-then-subtree-eq0-clause-taken g t c = λ u w.
     let none = inner_leaf h (in_range c.args.range.now.start c.args.range.now.end) (leaf_from h c.args.range.now.start c.args.leaves.now) _ _ _ _ _ u w c.if-subtree-eq0.true c.args.digests.now.now in
     subst (λ z. g.C.Collector.Took c.args.out.now z c.args.out.now) (sym none) (g.met.C.Collector.took_none c.args.out.now)
 
-pub returns-then-is_inside-clause-ok : goal.returns-then-is_inside-clause-ok
-returns-then-is_inside-clause-ok g t c = λ u w.
-    walked_inside g.F.Family.rule g.F.Family.MAX_LEAVES (g.H.Hasher.hashing c.args.hasher.now) c.args.range.now.start c.args.leaves.now c.args.range.now.end c.requires.covered c.args.subtree.now u w
-    (c.is_inside.ensures.inside u w c.if-is_inside.true) (c.is_inside.ensures.none u w c.if-is_inside.true) c.in-Ok.digest c.in-Ok.ensures c.args.digests.now.now
+pub returns-in-Some-get-clause-ok : goal.returns-in-Some-get-clause-ok
+returns-in-Some-get-clause-ok g t c = λ u w.
+    walked_inside (g.H.Hasher.hashing c.args.hasher.now) c.args.range.now.start c.args.leaves.now c.args.range.now.end u (c.is_inside.ensures.none u w c.if-is_inside.true)
+    c.in-Some-get.digest (c.requires.known c.args.subtree.now.position c.in-Some-get.digest (sym c.get.ensures ∙ c.in-Some-get.is) u w.at) c.args.digests.now.now

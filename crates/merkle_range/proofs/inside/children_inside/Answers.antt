@@ -1,6 +1,6 @@
-use Rattle.std.proofs.Common.{◌≢◌, arith}
-use Rattle.merkle_range.proofs.InsideNodes.{inside_join, inside_children, digest_join}
-use Rattle.merkle_range.proofs.inside.digest_inside.Goals as goal
+use Rattle.std.proofs.Common.{◌≢◌, arith, refl}
+use Rattle.merkle_range.proofs.InsideNodes.{inside_join, inside_children, digest_join, digest_at_node}
+use Rattle.merkle_range.proofs.inside.children_inside.Goals as goal
 
 pub children-left-requires : goal.children-left-requires
 children-left-requires g c = inside_join _ _ _ _ c.args.subtree.now c.requires.node (omega (arith, c.requires.tall))
@@ -57,6 +57,6 @@ returns g c =
     let four = c.in_ok-four.ensures in
     let tall : c.args.subtree.now.height ≢ 0 = omega (arith, c.requires.tall) in
     let both = inside_children _ _ _ _ _ g.met.F.Family.lawful c.args.subtree.now c.children-left.result.0 c.children-left.result.1 c.children-left.ensures c.requires.node tall in
-    let first = digest_join _ _ h from leaves c.children-left.result.0 c.children-a.result.0 c.children-a.result.1 c.children-a.ensures (omega (arith, both.2, c.requires.tall)) _ _ _ four.first four.second c.node_digest-first.ensures in
-    let second = digest_join _ _ h from leaves c.children-left.result.1 c.children-c.result.0 c.children-c.result.1 c.children-c.ensures (omega (arith, both.3, c.requires.tall)) _ _ _ four.third four.fourth c.node_digest-second.ensures in
-    digest_join _ _ h from leaves c.args.subtree.now c.children-left.result.0 c.children-left.result.1 c.children-left.ensures tall _ _ _ first second c.node_digest.ensures
+    let first = digest_join _ _ h from leaves c.children-left.result.0 c.children-a.result.0 c.children-a.result.1 c.children-a.ensures (omega (arith, both.2, c.requires.tall)) _ _ _ four.first four.second refl in
+    let second = digest_join _ _ h from leaves c.children-left.result.1 c.children-c.result.0 c.children-c.result.1 c.children-c.ensures (omega (arith, both.3, c.requires.tall)) _ _ _ four.third four.fourth refl in
+    digest_at_node _ _ h from leaves c.args.subtree.now c.requires.node _ (digest_join _ _ h from leaves c.args.subtree.now c.children-left.result.0 c.children-left.result.1 c.children-left.ensures tall _ _ _ first second refl)
