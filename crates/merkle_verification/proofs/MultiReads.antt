@@ -37,7 +37,8 @@ module _ {D : Type 0} (s : Scheme D) (m : ℕ) (node : ℕ → Option D) (X : Li
       let digests : p.digests.items ≡ map (digest_at_position s X) (multi_positions s.rule (length X) (map (λ (e : ℕ × D). e.0) (map (λ i. (i, f i)) locations))) =
       all_shown (multi_positions s.rule n locations) p.digests.items built.digests ∙ ap₂ (λ l is. map (digest_at_position s X) (multi_positions s.rule l is)) long (sym at) in
       let leaves : p.leaves ≡ length X = built.leaves ∙ long in
-      let elements : map (λ i. (i, f i)) locations ≡ map (λ i. (i, f i)) (map (λ (e : ℕ × D). e.0) (map (λ i. (i, f i)) locations)) = ap (λ (is : List ℕ). map (λ i. (i, f i)) is) (sym at) in (
+      let pairs : List ℕ → List (ℕ × D) = λ is. map (λ i. (i, f i)) is in
+      let elements : pairs locations ≡ pairs (map (λ (e : ℕ × D). e.0) (pairs locations)) = ap pairs (sym at) in (
         subst (AscendsFrom 0) (sym at) built.within.ascend,
         subst (AllByRecursion (λ i. i < length X)) (sym at) (subst (λ (l : ℕ). AllByRecursion (λ i. i < l) locations) long built.within.below),
         inl (omega (arith, built.within.nonempty, length-map {B = ℕ × D} locations (λ i. (i, f i)))),
