@@ -85,7 +85,7 @@ pub record AcceptsMulti {D : Type 0} (s : Scheme D) (r : MultiInput D) (root : D
   pub leaves : r.leaves ≤ s.max_leaves
   pub inactive : r.inactive ≤ length (peaks_of s.rule r.leaves)
   pub counts : length r.digests ≡ length (multi_positions s.rule r.leaves (locations_in r))
-  pub redundant : AllHolds s (multi_expression s r)
+  pub redundant : AllHolds s (multi_expression s r)  -- a digest that is also computed is the computed one
   pub root_is : root_of s r.leaves r.inactive (multi_expression s r) ≡ root
 
 -- the honest input of a list's leaves at some locations

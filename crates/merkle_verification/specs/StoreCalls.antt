@@ -26,13 +26,8 @@ pub record IsPartProof {F D Peaks Heights : Type 0} (s : Scheme D) (v : StoreVal
 
 -- a proof with those elements of an input that lie in a..b
 abbrev pub part_input : {F D Peaks Heights : Type 0} → Proof F D Peaks Heights → RangeInput D → (a b : ℕ) → RangeInput D
-part_input p r a b = record {
-  leaves = p.leaves;
-  inactive = p.inactive_peaks;
-  digests = p.digests.items;
-  start = a;
-  elements = take (b - a) (drop (a - r.start) r.elements);
-}
+part_input p r a b =
+    record { leaves = p.leaves; inactive = p.inactive_peaks; digests = p.digests.items; start = a; elements = take (b - a) (drop (a - r.start) r.elements) }
 
 -- the store of an accepted input refuses no part of its range
 abbrev pub NoPartIsRefused : Type 0 → Type 0 → Type 0
