@@ -18,7 +18,7 @@ use Rattle.merkle_claim_theory.specs.Table.{digest_for}
 use Rattle.merkle_claim_theory.specs.Multiproof.{multi_positions, locations_in, leaves_in, multi_on}
 use Rattle.merkle_claim_theory.specs.Verdict.{HonestMultiHasNoCollision}
 use Rattle.merkle_root_theory.proofs.Collisions.{member_ordered}
-use Rattle.merkle_claim_theory.proofs.HonestClaims.{Within, given_within, hashed_within, member_unordered}
+use Rattle.merkle_claim_theory.proofs.HonestClaims.{IncludedIn, given_within, hashed_within, member_unordered}
 use Rattle.merkle_claim_theory.proofs.RangeNoCollision.{once_in, no_root, found_none, no_collision}
 use Rattle.merkle_claim_theory.proofs.FirstCollisions.{finds_first}
 use Rattle.merkle_base.proofs.Cases.{by_test}
@@ -27,27 +27,27 @@ use Rattle.merkle_claim_theory.proofs.Multiproofs.{each_honest, needs_peaks, cho
 use Rattle.merkle_claim_theory.proofs.Verdicts.{distinct_nodes}
 
 module _ {D : Type 0} (h : Hashing D) (a : ℕ → Option D) (c : ℕ → Bool) (X Y : ℕ → D) (agrees : (i : ℕ) → c i ≡ true → Y i ≡ X i) where
-  also_within : (o : Option D) (e f : Expression D) → Within h e f → Within h (also o e) f
-  unfolding Within
+  also_within : (o : Option D) (e f : Expression D) → IncludedIn h e f → IncludedIn h (also o e) f
+  unfolding IncludedIn
   also_within None e f w = w
   also_within (Some d) e f w = w
 
-  tree_in_list : (t : Tree) → HonestTree h a c X t → Within h (multi_tree h a c Y t) (node_expression X t)
-  tree_in_list (leaf p i) = by_test (λ b. cond b (IfSome (a p) (λ d. d ≡ X i)) (or_empty h (a p) ≡ X i) → Within h (cond b (also (a p) (supplied (Y i))) (supplied (or_empty h (a p)))) (supplied (X i))) (c i)
+  tree_in_list : (t : Tree) → HonestTree h a c X t → IncludedIn h (multi_tree h a c Y t) (node_expression X t)
+  tree_in_list (leaf p i) = by_test (λ b. cond b (IfSome (a p) (λ d. d ≡ X i)) (or_empty h (a p) ≡ X i) → IncludedIn h (cond b (also (a p) (supplied (Y i))) (supplied (or_empty h (a p)))) (supplied (X i))) (c i)
       (λ q s. also_within (a p) _ _ (given_within h _ _ (agrees i q))) (λ _ s. given_within h _ _ s)
   tree_in_list (join p l r) = let u = tree_in_list l in let v = tree_in_list r in
       by_test (λ b. cond b (IfSome (a p) (λ d. d ≡ tree_digest h X (join p l r)) × HonestTree h a c X l × HonestTree h a c X r) (or_empty h (a p) ≡ tree_digest h X (join p l r))
-      → Within h (cond b (also (a p) (computed (Node p) (multi_tree h a c Y l) (multi_tree h a c Y r))) (supplied (or_empty h (a p)))) (computed (Node p) (node_expression X l) (node_expression X r))) (tree_meets c l || tree_meets c r)
+      → IncludedIn h (cond b (also (a p) (computed (Node p) (multi_tree h a c Y l) (multi_tree h a c Y r))) (supplied (or_empty h (a p)))) (computed (Node p) (node_expression X l) (node_expression X r))) (tree_meets c l || tree_meets c r)
       (λ _ s. also_within (a p) _ _ (hashed_within h (Node p) _ _ _ _ (u s.1) (v s.2))) (λ _ s. given_within h _ _ s)
 
-  pub plan_in_list : (p : Plan) → HonestPlan h a c X p → Within h (multi_claim h a c Y p) (plan_expression X p)
+  pub plan_in_list : (p : Plan) → HonestPlan h a c X p → IncludedIn h (multi_claim h a c Y p) (plan_expression X p)
   plan_in_list (peak t) s = tree_in_list t s
   plan_in_list (folding place l r) s = hashed_within h place _ _ _ _ (plan_in_list l s.0) (plan_in_list r s.1)
 
 -- what hashes only what the list does has no collision with it
 module _ {D : Type 0} (s : Scheme D) (laws : EqDecides s.hashing) (X : ℕ → D) (E : Plan → Expression D) (n n' k k' : ℕ) (e : n ≡ n') (f : k ≡ k') (p : Plan) (q : root_plan s.bagging k (peaks_of s.rule n) ≡ Some p) where
-  pub clear_of : Within s.hashing (E p) (plan_expression X p) → first_collision s.hashing (all_inputs s n k (option_map E (root_plan s.bagging k (peaks_of s.rule n)))) (all_inputs s n' k' (list_expression s X n' k')) ≡ None
-  unfolding Within
+  pub clear_of : IncludedIn s.hashing (E p) (plan_expression X p) → first_collision s.hashing (all_inputs s n k (option_map E (root_plan s.bagging k (peaks_of s.rule n)))) (all_inputs s n' k' (list_expression s X n' k')) ≡ None
+  unfolding IncludedIn
   clear_of w =
       let q' : root_plan s.bagging k' (peaks_of s.rule n') ≡ Some p = ap₂ (λ x y. root_plan s.bagging x (peaks_of s.rule y)) (sym f) (sym e) ∙ q in
       let text : string_of s n k (option_map E (root_plan s.bagging k (peaks_of s.rule n))) ≡ string_of s n' k' (list_expression s X n' k') =

@@ -14,7 +14,7 @@ use Rattle.merkle_root_theory.specs.Range.{end_of, range_parts, range_siblings, 
 use Rattle.merkle_claim_theory.specs.Table.{digest_for}
 use Rattle.merkle_claim_theory.specs.Pinned.{pin_positions, pinned_on}
 use Rattle.merkle_claim_theory.specs.Verdict.{HonestPinnedHasNoCollision}
-use Rattle.merkle_claim_theory.proofs.HonestClaims.{Within, given_within, hashed_within}
+use Rattle.merkle_claim_theory.proofs.HonestClaims.{IncludedIn, given_within, hashed_within}
 use Rattle.merkle_base.proofs.Cases.{by_test}
 use Rattle.merkle_root_theory.proofs.Claims.{split_left, split_right}
 use Rattle.merkle_claim_theory.proofs.HonestTold.{trees_left, plans_left}
@@ -26,51 +26,51 @@ use Rattle.merkle_claim_theory.proofs.PinnedChecks.{pins_rebuild, honest_pins_ar
 use Rattle.merkle_claim_theory.proofs.MultiNoCollision.{clear_of}
 
 module _ {D : Type 0} (h : Hashing D) (b : ℕ → Option D) (X : ℕ → D) where
-  told_within : (x : D) (e f : Expression D) → Within h e f → Within h (cross_checked x e) f
-  unfolding Within
+  told_within : (x : D) (e f : Expression D) → IncludedIn h e f → IncludedIn h (cross_checked x e) f
+  unfolding IncludedIn
   told_within x e f w = w
 
-  pinned_within : (o : Option D) (e f : Expression D) (P : Type 0) → (P → Within h e f) → MatchOption o P (λ x. x ≡ value h f) → Within h (pinned_or o e) f
+  pinned_within : (o : Option D) (e f : Expression D) (P : Type 0) → (P → IncludedIn h e f) → MatchOption o P (λ x. x ≡ value h f) → IncludedIn h (pinned_or o e) f
   pinned_within None e f P g s = g s
   pinned_within (Some x) e f P g s = given_within h x f s
 
-  pin_tree_in : (t : Tree) → PinsTree h b X t → Within h (pin_tree h b t) (node_expression X t)
+  pin_tree_in : (t : Tree) → PinsTree h b X t → IncludedIn h (pin_tree h b t) (node_expression X t)
   pin_tree_in (leaf p i) s = given_within h _ _ s
   pin_tree_in (join p l r) s = pinned_within (b p) _ (node_expression X (join p l r)) (PinsTree h b X l × PinsTree h b X r) (λ z. hashed_within h (Node p) _ _ _ _ (pin_tree_in l z.0) (pin_tree_in r z.1)) s
 
-  pin_plan_in : (p : Plan) → PinsPlan h b X p → Within h (pin_plan h b p) (plan_expression X p)
+  pin_plan_in : (p : Plan) → PinsPlan h b X p → IncludedIn h (pin_plan h b p) (plan_expression X p)
   pin_plan_in (peak t) s = pin_tree_in t s
   pin_plan_in (folding place l r) s = hashed_within h place _ _ _ _ (pin_plan_in l s.0) (pin_plan_in r s.1)
 
-  outside_tree_in : (w : ℕ → Bool) (t : Tree) (x : D) → x ≡ tree_digest h X t → (tree_meets w t ≡ true → PinsTree h b X t) → Within h (outside_tree h b w t x) (node_expression X t)
-  outside_tree_in w t x e s = by_test (λ y. Within h (cond y (cross_checked x (pin_tree h b t)) (supplied x)) (node_expression X t)) (tree_meets w t)
+  outside_tree_in : (w : ℕ → Bool) (t : Tree) (x : D) → x ≡ tree_digest h X t → (tree_meets w t ≡ true → PinsTree h b X t) → IncludedIn h (outside_tree h b w t x) (node_expression X t)
+  outside_tree_in w t x e s = by_test (λ y. IncludedIn h (cond y (cross_checked x (pin_tree h b t)) (supplied x)) (node_expression X t)) (tree_meets w t)
       (λ q. told_within x _ _ (pin_tree_in t (s q))) (λ _. given_within h _ _ e)
 
-  outside_plan_in : (w : ℕ → Bool) (p : Plan) (x : D) → x ≡ plan_digest h X p → (meets w p ≡ true → PinsPlan h b X p) → Within h (outside_plan h b w p x) (plan_expression X p)
-  outside_plan_in w p x e s = by_test (λ y. Within h (cond y (cross_checked x (pin_plan h b p)) (supplied x)) (plan_expression X p)) (meets w p)
+  outside_plan_in : (w : ℕ → Bool) (p : Plan) (x : D) → x ≡ plan_digest h X p → (meets w p ≡ true → PinsPlan h b X p) → IncludedIn h (outside_plan h b w p x) (plan_expression X p)
+  outside_plan_in w p x e s = by_test (λ y. IncludedIn h (cond y (cross_checked x (pin_plan h b p)) (supplied x)) (plan_expression X p)) (meets w p)
       (λ q. told_within x _ _ (pin_plan_in p (s q))) (λ _. given_within h _ _ e)
 
   module _ (w c : ℕ → Bool) (Y : ℕ → D) (agrees : (i : ℕ) → c i ≡ true → Y i ≡ X i) where
-    tree_in : (t : Tree) (ds rest : List D) → ds ≡ map (tree_digest h X) (siblings c t) ++ rest → PinsTrees h b w X (siblings c t) → Within h (pinned_tree h b w c Y t ds) (node_expression X t)
-    tree_in (leaf p j) ds rest = by_test (λ y. ds ≡ map (tree_digest h X) (cond y [] (leaf p j ∷ [])) ++ rest → PinsTrees h b w X (cond y [] (leaf p j ∷ [])) → Within h (cond y (supplied (Y j)) (outside_tree h b w (leaf p j) (next h ds))) (supplied (X j))) (c j)
+    tree_in : (t : Tree) (ds rest : List D) → ds ≡ map (tree_digest h X) (siblings c t) ++ rest → PinsTrees h b w X (siblings c t) → IncludedIn h (pinned_tree h b w c Y t ds) (node_expression X t)
+    tree_in (leaf p j) ds rest = by_test (λ y. ds ≡ map (tree_digest h X) (cond y [] (leaf p j ∷ [])) ++ rest → PinsTrees h b w X (cond y [] (leaf p j ∷ [])) → IncludedIn h (cond y (supplied (Y j)) (outside_tree h b w (leaf p j) (next h ds))) (supplied (X j))) (c j)
         (λ q e s. given_within h _ _ (agrees j q)) (λ o e s. outside_tree_in w (leaf p j) (next h ds) (ap (next h) e) s.0)
     tree_in (join p l r) ds rest = let u = tree_in l ds (map (tree_digest h X) (siblings c r) ++ rest) in let v = tree_in r (drop (length (siblings c l)) ds) rest in
         by_test (λ y. ds ≡ map (tree_digest h X) (cond y (siblings c l ++ siblings c r) (join p l r ∷ [])) ++ rest → PinsTrees h b w X (cond y (siblings c l ++ siblings c r) (join p l r ∷ []))
-        → Within h (cond y (computed (Node p) (pinned_tree h b w c Y l ds) (pinned_tree h b w c Y r (drop (length (siblings c l)) ds))) (outside_tree h b w (join p l r) (next h ds))) (computed (Node p) (node_expression X l) (node_expression X r))) (tree_meets c l || tree_meets c r)
+        → IncludedIn h (cond y (computed (Node p) (pinned_tree h b w c Y l ds) (pinned_tree h b w c Y r (drop (length (siblings c l)) ds))) (outside_tree h b w (join p l r) (next h ds))) (computed (Node p) (node_expression X l) (node_expression X r))) (tree_meets c l || tree_meets c r)
         (λ _ e s. let z = trees_left h b X w (siblings c l) (siblings c r) s in
         hashed_within h (Node p) _ _ _ _ (u (split_left _ (siblings c l) (siblings c r) ds rest e) z.0) (v (split_right _ (siblings c l) (siblings c r) ds rest e) z.1))
         (λ _ e s. outside_tree_in w (join p l r) (next h ds) (ap (next h) e) s.0)
 
-    pub pins_in : (p : Plan) (os is ro ri : List D) → os ≡ map (plan_digest h X) (outside_parts c p) ++ ro → is ≡ map (tree_digest h X) (path_siblings c p) ++ ri → PinsAll h b w X (outside_parts c p) → PinsTrees h b w X (path_siblings c p) → Within h (pinned_claim h b w c Y p os is) (plan_expression X p)
+    pub pins_in : (p : Plan) (os is ro ri : List D) → os ≡ map (plan_digest h X) (outside_parts c p) ++ ro → is ≡ map (tree_digest h X) (path_siblings c p) ++ ri → PinsAll h b w X (outside_parts c p) → PinsTrees h b w X (path_siblings c p) → IncludedIn h (pinned_claim h b w c Y p os is) (plan_expression X p)
     pins_in (peak t) os is ro ri = by_test (λ y. os ≡ map (plan_digest h X) (cond y [] (peak t ∷ [])) ++ ro → is ≡ map (tree_digest h X) (cond y (siblings c t) []) ++ ri → PinsAll h b w X (cond y [] (peak t ∷ [])) → PinsTrees h b w X (cond y (siblings c t) [])
-        → Within h (cond y (pinned_tree h b w c Y t is) (outside_plan h b w (peak t) (next h os))) (node_expression X t)) (tree_meets c t)
+        → IncludedIn h (cond y (pinned_tree h b w c Y t is) (outside_plan h b w (peak t) (next h os))) (node_expression X t)) (tree_meets c t)
         (λ _ e f s z. tree_in t is ri f z) (λ _ e f s z. outside_plan_in w (peak t) (next h os) (ap (next h) e) s.0)
     pins_in (folding place l r) os is ro ri =
         let u = pins_in l os is (map (plan_digest h X) (outside_parts c r) ++ ro) (map (tree_digest h X) (path_siblings c r) ++ ri) in
         let v = pins_in r (drop (length (outside_parts c l)) os) (drop (length (path_siblings c l)) is) ro ri in
         by_test (λ y. os ≡ map (plan_digest h X) (cond y (outside_parts c l ++ outside_parts c r) (folding place l r ∷ [])) ++ ro → is ≡ map (tree_digest h X) (cond y (path_siblings c l ++ path_siblings c r) []) ++ ri
         → PinsAll h b w X (cond y (outside_parts c l ++ outside_parts c r) (folding place l r ∷ [])) → PinsTrees h b w X (cond y (path_siblings c l ++ path_siblings c r) [])
-        → Within h (cond y (computed place (pinned_claim h b w c Y l os is) (pinned_claim h b w c Y r (drop (length (outside_parts c l)) os) (drop (length (path_siblings c l)) is))) (outside_plan h b w (folding place l r) (next h os))) (computed place (plan_expression X l) (plan_expression X r))) (meets c l || meets c r)
+        → IncludedIn h (cond y (computed place (pinned_claim h b w c Y l os is) (pinned_claim h b w c Y r (drop (length (outside_parts c l)) os) (drop (length (path_siblings c l)) is))) (outside_plan h b w (folding place l r) (next h os))) (computed place (plan_expression X l) (plan_expression X r))) (meets c l || meets c r)
         (λ _ e f s z. let x = plans_left h b X w (outside_parts c l) (outside_parts c r) s in let y = trees_left h b X w (path_siblings c l) (path_siblings c r) z in hashed_within h place _ _ _ _
         (u (split_left _ (outside_parts c l) (outside_parts c r) os ro e) (split_left _ (path_siblings c l) (path_siblings c r) is ri f) x.0 y.0)
         (v (split_right _ (outside_parts c l) (outside_parts c r) os ro e) (split_right _ (path_siblings c l) (path_siblings c r) is ri f) x.1 y.1))

@@ -33,12 +33,12 @@ paired (h ∷ []) = []
 paired (h ∷ a ∷ hs) = cond (h == a) (0 ∷ []) []
 
 -- up to three leaves, none merged; the hash of bytes is their exclusive or
-abbrev pub small : Scheme ℕ
-small = record { hashing = record xor_hashing { hash = fold bit_xor 0 }; rule = λ hs. []; max_leaves = 3; bagging = ForwardFold; domain = 0 }
+abbrev pub toy : Scheme ℕ
+toy = record { hashing = record xor_hashing { hash = fold bit_xor 0 }; rule = λ hs. []; max_leaves = 3; bagging = ForwardFold; domain = 0 }
 
 -- the same under another family's byte
 abbrev pub other_family : Scheme ℕ
-other_family = record small { domain = 1 }
+other_family = record toy { domain = 1 }
 
 -- a proof of the middle one of three leaves, whose digest is 3, with that inactive count and these digests
 abbrev pub middle : ℕ → List ℕ → RangeInput ℕ
@@ -65,11 +65,11 @@ one_byte d = d ∷ []
 
 -- what is hashed for it with the digests of the leaves 1 and 7 swapped, and what is hashed for the list
 abbrev pub swapped_inputs : List (Input ℕ)
-swapped_inputs = all_inputs small 3 0 (range_expression small (middle 0 (7 ∷ 1 ∷ [])))
+swapped_inputs = all_inputs toy 3 0 (range_expression toy (middle 0 (7 ∷ 1 ∷ [])))
 
 abbrev pub three_inputs : List (Input ℕ)
-three_inputs = all_inputs small 3 0 (list_expression small (leaf_of small.hashing (1 ∷ 3 ∷ 7 ∷ [])) 3 0)
+three_inputs = all_inputs toy 3 0 (list_expression toy (leaf_of toy.hashing (1 ∷ 3 ∷ 7 ∷ [])) 3 0)
 
 -- what is hashed for the leaves 1, 3 and 6 under the other family's byte
 abbrev pub other_inputs : List (Input ℕ)
-other_inputs = all_inputs other_family 3 0 (list_expression other_family (leaf_of small.hashing (1 ∷ 3 ∷ 6 ∷ [])) 3 0)
+other_inputs = all_inputs other_family 3 0 (list_expression other_family (leaf_of toy.hashing (1 ∷ 3 ∷ 6 ∷ [])) 3 0)

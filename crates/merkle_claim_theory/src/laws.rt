@@ -39,7 +39,7 @@ ghost use Rattle.merkle_root_theory.specs.Reconstruction.{reconstructed, LeadsIs
 ghost use Rattle.merkle_root_theory.specs.RootNames.{NamesRoot, AreApart, RootsCollide};
 ghost use Rattle.merkle_root_theory.specs.RootNames.{RootIsNamed, YesNamesRoot, EqualRootsCollide, OtherListCollides, OtherYesCollides};
 ghost use Rattle.merkle_root_theory.specs.RootString.{RootStringTellsAll};
-ghost use Rattle.merkle_claim_theory.specs.Rows.{four, seven, single, alone, paired, small, middle, no_elements, swapped_inputs, three_inputs};
+ghost use Rattle.merkle_claim_theory.specs.Rows.{four, seven, single, alone, paired, toy, middle, no_elements, swapped_inputs, three_inputs};
 ghost use Rattle.merkle_claim_theory.specs.Rows.{other_family, other_inputs, bare, bare_root, xor_bytes, one_byte};
 ghost use Rattle.merkle_claim_theory.specs.Siblings.{PathHasSiblings};
 ghost use Rattle.merkle_claim_theory.specs.Store.{PartIsAccepted, SiblingsAreRead};
@@ -229,28 +229,28 @@ pub fn worked_rows()
     ensures laid_backward { laid_out (λ a b. a + 2 * b) [] [] (1 ∷ 2 ∷ 4 ∷ []) (9 ∷ []) ≡ 21 ∷ 9 ∷ [] }
 
     // For leaf 1 of five that are all peaks.
-    ensures reads_forward { map position (reading_order ForwardFold 0 small.rule 5 1 2) ≡ 0 ∷ 2 ∷ 3 ∷ 4 ∷ [] }
-    ensures reads_backward { map position (reading_order BackwardFold 0 small.rule 5 1 2) ≡ 0 ∷ 4 ∷ 3 ∷ 2 ∷ [] }
-    ensures reads_inactive { map position (reading_order BackwardFold 3 small.rule 5 1 2) ≡ 0 ∷ 2 ∷ 4 ∷ 3 ∷ [] }
+    ensures reads_forward { map position (reading_order ForwardFold 0 toy.rule 5 1 2) ≡ 0 ∷ 2 ∷ 3 ∷ 4 ∷ [] }
+    ensures reads_backward { map position (reading_order BackwardFold 0 toy.rule 5 1 2) ≡ 0 ∷ 4 ∷ 3 ∷ 2 ∷ [] }
+    ensures reads_inactive { map position (reading_order BackwardFold 3 toy.rule 5 1 2) ≡ 0 ∷ 2 ∷ 4 ∷ 3 ∷ [] }
 
     // For the first leaf, if the first two are merged: the peak after it, and then the second leaf.
-    ensures digests { range_digests (record small { rule = paired }) (1 ∷ 3 ∷ 7 ∷ []) 0 0 1 ≡ 7 ∷ 3 ∷ [] }
+    ensures digests { range_digests (record toy { rule = paired }) (1 ∷ 3 ∷ 7 ∷ []) 0 0 1 ≡ 7 ∷ 3 ∷ [] }
 
     // The digests 1, 3 and 7 fold to 5, and with the leaf count hash to 6.
-    ensures honest { IsHonestNonempty small (1 ∷ 3 ∷ 7 ∷ []) 0 (middle 0 (1 ∷ 7 ∷ [])) }
-    ensures other_digests { IsHonestNonempty small (1 ∷ 3 ∷ 7 ∷ []) 0 (middle 0 (7 ∷ 1 ∷ [])) → ⊥ }
-    ensures other_element { IsHonestNonempty small (1 ∷ 2 ∷ 7 ∷ []) 0 (middle 0 (1 ∷ 7 ∷ [])) → ⊥ }
-    ensures accepts { AcceptsNonempty small (middle 0 (1 ∷ 7 ∷ [])) 6 }
-    ensures accepts_inactive { AcceptsNonempty small (middle 3 (1 ∷ 7 ∷ [])) 5 }
+    ensures honest { IsHonestNonempty toy (1 ∷ 3 ∷ 7 ∷ []) 0 (middle 0 (1 ∷ 7 ∷ [])) }
+    ensures other_digests { IsHonestNonempty toy (1 ∷ 3 ∷ 7 ∷ []) 0 (middle 0 (7 ∷ 1 ∷ [])) → ⊥ }
+    ensures other_element { IsHonestNonempty toy (1 ∷ 2 ∷ 7 ∷ []) 0 (middle 0 (1 ∷ 7 ∷ [])) → ⊥ }
+    ensures accepts { AcceptsNonempty toy (middle 0 (1 ∷ 7 ∷ [])) 6 }
+    ensures accepts_inactive { AcceptsNonempty toy (middle 3 (1 ∷ 7 ∷ [])) 5 }
 
     // Each of these inputs has one thing wrong. All but the first are against the root that is
     // computed for them.
-    ensures other_root { AcceptsNonempty small (middle 0 (1 ∷ 7 ∷ [])) 5 → ⊥ }
-    ensures too_many_inactive { AcceptsNonempty small (middle 4 (1 ∷ 7 ∷ [])) 2 → ⊥ }
-    ensures too_many_digests { AcceptsNonempty small (middle 0 (1 ∷ 7 ∷ 9 ∷ [])) 6 → ⊥ }
-    ensures too_many_elements { AcceptsNonempty small (record { leaves = 3; inactive = 0; digests = 2 ∷ []; start = 2; elements = 7 ∷ 9 ∷ [] }) 6 → ⊥ }
-    ensures too_many_leaves { AcceptsNonempty small (record { leaves = 4; inactive = 0; digests = 1 ∷ 7 ∷ 2 ∷ []; start = 1; elements = 3 ∷ [] }) 3 → ⊥ }
-    ensures no_elements { AcceptsNonempty small (record { leaves = 3; inactive = 0; digests = 1 ∷ 3 ∷ 7 ∷ []; start = 1; elements = [] }) 2 → ⊥ }
+    ensures other_root { AcceptsNonempty toy (middle 0 (1 ∷ 7 ∷ [])) 5 → ⊥ }
+    ensures too_many_inactive { AcceptsNonempty toy (middle 4 (1 ∷ 7 ∷ [])) 2 → ⊥ }
+    ensures too_many_digests { AcceptsNonempty toy (middle 0 (1 ∷ 7 ∷ 9 ∷ [])) 6 → ⊥ }
+    ensures too_many_elements { AcceptsNonempty toy (record { leaves = 3; inactive = 0; digests = 2 ∷ []; start = 2; elements = 7 ∷ 9 ∷ [] }) 6 → ⊥ }
+    ensures too_many_leaves { AcceptsNonempty toy (record { leaves = 4; inactive = 0; digests = 1 ∷ 7 ∷ 2 ∷ []; start = 1; elements = 3 ∷ [] }) 3 → ⊥ }
+    ensures no_elements { AcceptsNonempty toy (record { leaves = 3; inactive = 0; digests = 1 ∷ 3 ∷ 7 ∷ []; start = 1; elements = [] }) 2 → ⊥ }
 
     // What is hashed for a list: the string of the root, then the folds from the last one down, and
     // then the nodes.
@@ -261,11 +261,11 @@ pub fn worked_rows()
 
     // With its two digests swapped, the proof of the middle leaf has the root too, and collides
     // where the last peak is folded.
-    ensures accepts_swapped { AcceptsNonempty small (middle 0 (7 ∷ 1 ∷ [])) 6 }
-    ensures collides { Collides small.hashing swapped_inputs three_inputs (record { place = PrefixFold 2; claimed = Pair 4 1; listed = Pair 2 7 }) }
-    ensures no_collision { Collides small.hashing swapped_inputs three_inputs (record { place = PrefixFold 1; claimed = Pair 7 3; listed = Pair 1 3 }) → ⊥ }
-    ensures no_collision_alike { Collides small.hashing three_inputs three_inputs (record { place = PrefixFold 2; claimed = Pair 2 7; listed = Pair 2 7 }) → ⊥ }
-    ensures no_collision_elsewhere { first_collision small.hashing
+    ensures accepts_swapped { AcceptsNonempty toy (middle 0 (7 ∷ 1 ∷ [])) 6 }
+    ensures collides { Collides toy.hashing swapped_inputs three_inputs (record { place = PrefixFold 2; claimed = Pair 4 1; listed = Pair 2 7 }) }
+    ensures no_collision { Collides toy.hashing swapped_inputs three_inputs (record { place = PrefixFold 1; claimed = Pair 7 3; listed = Pair 1 3 }) → ⊥ }
+    ensures no_collision_alike { Collides toy.hashing three_inputs three_inputs (record { place = PrefixFold 2; claimed = Pair 2 7; listed = Pair 2 7 }) → ⊥ }
+    ensures no_collision_elsewhere { first_collision toy.hashing
         (record { place = PrefixFold 1; argument = Pair 4 1 } ∷ []) (record { place = PrefixFold 2; argument = Pair 2 7 } ∷ []) ≡ None }
 
     // The string of a root of family 8 with three leaves, folded right to left, is none of a
@@ -277,12 +277,12 @@ pub fn worked_rows()
 
     // The root 6 of the leaves 1, 3 and 7 is, with the byte of a different family, that of 1, 3 and
     // 6, whose fold is 4.
-    ensures apart_family { AreApart small other_family }
-    ensures apart_bagging { AreApart small (record small { bagging = BackwardFold }) }
-    ensures not_apart { AreApart small small → ⊥ }
-    ensures not_apart_in_hash { AreApart small (record other_family { hashing = xor_hashing }) → ⊥ }
-    ensures roots_collide { RootsCollide small.hashing three_inputs other_inputs }
-    ensures no_roots_collide { RootsCollide small.hashing swapped_inputs three_inputs → ⊥ }
+    ensures apart_family { AreApart toy other_family }
+    ensures apart_bagging { AreApart toy (record toy { bagging = BackwardFold }) }
+    ensures not_apart { AreApart toy toy → ⊥ }
+    ensures not_apart_in_hash { AreApart toy (record other_family { hashing = xor_hashing }) → ⊥ }
+    ensures roots_collide { RootsCollide toy.hashing three_inputs other_inputs }
+    ensures no_roots_collide { RootsCollide toy.hashing swapped_inputs three_inputs → ⊥ }
 
     // The bytes of two digests, at a node after its position, and of a string. Positions above 255
     // have two significant bytes.
@@ -291,7 +291,7 @@ pub fn worked_rows()
     ensures string_pair { string_at one_byte (Node 1) (Pair 7 9) ≡ 0 ∷ 0 ∷ 0 ∷ 0 ∷ 0 ∷ 0 ∷ 0 ∷ 1 ∷ 7 ∷ 9 ∷ [] }
     ensures string_bytes { string_at one_byte Root (Bytes (4 ∷ 5 ∷ [])) ≡ 4 ∷ 5 ∷ [] }
     ensures plain { IsPlain (standard xor_bytes one_byte nat_eq 0) }
-    ensures not_plain_node { IsPlain small.hashing → ⊥ }
+    ensures not_plain_node { IsPlain toy.hashing → ⊥ }
     ensures not_plain_fold { IsPlain (record (standard xor_bytes one_byte nat_eq 0) { fold = λ a b. a }) → ⊥ }
     ensures hash_collision { IsHashCollision xor_bytes (2 ∷ 7 ∷ []) (4 ∷ 1 ∷ []) }
     ensures no_hash_collision { IsHashCollision xor_bytes (2 ∷ 7 ∷ []) (2 ∷ 6 ∷ []) → ⊥ }
@@ -306,22 +306,22 @@ pub fn worked_rows()
         (record { place = Node 2; claimed = Pair 1 3; listed = Pair 3 1 }) }
 
     // Every error for a proof of the middle one of three leaves, and for a proof without elements.
-    ensures leads { reconstructed small (middle 0 (1 ∷ 7 ∷ [])) ≡ Ok 6 }
-    ensures start_past { reconstructed small (record (middle 0 []) { start = 3 }) ≡ Err InvalidStartLoc }
-    ensures end_past_limit { reconstructed small (record (middle 0 []) { start = 2; leaves = 9; elements = 3 ∷ 3 ∷ [] }) ≡ Err InvalidEndLoc }
-    ensures end_past_leaves { reconstructed small (record (middle 0 []) { leaves = 1 }) ≡ Err InvalidEndLoc }
-    ensures leaves_past_limit { reconstructed small (record (middle 9 []) { leaves = 4 }) ≡ Err InvalidSize }
-    ensures inactive_past_peaks { reconstructed small (middle 4 []) ≡ Err InvalidSize }
-    ensures digest_missing { reconstructed small (middle 0 (1 ∷ [])) ≡ Err MissingDigests }
-    ensures digest_extra { reconstructed small (middle 0 (1 ∷ 7 ∷ 7 ∷ [])) ≡ Err ExtraDigests }
-    ensures empty_leads { reconstructed small (no_elements 0 0 0 []) ≡ Ok 0 }
-    ensures empty_start { reconstructed small (no_elements 1 1 1 []) ≡ Err MissingElements }
-    ensures empty_inactive { reconstructed small (no_elements 0 1 1 []) ≡ Err InvalidProof }
-    ensures empty_leaves { reconstructed small (no_elements 0 0 1 (1 ∷ [])) ≡ Err MissingElements }
-    ensures empty_digest { reconstructed small (no_elements 0 0 0 (1 ∷ [])) ≡ Err ExtraDigests }
+    ensures leads { reconstructed toy (middle 0 (1 ∷ 7 ∷ [])) ≡ Ok 6 }
+    ensures start_past { reconstructed toy (record (middle 0 []) { start = 3 }) ≡ Err InvalidStartLoc }
+    ensures end_past_limit { reconstructed toy (record (middle 0 []) { start = 2; leaves = 9; elements = 3 ∷ 3 ∷ [] }) ≡ Err InvalidEndLoc }
+    ensures end_past_leaves { reconstructed toy (record (middle 0 []) { leaves = 1 }) ≡ Err InvalidEndLoc }
+    ensures leaves_past_limit { reconstructed toy (record (middle 9 []) { leaves = 4 }) ≡ Err InvalidSize }
+    ensures inactive_past_peaks { reconstructed toy (middle 4 []) ≡ Err InvalidSize }
+    ensures digest_missing { reconstructed toy (middle 0 (1 ∷ [])) ≡ Err MissingDigests }
+    ensures digest_extra { reconstructed toy (middle 0 (1 ∷ 7 ∷ 7 ∷ [])) ≡ Err ExtraDigests }
+    ensures empty_leads { reconstructed toy (no_elements 0 0 0 []) ≡ Ok 0 }
+    ensures empty_start { reconstructed toy (no_elements 1 1 1 []) ≡ Err MissingElements }
+    ensures empty_inactive { reconstructed toy (no_elements 0 1 1 []) ≡ Err InvalidProof }
+    ensures empty_leaves { reconstructed toy (no_elements 0 0 1 (1 ∷ [])) ≡ Err MissingElements }
+    ensures empty_digest { reconstructed toy (no_elements 0 0 0 (1 ∷ [])) ≡ Err ExtraDigests }
 
     // If nothing is merged, the digests for a leaf are those of all other leaves.
-    ensures positions { multi_positions small.rule 3 (1 ∷ []) ≡ 0 ∷ 2 ∷ [] }
+    ensures positions { multi_positions toy.rule 3 (1 ∷ []) ≡ 0 ∷ 2 ∷ [] }
     ensures too_many_positions { FewPositions ℕ unmerged 124 → ⊥ }
 {}
 

@@ -55,7 +55,7 @@ module _ {D : Type 0} (h : Hashing D) (rule : List ℕ → List ℕ) (max_leaves
         agreed = held.agrees;
         forked = ap (λ n. root_batch rule n (contents s)) list_count;
         boundary = held.boundary;
-        whole = refl;
+        none_forgotten = refl;
         before = list_count;
         elements = append-nil (replaced rule (get (empty {R = nat_cmp})) 0 list) ∙ replaced_nothing rule 0 list;
         updates = λ q. ap is_some (get-empty nat_cmp q);

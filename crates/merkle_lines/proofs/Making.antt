@@ -92,7 +92,7 @@ module _ {D : Type 0} (h : Hashing D) (rule : List ℕ → List ℕ) (X : List D
     agreed = m.agreed;
     forked = m.forked;
     boundary = m.boundary;
-    whole = m.whole;
+    none_forgotten = m.none_forgotten;
     before = m.before;
     elements =
         let d = h.leaf (size rule (leaf_total b)) e in
@@ -110,7 +110,7 @@ module _ {D : Type 0} (h : Hashing D) (rule : List ℕ → List ℕ) (X : List D
       agreed = m.agreed;
       forked = m.forked;
       boundary = m.boundary;
-      whole = m.whole;
+      none_forgotten = m.none_forgotten;
       before = m.before;
       elements = subst (λ x. pending_list rule x X ≡ leaf_digests h rule 0 (set c.elements k e)) (updated_old rule b k d old) made;
       updates = λ p.
@@ -122,7 +122,7 @@ module _ {D : Type 0} (h : Hashing D) (rule : List ℕ → List ℕ) (X : List D
       agreed = m.agreed;
       forked = m.forked;
       boundary = m.boundary;
-      whole = m.whole;
+      none_forgotten = m.none_forgotten;
       before = m.before;
       elements = subst (λ x. pending_list rule x X ≡ leaf_digests h rule 0 (set c.elements k e)) (updated_new rule b k d new) made;
       updates = λ p. m.updates p ∙ ap (λ t. list_any (λ j. p == size rule j) (cond t (k ∷ c.updated) c.updated)) (sym (le-ltb k (length X) (omega (arith, new, m.before))));
@@ -147,11 +147,11 @@ module _ {D : Type 0} (h : Hashing D) (rule : List ℕ → List ℕ) (X : List D
 
   pub made_keeps : kept b ≡ []
   made_keeps =
-      ap (λ q. drop b.forgotten q.ancestors ++ cond (is_changed q.own) (q.own ∷ []) []) m.forked ∙ ap (λ n. drop n [] ++ cond (is_changed (root_batch rule (length X) m.origin).own) ((root_batch rule (length X) m.origin).own ∷ []) []) m.whole
+      ap (λ q. drop b.forgotten q.ancestors ++ cond (is_changed q.own) (q.own ∷ []) []) m.forked ∙ ap (λ n. drop n [] ++ cond (is_changed (root_batch rule (length X) m.origin).own) ((root_batch rule (length X) m.origin).own ∷ []) []) m.none_forgotten
       ∙ ap (λ t. cond t ((root_batch rule (length X) m.origin).own ∷ []) []) (root_unchanged rule (length X) m.origin)
 
   made_lists : kept_lists b (X ∷ X ∷ []) ≡ X ∷ []
-  made_lists = ap (λ rs. take (suc (length rs)) (drop b.forgotten (X ∷ X ∷ []))) made_keeps ∙ ap (λ n. take 1 (drop n (X ∷ X ∷ []))) m.whole
+  made_lists = ap (λ rs. take (suc (length rs)) (drop b.forgotten (X ∷ X ∷ []))) made_keeps ∙ ap (λ n. take 1 (drop n (X ∷ X ∷ []))) m.none_forgotten
 
   -- the nodes that it needs
   made_same : (p : ℕ) → is_some (get b.overwritten p) ≡ is_some (at_updated rule c.updated p)

@@ -17,7 +17,7 @@ pub record Makes {D : Type 0} (h : Hashing D) (rule : List ℕ → List ℕ) (X 
   pub agreed : Agrees h rule origin X
   pub forked : batch.parent ≡ root_batch rule (length X) origin
   pub boundary : origin.boundary ≡ c.boundary
-  pub whole : batch.forgotten ≡ 0
+  pub none_forgotten : batch.forgotten ≡ 0
   pub before : batch.leaves_before ≡ length X
   pub elements : pending_list rule batch X ≡ leaf_digests h rule 0 c.elements
   pub updates : (p : ℕ) → is_some (get batch.overwritten p) ≡ list_any (λ k. p == size rule k) c.updated

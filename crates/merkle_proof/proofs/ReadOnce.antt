@@ -113,19 +113,19 @@ twice_kept q r (i ∷ is) = both (r i) (q i) (twice_kept q r is) refl
 abbrev only : ℕ → ℕ → Bool
 only i j = nat_eq j i
 
-abbrev Within : ℕ → ℕ → ℕ → Type 0
-Within a b i = (a ≤ i) × (i < b)
+abbrev IsBetween : ℕ → ℕ → ℕ → Type 0
+IsBetween a b i = (a ≤ i) × (i < b)
 
-unmet : (ns : List Tree) (c : ℕ → Bool) (t : Tree) → IsBuilt ns t → ((j : ℕ) → Within (first_leaf t) (end_leaf t) j → c j ≡ false) → tree_meets c t ≡ false
+unmet : (ns : List Tree) (c : ℕ → Bool) (t : Tree) → IsBuilt ns t → ((j : ℕ) → IsBetween (first_leaf t) (end_leaf t) j → c j ≡ false) → tree_meets c t ≡ false
 unmet ns c (leaf p i) h f = f i (omega arith, omega arith)
 unmet ns c (join p l r) h f =
     ap₂ ◌||◌ (unmet ns c l h.4 (λ j w. f j (w.0, omega (arith, w.1, h.3)))) (unmet ns c r h.5 (λ j w. f j (omega (arith, w.0, h.3), omega (arith, w.1, h.3))))
 
 -- no leaf under the node
-siblings_not : (ns : List Tree) (i : ℕ) (t : Tree) → IsBuilt ns t → ((j : ℕ) → Within (first_leaf t) (end_leaf t) j → ¬ (j ≡ i)) → siblings (only i) t ≡ t ∷ []
+siblings_not : (ns : List Tree) (i : ℕ) (t : Tree) → IsBuilt ns t → ((j : ℕ) → IsBetween (first_leaf t) (end_leaf t) j → ¬ (j ≡ i)) → siblings (only i) t ≡ t ∷ []
 siblings_not ns i t h f = siblings_unmet (only i) t (unmet ns (only i) t h (λ j w. ne_eqb j i (f j w)))
 
-siblings_both : (ns : List Tree) (i p : ℕ) (l r : Tree) → IsBuilt ns (join p l r) → Within (first_leaf l) (end_leaf (join p l r)) i → siblings (only i) (join p l r) ≡ siblings (only i) l ++ siblings (only i) r
+siblings_both : (ns : List Tree) (i p : ℕ) (l r : Tree) → IsBuilt ns (join p l r) → IsBetween (first_leaf l) (end_leaf (join p l r)) i → siblings (only i) (join p l r) ≡ siblings (only i) l ++ siblings (only i) r
 siblings_both ns i p l r h w = siblings_join (only i) p l r (met_at ns (only i) i (join p l r) h w.0 w.1 (eq-eqb i i refl))
 
 -- ---- whether a node at p is read
@@ -144,12 +144,12 @@ module _ (ns : List Tree) (p : ℕ) where
       one false = refl
   any_node false u = refl
 
-  read_left : (q i : ℕ) (l r : Tree) → IsBuilt ns (join q l r) → Within (first_leaf l) (end_leaf l) i → is_read (join q l r) i ≡ (is_read l i || stands_there r)
+  read_left : (q i : ℕ) (l r : Tree) → IsBuilt ns (join q l r) → IsBetween (first_leaf l) (end_leaf l) i → is_read (join q l r) i ≡ (is_read l i || stands_there r)
   read_left q i l r h w =
       ap (list_any stands_there) (siblings_both ns i q l r h (w.0, omega (arith, w.1, h.3)) ∙ ap (λ z. siblings (only i) l ++ z) (siblings_not ns i r h.5 (λ j v e. absurd (omega (arith, v.0, w.1, h.3, e)))))
       ∙ list_any-append stands_there (siblings (only i) l) (r ∷ []) ∙ ap (λ z. is_read l i || z) (any_node true r)
 
-  read_right : (q i : ℕ) (l r : Tree) → IsBuilt ns (join q l r) → Within (first_leaf r) (end_leaf r) i → is_read (join q l r) i ≡ (is_read r i || stands_there l)
+  read_right : (q i : ℕ) (l r : Tree) → IsBuilt ns (join q l r) → IsBetween (first_leaf r) (end_leaf r) i → is_read (join q l r) i ≡ (is_read r i || stands_there l)
   read_right q i l r h w =
       ap (list_any stands_there) (siblings_both ns i q l r h (omega (arith, w.0, h.3), omega (arith, w.1, h.3)) ∙ ap (λ z. z ++ siblings (only i) r) (siblings_not ns i l h.4 (λ j v e. absurd (omega (arith, v.1, w.0, h.3, e)))))
       ∙ swapped (stands_there l) (is_read r i)
@@ -182,20 +182,20 @@ module _ (ns : List Tree) (p : ℕ) where
       list_any-append stands_there (ts ++ us ++ vs) ws
       ∙ ap (λ z. z || list_any stands_there ws) (list_any-append stands_there (ts ++ us) vs ∙ ap (λ z. z || list_any stands_there vs) (list_any-append stands_there ts us))
 
-  below_same : (t : Tree) → IsBuilt ns t → (is : List ℕ) → AllByRecursion (Within (first_leaf t) (end_leaf t)) is → list_any (is_read t) is ≡ list_any stands_there (read_below is t)
+  below_same : (t : Tree) → IsBuilt ns t → (is : List ℕ) → AllByRecursion (IsBetween (first_leaf t) (end_leaf t)) is → list_any (is_read t) is ≡ list_any stands_there (read_below is t)
   below_same (leaf q j) h is w =
-      any_alike (Within j (j + 1)) (is_read (leaf q j)) (λ _. false) (λ i v. ap (λ z. list_any stands_there (cond z [] (leaf q j ∷ []))) (eq-eqb j i (omega (arith, v.0, v.1)))) is w ∙ none_any is
+      any_alike (IsBetween j (j + 1)) (is_read (leaf q j)) (λ _. false) (λ i v. ap (λ z. list_any stands_there (cond z [] (leaf q j ∷ []))) (eq-eqb j i (omega (arith, v.0, v.1)))) is w ∙ none_any is
   below_same (join q l r) h is w =
       let m = first_leaf r in
       let first = those_before m is in
       let second = those_from m is in
-      let under_left : AllByRecursion (Within (first_leaf l) (end_leaf l)) first = all_imply (λ i. Within (first_leaf l) (end_leaf (join q l r)) i × (nat_lt i m ≡ true)) (Within (first_leaf l) (end_leaf l))
-      (λ i v. (v.0.0, omega (arith, ltb-true i m v.1, h.3))) first (all_kept (Within (first_leaf l) (end_leaf (join q l r))) (λ i. nat_lt i m) is w) in
-      let under_right : AllByRecursion (Within (first_leaf r) (end_leaf r)) second = all_imply (λ i. Within (first_leaf l) (end_leaf (join q l r)) i × (nat_le m i ≡ true)) (Within (first_leaf r) (end_leaf r))
-      (λ i v. (leb-true m i v.1, omega (arith, v.0.1, h.3))) second (all_kept (Within (first_leaf l) (end_leaf (join q l r))) (λ i. nat_le m i) is w) in
+      let under_left : AllByRecursion (IsBetween (first_leaf l) (end_leaf l)) first = all_imply (λ i. IsBetween (first_leaf l) (end_leaf (join q l r)) i × (nat_lt i m ≡ true)) (IsBetween (first_leaf l) (end_leaf l))
+      (λ i v. (v.0.0, omega (arith, ltb-true i m v.1, h.3))) first (all_kept (IsBetween (first_leaf l) (end_leaf (join q l r))) (λ i. nat_lt i m) is w) in
+      let under_right : AllByRecursion (IsBetween (first_leaf r) (end_leaf r)) second = all_imply (λ i. IsBetween (first_leaf l) (end_leaf (join q l r)) i × (nat_le m i ≡ true)) (IsBetween (first_leaf r) (end_leaf r))
+      (λ i v. (leb-true m i v.1, omega (arith, v.0.1, h.3))) second (all_kept (IsBetween (first_leaf l) (end_leaf (join q l r))) (λ i. nat_le m i) is w) in
       any_parted m (is_read (join q l r)) is
-      ∙ ap₂ ◌||◌ (child_same first (is_read (join q l r)) l r (Within (first_leaf l) (end_leaf l)) under_left (λ i v. read_left q i l r h v) (below_same l h.4 first under_left))
-      (child_same second (is_read (join q l r)) r l (Within (first_leaf r) (end_leaf r)) under_right (λ i v. read_right q i l r h v) (below_same r h.5 second under_right))
+      ∙ ap₂ ◌||◌ (child_same first (is_read (join q l r)) l r (IsBetween (first_leaf l) (end_leaf l)) under_left (λ i v. read_left q i l r h v) (below_same l h.4 first under_left))
+      (child_same second (is_read (join q l r)) r l (IsBetween (first_leaf r) (end_leaf r)) under_right (λ i v. read_right q i l r h v) (below_same r h.5 second under_right))
       ∙ ordered (list_any stands_there (read_below first l)) (list_any stands_there (node_if (are_some first) r)) (list_any stands_there (read_below second r)) (list_any stands_there (node_if (are_some second) l))
       ∙ sym (any_four (read_below first l) (node_if (are_some second) l) (read_below second r) (node_if (are_some first) r))
 
@@ -204,7 +204,7 @@ module _ (ns : List Tree) (p : ℕ) where
   in_same t h is =
       let q : ℕ → Bool = λ i. nat_le (first_leaf t) i && nat_lt i (end_leaf t) in
       let same : under t is ≡ filter q is = twice_kept (λ i. nat_lt i (end_leaf t)) (λ i. nat_le (first_leaf t) i) is in
-      let inside : AllByRecursion (Within (first_leaf t) (end_leaf t)) (filter q is) = all_imply (λ i. Unit {0} × (q i ≡ true)) (Within (first_leaf t) (end_leaf t))
+      let inside : AllByRecursion (IsBetween (first_leaf t) (end_leaf t)) (filter q is) = all_imply (λ i. Unit {0} × (q i ≡ true)) (IsBetween (first_leaf t) (end_leaf t))
       (λ i v. let b = and_parts (nat_le (first_leaf t) i) (nat_lt i (end_leaf t)) v.1 in (leb-true (first_leaf t) i b.0, ltb-true i (end_leaf t) b.1)) (filter q is) (all_kept (λ _. Unit {0}) q is (all_units is)) in
       any_others q (is_read t) (stands_there t) (λ i e. ap (list_any stands_there) (siblings_not ns i t h (λ j v w. false≢true (sym e ∙ passes i j v w))) ∙ any_node true t) is
       ∙ ap (λ z. z || (nat_lt (length (filter q is)) (length is) && stands_there t)) (below_same t h (filter q is) inside)
@@ -216,7 +216,7 @@ module _ (ns : List Tree) (p : ℕ) where
       all_units [] = tt
       all_units (i ∷ is) = (tt, all_units is)
 
-      passes : (i j : ℕ) → Within (first_leaf t) (end_leaf t) j → j ≡ i → (nat_le (first_leaf t) i && nat_lt i (end_leaf t)) ≡ true
+      passes : (i j : ℕ) → IsBetween (first_leaf t) (end_leaf t) j → j ≡ i → (nat_le (first_leaf t) i && nat_lt i (end_leaf t)) ≡ true
       passes i j v w = ap₂ ◌&&◌ (le-leb (first_leaf t) i (omega (arith, v.0, w))) (lt-ltb i (end_leaf t) (omega (arith, v.1, w)))
 
   all_same : (ts : List Tree) → AllByRecursion (IsBuilt ns) ts → (is : List ℕ) → list_any (is_one_leaf_position ts p) is ≡ list_any stands_there (flat_map (read_in is) ts)

@@ -4,7 +4,7 @@ use Rattle.merkle_base.specs.Forest.{forest}
 use Rattle.merkle_forest_theory.specs.Rows.{unmerged}
 use Rattle.merkle_root_theory.specs.Expression.{Root, PrefixFold, Pair, Bytes, Argument, Input}
 use Rattle.merkle_root_theory.specs.Collision.{Member}
-use Rattle.merkle_claim_theory.specs.Rows.{small}
+use Rattle.merkle_claim_theory.specs.Rows.{toy}
 use Rattle.merkle_claim_theory.proofs.laws.worked_rows.Goals as goal
 
 -- of the inputs of three peaks, whatever is folded, the root's argument is this string
@@ -99,5 +99,5 @@ returns c = record {
   empty_leaves = refl;
   empty_digest = refl;
   positions = refl;
-  too_many_positions = λ f. absurd (let e : 123 ≤ 122 = f (record small { rule = unmerged; max_leaves = 124 }) refl refl 124 (omega arith) (0 ∷ []) (omega arith, tt) in omega (arith, e));
+  too_many_positions = λ f. absurd (let e : 123 ≤ 122 = f (record toy { rule = unmerged; max_leaves = 124 }) refl refl 124 (omega arith) (0 ∷ []) (omega arith, tt) in omega (arith, e));
 }
