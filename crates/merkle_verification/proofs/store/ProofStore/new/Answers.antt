@@ -1,5 +1,5 @@
-use Rattle.std.proofs.Common.{◌≡◌, ◌+◌, ◌<◌, length, arith, refl, sym, ap, ◌∙◌, rules}
-use Rattle.std.proofs.lemmas.List.{length-map}
+use Rattle.std.proofs.Common.{◌≡◌, ◌+◌, ◌<◌, length, arith, refl, sym, ap, ◌∙◌, rules, inl, inr}
+use Rattle.std.proofs.lemmas.List.{length-map, nil_from_length}
 use Rattle.std.proofs.lemmas.Result.{IfOk-weaker}
 use Rattle.merkle_base.proofs.Limits.{lawful_leaves}
 use Rattle.merkle_base.specs.Scheme.{Scheme}
@@ -65,3 +65,12 @@ returns-clause-accepted g c =
     let some : 0 < length es = search rules in
     let ok = accepted_some s r c.args.root.now c.in-Ok.ensures.ok.0 (omega (arith, count, some)) in
     IfOk-weaker c.keep.result _ (λ _. AcceptsNonempty s r c.args.root.now) (λ v f. ok) c.keep.ensures.ok
+
+pub returns-in-Err-clause-err : goal.returns-in-Err-clause-err
+returns-in-Err-clause-err g c = λ other. inl (c.in-Err.ensures.err other)
+
+pub returns-then-is_empty-clause-err : goal.returns-then-is_empty-clause-err
+returns-then-is_empty-clause-err g c =
+    let es = c.args.elements.now in
+    let none : length es ≡ 0 = search rules in
+    λ other. inr (c.in-Ok.ensures.ok.0, nil_from_length es none, refl)
