@@ -5,3 +5,4 @@ pub mod ProofRefusals
 pub mod RangePlans
 pub mod MultiPositions
 pub mod Confirmed
+pub mod Searched

@@ -212,13 +212,14 @@ fn push_digests<F: Family, D: Digest>(
         → ¬ EachHolds h a located.now ts) }
 {
     let mut next = 0;
+    let mut place = 0;
     for node in nodes {
         let position = node.subtree.position;
         if node.is_unmet() {
-            digests.push(told.or_empty(position))?;
+            digests.push(told.or_empty(position, &mut place))?;
         } else {
             let digest = digest_met(located, node, computed, &mut next);
-            if !told.agrees(position, &digest) {
+            if !told.agrees(position, &digest, &mut place) {
                 return Ok(false);
             }
             digests.push(digest)?;
