@@ -10,7 +10,7 @@ use merkle_base::position::Position;
 use merkle_digest::digest::Digest;
 
 /// How many positions are looked at one by one before all are searched.
-const NEAR: usize = 12;
+const NEAR: usize = 32;
 
 /// The digests of nodes by position, as a proof of scattered leaves supplies them.
 #[derive(Drop)]

@@ -22,7 +22,7 @@ use std::ops::Range;
 /// leaves could be hashed four at a time.
 const LEAVES_TOGETHER: usize = 8;
 
-/// Initial capacity for the children of nodes; more are rare.
+/// Initial capacity for nodes and for their children; more are rare.
 const ROOM: usize = 32;
 
 // Returns the digest of a leaf from those of the leaves from location `start` on.
@@ -246,8 +246,8 @@ pub(crate) fn digests_inside<F: Family, H: Hasher<F>>(
             digests: Vec::new(alloc),
         });
     }
-    let mut tall = Vec::new(alloc);
-    let mut parents = Vec::new(alloc);
+    let mut tall = Vec::with_capacity(alloc, ROOM)?;
+    let mut parents = Vec::with_capacity(alloc, ROOM)?;
     for peak in peaks {
         collect_inside(peak, range, leaves, &mut tall, &mut parents)?;
     }
