@@ -1,5 +1,5 @@
 -- What the checks of scattered leaves and of pins accept, in one form and by cases: with elements, and without.
-use Rattle.std.proofs.Common.{◌≡◌, ◌↔◌, ℕ, zero, suc, ◌<◌, ◌≤◌, List, [], ◌∷◌, length, map, None, Ok, option_map, inl, inr, refl, ap, sym, subst, ◌∙◌, arith, reverse}
+use Rattle.std.proofs.Common.{◌≡◌, ◌↔◌, ℕ, ◌<◌, List, [], ◌∷◌, length, map, None, option_map, inl, inr, refl, ap, sym, subst, ◌∙◌, arith}
 use Rattle.std.specs.List.{AllByRecursion}
 use Rattle.merkle_base.specs.Forest.{forest}
 use Rattle.merkle_base.specs.Places.{peaks_of}
@@ -7,8 +7,6 @@ use Rattle.merkle_base.specs.Scheme.{Scheme}
 use Rattle.merkle_base.specs.declared.family.Bagging.{Bagging}
 use Rattle.merkle_root_theory.specs.Check.{RangeInput, root_of}
 use Rattle.merkle_root_theory.specs.Plan.{root_plan}
-use Rattle.merkle_root_theory.specs.Range.{Accepts}
-use Rattle.merkle_root_theory.specs.Reconstruction.{reconstructed}
 use Rattle.merkle_root_theory.proofs.Reconstruction.{leads_is_accepted}
 use Rattle.merkle_claim_theory.specs.Multiproof.{MultiInput, locations_in, multi_positions, multi_on, multi_expression, AllHolds, AcceptsMultiCases, AcceptsMulti}
 use Rattle.merkle_claim_theory.specs.Pinned.{pinned_on, pinned_expression, AcceptsPinnedCases, AcceptsPinned}

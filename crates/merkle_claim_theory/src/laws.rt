@@ -32,7 +32,7 @@ ghost use Rattle.merkle_claim_theory.specs.PinnedClaim.{PinnedClaimSound};
 ghost use Rattle.merkle_claim_theory.specs.PlainHash.{IsPlain, joined_at, string_at, IsHashCollision, SameForm, StandardIsPlain, RootCollision, PlainCollision};
 ghost use Rattle.merkle_claim_theory.specs.PlainHash.{RangeCollision, MultiCollision, PinnedCollision, PairCollision, NodeCollision};
 ghost use Rattle.merkle_root_theory.specs.Plan.{folding, plan_expression, siblings, root_plan};
-ghost use Rattle.merkle_root_theory.specs.Range.{HonestIsAccepted, RangeSound, AcceptsNonempty, IsHonestNonempty, overlapping, wholly_after, range_siblings, range_digests};
+ghost use Rattle.merkle_root_theory.specs.Range.{HonestIsAccepted, RangeSound, AcceptsNonempty, IsHonestRange, IsHonestNonempty, overlapping, wholly_after, range_siblings, range_digests};
 ghost use Rattle.merkle_root_theory.specs.Reads.{reading_order};
 ghost use Rattle.merkle_base.specs.declared.error.ReconstructionError.TheVariants.{InvalidProof, MissingDigests, ExtraDigests, InvalidStartLoc, InvalidEndLoc, MissingElements, InvalidSize};
 ghost use Rattle.merkle_root_theory.specs.Reconstruction.{reconstructed, LeadsIsAccepted};
@@ -240,6 +240,10 @@ pub fn worked_rows()
     ensures honest { IsHonestNonempty toy (1 ∷ 3 ∷ 7 ∷ []) 0 (middle 0 (1 ∷ 7 ∷ [])) }
     ensures other_digests { IsHonestNonempty toy (1 ∷ 3 ∷ 7 ∷ []) 0 (middle 0 (7 ∷ 1 ∷ [])) → ⊥ }
     ensures other_element { IsHonestNonempty toy (1 ∷ 2 ∷ 7 ∷ []) 0 (middle 0 (1 ∷ 7 ∷ [])) → ⊥ }
+    ensures honest_range { IsHonestRange toy (1 ∷ 3 ∷ 7 ∷ []) 0 (middle 0 (1 ∷ 7 ∷ [])) }
+    ensures honest_range_other { IsHonestRange toy (1 ∷ 3 ∷ 7 ∷ []) 0 (middle 0 (7 ∷ 1 ∷ [])) → ⊥ }
+    ensures honest_empty { IsHonestRange toy [] 0 (record { leaves = 0; inactive = 0; digests = []; start = 0; elements = [] }) }
+    ensures honest_no_elements { IsHonestRange toy (1 ∷ []) 0 (record { leaves = 1; inactive = 0; digests = 1 ∷ []; start = 0; elements = [] }) → ⊥ }
     ensures accepts { AcceptsNonempty toy (middle 0 (1 ∷ 7 ∷ [])) 6 }
     ensures accepts_inactive { AcceptsNonempty toy (middle 3 (1 ∷ 7 ∷ [])) 5 }
 

@@ -1,4 +1,4 @@
-use Rattle.std.proofs.Common.{◌≡◌, ◌≤◌, ℕ, List, [], ◌∷◌, refl, ap, sym, ◌∙◌, inl, inr, arith}
+use Rattle.std.proofs.Common.{◌≡◌, ◌≤◌, ◌<◌, ◌⊎◌, ℕ, List, [], ◌∷◌, refl, ap, sym, ◌∙◌, inl, inr, arith}
 use Rattle.merkle_base.specs.declared.family.Bagging.TheVariants.{ForwardFold, BackwardFold}
 use Rattle.merkle_base.specs.Forest.{forest}
 use Rattle.merkle_forest_theory.specs.Rows.{unmerged}
@@ -16,6 +16,11 @@ one_root x y u v a (inl e) = sym (ap (λ (i : Input ℕ). i.argument) e)
 one_root x y u v a (inr (inl e)) = absurd (let d : PrefixFold 2 ≡ Root = ap (λ (i : Input ℕ). i.place) e in cc)
 one_root x y u v a (inr (inr (inl e))) = absurd (let d : PrefixFold 1 ≡ Root = ap (λ (i : Input ℕ). i.place) e in cc)
 one_root x y u v a (inr (inr (inr m))) = absurd m
+
+-- one leaf is not proved without an element
+some_element : (0 < 0) ⊎ (◌≡◌ {A = List ℕ} (1 ∷ []) []) → ⊥
+some_element (inl l) = absurd (omega (arith, l))
+some_element (inr e) = absurd (let d : ◌≡◌ {A = List ℕ} (1 ∷ []) [] = e in cc)
 
 pub returns : goal.returns
 unfolding forest
@@ -42,6 +47,10 @@ returns c = record {
   honest = record { nonempty = omega arith; within = omega arith; leaves = refl; inactive = refl; digests = refl; elements = refl };
   other_digests = λ r. absurd (let e : 7 ∷ 1 ∷ [] ≡ 1 ∷ 7 ∷ [] = r.digests in cc);
   other_element = λ r. absurd (let e : 3 ∷ [] ≡ 2 ∷ [] = r.elements in cc);
+  honest_range = (omega arith, inl (omega arith), refl);
+  honest_range_other = λ r. absurd (let e : 7 ∷ 1 ∷ [] ≡ 1 ∷ 7 ∷ [] = ap (λ i. i.digests) r.2 in cc);
+  honest_empty = (omega arith, inr refl, refl);
+  honest_no_elements = λ r. some_element r.1;
   accepts = record { nonempty = omega arith; within = omega arith; leaves = omega arith; inactive = omega arith; counts = refl; root_is = refl };
   accepts_inactive = record { nonempty = omega arith; within = omega arith; leaves = omega arith; inactive = omega arith; counts = refl; root_is = refl };
   other_root = λ a. absurd (omega (arith, a.root_is));
