@@ -27,7 +27,7 @@ ghost use Rattle.merkle_claim_theory.specs.Order.{PlacesInOrder, PlacesOnce};
 ghost use Rattle.merkle_root_theory.specs.Layouts.{count_before, count_after, count_inactive, laid_out};
 ghost use Rattle.merkle_root_theory.specs.Outside.{OutsideIsLayout, layout};
 ghost use Rattle.merkle_claim_theory.specs.Rebuilt.{PinnedIsRebuilt, PinsGiveOldRoot};
-ghost use Rattle.merkle_claim_theory.specs.Pinned.{HonestPinnedIsAccepted, AcceptedPinnedIsHonest, PinsAreOldPeaks, PinnedByCases};
+ghost use Rattle.merkle_claim_theory.specs.Pinned.{AcceptsPinned, HonestPinnedIsAccepted, AcceptedPinnedIsHonest, PinsAreOldPeaks, PinnedByCases};
 ghost use Rattle.merkle_claim_theory.specs.PinnedClaim.{PinnedClaimSound};
 ghost use Rattle.merkle_claim_theory.specs.PlainHash.{IsPlain, joined_at, string_at, IsHashCollision, SameForm, StandardIsPlain, RootCollision, PlainCollision};
 ghost use Rattle.merkle_claim_theory.specs.PlainHash.{RangeCollision, MultiCollision, PinnedCollision, PairCollision, NodeCollision};
@@ -246,6 +246,11 @@ pub fn worked_rows()
     ensures honest_no_elements { IsHonestRange toy (1 ∷ []) 0 (record { leaves = 1; inactive = 0; digests = 1 ∷ []; start = 0; elements = [] }) → ⊥ }
     ensures accepts { AcceptsNonempty toy (middle 0 (1 ∷ 7 ∷ [])) 6 }
     ensures accepts_inactive { AcceptsNonempty toy (middle 3 (1 ∷ 7 ∷ [])) 5 }
+
+    // The one pin before leaf 1 is the digest of leaf 0, which the proof has too.
+    ensures accepts_pinned { AcceptsPinned toy (middle 0 (1 ∷ 7 ∷ [])) (1 ∷ []) 6 }
+    ensures pin_missing { AcceptsPinned toy (middle 0 (1 ∷ 7 ∷ [])) [] 6 → ⊥ }
+    ensures pin_other { AcceptsPinned toy (middle 0 (1 ∷ 7 ∷ [])) (2 ∷ []) 6 → ⊥ }
 
     // Each of these inputs has one thing wrong. All but the first are against the root that is
     // computed for them.

@@ -53,6 +53,9 @@ returns c = record {
   honest_no_elements = λ r. some_element r.1;
   accepts = record { nonempty = omega arith; within = omega arith; leaves = omega arith; inactive = omega arith; counts = refl; root_is = refl };
   accepts_inactive = record { nonempty = omega arith; within = omega arith; leaves = omega arith; inactive = omega arith; counts = refl; root_is = refl };
+  accepts_pinned = (refl, refl, (((refl, tt), tt), tt));
+  pin_missing = λ a. absurd (omega (arith, a.1));
+  pin_other = λ a. absurd (omega (arith, a.2.0.0.0));
   other_root = λ a. absurd (omega (arith, a.root_is));
   too_many_inactive = λ a. absurd (omega (arith, a.inactive));
   too_many_digests = λ a. absurd (omega (arith, a.counts));
