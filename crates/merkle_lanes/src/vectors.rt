@@ -75,32 +75,34 @@ fn maj<const N: usize>(x: Simd<u32, N>, y: Simd<u32, N>, z: Simd<u32, N>) -> Sim
     xor(y, and(xor(x, y), xor(y, z)))
 }
 
+// The standard rotates x by 2, 13 and 22 bits. Rotating inside one another needs fewer copies of x,
+// which take time where an instruction overwrites its operand.
 #[inline(always)]
 fn big_sigma0<const N: usize>(x: Simd<u32, N>) -> Simd<u32, N>
     ensures { (j : ℕ) → j < N → slice_index result j ≡ big_sigma0 (slice_index x.entry j) }
 {
-    xor(xor(rotated(x, 2), rotated(x, 13)), rotated(x, 22))
+    rotated(xor(x, rotated(xor(x, rotated(x, 9)), 11)), 2)
 }
 
 #[inline(always)]
 fn big_sigma1<const N: usize>(x: Simd<u32, N>) -> Simd<u32, N>
     ensures { (j : ℕ) → j < N → slice_index result j ≡ big_sigma1 (slice_index x.entry j) }
 {
-    xor(xor(rotated(x, 6), rotated(x, 11)), rotated(x, 25))
+    rotated(xor(x, rotated(xor(x, rotated(x, 14)), 5)), 6)
 }
 
 #[inline(always)]
 fn small_sigma0<const N: usize>(x: Simd<u32, N>) -> Simd<u32, N>
     ensures { (j : ℕ) → j < N → slice_index result j ≡ small_sigma0 (slice_index x.entry j) }
 {
-    xor(xor(rotated(x, 7), rotated(x, 18)), shifted(x, 3))
+    xor(rotated(xor(x, rotated(x, 11)), 7), shifted(x, 3))
 }
 
 #[inline(always)]
 fn small_sigma1<const N: usize>(x: Simd<u32, N>) -> Simd<u32, N>
     ensures { (j : ℕ) → j < N → slice_index result j ≡ small_sigma1 (slice_index x.entry j) }
 {
-    xor(xor(rotated(x, 17), rotated(x, 19)), shifted(x, 10))
+    xor(rotated(xor(x, rotated(x, 2)), 17), shifted(x, 10))
 }
 
 // The next word of the message schedule. `w` is a ring of the last 16 words: the next one goes to
