@@ -18,10 +18,15 @@ computed_nodes rule m n e = filter (is_computed rule m n) (forest rule e).nodes
 abbrev pub level : {D : Type 0} → (List ℕ → List ℕ) → (ℕ → Option D) → ℕ → ℕ → ℕ → List Tree
 level rule m n e k = filter (λ t. is_computed rule m n t && (height t == k)) (forest rule e).nodes
 
+-- a child of a computed node
+abbrev pub IsComputedChild : {D : Type 0} → (List ℕ → List ℕ) → (ℕ → Option D) → ℕ → ℕ → Tree → Type 0
+IsComputedChild rule m n e t =
+    (p : ℕ) × (l r : Tree) × (slice_get (forest rule e).nodes p ≡ Some (join p l r)) × (is_computed rule m n (join p l r) ≡ true) × ((t ≡ l) ⊎ (t ≡ r))
+
 -- a child of a computed node or, if there are leaves after n or m has a digest for one before, a peak of e leaves
 abbrev pub IsUsed : {D : Type 0} → (List ℕ → List ℕ) → (ℕ → Option D) → ℕ → ℕ → Tree → Type 0
 IsUsed rule m n e t =
-    ((p : ℕ) × (l r : Tree) × (slice_get (forest rule e).nodes p ≡ Some (join p l r)) × (is_computed rule m n (join p l r) ≡ true) × ((t ≡ l) ⊎ (t ≡ r)))
+    IsComputedChild rule m n e t
     ⊎ (((n < e) ⊎ ((k : ℕ) × (k < n) × (is_some (m (size rule k)) ≡ true))) × ((i : ℕ) × (slice_get (forest rule e).peaks i ≡ Some t)))
 
 -- needed: used, old, and neither overwritten nor an ancestor of an overwritten leaf

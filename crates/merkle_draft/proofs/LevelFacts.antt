@@ -38,8 +38,8 @@ module _ {A : Type 0} where
   ]
   listed_somewhere (v ∷ ls) (suc k) p c = (let w = listed_somewhere ls k p c in (suc w.0, omega (arith, w.1), w.2))
 
-module _ {D A : Type 0} (h : Hashing D) (rule : List ℕ → List ℕ) (max_leaves most : ℕ) (law : IsLawful rule max_leaves most) (m under : ℕ → Option D) (n : ℕ) (ds : List D) (before : ℕ) (ls : List (Vec ℕ A)) (start : ℕ → Option D)
-    (all : IsReadyToCompute h rule max_leaves m under n ds before ls start) where
+module _ {D A : Type 0} (h : Hashing D) (rule : List ℕ → List ℕ) (max_leaves most : ℕ) (law : IsLawful rule max_leaves most) (m under : ℕ → Option D) (n : ℕ) (ds : List D) (before a : ℕ) (ls : List (Vec ℕ A)) (start : ℕ → Option D)
+    (all : IsReadyToCompute h rule max_leaves m under n ds before a ls start) where
   -- a listed node is a written parent
   listed_join : (k p : ℕ) (t : Tree) → slice_get (forest rule (n + length ds)).nodes p ≡ Some t → height t ≡ k → is_computed rule m n t ≡ true → (todo : List ℕ) → ((u : Tree) → IsBuilt (forest rule (n + length ds)).nodes u → height u < k → Contains todo (position u) → ⊥) →
       IsReady rule m n (n + length ds) k todo p

@@ -1,5 +1,5 @@
 -- Lists by height that grow.
-use Rattle.std.proofs.Common.{◌≡◌, ℕ, zero, suc, ◌<◌, List, [], ◌∷◌, ◌++◌, length, length-append, append-nil, get_or, slice_set, cond, arith, refl, sym, ap, ◌∙◌, inl, inr}
+use Rattle.std.proofs.Common.{◌≡◌, ℕ, zero, suc, ◌+◌, ◌<◌, ◌≤◌, List, [], ◌∷◌, ◌++◌, length, length-append, append-nil, get_or, slice_set, cond, arith, refl, sym, ap, ◌∙◌, inl, inr}
 use Rattle.std.specs.Prelude.{Vec, ◌==◌}
 use Rattle.std.proofs.lemmas.Bool.{eq-eqb, ne_eqb}
 use Rattle.std.proofs.lemmas.Bool.Decides.{eqb_tells}
@@ -34,3 +34,20 @@ module _ {X A : Type 0} where
       omega (arith, ap length k, length-append v.items (x ∷ []), ap (λ z. length z.items) e, length-append w.items (from_height ls 0), length-append u.items (from_height ls 0))
   length_pushed (u ∷ ls) (suc i) v w x l e k =
       omega (arith, length_pushed ls i v w x (omega arith) e k, length-append u.items (from_height (slice_set ls i w) 0), length-append u.items (from_height ls 0))
+
+  -- ---- lists that are cleared
+  pub level_cleared : (ls : List (Vec X A)) (i : ℕ) (w : Vec X A) → w.items ≡ [] → ((h : ℕ) → h < i → level_at ls h ≡ []) → (h : ℕ) → h < i + 1 → level_at (slice_set ls i w) h ≡ []
+  level_cleared [] i w e low h l = refl
+  level_cleared (u ∷ ls) zero w e low zero l = e
+  level_cleared (u ∷ ls) zero w e low (suc h) l = absurd (omega (arith, l))
+  level_cleared (u ∷ ls) (suc i) w e low zero l = low 0 (omega arith)
+  level_cleared (u ∷ ls) (suc i) w e low (suc h) l = level_cleared ls i w e (λ k m. low (suc k) (omega (arith, m))) h (omega (arith, l))
+
+  pub level_past : (ls : List (Vec X A)) (h : ℕ) → length ls ≤ h → level_at ls h ≡ []
+  level_past [] h l = refl
+  level_past (u ∷ ls) zero l = absurd (omega (arith, l))
+  level_past (u ∷ ls) (suc h) l = level_past ls h (omega (arith, l))
+
+  pub none_listed : (ls : List (Vec X A)) → ((h : ℕ) → level_at ls h ≡ []) → from_height ls 0 ≡ []
+  none_listed [] empty = refl
+  none_listed (u ∷ ls) empty = ap (λ xs. xs ++ from_height ls 0) (empty 0) ∙ none_listed ls (λ h. empty (suc h))

@@ -1,8 +1,8 @@
--- What is listed when the dirty parents and then the new ones are added to empty lists.
-use Rattle.std.proofs.Common.{◌≡◌, ℕ, zero, suc, ◌+◌, ◌-◌, ◌<◌, ◌≤◌, List, [], ◌∷◌, ◌++◌, length, length-append, Option, Some, Bool, true, cond, slice_get, arith, refl, sym, ap, subst, inl, inr, ◌∙◌, le-leb}
+-- What is listed when the dirty parents, or the new ones, are added to empty lists.
+use Rattle.std.proofs.Common.{◌≡◌, ℕ, zero, suc, ◌+◌, ◌<◌, ◌≤◌, List, [], ◌∷◌, ◌++◌, length, length-append, Option, Some, Bool, true, cond, slice_get, arith, refl, sym, ap, subst, inl, inr, ◌∙◌, le-leb}
 use Rattle.std.specs.Prelude.{Vec, ◌||◌}
 use Rattle.std.specs.List.{Contains, filter, flat_map}
-use Rattle.std.proofs.lemmas.Bool.{lt-leb, cases_lt}
+use Rattle.std.proofs.lemmas.Bool.{lt-leb}
 use Rattle.std.proofs.lemmas.List.Elements.{filter-append}
 use Rattle.merkle_base.specs.Tree.{Tree, leaf, join, position, height}
 use Rattle.merkle_base.specs.Forest.{forest, size, IsJoin}
@@ -11,10 +11,11 @@ use Rattle.merkle_base.proofs.Births.{all_get}
 use Rattle.merkle_base.proofs.Growth.{forest_grown}
 use Rattle.merkle_base.proofs.Lists.{get_below}
 use Rattle.merkle_base.proofs.Lookup.{get_append_add}
-use Rattle.merkle_base.proofs.Nodes.{forest_step, node_anywhere, node_stays, size_le}
+use Rattle.merkle_base.proofs.Nodes.{forest_step, node_anywhere, size_le}
 use Rattle.merkle_batch_theory.specs.History.{is_dirty}
 use Rattle.merkle_batch_theory.specs.Needed.{is_computed, computed_nodes}
-use Rattle.merkle_draft.specs.Levels.{level_at, from_height, ArePlanned, is_dirty_parent, dirty_at, AreMarked, AreAdded}
+use Rattle.merkle_draft.specs.Levels.{level_at, ArePlanned, all_dirty_count, is_dirty_parent, dirty_at, AreMarked, AreAdded}
+use Rattle.merkle_draft.proofs.Adding.{contains_none}
 use Rattle.merkle_draft.proofs.DirtyParents.{parents_sound, parents_complete, parents_counted}
 
 -- ---- filters by their tests
@@ -57,27 +58,35 @@ module _ {D : Type 0} (rule : List ℕ → List ℕ) (m : ℕ → Option D) (n :
       subst (λ (x : ℕ). length (computed_nodes rule m n x) + suc k + size rule n ≡ length (filter (is_dirty_parent m) (forest rule n).nodes) + size rule x) (sym e)
       (omega (arith, computed_counted k, ap length grown, length-append (computed_nodes rule m n (k + n)) s.0, ap length s.1, length-append old (first ∷ s.0))))
 
-  pub all_counted : {A : Type 0} (e : ℕ) → n ≤ e → (old mid new : List (Vec ℕ A)) → old ≡ [] → AreMarked m (peaks_of rule n) old mid → (appended : ℕ) → length (from_height new 0) + (e - n) ≡ length (from_height mid 0) + appended
-      → size rule n + appended ≡ size rule e → length (from_height new 0) ≡ length (computed_nodes rule m n e)
-  all_counted e more old mid new none marked appended total sized =
-      (let same : (e - n) + n ≡ e = omega (arith, more) in
-      let k = subst (λ (x : ℕ). length (computed_nodes rule m n x) + (e - n) + size rule n ≡ length (filter (is_dirty_parent m) (forest rule n).nodes) + size rule x) same (computed_counted (e - n)) in
-      omega (arith, k, total, sized, marked.counted, ap (λ ls. length (from_height ls 0)) none, parents_counted m rule n))
+  -- the dirty parents and the new ones are all that are computed
+  pub all_counted : (k dirty new : ℕ) → dirty ≡ all_dirty_count m (peaks_of rule n) → new + k + size rule n ≡ size rule (n + k) → dirty + new ≡ length (computed_nodes rule m n (n + k))
+  all_counted k dirty new is sized =
+      (let same : k + n ≡ n + k = omega arith in
+      omega (arith, subst (λ (x : ℕ). length (computed_nodes rule m n x) + k + size rule n ≡ length (filter (is_dirty_parent m) (forest rule n).nodes) + size rule x) same (computed_counted k), is, sized, parents_counted m rule n))
 
   -- ---- which positions
-  module _ {A : Type 0} (max e : ℕ) (more : n ≤ e) (within : e ≤ max) (old mid new : List (Vec ℕ A)) (none : old ≡ []) (marked : AreMarked m (peaks_of rule n) old mid) (added : AreAdded rule max (size rule n) (size rule e) mid new) where
-    -- the lists before the new parents
-    before_new : (h : ℕ) → level_at mid h ≡ flat_map (dirty_at m h) (peaks_of rule n)
-    before_new h = marked.listed h ∙ ap (λ ls. level_at ls h ++ flat_map (dirty_at m h) (peaks_of rule n)) none
+  module _ {A : Type 0} (ls : List (Vec ℕ A)) (marked : AreMarked m (peaks_of rule n) [] ls) where
+    dirty_sound : (h p : ℕ) → Contains (level_at ls h) p → (t : Tree) × (slice_get (forest rule n).nodes p ≡ Some t) × (height t ≡ h) × (is_computed rule m n t ≡ true)
+    dirty_sound h p c =
+        (let w = parents_sound m rule n h p (subst (λ xs. Contains xs p) (marked.listed h) c) in
+        let low : position w.0 < size rule n = omega (arith, (forest_grown rule n).placed p w.0 w.1, get_below (forest rule n).nodes p w.0 w.1) in
+        (w.0, w.1, w.2, old_computed w.0 low ∙ w.3))
 
-    planned_sound : (h p : ℕ) → Contains (level_at new h) p → (t : Tree) × (slice_get (forest rule e).nodes p ≡ Some t) × (height t ≡ h) × (is_computed rule m n t ≡ true)
-    planned_sound h p c = elim (added.sound h p c) [
-      | inl o ↦ (let w = parents_sound m rule n h p (subst (λ xs. Contains xs p) (before_new h) o) in
-          let low : position w.0 < size rule n = omega (arith, (forest_grown rule n).placed p w.0 w.1, get_below (forest rule n).nodes p w.0 w.1) in
-          (w.0, node_stays rule n e p w.0 more w.1, w.2, old_computed w.0 low ∙ w.3))
+    dirty_complete : (h p : ℕ) (t : Tree) → slice_get (forest rule n).nodes p ≡ Some t → height t ≡ h → is_computed rule m n t ≡ true → Contains (level_at ls h) p
+    dirty_complete h p t there tall c =
+        (let low : position t < size rule n = omega (arith, (forest_grown rule n).placed p t there, get_below (forest rule n).nodes p t there) in
+        subst (λ xs. Contains xs p) (sym (marked.listed h)) (subst (λ (k : ℕ). Contains (flat_map (dirty_at m k) (peaks_of rule n)) p) tall (parents_complete m rule n p t there (sym (old_computed t low) ∙ c))))
+
+    pub dirty_planned : ArePlanned rule m n 0 n ls
+    dirty_planned h p = (dirty_sound h p, λ t there tall c from. dirty_complete h p t there tall c)
+
+  module _ {A : Type 0} (max start e : ℕ) (after : n ≤ start) (within : e ≤ max) (old new : List (Vec ℕ A)) (none : (h : ℕ) → level_at old h ≡ []) (added : AreAdded rule max (size rule start) (size rule e) old new) where
+    added_sound : (h p : ℕ) → Contains (level_at new h) p → (t : Tree) × (slice_get (forest rule e).nodes p ≡ Some t) × (height t ≡ h) × (is_computed rule m n t ≡ true)
+    added_sound h p c = elim (added.sound h p c) [
+      | inl o ↦ absurd (contains_none p (subst (λ xs. Contains xs p) (none h) o))
       | inr i ↦ (let t = i.2.1 in
           let there = node_anywhere rule i.2.0 e p t i.2.3 i.1 in
-          let high : size rule n ≤ position t = omega (arith, i.0, (forest_grown rule e).placed p t there) in
+          let high : size rule n ≤ position t = omega (arith, i.0, (forest_grown rule e).placed p t there, size_le rule n start after) in
           (t, there, i.2.4, new_computed t high (tall t (omega (arith, i.2.4, i.2.5)))))
     ]
       where
@@ -85,17 +94,9 @@ module _ {D : Type 0} (rule : List ℕ → List ℕ) (m : ℕ → Option D) (n :
         tall (leaf q k) l = absurd (omega arith)
         tall (join q a b) l = tt
 
-    planned_complete : (h p : ℕ) (t : Tree) → slice_get (forest rule e).nodes p ≡ Some t → height t ≡ h → is_computed rule m n t ≡ true → Contains (level_at new h) p
-    planned_complete h p t there tall c = elim (cases_lt p (size rule n)) [
-      | inl l ↦ (let here = node_anywhere rule e n p t there l in
-          let low : position t < size rule n = omega (arith, (forest_grown rule e).placed p t there, l) in
-          added.kept h p (subst (λ xs. Contains xs p) (sym (before_new h)) (subst (λ (k : ℕ). Contains (flat_map (dirty_at m k) (peaks_of rule n)) p) tall (parents_complete m rule n p t here (sym (old_computed t low) ∙ c)))))
-      | inr l ↦ added.complete h p l (get_below (forest rule e).nodes p t there) (e, t, within, there, tall, omega (arith, tall, inner t c))
-    ]
+    pub added_planned : ArePlanned rule m n (size rule start) e new
+    added_planned h p = (added_sound h p, λ t there tall c from. added.complete h p from (get_below (forest rule e).nodes p t there) (e, t, within, there, tall, omega (arith, tall, inner t c)))
       where
         inner : (t : Tree) → is_computed rule m n t ≡ true → 0 < height t
         inner (leaf q k) c = absurd (cc)
         inner (join q a b) c = omega arith
-
-    pub all_planned : ArePlanned rule m n e new
-    all_planned h p = (planned_sound h p, planned_complete h p)

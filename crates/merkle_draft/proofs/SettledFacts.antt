@@ -16,7 +16,7 @@ use Rattle.merkle_batch_theory.proofs.OptionFacts.{none_of, or_some, or_second}
 use Rattle.merkle_batch_theory.specs.Contents.{Contents}
 use Rattle.merkle_batch_theory.specs.History.{is_dirty}
 use Rattle.merkle_draft.specs.DraftReads.{DraftModel, below, stored_node}
-use Rattle.merkle_draft.specs.NewDigests.{LacksNeeded, is_written, new_digest, of_both}
+use Rattle.merkle_draft.specs.NewDigests.{LacksChild, is_written, new_digest, of_both}
 use Rattle.merkle_draft.specs.Settled.{AreSettled, IsReady, draft_node}
 use Rattle.merkle_draft.specs.declared.node_error.NodeError.{NodeError}
 use Rattle.merkle_draft.specs.declared.node_error.NodeError.TheVariants.{Missing}
@@ -52,16 +52,16 @@ module _ {D : Type 0} (h : Hashing D) (rule : List ℕ → List ℕ) (m under : 
         ∙ ap (λ f. f p) (sym same) ∙ ap under (sym place) ∙ sym (unwritten_digest t b))) refl
   ]
 
-  -- a child of a ready node that is not read is a needed node that is not there
+  -- a child of a ready node that is not read is a child that is not there
   pub ready_missing : {F : Type 0} (d : DraftModel D) (base : Contents D) (k : ℕ) (todo : List ℕ) → under ≡ below d base → size rule n ≡ d.before → AreSettled h rule m under n ds todo (stored_node d) →
-      (p q l r : ℕ) → IsReady rule m n (n + length ds) k todo p → AreChildren rule p l r → (q ≡ l) ⊎ (q ≡ r) → draft_node d base q ≡ None → (e : NodeError F) → e ≡ Missing q → LacksNeeded rule m under n (n + length ds) e
+      (p q l r : ℕ) → IsReady rule m n (n + length ds) k todo p → AreChildren rule p l r → (q ≡ l) ⊎ (q ≡ r) → draft_node d base q ≡ None → (e : NodeError F) → e ≡ Missing q → LacksChild rule m under n (n + length ds) e
   ready_missing {F} d base k todo same sized settled p q l r ready children which none e error =
       let a : Tree = ready.0 in
       let b : Tree = ready.1 in
       let at : slice_get (forest rule (n + length ds)).nodes p ≡ Some (join p a b) = ready.2 in
       let built = node_built rule (n + length ds) p (join p a b) at in
       let kids = children (n + length ds) a b at in
-      let of_child : (u : Tree) → IsBuilt (forest rule (n + length ds)).nodes u → (Contains todo (position u) → ⊥) → (u ≡ a) ⊎ (u ≡ b) → q ≡ position u → LacksNeeded rule m under n (n + length ds) e =
+      let of_child : (u : Tree) → IsBuilt (forest rule (n + length ds)).nodes u → (Contains todo (position u) → ⊥) → (u ≡ a) ⊎ (u ≡ b) → q ≡ position u → LacksChild rule m under n (n + length ds) e =
       λ u there free child place.
       (let read : None ≡ new_digest h rule m under n ds u = sym none ∙ ap (draft_node d base) place ∙ settled_read d base todo same sized settled (position u) u (built_at (forest rule (n + length ds)).nodes u there) free in
       let unwritten : is_written rule m n u ≡ false = by_test (λ c. is_written rule m n u ≡ c → c ≡ false) (is_written rule m n u)
@@ -71,7 +71,7 @@ module _ {D : Type 0} (h : Hashing D) (rule : List ℕ → List ℕ) (m under : 
       ])
       (λ c i. refl) refl in
       let old = unwritten_old u unwritten in
-      (u, (inl (p, a, b, at, ready.4, child), old.0, old.1), (error ∙ ap Missing place, sym (read ∙ unwritten_digest u unwritten)))) in
+      (u, (p, a, b, at, ready.4, child), old.0, old.1, (error ∙ ap Missing place, sym (read ∙ unwritten_digest u unwritten)))) in
       elim which [
         | inl i ↦ of_child a built.4 ready.5 (inl refl) (i ∙ kids.0)
         | inr i ↦ of_child b built.5 ready.6 (inr refl) (i ∙ kids.1)

@@ -15,11 +15,11 @@ level_at ls h = elim (slice_get ls h) [ Some v ↦ v.items | None ↦ [] ]
 abbrev pub from_height : {X A : Type 0} → List (Vec X A) → ℕ → List X
 from_height ls h = flat_map (λ v. v.items) (drop h ls)
 
--- for each height exactly the positions of the computed nodes of that height are listed
-abbrev pub ArePlanned : {D A : Type 0} → (List ℕ → List ℕ) → (ℕ → Option D) → ℕ → ℕ → List (Vec ℕ A) → Type 0
-ArePlanned rule m n e ls = (h p : ℕ) →
+-- for each height positions of computed nodes of that height are listed, among them those of all from position a on
+abbrev pub ArePlanned : {D A : Type 0} → (List ℕ → List ℕ) → (ℕ → Option D) → ℕ → ℕ → ℕ → List (Vec ℕ A) → Type 0
+ArePlanned rule m n a e ls = (h p : ℕ) →
     (Contains (level_at ls h) p → (t : Tree) × (slice_get (forest rule e).nodes p ≡ Some t) × (height t ≡ h) × (is_computed rule m n t ≡ true))
-    × ((t : Tree) → slice_get (forest rule e).nodes p ≡ Some t → height t ≡ h → is_computed rule m n t ≡ true → Contains (level_at ls h) p)
+    × ((t : Tree) → slice_get (forest rule e).nodes p ≡ Some t → height t ≡ h → is_computed rule m n t ≡ true → a ≤ p → Contains (level_at ls h) p)
 
 -- ---- dirty parents
 -- whether the node is a parent above a leaf that m has a digest for

@@ -1,11 +1,11 @@
 -- The digests of nodes after a batch's changes: new digests m of some of n leaves, by position, and digests ds of added leaves.
-use Rattle.std.specs.Prelude.{◌≡◌, ℕ, ◌+◌, ◌-◌, List, length, true, Bool, Option, Some, None, is_some, slice_get, cond, nat_le, ◌||◌}
+use Rattle.std.specs.Prelude.{◌≡◌, ℕ, ◌+◌, ◌-◌, ◌<◌, List, length, true, false, Bool, Option, Some, None, is_some, slice_get, cond, nat_le, ◌||◌}
 use Rattle.std.specs.Option.{option_or}
 use Rattle.merkle_base.specs.Tree.{Tree, leaf, join, position}
 use Rattle.merkle_base.specs.Forest.{forest, size}
 use Rattle.merkle_base.specs.Hashing.{Hashing}
 use Rattle.merkle_batch_theory.specs.History.{is_dirty}
-use Rattle.merkle_batch_theory.specs.Needed.{IsNeeded}
+use Rattle.merkle_batch_theory.specs.Needed.{IsComputedChild, IsNeeded}
 use Rattle.merkle_draft.specs.NodeErrors.{IsGapAt}
 use Rattle.merkle_draft.specs.declared.node_error.NodeError.{NodeError}
 
@@ -40,3 +40,8 @@ AreNewDigests h rule m below n ds stored =
 -- it names a needed node that is not there
 abbrev pub LacksNeeded : {F D : Type 0} → (List ℕ → List ℕ) → (m below : ℕ → Option D) → ℕ → ℕ → NodeError F → Type 0
 LacksNeeded rule m below n e g = (t : Tree) × IsNeeded rule m n e t × IsGapAt below (position t) g
+
+-- it names a child of a computed node that is old, has no leaf with a new digest, and is not there
+abbrev pub LacksChild : {F D : Type 0} → (List ℕ → List ℕ) → (m below : ℕ → Option D) → ℕ → ℕ → NodeError F → Type 0
+LacksChild rule m below n e g =
+    (t : Tree) × IsComputedChild rule m n e t × (position t < size rule n) × (is_dirty m t ≡ false) × IsGapAt below (position t) g

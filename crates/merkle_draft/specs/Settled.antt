@@ -37,12 +37,12 @@ pub record IsStage {D : Type 0} (h : Hashing D) (rule : List ℕ → List ℕ) (
   pub ready : (p : ℕ) → Contains ps p → IsReady rule m n (n + length ds) k (ps ++ later) p
   pub settled : AreSettled h rule m below n ds (ps ++ later) stored
 
--- the changes fit, the levels list exactly the computed nodes, and all other nodes are settled
+-- the changes fit, the levels list the computed nodes from position a on, perhaps others too, and all that are not listed are settled
 pub record IsReadyToCompute {D A : Type 0} (h : Hashing D) (rule : List ℕ → List ℕ) (max_leaves : ℕ) (m below : ℕ → Option D) (n : ℕ) (ds : List D)
-    (before : ℕ) (ls : List (Vec ℕ A)) (stored : ℕ → Option D) : Type 0 where
+    (before a : ℕ) (ls : List (Vec ℕ A)) (stored : ℕ → Option D) : Type 0 where
   pub within : n + length ds ≤ max_leaves
   pub sized : size rule n ≡ before
-  pub planned : ArePlanned rule m n (n + length ds) ls
+  pub planned : ArePlanned rule m n a (n + length ds) ls
   pub settled : AreSettled h rule m below n ds (from_height ls 0) stored
 
 -- parents with the digests of their children as they are read

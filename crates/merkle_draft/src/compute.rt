@@ -8,13 +8,14 @@ ghost use Rattle.merkle_base.specs.Places.{HasInner, peaks_of};
 ghost use Rattle.merkle_batch_theory.specs.Needed.{computed_nodes};
 ghost use Rattle.merkle_draft.specs.DirtyLeaves.{HasLeavesOf, dirty_leaves};
 ghost use Rattle.merkle_draft.specs.DraftReads.{below, stored_node, OnlyOverwrites};
-ghost use Rattle.merkle_draft.specs.Levels.{level_at, from_height};
-ghost use Rattle.merkle_draft.specs.NewDigests.{AreNewDigests, LacksNeeded};
+ghost use Rattle.merkle_draft.specs.Levels.{all_dirty_count, level_at, from_height};
+ghost use Rattle.merkle_draft.specs.NewDigests.{AreNewDigests, LacksChild, LacksNeeded};
 ghost use Rattle.merkle_draft.specs.Settled.{AreAnswers, AreParents, AreSettled, HasSameShape, IsReadyToCompute, IsStage, draft_node};
 
 use crate::base::Base;
 use crate::draft::Draft;
 use crate::node_error::NodeError;
+use crate::plan::mark_peaks;
 use merkle_base::family::Family;
 use merkle_base::location::Location;
 use merkle_base::position::Position;
@@ -59,7 +60,7 @@ impl<F: Family, D: Digest> Draft<F, D> {
         ensures missing { let under = below self.now (B.contents base.now) in
             IfErr result (λ e. e ≢ NodeError.OutOfMemory → (h : _) (m : ℕ → Option D) (n : ℕ) (ds : List D) (later : List ℕ)
             → IsStage h F.rule F.MAX_LEAVES m under n ds self.now.before height positions.now later (stored_node self.now)
-            → LacksNeeded F.rule m under n (n + length ds) e) }
+            → LacksChild F.rule m under n (n + length ds) e) }
     {
         for position in positions {
             let (left, right) = F::children(*position, height);
@@ -114,7 +115,7 @@ impl<F: Family, D: Digest> Draft<F, D> {
         ensures missing { let h = H.hashing hasher.now in let under = below self.old (B.contents base.now) in
             IfErr result (λ e. e ≢ NodeError.OutOfMemory → (m : ℕ → Option D) (n : ℕ) (ds : List D) (later : List ℕ)
             → IsStage h F.rule F.MAX_LEAVES m under n ds self.old.before height positions.now later (stored_node self.old)
-            → LacksNeeded F.rule m under n (n + length ds) e) }
+            → LacksChild F.rule m under n (n + length ds) e) }
     {
         parents.clear();
         digests.clear();
@@ -145,7 +146,7 @@ impl<F: Family, D: Digest> Draft<F, D> {
         ensures missing { let h = H.hashing hasher.now in let under = below self.old (B.contents base.now) in
             IfErr result (λ e. e ≢ NodeError.OutOfMemory → (m : ℕ → Option D) (n : ℕ) (ds : List D) (later : List ℕ)
             → IsStage h F.rule F.MAX_LEAVES m under n ds self.old.before height positions.now later (stored_node self.old)
-            → LacksNeeded F.rule m under n (n + length ds) e) }
+            → LacksChild F.rule m under n (n + length ds) e) }
     {
         for chunk in positions.chunks(NODES_AT_ONCE) {
             self.compute_nodes(base, hasher, height, chunk, parents, digests)?;
@@ -173,7 +174,7 @@ impl<F: Family, D: Digest> Draft<F, D> {
         ensures missing { let h = H.hashing hasher.now in let under = below self.old (B.contents base.now) in
             IfErr result (λ e. e ≢ NodeError.OutOfMemory → (m : ℕ → Option D) (n : ℕ) (ds : List D) (later : List ℕ)
             → IsStage h F.rule F.MAX_LEAVES m under n ds self.old.before height (position ∷ []) later (stored_node self.old)
-            → LacksNeeded F.rule m under n (n + length ds) e) }
+            → LacksChild F.rule m under n (n + length ds) e) }
     {
         let (left, right) = F::children(position, height);
         let Some(left_digest) = self.read_node(base, left) else {
@@ -208,7 +209,7 @@ impl<F: Family, D: Digest> Draft<F, D> {
         ensures missing { let h = H.hashing hasher.now in let under = below self.old (B.contents base.now) in
             IfErr result (λ e. e ≢ NodeError.OutOfMemory → (m : ℕ → Option D) (n : ℕ) (ds : List D) (later : List ℕ)
             → IsStage h F.rule F.MAX_LEAVES m under n ds self.old.before height positions.now later (stored_node self.old)
-            → LacksNeeded F.rule m under n (n + length ds) e) }
+            → LacksChild F.rule m under n (n + length ds) e) }
     {
         match positions {
             [position] => self.compute_node(base, hasher, height, *position),
@@ -217,7 +218,7 @@ impl<F: Family, D: Digest> Draft<F, D> {
     }
 
     // Computes the listed nodes, height by height, and returns how many they are.
-    fn compute_levels<B: Base<F, Digest = D>, H: Hasher<F, Digest = D>>(
+    pub(crate) fn compute_levels<B: Base<F, Digest = D>, H: Hasher<F, Digest = D>>(
         &mut self,
         base: &B,
         hasher: &H,
@@ -230,13 +231,13 @@ impl<F: Family, D: Digest> Draft<F, D> {
         ensures shape { HasSameShape self.old self.new }
         ensures old { (p : ℕ) → self.old.before ≤ p → get self.new.overwritten p ≡ get self.old.overwritten p }
         ensures settled { let h = H.hashing hasher.now in let under = below self.old (B.contents base.now) in
-            OnOk result ((m : ℕ → Option D) (n : ℕ) (ds : List D)
-            → IsReadyToCompute h F.rule F.MAX_LEAVES m under n ds self.old.before levels.now (stored_node self.old)
+            OnOk result ((m : ℕ → Option D) (n : ℕ) (ds : List D) (a : ℕ)
+            → IsReadyToCompute h F.rule F.MAX_LEAVES m under n ds self.old.before a levels.now (stored_node self.old)
             → AreSettled h F.rule m under n ds [] (stored_node self.new)) }
         ensures missing { let h = H.hashing hasher.now in let under = below self.old (B.contents base.now) in
-            IfErr result (λ e. e ≢ NodeError.OutOfMemory → (m : ℕ → Option D) (n : ℕ) (ds : List D)
-            → IsReadyToCompute h F.rule F.MAX_LEAVES m under n ds self.old.before levels.now (stored_node self.old)
-            → LacksNeeded F.rule m under n (n + length ds) e) }
+            IfErr result (λ e. e ≢ NodeError.OutOfMemory → (m : ℕ → Option D) (n : ℕ) (ds : List D) (a : ℕ)
+            → IsReadyToCompute h F.rule F.MAX_LEAVES m under n ds self.old.before a levels.now (stored_node self.old)
+            → LacksChild F.rule m under n (n + length ds) e) }
         ensures work { IfOk result (λ k. k ≡ length (from_height levels.now 0)) }
     {
         let alloc = *self.appended.allocator();
@@ -277,6 +278,35 @@ impl<F: Family, D: Digest> Draft<F, D> {
         Ok(list)
     }
 
+    // Computes the dirty parents of a structure with `leaves` leaves, whose updated leaves have their
+    // new digests, and returns how many they are. `updates` are the new digests, left to right.
+    fn compute_dirty<B: Base<F, Digest = D>, H: Hasher<F, Digest = D>>(
+        &mut self,
+        base: &B,
+        hasher: &H,
+        leaves: Location<F>,
+        updates: &[(Position<F>, D)],
+    ) -> Result<u64, NodeError<F>>
+        requires within { leaves ≤ F.MAX_LEAVES }
+        requires sized { size F.rule leaves ≡ self.old.before }
+        requires of { (m : ℕ → Option D) × HasLeavesOf F.rule leaves m × ((q : ℕ) → get self.old.overwritten q ≡ m q)
+            × (updates.now ≡ flat_map (dirty_leaves m) (peaks_of F.rule leaves)) }
+        ensures shape { HasSameShape self.old self.new }
+        ensures old { (p : ℕ) → self.old.before ≤ p → get self.new.overwritten p ≡ get self.old.overwritten p }
+        ensures settled { let h = H.hashing hasher.now in let under = below self.old (B.contents base.now) in
+            OnOk result ((m : ℕ → Option D) → HasLeavesOf F.rule leaves m → ((q : ℕ) → get self.old.overwritten q ≡ m q)
+            → updates.now ≡ flat_map (dirty_leaves m) (peaks_of F.rule leaves) → AreNewDigests h F.rule m under leaves [] (stored_node self.new)) }
+        ensures missing { let under = below self.old (B.contents base.now) in
+            IfErr result (λ e. e ≢ NodeError.OutOfMemory → (m : ℕ → Option D) → HasLeavesOf F.rule leaves m → ((q : ℕ) → get self.old.overwritten q ≡ m q)
+            → updates.now ≡ flat_map (dirty_leaves m) (peaks_of F.rule leaves) → LacksChild F.rule m under leaves leaves e) }
+        ensures work { IfOk result (λ k. (m : ℕ → Option D) → updates.now ≡ flat_map (dirty_leaves m) (peaks_of F.rule leaves)
+            → k ≡ all_dirty_count m (peaks_of F.rule leaves)) }
+    {
+        let mut levels = Vec::new(*self.appended.allocator());
+        mark_peaks(&mut levels, leaves, updates)?;
+        self.compute_levels(base, hasher, &levels)
+    }
+
     /// Gives leaves of a structure with `leaves` leaves their new digests, by position, appends
     /// leaves with the digests `added`, and computes the nodes that follow, each once. Returns the
     /// number of parent nodes that it computed.
@@ -309,9 +339,9 @@ impl<F: Family, D: Digest> Draft<F, D> {
         ensures work { let m = get {R = nat_cmp} (from_entries updates.now.entries) in
             IfOk result (λ k. k ≡ length (computed_nodes F.rule m leaves (leaves + length added.now))) }
     {
-        let mut levels = Vec::new(*self.appended.allocator());
         let updates = self.set_leaves(updates)?;
-        self.plan(&mut levels, leaves, &updates, added)?;
-        self.compute_levels(base, hasher, &levels)
+        let dirty = self.compute_dirty(base, hasher, leaves, &updates)?;
+        let new = self.append_leaves(base, hasher, leaves, added)?;
+        Ok(dirty + new)
     }
 }

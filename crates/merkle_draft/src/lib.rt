@@ -5,6 +5,7 @@
 //! from a [`Base`](base::Base).
 #![tactic(auto)]
 
+mod append;
 pub mod base;
 mod compute;
 pub mod draft;

@@ -4,10 +4,9 @@ ghost use Rattle.std.specs.List.{flat_map};
 ghost use Rattle.merkle_base.specs.Forest.{size};
 ghost use Rattle.merkle_base.specs.Places.{peaks_of};
 ghost use Rattle.merkle_base.specs.Tree.{Tree};
-ghost use Rattle.merkle_batch_theory.specs.Needed.{computed_nodes};
 ghost use Rattle.merkle_draft.specs.DirtyLeaves.{are_before, dirty_leaves};
 ghost use Rattle.merkle_draft.specs.DraftReads.{OnlyAppends};
-ghost use Rattle.merkle_draft.specs.Levels.{level_at, from_height, ArePlanned, AreMarked, AreAdded};
+ghost use Rattle.merkle_draft.specs.Levels.{level_at, from_height, AreMarked, AreAdded};
 ghost use Rattle.merkle_hasher.specs.Subtrees.{Denotes};
 
 use crate::draft::Draft;
@@ -82,7 +81,7 @@ fn mark<F: Family, D: Digest>(
 // Lists the dirty parents of a structure with `leaves` leaves, peak by peak.
 //
 // `updates` are those of its leaves, left to right.
-fn mark_peaks<F: Family, D: Digest>(
+pub(crate) fn mark_peaks<F: Family, D: Digest>(
     levels: &mut Vec<Vec<Position<F>>>,
     leaves: Location<F>,
     updates: &[(Position<F>, D)],
@@ -114,36 +113,6 @@ fn mark_peaks<F: Family, D: Digest>(
 }
 
 impl<F: Family, D: Digest> Draft<F, D> {
-    // Appends the leaves `added` to a structure with `leaves` leaves, with room for the parents
-    // that follow, and lists by height the positions of the parent nodes to compute: the new ones
-    // and those above the updated leaves.
-    //
-    // `updates` are the new digests of old leaves, left to right. The digests of the new parents
-    // are not computed yet: any digest stands in their places.
-    pub(crate) fn plan(
-        &mut self,
-        levels: &mut Vec<Vec<Position<F>>>,
-        leaves: Location<F>,
-        updates: &[(Position<F>, D)],
-        added: &[D],
-    ) -> Result<(), AllocError>
-        requires within { leaves + length added.now ≤ F.MAX_LEAVES }
-        requires sized { size F.rule leaves ≡ self.old.before }
-        requires nothing { (self.old.appended ≡ []) × (levels.old.items ≡ []) }
-        ensures only { OnlyAppends self.old self.new }
-        ensures counted { OnOk result (self.new.before + length self.new.appended ≡ size F.rule (leaves + length added.now)) }
-        ensures leaves { OnOk result ((i : ℕ) (d : D) → slice_get added.now i ≡ Some d
-            → slice_get self.new.appended (size F.rule (leaves + i) - self.old.before) ≡ Some d) }
-        ensures low { length levels.new.items ≤ 64 }
-        ensures planned { OnOk result ((m : ℕ → Option D) → updates.now ≡ flat_map (dirty_leaves m) (peaks_of F.rule leaves)
-            → ArePlanned F.rule m leaves (leaves + length added.now) levels.new.items) }
-        ensures total { OnOk result ((m : ℕ → Option D) → updates.now ≡ flat_map (dirty_leaves m) (peaks_of F.rule leaves)
-            → length (from_height levels.new.items 0) ≡ length (computed_nodes F.rule m leaves (leaves + length added.now))) }
-    {
-        mark_peaks(levels, leaves, updates)?;
-        self.add_leaves(levels, leaves, added)
-    }
-
     // Appends the leaf at location `leaf`, with room for the parents that adding it creates, and
     // lists these. The leaf's digest stands in their places.
     fn add_leaf(
@@ -173,24 +142,24 @@ impl<F: Family, D: Digest> Draft<F, D> {
 
     // Appends the leaves `added` to a structure with `leaves` leaves, with room for the parents
     // that adding them creates, and lists these. Any digest stands in their places.
-    fn add_leaves(
+    pub(crate) fn add_leaves(
         &mut self,
         levels: &mut Vec<Vec<Position<F>>>,
         leaves: Location<F>,
         added: &[D],
     ) -> Result<(), AllocError>
         requires within { leaves + length added.now ≤ F.MAX_LEAVES }
-        requires sized { size F.rule leaves ≡ self.old.before }
-        requires nothing { self.old.appended ≡ [] }
+        requires counted { self.old.before + length self.old.appended ≡ size F.rule leaves }
         requires at_most_64_levels { length levels.old.items ≤ 64 }
         ensures only { OnlyAppends self.old self.new }
         ensures at_most_64_levels { length levels.new.items ≤ 64 }
         ensures counted { OnOk result (self.new.before + length self.new.appended ≡ size F.rule (leaves + length added.now)) }
+        ensures kept { OnOk result ((more : List D) × (self.new.appended ≡ self.old.appended ++ more)) }
         ensures leaves { OnOk result ((i : ℕ) (d : D) → slice_get added.now i ≡ Some d
             → slice_get self.new.appended (size F.rule (leaves + i) - self.old.before) ≡ Some d) }
         ensures listed { OnOk result (
-            AreAdded F.rule F.MAX_LEAVES self.old.before (size F.rule (leaves + length added.now)) levels.old.items levels.new.items) }
-        ensures total { OnOk result (length (from_height levels.new.items 0) + length added.now
+            AreAdded F.rule F.MAX_LEAVES (size F.rule leaves) (size F.rule (leaves + length added.now)) levels.old.items levels.new.items) }
+        ensures total { OnOk result (length (from_height levels.new.items 0) + length added.now + length self.old.appended
             ≡ length (from_height levels.old.items 0) + length self.new.appended) }
     {
         let mut leaf = leaves;
@@ -199,5 +168,15 @@ impl<F: Family, D: Digest> Draft<F, D> {
             leaf += 1;
         }
         Ok(())
+    }
+}
+
+// Takes the positions out of the lists, whose memory is kept.
+pub(crate) fn clear_levels<F>(levels: &mut Vec<Vec<Position<F>>>)
+    ensures as_many { length levels.new.items ≡ length levels.old.items }
+    ensures empty { (h : ℕ) → level_at levels.new.items h ≡ [] }
+{
+    for height in 0..levels.len() {
+        levels[height].clear();
     }
 }

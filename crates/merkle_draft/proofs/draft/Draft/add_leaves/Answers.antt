@@ -1,4 +1,4 @@
-use Rattle.std.proofs.Common.{rules, ◌≡◌, ℕ, suc, ◌+◌, length, Some, slice_get, arith, ap, sym, ◌∙◌, refl, subst}
+use Rattle.std.proofs.Common.{rules, ◌≡◌, ℕ, suc, ◌+◌, [], ◌∷◌, ◌++◌, length, Some, slice_get, append-nil, append_assoc, arith, ap, sym, ◌∙◌, refl, subst}
 use Rattle.std.proofs.lemmas.Option.{slice_get_read, slice_get_within}
 use Rattle.merkle_base.specs.Forest.{size}
 use Rattle.merkle_base.proofs.Limits.{lawful_leaves}
@@ -8,18 +8,16 @@ use Rattle.merkle_draft.proofs.Adding.{added_nothing, added_append, places_kept}
 use Rattle.merkle_draft.proofs.draft.Draft.add_leaves.Goals as goal
 
 pub loop-digest-init : goal.loop-digest-init
-loop-digest-init g c =
-    let rule = g.F.Family.rule in
-    let start = c.args.self.now in
-    let none : length start.appended ≡ 0 = ap length c.requires.nothing in (
-      omega arith,
-      (refl, refl, refl),
-      c.requires.at_most_64_levels,
-      omega (arith, none, c.requires.sized),
-      λ i d l. absurd (omega arith),
-      subst (λ (q : ℕ). AreAdded rule g.F.Family.MAX_LEAVES start.before q c.args.levels.now.items c.args.levels.now.items) (sym c.requires.sized) (added_nothing rule g.F.Family.MAX_LEAVES start.before c.args.levels.now.items),
-      omega (arith, none),
-    )
+loop-digest-init g c = (
+  omega arith,
+  (refl, refl, refl),
+  c.requires.at_most_64_levels,
+  c.requires.counted,
+  λ i d l. absurd (omega arith),
+  added_nothing g.F.Family.rule g.F.Family.MAX_LEAVES (size g.F.Family.rule c.args.leaves) c.args.levels.now.items,
+  omega arith,
+  ([], sym (append-nil c.args.self.now.appended)),
+)
 
 pub add_leaf-requires-clause-below : goal.add_leaf-requires-clause-below
 add_leaf-requires-clause-below g c = omega (arith, c.loop-digest.invariant.0, c.loop-digest-test.true, c.requires.within)
@@ -47,16 +45,17 @@ loop-digest-preserved g c =
     let there : slice_get c.args.added.now i ≡ Some digest = slice_get_read c.args.added.now (length c.args.added.now) i digest refl c.loop-digest-test.true c.digest-item.is in
     let placed = c.in_ok-add_leaf.ensures.placed in
     let stands : start.before + length self.appended ≡ size rule (c.args.leaves + i) = omega (arith, only.0, c.loop-digest.invariant.3, ap (size rule) c.loop-digest.invariant.0) in
-    let one : i + 1 ≡ suc i = omega arith in (
+    let before = c.loop-digest.invariant.7 in (
       omega (arith, next, c.loop-digest.invariant.0),
       (more.0 ∙ only.0, more.1 ∙ only.1, more.2 ∙ only.2),
       c.add_leaf.ensures.at_most_64_levels,
       c.in_ok-add_leaf.ensures.counted ∙ ap (size rule) (sym next),
       λ j d l. places_kept rule c.args.leaves start.before i c.args.added.now self.appended new.appended placed.0 digest there placed.1 stands c.loop-digest.invariant.4 j d (omega (arith, l)),
-      subst (λ (n : ℕ). AreAdded rule max start.before (size rule n) c.args.levels.now.items c.add_leaf.new.levels.items) (sym next)
-          (added_append rule max start.before (size rule leaf) (size rule (suc leaf)) (omega (arith, c.requires.sized, size_le rule c.args.leaves leaf (omega (arith, c.loop-digest.invariant.0)))) (size_le rule leaf (suc leaf) (omega arith))
+      subst (λ (n : ℕ). AreAdded rule max (size rule c.args.leaves) (size rule n) c.args.levels.now.items c.add_leaf.new.levels.items) (sym next)
+          (added_append rule max (size rule c.args.leaves) (size rule leaf) (size rule (suc leaf)) (size_le rule c.args.leaves leaf (omega (arith, c.loop-digest.invariant.0))) (size_le rule leaf (suc leaf) (omega arith))
           c.args.levels.now.items c.loop-digest.levels.items c.add_leaf.new.levels.items c.loop-digest.invariant.5 c.in_ok-add_leaf.ensures.listed),
       omega (arith, c.in_ok-add_leaf.ensures.total, c.loop-digest.invariant.6),
+      (before.0 ++ digest ∷ placed.0, placed.1 ∙ ap (λ xs. xs ++ digest ∷ placed.0) before.1 ∙ append_assoc start.appended before.0 (digest ∷ placed.0)),
     )
 
 pub returns-in_err-add_leaf-clause-only : goal.returns-in_err-add_leaf-clause-only
@@ -81,7 +80,7 @@ returns-clause-leaves g c = λ i d e.
 pub returns-clause-listed : goal.returns-clause-listed
 returns-clause-listed g c =
     let total : c.loop-digest.leaf ≡ c.args.leaves + length c.args.added.now = search rules in
-    subst (λ (n : ℕ). AreAdded g.F.Family.rule g.F.Family.MAX_LEAVES c.args.self.now.before (size g.F.Family.rule n) c.args.levels.now.items c.loop-digest.levels.items) total c.loop-digest.invariant.5
+    subst (λ (n : ℕ). AreAdded g.F.Family.rule g.F.Family.MAX_LEAVES (size g.F.Family.rule c.args.leaves) (size g.F.Family.rule n) c.args.levels.now.items c.loop-digest.levels.items) total c.loop-digest.invariant.5
 
 pub returns-clause-total : goal.returns-clause-total
 returns-clause-total g c =

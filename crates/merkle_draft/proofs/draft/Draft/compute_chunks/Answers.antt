@@ -3,7 +3,7 @@ use Rattle.std.proofs.lemmas.List.{nil_from_length}
 use Rattle.std.proofs.lemmas.Result.{err_from_is_err_and}
 use Rattle.std.specs.Slice.Iter.{chunks_rest}
 use Rattle.merkle_draft.specs.DraftReads.{below, stored_node}
-use Rattle.merkle_draft.specs.NewDigests.{LacksNeeded}
+use Rattle.merkle_draft.specs.NewDigests.{LacksChild}
 use Rattle.merkle_draft.specs.Settled.{AreSettled, IsStage}
 use Rattle.merkle_draft.proofs.Stages.{below_same, chunk_stage, in_chunk}
 use Rattle.merkle_draft.proofs.draft.Draft.compute_chunks.Goals as goal
@@ -75,10 +75,10 @@ returns-in_err-compute_nodes-clause-missing g c =
     let parts : done ++ (chunk ++ rest) ≡ c.args.positions.now = ap (λ xs. done ++ xs) (sym c.in-Some.ensures.steps.1.0) ∙ listed_parts in
     let error = c.in_err-compute_nodes.field-0.0 in
     let p = err_from_is_err_and c.from_residual.result c.from_residual.ensures.1 in
-    rw p.1 (λ other m n ds later stage. subst (λ e. LacksNeeded rule m (below start base) n (n + length ds) e) (sym p.2)
+    rw p.1 (λ other m n ds later stage. subst (λ e. LacksChild rule m (below start base) n (n + length ds) e) (sym p.2)
     (let settled = subst (λ xs. AreSettled h rule m (below start base) n ds (xs ++ later) (stored_node self)) c.in-Some.ensures.steps.1.0 (c.loop-chunk.invariant.6 m n ds later stage) in
     let part = chunk_stage h rule max m (below start base) n ds start.before c.args.height done chunk rest c.args.positions.now later (stored_node start) (stored_node self) parts stage settled in
-    subst (λ u. IsStage h rule max m u n ds self.before c.args.height chunk (rest ++ later) (stored_node self) → LacksNeeded rule m u n (n + length ds) error) (below_same start self base shape)
+    subst (λ u. IsStage h rule max m u n ds self.before c.args.height chunk (rest ++ later) (stored_node self) → LacksChild rule m u n (n + length ds) error) (below_same start self base shape)
     (c.in_err-compute_nodes.ensures.missing (λ z. other (p.2 ∙ z)) m n ds (rest ++ later))
     (subst (λ (b : ℕ). IsStage h rule max m (below start base) n ds b c.args.height chunk (rest ++ later) (stored_node self)) (sym shape.0) part)))
 

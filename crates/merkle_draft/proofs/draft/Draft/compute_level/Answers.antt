@@ -3,7 +3,7 @@ use Rattle.std.specs.Prelude.{IfErr, OnOk}
 use Rattle.std.specs.List.{Contains}
 use Rattle.std.proofs.lemmas.List.Elements.{Contains-get_or}
 use Rattle.merkle_draft.specs.DraftReads.{below, stored_node}
-use Rattle.merkle_draft.specs.NewDigests.{LacksNeeded}
+use Rattle.merkle_draft.specs.NewDigests.{LacksChild}
 use Rattle.merkle_draft.specs.Settled.{AreSettled, IsStage}
 use Rattle.merkle_draft.specs.declared.node_error.NodeError.TheVariants.{OutOfMemory}
 use Rattle.merkle_draft.proofs.Stages.{one_listed}
@@ -34,4 +34,4 @@ returns-in-len1-clause-missing g c =
     let under = below self (g.B.Base.contents c.args.base.now) in
     let one = one_listed c.args.positions.now c.position-item.result c.in-len1.len_at_least c.in-len1.len_below c.position-item.is in
     subst (λ (ps : List ℕ). IfErr c.compute_node.result (λ e. e ≢ OutOfMemory → (m : ℕ → Option g.row.D.Denot) (n : ℕ) (ds : List g.row.D.Denot) (later : List ℕ) → IsStage h rule max m under n ds self.before c.args.height ps later (stored_node self)
-    → LacksNeeded rule m under n (n + length ds) e)) (sym one) c.compute_node.ensures.missing
+    → LacksChild rule m under n (n + length ds) e)) (sym one) c.compute_node.ensures.missing

@@ -3,7 +3,7 @@ use Rattle.std.proofs.lemmas.Result.{err_from_is_err_and}
 use Rattle.std.specs.List.{Contains}
 use Rattle.merkle_draft.specs.DraftReads.{below, stored_node}
 use Rattle.merkle_draft.specs.Levels.{from_height, level_at}
-use Rattle.merkle_draft.specs.NewDigests.{LacksNeeded}
+use Rattle.merkle_draft.specs.NewDigests.{LacksChild}
 use Rattle.merkle_draft.specs.Settled.{AreSettled, IsStage}
 use Rattle.merkle_draft.proofs.LevelFacts.{from_here, from_past, level_here, level_stage}
 use Rattle.merkle_draft.proofs.Stages.{below_same}
@@ -39,9 +39,9 @@ loop-height-preserved g c =
       (more.0 ∙ shape.0, more.1 ∙ shape.1, more.2 ∙ shape.2),
       (λ p past. c.compute_level.ensures.old p (omega (arith, past, shape.0)) ∙ c.loop-height.invariant.1 p past),
       omega (arith, c.loop-height.invariant.2, total, ap length items),
-      (λ m n ds all.
+      (λ m n ds a all.
           (let under = below start base in
-          let stage = level_stage h rule max g.F.Family.MAX_NODES g.met.F.Family.lawful m under n ds start.before ls (stored_node start) all k v (stored_node self) c.loop-height-test.true c.index-levels-height.is (c.loop-height.invariant.3 m n ds all) in
+          let stage = level_stage h rule max g.F.Family.MAX_NODES g.met.F.Family.lawful m under n ds start.before a ls (stored_node start) all k v (stored_node self) c.loop-height-test.true c.index-levels-height.is (c.loop-height.invariant.3 m n ds a all) in
           let mine : IsStage h rule max m under n ds self.before k c.as_slice-positions.result.now (from_height ls (k + 1)) (stored_node self) =
           subst (λ (b : ℕ). IsStage h rule max m under n ds b k c.as_slice-positions.result.now (from_height ls (k + 1)) (stored_node self)) (sym shape.0)
           (subst (λ (xs : List ℕ). IsStage h rule max m under n ds start.before k xs (from_height ls (k + 1)) (stored_node self)) items stage) in
@@ -64,16 +64,16 @@ returns-in_err-compute_level-clause-missing g c =
     let items : v.items ≡ c.as_slice-positions.result.now = sym c.as_slice-positions.ensures.value in
     let error = c.in_err-compute_level.field-0.0 in
     let p = err_from_is_err_and c.from_residual.result c.from_residual.ensures.1 in
-    rw p.1 (λ other m n ds all. subst (λ e. LacksNeeded rule m (below start base) n (n + length ds) e) (sym p.2)
+    rw p.1 (λ other m n ds a all. subst (λ e. LacksChild rule m (below start base) n (n + length ds) e) (sym p.2)
     (let under = below start base in
-    let stage = level_stage h rule max g.F.Family.MAX_NODES g.met.F.Family.lawful m under n ds start.before ls (stored_node start) all k v (stored_node self) c.loop-height-test.true c.index-levels-height.is (c.loop-height.invariant.3 m n ds all) in
+    let stage = level_stage h rule max g.F.Family.MAX_NODES g.met.F.Family.lawful m under n ds start.before a ls (stored_node start) all k v (stored_node self) c.loop-height-test.true c.index-levels-height.is (c.loop-height.invariant.3 m n ds a all) in
     let mine : IsStage h rule max m under n ds self.before k c.as_slice-positions.result.now (from_height ls (k + 1)) (stored_node self) =
     subst (λ (b : ℕ). IsStage h rule max m under n ds b k c.as_slice-positions.result.now (from_height ls (k + 1)) (stored_node self)) (sym shape.0)
     (subst (λ (xs : List ℕ). IsStage h rule max m under n ds start.before k xs (from_height ls (k + 1)) (stored_node self)) items stage) in
-    subst (λ u. IsStage h rule max m u n ds self.before k c.as_slice-positions.result.now (from_height ls (k + 1)) (stored_node self) → LacksNeeded rule m u n (n + length ds) error) (below_same start self base shape)
+    subst (λ u. IsStage h rule max m u n ds self.before k c.as_slice-positions.result.now (from_height ls (k + 1)) (stored_node self) → LacksChild rule m u n (n + length ds) error) (below_same start self base shape)
     (c.in_err-compute_level.ensures.missing (λ z. other (p.2 ∙ z)) m n ds (from_height ls (k + 1))) mine))
 
 pub returns-clause-settled : goal.returns-clause-settled
-returns-clause-settled g c = λ m n ds all.
+returns-clause-settled g c = λ m n ds a all.
     let past : length c.args.levels.now ≤ c.loop-height.height = search rules in
-    subst (λ (xs : List ℕ). AreSettled (g.H.Hasher.hashing c.args.hasher.now) g.F.Family.rule m (below c.args.self.now (g.B.Base.contents c.args.base.now)) n ds xs (stored_node c.loop-height.self)) (from_past c.args.levels.now c.loop-height.height past) (c.loop-height.invariant.3 m n ds all)
+    subst (λ (xs : List ℕ). AreSettled (g.H.Hasher.hashing c.args.hasher.now) g.F.Family.rule m (below c.args.self.now (g.B.Base.contents c.args.base.now)) n ds xs (stored_node c.loop-height.self)) (from_past c.args.levels.now c.loop-height.height past) (c.loop-height.invariant.3 m n ds a all)

@@ -2,7 +2,7 @@ use Rattle.std.proofs.Common.{◌≡◌, ◌+◌, ◌++◌, length, map, refl, s
 use Rattle.std.proofs.lemmas.List.{length-map}
 use Rattle.std.proofs.lemmas.Result.{err_from_is_err_and}
 use Rattle.merkle_draft.specs.DraftReads.{below}
-use Rattle.merkle_draft.specs.NewDigests.{LacksNeeded}
+use Rattle.merkle_draft.specs.NewDigests.{LacksChild}
 use Rattle.merkle_draft.specs.Settled.{draft_node}
 use Rattle.merkle_draft.proofs.ParentReads.{made_right, parents_length}
 use Rattle.merkle_draft.proofs.draft.Draft.compute_nodes.Goals as goal
@@ -12,7 +12,7 @@ returns-in_err-read_children-clause-missing g c =
     let h = g.H.Hasher.hashing c.args.hasher.now in
     let under = below c.args.self.now (g.B.Base.contents c.args.base.now) in
     let p = err_from_is_err_and c.from_residual.result c.from_residual.ensures.1 in
-    rw p.1 (λ other m n ds later stage. subst (λ e. LacksNeeded g.F.Family.rule m under n (n + length ds) e) (sym p.2) (c.in_err-read_children.ensures.missing (λ z. other (p.2 ∙ z)) h m n ds later stage))
+    rw p.1 (λ other m n ds later stage. subst (λ e. LacksChild g.F.Family.rule m under n (n + length ds) e) (sym p.2) (c.in_err-read_children.ensures.missing (λ z. other (p.2 ∙ z)) h m n ds later stage))
 
 pub set_nodes-requires-clause-many : goal.set_nodes-requires-clause-many
 set_nodes-requires-clause-many g c =
