@@ -8,6 +8,7 @@ use Rattle.merkle_root_theory.specs.Plan.{Plan, peak}
 use Rattle.merkle_root_theory.specs.Check.{RangeInput, all_inputs, list_expression, range_expression}
 use Rattle.merkle_base.specs.Scheme.{Scheme}
 use Rattle.merkle_root_theory.specs.Range.{leaf_of}
+use Rattle.merkle_claim_theory.specs.Multiproof.{MultiInput}
 use Rattle.merkle_claim_theory.specs.ThreeLeaves.{xor_hashing}
 
 -- of the three peaks of seven leaves in the Mountain Range the oldest one
@@ -43,6 +44,10 @@ other_family = record toy { domain = 1 }
 -- a proof of the middle one of three leaves, whose digest is 3, with that inactive count and these digests
 abbrev pub middle : ℕ → List ℕ → RangeInput ℕ
 middle inactive digests = record { leaves = 3; inactive = inactive; digests = digests; start = 1; elements = 3 ∷ [] }
+
+-- a proof of the first and the last of three leaves, whose digests are 1 and 7, with these digests
+abbrev pub ends : List ℕ → MultiInput ℕ
+ends digests = record { leaves = 3; inactive = 0; digests = digests; elements = (0, 1) ∷ (2, 7) ∷ [] }
 
 -- a proof without elements
 abbrev pub no_elements : (start inactive leaves : ℕ) → List ℕ → RangeInput ℕ

@@ -22,7 +22,7 @@ ghost use Rattle.merkle_claim_theory.specs.FirstCollision.{FindsFirst, first_col
 ghost use Rattle.merkle_root_theory.specs.ListRoot.{RootsAgree};
 ghost use Rattle.merkle_claim_theory.specs.Located.{node_inputs, CollideIsLocated, LocatedIsCollide};
 ghost use Rattle.merkle_claim_theory.specs.MultiClaim.{MultiClaimSound};
-ghost use Rattle.merkle_claim_theory.specs.Multiproof.{multi_positions, HonestMultiIsAccepted, MultiSound, MultiSizeBound, MultiByCases};
+ghost use Rattle.merkle_claim_theory.specs.Multiproof.{multi_positions, AcceptsMulti, HonestMultiIsAccepted, IsHonestMulti, MultiSound, MultiSizeBound, MultiByCases};
 ghost use Rattle.merkle_claim_theory.specs.Order.{PlacesInOrder, PlacesOnce};
 ghost use Rattle.merkle_root_theory.specs.Layouts.{count_before, count_after, count_inactive, laid_out};
 ghost use Rattle.merkle_root_theory.specs.Outside.{OutsideIsLayout, layout};
@@ -39,7 +39,7 @@ ghost use Rattle.merkle_root_theory.specs.Reconstruction.{reconstructed, LeadsIs
 ghost use Rattle.merkle_root_theory.specs.RootNames.{NamesRoot, AreApart, RootsCollide};
 ghost use Rattle.merkle_root_theory.specs.RootNames.{RootIsNamed, YesNamesRoot, EqualRootsCollide, OtherListCollides, OtherYesCollides};
 ghost use Rattle.merkle_root_theory.specs.RootString.{RootStringTellsAll};
-ghost use Rattle.merkle_claim_theory.specs.Rows.{four, seven, single, alone, paired, toy, middle, no_elements, swapped_inputs, three_inputs};
+ghost use Rattle.merkle_claim_theory.specs.Rows.{ends, four, seven, single, alone, paired, toy, middle, no_elements, swapped_inputs, three_inputs};
 ghost use Rattle.merkle_claim_theory.specs.Rows.{other_family, other_inputs, bare, bare_root, xor_bytes, one_byte};
 ghost use Rattle.merkle_claim_theory.specs.Siblings.{PathHasSiblings};
 ghost use Rattle.merkle_claim_theory.specs.Store.{PartIsAccepted, SiblingsAreRead};
@@ -251,6 +251,16 @@ pub fn worked_rows()
     ensures accepts_pinned { AcceptsPinned toy (middle 0 (1 ∷ 7 ∷ [])) (1 ∷ []) 6 }
     ensures pin_missing { AcceptsPinned toy (middle 0 (1 ∷ 7 ∷ [])) [] 6 → ⊥ }
     ensures pin_other { AcceptsPinned toy (middle 0 (1 ∷ 7 ∷ [])) (2 ∷ []) 6 → ⊥ }
+
+    // Each of the three leaves is a peak. A proof of the first and the last one has the digests of
+    // all: the two digests that are computed too are needed for proofs of one leaf.
+    ensures honest_multi { IsHonestMulti toy (1 ∷ 3 ∷ 7 ∷ []) 0 (ends (1 ∷ 3 ∷ 7 ∷ [])) }
+    ensures honest_multi_other { IsHonestMulti toy (1 ∷ 3 ∷ 7 ∷ []) 0 (ends (1 ∷ 2 ∷ 7 ∷ [])) → ⊥ }
+    ensures accepts_multi { AcceptsMulti toy (ends (1 ∷ 3 ∷ 7 ∷ [])) 6 }
+    ensures multi_other_redundant { AcceptsMulti toy (ends (2 ∷ 3 ∷ 7 ∷ [])) 6 → ⊥ }
+    ensures multi_other_digest { AcceptsMulti toy (ends (1 ∷ 2 ∷ 7 ∷ [])) 6 → ⊥ }
+    ensures multi_digest_missing { AcceptsMulti toy (ends (1 ∷ 3 ∷ [])) 6 → ⊥ }
+    ensures multi_descending { AcceptsMulti toy (record (ends (1 ∷ 3 ∷ 7 ∷ [])) { elements = (2, 7) ∷ (0, 1) ∷ [] }) 6 → ⊥ }
 
     // Each of these inputs has one thing wrong. All but the first are against the root that is
     // computed for them.

@@ -56,6 +56,13 @@ returns c = record {
   accepts_pinned = (refl, refl, (((refl, tt), tt), tt));
   pin_missing = λ a. absurd (omega (arith, a.1));
   pin_other = λ a. absurd (omega (arith, a.2.0.0.0));
+  honest_multi = ((omega arith, (omega arith, tt)), (omega arith, (omega arith, tt)), inl (omega arith), refl);
+  honest_multi_other = λ r. absurd (let e : 1 ∷ 2 ∷ 7 ∷ [] ≡ 1 ∷ 3 ∷ 7 ∷ [] = ap (λ i. i.digests) r.3 in cc);
+  accepts_multi = record { nonempty = inl (omega arith); ascend = (omega arith, (omega arith, tt)); below = (omega arith, (omega arith, tt)); leaves = omega arith; inactive = omega arith; counts = refl; redundant = (((refl, tt), tt), (refl, tt)); root_is = refl };
+  multi_other_redundant = λ a. absurd (omega (arith, a.redundant.0.0.0));
+  multi_other_digest = λ a. absurd (omega (arith, a.root_is));
+  multi_digest_missing = λ a. absurd (omega (arith, a.counts));
+  multi_descending = λ a. absurd (omega (arith, a.ascend.1.0));
   other_root = λ a. absurd (omega (arith, a.root_is));
   too_many_inactive = λ a. absurd (omega (arith, a.inactive));
   too_many_digests = λ a. absurd (omega (arith, a.counts));
