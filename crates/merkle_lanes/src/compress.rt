@@ -84,25 +84,6 @@ fn four_schedule_rounds<const N: usize>(
     schedule_round(w, v, turn, place + 3);
 }
 
-// The sixteen rounds from `16 * turn` on.
-#[inline(always)]
-fn sixteen_schedule_rounds<const N: usize>(
-    w: &mut [Simd<u32, N>; 16],
-    v: &mut [Simd<u32, N>; 8],
-    turn: usize,
-)
-    requires low { 1 ≤ turn }
-    requires high { turn < 4 }
-    ensures { (j : ℕ) → j < N → (b h : List ℕ)
-        → IsRoundsAt b h (lane j w.old) (state_lane j v.old) (16 * turn)
-        → IsRoundsAt b h (lane j w.new) (state_lane j v.new) (16 * (turn + 1)) }
-{
-    four_schedule_rounds(w, v, turn, 0);
-    four_schedule_rounds(w, v, turn, 4);
-    four_schedule_rounds(w, v, turn, 8);
-    four_schedule_rounds(w, v, turn, 12);
-}
-
 // Adds the words of the working variables to those of the hash value.
 #[inline(always)]
 fn add_words<const N: usize>(state: &mut [Simd<u32, N>; 8], v: &[Simd<u32, N>; 8])
@@ -134,11 +115,12 @@ pub fn compress<const N: usize>(state: &mut [Simd<u32, N>; 8], block: &[Simd<u32
     four_block_rounds(&w, &mut v, 4);
     four_block_rounds(&w, &mut v, 8);
     four_block_rounds(&w, &mut v, 12);
-    // Sixteen rounds a turn, so that the place of each word in the ring is a constant. The first turn
-    // stands alone: in a block that is mostly padding, most of its words are made of constants.
-    sixteen_schedule_rounds(&mut w, &mut v, 1);
-    for turn in 2..4 {
-        sixteen_schedule_rounds(&mut w, &mut v, turn);
+    // Sixteen rounds a turn, so that the place of each word in the ring is a constant.
+    for turn in 1..4 {
+        four_schedule_rounds(&mut w, &mut v, turn, 0);
+        four_schedule_rounds(&mut w, &mut v, turn, 4);
+        four_schedule_rounds(&mut w, &mut v, turn, 8);
+        four_schedule_rounds(&mut w, &mut v, turn, 12);
     }
     add_words(state, &v);
 }
