@@ -120,17 +120,17 @@ impl<H: PlainHasher> Trees<H> {
         Ok(())
     }
 
-    // New elements for these leaves, in one batch.
+    // A batch with new elements for these leaves.
     fn update_all<F: Family>(
         &self,
-        structure: &mut Mem<F, H::Digest>,
+        structure: &Mem<F, H::Digest>,
         leaves: &[u64],
-    ) -> Result<(), Halt> {
+    ) -> Result<UnmerkleizedBatch<F, H::Digest>, Halt> {
         let mut batch = granted!(structure.new_batch());
         for leaf in leaves {
             batch = granted!(batch.update_leaf(&self.hasher, Location::new(*leaf), b"new"));
         }
-        self.commit(structure, batch)
+        Ok(batch)
     }
 
     // New elements for scattered leaves.
@@ -142,7 +142,14 @@ impl<H: PlainHasher> Trees<H> {
     ) -> Result<(), Halt> {
         let units = leaves.len() as u64;
         let start = watch.now();
-        self.update_all(structure, leaves)?;
+        let batch = self.update_all(structure, leaves)?;
+        watch.note(self.name, "updates: update", units, start);
+        let updated = watch.now();
+        let batch = granted!(batch.merkleize(structure, &self.hasher));
+        watch.note(self.name, "updates: merkleize", units, updated);
+        let merkleized = watch.now();
+        granted!(structure.apply_batch(&batch));
+        watch.note(self.name, "updates: apply", units, merkleized);
         watch.note(self.name, "update, merkleize, apply", units, start);
         Ok(())
     }
