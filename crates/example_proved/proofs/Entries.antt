@@ -52,7 +52,7 @@ entry_or_twin s entries i entry there =
     let placed : s.hashing.leaf (size s.rule i) found.0 ≡ s.hashing.leaf (size s.rule i) entry = ap (λ n. s.hashing.leaf (size s.rule n) found.0) (omega arith) ∙ found.2 in
     by_test (λ _. HasEntry entries i entry ⊎ HasTwin s entries i entry) (bytes_eq found.0 entry)
     (λ yes. inl (found.1 ∙ ap Some (same.0 yes)))
-    (λ no. inr (record { other = found.0; there = found.1; differ = λ e. absurd (cc (same.1 e)); one_digest = placed }))
+    (λ no. inr (record { other = found.0; has_other = found.1; differ = λ e. absurd (cc (same.1 e)); one_digest = placed }))
 
 -- an honest range of one entry is the log's, or the log has a twin of it
 is_entry : {D : Type 0} (s : Scheme D) (entries : List (List ℕ)) (k leaves inactive : ℕ) (digests : List D) (i : ℕ) (entry : List ℕ)

@@ -29,7 +29,7 @@ HasEntry entries location entry = slice_get entries location ≡ Some entry
 -- the log has another entry there, with the leaf digest of this one
 pub record HasTwin {D : Type 0} (s : Scheme D) (entries : List (List ℕ)) (location : ℕ) (entry : List ℕ) : Type 0 where
   pub other : List ℕ
-  pub there : HasEntry entries location other
+  pub has_other : HasEntry entries location other
   pub differ : other ≢ entry
   pub one_digest : s.hashing.leaf (size s.rule location) other ≡ s.hashing.leaf (size s.rule location) entry
 

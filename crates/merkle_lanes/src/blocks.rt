@@ -45,6 +45,29 @@ pub fn load_block<const N: usize>(block: &mut [Simd<u32, N>; 16], messages: &[&[
     }
 }
 
+// Sets `count` words of `block` from word `place` on to those of each message from byte `start` on.
+#[inline(always)]
+pub fn load_words<const N: usize>(
+    block: &mut [Simd<u32, N>; 16],
+    place: usize,
+    count: usize,
+    messages: &[&[u8]],
+    start: usize,
+)
+    requires number { length messages.now ≡ N }
+    requires place { place + count ≤ 16 }
+    requires start { start ≤ 64 }
+    requires long { (j : ℕ) → j < N → start + 4 * count ≤ length (message messages.now j) }
+    ensures kept { (j : ℕ) → j < N → (k : ℕ) → k < place
+        → slice_index (lane j block.new) k ≡ slice_index (lane j block.old) k }
+    ensures loaded { (j : ℕ) → j < N → (k : ℕ) → k < count
+        → slice_index (lane j block.new) (place + k) ≡ word_at (message messages.now j) (start + 4 * k) }
+{
+    for i in 0..count {
+        block[place + i] = words(messages, start + 4 * i);
+    }
+}
+
 // Sets each lane to the initial hash value of FIPS 180-4, section 5.3.3.
 #[inline(always)]
 pub fn initialize<const N: usize>(state: &mut [Simd<u32, N>; 8])

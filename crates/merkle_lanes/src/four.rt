@@ -1,8 +1,8 @@
 //! Messages in four lanes. The number of lanes is chosen here alone: what is called takes any number.
 
-ghost use Rattle.std.specs.Prelude.{◌≡◌, ◌≤◌};
+ghost use Rattle.std.specs.Prelude.{◌≡◌, ◌≤◌, ◌<◌, ℕ, length};
 ghost use Rattle.sha2.specs.Sha256.{digest_bytes, hash_after, initial_hash_256, sha256};
-ghost use Rattle.merkle_lanes.specs.Lanes.{state_lane};
+ghost use Rattle.merkle_lanes.specs.Lanes.{message, node_message, state_lane};
 
 use crate::blocks::{compress_blocks, digest};
 use crate::node::compress_nodes;
@@ -47,20 +47,28 @@ pub fn hash_blocks(
     digests(&state)
 }
 
-/// Returns the SHA-256 digests of four messages of 72 bytes, in their order.
+/// Returns the SHA-256 digests of four messages, in their order. A message is a position of 8 bytes, and
+/// the digests of a left and a right child, of 32 bytes each.
+///
+/// Requires that there are four of each.
 pub fn hash_nodes(
-    a: &[u8; 72],
-    b: &[u8; 72],
-    c: &[u8; 72],
-    d: &[u8; 72],
+    positions: &[&[u8]],
+    lefts: &[&[u8]],
+    rights: &[&[u8]],
 ) -> ([u8; 32], [u8; 32], [u8; 32], [u8; 32])
-    ensures first { result.0 ≡ sha256 a.now }
-    ensures second { result.1 ≡ sha256 b.now }
-    ensures third { result.2 ≡ sha256 c.now }
-    ensures fourth { result.3 ≡ sha256 d.now }
+    requires positions { length positions.now ≡ 4 }
+    requires lefts { length lefts.now ≡ 4 }
+    requires rights { length rights.now ≡ 4 }
+    requires long_positions { (j : ℕ) → j < 4 → length (message positions.now j) ≡ 8 }
+    requires long_lefts { (j : ℕ) → j < 4 → length (message lefts.now j) ≡ 32 }
+    requires long_rights { (j : ℕ) → j < 4 → length (message rights.now j) ≡ 32 }
+    ensures first { result.0 ≡ sha256 (node_message positions.now lefts.now rights.now 0) }
+    ensures second { result.1 ≡ sha256 (node_message positions.now lefts.now rights.now 1) }
+    ensures third { result.2 ≡ sha256 (node_message positions.now lefts.now rights.now 2) }
+    ensures fourth { result.3 ≡ sha256 (node_message positions.now lefts.now rights.now 3) }
 {
     let mut state = [u32x4::splat(0); 8];
     let mut block = [u32x4::splat(0); 16];
-    compress_nodes(&mut state, &mut block, &[a, b, c, d]);
+    compress_nodes(&mut state, &mut block, positions, lefts, rights);
     digests(&state)
 }

@@ -10,8 +10,8 @@
 //! bytes, two if it has at most 119. The lanes are used for four messages that all have one block,
 //! or all have two; their lengths may differ. So a leaf with an element of up to 47 bytes, which is
 //! hashed after a position of 8 bytes, takes one block, and a parent node, which is hashed as a
-//! position and two digests of 32 bytes, takes two. Four messages of 72 bytes, as those of nodes
-//! are, have a path of their own, since the padding of all of them is the same. [`hash_four`] takes
+//! position and two digests of 32 bytes, takes two. Four messages in such parts have a path of their own,
+//! since the padding of all of them is the same. [`hash_four`] takes
 //! any four messages, and hashes them one after another otherwise.
 #![tactic(auto)]
 
@@ -56,9 +56,30 @@ pub fn hash_four(
     ensures third { result.2 ≡ sha256 (joined_parts c.now) }
     ensures fourth { result.3 ≡ sha256 (joined_parts d.now) }
 {
-    if let Some(nodes) = nodes_of(a, b, c, d) {
-        return hash_nodes(&nodes.0, &nodes.1, &nodes.2, &nodes.3);
+    if let (Some(a), Some(b), Some(c), Some(d)) = (node_of(a), node_of(b), node_of(c), node_of(d)) {
+        return hash_nodes(
+            &[a.0, b.0, c.0, d.0],
+            &[a.1, b.1, c.1, d.1],
+            &[a.2, b.2, c.2, d.2],
+        );
     }
+    hash_padded(a, b, c, d)
+}
+
+// The four digests, together if the padded messages have the same number of blocks, at most two. It is
+// not inlined, since a function clears its memory when it begins, and messages of nodes need none of this.
+#[inline(never)]
+fn hash_padded(
+    a: &[&[u8]],
+    b: &[&[u8]],
+    c: &[&[u8]],
+    d: &[&[u8]],
+) -> ([u8; 32], [u8; 32], [u8; 32], [u8; 32])
+    ensures first { result.0 ≡ sha256 (joined_parts a.now) }
+    ensures second { result.1 ≡ sha256 (joined_parts b.now) }
+    ensures third { result.2 ≡ sha256 (joined_parts c.now) }
+    ensures fourth { result.3 ≡ sha256 (joined_parts d.now) }
+{
     if let (Some(a), Some(b), Some(c), Some(d)) = (padded(a), padded(b), padded(c), padded(d)) {
         if a.1 == b.1 && a.1 == c.1 && a.1 == d.1 {
             return hash_blocks(&a.0, &b.0, &c.0, &d.0, a.1);
@@ -67,78 +88,20 @@ pub fn hash_four(
     (hash_one(a), hash_one(b), hash_one(c), hash_one(d))
 }
 
-// The four messages, if each has 72 bytes.
+// The parts of a message that is a position of 8 bytes and two digests of 32 bytes.
 #[inline(always)]
-fn nodes_of(
-    a: &[&[u8]],
-    b: &[&[u8]],
-    c: &[&[u8]],
-    d: &[&[u8]],
-) -> Option<([u8; 72], [u8; 72], [u8; 72], [u8; 72])>
-    ensures first { IfSome result (λ m. m.0 ≡ joined_parts a.now) }
-    ensures second { IfSome result (λ m. m.1 ≡ joined_parts b.now) }
-    ensures third { IfSome result (λ m. m.2 ≡ joined_parts c.now) }
-    ensures fourth { IfSome result (λ m. m.3 ≡ joined_parts d.now) }
-{
-    let a = node_of(a)?;
-    let b = node_of(b)?;
-    let c = node_of(c)?;
-    let d = node_of(d)?;
-    Some((a, b, c, d))
-}
-
-// The message, if it has 72 bytes.
-#[inline]
-fn node_of(parts: &[&[u8]]) -> Option<[u8; 72]>
-    ensures { IfSome result (λ m. m ≡ joined_parts parts.now) }
+fn node_of<'a>(parts: &'a [&'a [u8]]) -> Option<(&'a [u8], &'a [u8], &'a [u8])>
+    ensures position { IfSome result (λ m. length m.0.now ≡ 8) }
+    ensures left { IfSome result (λ m. length m.1.now ≡ 32) }
+    ensures right { IfSome result (λ m. length m.2.now ≡ 32) }
+    ensures joined { IfSome result (λ m. m.0.now ++ (m.1.now ++ m.2.now) ≡ joined_parts parts.now) }
 {
     if let [position, left, right] = parts {
         if position.len() == 8 && left.len() == 32 && right.len() == 32 {
-            return Some(join_node(position, left, right));
+            return Some((position, left, right));
         }
     }
-    gather_node(parts)
-}
-
-// The message of a parent node from its parts. That their lengths are constants makes it cheaper than
-// from any parts.
-#[inline(always)]
-fn join_node(position: &[u8], left: &[u8], right: &[u8]) -> [u8; 72]
-    requires position { length position.now ≡ 8 }
-    requires left { length left.now ≡ 32 }
-    requires right { length right.now ≡ 32 }
-    ensures { result ≡ position.now ++ (left.now ++ right.now) }
-{
-    let mut node = [0u8; 72];
-    put(&mut node, 0, position);
-    put(&mut node, 8, left);
-    put(&mut node, 40, right);
-    node
-}
-
-// Writes a part to the message from byte `at` on.
-#[inline(always)]
-fn put(node: &mut [u8; 72], at: usize, part: &[u8])
-    requires { at + length part.now ≤ 72 }
-    ensures { take (at + length part.now) node.new ≡ take at node.old ++ part.now }
-{
-    node[at..at + part.len()].copy_from_slice(part);
-}
-
-// The message from any parts, if it has 72 bytes.
-fn gather_node(parts: &[&[u8]]) -> Option<[u8; 72]>
-    ensures { IfSome result (λ m. m ≡ joined_parts parts.now) }
-{
-    let mut node = [0u8; 72];
-    let mut used = 0;
-    for part in parts {
-        if part.len() > 72 - used {
-            return None;
-        }
-        node[used..used + part.len()].copy_from_slice(part);
-        used += part.len();
-    }
-    if used == 72 { Some(node) } else { None }
+    None
 }
 
 fn hash_one(parts: &[&[u8]]) -> [u8; 32]

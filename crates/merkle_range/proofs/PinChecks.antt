@@ -55,7 +55,7 @@ length-peak_positions rule n = length-map (peaks_of rule n) position
 -- what an accepted input with elements keeps, under the scheme of a hasher
 pub record IsFitting (bagging : Bagging) (rule : List ℕ → List ℕ) (max_leaves leaves inactive count a e : ℕ) : Type 0 where
   pub within : e ≤ leaves
-  pub small : leaves ≤ max_leaves
+  pub leaves_fit : leaves ≤ max_leaves
   pub inactive_few : inactive ≤ length (peaks_of rule leaves)
   pub counted : count ≡ length (range_parts bagging inactive a e (peaks_of rule leaves)) + length (range_siblings a e (peaks_of rule leaves))
 
@@ -78,7 +78,7 @@ module _ {D : Type 0} (h : Hashing D) (bagging : Bagging) (rule : List ℕ → L
       step : AcceptsNonempty hasher_scheme (input hasher_scheme) root → IsFitting bagging rule max_leaves leaves inactive (length ds) a e
       step ok = record {
         within = omega (arith, ok.within, end_same e e_is);
-        small = ok.leaves;
+        leaves_fit = ok.leaves;
         inactive_few = ok.inactive;
         counted = subst (λ z. length ds ≡ length (range_parts bagging inactive a z (peaks_of rule leaves)) + length (range_siblings a z (peaks_of rule leaves))) (end_same e e_is) ok.counts;
       }

@@ -80,7 +80,7 @@ take_get ts i t e =
 
 -- What holds of peak i of n leaves.
 pub record IsPeak (n i : ℕ) : Type 0 where
-  pub some : 1 ≤ (n + 1) / 2 ^ i
+  pub positive : 1 ≤ (n + 1) / 2 ^ i
   pub fits : 2 ^ peak_height n i ≤ peak_end n i
   pub last : peak_end n i ≤ n
   pub birth : birth_leaf (peak_end n i - 2 ^ peak_height n i) (peak_height n i) < n
@@ -96,13 +96,13 @@ pub mmb_peak : (n i : ℕ) → 2 ^ suc i ≤ n + 1 → IsPeak n i
 mmb_peak n i l =
     let w : 2 ^ suc i ≡ 2 ^ i * 2 = pow-suc 2 i in
     let within : suc i ≤ length (peak_heights mmb_merges n) = peak_count n (suc i) l in
-    let some : 1 ≤ (n + 1) / 2 ^ i = some_shr (n + 1) i (omega arith) in
+    let positive : 1 ≤ (n + 1) / 2 ^ i = some_shr (n + 1) i (omega arith) in
     let g = get_exists (forest mmb_merges n).peaks i (omega (arith, length-peaks n)) in
     let t : Tree = g.0 in
     let f = peak_first mmb_merges n (mmb_equal n) i t g.1 in
     let high : height t ≡ peak_height n i = f.1 ∙ mmb_peak_height n i within in
     let same : 2 ^ slice_index (peak_heights mmb_merges n) i ≡ 2 ^ height t = ap (λ (x : ℕ). 2 ^ x) (sym f.1) in
-    let less = one_less ((n + 1) / 2 ^ i) (2 ^ i) some in
+    let less = one_less ((n + 1) / 2 ^ i) (2 ^ i) positive in
     let end : first_leaf t + 2 ^ height t ≡ peak_end n i =
     omega (arith, f.0, weight_suc (peak_heights mmb_merges n) i within, same, weight_newest n i (omega arith), less) in
     let up : 2 ^ height t ≡ 2 ^ peak_height n i = ap (λ (x : ℕ). 2 ^ x) high in
@@ -113,7 +113,7 @@ mmb_peak n i l =
     let turned : reverse (take (suc i) (forest mmb_merges n).peaks) ≡ t ∷ reverse (take i (forest mmb_merges n).peaks) =
     ap reverse (take_get (forest mmb_merges n).peaks i t g.1) ∙ reverse-append (take i (forest mmb_merges n).peaks) (t ∷ []) in
     record {
-      some = some;
+      positive = positive;
       fits = omega arith;
       last = omega (arith, weight_newest n i (omega arith), less);
       birth = birth_below (peak_end n i - 2 ^ peak_height n i) (peak_height n i) n (omega (arith, root, get_below (forest mmb_merges n).nodes (position t) t node));

@@ -37,7 +37,7 @@ stretch_birth n s (suc h) l w = omega (arith, l, w, pow-suc 2 h)
 
 -- What holds of a stretch whose own node has not come.
 pub record IsHalved (n s h : ℕ) : Type 0 where
-  pub some : 1 ≤ h
+  pub positive : 1 ≤ h
   pub low : h - 1 < 62
   pub birth : birth_leaf s (h - 1) < n
   pub within : s + 2 ^ (h - 1) + 2 ^ (h - 1) ≤ n
@@ -50,7 +50,7 @@ stretch_halved n s (suc k) l w b =
     let two : 2 ^ suc k ≡ 2 ^ k * 2 = pow-suc 2 k in
     let low : suc k < 63 = log_below (suc k) 63 n (omega (arith, w)) (omega (arith, l)) in
     record {
-      some = omega arith;
+      positive = omega arith;
       low = omega (arith, low);
       birth = rw z (omega (arith, mmb_coordinates.born_before_end s k, w));
       within = rw z (omega (arith, two, w));

@@ -91,7 +91,7 @@ doubled exponent = 2 * 2 ^ (exponent - 1) % 18446744073709551616
 
 -- What the first tree is like where a power of two is at most the nodes and one more, and its double is not.
 pub record IsFirst (next left exponent : ℕ) : Type 0 where
-  pub some : 1 ≤ exponent
+  pub positive : 1 ≤ exponent
   pub nodes : 2 ≤ doubled exponent
   pub fits : doubled exponent ≤ left + 1
   pub first : trees_from next left ≡ (next + (doubled exponent - 1) - 1, exponent - 1) ∷ trees_from (next + (doubled exponent - 1)) (left - (doubled exponent - 1))
@@ -108,7 +108,7 @@ first_tree next left (suc h) some small low high =
     let b : next + 2 ^ suc h - 1 ≡ next + (doubled (suc h) - 1) = omega (arith, w) in
     let c : left + 1 - 2 ^ suc h ≡ left - (doubled (suc h) - 1) = omega (arith, w) in
     record {
-      some = omega arith;
+      positive = omega arith;
       nodes = omega (arith, w);
       fits = omega (arith, w);
       first = trees_first next left h low (omega arith)

@@ -49,7 +49,7 @@ new-requires g c =
     let some : 0 < length r.elements = omega (arith, given, count) in
     let ok = some_accepted s r pins root some accepted in
     let fits = fitting h bagging rule most domain p.leaves p.inactive c.args.start p.digests.now c.args.elements.now s is root ok (c.args.start + length c.args.elements.now) refl in
-    omega (arith, fits.within, fits.small)
+    omega (arith, fits.within, fits.leaves_fit)
 
 pub returns-then-len-pinned_nodes : goal.returns-then-len-pinned_nodes
 returns-then-len-pinned_nodes g c =
@@ -83,7 +83,7 @@ add-requires g c =
     let some : 0 < length r.elements = omega (arith, given, count) in
     let ok = some_accepted s r pins root some accepted in
     let fits = fitting h bagging rule most domain p.leaves p.inactive c.args.start p.digests.now c.args.elements.now s is root ok (c.args.start + length c.args.elements.now) refl in
-    omega (arith, fits.within, fits.small, max_small rule most g.F.Family.MAX_NODES g.met.F.Family.lawful)
+    omega (arith, fits.within, fits.leaves_fit, max_small rule most g.F.Family.MAX_NODES g.met.F.Family.lawful)
 
 pub is_before_rebuilt-requires : goal.is_before_rebuilt-requires
 is_before_rebuilt-requires g c =
@@ -103,7 +103,7 @@ is_before_rebuilt-requires g c =
     record {
       nonempty = omega (arith, given, c.add.ensures);
       within = fits.within;
-      within_max_leaves = fits.small;
+      within_max_leaves = fits.leaves_fit;
       inactive = fits.inactive_few;
       count = fits.counted;
     }

@@ -13,7 +13,7 @@ pub overflow_add-height : goal.overflow_add-height
 overflow_add-height c = omega (arith, (peak_fits c.args.leaves c.args.index c.requires.valid (there c.args.leaves c.args.index c.requires.exists)).height)
 
 pub overflow_sub-end : goal.overflow_sub-end
-overflow_sub-end c = (mmb_peak c.args.leaves c.args.index (there c.args.leaves c.args.index c.requires.exists)).some
+overflow_sub-end c = (mmb_peak c.args.leaves c.args.index (there c.args.leaves c.args.index c.requires.exists)).positive
 
 pub overflow_shl-end : goal.overflow_shl-end
 overflow_shl-end c = omega (arith, (peak_fits c.args.leaves c.args.index c.requires.valid (there c.args.leaves c.args.index c.requires.exists)).index)

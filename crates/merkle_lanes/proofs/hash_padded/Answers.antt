@@ -1,6 +1,6 @@
 use Rattle.std.proofs.Common.{refl, ◌∙◌}
 use Rattle.merkle_lanes.proofs.BlockLemmas.{digest_of_padded}
-use Rattle.merkle_lanes.proofs.hash_four.Goals as goal
+use Rattle.merkle_lanes.proofs.hash_padded.Goals as goal
 
 pub returns-then-a-d-clause-first : goal.returns-then-a-d-clause-first
 returns-then-a-d-clause-first c =
