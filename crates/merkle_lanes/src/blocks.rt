@@ -31,20 +31,6 @@ pub fn words<const N: usize>(messages: &[&[u8]], i: usize) -> Simd<u32, N>
     Simd::from_array(words)
 }
 
-// Sets `block` to the 64 bytes from byte `start` on of each message.
-#[inline(always)]
-pub fn load_block<const N: usize>(block: &mut [Simd<u32, N>; 16], messages: &[&[u8]], start: usize)
-    requires number { length messages.now ≡ N }
-    requires place { start ≤ 64 }
-    requires long { (j : ℕ) → j < N → start + 64 ≤ length (message messages.now j) }
-    ensures { (j : ℕ) → j < N → (k : ℕ) → k < 16
-        → slice_index (lane j block.new) k ≡ word_at (message messages.now j) (start + 4 * k) }
-{
-    for i in 0..16 {
-        block[i] = words(messages, start + 4 * i);
-    }
-}
-
 // Sets `count` words of `block` from word `place` on to those of each message from byte `start` on.
 #[inline(always)]
 pub fn load_words<const N: usize>(
@@ -66,6 +52,18 @@ pub fn load_words<const N: usize>(
     for i in 0..count {
         block[place + i] = words(messages, start + 4 * i);
     }
+}
+
+// Sets `block` to the 64 bytes from byte `start` on of each message.
+#[inline(always)]
+pub fn load_block<const N: usize>(block: &mut [Simd<u32, N>; 16], messages: &[&[u8]], start: usize)
+    requires number { length messages.now ≡ N }
+    requires place { start ≤ 64 }
+    requires long { (j : ℕ) → j < N → start + 64 ≤ length (message messages.now j) }
+    ensures { (j : ℕ) → j < N → (k : ℕ) → k < 16
+        → slice_index (lane j block.new) k ≡ word_at (message messages.now j) (start + 4 * k) }
+{
+    load_words(block, 0, 16, messages, start);
 }
 
 // Sets each lane to the initial hash value of FIPS 180-4, section 5.3.3.

@@ -1,21 +1,9 @@
-use Rattle.std.proofs.Common.{rules, ◌≡◌, ◌∙◌, slice_index, length, arith, inl, inr}
-use Rattle.std.proofs.lemmas.List.{get_or-set_same, get_or-set_other}
-use Rattle.std.proofs.lemmas.Bool.{cases_lt}
-use Rattle.merkle_lanes.specs.Lanes.{lane}
-use Rattle.merkle_lanes.proofs.LaneLemmas.{lane-set, length-lane}
+use Rattle.std.proofs.Common.{◌≡◌, ℕ, ◌+◌, ◌*◌, slice_index, arith, subst}
+use Rattle.sha2.specs.Sha256.{word_at}
+use Rattle.merkle_lanes.specs.Lanes.{lane, message}
 use Rattle.merkle_lanes.proofs.blocks.load_block.Goals as goal
 
-pub loop-i-preserved : goal.loop-i-preserved
-loop-i-preserved g c = (
-  search rules,
-  λ j h k lt.
-      let x = slice_index c.words.result j in
-      let b = lane j c.loop-i.block in
-      rw (lane-set j c.loop-i.block c.loop-i.i c.words.result) (elim (cases_lt k c.loop-i.i) [
-        | inl a ↦ get_or-set_other b c.loop-i.i k x 0 (omega arith) ∙ c.loop-i.invariant.1 j h k a
-        | inr e ↦
-            let same : c.loop-i.i ≡ k = omega arith in
-            let long : length b ≡ length c.loop-i.block = length-lane j c.loop-i.block in
-            rw (← same) (get_or-set_same b c.loop-i.i x 0 (omega arith) ∙ c.words.ensures j h)
-      ]),
-)
+pub returns : goal.returns
+returns g c j h = λ k l.
+    let place : 0 + k ≡ k = omega arith in
+    subst (λ (i : ℕ). slice_index (lane j c.load_words.new.block) i ≡ word_at (message c.args.messages.now j) (c.args.start + 4 * k)) place (c.load_words.ensures.loaded j h k l)
