@@ -2,9 +2,10 @@
 
 ghost use Rattle.std.specs.Prelude.{◌≡◌, ◌≤◌, ◌<◌, ℕ, length};
 ghost use Rattle.sha2.specs.Sha256.{digest_bytes, hash_after, initial_hash_256, sha256};
-ghost use Rattle.merkle_lanes.specs.Lanes.{message, node_message, state_lane};
+ghost use Rattle.merkle_lanes.specs.Lanes.{leaf_message, message, node_message, state_lane};
 
 use crate::blocks::{compress_blocks, digest};
+use crate::leaf::compress_leaves;
 use crate::node::compress_nodes;
 use std::simd::u32x4;
 
@@ -51,6 +52,7 @@ pub fn hash_blocks(
 /// the digests of a left and a right child, of 32 bytes each.
 ///
 /// Requires that there are four of each.
+#[inline(never)]
 pub fn hash_nodes(
     positions: &[&[u8]],
     lefts: &[&[u8]],
@@ -70,5 +72,29 @@ pub fn hash_nodes(
     let mut state = [u32x4::splat(0); 8];
     let mut block = [u32x4::splat(0); 16];
     compress_nodes(&mut state, &mut block, positions, lefts, rights);
+    digests(&state)
+}
+
+/// Returns the SHA-256 digests of four messages, in their order. A message is a position of 8 bytes, and
+/// an element of 32 bytes.
+///
+/// Requires that there are four of each.
+#[inline(never)]
+pub fn hash_leaves(
+    positions: &[&[u8]],
+    elements: &[&[u8]],
+) -> ([u8; 32], [u8; 32], [u8; 32], [u8; 32])
+    requires positions { length positions.now ≡ 4 }
+    requires elements { length elements.now ≡ 4 }
+    requires long_positions { (j : ℕ) → j < 4 → length (message positions.now j) ≡ 8 }
+    requires long_elements { (j : ℕ) → j < 4 → length (message elements.now j) ≡ 32 }
+    ensures first { result.0 ≡ sha256 (leaf_message positions.now elements.now 0) }
+    ensures second { result.1 ≡ sha256 (leaf_message positions.now elements.now 1) }
+    ensures third { result.2 ≡ sha256 (leaf_message positions.now elements.now 2) }
+    ensures fourth { result.3 ≡ sha256 (leaf_message positions.now elements.now 3) }
+{
+    let mut state = [u32x4::splat(0); 8];
+    let mut block = [u32x4::splat(0); 16];
+    compress_leaves(&mut state, &mut block, positions, elements);
     digests(&state)
 }

@@ -10,22 +10,23 @@
 //! bytes, two if it has at most 119. The lanes are used for four messages that all have one block,
 //! or all have two; their lengths may differ. So a leaf with an element of up to 47 bytes, which is
 //! hashed after a position of 8 bytes, takes one block, and a parent node, which is hashed as a
-//! position and two digests of 32 bytes, takes two. Four messages in such parts have a path of their own,
-//! since the padding of all of them is the same. [`hash_four`] takes
-//! any four messages, and hashes them one after another otherwise.
+//! position and two digests of 32 bytes, takes two. Four nodes have a path of their own, and four leaves with
+//! elements of 32 bytes have one, since the padding of all four is the same and nothing has to be copied.
+//! [`hash_four`] takes any four messages, and hashes them one after another otherwise.
 #![tactic(auto)]
 
 ghost use Rattle.std.specs.Prelude.{◌≡◌, ◌+◌, ◌≤◌, ◌++◌, List, IfSome, length, take};
 ghost use Rattle.sha2.specs.Sha256.{sha256};
 ghost use Rattle.merkle_lanes.specs.Lanes.{joined_parts};
 
-use four::{hash_blocks, hash_nodes};
+use four::{hash_blocks, hash_leaves, hash_nodes};
 use padding::padded;
 use sha2::{Digest, Sha256};
 
 mod blocks;
 mod compress;
 mod four;
+mod leaf;
 mod node;
 mod padding;
 mod vectors;
@@ -45,6 +46,7 @@ mod vectors;
 /// let node: &[&[u8]] = &[&position, &left, &right];
 /// let (first, second, _, _) = hash_four(node, &[b"abc"], &[], &[b"a", b"bc"]);
 /// ```
+#[inline(always)]
 pub fn hash_four(
     a: &[&[u8]],
     b: &[&[u8]],
@@ -63,11 +65,14 @@ pub fn hash_four(
             &[a.2, b.2, c.2, d.2],
         );
     }
+    if let (Some(a), Some(b), Some(c), Some(d)) = (leaf_of(a), leaf_of(b), leaf_of(c), leaf_of(d)) {
+        return hash_leaves(&[a.0, b.0, c.0, d.0], &[a.1, b.1, c.1, d.1]);
+    }
     hash_padded(a, b, c, d)
 }
 
 // The four digests, together if the padded messages have the same number of blocks, at most two. It is
-// not inlined, since a function clears its memory when it begins, and messages of nodes need none of this.
+// not inlined, since a function clears its memory when it begins, and nodes and leaves need none of this.
 #[inline(never)]
 fn hash_padded(
     a: &[&[u8]],
@@ -99,6 +104,21 @@ fn node_of<'a>(parts: &'a [&'a [u8]]) -> Option<(&'a [u8], &'a [u8], &'a [u8])>
     if let [position, left, right] = parts {
         if position.len() == 8 && left.len() == 32 && right.len() == 32 {
             return Some((position, left, right));
+        }
+    }
+    None
+}
+
+// The parts of a message that is a position of 8 bytes and an element of 32 bytes.
+#[inline(always)]
+fn leaf_of<'a>(parts: &'a [&'a [u8]]) -> Option<(&'a [u8], &'a [u8])>
+    ensures position { IfSome result (λ m. length m.0.now ≡ 8) }
+    ensures element { IfSome result (λ m. length m.1.now ≡ 32) }
+    ensures joined { IfSome result (λ m. m.0.now ++ m.1.now ≡ joined_parts parts.now) }
+{
+    if let [position, element] = parts {
+        if position.len() == 8 && element.len() == 32 {
+            return Some((position, element));
         }
     }
     None

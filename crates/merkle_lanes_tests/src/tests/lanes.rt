@@ -151,6 +151,60 @@ fn nodes_as_sha2(rt: HostRuntime) {
     }
 }
 
+// Nodes in the parts in which the hasher gives them: a position, and the digests of two children.
+#[test]
+fn nodes_in_parts_as_sha2(rt: HostRuntime) {
+    let mut seed = 3;
+    let mut nodes = [[0u8; 72]; 4];
+    for _ in 0..100 {
+        for node in &mut nodes {
+            fill(&mut seed, node);
+        }
+        let [a, b, c, d] = &nodes;
+        let digests = hash_four(
+            &[&a[..8], &a[8..40], &a[40..]],
+            &[&b[..8], &b[8..40], &b[40..]],
+            &[&c[..8], &c[8..40], &c[40..]],
+            &[&d[..8], &d[8..40], &d[40..]],
+        );
+        let wanted = (
+            Sha256::digest(a),
+            Sha256::digest(b),
+            Sha256::digest(c),
+            Sha256::digest(d),
+        );
+        assert!(rt; digests == wanted);
+    }
+}
+
+// Leaves in parts, a position and an element: all with 32 bytes, and the last with one less and one more.
+#[test]
+fn leaves_in_parts_as_sha2(rt: HostRuntime) {
+    let mut seed = 4;
+    let mut leaves = [[0u8; 41]; 4];
+    for _ in 0..100 {
+        for leaf in &mut leaves {
+            fill(&mut seed, leaf);
+        }
+        let [a, b, c, d] = &leaves;
+        for end in 39..42 {
+            let digests = hash_four(
+                &[&a[..8], &a[8..40]],
+                &[&b[..8], &b[8..40]],
+                &[&c[..8], &c[8..40]],
+                &[&d[..8], &d[8..end]],
+            );
+            let wanted = (
+                Sha256::digest(&a[..40]),
+                Sha256::digest(&b[..40]),
+                Sha256::digest(&c[..40]),
+                Sha256::digest(&d[..end]),
+            );
+            assert!(rt; digests == wanted);
+        }
+    }
+}
+
 // Each length up to past the two blocks: alike, one more from lane to lane, and far apart.
 #[test]
 fn lengths_as_sha2(rt: HostRuntime) {

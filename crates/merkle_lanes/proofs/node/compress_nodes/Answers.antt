@@ -1,7 +1,8 @@
 use Rattle.std.proofs.Common.{◌≡◌, List, length, ◌++◌, ◌+◌, ◌∙◌, ℕ, take, drop, ap, arith, length-append}
 use Rattle.sha2.specs.Sha256.{compress, padded_message, word_at}
 use Rattle.merkle_lanes.specs.Lanes.{message, node_message}
-use Rattle.merkle_lanes.proofs.TwoBlocks.{digest_by_blocks, first_block_word, last_block_word, word_right}
+use Rattle.merkle_lanes.proofs.TwoBlocks.{digest_by_blocks, first_block_word, last_block_word}
+use Rattle.merkle_lanes.proofs.Words.{word_right}
 use Rattle.merkle_lanes.proofs.node.compress_nodes.Goals as goal
 
 pub returns : goal.returns

@@ -2,7 +2,7 @@ use Rattle.std.proofs.Common.{◌≡◌, ℕ, ◌+◌, ◌-◌, ◌*◌, List, �
 use Rattle.std.proofs.lemmas.Bool.{cases_lt}
 use Rattle.sha2.specs.Sha256.{word_at}
 use Rattle.merkle_lanes.specs.Lanes.{lane, message}
-use Rattle.merkle_lanes.proofs.TwoBlocks.{word_left, word_right}
+use Rattle.merkle_lanes.proofs.Words.{word_left, word_right}
 use Rattle.merkle_lanes.proofs.node.load_first_block.Goals as goal
 
 pub returns : goal.returns
