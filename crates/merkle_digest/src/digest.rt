@@ -73,6 +73,21 @@ pub trait PlainHasher {
         ensures first { result.0 ≡ digest_of (joined_parts a.now) }
         ensures second { result.1 ≡ digest_of (joined_parts b.now) };
 
+    /// Returns three digests, each as by [`hash`](PlainHasher::hash). An implementation may compute
+    /// them together; without one of its own, they are computed as a pair and one more.
+    fn hash_three(
+        a: &[&[u8]],
+        b: &[&[u8]],
+        c: &[&[u8]],
+    ) -> (Self::Digest, Self::Digest, Self::Digest)
+        ensures first { result.0 ≡ digest_of (joined_parts a.now) }
+        ensures second { result.1 ≡ digest_of (joined_parts b.now) }
+        ensures third { result.2 ≡ digest_of (joined_parts c.now) }
+    {
+        let (first, second) = Self::hash_pair(a, b);
+        (first, second, Self::hash(c))
+    }
+
     /// Returns four digests, each as by [`hash`](PlainHasher::hash). An implementation may compute
     /// them together; without one of its own, they are computed as two pairs.
     fn hash_four(
@@ -140,7 +155,7 @@ impl Digest for Sha256Digest {
 
 /// SHA-256, as FIPS 180-4 defines it. Four messages are hashed together if with their padding all
 /// have one block, or all have two, as those of nodes have: up to 55 bytes are one block, up to 119
-/// two.
+/// two. Two or three messages are hashed together if they are those of nodes.
 #[derive(Clone, Copy, Debug)]
 pub struct Sha256Plain;
 
@@ -160,7 +175,24 @@ impl PlainHasher for Sha256Plain {
     }
 
     fn hash_pair(a: &[&[u8]], b: &[&[u8]]) -> (Sha256Digest, Sha256Digest) {
-        (Self::hash(a), Self::hash(b))
+        let (first, second) = merkle_lanes::hash_two(a, b);
+        (
+            Sha256Digest { bytes: first },
+            Sha256Digest { bytes: second },
+        )
+    }
+
+    fn hash_three(
+        a: &[&[u8]],
+        b: &[&[u8]],
+        c: &[&[u8]],
+    ) -> (Sha256Digest, Sha256Digest, Sha256Digest) {
+        let (first, second, third) = merkle_lanes::hash_three(a, b, c);
+        (
+            Sha256Digest { bytes: first },
+            Sha256Digest { bytes: second },
+            Sha256Digest { bytes: third },
+        )
     }
 
     fn hash_four(

@@ -4,5 +4,5 @@ pub mod Spans
 pub mod NodeSteps
 pub mod PeakNodes
 pub mod PathSteps
-pub mod FourNodes
+pub mod ShortLists
 pub mod MoreLeaves

@@ -59,6 +59,24 @@ pub trait Hasher<F: Family>: Clone {
     ) -> (Self::Digest, Self::Digest)
         ensures { (d : _) (e : _) → nodes ≡ d ∷ e ∷ [] → (result.0 ≡ (hashing self.now).node d.0 d.1 d.2) × (result.1 ≡ (hashing self.now).node e.0 e.1 e.2) };
 
+    /// Returns the digests of three parent nodes, each as by [`node_digest`](Hasher::node_digest). An
+    /// implementation may compute them together; without one of its own, they are computed as a pair
+    /// and one more.
+    ///
+    /// Requires that there are three nodes.
+    fn node_digests_three(
+        &self,
+        nodes: &[(Position<F>, Self::Digest, Self::Digest)],
+    ) -> (Self::Digest, Self::Digest, Self::Digest)
+        requires { length nodes.now ≡ 3 }
+        ensures { map (λ n. (hashing self.now).node n.0 n.1 n.2) nodes.now ≡ result.0 ∷ result.1 ∷ result.2 ∷ [] }
+    {
+        let (first, second) = self.node_digest_pair([nodes[0], nodes[1]]);
+        let last = nodes[2];
+        let third = self.node_digest(last.0, &last.1, &last.2);
+        (first, second, third)
+    }
+
     /// Returns the digests of four parent nodes, each as by [`node_digest`](Hasher::node_digest). An
     /// implementation may compute them together; without one of its own, they are computed as two
     /// pairs. [`node_digests`](crate::nodes::node_digests) takes any number of nodes.
@@ -390,6 +408,24 @@ fn hash_both<H: PlainHasher>(
     H::hash_pair(&[p, a, b], &[q, c, d])
 }
 
+fn hash_three_nodes<H: PlainHasher>(
+    p: &[u8],
+    a: &[u8],
+    b: &[u8],
+    q: &[u8],
+    c: &[u8],
+    d: &[u8],
+    r: &[u8],
+    e: &[u8],
+    f: &[u8],
+) -> (H::Digest, H::Digest, H::Digest)
+    ensures first { result.0 ≡ H.digest_of (p.now ++ a.now ++ b.now) }
+    ensures second { result.1 ≡ H.digest_of (q.now ++ c.now ++ d.now) }
+    ensures third { result.2 ≡ H.digest_of (r.now ++ e.now ++ f.now) }
+{
+    H::hash_three(&[p, a, b], &[q, c, d], &[r, e, f])
+}
+
 fn hash_each<H: PlainHasher>(
     p: &[u8],
     a: &[u8],
@@ -472,6 +508,23 @@ impl<F: Family, H: PlainHasher> Hasher<F> for Standard<H> {
             &q.as_u64().to_be_bytes(),
             c.as_bytes(),
             d.as_bytes(),
+        )
+    }
+
+    fn node_digests_three(
+        &self,
+        nodes: &[(Position<F>, H::Digest, H::Digest)],
+    ) -> (H::Digest, H::Digest, H::Digest) {
+        hash_three_nodes::<H>(
+            &nodes[0].0.as_u64().to_be_bytes(),
+            nodes[0].1.as_bytes(),
+            nodes[0].2.as_bytes(),
+            &nodes[1].0.as_u64().to_be_bytes(),
+            nodes[1].1.as_bytes(),
+            nodes[1].2.as_bytes(),
+            &nodes[2].0.as_u64().to_be_bytes(),
+            nodes[2].1.as_bytes(),
+            nodes[2].2.as_bytes(),
         )
     }
 
@@ -563,6 +616,13 @@ impl<F: Family, T: Hasher<F>> Hasher<F> for &T {
             × (result.1 ≡ (T.hashing self.now.now).node e.0 e.1 e.2) }
     {
         (**self).node_digest_pair(nodes)
+    }
+
+    fn node_digests_three(
+        &self,
+        nodes: &[(Position<F>, T::Digest, T::Digest)],
+    ) -> (T::Digest, T::Digest, T::Digest) {
+        (**self).node_digests_three(nodes)
     }
 
     fn node_digests_four(

@@ -9,9 +9,9 @@ use std::alloc::AllocError;
 /// Appends the digests of parent nodes to `digests`, in the order of the nodes.
 ///
 /// A node is given as its position and the digests of its left and its right child. The digests are
-/// computed four at a time, then two, then one, so that a hasher without a
-/// [`node_digests_four`](Hasher::node_digests_four) of its own computes n / 2 pairs, and one more
-/// node if n is odd.
+/// computed four at a time, and then those of the last three, two or one. So a hasher without a
+/// [`node_digests_four`](Hasher::node_digests_four) and a [`node_digests_three`](Hasher::node_digests_three)
+/// of its own computes n / 2 pairs, and one more node if n is odd.
 ///
 /// # Errors
 ///
@@ -70,27 +70,29 @@ fn push_few<F: Family, T: Hasher<F>>(
     ensures { OnOk result (digests.new.items ≡ digests.old.items ++ map (λ n. (T.hashing hasher.now).node n.0 n.1 n.2) nodes.now) }
 {
     match nodes {
-        [a, b, rest @ ..] => {
+        [_, _, _] => push_three(hasher, nodes, digests)?,
+        [a, b] => {
             let (first, second) = hasher.node_digest_pair([*a, *b]);
             digests.push(first)?;
             digests.push(second)?;
-            push_one(hasher, rest, digests)
         }
-        _ => push_one(hasher, nodes, digests),
+        [node] => digests.push(hasher.node_digest(node.0, &node.1, &node.2))?,
+        _ => {}
     }
+    Ok(())
 }
 
-// At most one node.
-fn push_one<F: Family, T: Hasher<F>>(
+fn push_three<F: Family, T: Hasher<F>>(
     hasher: &T,
     nodes: &[(Position<F>, T::Digest, T::Digest)],
     digests: &mut Vec<T::Digest>,
 ) -> Result<(), AllocError>
-    requires { length nodes.now ≤ 1 }
+    requires { length nodes.now ≡ 3 }
     ensures { OnOk result (digests.new.items ≡ digests.old.items ++ map (λ n. (T.hashing hasher.now).node n.0 n.1 n.2) nodes.now) }
 {
-    if let [node] = nodes {
-        digests.push(hasher.node_digest(node.0, &node.1, &node.2))?;
-    }
+    let (first, second, third) = hasher.node_digests_three(nodes);
+    digests.push(first)?;
+    digests.push(second)?;
+    digests.push(third)?;
     Ok(())
 }

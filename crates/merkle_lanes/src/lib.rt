@@ -12,7 +12,8 @@
 //! hashed after a position of 8 bytes, takes one block, and a parent node, which is hashed as a
 //! position and two digests of 32 bytes, takes two. Four nodes have a path of their own, and four leaves with
 //! elements of 32 bytes have one, since the padding of all four is the same and nothing has to be copied.
-//! [`hash_four`] takes any four messages, and hashes them one after another otherwise.
+//! [`hash_four`] takes any four messages, and hashes them one after another otherwise. [`hash_two`] and
+//! [`hash_three`] fill the lanes that are left with the last message.
 #![tactic(auto)]
 
 ghost use Rattle.std.specs.Prelude.{◌≡◌, ◌+◌, ◌≤◌, ◌++◌, List, IfSome, length, take};
@@ -69,6 +70,46 @@ pub fn hash_four(
         return hash_leaves(&[a.0, b.0, c.0, d.0], &[a.1, b.1, c.1, d.1]);
     }
     hash_padded(a, b, c, d)
+}
+
+/// Returns the SHA-256 digests of two messages, in their order. A message is the concatenation of its parts.
+///
+/// Nodes are hashed together, the second in three lanes, since that takes less time than one after the other;
+/// other messages are hashed one after the other.
+#[inline(always)]
+pub fn hash_two(a: &[&[u8]], b: &[&[u8]]) -> ([u8; 32], [u8; 32])
+    ensures first { result.0 ≡ sha256 (joined_parts a.now) }
+    ensures second { result.1 ≡ sha256 (joined_parts b.now) }
+{
+    if let (Some(a), Some(b)) = (node_of(a), node_of(b)) {
+        let (first, second, _, _) = hash_nodes(
+            &[a.0, b.0, b.0, b.0],
+            &[a.1, b.1, b.1, b.1],
+            &[a.2, b.2, b.2, b.2],
+        );
+        return (first, second);
+    }
+    (hash_one(a), hash_one(b))
+}
+
+/// Returns the SHA-256 digests of three messages, in their order. A message is the concatenation of its parts.
+///
+/// Nodes are hashed together, the third in two lanes; other messages are hashed one after another.
+#[inline(always)]
+pub fn hash_three(a: &[&[u8]], b: &[&[u8]], c: &[&[u8]]) -> ([u8; 32], [u8; 32], [u8; 32])
+    ensures first { result.0 ≡ sha256 (joined_parts a.now) }
+    ensures second { result.1 ≡ sha256 (joined_parts b.now) }
+    ensures third { result.2 ≡ sha256 (joined_parts c.now) }
+{
+    if let (Some(a), Some(b), Some(c)) = (node_of(a), node_of(b), node_of(c)) {
+        let (first, second, third, _) = hash_nodes(
+            &[a.0, b.0, c.0, c.0],
+            &[a.1, b.1, c.1, c.1],
+            &[a.2, b.2, c.2, c.2],
+        );
+        return (first, second, third);
+    }
+    (hash_one(a), hash_one(b), hash_one(c))
 }
 
 // The four digests, together if the padded messages have the same number of blocks, at most two. It is

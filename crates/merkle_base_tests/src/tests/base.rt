@@ -234,6 +234,8 @@ fn keys(rt: HostRuntime) -> Result<(), Fail> {
 fn sha256_of_parts(rt: HostRuntime) {
     let whole = Sha256Plain::hash(&[b"a", b"bc"]);
     let (first, second) = Sha256Plain::hash_pair(&[b"ab", b"", b"c"], &EMPTY_PARTS);
+    let three = Sha256Plain::hash_three(&EMPTY_PARTS, &EMPTY_PARTS, &[b"abc"]);
+    assert!(rt; three == (second, second, whole));
     let are_vectors = [
         whole.as_bytes() == OF_ABC.as_slice(),
         first.as_bytes() == OF_ABC.as_slice(),
@@ -269,6 +271,8 @@ fn exclusive_or_of_parts(rt: HostRuntime) {
     ];
     let bytes = found.map(|digest| digest.as_bytes()[0]);
     assert!(rt; bytes == [7, 255, 0, 7, 0]);
+    let three = Xor8::hash_three(&EMPTY_PARTS, &[&[1, 2], &[4]], &[&[1, 3], &[2, 255]]);
+    assert!(rt; three == (found[2], found[0], found[1]));
 }
 
 #[test]

@@ -1,4 +1,4 @@
-use merkle_lanes::hash_four;
+use merkle_lanes::{hash_four, hash_three, hash_two};
 use sha2::{Digest, Sha256};
 use std::process::Abort;
 use std::test::Fail;
@@ -71,6 +71,21 @@ fn standard_messages(rt: HostRuntime) -> Result<(), Fail> {
         &rt,
         hash_four(zeros, none, abc, two),
         [ZEROS, EMPTY, ABC, TWO_BLOCKS],
+    )
+}
+
+// Two and three messages that are no nodes.
+#[test]
+fn two_and_three_standard_messages(rt: HostRuntime) -> Result<(), Fail> {
+    let abc: &[&[u8]] = &[b"a", b"", b"bc"];
+    let zeros: &[&[u8]] = &[&[0; 8], &[0; 33], &[0; 31]];
+    let two = hash_two(abc, zeros);
+    assert_digests(&rt, (two.0, two.1, two.1, two.0), [ABC, ZEROS, ZEROS, ABC])?;
+    let three = hash_three(zeros, &[], abc);
+    assert_digests(
+        &rt,
+        (three.0, three.1, three.2, three.0),
+        [ZEROS, EMPTY, ABC, ZEROS],
     )
 }
 
@@ -174,6 +189,17 @@ fn nodes_in_parts_as_sha2(rt: HostRuntime) {
             Sha256::digest(d),
         );
         assert!(rt; digests == wanted);
+        let two = hash_two(
+            &[&a[..8], &a[8..40], &a[40..]],
+            &[&b[..8], &b[8..40], &b[40..]],
+        );
+        assert!(rt; two == (wanted.0, wanted.1));
+        let three = hash_three(
+            &[&a[..8], &a[8..40], &a[40..]],
+            &[&b[..8], &b[8..40], &b[40..]],
+            &[&c[..8], &c[8..40], &c[40..]],
+        );
+        assert!(rt; three == (wanted.0, wanted.1, wanted.2));
     }
 }
 

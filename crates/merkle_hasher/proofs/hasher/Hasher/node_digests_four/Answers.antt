@@ -1,5 +1,5 @@
 use Rattle.std.proofs.Common.{refl}
-use Rattle.merkle_hasher.proofs.FourNodes.{map_of_four}
+use Rattle.merkle_hasher.proofs.ShortLists.{map_of_four}
 use Rattle.merkle_hasher.proofs.hasher.Hasher.node_digests_four.Goals as goal
 
 pub returns : goal.returns
