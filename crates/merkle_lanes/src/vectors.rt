@@ -126,7 +126,8 @@ pub fn round<const N: usize>(v: &mut [Simd<u32, N>; 8], k: u32, word: Simd<u32, 
 {
     let (a, b, c, d) = (v[0], v[1], v[2], v[3]);
     let (e, f, g, h) = (v[4], v[5], v[6], v[7]);
-    let temp1 = add(add(add(add(h, big_sigma1(e)), ch(e, f, g)), splat(k)), word);
+    // The standard adds from left to right. What `e` decides, which is known last, is added last here.
+    let temp1 = add(add(add(h, add(splat(k), word)), big_sigma1(e)), ch(e, f, g));
     let temp2 = add(big_sigma0(a), maj(a, b, c));
     v[0] = add(temp1, temp2);
     v[1] = a;
