@@ -9,12 +9,5 @@ pub mod FewDigests
 pub mod MultiRefusals
 pub mod ReadOnce
 pub mod ScatteredPositions
-pub mod ToldTable
-pub mod ScatteredElements
-pub mod LocatedIndices
-pub mod CheckedNodes
-pub mod CheckedDigests
-pub mod CheckedPeaks
-pub mod ConfirmedNodes
 pub mod ScatteredRoot
 pub mod LocatedDigests

@@ -17,7 +17,7 @@ use Rattle.merkle_claim_theory.specs.Multiproof.{one_leaf_nodes, is_one_leaf_pos
 use Rattle.merkle_proof.specs.MultiPositions.{those_before, those_from, under, are_some, node_if, read_below, read_in, positions_read}
 use Rattle.merkle_proof.specs.Positions.{IsAscendingOf}
 use Rattle.merkle_proof.proofs.ReadPositions.{stands, positions_below, ascending_filter}
-use Rattle.merkle_proof.proofs.ScatteredElements.{met_at}
+use Rattle.merkle_scattered.proofs.ScatteredElements.{met_at}
 
 -- ---- tests of the numbers of a list
 any_alike : (P : ℕ → Type 0) (f g : ℕ → Bool) → ((i : ℕ) → P i → f i ≡ g i) → (is : List ℕ) → AllByRecursion P is → list_any f is ≡ list_any g is

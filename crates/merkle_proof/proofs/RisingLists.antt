@@ -1,6 +1,6 @@
 -- Rising lists of numbers: two with the same elements are one list.
 use Rattle.std.proofs.Common.{◌≡◌, ℕ, zero, suc, Bool, true, false, ◌≤◌, ◌<◌, List, [], ◌∷◌, refl, ap₂, sym, subst, ◌∙◌, arith, filter, nat_eq}
-use Rattle.std.specs.List.{AllPairs, Contains, dedup, range_with_len}
+use Rattle.std.specs.List.{Contains, dedup, range_with_len}
 use Rattle.std.specs.List.Sorted.{IsStrictlyIncreasing, IsSorted, IsPermutation}
 use Rattle.std.specs.Ordering.{nat_cmp}
 use Rattle.std.specs.Cmp.{nat_eq_equiv}
@@ -12,14 +12,8 @@ use Rattle.std.proofs.lemmas.List.Sorted.{Contains-permutation, IsPermutation-sy
 use Rattle.std.proofs.lemmas.Map.Keys.{IsStrictlyIncreasing-dedup}
 use Rattle.std.proofs.lemmas.Map.Views.{Contains-from_any, any-filter_same, list_any-from_Contains}
 use Rattle.merkle_proof.specs.Positions.{IsAscendingOf}
+use Rattle.merkle_scattered.proofs.Rises.{Rises, rises_tail}
 use Rattle.merkle_base.proofs.Cases.{by_test}
-
--- each is less than those after it
-abbrev pub Rises : List ℕ → Type 0
-Rises xs = AllPairs (λ x y. x < y) xs
-
-pub rises_tail : (x : ℕ) (xs : List ℕ) → Rises (x ∷ xs) → Rises xs
-rises_tail x xs h i j d l within = h (suc i) (suc j) d (omega (arith, l)) (omega (arith, within))
 
 head_below : (x : ℕ) (xs : List ℕ) (p : ℕ) → Rises (x ∷ xs) → Contains xs p → x < p
 head_below x xs p h m = subst (λ (z : ℕ). x < z) m.2 (h 0 (suc m.0) p (omega arith) (omega (arith, m.1)))

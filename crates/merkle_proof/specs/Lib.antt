@@ -4,5 +4,3 @@ pub mod Positions
 pub mod ProofRefusals
 pub mod RangePlans
 pub mod MultiPositions
-pub mod Confirmed
-pub mod Searched

@@ -2,8 +2,6 @@
 //! nodes, and their verification.
 #![tactic(auto)]
 
-mod checked_node;
-mod confirm;
 pub mod element_plan;
 mod leaves;
 pub mod multi;
@@ -12,6 +10,5 @@ mod positions;
 pub mod proof;
 pub mod range_plan;
 mod reading;
-pub mod told;
 
 pub use merkle_hasher::{hasher, path, read};

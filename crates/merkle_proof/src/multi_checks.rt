@@ -5,16 +5,16 @@ ghost use Rattle.merkle_claim_theory.specs.Multiproof.{AcceptsMultiCases, multi_
 ghost use Rattle.merkle_proof.specs.Input.{multi_input};
 ghost use Rattle.merkle_proof.specs.MultiPositions.{AreLocations};
 
-use crate::confirm::confirm_peaks;
 use crate::leaves::located_digests;
 use crate::multi::multi_proof_positions;
-use crate::told::Told;
 use merkle_base::error::{Error, OutOfMemory};
 use merkle_base::family::Family;
 use merkle_base::location::Location;
 use merkle_base::position::Position;
 use merkle_hasher::hasher::Hasher;
 use merkle_range::checks::{ProofParts, reconstruct_empty_root};
+use merkle_scattered::confirm::confirm_peaks;
+use merkle_scattered::told::Told;
 use std::alloc::{AllocError, Global};
 
 /// Whether the elements, each at its location, lead to `root`.

@@ -24,7 +24,7 @@ use merkle_hasher::read::Readable;
 use merkle_proof::multi::multi_proof_positions;
 use merkle_proof::proof::Proof;
 use merkle_proof::range_plan::RangePlan;
-use merkle_proof::told::Told;
+use merkle_scattered::told::Told;
 use std::alloc::Global;
 use std::ops::Range;
 

@@ -79,14 +79,12 @@ fn standard_messages(rt: HostRuntime) -> Result<(), Fail> {
 fn two_and_three_standard_messages(rt: HostRuntime) -> Result<(), Fail> {
     let abc: &[&[u8]] = &[b"a", b"", b"bc"];
     let zeros: &[&[u8]] = &[&[0; 8], &[0; 33], &[0; 31]];
-    let two = hash_two(abc, zeros);
-    assert_digests(&rt, (two.0, two.1, two.1, two.0), [ABC, ZEROS, ZEROS, ABC])?;
-    let three = hash_three(zeros, &[], abc);
-    assert_digests(
-        &rt,
-        (three.0, three.1, three.2, three.0),
-        [ZEROS, EMPTY, ABC, ZEROS],
-    )
+    let (first, second) = hash_two(abc, zeros);
+    let digests = (first, second, second, first);
+    assert_digests(&rt, digests, [ABC, ZEROS, ZEROS, ABC])?;
+    let (first, second, third) = hash_three(zeros, &[], abc);
+    let digests = (first, second, third, first);
+    assert_digests(&rt, digests, [ZEROS, EMPTY, ABC, ZEROS])
 }
 
 // The same in the lanes: four messages of one block, and four of two.

@@ -1,0 +1,2 @@
+pub mod Confirmed
+pub mod Searched
