@@ -1,5 +1,6 @@
 //! The loop that reads lines and writes their answers.
-ghost use Rattle.std.specs.Prelude.{◌≡◌, ℕ, [], ◌∷◌, ◌++◌, List, Option, None, OnOk};
+ghost use Rattle.std.specs.Prelude.{◌≡◌, ◌<◌, ◌≤◌, ◌==◌, ℕ, [], ◌∷◌, ◌++◌, List, Option, None, OnOk, IfOk, false, length, take};
+ghost use Rattle.std.specs.List.{AllByRecursion};
 ghost use Rattle.std.specs.Io.KnownBytes.{Appends, Consumes, IsAtEnd, Keeps};
 ghost use Rattle.merkle_lines.specs.AnswerText.{answer_text};
 ghost use Rattle.merkle_lines.specs.HoldsState.{HoldsState};
@@ -7,6 +8,7 @@ ghost use Rattle.merkle_lines.specs.Transcript.{SessionState, IsLineAnswered, Is
 
 use crate::answer::Answer;
 use crate::session::Session;
+use memchr::memchr;
 use merkle_commands::command::read_command;
 use std::alloc::Global;
 use std::io;
@@ -75,14 +77,41 @@ impl Answerer {
         self.line.push(byte).map_err(|_| RunError::OutOfMemory)
     }
 
+    // Takes the first of the next bytes, of which there are some: those up to one that ends a line, which is answered,
+    // or all. Returns the bytes after them.
+    fn take_line<'b, W: io::Write>(
+        &mut self,
+        bytes: &'b [u8],
+        writer: &mut W,
+    ) -> Result<&'b [u8], RunError>
+        requires some { 0 < length bytes.now }
+        ensures fewer { IfOk result (λ rest. length rest.now < length bytes.now) }
+        ensures taken { IfOk result (λ rest. (told : Option SessionState) → HoldsState self.old.session told
+            → (v : Option SessionState) × (output : List ℕ) × HoldsState self.new.session v × Appends (W.contents writer.old) (W.contents writer.new) output
+            × (first : List ℕ) × (first ++ rest.now ≡ bytes.now) × ContinuesTo told self.old.line.items first output v self.new.line.items) }
+    {
+        let (begun, rest) = bytes.split_at(begun_length(bytes));
+        self.line
+            .extend_from_slice(begun)
+            .map_err(|_| RunError::OutOfMemory)?;
+        match rest.split_first() {
+            Some((byte, after)) => {
+                self.take_byte(*byte, writer)?;
+                Ok(after)
+            }
+            None => Ok(rest),
+        }
+    }
+
     // Takes the next bytes, and answers each line that they end.
     fn take<W: io::Write>(&mut self, bytes: &[u8], writer: &mut W) -> Result<(), RunError>
         ensures { OnOk result ((told : Option SessionState) → HoldsState self.old.session told → (v : Option SessionState) × (output : List ℕ)
             × HoldsState self.new.session v
             × Appends (W.contents writer.old) (W.contents writer.new) output × ContinuesTo told self.old.line.items bytes.now output v self.new.line.items) }
     {
-        for byte in bytes {
-            self.take_byte(*byte, writer)?;
+        let mut rest = bytes;
+        while !rest.is_empty() {
+            rest = self.take_line(rest, writer)?;
         }
         flush(writer)
     }
@@ -125,6 +154,14 @@ impl Answerer {
         }
         Err(RunError::ReadFailed)
     }
+}
+
+// Returns how many bytes stand before the first one that ends a line; all if none does.
+fn begun_length(bytes: &[u8]) -> usize
+    ensures within { result ≤ length bytes.now }
+    ensures open { AllByRecursion (λ b. (b == 10) ≡ false) (take result bytes.now) }
+{
+    memchr(b'\n', bytes).unwrap_or(bytes.len())
 }
 
 // Flushes the writer.
