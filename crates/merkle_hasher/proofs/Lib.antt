@@ -6,3 +6,4 @@ pub mod PeakNodes
 pub mod PathSteps
 pub mod ShortLists
 pub mod MoreLeaves
+pub mod KnownLeaves

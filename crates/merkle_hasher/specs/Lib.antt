@@ -1,3 +1,4 @@
 pub mod Standard
 pub mod Subtrees
 pub mod Path
+pub mod Known

@@ -1,5 +1,6 @@
 -- Blocks of a message, and the digest by those of a padded message.
-use Rattle.std.proofs.Common.{◌≡◌, ℕ, ◌+◌, ◌*◌, ◌/◌, ◌<◌, ◌≤◌, List, ◌++◌, length, take, drop, slice_index, refl, sym, ap, ◌∙◌, arith}
+use Rattle.std.proofs.Common.{◌≡◌, ◌≢◌, ℕ, ◌+◌, ◌*◌, ◌/◌, ◌<◌, ◌≤◌, List, ◌++◌, length, take, drop, slice_index, refl, sym, ap, ◌∙◌, arith, inl, inr}
+use Rattle.std.proofs.lemmas.Bool.{cases_lt}
 use Rattle.std.proofs.lemmas.List.{take-append-drop}
 use Rattle.std.proofs.lemmas.Simd.{get_or-chunk}
 use Rattle.sha2.specs.Sha256.{digest_bytes, hash_after, initial_hash_256, padded_message, sha256, word_at}
@@ -28,3 +29,12 @@ digest_of_padded m bytes n k is long e =
     let same : hash_after initial_hash_256 bytes n ≡ hash_after initial_hash_256 p n =
     ap (λ (x : List ℕ). hash_after initial_hash_256 x n) (sym whole) ∙ hash_after-append initial_hash_256 p (drop (n * 64) bytes) n (omega (arith, long)) in
     ap (λ (h : List ℕ). digest_bytes h 8) (ap (hash_after initial_hash_256 bytes) is ∙ same ∙ ap (hash_after initial_hash_256 p) count)
+
+-- what stands there after block i: what stood there before, or what was taken after it
+pub taken_by : (count i : ℕ) (before after value : List ℕ) → (count ≤ i → before ≡ value) → (count ≡ i + 1 → after ≡ value) → (count ≢ i + 1 → after ≡ before)
+    → count ≤ i + 1 → after ≡ value
+taken_by count i before after value early last other low =
+    elim (cases_lt i count) [
+      | inl more ↦ last (omega arith)
+      | inr less ↦ other (λ e. omega arith) ∙ early (omega arith)
+    ]

@@ -10,7 +10,7 @@ use std::simd::Simd;
 
 // The word at byte `i`, the most significant byte first.
 #[inline(always)]
-fn load(bytes: &[u8], i: usize) -> u32
+pub fn load(bytes: &[u8], i: usize) -> u32
     requires { i + 4 ≤ length bytes.now }
     ensures { result ≡ word_at bytes.now i }
 {
@@ -42,7 +42,7 @@ pub fn load_words<const N: usize>(
 )
     requires number { length messages.now ≡ N }
     requires place { place + count ≤ 16 }
-    requires start { start ≤ 64 }
+    requires start { start ≤ 4096 }
     requires long { (j : ℕ) → j < N → start + 4 * count ≤ length (message messages.now j) }
     ensures kept { (j : ℕ) → j < N → (k : ℕ) → k < place
         → slice_index (lane j block.new) k ≡ slice_index (lane j block.old) k }
@@ -58,7 +58,7 @@ pub fn load_words<const N: usize>(
 #[inline(always)]
 pub fn load_block<const N: usize>(block: &mut [Simd<u32, N>; 16], messages: &[&[u8]], start: usize)
     requires number { length messages.now ≡ N }
-    requires place { start ≤ 64 }
+    requires start { start ≤ 4096 }
     requires long { (j : ℕ) → j < N → start + 64 ≤ length (message messages.now j) }
     ensures { (j : ℕ) → j < N → (k : ℕ) → k < 16
         → slice_index (lane j block.new) k ≡ word_at (message messages.now j) (start + 4 * k) }
@@ -95,25 +95,22 @@ pub fn digest<const N: usize>(state: &[Simd<u32, N>; 8], j: usize) -> [u8; 32]
     out
 }
 
-/// Sets `state` to the hash values of the messages after their first `count` blocks. `block` is
-/// room for a block of each.
+/// Takes block `i` of each message into its hash value, in `state`. `block` is room for a block of each.
 ///
-/// Requires that there are N messages, each with as many blocks, and at most two blocks.
+/// Requires that there are N messages, each with such a block.
 #[inline(always)]
-pub fn compress_blocks<const N: usize>(
+pub fn compress_next<const N: usize>(
     state: &mut [Simd<u32, N>; 8],
     block: &mut [Simd<u32, N>; 16],
     messages: &[&[u8]],
-    count: usize,
+    i: usize,
 )
     requires number { length messages.now ≡ N }
-    requires at_most_two { count ≤ 2 }
-    requires long { (j : ℕ) → j < N → 64 * count ≤ length (message messages.now j) }
-    ensures { (j : ℕ) → j < N → state_lane j state.new ≡ hash_after initial_hash_256 (message messages.now j) count }
+    requires few { i < 64 }
+    requires long { (j : ℕ) → j < N → 64 * i + 64 ≤ length (message messages.now j) }
+    ensures { (j : ℕ) → j < N → state_lane j state.old ≡ hash_after initial_hash_256 (message messages.now j) i
+        → state_lane j state.new ≡ hash_after initial_hash_256 (message messages.now j) (i + 1) }
 {
-    initialize(state);
-    for i in 0..count {
-        load_block(block, messages, 64 * i);
-        compress(state, block);
-    }
+    load_block(block, messages, 64 * i);
+    compress(state, block);
 }

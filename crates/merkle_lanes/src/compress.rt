@@ -8,7 +8,7 @@ use crate::vectors::{add, next_word, round};
 use std::simd::Simd;
 
 // The constants of the 64 rounds.
-const K: [u32; 64] = [
+pub const K: [u32; 64] = [
     0x428a2f98, 0x71374491, 0xb5c0fbcf, 0xe9b5dba5, 0x3956c25b, 0x59f111f1, 0x923f82a4, 0xab1c5ed5,
     0xd807aa98, 0x12835b01, 0x243185be, 0x550c7dc3, 0x72be5d74, 0x80deb1fe, 0x9bdc06a7, 0xc19bf174,
     0xe49b69c1, 0xefbe4786, 0x0fc19dc6, 0x240ca1cc, 0x2de92c6f, 0x4a7484aa, 0x5cb0a9dc, 0x76f988da,
@@ -86,7 +86,7 @@ fn four_schedule_rounds<const N: usize>(
 
 // Adds the words of the working variables to those of the hash value.
 #[inline(always)]
-fn add_words<const N: usize>(state: &mut [Simd<u32, N>; 8], v: &[Simd<u32, N>; 8])
+pub fn add_words<const N: usize>(state: &mut [Simd<u32, N>; 8], v: &[Simd<u32, N>; 8])
     ensures { (j : ℕ) → j < N → state_lane j state.new ≡ add_state (state_lane j state.old) (state_lane j v.now) }
 {
     let (a, b, c, d) = (state[0], state[1], state[2], state[3]);

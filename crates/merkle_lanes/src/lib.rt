@@ -7,21 +7,21 @@
 //! are proved to be.
 //!
 //! A message is hashed with its padding, in blocks of 64 bytes: one block if it has at most 55
-//! bytes, two if it has at most 119. The lanes are used for four messages that all have one block,
-//! or all have two; their lengths may differ. So a leaf with an element of up to 47 bytes, which is
-//! hashed after a position of 8 bytes, takes one block, and a parent node, which is hashed as a
-//! position and two digests of 32 bytes, takes two. Four nodes have a path of their own, and four leaves with
+//! bytes, two if it has at most 119. The lanes are used for four messages of at most five blocks each, which
+//! take the time of the longest one. So a leaf with an element of up to 47 bytes, which is
+//! hashed after a position of 8 bytes, takes one block, one of up to 303 bytes takes five at most, and a parent node,
+//! which is hashed as a position and two digests of 32 bytes, takes two. Four nodes have a path of their own, and four leaves with
 //! elements of 32 bytes have one, since the padding of all four is the same and nothing has to be copied.
 //! [`hash_four`] takes any four messages, and hashes them one after another otherwise. [`hash_two`] and
 //! [`hash_three`] fill the lanes that are left with the last message.
 #![tactic(auto)]
 
-ghost use Rattle.std.specs.Prelude.{◌≡◌, ◌+◌, ◌≤◌, ◌++◌, List, IfSome, length, take};
+ghost use Rattle.std.specs.Prelude.{◌≡◌, ◌+◌, ◌%◌, ◌<◌, ◌≤◌, ◌++◌, List, IfSome, length, take};
 ghost use Rattle.sha2.specs.Sha256.{sha256};
 ghost use Rattle.merkle_lanes.specs.Lanes.{joined_parts};
 
 use four::{hash_blocks, hash_leaves, hash_nodes};
-use padding::padded;
+use padding::pad;
 use sha2::{Digest, Sha256};
 
 mod blocks;
@@ -35,9 +35,9 @@ mod vectors;
 /// Returns the SHA-256 digests of four messages, in their order. A message is the concatenation of
 /// its parts.
 ///
-/// They are hashed together if with their padding all have one block, or all have two, and one
-/// after another otherwise. A message of at most 55 bytes has one block, one of 56 to 119 bytes has
-/// two.
+/// They are hashed together if with its padding none has more than five blocks, in the time of the longest one, and
+/// one after another otherwise. A message of at most 55 bytes has one block, one of 56 to 119 bytes has
+/// two, one of 248 to 311 bytes has five.
 ///
 /// # Examples
 ///
@@ -112,9 +112,32 @@ pub fn hash_three(a: &[&[u8]], b: &[&[u8]], c: &[&[u8]]) -> ([u8; 32], [u8; 32],
     (hash_one(a), hash_one(b), hash_one(c))
 }
 
-// The four digests, together if the padded messages have the same number of blocks, at most two. It is
-// not inlined, since a function clears its memory when it begins, and nodes and leaves need none of this.
+// The four digests, together if each padded message has at most N bytes. It is not inlined, since a function
+// clears its memory when it begins, and nodes and leaves need none of this.
 #[inline(never)]
+fn hash_within<const N: usize>(
+    a: &[&[u8]],
+    b: &[&[u8]],
+    c: &[&[u8]],
+    d: &[&[u8]],
+) -> Option<([u8; 32], [u8; 32], [u8; 32], [u8; 32])>
+    requires room { (9 ≤ N) × (N < 4096) }
+    requires whole { N % 64 ≡ 0 }
+    ensures first { IfSome result (λ all. all.0 ≡ sha256 (joined_parts a.now)) }
+    ensures second { IfSome result (λ all. all.1 ≡ sha256 (joined_parts b.now)) }
+    ensures third { IfSome result (λ all. all.2 ≡ sha256 (joined_parts c.now)) }
+    ensures fourth { IfSome result (λ all. all.3 ≡ sha256 (joined_parts d.now)) }
+{
+    let (mut first, mut second, mut third, mut fourth) = ([0; N], [0; N], [0; N], [0; N]);
+    let k = pad(a, &mut first)?;
+    let l = pad(b, &mut second)?;
+    let m = pad(c, &mut third)?;
+    let n = pad(d, &mut fourth)?;
+    let most = k.max(l).max(m).max(n);
+    Some(hash_blocks(&[&first, &second, &third, &fourth], k, l, m, n, most))
+}
+
+// The four digests, together if none of the padded messages has more than five blocks.
 fn hash_padded(
     a: &[&[u8]],
     b: &[&[u8]],
@@ -126,10 +149,12 @@ fn hash_padded(
     ensures third { result.2 ≡ sha256 (joined_parts c.now) }
     ensures fourth { result.3 ≡ sha256 (joined_parts d.now) }
 {
-    if let (Some(a), Some(b), Some(c), Some(d)) = (padded(a), padded(b), padded(c), padded(d)) {
-        if a.1 == b.1 && a.1 == c.1 && a.1 == d.1 {
-            return hash_blocks(&a.0, &b.0, &c.0, &d.0, a.1);
-        }
+    // Clearing the room of two blocks takes less time.
+    if let Some(all) = hash_within::<128>(a, b, c, d) {
+        return all;
+    }
+    if let Some(all) = hash_within::<320>(a, b, c, d) {
+        return all;
     }
     (hash_one(a), hash_one(b), hash_one(c), hash_one(d))
 }

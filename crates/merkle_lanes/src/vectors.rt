@@ -92,14 +92,14 @@ fn big_sigma1<const N: usize>(x: Simd<u32, N>) -> Simd<u32, N>
 }
 
 #[inline(always)]
-fn small_sigma0<const N: usize>(x: Simd<u32, N>) -> Simd<u32, N>
+pub fn small_sigma0<const N: usize>(x: Simd<u32, N>) -> Simd<u32, N>
     ensures { (j : ℕ) → j < N → slice_index result j ≡ small_sigma0 (slice_index x.entry j) }
 {
     xor(rotated(xor(x, rotated(x, 11)), 7), shifted(x, 3))
 }
 
 #[inline(always)]
-fn small_sigma1<const N: usize>(x: Simd<u32, N>) -> Simd<u32, N>
+pub fn small_sigma1<const N: usize>(x: Simd<u32, N>) -> Simd<u32, N>
     ensures { (j : ℕ) → j < N → slice_index result j ≡ small_sigma1 (slice_index x.entry j) }
 {
     xor(rotated(xor(x, rotated(x, 2)), 17), shifted(x, 10))

@@ -1,3 +1,4 @@
 mod counting;
 mod lanes;
+mod leaves;
 mod nodes;

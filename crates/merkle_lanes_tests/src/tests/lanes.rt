@@ -244,3 +244,18 @@ fn lengths_as_sha2(rt: HostRuntime) {
         assert_as_sha2(&rt, &a[..130 - n], &b[..n], &c[..n / 2], &d[..0]);
     }
 }
+
+// Each length up to past the five blocks, beside others: one more, far apart, and one block.
+#[test]
+fn long_lengths_as_sha2(rt: HostRuntime) {
+    let mut seed = 5;
+    let mut messages = [[0u8; 330]; 4];
+    for message in &mut messages {
+        fill(&mut seed, message);
+    }
+    let [a, b, c, d] = &messages;
+    for n in 0..329 {
+        assert_as_sha2(&rt, &a[..n], &b[..n + 1], &c[..n], &d[..n / 2]);
+        assert_as_sha2(&rt, &a[..n / 6], &b[..328 - n], &c[..n / 3], &d[..n]);
+    }
+}

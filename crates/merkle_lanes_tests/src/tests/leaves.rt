@@ -1,0 +1,63 @@
+use merkle_base::family::Bagging;
+use merkle_digest::digest::{Sha256Plain, Xor8};
+use merkle_fixtures::flat::{Family, Position};
+use merkle_fixtures::keyed::Keyed;
+use merkle_hasher::hasher::{Hasher, Standard};
+use merkle_hasher::leaves::leaf_digests;
+use std::alloc::AllocError;
+use std::process::Abort;
+use std::test::Fail;
+
+/// The lengths of the elements, in turn: alike for some, far apart for others, at the borders of the blocks.
+const LENGTHS: [usize; 13] = [32, 47, 48, 0, 111, 112, 250, 303, 304, 400, 1, 175, 176];
+
+/// As many leaves, whose elements are the first bytes of `bytes`, with one of the lengths in turn.
+fn leaves_of_lengths<'a>(
+    rt: &(impl Abort + AllocGlobal),
+    bytes: &'a [u8],
+    lengths: &[usize],
+    count: usize,
+) -> Result<Vec<(Position, &'a [u8])>, AllocError> {
+    let mut leaves = Vec::new(rt.alloc());
+    for i in 0..count {
+        let place = i.checked_rem(lengths.len()).expect(rt, "some lengths");
+        let length = lengths.get(place).expect(rt, "a length at each place");
+        let element = bytes.get(..*length).expect(rt, "bytes of each length");
+        let Ok(()) = leaves.push((Position::new(i as u64), element)) else {
+            return Err(AllocError);
+        };
+    }
+    Ok(leaves)
+}
+
+/// Asserts that the digests of leaves, each of whose elements has one of some lengths in turn, are those of the leaves
+/// one by one, after what was there.
+fn assert_digests<H: Hasher<Family>>(
+    rt: &(impl Abort + AllocGlobal),
+    hasher: &H,
+    lengths: &[usize],
+) -> Result<(), Fail> {
+    let bytes = [7u8; 400];
+    for count in [0, 1, 3, 4, 5, 9, 63, 64, 65, 67, 68, 130] {
+        let leaves = leaves_of_lengths(rt, &bytes, lengths, count)?;
+        let mut wanted = vec![in rt.alloc(); hasher.digest(&[])]?;
+        let mut digests = wanted.to_vec(rt.alloc())?;
+        for leaf in &leaves {
+            wanted.push(hasher.leaf_digest(leaf.0, leaf.1))?;
+        }
+        leaf_digests(hasher, &leaves, &mut digests)?;
+        assert!(rt; digests == wanted, "{count} leaves");
+    }
+    Ok(())
+}
+
+#[test]
+fn leaves_as_one_by_one(rt: HostRuntime) -> Result<(), Fail> {
+    let sha256 = Standard::<Sha256Plain>::new(Bagging::ForwardFold);
+    for last in 1..14 {
+        assert_digests(&rt, &sha256, &LENGTHS[..last])?;
+        assert_digests(&rt, &sha256, &LENGTHS[last - 1..])?;
+    }
+    assert_digests(&rt, &Standard::<Xor8>::new(Bagging::ForwardFold), &LENGTHS)?;
+    assert_digests(&rt, &Keyed::new(0x50, Bagging::ForwardFold), &LENGTHS)
+}
