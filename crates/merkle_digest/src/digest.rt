@@ -6,7 +6,6 @@ ghost use Rattle.merkle_digest.specs.Bytes.{joined_parts};
 ghost use Rattle.merkle_digest.specs.DigestLaws.{same_sized, bytes_eq, xor_of, length-sha256, no_bytes, length-no_bytes};
 ghost use Rattle.sha2.specs.Sha256.{sha256};
 
-use sha2::{Digest as _, Sha256};
 use std::fmt::Debug;
 
 /// A digest: a small value that is determined by its bytes.
@@ -153,9 +152,9 @@ impl Digest for Sha256Digest {
     ghost eq_decides = { λ x y. (λ h. same_sized (λ b h. record { bytes = b; sized = h }) ((bytes_eq x.bytes y.bytes).0 h) x.sized y.sized, λ e. (bytes_eq x.bytes y.bytes).1 (ap (λ d. d.bytes) e)) };
 }
 
-/// SHA-256, as FIPS 180-4 defines it. Four messages are hashed together if with their padding all
-/// have one block, or all have two, as those of nodes have: up to 55 bytes are one block, up to 119
-/// two. Two or three messages are hashed together if they are those of nodes.
+/// SHA-256, as FIPS 180-4 defines it. Four messages are hashed together if with its padding none has more than five
+/// blocks, in the time of the longest one: up to 55 bytes are one block, up to 119, as those of nodes, two, and up to 311
+/// five. Two or three messages are hashed together if they are those of nodes.
 #[derive(Clone, Copy, Debug)]
 pub struct Sha256Plain;
 
@@ -165,12 +164,8 @@ impl PlainHasher for Sha256Plain {
     ghost digest_of = { λ m. record { bytes = sha256 m; sized = length-sha256 m } };
 
     fn hash(parts: &[&[u8]]) -> Sha256Digest {
-        let mut hasher = Sha256::new();
-        for part in parts {
-            hasher.update(*part);
-        }
         Sha256Digest {
-            bytes: hasher.finalize(),
+            bytes: merkle_lanes::hash(parts),
         }
     }
 

@@ -30,6 +30,7 @@ mod four;
 mod leaf;
 mod node;
 mod padding;
+mod single;
 mod vectors;
 
 /// Returns the SHA-256 digests of four messages, in their order. A message is the concatenation of
@@ -89,7 +90,7 @@ pub fn hash_two(a: &[&[u8]], b: &[&[u8]]) -> ([u8; 32], [u8; 32])
         );
         return (first, second);
     }
-    (hash_one(a), hash_one(b))
+    (hash(a), hash(b))
 }
 
 /// Returns the SHA-256 digests of three messages, in their order. A message is the concatenation of its parts.
@@ -109,7 +110,7 @@ pub fn hash_three(a: &[&[u8]], b: &[&[u8]], c: &[&[u8]]) -> ([u8; 32], [u8; 32],
         );
         return (first, second, third);
     }
-    (hash_one(a), hash_one(b), hash_one(c))
+    (hash(a), hash(b), hash(c))
 }
 
 // The four digests, together if each padded message has at most N bytes. It is not inlined, since a function
@@ -156,7 +157,7 @@ fn hash_padded(
     if let Some(all) = hash_within::<320>(a, b, c, d) {
         return all;
     }
-    (hash_one(a), hash_one(b), hash_one(c), hash_one(d))
+    (hash(a), hash(b), hash(c), hash(d))
 }
 
 // The parts of a message that is a position of 8 bytes and two digests of 32 bytes.
@@ -190,7 +191,36 @@ fn leaf_of<'a>(parts: &'a [&'a [u8]]) -> Option<(&'a [u8], &'a [u8])>
     None
 }
 
-fn hash_one(parts: &[&[u8]]) -> [u8; 32]
+// The digest, if the padded message has at most N bytes.
+#[inline(always)]
+fn hash_one_within<const N: usize>(parts: &[&[u8]]) -> Option<[u8; 32]>
+    requires room { (9 ≤ N) × (N < 4096) }
+    requires whole { N % 64 ≡ 0 }
+    ensures { IfSome result (λ digest. digest ≡ sha256 (joined_parts parts.now)) }
+{
+    let mut bytes = [0; N];
+    let count = pad(parts, &mut bytes)?;
+    Some(single::hash_blocks(&bytes, count))
+}
+
+/// Returns the SHA-256 digest of a message, which is the concatenation of its parts.
+#[inline(never)]
+pub fn hash(parts: &[&[u8]]) -> [u8; 32]
+    ensures { result ≡ sha256 (joined_parts parts.now) }
+{
+    // Clearing the room of two blocks takes less time.
+    if let Some(digest) = hash_one_within::<128>(parts) {
+        return digest;
+    }
+    if let Some(digest) = hash_one_within::<320>(parts) {
+        return digest;
+    }
+    hash_long(parts)
+}
+
+// The digest of a message of any length.
+#[inline(never)]
+fn hash_long(parts: &[&[u8]]) -> [u8; 32]
     ensures { result ≡ sha256 (joined_parts parts.now) }
 {
     let mut hasher = Sha256::new();

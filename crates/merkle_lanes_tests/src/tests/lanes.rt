@@ -1,4 +1,4 @@
-use merkle_lanes::{hash_four, hash_three, hash_two};
+use merkle_lanes::{hash, hash_four, hash_three, hash_two};
 use sha2::{Digest, Sha256};
 use std::process::Abort;
 use std::test::Fail;
@@ -150,6 +150,8 @@ fn assert_as_sha2(rt: &impl Abort, a: &[u8], b: &[u8], c: &[u8], d: &[u8]) {
         &[d_first, &[], d_last],
     );
     assert!(rt; digests == wanted);
+    assert!(rt; hash(&[a]) == wanted.0);
+    assert!(rt; hash(&[d_first, &[], d_last]) == wanted.3);
 }
 
 #[test]

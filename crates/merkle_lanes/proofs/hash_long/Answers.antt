@@ -1,7 +1,7 @@
 use Rattle.std.proofs.Common.{subst}
 use Rattle.sha2.specs.Hashers.{Holds256}
 use Rattle.merkle_lanes.proofs.Parts.{joined_parts_more}
-use Rattle.merkle_lanes.proofs.hash_one.Goals as goal
+use Rattle.merkle_lanes.proofs.hash_long.Goals as goal
 
 pub loop-part-preserved : goal.loop-part-preserved
 loop-part-preserved c =

@@ -1,8 +1,0 @@
-use Rattle.std.proofs.Common.{subst}
-use Rattle.sha2.specs.Hashers.{Holds256}
-use Rattle.merkle_digest.proofs.BytesLemmas.{joined_parts_more}
-use Rattle.merkle_digest.proofs.digest.Sha256PlainPlainHasher.hash.Goals as goal
-
-pub loop-part-preserved : goal.loop-part-preserved
-loop-part-preserved c =
-    subst (Holds256 c.update.new.self) (joined_parts_more c.args.parts.now c.loop-part.part-index _ c.loop-part-test.true) (c.update.ensures _ c.loop-part.invariant)
