@@ -191,6 +191,21 @@ fn leaf_of<'a>(parts: &'a [&'a [u8]]) -> Option<(&'a [u8], &'a [u8])>
     None
 }
 
+// The parts of a message that is two halves of 32 bytes.
+#[inline(always)]
+fn halves_of<'a>(parts: &'a [&'a [u8]]) -> Option<(&'a [u8], &'a [u8])>
+    ensures first { IfSome result (λ m. length m.0.now ≡ 32) }
+    ensures second { IfSome result (λ m. length m.1.now ≡ 32) }
+    ensures joined { IfSome result (λ m. m.0.now ++ m.1.now ≡ joined_parts parts.now) }
+{
+    if let [first, second] = parts {
+        if first.len() == 32 && second.len() == 32 {
+            return Some((first, second));
+        }
+    }
+    None
+}
+
 // The digest, if the padded message has at most N bytes.
 #[inline(always)]
 fn hash_one_within<const N: usize>(parts: &[&[u8]]) -> Option<[u8; 32]>
@@ -208,6 +223,12 @@ fn hash_one_within<const N: usize>(parts: &[&[u8]]) -> Option<[u8; 32]>
 pub fn hash(parts: &[&[u8]]) -> [u8; 32]
     ensures { result ≡ sha256 (joined_parts parts.now) }
 {
+    if let Some((first, second)) = halves_of(parts) {
+        return single::hash_halves(first, second);
+    }
+    if let Some((position, left, right)) = node_of(parts) {
+        return single::hash_node(position, left, right);
+    }
     // Clearing the room of two blocks takes less time.
     if let Some(digest) = hash_one_within::<128>(parts) {
         return digest;

@@ -59,7 +59,7 @@ fn rotated<const N: usize>(x: Simd<u32, N>, count: u32) -> Simd<u32, N>
 // Where a bit of `x` is 1, the bit of `y`, else that of `z`. The standard's form has one operation
 // more.
 #[inline(always)]
-fn ch<const N: usize>(x: Simd<u32, N>, y: Simd<u32, N>, z: Simd<u32, N>) -> Simd<u32, N>
+pub fn ch<const N: usize>(x: Simd<u32, N>, y: Simd<u32, N>, z: Simd<u32, N>) -> Simd<u32, N>
     ensures { (j : ℕ) → j < N
         → slice_index result j ≡ ch (slice_index x.entry j) (slice_index y.entry j) (slice_index z.entry j) }
 {
@@ -68,7 +68,7 @@ fn ch<const N: usize>(x: Simd<u32, N>, y: Simd<u32, N>, z: Simd<u32, N>) -> Simd
 
 // Each bit is the one that most of the three words have.
 #[inline(always)]
-fn maj<const N: usize>(x: Simd<u32, N>, y: Simd<u32, N>, z: Simd<u32, N>) -> Simd<u32, N>
+pub fn maj<const N: usize>(x: Simd<u32, N>, y: Simd<u32, N>, z: Simd<u32, N>) -> Simd<u32, N>
     ensures { (j : ℕ) → j < N
         → slice_index result j ≡ maj (slice_index x.entry j) (slice_index y.entry j) (slice_index z.entry j) }
 {
@@ -78,14 +78,14 @@ fn maj<const N: usize>(x: Simd<u32, N>, y: Simd<u32, N>, z: Simd<u32, N>) -> Sim
 // The standard rotates x by 2, 13 and 22 bits. Rotating inside one another needs fewer copies of x,
 // which take time where an instruction overwrites its operand.
 #[inline(always)]
-fn big_sigma0<const N: usize>(x: Simd<u32, N>) -> Simd<u32, N>
+pub fn big_sigma0<const N: usize>(x: Simd<u32, N>) -> Simd<u32, N>
     ensures { (j : ℕ) → j < N → slice_index result j ≡ big_sigma0 (slice_index x.entry j) }
 {
     rotated(xor(x, rotated(xor(x, rotated(x, 9)), 11)), 2)
 }
 
 #[inline(always)]
-fn big_sigma1<const N: usize>(x: Simd<u32, N>) -> Simd<u32, N>
+pub fn big_sigma1<const N: usize>(x: Simd<u32, N>) -> Simd<u32, N>
     ensures { (j : ℕ) → j < N → slice_index result j ≡ big_sigma1 (slice_index x.entry j) }
 {
     rotated(xor(x, rotated(xor(x, rotated(x, 14)), 5)), 6)

@@ -203,6 +203,24 @@ fn nodes_in_parts_as_sha2(rt: HostRuntime) {
     }
 }
 
+// Single nodes in parts, and two digests that are folded, with one byte less and more in the second.
+#[test]
+fn nodes_and_folds_as_sha2(rt: HostRuntime) {
+    let mut seed = 6;
+    let mut node = [0u8; 73];
+    for _ in 0..1000 {
+        fill(&mut seed, &mut node);
+        for end in 71..74 {
+            assert!(rt;
+                hash(&[&node[..8], &node[8..40], &node[40..end]]) == Sha256::digest(&node[..end])
+            );
+        }
+        for end in 63..66 {
+            assert!(rt; hash(&[&node[..32], &node[32..end]]) == Sha256::digest(&node[..end]));
+        }
+    }
+}
+
 // Leaves in parts, a position and an element: all with 32 bytes, and the last with one less and one more.
 #[test]
 fn leaves_in_parts_as_sha2(rt: HostRuntime) {

@@ -1,0 +1,26 @@
+use Rattle.std.proofs.Common.{refl, ap, List, ℕ, [], ◌∷◌, slice_index_or, ◌∙◌, arith}
+use Rattle.merkle_lanes.specs.Lanes.{lane_at, state_lane}
+use Rattle.merkle_lanes.proofs.LaneLemmas.{written_all}
+use Rattle.merkle_lanes.proofs.Sums.{temp1_by_constant_and_word}
+use Rattle.merkle_lanes.proofs.single.round_of_sum.Goals as goal
+
+pub returns : goal.returns
+returns c = λ k w sum.
+    let v = c.args.v.now in
+    let at : ℕ → List ℕ = λ i. slice_index_or v i [] in
+    ap (state_lane 0) (written_all v (c.add-3.result ∷ at 0 ∷ at 1 ∷ at 2 ∷ c.add-4.result ∷ at 4 ∷ at 5 ∷ at 6 ∷ []) c.told-v)
+    ∙ rw (
+      c.add-3.ensures 0 (omega arith),
+      c.add-4.ensures 0 (omega arith),
+      c.add-temp2.ensures 0 (omega arith),
+      c.add-temp1.ensures 0 (omega arith),
+      c.add-2.ensures 0 (omega arith),
+      c.add.ensures 0 (omega arith),
+      c.splat.ensures 0 (omega arith),
+      c.big_sigma1.ensures 0 (omega arith),
+      c.big_sigma0.ensures 0 (omega arith),
+      c.ch.ensures 0 (omega arith),
+      c.maj.ensures 0 (omega arith),
+      sum,
+      temp1_by_constant_and_word (lane_at v 7 0) k w _ _,
+    ) refl
