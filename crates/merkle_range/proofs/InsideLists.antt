@@ -1,12 +1,16 @@
 -- Lists of nodes that have all their leaves among those whose digests are given.
-use Rattle.std.proofs.Common.{◌≡◌, ℕ, zero, suc, ◌+◌, ◌<◌, ◌≤◌, Bool, true, false, cond, nat_eq, List, [], ◌∷◌, ◌++◌, length, map, drop, get_or, slice_get, ◌⊎◌, inl, inr, Option, Some, None, arith, refl, ap, sym, ◌∙◌, subst, append_assoc, rules, Result, Ok, Err, IfOk}
+use Rattle.std.proofs.Common.{◌≡◌, ℕ, zero, suc, ◌+◌, ◌<◌, ◌≤◌, Bool, true, false, cond, nat_eq, List, [], ◌∷◌, ◌++◌, length, map, drop, get_or, slice_get, ◌⊎◌, inl, inr, Option, Some, None, arith, refl, ap, sym, ◌∙◌, subst, append_assoc, rules, Result, Ok, Err, IfOk, OnOk, IfSome}
+use Rattle.std.specs.Borrow.{Bor}
 use Rattle.std.specs.List.{AllByRecursion}
+use Rattle.std.specs.Option.{option_copied}
+use Rattle.std.specs.Slice.{IsItemAt}
+use Rattle.std.proofs.lemmas.Option.{slice_get_read}
 use Rattle.std.proofs.Math.ListN.{drop_of_length-le}
 use Rattle.std.proofs.lemmas.List.{map-append, drop_more}
 use Rattle.merkle_base.specs.Forest.{forest}
 use Rattle.merkle_base.specs.Hashing.{Hashing}
 use Rattle.merkle_hasher.specs.declared.subtree.Subtree.{Subtree}
-use Rattle.merkle_range.specs.Inside.{IsDigestAt, AreParents, AreChildDigests, AreKnown}
+use Rattle.merkle_range.specs.Inside.{IsDigestAt, AreParents, AreChildDigests, AreKnown, AreListed}
 
 module _ {X : Type 0} (P : X → Type 0) where
   pub all_more : (xs : List X) (x : X) → AllByRecursion P xs → P x → AllByRecursion P (xs ++ x ∷ [])
@@ -52,6 +56,9 @@ module _ {D : Type 0} (h : Hashing D) (rule : List ℕ → List ℕ) (n : ℕ) (
   one_digest : (x d : D) → ◌≡◌ {A = Option D} (Some x) (Some d) → d ≡ x
   one_digest x d e = cc
 
+  one_position : (q p : ℕ) → ◌≡◌ {A = Option ℕ} (Some q) (Some p) → q ≡ p
+  one_position q p e = cc
+
   no_digest : (d : D) → ◌≡◌ {A = Option D} None (Some d) → ⊥
   no_digest d e = cc
 
@@ -76,6 +83,41 @@ module _ {D : Type 0} (h : Hashing D) (rule : List ℕ → List ℕ) (n : ℕ) (
   pub are_known : (es : List (ℕ × D × D)) (ps : List ℕ) (ds : List D) → AreParents h rule n leaf es → ps ≡ map (λ e. e.0) es → ds ≡ map (λ e. h.node e.0 e.1 e.2) es → AreKnown h rule n leaf ps ds
   are_known es ps ds all x y = subst (λ z. AreKnown h rule n leaf z ds) (sym x) (subst (AreKnown h rule n leaf (map (λ e. e.0) es)) (sym y) (parents_known es all))
 
+  -- nodes over children with these digests are listed after those that are
+  pub parents_listed : (ps : List ℕ) (ds : List D) (es : List (ℕ × D × D)) → AreListed h rule n leaf ps ds → AreParents h rule n leaf es
+      → AreListed h rule n leaf (ps ++ map (λ e. e.0) es) (ds ++ map (λ e. h.node e.0 e.1 e.2) es)
+  parents_listed [] [] [] all more = tt
+  parents_listed [] [] (e ∷ es) all more = (more.0, parents_listed [] [] es tt more.1)
+  parents_listed [] (d ∷ ds) es all more = absurd all
+  parents_listed (p ∷ ps) [] es all more = absurd all
+  parents_listed (p ∷ ps) (d ∷ ds) es all more = (all.0, parents_listed ps ds es all.1 more)
+
+  pub are_listed : (ps qs : List ℕ) (ds xs : List D) (es : List (ℕ × D × D)) → qs ≡ ps ++ map (λ e. e.0) es → xs ≡ ds ++ map (λ e. h.node e.0 e.1 e.2) es
+      → AreListed h rule n leaf ps ds → AreParents h rule n leaf es → AreListed h rule n leaf qs xs
+  are_listed ps qs ds xs es u v all more = subst (λ z. AreListed h rule n leaf z xs) (sym u) (subst (AreListed h rule n leaf (ps ++ map (λ e. e.0) es)) (sym v) (parents_listed ps ds es all more))
+
+  pub none_listed : (ps : List ℕ) (ds : List D) → ps ≡ [] → ds ≡ [] → AreListed h rule n leaf ps ds
+  none_listed ps ds x y = subst (λ z. AreListed h rule n leaf z ds) (sym x) (subst (AreListed h rule n leaf []) (sym y) tt)
+
+  -- the digest at the index of a position
+  pub listed_at : (ps : List ℕ) (ds : List D) → AreListed h rule n leaf ps ds → (i p : ℕ) (d : D) → slice_get ps i ≡ Some p → slice_get ds i ≡ Some d → IsDigestAt h rule n leaf p d
+  listed_at [] [] all i p d u v = absurd (no_digest d v)
+  listed_at [] (x ∷ ds) all i p d u v = absurd all
+  listed_at (q ∷ ps) [] all i p d u v = absurd all
+  listed_at (q ∷ ps) (x ∷ ds) all zero p d u v = subst (λ z. IsDigestAt h rule n leaf z d) (one_position q p u) (subst (IsDigestAt h rule n leaf q) (sym (one_digest x d v)) all.0)
+  listed_at (q ∷ ps) (x ∷ ds) all (suc i) p d u v = listed_at ps ds all.1 i p d u v
+
+  -- what a look-up reads at an index where a position stands
+  pub found_at : (ps : List ℕ) (ds : List D) → AreListed h rule n leaf ps ds → (i p : ℕ) (q : Bor ℕ) → IsItemAt ps i (Some q) → q.now ≡ p → (r : Option (Bor D)) → IsItemAt ds i r
+      → (o : Option D) → o ≡ option_copied r → IfSome o (IsDigestAt h rule n leaf p)
+  found_at ps ds all i p q u e None v o is = subst (λ z. IfSome z (IsDigestAt h rule n leaf p)) (sym is) tt
+  found_at ps ds all i p q u e (Some x) v o is = subst (λ z. IfSome z (IsDigestAt h rule n leaf p)) (sym is)
+      (listed_at ps ds all i p x.now (slice_get_read ps (length ps) i q.now refl u.3.0 u.1 ∙ ap Some e) (slice_get_read ds (length ds) i x.now refl v.3.0 v.1))
+
 pub if_ok_both : {T E : Type 0} {P Q R : T → Type 0} (r : Result T E) → ((x : T) → P x → Q x → R x) → IfOk r P → IfOk r Q → IfOk r R
 if_ok_both (Ok x) f p q = f x p q
 if_ok_both (Err e) f p q = tt
+
+pub on_ok_both : {T E P Q R : Type 0} (r : Result T E) → (P → Q → R) → OnOk r P → OnOk r Q → OnOk r R
+on_ok_both (Ok x) f p q = f p q
+on_ok_both (Err e) f p q = tt

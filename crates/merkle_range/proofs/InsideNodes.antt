@@ -65,9 +65,29 @@ module _ {F : Type 0} (rule : List ℕ → List ℕ) (m : ℕ) where
         is ∙ ap₂ (h.node s.position) (u l k.0) (v r k.1)
         ∙ ap (λ n. h.node n (tree_digest h (leaf_from h start leaves) l) (tree_digest h (leaf_from h start leaves) r)) (sym ((forest_grown rule m).placed s.position (join q l r) w.0.at))
 
+    -- a node of height 1 over the digests of two leaves
+    pub digest_parent : (limit : ℕ) → IsLawful rule m limit → (s a b : Subtree F) → AreChildrenOf s a b → HasInside start (length leaves) s → s.height ≡ 1
+        → (x y : D) → slice_get leaves (a.first_leaf - start) ≡ Some x → slice_get leaves (b.first_leaf - start) ≡ Some y → IsDigestAt h rule m (leaf_from h start leaves) s.position (h.node s.position x y)
+    digest_parent limit law s a b f (t, w) one x y u v p at =
+        let tall : s.height ≢ 0 = omega (arith, one) in
+        let both = inside_children start (length leaves) limit law s a b f (t, w) tall in
+        let first = digest_leaf a (omega (arith, both.2, one)) x u in
+        let second = digest_leaf b (omega (arith, both.3, one)) y v in
+        digest_join s a b f tall x y (h.node s.position x y) first second refl t w ∙ ap (tree_digest h (leaf_from h start leaves)) (one_node t p (sym w.0.at ∙ at))
+
     -- the digest of such a node is that of the node at its position
     pub digest_at_node : (s : Subtree F) → HasInside start (length leaves) s → (d : D) → IsDigestInside h rule m start leaves s d → IsDigestAt h rule m (leaf_from h start leaves) s.position d
     digest_at_node s (t, w) d is u at = is t w ∙ ap (tree_digest h (leaf_from h start leaves)) (one_node t u (sym w.0.at ∙ at))
+
+  -- the digest at a node over those at its children
+  pub digest_over : {D : Type 0} (h : Hashing D) (leaf : ℕ → D) (s a b : Subtree F) → AreChildrenOf s a b → (t : Tree) → Denotes rule m s t → s.height ≢ 0
+      → (x y : D) → IsDigestAt h rule m leaf a.position x → IsDigestAt h rule m leaf b.position y → IsDigestAt h rule m leaf s.position (h.node s.position x y)
+  digest_over h X s a b f (leaf q i) w tall x y u v p at = absurd (tall (omega (arith, w.height_is)))
+  digest_over h X s a b f (join q l r) w tall x y u v p at =
+      let k = f q l r w in
+      ap₂ (h.node s.position) (u l k.0.at) (v r k.1.at)
+      ∙ ap (λ n. h.node n (tree_digest h X l) (tree_digest h X r)) (sym ((forest_grown rule m).placed s.position (join q l r) w.at))
+      ∙ ap (tree_digest h X) (one_node (join q l r) p (sym w.at ∙ at))
 
 -- the walk over a node that has no node outside the range takes no sibling
 pub walked_inside : {D : Type 0} (h : Hashing D) (start : ℕ) (leaves : List D) (end : ℕ) (t : Tree) → siblings (in_range start end) t ≡ []

@@ -41,3 +41,14 @@ AreChildDigests h rule n leaf (s ∷ ss) (x ∷ y ∷ ds) = IsDigestAt h rule n 
 -- each digest that ds lists for a position in ps is that of the node there
 abbrev pub AreKnown : {D : Type 0} → Hashing D → (List ℕ → List ℕ) → ℕ → (ℕ → D) → List ℕ → List D → Type 0
 AreKnown {D = D} h rule n leaf ps ds = (p : ℕ) (d : D) → digest_for ps ds p ≡ Some d → IsDigestAt h rule n leaf p d
+
+-- each of the subtrees is a node of this height that has its leaves among the `count` leaves from location start on
+abbrev pub AreLevel : {F : Type 0} → (List ℕ → List ℕ) → ℕ → ℕ → ℕ → ℕ → List (Subtree F) → Type 0
+AreLevel {F = F} rule n start count height ss = AllByRecursion (λ (s : Subtree F). ((t : Tree) × IsInside rule n start count s t) × (s.height ≡ height)) ss
+
+-- each digest is that of the node at the position at its index
+abbrev pub AreListed : {D : Type 0} → Hashing D → (List ℕ → List ℕ) → ℕ → (ℕ → D) → List ℕ → List D → Type 0
+AreListed h rule n leaf [] [] = ⊤
+AreListed h rule n leaf [] (d ∷ ds) = ⊥
+AreListed h rule n leaf (p ∷ ps) [] = ⊥
+AreListed h rule n leaf (p ∷ ps) (d ∷ ds) = IsDigestAt h rule n leaf p d × AreListed h rule n leaf ps ds

@@ -4,3 +4,4 @@ pub mod Input
 pub mod PinnedParts
 pub mod Positioned
 pub mod Inside
+pub mod InsidePairs

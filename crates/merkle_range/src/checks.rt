@@ -280,6 +280,7 @@ fn peak_digests<F: Family, H: Hasher<F>, C: Collector<F, H::Digest>>(
         return Err(ReconstructionError::OutOfMemory);
     };
     reconstruct_peaks(
+        parts.alloc,
         hasher,
         range,
         leaves,
@@ -300,6 +301,7 @@ fn peak_digests<F: Family, H: Hasher<F>, C: Collector<F, H::Digest>>(
 
 // Appends the digests of the peaks that overlap the range, whose leaves have the digests `leaves`.
 fn reconstruct_peaks<F: Family, H: Hasher<F>, C: Collector<F, H::Digest>>(
+    alloc: Global,
     hasher: &H,
     range: &Range<Location<F>>,
     leaves: &[H::Digest],
@@ -328,7 +330,9 @@ fn reconstruct_peaks<F: Family, H: Hasher<F>, C: Collector<F, H::Digest>>(
         → length digests.old.now < length (flat_map (siblings c) ts))) }
 {
     for peak in peaks {
-        let digest = reconstruct_digest(peak, hasher, range, leaves, known, digests, collector)?;
+        let digest = reconstruct_digest(
+            alloc, peak, hasher, range, leaves, known, digests, collector,
+        )?;
         if collector.put(peak.position, &digest).is_err() {
             return Err(ReconstructionError::OutOfMemory);
         }

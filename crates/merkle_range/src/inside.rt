@@ -25,8 +25,12 @@ const LEAVES_TOGETHER: usize = 8;
 /// Initial capacity for nodes and for their children; more are rare.
 const ROOM: usize = 32;
 
-// Returns the digest of a leaf from those of the leaves from location `start` on.
-fn leaf_inside<F: Family, D: Copy>(leaf: &Subtree<F>, start: Location<F>, leaves: &[D]) -> D
+/// Returns the digest of a leaf from those of the leaves from location `start` on.
+pub(crate) fn leaf_inside<F: Family, D: Copy>(
+    leaf: &Subtree<F>,
+    start: Location<F>,
+    leaves: &[D],
+) -> D
     requires { (start ≤ leaf.now.first_leaf) × (leaf.now.first_leaf < start + length leaves.now) }
     ensures { slice_get leaves.now (leaf.now.first_leaf - start) ≡ Some result }
 {
@@ -160,6 +164,23 @@ fn push_parents<F: Family, D: Digest>(
     Ok(())
 }
 
+/// Returns the position of a node of height 1 and the digests of its children, from those of the
+/// leaves from location `start` on.
+pub(crate) fn leaf_parent<F: Family, D: Digest>(
+    subtree: &Subtree<F>,
+    start: Location<F>,
+    leaves: &[D],
+) -> (Position<F>, D, D)
+    requires node { (t : Tree) × IsInside F.rule F.MAX_LEAVES start (length leaves.now) subtree.now t }
+    requires parent { subtree.now.height ≡ 1 }
+    ensures { (h : Hashing D) → IsDigestAt h F.rule F.MAX_LEAVES (leaf_from h start leaves.now) result.0 (h.node result.0 result.1 result.2) }
+{
+    let (left, right) = subtree.children();
+    let first = leaf_inside(&left, start, leaves);
+    let second = leaf_inside(&right, start, leaves);
+    (subtree.position, first, second)
+}
+
 // Appends a node that has all its leaves in the range and is none: to `tall` if its height is 2 or
 // more, else to `parents`, with the digests of its children.
 fn put_inside<F: Family, D: Digest>(
@@ -180,10 +201,7 @@ fn put_inside<F: Family, D: Digest>(
         tall.push(*subtree)?;
         return Ok(());
     }
-    let (left, right) = subtree.children();
-    let first = leaf_inside(&left, start, leaves);
-    let second = leaf_inside(&right, start, leaves);
-    parents.push((subtree.position, first, second))?;
+    parents.push(leaf_parent(subtree, start, leaves))?;
     Ok(())
 }
 
@@ -241,10 +259,7 @@ pub(crate) fn digests_inside<F: Family, H: Hasher<F>>(
         IfOk result (λ k. AreKnown h F.rule F.MAX_LEAVES (leaf_from h range.now.start leaves.now) k.positions.items k.digests.items) }
 {
     if !is_wanted || leaves.len() < LEAVES_TOGETHER {
-        return Ok(Known {
-            positions: Vec::new(alloc),
-            digests: Vec::new(alloc),
-        });
+        return Ok(Known::new(alloc));
     }
     let mut tall = Vec::with_capacity(alloc, ROOM)?;
     let mut parents = Vec::with_capacity(alloc, ROOM)?;

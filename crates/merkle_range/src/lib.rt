@@ -1,6 +1,7 @@
 //! Checks of ranges of leaves against a root, over the parts of their proofs.
 #![tactic(auto)]
 
+mod below;
 pub mod checks;
 mod collector;
 pub mod extraction;

@@ -8,6 +8,7 @@ ghost use Rattle.merkle_root_theory.specs.Check.{in_range};
 ghost use Rattle.merkle_root_theory.specs.Walk.{leaf_from, IsWalked};
 ghost use Rattle.merkle_range.specs.Inside.{AreKnown};
 
+use crate::below::{is_put_together, put_together};
 use crate::collector::{Collector, put_both};
 use crate::known::Known;
 use merkle_base::error::ReconstructionError;
@@ -16,7 +17,7 @@ use merkle_base::location::Location;
 use merkle_base::position::Position;
 use merkle_hasher::hasher::Hasher;
 use merkle_hasher::subtree::Subtree;
-use std::alloc::AllocError;
+use std::alloc::{AllocError, Global};
 use std::ops::Range;
 
 /// Whether the node has no leaf in the range.
@@ -42,8 +43,11 @@ pub(crate) fn is_inside<F: Family>(subtree: &Subtree<F>, range: &Range<Location<
 /// `digests`, those of the maximal nodes outside the range, which are consumed in order.
 ///
 /// The digests of the nodes below it are passed to `out`, if it keeps them: the two children of a
-/// node after all that is below them. Else those that are `known` are not computed again.
+/// node after all that is below them. Those of a node that has all its leaves in the range are then
+/// computed together, if it is of a height for that. If `out` keeps none, those that are `known` are
+/// not computed again.
 pub(crate) fn reconstruct_digest<F: Family, H: Hasher<F>, C: Collector<F, H::Digest>>(
+    alloc: Global,
     subtree: &Subtree<F>,
     hasher: &H,
     range: &Range<Location<F>>,
@@ -82,9 +86,15 @@ pub(crate) fn reconstruct_digest<F: Family, H: Hasher<F>, C: Collector<F, H::Dig
             return Ok(digest);
         }
     }
+    if out.keeps() && is_put_together(subtree.height) && is_inside(subtree, range) {
+        let Ok(digest) = put_together(alloc, subtree, hasher, range.start, leaves, out) else {
+            return Err(ReconstructionError::OutOfMemory);
+        };
+        return Ok(digest);
+    }
     let (left, right) = subtree.children();
-    let first = reconstruct_digest(&left, hasher, range, leaves, known, digests, out)?;
-    let second = reconstruct_digest(&right, hasher, range, leaves, known, digests, out)?;
+    let first = reconstruct_digest(alloc, &left, hasher, range, leaves, known, digests, out)?;
+    let second = reconstruct_digest(alloc, &right, hasher, range, leaves, known, digests, out)?;
     if put_both(left.position, &first, right.position, &second, out).is_err() {
         return Err(ReconstructionError::OutOfMemory);
     }

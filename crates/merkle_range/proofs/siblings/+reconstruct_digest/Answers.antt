@@ -8,7 +8,7 @@ use Rattle.merkle_hasher.proofs.Spans.{heights_same}
 use Rattle.merkle_hasher.proofs.NodeSteps.{inner_node, lower}
 use Rattle.merkle_root_theory.proofs.Walks.{walk_outside, short_outside, walked_leaf, walked_inner, short_inner_left, short_inner_right, leaf_in_range}
 use Rattle.merkle_range.proofs.InsideNodes.{walked_inside}
-use Rattle.merkle_range.proofs.ExtractionWalks.{stands_at, inner_unmet, inner_leaf, put_inner}
+use Rattle.merkle_range.proofs.ExtractionWalks.{stands_at, inner_unmet, inner_leaf, inner_inside, put_inner}
 use Rattle.merkle_range.proofs.siblings.+reconstruct_digest.Goals as goal
 
 pub returns-in_default-clause-err : goal.returns-in_default-clause-err
@@ -108,3 +108,14 @@ pub returns-in-Some-get-clause-ok : goal.returns-in-Some-get-clause-ok
 returns-in-Some-get-clause-ok g t c = λ u w.
     walked_inside (g.H.Hasher.hashing c.args.hasher.now) c.args.range.now.start c.args.leaves.now c.args.range.now.end u (c.is_inside.ensures.none u w c.if-is_inside.true)
     c.in-Some-get.digest (c.requires.known c.args.subtree.now.position c.in-Some-get.digest (sym c.get.ensures ∙ c.in-Some-get.is) u w.at) c.args.digests.now.now
+
+pub returns-then-is_inside-2-clause-ok : goal.returns-then-is_inside-2-clause-ok
+returns-then-is_inside-2-clause-ok g t c = λ u w.
+    walked_inside (g.H.Hasher.hashing c.args.hasher.now) c.args.range.now.start c.args.leaves.now c.args.range.now.end u (c.is_inside-then-is_put_together.ensures.none u w c.if-is_inside-2.true)
+    c.in-Ok.digest (c.in-Ok.ensures.digest u w.at) c.args.digests.now.now
+
+pub returns-then-is_inside-2-clause-taken : goal.returns-then-is_inside-2-clause-taken
+returns-then-is_inside-2-clause-taken g t c = λ u w.
+    let h = g.H.Hasher.hashing c.args.hasher.now in
+    let same = inner_inside h (in_range c.args.range.now.start c.args.range.now.end) (leaf_from h c.args.range.now.start c.args.leaves.now) u (c.is_inside-then-is_put_together.ensures.none u w c.if-is_inside-2.true) c.args.digests.now.now in
+    subst (λ z. g.C.Collector.Took c.args.out.now z c.put_together.new.out) (sym same) (c.in-Ok.ensures.taken u w)
