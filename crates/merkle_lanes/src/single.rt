@@ -28,7 +28,7 @@ ghost use Rattle.merkle_lanes.specs.Lanes.{IsSum, StandAt, state_lane};
 
 use crate::blocks::{digest, initialize, load};
 use crate::compress::{K, add_words};
-use crate::vectors::{add, big_sigma0, big_sigma1, ch, maj, small_sigma0, small_sigma1, splat};
+use crate::vectors::{add, round_of_sum, small_sigma0, small_sigma1, splat};
 use std::simd::{u32x1, u32x4};
 
 // The sums of the constants of the rounds and the schedule of the padding of 64 bytes.
@@ -118,35 +118,16 @@ fn with_constants(words: u32x4, t: usize) -> u32x4
     add(u32x4::from_slice(&K[t..t + 4]), words)
 }
 
-// One round over the working variables `v`, with the sum of the round's constant and its word of the schedule.
-#[inline(always)]
-fn round_of_sum(v: &mut [u32x1; 8], sum: u32)
-    ensures { (k w : ℕ) → sum ≡ add32 k w → state_lane 0 v.new ≡ round (state_lane 0 v.old) k w }
-{
-    let (a, b, c, d) = (v[0], v[1], v[2], v[3]);
-    let (e, f, g, h) = (v[4], v[5], v[6], v[7]);
-    let temp1 = add(add(add(h, splat(sum)), big_sigma1(e)), ch(e, f, g));
-    let temp2 = add(big_sigma0(a), maj(a, b, c));
-    v[0] = add(temp1, temp2);
-    v[1] = a;
-    v[2] = b;
-    v[3] = c;
-    v[4] = add(d, temp1);
-    v[5] = e;
-    v[6] = f;
-    v[7] = g;
-}
-
 // Four rounds in a row.
 #[inline(always)]
 fn four_rounds(v: &mut [u32x1; 8], first: u32, second: u32, third: u32, fourth: u32)
     ensures { (ws h : List ℕ) (t : ℕ) → IsSum first ws t → IsSum second ws (t + 1) → IsSum third ws (t + 2) → IsSum fourth ws (t + 3)
         → state_lane 0 v.old ≡ rounds h ws t → state_lane 0 v.new ≡ rounds h ws (t + 4) }
 {
-    round_of_sum(v, first);
-    round_of_sum(v, second);
-    round_of_sum(v, third);
-    round_of_sum(v, fourth);
+    round_of_sum(v, splat(first));
+    round_of_sum(v, splat(second));
+    round_of_sum(v, splat(third));
+    round_of_sum(v, splat(fourth));
 }
 
 // The four rounds from `t` on, whose words of the schedule are `words`.

@@ -59,7 +59,7 @@ fn rotated<const N: usize>(x: Simd<u32, N>, count: u32) -> Simd<u32, N>
 // Where a bit of `x` is 1, the bit of `y`, else that of `z`. The standard's form has one operation
 // more.
 #[inline(always)]
-pub fn ch<const N: usize>(x: Simd<u32, N>, y: Simd<u32, N>, z: Simd<u32, N>) -> Simd<u32, N>
+fn ch<const N: usize>(x: Simd<u32, N>, y: Simd<u32, N>, z: Simd<u32, N>) -> Simd<u32, N>
     ensures { (j : ℕ) → j < N
         → slice_index result j ≡ ch (slice_index x.entry j) (slice_index y.entry j) (slice_index z.entry j) }
 {
@@ -68,7 +68,7 @@ pub fn ch<const N: usize>(x: Simd<u32, N>, y: Simd<u32, N>, z: Simd<u32, N>) -> 
 
 // Each bit is the one that most of the three words have.
 #[inline(always)]
-pub fn maj<const N: usize>(x: Simd<u32, N>, y: Simd<u32, N>, z: Simd<u32, N>) -> Simd<u32, N>
+fn maj<const N: usize>(x: Simd<u32, N>, y: Simd<u32, N>, z: Simd<u32, N>) -> Simd<u32, N>
     ensures { (j : ℕ) → j < N
         → slice_index result j ≡ maj (slice_index x.entry j) (slice_index y.entry j) (slice_index z.entry j) }
 {
@@ -78,14 +78,14 @@ pub fn maj<const N: usize>(x: Simd<u32, N>, y: Simd<u32, N>, z: Simd<u32, N>) ->
 // The standard rotates x by 2, 13 and 22 bits. Rotating inside one another needs fewer copies of x,
 // which take time where an instruction overwrites its operand.
 #[inline(always)]
-pub fn big_sigma0<const N: usize>(x: Simd<u32, N>) -> Simd<u32, N>
+fn big_sigma0<const N: usize>(x: Simd<u32, N>) -> Simd<u32, N>
     ensures { (j : ℕ) → j < N → slice_index result j ≡ big_sigma0 (slice_index x.entry j) }
 {
     rotated(xor(x, rotated(xor(x, rotated(x, 9)), 11)), 2)
 }
 
 #[inline(always)]
-pub fn big_sigma1<const N: usize>(x: Simd<u32, N>) -> Simd<u32, N>
+fn big_sigma1<const N: usize>(x: Simd<u32, N>) -> Simd<u32, N>
     ensures { (j : ℕ) → j < N → slice_index result j ≡ big_sigma1 (slice_index x.entry j) }
 {
     rotated(xor(x, rotated(xor(x, rotated(x, 14)), 5)), 6)
@@ -119,15 +119,16 @@ pub fn next_word<const N: usize>(w: &mut [Simd<u32, N>; 16], place: usize) -> Si
     word
 }
 
-// One round over the working variables `v`, with the round's constant and its word of the schedule.
+// One round over the working variables `v`, with the sum of the round's constant and its word of the schedule.
 #[inline(always)]
-pub fn round<const N: usize>(v: &mut [Simd<u32, N>; 8], k: u32, word: Simd<u32, N>)
-    ensures { (j : ℕ) → j < N → state_lane j v.new ≡ round (state_lane j v.old) k (slice_index word.entry j) }
+pub fn round_of_sum<const N: usize>(v: &mut [Simd<u32, N>; 8], sum: Simd<u32, N>)
+    ensures { (j : ℕ) → j < N → (k w : ℕ) → slice_index sum.entry j ≡ add32 k w
+        → state_lane j v.new ≡ round (state_lane j v.old) k w }
 {
     let (a, b, c, d) = (v[0], v[1], v[2], v[3]);
     let (e, f, g, h) = (v[4], v[5], v[6], v[7]);
     // The standard adds from left to right. What `e` decides, which is known last, is added last here.
-    let temp1 = add(add(add(h, add(splat(k), word)), big_sigma1(e)), ch(e, f, g));
+    let temp1 = add(add(add(h, sum), big_sigma1(e)), ch(e, f, g));
     let temp2 = add(big_sigma0(a), maj(a, b, c));
     v[0] = add(temp1, temp2);
     v[1] = a;
@@ -137,4 +138,12 @@ pub fn round<const N: usize>(v: &mut [Simd<u32, N>; 8], k: u32, word: Simd<u32, 
     v[5] = e;
     v[6] = f;
     v[7] = g;
+}
+
+// One round over the working variables `v`, with the round's constant and its word of the schedule.
+#[inline(always)]
+pub fn round<const N: usize>(v: &mut [Simd<u32, N>; 8], k: u32, word: Simd<u32, N>)
+    ensures { (j : ℕ) → j < N → state_lane j v.new ≡ round (state_lane j v.old) k (slice_index word.entry j) }
+{
+    round_of_sum(v, add(splat(k), word));
 }
