@@ -1,5 +1,6 @@
 //! What the tests share: digests of one byte.
 
+mod extraction;
 mod readers;
 mod stores;
 

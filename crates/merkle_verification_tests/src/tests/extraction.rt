@@ -1,0 +1,143 @@
+//! Digests that are extracted from proofs of ranges, against the nodes of the structure.
+
+use merkle_core::digest::{Digest, PlainHasher, Sha256Plain};
+use merkle_core::family::{Bagging, Family};
+use merkle_core::hasher::Standard;
+use merkle_core::location::Location;
+use merkle_core::mem::Mem;
+use merkle_core::{mmb, mmr};
+use std::alloc::Global;
+use std::process::Abort;
+use std::test::Fail;
+
+/// How many leaves the structures have.
+const LEAVES: u64 = 1100;
+
+/// That many times the same element. The digests of its leaves differ, since each has its position.
+fn repeated<'a>(alloc: Global, element: &'a [u8], count: u64) -> Result<Vec<&'a [u8]>, Fail> {
+    let mut all = Vec::new(alloc);
+    for _ in 0..count {
+        all.push(element)?;
+    }
+    Ok(all)
+}
+
+/// A structure of [`LEAVES`] leaves; `None` where a call is refused.
+fn structure_of<F: Family, H: PlainHasher>(
+    alloc: Global,
+    hasher: &Standard<H>,
+    elements: &[&[u8]],
+) -> Option<Mem<F, H::Digest>> {
+    let mut structure = Mem::new(alloc);
+    let Ok(batch) = structure.new_batch() else {
+        return None;
+    };
+    let Ok(batch) = batch.add_all(hasher, elements) else {
+        return None;
+    };
+    let Ok(batch) = batch.merkleize(&structure, hasher) else {
+        return None;
+    };
+    let Ok(()) = structure.apply_batch(&batch) else {
+        return None;
+    };
+    Some(structure)
+}
+
+/// The number of pairs of a peak of that height over leaves from `first` on, the range being from
+/// `start` up to `end`: the peak, and the two children of each node below it that is over a leaf of
+/// the range.
+fn count_of_peak(height: u32, first: u64, start: u64, end: u64) -> u64 {
+    let width = 1u64.checked_shl(height).unwrap_or(0);
+    let mut low = start.saturating_sub(first);
+    let mut last = end.saturating_sub(first).min(width).saturating_sub(1);
+    let mut count = 1u64;
+    for _ in 0..height {
+        low /= 2;
+        last /= 2;
+        let over = last.saturating_sub(low).saturating_add(1);
+        count = count.saturating_add(over.saturating_mul(2));
+    }
+    count
+}
+
+/// The number of pairs of a range, where the peaks before it are folded.
+fn count_of_range<F: Family, D: Digest>(structure: &Mem<F, D>, start: u64, end: u64) -> u64 {
+    let mut count = 0u64;
+    let mut first = 0u64;
+    for (_, height) in structure.peak_iterator() {
+        let next = first.saturating_add(1u64.checked_shl(height).unwrap_or(0));
+        if end <= first {
+            count = count.saturating_add(1);
+        } else if start < next {
+            count = count.saturating_add(count_of_peak(height, first, start, end));
+        }
+        first = next;
+    }
+    count
+}
+
+/// Asserts that the pairs of a range are as many as there are, each a node of the structure.
+fn assert_extracted<F: Family, H: PlainHasher>(
+    rt: &(impl Abort + AllocGlobal),
+    structure: &Mem<F, H::Digest>,
+    hasher: &Standard<H>,
+    start: u64,
+    count: u64,
+) -> Result<(), Fail> {
+    let end = start.saturating_add(count);
+    let range = Location::new(start)..Location::new(end);
+    let proof = structure.range_proof(hasher, range, 0).ok();
+    let proof = proof.expect(rt, "the range is proved");
+    let root = structure.root(hasher, 0).ok().expect(rt, "there is a root");
+    let element = [7u8];
+    let given = repeated(rt.alloc(), &element, count)?;
+    let first = Location::new(start);
+    let pairs = proof.verify_range_inclusion_and_extract_digests(hasher, &given, first, &root);
+    let pairs = pairs.ok().expect(rt, "the proof is accepted");
+    let expected = count_of_range(structure, start, end);
+    assert!(rt;
+        pairs.len() as u64 == expected,
+        "{count} leaves from {start} on"
+    );
+    for (position, digest) in &pairs {
+        assert!(rt; structure.get_node(*position) == Some(*digest));
+    }
+    Ok(())
+}
+
+/// Asserts that of ranges from an even and from an odd leaf on, with lengths next to those from which
+/// on, and up to which, the nodes below a node are computed together.
+fn assert_ranges<F: Family, H: PlainHasher>(rt: &(impl Abort + AllocGlobal)) -> Result<(), Fail> {
+    let hasher = Standard::<H>::new(Bagging::ForwardFold);
+    let element = [7u8];
+    let all = repeated(rt.alloc(), &element, LEAVES)?;
+    let structure = structure_of::<F, H>(rt.alloc(), &hasher, &all).expect(rt, "no refusal");
+    for start in [256, 301] {
+        for count in [1, 2, 7, 8, 9, 255, 256, 257, 600] {
+            assert_extracted(rt, &structure, &hasher, start, count)?;
+        }
+    }
+    Ok(())
+}
+
+#[test]
+fn extracted_from_a_mountain_range(rt: HostRuntime) -> Result<(), Fail> {
+    assert_ranges::<mmr::Family, Sha256Plain>(&rt)
+}
+
+#[test]
+fn extracted_from_a_mountain_belt(rt: HostRuntime) -> Result<(), Fail> {
+    assert_ranges::<mmb::Family, Sha256Plain>(&rt)
+}
+
+// Eight leaves of the Mountain Range have the peak 14, over 13 and 6, 6 over 5 and 2, and so on.
+#[test]
+fn counts_of_pairs(rt: HostRuntime) {
+    assert_eq!(rt; count_of_peak(3, 0, 0, 8), 15);
+    // the nodes 14, 13, 6, 5, 2, 1 and 0
+    assert_eq!(rt; count_of_peak(3, 0, 1, 2), 7);
+    // the nodes 14, 13, 6, 12, 9, 5, 2, 8, 7, 4 and 3
+    assert_eq!(rt; count_of_peak(3, 0, 3, 5), 11);
+    assert_eq!(rt; count_of_peak(0, 8, 8, 9), 1);
+}
