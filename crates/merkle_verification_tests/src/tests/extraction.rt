@@ -1,12 +1,15 @@
 //! Digests that are extracted from proofs of ranges, against the nodes of the structure.
 
-use merkle_core::digest::{Digest, PlainHasher, Sha256Plain};
+use merkle_core::digest::{Digest, PlainHasher, Sha256Plain, Xor8};
 use merkle_core::family::{Bagging, Family};
-use merkle_core::hasher::Standard;
+use merkle_core::hasher::{Hasher, Standard};
 use merkle_core::location::Location;
 use merkle_core::mem::Mem;
+use merkle_core::position::Position;
 use merkle_core::{mmb, mmr};
-use std::alloc::Global;
+use merkle_fixtures::counting::Counting;
+use std::alloc::{AllocError, Global};
+use std::cell::Cell;
 use std::process::Abort;
 use std::test::Fail;
 
@@ -14,7 +17,7 @@ use std::test::Fail;
 const LEAVES: u64 = 1100;
 
 /// That many times the same element. The digests of its leaves differ, since each has its position.
-fn repeated<'a>(alloc: Global, element: &'a [u8], count: u64) -> Result<Vec<&'a [u8]>, Fail> {
+fn repeated<'a>(alloc: Global, element: &'a [u8], count: u64) -> Result<Vec<&'a [u8]>, AllocError> {
     let mut all = Vec::new(alloc);
     for _ in 0..count {
         all.push(element)?;
@@ -77,6 +80,31 @@ fn count_of_range<F: Family, D: Digest>(structure: &Mem<F, D>, start: u64, end: 
     count
 }
 
+/// The pairs that are extracted from the proof of a range; `None` where a call is refused.
+fn extracted<F: Family, H: Hasher<F>>(
+    alloc: Global,
+    structure: &Mem<F, H::Digest>,
+    hasher: &H,
+    start: u64,
+    end: u64,
+) -> Option<Vec<(Position<F>, H::Digest)>> {
+    let range = Location::new(start)..Location::new(end);
+    let Ok(proof) = structure.range_proof(hasher, range, 0) else {
+        return None;
+    };
+    let Ok(root) = structure.root(hasher, 0) else {
+        return None;
+    };
+    let element = [7u8];
+    let Ok(given) = repeated(alloc, &element, end.saturating_sub(start)) else {
+        return None;
+    };
+    let first = Location::new(start);
+    proof
+        .verify_range_inclusion_and_extract_digests(hasher, &given, first, &root)
+        .ok()
+}
+
 /// Asserts that the pairs of a range are as many as there are, each a node of the structure.
 fn assert_extracted<F: Family, H: PlainHasher>(
     rt: &(impl Abort + AllocGlobal),
@@ -86,15 +114,8 @@ fn assert_extracted<F: Family, H: PlainHasher>(
     count: u64,
 ) -> Result<(), Fail> {
     let end = start.saturating_add(count);
-    let range = Location::new(start)..Location::new(end);
-    let proof = structure.range_proof(hasher, range, 0).ok();
-    let proof = proof.expect(rt, "the range is proved");
-    let root = structure.root(hasher, 0).ok().expect(rt, "there is a root");
-    let element = [7u8];
-    let given = repeated(rt.alloc(), &element, count)?;
-    let first = Location::new(start);
-    let pairs = proof.verify_range_inclusion_and_extract_digests(hasher, &given, first, &root);
-    let pairs = pairs.ok().expect(rt, "the proof is accepted");
+    let pairs = extracted(rt.alloc(), structure, hasher, start, end);
+    let pairs = pairs.expect(rt, "no refusal");
     let expected = count_of_range(structure, start, end);
     assert!(rt;
         pairs.len() as u64 == expected,
@@ -129,6 +150,27 @@ fn extracted_from_a_mountain_range(rt: HostRuntime) -> Result<(), Fail> {
 #[test]
 fn extracted_from_a_mountain_belt(rt: HostRuntime) -> Result<(), Fail> {
     assert_ranges::<mmb::Family, Sha256Plain>(&rt)
+}
+
+// Of the nodes below the peak of 1024 leaves 255 are over the first 256 leaves. They are computed in
+// pairs but for the highest one, which is computed by itself, as the two nodes over it.
+#[test]
+fn nodes_in_pairs(rt: HostRuntime) -> Result<(), Fail> {
+    let (pairs, singles) = (Cell::new(0), Cell::new(0));
+    let hasher = Counting {
+        bagging: Bagging::ForwardFold,
+        pairs: &pairs,
+        singles: &singles,
+    };
+    let plain = Standard::<Xor8>::new(Bagging::ForwardFold);
+    let element = [7u8];
+    let all = repeated(rt.alloc(), &element, LEAVES)?;
+    let structure = structure_of::<mmr::Family, Xor8>(rt.alloc(), &plain, &all);
+    let structure = structure.expect(&rt, "no refusal");
+    let found = extracted(rt.alloc(), &structure, &hasher, 0, 256).expect(&rt, "no refusal");
+    assert_eq!(rt; found.len() as u64, count_of_range(&structure, 0, 256));
+    assert_eq!(rt; (pairs.get(), singles.get()), (127, 3));
+    Ok(())
 }
 
 // Eight leaves of the Mountain Range have the peak 14, over 13 and 6, 6 over 5 and 2, and so on.
