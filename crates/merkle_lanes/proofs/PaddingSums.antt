@@ -5,7 +5,7 @@ use Rattle.std.proofs.Math.Dec.{eqb}
 use Rattle.std.specs.Simd.Lanes.{zip2}
 use Rattle.sha2.specs.Sha256.{add32, next_word, padding, round_constants, schedule, word_at}
 use Rattle.sha2.proofs.Schedule256.{slice_index-schedule_first, slice_index-schedule_next}
-use Rattle.merkle_lanes.specs.Lanes.{AreSums}
+use Rattle.merkle_lanes.specs.Lanes.{IsSum}
 use Rattle.merkle_lanes.proofs.LaneLemmas.{below_sixteen, zip2_lane}
 
 -- each of the n words from place t on follows from those before it
@@ -73,6 +73,10 @@ padding_begins = below_sixteen (λ k. slice_index padding_schedule k ≡ word_at
 padding_follows : follows padding_schedule 16 48 ≡ true
 unfolding follows
 padding_follows = refl
+
+-- each of 64 sums is that of its round
+abbrev pub AreSums : (sums words : List ℕ) → Type 0
+AreSums sums words = (t : ℕ) → t < 64 → IsSum (slice_index sums t) words t
 
 -- the sums, from the list of them
 pub padding_sums : (sums : List ℕ) → sums ≡ zip2 add32 round_constants padding_schedule → AreSums sums (schedule (padding 64) 48)
