@@ -154,7 +154,7 @@ impl Digest for Sha256Digest {
 
 /// SHA-256, as FIPS 180-4 defines it. Four messages are hashed together if with its padding none has more than five
 /// blocks, in the time of the longest one: up to 55 bytes are one block, up to 119, as those of nodes, two, and up to 311
-/// five. Two or three messages are hashed together if they are those of nodes.
+/// five. Three messages are hashed together if they are those of nodes.
 #[derive(Clone, Copy, Debug)]
 pub struct Sha256Plain;
 

@@ -12,8 +12,8 @@
 //! hashed after a position of 8 bytes, takes one block, one of up to 303 bytes takes five at most, and a parent node,
 //! which is hashed as a position and two digests of 32 bytes, takes two. Four nodes have a path of their own, and four leaves with
 //! elements of 32 bytes have one, since the padding of all four is the same and nothing has to be copied.
-//! [`hash_four`] takes any four messages, and hashes them one after another otherwise. [`hash_two`] and
-//! [`hash_three`] fill the lanes that are left with the last message.
+//! [`hash_four`] takes any four messages, and hashes them one after another otherwise. [`hash_three`] fills the lane that
+//! is left with the last message.
 #![tactic(auto)]
 
 ghost use Rattle.std.specs.Prelude.{◌≡◌, ◌+◌, ◌%◌, ◌<◌, ◌≤◌, ◌++◌, List, IfSome, length, take};
@@ -75,21 +75,12 @@ pub fn hash_four(
 
 /// Returns the SHA-256 digests of two messages, in their order. A message is the concatenation of its parts.
 ///
-/// Nodes are hashed together, the second in three lanes, since that takes less time than one after the other;
-/// other messages are hashed one after the other.
+/// They are hashed one after the other, which takes less time than two of four lanes.
 #[inline(always)]
 pub fn hash_two(a: &[&[u8]], b: &[&[u8]]) -> ([u8; 32], [u8; 32])
     ensures first { result.0 ≡ sha256 (joined_parts a.now) }
     ensures second { result.1 ≡ sha256 (joined_parts b.now) }
 {
-    if let (Some(a), Some(b)) = (node_of(a), node_of(b)) {
-        let (first, second, _, _) = hash_nodes(
-            &[a.0, b.0, b.0, b.0],
-            &[a.1, b.1, b.1, b.1],
-            &[a.2, b.2, b.2, b.2],
-        );
-        return (first, second);
-    }
     (hash(a), hash(b))
 }
 
