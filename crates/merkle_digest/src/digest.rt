@@ -152,9 +152,9 @@ impl Digest for Sha256Digest {
     ghost eq_decides = { λ x y. (λ h. same_sized (λ b h. record { bytes = b; sized = h }) ((bytes_eq x.bytes y.bytes).0 h) x.sized y.sized, λ e. (bytes_eq x.bytes y.bytes).1 (ap (λ d. d.bytes) e)) };
 }
 
-/// SHA-256, as FIPS 180-4 defines it. Four messages are hashed together if with its padding none has more than five
-/// blocks, in the time of the longest one: up to 55 bytes are one block, up to 119, as those of nodes, two, and up to 311
-/// five. Three messages are hashed together if they are those of nodes.
+/// SHA-256, as FIPS 180-4 defines it. Four messages are hashed together if none has more than 16 blocks with its padding,
+/// in the time of the longest one, unless the others are much shorter: up to 55 bytes are one block, up to 119, as those of
+/// nodes, two, and up to 1,015 are 16. Three messages are hashed together if they are those of nodes.
 #[derive(Clone, Copy, Debug)]
 pub struct Sha256Plain;
 

@@ -7,16 +7,16 @@
 //! are proved to be.
 //!
 //! A message is hashed with its padding, in blocks of 64 bytes: one block if it has at most 55
-//! bytes, two if it has at most 119. The lanes are used for four messages of at most five blocks each, which
-//! take the time of the longest one. So a leaf with an element of up to 47 bytes, which is
-//! hashed after a position of 8 bytes, takes one block, one of up to 303 bytes takes five at most, and a parent node,
-//! which is hashed as a position and two digests of 32 bytes, takes two. Four nodes have a path of their own, and four leaves with
+//! bytes, two if it has at most 119. So a leaf with an element of up to 47 bytes, which is
+//! hashed after a position of 8 bytes, takes one block, and a parent node, which is hashed as a position and two
+//! digests of 32 bytes, takes two. The lanes are used for four messages of at most 16 blocks each. They take the time of
+//! the longest one, so they are not used if the others are much shorter. Four nodes have a path of their own, and four leaves with
 //! elements of 32 bytes have one, since the padding of all four is the same and nothing has to be copied.
 //! [`hash_four`] takes any four messages, and hashes them one after another otherwise. [`hash_three`] fills the lane that
 //! is left with the last message.
 #![tactic(auto)]
 
-ghost use Rattle.std.specs.Prelude.{◌≡◌, ◌+◌, ◌%◌, ◌<◌, ◌≤◌, ◌++◌, List, IfSome, length, take};
+ghost use Rattle.std.specs.Prelude.{◌≡◌, ◌+◌, ◌-◌, ◌/◌, ◌%◌, ◌^◌, ◌<◌, ◌≤◌, ◌++◌, List, IfSome, length, min, take};
 ghost use Rattle.sha2.specs.Sha256.{sha256};
 ghost use Rattle.merkle_lanes.specs.Lanes.{joined_parts};
 
@@ -36,9 +36,9 @@ mod vectors;
 /// Returns the SHA-256 digests of four messages, in their order. A message is the concatenation of
 /// its parts.
 ///
-/// They are hashed together if with its padding none has more than five blocks, in the time of the longest one, and
-/// one after another otherwise. A message of at most 55 bytes has one block, one of 56 to 119 bytes has
-/// two, one of 248 to 311 bytes has five.
+/// They are hashed together if none has more than 16 blocks with its padding, in the time of the longest one, unless one
+/// after another takes less, as if three have one block and the last has four. A message of at most 55 bytes has one
+/// block, one of 56 to 119 bytes has two, one of 952 to 1,015 bytes has 16.
 ///
 /// # Examples
 ///
@@ -129,7 +129,42 @@ fn hash_within<const N: usize>(
     Some(hash_blocks(&[&first, &second, &third, &fourth], k, l, m, n, most))
 }
 
-// The four digests, together if none of the padded messages has more than five blocks.
+// The number of blocks of a message with its padding; of a message that no memory could hold, some large number.
+fn count_blocks(parts: &[&[u8]]) -> usize
+    ensures { result ≡ min (length (joined_parts parts.now) + 8) (2 ^ 64 - 1) / 64 + 1 }
+{
+    let mut length: usize = 0;
+    for part in parts {
+        length = length.saturating_add(part.len());
+    }
+    length.saturating_add(8) / 64 + 1
+}
+
+// The four digests, together if no padded message has more than 16 blocks, of which `most` is the greatest number.
+// Clearing less room takes less time.
+#[inline]
+fn hash_together(
+    a: &[&[u8]],
+    b: &[&[u8]],
+    c: &[&[u8]],
+    d: &[&[u8]],
+    most: usize,
+) -> Option<([u8; 32], [u8; 32], [u8; 32], [u8; 32])>
+    ensures first { IfSome result (λ all. all.0 ≡ sha256 (joined_parts a.now)) }
+    ensures second { IfSome result (λ all. all.1 ≡ sha256 (joined_parts b.now)) }
+    ensures third { IfSome result (λ all. all.2 ≡ sha256 (joined_parts c.now)) }
+    ensures fourth { IfSome result (λ all. all.3 ≡ sha256 (joined_parts d.now)) }
+{
+    match most {
+        0..=2 => hash_within::<128>(a, b, c, d),
+        3..=4 => hash_within::<256>(a, b, c, d),
+        5..=8 => hash_within::<512>(a, b, c, d),
+        9..=16 => hash_within::<1024>(a, b, c, d),
+        _ => None,
+    }
+}
+
+// The four digests, together unless that takes longer than one after another.
 fn hash_padded(
     a: &[&[u8]],
     b: &[&[u8]],
@@ -141,12 +176,18 @@ fn hash_padded(
     ensures third { result.2 ≡ sha256 (joined_parts c.now) }
     ensures fourth { result.3 ≡ sha256 (joined_parts d.now) }
 {
-    // Clearing the room of two blocks takes less time.
-    if let Some(all) = hash_within::<128>(a, b, c, d) {
-        return all;
-    }
-    if let Some(all) = hash_within::<320>(a, b, c, d) {
-        return all;
+    let (k, l, m, n) = (
+        count_blocks(a),
+        count_blocks(b),
+        count_blocks(c),
+        count_blocks(d),
+    );
+    let most = k.max(l).max(m).max(n);
+    // A block of four lanes takes as long as two blocks one after the other.
+    if k + l + m + n >= 2 * most {
+        if let Some(all) = hash_together(a, b, c, d, most) {
+            return all;
+        }
     }
     (hash(a), hash(b), hash(c), hash(d))
 }
@@ -220,11 +261,15 @@ pub fn hash(parts: &[&[u8]]) -> [u8; 32]
     if let Some((position, left, right)) = node_of(parts) {
         return single::hash_node(position, left, right);
     }
-    // Clearing the room of two blocks takes less time.
-    if let Some(digest) = hash_one_within::<128>(parts) {
-        return digest;
-    }
-    if let Some(digest) = hash_one_within::<320>(parts) {
+    // Clearing less room takes less time.
+    let digest = match count_blocks(parts) {
+        0..=2 => hash_one_within::<128>(parts),
+        3..=4 => hash_one_within::<256>(parts),
+        5..=8 => hash_one_within::<512>(parts),
+        9..=16 => hash_one_within::<1024>(parts),
+        _ => None,
+    };
+    if let Some(digest) = digest {
         return digest;
     }
     hash_long(parts)

@@ -26,10 +26,6 @@ const LEAST_HEIGHT: u32 = 3;
 /// stay small, whatever the range.
 const GREATEST_HEIGHT: u32 = 8;
 
-/// Room for the nodes that are computed together: fewer than the leaves below a node of
-/// [`GREATEST_HEIGHT`].
-const ROOM: usize = 256;
-
 /// Whether the nodes below a node of this height are computed together.
 pub(crate) fn is_put_together(height: u32) -> bool
     ensures { IsTrue result ↔ ((LEAST_HEIGHT ≤ height) × (height ≤ GREATEST_HEIGHT)) }
@@ -141,7 +137,8 @@ fn levels_below<F: Family, H: Hasher<F>>(
     ensures { let h = H.hashing hasher.now in
         IfOk result (λ k. AreListed h F.rule F.MAX_LEAVES (leaf_from h start leaves.now) k.positions.items k.digests.items) }
 {
-    let mut known = Known::with_capacity(alloc, ROOM)?;
+    // The nodes are one fewer than the leaves.
+    let mut known = Known::with_capacity(alloc, 1usize.wrapping_shl(subtree.height))?;
     let nodes = [*subtree];
     put_levels(
         alloc,

@@ -265,17 +265,17 @@ fn lengths_as_sha2(rt: HostRuntime) {
     }
 }
 
-// Each length up to past the five blocks, beside others: one more, far apart, and one block.
+// Each length up to past the 16 blocks, beside others: one more, far apart, and one block.
 #[test]
 fn long_lengths_as_sha2(rt: HostRuntime) {
     let mut seed = 5;
-    let mut messages = [[0u8; 330]; 4];
+    let mut messages = [[0u8; 1030]; 4];
     for message in &mut messages {
         fill(&mut seed, message);
     }
     let [a, b, c, d] = &messages;
-    for n in 0..329 {
+    for n in 0..1029 {
         assert_as_sha2(&rt, &a[..n], &b[..n + 1], &c[..n], &d[..n / 2]);
-        assert_as_sha2(&rt, &a[..n / 6], &b[..328 - n], &c[..n / 3], &d[..n]);
+        assert_as_sha2(&rt, &a[..n / 6], &b[..1028 - n], &c[..n / 3], &d[..n]);
     }
 }

@@ -9,7 +9,7 @@ use std::process::Abort;
 use std::test::Fail;
 
 /// The lengths of the elements, in turn: alike for some, far apart for others, at the borders of the blocks.
-const LENGTHS: [usize; 13] = [32, 47, 48, 0, 111, 112, 250, 303, 304, 400, 1, 175, 176];
+const LENGTHS: [usize; 13] = [32, 47, 48, 0, 111, 112, 250, 303, 304, 1007, 1, 1008, 176];
 
 /// As many leaves, whose elements are the first bytes of `bytes`, with one of the lengths in turn.
 fn leaves_of_lengths<'a>(
@@ -37,7 +37,7 @@ fn assert_digests<H: Hasher<Family>>(
     hasher: &H,
     lengths: &[usize],
 ) -> Result<(), Fail> {
-    let bytes = [7u8; 400];
+    let bytes = [7u8; 1008];
     for count in [0, 1, 3, 4, 5, 9, 63, 64, 65, 67, 68, 130] {
         let leaves = leaves_of_lengths(rt, &bytes, lengths, count)?;
         let mut wanted = vec![in rt.alloc(); hasher.digest(&[])]?;
