@@ -2,8 +2,7 @@
 use Rattle.std.proofs.Common.{◌≡◌, ℕ, ◌+◌, ◌/◌, ◌≤◌, List, ◌++◌, length, take, drop, arith, refl, ap, sym, ◌∙◌, length-append}
 use Rattle.std.proofs.Math.Seq.{drop-append_seam, take-length}
 use Rattle.sha2.specs.Sha256.{compress, digest_bytes, hash_after, initial_hash_256, padded_message, padding, sha256, word_at}
-use Rattle.merkle_lanes.proofs.BlockLemmas.{block_word}
-use Rattle.merkle_lanes.proofs.Words.{padded_word, word_left, word_right}
+use Rattle.merkle_lanes.proofs.Words.{word_in_first_block, word_left, word_right}
 
 -- the padded message is two blocks
 two_blocks : (m : List ℕ) → length m ≡ 64 → length (padded_message m) / 64 ≡ 2
@@ -26,15 +25,15 @@ unfolding sha256 hash_after
 digest_by_halves m s t long es et = rw (et, es, two_blocks m long, second_block m long) refl
 
 module _ (a b : List ℕ) (la : length a ≡ 32) (lb : length b ≡ 32) where
-  in_block : (i : ℕ) → i + 4 ≤ 64 → word_at (take 64 (drop 0 (padded_message (a ++ b)))) i ≡ word_at (a ++ b) (0 + i)
-  in_block i h = block_word (padded_message (a ++ b)) 0 i h ∙ padded_word (a ++ b) (0 + i) (omega (arith, length-append a b, la, lb))
+  in_block : (i : ℕ) → i + 4 ≤ 64 → word_at (a ++ b) (0 + i) ≡ word_at (take 64 (drop 0 (padded_message (a ++ b)))) i
+  in_block i h = word_in_first_block (a ++ b) i (omega (arith, length-append a b, la, lb)) h
 
   -- a word of the first half, as one of the first block
   pub first_half_word : (i : ℕ) → i + 4 ≤ 32 → word_at a i ≡ word_at (take 64 (drop 0 (padded_message (a ++ b)))) i
   first_half_word i h =
       let place : 0 + i ≡ i = omega arith in
-      sym (word_left a b i (omega (arith, la))) ∙ ap (word_at (a ++ b)) (sym place) ∙ sym (in_block i (omega arith))
+      sym (word_left a b i (omega (arith, la))) ∙ ap (word_at (a ++ b)) (sym place) ∙ in_block i (omega arith)
 
   -- a word of the second half
   pub second_half_word : (i : ℕ) → i + 4 ≤ 32 → word_at b i ≡ word_at (take 64 (drop 0 (padded_message (a ++ b)))) (32 + i)
-  second_half_word i h = sym (word_right a b 32 i (0 + (32 + i)) la (omega arith)) ∙ sym (in_block (32 + i) (omega arith))
+  second_half_word i h = sym (word_right a b 32 i (0 + (32 + i)) la (omega arith)) ∙ in_block (32 + i) (omega arith)
