@@ -1,3 +1,4 @@
 pub mod Arguments
 pub mod AsciiLines
+pub mod HexPairs
 pub mod WordRows

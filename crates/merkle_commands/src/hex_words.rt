@@ -4,7 +4,7 @@ ghost use Rattle.std.specs.String.{string_bytes};
 ghost use Rattle.hex.specs.Hex.{decode_of, encode_lower, is_hex_digit};
 ghost use Rattle.merkle_commands.specs.Words.{IsHexWord};
 
-use hex::FromHexError;
+use crate::digits::{are_digits, decode_digits};
 use merkle_base::error::OutOfMemory;
 use std::alloc::Global;
 
@@ -17,17 +17,11 @@ pub enum HexError {
     OutOfMemory,
 }
 
-fn is_digit(byte: u8) -> bool
-    ensures { result ≡ is_hex_digit byte }
-{
-    matches!(byte, b'0'..=b'9' | b'A'..=b'F' | b'a'..=b'f')
-}
-
 /// Whether the word is an even number of hexadecimal digits, of either case. The empty word is.
 pub fn is_hex_word(word: &str) -> bool
     ensures { IsTrue result ↔ IsHexWord word.now }
 {
-    word.len() % 2 == 0 && word.as_bytes().iter().all(|byte| is_digit(*byte))
+    word.len() % 2 == 0 && are_digits(word.as_bytes())
 }
 
 /// Decodes the bytes of a word, two digits for each byte. The empty word has no bytes.
@@ -42,19 +36,14 @@ pub fn read_hex(alloc: Global, word: &str) -> Result<Vec<u8>, HexError>
     ensures spelled { IsHexWord word.now → IsOkUnless result HexError.OutOfMemory }
     ensures syntax { IsErrOf result HexError.Syntax ↔ ¬ (IsHexWord word.now) }
 {
-    match hex::decode(alloc, word) {
-        Ok(bytes) => Ok(bytes),
-        Err(e) => match e {
-            FromHexError::OutOfMemory => {
-                if is_hex_word(word) {
-                    Err(HexError::OutOfMemory)
-                } else {
-                    Err(HexError::Syntax)
-                }
-            }
-            _ => Err(HexError::Syntax),
-        },
+    if !is_hex_word(word) {
+        return Err(HexError::Syntax);
     }
+    let Ok(mut bytes) = vec![in alloc; 0u8; word.len() / 2] else {
+        return Err(HexError::OutOfMemory);
+    };
+    decode_digits(word.as_bytes(), &mut bytes);
+    Ok(bytes)
 }
 
 /// Encodes bytes in lower case digits, two for each byte. [`read_hex`] reads them back.

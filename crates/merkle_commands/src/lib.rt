@@ -2,4 +2,5 @@
 #![tactic(auto)]
 
 pub mod command;
+mod digits;
 pub mod hex_words;
