@@ -1,7 +1,7 @@
 //! Hexadecimal digits, tested and decoded without a branch for each, since whether a digit is a letter cannot be predicted.
-ghost use Rattle.std.specs.Prelude.{◌≡◌, ◌*◌, ◌↔◌, length, IsTrue, true, Some, Ok};
+ghost use Rattle.std.specs.Prelude.{◌≡◌, ◌*◌, ◌<◌, length, slice_index, true, Some, Ok};
 ghost use Rattle.std.specs.List.{AllPass, list_all};
-ghost use Rattle.hex.specs.Hex.{decode_of, hex_digit_value, is_hex_digit};
+ghost use Rattle.hex.specs.Hex.{decode_of, encode_lower, hex_digit_value, is_hex_digit, lower_digits};
 
 /// How many bytes are tested at once.
 const CHUNK: usize = 64;
@@ -57,5 +57,25 @@ pub(crate) fn decode_digits(digits: &[u8], bytes: &mut [u8])
 {
     'bytes: for i in 0..bytes.len() {
         bytes[i] = digit_value(digits[2 * i]) * 16 + digit_value(digits[2 * i + 1]);
+    }
+}
+
+// The lower case digit of a value.
+fn digit_of(value: u8) -> u8
+    requires { value < 16 }
+    ensures { result ≡ slice_index lower_digits value }
+{
+    // `a` stands 39 places after the one that would follow `9`.
+    value + b'0' + u8::from(value > 9) * 39
+}
+
+/// Encodes bytes, each in two lower case digits.
+pub(crate) fn encode_digits(bytes: &[u8], digits: &mut [u8])
+    requires { length digits.old ≡ 2 * length bytes.now }
+    ensures { digits.new ≡ encode_lower bytes.now }
+{
+    'bytes: for i in 0..bytes.len() {
+        digits[2 * i] = digit_of(bytes[i] / 16);
+        digits[2 * i + 1] = digit_of(bytes[i] % 16);
     }
 }
