@@ -394,3 +394,41 @@ fn hex_words(rt: HostRuntime) {
     assert!(rt; is_spelled(rt.alloc(), "00", &[0], "00"));
     assert!(rt; is_spelled(rt.alloc(), "00fFAb", &[0, 255, 171], "00ffab"));
 }
+
+/// The bytes beside those of digits.
+const NO_DIGITS: [&str; 6] = ["/", ":", "@", "G", "`", "g"];
+
+/// Returns a word of so many bytes, all of them the digit `d` but the one at `place`, if there is one there.
+fn word_with(alloc: Global, length: usize, place: usize, byte: &str) -> Result<String, Fail> {
+    let mut word = String::new(alloc);
+    for at in 0..length {
+        word.push_str(if at == place { byte } else { "d" })?;
+    }
+    Ok(word)
+}
+
+/// Whether a word is shown as itself by the bytes that it spells.
+fn is_kept(alloc: Global, word: &str) -> bool {
+    match read_hex(alloc, word) {
+        Ok(bytes) => is_spelled(alloc, word, &bytes, word),
+        Err(_) => false,
+    }
+}
+
+// A word is tested 64 bytes at a time.
+#[test]
+fn long_hex_words(rt: HostRuntime) -> Result<(), Fail> {
+    for length in [62, 64, 66, 126, 128, 130] {
+        let word = word_with(rt.alloc(), length, length, "")?;
+        assert!(rt; is_hex_word(word.as_str()), "{length}");
+        for place in 0..length {
+            for byte in NO_DIGITS {
+                let word = word_with(rt.alloc(), length, place, byte)?;
+                assert!(rt; is_refused(rt.alloc(), word.as_str()), "{word}");
+            }
+            let word = word_with(rt.alloc(), length, place, "0")?;
+            assert!(rt; is_kept(rt.alloc(), word.as_str()), "{word}");
+        }
+    }
+    Ok(())
+}
