@@ -1,11 +1,8 @@
 pub mod PeakLoop
 pub mod RangeRoot
-pub mod ExtractionWalks
 pub mod IndividualPeaks
 pub mod PeakWalk
 pub mod PinWalks
 pub mod PinParts
 pub mod PinChecks
 pub mod LeafDigests
-pub mod InsideNodes
-pub mod InsideLists

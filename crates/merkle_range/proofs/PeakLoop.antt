@@ -1,9 +1,7 @@
 -- A walk over the peaks, oldest first.
-use Rattle.std.proofs.Common.{◌≡◌, ℕ, ◌+◌, ◌<◌, ◌≤◌, List, [], ◌∷◌, ◌++◌, map, take, length, get_or, zero, suc, Bool, reverse, Some, slice_get, arith, refl, ap, sym, ◌∙◌, subst, append-nil, append_assoc, add-one}
+use Rattle.std.proofs.Common.{◌≡◌, ℕ, ◌+◌, ◌<◌, ◌≤◌, List, [], ◌∷◌, ◌++◌, map, Bool, reverse, Some, slice_get, arith, refl, ap, sym, ◌∙◌, subst, append-nil, append_assoc}
 use Rattle.std.specs.List.{flat_map}
 use Rattle.std.proofs.lemmas.List.{map-append}
-use Rattle.merkle_hasher.specs.declared.subtree.Subtree.{Subtree}
-use Rattle.merkle_hasher.specs.Subtrees.{Denotes}
 use Rattle.merkle_root_theory.specs.Plan.{siblings}
 use Rattle.merkle_base.specs.Tree.{Tree, position, height, first_leaf, end_leaf, width}
 use Rattle.merkle_base.specs.Forest.{forest}
@@ -14,7 +12,6 @@ use Rattle.merkle_range.specs.declared.groups.Groups.{Groups}
 use Rattle.merkle_range.specs.GroupedPeaks.{HoldsGroups}
 use Rattle.merkle_root_theory.specs.Range.{wholly_after}
 use Rattle.merkle_hasher.specs.Subtrees.{AreNodes}
-use Rattle.merkle_hasher.specs.Subtrees.{subtree_of}
 use Rattle.merkle_base.proofs.Lists.{cons_head, cons_tail}
 use Rattle.merkle_root_theory.proofs.Walks.{flat_push}
 use Rattle.merkle_root_theory.proofs.PeakGroups.{none_after}
@@ -79,19 +76,6 @@ walk_ends rule m n a b left s g w e = step w.rest w.all (sym e ∙ w.left_is)
     step : (rest : List Tree) → reverse (forest rule n).peaks ≡ w.done ++ rest → [] ≡ map placed rest → HoldsGroups a b g (reverse (forest rule n).peaks)
     step [] all l = subst (HoldsGroups a b g) (sym (all ∙ append-nil w.done)) w.held
     step (t ∷ ts) all l = absurd (cc)
-
--- element i of the subtrees of some nodes means node i
-pub element_means : {F : Type 0} (rule : List ℕ → List ℕ) (m : ℕ) (xs : List (Subtree F)) (ts : List Tree) → xs ≡ map subtree_of ts → AreNodes rule m ts → (i : ℕ) → i < length xs → (d : Subtree F)
-    → (t : Tree) × Denotes rule m (get_or xs i d) t × (take (i + 1) ts ≡ take i ts ++ t ∷ [])
-element_means {F = F} rule m xs ts e h i l d = subst (λ ys. (i < length ys) → (t : Tree) × Denotes rule m (get_or ys i d) t × (take (i + 1) ts ≡ take i ts ++ t ∷ [])) (sym e) (step ts i h) l
-  where
-    one : (t : Tree) (ts : List Tree) → take (0 + 1) (t ∷ ts) ≡ take 0 (t ∷ ts) ++ t ∷ []
-    one t ts = refl
-
-    step : (ts : List Tree) (i : ℕ) → AreNodes rule m ts → i < length (map (subtree_of {F = F}) ts) → (t : Tree) × Denotes rule m (get_or (map subtree_of ts) i d) t × (take (i + 1) ts ≡ take i ts ++ t ∷ [])
-    step [] i h l = absurd (omega arith)
-    step (t ∷ ts) zero h l = (t, record { at = h.0; height_is = refl; first_is = refl }, one t ts)
-    step (t ∷ ts) (suc i) h l = let w = step ts i h.1 (omega arith) in (w.0, w.1, ap (λ n. take n (t ∷ ts)) (add-one (suc i)) ∙ ap (λ z. t ∷ z) (ap (λ n. take n ts) (sym (add-one i)) ∙ w.2))
 
 -- the siblings of one more tree
 pub more_siblings : (c : ℕ → Bool) (ts us : List Tree) (t : Tree) (out xs ys : List ℕ) → us ≡ ts ++ t ∷ [] → xs ≡ out ++ map position (flat_map (siblings c) ts) → ys ≡ xs ++ map position (siblings c t) → ys ≡ out ++ map position (flat_map (siblings c) us)

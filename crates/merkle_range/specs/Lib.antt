@@ -3,5 +3,3 @@ pub mod GroupedPeaks
 pub mod Input
 pub mod PinnedParts
 pub mod Positioned
-pub mod Inside
-pub mod InsidePairs

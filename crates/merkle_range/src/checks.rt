@@ -10,20 +10,20 @@ ghost use Rattle.merkle_root_theory.specs.Reconstruction.{range_refusals, recons
 ghost use Rattle.merkle_hasher.specs.Subtrees.{AreNodes, subtree_of};
 ghost use Rattle.merkle_root_theory.specs.Walk.{bytes_of, leaf_from, ArePeaksWalked, ArePeakDigests};
 ghost use Rattle.merkle_range.specs.Input.{range_input, IsComputed};
-ghost use Rattle.merkle_range.specs.Inside.{AreKnown};
+ghost use Rattle.merkle_reconstruction.specs.Inside.{AreKnown};
 
-use crate::collector::{Collector, Unlisted};
 use crate::extraction::{put_after, put_before};
 use crate::groups::Groups;
-use crate::inside::digests_inside;
-use crate::known::Known;
 use crate::leaves::push_leaf_digests;
-use crate::siblings::reconstruct_digest;
 use merkle_base::error::{OutOfMemory, ReconstructionError};
 use merkle_base::family::Family;
 use merkle_base::location::Location;
 use merkle_hasher::hasher::Hasher;
 use merkle_hasher::subtree::Subtree;
+use merkle_reconstruction::collector::{Collector, Unlisted};
+use merkle_reconstruction::inside::digests_inside;
+use merkle_reconstruction::known::Known;
+use merkle_reconstruction::siblings::reconstruct_digest;
 use std::alloc::Global;
 use std::ops::Range;
 

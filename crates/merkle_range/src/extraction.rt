@@ -13,7 +13,6 @@ ghost use Rattle.merkle_range.specs.GroupedPeaks.{HoldsGroups};
 ghost use Rattle.merkle_range.specs.Input.{range_input, IsComputed};
 
 use crate::checks::{ProofParts, reconstruct_empty_root, reconstruct_root_into};
-use crate::collector::Collector;
 use crate::groups::Groups;
 use crate::layout::Layout;
 use merkle_base::error::{Error, ReconstructionError};
@@ -22,6 +21,7 @@ use merkle_base::location::Location;
 use merkle_base::position::Position;
 use merkle_digest::digest::Digest;
 use merkle_hasher::hasher::Hasher;
+use merkle_reconstruction::collector::Collector;
 use std::alloc::AllocError;
 
 /// Checks that the elements lead to `root`, and returns the digests of the nodes that the check

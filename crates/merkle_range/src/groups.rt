@@ -13,11 +13,11 @@ ghost use Rattle.merkle_range.specs.GroupedPeaks.{HoldsGroups};
 ghost use Rattle.merkle_root_theory.specs.Reads.{nodes_read};
 
 use crate::layout::Layout;
-use crate::siblings::collect_siblings;
 use merkle_base::family::{Bagging, Family};
 use merkle_base::location::Location;
 use merkle_base::position::Position;
 use merkle_hasher::subtree::Subtree;
+use merkle_reconstruction::siblings::collect_siblings;
 use std::alloc::{AllocError, Global};
 use std::ops::Range;
 

@@ -16,7 +16,6 @@ ghost use Rattle.merkle_range.specs.PinnedParts.{IsBeforeRebuilt};
 
 use crate::checks::{ProofParts, verify_range};
 use crate::groups::Groups;
-use crate::known::digest_at;
 use crate::peaks::peak_subtrees;
 use merkle_base::error::OutOfMemory;
 use merkle_base::family::Family;
@@ -25,6 +24,7 @@ use merkle_base::position::Position;
 use merkle_digest::digest::Digest;
 use merkle_hasher::hasher::Hasher;
 use merkle_hasher::subtree::Subtree;
+use merkle_reconstruction::known::digest_at;
 use std::alloc::{AllocError, Global};
 use std::ops::Range;
 

@@ -1,4 +1,0 @@
-use Rattle.merkle_range.proofs.below.+put_levels.Given as goal
-
-abbrev pub decreases-put_levels : goal.decreases-put_levels
-decreases-put_levels g l = l.height

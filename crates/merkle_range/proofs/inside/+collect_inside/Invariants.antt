@@ -1,4 +1,0 @@
-use Rattle.merkle_range.proofs.inside.+collect_inside.Given as goal
-
-abbrev pub decreases-collect_inside : goal.decreases-collect_inside
-decreases-collect_inside g l = l.subtree.now.height

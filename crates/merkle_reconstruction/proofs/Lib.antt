@@ -1,0 +1,4 @@
+pub mod ExtractionWalks
+pub mod NodeElements
+pub mod InsideNodes
+pub mod InsideLists

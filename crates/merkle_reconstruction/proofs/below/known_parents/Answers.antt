@@ -1,0 +1,18 @@
+use Rattle.std.proofs.Common.{◌≢◌, arith}
+use Rattle.merkle_reconstruction.proofs.InsideNodes.{inside_join, digest_over}
+use Rattle.merkle_reconstruction.proofs.InsideLists.{all_item, all_pushed}
+use Rattle.merkle_reconstruction.proofs.below.known_parents.Goals as goal
+
+pub children-left-requires : goal.children-left-requires
+children-left-requires g c =
+    let n = c.requires in
+    let w = all_item _ c.args.nodes.now n.4 c.loop-node.node-index c.loop-node-test.true c.node-item.result c.node-item.is in
+    inside_join _ _ n.0 n.1 c.node-item.result w.0 (omega (arith, w.1, n.3))
+
+pub loop-node-preserved : goal.loop-node-preserved
+loop-node-preserved g c = λ h leaf listed.
+    let n = c.requires in
+    let w = all_item _ c.args.nodes.now n.4 c.loop-node.node-index c.loop-node-test.true c.node-item.result c.node-item.is in
+    let parent : c.node-item.result.height ≢ 0 = omega (arith, w.1, n.3) in
+    all_pushed _ _ _ _ c.in_ok-push.ensures.items (c.loop-node.invariant h leaf listed)
+    (digest_over _ _ h leaf c.node-item.result c.children-left.result.0 c.children-left.result.1 c.children-left.ensures w.0.0 w.0.1.0 parent _ _ (c.in-Some.ensures h leaf listed) (c.in-Some-get_from_end.ensures h leaf listed))
