@@ -1,4 +1,4 @@
-//! Hexadecimal digits, tested and decoded without a branch for each, since whether a digit is a letter cannot be predicted.
+//! Hexadecimal digits, tested, decoded and encoded without a branch for each, since whether a digit is a letter cannot be predicted.
 ghost use Rattle.std.specs.Prelude.{◌≡◌, ◌*◌, ◌<◌, length, slice_index, true, Some, Ok};
 ghost use Rattle.std.specs.List.{AllPass, list_all};
 ghost use Rattle.hex.specs.Hex.{decode_of, encode_lower, hex_digit_value, is_hex_digit, lower_digits};
@@ -46,6 +46,7 @@ fn digit_value(digit: u8) -> u8
     requires digit { is_hex_digit digit ≡ true }
     ensures { hex_digit_value digit ≡ Some result }
 {
+    // The last four bits, and 9 more for a letter.
     digit % 16 + digit / 64 * 9
 }
 
@@ -65,7 +66,7 @@ fn digit_of(value: u8) -> u8
     requires { value < 16 }
     ensures { result ≡ slice_index lower_digits value }
 {
-    // `a` stands 39 places after the one that would follow `9`.
+    // The byte of `a` is 39 more than the one after that of `9`.
     value + b'0' + u8::from(value > 9) * 39
 }
 

@@ -407,7 +407,7 @@ fn word_with(alloc: Global, length: usize, place: usize, byte: &str) -> Result<S
     Ok(word)
 }
 
-/// Whether a word is shown as itself by the bytes that it spells.
+/// Whether a word is decoded, and its bytes are encoded as the same word.
 fn is_kept(alloc: Global, word: &str) -> bool {
     match read_hex(alloc, word) {
         Ok(bytes) => is_spelled(alloc, word, &bytes, word),
