@@ -9,11 +9,10 @@
 //! A message is hashed with its padding, in blocks of 64 bytes: one block if it has at most 55
 //! bytes, two if it has at most 119. So a leaf with an element of up to 47 bytes, which is
 //! hashed after a position of 8 bytes, takes one block, and a parent node, which is hashed as a position and two
-//! digests of 32 bytes, takes two. The lanes are used for four messages of at most 16 blocks each. They take the time of
-//! the longest one, so they are not used if the others are much shorter. Four nodes have a path of their own, and four leaves with
+//! digests of 32 bytes, takes two. Four messages of at most 16 blocks each are hashed in the lanes, in the time of the
+//! longest one, or one after another if the others are much shorter. Four nodes have a path of their own, and four leaves with
 //! elements of 32 bytes have one, since the padding of all four is the same and nothing has to be copied.
-//! [`hash_four`] takes any four messages, and hashes them one after another otherwise. [`hash_three`] fills the lane that
-//! is left with the last message.
+//! [`hash_four`] takes any four messages. [`hash_three`] fills the lane that is left with the last message.
 #![tactic(auto)]
 
 ghost use Rattle.std.specs.Prelude.{◌≡◌, ◌+◌, ◌-◌, ◌/◌, ◌%◌, ◌^◌, ◌<◌, ◌≤◌, ◌++◌, List, IfSome, length, min, take};
@@ -36,9 +35,9 @@ mod vectors;
 /// Returns the SHA-256 digests of four messages, in their order. A message is the concatenation of
 /// its parts.
 ///
-/// They are hashed together if none has more than 16 blocks with its padding, in the time of the longest one, unless one
-/// after another takes less, as if three have one block and the last has four. A message of at most 55 bytes has one
-/// block, one of 56 to 119 bytes has two, one of 952 to 1,015 bytes has 16.
+/// They are hashed together, in the time of the longest one, if none has more than 16 blocks with its padding and all
+/// together have at least twice as many as the longest; else one after another, as if three have one block and the last
+/// has four. A message of at most 55 bytes has one block, one of 56 to 119 bytes has two, one of 952 to 1,015 bytes has 16.
 ///
 /// # Examples
 ///
@@ -104,8 +103,8 @@ pub fn hash_three(a: &[&[u8]], b: &[&[u8]], c: &[&[u8]]) -> ([u8; 32], [u8; 32],
     (hash(a), hash(b), hash(c))
 }
 
-// The four digests, together if each padded message has at most N bytes. It is not inlined, since a function
-// clears its memory when it begins, and nodes and leaves need none of this.
+// The four digests, together if each padded message has at most N bytes. It is not inlined, so that its callers, which
+// hash nodes and leaves too, don't have its room on the stack.
 #[inline(never)]
 fn hash_within<const N: usize>(
     a: &[&[u8]],
@@ -140,7 +139,7 @@ fn count_blocks(parts: &[&[u8]]) -> usize
     length.saturating_add(8) / 64 + 1
 }
 
-// The four digests, together if no padded message has more than 16 blocks, of which `most` is the greatest number.
+// The four digests, together if no padded message has more than 16 blocks; `most` is the greatest number of blocks.
 // Clearing less room takes less time.
 #[inline]
 fn hash_together(
@@ -183,7 +182,7 @@ fn hash_padded(
         count_blocks(d),
     );
     let most = k.max(l).max(m).max(n);
-    // A block of four lanes takes as long as two blocks one after the other.
+    // A block of four lanes takes about as long as two blocks one after the other.
     if k + l + m + n >= 2 * most {
         if let Some(all) = hash_together(a, b, c, d, most) {
             return all;
