@@ -104,6 +104,13 @@ pub trait PlainHasher {
         let (third, fourth) = Self::hash_pair(c, d);
         (first, second, third, fourth)
     }
+
+    /// Returns whether [`hash_four`](PlainHasher::hash_four) takes less time than four calls of
+    /// [`hash`](PlainHasher::hash); `false` without one of its own. Callers may arrange messages in
+    /// fours if it does. No digest depends on it.
+    fn hashes_together() -> bool {
+        false
+    }
 }
 
 /// A SHA-256 digest: any 32 bytes.
@@ -203,6 +210,12 @@ impl PlainHasher for Sha256Plain {
             Sha256Digest { bytes: third },
             Sha256Digest { bytes: fourth },
         )
+    }
+
+    fn hashes_together() -> bool
+        ensures { IsTrue result }
+    {
+        true
     }
 }
 

@@ -78,6 +78,10 @@ impl<F: Family> Hasher<F> for Counting<'_> {
         self.plain().leaf_digest(position, element)
     }
 
+    fn hashes_together(&self) -> bool {
+        true
+    }
+
     fn digest(&self, bytes: &[u8]) -> Xor8Digest {
         self.plain().digest(bytes)
     }

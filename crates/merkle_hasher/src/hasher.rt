@@ -117,6 +117,14 @@ pub trait Hasher<F: Family>: Clone {
         (first, second, third, fourth)
     }
 
+    /// Returns whether four digests take less time by
+    /// [`node_digests_four`](Hasher::node_digests_four) and
+    /// [`leaf_digests_four`](Hasher::leaf_digests_four) than one by one; `false` without one of its
+    /// own. Callers may arrange nodes and leaves in fours if they do. No digest depends on it.
+    fn hashes_together(&self) -> bool {
+        false
+    }
+
     /// Returns the digest of `bytes`.
     fn digest(&self, bytes: &[u8]) -> Self::Digest
         ensures { result ≡ (hashing self.now).hash bytes.now };
@@ -570,6 +578,10 @@ impl<F: Family, H: PlainHasher> Hasher<F> for Standard<H> {
         )
     }
 
+    fn hashes_together(&self) -> bool {
+        H::hashes_together()
+    }
+
     fn digest(&self, bytes: &[u8]) -> H::Digest {
         Standard::digest(self, bytes)
     }
@@ -643,6 +655,10 @@ impl<F: Family, T: Hasher<F>> Hasher<F> for &T {
         leaves: &[(Position<F>, &[u8])],
     ) -> (T::Digest, T::Digest, T::Digest, T::Digest) {
         (**self).leaf_digests_four(leaves)
+    }
+
+    fn hashes_together(&self) -> bool {
+        (**self).hashes_together()
     }
 
     fn digest(&self, bytes: &[u8]) -> T::Digest {

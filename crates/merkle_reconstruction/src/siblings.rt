@@ -86,7 +86,11 @@ pub fn reconstruct_digest<F: Family, H: Hasher<F>, C: Collector<F, H::Digest>>(
             return Ok(digest);
         }
     }
-    if out.keeps() && is_put_together(subtree.height) && is_inside(subtree, range) {
+    if out.keeps()
+        && hasher.hashes_together()
+        && is_put_together(subtree.height)
+        && is_inside(subtree, range)
+    {
         let Ok(digest) = put_together(alloc, subtree, hasher, range.start, leaves, out) else {
             return Err(ReconstructionError::OutOfMemory);
         };
