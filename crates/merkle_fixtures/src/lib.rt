@@ -1,11 +1,13 @@
-//! Families and a hasher for tests and programs that exercise generic code.
+//! Families and hashers for tests and programs that exercise generic code.
 //!
 //! Generic code is proved from its bounds alone. These are types that the crates with that code do
 //! not know: [`flat`] and [`pairs`] are families with small limits, [`keyed`] is a hasher whose
-//! digests depend on its value, and [`counting`] one that counts its calls.
+//! digests depend on its value, [`counting`] one that counts its calls for nodes, and [`fours`] one
+//! that counts those for leaves.
 #![tactic(auto)]
 
 pub mod counting;
 pub mod flat;
+pub mod fours;
 pub mod keyed;
 pub mod pairs;

@@ -1,4 +1,5 @@
 mod counting;
+mod fours;
 mod lanes;
 mod leaves;
 mod nodes;

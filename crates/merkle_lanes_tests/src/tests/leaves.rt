@@ -12,7 +12,7 @@ use std::test::Fail;
 const LENGTHS: [usize; 13] = [32, 47, 48, 0, 111, 112, 250, 303, 304, 1007, 1, 1008, 176];
 
 /// As many leaves, whose elements are the first bytes of `bytes`, with one of the lengths in turn.
-fn leaves_of_lengths<'a>(
+pub fn leaves_of_lengths<'a>(
     rt: &(impl Abort + AllocGlobal),
     bytes: &'a [u8],
     lengths: &[usize],
