@@ -105,9 +105,9 @@ pub trait PlainHasher {
         (first, second, third, fourth)
     }
 
-    /// Returns whether [`hash_four`](PlainHasher::hash_four) takes less time than four calls of
-    /// [`hash`](PlainHasher::hash); `false` without one of its own. Callers may arrange messages in
-    /// fours if it does. No digest depends on it.
+    /// Returns whether [`hash_four`](PlainHasher::hash_four) can take less time than four calls of
+    /// [`hash`](PlainHasher::hash). The default is `false`. Callers may arrange messages in groups of
+    /// four if it can. No digest depends on it.
     fn hashes_together() -> bool {
         false
     }

@@ -78,6 +78,7 @@ impl<F: Family> Hasher<F> for Counting<'_> {
         self.plain().leaf_digest(position, element)
     }
 
+    // It computes nothing faster; it is to be called as a hasher that does.
     fn hashes_together(&self) -> bool {
         true
     }

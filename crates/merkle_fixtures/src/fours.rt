@@ -1,4 +1,4 @@
-//! A hasher that counts how leaves are computed.
+//! A hasher that counts its calls for four leaves, for one leaf and for one node.
 ghost use Rattle.std.specs.Prelude.{◌≡◌, ◌∷◌, [], length, map};
 ghost use Rattle.std.proofs.Common.{refl, rules};
 ghost use Rattle.merkle_base.specs.declared.family.Bagging.{Bagging};
@@ -10,17 +10,19 @@ use merkle_digest::digest::{Xor8, Xor8Digest};
 use merkle_hasher::hasher::{Hasher, Standard};
 use std::cell::Cell;
 
-/// A hasher that counts the calls for four leaves and for one. It folds peaks from left to right.
+/// A hasher that counts its calls for four leaves, for one leaf and for one node. It folds peaks from left to right.
 #[derive(Clone, Copy)]
 pub struct Fours<'a> {
     /// Whether it says that it computes four digests together.
     pub together: bool,
-    /// The number of fours of leaves whose elements have one length.
-    pub alike: &'a Cell<u64>,
-    /// The number of other fours of leaves.
-    pub unlike: &'a Cell<u64>,
-    /// The number of leaves that were computed alone.
-    pub singles: &'a Cell<u64>,
+    /// The number of calls for four leaves with elements of equal length.
+    pub equal: &'a Cell<u64>,
+    /// The number of other calls for four leaves.
+    pub unequal: &'a Cell<u64>,
+    /// The number of calls for one leaf.
+    pub leaves: &'a Cell<u64>,
+    /// The number of calls for one node.
+    pub nodes: &'a Cell<u64>,
 }
 
 fn plain() -> Standard<Xor8>
@@ -33,8 +35,8 @@ fn count(calls: &Cell<u64>) {
     calls.set(calls.get().wrapping_add(1));
 }
 
-// Whether all elements have one length.
-fn are_alike<F>(leaves: &[(Position<F>, &[u8])]) -> bool {
+// Whether all elements have the same length.
+fn have_equal_lengths<F>(leaves: &[(Position<F>, &[u8])]) -> bool {
     let Some((first, others)) = leaves.split_first() else {
         return true;
     };
@@ -71,6 +73,7 @@ impl<F: Family> Hasher<F> for Fours<'_> {
     ) -> Xor8Digest
         ensures { result ≡ (⟦<Standard<Xor8> as Hasher<F>>⟧.hashing Bagging.ForwardFold).node position left.now right.now }
     {
+        count(self.nodes);
         plain().node_digest(position, left, right)
     }
 
@@ -87,7 +90,7 @@ impl<F: Family> Hasher<F> for Fours<'_> {
     fn leaf_digest(&self, position: Position<F>, element: &[u8]) -> Xor8Digest
         ensures { result ≡ (⟦<Standard<Xor8> as Hasher<F>>⟧.hashing Bagging.ForwardFold).leaf position element.now }
     {
-        count(self.singles);
+        count(self.leaves);
         plain().leaf_digest(position, element)
     }
 
@@ -99,10 +102,10 @@ impl<F: Family> Hasher<F> for Fours<'_> {
         ensures { map (λ l. (⟦<Standard<Xor8> as Hasher<F>>⟧.hashing Bagging.ForwardFold).leaf l.0 l.1.now) leaves.now
             ≡ result.0 ∷ result.1 ∷ result.2 ∷ result.3 ∷ [] }
     {
-        if are_alike(leaves) {
-            count(self.alike);
+        if have_equal_lengths(leaves) {
+            count(self.equal);
         } else {
-            count(self.unlike);
+            count(self.unequal);
         }
         plain().leaf_digests_four(leaves)
     }

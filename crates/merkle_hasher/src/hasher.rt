@@ -117,10 +117,10 @@ pub trait Hasher<F: Family>: Clone {
         (first, second, third, fourth)
     }
 
-    /// Returns whether four digests take less time by
+    /// Returns whether four digests can take less time by
     /// [`node_digests_four`](Hasher::node_digests_four) and
-    /// [`leaf_digests_four`](Hasher::leaf_digests_four) than one by one; `false` without one of its
-    /// own. Callers may arrange nodes and leaves in fours if they do. No digest depends on it.
+    /// [`leaf_digests_four`](Hasher::leaf_digests_four) than one by one. The default is `false`. Callers
+    /// may arrange nodes and leaves in groups of four if they can. No digest depends on it.
     fn hashes_together(&self) -> bool {
         false
     }

@@ -9,58 +9,64 @@ use std::cell::Cell;
 use std::process::Abort;
 use std::test::Fail;
 
-/// Asserts how many fours of leaves are alike, how many are not, and how many leaves are computed alone, for as
-/// many leaves, whose elements have one of some lengths in turn.
-fn assert_counts(
+/// Asserts how many groups of four leaves have elements of equal length, how many have not, and how many leaves are
+/// computed one by one, for as many leaves, whose elements have one of some lengths in turn; and that the digests are
+/// those one by one.
+fn assert_groups(
     rt: &(impl Abort + AllocGlobal),
     together: bool,
     lengths: &[usize],
     count: usize,
     expected: (u64, u64, u64),
 ) -> Result<(), Fail> {
-    let (alike, unlike, singles) = (Cell::new(0), Cell::new(0), Cell::new(0));
+    let (equal, unequal) = (Cell::new(0), Cell::new(0));
+    let (single, nodes) = (Cell::new(0), Cell::new(0));
     let hasher = Fours {
         together,
-        alike: &alike,
-        unlike: &unlike,
-        singles: &singles,
+        equal: &equal,
+        unequal: &unequal,
+        leaves: &single,
+        nodes: &nodes,
     };
     let bytes = [7u8; 2000];
     let leaves = leaves_of_lengths(rt, &bytes, lengths, count)?;
     let mut digests = Vec::new(rt.alloc());
     leaf_digests::<Family, _>(&hasher, &leaves, &mut digests)?;
     assert_eq!(rt;
-        (alike.get(), unlike.get(), singles.get()),
+        (equal.get(), unequal.get(), single.get()),
         expected,
         "{count} leaves"
     );
+    let mut wanted = Vec::new(rt.alloc());
+    for leaf in &leaves {
+        wanted.push(hasher.leaf_digest(leaf.0, leaf.1))?;
+    }
+    assert!(rt; digests == wanted, "{count} leaves");
     Ok(())
 }
 
-// Every second element is longer by a block. In the order of the lengths 16 fours have alike elements.
+// Every second element is longer by a block. In the order of the lengths 16 groups of four have equal ones.
 #[test]
-fn fours_of_similar_lengths(rt: HostRuntime) -> Result<(), Fail> {
-    assert_counts(&rt, true, &[32, 100], 64, (16, 0, 0))?;
-    assert_counts(&rt, true, &[32, 100], 130, (32, 0, 2))?;
-    assert_counts(&rt, true, &[32, 100], 62, (14, 1, 2))?;
-    assert_counts(&rt, false, &[32, 100], 64, (0, 16, 0))
+fn leaves_of_equal_lengths_together(rt: HostRuntime) -> Result<(), Fail> {
+    assert_groups(&rt, true, &[32, 100], 64, (16, 0, 0))?;
+    assert_groups(&rt, true, &[32, 100], 130, (32, 0, 2))?;
+    assert_groups(&rt, true, &[32, 100], 62, (14, 1, 2))?;
+    assert_groups(&rt, true, &[1100, 32], 64, (16, 0, 0))
 }
 
-// Leaves are computed in their own order where another one saves no time: at most four, fours that are alike already,
-// elements that are too long to be hashed together, and three short ones beside one that is long.
+// In the order of the lengths each of these would have a group more with elements of equal length. That saves less time than
+// the sorting takes, or none: leaves with 1,100 bytes have too many blocks to be hashed together.
 #[test]
-fn fours_in_the_order_of_the_leaves(rt: HostRuntime) -> Result<(), Fail> {
-    assert_counts(&rt, true, &[32, 100], 4, (0, 1, 0))?;
-    assert_counts(
-        &rt,
-        true,
-        &[32, 32, 32, 32, 100, 100, 100, 100],
-        64,
-        (16, 0, 0),
-    )?;
-    assert_counts(&rt, true, &[1100, 2000], 64, (0, 16, 0))?;
-    assert_counts(&rt, true, &[500], 67, (16, 0, 3))?;
-    assert_counts(&rt, true, &[32, 32, 32, 32, 32, 32, 32, 500], 8, (1, 1, 0))
+fn leaves_in_their_own_order(rt: HostRuntime) -> Result<(), Fail> {
+    assert_groups(&rt, true, &[100, 32, 32, 32], 8, (0, 2, 0))?;
+    assert_groups(&rt, true, &[32, 32, 32, 500], 8, (0, 2, 0))?;
+    assert_groups(&rt, true, &[1100, 32], 8, (0, 2, 0))
+}
+
+// A hasher that computes digests one by one is given the leaves in their own order.
+#[test]
+fn leaves_one_by_one_in_their_own_order(rt: HostRuntime) -> Result<(), Fail> {
+    assert_groups(&rt, false, &[32, 100], 64, (0, 16, 0))
 }
 
 #[test]

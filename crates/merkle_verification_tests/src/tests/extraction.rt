@@ -8,6 +8,7 @@ use merkle_core::mem::Mem;
 use merkle_core::position::Position;
 use merkle_core::{mmb, mmr};
 use merkle_fixtures::counting::Counting;
+use merkle_fixtures::fours::Fours;
 use std::alloc::{AllocError, Global};
 use std::cell::Cell;
 use std::process::Abort;
@@ -171,6 +172,40 @@ fn nodes_in_pairs(rt: HostRuntime) -> Result<(), Fail> {
     assert_eq!(rt; found.len() as u64, count_of_range(&structure, 0, 256));
     assert_eq!(rt; (pairs.get(), singles.get()), (127, 3));
     Ok(())
+}
+
+/// Asserts how many nodes are computed by themselves where the first 256 of 1024 leaves are extracted.
+fn assert_single_nodes(
+    rt: &(impl Abort + AllocGlobal),
+    together: bool,
+    expected: u64,
+) -> Result<(), Fail> {
+    let (equal, unequal) = (Cell::new(0), Cell::new(0));
+    let (leaves, nodes) = (Cell::new(0), Cell::new(0));
+    let hasher = Fours {
+        together,
+        equal: &equal,
+        unequal: &unequal,
+        leaves: &leaves,
+        nodes: &nodes,
+    };
+    let plain = Standard::<Xor8>::new(Bagging::ForwardFold);
+    let element = [7u8];
+    let all = repeated(rt.alloc(), &element, LEAVES)?;
+    let structure = structure_of::<mmr::Family, Xor8>(rt.alloc(), &plain, &all);
+    let structure = structure.expect(rt, "no refusal");
+    let found = extracted(rt.alloc(), &structure, &hasher, 0, 256).expect(rt, "no refusal");
+    assert_eq!(rt; found.len() as u64, count_of_range(&structure, 0, 256));
+    assert_eq!(rt; nodes.get(), expected);
+    Ok(())
+}
+
+// The same nodes by a hasher that says whether it computes four digests together: if not, each of the 257 is computed by
+// itself.
+#[test]
+fn nodes_one_by_one(rt: HostRuntime) -> Result<(), Fail> {
+    assert_single_nodes(&rt, true, 3)?;
+    assert_single_nodes(&rt, false, 257)
 }
 
 // Eight leaves of the Mountain Range have the peak 14, over 13 and 6, 6 over 5 and 2, and so on.
