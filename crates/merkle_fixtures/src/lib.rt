@@ -3,7 +3,7 @@
 //! Generic code is proved from its bounds alone. These are types that the crates with that code do
 //! not know: [`flat`] and [`pairs`] are families with small limits, [`keyed`] is a hasher whose
 //! digests depend on its value, [`counting`] one that counts its calls for nodes, and [`fours`] one
-//! that counts those for leaves and says what it is told of hashing four together.
+//! that counts its calls for leaves too, and whose `hashes_together` can be chosen.
 #![tactic(auto)]
 
 pub mod counting;

@@ -10,8 +10,8 @@ use std::process::Abort;
 use std::test::Fail;
 
 /// Asserts how many groups of four leaves have elements of equal length, how many have not, and how many leaves are
-/// computed one by one, for as many leaves, whose elements have one of some lengths in turn; and that the digests are
-/// those one by one.
+/// computed one by one, for `count` leaves, whose elements have one of some lengths in turn; and that the digests, and
+/// their capacity, are those of leaves one by one.
 fn assert_groups(
     rt: &(impl Abort + AllocGlobal),
     together: bool,
@@ -28,7 +28,7 @@ fn assert_groups(
         leaves: &single,
         nodes: &nodes,
     };
-    let bytes = [7u8; 2000];
+    let bytes = [7u8; 1100];
     let leaves = leaves_of_lengths(rt, &bytes, lengths, count)?;
     let mut digests = Vec::new(rt.alloc());
     leaf_digests::<Family, _>(&hasher, &leaves, &mut digests)?;
@@ -42,10 +42,11 @@ fn assert_groups(
         wanted.push(hasher.leaf_digest(leaf.0, leaf.1))?;
     }
     assert!(rt; digests == wanted, "{count} leaves");
+    assert_eq!(rt; digests.capacity(), wanted.capacity(), "{count} leaves");
     Ok(())
 }
 
-// Every second element is longer by a block. In the order of the lengths 16 groups of four have equal ones.
+// Every second element is longer. In the order of the lengths all groups of four but at most one have equal ones.
 #[test]
 fn leaves_of_equal_lengths_together(rt: HostRuntime) -> Result<(), Fail> {
     assert_groups(&rt, true, &[32, 100], 64, (16, 0, 0))?;
@@ -54,8 +55,8 @@ fn leaves_of_equal_lengths_together(rt: HostRuntime) -> Result<(), Fail> {
     assert_groups(&rt, true, &[1100, 32], 64, (16, 0, 0))
 }
 
-// In the order of the lengths each of these would have a group more with elements of equal length. That saves less time than
-// the sorting takes, or none: leaves with 1,100 bytes have too many blocks to be hashed together.
+// In the order of the lengths each of these would have at least one group more with elements of equal length. That saves no
+// more time than the sorting takes: leaves with 1,100 bytes have too many blocks to be hashed together.
 #[test]
 fn leaves_in_their_own_order(rt: HostRuntime) -> Result<(), Fail> {
     assert_groups(&rt, true, &[100, 32, 32, 32], 8, (0, 2, 0))?;

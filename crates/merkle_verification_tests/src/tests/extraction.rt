@@ -174,7 +174,7 @@ fn nodes_in_pairs(rt: HostRuntime) -> Result<(), Fail> {
     Ok(())
 }
 
-/// Asserts how many nodes are computed by themselves where the first 256 of 1024 leaves are extracted.
+/// Asserts how many nodes are computed by themselves where the first 256 of 1,100 leaves are extracted.
 fn assert_single_nodes(
     rt: &(impl Abort + AllocGlobal),
     together: bool,
