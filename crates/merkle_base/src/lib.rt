@@ -13,4 +13,5 @@ pub mod location;
 pub mod number;
 pub mod pins;
 pub mod position;
+pub mod room;
 mod work;
