@@ -18,6 +18,7 @@ fn replace_all<F: Family, D: Digest>(held: &mut HeldNodes<F, D>, overwrites: &Ov
     ensures capacity { held.new.capacity ≡ held.old.capacity }
     ensures stored { (p : ℕ) → get held.new.stored p ≡ overwritten_by (get overwrites.now p) (get held.old.stored p) }
 {
+    // Read for the prover alone.
     let _len = overwrites.nodes.len();
     for (position, digest) in &overwrites.nodes {
         held.replace(*position, *digest);

@@ -1,4 +1,4 @@
-//! The hash values of N messages with the same number of blocks, that of message j in lane j.
+//! The hash values of N messages after the same number of blocks of each, that of message j in lane j.
 
 ghost use Rattle.std.specs.Prelude.{◌≡◌, ℕ, ◌+◌, ◌*◌, ◌<◌, ◌≤◌, slice_index, length};
 ghost use Rattle.sha2.specs.Sha256.{digest_bytes, hash_after, initial_hash_256, word_at};

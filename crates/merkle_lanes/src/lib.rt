@@ -1,18 +1,19 @@
-//! SHA-256 of four messages at once, in the lanes of 32-bit vectors.
+//! SHA-256 of one message, and of four at once, in the lanes of 32-bit vectors.
 //!
 //! SHA-256 is a chain of sums and bit operations on 32-bit words, each of which needs the one
-//! before, so that one message leaves most of a processor idle. Here each word is a vector of four
-//! lanes, lane j has the word of message j, and each operation does the work of four messages. The
-//! steps are those of FIPS 180-4, lane by lane. The digests are those of the library `sha2`, and
-//! are proved to be.
+//! before, so that one message leaves most of a processor idle. In [`hash_four`] each word is a vector of four
+//! lanes, lane j has the word of message j, and each operation does the work of four messages. In [`hash`]
+//! the lanes have four words of the schedule of one message, which is computed beside its rounds. The
+//! steps are those of FIPS 180-4. The digests are those of the library `sha2`, and are proved to be.
 //!
 //! A message is hashed with its padding, in blocks of 64 bytes: one block if it has at most 55
 //! bytes, two if it has at most 119. So a leaf with an element of up to 47 bytes, which is
 //! hashed after a position of 8 bytes, takes one block, and a parent node, which is hashed as a position and two
 //! digests of 32 bytes, takes two. Four messages of at most 16 blocks each are hashed in the lanes, in the time of the
 //! longest one, or one after another if the others are much shorter. Four nodes have a path of their own, and four leaves with
-//! elements of 32 bytes have one, since the padding of all four is the same and nothing has to be copied.
-//! [`hash_four`] takes any four messages. [`hash_three`] fills the lane that is left with the last message.
+//! elements of 32 bytes have one, since the padding of all four is the same and nothing has to be copied. So have a single
+//! node and a single fold. [`hash_three`] fills the lane that is left with the last message. A message of more than 16
+//! blocks is hashed by the library `sha2`.
 #![tactic(auto)]
 
 ghost use Rattle.std.specs.Prelude.{◌≡◌, ◌+◌, ◌-◌, ◌/◌, ◌%◌, ◌^◌, ◌<◌, ◌≤◌, ◌++◌, List, IfSome, length, min, take};
@@ -128,7 +129,7 @@ fn hash_within<const N: usize>(
     Some(hash_blocks(&[&first, &second, &third, &fourth], k, l, m, n, most))
 }
 
-// The number of blocks of a message with its padding; of a message that no memory could hold, some large number.
+// The number of blocks of a message with its padding. The length of the message saturates.
 fn count_blocks(parts: &[&[u8]]) -> usize
     ensures { result ≡ min (length (joined_parts parts.now) + 8) (2 ^ 64 - 1) / 64 + 1 }
 {

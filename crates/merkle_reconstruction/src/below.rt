@@ -18,8 +18,8 @@ use merkle_hasher::hasher::Hasher;
 use merkle_hasher::subtree::Subtree;
 use std::alloc::{AllocError, Global};
 
-/// The least height of a node whose nodes are computed together: 8 leaves; hardly any nodes of fewer
-/// leaves could be hashed four at a time.
+/// The least height of a node whose nodes are computed together, that of 8 leaves. Below 8 leaves no level
+/// has four nodes.
 const LEAST_HEIGHT: u32 = 3;
 
 /// The greatest height of a node whose nodes are computed together: 256 leaves, so that the lists
@@ -155,9 +155,9 @@ fn levels_below<F: Family, H: Hasher<F>>(
 // Returns the digest of a node and passes those of the nodes below it to `out`: the two children of a
 // node after all that is below them.
 //
-// The node is the `number`-th from the end of `known`, where its levels stand, if they are known:
-// then its right child is at twice that number, and its left child after that. A node that is not
-// found there is hashed by itself.
+// Where the levels are known, the node is the `number`-th from the end of `known`. Counted from the end, the
+// root is 1; node k has its right child at 2k, its left at 2k + 1. A node that is not found there is
+// hashed by itself.
 fn put_below<F: Family, H: Hasher<F>, C: Collector<F, H::Digest>>(
     subtree: &Subtree<F>,
     number: usize,

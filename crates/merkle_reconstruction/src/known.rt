@@ -21,7 +21,7 @@ pub struct Known<F, D> {
 }
 
 impl<F: Family, D: Digest> Known<F, D> {
-    /// Knows no node.
+    /// Creates an empty table.
     pub(crate) fn new(alloc: Global) -> Self
         ensures positions { result.positions.items ≡ [] }
         ensures digests { result.digests.items ≡ [] }
@@ -32,7 +32,7 @@ impl<F: Family, D: Digest> Known<F, D> {
         }
     }
 
-    /// Knows no node, and has room for `capacity` nodes.
+    /// Creates an empty table with room for `capacity` nodes.
     pub(crate) fn with_capacity(alloc: Global, capacity: usize) -> Result<Self, AllocError>
         ensures positions { IfOk result (λ k. k.positions.items ≡ []) }
         ensures digests { IfOk result (λ k. k.digests.items ≡ []) }

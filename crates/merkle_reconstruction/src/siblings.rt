@@ -43,9 +43,9 @@ pub(crate) fn is_inside<F: Family>(subtree: &Subtree<F>, range: &Range<Location<
 /// `digests`, those of the maximal nodes outside the range, which are consumed in order.
 ///
 /// The digests of the nodes below it are passed to `out`, if it keeps them: the two children of a
-/// node after all that is below them. Those of a node that has all its leaves in the range are then
-/// computed together, if it is of a height for that. If `out` keeps none, those that are `known` are
-/// not computed again.
+/// node after all that is below them. By a hasher that computes four digests together, the nodes below
+/// a node that has all its leaves in the range are then computed together, if it is of a height for
+/// that. If `out` keeps none, those that are `known` are not computed again.
 pub fn reconstruct_digest<F: Family, H: Hasher<F>, C: Collector<F, H::Digest>>(
     alloc: Global,
     subtree: &Subtree<F>,
