@@ -6,3 +6,7 @@ pub mod PinWalks
 pub mod PinParts
 pub mod PinChecks
 pub mod LeafDigests
+-- passed on
+pub use Rattle.merkle_reconstruction.proofs.ExtractionWalks
+pub use Rattle.merkle_reconstruction.proofs.InsideNodes
+pub use Rattle.merkle_reconstruction.proofs.InsideLists

@@ -16,6 +16,7 @@ use Rattle.merkle_base.proofs.Lists.{cons_head, cons_tail}
 use Rattle.merkle_root_theory.proofs.Walks.{flat_push}
 use Rattle.merkle_root_theory.proofs.PeakGroups.{none_after}
 use Rattle.merkle_hasher.proofs.PeakNodes.{peaks_at}
+pub use Rattle.merkle_reconstruction.proofs.NodeElements.{element_means}
 
 -- what a peak iterator gives of a peak
 abbrev pub placed : Tree → ℕ × ℕ

@@ -3,3 +3,5 @@ pub mod GroupedPeaks
 pub mod Input
 pub mod PinnedParts
 pub mod Positioned
+-- passed on
+pub use Rattle.merkle_reconstruction.specs.Inside

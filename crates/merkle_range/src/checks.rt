@@ -10,7 +10,7 @@ ghost use Rattle.merkle_root_theory.specs.Reconstruction.{range_refusals, recons
 ghost use Rattle.merkle_hasher.specs.Subtrees.{AreNodes, subtree_of};
 ghost use Rattle.merkle_root_theory.specs.Walk.{bytes_of, leaf_from, ArePeaksWalked, ArePeakDigests};
 ghost use Rattle.merkle_range.specs.Input.{range_input, IsComputed};
-ghost use Rattle.merkle_reconstruction.specs.Inside.{AreKnown};
+ghost use Rattle.merkle_range.specs.Inside.{AreKnown};
 
 use crate::extraction::{put_after, put_before};
 use crate::groups::Groups;
