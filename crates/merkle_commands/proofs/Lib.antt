@@ -1,4 +1,3 @@
 pub mod Arguments
 pub mod AsciiLines
-pub mod HexPairs
 pub mod WordRows

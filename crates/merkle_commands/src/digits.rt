@@ -1,7 +1,7 @@
-//! Hexadecimal digits, tested, decoded and encoded without a branch for each, since whether a digit is a letter cannot be predicted.
-ghost use Rattle.std.specs.Prelude.{◌≡◌, ◌*◌, ◌<◌, length, slice_index, true, Some, Ok};
-ghost use Rattle.std.specs.List.{AllPass, list_all};
-ghost use Rattle.hex.specs.Hex.{decode_of, encode_lower, hex_digit_value, is_hex_digit, lower_digits};
+//! Hexadecimal digits, tested without a branch for each, since whether a digit is a letter cannot be predicted.
+ghost use Rattle.std.specs.Prelude.{◌≡◌};
+ghost use Rattle.std.specs.List.{list_all};
+ghost use Rattle.hex.specs.Hex.{is_hex_digit};
 
 /// How many bytes are tested at once.
 const CHUNK: usize = 64;
@@ -39,44 +39,4 @@ pub(crate) fn are_digits(bytes: &[u8]) -> bool
         rest = after;
     }
     true
-}
-
-// The value of a digit, of either case.
-fn digit_value(digit: u8) -> u8
-    requires digit { is_hex_digit digit ≡ true }
-    ensures { hex_digit_value digit ≡ Some result }
-{
-    // The last four bits, and 9 more for a letter.
-    digit % 16 + digit / 64 * 9
-}
-
-/// Decodes digits, two for each byte, of either case.
-pub(crate) fn decode_digits(digits: &[u8], bytes: &mut [u8])
-    requires digits { AllPass is_hex_digit digits.now }
-    requires pairs { length digits.now ≡ 2 * length bytes.old }
-    ensures { decode_of digits.now ≡ Ok bytes.new }
-{
-    'bytes: for i in 0..bytes.len() {
-        bytes[i] = digit_value(digits[2 * i]) * 16 + digit_value(digits[2 * i + 1]);
-    }
-}
-
-// The lower case digit of a value.
-fn digit_of(value: u8) -> u8
-    requires { value < 16 }
-    ensures { result ≡ slice_index lower_digits value }
-{
-    // The byte of `a` is 39 more than the one after that of `9`.
-    value + b'0' + u8::from(value > 9) * 39
-}
-
-/// Encodes bytes, each in two lower case digits.
-pub(crate) fn encode_digits(bytes: &[u8], digits: &mut [u8])
-    requires { length digits.old ≡ 2 * length bytes.now }
-    ensures { digits.new ≡ encode_lower bytes.now }
-{
-    'bytes: for i in 0..bytes.len() {
-        digits[2 * i] = digit_of(bytes[i] / 16);
-        digits[2 * i + 1] = digit_of(bytes[i] % 16);
-    }
 }

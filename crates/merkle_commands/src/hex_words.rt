@@ -4,7 +4,7 @@ ghost use Rattle.std.specs.String.{string_bytes};
 ghost use Rattle.hex.specs.Hex.{decode_of, encode_lower, is_hex_digit};
 ghost use Rattle.merkle_commands.specs.Words.{IsHexWord};
 
-use crate::digits::{are_digits, decode_digits, encode_digits};
+use crate::digits::are_digits;
 use merkle_base::error::OutOfMemory;
 use std::alloc::Global;
 
@@ -39,11 +39,7 @@ pub fn read_hex(alloc: Global, word: &str) -> Result<Vec<u8>, HexError>
     if !is_hex_word(word) {
         return Err(HexError::Syntax);
     }
-    let Ok(mut bytes) = vec![in alloc; 0u8; word.len() / 2] else {
-        return Err(HexError::OutOfMemory);
-    };
-    decode_digits(word.as_bytes(), &mut bytes);
-    Ok(bytes)
+    hex::decode(alloc, word).map_err(|_| HexError::OutOfMemory)
 }
 
 /// Encodes bytes in lower case digits, two for each byte. [`read_hex`] reads them back.
@@ -55,10 +51,5 @@ pub fn write_hex(alloc: Global, bytes: &[u8]) -> Result<String, OutOfMemory>
     ensures digits { IfOk result (λ text. string_bytes text ≡ encode_lower bytes.now) }
     ensures reads_back { IfOk result (λ text. decode_of (string_bytes text) ≡ Ok bytes.now) }
 {
-    let Ok(mut digits) = vec![in alloc; 0u8; 2 * bytes.len()] else {
-        return Err(OutOfMemory);
-    };
-    encode_digits(bytes, &mut digits);
-    // Digits are ASCII.
-    Ok(String::from_utf8(digits).unwrap())
+    hex::encode(alloc, bytes).map_err(|_| OutOfMemory)
 }
