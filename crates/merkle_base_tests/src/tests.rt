@@ -7,6 +7,7 @@ mod locations;
 mod mmb;
 mod mmr;
 mod pending;
+mod room;
 
 use merkle_base::error::Error;
 use merkle_base::family::{Family, Graftable};
