@@ -84,7 +84,7 @@ impl<F: Family> Server<F> {
         Ok(granted!(Proof::read(alloc, &mut rest, &most)))
     }
 
-    // Proves one leaf, and checks that with its operation and with another one.
+    // Proves one leaf, sends the proof as bytes, and checks what is read from them with the operation of the leaf.
     fn serve_one(&self, source: &mut Source, tally: &mut Tally) -> Result<(), Halt> {
         let leaf = self.next_leaf(source, 1);
         let location = Location::new(leaf);
