@@ -55,8 +55,9 @@ fn leaves_of_equal_lengths_together(rt: HostRuntime) -> Result<(), Fail> {
     assert_groups(&rt, true, &[1100, 32], 64, (16, 0, 0))
 }
 
-// In the order of the lengths each of these would have at least one group more with elements of equal length. That saves no
-// more time than the sorting takes: leaves with 1,100 bytes have too many blocks to be hashed together.
+// In the order of the lengths each of these would have at least one group more with elements of equal length. That is
+// estimated to save no more time than sorting is estimated to take: leaves with 1,100 bytes have too many blocks to be hashed
+// together.
 #[test]
 fn leaves_in_their_own_order(rt: HostRuntime) -> Result<(), Fail> {
     assert_groups(&rt, true, &[100, 32, 32, 32], 8, (0, 2, 0))?;

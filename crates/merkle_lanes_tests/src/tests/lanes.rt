@@ -87,7 +87,7 @@ fn two_and_three_standard_messages(rt: HostRuntime) -> Result<(), Fail> {
     assert_digests(&rt, digests, [ZEROS, EMPTY, ABC, ZEROS])
 }
 
-// The same in the lanes: four messages of one block, and four of two.
+// Four messages with equal numbers of blocks, which are hashed together: four of one block, and four of two.
 #[test]
 fn standard_messages_together(rt: HostRuntime) -> Result<(), Fail> {
     let none: &[&[u8]] = &[&[]];
