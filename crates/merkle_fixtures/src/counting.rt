@@ -3,13 +3,15 @@ ghost use Rattle.std.specs.Prelude.{◌≡◌, ◌∷◌, []};
 ghost use Rattle.std.proofs.Common.{refl, rules};
 ghost use Rattle.merkle_base.specs.Scheme.{scheme_of};
 
+use crate::calls::count;
 use merkle_base::family::{Bagging, Family};
 use merkle_base::position::Position;
 use merkle_digest::digest::{Xor8, Xor8Digest};
 use merkle_hasher::hasher::{Hasher, Standard};
 use std::cell::Cell;
 
-/// A hasher that counts the pairs of nodes and the single nodes that it computes.
+/// A hasher that counts the pairs of nodes and the single nodes that it computes. It has the default body of each method that
+/// has one.
 #[derive(Clone, Copy)]
 pub struct Counting<'a> {
     /// How peaks are folded.
@@ -26,10 +28,6 @@ impl Counting<'_> {
     {
         Standard::new(self.bagging)
     }
-}
-
-fn count(calls: &Cell<u64>) {
-    calls.set(calls.get().wrapping_add(1));
 }
 
 impl<F: Family> Hasher<F> for Counting<'_> {
@@ -76,11 +74,6 @@ impl<F: Family> Hasher<F> for Counting<'_> {
         ensures { result ≡ (⟦<Standard<Xor8> as Hasher<F>>⟧.hashing self.now.bagging).leaf position element.now }
     {
         self.plain().leaf_digest(position, element)
-    }
-
-    // It computes nothing faster; it is to be called as a hasher that does.
-    fn hashes_together(&self) -> bool {
-        true
     }
 
     fn digest(&self, bytes: &[u8]) -> Xor8Digest {

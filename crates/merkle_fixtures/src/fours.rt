@@ -1,16 +1,18 @@
-//! A hasher that counts its calls for four leaves, for one leaf and for one node.
+//! A hasher that counts its calls for four leaves, for one leaf, for a pair of nodes and for one node.
 ghost use Rattle.std.specs.Prelude.{◌≡◌, ◌∷◌, [], length, map};
 ghost use Rattle.std.proofs.Common.{refl, rules};
 ghost use Rattle.merkle_base.specs.declared.family.Bagging.{Bagging};
 ghost use Rattle.merkle_base.specs.Scheme.{scheme_of};
 
+use crate::calls::count;
 use merkle_base::family::{Bagging, Family};
 use merkle_base::position::Position;
 use merkle_digest::digest::{Xor8, Xor8Digest};
 use merkle_hasher::hasher::{Hasher, Standard};
 use std::cell::Cell;
 
-/// A hasher that counts its calls for four leaves, for one leaf and for one node. It folds peaks from left to right.
+/// A hasher that counts its calls for four leaves, for one leaf, for a pair of nodes and for one node. It folds peaks from
+/// left to right.
 #[derive(Clone, Copy)]
 pub struct Fours<'a> {
     /// Whether it says that it computes four digests together.
@@ -21,6 +23,8 @@ pub struct Fours<'a> {
     pub unequal: &'a Cell<u64>,
     /// The number of calls for one leaf.
     pub leaves: &'a Cell<u64>,
+    /// The number of calls for a pair of nodes; four nodes are two pairs, and three are a pair and one more.
+    pub pairs: &'a Cell<u64>,
     /// The number of calls for one node.
     pub nodes: &'a Cell<u64>,
 }
@@ -29,10 +33,6 @@ fn plain() -> Standard<Xor8>
     ensures { result ≡ Bagging.ForwardFold }
 {
     Standard::new(Bagging::ForwardFold)
-}
-
-fn count(calls: &Cell<u64>) {
-    calls.set(calls.get().wrapping_add(1));
 }
 
 // Whether all elements have the same length.
@@ -84,6 +84,7 @@ impl<F: Family> Hasher<F> for Fours<'_> {
         ensures { let h = ⟦<Standard<Xor8> as Hasher<F>>⟧.hashing Bagging.ForwardFold in (d : _) (e : _) → nodes ≡ d ∷ e ∷ []
             → (result.0 ≡ h.node d.0 d.1 d.2) × (result.1 ≡ h.node e.0 e.1 e.2) }
     {
+        count(self.pairs);
         plain().node_digest_pair(nodes)
     }
 

@@ -3,6 +3,8 @@ use merkle_base::family::Bagging;
 use merkle_digest::digest::{PlainHasher, Sha256Plain, Xor8};
 use merkle_fixtures::flat::Family;
 use merkle_fixtures::fours::Fours;
+use merkle_fixtures::keyed::Keyed;
+use merkle_fixtures::noting::Noting;
 use merkle_hasher::hasher::{Hasher, Standard};
 use merkle_hasher::leaves::leaf_digests;
 use std::cell::Cell;
@@ -20,12 +22,13 @@ fn assert_groups(
     expected: (u64, u64, u64),
 ) -> Result<(), Fail> {
     let (equal, unequal) = (Cell::new(0), Cell::new(0));
-    let (single, nodes) = (Cell::new(0), Cell::new(0));
+    let (single, pairs, nodes) = (Cell::new(0), Cell::new(0), Cell::new(0));
     let hasher = Fours {
         together,
         equal: &equal,
         unequal: &unequal,
         leaves: &single,
+        pairs: &pairs,
         nodes: &nodes,
     };
     let bytes = [7u8; 1100];
@@ -71,6 +74,41 @@ fn leaves_one_by_one_in_their_own_order(rt: HostRuntime) -> Result<(), Fail> {
     assert_groups(&rt, false, &[32, 100], 64, (0, 16, 0))
 }
 
+/// Asserts that a hasher with the default body of `hashes_together` is called with `count` leaves in their own order, each
+/// of them once; their elements have one of some lengths in turn.
+fn assert_own_order(
+    rt: &(impl Abort + AllocGlobal),
+    lengths: &[usize],
+    count: usize,
+) -> Result<(), Fail> {
+    let mut positions = Vec::new(rt.alloc());
+    for _ in 0..count {
+        positions.push(Cell::new(u64::MAX))?;
+    }
+    let noted = Cell::new(0);
+    let hasher = Noting {
+        positions: &positions,
+        leaves: &noted,
+    };
+    let bytes = [7u8; 1100];
+    let leaves = leaves_of_lengths(rt, &bytes, lengths, count)?;
+    let mut digests = Vec::new(rt.alloc());
+    leaf_digests::<Family, _>(&hasher, &leaves, &mut digests)?;
+    assert_eq!(rt; noted.get(), count as u64);
+    for (leaf, position) in leaves.iter().zip(positions.iter()) {
+        assert_eq!(rt; position.get(), leaf.0.as_u64(), "{count} leaves");
+    }
+    Ok(())
+}
+
+// A hasher that hashes together is called with the shorter ones of each 64 of these leaves first: 0, 2, 4 and so on.
+#[test]
+fn leaves_in_their_own_order_by_default(rt: HostRuntime) -> Result<(), Fail> {
+    assert_own_order(&rt, &[32, 100], 64)?;
+    assert_own_order(&rt, &[32, 100], 130)?;
+    assert_own_order(&rt, &[32, 100], 7)
+}
+
 #[test]
 fn hashers_that_hash_together(rt: HostRuntime) {
     let sha256 = Standard::<Sha256Plain>::new(Bagging::ForwardFold);
@@ -81,4 +119,8 @@ fn hashers_that_hash_together(rt: HostRuntime) {
     assert!(rt; !Xor8::hashes_together());
     assert!(rt; !Hasher::<Family>::hashes_together(&xor));
     assert!(rt; !Hasher::<Family>::hashes_together(&&xor));
+    // A hasher without a body of its own for it.
+    let keyed = Keyed::new(0x50, Bagging::ForwardFold);
+    assert!(rt; !Hasher::<Family>::hashes_together(&keyed));
+    assert!(rt; !Hasher::<Family>::hashes_together(&&keyed));
 }

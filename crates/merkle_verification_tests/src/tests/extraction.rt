@@ -153,10 +153,78 @@ fn extracted_from_a_mountain_belt(rt: HostRuntime) -> Result<(), Fail> {
     assert_ranges::<mmb::Family, Sha256Plain>(&rt)
 }
 
+/// Asserts how many pairs of nodes are computed, and how many nodes by themselves, where the leaves from `start` up to `end`
+/// of 1,100 are extracted by a hasher that says whether it computes four digests together.
+fn assert_nodes<F: Family>(
+    rt: &(impl Abort + AllocGlobal),
+    together: bool,
+    start: u64,
+    end: u64,
+    expected: (u64, u64),
+) -> Result<(), Fail> {
+    let (equal, unequal, leaves) = (Cell::new(0), Cell::new(0), Cell::new(0));
+    let (pairs, nodes) = (Cell::new(0), Cell::new(0));
+    let hasher = Fours {
+        together,
+        equal: &equal,
+        unequal: &unequal,
+        leaves: &leaves,
+        pairs: &pairs,
+        nodes: &nodes,
+    };
+    let plain = Standard::<Xor8>::new(Bagging::ForwardFold);
+    let element = [7u8];
+    let all = repeated(rt.alloc(), &element, LEAVES)?;
+    let structure = structure_of::<F, Xor8>(rt.alloc(), &plain, &all).expect(rt, "no refusal");
+    let found = extracted(rt.alloc(), &structure, &hasher, start, end).expect(rt, "no refusal");
+    assert_eq!(rt; found.len() as u64, count_of_range(&structure, start, end));
+    assert_eq!(rt; (pairs.get(), nodes.get()), expected, "{start} up to {end}");
+    Ok(())
+}
+
 // Of the nodes below the peak of 1024 leaves 255 are over the first 256 leaves. They are computed in
 // pairs but for the highest one, which is computed by itself, as the two nodes over it.
 #[test]
 fn nodes_in_pairs(rt: HostRuntime) -> Result<(), Fail> {
+    assert_nodes::<mmr::Family>(&rt, true, 0, 256, (127, 3))
+}
+
+// The belt of 1,100 leaves has peaks of 512, 256, 128, 128, 32, 16, 16, 8, 2 and 2 leaves. Over the node of the first 256
+// leaves is one more, the peak. A node over 8 to 256 leaves, n, is computed with those below it: all of the n - 1 are in
+// n / 2 - 1 pairs but the highest one. So all leaves have 127 pairs below the first peak twice, 127 at the second one, then
+// 63, 63, 15, 7, 7 and 3. The highest nodes of these nine are computed by themselves, and the peaks of 512, 2 and 2 leaves.
+#[test]
+fn nodes_of_a_mountain_belt_in_pairs(rt: HostRuntime) -> Result<(), Fail> {
+    assert_nodes::<mmb::Family>(&rt, true, 0, 256, (127, 2))?;
+    assert_nodes::<mmb::Family>(&rt, true, 0, LEAVES, (539, 12))
+}
+
+// The leaves from 301 up to 901 are the leaf 301, the 2 leaves of a node from 302 on, 16 from 304, 64 from 320, 128 from 384,
+// 256 from 512, 128 from 768, 4 from 896, and the leaf 900. The nodes over 16 and more leaves are computed with those below
+// them, in 7, 31, 63, 127 and 63 pairs and the 5 highest ones by themselves, as the node over 2 leaves and the 3 over 4.
+// By themselves are also those over leaves in the range and others. In the range of 1,100 leaves, whose first peak has 1,024,
+// one of each height from 1 to 10 has the leaves 300 and 301, and one the leaves 900 and 901: 19, since both have the peak.
+// In the belt the first peak has 512 leaves, and that from 896 on has 128: 9 nodes have the leaves 300 and 301, and 7 the
+// leaves 900 and 901. A node that were not found among the computed ones would be computed again, by itself.
+#[test]
+fn nodes_from_an_odd_leaf_in_pairs(rt: HostRuntime) -> Result<(), Fail> {
+    assert_nodes::<mmr::Family>(&rt, true, 301, 901, (291, 28))?;
+    assert_nodes::<mmb::Family>(&rt, true, 301, 901, (291, 25))
+}
+
+// The same nodes by a hasher that computes digests one by one: each of them is computed by itself.
+#[test]
+fn nodes_one_by_one(rt: HostRuntime) -> Result<(), Fail> {
+    assert_nodes::<mmr::Family>(&rt, false, 0, 256, (0, 257))?;
+    assert_nodes::<mmb::Family>(&rt, false, 0, 256, (0, 256))?;
+    assert_nodes::<mmb::Family>(&rt, false, 0, LEAVES, (0, 1090))?;
+    assert_nodes::<mmr::Family>(&rt, false, 301, 901, (0, 610))?;
+    assert_nodes::<mmb::Family>(&rt, false, 301, 901, (0, 607))
+}
+
+// The first of these by a hasher with the default body of `hashes_together`.
+#[test]
+fn nodes_one_by_one_by_default(rt: HostRuntime) -> Result<(), Fail> {
     let (pairs, singles) = (Cell::new(0), Cell::new(0));
     let hasher = Counting {
         bagging: Bagging::ForwardFold,
@@ -170,42 +238,8 @@ fn nodes_in_pairs(rt: HostRuntime) -> Result<(), Fail> {
     let structure = structure.expect(&rt, "no refusal");
     let found = extracted(rt.alloc(), &structure, &hasher, 0, 256).expect(&rt, "no refusal");
     assert_eq!(rt; found.len() as u64, count_of_range(&structure, 0, 256));
-    assert_eq!(rt; (pairs.get(), singles.get()), (127, 3));
+    assert_eq!(rt; (pairs.get(), singles.get()), (0, 257));
     Ok(())
-}
-
-/// Asserts how many nodes are computed by themselves where the first 256 of 1,100 leaves are extracted.
-fn assert_single_nodes(
-    rt: &(impl Abort + AllocGlobal),
-    together: bool,
-    expected: u64,
-) -> Result<(), Fail> {
-    let (equal, unequal) = (Cell::new(0), Cell::new(0));
-    let (leaves, nodes) = (Cell::new(0), Cell::new(0));
-    let hasher = Fours {
-        together,
-        equal: &equal,
-        unequal: &unequal,
-        leaves: &leaves,
-        nodes: &nodes,
-    };
-    let plain = Standard::<Xor8>::new(Bagging::ForwardFold);
-    let element = [7u8];
-    let all = repeated(rt.alloc(), &element, LEAVES)?;
-    let structure = structure_of::<mmr::Family, Xor8>(rt.alloc(), &plain, &all);
-    let structure = structure.expect(rt, "no refusal");
-    let found = extracted(rt.alloc(), &structure, &hasher, 0, 256).expect(rt, "no refusal");
-    assert_eq!(rt; found.len() as u64, count_of_range(&structure, 0, 256));
-    assert_eq!(rt; nodes.get(), expected);
-    Ok(())
-}
-
-// The same nodes by a hasher that says whether it computes four digests together: if not, each of the 257 is computed by
-// itself.
-#[test]
-fn nodes_one_by_one(rt: HostRuntime) -> Result<(), Fail> {
-    assert_single_nodes(&rt, true, 3)?;
-    assert_single_nodes(&rt, false, 257)
 }
 
 // Eight leaves of the Mountain Range have the peak 14, over 13 and 6, 6 over 5 and 2, and so on.
