@@ -205,7 +205,7 @@ fn nodes_of_a_mountain_belt_in_pairs(rt: HostRuntime) -> Result<(), Fail> {
 // By themselves are also those over leaves in the range and others. In the range of 1,100 leaves, whose first peak has 1,024,
 // one of each height from 1 to 10 has the leaves 300 and 301, and one the leaves 900 and 901: 19, since both have the peak.
 // In the belt the first peak has 512 leaves, and that from 896 on has 128: 9 nodes have the leaves 300 and 301, and 7 the
-// leaves 900 and 901. A node that were not found among the computed ones would be computed again, by itself.
+// leaves 900 and 901. If a node were not found among the computed ones, it would be computed again, by itself.
 #[test]
 fn nodes_from_an_odd_leaf_in_pairs(rt: HostRuntime) -> Result<(), Fail> {
     assert_nodes::<mmr::Family>(&rt, true, 301, 901, (291, 28))?;
