@@ -1,9 +1,7 @@
 -- Bytes are answered line by line.
-use Rattle.std.proofs.Common.{◌≡◌, ℕ, zero, suc, ◌≤◌, List, [], ◌∷◌, ◌++◌, length, take, arith, Option, None, Some, Result, Ok, Err, false, cond, refl, sym, ap, ◌∙◌, subst, append_assoc, append-nil}
+use Rattle.std.proofs.Common.{◌≡◌, ℕ, zero, suc, ◌<◌, List, [], ◌∷◌, ◌++◌, length, drop, slice_index, arith, Option, None, Some, Result, Ok, Err, false, cond, refl, sym, ap, ◌∙◌, subst, append_assoc, append-nil}
 use Rattle.std.specs.Prelude.{◌==◌, OnOk}
 use Rattle.std.specs.List.{AllByRecursion}
-use Rattle.memchr.specs.Find.{Nowhere, Passes, is_byte}
-use Rattle.std.proofs.lemmas.Bool.{false_from_ne_true}
 use Rattle.std.specs.Io.KnownBytes.{Appends, Consumes, Keeps}
 use Rattle.merkle_lines.specs.Transcript.{SessionState, IsLineAnswered, IsTranscript, ContinuesTo, lines_after}
 
@@ -85,14 +83,9 @@ leads_bytes told begun (x ∷ xs) plain =
     (leads_then told told told begun (begun ++ x ∷ []) ((begun ++ x ∷ []) ++ xs) (x ∷ []) xs [] [] (leads_byte told begun x plain.0)
     (leads_bytes told (begun ++ x ∷ []) xs plain.1))
 
--- the bytes before the first one that ends a line
-pub open_before : (xs : List ℕ) (n : ℕ) → n ≤ length xs → Nowhere (Passes (is_byte 10) xs) 0 n → AllByRecursion (λ b. (b == 10) ≡ false) (take n xs)
-open_before [] zero h none = tt
-open_before [] (suc n) h none = tt
-open_before (x ∷ xs) zero h none = tt
-open_before (x ∷ xs) (suc n) h none =
-    (false_from_ne_true (x == 10) (λ e. none 0 (omega arith) (omega arith) e), open_before xs n (omega arith) (λ k low high p. none (suc k) (omega arith) (omega arith) p))
-
--- all bytes where none ends a line
-pub open_all : (xs : List ℕ) → Nowhere (Passes (is_byte 10) xs) 0 (length xs) → AllByRecursion (λ b. (b == 10) ≡ false) (take (length xs) xs)
-open_all xs none = open_before xs (length xs) (omega arith) none
+-- the byte that stands after the first n
+pub byte_after : (xs : List ℕ) (n b : ℕ) (rest : List ℕ) → drop n xs ≡ b ∷ rest → (n < length xs) × (slice_index xs n ≡ b)
+byte_after [] zero b rest e = absurd (cc)
+byte_after [] (suc n) b rest e = absurd (cc)
+byte_after (x ∷ xs) zero b rest e = (omega arith, cc)
+byte_after (x ∷ xs) (suc n) b rest e = let w = byte_after xs n b rest e in (omega arith, w.1)

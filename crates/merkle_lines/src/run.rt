@@ -1,5 +1,5 @@
 //! The loop that reads lines and writes their answers.
-ghost use Rattle.std.specs.Prelude.{◌≡◌, ◌<◌, ◌≤◌, ◌==◌, ℕ, [], ◌∷◌, ◌++◌, List, Option, None, OnOk, IfOk, false, length, take};
+ghost use Rattle.std.specs.Prelude.{◌≡◌, ◌<◌, ◌≤◌, ◌==◌, ℕ, [], ◌∷◌, ◌++◌, List, Option, None, OnOk, IfOk, false, length, slice_index, take};
 ghost use Rattle.std.specs.List.{AllByRecursion};
 ghost use Rattle.std.specs.Io.KnownBytes.{Appends, Consumes, IsAtEnd, Keeps};
 ghost use Rattle.merkle_lines.specs.AnswerText.{answer_text};
@@ -8,7 +8,7 @@ ghost use Rattle.merkle_lines.specs.Transcript.{SessionState, IsLineAnswered, Is
 
 use crate::answer::Answer;
 use crate::session::Session;
-use memchr::memchr;
+use merkle_base::room::make_room;
 use merkle_commands::command::read_command;
 use std::alloc::Global;
 use std::io;
@@ -65,20 +65,8 @@ impl Answerer {
         writeln!(writer, "{answer}").map_err(|_| RunError::WriteFailed)
     }
 
-    // Takes the next byte; if it ends the line, answers that.
-    fn take_byte<W: io::Write>(&mut self, byte: u8, writer: &mut W) -> Result<(), RunError>
-        ensures { OnOk result ((told : Option SessionState) → HoldsState self.old.session told → (v : Option SessionState) × (output : List ℕ)
-            × HoldsState self.new.session v
-            × Appends (W.contents writer.old) (W.contents writer.new) output × ContinuesTo told self.old.line.items (byte ∷ []) output v self.new.line.items) }
-    {
-        if byte == b'\n' {
-            return self.end_line(writer);
-        }
-        self.line.push(byte).map_err(|_| RunError::OutOfMemory)
-    }
-
     // Takes the first of the next bytes, of which there are some: those up to one that ends a line, which is answered,
-    // or all. Returns the bytes after them.
+    // or all. Returns the bytes after them. Room in the line is made by the requests that pushing the bytes would make.
     fn take_line<'b, W: io::Write>(
         &mut self,
         bytes: &'b [u8],
@@ -91,12 +79,13 @@ impl Answerer {
             × (first : List ℕ) × (first ++ rest.now ≡ bytes.now) × ContinuesTo told self.old.line.items first output v self.new.line.items) }
     {
         let (begun, rest) = bytes.split_at(begun_length(bytes));
+        make_room(&mut self.line, begun.len()).map_err(|_| RunError::OutOfMemory)?;
         self.line
             .extend_from_slice(begun)
             .map_err(|_| RunError::OutOfMemory)?;
         match rest.split_first() {
-            Some((byte, after)) => {
-                self.take_byte(*byte, writer)?;
+            Some((_, after)) => {
+                self.end_line(writer)?;
                 Ok(after)
             }
             None => Ok(rest),
@@ -156,12 +145,16 @@ impl Answerer {
     }
 }
 
-// Returns how many bytes stand before the first one that ends a line; all if none does.
+// The index of the first line feed, or the length.
 fn begun_length(bytes: &[u8]) -> usize
     ensures within { result ≤ length bytes.now }
     ensures open { AllByRecursion (λ b. (b == 10) ≡ false) (take result bytes.now) }
+    ensures ends { result < length bytes.now → slice_index bytes.now result ≡ 10 }
 {
-    memchr(b'\n', bytes).unwrap_or(bytes.len())
+    bytes
+        .iter()
+        .position(|byte| *byte == b'\n')
+        .unwrap_or(bytes.len())
 }
 
 // Flushes the writer.
