@@ -101,7 +101,7 @@ fn assert_own_order(
     Ok(())
 }
 
-// A hasher that hashes together is called with the shorter ones of each 64 of these leaves first: 0, 2, 4 and so on.
+// If the default were true, it would be called with the shorter leaves of each 64 first: 0, 2, 4 and so on.
 #[test]
 fn leaves_in_their_own_order_by_default(rt: HostRuntime) -> Result<(), Fail> {
     assert_own_order(&rt, &[32, 100], 64)?;

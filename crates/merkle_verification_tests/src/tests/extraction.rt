@@ -189,7 +189,7 @@ fn nodes_in_pairs(rt: HostRuntime) -> Result<(), Fail> {
     assert_nodes::<mmr::Family>(&rt, true, 0, 256, (127, 3))
 }
 
-// The belt of 1,100 leaves has peaks of 512, 256, 128, 128, 32, 16, 16, 8, 2 and 2 leaves. Over the node of the first 256
+// The Mountain Belt of 1,100 leaves has peaks of 512, 256, 128, 128, 32, 16, 16, 8, 2 and 2 leaves. Over the node of the first 256
 // leaves is one more, the peak. A node over 8 to 256 leaves, n, is computed with those below it: all of the n - 1 are in
 // n / 2 - 1 pairs but the highest one. So all leaves have 127 pairs below the first peak twice, 127 at the second one, then
 // 63, 63, 15, 7, 7 and 3. The highest nodes of these nine are computed by themselves, and the peaks of 512, 2 and 2 leaves.
@@ -202,10 +202,10 @@ fn nodes_of_a_mountain_belt_in_pairs(rt: HostRuntime) -> Result<(), Fail> {
 // The leaves from 301 up to 901 are the leaf 301, the 2 leaves of a node from 302 on, 16 from 304, 64 from 320, 128 from 384,
 // 256 from 512, 128 from 768, 4 from 896, and the leaf 900. The nodes over 16 and more leaves are computed with those below
 // them, in 7, 31, 63, 127 and 63 pairs and the 5 highest ones by themselves, as the node over 2 leaves and the 3 over 4.
-// By themselves are also those over leaves in the range and others. In the range of 1,100 leaves, whose first peak has 1,024,
+// So are the nodes that have leaves inside and outside. In the Mountain Range of 1,100 leaves, whose first peak has 1,024,
 // one of each height from 1 to 10 has the leaves 300 and 301, and one the leaves 900 and 901: 19, since both have the peak.
-// In the belt the first peak has 512 leaves, and that from 896 on has 128: 9 nodes have the leaves 300 and 301, and 7 the
-// leaves 900 and 901. If a node were not found among the computed ones, it would be computed again, by itself.
+// In the Mountain Belt the first peak has 512 leaves, and that from 896 on has 128: 9 nodes have the leaves 300 and 301, and
+// 7 the leaves 900 and 901. If a node were not found among the computed ones, it would be computed again, by itself.
 #[test]
 fn nodes_from_an_odd_leaf_in_pairs(rt: HostRuntime) -> Result<(), Fail> {
     assert_nodes::<mmr::Family>(&rt, true, 301, 901, (291, 28))?;
