@@ -14,3 +14,5 @@ pub mod Limits
 pub mod Parents
 pub mod PeakLists
 pub mod Chunks
+pub mod Reversed
+pub mod Colliding

@@ -13,3 +13,5 @@ pub mod Scheme
 pub mod Root
 pub mod Shows
 pub mod Work
+pub mod Table
+pub mod Collision

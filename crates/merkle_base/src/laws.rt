@@ -1,7 +1,7 @@
 //! Laws of every forest: the theory that the layers above build on.
 //!
 //! Each function is empty. Its contract is a law of the definitions in `specs/`.
-ghost use Rattle.std.specs.Prelude.{◌≡◌, ℕ, suc, ◌+◌, ◌*◌, ◌^◌, ◌<◌, ◌≤◌, List, [], ◌∷◌, ◌++◌, map, reverse, length, slice_get, Some};
+ghost use Rattle.std.specs.Prelude.{◌≡◌, ℕ, suc, ◌+◌, ◌*◌, ◌^◌, ◌<◌, ◌≤◌, ◌⊎◌, List, [], ◌∷◌, ◌++◌, map, reverse, length, slice_get, Some};
 ghost use Rattle.std.specs.List.{range_with_len, flat_map};
 ghost use Rattle.merkle_base.specs.Tree.{Tree, leaf, height, first_leaf, width, end_leaf, locations, IsUnder, IsBuilt};
 ghost use Rattle.merkle_base.specs.Forest.{forest, size};
@@ -9,6 +9,9 @@ ghost use Rattle.merkle_base.specs.Heights.{IsLawful, peak_heights, parent_heigh
 ghost use Rattle.merkle_base.specs.Laws.{IsGrown};
 ghost use Rattle.merkle_base.specs.Held.{ChildrenHeld};
 ghost use Rattle.merkle_base.specs.Places.{placed};
+ghost use Rattle.merkle_base.specs.Hashing.{Hashing, EqDecides};
+ghost use Rattle.merkle_base.specs.Digests.{peak_digests};
+ghost use Rattle.merkle_base.specs.Collision.{Collide};
 ghost use Rattle.merkle_base.specs.Grafting.{nodes_inside, stretch_nodes, AreCoordinates};
 
 /// Laws of every forest, under any merge rule.
@@ -67,4 +70,10 @@ pub fn grafted_forest()
     ensures stretch { (rule : List ℕ → List ℕ) → (max_leaves max_nodes : ℕ) → IsLawful rule max_leaves max_nodes → (root birth : ℕ → ℕ → ℕ)
         → AreCoordinates rule max_leaves root birth
         → (n s a h : ℕ) → n ≤ max_leaves → s ≡ a * 2 ^ h → s + 2 ^ h ≤ n → map placed (nodes_inside rule n s (s + 2 ^ h)) ≡ stretch_nodes root birth n s h }
+{}
+
+/// Two lists of the same length with the same peak digests are equal, or collide at a node.
+pub fn collision<D>()
+    ensures collides { (h : Hashing D) → (rule : List ℕ → List ℕ) → EqDecides h → (X Y : List D) → length X ≡ length Y
+        → peak_digests h rule X ≡ peak_digests h rule Y → (X ≡ Y) ⊎ Collide h rule X Y }
 {}

@@ -22,7 +22,7 @@ use Rattle.merkle_proof.proofs.ReadingOrder.{all_reading_order}
 use Rattle.merkle_batch_theory.specs.Contents.{is_kept}
 use Rattle.merkle_draft.proofs.NodePositions.{position_of_node}
 use Rattle.merkle_proof.proofs.RefusedProofs.{is_memory}
-use Rattle.merkle_batch_theory.proofs.ListFacts.{get_reversed}
+use Rattle.merkle_base.proofs.Reversed.{get_reversed}
 use Rattle.merkle_batch_theory.proofs.NeededNodes.{sibling_kept, peaks_kept}
 use Rattle.merkle_base.proofs.Cases.{by_test}
 use Rattle.merkle_base.proofs.Lists.{all_from_get}

@@ -12,7 +12,7 @@ use Rattle.merkle_base.proofs.Nodes.{node_anywhere}
 use Rattle.merkle_batch_theory.specs.Needed.{IsNeeded}
 use Rattle.merkle_batch_theory.proofs.NeededNodes.{IsChanged}
 use Rattle.merkle_batch_theory.specs.History.{is_dirty}
-use Rattle.merkle_batch_theory.proofs.ListFacts.{get_reverse, get_reversed}
+use Rattle.merkle_base.proofs.Reversed.{get_reverse, get_reversed}
 use Rattle.merkle_draft.specs.declared.node_error.NodeError.{NodeError}
 use Rattle.merkle_draft.specs.DraftReads.{ArePeaksRead, DraftModel, IsPeakGap, stored_node}
 use Rattle.merkle_draft.specs.NewDigests.{AreNewDigests, LacksNeeded, new_digest}

@@ -16,12 +16,12 @@ use Rattle.merkle_batch_theory.specs.Contents.{Contents, Agrees, is_kept, held_p
 use Rattle.merkle_batch_theory.specs.Records.{RecordModel, MerkleizedModel, records, after}
 use Rattle.merkle_batch_theory.specs.Replay.{with_records, last_match, oldest, matched, is_state}
 use Rattle.merkle_batch_theory.specs.History.{IsStep, IsHistory, last_list}
-use Rattle.merkle_batch_theory.specs.Collision.{Collide}
-use Rattle.merkle_batch_theory.proofs.ListFacts.{get_reversed}
+use Rattle.merkle_base.specs.Collision.{Collide}
+use Rattle.merkle_base.proofs.Reversed.{get_reversed}
 use Rattle.merkle_batch_theory.proofs.Kept.{kept_before, kept_peak}
 use Rattle.merkle_batch_theory.proofs.Steps.{node_digest_at, step_size}
 use Rattle.merkle_batch_theory.proofs.Agreed.{agree_all}
-use Rattle.merkle_batch_theory.proofs.Colliding.{same_or_collide}
+use Rattle.merkle_base.proofs.Colliding.{same_or_collide}
 use Rattle.merkle_base.proofs.Cases.{by_test}
 
 flat_single : {A B C : Type 0} (f : B → List C) (g : A → B) (k : A → C) (xs : List A) → ((i : ℕ) (x : A) → slice_get xs i ≡ Some x → f (g x) ≡ k x ∷ []) → flat_map f (map g xs) ≡ map k xs

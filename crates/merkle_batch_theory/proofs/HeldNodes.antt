@@ -21,7 +21,8 @@ use Rattle.merkle_batch_theory.specs.MemModel.{MemModel, contents, stored_of, no
 use Rattle.merkle_batch_theory.specs.MemValid.{HasLeafCount, IsMemValid}
 use Rattle.merkle_batch_theory.proofs.Chains.{same_contents}
 use Rattle.merkle_batch_theory.proofs.Edits.{get_left, get_set_same, get_set_other}
-use Rattle.merkle_batch_theory.proofs.ListFacts.{any_find, get_drop, get_reversed}
+use Rattle.merkle_base.proofs.Reversed.{get_reversed}
+use Rattle.merkle_batch_theory.proofs.ListFacts.{any_find, get_drop}
 use Rattle.merkle_batch_theory.proofs.Kept.{get_mapped}
 use Rattle.merkle_batch_theory.proofs.Stored.{held_before, held_from}
 

@@ -17,7 +17,8 @@ use Rattle.merkle_batch_theory.specs.Contents.{Agrees, is_kept}
 use Rattle.merkle_batch_theory.specs.Components.{AreComponents, made_of}
 use Rattle.merkle_batch_theory.specs.MemModel.{contents}
 use Rattle.merkle_batch_theory.proofs.HeldNodes.{stored_at, stored_reads}
-use Rattle.merkle_batch_theory.proofs.ListFacts.{get_drop, get_reversed}
+use Rattle.merkle_base.proofs.Reversed.{get_reversed}
+use Rattle.merkle_batch_theory.proofs.ListFacts.{get_drop}
 use Rattle.merkle_batch_theory.proofs.Kept.{kept_from}
 use Rattle.merkle_batch_theory.proofs.PinFacts.{zip_before}
 use Rattle.merkle_batch_theory.proofs.ShownLists.{taken}

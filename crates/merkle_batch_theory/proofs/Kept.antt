@@ -12,7 +12,8 @@ use Rattle.merkle_base.proofs.Held.{peaks_held}
 use Rattle.merkle_base.proofs.Births.{all_get}
 use Rattle.merkle_base.specs.Places.{peak_positions}
 use Rattle.merkle_batch_theory.specs.Contents.{is_kept}
-use Rattle.merkle_batch_theory.proofs.ListFacts.{any_at, any_find, get_reverse, get_reversed}
+use Rattle.merkle_base.proofs.Reversed.{get_reverse, get_reversed}
+use Rattle.merkle_batch_theory.proofs.ListFacts.{any_at, any_find}
 
 pub option_map_some : {A B : Type 0} (f : A → B) (o : Option A) (y : B) → option_map f o ≡ Some y → (x : A) × (o ≡ Some x) × (y ≡ f x)
 option_map_some f None y e = absurd (cc)

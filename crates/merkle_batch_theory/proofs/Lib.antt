@@ -4,7 +4,6 @@ pub mod Kept
 pub mod Steps
 pub mod Agreed
 pub mod Pruning
-pub mod Colliding
 pub mod Accepted
 pub mod ReadThroughRecords
 pub mod NeededNodes

@@ -13,7 +13,7 @@ use Rattle.merkle_base.specs.Places.{peaks_of, peak_positions}
 use Rattle.merkle_base.proofs.Lookup.{peak_node}
 use Rattle.merkle_base.proofs.Nodes.{node_stays, range-add}
 use Rattle.merkle_batch_theory.specs.Assignment.{digests_from}
-use Rattle.merkle_batch_theory.proofs.ListFacts.{get_reversed}
+use Rattle.merkle_base.proofs.Reversed.{get_reversed}
 
 -- the digest of a list at the node that stands at a position of the largest forest
 pub truth_of : {D : Type 0} → Hashing D → (List ℕ → List ℕ) → ℕ → List D → ℕ → D

@@ -12,7 +12,7 @@ use Rattle.merkle_base.specs.declared.error.Error.{Error}
 use Rattle.merkle_batch_theory.specs.Contents.{Contents, is_kept, pruned, held_peaks}
 use Rattle.merkle_batch_theory.specs.Records.{RecordModel, MerkleizedModel, records}
 use Rattle.merkle_batch_theory.specs.Replay.{with_record, with_records, matched, apply_error, applied}
-use Rattle.merkle_batch_theory.proofs.ListFacts.{get_reversed}
+use Rattle.merkle_base.proofs.Reversed.{get_reversed}
 use Rattle.merkle_batch_theory.proofs.Kept.{kept_from, kept_before, kept_peak, get_mapped}
 use Rattle.merkle_batch_theory.proofs.Agreed.{over_cond}
 use Rattle.merkle_base.proofs.Cases.{by_test}

@@ -6,7 +6,7 @@ use Rattle.merkle_batch_theory.specs.Contents.{Contents, Agrees, held_peaks}
 use Rattle.merkle_batch_theory.specs.Records.{MerkleizedModel, records}
 use Rattle.merkle_batch_theory.specs.Replay.{matched}
 use Rattle.merkle_batch_theory.specs.History.{IsHistory, last_list}
-use Rattle.merkle_batch_theory.specs.Collision.{Collide}
+use Rattle.merkle_base.specs.Collision.{Collide}
 
 -- a batch that stands on lists was applied to a structure that agreed with X
 pub record IsAppliedTo {D : Type 0} (h : Hashing D) (rule : List ℕ → List ℕ)

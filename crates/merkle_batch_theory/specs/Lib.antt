@@ -3,7 +3,6 @@ pub mod Records
 pub mod Replay
 pub mod History
 pub mod Read
-pub mod Collision
 pub mod Needed
 pub mod Completed
 pub mod BaseAgrees

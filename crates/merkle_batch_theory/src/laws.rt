@@ -23,7 +23,7 @@ ghost use Rattle.merkle_base.specs.Shows.{Shows};
 ghost use Rattle.merkle_batch_theory.specs.BaseAgrees.{IsBased};
 ghost use Rattle.merkle_batch_theory.specs.Needed.{computed_nodes, level, is_computed, passes, total, IsUsed, IsNeeded};
 ghost use Rattle.merkle_batch_theory.specs.Completed.{IsCompleted};
-ghost use Rattle.merkle_batch_theory.specs.Collision.{Collide};
+ghost use Rattle.merkle_base.specs.Collision.{Collide};
 ghost use Rattle.std.specs.List.{range_with_len};
 ghost use Rattle.merkle_base.specs.Root.{list_root};
 ghost use Rattle.merkle_base.specs.declared.family.Bagging.TheVariants.{ForwardFold, BackwardFold};
@@ -71,12 +71,6 @@ pub fn commuting<F, D>()
     ensures same { (a b : Contents D) → a.boundary ≡ b.boundary → a.size ≡ b.size → ((p : ℕ) → a.node p ≡ b.node p) → a ≡ b }
     ensures commutes { (same : D → D → Bool) → (rule : List ℕ → List ℕ) → (n b : ℕ) → (k : MerkleizedModel D) → (c : Contents D) → c.size ≡ size rule n → b ≤ n
         → applied {F = F} same rule n k (pruned rule b c) ≡ elim (applied same rule n k c) [ Ok a ↦ Ok (pruned rule b a) | Err e ↦ Err e ] }
-{}
-
-/// Two lists of the same length with the same peak digests are equal, or collide at a node.
-pub fn collision<D>()
-    ensures collides { (h : Hashing D) → (rule : List ℕ → List ℕ) → EqDecides h → (X Y : List D) → length X ≡ length Y
-        → peak_digests h rule X ≡ peak_digests h rule Y → (X ≡ Y) ⊎ Collide h rule X Y }
 {}
 
 /// A batch with a history of lists is accepted at one of them, which has the length and the peak

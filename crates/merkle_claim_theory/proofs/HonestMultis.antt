@@ -8,7 +8,7 @@ use Rattle.merkle_forest_theory.specs.Ascending.{AscendsFrom}
 use Rattle.merkle_base.proofs.Lists.{cons_head, cons_tail}
 use Rattle.merkle_root_theory.specs.Range.{leaf_of}
 use Rattle.merkle_root_theory.proofs.HonestInputs.{none_inactive}
-use Rattle.merkle_claim_theory.specs.Table.{digest_at_position}
+use Rattle.merkle_base.specs.Table.{digest_at_position}
 use Rattle.merkle_claim_theory.specs.Multiproof.{MultiInput, locations_in, leaves_in, multi_positions, IsEmptyMulti, IsHonestMulti, IsHonestMultiSome, IsHonestMultiByCases}
 
 -- numbers with a value at each: the numbers, and the values

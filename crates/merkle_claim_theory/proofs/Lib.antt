@@ -13,14 +13,7 @@ pub mod FewPositions
 pub mod SubProofs
 pub mod Verdicts
 pub mod ExtractedPositionsDistinct
-pub mod MultiNoCollision
-pub mod PinnedNoCollision
-pub mod PathSiblings
 pub mod ClaimRoots
-pub mod InputForms
-pub mod PlainStrings
-pub mod LocatedNodes
-pub mod FewDigests
 pub mod OneLeaf
 pub mod RebuiltPins
 pub mod AcceptedInputs

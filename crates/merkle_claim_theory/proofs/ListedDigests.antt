@@ -14,7 +14,7 @@ use Rattle.merkle_claim_theory.specs.Order.{Distinct}
 use Rattle.merkle_root_theory.specs.Check.{root_of, inputs_of, all_inputs, list_expression}
 use Rattle.merkle_base.specs.Scheme.{Scheme}
 use Rattle.merkle_base.specs.Places.{peaks_of}
-use Rattle.merkle_claim_theory.specs.Table.{digest_for}
+use Rattle.merkle_base.specs.Table.{digest_for}
 use Rattle.merkle_base.proofs.Cases.{by_test}
 use Rattle.merkle_root_theory.proofs.ListChecks.{root_tells}
 use Rattle.merkle_base.proofs.PeakLists.{Spans, peaks_spans}

@@ -20,7 +20,7 @@ use Rattle.merkle_root_theory.specs.Check.{root_of, list_expression}
 use Rattle.merkle_base.specs.Scheme.{Scheme}
 use Rattle.merkle_base.specs.Places.{peaks_of}
 use Rattle.merkle_root_theory.specs.Range.{leaf_of, plan_root, IsLawfulScheme}
-use Rattle.merkle_claim_theory.specs.Table.{digest_for, digest_at_position}
+use Rattle.merkle_base.specs.Table.{digest_for, digest_at_position}
 use Rattle.merkle_claim_theory.specs.Multiproof.{one_leaf_nodes, is_one_leaf_position, multi_positions, MultiInput, locations_in, leaves_in, multi_on, AllHolds, AcceptsMultiSome, IsHonestMultiSome, MultiCollides, HonestMultiIsAccepted, MultiSound}
 use Rattle.merkle_root_theory.proofs.Collisions.{member_left, member_right}
 use Rattle.merkle_claim_theory.proofs.HonestClaims.{member_split}

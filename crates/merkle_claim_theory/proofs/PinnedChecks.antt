@@ -25,7 +25,7 @@ use Rattle.merkle_root_theory.specs.Check.{in_range, root_of, list_expression, R
 use Rattle.merkle_base.specs.Scheme.{Scheme}
 use Rattle.merkle_base.specs.Places.{peaks_of, wholly_before}
 use Rattle.merkle_root_theory.specs.Range.{end_of, overlapping, wholly_after, range_parts, range_siblings, leaf_of, plan_root, IsLawfulScheme, IsHonestNonempty}
-use Rattle.merkle_claim_theory.specs.Table.{digest_for}
+use Rattle.merkle_base.specs.Table.{digest_for}
 use Rattle.merkle_claim_theory.specs.Pinned.{pin_positions, pinned_on, AcceptsPinnedSome, honest_pins, PinnedCollides, HonestPinnedIsAccepted, AcceptedPinnedIsHonest, PinsAreOldPeaks}
 use Rattle.merkle_claim_theory.proofs.HonestClaims.{member_split}
 use Rattle.merkle_base.proofs.Cases.{by_test}

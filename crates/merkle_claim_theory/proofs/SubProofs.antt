@@ -16,7 +16,7 @@ use Rattle.merkle_root_theory.specs.Range.{end_of, range_parts, range_siblings, 
 use Rattle.merkle_claim_theory.specs.Store.{sub_siblings, sub_outside_parts, sub_inner, sub_digests, IsPartOf, PartIsAccepted, read_pair, SiblingsAreRead}
 use Rattle.merkle_root_theory.specs.Collision.{Member}
 use Rattle.merkle_claim_theory.specs.Order.{Distinct}
-use Rattle.merkle_claim_theory.specs.Table.{digest_for}
+use Rattle.merkle_base.specs.Table.{digest_for}
 use Rattle.merkle_root_theory.specs.Extract.{inner_pairs}
 use Rattle.merkle_root_theory.proofs.Collisions.{member_left, member_right}
 use Rattle.merkle_claim_theory.proofs.PlacesOnce.{member_map}

@@ -6,15 +6,9 @@ pub mod Order
 pub mod Audit
 pub mod ThreeLeaves
 pub mod Complete
-pub mod Table
 pub mod Multiproof
 pub mod Pinned
 pub mod Rebuilt
 pub mod Store
 pub mod Verdict
-pub mod Siblings
 pub mod ClaimRoots
-pub mod PlainHash
-pub mod Located
-pub mod FewDigests
-pub mod Rows

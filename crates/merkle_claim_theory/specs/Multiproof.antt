@@ -13,7 +13,7 @@ use Rattle.merkle_root_theory.specs.Check.{root_of, all_inputs}
 use Rattle.merkle_base.specs.Scheme.{Scheme}
 use Rattle.merkle_base.specs.Places.{peaks_of}
 use Rattle.merkle_root_theory.specs.Range.{leaf_of, list_inputs, plan_root, IsLawfulScheme}
-use Rattle.merkle_claim_theory.specs.Table.{digest_for, digest_at_position}
+use Rattle.merkle_base.specs.Table.{digest_for, digest_at_position}
 
 -- the nodes whose digests prove the leaf at i: the peaks that don't hold it, and the path siblings under the one that does
 abbrev pub one_leaf_nodes : ℕ → List Tree → List Tree

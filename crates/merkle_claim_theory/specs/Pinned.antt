@@ -11,7 +11,7 @@ use Rattle.merkle_base.specs.Scheme.{Scheme}
 use Rattle.merkle_base.specs.Places.{peaks_of}
 use Rattle.merkle_root_theory.specs.Range.{end_of, digest_count, list_inputs, plan_root, IsLawfulScheme, IsEmptyInput, IsHonestRange}
 use Rattle.merkle_root_theory.specs.Reconstruction.{reconstructed}
-use Rattle.merkle_claim_theory.specs.Table.{digest_for}
+use Rattle.merkle_base.specs.Table.{digest_for}
 use Rattle.merkle_claim_theory.specs.Multiproof.{AllHolds}
 
 -- where the pins stand: the peaks over the leaves before start

@@ -11,7 +11,7 @@ use Rattle.merkle_root_theory.specs.Claim.{next}
 use Rattle.merkle_root_theory.specs.Check.{in_range, RangeInput}
 use Rattle.merkle_root_theory.specs.Range.{end_of, range_parts, range_siblings, AcceptsNonempty}
 use Rattle.merkle_claim_theory.specs.PinnedClaim.{pin_tree, pin_plan}
-use Rattle.merkle_claim_theory.specs.Table.{digest_for}
+use Rattle.merkle_base.specs.Table.{digest_for}
 use Rattle.merkle_claim_theory.specs.Pinned.{pin_positions, AcceptsPinnedSome, IsHonestPinned}
 
 -- each of the marked ones has the digest at its place that f gives it

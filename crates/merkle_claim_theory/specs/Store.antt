@@ -11,7 +11,7 @@ use Rattle.merkle_base.specs.Places.{peaks_of}
 use Rattle.merkle_root_theory.specs.Range.{end_of, AcceptsNonempty}
 use Rattle.merkle_root_theory.specs.Collision.{Member}
 use Rattle.merkle_claim_theory.specs.Order.{Distinct}
-use Rattle.merkle_claim_theory.specs.Table.{digest_for}
+use Rattle.merkle_base.specs.Table.{digest_for}
 use Rattle.merkle_root_theory.specs.Extract.{inner_pairs}
 
 -- the values, in the claim for c, of the maximal nodes under which no location of d lies; ds: the digests for the siblings for c

@@ -22,7 +22,8 @@ use Rattle.merkle_batch_theory.specs.HeldPeaks.{pins_of}
 use Rattle.merkle_batch_theory.specs.MemModel.{stored_of}
 use Rattle.merkle_batch_theory.proofs.HeldNodes.{replaced}
 use Rattle.merkle_batch_theory.proofs.Kept.{get_mapped}
-use Rattle.merkle_batch_theory.proofs.ListFacts.{any_find, get_reversed}
+use Rattle.merkle_base.proofs.Reversed.{get_reversed}
+use Rattle.merkle_batch_theory.proofs.ListFacts.{any_find}
 use Rattle.merkle_batch_theory.proofs.MapFacts.{eqb_comm}
 use Rattle.merkle_batch_theory.proofs.OptionFacts.{or_nothing}
 use Rattle.merkle_batch_theory.proofs.Stored.{numbered, held, held_before, lookup_at}

@@ -18,7 +18,7 @@ use Rattle.merkle_base.proofs.Lookup.{peak_node}
 use Rattle.merkle_base.proofs.Paths.{leaf_under, peak_holding}
 use Rattle.merkle_base.proofs.PeakLists.{Spans, covers_spans, all_reverse}
 use Rattle.merkle_draft.specs.DirtyLeaves.{dirty_leaves, HasLeavesOf}
-use Rattle.merkle_batch_theory.proofs.ListFacts.{get_reverse}
+use Rattle.merkle_base.proofs.Reversed.{get_reverse}
 use Rattle.merkle_draft.proofs.DirtyFacts.{leaf_dirty, leaf_untouched, Between, dirty_between, after_start}
 use Rattle.merkle_batch_theory.proofs.OptionFacts.{none_or_some}
 use Rattle.merkle_base.proofs.Nodes.{all_append}

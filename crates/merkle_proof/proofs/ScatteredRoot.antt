@@ -15,7 +15,7 @@ use Rattle.merkle_root_theory.specs.Reconstruction.{reconstructed}
 use Rattle.merkle_root_theory.proofs.ListRoots.{folded_values}
 use Rattle.merkle_root_theory.proofs.Reconstruction.{leads_is_accepted}
 use Rattle.merkle_claim_theory.specs.Multiproof.{MultiInput, multi_positions, locations_in, multi_on, multi_expression, AllHolds, AcceptsMultiCases, AcceptsMultiSome}
-use Rattle.merkle_claim_theory.specs.Table.{digest_for}
+use Rattle.merkle_base.specs.Table.{digest_for}
 use Rattle.merkle_claim_theory.proofs.ListedDigests.{EachPeak, each_of, of_each, plan_for}
 use Rattle.merkle_scattered.specs.Confirmed.{EachHolds, node_checked, nodes_checked, locations_of}
 use Rattle.merkle_range.specs.Input.{range_input}

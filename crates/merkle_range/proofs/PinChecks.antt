@@ -12,7 +12,7 @@ use Rattle.merkle_root_theory.specs.Range.{Accepts, AcceptsNonempty, end_of, ran
 use Rattle.merkle_root_theory.specs.Walk.{bytes_of}
 use Rattle.merkle_claim_theory.specs.Pinned.{AcceptsPinnedCases}
 use Rattle.merkle_claim_theory.specs.Rebuilt.{IsRebuilt}
-use Rattle.merkle_claim_theory.specs.Table.{digest_for}
+use Rattle.merkle_base.specs.Table.{digest_for}
 use Rattle.merkle_claim_theory.proofs.RebuiltPins.{pinned_is_rebuilt}
 use Rattle.merkle_range.specs.Input.{range_input}
 use Rattle.merkle_range.specs.PinnedParts.{IsBeforeRebuilt}

@@ -10,7 +10,7 @@ ghost use Rattle.merkle_root_theory.specs.Range.{range_parts, range_siblings};
 ghost use Rattle.merkle_root_theory.specs.Walk.{bytes_of};
 ghost use Rattle.merkle_claim_theory.specs.Pinned.{AcceptsPinnedCases};
 ghost use Rattle.merkle_claim_theory.specs.Rebuilt.{AllRebuilt, rebuilt_node, rebuilt_part};
-ghost use Rattle.merkle_claim_theory.specs.Table.{digest_for};
+ghost use Rattle.merkle_base.specs.Table.{digest_for};
 ghost use Rattle.merkle_range.specs.Input.{range_input};
 ghost use Rattle.merkle_range.specs.PinnedParts.{IsBeforeRebuilt};
 

@@ -4,7 +4,7 @@ use Rattle.std.specs.List.{AllByRecursion}
 use Rattle.merkle_base.specs.Forest.{forest}
 use Rattle.merkle_base.specs.Tree.{Tree, first_leaf, end_leaf}
 use Rattle.merkle_base.specs.Hashing.{Hashing}
-use Rattle.merkle_claim_theory.specs.Table.{digest_for}
+use Rattle.merkle_base.specs.Table.{digest_for}
 use Rattle.merkle_root_theory.specs.Plan.{tree_digest}
 use Rattle.merkle_root_theory.specs.Walk.{leaf_from}
 use Rattle.merkle_hasher.specs.declared.subtree.Subtree.{Subtree}

@@ -1,7 +1,7 @@
 //! The digests of nodes that are known by position.
 ghost use Rattle.std.specs.Prelude.{◌≡◌, [], ◌++◌, ℕ, IfOk, IfSome, OnOk, map};
 ghost use Rattle.merkle_base.specs.Hashing.{Hashing};
-ghost use Rattle.merkle_claim_theory.specs.Table.{digest_for};
+ghost use Rattle.merkle_base.specs.Table.{digest_for};
 ghost use Rattle.merkle_reconstruction.specs.Inside.{AreListed, IsDigestAt};
 
 use merkle_base::family::Family;

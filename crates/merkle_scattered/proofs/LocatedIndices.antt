@@ -4,7 +4,7 @@ use Rattle.std.proofs.lemmas.Bool.{le-ltb, eq-eqb, ne_eqb, or_right, cases_lt}
 use Rattle.std.proofs.lemmas.List.Sums.{prefix_len-le-length}
 use Rattle.merkle_base.specs.Hashing.{Hashing}
 use Rattle.merkle_forest_theory.specs.Ascending.{AscendsFrom}
-use Rattle.merkle_claim_theory.specs.Table.{digest_for}
+use Rattle.merkle_base.specs.Table.{digest_for}
 use Rattle.merkle_scattered.specs.Confirmed.{locations_of, is_located, leaf_located, located_before}
 use Rattle.merkle_scattered.proofs.ScatteredElements.{unlocated}
 

@@ -7,7 +7,7 @@ use Rattle.merkle_hasher.specs.Subtrees.{AreNodes, subtree_of}
 use Rattle.merkle_root_theory.specs.Expression.{Expression, value, Holds}
 use Rattle.merkle_root_theory.specs.Plan.{tree_meets}
 use Rattle.merkle_claim_theory.specs.MultiClaim.{multi_tree}
-use Rattle.merkle_claim_theory.specs.Table.{digest_for}
+use Rattle.merkle_base.specs.Table.{digest_for}
 use Rattle.merkle_scattered.specs.declared.checked_node.CheckedNode.{CheckedNode}
 
 -- the locations of elements with their leaf digests

@@ -5,7 +5,7 @@ ghost use Rattle.merkle_base.specs.Hashing.{Hashing};
 ghost use Rattle.merkle_base.specs.Places.{peaks_of};
 ghost use Rattle.merkle_base.specs.Tree.{Tree};
 ghost use Rattle.merkle_forest_theory.specs.Ascending.{AscendsFrom};
-ghost use Rattle.merkle_claim_theory.specs.Table.{digest_for};
+ghost use Rattle.merkle_base.specs.Table.{digest_for};
 ghost use Rattle.merkle_root_theory.specs.Expression.{value};
 ghost use Rattle.merkle_scattered.specs.Confirmed.{EachHolds, IsChecked, AreChecked, locations_of, node_checked, nodes_checked, checked_node, all_children_met, all_parents_met, parent_met};
 

@@ -16,7 +16,7 @@ use Rattle.merkle_base.specs.Scheme.{Scheme}
 use Rattle.merkle_batch_theory.proofs.OptionFacts.{both_none}
 use Rattle.merkle_root_theory.specs.Outside.{folded_prefix}
 use Rattle.merkle_root_theory.specs.Range.{range_siblings}
-use Rattle.merkle_claim_theory.specs.Table.{digest_for}
+use Rattle.merkle_base.specs.Table.{digest_for}
 use Rattle.merkle_store_theory.specs.StoreValue.{StoreValue}
 use Rattle.merkle_store_theory.specs.StoreProof.{found_at, held_prefix, asked_prefix, asked_single, asked_suffix, suffix_front, prefix_refusal, first_reaching, suffix_lacking, suffix_refusal, first_lacking, ends_with}
 use Rattle.merkle_store_theory.specs.StoreLaws.{AreHeld, AnsweredIsHeld, IsFirstReaching, ShorterIsRefused, ShorterIsNext}

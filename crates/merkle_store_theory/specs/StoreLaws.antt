@@ -7,7 +7,7 @@ use Rattle.merkle_root_theory.specs.Plan.{root_plan}
 use Rattle.merkle_base.specs.Scheme.{Scheme}
 use Rattle.merkle_root_theory.specs.Check.{RangeInput}
 use Rattle.merkle_root_theory.specs.Range.{end_of, range_siblings, range_digests, AcceptsNonempty, IsHonestNonempty}
-use Rattle.merkle_claim_theory.specs.Table.{digest_for}
+use Rattle.merkle_base.specs.Table.{digest_for}
 use Rattle.merkle_claim_theory.specs.Store.{sub_digests}
 use Rattle.merkle_store_theory.specs.StoreValue.{StoreValue, store_of}
 use Rattle.merkle_store_theory.specs.StoreProof.{held_prefix, asked_prefix, asked_single, asked_suffix, suffix_front, store_proof, store_refusal}

@@ -10,7 +10,7 @@ use Rattle.merkle_base.specs.declared.family.Bagging.TheVariants.{ForwardFold}
 use Rattle.merkle_base.specs.Scheme.{Scheme}
 use Rattle.merkle_root_theory.specs.Outside.{folded_prefix, single_before, single_after, folded_suffix}
 use Rattle.merkle_root_theory.specs.Range.{overlapping, wholly_after, range_siblings}
-use Rattle.merkle_claim_theory.specs.Table.{digest_for}
+use Rattle.merkle_base.specs.Table.{digest_for}
 use Rattle.merkle_store_theory.specs.StoreValue.{StoreValue}
 
 -- the digest of the first of the pairs at a position

@@ -17,7 +17,7 @@ use Rattle.merkle_root_theory.specs.Plan.{Plan, peak, folding}
 use Rattle.merkle_root_theory.specs.Range.{range_parts, range_siblings}
 use Rattle.merkle_root_theory.specs.Reads.{nodes_read, reading_order, both_read, part_read}
 use Rattle.merkle_root_theory.proofs.ReadLayouts.{reads_laid_out}
-use Rattle.merkle_claim_theory.specs.Table.{digest_for}
+use Rattle.merkle_base.specs.Table.{digest_for}
 use Rattle.merkle_claim_theory.proofs.ListedDigests.{any_member, member_filtered, range_member}
 use Rattle.merkle_claim_theory.proofs.Multiproofs.{all_member, member_all}
 use Rattle.merkle_proof.specs.Positions.{range_positions}

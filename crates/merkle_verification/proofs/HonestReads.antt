@@ -6,7 +6,7 @@ use Rattle.merkle_base.specs.Digests.{digest_at, node_digests}
 use Rattle.merkle_base.specs.Shows.{Shows}
 use Rattle.merkle_batch_theory.proofs.ShownLists.{taken}
 use Rattle.merkle_batch_theory.proofs.Steps.{node_digest_at}
-use Rattle.merkle_claim_theory.specs.Table.{digest_for}
+use Rattle.merkle_base.specs.Table.{digest_for}
 use Rattle.merkle_proof.specs.RangePlans.{AnswersList}
 use Rattle.merkle_verification.proofs.ListedReads.{found_is}
 

@@ -7,7 +7,7 @@ use Rattle.merkle_base.proofs.Cases.{by_test}
 use Rattle.merkle_base.proofs.Lists.{cons_head, cons_tail}
 use Rattle.merkle_root_theory.specs.Collision.{Member}
 use Rattle.merkle_root_theory.proofs.Collisions.{member_right}
-use Rattle.merkle_claim_theory.specs.Table.{digest_for}
+use Rattle.merkle_base.specs.Table.{digest_for}
 use Rattle.merkle_claim_theory.proofs.Multiproofs.{all_member}
 use Rattle.merkle_proof.specs.RangePlans.{AreAnswered, IsFirstMissing}
 

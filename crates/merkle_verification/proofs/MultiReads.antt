@@ -12,7 +12,7 @@ use Rattle.merkle_base.proofs.Nodes.{size_inj}
 use Rattle.merkle_root_theory.specs.Range.{leaf_of}
 use Rattle.merkle_forest_theory.specs.Ascending.{AscendsFrom}
 use Rattle.merkle_claim_theory.specs.Multiproof.{IsHonestMulti, multi_positions}
-use Rattle.merkle_claim_theory.specs.Table.{digest_at_position}
+use Rattle.merkle_base.specs.Table.{digest_at_position}
 use Rattle.merkle_claim_theory.proofs.HonestMultis.{map-first}
 use Rattle.merkle_proof.specs.declared.proof.Proof.{Proof}
 use Rattle.merkle_verification.specs.ReaderProofs.{IsBuiltMulti, multi_list_input}

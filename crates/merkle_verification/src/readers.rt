@@ -7,7 +7,7 @@ ghost use Rattle.merkle_base.specs.Scheme.{Scheme};
 ghost use Rattle.merkle_base.specs.Shows.{Shows};
 ghost use Rattle.merkle_root_theory.specs.Range.{IsHonestRange};
 ghost use Rattle.merkle_claim_theory.specs.Multiproof.{IsHonestMulti, multi_positions};
-ghost use Rattle.merkle_claim_theory.specs.Table.{digest_for};
+ghost use Rattle.merkle_base.specs.Table.{digest_for};
 ghost use Rattle.merkle_proof.specs.MultiPositions.{AreLocations};
 ghost use Rattle.merkle_proof.specs.Positions.{range_positions};
 ghost use Rattle.merkle_proof.specs.RangePlans.{AnswersList, IsBuildRefusal, IsBuiltProof, IsFirstMissing, list_input};

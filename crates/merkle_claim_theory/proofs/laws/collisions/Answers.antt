@@ -3,7 +3,6 @@ use Rattle.merkle_root_theory.proofs.RootStrings.{tells_all}
 use Rattle.merkle_claim_theory.proofs.HonestClaims.{same_peaks, honest_never_collides}
 use Rattle.merkle_claim_theory.proofs.PlaceOrder.{places_in_order}
 use Rattle.merkle_claim_theory.proofs.PlacesOnce.{places_once}
-use Rattle.merkle_claim_theory.proofs.LocatedNodes.{collide_is_located, located_is_collide}
 use Rattle.merkle_claim_theory.proofs.laws.collisions.Goals as goal
 
 pub returns : goal.returns
@@ -14,6 +13,4 @@ returns g c = record {
   honest = honest_never_collides;
   order = places_in_order;
   once = places_once;
-  located = collide_is_located;
-  nodes = located_is_collide;
 }

@@ -4,7 +4,7 @@ use Rattle.merkle_base.specs.Root.{peaks_root}
 use Rattle.merkle_base.specs.Scheme.{scheme_of}
 use Rattle.merkle_forest_theory.specs.Ascending.{AscendsFrom}
 use Rattle.merkle_claim_theory.specs.Multiproof.{multi_positions, locations_in}
-use Rattle.merkle_claim_theory.specs.Table.{digest_for}
+use Rattle.merkle_base.specs.Table.{digest_for}
 use Rattle.merkle_scattered.specs.Confirmed.{EachHolds, locations_of}
 use Rattle.merkle_proof.specs.Input.{multi_input, element_leaves}
 use Rattle.merkle_proof.specs.MultiPositions.{AreLocations}

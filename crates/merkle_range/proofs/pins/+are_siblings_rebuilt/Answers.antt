@@ -2,7 +2,7 @@ use Rattle.std.proofs.Common.{◌≤◌, ◌<◌, ◌↔◌, IsTrue, false, leng
 use Rattle.std.proofs.lemmas.Bool.{not-true, not-false, false≢true}
 use Rattle.merkle_base.specs.Tree.{join, end_leaf}
 use Rattle.merkle_claim_theory.specs.Rebuilt.{AllRebuilt, rebuilt_node}
-use Rattle.merkle_claim_theory.specs.Table.{digest_for}
+use Rattle.merkle_base.specs.Table.{digest_for}
 use Rattle.merkle_hasher.proofs.Comparisons.{ge_yes, ge_no, lt_yes, lt_no}
 use Rattle.merkle_hasher.proofs.NodeSteps.{inner_node, lower}
 use Rattle.merkle_hasher.proofs.Spans.{heights_same}

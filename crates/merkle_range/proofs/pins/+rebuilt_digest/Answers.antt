@@ -1,5 +1,5 @@
 use Rattle.std.proofs.Common.{arith, sym, refl, inl, inr, ◌∙◌}
-use Rattle.merkle_claim_theory.specs.Table.{digest_for}
+use Rattle.merkle_base.specs.Table.{digest_for}
 use Rattle.merkle_hasher.proofs.Spans.{heights_same}
 use Rattle.merkle_hasher.proofs.NodeSteps.{inner_node, lower}
 use Rattle.merkle_range.proofs.PinWalks.{pinned_node, unpinned_leaf, unpinned_inner}

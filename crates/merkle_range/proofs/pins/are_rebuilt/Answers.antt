@@ -2,7 +2,7 @@ use Rattle.std.proofs.Common.{◌<◌, true, length, refl, sym, ap, arith, subst
 use Rattle.std.proofs.lemmas.Bool.{not-true, not-false, false≢true}
 use Rattle.std.proofs.lemmas.List.{length-map, length-drop}
 use Rattle.merkle_claim_theory.specs.Rebuilt.{AllRebuilt, rebuilt_node}
-use Rattle.merkle_claim_theory.specs.Table.{digest_for}
+use Rattle.merkle_base.specs.Table.{digest_for}
 use Rattle.merkle_hasher.specs.Subtrees.{Denotes, subtree_of}
 use Rattle.merkle_range.proofs.IndividualPeaks.{drop_next, all_taken}
 use Rattle.merkle_range.proofs.PeakLoop.{element_means}

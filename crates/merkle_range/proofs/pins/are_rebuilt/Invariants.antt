@@ -2,7 +2,7 @@ use Rattle.std.proofs.Common.{◌≡◌, true, List, map, take, drop}
 use Rattle.merkle_base.specs.Tree.{Tree}
 use Rattle.merkle_hasher.specs.Subtrees.{AreNodes, subtree_of}
 use Rattle.merkle_claim_theory.specs.Rebuilt.{AllRebuilt, rebuilt_node}
-use Rattle.merkle_claim_theory.specs.Table.{digest_for}
+use Rattle.merkle_base.specs.Table.{digest_for}
 use Rattle.merkle_range.proofs.pins.are_rebuilt.Given as goal
 
 abbrev pub invariant-loop-peak : goal.invariant-loop-peak

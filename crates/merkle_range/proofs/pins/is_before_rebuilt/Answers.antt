@@ -4,7 +4,7 @@ use Rattle.std.proofs.lemmas.List.{length-map, nil_from_length}
 use Rattle.merkle_base.proofs.PeakLists.{peaks_spans}
 use Rattle.merkle_base.specs.Places.{peaks_of, wholly_before}
 use Rattle.merkle_claim_theory.specs.Rebuilt.{AllRebuilt, rebuilt_node}
-use Rattle.merkle_claim_theory.specs.Table.{digest_for}
+use Rattle.merkle_base.specs.Table.{digest_for}
 use Rattle.merkle_hasher.specs.Subtrees.{subtree_of}
 use Rattle.merkle_hasher.proofs.PeakNodes.{peaks_at}
 use Rattle.merkle_root_theory.specs.Layouts.{count_before, count_after}

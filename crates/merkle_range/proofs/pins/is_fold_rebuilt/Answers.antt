@@ -1,6 +1,6 @@
 use Rattle.std.proofs.Common.{◌≡◌, length, refl, sym, ap, arith, ◌∙◌}
 use Rattle.std.proofs.lemmas.List.{nil_from_length}
-use Rattle.merkle_claim_theory.specs.Table.{digest_for}
+use Rattle.merkle_base.specs.Table.{digest_for}
 use Rattle.merkle_root_theory.specs.Outside.{fold_all}
 use Rattle.merkle_range.proofs.PinWalks.{no_nodes, first_node, fold_decided, fold_none}
 use Rattle.merkle_range.proofs.pins.is_fold_rebuilt.Goals as goal

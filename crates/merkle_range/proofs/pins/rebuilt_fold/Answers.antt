@@ -1,7 +1,7 @@
 use Rattle.std.proofs.Common.{arith, ◌+◌, sym, subst, ap, ◌∙◌, take, length}
 use Rattle.std.proofs.lemmas.List.{length-map}
 use Rattle.merkle_claim_theory.specs.Rebuilt.{rebuilt_part}
-use Rattle.merkle_claim_theory.specs.Table.{digest_for}
+use Rattle.merkle_base.specs.Table.{digest_for}
 use Rattle.merkle_hasher.specs.Subtrees.{Denotes, subtree_of}
 use Rattle.merkle_root_theory.specs.Plan.{left_fold_plan, peak}
 use Rattle.merkle_range.proofs.IndividualPeaks.{all_taken}

@@ -3,7 +3,7 @@ use Rattle.merkle_base.specs.Tree.{Tree}
 use Rattle.merkle_hasher.specs.Subtrees.{Denotes, AreNodes, subtree_of}
 use Rattle.merkle_root_theory.specs.Plan.{left_fold_plan, peak}
 use Rattle.merkle_claim_theory.specs.Rebuilt.{rebuilt_part}
-use Rattle.merkle_claim_theory.specs.Table.{digest_for}
+use Rattle.merkle_base.specs.Table.{digest_for}
 use Rattle.merkle_range.proofs.pins.rebuilt_fold.Given as goal
 
 abbrev pub invariant-loop-peak : goal.invariant-loop-peak

@@ -1,5 +1,5 @@
 use Rattle.std.proofs.Common.{◌≡◌, drop}
-use Rattle.merkle_claim_theory.specs.Table.{digest_for}
+use Rattle.merkle_base.specs.Table.{digest_for}
 use Rattle.merkle_reconstruction.proofs.known.digest_at.Given as goal
 
 abbrev pub invariant-loop-listed : goal.invariant-loop-listed

@@ -2,7 +2,7 @@ use Rattle.std.proofs.Common.{◌≡◌, ◌≢◌, ◌++◌, List, length, map,
 use Rattle.std.proofs.lemmas.List.{length-map}
 use Rattle.std.proofs.lemmas.Option.{IfSome_then}
 use Rattle.merkle_base.specs.Tree.{Tree}
-use Rattle.merkle_claim_theory.specs.Table.{digest_for}
+use Rattle.merkle_base.specs.Table.{digest_for}
 use Rattle.merkle_root_theory.specs.Expression.{value}
 use Rattle.merkle_root_theory.proofs.Grouping.{if_ok}
 use Rattle.merkle_scattered.specs.Confirmed.{AreChecked, EachHolds, node_checked, nodes_checked, checked_node, all_children_met, all_parents_met}

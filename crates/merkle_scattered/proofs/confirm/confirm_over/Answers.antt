@@ -1,6 +1,6 @@
 use Rattle.std.proofs.Common.{◌≡◌, ◌++◌, length, map, ap, rules, ◌∙◌}
 use Rattle.std.proofs.lemmas.List.{length-map}
-use Rattle.merkle_claim_theory.specs.Table.{digest_for}
+use Rattle.merkle_base.specs.Table.{digest_for}
 use Rattle.merkle_scattered.specs.Confirmed.{nodes_checked}
 use Rattle.merkle_scattered.proofs.confirm.confirm_over.Goals as goal
 

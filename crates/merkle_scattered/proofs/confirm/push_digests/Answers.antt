@@ -1,7 +1,7 @@
 use Rattle.std.proofs.Common.{◌≡◌, ℕ, ◌+◌, IfSome, unwrap_or, length, drop, sym, subst, ap, arith, ◌∙◌, append-nil}
 use Rattle.std.proofs.lemmas.Bool.{leb-true, leb-false, false≢true}
 use Rattle.merkle_base.specs.Tree.{position}
-use Rattle.merkle_claim_theory.specs.Table.{digest_for}
+use Rattle.merkle_base.specs.Table.{digest_for}
 use Rattle.merkle_scattered.proofs.CheckedNodes.{checked_item, none_after, is_met, is_unmet}
 use Rattle.merkle_scattered.proofs.CheckedDigests.{IsLeft, parents_count, no_parent_unmet, left_parents, left_unmet, left_met, left_agrees}
 use Rattle.merkle_scattered.proofs.confirm.push_digests.Goals as goal

@@ -1,7 +1,7 @@
 use Rattle.std.proofs.Common.{◌≡◌, ◌+◌, ℕ, List, Option, drop, length, map}
 use Rattle.merkle_base.specs.Hashing.{Hashing}
 use Rattle.merkle_base.specs.Tree.{Tree}
-use Rattle.merkle_claim_theory.specs.Table.{digest_for}
+use Rattle.merkle_base.specs.Table.{digest_for}
 use Rattle.merkle_scattered.specs.Confirmed.{AreChecked, all_parents_met}
 use Rattle.merkle_scattered.proofs.CheckedDigests.{IsLeft}
 use Rattle.merkle_scattered.proofs.confirm.push_digests.Given as goal

@@ -1,6 +1,6 @@
 use Rattle.std.proofs.Common.{rules, ◌≡◌}
 use Rattle.std.proofs.lemmas.Result.{IfErr-weaker}
-use Rattle.merkle_claim_theory.specs.Table.{digest_for}
+use Rattle.merkle_base.specs.Table.{digest_for}
 use Rattle.merkle_proof.proofs.RefusedProofs.{refused_by}
 use Rattle.merkle_verification.proofs.readers.build_proof.Goals as goal
 

@@ -1,7 +1,7 @@
 use Rattle.std.proofs.Common.{◌≡◌, ◌≤◌, arith, length, length-take, map, take, ap, sym, subst, ◌∙◌, inr, Some}
 use Rattle.std.proofs.lemmas.Result.{IfErr-weaker, IfOk-weaker}
 use Rattle.merkle_base.specs.Places.{peaks_of}
-use Rattle.merkle_claim_theory.specs.Table.{digest_for}
+use Rattle.merkle_base.specs.Table.{digest_for}
 use Rattle.merkle_proof.specs.RangePlans.{IsFirstMissing}
 use Rattle.merkle_verification.proofs.BuiltReads.{built_more, none_refused}
 use Rattle.merkle_verification.proofs.HonestReads.{taken_answers}

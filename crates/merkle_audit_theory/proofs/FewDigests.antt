@@ -7,7 +7,7 @@ use Rattle.merkle_forest_theory.specs.FewPeaks.{FewPeaks}
 use Rattle.merkle_forest_theory.proofs.RangeLawful.{mmr_lawful}
 use Rattle.merkle_forest_theory.proofs.BeltLawful.{mmb_lawful}
 use Rattle.merkle_forest_theory.proofs.PeakCounts.{mmr_few, mmb_few}
-use Rattle.merkle_claim_theory.specs.FewDigests.{FewPositions}
+use Rattle.merkle_audit_theory.specs.FewDigests.{FewPositions}
 use Rattle.merkle_claim_theory.proofs.FewPositions.{at_most_122}
 
 -- of any lawful rule with so few peaks

@@ -14,7 +14,7 @@ use Rattle.merkle_root_theory.specs.Check.{string_of, inputs_of, all_inputs, lis
 use Rattle.merkle_base.specs.Scheme.{Scheme}
 use Rattle.merkle_base.specs.Places.{peaks_of}
 use Rattle.merkle_root_theory.specs.Range.{leaf_of}
-use Rattle.merkle_claim_theory.specs.Table.{digest_for}
+use Rattle.merkle_base.specs.Table.{digest_for}
 use Rattle.merkle_claim_theory.specs.Multiproof.{multi_positions, locations_in, leaves_in, multi_on}
 use Rattle.merkle_claim_theory.specs.Verdict.{HonestMultiHasNoCollision}
 use Rattle.merkle_root_theory.proofs.Collisions.{member_ordered}

@@ -15,8 +15,8 @@ use Rattle.merkle_claim_theory.specs.MultiClaim.{also, multi_tree, multi_claim}
 use Rattle.merkle_claim_theory.specs.Multiproof.{MultiInput, multi_on, multi_expression}
 use Rattle.merkle_claim_theory.specs.PinnedClaim.{pinned_or, pin_tree, pin_plan, outside_tree, outside_plan, pinned_tree, pinned_claim}
 use Rattle.merkle_claim_theory.specs.Pinned.{pin_positions, pinned_on, pinned_expression}
-use Rattle.merkle_claim_theory.specs.Table.{digest_for}
-use Rattle.merkle_claim_theory.specs.PlainHash.{SameForm}
+use Rattle.merkle_base.specs.Table.{digest_for}
+use Rattle.merkle_audit_theory.specs.PlainHash.{SameForm}
 use Rattle.merkle_claim_theory.proofs.HonestClaims.{member_split}
 use Rattle.merkle_claim_theory.proofs.ListedDigests.{filtered_member}
 

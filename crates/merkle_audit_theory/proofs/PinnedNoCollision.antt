@@ -11,7 +11,7 @@ use Rattle.merkle_root_theory.specs.Outside.{HasLayout}
 use Rattle.merkle_root_theory.specs.Check.{in_range, chosen, leaf_given}
 use Rattle.merkle_base.specs.Places.{peaks_of}
 use Rattle.merkle_root_theory.specs.Range.{end_of, range_parts, range_siblings, leaf_of}
-use Rattle.merkle_claim_theory.specs.Table.{digest_for}
+use Rattle.merkle_base.specs.Table.{digest_for}
 use Rattle.merkle_claim_theory.specs.Pinned.{pin_positions, pinned_on}
 use Rattle.merkle_claim_theory.specs.Verdict.{HonestPinnedHasNoCollision}
 use Rattle.merkle_claim_theory.proofs.HonestClaims.{IncludedIn, given_within, hashed_within}
@@ -23,7 +23,7 @@ use Rattle.merkle_root_theory.proofs.RangeChecks.{honest_leaves}
 use Rattle.merkle_root_theory.proofs.RangeDigests.{range_digests_are}
 use Rattle.merkle_claim_theory.proofs.ListedDigests.{plan_for}
 use Rattle.merkle_claim_theory.proofs.PinnedChecks.{pins_rebuild, honest_pins_are}
-use Rattle.merkle_claim_theory.proofs.MultiNoCollision.{clear_of}
+use Rattle.merkle_audit_theory.proofs.MultiNoCollision.{clear_of}
 
 module _ {D : Type 0} (h : Hashing D) (b : ℕ → Option D) (X : ℕ → D) where
   told_within : (x : D) (e f : Expression D) → IncludedIn h e f → IncludedIn h (cross_checked x e) f

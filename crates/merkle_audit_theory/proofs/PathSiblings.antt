@@ -13,7 +13,7 @@ use Rattle.merkle_root_theory.specs.Plan.{siblings}
 use Rattle.merkle_root_theory.specs.Check.{in_range}
 use Rattle.merkle_root_theory.proofs.PeakGroups.{meets_not, meets_yes}
 use Rattle.merkle_root_theory.proofs.Walks.{siblings_unmet, siblings_join, siblings_inside}
-use Rattle.merkle_claim_theory.specs.Siblings.{PathHasSiblings}
+use Rattle.merkle_audit_theory.specs.Siblings.{PathHasSiblings}
 
 siblings_left : (ns : List Tree) (k p : ℕ) (l r : Tree) → IsBuilt ns (join p l r) → first_leaf l ≤ k → k < first_leaf r → siblings (in_range k (k + 1)) (join p l r) ≡ siblings (in_range k (k + 1)) l ++ r ∷ []
 siblings_left ns k p l r h low high =

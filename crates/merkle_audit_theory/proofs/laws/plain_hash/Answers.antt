@@ -1,5 +1,5 @@
-use Rattle.merkle_claim_theory.proofs.PlainStrings.{standard_is_plain, root_collision, plain_collision, node_collision, range_collision, multi_collision, pinned_collision, pair_collision}
-use Rattle.merkle_claim_theory.proofs.laws.plain_hash.Goals as goal
+use Rattle.merkle_audit_theory.proofs.PlainStrings.{standard_is_plain, root_collision, plain_collision, node_collision, range_collision, multi_collision, pinned_collision, pair_collision}
+use Rattle.merkle_audit_theory.proofs.laws.plain_hash.Goals as goal
 
 pub returns : goal.returns
 returns g c = record {

@@ -4,8 +4,8 @@ use Rattle.merkle_base.specs.Forest.{forest}
 use Rattle.merkle_forest_theory.specs.Rows.{unmerged}
 use Rattle.merkle_root_theory.specs.Expression.{Root, PrefixFold, Pair, Bytes, Argument, Input}
 use Rattle.merkle_root_theory.specs.Collision.{Member}
-use Rattle.merkle_claim_theory.specs.Rows.{toy}
-use Rattle.merkle_claim_theory.proofs.laws.worked_rows.Goals as goal
+use Rattle.merkle_audit_theory.specs.Rows.{toy}
+use Rattle.merkle_audit_theory.proofs.laws.worked_rows.Goals as goal
 
 -- of the inputs of three peaks, whatever is folded, the root's argument is this string
 one_root : (x y u v : ℕ) (a : List ℕ)

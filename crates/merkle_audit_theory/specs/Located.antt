@@ -2,7 +2,7 @@
 use Rattle.std.specs.Prelude.{◌≡◌, ℕ, List, length}
 use Rattle.merkle_base.specs.Hashing.{Hashing}
 use Rattle.merkle_base.specs.Places.{peaks_of}
-use Rattle.merkle_batch_theory.specs.Collision.{Collide}
+use Rattle.merkle_base.specs.Collision.{Collide}
 use Rattle.merkle_root_theory.specs.Expression.{Node, Input}
 use Rattle.merkle_root_theory.specs.Collision.{Collision, Collides}
 use Rattle.merkle_root_theory.specs.Range.{leaf_of}

@@ -9,8 +9,8 @@ use Rattle.merkle_base.proofs.Paths.{leaf_under, peak_holding}
 use Rattle.merkle_base.proofs.Lookup.{peak_node}
 use Rattle.merkle_base.specs.Hashing.{Hashing, EqDecides}
 use Rattle.merkle_base.specs.Digests.{digest_at, peak_digests}
-use Rattle.merkle_batch_theory.specs.Collision.{Collide}
-use Rattle.merkle_batch_theory.proofs.ListFacts.{get_reverse}
+use Rattle.merkle_base.specs.Collision.{Collide}
+use Rattle.merkle_base.proofs.Reversed.{get_reverse}
 use Rattle.merkle_base.proofs.Cases.{by_test}
 use Rattle.merkle_base.proofs.Lists.{same_list}
 

@@ -15,7 +15,7 @@ use Rattle.merkle_root_theory.specs.Range.{leaf_of}
 use Rattle.merkle_root_theory.proofs.Collisions.{member_left, member_right}
 use Rattle.merkle_root_theory.proofs.ListRoots.{digest_at_is}
 use Rattle.merkle_claim_theory.specs.Exact.{forest_inputs}
-use Rattle.merkle_claim_theory.specs.Located.{node_inputs, CollideIsLocated, LocatedIsCollide}
+use Rattle.merkle_audit_theory.specs.Located.{node_inputs, CollideIsLocated, LocatedIsCollide}
 use Rattle.merkle_claim_theory.proofs.HonestClaims.{member_split}
 use Rattle.merkle_claim_theory.proofs.Multiproofs.{all_member, flat_member, member_flat}
 

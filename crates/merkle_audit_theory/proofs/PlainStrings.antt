@@ -11,8 +11,8 @@ use Rattle.merkle_base.specs.Scheme.{Scheme}
 use Rattle.merkle_root_theory.specs.Range.{leaf_of, list_inputs}
 use Rattle.merkle_claim_theory.specs.Multiproof.{multi_expression}
 use Rattle.merkle_claim_theory.specs.Pinned.{pinned_expression}
-use Rattle.merkle_claim_theory.specs.PlainHash.{IsPlain, joined_at, string_at, IsHashCollision, SameForm, StandardIsPlain, RootCollision, PlainCollision, RangeCollision, MultiCollision, PinnedCollision, PairCollision, NodeCollision}
-use Rattle.merkle_claim_theory.proofs.InputForms.{AllRootless, one_form, range_rootless, list_rootless, multi_inputs_rootless, pinned_inputs_rootless}
+use Rattle.merkle_audit_theory.specs.PlainHash.{IsPlain, joined_at, string_at, IsHashCollision, SameForm, StandardIsPlain, RootCollision, PlainCollision, RangeCollision, MultiCollision, PinnedCollision, PairCollision, NodeCollision}
+use Rattle.merkle_audit_theory.proofs.InputForms.{AllRootless, one_form, range_rootless, list_rootless, multi_inputs_rootless, pinned_inputs_rootless}
 
 pub standard_is_plain : {D : Type 0} → StandardIsPlain D
 standard_is_plain hash bytes same empty = record { node = λ p l r. refl; fold = λ a b. refl }

@@ -1,0 +1,5 @@
+pub mod FewDigests
+pub mod Located
+pub mod PlainHash
+pub mod Rows
+pub mod Siblings

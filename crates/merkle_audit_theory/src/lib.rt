@@ -1,0 +1,8 @@
+//! Laws of what checks hash, and of the collisions that are handed out. This crate has no code.
+//!
+//! It stands at the end, so that nothing waits for it. `specs/` has the definitions, and worked
+//! rows of those of `merkle_root_theory` and `merkle_claim_theory`. The module [`laws`] states the
+//! laws.
+#![tactic(auto)]
+
+pub mod laws;

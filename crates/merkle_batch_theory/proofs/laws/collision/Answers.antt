@@ -1,5 +1,0 @@
-use Rattle.merkle_batch_theory.proofs.Colliding.{same_or_collide}
-use Rattle.merkle_batch_theory.proofs.laws.collision.Goals as goal
-
-pub returns : goal.returns
-returns g c = record { collides = same_or_collide }
