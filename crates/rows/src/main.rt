@@ -5,18 +5,8 @@
 //! rows of worked values can be read as data. `docs/ROWS.md` lists the calls.
 #![tactic(auto)]
 
-mod batches;
-mod checks;
-mod digests;
-mod families;
-mod plans;
-mod proofs;
-mod readers;
-mod scattered;
+mod dispatch;
 mod session;
-mod stores;
-mod structures;
-mod world;
 
 use crate::session::Session;
 use std::io;

@@ -1,6 +1,6 @@
 //! The families and the hashers that the lines are about.
 
-use crate::world::World;
+use crate::dispatch;
 use merkle_core::digest::{Sha256Plain, Xor8};
 use merkle_core::family::{Bagging, Family};
 use merkle_core::hasher::Standard;
@@ -11,6 +11,7 @@ use rows_text::answer::Answer;
 use rows_text::calls::{Call, find_call};
 use rows_text::refusal::{Refusal, SYNTAX};
 use rows_text::words::bytes;
+use rows_world::world::World;
 use std::alloc::Global;
 
 #[derive(Clone, Copy)]
@@ -58,7 +59,7 @@ fn is_meant(word: &str, name: &str) -> bool {
 fn read_hash<'a>(alloc: Global, words: &[&'a str]) -> Result<(&'a str, u8), Refusal> {
     match *words {
         [hash] => Ok((hash, KEY)),
-        ["keyed", key] => match bytes(alloc, key)?.as_slice() {
+        ["keyed", key] => match bytes(alloc, key).ok_or(SYNTAX)?.as_slice() {
             [key] => Ok(("keyed", *key)),
             _ => Err(SYNTAX),
         },
@@ -85,9 +86,9 @@ impl<F: Family> Hashed<F> {
 
     fn answer(&mut self, call: Call, words: &[&str], answer: &mut Answer) -> Result<(), Refusal> {
         match self {
-            Hashed::Sha256(world) => world.answer(call, words, answer),
-            Hashed::Xor8(world) => world.answer(call, words, answer),
-            Hashed::Keyed(world) => world.answer(call, words, answer),
+            Hashed::Sha256(world) => dispatch::answer(world, call, words, answer),
+            Hashed::Xor8(world) => dispatch::answer(world, call, words, answer),
+            Hashed::Keyed(world) => dispatch::answer(world, call, words, answer),
         }
     }
 }
@@ -216,8 +217,8 @@ impl Session {
                 self.open(family, bagging, hash)?;
                 answer.end()
             }
-            [name, ..] => match find_call(name, words.len()) {
-                Some(call) => self.answer_all(call, words.as_slice(), answer),
+            [name, ref rest @ ..] => match find_call(name, words.len()) {
+                Some(call) => self.answer_all(call, rest, answer),
                 None => Err(SYNTAX),
             },
             [] => Err(SYNTAX),

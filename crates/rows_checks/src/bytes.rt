@@ -1,7 +1,5 @@
 //! How many of a structure's ranges have proofs that are accepted as they are written, and refused with a change.
 
-use crate::granted;
-use crate::sweep::{sum_by_inactive, sum_by_range};
 use merkle_core::codec::{Read, Write};
 use merkle_core::digest::Digest;
 use merkle_core::error::DecodeError;
@@ -10,6 +8,8 @@ use merkle_core::hasher::Hasher;
 use merkle_core::location::Location;
 use merkle_core::mem::Mem;
 use merkle_core::proof::{MAX_PROOF_DIGESTS_PER_ELEMENT, Proof};
+use rows_common::granted;
+use rows_common::sweep::{sum_by_inactive, sum_by_range};
 use rows_text::refusal::{OUT_OF_MEMORY, Refusal};
 use std::alloc::Global;
 

@@ -1,59 +1,48 @@
-//! Checks of leaves and ranges, and how many of a structure's are proved.
+//! How many of a structure's leaves and ranges are proved.
 
-use crate::changes::changed;
-use crate::granted;
-use crate::sweep::{sum_by_inactive, sum_by_range};
 use merkle_core::family::Family;
 use merkle_core::hasher::Hasher;
 use merkle_core::location::Location;
 use merkle_core::mem::Mem;
 use merkle_core::proof::Proof;
-use rows_text::refusal::{OUT_OF_MEMORY, Refusal};
+use rows_common::changes::changed;
+use rows_common::granted;
+use rows_common::sweep::{sum_by_inactive, sum_by_range};
+use rows_given::checks::{accepts_leaf, accepts_range};
+use rows_text::refusal::Refusal;
 use std::alloc::Global;
 
-/// Whether a proof is accepted with this element.
-pub fn check_leaf<F: Family, H: Hasher<F>>(
+// Whether a proof is accepted with the element and refused with another.
+fn accepts_this_alone<F: Family, H: Hasher<F>>(
+    alloc: Global,
     hasher: &H,
     proof: &Proof<F, H::Digest>,
     element: &[u8],
     leaf: Location<F>,
     root: &H::Digest,
 ) -> Result<bool, Refusal> {
-    let checked = proof.verify_element_inclusion(hasher, element, leaf, root);
-    checked.ok().ok_or(OUT_OF_MEMORY)
+    let is_accepted = accepts_leaf(hasher, proof, element, leaf, root)?;
+    let other = changed(alloc, element)?;
+    let is_other_accepted = accepts_leaf(hasher, proof, other.as_slice(), leaf, root)?;
+    Ok(is_accepted && !is_other_accepted)
 }
 
-/// Whether a proof is accepted with these elements.
-pub fn check_range<F: Family, H: Hasher<F>>(
-    alloc: Global,
-    hasher: &H,
-    proof: &Proof<F, H::Digest>,
-    elements: &[Vec<u8>],
-    start: Location<F>,
-    root: &H::Digest,
-) -> Result<bool, Refusal> {
-    let all = slices(alloc, elements)?;
-    let checked = proof.verify_range_inclusion(hasher, &all, start, root);
-    checked.ok().ok_or(OUT_OF_MEMORY)
-}
-
-/// The elements, lent.
-pub fn slices<'a>(alloc: Global, elements: &'a [Vec<u8>]) -> Result<Vec<&'a [u8]>, Refusal> {
-    let mut all: Vec<&[u8]> = Vec::new(alloc);
-    for element in elements {
-        all.push(element.as_slice())?;
-    }
-    Ok(all)
-}
-
-/// How many leaves are proved, one after another for each number of inactive peaks.
-pub fn leaves_proved<F: Family, H: Hasher<F>>(
+/// Whether the proof of a leaf, for a number of inactive peaks, has that count and the structure's, and is accepted with
+/// the element and refused with another.
+pub fn proves_leaf<F: Family, H: Hasher<F>>(
     alloc: Global,
     hasher: &H,
     structure: &Mem<F, H::Digest>,
-    elements: &[Vec<u8>],
-) -> u64 {
-    sum_by_inactive(|inactive| count_leaves(alloc, hasher, structure, elements, inactive))
+    leaf: Location<F>,
+    element: &[u8],
+    inactive: usize,
+) -> Result<bool, Refusal> {
+    let root = granted!(structure.root(hasher, inactive));
+    let proof = granted!(structure.proof(hasher, leaf, inactive));
+    if proof.leaves != structure.leaves() || proof.inactive_peaks != inactive {
+        return Ok(false);
+    }
+    accepts_this_alone(alloc, hasher, &proof, element, leaf, &root)
 }
 
 // How many leaves are proved for a number of inactive peaks.
@@ -75,52 +64,43 @@ fn count_leaves<F: Family, H: Hasher<F>>(
     proved
 }
 
-/// Whether the proof of a leaf, for a number of inactive peaks, has that count and the structure's, and is accepted with
-/// the element and refused with another.
-pub fn proves_leaf<F: Family, H: Hasher<F>>(
-    alloc: Global,
-    hasher: &H,
-    structure: &Mem<F, H::Digest>,
-    leaf: Location<F>,
-    element: &[u8],
-    inactive: usize,
-) -> Result<bool, Refusal> {
-    let root = granted!(structure.root(hasher, inactive));
-    let proof = granted!(structure.proof(hasher, leaf, inactive));
-    if proof.leaves != structure.leaves() || proof.inactive_peaks != inactive {
-        return Ok(false);
-    }
-    accepts_this_alone(alloc, hasher, &proof, element, leaf, &root)
-}
-
-// Whether a proof is accepted with the element and refused with another.
-fn accepts_this_alone<F: Family, H: Hasher<F>>(
-    alloc: Global,
-    hasher: &H,
-    proof: &Proof<F, H::Digest>,
-    element: &[u8],
-    leaf: Location<F>,
-    root: &H::Digest,
-) -> Result<bool, Refusal> {
-    let is_accepted = check_leaf(hasher, proof, element, leaf, root)?;
-    let other = changed(alloc, element)?;
-    let is_other_accepted = check_leaf(hasher, proof, other.as_slice(), leaf, root)?;
-    Ok(is_accepted && !is_other_accepted)
-}
-
-/// How many ranges are proved, one after another for each number of inactive peaks.
-pub fn ranges_proved<F: Family, H: Hasher<F>>(
+/// How many leaves are proved, one after another for each number of inactive peaks.
+pub fn leaves_proved<F: Family, H: Hasher<F>>(
     alloc: Global,
     hasher: &H,
     structure: &Mem<F, H::Digest>,
     elements: &[Vec<u8>],
 ) -> u64 {
-    sum_by_inactive(|inactive| {
-        sum_by_range(elements, |found, start| {
-            let is_proved = proves_range(alloc, hasher, structure, found, start, inactive);
-            u64::from(matches!(is_proved, Ok(true)))
-        })
-    })
+    sum_by_inactive(|inactive| count_leaves(alloc, hasher, structure, elements, inactive))
+}
+
+// The elements, with another in the place of the first.
+fn with_another_first(alloc: Global, elements: &[Vec<u8>]) -> Result<Vec<Vec<u8>>, Refusal> {
+    let mut others = Vec::new(alloc);
+    for (index, element) in elements.iter().enumerate() {
+        let other = if index == 0 {
+            changed(alloc, element.as_slice())?
+        } else {
+            element.clone()?
+        };
+        others.push(other)?;
+    }
+    Ok(others)
+}
+
+// Whether a proof is accepted with the elements, and refused with another first one.
+fn accept_these_alone<F: Family, H: Hasher<F>>(
+    alloc: Global,
+    hasher: &H,
+    proof: &Proof<F, H::Digest>,
+    elements: &[Vec<u8>],
+    start: Location<F>,
+    root: &H::Digest,
+) -> Result<bool, Refusal> {
+    let is_accepted = accepts_range(alloc, hasher, proof, elements, start, root)?;
+    let others = with_another_first(alloc, elements)?;
+    let are_accepted = accepts_range(alloc, hasher, proof, others.as_slice(), start, root)?;
+    Ok(is_accepted && !are_accepted)
 }
 
 // Whether the proof of a range is accepted with its elements, and refused with another first one.
@@ -139,31 +119,17 @@ fn proves_range<F: Family, H: Hasher<F>>(
     accept_these_alone(alloc, hasher, &proof, elements, first, &root)
 }
 
-// Whether a proof is accepted with the elements, and refused with another first one.
-fn accept_these_alone<F: Family, H: Hasher<F>>(
+/// How many ranges are proved, one after another for each number of inactive peaks.
+pub fn ranges_proved<F: Family, H: Hasher<F>>(
     alloc: Global,
     hasher: &H,
-    proof: &Proof<F, H::Digest>,
+    structure: &Mem<F, H::Digest>,
     elements: &[Vec<u8>],
-    start: Location<F>,
-    root: &H::Digest,
-) -> Result<bool, Refusal> {
-    let is_accepted = check_range(alloc, hasher, proof, elements, start, root)?;
-    let others = with_another_first(alloc, elements)?;
-    let are_accepted = check_range(alloc, hasher, proof, others.as_slice(), start, root)?;
-    Ok(is_accepted && !are_accepted)
-}
-
-// The elements, with another in the place of the first.
-fn with_another_first(alloc: Global, elements: &[Vec<u8>]) -> Result<Vec<Vec<u8>>, Refusal> {
-    let mut others = Vec::new(alloc);
-    for (index, element) in elements.iter().enumerate() {
-        let other = if index == 0 {
-            changed(alloc, element.as_slice())?
-        } else {
-            element.clone()?
-        };
-        others.push(other)?;
-    }
-    Ok(others)
+) -> u64 {
+    sum_by_inactive(|inactive| {
+        sum_by_range(elements, |found, start| {
+            let is_proved = proves_range(alloc, hasher, structure, found, start, inactive);
+            u64::from(matches!(is_proved, Ok(true)))
+        })
+    })
 }

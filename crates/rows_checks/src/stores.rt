@@ -1,13 +1,13 @@
 //! How many parts of a structure's ranges are proved by stores.
 
-use crate::granted;
-use crate::sweep::{sum_by_inactive, sum_by_range};
 use merkle_core::digest::Digest;
 use merkle_core::family::Family;
 use merkle_core::hasher::Hasher;
 use merkle_core::location::Location;
 use merkle_core::mem::Mem;
 use merkle_core::verification::ProofStore;
+use rows_common::granted;
+use rows_common::sweep::{sum_by_inactive, sum_by_range};
 use rows_text::refusal::{OUT_OF_MEMORY, Refusal};
 
 /// How many parts of ranges are proved by the stores of the ranges, one after another for each number of inactive peaks.

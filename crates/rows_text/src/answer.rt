@@ -78,9 +78,15 @@ impl Answer {
         }
     }
 
-    /// Writes a dash for the list of nothing.
-    pub fn or_dash(&mut self, is_nothing: bool) {
-        if is_nothing {
+    /// Writes the items of a list, with a text between each two, or a dash where there is none.
+    pub fn list<T, W: Fn(&mut Answer, &T)>(&mut self, items: &[T], between: &str, write: W)
+        requires { W.IsAlwaysCallable write }
+    {
+        for (index, item) in items.iter().enumerate() {
+            self.separator(between, index == 0);
+            write(self, item);
+        }
+        if items.is_empty() {
             self.text("-");
         }
     }

@@ -1,77 +1,23 @@
-//! Words as numbers, bytes, digests and lists of them.
+//! Words as numbers, bytes and lists of them.
 
 use crate::refusal::{Refusal, SYNTAX, UNKNOWN};
 use std::alloc::Global;
 use std::collections::HashMap;
 
-/// The word at an index, the first of which is the call's name: the empty word where there is none.
-pub fn word<'a>(words: &[&'a str], index: usize) -> &'a str {
-    match words.get(index) {
-        Some(word) => word,
-        None => "",
-    }
-}
-
-/// The words from an index on.
-pub fn words_from<'a, 'b>(words: &'b [&'a str], index: usize) -> &'b [&'a str] {
-    &words[index.min(words.len())..]
-}
-
-/// The number that the word at an index is in decimal digits.
-pub fn number(words: &[&str], index: usize) -> Result<u64, Refusal> {
-    read_number(word(words, index))
-}
-
-/// The count that the word at an index is in decimal digits.
-pub fn count(words: &[&str], index: usize) -> Result<usize, Refusal> {
-    usize::try_from(number(words, index)?).ok().ok_or(SYNTAX)
-}
-
-fn read_number(word: &str) -> Result<u64, Refusal> {
-    word.parse::<u64>().ok().ok_or(SYNTAX)
+/// The number in decimal digits.
+pub fn number(word: &str) -> Option<u64> {
+    word.parse::<u64>().ok()
 }
 
 /// The bytes with these hexadecimal digits.
-pub fn bytes(alloc: Global, word: &str) -> Result<Vec<u8>, Refusal> {
-    hex::decode(alloc, word).ok().ok_or(SYNTAX)
+pub fn bytes(alloc: Global, word: &str) -> Option<Vec<u8>> {
+    hex::decode(alloc, word).ok()
 }
 
-/// The item, and how often it stands in its list.
-pub fn repeated(item: &str) -> Result<(&str, u64), Refusal> {
-    match item.split_once('*') {
-        None => Ok((item, 1)),
-        Some((item, count)) => Ok((item, read_number(count)?)),
-    }
-}
-
-/// The elements of a list.
-pub fn elements(alloc: Global, word: &str) -> Result<Vec<Vec<u8>>, Refusal> {
-    let mut all = Vec::new(alloc);
-    if word != "-" {
-        for item in word.split(',') {
-            push_elements(alloc, &mut all, item)?;
-        }
-    }
-    Ok(all)
-}
-
-fn push_elements(alloc: Global, all: &mut Vec<Vec<u8>>, item: &str) -> Result<(), Refusal> {
-    let (item, count) = repeated(item)?;
-    for _ in 0..count {
-        all.push(bytes(alloc, item)?)?;
-    }
-    Ok(())
-}
-
-/// The numbers of a list.
-pub fn numbers(alloc: Global, word: &str) -> Result<Vec<u64>, Refusal> {
-    let mut all = Vec::new(alloc);
-    if word != "-" {
-        for item in word.split(',') {
-            all.push(read_number(item)?)?;
-        }
-    }
-    Ok(all)
+/// The number before the colon of an item, and what stands after it.
+pub fn numbered(item: &str) -> Option<(u64, &str)> {
+    let (index, rest) = item.split_once(':')?;
+    Some((number(index)?, rest))
 }
 
 /// The number of a leaf, with bytes for it.
@@ -81,23 +27,179 @@ pub struct LeafBytes {
     pub bytes: Vec<u8>,
 }
 
-/// The numbers of a list, each with its bytes.
-pub fn located(alloc: Global, word: &str) -> Result<Vec<LeafBytes>, Refusal> {
-    let mut all = Vec::new(alloc);
+fn leaf_bytes(alloc: Global, item: &str) -> Option<LeafBytes> {
+    let (leaf, spelling) = numbered(item)?;
+    Some(LeafBytes {
+        leaf,
+        bytes: bytes(alloc, spelling)?,
+    })
+}
+
+// The item, and how often it stands in its list.
+fn repeated(item: &str) -> Option<(&str, u64)> {
+    match item.split_once('*') {
+        None => Some((item, 1)),
+        Some((item, count)) => Some((item, number(count)?)),
+    }
+}
+
+// Adds what an item is read as, as often as it stands in its list.
+fn push_items<T: Drop, R: Fn(Global, &str) -> Option<T>>(
+    alloc: Global,
+    all: &mut Vec<T>,
+    item: &str,
+    read: &R,
+) -> Result<(), Refusal>
+    requires { R.IsAlwaysCallable read.now }
+{
+    let (item, count) = repeated(item).ok_or(SYNTAX)?;
+    for _ in 0..count {
+        let value = read(alloc, item).ok_or(SYNTAX)?;
+        all.push(value)?;
+    }
+    Ok(())
+}
+
+// Adds what the items of a list are read as.
+fn push_list<T: Drop, R: Fn(Global, &str) -> Option<T>>(
+    alloc: Global,
+    all: &mut Vec<T>,
+    word: &str,
+    read: &R,
+) -> Result<(), Refusal>
+    requires { R.IsAlwaysCallable read.now }
+{
     if word != "-" {
         for item in word.split(',') {
-            all.push(leaf_bytes(alloc, item)?)?;
+            push_items(alloc, all, item, read)?;
         }
+    }
+    Ok(())
+}
+
+/// The elements of a list, lent.
+pub fn slices<'a>(alloc: Global, elements: &'a [Vec<u8>]) -> Result<Vec<&'a [u8]>, Refusal> {
+    let mut all: Vec<&[u8]> = Vec::new(alloc);
+    for element in elements {
+        all.push(element.as_slice())?;
     }
     Ok(all)
 }
 
-fn leaf_bytes(alloc: Global, item: &str) -> Result<LeafBytes, Refusal> {
-    let (leaf, spelling) = item.split_once(':').ok_or(SYNTAX)?;
-    Ok(LeafBytes {
-        leaf: read_number(leaf)?,
-        bytes: bytes(alloc, spelling)?,
-    })
+/// The words of a call, which are read one after another.
+///
+/// The first word that is not what it is read as, or for which memory is refused, is remembered until the end, and some
+/// value stands for it. So a call reads all its words, and asks once, by [`end`](Words::end), whether they are right.
+#[derive(Drop)]
+pub struct Words<'a> {
+    alloc: Global,
+    words: &'a [&'a str],
+    read: usize,
+    refusal: Option<Refusal>,
+}
+
+impl<'a> Words<'a> {
+    /// The words, none of which is read yet.
+    pub fn new(alloc: Global, words: &'a [&'a str]) -> Self {
+        Words {
+            alloc,
+            words,
+            read: 0,
+            refusal: None,
+        }
+    }
+
+    /// The allocator of what is read.
+    pub fn alloc(&self) -> Global {
+        self.alloc
+    }
+
+    /// Refused as the first bad word was, if there was one.
+    pub fn end(&self) -> Result<(), Refusal> {
+        match self.refusal {
+            None => Ok(()),
+            Some(refusal) => Err(refusal),
+        }
+    }
+
+    // Remembers a refusal, if it is the first.
+    fn refuse(&mut self, refusal: Refusal) {
+        if self.refusal.is_none() {
+            self.refusal = Some(refusal);
+        }
+    }
+
+    /// What a word was read as; where it could not be, that is remembered, and the other value is returned.
+    pub fn value_or<T: Drop>(&mut self, value: Option<T>, other: T) -> T {
+        match value {
+            Some(value) => value,
+            None => {
+                self.refuse(SYNTAX);
+                other
+            }
+        }
+    }
+
+    /// The next word: the empty word where there is none.
+    pub fn word(&mut self) -> &'a str {
+        let index = self.read;
+        self.read = index.saturating_add(1);
+        match self.words.get(index) {
+            Some(word) => word,
+            None => "",
+        }
+    }
+
+    /// The number that the next word is in decimal digits.
+    pub fn number(&mut self) -> u64 {
+        let value = number(self.word());
+        self.value_or(value, 0)
+    }
+
+    /// The count that the next word is in decimal digits.
+    pub fn count(&mut self) -> usize {
+        let value = usize::try_from(self.number()).ok();
+        self.value_or(value, 0)
+    }
+
+    /// The bytes whose hexadecimal digits the next word is.
+    pub fn bytes(&mut self) -> Vec<u8> {
+        let value = bytes(self.alloc, self.word());
+        self.value_or(value, Vec::new(self.alloc))
+    }
+
+    /// What the items of the list that the next word is are read as.
+    pub fn list<T: Drop, R: Fn(Global, &str) -> Option<T>>(&mut self, read: R) -> Vec<T>
+        requires { R.IsAlwaysCallable read }
+    {
+        let mut all = Vec::new(self.alloc);
+        let word = self.word();
+        if let Err(refusal) = push_list(self.alloc, &mut all, word, &read) {
+            self.refuse(refusal);
+        }
+        all
+    }
+
+    /// The elements of the list that the next word is.
+    pub fn elements(&mut self) -> Vec<Vec<u8>> {
+        self.list(bytes)
+    }
+
+    /// The numbers of leaves of the list that the next word is, each with its bytes.
+    pub fn located(&mut self) -> Vec<LeafBytes> {
+        self.list(leaf_bytes)
+    }
+
+    /// The elements of a list, lent.
+    pub fn slices<'b>(&mut self, elements: &'b [Vec<u8>]) -> Vec<&'b [u8]> {
+        match slices(self.alloc, elements) {
+            Ok(all) => all,
+            Err(refusal) => {
+                self.refuse(refusal);
+                Vec::new(self.alloc)
+            }
+        }
+    }
 }
 
 /// What has that name.

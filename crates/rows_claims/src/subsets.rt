@@ -1,15 +1,16 @@
 //! How many choices of a structure's leaves are proved.
 
-use crate::changes::{changed, other_digest};
-use crate::granted;
-use crate::scattered::{check_scattered, scattered_proof};
-use crate::sweep::sum_by_inactive;
+use crate::scattered::scattered_proof;
 use merkle_core::digest::Digest;
 use merkle_core::family::Family;
 use merkle_core::hasher::Hasher;
 use merkle_core::location::Location;
 use merkle_core::mem::Mem;
 use merkle_core::proof::Proof;
+use rows_common::changes::{changed, other_digest};
+use rows_common::granted;
+use rows_common::sweep::sum_by_inactive;
+use rows_given::checks::accepts_scattered;
 use rows_text::refusal::Refusal;
 use rows_text::words::LeafBytes;
 use std::alloc::Global;
@@ -110,7 +111,7 @@ struct Claim<F: Family, D: Digest> {
 
 impl<F: Family, D: Digest> Claim<F, D> {
     fn is_accepted<H: Hasher<F, Digest = D>>(&self, hasher: &H) -> Result<bool, Refusal> {
-        check_scattered(
+        accepts_scattered(
             self.alloc,
             hasher,
             &self.proof,

@@ -1,14 +1,14 @@
 //! How many ranges of a structure are proved with the pins before them.
 
-use crate::changes::other_digest;
-use crate::granted;
-use crate::sweep::{sum_by_inactive, sum_by_range};
 use merkle_core::digest::Digest;
 use merkle_core::family::Family;
 use merkle_core::hasher::Hasher;
 use merkle_core::location::Location;
 use merkle_core::mem::Mem;
 use merkle_core::proof::Proof;
+use rows_common::changes::other_digest;
+use rows_common::granted;
+use rows_common::sweep::{sum_by_inactive, sum_by_range};
 use rows_text::refusal::{OUT_OF_MEMORY, Refusal};
 use std::alloc::Global;
 

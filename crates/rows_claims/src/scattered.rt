@@ -1,14 +1,12 @@
-//! Proofs and checks of scattered leaves.
+//! Proofs of scattered leaves of a structure.
 
-use crate::granted;
 use merkle_core::digest::Digest;
 use merkle_core::family::Family;
-use merkle_core::hasher::Hasher;
 use merkle_core::location::Location;
 use merkle_core::mem::Mem;
 use merkle_core::proof::{Proof, multi_proof_positions};
-use rows_text::refusal::{OUT_OF_MEMORY, Refusal};
-use rows_text::words::LeafBytes;
+use rows_common::granted;
+use rows_text::refusal::Refusal;
 use std::alloc::Global;
 
 /// The proof of the leaves at the locations of a structure.
@@ -32,23 +30,4 @@ pub fn scattered_proof<F: Family, D: Digest>(
         inactive_peaks: inactive,
         digests,
     })
-}
-
-/// Whether a proof is accepted with these elements, each at its location.
-pub fn check_scattered<F: Family, H: Hasher<F>>(
-    alloc: Global,
-    hasher: &H,
-    proof: &Proof<F, H::Digest>,
-    elements: &[LeafBytes],
-    root: &H::Digest,
-) -> Result<bool, Refusal> {
-    let mut all: Vec<(&[u8], Location<F>)> = Vec::new(alloc);
-    for element in elements {
-        let located = (element.bytes.as_slice(), Location::new(element.leaf));
-        if all.push(located).is_err() {
-            return Err(OUT_OF_MEMORY);
-        }
-    }
-    let checked = proof.verify_multi_inclusion(hasher, &all, root);
-    checked.ok().ok_or(OUT_OF_MEMORY)
 }

@@ -1,0 +1,25 @@
+//! The batches whose nodes are not computed yet, by their names.
+
+use merkle_core::batch::UnmerkleizedBatch;
+use merkle_core::family::Family;
+use merkle_core::hasher::Hasher;
+use rows_text::refusal::{Refusal, UNKNOWN};
+use rows_text::words::give_name;
+use rows_world::world::World;
+
+/// The draft of that name, which is no longer there.
+pub fn take_draft<F: Family, H: Hasher<F> + Drop>(
+    world: &mut World<F, H>,
+    name: &str,
+) -> Result<UnmerkleizedBatch<F, H::Digest>, Refusal> {
+    world.drafts.remove(name).ok_or(UNKNOWN)
+}
+
+/// Gives a draft that name.
+pub fn keep_draft<F: Family, H: Hasher<F> + Drop>(
+    world: &mut World<F, H>,
+    name: &str,
+    draft: UnmerkleizedBatch<F, H::Digest>,
+) -> Result<(), Refusal> {
+    give_name(world.alloc, &mut world.drafts, name, draft)
+}

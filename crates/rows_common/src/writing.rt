@@ -1,0 +1,78 @@
+//! Values as text.
+
+use merkle_base::family::Family;
+use merkle_base::position::Position;
+use merkle_digest::digest::Digest;
+use merkle_hasher::read::Readable;
+use merkle_proof::proof::Proof;
+use rows_text::answer::Answer;
+
+/// The greatest number of nodes that is written.
+const SHOWN: u64 = 256;
+
+/// Writes digests as one word.
+pub fn write_digests<D: Digest>(answer: &mut Answer, digests: &[D]) {
+    answer.list(
+        digests,
+        ",",
+        |answer, digest| answer.bytes(digest.as_bytes()),
+    );
+}
+
+/// Writes digests, each after its position, as one word.
+pub fn write_pairs<F: Family, D: Digest>(answer: &mut Answer, pairs: &[(Position<F>, D)]) {
+    answer.list(pairs, ",", |answer, pair| {
+        answer.number(pair.0.as_u64());
+        answer.text(":");
+        answer.bytes(pair.1.as_bytes());
+    });
+}
+
+/// Writes the positions of peaks, each with its height.
+pub fn write_peaks<F: Family>(answer: &mut Answer, peaks: &[(Position<F>, u32)]) {
+    answer.list(peaks, " ", |answer, peak| {
+        answer.number(peak.0.as_u64());
+        answer.text(":");
+        answer.number(u64::from(peak.1));
+    });
+}
+
+/// Writes positions.
+pub fn write_positions<F: Family>(answer: &mut Answer, positions: &[Position<F>]) {
+    answer.list(
+        positions,
+        " ",
+        |answer, position| answer.number(position.as_u64()),
+    );
+}
+
+/// Writes the digest of a node, or a dash for none.
+pub fn write_node<D: Digest>(answer: &mut Answer, digest: Option<D>) {
+    match digest {
+        Some(digest) => answer.bytes(digest.as_bytes()),
+        None => answer.text("-"),
+    }
+}
+
+/// Writes the nodes by position, up to the node count, at which there is none.
+pub fn write_nodes<R: Readable>(answer: &mut Answer, value: &R) {
+    for position in 0..value.size().as_u64().min(SHOWN) + 1 {
+        answer.separator(" ", position == 0);
+        write_node(answer, value.get_node(Position::new(position)));
+    }
+}
+
+/// Writes the leaf count of a proof, its number of inactive peaks and its digests, as `check` reads them.
+pub fn write_proof<F: Family, D: Digest>(answer: &mut Answer, proof: &Proof<F, D>) {
+    answer.number(proof.leaves.as_u64());
+    answer.text(" ");
+    answer.number(proof.inactive_peaks as u64);
+    answer.text(" ");
+    write_digests(answer, proof.digests.as_slice());
+}
+
+/// Writes how many proofs there are.
+pub fn write_proved(answer: &mut Answer, proved: u64) {
+    answer.number(proved);
+    answer.text(" proved");
+}

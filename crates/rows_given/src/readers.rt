@@ -1,0 +1,127 @@
+//! Calls of proofs over what holds nodes.
+ghost use Rattle.std.specs.Prelude.{◌≡◌, slice_get};
+
+use merkle_base::family::Family;
+use merkle_base::location::Location;
+use merkle_base::position::Position;
+use merkle_digest::digest::Digest;
+use merkle_hasher::hasher::Hasher;
+use merkle_hasher::read::Readable;
+use merkle_verification::verification::{historical_range_proof, multi_proof, range_proof};
+use rows_common::granted;
+use rows_common::values::{digests, locations, range};
+use rows_common::writing::write_proof;
+use rows_text::answer::Answer;
+use rows_text::refusal::Refusal;
+use rows_text::words::Words;
+
+/// A list of digests, each the node at its index, that claims any node count.
+#[derive(Drop)]
+struct NodeList<F: Family, D: Digest> {
+    size: Position<F>,
+    nodes: Vec<D>,
+}
+
+impl<F: Family, D: Digest> Readable for NodeList<F, D> {
+    ghost use Rattle.std.specs.Prelude.{slice_get};
+
+    type Family = F;
+
+    type Digest = D;
+
+    ghost size = { λ list. list.size };
+
+    ghost node = { λ list p. slice_get list.nodes.items p };
+
+    fn size(&self) -> Position<F> {
+        self.size
+    }
+
+    fn get_node(&self, position: Position<F>) -> Option<D>
+        ensures { result ≡ slice_get self.now.nodes.items position }
+    {
+        self.nodes.get(position.as_u64() as usize).copied()
+    }
+}
+
+// The reader of the node count and the nodes that two words name.
+fn node_list<F: Family, D: Digest>(words: &mut Words) -> NodeList<F, D> {
+    NodeList {
+        size: Position::new(words.number()),
+        nodes: digests(words),
+    }
+}
+
+/// The proof of a range over what holds nodes.
+pub fn range_over<R: Readable, H: Hasher<R::Family, Digest = R::Digest>>(
+    hasher: &H,
+    reader: &R,
+    words: &mut Words,
+    answer: &mut Answer,
+) -> Result<(), Refusal> {
+    let range = range(words);
+    let inactive = words.count();
+    words.end()?;
+    let proof = granted!(range_proof(words.alloc(), hasher, reader, range, inactive));
+    write_proof(answer, &proof);
+    Ok(())
+}
+
+/// The proof of a range of the first leaves over what holds nodes.
+pub fn history_over<R: Readable, H: Hasher<R::Family, Digest = R::Digest>>(
+    hasher: &H,
+    reader: &R,
+    words: &mut Words,
+    answer: &mut Answer,
+) -> Result<(), Refusal> {
+    let leaves = Location::new(words.number());
+    let range = range(words);
+    let inactive = words.count();
+    words.end()?;
+    let proof = historical_range_proof(words.alloc(), hasher, reader, leaves, range, inactive);
+    write_proof(answer, &granted!(proof));
+    Ok(())
+}
+
+/// The proof of leaves anywhere over what holds nodes.
+pub fn multi_over<R: Readable>(
+    reader: &R,
+    words: &mut Words,
+    answer: &mut Answer,
+) -> Result<(), Refusal> {
+    let inactive = words.count();
+    let list = locations(words);
+    words.end()?;
+    let proof = granted!(multi_proof(words.alloc(), reader, inactive, &list));
+    write_proof(answer, &proof);
+    Ok(())
+}
+
+/// The proof of a range over a list of nodes.
+pub fn slice_range<F: Family, H: Hasher<F>>(
+    hasher: &H,
+    words: &mut Words,
+    answer: &mut Answer,
+) -> Result<(), Refusal> {
+    let reader: NodeList<F, H::Digest> = node_list(words);
+    range_over(hasher, &reader, words, answer)
+}
+
+/// The proof of a range of the first leaves over a list of nodes.
+pub fn slice_history<F: Family, H: Hasher<F>>(
+    hasher: &H,
+    words: &mut Words,
+    answer: &mut Answer,
+) -> Result<(), Refusal> {
+    let reader: NodeList<F, H::Digest> = node_list(words);
+    history_over(hasher, &reader, words, answer)
+}
+
+/// The proof of leaves anywhere over a list of nodes.
+pub fn slice_multi<F: Family, D: Digest>(
+    words: &mut Words,
+    answer: &mut Answer,
+) -> Result<(), Refusal> {
+    let reader: NodeList<F, D> = node_list(words);
+    multi_over(&reader, words, answer)
+}

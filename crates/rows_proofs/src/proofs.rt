@@ -1,0 +1,73 @@
+//! Calls of proofs of structures and batches.
+
+use merkle_core::family::Family;
+use merkle_core::hasher::Hasher;
+use merkle_core::location::Location;
+use rows_common::writing::write_proof;
+use rows_common::{granted, values};
+use rows_text::answer::Answer;
+use rows_text::refusal::Refusal;
+use rows_text::words::{Words, named};
+use rows_world::world::World;
+
+/// The proof of a leaf of a structure.
+pub fn proof<F: Family, H: Hasher<F> + Drop>(
+    world: &World<F, H>,
+    words: &mut Words,
+    answer: &mut Answer,
+) -> Result<(), Refusal> {
+    let structure = named(&world.structures, words.word())?;
+    let leaf = Location::new(words.number());
+    let inactive = words.count();
+    words.end()?;
+    let proof = granted!(structure.proof(&world.hasher, leaf, inactive));
+    write_proof(answer, &proof);
+    Ok(())
+}
+
+/// The proof of a range of a structure.
+pub fn range<F: Family, H: Hasher<F> + Drop>(
+    world: &World<F, H>,
+    words: &mut Words,
+    answer: &mut Answer,
+) -> Result<(), Refusal> {
+    let structure = named(&world.structures, words.word())?;
+    let range = values::range(words);
+    let inactive = words.count();
+    words.end()?;
+    let proof = granted!(structure.range_proof(&world.hasher, range, inactive));
+    write_proof(answer, &proof);
+    Ok(())
+}
+
+/// The proof of a leaf of a batch, over a structure.
+pub fn proof_over<F: Family, H: Hasher<F> + Drop>(
+    world: &World<F, H>,
+    words: &mut Words,
+    answer: &mut Answer,
+) -> Result<(), Refusal> {
+    let batch = named(&world.batches, words.word())?;
+    let base = named(&world.structures, words.word())?;
+    let leaf = Location::new(words.number());
+    let inactive = words.count();
+    words.end()?;
+    let proof = granted!(batch.proof(base, &world.hasher, leaf, inactive));
+    write_proof(answer, &proof);
+    Ok(())
+}
+
+/// The proof of a range of a batch, over a structure.
+pub fn range_over<F: Family, H: Hasher<F> + Drop>(
+    world: &World<F, H>,
+    words: &mut Words,
+    answer: &mut Answer,
+) -> Result<(), Refusal> {
+    let batch = named(&world.batches, words.word())?;
+    let base = named(&world.structures, words.word())?;
+    let range = values::range(words);
+    let inactive = words.count();
+    words.end()?;
+    let proof = granted!(batch.range_proof(base, &world.hasher, range, inactive));
+    write_proof(answer, &proof);
+    Ok(())
+}

@@ -1,0 +1,62 @@
+//! Calls of stores of proofs.
+
+use merkle_core::family::Family;
+use merkle_core::hasher::Hasher;
+use rows_common::granted;
+use rows_common::values::{locations, pairs, range};
+use rows_common::writing::{write_positions, write_proof};
+use rows_given::proofs::new_store;
+use rows_text::answer::Answer;
+use rows_text::refusal::Refusal;
+use rows_text::words::{Words, give_name, named};
+use rows_world::world::World;
+
+/// The store of a proof that is accepted with its elements.
+pub fn store<F: Family, H: Hasher<F> + Drop>(
+    world: &mut World<F, H>,
+    words: &mut Words,
+) -> Result<(), Refusal> {
+    let name = words.word();
+    let store = new_store(&world.hasher, words)?;
+    give_name(world.alloc, &mut world.stores, name, store)
+}
+
+/// A store's proof of a range.
+pub fn store_range<F: Family, H: Hasher<F> + Drop>(
+    world: &World<F, H>,
+    words: &mut Words,
+    answer: &mut Answer,
+) -> Result<(), Refusal> {
+    let store = named(&world.stores, words.word())?;
+    let range = range(words);
+    words.end()?;
+    let proof = granted!(store.range_proof(&world.hasher, range));
+    write_proof(answer, &proof);
+    Ok(())
+}
+
+/// A store's proof of leaves anywhere, with digests of peaks that are given.
+pub fn store_multi<F: Family, H: Hasher<F> + Drop>(
+    world: &World<F, H>,
+    words: &mut Words,
+    answer: &mut Answer,
+) -> Result<(), Refusal> {
+    let store = named(&world.stores, words.word())?;
+    let list = locations(words);
+    let given = pairs(words);
+    words.end()?;
+    let proof = granted!(store.multi_proof(&list, &given));
+    write_proof(answer, &proof);
+    Ok(())
+}
+
+/// The positions of the peaks that are folded in the suffix of a store's proof.
+pub fn suffix_peaks<F: Family, H: Hasher<F> + Drop>(
+    world: &World<F, H>,
+    words: &mut Words,
+    answer: &mut Answer,
+) -> Result<(), Refusal> {
+    let store = named(&world.stores, words.word())?;
+    write_positions(answer, store.suffix_peak_positions());
+    Ok(())
+}

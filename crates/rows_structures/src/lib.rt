@@ -1,0 +1,4 @@
+//! Calls of structures of the program `rows`, and of the nodes and roots of structures and batches.
+#![tactic(auto)]
+
+pub mod structures;
