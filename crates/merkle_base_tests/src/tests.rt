@@ -1,6 +1,7 @@
 ghost use Rattle.std.specs.Prelude.{◌+◌, ◌*◌, ◌^◌, ◌≤◌};
 
 mod base;
+mod bytes;
 mod codec;
 mod hasher;
 mod locations;
@@ -14,6 +15,12 @@ use merkle_base::family::{Family, Graftable};
 use merkle_base::location::Location;
 use merkle_base::position::Position;
 use std::process::Abort;
+
+// The SHA-256 digest of `abc`, from FIPS 180-4.
+const OF_ABC: [u8; 32] = [
+    0xba, 0x78, 0x16, 0xbf, 0x8f, 0x01, 0xcf, 0xea, 0x41, 0x41, 0x40, 0xde, 0x5d, 0xae, 0x22, 0x23,
+    0xb0, 0x03, 0x61, 0xa3, 0x96, 0x17, 0x7a, 0x9c, 0xb4, 0x10, 0xff, 0x61, 0xf2, 0x00, 0x15, 0xad,
+];
 
 /// Asserts the sums around a family's greatest node count, and those of leaf counts.
 fn assert_sums<F: Family>(rt: &impl Abort, max_nodes: u64) {

@@ -1,7 +1,7 @@
 //! The digests of nodes, measured at one hash.
 
-use crate::stopwatch::{Halt, Stopwatch};
-use merkle_core::digest::{Digest, PlainHasher};
+use crate::stopwatch::Stopwatch;
+use merkle_core::digest::PlainHasher;
 use merkle_core::family::Family;
 use merkle_core::hasher::{Hasher, Standard};
 use merkle_core::nodes::node_digests;
@@ -15,25 +15,24 @@ type Node<F, D> = (Position<F>, D, D);
 /// How many nodes are measured.
 const NODES: u64 = 1000;
 
-/// Computes the digests of nodes, one by one and then together.
+/// Computes the digests of nodes, one by one and then together, and compares them.
 pub fn measure_nodes<F: Family, H: PlainHasher, C: CpuClock>(
     alloc: Global,
     watch: &mut Stopwatch<C>,
     tree: &'static str,
     hasher: &Standard<H>,
-) -> Result<(), Halt> {
-    let nodes: Vec<Node<F, H::Digest>> = some_nodes(alloc, hasher)?;
-    let mut digests = Vec::new(alloc);
+) -> Option<()> {
+    let nodes: Vec<Node<F, H::Digest>> = some_nodes(alloc, hasher).ok()?;
+    let mut apart = Vec::new(alloc);
     let start = watch.now();
-    one_by_one(hasher, &nodes, &mut digests)?;
+    one_by_one(hasher, &nodes, &mut apart).ok()?;
     watch.note(tree, "digests of nodes, one by one", NODES, start);
-    keep_all(watch, &digests);
-    let mut digests = Vec::new(alloc);
+    let mut together = Vec::new(alloc);
     let start = watch.now();
-    node_digests(hasher, &nodes, &mut digests)?;
+    node_digests(hasher, &nodes, &mut together).ok()?;
     watch.note(tree, "digests of nodes, together", NODES, start);
-    keep_all(watch, &digests);
-    Ok(())
+    watch.is_whole &= apart == together;
+    Some(())
 }
 
 // Nodes with children of their own.
@@ -60,11 +59,4 @@ fn one_by_one<F: Family, H: PlainHasher>(
         digests.push(hasher.node_digest(node.0, &node.1, &node.2))?;
     }
     Ok(())
-}
-
-// Takes in all digests.
-fn keep_all<D: Digest, C: CpuClock>(watch: &mut Stopwatch<C>, digests: &[D]) {
-    for digest in digests {
-        watch.keep(digest.as_bytes());
-    }
 }

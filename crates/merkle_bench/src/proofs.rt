@@ -1,308 +1,285 @@
-//! Proofs and their checks that are measured, at one hash and one bagging.
+//! Proofs, their checks and their stores, measured at one hash and one bagging.
 
-use crate::stopwatch::{Halt, Stopwatch};
+use crate::stopwatch::Stopwatch;
 use merkle_core::digest::{Digest, PlainHasher};
 use merkle_core::family::{Bagging, Family};
 use merkle_core::hasher::Standard;
 use merkle_core::location::Location;
 use merkle_core::mem::Mem;
 use merkle_core::proof::Proof;
+use merkle_core::verification::ProofStore;
 use std::alloc::Global;
 use std::time::CpuClock;
 
-/// The most leaves that a range has.
+/// The most leaves of a range, but for that of a store.
 const MOST_IN_RANGE: u64 = 50;
 
-/// The names of the rows of one bagging.
+/// The most leaves of a store's range.
+const MOST_IN_STORE: u64 = 1000;
+
+/// How many parts of a store's range are proved.
+const PARTS: usize = 100;
+
+/// How often a proof is checked and a store is made.
+const TIMES: usize = 5;
+
+/// Leaves in a row: the first one, and the one after the last.
+type LeafRange = (u64, u64);
+
+/// What gives the proof of leaves in a row.
 #[derive(Clone, Copy)]
-struct RowNames {
-    proof_of_one: &'static str,
-    check_of_one: &'static str,
-    proof_of_range: &'static str,
-    check_of_range: &'static str,
+enum Prover<'a, F: Family, D: Digest> {
+    // the structure, of a leaf
+    Leaf,
+    // the structure, of a range
+    Range,
+    // the store of the proof of a longer range
+    Store(&'a ProofStore<F, D>),
+}
+
+/// What is done with a proof and the elements of its leaves.
+#[derive(Clone, Copy)]
+enum Task {
+    LeafCheck,
+    RangeCheck,
+    PinnedCheck,
+    Extraction,
+    Store,
+}
+
+/// The names of the rows of the stores of one bagging.
+#[derive(Clone, Copy)]
+pub struct StoreRows {
+    check: Option<&'static str>,
     extraction: &'static str,
-    pinned_check: &'static str,
+    store: &'static str,
+    one_by_structure: &'static str,
+    one_by_store: &'static str,
+    range_by_structure: &'static str,
+    range_by_store: &'static str,
 }
 
-impl RowNames {
-    fn of(bagging: Bagging) -> Self {
-        match bagging {
-            Bagging::ForwardFold => RowNames {
-                proof_of_one: "proof of one",
-                check_of_one: "check of one",
-                proof_of_range: "proof of 50",
-                check_of_range: "check of 50",
-                extraction: "extraction of 50",
-                pinned_check: "pinned check of 50",
-            },
-            Bagging::BackwardFold => RowNames {
-                proof_of_one: "proof of one, backward",
-                check_of_one: "check of one, backward",
-                proof_of_range: "proof of 50, backward",
-                check_of_range: "check of 50, backward",
-                extraction: "extraction of 50, backward",
-                pinned_check: "pinned check of 50, backward",
-            },
-        }
-    }
-}
+/// The rows of the stores folded forward.
+pub const FORWARD_ROWS: StoreRows = StoreRows {
+    check: Some("check of 1000"),
+    extraction: "extraction of 1000",
+    store: "store of 1000",
+    one_by_structure: "part of one: structure",
+    one_by_store: "part of one: store",
+    range_by_structure: "part of 50: structure",
+    range_by_store: "part of 50: store",
+};
 
-/// What is measured at one hash and one bagging, under a name in the table.
+/// The rows of the stores folded backward.
+pub const BACKWARD_ROWS: StoreRows = StoreRows {
+    check: None,
+    extraction: "extraction of 1000, backward",
+    store: "store of 1000, backward",
+    one_by_structure: "part of one: structure, backward",
+    one_by_store: "part of one: store, backward",
+    range_by_structure: "part of 50: structure, backward",
+    range_by_store: "part of 50: store, backward",
+};
+
+/// A proof of leaves in a row.
 #[derive(Drop)]
-pub struct Proofs<H: PlainHasher> {
+pub struct Case<F: Family, D: Digest> {
+    leaves: LeafRange,
+    pub proof: Proof<F, D>,
+    // the digests of the peaks over the leaves before
+    pins: Vec<D>,
+}
+
+/// What proofs are made of and checked against, at one hash and one bagging, under a name in the table.
+#[derive(Drop)]
+pub struct Proofs<'a, F: Family, H: PlainHasher> {
     alloc: Global,
     tree: &'static str,
-    rows: RowNames,
     hasher: Standard<H>,
+    structure: &'a Mem<F, H::Digest>,
+    elements: &'a [&'a [u8]],
+    root: H::Digest,
 }
 
-impl<H: PlainHasher> Proofs<H> {
-    /// What is measured at a bagging, under that name in the table.
-    pub fn new(alloc: Global, tree: &'static str, bagging: Bagging) -> Self {
-        Proofs {
+impl<'a, F: Family, H: PlainHasher> Proofs<'a, F, H> {
+    /// The proofs of a structure of leaves with these elements, under that name in the table.
+    pub fn new(
+        alloc: Global,
+        tree: &'static str,
+        bagging: Bagging,
+        structure: &'a Mem<F, H::Digest>,
+        elements: &'a [&'a [u8]],
+    ) -> Option<Self> {
+        let hasher = Standard::new(bagging);
+        let root = structure.root(&hasher, 0).ok()?;
+        Some(Proofs {
             alloc,
             tree,
-            rows: RowNames::of(bagging),
-            hasher: Standard::new(bagging),
-        }
+            hasher,
+            structure,
+            elements,
+            root,
+        })
     }
 
-    // Makes the proofs of these leaves, one for each, and lets them go.
-    fn make_leaf_proofs<F: Family, C: CpuClock>(
+    // The proofs of these leaves, each with the pins before them.
+    fn cases(&self, ranges: &[LeafRange]) -> Option<Vec<Case<F, H::Digest>>> {
+        let mut cases = Vec::new(self.alloc);
+        for (start, end) in ranges {
+            let range = Location::new(*start)..Location::new(*end);
+            let proof = self.structure.range_proof(&self.hasher, range, 0).ok()?;
+            let pins = pins_of(self.alloc, self.structure, Location::new(*start))?;
+            let leaves = (*start, *end);
+            cases
+                .push(Case {
+                    leaves,
+                    proof,
+                    pins,
+                })
+                .ok()?;
+        }
+        Some(cases)
+    }
+
+    // Makes the proofs of these leaves, and lets them go.
+    fn prove_each<C: CpuClock>(
         &self,
         watch: &mut Stopwatch<C>,
-        structure: &Mem<F, H::Digest>,
-        leaves: &[u64],
-    ) -> Result<(), Halt> {
-        for leaf in leaves {
-            let proof = granted!(structure.proof(&self.hasher, Location::new(*leaf), 0));
-            watch.keep(&proof.digests.len().to_be_bytes());
-        }
-        Ok(())
-    }
-
-    // Proofs of these leaves, one for each.
-    fn prove_leaves<F: Family>(
-        &self,
-        structure: &Mem<F, H::Digest>,
-        leaves: &[u64],
-    ) -> Result<Vec<Proof<F, H::Digest>>, Halt> {
-        let mut proofs = Vec::new(self.alloc);
-        for leaf in leaves {
-            let proof = granted!(structure.proof(&self.hasher, Location::new(*leaf), 0));
-            if proofs.push(proof).is_err() {
-                return Err(Halt::OutOfMemory);
-            }
-        }
-        Ok(proofs)
-    }
-
-    // Checks the proofs of these leaves.
-    fn check_leaves<F: Family>(
-        &self,
-        proofs: &[Proof<F, H::Digest>],
-        elements: &[&[u8]],
-        leaves: &[u64],
-        root: &H::Digest,
-    ) -> Result<(), Halt> {
-        for (proof, leaf) in proofs.iter().zip(leaves) {
-            let Some(element) = elements.get(*leaf as usize) else {
-                return Err(Halt::Refused);
+        work: &'static str,
+        prover: Prover<F, H::Digest>,
+        ranges: &[LeafRange],
+    ) {
+        let mut digests: usize = 0;
+        let begun = watch.now();
+        for (start, end) in ranges {
+            let (start, end) = (Location::new(*start), Location::new(*end));
+            let proof = match prover {
+                Prover::Leaf => self.structure.proof(&self.hasher, start, 0),
+                Prover::Range => self.structure.range_proof(&self.hasher, start..end, 0),
+                Prover::Store(store) => store.range_proof(&self.hasher, start..end),
             };
-            let location = Location::new(*leaf);
-            let is_right = proof.verify_element_inclusion(&self.hasher, element, location, root);
-            if !granted!(is_right) {
-                return Err(Halt::Refused);
+            match proof {
+                Ok(proof) => digests = digests.wrapping_add(proof.digests.len()),
+                Err(_) => watch.is_whole = false,
             }
         }
-        Ok(())
+        watch.note(self.tree, work, ranges.len() as u64, begun);
+        watch.keep(&digests.to_be_bytes());
     }
 
-    // Proofs of these leaves, one for each, and their checks.
-    fn leaves<F: Family, C: CpuClock>(
+    // The store of a proof, which is accepted with the elements of its leaves.
+    fn store(&self, case: &Case<F, H::Digest>) -> Option<ProofStore<F, H::Digest>> {
+        let (start, end) = case.leaves;
+        let elements = self.elements.get(start as usize..end as usize)?;
+        ProofStore::new(
+            &self.hasher,
+            &case.proof,
+            elements,
+            Location::new(start),
+            &self.root,
+        )
+        .ok()
+    }
+
+    // Whether a task with a proof and the elements of its leaves is done.
+    fn does(&self, task: Task, case: &Case<F, H::Digest>) -> bool {
+        let (hasher, proof, root) = (&self.hasher, &case.proof, &self.root);
+        let (start, end) = case.leaves;
+        let Some(elements) = self.elements.get(start as usize..end as usize) else {
+            return false;
+        };
+        let start = Location::new(start);
+        match task {
+            Task::LeafCheck => match elements.first() {
+                Some(element) => matches!(
+                    proof.verify_element_inclusion(hasher, element, start, root),
+                    Ok(true)
+                ),
+                None => false,
+            },
+            Task::RangeCheck => matches!(
+                proof.verify_range_inclusion(hasher, elements, start, root),
+                Ok(true)
+            ),
+            Task::PinnedCheck => matches!(
+                proof.verify_proof_and_pinned_nodes(hasher, elements, start, &case.pins, root),
+                Ok(true)
+            ),
+            Task::Extraction => proof
+                .verify_range_inclusion_and_extract_digests(hasher, elements, start, root)
+                .is_ok(),
+            Task::Store => self.store(case).is_some(),
+        }
+    }
+
+    // Does a task with each of these proofs.
+    fn do_each<C: CpuClock>(
         &self,
         watch: &mut Stopwatch<C>,
-        structure: &Mem<F, H::Digest>,
-        elements: &[&[u8]],
+        work: &'static str,
+        task: Task,
+        cases: &[Case<F, H::Digest>],
+    ) {
+        let begun = watch.now();
+        for case in cases {
+            watch.is_whole &= self.does(task, case);
+        }
+        watch.note(self.tree, work, cases.len() as u64, begun);
+    }
+
+    /// Proofs of these leaves, and of the ranges that begin at them, and their checks, the last ones at the other bagging. Those
+    /// of the leaves are returned.
+    pub fn measure_proofs<C: CpuClock>(
+        &self,
+        watch: &mut Stopwatch<C>,
+        backward: &Self,
         leaves: &[u64],
-        root: &H::Digest,
-    ) -> Result<(), Halt> {
-        let units = leaves.len() as u64;
-        let start = watch.now();
-        self.make_leaf_proofs(watch, structure, leaves)?;
-        watch.note(self.tree, self.rows.proof_of_one, units, start);
-        let proofs = self.prove_leaves(structure, leaves)?;
-        let start = watch.now();
-        self.check_leaves(&proofs, elements, leaves, root)?;
-        watch.note(self.tree, self.rows.check_of_one, units, start);
-        Ok(())
+    ) -> Option<Vec<Case<F, H::Digest>>> {
+        let all = (0, self.elements.len() as u64);
+        let ranges = ranges_of(self.alloc, leaves, all, all.1, 1)?;
+        self.prove_each(watch, "proof of one", Prover::Leaf, &ranges);
+        let ones = self.cases(&ranges)?;
+        self.do_each(watch, "check of one", Task::LeafCheck, &ones);
+        let ranges = ranges_of(self.alloc, leaves, all, all.1, MOST_IN_RANGE)?;
+        self.prove_each(watch, "proof of 50", Prover::Range, &ranges);
+        let cases = self.cases(&ranges)?;
+        self.do_each(watch, "check of 50", Task::RangeCheck, &cases);
+        self.do_each(watch, "extraction of 50", Task::Extraction, &cases);
+        self.do_each(watch, "pinned check of 50", Task::PinnedCheck, &cases);
+        let cases = backward.cases(&ranges)?;
+        backward.do_each(watch, "check of 50, backward", Task::RangeCheck, &cases);
+        Some(ones)
     }
 
-    // Makes the proofs of the ranges that begin at these leaves, one for each, and lets them go.
-    fn make_range_proofs<F: Family, C: CpuClock>(
+    /// A proof of leaves in a row, from a third of all leaves on, its checks and stores, and the proofs of parts of its range.
+    pub fn measure_store<C: CpuClock>(
         &self,
         watch: &mut Stopwatch<C>,
-        structure: &Mem<F, H::Digest>,
-        starts: &[u64],
-    ) -> Result<(), Halt> {
-        for start in starts {
-            let end = range_end(*start, structure.leaves().as_u64());
-            let range = Location::new(*start)..Location::new(end);
-            let proof = granted!(structure.range_proof(&self.hasher, range, 0));
-            watch.keep(&proof.digests.len().to_be_bytes());
+        rows: &StoreRows,
+        numbers: &[u64],
+    ) -> Option<()> {
+        let leaves = self.elements.len() as u64;
+        let within = (
+            leaves / 3,
+            (leaves / 3).saturating_add(MOST_IN_STORE).min(leaves),
+        );
+        let cases = self.cases(&[within; TIMES])?;
+        if let Some(check) = rows.check {
+            self.do_each(watch, check, Task::RangeCheck, &cases);
         }
-        Ok(())
-    }
-
-    // Proofs of the ranges that begin at these leaves, one for each.
-    fn prove_ranges<F: Family>(
-        &self,
-        structure: &Mem<F, H::Digest>,
-        starts: &[u64],
-    ) -> Result<Vec<Proof<F, H::Digest>>, Halt> {
-        let mut proofs = Vec::new(self.alloc);
-        for start in starts {
-            let end = range_end(*start, structure.leaves().as_u64());
-            let range = Location::new(*start)..Location::new(end);
-            proofs.push(granted!(structure.range_proof(&self.hasher, range, 0)))?;
-        }
-        Ok(proofs)
-    }
-
-    // Checks the proofs of the ranges that begin at these leaves.
-    fn check_ranges<F: Family>(
-        &self,
-        proofs: &[Proof<F, H::Digest>],
-        elements: &[&[u8]],
-        starts: &[u64],
-        root: &H::Digest,
-    ) -> Result<(), Halt> {
-        for (proof, start) in proofs.iter().zip(starts) {
-            let range = range_elements(elements, *start)?;
-            let location = Location::new(*start);
-            let is_right = proof.verify_range_inclusion(&self.hasher, range, location, root);
-            if !granted!(is_right) {
-                return Err(Halt::Refused);
-            }
-        }
-        Ok(())
-    }
-
-    // Extracts the digests of the proofs of the ranges that begin at these leaves.
-    fn extract_ranges<F: Family>(
-        &self,
-        proofs: &[Proof<F, H::Digest>],
-        elements: &[&[u8]],
-        starts: &[u64],
-        root: &H::Digest,
-    ) -> Result<(), Halt> {
-        for (proof, start) in proofs.iter().zip(starts) {
-            let range = range_elements(elements, *start)?;
-            let location = Location::new(*start);
-            let pairs = proof.verify_range_inclusion_and_extract_digests(
-                &self.hasher,
-                range,
-                location,
-                root,
-            );
-            if granted!(pairs).is_empty() {
-                return Err(Halt::Refused);
-            }
-        }
-        Ok(())
-    }
-
-    // The digests of the peaks over the leaves before each of these.
-    fn pins_before<F: Family>(
-        &self,
-        structure: &Mem<F, H::Digest>,
-        starts: &[u64],
-    ) -> Result<Vec<Vec<H::Digest>>, Halt> {
-        let mut all = Vec::new(self.alloc);
-        for start in starts {
-            all.push(pins_of(self.alloc, structure, Location::new(*start))?)?;
-        }
-        Ok(all)
-    }
-
-    // Checks the proofs of the ranges that begin at these leaves, with the pins before them.
-    fn check_pinned<F: Family>(
-        &self,
-        proofs: &[Proof<F, H::Digest>],
-        pins: &[Vec<H::Digest>],
-        elements: &[&[u8]],
-        starts: &[u64],
-        root: &H::Digest,
-    ) -> Result<(), Halt> {
-        for ((proof, start), pinned) in proofs.iter().zip(starts).zip(pins) {
-            let range = range_elements(elements, *start)?;
-            let location = Location::new(*start);
-            let is_right = proof.verify_proof_and_pinned_nodes(
-                &self.hasher,
-                range,
-                location,
-                pinned.as_slice(),
-                root,
-            );
-            if !granted!(is_right) {
-                return Err(Halt::Refused);
-            }
-        }
-        Ok(())
-    }
-
-    // Proofs of the ranges that begin at these leaves, their checks and their extractions.
-    fn ranges<F: Family, C: CpuClock>(
-        &self,
-        watch: &mut Stopwatch<C>,
-        structure: &Mem<F, H::Digest>,
-        elements: &[&[u8]],
-        starts: &[u64],
-        root: &H::Digest,
-    ) -> Result<(), Halt> {
-        let units = starts.len() as u64;
-        let start = watch.now();
-        self.make_range_proofs(watch, structure, starts)?;
-        watch.note(self.tree, self.rows.proof_of_range, units, start);
-        let proofs = self.prove_ranges(structure, starts)?;
-        let start = watch.now();
-        self.check_ranges(&proofs, elements, starts, root)?;
-        watch.note(self.tree, self.rows.check_of_range, units, start);
-        let start = watch.now();
-        self.extract_ranges(&proofs, elements, starts, root)?;
-        watch.note(self.tree, self.rows.extraction, units, start);
-        let pins = self.pins_before(structure, starts)?;
-        let start = watch.now();
-        self.check_pinned(&proofs, &pins, elements, starts, root)?;
-        watch.note(self.tree, self.rows.pinned_check, units, start);
-        Ok(())
-    }
-
-    /// Proofs of these leaves and of the ranges that begin at them.
-    pub fn run<F: Family, C: CpuClock>(
-        &self,
-        watch: &mut Stopwatch<C>,
-        structure: &Mem<F, H::Digest>,
-        elements: &[&[u8]],
-        leaves: &[u64],
-    ) -> Result<(), Halt> {
-        let root = granted!(structure.root(&self.hasher, 0));
-        self.leaves(watch, structure, elements, leaves, &root)?;
-        self.ranges(watch, structure, elements, leaves, &root)
-    }
-}
-
-// The end of the range from a leaf on, of a structure of that many leaves: 50 leaves, or fewer at the structure's end.
-fn range_end(start: u64, leaves: u64) -> u64 {
-    start.saturating_add(MOST_IN_RANGE).min(leaves)
-}
-
-// The elements of the range from a leaf on.
-fn range_elements<'a>(elements: &'a [&'a [u8]], start: u64) -> Result<&'a [&'a [u8]], Halt> {
-    let end = range_end(start, elements.len() as u64);
-    match elements.get(start as usize..end as usize) {
-        Some(range) => Ok(range),
-        None => Err(Halt::Refused),
+        self.do_each(watch, rows.extraction, Task::Extraction, &cases);
+        self.do_each(watch, rows.store, Task::Store, &cases);
+        let store = self.store(cases.first()?)?;
+        let numbers = numbers.get(..PARTS.min(numbers.len()))?;
+        let places = within.1.saturating_sub(within.0);
+        let ones = ranges_of(self.alloc, numbers, within, places.saturating_sub(1), 1)?;
+        self.prove_each(watch, rows.one_by_structure, Prover::Range, &ones);
+        self.prove_each(watch, rows.one_by_store, Prover::Store(&store), &ones);
+        let places = places.saturating_sub(MOST_IN_RANGE);
+        let ranges = ranges_of(self.alloc, numbers, within, places, MOST_IN_RANGE)?;
+        self.prove_each(watch, rows.range_by_structure, Prover::Range, &ranges);
+        self.prove_each(watch, rows.range_by_store, Prover::Store(&store), &ranges);
+        Some(())
     }
 }
 
@@ -311,16 +288,30 @@ fn pins_of<F: Family, D: Digest>(
     alloc: Global,
     structure: &Mem<F, D>,
     leaves: Location<F>,
-) -> Result<Vec<D>, Halt> {
+) -> Option<Vec<D>> {
     let mut pins = Vec::new(alloc);
     if !leaves.is_valid() {
-        return Err(Halt::Refused);
+        return None;
     }
     for position in F::nodes_to_pin(leaves) {
-        match structure.get_node(position) {
-            Some(digest) => pins.push(digest)?,
-            None => return Err(Halt::Refused),
-        }
+        pins.push(structure.get_node(position)?).ok()?;
     }
-    Ok(pins)
+    Some(pins)
+}
+
+// Ranges of at most so many leaves within a range, one for each number, which tells the place of its first leaf.
+fn ranges_of(
+    alloc: Global,
+    numbers: &[u64],
+    within: LeafRange,
+    places: u64,
+    most: u64,
+) -> Option<Vec<LeafRange>> {
+    let mut ranges = Vec::new(alloc);
+    for number in numbers {
+        let start = within.0.saturating_add(*number % places.max(1));
+        let end = start.saturating_add(most).min(within.1);
+        ranges.push((start, end)).ok()?;
+    }
+    Some(ranges)
 }

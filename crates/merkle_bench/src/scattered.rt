@@ -1,13 +1,14 @@
-//! Proofs of scattered leaves and their checks that are measured, at one hash.
+//! Proofs of scattered leaves and their checks, measured at one hash.
 
-use crate::stopwatch::{Halt, Stopwatch};
-use merkle_core::digest::PlainHasher;
-use merkle_core::family::{Bagging, Family};
+use crate::stopwatch::Stopwatch;
+use merkle_core::digest::{Digest, PlainHasher};
+use merkle_core::family::Family;
 use merkle_core::hasher::Standard;
 use merkle_core::location::Location;
 use merkle_core::mem::Mem;
 use merkle_core::proof::{Proof, multi_proof_positions};
-use std::alloc::{AllocError, Global};
+use merkle_core::verification::multi_proof;
+use std::alloc::Global;
 use std::time::CpuClock;
 
 /// How many leaves are proved together.
@@ -16,111 +17,38 @@ const TOGETHER: usize = 50;
 /// How often that is done.
 const TIMES: u64 = 20;
 
-/// What is measured at one hash, under a name in the table.
-#[derive(Drop)]
-pub struct Scattered<H: PlainHasher> {
+/// A proof of the first of these leaves together.
+pub fn measure_scattered<F: Family, H: PlainHasher, C: CpuClock>(
     alloc: Global,
+    watch: &mut Stopwatch<C>,
     tree: &'static str,
-    hasher: Standard<H>,
-}
-
-impl<H: PlainHasher> Scattered<H> {
-    /// What is measured under that name in the table.
-    pub fn new(alloc: Global, tree: &'static str) -> Self {
-        Scattered {
-            alloc,
-            tree,
-            hasher: Standard::new(Bagging::ForwardFold),
-        }
-    }
-
-    // The positions that the proof of these leaves reads, many times.
-    fn positions<F: Family, C: CpuClock>(
-        &self,
-        watch: &mut Stopwatch<C>,
-        leaves: Location<F>,
-        locations: &[Location<F>],
-    ) -> Result<(), Halt> {
-        let start = watch.now();
-        for _ in 0..TIMES {
-            let positions = granted!(multi_proof_positions(self.alloc, leaves, locations));
-            if let Some(last) = positions.last() {
-                watch.keep(&last.as_u64().to_be_bytes());
-            }
-        }
-        watch.note(self.tree, "positions of 50 scattered", TIMES, start);
-        Ok(())
-    }
-
-    // The proof of these leaves.
-    fn prove<F: Family>(
-        &self,
-        structure: &Mem<F, H::Digest>,
-        locations: &[Location<F>],
-    ) -> Result<Proof<F, H::Digest>, Halt> {
-        let leaves = structure.leaves();
-        let positions = granted!(multi_proof_positions(self.alloc, leaves, locations));
-        let mut digests = Vec::new(self.alloc);
-        for position in &positions {
-            match structure.get_node(*position) {
-                Some(digest) => digests.push(digest)?,
-                None => return Err(Halt::Refused),
-            }
-        }
-        Ok(Proof {
-            leaves,
-            inactive_peaks: 0,
-            digests,
-        })
-    }
-
-    // The check of that proof, many times.
-    fn checks<F: Family, C: CpuClock>(
-        &self,
-        watch: &mut Stopwatch<C>,
-        proof: &Proof<F, H::Digest>,
-        elements: &[(&[u8], Location<F>)],
-        root: &H::Digest,
-    ) -> Result<(), Halt> {
-        let start = watch.now();
-        for _ in 0..TIMES {
-            if !granted!(proof.verify_multi_inclusion(&self.hasher, elements, root)) {
-                return Err(Halt::Refused);
-            }
-        }
-        watch.note(self.tree, "check of 50 scattered", TIMES, start);
-        Ok(())
-    }
-
-    /// A proof of the first of these leaves together.
-    pub fn run<F: Family, C: CpuClock>(
-        &self,
-        watch: &mut Stopwatch<C>,
-        structure: &Mem<F, H::Digest>,
-        elements: &[&[u8]],
-        leaves: &[u64],
-    ) -> Result<(), Halt> {
-        let locations = first_ascending(self.alloc, leaves)?;
-        let elements = located(self.alloc, elements, &locations)?;
-        self.positions(watch, structure.leaves(), &locations)?;
-        let proof = self.prove(structure, &locations)?;
-        let root = granted!(structure.root(&self.hasher, 0));
-        self.checks(watch, &proof, &elements, &root)
-    }
+    hasher: &Standard<H>,
+    structure: &Mem<F, H::Digest>,
+    elements: &[&[u8]],
+    leaves: &[u64],
+) -> Option<()> {
+    let locations = first_ascending(alloc, leaves)?;
+    let elements = located(alloc, elements, &locations)?;
+    let start = watch.now();
+    find_positions(alloc, watch, structure.leaves(), &locations);
+    watch.note(tree, "positions of 50 scattered", TIMES, start);
+    let proof = multi_proof(alloc, structure, 0, &locations).ok()?;
+    let root = structure.root(hasher, 0).ok()?;
+    let start = watch.now();
+    check(watch, hasher, &proof, &elements, &root);
+    watch.note(tree, "check of 50 scattered", TIMES, start);
+    Some(())
 }
 
 // The first of some leaves, ascending, each once.
-fn first_ascending<F: Family>(
-    alloc: Global,
-    leaves: &[u64],
-) -> Result<Vec<Location<F>>, AllocError> {
+fn first_ascending<F: Family>(alloc: Global, leaves: &[u64]) -> Option<Vec<Location<F>>> {
     let mut locations = Vec::new(alloc);
     for leaf in leaves.iter().take(TOGETHER) {
-        locations.push(Location::new(*leaf))?;
+        locations.push(Location::new(*leaf)).ok()?;
     }
     locations.sort_unstable();
     locations.dedup();
-    Ok(locations)
+    Some(locations)
 }
 
 // The elements at the locations, each with its location.
@@ -128,15 +56,40 @@ fn located<'a, F: Family>(
     alloc: Global,
     elements: &[&'a [u8]],
     locations: &[Location<F>],
-) -> Result<Vec<(&'a [u8], Location<F>)>, Halt> {
+) -> Option<Vec<(&'a [u8], Location<F>)>> {
     let mut all: Vec<(&[u8], Location<F>)> = Vec::new(alloc);
     for location in locations {
-        let Some(element) = elements.get(location.as_u64() as usize) else {
-            return Err(Halt::Refused);
-        };
-        if all.push((*element, *location)).is_err() {
-            return Err(Halt::OutOfMemory);
+        let element = elements.get(location.as_u64() as usize)?;
+        all.push((*element, *location)).ok()?;
+    }
+    Some(all)
+}
+
+// The positions that the proof of these leaves reads, many times.
+fn find_positions<F: Family, C: CpuClock>(
+    alloc: Global,
+    watch: &mut Stopwatch<C>,
+    leaves: Location<F>,
+    locations: &[Location<F>],
+) {
+    for _ in 0..TIMES {
+        match multi_proof_positions(alloc, leaves, locations) {
+            Ok(positions) => watch.keep(&positions.len().to_be_bytes()),
+            Err(_) => watch.is_whole = false,
         }
     }
-    Ok(all)
+}
+
+// The check of the proof of these leaves, many times.
+fn check<F: Family, H: PlainHasher, C: CpuClock>(
+    watch: &mut Stopwatch<C>,
+    hasher: &Standard<H>,
+    proof: &Proof<F, H::Digest>,
+    elements: &[(&[u8], Location<F>)],
+    root: &H::Digest,
+) {
+    for _ in 0..TIMES {
+        let checked = proof.verify_multi_inclusion(hasher, elements, root);
+        watch.is_whole &= matches!(checked, Ok(true));
+    }
 }

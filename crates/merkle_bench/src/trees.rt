@@ -2,156 +2,128 @@
 
 use crate::codec::measure_codec;
 use crate::nodes::measure_nodes;
-use crate::proofs::Proofs;
-use crate::scattered::Scattered;
-use crate::stopwatch::{Halt, Stopwatch};
-use crate::stores::Stores;
-use crate::workload::{Element, Workload};
+use crate::proofs::{BACKWARD_ROWS, FORWARD_ROWS, Proofs};
+use crate::scattered::measure_scattered;
+use crate::stopwatch::Stopwatch;
+use crate::workload::{ELEMENT_SIZE, Workload};
 use merkle_core::batch::UnmerkleizedBatch;
 use merkle_core::digest::{Digest, PlainHasher};
 use merkle_core::family::{Bagging, Family};
-use merkle_core::hasher::{Hasher, Standard};
+use merkle_core::hasher::Standard;
 use merkle_core::location::Location;
 use merkle_core::mem::Mem;
 use merkle_core::position::Position;
 use std::alloc::Global;
 use std::time::CpuClock;
 
+/// The names of the rows of a batch that is merkleized and applied.
+#[derive(Clone, Copy)]
+struct CommitRows {
+    merkleize: &'static str,
+    apply: &'static str,
+}
+
+const APPEND_ROWS: CommitRows = CommitRows {
+    merkleize: "append at once: merkleize",
+    apply: "append at once: apply",
+};
+
+const UPDATE_ROWS: CommitRows = CommitRows {
+    merkleize: "updates: merkleize",
+    apply: "updates: apply",
+};
+
 /// What is measured at one family and one hash, under a name in the table.
 #[derive(Drop)]
-struct Trees<H: PlainHasher> {
+struct Trees<'a, H: PlainHasher> {
     alloc: Global,
     name: &'static str,
     hasher: Standard<H>,
+    elements: &'a [&'a [u8]],
+    scattered: &'a [u64],
 }
 
-impl<H: PlainHasher> Trees<H> {
-    // A batch of all these elements as new leaves.
-    fn add_all<F: Family>(
-        &self,
-        structure: &Mem<F, H::Digest>,
-        elements: &[Element],
-    ) -> Result<UnmerkleizedBatch<F, H::Digest>, Halt> {
-        let mut batch = granted!(structure.new_batch());
-        for element in elements {
-            batch = granted!(batch.add(&self.hasher, element));
-        }
-        Ok(batch)
-    }
-
-    // All leaves in one batch.
-    fn append_at_once<F: Family, C: CpuClock>(
-        &self,
-        watch: &mut Stopwatch<C>,
-        structure: &mut Mem<F, H::Digest>,
-        elements: &[Element],
-    ) -> Result<(), Halt> {
-        let units = elements.len() as u64;
-        let start = watch.now();
-        let batch = self.add_all(structure, elements)?;
-        watch.note(self.name, "append at once: add", units, start);
-        let start = watch.now();
-        let batch = granted!(batch.merkleize(structure, &self.hasher));
-        watch.note(self.name, "append at once: merkleize", units, start);
-        let start = watch.now();
-        granted!(structure.apply_batch(&batch));
-        watch.note(self.name, "append at once: apply", units, start);
-        Ok(())
-    }
-
+impl<H: PlainHasher> Trees<'_, H> {
     // All leaves in one batch, whose digests are computed several at a time. The batch is dropped.
-    fn append_together<F: Family, C: CpuClock>(
+    fn add_together<F: Family, C: CpuClock>(
         &self,
         watch: &mut Stopwatch<C>,
         structure: &Mem<F, H::Digest>,
-        elements: &[Element],
-    ) -> Result<(), Halt> {
-        let mut parts: Vec<&[u8]> = Vec::with_capacity(self.alloc, elements.len())?;
-        for element in elements {
-            parts.push(element.as_slice())?;
-        }
+    ) -> Option<()> {
         let start = watch.now();
-        let batch = granted!(structure.new_batch());
-        let batch = granted!(batch.add_all(&self.hasher, &parts));
-        watch.note(
-            self.name,
-            "append at once: add_all",
-            elements.len() as u64,
-            start,
-        );
+        let batch = structure.new_batch().ok()?;
+        let batch = batch.add_all(&self.hasher, self.elements).ok()?;
+        let units = self.elements.len() as u64;
+        watch.note(self.name, "append at once: add_all", units, start);
         watch.keep(&batch.leaves().as_u64().to_be_bytes());
-        Ok(())
+        Some(())
     }
 
-    // Computes the digests of a batch and applies it.
-    fn commit<F: Family>(
+    // A batch of all leaves, which are added one by one.
+    fn add_each<F: Family, C: CpuClock>(
         &self,
+        watch: &mut Stopwatch<C>,
+        structure: &Mem<F, H::Digest>,
+    ) -> Option<UnmerkleizedBatch<F, H::Digest>> {
+        let start = watch.now();
+        let mut batch = structure.new_batch().ok()?;
+        for element in self.elements {
+            batch = batch.add(&self.hasher, element).ok()?;
+        }
+        let units = self.elements.len() as u64;
+        watch.note(self.name, "append at once: add", units, start);
+        Some(batch)
+    }
+
+    // A batch with new elements for the scattered leaves.
+    fn update_each<F: Family, C: CpuClock>(
+        &self,
+        watch: &mut Stopwatch<C>,
+        structure: &Mem<F, H::Digest>,
+    ) -> Option<UnmerkleizedBatch<F, H::Digest>> {
+        let start = watch.now();
+        let mut batch = structure.new_batch().ok()?;
+        for leaf in self.scattered {
+            batch = batch
+                .update_leaf(&self.hasher, Location::new(*leaf), b"new")
+                .ok()?;
+        }
+        let units = self.scattered.len() as u64;
+        watch.note(self.name, "updates: update", units, start);
+        Some(batch)
+    }
+
+    // The digests of a batch of so many leaves, which is then applied.
+    fn commit<F: Family, C: CpuClock>(
+        &self,
+        watch: &mut Stopwatch<C>,
+        rows: &CommitRows,
+        units: u64,
         structure: &mut Mem<F, H::Digest>,
         batch: UnmerkleizedBatch<F, H::Digest>,
-    ) -> Result<(), Halt> {
-        let batch = granted!(batch.merkleize(structure, &self.hasher));
-        granted!(structure.apply_batch(&batch));
-        Ok(())
-    }
-
-    // One more leaf, in a batch of its own.
-    fn append<F: Family>(
-        &self,
-        structure: &mut Mem<F, H::Digest>,
-        element: &Element,
-    ) -> Result<(), Halt> {
-        let batch = granted!(structure.new_batch());
-        let batch = granted!(batch.add(&self.hasher, element));
-        self.commit(structure, batch)
+    ) -> Option<()> {
+        let start = watch.now();
+        let batch = batch.merkleize(structure, &self.hasher).ok()?;
+        watch.note(self.name, rows.merkleize, units, start);
+        let start = watch.now();
+        watch.is_whole &= structure.apply_batch(&batch).is_ok();
+        watch.note(self.name, rows.apply, units, start);
+        Some(())
     }
 
     // A batch for each leaf.
-    fn append_one_by_one<F: Family, C: CpuClock>(
-        &self,
-        watch: &mut Stopwatch<C>,
-        elements: &[Element],
-    ) -> Result<(), Halt> {
+    fn append_one_by_one<F: Family, C: CpuClock>(&self, watch: &mut Stopwatch<C>) -> Option<()> {
         let mut structure: Mem<F, H::Digest> = Mem::new(self.alloc);
         let start = watch.now();
-        for element in elements {
-            self.append(&mut structure, element)?;
+        for element in self.elements {
+            let batch = structure.new_batch().ok()?;
+            let batch = batch.add(&self.hasher, element).ok()?;
+            let batch = batch.merkleize(&structure, &self.hasher).ok()?;
+            structure.apply_batch(&batch).ok()?;
         }
-        watch.note(self.name, "append one by one", elements.len() as u64, start);
-        Ok(())
-    }
-
-    // A batch with new elements for these leaves.
-    fn update_all<F: Family>(
-        &self,
-        structure: &Mem<F, H::Digest>,
-        leaves: &[u64],
-    ) -> Result<UnmerkleizedBatch<F, H::Digest>, Halt> {
-        let mut batch = granted!(structure.new_batch());
-        for leaf in leaves {
-            batch = granted!(batch.update_leaf(&self.hasher, Location::new(*leaf), b"new"));
-        }
-        Ok(batch)
-    }
-
-    // New elements for scattered leaves.
-    fn update<F: Family, C: CpuClock>(
-        &self,
-        watch: &mut Stopwatch<C>,
-        structure: &mut Mem<F, H::Digest>,
-        leaves: &[u64],
-    ) -> Result<(), Halt> {
-        let units = leaves.len() as u64;
-        let start = watch.now();
-        let batch = self.update_all(structure, leaves)?;
-        watch.note(self.name, "updates: update", units, start);
-        let updated = watch.now();
-        let batch = granted!(batch.merkleize(structure, &self.hasher));
-        watch.note(self.name, "updates: merkleize", units, updated);
-        let merkleized = watch.now();
-        granted!(structure.apply_batch(&batch));
-        watch.note(self.name, "updates: apply", units, merkleized);
-        watch.note(self.name, "update, merkleize, apply", units, start);
-        Ok(())
+        let units = self.elements.len() as u64;
+        watch.note(self.name, "append one by one", units, start);
+        Some(())
     }
 
     // The root, many times.
@@ -159,47 +131,53 @@ impl<H: PlainHasher> Trees<H> {
         &self,
         watch: &mut Stopwatch<C>,
         structure: &Mem<F, H::Digest>,
-    ) -> Result<(), Halt> {
+    ) {
         let units = 100;
         let start = watch.now();
         for _ in 0..units {
-            let root = granted!(structure.root(&self.hasher, 0));
-            watch.keep(root.as_bytes());
+            match structure.root(&self.hasher, 0) {
+                Ok(root) => watch.keep(root.as_bytes()),
+                Err(_) => watch.is_whole = false,
+            }
         }
         watch.note(self.name, "root", units, start);
-        Ok(())
     }
 
-    // Proofs of leaves and ranges, and their checks, by both baggings, and of scattered leaves together.
+    // Proofs, their checks, stores and bytes.
     fn proofs<F: Family, C: CpuClock>(
         &self,
         watch: &mut Stopwatch<C>,
         structure: &Mem<F, H::Digest>,
-        elements: &[Element],
-        leaves: &[u64],
-    ) -> Result<(), Halt> {
-        let elements = views(self.alloc, elements)?;
-        let forward: Proofs<H> = Proofs::new(self.alloc, self.name, Bagging::ForwardFold);
-        forward.run(watch, structure, &elements, leaves)?;
-        let backward: Proofs<H> = Proofs::new(self.alloc, self.name, Bagging::BackwardFold);
-        backward.run(watch, structure, &elements, leaves)?;
-        let scattered: Scattered<H> = Scattered::new(self.alloc, self.name);
-        scattered.run(watch, structure, &elements, leaves)?;
-        self.stores(watch, structure, &elements, leaves)
-    }
-
-    // Stores of a proof of leaves in a row, by both baggings.
-    fn stores<F: Family, C: CpuClock>(
-        &self,
-        watch: &mut Stopwatch<C>,
-        structure: &Mem<F, H::Digest>,
-        elements: &[&[u8]],
-        leaves: &[u64],
-    ) -> Result<(), Halt> {
-        let forward: Stores<H> = Stores::new(self.alloc, self.name, Bagging::ForwardFold);
-        forward.run(watch, structure, elements, leaves)?;
-        let backward: Stores<H> = Stores::new(self.alloc, self.name, Bagging::BackwardFold);
-        backward.run(watch, structure, elements, leaves)
+    ) -> Option<()> {
+        let (alloc, name, leaves) = (self.alloc, self.name, self.scattered);
+        let forward: Proofs<F, H> = Proofs::new(
+            alloc,
+            name,
+            Bagging::ForwardFold,
+            structure,
+            self.elements,
+        )?;
+        let backward: Proofs<F, H> = Proofs::new(
+            alloc,
+            name,
+            Bagging::BackwardFold,
+            structure,
+            self.elements,
+        )?;
+        let ones = forward.measure_proofs(watch, &backward, leaves)?;
+        measure_scattered(
+            alloc,
+            watch,
+            name,
+            &self.hasher,
+            structure,
+            self.elements,
+            leaves,
+        )?;
+        forward.measure_store(watch, &FORWARD_ROWS, leaves)?;
+        backward.measure_store(watch, &BACKWARD_ROWS, leaves)?;
+        measure_codec(alloc, watch, name, &ones);
+        Some(())
     }
 
     // A copy, which is pruned to its half.
@@ -207,75 +185,48 @@ impl<H: PlainHasher> Trees<H> {
         &self,
         watch: &mut Stopwatch<C>,
         structure: &Mem<F, H::Digest>,
-    ) -> Result<(), Halt> {
+    ) -> Option<()> {
         let half = Location::new(structure.leaves().as_u64() / 2);
         let start = watch.now();
-        let Ok(mut copy) = structure.clone() else {
-            return Err(Halt::OutOfMemory);
-        };
+        let mut copy = structure.clone().ok()?;
         watch.note(self.name, "clone", 1, start);
         let start = watch.now();
-        granted!(copy.prune(half));
+        watch.is_whole &= copy.prune(half).is_ok();
         watch.note(self.name, "prune to half", 1, start);
-        Ok(())
+        Some(())
     }
 
     // The positions of the leaves.
-    fn leaf_positions<F: Family>(&self, leaves: u64) -> Result<Vec<Position<F>>, Halt> {
+    fn leaf_positions<F: Family>(&self) -> Option<Vec<u64>> {
         let mut positions = Vec::new(self.alloc);
-        for leaf in 0..leaves {
-            let position = granted!(Position::try_from(Location::<F>::new(leaf)));
-            if positions.push(position).is_err() {
-                return Err(Halt::OutOfMemory);
-            }
+        for leaf in 0..self.elements.len() as u64 {
+            let position = Position::<F>::try_from(Location::new(leaf)).ok()?;
+            positions.push(position.as_u64()).ok()?;
         }
-        Ok(positions)
-    }
-
-    // The positions of these numbers.
-    fn positions<F: Family>(&self, numbers: &[u64]) -> Result<Vec<Position<F>>, Halt> {
-        let mut positions = Vec::new(self.alloc);
-        for number in numbers {
-            if positions.push(Position::new(*number)).is_err() {
-                return Err(Halt::OutOfMemory);
-            }
-        }
-        Ok(positions)
-    }
-
-    // The locations at the positions of all leaves, and at scattered positions.
-    fn locations<F: Family, C: CpuClock>(
-        &self,
-        watch: &mut Stopwatch<C>,
-        leaves: u64,
-        scattered: &[u64],
-    ) -> Result<(), Halt> {
-        let positions: Vec<Position<F>> = self.leaf_positions(leaves)?;
-        self.locations_at(watch, "position_to_location of leaves", &positions)?;
-        let positions: Vec<Position<F>> = self.positions(scattered)?;
-        self.locations_at(watch, "position_to_location, scattered", &positions)
+        Some(positions)
     }
 
     // The locations at these positions.
-    fn locations_at<F: Family, C: CpuClock>(
+    fn locations<F: Family, C: CpuClock>(
         &self,
         watch: &mut Stopwatch<C>,
         work: &'static str,
-        positions: &[Position<F>],
-    ) -> Result<(), Halt> {
+        positions: &[u64],
+    ) {
         let mut sum: u64 = 0;
         let start = watch.now();
-        for position in positions {
+        for number in positions {
+            let position = Position::<F>::new(*number);
             if !position.is_valid() {
-                return Err(Halt::Refused);
+                watch.is_whole = false;
+                continue;
             }
-            if let Some(location) = F::position_to_location(*position) {
+            if let Some(location) = F::position_to_location(position) {
                 sum = sum.wrapping_add(location.as_u64());
             }
         }
         watch.keep(&sum.to_be_bytes());
         watch.note(self.name, work, positions.len() as u64, start);
-        Ok(())
     }
 
     // The hash of 72 bytes, which is that of a node.
@@ -289,75 +240,46 @@ impl<H: PlainHasher> Trees<H> {
         }
         watch.note(self.name, "hash of 72 bytes", units, start);
     }
-
-    // All calls, on a structure without leaves.
-    fn calls<F: Family, C: CpuClock>(
-        &self,
-        watch: &mut Stopwatch<C>,
-        structure: &mut Mem<F, H::Digest>,
-        elements: &[Element],
-        scattered: &[u64],
-    ) -> Result<(), Halt> {
-        self.append_together(watch, structure, elements)?;
-        self.append_at_once(watch, structure, elements)?;
-        self.append_one_by_one::<F, C>(watch, elements)?;
-        self.roots(watch, structure)?;
-        self.proofs(watch, structure, elements, scattered)?;
-        measure_codec(
-            self.alloc,
-            watch,
-            self.name,
-            &self.hasher,
-            structure,
-            scattered,
-        )?;
-        self.prune(watch, structure)?;
-        self.update(watch, structure, scattered)?;
-        self.locations::<F, C>(watch, elements.len() as u64, scattered)?;
-        self.hashes(watch);
-        measure_nodes::<F, H, C>(self.alloc, watch, self.name, &self.hasher)?;
-        watch.outcome()
-    }
-
-    // One round.
-    fn round<F: Family, C: CpuClock>(
-        &self,
-        watch: &mut Stopwatch<C>,
-        workload: &Workload,
-        elements: &[Element],
-    ) -> Result<(), Halt> {
-        let scattered = workload.scattered(self.alloc, elements.len() as u64)?;
-        let mut structure: Mem<F, H::Digest> = Mem::new(self.alloc);
-        self.calls(watch, &mut structure, elements, &scattered)
-    }
 }
 
-// The elements as slices.
-fn views<'a>(alloc: Global, elements: &'a [Element]) -> Result<Vec<&'a [u8]>, Halt> {
-    let mut all: Vec<&[u8]> = Vec::new(alloc);
-    for element in elements {
-        if all.push(element.as_slice()).is_err() {
-            return Err(Halt::OutOfMemory);
-        }
-    }
-    Ok(all)
-}
-
-/// Measures all calls at a family and a hash, in as many rounds as the workload has, under that name in the table.
+/// Measures all calls at a family and a hash, in one round, under that name in the table.
 pub fn measure<F: Family, H: PlainHasher, C: CpuClock>(
     alloc: Global,
     watch: &mut Stopwatch<C>,
     name: &'static str,
     workload: &Workload,
-) -> Result<(), Halt> {
-    let elements = workload.elements(alloc)?;
+) -> Option<()> {
+    let elements: Vec<&[u8]> = workload
+        .elements
+        .chunks_exact(ELEMENT_SIZE)
+        .collect(alloc)
+        .ok()?;
     let trees: Trees<H> = Trees {
         alloc,
         name,
         hasher: Standard::new(Bagging::ForwardFold),
+        elements: &elements,
+        scattered: &workload.scattered,
     };
-    for _ in 0..workload.rounds() {
-        trees.round::<F, C>(watch, workload, &elements)?;
-    }
-    Ok(())
+    let mut structure: Mem<F, H::Digest> = Mem::new(alloc);
+    trees.add_together(watch, &structure)?;
+    let batch = trees.add_each(watch, &structure)?;
+    let units = elements.len() as u64;
+    trees.commit(watch, &APPEND_ROWS, units, &mut structure, batch)?;
+    trees.append_one_by_one::<F, C>(watch)?;
+    trees.roots(watch, &structure);
+    trees.proofs(watch, &structure)?;
+    trees.prune(watch, &structure)?;
+    let batch = trees.update_each(watch, &structure)?;
+    let units = workload.scattered.len() as u64;
+    trees.commit(watch, &UPDATE_ROWS, units, &mut structure, batch)?;
+    let positions = trees.leaf_positions::<F>()?;
+    trees.locations::<F, C>(watch, "position_to_location of leaves", &positions);
+    trees.locations::<F, C>(
+        watch,
+        "position_to_location, scattered",
+        &workload.scattered,
+    );
+    trees.hashes(watch);
+    measure_nodes::<F, H, C>(alloc, watch, name, &trees.hasher)
 }

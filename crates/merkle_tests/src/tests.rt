@@ -1,15 +1,21 @@
-//! Hashers, paths, values, added leaves and counts, with values that were worked out by hand.
+//! Hashers, paths, values, added leaves, counts, lines, and proofs over what holds nodes, with values that were worked out by
+//! hand.
 //!
 //! A digest of `Xor8` is the exclusive or of the bytes that it hashes.
 
 mod additions;
 mod counts;
 mod hashers;
+mod lines;
 mod paths;
 mod values;
+mod verification;
 
 use merkle_core::digest::{Digest, Xor8Digest};
-use std::alloc::Global;
+use merkle_core::family::Family;
+use merkle_core::hasher::Hasher;
+use merkle_core::mem::Mem;
+use std::alloc::{AllocError, Global};
 use std::fmt::Debug;
 use std::process::Abort;
 use std::test::Fail;
@@ -33,4 +39,35 @@ fn assert_prints<T: Debug>(
     let shown = format!(in alloc; "{value:?}")?;
     assert!(rt; shown.as_str().starts_with(start), "{shown}");
     Ok(())
+}
+
+/// That many times the same element. The digests of its leaves differ, since each has its position.
+fn repeated<'a>(alloc: Global, element: &'a [u8], count: u64) -> Result<Vec<&'a [u8]>, AllocError> {
+    let mut all = Vec::new(alloc);
+    for _ in 0..count {
+        all.push(element)?;
+    }
+    Ok(all)
+}
+
+/// A structure of leaves with these elements; `None` where a call is refused.
+fn structure_of<F: Family, H: Hasher<F>>(
+    alloc: Global,
+    hasher: &H,
+    elements: &[&[u8]],
+) -> Option<Mem<F, H::Digest>> {
+    let mut structure = Mem::new(alloc);
+    let Ok(batch) = structure.new_batch() else {
+        return None;
+    };
+    let Ok(batch) = batch.add_all(hasher, elements) else {
+        return None;
+    };
+    let Ok(batch) = batch.merkleize(&structure, hasher) else {
+        return None;
+    };
+    let Ok(()) = structure.apply_batch(&batch) else {
+        return None;
+    };
+    Some(structure)
 }

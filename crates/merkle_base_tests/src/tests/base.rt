@@ -1,3 +1,4 @@
+use super::OF_ABC;
 use merkle_base::error::{DecodeError, Error, OutOfMemory, ReconstructionError};
 use merkle_base::family::Bagging;
 use merkle_base::location::{Leaves, Location, LocationRangeExt};
@@ -16,12 +17,6 @@ use std::test::Fail;
 struct Mark;
 
 const EMPTY_PARTS: [&[u8]; 0] = [];
-
-// The SHA-256 digest of `abc`, from FIPS 180-4.
-const OF_ABC: [u8; 32] = [
-    0xba, 0x78, 0x16, 0xbf, 0x8f, 0x01, 0xcf, 0xea, 0x41, 0x41, 0x40, 0xde, 0x5d, 0xae, 0x22, 0x23,
-    0xb0, 0x03, 0x61, 0xa3, 0x96, 0x17, 0x7a, 0x9c, 0xb4, 0x10, 0xff, 0x61, 0xf2, 0x00, 0x15, 0xad,
-];
 
 // The SHA-256 digest of no bytes.
 const OF_NOTHING: [u8; 32] = [
@@ -306,13 +301,4 @@ fn debug_texts(rt: HostRuntime) -> Result<(), Fail> {
         "Family Unused ForwardFold BackwardFold Sha256Plain Xor8 EndOfBuffer Xor8Digest { byte: 0 } Sha256Digest { bytes: [0, 0, ";
     assert!(rt; shown.as_str().starts_with(start), "{shown}");
     Ok(())
-}
-
-#[test]
-fn bytes_of_baggings(rt: HostRuntime) {
-    let found = [
-        Bagging::ForwardFold.domain(),
-        Bagging::BackwardFold.domain(),
-    ];
-    assert!(rt; found == [0, 1]);
 }

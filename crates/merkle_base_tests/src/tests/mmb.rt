@@ -48,6 +48,9 @@ fn peak_counts(rt: HostRuntime) {
         assert!(rt; told(&peaks) == (count, (count, Some(count)), 11));
         assert!(rt; peaks.next().is_some() == (count > 0));
     }
+    let nodes = mmb::Position::new(MAX_NODES);
+    assert!(rt; nodes.is_valid_size());
+    assert!(rt; told(&PeakIterator::new(nodes)) == (62, (62, Some(62)), MAX_LEAVES));
 }
 
 #[test]
@@ -55,21 +58,6 @@ fn no_peaks(rt: HostRuntime) {
     assert!(rt; PeakIterator::to_nearest_size(mmb::Position::new(5)).as_u64() == 4);
     assert!(rt; told(&PeakIterator::default()) == (0, (0, Some(0)), 0));
     assert!(rt; PeakIterator::default().next().is_none());
-}
-
-// Of the greatest leaf count the heights are 61 down to 6, and then 5, 5, 4, 3, 2 and 1.
-#[test]
-fn most_peaks(rt: HostRuntime) {
-    let nodes = mmb::Position::new(MAX_NODES);
-    assert!(rt; nodes.is_valid_size());
-    let mut peaks = mmb::Family::peaks(nodes);
-    let counts = (peaks.len(), peaks.leaves().as_u64());
-    let ends = (peaks.next(), peaks.last());
-    assert!(rt; counts == (62, MAX_LEAVES));
-    let (position, height) = OLDEST;
-    let oldest = (mmb::Position::new(position), height);
-    let newest = (mmb::Position::new(MAX_NODES - 1), 1);
-    assert!(rt; ends == (Some(oldest), Some(newest)));
 }
 
 /// The heights of the first two parents that come with a leaf.

@@ -1,6 +1,7 @@
 //! How many nodes a batch computes: as it counts them, and as a hasher counts its calls.
 
-use merkle_core::digest::{Digest, Xor8};
+use super::{repeated, structure_of};
+use merkle_core::digest::Xor8;
 use merkle_core::family::{Bagging, Family, Work};
 use merkle_core::hasher::{Hasher, Standard};
 use merkle_core::location::Location;
@@ -10,31 +11,6 @@ use merkle_fixtures::counting::Counting;
 use std::alloc::Global;
 use std::cell::Cell;
 use std::test::Fail;
-
-/// A structure of `leaves` leaves, with elements of one byte; `None` where a call is refused.
-fn structure_of<F: Family, H: Hasher<F>>(
-    alloc: Global,
-    hasher: &H,
-    leaves: u8,
-) -> Option<Mem<F, H::Digest>> {
-    let mut structure = Mem::new(alloc);
-    let Ok(mut batch) = structure.new_batch() else {
-        return None;
-    };
-    for i in 0..leaves {
-        let Ok(next) = batch.add(hasher, &[i]) else {
-            return None;
-        };
-        batch = next;
-    }
-    let Ok(batch) = batch.merkleize(&structure, hasher) else {
-        return None;
-    };
-    let Ok(_) = structure.apply_batch(&batch) else {
-        return None;
-    };
-    Some(structure)
-}
 
 /// The number of nodes that a batch over a structure counts, which adds so many leaves and then
 /// changes others; `None` where a call is refused.
@@ -67,9 +43,10 @@ fn nodes_computed<F: Family, H: Hasher<F>>(
 }
 
 /// The same over a structure of `leaves` leaves.
-fn nodes_over<F: Family>(alloc: Global, leaves: u8, added: u8, changed: &[u64]) -> Option<u64> {
+fn nodes_over<F: Family>(alloc: Global, leaves: u64, added: u8, changed: &[u64]) -> Option<u64> {
     let hasher = Standard::<Xor8>::new(Bagging::ForwardFold);
-    let structure = structure_of::<F, _>(alloc, &hasher, leaves)?;
+    let elements = repeated(alloc, &[7], leaves).ok()?;
+    let structure = structure_of::<F, _>(alloc, &hasher, &elements)?;
     nodes_computed(&structure, &hasher, added, changed)
 }
 
@@ -102,7 +79,9 @@ fn calls_of_a_hasher(rt: HostRuntime) -> Result<(), Fail> {
         singles: &singles,
     };
     let plain = Standard::<Xor8>::new(Bagging::ForwardFold);
-    let structure = structure_of::<mmr::Family, _>(rt.alloc(), &plain, 8).expect(&rt, "no refusal");
+    let elements = repeated(rt.alloc(), &[7], 8)?;
+    let structure = structure_of::<mmr::Family, _>(rt.alloc(), &plain, &elements);
+    let structure = structure.expect(&rt, "no refusal");
     // four nodes of height 1 and two of height 2 in pairs, and the peak
     let counted = nodes_computed(&structure, &hasher, 0, &[0, 1, 2, 3, 4, 5, 6, 7]);
     assert_eq!(rt; counted, Some(7));

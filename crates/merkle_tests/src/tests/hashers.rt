@@ -1,7 +1,7 @@
 //! What hashers answer, by value and behind references.
 
 use super::{byte, digest};
-use merkle_core::digest::{Digest, PlainHasher, Sha256Digest, Sha256Plain, Xor8, Xor8Digest};
+use merkle_core::digest::{Xor8, Xor8Digest};
 use merkle_core::family::Bagging;
 use merkle_core::hasher::Hasher;
 use merkle_core::mmr::{Family, Location, Position, StandardHasher};
@@ -109,49 +109,4 @@ fn roots_with_folded_peaks(rt: HostRuntime) {
     ];
     assert_eq!(rt; first, roots);
     assert!(rt; second == first);
-}
-
-fn joined(left: Sha256Digest, right: Sha256Digest) -> Sha256Digest {
-    Sha256Plain::hash(&[left.as_bytes(), right.as_bytes()])
-}
-
-/// The root of 15 leaves under the family's and the bagging's byte, for a number of inactive peaks that isn't 0, over the
-/// one digest that stands for the peaks.
-fn root_over(head: [u8; 2], inactive: u8, folded: Sha256Digest) -> Sha256Digest {
-    let leaves = [0, 0, 0, 0, 0, 0, 0, 15];
-    let inactive = [0, 0, 0, 0, 0, 0, 0, inactive];
-    Sha256Plain::hash(&[&head, &leaves, &inactive, folded.as_bytes()])
-}
-
-#[test]
-fn order_of_folding(rt: HostRuntime) {
-    let [a, b, c, d] = [b"a", b"b", b"c", b"d"].map(|part| Sha256Plain::hash(&[part]));
-    let from_left = joined(joined(joined(a, b), c), d);
-    for (bagging, head, inactive, folded) in [
-        (Bagging::ForwardFold, [0, 0], 1, from_left),
-        (Bagging::ForwardFold, [0, 0], 4, from_left),
-        (
-            Bagging::BackwardFold,
-            [0, 1],
-            1,
-            joined(a, joined(b, joined(c, d))),
-        ),
-        (
-            Bagging::BackwardFold,
-            [0, 1],
-            2,
-            joined(joined(a, b), joined(c, d)),
-        ),
-        (Bagging::BackwardFold, [0, 1], 3, from_left),
-        (Bagging::BackwardFold, [0, 1], 4, from_left),
-    ] {
-        let hasher = StandardHasher::<Sha256Plain>::new(bagging);
-        let leaves: Location = Location::new(15);
-        let found = hasher.root(leaves, usize::from(inactive), &[a, b, c, d]);
-        let root = root_over(head, inactive, folded);
-        assert!(rt;
-            matches!(&found, Ok(found) if *found == root),
-            "{inactive} inactive"
-        );
-    }
 }

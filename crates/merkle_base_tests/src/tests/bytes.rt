@@ -1,3 +1,5 @@
+//! Positions, locations and proofs as bytes.
+
 use merkle_base::error::DecodeError;
 use merkle_base::location::Location;
 use merkle_base::position::Position;
@@ -40,47 +42,6 @@ fn spelled_proofs(rt: HostRuntime) -> Result<(), Fail> {
     ];
     assert!(rt; found == [true; 3]);
     Ok(())
-}
-
-#[test]
-fn parts_of_a_proof(rt: HostRuntime) {
-    let mut input: &[u8] = &[3, 0, 2, 7, 3];
-    let read = RangeProof::read(rt.alloc(), &mut input, &2);
-    assert!(rt;
-        matches!(
-            &read,
-            Ok(proof) if proof.leaves == Location::new(3)
-                && proof.inactive_peaks == 0
-                && proof.digests.len() == 2
-        )
-    );
-}
-
-#[test]
-fn refused_proofs(rt: HostRuntime) {
-    let alloc = rt.alloc();
-    let cut = [
-        matches!(
-            proof_error(alloc, &[172], 2),
-            Some(DecodeError::EndOfBuffer)
-        ),
-        matches!(
-            proof_error(alloc, &[3, 0, 2, 7], 2),
-            Some(DecodeError::EndOfBuffer)
-        ),
-    ];
-    assert!(rt; cut == [true; 2]);
-    let other = [
-        matches!(
-            proof_error(alloc, &[128, 0, 0, 0], 2),
-            Some(DecodeError::InvalidVarint)
-        ),
-        matches!(
-            proof_error(alloc, &[3, 0, 2, 7, 3], 1),
-            Some(DecodeError::TooMany)
-        ),
-    ];
-    assert!(rt; other == [true; 2]);
 }
 
 #[test]

@@ -1,13 +1,14 @@
-//! Proofs over nodes of three leaves of a Mountain Range, with digests that were chosen by hand.
+//! Refused proofs over nodes of three leaves of a Mountain Range, some of which are missing, with digests that were chosen by
+//! hand.
 ghost use Rattle.std.specs.Prelude.{◌≡◌, None, get_or};
 
-use super::{digest, has_bytes};
-use merkle_base::family::Bagging;
-use merkle_digest::digest::{Xor8, Xor8Digest};
-use merkle_hasher::hasher::Standard;
-use merkle_hasher::read::Readable;
-use merkle_topology::mmr::{Error, Family, Location, Position};
-use merkle_verification::verification::{historical_range_proof, multi_proof, range_proof};
+use crate::tests::digest;
+use merkle_core::digest::{Xor8, Xor8Digest};
+use merkle_core::family::Bagging;
+use merkle_core::hasher::Standard;
+use merkle_core::mmr::{Error, Family, Location, Position};
+use merkle_core::read::Readable;
+use merkle_core::verification::{multi_proof, range_proof};
 use std::process::Abort;
 use std::test::Fail;
 
@@ -56,30 +57,6 @@ fn three_leaves(rt: &impl Abort) -> Nodes {
             Some(digest(rt, 9)),
         ],
     }
-}
-
-#[test]
-fn proofs_of_ranges(rt: HostRuntime) -> Result<(), Fail> {
-    let nodes = three_leaves(&rt);
-    let hasher = Standard::<Xor8>::new(Bagging::ForwardFold);
-    let first = Location::new(0)..Location::new(1);
-    // the peak after the leaf, and the sibling
-    let whole = range_proof(rt.alloc(), &hasher, &nodes, first, 0);
-    assert!(rt; matches!(&whole, Ok(proof) if has_bytes(proof, 3, &[9, 6])));
-    // before the third leaf came there was no other peak
-    let first = Location::new(0)..Location::new(1);
-    let old = historical_range_proof(rt.alloc(), &hasher, &nodes, Location::new(2), first, 0);
-    assert!(rt; matches!(&old, Ok(proof) if has_bytes(proof, 2, &[6])));
-    Ok(())
-}
-
-#[test]
-fn proofs_of_scattered_leaves(rt: HostRuntime) -> Result<(), Fail> {
-    let nodes = three_leaves(&rt);
-    let locations = [Location::new(0), Location::new(2)];
-    let proof = multi_proof(rt.alloc(), &nodes, 0, &locations);
-    assert!(rt; matches!(&proof, Ok(proof) if has_bytes(proof, 3, &[6, 3, 9])));
-    Ok(())
 }
 
 #[test]

@@ -1,5 +1,6 @@
 //! Digests that are extracted from proofs of ranges, against the nodes of the structure.
 
+use crate::tests::{repeated, structure_of};
 use merkle_core::digest::{Digest, PlainHasher, Sha256Plain, Xor8};
 use merkle_core::family::{Bagging, Family};
 use merkle_core::hasher::{Hasher, Standard};
@@ -9,44 +10,13 @@ use merkle_core::position::Position;
 use merkle_core::{mmb, mmr};
 use merkle_fixtures::counting::Counting;
 use merkle_fixtures::fours::Fours;
-use std::alloc::{AllocError, Global};
+use std::alloc::Global;
 use std::cell::Cell;
 use std::process::Abort;
 use std::test::Fail;
 
 /// How many leaves the structures have.
 const LEAVES: u64 = 1100;
-
-/// That many times the same element. The digests of its leaves differ, since each has its position.
-fn repeated<'a>(alloc: Global, element: &'a [u8], count: u64) -> Result<Vec<&'a [u8]>, AllocError> {
-    let mut all = Vec::new(alloc);
-    for _ in 0..count {
-        all.push(element)?;
-    }
-    Ok(all)
-}
-
-/// A structure of [`LEAVES`] leaves; `None` where a call is refused.
-fn structure_of<F: Family, H: PlainHasher>(
-    alloc: Global,
-    hasher: &Standard<H>,
-    elements: &[&[u8]],
-) -> Option<Mem<F, H::Digest>> {
-    let mut structure = Mem::new(alloc);
-    let Ok(batch) = structure.new_batch() else {
-        return None;
-    };
-    let Ok(batch) = batch.add_all(hasher, elements) else {
-        return None;
-    };
-    let Ok(batch) = batch.merkleize(&structure, hasher) else {
-        return None;
-    };
-    let Ok(()) = structure.apply_batch(&batch) else {
-        return None;
-    };
-    Some(structure)
-}
 
 /// The number of pairs of a peak of that height over leaves from `first` on, the range being from
 /// `start` up to `end`: the peak, and the two children of each node below it that is over a leaf of
@@ -134,7 +104,7 @@ fn assert_ranges<F: Family, H: PlainHasher>(rt: &(impl Abort + AllocGlobal)) -> 
     let hasher = Standard::<H>::new(Bagging::ForwardFold);
     let element = [7u8];
     let all = repeated(rt.alloc(), &element, LEAVES)?;
-    let structure = structure_of::<F, H>(rt.alloc(), &hasher, &all).expect(rt, "no refusal");
+    let structure = structure_of::<F, _>(rt.alloc(), &hasher, &all).expect(rt, "no refusal");
     for start in [256, 301] {
         for count in [1, 2, 7, 8, 9, 255, 256, 257, 600] {
             assert_extracted(rt, &structure, &hasher, start, count)?;
@@ -175,7 +145,7 @@ fn assert_nodes<F: Family>(
     let plain = Standard::<Xor8>::new(Bagging::ForwardFold);
     let element = [7u8];
     let all = repeated(rt.alloc(), &element, LEAVES)?;
-    let structure = structure_of::<F, Xor8>(rt.alloc(), &plain, &all).expect(rt, "no refusal");
+    let structure = structure_of::<F, _>(rt.alloc(), &plain, &all).expect(rt, "no refusal");
     let found = extracted(rt.alloc(), &structure, &hasher, start, end).expect(rt, "no refusal");
     assert_eq!(rt; found.len() as u64, count_of_range(&structure, start, end));
     assert_eq!(rt; (pairs.get(), nodes.get()), expected, "{start} up to {end}");
@@ -234,7 +204,7 @@ fn nodes_one_by_one_by_default(rt: HostRuntime) -> Result<(), Fail> {
     let plain = Standard::<Xor8>::new(Bagging::ForwardFold);
     let element = [7u8];
     let all = repeated(rt.alloc(), &element, LEAVES)?;
-    let structure = structure_of::<mmr::Family, Xor8>(rt.alloc(), &plain, &all);
+    let structure = structure_of::<mmr::Family, _>(rt.alloc(), &plain, &all);
     let structure = structure.expect(&rt, "no refusal");
     let found = extracted(rt.alloc(), &structure, &hasher, 0, 256).expect(&rt, "no refusal");
     assert_eq!(rt; found.len() as u64, count_of_range(&structure, 0, 256));

@@ -1,0 +1,242 @@
+//! Lines of the program `merkle`: runs that its own lines don't show, readers and writers that fail, and hexadecimal digits.
+
+use merkle_lines::hex_words::{HexError, is_hex_word, read_hex, write_hex};
+use merkle_lines::run::{RunError, run};
+use std::alloc::Global;
+use std::io;
+use std::test::Fail;
+
+/// Whether the lines have these answers, and the run ends well.
+fn has_answers(alloc: Global, lines: &[u8], answers: &str) -> bool {
+    let mut reader = lines;
+    let mut written = Vec::new(alloc);
+    let result = run(alloc, &mut reader, &mut written);
+    result.is_ok() && written.as_slice() == answers.as_bytes()
+}
+
+// What no line of a text file is: no lines, lines before the first structure, a last line that nothing ends, and lines with
+// bytes of no text.
+const RUNS: [(&[u8], &str); 10] = [
+    (b"", ""),
+    // a structure is asked for where the line is well-formed
+    (
+        b"commit\nadd 01\nroot 0\nadd 0\nnew mmr forward xor8\ncommit\n",
+        "error NoStructure\nerror NoStructure\nerror NoStructure\nerror Syntax\nok\nok 0 0\n",
+    ),
+    (
+        b"prune 0\nprove 0 1 0\ncheck 0 0 01 00\nupdate 0 00\nnew mmb forward xor8\nadd 01\n",
+        "error NoStructure\nerror NoStructure\nerror NoStructure\nerror NoStructure\nok\nok 0\n",
+    ),
+    (b"new mmr forward xor8\ncommit\nroot 0", "ok\nok 0 0\n00\n"),
+    (b"new mmr backward xor8\nroot 0", "ok\n01\n"),
+    (b"commits", "error Syntax\n"),
+    (b"check 0 00", "error Syntax\n"),
+    (b"add 01\r\n", "error Syntax\n"),
+    (b"add 01\0\n", "error Syntax\n"),
+    (b"add \xff\n", "error Syntax\n"),
+];
+
+#[test]
+fn runs(rt: HostRuntime) {
+    for (lines, answers) in &RUNS {
+        assert!(rt; has_answers(rt.alloc(), lines, answers), "{answers}");
+    }
+}
+
+const LINES: &[u8] = b"new mmr forward xor8\nadd 01\nadd 02\nadd 04\ncommit\nroot 0\nroot 3";
+
+const ANSWERS: &[u8] = b"ok\nok 0\nok 1\nok 2\nok 3 4\n04\nerror InvalidInactivePeaks\n";
+
+// A reader in memory that gives few bytes at a time. Each call with an odd number of calls left is interrupted, and the
+// one with none left fails.
+#[derive(Drop)]
+struct FailingReader<'a> {
+    rest: &'a [u8],
+    calls: usize,
+}
+
+impl io::Read for FailingReader<'_> {
+    fn read(&mut self, buf: &mut [u8]) -> io::Result<usize> {
+        if self.calls == 0 {
+            return Err(io::Error::from(io::ErrorKind::TimedOut));
+        }
+        self.calls -= 1;
+        if self.calls % 2 == 0 {
+            return Err(io::Error::from(io::ErrorKind::Interrupted));
+        }
+        let count = buf.len().min(self.rest.len()).min(5);
+        let (front, back) = self.rest.split_at(count);
+        buf[..count].copy_from_slice(front);
+        self.rest = back;
+        Ok(count)
+    }
+}
+
+// A writer in memory that takes few bytes at a time. The call with none left fails.
+#[derive(Drop)]
+struct FailingWriter {
+    bytes: [u8; 128],
+    len: usize,
+    calls: usize,
+}
+
+impl FailingWriter {
+    fn new(calls: usize) -> FailingWriter {
+        FailingWriter {
+            bytes: [0; 128],
+            len: 0,
+            calls,
+        }
+    }
+
+    fn written(&self) -> &[u8] {
+        if self.len <= 128 {
+            &self.bytes[..self.len]
+        } else {
+            &[]
+        }
+    }
+}
+
+impl io::Write for FailingWriter {
+    fn write(&mut self, buf: &[u8]) -> io::Result<usize> {
+        if self.calls == 0 || self.len >= 128 {
+            return Err(io::Error::from(io::ErrorKind::BrokenPipe));
+        }
+        self.calls -= 1;
+        let count = buf.len().min(3).min(128 - self.len);
+        self.bytes[self.len..self.len + count].copy_from_slice(&buf[..count]);
+        self.len += count;
+        Ok(count)
+    }
+
+    fn flush(&mut self) -> io::Result<()> {
+        if self.calls == 0 {
+            return Err(io::Error::from(io::ErrorKind::BrokenPipe));
+        }
+        self.calls -= 1;
+        Ok(())
+    }
+}
+
+/// Runs the lines with a reader and a writer that fail after so many calls: how the run ends, whether what is written
+/// begins the answers, and whether it is all of them.
+fn run_failing(alloc: Global, reads: usize, writes: usize) -> (Result<(), RunError>, bool, bool) {
+    let mut reader = FailingReader {
+        rest: LINES,
+        calls: reads,
+    };
+    let mut writer = FailingWriter::new(writes);
+    let result = run(alloc, &mut reader, &mut writer);
+    let written = writer.written();
+    (result, ANSWERS.starts_with(written), ANSWERS == written)
+}
+
+#[test]
+fn each_read_fails_in_turn(rt: HostRuntime) {
+    for tried in 0..100 {
+        let (result, is_start, is_whole) = run_failing(rt.alloc(), tried, 1000);
+        assert!(rt; is_start, "{tried} reads");
+        match result {
+            Ok(()) => {
+                assert!(rt; is_whole && tried > 10);
+                return;
+            }
+            Err(error) => assert!(rt; error == RunError::ReadFailed, "{tried} reads"),
+        }
+    }
+    panic!(rt; "no run ends well");
+}
+
+#[test]
+fn each_write_fails_in_turn(rt: HostRuntime) {
+    for tried in 0..200 {
+        let (result, is_start, is_whole) = run_failing(rt.alloc(), 1000, tried);
+        assert!(rt; is_start, "{tried} writes");
+        match result {
+            Ok(()) => {
+                assert!(rt; is_whole && tried > 10);
+                return;
+            }
+            Err(error) => assert!(rt; error == RunError::WriteFailed, "{tried} writes"),
+        }
+    }
+    panic!(rt; "no run ends well");
+}
+
+const TEXTS: [(RunError, &str); 3] = [
+    (RunError::ReadFailed, "merkle: read failed"),
+    (RunError::WriteFailed, "merkle: write failed"),
+    (RunError::OutOfMemory, "merkle: out of memory"),
+];
+
+#[test]
+fn texts(rt: HostRuntime) -> Result<(), Fail> {
+    for (error, text) in TEXTS {
+        let shown = error.to_string(rt.alloc())?;
+        assert!(rt; shown.as_str() == text, "{shown}");
+    }
+    Ok(())
+}
+
+/// Whether a word is refused as no bytes.
+fn is_refused(alloc: Global, word: &str) -> bool {
+    !is_hex_word(word) && matches!(read_hex(alloc, word), Err(HexError::Syntax))
+}
+
+/// Whether a word spells these bytes, which are shown so.
+fn is_spelled(alloc: Global, word: &str, bytes: &[u8], shown: &str) -> bool {
+    is_hex_word(word)
+        && matches!(read_hex(alloc, word), Ok(read) if read.as_slice() == bytes)
+        && matches!(write_hex(alloc, bytes), Ok(text) if text.as_str() == shown)
+}
+
+const NO_HEX_WORDS: [&str; 9] = ["0", "012", "0g", "g0", "-", " ", "0 ", "+1", "\u{e9}"];
+
+#[test]
+fn hex_words(rt: HostRuntime) {
+    for word in NO_HEX_WORDS {
+        assert!(rt; is_refused(rt.alloc(), word), "{word}");
+    }
+    assert!(rt; is_spelled(rt.alloc(), "", &[], ""));
+    assert!(rt; is_spelled(rt.alloc(), "00", &[0], "00"));
+    assert!(rt; is_spelled(rt.alloc(), "00fFAb", &[0, 255, 171], "00ffab"));
+}
+
+/// The bytes beside those of digits.
+const NO_DIGITS: [&str; 6] = ["/", ":", "@", "G", "`", "g"];
+
+/// Returns a word of so many bytes, all of them the digit `d` but the one at `place`, if there is one there.
+fn word_with(alloc: Global, length: usize, place: usize, byte: &str) -> Result<String, Fail> {
+    let mut word = String::new(alloc);
+    for at in 0..length {
+        word.push_str(if at == place { byte } else { "d" })?;
+    }
+    Ok(word)
+}
+
+/// Whether a word is decoded, and its bytes are encoded as the same word.
+fn is_kept(alloc: Global, word: &str) -> bool {
+    match read_hex(alloc, word) {
+        Ok(bytes) => is_spelled(alloc, word, &bytes, word),
+        Err(_) => false,
+    }
+}
+
+// A word is tested 64 bytes at a time.
+#[test]
+fn long_hex_words(rt: HostRuntime) -> Result<(), Fail> {
+    for length in [62, 64, 66, 126, 128, 130] {
+        let word = word_with(rt.alloc(), length, length, "")?;
+        assert!(rt; is_hex_word(word.as_str()), "{length}");
+        for place in 0..length {
+            for byte in NO_DIGITS {
+                let word = word_with(rt.alloc(), length, place, byte)?;
+                assert!(rt; is_refused(rt.alloc(), word.as_str()), "{word}");
+            }
+            let word = word_with(rt.alloc(), length, place, "0")?;
+            assert!(rt; is_kept(rt.alloc(), word.as_str()), "{word}");
+        }
+    }
+    Ok(())
+}

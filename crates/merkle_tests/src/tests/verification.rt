@@ -1,0 +1,4 @@
+//! Proofs over what holds nodes, and digests that are extracted from proofs.
+
+mod extraction;
+mod readers;
