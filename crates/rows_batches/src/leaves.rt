@@ -8,7 +8,7 @@ use merkle_core::location::Location;
 use rows_common::granted;
 use rows_common::values::{digest, digests, updates};
 use rows_text::refusal::Refusal;
-use rows_text::words::{LeafBytes, Words, named};
+use rows_text::words::{LocatedBytes, Words, named};
 use rows_world::world::World;
 use std::alloc::Global;
 
@@ -72,11 +72,11 @@ fn leaf_digests<F: Family, H: Hasher<F>>(
 fn updates_to<F: Family, H: Hasher<F>>(
     alloc: Global,
     hasher: &H,
-    list: &[LeafBytes],
+    list: &[LocatedBytes],
 ) -> Result<Vec<(Location<F>, H::Digest)>, Refusal> {
     let mut updates = Vec::new(alloc);
     for update in list {
-        let leaf = Location::new(update.leaf);
+        let leaf = Location::new(update.index);
         let to = leaf_digest(hasher, leaf, update.bytes.as_slice())?;
         updates.push((leaf, to))?;
     }

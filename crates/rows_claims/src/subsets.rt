@@ -12,7 +12,7 @@ use rows_common::granted;
 use rows_common::sweep::sum_by_inactive;
 use rows_given::checks::accepts_scattered;
 use rows_text::refusal::Refusal;
-use rows_text::words::LeafBytes;
+use rows_text::words::LocatedBytes;
 use std::alloc::Global;
 use std::mem;
 
@@ -66,7 +66,7 @@ fn proves_choice<F: Family, H: Hasher<F>>(
     let elements = chosen(alloc, elements, choice)?;
     let mut locations = Vec::new(alloc);
     for element in &elements {
-        locations.push(Location::new(element.leaf))?;
+        locations.push(Location::new(element.index))?;
     }
     let proof = scattered_proof(alloc, structure, &locations, inactive)?;
     let mut claim = Claim {
@@ -85,13 +85,13 @@ fn proves_choice<F: Family, H: Hasher<F>>(
 }
 
 // The elements whose bits are set, each with its location.
-fn chosen(alloc: Global, elements: &[Vec<u8>], choice: u64) -> Result<Vec<LeafBytes>, Refusal> {
+fn chosen(alloc: Global, elements: &[Vec<u8>], choice: u64) -> Result<Vec<LocatedBytes>, Refusal> {
     let mut all = Vec::new(alloc);
     let mut rest = choice;
     for (leaf, element) in elements.iter().enumerate() {
         if rest % 2 == 1 {
-            all.push(LeafBytes {
-                leaf: leaf as u64,
+            all.push(LocatedBytes {
+                index: leaf as u64,
                 bytes: element.clone()?,
             })?;
         }
@@ -105,7 +105,7 @@ fn chosen(alloc: Global, elements: &[Vec<u8>], choice: u64) -> Result<Vec<LeafBy
 struct Claim<F: Family, D: Digest> {
     alloc: Global,
     proof: Proof<F, D>,
-    elements: Vec<LeafBytes>,
+    elements: Vec<LocatedBytes>,
     root: D,
 }
 
@@ -168,13 +168,13 @@ impl<F: Family, D: Digest> Claim<F, D> {
             let Some(place) = self.elements.get_mut(index) else {
                 return Ok(false);
             };
-            let leaf = place.leaf;
-            place.leaf = leaf.saturating_add(1);
+            let leaf = place.index;
+            place.index = leaf.saturating_add(1);
             if self.is_accepted(hasher)? {
                 return Ok(false);
             }
             if let Some(place) = self.elements.get_mut(index) {
-                place.leaf = leaf;
+                place.index = leaf;
             }
         }
         Ok(true)

@@ -5,57 +5,61 @@ use merkle_base::location::Location;
 use merkle_base::position::Position;
 use merkle_digest::digest::Digest;
 use merkle_proof::proof::Proof;
-use rows_text::words::{Words, bytes, number, numbered};
-use std::alloc::Global;
+use rows_text::words::Words;
 use std::ops::Range;
 
-// The digest with these hexadecimal digits.
-fn spelled<D: Digest>(alloc: Global, item: &str) -> Option<D> {
-    let spelling = bytes(alloc, item)?;
-    D::from_bytes(spelling.as_slice())
-}
-
-// The location in decimal digits.
-fn location<F: Family>(_alloc: Global, item: &str) -> Option<Location<F>> {
-    Some(Location::new(number(item)?))
-}
-
-// The location before the colon, with the digest after it.
-fn update<F: Family, D: Digest>(alloc: Global, item: &str) -> Option<(Location<F>, D)> {
-    let (leaf, spelling) = numbered(item)?;
-    Some((Location::new(leaf), spelled(alloc, spelling)?))
-}
-
-// The position before the colon, with the digest after it.
-fn pair<F: Family, D: Digest>(alloc: Global, item: &str) -> Option<(Position<F>, D)> {
-    let (node, spelling) = numbered(item)?;
-    Some((Position::new(node), spelled(alloc, spelling)?))
+// The digest with these bytes.
+fn spelled<D: Digest>(words: &mut Words, bytes: &[u8]) -> D {
+    words.value_or(D::from_bytes(bytes), D::EMPTY)
 }
 
 /// The digest whose hexadecimal digits the next word is.
 pub fn digest<D: Digest>(words: &mut Words) -> D {
-    let value = spelled(words.alloc(), words.word());
-    words.value_or(value, D::EMPTY)
+    let bytes = words.bytes();
+    spelled(words, bytes.as_slice())
 }
 
 /// The digests of the list that the next word is.
 pub fn digests<D: Digest>(words: &mut Words) -> Vec<D> {
-    words.list(spelled)
+    let list = words.elements();
+    let mut all = Vec::new(words.alloc());
+    for bytes in &list {
+        let digest = spelled(words, bytes.as_slice());
+        words.push(&mut all, digest);
+    }
+    all
 }
 
 /// The locations of the list that the next word is.
 pub fn locations<F: Family>(words: &mut Words) -> Vec<Location<F>> {
-    words.list(location)
+    let list = words.numbers();
+    let mut all = Vec::new(words.alloc());
+    for number in &list {
+        words.push(&mut all, Location::new(*number));
+    }
+    all
 }
 
 /// The locations of the list that the next word is, each with its digest.
 pub fn updates<F: Family, D: Digest>(words: &mut Words) -> Vec<(Location<F>, D)> {
-    words.list(update)
+    let list = words.located();
+    let mut all = Vec::new(words.alloc());
+    for item in &list {
+        let digest = spelled(words, item.bytes.as_slice());
+        words.push(&mut all, (Location::new(item.index), digest));
+    }
+    all
 }
 
 /// The positions of the list that the next word is, each with its digest.
 pub fn pairs<F: Family, D: Digest>(words: &mut Words) -> Vec<(Position<F>, D)> {
-    words.list(pair)
+    let list = words.located();
+    let mut all = Vec::new(words.alloc());
+    for item in &list {
+        let digest = spelled(words, item.bytes.as_slice());
+        words.push(&mut all, (Position::new(item.index), digest));
+    }
+    all
 }
 
 /// The range from the location that the next word is, before the one that the word after it is.

@@ -5,7 +5,7 @@ use merkle_base::location::Location;
 use merkle_hasher::hasher::Hasher;
 use merkle_proof::proof::Proof;
 use rows_text::refusal::{OUT_OF_MEMORY, Refusal};
-use rows_text::words::{LeafBytes, slices};
+use rows_text::words::{LocatedBytes, slices};
 use std::alloc::Global;
 
 /// Whether a proof is accepted with this element.
@@ -39,12 +39,12 @@ pub fn accepts_scattered<F: Family, H: Hasher<F>>(
     alloc: Global,
     hasher: &H,
     proof: &Proof<F, H::Digest>,
-    elements: &[LeafBytes],
+    elements: &[LocatedBytes],
     root: &H::Digest,
 ) -> Result<bool, Refusal> {
     let mut all: Vec<(&[u8], Location<F>)> = Vec::new(alloc);
     for element in elements {
-        let located = (element.bytes.as_slice(), Location::new(element.leaf));
+        let located = (element.bytes.as_slice(), Location::new(element.index));
         if all.push(located).is_err() {
             return Err(OUT_OF_MEMORY);
         }

@@ -1,11 +1,11 @@
 //! Words as numbers, bytes and lists of them.
 
-use crate::refusal::{Refusal, SYNTAX, UNKNOWN};
+use crate::refusal::{OUT_OF_MEMORY, Refusal, SYNTAX, UNKNOWN};
 use std::alloc::Global;
 use std::collections::HashMap;
 
-/// The number in decimal digits.
-pub fn number(word: &str) -> Option<u64> {
+// The number in decimal digits.
+fn number(word: &str) -> Option<u64> {
     word.parse::<u64>().ok()
 }
 
@@ -14,23 +14,18 @@ pub fn bytes(alloc: Global, word: &str) -> Option<Vec<u8>> {
     hex::decode(alloc, word).ok()
 }
 
-/// The number before the colon of an item, and what stands after it.
-pub fn numbered(item: &str) -> Option<(u64, &str)> {
-    let (index, rest) = item.split_once(':')?;
-    Some((number(index)?, rest))
-}
-
-/// The number of a leaf, with bytes for it.
+/// The number of a leaf or node, with bytes for it.
 #[derive(Drop)]
-pub struct LeafBytes {
-    pub leaf: u64,
+pub struct LocatedBytes {
+    pub index: u64,
     pub bytes: Vec<u8>,
 }
 
-fn leaf_bytes(alloc: Global, item: &str) -> Option<LeafBytes> {
-    let (leaf, spelling) = numbered(item)?;
-    Some(LeafBytes {
-        leaf,
+// The number before the colon, with the bytes after it.
+fn located_bytes(alloc: Global, item: &str) -> Option<LocatedBytes> {
+    let (index, spelling) = item.split_once(':')?;
+    Some(LocatedBytes {
+        index: number(index)?,
         bytes: bytes(alloc, spelling)?,
     })
 }
@@ -168,8 +163,15 @@ impl<'a> Words<'a> {
         self.value_or(value, Vec::new(self.alloc))
     }
 
-    /// What the items of the list that the next word is are read as.
-    pub fn list<T: Drop, R: Fn(Global, &str) -> Option<T>>(&mut self, read: R) -> Vec<T>
+    /// Adds an item to a list.
+    pub fn push<T: Drop>(&mut self, all: &mut Vec<T>, item: T) {
+        if all.push(item).is_err() {
+            self.refuse(OUT_OF_MEMORY);
+        }
+    }
+
+    // What the items of the list that the next word is are read as.
+    fn list<T: Drop, R: Fn(Global, &str) -> Option<T>>(&mut self, read: R) -> Vec<T>
         requires { R.IsAlwaysCallable read }
     {
         let mut all = Vec::new(self.alloc);
@@ -185,9 +187,14 @@ impl<'a> Words<'a> {
         self.list(bytes)
     }
 
-    /// The numbers of leaves of the list that the next word is, each with its bytes.
-    pub fn located(&mut self) -> Vec<LeafBytes> {
-        self.list(leaf_bytes)
+    /// The numbers of the list that the next word is.
+    pub fn numbers(&mut self) -> Vec<u64> {
+        self.list(|_, item| number(item))
+    }
+
+    /// The numbers of the list that the next word is, each with its bytes.
+    pub fn located(&mut self) -> Vec<LocatedBytes> {
+        self.list(located_bytes)
     }
 
     /// The elements of a list, lent.
