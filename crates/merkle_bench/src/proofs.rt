@@ -26,15 +26,11 @@ const TIMES: usize = 5;
 /// Leaves in a row: the first one, and the one after the last.
 type LeafRange = (u64, u64);
 
-/// What gives the proof of leaves in a row.
+/// How the structure's proof of leaves in a row is asked for.
 #[derive(Clone, Copy)]
-enum Prover<'a, F: Family, D: Digest> {
-    // the structure, of a leaf
+enum Query {
     Leaf,
-    // the structure, of a range
     Range,
-    // the store of the proof of a longer range
-    Store(&'a ProofStore<F, D>),
 }
 
 /// What is done with a proof and the elements of its leaves.
@@ -146,17 +142,16 @@ impl<'a, F: Family, H: PlainHasher> Proofs<'a, F, H> {
         &self,
         watch: &mut Stopwatch<C>,
         work: &'static str,
-        prover: Prover<F, H::Digest>,
+        query: Query,
         ranges: &[LeafRange],
     ) {
         let mut digests: usize = 0;
         let begun = watch.now();
         for (start, end) in ranges {
             let (start, end) = (Location::new(*start), Location::new(*end));
-            let proof = match prover {
-                Prover::Leaf => self.structure.proof(&self.hasher, start, 0),
-                Prover::Range => self.structure.range_proof(&self.hasher, start..end, 0),
-                Prover::Store(store) => store.range_proof(&self.hasher, start..end),
+            let proof = match query {
+                Query::Leaf => self.structure.proof(&self.hasher, start, 0),
+                Query::Range => self.structure.range_proof(&self.hasher, start..end, 0),
             };
             match proof {
                 Ok(proof) => digests = digests.wrapping_add(proof.digests.len()),
@@ -167,18 +162,25 @@ impl<'a, F: Family, H: PlainHasher> Proofs<'a, F, H> {
         watch.keep(&digests.to_be_bytes());
     }
 
-    // The store of a proof, which is accepted with the elements of its leaves.
-    fn store(&self, case: &Case<F, H::Digest>) -> Option<ProofStore<F, H::Digest>> {
-        let (start, end) = case.leaves;
-        let elements = self.elements.get(start as usize..end as usize)?;
-        ProofStore::new(
-            &self.hasher,
-            &case.proof,
-            elements,
-            Location::new(start),
-            &self.root,
-        )
-        .ok()
+    // Makes a store's proofs of these leaves, and lets them go.
+    fn serve_each<C: CpuClock>(
+        &self,
+        watch: &mut Stopwatch<C>,
+        work: &'static str,
+        store: &ProofStore<F, H::Digest>,
+        ranges: &[LeafRange],
+    ) {
+        let mut digests: usize = 0;
+        let begun = watch.now();
+        for (start, end) in ranges {
+            let range = Location::new(*start)..Location::new(*end);
+            match store.range_proof(&self.hasher, range) {
+                Ok(proof) => digests = digests.wrapping_add(proof.digests.len()),
+                Err(_) => watch.is_whole = false,
+            }
+        }
+        watch.note(self.tree, work, ranges.len() as u64, begun);
+        watch.keep(&digests.to_be_bytes());
     }
 
     // Whether a task with a proof and the elements of its leaves is done.
@@ -208,7 +210,7 @@ impl<'a, F: Family, H: PlainHasher> Proofs<'a, F, H> {
             Task::Extraction => proof
                 .verify_range_inclusion_and_extract_digests(hasher, elements, start, root)
                 .is_ok(),
-            Task::Store => self.store(case).is_some(),
+            Task::Store => ProofStore::new(hasher, proof, elements, start, root).is_ok(),
         }
     }
 
@@ -237,11 +239,11 @@ impl<'a, F: Family, H: PlainHasher> Proofs<'a, F, H> {
     ) -> Option<Vec<Case<F, H::Digest>>> {
         let all = (0, self.elements.len() as u64);
         let ranges = ranges_of(self.alloc, leaves, all, all.1, 1)?;
-        self.prove_each(watch, "proof of one", Prover::Leaf, &ranges);
+        self.prove_each(watch, "proof of one", Query::Leaf, &ranges);
         let ones = self.cases(&ranges)?;
         self.do_each(watch, "check of one", Task::LeafCheck, &ones);
         let ranges = ranges_of(self.alloc, leaves, all, all.1, MOST_IN_RANGE)?;
-        self.prove_each(watch, "proof of 50", Prover::Range, &ranges);
+        self.prove_each(watch, "proof of 50", Query::Range, &ranges);
         let cases = self.cases(&ranges)?;
         self.do_each(watch, "check of 50", Task::RangeCheck, &cases);
         self.do_each(watch, "extraction of 50", Task::Extraction, &cases);
@@ -269,16 +271,21 @@ impl<'a, F: Family, H: PlainHasher> Proofs<'a, F, H> {
         }
         self.do_each(watch, rows.extraction, Task::Extraction, &cases);
         self.do_each(watch, rows.store, Task::Store, &cases);
-        let store = self.store(cases.first()?)?;
+        let proof = &cases.first()?.proof;
+        let elements = self.elements.get(within.0 as usize..within.1 as usize)?;
+        let start = Location::new(within.0);
+        let Ok(store) = ProofStore::new(&self.hasher, proof, elements, start, &self.root) else {
+            return None;
+        };
         let numbers = numbers.get(..PARTS.min(numbers.len()))?;
         let places = within.1.saturating_sub(within.0);
         let ones = ranges_of(self.alloc, numbers, within, places.saturating_sub(1), 1)?;
-        self.prove_each(watch, rows.one_by_structure, Prover::Range, &ones);
-        self.prove_each(watch, rows.one_by_store, Prover::Store(&store), &ones);
+        self.prove_each(watch, rows.one_by_structure, Query::Range, &ones);
+        self.serve_each(watch, rows.one_by_store, &store, &ones);
         let places = places.saturating_sub(MOST_IN_RANGE);
         let ranges = ranges_of(self.alloc, numbers, within, places, MOST_IN_RANGE)?;
-        self.prove_each(watch, rows.range_by_structure, Prover::Range, &ranges);
-        self.prove_each(watch, rows.range_by_store, Prover::Store(&store), &ranges);
+        self.prove_each(watch, rows.range_by_structure, Query::Range, &ranges);
+        self.serve_each(watch, rows.range_by_store, &store, &ranges);
         Some(())
     }
 }

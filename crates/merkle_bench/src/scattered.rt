@@ -60,7 +60,9 @@ fn located<'a, F: Family>(
     let mut all: Vec<(&[u8], Location<F>)> = Vec::new(alloc);
     for location in locations {
         let element = elements.get(location.as_u64() as usize)?;
-        all.push((*element, *location)).ok()?;
+        if all.push((*element, *location)).is_err() {
+            return None;
+        }
     }
     Some(all)
 }

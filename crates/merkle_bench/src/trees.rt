@@ -119,7 +119,9 @@ impl<H: PlainHasher> Trees<'_, H> {
             let batch = structure.new_batch().ok()?;
             let batch = batch.add(&self.hasher, element).ok()?;
             let batch = batch.merkleize(&structure, &self.hasher).ok()?;
-            structure.apply_batch(&batch).ok()?;
+            if structure.apply_batch(&batch).is_err() {
+                return None;
+            }
         }
         let units = self.elements.len() as u64;
         watch.note(self.name, "append one by one", units, start);
@@ -200,7 +202,9 @@ impl<H: PlainHasher> Trees<'_, H> {
     fn leaf_positions<F: Family>(&self) -> Option<Vec<u64>> {
         let mut positions = Vec::new(self.alloc);
         for leaf in 0..self.elements.len() as u64 {
-            let position = Position::<F>::try_from(Location::new(leaf)).ok()?;
+            let Ok(position) = Position::<F>::try_from(Location::new(leaf)) else {
+                return None;
+            };
             positions.push(position.as_u64()).ok()?;
         }
         Some(positions)
