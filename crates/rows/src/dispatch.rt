@@ -3,6 +3,7 @@
 use merkle_core::family::Family;
 use merkle_core::hasher::Hasher;
 use rows_batches::{batches, leaves};
+use rows_bytes::{codec, digests};
 use rows_checks::calls as checks;
 use rows_claims::calls as claims;
 use rows_families::{families, plans};
@@ -11,7 +12,7 @@ use rows_proofs::{proofs, readers, stores};
 use rows_structures::structures;
 use rows_text::answer::Answer;
 use rows_text::calls::{
-    BatchCall, Call, FamilyCall, LeafCall, ProofCall, StoreCall, StructureCall,
+    BatchCall, BytesCall, Call, FamilyCall, LeafCall, ProofCall, StoreCall, StructureCall,
 };
 use rows_text::refusal::Refusal;
 use rows_text::words::Words;
@@ -46,6 +47,7 @@ fn answer_structure<F: Family, H: Hasher<F> + Drop>(
         StructureCall::Build => batches::build(world, name, words),
         StructureCall::Copy => structures::copy(world, name, words.word()),
         StructureCall::Empty => structures::empty(world, name),
+        StructureCall::FromComponents => structures::from_components(world, name, words),
         StructureCall::Leaves => structures::leaves(world, name, answer),
         StructureCall::Node => structures::node(world, name, words, answer),
         StructureCall::Nodes => structures::nodes(world, name, answer),
@@ -75,6 +77,9 @@ fn answer_batch<F: Family, H: Hasher<F> + Drop>(
         BatchCall::Fork => batches::fork(world, name, words.word()),
         BatchCall::FromMem => batches::from_mem(world, name, words.word()),
         BatchCall::Merkleize => batches::merkleize(world, name, words.word()),
+        BatchCall::MerkleizeCounted => {
+            batches::merkleize_counted(world, name, words.word(), answer)
+        }
         BatchCall::Pending => batches::pending(world, name, answer),
     }
 }
@@ -87,6 +92,7 @@ fn answer_leaf<F: Family, H: Hasher<F> + Drop>(
     let name = words.word();
     match call {
         LeafCall::Add => leaves::add(world, name, words),
+        LeafCall::AddAll => leaves::add_all(world, name, words),
         LeafCall::AddDigest => leaves::add_digest(world, name, words),
         LeafCall::AddDigests => leaves::add_digests(world, name, words),
         LeafCall::AddList => leaves::add_list(world, name, words),
@@ -154,6 +160,26 @@ fn answer_store<F: Family, H: Hasher<F> + Drop>(
     }
 }
 
+fn answer_bytes<F: Family, H: Hasher<F>>(
+    hasher: &H,
+    call: BytesCall,
+    words: &mut Words,
+    answer: &mut Answer,
+) -> Result<(), Refusal> {
+    match call {
+        BytesCall::CopyProof => codec::copy_proof::<F, H::Digest>(words, answer),
+        BytesCall::LeafDigests => digests::leaf_digests::<F, H>(hasher, words, answer),
+        BytesCall::NodeDigests => digests::node_digests::<F, H>(hasher, words, answer),
+        BytesCall::ReadHex => codec::decode(words, answer),
+        BytesCall::ReadProof => codec::read_proof::<F, H::Digest>(words, answer),
+        BytesCall::WriteChunk => codec::write_chunk::<H::Digest>(words, answer),
+        BytesCall::WriteHex => codec::encode(words, answer),
+        BytesCall::WriteLocation => codec::write_location::<F>(words, answer),
+        BytesCall::WritePosition => codec::write_position::<F>(words, answer),
+        BytesCall::WriteProof => codec::write_proof::<F, H::Digest>(words, answer),
+    }
+}
+
 /// Does what a call says, and writes the answer. The words are those after the name of the call.
 pub fn answer<F: Family, H: Hasher<F> + Drop>(
     world: &mut World<F, H>,
@@ -169,6 +195,7 @@ pub fn answer<F: Family, H: Hasher<F> + Drop>(
         Call::Leaf(call) => answer_leaf(world, call, &mut words)?,
         Call::Proof(call) => answer_proof(world, call, &mut words, answer)?,
         Call::Store(call) => answer_store(world, call, &mut words, answer)?,
+        Call::Bytes(call) => answer_bytes::<F, H>(&world.hasher, call, &mut words, answer)?,
     }
     answer.end()
 }

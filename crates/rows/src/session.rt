@@ -59,7 +59,7 @@ fn is_meant(word: &str, name: &str) -> bool {
 fn read_hash<'a>(alloc: Global, words: &[&'a str]) -> Result<(&'a str, u8), Refusal> {
     match *words {
         [hash] => Ok((hash, KEY)),
-        ["keyed", key] => match bytes(alloc, key).ok_or(SYNTAX)?.as_slice() {
+        ["keyed", key] => match bytes(alloc, key)?.as_slice() {
             [key] => Ok(("keyed", *key)),
             _ => Err(SYNTAX),
         },

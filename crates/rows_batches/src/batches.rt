@@ -3,7 +3,7 @@
 use crate::drafts::{keep_draft, take_draft};
 use crate::leaves::add;
 use merkle_core::batch::MerkleizedBatch;
-use merkle_core::family::Family;
+use merkle_core::family::{Family, Work};
 use merkle_core::hasher::Hasher;
 use merkle_core::mem::Mem;
 use rows_common::granted;
@@ -54,6 +54,23 @@ pub fn merkleize<F: Family, H: Hasher<F> + Drop>(
         return Err(UNKNOWN);
     };
     let batch = granted!(draft.merkleize(base, &world.hasher));
+    give_name(world.alloc, &mut world.batches, name, batch)
+}
+
+/// The same by the call that counts, and how many node digests it computed.
+pub fn merkleize_counted<F: Family, H: Hasher<F> + Drop>(
+    world: &mut World<F, H>,
+    name: &str,
+    base: &str,
+    answer: &mut Answer,
+) -> Result<(), Refusal> {
+    let draft = take_draft(world, name)?;
+    let Some(base) = world.structures.get(base) else {
+        return Err(UNKNOWN);
+    };
+    let mut work = Work::new();
+    let batch = granted!(draft.merkleize_counted(base, &world.hasher, &mut work));
+    answer.number(work.node_digests());
     give_name(world.alloc, &mut world.batches, name, batch)
 }
 

@@ -84,7 +84,7 @@ fn updates_to<F: Family, H: Hasher<F>>(
 }
 
 // Adds leaves with these digests, all in one call.
-fn add_all<F: Family, H: Hasher<F> + Drop>(
+fn add_leaves<F: Family, H: Hasher<F> + Drop>(
     world: &mut World<F, H>,
     name: &str,
     leaves: &[H::Digest],
@@ -113,6 +113,19 @@ pub fn add<F: Family, H: Hasher<F> + Drop>(
     words.end()?;
     let draft = take_draft(world, name)?;
     let draft = with_elements(draft, &world.hasher, elements.as_slice())?;
+    keep_draft(world, name, draft)
+}
+
+/// Adds leaves with these elements by the call that takes them all.
+pub fn add_all<F: Family, H: Hasher<F> + Drop>(
+    world: &mut World<F, H>,
+    name: &str,
+    words: &mut Words,
+) -> Result<(), Refusal> {
+    let elements = words.elements();
+    let all = words.slices(&elements);
+    words.end()?;
+    let draft = granted!(take_draft(world, name)?.add_all(&world.hasher, &all));
     keep_draft(world, name, draft)
 }
 
@@ -149,7 +162,7 @@ pub fn add_digests<F: Family, H: Hasher<F> + Drop>(
 ) -> Result<(), Refusal> {
     let leaves = digests(words);
     words.end()?;
-    add_all(world, name, &leaves)
+    add_leaves(world, name, &leaves)
 }
 
 /// Adds leaves with these elements, all in one call.
@@ -162,7 +175,7 @@ pub fn add_list<F: Family, H: Hasher<F> + Drop>(
     let elements = words.elements();
     words.end()?;
     let leaves = leaf_digests(world.alloc, &world.hasher, first, &elements)?;
-    add_all(world, name, &leaves)
+    add_leaves(world, name, &leaves)
 }
 
 /// Updates a leaf to an element.

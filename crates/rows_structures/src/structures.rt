@@ -55,6 +55,20 @@ pub fn parts<F: Family, H: Hasher<F> + Drop>(
     give_name(world.alloc, &mut world.structures, name, structure)
 }
 
+/// The same by the call that takes the three one by one.
+pub fn from_components<F: Family, H: Hasher<F> + Drop>(
+    world: &mut World<F, H>,
+    name: &str,
+    words: &mut Words,
+) -> Result<(), Refusal> {
+    let boundary = Location::new(words.number());
+    let nodes = digests(words);
+    let pins = digests(words);
+    words.end()?;
+    let structure = granted!(Mem::from_components(nodes, boundary, pins));
+    give_name(world.alloc, &mut world.structures, name, structure)
+}
+
 /// Prunes a structure before a location.
 pub fn prune<F: Family, H: Hasher<F> + Drop>(
     world: &mut World<F, H>,

@@ -9,6 +9,7 @@ pub enum Call {
     Leaf(LeafCall),
     Proof(ProofCall),
     Store(StoreCall),
+    Bytes(BytesCall),
 }
 
 /// The calls of the family alone.
@@ -31,6 +32,7 @@ pub enum StructureCall {
     Build,
     Copy,
     Empty,
+    FromComponents,
     Leaves,
     Node,
     Nodes,
@@ -54,6 +56,7 @@ pub enum BatchCall {
     Fork,
     FromMem,
     Merkleize,
+    MerkleizeCounted,
     Pending,
 }
 
@@ -61,6 +64,7 @@ pub enum BatchCall {
 #[derive(Clone, Copy)]
 pub enum LeafCall {
     Add,
+    AddAll,
     AddDigest,
     AddDigests,
     AddList,
@@ -116,6 +120,21 @@ pub enum StoreCall {
     SuffixPeaks,
 }
 
+/// The calls of bytes and digests alone.
+#[derive(Clone, Copy)]
+pub enum BytesCall {
+    CopyProof,
+    LeafDigests,
+    NodeDigests,
+    ReadHex,
+    ReadProof,
+    WriteChunk,
+    WriteHex,
+    WriteLocation,
+    WritePosition,
+    WriteProof,
+}
+
 // Below, each call with its first word and the number of its words.
 
 const FAMILY_CALLS: [(&str, usize, FamilyCall); 8] = [
@@ -129,11 +148,12 @@ const FAMILY_CALLS: [(&str, usize, FamilyCall); 8] = [
     ("position", 2, FamilyCall::Position),
 ];
 
-const STRUCTURE_CALLS: [(&str, usize, StructureCall); 15] = [
+const STRUCTURE_CALLS: [(&str, usize, StructureCall); 16] = [
     ("bounds", 2, StructureCall::Bounds),
     ("build", 3, StructureCall::Build),
     ("copy", 3, StructureCall::Copy),
     ("empty", 2, StructureCall::Empty),
+    ("from_components", 5, StructureCall::FromComponents),
     ("leaves", 2, StructureCall::Leaves),
     ("node", 3, StructureCall::Node),
     ("nodes", 2, StructureCall::Nodes),
@@ -147,7 +167,7 @@ const STRUCTURE_CALLS: [(&str, usize, StructureCall); 15] = [
     ("size", 2, StructureCall::Size),
 ];
 
-const BATCH_CALLS: [(&str, usize, BatchCall); 8] = [
+const BATCH_CALLS: [(&str, usize, BatchCall); 9] = [
     ("apply", 3, BatchCall::Apply),
     ("base", 2, BatchCall::Base),
     ("child", 3, BatchCall::Child),
@@ -155,11 +175,13 @@ const BATCH_CALLS: [(&str, usize, BatchCall); 8] = [
     ("fork", 3, BatchCall::Fork),
     ("from_mem", 3, BatchCall::FromMem),
     ("merkleize", 3, BatchCall::Merkleize),
+    ("merkleize_counted", 3, BatchCall::MerkleizeCounted),
     ("pending", 2, BatchCall::Pending),
 ];
 
-const LEAF_CALLS: [(&str, usize, LeafCall); 9] = [
+const LEAF_CALLS: [(&str, usize, LeafCall); 10] = [
     ("add", 3, LeafCall::Add),
+    ("add_all", 3, LeafCall::AddAll),
     ("add_digest", 3, LeafCall::AddDigest),
     ("add_digests", 3, LeafCall::AddDigests),
     ("add_list", 3, LeafCall::AddList),
@@ -211,6 +233,19 @@ const STORE_CALLS: [(&str, usize, StoreCall); 11] = [
     ("suffix_peaks", 2, StoreCall::SuffixPeaks),
 ];
 
+const BYTES_CALLS: [(&str, usize, BytesCall); 10] = [
+    ("copy_proof", 4, BytesCall::CopyProof),
+    ("leaf_digests", 3, BytesCall::LeafDigests),
+    ("node_digests", 4, BytesCall::NodeDigests),
+    ("read_hex", 2, BytesCall::ReadHex),
+    ("read_proof", 3, BytesCall::ReadProof),
+    ("write_chunk", 2, BytesCall::WriteChunk),
+    ("write_hex", 2, BytesCall::WriteHex),
+    ("write_location", 2, BytesCall::WriteLocation),
+    ("write_position", 2, BytesCall::WritePosition),
+    ("write_proof", 4, BytesCall::WriteProof),
+];
+
 /// The call with this first word and this number of words.
 pub fn find_call(name: &str, count: usize) -> Option<Call> {
     family_call(name, count)
@@ -219,6 +254,7 @@ pub fn find_call(name: &str, count: usize) -> Option<Call> {
         .or_else(|| leaf_call(name, count))
         .or_else(|| proof_call(name, count))
         .or_else(|| store_call(name, count))
+        .or_else(|| bytes_call(name, count))
 }
 
 fn family_call(name: &str, count: usize) -> Option<Call> {
@@ -243,6 +279,10 @@ fn proof_call(name: &str, count: usize) -> Option<Call> {
 
 fn store_call(name: &str, count: usize) -> Option<Call> {
     Some(Call::Store(find(&STORE_CALLS, name, count)?))
+}
+
+fn bytes_call(name: &str, count: usize) -> Option<Call> {
+    Some(Call::Bytes(find(&BYTES_CALLS, name, count)?))
 }
 
 fn find<C: Copy>(calls: &[(&str, usize, C)], name: &str, count: usize) -> Option<C> {

@@ -1,6 +1,7 @@
 //! Words as numbers, bytes and lists of them.
 
 use crate::refusal::{OUT_OF_MEMORY, Refusal, SYNTAX, UNKNOWN};
+use hex::FromHexError;
 use std::alloc::Global;
 use std::collections::HashMap;
 
@@ -9,9 +10,18 @@ fn number(word: &str) -> Option<u64> {
     word.parse::<u64>().ok()
 }
 
+// The number of an item of a list.
+fn listed_number(_alloc: Global, item: &str) -> Result<u64, Refusal> {
+    number(item).ok_or(SYNTAX)
+}
+
 /// The bytes with these hexadecimal digits.
-pub fn bytes(alloc: Global, word: &str) -> Option<Vec<u8>> {
-    hex::decode(alloc, word).ok()
+pub fn bytes(alloc: Global, word: &str) -> Result<Vec<u8>, Refusal> {
+    match hex::decode(alloc, word) {
+        Ok(bytes) => Ok(bytes),
+        Err(FromHexError::OutOfMemory) => Err(OUT_OF_MEMORY),
+        Err(_) => Err(SYNTAX),
+    }
 }
 
 /// The number of a leaf or node, with bytes for it.
@@ -22,10 +32,10 @@ pub struct LocatedBytes {
 }
 
 // The number before the colon, with the bytes after it.
-fn located_bytes(alloc: Global, item: &str) -> Option<LocatedBytes> {
-    let (index, spelling) = item.split_once(':')?;
-    Some(LocatedBytes {
-        index: number(index)?,
+fn located_bytes(alloc: Global, item: &str) -> Result<LocatedBytes, Refusal> {
+    let (index, spelling) = item.split_once(':').ok_or(SYNTAX)?;
+    Ok(LocatedBytes {
+        index: number(index).ok_or(SYNTAX)?,
         bytes: bytes(alloc, spelling)?,
     })
 }
@@ -39,7 +49,7 @@ fn repeated(item: &str) -> Option<(&str, u64)> {
 }
 
 // Adds what an item is read as, as often as it stands in its list.
-fn push_items<T: Drop, R: Fn(Global, &str) -> Option<T>>(
+fn push_items<T: Drop, R: Fn(Global, &str) -> Result<T, Refusal>>(
     alloc: Global,
     all: &mut Vec<T>,
     item: &str,
@@ -49,14 +59,14 @@ fn push_items<T: Drop, R: Fn(Global, &str) -> Option<T>>(
 {
     let (item, count) = repeated(item).ok_or(SYNTAX)?;
     for _ in 0..count {
-        let value = read(alloc, item).ok_or(SYNTAX)?;
+        let value = read(alloc, item)?;
         all.push(value)?;
     }
     Ok(())
 }
 
 // Adds what the items of a list are read as.
-fn push_list<T: Drop, R: Fn(Global, &str) -> Option<T>>(
+fn push_list<T: Drop, R: Fn(Global, &str) -> Result<T, Refusal>>(
     alloc: Global,
     all: &mut Vec<T>,
     word: &str,
@@ -124,15 +134,20 @@ impl<'a> Words<'a> {
         }
     }
 
-    /// What a word was read as; where it could not be, that is remembered, and the other value is returned.
-    pub fn value_or<T: Drop>(&mut self, value: Option<T>, other: T) -> T {
+    // What a word was read as; where it was refused, the refusal is remembered, and the other value is returned.
+    fn granted_or<T: Drop>(&mut self, value: Result<T, Refusal>, other: T) -> T {
         match value {
-            Some(value) => value,
-            None => {
-                self.refuse(SYNTAX);
+            Ok(value) => value,
+            Err(refusal) => {
+                self.refuse(refusal);
                 other
             }
         }
+    }
+
+    /// What a word was read as; where it could not be, that is remembered, and the other value is returned.
+    pub fn value_or<T: Drop>(&mut self, value: Option<T>, other: T) -> T {
+        self.granted_or(value.ok_or(SYNTAX), other)
     }
 
     /// The next word: the empty word where there is none.
@@ -160,7 +175,7 @@ impl<'a> Words<'a> {
     /// The bytes whose hexadecimal digits the next word is.
     pub fn bytes(&mut self) -> Vec<u8> {
         let value = bytes(self.alloc, self.word());
-        self.value_or(value, Vec::new(self.alloc))
+        self.granted_or(value, Vec::new(self.alloc))
     }
 
     /// Adds an item to a list.
@@ -171,7 +186,7 @@ impl<'a> Words<'a> {
     }
 
     // What the items of the list that the next word is are read as.
-    fn list<T: Drop, R: Fn(Global, &str) -> Option<T>>(&mut self, read: R) -> Vec<T>
+    fn list<T: Drop, R: Fn(Global, &str) -> Result<T, Refusal>>(&mut self, read: R) -> Vec<T>
         requires { R.IsAlwaysCallable read }
     {
         let mut all = Vec::new(self.alloc);
@@ -189,7 +204,7 @@ impl<'a> Words<'a> {
 
     /// The numbers of the list that the next word is.
     pub fn numbers(&mut self) -> Vec<u64> {
-        self.list(|_, item| number(item))
+        self.list(listed_number)
     }
 
     /// The numbers of the list that the next word is, each with its bytes.
@@ -199,13 +214,8 @@ impl<'a> Words<'a> {
 
     /// The elements of a list, lent.
     pub fn slices<'b>(&mut self, elements: &'b [Vec<u8>]) -> Vec<&'b [u8]> {
-        match slices(self.alloc, elements) {
-            Ok(all) => all,
-            Err(refusal) => {
-                self.refuse(refusal);
-                Vec::new(self.alloc)
-            }
-        }
+        let all = slices(self.alloc, elements);
+        self.granted_or(all, Vec::new(self.alloc))
     }
 }
 

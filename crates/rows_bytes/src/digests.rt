@@ -1,0 +1,89 @@
+//! The digests of many leaves or nodes, several at a time.
+
+use merkle_base::family::Family;
+use merkle_base::location::Location;
+use merkle_base::position::Position;
+use merkle_digest::digest::Digest;
+use merkle_hasher::hasher::Hasher;
+use merkle_hasher::{leaves, nodes};
+use rows_common::values::digests;
+use rows_common::writing::write_digests;
+use rows_text::answer::Answer;
+use rows_text::refusal::{Refusal, SYNTAX};
+use rows_text::words::Words;
+use std::alloc::Global;
+
+// The position of the leaf at a location.
+fn position_of<F: Family>(leaf: Location<F>) -> Result<Position<F>, Refusal> {
+    if leaf.is_valid() {
+        Ok(F::location_to_position(leaf))
+    } else {
+        Err(Refusal::Of("LocationOverflow", leaf.as_u64()))
+    }
+}
+
+// The elements, each with the position of its leaf, the first of which is at a location.
+fn positioned<'a, F: Family>(
+    alloc: Global,
+    first: Location<F>,
+    elements: &'a [Vec<u8>],
+) -> Result<Vec<(Position<F>, &'a [u8])>, Refusal> {
+    let mut all: Vec<(Position<F>, &[u8])> = Vec::new(alloc);
+    let mut leaf = first;
+    for element in elements {
+        let position = position_of(leaf)?;
+        all.push((position, element.as_slice()))?;
+        leaf = leaf.saturating_add(1);
+    }
+    Ok(all)
+}
+
+/// The digests of the leaves from a location on with these elements.
+pub fn leaf_digests<F: Family, H: Hasher<F>>(
+    hasher: &H,
+    words: &mut Words,
+    answer: &mut Answer,
+) -> Result<(), Refusal> {
+    let first = Location::<F>::new(words.number());
+    let elements = words.elements();
+    words.end()?;
+    let all = positioned(words.alloc(), first, &elements)?;
+    let mut found = Vec::new(words.alloc());
+    leaves::leaf_digests(hasher, &all, &mut found)?;
+    write_digests(answer, &found);
+    Ok(())
+}
+
+// The positions, each with the digest of its left and that of its right child.
+fn parents<F: Family, D: Digest>(
+    alloc: Global,
+    positions: &[u64],
+    left: &[D],
+    right: &[D],
+) -> Result<Vec<(Position<F>, D, D)>, Refusal> {
+    let mut all = Vec::new(alloc);
+    for (position, (left, right)) in positions.iter().zip(left.iter().zip(right)) {
+        all.push((Position::new(*position), *left, *right))?;
+    }
+    Ok(all)
+}
+
+/// The digests of the nodes at these positions, with these digests of their left and of their right children.
+pub fn node_digests<F: Family, H: Hasher<F>>(
+    hasher: &H,
+    words: &mut Words,
+    answer: &mut Answer,
+) -> Result<(), Refusal> {
+    let positions = words.numbers();
+    let left: Vec<H::Digest> = digests(words);
+    let right: Vec<H::Digest> = digests(words);
+    words.end()?;
+    if positions.len() != left.len() || left.len() != right.len() {
+        return Err(SYNTAX);
+    }
+    let all = parents::<F, H::Digest>(words.alloc(), &positions, &left, &right)?;
+    let mut found = Vec::new(words.alloc());
+    nodes::node_digests(hasher, &all, &mut found)?;
+    write_digests(answer, &found);
+    Ok(())
+}
