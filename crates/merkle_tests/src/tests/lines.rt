@@ -43,25 +43,33 @@ fn runs(rt: HostRuntime) {
     }
 }
 
-const LINES: &[u8] = b"new mmr forward xor8\nadd 01\nadd 02\nadd 04\ncommit\nroot 0\nroot 3";
+// A session of every command, with updates and errors.
+const LINES: &[u8] =
+    b"new mmr backward xor8\nadd 01\nadd 02\ncommit\nadd 04\nupdate 0 11\ncommit\nroot 0\nprune 2\nroot 0\n\
+    prove 2 3 0\ncheck 2 0 15 03000110 04\ncheck 2 1 15 03000110 04\ncheck 2 0 15 0300011000 04\ncheck 2 0 15 030001 04\n\
+    prove 0 1 0\nprune 4\nupdate 0 22\ncheck 0 0 01 000000\ncheck 0 0 0101 0000";
 
-const ANSWERS: &[u8] = b"ok\nok 0\nok 1\nok 2\nok 3 4\n04\nerror InvalidInactivePeaks\n";
+const ANSWERS: &[u8] = b"ok\nok 0\nok 1\nok 2 3\nok 2\nok\nok 3 4\n15\nok 2 3\n15\n\
+    03000110\nyes\nno\nerror Trailing\nerror EndOfBuffer\n\
+    error ElementPruned\nerror LeafOutOfBounds\nerror ElementPruned\nyes\nerror Syntax\n";
 
-// A reader in memory that gives few bytes at a time. Each call with an odd number of calls left is interrupted, and the
-// one with none left fails.
+// A reader in memory that gives few bytes at a time. The call with none left fails, and those after it do not; before that, each
+// call with an odd number of calls left is interrupted.
 #[derive(Drop)]
 struct FailingReader<'a> {
     rest: &'a [u8],
     calls: usize,
+    has_failed: bool,
 }
 
 impl io::Read for FailingReader<'_> {
     fn read(&mut self, buf: &mut [u8]) -> io::Result<usize> {
-        if self.calls == 0 {
+        if self.calls == 0 && !self.has_failed {
+            self.has_failed = true;
             return Err(io::Error::from(io::ErrorKind::TimedOut));
         }
-        self.calls -= 1;
-        if self.calls % 2 == 0 {
+        self.calls = self.calls.saturating_sub(1);
+        if self.calls % 2 == 0 && !self.has_failed {
             return Err(io::Error::from(io::ErrorKind::Interrupted));
         }
         let count = buf.len().min(self.rest.len()).min(5);
@@ -72,74 +80,97 @@ impl io::Read for FailingReader<'_> {
     }
 }
 
-// A writer in memory that takes few bytes at a time. The call with none left fails.
+// A writer in memory that takes few bytes at a time. The call with none left, of writes and flushes, fails, and those after it do not.
 #[derive(Drop)]
 struct FailingWriter {
-    bytes: [u8; 128],
+    bytes: [u8; 256],
     len: usize,
     calls: usize,
+    has_failed: bool,
 }
 
 impl FailingWriter {
     fn new(calls: usize) -> FailingWriter {
         FailingWriter {
-            bytes: [0; 128],
+            bytes: [0; 256],
             len: 0,
             calls,
+            has_failed: false,
         }
     }
 
     fn written(&self) -> &[u8] {
-        if self.len <= 128 {
+        if self.len <= 256 {
             &self.bytes[..self.len]
         } else {
             &[]
         }
     }
+
+    // Counts a call, and refuses the one with none left.
+    fn count(&mut self) -> io::Result<()> {
+        if self.calls == 0 && !self.has_failed {
+            self.has_failed = true;
+            return Err(io::Error::from(io::ErrorKind::BrokenPipe));
+        }
+        self.calls = self.calls.saturating_sub(1);
+        Ok(())
+    }
 }
 
 impl io::Write for FailingWriter {
     fn write(&mut self, buf: &[u8]) -> io::Result<usize> {
-        if self.calls == 0 || self.len >= 128 {
+        self.count()?;
+        if self.len >= 256 {
             return Err(io::Error::from(io::ErrorKind::BrokenPipe));
         }
-        self.calls -= 1;
-        let count = buf.len().min(3).min(128 - self.len);
+        let count = buf.len().min(3).min(256 - self.len);
         self.bytes[self.len..self.len + count].copy_from_slice(&buf[..count]);
         self.len += count;
         Ok(count)
     }
 
     fn flush(&mut self) -> io::Result<()> {
-        if self.calls == 0 {
-            return Err(io::Error::from(io::ErrorKind::BrokenPipe));
-        }
-        self.calls -= 1;
-        Ok(())
+        self.count()
     }
 }
 
-/// Runs the lines with a reader and a writer that fail after so many calls: how the run ends, whether what is written
-/// begins the answers, and whether it is all of them.
-fn run_failing(alloc: Global, reads: usize, writes: usize) -> (Result<(), RunError>, bool, bool) {
+/// How a run of the lines ended: with which result, whether what is written begins the answers, whether it is all of them, and
+/// whether a read or a write failed.
+#[derive(Drop)]
+struct Ended {
+    result: Result<(), RunError>,
+    is_start: bool,
+    is_whole: bool,
+    has_failed: bool,
+}
+
+/// Runs the lines with a reader and a writer that fail after so many calls.
+fn run_failing(alloc: Global, reads: usize, writes: usize) -> Ended {
     let mut reader = FailingReader {
         rest: LINES,
         calls: reads,
+        has_failed: false,
     };
     let mut writer = FailingWriter::new(writes);
     let result = run(alloc, &mut reader, &mut writer);
     let written = writer.written();
-    (result, ANSWERS.starts_with(written), ANSWERS == written)
+    Ended {
+        result,
+        is_start: ANSWERS.starts_with(written),
+        is_whole: ANSWERS == written,
+        has_failed: reader.has_failed || writer.has_failed,
+    }
 }
 
 #[test]
 fn each_read_fails_in_turn(rt: HostRuntime) {
-    for tried in 0..100 {
-        let (result, is_start, is_whole) = run_failing(rt.alloc(), tried, 1000);
-        assert!(rt; is_start, "{tried} reads");
-        match result {
+    for tried in 0..1000 {
+        let ended = run_failing(rt.alloc(), tried, 10_000);
+        assert!(rt; ended.is_start, "{tried} reads");
+        match ended.result {
             Ok(()) => {
-                assert!(rt; is_whole && tried > 10);
+                assert!(rt; ended.is_whole && !ended.has_failed && tried > 10);
                 return;
             }
             Err(error) => assert!(rt; error == RunError::ReadFailed, "{tried} reads"),
@@ -150,12 +181,12 @@ fn each_read_fails_in_turn(rt: HostRuntime) {
 
 #[test]
 fn each_write_fails_in_turn(rt: HostRuntime) {
-    for tried in 0..200 {
-        let (result, is_start, is_whole) = run_failing(rt.alloc(), 1000, tried);
-        assert!(rt; is_start, "{tried} writes");
-        match result {
+    for tried in 0..1000 {
+        let ended = run_failing(rt.alloc(), 10_000, tried);
+        assert!(rt; ended.is_start, "{tried} writes");
+        match ended.result {
             Ok(()) => {
-                assert!(rt; is_whole && tried > 10);
+                assert!(rt; ended.is_whole && !ended.has_failed && tried > 10);
                 return;
             }
             Err(error) => assert!(rt; error == RunError::WriteFailed, "{tried} writes"),

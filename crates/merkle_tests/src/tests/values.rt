@@ -3,13 +3,19 @@
 use super::{assert_prints, digest};
 use merkle_core::batch::MerkleizedBatch;
 use merkle_core::digest::{Digest, Xor8, Xor8Digest};
-use merkle_core::family::{Bagging, Family};
+use merkle_core::element_plan::ElementPlan;
+use merkle_core::error::{Error, OutOfMemory, ReconstructionError};
+use merkle_core::family::{Bagging, Family, Unused};
 use merkle_core::hasher::Hasher;
 use merkle_core::mem::{Config, Mem};
 use merkle_core::mmr::{Location, Mmr, Proof, StandardHasher};
 use merkle_core::position::Position;
+use merkle_core::range_plan::RangePlan;
 use merkle_core::read::Readable;
+use merkle_core::{mmb, mmr};
 use std::alloc::Global;
+use std::fmt::Debug;
+use std::process::Abort;
 use std::rc::Rc;
 use std::test::Fail;
 
@@ -157,4 +163,62 @@ fn proofs_and_their_copies(rt: HostRuntime) -> Result<(), Fail> {
     assert!(rt; same == [Some(true); 3]);
     assert!(rt; other == [Some(false); 4]);
     Ok(())
+}
+
+#[test]
+fn what_is_printed_of_errors(rt: HostRuntime) -> Result<(), Fail> {
+    let alloc = rt.alloc();
+    let error = Error::<mmr::Family>::LocationOverflow(Location::new(7));
+    assert_prints(&rt, alloc, &error, "LocationOverflow(Location(7))")?;
+    assert_prints(&rt, alloc, &ReconstructionError::InvalidSize, "InvalidSize")?;
+    assert_prints(&rt, alloc, &OutOfMemory, "OutOfMemory")
+}
+
+#[test]
+fn what_is_printed_of_a_proof(rt: HostRuntime) -> Result<(), Fail> {
+    let proof = Proof {
+        leaves: Location::new(3),
+        inactive_peaks: 1,
+        digests: vec![in rt.alloc(); digest(&rt, 7)]?,
+    };
+    let start = "Proof { leaves: Location(3), inactive_peaks: 1, digests: [Xor8Digest { byte: 7 }]";
+    assert_prints(&rt, rt.alloc(), &proof, start)
+}
+
+#[test]
+fn what_is_printed_of_plans(rt: HostRuntime) -> Result<(), Fail> {
+    let alloc = rt.alloc();
+    let (leaves, first) = (Location::new(3), Location::new(0));
+    let range = RangePlan::new(alloc, leaves, first..leaves)
+        .ok()
+        .expect(&rt, "no refusal");
+    assert_prints(&rt, alloc, &range, "RangePlan { leaves: Location(3)")?;
+    let leaf = ElementPlan::new(alloc, leaves, first)
+        .ok()
+        .expect(&rt, "no refusal");
+    assert_prints(
+        &rt,
+        alloc,
+        &leaf,
+        "ElementPlan { plan: RangePlan { leaves: Location(3)",
+    )
+}
+
+/// Asserts that a marker is equal to its copy, and what is printed of it.
+fn assert_marker<T: Copy + Eq + Debug + Default>(
+    rt: &impl Abort,
+    alloc: Global,
+    text: &str,
+) -> Result<(), Fail> {
+    let marker = T::default();
+    let copy = marker;
+    assert!(rt; marker == copy);
+    assert_prints(rt, alloc, &copy, text)
+}
+
+#[test]
+fn markers(rt: HostRuntime) -> Result<(), Fail> {
+    assert_marker::<mmr::Family>(&rt, rt.alloc(), "Family")?;
+    assert_marker::<mmb::Family>(&rt, rt.alloc(), "Family")?;
+    assert_marker::<Unused>(&rt, rt.alloc(), "Unused")
 }
