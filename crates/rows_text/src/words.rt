@@ -10,17 +10,35 @@ fn number(word: &str) -> Option<u64> {
     word.parse::<u64>().ok()
 }
 
+/// Why a word is not read.
+#[derive(Clone, Copy, Debug)]
+pub enum Unread {
+    /// It is not spelled as it has to be.
+    Syntax,
+    /// A request for memory was refused.
+    OutOfMemory,
+}
+
+impl From<Unread> for Refusal {
+    fn from(unread: Unread) -> Self {
+        match unread {
+            Unread::Syntax => SYNTAX,
+            Unread::OutOfMemory => OUT_OF_MEMORY,
+        }
+    }
+}
+
 // The number of an item of a list.
-fn listed_number(_alloc: Global, item: &str) -> Result<u64, Refusal> {
-    number(item).ok_or(SYNTAX)
+fn listed_number(_alloc: Global, item: &str) -> Result<u64, Unread> {
+    number(item).ok_or(Unread::Syntax)
 }
 
 /// The bytes with these hexadecimal digits.
-pub fn bytes(alloc: Global, word: &str) -> Result<Vec<u8>, Refusal> {
+pub fn bytes(alloc: Global, word: &str) -> Result<Vec<u8>, Unread> {
     match hex::decode(alloc, word) {
         Ok(bytes) => Ok(bytes),
-        Err(FromHexError::OutOfMemory) => Err(OUT_OF_MEMORY),
-        Err(_) => Err(SYNTAX),
+        Err(FromHexError::OutOfMemory) => Err(Unread::OutOfMemory),
+        Err(_) => Err(Unread::Syntax),
     }
 }
 
@@ -32,10 +50,10 @@ pub struct LocatedBytes {
 }
 
 // The number before the colon, with the bytes after it.
-fn located_bytes(alloc: Global, item: &str) -> Result<LocatedBytes, Refusal> {
-    let (index, spelling) = item.split_once(':').ok_or(SYNTAX)?;
+fn located_bytes(alloc: Global, item: &str) -> Result<LocatedBytes, Unread> {
+    let (index, spelling) = item.split_once(':').ok_or(Unread::Syntax)?;
     Ok(LocatedBytes {
-        index: number(index).ok_or(SYNTAX)?,
+        index: number(index).ok_or(Unread::Syntax)?,
         bytes: bytes(alloc, spelling)?,
     })
 }
@@ -49,7 +67,7 @@ fn repeated(item: &str) -> Option<(&str, u64)> {
 }
 
 // Adds what an item is read as, as often as it stands in its list.
-fn push_items<T: Drop, R: Fn(Global, &str) -> Result<T, Refusal>>(
+fn push_items<T: Drop, R: Fn(Global, &str) -> Result<T, Unread>>(
     alloc: Global,
     all: &mut Vec<T>,
     item: &str,
@@ -66,7 +84,7 @@ fn push_items<T: Drop, R: Fn(Global, &str) -> Result<T, Refusal>>(
 }
 
 // Adds what the items of a list are read as.
-fn push_list<T: Drop, R: Fn(Global, &str) -> Result<T, Refusal>>(
+fn push_list<T: Drop, R: Fn(Global, &str) -> Result<T, Unread>>(
     alloc: Global,
     all: &mut Vec<T>,
     word: &str,
@@ -134,20 +152,15 @@ impl<'a> Words<'a> {
         }
     }
 
-    // What a word was read as; where it was refused, the refusal is remembered, and the other value is returned.
-    fn granted_or<T: Drop>(&mut self, value: Result<T, Refusal>, other: T) -> T {
+    /// What a word was read as; where it could not be, that is remembered, and the other value is returned.
+    pub fn value_or<T: Drop>(&mut self, value: Option<T>, other: T) -> T {
         match value {
-            Ok(value) => value,
-            Err(refusal) => {
-                self.refuse(refusal);
+            Some(value) => value,
+            None => {
+                self.refuse(SYNTAX);
                 other
             }
         }
-    }
-
-    /// What a word was read as; where it could not be, that is remembered, and the other value is returned.
-    pub fn value_or<T: Drop>(&mut self, value: Option<T>, other: T) -> T {
-        self.granted_or(value.ok_or(SYNTAX), other)
     }
 
     /// The next word: the empty word where there is none.
@@ -174,8 +187,13 @@ impl<'a> Words<'a> {
 
     /// The bytes whose hexadecimal digits the next word is.
     pub fn bytes(&mut self) -> Vec<u8> {
-        let value = bytes(self.alloc, self.word());
-        self.granted_or(value, Vec::new(self.alloc))
+        match bytes(self.alloc, self.word()) {
+            Ok(bytes) => bytes,
+            Err(unread) => {
+                self.refuse(Refusal::from(unread));
+                Vec::new(self.alloc)
+            }
+        }
     }
 
     /// Adds an item to a list.
@@ -186,7 +204,7 @@ impl<'a> Words<'a> {
     }
 
     // What the items of the list that the next word is are read as.
-    fn list<T: Drop, R: Fn(Global, &str) -> Result<T, Refusal>>(&mut self, read: R) -> Vec<T>
+    fn list<T: Drop, R: Fn(Global, &str) -> Result<T, Unread>>(&mut self, read: R) -> Vec<T>
         requires { R.IsAlwaysCallable read }
     {
         let mut all = Vec::new(self.alloc);
@@ -214,8 +232,13 @@ impl<'a> Words<'a> {
 
     /// The elements of a list, lent.
     pub fn slices<'b>(&mut self, elements: &'b [Vec<u8>]) -> Vec<&'b [u8]> {
-        let all = slices(self.alloc, elements);
-        self.granted_or(all, Vec::new(self.alloc))
+        match slices(self.alloc, elements) {
+            Ok(all) => all,
+            Err(refusal) => {
+                self.refuse(refusal);
+                Vec::new(self.alloc)
+            }
+        }
     }
 }
 
