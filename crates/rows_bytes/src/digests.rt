@@ -13,12 +13,12 @@ use rows_text::refusal::{Refusal, SYNTAX};
 use rows_text::words::Words;
 use std::alloc::Global;
 
-// The position of the leaf at a location.
-fn position_of<F: Family>(leaf: Location<F>) -> Result<Position<F>, Refusal> {
+// The position of the leaf at a location; `None` if no list has it.
+fn position_of<F: Family>(leaf: Location<F>) -> Option<Position<F>> {
     if leaf.is_valid() {
-        Ok(F::location_to_position(leaf))
+        Some(F::location_to_position(leaf))
     } else {
-        Err(Refusal::Of("LocationOverflow", leaf.as_u64()))
+        None
     }
 }
 
@@ -31,7 +31,9 @@ fn positioned<'a, F: Family>(
     let mut all: Vec<(Position<F>, &[u8])> = Vec::new(alloc);
     let mut leaf = first;
     for element in elements {
-        let position = position_of(leaf)?;
+        let Some(position) = position_of(leaf) else {
+            return Err(Refusal::Of("LocationOverflow", leaf.as_u64()));
+        };
         all.push((position, element.as_slice()))?;
         leaf = leaf.saturating_add(1);
     }
