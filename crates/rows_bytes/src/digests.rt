@@ -9,7 +9,7 @@ use merkle_hasher::{leaves, nodes};
 use rows_common::values::digests;
 use rows_common::writing::write_digests;
 use rows_text::answer::Answer;
-use rows_text::refusal::{Refusal, SYNTAX};
+use rows_text::refusal::{OUT_OF_MEMORY, Refusal, SYNTAX};
 use rows_text::words::Words;
 use std::alloc::Global;
 
@@ -22,34 +22,25 @@ fn position_of<F: Family>(leaf: Location<F>) -> Option<Position<F>> {
     }
 }
 
-// The elements, each with the position of its leaf, the first of which is at a location.
-fn positioned<'a, F: Family>(
-    alloc: Global,
-    first: Location<F>,
-    elements: &'a [Vec<u8>],
-) -> Result<Vec<(Position<F>, &'a [u8])>, Refusal> {
-    let mut all: Vec<(Position<F>, &[u8])> = Vec::new(alloc);
-    let mut leaf = first;
-    for element in elements {
-        let Some(position) = position_of(leaf) else {
-            return Err(Refusal::Of("LocationOverflow", leaf.as_u64()));
-        };
-        all.push((position, element.as_slice()))?;
-        leaf = leaf.saturating_add(1);
-    }
-    Ok(all)
-}
-
 /// The digests of the leaves from a location on with these elements.
 pub fn leaf_digests<F: Family, H: Hasher<F>>(
     hasher: &H,
     words: &mut Words,
     answer: &mut Answer,
 ) -> Result<(), Refusal> {
-    let first = Location::<F>::new(words.number());
+    let mut leaf = Location::<F>::new(words.number());
     let elements = words.elements();
     words.end()?;
-    let all = positioned(words.alloc(), first, &elements)?;
+    let mut all: Vec<(Position<F>, &[u8])> = Vec::new(words.alloc());
+    for element in &elements {
+        let Some(position) = position_of(leaf) else {
+            return Err(Refusal::Of("LocationOverflow", leaf.as_u64()));
+        };
+        if all.push((position, element.as_slice())).is_err() {
+            return Err(OUT_OF_MEMORY);
+        }
+        leaf = leaf.saturating_add(1);
+    }
     let mut found = Vec::new(words.alloc());
     leaves::leaf_digests(hasher, &all, &mut found)?;
     write_digests(answer, &found);
