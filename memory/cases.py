@@ -19,11 +19,13 @@ from programs import ample, requests
 
 PROGRAMS = {".rows": "rows", ".lines": "merkle"}
 
-# Calls of `rows` that use up their draft, so that a refusal may lose it; that give a name; that change something; that only read.
+# Calls of `rows` that use up their draft, so that a refusal may lose it; that give a name; that change something; that do so and have
+# a number to tell; that only read.
 TAKING = """add add_all add_digest add_digests add_list add_numbers update update_digest update_digests update_list forget merkleize
     merkleize_counted""".split()
 NAMING = TAKING + "fork child from_mem copy parts from_components store".split()
 CHANGING = NAMING + "prune prune_all apply".split()
+TELLING = ["merkleize_counted"]
 READING = "bounds size leaves node nodes peaks root same pending base suffix_peaks".split()
 
 # What `merkle` keeps in its pending batch, which a refusal loses.
@@ -168,7 +170,8 @@ def find_case(program, path, rows, at):
     reading, written, own = (), (), 0
     if program == "rows":
         reading = tuple(line for line in lines[at + 1:] if line.split(" ")[0] in READING)[:4]
-        written = (requests(program, lines[:at] + ("#" * len(lines[at]),)), last - 1, last)
+        texts = 4 if lines[at].split(" ")[0] in TELLING else 2
+        written = (requests(program, lines[:at] + ("#" * len(lines[at]),)), *range(last - texts + 1, last + 1))
         own = own_requests(lines, at, before)
     rest = reading + (lines[at],) + lines[at + 1:] + lines
     found = ample(program, lines)[:at] + [REFUSED[program]]
