@@ -313,7 +313,7 @@ impl<F: Family, D: Digest> Draft<F, D> {
     ///
     /// # Errors
     ///
-    /// - `Missing` if a needed node is held neither by the kept records nor by the base
+    /// - `Missing` if a child of a node that it computes is held neither by the kept records nor by the base
     /// - `OutOfMemory` if a memory request is refused
     ///
     /// The draft may have some of the new digests after an error.

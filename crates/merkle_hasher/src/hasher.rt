@@ -268,12 +268,8 @@ fn hash_four<F: Family, T: Hasher<F>>(
     hasher.hash(&[a, b, c, d])
 }
 
-/// Folds `peaks` onto `start`, left to right.
-pub fn fold_all<F: Family, T: Hasher<F>>(
-    hasher: &T,
-    start: T::Digest,
-    peaks: &[T::Digest],
-) -> T::Digest
+// Folds `peaks` onto `start`, left to right.
+fn fold_all<F: Family, T: Hasher<F>>(hasher: &T, start: T::Digest, peaks: &[T::Digest]) -> T::Digest
     ensures { result ≡ fold (T.hashing hasher.now).fold start peaks.now }
 {
     let mut acc = start;
@@ -283,8 +279,8 @@ pub fn fold_all<F: Family, T: Hasher<F>>(
     acc
 }
 
-/// Folds the peaks right to left; `None` if there are none.
-pub fn bag_all<F: Family, T: Hasher<F>>(hasher: &T, peaks: &[T::Digest]) -> Option<T::Digest>
+// Folds the peaks right to left; `None` if there are none.
+fn bag_all<F: Family, T: Hasher<F>>(hasher: &T, peaks: &[T::Digest]) -> Option<T::Digest>
     ensures { result ≡ right_fold (T.hashing hasher.now).fold peaks.now }
 {
     let mut bagged = None;
