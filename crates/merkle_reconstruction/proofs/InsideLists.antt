@@ -1,5 +1,5 @@
 -- Lists of nodes that have all their leaves among those whose digests are given.
-use Rattle.std.proofs.Common.{◌≡◌, ℕ, zero, suc, ◌+◌, ◌<◌, ◌≤◌, Bool, true, false, cond, nat_eq, List, [], ◌∷◌, ◌++◌, length, map, drop, get_or, slice_get, ◌⊎◌, inl, inr, Option, Some, None, arith, refl, ap, sym, ◌∙◌, subst, append_assoc, rules, Result, Ok, Err, IfOk, OnOk, IfSome}
+use Rattle.std.proofs.Common.{◌≡◌, ℕ, zero, suc, ◌+◌, ◌<◌, ◌≤◌, Bool, true, false, cond, nat_eq, List, [], ◌∷◌, ◌++◌, length, map, drop, get_or, slice_get, ◌⊎◌, inl, inr, Option, Some, None, arith, refl, ap, sym, ◌∙◌, subst, append_assoc, rules, Result, Ok, Err, OnOk, IfSome}
 use Rattle.std.specs.Borrow.{Bor}
 use Rattle.std.specs.List.{AllByRecursion}
 use Rattle.std.specs.Option.{option_copied}
@@ -113,10 +113,6 @@ module _ {D : Type 0} (h : Hashing D) (rule : List ℕ → List ℕ) (n : ℕ) (
   found_at ps ds all i p q u e None v o is = subst (λ z. IfSome z (IsDigestAt h rule n leaf p)) (sym is) tt
   found_at ps ds all i p q u e (Some x) v o is = subst (λ z. IfSome z (IsDigestAt h rule n leaf p)) (sym is)
       (listed_at ps ds all i p x.now (slice_get_read ps (length ps) i q.now refl u.3.0 u.1 ∙ ap Some e) (slice_get_read ds (length ds) i x.now refl v.3.0 v.1))
-
-pub if_ok_both : {T E : Type 0} {P Q R : T → Type 0} (r : Result T E) → ((x : T) → P x → Q x → R x) → IfOk r P → IfOk r Q → IfOk r R
-if_ok_both (Ok x) f p q = f x p q
-if_ok_both (Err e) f p q = tt
 
 pub on_ok_both : {T E P Q R : Type 0} (r : Result T E) → (P → Q → R) → OnOk r P → OnOk r Q → OnOk r R
 on_ok_both (Ok x) f p q = f p q

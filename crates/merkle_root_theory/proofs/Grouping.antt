@@ -20,6 +20,11 @@ pub if_ok : {T E : Type 0} {P Q : T → Type 0} (r : Result T E) → ((x : T) �
 if_ok (Ok x) f h = f x h
 if_ok (Err e) f h = tt
 
+-- and one of two facts of it
+pub if_ok_both : {T E : Type 0} {P Q R : T → Type 0} (r : Result T E) → ((x : T) → P x → Q x → R x) → IfOk r P → IfOk r Q → IfOk r R
+if_ok_both (Ok x) f p q = f x p q
+if_ok_both (Err e) f p q = tt
+
 pub none_more : (xs : List ℕ) (ts : List Tree) → ts ≡ [] → xs ≡ xs ++ map position ts
 none_more xs ts e = sym (append-nil xs) ∙ ap (λ z. xs ++ map position z) (sym e)
 

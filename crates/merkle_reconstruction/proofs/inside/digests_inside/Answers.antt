@@ -3,7 +3,8 @@ use Rattle.merkle_hasher.specs.Subtrees.{Denotes}
 use Rattle.merkle_root_theory.specs.Walk.{leaf_from}
 use Rattle.merkle_reconstruction.specs.Inside.{AreChildDigests}
 use Rattle.merkle_reconstruction.proofs.NodeElements.{element_means}
-use Rattle.merkle_reconstruction.proofs.InsideLists.{are_known, if_ok_both}
+use Rattle.merkle_root_theory.proofs.Grouping.{if_ok_both}
+use Rattle.merkle_reconstruction.proofs.InsideLists.{are_known}
 use Rattle.merkle_reconstruction.proofs.inside.digests_inside.Goals as goal
 
 pub collect_inside-requires-clause-node : goal.collect_inside-requires-clause-node
