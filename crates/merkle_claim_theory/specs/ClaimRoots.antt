@@ -1,10 +1,13 @@
--- What a root that a check of single leaves or a check with pins accepts is a hash of.
-use Rattle.std.specs.Prelude.{List}
-use Rattle.merkle_root_theory.specs.Check.{RangeInput}
+-- What a root that a check of single leaves or a check with pins accepts is a hash of, and what it is if it is also one of another setting.
+use Rattle.std.specs.Prelude.{◌≡◌, ℕ, List}
+use Rattle.merkle_root_theory.specs.Check.{RangeInput, all_inputs}
+use Rattle.merkle_base.specs.Root.{list_root}
 use Rattle.merkle_base.specs.Scheme.{Scheme}
-use Rattle.merkle_root_theory.specs.RootNames.{NamesRoot}
-use Rattle.merkle_claim_theory.specs.Multiproof.{MultiInput, AcceptsMultiCases}
-use Rattle.merkle_claim_theory.specs.Pinned.{AcceptsPinnedCases}
+use Rattle.merkle_root_theory.specs.Expression.{Input}
+use Rattle.merkle_root_theory.specs.Range.{list_inputs}
+use Rattle.merkle_root_theory.specs.RootNames.{NamesRoot, AreApart, RootsCollide}
+use Rattle.merkle_claim_theory.specs.Multiproof.{MultiInput, AcceptsMulti, AcceptsMultiCases, multi_expression}
+use Rattle.merkle_claim_theory.specs.Pinned.{AcceptsPinned, AcceptsPinnedCases, pinned_expression}
 
 -- what a check of single leaves accepts is the hash of a string with its family, bagging and leaf count
 abbrev pub MultiNamesRoot : Type 0 → Type 0
@@ -13,3 +16,30 @@ MultiNamesRoot D = (s : Scheme D) (r : MultiInput D) (root : D) → AcceptsMulti
 -- so is what a check with pins accepts
 abbrev pub PinnedNamesRoot : Type 0 → Type 0
 PinnedNamesRoot D = (s : Scheme D) (r : RangeInput D) (pins : List D) (root : D) → AcceptsPinnedCases s r pins root → NamesRoot s r.leaves root
+
+-- what a check of single leaves hashes
+abbrev pub multi_inputs : {D : Type 0} → Scheme D → MultiInput D → List (Input D)
+multi_inputs s r = all_inputs s r.leaves r.inactive (multi_expression s r)
+
+-- what a check with pins hashes
+abbrev pub pinned_inputs : {D : Type 0} → Scheme D → RangeInput D → List D → List (Input D)
+pinned_inputs s r pins = all_inputs s r.leaves r.inactive (pinned_expression s r pins)
+
+-- a root accepted with single leaves that is also the root of a list under a setting that is apart: the two collide
+abbrev pub MultiOtherListCollides : Type 0 → Type 0
+MultiOtherListCollides D = (s t : Scheme D) → AreApart s t → (r : MultiInput D) (root : D) → AcceptsMulti s r root
+    → (xs : List D) (k : ℕ) → list_root t xs k ≡ root → RootsCollide s.hashing (multi_inputs s r) (list_inputs t xs k)
+
+-- so do two inputs that are accepted against it, one under each
+abbrev pub MultiOtherYesCollides : Type 0 → Type 0
+MultiOtherYesCollides D = (s t : Scheme D) → AreApart s t → (r q : MultiInput D) (root : D) → AcceptsMulti s r root → AcceptsMulti t q root
+    → RootsCollide s.hashing (multi_inputs s r) (multi_inputs t q)
+
+-- and the same with pins
+abbrev pub PinnedOtherListCollides : Type 0 → Type 0
+PinnedOtherListCollides D = (s t : Scheme D) → AreApart s t → (r : RangeInput D) (pins : List D) (root : D) → AcceptsPinned s r pins root
+    → (xs : List D) (k : ℕ) → list_root t xs k ≡ root → RootsCollide s.hashing (pinned_inputs s r pins) (list_inputs t xs k)
+
+abbrev pub PinnedOtherYesCollides : Type 0 → Type 0
+PinnedOtherYesCollides D = (s t : Scheme D) → AreApart s t → (r q : RangeInput D) (pins qins : List D) (root : D)
+    → AcceptsPinned s r pins root → AcceptsPinned t q qins root → RootsCollide s.hashing (pinned_inputs s r pins) (pinned_inputs t q qins)

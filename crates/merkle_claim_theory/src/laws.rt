@@ -6,6 +6,7 @@ ghost use Rattle.merkle_root_theory.specs.Check.{HonestRangeAccepted, PlanCheckS
 ghost use Rattle.merkle_root_theory.specs.Claim.{HonestAccepted, ClaimSound, PairAgrees};
 ghost use Rattle.merkle_root_theory.specs.Collision.{AgreeOrCollide};
 ghost use Rattle.merkle_claim_theory.specs.ClaimRoots.{MultiNamesRoot, PinnedNamesRoot};
+ghost use Rattle.merkle_claim_theory.specs.ClaimRoots.{MultiOtherListCollides, MultiOtherYesCollides, PinnedOtherListCollides, PinnedOtherYesCollides};
 ghost use Rattle.merkle_claim_theory.specs.Complete.{HonestMultiAccepted, HonestPinsAccepted};
 ghost use Rattle.merkle_claim_theory.specs.Exact.{SamePeaks, HonestNeverCollides};
 ghost use Rattle.merkle_root_theory.specs.Extract.{ExtractsNodes};
@@ -80,6 +81,12 @@ pub fn root_names<D>()
 
     // And if it is accepted under both.
     ensures checks { OtherYesCollides D }
+
+    // The same holds of checks of scattered leaves, and of checks with pins.
+    ensures multi_lists { MultiOtherListCollides D }
+    ensures multi_checks { MultiOtherYesCollides D }
+    ensures pinned_lists { PinnedOtherListCollides D }
+    ensures pinned_checks { PinnedOtherYesCollides D }
 {}
 
 /// Laws of claims for which the proof also supplies redundant digests, of nodes that are computed.
