@@ -28,7 +28,7 @@ parted [] x m = elim m [ ]
 parted (y ∷ ys) x (inl e) = ([], ys, ap (λ z. z ∷ ys) e)
 parted (y ∷ ys) x (inr m) = let w = parted ys x m in (y ∷ w.0, w.1, ap (λ z. y ∷ z) w.2)
 
-no_longer : {A : Type 0} (xs ys : List A) → Distinct xs → ((x : A) → Member xs x → Member ys x) → length xs ≤ length ys
+pub no_longer : {A : Type 0} (xs ys : List A) → Distinct xs → ((x : A) → Member xs x → Member ys x) → length xs ≤ length ys
 no_longer [] ys d f = omega arith
 no_longer (x ∷ xs) ys d f =
     let w = parted ys x (f x (inl refl)) in
@@ -85,23 +85,29 @@ one_leaf_few rule max_leaves max_nodes law n few bound i x =
     back [] t m = elim m [ ]
     back (u ∷ us) t m = ⊎_elim (λ a. inr (back us t a)) (⊎_elim inl (λ z. elim z [ ])) (member_split (reverse us) (u ∷ []) t (subst (λ l. Member l t) (reverse-append (u ∷ []) us) m))
 
-pub at_most_122 : {D : Type 0} → MultiSizeBound D
-at_most_122 {D = D} s max_nodes law n few bound locations below = all_below
+-- so at most 122 positions for each location
+pub positions_few : (rule : List ℕ → List ℕ) (max_leaves max_nodes : ℕ) → IsLawful rule max_leaves max_nodes → (n : ℕ) → n ≤ max_leaves
+    → ((j : ℕ) → j < length (peak_heights rule n) → slice_index (peak_heights rule n) j + length (peak_heights rule n) ≤ 123)
+    → (locations : List ℕ) → AllByRecursion (λ i. i < n) locations → length (multi_positions rule n locations) ≤ 122 * length locations
+positions_few rule max_leaves max_nodes law n few bound locations below = all_below
   where
-    one : (i : ℕ) → i < n → length (one_leaf_nodes i (peaks_of s.rule n)) ≤ 122
-    one = one_leaf_few s.rule s.max_leaves max_nodes law n few bound
+    one : (i : ℕ) → i < n → length (one_leaf_nodes i (peaks_of rule n)) ≤ 122
+    one = one_leaf_few rule max_leaves max_nodes law n few bound
 
-    sums : (is : List ℕ) → AllByRecursion (λ i. i < n) is → length (flat_map (λ i. map position (one_leaf_nodes i (peaks_of s.rule n))) is) ≤ 122 * length is
+    sums : (is : List ℕ) → AllByRecursion (λ i. i < n) is → length (flat_map (λ i. map position (one_leaf_nodes i (peaks_of rule n))) is) ≤ 122 * length is
     sums [] h = omega arith
-    sums (i ∷ is) h = omega (arith, length-append (map position (one_leaf_nodes i (peaks_of s.rule n))) (flat_map (λ i. map position (one_leaf_nodes i (peaks_of s.rule n))) is), length-map (one_leaf_nodes i (peaks_of s.rule n)) position, one i h.0, sums is h.1)
+    sums (i ∷ is) h = omega (arith, length-append (map position (one_leaf_nodes i (peaks_of rule n))) (flat_map (λ i. map position (one_leaf_nodes i (peaks_of rule n))) is), length-map (one_leaf_nodes i (peaks_of rule n)) position, one i h.0, sums is h.1)
 
-    inside : (p : ℕ) → Member (multi_positions s.rule n locations) p → Member (flat_map (λ i. map position (one_leaf_nodes i (peaks_of s.rule n))) locations) p
+    inside : (p : ℕ) → Member (multi_positions rule n locations) p → Member (flat_map (λ i. map position (one_leaf_nodes i (peaks_of rule n))) locations) p
     inside p m =
-        let u = filtered_member (λ p. list_any (is_one_leaf_position (peaks_of s.rule n) p) locations) (range_with_len 0 (size s.rule n)) p m in
-        let v = member_any (is_one_leaf_position (peaks_of s.rule n) p) locations u.1 in
-        let x = member_any (λ t. nat_eq (position t) p) (one_leaf_nodes v.0 (peaks_of s.rule n)) v.2 in
-        member_flat (λ i. map position (one_leaf_nodes i (peaks_of s.rule n))) locations v.0 p v.1
-        (subst (Member (map position (one_leaf_nodes v.0 (peaks_of s.rule n)))) (eqb-true (position x.0) p x.2) (member_map position (one_leaf_nodes v.0 (peaks_of s.rule n)) x.0 x.1))
+        let u = filtered_member (λ p. list_any (is_one_leaf_position (peaks_of rule n) p) locations) (range_with_len 0 (size rule n)) p m in
+        let v = member_any (is_one_leaf_position (peaks_of rule n) p) locations u.1 in
+        let x = member_any (λ t. nat_eq (position t) p) (one_leaf_nodes v.0 (peaks_of rule n)) v.2 in
+        member_flat (λ i. map position (one_leaf_nodes i (peaks_of rule n))) locations v.0 p v.1
+        (subst (Member (map position (one_leaf_nodes v.0 (peaks_of rule n)))) (eqb-true (position x.0) p x.2) (member_map position (one_leaf_nodes v.0 (peaks_of rule n)) x.0 x.1))
 
-    all_below : length (multi_positions s.rule n locations) ≤ 122 * length locations
-    all_below = omega (arith, no_longer (multi_positions s.rule n locations) _ (distinct_filter _ (range_with_len 0 (size s.rule n)) (distinct_range 0 (size s.rule n))) inside, sums locations below)
+    all_below : length (multi_positions rule n locations) ≤ 122 * length locations
+    all_below = omega (arith, no_longer (multi_positions rule n locations) _ (distinct_filter _ (range_with_len 0 (size rule n)) (distinct_range 0 (size rule n))) inside, sums locations below)
+
+pub at_most_122 : {D : Type 0} → MultiSizeBound D
+at_most_122 s max_nodes law n few bound locations below = positions_few s.rule s.max_leaves max_nodes law n few bound locations below

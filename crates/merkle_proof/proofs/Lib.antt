@@ -1,4 +1,5 @@
 pub mod BuiltDigests
+pub mod BuiltReads
 pub mod HasherLaws
 pub mod ReadingOrder
 pub mod ReadRuns

@@ -1,5 +1,5 @@
 -- The runs of nodes that a proof reads, and their order.
-use Rattle.std.proofs.Common.{◌≡◌, ℕ, ◌+◌, ◌-◌, List, [], ◌∷◌, ◌++◌, length, length-append, map, take, drop, take_at, drop_at, reverse, append_assoc, arith, refl, ap, ap₂, sym, ◌∙◌, subst}
+use Rattle.std.proofs.Common.{◌≡◌, ℕ, ◌+◌, ◌-◌, List, [], ◌∷◌, ◌++◌, length, length-append, map, take, drop, take_at, drop_at, reverse, append_assoc, arith, refl, ap, ap₂, sym, ◌∙◌, subst, Option}
 use Rattle.std.specs.List.{AllByRecursion}
 use Rattle.std.proofs.lemmas.List.{map-append, length-map, length-drop, reverse-append, take_all}
 use Rattle.merkle_base.specs.Tree.{Tree, position}
@@ -8,12 +8,12 @@ use Rattle.merkle_base.specs.declared.family.Bagging.{Bagging}
 use Rattle.merkle_base.proofs.Nodes.{all_append}
 use Rattle.merkle_root_theory.specs.Outside.{folded_prefix, single_before, single_after, folded_suffix}
 use Rattle.merkle_root_theory.specs.Range.{overlapping, wholly_after, range_siblings}
-use Rattle.merkle_proof.specs.RangePlans.{IsPlan}
+use Rattle.merkle_proof.specs.RangePlans.{LeafRange, IsAnsweredProof, IsLaidOut, IsPlan}
 use Rattle.merkle_root_theory.specs.Reads.{nodes_read, reading_order}
 use Rattle.merkle_root_theory.proofs.BuiltLayouts.{map-append_four, folded_prefix_rest, single_after_rest}
 use Rattle.merkle_root_theory.proofs.PeakGroups.{length-peaks_of}
 
-all_parts : {X : Type 0} (P : X → Type 0) (xs ys : List X) → AllByRecursion P (xs ++ ys) → AllByRecursion P xs × AllByRecursion P ys
+pub all_parts : {X : Type 0} (P : X → Type 0) (xs ys : List X) → AllByRecursion P (xs ++ ys) → AllByRecursion P xs × AllByRecursion P ys
 all_parts P [] ys w = (tt, w)
 all_parts P (x ∷ xs) ys w = let v = all_parts P xs ys w.1 in ((w.0, v.0), v.1)
 
@@ -64,6 +64,20 @@ module _ (P : Tree → Type 0) (bagging : Bagging) (k : ℕ) (rule : List ℕ �
       let third = all_parts P singles suffix (subst (AllByRecursion P) (sym (single_after_rest bagging k met after)) second.0) in
       all_append P before (singles ++ (reverse suffix ++ inside)) first.0
       (all_append P singles (reverse suffix ++ inside) third.0 (all_append P (reverse suffix) inside (all_reverse P suffix third.1) second.1))
+
+-- what is laid out of the answers at the runs is laid out of those at the nodes
+pub laid_by_runs : {D : Type 0} (f : D → D → D) (bagging : Bagging) (k : ℕ) (rule : List ℕ → List ℕ) (n a b : ℕ) (answered : ℕ → Option D → Type 0) (prefix single suffix siblings : List ℕ) (digests : List D)
+    → AreRuns bagging k rule n a b prefix single suffix siblings → IsLaidOut f answered prefix single suffix siblings digests
+    → IsAnsweredProof f bagging rule k (record { leaves = n; start = a; end = b }) answered digests
+laid_by_runs f bagging k rule n a b answered prefix single suffix siblings digests runs laid =
+    let ts = peaks_of rule n in
+    let singles = map position (single_peaks bagging k rule n a b) in
+    let suffixes = map position (folded_suffix bagging k (met_count rule n a b) (wholly_after b ts)) in
+    let inside = map position (range_siblings a b ts) in
+    subst (λ ps. IsLaidOut f answered ps singles suffixes inside digests) runs.prefix_is
+    (subst (λ ps. IsLaidOut f answered prefix ps suffixes inside digests) runs.single_is
+    (subst (λ ps. IsLaidOut f answered prefix single ps inside digests) runs.suffix_is
+    (subst (λ ps. IsLaidOut f answered prefix single suffix ps digests) runs.siblings_is laid)))
 
 -- the runs, one after another with the suffix from its end, are in the reading order
 pub order_of_runs : (bagging : Bagging) (k : ℕ) (rule : List ℕ → List ℕ) (n a b : ℕ) (prefix single suffix siblings : List ℕ) → AreRuns bagging k rule n a b prefix single suffix siblings

@@ -1,5 +1,5 @@
 -- What a range proof reads, and what it is made of.
-use Rattle.std.specs.Prelude.{◌≡◌, ℕ, ◌≤◌, ◌<◌, ◌⊎◌, List, ◌∷◌, ◌++◌, map, length, Option, Some, None, slice_get, take, drop, ◌-◌}
+use Rattle.std.specs.Prelude.{◌≡◌, ℕ, ◌+◌, ◌≤◌, ◌<◌, ◌⊎◌, List, ◌∷◌, ◌++◌, map, length, Option, Some, None, slice_get, take, drop, ◌-◌}
 use Rattle.std.specs.List.{AllZip}
 use Rattle.merkle_base.specs.Tree.{Tree, position}
 use Rattle.merkle_base.specs.Forest.{forest}
@@ -13,7 +13,8 @@ use Rattle.merkle_root_theory.specs.Check.{RangeInput}
 use Rattle.merkle_base.specs.Scheme.{Scheme}
 use Rattle.merkle_root_theory.specs.Layouts.{laid_out}
 use Rattle.merkle_root_theory.specs.Reads.{nodes_read, reading_order, both_read}
-use Rattle.merkle_root_theory.specs.Range.{wholly_after, range_laid_out}
+use Rattle.merkle_root_theory.specs.Outside.{folded_prefix, single_before, single_after, folded_suffix}
+use Rattle.merkle_root_theory.specs.Range.{overlapping, wholly_after, range_laid_out, range_siblings}
 use Rattle.merkle_proof.specs.declared.proof.Proof.{Proof}
 
 -- a range of a number of leaves
@@ -54,6 +55,16 @@ pub record IsLaidOut {D : Type 0} (f : D → D → D) (answered : ℕ → Option
   pub suffix_read : AreAnswered answered suffix of_suffix
   pub siblings_read : AreAnswered answered siblings of_siblings
   pub digests_are : digests ≡ laid_out f of_prefix of_single of_suffix of_siblings
+
+-- the digests of a proof are those that are answered at the nodes that it reads, laid out
+abbrev pub IsAnsweredProof : {D : Type 0} → (D → D → D) → Bagging → (List ℕ → List ℕ) → ℕ → LeafRange → (ℕ → Option D → Type 0) → List D → Type 0
+IsAnsweredProof f bagging rule k r answered digests =
+    let before = wholly_before r.start (peaks_of rule r.leaves) in
+    let after = wholly_after r.end (peaks_of rule r.leaves) in
+    let met = length before + length (overlapping r.start r.end (peaks_of rule r.leaves)) in
+    IsLaidOut f answered (map position (folded_prefix bagging k before))
+    (map position (single_before bagging k before ++ single_after bagging k met after))
+    (map position (folded_suffix bagging k met after)) (map position (range_siblings r.start r.end (peaks_of rule r.leaves))) digests
 
 -- something is answered at each of the positions before p, and nothing at p
 pub record IsFirstMissing {D : Type 0} (answered : ℕ → Option D → Type 0) (ps : List ℕ) (p : ℕ) : Type 0 where

@@ -1,6 +1,7 @@
 //! Plans of proofs of a single leaf.
-ghost use Rattle.std.specs.Prelude.{◌≡◌, ◌≢◌, ◌<◌, ◌≤◌, ◌+◌, IfOk, IfErr};
+ghost use Rattle.std.specs.Prelude.{◌≡◌, ◌≢◌, ◌<◌, ◌≤◌, ◌+◌, length, IfOk, IfErr, IsOkUnless};
 ghost use Rattle.std.specs.List.Sorted.{IsStrictlyIncreasing};
+ghost use Rattle.merkle_forest_theory.specs.FewPeaks.{FewPeaks};
 ghost use Rattle.merkle_proof.specs.ElementPlans.{IsElementRefusal};
 ghost use Rattle.merkle_proof.specs.Positions.{range_positions};
 
@@ -9,7 +10,7 @@ use merkle_base::error::Error;
 use merkle_base::family::Family;
 use merkle_base::location::Location;
 use merkle_base::position::Position;
-use std::alloc::{AllocError, Global};
+use std::alloc::Global;
 use std::marker::Model;
 
 /// What a proof of a single leaf reads: the plan of the range of that leaf alone.
@@ -66,14 +67,17 @@ impl<F: Family> ElementPlan<F> {
     /// Returns the positions of all nodes that a proof of the leaf reads, ascending and each once:
     /// the peaks that the leaf is not below, and the siblings on its path.
     ///
-    /// They do not depend on the bagging or the number of inactive peaks.
+    /// They do not depend on the bagging or the number of inactive peaks. There are at most
+    /// [`MAX_PROOF_DIGESTS_PER_ELEMENT`](crate::proof::MAX_PROOF_DIGESTS_PER_ELEMENT).
     ///
     /// # Errors
     ///
-    /// - `AllocError` if a memory request is refused
-    pub fn positions(&self) -> Result<Vec<Position<F>>, AllocError>
+    /// - `OutOfMemory` if a memory request is refused
+    pub fn positions(&self) -> Result<Vec<Position<F>>, Error<F>>
         ensures ok { IfOk result (λ v. v.items ≡ range_positions F.rule self.now.leaves self.now.location (self.now.location + 1)) }
         ensures rises { IfOk result (λ v. IsStrictlyIncreasing v.items) }
+        ensures at_most_122 { FewPeaks F.rule F.MAX_LEAVES → IfOk result (λ v. length v.items ≤ 122) }
+        ensures refused { IsOkUnless result Error.OutOfMemory }
     {
         self.plan.positions()
     }

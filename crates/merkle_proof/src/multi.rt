@@ -1,10 +1,11 @@
 //! The positions of the nodes that a proof of scattered leaves reads.
-ghost use Rattle.std.specs.Prelude.{◌≡◌, ◌≢◌, ◌+◌, ◌<◌, ◌≤◌, [], ◌∷◌, ◌++◌, List, ℕ, Some, IfOk, IfErr, cond, take, drop, map, length};
+ghost use Rattle.std.specs.Prelude.{◌≡◌, ◌≢◌, ◌+◌, ◌*◌, ◌<◌, ◌≤◌, [], ◌∷◌, ◌++◌, List, ℕ, Some, IfOk, IfErr, cond, take, drop, map, length};
 ghost use Rattle.std.specs.List.{AllByRecursion};
 ghost use Rattle.std.specs.List.Sorted.{IsNonDecreasing, IsStrictlyIncreasing};
 ghost use Rattle.merkle_base.specs.Cases.{first_case};
 ghost use Rattle.merkle_base.specs.Tree.{Tree, position};
 ghost use Rattle.merkle_forest_theory.specs.Ascending.{AscendsFrom};
+ghost use Rattle.merkle_forest_theory.specs.FewPeaks.{FewPeaks};
 ghost use Rattle.merkle_claim_theory.specs.Multiproof.{multi_positions};
 ghost use Rattle.merkle_hasher.specs.Subtrees.{Denotes};
 ghost use Rattle.merkle_proof.specs.MultiPositions.{AreLocations, location_refusals, later_refusals, multi_refusals, those_before, those_from, read_below, positions_read};
@@ -50,6 +51,7 @@ pub fn multi_proof_positions<F: Family>(
     ensures ok { IfOk result (λ v. v.items ≡ multi_positions F.rule leaves locations.now) }
     ensures rises { IfOk result (λ v. IsStrictlyIncreasing v.items) }
     ensures within { IfOk result (λ _. AreLocations F.MAX_LEAVES leaves locations.now) }
+    ensures at_most_122_each { FewPeaks F.rule F.MAX_LEAVES → IfOk result (λ v. length v.items ≤ 122 * length locations.now) }
     ensures err { IfErr result (λ e. e ≢ Error.OutOfMemory → first_case (multi_refusals F.MAX_LEAVES leaves locations.now) ≡ Some e) }
 {
     if let Err(error) = check_locations(leaves, locations) {

@@ -1,5 +1,5 @@
 //! Plans of range proofs: the nodes that a proof reads, and the proof built from their digests.
-ghost use Rattle.std.specs.Prelude.{◌≡◌, ◌≢◌, ◌<◌, ◌≤◌, ◌+◌, ℕ, List, Option, length, map, IfOk, IfErr};
+ghost use Rattle.std.specs.Prelude.{◌≡◌, ◌≢◌, ◌<◌, ◌≤◌, ◌+◌, ℕ, List, Option, length, map, IfOk, IfErr, IsOkUnless};
 ghost use Rattle.merkle_base.specs.Places.{peaks_of, wholly_before};
 ghost use Rattle.merkle_base.specs.Tree.{position};
 ghost use Rattle.merkle_root_theory.specs.Outside.{folded_prefix, single_after};
@@ -7,7 +7,7 @@ ghost use Rattle.merkle_root_theory.specs.Range.{IsHonestRange, overlapping, who
 ghost use Rattle.merkle_root_theory.specs.Reads.{nodes_read};
 ghost use Rattle.std.specs.List.Sorted.{IsStrictlyIncreasing};
 ghost use Rattle.merkle_proof.specs.Positions.{range_positions};
-ghost use Rattle.merkle_proof.specs.RangePlans.{IsRefusal, IsBuildRefusal, IsBuiltProof, AnswersList, list_input};
+ghost use Rattle.merkle_proof.specs.RangePlans.{IsRefusal, IsAnsweredProof, IsBuildRefusal, IsBuiltProof, AnswersList, list_input};
 
 use crate::positions::ascending;
 use crate::proof::Proof;
@@ -19,7 +19,7 @@ use merkle_base::position::Position;
 use merkle_hasher::hasher::Hasher;
 use merkle_range::groups::Groups;
 use merkle_range::layout::{prefix_count, single_count};
-use std::alloc::{AllocError, Global};
+use std::alloc::Global;
 use std::marker::Model;
 use std::ops::Range;
 
@@ -150,10 +150,14 @@ impl<F: Family> RangePlan<F> {
     ///
     /// # Errors
     ///
-    /// - `AllocError` if a memory request is refused
-    pub fn positions(&self) -> Result<Vec<Position<F>>, AllocError>
+    /// - `OutOfMemory` if a memory request is refused
+    pub fn positions(&self) -> Result<Vec<Position<F>>, Error<F>>
         ensures ok { IfOk result (λ v. v.items ≡ range_positions F.rule self.now.leaves self.now.start self.now.end) }
         ensures rises { IfOk result (λ v. IsStrictlyIncreasing v.items) }
+
+        // A plan is of a range with leaves.
+        ensures fits { (self.now.start < self.now.end) × (self.now.end ≤ self.now.leaves) × (self.now.leaves ≤ F.MAX_LEAVES) }
+        ensures refused { IsOkUnless result Error.OutOfMemory }
     {
         let reads = self.reads.to_vec(*self.reads.allocator())?;
         Ok(ascending(reads))
@@ -189,6 +193,8 @@ impl<F: Family> RangePlan<F> {
         ensures honest { let s = H.scheme hasher.now in
             (xs : List H.Digest) → length xs ≡ self.leaves → AnswersList (H.hashing hasher.now) F.rule xs (G.post get_node)
             → IfOk result (λ p. IsHonestRange s xs inactive (list_input p xs self.start self.end)) }
+        ensures read { let f = (H.hashing hasher.now).fold in
+            IfOk result (λ p. IsAnsweredProof f (H.bagging_of hasher.now) F.rule inactive self (G.post get_node) p.digests.items) }
         ensures fits { IfOk result (λ _. (self.start < self.end) × (self.end ≤ self.leaves) × (self.leaves ≤ F.MAX_LEAVES)
             × (inactive ≤ length (peaks_of F.rule self.leaves))) }
         ensures err { IfErr result (λ e. e ≢ Error.OutOfMemory → IsBuildRefusal (H.bagging_of hasher.now) F.rule self inactive (G.post get_node) e) }

@@ -73,14 +73,14 @@ pub fn plan_leaf<F: Family>(words: &mut Words, answer: &mut Answer) -> Result<()
 /// The positions that the plan of the proof of a range reads.
 pub fn positions<F: Family>(words: &mut Words, answer: &mut Answer) -> Result<(), Refusal> {
     let plan = range_plan::<F>(words)?;
-    write_positions(answer, &plan.positions()?);
+    write_positions(answer, &granted!(plan.positions()));
     Ok(())
 }
 
 /// The positions that the plan of the proof of a leaf reads.
 pub fn positions_leaf<F: Family>(words: &mut Words, answer: &mut Answer) -> Result<(), Refusal> {
     let plan = leaf_plan::<F>(words)?;
-    write_positions(answer, &plan.positions()?);
+    write_positions(answer, &granted!(plan.positions()));
     Ok(())
 }
 

@@ -2,11 +2,11 @@ use Rattle.std.proofs.Common.{◌≡◌, ◌≤◌, length, arith, refl, sym, su
 use Rattle.merkle_base.specs.Places.{peaks_of}
 use Rattle.merkle_base.specs.Scheme.{scheme_of}
 use Rattle.merkle_root_theory.specs.Range.{IsHonestRange}
-use Rattle.merkle_proof.specs.RangePlans.{LeafRange, IsBuiltProof, IsBuildRefusal, IsFirstMissing, list_input}
+use Rattle.merkle_proof.specs.RangePlans.{LeafRange, IsAnsweredProof, IsBuiltProof, IsBuildRefusal, IsFirstMissing, list_input}
 use Rattle.merkle_proof.specs.declared.proof.Proof.{Proof}
 use Rattle.merkle_proof.proofs.BuiltDigests.{is_built, is_honest}
 use Rattle.merkle_root_theory.proofs.PeakGroups.{length-peaks_of}
-use Rattle.merkle_proof.proofs.ReadingOrder.{runs_of_plan, order_of_runs}
+use Rattle.merkle_proof.proofs.ReadingOrder.{laid_by_runs, runs_of_plan, order_of_runs}
 use Rattle.merkle_proof.proofs.range_plan.RangePlan.build.Given as given
 use Rattle.merkle_proof.proofs.range_plan.RangePlan.build.Goals as goal
 
@@ -40,6 +40,17 @@ returns-in-Ok-clause-built g c = λ node agree.
     _ _ _ _ c.deref.ensures.value c.deref-2.ensures.value c.deref-3.ensures.value c.deref-4.ensures.value in
     rw (g.met.H.Hasher.scheme_is c.args.hasher.now) (subst (λ r. IsBuiltProof s node c.args.inactive r p) c.self.view_is
     (is_built s (given.G-post g c.args.get_node) p c.args.inactive n a b refl refl few _ _ _ _ runs c.in-Ok.ensures.ok node agree))
+
+pub returns-in-Ok-clause-read : goal.returns-in-Ok-clause-read
+returns-in-Ok-clause-read g c =
+    let bagging = g.H.Hasher.bagging_of c.args.hasher.now in
+    let i = c.self.invariant in
+    let n = c.self.inside.leaves in let a = c.self.inside.range.start in let b = c.self.inside.range.end in
+    let runs = runs_of_plan g.F.Family.rule g.F.Family.MAX_LEAVES n a b c.self.inside.peaks c.self.inside.before c.self.inside.after c.self.inside.reads.items i bagging c.root_bagging-bagging.result c.root_bagging-bagging.ensures
+    c.args.inactive c.prefix_count-prefix.result c.single_count-single.result c.prefix_count-prefix.ensures.exact c.single_count-single.ensures.exact
+    _ _ _ _ c.deref.ensures.value c.deref-2.ensures.value c.deref-3.ensures.value c.deref-4.ensures.value in
+    subst (λ (r : LeafRange). IsAnsweredProof (g.H.Hasher.hashing c.args.hasher.now).fold bagging g.F.Family.rule c.args.inactive r (given.G-post g c.args.get_node) c.in-Ok.digests.items) c.self.view_is
+    (laid_by_runs (g.H.Hasher.hashing c.args.hasher.now).fold bagging c.args.inactive g.F.Family.rule n a b (given.G-post g c.args.get_node) _ _ _ _ c.in-Ok.digests.items runs c.in-Ok.ensures.ok)
 
 pub returns-in-Ok-clause-honest : goal.returns-in-Ok-clause-honest
 returns-in-Ok-clause-honest g c = λ xs long right.
