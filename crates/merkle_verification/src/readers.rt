@@ -54,6 +54,7 @@ pub fn range_proof<R: Readable, H: Hasher<R::Family, Digest = R::Digest>>(
     inactive: usize,
 ) -> Result<Proof<R::Family, R::Digest>, Error<R::Family>>
     ensures sized { IfOk result (λ p. size R.Family.rule p.leaves ≡ R.size reader.now) }
+    ensures within { IfOk result (λ p. (range.start < range.end) × (range.end ≤ p.leaves) × (p.leaves ≤ R.Family.MAX_LEAVES)) }
     ensures built { let s = H.scheme hasher.now in
         IfOk result (λ p. IsBuiltProof s (R.node reader.now) inactive (record { leaves = p.leaves; start = range.start; end = range.end }) p) }
 
@@ -98,6 +99,7 @@ pub fn historical_range_proof<R: Readable, H: Hasher<R::Family, Digest = R::Dige
     range: Range<Location<R::Family>>,
     inactive: usize,
 ) -> Result<Proof<R::Family, R::Digest>, Error<R::Family>>
+    ensures within { IfOk result (λ _. (range.start < range.end) × (range.end ≤ leaves) × (leaves ≤ R.Family.MAX_LEAVES)) }
     ensures built { let s = H.scheme hasher.now in
         IfOk result (λ p. IsBuiltProof s (R.node reader.now) inactive (record { leaves = leaves; start = range.start; end = range.end }) p) }
 
@@ -136,7 +138,10 @@ fn prove_plan<R: Readable, H: Hasher<R::Family, Digest = R::Digest>>(
     if inactive > peak_count(plan.leaves()) {
         return Err(Error::InvalidProof);
     }
-    let positions = plan.positions()?;
+    let positions = match plan.positions() {
+        Ok(read) => read,
+        Err(error) => return Err(error),
+    };
     match read_nodes(alloc, reader, &positions) {
         Ok(digests) => build_proof(plan, hasher, inactive, &positions, &digests),
         Err(error) => Err(error),

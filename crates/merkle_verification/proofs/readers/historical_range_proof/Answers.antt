@@ -1,5 +1,5 @@
 use Rattle.std.proofs.Common.{IfOk, arith, ap, take, subst, inl, inr}
-use Rattle.std.proofs.lemmas.Result.{IfErr-weaker}
+use Rattle.std.proofs.lemmas.Result.{IfErr-weaker, IfOk-weaker}
 use Rattle.merkle_proof.specs.Positions.{range_positions}
 use Rattle.merkle_proof.specs.RangePlans.{LeafRange, IsBuiltProof, list_input}
 use Rattle.merkle_proof.proofs.RefusedProofs.{is_memory, range_planned}
@@ -7,6 +7,9 @@ use Rattle.merkle_root_theory.specs.Range.{IsHonestRange}
 use Rattle.merkle_verification.specs.ReaderRefusals.{IsReadRefusal}
 use Rattle.merkle_verification.proofs.HeldReads.{read_held}
 use Rattle.merkle_verification.proofs.readers.historical_range_proof.Goals as goal
+
+pub returns-in-Ok-clause-within : goal.returns-in-Ok-clause-within
+returns-in-Ok-clause-within g c = IfOk-weaker c.prove_plan.result _ _ (λ p _. c.in-Ok.ensures.within) c.prove_plan.ensures.built
 
 pub returns-in-Ok-clause-built : goal.returns-in-Ok-clause-built
 returns-in-Ok-clause-built g c =

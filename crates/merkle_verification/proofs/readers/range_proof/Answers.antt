@@ -1,4 +1,4 @@
-use Rattle.std.proofs.Common.{◌≡◌, ◌≤◌, IfOk, arith, ap, length, subst, sym, take_all, ◌∙◌, inl, inr}
+use Rattle.std.proofs.Common.{◌≡◌, ◌<◌, ◌≤◌, IfOk, arith, ap, length, subst, sym, take_all, ◌∙◌, inl, inr}
 use Rattle.std.proofs.lemmas.Result.{IfErr-weaker, IfOk-weaker}
 use Rattle.merkle_base.specs.Forest.{size}
 use Rattle.merkle_base.specs.Places.{peaks_of}
@@ -6,6 +6,7 @@ use Rattle.merkle_base.proofs.Nodes.{size_inj}
 use Rattle.merkle_proof.specs.Positions.{range_positions}
 use Rattle.merkle_proof.specs.RangePlans.{IsBuiltProof, list_input}
 use Rattle.merkle_root_theory.specs.Range.{IsHonestRange}
+use Rattle.merkle_root_theory.proofs.Grouping.{if_ok_both}
 use Rattle.merkle_verification.specs.ReaderRefusals.{AreNodesHeld, IsSizeRefusal}
 use Rattle.merkle_verification.proofs.HeldReads.{sized_held}
 use Rattle.merkle_verification.proofs.readers.range_proof.Goals as goal
@@ -14,6 +15,11 @@ pub returns-in-Ok-clause-sized : goal.returns-in-Ok-clause-sized
 returns-in-Ok-clause-sized g c =
     let rule = g.R.Family.Family.rule in
     IfOk-weaker c.historical_range_proof.result _ _ (λ p built. ap (size rule) built.leaves ∙ c.in-Ok.ensures.ok.0 ∙ c.size.ensures) c.historical_range_proof.ensures.built
+
+pub returns-in-Ok-clause-within : goal.returns-in-Ok-clause-within
+returns-in-Ok-clause-within g c =
+    if_ok_both c.historical_range_proof.result (λ p built within. subst (λ n. (c.args.range.start < c.args.range.end) × (c.args.range.end ≤ n) × (n ≤ g.R.Family.Family.MAX_LEAVES)) (sym built.leaves) within)
+    c.historical_range_proof.ensures.built c.historical_range_proof.ensures.within
 
 pub returns-in-Ok-clause-built : goal.returns-in-Ok-clause-built
 returns-in-Ok-clause-built g c =
