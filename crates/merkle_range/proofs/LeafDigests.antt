@@ -1,5 +1,5 @@
 -- The leaf digests of elements, and of some more of them.
-use Rattle.std.proofs.Common.{◌≡◌, ℕ, suc, ◌+◌, ◌<◌, List, [], ◌∷◌, ◌++◌, length, take, get_or, append-nil, arith, refl, sym, ap, ◌∙◌}
+use Rattle.std.proofs.Common.{◌≡◌, ℕ, zero, suc, ◌+◌, ◌<◌, List, [], ◌∷◌, ◌++◌, length, take, drop, get_or, append-nil, arith, refl, sym, ap, ◌∙◌}
 use Rattle.std.specs.Borrow.{Bor}
 use Rattle.std.proofs.lemmas.List.{append_assoc, take_more, length-take-le, length-map, map-append}
 use Rattle.merkle_base.specs.Forest.{size}
@@ -19,6 +19,23 @@ pub leaf_digests-append : {D : Type 0} (h : Hashing D) (rule : List ℕ → List
 leaf_digests-append h rule a [] fs = ap (λ k. leaf_digests h rule k fs) (omega arith)
 leaf_digests-append h rule a (e ∷ es) fs =
     ap (λ ds. h.leaf (size rule a) e ∷ ds) (leaf_digests-append h rule (suc a) es fs ∙ ap (λ k. leaf_digests h rule (suc a) es ++ leaf_digests h rule k fs) (omega arith))
+
+module _ {D : Type 0} (h : Hashing D) (rule : List ℕ → List ℕ) where
+  -- the leaf digests of the first elements
+  leaf_digests-take : (a k : ℕ) (es : List (List ℕ)) → take k (leaf_digests h rule a es) ≡ leaf_digests h rule a (take k es)
+  leaf_digests-take a zero [] = refl
+  leaf_digests-take a zero (e ∷ es) = refl
+  leaf_digests-take a (suc k) [] = refl
+  leaf_digests-take a (suc k) (e ∷ es) = ap (λ ds. h.leaf (size rule a) e ∷ ds) (leaf_digests-take (suc a) k es)
+
+  -- those of the elements after the first m
+  leaf_digests-drop : (a m : ℕ) (es : List (List ℕ)) → drop m (leaf_digests h rule a es) ≡ leaf_digests h rule (a + m) (drop m es)
+  leaf_digests-drop a zero es = ap (λ n. leaf_digests h rule n es) (omega arith)
+  leaf_digests-drop a (suc m) [] = refl
+  leaf_digests-drop a (suc m) (e ∷ es) = leaf_digests-drop (suc a) m es ∙ ap (λ n. leaf_digests h rule n (drop m es)) (omega arith)
+
+  pub leaf_digests-part : (a m k : ℕ) (es : List (List ℕ)) → take k (drop m (leaf_digests h rule a es)) ≡ leaf_digests h rule (a + m) (take k (drop m es))
+  leaf_digests-part a m k es = ap (take k) (leaf_digests-drop a m es) ∙ leaf_digests-take (a + m) k (drop m es)
 
 -- those that are appended to none
 pub leaves_given : {D : Type 0} (h : Hashing D) (rule : List ℕ → List ℕ) (a : ℕ) (es : List (Bor (List ℕ))) (none all read : List D)

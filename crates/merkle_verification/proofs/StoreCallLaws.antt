@@ -1,10 +1,12 @@
 -- What follows for the calls of a store.
-use Rattle.std.proofs.Common.{◌≡◌, ℕ, ◌-◌, inl, inr, ap, sym, ◌∙◌, arith, length, take, drop, Some, None}
+use Rattle.std.proofs.Common.{◌≡◌, ℕ, ◌+◌, ◌-◌, inl, inr, ap, sym, ◌∙◌, arith, length, take, drop, Some, None}
 use Rattle.std.proofs.lemmas.List.{length-take, length-drop}
 use Rattle.merkle_root_theory.specs.Range.{end_of}
 use Rattle.merkle_store_theory.specs.StoreValue.{store_of}
 use Rattle.merkle_store_theory.specs.StoreProof.{store_proof}
-use Rattle.merkle_verification.specs.StoreCalls.{part_input, NoPartIsRefused, AnsweredIsAccepted}
+use Rattle.merkle_range.specs.Input.{leaf_digests}
+use Rattle.merkle_range.proofs.LeafDigests.{leaf_digests-part}
+use Rattle.merkle_verification.specs.StoreCalls.{part_input, elements_within, NoPartIsRefused, AnsweredIsAccepted, PartHasPartDigests}
 use Rattle.merkle_store_theory.proofs.StoreProofs.{store_answers, store_is_accepted}
 
 pub no_part_is_refused : {F D : Type 0} → NoPartIsRefused F D
@@ -30,3 +32,8 @@ answered_is_accepted s r root a b p ok low high w =
       digests = w.digests ∙ ap (store_proof s (store_of s r root) a) stop;
       elements = ap (λ n. take n (drop (a - r.start) r.elements)) (sym count);
     })
+
+pub part_has_part_digests : {D : Type 0} → PartHasPartDigests D
+part_has_part_digests h rule start a b es from =
+    let at : start + (a - start) ≡ a = omega (arith, from) in
+    sym (leaf_digests-part h rule start (a - start) (b - a) es ∙ ap (λ n. leaf_digests h rule n (elements_within start a b es)) at)

@@ -1,5 +1,6 @@
 -- What the calls of a store answer.
-use Rattle.std.specs.Prelude.{◌≡◌, ℕ, ◌≤◌, ◌<◌, ◌⊎◌, ◌-◌, take, drop, Some, None}
+use Rattle.std.specs.Prelude.{◌≡◌, ℕ, ◌+◌, ◌≤◌, ◌<◌, ◌⊎◌, ◌-◌, List, take, drop, Some, None}
+use Rattle.merkle_base.specs.Hashing.{Hashing}
 use Rattle.merkle_base.specs.Scheme.{Scheme}
 use Rattle.merkle_base.specs.declared.error.Error.{Error}
 use Rattle.merkle_base.specs.declared.error.Error.TheVariants.{ElementPruned}
@@ -7,6 +8,7 @@ use Rattle.merkle_root_theory.specs.Check.{RangeInput}
 use Rattle.merkle_root_theory.specs.Range.{end_of, AcceptsNonempty}
 use Rattle.merkle_store_theory.specs.StoreValue.{StoreValue, store_of}
 use Rattle.merkle_store_theory.specs.StoreProof.{store_proof, store_refusal}
+use Rattle.merkle_range.specs.Input.{leaf_digests}
 use Rattle.merkle_proof.specs.RangePlans.{IsRefusal}
 use Rattle.merkle_proof.specs.declared.proof.Proof.{Proof}
 
@@ -28,6 +30,15 @@ pub record IsPartProof {F D Peaks Heights : Type 0} (s : Scheme D) (v : StoreVal
 abbrev pub part_input : {F D Peaks Heights : Type 0} → Proof F D Peaks Heights → RangeInput D → (a b : ℕ) → RangeInput D
 part_input p r a b =
     record { leaves = p.leaves; inactive = p.inactive_peaks; digests = p.digests.items; start = a; elements = take (b - a) (drop (a - r.start) r.elements) }
+
+-- of elements from location start on those that lie in a..b
+abbrev pub elements_within : (start a b : ℕ) → List (List ℕ) → List (List ℕ)
+elements_within start a b es = take (b - a) (drop (a - start) es)
+
+-- their leaf digests are those of all the elements that lie there
+abbrev pub PartHasPartDigests : Type 0 → Type 0
+PartHasPartDigests D = (h : Hashing D) (rule : List ℕ → List ℕ) (start a b : ℕ) (es : List (List ℕ)) → start ≤ a
+    → leaf_digests h rule a (elements_within start a b es) ≡ take (b - a) (drop (a - start) (leaf_digests h rule start es))
 
 -- the store of an accepted input refuses no part of its range
 abbrev pub NoPartIsRefused : Type 0 → Type 0 → Type 0

@@ -1,5 +1,5 @@
 //! Stores of accepted range proofs, which prove parts of the proved range.
-ghost use Rattle.std.specs.Prelude.{◌≡◌, ◌≢◌, ◌⊎◌, ◌≤◌, ◌<◌, ℕ, [], Ok, None, drop, length, IfOk, IfErr, IsOkUnless};
+ghost use Rattle.std.specs.Prelude.{◌≡◌, ◌≢◌, ◌⊎◌, ◌+◌, ◌≤◌, ◌<◌, ℕ, List, [], Ok, None, drop, length, IfOk, IfErr, IsOkUnless};
 ghost use Rattle.std.specs.Option.{option_to_list};
 ghost use Rattle.merkle_base.specs.Scheme.{Scheme};
 ghost use Rattle.merkle_root_theory.specs.Check.{RangeInput};
@@ -10,9 +10,10 @@ ghost use Rattle.merkle_store_theory.specs.StoreProof.{found_at, first_lacking};
 ghost use Rattle.merkle_store_theory.specs.StoreReads.{prefix_at, suffix_at, suffix_refusal_at, proof_at};
 ghost use Rattle.merkle_store_theory.specs.StoreValue.{store_of};
 ghost use Rattle.merkle_range.specs.Extracting.{IsExtractionRefusal};
+ghost use Rattle.merkle_range.specs.Input.{range_input};
 ghost use Rattle.merkle_proof.specs.Input.{input_of};
 ghost use Rattle.merkle_verification.specs.PairReads.{IsPrunedAt};
-ghost use Rattle.merkle_verification.specs.StoreCalls.{IsPartProof, IsStoreRefusal, part_input};
+ghost use Rattle.merkle_verification.specs.StoreCalls.{IsPartProof, IsStoreRefusal, elements_within, part_input};
 ghost use Rattle.merkle_verification.specs.StoreMulti.{IsMultiAnswered, IsStoreMultiRefusal};
 ghost use Rattle.merkle_verification.specs.StoreParts.{FitReads, IsFoldedCount, IsInput, counts_with, parts_refusal, shorter_refusal};
 
@@ -333,6 +334,13 @@ impl<F: Family, D: Digest> ProofStore<F, D> {
         ensures accepted { let s = H.scheme hasher.now in
             (r : RangeInput D) (root : D) → self.now ≡ store_of s r root → AcceptsNonempty s r root
             → r.start ≤ range.start → range.end ≤ end_of r → IfOk result (λ p. AcceptsNonempty s (part_input p r range.start range.end) root) }
+
+        // In the words of the check: if it accepts a proof with some elements, it also accepts what the store of that proof returns,
+        // with those of the elements that are in the range.
+        ensures checked { let s = H.scheme hasher.now in
+            (n k start : ℕ) (ds : List D) (es : List (List ℕ)) (root : D) → let r = range_input s n k ds start es in
+            self.now ≡ store_of s r root → reconstructed s r ≡ Ok root → 0 < length es → start ≤ range.start → range.end ≤ start + length es
+            → IfOk result (λ p. reconstructed s (input_of s p range.start (elements_within start range.start range.end es)) ≡ Ok root) }
     {
         self.answer(hasher, range)
     }
