@@ -3,15 +3,15 @@ use Rattle.std.proofs.Common.{◌≡◌, ℕ, zero, suc, ◌+◌, ◌<◌, ◌�
 use Rattle.std.proofs.lemmas.Option.{same_Some, slice_get_within}
 use Rattle.std.proofs.lemmas.Slice.Eq.{bytes_eq-Decides}
 use Rattle.std.specs.Str.{bytes_eq}
-use Rattle.merkle_base.proofs.Cases.{by_test}
-use Rattle.merkle_base.specs.Forest.{size}
-use Rattle.merkle_base.specs.Hashing.{Hashing}
-use Rattle.merkle_base.specs.Places.{peaks_of}
-use Rattle.merkle_base.specs.Scheme.{Scheme}
-use Rattle.merkle_range.specs.Input.{leaf_digests, range_input}
-use Rattle.merkle_range.proofs.LeafDigests.{length-leaf_digests}
-use Rattle.merkle_root_theory.specs.Range.{ForRootOf, IsHonestRange, RangeCollides}
-use Rattle.merkle_root_theory.proofs.HonestInputs.{range_of_some, some_of_range}
+use Rattle.merkle_core.proofs.Cases.{by_test}
+use Rattle.merkle_core.specs.Forest.{size}
+use Rattle.merkle_core.specs.Hashing.{Hashing}
+use Rattle.merkle_core.specs.Places.{peaks_of}
+use Rattle.merkle_core.specs.Scheme.{Scheme}
+use Rattle.merkle_core.specs.LeafDigests.{leaf_digests, range_input}
+use Rattle.merkle_core.proofs.LeafDigests.{length-leaf_digests}
+use Rattle.merkle_core.specs.Range.{ForRootOf, IsHonestRange, RangeCollides}
+use Rattle.merkle_core.proofs.HonestInputs.{range_of_some, some_of_range}
 use Rattle.example_proved.specs.Log.{leaves_of, ForLogOf, HasEntry, HasTwin, EntryCollides, IsHonestFor}
 
 -- a leaf digest is that of the entry at its location

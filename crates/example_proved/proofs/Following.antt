@@ -1,18 +1,18 @@
 -- A log that begins with the entries of an older one.
 use Rattle.std.proofs.Common.{◌≡◌, ℕ, zero, suc, ◌+◌, ◌-◌, ◌≤◌, ◌⊎◌, List, [], ◌∷◌, length, take, drop, Some, slice_get, arith, refl, sym, ap, subst, ◌∙◌, inl, inr}
 use Rattle.std.proofs.lemmas.List.{length-map, length-take-le}
-use Rattle.merkle_base.specs.Forest.{size}
-use Rattle.merkle_base.specs.Hashing.{Hashing}
-use Rattle.merkle_base.specs.Places.{peaks_of}
-use Rattle.merkle_base.specs.Root.{list_root}
-use Rattle.merkle_base.specs.Scheme.{Scheme}
-use Rattle.merkle_claim_theory.specs.Pinned.{honest_pins, IsHonestPinned, PinnedCollides}
-use Rattle.merkle_claim_theory.proofs.RebuiltPins.{pins_give_old_root}
-use Rattle.merkle_claim_theory.specs.Rebuilt.{GivesOldRoot}
-use Rattle.merkle_range.specs.Input.{leaf_digests, range_input}
-use Rattle.merkle_range.proofs.LeafDigests.{length-leaf_digests}
-use Rattle.merkle_root_theory.specs.Check.{RangeInput}
-use Rattle.merkle_root_theory.specs.Range.{ForRootOf}
+use Rattle.merkle_core.specs.Forest.{size}
+use Rattle.merkle_core.specs.Hashing.{Hashing}
+use Rattle.merkle_core.specs.Places.{peaks_of}
+use Rattle.merkle_core.specs.Root.{list_root}
+use Rattle.merkle_core.specs.Scheme.{Scheme}
+use Rattle.merkle_core.specs.Pinned.{honest_pins, IsHonestPinned, PinnedCollides}
+use Rattle.merkle_core.proofs.RebuiltPins.{pins_give_old_root}
+use Rattle.merkle_core.specs.Rebuilt.{GivesOldRoot}
+use Rattle.merkle_core.specs.LeafDigests.{leaf_digests, range_input}
+use Rattle.merkle_core.proofs.LeafDigests.{length-leaf_digests}
+use Rattle.merkle_core.specs.Check.{RangeInput}
+use Rattle.merkle_core.specs.Range.{ForRootOf}
 use Rattle.example_proved.specs.Log.{leaves_of, IsLogOf, ForLogOf, GivesRoot, Extends}
 use Rattle.example_proved.proofs.Entries.{digest_of_entry, entry_or_twin, of_logs}
 

@@ -1,12 +1,12 @@
 -- Logs: lists of entries, and what a client that trusts a root knows of them.
 use Rattle.std.specs.Prelude.{◌≡◌, ◌≢◌, ℕ, ◌+◌, ◌≤◌, ◌⊎◌, List, length, take, Some, slice_get}
-use Rattle.merkle_base.specs.Forest.{size}
-use Rattle.merkle_base.specs.Places.{peaks_of}
-use Rattle.merkle_base.specs.Root.{list_root, peaks_root}
-use Rattle.merkle_base.specs.Scheme.{Scheme}
-use Rattle.merkle_range.specs.Input.{leaf_digests}
-use Rattle.merkle_root_theory.specs.Check.{RangeInput}
-use Rattle.merkle_root_theory.specs.Range.{range_digests, RangeCollides}
+use Rattle.merkle_core.specs.Forest.{size}
+use Rattle.merkle_core.specs.Places.{peaks_of}
+use Rattle.merkle_core.specs.Root.{list_root, peaks_root}
+use Rattle.merkle_core.specs.Scheme.{Scheme}
+use Rattle.merkle_core.specs.LeafDigests.{leaf_digests}
+use Rattle.merkle_core.specs.Check.{RangeInput}
+use Rattle.merkle_core.specs.Range.{range_digests, RangeCollides}
 
 -- the leaf digests of a log's entries
 abbrev pub leaves_of : {D : Type 0} → Scheme D → List (List ℕ) → List D

@@ -9,9 +9,9 @@
 mod tests;
 
 ghost use Rattle.std.specs.Prelude.{◌≡◌, ◌⊎◌, ◌↔◌, ◌∷◌, [], IsTrue, IfOk, OnErr, false, take};
-ghost use Rattle.merkle_claim_theory.specs.Pinned.{IsHonestPinned, PinnedCollides};
-ghost use Rattle.merkle_root_theory.specs.Walk.{bytes_of};
-ghost use Rattle.merkle_proof.specs.Input.{input_of};
+ghost use Rattle.merkle_core.specs.Pinned.{IsHonestPinned, PinnedCollides};
+ghost use Rattle.merkle_core.specs.Walk.{bytes_of};
+ghost use Rattle.merkle_core.specs.Input.{input_of};
 ghost use Rattle.example_proved.specs.Log.{IsLogOf, ForLogOf, HasEntry, EntryCollides, IsHonestFor, leaves_of, GivesRoot, Extends};
 
 use merkle_core::digest::Digest;

@@ -9,6 +9,7 @@ mod components;
 pub mod family;
 mod find;
 mod held_nodes;
+pub mod laws;
 pub mod mem;
 pub mod mmb;
 pub mod mmr;

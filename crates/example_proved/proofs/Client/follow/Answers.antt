@@ -1,4 +1,4 @@
-use Rattle.merkle_root_theory.specs.Walk.{bytes_of}
+use Rattle.merkle_core.specs.Walk.{bytes_of}
 use Rattle.example_proved.proofs.Entries.{of_logs}
 use Rattle.example_proved.proofs.Following.{followed, pins_give}
 use Rattle.example_proved.proofs.Client.follow.Goals as goal
