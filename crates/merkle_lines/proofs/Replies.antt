@@ -23,7 +23,7 @@ use Rattle.merkle_proof.specs.ProofRefusals.{IsRangeRefusal}
 use Rattle.merkle_proof.specs.RangePlans.{IsFirstMissing}
 use Rattle.merkle_root_theory.specs.Range.{range_digests}
 use Rattle.merkle_root_theory.specs.Reads.{reading_order}
-use Rattle.merkle_lines.specs.Answers.{added, committed_list, error_line, kept_node, left, updated, word_bytes, IsRequestAnswered, IsLost, IsProved}
+use Rattle.merkle_lines.specs.Answers.{added, committed_list, error_line, kept_node, left, updated, word_bytes, IsRequestAnswered, IsLost, IsProved, IsRangePruned}
 use Rattle.merkle_lines.specs.ErrorNames.{error_name, hex_error_name}
 use Rattle.merkle_lines.specs.StructureState.{StructureState, all_committed, changes, count, pruned_to, with_changes, with_element, with_changed_element, without_changes}
 
@@ -135,9 +135,10 @@ module _ {D : Type 0} (s : Scheme D) (size_of : ℕ) (Spells : List ℕ → Type
           inr (inr (inr (some, omega (arith, inside, counted), subst (λ c. k ≤ length (peaks_of s.rule c)) counted enough, inl ((p, missing p m), named is))))
 
   -- the proof
-  pub prove_told : (leaves inactive : ℕ) (digests : List D) (text : List ℕ) → a < b → b ≤ count g → leaves ≡ n → inactive ≡ k → k ≤ length (peaks_of s.rule n) → digests ≡ range_digests s (committed_list s g) k a b
+  pub prove_told : ((p : ℕ) → IsFirstMissing (λ q r. r ≡ node q) (map position (reading_order s.bagging k s.rule n a b)) p → ⊥)
+      → (leaves inactive : ℕ) (digests : List D) (text : List ℕ) → a < b → b ≤ count g → leaves ≡ n → inactive ≡ k → k ≤ length (peaks_of s.rule n) → digests ≡ range_digests s (committed_list s g) k a b
       → text ≡ encode_lower (parts_spelling s.hashing.bytes leaves inactive digests) → IsRequestAnswered s size_of Spells g (Prove a b k) g text
-  prove_told leaves inactive digests text some within is_n is_k enough is t =
+  prove_told held leaves inactive digests text some within is_n is_k enough is t =
       inl (
         refl,
         inr (inr (inr (
@@ -145,7 +146,13 @@ module _ {D : Type 0} (s : Scheme D) (size_of : ℕ) (Spells : List ℕ → Type
           within,
           subst (λ c. k ≤ length (peaks_of s.rule c)) counted enough,
           inr (
-              t ∙ (λ i. encode_lower (parts_spelling s.hashing.bytes ((is_n ∙ counted) i) (is_k i) (is i)))
-              ),
+            none_pruned,
+            t ∙ (λ i. encode_lower (parts_spelling s.hashing.bytes ((is_n ∙ counted) i) (is_k i) (is i))),
+          ),
         ))),
       )
+    where
+      none_pruned : ¬ (IsRangePruned s g a b k)
+      none_pruned w =
+          held w.0 (subst (λ c. IsFirstMissing (λ q r. r ≡ node q) (map position (reading_order s.bagging k s.rule c a b)) w.0) (sym counted)
+          (subst (λ (f : ℕ → Option D). IsFirstMissing (λ q r. r ≡ f q) (map position (reading_order s.bagging k s.rule (count g) a b)) w.0) (λ i q. sym (here q) i) w.1))

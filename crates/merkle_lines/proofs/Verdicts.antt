@@ -1,5 +1,5 @@
 -- What is said of a proof that comes in words.
-use Rattle.std.proofs.Common.{◌≡◌, ◌≢◌, ℕ, ◌≤◌, ◌⊎◌, List, [], ◌∷◌, ◌++◌, length, Bool, true, false, Ok, cond, rules, refl, inl, inr}
+use Rattle.std.proofs.Common.{◌≡◌, ◌≢◌, ℕ, ◌^◌, ◌<◌, ◌≤◌, ◌⊎◌, List, [], ◌∷◌, ◌++◌, length, Bool, true, false, Ok, cond, rules, refl, inl, inr}
 use Rattle.std.specs.Prelude.{◌↔◌, ◌==◌, IsTrue, codes}
 use Rattle.merkle_base.specs.Scheme.{Scheme}
 use Rattle.merkle_base.specs.declared.error.DecodeError.{DecodeError}
@@ -32,9 +32,9 @@ module _ {D : Type 0} (s : Scheme D) (size : ℕ) (Spells : List ℕ → Type 0)
   unread OutOfMemory r t = inr t
 
   -- bytes that are a proof
-  pub judged : (leaves peaks : ℕ) (digests : List D) (rest : List ℕ) → leaves ≤ s.max_leaves → length digests ≤ most_digests (length elements) → bytes ≡ parts_spelling s.hashing.bytes leaves peaks digests ++ rest → rest ≡ []
+  pub judged : (leaves peaks : ℕ) (digests : List D) (rest : List ℕ) → leaves ≤ s.max_leaves → peaks < 2 ^ 64 → length digests ≤ most_digests (length elements) → bytes ≡ parts_spelling s.hashing.bytes leaves peaks digests ++ rest → rest ≡ []
       → Says ((peaks ≡ k) × (reconstructed s (range_input s leaves peaks digests a elements) ≡ Ok root)) text → IsRead s size Spells a k root bytes elements text
-  judged leaves peaks digests rest few most spelled none says = inr (leaves, peaks, digests, rest, few, most, spelled, inr (none, says))
+  judged leaves peaks digests rest few small most spelled none says = inr (leaves, peaks, digests, rest, few, small, most, spelled, inr (none, says))
 
   pub other_peaks : (leaves peaks : ℕ) (digests : List D) → peaks ≢ k → text ≡ codes "no" → Says ((peaks ≡ k) × (reconstructed s (range_input s leaves peaks digests a elements) ≡ Ok root)) text
   other_peaks leaves peaks digests other t = inr ((λ both. other both.0), t)

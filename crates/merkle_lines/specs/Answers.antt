@@ -100,7 +100,8 @@ IsProved s g a b inactive text =
     ⊎ ((a < b) × (count g < b) × (text ≡ error_line (codes "RangeOutOfBounds")))
     ⊎ ((a < b) × (b ≤ count g) × (length (peaks_of s.rule (count g)) < inactive) × (text ≡ error_line (codes "InvalidProof")))
     ⊎ ((a < b) × (b ≤ count g) × (inactive ≤ length (peaks_of s.rule (count g)))
-    × ((IsRangePruned s g a b inactive × (text ≡ error_line (codes "ElementPruned"))) ⊎ (text ≡ encode_lower (proof_bytes s g a b inactive))))
+    × ((IsRangePruned s g a b inactive × (text ≡ error_line (codes "ElementPruned")))
+    ⊎ ((¬ (IsRangePruned s g a b inactive)) × (text ≡ encode_lower (proof_bytes s g a b inactive)))))
 
 -- the greatest number of digests that are read of a proof of `elements` elements, as far as 64 bits count
 abbrev pub most_digests : ℕ → ℕ
@@ -114,7 +115,7 @@ Says P text = (P × (text ≡ codes "yes")) ⊎ ((¬ P) × (text ≡ codes "no")
 -- from a on lead to the root with it
 abbrev pub IsVerdict : {D : Type 0} → Scheme D → (a inactive : ℕ) → (root : D) → (proof : List ℕ) → List (List ℕ) → List ℕ → Type 0
 IsVerdict {D} s a inactive root proof elements text =
-    (leaves peaks : ℕ) × (digests : List D) × (rest : List ℕ) × (leaves ≤ s.max_leaves) × (length digests ≤ most_digests (length elements))
+    (leaves peaks : ℕ) × (digests : List D) × (rest : List ℕ) × (leaves ≤ s.max_leaves) × (peaks < 2 ^ 64) × (length digests ≤ most_digests (length elements))
     × (proof ≡ parts_spelling s.hashing.bytes leaves peaks digests ++ rest)
     × (((rest ≢ []) × (text ≡ error_line (codes "Trailing")))
     ⊎ ((rest ≡ []) × Says ((peaks ≡ inactive) × (reconstructed s (range_input s leaves peaks digests a elements) ≡ Ok root)) text))

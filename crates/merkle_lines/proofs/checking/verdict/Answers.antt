@@ -25,7 +25,7 @@ returns-then-proof-inactive g c =
     let none : c.read.new.input.now ≡ [] = no_bytes c.read.new.input.now c.is_empty.result c.is_empty.ensures c.if-not-is_empty.false in
     let other : c.in-Ok-read.value.inactive_peaks ≢ c.args.inactive = search (rules, c.if-proof-inactive.true) in
     inl (judged (scheme_of (standard g.H.PlainHasher.digest_of g.H.Digest.Digest.bytes g.H.Digest.PartialEq.eq g.H.Digest.Digest.EMPTY) c.args.hasher.now g.F.Family.rule g.F.Family.MAX_LEAVES g.F.Family.DOMAIN) g.H.Digest.Digest.SIZE g.H.Digest.Digest.Spells c.args.start c.args.inactive c.args.root.now c.args.bytes.now (map (λ (bytes : Vec ℕ Global). bytes.items) c.args.elements.now) _ c.in-Ok-read.value.leaves c.in-Ok-read.value.inactive_peaks c.in-Ok-read.value.digests.items c.read.new.input.now
-    c.in-Ok-read.ensures.ok.0.leaves (omega (arith, c.in-Ok-read.ensures.ok.0.digests, most)) c.in-Ok-read.ensures.ok.1 none
+    c.in-Ok-read.ensures.ok.0.leaves c.in-Ok-read.ensures.ok.0.inactive (omega (arith, c.in-Ok-read.ensures.ok.0.digests, most)) c.in-Ok-read.ensures.ok.1 none
     (other_peaks (scheme_of (standard g.H.PlainHasher.digest_of g.H.Digest.Digest.bytes g.H.Digest.PartialEq.eq g.H.Digest.Digest.EMPTY) c.args.hasher.now g.F.Family.rule g.F.Family.MAX_LEAVES g.F.Family.DOMAIN) g.H.Digest.Digest.SIZE g.H.Digest.Digest.Spells c.args.start c.args.inactive c.args.root.now c.args.bytes.now (map (λ (bytes : Vec ℕ Global). bytes.items) c.args.elements.now) _ c.in-Ok-read.value.leaves c.in-Ok-read.value.inactive_peaks c.in-Ok-read.value.digests.items other refl))
 
 pub returns : goal.returns
@@ -42,5 +42,5 @@ returns g c =
     subst (λ es. IsTrue c.in-Ok-verify_range_inclusion.value ↔ (reconstructed s (range_input s p.leaves p.inactive_peaks p.digests.items c.args.start es) ≡ Ok c.args.root.now)) lent
     (subst (λ a. IsTrue c.in-Ok-verify_range_inclusion.value ↔ (reconstructed s (range_input s p.leaves p.inactive_peaks p.digests.items a (bytes_of c.deref.result.now)) ≡ Ok c.args.root.now)) start c.in-Ok-verify_range_inclusion.ensures.exact) in
     inl (judged (scheme_of (standard g.H.PlainHasher.digest_of g.H.Digest.Digest.bytes g.H.Digest.PartialEq.eq g.H.Digest.Digest.EMPTY) c.args.hasher.now g.F.Family.rule g.F.Family.MAX_LEAVES g.F.Family.DOMAIN) g.H.Digest.Digest.SIZE g.H.Digest.Digest.Spells c.args.start c.args.inactive c.args.root.now c.args.bytes.now (map (λ (bytes : Vec ℕ Global). bytes.items) c.args.elements.now) _ p.leaves p.inactive_peaks p.digests.items c.read.new.input.now
-    c.in-Ok-read.ensures.ok.0.leaves (omega (arith, c.in-Ok-read.ensures.ok.0.digests, most)) c.in-Ok-read.ensures.ok.1 none
+    c.in-Ok-read.ensures.ok.0.leaves c.in-Ok-read.ensures.ok.0.inactive (omega (arith, c.in-Ok-read.ensures.ok.0.digests, most)) c.in-Ok-read.ensures.ok.1 none
     (says_which c.in-Ok-verify_range_inclusion.value _ ((λ yes. (peaks, exact.0 yes)), λ both. exact.1 both.1)))

@@ -11,6 +11,7 @@ use Rattle.merkle_range.proofs.LeafDigests.{length-leaf_digests}
 use Rattle.merkle_base.specs.Digests.{node_digests}
 use Rattle.merkle_batch_theory.specs.Contents.{is_kept}
 use Rattle.merkle_proof.specs.ProofRefusals.{IsRangeRefusal}
+use Rattle.merkle_proof.proofs.BuiltReads.{built_reads_all}
 use Rattle.merkle_proof.proofs.RefusedProofs.{is_memory}
 use Rattle.merkle_commands.specs.declared.command.Request.TheVariants.{Prove}
 use Rattle.merkle_lines.specs.Answers.{error_line, kept_node, IsRequestAnswered}
@@ -51,4 +52,4 @@ returns g c = λ given held.
     subst (λ a. IsRequestAnswered (scheme_of h c.args.self.now.hasher g.F.Family.rule g.F.Family.MAX_LEAVES g.F.Family.DOMAIN) g.H.Digest.Digest.SIZE g.H.Digest.Digest.Spells given (Prove a c.args.end c.args.inactive) given (string_bytes c.in-Ok-write_hex.value)) c.new.ensures
     (subst (λ b. IsRequestAnswered (scheme_of h c.args.self.now.hasher g.F.Family.rule g.F.Family.MAX_LEAVES g.F.Family.DOMAIN) g.H.Digest.Digest.SIZE g.H.Digest.Digest.Spells given (Prove c.new.result b c.args.inactive) given (string_bytes c.in-Ok-write_hex.value)) c.new-2.ensures
     (prove_told (scheme_of h c.args.self.now.hasher g.F.Family.rule g.F.Family.MAX_LEAVES g.F.Family.DOMAIN) g.H.Digest.Digest.SIZE g.H.Digest.Digest.Spells given (get old.committed.stored) here old.committed.leaves held.counted (omega (arith, held.counted, held.bounded)) c.new.result c.new-2.result c.args.inactive
-    p.leaves p.inactive_peaks p.digests.items _ honest.0 (omega (arith, honest.1, counted)) (parts.0 ∙ counted ∙ sym held.counted) parts.1 c.in-Ok.ensures.built.2.enough_peaks parts.2 text))
+    (λ q gap. built_reads_all s (get old.committed.stored) c.args.inactive _ p c.in-Ok.ensures.built.2 q gap) p.leaves p.inactive_peaks p.digests.items _ honest.0 (omega (arith, honest.1, counted)) (parts.0 ∙ counted ∙ sym held.counted) parts.1 c.in-Ok.ensures.built.2.enough_peaks parts.2 text))
