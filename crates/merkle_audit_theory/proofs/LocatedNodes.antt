@@ -19,12 +19,12 @@ use Rattle.merkle_audit_theory.specs.Located.{node_inputs, CollideIsLocated, Loc
 use Rattle.merkle_claim_theory.proofs.HonestClaims.{member_split}
 use Rattle.merkle_claim_theory.proofs.Multiproofs.{all_member, flat_member, member_flat}
 
-member_reverse : (ts : List Tree) (t : Tree) → Member ts t → Member (reverse ts) t
+pub member_reverse : (ts : List Tree) (t : Tree) → Member ts t → Member (reverse ts) t
 member_reverse [] t m = elim m [ ]
 member_reverse (u ∷ ts) t (inl e) = subst (λ l. Member l t) (sym (reverse-append (u ∷ []) ts)) (member_right (reverse ts) (u ∷ []) t (inl e))
 member_reverse (u ∷ ts) t (inr m) = subst (λ l. Member l t) (sym (reverse-append (u ∷ []) ts)) (member_left (reverse ts) (u ∷ []) t (member_reverse ts t m))
 
-above : (a : Tree) (ts : List Tree) → IsUnderOne a ts → (t : Tree) × Member ts t × IsUnder a t
+pub above : (a : Tree) (ts : List Tree) → IsUnderOne a ts → (t : Tree) × Member ts t × IsUnder a t
 above a [] u = elim u [ ]
 above a (t ∷ ts) (inl u) = (t, inl refl, u)
 above a (t ∷ ts) (inr u) = (let w = above a ts u in (w.0, inr w.1, w.2))
@@ -65,7 +65,7 @@ module _ {D : Type 0} (h : Hashing D) (xs : List D) where
   pair_is : (l r : Tree) → ◌≡◌ {A = Argument D} (Pair (tree_digest h (leaf_of h xs) l) (tree_digest h (leaf_of h xs) r)) (Pair (digest_at h xs l) (digest_at h xs r))
   pair_is l r = ap₂ (λ a b. Pair a b) (sym (digest_at_is h xs l)) (sym (digest_at_is h xs r))
 
-  list_node : (rule : List ℕ → List ℕ) (n : ℕ) → n ≡ length xs → (p : ℕ) (l r : Tree) → slice_get (forest rule n).nodes p ≡ Some (join p l r)
+  pub list_node : (rule : List ℕ → List ℕ) (n : ℕ) → n ≡ length xs → (p : ℕ) (l r : Tree) → slice_get (forest rule n).nodes p ≡ Some (join p l r)
       → Member (node_inputs h rule xs) (record { place = Node p; argument = Pair (digest_at h xs l) (digest_at h xs r) })
   list_node rule n long p l r at =
       subst (λ a. Member (node_inputs h rule xs) (record { place = Node p; argument = a })) (pair_is l r)

@@ -1,5 +1,15 @@
+pub mod AuditRows
+pub mod Clear
+pub mod Cuts
+pub mod Differences
 pub mod FewDigests
+pub mod Folds
 pub mod Located
+pub mod NodePairs
+pub mod Outcomes
 pub mod PlainHash
 pub mod Rows
+pub mod Searches
+pub mod Seen
 pub mod Siblings
+pub mod Tiers

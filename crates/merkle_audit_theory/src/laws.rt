@@ -1,29 +1,32 @@
 //! Laws of what is hashed for inputs and lists, and of where they collide.
 //!
 //! Each function is empty. Its contract is a law of the definitions in `specs/` and below.
-ghost use Rattle.std.specs.Prelude.{◌≡◌, ℕ, ◌+◌, ◌*◌, ◌^◌, [], ◌∷◌, true, false, nat_eq, Some, None, map};
-ghost use Rattle.merkle_base.specs.Tree.{position};
+ghost use Rattle.std.specs.Prelude.{◌≡◌, ℕ, ◌+◌, ◌*◌, ◌^◌, [], ◌∷◌, true, false, nat_eq, Some, None, map, ◌↔◌};
+ghost use Rattle.merkle_base.specs.Tree.{position, leaf, join};
 ghost use Rattle.merkle_base.specs.declared.family.Bagging.TheVariants.{ForwardFold, BackwardFold};
 ghost use Rattle.merkle_forest_theory.specs.Mmr.{mmr_merges};
 ghost use Rattle.merkle_forest_theory.specs.Mmb.{mmb_merges};
 ghost use Rattle.merkle_forest_theory.specs.Rows.{unmerged};
 ghost use Rattle.merkle_hasher.specs.Standard.{standard};
-ghost use Rattle.merkle_root_theory.specs.Check.{in_range};
+ghost use Rattle.merkle_root_theory.specs.Check.{in_range, range_inputs};
 ghost use Rattle.merkle_root_theory.specs.Collision.{Collides};
-ghost use Rattle.merkle_root_theory.specs.Expression.{Root, Join, PrefixFold, SuffixFold, Node, Pair, Bytes, inputs};
+ghost use Rattle.merkle_root_theory.specs.Expression.{Root, Join, PrefixFold, SuffixFold, Node, Pair, Bytes, inputs, supplied, computed};
+ghost use Rattle.merkle_root_theory.specs.Expression.{cross_checked};
 ghost use Rattle.merkle_audit_theory.specs.FewDigests.{FewPositions};
-ghost use Rattle.merkle_claim_theory.specs.FirstCollision.{first_collision};
+ghost use Rattle.merkle_claim_theory.specs.FirstCollision.{first_collision, is_collision};
 ghost use Rattle.merkle_audit_theory.specs.Located.{node_inputs, CollideIsLocated, LocatedIsCollide};
 ghost use Rattle.merkle_claim_theory.specs.Multiproof.{multi_positions, AcceptsMulti, IsHonestMulti};
 ghost use Rattle.merkle_root_theory.specs.Layouts.{count_before, count_after, count_inactive, laid_out};
 ghost use Rattle.merkle_root_theory.specs.Outside.{layout};
 ghost use Rattle.merkle_claim_theory.specs.Pinned.{AcceptsPinned};
-ghost use Rattle.merkle_audit_theory.specs.PlainHash.{IsPlain, joined_at, string_at, IsHashCollision, SameForm, StandardIsPlain, RootCollision, PlainCollision};
-ghost use Rattle.merkle_audit_theory.specs.PlainHash.{RangeCollision, MultiCollision, PinnedCollision, PairCollision, NodeCollision};
+ghost use Rattle.merkle_audit_theory.specs.PlainHash.{IsPlain, joined_at, string_at, IsHashCollision, SameForm, StandardIsPlain, RootCollision};
+ghost use Rattle.merkle_audit_theory.specs.PlainHash.{PlainCollision, RangeCollision, MultiCollision, PinnedCollision, PairCollision, NodeCollision};
 ghost use Rattle.merkle_root_theory.specs.Plan.{folding, plan_expression, siblings, root_plan};
-ghost use Rattle.merkle_root_theory.specs.Range.{AcceptsNonempty, IsHonestRange, IsHonestNonempty, overlapping, wholly_after, range_siblings, range_digests};
+ghost use Rattle.merkle_root_theory.specs.Range.{AcceptsNonempty, IsHonestRange, IsHonestNonempty, overlapping, wholly_after, range_siblings};
+ghost use Rattle.merkle_root_theory.specs.Range.{range_digests, list_inputs};
 ghost use Rattle.merkle_root_theory.specs.Reads.{reading_order};
-ghost use Rattle.merkle_base.specs.declared.error.ReconstructionError.TheVariants.{InvalidProof, MissingDigests, ExtraDigests, InvalidStartLoc, InvalidEndLoc, MissingElements, InvalidSize};
+ghost use Rattle.merkle_base.specs.declared.error.ReconstructionError.TheVariants.{InvalidProof, MissingDigests, ExtraDigests, InvalidStartLoc};
+ghost use Rattle.merkle_base.specs.declared.error.ReconstructionError.TheVariants.{InvalidEndLoc, MissingElements, InvalidSize};
 ghost use Rattle.merkle_root_theory.specs.Reconstruction.{reconstructed};
 ghost use Rattle.merkle_root_theory.specs.RootNames.{NamesRoot, AreApart, RootsCollide};
 ghost use Rattle.merkle_audit_theory.specs.Rows.{ends, four, seven, single, alone, paired, toy, middle, no_elements, swapped_inputs, three_inputs};
@@ -31,6 +34,15 @@ ghost use Rattle.merkle_audit_theory.specs.Rows.{other_family, other_inputs, bar
 ghost use Rattle.merkle_audit_theory.specs.Siblings.{PathHasSiblings};
 ghost use Rattle.merkle_claim_theory.specs.ThreeLeaves.{xor_hashing, three, plan_of_three};
 ghost use Rattle.merkle_claim_theory.specs.Verdict.{HonestMultiHasNoCollision, HonestPinnedHasNoCollision};
+ghost use Rattle.merkle_audit_theory.specs.AuditRows.{merged, listed, hashed_for};
+ghost use Rattle.merkle_audit_theory.specs.Clear.{HonestRangeIsClear, HonestMultiIsClear, HonestPinnedIsClear};
+ghost use Rattle.merkle_audit_theory.specs.Cuts.{IsCutOf, IsSublist, places_in, full_places, ClaimPlaces};
+ghost use Rattle.merkle_audit_theory.specs.Differences.{is_difference, first_difference, DifferencesCollide};
+ghost use Rattle.merkle_audit_theory.specs.Searches.{along, input_at, looked_up, SearchesFind};
+ghost use Rattle.merkle_audit_theory.specs.NodePairs.{NodesAreExtracted, MultiNodes};
+ghost use Rattle.merkle_audit_theory.specs.Folds.{fold_inputs, top_inputs, multi_digest, numbered_inputs, over_inputs, InputsByPeaks, RangeByPeaks};
+ghost use Rattle.merkle_audit_theory.specs.Outcomes.{rejected, clear, collision, outcome_of, IsOutcome, IsPairOutcome, AcceptedPairs, AuditsRanges};
+ghost use Rattle.merkle_audit_theory.specs.Outcomes.{AuditsMultis, AuditsPins, AuditsPairs, AuditsLists, ListsCollideAtNodes};
 
 /// Two lists of one length collide at a node exactly if the inputs of their forests collide at its
 /// place.
@@ -85,6 +97,65 @@ pub fn few_digests<D>()
 /// needs.
 pub fn paths()
     ensures { PathHasSiblings }
+{}
+
+/// What audits say, from what the checks say and what the search for the first collision finds.
+pub fn verdicts<D>()
+    // An honest input has no collision, the empty input of the empty list included.
+    ensures clear_range { HonestRangeIsClear D }
+    ensures clear_multi { HonestMultiIsClear D }
+    ensures clear_pinned { HonestPinnedIsClear D }
+
+    // An audit against a list says that the input is rejected, or honest, or what the first
+    // collision is, each exactly when it is so.
+    ensures ranges { AuditsRanges D }
+    ensures multis { AuditsMultis D }
+    ensures pins { AuditsPins D }
+
+    // An audit of two range inputs.
+    ensures pairs { AuditsPairs D }
+    ensures accepted_pairs { AcceptedPairs D }
+
+    // An audit of two lists.
+    ensures lists { AuditsLists D }
+    ensures at_nodes { ListsCollideAtNodes D }
+{}
+
+/// The places of claims are some of those of their leaf and inactive count, in their order.
+pub fn places<D>()
+    ensures { ClaimPlaces D }
+{}
+
+/// Of accepted inputs the first difference is the first collision.
+pub fn differences<D>()
+    ensures { DifferencesCollide D }
+{}
+
+/// Searches along the places, by two cursors or by what stands at each place, find the first
+/// collision and the first difference.
+pub fn searches<D>()
+    ensures { SearchesFind D }
+{}
+
+/// What checks hash at nodes, and at which nodes.
+pub fn nodes<D>()
+    // A range check hashes the digests that are extracted for their children, at the nodes that
+    // overlap the range.
+    ensures ranges { NodesAreExtracted D }
+
+    // A check of scattered leaves hashes its digests of their children, at the nodes over the
+    // leaves.
+    ensures multis { MultiNodes D }
+{}
+
+/// What is hashed for a list and for scattered leaves: the root's string and the folds, by the
+/// digests of the peaks, and then the nodes of each peak.
+pub fn by_peaks<D>()
+    ensures whole { InputsByPeaks D }
+
+    // The same of an accepted range input, by the digests that it has for the parts, of which the
+    // first may stand for several peaks.
+    ensures range { RangeByPeaks D }
 {}
 
 /// The definitions of layouts, checks, roots and collisions, computed on small cases.
@@ -244,4 +315,102 @@ pub fn worked_rows()
     // If nothing is merged, the digests for a leaf are those of all other leaves.
     ensures positions { multi_positions toy.rule 3 (1 ∷ []) ≡ 0 ∷ 2 ∷ [] }
     ensures too_many_positions { FewPositions ℕ unmerged 124 → ⊥ }
+{}
+
+/// Small cases: each leaf is a peak, or of three leaves the first two are merged at position 2; the
+/// hash is the exclusive or.
+pub fn worked_audits()
+    // An input whose two digests are swapped: it collides where the last peak is folded.
+    ensures said_collision { outcome_of true (first_collision toy.hashing swapped_inputs three_inputs)
+        ≡ collision (record { place = PrefixFold 2; claimed = Pair 4 1; listed = Pair 2 7 }) }
+    ensures said_clear { outcome_of true (first_collision toy.hashing three_inputs three_inputs) ≡ clear }
+    ensures said_rejected { outcome_of false (first_collision toy.hashing swapped_inputs three_inputs) ≡ rejected }
+
+    // It is wrong to name a place where both arguments are equal, or where the digests differ, and
+    // to say nothing where something collides.
+    ensures equal_arguments { IsOutcome Unit ⊥ toy.hashing three_inputs three_inputs (collision (record { place = PrefixFold 2; claimed = Pair 2 7;
+        listed = Pair 2 7 })) → ⊥ }
+    ensures other_digests { IsOutcome Unit ⊥ toy.hashing swapped_inputs three_inputs (collision (record { place = PrefixFold 1; claimed = Pair 7 3;
+        listed = Pair 1 3 })) → ⊥ }
+    ensures silent { IsPairOutcome Unit Unit toy.hashing swapped_inputs three_inputs clear → ⊥ }
+    ensures refused_yes { IsOutcome Unit ⊥ toy.hashing swapped_inputs three_inputs rejected → ⊥ }
+
+    // The empty input of the empty list.
+    ensures empty_clear { first_collision toy.hashing (range_inputs toy (no_elements 0 0 0 [])) (list_inputs toy [] 0) ≡ None }
+
+    // Proofs against the leaves 1, 3 and 7: a leaf count of one, wrong digests, and the right ones.
+    ensures at_root { first_collision merged.hashing (hashed_for 1 0 [] (5 ∷ [])) listed
+        ≡ Some (record { place = Root; claimed = Bytes (0 ∷ 0 ∷ 0 ∷ 0 ∷ 0 ∷ 0 ∷ 0 ∷ 0 ∷ 0 ∷ 1 ∷ 5 ∷ []);
+        listed = Bytes (0 ∷ 0 ∷ 0 ∷ 0 ∷ 0 ∷ 0 ∷ 0 ∷ 0 ∷ 0 ∷ 3 ∷ 7 ∷ []) }) }
+    ensures at_fold { first_collision merged.hashing (hashed_for 3 0 (3 ∷ 7 ∷ []) (1 ∷ [])) listed
+        ≡ Some (record { place = PrefixFold 1; claimed = Pair 4 3; listed = Pair 0 7 }) }
+    ensures at_node { first_collision merged.hashing (hashed_for 3 0 (7 ∷ 0 ∷ []) (2 ∷ [])) listed
+        ≡ Some (record { place = Node 2; claimed = Pair 2 0; listed = Pair 1 3 }) }
+    ensures nowhere { first_collision merged.hashing (hashed_for 3 0 (7 ∷ 3 ∷ []) (1 ∷ [])) listed ≡ None }
+
+    // Two proofs against one root.
+    ensures pair_at_node { first_collision merged.hashing (hashed_for 3 0 (7 ∷ 3 ∷ []) (1 ∷ [])) (hashed_for 3 0 (7 ∷ 0 ∷ []) (2 ∷ []))
+        ≡ Some (record { place = Node 2; claimed = Pair 1 3; listed = Pair 2 0 }) }
+    ensures pair_at_fold { first_collision merged.hashing (hashed_for 3 0 (3 ∷ 7 ∷ []) (1 ∷ [])) (hashed_for 3 2 (0 ∷ []) (7 ∷ []))
+        ≡ Some (record { place = PrefixFold 1; claimed = Pair 4 3; listed = Pair 0 7 }) }
+    ensures pair_clear { first_collision merged.hashing (hashed_for 3 0 (7 ∷ 3 ∷ []) (1 ∷ [])) (hashed_for 3 2 (0 ∷ []) (7 ∷ [])) ≡ None }
+
+    // Two lists with one peak digest.
+    ensures lists_at_node { first_collision xor_hashing (node_inputs xor_hashing paired (2 ∷ 0 ∷ [])) (node_inputs xor_hashing paired (1 ∷ 3 ∷ []))
+        ≡ Some (record { place = Node 2; claimed = Pair 2 0; listed = Pair 1 3 }) }
+    ensures lists_clear { first_collision xor_hashing (node_inputs xor_hashing paired (1 ∷ 3 ∷ [])) (node_inputs xor_hashing paired (1 ∷ 3 ∷ [])) ≡ None }
+
+    // All places of three leaves, and those of proofs of the first and the last of them.
+    ensures all_places { full_places merged 3 0 ≡ Root ∷ PrefixFold 1 ∷ Node 2 ∷ [] }
+    ensures places_alone { full_places toy 3 0 ≡ Root ∷ PrefixFold 2 ∷ PrefixFold 1 ∷ [] }
+    ensures no_places { full_places toy 0 0 ≡ Root ∷ [] }
+    ensures first_places { places_in (hashed_for 3 0 (7 ∷ 3 ∷ []) (1 ∷ [])) ≡ Root ∷ PrefixFold 1 ∷ Node 2 ∷ [] }
+    ensures last_places { places_in (hashed_for 3 2 (0 ∷ []) (7 ∷ [])) ≡ Root ∷ PrefixFold 1 ∷ [] }
+    ensures in_order { IsSublist (Root ∷ Node 2 ∷ []) (Root ∷ PrefixFold 1 ∷ Node 2 ∷ []) }
+    ensures out_of_order { IsSublist (Node 2 ∷ Root ∷ []) (Root ∷ PrefixFold 1 ∷ Node 2 ∷ []) → ⊥ }
+
+    // The folds of four peaks with the digests 1, 3, 7 and 8, none or two of them inactive.
+    ensures folds_forward { fold_inputs xor_hashing ForwardFold 0 (1 ∷ 3 ∷ 7 ∷ 8 ∷ [])
+        ≡ record { place = PrefixFold 3; argument = Pair 5 8 } ∷ record { place = PrefixFold 2; argument = Pair 2 7 }
+        ∷ record { place = PrefixFold 1; argument = Pair 1 3 } ∷ [] }
+    ensures folds_backward { fold_inputs xor_hashing BackwardFold 0 (1 ∷ 3 ∷ 7 ∷ 8 ∷ [])
+        ≡ record { place = Join; argument = Pair 1 12 } ∷ record { place = SuffixFold 1; argument = Pair 3 15 }
+        ∷ record { place = SuffixFold 2; argument = Pair 7 8 } ∷ [] }
+    ensures folds_inactive { fold_inputs xor_hashing BackwardFold 2 (1 ∷ 3 ∷ 7 ∷ 8 ∷ [])
+        ≡ record { place = Join; argument = Pair 2 15 } ∷ record { place = PrefixFold 1; argument = Pair 1 3 }
+        ∷ record { place = SuffixFold 2; argument = Pair 7 8 } ∷ [] }
+    ensures folds_numbered { numbered_inputs xor_hashing BackwardFold 4 2 3 (1 ∷ 3 ∷ 7 ∷ 8 ∷ [])
+        ≡ record { place = Join; argument = Pair 2 15 } ∷ record { place = PrefixFold 3; argument = Pair 1 3 }
+        ∷ record { place = SuffixFold 4; argument = Pair 7 8 } ∷ [] }
+    ensures nodes_over { over_inputs xor_hashing (in_range 0 1) (λ i. 2) (join 2 (leaf 0 0) (leaf 1 1) ∷ leaf 3 2 ∷ []) (0 ∷ 7 ∷ [])
+        ≡ record { place = Node 2; argument = Pair 2 0 } ∷ [] }
+    ensures folds_one { fold_inputs xor_hashing BackwardFold 0 (1 ∷ []) ≡ [] }
+    ensures top_of_none { top_inputs toy 0 0 [] ≡ record { place = Root; argument = Bytes (0 ∷ 0 ∷ 0 ∷ 0 ∷ 0 ∷ 0 ∷ 0 ∷ 0 ∷ 0 ∷ 0 ∷ []) } ∷ [] }
+    ensures peak_digest { multi_digest toy (ends (1 ∷ 3 ∷ 7 ∷ [])) (leaf 1 1) ≡ 3 }
+
+    // What is hashed may be supplied instead, and may be told too; what is supplied is not hashed.
+    ensures cut { IsCutOf {D = ℕ} (computed Join (supplied 1) (cross_checked 5 (supplied 2)))
+        (computed Join (computed (Node 2) (supplied 3) (supplied 4)) (supplied 0)) }
+    ensures no_cut { IsCutOf {D = ℕ} (computed Join (supplied 1) (supplied 2)) (supplied 3) → ⊥ }
+    ensures no_cut_elsewhere { IsCutOf {D = ℕ} (computed Join (supplied 1) (supplied 2)) (computed Root (supplied 1) (supplied 2)) → ⊥ }
+
+    // A difference need not have one digest.
+    ensures difference { first_difference toy.hashing swapped_inputs three_inputs
+        ≡ Some (record { place = PrefixFold 2; claimed = Pair 4 1; listed = Pair 2 7 }) }
+    ensures difference_alone { first_difference toy.hashing (record { place = PrefixFold 1; argument = Pair 4 1 } ∷ [])
+        (record { place = PrefixFold 1; argument = Pair 4 2 } ∷ [])
+        ≡ Some (record { place = PrefixFold 1; claimed = Pair 4 1; listed = Pair 4 2 }) }
+    ensures no_difference { first_difference toy.hashing three_inputs three_inputs ≡ None }
+
+    // With a cursor in each list.
+    ensures cursors { along (is_collision toy.hashing) (full_places toy 3 0) swapped_inputs three_inputs
+        ≡ Some (record { place = PrefixFold 2; claimed = Pair 4 1; listed = Pair 2 7 }) }
+    ensures cursors_skip { along (is_difference toy.hashing) (Root ∷ PrefixFold 1 ∷ Node 2 ∷ [])
+        (record { place = Node 2; argument = Pair 4 1 } ∷ []) (record { place = PrefixFold 1; argument = Pair 4 0 }
+        ∷ record { place = Node 2; argument = Pair 4 2 } ∷ [])
+        ≡ Some (record { place = Node 2; claimed = Pair 4 1; listed = Pair 4 2 }) }
+    ensures looked { looked_up (is_difference toy.hashing) (Root ∷ PrefixFold 1 ∷ Node 2 ∷ [])
+        (input_at (record { place = Node 2; argument = Pair 4 1 } ∷ [])) (input_at (record { place = PrefixFold 1; argument = Pair 4 0 }
+        ∷ record { place = Node 2; argument = Pair 4 2 } ∷ []))
+        ≡ Some (record { place = Node 2; claimed = Pair 4 1; listed = Pair 4 2 }) }
 {}

@@ -8,7 +8,7 @@ use Rattle.merkle_base.specs.Hashing.{Hashing, EqDecides}
 use Rattle.merkle_root_theory.specs.Collision.{Member, Collision, Collides}
 use Rattle.merkle_claim_theory.specs.FirstCollision.{same_place, same_argument, is_collision, or_else, first_for, first_collision, IsFirstCollision, FindsFirst}
 
-Decides-place : (p q : Place) → Decides (same_place p q) (p ≡ q)
+pub Decides-place : (p q : Place) → Decides (same_place p q) (p ≡ q)
 Decides-place Root Root = (λ _. refl, λ _. refl)
 Decides-place Join Join = (λ _. refl, λ _. refl)
 Decides-place (PrefixFold i) (PrefixFold j) = let d : Decides (i == j) (i ≡ j) = Decides-eqb i j in (λ e. ap PrefixFold (d.0 e), λ e. d.1 cc)
@@ -17,7 +17,7 @@ Decides-place (Node i) (Node j) = let d : Decides (i == j) (i ≡ j) = Decides-e
 Decides-place _ _ = (λ e. cc, λ e. cc)
 
 module _ {D : Type 0} (h : Hashing D) (laws : EqDecides h) where
-  Decides-argument : (a b : Argument D) → Decides (same_argument h a b) (a ≡ b)
+  pub Decides-argument : (a b : Argument D) → Decides (same_argument h a b) (a ≡ b)
   Decides-argument (Pair a b) (Pair c d) = let e : Decides (h.same a c && h.same b d) ((a ≡ c) × (b ≡ d)) = Decides-and _ _ (laws a c) (laws b d) in (λ t. ap₂ Pair (e.0 t).0 (e.0 t).1, λ p. e.1 (cc, cc))
   Decides-argument (Bytes a) (Bytes b) = let e : Decides (bytes_eq a b) (a ≡ b) = bytes_eq-Decides a b in (λ t. ap Bytes (e.0 t), λ p. e.1 cc)
   Decides-argument (Pair a b) (Bytes c) = (λ e. cc, λ e. cc)

@@ -27,7 +27,7 @@ member_split [] ys x m = inr m
 member_split (y ∷ xs) ys x (inl e) = inl (inl e)
 member_split (y ∷ xs) ys x (inr m) = ⊎_elim (λ w. inl (inr w)) inr (member_split xs ys x m)
 
-only_nodes : {D : Type 0} (h : Hashing D) (X : ℕ → D) (t : Tree) (i : Input D) → Member (visited h (node_expression X t)) i → is_node i.place ≡ true
+pub only_nodes : {D : Type 0} (h : Hashing D) (X : ℕ → D) (t : Tree) (i : Input D) → Member (visited h (node_expression X t)) i → is_node i.place ≡ true
 only_nodes h X (leaf p j) i m = elim m [ ]
 only_nodes h X (join p l r) i (inl e) = subst (λ (z : Input _). is_node z.place ≡ true) e refl
 only_nodes h X (join p l r) i (inr m) = ⊎_elim (λ w. only_nodes h X l i w) (λ w. only_nodes h X r i w) (member_split (visited h (node_expression X l)) _ i m)

@@ -49,7 +49,7 @@ module _ {D : Type 0} (s : Scheme D) (xs : List D) (k : ℕ) where
         let elements : r.elements ≡ map (λ i. (i, f i)) (locations_in r) = pairs_are f r.elements w.elements in
         (w.ascend, w.below, inl w.nonempty, λ i. record { leaves = w.leaves i; inactive = w.inactive i; digests = w.digests i; elements = elements i })
 
-    some_of_multi : 0 < length r.elements → IsHonestMulti s xs k r → IsHonestMultiSome s xs k r
+    pub some_of_multi : 0 < length r.elements → IsHonestMulti s xs k r → IsHonestMultiSome s xs k r
     some_of_multi some h = record {
       nonempty = some;
       ascend = h.0;

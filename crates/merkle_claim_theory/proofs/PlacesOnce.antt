@@ -81,7 +81,7 @@ distinct_joined a i n = (
   distinct_append (down a) (up i n) (distinct_down a) (distinct_up i n) (λ p m w. folded≢suffixed (sym (in_down a p m).0 ∙ (in_up i n p w).0)),
 )
 
-distinct_folds : (bagging : Bagging) (k m : ℕ) → Distinct (fold_places bagging k m)
+pub distinct_folds : (bagging : Bagging) (k m : ℕ) → Distinct (fold_places bagging k m)
 distinct_folds ForwardFold k m = distinct_down (pred m)
 distinct_folds BackwardFold k m = at_test (nat_lt (suc (pred k)) m)
   where

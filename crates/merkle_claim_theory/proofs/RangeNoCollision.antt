@@ -48,16 +48,19 @@ folds_no_root BackwardFold k m p w = at_test (nat_lt (suc (pred k)) m) w
     at_test true (inr w) = ⊎_elim (λ v. down_no_root (pred k) p v) (λ v. up_no_root (suc (pred k)) (pred (m - suc (pred k))) p v) (member_split (down (pred k)) _ p w)
     at_test false w = down_no_root (pred m) p w
 
+pub root_no_fold : (bagging : Bagging) (k m : ℕ) → Member (fold_places bagging k m) Root → ⊥
+unfolding is_root
+root_no_fold bagging k m w = let e : true ≡ false = folds_no_root bagging k m Root w in cc
+
 pub root_no_node : (ts : List Tree) → Member (flat_map node_places ts) Root → ⊥
 root_no_node ts m = let e : false ≡ true = all_nodes_in ts Root m in cc
 
 pub no_root : {D : Type 0} (h : Hashing D) (X : ℕ → D) (bagging : Bagging) (k : ℕ) (ts : List Tree) (a : Argument D) → Member (inputs_of h (option_map (plan_expression X) (root_plan bagging k ts))) (record { place = Root; argument = a }) → ⊥
-unfolding is_root
 no_root h X ForwardFold k [] a m = m
 no_root h X BackwardFold k [] a m = m
 no_root h X bagging k (t ∷ ts) a m =
     let w = subst (λ z. Member z Root) (places_in_order h X bagging k t ts) (member_map (λ (i : Input _). i.place) _ _ m) in
-    ⊎_elim (λ v. let e : true ≡ false = folds_no_root bagging k (suc (length ts)) Root v in cc) (λ v. root_no_node (t ∷ ts) v) (member_split (fold_places bagging k (suc (length ts))) _ Root w)
+    ⊎_elim (root_no_fold bagging k (suc (length ts))) (λ v. root_no_node (t ∷ ts) v) (member_split (fold_places bagging k (suc (length ts))) _ Root w)
 
 pub once_in : {D : Type 0} (h : Hashing D) (X : ℕ → D) (bagging : Bagging) (k : ℕ) (ts : List Tree) → Distinct (flat_map node_places ts) → IsMap (inputs_of h (option_map (plan_expression X) (root_plan bagging k ts)))
 once_in h X ForwardFold k [] d x y m n e = elim m [ ]

@@ -1,13 +1,13 @@
 -- What a root that a check of single leaves or a check with pins accepts is a hash of, and what it is if it is also one of another setting.
 use Rattle.std.specs.Prelude.{◌≡◌, ℕ, List}
-use Rattle.merkle_root_theory.specs.Check.{RangeInput, all_inputs}
+use Rattle.merkle_root_theory.specs.Check.{RangeInput}
 use Rattle.merkle_base.specs.Root.{list_root}
 use Rattle.merkle_base.specs.Scheme.{Scheme}
-use Rattle.merkle_root_theory.specs.Expression.{Input}
 use Rattle.merkle_root_theory.specs.Range.{list_inputs}
 use Rattle.merkle_root_theory.specs.RootNames.{NamesRoot, AreApart, RootsCollide}
-use Rattle.merkle_claim_theory.specs.Multiproof.{MultiInput, AcceptsMulti, AcceptsMultiCases, multi_expression}
-use Rattle.merkle_claim_theory.specs.Pinned.{AcceptsPinned, AcceptsPinnedCases, pinned_expression}
+use Rattle.merkle_claim_theory.specs.Multiproof.{MultiInput, AcceptsMulti, AcceptsMultiCases}
+use Rattle.merkle_claim_theory.specs.Pinned.{AcceptsPinned, AcceptsPinnedCases}
+use Rattle.merkle_claim_theory.specs.Verdict.{multi_inputs, pinned_inputs}
 
 -- what a check of single leaves accepts is the hash of a string with its family, bagging and leaf count
 abbrev pub MultiNamesRoot : Type 0 → Type 0
@@ -16,14 +16,6 @@ MultiNamesRoot D = (s : Scheme D) (r : MultiInput D) (root : D) → AcceptsMulti
 -- so is what a check with pins accepts
 abbrev pub PinnedNamesRoot : Type 0 → Type 0
 PinnedNamesRoot D = (s : Scheme D) (r : RangeInput D) (pins : List D) (root : D) → AcceptsPinnedCases s r pins root → NamesRoot s r.leaves root
-
--- what a check of single leaves hashes
-abbrev pub multi_inputs : {D : Type 0} → Scheme D → MultiInput D → List (Input D)
-multi_inputs s r = all_inputs s r.leaves r.inactive (multi_expression s r)
-
--- what a check with pins hashes
-abbrev pub pinned_inputs : {D : Type 0} → Scheme D → RangeInput D → List D → List (Input D)
-pinned_inputs s r pins = all_inputs s r.leaves r.inactive (pinned_expression s r pins)
 
 -- a root accepted with single leaves that is also the root of a list under a setting that is apart: the two collide
 abbrev pub MultiOtherListCollides : Type 0 → Type 0

@@ -26,11 +26,11 @@ parts_before bagging k before = fold_all (folded_prefix bagging k before) ++ map
 abbrev pub parts_after : Bagging → ℕ → ℕ → List Tree → List Plan
 parts_after bagging k met after = map peak (single_after bagging k met after) ++ bag_all (met + (k - met)) (folded_suffix bagging k met after)
 
-parts_before_cons : (k : ℕ) (b : Tree) (bs : List Tree) → parts_before BackwardFold k (b ∷ bs) ≡ left_fold_plan (peak b) 1 (take (pred k) bs) ∷ map peak (drop (pred k) bs)
+pub parts_before_cons : (k : ℕ) (b : Tree) (bs : List Tree) → parts_before BackwardFold k (b ∷ bs) ≡ left_fold_plan (peak b) 1 (take (pred k) bs) ∷ map peak (drop (pred k) bs)
 parts_before_cons zero b bs = refl
 parts_before_cons (suc n) b bs = refl
 
-parts_before_nil : (k : ℕ) → parts_before BackwardFold k [] ≡ []
+pub parts_before_nil : (k : ℕ) → parts_before BackwardFold k [] ≡ []
 parts_before_nil zero = refl
 parts_before_nil (suc n) = refl
 

@@ -32,21 +32,21 @@ module _ (c : ℕ → Bool) where
   unmet_right_fold i [] u = tt
   unmet_right_fold i (t ∷ ts) u = (right_fold_unmet c i t ts u, tt)
 
-  unmet_parts_before : (bagging : Bagging) (k : ℕ) (before : List Tree) → Unmet c before → UnmetParts c (parts_before bagging k before)
+  pub unmet_parts_before : (bagging : Bagging) (k : ℕ) (before : List Tree) → Unmet c before → UnmetParts c (parts_before bagging k before)
   unmet_parts_before ForwardFold k before u = unmet_append c (fold_all before) [] (unmet_fold before u) tt
   unmet_parts_before BackwardFold k before u =
       unmet_append c (fold_all (take k before)) (map peak (drop k before)) (unmet_fold (take k before) (unmet_take c k before u)) (unmet_peaks c (drop k before) (unmet_drop c k before u))
 
-  unmet_parts_after : (bagging : Bagging) (k met : ℕ) (after : List Tree) → Unmet c after → UnmetParts c (parts_after bagging k met after)
+  pub unmet_parts_after : (bagging : Bagging) (k met : ℕ) (after : List Tree) → Unmet c after → UnmetParts c (parts_after bagging k met after)
   unmet_parts_after ForwardFold k met after u = unmet_append c (map peak after) [] (unmet_peaks c after u) tt
   unmet_parts_after BackwardFold k met after u =
       let n = k - met in
       unmet_append c (map peak (take n after)) (bag_all (met + n) (drop n after)) (unmet_peaks c (take n after) (unmet_take c n after u)) (unmet_right_fold (met + n) (drop n after) (unmet_drop c n after u))
 
-length-parts_before : (bagging : Bagging) (k : ℕ) (before : List Tree) → length (parts_before bagging k before) ≡ count_before bagging k before
+pub length-parts_before : (bagging : Bagging) (k : ℕ) (before : List Tree) → length (parts_before bagging k before) ≡ count_before bagging k before
 length-parts_before bagging k before = omega (arith, length-append (fold_all (folded_prefix bagging k before)) (map peak (single_before bagging k before)), length-map (single_before bagging k before) peak)
 
-length-parts_after : (bagging : Bagging) (k met : ℕ) (after : List Tree) → length (parts_after bagging k met after) ≡ count_after bagging k met after
+pub length-parts_after : (bagging : Bagging) (k met : ℕ) (after : List Tree) → length (parts_after bagging k met after) ≡ count_after bagging k met after
 length-parts_after bagging k met after = omega (arith, length-append (map peak (single_after bagging k met after)) (bag_all (met + (k - met)) (folded_suffix bagging k met after)), length-map (single_after bagging k met after) peak)
 
 module _ {D : Type 0} (h : Hashing D) (c : ℕ → Bool) (X : ℕ → D) (bagging : Bagging) (k : ℕ) (ds : List D) where
