@@ -40,7 +40,7 @@ EARLY_WORDS = {
     "read_history": (2, "0"),
     "slice_history": (3, "0"),
     "check check_leaf check_pinned reconstruct extract store": (4, MOST),
-    "plan plan+build plan_leaf plan_leaf+build positions positions_leaf multi_positions check_multi read_proof read_hex": (1, "0"),
+    "plan plan+build plan_leaf plan_leaf+build positions positions_leaf groups multi_positions check_multi read_proof read_hex": (1, "0"),
     "node_digests": (2, "-"),
 }
 EARLY = {name: early for names, early in EARLY_WORDS.items() for name in names.split()}

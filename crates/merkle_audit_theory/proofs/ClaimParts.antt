@@ -59,9 +59,9 @@ between g [] [] zs = refl
 between g [] (y ∷ ys) zs = ap (λ l. g y ∷ l) (between g [] ys zs)
 between g (x ∷ xs) ys zs = between g xs ys zs
 
-at_positions : {F D : Type 0} (f : ℕ → D) (ts : List Tree) → map (λ (q : Subtree F). f q.position) (map subtree_of ts) ≡ map (λ t. f (position t)) ts
-at_positions f [] = refl
-at_positions {F = F} f (t ∷ ts) = ap (λ l. f (position t) ∷ l) (at_positions {F = F} f ts)
+at_positions : (F : Type 0) {D : Type 0} (f : ℕ → D) (ts : List Tree) → map (λ (q : Subtree F). f q.position) (map subtree_of ts) ≡ map (λ t. f (position t)) ts
+at_positions F f [] = refl
+at_positions F f (t ∷ ts) = ap (λ l. f (position t) ∷ l) (at_positions F f ts)
 
 module _ {D : Type 0} (s : Scheme D) (r : RangeInput D) (some : 0 < length r.elements) where
   abbrev ts : List Tree
@@ -116,7 +116,7 @@ module _ {D : Type 0} (s : Scheme D) (r : RangeInput D) (some : 0 < length r.ele
       let these : take count (drop (folded + alone) subs) ≡ map subtree_of over =
       ap₂ (λ m n. take m (drop n subs)) e3 whole ∙ ap (λ l. take (length over) (drop (length before) l)) (e6 ∙ ap (map subtree_of) split) ∙ between subtree_of before over after in
       let middle : map (λ (q : Subtree F). f q.position) (take count (drop (folded + alone) subs)) ≡ peak_values s.hashing (chosen r) (leaf_given s.hashing r) over (drop (i + j) r.digests) =
-      ap (map (λ (q : Subtree F). f q.position)) these ∙ at_positions f over ∙ over_told f is in
+      ap (map (λ (q : Subtree F). f q.position)) these ∙ at_positions F f over ∙ over_told f is in
       ap₂ (λ l m. l ++ m) (ap (λ m. take m r.digests) front) (ap₂ (λ l m. l ++ m) middle (ap₂ (λ m n. take m (drop n r.digests)) back front))
     where
       prefix_within : (bagging : Bagging) (k : ℕ) (us : List Tree) → length (folded_prefix bagging k us) ≤ length us

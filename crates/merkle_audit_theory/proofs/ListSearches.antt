@@ -2,7 +2,7 @@
 use Rattle.std.proofs.Common.{◌≡◌, ℕ, Bool, true, false, not, cond, ◌&&◌, ◌==◌, List, [], ◌∷◌, ◌++◌, map, filter, flat_map, length, refl, ap, ap₂, sym, ◌∙◌, subst, Option, Some, None}
 use Rattle.std.specs.List.{AllByRecursion}
 use Rattle.std.proofs.lemmas.Bool.Decides.{Decides-eqb}
-use Rattle.merkle_base.specs.Hashing.{EqDecides}
+use Rattle.merkle_base.specs.Hashing.{Hashing, EqDecides}
 use Rattle.merkle_base.specs.Digests.{digest_at, peak_digests}
 use Rattle.merkle_base.specs.Forest.{forest}
 use Rattle.merkle_base.specs.Places.{peaks_of}
@@ -11,7 +11,7 @@ use Rattle.merkle_base.specs.Scheme.{Scheme}
 use Rattle.merkle_base.specs.Tree.{Tree, leaf, join, IsBuilt}
 use Rattle.merkle_base.proofs.Lists.{cons_head, cons_tail}
 use Rattle.merkle_base.proofs.PeakLists.{peaks_built}
-use Rattle.merkle_root_theory.specs.Expression.{Place, Root, Node, Argument, Pair, Bytes, Input, is_node}
+use Rattle.merkle_root_theory.specs.Expression.{Place, Root, Node, Pair, Bytes, Input, is_node}
 use Rattle.merkle_root_theory.specs.Collision.{Member, Collision}
 use Rattle.merkle_root_theory.specs.Range.{list_inputs}
 use Rattle.merkle_root_theory.proofs.Collisions.{member_right}
@@ -33,7 +33,7 @@ use Rattle.merkle_audit_theory.proofs.SublistFacts.{sub_all, sub_distinct}
 use Rattle.merkle_audit_theory.proofs.TieredInputs.{filtered, full_nodes, nodes_among, looked_same, all_same, at_nodes, node_tier, fold_tier}
 
 same_pairs : {D : Type 0} (a b c d : D) → Pair a b ≡ Pair c d → (a ≡ c) × (b ≡ d)
-same_pairs a b c d e = cc
+same_pairs a b c d e = (cc, cc)
 
 pub looked_parts : {D : Type 0} (t : Input D → Input D → Bool) (f g : Place → Option (Input D)) (ps qs : List Place)
     → looked_up t (ps ++ qs) f g ≡ or_else (looked_up t ps f g) (looked_up t qs f g)
@@ -41,6 +41,35 @@ looked_parts t f g [] qs = refl
 looked_parts t f g (p ∷ ps) qs =
     ap (λ o. or_else (found_of t (f p) (g p)) o) (looked_parts t f g ps qs)
     ∙ sym (or_assoc (found_of t (f p) (g p)) (looked_up t ps f g) (looked_up t qs f g))
+
+-- two pairs of digests that are hashed to one at a node
+module _ {D : Type 0} (h : Hashing D) (laws : EqDecides h) (p : ℕ) (a b c d : D) (o o' : Option (Collision D)) where
+  abbrev x : Input D
+  x = record { place = Node p; argument = Pair a b }
+
+  abbrev y : Input D
+  y = record { place = Node p; argument = Pair c d }
+
+  abbrev hit : Bool → Option (Collision D) → Option (Collision D)
+  hit v z = or_else (cond v (Some (record { place = Node p; claimed = Pair a b; listed = Pair c d })) None) z
+
+  abbrev one : Bool
+  one = h.same (h.node p a b) (h.node p c d)
+
+  one_place : (p == p) ≡ true
+  one_place = (Decides-eqb p p).1 refl
+
+  at_test : (v : Bool) → same_argument h (Pair a b) (Pair c d) ≡ v → one ≡ true → (a ≡ c → b ≡ d → o ≡ o')
+      → hit ((p == p) && not (same_argument h (Pair a b) (Pair c d))) o ≡ hit ((p == p) && not (same_argument h (Pair a b) (Pair c d)) && one) o'
+  at_test true q w below =
+      let same = same_pairs _ _ _ _ ((Decides-argument h laws (Pair a b) (Pair c d)).0 q) in
+      ap₂ (λ u v. hit (u && not v) o) one_place q ∙ below same.0 same.1 ∙ sym (ap₂ (λ u v. hit (u && not v && one) o') one_place q)
+  at_test false q w below =
+      ap₂ (λ u v. hit (u && not v) o) one_place q ∙ sym (ap₂ (λ u v. hit (u && not v && one) o') one_place q ∙ ap (λ v. hit v o') w)
+
+  one_hash : h.node p a b ≡ h.node p c d → (a ≡ c → b ≡ d → o ≡ o')
+      → or_else (found_of (is_difference h) (Some x) (Some y)) o ≡ or_else (found_of (is_collision h) (Some x) (Some y)) o'
+  one_hash e below = at_test (same_argument h (Pair a b) (Pair c d)) refl ((laws (h.node p a b) (h.node p c d)).1 e) below
 
 module _ {D : Type 0} (s : Scheme D) (laws : EqDecides s.hashing) (n : ℕ) where
   abbrev ns : List Tree
@@ -60,7 +89,7 @@ module _ {D : Type 0} (s : Scheme D) (laws : EqDecides s.hashing) (n : ℕ) wher
         let x : Input D = record { place = Node p; argument = Pair (digest_at s.hashing X l) (digest_at s.hashing X r) } in
         at_member (list_inputs s X 0) (subst Distinct (sym (claim_places.listed s X 0)) (claim_places.once s (length X) 0)) x
         (subst (λ xs. Member xs x) (sym (inputs_by_peaks.list s X 0))
-        (member_right (top_inputs s (length X) 0 (peak_digests s.hashing s.rule X)) (node_inputs s.hashing s.rule X) _ (list_node s.hashing X s.rule n long p l r b.0)))
+        (member_right (top_inputs s (length X) 0 (peak_digests s.hashing s.rule X)) (node_inputs s.hashing s.rule X) _ (list_node s.hashing X s.rule n (sym long) p l r b.0)))
 
     abbrev head : Input D
     head = record { place = Root; argument = Bytes (root_string s.hashing s.domain s.bagging (length X) 0 (folded s.hashing.fold s.bagging 0 (peak_digests s.hashing s.rule X))) }
@@ -99,44 +128,12 @@ module _ {D : Type 0} (s : Scheme D) (laws : EqDecides s.hashing) (n : ℕ) wher
     under : (t : Tree) → IsBuilt ns t → digest_at s.hashing X t ≡ digest_at s.hashing Z t → differs (node_places t) ≡ collides (node_places t)
     under (leaf p i) b e = refl
     under (join p l r) b e =
-        ap₂ (λ u v. or_else (found_of (is_difference s.hashing) u v) (differs (node_places l ++ node_places r))) (there X long p l r b) (there Z long' p l r b)
-        ∙ at_test (same_argument s.hashing a c) refl (λ x y.
+        let below = node_places l ++ node_places r in
+        ap₂ (λ u v. or_else (found_of (is_difference s.hashing) u v) (differs below)) (there X long p l r b) (there Z long' p l r b)
+        ∙ one_hash s.hashing laws p (digest_at s.hashing X l) (digest_at s.hashing X r) (digest_at s.hashing Z l) (digest_at s.hashing Z r) (differs below) (collides below) e (λ x y.
         looked_parts (is_difference s.hashing) f g (node_places l) (node_places r) ∙ ap₂ or_else (under l b.4 x) (under r b.5 y)
         ∙ sym (looked_parts (is_collision s.hashing) f g (node_places l) (node_places r)))
-        ∙ sym (ap₂ (λ u v. or_else (found_of (is_collision s.hashing) u v) (collides (node_places l ++ node_places r))) (there X long p l r b) (there Z long' p l r b))
-      where
-        abbrev a : Argument D
-        a = Pair (digest_at s.hashing X l) (digest_at s.hashing X r)
-
-        abbrev c : Argument D
-        c = Pair (digest_at s.hashing Z l) (digest_at s.hashing Z r)
-
-        abbrev one : Bool
-        one = s.hashing.same (digest_at s.hashing X (join p l r)) (digest_at s.hashing Z (join p l r))
-
-        abbrev hit : Bool → Option (Collision D) → Option (Collision D)
-        hit v o = or_else (cond v (Some (record { place = Node p; claimed = a; listed = c })) None) o
-
-        abbrev D' : Option (Collision D)
-        D' = differs (node_places l ++ node_places r)
-
-        abbrev C' : Option (Collision D)
-        C' = collides (node_places l ++ node_places r)
-
-        one_place : (p == p) ≡ true
-        one_place = (Decides-eqb p p).1 refl
-
-        one_digest : s.hashing.same (digest_at s.hashing X (join p l r)) (digest_at s.hashing Z (join p l r)) ≡ true
-        one_digest = (laws (digest_at s.hashing X (join p l r)) (digest_at s.hashing Z (join p l r))).1 e
-
-        at_test : (v : Bool) → same_argument s.hashing a c ≡ v
-            → (digest_at s.hashing X l ≡ digest_at s.hashing Z l → digest_at s.hashing X r ≡ digest_at s.hashing Z r → D' ≡ C')
-            → hit ((p == p) && not (same_argument s.hashing a c)) D' ≡ hit ((p == p) && not (same_argument s.hashing a c) && one) C'
-        at_test true q below =
-            let w = same_pairs _ _ _ _ ((Decides-argument s.hashing laws a c).0 q) in
-            ap₂ (λ u v. hit (u && not v) D') one_place q ∙ below w.0 w.1 ∙ sym (ap₂ (λ u v. hit (u && not v && one) C') one_place q)
-        at_test false q below =
-            ap₂ (λ u v. hit (u && not v) D') one_place q ∙ sym (ap₂ (λ u v. hit (u && not v && one) C') one_place q ∙ ap (λ w. hit w C') one_digest)
+        ∙ sym (ap₂ (λ u v. or_else (found_of (is_collision s.hashing) u v) (collides below)) (there X long p l r b) (there Z long' p l r b))
 
     under_all : (ts : List Tree) → AllByRecursion (IsBuilt ns) ts → map (digest_at s.hashing X) ts ≡ map (digest_at s.hashing Z) ts → differs (flat_map node_places ts) ≡ collides (flat_map node_places ts)
     under_all [] b e = refl

@@ -328,10 +328,16 @@ pub fn worked_audits()
 
     // It is wrong to name a place where both arguments are equal, or where the digests differ, and
     // to say nothing where something collides.
-    ensures equal_arguments { IsOutcome Unit ⊥ toy.hashing three_inputs three_inputs (collision (record { place = PrefixFold 2; claimed = Pair 2 7;
-        listed = Pair 2 7 })) → ⊥ }
-    ensures other_digests { IsOutcome Unit ⊥ toy.hashing swapped_inputs three_inputs (collision (record { place = PrefixFold 1; claimed = Pair 7 3;
-        listed = Pair 1 3 })) → ⊥ }
+    ensures equal_arguments { IsOutcome Unit ⊥ toy.hashing three_inputs three_inputs (collision (record {
+      place = PrefixFold 2;
+      claimed = Pair 2 7;
+      listed = Pair 2 7;
+    })) → ⊥ }
+    ensures other_digests { IsOutcome Unit ⊥ toy.hashing swapped_inputs three_inputs (collision (record {
+      place = PrefixFold 1;
+      claimed = Pair 7 3;
+      listed = Pair 1 3;
+    })) → ⊥ }
     ensures silent { IsPairOutcome Unit Unit toy.hashing swapped_inputs three_inputs clear → ⊥ }
     ensures refused_yes { IsOutcome Unit ⊥ toy.hashing swapped_inputs three_inputs rejected → ⊥ }
 
@@ -340,8 +346,11 @@ pub fn worked_audits()
 
     // Proofs against the leaves 1, 3 and 7: a leaf count of one, wrong digests, and the right ones.
     ensures at_root { first_collision merged.hashing (hashed_for 1 0 [] (5 ∷ [])) listed
-        ≡ Some (record { place = Root; claimed = Bytes (0 ∷ 0 ∷ 0 ∷ 0 ∷ 0 ∷ 0 ∷ 0 ∷ 0 ∷ 0 ∷ 1 ∷ 5 ∷ []);
-        listed = Bytes (0 ∷ 0 ∷ 0 ∷ 0 ∷ 0 ∷ 0 ∷ 0 ∷ 0 ∷ 0 ∷ 3 ∷ 7 ∷ []) }) }
+        ≡ Some (record {
+          place = Root;
+          claimed = Bytes (0 ∷ 0 ∷ 0 ∷ 0 ∷ 0 ∷ 0 ∷ 0 ∷ 0 ∷ 0 ∷ 1 ∷ 5 ∷ []);
+          listed = Bytes (0 ∷ 0 ∷ 0 ∷ 0 ∷ 0 ∷ 0 ∷ 0 ∷ 0 ∷ 0 ∷ 3 ∷ 7 ∷ []);
+        }) }
     ensures at_fold { first_collision merged.hashing (hashed_for 3 0 (3 ∷ 7 ∷ []) (1 ∷ [])) listed
         ≡ Some (record { place = PrefixFold 1; claimed = Pair 4 3; listed = Pair 0 7 }) }
     ensures at_node { first_collision merged.hashing (hashed_for 3 0 (7 ∷ 0 ∷ []) (2 ∷ [])) listed

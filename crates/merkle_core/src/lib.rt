@@ -20,7 +20,7 @@ pub use merkle_base::{error, location, position};
 pub use merkle_batch::batch;
 pub use merkle_codec::codec;
 pub use merkle_digest::digest;
-pub use merkle_hasher::{hasher, leaves, nodes, path, read};
+pub use merkle_hasher::{hasher, leaves, nodes, path, read, subtree};
 pub use merkle_proof::{element_plan, proof, range_plan};
 pub use merkle_verification::verification;
 

@@ -1,5 +1,5 @@
 //! Hashers: the digests of leaves, parent nodes, folded peaks and roots.
-ghost use Rattle.std.specs.Prelude.{◌≡◌, ◌+◌, ◌<◌, ◌≤◌, ◌++◌, [], ◌∷◌, ℕ, List, ⊤, length, fold, map};
+ghost use Rattle.std.specs.Prelude.{◌≡◌, ◌+◌, ◌<◌, ◌≤◌, ◌++◌, [], ◌∷◌, ℕ, List, ⊤, length, fold, map, option_map, IfOk};
 ghost use Rattle.std.proofs.Common.{ap, refl};
 ghost use Rattle.std.specs.Option.{SomeIff};
 ghost use Rattle.merkle_digest.specs.Bytes.{joined_parts};
@@ -9,12 +9,12 @@ ghost use Rattle.merkle_base.specs.Scheme.{Scheme, scheme_of};
 ghost use Rattle.merkle_base.specs.Root.{right_fold, folded, root_string, peaks_root};
 ghost use Rattle.merkle_hasher.specs.Standard.{standard};
 
-use merkle_base::error::Error;
+use merkle_base::error::{Error, OutOfMemory};
 use merkle_base::family::{Bagging, Family};
 use merkle_base::location::Location;
 use merkle_base::position::Position;
 use merkle_digest::digest::{Digest, PlainHasher};
-use std::alloc::AllocError;
+use std::alloc::{AllocError, Global};
 use std::marker::{Model, PhantomData};
 
 /// Computes the digests of a family's leaves, parent nodes, folded peaks and roots.
@@ -266,6 +266,48 @@ fn hash_four<F: Family, T: Hasher<F>>(
     ensures { result ≡ (T.hashing hasher.now).hash (a.now ++ b.now ++ c.now ++ d.now) }
 {
     hasher.hash(&[a, b, c, d])
+}
+
+/// Returns the bytes that a root hashes: the byte of the family, that of the bagging, the leaf
+/// count, and, where there are peaks, the number of inactive peaks unless it is 0, and the digest
+/// that the peaks are folded to.
+///
+/// The numbers are written as 8 bytes, the most significant first. Without a folded digest it is
+/// the string of a structure without peaks, whatever `committed` is.
+///
+/// # Errors
+///
+/// - `OutOfMemory` if a memory request is refused
+///
+/// # Examples
+///
+/// ```
+/// let leaves: mmr::Location = Location::new(3);
+/// let folded = Xor8Digest::from_bytes(&[7])?;
+/// let string = root_string(alloc, 0, Bagging::ForwardFold, leaves, 0, Some(&folded)).ok()?;
+/// assert!(rt; string == [0, 0, 0, 0, 0, 0, 0, 0, 0, 3, 7].as_slice());
+/// ```
+pub fn root_string<F: Family, D: Digest>(
+    alloc: Global,
+    domain: u8,
+    bagging: Bagging,
+    leaves: Location<F>,
+    committed: usize,
+    folded: Option<&D>,
+) -> Result<Vec<u8>, OutOfMemory>
+    ensures { IfOk result (λ v. (h : Hashing D) → h.bytes ≡ D.bytes
+        → v.items ≡ root_string h domain bagging leaves committed (option_map (λ d. d.now) folded.entry)) }
+{
+    let mut string = Vec::new(alloc);
+    string.extend_from_slice(&[domain, bagging.domain()])?;
+    string.extend_from_slice(&leaves.as_u64().to_be_bytes())?;
+    if let Some(digest) = folded {
+        if committed != 0 {
+            string.extend_from_slice(&(committed as u64).to_be_bytes())?;
+        }
+        string.extend_from_slice(digest.as_bytes())?;
+    }
+    Ok(string)
 }
 
 // Folds `peaks` onto `start`, left to right.

@@ -1,8 +1,8 @@
 //! Plans of range proofs: the nodes that a proof reads, and the proof built from their digests.
-ghost use Rattle.std.specs.Prelude.{◌≡◌, ◌≢◌, ◌<◌, ◌≤◌, ◌+◌, ℕ, List, Option, length, map, IfOk, IfErr, IsOkUnless};
+ghost use Rattle.std.specs.Prelude.{◌≡◌, ◌≢◌, ◌<◌, ◌≤◌, ◌+◌, ℕ, List, Option, length, map, IfOk, IfErr, IfSome, IfNone, IsOkUnless};
 ghost use Rattle.merkle_base.specs.Places.{peaks_of, wholly_before};
 ghost use Rattle.merkle_base.specs.Tree.{position};
-ghost use Rattle.merkle_root_theory.specs.Outside.{folded_prefix, single_after};
+ghost use Rattle.merkle_root_theory.specs.Outside.{folded_prefix, single_before, single_after, folded_suffix};
 ghost use Rattle.merkle_root_theory.specs.Range.{IsHonestRange, overlapping, wholly_after};
 ghost use Rattle.merkle_root_theory.specs.Reads.{nodes_read};
 ghost use Rattle.std.specs.List.Sorted.{IsStrictlyIncreasing};
@@ -17,7 +17,7 @@ use merkle_base::family::{Bagging, Family};
 use merkle_base::location::Location;
 use merkle_base::position::Position;
 use merkle_hasher::hasher::Hasher;
-use merkle_range::groups::Groups;
+use merkle_range::groups::PeakGroups;
 use merkle_range::layout::{prefix_count, single_count};
 use std::alloc::Global;
 use std::marker::Model;
@@ -35,6 +35,21 @@ pub struct RangeCounts {
     /// The number of peaks after the range that have a digest of their own, which are the oldest;
     /// the rest are folded to one digest.
     pub single: usize,
+}
+
+/// The numbers of peaks in each part of the layout of a range proof.
+#[derive(Clone, Copy, Debug)]
+pub struct Groups {
+    /// Before the range, folded to one digest; these are the oldest.
+    pub folded: usize,
+    /// Before the range, each with a digest of its own.
+    pub before: usize,
+    /// Overlapping the range.
+    pub overlapping: usize,
+    /// After the range, each with a digest of its own.
+    pub after: usize,
+    /// After the range, folded to one digest; these are the newest.
+    pub suffix: usize,
 }
 
 /// What a proof of a range of leaves reads.
@@ -92,7 +107,7 @@ impl<F: Family> RangePlan<F> {
         if !leaves.is_valid() {
             return Err(Error::LocationOverflow(leaves));
         }
-        let groups = Groups::of_peaks(alloc, leaves, &range)?;
+        let groups = PeakGroups::of_peaks(alloc, leaves, &range)?;
         let peaks = groups.count();
         let before = groups.before;
         let after = groups.after();
@@ -133,6 +148,49 @@ impl<F: Family> RangePlan<F> {
             folded: prefix_count(bagging, inactive, self.before),
             single: single_count(bagging, inactive, self.peaks - self.after, self.after),
         }
+    }
+
+    /// Returns the numbers of peaks in each part of a proof of the range, for a bagging and a number
+    /// of inactive peaks; `None` if `inactive` exceeds the number of peaks.
+    ///
+    /// # Examples
+    ///
+    /// ```
+    /// let leaves: mmr::Location = Location::new(15);
+    /// let plan = RangePlan::new(alloc, leaves, Location::new(0)..Location::new(1)).ok()?;
+    /// let groups = plan.groups(Bagging::BackwardFold, 2)?;
+    /// assert!(rt; groups.overlapping == 1 && groups.after == 1 && groups.suffix == 2);
+    /// assert!(rt; plan.groups(Bagging::BackwardFold, 5).is_none());
+    /// ```
+    pub fn groups(&self, bagging: Bagging, inactive: usize) -> Option<Groups>
+        ensures some { IfSome result (λ _. inactive ≤ length (peaks_of F.rule self.now.leaves)) }
+        ensures none { IfNone result (length (peaks_of F.rule self.now.leaves) < inactive) }
+        ensures folded { let peaks = wholly_before self.now.start (peaks_of F.rule self.now.leaves) in
+            IfSome result (λ g. g.folded ≡ length (folded_prefix bagging inactive peaks)) }
+        ensures before { let peaks = wholly_before self.now.start (peaks_of F.rule self.now.leaves) in
+            IfSome result (λ g. g.before ≡ length (single_before bagging inactive peaks)) }
+        ensures overlapping { let peaks = peaks_of F.rule self.now.leaves in
+            IfSome result (λ g. g.overlapping ≡ length (overlapping self.now.start self.now.end peaks)) }
+        ensures after { let peaks = peaks_of F.rule self.now.leaves in
+            let met = length (wholly_before self.now.start peaks) + length (overlapping self.now.start self.now.end peaks) in
+            IfSome result (λ g. g.after ≡ length (single_after bagging inactive met (wholly_after self.now.end peaks))) }
+        ensures suffix { let peaks = peaks_of F.rule self.now.leaves in
+            let met = length (wholly_before self.now.start peaks) + length (overlapping self.now.start self.now.end peaks) in
+            IfSome result (λ g. g.suffix ≡ length (folded_suffix bagging inactive met (wholly_after self.now.end peaks))) }
+    {
+        if inactive > self.peaks {
+            return None;
+        }
+        let met = self.peaks - self.after;
+        let folded = prefix_count(bagging, inactive, self.before);
+        let single = single_count(bagging, inactive, met, self.after);
+        Some(Groups {
+            folded,
+            before: self.before - folded,
+            overlapping: met - self.before,
+            after: single,
+            suffix: self.after - single,
+        })
     }
 
     /// Returns the positions of all nodes that a proof of the range reads: the peaks before the

@@ -8,7 +8,7 @@ use Rattle.merkle_base.specs.Forest.{forest}
 use Rattle.merkle_base.proofs.Growth.{forest_grown}
 use Rattle.merkle_base.proofs.PeakLists.{Spans, spans_append, covers_spans}
 use Rattle.merkle_hasher.specs.Subtrees.{IsNodeOf}
-use Rattle.merkle_range.specs.declared.groups.Groups.{Groups}
+use Rattle.merkle_range.specs.declared.groups.PeakGroups.{PeakGroups}
 use Rattle.merkle_range.specs.GroupedPeaks.{HoldsGroups}
 use Rattle.merkle_root_theory.specs.Range.{wholly_after}
 use Rattle.merkle_hasher.specs.Subtrees.{AreNodes}
@@ -23,7 +23,7 @@ abbrev pub placed : Tree → ℕ × ℕ
 placed t = (position t, height t)
 
 -- the peaks that are left begin at leaf s, and the others are grouped
-pub record Walked {F : Type 0} (rule : List ℕ → List ℕ) (m n a b : ℕ) (left : List (ℕ × ℕ)) (s : ℕ) (g : Groups F) : Type 0 where
+pub record Walked {F : Type 0} (rule : List ℕ → List ℕ) (m n a b : ℕ) (left : List (ℕ × ℕ)) (s : ℕ) (g : PeakGroups F) : Type 0 where
   pub done : List Tree
   pub rest : List Tree
   pub all : reverse (forest rule n).peaks ≡ done ++ rest
@@ -33,7 +33,7 @@ pub record Walked {F : Type 0} (rule : List ℕ → List ℕ) (m n a b : ℕ) (l
   pub held : HoldsGroups a b g done
   pub done_spans : Spans 0 s done
 
-pub walk_begins : {F : Type 0} (rule : List ℕ → List ℕ) (m n a b : ℕ) (left : List (ℕ × ℕ)) (g : Groups F) → n ≤ m → left ≡ map placed (reverse (forest rule n).peaks) → HoldsGroups a b g [] → Walked rule m n a b left 0 g
+pub walk_begins : {F : Type 0} (rule : List ℕ → List ℕ) (m n a b : ℕ) (left : List (ℕ × ℕ)) (g : PeakGroups F) → n ≤ m → left ≡ map placed (reverse (forest rule n).peaks) → HoldsGroups a b g [] → Walked rule m n a b left 0 g
 walk_begins rule m n a b left g l e h = record {
   done = [];
   rest = reverse (forest rule n).peaks;
@@ -46,12 +46,12 @@ walk_begins rule m n a b left g l e h = record {
 }
 
 -- the next peak
-pub next_peak : {F : Type 0} (rule : List ℕ → List ℕ) (m n a b : ℕ) (left : List (ℕ × ℕ)) (s : ℕ) (g : Groups F) → a < b → Walked rule m n a b left s g → (p h : ℕ) (more : List (ℕ × ℕ)) → left ≡ (p, h) ∷ more
-    → (t : Tree) × IsNodeOf rule m p h s t × ((g' : Groups F) → ((done : List Tree) → (end_leaf t ≤ a → wholly_after b done ≡ []) → HoldsGroups a b g done → HoldsGroups a b g' (done ++ t ∷ [])) → (s' : ℕ) → s' ≡ first_leaf t + width t → Walked rule m n a b more s' g')
+pub next_peak : {F : Type 0} (rule : List ℕ → List ℕ) (m n a b : ℕ) (left : List (ℕ × ℕ)) (s : ℕ) (g : PeakGroups F) → a < b → Walked rule m n a b left s g → (p h : ℕ) (more : List (ℕ × ℕ)) → left ≡ (p, h) ∷ more
+    → (t : Tree) × IsNodeOf rule m p h s t × ((g' : PeakGroups F) → ((done : List Tree) → (end_leaf t ≤ a → wholly_after b done ≡ []) → HoldsGroups a b g done → HoldsGroups a b g' (done ++ t ∷ [])) → (s' : ℕ) → s' ≡ first_leaf t + width t → Walked rule m n a b more s' g')
 next_peak {F = F} rule m n a b left s g less w p h more e = step w.rest w.all (sym e ∙ w.left_is) w.spans w.at
   where
     step : (rest : List Tree) → reverse (forest rule n).peaks ≡ w.done ++ rest → (p, h) ∷ more ≡ map placed rest → Spans s n rest → AreNodes rule m rest
-        → (t : Tree) × IsNodeOf rule m p h s t × ((g' : Groups F) → ((done : List Tree) → (end_leaf t ≤ a → wholly_after b done ≡ []) → HoldsGroups a b g done → HoldsGroups a b g' (done ++ t ∷ [])) → (s' : ℕ) → s' ≡ first_leaf t + width t → Walked rule m n a b more s' g')
+        → (t : Tree) × IsNodeOf rule m p h s t × ((g' : PeakGroups F) → ((done : List Tree) → (end_leaf t ≤ a → wholly_after b done ≡ []) → HoldsGroups a b g done → HoldsGroups a b g' (done ++ t ∷ [])) → (s' : ℕ) → s' ≡ first_leaf t + width t → Walked rule m n a b more s' g')
     step [] all l spans at = absurd (cc)
     step (t ∷ ts) all l spans at =
         let x : p ≡ position t = ap (λ q. q.0) (cons_head (p, h) (placed t) more (map placed ts) l) in
@@ -71,7 +71,7 @@ next_peak {F = F} rule m n a b left s g less w p h more e = step w.rest w.all (s
           },
         )
 
-pub walk_ends : {F : Type 0} (rule : List ℕ → List ℕ) (m n a b : ℕ) (left : List (ℕ × ℕ)) (s : ℕ) (g : Groups F) → Walked rule m n a b left s g → left ≡ [] → HoldsGroups a b g (reverse (forest rule n).peaks)
+pub walk_ends : {F : Type 0} (rule : List ℕ → List ℕ) (m n a b : ℕ) (left : List (ℕ × ℕ)) (s : ℕ) (g : PeakGroups F) → Walked rule m n a b left s g → left ≡ [] → HoldsGroups a b g (reverse (forest rule n).peaks)
 walk_ends rule m n a b left s g w e = step w.rest w.all (sym e ∙ w.left_is)
   where
     step : (rest : List Tree) → reverse (forest rule n).peaks ≡ w.done ++ rest → [] ≡ map placed rest → HoldsGroups a b g (reverse (forest rule n).peaks)

@@ -24,7 +24,7 @@ use Rattle.merkle_root_theory.specs.Walk.{bytes_of, peak_values, ArePeakDigests}
 use Rattle.merkle_range.specs.Input.{range_input, IsComputed}
 use Rattle.merkle_hasher.specs.Subtrees.{subtree_of}
 use Rattle.merkle_range.specs.GroupedPeaks.{HoldsGroups}
-use Rattle.merkle_range.specs.declared.groups.Groups.{Groups}
+use Rattle.merkle_range.specs.declared.groups.PeakGroups.{PeakGroups}
 use Rattle.merkle_root_theory.proofs.PeakGroups.{length-peaks_of, some_over}
 use Rattle.merkle_base.proofs.PeakLists.{covers_spans}
 use Rattle.merkle_range.proofs.LeafDigests.{length-leaf_digests}
@@ -32,13 +32,13 @@ use Rattle.merkle_root_theory.proofs.RangeDigests.{digest_count_is}
 use Rattle.merkle_root_theory.proofs.LayoutRoot.{layout_counts, layout_root, inactive_fits}
 
 -- groups have as many peaks outside the range as there are before it and after it
-pub outside_count : {F : Type 0} (a b : ℕ) (g : Groups F) (ts : List Tree) → HoldsGroups a b g ts → length g.outside.items ≡ length (wholly_before a ts) + length (wholly_after b ts)
+pub outside_count : {F : Type 0} (a b : ℕ) (g : PeakGroups F) (ts : List Tree) → HoldsGroups a b g ts → length g.outside.items ≡ length (wholly_before a ts) + length (wholly_after b ts)
 outside_count a b g ts held =
     let before = wholly_before a ts in let after = wholly_after b ts in
     ap length held.outside ∙ length-map (before ++ after) position ∙ length-append before after
 
 -- and as many in all as there are
-pub group_count : {F : Type 0} (rule : List ℕ → List ℕ) (a b n : ℕ) (g : Groups F) → a < b → HoldsGroups a b g (peaks_of rule n) → length g.overlapping.items + length g.outside.items ≡ length (peaks_of rule n)
+pub group_count : {F : Type 0} (rule : List ℕ → List ℕ) (a b n : ℕ) (g : PeakGroups F) → a < b → HoldsGroups a b g (peaks_of rule n) → length g.overlapping.items + length g.outside.items ≡ length (peaks_of rule n)
 group_count {F} rule a b n g l held =
     let ts = peaks_of rule n in
     omega (arith, ap length held.over, length-map (overlapping a b ts) (subtree_of {F = F}), outside_count a b g ts held, length-peaks_of rule n a b l)

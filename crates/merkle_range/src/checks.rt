@@ -13,7 +13,7 @@ ghost use Rattle.merkle_range.specs.Input.{range_input, IsComputed};
 ghost use Rattle.merkle_range.specs.Inside.{AreKnown};
 
 use crate::extraction::{put_after, put_before};
-use crate::groups::Groups;
+use crate::groups::PeakGroups;
 use crate::leaves::push_leaf_digests;
 use merkle_base::error::{OutOfMemory, ReconstructionError};
 use merkle_base::family::Family;
@@ -140,7 +140,7 @@ pub(crate) fn reconstruct_root_into<F: Family, H: Hasher<F>, C: Collector<F, H::
 {
     let end = end_from(parts.leaves, start, elements.len())?;
     let range = start..end;
-    let Ok(groups) = Groups::of_peaks(parts.alloc, parts.leaves, &range) else {
+    let Ok(groups) = PeakGroups::of_peaks(parts.alloc, parts.leaves, &range) else {
         return Err(ReconstructionError::OutOfMemory);
     };
     if parts.inactive > groups.count() {

@@ -13,7 +13,7 @@ ghost use Rattle.merkle_range.specs.GroupedPeaks.{HoldsGroups};
 ghost use Rattle.merkle_range.specs.Input.{range_input, IsComputed};
 
 use crate::checks::{ProofParts, reconstruct_empty_root, reconstruct_root_into};
-use crate::groups::Groups;
+use crate::groups::PeakGroups;
 use crate::layout::Layout;
 use merkle_base::error::{Error, ReconstructionError};
 use merkle_base::family::Family;
@@ -119,7 +119,7 @@ pub(crate) fn reconstruct_and_extract<F: Family, H: Hasher<F>>(
 /// Passes the digests of the individual peaks before the range, which the proof gives, to a
 /// collector.
 pub(crate) fn put_before<F: Family, D: Digest, C: Collector<F, D>>(
-    groups: &Groups<F>,
+    groups: &PeakGroups<F>,
     layout: Layout,
     digests: &[D],
     collector: &mut C,
@@ -144,7 +144,7 @@ pub(crate) fn put_before<F: Family, D: Digest, C: Collector<F, D>>(
 /// Passes the digests of the individual peaks after the range, which the proof gives, to a
 /// collector.
 pub(crate) fn put_after<F: Family, D: Digest, C: Collector<F, D>>(
-    groups: &Groups<F>,
+    groups: &PeakGroups<F>,
     layout: Layout,
     digests: &[D],
     collector: &mut C,

@@ -27,7 +27,7 @@ const ROOM: usize = 128;
 
 /// The peaks that overlap a range, and the positions of the peaks outside it, each oldest first.
 #[derive(Drop)]
-pub struct Groups<F> {
+pub struct PeakGroups<F> {
     /// The number of peaks before the range.
     pub before: usize,
     /// The peaks that overlap the range.
@@ -36,7 +36,7 @@ pub struct Groups<F> {
     pub outside: Vec<Position<F>>,
 }
 
-impl<F: Family> Groups<F> {
+impl<F: Family> PeakGroups<F> {
     /// Appends a peak to its group. Peaks come in order, the oldest first.
     fn put(&mut self, peak: Subtree<F>, range: &Range<Location<F>>) -> Result<(), AllocError>
         requires node { (t : Tree) × Denotes F.rule F.MAX_LEAVES peak t }
@@ -73,7 +73,7 @@ impl<F: Family> Groups<F> {
         requires within_max_leaves { leaves ≤ F.MAX_LEAVES }
         ensures { IfOk result (λ gs. HoldsGroups range.now.start range.now.end gs (peaks_of F.rule leaves)) }
     {
-        let mut groups = Groups {
+        let mut groups = PeakGroups {
             before: 0,
             overlapping: Vec::new(alloc),
             outside: Vec::with_capacity(alloc, ROOM)?,

@@ -15,7 +15,7 @@ ghost use Rattle.merkle_range.specs.Input.{range_input};
 ghost use Rattle.merkle_range.specs.PinnedParts.{IsBeforeRebuilt};
 
 use crate::checks::{ProofParts, verify_range};
-use crate::groups::Groups;
+use crate::groups::PeakGroups;
 use crate::peaks::peak_subtrees;
 use merkle_base::error::OutOfMemory;
 use merkle_base::family::Family;
@@ -225,7 +225,7 @@ fn is_before_rebuilt<F: Family, H: Hasher<F>>(
         (peaks_of F.rule parts.now.leaves) b parts.now.digests.now) }
 {
     let peaks = peak_subtrees(parts.alloc, parts.leaves)?;
-    let groups = Groups::of_peaks(parts.alloc, parts.leaves, range)?;
+    let groups = PeakGroups::of_peaks(parts.alloc, parts.leaves, range)?;
     let layout = groups.layout(hasher.root_bagging(), parts.inactive);
     let (before, _) = peaks.split_at(groups.before);
     if !are_peaks_rebuilt(before, layout.prefix, hasher, pins, parts.digests) {

@@ -188,6 +188,14 @@ impl<F: Family, D: Digest> ProofStore<F, D> {
         &self.suffix_peaks
     }
 
+    /// Returns the digest of the node at `position`, if the check of the proof computed it or was
+    /// given it. A digest to which several peaks are folded is that of no node.
+    pub fn get_node(&self, position: Position<F>) -> Option<D>
+        ensures { result ≡ found_at self.now.pairs position }
+    {
+        self.pairs.get(position)
+    }
+
     // Returns the digest of the folded prefix of a proof over the peaks at `positions`, of which
     // the first `held` are folded in the store's own prefix.
     fn prefix_digest<H: Hasher<F, Digest = D>>(

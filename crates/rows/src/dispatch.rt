@@ -117,6 +117,7 @@ fn answer_proof<F: Family, H: Hasher<F> + Drop>(
         ProofCall::CheckMulti => given::check_multi::<F, H>(hasher, words, answer),
         ProofCall::CheckPinned => given::check_pinned::<F, H>(hasher, words, answer),
         ProofCall::Extract => given::extract::<F, H>(hasher, words, answer),
+        ProofCall::Groups => plans::groups::<F, H>(hasher, words, answer),
         ProofCall::Multi => claims::multi(world, words, answer),
         ProofCall::MultiPositions => given::multi_positions::<F>(words, answer),
         ProofCall::Plan => plans::plan::<F>(words),
@@ -155,6 +156,7 @@ fn answer_store<F: Family, H: Hasher<F> + Drop>(
         StoreCall::SliceRange => lists::slice_range::<F, H>(&world.hasher, words, answer),
         StoreCall::Store => stores::store(world, words),
         StoreCall::StoreMulti => stores::store_multi(world, words, answer),
+        StoreCall::StoreNode => stores::store_node(world, words, answer),
         StoreCall::StoreRange => stores::store_range(world, words, answer),
         StoreCall::SuffixPeaks => stores::suffix_peaks(world, words, answer),
     }
@@ -172,6 +174,7 @@ fn answer_bytes<F: Family, H: Hasher<F>>(
         BytesCall::NodeDigests => digests::node_digests::<F, H>(hasher, words, answer),
         BytesCall::ReadHex => codec::decode(words, answer),
         BytesCall::ReadProof => codec::read_proof::<F, H::Digest>(words, answer),
+        BytesCall::RootString => digests::root_string::<F, H>(hasher, words, answer),
         BytesCall::WriteChunk => codec::write_chunk::<H::Digest>(words, answer),
         BytesCall::WriteHex => codec::encode(words, answer),
         BytesCall::WriteLocation => codec::write_location::<F>(words, answer),

@@ -4,7 +4,7 @@ use merkle_base::family::Family;
 use merkle_base::location::Location;
 use merkle_base::position::Position;
 use merkle_digest::digest::Digest;
-use merkle_hasher::hasher::Hasher;
+use merkle_hasher::hasher::{self, Hasher};
 use merkle_hasher::{leaves, nodes};
 use rows_common::values::digests;
 use rows_common::writing::write_digests;
@@ -78,5 +78,31 @@ pub fn node_digests<F: Family, H: Hasher<F>>(
     let mut found = Vec::new(words.alloc());
     nodes::node_digests(hasher, &all, &mut found)?;
     write_digests(answer, &found);
+    Ok(())
+}
+
+/// The bytes that the root of a leaf count hashes, with a number of inactive peaks and at most one digest.
+pub fn root_string<F: Family, H: Hasher<F>>(
+    hasher: &H,
+    words: &mut Words,
+    answer: &mut Answer,
+) -> Result<(), Refusal> {
+    let leaves = Location::<F>::new(words.number());
+    let committed = words.count();
+    let folded: Vec<H::Digest> = digests(words);
+    words.end()?;
+    let bagging = hasher.root_bagging();
+    let string = hasher::root_string(
+        words.alloc(),
+        F::DOMAIN,
+        bagging,
+        leaves,
+        committed,
+        folded.first(),
+    );
+    match string {
+        Ok(string) => answer.bytes(&string),
+        Err(_) => return Err(OUT_OF_MEMORY),
+    }
     Ok(())
 }

@@ -6,6 +6,7 @@ use merkle_base::position::Position;
 use merkle_digest::digest::Digest;
 use merkle_hasher::hasher::Hasher;
 use merkle_proof::proof::{ElementPlan, RangePlan};
+use merkle_proof::range_plan::Groups;
 use rows_common::granted;
 use rows_common::values::range;
 use rows_common::writing::write_positions;
@@ -97,4 +98,42 @@ pub fn plan_leaf_above<F: Family, H: Hasher<F>>(
 ) -> Result<(), Refusal> {
     let plan = RangePlan::from(leaf_plan(words)?);
     build_above(hasher, plan, words)
+}
+
+/// The numbers of peaks in each part of the proof of a range: folded before it, before it, overlapping it, after it, and
+/// folded after it.
+pub fn groups<F: Family, H: Hasher<F>>(
+    hasher: &H,
+    words: &mut Words,
+    answer: &mut Answer,
+) -> Result<(), Refusal> {
+    let leaves = Location::<F>::new(words.number());
+    let range = range(words);
+    let inactive = words.count();
+    words.end()?;
+    let plan = granted!(RangePlan::new(words.alloc(), leaves, range));
+    match plan.groups(hasher.root_bagging(), inactive) {
+        Some(groups) => write_groups(answer, groups),
+        None => answer.text("none"),
+    }
+    Ok(())
+}
+
+fn write_groups(answer: &mut Answer, groups: Groups) {
+    let Groups {
+        folded,
+        before,
+        overlapping,
+        after,
+        suffix,
+    } = groups;
+    answer.list(
+        &[folded, before, overlapping, after, suffix],
+        ",",
+        write_count,
+    );
+}
+
+fn write_count(answer: &mut Answer, count: &usize) {
+    answer.number(*count as u64);
 }

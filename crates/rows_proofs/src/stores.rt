@@ -2,9 +2,10 @@
 
 use merkle_core::family::Family;
 use merkle_core::hasher::Hasher;
+use merkle_core::position::Position;
 use rows_common::granted;
 use rows_common::values::{locations, pairs, range};
-use rows_common::writing::{write_positions, write_proof};
+use rows_common::writing::{write_node, write_positions, write_proof};
 use rows_given::proofs::new_store;
 use rows_text::answer::Answer;
 use rows_text::refusal::Refusal;
@@ -19,6 +20,19 @@ pub fn store<F: Family, H: Hasher<F> + Drop>(
     let name = words.word();
     let store = new_store(&world.hasher, words)?;
     give_name(world.alloc, &mut world.stores, name, store)
+}
+
+/// The digest that a store has at a position.
+pub fn store_node<F: Family, H: Hasher<F> + Drop>(
+    world: &World<F, H>,
+    words: &mut Words,
+    answer: &mut Answer,
+) -> Result<(), Refusal> {
+    let store = named(&world.stores, words.word())?;
+    let position = Position::new(words.number());
+    words.end()?;
+    write_node(answer, store.get_node(position));
+    Ok(())
 }
 
 /// A store's proof of a range.

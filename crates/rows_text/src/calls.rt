@@ -83,6 +83,7 @@ pub enum ProofCall {
     CheckMulti,
     CheckPinned,
     Extract,
+    Groups,
     Multi,
     MultiPositions,
     Plan,
@@ -116,6 +117,7 @@ pub enum StoreCall {
     SliceRange,
     Store,
     StoreMulti,
+    StoreNode,
     StoreRange,
     SuffixPeaks,
 }
@@ -128,6 +130,7 @@ pub enum BytesCall {
     NodeDigests,
     ReadHex,
     ReadProof,
+    RootString,
     WriteChunk,
     WriteHex,
     WriteLocation,
@@ -192,12 +195,13 @@ const LEAF_CALLS: [(&str, usize, LeafCall); 10] = [
     ("update_list", 3, LeafCall::UpdateList),
 ];
 
-const PROOF_CALLS: [(&str, usize, ProofCall); 24] = [
+const PROOF_CALLS: [(&str, usize, ProofCall); 25] = [
     ("check", 7, ProofCall::Check),
     ("check_leaf", 7, ProofCall::CheckLeaf),
     ("check_multi", 6, ProofCall::CheckMulti),
     ("check_pinned", 8, ProofCall::CheckPinned),
     ("extract", 7, ProofCall::Extract),
+    ("groups", 5, ProofCall::Groups),
     ("multi", 4, ProofCall::Multi),
     ("multi_positions", 3, ProofCall::MultiPositions),
     ("plan", 4, ProofCall::Plan),
@@ -229,16 +233,18 @@ const STORE_CALLS: [(&str, usize, StoreCall); 11] = [
     ("slice_range", 6, StoreCall::SliceRange),
     ("store", 8, StoreCall::Store),
     ("store_multi", 4, StoreCall::StoreMulti),
+    ("store_node", 3, StoreCall::StoreNode),
     ("store_range", 4, StoreCall::StoreRange),
     ("suffix_peaks", 2, StoreCall::SuffixPeaks),
 ];
 
-const BYTES_CALLS: [(&str, usize, BytesCall); 10] = [
+const BYTES_CALLS: [(&str, usize, BytesCall); 11] = [
     ("copy_proof", 4, BytesCall::CopyProof),
     ("leaf_digests", 3, BytesCall::LeafDigests),
     ("node_digests", 4, BytesCall::NodeDigests),
     ("read_hex", 2, BytesCall::ReadHex),
     ("read_proof", 3, BytesCall::ReadProof),
+    ("root_string", 4, BytesCall::RootString),
     ("write_chunk", 2, BytesCall::WriteChunk),
     ("write_hex", 2, BytesCall::WriteHex),
     ("write_location", 2, BytesCall::WriteLocation),

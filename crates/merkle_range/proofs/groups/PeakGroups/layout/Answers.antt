@@ -6,7 +6,7 @@ use Rattle.merkle_root_theory.specs.Outside.{single_after}
 use Rattle.merkle_root_theory.specs.Range.{overlapping, wholly_after}
 use Rattle.merkle_hasher.specs.Subtrees.{subtree_of}
 use Rattle.merkle_range.proofs.RangeRoot.{group_count, outside_count, few_peaks}
-use Rattle.merkle_range.proofs.groups.Groups.layout.Goals as goal
+use Rattle.merkle_range.proofs.groups.PeakGroups.layout.Goals as goal
 
 pub after-requires : goal.after-requires
 after-requires g c = let w = c.requires.groups in (w.0, w.1, peaks_of g.F.Family.rule w.2, w.5)

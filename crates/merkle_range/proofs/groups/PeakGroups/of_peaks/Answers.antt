@@ -1,6 +1,6 @@
 use Rattle.std.proofs.Common.{ap, sym, ◌∙◌, subst, ℕ, refl}
 use Rattle.merkle_range.proofs.PeakLoop.{Walked, walk_begins, next_peak, walk_ends}
-use Rattle.merkle_range.proofs.groups.Groups.of_peaks.Goals as goal
+use Rattle.merkle_range.proofs.groups.PeakGroups.of_peaks.Goals as goal
 
 pub loop-position-init : goal.loop-position-init
 loop-position-init g c =

@@ -1,5 +1,5 @@
 use Rattle.merkle_range.proofs.PeakLoop.{Walked}
-use Rattle.merkle_range.proofs.groups.Groups.of_peaks.Given as goal
+use Rattle.merkle_range.proofs.groups.PeakGroups.of_peaks.Given as goal
 
 abbrev pub invariant-loop-position : goal.invariant-loop-position
 invariant-loop-position g l =

@@ -4,7 +4,7 @@ use Rattle.merkle_base.specs.Places.{peaks_of, wholly_before}
 use Rattle.merkle_base.specs.Tree.{position}
 use Rattle.merkle_root_theory.specs.Range.{overlapping, wholly_after, range_siblings}
 use Rattle.merkle_hasher.proofs.PeakNodes.{peaks_at}
-use Rattle.merkle_range.proofs.groups.Groups.into_reads.Goals as goal
+use Rattle.merkle_range.proofs.groups.PeakGroups.into_reads.Goals as goal
 use Rattle.merkle_root_theory.proofs.Extraction.{all_filter}
 
 pub append_siblings-requires-clause-nodes : goal.append_siblings-requires-clause-nodes

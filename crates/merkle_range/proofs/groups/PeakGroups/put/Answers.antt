@@ -6,7 +6,7 @@ use Rattle.merkle_hasher.specs.Subtrees.{subtree_of}
 use Rattle.merkle_hasher.proofs.Comparisons.{le_yes, le_no, ge_yes, ge_no}
 use Rattle.merkle_root_theory.specs.Range.{wholly_after}
 use Rattle.merkle_root_theory.proofs.Grouping.{before_no, over_yes, over_no_before, over_no_after, after_no, outside_before, outside_after, outside_over, push_subtree, push_position}
-use Rattle.merkle_range.proofs.groups.Groups.put.Goals as goal
+use Rattle.merkle_range.proofs.groups.PeakGroups.put.Goals as goal
 
 pub returns-in_ok-push : goal.returns-in_ok-push
 returns-in_ok-push g c = λ done t w none held.
