@@ -223,7 +223,7 @@ const PROOF_CALLS: [(&str, usize, ProofCall); 25] = [
     ("reconstruct", 6, ProofCall::Reconstruct),
 ];
 
-const STORE_CALLS: [(&str, usize, StoreCall); 11] = [
+const STORE_CALLS: [(&str, usize, StoreCall); 12] = [
     ("prove_stores", 3, StoreCall::ProveStores),
     ("read_history", 6, StoreCall::ReadHistory),
     ("read_multi", 4, StoreCall::ReadMulti),
