@@ -1,0 +1,9 @@
+pub mod Claims
+pub mod FoldLists
+pub mod Lists
+pub mod ListsFound
+pub mod PeakWalk
+pub mod Searched
+pub mod Tops
+pub mod Verdicts
+pub mod Walks

@@ -1,0 +1,69 @@
+-- What audits hand out, and when.
+use Rattle.std.specs.Prelude.{◌≡◌, ℕ, List, [], ◌∷◌, Bool, nat_lt, length, Option, Some, None}
+use Rattle.merkle_base.specs.Digests.{peak_digests}
+use Rattle.merkle_base.specs.Hashing.{Hashing}
+use Rattle.merkle_base.specs.Places.{peaks_of}
+use Rattle.merkle_base.specs.declared.error.Error.{Error}
+use Rattle.merkle_base.specs.declared.error.Error.TheVariants.{LocationOverflow, InvalidInactivePeaks}
+use Rattle.merkle_root_theory.specs.Expression as theory
+use Rattle.merkle_root_theory.specs.Collision.{Collision}
+use Rattle.merkle_audit.specs.declared.place.Place.{Place}
+use Rattle.merkle_audit.specs.declared.place.Place.TheVariants as place
+use Rattle.merkle_audit.specs.declared.place.Argument.{Argument}
+use Rattle.merkle_audit.specs.declared.place.Argument.TheVariants as argument
+use Rattle.merkle_audit.specs.declared.verdict.Verdict.{Verdict}
+use Rattle.merkle_audit.specs.declared.verdict.Verdict.TheVariants as verdict
+use Rattle.merkle_audit.specs.declared.verdict.ApplyVerdict.{ApplyVerdict}
+use Rattle.merkle_audit.specs.declared.verdict.ApplyVerdict.TheVariants as applied
+use Rattle.merkle_audit.specs.declared.verdict.PairVerdict.{PairVerdict}
+use Rattle.merkle_audit.specs.declared.verdict.PairVerdict.TheVariants as paired
+
+-- a place that is handed out
+abbrev pub place_of : {F : Type 0} → Place F → theory.Place
+place_of place.Root = theory.Root
+place_of place.Join = theory.Join
+place_of (place.PrefixFold i) = theory.PrefixFold i
+place_of (place.SuffixFold i) = theory.SuffixFold i
+place_of (place.Node p) = theory.Node p
+
+-- an argument that is handed out
+abbrev pub argument_of : {D : Type 0} → Argument D → theory.Argument D
+argument_of (argument.Pair a b) = theory.Pair a b
+argument_of (argument.Bytes bytes) = theory.Bytes bytes.items
+
+-- a collision that is handed out
+abbrev pub collision_of : {F D : Type 0} → Place F → Argument D → Argument D → Collision D
+collision_of p a b = record { place = place_of p; claimed = argument_of a; listed = argument_of b }
+
+-- the collision of a verdict, if it is one
+abbrev pub collision_in : {F D : Type 0} → Verdict F D → Option (Collision D)
+collision_in (verdict.Collision p a b) = Some (collision_of p a b)
+collision_in verdict.Rejected = None
+collision_in verdict.Honest = None
+
+-- the same of two lists
+abbrev pub collision_of_lists : {F D : Type 0} → ApplyVerdict F D → Option (Collision D)
+collision_of_lists (applied.Collision p a b) = Some (collision_of p a b)
+collision_of_lists applied.Refused = None
+collision_of_lists applied.Same = None
+
+-- the same of two inputs
+abbrev pub collision_of_pair : {F D : Type 0} → PairVerdict F D → Option (Collision D)
+collision_of_pair (paired.Collision p a b) = Some (collision_of p a b)
+collision_of_pair paired.Rejected = None
+collision_of_pair paired.Consistent = None
+
+-- why a list of n leaves is refused for k inactive peaks
+abbrev pub list_refusals : {F : Type 0} → (List ℕ → List ℕ) → (max_leaves n k : ℕ) → List (Bool × Error F)
+list_refusals rule max_leaves n k =
+    (nat_lt max_leaves n, LocationOverflow n)
+    ∷ (nat_lt (length (peaks_of rule n)) k, InvalidInactivePeaks k (length (peaks_of rule n))) ∷ []
+
+-- why two lists of these lengths are refused
+abbrev pub length_refusals : {F : Type 0} → (max_leaves listed claimed : ℕ) → List (Bool × Error F)
+length_refusals max_leaves listed claimed =
+    (nat_lt max_leaves listed, LocationOverflow listed) ∷ (nat_lt max_leaves claimed, LocationOverflow claimed) ∷ []
+
+-- the lists have one length, and the same digests at their peaks
+abbrev pub HaveSamePeaks : {D : Type 0} → Hashing D → (List ℕ → List ℕ) → List D → List D → Type 0
+HaveSamePeaks h rule X Z = (length X ≡ length Z) × (peak_digests h rule X ≡ peak_digests h rule Z)

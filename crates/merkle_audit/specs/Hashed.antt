@@ -1,0 +1,24 @@
+-- What audits search, in the words of the theory.
+use Rattle.std.specs.Prelude.{List, ◌∷◌, map}
+use Rattle.merkle_root_theory.specs.Collision as theory
+use Rattle.merkle_root_theory.specs.Expression.{Root, Pair, Bytes, Input}
+use Rattle.merkle_audit.specs.declared.top.Fold.{Fold}
+use Rattle.merkle_audit.specs.declared.top.Top.{Top}
+use Rattle.merkle_audit.specs.declared.verdict.Collision.{Collision}
+use Rattle.merkle_audit.specs.Found.{place_of, collision_of}
+
+-- two digests that are folded, at their place
+abbrev pub fold_at : {F D : Type 0} → Fold F D → Input D
+fold_at x = record { place = place_of x.place; argument = Pair x.left x.right }
+
+-- the string of a root, and the folds
+abbrev pub top_of : {F D : Type 0} → Top F D → List (Input D)
+top_of t = record { place = Root; argument = Bytes t.root.items } ∷ map fold_at t.folds.items
+
+-- what a search hands out
+abbrev pub located : {F D : Type 0} → Collision F D → theory.Collision D
+located c = collision_of c.place c.claimed c.listed
+
+-- the strings of two roots
+abbrev pub roots_apart : {F D : Type 0} → Top F D → Top F D → theory.Collision D
+roots_apart x y = record { place = Root; claimed = Bytes x.root.items; listed = Bytes y.root.items }

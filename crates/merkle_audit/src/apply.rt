@@ -1,0 +1,101 @@
+//! The audit of a batch that was recorded at a list.
+ghost use Rattle.std.specs.Prelude.{◌≡◌, ◌≢◌, ◌≤◌, ◌↔◌, ℕ, Some, None, IfOk, IfErr, IfSome, length, option_map};
+ghost use Rattle.std.specs.Cmp.Lexicographic.{pointwise};
+ghost use Rattle.merkle_base.specs.Cases.{first_case};
+ghost use Rattle.merkle_claim_theory.specs.FirstCollision.{IsFirstCollision};
+ghost use Rattle.merkle_audit.specs.Found.{length_refusals, HaveSamePeaks, collision_of_lists};
+ghost use Rattle.merkle_audit.specs.Hashed.{located};
+ghost use Rattle.merkle_root_theory.specs.Expression.{Node};
+ghost use Rattle.merkle_audit_theory.specs.Located.{node_inputs};
+
+use crate::list::{ListNodes, leaf_count, peak_subtrees};
+use crate::nodes::first_below;
+use crate::verdict::{ApplyVerdict, Collision};
+use merkle_core::digest::Digest;
+use merkle_core::error::Error;
+use merkle_core::family::Family;
+use merkle_core::hasher::Hasher;
+use std::alloc::Global;
+
+/// Audits the list that a structure agrees with, `listed`, and the list at which a batch was
+/// recorded, `claimed`.
+///
+/// # Errors
+///
+/// The first that applies:
+/// - `LocationOverflow` of the length of `listed` if it exceeds [`MAX_LEAVES`](Family::MAX_LEAVES)
+/// - `LocationOverflow` of the length of `claimed` if it exceeds [`MAX_LEAVES`](Family::MAX_LEAVES)
+///
+/// `OutOfMemory` at any point if a memory request is refused.
+pub fn audit_apply<F: Family, H: Hasher<F>>(
+    alloc: Global,
+    hasher: &H,
+    listed: &[H::Digest],
+    claimed: &[H::Digest],
+) -> Result<ApplyVerdict<F, H::Digest>, Error<F>>
+    ensures err { IfErr result (λ e. e ≢ Error.OutOfMemory
+        → first_case (length_refusals F.MAX_LEAVES (length listed.now) (length claimed.now)) ≡ Some e) }
+    ensures within { IfOk result (λ _. (length listed.now ≤ F.MAX_LEAVES) × (length claimed.now ≤ F.MAX_LEAVES)) }
+    ensures refused { let s = H.scheme hasher.now in
+        IfOk result (λ v. (v ≡ ApplyVerdict.Refused) ↔ ¬ HaveSamePeaks s.hashing s.rule claimed.now listed.now) }
+    ensures same { IfOk result (λ v. (v ≡ ApplyVerdict.Same) ↔ (claimed.now ≡ listed.now)) }
+    ensures collision { let s = H.scheme hasher.now in IfOk result (λ v. IfSome (collision_of_lists v) (λ c.
+        IsFirstCollision s.hashing (node_inputs s.hashing s.rule claimed.now) (node_inputs s.hashing s.rule listed.now) c)) }
+    ensures node { IfOk result (λ v. IfSome (collision_of_lists v) (λ c. (p : ℕ) × (c.place ≡ Node p))) }
+{
+    let leaves = match leaf_count(listed.len()) {
+        Ok(leaves) => leaves,
+        Err(error) => return Err(error),
+    };
+    if let Err(error) = leaf_count::<F>(claimed.len()) {
+        return Err(error);
+    }
+    if listed.len() != claimed.len() {
+        return Ok(ApplyVerdict::Refused);
+    }
+    let own = match ListNodes::new(alloc, hasher, listed) {
+        Ok(nodes) => nodes,
+        Err(error) => return Err(error),
+    };
+    let other = match ListNodes::new(alloc, hasher, claimed) {
+        Ok(nodes) => nodes,
+        Err(error) => return Err(error),
+    };
+    let peaks = peak_subtrees(alloc, leaves)?;
+    let own_peaks = own.digests(alloc, &peaks)?;
+    let other_peaks = other.digests(alloc, &peaks)?;
+    if !are_equal(&own_peaks, &other_peaks) {
+        return Ok(ApplyVerdict::Refused);
+    }
+    let found = first_below(&peaks, &other, &own);
+    Ok(verdict(found))
+}
+
+// Whether two lists of digests are equal.
+fn are_equal<D: Digest>(one: &[D], other: &[D]) -> bool
+    ensures { result ≡ pointwise D.eq one.now other.now }
+{
+    one == other
+}
+
+// Returns what an audit of two lists says that have one length and the same peaks.
+fn verdict<F: Family, D: Digest>(found: Option<Collision<F, D>>) -> ApplyVerdict<F, D>
+    ensures accepted { result ≢ ApplyVerdict.Refused }
+    ensures same { (result ≡ ApplyVerdict.Same) ↔ (option_map located found ≡ None) }
+    ensures collision { collision_of_lists result ≡ option_map located found }
+{
+    match found {
+        None => ApplyVerdict::Same,
+        Some(
+            Collision {
+                place,
+                claimed,
+                listed,
+            },
+        ) => ApplyVerdict::Collision {
+            place,
+            claimed,
+            listed,
+        },
+    }
+}

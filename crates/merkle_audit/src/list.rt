@@ -1,0 +1,162 @@
+//! A list of leaf digests, with its nodes and what is hashed for its root.
+ghost use Rattle.std.specs.Prelude.{◌≡◌, ◌≤◌, ◌<◌, List, Ok, Err, IfOk, IfErr, IsOkUnless, length, map};
+ghost use Rattle.merkle_base.specs.Digests.{peak_digests};
+ghost use Rattle.merkle_base.specs.Places.{peaks_of};
+ghost use Rattle.merkle_base.specs.Root.{list_root};
+ghost use Rattle.merkle_hasher.specs.Subtrees.{subtree_of};
+ghost use Rattle.merkle_hasher.specs.declared.subtree.Subtree.{Subtree};
+ghost use Rattle.merkle_audit_theory.specs.Folds.{top_inputs};
+ghost use Rattle.merkle_audit_theory.specs.Seen.{children_of};
+ghost use Rattle.merkle_audit.specs.Hashed.{top_of};
+ghost use Rattle.merkle_audit.specs.Listed.{digest_in, IsOfList};
+
+use crate::nodes::Hashes;
+use crate::top::{Shape, Top, above_peaks};
+use merkle_core::batch::MerkleizedBatch;
+use merkle_core::digest::Digest;
+use merkle_core::error::{Error, OutOfMemory};
+use merkle_core::family::Family;
+use merkle_core::hasher::Hasher;
+use merkle_core::location::Location;
+use merkle_core::mem::Mem;
+use merkle_core::position::Position;
+use merkle_core::subtree::Subtree;
+use std::alloc::{AllocError, Global};
+use std::rc::Rc;
+
+/// The nodes of a list.
+#[derive(Drop)]
+pub(crate) struct ListNodes<F: Family, D: Digest> {
+    nodes: Rc<MerkleizedBatch<F, D>>,
+}
+
+/// Returns the leaf count of a list, which is no longer than the family allows.
+pub(crate) fn leaf_count<F: Family>(length: usize) -> Result<Location<F>, Error<F>>
+    ensures ok { IfOk result (λ n. (n ≡ length) × (n ≤ F.MAX_LEAVES)) }
+    ensures err { IfErr result (λ e. (F.MAX_LEAVES < length) × (e ≡ Error.LocationOverflow length)) }
+{
+    let leaves = Location::new(length as u64);
+    if leaves.is_valid() {
+        Ok(leaves)
+    } else {
+        Err(Error::LocationOverflow(leaves))
+    }
+}
+
+impl<F: Family, D: Digest> ListNodes<F, D> {
+    /// Computes the nodes of a list, which is no longer than the family allows.
+    pub(crate) fn new<H: Hasher<F, Digest = D>>(
+        alloc: Global,
+        hasher: &H,
+        list: &[D],
+    ) -> Result<Self, Error<F>>
+        requires { length list.now ≤ F.MAX_LEAVES }
+        ensures of_list { let s = H.scheme hasher.now in IfOk result (λ v. IsOfList s.hashing s.rule v.nodes.value list.now) }
+        ensures refused { IsOkUnless result Error.OutOfMemory }
+    {
+        let empty = Mem::new(alloc);
+        let batch = match empty.new_batch() {
+            Ok(batch) => batch,
+            Err(error) => return Err(error),
+        };
+        let batch = match batch.add_leaf_digests(list) {
+            Ok(batch) => batch,
+            Err(error) => return Err(error),
+        };
+        match batch.merkleize(&empty, hasher) {
+            Ok(nodes) => Ok(ListNodes { nodes }),
+            Err(error) => Err(error),
+        }
+    }
+
+    /// Returns the root of the list.
+    pub(crate) fn root<H: Hasher<F, Digest = D>>(
+        &self,
+        hasher: &H,
+        inactive: usize,
+    ) -> Result<D, Error<F>>
+        ensures ok { let s = H.scheme hasher.now in
+            (X : List D) → IsOfList s.hashing s.rule self.now.nodes.value X → inactive ≤ length (peaks_of s.rule (length X))
+            → result ≡ Ok (list_root s X inactive) }
+        ensures err { let s = H.scheme hasher.now in
+            (X : List D) → IsOfList s.hashing s.rule self.now.nodes.value X
+            → let count = length (peaks_of s.rule (length X)) in count < inactive → result ≡ Err (Error.InvalidInactivePeaks inactive count) }
+    {
+        self.nodes.root(hasher, inactive)
+    }
+
+    // Returns the digest of a node of the list.
+    fn digest(&self, position: Position<F>) -> D
+        ensures { result ≡ digest_in D.EMPTY self.now.nodes.value position }
+    {
+        match self.nodes.get_node(position) {
+            Some(digest) => digest,
+            None => D::EMPTY,
+        }
+    }
+
+    /// Returns the digests of nodes of the list, in their order.
+    pub(crate) fn digests(&self, alloc: Global, nodes: &[Subtree<F>]) -> Result<Vec<D>, AllocError>
+        ensures { IfOk result (λ v. v.items ≡ map (λ (n : Subtree F). digest_in D.EMPTY self.now.nodes.value n.position) nodes.now) }
+    {
+        let mut digests = Vec::with_capacity(alloc, nodes.len())?;
+        for node in nodes {
+            digests.push(self.digest(node.position))?;
+        }
+        Ok(digests)
+    }
+
+    /// Returns what is hashed above the peaks of the list.
+    pub(crate) fn top<H: Hasher<F, Digest = D>>(
+        &self,
+        alloc: Global,
+        hasher: &H,
+        inactive: usize,
+        peaks: &[Subtree<F>],
+    ) -> Result<Top<F, D>, OutOfMemory>
+        requires inactive { inactive ≤ length peaks.now }
+        requires few { length peaks.now ≤ 64 }
+        ensures { let s = H.scheme hasher.now in
+            (X : List D) → IsOfList s.hashing s.rule self.now.nodes.value X → peaks.now ≡ map subtree_of (peaks_of s.rule (length X))
+            → IfOk result (λ t. top_of t ≡ top_inputs s (length X) inactive (peak_digests s.hashing s.rule X)) }
+    {
+        let digests = self.digests(alloc, peaks)?;
+        let shape = Shape {
+            leaves: self.nodes.leaves(),
+            inactive,
+            apart: inactive,
+            number: 1,
+        };
+        above_peaks(alloc, hasher, &shape, &digests)
+    }
+}
+
+impl<F: Family, D: Digest> Hashes<F, D> for ListNodes<F, D> {
+    ghost hashed = { λ s t. children_of (digest_in D.EMPTY s.nodes.value) t };
+
+    fn pair(&self, left: &Subtree<F>, right: &Subtree<F>) -> Option<(D, D)> {
+        Some((self.digest(left.position), self.digest(right.position)))
+    }
+}
+
+/// Returns the peaks of a structure with `leaves` leaves, oldest first.
+pub(crate) fn peak_subtrees<F: Family>(
+    alloc: Global,
+    leaves: Location<F>,
+) -> Result<Vec<Subtree<F>>, AllocError>
+    requires within_max_leaves { leaves ≤ F.MAX_LEAVES }
+    ensures { IfOk result (λ v. v.items ≡ map subtree_of (peaks_of F.rule leaves)) }
+{
+    let mut peaks = Vec::new(alloc);
+    let mut first_leaf = Location::new(0);
+    for (position, height) in F::peaks(F::location_to_position(leaves)) {
+        let peak = Subtree {
+            position,
+            height,
+            first_leaf,
+        };
+        first_leaf = peak.leaf_end();
+        peaks.push(peak)?;
+    }
+    Ok(peaks)
+}

@@ -1,0 +1,95 @@
+//! The audit of two range checks against one root.
+ghost use Rattle.std.specs.Prelude.{◌≡◌, ◌≢◌, ◌↔◌, None, Ok, IfOk, IfErr, IfSome, option_map};
+ghost use Rattle.merkle_claim_theory.specs.FirstCollision.{IsFirstCollision};
+ghost use Rattle.merkle_audit.specs.Found.{collision_of_pair};
+ghost use Rattle.merkle_audit.specs.Hashed.{located};
+ghost use Rattle.merkle_proof.specs.Input.{input_of};
+ghost use Rattle.merkle_root_theory.specs.Check.{SharesLeaves, range_inputs};
+ghost use Rattle.merkle_root_theory.specs.Collision.{Collides};
+ghost use Rattle.merkle_root_theory.specs.Reconstruction.{reconstructed};
+ghost use Rattle.merkle_root_theory.specs.Walk.{bytes_of};
+
+use crate::claim::{Claim, accepted};
+use crate::range::first_difference;
+use crate::verdict::{Collision, PairVerdict};
+use merkle_core::digest::Digest;
+use merkle_core::error::Error;
+use merkle_core::family::Family;
+use merkle_core::hasher::Hasher;
+use merkle_core::location::Location;
+use merkle_core::proof::Proof;
+
+/// Audits two inputs of range checks against one root, which may be that of no list.
+///
+/// # Errors
+///
+/// - `OutOfMemory` if a memory request is refused
+pub fn audit_pair<F: Family, H: Hasher<F>>(
+    hasher: &H,
+    root: &H::Digest,
+    first: (&Proof<F, H::Digest>, &[&[u8]], Location<F>),
+    second: (&Proof<F, H::Digest>, &[&[u8]], Location<F>),
+) -> Result<PairVerdict<F, H::Digest>, Error<F>>
+    ensures err { IfErr result (λ e. e ≡ Error.OutOfMemory) }
+    ensures rejected { let s = H.scheme hasher.now in
+        let r = input_of s first.entry.0.now first.entry.2 (bytes_of first.entry.1.now) in
+        let q = input_of s second.entry.0.now second.entry.2 (bytes_of second.entry.1.now) in
+        IfOk result (λ v. (v ≡ PairVerdict.Rejected) ↔ ¬ ((reconstructed s r ≡ Ok root.now) × (reconstructed s q ≡ Ok root.now))) }
+    ensures collision { let s = H.scheme hasher.now in
+        let r = input_of s first.entry.0.now first.entry.2 (bytes_of first.entry.1.now) in
+        let q = input_of s second.entry.0.now second.entry.2 (bytes_of second.entry.1.now) in
+        IfOk result (λ v. IfSome (collision_of_pair v) (λ c. IsFirstCollision s.hashing (range_inputs s r) (range_inputs s q) c)) }
+    ensures clear { let s = H.scheme hasher.now in
+        let r = input_of s first.entry.0.now first.entry.2 (bytes_of first.entry.1.now) in
+        let q = input_of s second.entry.0.now second.entry.2 (bytes_of second.entry.1.now) in
+        IfOk result (λ v. v ≡ PairVerdict.Consistent → (c : _) → ¬ (Collides s.hashing (range_inputs s r) (range_inputs s q) c)) }
+    ensures consistent { let s = H.scheme hasher.now in
+        let r = input_of s first.entry.0.now first.entry.2 (bytes_of first.entry.1.now) in
+        let q = input_of s second.entry.0.now second.entry.2 (bytes_of second.entry.1.now) in
+        IfOk result (λ v. v ≡ PairVerdict.Consistent → SharesLeaves s.hashing r q) }
+{
+    let one = match accepted(hasher, first.0, first.1, first.2, root) {
+        Ok(Some(claim)) => claim,
+        Ok(None) => return Ok(PairVerdict::Rejected),
+        Err(error) => return Err(error),
+    };
+    let other = match accepted(hasher, second.0, second.1, second.2, root) {
+        Ok(Some(claim)) => claim,
+        Ok(None) => return Ok(PairVerdict::Rejected),
+        Err(error) => return Err(error),
+    };
+    let Claim {
+        top: claimed,
+        nodes: claimed_nodes,
+        ..
+    } = one;
+    let Claim {
+        top: listed,
+        nodes: listed_nodes,
+        peaks,
+    } = other;
+    let found = first_difference(claimed, &claimed_nodes, listed, &listed_nodes, &peaks);
+    Ok(verdict(found))
+}
+
+// Returns what an audit of two accepted inputs says.
+fn verdict<F: Family, D: Digest>(found: Option<Collision<F, D>>) -> PairVerdict<F, D>
+    ensures accepted { result ≢ PairVerdict.Rejected }
+    ensures consistent { (result ≡ PairVerdict.Consistent) ↔ (option_map located found ≡ None) }
+    ensures collision { collision_of_pair result ≡ option_map located found }
+{
+    match found {
+        None => PairVerdict::Consistent,
+        Some(
+            Collision {
+                place,
+                claimed,
+                listed,
+            },
+        ) => PairVerdict::Collision {
+            place,
+            first: claimed,
+            second: listed,
+        },
+    }
+}

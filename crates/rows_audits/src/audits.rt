@@ -1,0 +1,138 @@
+//! Calls of audits.
+
+use merkle_audit::{
+    ApplyVerdict, Argument, PairVerdict, Place, Verdict, audit_apply, audit_pair, audit_range,
+};
+use merkle_core::digest::Digest;
+use merkle_core::family::Family;
+use merkle_core::hasher::Hasher;
+use merkle_core::location::Location;
+use merkle_core::proof::Proof;
+use rows_common::granted;
+use rows_common::values::{digest, digests, proof};
+use rows_text::answer::Answer;
+use rows_text::refusal::Refusal;
+use rows_text::words::Words;
+
+// Writes a place.
+fn write_place<F: Family>(answer: &mut Answer, place: Place<F>) {
+    match place {
+        Place::Root => answer.text("root"),
+        Place::Join => answer.text("join"),
+        Place::PrefixFold(number) => {
+            answer.text("prefix ");
+            answer.number(number as u64);
+        }
+        Place::SuffixFold(number) => {
+            answer.text("suffix ");
+            answer.number(number as u64);
+        }
+        Place::Node(position) => {
+            answer.text("node ");
+            answer.number(position.as_u64());
+        }
+    }
+}
+
+// Writes what is hashed at a place.
+fn write_argument<D: Digest>(answer: &mut Answer, argument: &Argument<D>) {
+    match argument {
+        Argument::Pair(left, right) => {
+            answer.bytes(left.as_bytes());
+            answer.text(",");
+            answer.bytes(right.as_bytes());
+        }
+        Argument::Bytes(bytes) => answer.bytes(bytes),
+    }
+}
+
+// Writes a collision.
+fn write_collision<F: Family, D: Digest>(
+    answer: &mut Answer,
+    place: Place<F>,
+    one: &Argument<D>,
+    other: &Argument<D>,
+) {
+    answer.text("collision ");
+    write_place(answer, place);
+    answer.text(" ");
+    write_argument(answer, one);
+    answer.text(" ");
+    write_argument(answer, other);
+}
+
+/// What an audit of a proof of a range says.
+pub fn range<F: Family, H: Hasher<F>>(
+    hasher: &H,
+    words: &mut Words,
+    answer: &mut Answer,
+) -> Result<(), Refusal> {
+    let list = digests(words);
+    let inactive = words.count();
+    let proof: Proof<F, H::Digest> = proof(words);
+    let start = Location::new(words.number());
+    let found = words.elements();
+    let all = words.slices(&found);
+    words.end()?;
+    match granted!(audit_range(hasher, &list, inactive, &proof, &all, start)) {
+        Verdict::Rejected => answer.text("rejected"),
+        Verdict::Honest => answer.text("honest"),
+        Verdict::Collision {
+            place,
+            claimed,
+            listed,
+        } => write_collision(answer, place, &claimed, &listed),
+    }
+    Ok(())
+}
+
+/// What an audit of a batch that was recorded at a list says.
+pub fn apply<F: Family, H: Hasher<F>>(
+    hasher: &H,
+    words: &mut Words,
+    answer: &mut Answer,
+) -> Result<(), Refusal> {
+    let listed: Vec<H::Digest> = digests(words);
+    let claimed: Vec<H::Digest> = digests(words);
+    words.end()?;
+    match granted!(audit_apply::<F, H>(words.alloc(), hasher, &listed, &claimed)) {
+        ApplyVerdict::Refused => answer.text("refused"),
+        ApplyVerdict::Same => answer.text("same"),
+        ApplyVerdict::Collision {
+            place,
+            claimed,
+            listed,
+        } => write_collision(answer, place, &claimed, &listed),
+    }
+    Ok(())
+}
+
+/// What an audit of two proofs of ranges against one root says.
+pub fn pair<F: Family, H: Hasher<F>>(
+    hasher: &H,
+    words: &mut Words,
+    answer: &mut Answer,
+) -> Result<(), Refusal> {
+    let root: H::Digest = digest(words);
+    let one: Proof<F, H::Digest> = proof(words);
+    let start = Location::new(words.number());
+    let found = words.elements();
+    let other: Proof<F, H::Digest> = proof(words);
+    let other_start = Location::new(words.number());
+    let other_found = words.elements();
+    let all = words.slices(&found);
+    let other_all = words.slices(&other_found);
+    words.end()?;
+    let first = (&one, all.as_slice(), start);
+    let second = (&other, other_all.as_slice(), other_start);
+    match granted!(audit_pair(hasher, &root, first, second)) {
+        PairVerdict::Rejected => answer.text("rejected"),
+        PairVerdict::Consistent => answer.text("consistent"),
+        PairVerdict::Collision {
+            place,
+            first,
+            second,
+        } => write_collision(answer, place, &first, &second),
+    }
+    Ok(())
+}
