@@ -1,6 +1,7 @@
 //! Calls of batches of the program `rows`, and the call that builds a structure by one.
 #![tactic(auto)]
 
-pub mod batches;
+mod batches;
+pub mod calls;
 mod drafts;
-pub mod leaves;
+mod leaves;

@@ -3,5 +3,6 @@
 //! They stand on the crates below `merkle_core`, and so are proved beside it.
 #![tactic(auto)]
 
-pub mod codec;
-pub mod digests;
+pub mod calls;
+mod codec;
+mod digests;

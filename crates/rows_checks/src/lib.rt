@@ -3,5 +3,6 @@
 
 mod bytes;
 pub mod calls;
+mod every;
 mod ranges;
 mod stores;

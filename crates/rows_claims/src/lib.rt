@@ -3,6 +3,7 @@
 #![tactic(auto)]
 
 pub mod calls;
+mod every;
 mod pinned;
 mod scattered;
 mod subsets;

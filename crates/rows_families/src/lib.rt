@@ -3,5 +3,6 @@
 //! They stand on the crates below `merkle_core`, and so are proved beside it.
 #![tactic(auto)]
 
-pub mod families;
-pub mod plans;
+pub mod calls;
+mod families;
+mod plans;

@@ -4,6 +4,7 @@
 //! They stand on the crates below `merkle_core`, and so are proved beside it.
 #![tactic(auto)]
 
+pub mod calls;
 pub mod checks;
 pub mod proofs;
 pub mod readers;

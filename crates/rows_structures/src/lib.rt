@@ -1,4 +1,5 @@
-//! Calls of structures of the program `rows`, and of the nodes and roots of structures and batches.
+//! Calls of structures of the program `rows`.
 #![tactic(auto)]
 
-pub mod structures;
+pub mod calls;
+mod structures;
