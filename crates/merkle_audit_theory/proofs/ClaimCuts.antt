@@ -67,7 +67,7 @@ module _ {D : Type 0} (h : Hashing D) (X : ℕ → D) where
   pinned_cut_or (Some d) e f w = tt
 
   module _ (b : ℕ → Option D) where
-    pin_tree_cut : (t : Tree) → IsCutOf (pin_tree h b t) (node_expression X t)
+    pub pin_tree_cut : (t : Tree) → IsCutOf (pin_tree h b t) (node_expression X t)
     pin_tree_cut (leaf p i) = tt
     pin_tree_cut (join p l r) = pinned_cut_or (b p) (computed (Node p) (pin_tree h b l) (pin_tree h b r)) (computed (Node p) (node_expression X l) (node_expression X r)) (refl, pin_tree_cut l, pin_tree_cut r)
 
@@ -81,7 +81,7 @@ module _ {D : Type 0} (h : Hashing D) (X : ℕ → D) where
     outside_plan_cut : (w : ℕ → Bool) (p : Plan) (d : D) → IsCutOf (outside_plan h b w p d) (plan_expression X p)
     outside_plan_cut w p d = by_test (λ y. IsCutOf (cond y (cross_checked d (pin_plan h b p)) (supplied d)) (plan_expression X p)) (meets w p) (λ _. pin_plan_cut p) (λ _. tt)
 
-    pinned_tree_cut : (w c : ℕ → Bool) (Y : ℕ → D) (t : Tree) (ds : List D) → IsCutOf (pinned_tree h b w c Y t ds) (node_expression X t)
+    pub pinned_tree_cut : (w c : ℕ → Bool) (Y : ℕ → D) (t : Tree) (ds : List D) → IsCutOf (pinned_tree h b w c Y t ds) (node_expression X t)
     pinned_tree_cut w c Y (leaf p i) ds = by_test (λ y. IsCutOf (cond y (supplied (Y i)) (outside_tree h b w (leaf p i) (next h ds))) (supplied (X i))) (c i) (λ _. tt) (λ _. outside_tree_cut w (leaf p i) (next h ds))
     pinned_tree_cut w c Y (join p l r) ds = let u = pinned_tree_cut w c Y l ds in let v = pinned_tree_cut w c Y r (drop (length (siblings c l)) ds) in
         by_test (λ y. IsCutOf (cond y (computed (Node p) (pinned_tree h b w c Y l ds) (pinned_tree h b w c Y r (drop (length (siblings c l)) ds))) (outside_tree h b w (join p l r) (next h ds))) (computed (Node p) (node_expression X l) (node_expression X r)))

@@ -88,7 +88,7 @@ module _ {D : Type 0} (s : Scheme D) (r : RangeInput D) (some : 0 < length r.ele
   split : ts ≡ before ++ (over ++ after)
   split = groups r.start (end_of r) 0 r.leaves ts (omega (arith, some)) (peaks_spans s.rule r.leaves)
 
-  over_told : (f : ℕ → D) → ((p : ℕ) (d : D) → Member (extracted s r) (p, d) → f p ≡ d)
+  pub over_told : (f : ℕ → D) → ((p : ℕ) (d : D) → Member (extracted s r) (p, d) → f p ≡ d)
       → map (λ t. f (position t)) over ≡ peak_values s.hashing (chosen r) (leaf_given s.hashing r) over (drop (i + j) r.digests)
   over_told f is =
       over_values s.hashing (chosen r) (leaf_given s.hashing r) f over (drop (i + j) r.digests) (λ p d m.

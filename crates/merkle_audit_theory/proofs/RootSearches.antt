@@ -22,7 +22,10 @@ use Rattle.merkle_root_theory.proofs.RangeChecks.{small_leaves, small_inactive}
 use Rattle.merkle_root_theory.proofs.Reconstruction.{leads_is_accepted}
 use Rattle.merkle_root_theory.proofs.RootStrings.{tells_all}
 use Rattle.merkle_claim_theory.specs.FirstCollision.{or_else, first_collision}
+use Rattle.merkle_claim_theory.specs.Multiproof.{MultiInput, multi_on, multi_expression, AcceptsMulti}
 use Rattle.merkle_claim_theory.specs.Order.{node_places}
+use Rattle.merkle_claim_theory.specs.Pinned.{pinned_on, pinned_expression, AcceptsPinned}
+use Rattle.merkle_claim_theory.specs.Verdict.{multi_inputs, pinned_inputs}
 use Rattle.merkle_audit_theory.specs.Cuts.{IsSublist, places_in, peak_places, full_places}
 use Rattle.merkle_audit_theory.specs.Differences.{is_difference, difference_for, first_difference}
 use Rattle.merkle_audit_theory.specs.Searches.{input_at, looked_up}
@@ -153,3 +156,43 @@ module _ {D : Type 0} (s : Scheme D) (size max_nodes : ℕ) (sound : IsLawfulSch
         parted_search s r.leaves t.leaves r.inactive t.inactive (range_inputs s r) (range_inputs s t) p q fx nx fy ny left right tfx tnx tfy tny
         (claim_places.range s r) (claim_places.range s t) (λ e. (order e).1) o apart (λ e. same e (order e).0)
         ∙ differences_collide.pair s size max_nodes sound root r t ok ok'
+
+  -- scattered leaves against a list
+  module _ (X : List D) (k : ℕ) (few : length X ≤ s.max_leaves) (low : k ≤ length (peaks_of s.rule (length X))) (r : MultiInput D) (ok : AcceptsMulti s r (list_root s X k))
+      (p q : List ℕ) (fx nx fy ny : List (Input D))
+      (left : multi_inputs s r ≡ record { place = Root; argument = Bytes p } ∷ fx ++ nx) (right : list_inputs s X k ≡ record { place = Root; argument = Bytes q } ∷ fy ++ ny)
+      (tfx : AreOfTier 1 fx) (tnx : AreOfTier 2 nx) (tfy : AreOfTier 1 fy) (tny : AreOfTier 2 ny) (o : Option (Collision D)) where
+    pub multi_searched : (p ≢ q → o ≡ Some (record { place = Root; claimed = Bytes p; listed = Bytes q }))
+        → (p ≡ q → r.leaves ≡ length X
+        → o ≡ or_else (first_difference s.hashing fx fy) (looked_up (is_difference s.hashing) (flat_map node_places (peaks_of s.rule (length X))) (input_at (multi_inputs s r)) (input_at (list_inputs s X k))))
+        → o ≡ first_collision s.hashing (multi_inputs s r) (list_inputs s X k)
+    multi_searched apart same =
+        let order : p ≡ q → (r.leaves ≡ length X) × (full_places s r.leaves r.inactive ≡ full_places s (length X) k) = λ e.
+        one_order s size sound.bytes r.leaves (length X) r.inactive k (small_leaves s max_nodes r.leaves sound.lawful ok.leaves) (small_leaves s max_nodes (length X) sound.lawful few)
+        (small_inactive s max_nodes r.leaves r.inactive sound.lawful ok.leaves ok.inactive) (small_inactive s max_nodes (length X) k sound.lawful few low)
+        (multi_on s r) (plan_expression (leaf_of s.hashing X))
+        (head_string (multi_expression s r) r.leaves r.inactive p (fx ++ nx) left ∙ e ∙ sym (head_string (option_map (plan_expression (leaf_of s.hashing X)) (root_plan s.bagging k (peaks_of s.rule (length X)))) (length X) k q (fy ++ ny) right)) in
+        parted_search s r.leaves (length X) r.inactive k (multi_inputs s r) (list_inputs s X k) p q fx nx fy ny left right tfx tnx tfy tny
+        (claim_places.multi s r) (subst (λ ps. IsSublist ps (full_places s (length X) k)) (sym (claim_places.listed s X k)) (sub_all (full_places s (length X) k)))
+        (λ e. (order e).1) o apart (λ e. same e (order e).0)
+        ∙ differences_collide.multi s size max_nodes sound X k few low r ok
+
+  -- a range input with pins against a list
+  module _ (X : List D) (k : ℕ) (few : length X ≤ s.max_leaves) (low : k ≤ length (peaks_of s.rule (length X))) (r : RangeInput D) (pins : List D) (ok : AcceptsPinned s r pins (list_root s X k))
+      (p q : List ℕ) (fx nx fy ny : List (Input D))
+      (left : pinned_inputs s r pins ≡ record { place = Root; argument = Bytes p } ∷ fx ++ nx) (right : list_inputs s X k ≡ record { place = Root; argument = Bytes q } ∷ fy ++ ny)
+      (tfx : AreOfTier 1 fx) (tnx : AreOfTier 2 nx) (tfy : AreOfTier 1 fy) (tny : AreOfTier 2 ny) (o : Option (Collision D)) where
+    pub pinned_searched : (p ≢ q → o ≡ Some (record { place = Root; claimed = Bytes p; listed = Bytes q }))
+        → (p ≡ q → r.leaves ≡ length X
+        → o ≡ or_else (first_difference s.hashing fx fy) (looked_up (is_difference s.hashing) (flat_map node_places (peaks_of s.rule (length X))) (input_at (pinned_inputs s r pins)) (input_at (list_inputs s X k))))
+        → o ≡ first_collision s.hashing (pinned_inputs s r pins) (list_inputs s X k)
+    pinned_searched apart same =
+        let c = small_counts r (list_root s X k) ((leads_is_accepted s r (list_root s X k)).0 ok.0) in
+        let order : p ≡ q → (r.leaves ≡ length X) × (full_places s r.leaves r.inactive ≡ full_places s (length X) k) = λ e.
+        one_order s size sound.bytes r.leaves (length X) r.inactive k c.0 (small_leaves s max_nodes (length X) sound.lawful few) c.1 (small_inactive s max_nodes (length X) k sound.lawful few low)
+        (pinned_on s r pins) (plan_expression (leaf_of s.hashing X))
+        (head_string (pinned_expression s r pins) r.leaves r.inactive p (fx ++ nx) left ∙ e ∙ sym (head_string (option_map (plan_expression (leaf_of s.hashing X)) (root_plan s.bagging k (peaks_of s.rule (length X)))) (length X) k q (fy ++ ny) right)) in
+        parted_search s r.leaves (length X) r.inactive k (pinned_inputs s r pins) (list_inputs s X k) p q fx nx fy ny left right tfx tnx tfy tny
+        (claim_places.pinned s r pins) (subst (λ ps. IsSublist ps (full_places s (length X) k)) (sym (claim_places.listed s X k)) (sub_all (full_places s (length X) k)))
+        (λ e. (order e).1) o apart (λ e. same e (order e).0)
+        ∙ differences_collide.pinned s size max_nodes sound X k few low r pins ok

@@ -1,7 +1,7 @@
--- What stands at the nodes' places among the inputs of a list, and of an accepted range input.
-use Rattle.std.proofs.Common.{◌≡◌, ℕ, Bool, true, false, cond, ◌&&◌, nat_lt, ◌+◌, ◌≤◌, ◌<◌, List, [], ◌∷◌, ◌++◌, inl, inr, refl, ap, ap₂, sym, ◌∙◌, subst, arith, length, Option, Some, None, option_map, lt-ltb, ltb-true}
-use Rattle.std.specs.List.{AllByRecursion}
-use Rattle.std.proofs.lemmas.Bool.{and_from, and_parts}
+-- What stands at the nodes' places among the inputs of a list, of an accepted range input, and of scattered leaves.
+use Rattle.std.proofs.Common.{◌≡◌, ℕ, Bool, true, false, cond, ◌&&◌, ◌||◌, nat_lt, nat_eq, ◌+◌, ◌≤◌, ◌<◌, List, [], ◌∷◌, ◌++◌, inl, inr, refl, ap, ap₂, sym, ◌∙◌, subst, arith, length, Option, Some, None, option_map, lt-ltb, ltb-true}
+use Rattle.std.specs.List.{AllByRecursion, list_any}
+use Rattle.std.proofs.lemmas.Bool.{and_from, and_parts, true≢false}
 use Rattle.merkle_base.specs.Forest.{forest}
 use Rattle.merkle_base.specs.Digests.{digest_at, peak_digests}
 use Rattle.merkle_base.specs.Places.{peaks_of}
@@ -12,21 +12,25 @@ use Rattle.merkle_root_theory.specs.Expression.{Place, Node, Pair, Input}
 use Rattle.merkle_root_theory.specs.Collision.{Member}
 use Rattle.merkle_root_theory.specs.Check.{RangeInput, range_inputs}
 use Rattle.merkle_root_theory.specs.Extract.{extracted}
+use Rattle.merkle_root_theory.specs.Plan.{tree_meets}
 use Rattle.merkle_root_theory.specs.Range.{end_of, list_inputs}
 use Rattle.merkle_root_theory.proofs.Collisions.{member_right}
+use Rattle.merkle_claim_theory.specs.Multiproof.{MultiInput, locations_in}
 use Rattle.merkle_claim_theory.specs.Order.{node_places, Distinct}
+use Rattle.merkle_claim_theory.specs.Verdict.{multi_inputs}
 use Rattle.merkle_claim_theory.proofs.PlacesOnce.{member_map}
 use Rattle.merkle_claim_theory.proofs.FirstCollisions.{Decides-place}
 use Rattle.merkle_audit_theory.specs.Cuts.{places_in}
-use Rattle.merkle_audit_theory.specs.Folds.{top_inputs}
+use Rattle.merkle_audit_theory.specs.Folds.{top_inputs, multi_digest}
 use Rattle.merkle_audit_theory.specs.Located.{node_inputs}
 use Rattle.merkle_audit_theory.specs.Searches.{input_at}
-use Rattle.merkle_audit_theory.specs.Seen.{children_of, met_children, node_at, NothingAt, Sees}
+use Rattle.merkle_audit_theory.specs.Seen.{children_of, met_children, chosen_children, node_at, NothingAt, Sees}
 use Rattle.merkle_audit_theory.proofs.ClaimCuts.{claim_places}
 use Rattle.merkle_audit_theory.proofs.Cursors.{is_false, at_none}
 use Rattle.merkle_audit_theory.proofs.ExtractedNodes.{member_unmap, one_node, nodes_are_extracted}
 use Rattle.merkle_audit_theory.proofs.LocatedNodes.{list_node}
 use Rattle.merkle_audit_theory.proofs.PeakInputs.{inputs_by_peaks}
+use Rattle.merkle_audit_theory.proofs.ScatteredNodes.{multi_nodes}
 
 all_of : (P : Tree → Type 0) (ns : List Tree) (ts : List Tree) → ((t : Tree) → IsBuilt ns t → P t) → AllByRecursion (IsBuilt ns) ts → AllByRecursion P ts
 all_of P ns [] f b = tt
@@ -118,3 +122,53 @@ module _ {D : Type 0} (s : Scheme D) (r : RangeInput D) (some : 0 < length r.ele
 
   pub range_sees : AllByRecursion (Sees (met_children r.start (end_of r) f) (input_at xs)) (peaks_of s.rule r.leaves)
   range_sees = all_of _ ns (peaks_of s.rule r.leaves) range_below (peaks_built s.rule r.leaves)
+
+neither : (a b : Bool) → (a || b) ≡ false → (a ≡ false) × (b ≡ false)
+neither true b e = absurd (true≢false e)
+neither false b e = (refl, e)
+
+-- of scattered leaves
+module _ {D : Type 0} (s : Scheme D) (r : MultiInput D) where
+  abbrev chosen : ℕ → Bool
+  chosen = λ i. list_any (nat_eq i) (locations_in r)
+
+  abbrev forest_nodes : List Tree
+  forest_nodes = (forest s.rule r.leaves).nodes
+
+  abbrev zs : List (Input D)
+  zs = multi_inputs s r
+
+  at_node : (p : ℕ) (l u : Tree) → IsBuilt forest_nodes (join p l u) → (v : Bool) → tree_meets chosen (join p l u) ≡ v
+      → input_at zs (Node p) ≡ option_map (node_at (join p l u)) (cond v (Some (multi_digest s r l, multi_digest s r u)) None)
+  at_node p l u b true e =
+      let i = member_unmap zs (Node p) ((multi_nodes.hashed s r p l u b.0).1 e) in
+      let w = multi_nodes.children s r p i.0 i.1 in
+      let same = one_node p w.0 w.1 l u (sym w.2 ∙ b.0) in
+      at_member zs (claim_places.multi_once s r) _ i.1
+      ∙ ap (λ a. Some (record { place = Node p; argument = a })) w.3
+      ∙ ap₂ (λ x y. Some (record { place = Node p; argument = Pair (multi_digest s r x) (multi_digest s r y) })) same.0 same.1
+  at_node p l u b false e = at_none (Node p) zs (λ m. true≢false (sym ((multi_nodes.hashed s r p l u b.0).0 m) ∙ e))
+
+  unchosen : (t : Tree) → IsBuilt forest_nodes t → tree_meets chosen t ≡ false → NothingAt (input_at zs) (node_places t)
+  unchosen (leaf p i) b e = tt
+  unchosen (join p l u) b e =
+      let each = neither (tree_meets chosen l) (tree_meets chosen u) e in (
+        at_none (Node p) zs (λ m. true≢false (sym ((multi_nodes.hashed s r p l u b.0).0 m) ∙ e)),
+        both (input_at zs) (node_places l) (node_places u) (unchosen l b.4 each.0) (unchosen u b.5 each.1),
+      )
+
+  multi_below : (t : Tree) → IsBuilt forest_nodes t → Sees (chosen_children chosen (multi_digest s r)) (input_at zs) t
+  multi_below (leaf p i) b = tt
+  multi_below (join p l u) b = (
+    at_node p l u b (tree_meets chosen (join p l u)) refl,
+    λ e. unchosen (join p l u) b (unmet (tree_meets chosen (join p l u)) (multi_digest s r l, multi_digest s r u) e),
+    multi_below l b.4,
+    multi_below u b.5,
+  )
+    where
+      unmet : (v : Bool) (x : D × D) → cond v (Some x) None ≡ None → v ≡ false
+      unmet true x e = absurd (is_none x e)
+      unmet false x e = refl
+
+  pub multi_sees : AllByRecursion (Sees (chosen_children chosen (multi_digest s r)) (input_at zs)) (peaks_of s.rule r.leaves)
+  multi_sees = all_of _ forest_nodes (peaks_of s.rule r.leaves) multi_below (peaks_built s.rule r.leaves)

@@ -1,5 +1,5 @@
 -- Of what is hashed for a root, the folds and the nodes; and the search in these parts.
-use Rattle.std.proofs.Common.{◌≡◌, ℕ, zero, suc, pred, ◌-◌, nat_lt, Bool, true, false, cond, ◌||◌, List, [], ◌∷◌, ◌++◌, filter, flat_map, take, drop, fold, length, refl, ap, ap₂, sym, ◌∙◌, subst, Option, Some}
+use Rattle.std.proofs.Common.{◌≡◌, ℕ, zero, suc, pred, ◌-◌, nat_lt, Bool, true, false, cond, ◌||◌, List, [], ◌∷◌, ◌++◌, filter, flat_map, take, drop, fold, length, refl, ap, ap₂, sym, ◌∙◌, subst, Option, None, Some}
 use Rattle.std.specs.List.{AllByRecursion}
 use Rattle.merkle_base.specs.Hashing.{Hashing}
 use Rattle.merkle_base.specs.Places.{peaks_of}
@@ -8,11 +8,12 @@ use Rattle.merkle_base.specs.Tree.{Tree, leaf, join}
 use Rattle.merkle_base.specs.declared.family.Bagging.{Bagging}
 use Rattle.merkle_base.specs.declared.family.Bagging.TheVariants.{ForwardFold, BackwardFold}
 use Rattle.merkle_base.proofs.Cases.{by_test}
-use Rattle.merkle_root_theory.specs.Expression.{Place, Root, Join, PrefixFold, SuffixFold, Node, Pair, Input, supplied, computed, visited, is_node}
+use Rattle.merkle_root_theory.specs.Expression.{Place, Root, Join, PrefixFold, SuffixFold, Node, Pair, Input, Expression, supplied, computed, visited, is_node}
 use Rattle.merkle_root_theory.specs.Claim.{next, tree_claim}
-use Rattle.merkle_root_theory.specs.Plan.{node_expression, siblings, tree_meets}
+use Rattle.merkle_root_theory.specs.Plan.{peak, node_expression, siblings, tree_meets}
 use Rattle.merkle_root_theory.specs.Range.{leaf_of}
 use Rattle.merkle_claim_theory.specs.FirstCollision.{or_else}
+use Rattle.merkle_claim_theory.specs.MultiClaim.{also, or_empty, multi_tree, multi_claim}
 use Rattle.merkle_claim_theory.specs.Order.{down, up, fold_places, node_places, Distinct}
 use Rattle.merkle_claim_theory.proofs.FirstCollisions.{Decides-place}
 use Rattle.merkle_audit_theory.specs.Cuts.{IsSublist, no_more, kept, left_out, places_in, peak_places, full_places}
@@ -27,7 +28,7 @@ use Rattle.merkle_audit_theory.proofs.PartedInputs.{in_parts}
 use Rattle.merkle_audit_theory.proofs.SublistFacts.{sub_filter, sub_distinct}
 
 module _ {D : Type 0} where
-  tiers_joined : (n : ℕ) (xs ys : List (Input D)) → AreOfTier n xs → AreOfTier n ys → AreOfTier n (xs ++ ys)
+  pub tiers_joined : (n : ℕ) (xs ys : List (Input D)) → AreOfTier n xs → AreOfTier n ys → AreOfTier n (xs ++ ys)
   tiers_joined n [] ys a b = b
   tiers_joined n (x ∷ xs) ys a b = (a.0, tiers_joined n xs ys a.1 b)
 
@@ -71,6 +72,24 @@ module _ {D : Type 0} (h : Hashing D) where
   over_tier c X [] ds = tt
   over_tier c X (t ∷ ts) ds = tiers_joined 2 (visited h (tree_claim h c X t ds)) (over_inputs h c X ts (drop (length (siblings c t)) ds)) (tree_tier c X t ds) (over_tier c X ts (drop (length (siblings c t)) ds))
 
+  also_tier : (o : Option D) (e : Expression D) → AreOfTier 2 (visited h e) → AreOfTier 2 (visited h (also o e))
+  also_tier None e a = a
+  also_tier (Some d) e a = a
+
+  module _ (a : ℕ → Option D) (c : ℕ → Bool) (Y : ℕ → D) where
+    scattered_tier : (t : Tree) → AreOfTier 2 (visited h (multi_tree h a c Y t))
+    scattered_tier (leaf p i) = by_test (λ b. AreOfTier 2 (visited h (cond b (also (a p) (supplied (Y i))) (supplied (or_empty h (a p)))))) (c i) (λ _. also_tier (a p) (supplied (Y i)) tt) (λ _. tt)
+    scattered_tier (join p l r) =
+        let e = computed (Node p) (multi_tree h a c Y l) (multi_tree h a c Y r) in
+        let u = scattered_tier l in
+        let v = scattered_tier r in
+        by_test (λ b. AreOfTier 2 (visited h (cond b (also (a p) e) (supplied (or_empty h (a p)))))) (tree_meets c l || tree_meets c r)
+        (λ _. also_tier (a p) e (refl, tiers_joined 2 (visited h (multi_tree h a c Y l)) (visited h (multi_tree h a c Y r)) u v)) (λ _. tt)
+
+    pub multi_tier : (ts : List Tree) → AreOfTier 2 (flat_map (λ t. visited h (multi_claim h a c Y (peak t))) ts)
+    multi_tier [] = tt
+    multi_tier (t ∷ ts) = tiers_joined 2 (visited h (multi_claim h a c Y (peak t))) (flat_map (λ t. visited h (multi_claim h a c Y (peak t))) ts) (scattered_tier t) (multi_tier ts)
+
   list_tier : (X : ℕ → D) (t : Tree) → AreOfTier 2 (visited h (node_expression X t))
   list_tier X (leaf p i) = tt
   list_tier X (join p l r) = (refl, tiers_joined 2 (visited h (node_expression X l)) (visited h (node_expression X r)) (list_tier X l) (list_tier X r))
@@ -83,7 +102,7 @@ module _ {D : Type 0} (h : Hashing D) where
   node_tier rule xs = all_tier (leaf_of h xs) (peaks_of rule (length xs))
 
 -- ---- places of nodes
-node_of : (p : Place) → tier p ≡ 2 → is_node p ≡ true
+pub node_of : (p : Place) → tier p ≡ 2 → is_node p ≡ true
 node_of (Node q) e = refl
 node_of Root e = cc
 node_of Join e = cc

@@ -1,8 +1,9 @@
 -- What a search down the nodes of a tree sees.
-use Rattle.std.specs.Prelude.{◌≡◌, ℕ, ◌&&◌, nat_lt, cond, List, Option, Some, None, option_map}
+use Rattle.std.specs.Prelude.{◌≡◌, ℕ, Bool, ◌&&◌, nat_lt, cond, List, Option, Some, None, option_map}
 use Rattle.std.specs.List.{AllByRecursion}
 use Rattle.merkle_base.specs.Tree.{Tree, leaf, join, position, first_leaf, end_leaf}
 use Rattle.merkle_root_theory.specs.Expression.{Place, Node, Pair, Input}
+use Rattle.merkle_root_theory.specs.Plan.{tree_meets}
 use Rattle.merkle_claim_theory.specs.Order.{node_places}
 
 -- the digests of a node's children, if it has some
@@ -14,6 +15,11 @@ children_of f (join p l r) = Some (f (position l), f (position r))
 abbrev pub met_children : {D : Type 0} → (a b : ℕ) → (ℕ → D) → Tree → Option (D × D)
 met_children a b f (leaf p i) = None
 met_children a b f (join p l r) = cond (nat_lt (first_leaf l) b && nat_lt a (end_leaf r)) (Some (f (position l), f (position r))) None
+
+-- the digests that v has at a node's children, if a chosen location lies under the node
+abbrev pub chosen_children : {D : Type 0} → (ℕ → Bool) → (Tree → D) → Tree → Option (D × D)
+chosen_children c v (leaf p i) = None
+chosen_children c v (join p l r) = cond (tree_meets c (join p l r)) (Some (v l, v r)) None
 
 -- two digests that are hashed at a node
 abbrev pub node_at : {D : Type 0} → Tree → D × D → Input D
