@@ -1,7 +1,10 @@
 pub mod Claims
 pub mod FoldLists
+pub mod GivenLeaves
+pub mod GivenNodes
 pub mod Lists
 pub mod ListsFound
+pub mod MultiFound
 pub mod PeakWalk
 pub mod Searched
 pub mod Tops

@@ -1,12 +1,17 @@
 -- What audits hand out, and when.
-use Rattle.std.specs.Prelude.{◌≡◌, ℕ, List, [], ◌∷◌, Bool, nat_lt, length, Option, Some, None}
+use Rattle.std.specs.Prelude.{◌≡◌, ◌↔◌, ℕ, List, [], ◌∷◌, Bool, nat_lt, length, Option, Some, None, IfSome, Ok}
 use Rattle.merkle_base.specs.Digests.{peak_digests}
 use Rattle.merkle_base.specs.Hashing.{Hashing}
 use Rattle.merkle_base.specs.Places.{peaks_of}
+use Rattle.merkle_base.specs.Scheme.{Scheme}
 use Rattle.merkle_base.specs.declared.error.Error.{Error}
 use Rattle.merkle_base.specs.declared.error.Error.TheVariants.{LocationOverflow, InvalidInactivePeaks}
 use Rattle.merkle_root_theory.specs.Expression as theory
-use Rattle.merkle_root_theory.specs.Collision.{Collision}
+use Rattle.merkle_root_theory.specs.Check.{RangeInput, range_inputs, SharesLeaves}
+use Rattle.merkle_root_theory.specs.Collision.{Collision, Collides}
+use Rattle.merkle_root_theory.specs.Reconstruction.{reconstructed}
+use Rattle.merkle_claim_theory.specs.FirstCollision.{IsFirstCollision}
+use Rattle.merkle_audit_theory.specs.Located.{node_inputs}
 use Rattle.merkle_audit.specs.declared.place.Place.{Place}
 use Rattle.merkle_audit.specs.declared.place.Place.TheVariants as place
 use Rattle.merkle_audit.specs.declared.place.Argument.{Argument}
@@ -67,3 +72,26 @@ length_refusals max_leaves listed claimed =
 -- the lists have one length, and the same digests at their peaks
 abbrev pub HaveSamePeaks : {D : Type 0} → Hashing D → (List ℕ → List ℕ) → List D → List D → Type 0
 HaveSamePeaks h rule X Z = (length X ≡ length Z) × (peak_digests h rule X ≡ peak_digests h rule Z)
+
+-- what an audit of an input says: that the check rejects it, exactly if so; that it is honest, exactly if so; and else the first collision of
+-- what the check hashed, xs, with what is hashed for the list, ys
+pub record IsVerdict {F D : Type 0} (Accepts Honest : Type 0) (h : Hashing D) (xs ys : List (theory.Input D)) (v : Verdict F D) : Type 0 where
+  pub rejected : (v ≡ verdict.Rejected) ↔ ¬ Accepts
+  pub honest : (v ≡ verdict.Honest) ↔ Honest
+  pub collision : IfSome (collision_in v) (λ c. IsFirstCollision h xs ys c)
+
+-- what an audit says of a list X that a batch was recorded at, and the list Z of a structure: that the batch is refused, exactly if so; that they
+-- are equal, exactly if so; and else their first collision, which is at a node
+pub record IsApplyVerdict {F D : Type 0} (h : Hashing D) (rule : List ℕ → List ℕ) (X Z : List D) (v : ApplyVerdict F D) : Type 0 where
+  pub refused : (v ≡ applied.Refused) ↔ ¬ (HaveSamePeaks h rule X Z)
+  pub same : (v ≡ applied.Same) ↔ (X ≡ Z)
+  pub collision : IfSome (collision_of_lists v) (λ c. IsFirstCollision h (node_inputs h rule X) (node_inputs h rule Z) c)
+  pub node : IfSome (collision_of_lists v) (λ c. (p : ℕ) × (c.place ≡ theory.Node p))
+
+-- what an audit says of two inputs against one root: that one is rejected, exactly if so; their first collision; and else that they are
+-- consistent, where nothing collides and each leaf that both prove has one digest
+pub record IsPairVerdict {F D : Type 0} (s : Scheme D) (root : D) (r q : RangeInput D) (v : PairVerdict F D) : Type 0 where
+  pub rejected : (v ≡ paired.Rejected) ↔ ¬ ((reconstructed s r ≡ Ok root) × (reconstructed s q ≡ Ok root))
+  pub collision : IfSome (collision_of_pair v) (λ c. IsFirstCollision s.hashing (range_inputs s r) (range_inputs s q) c)
+  pub clear : v ≡ paired.Consistent → (c : Collision D) → ¬ (Collides s.hashing (range_inputs s r) (range_inputs s q) c)
+  pub consistent : v ≡ paired.Consistent → SharesLeaves s.hashing r q

@@ -1,3 +1,4 @@
+pub mod Chosen
 pub mod Claimed
 pub mod Found
 pub mod Hashed

@@ -1,12 +1,9 @@
 //! The audit of a batch that was recorded at a list.
-ghost use Rattle.std.specs.Prelude.{◌≡◌, ◌≢◌, ◌≤◌, ◌↔◌, ℕ, Some, None, IfOk, IfErr, IfSome, length, option_map};
+ghost use Rattle.std.specs.Prelude.{◌≡◌, ◌≢◌, ◌≤◌, ◌↔◌, Some, None, IfOk, IfErr, length, option_map};
 ghost use Rattle.std.specs.Cmp.Lexicographic.{pointwise};
 ghost use Rattle.merkle_base.specs.Cases.{first_case};
-ghost use Rattle.merkle_claim_theory.specs.FirstCollision.{IsFirstCollision};
-ghost use Rattle.merkle_audit.specs.Found.{length_refusals, HaveSamePeaks, collision_of_lists};
+ghost use Rattle.merkle_audit.specs.Found.{length_refusals, collision_of_lists, IsApplyVerdict};
 ghost use Rattle.merkle_audit.specs.Hashed.{located};
-ghost use Rattle.merkle_root_theory.specs.Expression.{Node};
-ghost use Rattle.merkle_audit_theory.specs.Located.{node_inputs};
 
 use crate::list::{ListNodes, leaf_count, peak_subtrees};
 use crate::nodes::first_below;
@@ -18,7 +15,8 @@ use merkle_core::hasher::Hasher;
 use std::alloc::Global;
 
 /// Audits the list that a structure agrees with, `listed`, and the list at which a batch was
-/// recorded, `claimed`.
+/// recorded, `claimed`: says whether the batch is refused, since its list has another length or other
+/// peaks, whether both are one list, or else which nodes of the two collide.
 ///
 /// # Errors
 ///
@@ -36,12 +34,7 @@ pub fn audit_apply<F: Family, H: Hasher<F>>(
     ensures err { IfErr result (λ e. e ≢ Error.OutOfMemory
         → first_case (length_refusals F.MAX_LEAVES (length listed.now) (length claimed.now)) ≡ Some e) }
     ensures within { IfOk result (λ _. (length listed.now ≤ F.MAX_LEAVES) × (length claimed.now ≤ F.MAX_LEAVES)) }
-    ensures refused { let s = H.scheme hasher.now in
-        IfOk result (λ v. (v ≡ ApplyVerdict.Refused) ↔ ¬ HaveSamePeaks s.hashing s.rule claimed.now listed.now) }
-    ensures same { IfOk result (λ v. (v ≡ ApplyVerdict.Same) ↔ (claimed.now ≡ listed.now)) }
-    ensures collision { let s = H.scheme hasher.now in IfOk result (λ v. IfSome (collision_of_lists v) (λ c.
-        IsFirstCollision s.hashing (node_inputs s.hashing s.rule claimed.now) (node_inputs s.hashing s.rule listed.now) c)) }
-    ensures node { IfOk result (λ v. IfSome (collision_of_lists v) (λ c. (p : ℕ) × (c.place ≡ Node p))) }
+    ensures judged { let s = H.scheme hasher.now in IfOk result (λ v. IsApplyVerdict s.hashing s.rule claimed.now listed.now v) }
 {
     let leaves = match leaf_count(listed.len()) {
         Ok(leaves) => leaves,

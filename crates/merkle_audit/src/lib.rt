@@ -8,14 +8,17 @@
 mod apply;
 mod claim;
 mod list;
+mod multi;
 mod nodes;
 mod pair;
 mod place;
 mod range;
+mod scattered;
 mod top;
 mod verdict;
 
 pub use crate::apply::audit_apply;
+pub use crate::multi::audit_multi;
 pub use crate::pair::audit_pair;
 pub use crate::place::{Argument, Place};
 pub use crate::range::audit_range;

@@ -1,5 +1,6 @@
 //! A list of leaf digests, with its nodes and what is hashed for its root.
-ghost use Rattle.std.specs.Prelude.{◌≡◌, ◌≤◌, ◌<◌, List, Ok, Err, IfOk, IfErr, IsOkUnless, length, map};
+ghost use Rattle.std.specs.Prelude.{◌≡◌, ◌≢◌, ◌≤◌, ◌<◌, List, Some, Ok, Err, IfOk, IfErr, IsOkUnless, length, map};
+ghost use Rattle.merkle_base.specs.Cases.{first_case};
 ghost use Rattle.merkle_base.specs.Digests.{peak_digests};
 ghost use Rattle.merkle_base.specs.Places.{peaks_of};
 ghost use Rattle.merkle_base.specs.Root.{list_root};
@@ -7,8 +8,9 @@ ghost use Rattle.merkle_hasher.specs.Subtrees.{subtree_of};
 ghost use Rattle.merkle_hasher.specs.declared.subtree.Subtree.{Subtree};
 ghost use Rattle.merkle_audit_theory.specs.Folds.{top_inputs};
 ghost use Rattle.merkle_audit_theory.specs.Seen.{children_of};
+ghost use Rattle.merkle_audit.specs.Found.{list_refusals};
 ghost use Rattle.merkle_audit.specs.Hashed.{top_of};
-ghost use Rattle.merkle_audit.specs.Listed.{digest_in, IsOfList};
+ghost use Rattle.merkle_audit.specs.Listed.{digest_in, IsOfList, IsHashedList};
 
 use crate::nodes::Hashes;
 use crate::top::{Shape, Top, above_peaks};
@@ -159,4 +161,51 @@ pub(crate) fn peak_subtrees<F: Family>(
         peaks.push(peak)?;
     }
     Ok(peaks)
+}
+
+/// All that is hashed for a list, and its root.
+#[derive(Drop)]
+pub(crate) struct HashedList<F: Family, D: Digest> {
+    pub(crate) root: D,
+    pub(crate) top: Top<F, D>,
+    pub(crate) nodes: ListNodes<F, D>,
+    pub(crate) peaks: Vec<Subtree<F>>,
+}
+
+impl<F: Family, D: Digest> HashedList<F, D> {
+    /// Computes all that is hashed for a list and a number of inactive peaks.
+    pub(crate) fn new<H: Hasher<F, Digest = D>>(
+        alloc: Global,
+        hasher: &H,
+        list: &[D],
+        inactive: usize,
+    ) -> Result<Self, Error<F>>
+        ensures err { IfErr result (λ e. e ≢ Error.OutOfMemory
+            → first_case (list_refusals F.rule F.MAX_LEAVES (length list.now) inactive) ≡ Some e) }
+        ensures within { IfOk result (λ _. (length list.now ≤ F.MAX_LEAVES) × (inactive ≤ length (peaks_of F.rule (length list.now)))) }
+        ensures hashed { let s = H.scheme hasher.now in IfOk result (λ l. IsHashedList s list.now inactive l) }
+    {
+        let leaves = match leaf_count(list.len()) {
+            Ok(leaves) => leaves,
+            Err(error) => return Err(error),
+        };
+        let nodes = match ListNodes::new(alloc, hasher, list) {
+            Ok(nodes) => nodes,
+            Err(error) => return Err(error),
+        };
+        let root = match nodes.root(hasher, inactive) {
+            Ok(root) => root,
+            Err(error) => return Err(error),
+        };
+        let peaks = peak_subtrees(alloc, leaves)?;
+        let Ok(top) = nodes.top(alloc, hasher, inactive, &peaks) else {
+            return Err(Error::OutOfMemory);
+        };
+        Ok(HashedList {
+            root,
+            top,
+            nodes,
+            peaks,
+        })
+    }
 }

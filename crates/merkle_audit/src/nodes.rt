@@ -5,16 +5,18 @@ ghost use Rattle.merkle_base.specs.Hashing.{Hashing, IsOver};
 ghost use Rattle.merkle_base.specs.Tree.{Tree, join};
 ghost use Rattle.merkle_hasher.specs.Subtrees.{Denotes, AreNodes, subtree_of};
 ghost use Rattle.merkle_root_theory.specs.Expression as theory;
+ghost use Rattle.merkle_claim_theory.specs.FirstCollision.{or_else};
 ghost use Rattle.merkle_claim_theory.specs.Order.{node_places};
 ghost use Rattle.merkle_audit_theory.specs.Differences.{is_difference};
 ghost use Rattle.merkle_audit_theory.specs.Searches.{looked_up};
 ghost use Rattle.merkle_audit_theory.specs.Seen.{Sees};
-ghost use Rattle.merkle_audit.specs.Hashed.{located};
+ghost use Rattle.merkle_audit.specs.Hashed.{located, found_over};
 
 use crate::place::{Argument, Place};
 use crate::verdict::Collision;
 use merkle_core::digest::Digest;
 use merkle_core::family::Family;
+use merkle_core::position::Position;
 use merkle_core::subtree::Subtree;
 
 /// What is hashed at nodes.
@@ -35,6 +37,46 @@ fn are_same<D: Digest>(one: &(D, D), other: &(D, D)) -> bool
     ensures { result ≡ (D.eq one.now.0 other.now.0 && D.eq one.now.1 other.now.1) }
 {
     one.0 == other.0 && one.1 == other.1
+}
+
+/// Returns what is found first, or else what is found later.
+pub(crate) fn first_of<F: Family, D: Digest>(
+    first: Option<Collision<F, D>>,
+    later: Option<Collision<F, D>>,
+) -> Option<Collision<F, D>>
+    ensures { option_map located result ≡ or_else (option_map located first) (option_map located later) }
+{
+    match first {
+        Some(found) => Some(found),
+        None => later,
+    }
+}
+
+/// Returns the first node, from the one at `position` on, at which two different pairs are hashed: the
+/// node itself, by the pair that is claimed there and the one that is listed, or else what is found
+/// below its left child, or else what is found below its right one. Where nothing is listed at the
+/// node, nothing is below it.
+pub(crate) fn first_over<F: Family, D: Digest>(
+    position: Position<F>,
+    claimed: (D, D),
+    listed: Option<(D, D)>,
+    left: Option<Collision<F, D>>,
+    right: Option<Collision<F, D>>,
+) -> Option<Collision<F, D>>
+    ensures { (h : Hashing D) → IsOver h D.bytes D.eq D.EMPTY
+        → option_map located result ≡ found_over h position claimed listed (option_map located left) (option_map located right) }
+{
+    let Some(pair) = listed else {
+        return None;
+    };
+    if !are_same(&claimed, &pair) {
+        return Some(Collision {
+            place: Place::Node(position),
+            claimed: Argument::Pair(claimed.0, claimed.1),
+            listed: Argument::Pair(pair.0, pair.1),
+        });
+    }
+    first_of(left, right)
 }
 
 /// Returns the first node, from this one on, at which two different pairs are hashed: a node before

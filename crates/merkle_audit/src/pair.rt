@@ -1,12 +1,8 @@
 //! The audit of two range checks against one root.
-ghost use Rattle.std.specs.Prelude.{◌≡◌, ◌≢◌, ◌↔◌, None, Ok, IfOk, IfErr, IfSome, option_map};
-ghost use Rattle.merkle_claim_theory.specs.FirstCollision.{IsFirstCollision};
-ghost use Rattle.merkle_audit.specs.Found.{collision_of_pair};
+ghost use Rattle.std.specs.Prelude.{◌≡◌, ◌≢◌, ◌↔◌, None, IfOk, IfErr, option_map};
+ghost use Rattle.merkle_audit.specs.Found.{collision_of_pair, IsPairVerdict};
 ghost use Rattle.merkle_audit.specs.Hashed.{located};
 ghost use Rattle.merkle_proof.specs.Input.{input_of};
-ghost use Rattle.merkle_root_theory.specs.Check.{SharesLeaves, range_inputs};
-ghost use Rattle.merkle_root_theory.specs.Collision.{Collides};
-ghost use Rattle.merkle_root_theory.specs.Reconstruction.{reconstructed};
 ghost use Rattle.merkle_root_theory.specs.Walk.{bytes_of};
 
 use crate::claim::{Claim, accepted};
@@ -19,7 +15,9 @@ use merkle_core::hasher::Hasher;
 use merkle_core::location::Location;
 use merkle_core::proof::Proof;
 
-/// Audits two inputs of range checks against one root, which may be that of no list.
+/// Audits two inputs of range checks against one root, which may be that of no list: says whether one
+/// of them is rejected, whether they are consistent, or else what both hashed that collides. So who
+/// holds two answers that contradict each other, and no list, has evidence against one of them.
 ///
 /// # Errors
 ///
@@ -31,22 +29,10 @@ pub fn audit_pair<F: Family, H: Hasher<F>>(
     second: (&Proof<F, H::Digest>, &[&[u8]], Location<F>),
 ) -> Result<PairVerdict<F, H::Digest>, Error<F>>
     ensures err { IfErr result (λ e. e ≡ Error.OutOfMemory) }
-    ensures rejected { let s = H.scheme hasher.now in
+    ensures judged { let s = H.scheme hasher.now in
         let r = input_of s first.entry.0.now first.entry.2 (bytes_of first.entry.1.now) in
         let q = input_of s second.entry.0.now second.entry.2 (bytes_of second.entry.1.now) in
-        IfOk result (λ v. (v ≡ PairVerdict.Rejected) ↔ ¬ ((reconstructed s r ≡ Ok root.now) × (reconstructed s q ≡ Ok root.now))) }
-    ensures collision { let s = H.scheme hasher.now in
-        let r = input_of s first.entry.0.now first.entry.2 (bytes_of first.entry.1.now) in
-        let q = input_of s second.entry.0.now second.entry.2 (bytes_of second.entry.1.now) in
-        IfOk result (λ v. IfSome (collision_of_pair v) (λ c. IsFirstCollision s.hashing (range_inputs s r) (range_inputs s q) c)) }
-    ensures clear { let s = H.scheme hasher.now in
-        let r = input_of s first.entry.0.now first.entry.2 (bytes_of first.entry.1.now) in
-        let q = input_of s second.entry.0.now second.entry.2 (bytes_of second.entry.1.now) in
-        IfOk result (λ v. v ≡ PairVerdict.Consistent → (c : _) → ¬ (Collides s.hashing (range_inputs s r) (range_inputs s q) c)) }
-    ensures consistent { let s = H.scheme hasher.now in
-        let r = input_of s first.entry.0.now first.entry.2 (bytes_of first.entry.1.now) in
-        let q = input_of s second.entry.0.now second.entry.2 (bytes_of second.entry.1.now) in
-        IfOk result (λ v. v ≡ PairVerdict.Consistent → SharesLeaves s.hashing r q) }
+        IfOk result (λ v. IsPairVerdict s root.now r q v) }
 {
     let one = match accepted(hasher, first.0, first.1, first.2, root) {
         Ok(Some(claim)) => claim,

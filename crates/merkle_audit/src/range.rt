@@ -1,5 +1,5 @@
 //! The audit of a range check.
-ghost use Rattle.std.specs.Prelude.{◌≡◌, ◌≢◌, ◌≤◌, ◌↔◌, List, Option, Some, None, Ok, IfOk, IfErr, IfSome, length, map, flat_map, option_map};
+ghost use Rattle.std.specs.Prelude.{◌≡◌, ◌≢◌, ◌≤◌, ◌↔◌, List, Option, Some, None, Ok, IfOk, IfErr, length, map, flat_map, option_map};
 ghost use Rattle.std.specs.List.{AllByRecursion};
 ghost use Rattle.merkle_base.specs.Cases.{first_case};
 ghost use Rattle.merkle_base.specs.Hashing.{Hashing, IsOver};
@@ -13,19 +13,18 @@ ghost use Rattle.merkle_root_theory.specs.Expression as theory;
 ghost use Rattle.merkle_root_theory.specs.Range.{IsHonestRange, list_inputs};
 ghost use Rattle.merkle_root_theory.specs.Reconstruction.{reconstructed};
 ghost use Rattle.merkle_root_theory.specs.Walk.{bytes_of};
-ghost use Rattle.merkle_claim_theory.specs.FirstCollision.{or_else, IsFirstCollision};
+ghost use Rattle.merkle_claim_theory.specs.FirstCollision.{or_else};
 ghost use Rattle.merkle_claim_theory.specs.Order.{node_places};
 ghost use Rattle.merkle_audit_theory.specs.Differences.{is_difference, first_difference};
 ghost use Rattle.merkle_audit_theory.specs.Searches.{looked_up};
 ghost use Rattle.merkle_audit_theory.specs.Seen.{Sees};
-ghost use Rattle.merkle_audit.specs.Found.{list_refusals, collision_in};
+ghost use Rattle.merkle_audit.specs.Found.{list_refusals, collision_in, IsVerdict};
 ghost use Rattle.merkle_audit.specs.Hashed.{fold_at, located, roots_apart};
 
 use crate::claim::{Claim, accepted};
-use crate::list::{ListNodes, leaf_count, peak_subtrees};
+use crate::list::HashedList;
 use crate::nodes::{Hashes, first_below};
-use crate::place::{Argument, Place};
-use crate::top::{Top, first_fold};
+use crate::top::{Top, first_above};
 use crate::verdict::{Collision, Verdict};
 use merkle_core::digest::Digest;
 use merkle_core::error::Error;
@@ -52,21 +51,18 @@ pub(crate) fn first_difference<F: Family, D: Digest, A: Hashes<F, D>, B: Hashes<
         → option_map located result ≡ or_else (first_difference h (map fold_at claimed.folds.items) (map fold_at listed.folds.items))
         (looked_up (is_difference h) (flat_map node_places ts) f g) }
 {
-    if claimed.root != listed.root {
-        return Some(Collision {
-            place: Place::Root,
-            claimed: Argument::Bytes(claimed.root),
-            listed: Argument::Bytes(listed.root),
-        });
-    }
-    match first_fold(&claimed.folds, &listed.folds) {
+    match first_above(claimed, listed) {
         Some(found) => Some(found),
         None => first_below(peaks, claimed_nodes, listed_nodes),
     }
 }
 
 /// Audits an input of a range check against the root of a list, of which the leaf digests are at
-/// hand.
+/// hand: says whether the check rejects the input, whether it is the honest one of the list, or else
+/// what the check hashed that collides with the list.
+///
+/// The list is hashed once, as by `merkleize`, and the input as by the check and by extraction. The
+/// nodes of the list are kept as long as the audit takes.
 ///
 /// # Errors
 ///
@@ -75,6 +71,20 @@ pub(crate) fn first_difference<F: Family, D: Digest, A: Hashes<F, D>, B: Hashes<
 /// - `InvalidInactivePeaks` if `inactive` exceeds the number of peaks of the list
 ///
 /// `OutOfMemory` at any point if a memory request is refused.
+///
+/// # Examples
+///
+/// ```
+/// // `log` has the elements 01, 02 and 04, and `list` their leaf digests.
+/// let start = Location::new(0);
+/// let Ok(proof) = log.range_proof(&hasher, start..Location::new(1), 0) else {
+///     return None;
+/// };
+/// let honest = audit_range(&hasher, &list, 0, &proof, &[&[1]], start);
+/// assert!(rt; matches!(&honest, Ok(Verdict::Honest)));
+/// let other = audit_range(&hasher, &list, 0, &proof, &[&[2]], start);
+/// assert!(rt; matches!(&other, Ok(Verdict::Rejected)));
+/// ```
 pub fn audit_range<F: Family, H: Hasher<F>>(
     hasher: &H,
     list: &[H::Digest],
@@ -86,50 +96,38 @@ pub fn audit_range<F: Family, H: Hasher<F>>(
     ensures err { IfErr result (λ e. e ≢ Error.OutOfMemory
         → first_case (list_refusals F.rule F.MAX_LEAVES (length list.now) inactive) ≡ Some e) }
     ensures within { IfOk result (λ _. (length list.now ≤ F.MAX_LEAVES) × (inactive ≤ length (peaks_of F.rule (length list.now)))) }
-    ensures rejected { let s = H.scheme hasher.now in
+    ensures judged { let s = H.scheme hasher.now in
         let r = input_of s proof.now start (bytes_of elements.now) in
-        IfOk result (λ v. (v ≡ Verdict.Rejected) ↔ (reconstructed s r ≢ Ok (list_root s list.now inactive))) }
-    ensures honest { let s = H.scheme hasher.now in
-        let r = input_of s proof.now start (bytes_of elements.now) in
-        IfOk result (λ v. (v ≡ Verdict.Honest) ↔ IsHonestRange s list.now inactive r) }
-    ensures collision { let s = H.scheme hasher.now in
-        let r = input_of s proof.now start (bytes_of elements.now) in
-        IfOk result (λ v. IfSome (collision_in v) (λ c.
-        IsFirstCollision s.hashing (range_inputs s r) (list_inputs s list.now inactive) c)) }
+        IfOk result (λ v. IsVerdict (reconstructed s r ≡ Ok (list_root s list.now inactive)) (IsHonestRange s list.now inactive r)
+        s.hashing (range_inputs s r) (list_inputs s list.now inactive) v) }
 {
     let alloc = *proof.digests.allocator();
-    let leaves = match leaf_count(list.len()) {
-        Ok(leaves) => leaves,
+    let listed = match HashedList::new(alloc, hasher, list, inactive) {
+        Ok(listed) => listed,
         Err(error) => return Err(error),
     };
-    let nodes = match ListNodes::new(alloc, hasher, list) {
-        Ok(nodes) => nodes,
-        Err(error) => return Err(error),
-    };
-    let root = match nodes.root(hasher, inactive) {
-        Ok(root) => root,
-        Err(error) => return Err(error),
-    };
-    let claim = match accepted(hasher, proof, elements, start, &root) {
+    let claim = match accepted(hasher, proof, elements, start, &listed.root) {
         Ok(Some(claim)) => claim,
         Ok(None) => return Ok(Verdict::Rejected),
         Err(error) => return Err(error),
     };
-    let peaks = peak_subtrees(alloc, leaves)?;
     let Claim {
         top: claimed,
         nodes: claimed_nodes,
         ..
     } = claim;
-    let Ok(listed) = nodes.top(alloc, hasher, inactive, &peaks) else {
-        return Err(Error::OutOfMemory);
-    };
-    let found = first_difference(claimed, &claimed_nodes, listed, &nodes, &peaks);
+    let HashedList {
+        top,
+        nodes,
+        peaks,
+        ..
+    } = listed;
+    let found = first_difference(claimed, &claimed_nodes, top, &nodes, &peaks);
     Ok(verdict(found))
 }
 
-// Returns what an audit of an accepted input says.
-fn verdict<F: Family, D: Digest>(found: Option<Collision<F, D>>) -> Verdict<F, D>
+/// Returns what an audit of an accepted input says.
+pub(crate) fn verdict<F: Family, D: Digest>(found: Option<Collision<F, D>>) -> Verdict<F, D>
     ensures accepted { result ≢ Verdict.Rejected }
     ensures honest { (result ≡ Verdict.Honest) ↔ (option_map located found ≡ None) }
     ensures collision { collision_in result ≡ option_map located found }

@@ -1,5 +1,5 @@
 //! What is hashed above the peaks: the folds and the byte string of the root.
-ghost use Rattle.std.specs.Prelude.{◌≡◌, ◌<◌, ◌+◌, ◌++◌, ◌∷◌, [], ◌^◌, List, Some, IfOk, OnOk, map, length, fold, option_map, max};
+ghost use Rattle.std.specs.Prelude.{◌≡◌, ◌≢◌, ◌<◌, ◌+◌, ◌++◌, ◌∷◌, [], ◌^◌, List, Some, IfOk, OnOk, map, length, fold, option_map, max};
 ghost use Rattle.merkle_base.specs.Hashing.{Hashing, IsOver};
 ghost use Rattle.merkle_base.specs.Root.{folded, root_string};
 ghost use Rattle.merkle_base.specs.declared.family.Bagging.TheVariants.{BackwardFold};
@@ -7,7 +7,7 @@ ghost use Rattle.merkle_audit_theory.specs.Differences.{is_difference, differenc
 ghost use Rattle.merkle_audit_theory.specs.Folds.{left_inputs, right_value, right_inputs, numbered_inputs};
 ghost use Rattle.merkle_root_theory.specs.Expression.{Pair};
 ghost use Rattle.merkle_audit.specs.Found.{place_of};
-ghost use Rattle.merkle_audit.specs.Hashed.{fold_at, located};
+ghost use Rattle.merkle_audit.specs.Hashed.{fold_at, located, roots_apart};
 
 use crate::place::{Argument, Place};
 use crate::verdict::Collision;
@@ -214,4 +214,24 @@ pub(crate) fn first_fold<F: Family, D: Digest>(
         Some(found) => Some(found),
         None => first_fold(claimed, others),
     }
+}
+
+/// Returns the first place above the peaks where what is hashed for two equal roots differs: the
+/// strings of the roots, and then the folds.
+pub(crate) fn first_above<F: Family, D: Digest>(
+    claimed: Top<F, D>,
+    listed: Top<F, D>,
+) -> Option<Collision<F, D>>
+    ensures apart { claimed.root.items ≢ listed.root.items → option_map located result ≡ Some (roots_apart claimed listed) }
+    ensures same { (h : Hashing D) → IsOver h D.bytes D.eq D.EMPTY → claimed.root.items ≡ listed.root.items
+        → option_map located result ≡ first_difference h (map fold_at claimed.folds.items) (map fold_at listed.folds.items) }
+{
+    if claimed.root != listed.root {
+        return Some(Collision {
+            place: Place::Root,
+            claimed: Argument::Bytes(claimed.root),
+            listed: Argument::Bytes(listed.root),
+        });
+    }
+    first_fold(&claimed.folds, &listed.folds)
 }

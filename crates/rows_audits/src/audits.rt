@@ -1,7 +1,8 @@
 //! Calls of audits.
 
 use merkle_audit::{
-    ApplyVerdict, Argument, PairVerdict, Place, Verdict, audit_apply, audit_pair, audit_range,
+    ApplyVerdict, Argument, PairVerdict, Place, Verdict, audit_apply, audit_multi, audit_pair,
+    audit_range,
 };
 use merkle_core::digest::Digest;
 use merkle_core::family::Family;
@@ -11,8 +12,9 @@ use merkle_core::proof::Proof;
 use rows_common::granted;
 use rows_common::values::{digest, digests, proof};
 use rows_text::answer::Answer;
-use rows_text::refusal::Refusal;
-use rows_text::words::Words;
+use rows_text::refusal::{OUT_OF_MEMORY, Refusal};
+use rows_text::words::{LocatedBytes, Words};
+use std::alloc::Global;
 
 // Writes a place.
 fn write_place<F: Family>(answer: &mut Answer, place: Place<F>) {
@@ -61,6 +63,19 @@ fn write_collision<F: Family, D: Digest>(
     write_argument(answer, other);
 }
 
+// Writes what an audit of a proof says.
+fn write_verdict<F: Family, D: Digest>(answer: &mut Answer, verdict: Verdict<F, D>) {
+    match verdict {
+        Verdict::Rejected => answer.text("rejected"),
+        Verdict::Honest => answer.text("honest"),
+        Verdict::Collision {
+            place,
+            claimed,
+            listed,
+        } => write_collision(answer, place, &claimed, &listed),
+    }
+}
+
 /// What an audit of a proof of a range says.
 pub fn range<F: Family, H: Hasher<F>>(
     hasher: &H,
@@ -74,15 +89,43 @@ pub fn range<F: Family, H: Hasher<F>>(
     let found = words.elements();
     let all = words.slices(&found);
     words.end()?;
-    match granted!(audit_range(hasher, &list, inactive, &proof, &all, start)) {
-        Verdict::Rejected => answer.text("rejected"),
-        Verdict::Honest => answer.text("honest"),
-        Verdict::Collision {
-            place,
-            claimed,
-            listed,
-        } => write_collision(answer, place, &claimed, &listed),
+    let verdict = granted!(audit_range(hasher, &list, inactive, &proof, &all, start));
+    write_verdict(answer, verdict);
+    Ok(())
+}
+
+// What an audit of a proof says with these elements, each at its location.
+fn audit_scattered<F: Family, H: Hasher<F>>(
+    alloc: Global,
+    hasher: &H,
+    list: &[H::Digest],
+    inactive: usize,
+    proof: &Proof<F, H::Digest>,
+    elements: &[LocatedBytes],
+) -> Result<Verdict<F, H::Digest>, Refusal> {
+    let mut all: Vec<(&[u8], Location<F>)> = Vec::new(alloc);
+    for element in elements {
+        let located = (element.bytes.as_slice(), Location::new(element.index));
+        if all.push(located).is_err() {
+            return Err(OUT_OF_MEMORY);
+        }
     }
+    Ok(granted!(audit_multi(hasher, list, inactive, proof, &all)))
+}
+
+/// What an audit of a proof of leaves anywhere says.
+pub fn multi<F: Family, H: Hasher<F>>(
+    hasher: &H,
+    words: &mut Words,
+    answer: &mut Answer,
+) -> Result<(), Refusal> {
+    let list = digests(words);
+    let inactive = words.count();
+    let proof: Proof<F, H::Digest> = proof(words);
+    let found = words.located();
+    words.end()?;
+    let verdict = audit_scattered(words.alloc(), hasher, &list, inactive, &proof, &found)?;
+    write_verdict(answer, verdict);
     Ok(())
 }
 
