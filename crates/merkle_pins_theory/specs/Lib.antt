@@ -1,0 +1,3 @@
+pub mod PinRows
+pub mod PinnedFolds
+pub mod PinnedNodes
