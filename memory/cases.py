@@ -14,10 +14,10 @@ import os
 import re
 import sys
 
-from judge import Case, REFUSED
+from judge import Case, REFUSED, ROWS
 from programs import ample, requests
 
-PROGRAMS = {".rows": "rows", ".lines": "merkle"}
+PROGRAMS = {".rows": "rows", ".audits": "rows_audits", ".lines": "merkle"}
 
 # Calls of `rows` that use up their draft, so that a refusal may lose it; that give a name; that change something; that do so and have
 # a number to tell; that only read.
@@ -42,6 +42,9 @@ EARLY_WORDS = {
     "check check_leaf check_pinned reconstruct extract store": (4, MOST),
     "plan plan+build plan_leaf plan_leaf+build positions positions_leaf groups multi_positions check_multi read_proof read_hex": (1, "0"),
     "node_digests": (2, "-"),
+    "audit_apply": (2, "?"),
+    "audit_range audit_multi": (6, "?"),
+    "audit_pair": (10, "?"),
 }
 EARLY = {name: early for names, early in EARLY_WORDS.items() for name in names.split()}
 
@@ -52,7 +55,7 @@ ERROR = re.compile("no$|unknown|syntax|differ|changed|[A-Z]|error")
 def call_of(program, line):
     """The name that a line is counted by."""
     words = line.split(" ")
-    if program != "rows":
+    if program not in ROWS:
         return f"{program}:{words[0]}"
     is_built = (words[0], len(words)) in (("plan", 6), ("plan_leaf", 5))
     return words[0] + ("+build" if is_built else "")
@@ -148,13 +151,13 @@ def left_behind(program, lines, at):
     return left
 
 
-def own_requests(lines, at, before):
-    """How many requests for a call of `rows`, which come after so many, the program makes for its words and its answer, about."""
-    words, name, answer = lines[at].split(" "), call_of("rows", lines[at]), ample("rows", lines)[at]
+def own_requests(program, lines, at, before):
+    """How many requests for a call of `rows` or `rows_audits`, which come after so many, the program makes for its words and its answer, about."""
+    words, name, answer = lines[at].split(" "), call_of(program, lines[at]), ample(program, lines)[at]
     index, early = EARLY.get(name, (1, "?"))
     bare = " ".join(words[:index] + [early] + words[index + 1:])
-    own = requests("rows", lines[:at] + (bare,)) - before + (name in NAMING) + name.startswith("write_")
-    if ample("rows", lines[:at] + (bare,))[at] != "no":
+    own = requests(program, lines[:at] + (bare,)) - before + (name in NAMING) + name.startswith("write_")
+    if ample(program, lines[:at] + (bare,))[at] != "no":
         own += 1 + max(1, len(answer).bit_length() - 3) + len(re.findall(r"\b[0-9a-f]+\b", answer))
     return own
 
@@ -168,11 +171,11 @@ def find_case(program, path, rows, at):
     check_answers(program, path, rows, lines, at)
     before, last = requests(program, lines[:at]), requests(program, lines[:at + 1])
     reading, written, own = (), (), 0
-    if program == "rows":
+    if program in ROWS:
         reading = tuple(line for line in lines[at + 1:] if line.split(" ")[0] in READING)[:4]
         texts = 4 if lines[at].split(" ")[0] in TELLING else 2
         written = (requests(program, lines[:at] + ("#" * len(lines[at]),)), *range(last - texts + 1, last + 1))
-        own = own_requests(lines, at, before)
+        own = own_requests(program, lines, at, before)
     rest = reading + (lines[at],) + lines[at + 1:] + lines
     found = ample(program, lines)[:at] + [REFUSED[program]]
     after = {how: found + ample(program, left + rest)[len(left):] for how, left in left_behind(program, lines, at).items()}

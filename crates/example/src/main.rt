@@ -1,9 +1,12 @@
 //! A transparency log and its clients: an example to copy.
 //!
 //! The log keeps all entries and publishes a root. A client keeps the root alone, and is shown by proofs which entries the log
-//! has, and that a newer root extends the one that it keeps.
+//! has, and that a newer root extends the one that it keeps. Two answers that it accepts and that differ are evidence.
 #![tactic(auto)]
 
+mod evidence;
+
+use crate::evidence::show_evidence;
 use hex::encode;
 use merkle_core::codec::{Read, Write};
 use merkle_core::digest::{Digest, Sha256Digest, Sha256Plain};
@@ -174,7 +177,8 @@ fn run(rt: &impl Print, alloc: Global) -> Result<(), LogError> {
     println!(rt; "root of 8 entries: {}", encode(alloc, root.as_bytes())?)?;
     show_growth(rt, &log, &old, &root)?;
     show_store(rt, &log, &root)?;
-    show_pruning(rt, &mut log, &root)
+    show_pruning(rt, &mut log, &root)?;
+    show_evidence(rt, alloc)
 }
 
 fn main(rt: HostRuntime) -> ExitCode {
