@@ -4,11 +4,10 @@
 //! that is accepted. With a hash for which no collisions are known there is no such proof, as far as anyone knows.
 
 use crate::LogError;
-use merkle_audit::{Argument, PairVerdict, Place, Verdict, audit_pair, audit_range};
+use merkle_audit::{PairVerdict, Verdict, audit_pair, audit_range};
 use merkle_core::digest::{Digest, Xor8, Xor8Digest};
 use merkle_core::family::{Bagging, Family as _};
 use merkle_core::granted;
-use merkle_core::hasher::Hasher;
 use merkle_core::mmr::{Family, Location, Mmr, Proof, StandardHasher};
 use std::alloc::Global;
 
@@ -82,23 +81,6 @@ fn is_accepted(hasher: &ToyHasher, answer: &Answer, root: &Xor8Digest) -> Result
     )
 }
 
-/// Whether two different arguments at a place have one digest: anyone can test that by two hashes.
-fn is_evidence(
-    hasher: &ToyHasher,
-    place: Place<Family>,
-    first: &Argument<Xor8Digest>,
-    second: &Argument<Xor8Digest>,
-) -> bool {
-    match (place, first, second) {
-        (Place::Node(position), Argument::Pair(left, right), Argument::Pair(other, next)) => {
-            let is_one = hasher.node_digest(position, left, right)
-                == hasher.node_digest(position, other, next);
-            is_one && (left != other || right != next)
-        }
-        _ => false,
-    }
-}
-
 /// A client holds two answers against each other.
 fn show_pair(
     rt: &impl Print,
@@ -116,14 +98,7 @@ fn show_pair(
     match granted!(verdict) {
         PairVerdict::Rejected => println!(rt; "one answer is rejected")?,
         PairVerdict::Consistent => println!(rt; "the answers agree")?,
-        PairVerdict::Collision {
-            place,
-            first,
-            second,
-        } => {
-            let is_evidence = is_evidence(hasher, place, &first, &second);
-            println!(rt; "the answers collide, and this is evidence: {is_evidence}")?;
-        }
+        PairVerdict::Collision { .. } => println!(rt; "the answers collide: one of them is false")?,
     }
     Ok(())
 }
@@ -139,14 +114,7 @@ fn show_verdict(
     match granted!(audit_range(hasher, list, 0, &answer.proof, &answer.entry, start())) {
         Verdict::Rejected => println!(rt; "{server}: rejected")?,
         Verdict::Honest => println!(rt; "{server}: honest")?,
-        Verdict::Collision {
-            place,
-            claimed,
-            listed,
-        } => {
-            let is_evidence = is_evidence(hasher, place, &claimed, &listed);
-            println!(rt; "{server}: convicted by a collision: {is_evidence}")?;
-        }
+        Verdict::Collision { .. } => println!(rt; "{server}: convicted by a collision")?,
     }
     Ok(())
 }
