@@ -6,6 +6,9 @@ pub mod Lists
 pub mod ListsFound
 pub mod MultiFound
 pub mod PeakWalk
+pub mod PinnedClaims
+pub mod PinnedSearched
+pub mod PinnedWalks
 pub mod Searched
 pub mod Tops
 pub mod Verdicts

@@ -3,3 +3,4 @@ pub mod Claimed
 pub mod Found
 pub mod Hashed
 pub mod Listed
+pub mod PinnedClaimed

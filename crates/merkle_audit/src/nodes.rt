@@ -32,8 +32,8 @@ pub(crate) trait Hashes<F: Family, D: Digest> {
             → result ≡ hashed self.now (join p a b) };
 }
 
-// Whether two pairs of digests are one.
-fn are_same<D: Digest>(one: &(D, D), other: &(D, D)) -> bool
+/// Whether two pairs of digests are one.
+pub(crate) fn are_same<D: Digest>(one: &(D, D), other: &(D, D)) -> bool
     ensures { result ≡ (D.eq one.now.0 other.now.0 && D.eq one.now.1 other.now.1) }
 {
     one.0 == other.0 && one.1 == other.1

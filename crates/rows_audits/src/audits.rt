@@ -2,7 +2,7 @@
 
 use merkle_audit::{
     ApplyVerdict, Argument, PairVerdict, Place, Verdict, audit_apply, audit_multi, audit_pair,
-    audit_range,
+    audit_pins, audit_range,
 };
 use merkle_core::digest::Digest;
 use merkle_core::family::Family;
@@ -125,6 +125,27 @@ pub fn multi<F: Family, H: Hasher<F>>(
     let found = words.located();
     words.end()?;
     let verdict = audit_scattered(words.alloc(), hasher, &list, inactive, &proof, &found)?;
+    write_verdict(answer, verdict);
+    Ok(())
+}
+
+/// What an audit of a proof of a range with pins says.
+pub fn pins<F: Family, H: Hasher<F>>(
+    hasher: &H,
+    words: &mut Words,
+    answer: &mut Answer,
+) -> Result<(), Refusal> {
+    let list = digests(words);
+    let inactive = words.count();
+    let proof: Proof<F, H::Digest> = proof(words);
+    let start = Location::new(words.number());
+    let found = words.elements();
+    let pinned: Vec<H::Digest> = digests(words);
+    let all = words.slices(&found);
+    words.end()?;
+    let verdict = granted!(audit_pins(
+        hasher, &list, inactive, &proof, &all, start, &pinned
+    ));
     write_verdict(answer, verdict);
     Ok(())
 }

@@ -49,6 +49,7 @@ fn answer_call<F: Family>(
     match (name, count) {
         ("audit_range", 7) => audits::range::<F, Standard<Xor8>>(&hasher, &mut words, answer),
         ("audit_multi", 6) => audits::multi::<F, Standard<Xor8>>(&hasher, &mut words, answer),
+        ("audit_pins", 8) => audits::pins::<F, Standard<Xor8>>(&hasher, &mut words, answer),
         ("audit_apply", 2) => audits::apply::<F, Standard<Xor8>>(&hasher, &mut words, answer),
         ("audit_pair", 11) => audits::pair::<F, Standard<Xor8>>(&hasher, &mut words, answer),
         _ => Err(SYNTAX),

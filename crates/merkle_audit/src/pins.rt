@@ -1,0 +1,294 @@
+//! The audit of a check of a range with pins.
+ghost use Rattle.std.specs.Prelude.{◌≡◌, ◌≢◌, ◌≤◌, ◌<◌, ◌+◌, ◌++◌, List, Some, IfOk, IfErr, IfSome, IfNone, OnOk, IsOkUnless};
+ghost use Rattle.std.specs.Prelude.{length, map, min, take, drop};
+ghost use Rattle.merkle_base.specs.Cases.{first_case};
+ghost use Rattle.merkle_base.specs.Places.{peaks_of};
+ghost use Rattle.merkle_base.specs.Root.{list_root};
+ghost use Rattle.merkle_base.specs.Tree.{Tree};
+ghost use Rattle.merkle_hasher.specs.Subtrees.{AreNodes, subtree_of};
+ghost use Rattle.merkle_proof.specs.Input.{input_of};
+ghost use Rattle.merkle_root_theory.specs.Range.{AcceptsNonempty, IsEmptyInput, list_inputs};
+ghost use Rattle.merkle_root_theory.specs.Walk.{bytes_of};
+ghost use Rattle.merkle_claim_theory.specs.Pinned.{AcceptsPinned, IsHonestPinned};
+ghost use Rattle.merkle_claim_theory.specs.Verdict.{pinned_inputs};
+ghost use Rattle.merkle_store_theory.specs.StoreValue.{store_of};
+ghost use Rattle.merkle_pins_theory.specs.PinnedNodes.{pinned_value};
+ghost use Rattle.merkle_audit.specs.Found.{list_refusals, IsVerdict};
+ghost use Rattle.merkle_audit.specs.PinnedClaimed.{digest_given, pin_in, IsPinnedClaim};
+
+use crate::list::{HashedList, peak_subtrees};
+use crate::nodes::first_of;
+use crate::pin_nodes::{PinnedNodes, first_pinned_below, pin_positions, pinned_digest};
+use crate::range::verdict;
+use crate::top::{Shape, Top, above_peaks, first_above};
+use crate::verdict::Verdict;
+use merkle_core::digest::Digest;
+use merkle_core::error::Error;
+use merkle_core::family::Family;
+use merkle_core::hasher::Hasher;
+use merkle_core::location::Location;
+use merkle_core::proof::Proof;
+use merkle_core::range_plan::{Groups, RangePlan};
+use merkle_core::subtree::Subtree;
+use merkle_core::verification::ProofStore;
+use std::alloc::{AllocError, Global};
+use std::ops::Range;
+
+/// All that is hashed for an accepted input.
+#[derive(Drop)]
+struct PinnedClaim<F: Family, D: Digest> {
+    top: Top<F, D>,
+    nodes: PinnedNodes<F, D>,
+}
+
+// Appends the digests of nodes, in their order.
+fn push_pinned<F: Family, H: Hasher<F>>(
+    peaks: &[Subtree<F>],
+    hasher: &H,
+    nodes: &PinnedNodes<F, H::Digest>,
+    digests: &mut Vec<H::Digest>,
+) -> Result<(), AllocError>
+    requires nodes { (ts : List Tree) × (peaks.now ≡ map subtree_of ts) × AreNodes F.rule F.MAX_LEAVES ts }
+    ensures { let f = pinned_value (H.hashing hasher.now) (pin_in nodes.now) nodes.now.start (digest_given H.Digest.EMPTY nodes.now) in
+        OnOk result ((ts : List Tree) → peaks.now ≡ map subtree_of ts → AreNodes F.rule F.MAX_LEAVES ts
+        → digests.new.items ≡ digests.old.items ++ map f ts) }
+{
+    let Some((peak, others)) = peaks.split_first() else {
+        return Ok(());
+    };
+    digests.push(pinned_digest(peak, hasher, nodes))?;
+    push_pinned(others, hasher, nodes, digests)
+}
+
+// Returns the digests that a check folds to the root, of which the last may stand for several peaks: those of the peaks
+// before the range, which are rebuilt, those of the peaks that overlap it, and those that it is given for the peaks after
+// it.
+fn pinned_parts<F: Family, H: Hasher<F>>(
+    alloc: Global,
+    hasher: &H,
+    groups: &Groups,
+    given: &[H::Digest],
+    peaks: &[Subtree<F>],
+    nodes: &PinnedNodes<F, H::Digest>,
+) -> Result<Vec<H::Digest>, AllocError>
+    requires given { (min groups.now.folded 1 + groups.now.before) + (groups.now.after + min groups.now.suffix 1) ≤ length given.now }
+    requires peaks { (groups.now.folded + groups.now.before) + groups.now.overlapping ≤ length peaks.now }
+    requires nodes { (ts : List Tree) × (peaks.now ≡ map subtree_of ts) × AreNodes F.rule F.MAX_LEAVES ts }
+    ensures { let f = pinned_value (H.hashing hasher.now) (pin_in nodes.now) nodes.now.start (digest_given H.Digest.EMPTY nodes.now) in
+        IfOk result (λ v. (ts : List Tree) → peaks.now ≡ map subtree_of ts → AreNodes F.rule F.MAX_LEAVES ts
+        → v.items ≡ map f (take ((groups.now.folded + groups.now.before) + groups.now.overlapping) ts)
+        ++ take (groups.now.after + min groups.now.suffix 1) (drop (min groups.now.folded 1 + groups.now.before) given.now)) }
+{
+    let before = groups.folded.min(1) + groups.before;
+    let after = groups.after + groups.suffix.min(1);
+    let (_, others) = given.split_at(before);
+    let (last, _) = others.split_at(after);
+    let (first, _) = peaks.split_at(groups.folded + groups.before + groups.overlapping);
+    let mut digests = Vec::new(alloc);
+    push_pinned(first, hasher, nodes, &mut digests)?;
+    digests.extend_from_slice(last)?;
+    Ok(digests)
+}
+
+// Returns all that is hashed for an accepted input with elements, from the store of its proof.
+fn pinned_claim_of<F: Family, H: Hasher<F>>(
+    hasher: &H,
+    proof: &Proof<F, H::Digest>,
+    elements: &[&[u8]],
+    range: Range<Location<F>>,
+    pinned_nodes: &[H::Digest],
+    store: ProofStore<F, H::Digest>,
+) -> Result<PinnedClaim<F, H::Digest>, Error<F>>
+    requires nonempty { range.start < range.end }
+    requires within { range.end ≤ proof.now.leaves }
+    requires within_max_leaves { proof.now.leaves ≤ F.MAX_LEAVES }
+    requires ends { range.end ≡ range.start + length elements.now }
+    requires accepted { let s = H.scheme hasher.now in
+        let r = input_of s proof.now range.start (bytes_of elements.now) in
+        (root : H.Digest) × AcceptsNonempty s r root × AcceptsPinned s r pinned_nodes.now root × (store ≡ store_of s r root) }
+    ensures claim { let s = H.scheme hasher.now in
+        let r = input_of s proof.now range.start (bytes_of elements.now) in
+        IfOk result (λ c. IsPinnedClaim H.Digest.EMPTY s r pinned_nodes.now c.top c.nodes) }
+    ensures refused { IsOkUnless result Error.OutOfMemory }
+{
+    let alloc = *proof.digests.allocator();
+    let inactive = proof.inactive_peaks;
+    let start = range.start;
+    let end = range.end;
+    let plan = match RangePlan::new(alloc, proof.leaves, range) {
+        Ok(plan) => plan,
+        Err(error) => return Err(error),
+    };
+    let groups = match plan.groups(hasher.root_bagging(), inactive) {
+        Some(groups) => groups,
+        None => unreachable!(),
+    };
+    let positions = pin_positions(alloc, start)?;
+    let pins = pinned_nodes.to_vec(alloc)?;
+    let nodes = PinnedNodes {
+        start,
+        end,
+        store: Some(store),
+        positions,
+        pins,
+    };
+    let peaks = peak_subtrees(alloc, proof.leaves)?;
+    let digests = pinned_parts(alloc, hasher, &groups, &proof.digests, &peaks, &nodes)?;
+    let shape = Shape {
+        leaves: proof.leaves,
+        inactive,
+        apart: inactive,
+        number: 1,
+    };
+    let Ok(top) = above_peaks(alloc, hasher, &shape, &digests) else {
+        return Err(Error::OutOfMemory);
+    };
+    Ok(PinnedClaim { top, nodes })
+}
+
+// Returns all that is hashed for the empty proof without pins.
+fn empty_pinned_claim<F: Family, H: Hasher<F>>(
+    alloc: Global,
+    hasher: &H,
+) -> Result<PinnedClaim<F, H::Digest>, Error<F>>
+    ensures claim { let s = H.scheme hasher.now in
+        IfOk result (λ c. (r : _) (pins : _) → IsEmptyInput r → IsPinnedClaim H.Digest.EMPTY s r pins c.top c.nodes) }
+    ensures refused { IsOkUnless result Error.OutOfMemory }
+{
+    let none = Location::new(0);
+    let shape = Shape {
+        leaves: none,
+        inactive: 0,
+        apart: 0,
+        number: 1,
+    };
+    let Ok(top) = above_peaks(alloc, hasher, &shape, &[]) else {
+        return Err(Error::OutOfMemory);
+    };
+    let nodes = PinnedNodes {
+        start: none,
+        end: none,
+        store: None,
+        positions: Vec::new(alloc),
+        pins: Vec::new(alloc),
+    };
+    Ok(PinnedClaim { top, nodes })
+}
+
+// Returns all that is hashed for an accepted input.
+fn pinned_claim<F: Family, H: Hasher<F>>(
+    hasher: &H,
+    proof: &Proof<F, H::Digest>,
+    elements: &[&[u8]],
+    start: Location<F>,
+    pinned_nodes: &[H::Digest],
+    root: &H::Digest,
+) -> Result<PinnedClaim<F, H::Digest>, Error<F>>
+    requires accepted { let s = H.scheme hasher.now in
+        let r = input_of s proof.now start (bytes_of elements.now) in
+        AcceptsPinned s r pinned_nodes.now root.now }
+    ensures claim { let s = H.scheme hasher.now in
+        let r = input_of s proof.now start (bytes_of elements.now) in
+        IfOk result (λ c. IsPinnedClaim H.Digest.EMPTY s r pinned_nodes.now c.top c.nodes) }
+    ensures refused { IsOkUnless result Error.OutOfMemory }
+{
+    match ProofStore::new(hasher, proof, elements, start, root) {
+        Ok(store) => {
+            let end = start + elements.len() as u64;
+            pinned_claim_of(hasher, proof, elements, start..end, pinned_nodes, store)
+        }
+        Err(error) => match error {
+            Error::OutOfMemory => Err(Error::OutOfMemory),
+            Error::Empty => empty_pinned_claim(*proof.digests.allocator(), hasher),
+            _ => unreachable!(),
+        },
+    }
+}
+
+// Returns all that is hashed for an input, if it is accepted.
+fn accepted_pins<F: Family, H: Hasher<F>>(
+    hasher: &H,
+    proof: &Proof<F, H::Digest>,
+    elements: &[&[u8]],
+    start: Location<F>,
+    pinned_nodes: &[H::Digest],
+    root: &H::Digest,
+) -> Result<Option<PinnedClaim<F, H::Digest>>, Error<F>>
+    ensures none { let s = H.scheme hasher.now in
+        let r = input_of s proof.now start (bytes_of elements.now) in
+        IfOk result (λ o. IfNone o (¬ (AcceptsPinned s r pinned_nodes.now root.now))) }
+    ensures some { let s = H.scheme hasher.now in
+        let r = input_of s proof.now start (bytes_of elements.now) in
+        IfOk result (λ o. IfSome o (λ c. AcceptsPinned s r pinned_nodes.now root.now
+        × IsPinnedClaim H.Digest.EMPTY s r pinned_nodes.now c.top c.nodes)) }
+    ensures refused { IsOkUnless result Error.OutOfMemory }
+{
+    let checked = proof.verify_proof_and_pinned_nodes(hasher, elements, start, pinned_nodes, root);
+    let Ok(said) = checked else {
+        return Err(Error::OutOfMemory);
+    };
+    if !said {
+        return Ok(None);
+    }
+    match pinned_claim(hasher, proof, elements, start, pinned_nodes, root) {
+        Ok(claim) => Ok(Some(claim)),
+        Err(error) => Err(error),
+    }
+}
+
+/// Audits an input of a check of a range with pins against the root of a list, of which the leaf
+/// digests are at hand: says whether the check rejects the input, whether it is the honest one of the
+/// list, or else what the check hashed that collides with the list. `pinned_nodes` are the digests of
+/// the peaks over the leaves before `start`, oldest first.
+///
+/// The nodes and folds that the check rebuilds from the pins count as hashed. Each such node is
+/// hashed once for each node over it.
+///
+/// # Errors
+///
+/// The first that applies:
+/// - `LocationOverflow` of the length of the list if it exceeds [`MAX_LEAVES`](Family::MAX_LEAVES)
+/// - `InvalidInactivePeaks` if `inactive` exceeds the number of peaks of the list
+///
+/// `OutOfMemory` at any point if a memory request is refused.
+pub fn audit_pins<F: Family, H: Hasher<F>>(
+    hasher: &H,
+    list: &[H::Digest],
+    inactive: usize,
+    proof: &Proof<F, H::Digest>,
+    elements: &[&[u8]],
+    start: Location<F>,
+    pinned_nodes: &[H::Digest],
+) -> Result<Verdict<F, H::Digest>, Error<F>>
+    ensures err { IfErr result (λ e. e ≢ Error.OutOfMemory
+        → first_case (list_refusals F.rule F.MAX_LEAVES (length list.now) inactive) ≡ Some e) }
+    ensures within { IfOk result (λ _. (length list.now ≤ F.MAX_LEAVES) × (inactive ≤ length (peaks_of F.rule (length list.now)))) }
+    ensures judged { let s = H.scheme hasher.now in let pins = pinned_nodes.now in
+        let r = input_of s proof.now start (bytes_of elements.now) in
+        IfOk result (λ v. IsVerdict (AcceptsPinned s r pins (list_root s list.now inactive)) (IsHonestPinned s list.now inactive r pins)
+        s.hashing (pinned_inputs s r pins) (list_inputs s list.now inactive) v) }
+{
+    let alloc = *proof.digests.allocator();
+    let listed = match HashedList::new(alloc, hasher, list, inactive) {
+        Ok(listed) => listed,
+        Err(error) => return Err(error),
+    };
+    let claim = match accepted_pins(hasher, proof, elements, start, pinned_nodes, &listed.root) {
+        Ok(Some(claim)) => claim,
+        Ok(None) => return Ok(Verdict::Rejected),
+        Err(error) => return Err(error),
+    };
+    let PinnedClaim {
+        top: claimed,
+        nodes: claimed_nodes,
+    } = claim;
+    let HashedList {
+        top,
+        nodes,
+        peaks,
+        ..
+    } = listed;
+    let below = first_pinned_below(&peaks, hasher, &claimed_nodes, &nodes);
+    let found = first_of(first_above(claimed, top), below);
+    Ok(verdict(found))
+}
