@@ -3,14 +3,19 @@ use Rattle.std.specs.Prelude.{◌≡◌, ◌↔◌, ℕ, List, [], ◌∷◌, Bo
 use Rattle.merkle_base.specs.Digests.{peak_digests}
 use Rattle.merkle_base.specs.Hashing.{Hashing}
 use Rattle.merkle_base.specs.Places.{peaks_of}
+use Rattle.merkle_base.specs.Root.{list_root}
 use Rattle.merkle_base.specs.Scheme.{Scheme}
 use Rattle.merkle_base.specs.declared.error.Error.{Error}
 use Rattle.merkle_base.specs.declared.error.Error.TheVariants.{LocationOverflow, InvalidInactivePeaks}
 use Rattle.merkle_root_theory.specs.Expression as theory
 use Rattle.merkle_root_theory.specs.Check.{RangeInput, range_inputs, SharesLeaves}
 use Rattle.merkle_root_theory.specs.Collision.{Collision, Collides}
+use Rattle.merkle_root_theory.specs.Range.{IsHonestRange, list_inputs}
 use Rattle.merkle_root_theory.specs.Reconstruction.{reconstructed}
 use Rattle.merkle_claim_theory.specs.FirstCollision.{IsFirstCollision}
+use Rattle.merkle_claim_theory.specs.Multiproof.{MultiInput, AcceptsMulti, IsHonestMulti}
+use Rattle.merkle_claim_theory.specs.Pinned.{AcceptsPinned, IsHonestPinned}
+use Rattle.merkle_claim_theory.specs.Verdict.{multi_inputs, pinned_inputs}
 use Rattle.merkle_audit_theory.specs.Located.{node_inputs}
 use Rattle.merkle_audit.specs.declared.place.Place.{Place}
 use Rattle.merkle_audit.specs.declared.place.Place.TheVariants as place
@@ -79,6 +84,18 @@ pub record IsVerdict {F D : Type 0} (Accepts Honest : Type 0) (h : Hashing D) (x
   pub rejected : (v ≡ verdict.Rejected) ↔ ¬ Accepts
   pub honest : (v ≡ verdict.Honest) ↔ Honest
   pub collision : IfSome (collision_in v) (λ c. IsFirstCollision h xs ys c)
+
+-- of a range input, of an input of scattered leaves, and of a range input with pins, against the root of a list for k inactive peaks
+abbrev pub IsRangeVerdict : {F D : Type 0} → Scheme D → List D → (k : ℕ) → RangeInput D → Verdict F D → Type 0
+IsRangeVerdict s X k r v =
+    IsVerdict (reconstructed s r ≡ Ok (list_root s X k)) (IsHonestRange s X k r) s.hashing (range_inputs s r) (list_inputs s X k) v
+
+abbrev pub IsMultiVerdict : {F D : Type 0} → Scheme D → List D → (k : ℕ) → MultiInput D → Verdict F D → Type 0
+IsMultiVerdict s X k r v = IsVerdict (AcceptsMulti s r (list_root s X k)) (IsHonestMulti s X k r) s.hashing (multi_inputs s r) (list_inputs s X k) v
+
+abbrev pub IsPinnedVerdict : {F D : Type 0} → Scheme D → List D → (k : ℕ) → RangeInput D → (pins : List D) → Verdict F D → Type 0
+IsPinnedVerdict s X k r pins v =
+    IsVerdict (AcceptsPinned s r pins (list_root s X k)) (IsHonestPinned s X k r pins) s.hashing (pinned_inputs s r pins) (list_inputs s X k) v
 
 -- what an audit says of a list X that a batch was recorded at, and the list Z of a structure: that the batch is refused, exactly if so; that they
 -- are equal, exactly if so; and else their first collision, which is at a node

@@ -5,20 +5,17 @@ ghost use Rattle.std.specs.List.Sorted.{IsStrictlyIncreasing};
 ghost use Rattle.merkle_base.specs.Cases.{first_case};
 ghost use Rattle.merkle_base.specs.Forest.{size};
 ghost use Rattle.merkle_base.specs.Places.{peaks_of};
-ghost use Rattle.merkle_base.specs.Root.{list_root};
 ghost use Rattle.merkle_proof.specs.Input.{multi_input_of};
 ghost use Rattle.merkle_proof.specs.MultiPositions.{AreLocations};
 ghost use Rattle.merkle_root_theory.specs.Expression as theory;
-ghost use Rattle.merkle_root_theory.specs.Range.{list_inputs};
-ghost use Rattle.merkle_claim_theory.specs.Multiproof.{multi_positions, AcceptsMulti, IsHonestMulti};
+ghost use Rattle.merkle_claim_theory.specs.Multiproof.{multi_positions, AcceptsMulti};
 ghost use Rattle.merkle_claim_theory.specs.Order.{node_places};
-ghost use Rattle.merkle_claim_theory.specs.Verdict.{multi_inputs};
 ghost use Rattle.merkle_audit_theory.specs.Differences.{is_difference};
 ghost use Rattle.merkle_audit_theory.specs.Folds.{top_inputs, multi_digest};
 ghost use Rattle.merkle_audit_theory.specs.Searches.{looked_up};
 ghost use Rattle.merkle_audit_theory.specs.Seen.{Sees};
 ghost use Rattle.merkle_audit.specs.Chosen.{multi_pair};
-ghost use Rattle.merkle_audit.specs.Found.{list_refusals, IsVerdict};
+ghost use Rattle.merkle_audit.specs.Found.{list_refusals, IsMultiVerdict};
 ghost use Rattle.merkle_audit.specs.Hashed.{located, top_of};
 
 use crate::list::{HashedList, peak_subtrees};
@@ -157,9 +154,7 @@ pub fn audit_multi<F: Family, H: Hasher<F>>(
     ensures err { IfErr result (λ e. e ≢ Error.OutOfMemory
         → first_case (list_refusals F.rule F.MAX_LEAVES (length list.now) inactive) ≡ Some e) }
     ensures within { IfOk result (λ _. (length list.now ≤ F.MAX_LEAVES) × (inactive ≤ length (peaks_of F.rule (length list.now)))) }
-    ensures judged { let s = H.scheme hasher.now in let r = multi_input_of s proof.now elements.now in
-        IfOk result (λ v. IsVerdict (AcceptsMulti s r (list_root s list.now inactive)) (IsHonestMulti s list.now inactive r)
-        s.hashing (multi_inputs s r) (list_inputs s list.now inactive) v) }
+    ensures judged { let s = H.scheme hasher.now in IfOk result (IsMultiVerdict s list.now inactive (multi_input_of s proof.now elements.now)) }
 {
     let alloc = *proof.digests.allocator();
     let listed = match HashedList::new(alloc, hasher, list, inactive) {

@@ -3,17 +3,15 @@ ghost use Rattle.std.specs.Prelude.{◌≡◌, ◌≢◌, ◌≤◌, ◌<◌, �
 ghost use Rattle.std.specs.Prelude.{length, map, min, take, drop};
 ghost use Rattle.merkle_base.specs.Cases.{first_case};
 ghost use Rattle.merkle_base.specs.Places.{peaks_of};
-ghost use Rattle.merkle_base.specs.Root.{list_root};
 ghost use Rattle.merkle_base.specs.Tree.{Tree};
 ghost use Rattle.merkle_hasher.specs.Subtrees.{AreNodes, subtree_of};
 ghost use Rattle.merkle_proof.specs.Input.{input_of};
-ghost use Rattle.merkle_root_theory.specs.Range.{AcceptsNonempty, IsEmptyInput, list_inputs};
+ghost use Rattle.merkle_root_theory.specs.Range.{AcceptsNonempty, IsEmptyInput};
 ghost use Rattle.merkle_root_theory.specs.Walk.{bytes_of};
-ghost use Rattle.merkle_claim_theory.specs.Pinned.{AcceptsPinned, IsHonestPinned};
-ghost use Rattle.merkle_claim_theory.specs.Verdict.{pinned_inputs};
+ghost use Rattle.merkle_claim_theory.specs.Pinned.{AcceptsPinned};
 ghost use Rattle.merkle_store_theory.specs.StoreValue.{store_of};
 ghost use Rattle.merkle_pins_theory.specs.PinnedNodes.{pinned_value};
-ghost use Rattle.merkle_audit.specs.Found.{list_refusals, IsVerdict};
+ghost use Rattle.merkle_audit.specs.Found.{list_refusals, IsPinnedVerdict};
 ghost use Rattle.merkle_audit.specs.PinnedClaimed.{digest_given, pin_in, IsPinnedClaim};
 
 use crate::list::{HashedList, peak_subtrees};
@@ -263,10 +261,8 @@ pub fn audit_pins<F: Family, H: Hasher<F>>(
     ensures err { IfErr result (λ e. e ≢ Error.OutOfMemory
         → first_case (list_refusals F.rule F.MAX_LEAVES (length list.now) inactive) ≡ Some e) }
     ensures within { IfOk result (λ _. (length list.now ≤ F.MAX_LEAVES) × (inactive ≤ length (peaks_of F.rule (length list.now)))) }
-    ensures judged { let s = H.scheme hasher.now in let pins = pinned_nodes.now in
-        let r = input_of s proof.now start (bytes_of elements.now) in
-        IfOk result (λ v. IsVerdict (AcceptsPinned s r pins (list_root s list.now inactive)) (IsHonestPinned s list.now inactive r pins)
-        s.hashing (pinned_inputs s r pins) (list_inputs s list.now inactive) v) }
+    ensures judged { let s = H.scheme hasher.now in
+        IfOk result (IsPinnedVerdict s list.now inactive (input_of s proof.now start (bytes_of elements.now)) pinned_nodes.now) }
 {
     let alloc = *proof.digests.allocator();
     let listed = match HashedList::new(alloc, hasher, list, inactive) {

@@ -1,24 +1,20 @@
 //! The audit of a range check.
-ghost use Rattle.std.specs.Prelude.{◌≡◌, ◌≢◌, ◌≤◌, ◌↔◌, List, Option, Some, None, Ok, IfOk, IfErr, length, map, flat_map, option_map};
+ghost use Rattle.std.specs.Prelude.{◌≡◌, ◌≢◌, ◌≤◌, ◌↔◌, List, Option, Some, None, IfOk, IfErr, length, map, flat_map, option_map};
 ghost use Rattle.std.specs.List.{AllByRecursion};
 ghost use Rattle.merkle_base.specs.Cases.{first_case};
 ghost use Rattle.merkle_base.specs.Hashing.{Hashing, IsOver};
 ghost use Rattle.merkle_base.specs.Places.{peaks_of};
-ghost use Rattle.merkle_base.specs.Root.{list_root};
 ghost use Rattle.merkle_base.specs.Tree.{Tree};
 ghost use Rattle.merkle_hasher.specs.Subtrees.{AreNodes, subtree_of};
 ghost use Rattle.merkle_proof.specs.Input.{input_of};
-ghost use Rattle.merkle_root_theory.specs.Check.{range_inputs};
 ghost use Rattle.merkle_root_theory.specs.Expression as theory;
-ghost use Rattle.merkle_root_theory.specs.Range.{IsHonestRange, list_inputs};
-ghost use Rattle.merkle_root_theory.specs.Reconstruction.{reconstructed};
 ghost use Rattle.merkle_root_theory.specs.Walk.{bytes_of};
 ghost use Rattle.merkle_claim_theory.specs.FirstCollision.{or_else};
 ghost use Rattle.merkle_claim_theory.specs.Order.{node_places};
 ghost use Rattle.merkle_audit_theory.specs.Differences.{is_difference, first_difference};
 ghost use Rattle.merkle_audit_theory.specs.Searches.{looked_up};
 ghost use Rattle.merkle_audit_theory.specs.Seen.{Sees};
-ghost use Rattle.merkle_audit.specs.Found.{list_refusals, collision_in, IsVerdict};
+ghost use Rattle.merkle_audit.specs.Found.{list_refusals, collision_in, IsRangeVerdict};
 ghost use Rattle.merkle_audit.specs.Hashed.{fold_at, located, roots_apart};
 
 use crate::claim::{Claim, accepted};
@@ -97,9 +93,7 @@ pub fn audit_range<F: Family, H: Hasher<F>>(
         → first_case (list_refusals F.rule F.MAX_LEAVES (length list.now) inactive) ≡ Some e) }
     ensures within { IfOk result (λ _. (length list.now ≤ F.MAX_LEAVES) × (inactive ≤ length (peaks_of F.rule (length list.now)))) }
     ensures judged { let s = H.scheme hasher.now in
-        let r = input_of s proof.now start (bytes_of elements.now) in
-        IfOk result (λ v. IsVerdict (reconstructed s r ≡ Ok (list_root s list.now inactive)) (IsHonestRange s list.now inactive r)
-        s.hashing (range_inputs s r) (list_inputs s list.now inactive) v) }
+        IfOk result (IsRangeVerdict s list.now inactive (input_of s proof.now start (bytes_of elements.now))) }
 {
     let alloc = *proof.digests.allocator();
     let listed = match HashedList::new(alloc, hasher, list, inactive) {
