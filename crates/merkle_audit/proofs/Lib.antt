@@ -6,6 +6,7 @@ pub mod Lists
 pub mod ListsFound
 pub mod MultiFound
 pub mod PeakWalk
+pub mod PinLookups
 pub mod PinnedClaims
 pub mod PinnedSearched
 pub mod PinnedWalks

@@ -1,7 +1,7 @@
 -- What is hashed for an accepted range input with pins, from the digests that its store has and from the pins.
-use Rattle.std.proofs.Common.{◌≡◌, ◌≢◌, ◌⊎◌, inl, inr, Result, Ok, Err, ℕ, suc, Bool, true, false, not, cond, nat_lt, ◌==◌, slice_get, ◌+◌, ◌-◌, ◌≤◌, List, [], ◌∷◌, ◌++◌, map, flat_map, take, drop, length, refl, ap, ap₂, sym, ◌∙◌, subst, ⊎_elim, arith, min, Option, Some, None, append_assoc}
+use Rattle.std.proofs.Common.{◌≡◌, ◌≢◌, ◌⊎◌, inl, inr, Result, Ok, Err, ℕ, ◌+◌, ◌-◌, ◌≤◌, List, [], ◌∷◌, ◌++◌, map, flat_map, take, drop, length, refl, ap, ap₂, sym, ◌∙◌, subst, ⊎_elim, arith, min, Option, Some, None, append_assoc}
 use Rattle.std.proofs.lemmas.List.{length-take}
-use Rattle.std.specs.List.{AllByRecursion, position, position_or_len}
+use Rattle.std.specs.List.{AllByRecursion}
 use Rattle.std.specs.Option.{unwrap_or}
 use Rattle.merkle_base.specs.Forest.{forest}
 use Rattle.merkle_base.specs.Hashing.{Hashing}
@@ -51,31 +51,6 @@ use Rattle.merkle_audit.specs.Hashed.{fold_at, top_of}
 use Rattle.merkle_audit.specs.PinnedClaimed.{digest_given, pin_in, pinned_pair, IsPinnedClaim}
 use Rattle.merkle_audit.proofs.Lists.{numbered_whole}
 use Rattle.merkle_audit.proofs.Verdicts.{one_ok}
-
--- ---- a digest by the index of its position
-abbrev at_index : {D : Type 0} → List D → Option ℕ → Option D
-at_index ds o = elim o [ Some i ↦ slice_get ds i | None ↦ None ]
-
-pub digest_by_index : {D : Type 0} (ps : List ℕ) (ds : List D) (p : ℕ) → digest_for ps ds p ≡ at_index ds (position (λ q. q == p) ps)
-digest_by_index [] ds p = refl
-digest_by_index (q ∷ ps) [] p = nothing (position (λ q. q == p) (q ∷ ps))
-  where
-    nothing : {D : Type 0} (o : Option ℕ) → ◌≡◌ {A = Option D} None (at_index [] o)
-    nothing None = refl
-    nothing (Some i) = refl
-digest_by_index {D} (q ∷ ps) (d ∷ ds) p = by (q == p)
-  where
-    abbrev m : ℕ
-    m = position_or_len (λ q. q == p) ps
-
-    later : (c : Bool) → at_index ds (cond c (Some m) None) ≡ at_index (d ∷ ds) (cond c (Some (1 + m)) None)
-    later true = refl
-    later false = refl
-
-    by : (b : Bool) → cond b (Some d) (digest_for ps ds p)
-        ≡ at_index (d ∷ ds) (cond (nat_lt (cond (not b) (1 + m) 0) (suc (length ps))) (Some (cond (not b) (1 + m) 0)) None)
-    by true = refl
-    by false = digest_by_index ps ds p ∙ later (nat_lt m (length ps))
 
 -- the digests given before the range, and those after it, by numbers of peaks
 module _ {D : Type 0} (s : Scheme D) (r : RangeInput D) (folded alone count single suffix : ℕ)

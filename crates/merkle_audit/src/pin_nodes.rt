@@ -1,6 +1,6 @@
 //! What a check of a range with pins hashes at nodes, and the search there.
-ghost use Rattle.std.specs.Prelude.{◌≡◌, ◌≤◌, List, Option, IfOk, map, flat_map, option_map};
-ghost use Rattle.std.specs.List.{AllByRecursion};
+ghost use Rattle.std.specs.Prelude.{◌≡◌, ◌≤◌, ◌==◌, List, Option, IfOk, map, flat_map, option_map};
+ghost use Rattle.std.specs.List.{AllByRecursion, position};
 ghost use Rattle.merkle_base.specs.Hashing.{Hashing, IsOver};
 ghost use Rattle.merkle_base.specs.Places.{peak_positions};
 ghost use Rattle.merkle_base.specs.Tree.{Tree, join};
@@ -68,14 +68,21 @@ impl<F: Family, D: Digest> PinnedNodes<F, D> {
         }
     }
 
-    // Returns the digest that is pinned at `position`, if any.
-    fn pin(&self, position: Position<F>) -> Option<D>
-        ensures { result ≡ pin_in self.now position }
+    // Returns the index of the pin at a node, if there is one.
+    fn index(&self, node: Position<F>) -> Option<usize>
+        ensures { result ≡ position (λ p. p == node) self.now.positions.items }
     {
-        let Some(index) = self.positions.iter().position(|pinned| *pinned == position) else {
-            return None;
-        };
-        self.pins.get(index).copied()
+        self.positions.iter().position(|pinned| *pinned == node)
+    }
+
+    // Returns the pin at a node, if there is one.
+    fn pin(&self, node: Position<F>) -> Option<D>
+        ensures { result ≡ pin_in self.now node }
+    {
+        match self.index(node) {
+            Some(index) => self.pins.get(index).copied(),
+            None => None,
+        }
     }
 }
 

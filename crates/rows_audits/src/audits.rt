@@ -143,9 +143,7 @@ pub fn pins<F: Family, H: Hasher<F>>(
     let pinned: Vec<H::Digest> = digests(words);
     let all = words.slices(&found);
     words.end()?;
-    let verdict = granted!(audit_pins(
-        hasher, &list, inactive, &proof, &all, start, &pinned
-    ));
+    let verdict = granted!(audit_pins(hasher, &list, inactive, &proof, &all, start, &pinned));
     write_verdict(answer, verdict);
     Ok(())
 }

@@ -160,7 +160,7 @@ returns-clause-claim g c =
     let all = c.deref-3.ensures.value ∙ c.in_ok-digests.ensures (peaks_of g.F.Family.rule c.args.proof.now.leaves) (c.deref-2.ensures.value ∙ c.in_ok-peaks.ensures) fit
     ∙ ap₂ (λ h rule. map (pinned_value h (pin_in nodes) c.args.range.start (digest_given g.H.Digest.Digest.EMPTY nodes)) (take count (peaks_of rule c.args.proof.now.leaves)) ++ take back (drop front c.deref.result.now)) (sym hashing_is) rule_is
     ∙ ap (λ ds. map (pinned_value s.hashing (pin_in nodes) c.args.range.start (digest_given g.H.Digest.Digest.EMPTY nodes)) (take count (peaks_of s.rule c.args.proof.now.leaves)) ++ take back (drop front ds)) c.deref.ensures.value
-    ∙ all_are s r c.args.pinned_nodes.now w.0 g.H.Digest.Digest.EMPTY w.1 w.2 nodes (ap Some w.3) refl ends placed c.in_ok-pins.ensures front back count
+    ∙ all_are s r c.args.pinned_nodes.now w.0 g.H.Digest.Digest.EMPTY w.1 w.2 nodes (ap Some w.3) refl ends placed (c.in_ok-pins.ensures.items_if_clones_equal g.met.H.Digest.Digest.clone_is_same) front back count
     (front_is s r _ _ _ _ _ n1 n2 n3 n4 n5) (back_is s r _ _ _ _ _ n1 n2 n3 n4 n5) (first_is s r _ _ _ _ _ n1 n2 n3 n4 n5) in
-    pinned_claim_is s r c.args.pinned_nodes.now w.0 g.H.Digest.Digest.EMPTY w.1 w.2 nodes (ap Some w.3) refl ends placed c.in_ok-pins.ensures _ c.deref-3.result.now all
+    pinned_claim_is s r c.args.pinned_nodes.now w.0 g.H.Digest.Digest.EMPTY w.1 w.2 nodes (ap Some w.3) refl ends placed (c.in_ok-pins.ensures.items_if_clones_equal g.met.H.Digest.Digest.clone_is_same) _ c.deref-3.result.now all
     c.in-Ok-above_peaks.ensures.root c.in-Ok-above_peaks.ensures.folds
