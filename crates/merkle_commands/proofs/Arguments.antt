@@ -15,7 +15,7 @@ use Rattle.hex.specs.Hex.{is_hex_digit}
 use Rattle.merkle_commands.specs.declared.command.Command.{Command}
 use Rattle.merkle_commands.specs.declared.command.Command.TheVariants.{New, Ask}
 use Rattle.merkle_commands.specs.declared.command.FamilyName.TheVariants.{Mmr, Mmb}
-use Rattle.merkle_commands.specs.declared.command.Request.TheVariants.{Add, Update, Commit, Prune, Root, Prove, Check}
+use Rattle.merkle_commands.specs.declared.command.Request.TheVariants.{Add, Update, Commit, Prune, Root, Prove, Check, Audit}
 use Rattle.merkle_commands.specs.Commands.{element_word, joined, optional_words, words_in, words_of, IsCommand, IsDigitsWord, IsElementWord}
 use Rattle.merkle_commands.specs.Words.{IsHexWord}
 use Rattle.merkle_commands.proofs.WordRows.{no_space}
@@ -60,6 +60,7 @@ is_update words (Ask (Prune k)) i e = absurd (let other : 117 ≡ 112 = ap (λ l
 is_update words (Ask (Root k)) i e = absurd (let other : 117 ≡ 114 = ap (λ l. get_or l 0 0) e in omega (arith, other))
 is_update words (Ask (Prove a b k)) i e = absurd (let other : 117 ≡ 112 = ap (λ l. get_or l 0 0) e in omega (arith, other))
 is_update words (Ask (Check a k root proof elements)) i e = absurd (let other : 117 ≡ 99 = ap (λ l. get_or l 0 0) e in omega (arith, other))
+is_update words (Ask (Audit a k proof elements)) i e = absurd (let other : 117 ≡ 97 = ap (λ l. get_or l 0 0) e in omega (arith, other))
 
 pub is_prove : (words : List ℕ) (command : Command) → IsCommand command → codes "prove" ++ 32 ∷ words ≡ joined (words_of command)
     → (a : ℕ) × (b : ℕ) × (k : ℕ) × (a < 2 ^ 64) × (b < 2 ^ 64) × (k < 2 ^ 64) × (words ≡ decimal a ++ 32 ∷ (decimal b ++ 32 ∷ decimal k))
@@ -71,6 +72,7 @@ is_prove words (Ask (Prune k)) i e = absurd (let other : 111 ≡ 117 = ap (λ l.
 is_prove words (Ask (Root k)) i e = absurd (let other : 112 ≡ 114 = ap (λ l. get_or l 0 0) e in omega (arith, other))
 is_prove words (Ask (Prove a b k)) i e = (a, b, k, i.0, i.1, i.2, ap (drop 6) e)
 is_prove words (Ask (Check a k root proof elements)) i e = absurd (let other : 112 ≡ 99 = ap (λ l. get_or l 0 0) e in omega (arith, other))
+is_prove words (Ask (Audit a k proof elements)) i e = absurd (let other : 112 ≡ 97 = ap (λ l. get_or l 0 0) e in omega (arith, other))
 
 pub is_check : (words : List ℕ) (command : Command) → IsCommand command → codes "check" ++ 32 ∷ words ≡ joined (words_of command)
     → (a : ℕ) × (k : ℕ) × (root : List ℕ) × (proof : List ℕ) × (elements : Option (Bor (List ℕ))) × (a < 2 ^ 64) × (k < 2 ^ 64) × IsDigitsWord root × IsDigitsWord proof
@@ -83,6 +85,20 @@ is_check words (Ask (Prune k)) i e = absurd (let other : 99 ≡ 112 = ap (λ l. 
 is_check words (Ask (Root k)) i e = absurd (let other : 99 ≡ 114 = ap (λ l. get_or l 0 0) e in omega (arith, other))
 is_check words (Ask (Prove a b k)) i e = absurd (let other : 99 ≡ 112 = ap (λ l. get_or l 0 0) e in omega (arith, other))
 is_check words (Ask (Check a k root proof elements)) i e = (a, k, root.now, proof.now, elements, i.0, i.1, i.2, i.3, i.4, ap (drop 6) e)
+is_check words (Ask (Audit a k proof elements)) i e = absurd (let other : 99 ≡ 97 = ap (λ l. get_or l 0 0) e in omega (arith, other))
+
+pub is_audit : (words : List ℕ) (command : Command) → IsCommand command → codes "audit" ++ 32 ∷ words ≡ joined (words_of command)
+    → (a : ℕ) × (k : ℕ) × (proof : List ℕ) × (elements : Option (Bor (List ℕ))) × (a < 2 ^ 64) × (k < 2 ^ 64) × IsDigitsWord proof
+    × AllByRecursion IsElementWord (optional_words elements) × (words ≡ decimal a ++ 32 ∷ (decimal k ++ 32 ∷ joined (proof ∷ optional_words elements)))
+is_audit words (New family bagging hash) i e = absurd (let other : 97 ≡ 110 = ap (λ l. get_or l 0 0) e in omega (arith, other))
+is_audit words (Ask (Add digits)) i e = absurd (let other : 117 ≡ 100 = ap (λ l. get_or l 1 0) e in omega (arith, other))
+is_audit words (Ask (Update k digits)) i e = absurd (let other : 97 ≡ 117 = ap (λ l. get_or l 0 0) e in omega (arith, other))
+is_audit words (Ask Commit) i e = absurd (let other : 97 ≡ 99 = ap (λ l. get_or l 0 0) e in omega (arith, other))
+is_audit words (Ask (Prune k)) i e = absurd (let other : 97 ≡ 112 = ap (λ l. get_or l 0 0) e in omega (arith, other))
+is_audit words (Ask (Root k)) i e = absurd (let other : 97 ≡ 114 = ap (λ l. get_or l 0 0) e in omega (arith, other))
+is_audit words (Ask (Prove a b k)) i e = absurd (let other : 97 ≡ 112 = ap (λ l. get_or l 0 0) e in omega (arith, other))
+is_audit words (Ask (Check a k root proof elements)) i e = absurd (let other : 97 ≡ 99 = ap (λ l. get_or l 0 0) e in omega (arith, other))
+is_audit words (Ask (Audit a k proof elements)) i e = (a, k, proof.now, elements, i.0, i.1, i.2, i.3, ap (drop 6) e)
 
 -- a word before the words of a row
 joined_row : (word row : List ℕ) (words : List (List ℕ)) → words ≡ words_in row → 0 < length words → joined (word ∷ words) ≡ word ++ 32 ∷ row

@@ -14,7 +14,7 @@ use Rattle.merkle_commands.specs.declared.command.Command.{Command}
 use Rattle.merkle_commands.specs.declared.command.Command.TheVariants.{New, Ask}
 use Rattle.merkle_commands.specs.declared.command.FamilyName.TheVariants.{Mmr, Mmb}
 use Rattle.merkle_commands.specs.declared.command.HashName.TheVariants.{Sha256, Xor8}
-use Rattle.merkle_commands.specs.declared.command.Request.TheVariants.{Add, Update, Commit, Prune, Root, Prove, Check}
+use Rattle.merkle_commands.specs.declared.command.Request.TheVariants.{Add, Update, Commit, Prune, Root, Prove, Check, Audit}
 use Rattle.merkle_commands.specs.Commands.{element_word, optional_words, words_of, joined, IsCommand, IsElementWord}
 use Rattle.merkle_commands.specs.Words.{IsHexWord}
 
@@ -70,6 +70,11 @@ command_ascii (Ask (Check a k root proof elements)) i =
     (two_words (decimal k) (root.now ++ 32 ∷ joined (proof.now ∷ optional_words elements)) (IsAscii-decimal k i.1)
     (two_words root.now (joined (proof.now ∷ optional_words elements)) (digits_ascii root.now i.2.0)
     (joined_ascii (proof.now ∷ optional_words elements) (digits_ascii proof.now i.3.0, elements_ascii (optional_words elements) i.4)))))
+command_ascii (Ask (Audit a k proof elements)) i =
+    two_words (codes "audit") (decimal a ++ 32 ∷ (decimal k ++ 32 ∷ joined (proof.now ∷ optional_words elements))) (ascii_of (codes "audit") refl)
+    (two_words (decimal a) (decimal k ++ 32 ∷ joined (proof.now ∷ optional_words elements)) (IsAscii-decimal a i.0)
+    (two_words (decimal k) (joined (proof.now ∷ optional_words elements)) (IsAscii-decimal k i.1)
+    (joined_ascii (proof.now ∷ optional_words elements) (digits_ascii proof.now i.2.0, elements_ascii (optional_words elements) i.3))))
 
 -- bytes that are no UTF-8 are no command's line
 pub no_command : (line : List ℕ) → ¬ (IsUtf8 line) → (command : Command) → IsCommand command → ¬ (line ≡ joined (words_of command))

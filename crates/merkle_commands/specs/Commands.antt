@@ -11,7 +11,7 @@ use Rattle.merkle_commands.specs.declared.command.FamilyName.{FamilyName}
 use Rattle.merkle_commands.specs.declared.command.FamilyName.TheVariants.{Mmr, Mmb}
 use Rattle.merkle_commands.specs.declared.command.HashName.{HashName}
 use Rattle.merkle_commands.specs.declared.command.HashName.TheVariants.{Sha256, Xor8}
-use Rattle.merkle_commands.specs.declared.command.Request.TheVariants.{Add, Update, Commit, Prune, Root, Prove, Check}
+use Rattle.merkle_commands.specs.declared.command.Request.TheVariants.{Add, Update, Commit, Prune, Root, Prove, Check, Audit}
 use Rattle.merkle_commands.specs.Words.{IsHexWord}
 
 abbrev pub family_word : FamilyName → List ℕ
@@ -50,6 +50,7 @@ words_of (Ask (Prune location)) = codes "prune" ∷ decimal location ∷ []
 words_of (Ask (Root inactive)) = codes "root" ∷ decimal inactive ∷ []
 words_of (Ask (Prove start end inactive)) = codes "prove" ∷ decimal start ∷ decimal end ∷ decimal inactive ∷ []
 words_of (Ask (Check start inactive root proof elements)) = codes "check" ∷ decimal start ∷ decimal inactive ∷ root.now ∷ proof.now ∷ optional_words elements
+words_of (Ask (Audit start inactive proof elements)) = codes "audit" ∷ decimal start ∷ decimal inactive ∷ proof.now ∷ optional_words elements
 
 -- one space stands between each two words
 abbrev pub joined : List (List ℕ) → List ℕ
@@ -74,3 +75,5 @@ IsCommand (Ask (Root inactive)) = inactive < 2 ^ 64
 IsCommand (Ask (Prove start end inactive)) = (start < 2 ^ 64) × (end < 2 ^ 64) × (inactive < 2 ^ 64)
 IsCommand (Ask (Check start inactive root proof elements)) =
     (start < 2 ^ 64) × (inactive < 2 ^ 64) × IsDigitsWord root.now × IsDigitsWord proof.now × AllByRecursion IsElementWord (optional_words elements)
+IsCommand (Ask (Audit start inactive proof elements)) =
+    (start < 2 ^ 64) × (inactive < 2 ^ 64) × IsDigitsWord proof.now × AllByRecursion IsElementWord (optional_words elements)

@@ -90,6 +90,17 @@ pub enum Request<'a> {
         /// The words of the elements, separated by single spaces; `None` if there are no elements.
         elements: Option<&'a str>,
     },
+    /// Audit a proof of consecutive elements against the root of the committed structure.
+    Audit {
+        /// The location of the first element.
+        start: u64,
+        /// The number of inactive peaks of the root.
+        inactive: usize,
+        /// The digits of the bytes of the proof.
+        proof: &'a str,
+        /// The words of the elements, separated by single spaces; `None` if there are no elements.
+        elements: Option<&'a str>,
+    },
 }
 
 // Whether the word begins with `+`, or with a zero that is not the whole word.
@@ -276,6 +287,26 @@ fn read_check(words: &str) -> Option<Request<'_>>
     })
 }
 
+// Parses the words after `audit`.
+fn read_audit(words: &str) -> Option<Request<'_>>
+    ensures spelled { IfSome result (λ request. joined (codes "audit" ∷ words.now ∷ []) ≡ joined (words_of (Command.Ask request))) }
+    ensures allowed { IfSome result (λ request. IsCommand (Command.Ask request)) }
+    ensures none { IfNone result ((command : Command) → IsCommand command → joined (codes "audit" ∷ words.now ∷ []) ≢ joined (words_of command)) }
+{
+    let (start, rest) = words.split_once(' ')?;
+    let (inactive, rest) = rest.split_once(' ')?;
+    let (proof, elements) = cut(rest);
+    if !are_all_elements(elements) {
+        return None;
+    }
+    Some(Request::Audit {
+        start: read_number(start)?,
+        inactive: read_count(inactive)?,
+        proof: read_digits(proof)?,
+        elements,
+    })
+}
+
 /// Parses a line, without the byte that ended it; `None` if it is not a command.
 ///
 /// A command is a sequence of words separated by single spaces, with nothing before or after them:
@@ -290,6 +321,8 @@ fn read_check(words: &str) -> Option<Request<'_>>
 ///   inactive peaks
 /// - `check`, then the location of the first element, a number of inactive peaks, the root, the
 ///   proof, and the elements
+/// - `audit`, then the location of the first element, a number of inactive peaks, the proof, and the
+///   elements
 ///
 /// An element is an even number of hexadecimal digits of either case, or `-` for the empty element.
 /// The root and the proof are nonempty words of that kind. A number is below 2^64, in decimal
@@ -311,6 +344,7 @@ pub fn read_command(line: &str) -> Option<Command<'_>>
         "root" => Some(Command::Ask(Request::Root(read_count(rest)?))),
         "prove" => Some(Command::Ask(read_prove(rest)?)),
         "check" => Some(Command::Ask(read_check(rest)?)),
+        "audit" => Some(Command::Ask(read_audit(rest)?)),
         _ => None,
     }
 }

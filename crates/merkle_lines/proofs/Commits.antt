@@ -14,7 +14,8 @@ use Rattle.merkle_lines.specs.StructureState.{StructureState, at_updated, change
 use Rattle.merkle_lines.specs.Held.{IsStructureHeld, Makes}
 use Rattle.merkle_lines.proofs.Making.{lost_missing, missing_lost}
 
-module _ {D : Type 0} (h : Hashing D) (rule : List ℕ → List ℕ) (max_leaves : ℕ) (s : MemModel D) (p : Option (UnmerkleizedModel D)) (g : StructureState) (held : IsStructureHeld h rule max_leaves s p g)
+module _ {D : Type 0} (h : Hashing D) (rule : List ℕ → List ℕ) (max_leaves : ℕ) (s : MemModel D) (p : Option (UnmerkleizedModel D)) (xs : List D) (es : List (ℕ × D)) (g : StructureState)
+    (held : IsStructureHeld h rule max_leaves s p xs es g)
     (b : UnmerkleizedModel D) (m : Makes h rule (leaf_digests h rule 0 g.committed) b (changes g)) where
   abbrev list : List D
   list = leaf_digests h rule 0 g.committed

@@ -1,5 +1,7 @@
+pub mod Audits
 pub mod Commits
 pub mod Dispatched
+pub mod EditedLists
 pub mod Holdings
 pub mod Making
 pub mod Proving

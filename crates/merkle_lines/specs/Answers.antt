@@ -15,10 +15,15 @@ use Rattle.merkle_batch_theory.specs.Needed.{IsNeeded}
 use Rattle.merkle_codec.specs.ProofSpelling.{parts_spelling, IsProofReadRefusal}
 use Rattle.merkle_commands.specs.Commands.{optional_words}
 use Rattle.merkle_commands.specs.declared.command.Request.{Request}
-use Rattle.merkle_commands.specs.declared.command.Request.TheVariants.{Add, Update, Commit, Prune, Root, Prove, Check}
+use Rattle.merkle_commands.specs.declared.command.Request.TheVariants.{Add, Update, Commit, Prune, Root, Prove, Check, Audit}
+use Rattle.merkle_audit_theory.specs.PlainHash.{string_at}
+use Rattle.merkle_claim_theory.specs.FirstCollision.{IsFirstCollision}
 use Rattle.merkle_range.specs.Input.{leaf_digests, range_input}
 use Rattle.merkle_proof.specs.RangePlans.{IsFirstMissing}
-use Rattle.merkle_root_theory.specs.Range.{range_digests}
+use Rattle.merkle_root_theory.specs.Check.{RangeInput, range_inputs}
+use Rattle.merkle_root_theory.specs.Collision.{Collision}
+use Rattle.merkle_root_theory.specs.Expression as theory
+use Rattle.merkle_root_theory.specs.Range.{range_digests, list_inputs, IsHonestRange}
 use Rattle.merkle_root_theory.specs.Reads.{reading_order}
 use Rattle.merkle_root_theory.specs.Reconstruction.{reconstructed}
 use Rattle.merkle_lines.specs.ErrorNames.{decode_error_name}
@@ -135,6 +140,45 @@ IsChecked {D} s size Spells a inactive root proof elements text =
     ((¬ (Spells root)) × (text ≡ error_line (codes "Syntax")))
     ⊎ ((d : D) × (s.hashing.bytes d ≡ root) × IsRead s size Spells a inactive d proof elements text)
 
+-- the words of a place
+abbrev pub place_words : theory.Place → List ℕ
+place_words theory.Root = codes "root"
+place_words theory.Join = codes "join"
+place_words (theory.PrefixFold i) = codes "prefix " ++ decimal i
+place_words (theory.SuffixFold i) = codes "suffix " ++ decimal i
+place_words (theory.Node p) = codes "node " ++ decimal p
+
+-- the line of a collision: its place, and the bytes that the plain hash hashed on both sides
+abbrev pub collision_line : {D : Type 0} → (D → List ℕ) → Collision D → List ℕ
+collision_line bytes c =
+    codes "collision " ++ place_words c.place ++ codes " " ++ encode_lower (string_at bytes c.place c.claimed)
+    ++ codes " " ++ encode_lower (string_at bytes c.place c.listed)
+
+-- the line says what a range input is against a list: it isn't accepted, it is honest, or else it collides, at first there
+abbrev pub SaysOfInput : {D : Type 0} → Scheme D → List D → ℕ → RangeInput D → List ℕ → Type 0
+SaysOfInput {D} s X inactive r text =
+    ((¬ (reconstructed s r ≡ Ok (list_root s X inactive))) × (text ≡ codes "rejected"))
+    ⊎ (IsHonestRange s X inactive r × (text ≡ codes "honest"))
+    ⊎ ((reconstructed s r ≡ Ok (list_root s X inactive)) × (¬ (IsHonestRange s X inactive r))
+    × (c : Collision D) × IsFirstCollision s.hashing (range_inputs s r) (list_inputs s X inactive) c × (text ≡ collision_line s.hashing.bytes c))
+
+-- the line on a proof of the elements from a on that was read, against the committed elements
+abbrev pub IsAuditedInput : {D : Type 0} → Scheme D → StructureState → (inactive : ℕ) → RangeInput D → List ℕ → Type 0
+IsAuditedInput s g inactive r text =
+    ((length (peaks_of s.rule (count g)) < inactive) × (text ≡ error_line (codes "InvalidInactivePeaks")))
+    ⊎ ((inactive ≤ length (peaks_of s.rule (count g))) × SaysOfInput s (committed_list s g) inactive r text)
+
+-- the line that answers an audit: the bytes begin with no proof, or something follows it, or else what the proof is
+abbrev pub IsAudited : {D : Type 0} → Scheme D → (size : ℕ) → (Spells : List ℕ → Type 0) → StructureState → (a inactive : ℕ) → (proof : List ℕ)
+    → List (List ℕ) → List ℕ → Type 0
+IsAudited {D} s size Spells g a inactive proof elements text =
+    ((e : DecodeError) × (e ≢ OutOfMemory) × IsProofReadRefusal size Spells s.max_leaves (most_digests (length elements)) proof e
+    × (text ≡ error_line (decode_error_name e)))
+    ⊎ ((leaves peaks : ℕ) × (digests : List D) × (rest : List ℕ) × (leaves ≤ s.max_leaves) × (peaks < 2 ^ 64)
+    × (length digests ≤ most_digests (length elements)) × (proof ≡ parts_spelling s.hashing.bytes leaves peaks digests ++ rest)
+    × (((rest ≢ []) × (text ≡ error_line (codes "Trailing")))
+    ⊎ ((rest ≡ []) × IsAuditedInput s g inactive (range_input s leaves peaks digests a elements) text)))
+
 -- what a request leaves, and the line that answers it; digests are read from `size` bytes, of which each that spells one is a digest's
 abbrev pub IsDone : {D : Type 0} → Scheme D → (size : ℕ) → (Spells : List ℕ → Type 0) → StructureState → Request → StructureState → List ℕ → Type 0
 IsDone s size Spells g (Add digits) u text = (u, text) ≡ added s g (word_bytes digits.now)
@@ -145,6 +189,8 @@ IsDone s size Spells g (Root inactive) u text = (u ≡ g) × (text ≡ root_line
 IsDone s size Spells g (Prove start end inactive) u text = (u ≡ g) × IsProved s g start end inactive text
 IsDone s size Spells g (Check start inactive root proof elements) u text =
     (u ≡ g) × IsChecked s size Spells start inactive (word_bytes root.now) (word_bytes proof.now) (map word_bytes (optional_words elements)) text
+IsDone s size Spells g (Audit start inactive proof elements) u text =
+    (u ≡ g) × IsAudited s size Spells g start inactive (word_bytes proof.now) (map word_bytes (optional_words elements)) text
 
 -- what is left where memory was wanting
 abbrev pub left : StructureState → Request → StructureState
@@ -155,6 +201,7 @@ left g (Prune location) = g
 left g (Root inactive) = g
 left g (Prove start end inactive) = g
 left g (Check start inactive root proof elements) = g
+left g (Audit start inactive proof elements) = g
 
 -- a request leaves u, and the text answers it
 abbrev pub IsRequestAnswered : {D : Type 0} → Scheme D → (size : ℕ) → (Spells : List ℕ → Type 0) → StructureState → Request → StructureState → List ℕ → Type 0

@@ -1,5 +1,5 @@
 -- When structures hold what the lines told.
-use Rattle.std.specs.Prelude.{◌≡◌, ℕ, ◌≤◌, ◌==◌, List, Option, Some, None, is_some, length, ⊤}
+use Rattle.std.specs.Prelude.{◌≡◌, ℕ, ◌≤◌, ◌==◌, List, [], ◌∷◌, ◌++◌, Option, Some, None, IfSome, cond, nat_lt, is_some, length, slice_set, ⊤}
 use Rattle.std.specs.FinMap.{get}
 use Rattle.std.specs.List.{list_any}
 use Rattle.merkle_base.specs.Forest.{size}
@@ -29,11 +29,19 @@ MakesPending h rule X None (Some c) = ⊥
 MakesPending h rule X (Some batch) None = ⊥
 MakesPending h rule X (Some batch) (Some c) = Makes h rule X batch c
 
--- the structure agrees with the committed elements, and its pending batch makes the changes
+-- leaf digests of which some are changed, each at its location, or added at the end
+abbrev pub edited : {D : Type 0} → List D → List (ℕ × D) → List D
+edited xs [] = xs
+edited xs (e ∷ es) = edited (cond (nat_lt e.0 (length xs)) (slice_set xs e.0 e.1) (xs ++ e.1 ∷ [])) es
+
+-- the structure agrees with the committed elements, and its pending batch makes the changes; the list has the leaf digests of these elements, and with
+-- the edits those of the elements with the changes
 pub record IsStructureHeld {D : Type 0} (h : Hashing D) (rule : List ℕ → List ℕ) (max_leaves : ℕ)
-    (store : MemModel D) (pending : Option (UnmerkleizedModel D)) (g : StructureState) : Type 0 where
+    (store : MemModel D) (pending : Option (UnmerkleizedModel D)) (list : List D) (edits : List (ℕ × D)) (g : StructureState) : Type 0 where
   pub agrees : Agrees h rule (contents store) (leaf_digests h rule 0 g.committed)
   pub counted : store.leaves ≡ length g.committed
   pub bounded : length g.committed ≤ max_leaves
   pub boundary : store.boundary ≡ g.boundary
   pub makes : MakesPending h rule (leaf_digests h rule 0 g.committed) pending g.pending
+  pub listed : list ≡ leaf_digests h rule 0 g.committed
+  pub edits_are : IfSome g.pending (λ c. edited list edits ≡ leaf_digests h rule 0 c.elements)

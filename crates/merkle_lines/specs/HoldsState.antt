@@ -16,13 +16,13 @@ abbrev pub HoldsState : Session → Option SessionState → Type 0
 HoldsState Absent told = told ≡ None
 HoldsState (MmrSha256 s) told =
     (g : StructureState) × (told ≡ Some (record { family = Mmr; bagging = s.hasher; hash = Sha256; structure = g }))
-    × IsStructureHeld sha256_hashing mmr_merges (2 ^ 62) s.committed s.pending g
+    × IsStructureHeld sha256_hashing mmr_merges (2 ^ 62) s.committed s.pending s.list.items s.edits.items g
 HoldsState (MmrXor8 s) told =
     (g : StructureState) × (told ≡ Some (record { family = Mmr; bagging = s.hasher; hash = Xor8; structure = g }))
-    × IsStructureHeld xor8_hashing mmr_merges (2 ^ 62) s.committed s.pending g
+    × IsStructureHeld xor8_hashing mmr_merges (2 ^ 62) s.committed s.pending s.list.items s.edits.items g
 HoldsState (MmbSha256 s) told =
     (g : StructureState) × (told ≡ Some (record { family = Mmb; bagging = s.hasher; hash = Sha256; structure = g }))
-    × IsStructureHeld sha256_hashing mmb_merges (2 ^ 62 + 30) s.committed s.pending g
+    × IsStructureHeld sha256_hashing mmb_merges (2 ^ 62 + 30) s.committed s.pending s.list.items s.edits.items g
 HoldsState (MmbXor8 s) told =
     (g : StructureState) × (told ≡ Some (record { family = Mmb; bagging = s.hasher; hash = Xor8; structure = g }))
-    × IsStructureHeld xor8_hashing mmb_merges (2 ^ 62 + 30) s.committed s.pending g
+    × IsStructureHeld xor8_hashing mmb_merges (2 ^ 62 + 30) s.committed s.pending s.list.items s.edits.items g

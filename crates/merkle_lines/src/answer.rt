@@ -1,11 +1,40 @@
 //! What is printed for a line, and the names of errors.
 ghost use Rattle.std.specs.Prelude.{◌≡◌, ℕ, List, Some, codes};
-ghost use Rattle.merkle_lines.specs.AnswerText.{answer_text};
+ghost use Rattle.merkle_lines.specs.AnswerText.{answer_text, spot_text};
 ghost use Rattle.merkle_lines.specs.ErrorNames.{decode_error_name, error_name, hex_error_name};
 
 use merkle_commands::hex_words::HexError;
 use merkle_core::error::{DecodeError, Error, OutOfMemory};
 use std::fmt;
+
+/// Where two inputs collide.
+#[derive(Clone, Copy, Debug)]
+pub enum Spot {
+    /// `root`.
+    Root,
+    /// `join`.
+    Join,
+    /// `prefix NUMBER`.
+    Prefix(usize),
+    /// `suffix NUMBER`.
+    Suffix(usize),
+    /// `node POSITION`.
+    Node(u64),
+}
+
+impl fmt::Display for Spot {
+    ghost output = { λ s. Some (spot_text s) };
+
+    fn fmt<W: fmt::Write>(&self, f: &mut fmt::Formatter<W>) -> fmt::Result {
+        match self {
+            Spot::Root => write!(f, "root"),
+            Spot::Join => write!(f, "join"),
+            Spot::Prefix(number) => write!(f, "prefix {number}"),
+            Spot::Suffix(number) => write!(f, "suffix {number}"),
+            Spot::Node(position) => write!(f, "node {position}"),
+        }
+    }
+}
 
 /// What is printed for a line.
 #[derive(Debug, Drop)]
@@ -15,14 +44,31 @@ pub enum Answer {
     /// `ok LOCATION`: the location of the added leaf.
     Added(u64),
     /// `ok LEAVES NODES`: the leaf count and the size in nodes of the structure after a commit.
-    Committed { leaves: u64, size: u64 },
+    Committed {
+        leaves: u64,
+        size: u64,
+    },
     /// `ok START END`: the locations of the leaves that are held after pruning, from the first to
     /// the one after the last.
-    Pruned { start: u64, end: u64 },
+    Pruned {
+        start: u64,
+        end: u64,
+    },
     /// The hexadecimal digits of a root or of a proof.
     Digits(String),
     /// `yes` or `no`: whether a proof is accepted.
     Verdict(bool),
+    /// `rejected`: the check does not accept the audited proof.
+    Rejected,
+    /// `honest`: the audited proof is the honest one.
+    Honest,
+    /// `collision PLACE CLAIMED LISTED`: the audited proof is accepted and not honest. The bytes that
+    /// the plain hash hashed for the proof and for the list are in hexadecimal digits.
+    Collision {
+        place: Spot,
+        claimed: String,
+        listed: String,
+    },
     /// `error NAME`: the name of the error.
     Fault(&'static str),
 }
@@ -39,6 +85,13 @@ impl fmt::Display for Answer {
             Answer::Digits(digits) => write!(f, "{digits}"),
             Answer::Verdict(true) => write!(f, "yes"),
             Answer::Verdict(false) => write!(f, "no"),
+            Answer::Rejected => write!(f, "rejected"),
+            Answer::Honest => write!(f, "honest"),
+            Answer::Collision {
+                place,
+                claimed,
+                listed,
+            } => write!(f, "collision {place} {claimed} {listed}"),
             Answer::Fault(name) => write!(f, "error {name}"),
         }
     }

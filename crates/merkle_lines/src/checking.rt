@@ -34,7 +34,7 @@ fn read_element(alloc: Global, word: &str) -> Result<Vec<u8>, HexError>
 }
 
 // Returns the bytes of the elements of some words; none if there are no words.
-fn read_elements(alloc: Global, words: Option<&str>) -> Result<Vec<Vec<u8>>, HexError>
+pub(crate) fn read_elements(alloc: Global, words: Option<&str>) -> Result<Vec<Vec<u8>>, HexError>
     ensures value { IfOk result (λ all. AllByRecursion IsElementWord (optional_words words.entry)
         → map (λ bytes. bytes.items) all.items ≡ map word_bytes (optional_words words.entry)) }
     ensures refused { AllByRecursion IsElementWord (optional_words words.entry) → IsOkUnless result HexError.OutOfMemory }
@@ -56,7 +56,7 @@ fn read_elements(alloc: Global, words: Option<&str>) -> Result<Vec<Vec<u8>>, Hex
 }
 
 // Borrows the elements.
-fn lent(alloc: Global, elements: &[Vec<u8>]) -> Result<Vec<&[u8]>, OutOfMemory>
+pub(crate) fn lent(alloc: Global, elements: &[Vec<u8>]) -> Result<Vec<&[u8]>, OutOfMemory>
     ensures { IfOk result (λ all. bytes_of all.items ≡ map (λ bytes. bytes.items) elements.now) }
 {
     let mut all: Vec<&[u8]> = Vec::new(alloc);

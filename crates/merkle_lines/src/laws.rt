@@ -1,10 +1,13 @@
 //! The definitions of the lines, computed on small cases.
 ghost use Rattle.std.specs.Prelude.{◌≡◌, ◌^◌, [], ◌∷◌, ◌++◌, Some, None, List, ℕ, codes};
 ghost use Rattle.std.specs.Fmt.{decimal};
+ghost use Rattle.hex.specs.Hex.{encode_lower};
 ghost use Rattle.merkle_base.specs.Scheme.{scheme_of};
 ghost use Rattle.merkle_base.specs.declared.family.Bagging.TheVariants.{ForwardFold, BackwardFold};
 ghost use Rattle.merkle_forest_theory.specs.Mmr.{mmr_merges};
-ghost use Rattle.merkle_lines.specs.Answers.{added, error_line, proof_bytes, prune_answer, root_bytes, updated};
+ghost use Rattle.merkle_lines.specs.Answers.{added, collision_line, error_line, proof_bytes, prune_answer, root_bytes, updated};
+ghost use Rattle.merkle_root_theory.specs.Expression as theory;
+ghost use Rattle.merkle_lines.specs.Held.{edited};
 ghost use Rattle.merkle_lines.specs.StructureState.{StructureState, all_committed, with_changes};
 ghost use Rattle.merkle_lines.specs.Hashes.{xor8_hashing};
 ghost use Rattle.merkle_lines.specs.Transcript.{lines_of};
@@ -45,6 +48,9 @@ pub fn worked_rows()
     })
         ≡ record { committed = (1 ∷ []) ∷ (2 ∷ []) ∷ []; boundary = 1; pending = None } }
 
+    // Edits of leaf digests: the first is changed, and one is added.
+    ensures edits { edited {D = ℕ} (1 ∷ 2 ∷ []) ((0, 9) ∷ (2, 8) ∷ []) ≡ 9 ∷ 2 ∷ 8 ∷ [] }
+
     // Pruning returns the bounds; pruning to an earlier location changes nothing.
     ensures prunes { let g : StructureState = record { committed = (1 ∷ []) ∷ (2 ∷ []) ∷ []; boundary = 1; pending = None } in
         prune_answer g 2 ≡ (record { committed = (1 ∷ []) ∷ (2 ∷ []) ∷ []; boundary = 2; pending = None }, codes "ok " ++ decimal 2 ++ codes " " ++ decimal 2) }
@@ -58,4 +64,11 @@ pub fn worked_rows()
         root_bytes (scheme_of xor8_hashing BackwardFold mmr_merges (2 ^ 62) 0) g 0 ≡ 5 ∷ [] }
     ensures proof { let g : StructureState = record { committed = (1 ∷ []) ∷ (2 ∷ []) ∷ (4 ∷ []) ∷ []; boundary = 0; pending = None } in
         proof_bytes (scheme_of xor8_hashing ForwardFold mmr_merges (2 ^ 62) 0) g 0 1 0 ≡ 3 ∷ 0 ∷ 2 ∷ 7 ∷ 3 ∷ [] }
+
+    // A node with the digests 2 and 0 of its children in place of 1 and 3, and a fold of 4 and 3 in place of 0 and 7.
+    ensures collides_at_a_node { collision_line (λ d. d ∷ []) (record { place = theory.Node 2; claimed = theory.Pair 2 0; listed = theory.Pair 1 3 })
+        ≡ codes "collision node " ++ decimal 2 ++ codes " " ++ encode_lower (0 ∷ 0 ∷ 0 ∷ 0 ∷ 0 ∷ 0 ∷ 0 ∷ 2 ∷ 2 ∷ 0 ∷ [])
+        ++ codes " " ++ encode_lower (0 ∷ 0 ∷ 0 ∷ 0 ∷ 0 ∷ 0 ∷ 0 ∷ 2 ∷ 1 ∷ 3 ∷ []) }
+    ensures collides_at_a_fold { collision_line (λ d. d ∷ []) (record { place = theory.PrefixFold 1; claimed = theory.Pair 4 3; listed = theory.Pair 0 7 })
+        ≡ codes "collision prefix " ++ decimal 1 ++ codes " " ++ encode_lower (4 ∷ 3 ∷ []) ++ codes " " ++ encode_lower (0 ∷ 7 ∷ []) }
 {}

@@ -2,6 +2,7 @@
 #![tactic(auto)]
 
 mod answer;
+mod auditing;
 mod checking;
 pub mod laws;
 pub mod run;

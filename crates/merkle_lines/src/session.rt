@@ -48,7 +48,7 @@ impl Session {
     /// Carries out a command, and returns its answer.
     ///
     /// If an `add`, `update` or `commit` fails, there is no pending batch any more, and the
-    /// committed structure is unchanged.
+    /// committed structure and its list of leaf digests are unchanged.
     pub fn answer(&mut self, alloc: Global, command: Command<'_>) -> Answer
         ensures { IsCommand command.entry → (told : Option SessionState) → HoldsState self.old told → (u : Option SessionState) × HoldsState self.new u
             × IsCommandAnswered told command.entry u (answer_text result) }

@@ -43,15 +43,65 @@ fn runs(rt: HostRuntime) {
     }
 }
 
+// Audits: each answer, and the same ones once the audited leaves are pruned; a list that changes with a commit alone; each
+// structure; and errors, of which the first that applies is answered.
+const AUDITS: [(&[u8], &str); 5] = [
+    (
+        b"new mmr forward xor8\nadd 01\nadd 02\nadd 04\ncommit\naudit 0 0 0300020703 01\naudit 0 0 0300020703 02\n\
+        audit 0 0 0300020307 01\naudit 0 0 0300020700 02\naudit 0 0 010000 05\nprune 3\naudit 0 0 0300020703 01\n\
+        audit 0 0 0300020703 02\naudit 0 0 0300020307 01\naudit 0 0 0300020700 02\naudit 0 0 010000 05\n",
+        "ok\nok 0\nok 1\nok 2\nok 3 4\nhonest\nrejected\ncollision prefix 1 0403 0007\n\
+        collision node 2 00000000000000020200 00000000000000020103\n\
+        collision root 0000000000000000000105 0000000000000000000307\nok 3 3\nhonest\nrejected\n\
+        collision prefix 1 0403 0007\ncollision node 2 00000000000000020200 00000000000000020103\n\
+        collision root 0000000000000000000105 0000000000000000000307\n",
+    ),
+    (
+        b"new mmr backward xor8\nadd 01\nadd 02\nadd 04\ncommit\naudit 0 0 0300020307 01\nadd 08\nadd 10\nadd 20\nadd 40\ncommit\n\
+        audit 6 0 0700020836 40\naudit 6 0 0700020876 00\n",
+        "ok\nok 0\nok 1\nok 2\nok 3 4\ncollision join 0403 0007\nok 3\nok 4\nok 5\nok 6\nok 7 11\nhonest\n\
+        collision suffix 1 760a 364a\n",
+    ),
+    (
+        b"new mmr forward xor8\nadd 01\nadd 02\nadd 04\naudit 0 0 000000\ncommit\naudit 0 0 000000\nupdate 0 11\nadd 08\n\
+        audit 0 0 0300020703 01\nupdate 4 00\nupdate 0 11\nadd 08\ncommit\nprove 0 1 0\naudit 0 0 040002030e 01\n\
+        audit 0 0 040002030e 11\naudit 0 0 0300020703 01\n",
+        "ok\nok 0\nok 1\nok 2\nhonest\nok 3 4\nrejected\nok\nok 3\nhonest\nerror LeafOutOfBounds\nok\nok 3\nok 4 7\n\
+        040002030e\nrejected\nhonest\nrejected\n",
+    ),
+    (
+        b"new mmr forward\nadd 01\ncommit\naudit 0 0 010000 01\naudit 0 0 010000 02\nnew mmb backward\nadd 01\ncommit\n\
+        audit 0 0 010000 01\naudit 0 0 010000 02\nnew mmb forward xor8\nadd 01\ncommit\naudit 0 1 010100 01\naudit 0 0 010100 01\n",
+        "ok\nok 0\nok 1 1\nhonest\nrejected\nok\nok 0\nok 1 1\nhonest\nrejected\nok\nok 0\nok 1 1\nhonest\nrejected\n",
+    ),
+    (
+        b"audit 0 0 - 01\naudit 0 0 00 0\naudit 0 00 00\naudit 0 0 00\nnew mmr forward xor8\nadd 01\nadd 02\nadd 04\ncommit\n\
+        audit 0 9 030002070300 01\naudit 0 9 03000207 01\naudit 0 9 80 01\naudit 0 9 8000 01\naudit 0 9 ffffffffffffffff7f 01\n\
+        audit 0 9 000001\naudit 0 9 0300020703 01\naudit 0 3 0300020703 01\naudit 0 2 0300020703 01\n",
+        "error Syntax\nerror Syntax\nerror Syntax\nerror NoStructure\nok\nok 0\nok 1\nok 2\nok 3 4\nerror Trailing\n\
+        error EndOfBuffer\nerror EndOfBuffer\nerror InvalidVarint\nerror Invalid\nerror TooMany\nerror InvalidInactivePeaks\n\
+        error InvalidInactivePeaks\nrejected\n",
+    ),
+];
+
+#[test]
+fn audits(rt: HostRuntime) {
+    for (lines, answers) in &AUDITS {
+        assert!(rt; has_answers(rt.alloc(), lines, answers), "{answers}");
+    }
+}
+
 // A session of every command, with updates and errors.
 const LINES: &[u8] =
     b"new mmr backward xor8\nadd 01\nadd 02\ncommit\nadd 04\nupdate 0 11\ncommit\nroot 0\nprune 2\nroot 0\n\
     prove 2 3 0\ncheck 2 0 15 03000110 04\ncheck 2 1 15 03000110 04\ncheck 2 0 15 0300011000 04\ncheck 2 0 15 030001 04\n\
-    prove 0 1 0\nprune 4\nupdate 0 22\ncheck 0 0 01 000000\ncheck 0 0 0101 0000";
+    prove 0 1 0\nprune 4\nupdate 0 22\ncheck 0 0 01 000000\ncheck 0 0 0101 0000\n\
+    audit 2 0 03000110 04\naudit 2 0 03000111 04";
 
 const ANSWERS: &[u8] = b"ok\nok 0\nok 1\nok 2 3\nok 2\nok\nok 3 4\n15\nok 2 3\n15\n\
     03000110\nyes\nno\nerror Trailing\nerror EndOfBuffer\n\
-    error ElementPruned\nerror LeafOutOfBounds\nerror ElementPruned\nyes\nerror Syntax\n";
+    error ElementPruned\nerror LeafOutOfBounds\nerror ElementPruned\nyes\nerror Syntax\n\
+    honest\nrejected\n";
 
 // A reader in memory that gives few bytes at a time. The call with none left fails, and those after it do not; before that, each
 // call with an odd number of calls left is interrupted.

@@ -15,9 +15,12 @@ returns c = record {
   updates_past = refl;
   updates_pruned = refl;
   commits = refl;
+  edits = refl;
   prunes = refl;
   prunes_back = refl;
   root_forward = refl;
   root_backward = refl;
   proof = refl;
+  collides_at_a_node = refl;
+  collides_at_a_fold = refl;
 }

@@ -1,4 +1,4 @@
-use Rattle.std.proofs.Common.{ap, arith}
+use Rattle.std.proofs.Common.{ap, arith, rules}
 use Rattle.merkle_lines.proofs.structure.Structure.new.Goals as goal
 
 pub returns-clause-held : goal.returns-clause-held
@@ -8,4 +8,6 @@ returns-clause-held g c = record {
   bounded = omega arith;
   boundary = ap (λ s. s.boundary) c.new-2.ensures.empty;
   makes = tt;
+  listed = search rules;
+  edits_are = tt;
 }

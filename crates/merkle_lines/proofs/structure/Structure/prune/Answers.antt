@@ -21,7 +21,7 @@ returns-in-Err-clause-answered g c = λ given held.
     let old = c.args.self.now in
     let there : c.new.result ≡ c.args.location = c.new.ensures in (
       given,
-      subst (λ x. IsStructureHeld h rule most x old.pending given) (sym c.in-Err.ensures.unchanged) held,
+      subst (λ x. IsStructureHeld h rule most x old.pending old.list.items old.edits.items given) (sym c.in-Err.ensures.unchanged) held,
       elim (cases_lt (count given) c.args.location) [
         | inl past ↦
             prune_out (scheme_of h c.args.self.now.hasher g.F.Family.rule g.F.Family.MAX_LEAVES g.F.Family.DOMAIN) g.H.Digest.Digest.SIZE g.H.Digest.Digest.Spells given c.args.location c.in-Err.error _ past (let e = c.in-Err.ensures.refused (omega (arith, past, held.counted, there)) in let f = there in (cc)) (ap error_line c.name.ensures)
@@ -39,8 +39,8 @@ returns-clause-answered g c = λ given held.
     let next = c.prune.new.self in
     let within : c.args.location ≤ count given =
     elim (cases_lt (count given) c.args.location) [ inl past ↦ absurd (let e = c.in-Ok.ensures.refused (omega (arith, past, held.counted, there)) in (cc)) | inr within ↦ within ] in
-    let all : IsStructureHeld h rule most next old.pending (pruned_to given c.args.location) =
-    held_pruned h rule most old.committed old.pending given held next c.args.location (subst (λ k. contents next ≡ pruned rule k (contents old.committed)) there c.in-Ok.ensures.pruned) c.prune.ensures.counted (c.in-Ok.ensures.agrees h _ held.agrees) in (
+    let all : IsStructureHeld h rule most next old.pending old.list.items old.edits.items (pruned_to given c.args.location) =
+    held_pruned h rule most old.committed old.pending old.list.items old.edits.items given held next c.args.location (subst (λ k. contents next ≡ pruned rule k (contents old.committed)) there c.in-Ok.ensures.pruned) c.prune.ensures.counted (c.in-Ok.ensures.agrees h _ held.agrees) in (
       pruned_to given c.args.location,
       all,
       prune_done (scheme_of h c.args.self.now.hasher g.F.Family.rule g.F.Family.MAX_LEAVES g.F.Family.DOMAIN) g.H.Digest.Digest.SIZE g.H.Digest.Digest.Spells given c.args.location c.as_u64.result c.as_u64-2.result _ within (c.as_u64.ensures ∙ c.pruning_boundary.ensures.boundary ∙ all.boundary) (c.as_u64-2.ensures ∙ c.leaves.ensures.count ∙ all.counted) refl,
