@@ -5,8 +5,10 @@
 #![tactic(auto)]
 
 mod evidence;
+mod keeping;
 
 use crate::evidence::show_evidence;
+use crate::keeping::{show_reasons, show_restart};
 use hex::encode;
 use merkle_core::codec::{Read, Write};
 use merkle_core::digest::{Digest, Sha256Digest, Sha256Plain};
@@ -178,6 +180,8 @@ fn run(rt: &impl Print, alloc: Global) -> Result<(), LogError> {
     show_growth(rt, &log, &old, &root)?;
     show_store(rt, &log, &root)?;
     show_pruning(rt, &mut log, &root)?;
+    show_restart(rt, &log, &root)?;
+    show_reasons(rt, &log, &root)?;
     show_evidence(rt, alloc)
 }
 

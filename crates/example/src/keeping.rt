@@ -1,0 +1,129 @@
+//! A log that is written down and read back, and a client that tells why it refuses a proof.
+
+use crate::{Log, LogError};
+use merkle_core::codec::{Read, Write};
+use merkle_core::digest::{Digest, Sha256Digest, Sha256Plain};
+use merkle_core::error::ReconstructionError;
+use merkle_core::family::Family as _;
+use merkle_core::granted;
+use merkle_core::hasher::Hasher;
+use merkle_core::mmr::{Family, Location, Mmr, Position, Proof, StandardHasher};
+use std::alloc::Global;
+
+/// The bytes of what a log holds: its boundary, the digests of the peaks over the entries before it, and the nodes from there on.
+fn written(log: &Log) -> Result<Vec<u8>, LogError> {
+    let mut bytes = Vec::new(log.alloc);
+    let boundary = log.tree.pruning_boundary();
+    boundary.write(&mut bytes)?;
+    for pin in &log.pins(boundary)? {
+        bytes.extend_from_slice(pin.as_bytes())?;
+    }
+    if boundary.is_valid() {
+        let start = Family::location_to_position(boundary);
+        for index in start.as_u64()..log.tree.size().as_u64() {
+            let digest = log.tree.get_node(Position::new(index));
+            bytes.extend_from_slice(digest.ok_or(LogError::Pruned)?.as_bytes())?;
+        }
+    }
+    Ok(bytes)
+}
+
+/// The digests that bytes are, 32 bytes each.
+fn digests(alloc: Global, bytes: &[u8]) -> Result<Vec<Sha256Digest>, LogError> {
+    let mut all = Vec::new(alloc);
+    for part in bytes.chunks(Sha256Digest::SIZE) {
+        all.push(Sha256Digest::from_bytes(part).ok_or(LogError::Refused)?)?;
+    }
+    Ok(all)
+}
+
+/// The structure that was written down. Its digests are not checked: a root tells whether they are those of the log.
+fn read_back(alloc: Global, bytes: &[u8]) -> Result<Mmr<Sha256Digest>, LogError> {
+    let mut rest = bytes;
+    let boundary = Location::read(alloc, &mut rest, &())?;
+    if !boundary.is_valid() {
+        return Err(LogError::Refused);
+    }
+    let pins = Family::nodes_to_pin(boundary).count();
+    let Some((pinned, nodes)) = rest.split_at_checked(pins.saturating_mul(Sha256Digest::SIZE))
+    else {
+        return Err(LogError::Refused);
+    };
+    let (pinned, nodes) = (digests(alloc, pinned)?, digests(alloc, nodes)?);
+    Ok(granted!(Mmr::from_components(nodes, boundary, pinned)))
+}
+
+/// Whether bytes are those of a structure with this root.
+fn has_root(log: &Log, bytes: &[u8], root: &Sha256Digest) -> Result<bool, LogError> {
+    let tree = read_back(log.alloc, bytes)?;
+    Ok(granted!(tree.root(&log.hasher, 0)) == *root)
+}
+
+/// The log is written down, and read back after a restart; what was damaged shows by its root.
+pub(crate) fn show_restart(
+    rt: &impl Print,
+    log: &Log,
+    root: &Sha256Digest,
+) -> Result<(), LogError> {
+    let mut bytes = written(log)?;
+    println!(rt; "the log is written in {} bytes", bytes.len())?;
+    println!(rt;
+        "read back, it has the same root: {}",
+        has_root(log, &bytes, root)?
+    )?;
+    if let Some(byte) = bytes.last_mut() {
+        *byte ^= 1;
+    }
+    println!(rt; "with a bit changed: {}", has_root(log, &bytes, root)?)?;
+    Ok(())
+}
+
+/// Why a client refuses a proof of an entry.
+fn reason(
+    hasher: &StandardHasher<Sha256Plain>,
+    proof: &Proof<Sha256Digest>,
+    entry: &[u8],
+    location: Location,
+    root: &Sha256Digest,
+) -> &'static str {
+    match proof.reconstruct_root(hasher, &[entry], location) {
+        Ok(other) if other == *root => "accepted",
+        Ok(_) => "another root",
+        Err(ReconstructionError::MissingDigests) => "missing digests",
+        Err(ReconstructionError::InvalidEndLoc) => "past the log",
+        Err(ReconstructionError::OutOfMemory) => "no memory",
+        Err(_) => "no proof of this place",
+    }
+}
+
+/// A client tells why it refuses.
+pub(crate) fn show_reasons(
+    rt: &impl Print,
+    log: &Log,
+    root: &Sha256Digest,
+) -> Result<(), LogError> {
+    let location = Location::new(5);
+    let proof = granted!(log.tree.proof(&log.hasher, location, 0));
+    println!(rt;
+        "fay: {}",
+        reason(&log.hasher, &proof, b"fay", location, root)
+    )?;
+    println!(rt;
+        "gus: {}",
+        reason(&log.hasher, &proof, b"gus", location, root)
+    )?;
+    println!(rt;
+        "entry 8: {}",
+        reason(&log.hasher, &proof, b"fay", Location::new(8), root)
+    )?;
+    let short = Proof {
+        leaves: proof.leaves,
+        inactive_peaks: proof.inactive_peaks,
+        digests: Vec::new(log.alloc),
+    };
+    println!(rt;
+        "without digests: {}",
+        reason(&log.hasher, &short, b"fay", location, root)
+    )?;
+    Ok(())
+}
