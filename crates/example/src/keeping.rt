@@ -78,7 +78,17 @@ pub(crate) fn show_restart(
     Ok(())
 }
 
-/// Why a client refuses a proof of an entry.
+/// Why a proof leads to no root.
+fn no_root(error: &ReconstructionError) -> &'static str {
+    match error {
+        ReconstructionError::MissingDigests => "missing digests",
+        ReconstructionError::InvalidEndLoc => "past the log",
+        ReconstructionError::OutOfMemory => "no memory",
+        _ => "no proof of this place",
+    }
+}
+
+/// Whether a client accepts a proof of an entry, or why not.
 fn reason(
     hasher: &StandardHasher<Sha256Plain>,
     proof: &Proof<Sha256Digest>,
@@ -86,13 +96,14 @@ fn reason(
     location: Location,
     root: &Sha256Digest,
 ) -> &'static str {
-    match proof.reconstruct_root(hasher, &[entry], location) {
-        Ok(other) if other == *root => "accepted",
-        Ok(_) => "another root",
-        Err(ReconstructionError::MissingDigests) => "missing digests",
-        Err(ReconstructionError::InvalidEndLoc) => "past the log",
-        Err(ReconstructionError::OutOfMemory) => "no memory",
-        Err(_) => "no proof of this place",
+    let rebuilt = match proof.reconstruct_root(hasher, &[entry], location) {
+        Ok(rebuilt) => rebuilt,
+        Err(error) => return no_root(&error),
+    };
+    if rebuilt == *root {
+        "accepted"
+    } else {
+        "another root"
     }
 }
 
