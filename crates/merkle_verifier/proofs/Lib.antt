@@ -1,0 +1,4 @@
+mod Cuts
+mod JoinedDigests
+mod Located
+mod Spelled
