@@ -16,18 +16,17 @@ cut_first n ns bytes (p ∷ ps) c =
     let others : map length ps ≡ ns = cons_tail (length p) n (map length ps) ns c.0 in (
       omega (arith, long, ap length whole, length-append p (flat_map (λ q. q) ps)),
       λ front back split.
-        let first : front ≡ p = split.1 ∙ ap (λ m. take m bytes) (sym long) ∙ ap (take (length p)) whole ∙ take-append_seam p (flat_map (λ q. q) ps) in
-        let after : back ≡ flat_map (λ q. q) ps = split.2 ∙ ap (λ m. drop m bytes) (sym long) ∙ ap (drop (length p)) whole ∙ drop-append_seam p (flat_map (λ q. q) ps) in
-        (ps, ap (λ q. q ∷ ps) (sym first), (others, sym after)),
+          let first : front ≡ p = split.1 ∙ ap (λ m. take m bytes) (sym long) ∙ ap (take (length p)) whole ∙ take-append_seam p (flat_map (λ q. q) ps) in
+          let after : back ≡ flat_map (λ q. q) ps = split.2 ∙ ap (λ m. drop m bytes) (sym long) ∙ ap (drop (length p)) whole ∙ drop-append_seam p (flat_map (λ q. q) ps) in
+          (ps, ap (λ q. q ∷ ps) (sym first), (others, sym after)),
     )
 
 -- a part of the first length, and those that are cut from the bytes after it
 pub cut_next : (n : ℕ) (ns bytes front back : List ℕ) (more : List (List ℕ)) → IsSplitAt bytes n front back → IsCut ns back more → IsCut (n ∷ ns) bytes (front ∷ more)
-cut_next n ns bytes front back more split c =
-    (
-      ap (λ m. m ∷ map length more) split.3 ∙ ap (λ ms. n ∷ ms) c.0,
-      ap (λ b. front ++ b) (c.1 ∙ split.2) ∙ ap (λ b. b ++ drop n bytes) split.1 ∙ take-append-drop n bytes,
-    )
+cut_next n ns bytes front back more split c = (
+  ap (λ m. m ∷ map length more) split.3 ∙ ap (λ ms. n ∷ ms) c.0,
+  ap (λ b. front ++ b) (c.1 ∙ split.2) ∙ ap (λ b. b ++ drop n bytes) split.1 ∙ take-append-drop n bytes,
+)
 
 -- some parts are cut, and the other lengths cut the rest
 pub record CutSoFar (lengths bytes left rest : List ℕ) (parts : List (List ℕ)) : Type 0 where
@@ -42,9 +41,9 @@ pub cut_goes : (lengths bytes ns rest front after : List ℕ) (n : ℕ) (parts :
 cut_goes lengths bytes ns rest front after n parts w split = record {
   forward = λ more c. subst (IsCut lengths bytes) (sym (append_assoc parts (front ∷ []) more)) (w.forward (front ∷ more) (cut_next n ns rest front after more split c));
   back = λ all c.
-    let (one, is, cut) = w.back all c in
-    let (more, begins, left) = (cut_first n ns rest one cut).1 front after split in
-    (more, is ∙ ap (λ q. parts ++ q) begins ∙ sym (append_assoc parts (front ∷ []) more), left);
+      let (one, is, cut) = w.back all c in
+      let (more, begins, left) = (cut_first n ns rest one cut).1 front after split in
+      (more, is ∙ ap (λ q. parts ++ q) begins ∙ sym (append_assoc parts (front ∷ []) more), left);
 }
 
 -- nothing is left

@@ -15,9 +15,7 @@ ghost use Rattle.merkle_verifier.specs.Schemes.{bagging_of, max_leaves_of, sha25
 ghost use Rattle.merkle_verifier.specs.Unread.{IsReadAnswer};
 
 use crate::answer::YES;
-use crate::checks::{
-    Elements, OldRoot, check_element, check_growth, check_range, check_scattered,
-};
+use crate::checks::{Elements, OldRoot, check_element, check_growth, check_range, check_scattered};
 use crate::read::read_proof;
 use merkle_core::digest::Sha256Plain;
 use merkle_core::family::{Bagging, Family};
