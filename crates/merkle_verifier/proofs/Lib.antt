@@ -1,4 +1,5 @@
 mod Cuts
+mod Grown
 mod JoinedDigests
 mod Located
 mod Spelled

@@ -1,12 +1,13 @@
 -- What the answers of the checks mean, of their arguments alone.
-use Rattle.std.specs.Prelude.{◌≡◌, ◌≢◌, ◌≤◌, ◌⊎◌, ℕ, List, [], ◌∷◌, length, Ok}
+use Rattle.std.specs.Prelude.{◌≡◌, ◌≢◌, ◌≤◌, ◌⊎◌, ℕ, List, [], ◌∷◌, length, take, Ok}
 use Rattle.merkle_core.specs.Check.{RangeInput}
 use Rattle.merkle_core.specs.LeafDigests.{range_input}
 use Rattle.merkle_core.specs.Multiproof.{MultiInput, AcceptsMulti, IsHonestMulti, MultiCollides}
 use Rattle.merkle_core.specs.Pinned.{AcceptsPinned, IsHonestPinned, PinnedCollides}
 use Rattle.merkle_core.specs.Range.{ForRootOf, IsHonestRange, RangeCollides}
 use Rattle.merkle_core.specs.Reconstruction.{reconstructed}
-use Rattle.merkle_core.specs.Root.{peaks_root}
+use Rattle.merkle_core.specs.Places.{peaks_of}
+use Rattle.merkle_core.specs.Root.{list_root, peaks_root}
 use Rattle.merkle_core.specs.Scheme.{Scheme}
 use Rattle.merkle_digest.specs.declared.digest.Sha256Digest.{Sha256Digest}
 use Rattle.merkle_verifier.specs.Inputs.{digest_bytes, joined_digests, IsSpelled, IsCut, located_input}
@@ -50,11 +51,18 @@ pub record GivesRoot {D : Type 0} (s : Scheme D) (root : D) (leaves inactive : �
   pub enough : inactive ≤ length peaks
   pub root_is : peaks_root s leaves inactive inactive peaks ≡ root
 
--- an input of the check that a log grew: the pins give the old root, and the range after the old leaves is accepted with them
+-- the first n leaves of a list have this root for j inactive peaks
+pub record BeginsWith {D : Type 0} (s : Scheme D) (xs : List D) (n j : ℕ) (old : D) : Type 0 where
+  pub long : n ≤ length xs
+  pub enough : j ≤ length (peaks_of s.rule n)
+  pub root_is : list_root s (take n xs) j ≡ old
+
+-- an input of the check that a log grew. Accepted: the pins give the old root, and the range after the old leaves is accepted with them.
+-- Honest: the list begins with leaves that have the old root, and the range and the pins are the list's
 abbrev pub JudgesGrowth : {D : Type 0} → Scheme D → (old : D) → (inactive : ℕ) → (pins : List D) → D → RangeInput D → ℕ → Type 0
 JudgesGrowth s old inactive pins root r =
     Judges s root (GivesRoot s old r.start inactive pins × AcceptsPinned s r pins root)
-    (λ xs k. GivesRoot s old r.start inactive pins × IsHonestPinned s xs k r pins) (λ xs k. PinnedCollides s r pins xs k)
+    (λ xs k. BeginsWith s xs r.start inactive old × IsHonestPinned s xs k r pins) (λ xs k. PinnedCollides s r pins xs k)
 
 -- P says what is answered by the digest whose bytes are given; they may be no digest's
 abbrev pub OfDigest : List ℕ → (Sha256Digest → ℕ → Type 0) → ℕ → Type 0
