@@ -14,6 +14,7 @@ use merkle_core::location::Location;
 use std::alloc::Global;
 
 /// A root that is trusted, and what it was made for.
+#[derive(Drop)]
 pub(crate) struct OldRoot<'a> {
     /// The number of leaves.
     pub leaves: u64,
@@ -26,6 +27,7 @@ pub(crate) struct OldRoot<'a> {
 }
 
 /// Elements in one buffer.
+#[derive(Drop)]
 pub(crate) struct Elements<'a> {
     /// Their bytes, one after another.
     pub bytes: &'a [u8],

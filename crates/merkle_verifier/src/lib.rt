@@ -157,7 +157,7 @@ fn read_counts<F: Family>(
     leaves: &mut u64,
     inactive_peaks: &mut u64,
 ) -> u32
-    ensures { IsReadAnswer F.MAX_LEAVES proof.now leaves.new inactive_peaks.new result }
+    ensures answer { IsReadAnswer F.MAX_LEAVES proof.now leaves.new inactive_peaks.new result }
     ensures unread { result ≢ yes → (leaves.new ≡ leaves.old) × (inactive_peaks.new ≡ inactive_peaks.old) }
 {
     match read_proof::<F>(alloc, proof) {
@@ -180,7 +180,7 @@ pub extern "C" fn merkle_read_proof(
     leaves: &mut u64,
     inactive_peaks: &mut u64,
 ) -> u32
-    ensures { IsReadAnswer (max_leaves_of is_belt) proof.now leaves.new inactive_peaks.new result }
+    ensures answer { IsReadAnswer (max_leaves_of is_belt) proof.now leaves.new inactive_peaks.new result }
     ensures unread { result ≢ yes → (leaves.new ≡ leaves.old) × (inactive_peaks.new ≡ inactive_peaks.old) }
 {
     if is_belt {

@@ -5,9 +5,8 @@ ghost use Rattle.merkle_verifier.specs.Inputs.{IsCut, joined_digests, located};
 ghost use Rattle.merkle_digest.specs.declared.digest.Sha256Digest.{Sha256Digest};
 
 use merkle_core::digest::{Digest, Sha256Digest};
-use merkle_core::error::OutOfMemory;
 use merkle_core::location::Location;
-use std::alloc::Global;
+use std::alloc::{AllocError, Global};
 
 /// Cuts bytes into parts of these lengths, in their order.
 ///
@@ -16,7 +15,7 @@ pub(crate) fn cut<'a>(
     alloc: Global,
     bytes: &'a [u8],
     lengths: &[usize],
-) -> Result<Option<Vec<&'a [u8]>>, OutOfMemory>
+) -> Result<Option<Vec<&'a [u8]>>, AllocError>
     ensures some { IfOk result (λ o. IfSome o (λ parts. IsCut lengths.now bytes.now (bytes_of parts.items))) }
     ensures none { IfOk result (λ o. IsNone o → (parts : List (List ℕ)) → ¬ (IsCut lengths.now bytes.now parts)) }
 {
@@ -38,7 +37,7 @@ pub(crate) fn cut<'a>(
 pub(crate) fn read_digests(
     alloc: Global,
     bytes: &[u8],
-) -> Result<Option<Vec<Sha256Digest>>, OutOfMemory>
+) -> Result<Option<Vec<Sha256Digest>>, AllocError>
     ensures some { IfOk result (λ o. IfSome o (λ digests. joined_digests digests.items ≡ bytes.now)) }
     ensures none { IfOk result (λ o. IsNone o → (digests : List Sha256Digest) → ¬ (joined_digests digests ≡ bytes.now)) }
 {
@@ -62,13 +61,15 @@ pub(crate) fn locate<'a, F>(
     alloc: Global,
     parts: &[&'a [u8]],
     locations: &[u64],
-) -> Result<Vec<(&'a [u8], Location<F>)>, OutOfMemory>
+) -> Result<Vec<(&'a [u8], Location<F>)>, AllocError>
     requires { length locations.now ≡ length parts.now }
     ensures { IfOk result (λ all. all.items ≡ located locations.now parts.now) }
 {
     let mut all = Vec::new(alloc);
     for i in 0..parts.len() {
-        all.push((parts[i], Location::new(locations[i])))?;
+        let Ok(()) = all.push((parts[i], Location::new(locations[i]))) else {
+            return Err(AllocError);
+        };
     }
     Ok(all)
 }
