@@ -1,4 +1,5 @@
 mod Cuts
+mod Flags
 mod Grown
 mod JoinedDigests
 mod Located

@@ -82,3 +82,9 @@ pub some_bytes : (bytes : List ℕ) (test : Bool) → test ≡ (length bytes == 
 some_bytes [] true is none e = absurd (search (rules, none))
 some_bytes [] false is none e = absurd (search (rules, is))
 some_bytes (b ∷ bytes) test is none e = search (rules, e)
+
+-- as long as that
+pub some_length : (bytes : List ℕ) (test : Bool) → test ≡ (length bytes == 0) → test ≡ false → ¬ (length bytes ≡ 0)
+some_length [] true is none e = absurd (search (rules, none))
+some_length [] false is none e = absurd (search (rules, is))
+some_length (b ∷ bytes) test is none e = search (rules, e)

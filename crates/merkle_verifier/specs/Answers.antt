@@ -114,9 +114,17 @@ IsScatteredAnswer s root proof locations elements lengths answer =
     ⊎ OfDigest root (λ d. OfLocated locations lengths elements (λ es. OfProof s.max_leaves proof (λ n k ds.
     JudgesMulti s d (located_input s locations es n k ds)))) answer
 
--- on a log that grew
+-- on a log that grew, by the digest of its newer root
+abbrev pub OfGrowth : Scheme Sha256Digest → (leaves inactive : ℕ) → (old pins : List ℕ) → Sha256Digest → (proof elements lengths : List ℕ) → ℕ → Type 0
+OfGrowth s leaves inactive old pins root proof elements lengths =
+    OfDigest old (λ o. OfDigests pins (λ ps. OfElements lengths elements (λ es. OfProof s.max_leaves proof (λ n k ds.
+    JudgesGrowth s o inactive ps root (range_input s n k ds leaves es)))))
+
+abbrev pub IsPinnedAnswer : Scheme Sha256Digest → (leaves inactive : ℕ) → (old pins : List ℕ) → Sha256Digest → (proof elements lengths : List ℕ) → ℕ → Type 0
+IsPinnedAnswer s leaves inactive old pins root proof elements lengths answer =
+    (answer ≡ out_of_memory) ⊎ OfGrowth s leaves inactive old pins root proof elements lengths answer
+
+-- and by the bytes of that
 abbrev pub IsGrowthAnswer : Scheme Sha256Digest → (leaves inactive : ℕ) → (old pins root proof elements lengths : List ℕ) → ℕ → Type 0
 IsGrowthAnswer s leaves inactive old pins root proof elements lengths answer =
-    (answer ≡ out_of_memory)
-    ⊎ OfDigest root (λ d. OfDigest old (λ o. OfDigests pins (λ ps. OfElements lengths elements (λ es. OfProof s.max_leaves proof (λ n k ds.
-    JudgesGrowth s o inactive ps d (range_input s n k ds leaves es)))))) answer
+    (answer ≡ out_of_memory) ⊎ OfDigest root (λ d. OfGrowth s leaves inactive old pins d proof elements lengths) answer

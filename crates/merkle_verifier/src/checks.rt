@@ -1,7 +1,7 @@
 //! The checks, over proofs, roots and elements that are given as bytes.
 ghost use Rattle.std.specs.Prelude.{◌≡◌, ◌↔◌, IsTrue};
 ghost use Rattle.merkle_core.specs.Scheme.{scheme_of};
-ghost use Rattle.merkle_verifier.specs.Answers.{GivesRoot, IsElementAnswer, IsRangeAnswer, IsScatteredAnswer, IsGrowthAnswer};
+ghost use Rattle.merkle_verifier.specs.Answers.{GivesRoot, IsElementAnswer, IsRangeAnswer, IsScatteredAnswer, IsPinnedAnswer, IsGrowthAnswer};
 ghost use Rattle.merkle_verifier.specs.Schemes.{sha256_hashing};
 
 use crate::answer::{NO, NOT_A_DIGEST, OUT_OF_MEMORY, WRONG_LENGTHS, YES};
@@ -130,14 +130,14 @@ pub(crate) fn check_scattered<F: Family>(
 }
 
 // Whether the digests of the peaks give this root.
-fn gives_root<F: Family>(
-    hasher: &Standard<Sha256Plain>,
-    root: &Sha256Digest,
+fn gives_root<F: Family, H: Hasher<F>>(
+    hasher: &H,
+    root: &H::Digest,
     leaves: Location<F>,
     inactive_peaks: usize,
-    peaks: &[Sha256Digest],
+    peaks: &[H::Digest],
 ) -> bool
-    ensures { let s = scheme_of sha256_hashing hasher.now F.rule F.MAX_LEAVES F.DOMAIN in
+    ensures { let s = H.scheme hasher.now in
         IsTrue result ↔ GivesRoot s root.now leaves inactive_peaks peaks.now }
 {
     match hasher.root(leaves, inactive_peaks, peaks) {
@@ -146,22 +146,19 @@ fn gives_root<F: Family>(
     }
 }
 
-/// Answers whether the list behind a root begins with the leaves behind an older root, followed by the elements.
-pub(crate) fn check_growth<F: Family>(
+// Answers whether the list behind a root begins with the leaves behind an older root, followed by the elements.
+fn check_pinned<F: Family>(
     alloc: Global,
     hasher: &Standard<Sha256Plain>,
     old: &OldRoot<'_>,
-    root: &[u8],
+    root: &Sha256Digest,
     proof: &[u8],
     elements: &Elements<'_>,
 ) -> u32
     ensures { let s = scheme_of sha256_hashing hasher.now F.rule F.MAX_LEAVES F.DOMAIN in let o = old.now in
-        IsGrowthAnswer s o.leaves o.inactive_peaks o.root.now o.pins.now root.now proof.now elements.now.bytes.now elements.now.lengths.now result }
+        IsPinnedAnswer s o.leaves o.inactive_peaks o.root.now o.pins.now root.now proof.now elements.now.bytes.now elements.now.lengths.now result }
 {
-    let (Some(root), Some(old_root)) = (
-        Sha256Digest::from_bytes(root),
-        Sha256Digest::from_bytes(old.root),
-    ) else {
+    let Some(old_root) = Sha256Digest::from_bytes(old.root) else {
         return NOT_A_DIGEST;
     };
     let pins = match read_digests(alloc, old.pins) {
@@ -182,9 +179,27 @@ pub(crate) fn check_growth<F: Family>(
     if !gives_root(hasher, &old_root, leaves, old.inactive_peaks, &pins) {
         return NO;
     }
-    match proof.verify_proof_and_pinned_nodes(hasher, &elements, leaves, &pins, &root) {
+    match proof.verify_proof_and_pinned_nodes(hasher, &elements, leaves, &pins, root) {
         Ok(true) => YES,
         Ok(false) => NO,
         Err(_) => OUT_OF_MEMORY,
     }
+}
+
+/// Answers whether the list behind a root begins with the leaves behind an older root, followed by the elements.
+pub(crate) fn check_growth<F: Family>(
+    alloc: Global,
+    hasher: &Standard<Sha256Plain>,
+    old: &OldRoot<'_>,
+    root: &[u8],
+    proof: &[u8],
+    elements: &Elements<'_>,
+) -> u32
+    ensures { let s = scheme_of sha256_hashing hasher.now F.rule F.MAX_LEAVES F.DOMAIN in let o = old.now in
+        IsGrowthAnswer s o.leaves o.inactive_peaks o.root.now o.pins.now root.now proof.now elements.now.bytes.now elements.now.lengths.now result }
+{
+    let Some(root) = Sha256Digest::from_bytes(root) else {
+        return NOT_A_DIGEST;
+    };
+    check_pinned::<F>(alloc, hasher, old, &root, proof, elements)
 }

@@ -28,7 +28,10 @@ pub(crate) fn cut<'a>(
         parts.push(part)?;
         rest = after;
     }
-    Ok(if rest.is_empty() { Some(parts) } else { None })
+    if !rest.is_empty() {
+        return Ok(None);
+    }
+    Ok(Some(parts))
 }
 
 /// Reads the digests whose bytes these are, one after another.
