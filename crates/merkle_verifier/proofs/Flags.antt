@@ -1,0 +1,18 @@
+-- The scheme that two flags name.
+use Rattle.std.proofs.Common.{◌≡◌, ◌+◌, ◌^◌, Bool, true, false, sym, subst}
+use Rattle.merkle_base.specs.declared.family.Bagging.{Bagging}
+use Rattle.merkle_core.specs.Mmb.{mmb_merges}
+use Rattle.merkle_core.specs.Mmr.{mmr_merges}
+use Rattle.merkle_core.specs.Scheme.{Scheme, scheme_of}
+use Rattle.merkle_digest.specs.declared.digest.Sha256Digest.{Sha256Digest}
+use Rattle.merkle_verifier.specs.Schemes.{bagging_of, sha256_hashing, sha256_scheme}
+
+pub by_belt : (P : Scheme Sha256Digest → Type 0) (is_belt is_backward : Bool) (bagging : Bagging) → bagging ≡ bagging_of is_backward → is_belt ≡ true
+    → P (scheme_of sha256_hashing bagging mmb_merges (2 ^ 62 + 30) 1) → P (sha256_scheme is_belt is_backward)
+by_belt P is_belt is_backward bagging e b p =
+    subst (λ f. P (sha256_scheme f is_backward)) (sym b) (subst (λ g. P (scheme_of sha256_hashing g mmb_merges (2 ^ 62 + 30) 1)) e p)
+
+pub by_range : (P : Scheme Sha256Digest → Type 0) (is_belt is_backward : Bool) (bagging : Bagging) → bagging ≡ bagging_of is_backward → is_belt ≡ false
+    → P (scheme_of sha256_hashing bagging mmr_merges (2 ^ 62) 0) → P (sha256_scheme is_belt is_backward)
+by_range P is_belt is_backward bagging e b p =
+    subst (λ f. P (sha256_scheme f is_backward)) (sym b) (subst (λ g. P (scheme_of sha256_hashing g mmr_merges (2 ^ 62) 0)) e p)

@@ -1,0 +1,6 @@
+mod Cuts
+mod Flags
+mod Grown
+mod JoinedDigests
+mod Located
+mod Spelled

@@ -1,0 +1,90 @@
+-- Bytes that are read as a proof, or refused.
+use Rattle.std.proofs.Common.{Bool, true, false, ◌≡◌, ◌≢◌, ◌⊎◌, ℕ, ◌+◌, ◌*◌, ◌-◌, ◌^◌, ◌<◌, ◌≤◌, List, [], ◌∷◌, ◌++◌, length, take, drop, arith, rules, refl, sym, ap, subst, ◌∙◌, inl, inr, append-nil, length-append}
+use Rattle.std.specs.Prelude.{◌==◌}
+use Rattle.std.proofs.lemmas.List.{length-take-le, length-drop}
+use Rattle.merkle_base.specs.declared.error.DecodeError.{DecodeError}
+use Rattle.merkle_base.specs.declared.error.DecodeError.TheVariants.{EndOfBuffer, InvalidVarint, Invalid, TooMany, OutOfMemory}
+use Rattle.merkle_codec.specs.NumberLaws.{number_spelling_once, IsRefusalFrom_after}
+use Rattle.merkle_codec.specs.NumberSpelling.{number_spelling, IsRefusalFrom}
+use Rattle.merkle_codec.specs.ProofLaws.{length-digests, parts}
+use Rattle.merkle_codec.specs.ProofSpelling.{parts_spelling, IsDigestsRefusal, IsProofReadRefusal}
+use Rattle.merkle_digest.specs.declared.digest.Sha256Digest.{Sha256Digest}
+use Rattle.merkle_verifier.specs.Answers.{malformed, out_of_memory, OfProof}
+use Rattle.merkle_verifier.specs.Inputs.{digest_bytes, joined_digests, IsSpelled}
+use Rattle.merkle_verifier.specs.Unread.{IsUnread, refused_answer}
+use Rattle.merkle_verifier.specs.declared.read.ReadError.{ReadError}
+use Rattle.merkle_verifier.specs.declared.read.ReadError.TheVariants.{Decode, Trailing}
+
+-- a digest has 32 bytes
+sized : (d : Sha256Digest) → length (digest_bytes d) ≡ 32
+sized d = d.sized
+
+-- so many digests are refused for want of memory alone: 32 bytes are always those of one
+digests_refused : (ds : List Sha256Digest) (rest : List ℕ) (e : DecodeError) → IsDigestsRefusal 32 (λ b. length b ≡ 32) (length ds) (joined_digests ds ++ rest) e → e ≡ OutOfMemory
+digests_refused ds rest e (inl few) = absurd (omega (arith, few.0, length-append (joined_digests ds) rest, length-digests digest_bytes 32 sized ds))
+digests_refused ds rest e (inr (inl full)) = full.1
+digests_refused ds rest e (inr (inr none)) =
+    let bytes = joined_digests ds ++ rest in
+    let (i, below, not) = none.1 in
+    let left : length (drop (i * 32) bytes) ≡ length bytes - i * 32 = length-drop (i * 32) bytes in
+    absurd (not (length-take-le 32 (drop (i * 32) bytes) (omega (arith, left, none.0, below))))
+
+module _ (max_leaves : ℕ) (fits : max_leaves < 2 ^ 64) (proof : List ℕ) where
+  -- bytes that are refused as a proof encode none
+  refused_none : (e : DecodeError) → e ≢ OutOfMemory → IsProofReadRefusal 32 (λ b. length b ≡ 32) max_leaves (2 ^ 64 - 1) proof e
+      → (n k : ℕ) (ds : List Sha256Digest) → ¬ (IsSpelled max_leaves proof n k ds)
+  refused_none e memory h n k ds is =
+      let below : 2 ^ 64 - 1 < 2 ^ 64 = omega arith in
+      let small : k ≤ 2 ^ 64 - 1 = omega (arith, is.inactive_fits) in
+      let few : length ds ≤ 2 ^ 64 - 1 = omega (arith, is.count_fits) in
+      let bs = joined_digests ds ++ [] in
+      let left = number_spelling (length ds) ++ bs in
+      let whole : proof ≡ number_spelling n ++ (number_spelling k ++ left) = is.spelled ∙ sym (append-nil (parts_spelling digest_bytes n k ds)) ∙ parts digest_bytes n k ds [] in
+      let at_count = IsRefusalFrom (2 ^ 64 - 1) TooMany (IsDigestsRefusal 32 (λ b. length b ≡ 32)) in
+      let at_inactive = IsRefusalFrom (2 ^ 64 - 1) Invalid (λ _. at_count) in
+      let first = IsRefusalFrom_after max_leaves Invalid (λ _. at_inactive) proof e h fits n (number_spelling k ++ left) is.leaves_fit whole in
+      let second = IsRefusalFrom_after (2 ^ 64 - 1) Invalid (λ _. at_count) (number_spelling k ++ left) e first below k left small refl in
+      let third = IsRefusalFrom_after (2 ^ 64 - 1) TooMany (IsDigestsRefusal 32 (λ b. length b ≡ 32)) left e second below (length ds) bs few refl in
+      memory (digests_refused ds [] e third)
+
+  -- nor do bytes that follow those of a proof belong to one
+  trailing_none : (leaves inactive : ℕ) (digests : List Sha256Digest) (rest : List ℕ) → rest ≢ [] → proof ≡ parts_spelling digest_bytes leaves inactive digests ++ rest
+      → (n k : ℕ) (ds : List Sha256Digest) → ¬ (IsSpelled max_leaves proof n k ds)
+  trailing_none leaves inactive digests rest some e n k ds is =
+      let whole = sym (parts digest_bytes leaves inactive digests rest) ∙ sym e ∙ is.spelled ∙ sym (append-nil (parts_spelling digest_bytes n k ds)) ∙ parts digest_bytes n k ds [] in
+      let first = number_spelling_once leaves n _ _ whole in
+      let second = number_spelling_once inactive k _ _ first.1 in
+      let third = number_spelling_once (length digests) (length ds) _ _ second.1 in
+      let same : length (joined_digests digests ++ rest) ≡ length (joined_digests ds ++ []) = ap length third.1 in
+      nothing rest some (omega (arith, same, length-append (joined_digests digests) rest, length-append (joined_digests ds) [], length-digests digest_bytes 32 sized digests, length-digests digest_bytes 32 sized ds, third.0))
+    where
+      nothing : (rest : List ℕ) → rest ≢ [] → ¬ (length rest ≡ 0)
+      nothing [] some e = some refl
+      nothing (b ∷ bs) some e = search (rules, e)
+
+  -- what is answered of bytes that are not read as a proof
+  pub unread : (e : ReadError) → IsUnread max_leaves proof e → (P : (n k : ℕ) → List Sha256Digest → ℕ → Type 0) (answer : ℕ) → answer ≡ refused_answer e
+      → (answer ≡ out_of_memory) ⊎ OfProof max_leaves proof P answer
+  unread (Decode EndOfBuffer) h P answer a = inr (inl (a, refused_none EndOfBuffer (λ e. search (rules, e)) h))
+  unread (Decode InvalidVarint) h P answer a = inr (inl (a, refused_none InvalidVarint (λ e. search (rules, e)) h))
+  unread (Decode Invalid) h P answer a = inr (inl (a, refused_none Invalid (λ e. search (rules, e)) h))
+  unread (Decode TooMany) h P answer a = inr (inl (a, refused_none TooMany (λ e. search (rules, e)) h))
+  unread (Decode OutOfMemory) h P answer a = inl a
+  unread Trailing h P answer a = let (n, k, ds, rest, x, y, some, e) = h in inr (inl (a, trailing_none n k ds rest some e))
+
+-- bytes that are tested for being none
+pub no_bytes : (bytes : List ℕ) (test : Bool) → test ≡ (length bytes == 0) → test ≡ true → bytes ≡ []
+no_bytes [] test is none = refl
+no_bytes (b ∷ bytes) true is none = absurd (search (rules, is))
+no_bytes (b ∷ bytes) false is none = absurd (search (rules, none))
+
+pub some_bytes : (bytes : List ℕ) (test : Bool) → test ≡ (length bytes == 0) → test ≡ false → bytes ≢ []
+some_bytes [] true is none e = absurd (search (rules, none))
+some_bytes [] false is none e = absurd (search (rules, is))
+some_bytes (b ∷ bytes) test is none e = search (rules, e)
+
+-- as long as that
+pub some_length : (bytes : List ℕ) (test : Bool) → test ≡ (length bytes == 0) → test ≡ false → ¬ (length bytes ≡ 0)
+some_length [] true is none e = absurd (search (rules, none))
+some_length [] false is none e = absurd (search (rules, is))
+some_length (b ∷ bytes) test is none e = search (rules, e)

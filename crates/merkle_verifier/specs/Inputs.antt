@@ -1,0 +1,50 @@
+-- What is given to a check as bytes.
+use Rattle.std.specs.Prelude.{◌≡◌, ℕ, suc, ◌^◌, ◌<◌, ◌≤◌, List, [], ◌∷◌, length, map}
+use Rattle.std.specs.Borrow.{Bor}
+use Rattle.std.specs.List.{flat_map}
+use Rattle.merkle_core.specs.Forest.{size}
+use Rattle.merkle_core.specs.Hashing.{Hashing}
+use Rattle.merkle_core.specs.Multiproof.{MultiInput}
+use Rattle.merkle_core.specs.ProofSpelling.{parts_spelling}
+use Rattle.merkle_core.specs.Scheme.{Scheme}
+use Rattle.merkle_digest.specs.declared.digest.Sha256Digest.{Sha256Digest}
+
+-- the bytes of a digest
+abbrev pub digest_bytes : Sha256Digest → List ℕ
+digest_bytes d = d.bytes
+
+-- the bytes of digests, one after another
+abbrev pub joined_digests : List Sha256Digest → List ℕ
+joined_digests digests = flat_map digest_bytes digests
+
+-- bytes encode a proof of this leaf count, this number of inactive peaks and these digests, and nothing follows; the numbers have 64 bits
+pub record IsSpelled (max_leaves : ℕ) (proof : List ℕ) (leaves inactive : ℕ) (digests : List Sha256Digest) : Type 0 where
+  pub leaves_fit : leaves ≤ max_leaves
+  pub inactive_fits : inactive < 2 ^ 64
+  pub count_fits : length digests < 2 ^ 64
+  pub spelled : proof ≡ parts_spelling digest_bytes leaves inactive digests
+
+-- bytes are cut into parts by lengths: the parts have these lengths, and joined they are the bytes
+abbrev pub IsCut : (lengths bytes : List ℕ) → (parts : List (List ℕ)) → Type 0
+IsCut lengths bytes parts = (map length parts ≡ lengths) × (flat_map (λ p. p) parts ≡ bytes)
+
+-- each part with its location
+abbrev pub located : List ℕ → List (Bor (List ℕ)) → List (Bor (List ℕ) × ℕ)
+located [] parts = []
+located (i ∷ is) [] = []
+located (i ∷ is) (part ∷ parts) = (part, i) ∷ located is parts
+
+-- the leaf digest of each element with its location
+abbrev pub located_leaves : {D : Type 0} → Hashing D → (List ℕ → List ℕ) → List ℕ → List (List ℕ) → List (ℕ × D)
+located_leaves h rule [] elements = []
+located_leaves h rule (i ∷ is) [] = []
+located_leaves h rule (i ∷ is) (element ∷ elements) = (i, h.leaf (size rule i) element) ∷ located_leaves h rule is elements
+
+-- a proof with the elements at these locations
+abbrev pub located_input : {D : Type 0} → Scheme D → (locations : List ℕ) → (elements : List (List ℕ)) → (leaves inactive : ℕ) → List D → MultiInput D
+located_input s locations elements leaves inactive digests = record {
+  leaves = leaves;
+  inactive = inactive;
+  digests = digests;
+  elements = located_leaves s.hashing s.rule locations elements;
+}

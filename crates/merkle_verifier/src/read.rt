@@ -1,0 +1,71 @@
+//! Proofs that are given as bytes.
+ghost use Rattle.std.specs.Prelude.{◌≡◌, IfOk, IfErr};
+ghost use Rattle.merkle_verifier.specs.Inputs.{IsSpelled};
+ghost use Rattle.merkle_verifier.specs.Unread.{IsUnread, refused_answer, reason};
+
+use crate::answer::{
+    END_OF_BUFFER, INVALID, INVALID_VARINT, MALFORMED, OUT_OF_MEMORY, TOO_MANY, TRAILING,
+};
+use merkle_core::codec::Read;
+use merkle_core::digest::Sha256Digest;
+use merkle_core::error::DecodeError;
+use merkle_core::family::Family;
+use merkle_core::proof::Proof;
+use std::alloc::Global;
+
+/// Why bytes are not read as a proof.
+#[derive(Drop)]
+pub(crate) enum ReadError {
+    /// They begin with no proof, or a request for memory was refused.
+    Decode(DecodeError),
+    /// They begin with a proof, and others follow.
+    Trailing,
+}
+
+impl ReadError {
+    /// Returns the answer of a check of a proof that is not read.
+    pub(crate) fn answer(&self) -> u32
+        ensures { result ≡ refused_answer self.now }
+    {
+        match self {
+            ReadError::Decode(DecodeError::OutOfMemory) => OUT_OF_MEMORY,
+            _ => MALFORMED,
+        }
+    }
+
+    /// Returns the number of the reason.
+    pub(crate) fn reason(&self) -> u32
+        ensures { result ≡ reason self.now }
+    {
+        match self {
+            ReadError::Decode(DecodeError::EndOfBuffer) => END_OF_BUFFER,
+            ReadError::Decode(DecodeError::InvalidVarint) => INVALID_VARINT,
+            ReadError::Decode(DecodeError::Invalid) => INVALID,
+            ReadError::Decode(DecodeError::TooMany) => TOO_MANY,
+            ReadError::Decode(DecodeError::OutOfMemory) => OUT_OF_MEMORY,
+            ReadError::Trailing => TRAILING,
+        }
+    }
+}
+
+/// Decodes the proof whose encoding the bytes are.
+///
+/// The number of its digests is limited by the bytes alone.
+pub(crate) fn read_proof<F: Family>(
+    alloc: Global,
+    bytes: &[u8],
+) -> Result<Proof<F, Sha256Digest>, ReadError>
+    ensures ok { IfOk result (λ p. IsSpelled F.MAX_LEAVES bytes.now p.leaves p.inactive_peaks p.digests.items) }
+    ensures err { IfErr result (λ e. IsUnread F.MAX_LEAVES bytes.now e) }
+{
+    let mut rest = bytes;
+    let proof = match Proof::read(alloc, &mut rest, &usize::MAX) {
+        Ok(proof) => proof,
+        Err(error) => return Err(ReadError::Decode(error)),
+    };
+    if rest.is_empty() {
+        Ok(proof)
+    } else {
+        Err(ReadError::Trailing)
+    }
+}
