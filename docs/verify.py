@@ -140,8 +140,7 @@ def check(family, bagging, words):
     return "yes" if named == inactive and root(family, bagging, leaves, named, digests, start, elements) == expected else "no"
 
 
-for line in sys.stdin:
-    words = line.split()
+for words in map(str.split, sys.stdin):
     if words[:1] == ["new"]:
         family, bagging = words[1], words[2]
     elif words[:1] == ["check"]:
