@@ -9,8 +9,8 @@
  * of anything. What is written through a pointer is at no place that the call reads. Pointers are not kept.
  *
  * Memory and threads. A call keeps no memory and has no state, so any number of threads may call at once; it is not called from a signal
- * handler. It requests memory by malloc for the digests of the proof, and frees it; where a request is refused, it answers
- * MERKLE_OUT_OF_MEMORY. For a proof of any bytes it needs no more than ten times their number, and as many pointers as elements.
+ * handler. It requests memory by malloc, for what the proof and the elements that it is given need, and frees it; where a request is
+ * refused, it answers MERKLE_OUT_OF_MEMORY.
  */
 #ifndef MERKLE_VERIFIER_H
 #define MERKLE_VERIFIER_H
