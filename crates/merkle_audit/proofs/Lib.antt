@@ -5,7 +5,6 @@ pub mod GivenNodes
 pub mod Lists
 pub mod ListsFound
 pub mod MultiFound
-pub mod PeakWalk
 pub mod PinLookups
 pub mod PinnedClaims
 pub mod PinnedSearched

@@ -5,13 +5,14 @@ ghost use Rattle.merkle_base.specs.Cases.{first_case};
 ghost use Rattle.merkle_audit.specs.Found.{length_refusals, collision_of_lists, IsApplyVerdict};
 ghost use Rattle.merkle_audit.specs.Hashed.{located};
 
-use crate::list::{ListNodes, leaf_count, peak_subtrees};
+use crate::list::{ListNodes, leaf_count};
 use crate::nodes::first_below;
 use crate::verdict::{ApplyVerdict, Collision};
 use merkle_core::digest::Digest;
 use merkle_core::error::Error;
 use merkle_core::family::Family;
 use merkle_core::hasher::Hasher;
+use merkle_hasher::peaks::list_peaks;
 use std::alloc::Global;
 
 /// Audits the list that a structure agrees with, `listed`, and the list at which a batch was
@@ -54,7 +55,7 @@ pub fn audit_apply<F: Family, H: Hasher<F>>(
         Ok(nodes) => nodes,
         Err(error) => return Err(error),
     };
-    let peaks = peak_subtrees(alloc, leaves)?;
+    let peaks = list_peaks(alloc, leaves)?;
     let own_peaks = own.digests(alloc, &peaks)?;
     let other_peaks = other.digests(alloc, &peaks)?;
     if !are_equal(&own_peaks, &other_peaks) {

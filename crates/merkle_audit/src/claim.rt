@@ -7,11 +7,10 @@ ghost use Rattle.merkle_hasher.specs.declared.subtree.Subtree.{Subtree};
 ghost use Rattle.merkle_proof.specs.Input.{input_of};
 ghost use Rattle.merkle_root_theory.specs.Range.{AcceptsNonempty, IsEmptyInput};
 ghost use Rattle.merkle_root_theory.specs.Reconstruction.{reconstructed};
-ghost use Rattle.merkle_root_theory.specs.Walk.{bytes_of};
+ghost use Rattle.merkle_hasher.specs.LeafDigests.{bytes_of};
 ghost use Rattle.merkle_store_theory.specs.StoreValue.{store_of};
 ghost use Rattle.merkle_audit.specs.Claimed.{digest_in_claim, range_pair, IsClaim};
 
-use crate::list::peak_subtrees;
 use crate::nodes::Hashes;
 use crate::top::{Shape, Top, above_peaks};
 use merkle_core::digest::Digest;
@@ -24,6 +23,7 @@ use merkle_core::proof::Proof;
 use merkle_core::range_plan::{Groups, RangePlan};
 use merkle_core::subtree::Subtree;
 use merkle_core::verification::ProofStore;
+use merkle_hasher::peaks::list_peaks;
 use std::alloc::{AllocError, Global};
 use std::ops::Range;
 
@@ -158,7 +158,7 @@ fn claim_of<F: Family, H: Hasher<F>>(
         end,
         store: Some(store),
     };
-    let peaks = peak_subtrees(alloc, proof.leaves)?;
+    let peaks = list_peaks(alloc, proof.leaves)?;
     let digests = parts(alloc, &groups, &proof.digests, &peaks, &nodes)?;
     let shape = Shape {
         leaves: proof.leaves,

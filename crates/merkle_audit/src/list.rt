@@ -23,6 +23,7 @@ use merkle_core::location::Location;
 use merkle_core::mem::Mem;
 use merkle_core::position::Position;
 use merkle_core::subtree::Subtree;
+use merkle_hasher::peaks::list_peaks;
 use std::alloc::{AllocError, Global};
 use std::rc::Rc;
 
@@ -141,28 +142,6 @@ impl<F: Family, D: Digest> Hashes<F, D> for ListNodes<F, D> {
     }
 }
 
-/// Returns the peaks of a structure with `leaves` leaves, oldest first.
-pub(crate) fn peak_subtrees<F: Family>(
-    alloc: Global,
-    leaves: Location<F>,
-) -> Result<Vec<Subtree<F>>, AllocError>
-    requires within_max_leaves { leaves ≤ F.MAX_LEAVES }
-    ensures { IfOk result (λ v. v.items ≡ map subtree_of (peaks_of F.rule leaves)) }
-{
-    let mut peaks = Vec::new(alloc);
-    let mut first_leaf = Location::new(0);
-    for (position, height) in F::peaks(F::location_to_position(leaves)) {
-        let peak = Subtree {
-            position,
-            height,
-            first_leaf,
-        };
-        first_leaf = peak.leaf_end();
-        peaks.push(peak)?;
-    }
-    Ok(peaks)
-}
-
 /// All that is hashed for a list, and its root.
 #[derive(Drop)]
 pub(crate) struct HashedList<F: Family, D: Digest> {
@@ -197,7 +176,7 @@ impl<F: Family, D: Digest> HashedList<F, D> {
             Ok(root) => root,
             Err(error) => return Err(error),
         };
-        let peaks = peak_subtrees(alloc, leaves)?;
+        let peaks = list_peaks(alloc, leaves)?;
         let Ok(top) = nodes.top(alloc, hasher, inactive, &peaks) else {
             return Err(Error::OutOfMemory);
         };

@@ -18,7 +18,7 @@ ghost use Rattle.merkle_audit.specs.Chosen.{multi_pair};
 ghost use Rattle.merkle_audit.specs.Found.{list_refusals, IsMultiVerdict};
 ghost use Rattle.merkle_audit.specs.Hashed.{located, top_of};
 
-use crate::list::{HashedList, peak_subtrees};
+use crate::list::HashedList;
 use crate::nodes::{Hashes, first_of};
 use crate::range::verdict;
 use crate::scattered::{LeafProof, walk_all};
@@ -30,6 +30,7 @@ use merkle_core::hasher::Hasher;
 use merkle_core::location::Location;
 use merkle_core::position::Position;
 use merkle_core::proof::{Proof, multi_proof_positions};
+use merkle_hasher::peaks::list_peaks;
 use std::alloc::{AllocError, Global};
 
 // Returns the locations of elements.
@@ -115,7 +116,7 @@ fn accepted<F: Family, H: Hasher<F>, B: Hashes<F, H::Digest>>(
         locations: &locations,
         leaves: &leaves,
     };
-    let peaks = peak_subtrees(alloc, proof.leaves)?;
+    let peaks = list_peaks(alloc, proof.leaves)?;
     let mut digests = Vec::with_capacity(alloc, peaks.len())?;
     let below = walk_all(hasher, &given, listed, &peaks, &mut digests)?;
     let inactive = proof.inactive_peaks;

@@ -3,7 +3,7 @@ ghost use Rattle.std.specs.Prelude.{◌≡◌, ◌≢◌, ◌↔◌, None, IfOk,
 ghost use Rattle.merkle_audit.specs.Found.{collision_of_pair, IsPairVerdict};
 ghost use Rattle.merkle_audit.specs.Hashed.{located};
 ghost use Rattle.merkle_proof.specs.Input.{input_of};
-ghost use Rattle.merkle_root_theory.specs.Walk.{bytes_of};
+ghost use Rattle.merkle_hasher.specs.LeafDigests.{bytes_of};
 
 use crate::claim::{Claim, accepted};
 use crate::range::first_difference;

@@ -7,14 +7,14 @@ ghost use Rattle.merkle_base.specs.Tree.{Tree};
 ghost use Rattle.merkle_hasher.specs.Subtrees.{AreNodes, subtree_of};
 ghost use Rattle.merkle_proof.specs.Input.{input_of};
 ghost use Rattle.merkle_root_theory.specs.Range.{AcceptsNonempty, IsEmptyInput};
-ghost use Rattle.merkle_root_theory.specs.Walk.{bytes_of};
+ghost use Rattle.merkle_hasher.specs.LeafDigests.{bytes_of};
 ghost use Rattle.merkle_claim_theory.specs.Pinned.{AcceptsPinned};
 ghost use Rattle.merkle_store_theory.specs.StoreValue.{store_of};
 ghost use Rattle.merkle_pins_theory.specs.PinnedNodes.{pinned_value};
 ghost use Rattle.merkle_audit.specs.Found.{list_refusals, IsPinnedVerdict};
 ghost use Rattle.merkle_audit.specs.PinnedClaimed.{digest_given, pin_in, IsPinnedClaim};
 
-use crate::list::{HashedList, peak_subtrees};
+use crate::list::HashedList;
 use crate::nodes::first_of;
 use crate::pin_nodes::{PinnedNodes, first_pinned_below, pin_positions, pinned_digest};
 use crate::range::verdict;
@@ -29,6 +29,7 @@ use merkle_core::proof::Proof;
 use merkle_core::range_plan::{Groups, RangePlan};
 use merkle_core::subtree::Subtree;
 use merkle_core::verification::ProofStore;
+use merkle_hasher::peaks::list_peaks;
 use std::alloc::{AllocError, Global};
 use std::ops::Range;
 
@@ -130,7 +131,7 @@ fn pinned_claim_of<F: Family, H: Hasher<F>>(
         positions,
         pins,
     };
-    let peaks = peak_subtrees(alloc, proof.leaves)?;
+    let peaks = list_peaks(alloc, proof.leaves)?;
     let digests = pinned_parts(alloc, hasher, &groups, &proof.digests, &peaks, &nodes)?;
     let shape = Shape {
         leaves: proof.leaves,

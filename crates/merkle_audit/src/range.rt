@@ -8,7 +8,7 @@ ghost use Rattle.merkle_base.specs.Tree.{Tree};
 ghost use Rattle.merkle_hasher.specs.Subtrees.{AreNodes, subtree_of};
 ghost use Rattle.merkle_proof.specs.Input.{input_of};
 ghost use Rattle.merkle_root_theory.specs.Expression as theory;
-ghost use Rattle.merkle_root_theory.specs.Walk.{bytes_of};
+ghost use Rattle.merkle_hasher.specs.LeafDigests.{bytes_of};
 ghost use Rattle.merkle_claim_theory.specs.FirstCollision.{or_else};
 ghost use Rattle.merkle_claim_theory.specs.Order.{node_places};
 ghost use Rattle.merkle_audit_theory.specs.Differences.{is_difference, first_difference};

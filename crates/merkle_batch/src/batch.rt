@@ -15,7 +15,7 @@ ghost use Rattle.merkle_batch_theory.specs.Missing.{IsMissing};
 ghost use Rattle.merkle_batch_theory.specs.Needed.{computed_nodes};
 ghost use Rattle.merkle_batch_theory.specs.Unmerkleized.{first_error, forked, kept, kept_lists, leaf_total, pending_list, update_error, with_entries, with_leaves, with_update, with_updates, without_ancestors};
 ghost use Rattle.merkle_batch_theory.specs.Records.{after, records};
-ghost use Rattle.merkle_range.specs.Input.{leaf_digests};
+ghost use Rattle.merkle_hasher.specs.LeafDigests.{leaf_digests};
 ghost use Rattle.merkle_batch_theory.specs.History.{IsHistory, last_list};
 
 pub use crate::merkleized::MerkleizedBatch;
@@ -26,7 +26,7 @@ use merkle_base::position::Position;
 use merkle_digest::digest::Digest;
 pub use merkle_draft::base::Base;
 use merkle_hasher::hasher::Hasher;
-use merkle_range::leaves::push_leaf_digests;
+use merkle_hasher::queue::push_leaf_digests;
 use std::collections::BTreeMap;
 use std::marker::Model;
 use std::rc::{Rc, RcSlice};

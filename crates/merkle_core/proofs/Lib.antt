@@ -3,5 +3,5 @@ pub mod PinMaps
 -- Lemmas of the crates below that theorems over the public contracts need.
 pub use Rattle.merkle_base.proofs.Cases
 pub use Rattle.merkle_claim_theory.proofs.RebuiltPins
-pub use Rattle.merkle_range.proofs.LeafDigests
+pub use Rattle.merkle_hasher.proofs.LeafDigests
 pub use Rattle.merkle_root_theory.proofs.HonestInputs

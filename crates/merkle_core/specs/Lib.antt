@@ -19,7 +19,8 @@ pub use Rattle.merkle_forest_theory.specs.FewPeaks
 pub use Rattle.merkle_forest_theory.specs.Mmb
 pub use Rattle.merkle_forest_theory.specs.Mmr
 pub use Rattle.merkle_digest.specs.Bytes
-pub use Rattle.merkle_digest.specs.DigestLaws
+pub mod DigestLaws
+pub use Rattle.merkle_sha256.specs.Together
 pub use Rattle.merkle_topology.specs.BeltIterators
 pub use Rattle.merkle_topology.specs.Perfect
 pub use Rattle.merkle_hasher.specs.Path

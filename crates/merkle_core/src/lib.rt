@@ -6,6 +6,7 @@
 #![tactic(auto)]
 
 mod components;
+pub mod digest;
 pub mod family;
 mod find;
 mod held_nodes;
@@ -19,7 +20,6 @@ mod replay;
 pub use merkle_base::{error, location, position};
 pub use merkle_batch::batch;
 pub use merkle_codec::codec;
-pub use merkle_digest::digest;
 pub use merkle_hasher::{hasher, leaves, nodes, path, read, subtree};
 pub use merkle_proof::{element_plan, proof, range_plan};
 pub use merkle_verification::verification;

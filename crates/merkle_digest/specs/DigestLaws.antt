@@ -3,9 +3,7 @@ use Rattle.std.specs.Prelude.{◌≡◌, ◌↔◌, ℕ, List, length, IsTrue}
 use Rattle.std.proofs.Common.{rules, subst, ap, eqb, refl}
 use Rattle.std.proofs.Math.Nat.{ℕ_set}
 use Rattle.std.specs.Cmp.Lexicographic.{pointwise}
-use Rattle.std.specs.Prelude.{fold, bit_xor, replicate}
-use Rattle.sha2.specs.Sha256.{sha256}
-use Rattle.sha2.proofs.Facts256 as Facts
+use Rattle.std.specs.Prelude.{fold, bit_xor}
 use Rattle.std.specs.Bool.{Decides}
 use Rattle.std.proofs.lemmas.Bool.Decides.{Decides-eqb}
 use Rattle.std.proofs.lemmas.Slice.Eq.{slice_eq-Decides}
@@ -25,13 +23,3 @@ bytes_eq a b =
 -- the exclusive or of all bytes
 abbrev pub xor_of : List ℕ → ℕ
 xor_of m = fold bit_xor 0 m
-
-pub length-sha256 : (m : List ℕ) → length (sha256 m) ≡ 32
-length-sha256 = Facts.length-sha256
-
--- as many bytes as SHA-256 answers, all zero
-abbrev pub no_bytes : List ℕ
-no_bytes = replicate 32 0
-
-pub length-no_bytes : length no_bytes ≡ 32
-length-no_bytes = refl

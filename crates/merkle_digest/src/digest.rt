@@ -1,12 +1,15 @@
 //! Digests, and the plain hash functions that compute them.
-ghost use Rattle.std.specs.Prelude.{◌≡◌, ◌+◌, ◌^◌, ◌<◌, ◌≤◌, ◌↔◌, ◌==◌, ◌++◌, ◌∷◌, [], ℕ, List, IsTrue, MatchOption, length, fold, bit_xor, replicate};
-ghost use Rattle.std.proofs.Common.{rules, ap};
+ghost use Rattle.std.specs.Prelude.{◌≡◌, ◌^◌, ◌<◌, ◌≤◌, ◌↔◌, ◌∷◌, [], ℕ, List, IsTrue, MatchOption, length, fold, bit_xor};
+ghost use Rattle.std.proofs.Common.{rules};
 ghost use Rattle.std.specs.Mem.{type_size};
 ghost use Rattle.merkle_digest.specs.Bytes.{joined_parts};
-ghost use Rattle.merkle_digest.specs.DigestLaws.{same_sized, bytes_eq, xor_of, length-sha256, no_bytes, length-no_bytes};
-ghost use Rattle.sha2.specs.Sha256.{sha256};
+ghost use Rattle.merkle_digest.specs.DigestLaws.{xor_of};
 
 use std::fmt::Debug;
+
+/// Every [`block_count`](PlainHasher::block_count) is less than this, so that messages can be put in the order of their
+/// numbers of blocks by a table of so many places.
+pub const BLOCK_COUNT_BOUND: usize = 32;
 
 /// A digest: a small value that is determined by its bytes.
 ///
@@ -111,111 +114,23 @@ pub trait PlainHasher {
     fn hashes_together() -> bool {
         false
     }
-}
 
-/// A SHA-256 digest: any 32 bytes.
-#[derive(Clone, Copy, PartialEq, Eq, Debug)]
-pub struct Sha256Digest {
-    bytes: [u8; 32],
-    ghost sized: { length bytes ≡ 32 },
-}
-
-impl Digest for Sha256Digest {
-    const SIZE: usize = 32;
-
-    const EMPTY: Self = Sha256Digest { bytes: [0; 32] };
-
-    ghost SIZE = { 32 };
-
-    ghost EMPTY = { record { bytes = no_bytes; sized = length-no_bytes } };
-
-    ghost bytes = { λ d. d.bytes };
-
-    ghost Spells = { λ b. length b ≡ 32 };
-
-    fn as_bytes(&self) -> &[u8] {
-        &self.bytes
-    }
-
-    fn from_bytes(spelling: &[u8]) -> Option<Self> {
-        match <[u8; 32]>::try_from(spelling) {
-            Ok(bytes) => Some(Sha256Digest { bytes }),
-            Err(_) => None,
-        }
-    }
-
-    ghost small = { Prim.search rules };
-
-    ghost nonempty = { Prim.search rules };
-
-    ghost clone_is_same = { Prim.search rules };
-
-    ghost bytes_spell = { Prim.search rules };
-
-    ghost one_length = { Prim.search rules };
-
-    ghost bytes_decide = { λ x y e. same_sized (λ b h. record { bytes = b; sized = h }) e x.sized y.sized };
-
-    ghost eq_decides = { λ x y. (λ h. same_sized (λ b h. record { bytes = b; sized = h }) ((bytes_eq x.bytes y.bytes).0 h) x.sized y.sized, λ e. (bytes_eq x.bytes y.bytes).1 (ap (λ d. d.bytes) e)) };
-}
-
-/// SHA-256, as FIPS 180-4 defines it. Four messages are hashed together if none has more than 16 blocks with its padding,
-/// in the time of the longest one, unless the others are much shorter: up to 55 bytes are one block, up to 119, as those of
-/// nodes, two, and up to 1,015 are 16. Three messages are hashed together if they are those of nodes.
-#[derive(Clone, Copy, Debug)]
-pub struct Sha256Plain;
-
-impl PlainHasher for Sha256Plain {
-    type Digest = Sha256Digest;
-
-    ghost digest_of = { λ m. record { bytes = sha256 m; sized = length-sha256 m } };
-
-    fn hash(parts: &[&[u8]]) -> Sha256Digest {
-        Sha256Digest {
-            bytes: merkle_lanes::hash(parts),
-        }
-    }
-
-    fn hash_pair(a: &[&[u8]], b: &[&[u8]]) -> (Sha256Digest, Sha256Digest) {
-        let (first, second) = merkle_lanes::hash_two(a, b);
-        (
-            Sha256Digest { bytes: first },
-            Sha256Digest { bytes: second },
-        )
-    }
-
-    fn hash_three(
-        a: &[&[u8]],
-        b: &[&[u8]],
-        c: &[&[u8]],
-    ) -> (Sha256Digest, Sha256Digest, Sha256Digest) {
-        let (first, second, third) = merkle_lanes::hash_three(a, b, c);
-        (
-            Sha256Digest { bytes: first },
-            Sha256Digest { bytes: second },
-            Sha256Digest { bytes: third },
-        )
-    }
-
-    fn hash_four(
-        a: &[&[u8]],
-        b: &[&[u8]],
-        c: &[&[u8]],
-        d: &[&[u8]],
-    ) -> (Sha256Digest, Sha256Digest, Sha256Digest, Sha256Digest) {
-        let (first, second, third, fourth) = merkle_lanes::hash_four(a, b, c, d);
-        (
-            Sha256Digest { bytes: first },
-            Sha256Digest { bytes: second },
-            Sha256Digest { bytes: third },
-            Sha256Digest { bytes: fourth },
-        )
-    }
-
-    fn hashes_together() -> bool
-        ensures { IsTrue result }
+    /// Returns the number of blocks in which a message of `length` bytes is hashed, or one number for all messages that are
+    /// too long to be hashed together with others. It is less than [`BLOCK_COUNT_BOUND`]. The default is 0. Callers may put
+    /// messages in the order of these numbers. No digest depends on it.
+    fn block_count(length: usize) -> usize
+        ensures { result < BLOCK_COUNT_BOUND }
     {
-        true
+        let _ = length;
+        0
+    }
+
+    /// Returns whether [`hash_four`](PlainHasher::hash_four) hashes four messages with these numbers of blocks together, in
+    /// the time of the longest one. The default is `false`. Callers may estimate the time of messages by it. No digest
+    /// depends on it.
+    fn pays_together(a: usize, b: usize, c: usize, d: usize) -> bool {
+        let _ = (a, b, c, d);
+        false
     }
 }
 

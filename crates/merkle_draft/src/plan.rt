@@ -14,6 +14,7 @@ use merkle_base::family::Family;
 use merkle_base::location::Location;
 use merkle_base::position::Position;
 use merkle_digest::digest::Digest;
+use merkle_hasher::peaks::peak_subtrees;
 use merkle_hasher::subtree::Subtree;
 use std::alloc::AllocError;
 
@@ -96,15 +97,8 @@ pub(crate) fn mark_peaks<F: Family, D: Digest>(
         return Ok(());
     }
     let mut rest = updates;
-    let mut first_leaf = Location::new(0);
-    for (position, height) in F::peaks(F::location_to_position(leaves)) {
-        let peak = Subtree {
-            position,
-            height,
-            first_leaf,
-        };
-        first_leaf = peak.leaf_end();
-        let end = F::location_to_position(first_leaf);
+    for peak in peak_subtrees(leaves) {
+        let end = F::location_to_position(peak.leaf_end());
         let (under, after) = rest.split_at(count_before(rest, end));
         mark(levels, &peak, under)?;
         rest = after;

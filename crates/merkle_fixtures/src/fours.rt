@@ -9,10 +9,11 @@ use merkle_base::family::{Bagging, Family};
 use merkle_base::position::Position;
 use merkle_digest::digest::{Xor8, Xor8Digest};
 use merkle_hasher::hasher::{Hasher, Standard};
+use merkle_sha256::sha256::Sha256Plain;
 use std::cell::Cell;
 
-/// A hasher that counts its calls for four leaves, for one leaf, for a pair of nodes and for one node. It folds peaks from
-/// left to right.
+/// A hasher that counts its calls for four leaves, for one leaf, for a pair of nodes and for one node. It says that it hashes
+/// four leaves together where SHA-256 does, and folds peaks from left to right.
 #[derive(Clone, Copy)]
 pub struct Fours<'a> {
     /// Whether it says that it computes four digests together.
@@ -32,6 +33,11 @@ pub struct Fours<'a> {
 fn plain() -> Standard<Xor8>
     ensures { result ≡ Bagging.ForwardFold }
 {
+    Standard::new(Bagging::ForwardFold)
+}
+
+// The hasher by whose rule it says what is hashed together.
+fn sha256() -> Standard<Sha256Plain> {
     Standard::new(Bagging::ForwardFold)
 }
 
@@ -113,6 +119,14 @@ impl<F: Family> Hasher<F> for Fours<'_> {
 
     fn hashes_together(&self) -> bool {
         self.together
+    }
+
+    fn leaf_block_count(&self, length: usize) -> usize {
+        Hasher::<F>::leaf_block_count(&sha256(), length)
+    }
+
+    fn pays_together(&self, a: usize, b: usize, c: usize, d: usize) -> bool {
+        Hasher::<F>::pays_together(&sha256(), a, b, c, d)
     }
 
     fn digest(&self, bytes: &[u8]) -> Xor8Digest {

@@ -1,5 +1,5 @@
 -- The nodes of a forest as code carries them.
-use Rattle.std.specs.Prelude.{◌≡◌, ℕ, List, Some, slice_get}
+use Rattle.std.specs.Prelude.{◌≡◌, ℕ, ◌+◌, ◌^◌, List, [], ◌∷◌, Some, slice_get}
 use Rattle.std.specs.List.{AllByRecursion}
 use Rattle.merkle_base.specs.Tree.{Tree, position, height, first_leaf}
 use Rattle.merkle_base.specs.Forest.{forest}
@@ -22,3 +22,14 @@ subtree_of t = record { position = position t; height = height t; first_leaf = f
 -- each of the trees is a node of the forest of n leaves, at its own position
 abbrev pub AreNodes : (List ℕ → List ℕ) → ℕ → List Tree → Type 0
 AreNodes rule n ts = AllByRecursion (λ t. slice_get (forest rule n).nodes (position t) ≡ Some t) ts
+
+-- peaks that are given by position and height, as subtrees: the first leaf of the first one is s, and that of each later one is after the
+-- leaves of the one before
+abbrev pub subtrees_from : {F : Type 0} → ℕ → List (ℕ × ℕ) → List (Subtree F)
+subtrees_from s [] = []
+subtrees_from s (p ∷ ps) = record { position = p.0; height = p.1; first_leaf = s } ∷ subtrees_from (s + 2 ^ p.1) ps
+
+-- and each of them is a node of the forest of n leaves
+abbrev pub AreNodesFrom : (List ℕ → List ℕ) → ℕ → ℕ → List (ℕ × ℕ) → Type 0
+AreNodesFrom rule n s [] = Unit {0}
+AreNodesFrom rule n s (p ∷ ps) = ((t : Tree) × IsNodeOf rule n p.0 p.1 s t) × AreNodesFrom rule n (s + 2 ^ p.1) ps

@@ -13,7 +13,7 @@ use merkle_base::error::{Error, OutOfMemory};
 use merkle_base::family::{Bagging, Family};
 use merkle_base::location::Location;
 use merkle_base::position::Position;
-use merkle_digest::digest::{Digest, PlainHasher};
+use merkle_digest::digest::{BLOCK_COUNT_BOUND, Digest, PlainHasher};
 use std::alloc::{AllocError, Global};
 use std::marker::{Model, PhantomData};
 
@@ -122,6 +122,24 @@ pub trait Hasher<F: Family>: Clone {
     /// [`leaf_digests_four`](Hasher::leaf_digests_four) than one by one. The default is `false`. Callers
     /// may arrange nodes and leaves in groups of four if they can. No digest depends on it.
     fn hashes_together(&self) -> bool {
+        false
+    }
+
+    /// Returns the number of blocks in which a leaf with an element of `length` bytes is hashed, or one number for all leaves
+    /// that are too long to be hashed together with others. It is less than [`BLOCK_COUNT_BOUND`]. The default is 0. Callers
+    /// may put leaves in the order of these numbers. No digest depends on it.
+    fn leaf_block_count(&self, length: usize) -> usize
+        ensures { result < BLOCK_COUNT_BOUND }
+    {
+        let _ = length;
+        0
+    }
+
+    /// Returns whether [`leaf_digests_four`](Hasher::leaf_digests_four) hashes four leaves with these numbers of blocks
+    /// together, in the time of the longest one. The default is `false`. Callers may estimate the time of leaves by it. No
+    /// digest depends on it.
+    fn pays_together(&self, a: usize, b: usize, c: usize, d: usize) -> bool {
+        let _ = (a, b, c, d);
         false
     }
 
@@ -620,6 +638,15 @@ impl<F: Family, H: PlainHasher> Hasher<F> for Standard<H> {
         H::hashes_together()
     }
 
+    fn leaf_block_count(&self, length: usize) -> usize {
+        // The element is hashed after its position, which has 8 bytes.
+        H::block_count(length.saturating_add(8))
+    }
+
+    fn pays_together(&self, a: usize, b: usize, c: usize, d: usize) -> bool {
+        H::pays_together(a, b, c, d)
+    }
+
     fn digest(&self, bytes: &[u8]) -> H::Digest {
         Standard::digest(self, bytes)
     }
@@ -697,6 +724,14 @@ impl<F: Family, T: Hasher<F>> Hasher<F> for &T {
 
     fn hashes_together(&self) -> bool {
         (**self).hashes_together()
+    }
+
+    fn leaf_block_count(&self, length: usize) -> usize {
+        (**self).leaf_block_count(length)
+    }
+
+    fn pays_together(&self, a: usize, b: usize, c: usize, d: usize) -> bool {
+        (**self).pays_together(a, b, c, d)
     }
 
     fn digest(&self, bytes: &[u8]) -> T::Digest {

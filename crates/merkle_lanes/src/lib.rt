@@ -9,16 +9,17 @@
 //! A message is hashed with its padding, in blocks of 64 bytes: one block if it has at most 55
 //! bytes, two if it has at most 119. So a leaf with an element of up to 47 bytes, which is
 //! hashed after a position of 8 bytes, takes one block, and a parent node, which is hashed as a position and two
-//! digests of 32 bytes, takes two. Four messages of at most 16 blocks each are hashed in the lanes, in the time of the
-//! longest one, or one after another if the others are much shorter. Four nodes have a path of their own, and four leaves with
+//! digests of 32 bytes, takes two. Four messages are hashed in the lanes, in the time of the longest one, or one after
+//! another; [`pays_together`] is the rule, for callers too who arrange messages before they are hashed. Four nodes have a path of their own, and four leaves with
 //! elements of 32 bytes have one, since the padding of all four is the same and nothing has to be copied. So have a single
 //! node and a single fold. [`hash_three`] fills the lane that is left with the last message. A message of more than 16
 //! blocks is hashed by the library `sha2`.
 #![tactic(auto)]
 
-ghost use Rattle.std.specs.Prelude.{◌≡◌, ◌+◌, ◌-◌, ◌/◌, ◌%◌, ◌^◌, ◌<◌, ◌≤◌, ◌++◌, List, IfSome, length, min, take};
+ghost use Rattle.std.specs.Prelude.{◌≡◌, ◌↔◌, ◌+◌, ◌-◌, ◌/◌, ◌%◌, ◌^◌, ◌<◌, ◌≤◌, ◌++◌, List, IfSome, IsTrue, length, min, take};
 ghost use Rattle.sha2.specs.Sha256.{sha256};
 ghost use Rattle.merkle_lanes.specs.Lanes.{joined_parts};
+ghost use Rattle.merkle_lanes.specs.Together.{block_count, AreHashedTogether};
 
 use four::{hash_blocks, hash_leaves, hash_nodes};
 use padding::pad;
@@ -33,12 +34,46 @@ mod padding;
 mod single;
 mod vectors;
 
+/// The greatest number of blocks of a message that is not left to the library `sha2`.
+const MOST_BLOCKS: usize = 16;
+
+// The number of blocks of a message of `length` bytes with its padding. The length saturates.
+#[inline]
+fn padded_block_count(length: usize) -> usize
+    ensures { result ≡ min (length + 8) (2 ^ 64 - 1) / 64 + 1 }
+{
+    length.saturating_add(8) / 64 + 1
+}
+
+/// Returns the number of blocks of 64 bytes of a message of `length` bytes with its padding, or 17 if it has more than 16:
+/// then it is hashed by itself, whatever the others are.
+///
+/// A message of at most 55 bytes has one block, one of 56 to 119 bytes has two, one of 952 to 1,015 bytes has 16.
+#[inline]
+pub fn block_count(length: usize) -> usize
+    ensures { result ≡ block_count length }
+{
+    padded_block_count(length).min(MOST_BLOCKS + 1)
+}
+
+/// Returns whether [`hash_four`] hashes four messages with these numbers of blocks together: if none has more than 16, and
+/// all together have at least twice as many as the longest.
+///
+/// A block of four lanes takes about as long as two blocks one after the other. So four messages are hashed one by one, for
+/// example, if three have one block and the last has four.
+#[inline]
+pub fn pays_together(a: usize, b: usize, c: usize, d: usize) -> bool
+    ensures { IsTrue result ↔ AreHashedTogether a b c d }
+{
+    let most = a.max(b).max(c).max(d);
+    most <= MOST_BLOCKS && a + b + c + d >= 2 * most
+}
+
 /// Returns the SHA-256 digests of four messages, in their order. A message is the concatenation of
 /// its parts.
 ///
-/// They are hashed together, in the time of the longest one, if none has more than 16 blocks with its padding and all
-/// together have at least twice as many as the longest; else one after another, as if three have one block and the last
-/// has four. A message of at most 55 bytes has one block, one of 56 to 119 bytes has two, one of 952 to 1,015 bytes has 16.
+/// They are hashed together, in the time of the longest one, if that [pays](pays_together) for the numbers of their blocks;
+/// else one after another.
 ///
 /// # Examples
 ///
@@ -129,7 +164,7 @@ fn hash_within<const N: usize>(
     Some(hash_blocks(&[&first, &second, &third, &fourth], k, l, m, n, most))
 }
 
-// The number of blocks of a message with its padding. The length of the message saturates.
+// The number of blocks of a message with its padding. The length saturates.
 fn count_blocks(parts: &[&[u8]]) -> usize
     ensures { result ≡ min (length (joined_parts parts.now) + 8) (2 ^ 64 - 1) / 64 + 1 }
 {
@@ -137,11 +172,11 @@ fn count_blocks(parts: &[&[u8]]) -> usize
     for part in parts {
         length = length.saturating_add(part.len());
     }
-    length.saturating_add(8) / 64 + 1
+    padded_block_count(length)
 }
 
-// The four digests, together if no padded message has more than 16 blocks; `most` is the greatest number of blocks.
-// Clearing less room takes less time.
+// The four digests, together if `most`, the greatest number of their blocks, is at most 16. Clearing less room takes less
+// time.
 #[inline]
 fn hash_together(
     a: &[&[u8]],
@@ -159,12 +194,11 @@ fn hash_together(
         0..=2 => hash_within::<128>(a, b, c, d),
         3..=4 => hash_within::<256>(a, b, c, d),
         5..=8 => hash_within::<512>(a, b, c, d),
-        9..=16 => hash_within::<1024>(a, b, c, d),
-        _ => None,
+        _ => hash_within::<1024>(a, b, c, d),
     }
 }
 
-// The four digests, together unless that takes longer than one after another.
+// The four digests, together if that pays.
 fn hash_padded(
     a: &[&[u8]],
     b: &[&[u8]],
@@ -182,9 +216,8 @@ fn hash_padded(
         count_blocks(c),
         count_blocks(d),
     );
-    let most = k.max(l).max(m).max(n);
-    // A block of four lanes takes about as long as two blocks one after the other.
-    if k + l + m + n >= 2 * most {
+    if pays_together(k, l, m, n) {
+        let most = k.max(l).max(m).max(n);
         if let Some(all) = hash_together(a, b, c, d, most) {
             return all;
         }
@@ -266,7 +299,7 @@ pub fn hash(parts: &[&[u8]]) -> [u8; 32]
         0..=2 => hash_one_within::<128>(parts),
         3..=4 => hash_one_within::<256>(parts),
         5..=8 => hash_one_within::<512>(parts),
-        9..=16 => hash_one_within::<1024>(parts),
+        9..=MOST_BLOCKS => hash_one_within::<1024>(parts),
         _ => None,
     };
     if let Some(digest) = digest {

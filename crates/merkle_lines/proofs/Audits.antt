@@ -17,8 +17,8 @@ use Rattle.merkle_base.specs.declared.error.DecodeError.TheVariants.{EndOfBuffer
 use Rattle.merkle_base.specs.declared.error.Error.{Error}
 use Rattle.merkle_base.specs.declared.error.Error.TheVariants as error
 use Rattle.merkle_codec.specs.ProofSpelling.{parts_spelling, IsProofReadRefusal}
-use Rattle.merkle_range.specs.Input.{range_input}
-use Rattle.merkle_range.proofs.LeafDigests.{length-leaf_digests}
+use Rattle.merkle_core.specs.LeafDigests.{range_input}
+use Rattle.merkle_hasher.proofs.LeafDigests.{length-leaf_digests}
 use Rattle.merkle_root_theory.specs.Check.{RangeInput, range_inputs}
 use Rattle.merkle_root_theory.specs.Range.{IsHonestRange, list_inputs}
 use Rattle.merkle_root_theory.specs.Reconstruction.{reconstructed}

@@ -7,8 +7,8 @@ use Rattle.merkle_batch_theory.specs.Missing.{IsMissing}
 use Rattle.merkle_batch_theory.specs.Needed.{IsNeeded}
 use Rattle.merkle_batch_theory.specs.Unmerkleized.{UnmerkleizedModel}
 use Rattle.merkle_batch_theory.specs.MemModel.{MemModel, contents}
-use Rattle.merkle_range.specs.Input.{leaf_digests}
-use Rattle.merkle_range.proofs.LeafDigests.{length-leaf_digests}
+use Rattle.merkle_hasher.specs.LeafDigests.{leaf_digests}
+use Rattle.merkle_hasher.proofs.LeafDigests.{length-leaf_digests}
 use Rattle.merkle_lines.specs.Answers.{IsLost}
 use Rattle.merkle_lines.specs.StructureState.{StructureState, at_updated, changes}
 use Rattle.merkle_lines.specs.Held.{IsStructureHeld, Makes}

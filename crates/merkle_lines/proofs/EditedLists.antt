@@ -3,8 +3,8 @@ use Rattle.std.proofs.Common.{◌≡◌, ℕ, ◌+◌, ◌<◌, ◌≤◌, List,
 use Rattle.std.proofs.lemmas.Bool.{lt-ltb, le-ltb}
 use Rattle.merkle_base.specs.Forest.{size}
 use Rattle.merkle_base.specs.Hashing.{Hashing}
-use Rattle.merkle_range.specs.Input.{leaf_digests}
-use Rattle.merkle_range.proofs.LeafDigests.{length-leaf_digests, leaf_digests-append}
+use Rattle.merkle_hasher.specs.LeafDigests.{leaf_digests}
+use Rattle.merkle_hasher.proofs.LeafDigests.{length-leaf_digests, leaf_digests-append}
 use Rattle.merkle_lines.specs.Held.{edited}
 use Rattle.merkle_lines.specs.StructureState.{Changes, with_changed_element, with_element}
 use Rattle.merkle_lines.proofs.Making.{leaf_digests_set}

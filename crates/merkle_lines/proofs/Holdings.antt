@@ -12,8 +12,8 @@ use Rattle.merkle_batch_theory.specs.Unmerkleized.{UnmerkleizedModel, forked}
 use Rattle.merkle_batch_theory.specs.Roots.{root_batch}
 use Rattle.merkle_batch_theory.specs.History.{replaced}
 use Rattle.merkle_batch_theory.specs.MemModel.{MemModel, contents}
-use Rattle.merkle_range.specs.Input.{leaf_digests}
-use Rattle.merkle_range.proofs.LeafDigests.{length-leaf_digests}
+use Rattle.merkle_hasher.specs.LeafDigests.{leaf_digests}
+use Rattle.merkle_hasher.proofs.LeafDigests.{length-leaf_digests}
 use Rattle.merkle_lines.specs.StructureState.{Changes, StructureState, all_committed, changes, pruned_to, with_changes, without_changes}
 use Rattle.merkle_lines.specs.Held.{IsStructureHeld, Makes, MakesPending, edited}
 

@@ -28,8 +28,8 @@ use Rattle.merkle_batch_theory.proofs.Matching.{accepts}
 use Rattle.merkle_batch_theory.proofs.PendingUpdates.{leaves_list, update_list, updated_new, updated_old}
 use Rattle.merkle_batch_theory.proofs.RootBatch.{root_stands}
 use Rattle.merkle_batch_theory.proofs.Steps.{digests_length, replaced_length}
-use Rattle.merkle_range.specs.Input.{leaf_digests}
-use Rattle.merkle_range.proofs.LeafDigests.{length-leaf_digests, leaf_digests-append}
+use Rattle.merkle_hasher.specs.LeafDigests.{leaf_digests}
+use Rattle.merkle_hasher.proofs.LeafDigests.{length-leaf_digests, leaf_digests-append}
 use Rattle.merkle_lines.specs.StructureState.{Changes, at_updated, with_element}
 use Rattle.merkle_lines.specs.StructureState as given
 use Rattle.merkle_lines.specs.Held.{Makes}

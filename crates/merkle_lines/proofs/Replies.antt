@@ -17,7 +17,7 @@ use Rattle.merkle_commands.specs.declared.command.Request.{Request}
 use Rattle.merkle_commands.specs.declared.command.Request.TheVariants.{Add, Update, Commit, Prune, Root, Prove}
 use Rattle.merkle_commands.specs.declared.hex_words.HexError.{HexError}
 use Rattle.merkle_commands.specs.declared.hex_words.HexError.TheVariants as hex
-use Rattle.merkle_range.proofs.LeafDigests.{length-leaf_digests}
+use Rattle.merkle_hasher.proofs.LeafDigests.{length-leaf_digests}
 use Rattle.merkle_codec.specs.ProofSpelling.{parts_spelling}
 use Rattle.merkle_proof.specs.ProofRefusals.{IsRangeRefusal}
 use Rattle.merkle_proof.specs.RangePlans.{IsFirstMissing}

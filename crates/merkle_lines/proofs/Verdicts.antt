@@ -5,7 +5,7 @@ use Rattle.merkle_base.specs.Scheme.{Scheme}
 use Rattle.merkle_base.specs.declared.error.DecodeError.{DecodeError}
 use Rattle.merkle_base.specs.declared.error.DecodeError.TheVariants.{EndOfBuffer, InvalidVarint, Invalid, TooMany, OutOfMemory}
 use Rattle.merkle_codec.specs.ProofSpelling.{parts_spelling, IsProofReadRefusal}
-use Rattle.merkle_range.specs.Input.{range_input}
+use Rattle.merkle_core.specs.LeafDigests.{range_input}
 use Rattle.merkle_root_theory.specs.Reconstruction.{reconstructed}
 use Rattle.merkle_lines.specs.Answers.{error_line, most_digests, IsRead, Says}
 use Rattle.merkle_lines.specs.ErrorNames.{decode_error_name}

@@ -18,7 +18,8 @@ use Rattle.merkle_commands.specs.declared.command.Request.{Request}
 use Rattle.merkle_commands.specs.declared.command.Request.TheVariants.{Add, Update, Commit, Prune, Root, Prove, Check, Audit}
 use Rattle.merkle_audit_theory.specs.PlainHash.{string_at}
 use Rattle.merkle_claim_theory.specs.FirstCollision.{IsFirstCollision}
-use Rattle.merkle_range.specs.Input.{leaf_digests, range_input}
+use Rattle.merkle_hasher.specs.LeafDigests.{leaf_digests}
+use Rattle.merkle_core.specs.LeafDigests.{range_input}
 use Rattle.merkle_proof.specs.RangePlans.{IsFirstMissing}
 use Rattle.merkle_root_theory.specs.Check.{RangeInput, range_inputs}
 use Rattle.merkle_root_theory.specs.Collision.{Collision}

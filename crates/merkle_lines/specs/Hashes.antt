@@ -2,9 +2,10 @@
 use Rattle.std.specs.Prelude.{eqb, ◌∷◌, []}
 use Rattle.std.specs.Cmp.Lexicographic.{pointwise}
 use Rattle.sha2.specs.Sha256.{sha256}
-use Rattle.merkle_digest.specs.declared.digest.Sha256Digest.{Sha256Digest}
 use Rattle.merkle_digest.specs.declared.digest.Xor8Digest.{Xor8Digest}
-use Rattle.merkle_digest.specs.DigestLaws.{length-sha256, no_bytes, length-no_bytes, xor_of}
+use Rattle.merkle_digest.specs.DigestLaws.{xor_of}
+use Rattle.merkle_sha256.specs.declared.sha256.Sha256Digest.{Sha256Digest}
+use Rattle.merkle_sha256.specs.Sha256Laws.{length-sha256, no_bytes, length-no_bytes}
 use Rattle.merkle_base.specs.Hashing.{Hashing}
 use Rattle.merkle_hasher.specs.Standard.{standard}
 

@@ -8,7 +8,7 @@ use Rattle.merkle_batch_theory.specs.Contents.{Agrees, Contents}
 use Rattle.merkle_batch_theory.specs.Unmerkleized.{UnmerkleizedModel, pending_list}
 use Rattle.merkle_batch_theory.specs.Roots.{root_batch}
 use Rattle.merkle_batch_theory.specs.MemModel.{MemModel, contents}
-use Rattle.merkle_range.specs.Input.{leaf_digests}
+use Rattle.merkle_hasher.specs.LeafDigests.{leaf_digests}
 use Rattle.merkle_lines.specs.StructureState.{Changes, StructureState}
 
 -- the pending batch makes the changes of a list: it was forked from a structure that agreed with it, at its boundary then

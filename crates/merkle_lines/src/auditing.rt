@@ -13,7 +13,7 @@ ghost use Rattle.merkle_hasher.specs.Standard.{standard};
 ghost use Rattle.merkle_lines.specs.Answers.{collision_line, error_line, place_words, word_bytes, IsAudited, SaysOfInput};
 ghost use Rattle.merkle_lines.specs.AnswerText.{answer_text, spot_text};
 ghost use Rattle.merkle_lines.specs.StructureState.{StructureState};
-ghost use Rattle.merkle_range.specs.Input.{leaf_digests};
+ghost use Rattle.merkle_hasher.specs.LeafDigests.{leaf_digests};
 ghost use Rattle.merkle_root_theory.specs.Check.{RangeInput};
 
 use crate::answer::{Answer, Named, Spot, or_fault};

@@ -8,7 +8,7 @@ ghost use Rattle.merkle_commands.specs.Words.{IsHexWord};
 ghost use Rattle.merkle_hasher.specs.Standard.{standard};
 ghost use Rattle.merkle_lines.specs.Answers.{error_line, word_bytes, IsChecked, IsRead};
 ghost use Rattle.merkle_lines.specs.AnswerText.{answer_text};
-ghost use Rattle.merkle_root_theory.specs.Walk.{bytes_of};
+ghost use Rattle.merkle_hasher.specs.LeafDigests.{bytes_of};
 
 use crate::answer::{Answer, Named, or_fault};
 use merkle_commands::command::cut;

@@ -8,7 +8,7 @@ ghost use Rattle.merkle_lines.specs.AnswerText.{answer_text};
 ghost use Rattle.merkle_lines.specs.Answers.{IsRequestAnswered};
 ghost use Rattle.merkle_lines.specs.StructureState.{StructureState, changes, empty_structure};
 ghost use Rattle.merkle_lines.specs.Held.{IsStructureHeld, Makes, edited};
-ghost use Rattle.merkle_range.specs.Input.{leaf_digests};
+ghost use Rattle.merkle_hasher.specs.LeafDigests.{leaf_digests};
 
 use crate::answer::{Answer, Named, or_fault};
 use crate::auditing::audit;

@@ -7,7 +7,8 @@ use Rattle.std.proofs.lemmas.List.{map-append}
 use Rattle.std.proofs.lemmas.List.Concat.{flat_map-append}
 use Rattle.merkle_base.specs.Tree.{Tree, leaf, join, position, first_leaf, end_leaf}
 use Rattle.merkle_base.proofs.Growth.{forest_grown}
-use Rattle.merkle_hasher.specs.Subtrees.{IsNodeOf}
+use Rattle.merkle_hasher.specs.declared.subtree.Subtree.{Subtree}
+use Rattle.merkle_hasher.specs.Subtrees.{IsNodeOf, subtree_of}
 use Rattle.merkle_forest_theory.specs.Ascending.{AscendsFrom}
 use Rattle.merkle_proof.specs.MultiPositions.{those_before, those_from, under, are_some, node_if, read_below, read_in}
 
@@ -92,10 +93,10 @@ module _ (rule : List ℕ → List ℕ) (m p s tall : ℕ) where
 
 -- ---- a walk over the peaks: the nodes of the peaks so far, and the locations that are left
 abbrev pub Collected : List ℕ → List ℕ → List ℕ → ℕ → List Tree → Type 0
-Collected is out rest s done = (out ≡ map position (flat_map (read_in is) done)) × (rest ≡ those_from s is)
+Collected is out rest begin done = (out ≡ map position (flat_map (read_in is) done)) × (rest ≡ those_from begin is)
 
-pub collected_none : (is out : List ℕ) (s : ℕ) → out ≡ [] → s ≡ 0 → Collected is out is s []
-collected_none is out s e z = (e, sym (ap (λ (n : ℕ). those_from n is) z ∙ all_from is))
+pub collected_none : (is out : List ℕ) → out ≡ [] → Collected is out is 0 []
+collected_none is out e = (e, sym (all_from is))
   where
     all_from : (is : List ℕ) → those_from 0 is ≡ is
     all_from [] = refl
@@ -111,17 +112,16 @@ from_later a e l (i ∷ is) = both (nat_le a i) (nat_le e i) refl refl (from_lat
     both false false x y h = h
     both false true x y h = absurd (grind (arith, nat_tests, x, y, l))
 
-module _ (rule : List ℕ → List ℕ) (m p tall s : ℕ) (t : Tree) (w : IsNodeOf rule m p tall s t) (is rest : List ℕ) (e : ℕ) (end : e ≡ end_leaf t) where
+module _ {F : Type 0} (peak : Subtree F) (t : Tree) (is_tree : peak ≡ subtree_of t) (is rest : List ℕ) (e : ℕ) (end : e ≡ end_leaf t) where
   pub collected_more : (first second : List ℕ) → (first ≡ those_before e rest) × (second ≡ those_from e rest) → (b : Bool) → b ≡ nat_lt (length first) (length is) → (out middle new : List ℕ)
-      → middle ≡ out ++ map position (read_below first t) → new ≡ middle ++ cond b (p ∷ []) [] → (done : List Tree) → Collected is out rest s done → Collected is new second e (done ++ t ∷ [])
+      → middle ≡ out ++ map position (read_below first t) → new ≡ middle ++ cond b (peak.position ∷ []) [] → (done : List Tree) → Collected is out rest (first_leaf t) done → Collected is new second (end_leaf t) (done ++ t ∷ [])
   collected_more first second parts b bs out middle new x y done c =
-      let start : s ≡ first_leaf t = sym w.first_is in
-      let rest_is : rest ≡ those_from (first_leaf t) is = c.1 ∙ ap (λ (n : ℕ). those_from n is) start in
-      let first_is : first ≡ under t is = parts.0 ∙ ap₂ (λ (n : ℕ) z. those_before n z) end rest_is in
-      let own : cond b (p ∷ []) [] ≡ map position (node_if (nat_lt (length first) (length is)) t) = ap (λ z. cond z (p ∷ []) []) bs ∙ if_position (nat_lt (length first) (length is)) p t ((forest_grown rule m).placed p t w.at) in (
+      let first_is : first ≡ under t is = parts.0 ∙ ap₂ (λ (n : ℕ) z. those_before n z) end c.1 in
+      let own : cond b (peak.position ∷ []) [] ≡ map position (node_if (nat_lt (length first) (length is)) t) =
+      ap (λ z. cond z (peak.position ∷ []) []) bs ∙ if_position (nat_lt (length first) (length is)) peak.position t (sym (ap (λ (s : Subtree F). s.position) is_tree)) in (
         two_more out middle new (read_below first t) (node_if (nat_lt (length first) (length is)) t) x (y ∙ ap (λ z. middle ++ z) own)
             ∙ ap₂ (λ z us. z ++ map position (read_below us t ++ node_if (nat_lt (length us) (length is)) t)) c.0 first_is
             ∙ sym (map-append position (flat_map (read_in is) done) (read_in is t))
             ∙ ap (map position) (sym (flat_map-append (read_in is) done (t ∷ []) ∙ ap (λ z. flat_map (read_in is) done ++ z) (append-nil (read_in is t)))),
-        parts.1 ∙ ap (those_from e) rest_is ∙ from_later (first_leaf t) e (omega (arith, end)) is,
+        parts.1 ∙ ap₂ (λ (n : ℕ) z. those_from n z) end c.1 ∙ from_later (first_leaf t) (end_leaf t) (omega arith) is,
       )

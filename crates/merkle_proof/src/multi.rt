@@ -15,6 +15,7 @@ use merkle_base::error::Error;
 use merkle_base::family::Family;
 use merkle_base::location::Location;
 use merkle_base::position::Position;
+use merkle_hasher::peaks::peak_subtrees;
 use merkle_hasher::subtree::Subtree;
 use std::alloc::{AllocError, Global};
 
@@ -76,17 +77,10 @@ fn scattered_positions<F: Family>(
 {
     let mut positions = Vec::new(alloc);
     let mut rest = locations;
-    let mut first_leaf = Location::new(0);
-    for (position, height) in F::peaks(F::location_to_position(leaves)) {
-        let peak = Subtree {
-            position,
-            height,
-            first_leaf,
-        };
-        first_leaf = peak.leaf_end();
-        let (under, others) = rest.split_at(count_before(rest, first_leaf));
+    for peak in peak_subtrees(leaves) {
+        let (under, others) = rest.split_at(count_before(rest, peak.leaf_end()));
         collect_scattered(&peak, under, &mut positions)?;
-        append_if(under.len() < locations.len(), position, &mut positions)?;
+        append_if(under.len() < locations.len(), peak.position, &mut positions)?;
         rest = others;
     }
     Ok(positions)

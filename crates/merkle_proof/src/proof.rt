@@ -7,7 +7,7 @@ ghost use Rattle.merkle_root_theory.specs.Extract.{extracted, IsNodePair};
 ghost use Rattle.merkle_root_theory.specs.Range.{ForRootOf, IsHonestRange, RangeCollides};
 ghost use Rattle.merkle_root_theory.specs.Reconstruction.{reconstructed};
 ghost use Rattle.merkle_root_theory.specs.RootNames.{NamesRoot};
-ghost use Rattle.merkle_root_theory.specs.Walk.{bytes_of};
+ghost use Rattle.merkle_hasher.specs.LeafDigests.{bytes_of};
 ghost use Rattle.merkle_claim_theory.specs.Pinned.{AcceptsPinned, IsHonestPinned, PinnedCollides};
 ghost use Rattle.merkle_claim_theory.specs.Rebuilt.{GivesOldRoot};
 ghost use Rattle.merkle_range.specs.Extracting.{IsExtractionRefusal};

@@ -1,11 +1,8 @@
-pub mod PeakLoop
 pub mod RangeRoot
 pub mod IndividualPeaks
-pub mod PeakWalk
 pub mod PinWalks
 pub mod PinParts
 pub mod PinChecks
-pub mod LeafDigests
 -- passed on
 pub use Rattle.merkle_reconstruction.proofs.ExtractionWalks
 pub use Rattle.merkle_reconstruction.proofs.InsideNodes

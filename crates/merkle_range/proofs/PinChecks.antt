@@ -9,14 +9,14 @@ use Rattle.merkle_base.specs.Tree.{position}
 use Rattle.merkle_base.specs.declared.family.Bagging.{Bagging}
 use Rattle.merkle_root_theory.specs.Check.{RangeInput}
 use Rattle.merkle_root_theory.specs.Range.{Accepts, AcceptsNonempty, end_of, range_parts, range_siblings}
-use Rattle.merkle_root_theory.specs.Walk.{bytes_of}
+use Rattle.merkle_hasher.specs.LeafDigests.{bytes_of}
 use Rattle.merkle_claim_theory.specs.Pinned.{AcceptsPinnedCases}
 use Rattle.merkle_claim_theory.specs.Rebuilt.{IsRebuilt}
 use Rattle.merkle_base.specs.Table.{digest_for}
 use Rattle.merkle_claim_theory.proofs.RebuiltPins.{pinned_is_rebuilt}
 use Rattle.merkle_range.specs.Input.{range_input}
 use Rattle.merkle_range.specs.PinnedParts.{IsBeforeRebuilt}
-use Rattle.merkle_range.proofs.LeafDigests.{length-leaf_digests}
+use Rattle.merkle_hasher.proofs.LeafDigests.{length-leaf_digests}
 
 module _ {D : Type 0} (s : Scheme D) (r : RangeInput D) (pins : List D) (root : D) where
   -- what is accepted with pins is accepted without

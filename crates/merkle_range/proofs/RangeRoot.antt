@@ -20,14 +20,15 @@ use Rattle.merkle_root_theory.specs.Check.{in_range, RangeInput, chosen, leaf_gi
 use Rattle.merkle_base.specs.Scheme.{Scheme, scheme_of}
 use Rattle.merkle_root_theory.specs.Range.{overlapping, wholly_after, end_of, range_parts}
 use Rattle.merkle_root_theory.specs.Range.{digest_count}
-use Rattle.merkle_root_theory.specs.Walk.{bytes_of, peak_values, ArePeakDigests}
+use Rattle.merkle_hasher.specs.LeafDigests.{bytes_of}
+use Rattle.merkle_root_theory.specs.Walk.{peak_values, ArePeakDigests}
 use Rattle.merkle_range.specs.Input.{range_input, IsComputed}
 use Rattle.merkle_hasher.specs.Subtrees.{subtree_of}
 use Rattle.merkle_range.specs.GroupedPeaks.{HoldsGroups}
 use Rattle.merkle_range.specs.declared.groups.PeakGroups.{PeakGroups}
 use Rattle.merkle_root_theory.proofs.PeakGroups.{length-peaks_of, some_over}
 use Rattle.merkle_base.proofs.PeakLists.{covers_spans}
-use Rattle.merkle_range.proofs.LeafDigests.{length-leaf_digests}
+use Rattle.merkle_hasher.proofs.LeafDigests.{length-leaf_digests}
 use Rattle.merkle_root_theory.proofs.RangeDigests.{digest_count_is}
 use Rattle.merkle_root_theory.proofs.LayoutRoot.{layout_counts, layout_root, inactive_fits}
 

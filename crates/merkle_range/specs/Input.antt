@@ -1,15 +1,9 @@
 -- What a check of a range is given.
-use Rattle.std.specs.Prelude.{◌≡◌, ℕ, suc, List, [], ◌∷◌}
-use Rattle.merkle_base.specs.Forest.{size}
-use Rattle.merkle_base.specs.Hashing.{Hashing}
+use Rattle.std.specs.Prelude.{◌≡◌, ℕ, List}
 use Rattle.merkle_root_theory.specs.Check.{RangeInput, root_of, range_expression}
 use Rattle.merkle_base.specs.Scheme.{Scheme}
 use Rattle.merkle_root_theory.specs.Reconstruction.{HasShape}
-
--- the leaf digests of elements from location a on
-abbrev pub leaf_digests : {D : Type 0} → Hashing D → (List ℕ → List ℕ) → ℕ → List (List ℕ) → List D
-leaf_digests h rule a [] = []
-leaf_digests h rule a (e ∷ es) = h.leaf (size rule a) e ∷ leaf_digests h rule (suc a) es
+pub use Rattle.merkle_hasher.specs.LeafDigests.{leaf_digests}
 
 -- a proof of n leaves, of which k peaks are inactive, with the elements from location a on
 abbrev pub range_input : {D : Type 0} → Scheme D → (n k : ℕ) → List D → ℕ → List (List ℕ) → RangeInput D

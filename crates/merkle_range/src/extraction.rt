@@ -8,7 +8,7 @@ ghost use Rattle.merkle_root_theory.specs.Range.{wholly_after};
 ghost use Rattle.merkle_root_theory.specs.Reconstruction.{range_refusals, reconstructed};
 ghost use Rattle.merkle_range.specs.Extracting.{IsExtractionRefusal};
 ghost use Rattle.merkle_base.specs.Cases.{first_case};
-ghost use Rattle.merkle_root_theory.specs.Walk.{bytes_of};
+ghost use Rattle.merkle_hasher.specs.LeafDigests.{bytes_of};
 ghost use Rattle.merkle_range.specs.GroupedPeaks.{HoldsGroups};
 ghost use Rattle.merkle_range.specs.Input.{range_input, IsComputed};
 

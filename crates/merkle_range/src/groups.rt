@@ -16,6 +16,7 @@ use crate::layout::Layout;
 use merkle_base::family::{Bagging, Family};
 use merkle_base::location::Location;
 use merkle_base::position::Position;
+use merkle_hasher::peaks::peak_subtrees;
 use merkle_hasher::subtree::Subtree;
 use merkle_reconstruction::siblings::collect_siblings;
 use std::alloc::{AllocError, Global};
@@ -78,14 +79,7 @@ impl<F: Family> PeakGroups<F> {
             overlapping: Vec::new(alloc),
             outside: Vec::with_capacity(alloc, ROOM)?,
         };
-        let mut first_leaf = Location::new(0);
-        for (position, height) in F::peaks(F::location_to_position(leaves)) {
-            let peak = Subtree {
-                position,
-                height,
-                first_leaf,
-            };
-            first_leaf = peak.leaf_end();
+        for peak in peak_subtrees(leaves) {
             groups.put(peak, range)?;
         }
         Ok(groups)

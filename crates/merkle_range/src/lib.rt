@@ -5,6 +5,4 @@ pub mod checks;
 pub mod extraction;
 pub mod groups;
 pub mod layout;
-pub mod leaves;
-mod peaks;
 pub mod pins;

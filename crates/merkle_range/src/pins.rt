@@ -7,7 +7,7 @@ ghost use Rattle.merkle_root_theory.specs.Outside.{fold_all};
 ghost use Rattle.merkle_root_theory.specs.Plan.{left_fold_plan, peak, siblings, tree_meets};
 ghost use Rattle.merkle_root_theory.specs.Check.{in_range};
 ghost use Rattle.merkle_root_theory.specs.Range.{range_parts, range_siblings};
-ghost use Rattle.merkle_root_theory.specs.Walk.{bytes_of};
+ghost use Rattle.merkle_hasher.specs.LeafDigests.{bytes_of};
 ghost use Rattle.merkle_claim_theory.specs.Pinned.{AcceptsPinnedCases};
 ghost use Rattle.merkle_claim_theory.specs.Rebuilt.{AllRebuilt, rebuilt_node, rebuilt_part};
 ghost use Rattle.merkle_base.specs.Table.{digest_for};
@@ -16,13 +16,13 @@ ghost use Rattle.merkle_range.specs.PinnedParts.{IsBeforeRebuilt};
 
 use crate::checks::{ProofParts, verify_range};
 use crate::groups::PeakGroups;
-use crate::peaks::peak_subtrees;
 use merkle_base::error::OutOfMemory;
 use merkle_base::family::Family;
 use merkle_base::location::Location;
 use merkle_base::position::Position;
 use merkle_digest::digest::Digest;
 use merkle_hasher::hasher::Hasher;
+use merkle_hasher::peaks::list_peaks;
 use merkle_hasher::subtree::Subtree;
 use merkle_reconstruction::known::digest_at;
 use std::alloc::{AllocError, Global};
@@ -224,7 +224,7 @@ fn is_before_rebuilt<F: Family, H: Hasher<F>>(
         IfOk result (λ yes. IsTrue yes ↔ IsBeforeRebuilt (H.hashing hasher.now) (H.bagging_of hasher.now) parts.now.inactive range.now.start range.now.end
         (peaks_of F.rule parts.now.leaves) b parts.now.digests.now) }
 {
-    let peaks = peak_subtrees(parts.alloc, parts.leaves)?;
+    let peaks = list_peaks(parts.alloc, parts.leaves)?;
     let groups = PeakGroups::of_peaks(parts.alloc, parts.leaves, range)?;
     let layout = groups.layout(hasher.root_bagging(), parts.inactive);
     let (before, _) = peaks.split_at(groups.before);

@@ -40,6 +40,12 @@ siblings_join c p l r e = ap (λ z. cond z (siblings c l ++ siblings c r) (join 
 pub flat_push : (c : ℕ → Bool) (ts : List Tree) (t : Tree) → flat_map (siblings c) (ts ++ t ∷ []) ≡ flat_map (siblings c) ts ++ siblings c t
 flat_push c ts t = flat_map-append (siblings c) ts (t ∷ []) ∙ ap (λ z. flat_map (siblings c) ts ++ z) (append-nil (siblings c t))
 
+-- the positions of the siblings of one more tree, after others
+pub more_siblings : (c : ℕ → Bool) (ts us : List Tree) (t : Tree) (out xs ys : List ℕ) → us ≡ ts ++ t ∷ [] → xs ≡ out ++ map position (flat_map (siblings c) ts) → ys ≡ xs ++ map position (siblings c t) → ys ≡ out ++ map position (flat_map (siblings c) us)
+more_siblings c ts us t out xs ys u e f =
+    f ∙ ap (λ z. z ++ map position (siblings c t)) e ∙ append_assoc out (map position (flat_map (siblings c) ts)) (map position (siblings c t))
+    ∙ ap (λ z. out ++ z) (sym (map-append position (flat_map (siblings c) ts) (siblings c t)) ∙ ap (map position) (sym (flat_push c ts t)) ∙ ap (λ z. map position (flat_map (siblings c) z)) (sym u))
+
 module _ {D : Type 0} (h : Hashing D) (c : ℕ → Bool) (X : ℕ → D) where
   claim_unmet : (t : Tree) (ds : List D) → tree_meets c t ≡ false → tree_claim h c X t ds ≡ supplied (next h ds)
   claim_unmet (leaf p i) ds e = ap (λ z. cond z (supplied (X i)) (supplied (next h ds))) e

@@ -1,16 +1,12 @@
 -- What a walk over the nodes above a range gives.
-use Rattle.std.specs.Prelude.{◌≡◌, ℕ, ◌-◌, ◌≤◌, List, [], ◌∷◌, ◌++◌, Bool, length, drop, take, ◌+◌, map, get_or}
+use Rattle.std.specs.Prelude.{◌≡◌, ℕ, ◌-◌, ◌≤◌, List, [], ◌∷◌, ◌++◌, Bool, length, drop, take, ◌+◌, get_or}
 use Rattle.std.specs.List.{flat_map}
-use Rattle.std.specs.Borrow.{Bor}
 use Rattle.merkle_base.specs.Tree.{Tree}
 use Rattle.merkle_base.specs.Hashing.{Hashing}
 use Rattle.merkle_root_theory.specs.Expression.{value}
 use Rattle.merkle_root_theory.specs.Plan.{siblings}
 use Rattle.merkle_root_theory.specs.Claim.{tree_claim}
-
--- the bytes of elements that are lent
-abbrev pub bytes_of : List (Bor (List ℕ)) → List (List ℕ)
-bytes_of elements = map (λ e. e.now) elements
+pub use Rattle.merkle_hasher.specs.LeafDigests.{bytes_of}
 
 -- the leaf digest at location i, the first of the digests being that of location a
 abbrev pub leaf_from : {D : Type 0} → Hashing D → ℕ → List D → ℕ → D

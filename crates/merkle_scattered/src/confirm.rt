@@ -17,7 +17,7 @@ use merkle_base::position::Position;
 use merkle_digest::digest::Digest;
 use merkle_hasher::hasher::Hasher;
 use merkle_hasher::nodes::node_digests;
-use merkle_hasher::subtree::Subtree;
+use merkle_hasher::peaks::peak_subtrees;
 use std::alloc::{AllocError, Global};
 
 /// Computes the digests of the peaks of `leaves` leaves, oldest first, from those of some leaves and
@@ -55,16 +55,9 @@ fn list_peaks<F: Family, D: Digest>(
     ensures { IfOk result (λ v. v.items ≡ map (checked_node located.now) (peaks_of F.rule leaves)) }
 {
     let mut peaks = Vec::new(alloc);
-    let mut first_leaf = Location::new(0);
     let mut from = 0;
-    for (position, height) in F::peaks(F::location_to_position(leaves)) {
-        let subtree = Subtree {
-            position,
-            height,
-            first_leaf,
-        };
-        first_leaf = subtree.leaf_end();
-        let to = count_before(located, from, first_leaf);
+    for subtree in peak_subtrees(leaves) {
+        let to = count_before(located, from, subtree.leaf_end());
         peaks.push(CheckedNode { subtree, from, to })?;
         from = to;
     }

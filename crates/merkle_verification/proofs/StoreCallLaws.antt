@@ -4,8 +4,8 @@ use Rattle.std.proofs.lemmas.List.{length-take, length-drop}
 use Rattle.merkle_root_theory.specs.Range.{end_of}
 use Rattle.merkle_store_theory.specs.StoreValue.{store_of}
 use Rattle.merkle_store_theory.specs.StoreProof.{store_proof}
-use Rattle.merkle_range.specs.Input.{leaf_digests}
-use Rattle.merkle_range.proofs.LeafDigests.{leaf_digests-part}
+use Rattle.merkle_hasher.specs.LeafDigests.{leaf_digests}
+use Rattle.merkle_hasher.proofs.LeafDigests.{leaf_digests-part}
 use Rattle.merkle_verification.specs.StoreCalls.{part_input, elements_within, NoPartIsRefused, AnsweredIsAccepted, PartHasPartDigests}
 use Rattle.merkle_store_theory.proofs.StoreProofs.{store_answers, store_is_accepted}
 

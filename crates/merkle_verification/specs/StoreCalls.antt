@@ -8,7 +8,7 @@ use Rattle.merkle_root_theory.specs.Check.{RangeInput}
 use Rattle.merkle_root_theory.specs.Range.{end_of, AcceptsNonempty}
 use Rattle.merkle_store_theory.specs.StoreValue.{StoreValue, store_of}
 use Rattle.merkle_store_theory.specs.StoreProof.{store_proof, store_refusal}
-use Rattle.merkle_range.specs.Input.{leaf_digests}
+use Rattle.merkle_hasher.specs.LeafDigests.{leaf_digests}
 use Rattle.merkle_proof.specs.RangePlans.{IsRefusal}
 use Rattle.merkle_proof.specs.declared.proof.Proof.{Proof}
 

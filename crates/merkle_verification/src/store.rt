@@ -5,7 +5,7 @@ ghost use Rattle.merkle_base.specs.Scheme.{Scheme};
 ghost use Rattle.merkle_root_theory.specs.Check.{RangeInput};
 ghost use Rattle.merkle_root_theory.specs.Range.{AcceptsNonempty, end_of};
 ghost use Rattle.merkle_root_theory.specs.Reconstruction.{reconstructed};
-ghost use Rattle.merkle_root_theory.specs.Walk.{bytes_of};
+ghost use Rattle.merkle_hasher.specs.LeafDigests.{bytes_of};
 ghost use Rattle.merkle_store_theory.specs.StoreProof.{found_at, first_lacking};
 ghost use Rattle.merkle_store_theory.specs.StoreReads.{prefix_at, suffix_at, suffix_refusal_at, proof_at};
 ghost use Rattle.merkle_store_theory.specs.StoreValue.{store_of};

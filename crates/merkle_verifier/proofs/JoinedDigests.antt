@@ -3,7 +3,7 @@ use Rattle.std.proofs.Common.{◌≡◌, ℕ, ◌+◌, ◌*◌, ◌<◌, List, [
 use Rattle.std.proofs.lemmas.Grind.{flat_map-append}
 use Rattle.std.specs.List.{flat_map}
 use Rattle.merkle_codec.specs.ProofLaws.{length-digests}
-use Rattle.merkle_digest.specs.declared.digest.Sha256Digest.{Sha256Digest}
+use Rattle.merkle_sha256.specs.declared.sha256.Sha256Digest.{Sha256Digest}
 use Rattle.merkle_verifier.specs.Inputs.{digest_bytes, joined_digests}
 
 -- one more digest

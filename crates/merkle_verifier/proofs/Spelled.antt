@@ -8,7 +8,7 @@ use Rattle.merkle_codec.specs.NumberLaws.{number_spelling_once, IsRefusalFrom_af
 use Rattle.merkle_codec.specs.NumberSpelling.{number_spelling, IsRefusalFrom}
 use Rattle.merkle_codec.specs.ProofLaws.{length-digests, parts}
 use Rattle.merkle_codec.specs.ProofSpelling.{parts_spelling, IsDigestsRefusal, IsProofReadRefusal}
-use Rattle.merkle_digest.specs.declared.digest.Sha256Digest.{Sha256Digest}
+use Rattle.merkle_sha256.specs.declared.sha256.Sha256Digest.{Sha256Digest}
 use Rattle.merkle_verifier.specs.Answers.{malformed, out_of_memory, OfProof}
 use Rattle.merkle_verifier.specs.Inputs.{digest_bytes, joined_digests, IsSpelled}
 use Rattle.merkle_verifier.specs.Unread.{IsUnread, refused_answer}

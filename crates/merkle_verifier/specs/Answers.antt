@@ -9,7 +9,7 @@ use Rattle.merkle_core.specs.Reconstruction.{reconstructed}
 use Rattle.merkle_core.specs.Places.{peaks_of}
 use Rattle.merkle_core.specs.Root.{list_root, peaks_root}
 use Rattle.merkle_core.specs.Scheme.{Scheme}
-use Rattle.merkle_digest.specs.declared.digest.Sha256Digest.{Sha256Digest}
+use Rattle.merkle_sha256.specs.declared.sha256.Sha256Digest.{Sha256Digest}
 use Rattle.merkle_verifier.specs.Inputs.{digest_bytes, joined_digests, IsSpelled, IsCut, located_input}
 
 -- the numbers of the answers

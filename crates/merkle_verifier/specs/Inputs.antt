@@ -7,7 +7,7 @@ use Rattle.merkle_core.specs.Hashing.{Hashing}
 use Rattle.merkle_core.specs.Multiproof.{MultiInput}
 use Rattle.merkle_core.specs.ProofSpelling.{parts_spelling}
 use Rattle.merkle_core.specs.Scheme.{Scheme}
-use Rattle.merkle_digest.specs.declared.digest.Sha256Digest.{Sha256Digest}
+use Rattle.merkle_sha256.specs.declared.sha256.Sha256Digest.{Sha256Digest}
 
 -- the bytes of a digest
 abbrev pub digest_bytes : Sha256Digest → List ℕ

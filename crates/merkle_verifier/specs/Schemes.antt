@@ -10,7 +10,7 @@ use Rattle.merkle_core.specs.Scheme.{Scheme, scheme_of}
 use Rattle.merkle_core.specs.Standard.{standard}
 use Rattle.merkle_base.specs.declared.family.Bagging.{Bagging}
 use Rattle.merkle_base.specs.declared.family.Bagging.TheVariants.{ForwardFold, BackwardFold}
-use Rattle.merkle_digest.specs.declared.digest.Sha256Digest.{Sha256Digest}
+use Rattle.merkle_sha256.specs.declared.sha256.Sha256Digest.{Sha256Digest}
 
 -- the hasher over SHA-256
 abbrev pub sha256_hashing : Hashing Sha256Digest

@@ -5,7 +5,7 @@ use Rattle.merkle_base.specs.declared.error.DecodeError.TheVariants.{EndOfBuffer
 use Rattle.merkle_core.specs.ProofSpelling.{parts_spelling, IsProofReadRefusal}
 use Rattle.merkle_verifier.specs.Answers.{yes, malformed, out_of_memory}
 use Rattle.merkle_verifier.specs.Inputs.{digest_bytes, IsSpelled}
-use Rattle.merkle_digest.specs.declared.digest.Sha256Digest.{Sha256Digest}
+use Rattle.merkle_sha256.specs.declared.sha256.Sha256Digest.{Sha256Digest}
 use Rattle.merkle_verifier.specs.declared.read.ReadError.{ReadError}
 use Rattle.merkle_verifier.specs.declared.read.ReadError.TheVariants.{Decode, Trailing}
 

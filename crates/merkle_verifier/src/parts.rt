@@ -2,7 +2,7 @@
 ghost use Rattle.std.specs.Prelude.{◌≡◌, ℕ, List, IfOk, IfSome, IsNone, length};
 ghost use Rattle.merkle_core.specs.Walk.{bytes_of};
 ghost use Rattle.merkle_verifier.specs.Inputs.{IsCut, joined_digests, located};
-ghost use Rattle.merkle_digest.specs.declared.digest.Sha256Digest.{Sha256Digest};
+ghost use Rattle.merkle_sha256.specs.declared.sha256.Sha256Digest.{Sha256Digest};
 
 use merkle_core::digest::{Digest, Sha256Digest};
 use merkle_core::location::Location;

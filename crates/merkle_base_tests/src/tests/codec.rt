@@ -4,7 +4,8 @@ ghost use Rattle.merkle_codec.specs.Spelling.{IsOptionRefusal};
 use merkle_base::error::DecodeError;
 use merkle_codec::codec::{EncodeSize, Read, Write};
 use merkle_codec::pending::{PendingChunk, Unused};
-use merkle_digest::digest::{Digest, Sha256Digest, Xor8Digest};
+use merkle_digest::digest::{Digest, Xor8Digest};
+use merkle_sha256::sha256::Sha256Digest;
 use std::alloc::Global;
 use std::test::Fail;
 

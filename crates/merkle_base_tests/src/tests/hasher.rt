@@ -1,7 +1,8 @@
 use super::OF_ABC;
 use merkle_base::family::Bagging;
-use merkle_digest::digest::{Digest, PlainHasher, Sha256Digest, Sha256Plain, Xor8, Xor8Digest};
+use merkle_digest::digest::{Digest, PlainHasher, Xor8, Xor8Digest};
 use merkle_hasher::hasher::Standard;
+use merkle_sha256::sha256::{Sha256Digest, Sha256Plain};
 use std::process::Abort;
 use std::test::Fail;
 

@@ -1,12 +1,13 @@
 use super::leaves::leaves_of_lengths;
 use merkle_base::family::Bagging;
-use merkle_digest::digest::{PlainHasher, Sha256Plain, Xor8};
+use merkle_digest::digest::{PlainHasher, Xor8};
 use merkle_fixtures::flat::Family;
 use merkle_fixtures::fours::Fours;
 use merkle_fixtures::keyed::Keyed;
 use merkle_fixtures::noting::Noting;
 use merkle_hasher::hasher::{Hasher, Standard};
 use merkle_hasher::leaves::leaf_digests;
+use merkle_sha256::sha256::Sha256Plain;
 use std::cell::Cell;
 use std::process::Abort;
 use std::test::Fail;
@@ -123,4 +124,47 @@ fn hashers_that_hash_together(rt: HostRuntime) {
     let keyed = Keyed::new(0x50, Bagging::ForwardFold);
     assert!(rt; !Hasher::<Family>::hashes_together(&keyed));
     assert!(rt; !Hasher::<Family>::hashes_together(&&keyed));
+}
+
+// A leaf is hashed after its position of 8 bytes, and at least 9 bytes of padding follow.
+#[test]
+fn numbers_of_blocks(rt: HostRuntime) {
+    let sha256 = Standard::<Sha256Plain>::new(Bagging::ForwardFold);
+    for (length, count) in [(0, 1), (55, 1), (56, 2), (119, 2), (120, 3), (1015, 16)] {
+        assert_eq!(rt; Sha256Plain::block_count(length), count, "{length} bytes");
+    }
+    for (length, count) in [(0, 1), (47, 1), (48, 2), (111, 2), (112, 3), (1007, 16)] {
+        let leaf = Hasher::<Family>::leaf_block_count(&sha256, length);
+        assert_eq!(rt; leaf, count, "an element of {length} bytes");
+        let same = Hasher::<Family>::leaf_block_count(&&sha256, length);
+        assert_eq!(rt; same, count, "an element of {length} bytes");
+    }
+    // All that are too long to be hashed together have the same number.
+    for length in [1016, 1100, 1_000_000, usize::MAX] {
+        assert_eq!(rt; Sha256Plain::block_count(length), 17, "{length} bytes");
+        let leaf = Hasher::<Family>::leaf_block_count(&sha256, length);
+        assert_eq!(rt; leaf, 17, "an element of {length} bytes");
+    }
+    let xor = Standard::<Xor8>::new(Bagging::ForwardFold);
+    assert!(rt; Xor8::block_count(72) == 0);
+    assert!(rt; Hasher::<Family>::leaf_block_count(&xor, 72) == 0);
+    let keyed = Keyed::new(0x50, Bagging::ForwardFold);
+    assert!(rt; Hasher::<Family>::leaf_block_count(&keyed, 72) == 0);
+}
+
+#[test]
+fn leaves_that_are_hashed_together(rt: HostRuntime) {
+    let sha256 = Standard::<Sha256Plain>::new(Bagging::ForwardFold);
+    assert!(rt; Sha256Plain::pays_together(1, 1, 1, 1));
+    assert!(rt; Sha256Plain::pays_together(1, 1, 1, 3));
+    assert!(rt; !Sha256Plain::pays_together(1, 1, 1, 4));
+    assert!(rt; Hasher::<Family>::pays_together(&sha256, 4, 2, 1, 1));
+    assert!(rt; !Hasher::<Family>::pays_together(&&sha256, 5, 2, 1, 1));
+    assert!(rt; Hasher::<Family>::pays_together(&&sha256, 16, 16, 16, 16));
+    assert!(rt; !Hasher::<Family>::pays_together(&sha256, 16, 16, 17, 16));
+    assert!(rt; !Xor8::pays_together(1, 1, 1, 1));
+    let xor = Standard::<Xor8>::new(Bagging::ForwardFold);
+    assert!(rt; !Hasher::<Family>::pays_together(&xor, 1, 1, 1, 1));
+    let keyed = Keyed::new(0x50, Bagging::ForwardFold);
+    assert!(rt; !Hasher::<Family>::pays_together(&keyed, 1, 1, 1, 1));
 }

@@ -1,9 +1,10 @@
 use merkle_base::family::Bagging;
-use merkle_digest::digest::{Sha256Plain, Xor8};
+use merkle_digest::digest::Xor8;
 use merkle_fixtures::flat::{Family, Position};
 use merkle_fixtures::keyed::Keyed;
 use merkle_hasher::hasher::{Hasher, Standard};
 use merkle_hasher::nodes::node_digests;
+use merkle_sha256::sha256::Sha256Plain;
 use std::alloc::Global;
 use std::process::Abort;
 use std::test::Fail;

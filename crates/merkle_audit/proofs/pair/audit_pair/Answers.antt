@@ -5,7 +5,7 @@ use Rattle.merkle_base.specs.Scheme.{Scheme}
 use Rattle.merkle_hasher.specs.Subtrees.{AreNodes}
 use Rattle.merkle_hasher.proofs.PeakNodes.{peaks_at}
 use Rattle.merkle_root_theory.specs.Reconstruction.{reconstructed}
-use Rattle.merkle_root_theory.specs.Walk.{bytes_of}
+use Rattle.merkle_hasher.specs.LeafDigests.{bytes_of}
 use Rattle.merkle_proof.specs.Input.{input_of}
 use Rattle.merkle_proof.proofs.HasherLaws.{sound}
 use Rattle.merkle_audit.specs.Claimed.{IsClaim}

@@ -7,7 +7,7 @@ use Rattle.merkle_base.specs.Scheme.{Scheme}
 use Rattle.merkle_hasher.specs.Subtrees.{AreNodes}
 use Rattle.merkle_hasher.proofs.PeakNodes.{peaks_at}
 use Rattle.merkle_root_theory.specs.Range.{list_inputs}
-use Rattle.merkle_root_theory.specs.Walk.{bytes_of}
+use Rattle.merkle_hasher.specs.LeafDigests.{bytes_of}
 use Rattle.merkle_claim_theory.specs.FirstCollision.{or_else}
 use Rattle.merkle_claim_theory.specs.Pinned.{AcceptsPinned, IsHonestPinned}
 use Rattle.merkle_claim_theory.specs.Verdict.{pinned_inputs}

@@ -9,8 +9,8 @@ use Rattle.merkle_hasher.specs.declared.subtree.Subtree.{Subtree}
 use Rattle.merkle_hasher.proofs.PeakNodes.{peaks_at}
 use Rattle.merkle_root_theory.specs.Outside.{folded_prefix, single_before, single_after, folded_suffix}
 use Rattle.merkle_root_theory.specs.Range.{end_of, overlapping, wholly_after}
-use Rattle.merkle_root_theory.specs.Walk.{bytes_of}
-use Rattle.merkle_range.proofs.LeafDigests.{length-leaf_digests}
+use Rattle.merkle_hasher.specs.LeafDigests.{bytes_of}
+use Rattle.merkle_hasher.proofs.LeafDigests.{length-leaf_digests}
 use Rattle.merkle_proof.specs.Input.{input_of}
 use Rattle.merkle_pins_theory.specs.PinnedNodes.{pinned_value}
 use Rattle.merkle_audit.specs.PinnedClaimed.{digest_given, pin_in}

@@ -4,9 +4,9 @@ use Rattle.merkle_base.specs.Scheme.{scheme_of}
 use Rattle.merkle_codec.specs.ProofSpelling.{IsProofReadRefusal}
 use Rattle.merkle_hasher.specs.Standard.{standard}
 use Rattle.merkle_proof.proofs.RefusedProofs.{is_memory}
-use Rattle.merkle_range.specs.Input.{range_input}
-use Rattle.merkle_range.proofs.LeafDigests.{length-leaf_digests}
-use Rattle.merkle_root_theory.specs.Walk.{bytes_of}
+use Rattle.merkle_core.specs.LeafDigests.{range_input}
+use Rattle.merkle_hasher.proofs.LeafDigests.{length-leaf_digests}
+use Rattle.merkle_hasher.specs.LeafDigests.{bytes_of}
 use Rattle.merkle_lines.specs.Answers.{error_line, most_digests, SaysOfInput}
 use Rattle.merkle_lines.specs.AnswerText.{answer_text}
 use Rattle.merkle_lines.specs.ErrorNames.{error_name}

@@ -1,5 +1,5 @@
 use Rattle.std.proofs.Common.{◌≡◌, ◌≤◌, length, map, take}
-use Rattle.merkle_root_theory.specs.Walk.{bytes_of}
+use Rattle.merkle_hasher.specs.LeafDigests.{bytes_of}
 use Rattle.merkle_lines.proofs.checking.lent.Given as goal
 
 abbrev pub invariant-loop-element : goal.invariant-loop-element

@@ -4,9 +4,9 @@ use Rattle.std.proofs.lemmas.List.{length-map}
 use Rattle.merkle_base.specs.Scheme.{scheme_of}
 use Rattle.merkle_codec.specs.ProofSpelling.{IsProofReadRefusal}
 use Rattle.merkle_hasher.specs.Standard.{standard}
-use Rattle.merkle_range.specs.Input.{range_input}
+use Rattle.merkle_core.specs.LeafDigests.{range_input}
 use Rattle.merkle_root_theory.specs.Reconstruction.{reconstructed}
-use Rattle.merkle_root_theory.specs.Walk.{bytes_of}
+use Rattle.merkle_hasher.specs.LeafDigests.{bytes_of}
 use Rattle.merkle_lines.specs.Answers.{error_line, most_digests}
 use Rattle.merkle_lines.proofs.Verdicts.{judged, no_bytes, other_peaks, says_which, unread}
 use Rattle.merkle_lines.proofs.checking.verdict.Goals as goal

@@ -1,6 +1,6 @@
 use Rattle.std.proofs.Common.{◌≡◌, ◌++◌, get_or, rules, ap, ◌∙◌}
 use Rattle.std.proofs.lemmas.List.{take_all}
-use Rattle.merkle_range.specs.Positioned.{positioned_digests}
+use Rattle.merkle_hasher.specs.LeafDigests.{positioned_digests}
 use Rattle.merkle_proof.proofs.LocatedDigests.{hashed, hashed-queued}
 use Rattle.merkle_proof.proofs.leaves.element_digests.Goals as goal
 

@@ -1,5 +1,5 @@
 use Rattle.std.proofs.Common.{◌≡◌, ◌++◌, take}
-use Rattle.merkle_range.specs.Positioned.{positioned_digests}
+use Rattle.merkle_hasher.specs.LeafDigests.{positioned_digests}
 use Rattle.merkle_proof.proofs.LocatedDigests.{hashed}
 use Rattle.merkle_proof.proofs.leaves.element_digests.Given as goal
 

@@ -1,9 +1,9 @@
-use Rattle.merkle_range.proofs.PeakWalk.{Passed}
+use Rattle.merkle_hasher.proofs.PeakWalk.{Walked}
 use Rattle.merkle_proof.proofs.ScatteredPositions.{Collected}
 use Rattle.merkle_proof.proofs.multi.scattered_positions.Given as goal
 
-abbrev pub invariant-loop-position : goal.invariant-loop-position
-invariant-loop-position g l =
-    (goal.iterator-loop-position g).can_next l.position-iterator ×
-    (goal.iterator-loop-position g).is_finite l.position-iterator ×
-    Passed g.F.Family.rule g.F.Family.MAX_LEAVES l.fn.leaves (g.F.Peaks.Listed.left l.position-iterator) l.first_leaf (Collected l.fn.locations l.positions.items l.rest l.first_leaf)
+abbrev pub invariant-loop-peak : goal.invariant-loop-peak
+invariant-loop-peak g l =
+    (goal.iterator-loop-peak g).can_next l.peak-iterator
+    × (goal.iterator-loop-peak g).is_finite l.peak-iterator
+    × Walked g.F.Family.rule l.fn.leaves l.peak-iterator (λ begin done _. Collected l.fn.locations l.positions.items l.rest begin done)

@@ -1,7 +1,7 @@
 use Rattle.std.proofs.Common.{◌≡◌, ◌++◌, ◌∷◌, [], sym, subst, take, rules, refl}
 use Rattle.std.proofs.lemmas.Result.{err_from_is_err_and}
 use Rattle.merkle_hasher.specs.Subtrees.{Denotes}
-use Rattle.merkle_range.proofs.PeakLoop.{element_means}
+use Rattle.merkle_reconstruction.proofs.NodeElements.{element_means}
 use Rattle.merkle_root_theory.proofs.PeakValues.{walk_more, short_peaks}
 use Rattle.merkle_range.proofs.ExtractionWalks.{stands_at, put_more}
 use Rattle.merkle_range.proofs.checks.reconstruct_peaks.Goals as goal

@@ -1,10 +1,10 @@
 use Rattle.std.proofs.Common.{◌<◌, length, Ok, rules, arith, ap, sym, ◌∙◌}
 use Rattle.std.proofs.lemmas.List.{length-map}
 use Rattle.std.proofs.lemmas.Result.{IfErr-weaker, IfOk-weaker}
-use Rattle.merkle_root_theory.specs.Walk.{bytes_of}
+use Rattle.merkle_hasher.specs.LeafDigests.{bytes_of}
 use Rattle.merkle_root_theory.proofs.Reconstruction.{root_unless, reconstructed-some, refusal-none}
 use Rattle.merkle_range.specs.Input.{range_input}
-use Rattle.merkle_range.proofs.LeafDigests.{length-leaf_digests}
+use Rattle.merkle_hasher.proofs.LeafDigests.{length-leaf_digests}
 use Rattle.merkle_range.proofs.checks.reconstruct_root.Goals as goal
 
 pub returns-clause-ok : goal.returns-clause-ok

@@ -11,11 +11,12 @@ use Rattle.merkle_range.proofs.IndividualPeaks.{before_dropped, after_taken, sin
 use Rattle.merkle_root_theory.specs.Layouts.{count_before, count_after, count_inactive}
 use Rattle.merkle_root_theory.specs.Check.{in_range}
 use Rattle.merkle_root_theory.specs.Range.{overlapping, wholly_after, end_of}
-use Rattle.merkle_root_theory.specs.Walk.{bytes_of, leaf_from, ArePeakDigests}
+use Rattle.merkle_hasher.specs.LeafDigests.{bytes_of}
+use Rattle.merkle_root_theory.specs.Walk.{leaf_from, ArePeakDigests}
 use Rattle.merkle_root_theory.proofs.Reconstruction.{refusal-start, refusal-end_past_limit, refusal-end, refusal-leaves, refusal-inactive, refusal-missing, refusal-extra}
 use Rattle.merkle_range.specs.Input.{range_input}
 use Rattle.merkle_hasher.proofs.PeakNodes.{peaks_at}
-use Rattle.merkle_range.proofs.LeafDigests.{leaves_given, length-leaf_digests}
+use Rattle.merkle_hasher.proofs.LeafDigests.{leaves_given, length-leaf_digests}
 use Rattle.merkle_range.proofs.RangeRoot.{outside_count, few_peaks, element_count, computed, digests_asked, never_empty, folds_given, all_put}
 use Rattle.merkle_range.proofs.checks.reconstruct_root_into.Goals as goal
 use Rattle.merkle_root_theory.proofs.Extraction.{all_filter}

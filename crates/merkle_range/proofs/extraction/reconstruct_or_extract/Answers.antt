@@ -2,11 +2,11 @@ use Rattle.std.proofs.Common.{◌≡◌, ◌<◌, List, length, Ok, [], ◌∷�
 use Rattle.std.proofs.lemmas.List.{length-map}
 use Rattle.std.proofs.lemmas.Result.{IfErr-weaker}
 use Rattle.merkle_root_theory.specs.Reconstruction.{reconstructed}
-use Rattle.merkle_root_theory.specs.Walk.{bytes_of}
+use Rattle.merkle_hasher.specs.LeafDigests.{bytes_of}
 use Rattle.merkle_root_theory.proofs.Extraction.{extracted-no_leaves}
 use Rattle.merkle_root_theory.proofs.Reconstruction.{root_unless, reconstructed-some, leaves_of_empty}
 use Rattle.merkle_range.specs.Input.{range_input}
-use Rattle.merkle_range.proofs.LeafDigests.{length-leaf_digests}
+use Rattle.merkle_hasher.proofs.LeafDigests.{length-leaf_digests}
 use Rattle.merkle_range.proofs.extraction.reconstruct_or_extract.Goals as goal
 
 nothing_given : {A : Type 0} (xs : List A) → length xs ≡ 0 → xs ≡ []

@@ -1,6 +1,7 @@
 use Rattle.std.proofs.Common.{sym, subst, take}
 use Rattle.merkle_hasher.specs.Subtrees.{Denotes}
-use Rattle.merkle_range.proofs.PeakLoop.{element_means, more_siblings}
+use Rattle.merkle_root_theory.proofs.Walks.{more_siblings}
+use Rattle.merkle_reconstruction.proofs.NodeElements.{element_means}
 use Rattle.merkle_range.proofs.groups.append_siblings.Goals as goal
 
 pub collect_siblings-requires-clause-node : goal.collect_siblings-requires-clause-node

@@ -5,7 +5,7 @@ use Rattle.merkle_claim_theory.specs.Rebuilt.{AllRebuilt, rebuilt_node}
 use Rattle.merkle_base.specs.Table.{digest_for}
 use Rattle.merkle_hasher.specs.Subtrees.{Denotes, subtree_of}
 use Rattle.merkle_range.proofs.IndividualPeaks.{drop_next, all_taken}
-use Rattle.merkle_range.proofs.PeakLoop.{element_means}
+use Rattle.merkle_reconstruction.proofs.NodeElements.{element_means}
 use Rattle.merkle_range.proofs.PinWalks.{each_more, each_other}
 use Rattle.merkle_range.proofs.pins.are_rebuilt.Goals as goal
 

@@ -5,7 +5,7 @@ use Rattle.merkle_base.specs.Table.{digest_for}
 use Rattle.merkle_hasher.specs.Subtrees.{Denotes, subtree_of}
 use Rattle.merkle_root_theory.specs.Plan.{left_fold_plan, peak}
 use Rattle.merkle_range.proofs.IndividualPeaks.{all_taken}
-use Rattle.merkle_range.proofs.PeakLoop.{element_means}
+use Rattle.merkle_reconstruction.proofs.NodeElements.{element_means}
 use Rattle.merkle_range.proofs.PinWalks.{fold_more}
 use Rattle.merkle_range.proofs.pins.rebuilt_fold.Goals as goal
 

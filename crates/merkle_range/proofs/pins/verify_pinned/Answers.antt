@@ -5,7 +5,7 @@ use Rattle.std.proofs.lemmas.Result.{IfOk-weaker}
 use Rattle.merkle_base.specs.Places.{peaks_of}
 use Rattle.merkle_base.specs.Scheme.{Scheme}
 use Rattle.merkle_hasher.proofs.Spans.{max_small}
-use Rattle.merkle_root_theory.specs.Walk.{bytes_of}
+use Rattle.merkle_hasher.specs.LeafDigests.{bytes_of}
 use Rattle.merkle_root_theory.proofs.Reconstruction.{leads_is_accepted}
 use Rattle.merkle_range.specs.Input.{range_input}
 use Rattle.merkle_range.proofs.PinChecks.{range_accepted, empty_accepted, some_accepted, pins_counted, rebuilt_accepted, length-peak_positions, input_count, fitting, before_rebuilt}

@@ -2,7 +2,7 @@ use Rattle.std.proofs.Common.{[], ◌∷◌, ℕ, List, subst, refl, inl, inr, r
 use Rattle.merkle_codec.specs.NumberLaws.{lawful_locations}
 use Rattle.merkle_core.specs.LeafDigests.{range_input}
 use Rattle.merkle_core.specs.Scheme.{scheme_of}
-use Rattle.merkle_digest.specs.declared.digest.Sha256Digest.{Sha256Digest}
+use Rattle.merkle_sha256.specs.declared.sha256.Sha256Digest.{Sha256Digest}
 use Rattle.merkle_verifier.specs.Answers.{JudgesRange, no, yes}
 use Rattle.merkle_verifier.specs.Schemes.{sha256_hashing}
 use Rattle.merkle_verifier.proofs.Spelled.{unread}

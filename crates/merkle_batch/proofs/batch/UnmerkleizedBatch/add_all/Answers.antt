@@ -2,9 +2,8 @@ use Rattle.std.proofs.Common.{◌≡◌, ◌+◌, ◌++◌, length, length-appen
 use Rattle.std.proofs.lemmas.List.{length-map}
 use Rattle.merkle_batch_theory.specs.Unmerkleized.{leaf_total, pending_list, with_leaves}
 use Rattle.merkle_batch_theory.proofs.PendingUpdates.{leaves_list}
-use Rattle.merkle_range.specs.Input.{leaf_digests}
-use Rattle.merkle_root_theory.specs.Walk.{bytes_of}
-use Rattle.merkle_range.proofs.LeafDigests.{length-leaf_digests}
+use Rattle.merkle_hasher.specs.LeafDigests.{bytes_of, leaf_digests}
+use Rattle.merkle_hasher.proofs.LeafDigests.{length-leaf_digests}
 use Rattle.merkle_batch.proofs.MerkleizeFacts.{of_fields}
 use Rattle.merkle_batch.proofs.batch.UnmerkleizedBatch.add_all.Goals as goal
 

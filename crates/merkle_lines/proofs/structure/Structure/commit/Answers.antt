@@ -2,7 +2,7 @@ use Rattle.std.proofs.Common.{refl, sym, ap, subst, ◌∙◌, ◌≡◌, List, 
 use Rattle.merkle_base.specs.Hashing.{Hashing}
 use Rattle.merkle_base.specs.Scheme.{scheme_of}
 use Rattle.merkle_hasher.specs.Standard.{standard}
-use Rattle.merkle_range.specs.Input.{leaf_digests}
+use Rattle.merkle_hasher.specs.LeafDigests.{leaf_digests}
 use Rattle.std.specs.Prelude.{is_some}
 use Rattle.merkle_base.specs.Forest.{size}
 use Rattle.merkle_base.specs.declared.error.Error.TheVariants.{OutOfMemory}

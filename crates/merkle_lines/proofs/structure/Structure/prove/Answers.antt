@@ -6,8 +6,8 @@ use Rattle.merkle_base.specs.Scheme.{scheme_of}
 use Rattle.std.specs.FinMap.{get}
 use Rattle.merkle_codec.specs.ProofSpelling.{parts_spelling, proof_spelling}
 use Rattle.merkle_hasher.specs.Standard.{standard}
-use Rattle.merkle_range.specs.Input.{leaf_digests}
-use Rattle.merkle_range.proofs.LeafDigests.{length-leaf_digests}
+use Rattle.merkle_hasher.specs.LeafDigests.{leaf_digests}
+use Rattle.merkle_hasher.proofs.LeafDigests.{length-leaf_digests}
 use Rattle.merkle_base.specs.Digests.{node_digests}
 use Rattle.merkle_batch_theory.specs.Contents.{is_kept}
 use Rattle.merkle_proof.specs.ProofRefusals.{IsRangeRefusal}

@@ -3,7 +3,7 @@ use Rattle.merkle_base.specs.Hashing.{Hashing}
 use Rattle.merkle_base.specs.Scheme.{scheme_of}
 use Rattle.merkle_hasher.specs.Standard.{standard}
 use Rattle.merkle_hasher.proofs.Comparisons.{ge_yes}
-use Rattle.merkle_range.specs.Input.{leaf_digests}
+use Rattle.merkle_hasher.specs.LeafDigests.{leaf_digests}
 use Rattle.merkle_base.specs.Forest.{size}
 use Rattle.merkle_base.specs.declared.error.Error.TheVariants.{LeafOutOfBounds}
 use Rattle.merkle_batch_theory.specs.Unmerkleized as pending
@@ -15,7 +15,7 @@ use Rattle.merkle_lines.proofs.Holdings.{held_with, held_without}
 use Rattle.merkle_lines.proofs.Making.{made_total, makes_update}
 use Rattle.merkle_lines.proofs.Replies.{update_done, update_out, wanting, wanting_hex}
 use Rattle.merkle_lines.proofs.Updates.{update_allowed, update_failed}
-use Rattle.merkle_range.proofs.LeafDigests.{length-leaf_digests}
+use Rattle.merkle_hasher.proofs.LeafDigests.{length-leaf_digests}
 use Rattle.merkle_commands.specs.declared.command.Request.TheVariants.{Update}
 use Rattle.merkle_lines.proofs.structure.Structure.update.Goals as goal
 

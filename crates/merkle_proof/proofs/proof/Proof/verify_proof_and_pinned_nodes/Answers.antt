@@ -3,7 +3,7 @@ use Rattle.merkle_claim_theory.specs.Pinned.{AcceptsPinnedCases}
 use Rattle.merkle_claim_theory.proofs.AcceptedInputs.{pinned_cases}
 use Rattle.merkle_claim_theory.proofs.PinnedChecks.{honest_pinned_is_accepted, accepted_pinned_is_honest}
 use Rattle.merkle_claim_theory.proofs.RebuiltPins.{pins_give_old_root}
-use Rattle.merkle_root_theory.specs.Walk.{bytes_of}
+use Rattle.merkle_hasher.specs.LeafDigests.{bytes_of}
 use Rattle.merkle_root_theory.proofs.Grouping.{if_ok}
 use Rattle.merkle_root_theory.proofs.ListRoots.{roots_agree}
 use Rattle.merkle_root_theory.proofs.NamedRoots.{yes_names_root}

@@ -3,7 +3,7 @@ use Rattle.merkle_root_theory.specs.Range.{Accepts}
 use Rattle.merkle_root_theory.specs.Reconstruction.{reconstructed}
 use Rattle.merkle_root_theory.proofs.Reconstruction.{leads_is_accepted}
 use Rattle.merkle_proof.specs.Input.{input_of}
-use Rattle.merkle_root_theory.specs.Walk.{bytes_of}
+use Rattle.merkle_hasher.specs.LeafDigests.{bytes_of}
 use Rattle.merkle_root_theory.proofs.NamedRoots.{yes_names_root}
 use Rattle.merkle_root_theory.proofs.RangeChecks.{honest_is_accepted, accepted_is_honest}
 use Rattle.merkle_range.proofs.RangeRoot.{same_input}

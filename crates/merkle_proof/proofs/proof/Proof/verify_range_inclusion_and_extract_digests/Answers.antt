@@ -5,7 +5,7 @@ use Rattle.merkle_base.specs.declared.error.Error.TheVariants.{OutOfMemory}
 use Rattle.merkle_root_theory.specs.Extract.{extracted, IsNodePair}
 use Rattle.merkle_root_theory.specs.Range.{AcceptsNonempty, RangeCollides}
 use Rattle.merkle_root_theory.specs.Reconstruction.{reconstructed}
-use Rattle.merkle_root_theory.specs.Walk.{bytes_of}
+use Rattle.merkle_hasher.specs.LeafDigests.{bytes_of}
 use Rattle.merkle_root_theory.proofs.Extraction.{extracts_nodes, extracted-no_leaves}
 use Rattle.merkle_root_theory.proofs.Reconstruction.{leads_is_accepted}
 use Rattle.merkle_range.specs.Extracting.{IsExtractionRefusal}

@@ -4,10 +4,10 @@ use Rattle.std.proofs.lemmas.Result.{IfOk-weaker}
 use Rattle.merkle_base.proofs.Limits.{lawful_leaves}
 use Rattle.merkle_base.specs.Scheme.{Scheme}
 use Rattle.merkle_root_theory.specs.Range.{AcceptsNonempty}
-use Rattle.merkle_root_theory.specs.Walk.{bytes_of}
+use Rattle.merkle_hasher.specs.LeafDigests.{bytes_of}
 use Rattle.merkle_store_theory.specs.StoreValue.{StoreValue, store_of}
 use Rattle.merkle_proof.specs.Input.{input_of}
-use Rattle.merkle_range.proofs.LeafDigests.{length-leaf_digests}
+use Rattle.merkle_hasher.proofs.LeafDigests.{length-leaf_digests}
 use Rattle.merkle_verification.specs.StoreParts.{IsInput}
 use Rattle.merkle_verification.proofs.KeptStores.{accepted_some}
 use Rattle.merkle_verification.proofs.store.ProofStore.new.Goals as goal

@@ -7,7 +7,7 @@ use Rattle.merkle_root_theory.specs.Reconstruction.{reconstructed}
 use Rattle.merkle_root_theory.proofs.Reconstruction.{leads_is_accepted}
 use Rattle.merkle_store_theory.specs.StoreValue.{StoreValue}
 use Rattle.merkle_range.specs.Input.{range_input}
-use Rattle.merkle_range.proofs.LeafDigests.{length-leaf_digests}
+use Rattle.merkle_hasher.proofs.LeafDigests.{length-leaf_digests}
 use Rattle.merkle_proof.specs.Input.{input_of}
 use Rattle.merkle_proof.specs.declared.proof.Proof.{Proof}
 use Rattle.merkle_proof.proofs.RefusedProofs.{is_memory}

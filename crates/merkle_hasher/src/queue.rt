@@ -1,0 +1,79 @@
+//! The leaf digests of elements, which wait until several are computed at a time.
+ghost use Rattle.std.specs.Prelude.{◌≡◌, ◌≤◌, ◌+◌, ◌++◌, ◌∷◌, List, [], OnOk, length};
+ghost use Rattle.merkle_hasher.specs.LeafDigests.{bytes_of, leaf_digests, positioned_digests};
+
+use crate::hasher::Hasher;
+use crate::leaves::leaf_digests;
+use merkle_base::family::Family;
+use merkle_base::location::Location;
+use merkle_base::position::Position;
+use std::alloc::{AllocError, Global};
+
+/// How many leaves are positioned before they are hashed; a multiple of four, so that all but the last
+/// leaves are hashed four at a time.
+const LEAVES_AT_ONCE: usize = 64;
+
+/// Appends a leaf to those that wait to be hashed.
+///
+/// Once they are [`LEAVES_AT_ONCE`], their digests are appended to `digests`, in their order, and none
+/// waits any more. So the digests and after them those of the waiting leaves are those of all leaves
+/// so far.
+///
+/// # Errors
+///
+/// - `AllocError` if a memory request is refused.
+///
+/// # Examples
+///
+/// ```
+/// let mut waiting = Vec::new(alloc);
+/// let mut digests = Vec::new(alloc);
+/// for (location, element) in leaves {
+///     queue_leaf(hasher, F::location_to_position(location), element, &mut waiting, &mut digests)?;
+/// }
+/// leaf_digests(hasher, &waiting, &mut digests)?;
+/// ```
+pub fn queue_leaf<'a, F: Family, T: Hasher<F>>(
+    hasher: &T,
+    position: Position<F>,
+    element: &'a [u8],
+    waiting: &mut Vec<(Position<F>, &'a [u8])>,
+    digests: &mut Vec<T::Digest>,
+) -> Result<(), AllocError>
+    ensures { OnOk result (digests.new.items ++ positioned_digests (T.hashing hasher.now) waiting.new.items
+        ≡ (digests.old.items ++ positioned_digests (T.hashing hasher.now) waiting.old.items) ++ (T.hashing hasher.now).leaf position element.now ∷ []) }
+{
+    let Ok(()) = waiting.push((position, element)) else {
+        return Err(AllocError);
+    };
+    if waiting.len() < LEAVES_AT_ONCE {
+        return Ok(());
+    }
+    leaf_digests(hasher, waiting, digests)?;
+    waiting.clear();
+    Ok(())
+}
+
+/// Appends the digests of the leaves with these elements, in their order, from location `first` on.
+///
+/// Requires that the last leaf is within [`MAX_LEAVES`](Family::MAX_LEAVES).
+pub fn push_leaf_digests<F: Family, T: Hasher<F>>(
+    alloc: Global,
+    hasher: &T,
+    first: Location<F>,
+    elements: &[&[u8]],
+    digests: &mut Vec<T::Digest>,
+) -> Result<(), AllocError>
+    requires { first + length elements.now ≤ F.MAX_LEAVES }
+    ensures { OnOk result (digests.new.items ≡ digests.old.items
+        ++ leaf_digests (T.hashing hasher.now) F.rule first (bytes_of elements.now)) }
+{
+    let mut waiting = Vec::new(alloc);
+    let mut location = first;
+    for element in elements {
+        let position = F::location_to_position(location);
+        queue_leaf(hasher, position, element, &mut waiting, digests)?;
+        location += 1;
+    }
+    leaf_digests(hasher, &waiting, digests)
+}

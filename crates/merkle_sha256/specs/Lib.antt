@@ -1,0 +1,3 @@
+pub mod Sha256Laws
+-- passed on
+pub use Rattle.merkle_lanes.specs.Together
