@@ -14,8 +14,8 @@ use Rattle.merkle_claim_theory.specs.MultiClaim.{also, or_empty, multi_tree}
 use Rattle.merkle_scattered.proofs.ScatteredElements.{given_unmet}
 use Rattle.merkle_audit_theory.specs.Seen.{Sees}
 use Rattle.merkle_audit.specs.Chosen.{is_among, digest_by, pair_by}
-use Rattle.merkle_audit.specs.Hashed.{found_over}
-use Rattle.merkle_audit.proofs.Walks.{other_silent, at_both, search_below}
+use Rattle.merkle_range_audit.specs.Hashed.{found_over}
+use Rattle.merkle_range_audit.proofs.Walks.{other_silent, at_both, search_below}
 
 -- ---- at one node
 module _ {D : Type 0} (h : Hashing D) (ps : List ℕ) (ds : List D) (is : List ℕ) (ls : List D) where

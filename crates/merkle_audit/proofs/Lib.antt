@@ -1,15 +1,8 @@
-pub mod Claims
-pub mod FoldLists
 pub mod GivenLeaves
 pub mod GivenNodes
-pub mod Lists
 pub mod ListsFound
 pub mod MultiFound
 pub mod PinLookups
 pub mod PinnedClaims
 pub mod PinnedSearched
 pub mod PinnedWalks
-pub mod Searched
-pub mod Tops
-pub mod Verdicts
-pub mod Walks

@@ -29,11 +29,11 @@ use Rattle.merkle_audit_theory.proofs.RootSearches.{multi_searched}
 use Rattle.merkle_audit_theory.proofs.SeenNodes.{multi_sees}
 use Rattle.merkle_audit_theory.proofs.TieredInputs.{fold_tier, multi_tier, node_tier}
 use Rattle.merkle_audit.specs.declared.scattered.LeafProof.{LeafProof}
-use Rattle.merkle_audit.specs.declared.top.Top.{Top}
+use Rattle.merkle_range_audit.specs.declared.top.Top.{Top}
 use Rattle.merkle_audit.specs.Chosen.{is_among, digest_by, pair_by, digest_given, pair_given, multi_pair}
-use Rattle.merkle_audit.specs.Hashed.{fold_at, top_of}
-use Rattle.merkle_audit.specs.Listed.{digest_in, IsOfList}
-use Rattle.merkle_audit.proofs.Lists.{batch_sees, numbered_whole}
+use Rattle.merkle_range_audit.specs.Hashed.{fold_at, top_of}
+use Rattle.merkle_range_audit.specs.Listed.{digest_in, IsOfList}
+use Rattle.merkle_range_audit.proofs.Lists.{batch_sees, numbered_whole}
 
 -- ---- what is given is the input
 module _ {F D : Type 0} (s : Scheme D) (r : MultiInput D) (h : Hashing D) (h_is : h ≡ s.hashing) (given : LeafProof F D) (positions : given.positions.now ≡ multi_positions s.rule r.leaves (locations_in r))

@@ -4,9 +4,8 @@ use Rattle.std.proofs.lemmas.List.{length-take}
 use Rattle.std.specs.List.{AllByRecursion}
 use Rattle.std.specs.Option.{unwrap_or}
 use Rattle.merkle_base.specs.Forest.{forest}
-use Rattle.merkle_base.specs.Hashing.{Hashing}
 use Rattle.merkle_base.specs.Places.{peaks_of, wholly_before}
-use Rattle.merkle_base.specs.Root.{list_root, folded, root_string}
+use Rattle.merkle_base.specs.Root.{folded, root_string}
 use Rattle.merkle_base.specs.Scheme.{Scheme}
 use Rattle.merkle_base.specs.Table.{digest_for}
 use Rattle.merkle_base.specs.Tree.{Tree}
@@ -16,7 +15,7 @@ use Rattle.merkle_base.specs.declared.family.Bagging.{Bagging}
 use Rattle.merkle_base.specs.declared.family.Bagging.TheVariants.{ForwardFold, BackwardFold}
 use Rattle.merkle_root_theory.specs.Check.{RangeInput, in_range, chosen, leaf_given, all_inputs}
 use Rattle.merkle_root_theory.specs.Collision.{Member}
-use Rattle.merkle_root_theory.specs.Expression.{Root, Bytes, Input, visited}
+use Rattle.merkle_root_theory.specs.Expression.{Root, Bytes, visited}
 use Rattle.merkle_root_theory.specs.Extract.{extracted}
 use Rattle.merkle_root_theory.specs.Layouts.{count_before, count_after}
 use Rattle.merkle_root_theory.specs.Outside.{folded_prefix, single_before, single_after, folded_suffix}
@@ -46,11 +45,11 @@ use Rattle.merkle_pins_theory.proofs.PinnedParts.{pinned_digests}
 use Rattle.merkle_pins_theory.proofs.PinnedTiers.{pins_tier, pinned_over_tier}
 use Rattle.merkle_audit_theory.proofs.TieredInputs.{tiers_joined, fold_tier}
 use Rattle.merkle_audit.specs.declared.pin_nodes.PinnedNodes.{PinnedNodes}
-use Rattle.merkle_audit.specs.declared.top.Top.{Top}
-use Rattle.merkle_audit.specs.Hashed.{fold_at, top_of}
+use Rattle.merkle_range_audit.specs.declared.top.Top.{Top}
+use Rattle.merkle_range_audit.specs.Hashed.{fold_at}
 use Rattle.merkle_audit.specs.PinnedClaimed.{digest_given, pin_in, pinned_pair, IsPinnedClaim}
-use Rattle.merkle_audit.proofs.Lists.{numbered_whole}
-use Rattle.merkle_audit.proofs.Verdicts.{one_ok}
+use Rattle.merkle_range_audit.proofs.Lists.{numbered_whole}
+use Rattle.merkle_range_audit.proofs.Verdicts.{one_ok}
 
 -- the digests given before the range, and those after it, by numbers of peaks
 module _ {D : Type 0} (s : Scheme D) (r : RangeInput D) (folded alone count single suffix : ℕ)

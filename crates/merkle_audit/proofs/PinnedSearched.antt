@@ -1,12 +1,11 @@
 -- What the search of an accepted range input with pins finds is the first collision, and what the audit says of it.
-use Rattle.std.proofs.Common.{◌≡◌, ◌≢◌, ℕ, ◌≤◌, true, false, List, ◌∷◌, ◌++◌, map, flat_map, length, refl, ap, sym, ◌∙◌, subst, Option, Some}
+use Rattle.std.proofs.Common.{◌≡◌, ◌≢◌, ℕ, ◌≤◌, true, false, List, ◌++◌, map, flat_map, length, refl, ap, sym, ◌∙◌, subst, Option, Some}
 use Rattle.std.proofs.lemmas.Bool.{false≢true}
 use Rattle.std.specs.List.{AllByRecursion}
 use Rattle.merkle_base.specs.Digests.{peak_digests}
 use Rattle.merkle_base.specs.Places.{peaks_of}
 use Rattle.merkle_base.specs.Root.{list_root}
 use Rattle.merkle_base.specs.Scheme.{Scheme}
-use Rattle.merkle_base.specs.Tree.{Tree}
 use Rattle.merkle_base.proofs.Lists.{cons_tail}
 use Rattle.merkle_batch_theory.specs.Records.{MerkleizedModel}
 use Rattle.merkle_root_theory.specs.Check.{RangeInput}
@@ -30,11 +29,11 @@ use Rattle.merkle_audit_theory.proofs.PeakInputs.{inputs_by_peaks}
 use Rattle.merkle_audit_theory.proofs.RootSearches.{pinned_searched}
 use Rattle.merkle_audit_theory.proofs.TieredInputs.{fold_tier, node_tier}
 use Rattle.merkle_audit.specs.declared.pin_nodes.PinnedNodes.{PinnedNodes}
-use Rattle.merkle_audit.specs.declared.top.Top.{Top}
-use Rattle.merkle_audit.specs.Hashed.{fold_at, top_of}
-use Rattle.merkle_audit.specs.Listed.{digest_in, IsOfList}
+use Rattle.merkle_range_audit.specs.declared.top.Top.{Top}
+use Rattle.merkle_range_audit.specs.Hashed.{fold_at, top_of}
+use Rattle.merkle_range_audit.specs.Listed.{digest_in, IsOfList}
 use Rattle.merkle_audit.specs.PinnedClaimed.{pinned_pair, IsPinnedClaim}
-use Rattle.merkle_audit.proofs.Lists.{batch_sees}
+use Rattle.merkle_range_audit.proofs.Lists.{batch_sees}
 
 module _ {F D P Q : Type 0} (s : Scheme D) (size max_nodes : ℕ) (sound : IsLawfulScheme s size max_nodes) (none : D)
     (X : List D) (k : ℕ) (few : length X ≤ s.max_leaves) (low : k ≤ length (peaks_of s.rule (length X))) (r : RangeInput D) (pins : List D) (ok : AcceptsPinned s r pins (list_root s X k))

@@ -1,6 +1,4 @@
 pub mod Chosen
-pub mod Claimed
-pub mod Found
-pub mod Hashed
-pub mod Listed
 pub mod PinnedClaimed
+-- passed on
+pub use Rattle.merkle_range_audit.specs.Found

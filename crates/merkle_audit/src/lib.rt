@@ -6,23 +6,16 @@
 #![tactic(auto)]
 
 mod apply;
-mod claim;
-mod list;
 mod multi;
-mod nodes;
 mod pair;
 mod pin_nodes;
 mod pins;
-mod place;
-mod range;
 mod scattered;
-mod top;
-mod verdict;
 
 pub use crate::apply::audit_apply;
 pub use crate::multi::audit_multi;
 pub use crate::pair::audit_pair;
 pub use crate::pins::audit_pins;
-pub use crate::place::{Argument, Place};
-pub use crate::range::audit_range;
-pub use crate::verdict::{ApplyVerdict, PairVerdict, Verdict};
+pub use merkle_range_audit::place::{Argument, Place};
+pub use merkle_range_audit::range::audit_range;
+pub use merkle_range_audit::verdict::{ApplyVerdict, PairVerdict, Verdict};

@@ -15,15 +15,10 @@ ghost use Rattle.merkle_audit_theory.specs.Folds.{top_inputs, multi_digest};
 ghost use Rattle.merkle_audit_theory.specs.Searches.{looked_up};
 ghost use Rattle.merkle_audit_theory.specs.Seen.{Sees};
 ghost use Rattle.merkle_audit.specs.Chosen.{multi_pair};
-ghost use Rattle.merkle_audit.specs.Found.{list_refusals, IsMultiVerdict};
-ghost use Rattle.merkle_audit.specs.Hashed.{located, top_of};
+ghost use Rattle.merkle_range_audit.specs.Found.{list_refusals, IsMultiVerdict};
+ghost use Rattle.merkle_range_audit.specs.Hashed.{located, top_of};
 
-use crate::list::HashedList;
-use crate::nodes::{Hashes, first_of};
-use crate::range::verdict;
 use crate::scattered::{LeafProof, walk_all};
-use crate::top::{Shape, Top, above_peaks, first_above};
-use crate::verdict::{Collision, Verdict};
 use merkle_core::error::Error;
 use merkle_core::family::Family;
 use merkle_core::hasher::Hasher;
@@ -31,6 +26,11 @@ use merkle_core::location::Location;
 use merkle_core::position::Position;
 use merkle_core::proof::{Proof, multi_proof_positions};
 use merkle_hasher::peaks::list_peaks;
+use merkle_range_audit::list::HashedList;
+use merkle_range_audit::nodes::{Hashes, first_of};
+use merkle_range_audit::range::verdict;
+use merkle_range_audit::top::{Shape, Top, above_peaks, first_above};
+use merkle_range_audit::verdict::{Collision, Verdict};
 use std::alloc::{AllocError, Global};
 
 // Returns the locations of elements.

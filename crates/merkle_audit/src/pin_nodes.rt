@@ -12,12 +12,9 @@ ghost use Rattle.merkle_audit_theory.specs.Differences.{is_difference};
 ghost use Rattle.merkle_pins_theory.specs.PinnedNodes.{pinned_value, SeesDown};
 ghost use Rattle.merkle_audit_theory.specs.Searches.{looked_up};
 ghost use Rattle.merkle_audit_theory.specs.Seen.{Sees};
-ghost use Rattle.merkle_audit.specs.Hashed.{located};
+ghost use Rattle.merkle_range_audit.specs.Hashed.{located};
 ghost use Rattle.merkle_audit.specs.PinnedClaimed.{digest_given, pin_in, pinned_pair};
 
-use crate::nodes::{Hashes, are_same};
-use crate::place::{Argument, Place};
-use crate::verdict::Collision;
 use merkle_core::digest::Digest;
 use merkle_core::family::Family;
 use merkle_core::hasher::Hasher;
@@ -25,6 +22,9 @@ use merkle_core::location::Location;
 use merkle_core::position::Position;
 use merkle_core::subtree::Subtree;
 use merkle_core::verification::ProofStore;
+use merkle_range_audit::nodes::{Hashes, are_same};
+use merkle_range_audit::place::{Argument, Place};
+use merkle_range_audit::verdict::Collision;
 use std::alloc::{AllocError, Global};
 
 /// The digests of the nodes that a check of a range with pins rebuilds, computes or is given.

@@ -11,15 +11,10 @@ ghost use Rattle.merkle_hasher.specs.LeafDigests.{bytes_of};
 ghost use Rattle.merkle_claim_theory.specs.Pinned.{AcceptsPinned};
 ghost use Rattle.merkle_store_theory.specs.StoreValue.{store_of};
 ghost use Rattle.merkle_pins_theory.specs.PinnedNodes.{pinned_value};
-ghost use Rattle.merkle_audit.specs.Found.{list_refusals, IsPinnedVerdict};
+ghost use Rattle.merkle_range_audit.specs.Found.{list_refusals, IsPinnedVerdict};
 ghost use Rattle.merkle_audit.specs.PinnedClaimed.{digest_given, pin_in, IsPinnedClaim};
 
-use crate::list::HashedList;
-use crate::nodes::first_of;
 use crate::pin_nodes::{PinnedNodes, first_pinned_below, pin_positions, pinned_digest};
-use crate::range::verdict;
-use crate::top::{Shape, Top, above_peaks, first_above};
-use crate::verdict::Verdict;
 use merkle_core::digest::Digest;
 use merkle_core::error::Error;
 use merkle_core::family::Family;
@@ -30,6 +25,11 @@ use merkle_core::range_plan::{Groups, RangePlan};
 use merkle_core::subtree::Subtree;
 use merkle_core::verification::ProofStore;
 use merkle_hasher::peaks::list_peaks;
+use merkle_range_audit::list::HashedList;
+use merkle_range_audit::nodes::first_of;
+use merkle_range_audit::range::verdict;
+use merkle_range_audit::top::{Shape, Top, above_peaks, first_above};
+use merkle_range_audit::verdict::Verdict;
 use std::alloc::{AllocError, Global};
 use std::ops::Range;
 

@@ -13,16 +13,16 @@ ghost use Rattle.merkle_audit_theory.specs.Differences.{is_difference};
 ghost use Rattle.merkle_audit_theory.specs.Searches.{looked_up};
 ghost use Rattle.merkle_audit_theory.specs.Seen.{Sees};
 ghost use Rattle.merkle_audit.specs.Chosen.{is_among, digest_given, pair_given, ProofAscends};
-ghost use Rattle.merkle_audit.specs.Hashed.{located};
+ghost use Rattle.merkle_range_audit.specs.Hashed.{located};
 
-use crate::nodes::{Hashes, first_of, first_over};
-use crate::verdict::Collision;
 use merkle_core::digest::Digest;
 use merkle_core::family::Family;
 use merkle_core::hasher::Hasher;
 use merkle_core::location::Location;
 use merkle_core::position::Position;
 use merkle_core::subtree::Subtree;
+use merkle_range_audit::nodes::{Hashes, first_of, first_over};
+use merkle_range_audit::verdict::Collision;
 use std::alloc::AllocError;
 
 /// What a check of scattered leaves is given.

@@ -3,7 +3,7 @@ ghost use Rattle.std.specs.Prelude.{◌≡◌, ◌≤◌, ◌⊎◌, ◌++◌, �
 ghost use Rattle.std.specs.List.{AllByRecursion};
 ghost use Rattle.std.specs.String.{string_bytes};
 ghost use Rattle.hex.specs.Hex.{encode_lower};
-ghost use Rattle.merkle_audit.specs.Found.{argument_of, collision_of, place_of, IsRangeVerdict};
+ghost use Rattle.merkle_range_audit.specs.Found.{argument_of, collision_of, place_of, IsRangeVerdict};
 ghost use Rattle.merkle_audit_theory.specs.PlainHash.{joined_at, string_at};
 ghost use Rattle.merkle_base.specs.Hashing.{IsOver};
 ghost use Rattle.merkle_base.specs.Scheme.{Scheme, scheme_of};
@@ -18,7 +18,6 @@ ghost use Rattle.merkle_root_theory.specs.Check.{RangeInput};
 
 use crate::answer::{Answer, Named, Spot, or_fault};
 use crate::checking::{lent, read_elements};
-use merkle_audit::{Argument, Place, Verdict, audit_range};
 use merkle_commands::hex_words::{read_hex, write_hex};
 use merkle_core::codec::Read;
 use merkle_core::digest::{Digest, PlainHasher};
@@ -27,6 +26,9 @@ use merkle_core::family::Family;
 use merkle_core::hasher::Standard;
 use merkle_core::location::Location;
 use merkle_core::proof::{MAX_PROOF_DIGESTS_PER_ELEMENT, Proof};
+use merkle_range_audit::place::{Argument, Place};
+use merkle_range_audit::range::audit_range;
+use merkle_range_audit::verdict::Verdict;
 use std::alloc::Global;
 
 // Returns how a place is printed.

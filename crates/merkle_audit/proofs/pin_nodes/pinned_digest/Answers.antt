@@ -1,8 +1,8 @@
-use Rattle.std.proofs.Common.{◌+◌, arith, ap, sym, ◌∙◌}
+use Rattle.std.proofs.Common.{arith, ap, sym, ◌∙◌}
 use Rattle.merkle_hasher.proofs.Comparisons.{le_yes, le_no}
 use Rattle.merkle_audit.specs.PinnedClaimed.{digest_given, pin_in}
 use Rattle.merkle_audit.proofs.PinnedWalks.{value_before, value_other}
-use Rattle.merkle_audit.proofs.Walks.{stands}
+use Rattle.merkle_range_audit.proofs.Walks.{stands}
 use Rattle.merkle_audit.proofs.pin_nodes.pinned_digest.Goals as goal
 
 pub returns-then-le : goal.returns-then-le

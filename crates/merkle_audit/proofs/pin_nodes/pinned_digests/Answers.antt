@@ -1,9 +1,9 @@
-use Rattle.std.proofs.Common.{◌≡◌, ◌≤◌, ◌<◌, ◌+◌, arith, ap, sym, ◌∙◌, Some, None}
-use Rattle.merkle_base.specs.Tree.{join, first_leaf, end_leaf}
+use Rattle.std.proofs.Common.{arith, ap, sym, ◌∙◌}
+use Rattle.merkle_base.specs.Tree.{join, first_leaf}
 use Rattle.merkle_hasher.proofs.Comparisons.{le_yes, le_no, ge_yes, ge_no}
 use Rattle.merkle_audit.specs.PinnedClaimed.{digest_given, pin_in}
 use Rattle.merkle_audit.proofs.PinnedWalks.{children_pinned, children_rebuilt, children_after, children_over}
-use Rattle.merkle_audit.proofs.Walks.{stands}
+use Rattle.merkle_range_audit.proofs.Walks.{stands}
 use Rattle.merkle_audit.proofs.pin_nodes.pinned_digests.Goals as goal
 
 pub returns-in-Some : goal.returns-in-Some

@@ -2,7 +2,7 @@ use Rattle.std.proofs.Common.{◌∷◌, [], ◌++◌, arith, map, ap, sym, ◌�
 use Rattle.std.proofs.lemmas.Result.{on_ok_weaker}
 use Rattle.merkle_audit.specs.PinnedClaimed.{digest_given, pin_in}
 use Rattle.merkle_pins_theory.specs.PinnedNodes.{pinned_value}
-use Rattle.merkle_audit.proofs.Walks.{first_peak}
+use Rattle.merkle_range_audit.proofs.Walks.{first_peak}
 use Rattle.merkle_audit.proofs.PinnedWalks.{none_pushed}
 use Rattle.merkle_audit.proofs.pins.+push_pinned.Goals as goal
 

@@ -1,16 +1,12 @@
-use Rattle.std.proofs.Common.{◌≡◌, ◌+◌, length, inl, inr, arith, ap, sym, ◌∙◌}
+use Rattle.std.proofs.Common.{◌≡◌, length, arith, ap, ◌∙◌}
 use Rattle.std.proofs.lemmas.List.{length-map}
 use Rattle.std.proofs.lemmas.Result.{IfOk-weaker}
 use Rattle.merkle_base.proofs.Limits.{lawful_leaves}
 use Rattle.merkle_base.specs.Scheme.{Scheme}
-use Rattle.merkle_root_theory.specs.Check.{RangeInput}
-use Rattle.merkle_root_theory.specs.Range.{IsEmptyInput}
 use Rattle.merkle_hasher.specs.LeafDigests.{bytes_of}
-use Rattle.merkle_root_theory.proofs.Reconstruction.{leads_is_accepted}
 use Rattle.merkle_hasher.proofs.LeafDigests.{length-leaf_digests}
 use Rattle.merkle_proof.specs.Input.{input_of}
-use Rattle.merkle_audit.specs.Claimed.{IsClaim}
-use Rattle.merkle_audit.proofs.Claims.{empty_led}
+use Rattle.merkle_range_audit.proofs.Claims.{empty_led}
 use Rattle.merkle_audit.proofs.PinnedClaims.{refused_empty, empty_accepted}
 use Rattle.merkle_audit.proofs.pins.pinned_claim.Goals as goal
 

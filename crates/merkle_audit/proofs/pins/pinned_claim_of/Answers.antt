@@ -1,11 +1,10 @@
-use Rattle.std.proofs.Common.{◌≡◌, ℕ, ◌+◌, List, ◌++◌, map, take, drop, min, length, refl, ap, ap₂, sym, arith, subst, ◌∙◌, Some, length-append}
+use Rattle.std.proofs.Common.{◌≡◌, ℕ, ◌+◌, List, ◌++◌, map, take, drop, min, length, refl, ap, ap₂, sym, arith, ◌∙◌, Some, length-append}
 use Rattle.std.proofs.lemmas.List.{length-map, length-take}
 use Rattle.merkle_base.specs.Places.{peaks_of, wholly_before, peak_positions}
 use Rattle.merkle_base.specs.Scheme.{Scheme}
 use Rattle.merkle_base.specs.declared.family.Bagging.{Bagging}
 use Rattle.merkle_base.proofs.PeakLists.{few_peaks}
-use Rattle.merkle_hasher.specs.Subtrees.{AreNodes, subtree_of}
-use Rattle.merkle_hasher.specs.declared.subtree.Subtree.{Subtree}
+use Rattle.merkle_hasher.specs.Subtrees.{subtree_of}
 use Rattle.merkle_hasher.proofs.PeakNodes.{peaks_at}
 use Rattle.merkle_root_theory.specs.Outside.{folded_prefix, single_before, single_after, folded_suffix}
 use Rattle.merkle_root_theory.specs.Range.{end_of, overlapping, wholly_after}
@@ -15,7 +14,7 @@ use Rattle.merkle_proof.specs.Input.{input_of}
 use Rattle.merkle_pins_theory.specs.PinnedNodes.{pinned_value}
 use Rattle.merkle_audit.specs.PinnedClaimed.{digest_given, pin_in}
 use Rattle.merkle_audit.specs.declared.pin_nodes.PinnedNodes.{PinnedNodes}
-use Rattle.merkle_audit.proofs.Claims.{digests_fit, peaks_fit, all_fit, part_is, only_memory, no_refusal}
+use Rattle.merkle_range_audit.proofs.Claims.{digests_fit, peaks_fit, all_fit, part_is, only_memory, no_refusal}
 use Rattle.merkle_audit.proofs.PinnedClaims.{front_is, back_is, first_is, all_are, pinned_claim_is}
 use Rattle.merkle_audit.proofs.pins.pinned_claim_of.Goals as goal
 

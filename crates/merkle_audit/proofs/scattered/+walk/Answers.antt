@@ -3,7 +3,7 @@ use Rattle.merkle_hasher.proofs.Spans.{heights_same}
 use Rattle.merkle_hasher.proofs.NodeSteps.{inner_node, lower}
 use Rattle.merkle_audit.specs.Chosen.{pair_given}
 use Rattle.merkle_audit.proofs.GivenNodes.{digest_unmet, digest_leaf, digest_parent, pair_unmet, pair_met, found_from}
-use Rattle.merkle_audit.proofs.Walks.{at_leaf, one_silent, stands}
+use Rattle.merkle_range_audit.proofs.Walks.{at_leaf, one_silent, stands}
 use Rattle.merkle_audit.proofs.scattered.+walk.Goals as goal
 
 pub returns-then-not-meets-clause-digest : goal.returns-then-not-meets-clause-digest

@@ -3,7 +3,7 @@ use Rattle.std.specs.List.{AllByRecursion}
 use Rattle.merkle_audit_theory.specs.Seen.{Sees}
 use Rattle.merkle_audit.specs.Chosen.{digest_given, pair_given}
 use Rattle.merkle_audit.proofs.GivenNodes.{no_digests, more_digests}
-use Rattle.merkle_audit.proofs.Walks.{no_peaks, searched_first, first_peak}
+use Rattle.merkle_range_audit.proofs.Walks.{no_peaks, searched_first, first_peak}
 use Rattle.merkle_audit.proofs.scattered.+walk_all.Goals as goal
 
 pub returns-in_default-clause-digests : goal.returns-in_default-clause-digests

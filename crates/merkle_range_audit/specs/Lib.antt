@@ -1,0 +1,4 @@
+pub mod Claimed
+pub mod Found
+pub mod Hashed
+pub mod Listed
