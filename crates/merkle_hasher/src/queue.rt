@@ -4,18 +4,15 @@ ghost use Rattle.merkle_hasher.specs.LeafDigests.{bytes_of, leaf_digests, positi
 
 use crate::hasher::Hasher;
 use crate::leaves::leaf_digests;
+use crate::order::LEAVES_AT_ONCE;
 use merkle_base::family::Family;
 use merkle_base::location::Location;
 use merkle_base::position::Position;
 use std::alloc::{AllocError, Global};
 
-/// How many leaves are positioned before they are hashed; a multiple of four, so that all but the last
-/// leaves are hashed four at a time.
-const LEAVES_AT_ONCE: usize = 64;
-
 /// Appends a leaf to those that wait to be hashed.
 ///
-/// Once they are [`LEAVES_AT_ONCE`], their digests are appended to `digests`, in their order, and none
+/// Once they are 64, as many as are put in order at a time, their digests are appended to `digests`, in their order, and none
 /// waits any more. So the digests and after them those of the waiting leaves are those of all leaves
 /// so far.
 ///

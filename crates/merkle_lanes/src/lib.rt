@@ -10,10 +10,10 @@
 //! bytes, two if it has at most 119. So a leaf with an element of up to 47 bytes, which is
 //! hashed after a position of 8 bytes, takes one block, and a parent node, which is hashed as a position and two
 //! digests of 32 bytes, takes two. Four messages are hashed in the lanes, in the time of the longest one, or one after
-//! another; [`pays_together`] is the rule, for callers too who arrange messages before they are hashed. Four nodes have a path of their own, and four leaves with
-//! elements of 32 bytes have one, since the padding of all four is the same and nothing has to be copied. So have a single
-//! node and a single fold. [`hash_three`] fills the lane that is left with the last message. A message of more than 16
-//! blocks is hashed by the library `sha2`.
+//! another; [`pays_together`] is the rule, for callers too who arrange messages before they are hashed. Four nodes have a
+//! path of their own, and four leaves with elements of 32 bytes have one, since the padding of all four is the same and
+//! nothing has to be copied. So have a single node and a single fold. [`hash_three`] fills the lane that is left with the
+//! last message. A message of more than 16 blocks is hashed by the library `sha2`.
 #![tactic(auto)]
 
 ghost use Rattle.std.specs.Prelude.{◌≡◌, ◌↔◌, ◌+◌, ◌-◌, ◌/◌, ◌%◌, ◌^◌, ◌<◌, ◌≤◌, ◌++◌, List, IfSome, IsTrue, length, min, take};
