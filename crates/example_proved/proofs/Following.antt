@@ -13,7 +13,8 @@ use Rattle.merkle_core.specs.LeafDigests.{leaf_digests, range_input}
 use Rattle.merkle_core.proofs.LeafDigests.{length-leaf_digests}
 use Rattle.merkle_core.specs.Check.{RangeInput}
 use Rattle.merkle_core.specs.Range.{ForRootOf}
-use Rattle.example_proved.specs.Log.{leaves_of, IsLogOf, ForLogOf, GivesRoot, Extends}
+use Rattle.merkle_core.specs.CheckAnswers.{GivesRoot}
+use Rattle.example_proved.specs.Log.{leaves_of, IsLogOf, ForLogOf, Extends}
 use Rattle.example_proved.proofs.Entries.{digest_of_entry, entry_or_twin, of_logs}
 
 -- the leaf digests of a log's first entries

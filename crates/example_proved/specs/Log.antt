@@ -1,12 +1,13 @@
 -- Logs: lists of entries, and what a client that trusts a root knows of them.
-use Rattle.std.specs.Prelude.{◌≡◌, ◌≢◌, ℕ, ◌+◌, ◌≤◌, ◌⊎◌, List, length, take, Some, slice_get}
+use Rattle.std.specs.Prelude.{◌≡◌, ◌≢◌, ℕ, ◌+◌, ◌≤◌, ◌⊎◌, Bool, IsTrue, List, length, take, Some, slice_get}
 use Rattle.merkle_core.specs.Forest.{size}
 use Rattle.merkle_core.specs.Places.{peaks_of}
-use Rattle.merkle_core.specs.Root.{list_root, peaks_root}
+use Rattle.merkle_core.specs.Root.{list_root}
 use Rattle.merkle_core.specs.Scheme.{Scheme}
 use Rattle.merkle_core.specs.LeafDigests.{leaf_digests}
 use Rattle.merkle_core.specs.Check.{RangeInput}
 use Rattle.merkle_core.specs.Range.{range_digests, RangeCollides}
+use Rattle.merkle_core.specs.Pinned.{IsHonestPinned, PinnedCollides}
 
 -- the leaf digests of a log's entries
 abbrev pub leaves_of : {D : Type 0} → Scheme D → List (List ℕ) → List D
@@ -43,13 +44,28 @@ pub record IsHonestFor {D : Type 0} (s : Scheme D) (r : RangeInput D) (entries :
   pub inactive_peaks : r.inactive ≡ inactive
   pub digests : r.digests ≡ range_digests s (leaves_of s entries) inactive r.start (r.start + 1)
 
--- the digests of the peaks over the first `leaves` entries give this root
-pub record GivesRoot {D : Type 0} (s : Scheme D) (root : D) (leaves inactive : ℕ) (peaks : List D) : Type 0 where
-  pub enough : inactive ≤ length peaks
-  pub root_is : peaks_root s leaves inactive inactive peaks ≡ root
-
 -- the log begins with `leaves` entries that have the old root, and the added ones, or twins of them, follow
 pub record Extends {D : Type 0} (s : Scheme D) (old_root : D) (leaves inactive : ℕ) (added entries : List (List ℕ)) : Type 0 where
   pub long : leaves ≤ length entries
   pub before : IsLogOf s old_root (take leaves entries) inactive
   pub after : (i : ℕ) (entry : List ℕ) → HasEntry added i entry → HasEntry entries (leaves + i) entry ⊎ HasTwin s entries (leaves + i) entry
+
+-- yes only if each log with the root has the entry, or inputs collide; and yes if it has, for honest proofs
+abbrev pub IsSoundForLogs : {D : Type 0} → Scheme D → D → RangeInput D → (location : ℕ) → (entry : List ℕ) → Bool → Type 0
+IsSoundForLogs s root r location entry accepts =
+    IsTrue accepts → ForLogOf s root (λ entries k. HasEntry entries location entry ⊎ EntryCollides s r entry entries k)
+
+abbrev pub IsCompleteForLogs : {D : Type 0} → Scheme D → D → RangeInput D → (location : ℕ) → (entry : List ℕ) → Bool → Type 0
+IsCompleteForLogs s root r location entry accepts = ForLogOf s root (λ entries k. HasEntry entries location entry → IsHonestFor s r entries k → IsTrue accepts)
+
+-- yes only if each log with the newer root begins with the old one, and the added entries follow, or inputs collide; and yes if it does, for
+-- honest proofs and pins
+abbrev pub IsSoundForGrowth : {D : Type 0} → Scheme D → (old_root : D) → (leaves inactive : ℕ) → D → RangeInput D → (pins : List D)
+    → (added : List (List ℕ)) → Bool → Type 0
+IsSoundForGrowth s old_root leaves inactive root r pins added accepts = IsTrue accepts
+    → ForLogOf s root (λ entries k. Extends s old_root leaves inactive added entries ⊎ PinnedCollides s r pins (leaves_of s entries) k)
+
+abbrev pub IsCompleteForGrowth : {D : Type 0} → Scheme D → (old_root : D) → (leaves inactive : ℕ) → D → RangeInput D → (pins : List D)
+    → Bool → Type 0
+IsCompleteForGrowth s old_root leaves inactive root r pins accepts = ForLogOf s root (λ entries k. IsLogOf s old_root (take leaves entries) inactive
+    → IsHonestPinned s (leaves_of s entries) k r pins → IsTrue accepts)

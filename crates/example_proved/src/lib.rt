@@ -8,11 +8,11 @@
 #[cfg(test)]
 mod tests;
 
-ghost use Rattle.std.specs.Prelude.{◌≡◌, ◌⊎◌, ◌↔◌, ◌∷◌, [], IsTrue, IfOk, OnErr, false, take};
-ghost use Rattle.merkle_core.specs.Pinned.{IsHonestPinned, PinnedCollides};
+ghost use Rattle.std.specs.Prelude.{◌≡◌, ◌↔◌, ◌∷◌, [], IsTrue, IfOk, OnErr, false};
 ghost use Rattle.merkle_core.specs.Walk.{bytes_of};
 ghost use Rattle.merkle_core.specs.Input.{input_of};
-ghost use Rattle.example_proved.specs.Log.{IsLogOf, ForLogOf, HasEntry, EntryCollides, IsHonestFor, leaves_of, GivesRoot, Extends};
+ghost use Rattle.merkle_core.specs.CheckAnswers.{GivesRoot};
+ghost use Rattle.example_proved.specs.Log.{IsSoundForLogs, IsCompleteForLogs, IsSoundForGrowth, IsCompleteForGrowth};
 
 use merkle_core::digest::Digest;
 use merkle_core::error::OutOfMemory;
@@ -62,13 +62,9 @@ impl<F: Family, D: Digest> Client<F, D> {
         location: Location<F>,
     ) -> Result<bool, OutOfMemory>
         ensures sound { let s = H.scheme hasher.now in
-            let r = input_of s proof.now location (entry.now ∷ []) in
-            IfOk result (λ yes. IsTrue yes
-            → ForLogOf s self.now.root (λ entries k. HasEntry entries location entry.now ⊎ EntryCollides s r entry.now entries k)) }
+            let r = input_of s proof.now location (entry.now ∷ []) in IfOk result (IsSoundForLogs s self.now.root r location entry.now) }
         ensures honest { let s = H.scheme hasher.now in
-            let r = input_of s proof.now location (entry.now ∷ []) in
-            IfOk result (λ yes. ForLogOf s self.now.root (λ entries k.
-            HasEntry entries location entry.now → IsHonestFor s r entries k → IsTrue yes)) }
+            let r = input_of s proof.now location (entry.now ∷ []) in IfOk result (IsCompleteForLogs s self.now.root r location entry.now) }
     {
         proof.verify_element_inclusion(hasher, entry, location, &self.root)
     }
@@ -107,14 +103,10 @@ impl<F: Family, D: Digest> Client<F, D> {
         ensures no { IfOk result (λ yes. yes ≡ false → self.new ≡ self.old) }
         ensures yes { let p = proof.now in
             IfOk result (λ yes. IsTrue yes → self.new ≡ record { leaves = p.leaves; inactive_peaks = p.inactive_peaks; root = root.now }) }
-        ensures sound { let s = H.scheme hasher.now in let old = self.old in
-            let r = input_of s proof.now old.leaves (bytes_of added.now) in
-            IfOk result (λ yes. IsTrue yes → ForLogOf s root.now (λ entries k.
-            Extends s old.root old.leaves old.inactive_peaks (bytes_of added.now) entries ⊎ PinnedCollides s r pinned_nodes.now (leaves_of s entries) k)) }
-        ensures honest { let s = H.scheme hasher.now in let old = self.old in
-            let r = input_of s proof.now old.leaves (bytes_of added.now) in
-            IfOk result (λ yes. ForLogOf s root.now (λ entries k. IsLogOf s old.root (take old.leaves entries) old.inactive_peaks
-            → IsHonestPinned s (leaves_of s entries) k r pinned_nodes.now → IsTrue yes)) }
+        ensures sound { let s = H.scheme hasher.now in
+            let o = self.old in let r = input_of s proof.now o.leaves (bytes_of added.now) in IfOk result (IsSoundForGrowth s o.root o.leaves o.inactive_peaks root.now r pinned_nodes.now (bytes_of added.now)) }
+        ensures honest { let s = H.scheme hasher.now in
+            let o = self.old in let r = input_of s proof.now o.leaves (bytes_of added.now) in IfOk result (IsCompleteForGrowth s o.root o.leaves o.inactive_peaks root.now r pinned_nodes.now) }
     {
         if !self.is_given_by(hasher, pinned_nodes) {
             return Ok(false);

@@ -2,8 +2,7 @@
 ghost use Rattle.std.specs.Prelude.{◌≡◌, ◌≢◌, ◌↔◌, None, IfOk, IfErr, option_map};
 ghost use Rattle.merkle_range_audit.specs.Found.{collision_of_pair, IsPairVerdict};
 ghost use Rattle.merkle_range_audit.specs.Hashed.{located};
-ghost use Rattle.merkle_proof.specs.Input.{input_of};
-ghost use Rattle.merkle_hasher.specs.LeafDigests.{bytes_of};
+ghost use Rattle.merkle_audit.specs.Given.{given_input};
 
 use merkle_core::digest::Digest;
 use merkle_core::error::Error;
@@ -29,10 +28,7 @@ pub fn audit_pair<F: Family, H: Hasher<F>>(
     second: (&Proof<F, H::Digest>, &[&[u8]], Location<F>),
 ) -> Result<PairVerdict<F, H::Digest>, Error<F>>
     ensures err { IfErr result (λ e. e ≡ Error.OutOfMemory) }
-    ensures judged { let s = H.scheme hasher.now in
-        let r = input_of s first.entry.0.now first.entry.2 (bytes_of first.entry.1.now) in
-        let q = input_of s second.entry.0.now second.entry.2 (bytes_of second.entry.1.now) in
-        IfOk result (λ v. IsPairVerdict s root.now r q v) }
+    ensures judged { let s = H.scheme hasher.now in IfOk result (IsPairVerdict s root.now (given_input s first.entry) (given_input s second.entry)) }
 {
     let one = match accepted(hasher, first.0, first.1, first.2, root) {
         Ok(Some(claim)) => claim,

@@ -15,3 +15,4 @@ pub mod Shows
 pub mod Work
 pub mod Table
 pub mod Collision
+pub mod Refused

@@ -15,7 +15,7 @@ use Rattle.merkle_base.specs.Digests.{node_digests, peak_digests}
 use Rattle.merkle_base.specs.Places.{peak_positions, peaks_of}
 use Rattle.merkle_batch_theory.specs.Contents.{Contents, AgreesWithOne}
 use Rattle.merkle_batch.specs.Finished.{finished}
-use Rattle.merkle_draft.specs.DraftReads.{ArePeaksRead, below, DraftModel, IsPeakGap, old_node, stored_node}
+use Rattle.merkle_draft.specs.DraftReads.{ArePeaksRead, below, DraftModel, IsMissingPeak, old_node, stored_node}
 use Rattle.merkle_draft.specs.NewDigests.{AreNewDigests, LacksNeeded}
 use Rattle.merkle_batch_theory.specs.Missing.{IsMissing}
 use Rattle.merkle_batch_theory.proofs.NeededNodes.{IsChanged}
@@ -119,11 +119,11 @@ module _ {D : Type 0} (h : Hashing D) (rule : List ℕ → List ℕ) (max_leaves
 
   -- a peak that is read
   pub peak_missing : {F : Type 0} (g : NodeError F) → IsChanged rule (get p.overwritten) p.leaves_before (leaf_total p)
-      → IsPeakGap rule (leaf_total p) d1.before (old_node d1 base) g → NamesMissing rule p base g
+      → IsMissingPeak rule (leaf_total p) d1.before (old_node d1 base) g → NamesMissing rule p base g
   peak_missing g changed gap =
       (let lacks = peak_gap h rule (get p.overwritten) (read_over (kept p) base) p.leaves_before p.added d1 sized are changed g
-      (subst (λ f. IsPeakGap rule (leaf_total p) (size rule p.leaves_before) f g) reads_are
-      (subst (λ (b : ℕ). IsPeakGap rule (leaf_total p) b (old_node d1 base) g) sized gap)) in
+      (subst (λ f. IsMissingPeak rule (leaf_total p) (size rule p.leaves_before) f g) reads_are
+      (subst (λ (b : ℕ). IsMissingPeak rule (leaf_total p) b (old_node d1 base) g) sized gap)) in
       (lacks.0, lacks.2.0, (lacks.1, lacks.2.1)))
 
   module _ (pb pa : List D) (peaks : ArePeaks rule p base d1 pb pa) where

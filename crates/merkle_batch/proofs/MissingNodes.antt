@@ -14,7 +14,7 @@ use Rattle.merkle_batch_theory.proofs.NeededNodes.{IsChanged}
 use Rattle.merkle_batch_theory.specs.History.{is_dirty}
 use Rattle.merkle_base.proofs.Reversed.{get_reverse, get_reversed}
 use Rattle.merkle_draft.specs.declared.node_error.NodeError.{NodeError}
-use Rattle.merkle_draft.specs.DraftReads.{ArePeaksRead, DraftModel, IsPeakGap, stored_node}
+use Rattle.merkle_draft.specs.DraftReads.{ArePeaksRead, DraftModel, IsMissingPeak, stored_node}
 use Rattle.merkle_draft.specs.NewDigests.{AreNewDigests, LacksNeeded, new_digest}
 use Rattle.merkle_batch.proofs.NewDigests.{children_new, dirty_new, read_new, untouched_new, written_new}
 
@@ -22,7 +22,7 @@ module _ {D : Type 0} (h : Hashing D) (rule : List ℕ → List ℕ) (m below : 
     (d : DraftModel D) (b : d.before ≡ size rule n) (are : AreNewDigests h rule m below n ds (stored_node d)) where
   -- a peak that is not there
   pub peak_gap : {F : Type 0} → IsChanged rule m n (n + length ds) → (g : NodeError F)
-      → IsPeakGap rule (n + length ds) (size rule n) (λ p. option_or (get d.overwritten p) (below p)) g → LacksNeeded rule m below n (n + length ds) g
+      → IsMissingPeak rule (n + length ds) (size rule n) (λ p. option_or (get d.overwritten p) (below p)) g → LacksNeeded rule m below n (n + length ds) g
   peak_gap changed g gap =
       let t : Tree = gap.1 in
       let k = get_reversed (forest rule (n + length ds)).peaks gap.0 t gap.2 in

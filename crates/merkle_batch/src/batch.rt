@@ -4,19 +4,16 @@
 //! stacked and forked to any depth. A merkleized batch can be applied to a structure that is at the
 //! state before the oldest record that the batch keeps, or at the state after one of its kept
 //! ancestors.
-ghost use Rattle.std.specs.Prelude.{◌≡◌, ◌<◌, ◌≤◌, ◌⊎◌, ◌+◌, ◌++◌, ℕ, List, ◌∷◌, [], None, Some, Err, true, slice_set, is_some, length, map, IfOk, IfErr, IsOkUnless, OnErr, OnOk};
-ghost use Rattle.std.specs.FinMap.{get};
+ghost use Rattle.std.specs.Prelude.{◌≡◌, ◌<◌, ◌≤◌, ◌+◌, ◌∷◌, [], None, Some, Err, length, IfOk, IfErr, IsOkUnless, OnErr, OnOk};
 ghost use Rattle.merkle_base.specs.Forest.{size};
 ghost use Rattle.merkle_base.specs.Hashing.{Hashing};
 ghost use Rattle.merkle_base.specs.Places.{peaks_of};
 ghost use Rattle.merkle_base.specs.Tree.{Tree, position};
-ghost use Rattle.merkle_batch_theory.specs.Contents.{AgreesWithOne};
 ghost use Rattle.merkle_batch_theory.specs.Missing.{IsMissing};
-ghost use Rattle.merkle_batch_theory.specs.Needed.{computed_nodes};
-ghost use Rattle.merkle_batch_theory.specs.Unmerkleized.{first_error, forked, kept, kept_lists, leaf_total, pending_list, update_error, with_entries, with_leaves, with_update, with_updates, without_ancestors};
-ghost use Rattle.merkle_batch_theory.specs.Records.{after, records};
-ghost use Rattle.merkle_hasher.specs.LeafDigests.{leaf_digests};
-ghost use Rattle.merkle_batch_theory.specs.History.{IsHistory, last_list};
+ghost use Rattle.merkle_batch_theory.specs.Unmerkleized.{first_error, forked, kept, leaf_total, update_error, with_leaves, with_update, with_updates, without_ancestors};
+ghost use Rattle.merkle_hasher.specs.LeafDigests.{bytes_of};
+ghost use Rattle.merkle_batch_theory.specs.Changes.{AddsLeaves, SetsLeaf, SetsLeaves, IsLeafRefusal, IsLeavesRefusal, IsForkOf, BeginsAfter, HasCounts, IsMerkleizeRefusal, ForUpdatesHeld, GoesOn, computed_count};
+ghost use Rattle.merkle_batch.specs.BatchProofs.{digests_after};
 
 pub use crate::merkleized::MerkleizedBatch;
 use merkle_base::error::Error;
@@ -155,11 +152,9 @@ impl<F: Family, D: Digest> UnmerkleizedBatch<F, D> {
     /// On error the batch is lost and the parent is unchanged.
     pub fn add<H: Hasher<F, Digest = D>>(self, hasher: &H, element: &[u8]) -> Result<Self, Error<F>>
         ensures added { IfOk result (λ b. b ≡ with_leaves self ((H.hashing hasher.now).leaf (size F.rule (leaf_total self)) element.now ∷ [])) }
-        ensures edited { let digest = (H.hashing hasher.now).leaf (size F.rule (leaf_total self)) element.now in
-            IfOk result (λ b. (X : List D) → pending_list F.rule b X ≡ pending_list F.rule self X ++ digest ∷ []) }
+        ensures edited { let h = H.hashing hasher.now in IfOk result (AddsLeaves F.rule self (h.leaf (size F.rule (leaf_total self)) element.now ∷ [])) }
         ensures room { IfOk result (λ _. leaf_total self < F.MAX_LEAVES) }
-        ensures refused { IfErr result (λ e. ((e ≡ Error.LocationOverflow F.MAX_LEAVES) × (leaf_total self ≡ F.MAX_LEAVES))
-            ⊎ ((e ≡ Error.OutOfMemory) × (leaf_total self < F.MAX_LEAVES))) }
+        ensures refused { IfErr result (IsLeafRefusal F.MAX_LEAVES (leaf_total self)) }
     {
         let position = F::location_to_position(self.leaves());
         let digest = hasher.leaf_digest(position, element);
@@ -181,13 +176,12 @@ impl<F: Family, D: Digest> UnmerkleizedBatch<F, D> {
         hasher: &H,
         elements: &[&[u8]],
     ) -> Result<Self, Error<F>>
-        ensures added { let digests = leaf_digests (H.hashing hasher.now) F.rule (leaf_total self) (map (λ e. e.now) elements.now) in
+        ensures added { let digests = digests_after (H.hashing hasher.now) F.rule self (bytes_of elements.now) in
             IfOk result (λ b. b ≡ with_leaves self digests) }
-        ensures edited { let digests = leaf_digests (H.hashing hasher.now) F.rule (leaf_total self) (map (λ e. e.now) elements.now) in
-            IfOk result (λ b. (X : List D) → pending_list F.rule b X ≡ pending_list F.rule self X ++ digests) }
+        ensures edited { let digests = digests_after (H.hashing hasher.now) F.rule self (bytes_of elements.now) in
+            IfOk result (AddsLeaves F.rule self digests) }
         ensures room { IfOk result (λ _. leaf_total self + length elements.now ≤ F.MAX_LEAVES) }
-        ensures refused { IfErr result (λ e. ((e ≡ Error.LocationOverflow F.MAX_LEAVES) × (F.MAX_LEAVES < leaf_total self + length elements.now))
-            ⊎ ((e ≡ Error.OutOfMemory) × (leaf_total self + length elements.now ≤ F.MAX_LEAVES))) }
+        ensures refused { IfErr result (IsLeavesRefusal F.MAX_LEAVES (leaf_total self + length elements.now)) }
     {
         let first = self.leaves();
         if elements.len() as u64 > F::MAX_LEAVES - first.as_u64() {
@@ -210,10 +204,9 @@ impl<F: Family, D: Digest> UnmerkleizedBatch<F, D> {
     /// On error the batch is lost and the parent is unchanged.
     pub fn add_leaf_digest(mut self, digest: D) -> Result<Self, Error<F>>
         ensures added { IfOk result (λ b. b ≡ with_leaves self (digest ∷ [])) }
-        ensures edited { IfOk result (λ b. (X : List D) → pending_list F.rule b X ≡ pending_list F.rule self X ++ digest ∷ []) }
+        ensures edited { IfOk result (AddsLeaves F.rule self (digest ∷ [])) }
         ensures room { IfOk result (λ _. leaf_total self < F.MAX_LEAVES) }
-        ensures refused { IfErr result (λ e. ((e ≡ Error.LocationOverflow F.MAX_LEAVES) × (leaf_total self ≡ F.MAX_LEAVES))
-            ⊎ ((e ≡ Error.OutOfMemory) × (leaf_total self < F.MAX_LEAVES))) }
+        ensures refused { IfErr result (IsLeafRefusal F.MAX_LEAVES (leaf_total self)) }
     {
         if self.leaves().as_u64() >= F::MAX_LEAVES {
             return Err(Error::LocationOverflow(Location::new(F::MAX_LEAVES)));
@@ -233,10 +226,9 @@ impl<F: Family, D: Digest> UnmerkleizedBatch<F, D> {
     /// On error the batch is lost and the parent is unchanged.
     pub fn add_leaf_digests(mut self, digests: &[D]) -> Result<Self, Error<F>>
         ensures added { IfOk result (λ b. b ≡ with_leaves self digests.now) }
-        ensures edited { IfOk result (λ b. (X : List D) → pending_list F.rule b X ≡ pending_list F.rule self X ++ digests.now) }
+        ensures edited { IfOk result (AddsLeaves F.rule self digests.now) }
         ensures room { IfOk result (λ _. leaf_total self + length digests.now ≤ F.MAX_LEAVES) }
-        ensures refused { IfErr result (λ e. ((e ≡ Error.LocationOverflow F.MAX_LEAVES) × (F.MAX_LEAVES < leaf_total self + length digests.now))
-            ⊎ ((e ≡ Error.OutOfMemory) × (leaf_total self + length digests.now ≤ F.MAX_LEAVES))) }
+        ensures refused { IfErr result (IsLeavesRefusal F.MAX_LEAVES (leaf_total self + length digests.now)) }
     {
         if digests.len() as u64 > F::MAX_LEAVES - self.leaves().as_u64() {
             return Err(Error::LocationOverflow(Location::new(F::MAX_LEAVES)));
@@ -272,8 +264,7 @@ impl<F: Family, D: Digest> UnmerkleizedBatch<F, D> {
         element: &[u8],
     ) -> Result<Self, Error<F>>
         ensures updated { IfOk result (λ b. b ≡ with_update F.rule self location ((H.hashing hasher.now).leaf (size F.rule location) element.now)) }
-        ensures edited { let digest = (H.hashing hasher.now).leaf (size F.rule location) element.now in IfOk result (λ b. (X : List D)
-            → length X ≡ self.leaves_before → pending_list F.rule b X ≡ slice_set (pending_list F.rule self X) location digest) }
+        ensures edited { let h = H.hashing hasher.now in IfOk result (SetsLeaf F.rule self location (h.leaf (size F.rule location) element.now)) }
         ensures refused { (e : Error F) → update_error F.rule self location ≡ Some e → result ≡ Err e }
         ensures allowed { update_error {F = F} F.rule self location ≡ None → IsOkUnless result Error.OutOfMemory }
     {
@@ -298,8 +289,7 @@ impl<F: Family, D: Digest> UnmerkleizedBatch<F, D> {
     /// On error the batch is lost and the parent is unchanged.
     pub fn update_leaf_digest(mut self, location: Location<F>, digest: D) -> Result<Self, Error<F>>
         ensures updated { IfOk result (λ b. b ≡ with_update F.rule self location digest) }
-        ensures edited { IfOk result (λ b. (X : List D) → length X ≡ self.leaves_before
-            → pending_list F.rule b X ≡ slice_set (pending_list F.rule self X) location digest) }
+        ensures edited { IfOk result (SetsLeaf F.rule self location digest) }
         ensures refused { (e : Error F) → update_error F.rule self location ≡ Some e → result ≡ Err e }
         ensures allowed { update_error {F = F} F.rule self location ≡ None → IsOkUnless result Error.OutOfMemory }
     {
@@ -328,8 +318,7 @@ impl<F: Family, D: Digest> UnmerkleizedBatch<F, D> {
     /// and the parent is unchanged.
     pub fn update_leaf_batched(mut self, updates: &[(Location<F>, D)]) -> Result<Self, Error<F>>
         ensures updated { IfOk result (λ b. b ≡ with_updates F.rule self updates.now) }
-        ensures edited { IfOk result (λ b. (X : List D) → length X ≡ self.leaves_before
-            → pending_list F.rule b X ≡ with_entries (pending_list F.rule self X) updates.now) }
+        ensures edited { IfOk result (SetsLeaves F.rule self updates.now) }
         ensures refused { (e : Error F) → first_error F.rule self updates.now ≡ Some e → result ≡ Err e }
         ensures allowed { first_error {F = F} F.rule self updates.now ≡ None → IsOkUnless result Error.OutOfMemory }
     {
@@ -366,26 +355,18 @@ impl<F: Family, D: Digest> UnmerkleizedBatch<F, D> {
         base: &B,
         hasher: &H,
     ) -> Result<Rc<MerkleizedBatch<F, D>>, Error<F>>
-        ensures fork { IfOk result (λ b. (b.value.base_size ≡ self.parent.base_size) × (b.value.boundary ≡ self.parent.boundary)
-            × (b.value.ancestors ≡ kept self)) }
-        ensures begins { IfOk result (λ b. (b.value.own.before ≡ after self.parent.own)
-            × (b.value.own.peaks_before ≡ self.parent.own.peaks_after)) }
-        ensures counted { IfOk result (λ b. (b.value.leaves ≡ leaf_total self) × (after b.value.own ≡ size F.rule (leaf_total self))) }
+        ensures fork { IfOk result (λ b. IsForkOf self b.value) }
+        ensures begins { IfOk result (λ b. BeginsAfter self b.value) }
+        ensures counted { IfOk result (λ b. HasCounts F.rule self b.value) }
         ensures peaks { IfOk result (λ b. length b.value.own.peaks_after ≡ length (peaks_of F.rule (leaf_total self))) }
-        ensures refused { IfErr result (λ e. (e ≡ Error.OutOfMemory)
-            ⊎ ((t : Tree) × (e ≡ Error.MissingNode (position t)) × IsMissing F.rule self (B.contents base.now) t)) }
+        ensures refused { IfErr result (IsMerkleizeRefusal F.rule self (B.contents base.now)) }
         ensures complete { IfOk result (λ _. (t : Tree) → IsMissing F.rule self (B.contents base.now) t → ⊥) }
 
         // If some lists are a history of the parent and the base agrees with one of those that the
         // kept records start or end at, then these, followed by the last of them with the changes,
         // are a history of the batch.
-        ensures stands { let h = H.hashing hasher.now in IfOk result (λ b. (ls : List (List D)) → IsHistory h F.rule (records self.parent) ls
-            → AgreesWithOne h F.rule (B.contents base.now) (kept_lists self ls)
-            → IsHistory h F.rule (records b.value) (kept_lists self ls ++ pending_list F.rule self (last_list ls) ∷ [])) }
-        ensures granted { (h : Hashing D) → (ls : List (List D)) → IsHistory h F.rule (records self.parent) ls
-            → AgreesWithOne h F.rule (B.contents base.now) (kept_lists self ls)
-            → ((k : ℕ) → is_some (get self.overwritten (size F.rule k)) ≡ true → (B.contents base.now).boundary ≤ k)
-            → IsOkUnless result Error.OutOfMemory }
+        ensures stands { let h = H.hashing hasher.now in IfOk result (λ b. GoesOn h F.rule self (B.contents base.now) b.value) }
+        ensures granted { (h : Hashing D) → ForUpdatesHeld h F.rule self (B.contents base.now) (IsOkUnless result Error.OutOfMemory) }
     {
         let mut work = Work::new();
         self.compute(base, hasher, &mut work)
@@ -404,28 +385,19 @@ impl<F: Family, D: Digest> UnmerkleizedBatch<F, D> {
         hasher: &H,
         work: &mut Work,
     ) -> Result<Rc<MerkleizedBatch<F, D>>, Error<F>>
-        ensures fork { IfOk result (λ b. (b.value.base_size ≡ self.parent.base_size) × (b.value.boundary ≡ self.parent.boundary)
-            × (b.value.ancestors ≡ kept self)) }
-        ensures begins { IfOk result (λ b. (b.value.own.before ≡ after self.parent.own)
-            × (b.value.own.peaks_before ≡ self.parent.own.peaks_after)) }
-        ensures counted { IfOk result (λ b. (b.value.leaves ≡ leaf_total self) × (after b.value.own ≡ size F.rule (leaf_total self))) }
+        ensures fork { IfOk result (λ b. IsForkOf self b.value) }
+        ensures begins { IfOk result (λ b. BeginsAfter self b.value) }
+        ensures counted { IfOk result (λ b. HasCounts F.rule self b.value) }
         ensures peaks { IfOk result (λ b. length b.value.own.peaks_after ≡ length (peaks_of F.rule (leaf_total self))) }
-        ensures refused { IfErr result (λ e. (e ≡ Error.OutOfMemory)
-            ⊎ ((t : Tree) × (e ≡ Error.MissingNode (position t)) × IsMissing F.rule self (B.contents base.now) t)) }
+        ensures refused { IfErr result (IsMerkleizeRefusal F.rule self (B.contents base.now)) }
         ensures complete { IfOk result (λ _. (t : Tree) → IsMissing F.rule self (B.contents base.now) t → ⊥) }
 
         // If some lists are a history of the parent and the base agrees with one of those that the
         // kept records start or end at, then these, followed by the last of them with the changes,
         // are a history of the batch.
-        ensures stands { let h = H.hashing hasher.now in IfOk result (λ b. (ls : List (List D)) → IsHistory h F.rule (records self.parent) ls
-            → AgreesWithOne h F.rule (B.contents base.now) (kept_lists self ls)
-            → IsHistory h F.rule (records b.value) (kept_lists self ls ++ pending_list F.rule self (last_list ls) ∷ [])) }
-        ensures granted { (h : Hashing D) → (ls : List (List D)) → IsHistory h F.rule (records self.parent) ls
-            → AgreesWithOne h F.rule (B.contents base.now) (kept_lists self ls)
-            → ((k : ℕ) → is_some (get self.overwritten (size F.rule k)) ≡ true → (B.contents base.now).boundary ≤ k)
-            → IsOkUnless result Error.OutOfMemory }
-        ensures work { let count = length (computed_nodes F.rule (get self.overwritten) self.leaves_before (leaf_total self)) in
-            OnOk result (work.new ≡ record { node_digests = count; probes = work.old.probes }) }
+        ensures stands { let h = H.hashing hasher.now in IfOk result (λ b. GoesOn h F.rule self (B.contents base.now) b.value) }
+        ensures granted { (h : Hashing D) → ForUpdatesHeld h F.rule self (B.contents base.now) (IsOkUnless result Error.OutOfMemory) }
+        ensures work { OnOk result (work.new ≡ record { node_digests = computed_count F.rule self; probes = work.old.probes }) }
         ensures unchanged { OnErr result (work.new ≡ work.old) }
     {
         self.compute(base, hasher, work)
@@ -438,28 +410,19 @@ impl<F: Family, D: Digest> UnmerkleizedBatch<F, D> {
         hasher: &H,
         work: &mut Work,
     ) -> Result<Rc<MerkleizedBatch<F, D>>, Error<F>>
-        ensures fork { IfOk result (λ b. (b.value.base_size ≡ self.now.parent.base_size) × (b.value.boundary ≡ self.now.parent.boundary)
-            × (b.value.ancestors ≡ kept self.now)) }
-        ensures begins { IfOk result (λ b. (b.value.own.before ≡ after self.now.parent.own)
-            × (b.value.own.peaks_before ≡ self.now.parent.own.peaks_after)) }
-        ensures counted { IfOk result (λ b. (b.value.leaves ≡ leaf_total self.now) × (after b.value.own ≡ size F.rule (leaf_total self.now))) }
+        ensures fork { IfOk result (λ b. IsForkOf self.now b.value) }
+        ensures begins { IfOk result (λ b. BeginsAfter self.now b.value) }
+        ensures counted { IfOk result (λ b. HasCounts F.rule self.now b.value) }
         ensures peaks { IfOk result (λ b. length b.value.own.peaks_after ≡ length (peaks_of F.rule (leaf_total self.now))) }
-        ensures refused { IfErr result (λ e. (e ≡ Error.OutOfMemory)
-            ⊎ ((t : Tree) × (e ≡ Error.MissingNode (position t)) × IsMissing F.rule self.now (B.contents base.now) t)) }
+        ensures refused { IfErr result (IsMerkleizeRefusal F.rule self.now (B.contents base.now)) }
         ensures complete { IfOk result (λ _. (t : Tree) → IsMissing F.rule self.now (B.contents base.now) t → ⊥) }
 
         // If some lists are a history of the parent and the base agrees with one of those that the
         // kept records start or end at, then these, followed by the last of them with the changes,
         // are a history of the batch.
-        ensures stands { let h = H.hashing hasher.now in IfOk result (λ b. (ls : List (List D)) → IsHistory h F.rule (records self.now.parent) ls
-            → AgreesWithOne h F.rule (B.contents base.now) (kept_lists self.now ls)
-            → IsHistory h F.rule (records b.value) (kept_lists self.now ls ++ pending_list F.rule self.now (last_list ls) ∷ [])) }
-        ensures granted { (h : Hashing D) → (ls : List (List D)) → IsHistory h F.rule (records self.now.parent) ls
-            → AgreesWithOne h F.rule (B.contents base.now) (kept_lists self.now ls)
-            → ((k : ℕ) → is_some (get self.now.overwritten (size F.rule k)) ≡ true → (B.contents base.now).boundary ≤ k)
-            → IsOkUnless result Error.OutOfMemory }
-        ensures work { let count = length (computed_nodes F.rule (get self.now.overwritten) self.now.leaves_before (leaf_total self.now)) in
-            OnOk result (work.new ≡ record { node_digests = count; probes = work.old.probes }) }
+        ensures stands { let h = H.hashing hasher.now in IfOk result (λ b. GoesOn h F.rule self.now (B.contents base.now) b.value) }
+        ensures granted { (h : Hashing D) → ForUpdatesHeld h F.rule self.now (B.contents base.now) (IsOkUnless result Error.OutOfMemory) }
+        ensures work { OnOk result (work.new ≡ record { node_digests = computed_count F.rule self.now; probes = work.old.probes }) }
         ensures unchanged { OnErr result (work.new ≡ work.old) }
     {
         let leaves = self.leaves();

@@ -2,15 +2,15 @@
 //! not.
 ghost use Rattle.std.specs.Prelude.{◌≡◌, ◌≢◌, ◌+◌, ◌<◌, ◌≤◌, List, length, IfOk, IfErr, IsOkUnless};
 ghost use Rattle.merkle_base.specs.Hashing.{Hashing};
-ghost use Rattle.merkle_base.specs.Places.{peaks_of};
 ghost use Rattle.merkle_forest_theory.specs.FewPeaks.{FewPeaks};
 ghost use Rattle.merkle_batch_theory.specs.Contents.{AgreesWithOne};
 ghost use Rattle.merkle_batch_theory.specs.Read.{read_over};
 ghost use Rattle.merkle_batch_theory.specs.Records.{records};
 ghost use Rattle.merkle_batch_theory.specs.History.{IsHistory, last_list};
-ghost use Rattle.merkle_proof.specs.ProofRefusals.{IsProofRefusal, IsRangeRefusal};
-ghost use Rattle.merkle_proof.specs.RangePlans.{IsBuildRefusal, IsBuiltProof, LeafRange, list_input};
+ghost use Rattle.merkle_proof.specs.RangePlans.{IsBuildRefusal, IsBuiltProof, list_input, IsProvedLeaf, IsProvedRange};
 ghost use Rattle.merkle_root_theory.specs.Range.{IsHonestRange};
+ghost use Rattle.merkle_batch_theory.specs.ForLists.{ForHistoryOver, ForHeldLeafOver, ForHeldRangeOver};
+ghost use Rattle.merkle_batch.specs.BatchProofs.{IsBuiltLeafOver, IsBuiltRangeOver, RefusesLeafOver, RefusesRangeOver};
 
 use crate::merkleized::MerkleizedBatch;
 use merkle_base::error::Error;
@@ -89,22 +89,15 @@ impl<F: Family, D: Digest> MerkleizedBatch<F, D> {
         location: Location<F>,
         inactive: usize,
     ) -> Result<Proof<F, D>, Error<F>>
-        ensures built { let s = H.scheme hasher.now in
-            let plan : LeafRange = record { leaves = self.now.leaves; start = location; end = location + 1 } in
-            IfOk result (λ p. location < self.now.leaves × IsBuiltProof s (read_over (records self.now) (B.contents base.now)) inactive plan p) }
+        ensures built { let s = H.scheme hasher.now in IfOk result (IsBuiltLeafOver s (B.contents base.now) self.now inactive location) }
 
         // If some lists are a history of the batch and the base agrees with one of them, this is
         // the honest proof of the last list.
-        ensures honest { let s = H.scheme hasher.now in
-            (ls : List (List D)) → IsHistory (H.hashing hasher.now) F.rule (records self.now) ls
-            → AgreesWithOne (H.hashing hasher.now) F.rule (B.contents base.now) ls
-            → let X = last_list ls in IfOk result (λ p. location < length X × IsHonestRange s X inactive (list_input p X location (location + 1))) }
-        ensures granted { (h : Hashing D) → (ls : List (List D)) → IsHistory h F.rule (records self.now) ls
-            → AgreesWithOne h F.rule (B.contents base.now) ls → (B.contents base.now).boundary ≤ location → location < length (last_list ls)
-            → inactive ≤ length (peaks_of F.rule (length (last_list ls))) → IsOkUnless result Error.OutOfMemory }
+        ensures honest { ForHistoryOver (H.hashing hasher.now) F.rule (B.contents base.now) self.now (IsProvedLeaf
+            (H.scheme hasher.now) inactive location result) }
+        ensures granted { (h : Hashing D) → ForHeldLeafOver h F.rule (B.contents base.now) self.now inactive location (IsOkUnless result Error.OutOfMemory) }
         ensures at_most_122 { FewPeaks F.rule F.MAX_LEAVES → IfOk result (λ p. length p.digests.items ≤ 122) }
-        ensures err { let bagging = H.bagging_of hasher.now in let node = read_over (records self.now) (B.contents base.now) in
-            IfErr result (λ e. e ≢ Error.OutOfMemory → IsProofRefusal bagging F.rule F.MAX_LEAVES self.now.leaves location inactive node e) }
+        ensures err { IfErr result (RefusesLeafOver (H.bagging_of hasher.now) F.rule F.MAX_LEAVES (B.contents base.now) self.now location inactive) }
     {
         let leaves = self.leaves();
         if !location.is_valid_index() {
@@ -143,24 +136,16 @@ impl<F: Family, D: Digest> MerkleizedBatch<F, D> {
         range: Range<Location<F>>,
         inactive: usize,
     ) -> Result<Proof<F, D>, Error<F>>
-        ensures built { let s = H.scheme hasher.now in
-            let plan : LeafRange = record { leaves = self.now.leaves; start = range.start; end = range.end } in
-            let node = read_over (records self.now) (B.contents base.now) in
-            IfOk result (λ p. (range.start < range.end) × (range.end ≤ self.now.leaves) × IsBuiltProof s node inactive plan p) }
+        ensures built { let s = H.scheme hasher.now in IfOk result (IsBuiltRangeOver s (B.contents base.now) self.now inactive range.start range.end) }
 
         // If some lists are a history of the batch and the base agrees with one of them, this is
         // the honest proof of the last list.
         ensures honest { let s = H.scheme hasher.now in
-            (ls : List (List D)) → IsHistory (H.hashing hasher.now) F.rule (records self.now) ls
-            → AgreesWithOne (H.hashing hasher.now) F.rule (B.contents base.now) ls
-            → let X = last_list ls in IfOk result (λ p. (range.start < range.end) × (range.end ≤ length X)
-            × IsHonestRange s X inactive (list_input p X range.start range.end)) }
-        ensures granted { (h : Hashing D) → (ls : List (List D)) → IsHistory h F.rule (records self.now) ls
-            → AgreesWithOne h F.rule (B.contents base.now) ls → (B.contents base.now).boundary ≤ range.start → range.start < range.end
-            → range.end ≤ length (last_list ls) → inactive ≤ length (peaks_of F.rule (length (last_list ls)))
-            → IsOkUnless result Error.OutOfMemory }
-        ensures err { let bagging = H.bagging_of hasher.now in let node = read_over (records self.now) (B.contents base.now) in
-            IfErr result (λ e. e ≢ Error.OutOfMemory → IsRangeRefusal bagging F.rule F.MAX_LEAVES self.now.leaves range.start range.end inactive node e) }
+            ForHistoryOver (H.hashing hasher.now) F.rule (B.contents base.now) self.now (IsProvedRange s inactive range.start range.end result) }
+        ensures granted { (h : Hashing D)
+            → ForHeldRangeOver h F.rule (B.contents base.now) self.now inactive range.start range.end (IsOkUnless result Error.OutOfMemory) }
+        ensures err { IfErr result (RefusesRangeOver (H.bagging_of hasher.now) F.rule F.MAX_LEAVES
+            (B.contents base.now) self.now range.start range.end inactive) }
     {
         let leaves = self.leaves();
         match RangePlan::new(self.allocator(), leaves, range) {

@@ -1,21 +1,19 @@
 //! Merkleized batches: batches whose nodes are computed.
-ghost use Rattle.std.specs.Prelude.{◌≡◌, List, ◌∷◌, [], ◌++◌, ◌≤◌, ◌<◌, Some, Ok, Err, cond, drop, slice_get, length, IfOk, IsOkUnless};
+ghost use Rattle.std.specs.Prelude.{◌≡◌, List, ◌∷◌, [], ◌++◌, ◌≤◌, ◌<◌, Some, Ok, Err, cond, drop, length, IfOk, IsOkUnless};
 ghost use Rattle.std.specs.Rc.{rc_slice_items};
 ghost use Rattle.merkle_batch.specs.Finished.{finished};
 ghost use Rattle.merkle_batch_theory.specs.BatchValid.{IsBatchValid};
 ghost use Rattle.std.specs.FinMap.{empty};
-ghost use Rattle.merkle_base.specs.Digests.{node_digests};
 ghost use Rattle.merkle_base.specs.Forest.{size};
 ghost use Rattle.merkle_base.specs.Hashing.{Hashing};
 ghost use Rattle.merkle_base.specs.Places.{peaks_of};
-ghost use Rattle.merkle_base.specs.Root.{list_root, peaks_root};
 ghost use Rattle.merkle_base.specs.Shows.{Shows};
-ghost use Rattle.merkle_batch_theory.specs.Contents.{Agrees};
 ghost use Rattle.merkle_batch_theory.specs.Unmerkleized.{forked, is_changed};
 ghost use Rattle.merkle_batch_theory.specs.Read.{newest};
 ghost use Rattle.merkle_batch_theory.specs.Records.{after, records};
 ghost use Rattle.merkle_batch_theory.specs.Roots.{root_batch};
 ghost use Rattle.merkle_batch_theory.specs.History.{IsHistory, last_list};
+ghost use Rattle.merkle_batch_theory.specs.ForLists.{BeginsAt, IsNodeAfter, IsPeaksRoot, IsListRoot, IsPeaksRefusal, ForHistory};
 
 use crate::batch::UnmerkleizedBatch;
 use merkle_base::error::Error;
@@ -89,8 +87,7 @@ impl<F: Family, D: Digest> MerkleizedBatch<F, D> {
     /// - `OutOfMemory` if a memory request is refused
     pub fn from_mem<B: Base<F, Digest = D>>(base: &B) -> Result<Rc<Self>, Error<F>>
         ensures root { IfOk result (λ b. b.value ≡ root_batch F.rule (B.leaves base.now) (B.contents base.now)) }
-        ensures of_list { IfOk result (λ b. (h : Hashing D) → (X : List D) → Agrees h F.rule (B.contents base.now) X
-            → IsHistory h F.rule (records b.value) (X ∷ X ∷ [])) }
+        ensures of_list { IfOk result (λ b. BeginsAt F.rule (B.contents base.now) b.value) }
         ensures refused { IsOkUnless result Error.OutOfMemory }
     {
         Ok(Self::without_changes(base)?)
@@ -161,8 +158,7 @@ impl<F: Family, D: Digest> MerkleizedBatch<F, D> {
         ensures newest { result ≡ newest (records self.now) position }
 
         // If some lists are a history of the batch, it is the node of the last list.
-        ensures listed { (h : Hashing D) → (ls : List (List D)) → (d : D) → IsHistory h F.rule (records self.now) ls → result ≡ Some d
-            → slice_get (node_digests h F.rule (last_list ls)) position ≡ Some d }
+        ensures listed { (h : Hashing D) → IsNodeAfter h F.rule self.now position result }
     {
         match self.own.get_node(position) {
             Some(digest) => Some(digest),
@@ -176,16 +172,12 @@ impl<F: Family, D: Digest> MerkleizedBatch<F, D> {
     ///
     /// - `InvalidInactivePeaks` if `inactive` exceeds the number of peaks of its leaf count
     pub fn root<H: Hasher<F, Digest = D>>(&self, hasher: &H, inactive: usize) -> Result<D, Error<F>>
-        ensures ok { let n = self.now.leaves in inactive ≤ length (peaks_of F.rule n)
-            → result ≡ Ok (peaks_root (H.scheme hasher.now) n inactive inactive self.now.own.peaks_after) }
+        ensures ok { IsPeaksRoot (H.scheme hasher.now) F.rule self.now.leaves inactive self.now.own.peaks_after result }
         ensures err { let count = length (peaks_of F.rule self.now.leaves) in count < inactive → result ≡ Err (Error.InvalidInactivePeaks inactive count) }
 
         // If some lists are a history of the batch, it is the root of the last list.
-        ensures listed { (ls : List (List D)) → IsHistory (H.hashing hasher.now) F.rule (records self.now) ls
-            → let X = last_list ls in inactive ≤ length (peaks_of F.rule (length X))
-            → result ≡ Ok (list_root (H.scheme hasher.now) X inactive) }
-        ensures too_many { (h : Hashing D) → (ls : List (List D)) → IsHistory h F.rule (records self.now) ls
-            → let count = length (peaks_of F.rule (length (last_list ls))) in count < inactive → result ≡ Err (Error.InvalidInactivePeaks inactive count) }
+        ensures listed { ForHistory (H.hashing hasher.now) F.rule self.now (IsListRoot (H.scheme hasher.now) F.rule inactive result) }
+        ensures too_many { (h : Hashing D) → ForHistory h F.rule self.now (IsPeaksRefusal F.rule inactive result) }
     {
         hasher.root(self.leaves, inactive, self.own.peaks_after.as_slice())
     }

@@ -18,3 +18,5 @@ pub mod Roots
 pub mod Held
 pub mod Applying
 pub mod Components
+pub mod ForLists
+pub mod Changes

@@ -7,6 +7,7 @@ use Rattle.std.specs.FinMap.{get}
 use Rattle.merkle_base.specs.declared.error.Error.{Error}
 use Rattle.merkle_base.specs.declared.error.Error.TheVariants.{AncestorDropped, StaleBatch}
 use Rattle.merkle_batch_theory.specs.Contents.{Contents, held_peaks}
+use Rattle.merkle_batch_theory.specs.MemModel.{MemModel, contents}
 use Rattle.merkle_batch_theory.specs.Records.{RecordModel, MerkleizedModel, records, after}
 
 -- a record laid over the old nodes, an overwrite of a node that is not held being dropped, and its new nodes appended
@@ -39,6 +40,10 @@ abbrev pub matched : {D : Type 0} → (D → D → Bool) → ℕ → List D → 
 matched same size peaks b =
     cond (is_state same size peaks (oldest b).before (oldest b).peaks_before) (Some 0)
     (last_match (λ r. is_state same size peaks (after r) r.peaks_after) b.ancestors)
+
+-- how many records a structure is behind
+abbrev pub match_of : {D : Type 0} → (D → D → Bool) → (List ℕ → List ℕ) → MemModel D → MerkleizedModel D → Option ℕ
+match_of same rule m b = matched same m.size (held_peaks rule m.leaves (contents m)) b
 
 -- why a batch is not applied to a structure of this size
 abbrev pub apply_error : {F D : Type 0} → ℕ → MerkleizedModel D → Error F

@@ -12,3 +12,4 @@ pub mod Rebuilt
 pub mod Store
 pub mod Verdict
 pub mod ClaimRoots
+pub mod CheckAnswers

@@ -8,6 +8,7 @@ pub use Rattle.merkle_base.specs.Grafting
 pub use Rattle.merkle_base.specs.Hashing
 pub use Rattle.merkle_base.specs.Heights
 pub use Rattle.merkle_base.specs.Places
+pub use Rattle.merkle_base.specs.Refused
 pub use Rattle.merkle_base.specs.Root
 pub use Rattle.merkle_base.specs.Scheme
 pub use Rattle.merkle_base.specs.Shows
@@ -21,6 +22,7 @@ pub use Rattle.merkle_forest_theory.specs.Mmr
 pub use Rattle.merkle_digest.specs.Bytes
 pub mod DigestLaws
 pub use Rattle.merkle_sha256.specs.Together
+pub mod PlainHashings
 pub use Rattle.merkle_topology.specs.BeltIterators
 pub use Rattle.merkle_topology.specs.Perfect
 pub use Rattle.merkle_hasher.specs.Path
@@ -52,7 +54,9 @@ pub use Rattle.merkle_store_theory.specs.StoreProof
 pub use Rattle.merkle_store_theory.specs.StoreValue
 pub use Rattle.merkle_batch_theory.specs.Applying
 pub use Rattle.merkle_batch_theory.specs.Components
+pub use Rattle.merkle_batch_theory.specs.Changes
 pub use Rattle.merkle_batch_theory.specs.Contents
+pub use Rattle.merkle_batch_theory.specs.ForLists
 pub use Rattle.merkle_batch_theory.specs.History
 pub use Rattle.merkle_batch_theory.specs.MemModel
 pub use Rattle.merkle_batch_theory.specs.Missing
@@ -75,3 +79,6 @@ pub use Rattle.merkle_verification.specs.ReaderProofs
 pub use Rattle.merkle_verification.specs.ReaderRefusals
 pub use Rattle.merkle_verification.specs.StoreCalls
 pub use Rattle.merkle_verification.specs.StoreMulti
+pub use Rattle.merkle_batch.specs.BatchProofs
+pub use Rattle.merkle_claim_theory.specs.CheckAnswers
+pub use Rattle.merkle_verification.specs.ShownLists

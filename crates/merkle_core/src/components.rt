@@ -1,11 +1,9 @@
 //! Structures created from given components.
-ghost use Rattle.std.specs.Prelude.{◌≡◌, ◌≢◌, ◌+◌, ◌<◌, ◌≤◌, ◌^◌, ◌-◌, ℕ, List, Err, length, zip, IfOk, IsOk, IsOkUnless, ◌==◌};
+ghost use Rattle.std.specs.Prelude.{◌≡◌, ◌≢◌, ◌+◌, ◌<◌, ◌≤◌, ◌^◌, ◌-◌, ℕ, Err, length, zip, IfOk, IsOk, IsOkUnless, ◌==◌};
 ghost use Rattle.std.specs.Map.{lookup};
 ghost use Rattle.merkle_base.specs.Forest.{size};
 ghost use Rattle.merkle_base.specs.Places.{IsSize, peak_positions};
-ghost use Rattle.merkle_base.specs.Hashing.{Hashing};
-ghost use Rattle.merkle_batch_theory.specs.Components.{AreComponents, made_of};
-ghost use Rattle.merkle_batch_theory.specs.Contents.{Agrees};
+ghost use Rattle.merkle_batch_theory.specs.Components.{made_of, RefusesTooLarge, RefusesNoSize, RefusesPins, ForComponents, AgreesAsGiven};
 ghost use Rattle.merkle_batch_theory.specs.MemModel.{contents};
 
 use crate::held_nodes::HeldNodes;
@@ -39,18 +37,14 @@ impl<F: Family, D: Digest> Mem<F, D> {
         ensures made { IfOk result (λ m. m ≡ made_of F.rule config.pruning_boundary m.leaves config.pinned_nodes.items config.nodes.items) }
         ensures counted { IfOk result (λ m. (m.leaves ≤ F.MAX_LEAVES) × (size F.rule m.leaves ≡ m.size)) }
         ensures overflow { F.MAX_LEAVES < config.pruning_boundary → result ≡ Err (Error.LocationOverflow config.pruning_boundary) }
-        ensures too_large { let end = size F.rule config.pruning_boundary + length config.nodes.items in
-            config.pruning_boundary ≤ F.MAX_LEAVES → F.MAX_NODES < end → result ≡ Err (Error.InvalidSize (2 ^ 64 - 1)) }
-        ensures no_size { let end = size F.rule config.pruning_boundary + length config.nodes.items in
-            config.pruning_boundary ≤ F.MAX_LEAVES → end ≤ F.MAX_NODES → ((n : ℕ) → size F.rule n ≢ end) → result ≡ Err (Error.InvalidSize end) }
-        ensures bad_pins { let b = config.pruning_boundary in b ≤ F.MAX_LEAVES → IsSize F.rule F.MAX_LEAVES (size F.rule b + length config.nodes.items)
-            → length config.pinned_nodes.items ≢ length (peak_positions F.rule b) → result ≡ Err Error.InvalidPinnedNodes }
-        ensures allowed { let b = config.pruning_boundary in b ≤ F.MAX_LEAVES → IsSize F.rule F.MAX_LEAVES (size F.rule b + length config.nodes.items)
-            → length config.pinned_nodes.items ≡ length (peak_positions F.rule b) → IsOkUnless result Error.OutOfMemory }
+        ensures too_large { RefusesTooLarge F.rule F.MAX_LEAVES F.MAX_NODES config.pruning_boundary config.nodes.items result }
+        ensures no_size { RefusesNoSize F.rule F.MAX_LEAVES F.MAX_NODES config.pruning_boundary config.nodes.items result }
+        ensures bad_pins { RefusesPins F.rule F.MAX_LEAVES config.pruning_boundary config.pinned_nodes.items config.nodes.items result }
+        ensures allowed { ForComponents F.rule F.MAX_LEAVES config.pruning_boundary config.pinned_nodes.items config.nodes.items
+            (IsOkUnless result Error.OutOfMemory) }
 
         // It agrees with every list whose digests these are.
-        ensures agrees { IfOk result (λ m. (h : Hashing D) → (X : List D)
-            → AreComponents h F.rule X config.pruning_boundary config.pinned_nodes.items config.nodes.items → Agrees h F.rule (contents m) X) }
+        ensures agrees { IfOk result (λ m. AgreesAsGiven F.rule config.pruning_boundary config.pinned_nodes.items config.nodes.items (contents m)) }
     {
         let Config {
             nodes,
@@ -84,18 +78,13 @@ impl<F: Family, D: Digest> Mem<F, D> {
         ensures made { IfOk result (λ m. m ≡ made_of F.rule pruning_boundary m.leaves pinned_nodes.items nodes.items) }
         ensures counted { IfOk result (λ m. (m.leaves ≤ F.MAX_LEAVES) × (size F.rule m.leaves ≡ m.size)) }
         ensures overflow { F.MAX_LEAVES < pruning_boundary → result ≡ Err (Error.LocationOverflow pruning_boundary) }
-        ensures too_large { let end = size F.rule pruning_boundary + length nodes.items in
-            pruning_boundary ≤ F.MAX_LEAVES → F.MAX_NODES < end → result ≡ Err (Error.InvalidSize (2 ^ 64 - 1)) }
-        ensures no_size { let end = size F.rule pruning_boundary + length nodes.items in
-            pruning_boundary ≤ F.MAX_LEAVES → end ≤ F.MAX_NODES → ((n : ℕ) → size F.rule n ≢ end) → result ≡ Err (Error.InvalidSize end) }
-        ensures bad_pins { let b = pruning_boundary in b ≤ F.MAX_LEAVES → IsSize F.rule F.MAX_LEAVES (size F.rule b + length nodes.items)
-            → length pinned_nodes.items ≢ length (peak_positions F.rule b) → result ≡ Err Error.InvalidPinnedNodes }
-        ensures allowed { let b = pruning_boundary in b ≤ F.MAX_LEAVES → IsSize F.rule F.MAX_LEAVES (size F.rule b + length nodes.items)
-            → length pinned_nodes.items ≡ length (peak_positions F.rule b) → IsOkUnless result Error.OutOfMemory }
+        ensures too_large { RefusesTooLarge F.rule F.MAX_LEAVES F.MAX_NODES pruning_boundary nodes.items result }
+        ensures no_size { RefusesNoSize F.rule F.MAX_LEAVES F.MAX_NODES pruning_boundary nodes.items result }
+        ensures bad_pins { RefusesPins F.rule F.MAX_LEAVES pruning_boundary pinned_nodes.items nodes.items result }
+        ensures allowed { ForComponents F.rule F.MAX_LEAVES pruning_boundary pinned_nodes.items nodes.items (IsOkUnless result Error.OutOfMemory) }
 
         // It agrees with every list whose digests these are.
-        ensures agrees { IfOk result (λ m. (h : Hashing D) → (X : List D)
-            → AreComponents h F.rule X pruning_boundary pinned_nodes.items nodes.items → Agrees h F.rule (contents m) X) }
+        ensures agrees { IfOk result (λ m. AgreesAsGiven F.rule pruning_boundary pinned_nodes.items nodes.items (contents m)) }
     {
         let (start, leaves) = match measure(pruning_boundary, nodes.len()) {
             Ok(extent) => extent,

@@ -1,9 +1,8 @@
 //! Merkle structures in memory.
-ghost use Rattle.std.specs.Prelude.{◌≡◌, ◌≢◌, ◌+◌, ◌<◌, ◌≤◌, ◌&&◌, ℕ, List, [], ◌∷◌, Err, None, Ok, is_some, map, nat_lt, take, true, length, OnErr, OnOk, IfOk, IfErr, IsOkUnless};
+ghost use Rattle.std.specs.Prelude.{◌≡◌, ◌≢◌, ◌+◌, ◌<◌, ◌≤◌, ◌&&◌, List, [], Err, None, Ok, is_some, map, nat_lt, take, true, length, OnErr, OnOk, IfOk, IfErr, IsOkUnless};
 ghost use Rattle.std.specs.FinMap.{get};
 ghost use Rattle.merkle_base.specs.Places.{peaks_of, placed};
 ghost use Rattle.merkle_base.specs.Forest.{size};
-ghost use Rattle.merkle_base.specs.Root.{list_root, peaks_root};
 ghost use Rattle.merkle_base.specs.Shows.{Shows};
 ghost use Rattle.merkle_forest_theory.specs.FewPeaks.{FewPeaks};
 ghost use Rattle.merkle_batch_theory.specs.MemModel.{contents, no_leaves};
@@ -12,17 +11,16 @@ ghost use Rattle.merkle_batch_theory.specs.Applying.{IsApplied};
 ghost use Rattle.merkle_batch_theory.specs.Contents.{Agrees, held_peaks, is_kept};
 ghost use Rattle.merkle_batch_theory.specs.Unmerkleized.{forked};
 ghost use Rattle.merkle_batch_theory.specs.Roots.{root_batch};
-ghost use Rattle.merkle_batch_theory.specs.Records.{records};
-ghost use Rattle.merkle_batch_theory.specs.History.{IsHistory, last_list};
-ghost use Rattle.merkle_batch_theory.specs.Replay.{applied, apply_error, matched};
-ghost use Rattle.merkle_proof.specs.ProofRefusals.{IsProofRefusal, IsRangeRefusal};
+ghost use Rattle.merkle_batch_theory.specs.Replay.{applied, apply_error, match_of};
+ghost use Rattle.merkle_proof.specs.ProofRefusals.{RefusesLeaf, RefusesRange};
 ghost use Rattle.merkle_root_theory.specs.Range.{IsHonestRange};
-ghost use Rattle.merkle_proof.specs.RangePlans.{IsBuildRefusal, IsBuiltProof, LeafRange, list_input};
+ghost use Rattle.merkle_proof.specs.RangePlans.{IsBuildRefusal, IsBuiltProof, list_input, IsBuiltLeaf, IsBuiltRange, IsProvedLeaf, IsProvedRange};
+ghost use Rattle.merkle_batch_theory.specs.ForLists.{ForList, ForHeldLeaf, ForHeldRange, BeginsAt, IsPeaksRoot, IsListRoot, IsPeaksRefusal};
 
 pub use crate::components::Config;
 use crate::find::{find_state, refusal};
 use crate::held_nodes::HeldNodes;
-use crate::replay::{lay, lay_all};
+use crate::replay::{apply_record, apply_records};
 use merkle_base::error::Error;
 use merkle_base::family::Family;
 use merkle_base::location::Location;
@@ -221,15 +219,12 @@ impl<F: Family, D: Digest> Mem<F, D> {
     ///
     /// - `InvalidInactivePeaks` if `inactive` exceeds the number of peaks
     pub fn root<H: Hasher<F, Digest = D>>(&self, hasher: &H, inactive: usize) -> Result<D, Error<F>>
-        ensures ok { let n = self.now.leaves in let peaks = held_peaks F.rule n (contents self.now) in inactive ≤ length (peaks_of F.rule n)
-            → result ≡ Ok (peaks_root (H.scheme hasher.now) n inactive inactive peaks) }
+        ensures ok { let n = self.now.leaves in IsPeaksRoot (H.scheme hasher.now) F.rule n inactive (held_peaks F.rule n (contents self.now)) result }
         ensures err { let count = length (peaks_of F.rule self.now.leaves) in count < inactive → result ≡ Err (Error.InvalidInactivePeaks inactive count) }
 
         // It is the root of every list that the structure agrees with.
-        ensures listed { let h = H.hashing hasher.now in (X : List D) → Agrees h F.rule (contents self.now) X → inactive ≤ length (peaks_of F.rule (length X))
-            → result ≡ Ok (list_root (H.scheme hasher.now) X inactive) }
-        ensures too_many { (X : List D) → Agrees (H.hashing hasher.now) F.rule (contents self.now) X → let count = length (peaks_of F.rule (length X)) in
-            count < inactive → result ≡ Err (Error.InvalidInactivePeaks inactive count) }
+        ensures listed { ForList (H.hashing hasher.now) F.rule (contents self.now) (IsListRoot (H.scheme hasher.now) F.rule inactive result) }
+        ensures too_many { ForList (H.hashing hasher.now) F.rule (contents self.now) (IsPeaksRefusal F.rule inactive result) }
     {
         let mut digests = [D::EMPTY; MAX_PEAKS];
         let count = self.write_peaks(&mut digests);
@@ -273,19 +268,13 @@ impl<F: Family, D: Digest> Mem<F, D> {
         location: Location<F>,
         inactive: usize,
     ) -> Result<Proof<F, D>, Error<F>>
-        ensures built { let s = H.scheme hasher.now in
-            let plan : LeafRange = record { leaves = self.now.leaves; start = location; end = location + 1 } in
-            IfOk result (λ p. location < self.now.leaves × IsBuiltProof s (get self.now.stored) inactive plan p) }
+        ensures built { let s = H.scheme hasher.now in IfOk result (IsBuiltLeaf s (get self.now.stored) inactive self.now.leaves location) }
 
         // It is the honest proof of every list that the structure agrees with.
-        ensures honest { let s = H.scheme hasher.now in
-            (X : List D) → Agrees (H.hashing hasher.now) F.rule (contents self.now) X
-            → IfOk result (λ p. location < length X × IsHonestRange s X inactive (list_input p X location (location + 1))) }
-        ensures granted { (h : Hashing D) → (X : List D) → Agrees h F.rule (contents self.now) X → self.now.boundary ≤ location → location < length X
-            → inactive ≤ length (peaks_of F.rule (length X)) → IsOkUnless result Error.OutOfMemory }
+        ensures honest { let s = H.scheme hasher.now in ForList (H.hashing hasher.now) F.rule (contents self.now) (IsProvedLeaf s inactive location result) }
+        ensures granted { (h : Hashing D) → ForHeldLeaf h F.rule (contents self.now) inactive location (IsOkUnless result Error.OutOfMemory) }
         ensures at_most_122 { FewPeaks F.rule F.MAX_LEAVES → IfOk result (λ p. length p.digests.items ≤ 122) }
-        ensures err { let bagging = H.bagging_of hasher.now in
-            IfErr result (λ e. e ≢ Error.OutOfMemory → IsProofRefusal bagging F.rule F.MAX_LEAVES self.now.leaves location inactive (get self.now.stored) e) }
+        ensures err { IfErr result (RefusesLeaf (H.bagging_of hasher.now) F.rule F.MAX_LEAVES self.now.leaves location inactive (get self.now.stored)) }
     {
         let leaves = self.leaves();
         if !location.is_valid_index() {
@@ -320,18 +309,14 @@ impl<F: Family, D: Digest> Mem<F, D> {
         range: Range<Location<F>>,
         inactive: usize,
     ) -> Result<Proof<F, D>, Error<F>>
-        ensures built { let s = H.scheme hasher.now in
-            let plan : LeafRange = record { leaves = self.now.leaves; start = range.start; end = range.end } in
-            IfOk result (λ p. (range.start < range.end) × (range.end ≤ self.now.leaves) × IsBuiltProof s (get self.now.stored) inactive plan p) }
+        ensures built { let s = H.scheme hasher.now in IfOk result (IsBuiltRange s (get self.now.stored) inactive self.now.leaves range.start range.end) }
 
         // It is the honest proof of every list that the structure agrees with.
         ensures honest { let s = H.scheme hasher.now in
-            (X : List D) → Agrees (H.hashing hasher.now) F.rule (contents self.now) X
-            → IfOk result (λ p. (range.start < range.end) × (range.end ≤ length X) × IsHonestRange s X inactive (list_input p X range.start range.end)) }
-        ensures granted { (h : Hashing D) → (X : List D) → Agrees h F.rule (contents self.now) X → self.now.boundary ≤ range.start
-            → range.start < range.end → range.end ≤ length X → inactive ≤ length (peaks_of F.rule (length X)) → IsOkUnless result Error.OutOfMemory }
-        ensures err { let bagging = H.bagging_of hasher.now in let n = self.now.leaves in
-            IfErr result (λ e. e ≢ Error.OutOfMemory → IsRangeRefusal bagging F.rule F.MAX_LEAVES n range.start range.end inactive (get self.now.stored) e) }
+            ForList (H.hashing hasher.now) F.rule (contents self.now) (IsProvedRange s inactive range.start range.end result) }
+        ensures granted { (h : Hashing D) → ForHeldRange h F.rule (contents self.now) inactive range.start range.end (IsOkUnless result Error.OutOfMemory) }
+        ensures err { let node = get self.now.stored in
+            IfErr result (RefusesRange (H.bagging_of hasher.now) F.rule F.MAX_LEAVES self.now.leaves range.start range.end inactive node) }
     {
         let leaves = self.leaves();
         match RangePlan::new(self.allocator(), leaves, range) {
@@ -347,8 +332,7 @@ impl<F: Family, D: Digest> Mem<F, D> {
     /// - `OutOfMemory` if a memory request is refused
     pub fn new_batch(&self) -> Result<UnmerkleizedBatch<F, D>, Error<F>>
         ensures forked { IfOk result (λ b. b ≡ forked (root_batch F.rule self.now.leaves (contents self.now))) }
-        ensures of_list { IfOk result (λ b. (h : Hashing D) → (X : List D) → Agrees h F.rule (contents self.now) X
-            → IsHistory h F.rule (records b.parent) (X ∷ X ∷ [])) }
+        ensures of_list { IfOk result (λ b. BeginsAt F.rule (contents self.now) b.parent) }
         ensures refused { IsOkUnless result Error.OutOfMemory }
     {
         match MerkleizedBatch::from_mem(self) {
@@ -380,10 +364,8 @@ impl<F: Family, D: Digest> Mem<F, D> {
         ensures unchanged { OnErr result (self.new ≡ self.old) }
         ensures done { OnOk result (applied {F = F} D.eq F.rule self.old.leaves batch.now (contents self.old) ≡ Ok (contents self.new)) }
         ensures counted { OnOk result (self.new.leaves ≡ batch.now.leaves) }
-        ensures accepted { let peaks = held_peaks F.rule self.old.leaves (contents self.old) in
-            is_some (matched D.eq self.old.size peaks batch.now) ≡ true → IsOkUnless result Error.OutOfMemory }
-        ensures refused { let peaks = held_peaks F.rule self.old.leaves (contents self.old) in
-            matched D.eq self.old.size peaks batch.now ≡ None → result ≡ Err (apply_error self.old.size batch.now) }
+        ensures accepted { is_some (match_of D.eq F.rule self.old batch.now) ≡ true → IsOkUnless result Error.OutOfMemory }
+        ensures refused { match_of D.eq F.rule self.old batch.now ≡ None → result ≡ Err (apply_error self.old.size batch.now) }
 
         // If the structure agreed with a list and some lists are a history of the batch, then it
         // was accepted at one of these: if that is the structure's own list, the structure now
@@ -398,8 +380,8 @@ impl<F: Family, D: Digest> Mem<F, D> {
         };
         let added = batch.size() - self.size();
         self.held.reserve(added.as_u64() as usize)?;
-        lay_all(&mut self.held, &batch.ancestors[first..]);
-        lay(&mut self.held, own);
+        apply_records(&mut self.held, &batch.ancestors[first..]);
+        apply_record(&mut self.held, own);
         self.leaves = batch.leaves;
         Ok(())
     }

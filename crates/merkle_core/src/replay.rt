@@ -26,7 +26,7 @@ fn replace_all<F: Family, D: Digest>(held: &mut HeldNodes<F, D>, overwrites: &Ov
 }
 
 /// Applies a record to the nodes that are held. There is room for the nodes that it appends.
-pub(crate) fn lay<F: Family, D: Digest>(held: &mut HeldNodes<F, D>, change: &Record<F, D>)
+pub(crate) fn apply_record<F: Family, D: Digest>(held: &mut HeldNodes<F, D>, change: &Record<F, D>)
     requires { held.old.size + length change.now.appended ≤ held.old.capacity }
     ensures start { held.new.start ≡ held.old.start }
     ensures size { held.new.size ≡ held.old.size + length change.now.appended }
@@ -39,7 +39,7 @@ pub(crate) fn lay<F: Family, D: Digest>(held: &mut HeldNodes<F, D>, change: &Rec
 
 /// Applies records to the nodes that are held, one after another. There is room for the nodes that
 /// they append.
-pub(crate) fn lay_all<F: Family, D: Digest>(
+pub(crate) fn apply_records<F: Family, D: Digest>(
     held: &mut HeldNodes<F, D>,
     changes: &[Rc<Record<F, D>>],
 )
@@ -50,6 +50,6 @@ pub(crate) fn lay_all<F: Family, D: Digest>(
     ensures replayed { (b : ℕ) → held_contents b held.new ≡ with_records (map (λ r. r.value) changes.now) (held_contents b held.old) }
 {
     for change in changes {
-        lay(held, change);
+        apply_record(held, change);
     }
 }

@@ -55,5 +55,5 @@ abbrev pub ArePeaksRead : {D : Type 0} → (List ℕ → List ℕ) → ℕ → �
 ArePeaksRead rule n s read = (i : ℕ) (t : Tree) → slice_get (peaks_of rule n) i ≡ Some t → position t < s → is_some (read (position t)) ≡ true
 
 -- one of them is not there
-abbrev pub IsPeakGap : {F D : Type 0} → (List ℕ → List ℕ) → ℕ → ℕ → (ℕ → Option D) → NodeError F → Type 0
-IsPeakGap rule n s read e = (i : ℕ) × (t : Tree) × (slice_get (peaks_of rule n) i ≡ Some t) × (position t < s) × IsGapAt read (position t) e
+abbrev pub IsMissingPeak : {F D : Type 0} → (List ℕ → List ℕ) → ℕ → ℕ → (ℕ → Option D) → NodeError F → Type 0
+IsMissingPeak rule n s read e = (i : ℕ) × (t : Tree) × (slice_get (peaks_of rule n) i ≡ Some t) × (position t < s) × IsGapAt read (position t) e

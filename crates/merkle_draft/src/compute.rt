@@ -20,7 +20,7 @@ use merkle_base::family::Family;
 use merkle_base::location::Location;
 use merkle_base::position::Position;
 use merkle_digest::digest::Digest;
-use merkle_hasher::hasher::Hasher;
+use merkle_hasher::hasher::{Hasher, Parent};
 use merkle_hasher::nodes::node_digests;
 use std::alloc::AllocError;
 use std::collections::BTreeMap;
@@ -52,7 +52,7 @@ impl<F: Family, D: Digest> Draft<F, D> {
         base: &B,
         height: u32,
         positions: &[Position<F>],
-        parents: &mut Vec<(Position<F>, D, D)>,
+        parents: &mut Vec<Parent<F, D>>,
     ) -> Result<(), NodeError<F>>
         requires inner { (p : ℕ) → Contains positions.now p → HasInner F.rule F.MAX_LEAVES p height }
         requires none { parents.old.items ≡ [] }
@@ -101,7 +101,7 @@ impl<F: Family, D: Digest> Draft<F, D> {
         hasher: &H,
         height: u32,
         positions: &[Position<F>],
-        parents: &mut Vec<(Position<F>, D, D)>,
+        parents: &mut Vec<Parent<F, D>>,
         digests: &mut Vec<D>,
     ) -> Result<(), NodeError<F>>
         requires inner { (p : ℕ) → Contains positions.now p → HasInner F.rule F.MAX_LEAVES p height }
@@ -132,7 +132,7 @@ impl<F: Family, D: Digest> Draft<F, D> {
         hasher: &H,
         height: u32,
         positions: &[Position<F>],
-        parents: &mut Vec<(Position<F>, D, D)>,
+        parents: &mut Vec<Parent<F, D>>,
         digests: &mut Vec<D>,
     ) -> Result<(), NodeError<F>>
         requires inner { (p : ℕ) → Contains positions.now p → HasInner F.rule F.MAX_LEAVES p height }
@@ -195,7 +195,7 @@ impl<F: Family, D: Digest> Draft<F, D> {
         hasher: &H,
         height: u32,
         positions: &[Position<F>],
-        parents: &mut Vec<(Position<F>, D, D)>,
+        parents: &mut Vec<Parent<F, D>>,
         digests: &mut Vec<D>,
     ) -> Result<(), NodeError<F>>
         requires inner { (p : ℕ) → Contains positions.now p → HasInner F.rule F.MAX_LEAVES p height }

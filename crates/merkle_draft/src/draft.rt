@@ -4,7 +4,7 @@ ghost use Rattle.std.specs.FinMap.{empty, get};
 ghost use Rattle.merkle_base.specs.Forest.{size};
 ghost use Rattle.merkle_base.specs.Places.{peak_positions};
 ghost use Rattle.merkle_batch_theory.specs.Contents.{Contents};
-ghost use Rattle.merkle_draft.specs.DraftReads.{below, old_node, OnlyAppends, IsPeakGap, ArePeaksRead};
+ghost use Rattle.merkle_draft.specs.DraftReads.{below, old_node, OnlyAppends, IsMissingPeak, ArePeaksRead};
 ghost use Rattle.merkle_draft.specs.Settled.{draft_node};
 ghost use Rattle.merkle_batch_theory.specs.Unmerkleized.{is_changed};
 ghost use Rattle.merkle_batch_theory.specs.Records.{after};
@@ -156,7 +156,7 @@ impl<F: Family, D: Digest> Draft<F, D> {
     ) -> Result<Vec<D>, NodeError<F>>
         requires within { leaves ≤ F.MAX_LEAVES }
         requires sized { self.now.before + length self.now.appended ≡ size F.rule leaves }
-        ensures missing { IfErr result (λ e. e ≢ NodeError.OutOfMemory → IsPeakGap F.rule leaves self.now.before (old_node self.now (B.contents base.now)) e) }
+        ensures missing { IfErr result (λ e. e ≢ NodeError.OutOfMemory → IsMissingPeak F.rule leaves self.now.before (old_node self.now (B.contents base.now)) e) }
         ensures read { IfOk result (λ _. ArePeaksRead F.rule leaves self.now.before (old_node self.now (B.contents base.now))) }
         ensures right { IfOk result (λ v. (truth : ℕ → D) → ReadsAgree (old_node self.now (B.contents base.now)) self.now.before truth
             → self.now.appended ≡ digests_from truth self.now.before (length self.now.appended) → v.items ≡ map truth (peak_positions F.rule leaves)) }

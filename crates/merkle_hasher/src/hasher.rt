@@ -17,6 +17,9 @@ use merkle_digest::digest::{BLOCK_COUNT_BOUND, Digest, PlainHasher};
 use std::alloc::{AllocError, Global};
 use std::marker::{Model, PhantomData};
 
+/// A parent node: its position, and the digests of its left and its right child.
+pub type Parent<F, D> = (Position<F>, D, D);
+
 /// Computes the digests of a family's leaves, parent nodes, folded peaks and roots.
 ///
 /// Every digest depends only on the arguments and on the value of the hasher; a clone computes the
@@ -53,10 +56,7 @@ pub trait Hasher<F: Family>: Clone {
 
     /// Returns the digests of two parent nodes, each as by [`node_digest`](Hasher::node_digest). An
     /// implementation may compute them together.
-    fn node_digest_pair(
-        &self,
-        nodes: [(Position<F>, Self::Digest, Self::Digest); 2],
-    ) -> (Self::Digest, Self::Digest)
+    fn node_digest_pair(&self, nodes: [Parent<F, Self::Digest>; 2]) -> (Self::Digest, Self::Digest)
         ensures { (d : _) (e : _) → nodes ≡ d ∷ e ∷ [] → (result.0 ≡ (hashing self.now).node d.0 d.1 d.2) × (result.1 ≡ (hashing self.now).node e.0 e.1 e.2) };
 
     /// Returns the digests of three parent nodes, each as by [`node_digest`](Hasher::node_digest). An
@@ -66,7 +66,7 @@ pub trait Hasher<F: Family>: Clone {
     /// Requires that there are three nodes.
     fn node_digests_three(
         &self,
-        nodes: &[(Position<F>, Self::Digest, Self::Digest)],
+        nodes: &[Parent<F, Self::Digest>],
     ) -> (Self::Digest, Self::Digest, Self::Digest)
         requires { length nodes.now ≡ 3 }
         ensures { map (λ n. (hashing self.now).node n.0 n.1 n.2) nodes.now ≡ result.0 ∷ result.1 ∷ result.2 ∷ [] }
@@ -84,7 +84,7 @@ pub trait Hasher<F: Family>: Clone {
     /// Requires that there are four nodes.
     fn node_digests_four(
         &self,
-        nodes: &[(Position<F>, Self::Digest, Self::Digest)],
+        nodes: &[Parent<F, Self::Digest>],
     ) -> (Self::Digest, Self::Digest, Self::Digest, Self::Digest)
         requires { length nodes.now ≡ 4 }
         ensures { map (λ n. (hashing self.now).node n.0 n.1 n.2) nodes.now ≡ result.0 ∷ result.1 ∷ result.2 ∷ result.3 ∷ [] }
@@ -458,7 +458,7 @@ impl<H: PlainHasher> Standard<H> {
     }
 }
 
-fn hash_both<H: PlainHasher>(
+fn hash_two_nodes<H: PlainHasher>(
     p: &[u8],
     a: &[u8],
     b: &[u8],
@@ -490,7 +490,7 @@ fn hash_three_nodes<H: PlainHasher>(
     H::hash_three(&[p, a, b], &[q, c, d], &[r, e, f])
 }
 
-fn hash_each<H: PlainHasher>(
+fn hash_four_nodes<H: PlainHasher>(
     p: &[u8],
     a: &[u8],
     b: &[u8],
@@ -512,7 +512,7 @@ fn hash_each<H: PlainHasher>(
     H::hash_four(&[p, a, b], &[q, c, d], &[r, e, f], &[s, g, h])
 }
 
-fn hash_each_pair<H: PlainHasher>(
+fn hash_four_leaves<H: PlainHasher>(
     p: &[u8],
     a: &[u8],
     q: &[u8],
@@ -557,15 +557,12 @@ impl<F: Family, H: PlainHasher> Hasher<F> for Standard<H> {
         ])
     }
 
-    fn node_digest_pair(
-        &self,
-        nodes: [(Position<F>, H::Digest, H::Digest); 2],
-    ) -> (H::Digest, H::Digest)
+    fn node_digest_pair(&self, nodes: [Parent<F, H::Digest>; 2]) -> (H::Digest, H::Digest)
         ensures { let h = standard H.digest_of H.Digest.bytes H.Digest.eq H.Digest.EMPTY in (d : _) (e : _) → nodes ≡ d ∷ e ∷ []
             → (result.0 ≡ h.node d.0 d.1 d.2) × (result.1 ≡ h.node e.0 e.1 e.2) }
     {
         let [(p, a, b), (q, c, d)] = nodes;
-        hash_both::<H>(
+        hash_two_nodes::<H>(
             &p.as_u64().to_be_bytes(),
             a.as_bytes(),
             b.as_bytes(),
@@ -577,7 +574,7 @@ impl<F: Family, H: PlainHasher> Hasher<F> for Standard<H> {
 
     fn node_digests_three(
         &self,
-        nodes: &[(Position<F>, H::Digest, H::Digest)],
+        nodes: &[Parent<F, H::Digest>],
     ) -> (H::Digest, H::Digest, H::Digest) {
         hash_three_nodes::<H>(
             &nodes[0].0.as_u64().to_be_bytes(),
@@ -594,9 +591,9 @@ impl<F: Family, H: PlainHasher> Hasher<F> for Standard<H> {
 
     fn node_digests_four(
         &self,
-        nodes: &[(Position<F>, H::Digest, H::Digest)],
+        nodes: &[Parent<F, H::Digest>],
     ) -> (H::Digest, H::Digest, H::Digest, H::Digest) {
-        hash_each::<H>(
+        hash_four_nodes::<H>(
             &nodes[0].0.as_u64().to_be_bytes(),
             nodes[0].1.as_bytes(),
             nodes[0].2.as_bytes(),
@@ -622,7 +619,7 @@ impl<F: Family, H: PlainHasher> Hasher<F> for Standard<H> {
         &self,
         leaves: &[(Position<F>, &[u8])],
     ) -> (H::Digest, H::Digest, H::Digest, H::Digest) {
-        hash_each_pair::<H>(
+        hash_four_leaves::<H>(
             &leaves[0].0.as_u64().to_be_bytes(),
             leaves[0].1,
             &leaves[1].0.as_u64().to_be_bytes(),
@@ -685,10 +682,7 @@ impl<F: Family, T: Hasher<F>> Hasher<F> for &T {
         (**self).node_digest(position, left, right)
     }
 
-    fn node_digest_pair(
-        &self,
-        nodes: [(Position<F>, T::Digest, T::Digest); 2],
-    ) -> (T::Digest, T::Digest)
+    fn node_digest_pair(&self, nodes: [Parent<F, T::Digest>; 2]) -> (T::Digest, T::Digest)
         ensures { (d : _) (e : _) → nodes ≡ d ∷ e ∷ [] → (result.0 ≡ (T.hashing self.now.now).node d.0 d.1 d.2)
             × (result.1 ≡ (T.hashing self.now.now).node e.0 e.1 e.2) }
     {
@@ -697,14 +691,14 @@ impl<F: Family, T: Hasher<F>> Hasher<F> for &T {
 
     fn node_digests_three(
         &self,
-        nodes: &[(Position<F>, T::Digest, T::Digest)],
+        nodes: &[Parent<F, T::Digest>],
     ) -> (T::Digest, T::Digest, T::Digest) {
         (**self).node_digests_three(nodes)
     }
 
     fn node_digests_four(
         &self,
-        nodes: &[(Position<F>, T::Digest, T::Digest)],
+        nodes: &[Parent<F, T::Digest>],
     ) -> (T::Digest, T::Digest, T::Digest, T::Digest) {
         (**self).node_digests_four(nodes)
     }

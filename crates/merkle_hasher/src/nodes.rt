@@ -1,9 +1,8 @@
 //! The digests of many nodes, computed several at a time.
 ghost use Rattle.std.specs.Prelude.{◌≡◌, ◌≤◌, ◌++◌, ◌∷◌, [], OnOk, map, length};
 
-use crate::hasher::Hasher;
+use crate::hasher::{Hasher, Parent};
 use merkle_base::family::Family;
-use merkle_base::position::Position;
 use std::alloc::AllocError;
 
 /// Appends the digests of parent nodes to `digests`, in the order of the nodes.
@@ -30,7 +29,7 @@ use std::alloc::AllocError;
 /// ```
 pub fn node_digests<F: Family, T: Hasher<F>>(
     hasher: &T,
-    nodes: &[(Position<F>, T::Digest, T::Digest)],
+    nodes: &[Parent<F, T::Digest>],
     digests: &mut Vec<T::Digest>,
 ) -> Result<(), AllocError>
     ensures { OnOk result (digests.new.items ≡ digests.old.items ++ map (λ n. (T.hashing hasher.now).node n.0 n.1 n.2) nodes.now) }
@@ -46,7 +45,7 @@ pub fn node_digests<F: Family, T: Hasher<F>>(
 
 fn push_four<F: Family, T: Hasher<F>>(
     hasher: &T,
-    nodes: &[(Position<F>, T::Digest, T::Digest)],
+    nodes: &[Parent<F, T::Digest>],
     digests: &mut Vec<T::Digest>,
 ) -> Result<(), AllocError>
     requires { length nodes.now ≡ 4 }
@@ -63,7 +62,7 @@ fn push_four<F: Family, T: Hasher<F>>(
 // At most three nodes.
 fn push_few<F: Family, T: Hasher<F>>(
     hasher: &T,
-    nodes: &[(Position<F>, T::Digest, T::Digest)],
+    nodes: &[Parent<F, T::Digest>],
     digests: &mut Vec<T::Digest>,
 ) -> Result<(), AllocError>
     requires { length nodes.now ≤ 3 }
@@ -84,7 +83,7 @@ fn push_few<F: Family, T: Hasher<F>>(
 
 fn push_three<F: Family, T: Hasher<F>>(
     hasher: &T,
-    nodes: &[(Position<F>, T::Digest, T::Digest)],
+    nodes: &[Parent<F, T::Digest>],
     digests: &mut Vec<T::Digest>,
 ) -> Result<(), AllocError>
     requires { length nodes.now ≡ 3 }

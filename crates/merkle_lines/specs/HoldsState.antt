@@ -7,7 +7,7 @@ use Rattle.merkle_forest_theory.specs.Mmr.{mmr_merges}
 use Rattle.merkle_lines.specs.declared.session.Session.{Session}
 use Rattle.merkle_lines.specs.declared.session.Session.TheVariants.{Absent, MmrSha256, MmrXor8, MmbSha256, MmbXor8}
 use Rattle.merkle_lines.specs.StructureState.{StructureState}
-use Rattle.merkle_lines.specs.Hashes.{sha256_hashing, xor8_hashing}
+use Rattle.merkle_core.specs.PlainHashings.{sha256_hashing, xor8_hashing}
 use Rattle.merkle_lines.specs.Held.{IsStructureHeld}
 use Rattle.merkle_lines.specs.Transcript.{SessionState}
 

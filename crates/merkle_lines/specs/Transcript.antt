@@ -14,7 +14,7 @@ use Rattle.merkle_lines.specs.Answers.{error_line, IsRequestAnswered}
 use Rattle.merkle_lines.specs.StructureState.{StructureState, empty_structure}
 use Rattle.merkle_base.specs.Scheme.{scheme_of}
 use Rattle.merkle_commands.specs.Commands.{words_of, joined, IsCommand}
-use Rattle.merkle_lines.specs.Hashes.{sha256_hashing, xor8_hashing}
+use Rattle.merkle_core.specs.PlainHashings.{sha256_hashing, xor8_hashing}
 
 -- a structure that was begun, and what it was given
 pub record SessionState : Type 0 where

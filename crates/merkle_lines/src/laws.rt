@@ -9,7 +9,7 @@ ghost use Rattle.merkle_lines.specs.Answers.{added, collision_line, error_line, 
 ghost use Rattle.merkle_root_theory.specs.Expression as theory;
 ghost use Rattle.merkle_lines.specs.Held.{edited};
 ghost use Rattle.merkle_lines.specs.StructureState.{StructureState, all_committed, with_changes};
-ghost use Rattle.merkle_lines.specs.Hashes.{xor8_hashing};
+ghost use Rattle.merkle_core.specs.PlainHashings.{xor8_hashing};
 ghost use Rattle.merkle_lines.specs.Transcript.{lines_of};
 
 /// Lines and their answers, computed. The hash is the exclusive or.

@@ -1,5 +1,6 @@
 -- Why a structure or a batch gives no proof of a leaf, or of a range of leaves.
 use Rattle.std.specs.Prelude.{◌≡◌, ℕ, ◌+◌, ◌≤◌, ◌<◌, ◌⊎◌, List, Option}
+use Rattle.merkle_base.specs.Refused.{UnlessMemory}
 use Rattle.merkle_base.specs.declared.family.Bagging.{Bagging}
 use Rattle.merkle_base.specs.declared.error.Error.{Error}
 use Rattle.merkle_base.specs.declared.error.Error.TheVariants.{LocationOverflow, LeafOutOfBounds}
@@ -17,3 +18,10 @@ abbrev pub IsRangeRefusal : {F D : Type 0} → Bagging → (rule : List ℕ → 
 IsRangeRefusal bagging rule max_leaves n a b k node e =
     IsRefusal max_leaves n a b e
     ⊎ ((a < b) × (b ≤ n) × IsBuildRefusal bagging rule (record { leaves = n; start = a; end = b }) k (λ p r. r ≡ node p) e)
+
+-- why there is no proof of a leaf, or of a range, memory aside
+abbrev pub RefusesLeaf : {F D : Type 0} → Bagging → (rule : List ℕ → List ℕ) → (max_leaves n i k : ℕ) → (ℕ → Option D) → Error F → Type 0
+RefusesLeaf bagging rule max_leaves n i k node = UnlessMemory (IsProofRefusal bagging rule max_leaves n i k node)
+
+abbrev pub RefusesRange : {F D : Type 0} → Bagging → (rule : List ℕ → List ℕ) → (max_leaves n a b k : ℕ) → (ℕ → Option D) → Error F → Type 0
+RefusesRange bagging rule max_leaves n a b k node = UnlessMemory (IsRangeRefusal bagging rule max_leaves n a b k node)

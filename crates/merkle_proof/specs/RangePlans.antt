@@ -1,5 +1,5 @@
 -- What a range proof reads, and what it is made of.
-use Rattle.std.specs.Prelude.{◌≡◌, ℕ, ◌+◌, ◌≤◌, ◌<◌, ◌⊎◌, List, ◌∷◌, ◌++◌, map, length, Option, Some, None, slice_get, take, drop, ◌-◌}
+use Rattle.std.specs.Prelude.{◌≡◌, ℕ, ◌+◌, ◌≤◌, ◌<◌, ◌⊎◌, List, ◌∷◌, ◌++◌, map, length, Option, Some, None, Result, IfOk, slice_get, take, drop, ◌-◌}
 use Rattle.std.specs.List.{AllZip}
 use Rattle.merkle_base.specs.Tree.{Tree, position}
 use Rattle.merkle_base.specs.Forest.{forest}
@@ -14,7 +14,7 @@ use Rattle.merkle_base.specs.Scheme.{Scheme}
 use Rattle.merkle_root_theory.specs.Layouts.{laid_out}
 use Rattle.merkle_root_theory.specs.Reads.{nodes_read, reading_order, both_read}
 use Rattle.merkle_root_theory.specs.Outside.{folded_prefix, single_before, single_after, folded_suffix}
-use Rattle.merkle_root_theory.specs.Range.{overlapping, wholly_after, range_laid_out, range_siblings}
+use Rattle.merkle_root_theory.specs.Range.{overlapping, wholly_after, range_laid_out, range_siblings, IsHonestRange}
 use Rattle.merkle_proof.specs.declared.proof.Proof.{Proof}
 
 -- a range of a number of leaves
@@ -22,6 +22,31 @@ pub record LeafRange : Type 0 where
   pub leaves : ℕ
   pub start : ℕ
   pub end : ℕ
+
+-- the range has leaves and lies within the leaves, a list may have as many, and k of its peaks may be inactive
+abbrev pub FitsLeaves : (rule : List ℕ → List ℕ) → (max_leaves k : ℕ) → LeafRange → Type 0
+FitsLeaves rule max_leaves k r = (r.start < r.end) × (r.end ≤ r.leaves) × (r.leaves ≤ max_leaves) × (k ≤ length (peaks_of rule r.leaves))
+
+-- the peaks by their parts in a proof: those before the range that are folded, and those that stand alone
+abbrev pub peaks_folded : Bagging → (rule : List ℕ → List ℕ) → (k : ℕ) → LeafRange → List Tree
+peaks_folded bagging rule k r = folded_prefix bagging k (wholly_before r.start (peaks_of rule r.leaves))
+
+abbrev pub peaks_before : Bagging → (rule : List ℕ → List ℕ) → (k : ℕ) → LeafRange → List Tree
+peaks_before bagging rule k r = single_before bagging k (wholly_before r.start (peaks_of rule r.leaves))
+
+-- those that overlap it, and how many there are with those before it
+abbrev pub peaks_over : (rule : List ℕ → List ℕ) → LeafRange → List Tree
+peaks_over rule r = overlapping r.start r.end (peaks_of rule r.leaves)
+
+abbrev pub peaks_met : (rule : List ℕ → List ℕ) → LeafRange → ℕ
+peaks_met rule r = length (wholly_before r.start (peaks_of rule r.leaves)) + length (overlapping r.start r.end (peaks_of rule r.leaves))
+
+-- those after it that stand alone, and those that are folded
+abbrev pub peaks_after : Bagging → (rule : List ℕ → List ℕ) → (k : ℕ) → LeafRange → List Tree
+peaks_after bagging rule k r = single_after bagging k (peaks_met rule r) (wholly_after r.end (peaks_of rule r.leaves))
+
+abbrev pub peaks_suffix : Bagging → (rule : List ℕ → List ℕ) → (k : ℕ) → LeafRange → List Tree
+peaks_suffix bagging rule k r = folded_suffix bagging k (peaks_met rule r) (wholly_after r.end (peaks_of rule r.leaves))
 
 -- the range has leaves, the counts are those of the list and of its peaks, and these nodes are read: first the `before` peaks before the
 -- range, then the `after` peaks after it
@@ -97,3 +122,45 @@ AnswersList {D} h rule xs answered = (p : ℕ) (t : Tree) (d : D) → slice_get 
 -- a proof with the leaves of a list from a on up to b
 abbrev pub list_input : {F D Peaks Heights : Type 0} → Proof F D Peaks Heights → List D → (a b : ℕ) → RangeInput D
 list_input p xs a b = record { leaves = p.leaves; inactive = p.inactive_peaks; digests = p.digests.items; start = a; elements = take (b - a) (drop a xs) }
+
+-- it is the honest proof of these leaves
+abbrev pub IsHonestProof : {F D Peaks Heights : Type 0} → Scheme D → List D → (k a b : ℕ) → Proof F D Peaks Heights → Type 0
+IsHonestProof s xs k a b p = IsHonestRange s xs k (list_input p xs a b)
+
+-- the list has leaves from a on up to b, or one at i, and it is the honest proof of these
+abbrev pub ProvesRange : {F D Peaks Heights : Type 0} → Scheme D → List D → (k a b : ℕ) → Proof F D Peaks Heights → Type 0
+ProvesRange s xs k a b p = (a < b) × (b ≤ length xs) × IsHonestProof s xs k a b p
+
+abbrev pub ProvesLeaf : {F D Peaks Heights : Type 0} → Scheme D → List D → (k i : ℕ) → Proof F D Peaks Heights → Type 0
+ProvesLeaf s xs k i p = (i < length xs) × IsHonestProof s xs k i (i + 1) p
+
+-- the same of what is answered, for a list
+abbrev pub IsProvedRange : {F D E Peaks Heights : Type 0} → Scheme D → (k a b : ℕ) → Result (Proof F D Peaks Heights) E → List D → Type 0
+IsProvedRange s k a b answer xs = IfOk answer (λ p. ProvesRange s xs k a b p)
+
+abbrev pub IsProvedLeaf : {F D E Peaks Heights : Type 0} → Scheme D → (k i : ℕ) → Result (Proof F D Peaks Heights) E → List D → Type 0
+IsProvedLeaf s k i answer xs = IfOk answer (λ p. ProvesLeaf s xs k i p)
+
+-- it is built for the leaves from a on up to b of n
+abbrev pub IsBuiltFor : {F D Peaks Heights : Type 0} → Scheme D → (ℕ → Option D) → (k n a b : ℕ) → Proof F D Peaks Heights → Type 0
+IsBuiltFor s node k n a b p = IsBuiltProof s node k (record { leaves = n; start = a; end = b }) p
+
+-- there are such leaves, or there is one at i, and it is built for these
+abbrev pub IsBuiltRange : {F D Peaks Heights : Type 0} → Scheme D → (ℕ → Option D) → (k n a b : ℕ) → Proof F D Peaks Heights → Type 0
+IsBuiltRange s node k n a b p = (a < b) × (b ≤ n) × IsBuiltFor s node k n a b p
+
+abbrev pub IsBuiltLeaf : {F D Peaks Heights : Type 0} → Scheme D → (ℕ → Option D) → (k n i : ℕ) → Proof F D Peaks Heights → Type 0
+IsBuiltLeaf s node k n i p = (i < n) × IsBuiltFor s node k n i (i + 1) p
+
+-- each answer is what stands at the position
+abbrev pub AnswersBy : {D : Type 0} → (ℕ → Option D) → (ℕ → Option D → Type 0) → Type 0
+AnswersBy {D} node answered = (p : ℕ) (r : Option D) → answered p r → r ≡ node p
+
+-- P for each list of as many leaves whose digests are answered
+abbrev pub ForAnswered : {D : Type 0} → Hashing D → (rule : List ℕ → List ℕ) → LeafRange → (ℕ → Option D → Type 0) → (List D → Type 0) → Type 0
+ForAnswered {D} h rule r answered P = (xs : List D) → length xs ≡ r.leaves → AnswersList h rule xs answered → P xs
+
+-- the digests of a proof of the range are those that are answered at the nodes that it reads, laid out
+abbrev pub IsAnsweredBy : {F D Peaks Heights : Type 0} → Hashing D → Bagging → (rule : List ℕ → List ℕ) → (k : ℕ) → LeafRange
+    → (ℕ → Option D → Type 0) → Proof F D Peaks Heights → Type 0
+IsAnsweredBy h bagging rule k r answered p = IsAnsweredProof h.fold bagging rule k r answered p.digests.items

@@ -14,7 +14,7 @@ use merkle_base::position::Position;
 use merkle_hasher::hasher::Hasher;
 use merkle_range::checks::{ProofParts, reconstruct_empty_root};
 use merkle_scattered::confirm::confirm_peaks;
-use merkle_scattered::told::Told;
+use merkle_scattered::supplied::SuppliedDigests;
 use std::alloc::{AllocError, Global};
 
 /// Whether the elements, each at its location, lead to `root`.
@@ -70,7 +70,7 @@ fn verify_nonempty<F: Family, H: Hasher<F>>(
     if positions.len() != parts.digests.len() {
         return Ok(false);
     }
-    let told = Told {
+    let told = SuppliedDigests {
         positions: &positions,
         digests: parts.digests,
     };

@@ -1,17 +1,13 @@
 //! Proofs that elements are leaves of the list behind a root.
-ghost use Rattle.std.specs.Prelude.{◌≡◌, ◌≢◌, ◌≤◌, [], ◌∷◌, ◌↔◌, ◌⊎◌, ℕ, Ok, Err, IsTrue, IfOk, IfErr, length};
-ghost use Rattle.std.specs.List.{AllByRecursion};
+ghost use Rattle.std.specs.Prelude.{◌≡◌, ◌≤◌, [], ◌∷◌, ◌↔◌, Ok, IsTrue, IfOk, IfErr};
 ghost use Rattle.merkle_base.specs.Places.{inactive_peaks};
-ghost use Rattle.merkle_claim_theory.specs.Multiproof.{AcceptsMulti, IsHonestMulti, MultiCollides};
-ghost use Rattle.merkle_root_theory.specs.Extract.{extracted, IsNodePair};
-ghost use Rattle.merkle_root_theory.specs.Range.{ForRootOf, IsHonestRange, RangeCollides};
+ghost use Rattle.merkle_claim_theory.specs.Multiproof.{AcceptsMulti};
 ghost use Rattle.merkle_root_theory.specs.Reconstruction.{reconstructed};
 ghost use Rattle.merkle_root_theory.specs.RootNames.{NamesRoot};
 ghost use Rattle.merkle_hasher.specs.LeafDigests.{bytes_of};
-ghost use Rattle.merkle_claim_theory.specs.Pinned.{AcceptsPinned, IsHonestPinned, PinnedCollides};
-ghost use Rattle.merkle_claim_theory.specs.Rebuilt.{GivesOldRoot};
-ghost use Rattle.merkle_range.specs.Extracting.{IsExtractionRefusal};
+ghost use Rattle.merkle_range.specs.Extracting.{RefusesExtraction};
 ghost use Rattle.merkle_proof.specs.Input.{input_of, multi_input_of};
+ghost use Rattle.merkle_claim_theory.specs.CheckAnswers.{IsReconstructionRefusal, IsExactForRange, IsCompleteForRange, IsSoundForRange, IsCompleteForMulti, IsSoundForMulti, IsExactForPins, IsCompleteForPins, IsSoundForPins, TellsOldRoot, IsExtraction, AreNodePairs};
 
 pub use crate::element_plan::ElementPlan;
 pub use crate::multi::multi_proof_positions;
@@ -145,9 +141,7 @@ impl<F: Family, D: Digest> Proof<F, D> {
     ) -> Result<D, ReconstructionError>
         ensures ok { let s = H.scheme hasher.now in
             IfOk result (λ d. reconstructed s (input_of s self.now start (bytes_of elements.now)) ≡ Ok d) }
-        ensures err { let s = H.scheme hasher.now in
-            IfErr result (λ e. e ≢ ReconstructionError.OutOfMemory
-            → reconstructed s (input_of s self.now start (bytes_of elements.now)) ≡ Err e) }
+        ensures err { let s = H.scheme hasher.now in IfErr result (IsReconstructionRefusal s (input_of s self.now start (bytes_of elements.now))) }
     {
         reconstruct_root(&self.parts(), hasher, elements, start)
     }
@@ -171,16 +165,11 @@ impl<F: Family, D: Digest> Proof<F, D> {
         start: Location<F>,
         root: &D,
     ) -> Result<bool, OutOfMemory>
-        ensures exact { let s = H.scheme hasher.now in
-            IfOk result (λ yes. IsTrue yes ↔ (reconstructed s (input_of s self.now start (bytes_of elements.now)) ≡ Ok root.now)) }
+        ensures exact { let s = H.scheme hasher.now in IfOk result (IsExactForRange s root.now (input_of s self.now start (bytes_of elements.now))) }
         ensures names { let s = H.scheme hasher.now in
             IfOk result (λ yes. IsTrue yes → NamesRoot s self.now.leaves root.now) }
-        ensures honest { let s = H.scheme hasher.now in
-            let r = input_of s self.now start (bytes_of elements.now) in
-            IfOk result (λ yes. ForRootOf s root.now (λ xs k. IsHonestRange s xs k r → IsTrue yes)) }
-        ensures sound { let s = H.scheme hasher.now in
-            let r = input_of s self.now start (bytes_of elements.now) in
-            IfOk result (λ yes. IsTrue yes → ForRootOf s root.now (λ xs k. IsHonestRange s xs k r ⊎ RangeCollides s r xs k)) }
+        ensures honest { let s = H.scheme hasher.now in IfOk result (IsCompleteForRange s root.now (input_of s self.now start (bytes_of elements.now))) }
+        ensures sound { let s = H.scheme hasher.now in IfOk result (IsSoundForRange s root.now (input_of s self.now start (bytes_of elements.now))) }
     {
         verify_range(&self.parts(), hasher, elements, start, root)
     }
@@ -212,15 +201,9 @@ impl<F: Family, D: Digest> Proof<F, D> {
         start: Location<F>,
         root: &D,
     ) -> Result<Vec<(Position<F>, D)>, Error<F>>
-        ensures ok { let s = H.scheme hasher.now in
-            let r = input_of s self.now start (bytes_of elements.now) in
-            IfOk result (λ pairs. (reconstructed s r ≡ Ok root.now) × (pairs.items ≡ extracted s r)) }
-        ensures nodes { let s = H.scheme hasher.now in
-            let r = input_of s self.now start (bytes_of elements.now) in
-            IfOk result (λ pairs. ForRootOf s root.now (λ xs k. AllByRecursion (IsNodePair s xs) pairs.items ⊎ RangeCollides s r xs k)) }
-        ensures err { let s = H.scheme hasher.now in
-            IfErr result (λ e. e ≢ Error.OutOfMemory
-            → IsExtractionRefusal s (input_of s self.now start (bytes_of elements.now)) root.now e) }
+        ensures ok { let s = H.scheme hasher.now in IfOk result (λ v. IsExtraction s root.now (input_of s self.now start (bytes_of elements.now)) v.items) }
+        ensures nodes { let s = H.scheme hasher.now in IfOk result (λ v. AreNodePairs s root.now (input_of s self.now start (bytes_of elements.now)) v.items) }
+        ensures err { let s = H.scheme hasher.now in IfErr result (RefusesExtraction s (input_of s self.now start (bytes_of elements.now)) root.now) }
     {
         verify_and_extract(&self.parts(), hasher, elements, start, root)
     }
@@ -270,21 +253,15 @@ impl<F: Family, D: Digest> Proof<F, D> {
         root: &D,
     ) -> Result<bool, OutOfMemory>
         ensures exact { let s = H.scheme hasher.now in
-            let r = input_of s self.now start (bytes_of elements.now) in
-            IfOk result (λ yes. IsTrue yes ↔ AcceptsPinned s r pinned_nodes.now root.now) }
+            IfOk result (IsExactForPins s root.now (input_of s self.now start (bytes_of elements.now)) pinned_nodes.now) }
         ensures names { let s = H.scheme hasher.now in
             IfOk result (λ yes. IsTrue yes → NamesRoot s self.now.leaves root.now) }
         ensures honest { let s = H.scheme hasher.now in
-            let r = input_of s self.now start (bytes_of elements.now) in
-            IfOk result (λ yes. ForRootOf s root.now (λ xs k. IsHonestPinned s xs k r pinned_nodes.now → IsTrue yes)) }
+            IfOk result (IsCompleteForPins s root.now (input_of s self.now start (bytes_of elements.now)) pinned_nodes.now) }
         ensures sound { let s = H.scheme hasher.now in
-            let r = input_of s self.now start (bytes_of elements.now) in
-            IfOk result (λ yes. IsTrue yes
-            → ForRootOf s root.now (λ xs k. IsHonestPinned s xs k r pinned_nodes.now ⊎ PinnedCollides s r pinned_nodes.now xs k)) }
+            IfOk result (IsSoundForPins s root.now (input_of s self.now start (bytes_of elements.now)) pinned_nodes.now) }
         ensures old_root { let s = H.scheme hasher.now in
-            let r = input_of s self.now start (bytes_of elements.now) in
-            IfOk result (λ yes. IsTrue yes
-            → ForRootOf s root.now (λ xs k. GivesOldRoot s xs start pinned_nodes.now ⊎ PinnedCollides s r pinned_nodes.now xs k)) }
+            IfOk result (TellsOldRoot s root.now (input_of s self.now start (bytes_of elements.now)) pinned_nodes.now) }
     {
         verify_pinned(&self.parts(), hasher, elements, start, pinned_nodes, root)
     }
@@ -320,16 +297,11 @@ impl<F: Family, D: Digest> Proof<F, D> {
         location: Location<F>,
         root: &D,
     ) -> Result<bool, OutOfMemory>
-        ensures exact { let s = H.scheme hasher.now in
-            IfOk result (λ yes. IsTrue yes ↔ (reconstructed s (input_of s self.now location (element.now ∷ [])) ≡ Ok root.now)) }
+        ensures exact { let s = H.scheme hasher.now in IfOk result (IsExactForRange s root.now (input_of s self.now location (element.now ∷ []))) }
         ensures names { let s = H.scheme hasher.now in
             IfOk result (λ yes. IsTrue yes → NamesRoot s self.now.leaves root.now) }
-        ensures honest { let s = H.scheme hasher.now in
-            let r = input_of s self.now location (element.now ∷ []) in
-            IfOk result (λ yes. ForRootOf s root.now (λ xs k. IsHonestRange s xs k r → IsTrue yes)) }
-        ensures sound { let s = H.scheme hasher.now in
-            let r = input_of s self.now location (element.now ∷ []) in
-            IfOk result (λ yes. IsTrue yes → ForRootOf s root.now (λ xs k. IsHonestRange s xs k r ⊎ RangeCollides s r xs k)) }
+        ensures honest { let s = H.scheme hasher.now in IfOk result (IsCompleteForRange s root.now (input_of s self.now location (element.now ∷ []))) }
+        ensures sound { let s = H.scheme hasher.now in IfOk result (IsSoundForRange s root.now (input_of s self.now location (element.now ∷ []))) }
     {
         self.verify_range_inclusion(hasher, &[element], location, root)
     }
@@ -374,12 +346,8 @@ impl<F: Family, D: Digest> Proof<F, D> {
             IfOk result (λ yes. IsTrue yes ↔ AcceptsMulti s (multi_input_of s self.now elements.now) root.now) }
         ensures names { let s = H.scheme hasher.now in
             IfOk result (λ yes. IsTrue yes → NamesRoot s self.now.leaves root.now) }
-        ensures honest { let s = H.scheme hasher.now in
-            let r = multi_input_of s self.now elements.now in
-            IfOk result (λ yes. ForRootOf s root.now (λ xs k. IsHonestMulti s xs k r → IsTrue yes)) }
-        ensures sound { let s = H.scheme hasher.now in
-            let r = multi_input_of s self.now elements.now in
-            IfOk result (λ yes. IsTrue yes → ForRootOf s root.now (λ xs k. IsHonestMulti s xs k r ⊎ MultiCollides s r xs k)) }
+        ensures honest { let s = H.scheme hasher.now in IfOk result (IsCompleteForMulti s root.now (multi_input_of s self.now elements.now)) }
+        ensures sound { let s = H.scheme hasher.now in IfOk result (IsSoundForMulti s root.now (multi_input_of s self.now elements.now)) }
     {
         verify_multi(&self.parts(), hasher, elements, root)
     }

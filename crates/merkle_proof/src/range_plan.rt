@@ -1,13 +1,12 @@
 //! Plans of range proofs: the nodes that a proof reads, and the proof built from their digests.
-ghost use Rattle.std.specs.Prelude.{◌≡◌, ◌≢◌, ◌<◌, ◌≤◌, ◌+◌, ℕ, List, Option, length, map, IfOk, IfErr, IfSome, IfNone, IsOkUnless};
+ghost use Rattle.std.specs.Prelude.{◌≡◌, ◌≢◌, ◌<◌, ◌≤◌, ◌+◌, ℕ, Option, length, map, IfOk, IfErr, IfSome, IfNone, IsOkUnless};
 ghost use Rattle.merkle_base.specs.Places.{peaks_of, wholly_before};
 ghost use Rattle.merkle_base.specs.Tree.{position};
-ghost use Rattle.merkle_root_theory.specs.Outside.{folded_prefix, single_before, single_after, folded_suffix};
-ghost use Rattle.merkle_root_theory.specs.Range.{IsHonestRange, overlapping, wholly_after};
+ghost use Rattle.merkle_root_theory.specs.Range.{overlapping, wholly_after};
 ghost use Rattle.merkle_root_theory.specs.Reads.{nodes_read};
 ghost use Rattle.std.specs.List.Sorted.{IsStrictlyIncreasing};
 ghost use Rattle.merkle_proof.specs.Positions.{range_positions};
-ghost use Rattle.merkle_proof.specs.RangePlans.{IsRefusal, IsAnsweredProof, IsBuildRefusal, IsBuiltProof, AnswersList, list_input};
+ghost use Rattle.merkle_proof.specs.RangePlans.{IsRefusal, IsBuildRefusal, IsBuiltProof, FitsLeaves, peaks_folded, peaks_before, peaks_over, peaks_after, peaks_suffix, AnswersBy, ForAnswered, IsAnsweredBy, IsHonestProof};
 
 use crate::positions::ascending;
 use crate::proof::Proof;
@@ -134,11 +133,8 @@ impl<F: Family> RangePlan<F> {
     pub fn counts(&self, bagging: Bagging, inactive: usize) -> RangeCounts
         ensures before { result.before ≡ length (wholly_before self.now.start (peaks_of F.rule self.now.leaves)) }
         ensures after { result.after ≡ length (wholly_after self.now.end (peaks_of F.rule self.now.leaves)) }
-        ensures folded { let before = wholly_before self.now.start (peaks_of F.rule self.now.leaves) in
-            result.folded ≡ length (folded_prefix bagging inactive before) }
-        ensures single { let peaks = peaks_of F.rule self.now.leaves in
-            let met = length (wholly_before self.now.start peaks) + length (overlapping self.now.start self.now.end peaks) in
-            result.single ≡ length (single_after bagging inactive met (wholly_after self.now.end peaks)) }
+        ensures folded { result.folded ≡ length (peaks_folded bagging F.rule inactive self.now) }
+        ensures single { result.single ≡ length (peaks_after bagging F.rule inactive self.now) }
         ensures within { (result.folded ≤ result.before) × (result.single ≤ result.after) }
         ensures read { result.before + result.after ≤ length (nodes_read F.rule self.now.leaves self.now.start self.now.end) }
     {
@@ -165,18 +161,11 @@ impl<F: Family> RangePlan<F> {
     pub fn groups(&self, bagging: Bagging, inactive: usize) -> Option<Groups>
         ensures some { IfSome result (λ _. inactive ≤ length (peaks_of F.rule self.now.leaves)) }
         ensures none { IfNone result (length (peaks_of F.rule self.now.leaves) < inactive) }
-        ensures folded { let peaks = wholly_before self.now.start (peaks_of F.rule self.now.leaves) in
-            IfSome result (λ g. g.folded ≡ length (folded_prefix bagging inactive peaks)) }
-        ensures before { let peaks = wholly_before self.now.start (peaks_of F.rule self.now.leaves) in
-            IfSome result (λ g. g.before ≡ length (single_before bagging inactive peaks)) }
-        ensures overlapping { let peaks = peaks_of F.rule self.now.leaves in
-            IfSome result (λ g. g.overlapping ≡ length (overlapping self.now.start self.now.end peaks)) }
-        ensures after { let peaks = peaks_of F.rule self.now.leaves in
-            let met = length (wholly_before self.now.start peaks) + length (overlapping self.now.start self.now.end peaks) in
-            IfSome result (λ g. g.after ≡ length (single_after bagging inactive met (wholly_after self.now.end peaks))) }
-        ensures suffix { let peaks = peaks_of F.rule self.now.leaves in
-            let met = length (wholly_before self.now.start peaks) + length (overlapping self.now.start self.now.end peaks) in
-            IfSome result (λ g. g.suffix ≡ length (folded_suffix bagging inactive met (wholly_after self.now.end peaks))) }
+        ensures folded { IfSome result (λ g. g.folded ≡ length (peaks_folded bagging F.rule inactive self.now)) }
+        ensures before { IfSome result (λ g. g.before ≡ length (peaks_before bagging F.rule inactive self.now)) }
+        ensures overlapping { IfSome result (λ g. g.overlapping ≡ length (peaks_over F.rule self.now)) }
+        ensures after { IfSome result (λ g. g.after ≡ length (peaks_after bagging F.rule inactive self.now)) }
+        ensures suffix { IfSome result (λ g. g.suffix ≡ length (peaks_suffix bagging F.rule inactive self.now)) }
     {
         if inactive > self.peaks {
             return None;
@@ -246,15 +235,11 @@ impl<F: Family> RangePlan<F> {
         G: Drop,
         requires reads { G.IsAlwaysCallable get_node }
         ensures built { let s = H.scheme hasher.now in
-            (node : ℕ → Option H.Digest) → ((p : ℕ) (r : Option H.Digest) → G.post get_node p r → r ≡ node p)
-            → IfOk result (λ p. IsBuiltProof s node inactive self p) }
+            (node : ℕ → Option H.Digest) → AnswersBy node (G.post get_node) → IfOk result (λ p. IsBuiltProof s node inactive self p) }
         ensures honest { let s = H.scheme hasher.now in
-            (xs : List H.Digest) → length xs ≡ self.leaves → AnswersList (H.hashing hasher.now) F.rule xs (G.post get_node)
-            → IfOk result (λ p. IsHonestRange s xs inactive (list_input p xs self.start self.end)) }
-        ensures read { let f = (H.hashing hasher.now).fold in
-            IfOk result (λ p. IsAnsweredProof f (H.bagging_of hasher.now) F.rule inactive self (G.post get_node) p.digests.items) }
-        ensures fits { IfOk result (λ _. (self.start < self.end) × (self.end ≤ self.leaves) × (self.leaves ≤ F.MAX_LEAVES)
-            × (inactive ≤ length (peaks_of F.rule self.leaves))) }
+            ForAnswered (H.hashing hasher.now) F.rule self (G.post get_node) (λ xs. IfOk result (IsHonestProof s xs inactive self.start self.end)) }
+        ensures read { IfOk result (IsAnsweredBy (H.hashing hasher.now) (H.bagging_of hasher.now) F.rule inactive self (G.post get_node)) }
+        ensures fits { IfOk result (λ _. FitsLeaves F.rule F.MAX_LEAVES inactive self) }
         ensures err { IfErr result (λ e. e ≢ Error.OutOfMemory → IsBuildRefusal (H.bagging_of hasher.now) F.rule self inactive (G.post get_node) e) }
     {
         if inactive > self.peaks {

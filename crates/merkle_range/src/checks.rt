@@ -1,5 +1,5 @@
 //! Checks of ranges of leaves against a root.
-ghost use Rattle.std.specs.Prelude.{◌≡◌, ◌≢◌, ◌+◌, ◌<◌, ◌≤◌, ◌⊎◌, [], ◌↔◌, List, Some, Ok, Err, IsTrue, IfOk, IfErr, length, map, drop};
+ghost use Rattle.std.specs.Prelude.{◌≡◌, ◌≢◌, ◌+◌, ◌<◌, ◌≤◌, ◌⊎◌, [], List, Some, Ok, Err, IfOk, IfErr, length, map, drop};
 ghost use Rattle.std.specs.List.{flat_map};
 ghost use Rattle.merkle_base.specs.Tree.{Tree};
 ghost use Rattle.merkle_root_theory.specs.Plan.{siblings};
@@ -10,8 +10,9 @@ ghost use Rattle.merkle_root_theory.specs.Reconstruction.{range_refusals, recons
 ghost use Rattle.merkle_hasher.specs.Subtrees.{AreNodes, subtree_of};
 ghost use Rattle.merkle_hasher.specs.LeafDigests.{bytes_of};
 ghost use Rattle.merkle_root_theory.specs.Walk.{leaf_from, ArePeaksWalked, ArePeakDigests};
-ghost use Rattle.merkle_range.specs.Input.{range_input, IsComputed};
+ghost use Rattle.merkle_range.specs.Input.{IsComputed, input_of_parts};
 ghost use Rattle.merkle_range.specs.Inside.{AreKnown};
+ghost use Rattle.merkle_claim_theory.specs.CheckAnswers.{IsExactForRange, IsReconstructionRefusal};
 
 use crate::extraction::{put_after, put_before};
 use crate::groups::PeakGroups;
@@ -21,10 +22,10 @@ use merkle_base::location::Location;
 use merkle_hasher::hasher::Hasher;
 use merkle_hasher::queue::push_leaf_digests;
 use merkle_hasher::subtree::Subtree;
-use merkle_reconstruction::collector::{Collector, Unlisted};
+use merkle_reconstruction::collector::{Collector, Discard};
 use merkle_reconstruction::inside::digests_inside;
-use merkle_reconstruction::known::Known;
-use merkle_reconstruction::siblings::reconstruct_digest;
+use merkle_reconstruction::known::ComputedNodes;
+use merkle_reconstruction::walk::reconstruct_digest;
 use std::alloc::Global;
 use std::ops::Range;
 
@@ -53,9 +54,7 @@ pub fn verify_range<F: Family, H: Hasher<F>>(
     start: Location<F>,
     root: &H::Digest,
 ) -> Result<bool, OutOfMemory>
-    ensures { let s = H.scheme hasher.now in
-        let r = range_input s parts.now.leaves parts.now.inactive parts.now.digests.now start (bytes_of elements.now) in
-        IfOk result (λ b. IsTrue b ↔ (reconstructed s r ≡ Ok root.now)) }
+    ensures { let s = H.scheme hasher.now in IfOk result (IsExactForRange s root.now (input_of_parts s parts.now start (bytes_of elements.now))) }
 {
     match reconstruct_root(parts, hasher, elements, start) {
         Ok(computed) => Ok(computed == *root),
@@ -86,20 +85,18 @@ pub fn reconstruct_root<F: Family, H: Hasher<F>>(
     start: Location<F>,
 ) -> Result<H::Digest, ReconstructionError>
     ensures ok { let s = H.scheme hasher.now in
-        let r = range_input s parts.now.leaves parts.now.inactive parts.now.digests.now start (bytes_of elements.now) in
+        let r = input_of_parts s parts.now start (bytes_of elements.now) in
         IfOk result (λ d. reconstructed s r ≡ Ok d) }
-    ensures err { let s = H.scheme hasher.now in
-        let r = range_input s parts.now.leaves parts.now.inactive parts.now.digests.now start (bytes_of elements.now) in
-        IfErr result (λ e. e ≢ ReconstructionError.OutOfMemory → reconstructed s r ≡ Err e) }
+    ensures err { let s = H.scheme hasher.now in IfErr result (IsReconstructionRefusal s (input_of_parts s parts.now start (bytes_of elements.now))) }
 {
     if elements.is_empty() {
         return reconstruct_empty_root(parts, hasher, start);
     }
-    reconstruct_mmr_position(parts, hasher, elements, start)
+    reconstruct_nonempty_root(parts, hasher, elements, start)
 }
 
 /// Computes the root that the elements, which are at least one, lead to.
-pub(crate) fn reconstruct_mmr_position<F: Family, H: Hasher<F>>(
+pub(crate) fn reconstruct_nonempty_root<F: Family, H: Hasher<F>>(
     parts: &ProofParts<'_, F, H::Digest>,
     hasher: &H,
     elements: &[&[u8]],
@@ -107,13 +104,13 @@ pub(crate) fn reconstruct_mmr_position<F: Family, H: Hasher<F>>(
 ) -> Result<H::Digest, ReconstructionError>
     requires nonempty { 0 < length elements.now }
     ensures ok { let s = H.scheme hasher.now in
-        let r = range_input s parts.now.leaves parts.now.inactive parts.now.digests.now start (bytes_of elements.now) in
+        let r = input_of_parts s parts.now start (bytes_of elements.now) in
         IfOk result (λ d. IsComputed s r d) }
     ensures err { let s = H.scheme hasher.now in
-        let r = range_input s parts.now.leaves parts.now.inactive parts.now.digests.now start (bytes_of elements.now) in
+        let r = input_of_parts s parts.now start (bytes_of elements.now) in
         IfErr result (λ e. e ≢ ReconstructionError.OutOfMemory → first_case (range_refusals s r) ≡ Some e) }
 {
-    reconstruct_root_into(parts, hasher, elements, start, &mut Unlisted)
+    reconstruct_root_into(parts, hasher, elements, start, &mut Discard)
 }
 
 /// Computes the root that the elements, which are at least one, lead to, and passes every node
@@ -130,13 +127,13 @@ pub(crate) fn reconstruct_root_into<F: Family, H: Hasher<F>, C: Collector<F, H::
 ) -> Result<H::Digest, ReconstructionError>
     requires nonempty { 0 < length elements.now }
     ensures ok { let s = H.scheme hasher.now in
-        let r = range_input s parts.now.leaves parts.now.inactive parts.now.digests.now start (bytes_of elements.now) in
+        let r = input_of_parts s parts.now start (bytes_of elements.now) in
         IfOk result (λ d. IsComputed s r d) }
     ensures taken { let s = H.scheme hasher.now in
-        let r = range_input s parts.now.leaves parts.now.inactive parts.now.digests.now start (bytes_of elements.now) in
+        let r = input_of_parts s parts.now start (bytes_of elements.now) in
         IfOk result (λ _. C.Took collector.old (extracted s r) collector.new) }
     ensures err { let s = H.scheme hasher.now in
-        let r = range_input s parts.now.leaves parts.now.inactive parts.now.digests.now start (bytes_of elements.now) in
+        let r = input_of_parts s parts.now start (bytes_of elements.now) in
         IfErr result (λ e. e ≢ ReconstructionError.OutOfMemory → first_case (range_refusals s r) ≡ Some e) }
 {
     let end = end_from(parts.leaves, start, elements.len())?;
@@ -190,7 +187,7 @@ pub fn reconstruct_empty_root<F: Family, H: Hasher<F>>(
     start: Location<F>,
 ) -> Result<H::Digest, ReconstructionError>
     ensures { let s = H.scheme hasher.now in
-        result ≡ reconstructed s (range_input s parts.now.leaves parts.now.inactive parts.now.digests.now start []) }
+        result ≡ reconstructed s (input_of_parts s parts.now start []) }
 {
     if start.as_u64() != 0 {
         return Err(ReconstructionError::MissingElements);
@@ -306,7 +303,7 @@ fn reconstruct_peaks<F: Family, H: Hasher<F>, C: Collector<F, H::Digest>>(
     hasher: &H,
     range: &Range<Location<F>>,
     leaves: &[H::Digest],
-    known: &Known<F, H::Digest>,
+    known: &ComputedNodes<F, H::Digest>,
     peaks: &[Subtree<F>],
     digests: &mut &[H::Digest],
     out: &mut Vec<H::Digest>,

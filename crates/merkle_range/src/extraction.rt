@@ -6,11 +6,12 @@ ghost use Rattle.merkle_base.specs.Places.{wholly_before};
 ghost use Rattle.merkle_root_theory.specs.Extract.{single_pairs, extracted};
 ghost use Rattle.merkle_root_theory.specs.Range.{wholly_after};
 ghost use Rattle.merkle_root_theory.specs.Reconstruction.{range_refusals, reconstructed};
-ghost use Rattle.merkle_range.specs.Extracting.{IsExtractionRefusal};
+ghost use Rattle.merkle_range.specs.Extracting.{RefusesExtraction};
 ghost use Rattle.merkle_base.specs.Cases.{first_case};
 ghost use Rattle.merkle_hasher.specs.LeafDigests.{bytes_of};
 ghost use Rattle.merkle_range.specs.GroupedPeaks.{HoldsGroups};
-ghost use Rattle.merkle_range.specs.Input.{range_input, IsComputed};
+ghost use Rattle.merkle_range.specs.Input.{IsComputed, input_of_parts};
+ghost use Rattle.merkle_claim_theory.specs.CheckAnswers.{IsExtraction};
 
 use crate::checks::{ProofParts, reconstruct_empty_root, reconstruct_root_into};
 use crate::groups::PeakGroups;
@@ -41,12 +42,8 @@ pub fn verify_and_extract<F: Family, H: Hasher<F>>(
     start: Location<F>,
     root: &H::Digest,
 ) -> Result<Vec<(Position<F>, H::Digest)>, Error<F>>
-    ensures ok { let s = H.scheme hasher.now in
-        let r = range_input s parts.now.leaves parts.now.inactive parts.now.digests.now start (bytes_of elements.now) in
-        IfOk result (λ pairs. (reconstructed s r ≡ Ok root.now) × (pairs.items ≡ extracted s r)) }
-    ensures err { let s = H.scheme hasher.now in
-        let r = range_input s parts.now.leaves parts.now.inactive parts.now.digests.now start (bytes_of elements.now) in
-        IfErr result (λ e. e ≢ Error.OutOfMemory → IsExtractionRefusal s r root.now e) }
+    ensures ok { let s = H.scheme hasher.now in IfOk result (λ v. IsExtraction s root.now (input_of_parts s parts.now start (bytes_of elements.now)) v.items) }
+    ensures err { let s = H.scheme hasher.now in IfErr result (RefusesExtraction s (input_of_parts s parts.now start (bytes_of elements.now)) root.now) }
 {
     match reconstruct_or_extract(parts, hasher, elements, start) {
         Ok((computed, pairs)) => {
@@ -71,10 +68,10 @@ fn reconstruct_or_extract<F: Family, H: Hasher<F>>(
     start: Location<F>,
 ) -> Result<(H::Digest, Vec<(Position<F>, H::Digest)>), ReconstructionError>
     ensures ok { let s = H.scheme hasher.now in
-        let r = range_input s parts.now.leaves parts.now.inactive parts.now.digests.now start (bytes_of elements.now) in
+        let r = input_of_parts s parts.now start (bytes_of elements.now) in
         IfOk result (λ found. (reconstructed s r ≡ Ok found.0) × (found.1.items ≡ extracted s r)) }
     ensures err { let s = H.scheme hasher.now in
-        let r = range_input s parts.now.leaves parts.now.inactive parts.now.digests.now start (bytes_of elements.now) in
+        let r = input_of_parts s parts.now start (bytes_of elements.now) in
         IfErr result (λ e. e ≢ ReconstructionError.OutOfMemory → reconstructed s r ≡ Err e) }
 {
     if elements.is_empty() {
@@ -102,13 +99,13 @@ pub(crate) fn reconstruct_and_extract<F: Family, H: Hasher<F>>(
 ) -> Result<(H::Digest, Vec<(Position<F>, H::Digest)>), ReconstructionError>
     requires nonempty { 0 < length elements.now }
     ensures ok { let s = H.scheme hasher.now in
-        let r = range_input s parts.now.leaves parts.now.inactive parts.now.digests.now start (bytes_of elements.now) in
+        let r = input_of_parts s parts.now start (bytes_of elements.now) in
         IfOk result (λ found. IsComputed s r found.0) }
     ensures pairs { let s = H.scheme hasher.now in
-        let r = range_input s parts.now.leaves parts.now.inactive parts.now.digests.now start (bytes_of elements.now) in
+        let r = input_of_parts s parts.now start (bytes_of elements.now) in
         IfOk result (λ found. found.1.items ≡ extracted s r) }
     ensures err { let s = H.scheme hasher.now in
-        let r = range_input s parts.now.leaves parts.now.inactive parts.now.digests.now start (bytes_of elements.now) in
+        let r = input_of_parts s parts.now start (bytes_of elements.now) in
         IfErr result (λ e. e ≢ ReconstructionError.OutOfMemory → first_case (range_refusals s r) ≡ Some e) }
 {
     let mut pairs = Vec::new(parts.alloc);

@@ -18,7 +18,7 @@ use merkle_base::location::Location;
 use merkle_base::position::Position;
 use merkle_hasher::peaks::peak_subtrees;
 use merkle_hasher::subtree::Subtree;
-use merkle_reconstruction::siblings::collect_siblings;
+use merkle_reconstruction::walk::collect_siblings;
 use std::alloc::{AllocError, Global};
 use std::ops::Range;
 

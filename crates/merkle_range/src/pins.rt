@@ -11,7 +11,7 @@ ghost use Rattle.merkle_hasher.specs.LeafDigests.{bytes_of};
 ghost use Rattle.merkle_claim_theory.specs.Pinned.{AcceptsPinnedCases};
 ghost use Rattle.merkle_claim_theory.specs.Rebuilt.{AllRebuilt, rebuilt_node, rebuilt_part};
 ghost use Rattle.merkle_base.specs.Table.{digest_for};
-ghost use Rattle.merkle_range.specs.Input.{range_input};
+ghost use Rattle.merkle_range.specs.Input.{input_of_parts};
 ghost use Rattle.merkle_range.specs.PinnedParts.{IsBeforeRebuilt};
 
 use crate::checks::{ProofParts, verify_range};
@@ -24,7 +24,7 @@ use merkle_digest::digest::Digest;
 use merkle_hasher::hasher::Hasher;
 use merkle_hasher::peaks::list_peaks;
 use merkle_hasher::subtree::Subtree;
-use merkle_reconstruction::known::digest_at;
+use merkle_reconstruction::known::find_digest;
 use std::alloc::{AllocError, Global};
 use std::ops::Range;
 
@@ -53,7 +53,7 @@ impl<'a, F: Family, D: Digest> Pins<'a, F, D> {
     fn get(&self, position: Position<F>) -> Option<D>
         ensures { result ≡ digest_for self.now.positions.items self.now.digests.now position }
     {
-        digest_at(&self.positions, self.digests, position)
+        find_digest(&self.positions, self.digests, position)
     }
 }
 
@@ -255,7 +255,7 @@ pub fn verify_pinned<F: Family, H: Hasher<F>>(
     root: &H::Digest,
 ) -> Result<bool, OutOfMemory>
     ensures { let s = H.scheme hasher.now in
-        let r = range_input s parts.now.leaves parts.now.inactive parts.now.digests.now start (bytes_of elements.now) in
+        let r = input_of_parts s parts.now start (bytes_of elements.now) in
         IfOk result (λ yes. IsTrue yes ↔ AcceptsPinnedCases s r pinned_nodes.now root.now) }
 {
     if !verify_range(parts, hasher, elements, start, root)? {

@@ -9,12 +9,11 @@ ghost use Rattle.merkle_reconstruction.specs.InsidePairs.{inside_pairs};
 
 use crate::collector::{Collector, put_both};
 use crate::inside::{leaf_inside, leaf_parent};
-use crate::known::Known;
+use crate::known::ComputedNodes;
 use merkle_base::family::Family;
 use merkle_base::location::Location;
-use merkle_base::position::Position;
 use merkle_digest::digest::Digest;
-use merkle_hasher::hasher::Hasher;
+use merkle_hasher::hasher::{Hasher, Parent};
 use merkle_hasher::subtree::Subtree;
 use std::alloc::{AllocError, Global};
 
@@ -27,7 +26,7 @@ const LEAST_HEIGHT: u32 = 3;
 const GREATEST_HEIGHT: u32 = 8;
 
 /// Whether the nodes below a node of this height are computed together.
-pub(crate) fn is_put_together(height: u32) -> bool
+pub(crate) fn is_extracted_by_levels(height: u32) -> bool
     ensures { IsTrue result ↔ ((LEAST_HEIGHT ≤ height) × (height ≤ GREATEST_HEIGHT)) }
 {
     LEAST_HEIGHT <= height && height <= GREATEST_HEIGHT
@@ -58,7 +57,7 @@ fn leaf_parents<F: Family, D: Digest>(
     nodes: &[Subtree<F>],
     start: Location<F>,
     leaves: &[D],
-) -> Result<Vec<(Position<F>, D, D)>, AllocError>
+) -> Result<Vec<Parent<F, D>>, AllocError>
     requires { AreLevel F.rule F.MAX_LEAVES start (length leaves.now) 1 nodes.now }
     ensures { IfOk result (λ v. (h : Hashing D) → AreParents h F.rule F.MAX_LEAVES (leaf_from h start leaves.now) v.items) }
 {
@@ -74,8 +73,8 @@ fn leaf_parents<F: Family, D: Digest>(
 fn known_parents<F: Family, D: Digest>(
     alloc: Global,
     nodes: &[Subtree<F>],
-    known: &Known<F, D>,
-) -> Result<Vec<(Position<F>, D, D)>, AllocError>
+    known: &ComputedNodes<F, D>,
+) -> Result<Vec<Parent<F, D>>, AllocError>
     requires { (start : ℕ) × (count : ℕ) × (height : ℕ) × (0 < height) × AreLevel F.rule F.MAX_LEAVES start count height nodes.now }
     ensures { IfOk result (λ v. (h : Hashing D) (leaf : ℕ → D) → AreListed h F.rule F.MAX_LEAVES leaf known.now.positions.items known.now.digests.items
         → AreParents h F.rule F.MAX_LEAVES leaf v.items) }
@@ -84,10 +83,10 @@ fn known_parents<F: Family, D: Digest>(
     let mut number = nodes.len().saturating_mul(2);
     for node in nodes {
         let (left, right) = node.children();
-        let Some(first) = known.get_from_end(number, left.position) else {
+        let Some(first) = known.get_numbered(number, left.position) else {
             return Ok(parents);
         };
-        let Some(second) = known.get_from_end(number.saturating_sub(1), right.position) else {
+        let Some(second) = known.get_numbered(number.saturating_sub(1), right.position) else {
             return Ok(parents);
         };
         parents.push((node.position, first, second))?;
@@ -105,7 +104,7 @@ fn put_levels<F: Family, H: Hasher<F>>(
     hasher: &H,
     start: Location<F>,
     leaves: &[H::Digest],
-    known: &mut Known<F, H::Digest>,
+    known: &mut ComputedNodes<F, H::Digest>,
 ) -> Result<(), AllocError>
     requires nodes { AreLevel F.rule F.MAX_LEAVES start (length leaves.now) height nodes.now }
     requires parents { 0 < height }
@@ -131,14 +130,14 @@ fn levels_below<F: Family, H: Hasher<F>>(
     hasher: &H,
     start: Location<F>,
     leaves: &[H::Digest],
-) -> Result<Known<F, H::Digest>, AllocError>
+) -> Result<ComputedNodes<F, H::Digest>, AllocError>
     requires node { (t : Tree) × IsInside F.rule F.MAX_LEAVES start (length leaves.now) subtree.now t }
     requires parent { 0 < subtree.now.height }
     ensures { let h = H.hashing hasher.now in
         IfOk result (λ k. AreListed h F.rule F.MAX_LEAVES (leaf_from h start leaves.now) k.positions.items k.digests.items) }
 {
     // The nodes are one fewer than the leaves.
-    let mut known = Known::with_capacity(alloc, 1usize.wrapping_shl(subtree.height))?;
+    let mut known = ComputedNodes::with_capacity(alloc, 1usize.wrapping_shl(subtree.height))?;
     let nodes = [*subtree];
     put_levels(
         alloc,
@@ -164,7 +163,7 @@ fn put_below<F: Family, H: Hasher<F>, C: Collector<F, H::Digest>>(
     hasher: &H,
     start: Location<F>,
     leaves: &[H::Digest],
-    known: &Known<F, H::Digest>,
+    known: &ComputedNodes<F, H::Digest>,
     out: &mut C,
 ) -> Result<H::Digest, AllocError>
     requires node { (t : Tree) × IsInside F.rule F.MAX_LEAVES start (length leaves.now) subtree.now t }
@@ -184,7 +183,7 @@ fn put_below<F: Family, H: Hasher<F>, C: Collector<F, H::Digest>>(
     let first = put_below(&left, after, hasher, start, leaves, known, out)?;
     let second = put_below(&right, twice, hasher, start, leaves, known, out)?;
     put_both(left.position, &first, right.position, &second, out)?;
-    if let Some(digest) = known.get_from_end(number, subtree.position) {
+    if let Some(digest) = known.get_numbered(number, subtree.position) {
         return Ok(digest);
     }
     Ok(hasher.node_digest(subtree.position, &first, &second))
@@ -199,7 +198,7 @@ fn put_below<F: Family, H: Hasher<F>, C: Collector<F, H::Digest>>(
 /// # Errors
 ///
 /// - `AllocError` if `out` fails
-pub(crate) fn put_together<F: Family, H: Hasher<F>, C: Collector<F, H::Digest>>(
+pub(crate) fn extract_by_levels<F: Family, H: Hasher<F>, C: Collector<F, H::Digest>>(
     alloc: Global,
     subtree: &Subtree<F>,
     hasher: &H,
@@ -217,6 +216,6 @@ pub(crate) fn put_together<F: Family, H: Hasher<F>, C: Collector<F, H::Digest>>(
     if let Ok(known) = levels_below(alloc, subtree, hasher, start, leaves) {
         return put_below(subtree, 1, hasher, start, leaves, &known, out);
     }
-    let none = Known::new(alloc);
+    let none = ComputedNodes::new(alloc);
     put_below(subtree, 1, hasher, start, leaves, &none, out)
 }

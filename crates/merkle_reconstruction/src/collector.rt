@@ -27,9 +27,9 @@ pub trait Collector<F: Family, D: Digest> {
 
 /// A collector that keeps nothing.
 #[derive(Clone, Copy)]
-pub struct Unlisted;
+pub struct Discard;
 
-impl<F: Family, D: Digest> Collector<F, D> for Unlisted {
+impl<F: Family, D: Digest> Collector<F, D> for Discard {
     ghost Took = { λ _ _ _. ⊤ };
 
     fn put(&mut self, _position: Position<F>, _digest: &D) -> Result<(), AllocError>

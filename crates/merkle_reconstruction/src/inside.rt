@@ -6,13 +6,12 @@ ghost use Rattle.merkle_hasher.specs.Subtrees.{Denotes, AreNodes, subtree_of};
 ghost use Rattle.merkle_root_theory.specs.Walk.{leaf_from};
 ghost use Rattle.merkle_reconstruction.specs.Inside.{IsInside, IsDigestInside, IsDigestAt, AreTall, AreParents, AreChildDigests, AreKnown};
 
-use crate::known::Known;
-use crate::siblings::{is_inside, is_outside};
+use crate::known::ComputedNodes;
+use crate::walk::{is_inside, is_outside};
 use merkle_base::family::Family;
 use merkle_base::location::Location;
-use merkle_base::position::Position;
 use merkle_digest::digest::Digest;
-use merkle_hasher::hasher::Hasher;
+use merkle_hasher::hasher::{Hasher, Parent};
 use merkle_hasher::nodes::node_digests;
 use merkle_hasher::subtree::Subtree;
 use std::alloc::{AllocError, Global};
@@ -48,7 +47,7 @@ fn four_inside<F: Family, H: Hasher<F>>(
     hasher: &H,
     start: Location<F>,
     leaves: &[H::Digest],
-    nodes: &mut Vec<(Position<F>, H::Digest, H::Digest)>,
+    nodes: &mut Vec<Parent<F, H::Digest>>,
 ) -> Result<(H::Digest, H::Digest, H::Digest, H::Digest), AllocError>
     requires first { (t : Tree) × IsInside F.rule F.MAX_LEAVES start (length leaves.now) a.now t }
     requires second { (b.now.height ≡ a.now.height) × ((t : Tree) × IsInside F.rule F.MAX_LEAVES start (length leaves.now) b.now t) }
@@ -92,14 +91,8 @@ fn children_inside<F: Family, H: Hasher<F>>(
     hasher: &H,
     start: Location<F>,
     leaves: &[H::Digest],
-    nodes: &mut Vec<(Position<F>, H::Digest, H::Digest)>,
-) -> Result<
-    (
-        (Position<F>, H::Digest, H::Digest),
-        (Position<F>, H::Digest, H::Digest),
-    ),
-    AllocError,
->
+    nodes: &mut Vec<Parent<F, H::Digest>>,
+) -> Result<(Parent<F, H::Digest>, Parent<F, H::Digest>), AllocError>
     requires node { (t : Tree) × IsInside F.rule F.MAX_LEAVES start (length leaves.now) subtree.now t }
     requires tall { 2 ≤ subtree.now.height }
     ensures { let h = H.hashing hasher.now in
@@ -145,7 +138,7 @@ fn child_digests<F: Family, H: Hasher<F>>(
 fn push_parents<F: Family, D: Digest>(
     nodes: &[Subtree<F>],
     below: &[D],
-    parents: &mut Vec<(Position<F>, D, D)>,
+    parents: &mut Vec<Parent<F, D>>,
 ) -> Result<(), AllocError>
     ensures { OnOk result ((h : Hashing D) (leaf : ℕ → D) → AreChildDigests h F.rule F.MAX_LEAVES leaf nodes.now below.now
         → AreParents h F.rule F.MAX_LEAVES leaf parents.old.items → AreParents h F.rule F.MAX_LEAVES leaf parents.new.items) }
@@ -170,7 +163,7 @@ pub(crate) fn leaf_parent<F: Family, D: Digest>(
     subtree: &Subtree<F>,
     start: Location<F>,
     leaves: &[D],
-) -> (Position<F>, D, D)
+) -> Parent<F, D>
     requires node { (t : Tree) × IsInside F.rule F.MAX_LEAVES start (length leaves.now) subtree.now t }
     requires parent { subtree.now.height ≡ 1 }
     ensures { (h : Hashing D) → IsDigestAt h F.rule F.MAX_LEAVES (leaf_from h start leaves.now) result.0 (h.node result.0 result.1 result.2) }
@@ -188,7 +181,7 @@ fn put_inside<F: Family, D: Digest>(
     start: Location<F>,
     leaves: &[D],
     tall: &mut Vec<Subtree<F>>,
-    parents: &mut Vec<(Position<F>, D, D)>,
+    parents: &mut Vec<Parent<F, D>>,
 ) -> Result<(), AllocError>
     requires node { (t : Tree) × IsInside F.rule F.MAX_LEAVES start (length leaves.now) subtree.now t }
     requires parent { 0 < subtree.now.height }
@@ -213,7 +206,7 @@ fn collect_inside<F: Family, D: Digest>(
     range: &Range<Location<F>>,
     leaves: &[D],
     tall: &mut Vec<Subtree<F>>,
-    parents: &mut Vec<(Position<F>, D, D)>,
+    parents: &mut Vec<Parent<F, D>>,
 ) -> Result<(), AllocError>
     requires node { (t : Tree) × Denotes F.rule F.MAX_LEAVES subtree.now t }
     requires nonempty { range.now.start < range.now.end }
@@ -251,7 +244,7 @@ pub fn digests_inside<F: Family, H: Hasher<F>>(
     range: &Range<Location<F>>,
     leaves: &[H::Digest],
     is_wanted: bool,
-) -> Result<Known<F, H::Digest>, AllocError>
+) -> Result<ComputedNodes<F, H::Digest>, AllocError>
     requires nodes { (ts : List Tree) × (peaks.now ≡ map subtree_of ts) × AreNodes F.rule F.MAX_LEAVES ts }
     requires nonempty { range.now.start < range.now.end }
     requires covered { range.now.end ≤ range.now.start + length leaves.now }
@@ -259,7 +252,7 @@ pub fn digests_inside<F: Family, H: Hasher<F>>(
         IfOk result (λ k. AreKnown h F.rule F.MAX_LEAVES (leaf_from h range.now.start leaves.now) k.positions.items k.digests.items) }
 {
     if !is_wanted || leaves.len() < LEAVES_TOGETHER {
-        return Ok(Known::new(alloc));
+        return Ok(ComputedNodes::new(alloc));
     }
     let mut tall = Vec::with_capacity(alloc, ROOM)?;
     let mut parents = Vec::with_capacity(alloc, ROOM)?;
@@ -268,5 +261,5 @@ pub fn digests_inside<F: Family, H: Hasher<F>>(
     }
     let below = child_digests(alloc, &tall, hasher, range.start, leaves)?;
     push_parents(&tall, &below, &mut parents)?;
-    Known::of_parents(alloc, hasher, &parents)
+    ComputedNodes::of_parents(alloc, hasher, &parents)
 }

@@ -7,26 +7,26 @@ ghost use Rattle.merkle_reconstruction.specs.Inside.{AreListed, IsDigestAt};
 use merkle_base::family::Family;
 use merkle_base::position::Position;
 use merkle_digest::digest::Digest;
-use merkle_hasher::hasher::Hasher;
+use merkle_hasher::hasher::{Hasher, Parent};
 use merkle_hasher::nodes::node_digests;
 use std::alloc::{AllocError, Global};
 
 /// The digests of some nodes, each at the index of its position.
 #[derive(Drop)]
-pub struct Known<F, D> {
+pub struct ComputedNodes<F, D> {
     /// The positions of the nodes.
     pub(crate) positions: Vec<Position<F>>,
     /// Their digests.
     pub(crate) digests: Vec<D>,
 }
 
-impl<F: Family, D: Digest> Known<F, D> {
+impl<F: Family, D: Digest> ComputedNodes<F, D> {
     /// Creates an empty table.
     pub(crate) fn new(alloc: Global) -> Self
         ensures positions { result.positions.items ≡ [] }
         ensures digests { result.digests.items ≡ [] }
     {
-        Known {
+        ComputedNodes {
             positions: Vec::new(alloc),
             digests: Vec::new(alloc),
         }
@@ -39,19 +39,19 @@ impl<F: Family, D: Digest> Known<F, D> {
     {
         let positions = Vec::with_capacity(alloc, capacity)?;
         let digests = Vec::with_capacity(alloc, capacity)?;
-        Ok(Known { positions, digests })
+        Ok(ComputedNodes { positions, digests })
     }
 
     /// Computes the digests of nodes, which are given with the digests of their children.
     pub(crate) fn of_parents<H: Hasher<F, Digest = D>>(
         alloc: Global,
         hasher: &H,
-        parents: &[(Position<F>, D, D)],
+        parents: &[Parent<F, D>],
     ) -> Result<Self, AllocError>
         ensures positions { IfOk result (λ k. k.positions.items ≡ map (λ n. n.0) parents.now) }
         ensures digests { IfOk result (λ k. k.digests.items ≡ map (λ n. (H.hashing hasher.now).node n.0 n.1 n.2) parents.now) }
     {
-        let mut known = Known::with_capacity(alloc, parents.len())?;
+        let mut known = ComputedNodes::with_capacity(alloc, parents.len())?;
         known.put_parents(hasher, parents)?;
         Ok(known)
     }
@@ -60,7 +60,7 @@ impl<F: Family, D: Digest> Known<F, D> {
     pub(crate) fn put_parents<H: Hasher<F, Digest = D>>(
         &mut self,
         hasher: &H,
-        parents: &[(Position<F>, D, D)],
+        parents: &[Parent<F, D>],
     ) -> Result<(), AllocError>
         ensures positions { OnOk result (self.new.positions.items ≡ self.old.positions.items ++ map (λ n. n.0) parents.now) }
         ensures digests { OnOk result (self.new.digests.items ≡ self.old.digests.items ++ map (λ n. (H.hashing hasher.now).node n.0 n.1 n.2) parents.now) }
@@ -75,12 +75,12 @@ impl<F: Family, D: Digest> Known<F, D> {
     pub(crate) fn get(&self, position: Position<F>) -> Option<D>
         ensures { result ≡ digest_for self.now.positions.items self.now.digests.items position }
     {
-        digest_at(&self.positions, &self.digests, position)
+        find_digest(&self.positions, &self.digests, position)
     }
 
     /// Returns the digest of the node that is `number`-th from the end, the last being the first, if
     /// `position` is that node's.
-    pub(crate) fn get_from_end(&self, number: usize, position: Position<F>) -> Option<D>
+    pub(crate) fn get_numbered(&self, number: usize, position: Position<F>) -> Option<D>
         ensures { (h : Hashing D) (leaf : ℕ → D) → AreListed h F.rule F.MAX_LEAVES leaf self.now.positions.items self.now.digests.items
             → IfSome result (λ d. IsDigestAt h F.rule F.MAX_LEAVES leaf position d) }
     {
@@ -98,7 +98,7 @@ impl<F: Family, D: Digest> Known<F, D> {
 }
 
 /// Returns the digest at the index that `position` has among `positions`.
-pub fn digest_at<F, D: Digest>(
+pub fn find_digest<F, D: Digest>(
     positions: &[Position<F>],
     digests: &[D],
     position: Position<F>,

@@ -5,4 +5,4 @@ mod below;
 pub mod collector;
 pub mod inside;
 pub mod known;
-pub mod siblings;
+pub mod walk;

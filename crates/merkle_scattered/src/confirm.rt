@@ -10,12 +10,11 @@ ghost use Rattle.merkle_root_theory.specs.Expression.{value};
 ghost use Rattle.merkle_scattered.specs.Confirmed.{EachHolds, IsChecked, AreChecked, locations_of, node_checked, nodes_checked, checked_node, all_children_met, all_parents_met, parent_met};
 
 use crate::checked_node::{CheckedNode, count_before};
-use crate::told::Told;
+use crate::supplied::SuppliedDigests;
 use merkle_base::family::Family;
 use merkle_base::location::Location;
-use merkle_base::position::Position;
 use merkle_digest::digest::Digest;
-use merkle_hasher::hasher::Hasher;
+use merkle_hasher::hasher::{Hasher, Parent};
 use merkle_hasher::nodes::node_digests;
 use merkle_hasher::peaks::peak_subtrees;
 use std::alloc::{AllocError, Global};
@@ -29,7 +28,7 @@ pub fn confirm_peaks<F: Family, H: Hasher<F>>(
     alloc: Global,
     leaves: Location<F>,
     hasher: &H,
-    told: &Told<'_, F, H::Digest>,
+    told: &SuppliedDigests<'_, F, H::Digest>,
     located: &[(Location<F>, H::Digest)],
 ) -> Result<Option<Vec<H::Digest>>, AllocError>
     requires within_max_leaves { leaves ≤ F.MAX_LEAVES }
@@ -73,7 +72,7 @@ fn list_peaks<F: Family, D: Digest>(
 fn confirm_nodes<F: Family, H: Hasher<F>>(
     alloc: Global,
     hasher: &H,
-    told: &Told<'_, F, H::Digest>,
+    told: &SuppliedDigests<'_, F, H::Digest>,
     located: &[(Location<F>, H::Digest)],
     nodes: &[CheckedNode<F>],
 ) -> Result<Option<Vec<H::Digest>>, AllocError>
@@ -107,10 +106,10 @@ fn confirm_nodes<F: Family, H: Hasher<F>>(
 fn confirm_over<F: Family, H: Hasher<F>>(
     alloc: Global,
     hasher: &H,
-    told: &Told<'_, F, H::Digest>,
+    told: &SuppliedDigests<'_, F, H::Digest>,
     located: &[(Location<F>, H::Digest)],
     nodes: &[CheckedNode<F>],
-    parents: &[(Position<F>, H::Digest, H::Digest)],
+    parents: &[Parent<F, H::Digest>],
 ) -> Result<Option<Vec<H::Digest>>, AllocError>
     requires rises { IsStrictlyIncreasing told.now.positions.now }
     requires ascend { AscendsFrom 0 (locations_of located.now) }
@@ -160,7 +159,7 @@ fn push_children<F: Family, D: Digest>(
 fn push_parents<F: Family, D: Digest>(
     nodes: &[CheckedNode<F>],
     below: &[D],
-    parents: &mut Vec<(Position<F>, D, D)>,
+    parents: &mut Vec<Parent<F, D>>,
 ) -> Result<(), AllocError>
     requires nodes { (es : List (ℕ × D)) × (ts : List Tree) × AscendsFrom 0 (locations_of es) × AreChecked F.rule F.MAX_LEAVES es nodes.now ts
         × (length below.now ≡ length (all_children_met es ts)) }
@@ -184,7 +183,7 @@ fn push_parents<F: Family, D: Digest>(
 //
 // `false` if a supplied digest differs from the one that is computed for the same node.
 fn push_digests<F: Family, D: Digest>(
-    told: &Told<'_, F, D>,
+    told: &SuppliedDigests<'_, F, D>,
     located: &[(Location<F>, D)],
     nodes: &[CheckedNode<F>],
     computed: &[D],

@@ -4,4 +4,4 @@
 
 mod checked_node;
 pub mod confirm;
-pub mod told;
+pub mod supplied;

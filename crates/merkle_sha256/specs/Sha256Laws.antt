@@ -1,7 +1,7 @@
 -- What the laws of the digests of SHA-256 rest on.
 use Rattle.std.specs.Prelude.{◌≡◌, ℕ, List, length, replicate}
 use Rattle.std.proofs.Common.{refl}
-use Rattle.sha2.specs.Sha256.{sha256}
+pub use Rattle.sha2.specs.Sha256.{sha256}
 use Rattle.sha2.proofs.Facts256 as Facts
 
 pub length-sha256 : (m : List ℕ) → length (sha256 m) ≡ 32

@@ -4,3 +4,4 @@ pub mod PairReads
 pub mod StoreCalls
 pub mod StoreParts
 pub mod StoreMulti
+pub mod ShownLists

@@ -1,16 +1,37 @@
 -- What the calls of a store answer.
-use Rattle.std.specs.Prelude.{◌≡◌, ℕ, ◌+◌, ◌≤◌, ◌<◌, ◌⊎◌, ◌-◌, List, take, drop, Some, None}
+use Rattle.std.specs.Prelude.{◌≡◌, ℕ, ◌+◌, ◌≤◌, ◌<◌, ◌⊎◌, ◌-◌, List, [], take, drop, Some, None, Ok, Result, IfOk, length}
 use Rattle.merkle_base.specs.Hashing.{Hashing}
 use Rattle.merkle_base.specs.Scheme.{Scheme}
+use Rattle.merkle_base.specs.Refused.{UnlessMemory}
 use Rattle.merkle_base.specs.declared.error.Error.{Error}
-use Rattle.merkle_base.specs.declared.error.Error.TheVariants.{ElementPruned}
+use Rattle.merkle_base.specs.declared.error.Error.TheVariants.{ElementPruned, Empty}
+use Rattle.merkle_range.specs.Extracting.{IsExtractionRefusal}
+use Rattle.merkle_root_theory.specs.Reconstruction.{reconstructed}
 use Rattle.merkle_root_theory.specs.Check.{RangeInput}
 use Rattle.merkle_root_theory.specs.Range.{end_of, AcceptsNonempty}
 use Rattle.merkle_store_theory.specs.StoreValue.{StoreValue, store_of}
 use Rattle.merkle_store_theory.specs.StoreProof.{store_proof, store_refusal}
 use Rattle.merkle_hasher.specs.LeafDigests.{leaf_digests}
+use Rattle.merkle_range.specs.Input.{range_input}
+use Rattle.merkle_proof.specs.Input.{input_of}
 use Rattle.merkle_proof.specs.RangePlans.{IsRefusal}
 use Rattle.merkle_proof.specs.declared.proof.Proof.{Proof}
+
+-- why there is no store of a proof: it is refused, or it is the empty one; memory aside
+abbrev pub RefusesStore : {F D E : Type 0} → Scheme D → RangeInput D → D → (elements : List E) → Error F → Type 0
+RefusesStore s r root elements =
+    UnlessMemory (λ e. IsExtractionRefusal s r root e ⊎ ((reconstructed s r ≡ Ok root) × (elements ≡ []) × (e ≡ Empty)))
+
+-- P of each accepted input that it is the store of
+abbrev pub ForStored : {D : Type 0} → Scheme D → StoreValue D → (RangeInput D → D → Type 0) → Type 0
+ForStored {D} s v P = (r : RangeInput D) (root : D) → v ≡ store_of s r root → AcceptsNonempty s r root → P r root
+
+-- P, where a..b is a part of the input's range, or one with leaves
+abbrev pub ForPart : {D : Type 0} → RangeInput D → (a b : ℕ) → Type 0 → Type 0
+ForPart r a b P = r.start ≤ a → b ≤ end_of r → P
+
+abbrev pub ForNonemptyPart : {D : Type 0} → RangeInput D → (a b : ℕ) → Type 0 → Type 0
+ForNonemptyPart r a b P = a < b → ForPart r a b P
 
 -- why a store answers no proof of a..b: there is no plan of it, or a node is pruned
 abbrev pub IsStoreRefusal : {F D : Type 0} → Scheme D → StoreValue D → (a b : ℕ) → Error F → Type 0
@@ -49,3 +70,10 @@ NoPartIsRefused F D = (s : Scheme D) (r : RangeInput D) (root : D) (a b : ℕ) (
 abbrev pub AnsweredIsAccepted : (F D Peaks Heights : Type 0) → Type 0
 AnsweredIsAccepted F D Peaks Heights = (s : Scheme D) (r : RangeInput D) (root : D) (a b : ℕ) (p : Proof F D Peaks Heights)
     → AcceptsNonempty s r root → r.start ≤ a → b ≤ end_of r → IsPartProof s (store_of s r root) a b p → AcceptsNonempty s (part_input p r a b) root
+
+-- if the check accepts a proof of n leaves with these elements, it accepts what the store of that proof answers for a part of their range
+abbrev pub IsPartChecked : {F D E Peaks Heights : Type 0} → Scheme D → StoreValue D → (a b : ℕ) → Result (Proof F D Peaks Heights) E → Type 0
+IsPartChecked {D = D} s v a b answer =
+    (n k start : ℕ) (ds : List D) (es : List (List ℕ)) (root : D) → let r = range_input s n k ds start es in
+    v ≡ store_of s r root → reconstructed s r ≡ Ok root → 0 < length es → start ≤ a → b ≤ start + length es
+    → IfOk answer (λ p. reconstructed s (input_of s p a (elements_within start a b es)) ≡ Ok root)

@@ -6,14 +6,14 @@ ghost use Rattle.merkle_base.specs.Places.{peaks_of};
 ghost use Rattle.merkle_base.specs.Scheme.{Scheme};
 ghost use Rattle.merkle_base.specs.Shows.{Shows};
 ghost use Rattle.merkle_root_theory.specs.Range.{IsHonestRange};
-ghost use Rattle.merkle_claim_theory.specs.Multiproof.{IsHonestMulti, multi_positions};
 ghost use Rattle.merkle_base.specs.Table.{digest_for};
-ghost use Rattle.merkle_proof.specs.MultiPositions.{AreLocations};
 ghost use Rattle.merkle_proof.specs.Positions.{range_positions};
-ghost use Rattle.merkle_proof.specs.RangePlans.{AnswersList, IsBuildRefusal, IsBuiltProof, IsFirstMissing, list_input};
-ghost use Rattle.merkle_verification.specs.ReaderProofs.{IsBuiltMulti, multi_list_input};
-ghost use Rattle.merkle_verification.specs.ReaderRefusals.{AreNodesHeld, IsHistoricalRefusal, IsLocationsRefusal, IsMultiRefusal};
+ghost use Rattle.merkle_proof.specs.RangePlans.{AnswersList, IsBuildRefusal, IsBuiltProof, IsFirstMissing, list_input, IsBuiltFor};
+ghost use Rattle.merkle_verification.specs.ReaderProofs.{IsBuiltMulti};
+ghost use Rattle.merkle_verification.specs.ReaderRefusals.{IsHistoricalRefusal, IsLocationsRefusal, IsMultiRefusal};
 ghost use Rattle.merkle_verification.specs.ReaderRefusals.{IsReadRefusal, IsReaderRefusal, IsSizeRefusal};
+ghost use Rattle.merkle_verification.specs.ShownLists.{ForShown, IsHonestAnswer, IsHonestMultiAnswer, ForHistoricalRange, ForReadRange, ForReadLocations};
+ghost use Rattle.merkle_base.specs.Refused.{UnlessMemory};
 
 use merkle_base::error::Error;
 use merkle_base::family::Family;
@@ -24,7 +24,7 @@ use merkle_hasher::read::Readable;
 use merkle_proof::multi::multi_proof_positions;
 use merkle_proof::proof::Proof;
 use merkle_proof::range_plan::RangePlan;
-use merkle_scattered::told::Told;
+use merkle_scattered::supplied::SuppliedDigests;
 use std::alloc::Global;
 use std::ops::Range;
 
@@ -55,19 +55,15 @@ pub fn range_proof<R: Readable, H: Hasher<R::Family, Digest = R::Digest>>(
 ) -> Result<Proof<R::Family, R::Digest>, Error<R::Family>>
     ensures sized { IfOk result (λ p. size R.Family.rule p.leaves ≡ R.size reader.now) }
     ensures within { IfOk result (λ p. (range.start < range.end) × (range.end ≤ p.leaves) × (p.leaves ≤ R.Family.MAX_LEAVES)) }
-    ensures built { let s = H.scheme hasher.now in
-        IfOk result (λ p. IsBuiltProof s (R.node reader.now) inactive (record { leaves = p.leaves; start = range.start; end = range.end }) p) }
+    ensures built { let s = H.scheme hasher.now in IfOk result (λ p. IsBuiltFor s (R.node reader.now) inactive p.leaves range.start range.end p) }
 
     // It is the honest proof of every list that the reader shows.
     ensures honest { let s = H.scheme hasher.now in
-        (X : List R.Digest) → Shows (H.hashing hasher.now) R.Family.rule (R.size reader.now) (R.node reader.now) X
-        → IfOk result (λ p. IsHonestRange s X inactive (list_input p X range.start range.end)) }
-    ensures held { (n : ℕ) → size R.Family.rule n ≡ R.size reader.now → range.start < range.end → range.end ≤ n → n ≤ R.Family.MAX_LEAVES
-        → inactive ≤ length (peaks_of R.Family.rule n) → AreNodesHeld (R.node reader.now) (range_positions R.Family.rule n range.start range.end)
-        → IsOkUnless result Error.OutOfMemory }
-    ensures err { let rule = R.Family.rule in let max_nodes = R.Family.MAX_NODES in let max_leaves = R.Family.MAX_LEAVES in
-        IfErr result (λ e. e ≢ Error.OutOfMemory
-        → IsReaderRefusal rule max_nodes max_leaves (R.size reader.now) range.start range.end inactive (R.node reader.now) e) }
+        ForShown (H.hashing hasher.now) R.Family.rule (R.size reader.now) (R.node reader.now) (IsHonestAnswer s inactive range.start range.end result) }
+    ensures held { ForReadRange R.Family.rule R.Family.MAX_LEAVES (R.size reader.now) (R.node reader.now) range.start range.end inactive
+        (IsOkUnless result Error.OutOfMemory) }
+    ensures err { IfErr result (UnlessMemory (IsReaderRefusal R.Family.rule R.Family.MAX_NODES R.Family.MAX_LEAVES
+        (R.size reader.now) range.start range.end inactive (R.node reader.now))) }
 {
     match leaf_count(reader.size()) {
         Ok(leaves) => historical_range_proof(alloc, hasher, reader, leaves, range, inactive),
@@ -100,17 +96,15 @@ pub fn historical_range_proof<R: Readable, H: Hasher<R::Family, Digest = R::Dige
     inactive: usize,
 ) -> Result<Proof<R::Family, R::Digest>, Error<R::Family>>
     ensures within { IfOk result (λ _. (range.start < range.end) × (range.end ≤ leaves) × (leaves ≤ R.Family.MAX_LEAVES)) }
-    ensures built { let s = H.scheme hasher.now in
-        IfOk result (λ p. IsBuiltProof s (R.node reader.now) inactive (record { leaves = leaves; start = range.start; end = range.end }) p) }
+    ensures built { let s = H.scheme hasher.now in IfOk result (λ p. IsBuiltFor s (R.node reader.now) inactive leaves range.start range.end p) }
 
     // It is the honest proof of the first leaves of every list that the reader shows.
     ensures honest { let s = H.scheme hasher.now in
-        (X : List R.Digest) → Shows (H.hashing hasher.now) R.Family.rule (R.size reader.now) (R.node reader.now) X → leaves ≤ length X
-        → IfOk result (λ p. IsHonestRange s (take leaves X) inactive (list_input p (take leaves X) range.start range.end)) }
-    ensures held { range.start < range.end → range.end ≤ leaves → leaves ≤ R.Family.MAX_LEAVES → inactive ≤ length (peaks_of R.Family.rule leaves)
-        → AreNodesHeld (R.node reader.now) (range_positions R.Family.rule leaves range.start range.end) → IsOkUnless result Error.OutOfMemory }
-    ensures err { IfErr result (λ e. e ≢ Error.OutOfMemory
-        → IsHistoricalRefusal R.Family.rule R.Family.MAX_LEAVES leaves range.start range.end inactive (R.node reader.now) e) }
+        ForShown (H.hashing hasher.now) R.Family.rule (R.size reader.now) (R.node reader.now) (λ X. leaves ≤ length X → IsHonestAnswer s inactive range.start range.end result (take leaves X)) }
+    ensures held { ForHistoricalRange R.Family.rule R.Family.MAX_LEAVES (R.node reader.now) leaves range.start range.end inactive
+        (IsOkUnless result Error.OutOfMemory) }
+    ensures err { IfErr result (UnlessMemory (IsHistoricalRefusal R.Family.rule R.Family.MAX_LEAVES leaves range.start range.end inactive
+        (R.node reader.now))) }
 {
     match RangePlan::new(alloc, leaves, range) {
         Ok(plan) => prove_plan(alloc, hasher, reader, plan, inactive),
@@ -175,19 +169,15 @@ pub fn multi_proof<R: Readable>(
     locations: &[Location<R::Family>],
 ) -> Result<Proof<R::Family, R::Digest>, Error<R::Family>>
     ensures sized { IfOk result (λ p. size R.Family.rule p.leaves ≡ R.size reader.now) }
-    ensures built { let rule = R.Family.rule in let max_leaves = R.Family.MAX_LEAVES in
-        IfOk result (λ p. IsBuiltMulti rule max_leaves (R.node reader.now) inactive p.leaves locations.now p) }
+    ensures built { IfOk result (λ p. IsBuiltMulti R.Family.rule R.Family.MAX_LEAVES (R.node reader.now) inactive p.leaves locations.now p) }
 
     // It is the honest proof of every list that the reader shows.
     ensures honest { (s : Scheme R.Digest) → s.rule ≡ R.Family.rule
-        → (X : List R.Digest) → Shows s.hashing s.rule (R.size reader.now) (R.node reader.now) X
-        → IfOk result (λ p. IsHonestMulti s X inactive (multi_list_input p s.hashing X locations.now)) }
-    ensures held { (n : ℕ) → size R.Family.rule n ≡ R.size reader.now → AreLocations R.Family.MAX_LEAVES n locations.now
-        → inactive ≤ length (peaks_of R.Family.rule n) → AreNodesHeld (R.node reader.now) (multi_positions R.Family.rule n locations.now)
-        → IsOkUnless result Error.OutOfMemory }
-    ensures err { let rule = R.Family.rule in let max_nodes = R.Family.MAX_NODES in let max_leaves = R.Family.MAX_LEAVES in
-        IfErr result (λ e. e ≢ Error.OutOfMemory
-        → IsMultiRefusal rule max_nodes max_leaves (R.size reader.now) inactive locations.now (R.node reader.now) e) }
+        → ForShown s.hashing s.rule (R.size reader.now) (R.node reader.now) (IsHonestMultiAnswer s inactive locations.now result) }
+    ensures held { ForReadLocations R.Family.rule R.Family.MAX_LEAVES (R.size reader.now) (R.node reader.now) locations.now inactive
+        (IsOkUnless result Error.OutOfMemory) }
+    ensures err { IfErr result (UnlessMemory (IsMultiRefusal R.Family.rule R.Family.MAX_NODES R.Family.MAX_LEAVES
+        (R.size reader.now) inactive locations.now (R.node reader.now))) }
 {
     match leaf_count(reader.size()) {
         Ok(leaves) => prove_locations(alloc, reader, leaves, inactive, locations),
@@ -283,7 +273,7 @@ fn build_proof<F: Family, H: Hasher<F>>(
     ensures err { let bagging = H.bagging_of hasher.now in let node = digest_for positions.now digests.now in
         IfErr result (λ e. e ≢ Error.OutOfMemory → IsBuildRefusal bagging F.rule plan inactive (λ p r. r ≡ node p) e) }
 {
-    let told = Told { positions, digests };
+    let told = SuppliedDigests { positions, digests };
     plan.build(
         hasher,
         inactive,

@@ -1,19 +1,16 @@
 //! Stores of accepted range proofs, which prove parts of the proved range.
-ghost use Rattle.std.specs.Prelude.{◌≡◌, ◌≢◌, ◌⊎◌, ◌+◌, ◌≤◌, ◌<◌, ℕ, List, [], Ok, None, drop, length, IfOk, IfErr, IsOkUnless};
+ghost use Rattle.std.specs.Prelude.{◌≡◌, ◌≢◌, ◌+◌, ◌≤◌, ◌<◌, ℕ, Ok, None, drop, IfOk, IfErr, IsOkUnless};
 ghost use Rattle.std.specs.Option.{option_to_list};
 ghost use Rattle.merkle_base.specs.Scheme.{Scheme};
 ghost use Rattle.merkle_root_theory.specs.Check.{RangeInput};
-ghost use Rattle.merkle_root_theory.specs.Range.{AcceptsNonempty, end_of};
-ghost use Rattle.merkle_root_theory.specs.Reconstruction.{reconstructed};
+ghost use Rattle.merkle_root_theory.specs.Range.{AcceptsNonempty};
 ghost use Rattle.merkle_hasher.specs.LeafDigests.{bytes_of};
 ghost use Rattle.merkle_store_theory.specs.StoreProof.{found_at, first_lacking};
 ghost use Rattle.merkle_store_theory.specs.StoreReads.{prefix_at, suffix_at, suffix_refusal_at, proof_at};
 ghost use Rattle.merkle_store_theory.specs.StoreValue.{store_of};
-ghost use Rattle.merkle_range.specs.Extracting.{IsExtractionRefusal};
-ghost use Rattle.merkle_range.specs.Input.{range_input};
 ghost use Rattle.merkle_proof.specs.Input.{input_of};
 ghost use Rattle.merkle_verification.specs.PairReads.{IsPrunedAt};
-ghost use Rattle.merkle_verification.specs.StoreCalls.{IsPartProof, IsStoreRefusal, elements_within, part_input};
+ghost use Rattle.merkle_verification.specs.StoreCalls.{IsPartProof, IsStoreRefusal, part_input, RefusesStore, ForStored, ForPart, ForNonemptyPart, IsPartChecked};
 ghost use Rattle.merkle_verification.specs.StoreMulti.{IsMultiAnswered, IsStoreMultiRefusal};
 ghost use Rattle.merkle_verification.specs.StoreParts.{FitReads, IsFoldedCount, IsInput, counts_with, parts_refusal, shorter_refusal};
 
@@ -120,10 +117,7 @@ impl<F: Family, D: Digest> ProofStore<F, D> {
             IfOk result (λ v. v ≡ store_of s (input_of s proof.now start (bytes_of elements.now)) root.now) }
         ensures accepted { let s = H.scheme hasher.now in
             IfOk result (λ _. AcceptsNonempty s (input_of s proof.now start (bytes_of elements.now)) root.now) }
-        ensures err { let s = H.scheme hasher.now in
-            let r = input_of s proof.now start (bytes_of elements.now) in
-            IfErr result (λ e. e ≢ Error.OutOfMemory → IsExtractionRefusal s r root.now e
-            ⊎ ((reconstructed s r ≡ Ok root.now) × (elements.now ≡ []) × (e ≡ Error.Empty))) }
+        ensures err { let s = H.scheme hasher.now in IfErr result (RefusesStore s (input_of s proof.now start (bytes_of elements.now)) root.now elements.now) }
     {
         let pairs = match proof.verify_range_inclusion_and_extract_digests(
             hasher, elements, start, root,
@@ -335,20 +329,15 @@ impl<F: Family, D: Digest> ProofStore<F, D> {
 
         // The store of an accepted proof proves each part of its range, unless memory is refused.
         ensures unrefused { let s = H.scheme hasher.now in
-            (r : RangeInput D) (root : D) → self.now ≡ store_of s r root → AcceptsNonempty s r root → range.start < range.end
-            → r.start ≤ range.start → range.end ≤ end_of r → IfErr result (λ e. e ≡ Error.OutOfMemory) }
+            ForStored s self.now (λ r root. ForNonemptyPart r range.start range.end (IfErr result (λ e. e ≡ Error.OutOfMemory))) }
 
         // And the check accepts what it returns.
         ensures accepted { let s = H.scheme hasher.now in
-            (r : RangeInput D) (root : D) → self.now ≡ store_of s r root → AcceptsNonempty s r root
-            → r.start ≤ range.start → range.end ≤ end_of r → IfOk result (λ p. AcceptsNonempty s (part_input p r range.start range.end) root) }
+            ForStored s self.now (λ r root. ForPart r range.start range.end (IfOk result (λ p. AcceptsNonempty s (part_input p r range.start range.end) root))) }
 
         // In the words of the check: if it accepts a proof with some elements, it also accepts what the store of that proof returns,
         // with those of the elements that are in the range.
-        ensures checked { let s = H.scheme hasher.now in
-            (n k start : ℕ) (ds : List D) (es : List (List ℕ)) (root : D) → let r = range_input s n k ds start es in
-            self.now ≡ store_of s r root → reconstructed s r ≡ Ok root → 0 < length es → start ≤ range.start → range.end ≤ start + length es
-            → IfOk result (λ p. reconstructed s (input_of s p range.start (elements_within start range.start range.end es)) ≡ Ok root) }
+        ensures checked { IsPartChecked (H.scheme hasher.now) self.now range.start range.end result }
     {
         self.answer(hasher, range)
     }

@@ -5,7 +5,8 @@ use Rattle.merkle_core.specs.Mmb.{mmb_merges}
 use Rattle.merkle_core.specs.Mmr.{mmr_merges}
 use Rattle.merkle_core.specs.Scheme.{Scheme, scheme_of}
 use Rattle.merkle_sha256.specs.declared.sha256.Sha256Digest.{Sha256Digest}
-use Rattle.merkle_verifier.specs.Schemes.{bagging_of, sha256_hashing, sha256_scheme}
+use Rattle.merkle_core.specs.PlainHashings.{sha256_hashing}
+use Rattle.merkle_verifier.specs.Schemes.{bagging_of, sha256_scheme}
 
 pub by_belt : (P : Scheme Sha256Digest → Type 0) (is_belt is_backward : Bool) (bagging : Bagging) → bagging ≡ bagging_of is_backward → is_belt ≡ true
     → P (scheme_of sha256_hashing bagging mmb_merges (2 ^ 62 + 30) 1) → P (sha256_scheme is_belt is_backward)

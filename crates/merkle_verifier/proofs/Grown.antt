@@ -6,7 +6,8 @@ use Rattle.merkle_core.specs.Check.{RangeInput}
 use Rattle.merkle_core.specs.Pinned.{honest_pins, AcceptsPinned, IsHonestPinned, PinnedCollides}
 use Rattle.merkle_core.specs.Places.{peaks_of}
 use Rattle.merkle_core.specs.Scheme.{Scheme}
-use Rattle.merkle_verifier.specs.Answers.{no, yes, BeginsWith, GivesRoot, Judges, JudgesGrowth}
+use Rattle.merkle_core.specs.CheckAnswers.{GivesRoot}
+use Rattle.merkle_verifier.specs.Answers.{no, yes, BeginsWith, Judges, JudgesGrowth}
 
 module _ {D : Type 0} (s : Scheme D) (xs : List D) (k : ℕ) (r : RangeInput D) (pins : List D) (honest : IsHonestPinned s xs k r pins) (j : ℕ) (old : D) where
   there : r.start ≤ length xs

@@ -1,13 +1,14 @@
 -- What the answers of the checks mean, of their arguments alone.
 use Rattle.std.specs.Prelude.{◌≡◌, ◌≢◌, ◌≤◌, ◌⊎◌, ℕ, List, [], ◌∷◌, length, take, Ok}
 use Rattle.merkle_core.specs.Check.{RangeInput}
+use Rattle.merkle_core.specs.CheckAnswers.{GivesRoot}
 use Rattle.merkle_core.specs.LeafDigests.{range_input}
 use Rattle.merkle_core.specs.Multiproof.{MultiInput, AcceptsMulti, IsHonestMulti, MultiCollides}
 use Rattle.merkle_core.specs.Pinned.{AcceptsPinned, IsHonestPinned, PinnedCollides}
 use Rattle.merkle_core.specs.Range.{ForRootOf, IsHonestRange, RangeCollides}
 use Rattle.merkle_core.specs.Reconstruction.{reconstructed}
 use Rattle.merkle_core.specs.Places.{peaks_of}
-use Rattle.merkle_core.specs.Root.{list_root, peaks_root}
+use Rattle.merkle_core.specs.Root.{list_root}
 use Rattle.merkle_core.specs.Scheme.{Scheme}
 use Rattle.merkle_sha256.specs.declared.sha256.Sha256Digest.{Sha256Digest}
 use Rattle.merkle_verifier.specs.Inputs.{digest_bytes, joined_digests, IsSpelled, IsCut, located_input}
@@ -45,11 +46,6 @@ JudgesRange s root r = Judges s root (reconstructed s r ≡ Ok root) (λ xs k. I
 -- an input of the check of scattered leaves
 abbrev pub JudgesMulti : {D : Type 0} → Scheme D → D → MultiInput D → ℕ → Type 0
 JudgesMulti s root r = Judges s root (AcceptsMulti s r root) (λ xs k. IsHonestMulti s xs k r) (λ xs k. MultiCollides s r xs k)
-
--- the digests of the peaks over the first `leaves` leaves give this root
-pub record GivesRoot {D : Type 0} (s : Scheme D) (root : D) (leaves inactive : ℕ) (peaks : List D) : Type 0 where
-  pub enough : inactive ≤ length peaks
-  pub root_is : peaks_root s leaves inactive inactive peaks ≡ root
 
 -- the first n leaves of a list have this root for j inactive peaks
 pub record BeginsWith {D : Type 0} (s : Scheme D) (xs : List D) (n j : ℕ) (old : D) : Type 0 where

@@ -1,21 +1,12 @@
 -- What is hashed by the checks: SHA-256, by family and bagging.
-use Rattle.std.specs.Prelude.{ℕ, Bool, true, false, ◌^◌, ◌+◌, eqb}
-use Rattle.std.specs.Cmp.Lexicographic.{pointwise}
-use Rattle.sha2.specs.Sha256.{sha256}
-use Rattle.merkle_core.specs.DigestLaws.{length-sha256, no_bytes, length-no_bytes}
-use Rattle.merkle_core.specs.Hashing.{Hashing}
+use Rattle.std.specs.Prelude.{ℕ, Bool, true, false, ◌^◌, ◌+◌}
 use Rattle.merkle_core.specs.Mmb.{mmb_merges}
 use Rattle.merkle_core.specs.Mmr.{mmr_merges}
+use Rattle.merkle_core.specs.PlainHashings.{sha256_hashing}
 use Rattle.merkle_core.specs.Scheme.{Scheme, scheme_of}
-use Rattle.merkle_core.specs.Standard.{standard}
 use Rattle.merkle_base.specs.declared.family.Bagging.{Bagging}
 use Rattle.merkle_base.specs.declared.family.Bagging.TheVariants.{ForwardFold, BackwardFold}
 use Rattle.merkle_sha256.specs.declared.sha256.Sha256Digest.{Sha256Digest}
-
--- the hasher over SHA-256
-abbrev pub sha256_hashing : Hashing Sha256Digest
-sha256_hashing = standard (λ m. record { bytes = sha256 m; sized = length-sha256 m }) (λ d. d.bytes) (λ a b. pointwise eqb a.bytes b.bytes)
-    (record { bytes = no_bytes; sized = length-no_bytes })
 
 -- the bagging that a flag names
 abbrev pub bagging_of : (is_backward : Bool) → Bagging

@@ -1,8 +1,9 @@
 //! The checks, over proofs, roots and elements that are given as bytes.
 ghost use Rattle.std.specs.Prelude.{◌≡◌, ◌↔◌, IsTrue};
 ghost use Rattle.merkle_core.specs.Scheme.{scheme_of};
-ghost use Rattle.merkle_verifier.specs.Answers.{GivesRoot, IsElementAnswer, IsRangeAnswer, IsScatteredAnswer, IsPinnedAnswer, IsGrowthAnswer};
-ghost use Rattle.merkle_verifier.specs.Schemes.{sha256_hashing};
+ghost use Rattle.merkle_core.specs.CheckAnswers.{GivesRoot};
+ghost use Rattle.merkle_verifier.specs.Answers.{IsElementAnswer, IsRangeAnswer, IsScatteredAnswer, IsPinnedAnswer, IsGrowthAnswer};
+ghost use Rattle.merkle_core.specs.PlainHashings.{sha256_hashing};
 
 use crate::answer::{NO, NOT_A_DIGEST, OUT_OF_MEMORY, WRONG_LENGTHS, YES};
 use crate::parts::{cut, locate, read_digests};

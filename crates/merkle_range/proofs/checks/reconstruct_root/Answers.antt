@@ -14,7 +14,7 @@ returns-clause-ok g c =
     let r = range_input s c.args.parts.now.leaves c.args.parts.now.inactive c.args.parts.now.digests.now c.args.start (bytes_of es) in
     let given : 0 < length es = search rules in
     let some : 0 < length r.elements = omega (arith, given, length-leaf_digests s.hashing s.rule c.args.start (bytes_of es), length-map es (λ e. e.now)) in
-    IfOk-weaker c.reconstruct_mmr_position.result _ _ (λ d k. reconstructed-some s r some ∙ ap (root_unless s r) (refusal-none s r k.0) ∙ ap Ok (sym k.1)) c.reconstruct_mmr_position.ensures.ok
+    IfOk-weaker c.reconstruct_nonempty_root.result _ _ (λ d k. reconstructed-some s r some ∙ ap (root_unless s r) (refusal-none s r k.0) ∙ ap Ok (sym k.1)) c.reconstruct_nonempty_root.ensures.ok
 
 pub returns-clause-err : goal.returns-clause-err
 returns-clause-err g c =
@@ -23,4 +23,4 @@ returns-clause-err g c =
     let r = range_input s c.args.parts.now.leaves c.args.parts.now.inactive c.args.parts.now.digests.now c.args.start (bytes_of es) in
     let given : 0 < length es = search rules in
     let some : 0 < length r.elements = omega (arith, given, length-leaf_digests s.hashing s.rule c.args.start (bytes_of es), length-map es (λ e. e.now)) in
-    IfErr-weaker c.reconstruct_mmr_position.result _ _ (λ e w other. reconstructed-some s r some ∙ ap (root_unless s r) (w other)) c.reconstruct_mmr_position.ensures.err
+    IfErr-weaker c.reconstruct_nonempty_root.result _ _ (λ e w other. reconstructed-some s r some ∙ ap (root_unless s r) (w other)) c.reconstruct_nonempty_root.ensures.err

@@ -4,10 +4,11 @@ use Rattle.merkle_codec.specs.NumberLaws.{lawful_locations}
 use Rattle.merkle_core.specs.LeafDigests.{range_input}
 use Rattle.merkle_core.specs.Scheme.{scheme_of}
 use Rattle.merkle_core.specs.Walk.{bytes_of}
-use Rattle.merkle_verifier.specs.Answers.{no, yes, JudgesGrowth, GivesRoot}
+use Rattle.merkle_core.specs.CheckAnswers.{GivesRoot}
+use Rattle.merkle_verifier.specs.Answers.{no, yes, JudgesGrowth}
 use Rattle.merkle_verifier.proofs.Grown.{JudgesPinned, grown_yes, grown_no, not_grown}
 use Rattle.merkle_verifier.specs.Inputs.{IsCut, joined_digests}
-use Rattle.merkle_verifier.specs.Schemes.{sha256_hashing}
+use Rattle.merkle_core.specs.PlainHashings.{sha256_hashing}
 use Rattle.merkle_verifier.proofs.Spelled.{unread}
 use Rattle.merkle_verifier.proofs.checks.check_pinned.Goals as goal
 

@@ -6,7 +6,7 @@ use Rattle.merkle_core.specs.Scheme.{scheme_of}
 use Rattle.merkle_core.specs.Walk.{bytes_of}
 use Rattle.merkle_verifier.specs.Answers.{JudgesRange, no, yes}
 use Rattle.merkle_verifier.specs.Inputs.{IsCut}
-use Rattle.merkle_verifier.specs.Schemes.{sha256_hashing}
+use Rattle.merkle_core.specs.PlainHashings.{sha256_hashing}
 use Rattle.merkle_verifier.proofs.Spelled.{unread}
 use Rattle.merkle_verifier.proofs.checks.check_range.Goals as goal
 

@@ -6,7 +6,7 @@ use Rattle.merkle_core.specs.Scheme.{scheme_of}
 use Rattle.merkle_core.specs.Walk.{bytes_of}
 use Rattle.merkle_verifier.specs.Answers.{JudgesMulti, no, yes}
 use Rattle.merkle_verifier.specs.Inputs.{IsCut, located, located_input, located_leaves}
-use Rattle.merkle_verifier.specs.Schemes.{sha256_hashing}
+use Rattle.merkle_core.specs.PlainHashings.{sha256_hashing}
 use Rattle.merkle_verifier.proofs.Located.{element_leaves-located, input_with}
 use Rattle.merkle_verifier.proofs.Spelled.{unread}
 use Rattle.merkle_verifier.proofs.checks.check_scattered.Goals as goal

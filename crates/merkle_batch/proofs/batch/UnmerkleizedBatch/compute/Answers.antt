@@ -17,7 +17,7 @@ use Rattle.merkle_batch_theory.specs.Records.{after, records}
 use Rattle.merkle_batch_theory.specs.Unmerkleized.{is_changed, kept, kept_lists, leaf_total, UnmerkleizedModel, pending_list}
 use Rattle.merkle_batch_theory.proofs.MapFacts.{no_entry}
 use Rattle.merkle_draft.specs.declared.node_error.NodeError.TheVariants.{OutOfMemory}
-use Rattle.merkle_draft.specs.DraftReads.{ArePeaksRead, below, IsPeakGap, old_node, stored_node}
+use Rattle.merkle_draft.specs.DraftReads.{ArePeaksRead, below, IsMissingPeak, old_node, stored_node}
 use Rattle.merkle_draft.specs.NewDigests.{AreNewDigests, LacksNeeded}
 use Rattle.merkle_batch.specs.Finished.{finished}
 use Rattle.merkle_batch.proofs.Merkleizing.{list_given}
@@ -114,7 +114,7 @@ peaks_missing g c is made other =
     ] in
     peak_missing (g.H.Hasher.hashing c.args.hasher.now) rule max c.args.self.now base c.in_ok-draft.draft d is made gap
     (subst (λ s. IsChanged rule (get s.overwritten) s.leaves_before (leaf_total s)) c.self.view_is changed)
-    (subst (λ (n : ℕ). IsPeakGap rule n d.before (old_node d base) gap) c.leaves-leaves.ensures.count (c.in_err-read_peaks.ensures.missing other))
+    (subst (λ (n : ℕ). IsMissingPeak rule n d.before (old_node d base) gap) c.leaves-leaves.ensures.count (c.in_err-read_peaks.ensures.missing other))
 
 pub returns-in_err-read_peaks-clause-refused : goal.returns-in_err-read_peaks-clause-refused
 returns-in_err-read_peaks-clause-refused g c =

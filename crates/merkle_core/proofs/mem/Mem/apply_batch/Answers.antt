@@ -21,8 +21,8 @@ sub-added-requires g c =
     let m : matched same c.size.result c.front.result.now c.args.batch.now ≡ Some c.in-Some.first = sym c.find_state.ensures ∙ c.in-Some.is in
     omega (arith, total_with_record rule most same c.args.batch.now linked (λ r. r.value) c.batch.inside.ancestors.items (ap (λ b. b.ancestors) c.batch.view_is) c.size.result c.in-Some.first c.front.result.now m, c.size.ensures, c.size-2.ensures, c.size-3.ensures)
 
-pub slice_bounds-lay_all-count : goal.slice_bounds-lay_all-count
-slice_bounds-lay_all-count g c =
+pub slice_bounds-apply_records-count : goal.slice_bounds-apply_records-count
+slice_bounds-apply_records-count g c =
     let rule = g.F.Family.rule in
     let most = g.F.Family.MAX_LEAVES in
     let same = g.D.PartialEq.eq in
@@ -40,8 +40,8 @@ offset_bounds-deref-first g c =
     let k : c.in-Some.first ≤ length c.deref.result.now = some_kept rule most same c.args.batch.now linked (λ r. r.value) c.deref.result.now (ap (map (λ r. r.value)) c.deref.ensures.value ∙ ap (λ b. b.ancestors) c.batch.view_is) c.size.result c.in-Some.first c.front.result.now m in
     search rules
 
-pub slice_bounds-lay_all-start : goal.slice_bounds-lay_all-start
-slice_bounds-lay_all-start g c =
+pub slice_bounds-apply_records-start : goal.slice_bounds-apply_records-start
+slice_bounds-apply_records-start g c =
     let rule = g.F.Family.rule in
     let most = g.F.Family.MAX_LEAVES in
     let same = g.D.PartialEq.eq in
@@ -50,8 +50,8 @@ slice_bounds-lay_all-start g c =
     let k : c.in-Some.first ≤ length c.deref.result.now = some_kept rule most same c.args.batch.now linked (λ r. r.value) c.deref.result.now (ap (map (λ r. r.value)) c.deref.ensures.value ∙ ap (λ b. b.ancestors) c.batch.view_is) c.size.result c.in-Some.first c.front.result.now m in
     search rules
 
-pub lay_all-requires : goal.lay_all-requires
-lay_all-requires g c =
+pub apply_records-requires : goal.apply_records-requires
+apply_records-requires g c =
     let rule = g.F.Family.rule in
     let most = g.F.Family.MAX_LEAVES in
     let same = g.D.PartialEq.eq in
@@ -59,15 +59,15 @@ lay_all-requires g c =
     let m : matched same c.size.result c.front.result.now c.args.batch.now ≡ Some c.in-Some.first = sym c.find_state.ensures ∙ c.in-Some.is in
     omega (arith, total_with_record rule most same c.args.batch.now linked (λ r. r.value) c.deref.result.now (ap (map (λ r. r.value)) c.deref.ensures.value ∙ ap (λ b. b.ancestors) c.batch.view_is) c.size.result c.in-Some.first c.front.result.now m, c.in_ok-reserve.ensures.room, c.reserve.ensures.size, ap (λ s. s.size) c.self.view_is, c.as_u64.ensures, c.sub-added.ensures, c.size.ensures, c.size-2.ensures, c.size-3.ensures)
 
-pub lay-requires : goal.lay-requires
-lay-requires g c =
+pub apply_record-requires : goal.apply_record-requires
+apply_record-requires g c =
     let rule = g.F.Family.rule in
     let most = g.F.Family.MAX_LEAVES in
     let same = g.D.PartialEq.eq in
     let linked = subst (IsBatchValid rule most) c.batch.view_is c.batch.invariant in
     let m : matched same c.size.result c.front.result.now c.args.batch.now ≡ Some c.in-Some.first = sym c.find_state.ensures ∙ c.in-Some.is in
     let own : c.deref-own.result.now ≡ c.args.batch.now.own = c.deref-own.ensures ∙ ap (λ b. b.own) c.batch.view_is in
-    omega (arith, total_with_record rule most same c.args.batch.now linked (λ r. r.value) c.deref.result.now (ap (map (λ r. r.value)) c.deref.ensures.value ∙ ap (λ b. b.ancestors) c.batch.view_is) c.size.result c.in-Some.first c.front.result.now m, c.in_ok-reserve.ensures.room, c.reserve.ensures.size, ap (λ s. s.size) c.self.view_is, ap (λ (r : RecordModel _). length r.appended) own, c.lay_all.ensures.capacity, c.lay_all.ensures.size, c.as_u64.ensures, c.sub-added.ensures, c.size.ensures, c.size-2.ensures, c.size-3.ensures)
+    omega (arith, total_with_record rule most same c.args.batch.now linked (λ r. r.value) c.deref.result.now (ap (map (λ r. r.value)) c.deref.ensures.value ∙ ap (λ b. b.ancestors) c.batch.view_is) c.size.result c.in-Some.first c.front.result.now m, c.in_ok-reserve.ensures.room, c.reserve.ensures.size, ap (λ s. s.size) c.self.view_is, ap (λ (r : RecordModel _). length r.appended) own, c.apply_records.ensures.capacity, c.apply_records.ensures.size, c.as_u64.ensures, c.sub-added.ensures, c.size.ensures, c.size-2.ensures, c.size-3.ensures)
 
 pub invariant_of-self-2 : goal.invariant_of-self-2
 invariant_of-self-2 g c =
@@ -80,13 +80,13 @@ invariant_of-self-2 g c =
     let i = c.self.inside in
     let changes = map (λ r. r.value) (take (length c.deref.result.now - c.in-Some.first) (drop c.in-Some.first c.deref.result.now)) in
     let reserved : held_contents i.boundary c.reserve.new.self ≡ held_contents i.boundary i.held = λ j. record { boundary = i.boundary; size = c.reserve.ensures.size j; node = get (c.reserve.ensures.stored j) } in
-    subst (λ n. IsMemValid rule most i.boundary n c.lay.new.held) (sym (ap (λ b. b.leaves) c.batch.view_is))
+    subst (λ n. IsMemValid rule most i.boundary n c.apply_record.new.held) (sym (ap (λ b. b.leaves) c.batch.view_is))
     (kept_after rule most same c.args.batch.now linked (λ r. r.value) c.deref.result.now (ap (map (λ r. r.value)) c.deref.ensures.value ∙ ap (λ b. b.ancestors) c.batch.view_is) c.size.result c.in-Some.first c.front.result.now m
-    i.boundary i.leaves i.held c.lay_all.new.held c.lay.new.held c.self.invariant (c.size.ensures ∙ sym (ap (λ s. s.size) c.self.view_is))
-    (c.lay.ensures.start ∙ c.lay_all.ensures.start ∙ c.reserve.ensures.start)
-    (omega (arith, c.lay_all.ensures.size, c.reserve.ensures.size)) (c.lay.ensures.size ∙ ap (λ (r : RecordModel _). c.lay_all.new.held.size + length r.appended) own)
-    (c.lay_all.ensures.replayed i.boundary ∙ ap (with_records changes) reserved)
-    (c.lay.ensures.replayed i.boundary ∙ ap (λ r. with_record r (held_contents i.boundary c.lay_all.new.held)) own))
+    i.boundary i.leaves i.held c.apply_records.new.held c.apply_record.new.held c.self.invariant (c.size.ensures ∙ sym (ap (λ s. s.size) c.self.view_is))
+    (c.apply_record.ensures.start ∙ c.apply_records.ensures.start ∙ c.reserve.ensures.start)
+    (omega (arith, c.apply_records.ensures.size, c.reserve.ensures.size)) (c.apply_record.ensures.size ∙ ap (λ (r : RecordModel _). c.apply_records.new.held.size + length r.appended) own)
+    (c.apply_records.ensures.replayed i.boundary ∙ ap (with_records changes) reserved)
+    (c.apply_record.ensures.replayed i.boundary ∙ ap (λ r. with_record r (held_contents i.boundary c.apply_records.new.held)) own))
 
 pub returns-clause-done : goal.returns-clause-done
 returns-clause-done g c =
@@ -103,9 +103,9 @@ returns-clause-done g c =
     let reserved : held_contents i.boundary c.reserve.new.self ≡ contents c.args.self.now =
     (λ j. record { boundary = i.boundary; size = c.reserve.ensures.size j; node = get (c.reserve.ensures.stored j) }) ∙ ap contents c.self.view_is in
     applied_after rule most same c.args.batch.now linked (λ r. r.value) c.deref.result.now (ap (map (λ r. r.value)) c.deref.ensures.value ∙ ap (λ b. b.ancestors) c.batch.view_is) c.size.result c.in-Some.first c.front.result.now m
-    c.args.self.now.leaves (contents c.args.self.now) (held_contents i.boundary c.lay_all.new.held) (held_contents i.boundary c.lay.new.held)
-    (c.lay_all.ensures.replayed i.boundary ∙ ap (with_records changes) reserved)
-    (c.lay.ensures.replayed i.boundary ∙ ap (λ r. with_record r (held_contents i.boundary c.lay_all.new.held)) own) at
+    c.args.self.now.leaves (contents c.args.self.now) (held_contents i.boundary c.apply_records.new.held) (held_contents i.boundary c.apply_record.new.held)
+    (c.apply_records.ensures.replayed i.boundary ∙ ap (with_records changes) reserved)
+    (c.apply_record.ensures.replayed i.boundary ∙ ap (λ r. with_record r (held_contents i.boundary c.apply_records.new.held)) own) at
 
 pub returns-clause-counted : goal.returns-clause-counted
 returns-clause-counted g c = ap (λ b. b.leaves) c.batch.view_is

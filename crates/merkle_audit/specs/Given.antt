@@ -1,0 +1,12 @@
+-- What a call is given as one argument.
+use Rattle.std.specs.Prelude.{ℕ, List}
+use Rattle.std.specs.Borrow.{Bor}
+use Rattle.merkle_base.specs.Scheme.{Scheme}
+use Rattle.merkle_hasher.specs.LeafDigests.{bytes_of}
+use Rattle.merkle_proof.specs.Input.{input_of}
+use Rattle.merkle_proof.specs.declared.proof.Proof.{Proof}
+use Rattle.merkle_root_theory.specs.Check.{RangeInput}
+
+-- a proof, its elements, and where they begin
+abbrev pub given_input : {F D Peaks Heights : Type 0} → Scheme D → Bor (Proof F D Peaks Heights) × Bor (List (Bor (List ℕ))) × ℕ → RangeInput D
+given_input s x = input_of s x.0.now x.2 (bytes_of x.1.now)

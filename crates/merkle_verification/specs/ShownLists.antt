@@ -1,0 +1,40 @@
+-- Statements about each list that a reader of nodes shows, and about ranges whose nodes it holds.
+use Rattle.std.specs.Prelude.{◌≡◌, ℕ, ◌<◌, ◌≤◌, List, length, Option, Result, IfOk}
+use Rattle.merkle_base.specs.Forest.{size}
+use Rattle.merkle_base.specs.Hashing.{Hashing}
+use Rattle.merkle_base.specs.Places.{peaks_of}
+use Rattle.merkle_base.specs.Scheme.{Scheme}
+use Rattle.merkle_base.specs.Shows.{Shows}
+use Rattle.merkle_claim_theory.specs.Multiproof.{IsHonestMulti, multi_positions}
+use Rattle.merkle_proof.specs.MultiPositions.{AreLocations}
+use Rattle.merkle_proof.specs.Positions.{range_positions}
+use Rattle.merkle_proof.specs.RangePlans.{IsHonestProof}
+use Rattle.merkle_proof.specs.declared.proof.Proof.{Proof}
+use Rattle.merkle_verification.specs.ReaderProofs.{multi_list_input}
+use Rattle.merkle_verification.specs.ReaderRefusals.{AreNodesHeld}
+
+-- P of each list that a reader with m nodes shows
+abbrev pub ForShown : {D : Type 0} → Hashing D → (rule : List ℕ → List ℕ) → (m : ℕ) → (ℕ → Option D) → (List D → Type 0) → Type 0
+ForShown {D} h rule m node P = (X : List D) → Shows h rule m node X → P X
+
+-- what is answered for a range of a list is the honest proof
+abbrev pub IsHonestAnswer : {F D E Peaks Heights : Type 0} → Scheme D → (k a b : ℕ) → Result (Proof F D Peaks Heights) E → List D → Type 0
+IsHonestAnswer s k a b answer X = IfOk answer (λ p. IsHonestProof s X k a b p)
+
+-- the same for locations
+abbrev pub IsHonestMultiAnswer : {F D E Peaks Heights : Type 0} → Scheme D → (k : ℕ) → List ℕ → Result (Proof F D Peaks Heights) E → List D → Type 0
+IsHonestMultiAnswer s k locations answer X = IfOk answer (λ p. IsHonestMulti s X k (multi_list_input p s.hashing X locations))
+
+-- P, where a..b is a range of n leaves that a list may have with k inactive peaks, and each node that its proof reads is held
+abbrev pub ForHistoricalRange : {D : Type 0} → (rule : List ℕ → List ℕ) → (max_leaves : ℕ) → (ℕ → Option D) → (n a b k : ℕ) → Type 0 → Type 0
+ForHistoricalRange rule max_leaves node n a b k P =
+    a < b → b ≤ n → n ≤ max_leaves → k ≤ length (peaks_of rule n) → AreNodesHeld node (range_positions rule n a b) → P
+
+-- the same, where these are the leaves of m nodes
+abbrev pub ForReadRange : {D : Type 0} → (rule : List ℕ → List ℕ) → (max_leaves m : ℕ) → (ℕ → Option D) → (a b k : ℕ) → Type 0 → Type 0
+ForReadRange rule max_leaves m node a b k P = (n : ℕ) → size rule n ≡ m → ForHistoricalRange rule max_leaves node n a b k P
+
+-- the same of locations
+abbrev pub ForReadLocations : {D : Type 0} → (rule : List ℕ → List ℕ) → (max_leaves m : ℕ) → (ℕ → Option D) → List ℕ → (k : ℕ) → Type 0 → Type 0
+ForReadLocations rule max_leaves m node locations k P = (n : ℕ) → size rule n ≡ m → AreLocations max_leaves n locations
+    → k ≤ length (peaks_of rule n) → AreNodesHeld node (multi_positions rule n locations) → P
