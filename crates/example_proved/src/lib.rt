@@ -103,10 +103,12 @@ impl<F: Family, D: Digest> Client<F, D> {
         ensures no { IfOk result (λ yes. yes ≡ false → self.new ≡ self.old) }
         ensures yes { let p = proof.now in
             IfOk result (λ yes. IsTrue yes → self.new ≡ record { leaves = p.leaves; inactive_peaks = p.inactive_peaks; root = root.now }) }
-        ensures sound { let s = H.scheme hasher.now in
-            let o = self.old in let r = input_of s proof.now o.leaves (bytes_of added.now) in IfOk result (IsSoundForGrowth s o.root o.leaves o.inactive_peaks root.now r pinned_nodes.now (bytes_of added.now)) }
-        ensures honest { let s = H.scheme hasher.now in
-            let o = self.old in let r = input_of s proof.now o.leaves (bytes_of added.now) in IfOk result (IsCompleteForGrowth s o.root o.leaves o.inactive_peaks root.now r pinned_nodes.now) }
+        ensures sound { let s = H.scheme hasher.now in let o = self.old in
+            let r = input_of s proof.now o.leaves (bytes_of added.now) in
+            IfOk result (IsSoundForGrowth s o.root o.leaves o.inactive_peaks root.now r pinned_nodes.now (bytes_of added.now)) }
+        ensures honest { let s = H.scheme hasher.now in let o = self.old in
+            let r = input_of s proof.now o.leaves (bytes_of added.now) in
+            IfOk result (IsCompleteForGrowth s o.root o.leaves o.inactive_peaks root.now r pinned_nodes.now) }
     {
         if !self.is_given_by(hasher, pinned_nodes) {
             return Ok(false);
