@@ -51,12 +51,11 @@ pub record Extends {D : Type 0} (s : Scheme D) (old_root : D) (leaves inactive :
   pub after : (i : ℕ) (entry : List ℕ) → HasEntry added i entry → HasEntry entries (leaves + i) entry ⊎ HasTwin s entries (leaves + i) entry
 
 -- yes only if each log with the root has the entry, or inputs collide; and yes if it has, for honest proofs
-abbrev pub IsSoundForLogs : {D : Type 0} → Scheme D → D → RangeInput D → (location : ℕ) → (entry : List ℕ) → Bool → Type 0
-IsSoundForLogs s root r location entry accepts =
-    IsTrue accepts → ForLogOf s root (λ entries k. HasEntry entries location entry ⊎ EntryCollides s r entry entries k)
+abbrev pub IsSoundForLogs : {D : Type 0} → Scheme D → D → RangeInput D → (entry : List ℕ) → Bool → Type 0
+IsSoundForLogs s root r entry accepts = IsTrue accepts → ForLogOf s root (λ entries k. HasEntry entries r.start entry ⊎ EntryCollides s r entry entries k)
 
-abbrev pub IsCompleteForLogs : {D : Type 0} → Scheme D → D → RangeInput D → (location : ℕ) → (entry : List ℕ) → Bool → Type 0
-IsCompleteForLogs s root r location entry accepts = ForLogOf s root (λ entries k. HasEntry entries location entry → IsHonestFor s r entries k → IsTrue accepts)
+abbrev pub IsCompleteForLogs : {D : Type 0} → Scheme D → D → RangeInput D → (entry : List ℕ) → Bool → Type 0
+IsCompleteForLogs s root r entry accepts = ForLogOf s root (λ entries k. HasEntry entries r.start entry → IsHonestFor s r entries k → IsTrue accepts)
 
 -- yes only if each log with the newer root begins with the old one, and the added entries follow, or inputs collide; and yes if it does, for
 -- honest proofs and pins

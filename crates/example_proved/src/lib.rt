@@ -62,9 +62,9 @@ impl<F: Family, D: Digest> Client<F, D> {
         location: Location<F>,
     ) -> Result<bool, OutOfMemory>
         ensures sound { let s = H.scheme hasher.now in
-            let r = input_of s proof.now location (entry.now ∷ []) in IfOk result (IsSoundForLogs s self.now.root r location entry.now) }
+            IfOk result (IsSoundForLogs s self.now.root (input_of s proof.now location (entry.now ∷ [])) entry.now) }
         ensures honest { let s = H.scheme hasher.now in
-            let r = input_of s proof.now location (entry.now ∷ []) in IfOk result (IsCompleteForLogs s self.now.root r location entry.now) }
+            IfOk result (IsCompleteForLogs s self.now.root (input_of s proof.now location (entry.now ∷ [])) entry.now) }
     {
         proof.verify_element_inclusion(hasher, entry, location, &self.root)
     }
@@ -101,8 +101,8 @@ impl<F: Family, D: Digest> Client<F, D> {
     ) -> Result<bool, OutOfMemory>
         ensures err { OnErr result (self.new ≡ self.old) }
         ensures no { IfOk result (λ yes. yes ≡ false → self.new ≡ self.old) }
-        ensures yes { let p = proof.now in
-            IfOk result (λ yes. IsTrue yes → self.new ≡ record { leaves = p.leaves; inactive_peaks = p.inactive_peaks; root = root.now }) }
+        ensures yes { IfOk result (λ yes. IsTrue yes
+            → self.new ≡ record { leaves = proof.now.leaves; inactive_peaks = proof.now.inactive_peaks; root = root.now }) }
         ensures sound { let s = H.scheme hasher.now in let o = self.old in
             let r = input_of s proof.now o.leaves (bytes_of added.now) in
             IfOk result (IsSoundForGrowth s o.root o.leaves o.inactive_peaks root.now r pinned_nodes.now (bytes_of added.now)) }

@@ -11,7 +11,8 @@ ghost use Rattle.merkle_hasher.specs.LeafDigests.{bytes_of};
 ghost use Rattle.merkle_claim_theory.specs.Pinned.{AcceptsPinned};
 ghost use Rattle.merkle_store_theory.specs.StoreValue.{store_of};
 ghost use Rattle.merkle_pins_theory.specs.PinnedNodes.{pinned_value};
-ghost use Rattle.merkle_range_audit.specs.Found.{list_refusals, IsPinnedVerdict};
+ghost use Rattle.merkle_range_audit.specs.Found.{list_refusals};
+ghost use Rattle.merkle_audit.specs.Given.{IsVerdictOnPins};
 ghost use Rattle.merkle_audit.specs.PinnedClaimed.{digest_given, pin_in, IsPinnedClaim};
 
 use crate::pin_nodes::{PinnedNodes, first_pinned_below, pin_positions, pinned_digest};
@@ -262,8 +263,8 @@ pub fn audit_pins<F: Family, H: Hasher<F>>(
     ensures err { IfErr result (λ e. e ≢ Error.OutOfMemory
         → first_case (list_refusals F.rule F.MAX_LEAVES (length list.now) inactive) ≡ Some e) }
     ensures within { IfOk result (λ _. (length list.now ≤ F.MAX_LEAVES) × (inactive ≤ length (peaks_of F.rule (length list.now)))) }
-    ensures judged { let s = H.scheme hasher.now in
-        IfOk result (IsPinnedVerdict s list.now inactive (input_of s proof.now start (bytes_of elements.now)) pinned_nodes.now) }
+    ensures judged { IfOk result (
+        IsVerdictOnPins (H.scheme hasher.now) list.now inactive proof.now start elements.now pinned_nodes.now) }
 {
     let alloc = *proof.digests.allocator();
     let listed = match HashedList::new(alloc, hasher, list, inactive) {

@@ -1,5 +1,5 @@
 -- The root of a list.
-use Rattle.std.specs.Prelude.{ℕ, zero, suc, ◌-◌, List, [], ◌∷◌, ◌++◌, Option, Some, None, length, take, drop, fold}
+use Rattle.std.specs.Prelude.{◌≡◌, ℕ, zero, suc, ◌-◌, ◌≤◌, List, [], ◌∷◌, ◌++◌, Option, Some, None, length, take, drop, fold}
 use Rattle.std.specs.Option.{option_map_or}
 use Rattle.std.specs.Int.{to_be_bytes, w64}
 use Rattle.merkle_base.specs.declared.family.Bagging.{Bagging}
@@ -38,6 +38,10 @@ root_string h domain bagging leaves inactive (Some d) =
 abbrev pub peaks_root : {D : Type 0} → Scheme D → (leaves to_fold inactive : ℕ) → List D → D
 peaks_root s leaves to_fold inactive peaks =
     s.hashing.hash (root_string s.hashing s.domain s.bagging leaves inactive (folded s.hashing.fold s.bagging to_fold peaks))
+
+-- there are as many peaks, and no inactive count is written where there are none
+abbrev pub HasPeaksRoot : {D : Type 0} → (to_fold inactive : ℕ) → List D → Type 0
+HasPeaksRoot to_fold inactive peaks = to_fold ≤ length peaks × (length peaks ≡ 0 → inactive ≡ 0)
 
 -- the root of a list for an inactive count
 abbrev pub list_root : {D : Type 0} → Scheme D → List D → ℕ → D

@@ -153,7 +153,7 @@ impl<F: Family, D: Digest> UnmerkleizedBatch<F, D> {
     pub fn add<H: Hasher<F, Digest = D>>(self, hasher: &H, element: &[u8]) -> Result<Self, Error<F>>
         ensures added { IfOk result (λ b. b ≡ with_leaves self ((H.hashing hasher.now).leaf (size F.rule (leaf_total self)) element.now ∷ [])) }
         ensures edited { let h = H.hashing hasher.now in IfOk result (AddsLeaves F.rule self (h.leaf (size F.rule (leaf_total self)) element.now ∷ [])) }
-        ensures room { IfOk result (λ _. leaf_total self < F.MAX_LEAVES) }
+        ensures within_max_leaves { IfOk result (λ _. leaf_total self < F.MAX_LEAVES) }
         ensures refused { IfErr result (IsLeafRefusal F.MAX_LEAVES (leaf_total self)) }
     {
         let position = F::location_to_position(self.leaves());
@@ -180,7 +180,7 @@ impl<F: Family, D: Digest> UnmerkleizedBatch<F, D> {
             IfOk result (λ b. b ≡ with_leaves self digests) }
         ensures edited { let digests = digests_after (H.hashing hasher.now) F.rule self (bytes_of elements.now) in
             IfOk result (AddsLeaves F.rule self digests) }
-        ensures room { IfOk result (λ _. leaf_total self + length elements.now ≤ F.MAX_LEAVES) }
+        ensures within_max_leaves { IfOk result (λ _. leaf_total self + length elements.now ≤ F.MAX_LEAVES) }
         ensures refused { IfErr result (IsLeavesRefusal F.MAX_LEAVES (leaf_total self + length elements.now)) }
     {
         let first = self.leaves();
@@ -205,7 +205,7 @@ impl<F: Family, D: Digest> UnmerkleizedBatch<F, D> {
     pub fn add_leaf_digest(mut self, digest: D) -> Result<Self, Error<F>>
         ensures added { IfOk result (λ b. b ≡ with_leaves self (digest ∷ [])) }
         ensures edited { IfOk result (AddsLeaves F.rule self (digest ∷ [])) }
-        ensures room { IfOk result (λ _. leaf_total self < F.MAX_LEAVES) }
+        ensures within_max_leaves { IfOk result (λ _. leaf_total self < F.MAX_LEAVES) }
         ensures refused { IfErr result (IsLeafRefusal F.MAX_LEAVES (leaf_total self)) }
     {
         if self.leaves().as_u64() >= F::MAX_LEAVES {
@@ -227,7 +227,7 @@ impl<F: Family, D: Digest> UnmerkleizedBatch<F, D> {
     pub fn add_leaf_digests(mut self, digests: &[D]) -> Result<Self, Error<F>>
         ensures added { IfOk result (λ b. b ≡ with_leaves self digests.now) }
         ensures edited { IfOk result (AddsLeaves F.rule self digests.now) }
-        ensures room { IfOk result (λ _. leaf_total self + length digests.now ≤ F.MAX_LEAVES) }
+        ensures within_max_leaves { IfOk result (λ _. leaf_total self + length digests.now ≤ F.MAX_LEAVES) }
         ensures refused { IfErr result (IsLeavesRefusal F.MAX_LEAVES (leaf_total self + length digests.now)) }
     {
         if digests.len() as u64 > F::MAX_LEAVES - self.leaves().as_u64() {
@@ -365,7 +365,7 @@ impl<F: Family, D: Digest> UnmerkleizedBatch<F, D> {
         // If some lists are a history of the parent and the base agrees with one of those that the
         // kept records start or end at, then these, followed by the last of them with the changes,
         // are a history of the batch.
-        ensures stands { let h = H.hashing hasher.now in IfOk result (λ b. GoesOn h F.rule self (B.contents base.now) b.value) }
+        ensures history { let h = H.hashing hasher.now in IfOk result (λ b. GoesOn h F.rule self (B.contents base.now) b.value) }
         ensures granted { (h : Hashing D) → ForUpdatesHeld h F.rule self (B.contents base.now) (IsOkUnless result Error.OutOfMemory) }
     {
         let mut work = Work::new();
@@ -395,7 +395,7 @@ impl<F: Family, D: Digest> UnmerkleizedBatch<F, D> {
         // If some lists are a history of the parent and the base agrees with one of those that the
         // kept records start or end at, then these, followed by the last of them with the changes,
         // are a history of the batch.
-        ensures stands { let h = H.hashing hasher.now in IfOk result (λ b. GoesOn h F.rule self (B.contents base.now) b.value) }
+        ensures history { let h = H.hashing hasher.now in IfOk result (λ b. GoesOn h F.rule self (B.contents base.now) b.value) }
         ensures granted { (h : Hashing D) → ForUpdatesHeld h F.rule self (B.contents base.now) (IsOkUnless result Error.OutOfMemory) }
         ensures work { OnOk result (work.new ≡ record { node_digests = computed_count F.rule self; probes = work.old.probes }) }
         ensures unchanged { OnErr result (work.new ≡ work.old) }
@@ -420,7 +420,7 @@ impl<F: Family, D: Digest> UnmerkleizedBatch<F, D> {
         // If some lists are a history of the parent and the base agrees with one of those that the
         // kept records start or end at, then these, followed by the last of them with the changes,
         // are a history of the batch.
-        ensures stands { let h = H.hashing hasher.now in IfOk result (λ b. GoesOn h F.rule self.now (B.contents base.now) b.value) }
+        ensures history { let h = H.hashing hasher.now in IfOk result (λ b. GoesOn h F.rule self.now (B.contents base.now) b.value) }
         ensures granted { (h : Hashing D) → ForUpdatesHeld h F.rule self.now (B.contents base.now) (IsOkUnless result Error.OutOfMemory) }
         ensures work { OnOk result (work.new ≡ record { node_digests = computed_count F.rule self.now; probes = work.old.probes }) }
         ensures unchanged { OnErr result (work.new ≡ work.old) }

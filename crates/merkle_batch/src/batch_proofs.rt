@@ -7,10 +7,10 @@ ghost use Rattle.merkle_batch_theory.specs.Contents.{AgreesWithOne};
 ghost use Rattle.merkle_batch_theory.specs.Read.{read_over};
 ghost use Rattle.merkle_batch_theory.specs.Records.{records};
 ghost use Rattle.merkle_batch_theory.specs.History.{IsHistory, last_list};
-ghost use Rattle.merkle_proof.specs.RangePlans.{IsBuildRefusal, IsBuiltProof, list_input, IsProvedLeaf, IsProvedRange};
+ghost use Rattle.merkle_proof.specs.RangePlans.{IsBuildRefusal, IsBuiltProof, list_input, IsProvedLeaf};
 ghost use Rattle.merkle_root_theory.specs.Range.{IsHonestRange};
 ghost use Rattle.merkle_batch_theory.specs.ForLists.{ForHistoryOver, ForHeldLeafOver, ForHeldRangeOver};
-ghost use Rattle.merkle_batch.specs.BatchProofs.{IsBuiltLeafOver, IsBuiltRangeOver, RefusesLeafOver, RefusesRangeOver};
+ghost use Rattle.merkle_batch.specs.BatchProofs.{IsBuiltLeafOver, IsBuiltRangeOver, IsProvedOver, RefusesLeafOver, RefusesRangeOver};
 
 use crate::merkleized::MerkleizedBatch;
 use merkle_base::error::Error;
@@ -140,9 +140,9 @@ impl<F: Family, D: Digest> MerkleizedBatch<F, D> {
 
         // If some lists are a history of the batch and the base agrees with one of them, this is
         // the honest proof of the last list.
-        ensures honest { let s = H.scheme hasher.now in
-            ForHistoryOver (H.hashing hasher.now) F.rule (B.contents base.now) self.now (IsProvedRange s inactive range.start range.end result) }
-        ensures granted { (h : Hashing D)
+        ensures honest { IsProvedOver (H.hashing hasher.now) F.rule
+            (B.contents base.now) self.now (H.scheme hasher.now) inactive range.start range.end result }
+        ensures granted { (h : _)
             → ForHeldRangeOver h F.rule (B.contents base.now) self.now inactive range.start range.end (IsOkUnless result Error.OutOfMemory) }
         ensures err { IfErr result (RefusesRangeOver (H.bagging_of hasher.now) F.rule F.MAX_LEAVES
             (B.contents base.now) self.now range.start range.end inactive) }

@@ -10,7 +10,7 @@ use Rattle.merkle_root_theory.specs.Extract.{extracted, IsNodePair}
 use Rattle.merkle_root_theory.specs.Range.{ForRootOf, IsHonestRange, RangeCollides}
 use Rattle.merkle_root_theory.specs.Reconstruction.{reconstructed}
 use Rattle.merkle_claim_theory.specs.Multiproof.{MultiInput, IsHonestMulti, MultiCollides}
-use Rattle.merkle_claim_theory.specs.Pinned.{AcceptsPinned, IsHonestPinned, PinnedCollides}
+use Rattle.merkle_claim_theory.specs.Pinned.{AcceptsPinned, AcceptsPinnedCases, IsHonestPinned, PinnedCollides}
 use Rattle.merkle_claim_theory.specs.Rebuilt.{GivesOldRoot}
 
 -- why an input leads to no root, memory aside
@@ -39,6 +39,10 @@ IsSoundForMulti s root r accepts = IsTrue accepts → ForRootOf s root (λ xs k.
 -- and for a range with pins
 abbrev pub IsExactForPins : {D : Type 0} → Scheme D → D → RangeInput D → (pins : List D) → Bool → Type 0
 IsExactForPins s root r pins accepts = IsTrue accepts ↔ AcceptsPinned s r pins root
+
+-- where the two ways to accept are apart
+abbrev pub DecidesPins : {D : Type 0} → Scheme D → D → RangeInput D → (pins : List D) → Bool → Type 0
+DecidesPins s root r pins accepts = IsTrue accepts ↔ AcceptsPinnedCases s r pins root
 
 abbrev pub IsCompleteForPins : {D : Type 0} → Scheme D → D → RangeInput D → (pins : List D) → Bool → Type 0
 IsCompleteForPins s root r pins accepts = ForRootOf s root (λ xs k. IsHonestPinned s xs k r pins → IsTrue accepts)

@@ -312,11 +312,10 @@ impl<F: Family, D: Digest> Mem<F, D> {
         ensures built { let s = H.scheme hasher.now in IfOk result (IsBuiltRange s (get self.now.stored) inactive self.now.leaves range.start range.end) }
 
         // It is the honest proof of every list that the structure agrees with.
-        ensures honest { let s = H.scheme hasher.now in
-            ForList (H.hashing hasher.now) F.rule (contents self.now) (IsProvedRange s inactive range.start range.end result) }
+        ensures honest { ForList (H.hashing hasher.now) F.rule (contents self.now) (IsProvedRange (H.scheme hasher.now) inactive range.start range.end result) }
         ensures granted { (h : Hashing D) → ForHeldRange h F.rule (contents self.now) inactive range.start range.end (IsOkUnless result Error.OutOfMemory) }
-        ensures err { let node = get self.now.stored in
-            IfErr result (RefusesRange (H.bagging_of hasher.now) F.rule F.MAX_LEAVES self.now.leaves range.start range.end inactive node) }
+        ensures err { IfErr result (
+            RefusesRange (H.bagging_of hasher.now) F.rule F.MAX_LEAVES self.now.leaves range.start range.end inactive (get self.now.stored)) }
     {
         let leaves = self.leaves();
         match RangePlan::new(self.allocator(), leaves, range) {

@@ -1,6 +1,6 @@
 -- Listing new parents.
 use Rattle.std.proofs.Common.{◌≡◌, ℕ, suc, ◌+◌, ◌-◌, ◌<◌, ◌≤◌, List, [], ◌∷◌, ◌++◌, cond, Bool, true, false, arith, refl, sym, ap, subst, inl, inr, ◌∙◌, Some, slice_get, get_or, length}
-use Rattle.std.specs.Prelude.{Vec, ◌==◌}
+use Rattle.std.specs.Prelude.{◌==◌}
 use Rattle.std.specs.List.{Contains}
 use Rattle.std.proofs.lemmas.Bool.{eq-eqb, cases_lt}
 use Rattle.std.proofs.lemmas.Bool.Decides.{eqb_tells}
@@ -30,15 +30,15 @@ contains_if false x y c = absurd (contains_none y c)
 one_height : (rule : List ℕ → List ℕ) (max p h k : ℕ) → HasInner rule max p h → HasInner rule max p k → h ≡ k
 one_height rule max p h k i j = sym i.4 ∙ ap height (same_position rule i.0 j.0 p i.1 j.1 i.3 j.3) ∙ j.4
 
-module _ {A : Type 0} (rule : List ℕ → List ℕ) (max : ℕ) where
-  pub added_nothing : (a : ℕ) (ls : List (Vec ℕ A)) → AreAdded rule max a a ls ls
+module _ (rule : List ℕ → List ℕ) (max : ℕ) where
+  pub added_nothing : (a : ℕ) (ls : List (List ℕ)) → AreAdded rule max a a ls ls
   added_nothing a ls = record {
     sound = λ h p c. inl c;
     kept = λ h p c. c;
     complete = λ h p l u i. absurd (omega (arith, l, u));
   }
 
-  pub added_append : (a b c : ℕ) → a ≤ b → b ≤ c → (x y z : List (Vec ℕ A)) → AreAdded rule max a b x y → AreAdded rule max b c y z → AreAdded rule max a c x z
+  pub added_append : (a b c : ℕ) → a ≤ b → b ≤ c → (x y z : List (List ℕ)) → AreAdded rule max a b x y → AreAdded rule max b c y z → AreAdded rule max a c x z
   added_append a b c l m x y z v w = record {
     sound = λ h p e. elim (w.sound h p e) [
       | inl o ↦ elim (v.sound h p o) [ inl o ↦ inl o | inr i ↦ inr (i.0, omega (arith, i.1, m), i.2) ]
@@ -49,7 +49,7 @@ module _ {A : Type 0} (rule : List ℕ → List ℕ) (max : ℕ) where
   }
 
   -- a leaf is no parent
-  pub added_leaf : (n : ℕ) (ls : List (Vec ℕ A)) → AreAdded rule max (size rule n) (suc (size rule n)) ls ls
+  pub added_leaf : (n : ℕ) (ls : List (List ℕ)) → AreAdded rule max (size rule n) (suc (size rule n)) ls ls
   added_leaf n ls = record {
     sound = λ h p c. inl c;
     kept = λ h p c. c;
@@ -59,7 +59,7 @@ module _ {A : Type 0} (rule : List ℕ → List ℕ) (max : ℕ) where
         absurd (omega (arith, ap height same, i.4, i.5)));
   }
 
-  pub added_parent : (q k : ℕ) → HasInner rule max q k → (old new : List (Vec ℕ A)) → ((h : ℕ) → level_at new h ≡ level_at old h ++ cond (h == k) (q ∷ []) []) → AreAdded rule max q (suc q) old new
+  pub added_parent : (q k : ℕ) → HasInner rule max q k → (old new : List (List ℕ)) → ((h : ℕ) → level_at new h ≡ level_at old h ++ cond (h == k) (q ∷ []) []) → AreAdded rule max q (suc q) old new
   added_parent q k i old new e = record {
     sound = λ h p c. elim (Contains-append_cases (level_at old h) (cond (h == k) (q ∷ []) []) p (subst (λ xs. Contains xs p) (e h) c)) [
       | inl o ↦ inl o

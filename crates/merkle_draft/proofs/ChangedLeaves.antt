@@ -1,5 +1,5 @@
--- Changed leaves by position: the entries of a map are those of the peaks, left to right.
-use Rattle.std.proofs.Common.{◌≡◌, ◌≢◌, ℕ, zero, suc, ◌+◌, ◌<◌, ◌≤◌, List, [], ◌∷◌, ◌++◌, map, Option, Some, None, Bool, true, false, cond, slice_get, arith, refl, sym, ap, inl, inr, ◌∙◌, subst, append-nil, append_assoc}
+-- New digests of leaves by position: the entries of a map are those of the peaks' leaves, left to right.
+use Rattle.std.proofs.Common.{◌≡◌, ◌≢◌, ℕ, zero, suc, ◌+◌, ◌<◌, ◌≤◌, List, [], ◌∷◌, ◌++◌, map, Option, Some, None, Bool, true, false, cond, slice_get, arith, refl, sym, ap, inl, inr, ◌∙◌, ap₂, subst, append-nil, append_assoc}
 use Rattle.std.specs.Prelude.{is_some}
 use Rattle.std.specs.List.{AllByRecursion, flat_map}
 use Rattle.std.specs.List.Sorted.{IsStrictlySortedBy}
@@ -10,6 +10,7 @@ use Rattle.std.specs.Ordering.{nat_cmp, eq_by_cmp}
 use Rattle.std.specs.declared.cmp.Ordering.TheVariants.{Less}
 use Rattle.std.proofs.lemmas.Bool.{false≢true, cases_eq}
 use Rattle.std.proofs.lemmas.Bool.Decides.{eqb_tells, nat_tests}
+use Rattle.std.proofs.lemmas.List.{map-append}
 use Rattle.merkle_base.specs.Tree.{Tree, leaf, join, position, first_leaf, width, IsUnder, IsBuilt}
 use Rattle.merkle_base.specs.Forest.{forest, size}
 use Rattle.merkle_base.specs.Places.{peaks_of}
@@ -126,42 +127,84 @@ module _ {D : Type 0} where
       each [] h = tt
       each (y ∷ ys) h = (below_of x.0 y.0 h.0, each ys h.1)
 
+-- ---- leaves with their new digests
+abbrev dirty_pairs : {D : Type 0} → (ℕ → Option D) → Tree → List (ℕ × D)
+dirty_pairs m (leaf p n) = elim (m p) [ Some d ↦ (p, d) ∷ [] | None ↦ [] ]
+dirty_pairs m (join p l r) = dirty_pairs m l ++ dirty_pairs m r
+
+-- what holds of the positions
+all_keys : {D : Type 0} (P : ℕ → Type 0) (es : List (ℕ × D)) → AllByRecursion P (keys es) → AllByRecursion (λ e. P e.0) es
+all_keys P [] all = tt
+all_keys P (e ∷ es) all = (all.0, all_keys P es all.1)
+
+module _ {D : Type 0} (m : ℕ → Option D) where
+  abbrev leaf_pairs : ℕ → Option D → List (ℕ × D)
+  leaf_pairs p o = elim o [ Some d ↦ (p, d) ∷ [] | None ↦ [] ]
+
+  pair_dirty : (p n : ℕ) (d : D) → m p ≡ Some d → dirty_pairs m (leaf p n) ≡ (p, d) ∷ []
+  pair_dirty p n d e = ap (leaf_pairs p) e
+
+  pair_untouched : (p n : ℕ) → m p ≡ None → dirty_pairs m (leaf p n) ≡ []
+  pair_untouched p n e = ap (leaf_pairs p) e
+
+  pair_keys : (t : Tree) → keys (dirty_pairs m t) ≡ dirty_leaves m t
+  pair_keys (leaf p n) = elim (none_or_some (m p)) [
+    | inl o ↦ ap keys (pair_untouched p n o) ∙ sym (leaf_untouched m p n (ap is_some o))
+    | inr o ↦ ap keys (pair_dirty p n o.0 o.1) ∙ sym (leaf_dirty m p n (ap is_some o.1))
+  ]
+  pair_keys (join p l r) = map-append (λ e. e.0) (dirty_pairs m l) (dirty_pairs m r) ∙ ap₂ (λ a b. a ++ b) (pair_keys l) (pair_keys r)
+
+  all_pair_keys : (ts : List Tree) → keys (flat_map (dirty_pairs m) ts) ≡ flat_map (dirty_leaves m) ts
+  all_pair_keys [] = refl
+  all_pair_keys (t ∷ ts) = map-append (λ e. e.0) (dirty_pairs m t) (flat_map (dirty_pairs m) ts) ∙ ap₂ (λ a b. a ++ b) (pair_keys t) (all_pair_keys ts)
+
+  pairs_between : (rule : List ℕ → List ℕ) (n : ℕ) (t : Tree) → IsBuilt (forest rule n).nodes t
+      → AllByRecursion (λ e. Between rule (first_leaf t) (first_leaf t + width t) e.0) (dirty_pairs m t)
+  pairs_between rule n t b =
+      let P : ℕ → Type 0 = Between rule (first_leaf t) (first_leaf t + width t) in
+      all_keys P (dirty_pairs m t) (subst (AllByRecursion P) (sym (pair_keys t)) (dirty_between rule n m t b))
+
+  pairs_after : (rule : List ℕ → List ℕ) (n o e : ℕ) (ts : List Tree) → Spans o e ts → AllByRecursion (IsBuilt (forest rule n).nodes) ts
+      → AllByRecursion (λ u. size rule o ≤ u.0) (flat_map (dirty_pairs m) ts)
+  pairs_after rule n o e ts c b =
+      all_keys (λ p. size rule o ≤ p) (flat_map (dirty_pairs m) ts) (subst (AllByRecursion (λ p. size rule o ≤ p)) (sym (all_pair_keys ts)) (after_start rule n m o e ts c b))
+
 -- ---- the changed leaves of the peaks
 module _ {D : Type 0} (m : ℕ → Option D) where
-  dirty_found : (t : Tree) → AllByRecursion (λ u. m u.0 ≡ Some u.1) (dirty_leaves m t)
+  dirty_found : (t : Tree) → AllByRecursion (λ u. m u.0 ≡ Some u.1) (dirty_pairs m t)
   dirty_found (leaf p n) = elim (none_or_some (m p)) [
-    | inl o ↦ subst (AllByRecursion (λ u. m u.0 ≡ Some u.1)) (sym (leaf_untouched m p n o)) tt
-    | inr o ↦ subst (AllByRecursion (λ u. m u.0 ≡ Some u.1)) (sym (leaf_dirty m p n o.0 o.1)) (o.1, tt)
+    | inl o ↦ subst (AllByRecursion (λ u. m u.0 ≡ Some u.1)) (sym (pair_untouched m p n o)) tt
+    | inr o ↦ subst (AllByRecursion (λ u. m u.0 ≡ Some u.1)) (sym (pair_dirty m p n o.0 o.1)) (o.1, tt)
   ]
-  dirty_found (join p l r) = all_append (λ u. m u.0 ≡ Some u.1) (dirty_leaves m l) (dirty_leaves m r) (dirty_found l) (dirty_found r)
+  dirty_found (join p l r) = all_append (λ u. m u.0 ≡ Some u.1) (dirty_pairs m l) (dirty_pairs m r) (dirty_found l) (dirty_found r)
 
-  all_found : (ts : List Tree) → AllByRecursion (λ u. m u.0 ≡ Some u.1) (flat_map (dirty_leaves m) ts)
+  all_found : (ts : List Tree) → AllByRecursion (λ u. m u.0 ≡ Some u.1) (flat_map (dirty_pairs m) ts)
   all_found [] = tt
-  all_found (t ∷ ts) = all_append (λ u. m u.0 ≡ Some u.1) (dirty_leaves m t) (flat_map (dirty_leaves m) ts) (dirty_found t) (all_found ts)
+  all_found (t ∷ ts) = all_append (λ u. m u.0 ≡ Some u.1) (dirty_pairs m t) (flat_map (dirty_pairs m) ts) (dirty_found t) (all_found ts)
 
-  found_under : (t : Tree) (q k : ℕ) (d : D) → IsUnder (leaf q k) t → m q ≡ Some d → is_some (find nat_cmp q (dirty_leaves m t)) ≡ true
+  found_under : (t : Tree) (q k : ℕ) (d : D) → IsUnder (leaf q k) t → m q ≡ Some d → is_some (find nat_cmp q (dirty_pairs m t)) ≡ true
   found_under (leaf p n) q k d u e =
       let c : q ≡ p = ap position u in
-      ap (λ xs. is_some (find nat_cmp q xs)) (leaf_dirty m p n d (subst (λ z. m z ≡ Some d) c e)) ∙ ap (λ o. is_some o) (find_yes q (p, d) [] c)
-  found_under (join p l r) q k d u e = ap (λ o. is_some o) (find_append q (dirty_leaves m l) (dirty_leaves m r)) ∙ elim u [
+      ap (λ xs. is_some (find nat_cmp q xs)) (pair_dirty m p n d (subst (λ z. m z ≡ Some d) c e)) ∙ ap (λ o. is_some o) (find_yes q (p, d) [] c)
+  found_under (join p l r) q k d u e = ap (λ o. is_some o) (find_append q (dirty_pairs m l) (dirty_pairs m r)) ∙ elim u [
     | inl v ↦ absurd (cc)
     | inr v ↦ elim v [
-      | inl w ↦ or_left_some (find nat_cmp q (dirty_leaves m l)) (find nat_cmp q (dirty_leaves m r)) (found_under l q k d w e)
-      | inr w ↦ or_right_some (find nat_cmp q (dirty_leaves m l)) (find nat_cmp q (dirty_leaves m r)) (found_under r q k d w e)
+      | inl w ↦ or_left_some (find nat_cmp q (dirty_pairs m l)) (find nat_cmp q (dirty_pairs m r)) (found_under l q k d w e)
+      | inr w ↦ or_right_some (find nat_cmp q (dirty_pairs m l)) (find nat_cmp q (dirty_pairs m r)) (found_under r q k d w e)
     ]
   ]
 
-  found_in : (ts : List Tree) (i : ℕ) (t : Tree) (q : ℕ) → slice_get ts i ≡ Some t → is_some (find nat_cmp q (dirty_leaves m t)) ≡ true → is_some (find nat_cmp q (flat_map (dirty_leaves m) ts)) ≡ true
+  found_in : (ts : List Tree) (i : ℕ) (t : Tree) (q : ℕ) → slice_get ts i ≡ Some t → is_some (find nat_cmp q (dirty_pairs m t)) ≡ true → is_some (find nat_cmp q (flat_map (dirty_pairs m) ts)) ≡ true
   found_in [] i t q e s = absurd (cc)
   found_in (x ∷ ts) zero t q e s = (let c : t ≡ x = cc in
-      ap (λ o. is_some o) (find_append q (dirty_leaves m x) (flat_map (dirty_leaves m) ts)) ∙ or_left_some (find nat_cmp q (dirty_leaves m x)) (find nat_cmp q (flat_map (dirty_leaves m) ts)) (subst (λ z. is_some (find nat_cmp q (dirty_leaves m z)) ≡ true) c s))
+      ap (λ o. is_some o) (find_append q (dirty_pairs m x) (flat_map (dirty_pairs m) ts)) ∙ or_left_some (find nat_cmp q (dirty_pairs m x)) (find nat_cmp q (flat_map (dirty_pairs m) ts)) (subst (λ z. is_some (find nat_cmp q (dirty_pairs m z)) ≡ true) c s))
   found_in (x ∷ ts) (suc i) t q e s =
-      ap (λ o. is_some o) (find_append q (dirty_leaves m x) (flat_map (dirty_leaves m) ts)) ∙ or_right_some (find nat_cmp q (dirty_leaves m x)) (find nat_cmp q (flat_map (dirty_leaves m) ts)) (found_in ts i t q e s)
+      ap (λ o. is_some o) (find_append q (dirty_pairs m x) (flat_map (dirty_pairs m) ts)) ∙ or_right_some (find nat_cmp q (dirty_pairs m x)) (find nat_cmp q (flat_map (dirty_pairs m) ts)) (found_in ts i t q e s)
 
   module _ (rule : List ℕ → List ℕ) (n : ℕ) where
-    peaks_find : HasLeavesOf rule n m → (q : ℕ) → find nat_cmp q (flat_map (dirty_leaves m) (peaks_of rule n)) ≡ m q
-    peaks_find leaves q = elim (none_or_some (find nat_cmp q (flat_map (dirty_leaves m) (peaks_of rule n)))) [
-      | inr o ↦ o.1 ∙ sym (find_among (λ p d. m p ≡ Some d) (flat_map (dirty_leaves m) (peaks_of rule n)) (all_found (peaks_of rule n)) q o.0 o.1)
+    peaks_find : HasLeavesOf rule n m → (q : ℕ) → find nat_cmp q (flat_map (dirty_pairs m) (peaks_of rule n)) ≡ m q
+    peaks_find leaves q = elim (none_or_some (find nat_cmp q (flat_map (dirty_pairs m) (peaks_of rule n)))) [
+      | inr o ↦ o.1 ∙ sym (find_among (λ p d. m p ≡ Some d) (flat_map (dirty_pairs m) (peaks_of rule n)) (all_found (peaks_of rule n)) q o.0 o.1)
       | inl o ↦ elim (none_or_some (m q)) [
         | inl v ↦ o ∙ sym v
         | inr v ↦ (let w = leaves q (ap is_some v.1) in
@@ -173,37 +216,53 @@ module _ {D : Type 0} (m : ℕ → Option D) where
       ]
     ]
 
-    rising_tree : (t : Tree) → IsBuilt (forest rule n).nodes t → Rising (dirty_leaves m t)
+    rising_tree : (t : Tree) → IsBuilt (forest rule n).nodes t → Rising (dirty_pairs m t)
     unfolding Rising
-    rising_tree (leaf p k) b = elim (none_or_some (m p)) [ inl o ↦ subst Rising (sym (leaf_untouched m p k o)) tt | inr o ↦ subst Rising (sym (leaf_dirty m p k o.0 o.1)) (tt, tt) ]
-    rising_tree (join p l r) b = rising_append (dirty_leaves m l) (dirty_leaves m r) (size rule (first_leaf r)) (rising_tree l b.4) (rising_tree r b.5)
-        (all_imply (Between rule (first_leaf l) (first_leaf l + width l)) (λ u. u.0 < size rule (first_leaf r)) (λ u w. omega (arith, w.1, ap (size rule) b.3)) (dirty_leaves m l) (dirty_between rule n m l b.4))
-        (all_imply (Between rule (first_leaf r) (first_leaf r + width r)) (λ u. size rule (first_leaf r) ≤ u.0) (λ u w. w.0) (dirty_leaves m r) (dirty_between rule n m r b.5))
+    rising_tree (leaf p k) b = elim (none_or_some (m p)) [ inl o ↦ subst Rising (sym (pair_untouched m p k o)) tt | inr o ↦ subst Rising (sym (pair_dirty m p k o.0 o.1)) (tt, tt) ]
+    rising_tree (join p l r) b = rising_append (dirty_pairs m l) (dirty_pairs m r) (size rule (first_leaf r)) (rising_tree l b.4) (rising_tree r b.5)
+        (all_imply (λ u. Between rule (first_leaf l) (first_leaf l + width l) u.0) (λ u. u.0 < size rule (first_leaf r)) (λ u w. omega (arith, w.1, ap (size rule) b.3)) (dirty_pairs m l) (pairs_between m rule n l b.4))
+        (all_imply (λ u. Between rule (first_leaf r) (first_leaf r + width r) u.0) (λ u. size rule (first_leaf r) ≤ u.0) (λ u w. w.0) (dirty_pairs m r) (pairs_between m rule n r b.5))
 
-    rising_trees : (o e : ℕ) (ts : List Tree) → Spans o e ts → AllByRecursion (IsBuilt (forest rule n).nodes) ts → Rising (flat_map (dirty_leaves m) ts)
+    rising_trees : (o e : ℕ) (ts : List Tree) → Spans o e ts → AllByRecursion (IsBuilt (forest rule n).nodes) ts → Rising (flat_map (dirty_pairs m) ts)
     unfolding Rising
     rising_trees o e [] c b = tt
-    rising_trees o e (t ∷ ts) c b = rising_append (dirty_leaves m t) (flat_map (dirty_leaves m) ts) (size rule (o + width t)) (rising_tree t b.0) (rising_trees (o + width t) e ts c.1 b.1)
-        (all_imply (Between rule (first_leaf t) (first_leaf t + width t)) (λ u. u.0 < size rule (o + width t)) (λ u w. omega (arith, w.1, ap (λ (z : ℕ). size rule (z + width t)) c.0)) (dirty_leaves m t) (dirty_between rule n m t b.0))
-        (after_start rule n m (o + width t) e ts c.1 b.1)
+    rising_trees o e (t ∷ ts) c b = rising_append (dirty_pairs m t) (flat_map (dirty_pairs m) ts) (size rule (o + width t)) (rising_tree t b.0) (rising_trees (o + width t) e ts c.1 b.1)
+        (all_imply (λ u. Between rule (first_leaf t) (first_leaf t + width t) u.0) (λ u. u.0 < size rule (o + width t)) (λ u w. omega (arith, w.1, ap (λ (z : ℕ). size rule (z + width t)) c.0)) (dirty_pairs m t) (pairs_between m rule n t b.0))
+        (pairs_after m rule n (o + width t) e ts c.1 b.1)
 
     -- entries in order, in which m finds what it has
-    pub changed_leaves : HasLeavesOf rule n m → (es : List (ℕ × D)) → Rising es → ((q : ℕ) → m q ≡ find nat_cmp q es) → es ≡ flat_map (dirty_leaves m) (peaks_of rule n)
-    changed_leaves leaves es h f = same_rising es (flat_map (dirty_leaves m) (peaks_of rule n)) h
+    pub changed_leaves : HasLeavesOf rule n m → (es : List (ℕ × D)) → Rising es → ((q : ℕ) → m q ≡ find nat_cmp q es) → es ≡ flat_map (dirty_pairs m) (peaks_of rule n)
+    changed_leaves leaves es h f = same_rising es (flat_map (dirty_pairs m) (peaks_of rule n)) h
         (rising_trees 0 n (peaks_of rule n) (covers_spans n (forest rule n).peaks (forest_grown rule n).covers) (all_reverse (IsBuilt (forest rule n).nodes) (forest rule n).peaks (forest_grown rule n).built))
         (λ q. sym (f q) ∙ sym (peaks_find leaves q))
 
 -- the entries of a map of changed leaves
-pub entries_are : {D : Type 0} (rule : List ℕ → List ℕ) (n : ℕ) (es : List (ℕ × D)) → HasLeavesOf rule n (get {R = nat_cmp} (from_entries es)) → IsStrictlySortedBy nat_cmp (map (λ e. e.0) es) → es ≡ flat_map (dirty_leaves (get {R = nat_cmp} (from_entries es))) (peaks_of rule n)
-entries_are rule n es leaves h = changed_leaves (get {R = nat_cmp} (from_entries es)) rule n leaves es (keys_rise es h) (λ q. get-from_entries nat_cmp_total es q)
+entries_of : {D : Type 0} (rule : List ℕ → List ℕ) (n : ℕ) (es : List (ℕ × D)) → HasLeavesOf rule n (get {R = nat_cmp} (from_entries es)) → IsStrictlySortedBy nat_cmp (map (λ e. e.0) es) → es ≡ flat_map (dirty_pairs (get {R = nat_cmp} (from_entries es))) (peaks_of rule n)
+entries_of rule n es leaves h = changed_leaves (get {R = nat_cmp} (from_entries es)) rule n leaves es (keys_rise es h) (λ q. get-from_entries nat_cmp_total es q)
+
+pub entries_are : {D : Type 0} (rule : List ℕ → List ℕ) (n : ℕ) (es : List (ℕ × D)) → HasLeavesOf rule n (get {R = nat_cmp} (from_entries es)) → IsStrictlySortedBy nat_cmp (map (λ e. e.0) es)
+    → map (λ e. e.0) es ≡ flat_map (dirty_leaves (get {R = nat_cmp} (from_entries es))) (peaks_of rule n)
+entries_are rule n es leaves h = ap keys (entries_of rule n es leaves h) ∙ all_pair_keys (get {R = nat_cmp} (from_entries es)) (peaks_of rule n)
 
 -- ---- taking the entries one by one
-pub entries_moved : {D : Type 0} (items new rest next es : List (ℕ × D)) (k : ℕ) (d : D) → new ≡ items ++ (k, d) ∷ [] → rest ≡ (k, d) ∷ next → items ++ rest ≡ es → new ++ next ≡ es
-entries_moved items new rest next es k d e f g = ap (λ z. z ++ next) e ∙ append_assoc items ((k, d) ∷ []) next ∙ ap (λ z. items ++ z) (sym f) ∙ g
+-- the entries that are taken are inserted, and their positions are listed
+pub record Taken {D : Type 0} (es rest : List (ℕ × D)) (inserted : FinMap nat_cmp D) (listed : List ℕ) : Type 0 where
+  pub done : List (ℕ × D)
+  pub parts : done ++ rest ≡ es
+  pub inserted_is : inserted ≡ from_entries done
+  pub listed_is : listed ≡ map (λ e. e.0) done
 
-pub map_moved : {D : Type 0} (items new rest next es : List (ℕ × D)) (k : ℕ) (d : D) (old map : FinMap nat_cmp D) → IsStrictlySortedBy nat_cmp (keys es) → old ≡ from_entries items → map ≡ insert old k d → new ≡ items ++ (k, d) ∷ [] → rest ≡ (k, d) ∷ next → items ++ rest ≡ es → map ≡ from_entries new
-map_moved items new rest next es k d old map h a b e f g =
-    b ∙ ap (λ z. insert z k d) a ∙ one_more items k d next es (keys_rise es h) (ap (λ z. items ++ z) (sym f) ∙ g) ∙ ap (λ z. from_entries z) (sym e)
+pub taken_more : {D : Type 0} (es rest next : List (ℕ × D)) (k : ℕ) (d : D) (old new : FinMap nat_cmp D) (listed longer : List ℕ) → IsStrictlySortedBy nat_cmp (keys es)
+    → rest ≡ (k, d) ∷ next → new ≡ insert old k d → longer ≡ listed ++ k ∷ [] → Taken es rest old listed → Taken es next new longer
+taken_more es rest next k d old new listed longer h e i l w = record {
+  done = w.done ++ (k, d) ∷ [];
+  parts = append_assoc w.done ((k, d) ∷ []) next ∙ ap (λ z. w.done ++ z) (sym e) ∙ w.parts;
+  inserted_is = i ∙ ap (λ z. insert z k d) w.inserted_is ∙ one_more w.done k d next es (keys_rise es h) (ap (λ z. w.done ++ z) (sym e) ∙ w.parts);
+  listed_is = l ∙ ap (λ z. z ++ k ∷ []) w.listed_is ∙ sym (map-append (λ e. e.0) w.done ((k, d) ∷ []));
+}
 
-pub entries_all : {D : Type 0} (items rest es : List (ℕ × D)) → rest ≡ [] → items ++ rest ≡ es → items ≡ es
-entries_all items rest es e f = sym (append-nil items) ∙ ap (λ z. items ++ z) (sym e) ∙ f
+pub taken_all : {D : Type 0} (es rest : List (ℕ × D)) (inserted : FinMap nat_cmp D) (listed : List ℕ) → rest ≡ [] → Taken es rest inserted listed
+    → (inserted ≡ from_entries es) × (listed ≡ map (λ e. e.0) es)
+taken_all es rest inserted listed e w =
+    let all : w.done ≡ es = sym (append-nil w.done) ∙ ap (λ z. w.done ++ z) (sym e) ∙ w.parts in
+    (w.inserted_is ∙ ap (λ z. from_entries z) all, w.listed_is ∙ ap keys all)

@@ -1,6 +1,6 @@
 -- What a plan leaves to be computed, and what is stored when all is computed.
 use Rattle.std.proofs.Common.{◌≡◌, ℕ, zero, suc, ◌+◌, ◌-◌, ◌<◌, ◌≤◌, ◌^◌, ◌⊎◌, List, [], ◌∷◌, ◌++◌, length, length-append, Option, Some, None, Bool, true, false, cond, slice_get, arith, refl, sym, ap, subst, inl, inr, ◌∙◌, Result, Ok, Err}
-use Rattle.std.specs.Prelude.{Vec, is_some, nat_le, nat_lt, ◌||◌, OnOk}
+use Rattle.std.specs.Prelude.{is_some, nat_le, nat_lt, ◌||◌, OnOk}
 use Rattle.std.specs.List.{Contains, filter}
 use Rattle.std.specs.Option.{option_or}
 use Rattle.std.specs.FinMap.{get}
@@ -29,10 +29,10 @@ use Rattle.merkle_draft.specs.declared.node_error.NodeError.{NodeError}
 use Rattle.merkle_draft.proofs.PlannedNodes.{all_counted}
 
 -- what is listed at a height is listed
-pub listed_in_all : {A : Type 0} (ls : List (Vec ℕ A)) (k p : ℕ) → Contains (level_at ls k) p → Contains (from_height ls 0) p
+pub listed_in_all : (ls : List (List ℕ)) (k p : ℕ) → Contains (level_at ls k) p → Contains (from_height ls 0) p
 listed_in_all [] k p c = c
-listed_in_all (v ∷ ls) zero p c = Contains-append_left v.items (from_height ls 0) p c
-listed_in_all (v ∷ ls) (suc k) p c = Contains-append_right v.items (from_height ls 0) p (listed_in_all ls k p c)
+listed_in_all (v ∷ ls) zero p c = Contains-append_left v (from_height ls 0) p c
+listed_in_all (v ∷ ls) (suc k) p c = Contains-append_right v (from_height ls 0) p (listed_in_all ls k p c)
 
 -- a map of leaves has nothing for a merged node, and nothing past them
 pub no_leaf_there : {D : Type 0} (rule : List ℕ → List ℕ) (n e : ℕ) (m : ℕ → Option D) → HasLeavesOf rule n m → n ≤ e → (p q : ℕ) (l r : Tree) → slice_get (forest rule e).nodes p ≡ Some (join q l r) → m p ≡ None
@@ -47,7 +47,7 @@ no_leaf_past rule n m of p past = by_test (λ b. is_some (m p) ≡ b → m p ≡
     (λ b c. (let k = of p b in absurd (omega (arith, past, k.2, size_lt rule k.0 n k.1))))
     (λ b c. none_of (m p) b) refl
 
-module _ {D A : Type 0} (rule : List ℕ → List ℕ) (max_leaves : ℕ) (m : ℕ → Option D) (n a e : ℕ) (ls : List (Vec ℕ A)) (within : e ≤ max_leaves) (planned : ArePlanned rule m n a e ls) where
+module _ {D : Type 0} (rule : List ℕ → List ℕ) (max_leaves : ℕ) (m : ℕ → Option D) (n a e : ℕ) (ls : List (List ℕ)) (within : e ≤ max_leaves) (planned : ArePlanned rule m n a e ls) where
   -- each listed node is a merged node of its height
   pub listed_inner : (k p : ℕ) → Contains (level_at ls k) p → HasInner rule max_leaves p k
   listed_inner k p c = (let w = (planned k p).0 c in (e, w.0, within, w.1, w.2, tall w.0 w.2 w.3))
@@ -60,7 +60,7 @@ module _ {D A : Type 0} (rule : List ℕ → List ℕ) (max_leaves : ℕ) (m : �
   listed_below k p c = (let w = (planned k p).0 c in get_below (forest rule e).nodes p w.0 w.1)
 
 -- ---- before the dirty parents are computed
-module _ {D A : Type 0} (h : Hashing D) (rule : List ℕ → List ℕ) (max_leaves : ℕ) (m under : ℕ → Option D) (n : ℕ) (before : ℕ) (ls : List (Vec ℕ A)) (within : n ≤ max_leaves) (sized : size rule n ≡ before) (planned : ArePlanned rule m n 0 n ls)
+module _ {D : Type 0} (h : Hashing D) (rule : List ℕ → List ℕ) (max_leaves : ℕ) (m under : ℕ → Option D) (n : ℕ) (before : ℕ) (ls : List (List ℕ)) (within : n ≤ max_leaves) (sized : size rule n ≡ before) (planned : ArePlanned rule m n 0 n ls)
     (of : HasLeavesOf rule n m) (stored : ℕ → Option D) (old : (q : ℕ) → q < size rule n → stored q ≡ m q) where
   -- the old leaves have their digests
   old_leaf_settled : (p q k : ℕ) → slice_get (forest rule n).nodes p ≡ Some (leaf q k) → IsStoredAfter h rule m under n [] stored p (leaf q k)
@@ -117,7 +117,7 @@ module _ {D : Type 0} (h : Hashing D) (rule : List ℕ → List ℕ) (m under : 
       let right = digest_stays r (position r) (built_at (forest rule (n + length ds)).nodes r built.5) in
       λ i. cond (is_written rule m n (join q l r)) (of_both (h.node q) (left i) (right i)) (under q)
 
-  module _ {A : Type 0} (max_leaves before : ℕ) (ls : List (Vec ℕ A)) (old now : ℕ → Option D) (within : n + length (ds ++ more) ≤ max_leaves) (sized : size rule n ≡ before)
+  module _ (max_leaves before : ℕ) (ls : List (List ℕ)) (old now : ℕ → Option D) (within : n + length (ds ++ more) ≤ max_leaves) (sized : size rule n ≡ before)
       (planned : ArePlanned rule m n (size rule (n + length ds)) (n + length (ds ++ more)) ls) (held : AreNewDigests h rule m under n ds old) (same : (p : ℕ) → p < size rule (n + length ds) → now p ≡ old p)
       (new : (i : ℕ) (d : D) → slice_get more i ≡ Some d → now (size rule (n + length ds + i)) ≡ Some d) where
     held_settled : (p : ℕ) (t : Tree) → p < size rule (n + length ds) → slice_get (forest rule (n + length (ds ++ more))).nodes p ≡ Some t → IsStoredAfter h rule m under n (ds ++ more) now p t

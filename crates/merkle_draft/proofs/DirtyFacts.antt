@@ -1,9 +1,9 @@
--- The changed leaves of a tree, in the order of their positions.
-use Rattle.std.proofs.Common.{◌≡◌, ℕ, suc, ◌+◌, ◌<◌, ◌≤◌, List, [], ◌∷◌, ◌++◌, length, take, drop, Option, Some, None, false, arith, refl, sym, ap, inl, inr, ◌∙◌, subst}
+-- The positions of a tree's leaves that get new digests, in order.
+use Rattle.std.proofs.Common.{◌≡◌, ℕ, suc, ◌+◌, ◌<◌, ◌≤◌, List, [], ◌∷◌, ◌++◌, length, take, drop, Option, true, false, cond, arith, refl, sym, ap, inl, inr, ◌∙◌, subst}
 use Rattle.std.specs.Prelude.{is_some, ◌||◌}
 use Rattle.std.specs.List.{AllByRecursion, flat_map}
 use Rattle.std.proofs.Math.Seq.{take-append_seam, drop-append_seam}
-use Rattle.std.proofs.lemmas.Bool.{or_parts}
+use Rattle.std.proofs.lemmas.Bool.{or_parts, cases_Bool}
 use Rattle.merkle_base.specs.Tree.{Tree, leaf, join, first_leaf, width, IsBuilt}
 use Rattle.merkle_base.specs.Forest.{forest, size}
 use Rattle.merkle_base.proofs.Births.{leaf_at}
@@ -12,7 +12,6 @@ use Rattle.merkle_base.proofs.PeakLists.{Spans}
 use Rattle.merkle_batch_theory.specs.History.{is_dirty}
 use Rattle.merkle_draft.specs.DirtyLeaves.{dirty_leaves, are_before}
 use Rattle.merkle_draft.proofs.CountBefore.{before_none, before_here}
-use Rattle.merkle_batch_theory.proofs.OptionFacts.{none_of, none_or_some}
 use Rattle.merkle_base.proofs.Lists.{all_imply}
 
 pub both_empty : {X : Type 0} (xs ys : List X) → xs ++ ys ≡ [] → (xs ≡ []) × (ys ≡ [])
@@ -20,50 +19,46 @@ both_empty [] ys e = (refl, e)
 both_empty (x ∷ xs) ys e = absurd (cc)
 
 module _ {D : Type 0} (m : ℕ → Option D) where
-  -- that of one leaf
-  abbrev leaf_pairs : ℕ → Option D → List (ℕ × D)
-  leaf_pairs p o = elim o [ Some d ↦ (p, d) ∷ [] | None ↦ [] ]
+  pub leaf_dirty : (p n : ℕ) → is_some (m p) ≡ true → dirty_leaves m (leaf p n) ≡ p ∷ []
+  leaf_dirty p n e = ap (λ b. cond b (p ∷ []) []) e
 
-  pub leaf_dirty : (p n : ℕ) (d : D) → m p ≡ Some d → dirty_leaves m (leaf p n) ≡ (p, d) ∷ []
-  leaf_dirty p n d e = ap (leaf_pairs p) e
-
-  pub leaf_untouched : (p n : ℕ) → m p ≡ None → dirty_leaves m (leaf p n) ≡ []
-  leaf_untouched p n e = ap (leaf_pairs p) e
+  pub leaf_untouched : (p n : ℕ) → is_some (m p) ≡ false → dirty_leaves m (leaf p n) ≡ []
+  leaf_untouched p n e = ap (λ b. cond b (p ∷ []) []) e
 
   -- ---- a tree has none exactly where it isn't dirty
   pub none_dirty : (t : Tree) → is_dirty m t ≡ false → dirty_leaves m t ≡ []
-  none_dirty (leaf p n) e = leaf_untouched p n (none_of (m p) e)
+  none_dirty (leaf p n) e = leaf_untouched p n e
   none_dirty (join p l r) e = (let k = or_parts (is_dirty m l) (is_dirty m r) e in
       ap (λ z. z ++ dirty_leaves m r) (none_dirty l k.0) ∙ none_dirty r k.1)
 
   pub not_dirty : (t : Tree) → dirty_leaves m t ≡ [] → is_dirty m t ≡ false
-  not_dirty (leaf p n) e = elim (none_or_some (m p)) [
-    | inl o ↦ ap is_some o
-    | inr o ↦ absurd (let k : (p, o.0) ∷ [] ≡ [] = sym (leaf_dirty p n o.0 o.1) ∙ e in cc)
+  not_dirty (leaf p n) e = elim (cases_Bool (is_some (m p))) [
+    | inl some ↦ absurd (let k : p ∷ [] ≡ [] = sym (leaf_dirty p n some) ∙ e in cc)
+    | inr none ↦ none
   ]
   not_dirty (join p l r) e = (let k = both_empty (dirty_leaves m l) (dirty_leaves m r) e in
       ap (λ b. b || is_dirty m r) (not_dirty l k.0) ∙ not_dirty r k.1)
 
 -- ---- their positions
 -- from that of leaf a on, before that of leaf b
-abbrev pub Between : {D : Type 0} → (List ℕ → List ℕ) → ℕ → ℕ → ℕ × D → Type 0
-Between rule a b u = (size rule a ≤ u.0) × (u.0 < size rule b)
+abbrev pub Between : (List ℕ → List ℕ) → ℕ → ℕ → ℕ → Type 0
+Between rule a b u = (size rule a ≤ u) × (u < size rule b)
 
-pub all_before : {D : Type 0} (xs ys : List (ℕ × D)) (e : ℕ) → AllByRecursion (λ u. u.0 < e) xs → AllByRecursion (λ u. e ≤ u.0) ys → are_before (xs ++ ys) e ≡ length xs
+pub all_before : (xs ys : List ℕ) (e : ℕ) → AllByRecursion (λ u. u < e) xs → AllByRecursion (λ u. e ≤ u) ys → are_before (xs ++ ys) e ≡ length xs
 all_before [] [] e h k = refl
 all_before [] (y ∷ ys) e h k = before_none y ys e k.0
 all_before (x ∷ xs) ys e h k = before_here x (xs ++ ys) e h.0 ∙ ap suc (all_before xs ys e h.1 k)
 
 module _ {D : Type 0} (rule : List ℕ → List ℕ) (n : ℕ) (m : ℕ → Option D) where
-  wider : (a b c d : ℕ) → c ≤ a → b ≤ d → (u : ℕ × D) → Between rule a b u → Between rule c d u
+  wider : (a b c d : ℕ) → c ≤ a → b ≤ d → (u : ℕ) → Between rule a b u → Between rule c d u
   wider a b c d l e u w = (omega (arith, w.0, size_le rule c a l), omega (arith, w.1, size_le rule b d e))
 
   pub dirty_between : (t : Tree) → IsBuilt (forest rule n).nodes t → AllByRecursion (Between rule (first_leaf t) (first_leaf t + width t)) (dirty_leaves m t)
-  dirty_between (leaf p k) b = elim (none_or_some (m p)) [
-    | inl o ↦ subst (AllByRecursion (Between rule k (k + 1))) (sym (leaf_untouched m p k o)) tt
-    | inr o ↦ (let f = leaf_at rule n p p k b in
+  dirty_between (leaf p k) b = elim (cases_Bool (is_some (m p))) [
+    | inr none ↦ subst (AllByRecursion (Between rule k (k + 1))) (sym (leaf_untouched m p k none)) tt
+    | inl some ↦ (let f = leaf_at rule n p p k b in
         let z : suc k ≡ k + 1 = omega arith in
-        subst (AllByRecursion (Between rule k (k + 1))) (sym (leaf_dirty m p k o.0 o.1)) ((omega (arith, f.0), omega (arith, f.0, size_step rule k, ap (size rule) z)), tt))
+        subst (AllByRecursion (Between rule k (k + 1))) (sym (leaf_dirty m p k some)) ((omega (arith, f.0), omega (arith, f.0, size_step rule k, ap (size rule) z)), tt))
   ]
   dirty_between (join p l r) b =
       all_append (Between rule (first_leaf l) (first_leaf l + (width l + width r))) (dirty_leaves m l) (dirty_leaves m r)
@@ -77,12 +72,12 @@ module _ {D : Type 0} (rule : List ℕ → List ℕ) (n : ℕ) (m : ℕ → Opti
       (all_imply (Between rule (first_leaf r) (first_leaf r + width r)) _ (λ u w. w.0) (dirty_leaves m r) (dirty_between r b.5))
 
   -- the changed leaves of trees that span from a location on stand from there on
-  pub after_start : (o e : ℕ) (ts : List Tree) → Spans o e ts → AllByRecursion (IsBuilt (forest rule n).nodes) ts → AllByRecursion (λ u. size rule o ≤ u.0) (flat_map (dirty_leaves m) ts)
+  pub after_start : (o e : ℕ) (ts : List Tree) → Spans o e ts → AllByRecursion (IsBuilt (forest rule n).nodes) ts → AllByRecursion (λ u. size rule o ≤ u) (flat_map (dirty_leaves m) ts)
   after_start o e [] c b = tt
   after_start o e (t ∷ ts) c b =
-      all_append (λ u. size rule o ≤ u.0) (dirty_leaves m t) (flat_map (dirty_leaves m) ts)
-      (all_imply (Between rule (first_leaf t) (first_leaf t + width t)) (λ u. size rule o ≤ u.0) (λ u w. omega (arith, w.0, ap (size rule) c.0)) (dirty_leaves m t) (dirty_between t b.0))
-      (all_imply (λ u. size rule (o + width t) ≤ u.0) (λ u. size rule o ≤ u.0) (λ u w. omega (arith, w, size_le rule o (o + width t) (omega arith))) (flat_map (dirty_leaves m) ts) (after_start (o + width t) e ts c.1 b.1))
+      all_append (λ u. size rule o ≤ u) (dirty_leaves m t) (flat_map (dirty_leaves m) ts)
+      (all_imply (Between rule (first_leaf t) (first_leaf t + width t)) (λ u. size rule o ≤ u) (λ u w. omega (arith, w.0, ap (size rule) c.0)) (dirty_leaves m t) (dirty_between t b.0))
+      (all_imply (λ u. size rule (o + width t) ≤ u) (λ u. size rule o ≤ u) (λ u w. omega (arith, w, size_le rule o (o + width t) (omega arith))) (flat_map (dirty_leaves m) ts) (after_start (o + width t) e ts c.1 b.1))
 
 -- ---- a list in two parts
 pub split_parts : {X : Type 0} (us xs ys front back : List X) (c : ℕ) → us ≡ xs ++ ys → c ≡ length xs → front ≡ take c us → back ≡ drop c us → (front ≡ xs) × (back ≡ ys)

@@ -1,6 +1,6 @@
 -- What is listed when the dirty parents, or the new ones, are added to empty lists.
 use Rattle.std.proofs.Common.{◌≡◌, ℕ, zero, suc, ◌+◌, ◌<◌, ◌≤◌, List, [], ◌∷◌, ◌++◌, length, length-append, Option, Some, Bool, true, cond, slice_get, arith, refl, sym, ap, subst, inl, inr, ◌∙◌, le-leb}
-use Rattle.std.specs.Prelude.{Vec, ◌||◌}
+use Rattle.std.specs.Prelude.{◌||◌}
 use Rattle.std.specs.List.{Contains, filter, flat_map}
 use Rattle.std.proofs.lemmas.Bool.{lt-leb}
 use Rattle.std.proofs.lemmas.List.Elements.{filter-append}
@@ -65,7 +65,7 @@ module _ {D : Type 0} (rule : List ℕ → List ℕ) (m : ℕ → Option D) (n :
       omega (arith, subst (λ (x : ℕ). length (computed_nodes rule m n x) + k + size rule n ≡ length (filter (is_dirty_parent m) (forest rule n).nodes) + size rule x) same (computed_counted k), is, sized, parents_counted m rule n))
 
   -- ---- which positions
-  module _ {A : Type 0} (ls : List (Vec ℕ A)) (marked : AreMarked m (peaks_of rule n) [] ls) where
+  module _ (ls : List (List ℕ)) (marked : AreMarked m (peaks_of rule n) [] ls) where
     dirty_sound : (h p : ℕ) → Contains (level_at ls h) p → (t : Tree) × (slice_get (forest rule n).nodes p ≡ Some t) × (height t ≡ h) × (is_computed rule m n t ≡ true)
     dirty_sound h p c =
         (let w = parents_sound m rule n h p (subst (λ xs. Contains xs p) (marked.listed h) c) in
@@ -80,7 +80,7 @@ module _ {D : Type 0} (rule : List ℕ → List ℕ) (m : ℕ → Option D) (n :
     pub dirty_planned : ArePlanned rule m n 0 n ls
     dirty_planned h p = (dirty_sound h p, λ t there tall c from. dirty_complete h p t there tall c)
 
-  module _ {A : Type 0} (max start e : ℕ) (after : n ≤ start) (within : e ≤ max) (old new : List (Vec ℕ A)) (none : (h : ℕ) → level_at old h ≡ []) (added : AreAdded rule max (size rule start) (size rule e) old new) where
+  module _ (max start e : ℕ) (after : n ≤ start) (within : e ≤ max) (old new : List (List ℕ)) (none : (h : ℕ) → level_at old h ≡ []) (added : AreAdded rule max (size rule start) (size rule e) old new) where
     added_sound : (h p : ℕ) → Contains (level_at new h) p → (t : Tree) × (slice_get (forest rule e).nodes p ≡ Some t) × (height t ≡ h) × (is_computed rule m n t ≡ true)
     added_sound h p c = elim (added.sound h p c) [
       | inl o ↦ absurd (contains_none p (subst (λ xs. Contains xs p) (none h) o))

@@ -1,11 +1,12 @@
 -- What a draft reads.
-use Rattle.std.specs.Prelude.{◌≡◌, ℕ, ◌-◌, ◌<◌, List, Option, Some, is_some, true, slice_get, cond, nat_lt, refl}
+use Rattle.std.specs.Prelude.{◌≡◌, ℕ, ◌-◌, ◌<◌, List, Option, Some, is_some, true, slice_get, cond, length, nat_lt, refl}
 use Rattle.std.specs.Ordering.{nat_cmp}
 use Rattle.std.specs.FinMap.{FinMap, get, code}
 use Rattle.std.specs.Coded.{Coded, code_by, coded×, coded_ℕ, coded_list}
 use Rattle.std.specs.Option.{option_or}
 use Rattle.merkle_base.specs.Tree.{Tree, position}
 use Rattle.merkle_base.specs.Places.{peaks_of}
+use Rattle.merkle_batch_theory.specs.Assignment.{ReadsAgree, digests_from}
 use Rattle.merkle_batch_theory.specs.Contents.{Contents}
 use Rattle.merkle_draft.specs.NodeErrors.{IsGapAt}
 use Rattle.merkle_batch_theory.specs.Read.{read_over}
@@ -41,6 +42,11 @@ old_node d base p = option_or (get d.overwritten p) (below d base p)
 -- the digest that it stores for position p: an overwritten one before those that it appends, or one of these
 abbrev pub stored_node : {D : Type 0} → DraftModel D → ℕ → Option D
 stored_node d p = cond (nat_lt p d.before) (get d.overwritten p) (slice_get d.appended (p - d.before))
+
+-- P of each assignment of digests to positions that what it reads of old nodes, and what it appends, agree with
+abbrev pub ForTruth : {D : Type 0} → DraftModel D → Contents D → ((ℕ → D) → Type 0) → Type 0
+ForTruth {D} d base P = (truth : ℕ → D) → ReadsAgree (old_node d base) d.before truth
+    → d.appended ≡ digests_from truth d.before (length d.appended) → P truth
 
 -- new is old with other appended nodes
 abbrev pub OnlyAppends : {D : Type 0} → DraftModel D → DraftModel D → Type 0

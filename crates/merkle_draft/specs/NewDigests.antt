@@ -1,6 +1,8 @@
 -- The digests of nodes after a batch's changes: new digests m of some of n leaves, by position, and digests ds of added leaves.
 use Rattle.std.specs.Prelude.{◌≡◌, ℕ, ◌+◌, ◌-◌, ◌<◌, List, length, true, false, Bool, Option, Some, None, is_some, slice_get, cond, nat_le, ◌||◌}
+use Rattle.std.specs.FinMap.{from_entries, get}
 use Rattle.std.specs.Option.{option_or}
+use Rattle.std.specs.Ordering.{nat_cmp}
 use Rattle.merkle_base.specs.Tree.{Tree, leaf, join, position}
 use Rattle.merkle_base.specs.Forest.{forest, size}
 use Rattle.merkle_base.specs.Hashing.{Hashing}
@@ -45,3 +47,7 @@ LacksNeeded rule m below n e g = (t : Tree) × IsNeeded rule m n e t × IsGapAt 
 abbrev pub LacksChild : {F D : Type 0} → (List ℕ → List ℕ) → (m below : ℕ → Option D) → ℕ → ℕ → NodeError F → Type 0
 LacksChild rule m below n e g =
     (t : Tree) × IsComputedChild rule m n e t × (position t < size rule n) × (is_dirty m t ≡ false) × IsGapAt below (position t) g
+
+-- the new digests of leaves that the entries of a map give, by position
+abbrev pub updates_of : {D : Type 0} → List (ℕ × D) → ℕ → Option D
+updates_of entries = get {R = nat_cmp} (from_entries entries)

@@ -1,17 +1,16 @@
 //! Appending leaves with the parents that follow from them.
 ghost use Rattle.std.specs.Prelude.{◌≡◌, ◌≢◌, ◌+◌, ◌++◌, ◌≤◌, ℕ, List, Option, [], length, IfErr, IfOk, OnOk};
-ghost use Rattle.std.specs.FinMap.{get};
 ghost use Rattle.merkle_base.specs.Forest.{size};
 ghost use Rattle.merkle_draft.specs.DraftReads.{below, stored_node};
 ghost use Rattle.merkle_draft.specs.NewDigests.{AreNewDigests, LacksChild};
+ghost use Rattle.merkle_draft.specs.Settled.{HasSameAfter};
 
 use crate::base::Base;
 use crate::draft::Draft;
+use crate::levels::Levels;
 use crate::node_error::NodeError;
-use crate::plan::clear_levels;
 use merkle_base::family::Family;
 use merkle_base::location::Location;
-use merkle_base::position::Position;
 use merkle_digest::digest::Digest;
 use merkle_hasher::hasher::Hasher;
 
@@ -29,16 +28,14 @@ impl<F: Family, D: Digest> Draft<F, D> {
         &mut self,
         base: &B,
         hasher: &H,
-        levels: &mut Vec<Vec<Position<F>>>,
+        levels: &mut Levels<F>,
         leaves: Location<F>,
         added: &[D],
     ) -> Result<u64, NodeError<F>>
         requires within { leaves + length added.now ≤ F.MAX_LEAVES }
         requires counted { self.old.before + length self.old.appended ≡ size F.rule leaves }
-        requires at_most_64_levels { length levels.old.items ≤ 64 }
         ensures only { (self.new.before ≡ self.old.before) × (self.new.kept ≡ self.old.kept) }
-        ensures at_most_64_levels { length levels.new.items ≤ 64 }
-        ensures old { (p : ℕ) → self.old.before ≤ p → get self.new.overwritten p ≡ get self.old.overwritten p }
+        ensures old { HasSameAfter self.old self.new }
         ensures counted { OnOk result (self.new.before + length self.new.appended ≡ size F.rule (leaves + length added.now)) }
         ensures settled { let h = H.hashing hasher.now in let under = below self.old (B.contents base.now) in
             OnOk result ((m : ℕ → Option D) (n : ℕ) (ds : List D) → n + length ds ≡ leaves → size F.rule n ≡ self.old.before
@@ -48,7 +45,7 @@ impl<F: Family, D: Digest> Draft<F, D> {
             → AreNewDigests h F.rule m under n ds (stored_node self.old) → LacksChild F.rule m under n (leaves + length added.now) e) }
         ensures work { IfOk result (λ k. k + length added.now + size F.rule leaves ≡ size F.rule (leaves + length added.now)) }
     {
-        clear_levels(levels);
+        levels.clear();
         self.add_leaves(levels, leaves, added)?;
         self.compute_levels(base, hasher, levels)
     }
@@ -73,7 +70,7 @@ impl<F: Family, D: Digest> Draft<F, D> {
         requires sized { size F.rule leaves ≡ self.old.before }
         requires nothing { self.old.appended ≡ [] }
         ensures only { (self.new.before ≡ self.old.before) × (self.new.kept ≡ self.old.kept) }
-        ensures old { (p : ℕ) → self.old.before ≤ p → get self.new.overwritten p ≡ get self.old.overwritten p }
+        ensures old { HasSameAfter self.old self.new }
         ensures counted { OnOk result (self.new.before + length self.new.appended ≡ size F.rule (leaves + length added.now)) }
         ensures settled { let h = H.hashing hasher.now in let under = below self.old (B.contents base.now) in OnOk result ((m : ℕ → Option D)
             → AreNewDigests h F.rule m under leaves [] (stored_node self.old) → AreNewDigests h F.rule m under leaves added.now (stored_node self.new)) }
@@ -82,7 +79,7 @@ impl<F: Family, D: Digest> Draft<F, D> {
             → LacksChild F.rule m under leaves (leaves + length added.now) e) }
         ensures work { IfOk result (λ k. k + length added.now + size F.rule leaves ≡ size F.rule (leaves + length added.now)) }
     {
-        let mut levels = Vec::new(*self.appended.allocator());
+        let mut levels = Levels::new(*self.appended.allocator());
         let mut leaf = leaves;
         let mut count = 0;
         for chunk in added.chunks(LEAVES_AT_ONCE) {

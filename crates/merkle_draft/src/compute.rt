@@ -1,21 +1,20 @@
 //! The digests of the nodes that follow from a batch's leaves.
-ghost use Rattle.std.specs.Prelude.{◌≡◌, ◌≢◌, ◌+◌, ◌*◌, ◌++◌, ◌∷◌, ◌<◌, ◌≤◌, ◌^◌, ◌==◌, ℕ, List, Option, Some, [], length, map, None, cond, slice_get, IfErr, IfOk, IfNone, OnOk};
+ghost use Rattle.std.specs.Prelude.{◌≡◌, ◌≢◌, ◌+◌, ◌*◌, ◌++◌, ◌∷◌, ◌<◌, ◌≤◌, ◌^◌, ◌==◌, ℕ, List, Option, Some, [], length, None, cond, IfErr, IfOk, OnOk};
 ghost use Rattle.std.specs.FinMap.{empty, from_entries, get};
 ghost use Rattle.std.specs.List.{Contains, flat_map};
-ghost use Rattle.std.specs.Ordering.{nat_cmp};
 ghost use Rattle.merkle_base.specs.Forest.{size};
 ghost use Rattle.merkle_base.specs.Places.{HasInner, peaks_of};
 ghost use Rattle.merkle_batch_theory.specs.Needed.{computed_nodes};
 ghost use Rattle.merkle_draft.specs.DirtyLeaves.{HasLeavesOf, dirty_leaves};
 ghost use Rattle.merkle_draft.specs.DraftReads.{below, stored_node, OnlyOverwrites};
 ghost use Rattle.merkle_draft.specs.Levels.{all_dirty_count, level_at, from_height};
-ghost use Rattle.merkle_draft.specs.NewDigests.{AreNewDigests, LacksChild, LacksNeeded};
-ghost use Rattle.merkle_draft.specs.Settled.{AreAnswers, AreParents, AreSettled, HasSameShape, IsReadyToCompute, IsStage, draft_node};
+ghost use Rattle.merkle_draft.specs.NewDigests.{AreNewDigests, LacksChild, updates_of};
+ghost use Rattle.merkle_draft.specs.Settled.{AreAnswers, AreInner, AreParents, AreSettled, AreStored, HasSameAfter, HasSameShape, IsReadyToCompute, LacksForChanges, LacksForLevel, SettlesLevel, StoresChanges, draft_node};
 
 use crate::base::Base;
 use crate::draft::Draft;
+use crate::levels::Levels;
 use crate::node_error::NodeError;
-use crate::plan::mark_peaks;
 use merkle_base::family::Family;
 use merkle_base::location::Location;
 use merkle_base::position::Position;
@@ -34,7 +33,7 @@ impl<F: Family, D: Digest> Draft<F, D> {
     fn set_node(&mut self, position: Position<F>, digest: D) -> Result<(), AllocError>
         requires { position < self.old.before + length self.old.appended }
         ensures shape { HasSameShape self.old self.new }
-        ensures old { (p : ℕ) → self.old.before ≤ p → get self.new.overwritten p ≡ get self.old.overwritten p }
+        ensures old { HasSameAfter self.old self.new }
         ensures set { OnOk result ((p : ℕ) → stored_node self.new p ≡ cond (p == position) (Some digest) (stored_node self.old p)) }
     {
         if position < self.size_before {
@@ -54,13 +53,11 @@ impl<F: Family, D: Digest> Draft<F, D> {
         positions: &[Position<F>],
         parents: &mut Vec<Parent<F, D>>,
     ) -> Result<(), NodeError<F>>
-        requires inner { (p : ℕ) → Contains positions.now p → HasInner F.rule F.MAX_LEAVES p height }
+        requires inner { AreInner F.rule F.MAX_LEAVES height positions.now }
         requires none { parents.old.items ≡ [] }
         ensures read { OnOk result (AreParents F.rule (draft_node self.now (B.contents base.now)) positions.now parents.new.items) }
-        ensures missing { let under = below self.now (B.contents base.now) in
-            IfErr result (λ e. e ≢ NodeError.OutOfMemory → (h : _) (m : ℕ → Option D) (n : ℕ) (ds : List D) (later : List ℕ)
-            → IsStage h F.rule F.MAX_LEAVES m under n ds self.now.before height positions.now later (stored_node self.now)
-            → LacksChild F.rule m under n (n + length ds) e) }
+        ensures missing { IfErr result (λ e. e ≢ NodeError.OutOfMemory
+            → (h : _) → LacksForLevel h F.rule F.MAX_LEAVES (B.contents base.now) height positions.now self.now e) }
     {
         for position in positions {
             let (left, right) = F::children(*position, height);
@@ -78,9 +75,9 @@ impl<F: Family, D: Digest> Draft<F, D> {
     // Sets the digests of the nodes at these positions.
     fn set_nodes(&mut self, positions: &[Position<F>], digests: &[D]) -> Result<(), AllocError>
         requires many { length digests.now ≡ length positions.now }
-        requires stored { (p : ℕ) → Contains positions.now p → p < self.old.before + length self.old.appended }
+        requires stored { AreStored self.old positions.now }
         ensures shape { HasSameShape self.old self.new }
-        ensures old { (p : ℕ) → self.old.before ≤ p → get self.new.overwritten p ≡ get self.old.overwritten p }
+        ensures old { HasSameAfter self.old self.new }
         ensures settled { OnOk result ((h : _) (m under : ℕ → Option D) (n : ℕ) (ds : List D) (later : List ℕ)
             → AreAnswers h F.rule m under n ds positions.now digests.now
             → AreSettled h F.rule m under n ds (positions.now ++ later) (stored_node self.old)
@@ -104,18 +101,14 @@ impl<F: Family, D: Digest> Draft<F, D> {
         parents: &mut Vec<Parent<F, D>>,
         digests: &mut Vec<D>,
     ) -> Result<(), NodeError<F>>
-        requires inner { (p : ℕ) → Contains positions.now p → HasInner F.rule F.MAX_LEAVES p height }
-        requires stored { (p : ℕ) → Contains positions.now p → p < self.old.before + length self.old.appended }
+        requires inner { AreInner F.rule F.MAX_LEAVES height positions.now }
+        requires stored { AreStored self.old positions.now }
         ensures shape { HasSameShape self.old self.new }
-        ensures old { (p : ℕ) → self.old.before ≤ p → get self.new.overwritten p ≡ get self.old.overwritten p }
-        ensures settled { let h = H.hashing hasher.now in let under = below self.old (B.contents base.now) in
-            OnOk result ((m : ℕ → Option D) (n : ℕ) (ds : List D) (later : List ℕ)
-            → IsStage h F.rule F.MAX_LEAVES m under n ds self.old.before height positions.now later (stored_node self.old)
-            → AreSettled h F.rule m under n ds later (stored_node self.new)) }
-        ensures missing { let h = H.hashing hasher.now in let under = below self.old (B.contents base.now) in
-            IfErr result (λ e. e ≢ NodeError.OutOfMemory → (m : ℕ → Option D) (n : ℕ) (ds : List D) (later : List ℕ)
-            → IsStage h F.rule F.MAX_LEAVES m under n ds self.old.before height positions.now later (stored_node self.old)
-            → LacksChild F.rule m under n (n + length ds) e) }
+        ensures old { HasSameAfter self.old self.new }
+        ensures settled { OnOk result (
+            SettlesLevel (H.hashing hasher.now) F.rule F.MAX_LEAVES (B.contents base.now) height positions.now self.old self.new) }
+        ensures missing { IfErr result (λ e. e ≢ NodeError.OutOfMemory
+            → LacksForLevel (H.hashing hasher.now) F.rule F.MAX_LEAVES (B.contents base.now) height positions.now self.old e) }
     {
         parents.clear();
         digests.clear();
@@ -135,18 +128,14 @@ impl<F: Family, D: Digest> Draft<F, D> {
         parents: &mut Vec<Parent<F, D>>,
         digests: &mut Vec<D>,
     ) -> Result<(), NodeError<F>>
-        requires inner { (p : ℕ) → Contains positions.now p → HasInner F.rule F.MAX_LEAVES p height }
-        requires stored { (p : ℕ) → Contains positions.now p → p < self.old.before + length self.old.appended }
+        requires inner { AreInner F.rule F.MAX_LEAVES height positions.now }
+        requires stored { AreStored self.old positions.now }
         ensures shape { HasSameShape self.old self.new }
-        ensures old { (p : ℕ) → self.old.before ≤ p → get self.new.overwritten p ≡ get self.old.overwritten p }
-        ensures settled { let h = H.hashing hasher.now in let under = below self.old (B.contents base.now) in
-            OnOk result ((m : ℕ → Option D) (n : ℕ) (ds : List D) (later : List ℕ)
-            → IsStage h F.rule F.MAX_LEAVES m under n ds self.old.before height positions.now later (stored_node self.old)
-            → AreSettled h F.rule m under n ds later (stored_node self.new)) }
-        ensures missing { let h = H.hashing hasher.now in let under = below self.old (B.contents base.now) in
-            IfErr result (λ e. e ≢ NodeError.OutOfMemory → (m : ℕ → Option D) (n : ℕ) (ds : List D) (later : List ℕ)
-            → IsStage h F.rule F.MAX_LEAVES m under n ds self.old.before height positions.now later (stored_node self.old)
-            → LacksChild F.rule m under n (n + length ds) e) }
+        ensures old { HasSameAfter self.old self.new }
+        ensures settled { OnOk result (
+            SettlesLevel (H.hashing hasher.now) F.rule F.MAX_LEAVES (B.contents base.now) height positions.now self.old self.new) }
+        ensures missing { IfErr result (λ e. e ≢ NodeError.OutOfMemory
+            → LacksForLevel (H.hashing hasher.now) F.rule F.MAX_LEAVES (B.contents base.now) height positions.now self.old e) }
     {
         for chunk in positions.chunks(NODES_AT_ONCE) {
             self.compute_nodes(base, hasher, height, chunk, parents, digests)?;
@@ -166,15 +155,11 @@ impl<F: Family, D: Digest> Draft<F, D> {
         requires inner { HasInner F.rule F.MAX_LEAVES position height }
         requires stored { position < self.old.before + length self.old.appended }
         ensures shape { HasSameShape self.old self.new }
-        ensures old { (p : ℕ) → self.old.before ≤ p → get self.new.overwritten p ≡ get self.old.overwritten p }
-        ensures settled { let h = H.hashing hasher.now in let under = below self.old (B.contents base.now) in
-            OnOk result ((m : ℕ → Option D) (n : ℕ) (ds : List D) (later : List ℕ)
-            → IsStage h F.rule F.MAX_LEAVES m under n ds self.old.before height (position ∷ []) later (stored_node self.old)
-            → AreSettled h F.rule m under n ds later (stored_node self.new)) }
-        ensures missing { let h = H.hashing hasher.now in let under = below self.old (B.contents base.now) in
-            IfErr result (λ e. e ≢ NodeError.OutOfMemory → (m : ℕ → Option D) (n : ℕ) (ds : List D) (later : List ℕ)
-            → IsStage h F.rule F.MAX_LEAVES m under n ds self.old.before height (position ∷ []) later (stored_node self.old)
-            → LacksChild F.rule m under n (n + length ds) e) }
+        ensures old { HasSameAfter self.old self.new }
+        ensures settled { OnOk result (
+            SettlesLevel (H.hashing hasher.now) F.rule F.MAX_LEAVES (B.contents base.now) height (position ∷ []) self.old self.new) }
+        ensures missing { IfErr result (λ e. e ≢ NodeError.OutOfMemory
+            → LacksForLevel (H.hashing hasher.now) F.rule F.MAX_LEAVES (B.contents base.now) height (position ∷ []) self.old e) }
     {
         let (left, right) = F::children(position, height);
         let Some(left_digest) = self.read_node(base, left) else {
@@ -198,18 +183,14 @@ impl<F: Family, D: Digest> Draft<F, D> {
         parents: &mut Vec<Parent<F, D>>,
         digests: &mut Vec<D>,
     ) -> Result<(), NodeError<F>>
-        requires inner { (p : ℕ) → Contains positions.now p → HasInner F.rule F.MAX_LEAVES p height }
-        requires stored { (p : ℕ) → Contains positions.now p → p < self.old.before + length self.old.appended }
+        requires inner { AreInner F.rule F.MAX_LEAVES height positions.now }
+        requires stored { AreStored self.old positions.now }
         ensures shape { HasSameShape self.old self.new }
-        ensures old { (p : ℕ) → self.old.before ≤ p → get self.new.overwritten p ≡ get self.old.overwritten p }
-        ensures settled { let h = H.hashing hasher.now in let under = below self.old (B.contents base.now) in
-            OnOk result ((m : ℕ → Option D) (n : ℕ) (ds : List D) (later : List ℕ)
-            → IsStage h F.rule F.MAX_LEAVES m under n ds self.old.before height positions.now later (stored_node self.old)
-            → AreSettled h F.rule m under n ds later (stored_node self.new)) }
-        ensures missing { let h = H.hashing hasher.now in let under = below self.old (B.contents base.now) in
-            IfErr result (λ e. e ≢ NodeError.OutOfMemory → (m : ℕ → Option D) (n : ℕ) (ds : List D) (later : List ℕ)
-            → IsStage h F.rule F.MAX_LEAVES m under n ds self.old.before height positions.now later (stored_node self.old)
-            → LacksChild F.rule m under n (n + length ds) e) }
+        ensures old { HasSameAfter self.old self.new }
+        ensures settled { OnOk result (
+            SettlesLevel (H.hashing hasher.now) F.rule F.MAX_LEAVES (B.contents base.now) height positions.now self.old self.new) }
+        ensures missing { IfErr result (λ e. e ≢ NodeError.OutOfMemory
+            → LacksForLevel (H.hashing hasher.now) F.rule F.MAX_LEAVES (B.contents base.now) height positions.now self.old e) }
     {
         match positions {
             [position] => self.compute_node(base, hasher, height, *position),
@@ -222,14 +203,13 @@ impl<F: Family, D: Digest> Draft<F, D> {
         &mut self,
         base: &B,
         hasher: &H,
-        levels: &[Vec<Position<F>>],
+        levels: &Levels<F>,
     ) -> Result<u64, NodeError<F>>
-        requires low { length levels.now ≤ 64 }
         requires fits { length (from_height levels.now 0) < 2 ^ 64 }
         requires inner { (k p : ℕ) → Contains (level_at levels.now k) p → HasInner F.rule F.MAX_LEAVES p k }
         requires stored { (k p : ℕ) → Contains (level_at levels.now k) p → p < self.old.before + length self.old.appended }
         ensures shape { HasSameShape self.old self.new }
-        ensures old { (p : ℕ) → self.old.before ≤ p → get self.new.overwritten p ≡ get self.old.overwritten p }
+        ensures old { HasSameAfter self.old self.new }
         ensures settled { let h = H.hashing hasher.now in let under = below self.old (B.contents base.now) in
             OnOk result ((m : ℕ → Option D) (n : ℕ) (ds : List D) (a : ℕ)
             → IsReadyToCompute h F.rule F.MAX_LEAVES m under n ds self.old.before a levels.now (stored_node self.old)
@@ -244,66 +224,59 @@ impl<F: Family, D: Digest> Draft<F, D> {
         let mut parents = Vec::new(alloc);
         let mut digests = Vec::new(alloc);
         let mut count = 0;
-        for height in 0..levels.len() {
-            let positions = levels[height].as_slice();
-            self.compute_level(
-                base,
-                hasher,
-                height as u32,
-                positions,
-                &mut parents,
-                &mut digests,
-            )?;
+        for height in 0..levels.count() {
+            let positions = levels.at(height);
+            self.compute_level(base, hasher, height, positions, &mut parents, &mut digests)?;
             count += positions.len() as u64;
         }
         Ok(count)
     }
 
-    // Sets the digests of leaves, and returns them left to right.
+    // Sets the digests of leaves, and returns their positions, left to right.
     fn set_leaves(
         &mut self,
         updates: &BTreeMap<Position<F>, D>,
-    ) -> Result<Vec<(Position<F>, D)>, AllocError>
+    ) -> Result<Vec<Position<F>>, AllocError>
         requires nothing { self.old.overwritten ≡ empty }
         ensures only { OnlyOverwrites self.old self.new }
         ensures set { OnOk result (self.new.overwritten ≡ from_entries updates.now.entries) }
-        ensures listed { let m = get {R = nat_cmp} (from_entries updates.now.entries) in
+        ensures listed { let m = updates_of updates.now.entries in
             IfOk result (λ v. (n : ℕ) → HasLeavesOf F.rule n m → v.items ≡ flat_map (dirty_leaves m) (peaks_of F.rule n)) }
     {
-        let mut list = Vec::new(*self.appended.allocator());
+        let mut positions = Vec::new(*self.appended.allocator());
         for (position, digest) in updates {
             self.overwrites.insert(*position, *digest)?;
-            list.push((*position, *digest))?;
+            positions.push(*position)?;
         }
-        Ok(list)
+        Ok(positions)
     }
 
     // Computes the dirty parents of a structure with `leaves` leaves, whose updated leaves have their
-    // new digests, and returns how many they are. `updates` are the new digests, left to right.
+    // new digests, and returns how many they are. `updated` are the positions of these, left to right.
     fn compute_dirty<B: Base<F, Digest = D>, H: Hasher<F, Digest = D>>(
         &mut self,
         base: &B,
         hasher: &H,
         leaves: Location<F>,
-        updates: &[(Position<F>, D)],
+        updated: &[Position<F>],
     ) -> Result<u64, NodeError<F>>
         requires within { leaves ≤ F.MAX_LEAVES }
         requires sized { size F.rule leaves ≡ self.old.before }
-        requires of { (m : ℕ → Option D) × HasLeavesOf F.rule leaves m × ((q : ℕ) → get self.old.overwritten q ≡ m q)
-            × (updates.now ≡ flat_map (dirty_leaves m) (peaks_of F.rule leaves)) }
+        requires updates_are_leaves { (m : ℕ → Option D) × HasLeavesOf F.rule leaves m × ((q : ℕ) → get self.old.overwritten q ≡ m q)
+            × (updated.now ≡ flat_map (dirty_leaves m) (peaks_of F.rule leaves)) }
         ensures shape { HasSameShape self.old self.new }
-        ensures old { (p : ℕ) → self.old.before ≤ p → get self.new.overwritten p ≡ get self.old.overwritten p }
+        ensures old { HasSameAfter self.old self.new }
         ensures settled { let h = H.hashing hasher.now in let under = below self.old (B.contents base.now) in
             OnOk result ((m : ℕ → Option D) → HasLeavesOf F.rule leaves m → ((q : ℕ) → get self.old.overwritten q ≡ m q)
-            → updates.now ≡ flat_map (dirty_leaves m) (peaks_of F.rule leaves) → AreNewDigests h F.rule m under leaves [] (stored_node self.new)) }
+            → updated.now ≡ flat_map (dirty_leaves m) (peaks_of F.rule leaves) → AreNewDigests h F.rule m under leaves [] (stored_node self.new)) }
         ensures missing { let under = below self.old (B.contents base.now) in
             IfErr result (λ e. e ≢ NodeError.OutOfMemory → (m : ℕ → Option D) → HasLeavesOf F.rule leaves m → ((q : ℕ) → get self.old.overwritten q ≡ m q)
-            → updates.now ≡ flat_map (dirty_leaves m) (peaks_of F.rule leaves) → LacksChild F.rule m under leaves leaves e) }
-        ensures work { IfOk result (λ k. (m : ℕ → Option D) → updates.now ≡ flat_map (dirty_leaves m) (peaks_of F.rule leaves)
+            → updated.now ≡ flat_map (dirty_leaves m) (peaks_of F.rule leaves) → LacksChild F.rule m under leaves leaves e) }
+        ensures work { IfOk result (λ k. (m : ℕ → Option D) → updated.now ≡ flat_map (dirty_leaves m) (peaks_of F.rule leaves)
             → k ≡ all_dirty_count m (peaks_of F.rule leaves)) }
     {
-        let mut levels = Vec::new(*self.appended.allocator());
-        mark_peaks(&mut levels, leaves, updates)?;
+        let mut levels = Levels::new(*self.appended.allocator());
+        Self::mark_peaks(&mut levels, leaves, updated)?;
         self.compute_levels(base, hasher, &levels)
     }
 
@@ -327,20 +300,20 @@ impl<F: Family, D: Digest> Draft<F, D> {
     ) -> Result<u64, NodeError<F>>
         requires within { leaves + length added.now ≤ F.MAX_LEAVES }
         requires sized { size F.rule leaves ≡ self.old.before }
-        requires of { HasLeavesOf F.rule leaves (get {R = nat_cmp} (from_entries updates.now.entries)) }
+        requires updates_are_leaves { HasLeavesOf F.rule leaves (updates_of updates.now.entries) }
         requires nothing { (self.old.overwritten ≡ empty) × (self.old.appended ≡ []) }
         ensures only { (self.new.before ≡ self.old.before) × (self.new.kept ≡ self.old.kept) }
         ensures counted { OnOk result (self.new.before + length self.new.appended ≡ size F.rule (leaves + length added.now)) }
-        ensures stored { let m = get {R = nat_cmp} (from_entries updates.now.entries) in let under = below self.old (B.contents base.now) in
-            OnOk result (AreNewDigests (H.hashing hasher.now) F.rule m under leaves added.now (stored_node self.new)) }
+        ensures stored { OnOk result (
+            StoresChanges (H.hashing hasher.now) F.rule (B.contents base.now) leaves updates.now.entries added.now self.old self.new) }
         ensures old { OnOk result ((p : ℕ) → self.old.before ≤ p → get self.new.overwritten p ≡ None) }
-        ensures missing { let m = get {R = nat_cmp} (from_entries updates.now.entries) in let under = below self.old (B.contents base.now) in
-            IfErr result (λ e. e ≢ NodeError.OutOfMemory → LacksNeeded F.rule m under leaves (leaves + length added.now) e) }
-        ensures work { let m = get {R = nat_cmp} (from_entries updates.now.entries) in
-            IfOk result (λ k. k ≡ length (computed_nodes F.rule m leaves (leaves + length added.now))) }
+        ensures missing { IfErr result (
+            LacksForChanges F.rule (B.contents base.now) leaves (leaves + length added.now) updates.now.entries self.old) }
+        ensures work { IfOk result (λ k.
+            k ≡ length (computed_nodes F.rule (updates_of updates.now.entries) leaves (leaves + length added.now))) }
     {
-        let updates = self.set_leaves(updates)?;
-        let dirty = self.compute_dirty(base, hasher, leaves, &updates)?;
+        let updated = self.set_leaves(updates)?;
+        let dirty = self.compute_dirty(base, hasher, leaves, &updated)?;
         let new = self.append_leaves(base, hasher, leaves, added)?;
         Ok(dirty + new)
     }

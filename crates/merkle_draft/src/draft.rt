@@ -1,14 +1,12 @@
 //! A batch being merkleized: the nodes that follow from its leaves.
-ghost use Rattle.std.specs.Prelude.{◌≡◌, ◌≢◌, ◌+◌, ◌^◌, ◌++◌, ◌<◌, ◌≤◌, ℕ, suc, List, Option, [], ◌∷◌, None, is_some, true, cond, length, map, IfOk, IfErr, IfNone, IfSome, OnOk};
+ghost use Rattle.std.specs.Prelude.{◌≡◌, ◌≢◌, ◌+◌, ◌^◌, ◌++◌, ◌<◌, ◌≤◌, Option, [], ◌∷◌, None, is_some, true, cond, length, map, IfOk, IfErr, IfNone, IfSome, OnOk};
 ghost use Rattle.std.specs.FinMap.{empty, get};
 ghost use Rattle.merkle_base.specs.Forest.{size};
 ghost use Rattle.merkle_base.specs.Places.{peak_positions};
-ghost use Rattle.merkle_batch_theory.specs.Contents.{Contents};
-ghost use Rattle.merkle_draft.specs.DraftReads.{below, old_node, OnlyAppends, IsMissingPeak, ArePeaksRead};
+ghost use Rattle.merkle_draft.specs.DraftReads.{below, old_node, ForTruth, OnlyAppends, IsMissingPeak, ArePeaksRead};
 ghost use Rattle.merkle_draft.specs.Settled.{draft_node};
 ghost use Rattle.merkle_batch_theory.specs.Unmerkleized.{is_changed};
 ghost use Rattle.merkle_batch_theory.specs.Records.{after};
-ghost use Rattle.merkle_batch_theory.specs.Assignment.{ReadsAgree, digests_from};
 
 use crate::base::Base;
 use crate::node_error::NodeError;
@@ -107,8 +105,7 @@ impl<F: Family, D: Digest> Draft<F, D> {
         position: Position<F>,
     ) -> Option<D>
         ensures value { result ≡ draft_node self.now (B.contents base.now) position }
-        ensures right { IfSome result (λ d. (truth : ℕ → D) → ReadsAgree (old_node self.now (B.contents base.now)) self.now.before truth
-            → self.now.appended ≡ digests_from truth self.now.before (length self.now.appended) → d ≡ truth position) }
+        ensures right { IfSome result (λ d. ForTruth self.now (B.contents base.now) (λ truth. d ≡ truth position)) }
         ensures read { IfSome result (λ _. position < self.now.before → is_some (old_node self.now (B.contents base.now) position) ≡ true) }
         ensures missing { IfNone result ((position < self.now.before → old_node self.now (B.contents base.now) position ≡ None)
             × (self.now.before ≤ position → self.now.before + length self.now.appended ≤ position)) }
@@ -156,10 +153,10 @@ impl<F: Family, D: Digest> Draft<F, D> {
     ) -> Result<Vec<D>, NodeError<F>>
         requires within { leaves ≤ F.MAX_LEAVES }
         requires sized { self.now.before + length self.now.appended ≡ size F.rule leaves }
-        ensures missing { IfErr result (λ e. e ≢ NodeError.OutOfMemory → IsMissingPeak F.rule leaves self.now.before (old_node self.now (B.contents base.now)) e) }
+        ensures missing { IfErr result (λ e. e ≢ NodeError.OutOfMemory
+            → IsMissingPeak F.rule leaves self.now.before (old_node self.now (B.contents base.now)) e) }
         ensures read { IfOk result (λ _. ArePeaksRead F.rule leaves self.now.before (old_node self.now (B.contents base.now))) }
-        ensures right { IfOk result (λ v. (truth : ℕ → D) → ReadsAgree (old_node self.now (B.contents base.now)) self.now.before truth
-            → self.now.appended ≡ digests_from truth self.now.before (length self.now.appended) → v.items ≡ map truth (peak_positions F.rule leaves)) }
+        ensures right { IfOk result (λ v. ForTruth self.now (B.contents base.now) (λ truth. v.items ≡ map truth (peak_positions F.rule leaves))) }
     {
         let mut digests = Vec::with_capacity(*self.appended.allocator(), PEAKS_ROOM)?;
         for (position, _) in F::peaks(F::location_to_position(leaves)) {

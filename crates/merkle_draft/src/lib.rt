@@ -9,6 +9,7 @@ mod append;
 pub mod base;
 mod compute;
 pub mod draft;
+mod levels;
 pub mod node_error;
 pub mod overwrites;
 mod plan;

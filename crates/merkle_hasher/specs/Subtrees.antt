@@ -1,7 +1,7 @@
 -- The nodes of a forest as code carries them.
 use Rattle.std.specs.Prelude.{◌≡◌, ℕ, ◌+◌, ◌^◌, List, [], ◌∷◌, Some, slice_get}
 use Rattle.std.specs.List.{AllByRecursion}
-use Rattle.merkle_base.specs.Tree.{Tree, position, height, first_leaf}
+use Rattle.merkle_base.specs.Tree.{Tree, join, position, height, first_leaf}
 use Rattle.merkle_base.specs.Forest.{forest}
 use Rattle.merkle_hasher.specs.declared.subtree.Subtree.{Subtree}
 
@@ -14,6 +14,10 @@ pub record IsNodeOf (rule : List ℕ → List ℕ) (n p h s : ℕ) (t : Tree) : 
 -- the subtree is the node t of the forest of n leaves
 abbrev pub Denotes : {F : Type 0} → (List ℕ → List ℕ) → ℕ → Subtree F → Tree → Type 0
 Denotes rule n s t = IsNodeOf rule n s.position s.height s.first_leaf t
+
+-- a and b are the children of the subtree, if it has any
+abbrev pub AreChildSubtrees : {F : Type 0} → (List ℕ → List ℕ) → ℕ → (s a b : Subtree F) → Type 0
+AreChildSubtrees rule n s a b = (p : ℕ) (l r : Tree) → Denotes rule n s (join p l r) → Denotes rule n a l × Denotes rule n b r
 
 -- the subtree that means t
 abbrev pub subtree_of : {F : Type 0} → Tree → Subtree F

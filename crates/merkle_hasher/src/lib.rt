@@ -10,4 +10,6 @@ pub mod path;
 pub mod peaks;
 pub mod queue;
 pub mod read;
+mod root;
+mod standard;
 pub mod subtree;

@@ -1,6 +1,6 @@
 //! The leaf digests of elements, which wait until several are computed at a time.
-ghost use Rattle.std.specs.Prelude.{◌≡◌, ◌≤◌, ◌+◌, ◌++◌, ◌∷◌, List, [], OnOk, length};
-ghost use Rattle.merkle_hasher.specs.LeafDigests.{bytes_of, leaf_digests, positioned_digests};
+ghost use Rattle.std.specs.Prelude.{◌≡◌, ◌≤◌, ◌+◌, ◌++◌, ◌∷◌, [], OnOk, length};
+ghost use Rattle.merkle_hasher.specs.LeafDigests.{bytes_of, leaf_digests, Queues};
 
 use crate::hasher::Hasher;
 use crate::leaves::leaf_digests;
@@ -37,8 +37,8 @@ pub fn queue_leaf<'a, F: Family, T: Hasher<F>>(
     waiting: &mut Vec<(Position<F>, &'a [u8])>,
     digests: &mut Vec<T::Digest>,
 ) -> Result<(), AllocError>
-    ensures { OnOk result (digests.new.items ++ positioned_digests (T.hashing hasher.now) waiting.new.items
-        ≡ (digests.old.items ++ positioned_digests (T.hashing hasher.now) waiting.old.items) ++ (T.hashing hasher.now).leaf position element.now ∷ []) }
+    ensures { let h = T.hashing hasher.now in OnOk result (
+        Queues h digests.old.items waiting.old.items digests.new.items waiting.new.items (h.leaf position element.now)) }
 {
     let Ok(()) = waiting.push((position, element)) else {
         return Err(AllocError);

@@ -1,7 +1,7 @@
 //! Nodes together with the leaves below them.
 ghost use Rattle.std.specs.Prelude.{◌≡◌, ◌+◌};
 ghost use Rattle.merkle_base.specs.Tree.{Tree, join, first_leaf, width};
-ghost use Rattle.merkle_hasher.specs.Subtrees.{Denotes};
+ghost use Rattle.merkle_hasher.specs.Subtrees.{AreChildSubtrees, Denotes};
 
 use merkle_base::family::Family;
 use merkle_base::location::Location;
@@ -32,8 +32,7 @@ impl<F: Family> Subtree<F> {
     /// Requires that the node is not a leaf.
     pub fn children(&self) -> (Self, Self)
         requires { (p : _) × (a : Tree) × (b : Tree) × Denotes F.rule F.MAX_LEAVES self.now (join p a b) }
-        ensures { (p : _) (a b : Tree) → Denotes F.rule F.MAX_LEAVES self.now (join p a b) → Denotes F.rule F.MAX_LEAVES result.0 a
-            × Denotes F.rule F.MAX_LEAVES result.1 b }
+        ensures { AreChildSubtrees F.rule F.MAX_LEAVES self.now result.0 result.1 }
     {
         let (left, right) = F::children(self.position, self.height);
         let height = self.height - 1;

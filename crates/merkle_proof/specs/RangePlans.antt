@@ -141,6 +141,10 @@ IsProvedRange s k a b answer xs = IfOk answer (λ p. ProvesRange s xs k a b p)
 abbrev pub IsProvedLeaf : {F D E Peaks Heights : Type 0} → Scheme D → (k i : ℕ) → Result (Proof F D Peaks Heights) E → List D → Type 0
 IsProvedLeaf s k i answer xs = IfOk answer (λ p. ProvesLeaf s xs k i p)
 
+-- what is answered for a range of leaves is the honest proof of these, of a list
+abbrev pub IsHonestBuilt : {F D E Peaks Heights : Type 0} → Scheme D → (k : ℕ) → LeafRange → Result (Proof F D Peaks Heights) E → List D → Type 0
+IsHonestBuilt s k r answer xs = IfOk answer (λ p. IsHonestProof s xs k r.start r.end p)
+
 -- it is built for the leaves from a on up to b of n
 abbrev pub IsBuiltFor : {F D Peaks Heights : Type 0} → Scheme D → (ℕ → Option D) → (k n a b : ℕ) → Proof F D Peaks Heights → Type 0
 IsBuiltFor s node k n a b p = IsBuiltProof s node k (record { leaves = n; start = a; end = b }) p

@@ -6,7 +6,7 @@ ghost use Rattle.merkle_root_theory.specs.Range.{overlapping, wholly_after};
 ghost use Rattle.merkle_root_theory.specs.Reads.{nodes_read};
 ghost use Rattle.std.specs.List.Sorted.{IsStrictlyIncreasing};
 ghost use Rattle.merkle_proof.specs.Positions.{range_positions};
-ghost use Rattle.merkle_proof.specs.RangePlans.{IsRefusal, IsBuildRefusal, IsBuiltProof, FitsLeaves, peaks_folded, peaks_before, peaks_over, peaks_after, peaks_suffix, AnswersBy, ForAnswered, IsAnsweredBy, IsHonestProof};
+ghost use Rattle.merkle_proof.specs.RangePlans.{IsRefusal, IsBuildRefusal, IsBuiltProof, FitsLeaves, peaks_folded, peaks_before, peaks_over, peaks_after, peaks_suffix, AnswersBy, ForAnswered, IsAnsweredBy, IsHonestBuilt};
 
 use crate::positions::ascending;
 use crate::proof::Proof;
@@ -234,10 +234,9 @@ impl<F: Family> RangePlan<F> {
     where
         G: Drop,
         requires reads { G.IsAlwaysCallable get_node }
-        ensures built { let s = H.scheme hasher.now in
-            (node : ℕ → Option H.Digest) → AnswersBy node (G.post get_node) → IfOk result (λ p. IsBuiltProof s node inactive self p) }
-        ensures honest { let s = H.scheme hasher.now in
-            ForAnswered (H.hashing hasher.now) F.rule self (G.post get_node) (λ xs. IfOk result (IsHonestProof s xs inactive self.start self.end)) }
+        ensures built { (node : ℕ → Option H.Digest) → AnswersBy node (G.post get_node)
+            → IfOk result (IsBuiltProof (H.scheme hasher.now) node inactive self) }
+        ensures honest { ForAnswered (H.hashing hasher.now) F.rule self (G.post get_node) (IsHonestBuilt (H.scheme hasher.now) inactive self result) }
         ensures read { IfOk result (IsAnsweredBy (H.hashing hasher.now) (H.bagging_of hasher.now) F.rule inactive self (G.post get_node)) }
         ensures fits { IfOk result (λ _. FitsLeaves F.rule F.MAX_LEAVES inactive self) }
         ensures err { IfErr result (λ e. e ≢ Error.OutOfMemory → IsBuildRefusal (H.bagging_of hasher.now) F.rule self inactive (G.post get_node) e) }

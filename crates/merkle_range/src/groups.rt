@@ -9,8 +9,7 @@ ghost use Rattle.merkle_root_theory.specs.Layouts.{count_before, count_after, co
 ghost use Rattle.merkle_root_theory.specs.Check.{in_range};
 ghost use Rattle.merkle_root_theory.specs.Range.{overlapping, wholly_after};
 ghost use Rattle.merkle_hasher.specs.Subtrees.{Denotes, AreNodes, subtree_of};
-ghost use Rattle.merkle_range.specs.GroupedPeaks.{HoldsGroups};
-ghost use Rattle.merkle_root_theory.specs.Reads.{nodes_read};
+ghost use Rattle.merkle_range.specs.GroupedPeaks.{AreReadsOf, HoldsGroups};
 
 use crate::layout::Layout;
 use merkle_base::family::{Bagging, Family};
@@ -135,8 +134,7 @@ impl<F: Family> PeakGroups<F> {
     pub fn into_reads(self, range: &Range<Location<F>>) -> Result<Vec<Position<F>>, AllocError>
         requires nonempty { range.now.start < range.now.end }
         requires groups { (n : ℕ) × (n ≤ F.MAX_LEAVES) × HoldsGroups range.now.start range.now.end self (peaks_of F.rule n) }
-        ensures { IfOk result (λ v. (n : ℕ) → n ≤ F.MAX_LEAVES → HoldsGroups range.now.start range.now.end self (peaks_of F.rule n)
-            → v.items ≡ map position (nodes_read F.rule n range.now.start range.now.end)) }
+        ensures { IfOk result (λ v. AreReadsOf F.rule F.MAX_LEAVES self range.now.start range.now.end v.items) }
     {
         let mut reads = self.outside;
         append_siblings(&self.overlapping, range, &mut reads)?;

@@ -8,7 +8,7 @@ ghost use Rattle.merkle_root_theory.specs.Plan.{left_fold_plan, peak, siblings, 
 ghost use Rattle.merkle_root_theory.specs.Check.{in_range};
 ghost use Rattle.merkle_root_theory.specs.Range.{range_parts, range_siblings};
 ghost use Rattle.merkle_hasher.specs.LeafDigests.{bytes_of};
-ghost use Rattle.merkle_claim_theory.specs.Pinned.{AcceptsPinnedCases};
+ghost use Rattle.merkle_claim_theory.specs.CheckAnswers.{DecidesPins};
 ghost use Rattle.merkle_claim_theory.specs.Rebuilt.{AllRebuilt, rebuilt_node, rebuilt_part};
 ghost use Rattle.merkle_base.specs.Table.{digest_for};
 ghost use Rattle.merkle_range.specs.Input.{input_of_parts};
@@ -255,8 +255,7 @@ pub fn verify_pinned<F: Family, H: Hasher<F>>(
     root: &H::Digest,
 ) -> Result<bool, OutOfMemory>
     ensures { let s = H.scheme hasher.now in
-        let r = input_of_parts s parts.now start (bytes_of elements.now) in
-        IfOk result (λ yes. IsTrue yes ↔ AcceptsPinnedCases s r pinned_nodes.now root.now) }
+        IfOk result (DecidesPins s root.now (input_of_parts s parts.now start (bytes_of elements.now)) pinned_nodes.now) }
 {
     if !verify_range(parts, hasher, elements, start, root)? {
         return Ok(false);

@@ -1,5 +1,5 @@
 -- What is hashed for an accepted input, as an audit takes it from the store of the proof.
-use Rattle.std.specs.Prelude.{◌≡◌, ◌≤◌, ℕ, List, ◌++◌, map, Option, Some, None}
+use Rattle.std.specs.Prelude.{◌≡◌, ◌≤◌, ℕ, List, ◌++◌, map, Ok, Option, Some, None}
 use Rattle.std.specs.List.{AllByRecursion}
 use Rattle.std.specs.Option.{unwrap_or}
 use Rattle.merkle_base.specs.Places.{peaks_of}
@@ -8,6 +8,7 @@ use Rattle.merkle_base.specs.Tree.{Tree}
 use Rattle.merkle_hasher.specs.Subtrees.{subtree_of}
 use Rattle.merkle_root_theory.specs.Check.{RangeInput, range_inputs}
 use Rattle.merkle_root_theory.specs.Expression.{Input}
+use Rattle.merkle_root_theory.specs.Reconstruction.{reconstructed}
 use Rattle.merkle_store_theory.specs.StoreProof.{found_at}
 use Rattle.merkle_audit_theory.specs.Searches.{input_at}
 use Rattle.merkle_audit_theory.specs.Seen.{met_children, Sees}
@@ -33,3 +34,7 @@ pub record IsClaim {F D P Q : Type 0} (none : D) (s : Scheme D) (r : RangeInput 
   pub bounded : r.leaves ≤ s.max_leaves
   pub peaks : c.peaks.items ≡ map subtree_of (peaks_of s.rule r.leaves)
   pub sees : AllByRecursion (λ t. Sees (range_pair none c.nodes) (input_at (range_inputs s r)) t) (peaks_of s.rule r.leaves)
+
+-- the input leads to the root, and this is hashed for it
+abbrev pub IsClaimFor : {F D P Q : Type 0} → D → Scheme D → D → RangeInput D → Claim F D P Q → Type 0
+IsClaimFor none s root r c = (reconstructed s r ≡ Ok root) × IsClaim none s r c

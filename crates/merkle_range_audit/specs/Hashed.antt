@@ -1,9 +1,13 @@
 -- What audits search, in the words of the theory.
-use Rattle.std.specs.Prelude.{ℕ, ◌&&◌, cond, List, ◌∷◌, map, Option, Some, None}
+use Rattle.std.specs.Prelude.{◌≡◌, ℕ, ◌&&◌, cond, List, ◌∷◌, map, Option, option_map, Some, None}
 use Rattle.merkle_base.specs.Hashing.{Hashing}
+use Rattle.merkle_base.specs.Root.{folded, root_string}
+use Rattle.merkle_base.specs.Scheme.{Scheme}
 use Rattle.merkle_root_theory.specs.Collision as theory
 use Rattle.merkle_root_theory.specs.Expression.{Root, Node, Pair, Bytes, Input}
 use Rattle.merkle_claim_theory.specs.FirstCollision.{or_else}
+use Rattle.merkle_audit_theory.specs.Differences.{first_difference}
+use Rattle.merkle_audit_theory.specs.Folds.{numbered_inputs}
 use Rattle.merkle_range_audit.specs.declared.top.Fold.{Fold}
 use Rattle.merkle_range_audit.specs.declared.top.Top.{Top}
 use Rattle.merkle_range_audit.specs.declared.verdict.Collision.{Collision}
@@ -31,3 +35,17 @@ abbrev pub found_over : {D : Type 0} → Hashing D → ℕ → D × D → Option
 found_over h p x None l r = None
 found_over h p x (Some y) l r =
     cond (h.same x.0 y.0 && h.same x.1 y.1) (or_else l r) (Some (record { place = Node p; claimed = Pair x.0 x.1; listed = Pair y.0 y.1 }))
+
+-- the string of the root over the digests that are folded, of a list of n leaves with k inactive peaks, of which the first `apart` are folded
+-- left to right
+abbrev pub HasRootString : {F D : Type 0} → Scheme D → (n k apart : ℕ) → List D → Top F D → Type 0
+HasRootString s n k apart digests t =
+    t.root.items ≡ root_string s.hashing s.domain s.bagging n k (folded s.hashing.fold s.bagging apart digests)
+
+-- the folds, of which the first digest stands for `number` peaks
+abbrev pub HasFolds : {F D : Type 0} → Scheme D → (k apart number : ℕ) → List D → Top F D → Type 0
+HasFolds s k apart number digests t = map fold_at t.folds.items ≡ numbered_inputs s.hashing s.bagging k apart number digests
+
+-- what a search finds is the first difference of the folds
+abbrev pub FindsFold : {F D : Type 0} → Hashing D → Top F D → Top F D → Option (Collision F D) → Type 0
+FindsFold h claimed listed found = option_map located found ≡ first_difference h (map fold_at claimed.folds.items) (map fold_at listed.folds.items)

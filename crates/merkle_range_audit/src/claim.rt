@@ -9,7 +9,7 @@ ghost use Rattle.merkle_root_theory.specs.Range.{AcceptsNonempty, IsEmptyInput};
 ghost use Rattle.merkle_root_theory.specs.Reconstruction.{reconstructed};
 ghost use Rattle.merkle_hasher.specs.LeafDigests.{bytes_of};
 ghost use Rattle.merkle_store_theory.specs.StoreValue.{store_of};
-ghost use Rattle.merkle_range_audit.specs.Claimed.{digest_in_claim, range_pair, IsClaim};
+ghost use Rattle.merkle_range_audit.specs.Claimed.{digest_in_claim, range_pair, IsClaim, IsClaimFor};
 
 use crate::nodes::Hashes;
 use crate::top::{Shape, Top, above_peaks};
@@ -216,11 +216,9 @@ pub fn accepted<F: Family, H: Hasher<F>>(
     root: &H::Digest,
 ) -> Result<Option<Claim<F, H::Digest>>, Error<F>>
     ensures none { let s = H.scheme hasher.now in
-        let r = input_of s proof.now start (bytes_of elements.now) in
-        IfOk result (λ o. IfNone o (reconstructed s r ≢ Ok root.now)) }
+        IfOk result (λ o. IfNone o (reconstructed s (input_of s proof.now start (bytes_of elements.now)) ≢ Ok root.now)) }
     ensures some { let s = H.scheme hasher.now in
-        let r = input_of s proof.now start (bytes_of elements.now) in
-        IfOk result (λ o. IfSome o (λ c. (reconstructed s r ≡ Ok root.now) × IsClaim H.Digest.EMPTY s r c)) }
+        IfOk result (λ o. IfSome o (IsClaimFor H.Digest.EMPTY s root.now (input_of s proof.now start (bytes_of elements.now)))) }
     ensures refused { IsOkUnless result Error.OutOfMemory }
 {
     let claim = match ProofStore::new(hasher, proof, elements, start, root) {

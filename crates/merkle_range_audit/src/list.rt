@@ -1,16 +1,11 @@
 //! A list of leaf digests, with its nodes and what is hashed for its root.
-ghost use Rattle.std.specs.Prelude.{◌≡◌, ◌≢◌, ◌≤◌, ◌<◌, List, Some, Ok, Err, IfOk, IfErr, IsOkUnless, length, map};
+ghost use Rattle.std.specs.Prelude.{◌≡◌, ◌≢◌, ◌≤◌, ◌<◌, Some, Ok, Err, IfOk, IfErr, IsOkUnless, length, map};
 ghost use Rattle.merkle_base.specs.Cases.{first_case};
-ghost use Rattle.merkle_base.specs.Digests.{peak_digests};
 ghost use Rattle.merkle_base.specs.Places.{peaks_of};
-ghost use Rattle.merkle_base.specs.Root.{list_root};
-ghost use Rattle.merkle_hasher.specs.Subtrees.{subtree_of};
 ghost use Rattle.merkle_hasher.specs.declared.subtree.Subtree.{Subtree};
-ghost use Rattle.merkle_audit_theory.specs.Folds.{top_inputs};
 ghost use Rattle.merkle_audit_theory.specs.Seen.{children_of};
 ghost use Rattle.merkle_range_audit.specs.Found.{list_refusals};
-ghost use Rattle.merkle_range_audit.specs.Hashed.{top_of};
-ghost use Rattle.merkle_range_audit.specs.Listed.{digest_in, IsOfList, IsHashedList};
+ghost use Rattle.merkle_range_audit.specs.Listed.{digest_in, IsOfList, ForListed, GivesListRoot, RefusesListRoot, GivesListTop, IsHashedList};
 
 use crate::nodes::Hashes;
 use crate::top::{Shape, Top, above_peaks};
@@ -89,12 +84,8 @@ impl<F: Family, D: Digest> ListNodes<F, D> {
     ///
     /// - `InvalidInactivePeaks` if `inactive` exceeds the number of peaks of the list
     pub fn root<H: Hasher<F, Digest = D>>(&self, hasher: &H, inactive: usize) -> Result<D, Error<F>>
-        ensures ok { let s = H.scheme hasher.now in
-            (X : List D) → IsOfList s.hashing s.rule self.now.nodes.value X → inactive ≤ length (peaks_of s.rule (length X))
-            → result ≡ Ok (list_root s X inactive) }
-        ensures err { let s = H.scheme hasher.now in
-            (X : List D) → IsOfList s.hashing s.rule self.now.nodes.value X
-            → let count = length (peaks_of s.rule (length X)) in count < inactive → result ≡ Err (Error.InvalidInactivePeaks inactive count) }
+        ensures ok { let s = H.scheme hasher.now in ForListed s self.now.nodes.value (GivesListRoot s inactive result) }
+        ensures err { let s = H.scheme hasher.now in ForListed s self.now.nodes.value (RefusesListRoot s inactive result) }
     {
         self.nodes.root(hasher, inactive)
     }
@@ -140,9 +131,7 @@ impl<F: Family, D: Digest> ListNodes<F, D> {
     ) -> Result<Top<F, D>, OutOfMemory>
         requires inactive { inactive ≤ length peaks.now }
         requires few { length peaks.now ≤ 64 }
-        ensures { let s = H.scheme hasher.now in
-            (X : List D) → IsOfList s.hashing s.rule self.now.nodes.value X → peaks.now ≡ map subtree_of (peaks_of s.rule (length X))
-            → IfOk result (λ t. top_of t ≡ top_inputs s (length X) inactive (peak_digests s.hashing s.rule X)) }
+        ensures { let s = H.scheme hasher.now in ForListed s self.now.nodes.value (GivesListTop s inactive peaks.now result) }
     {
         let digests = self.digests(alloc, peaks)?;
         let shape = Shape {

@@ -1,5 +1,5 @@
 //! What is hashed above the peaks: the folds and the byte string of the root.
-ghost use Rattle.std.specs.Prelude.{◌≡◌, ◌≢◌, ◌<◌, ◌+◌, ◌++◌, ◌∷◌, [], ◌^◌, List, Some, IfOk, OnOk, map, length, fold, option_map, max};
+ghost use Rattle.std.specs.Prelude.{◌≡◌, ◌≢◌, ◌<◌, ◌+◌, ◌++◌, ◌∷◌, [], ◌^◌, Some, IfOk, OnOk, map, length, fold, option_map, max};
 ghost use Rattle.merkle_base.specs.Hashing.{Hashing, IsOver};
 ghost use Rattle.merkle_base.specs.Root.{folded, root_string};
 ghost use Rattle.merkle_base.specs.declared.family.Bagging.TheVariants.{BackwardFold};
@@ -7,7 +7,7 @@ ghost use Rattle.merkle_audit_theory.specs.Differences.{is_difference, differenc
 ghost use Rattle.merkle_audit_theory.specs.Folds.{left_inputs, right_value, right_inputs, numbered_inputs};
 ghost use Rattle.merkle_root_theory.specs.Expression.{Pair};
 ghost use Rattle.merkle_range_audit.specs.Found.{place_of};
-ghost use Rattle.merkle_range_audit.specs.Hashed.{fold_at, located, roots_apart};
+ghost use Rattle.merkle_range_audit.specs.Hashed.{fold_at, located, roots_apart, HasRootString, HasFolds, FindsFold};
 
 use crate::place::{Argument, Place};
 use crate::verdict::Collision;
@@ -145,12 +145,9 @@ pub fn above_peaks<F: Family, H: Hasher<F>>(
     digests: &[H::Digest],
 ) -> Result<Top<F, H::Digest>, OutOfMemory>
     requires { max shape.now.number (shape.now.inactive + 1) + length digests.now < 2 ^ 64 }
-    ensures root { let s = H.scheme hasher.now in
-        IfOk result (λ t. t.root.items
-        ≡ root_string s.hashing s.domain s.bagging shape.now.leaves shape.now.inactive (folded s.hashing.fold s.bagging shape.now.apart digests.now)) }
-    ensures folds { let s = H.scheme hasher.now in
-        IfOk result (λ t. map fold_at t.folds.items
-        ≡ numbered_inputs s.hashing s.bagging shape.now.inactive shape.now.apart shape.now.number digests.now) }
+    ensures root { IfOk result (
+        HasRootString (H.scheme hasher.now) shape.now.leaves shape.now.inactive shape.now.apart digests.now) }
+    ensures folds { IfOk result (HasFolds (H.scheme hasher.now) shape.now.inactive shape.now.apart shape.now.number digests.now) }
 {
     let bagging = hasher.root_bagging();
     let mut folds = Vec::new(alloc);
@@ -229,8 +226,7 @@ pub fn first_above<F: Family, D: Digest>(
     listed: Top<F, D>,
 ) -> Option<Collision<F, D>>
     ensures apart { claimed.root.items ≢ listed.root.items → option_map located result ≡ Some (roots_apart claimed listed) }
-    ensures same { (h : Hashing D) → IsOver h D.bytes D.eq D.EMPTY → claimed.root.items ≡ listed.root.items
-        → option_map located result ≡ first_difference h (map fold_at claimed.folds.items) (map fold_at listed.folds.items) }
+    ensures same { (h : Hashing D) → IsOver h D.bytes D.eq D.EMPTY → claimed.root.items ≡ listed.root.items → FindsFold h claimed listed result }
 {
     if claimed.root != listed.root {
         return Some(Collision {

@@ -1,11 +1,12 @@
 -- Nodes that have all their leaves among those whose digests are given.
-use Rattle.std.specs.Prelude.{◌≡◌, ℕ, ◌+◌, ◌≤◌, List, [], ◌∷◌, Some, slice_get, length, ⊤}
+use Rattle.std.specs.Prelude.{◌≡◌, ℕ, ◌+◌, ◌≤◌, List, [], ◌∷◌, ◌++◌, Some, map, slice_get, length, ⊤}
 use Rattle.std.specs.List.{AllByRecursion}
 use Rattle.merkle_base.specs.Forest.{forest}
-use Rattle.merkle_base.specs.Tree.{Tree, first_leaf, end_leaf}
+use Rattle.merkle_base.specs.Tree.{Tree, position, first_leaf, end_leaf}
 use Rattle.merkle_base.specs.Hashing.{Hashing}
 use Rattle.merkle_base.specs.Table.{digest_for}
-use Rattle.merkle_root_theory.specs.Plan.{tree_digest}
+use Rattle.merkle_root_theory.specs.Check.{in_range}
+use Rattle.merkle_root_theory.specs.Plan.{tree_digest, siblings}
 use Rattle.merkle_root_theory.specs.Walk.{leaf_from}
 use Rattle.merkle_hasher.specs.declared.subtree.Subtree.{Subtree}
 use Rattle.merkle_hasher.specs.Subtrees.{Denotes}
@@ -52,3 +53,11 @@ AreListed h rule n leaf [] [] = ⊤
 AreListed h rule n leaf [] (d ∷ ds) = ⊥
 AreListed h rule n leaf (p ∷ ps) [] = ⊥
 AreListed h rule n leaf (p ∷ ps) (d ∷ ds) = IsDigestAt h rule n leaf p d × AreListed h rule n leaf ps ds
+
+-- each digest that ds lists for a position in ps is that of the node there, the leaves from location start on having these digests
+abbrev pub AreKnownFrom : {D : Type 0} → Hashing D → (List ℕ → List ℕ) → ℕ → (start : ℕ) → (leaves : List D) → List ℕ → List D → Type 0
+AreKnownFrom h rule n start leaves ps ds = AreKnown h rule n (leaf_from h start leaves) ps ds
+
+-- the siblings outside a..b at or below the subtree are added to a list of positions
+abbrev pub ListsSiblings : {F : Type 0} → (List ℕ → List ℕ) → ℕ → Subtree F → (a b : ℕ) → (old new : List ℕ) → Type 0
+ListsSiblings rule n s a b old new = (t : Tree) → Denotes rule n s t → new ≡ old ++ map position (siblings (in_range a b) t)

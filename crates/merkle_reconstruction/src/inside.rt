@@ -4,7 +4,7 @@ ghost use Rattle.merkle_base.specs.Hashing.{Hashing};
 ghost use Rattle.merkle_base.specs.Tree.{Tree};
 ghost use Rattle.merkle_hasher.specs.Subtrees.{Denotes, AreNodes, subtree_of};
 ghost use Rattle.merkle_root_theory.specs.Walk.{leaf_from};
-ghost use Rattle.merkle_reconstruction.specs.Inside.{IsInside, IsDigestInside, IsDigestAt, AreTall, AreParents, AreChildDigests, AreKnown};
+ghost use Rattle.merkle_reconstruction.specs.Inside.{IsInside, IsDigestAt, AreTall, AreParents, AreChildDigests, AreKnownFrom};
 
 use crate::known::ComputedNodes;
 use crate::walk::{is_inside, is_outside};
@@ -37,55 +37,27 @@ pub(crate) fn leaf_inside<F: Family, D: Copy>(
     leaves[index.as_u64() as usize]
 }
 
-// Computes the digests of four nodes of one height from those of the leaves from location `start`
-// on. The nodes of one height are computed together, in `nodes`, whatever it has.
-fn four_inside<F: Family, H: Hasher<F>>(
-    a: &Subtree<F>,
-    b: &Subtree<F>,
-    c: &Subtree<F>,
-    d: &Subtree<F>,
-    hasher: &H,
+/// Returns the position of a node of height 1 and the digests of its children, from those of the
+/// leaves from location `start` on.
+pub(crate) fn leaf_parent<F: Family, D: Digest>(
+    subtree: &Subtree<F>,
     start: Location<F>,
-    leaves: &[H::Digest],
-    nodes: &mut Vec<Parent<F, H::Digest>>,
-) -> Result<(H::Digest, H::Digest, H::Digest, H::Digest), AllocError>
-    requires first { (t : Tree) × IsInside F.rule F.MAX_LEAVES start (length leaves.now) a.now t }
-    requires second { (b.now.height ≡ a.now.height) × ((t : Tree) × IsInside F.rule F.MAX_LEAVES start (length leaves.now) b.now t) }
-    requires third { (c.now.height ≡ a.now.height) × ((t : Tree) × IsInside F.rule F.MAX_LEAVES start (length leaves.now) c.now t) }
-    requires fourth { (d.now.height ≡ a.now.height) × ((t : Tree) × IsInside F.rule F.MAX_LEAVES start (length leaves.now) d.now t) }
-    ensures first { let h = H.hashing hasher.now in
-        IfOk result (λ r. IsDigestInside h F.rule F.MAX_LEAVES start leaves.now a.now r.0) }
-    ensures second { let h = H.hashing hasher.now in
-        IfOk result (λ r. IsDigestInside h F.rule F.MAX_LEAVES start leaves.now b.now r.1) }
-    ensures third { let h = H.hashing hasher.now in
-        IfOk result (λ r. IsDigestInside h F.rule F.MAX_LEAVES start leaves.now c.now r.2) }
-    ensures fourth { let h = H.hashing hasher.now in
-        IfOk result (λ r. IsDigestInside h F.rule F.MAX_LEAVES start leaves.now d.now r.3) }
+    leaves: &[D],
+) -> Parent<F, D>
+    requires node { (t : Tree) × IsInside F.rule F.MAX_LEAVES start (length leaves.now) subtree.now t }
+    requires parent { subtree.now.height ≡ 1 }
+    ensures position { result.0 ≡ subtree.now.position }
+    ensures digest { (h : Hashing D) → IsDigestAt h F.rule F.MAX_LEAVES (leaf_from h start leaves.now) result.0 (h.node result.0 result.1 result.2) }
 {
-    if a.height == 0 {
-        return Ok((
-            leaf_inside(a, start, leaves),
-            leaf_inside(b, start, leaves),
-            leaf_inside(c, start, leaves),
-            leaf_inside(d, start, leaves),
-        ));
-    }
-    let (p, q) = a.children();
-    let (r, s) = b.children();
-    let low = four_inside(&p, &q, &r, &s, hasher, start, leaves, nodes)?;
-    let (t, u) = c.children();
-    let (v, w) = d.children();
-    let high = four_inside(&t, &u, &v, &w, hasher, start, leaves, nodes)?;
-    nodes.clear();
-    nodes.push((a.position, low.0, low.1))?;
-    nodes.push((b.position, low.2, low.3))?;
-    nodes.push((c.position, high.0, high.1))?;
-    nodes.push((d.position, high.2, high.3))?;
-    Ok(hasher.node_digests_four(nodes))
+    let (left, right) = subtree.children();
+    let first = leaf_inside(&left, start, leaves);
+    let second = leaf_inside(&right, start, leaves);
+    (subtree.position, first, second)
 }
 
 // Returns the two children of a node of height 2 or more, each with the digests of its own children,
-// which are computed from those of the leaves from location `start` on.
+// which are computed from those of the leaves from location `start` on: the four grandchildren of a
+// node together, in `nodes`, whatever it has.
 fn children_inside<F: Family, H: Hasher<F>>(
     subtree: &Subtree<F>,
     hasher: &H,
@@ -100,9 +72,19 @@ fn children_inside<F: Family, H: Hasher<F>>(
         (h.node subtree.now.position (h.node r.0.0 r.0.1 r.0.2) (h.node r.1.0 r.1.1 r.1.2))) }
 {
     let (left, right) = subtree.children();
-    let (a, b) = left.children();
-    let (c, d) = right.children();
-    let four = four_inside(&a, &b, &c, &d, hasher, start, leaves, nodes)?;
+    if subtree.height == 2 {
+        let first = leaf_parent(&left, start, leaves);
+        let second = leaf_parent(&right, start, leaves);
+        return Ok((first, second));
+    }
+    let (a, b) = children_inside(&left, hasher, start, leaves, nodes)?;
+    let (c, d) = children_inside(&right, hasher, start, leaves, nodes)?;
+    nodes.clear();
+    nodes.push(a)?;
+    nodes.push(b)?;
+    nodes.push(c)?;
+    nodes.push(d)?;
+    let four = hasher.node_digests_four(nodes);
     Ok((
         (left.position, four.0, four.1),
         (right.position, four.2, four.3),
@@ -155,23 +137,6 @@ fn push_parents<F: Family, D: Digest>(
         rest = others;
     }
     Ok(())
-}
-
-/// Returns the position of a node of height 1 and the digests of its children, from those of the
-/// leaves from location `start` on.
-pub(crate) fn leaf_parent<F: Family, D: Digest>(
-    subtree: &Subtree<F>,
-    start: Location<F>,
-    leaves: &[D],
-) -> Parent<F, D>
-    requires node { (t : Tree) × IsInside F.rule F.MAX_LEAVES start (length leaves.now) subtree.now t }
-    requires parent { subtree.now.height ≡ 1 }
-    ensures { (h : Hashing D) → IsDigestAt h F.rule F.MAX_LEAVES (leaf_from h start leaves.now) result.0 (h.node result.0 result.1 result.2) }
-{
-    let (left, right) = subtree.children();
-    let first = leaf_inside(&left, start, leaves);
-    let second = leaf_inside(&right, start, leaves);
-    (subtree.position, first, second)
 }
 
 // Appends a node that has all its leaves in the range and is none: to `tall` if its height is 2 or
@@ -248,8 +213,8 @@ pub fn digests_inside<F: Family, H: Hasher<F>>(
     requires nodes { (ts : List Tree) × (peaks.now ≡ map subtree_of ts) × AreNodes F.rule F.MAX_LEAVES ts }
     requires nonempty { range.now.start < range.now.end }
     requires covered { range.now.end ≤ range.now.start + length leaves.now }
-    ensures { let h = H.hashing hasher.now in
-        IfOk result (λ k. AreKnown h F.rule F.MAX_LEAVES (leaf_from h range.now.start leaves.now) k.positions.items k.digests.items) }
+    ensures { IfOk result (λ k.
+        AreKnownFrom (H.hashing hasher.now) F.rule F.MAX_LEAVES range.now.start leaves.now k.positions.items k.digests.items) }
 {
     if !is_wanted || leaves.len() < LEAVES_TOGETHER {
         return Ok(ComputedNodes::new(alloc));

@@ -1,12 +1,12 @@
 //! The digest of a node from those of the maximal nodes outside a range of leaves.
-ghost use Rattle.std.specs.Prelude.{◌≡◌, ◌≢◌, ◌+◌, ◌<◌, ◌≤◌, not, true, [], ◌++◌, length, map, IfOk, IfErr};
+ghost use Rattle.std.specs.Prelude.{◌≡◌, ◌≢◌, ◌+◌, ◌<◌, ◌≤◌, not, true, [], length, IfOk, IfErr};
 ghost use Rattle.merkle_base.specs.Tree.{Tree, position, first_leaf, end_leaf};
 ghost use Rattle.merkle_hasher.specs.Subtrees.{Denotes};
 ghost use Rattle.merkle_root_theory.specs.Plan.{tree_meets, siblings};
 ghost use Rattle.merkle_root_theory.specs.Extract.{inner_pairs};
 ghost use Rattle.merkle_root_theory.specs.Check.{in_range};
 ghost use Rattle.merkle_root_theory.specs.Walk.{leaf_from, IsWalked};
-ghost use Rattle.merkle_reconstruction.specs.Inside.{AreKnown};
+ghost use Rattle.merkle_reconstruction.specs.Inside.{AreKnownFrom, ListsSiblings};
 
 use crate::below::{extract_by_levels, is_extracted_by_levels};
 use crate::collector::{Collector, put_both};
@@ -59,8 +59,8 @@ pub fn reconstruct_digest<F: Family, H: Hasher<F>, C: Collector<F, H::Digest>>(
     requires node { (t : Tree) × Denotes F.rule F.MAX_LEAVES subtree.now t }
     requires nonempty { range.now.start < range.now.end }
     requires covered { range.now.end ≤ range.now.start + length leaves.now }
-    requires known { let h = H.hashing hasher.now in
-        AreKnown h F.rule F.MAX_LEAVES (leaf_from h range.now.start leaves.now) known.now.positions.items known.now.digests.items }
+    requires known { AreKnownFrom (H.hashing hasher.now) F.rule F.MAX_LEAVES
+        range.now.start leaves.now known.now.positions.items known.now.digests.items }
     ensures ok { let h = H.hashing hasher.now in let leaf = leaf_from h range.now.start leaves.now in
         IfOk result (λ d. (t : Tree) → Denotes F.rule F.MAX_LEAVES subtree.now t
         → IsWalked h (in_range range.now.start range.now.end) leaf t digests.old.now d digests.new.now) }
@@ -114,8 +114,7 @@ pub fn collect_siblings<F: Family>(
 ) -> Result<(), AllocError>
     requires node { (t : Tree) × Denotes F.rule F.MAX_LEAVES subtree.now t }
     requires nonempty { range.now.start < range.now.end }
-    ensures { IfOk result (λ _. (t : Tree) → Denotes F.rule F.MAX_LEAVES subtree.now t
-        → out.new.items ≡ out.old.items ++ map position (siblings (in_range range.now.start range.now.end) t)) }
+    ensures { IfOk result (λ _. ListsSiblings F.rule F.MAX_LEAVES subtree.now range.now.start range.now.end out.old.items out.new.items) }
 {
     if is_outside(subtree, range) {
         out.push(subtree.position)?;

@@ -1,7 +1,8 @@
 -- What a check of scattered leaves computes of nodes.
-use Rattle.std.specs.Prelude.{◌≡◌, ℕ, Bool, ◌||◌, cond, nat_eq, nat_lt, List, [], ◌∷◌, map, Option, unwrap_or}
+use Rattle.std.specs.Prelude.{◌≡◌, ℕ, Bool, ◌||◌, cond, nat_eq, nat_lt, List, [], ◌∷◌, map, Option, Vec, unwrap_or}
 use Rattle.std.specs.List.{AllByRecursion, flat_map, list_any, prefix_len}
 use Rattle.merkle_base.specs.Hashing.{Hashing}
+use Rattle.merkle_base.specs.Places.{peaks_of}
 use Rattle.merkle_base.specs.Tree.{Tree, leaf, join, first_leaf, end_leaf}
 use Rattle.merkle_hasher.specs.Subtrees.{AreNodes, subtree_of}
 use Rattle.merkle_root_theory.specs.Expression.{Expression, value, Holds}
@@ -73,3 +74,11 @@ all_parents_met h a es ts = flat_map (parent_met h a es) ts
 abbrev pub tallest : {F : Type 0} → List (CheckedNode F) → ℕ
 tallest [] = 0
 tallest (n ∷ ns) = cond (nat_lt n.subtree.height (tallest ns)) (tallest ns) n.subtree.height
+
+-- of n leaves, where a proof supplies the digests ds at ps: each agrees, and these are the digests of the peaks; or one does not agree
+abbrev pub ConfirmsPeaks : {D A : Type 0} → Hashing D → (List ℕ → List ℕ) → (n : ℕ) → (ps : List ℕ) → (ds : List D) → List (ℕ × D) → Vec D A → Type 0
+ConfirmsPeaks h rule n ps ds es digests =
+    EachHolds h (digest_for ps ds) es (peaks_of rule n) × (digests.items ≡ nodes_checked h (digest_for ps ds) es (peaks_of rule n))
+
+abbrev pub RefutesPeaks : {D : Type 0} → Hashing D → (List ℕ → List ℕ) → (n : ℕ) → (ps : List ℕ) → (ds : List D) → List (ℕ × D) → Type 0
+RefutesPeaks h rule n ps ds es = ¬ EachHolds h (digest_for ps ds) es (peaks_of rule n)

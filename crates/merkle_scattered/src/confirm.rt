@@ -7,7 +7,7 @@ ghost use Rattle.merkle_base.specs.Tree.{Tree};
 ghost use Rattle.merkle_forest_theory.specs.Ascending.{AscendsFrom};
 ghost use Rattle.merkle_base.specs.Table.{digest_for};
 ghost use Rattle.merkle_root_theory.specs.Expression.{value};
-ghost use Rattle.merkle_scattered.specs.Confirmed.{EachHolds, IsChecked, AreChecked, locations_of, node_checked, nodes_checked, checked_node, all_children_met, all_parents_met, parent_met};
+ghost use Rattle.merkle_scattered.specs.Confirmed.{ConfirmsPeaks, RefutesPeaks, EachHolds, IsChecked, AreChecked, locations_of, node_checked, nodes_checked, checked_node, all_children_met, all_parents_met, parent_met};
 
 use crate::checked_node::{CheckedNode, count_before};
 use crate::supplied::SuppliedDigests;
@@ -34,11 +34,10 @@ pub fn confirm_peaks<F: Family, H: Hasher<F>>(
     requires within_max_leaves { leaves ≤ F.MAX_LEAVES }
     requires rises { IsStrictlyIncreasing told.now.positions.now }
     requires ascend { AscendsFrom 0 (locations_of located.now) }
-    ensures some { let h = H.hashing hasher.now in let a = digest_for told.now.positions.now told.now.digests.now in
-        let peaks = peaks_of F.rule leaves in
-        IfOk result (λ o. IfSome o (λ v. EachHolds h a located.now peaks × (v.items ≡ nodes_checked h a located.now peaks))) }
-    ensures none { let h = H.hashing hasher.now in let a = digest_for told.now.positions.now told.now.digests.now in
-        IfOk result (λ o. IsNone o → ¬ EachHolds h a located.now (peaks_of F.rule leaves)) }
+    ensures some { IfOk result (λ o. IfSome o (
+        ConfirmsPeaks (H.hashing hasher.now) F.rule leaves told.now.positions.now told.now.digests.now located.now)) }
+    ensures none { IfOk result (λ o. IsNone o
+        → RefutesPeaks (H.hashing hasher.now) F.rule leaves told.now.positions.now told.now.digests.now located.now) }
 {
     let peaks = list_peaks(alloc, leaves, located)?;
     confirm_nodes(alloc, hasher, told, located, &peaks)

@@ -4,6 +4,7 @@ use Rattle.std.specs.List.{AllByRecursion}
 use Rattle.merkle_base.specs.Cases.{first_case}
 use Rattle.merkle_base.specs.Forest.{size}
 use Rattle.merkle_base.specs.Places.{peaks_of}
+use Rattle.merkle_base.specs.Refused.{UnlessMemory}
 use Rattle.merkle_base.specs.declared.error.Error.{Error}
 use Rattle.merkle_base.specs.declared.error.Error.TheVariants.{PositionOverflow, NonLeaf, InvalidProof, ElementPruned}
 use Rattle.merkle_claim_theory.specs.Multiproof.{multi_positions}
@@ -52,3 +53,8 @@ abbrev pub IsMultiRefusal : {F D : Type 0} → (rule : List ℕ → List ℕ) �
 IsMultiRefusal rule max_nodes max_leaves m k locations node e =
     IsSizeRefusal rule max_nodes m e
     ⊎ ((n : ℕ) × (m ≤ max_nodes) × (size rule n ≡ m) × IsLocationsRefusal rule max_leaves n k locations node e)
+
+-- memory aside
+abbrev pub RefusesMulti : {F D : Type 0} → (rule : List ℕ → List ℕ) → (max_nodes max_leaves m k : ℕ) → List ℕ → (ℕ → Option D)
+    → Error F → Type 0
+RefusesMulti rule max_nodes max_leaves m k locations node = UnlessMemory (IsMultiRefusal rule max_nodes max_leaves m k locations node)

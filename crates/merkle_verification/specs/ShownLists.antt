@@ -1,10 +1,12 @@
 -- Statements about each list that a reader of nodes shows, and about ranges whose nodes it holds.
-use Rattle.std.specs.Prelude.{◌≡◌, ℕ, ◌<◌, ◌≤◌, List, length, Option, Result, IfOk}
+use Rattle.std.specs.Prelude.{◌≡◌, ℕ, ◌<◌, ◌≤◌, List, length, take, Option, Result, IfOk, IsOkUnless}
 use Rattle.merkle_base.specs.Forest.{size}
 use Rattle.merkle_base.specs.Hashing.{Hashing}
 use Rattle.merkle_base.specs.Places.{peaks_of}
 use Rattle.merkle_base.specs.Scheme.{Scheme}
 use Rattle.merkle_base.specs.Shows.{Shows}
+use Rattle.merkle_base.specs.declared.error.Error.{Error}
+use Rattle.merkle_base.specs.declared.error.Error.TheVariants.{OutOfMemory}
 use Rattle.merkle_claim_theory.specs.Multiproof.{IsHonestMulti, multi_positions}
 use Rattle.merkle_proof.specs.MultiPositions.{AreLocations}
 use Rattle.merkle_proof.specs.Positions.{range_positions}
@@ -38,3 +40,30 @@ ForReadRange rule max_leaves m node a b k P = (n : ℕ) → size rule n ≡ m �
 abbrev pub ForReadLocations : {D : Type 0} → (rule : List ℕ → List ℕ) → (max_leaves m : ℕ) → (ℕ → Option D) → List ℕ → (k : ℕ) → Type 0 → Type 0
 ForReadLocations rule max_leaves m node locations k P = (n : ℕ) → size rule n ≡ m → AreLocations max_leaves n locations
     → k ≤ length (peaks_of rule n) → AreNodesHeld node (multi_positions rule n locations) → P
+
+-- what is answered for a range is the honest proof of each list that a reader with m nodes shows, or of the first n leaves of it
+abbrev pub IsHonestFor : {F D E Peaks Heights : Type 0} → Hashing D → Scheme D → (rule : List ℕ → List ℕ) → (m : ℕ) → (ℕ → Option D)
+    → (k a b : ℕ) → Result (Proof F D Peaks Heights) E → Type 0
+IsHonestFor h s rule m node k a b answer = ForShown h rule m node (IsHonestAnswer s k a b answer)
+
+abbrev pub IsHonestPast : {F D E Peaks Heights : Type 0} → Hashing D → Scheme D → (rule : List ℕ → List ℕ) → (m : ℕ) → (ℕ → Option D)
+    → (n k a b : ℕ) → Result (Proof F D Peaks Heights) E → Type 0
+IsHonestPast h s rule m node n k a b answer = ForShown h rule m node (λ xs. n ≤ length xs → IsHonestAnswer s k a b answer (take n xs))
+
+-- and for locations
+abbrev pub IsHonestMultiFor : {F D E Peaks Heights : Type 0} → Scheme D → (m : ℕ) → (ℕ → Option D) → (k : ℕ) → List ℕ
+    → Result (Proof F D Peaks Heights) E → Type 0
+IsHonestMultiFor s m node k locations answer = ForShown s.hashing s.rule m node (IsHonestMultiAnswer s k locations answer)
+
+-- a proof is answered, unless memory is refused: of a range of the n leaves, of one of those of m nodes, of locations of these
+abbrev pub GrantsHistorical : {F T D : Type 0} → (rule : List ℕ → List ℕ) → (max_leaves : ℕ) → (ℕ → Option D) → (n a b k : ℕ)
+    → Result T (Error F) → Type 0
+GrantsHistorical rule max_leaves node n a b k answer = ForHistoricalRange rule max_leaves node n a b k (IsOkUnless answer OutOfMemory)
+
+abbrev pub GrantsRange : {F T D : Type 0} → (rule : List ℕ → List ℕ) → (max_leaves m : ℕ) → (ℕ → Option D) → (a b k : ℕ)
+    → Result T (Error F) → Type 0
+GrantsRange rule max_leaves m node a b k answer = ForReadRange rule max_leaves m node a b k (IsOkUnless answer OutOfMemory)
+
+abbrev pub GrantsLocations : {F T D : Type 0} → (rule : List ℕ → List ℕ) → (max_leaves m : ℕ) → (ℕ → Option D) → List ℕ → (k : ℕ)
+    → Result T (Error F) → Type 0
+GrantsLocations rule max_leaves m node locations k answer = ForReadLocations rule max_leaves m node locations k (IsOkUnless answer OutOfMemory)

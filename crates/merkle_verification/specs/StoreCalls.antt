@@ -33,6 +33,15 @@ ForPart r a b P = r.start ≤ a → b ≤ end_of r → P
 abbrev pub ForNonemptyPart : {D : Type 0} → RangeInput D → (a b : ℕ) → Type 0 → Type 0
 ForNonemptyPart r a b P = a < b → ForPart r a b P
 
+-- a proof with those elements of an input that lie in a..b
+abbrev pub part_input : {F D Peaks Heights : Type 0} → Proof F D Peaks Heights → RangeInput D → (a b : ℕ) → RangeInput D
+part_input p r a b =
+    record { leaves = p.leaves; inactive = p.inactive_peaks; digests = p.digests.items; start = a; elements = take (b - a) (drop (a - r.start) r.elements) }
+
+-- what is answered for a part of the input's range is accepted
+abbrev pub AcceptsPart : {F D E Peaks Heights : Type 0} → Scheme D → RangeInput D → D → (a b : ℕ) → Result (Proof F D Peaks Heights) E → Type 0
+AcceptsPart s r root a b answer = ForPart r a b (IfOk answer (λ p. AcceptsNonempty s (part_input p r a b) root))
+
 -- why a store answers no proof of a..b: there is no plan of it, or a node is pruned
 abbrev pub IsStoreRefusal : {F D : Type 0} → Scheme D → StoreValue D → (a b : ℕ) → Error F → Type 0
 IsStoreRefusal s v a b e = IsRefusal s.max_leaves v.leaves a b e
@@ -46,11 +55,6 @@ pub record IsPartProof {F D Peaks Heights : Type 0} (s : Scheme D) (v : StoreVal
   pub inactive : p.inactive_peaks ≡ v.inactive
   pub digests : p.digests.items ≡ store_proof s v a b
   pub unrefused : store_refusal s v a b ≡ None
-
--- a proof with those elements of an input that lie in a..b
-abbrev pub part_input : {F D Peaks Heights : Type 0} → Proof F D Peaks Heights → RangeInput D → (a b : ℕ) → RangeInput D
-part_input p r a b =
-    record { leaves = p.leaves; inactive = p.inactive_peaks; digests = p.digests.items; start = a; elements = take (b - a) (drop (a - r.start) r.elements) }
 
 -- of elements from location start on those that lie in a..b
 abbrev pub elements_within : (start a b : ℕ) → List (List ℕ) → List (List ℕ)

@@ -1,5 +1,5 @@
 //! Proofs over any reader of nodes.
-ghost use Rattle.std.specs.Prelude.{◌≡◌, ◌≢◌, ◌<◌, ◌≤◌, ℕ, List, Some, length, map, take, IfOk, IfErr, IsOkUnless};
+ghost use Rattle.std.specs.Prelude.{◌≡◌, ◌≢◌, ◌<◌, ◌≤◌, ℕ, List, Some, length, map, take, IfOk, IfErr};
 ghost use Rattle.std.specs.List.Sorted.{IsStrictlyIncreasing};
 ghost use Rattle.merkle_base.specs.Forest.{size};
 ghost use Rattle.merkle_base.specs.Places.{peaks_of};
@@ -10,9 +10,9 @@ ghost use Rattle.merkle_base.specs.Table.{digest_for};
 ghost use Rattle.merkle_proof.specs.Positions.{range_positions};
 ghost use Rattle.merkle_proof.specs.RangePlans.{AnswersList, IsBuildRefusal, IsBuiltProof, IsFirstMissing, list_input, IsBuiltFor};
 ghost use Rattle.merkle_verification.specs.ReaderProofs.{IsBuiltMulti};
-ghost use Rattle.merkle_verification.specs.ReaderRefusals.{IsHistoricalRefusal, IsLocationsRefusal, IsMultiRefusal};
+ghost use Rattle.merkle_verification.specs.ReaderRefusals.{IsHistoricalRefusal, IsLocationsRefusal, RefusesMulti};
 ghost use Rattle.merkle_verification.specs.ReaderRefusals.{IsReadRefusal, IsReaderRefusal, IsSizeRefusal};
-ghost use Rattle.merkle_verification.specs.ShownLists.{ForShown, IsHonestAnswer, IsHonestMultiAnswer, ForHistoricalRange, ForReadRange, ForReadLocations};
+ghost use Rattle.merkle_verification.specs.ShownLists.{IsHonestFor, IsHonestPast, IsHonestMultiFor, GrantsHistorical, GrantsRange, GrantsLocations};
 ghost use Rattle.merkle_base.specs.Refused.{UnlessMemory};
 
 use merkle_base::error::Error;
@@ -58,10 +58,10 @@ pub fn range_proof<R: Readable, H: Hasher<R::Family, Digest = R::Digest>>(
     ensures built { let s = H.scheme hasher.now in IfOk result (λ p. IsBuiltFor s (R.node reader.now) inactive p.leaves range.start range.end p) }
 
     // It is the honest proof of every list that the reader shows.
-    ensures honest { let s = H.scheme hasher.now in
-        ForShown (H.hashing hasher.now) R.Family.rule (R.size reader.now) (R.node reader.now) (IsHonestAnswer s inactive range.start range.end result) }
-    ensures held { ForReadRange R.Family.rule R.Family.MAX_LEAVES (R.size reader.now) (R.node reader.now) range.start range.end inactive
-        (IsOkUnless result Error.OutOfMemory) }
+    ensures honest { IsHonestFor (H.hashing hasher.now) (H.scheme hasher.now) R.Family.rule
+        (R.size reader.now) (R.node reader.now) inactive range.start range.end result }
+    ensures held { GrantsRange R.Family.rule R.Family.MAX_LEAVES
+        (R.size reader.now) (R.node reader.now) range.start range.end inactive result }
     ensures err { IfErr result (UnlessMemory (IsReaderRefusal R.Family.rule R.Family.MAX_NODES R.Family.MAX_LEAVES
         (R.size reader.now) range.start range.end inactive (R.node reader.now))) }
 {
@@ -99,10 +99,9 @@ pub fn historical_range_proof<R: Readable, H: Hasher<R::Family, Digest = R::Dige
     ensures built { let s = H.scheme hasher.now in IfOk result (λ p. IsBuiltFor s (R.node reader.now) inactive leaves range.start range.end p) }
 
     // It is the honest proof of the first leaves of every list that the reader shows.
-    ensures honest { let s = H.scheme hasher.now in
-        ForShown (H.hashing hasher.now) R.Family.rule (R.size reader.now) (R.node reader.now) (λ X. leaves ≤ length X → IsHonestAnswer s inactive range.start range.end result (take leaves X)) }
-    ensures held { ForHistoricalRange R.Family.rule R.Family.MAX_LEAVES (R.node reader.now) leaves range.start range.end inactive
-        (IsOkUnless result Error.OutOfMemory) }
+    ensures honest { IsHonestPast (H.hashing hasher.now) (H.scheme hasher.now) R.Family.rule
+        (R.size reader.now) (R.node reader.now) leaves inactive range.start range.end result }
+    ensures held { GrantsHistorical R.Family.rule R.Family.MAX_LEAVES (R.node reader.now) leaves range.start range.end inactive result }
     ensures err { IfErr result (UnlessMemory (IsHistoricalRefusal R.Family.rule R.Family.MAX_LEAVES leaves range.start range.end inactive
         (R.node reader.now))) }
 {
@@ -173,11 +172,11 @@ pub fn multi_proof<R: Readable>(
 
     // It is the honest proof of every list that the reader shows.
     ensures honest { (s : Scheme R.Digest) → s.rule ≡ R.Family.rule
-        → ForShown s.hashing s.rule (R.size reader.now) (R.node reader.now) (IsHonestMultiAnswer s inactive locations.now result) }
-    ensures held { ForReadLocations R.Family.rule R.Family.MAX_LEAVES (R.size reader.now) (R.node reader.now) locations.now inactive
-        (IsOkUnless result Error.OutOfMemory) }
-    ensures err { IfErr result (UnlessMemory (IsMultiRefusal R.Family.rule R.Family.MAX_NODES R.Family.MAX_LEAVES
-        (R.size reader.now) inactive locations.now (R.node reader.now))) }
+        → IsHonestMultiFor s (R.size reader.now) (R.node reader.now) inactive locations.now result }
+    ensures held { GrantsLocations R.Family.rule R.Family.MAX_LEAVES
+        (R.size reader.now) (R.node reader.now) locations.now inactive result }
+    ensures err { IfErr result (RefusesMulti R.Family.rule R.Family.MAX_NODES R.Family.MAX_LEAVES
+        (R.size reader.now) inactive locations.now (R.node reader.now)) }
 {
     match leaf_count(reader.size()) {
         Ok(leaves) => prove_locations(alloc, reader, leaves, inactive, locations),

@@ -10,7 +10,7 @@ ghost use Rattle.merkle_store_theory.specs.StoreReads.{prefix_at, suffix_at, suf
 ghost use Rattle.merkle_store_theory.specs.StoreValue.{store_of};
 ghost use Rattle.merkle_proof.specs.Input.{input_of};
 ghost use Rattle.merkle_verification.specs.PairReads.{IsPrunedAt};
-ghost use Rattle.merkle_verification.specs.StoreCalls.{IsPartProof, IsStoreRefusal, part_input, RefusesStore, ForStored, ForPart, ForNonemptyPart, IsPartChecked};
+ghost use Rattle.merkle_verification.specs.StoreCalls.{IsPartProof, IsStoreRefusal, RefusesStore, ForStored, ForNonemptyPart, AcceptsPart, IsPartChecked};
 ghost use Rattle.merkle_verification.specs.StoreMulti.{IsMultiAnswered, IsStoreMultiRefusal};
 ghost use Rattle.merkle_verification.specs.StoreParts.{FitReads, IsFoldedCount, IsInput, counts_with, parts_refusal, shorter_refusal};
 
@@ -328,12 +328,11 @@ impl<F: Family, D: Digest> ProofStore<F, D> {
         ensures err { IfErr result (λ e. e ≢ Error.OutOfMemory → IsStoreRefusal (H.scheme hasher.now) self.now range.start range.end e) }
 
         // The store of an accepted proof proves each part of its range, unless memory is refused.
-        ensures unrefused { let s = H.scheme hasher.now in
-            ForStored s self.now (λ r root. ForNonemptyPart r range.start range.end (IfErr result (λ e. e ≡ Error.OutOfMemory))) }
+        ensures unrefused { ForStored (H.scheme hasher.now) self.now (λ r root.
+            ForNonemptyPart r range.start range.end (IfErr result (λ e. e ≡ Error.OutOfMemory))) }
 
         // And the check accepts what it returns.
-        ensures accepted { let s = H.scheme hasher.now in
-            ForStored s self.now (λ r root. ForPart r range.start range.end (IfOk result (λ p. AcceptsNonempty s (part_input p r range.start range.end) root))) }
+        ensures accepted { let s = H.scheme hasher.now in ForStored s self.now (λ r root. AcceptsPart s r root range.start range.end result) }
 
         // In the words of the check: if it accepts a proof with some elements, it also accepts what the store of that proof returns,
         // with those of the elements that are in the range.

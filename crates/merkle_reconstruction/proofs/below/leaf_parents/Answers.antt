@@ -8,4 +8,4 @@ pub leaf_parent-requires-clause-parent : goal.leaf_parent-requires-clause-parent
 leaf_parent-requires-clause-parent g c = (all_item _ c.args.nodes.now c.requires c.loop-node.node-index c.loop-node-test.true c.node-item.result c.node-item.is).1
 
 pub loop-node-preserved : goal.loop-node-preserved
-loop-node-preserved g c = λ h. all_pushed _ _ _ _ c.in_ok-push.ensures.items (c.loop-node.invariant h) (c.leaf_parent.ensures h)
+loop-node-preserved g c = λ h. all_pushed _ _ _ _ c.in_ok-push.ensures.items (c.loop-node.invariant h) (c.leaf_parent.ensures.digest h)

@@ -17,7 +17,7 @@ leaf_inside-second-requires g c =
     let both = inside_children _ _ _ _ _ g.met.F.Family.lawful c.args.subtree.now c.children-left.result.0 c.children-left.result.1 c.children-left.ensures c.requires.node tall in
     inside_leaf _ _ _ _ c.children-left.result.1 both.1 (omega (arith, both.3, c.requires.parent))
 
-pub returns : goal.returns
-returns g c = λ h.
+pub returns-clause-digest : goal.returns-clause-digest
+returns-clause-digest g c = λ h.
     digest_parent _ _ h c.args.start c.args.leaves.now _ g.met.F.Family.lawful c.args.subtree.now c.children-left.result.0 c.children-left.result.1 c.children-left.ensures c.requires.node c.requires.parent _ _
     c.leaf_inside-first.ensures c.leaf_inside-second.ensures

@@ -194,9 +194,9 @@ returns-clause-complete g c =
     c.in_ok-draft.draft c.compute.new.self (drafted g at.After-compute) (filled g at.After-deref-3) (rc_slice_items c.in_ok-peaks_before.peaks_before)
     (rc_slice_items c.if-is_empty.peaks_after) (peaks_are g at.After-deref-5)
 
-pub returns-clause-stands : goal.returns-clause-stands
-returns-clause-stands g c = λ ls stands agrees.
-    let at = (goal.at.returns-clause-stands g c) in
+pub returns-clause-history : goal.returns-clause-history
+returns-clause-history g c = λ ls stands agrees.
+    let at = (goal.at.returns-clause-history g c) in
     let h = g.H.Hasher.hashing c.args.hasher.now in
     let rule = g.F.Family.rule in
     let d = c.compute.new.self in

@@ -19,9 +19,8 @@ loop-height-init g c =
       g.met.F.ParentHeights.Listed.may_go c.into_iter-height-iterator.result,
       g.met.F.ParentHeights.Listed.ends c.into_iter-height-iterator.result,
       c.push.ensures.only,
-      c.requires.at_most_64_levels,
       ([], ap g.F.ParentHeights.Listed.left c.into_iter-height-iterator.ensures.into_iter_gives ∙ c.parent_heights-height-items.ensures, omega (arith, end)),
-      subst (λ (q : ℕ). AreAdded rule g.F.Family.MAX_LEAVES (size rule c.args.leaf) q c.args.levels.now.items c.args.levels.now.items) (sym end) (added_leaf rule g.F.Family.MAX_LEAVES c.args.leaf c.args.levels.now.items),
+      subst (λ (q : ℕ). AreAdded rule g.F.Family.MAX_LEAVES (size rule c.args.leaf) q c.args.levels.now c.args.levels.now) (sym end) (added_leaf rule g.F.Family.MAX_LEAVES c.args.leaf c.args.levels.now),
       ([], items),
       omega (arith, longer),
     )
@@ -30,15 +29,15 @@ pub size-requires : goal.size-requires
 size-requires g c =
     let rule = g.F.Family.rule in
     let law = g.met.F.Family.lawful in
-    let k = c.loop-height.invariant.4 in
+    let k = c.loop-height.invariant.3 in
     let y = g.met.F.ParentHeights.Listed.gives_first _ _ _ c.in-Some.ensures.steps in
     let fit = parents_fit rule g.F.Family.MAX_LEAVES law.equal c.args.leaf c.requires.below k.0 (c.in-Some.height ∷ g.F.ParentHeights.Listed.left c.next.new.self) (ap (λ xs. k.0 ++ xs) (sym y) ∙ k.1) in
     omega (arith, fit, k.2, size_le rule (suc c.args.leaf) g.F.Family.MAX_LEAVES (omega (arith, c.requires.below)), law.size_at_limit, law.limit_fits)
 
-pub push_node-requires-clause-low : goal.push_node-requires-clause-low
-push_node-requires-clause-low g c =
+pub add-requires : goal.add-requires
+add-requires g c =
     let rule = g.F.Family.rule in
-    let k = c.loop-height.invariant.4 in
+    let k = c.loop-height.invariant.3 in
     let y = g.met.F.ParentHeights.Listed.gives_first _ _ _ c.in-Some.ensures.steps in
     let i = parent_there rule g.F.Family.MAX_LEAVES g.met.F.Family.lawful.equal c.args.leaf c.requires.below k.0 c.in-Some.height (g.F.ParentHeights.Listed.left c.next.new.self) (ap (λ xs. k.0 ++ xs) (sym y) ∙ k.1) in
     omega (arith, lawful_height rule g.F.Family.MAX_LEAVES g.F.Family.MAX_NODES g.met.F.Family.lawful i.0 _ i.1 i.2 i.3, i.4)
@@ -51,7 +50,7 @@ loop-height-preserved g c =
     let new = c.push-in-loop-height.new.self in
     let only = c.loop-height.invariant.2 in
     let more = c.push-in-loop-height.ensures.only in
-    let k = c.loop-height.invariant.4 in
+    let k = c.loop-height.invariant.3 in
     let y = g.met.F.ParentHeights.Listed.gives_first _ _ _ c.in-Some.ensures.steps in
     let left = g.F.ParentHeights.Listed.left c.next.new.self in
     let heights = ap (λ xs. k.0 ++ xs) (sym y) ∙ k.1 in
@@ -60,22 +59,21 @@ loop-height-preserved g c =
     let items = c.in_ok-push-2.ensures.pushed in
     let longer : length new.appended ≡ length self.appended + 1 = ap length items ∙ length-append self.appended (c.args.digest ∷ []) in
     let end : new.before + length new.appended ≡ suc c.size.result = omega (arith, more.0, longer, place) in
-    let so_far = c.loop-height.invariant.6 in (
+    let so_far = c.loop-height.invariant.5 in (
       g.met.F.ParentHeights.Listed.may_go c.next.new.self,
       g.met.F.ParentHeights.Listed.ends c.next.new.self,
       (more.0 ∙ only.0, more.1 ∙ only.1, more.2 ∙ only.2),
-      c.in_ok-push_node.ensures.at_most_64_levels,
       (
         k.0 ++ c.in-Some.height ∷ [],
         append_assoc k.0 (c.in-Some.height ∷ []) left ∙ heights,
         omega (arith, k.2, end, place, length-append k.0 (c.in-Some.height ∷ [])),
       ),
-      added_append rule max (size rule c.args.leaf) c.size.result (new.before + length new.appended) (omega (arith, k.2, place)) (omega (arith, end)) c.args.levels.now.items c.loop-height.levels.items c.push_node.new.levels.items
-          (subst (λ (q : ℕ). AreAdded rule max (size rule c.args.leaf) q c.args.levels.now.items c.loop-height.levels.items) place c.loop-height.invariant.5)
-          (subst (λ (q : ℕ). AreAdded rule max c.size.result q c.loop-height.levels.items c.push_node.new.levels.items) (sym end)
-          (added_parent rule max c.size.result c.in-Some.height there c.loop-height.levels.items c.push_node.new.levels.items c.in_ok-push_node.ensures.pushed)),
+      added_append rule max (size rule c.args.leaf) c.size.result (new.before + length new.appended) (omega (arith, k.2, place)) (omega (arith, end)) c.args.levels.now c.loop-height.levels c.add.new.self
+          (subst (λ (q : ℕ). AreAdded rule max (size rule c.args.leaf) q c.args.levels.now c.loop-height.levels) place c.loop-height.invariant.4)
+          (subst (λ (q : ℕ). AreAdded rule max c.size.result q c.loop-height.levels c.add.new.self) (sym end)
+          (added_parent rule max c.size.result c.in-Some.height there c.loop-height.levels c.add.new.self c.in_ok-add.ensures.pushed)),
       (so_far.0 ++ c.args.digest ∷ [], items ∙ ap (λ xs. xs ++ c.args.digest ∷ []) so_far.1 ∙ append_assoc c.args.self.now.appended (c.args.digest ∷ so_far.0) (c.args.digest ∷ [])),
-      omega (arith, longer, c.in_ok-push_node.ensures.more, c.loop-height.invariant.7),
+      omega (arith, longer, c.in_ok-add.ensures.more, c.loop-height.invariant.6),
     )
 
 pub returns-clause-only : goal.returns-clause-only
@@ -84,7 +82,7 @@ returns-clause-only g c = c.loop-height.invariant.2
 pub returns-clause-counted : goal.returns-clause-counted
 returns-clause-counted g c =
     let rule = g.F.Family.rule in
-    let k = c.loop-height.invariant.4 in
+    let k = c.loop-height.invariant.3 in
     let y = g.met.F.ParentHeights.Listed.gives_first _ _ _ c.in-None.ensures.steps in
     let fit = parents_fit rule g.F.Family.MAX_LEAVES g.met.F.Family.lawful.equal c.args.leaf c.requires.below k.0 [] (ap (λ xs. k.0 ++ xs) (sym y.0) ∙ k.1) in
     omega (arith, fit, k.2)
@@ -92,8 +90,8 @@ returns-clause-counted g c =
 pub returns-clause-listed : goal.returns-clause-listed
 returns-clause-listed g c =
     let rule = g.F.Family.rule in
-    let k = c.loop-height.invariant.4 in
+    let k = c.loop-height.invariant.3 in
     let y = g.met.F.ParentHeights.Listed.gives_first _ _ _ c.in-None.ensures.steps in
     let fit = parents_fit rule g.F.Family.MAX_LEAVES g.met.F.Family.lawful.equal c.args.leaf c.requires.below k.0 [] (ap (λ xs. k.0 ++ xs) (sym y.0) ∙ k.1) in
     let end : c.loop-height.self.before + length c.loop-height.self.appended ≡ size rule (suc c.args.leaf) = omega (arith, fit, k.2) in
-    subst (λ (q : ℕ). AreAdded rule g.F.Family.MAX_LEAVES (size rule c.args.leaf) q c.args.levels.now.items c.loop-height.levels.items) end c.loop-height.invariant.5
+    subst (λ (q : ℕ). AreAdded rule g.F.Family.MAX_LEAVES (size rule c.args.leaf) q c.args.levels.now c.loop-height.levels) end c.loop-height.invariant.4

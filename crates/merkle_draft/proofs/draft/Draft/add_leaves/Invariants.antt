@@ -8,9 +8,8 @@ abbrev pub invariant-loop-digest : goal.invariant-loop-digest
 invariant-loop-digest g l =
     (l.leaf ≡ l.fn.leaves + l.digest-index)
     × OnlyAppends l.fn.self l.self
-    × (length l.levels.items ≤ 64)
     × (l.self.before + length l.self.appended ≡ size g.F.Family.rule l.leaf)
     × ((i : ℕ) (d : g.row.D.Denot) → i < l.digest-index → slice_get l.added i ≡ Some d → slice_get l.self.appended (size g.F.Family.rule (l.fn.leaves + i) - l.fn.self.before) ≡ Some d)
-    × AreAdded g.F.Family.rule g.F.Family.MAX_LEAVES (size g.F.Family.rule l.fn.leaves) (size g.F.Family.rule l.leaf) l.fn.levels.items l.levels.items
-    × (length (from_height l.levels.items 0) + l.digest-index + length l.fn.self.appended ≡ length (from_height l.fn.levels.items 0) + length l.self.appended)
+    × AreAdded g.F.Family.rule g.F.Family.MAX_LEAVES (size g.F.Family.rule l.fn.leaves) (size g.F.Family.rule l.leaf) l.fn.levels l.levels
+    × (length (from_height l.levels 0) + l.digest-index + length l.fn.self.appended ≡ length (from_height l.fn.levels 0) + length l.self.appended)
     × ((more : List g.row.D.Denot) × (l.self.appended ≡ l.fn.self.appended ++ more))

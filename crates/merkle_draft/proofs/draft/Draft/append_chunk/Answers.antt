@@ -5,7 +5,7 @@ use Rattle.merkle_base.specs.Forest.{size}
 use Rattle.merkle_base.proofs.Nodes.{size_le}
 use Rattle.merkle_batch_theory.specs.Read.{read_over}
 use Rattle.merkle_draft.specs.DraftReads.{below, stored_node}
-use Rattle.merkle_draft.specs.Levels.{ArePlanned, from_height, level_at}
+use Rattle.merkle_draft.specs.Levels.{ArePlanned}
 use Rattle.merkle_draft.specs.NewDigests.{AreNewDigests, LacksChild}
 use Rattle.merkle_draft.specs.Settled.{IsReadyToCompute}
 use Rattle.merkle_draft.proofs.Adding.{contains_none}
@@ -18,28 +18,27 @@ pub compute_levels-requires-clause-fits : goal.compute_levels-requires-clause-fi
 compute_levels-requires-clause-fits g c =
     let rule = g.F.Family.rule in
     let law = g.met.F.Family.lawful in
-    let none = ap length (none_listed c.clear_levels.new.levels.items c.clear_levels.ensures.empty) in
+    let none = ap length (none_listed c.clear.new.self c.clear.ensures) in
     omega (
       arith,
       none,
       c.in_ok-add_leaves.ensures.total,
       c.in_ok-add_leaves.ensures.counted,
       c.add_leaves.ensures.only.0,
-      ap (λ ls. length (from_height ls 0)) c.deref.ensures.value,
       size_le rule (c.args.leaves + length c.args.added.now) g.F.Family.MAX_LEAVES c.requires.within,
       law.size_at_limit,
       law.limit_fits,
     )
 
 pub compute_levels-requires-clause-inner : goal.compute_levels-requires-clause-inner
-compute_levels-requires-clause-inner g c = λ k p listed. elim (c.in_ok-add_leaves.ensures.listed.sound k p (subst (λ ls. Contains (level_at ls k) p) c.deref.ensures.value listed)) [
-  | inl o ↦ absurd (contains_none p (subst (λ xs. Contains xs p) (c.clear_levels.ensures.empty k) o))
+compute_levels-requires-clause-inner g c = λ k p listed. elim (c.in_ok-add_leaves.ensures.listed.sound k p listed) [
+  | inl o ↦ absurd (contains_none p (subst (λ xs. Contains xs p) (c.clear.ensures k) o))
   | inr i ↦ i.2
 ]
 
 pub compute_levels-requires-clause-stored : goal.compute_levels-requires-clause-stored
-compute_levels-requires-clause-stored g c = λ k p listed. elim (c.in_ok-add_leaves.ensures.listed.sound k p (subst (λ ls. Contains (level_at ls k) p) c.deref.ensures.value listed)) [
-  | inl o ↦ absurd (contains_none p (subst (λ xs. Contains xs p) (c.clear_levels.ensures.empty k) o))
+compute_levels-requires-clause-stored g c = λ k p listed. elim (c.in_ok-add_leaves.ensures.listed.sound k p listed) [
+  | inl o ↦ absurd (contains_none p (subst (λ xs. Contains xs p) (c.clear.ensures k) o))
   | inr i ↦ omega (arith, i.1, c.in_ok-add_leaves.ensures.counted)
 ]
 
@@ -54,7 +53,7 @@ returns-clause-settled g c =
     let under = below old base in
     let more = c.args.added.now in
     let leaves : ℕ = c.args.leaves in
-    let ls = c.deref.result.now in
+    let ls = c.add_leaves.new.levels in
     let only = c.add_leaves.ensures.only in
     let same : below mid base ≡ under = λ i p. read_over (only.1 i) base p in
     on_ok c.compute_levels.result
@@ -63,7 +62,7 @@ returns-clause-settled g c =
     let end : leaves + length more ≡ n + length (ds ++ more) = omega (arith, total, length-append ds more) in
     let ready = more_ready h rule m under n ds more max mid.before ls (stored_node old) (stored_node mid) (omega (arith, end, c.requires.within)) (sized ∙ sym only.0)
     (subst (λ (s : ℕ). ArePlanned rule m n (size rule s) (n + length (ds ++ more)) ls) (sym start) (subst (λ (e : ℕ). ArePlanned rule m n (size rule leaves) e ls) end
-    (subst (ArePlanned rule m n (size rule leaves) (leaves + length more)) (sym c.deref.ensures.value) (added_planned rule m n max leaves (leaves + length more) (omega (arith, total)) c.requires.within c.clear_levels.new.levels.items _ c.clear_levels.ensures.empty c.in_ok-add_leaves.ensures.listed))))
+    (added_planned rule m n max leaves (leaves + length more) (omega (arith, total)) c.requires.within c.clear.new.self _ c.clear.ensures c.in_ok-add_leaves.ensures.listed)))
     held
     (λ p less. stored_kept old mid c.in_ok-add_leaves.ensures.kept.0 only c.in_ok-add_leaves.ensures.kept.1 p (omega (arith, less, c.requires.counted, ap (size rule) start)))
     (λ i d at. stored_later mid (size rule (n + length ds + i)) d (omega (arith, only.0, sized, size_le rule n (n + length ds + i) (omega arith)))
@@ -83,7 +82,7 @@ returns-clause-missing g c =
     let under = below old base in
     let more = c.args.added.now in
     let leaves : ℕ = c.args.leaves in
-    let ls = c.deref.result.now in
+    let ls = c.add_leaves.new.levels in
     let only = c.add_leaves.ensures.only in
     let same : below mid base ≡ under = λ i p. read_over (only.1 i) base p in
     IfErr-weaker c.compute_levels.result _ _
@@ -92,7 +91,7 @@ returns-clause-missing g c =
     let end : leaves + length more ≡ n + length (ds ++ more) = omega (arith, total, length-append ds more) in
     let ready = more_ready h rule m under n ds more max mid.before ls (stored_node old) (stored_node mid) (omega (arith, end, c.requires.within)) (sized ∙ sym only.0)
     (subst (λ (s : ℕ). ArePlanned rule m n (size rule s) (n + length (ds ++ more)) ls) (sym start) (subst (λ (e : ℕ). ArePlanned rule m n (size rule leaves) e ls) end
-    (subst (ArePlanned rule m n (size rule leaves) (leaves + length more)) (sym c.deref.ensures.value) (added_planned rule m n max leaves (leaves + length more) (omega (arith, total)) c.requires.within c.clear_levels.new.levels.items _ c.clear_levels.ensures.empty c.in_ok-add_leaves.ensures.listed))))
+    (added_planned rule m n max leaves (leaves + length more) (omega (arith, total)) c.requires.within c.clear.new.self _ c.clear.ensures c.in_ok-add_leaves.ensures.listed)))
     held
     (λ p less. stored_kept old mid c.in_ok-add_leaves.ensures.kept.0 only c.in_ok-add_leaves.ensures.kept.1 p (omega (arith, less, c.requires.counted, ap (size rule) start)))
     (λ i d at. stored_later mid (size rule (n + length ds + i)) d (omega (arith, only.0, sized, size_le rule n (n + length ds + i) (omega arith)))
@@ -103,6 +102,6 @@ returns-clause-missing g c =
 
 pub returns-clause-work : goal.returns-clause-work
 returns-clause-work g c =
-    let none = ap length (none_listed c.clear_levels.new.levels.items c.clear_levels.ensures.empty) in
+    let none = ap length (none_listed c.clear.new.self c.clear.ensures) in
     IfOk-weaker c.compute_levels.result _ _ (λ k is.
-    omega (arith, is, none, c.in_ok-add_leaves.ensures.total, c.in_ok-add_leaves.ensures.counted, c.add_leaves.ensures.only.0, c.requires.counted, ap (λ ls. length (from_height ls 0)) c.deref.ensures.value)) c.compute_levels.ensures.work
+    omega (arith, is, none, c.in_ok-add_leaves.ensures.total, c.in_ok-add_leaves.ensures.counted, c.add_leaves.ensures.only.0, c.requires.counted)) c.compute_levels.ensures.work

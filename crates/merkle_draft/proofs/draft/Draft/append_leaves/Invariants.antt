@@ -11,7 +11,6 @@ invariant-loop-chunk g l =
     (goal.iterator-loop-chunk g).can_next l.chunk-iterator
     × (goal.iterator-loop-chunk g).is_finite l.chunk-iterator
     × (l.self.before ≡ l.fn.self.before) × (l.self.kept ≡ l.fn.self.kept)
-    × (length l.levels.items ≤ 64)
     × ((p : ℕ) → l.fn.self.before ≤ p → get l.self.overwritten p ≡ get l.fn.self.overwritten p)
     × (l.self.before + length l.self.appended ≡ size g.F.Family.rule l.leaf)
     × (done : List g.row.D.Denot) × (done ++ chunks_rest l.chunk-iterator ≡ l.added)

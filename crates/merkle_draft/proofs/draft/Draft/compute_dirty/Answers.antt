@@ -12,26 +12,26 @@ use Rattle.merkle_draft.proofs.draft.Draft.compute_dirty.Goals as goal
 
 pub compute_levels-requires-clause-fits : goal.compute_levels-requires-clause-fits
 compute_levels-requires-clause-fits g c =
-    let m = c.requires.of.0 in
-    let none = ap (λ ls. length (from_height ls 0)) c.new-levels.ensures.items in
-    let marked = c.in_ok-mark_peaks.ensures.marked m c.requires.of.3 in
-    omega (arith, none, marked.counted, ap (λ ls. length (from_height ls 0)) c.deref.ensures.value, dirty_few g.F.Family.rule g.F.Family.MAX_LEAVES g.F.Family.MAX_NODES g.met.F.Family.lawful m c.args.leaves c.requires.within)
+    let m = c.requires.updates_are_leaves.0 in
+    let none = ap (λ ls. length (from_height ls 0)) c.new-levels.ensures in
+    let marked = c.in_ok-mark_peaks.ensures m c.requires.updates_are_leaves.3 in
+    omega (arith, none, marked.counted, dirty_few g.F.Family.rule g.F.Family.MAX_LEAVES g.F.Family.MAX_NODES g.met.F.Family.lawful m c.args.leaves c.requires.within)
 
 pub compute_levels-requires-clause-inner : goal.compute_levels-requires-clause-inner
 compute_levels-requires-clause-inner g c =
     let rule = g.F.Family.rule in
-    let m = c.requires.of.0 in
+    let m = c.requires.updates_are_leaves.0 in
     let n = c.args.leaves in
-    let marked = subst (λ ls. AreMarked m (peaks_of rule n) ls c.deref.result.now) c.new-levels.ensures.items (subst (AreMarked m (peaks_of rule n) c.new-levels.result.items) (sym c.deref.ensures.value) (c.in_ok-mark_peaks.ensures.marked m c.requires.of.3)) in
-    listed_inner rule g.F.Family.MAX_LEAVES m n 0 n c.deref.result.now c.requires.within (dirty_planned rule m n c.deref.result.now marked)
+    let marked = subst (λ ls. AreMarked m (peaks_of rule n) ls c.mark_peaks.new.levels) c.new-levels.ensures (c.in_ok-mark_peaks.ensures m c.requires.updates_are_leaves.3) in
+    listed_inner rule g.F.Family.MAX_LEAVES m n 0 n c.mark_peaks.new.levels c.requires.within (dirty_planned rule m n c.mark_peaks.new.levels marked)
 
 pub compute_levels-requires-clause-stored : goal.compute_levels-requires-clause-stored
 compute_levels-requires-clause-stored g c = λ k p there.
     let rule = g.F.Family.rule in
-    let m = c.requires.of.0 in
+    let m = c.requires.updates_are_leaves.0 in
     let n = c.args.leaves in
-    let marked = subst (λ ls. AreMarked m (peaks_of rule n) ls c.deref.result.now) c.new-levels.ensures.items (subst (AreMarked m (peaks_of rule n) c.new-levels.result.items) (sym c.deref.ensures.value) (c.in_ok-mark_peaks.ensures.marked m c.requires.of.3)) in
-    omega (arith, c.requires.sized, listed_below rule g.F.Family.MAX_LEAVES m n 0 n c.deref.result.now c.requires.within (dirty_planned rule m n c.deref.result.now marked) k p there)
+    let marked = subst (λ ls. AreMarked m (peaks_of rule n) ls c.mark_peaks.new.levels) c.new-levels.ensures (c.in_ok-mark_peaks.ensures m c.requires.updates_are_leaves.3) in
+    omega (arith, c.requires.sized, listed_below rule g.F.Family.MAX_LEAVES m n 0 n c.mark_peaks.new.levels c.requires.within (dirty_planned rule m n c.mark_peaks.new.levels marked) k p there)
 
 pub returns-clause-settled : goal.returns-clause-settled
 returns-clause-settled g c =
@@ -40,10 +40,10 @@ returns-clause-settled g c =
     let self = c.args.self.now in
     let under = below self (g.B.Base.contents c.args.base.now) in
     let n : ℕ = c.args.leaves in
-    let ls = c.deref.result.now in
+    let ls = c.mark_peaks.new.levels in
     on_ok c.compute_levels.result
     (λ settled m of old listed.
-    (let marked = subst (λ ks. AreMarked m (peaks_of rule n) ks ls) c.new-levels.ensures.items (subst (AreMarked m (peaks_of rule n) c.new-levels.result.items) (sym c.deref.ensures.value) (c.in_ok-mark_peaks.ensures.marked m listed)) in
+    (let marked = subst (λ ks. AreMarked m (peaks_of rule n) ks ls) c.new-levels.ensures (c.in_ok-mark_peaks.ensures m listed) in
     let ready = dirty_ready h rule g.F.Family.MAX_LEAVES m under n self.before ls c.requires.within c.requires.sized (dirty_planned rule m n ls marked) of (stored_node self)
     (λ q low. ap (λ b. cond b (get self.overwritten q) (slice_get self.appended (q - self.before))) (lt-ltb q self.before (omega (arith, low, c.requires.sized))) ∙ old q) in
     all_settled h rule m under n [] (stored_node c.compute_levels.new.self) (settled m n [] 0 ready)))
@@ -56,11 +56,11 @@ returns-clause-missing g c =
     let self = c.args.self.now in
     let under = below self (g.B.Base.contents c.args.base.now) in
     let n : ℕ = c.args.leaves in
-    let ls = c.deref.result.now in
+    let ls = c.mark_peaks.new.levels in
     let e : n + length {A = g.row.D.Denot} [] ≡ n = omega arith in
     IfErr-weaker c.compute_levels.result _ _
     (λ error lacks other m of old listed.
-    (let marked = subst (λ ks. AreMarked m (peaks_of rule n) ks ls) c.new-levels.ensures.items (subst (AreMarked m (peaks_of rule n) c.new-levels.result.items) (sym c.deref.ensures.value) (c.in_ok-mark_peaks.ensures.marked m listed)) in
+    (let marked = subst (λ ks. AreMarked m (peaks_of rule n) ks ls) c.new-levels.ensures (c.in_ok-mark_peaks.ensures m listed) in
     let ready = dirty_ready h rule g.F.Family.MAX_LEAVES m under n self.before ls c.requires.within c.requires.sized (dirty_planned rule m n ls marked) of (stored_node self)
     (λ q low. ap (λ b. cond b (get self.overwritten q) (slice_get self.appended (q - self.before))) (lt-ltb q self.before (omega (arith, low, c.requires.sized))) ∙ old q) in
     subst (λ (x : ℕ). LacksChild rule m under n x error) e (lacks other m n [] 0 ready)))
@@ -68,6 +68,5 @@ returns-clause-missing g c =
 
 pub returns-clause-work : goal.returns-clause-work
 returns-clause-work g c =
-    let none = ap (λ ls. length (from_height ls 0)) c.new-levels.ensures.items in
-    let value = ap (λ ls. length (from_height ls 0)) c.deref.ensures.value in
-    IfOk-weaker c.compute_levels.result _ _ (λ k is m listed. omega (arith, is, value, none, (c.in_ok-mark_peaks.ensures.marked m listed).counted)) c.compute_levels.ensures.work
+    let none = ap (λ ls. length (from_height ls 0)) c.new-levels.ensures in
+    IfOk-weaker c.compute_levels.result _ _ (λ k is m listed. omega (arith, is, none, (c.in_ok-mark_peaks.ensures m listed).counted)) c.compute_levels.ensures.work

@@ -78,5 +78,5 @@ returns-clause-answered g c = λ given word held.
       held_with h rule most old.committed old.pending old.list.items old.edits.items given held _ c.in-Ok-add_leaf_digest.value _ _ (with_element (changes given) element) (c.keep.ensures.kept ∙ c.take_pending.ensures.kept)
           (subst (λ b. Makes h rule (leaf_digests h rule 0 given.committed) b (with_element (changes given) element)) (sym more) (makes_more h rule _ c.in-Ok.value (changes given) makes element))
           (c.keep.ensures.listed ∙ c.take_pending.ensures.listed) edits,
-      add_done (scheme_of h c.args.self.now.hasher g.F.Family.rule g.F.Family.MAX_LEAVES g.F.Family.DOMAIN) g.H.Digest.Digest.SIZE g.H.Digest.Digest.Spells given c.args.digits element c.as_u64.result _ c.in-Ok-read_hex.ensures.value (c.as_u64.ensures ∙ count ∙ total) (omega (arith, c.in-Ok-add_leaf_digest.ensures.room, c.as_u64.ensures, count)) refl,
+      add_done (scheme_of h c.args.self.now.hasher g.F.Family.rule g.F.Family.MAX_LEAVES g.F.Family.DOMAIN) g.H.Digest.Digest.SIZE g.H.Digest.Digest.Spells given c.args.digits element c.as_u64.result _ c.in-Ok-read_hex.ensures.value (c.as_u64.ensures ∙ count ∙ total) (omega (arith, c.in-Ok-add_leaf_digest.ensures.within_max_leaves, c.as_u64.ensures, count)) refl,
     )

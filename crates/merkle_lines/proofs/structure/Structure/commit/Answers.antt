@@ -70,7 +70,7 @@ returns-in-Err-apply_batch-clause-answered g c = λ given held.
     let is : chain ≡ c.in-Ok-merkleize.value.value = c.deref.ensures in
     let stands : IsHistory h rule (records chain) (kept_lists c.in-Ok.value (list ∷ list ∷ []) ++ pending_list rule c.in-Ok.value list ∷ []) =
     subst (λ k. IsHistory h rule (records k) (kept_lists c.in-Ok.value (list ∷ list ∷ []) ++ pending_list rule c.in-Ok.value list ∷ [])) (sym is)
-    (c.in-Ok-merkleize.ensures.stands (list ∷ list ∷ []) (made_stands h rule list c.in-Ok.value (changes given) makes) (made_base h rule list c.in-Ok.value (changes given) makes new.committed held-new.agrees)) in
+    (c.in-Ok-merkleize.ensures.history (list ∷ list ∷ []) (made_stands h rule list c.in-Ok.value (changes given) makes) (made_base h rule list c.in-Ok.value (changes given) makes new.committed held-new.agrees)) in
     let counted : new.committed.leaves ≡ length list = list_count h rule most new.committed old.pending old.list.items old.edits.items given held-new in
     let memory : c.in-Err-apply_batch.error ≡ OutOfMemory =
     c.in-Err-apply_batch.ensures.accepted
@@ -96,7 +96,7 @@ returns-clause-answered g c = λ given held.
     let is : chain ≡ c.in-Ok-merkleize.value.value = c.deref.ensures in
     let stands : IsHistory h rule (records chain) (kept_lists c.in-Ok.value (list ∷ list ∷ []) ++ pending_list rule c.in-Ok.value list ∷ []) =
     subst (λ k. IsHistory h rule (records k) (kept_lists c.in-Ok.value (list ∷ list ∷ []) ++ pending_list rule c.in-Ok.value list ∷ [])) (sym is)
-    (c.in-Ok-merkleize.ensures.stands (list ∷ list ∷ []) (made_stands h rule list c.in-Ok.value (changes given) makes) (made_base h rule list c.in-Ok.value (changes given) makes new.committed held-new.agrees)) in
+    (c.in-Ok-merkleize.ensures.history (list ∷ list ∷ []) (made_stands h rule list c.in-Ok.value (changes given) makes) (made_base h rule list c.in-Ok.value (changes given) makes new.committed held-new.agrees)) in
     let counted : new.committed.leaves ≡ length list = list_count h rule most new.committed old.pending old.list.items old.edits.items given held-new in
     let next = c.apply_batch.new.self in
     let done = made_applied h rule list c.in-Ok.value (changes given) makes new.committed held-new.agrees chain stands (contents next) (ap (λ (k : MerkleizedModel g.row.H-Digest.Denot). k.ancestors) is ∙ c.in-Ok-merkleize.ensures.fork.2)

@@ -20,5 +20,5 @@ returns-in-Ok-merkleize-clause-of_list g c =
     rw (g.met.H.Hasher.scheme_is c.args.hasher.now) (record {
       leaves = omega (arith, c.in-Ok-merkleize.ensures.counted.0, ap leaf_total q_is);
       history = added_history h rule (contents m) X c.in-Ok-merkleize.nodes.value c.in-Ok-add_leaf_digests.batch q_is agrees
-          (subst (λ (p : UnmerkleizedModel _). IsHistory h rule (records p.parent) ([] ∷ [] ∷ [])) first (c.in-Ok.ensures.of_list h [] agrees)) c.in-Ok-merkleize.ensures.stands;
+          (subst (λ (p : UnmerkleizedModel _). IsHistory h rule (records p.parent) ([] ∷ [] ∷ [])) first (c.in-Ok.ensures.of_list h [] agrees)) c.in-Ok-merkleize.ensures.history;
     })

@@ -1,4 +1,0 @@
-use Rattle.merkle_draft.proofs.plan.+mark.Given as goal
-
-abbrev pub decreases-mark : goal.decreases-mark
-decreases-mark g l = l.subtree.now.height
