@@ -22,7 +22,7 @@ pub use Rattle.merkle_forest_theory.specs.Mmr
 pub use Rattle.merkle_digest.specs.Bytes
 pub mod DigestLaws
 pub use Rattle.merkle_sha256.specs.Together
-pub mod PlainHashings
+pub use Rattle.merkle_sha256.specs.PlainHashings
 pub use Rattle.merkle_topology.specs.BeltIterators
 pub use Rattle.merkle_topology.specs.Perfect
 pub use Rattle.merkle_hasher.specs.Path

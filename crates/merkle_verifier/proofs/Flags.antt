@@ -1,11 +1,11 @@
 -- The scheme that two flags name.
 use Rattle.std.proofs.Common.{◌≡◌, ◌+◌, ◌^◌, Bool, true, false, sym, subst}
 use Rattle.merkle_base.specs.declared.family.Bagging.{Bagging}
-use Rattle.merkle_core.specs.Mmb.{mmb_merges}
-use Rattle.merkle_core.specs.Mmr.{mmr_merges}
-use Rattle.merkle_core.specs.Scheme.{Scheme, scheme_of}
+use Rattle.merkle_forest_theory.specs.Mmb.{mmb_merges}
+use Rattle.merkle_forest_theory.specs.Mmr.{mmr_merges}
+use Rattle.merkle_base.specs.Scheme.{Scheme, scheme_of}
 use Rattle.merkle_sha256.specs.declared.sha256.Sha256Digest.{Sha256Digest}
-use Rattle.merkle_core.specs.PlainHashings.{sha256_hashing}
+use Rattle.merkle_sha256.specs.PlainHashings.{sha256_hashing}
 use Rattle.merkle_verifier.specs.Schemes.{bagging_of, sha256_scheme}
 
 pub by_belt : (P : Scheme Sha256Digest → Type 0) (is_belt is_backward : Bool) (bagging : Bagging) → bagging ≡ bagging_of is_backward → is_belt ≡ true

@@ -1,11 +1,11 @@
 -- Elements with their locations.
 use Rattle.std.proofs.Common.{◌≡◌, ℕ, List, [], ◌∷◌, ◌++◌, map, refl, ap}
 use Rattle.std.specs.Borrow.{Bor}
-use Rattle.merkle_core.specs.Forest.{size}
-use Rattle.merkle_core.specs.Hashing.{Hashing}
-use Rattle.merkle_core.specs.Input.{element_leaves}
-use Rattle.merkle_core.specs.Multiproof.{MultiInput}
-use Rattle.merkle_core.specs.Walk.{bytes_of}
+use Rattle.merkle_base.specs.Forest.{size}
+use Rattle.merkle_base.specs.Hashing.{Hashing}
+use Rattle.merkle_proof.specs.Input.{element_leaves}
+use Rattle.merkle_claim_theory.specs.Multiproof.{MultiInput}
+use Rattle.merkle_root_theory.specs.Walk.{bytes_of}
 use Rattle.merkle_verifier.specs.Inputs.{located, located_leaves}
 
 -- their leaf digests

@@ -1,15 +1,15 @@
 -- What the answers of the checks mean, of their arguments alone.
 use Rattle.std.specs.Prelude.{◌≡◌, ◌≢◌, ◌≤◌, ◌⊎◌, ℕ, List, [], ◌∷◌, length, take, Ok}
-use Rattle.merkle_core.specs.Check.{RangeInput}
-use Rattle.merkle_core.specs.CheckAnswers.{GivesRoot}
-use Rattle.merkle_core.specs.LeafDigests.{range_input}
-use Rattle.merkle_core.specs.Multiproof.{MultiInput, AcceptsMulti, IsHonestMulti, MultiCollides}
-use Rattle.merkle_core.specs.Pinned.{AcceptsPinned, IsHonestPinned, PinnedCollides}
-use Rattle.merkle_core.specs.Range.{ForRootOf, IsHonestRange, RangeCollides}
-use Rattle.merkle_core.specs.Reconstruction.{reconstructed}
-use Rattle.merkle_core.specs.Places.{peaks_of}
-use Rattle.merkle_core.specs.Root.{list_root}
-use Rattle.merkle_core.specs.Scheme.{Scheme}
+use Rattle.merkle_root_theory.specs.Check.{RangeInput}
+use Rattle.merkle_claim_theory.specs.CheckAnswers.{GivesRoot}
+use Rattle.merkle_range.specs.Input.{range_input}
+use Rattle.merkle_claim_theory.specs.Multiproof.{MultiInput, AcceptsMulti, IsHonestMulti, MultiCollides}
+use Rattle.merkle_claim_theory.specs.Pinned.{AcceptsPinned, IsHonestPinned, PinnedCollides}
+use Rattle.merkle_root_theory.specs.Range.{ForRootOf, IsHonestRange, RangeCollides}
+use Rattle.merkle_root_theory.specs.Reconstruction.{reconstructed}
+use Rattle.merkle_base.specs.Places.{peaks_of}
+use Rattle.merkle_base.specs.Root.{list_root}
+use Rattle.merkle_base.specs.Scheme.{Scheme}
 use Rattle.merkle_sha256.specs.declared.sha256.Sha256Digest.{Sha256Digest}
 use Rattle.merkle_verifier.specs.Inputs.{digest_bytes, joined_digests, IsSpelled, IsCut, located_input}
 

@@ -2,11 +2,11 @@
 use Rattle.std.specs.Prelude.{◌≡◌, ℕ, suc, ◌^◌, ◌<◌, ◌≤◌, List, [], ◌∷◌, length, map}
 use Rattle.std.specs.Borrow.{Bor}
 use Rattle.std.specs.List.{flat_map}
-use Rattle.merkle_core.specs.Forest.{size}
-use Rattle.merkle_core.specs.Hashing.{Hashing}
-use Rattle.merkle_core.specs.Multiproof.{MultiInput}
-use Rattle.merkle_core.specs.ProofSpelling.{parts_spelling}
-use Rattle.merkle_core.specs.Scheme.{Scheme}
+use Rattle.merkle_base.specs.Forest.{size}
+use Rattle.merkle_base.specs.Hashing.{Hashing}
+use Rattle.merkle_claim_theory.specs.Multiproof.{MultiInput}
+use Rattle.merkle_codec.specs.ProofSpelling.{parts_spelling}
+use Rattle.merkle_base.specs.Scheme.{Scheme}
 use Rattle.merkle_sha256.specs.declared.sha256.Sha256Digest.{Sha256Digest}
 
 -- the bytes of a digest

@@ -1,9 +1,9 @@
 -- What is hashed by the checks: SHA-256, by family and bagging.
 use Rattle.std.specs.Prelude.{ℕ, Bool, true, false, ◌^◌, ◌+◌}
-use Rattle.merkle_core.specs.Mmb.{mmb_merges}
-use Rattle.merkle_core.specs.Mmr.{mmr_merges}
-use Rattle.merkle_core.specs.PlainHashings.{sha256_hashing}
-use Rattle.merkle_core.specs.Scheme.{Scheme, scheme_of}
+use Rattle.merkle_forest_theory.specs.Mmb.{mmb_merges}
+use Rattle.merkle_forest_theory.specs.Mmr.{mmr_merges}
+use Rattle.merkle_sha256.specs.PlainHashings.{sha256_hashing}
+use Rattle.merkle_base.specs.Scheme.{Scheme, scheme_of}
 use Rattle.merkle_base.specs.declared.family.Bagging.{Bagging}
 use Rattle.merkle_base.specs.declared.family.Bagging.TheVariants.{ForwardFold, BackwardFold}
 use Rattle.merkle_sha256.specs.declared.sha256.Sha256Digest.{Sha256Digest}

@@ -2,7 +2,7 @@
 use Rattle.std.specs.Prelude.{◌≡◌, ◌≢◌, ◌⊎◌, ℕ, ◌-◌, ◌^◌, ◌≤◌, ◌<◌, List, [], ◌++◌, length}
 use Rattle.merkle_base.specs.declared.error.DecodeError.{DecodeError}
 use Rattle.merkle_base.specs.declared.error.DecodeError.TheVariants.{EndOfBuffer, InvalidVarint, Invalid, TooMany, OutOfMemory}
-use Rattle.merkle_core.specs.ProofSpelling.{parts_spelling, IsProofReadRefusal}
+use Rattle.merkle_codec.specs.ProofSpelling.{parts_spelling, IsProofReadRefusal}
 use Rattle.merkle_verifier.specs.Answers.{yes, malformed, out_of_memory}
 use Rattle.merkle_verifier.specs.Inputs.{digest_bytes, IsSpelled}
 use Rattle.merkle_sha256.specs.declared.sha256.Sha256Digest.{Sha256Digest}

@@ -1,17 +1,18 @@
 //! The checks, over proofs, roots and elements that are given as bytes.
 ghost use Rattle.std.specs.Prelude.{◌≡◌, ◌↔◌, IsTrue};
-ghost use Rattle.merkle_core.specs.Scheme.{scheme_of};
-ghost use Rattle.merkle_core.specs.CheckAnswers.{GivesRoot};
+ghost use Rattle.merkle_base.specs.Scheme.{scheme_of};
+ghost use Rattle.merkle_claim_theory.specs.CheckAnswers.{GivesRoot};
 ghost use Rattle.merkle_verifier.specs.Answers.{IsElementAnswer, IsRangeAnswer, IsScatteredAnswer, IsPinnedAnswer, IsGrowthAnswer};
-ghost use Rattle.merkle_core.specs.PlainHashings.{sha256_hashing};
+ghost use Rattle.merkle_sha256.specs.PlainHashings.{sha256_hashing};
 
 use crate::answer::{NO, NOT_A_DIGEST, OUT_OF_MEMORY, WRONG_LENGTHS, YES};
 use crate::parts::{cut, locate, read_digests};
 use crate::read::read_proof;
-use merkle_core::digest::{Digest, Sha256Digest, Sha256Plain};
-use merkle_core::family::Family;
-use merkle_core::hasher::{Hasher, Standard};
-use merkle_core::location::Location;
+use merkle_base::family::Family;
+use merkle_base::location::Location;
+use merkle_digest::digest::Digest;
+use merkle_hasher::hasher::{Hasher, Standard};
+use merkle_sha256::sha256::{Sha256Digest, Sha256Plain};
 use std::alloc::Global;
 
 /// A root that is trusted, and what it was made for.

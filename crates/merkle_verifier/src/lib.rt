@@ -17,10 +17,10 @@ ghost use Rattle.merkle_verifier.specs.Unread.{IsReadAnswer};
 use crate::answer::YES;
 use crate::checks::{Elements, OldRoot, check_element, check_growth, check_range, check_scattered};
 use crate::read::read_proof;
-use merkle_core::digest::Sha256Plain;
-use merkle_core::family::{Bagging, Family};
-use merkle_core::hasher::Standard;
-use merkle_core::{mmb, mmr};
+use merkle_base::family::{Bagging, Family};
+use merkle_hasher::hasher::Standard;
+use merkle_sha256::sha256::Sha256Plain;
+use merkle_topology::{mmb, mmr};
 use std::alloc::Global;
 
 // The hasher with the bagging that a flag names.

@@ -1,11 +1,12 @@
 //! Elements and digests that are given in one buffer.
 ghost use Rattle.std.specs.Prelude.{◌≡◌, ℕ, List, IfOk, IfSome, IsNone, length};
-ghost use Rattle.merkle_core.specs.Walk.{bytes_of};
+ghost use Rattle.merkle_root_theory.specs.Walk.{bytes_of};
 ghost use Rattle.merkle_verifier.specs.Inputs.{IsCut, joined_digests, located};
 ghost use Rattle.merkle_sha256.specs.declared.sha256.Sha256Digest.{Sha256Digest};
 
-use merkle_core::digest::{Digest, Sha256Digest};
-use merkle_core::location::Location;
+use merkle_base::location::Location;
+use merkle_digest::digest::Digest;
+use merkle_sha256::sha256::Sha256Digest;
 use std::alloc::{AllocError, Global};
 
 /// Cuts bytes into parts of these lengths, in their order.

@@ -6,11 +6,11 @@ ghost use Rattle.merkle_verifier.specs.Unread.{IsUnread, refused_answer, reason}
 use crate::answer::{
     END_OF_BUFFER, INVALID, INVALID_VARINT, MALFORMED, OUT_OF_MEMORY, TOO_MANY, TRAILING,
 };
-use merkle_core::codec::Read;
-use merkle_core::digest::Sha256Digest;
-use merkle_core::error::DecodeError;
-use merkle_core::family::Family;
-use merkle_core::proof::Proof;
+use merkle_base::error::DecodeError;
+use merkle_base::family::Family;
+use merkle_codec::codec::Read;
+use merkle_proof::proof::Proof;
+use merkle_sha256::sha256::Sha256Digest;
 use std::alloc::Global;
 
 /// Why bytes are not read as a proof.

@@ -1,12 +1,12 @@
 use Rattle.std.proofs.Common.{◌≡◌, List, ℕ, sym, ap, subst, refl, inl, inr, rules}
 use Rattle.std.specs.Prelude.{IfSome, IsNone}
 use Rattle.merkle_codec.specs.NumberLaws.{lawful_locations}
-use Rattle.merkle_core.specs.LeafDigests.{range_input}
-use Rattle.merkle_core.specs.Scheme.{scheme_of}
-use Rattle.merkle_core.specs.Walk.{bytes_of}
+use Rattle.merkle_range.specs.Input.{range_input}
+use Rattle.merkle_base.specs.Scheme.{scheme_of}
+use Rattle.merkle_root_theory.specs.Walk.{bytes_of}
 use Rattle.merkle_verifier.specs.Answers.{JudgesRange, no, yes}
 use Rattle.merkle_verifier.specs.Inputs.{IsCut}
-use Rattle.merkle_core.specs.PlainHashings.{sha256_hashing}
+use Rattle.merkle_sha256.specs.PlainHashings.{sha256_hashing}
 use Rattle.merkle_verifier.proofs.Spelled.{unread}
 use Rattle.merkle_verifier.proofs.checks.check_range.Goals as goal
 

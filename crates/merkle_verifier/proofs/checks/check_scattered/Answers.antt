@@ -1,12 +1,12 @@
 use Rattle.std.proofs.Common.{◌≡◌, List, ℕ, length, sym, ap, subst, refl, inl, inr, rules, ◌∙◌}
 use Rattle.std.specs.Prelude.{IfSome, IsNone}
 use Rattle.merkle_codec.specs.NumberLaws.{lawful_locations}
-use Rattle.merkle_core.specs.Input.{element_leaves}
-use Rattle.merkle_core.specs.Scheme.{scheme_of}
-use Rattle.merkle_core.specs.Walk.{bytes_of}
+use Rattle.merkle_proof.specs.Input.{element_leaves}
+use Rattle.merkle_base.specs.Scheme.{scheme_of}
+use Rattle.merkle_root_theory.specs.Walk.{bytes_of}
 use Rattle.merkle_verifier.specs.Answers.{JudgesMulti, no, yes}
 use Rattle.merkle_verifier.specs.Inputs.{IsCut, located, located_input, located_leaves}
-use Rattle.merkle_core.specs.PlainHashings.{sha256_hashing}
+use Rattle.merkle_sha256.specs.PlainHashings.{sha256_hashing}
 use Rattle.merkle_verifier.proofs.Located.{element_leaves-located, input_with}
 use Rattle.merkle_verifier.proofs.Spelled.{unread}
 use Rattle.merkle_verifier.proofs.checks.check_scattered.Goals as goal

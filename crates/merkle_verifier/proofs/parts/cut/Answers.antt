@@ -2,7 +2,7 @@ use Rattle.std.proofs.Common.{◌≡◌, ◌++◌, ◌∷◌, [], ◌+◌, ◌<�
 use Rattle.std.proofs.lemmas.List.{map-append}
 use Rattle.std.proofs.Math.ListN.{drop_of_length-le}
 use Rattle.std.proofs.Math.Seq.{drop-cons}
-use Rattle.merkle_core.specs.Walk.{bytes_of}
+use Rattle.merkle_root_theory.specs.Walk.{bytes_of}
 use Rattle.merkle_verifier.proofs.Cuts.{CutSoFar, cut_goes, cut_ends, cut_of_more, cut_of_fewer}
 use Rattle.merkle_verifier.proofs.Spelled.{no_bytes, some_length}
 use Rattle.merkle_verifier.proofs.parts.cut.Goals as goal

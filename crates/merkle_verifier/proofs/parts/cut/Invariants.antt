@@ -1,5 +1,5 @@
 use Rattle.std.proofs.Common.{◌≡◌, ◌≤◌, length, drop}
-use Rattle.merkle_core.specs.Walk.{bytes_of}
+use Rattle.merkle_root_theory.specs.Walk.{bytes_of}
 use Rattle.merkle_verifier.proofs.Cuts.{CutSoFar}
 use Rattle.merkle_verifier.proofs.parts.cut.Given as goal
 
