@@ -1,7 +1,7 @@
 //! Audits of the proof of a list's last leaves, measured beside computing the list's nodes.
 
 use crate::stopwatch::Stopwatch;
-use merkle_core::digest::{PlainHasher, Sha256Plain, Xor8};
+use merkle_core::digest::{Sha256Plain, Xor8};
 use merkle_core::family::{Bagging, Family};
 use merkle_core::hasher::{Hasher, Standard};
 use merkle_core::location::Location;
@@ -26,9 +26,9 @@ pub struct Audited {
 }
 
 // The leaf digests of a list.
-fn leaf_digests<F: Family, H: PlainHasher>(
+fn leaf_digests<F: Family, H: Hasher<F>>(
     alloc: Global,
-    hasher: &Standard<H>,
+    hasher: &H,
     leaves: u64,
 ) -> Option<Vec<H::Digest>> {
     let mut list = Vec::new(alloc);
@@ -52,11 +52,11 @@ fn last_elements(alloc: Global, audited: &Audited) -> Option<Vec<u8>> {
 }
 
 // Computes the nodes of a list, and proves the leaves from a location on. The nodes are dropped.
-fn prove<F: Family, H: PlainHasher, C: CpuClock>(
+fn prove<F: Family, H: Hasher<F>, C: CpuClock>(
     alloc: Global,
     watch: &mut Stopwatch<C>,
     name: &'static str,
-    hasher: &Standard<H>,
+    hasher: &H,
     list: &[H::Digest],
     start: Location<F>,
 ) -> Option<Proof<F, H::Digest>> {
@@ -72,10 +72,10 @@ fn prove<F: Family, H: PlainHasher, C: CpuClock>(
 }
 
 // Audits a proof with elements, whose bytes are given.
-fn audit<F: Family, H: PlainHasher, C: CpuClock>(
+fn audit<F: Family, H: Hasher<F>, C: CpuClock>(
     watch: &mut Stopwatch<C>,
     row: (&'static str, &'static str),
-    hasher: &Standard<H>,
+    hasher: &H,
     list: &[H::Digest],
     proof: &Proof<F, H::Digest>,
     start: Location<F>,
@@ -101,25 +101,25 @@ fn change(bytes: &mut Vec<u8>) {
 }
 
 // Audits the honest proof of the last leaves, and the same proof with other elements, in one round.
-fn measure_one<F: Family, H: PlainHasher, C: CpuClock>(
+fn measure_one<F: Family, H: Hasher<F>, C: CpuClock>(
     alloc: Global,
     watch: &mut Stopwatch<C>,
     name: &'static str,
+    hasher: &H,
     audited: &Audited,
 ) -> Option<()> {
-    let hasher: Standard<H> = Standard::new(Bagging::ForwardFold);
-    let list = leaf_digests::<F, H>(alloc, &hasher, audited.leaves)?;
+    let list = leaf_digests(alloc, hasher, audited.leaves)?;
     let start = Location::new(audited.leaves.saturating_sub(audited.proved));
     let mut bytes = last_elements(alloc, audited)?;
-    let proof = prove::<F, H, C>(alloc, watch, name, &hasher, &list, start)?;
+    let proof = prove(alloc, watch, name, hasher, &list, start)?;
     let honest = (name, "audit of an honest proof");
-    match audit(watch, honest, &hasher, &list, &proof, start, &bytes)? {
+    match audit(watch, honest, hasher, &list, &proof, start, &bytes)? {
         Verdict::Honest => (),
         _ => watch.is_whole = false,
     }
     change(&mut bytes);
     let changed = (name, "audit with other elements");
-    match audit(watch, changed, &hasher, &list, &proof, start, &bytes)? {
+    match audit(watch, changed, hasher, &list, &proof, start, &bytes)? {
         Verdict::Honest => watch.is_whole = false,
         _ => (),
     }
@@ -133,11 +133,13 @@ pub fn measure_audits<C: CpuClock>(
     watch: &mut Stopwatch<C>,
     audited: &Audited,
 ) -> Option<()> {
+    let sha256 = Standard::<Sha256Plain>::new(Bagging::ForwardFold);
+    let xor8 = Standard::<Xor8>::new(Bagging::ForwardFold);
     for _ in 0..audited.rounds {
-        measure_one::<mmr::Family, Sha256Plain, C>(alloc, watch, "mmr sha256", audited)?;
-        measure_one::<mmb::Family, Sha256Plain, C>(alloc, watch, "mmb sha256", audited)?;
-        measure_one::<mmr::Family, Xor8, C>(alloc, watch, "mmr xor8", audited)?;
-        measure_one::<mmb::Family, Xor8, C>(alloc, watch, "mmb xor8", audited)?;
+        measure_one::<mmr::Family, _, C>(alloc, watch, "mmr sha256", &sha256, audited)?;
+        measure_one::<mmb::Family, _, C>(alloc, watch, "mmb sha256", &sha256, audited)?;
+        measure_one::<mmr::Family, _, C>(alloc, watch, "mmr xor8", &xor8, audited)?;
+        measure_one::<mmb::Family, _, C>(alloc, watch, "mmb xor8", &xor8, audited)?;
     }
     Some(())
 }

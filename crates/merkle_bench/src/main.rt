@@ -7,6 +7,7 @@
 
 mod audits;
 mod codec;
+mod hashers;
 mod nodes;
 mod proofs;
 mod scattered;
@@ -15,10 +16,12 @@ mod trees;
 mod workload;
 
 use crate::audits::{Audited, measure_audits};
+use crate::hashers::Hashers;
 use crate::stopwatch::Stopwatch;
 use crate::trees::measure;
 use crate::workload::Workload;
 use merkle_core::digest::{Sha256Plain, Xor8};
+use merkle_core::hasher::Standard;
 use merkle_core::{mmb, mmr};
 use std::alloc::Global;
 use std::env;
@@ -62,11 +65,13 @@ fn measure_all<C: CpuClock>(
     watch: &mut Stopwatch<C>,
     workload: &Workload,
 ) -> Option<()> {
+    let sha256 = Hashers::<Standard<Sha256Plain>>::standard();
+    let xor8 = Hashers::<Standard<Xor8>>::standard();
     for _ in 0..workload.rounds {
-        measure::<mmr::Family, Sha256Plain, C>(alloc, watch, "mmr sha256", workload)?;
-        measure::<mmb::Family, Sha256Plain, C>(alloc, watch, "mmb sha256", workload)?;
-        measure::<mmr::Family, Xor8, C>(alloc, watch, "mmr xor8", workload)?;
-        measure::<mmb::Family, Xor8, C>(alloc, watch, "mmb xor8", workload)?;
+        measure::<mmr::Family, _, C>(alloc, watch, "mmr sha256", &sha256, workload)?;
+        measure::<mmb::Family, _, C>(alloc, watch, "mmb sha256", &sha256, workload)?;
+        measure::<mmr::Family, _, C>(alloc, watch, "mmr xor8", &xor8, workload)?;
+        measure::<mmb::Family, _, C>(alloc, watch, "mmb xor8", &xor8, workload)?;
     }
     Some(())
 }

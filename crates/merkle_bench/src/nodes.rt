@@ -1,9 +1,8 @@
 //! The digests of nodes, measured at one hash.
 
 use crate::stopwatch::Stopwatch;
-use merkle_core::digest::PlainHasher;
 use merkle_core::family::Family;
-use merkle_core::hasher::{Hasher, Standard};
+use merkle_core::hasher::Hasher;
 use merkle_core::nodes::node_digests;
 use merkle_core::position::Position;
 use std::alloc::{AllocError, Global};
@@ -16,11 +15,11 @@ type Node<F, D> = (Position<F>, D, D);
 const NODES: u64 = 1000;
 
 /// Computes the digests of nodes, one by one and then together, and compares them.
-pub fn measure_nodes<F: Family, H: PlainHasher, C: CpuClock>(
+pub fn measure_nodes<F: Family, H: Hasher<F>, C: CpuClock>(
     alloc: Global,
     watch: &mut Stopwatch<C>,
     tree: &'static str,
-    hasher: &Standard<H>,
+    hasher: &H,
 ) -> Option<()> {
     let nodes: Vec<Node<F, H::Digest>> = some_nodes(alloc, hasher).ok()?;
     let mut apart = Vec::new(alloc);
@@ -36,9 +35,9 @@ pub fn measure_nodes<F: Family, H: PlainHasher, C: CpuClock>(
 }
 
 // Nodes with children of their own.
-fn some_nodes<F: Family, H: PlainHasher>(
+fn some_nodes<F: Family, H: Hasher<F>>(
     alloc: Global,
-    hasher: &Standard<H>,
+    hasher: &H,
 ) -> Result<Vec<Node<F, H::Digest>>, AllocError> {
     let mut nodes = Vec::new(alloc);
     for i in 0..NODES {
@@ -50,8 +49,8 @@ fn some_nodes<F: Family, H: PlainHasher>(
 }
 
 // Appends the digest of each node by a call for each.
-fn one_by_one<F: Family, H: PlainHasher>(
-    hasher: &Standard<H>,
+fn one_by_one<F: Family, H: Hasher<F>>(
+    hasher: &H,
     nodes: &[Node<F, H::Digest>],
     digests: &mut Vec<H::Digest>,
 ) -> Result<(), AllocError> {

@@ -1,9 +1,9 @@
 //! Proofs, their checks and their stores, measured at one hash and one bagging.
 
 use crate::stopwatch::Stopwatch;
-use merkle_core::digest::{Digest, PlainHasher};
-use merkle_core::family::{Bagging, Family};
-use merkle_core::hasher::Standard;
+use merkle_core::digest::Digest;
+use merkle_core::family::Family;
+use merkle_core::hasher::Hasher;
 use merkle_core::location::Location;
 use merkle_core::mem::Mem;
 use merkle_core::proof::Proof;
@@ -88,26 +88,25 @@ pub struct Case<F: Family, D: Digest> {
 
 /// What proofs are made of and checked against, at one hash and one bagging, under a name in the table.
 #[derive(Drop)]
-pub struct Proofs<'a, F: Family, H: PlainHasher> {
+pub struct Proofs<'a, F: Family, H: Hasher<F>> {
     alloc: Global,
     tree: &'static str,
-    hasher: Standard<H>,
+    hasher: &'a H,
     structure: &'a Mem<F, H::Digest>,
     elements: &'a [&'a [u8]],
     root: H::Digest,
 }
 
-impl<'a, F: Family, H: PlainHasher> Proofs<'a, F, H> {
+impl<'a, F: Family, H: Hasher<F>> Proofs<'a, F, H> {
     /// The proofs of a structure of leaves with these elements, under that name in the table.
     pub fn new(
         alloc: Global,
         tree: &'static str,
-        bagging: Bagging,
+        hasher: &'a H,
         structure: &'a Mem<F, H::Digest>,
         elements: &'a [&'a [u8]],
     ) -> Option<Self> {
-        let hasher = Standard::new(bagging);
-        let root = structure.root(&hasher, 0).ok()?;
+        let root = structure.root(hasher, 0).ok()?;
         Some(Proofs {
             alloc,
             tree,
@@ -123,7 +122,7 @@ impl<'a, F: Family, H: PlainHasher> Proofs<'a, F, H> {
         let mut cases = Vec::new(self.alloc);
         for (start, end) in ranges {
             let range = Location::new(*start)..Location::new(*end);
-            let proof = self.structure.range_proof(&self.hasher, range, 0).ok()?;
+            let proof = self.structure.range_proof(self.hasher, range, 0).ok()?;
             let pins = pins_of(self.alloc, self.structure, Location::new(*start))?;
             let leaves = (*start, *end);
             cases
@@ -150,8 +149,8 @@ impl<'a, F: Family, H: PlainHasher> Proofs<'a, F, H> {
         for (start, end) in ranges {
             let (start, end) = (Location::new(*start), Location::new(*end));
             let proof = match query {
-                Query::Leaf => self.structure.proof(&self.hasher, start, 0),
-                Query::Range => self.structure.range_proof(&self.hasher, start..end, 0),
+                Query::Leaf => self.structure.proof(self.hasher, start, 0),
+                Query::Range => self.structure.range_proof(self.hasher, start..end, 0),
             };
             match proof {
                 Ok(proof) => digests = digests.wrapping_add(proof.digests.len()),
@@ -174,7 +173,7 @@ impl<'a, F: Family, H: PlainHasher> Proofs<'a, F, H> {
         let begun = watch.now();
         for (start, end) in ranges {
             let range = Location::new(*start)..Location::new(*end);
-            match store.range_proof(&self.hasher, range) {
+            match store.range_proof(self.hasher, range) {
                 Ok(proof) => digests = digests.wrapping_add(proof.digests.len()),
                 Err(_) => watch.is_whole = false,
             }
@@ -185,7 +184,7 @@ impl<'a, F: Family, H: PlainHasher> Proofs<'a, F, H> {
 
     // Whether a task with a proof and the elements of its leaves is done.
     fn does(&self, task: Task, case: &Case<F, H::Digest>) -> bool {
-        let (hasher, proof, root) = (&self.hasher, &case.proof, &self.root);
+        let (hasher, proof, root) = (self.hasher, &case.proof, &self.root);
         let (start, end) = case.leaves;
         let Some(elements) = self.elements.get(start as usize..end as usize) else {
             return false;
@@ -274,7 +273,7 @@ impl<'a, F: Family, H: PlainHasher> Proofs<'a, F, H> {
         let proof = &cases.first()?.proof;
         let elements = self.elements.get(within.0 as usize..within.1 as usize)?;
         let start = Location::new(within.0);
-        let Ok(store) = ProofStore::new(&self.hasher, proof, elements, start, &self.root) else {
+        let Ok(store) = ProofStore::new(self.hasher, proof, elements, start, &self.root) else {
             return None;
         };
         let numbers = numbers.get(..PARTS.min(numbers.len()))?;

@@ -1,9 +1,8 @@
 //! Proofs of scattered leaves and their checks, measured at one hash.
 
 use crate::stopwatch::Stopwatch;
-use merkle_core::digest::{Digest, PlainHasher};
 use merkle_core::family::Family;
-use merkle_core::hasher::Standard;
+use merkle_core::hasher::Hasher;
 use merkle_core::location::Location;
 use merkle_core::mem::Mem;
 use merkle_core::proof::{Proof, multi_proof_positions};
@@ -18,11 +17,11 @@ const TOGETHER: usize = 50;
 const TIMES: u64 = 20;
 
 /// A proof of the first of these leaves together.
-pub fn measure_scattered<F: Family, H: PlainHasher, C: CpuClock>(
+pub fn measure_scattered<F: Family, H: Hasher<F>, C: CpuClock>(
     alloc: Global,
     watch: &mut Stopwatch<C>,
     tree: &'static str,
-    hasher: &Standard<H>,
+    hasher: &H,
     structure: &Mem<F, H::Digest>,
     elements: &[&[u8]],
     leaves: &[u64],
@@ -83,9 +82,9 @@ fn find_positions<F: Family, C: CpuClock>(
 }
 
 // The check of the proof of these leaves, many times.
-fn check<F: Family, H: PlainHasher, C: CpuClock>(
+fn check<F: Family, H: Hasher<F>, C: CpuClock>(
     watch: &mut Stopwatch<C>,
-    hasher: &Standard<H>,
+    hasher: &H,
     proof: &Proof<F, H::Digest>,
     elements: &[(&[u8], Location<F>)],
     root: &H::Digest,

@@ -1,15 +1,16 @@
 //! The calls that are measured, at one family and one hash.
 
 use crate::codec::measure_codec;
+use crate::hashers::Hashers;
 use crate::nodes::measure_nodes;
 use crate::proofs::{BACKWARD_ROWS, FORWARD_ROWS, Proofs};
 use crate::scattered::measure_scattered;
 use crate::stopwatch::Stopwatch;
 use crate::workload::{ELEMENT_SIZE, Workload};
 use merkle_core::batch::UnmerkleizedBatch;
-use merkle_core::digest::{Digest, PlainHasher};
-use merkle_core::family::{Bagging, Family};
-use merkle_core::hasher::Standard;
+use merkle_core::digest::Digest;
+use merkle_core::family::Family;
+use merkle_core::hasher::Hasher;
 use merkle_core::location::Location;
 use merkle_core::mem::Mem;
 use merkle_core::position::Position;
@@ -35,24 +36,21 @@ const UPDATE_ROWS: CommitRows = CommitRows {
 
 /// What is measured at one family and one hash, under a name in the table.
 #[derive(Drop)]
-struct Trees<'a, H: PlainHasher> {
+struct Trees<'a, F: Family, H: Hasher<F>> {
     alloc: Global,
     name: &'static str,
-    hasher: Standard<H>,
+    hashers: &'a Hashers<H>,
     elements: &'a [&'a [u8]],
     scattered: &'a [u64],
+    structure: Mem<F, H::Digest>,
 }
 
-impl<H: PlainHasher> Trees<'_, H> {
+impl<F: Family, H: Hasher<F>> Trees<'_, F, H> {
     // All leaves in one batch, whose digests are computed several at a time. The batch is dropped.
-    fn add_together<F: Family, C: CpuClock>(
-        &self,
-        watch: &mut Stopwatch<C>,
-        structure: &Mem<F, H::Digest>,
-    ) -> Option<()> {
+    fn add_together<C: CpuClock>(&self, watch: &mut Stopwatch<C>) -> Option<()> {
         let start = watch.now();
-        let batch = structure.new_batch().ok()?;
-        let batch = batch.add_all(&self.hasher, self.elements).ok()?;
+        let batch = self.structure.new_batch().ok()?;
+        let batch = batch.add_all(&self.hashers.forward, self.elements).ok()?;
         let units = self.elements.len() as u64;
         watch.note(self.name, "append at once: add_all", units, start);
         watch.keep(&batch.leaves().as_u64().to_be_bytes());
@@ -60,15 +58,14 @@ impl<H: PlainHasher> Trees<'_, H> {
     }
 
     // A batch of all leaves, which are added one by one.
-    fn add_each<F: Family, C: CpuClock>(
+    fn add_each<C: CpuClock>(
         &self,
         watch: &mut Stopwatch<C>,
-        structure: &Mem<F, H::Digest>,
     ) -> Option<UnmerkleizedBatch<F, H::Digest>> {
         let start = watch.now();
-        let mut batch = structure.new_batch().ok()?;
+        let mut batch = self.structure.new_batch().ok()?;
         for element in self.elements {
-            batch = batch.add(&self.hasher, element).ok()?;
+            batch = batch.add(&self.hashers.forward, element).ok()?;
         }
         let units = self.elements.len() as u64;
         watch.note(self.name, "append at once: add", units, start);
@@ -76,16 +73,15 @@ impl<H: PlainHasher> Trees<'_, H> {
     }
 
     // A batch with new elements for the scattered leaves.
-    fn update_each<F: Family, C: CpuClock>(
+    fn update_each<C: CpuClock>(
         &self,
         watch: &mut Stopwatch<C>,
-        structure: &Mem<F, H::Digest>,
     ) -> Option<UnmerkleizedBatch<F, H::Digest>> {
         let start = watch.now();
-        let mut batch = structure.new_batch().ok()?;
+        let mut batch = self.structure.new_batch().ok()?;
         for leaf in self.scattered {
             batch = batch
-                .update_leaf(&self.hasher, Location::new(*leaf), b"new")
+                .update_leaf(&self.hashers.forward, Location::new(*leaf), b"new")
                 .ok()?;
         }
         let units = self.scattered.len() as u64;
@@ -94,34 +90,30 @@ impl<H: PlainHasher> Trees<'_, H> {
     }
 
     // The digests of a batch of so many leaves, which is then applied.
-    fn commit<F: Family, C: CpuClock>(
-        &self,
+    fn commit<C: CpuClock>(
+        &mut self,
         watch: &mut Stopwatch<C>,
         rows: &CommitRows,
-        units: u64,
-        structure: &mut Mem<F, H::Digest>,
+        units: usize,
         batch: UnmerkleizedBatch<F, H::Digest>,
     ) -> Option<()> {
         let start = watch.now();
-        let batch = batch.merkleize(structure, &self.hasher).ok()?;
-        watch.note(self.name, rows.merkleize, units, start);
+        let batch = batch
+            .merkleize(&self.structure, &self.hashers.forward)
+            .ok()?;
+        watch.note(self.name, rows.merkleize, units as u64, start);
         let start = watch.now();
-        watch.is_whole &= structure.apply_batch(&batch).is_ok();
-        watch.note(self.name, rows.apply, units, start);
+        watch.is_whole &= self.structure.apply_batch(&batch).is_ok();
+        watch.note(self.name, rows.apply, units as u64, start);
         Some(())
     }
 
     // A batch for each leaf.
-    fn append_one_by_one<F: Family, C: CpuClock>(&self, watch: &mut Stopwatch<C>) -> Option<()> {
+    fn append_one_by_one<C: CpuClock>(&self, watch: &mut Stopwatch<C>) -> Option<()> {
         let mut structure: Mem<F, H::Digest> = Mem::new(self.alloc);
         let start = watch.now();
         for element in self.elements {
-            let batch = structure.new_batch().ok()?;
-            let batch = batch.add(&self.hasher, element).ok()?;
-            let batch = batch.merkleize(&structure, &self.hasher).ok()?;
-            if structure.apply_batch(&batch).is_err() {
-                return None;
-            }
+            append(&mut structure, &self.hashers.forward, element)?;
         }
         let units = self.elements.len() as u64;
         watch.note(self.name, "append one by one", units, start);
@@ -129,15 +121,11 @@ impl<H: PlainHasher> Trees<'_, H> {
     }
 
     // The root, many times.
-    fn roots<F: Family, C: CpuClock>(
-        &self,
-        watch: &mut Stopwatch<C>,
-        structure: &Mem<F, H::Digest>,
-    ) {
+    fn roots<C: CpuClock>(&self, watch: &mut Stopwatch<C>) {
         let units = 100;
         let start = watch.now();
         for _ in 0..units {
-            match structure.root(&self.hasher, 0) {
+            match self.structure.root(&self.hashers.forward, 0) {
                 Ok(root) => watch.keep(root.as_bytes()),
                 Err(_) => watch.is_whole = false,
             }
@@ -145,52 +133,43 @@ impl<H: PlainHasher> Trees<'_, H> {
         watch.note(self.name, "root", units, start);
     }
 
+    // The proofs of the structure at a bagging.
+    fn proofs_by<'b>(&'b self, hasher: &'b H) -> Option<Proofs<'b, F, H>> {
+        Proofs::new(
+            self.alloc,
+            self.name,
+            hasher,
+            &self.structure,
+            self.elements,
+        )
+    }
+
     // Proofs, their checks, stores and bytes.
-    fn proofs<F: Family, C: CpuClock>(
-        &self,
-        watch: &mut Stopwatch<C>,
-        structure: &Mem<F, H::Digest>,
-    ) -> Option<()> {
-        let (alloc, name, leaves) = (self.alloc, self.name, self.scattered);
-        let forward: Proofs<F, H> = Proofs::new(
-            alloc,
-            name,
-            Bagging::ForwardFold,
-            structure,
-            self.elements,
-        )?;
-        let backward: Proofs<F, H> = Proofs::new(
-            alloc,
-            name,
-            Bagging::BackwardFold,
-            structure,
-            self.elements,
-        )?;
+    fn proofs<C: CpuClock>(&self, watch: &mut Stopwatch<C>) -> Option<()> {
+        let leaves = self.scattered;
+        let forward = self.proofs_by(&self.hashers.forward)?;
+        let backward = self.proofs_by(&self.hashers.backward)?;
         let ones = forward.measure_proofs(watch, &backward, leaves)?;
         measure_scattered(
-            alloc,
+            self.alloc,
             watch,
-            name,
-            &self.hasher,
-            structure,
+            self.name,
+            &self.hashers.forward,
+            &self.structure,
             self.elements,
             leaves,
         )?;
         forward.measure_store(watch, &FORWARD_ROWS, leaves)?;
         backward.measure_store(watch, &BACKWARD_ROWS, leaves)?;
-        measure_codec(alloc, watch, name, &ones);
+        measure_codec(self.alloc, watch, self.name, &ones);
         Some(())
     }
 
     // A copy, which is pruned to its half.
-    fn prune<F: Family, C: CpuClock>(
-        &self,
-        watch: &mut Stopwatch<C>,
-        structure: &Mem<F, H::Digest>,
-    ) -> Option<()> {
-        let half = Location::new(structure.leaves().as_u64() / 2);
+    fn prune<C: CpuClock>(&self, watch: &mut Stopwatch<C>) -> Option<()> {
+        let half = Location::new(self.structure.leaves().as_u64() / 2);
         let start = watch.now();
-        let mut copy = structure.clone().ok()?;
+        let mut copy = self.structure.clone().ok()?;
         watch.note(self.name, "clone", 1, start);
         let start = watch.now();
         watch.is_whole &= copy.prune(half).is_ok();
@@ -199,7 +178,7 @@ impl<H: PlainHasher> Trees<'_, H> {
     }
 
     // The positions of the leaves.
-    fn leaf_positions<F: Family>(&self) -> Option<Vec<u64>> {
+    fn leaf_positions(&self) -> Option<Vec<u64>> {
         let mut positions = Vec::new(self.alloc);
         for leaf in 0..self.elements.len() as u64 {
             let Ok(position) = Position::<F>::try_from(Location::new(leaf)) else {
@@ -211,7 +190,7 @@ impl<H: PlainHasher> Trees<'_, H> {
     }
 
     // The locations at these positions.
-    fn locations<F: Family, C: CpuClock>(
+    fn locations<C: CpuClock>(
         &self,
         watch: &mut Stopwatch<C>,
         work: &'static str,
@@ -240,17 +219,52 @@ impl<H: PlainHasher> Trees<'_, H> {
         let start = watch.now();
         for i in 0..units {
             bytes[0] = u64::to_be_bytes(i)[7];
-            watch.keep(H::hash(&[&bytes]).as_bytes());
+            let digest = self.hashers.forward.hash(&[&bytes]);
+            watch.keep(digest.as_bytes());
         }
         watch.note(self.name, "hash of 72 bytes", units, start);
     }
+
+    // All calls, in one round.
+    fn measure<C: CpuClock>(&mut self, watch: &mut Stopwatch<C>) -> Option<()> {
+        self.add_together(watch)?;
+        let batch = self.add_each(watch)?;
+        self.commit(watch, &APPEND_ROWS, self.elements.len(), batch)?;
+        self.append_one_by_one(watch)?;
+        self.roots(watch);
+        self.proofs(watch)?;
+        self.prune(watch)?;
+        let batch = self.update_each(watch)?;
+        self.commit(watch, &UPDATE_ROWS, self.scattered.len(), batch)?;
+        let positions = self.leaf_positions()?;
+        self.locations(watch, "position_to_location of leaves", &positions);
+        self.locations(watch, "position_to_location, scattered", self.scattered);
+        self.hashes(watch);
+        measure_nodes(self.alloc, watch, self.name, &self.hashers.forward)
+    }
+}
+
+// Appends a leaf in a batch of its own.
+fn append<F: Family, H: Hasher<F>>(
+    structure: &mut Mem<F, H::Digest>,
+    hasher: &H,
+    element: &[u8],
+) -> Option<()> {
+    let batch = structure.new_batch().ok()?;
+    let batch = batch.add(hasher, element).ok()?;
+    let batch = batch.merkleize(structure, hasher).ok()?;
+    if structure.apply_batch(&batch).is_err() {
+        return None;
+    }
+    Some(())
 }
 
 /// Measures all calls at a family and a hash, in one round, under that name in the table.
-pub fn measure<F: Family, H: PlainHasher, C: CpuClock>(
+pub fn measure<F: Family, H: Hasher<F>, C: CpuClock>(
     alloc: Global,
     watch: &mut Stopwatch<C>,
     name: &'static str,
+    hashers: &Hashers<H>,
     workload: &Workload,
 ) -> Option<()> {
     let elements: Vec<&[u8]> = workload
@@ -258,32 +272,13 @@ pub fn measure<F: Family, H: PlainHasher, C: CpuClock>(
         .chunks_exact(ELEMENT_SIZE)
         .collect(alloc)
         .ok()?;
-    let trees: Trees<H> = Trees {
+    let mut trees: Trees<F, H> = Trees {
         alloc,
         name,
-        hasher: Standard::new(Bagging::ForwardFold),
+        hashers,
         elements: &elements,
         scattered: &workload.scattered,
+        structure: Mem::new(alloc),
     };
-    let mut structure: Mem<F, H::Digest> = Mem::new(alloc);
-    trees.add_together(watch, &structure)?;
-    let batch = trees.add_each(watch, &structure)?;
-    let units = elements.len() as u64;
-    trees.commit(watch, &APPEND_ROWS, units, &mut structure, batch)?;
-    trees.append_one_by_one::<F, C>(watch)?;
-    trees.roots(watch, &structure);
-    trees.proofs(watch, &structure)?;
-    trees.prune(watch, &structure)?;
-    let batch = trees.update_each(watch, &structure)?;
-    let units = workload.scattered.len() as u64;
-    trees.commit(watch, &UPDATE_ROWS, units, &mut structure, batch)?;
-    let positions = trees.leaf_positions::<F>()?;
-    trees.locations::<F, C>(watch, "position_to_location of leaves", &positions);
-    trees.locations::<F, C>(
-        watch,
-        "position_to_location, scattered",
-        &workload.scattered,
-    );
-    trees.hashes(watch);
-    measure_nodes::<F, H, C>(alloc, watch, name, &trees.hasher)
+    trees.measure(watch)
 }

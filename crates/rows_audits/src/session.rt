@@ -3,7 +3,7 @@
 use crate::audits;
 use merkle_core::digest::Xor8;
 use merkle_core::family::{Bagging, Family};
-use merkle_core::hasher::Standard;
+use merkle_core::hasher::{Hasher, Standard};
 use merkle_core::{mmb, mmr};
 use merkle_fixtures::flat;
 use rows_text::answer::Answer;
@@ -36,23 +36,38 @@ fn bagging(name: &str) -> Option<Bagging> {
 }
 
 // Does what a call says. The words are those after its name.
-fn answer_call<F: Family>(
+fn answer_call<F: Family, H: Hasher<F>>(
     alloc: Global,
-    bagging: Bagging,
+    hasher: &H,
+    name: &str,
+    words: &[&str],
+    answer: &mut Answer,
+) -> Result<(), Refusal> {
+    let count = words.len();
+    let mut words = Words::new(alloc, words);
+    match (name, count) {
+        ("audit_range", 7) => audits::range(hasher, &mut words, answer),
+        ("audit_multi", 6) => audits::multi(hasher, &mut words, answer),
+        ("audit_pins", 8) => audits::pins(hasher, &mut words, answer),
+        ("audit_apply", 2) => audits::apply(hasher, &mut words, answer),
+        ("audit_pair", 11) => audits::pair(hasher, &mut words, answer),
+        _ => Err(SYNTAX),
+    }
+}
+
+// The same in a family and at a bagging.
+fn answer_in(
+    alloc: Global,
+    (family, bagging): (FamilyName, Bagging),
     name: &str,
     words: &[&str],
     answer: &mut Answer,
 ) -> Result<(), Refusal> {
     let hasher = Standard::<Xor8>::new(bagging);
-    let count = words.len();
-    let mut words = Words::new(alloc, words);
-    match (name, count) {
-        ("audit_range", 7) => audits::range::<F, Standard<Xor8>>(&hasher, &mut words, answer),
-        ("audit_multi", 6) => audits::multi::<F, Standard<Xor8>>(&hasher, &mut words, answer),
-        ("audit_pins", 8) => audits::pins::<F, Standard<Xor8>>(&hasher, &mut words, answer),
-        ("audit_apply", 2) => audits::apply::<F, Standard<Xor8>>(&hasher, &mut words, answer),
-        ("audit_pair", 11) => audits::pair::<F, Standard<Xor8>>(&hasher, &mut words, answer),
-        _ => Err(SYNTAX),
+    match family {
+        FamilyName::Mmr => answer_call::<mmr::Family, _>(alloc, &hasher, name, words, answer),
+        FamilyName::Mmb => answer_call::<mmb::Family, _>(alloc, &hasher, name, words, answer),
+        FamilyName::Flat => answer_call::<flat::Family, _>(alloc, &hasher, name, words, answer),
     }
 }
 
@@ -84,21 +99,10 @@ impl Session {
                 }
             }
             [name, ref rest @ ..] => {
-                let Some((family, bagging)) = self.chosen else {
+                let Some(chosen) = self.chosen else {
                     return Err(SYNTAX);
                 };
-                let alloc = self.alloc;
-                match family {
-                    FamilyName::Mmr => answer_call::<mmr::Family>(
-                        alloc, bagging, name, rest, answer,
-                    )?,
-                    FamilyName::Mmb => answer_call::<mmb::Family>(
-                        alloc, bagging, name, rest, answer,
-                    )?,
-                    FamilyName::Flat => answer_call::<flat::Family>(
-                        alloc, bagging, name, rest, answer,
-                    )?,
-                }
+                answer_in(self.alloc, chosen, name, rest, answer)?;
                 answer.whole()
             }
             [] => Err(SYNTAX),

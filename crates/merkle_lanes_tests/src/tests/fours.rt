@@ -126,30 +126,55 @@ fn hashers_that_hash_together(rt: HostRuntime) {
     assert!(rt; !Hasher::<Family>::hashes_together(&&keyed));
 }
 
-// A leaf is hashed after its position of 8 bytes, and at least 9 bytes of padding follow.
+/// Asserts in how many blocks leaves with elements of some lengths are hashed.
+fn assert_leaf_blocks<H: Hasher<Family>>(rt: &impl Abort, hasher: &H, counts: &[(usize, usize)]) {
+    for (length, count) in counts {
+        let found = hasher.leaf_block_count(*length);
+        assert_eq!(rt; found, *count, "an element of {length} bytes");
+    }
+}
+
+// A leaf is hashed after its position of 8 bytes, and at least 9 bytes of padding follow. All that are too long to be hashed
+// together have the same number.
 #[test]
 fn numbers_of_blocks(rt: HostRuntime) {
-    let sha256 = Standard::<Sha256Plain>::new(Bagging::ForwardFold);
-    for (length, count) in [(0, 1), (55, 1), (56, 2), (119, 2), (120, 3), (1015, 16)] {
+    for (length, count) in [
+        (0, 1),
+        (55, 1),
+        (56, 2),
+        (119, 2),
+        (120, 3),
+        (1015, 16),
+        (1016, 17),
+        (1100, 17),
+        (1_000_000, 17),
+        (usize::MAX, 17),
+    ] {
         assert_eq!(rt; Sha256Plain::block_count(length), count, "{length} bytes");
     }
-    for (length, count) in [(0, 1), (47, 1), (48, 2), (111, 2), (112, 3), (1007, 16)] {
-        let leaf = Hasher::<Family>::leaf_block_count(&sha256, length);
-        assert_eq!(rt; leaf, count, "an element of {length} bytes");
-        let same = Hasher::<Family>::leaf_block_count(&&sha256, length);
-        assert_eq!(rt; same, count, "an element of {length} bytes");
-    }
-    // All that are too long to be hashed together have the same number.
-    for length in [1016, 1100, 1_000_000, usize::MAX] {
-        assert_eq!(rt; Sha256Plain::block_count(length), 17, "{length} bytes");
-        let leaf = Hasher::<Family>::leaf_block_count(&sha256, length);
-        assert_eq!(rt; leaf, 17, "an element of {length} bytes");
-    }
-    let xor = Standard::<Xor8>::new(Bagging::ForwardFold);
     assert!(rt; Xor8::block_count(72) == 0);
-    assert!(rt; Hasher::<Family>::leaf_block_count(&xor, 72) == 0);
-    let keyed = Keyed::new(0x50, Bagging::ForwardFold);
-    assert!(rt; Hasher::<Family>::leaf_block_count(&keyed, 72) == 0);
+}
+
+#[test]
+fn numbers_of_blocks_of_leaves(rt: HostRuntime) {
+    let counts = [
+        (0, 1),
+        (47, 1),
+        (48, 2),
+        (111, 2),
+        (112, 3),
+        (1007, 16),
+        (1016, 17),
+        (1100, 17),
+        (1_000_000, 17),
+        (usize::MAX, 17),
+    ];
+    let sha256 = Standard::<Sha256Plain>::new(Bagging::ForwardFold);
+    assert_leaf_blocks(&rt, &sha256, &counts);
+    assert_leaf_blocks(&rt, &&sha256, &counts);
+    let none = [(72, 0)];
+    assert_leaf_blocks(&rt, &Standard::<Xor8>::new(Bagging::ForwardFold), &none);
+    assert_leaf_blocks(&rt, &Keyed::new(0x50, Bagging::ForwardFold), &none);
 }
 
 #[test]

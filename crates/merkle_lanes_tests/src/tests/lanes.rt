@@ -9,11 +9,10 @@ fn assert_digests(
     digests: ([u8; 32], [u8; 32], [u8; 32], [u8; 32]),
     wanted: [&str; 4],
 ) -> Result<(), Fail> {
-    let alloc = rt.alloc();
-    assert_eq!(rt; hex::encode(alloc, digests.0)?.as_str(), wanted[0]);
-    assert_eq!(rt; hex::encode(alloc, digests.1)?.as_str(), wanted[1]);
-    assert_eq!(rt; hex::encode(alloc, digests.2)?.as_str(), wanted[2]);
-    assert_eq!(rt; hex::encode(alloc, digests.3)?.as_str(), wanted[3]);
+    let digests = [digests.0, digests.1, digests.2, digests.3];
+    for (digest, digits) in digests.iter().zip(wanted.iter()) {
+        assert_eq!(rt; hex::encode(rt.alloc(), digest)?.as_str(), *digits);
+    }
     Ok(())
 }
 
@@ -166,7 +165,11 @@ fn nodes_as_sha2(rt: HostRuntime) {
     }
 }
 
-// Nodes in the parts in which the hasher gives them: a position, and the digests of two children.
+/// A node in the parts in which the hasher gives them: a position, and the digests of two children.
+fn parts(node: &[u8; 72]) -> [&[u8]; 3] {
+    [&node[..8], &node[8..40], &node[40..]]
+}
+
 #[test]
 fn nodes_in_parts_as_sha2(rt: HostRuntime) {
     let mut seed = 3;
@@ -176,30 +179,16 @@ fn nodes_in_parts_as_sha2(rt: HostRuntime) {
             fill(&mut seed, node);
         }
         let [a, b, c, d] = &nodes;
-        let digests = hash_four(
-            &[&a[..8], &a[8..40], &a[40..]],
-            &[&b[..8], &b[8..40], &b[40..]],
-            &[&c[..8], &c[8..40], &c[40..]],
-            &[&d[..8], &d[8..40], &d[40..]],
-        );
         let wanted = (
             Sha256::digest(a),
             Sha256::digest(b),
             Sha256::digest(c),
             Sha256::digest(d),
         );
-        assert!(rt; digests == wanted);
-        let two = hash_two(
-            &[&a[..8], &a[8..40], &a[40..]],
-            &[&b[..8], &b[8..40], &b[40..]],
-        );
-        assert!(rt; two == (wanted.0, wanted.1));
-        let three = hash_three(
-            &[&a[..8], &a[8..40], &a[40..]],
-            &[&b[..8], &b[8..40], &b[40..]],
-            &[&c[..8], &c[8..40], &c[40..]],
-        );
-        assert!(rt; three == (wanted.0, wanted.1, wanted.2));
+        let (a, b, c, d) = (parts(a), parts(b), parts(c), parts(d));
+        assert!(rt; hash_four(&a, &b, &c, &d) == wanted);
+        assert!(rt; hash_two(&a, &b) == (wanted.0, wanted.1));
+        assert!(rt; hash_three(&a, &b, &c) == (wanted.0, wanted.1, wanted.2));
     }
 }
 

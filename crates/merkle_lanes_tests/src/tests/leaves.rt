@@ -20,11 +20,9 @@ pub fn leaves_of_lengths<'a>(
     count: usize,
 ) -> Result<Vec<(Position, &'a [u8])>, AllocError> {
     let mut leaves = Vec::new(rt.alloc());
-    for i in 0..count {
-        let place = i.checked_rem(lengths.len()).expect(rt, "some lengths");
-        let length = lengths.get(place).expect(rt, "a length at each place");
+    for (position, length) in (0u64..).zip(lengths.iter().cycle()).take(count) {
         let element = bytes.get(..*length).expect(rt, "bytes of each length");
-        let Ok(()) = leaves.push((Position::new(i as u64), element)) else {
+        let Ok(()) = leaves.push((Position::new(position), element)) else {
             return Err(AllocError);
         };
     }

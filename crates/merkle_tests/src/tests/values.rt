@@ -48,19 +48,22 @@ fn with_leaf<F: Family, H: Hasher<F>>(
     }
 }
 
-/// The structure of the leaves 01 and 03, with the node 00 over them, made of a batch and one over it; `None` where one is
-/// refused. The hasher is a reference all the way.
-fn two_leaves(alloc: Global) -> Option<Mmr<Xor8Digest>> {
-    let standard = StandardHasher::<Xor8>::new(Bagging::ForwardFold);
-    let hasher = &standard;
+/// The structure of two leaves, with the elements 01 and 02, made of a batch and one over it; `None` where one is refused.
+fn two_leaves_by<F: Family, H: Hasher<F>>(alloc: Global, hasher: &H) -> Option<Mem<F, H::Digest>> {
     let mut structure = Mem::new(alloc);
     let root = without_changes(&structure)?;
-    let first = with_leaf(&root, &structure, &hasher, 1)?;
-    let second = with_leaf(&first, &structure, &hasher, 2)?;
+    let first = with_leaf(&root, &structure, hasher, 1)?;
+    let second = with_leaf(&first, &structure, hasher, 2)?;
     if structure.apply_batch(&second).is_err() {
         return None;
     }
     Some(structure)
+}
+
+/// The leaves 01 and 03, with the node 00 over them. The hasher is a reference all the way.
+fn two_leaves(alloc: Global) -> Option<Mmr<Xor8Digest>> {
+    let standard = StandardHasher::<Xor8>::new(Bagging::ForwardFold);
+    two_leaves_by(alloc, &&standard)
 }
 
 /// The node count of what is read, and its nodes up to position 3.

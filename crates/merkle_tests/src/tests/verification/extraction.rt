@@ -1,7 +1,7 @@
 //! Digests that are extracted from proofs of ranges, against the nodes of the structure.
 
 use crate::tests::{repeated, structure_of};
-use merkle_core::digest::{Digest, PlainHasher, Sha256Plain, Xor8};
+use merkle_core::digest::{Digest, Sha256Plain, Xor8, Xor8Digest};
 use merkle_core::family::{Bagging, Family};
 use merkle_core::hasher::{Hasher, Standard};
 use merkle_core::location::Location;
@@ -51,6 +51,18 @@ fn count_of_range<F: Family, D: Digest>(structure: &Mem<F, D>, start: u64, end: 
     count
 }
 
+/// The structure of all leaves; `None` where a call is refused.
+fn structure_of_all<F: Family, H: Hasher<F>>(
+    alloc: Global,
+    hasher: &H,
+) -> Option<Mem<F, H::Digest>> {
+    let element = [7u8];
+    match repeated(alloc, &element, LEAVES) {
+        Ok(all) => structure_of(alloc, hasher, &all),
+        Err(_) => None,
+    }
+}
+
 /// The pairs that are extracted from the proof of a range; `None` where a call is refused.
 fn extracted<F: Family, H: Hasher<F>>(
     alloc: Global,
@@ -77,10 +89,10 @@ fn extracted<F: Family, H: Hasher<F>>(
 }
 
 /// Asserts that the pairs of a range are as many as there are, each a node of the structure.
-fn assert_extracted<F: Family, H: PlainHasher>(
+fn assert_extracted<F: Family, H: Hasher<F>>(
     rt: &(impl Abort + AllocGlobal),
     structure: &Mem<F, H::Digest>,
-    hasher: &Standard<H>,
+    hasher: &H,
     start: u64,
     count: u64,
 ) -> Result<(), Fail> {
@@ -100,14 +112,14 @@ fn assert_extracted<F: Family, H: PlainHasher>(
 
 /// Asserts that of ranges from an even and from an odd leaf on, with lengths next to those from which
 /// on, and up to which, the nodes below a node are computed together.
-fn assert_ranges<F: Family, H: PlainHasher>(rt: &(impl Abort + AllocGlobal)) -> Result<(), Fail> {
-    let hasher = Standard::<H>::new(Bagging::ForwardFold);
-    let element = [7u8];
-    let all = repeated(rt.alloc(), &element, LEAVES)?;
-    let structure = structure_of::<F, _>(rt.alloc(), &hasher, &all).expect(rt, "no refusal");
+fn assert_ranges<F: Family, H: Hasher<F>>(
+    rt: &(impl Abort + AllocGlobal),
+    hasher: &H,
+) -> Result<(), Fail> {
+    let structure = structure_of_all(rt.alloc(), hasher).expect(rt, "no refusal");
     for start in [256, 301] {
         for count in [1, 2, 7, 8, 9, 255, 256, 257, 600] {
-            assert_extracted(rt, &structure, &hasher, start, count)?;
+            assert_extracted(rt, &structure, hasher, start, count)?;
         }
     }
     Ok(())
@@ -115,12 +127,27 @@ fn assert_ranges<F: Family, H: PlainHasher>(rt: &(impl Abort + AllocGlobal)) -> 
 
 #[test]
 fn extracted_from_a_mountain_range(rt: HostRuntime) -> Result<(), Fail> {
-    assert_ranges::<mmr::Family, Sha256Plain>(&rt)
+    let sha256 = Standard::<Sha256Plain>::new(Bagging::ForwardFold);
+    assert_ranges::<mmr::Family, _>(&rt, &sha256)
 }
 
 #[test]
 fn extracted_from_a_mountain_belt(rt: HostRuntime) -> Result<(), Fail> {
-    assert_ranges::<mmb::Family, Sha256Plain>(&rt)
+    let sha256 = Standard::<Sha256Plain>::new(Bagging::ForwardFold);
+    assert_ranges::<mmb::Family, _>(&rt, &sha256)
+}
+
+/// Extracts the leaves from `start` up to `end` of 1,100 by a hasher, and asserts how many pairs they are.
+fn assert_found<F: Family, H: Hasher<F, Digest = Xor8Digest>>(
+    rt: &(impl Abort + AllocGlobal),
+    hasher: &H,
+    start: u64,
+    end: u64,
+) {
+    let plain = Standard::<Xor8>::new(Bagging::ForwardFold);
+    let structure = structure_of_all(rt.alloc(), &plain).expect(rt, "no refusal");
+    let found = extracted(rt.alloc(), &structure, hasher, start, end).expect(rt, "no refusal");
+    assert_eq!(rt; found.len() as u64, count_of_range(&structure, start, end));
 }
 
 /// Asserts how many pairs of nodes are computed, and how many nodes by themselves, where the leaves from `start` up to `end`
@@ -131,7 +158,7 @@ fn assert_nodes<F: Family>(
     start: u64,
     end: u64,
     expected: (u64, u64),
-) -> Result<(), Fail> {
+) {
     let (equal, unequal, leaves) = (Cell::new(0), Cell::new(0), Cell::new(0));
     let (pairs, nodes) = (Cell::new(0), Cell::new(0));
     let hasher = Fours {
@@ -142,21 +169,15 @@ fn assert_nodes<F: Family>(
         pairs: &pairs,
         nodes: &nodes,
     };
-    let plain = Standard::<Xor8>::new(Bagging::ForwardFold);
-    let element = [7u8];
-    let all = repeated(rt.alloc(), &element, LEAVES)?;
-    let structure = structure_of::<F, _>(rt.alloc(), &plain, &all).expect(rt, "no refusal");
-    let found = extracted(rt.alloc(), &structure, &hasher, start, end).expect(rt, "no refusal");
-    assert_eq!(rt; found.len() as u64, count_of_range(&structure, start, end));
+    assert_found::<F, _>(rt, &hasher, start, end);
     assert_eq!(rt; (pairs.get(), nodes.get()), expected, "{start} up to {end}");
-    Ok(())
 }
 
 // Of the nodes below the peak of 1024 leaves 255 are over the first 256 leaves. They are computed in
 // pairs but for the highest one, which is computed by itself, as the two nodes over it.
 #[test]
-fn nodes_in_pairs(rt: HostRuntime) -> Result<(), Fail> {
-    assert_nodes::<mmr::Family>(&rt, true, 0, 256, (127, 3))
+fn nodes_in_pairs(rt: HostRuntime) {
+    assert_nodes::<mmr::Family>(&rt, true, 0, 256, (127, 3));
 }
 
 // The Mountain Belt of 1,100 leaves has peaks of 512, 256, 128, 128, 32, 16, 16, 8, 2 and 2 leaves. Over the node of the first 256
@@ -164,9 +185,9 @@ fn nodes_in_pairs(rt: HostRuntime) -> Result<(), Fail> {
 // n / 2 - 1 pairs but the highest one. So all leaves have 127 pairs below the first peak twice, 127 at the second one, then
 // 63, 63, 15, 7, 7 and 3. The highest nodes of these nine are computed by themselves, and the peaks of 512, 2 and 2 leaves.
 #[test]
-fn nodes_of_a_mountain_belt_in_pairs(rt: HostRuntime) -> Result<(), Fail> {
-    assert_nodes::<mmb::Family>(&rt, true, 0, 256, (127, 2))?;
-    assert_nodes::<mmb::Family>(&rt, true, 0, LEAVES, (539, 12))
+fn nodes_of_a_mountain_belt_in_pairs(rt: HostRuntime) {
+    assert_nodes::<mmb::Family>(&rt, true, 0, 256, (127, 2));
+    assert_nodes::<mmb::Family>(&rt, true, 0, LEAVES, (539, 12));
 }
 
 // The leaves from 301 up to 901 are the leaf 301, the 2 leaves of a node from 302 on, 16 from 304, 64 from 320, 128 from 384,
@@ -177,39 +198,32 @@ fn nodes_of_a_mountain_belt_in_pairs(rt: HostRuntime) -> Result<(), Fail> {
 // In the Mountain Belt the first peak has 512 leaves, and that from 896 on has 128: 9 nodes have the leaves 300 and 301, and
 // 7 the leaves 900 and 901. If a node were not found among the computed ones, it would be computed again, by itself.
 #[test]
-fn nodes_from_an_odd_leaf_in_pairs(rt: HostRuntime) -> Result<(), Fail> {
-    assert_nodes::<mmr::Family>(&rt, true, 301, 901, (291, 28))?;
-    assert_nodes::<mmb::Family>(&rt, true, 301, 901, (291, 25))
+fn nodes_from_an_odd_leaf_in_pairs(rt: HostRuntime) {
+    assert_nodes::<mmr::Family>(&rt, true, 301, 901, (291, 28));
+    assert_nodes::<mmb::Family>(&rt, true, 301, 901, (291, 25));
 }
 
 // The same nodes by a hasher that computes digests one by one: each of them is computed by itself.
 #[test]
-fn nodes_one_by_one(rt: HostRuntime) -> Result<(), Fail> {
-    assert_nodes::<mmr::Family>(&rt, false, 0, 256, (0, 257))?;
-    assert_nodes::<mmb::Family>(&rt, false, 0, 256, (0, 256))?;
-    assert_nodes::<mmb::Family>(&rt, false, 0, LEAVES, (0, 1090))?;
-    assert_nodes::<mmr::Family>(&rt, false, 301, 901, (0, 610))?;
-    assert_nodes::<mmb::Family>(&rt, false, 301, 901, (0, 607))
+fn nodes_one_by_one(rt: HostRuntime) {
+    assert_nodes::<mmr::Family>(&rt, false, 0, 256, (0, 257));
+    assert_nodes::<mmb::Family>(&rt, false, 0, 256, (0, 256));
+    assert_nodes::<mmb::Family>(&rt, false, 0, LEAVES, (0, 1090));
+    assert_nodes::<mmr::Family>(&rt, false, 301, 901, (0, 610));
+    assert_nodes::<mmb::Family>(&rt, false, 301, 901, (0, 607));
 }
 
 // The first of these by a hasher with the default body of `hashes_together`.
 #[test]
-fn nodes_one_by_one_by_default(rt: HostRuntime) -> Result<(), Fail> {
+fn nodes_one_by_one_by_default(rt: HostRuntime) {
     let (pairs, singles) = (Cell::new(0), Cell::new(0));
     let hasher = Counting {
         bagging: Bagging::ForwardFold,
         pairs: &pairs,
         singles: &singles,
     };
-    let plain = Standard::<Xor8>::new(Bagging::ForwardFold);
-    let element = [7u8];
-    let all = repeated(rt.alloc(), &element, LEAVES)?;
-    let structure = structure_of::<mmr::Family, _>(rt.alloc(), &plain, &all);
-    let structure = structure.expect(&rt, "no refusal");
-    let found = extracted(rt.alloc(), &structure, &hasher, 0, 256).expect(&rt, "no refusal");
-    assert_eq!(rt; found.len() as u64, count_of_range(&structure, 0, 256));
+    assert_found::<mmr::Family, _>(&rt, &hasher, 0, 256);
     assert_eq!(rt; (pairs.get(), singles.get()), (0, 257));
-    Ok(())
 }
 
 // Eight leaves of the Mountain Range have the peak 14, over 13 and 6, 6 over 5 and 2, and so on.
