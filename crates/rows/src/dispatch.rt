@@ -30,7 +30,7 @@ fn answer_world<F: Family, H: Hasher<F> + Drop>(
             rows_bytes::calls::answer::<F, H>(&world.hasher, call, words, answer)?
         }
         Call::Structure(call) => rows_structures::calls::answer(world, call, words, answer)?,
-        Call::Node(call) => rows_nodes::calls::answer(world, call, words, answer)?,
+        Call::Node(call) => rows_structures::calls::answer_node(world, call, words, answer)?,
         Call::Batch(call) => rows_batches::calls::answer(world, call, words, answer)?,
         Call::Leaf(call) => rows_batches::calls::answer_leaf(world, call, words)?,
         Call::Check(call) => rows_checks::calls::answer(world, call, words, answer)?,

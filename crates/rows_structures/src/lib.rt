@@ -1,5 +1,6 @@
-//! Calls of structures of the program `rows`.
+//! Calls of the program `rows` that are about structures, and those that ask structures and batches for their nodes and roots.
 #![tactic(auto)]
 
 pub mod calls;
+mod nodes;
 mod structures;
