@@ -1,6 +1,7 @@
 //! What lines make, in each family and with each hasher that `new` names.
 
 use crate::names::{BAGGINGS, FAMILIES, FamilyName, HASHES, HashName, is_meant, read_hash};
+use crate::world::World;
 use merkle_core::digest::{Sha256Plain, Xor8};
 use merkle_core::family::{Bagging, Family};
 use merkle_core::hasher::Standard;
@@ -8,7 +9,6 @@ use merkle_core::{mmb, mmr};
 use merkle_fixtures::keyed::Keyed;
 use merkle_fixtures::{flat, pairs};
 use rows_text::refusal::{Refusal, SYNTAX};
-use rows_world::world::World;
 use std::alloc::Global;
 
 /// What the lines so far have made in one family, by the hasher.
