@@ -168,201 +168,112 @@ pub enum StoreCall {
     SuffixPeaks,
 }
 
-// Below, each call with its first word and the number of its words.
-
-const FAMILY_CALLS: [(&str, usize, FamilyCall); 8] = [
-    ("height", 2, FamilyCall::Height),
-    ("inactive", 3, FamilyCall::Inactive),
-    ("is_inactive", 4, FamilyCall::IsInactive),
-    ("is_size", 2, FamilyCall::IsSize),
-    ("location", 2, FamilyCall::Location),
-    ("nearest_size", 2, FamilyCall::NearestSize),
-    ("pins", 2, FamilyCall::Pins),
-    ("position", 2, FamilyCall::Position),
-];
-
-const PLAN_CALLS: [(&str, usize, PlanCall); 7] = [
-    ("groups", 5, PlanCall::Groups),
-    ("plan", 4, PlanCall::Plan),
-    ("plan", 6, PlanCall::PlanAbove),
-    ("plan_leaf", 3, PlanCall::PlanLeaf),
-    ("plan_leaf", 5, PlanCall::PlanLeafAbove),
-    ("positions", 4, PlanCall::Positions),
-    ("positions_leaf", 3, PlanCall::PositionsLeaf),
-];
-
-const GIVEN_CALLS: [(&str, usize, GivenCall); 10] = [
-    ("check", 7, GivenCall::Check),
-    ("check_leaf", 7, GivenCall::CheckLeaf),
-    ("check_multi", 6, GivenCall::CheckMulti),
-    ("check_pinned", 8, GivenCall::CheckPinned),
-    ("extract", 7, GivenCall::Extract),
-    ("multi_positions", 3, GivenCall::MultiPositions),
-    ("reconstruct", 6, GivenCall::Reconstruct),
-    ("slice_history", 7, GivenCall::SliceHistory),
-    ("slice_multi", 5, GivenCall::SliceMulti),
-    ("slice_range", 6, GivenCall::SliceRange),
-];
-
-const BYTES_CALLS: [(&str, usize, BytesCall); 11] = [
-    ("copy_proof", 4, BytesCall::CopyProof),
-    ("leaf_digests", 3, BytesCall::LeafDigests),
-    ("node_digests", 4, BytesCall::NodeDigests),
-    ("read_hex", 2, BytesCall::ReadHex),
-    ("read_proof", 3, BytesCall::ReadProof),
-    ("root_string", 4, BytesCall::RootString),
-    ("write_chunk", 2, BytesCall::WriteChunk),
-    ("write_hex", 2, BytesCall::WriteHex),
-    ("write_location", 2, BytesCall::WriteLocation),
-    ("write_position", 2, BytesCall::WritePosition),
-    ("write_proof", 4, BytesCall::WriteProof),
-];
-
-const STRUCTURE_CALLS: [(&str, usize, StructureCall); 9] = [
-    ("bounds", 2, StructureCall::Bounds),
-    ("copy", 3, StructureCall::Copy),
-    ("empty", 2, StructureCall::Empty),
-    ("from_components", 5, StructureCall::FromComponents),
-    ("parts", 5, StructureCall::Parts),
-    ("peaks", 2, StructureCall::Peaks),
-    ("prune", 3, StructureCall::Prune),
-    ("prune_all", 2, StructureCall::PruneAll),
-    ("same", 3, StructureCall::Same),
-];
-
-const NODE_CALLS: [(&str, usize, NodeCall); 6] = [
-    ("leaves", 2, NodeCall::Leaves),
-    ("node", 3, NodeCall::Node),
-    ("nodes", 2, NodeCall::Nodes),
-    ("root", 3, NodeCall::Root),
-    ("same_roots", 3, NodeCall::SameRoots),
-    ("size", 2, NodeCall::Size),
-];
-
-const BATCH_CALLS: [(&str, usize, BatchCall); 10] = [
-    ("apply", 3, BatchCall::Apply),
-    ("base", 2, BatchCall::Base),
-    ("build", 3, BatchCall::Build),
-    ("child", 3, BatchCall::Child),
-    ("forget", 3, BatchCall::Forget),
-    ("fork", 3, BatchCall::Fork),
-    ("from_mem", 3, BatchCall::FromMem),
-    ("merkleize", 3, BatchCall::Merkleize),
-    ("merkleize_counted", 3, BatchCall::MerkleizeCounted),
-    ("pending", 2, BatchCall::Pending),
-];
-
-const LEAF_CALLS: [(&str, usize, LeafCall); 10] = [
-    ("add", 3, LeafCall::Add),
-    ("add_all", 3, LeafCall::AddAll),
-    ("add_digest", 3, LeafCall::AddDigest),
-    ("add_digests", 3, LeafCall::AddDigests),
-    ("add_list", 3, LeafCall::AddList),
-    ("add_numbers", 3, LeafCall::AddNumbers),
-    ("update", 4, LeafCall::Update),
-    ("update_digest", 4, LeafCall::UpdateDigest),
-    ("update_digests", 3, LeafCall::UpdateDigests),
-    ("update_list", 3, LeafCall::UpdateList),
-];
-
-const CHECK_CALLS: [(&str, usize, CheckCall); 5] = [
-    ("prove", 5, CheckCall::Prove),
-    ("prove_leaves", 3, CheckCall::ProveLeaves),
-    ("prove_ranges", 3, CheckCall::ProveRanges),
-    ("prove_stores", 3, CheckCall::ProveStores),
-    ("prove_written", 3, CheckCall::ProveWritten),
-];
-
-const CLAIM_CALLS: [(&str, usize, ClaimCall); 3] = [
-    ("multi", 4, ClaimCall::Multi),
-    ("prove_pins", 3, ClaimCall::ProvePins),
-    ("prove_subsets", 4, ClaimCall::ProveSubsets),
-];
-
-const PROOF_CALLS: [(&str, usize, ProofCall); 4] = [
-    ("proof", 4, ProofCall::Proof),
-    ("proof_over", 5, ProofCall::ProofOver),
-    ("range", 5, ProofCall::Range),
-    ("range_over", 6, ProofCall::RangeOver),
-];
-
-const STORE_CALLS: [(&str, usize, StoreCall); 8] = [
-    ("read_history", 6, StoreCall::ReadHistory),
-    ("read_multi", 4, StoreCall::ReadMulti),
-    ("read_range", 5, StoreCall::ReadRange),
-    ("store", 8, StoreCall::Store),
-    ("store_multi", 4, StoreCall::StoreMulti),
-    ("store_node", 3, StoreCall::StoreNode),
-    ("store_range", 4, StoreCall::StoreRange),
-    ("suffix_peaks", 2, StoreCall::SuffixPeaks),
+/// Each call, with its first word and the number of its words.
+const CALLS: [(&str, usize, Call); 91] = [
+    ("height", 2, Call::Family(FamilyCall::Height)),
+    ("inactive", 3, Call::Family(FamilyCall::Inactive)),
+    ("is_inactive", 4, Call::Family(FamilyCall::IsInactive)),
+    ("is_size", 2, Call::Family(FamilyCall::IsSize)),
+    ("location", 2, Call::Family(FamilyCall::Location)),
+    ("nearest_size", 2, Call::Family(FamilyCall::NearestSize)),
+    ("pins", 2, Call::Family(FamilyCall::Pins)),
+    ("position", 2, Call::Family(FamilyCall::Position)),
+    ("groups", 5, Call::Plan(PlanCall::Groups)),
+    ("plan", 4, Call::Plan(PlanCall::Plan)),
+    ("plan", 6, Call::Plan(PlanCall::PlanAbove)),
+    ("plan_leaf", 3, Call::Plan(PlanCall::PlanLeaf)),
+    ("plan_leaf", 5, Call::Plan(PlanCall::PlanLeafAbove)),
+    ("positions", 4, Call::Plan(PlanCall::Positions)),
+    ("positions_leaf", 3, Call::Plan(PlanCall::PositionsLeaf)),
+    ("check", 7, Call::Given(GivenCall::Check)),
+    ("check_leaf", 7, Call::Given(GivenCall::CheckLeaf)),
+    ("check_multi", 6, Call::Given(GivenCall::CheckMulti)),
+    ("check_pinned", 8, Call::Given(GivenCall::CheckPinned)),
+    ("extract", 7, Call::Given(GivenCall::Extract)),
+    ("multi_positions", 3, Call::Given(GivenCall::MultiPositions)),
+    ("reconstruct", 6, Call::Given(GivenCall::Reconstruct)),
+    ("slice_history", 7, Call::Given(GivenCall::SliceHistory)),
+    ("slice_multi", 5, Call::Given(GivenCall::SliceMulti)),
+    ("slice_range", 6, Call::Given(GivenCall::SliceRange)),
+    ("copy_proof", 4, Call::Bytes(BytesCall::CopyProof)),
+    ("leaf_digests", 3, Call::Bytes(BytesCall::LeafDigests)),
+    ("node_digests", 4, Call::Bytes(BytesCall::NodeDigests)),
+    ("read_hex", 2, Call::Bytes(BytesCall::ReadHex)),
+    ("read_proof", 3, Call::Bytes(BytesCall::ReadProof)),
+    ("root_string", 4, Call::Bytes(BytesCall::RootString)),
+    ("write_chunk", 2, Call::Bytes(BytesCall::WriteChunk)),
+    ("write_hex", 2, Call::Bytes(BytesCall::WriteHex)),
+    ("write_location", 2, Call::Bytes(BytesCall::WriteLocation)),
+    ("write_position", 2, Call::Bytes(BytesCall::WritePosition)),
+    ("write_proof", 4, Call::Bytes(BytesCall::WriteProof)),
+    ("bounds", 2, Call::Structure(StructureCall::Bounds)),
+    ("copy", 3, Call::Structure(StructureCall::Copy)),
+    ("empty", 2, Call::Structure(StructureCall::Empty)),
+    (
+        "from_components",
+        5,
+        Call::Structure(StructureCall::FromComponents),
+    ),
+    ("parts", 5, Call::Structure(StructureCall::Parts)),
+    ("peaks", 2, Call::Structure(StructureCall::Peaks)),
+    ("prune", 3, Call::Structure(StructureCall::Prune)),
+    ("prune_all", 2, Call::Structure(StructureCall::PruneAll)),
+    ("same", 3, Call::Structure(StructureCall::Same)),
+    ("leaves", 2, Call::Node(NodeCall::Leaves)),
+    ("node", 3, Call::Node(NodeCall::Node)),
+    ("nodes", 2, Call::Node(NodeCall::Nodes)),
+    ("root", 3, Call::Node(NodeCall::Root)),
+    ("same_roots", 3, Call::Node(NodeCall::SameRoots)),
+    ("size", 2, Call::Node(NodeCall::Size)),
+    ("apply", 3, Call::Batch(BatchCall::Apply)),
+    ("base", 2, Call::Batch(BatchCall::Base)),
+    ("build", 3, Call::Batch(BatchCall::Build)),
+    ("child", 3, Call::Batch(BatchCall::Child)),
+    ("forget", 3, Call::Batch(BatchCall::Forget)),
+    ("fork", 3, Call::Batch(BatchCall::Fork)),
+    ("from_mem", 3, Call::Batch(BatchCall::FromMem)),
+    ("merkleize", 3, Call::Batch(BatchCall::Merkleize)),
+    (
+        "merkleize_counted",
+        3,
+        Call::Batch(BatchCall::MerkleizeCounted),
+    ),
+    ("pending", 2, Call::Batch(BatchCall::Pending)),
+    ("add", 3, Call::Leaf(LeafCall::Add)),
+    ("add_all", 3, Call::Leaf(LeafCall::AddAll)),
+    ("add_digest", 3, Call::Leaf(LeafCall::AddDigest)),
+    ("add_digests", 3, Call::Leaf(LeafCall::AddDigests)),
+    ("add_list", 3, Call::Leaf(LeafCall::AddList)),
+    ("add_numbers", 3, Call::Leaf(LeafCall::AddNumbers)),
+    ("update", 4, Call::Leaf(LeafCall::Update)),
+    ("update_digest", 4, Call::Leaf(LeafCall::UpdateDigest)),
+    ("update_digests", 3, Call::Leaf(LeafCall::UpdateDigests)),
+    ("update_list", 3, Call::Leaf(LeafCall::UpdateList)),
+    ("prove", 5, Call::Check(CheckCall::Prove)),
+    ("prove_leaves", 3, Call::Check(CheckCall::ProveLeaves)),
+    ("prove_ranges", 3, Call::Check(CheckCall::ProveRanges)),
+    ("prove_stores", 3, Call::Check(CheckCall::ProveStores)),
+    ("prove_written", 3, Call::Check(CheckCall::ProveWritten)),
+    ("multi", 4, Call::Claim(ClaimCall::Multi)),
+    ("prove_pins", 3, Call::Claim(ClaimCall::ProvePins)),
+    ("prove_subsets", 4, Call::Claim(ClaimCall::ProveSubsets)),
+    ("proof", 4, Call::Proof(ProofCall::Proof)),
+    ("proof_over", 5, Call::Proof(ProofCall::ProofOver)),
+    ("range", 5, Call::Proof(ProofCall::Range)),
+    ("range_over", 6, Call::Proof(ProofCall::RangeOver)),
+    ("read_history", 6, Call::Store(StoreCall::ReadHistory)),
+    ("read_multi", 4, Call::Store(StoreCall::ReadMulti)),
+    ("read_range", 5, Call::Store(StoreCall::ReadRange)),
+    ("store", 8, Call::Store(StoreCall::Store)),
+    ("store_multi", 4, Call::Store(StoreCall::StoreMulti)),
+    ("store_node", 3, Call::Store(StoreCall::StoreNode)),
+    ("store_range", 4, Call::Store(StoreCall::StoreRange)),
+    ("suffix_peaks", 2, Call::Store(StoreCall::SuffixPeaks)),
 ];
 
 /// The call with this first word and this number of words.
 pub fn find_call(name: &str, count: usize) -> Option<Call> {
-    family_call(name, count)
-        .or_else(|| plan_call(name, count))
-        .or_else(|| given_call(name, count))
-        .or_else(|| bytes_call(name, count))
-        .or_else(|| structure_call(name, count))
-        .or_else(|| node_call(name, count))
-        .or_else(|| batch_call(name, count))
-        .or_else(|| leaf_call(name, count))
-        .or_else(|| check_call(name, count))
-        .or_else(|| claim_call(name, count))
-        .or_else(|| proof_call(name, count))
-        .or_else(|| store_call(name, count))
-}
-
-fn family_call(name: &str, count: usize) -> Option<Call> {
-    Some(Call::Family(find(&FAMILY_CALLS, name, count)?))
-}
-
-fn plan_call(name: &str, count: usize) -> Option<Call> {
-    Some(Call::Plan(find(&PLAN_CALLS, name, count)?))
-}
-
-fn given_call(name: &str, count: usize) -> Option<Call> {
-    Some(Call::Given(find(&GIVEN_CALLS, name, count)?))
-}
-
-fn bytes_call(name: &str, count: usize) -> Option<Call> {
-    Some(Call::Bytes(find(&BYTES_CALLS, name, count)?))
-}
-
-fn structure_call(name: &str, count: usize) -> Option<Call> {
-    Some(Call::Structure(find(&STRUCTURE_CALLS, name, count)?))
-}
-
-fn node_call(name: &str, count: usize) -> Option<Call> {
-    Some(Call::Node(find(&NODE_CALLS, name, count)?))
-}
-
-fn batch_call(name: &str, count: usize) -> Option<Call> {
-    Some(Call::Batch(find(&BATCH_CALLS, name, count)?))
-}
-
-fn leaf_call(name: &str, count: usize) -> Option<Call> {
-    Some(Call::Leaf(find(&LEAF_CALLS, name, count)?))
-}
-
-fn check_call(name: &str, count: usize) -> Option<Call> {
-    Some(Call::Check(find(&CHECK_CALLS, name, count)?))
-}
-
-fn claim_call(name: &str, count: usize) -> Option<Call> {
-    Some(Call::Claim(find(&CLAIM_CALLS, name, count)?))
-}
-
-fn proof_call(name: &str, count: usize) -> Option<Call> {
-    Some(Call::Proof(find(&PROOF_CALLS, name, count)?))
-}
-
-fn store_call(name: &str, count: usize) -> Option<Call> {
-    Some(Call::Store(find(&STORE_CALLS, name, count)?))
-}
-
-fn find<C: Copy>(calls: &[(&str, usize, C)], name: &str, count: usize) -> Option<C> {
-    for (word, words, call) in calls {
+    for (word, words, call) in &CALLS {
         if *word == name && *words == count {
             return Some(*call);
         }

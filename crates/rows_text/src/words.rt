@@ -11,7 +11,7 @@ fn number(word: &str) -> Option<u64> {
 }
 
 /// Why a word is not read.
-#[derive(Clone, Copy, Debug)]
+#[derive(Clone, Copy)]
 pub enum Unread {
     /// It is not spelled as it has to be.
     Syntax,
@@ -60,10 +60,11 @@ fn located_bytes(alloc: Global, item: &str) -> Result<LocatedBytes, Unread> {
 
 // The item, and how often it stands in its list.
 fn repeated(item: &str) -> Option<(&str, u64)> {
-    match item.split_once('*') {
-        None => Some((item, 1)),
-        Some((item, count)) => Some((item, number(count)?)),
-    }
+    let Some((item, count)) = item.split_once('*') else {
+        return Some((item, 1));
+    };
+    let count = number(count)?;
+    Some((item, count))
 }
 
 // Adds what an item is read as, as often as it stands in its list.
