@@ -210,32 +210,58 @@ fn nodes_and_folds_as_sha2(rt: HostRuntime) {
     }
 }
 
-// Leaves in parts, a position and an element: all with 32 bytes, and the last with one less and one more.
+/// A leaf in the parts in which the hasher gives them: a position, and an element.
+fn leaf_parts(leaf: &[u8]) -> [&[u8]; 2] {
+    let (position, element) = leaf.split_at(leaf.len().min(8));
+    [position, element]
+}
+
+// Leaves in parts: all with 32 bytes, and the last with one less and one more.
 #[test]
 fn leaves_in_parts_as_sha2(rt: HostRuntime) {
     let mut seed = 4;
-    let mut leaves = [[0u8; 41]; 4];
+    let mut leaves = [[0u8; 40]; 3];
+    let mut last = [0u8; 41];
     for _ in 0..100 {
         for leaf in &mut leaves {
             fill(&mut seed, leaf);
         }
-        let [a, b, c, d] = &leaves;
+        fill(&mut seed, &mut last);
+        let [a, b, c] = &leaves;
         for end in 39..42 {
+            let d = &last[..end];
             let digests = hash_four(
-                &[&a[..8], &a[8..40]],
-                &[&b[..8], &b[8..40]],
-                &[&c[..8], &c[8..40]],
-                &[&d[..8], &d[8..end]],
+                &leaf_parts(a),
+                &leaf_parts(b),
+                &leaf_parts(c),
+                &leaf_parts(d),
             );
             let wanted = (
-                Sha256::digest(&a[..40]),
-                Sha256::digest(&b[..40]),
-                Sha256::digest(&c[..40]),
-                Sha256::digest(&d[..end]),
+                Sha256::digest(a),
+                Sha256::digest(b),
+                Sha256::digest(c),
+                Sha256::digest(d),
             );
             assert!(rt; digests == wanted);
         }
     }
+}
+
+/// The first bytes of a message.
+fn first<'a>(rt: &impl Abort, message: &'a [u8], length: usize) -> &'a [u8] {
+    message.get(..length).expect(rt, "bytes of each length")
+}
+
+/// Asserts that the first bytes of four messages, as many as these lengths say, have the digests that `sha2` gives them.
+fn assert_lengths_as_sha2(rt: &impl Abort, messages: [&[u8]; 4], lengths: [usize; 4]) {
+    let [a, b, c, d] = messages;
+    assert_as_sha2(
+        rt,
+        first(rt, a, lengths[0]),
+        first(rt, b, lengths[1]),
+        first(rt, c, lengths[2]),
+        first(rt, d, lengths[3]),
+    );
 }
 
 // Each length up to past the two blocks: alike, one more from lane to lane, and far apart.
@@ -248,9 +274,9 @@ fn lengths_as_sha2(rt: HostRuntime) {
     }
     let [a, b, c, d] = &messages;
     for n in 0..131 {
-        assert_as_sha2(&rt, &a[..n], &b[..n], &c[..n], &d[..n]);
-        assert_as_sha2(&rt, &a[..n], &b[..n + 1], &c[..n + 2], &d[..n + 3]);
-        assert_as_sha2(&rt, &a[..130 - n], &b[..n], &c[..n / 2], &d[..0]);
+        assert_lengths_as_sha2(&rt, [a, b, c, d], [n, n, n, n]);
+        assert_lengths_as_sha2(&rt, [a, b, c, d], [n, n + 1, n + 2, n + 3]);
+        assert_lengths_as_sha2(&rt, [a, b, c, d], [130 - n, n, n / 2, 0]);
     }
 }
 
@@ -264,7 +290,7 @@ fn long_lengths_as_sha2(rt: HostRuntime) {
     }
     let [a, b, c, d] = &messages;
     for n in 0..1029 {
-        assert_as_sha2(&rt, &a[..n], &b[..n + 1], &c[..n], &d[..n / 2]);
-        assert_as_sha2(&rt, &a[..n / 6], &b[..1028 - n], &c[..n / 3], &d[..n]);
+        assert_lengths_as_sha2(&rt, [a, b, c, d], [n, n + 1, n, n / 2]);
+        assert_lengths_as_sha2(&rt, [a, b, c, d], [n / 6, 1028 - n, n / 3, n]);
     }
 }
