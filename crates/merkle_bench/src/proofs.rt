@@ -1,4 +1,4 @@
-//! Proofs, their checks and their stores, measured at one hash and one bagging.
+//! Proofs and their checks, measured at one hash and one bagging.
 
 use crate::stopwatch::Stopwatch;
 use merkle_core::digest::Digest;
@@ -7,20 +7,16 @@ use merkle_core::hasher::Hasher;
 use merkle_core::location::Location;
 use merkle_core::mem::Mem;
 use merkle_core::proof::Proof;
-use merkle_core::verification::ProofStore;
 use std::alloc::Global;
 use std::time::CpuClock;
 
-/// The most leaves of a range, but for that of a store.
+/// The most leaves of a range, but for a long one.
 const MOST_IN_RANGE: u64 = 50;
 
-/// The most leaves of a store's range.
-const MOST_IN_STORE: u64 = 1000;
+/// The most leaves of a long range.
+const MOST_IN_LONG_RANGE: u64 = 1000;
 
-/// How many parts of a store's range are proved.
-const PARTS: usize = 100;
-
-/// How often a proof is checked and a store is made.
+/// How often the proof of a long range is checked.
 const TIMES: usize = 5;
 
 /// Leaves in a row: the first one, and the one after the last.
@@ -40,42 +36,7 @@ enum Task {
     RangeCheck,
     PinnedCheck,
     Extraction,
-    Store,
 }
-
-/// The names of the rows of the stores of one bagging.
-#[derive(Clone, Copy)]
-pub struct StoreRows {
-    check: Option<&'static str>,
-    extraction: &'static str,
-    store: &'static str,
-    one_by_structure: &'static str,
-    one_by_store: &'static str,
-    range_by_structure: &'static str,
-    range_by_store: &'static str,
-}
-
-/// The rows of the stores folded forward.
-pub const FORWARD_ROWS: StoreRows = StoreRows {
-    check: Some("check of 1000"),
-    extraction: "extraction of 1000",
-    store: "store of 1000",
-    one_by_structure: "part of one: structure",
-    one_by_store: "part of one: store",
-    range_by_structure: "part of 50: structure",
-    range_by_store: "part of 50: store",
-};
-
-/// The rows of the stores folded backward.
-pub const BACKWARD_ROWS: StoreRows = StoreRows {
-    check: None,
-    extraction: "extraction of 1000, backward",
-    store: "store of 1000, backward",
-    one_by_structure: "part of one: structure, backward",
-    one_by_store: "part of one: store, backward",
-    range_by_structure: "part of 50: structure, backward",
-    range_by_store: "part of 50: store, backward",
-};
 
 /// A proof of leaves in a row.
 #[derive(Drop)]
@@ -161,27 +122,6 @@ impl<'a, F: Family, H: Hasher<F>> Proofs<'a, F, H> {
         watch.keep(&digests.to_be_bytes());
     }
 
-    // Makes a store's proofs of these leaves, and lets them go.
-    fn serve_each<C: CpuClock>(
-        &self,
-        watch: &mut Stopwatch<C>,
-        work: &'static str,
-        store: &ProofStore<F, H::Digest>,
-        ranges: &[LeafRange],
-    ) {
-        let mut digests: usize = 0;
-        let begun = watch.now();
-        for (start, end) in ranges {
-            let range = Location::new(*start)..Location::new(*end);
-            match store.range_proof(self.hasher, range) {
-                Ok(proof) => digests = digests.wrapping_add(proof.digests.len()),
-                Err(_) => watch.is_whole = false,
-            }
-        }
-        watch.note(self.tree, work, ranges.len() as u64, begun);
-        watch.keep(&digests.to_be_bytes());
-    }
-
     // Whether a task with a proof and the elements of its leaves is done.
     fn does(&self, task: Task, case: &Case<F, H::Digest>) -> bool {
         let (hasher, proof, root) = (self.hasher, &case.proof, &self.root);
@@ -209,7 +149,6 @@ impl<'a, F: Family, H: Hasher<F>> Proofs<'a, F, H> {
             Task::Extraction => proof
                 .verify_range_inclusion_and_extract_digests(hasher, elements, start, root)
                 .is_ok(),
-            Task::Store => ProofStore::new(hasher, proof, elements, start, root).is_ok(),
         }
     }
 
@@ -236,12 +175,12 @@ impl<'a, F: Family, H: Hasher<F>> Proofs<'a, F, H> {
         backward: &Self,
         leaves: &[u64],
     ) -> Option<Vec<Case<F, H::Digest>>> {
-        let all = (0, self.elements.len() as u64);
-        let ranges = ranges_of(self.alloc, leaves, all, all.1, 1)?;
+        let count = self.elements.len() as u64;
+        let ranges = ranges_of(self.alloc, leaves, count, 1)?;
         self.prove_each(watch, "proof of one", Query::Leaf, &ranges);
         let ones = self.cases(&ranges)?;
         self.do_each(watch, "check of one", Task::LeafCheck, &ones);
-        let ranges = ranges_of(self.alloc, leaves, all, all.1, MOST_IN_RANGE)?;
+        let ranges = ranges_of(self.alloc, leaves, count, MOST_IN_RANGE)?;
         self.prove_each(watch, "proof of 50", Query::Range, &ranges);
         let cases = self.cases(&ranges)?;
         self.do_each(watch, "check of 50", Task::RangeCheck, &cases);
@@ -252,39 +191,13 @@ impl<'a, F: Family, H: Hasher<F>> Proofs<'a, F, H> {
         Some(ones)
     }
 
-    /// A proof of leaves in a row, from a third of all leaves on, its checks and stores, and the proofs of parts of its range.
-    pub fn measure_store<C: CpuClock>(
-        &self,
-        watch: &mut Stopwatch<C>,
-        rows: &StoreRows,
-        numbers: &[u64],
-    ) -> Option<()> {
+    /// The check of a proof of many leaves in a row, from a third of all leaves on.
+    pub fn measure_long_check<C: CpuClock>(&self, watch: &mut Stopwatch<C>) -> Option<()> {
         let leaves = self.elements.len() as u64;
-        let within = (
-            leaves / 3,
-            (leaves / 3).saturating_add(MOST_IN_STORE).min(leaves),
-        );
-        let cases = self.cases(&[within; TIMES])?;
-        if let Some(check) = rows.check {
-            self.do_each(watch, check, Task::RangeCheck, &cases);
-        }
-        self.do_each(watch, rows.extraction, Task::Extraction, &cases);
-        self.do_each(watch, rows.store, Task::Store, &cases);
-        let proof = &cases.first()?.proof;
-        let elements = self.elements.get(within.0 as usize..within.1 as usize)?;
-        let start = Location::new(within.0);
-        let Ok(store) = ProofStore::new(self.hasher, proof, elements, start, &self.root) else {
-            return None;
-        };
-        let numbers = numbers.get(..PARTS.min(numbers.len()))?;
-        let places = within.1.saturating_sub(within.0);
-        let ones = ranges_of(self.alloc, numbers, within, places.saturating_sub(1), 1)?;
-        self.prove_each(watch, rows.one_by_structure, Query::Range, &ones);
-        self.serve_each(watch, rows.one_by_store, &store, &ones);
-        let places = places.saturating_sub(MOST_IN_RANGE);
-        let ranges = ranges_of(self.alloc, numbers, within, places, MOST_IN_RANGE)?;
-        self.prove_each(watch, rows.range_by_structure, Query::Range, &ranges);
-        self.serve_each(watch, rows.range_by_store, &store, &ranges);
+        let start = leaves / 3;
+        let end = start.saturating_add(MOST_IN_LONG_RANGE).min(leaves);
+        let cases = self.cases(&[(start, end); TIMES])?;
+        self.do_each(watch, "check of 1000", Task::RangeCheck, &cases);
         Some(())
     }
 }
@@ -305,19 +218,12 @@ fn pins_of<F: Family, D: Digest>(
     Some(pins)
 }
 
-// Ranges of at most so many leaves within a range, one for each number, which tells the place of its first leaf.
-fn ranges_of(
-    alloc: Global,
-    numbers: &[u64],
-    within: LeafRange,
-    places: u64,
-    most: u64,
-) -> Option<Vec<LeafRange>> {
+// Ranges of at most so many leaves, each from one of these leaves on, the last of them up to the leaf count.
+fn ranges_of(alloc: Global, starts: &[u64], leaves: u64, most: u64) -> Option<Vec<LeafRange>> {
     let mut ranges = Vec::new(alloc);
-    for number in numbers {
-        let start = within.0.saturating_add(*number % places.max(1));
-        let end = start.saturating_add(most).min(within.1);
-        ranges.push((start, end)).ok()?;
+    for start in starts {
+        let end = start.saturating_add(most).min(leaves);
+        ranges.push((*start, end)).ok()?;
     }
     Some(ranges)
 }

@@ -3,7 +3,7 @@
 use crate::codec::measure_codec;
 use crate::hashers::Hashers;
 use crate::nodes::measure_nodes;
-use crate::proofs::{BACKWARD_ROWS, FORWARD_ROWS, Proofs};
+use crate::proofs::Proofs;
 use crate::scattered::measure_scattered;
 use crate::stopwatch::Stopwatch;
 use crate::workload::{ELEMENT_SIZE, Workload};
@@ -144,7 +144,7 @@ impl<F: Family, H: Hasher<F>> Trees<'_, F, H> {
         )
     }
 
-    // Proofs, their checks, stores and bytes.
+    // Proofs, their checks and bytes.
     fn proofs<C: CpuClock>(&self, watch: &mut Stopwatch<C>) -> Option<()> {
         let leaves = self.scattered;
         let forward = self.proofs_by(&self.hashers.forward)?;
@@ -159,8 +159,7 @@ impl<F: Family, H: Hasher<F>> Trees<'_, F, H> {
             self.elements,
             leaves,
         )?;
-        forward.measure_store(watch, &FORWARD_ROWS, leaves)?;
-        backward.measure_store(watch, &BACKWARD_ROWS, leaves)?;
+        forward.measure_long_check(watch)?;
         measure_codec(self.alloc, watch, self.name, &ones);
         Some(())
     }
