@@ -5,9 +5,6 @@
 //! entries so far, or else such inputs are at hand. Honest proofs are accepted.
 #![tactic(auto)]
 
-#[cfg(test)]
-mod tests;
-
 ghost use Rattle.std.specs.Prelude.{◌≡◌, ◌↔◌, ◌∷◌, [], IsTrue, IfOk, OnErr, false};
 ghost use Rattle.merkle_core.specs.Walk.{bytes_of};
 ghost use Rattle.merkle_core.specs.Input.{input_of};

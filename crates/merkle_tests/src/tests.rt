@@ -1,9 +1,10 @@
-//! Hashers, paths, values, added leaves, counts, lines, and proofs over what holds nodes, with values that were worked out by
-//! hand.
+//! Hashers, paths, values, added leaves, counts, lines, clients, and proofs over what holds nodes, with values that were worked out
+//! by hand.
 //!
 //! A digest of `Xor8` is the exclusive or of the bytes that it hashes.
 
 mod additions;
+mod clients;
 mod counts;
 mod hashers;
 mod lines;

@@ -19,22 +19,22 @@ fn answer_world<F: Family, H: Hasher<F> + Drop>(
     let mut words = Words::new(world.alloc, words);
     let words = &mut words;
     match call {
-        Call::Family(call) => rows_families::calls::answer::<F, H>(call, words, answer)?,
+        Call::Family(call) => rows_given::calls::answer_family::<F, H>(call, words, answer)?,
         Call::Plan(call) => {
-            rows_families::calls::answer_plan::<F, H>(&world.hasher, call, words, answer)?
+            rows_given::calls::answer_plan::<F, H>(&world.hasher, call, words, answer)?
         }
         Call::Given(call) => {
             rows_given::calls::answer::<F, H>(&world.hasher, call, words, answer)?
         }
         Call::Bytes(call) => {
-            rows_bytes::calls::answer::<F, H>(&world.hasher, call, words, answer)?
+            rows_given::calls::answer_bytes::<F, H>(&world.hasher, call, words, answer)?
         }
         Call::Structure(call) => rows_structures::calls::answer(world, call, words, answer)?,
         Call::Node(call) => rows_structures::calls::answer_node(world, call, words, answer)?,
-        Call::Batch(call) => rows_batches::calls::answer(world, call, words, answer)?,
-        Call::Leaf(call) => rows_batches::calls::answer_leaf(world, call, words)?,
+        Call::Batch(call) => rows_structures::calls::answer_batch(world, call, words, answer)?,
+        Call::Leaf(call) => rows_structures::calls::answer_leaf(world, call, words)?,
         Call::Check(call) => rows_checks::calls::answer(world, call, words, answer)?,
-        Call::Claim(call) => rows_claims::calls::answer(world, call, words, answer)?,
+        Call::Claim(call) => rows_checks::calls::answer_claim(world, call, words, answer)?,
         Call::Proof(call) => rows_proofs::calls::answer(world, call, words, answer)?,
         Call::Store(call) => rows_proofs::calls::answer_store(world, call, words, answer)?,
     }

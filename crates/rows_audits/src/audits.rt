@@ -9,8 +9,8 @@ use merkle_core::family::Family;
 use merkle_core::hasher::Hasher;
 use merkle_core::location::Location;
 use merkle_core::proof::Proof;
-use rows_common::granted;
-use rows_common::values::{digest, digests, proof};
+use rows_given::refusal::granted;
+use rows_given::values::{digest, digests, proof};
 use rows_text::answer::Answer;
 use rows_text::refusal::{OUT_OF_MEMORY, Refusal};
 use rows_text::words::{LocatedBytes, Words};
@@ -89,7 +89,7 @@ pub fn range<F: Family, H: Hasher<F>>(
     let found = words.elements();
     let all = words.slices(&found);
     words.end()?;
-    let verdict = granted!(audit_range(hasher, &list, inactive, &proof, &all, start));
+    let verdict = granted(audit_range(hasher, &list, inactive, &proof, &all, start))?;
     write_verdict(answer, verdict);
     Ok(())
 }
@@ -110,7 +110,7 @@ fn audit_scattered<F: Family, H: Hasher<F>>(
             return Err(OUT_OF_MEMORY);
         }
     }
-    Ok(granted!(audit_multi(hasher, list, inactive, proof, &all)))
+    granted(audit_multi(hasher, list, inactive, proof, &all))
 }
 
 /// What an audit of a proof of leaves anywhere says.
@@ -143,7 +143,7 @@ pub fn pins<F: Family, H: Hasher<F>>(
     let pinned: Vec<H::Digest> = digests(words);
     let all = words.slices(&found);
     words.end()?;
-    let verdict = granted!(audit_pins(hasher, &list, inactive, &proof, &all, start, &pinned));
+    let verdict = granted(audit_pins(hasher, &list, inactive, &proof, &all, start, &pinned))?;
     write_verdict(answer, verdict);
     Ok(())
 }
@@ -157,7 +157,7 @@ pub fn apply<F: Family, H: Hasher<F>>(
     let listed: Vec<H::Digest> = digests(words);
     let claimed: Vec<H::Digest> = digests(words);
     words.end()?;
-    match granted!(audit_apply::<F, H>(words.alloc(), hasher, &listed, &claimed)) {
+    match granted(audit_apply::<F, H>(words.alloc(), hasher, &listed, &claimed))? {
         ApplyVerdict::Refused => answer.text("refused"),
         ApplyVerdict::Same => answer.text("same"),
         ApplyVerdict::Collision {
@@ -187,7 +187,7 @@ pub fn pair<F: Family, H: Hasher<F>>(
     words.end()?;
     let first = (&one, all.as_slice(), start);
     let second = (&other, other_all.as_slice(), other_start);
-    match granted!(audit_pair(hasher, &root, first, second)) {
+    match granted(audit_pair(hasher, &root, first, second))? {
         PairVerdict::Rejected => answer.text("rejected"),
         PairVerdict::Consistent => answer.text("consistent"),
         PairVerdict::Collision {

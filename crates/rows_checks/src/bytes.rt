@@ -8,8 +8,8 @@ use merkle_core::hasher::Hasher;
 use merkle_core::location::Location;
 use merkle_core::mem::Mem;
 use merkle_core::proof::{MAX_PROOF_DIGESTS_PER_ELEMENT, Proof};
-use rows_common::granted;
-use rows_common::sweep::{sum_by_inactive, sum_by_range};
+use rows_given::refusal::granted;
+use rows_given::sweep::{sum_by_inactive, sum_by_range};
 use rows_text::refusal::{OUT_OF_MEMORY, Refusal};
 use std::alloc::Global;
 
@@ -42,8 +42,8 @@ fn proves_written<F: Family, H: Hasher<F>>(
 ) -> Result<bool, Refusal> {
     let first = Location::from(start);
     let end = Location::from(start.saturating_add(elements.len()));
-    let root = granted!(structure.root(hasher, inactive));
-    let proof = granted!(structure.range_proof(hasher, first..end, inactive));
+    let root = granted(structure.root(hasher, inactive))?;
+    let proof = granted(structure.range_proof(hasher, first..end, inactive))?;
     let mut bytes = Vec::new(alloc);
     if proof.write(&mut bytes).is_err() {
         return Err(OUT_OF_MEMORY);

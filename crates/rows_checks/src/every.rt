@@ -1,12 +1,16 @@
-//! Calls that prove and check every leaf or range of a structure.
+//! Calls that prove and check every leaf, range or choice of leaves of a structure, and the one that proves a choice.
 
 use crate::bytes::written_proved;
+use crate::parts::parts_proved;
+use crate::pinned::pinned_ranges_proved;
 use crate::ranges::{leaves_proved, proves_leaf, ranges_proved};
-use crate::stores::parts_proved;
+use crate::scattered::scattered_proof;
+use crate::subsets::subsets_proved;
 use merkle_core::family::Family;
 use merkle_core::hasher::Hasher;
 use merkle_core::location::Location;
-use rows_common::writing::write_proved;
+use rows_given::values::locations;
+use rows_given::writing::{write_proof, write_proved};
 use rows_text::answer::Answer;
 use rows_text::refusal::Refusal;
 use rows_text::words::{Words, named};
@@ -89,5 +93,54 @@ pub fn prove_stores<F: Family, H: Hasher<F> + Drop>(
     let all = words.slices(&list);
     words.end()?;
     write_proved(answer, parts_proved(&world.hasher, structure, &all));
+    Ok(())
+}
+
+/// Proves each range with the pins before it for each number of inactive peaks, and counts the proofs.
+pub fn prove_pins<F: Family, H: Hasher<F> + Drop>(
+    world: &World<F, H>,
+    words: &mut Words,
+    answer: &mut Answer,
+) -> Result<(), Refusal> {
+    let structure = named(&world.structures, words.word())?;
+    let list = words.elements();
+    let all = words.slices(&list);
+    words.end()?;
+    write_proved(
+        answer,
+        pinned_ranges_proved(world.alloc, &world.hasher, structure, &all),
+    );
+    Ok(())
+}
+
+/// Proves each choice of a limited number of leaves for each number of inactive peaks, and counts the proofs.
+pub fn prove_subsets<F: Family, H: Hasher<F> + Drop>(
+    world: &World<F, H>,
+    words: &mut Words,
+    answer: &mut Answer,
+) -> Result<(), Refusal> {
+    let structure = named(&world.structures, words.word())?;
+    let list = words.elements();
+    let most = words.number();
+    words.end()?;
+    write_proved(
+        answer,
+        subsets_proved(world.alloc, &world.hasher, structure, &list, most),
+    );
+    Ok(())
+}
+
+/// The proof of leaves anywhere in a structure.
+pub fn multi<F: Family, H: Hasher<F> + Drop>(
+    world: &World<F, H>,
+    words: &mut Words,
+    answer: &mut Answer,
+) -> Result<(), Refusal> {
+    let structure = named(&world.structures, words.word())?;
+    let list = locations(words);
+    let inactive = words.count();
+    words.end()?;
+    let proof = scattered_proof(world.alloc, structure, &list, inactive)?;
+    write_proof(answer, &proof);
     Ok(())
 }

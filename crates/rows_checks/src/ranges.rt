@@ -5,10 +5,10 @@ use merkle_core::hasher::Hasher;
 use merkle_core::location::Location;
 use merkle_core::mem::Mem;
 use merkle_core::proof::Proof;
-use rows_common::changes::changed;
-use rows_common::granted;
-use rows_common::sweep::{sum_by_inactive, sum_by_range};
+use rows_given::changes::changed;
 use rows_given::checks::{accepts_leaf, accepts_range};
+use rows_given::refusal::granted;
+use rows_given::sweep::{sum_by_inactive, sum_by_range};
 use rows_text::refusal::Refusal;
 use std::alloc::Global;
 
@@ -37,8 +37,8 @@ pub fn proves_leaf<F: Family, H: Hasher<F>>(
     element: &[u8],
     inactive: usize,
 ) -> Result<bool, Refusal> {
-    let root = granted!(structure.root(hasher, inactive));
-    let proof = granted!(structure.proof(hasher, leaf, inactive));
+    let root = granted(structure.root(hasher, inactive))?;
+    let proof = granted(structure.proof(hasher, leaf, inactive))?;
     if proof.leaves != structure.leaves() || proof.inactive_peaks != inactive {
         return Ok(false);
     }
@@ -114,8 +114,8 @@ fn proves_range<F: Family, H: Hasher<F>>(
 ) -> Result<bool, Refusal> {
     let first = Location::from(start);
     let end = Location::from(start.saturating_add(elements.len()));
-    let root = granted!(structure.root(hasher, inactive));
-    let proof = granted!(structure.range_proof(hasher, first..end, inactive));
+    let root = granted(structure.root(hasher, inactive))?;
+    let proof = granted(structure.range_proof(hasher, first..end, inactive))?;
     accept_these_alone(alloc, hasher, &proof, elements, first, &root)
 }
 

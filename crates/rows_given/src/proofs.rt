@@ -1,16 +1,15 @@
 //! Calls of given proofs.
 
 use crate::checks::{accepts_leaf, accepts_range, accepts_scattered};
+use crate::refusal::{granted, unreconstructed};
+use crate::values::{digest, digests, locations, proof};
+use crate::writing::{write_pairs, write_positions};
 use merkle_base::family::Family;
 use merkle_base::location::Location;
 use merkle_digest::digest::Digest;
 use merkle_hasher::hasher::Hasher;
 use merkle_proof::proof::{Proof, multi_proof_positions};
 use merkle_verification::verification::ProofStore;
-use rows_common::granted;
-use rows_common::refusal::unreconstructed;
-use rows_common::values::{digest, digests, locations, proof};
-use rows_common::writing::{write_pairs, write_positions};
 use rows_text::answer::Answer;
 use rows_text::refusal::{OUT_OF_MEMORY, Refusal};
 use rows_text::words::Words;
@@ -85,7 +84,7 @@ pub fn multi_positions<F: Family>(words: &mut Words, answer: &mut Answer) -> Res
     let list = locations(words);
     words.end()?;
     let positions = multi_proof_positions::<F>(words.alloc(), leaves, &list);
-    write_positions(answer, &granted!(positions));
+    write_positions(answer, &granted(positions)?);
     Ok(())
 }
 
@@ -102,7 +101,7 @@ pub fn extract<F: Family, H: Hasher<F>>(
     let all = words.slices(&found);
     words.end()?;
     let pairs = proof.verify_range_inclusion_and_extract_digests(hasher, &all, start, &root);
-    write_pairs(answer, &granted!(pairs));
+    write_pairs(answer, &granted(pairs)?);
     Ok(())
 }
 
@@ -137,5 +136,5 @@ pub fn new_store<F: Family, H: Hasher<F>>(
     let root = digest(words);
     let all = words.slices(&found);
     words.end()?;
-    Ok(granted!(ProofStore::new(hasher, &proof, &all, start, &root)))
+    granted(ProofStore::new(hasher, &proof, &all, start, &root))
 }

@@ -1,6 +1,9 @@
 //! Calls of proofs over what holds nodes.
 ghost use Rattle.std.specs.Prelude.{◌≡◌, slice_get};
 
+use crate::refusal::granted;
+use crate::values::{digests, locations, range};
+use crate::writing::write_proof;
 use merkle_base::family::Family;
 use merkle_base::location::Location;
 use merkle_base::position::Position;
@@ -8,9 +11,6 @@ use merkle_digest::digest::Digest;
 use merkle_hasher::hasher::Hasher;
 use merkle_hasher::read::Readable;
 use merkle_verification::verification::{historical_range_proof, multi_proof, range_proof};
-use rows_common::granted;
-use rows_common::values::{digests, locations, range};
-use rows_common::writing::write_proof;
 use rows_text::answer::Answer;
 use rows_text::refusal::Refusal;
 use rows_text::words::Words;
@@ -62,7 +62,7 @@ pub fn range_over<R: Readable, H: Hasher<R::Family, Digest = R::Digest>>(
     let range = range(words);
     let inactive = words.count();
     words.end()?;
-    let proof = granted!(range_proof(words.alloc(), hasher, reader, range, inactive));
+    let proof = granted(range_proof(words.alloc(), hasher, reader, range, inactive))?;
     write_proof(answer, &proof);
     Ok(())
 }
@@ -79,7 +79,7 @@ pub fn history_over<R: Readable, H: Hasher<R::Family, Digest = R::Digest>>(
     let inactive = words.count();
     words.end()?;
     let proof = historical_range_proof(words.alloc(), hasher, reader, leaves, range, inactive);
-    write_proof(answer, &granted!(proof));
+    write_proof(answer, &granted(proof)?);
     Ok(())
 }
 
@@ -92,7 +92,7 @@ pub fn multi_over<R: Readable>(
     let inactive = words.count();
     let list = locations(words);
     words.end()?;
-    let proof = granted!(multi_proof(words.alloc(), reader, inactive, &list));
+    let proof = granted(multi_proof(words.alloc(), reader, inactive, &list))?;
     write_proof(answer, &proof);
     Ok(())
 }

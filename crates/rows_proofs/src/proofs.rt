@@ -3,8 +3,9 @@
 use merkle_core::family::Family;
 use merkle_core::hasher::Hasher;
 use merkle_core::location::Location;
-use rows_common::writing::write_proof;
-use rows_common::{granted, values};
+use rows_given::refusal::granted;
+use rows_given::values;
+use rows_given::writing::write_proof;
 use rows_text::answer::Answer;
 use rows_text::refusal::Refusal;
 use rows_text::words::{Words, named};
@@ -20,7 +21,7 @@ pub fn proof<F: Family, H: Hasher<F> + Drop>(
     let leaf = Location::new(words.number());
     let inactive = words.count();
     words.end()?;
-    let proof = granted!(structure.proof(&world.hasher, leaf, inactive));
+    let proof = granted(structure.proof(&world.hasher, leaf, inactive))?;
     write_proof(answer, &proof);
     Ok(())
 }
@@ -35,7 +36,7 @@ pub fn range<F: Family, H: Hasher<F> + Drop>(
     let range = values::range(words);
     let inactive = words.count();
     words.end()?;
-    let proof = granted!(structure.range_proof(&world.hasher, range, inactive));
+    let proof = granted(structure.range_proof(&world.hasher, range, inactive))?;
     write_proof(answer, &proof);
     Ok(())
 }
@@ -51,7 +52,7 @@ pub fn proof_over<F: Family, H: Hasher<F> + Drop>(
     let leaf = Location::new(words.number());
     let inactive = words.count();
     words.end()?;
-    let proof = granted!(batch.proof(base, &world.hasher, leaf, inactive));
+    let proof = granted(batch.proof(base, &world.hasher, leaf, inactive))?;
     write_proof(answer, &proof);
     Ok(())
 }
@@ -67,7 +68,7 @@ pub fn range_over<F: Family, H: Hasher<F> + Drop>(
     let range = values::range(words);
     let inactive = words.count();
     words.end()?;
-    let proof = granted!(batch.range_proof(base, &world.hasher, range, inactive));
+    let proof = granted(batch.range_proof(base, &world.hasher, range, inactive))?;
     write_proof(answer, &proof);
     Ok(())
 }

@@ -3,10 +3,10 @@
 use merkle_core::family::Family;
 use merkle_core::hasher::Hasher;
 use merkle_core::position::Position;
-use rows_common::granted;
-use rows_common::values::{locations, pairs, range};
-use rows_common::writing::{write_node, write_positions, write_proof};
 use rows_given::proofs::new_store;
+use rows_given::refusal::granted;
+use rows_given::values::{locations, pairs, range};
+use rows_given::writing::{write_node, write_positions, write_proof};
 use rows_text::answer::Answer;
 use rows_text::refusal::Refusal;
 use rows_text::words::{Words, give_name, named};
@@ -44,7 +44,7 @@ pub fn store_range<F: Family, H: Hasher<F> + Drop>(
     let store = named(&world.stores, words.word())?;
     let range = range(words);
     words.end()?;
-    let proof = granted!(store.range_proof(&world.hasher, range));
+    let proof = granted(store.range_proof(&world.hasher, range))?;
     write_proof(answer, &proof);
     Ok(())
 }
@@ -59,7 +59,7 @@ pub fn store_multi<F: Family, H: Hasher<F> + Drop>(
     let list = locations(words);
     let given = pairs(words);
     words.end()?;
-    let proof = granted!(store.multi_proof(&list, &given));
+    let proof = granted(store.multi_proof(&list, &given))?;
     write_proof(answer, &proof);
     Ok(())
 }

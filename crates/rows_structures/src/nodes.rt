@@ -4,8 +4,9 @@ use merkle_core::digest::Digest;
 use merkle_core::family::Family;
 use merkle_core::hasher::Hasher;
 use merkle_core::position::Position;
-use rows_common::writing::{write_node, write_nodes};
-use rows_common::{MOST_PEAKS, granted};
+use rows_given::MOST_PEAKS;
+use rows_given::refusal::granted;
+use rows_given::writing::{write_node, write_nodes};
 use rows_text::answer::Answer;
 use rows_text::refusal::Refusal;
 use rows_text::words::{Words, named};
@@ -79,7 +80,7 @@ fn root_of<F: Family, H: Hasher<F> + Drop>(
         Some(structure) => structure.root(&world.hasher, inactive),
         None => named(&world.batches, name)?.root(&world.hasher, inactive),
     };
-    Ok(granted!(root))
+    granted(root)
 }
 
 /// The root of a structure or batch.

@@ -6,9 +6,9 @@ use merkle_core::hasher::Hasher;
 use merkle_core::location::Location;
 use merkle_core::mem::{Config, Mem};
 use merkle_core::position::Position;
-use rows_common::granted;
-use rows_common::values::digests;
-use rows_common::writing::write_peaks;
+use rows_given::refusal::{granted, refused};
+use rows_given::values::digests;
+use rows_given::writing::write_peaks;
 use rows_text::answer::Answer;
 use rows_text::refusal::{Refusal, UNKNOWN};
 use rows_text::words::{Words, give_name, named};
@@ -47,11 +47,11 @@ pub fn parts<F: Family, H: Hasher<F> + Drop>(
     let nodes = digests(words);
     let pinned_nodes = digests(words);
     words.end()?;
-    let structure = granted!(Mem::init(Config {
+    let structure = granted(Mem::init(Config {
         nodes,
         pruning_boundary,
         pinned_nodes,
-    }));
+    }))?;
     give_name(world.alloc, &mut world.structures, name, structure)
 }
 
@@ -65,7 +65,7 @@ pub fn from_components<F: Family, H: Hasher<F> + Drop>(
     let nodes = digests(words);
     let pins = digests(words);
     words.end()?;
-    let structure = granted!(Mem::from_components(nodes, boundary, pins));
+    let structure = granted(Mem::from_components(nodes, boundary, pins))?;
     give_name(world.alloc, &mut world.structures, name, structure)
 }
 
@@ -80,8 +80,11 @@ pub fn prune<F: Family, H: Hasher<F> + Drop>(
     let Some(structure) = world.structures.get_mut(name) else {
         return Err(UNKNOWN);
     };
-    granted!(structure.prune(boundary));
-    Ok(())
+    // Not by `granted`: the check has no rule for passing on by value what a call through a table's `&mut` answers.
+    match structure.prune(boundary) {
+        Ok(()) => Ok(()),
+        Err(error) => Err(refused(&error)),
+    }
 }
 
 /// Prunes all leaves of a structure.
@@ -92,8 +95,10 @@ pub fn prune_all<F: Family, H: Hasher<F> + Drop>(
     let Some(structure) = world.structures.get_mut(name) else {
         return Err(UNKNOWN);
     };
-    granted!(structure.prune_all());
-    Ok(())
+    match structure.prune_all() {
+        Ok(()) => Ok(()),
+        Err(error) => Err(refused(&error)),
+    }
 }
 
 // Whether two structures have the same counts and nodes.

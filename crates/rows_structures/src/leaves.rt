@@ -5,8 +5,8 @@ use merkle_core::batch::UnmerkleizedBatch;
 use merkle_core::family::Family;
 use merkle_core::hasher::Hasher;
 use merkle_core::location::Location;
-use rows_common::granted;
-use rows_common::values::{digest, digests, updates};
+use rows_given::refusal::granted;
+use rows_given::values::{digest, digests, updates};
 use rows_text::refusal::Refusal;
 use rows_text::words::{LocatedBytes, Words, named};
 use rows_world::world::World;
@@ -19,7 +19,7 @@ fn with_elements<F: Family, H: Hasher<F>>(
     elements: &[Vec<u8>],
 ) -> Result<UnmerkleizedBatch<F, H::Digest>, Refusal> {
     for element in elements {
-        draft = granted!(draft.add(hasher, element.as_slice()));
+        draft = granted(draft.add(hasher, element.as_slice()))?;
     }
     Ok(draft)
 }
@@ -34,7 +34,7 @@ fn with_numbers<F: Family, H: Hasher<F>>(
         let mut element = [0u8; 32];
         let location = draft.leaves().as_u64();
         element[..8].copy_from_slice(&location.to_be_bytes());
-        draft = granted!(draft.add(hasher, &element));
+        draft = granted(draft.add(hasher, &element))?;
     }
     Ok(draft)
 }
@@ -89,7 +89,7 @@ fn add_leaves<F: Family, H: Hasher<F> + Drop>(
     name: &str,
     leaves: &[H::Digest],
 ) -> Result<(), Refusal> {
-    let draft = granted!(take_draft(world, name)?.add_leaf_digests(leaves));
+    let draft = granted(take_draft(world, name)?.add_leaf_digests(leaves))?;
     keep_draft(world, name, draft)
 }
 
@@ -99,7 +99,7 @@ fn update_all<F: Family, H: Hasher<F> + Drop>(
     name: &str,
     updates: &[(Location<F>, H::Digest)],
 ) -> Result<(), Refusal> {
-    let draft = granted!(take_draft(world, name)?.update_leaf_batched(updates));
+    let draft = granted(take_draft(world, name)?.update_leaf_batched(updates))?;
     keep_draft(world, name, draft)
 }
 
@@ -125,7 +125,7 @@ pub fn add_all<F: Family, H: Hasher<F> + Drop>(
     let elements = words.elements();
     let all = words.slices(&elements);
     words.end()?;
-    let draft = granted!(take_draft(world, name)?.add_all(&world.hasher, &all));
+    let draft = granted(take_draft(world, name)?.add_all(&world.hasher, &all))?;
     keep_draft(world, name, draft)
 }
 
@@ -150,7 +150,7 @@ pub fn add_digest<F: Family, H: Hasher<F> + Drop>(
 ) -> Result<(), Refusal> {
     let leaf = digest(words);
     words.end()?;
-    let draft = granted!(take_draft(world, name)?.add_leaf_digest(leaf));
+    let draft = granted(take_draft(world, name)?.add_leaf_digest(leaf))?;
     keep_draft(world, name, draft)
 }
 
@@ -188,7 +188,7 @@ pub fn update<F: Family, H: Hasher<F> + Drop>(
     let element = words.bytes();
     words.end()?;
     let draft = take_draft(world, name)?;
-    let draft = granted!(draft.update_leaf(&world.hasher, leaf, element.as_slice()));
+    let draft = granted(draft.update_leaf(&world.hasher, leaf, element.as_slice()))?;
     keep_draft(world, name, draft)
 }
 
@@ -201,7 +201,7 @@ pub fn update_digest<F: Family, H: Hasher<F> + Drop>(
     let leaf = Location::new(words.number());
     let to = digest(words);
     words.end()?;
-    let draft = granted!(take_draft(world, name)?.update_leaf_digest(leaf, to));
+    let draft = granted(take_draft(world, name)?.update_leaf_digest(leaf, to))?;
     keep_draft(world, name, draft)
 }
 

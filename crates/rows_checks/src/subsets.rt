@@ -7,10 +7,10 @@ use merkle_core::hasher::Hasher;
 use merkle_core::location::Location;
 use merkle_core::mem::Mem;
 use merkle_core::proof::Proof;
-use rows_common::changes::{changed, other_digest};
-use rows_common::granted;
-use rows_common::sweep::sum_by_inactive;
+use rows_given::changes::{changed, other_digest};
 use rows_given::checks::accepts_scattered;
+use rows_given::refusal::granted;
+use rows_given::sweep::sum_by_inactive;
 use rows_text::refusal::Refusal;
 use rows_text::words::LocatedBytes;
 use std::alloc::Global;
@@ -62,7 +62,7 @@ fn proves_choice<F: Family, H: Hasher<F>>(
     choice: u64,
     inactive: usize,
 ) -> Result<bool, Refusal> {
-    let root = granted!(structure.root(hasher, inactive));
+    let root = granted(structure.root(hasher, inactive))?;
     let elements = chosen(alloc, elements, choice)?;
     let mut locations = Vec::new(alloc);
     for element in &elements {

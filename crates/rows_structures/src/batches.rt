@@ -6,7 +6,7 @@ use merkle_core::batch::MerkleizedBatch;
 use merkle_core::family::{Family, Work};
 use merkle_core::hasher::Hasher;
 use merkle_core::mem::Mem;
-use rows_common::granted;
+use rows_given::refusal::{granted, refused};
 use rows_text::answer::Answer;
 use rows_text::refusal::{Refusal, UNKNOWN};
 use rows_text::words::{Words, give_name, named};
@@ -18,7 +18,7 @@ pub fn fork<F: Family, H: Hasher<F> + Drop>(
     name: &str,
     structure: &str,
 ) -> Result<(), Refusal> {
-    let draft = granted!(named(&world.structures, structure)?.new_batch());
+    let draft = granted(named(&world.structures, structure)?.new_batch())?;
     keep_draft(world, name, draft)
 }
 
@@ -28,7 +28,7 @@ pub fn child<F: Family, H: Hasher<F> + Drop>(
     name: &str,
     batch: &str,
 ) -> Result<(), Refusal> {
-    let draft = granted!(named(&world.batches, batch)?.new_batch());
+    let draft = granted(named(&world.batches, batch)?.new_batch())?;
     keep_draft(world, name, draft)
 }
 
@@ -39,7 +39,7 @@ pub fn from_mem<F: Family, H: Hasher<F> + Drop>(
     structure: &str,
 ) -> Result<(), Refusal> {
     let structure = named(&world.structures, structure)?;
-    let batch = granted!(MerkleizedBatch::from_mem(structure));
+    let batch = granted(MerkleizedBatch::from_mem(structure))?;
     give_name(world.alloc, &mut world.batches, name, batch)
 }
 
@@ -53,7 +53,7 @@ pub fn merkleize<F: Family, H: Hasher<F> + Drop>(
     let Some(base) = world.structures.get(base) else {
         return Err(UNKNOWN);
     };
-    let batch = granted!(draft.merkleize(base, &world.hasher));
+    let batch = granted(draft.merkleize(base, &world.hasher))?;
     give_name(world.alloc, &mut world.batches, name, batch)
 }
 
@@ -69,7 +69,7 @@ pub fn merkleize_counted<F: Family, H: Hasher<F> + Drop>(
         return Err(UNKNOWN);
     };
     let mut work = Work::new();
-    let batch = granted!(draft.merkleize_counted(base, &world.hasher, &mut work));
+    let batch = granted(draft.merkleize_counted(base, &world.hasher, &mut work))?;
     answer.number(work.node_digests());
     give_name(world.alloc, &mut world.batches, name, batch)
 }
@@ -84,8 +84,10 @@ pub fn apply<F: Family, H: Hasher<F> + Drop>(
     let Some(structure) = world.structures.get_mut(structure) else {
         return Err(UNKNOWN);
     };
-    granted!(structure.apply_batch(batch));
-    Ok(())
+    match structure.apply_batch(batch) {
+        Ok(()) => Ok(()),
+        Err(error) => Err(refused(&error)),
+    }
 }
 
 /// What a batch records of the structure that its chain began with.

@@ -57,16 +57,10 @@ pub fn unreconstructed(error: &ReconstructionError) -> Refusal {
     }
 }
 
-/// The value of a result; without one, the function's answer is the refusal.
-///
-/// This is no `?`, since that passes the error to `From::from`, and the check has no rule for a call that takes an `Error`
-/// by value.
-#[macro_export]
-macro_rules! granted {
-    ($result:expr) => {
-        match $result {
-            Ok(value) => value,
-            Err(error) => return Err($crate::refusal::refused(&error)),
-        }
-    };
+/// The value that a call answers, or else what is written for its error.
+pub fn granted<F: Family, T: Drop>(answer: Result<T, Error<F>>) -> Result<T, Refusal> {
+    match answer {
+        Ok(value) => Ok(value),
+        Err(error) => Err(refused(&error)),
+    }
 }

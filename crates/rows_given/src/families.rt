@@ -1,12 +1,12 @@
 //! Calls of the family alone.
 ghost use Rattle.std.specs.Prelude.{◌≤◌, IfOk};
 
+use crate::writing::write_positions;
 use merkle_base::family::Family;
 use merkle_base::location::Location;
 use merkle_base::position::Position;
 use merkle_digest::digest::Digest;
 use merkle_proof::proof::Proof;
-use rows_common::writing::write_positions;
 use rows_text::answer::Answer;
 use rows_text::refusal::Refusal;
 use rows_text::words::Words;

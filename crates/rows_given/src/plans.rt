@@ -1,5 +1,8 @@
 //! Calls of plans of proofs.
 
+use crate::refusal::granted;
+use crate::values::range;
+use crate::writing::write_positions;
 use merkle_base::family::Family;
 use merkle_base::location::Location;
 use merkle_base::position::Position;
@@ -7,9 +10,6 @@ use merkle_digest::digest::Digest;
 use merkle_hasher::hasher::Hasher;
 use merkle_proof::proof::{ElementPlan, RangePlan};
 use merkle_proof::range_plan::Groups;
-use rows_common::granted;
-use rows_common::values::range;
-use rows_common::writing::write_positions;
 use rows_text::answer::Answer;
 use rows_text::refusal::Refusal;
 use rows_text::words::Words;
@@ -19,7 +19,7 @@ fn range_plan<F: Family>(words: &mut Words) -> Result<RangePlan<F>, Refusal> {
     let leaves = Location::new(words.number());
     let range = range(words);
     words.end()?;
-    Ok(granted!(RangePlan::new(words.alloc(), leaves, range)))
+    granted(RangePlan::new(words.alloc(), leaves, range))
 }
 
 // The plan of the leaf count and the leaf that the words name.
@@ -27,7 +27,7 @@ fn leaf_plan<F: Family>(words: &mut Words) -> Result<ElementPlan<F>, Refusal> {
     let leaves = Location::new(words.number());
     let leaf = Location::new(words.number());
     words.end()?;
-    Ok(granted!(ElementPlan::new(words.alloc(), leaves, leaf)))
+    granted(ElementPlan::new(words.alloc(), leaves, leaf))
 }
 
 // The plan's proof, for the number of inactive peaks that a word names, over nodes of which those past the position that
@@ -51,7 +51,7 @@ fn build_above<F: Family, H: Hasher<F>>(
             }
         },
     );
-    let _proof = granted!(built);
+    let _proof = granted(built)?;
     Ok(())
 }
 
@@ -74,14 +74,14 @@ pub fn plan_leaf<F: Family>(words: &mut Words, answer: &mut Answer) -> Result<()
 /// The positions that the plan of the proof of a range reads.
 pub fn positions<F: Family>(words: &mut Words, answer: &mut Answer) -> Result<(), Refusal> {
     let plan = range_plan::<F>(words)?;
-    write_positions(answer, &granted!(plan.positions()));
+    write_positions(answer, &granted(plan.positions())?);
     Ok(())
 }
 
 /// The positions that the plan of the proof of a leaf reads.
 pub fn positions_leaf<F: Family>(words: &mut Words, answer: &mut Answer) -> Result<(), Refusal> {
     let plan = leaf_plan::<F>(words)?;
-    write_positions(answer, &granted!(plan.positions()));
+    write_positions(answer, &granted(plan.positions())?);
     Ok(())
 }
 
@@ -111,7 +111,7 @@ pub fn groups<F: Family, H: Hasher<F>>(
     let range = range(words);
     let inactive = words.count();
     words.end()?;
-    let plan = granted!(RangePlan::new(words.alloc(), leaves, range));
+    let plan = granted(RangePlan::new(words.alloc(), leaves, range))?;
     match plan.groups(hasher.root_bagging(), inactive) {
         Some(groups) => write_groups(answer, groups),
         None => answer.text("none"),

@@ -1,5 +1,7 @@
 //! Calls that encode and decode.
 
+use crate::values::{digest, proof};
+use crate::writing;
 use merkle_base::error::DecodeError;
 use merkle_base::family::Family;
 use merkle_base::location::Location;
@@ -8,8 +10,6 @@ use merkle_codec::codec::{Read, Write};
 use merkle_commands::hex_words::{HexError, read_hex, write_hex};
 use merkle_digest::digest::Digest;
 use merkle_proof::proof::Proof;
-use rows_common::values::{digest, proof};
-use rows_common::writing;
 use rows_text::answer::Answer;
 use rows_text::refusal::{OUT_OF_MEMORY, Refusal, SYNTAX};
 use rows_text::words::Words;

@@ -1,13 +1,13 @@
 //! The digests of many leaves or nodes, several at a time.
 
+use crate::values::digests;
+use crate::writing::write_digests;
 use merkle_base::family::Family;
 use merkle_base::location::Location;
 use merkle_base::position::Position;
 use merkle_digest::digest::Digest;
 use merkle_hasher::hasher::{self, Hasher};
 use merkle_hasher::{leaves, nodes};
-use rows_common::values::digests;
-use rows_common::writing::write_digests;
 use rows_text::answer::Answer;
 use rows_text::refusal::{OUT_OF_MEMORY, Refusal, SYNTAX};
 use rows_text::words::Words;

@@ -6,8 +6,8 @@ use merkle_core::hasher::Hasher;
 use merkle_core::location::Location;
 use merkle_core::mem::Mem;
 use merkle_core::verification::ProofStore;
-use rows_common::granted;
-use rows_common::sweep::{sum_by_inactive, sum_by_range};
+use rows_given::refusal::granted;
+use rows_given::sweep::{sum_by_inactive, sum_by_range};
 use rows_text::refusal::{OUT_OF_MEMORY, Refusal};
 
 /// How many parts of ranges are proved by the stores of the ranges, one after another for each number of inactive peaks.
@@ -48,9 +48,9 @@ impl<'a, F: Family, D: Digest> KeptRange<'a, F, D> {
     ) -> Result<Self, Refusal> {
         let first = Location::from(start);
         let end = Location::from(start.saturating_add(elements.len()));
-        let root = granted!(structure.root(hasher, inactive));
-        let proof = granted!(structure.range_proof(hasher, first..end, inactive));
-        let store = granted!(ProofStore::new(hasher, &proof, elements, first, &root));
+        let root = granted(structure.root(hasher, inactive))?;
+        let proof = granted(structure.range_proof(hasher, first..end, inactive))?;
+        let store = granted(ProofStore::new(hasher, &proof, elements, first, &root))?;
         Ok(KeptRange {
             structure,
             elements,
@@ -78,11 +78,11 @@ impl<'a, F: Family, D: Digest> KeptRange<'a, F, D> {
     ) -> Result<bool, Refusal> {
         let first = Location::from(start);
         let end = Location::from(start.saturating_add(elements.len()));
-        let part = granted!(self.store.range_proof(hasher, first..end));
-        let own = granted!(
+        let part = granted(self.store.range_proof(hasher, first..end))?;
+        let own = granted(
             self.structure
-                .range_proof(hasher, first..end, self.inactive)
-        );
+                .range_proof(hasher, first..end, self.inactive),
+        )?;
         let checked = part.verify_range_inclusion(hasher, elements, first, &self.root);
         let is_accepted = checked.ok().ok_or(OUT_OF_MEMORY)?;
         Ok(is_accepted && part == own)

@@ -1,6 +1,6 @@
-//! A client that accepts entries of a log and follows it.
+//! The client of `example_proved`, which accepts entries of a log and follows it.
 
-use crate::Client;
+use example_proved::Client;
 use merkle_core::digest::{Sha256Digest, Sha256Plain};
 use merkle_core::error::Error;
 use merkle_core::family::{Bagging, Family as _};

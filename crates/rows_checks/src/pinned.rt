@@ -6,9 +6,9 @@ use merkle_core::hasher::Hasher;
 use merkle_core::location::Location;
 use merkle_core::mem::Mem;
 use merkle_core::proof::Proof;
-use rows_common::changes::other_digest;
-use rows_common::granted;
-use rows_common::sweep::{sum_by_inactive, sum_by_range};
+use rows_given::changes::other_digest;
+use rows_given::refusal::granted;
+use rows_given::sweep::{sum_by_inactive, sum_by_range};
 use rows_text::refusal::{OUT_OF_MEMORY, Refusal};
 use std::alloc::Global;
 
@@ -39,8 +39,8 @@ fn proves_pins<F: Family, H: Hasher<F>>(
 ) -> Result<bool, Refusal> {
     let first = Location::from(start);
     let end = Location::from(start.saturating_add(elements.len()));
-    let root = granted!(structure.root(hasher, inactive));
-    let proof = granted!(structure.range_proof(hasher, first..end, inactive));
+    let root = granted(structure.root(hasher, inactive))?;
+    let proof = granted(structure.range_proof(hasher, first..end, inactive))?;
     let pins = pins_before(alloc, structure, first)?;
     let mut claim = PinnedClaim {
         alloc,

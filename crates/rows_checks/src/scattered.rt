@@ -5,7 +5,7 @@ use merkle_core::family::Family;
 use merkle_core::location::Location;
 use merkle_core::mem::Mem;
 use merkle_core::proof::{Proof, multi_proof_positions};
-use rows_common::granted;
+use rows_given::refusal::granted;
 use rows_text::refusal::Refusal;
 use std::alloc::Global;
 
@@ -17,7 +17,7 @@ pub fn scattered_proof<F: Family, D: Digest>(
     inactive: usize,
 ) -> Result<Proof<F, D>, Refusal> {
     let leaves = structure.leaves();
-    let positions = granted!(multi_proof_positions(alloc, leaves, locations));
+    let positions = granted(multi_proof_positions(alloc, leaves, locations))?;
     let mut digests = Vec::new(alloc);
     for position in &positions {
         match structure.get_node(*position) {
