@@ -33,10 +33,10 @@ fn answer_world<F: Family, H: Hasher<F> + Drop>(
         Call::Node(call) => rows_structures::calls::answer_node(world, call, words, answer)?,
         Call::Batch(call) => rows_structures::calls::answer_batch(world, call, words, answer)?,
         Call::Leaf(call) => rows_structures::calls::answer_leaf(world, call, words)?,
-        Call::Check(call) => rows_checks::calls::answer(world, call, words, answer)?,
-        Call::Claim(call) => rows_checks::calls::answer_claim(world, call, words, answer)?,
         Call::Proof(call) => rows_proofs::calls::answer(world, call, words, answer)?,
         Call::Store(call) => rows_proofs::calls::answer_store(world, call, words, answer)?,
+        Call::Check(call) => rows_proofs::calls::answer_check(world, call, words, answer)?,
+        Call::Claim(call) => rows_proofs::calls::answer_claim(world, call, words, answer)?,
     }
     answer.end()
 }

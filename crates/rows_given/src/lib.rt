@@ -16,7 +16,6 @@ mod plans;
 pub mod proofs;
 pub mod readers;
 pub mod refusal;
-pub mod sweep;
 pub mod values;
 pub mod writing;
 

@@ -1,10 +1,10 @@
 //! Which function answers a call.
 
-use crate::{proofs, readers, stores};
+use crate::{every, proofs, readers, stores};
 use merkle_core::family::Family;
 use merkle_core::hasher::Hasher;
 use rows_text::answer::Answer;
-use rows_text::calls::{ProofCall, StoreCall};
+use rows_text::calls::{CheckCall, ClaimCall, ProofCall, StoreCall};
 use rows_text::refusal::Refusal;
 use rows_text::words::Words;
 use rows_world::world::World;
@@ -40,5 +40,35 @@ pub fn answer_store<F: Family, H: Hasher<F> + Drop>(
         StoreCall::StoreNode => stores::store_node(world, words, answer),
         StoreCall::StoreRange => stores::store_range(world, words, answer),
         StoreCall::SuffixPeaks => stores::suffix_peaks(world, words, answer),
+    }
+}
+
+/// The same for a call of all leaves or ranges.
+pub fn answer_check<F: Family, H: Hasher<F> + Drop>(
+    world: &World<F, H>,
+    call: CheckCall,
+    words: &mut Words,
+    answer: &mut Answer,
+) -> Result<(), Refusal> {
+    match call {
+        CheckCall::Prove => every::prove(world, words, answer),
+        CheckCall::ProveLeaves => every::prove_leaves(world, words, answer),
+        CheckCall::ProveRanges => every::prove_ranges(world, words, answer),
+        CheckCall::ProveStores => every::prove_stores(world, words, answer),
+        CheckCall::ProveWritten => every::prove_written(world, words, answer),
+    }
+}
+
+/// The same for a call of scattered leaves, or of ranges with pins.
+pub fn answer_claim<F: Family, H: Hasher<F> + Drop>(
+    world: &World<F, H>,
+    call: ClaimCall,
+    words: &mut Words,
+    answer: &mut Answer,
+) -> Result<(), Refusal> {
+    match call {
+        ClaimCall::Multi => every::multi(world, words, answer),
+        ClaimCall::ProvePins => every::prove_pins(world, words, answer),
+        ClaimCall::ProveSubsets => every::prove_subsets(world, words, answer),
     }
 }

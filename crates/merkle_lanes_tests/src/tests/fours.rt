@@ -138,7 +138,7 @@ fn assert_leaf_blocks<H: Hasher<Family>>(rt: &impl Abort, hasher: &H, counts: &[
 // together have the same number.
 #[test]
 fn numbers_of_blocks(rt: HostRuntime) {
-    for (length, count) in [
+    let counts = [
         (0, 1),
         (55, 1),
         (56, 2),
@@ -149,8 +149,9 @@ fn numbers_of_blocks(rt: HostRuntime) {
         (1100, 17),
         (1_000_000, 17),
         (usize::MAX, 17),
-    ] {
-        assert_eq!(rt; Sha256Plain::block_count(length), count, "{length} bytes");
+    ];
+    for (length, count) in &counts {
+        assert_eq!(rt; Sha256Plain::block_count(*length), *count, "{length} bytes");
     }
     assert!(rt; Xor8::block_count(72) == 0);
 }

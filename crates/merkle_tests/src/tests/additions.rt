@@ -80,9 +80,9 @@ fn assert_counts<F: Family, H: Hasher<F>>(
     rt: &(impl Abort + AllocGlobal),
     hasher: &H,
 ) -> Result<(), Fail> {
-    for count in [0, 1, 4, 5, 70] {
-        assert_added(rt, hasher, count, 0)?;
-        assert_added(rt, hasher, count, 45)?;
+    for count in &[0, 1, 4, 5, 70] {
+        assert_added(rt, hasher, *count, 0)?;
+        assert_added(rt, hasher, *count, 45)?;
     }
     Ok(())
 }

@@ -253,9 +253,9 @@ const TEXTS: [(RunError, &str); 3] = [
 
 #[test]
 fn texts(rt: HostRuntime) -> Result<(), Fail> {
-    for (error, text) in TEXTS {
+    for (error, text) in &TEXTS {
         let shown = error.to_string(rt.alloc())?;
-        assert!(rt; shown.as_str() == text, "{shown}");
+        assert!(rt; shown.as_str() == *text, "{shown}");
     }
     Ok(())
 }
@@ -276,7 +276,7 @@ const NO_HEX_WORDS: [&str; 9] = ["0", "012", "0g", "g0", "-", " ", "0 ", "+1", "
 
 #[test]
 fn hex_words(rt: HostRuntime) {
-    for word in NO_HEX_WORDS {
+    for word in &NO_HEX_WORDS {
         assert!(rt; is_refused(rt.alloc(), word), "{word}");
     }
     assert!(rt; is_spelled(rt.alloc(), "", &[], ""));
@@ -311,7 +311,7 @@ fn long_hex_words(rt: HostRuntime) -> Result<(), Fail> {
         let word = word_with(rt.alloc(), length, length, "")?;
         assert!(rt; is_hex_word(word.as_str()), "{length}");
         for place in 0..length {
-            for byte in NO_DIGITS {
+            for byte in &NO_DIGITS {
                 let word = word_with(rt.alloc(), length, place, byte)?;
                 assert!(rt; is_refused(rt.alloc(), word.as_str()), "{word}");
             }

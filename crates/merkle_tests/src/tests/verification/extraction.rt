@@ -118,8 +118,8 @@ fn assert_ranges<F: Family, H: Hasher<F>>(
 ) -> Result<(), Fail> {
     let structure = structure_of_all(rt.alloc(), hasher).expect(rt, "no refusal");
     for start in [256, 301] {
-        for count in [1, 2, 7, 8, 9, 255, 256, 257, 600] {
-            assert_extracted(rt, &structure, hasher, start, count)?;
+        for count in &[1, 2, 7, 8, 9, 255, 256, 257, 600] {
+            assert_extracted(rt, &structure, hasher, start, *count)?;
         }
     }
     Ok(())

@@ -1,5 +1,6 @@
 //! How many of a structure's ranges have proofs that are accepted as they are written, and refused with a change.
 
+use crate::spans::{Span, spans};
 use merkle_core::codec::{Read, Write};
 use merkle_core::digest::Digest;
 use merkle_core::error::DecodeError;
@@ -8,8 +9,8 @@ use merkle_core::hasher::Hasher;
 use merkle_core::location::Location;
 use merkle_core::mem::Mem;
 use merkle_core::proof::{MAX_PROOF_DIGESTS_PER_ELEMENT, Proof};
+use rows_given::MOST_PEAKS;
 use rows_given::refusal::granted;
-use rows_given::sweep::{sum_by_inactive, sum_by_range};
 use rows_text::refusal::{OUT_OF_MEMORY, Refusal};
 use std::alloc::Global;
 
@@ -22,13 +23,33 @@ pub fn written_proved<F: Family, H: Hasher<F>>(
     hasher: &H,
     structure: &Mem<F, H::Digest>,
     elements: &[&[u8]],
+) -> Result<u64, Refusal> {
+    let all = spans(alloc, elements.len())?;
+    let mut proved = 0u64;
+    for inactive in 0..=MOST_PEAKS {
+        let count = count_written(alloc, hasher, structure, elements, &all, inactive);
+        proved = proved.saturating_add(count);
+    }
+    Ok(proved)
+}
+
+// How many of these ranges are proved by bytes for a number of inactive peaks.
+fn count_written<F: Family, H: Hasher<F>>(
+    alloc: Global,
+    hasher: &H,
+    structure: &Mem<F, H::Digest>,
+    elements: &[&[u8]],
+    spans: &[Span],
+    inactive: usize,
 ) -> u64 {
-    sum_by_inactive(|inactive| {
-        sum_by_range(elements, |found, start| {
-            let is_proved = proves_written(alloc, hasher, structure, found, start, inactive);
-            u64::from(matches!(is_proved, Ok(true)))
-        })
-    })
+    let mut proved = 0u64;
+    for span in spans {
+        let found = span.of(elements);
+        if let Ok(true) = proves_written(alloc, hasher, structure, found, span.start, inactive) {
+            proved = proved.saturating_add(1);
+        }
+    }
+    proved
 }
 
 // Whether the bytes of a range's proof are accepted, and refused with a bit flipped, cut anywhere, or with a byte more.

@@ -1,14 +1,15 @@
 //! How many of a structure's leaves and ranges are proved.
 
+use crate::spans::{Span, spans};
 use merkle_core::family::Family;
 use merkle_core::hasher::Hasher;
 use merkle_core::location::Location;
 use merkle_core::mem::Mem;
 use merkle_core::proof::Proof;
+use rows_given::MOST_PEAKS;
 use rows_given::changes::changed;
 use rows_given::checks::{accepts_leaf, accepts_range};
 use rows_given::refusal::granted;
-use rows_given::sweep::{sum_by_inactive, sum_by_range};
 use rows_text::refusal::Refusal;
 use std::alloc::Global;
 
@@ -71,7 +72,12 @@ pub fn leaves_proved<F: Family, H: Hasher<F>>(
     structure: &Mem<F, H::Digest>,
     elements: &[Vec<u8>],
 ) -> u64 {
-    sum_by_inactive(|inactive| count_leaves(alloc, hasher, structure, elements, inactive))
+    let mut proved = 0u64;
+    for inactive in 0..=MOST_PEAKS {
+        let count = count_leaves(alloc, hasher, structure, elements, inactive);
+        proved = proved.saturating_add(count);
+    }
+    proved
 }
 
 // The elements, with another in the place of the first.
@@ -125,11 +131,31 @@ pub fn ranges_proved<F: Family, H: Hasher<F>>(
     hasher: &H,
     structure: &Mem<F, H::Digest>,
     elements: &[Vec<u8>],
+) -> Result<u64, Refusal> {
+    let all = spans(alloc, elements.len())?;
+    let mut proved = 0u64;
+    for inactive in 0..=MOST_PEAKS {
+        let count = count_ranges(alloc, hasher, structure, elements, &all, inactive);
+        proved = proved.saturating_add(count);
+    }
+    Ok(proved)
+}
+
+// How many of these ranges are proved for a number of inactive peaks.
+fn count_ranges<F: Family, H: Hasher<F>>(
+    alloc: Global,
+    hasher: &H,
+    structure: &Mem<F, H::Digest>,
+    elements: &[Vec<u8>],
+    spans: &[Span],
+    inactive: usize,
 ) -> u64 {
-    sum_by_inactive(|inactive| {
-        sum_by_range(elements, |found, start| {
-            let is_proved = proves_range(alloc, hasher, structure, found, start, inactive);
-            u64::from(matches!(is_proved, Ok(true)))
-        })
-    })
+    let mut proved = 0u64;
+    for span in spans {
+        let found = span.of(elements);
+        if let Ok(true) = proves_range(alloc, hasher, structure, found, span.start, inactive) {
+            proved = proved.saturating_add(1);
+        }
+    }
+    proved
 }

@@ -7,10 +7,10 @@ use merkle_core::hasher::Hasher;
 use merkle_core::location::Location;
 use merkle_core::mem::Mem;
 use merkle_core::proof::Proof;
+use rows_given::MOST_PEAKS;
 use rows_given::changes::{changed, other_digest};
 use rows_given::checks::accepts_scattered;
 use rows_given::refusal::granted;
-use rows_given::sweep::sum_by_inactive;
 use rows_text::refusal::Refusal;
 use rows_text::words::LocatedBytes;
 use std::alloc::Global;
@@ -27,9 +27,12 @@ pub fn subsets_proved<F: Family, H: Hasher<F>>(
     elements: &[Vec<u8>],
     most: u64,
 ) -> u64 {
-    sum_by_inactive(|inactive| {
-        count_subsets(alloc, hasher, structure, elements, most, inactive)
-    })
+    let mut proved = 0u64;
+    for inactive in 0..=MOST_PEAKS {
+        let count = count_subsets(alloc, hasher, structure, elements, most, inactive);
+        proved = proved.saturating_add(count);
+    }
+    proved
 }
 
 // How many choices of leaves, up to a number of them, are proved for a number of inactive peaks.

@@ -58,10 +58,8 @@ pub fn prove_ranges<F: Family, H: Hasher<F> + Drop>(
     let structure = named(&world.structures, words.word())?;
     let list = words.elements();
     words.end()?;
-    write_proved(
-        answer,
-        ranges_proved(world.alloc, &world.hasher, structure, &list),
-    );
+    let proved = ranges_proved(world.alloc, &world.hasher, structure, &list)?;
+    write_proved(answer, proved);
     Ok(())
 }
 
@@ -75,10 +73,8 @@ pub fn prove_written<F: Family, H: Hasher<F> + Drop>(
     let list = words.elements();
     let all = words.slices(&list);
     words.end()?;
-    write_proved(
-        answer,
-        written_proved(world.alloc, &world.hasher, structure, &all),
-    );
+    let proved = written_proved(world.alloc, &world.hasher, structure, &all)?;
+    write_proved(answer, proved);
     Ok(())
 }
 
@@ -92,7 +88,8 @@ pub fn prove_stores<F: Family, H: Hasher<F> + Drop>(
     let list = words.elements();
     let all = words.slices(&list);
     words.end()?;
-    write_proved(answer, parts_proved(&world.hasher, structure, &all));
+    let proved = parts_proved(world.alloc, &world.hasher, structure, &all)?;
+    write_proved(answer, proved);
     Ok(())
 }
 
@@ -106,10 +103,8 @@ pub fn prove_pins<F: Family, H: Hasher<F> + Drop>(
     let list = words.elements();
     let all = words.slices(&list);
     words.end()?;
-    write_proved(
-        answer,
-        pinned_ranges_proved(world.alloc, &world.hasher, structure, &all),
-    );
+    let proved = pinned_ranges_proved(world.alloc, &world.hasher, structure, &all)?;
+    write_proved(answer, proved);
     Ok(())
 }
 

@@ -1,14 +1,15 @@
 //! How many ranges of a structure are proved with the pins before them.
 
+use crate::spans::{Span, spans};
 use merkle_core::digest::Digest;
 use merkle_core::family::Family;
 use merkle_core::hasher::Hasher;
 use merkle_core::location::Location;
 use merkle_core::mem::Mem;
 use merkle_core::proof::Proof;
+use rows_given::MOST_PEAKS;
 use rows_given::changes::other_digest;
 use rows_given::refusal::granted;
-use rows_given::sweep::{sum_by_inactive, sum_by_range};
 use rows_text::refusal::{OUT_OF_MEMORY, Refusal};
 use std::alloc::Global;
 
@@ -18,13 +19,33 @@ pub fn pinned_ranges_proved<F: Family, H: Hasher<F>>(
     hasher: &H,
     structure: &Mem<F, H::Digest>,
     elements: &[&[u8]],
+) -> Result<u64, Refusal> {
+    let all = spans(alloc, elements.len())?;
+    let mut proved = 0u64;
+    for inactive in 0..=MOST_PEAKS {
+        let count = count_pinned(alloc, hasher, structure, elements, &all, inactive);
+        proved = proved.saturating_add(count);
+    }
+    Ok(proved)
+}
+
+// How many of these ranges are proved with the pins before them for a number of inactive peaks.
+fn count_pinned<F: Family, H: Hasher<F>>(
+    alloc: Global,
+    hasher: &H,
+    structure: &Mem<F, H::Digest>,
+    elements: &[&[u8]],
+    spans: &[Span],
+    inactive: usize,
 ) -> u64 {
-    sum_by_inactive(|inactive| {
-        sum_by_range(elements, |found, start| {
-            let is_proved = proves_pins(alloc, hasher, structure, found, start, inactive);
-            u64::from(matches!(is_proved, Ok(true)))
-        })
-    })
+    let mut proved = 0u64;
+    for span in spans {
+        let found = span.of(elements);
+        if let Ok(true) = proves_pins(alloc, hasher, structure, found, span.start, inactive) {
+            proved = proved.saturating_add(1);
+        }
+    }
+    proved
 }
 
 // Whether the proof of a range is accepted with the pins before it, and refused where a digest, a pin or the number of pins
