@@ -1,13 +1,10 @@
 ghost use Rattle.std.specs.Prelude.{◌+◌, ◌*◌, ◌^◌, ◌≤◌};
 
 mod base;
-mod bytes;
-mod codec;
 mod hasher;
 mod locations;
 mod mmb;
 mod mmr;
-mod pending;
 mod room;
 
 use merkle_base::error::Error;

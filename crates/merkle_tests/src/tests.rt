@@ -1,14 +1,17 @@
-//! Hashers, paths, values, added leaves, counts, lines, clients, and proofs over what holds nodes, with values that were worked out
-//! by hand.
+//! Hashers, paths, values, bytes, added leaves, counts, lines, clients, and proofs over what holds nodes, with values that were worked
+//! out by hand.
 //!
 //! A digest of `Xor8` is the exclusive or of the bytes that it hashes.
 
 mod additions;
+mod bytes;
 mod clients;
+mod codec;
 mod counts;
 mod hashers;
 mod lines;
 mod paths;
+mod pending;
 mod values;
 mod verification;
 

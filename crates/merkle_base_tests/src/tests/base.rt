@@ -3,7 +3,6 @@ use merkle_base::error::{DecodeError, Error, OutOfMemory, ReconstructionError};
 use merkle_base::family::Bagging;
 use merkle_base::location::{Leaves, Location, LocationRangeExt};
 use merkle_base::position::{Nodes, Number, Position};
-use merkle_codec::pending::Unused;
 use merkle_digest::digest::{Digest, PlainHasher, Xor8, Xor8Digest};
 use merkle_sha256::sha256::{Sha256Digest, Sha256Plain};
 use merkle_topology::mmb;
@@ -287,9 +286,8 @@ fn exclusive_or_digests_of_bytes(rt: HostRuntime) {
 #[test]
 fn debug_texts(rt: HostRuntime) -> Result<(), Fail> {
     let shown = format!(in rt.alloc();
-        "{:?} {:?} {:?} {:?} {:?} {:?} {:?} {:?} {:?}",
+        "{:?} {:?} {:?} {:?} {:?} {:?} {:?} {:?}",
         mmb::Family::default(),
-        Unused::default(),
         Bagging::ForwardFold,
         Bagging::BackwardFold,
         Sha256Plain,
@@ -299,7 +297,7 @@ fn debug_texts(rt: HostRuntime) -> Result<(), Fail> {
         Sha256Digest::EMPTY
     )?;
     let start =
-        "Family Unused ForwardFold BackwardFold Sha256Plain Xor8 EndOfBuffer Xor8Digest { byte: 0 } Sha256Digest { bytes: [0, 0, ";
+        "Family ForwardFold BackwardFold Sha256Plain Xor8 EndOfBuffer Xor8Digest { byte: 0 } Sha256Digest { bytes: [0, 0, ";
     assert!(rt; shown.as_str().starts_with(start), "{shown}");
     Ok(())
 }

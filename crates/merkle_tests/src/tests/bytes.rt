@@ -1,13 +1,12 @@
 //! Positions, locations and proofs as bytes.
 
-use merkle_base::error::DecodeError;
-use merkle_base::location::Location;
-use merkle_base::position::Position;
-use merkle_codec::codec::{EncodeSize, Read, Write, max_encode_size};
-use merkle_digest::digest::{Digest, Xor8Digest};
-use merkle_proof::proof::Proof;
-use merkle_sha256::sha256::Sha256Digest;
-use merkle_topology::{mmb, mmr};
+use merkle_core::codec::{EncodeSize, Read, Write, max_encode_size};
+use merkle_core::digest::{Digest, Sha256Digest, Xor8Digest};
+use merkle_core::error::DecodeError;
+use merkle_core::location::Location;
+use merkle_core::position::Position;
+use merkle_core::proof::Proof;
+use merkle_core::{mmb, mmr};
 use std::alloc::Global;
 use std::test::Fail;
 

@@ -1,10 +1,10 @@
 //! What each family keeps of a chunk without a root of its own.
 
-use merkle_base::error::DecodeError;
-use merkle_codec::codec::EncodeSize;
-use merkle_codec::pending::{Grafting, PendingChunk};
-use merkle_digest::digest::{Digest, Xor8Digest};
-use merkle_topology::{mmb, mmr};
+use merkle_core::codec::EncodeSize;
+use merkle_core::digest::{Digest, Xor8Digest};
+use merkle_core::error::DecodeError;
+use merkle_core::family::{Grafting, PendingChunk};
+use merkle_core::{mmb, mmr};
 
 /// The pending chunk of the Mountain Range.
 type RangeChunk = <mmr::Family as Grafting<Xor8Digest>>::PendingChunk;

@@ -1,6 +1,6 @@
 use Rattle.std.proofs.Common.{rules}
 use Rattle.merkle_codec.specs.NumberSpelling.{number_spelling}
-use Rattle.merkle_base_tests.proofs.tests.bytes.greatest_sizes.Goals as goal
+use Rattle.merkle_tests.proofs.tests.bytes.greatest_sizes.Goals as goal
 
 pub max_encode_size-requires : goal.max_encode_size-requires
 unfolding number_spelling

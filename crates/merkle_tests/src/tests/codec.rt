@@ -1,11 +1,10 @@
 ghost use Rattle.std.specs.Prelude.{IfErr, IsOk};
 ghost use Rattle.merkle_codec.specs.Spelling.{IsOptionRefusal};
 
-use merkle_base::error::DecodeError;
-use merkle_codec::codec::{EncodeSize, Read, Write};
-use merkle_codec::pending::{PendingChunk, Unused};
-use merkle_digest::digest::{Digest, Xor8Digest};
-use merkle_sha256::sha256::Sha256Digest;
+use merkle_core::codec::{EncodeSize, Read, Write};
+use merkle_core::digest::{Digest, Sha256Digest, Xor8Digest};
+use merkle_core::error::DecodeError;
+use merkle_core::family::{PendingChunk, Unused};
 use std::alloc::Global;
 use std::test::Fail;
 
