@@ -2,12 +2,12 @@
 
 use merkle_core::family::Family;
 use merkle_core::hasher::Hasher;
+use rows_structures::choices::{Familiar, Hashed};
+use rows_structures::world::World;
 use rows_text::answer::Answer;
 use rows_text::calls::Call;
 use rows_text::refusal::Refusal;
 use rows_text::words::Words;
-use rows_world::choices::{Familiar, Hashed};
-use rows_world::world::World;
 
 // Does what a call says, and writes the answer. The words are those after the name of the call.
 fn answer_world<F: Family, H: Hasher<F> + Drop>(

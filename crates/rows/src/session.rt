@@ -1,10 +1,10 @@
 //! What the lines so far have made, and the answer to a line.
 
 use crate::dispatch;
+use rows_structures::choices::Choices;
 use rows_text::answer::Answer;
 use rows_text::calls::{Call, find_call};
 use rows_text::refusal::{Refusal, SYNTAX};
-use rows_world::choices::Choices;
 use std::alloc::Global;
 
 /// What the lines so far have made.

@@ -3,11 +3,11 @@
 use crate::{every, proofs, readers, stores};
 use merkle_core::family::Family;
 use merkle_core::hasher::Hasher;
+use rows_structures::world::World;
 use rows_text::answer::Answer;
 use rows_text::calls::{CheckCall, ClaimCall, ProofCall, StoreCall};
 use rows_text::refusal::Refusal;
 use rows_text::words::Words;
-use rows_world::world::World;
 
 /// Does what a call of proofs says, and writes the answer. The words are those after the name of the call.
 pub fn answer<F: Family, H: Hasher<F> + Drop>(

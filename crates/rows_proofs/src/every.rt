@@ -11,10 +11,10 @@ use merkle_core::hasher::Hasher;
 use merkle_core::location::Location;
 use rows_given::values::locations;
 use rows_given::writing::{write_proof, write_proved};
+use rows_structures::world::World;
 use rows_text::answer::Answer;
 use rows_text::refusal::Refusal;
 use rows_text::words::{Words, named};
-use rows_world::world::World;
 
 /// Whether a leaf is proved for a number of inactive peaks.
 pub fn prove<F: Family, H: Hasher<F> + Drop>(

@@ -6,10 +6,10 @@ use merkle_core::location::Location;
 use rows_given::refusal::granted;
 use rows_given::values;
 use rows_given::writing::write_proof;
+use rows_structures::world::World;
 use rows_text::answer::Answer;
 use rows_text::refusal::Refusal;
 use rows_text::words::{Words, named};
-use rows_world::world::World;
 
 /// The proof of a leaf of a structure.
 pub fn proof<F: Family, H: Hasher<F> + Drop>(

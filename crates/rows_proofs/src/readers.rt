@@ -4,10 +4,10 @@ use merkle_core::batch::MerkleizedBatch;
 use merkle_core::family::Family;
 use merkle_core::hasher::Hasher;
 use rows_given::readers::{history_over, multi_over, range_over};
+use rows_structures::world::World;
 use rows_text::answer::Answer;
 use rows_text::refusal::Refusal;
 use rows_text::words::{Words, named};
-use rows_world::world::World;
 
 /// The proof of a range over a structure, or else over a shared batch.
 pub fn read_range<F: Family, H: Hasher<F> + Drop>(

@@ -7,10 +7,10 @@ use rows_given::proofs::new_store;
 use rows_given::refusal::granted;
 use rows_given::values::{locations, pairs, range};
 use rows_given::writing::{write_node, write_positions, write_proof};
+use rows_structures::world::World;
 use rows_text::answer::Answer;
 use rows_text::refusal::Refusal;
 use rows_text::words::{Words, give_name, named};
-use rows_world::world::World;
 
 /// The store of a proof that is accepted with its elements.
 pub fn store<F: Family, H: Hasher<F> + Drop>(

@@ -2,6 +2,7 @@
 
 use crate::drafts::{keep_draft, take_draft};
 use crate::leaves::add;
+use crate::world::World;
 use merkle_core::batch::MerkleizedBatch;
 use merkle_core::family::{Family, Work};
 use merkle_core::hasher::Hasher;
@@ -10,7 +11,6 @@ use rows_given::refusal::{granted, refused};
 use rows_text::answer::Answer;
 use rows_text::refusal::{Refusal, UNKNOWN};
 use rows_text::words::{Words, give_name, named};
-use rows_world::world::World;
 
 /// A draft that is forked from a structure.
 pub fn fork<F: Family, H: Hasher<F> + Drop>(

@@ -1,5 +1,6 @@
 //! Which function answers a call.
 
+use crate::world::World;
 use crate::{batches, leaves, nodes, structures};
 use merkle_core::family::Family;
 use merkle_core::hasher::Hasher;
@@ -7,7 +8,6 @@ use rows_text::answer::Answer;
 use rows_text::calls::{BatchCall, LeafCall, NodeCall, StructureCall};
 use rows_text::refusal::Refusal;
 use rows_text::words::Words;
-use rows_world::world::World;
 
 /// Does what a call of structures says, and writes the answer. The words are those after the name of the call.
 pub fn answer<F: Family, H: Hasher<F> + Drop>(

@@ -1,11 +1,11 @@
 //! The batches whose nodes are not computed yet, by their names.
 
+use crate::world::World;
 use merkle_core::batch::UnmerkleizedBatch;
 use merkle_core::family::Family;
 use merkle_core::hasher::Hasher;
 use rows_text::refusal::{Refusal, UNKNOWN};
 use rows_text::words::give_name;
-use rows_world::world::World;
 
 /// The draft of that name, which is no longer there.
 pub fn take_draft<F: Family, H: Hasher<F> + Drop>(

@@ -1,6 +1,7 @@
 //! Calls that add and change leaves of batches.
 
 use crate::drafts::{keep_draft, take_draft};
+use crate::world::World;
 use merkle_core::batch::UnmerkleizedBatch;
 use merkle_core::family::Family;
 use merkle_core::hasher::Hasher;
@@ -9,7 +10,6 @@ use rows_given::refusal::granted;
 use rows_given::values::{digest, digests, updates};
 use rows_text::refusal::Refusal;
 use rows_text::words::{LocatedBytes, Words, named};
-use rows_world::world::World;
 use std::alloc::Global;
 
 // The draft with a leaf more for each of these elements.

@@ -1,5 +1,6 @@
 //! Calls of nodes and roots.
 
+use crate::world::World;
 use merkle_core::digest::Digest;
 use merkle_core::family::Family;
 use merkle_core::hasher::Hasher;
@@ -10,7 +11,6 @@ use rows_given::writing::{write_node, write_nodes};
 use rows_text::answer::Answer;
 use rows_text::refusal::Refusal;
 use rows_text::words::{Words, named};
-use rows_world::world::World;
 
 /// The size in nodes of a structure or batch.
 pub fn size<F: Family, H: Hasher<F> + Drop>(

@@ -1,5 +1,6 @@
 //! Calls of structures.
 
+use crate::world::World;
 use merkle_core::digest::Digest;
 use merkle_core::family::Family;
 use merkle_core::hasher::Hasher;
@@ -12,7 +13,6 @@ use rows_given::writing::write_peaks;
 use rows_text::answer::Answer;
 use rows_text::refusal::{Refusal, UNKNOWN};
 use rows_text::words::{Words, give_name, named};
-use rows_world::world::World;
 
 /// A structure without leaves.
 pub fn empty<F: Family, H: Hasher<F> + Drop>(
