@@ -14,10 +14,10 @@ import os
 import re
 import sys
 
-from judge import Case, REFUSED, ROWS
+from judge import Case, REFUSED
 from programs import ample, requests
 
-PROGRAMS = {".rows": "rows", ".audits": "rows_audits", ".lines": "merkle"}
+PROGRAMS = {".rows": "rows", ".lines": "merkle"}
 
 # Calls of `rows` that use up their draft, so that a refusal may lose it; that give a name; that change something; that do so and have
 # a number to tell; that only read.
@@ -55,7 +55,7 @@ ERROR = re.compile("no$|unknown|syntax|differ|changed|[A-Z]|error")
 def call_of(program, line):
     """The name that a line is counted by."""
     words = line.split(" ")
-    if program not in ROWS:
+    if program != "rows":
         return f"{program}:{words[0]}"
     is_built = (words[0], len(words)) in (("plan", 6), ("plan_leaf", 5))
     return words[0] + ("+build" if is_built else "")
@@ -152,7 +152,7 @@ def left_behind(program, lines, at):
 
 
 def own_requests(program, lines, at, before):
-    """How many requests for a call of `rows` or `rows_audits`, which come after so many, the program makes for its words and its answer, about."""
+    """How many requests for a call of `rows`, which come after so many, the program makes for its words and its answer, about."""
     words, name, answer = lines[at].split(" "), call_of(program, lines[at]), ample(program, lines)[at]
     index, early = EARLY.get(name, (1, "?"))
     bare = " ".join(words[:index] + [early] + words[index + 1:])
@@ -171,7 +171,7 @@ def find_case(program, path, rows, at):
     check_answers(program, path, rows, lines, at)
     before, last = requests(program, lines[:at]), requests(program, lines[:at + 1])
     reading, written, own = (), (), 0
-    if program in ROWS:
+    if program == "rows":
         reading = tuple(line for line in lines[at + 1:] if line.split(" ")[0] in READING)[:4]
         texts = 4 if lines[at].split(" ")[0] in TELLING else 2
         written = (requests(program, lines[:at] + ("#" * len(lines[at]),)), *range(last - texts + 1, last + 1))

@@ -9,18 +9,15 @@ Right is one of three ends:
 import collections
 import os
 
-REFUSED = {"rows": "OutOfMemory", "rows_audits": "OutOfMemory", "merkle": "error OutOfMemory"}
-ENDED = {"rows": "Error: Kind(OutOfMemory)\n", "rows_audits": "Error: Kind(OutOfMemory)\n", "merkle": "merkle: out of memory\n"}
-
-# The programs that write each line again, with its answer after an arrow.
-ROWS = ("rows", "rows_audits")
+REFUSED = {"rows": "OutOfMemory", "merkle": "error OutOfMemory"}
+ENDED = {"rows": "Error: Kind(OutOfMemory)\n", "merkle": "merkle: out of memory\n"}
 
 # What a run wrote, its exit status, its error text, and how many requests it made.
 Output = collections.namedtuple("Output", "text status error requests")
 
 # A call whose requests are refused: the program, the data file and the line in it; the lines that are run, and the index of the call
 # among them; the numbers of its requests; the answers of ample memory; and those after a refusal, by what it leaves behind. `written`
-# are the numbers of the requests for the text that a program of ROWS writes, whose refusal doesn't keep the call from being done.
+# are the numbers of the requests for the text that `rows` writes, whose refusal doesn't keep the call from being done.
 Case = collections.namedtuple("Case", "program file line lines at first last written ample after")
 
 
@@ -28,11 +25,11 @@ def answers(program, lines, text):
     """The answers in what is written for the lines, and what is broken in it."""
     *written, rest = text.split("\n")
     broken = []
-    if program in ROWS:
+    if program == "rows":
         broken = [answer for line, answer in zip(lines, written) if not answer.startswith(line + " -> ")]
     if rest or broken or len(written) > len(lines):
         return [], f"writes a broken line {(rest or (broken + written)[0])[:60]!r}"
-    if program in ROWS:
+    if program == "rows":
         written = [answer[len(line) + len(" -> "):] for line, answer in zip(lines, written)]
     return written, ""
 
@@ -68,7 +65,7 @@ def judge(case, number, out):
         return wrong(broken or f"the program ended with status {out.status} after {out.requests} requests")
     if out.status:
         # `merkle` may not have written all that it answered.
-        count = case.at if case.program in ROWS else min(len(found), case.at)
+        count = case.at if case.program == "rows" else min(len(found), case.at)
         if out.status == 1 and out.error == ENDED[case.program] and found == case.ample[:count]:
             return "ended"
         return wrong(f"ended with status {out.status}, {out.error[:60]!r}, after {len(found)} answers")

@@ -1,4 +1,4 @@
-//! Tests of numbers, errors, digests, families and hashers: vectors, texts, and each call at concrete types.
+//! Tests of numbers, errors, digests, families, hashers, paths and hexadecimal words: vectors, texts, and each call at concrete types.
 #![tactic(auto)]
 
 #[cfg(test)]

@@ -1,11 +1,13 @@
 ghost use Rattle.std.specs.Prelude.{◌+◌, ◌*◌, ◌^◌, ◌≤◌};
 
 mod base;
-mod hasher;
+mod hashers;
 mod locations;
 mod mmb;
 mod mmr;
+mod paths;
 mod room;
+mod words;
 
 use merkle_base::error::Error;
 use merkle_base::family::{Family, Graftable};

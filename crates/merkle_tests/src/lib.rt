@@ -1,6 +1,6 @@
 //! Tests that cross crates, of what the rows of the program `rows` don't show.
 //!
-//! Generic code is proved from its bounds alone. Here it also runs at the families and the hasher of `merkle_fixtures`,
+//! Generic code is proved from its bounds alone. Here it also runs at hashers of `merkle_fixtures`,
 //! which those crates don't know.
 #![tactic(auto)]
 

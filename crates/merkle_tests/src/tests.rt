@@ -1,5 +1,4 @@
-//! Hashers, paths, values, bytes, added leaves, counts, lines, clients, and proofs over what holds nodes, with values that were worked
-//! out by hand.
+//! Values, bytes, added leaves, counts, lines, clients, and proofs over what holds nodes, with values that were worked out by hand.
 //!
 //! A digest of `Xor8` is the exclusive or of the bytes that it hashes.
 
@@ -8,9 +7,7 @@ mod bytes;
 mod clients;
 mod codec;
 mod counts;
-mod hashers;
 mod lines;
-mod paths;
 mod pending;
 mod values;
 mod verification;
@@ -23,10 +20,6 @@ use std::alloc::{AllocError, Global};
 use std::fmt::Debug;
 use std::process::Abort;
 use std::test::Fail;
-
-fn byte(digest: &Xor8Digest) -> u8 {
-    digest.as_bytes()[0]
-}
 
 /// The digest of that byte.
 fn digest(rt: &impl Abort, byte: u8) -> Xor8Digest {

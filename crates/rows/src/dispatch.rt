@@ -1,12 +1,13 @@
 //! Which crate answers a call, and of which family and hasher.
 
+use crate::audits;
 use merkle_core::family::Family;
 use merkle_core::hasher::Hasher;
 use rows_structures::choices::{Familiar, Hashed};
 use rows_structures::world::World;
 use rows_text::answer::Answer;
 use rows_text::calls::Call;
-use rows_text::refusal::Refusal;
+use rows_text::refusal::{Refusal, SYNTAX};
 use rows_text::words::Words;
 
 // Does what a call says, and writes the answer. The words are those after the name of the call.
@@ -37,10 +38,12 @@ fn answer_world<F: Family, H: Hasher<F> + Drop>(
         Call::Store(call) => rows_proofs::calls::answer_store(world, call, words, answer)?,
         Call::Check(call) => rows_proofs::calls::answer_check(world, call, words, answer)?,
         Call::Claim(call) => rows_proofs::calls::answer_claim(world, call, words, answer)?,
+        Call::Audit(_) => return Err(SYNTAX),
     }
     answer.end()
 }
 
+// Audits are of the hash whose collisions are at hand.
 fn answer_hashed<F: Family>(
     hashed: &mut Hashed<F>,
     call: Call,
@@ -49,7 +52,16 @@ fn answer_hashed<F: Family>(
 ) -> Result<(), Refusal> {
     match hashed {
         Hashed::Sha256(world) => answer_world(world, call, words, answer),
-        Hashed::Xor8(world) => answer_world(world, call, words, answer),
+        Hashed::Xor8(world) => match call {
+            Call::Audit(call) => audits::answer::<F, _>(
+                world.alloc,
+                &world.hasher,
+                call,
+                words,
+                answer,
+            ),
+            call => answer_world(world, call, words, answer),
+        },
         Hashed::Keyed(world) => answer_world(world, call, words, answer),
     }
 }

@@ -5,6 +5,7 @@
 //! rows of worked values can be read as data. `docs/ROWS.md` lists the calls.
 #![tactic(auto)]
 
+mod audits;
 mod dispatch;
 mod session;
 

@@ -15,6 +15,7 @@ pub enum Call {
     Claim(ClaimCall),
     Proof(ProofCall),
     Store(StoreCall),
+    Audit(AuditCall),
 }
 
 /// The calls of the family alone.
@@ -168,8 +169,18 @@ pub enum StoreCall {
     SuffixPeaks,
 }
 
+/// The calls of audits.
+#[derive(Clone, Copy)]
+pub enum AuditCall {
+    Apply,
+    Multi,
+    Pair,
+    Pins,
+    Range,
+}
+
 /// Each call, with its first word and the number of its words.
-const CALLS: [(&str, usize, Call); 91] = [
+const CALLS: [(&str, usize, Call); 96] = [
     ("height", 2, Call::Family(FamilyCall::Height)),
     ("inactive", 3, Call::Family(FamilyCall::Inactive)),
     ("is_inactive", 4, Call::Family(FamilyCall::IsInactive)),
@@ -269,6 +280,11 @@ const CALLS: [(&str, usize, Call); 91] = [
     ("store_node", 3, Call::Store(StoreCall::StoreNode)),
     ("store_range", 4, Call::Store(StoreCall::StoreRange)),
     ("suffix_peaks", 2, Call::Store(StoreCall::SuffixPeaks)),
+    ("audit_apply", 3, Call::Audit(AuditCall::Apply)),
+    ("audit_multi", 7, Call::Audit(AuditCall::Multi)),
+    ("audit_pair", 12, Call::Audit(AuditCall::Pair)),
+    ("audit_pins", 9, Call::Audit(AuditCall::Pins)),
+    ("audit_range", 8, Call::Audit(AuditCall::Range)),
 ];
 
 /// The call with this first word and this number of words.

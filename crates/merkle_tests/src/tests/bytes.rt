@@ -1,4 +1,4 @@
-//! Positions, locations and proofs as bytes.
+//! Positions, locations and long proofs as bytes.
 
 use merkle_core::codec::{EncodeSize, Read, Write, max_encode_size};
 use merkle_core::digest::{Digest, Sha256Digest, Xor8Digest};
@@ -7,58 +7,7 @@ use merkle_core::location::Location;
 use merkle_core::position::Position;
 use merkle_core::proof::Proof;
 use merkle_core::{mmb, mmr};
-use std::alloc::Global;
 use std::test::Fail;
-
-type RangeProof = Proof<mmr::Family, Xor8Digest>;
-
-/// The error in place of a proof, if there is one.
-fn proof_error(alloc: Global, bytes: &[u8], max_digests: usize) -> Option<DecodeError> {
-    let mut input = bytes;
-    RangeProof::read(alloc, &mut input, &max_digests).err()
-}
-
-/// Whether the bytes are a proof of at most two digests, which is written as they are, with one byte more after it.
-fn is_spelled(alloc: Global, bytes: &[u8]) -> Result<bool, Fail> {
-    let mut longer = bytes.to_vec(alloc)?;
-    longer.push(9)?;
-    let mut input = longer.as_slice();
-    let Ok(proof) = RangeProof::read(alloc, &mut input, &2) else {
-        return Ok(false);
-    };
-    let mut out = Vec::new(alloc);
-    if proof.write(&mut out).is_err() {
-        return Ok(false);
-    }
-    Ok(input == [9].as_slice() && out.as_slice() == bytes)
-}
-
-#[test]
-fn spelled_proofs(rt: HostRuntime) -> Result<(), Fail> {
-    let found = [
-        is_spelled(rt.alloc(), &[172, 2, 0, 0])?,
-        is_spelled(rt.alloc(), &[3, 0, 2, 7, 3])?,
-        is_spelled(rt.alloc(), &[0, 0, 0])?,
-    ];
-    assert!(rt; found == [true; 3]);
-    Ok(())
-}
-
-#[test]
-fn many_digests(rt: HostRuntime) {
-    let alloc = rt.alloc();
-    let mut bytes: [u8; 12] = [255; 12];
-    bytes[0] = 3;
-    bytes[1] = 0;
-    bytes[11] = 1;
-    let too_many = proof_error(alloc, &bytes, 122);
-    let cut = proof_error(alloc, &bytes, usize::MAX);
-    assert!(rt; matches!(too_many, Some(DecodeError::TooMany)));
-    assert!(rt; matches!(cut, Some(DecodeError::EndOfBuffer)));
-    bytes[11] = 2;
-    let overlong = proof_error(alloc, &bytes, 122);
-    assert!(rt; matches!(overlong, Some(DecodeError::InvalidVarint)));
-}
 
 #[test]
 fn locations(rt: HostRuntime) {

@@ -1,6 +1,5 @@
-//! Lines of the program `merkle`: runs that its own lines don't show, readers and writers that fail, and hexadecimal digits.
+//! Lines of the program `merkle`: runs that its own lines don't show, and readers and writers that fail.
 
-use merkle_lines::hex_words::{HexError, is_hex_word, read_hex, write_hex};
 use merkle_lines::run::{RunError, run};
 use std::alloc::Global;
 use std::io;
@@ -39,54 +38,6 @@ const RUNS: [(&[u8], &str); 10] = [
 #[test]
 fn runs(rt: HostRuntime) {
     for (lines, answers) in &RUNS {
-        assert!(rt; has_answers(rt.alloc(), lines, answers), "{answers}");
-    }
-}
-
-// Audits: each answer, and the same ones once the audited leaves are pruned; a list that changes with a commit alone; each
-// structure; and errors, of which the first that applies is answered.
-const AUDITS: [(&[u8], &str); 5] = [
-    (
-        b"new mmr forward xor8\nadd 01\nadd 02\nadd 04\ncommit\naudit 0 0 0300020703 01\naudit 0 0 0300020703 02\n\
-        audit 0 0 0300020307 01\naudit 0 0 0300020700 02\naudit 0 0 010000 05\nprune 3\naudit 0 0 0300020703 01\n\
-        audit 0 0 0300020703 02\naudit 0 0 0300020307 01\naudit 0 0 0300020700 02\naudit 0 0 010000 05\n",
-        "ok\nok 0\nok 1\nok 2\nok 3 4\nhonest\nrejected\ncollision prefix 1 0403 0007\n\
-        collision node 2 00000000000000020200 00000000000000020103\n\
-        collision root 0000000000000000000105 0000000000000000000307\nok 3 3\nhonest\nrejected\n\
-        collision prefix 1 0403 0007\ncollision node 2 00000000000000020200 00000000000000020103\n\
-        collision root 0000000000000000000105 0000000000000000000307\n",
-    ),
-    (
-        b"new mmr backward xor8\nadd 01\nadd 02\nadd 04\ncommit\naudit 0 0 0300020307 01\nadd 08\nadd 10\nadd 20\nadd 40\ncommit\n\
-        audit 6 0 0700020836 40\naudit 6 0 0700020876 00\n",
-        "ok\nok 0\nok 1\nok 2\nok 3 4\ncollision join 0403 0007\nok 3\nok 4\nok 5\nok 6\nok 7 11\nhonest\n\
-        collision suffix 1 760a 364a\n",
-    ),
-    (
-        b"new mmr forward xor8\nadd 01\nadd 02\nadd 04\naudit 0 0 000000\ncommit\naudit 0 0 000000\nupdate 0 11\nadd 08\n\
-        audit 0 0 0300020703 01\nupdate 4 00\nupdate 0 11\nadd 08\ncommit\nprove 0 1 0\naudit 0 0 040002030e 01\n\
-        audit 0 0 040002030e 11\naudit 0 0 0300020703 01\n",
-        "ok\nok 0\nok 1\nok 2\nhonest\nok 3 4\nrejected\nok\nok 3\nhonest\nerror LeafOutOfBounds\nok\nok 3\nok 4 7\n\
-        040002030e\nrejected\nhonest\nrejected\n",
-    ),
-    (
-        b"new mmr forward\nadd 01\ncommit\naudit 0 0 010000 01\naudit 0 0 010000 02\nnew mmb backward\nadd 01\ncommit\n\
-        audit 0 0 010000 01\naudit 0 0 010000 02\nnew mmb forward xor8\nadd 01\ncommit\naudit 0 1 010100 01\naudit 0 0 010100 01\n",
-        "ok\nok 0\nok 1 1\nhonest\nrejected\nok\nok 0\nok 1 1\nhonest\nrejected\nok\nok 0\nok 1 1\nhonest\nrejected\n",
-    ),
-    (
-        b"audit 0 0 - 01\naudit 0 0 00 0\naudit 0 00 00\naudit 0 0 00\nnew mmr forward xor8\nadd 01\nadd 02\nadd 04\ncommit\n\
-        audit 0 9 030002070300 01\naudit 0 9 03000207 01\naudit 0 9 80 01\naudit 0 9 8000 01\naudit 0 9 ffffffffffffffff7f 01\n\
-        audit 0 9 000001\naudit 0 9 0300020703 01\naudit 0 3 0300020703 01\naudit 0 2 0300020703 01\n",
-        "error Syntax\nerror Syntax\nerror Syntax\nerror NoStructure\nok\nok 0\nok 1\nok 2\nok 3 4\nerror Trailing\n\
-        error EndOfBuffer\nerror EndOfBuffer\nerror InvalidVarint\nerror Invalid\nerror TooMany\nerror InvalidInactivePeaks\n\
-        error InvalidInactivePeaks\nrejected\n",
-    ),
-];
-
-#[test]
-fn audits(rt: HostRuntime) {
-    for (lines, answers) in &AUDITS {
         assert!(rt; has_answers(rt.alloc(), lines, answers), "{answers}");
     }
 }
@@ -256,68 +207,6 @@ fn texts(rt: HostRuntime) -> Result<(), Fail> {
     for (error, text) in &TEXTS {
         let shown = error.to_string(rt.alloc())?;
         assert!(rt; shown.as_str() == *text, "{shown}");
-    }
-    Ok(())
-}
-
-/// Whether a word is refused as no bytes.
-fn is_refused(alloc: Global, word: &str) -> bool {
-    !is_hex_word(word) && matches!(read_hex(alloc, word), Err(HexError::Syntax))
-}
-
-/// Whether a word spells these bytes, which are shown so.
-fn is_spelled(alloc: Global, word: &str, bytes: &[u8], shown: &str) -> bool {
-    is_hex_word(word)
-        && matches!(read_hex(alloc, word), Ok(read) if read.as_slice() == bytes)
-        && matches!(write_hex(alloc, bytes), Ok(text) if text.as_str() == shown)
-}
-
-const NO_HEX_WORDS: [&str; 9] = ["0", "012", "0g", "g0", "-", " ", "0 ", "+1", "\u{e9}"];
-
-#[test]
-fn hex_words(rt: HostRuntime) {
-    for word in &NO_HEX_WORDS {
-        assert!(rt; is_refused(rt.alloc(), word), "{word}");
-    }
-    assert!(rt; is_spelled(rt.alloc(), "", &[], ""));
-    assert!(rt; is_spelled(rt.alloc(), "00", &[0], "00"));
-    assert!(rt; is_spelled(rt.alloc(), "00fFAb", &[0, 255, 171], "00ffab"));
-}
-
-/// The bytes beside those of digits.
-const NO_DIGITS: [&str; 6] = ["/", ":", "@", "G", "`", "g"];
-
-/// Returns a word of so many bytes, all of them the digit `d` but the one at `place`, if there is one there.
-fn word_with(alloc: Global, length: usize, place: usize, byte: &str) -> Result<String, Fail> {
-    let mut word = String::new(alloc);
-    for at in 0..length {
-        word.push_str(if at == place { byte } else { "d" })?;
-    }
-    Ok(word)
-}
-
-/// Whether a word is decoded, and its bytes are encoded as the same word.
-fn is_kept(alloc: Global, word: &str) -> bool {
-    match read_hex(alloc, word) {
-        Ok(bytes) => is_spelled(alloc, word, &bytes, word),
-        Err(_) => false,
-    }
-}
-
-// A word is tested 64 bytes at a time.
-#[test]
-fn long_hex_words(rt: HostRuntime) -> Result<(), Fail> {
-    for length in [62, 64, 66, 126, 128, 130] {
-        let word = word_with(rt.alloc(), length, length, "")?;
-        assert!(rt; is_hex_word(word.as_str()), "{length}");
-        for place in 0..length {
-            for byte in &NO_DIGITS {
-                let word = word_with(rt.alloc(), length, place, byte)?;
-                assert!(rt; is_refused(rt.alloc(), word.as_str()), "{word}");
-            }
-            let word = word_with(rt.alloc(), length, place, "0")?;
-            assert!(rt; is_kept(rt.alloc(), word.as_str()), "{word}");
-        }
     }
     Ok(())
 }

@@ -1,13 +1,50 @@
 //! What hashers answer, by value and behind references.
 
-use super::{byte, digest};
-use merkle_core::digest::{Xor8, Xor8Digest};
-use merkle_core::family::Bagging;
-use merkle_core::hasher::Hasher;
-use merkle_core::mmr::{Family, Location, Position, StandardHasher};
+use super::OF_ABC;
+use merkle_base::family::Bagging;
+use merkle_base::location::Location;
+use merkle_base::position::Position;
+use merkle_digest::digest::{Digest, PlainHasher, Xor8, Xor8Digest};
 use merkle_fixtures::keyed::Keyed;
+use merkle_hasher::hasher::{Hasher, Standard};
+use merkle_sha256::sha256::{Sha256Digest, Sha256Plain};
+use merkle_topology::mmr::Family;
 use std::process::Abort;
 use std::test::Fail;
+
+fn byte(digest: &Xor8Digest) -> u8 {
+    digest.as_bytes()[0]
+}
+
+/// The digest of that byte.
+fn digest(rt: &impl Abort, byte: u8) -> Xor8Digest {
+    Xor8Digest::from_bytes(&[byte]).expect(rt, "any byte is a digest")
+}
+
+/// Asserts that the standard hasher over a plain one folds peaks as it was told, as does its clone, and that it gives this
+/// digest to `abc`.
+fn assert_standard<H: PlainHasher>(
+    rt: &impl Abort,
+    bagging: Bagging,
+    of_abc: Option<H::Digest>,
+) -> Result<(), Fail> {
+    let hasher = Standard::<H>::new(bagging);
+    let baggings = [hasher.root_bagging(), hasher.clone()?.root_bagging()];
+    assert!(rt; baggings == [bagging; 2]);
+    assert!(rt; Some(hasher.hash(&[b"a", b"bc"])) == of_abc);
+    assert!(rt; Some(hasher.digest(b"abc")) == of_abc);
+    Ok(())
+}
+
+#[test]
+fn standard_hashers(rt: HostRuntime) -> Result<(), Fail> {
+    for bagging in [Bagging::ForwardFold, Bagging::BackwardFold] {
+        assert_standard::<Sha256Plain>(&rt, bagging, Sha256Digest::from_bytes(&OF_ABC))?;
+        // 61 xor 62 xor 63
+        assert_standard::<Xor8>(&rt, bagging, Xor8Digest::from_bytes(&[0x60]))?;
+    }
+    Ok(())
+}
 
 /// Asserts how a hasher folds peaks and each of its digests, `key` being what they have in common.
 fn assert_hasher<H: Hasher<Family, Digest = Xor8Digest>>(
@@ -51,7 +88,7 @@ fn assert_hashers<H: Hasher<Family, Digest = Xor8Digest> + Drop>(
 #[test]
 fn digests(rt: HostRuntime) -> Result<(), Fail> {
     for bagging in [Bagging::ForwardFold, Bagging::BackwardFold] {
-        assert_hashers(&rt, StandardHasher::<Xor8>::new(bagging), bagging, 0)?;
+        assert_hashers(&rt, Standard::<Xor8>::new(bagging), bagging, 0)?;
         assert_hashers(&rt, Keyed::new(0x50, bagging), bagging, 0x50)?;
     }
     Ok(())
@@ -91,7 +128,7 @@ fn folded_roots<H: Hasher<Family, Digest = Xor8Digest>>(
 
 #[test]
 fn roots_with_folded_peaks(rt: HostRuntime) {
-    let hasher = StandardHasher::<Xor8>::new(Bagging::BackwardFold);
+    let hasher = Standard::<Xor8>::new(Bagging::BackwardFold);
     let peaks = [digest(&rt, 0x10), digest(&rt, 0x20)];
     let (first, second) = (
         folded_roots(&hasher, &peaks),

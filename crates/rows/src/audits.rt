@@ -12,6 +12,7 @@ use merkle_core::proof::Proof;
 use rows_given::refusal::granted;
 use rows_given::values::{digest, digests, proof};
 use rows_text::answer::Answer;
+use rows_text::calls::AuditCall;
 use rows_text::refusal::{OUT_OF_MEMORY, Refusal};
 use rows_text::words::{LocatedBytes, Words};
 use std::alloc::Global;
@@ -76,8 +77,8 @@ fn write_verdict<F: Family, D: Digest>(answer: &mut Answer, verdict: Verdict<F, 
     }
 }
 
-/// What an audit of a proof of a range says.
-pub fn range<F: Family, H: Hasher<F>>(
+// What an audit of a proof of a range says.
+fn range<F: Family, H: Hasher<F>>(
     hasher: &H,
     words: &mut Words,
     answer: &mut Answer,
@@ -113,8 +114,8 @@ fn audit_scattered<F: Family, H: Hasher<F>>(
     granted(audit_multi(hasher, list, inactive, proof, &all))
 }
 
-/// What an audit of a proof of leaves anywhere says.
-pub fn multi<F: Family, H: Hasher<F>>(
+// What an audit of a proof of leaves anywhere says.
+fn multi<F: Family, H: Hasher<F>>(
     hasher: &H,
     words: &mut Words,
     answer: &mut Answer,
@@ -129,8 +130,8 @@ pub fn multi<F: Family, H: Hasher<F>>(
     Ok(())
 }
 
-/// What an audit of a proof of a range with pins says.
-pub fn pins<F: Family, H: Hasher<F>>(
+// What an audit of a proof of a range with pins says.
+fn pins<F: Family, H: Hasher<F>>(
     hasher: &H,
     words: &mut Words,
     answer: &mut Answer,
@@ -148,8 +149,8 @@ pub fn pins<F: Family, H: Hasher<F>>(
     Ok(())
 }
 
-/// What an audit of a batch that was recorded at a list says.
-pub fn apply<F: Family, H: Hasher<F>>(
+// What an audit of a batch that was recorded at a list says.
+fn apply<F: Family, H: Hasher<F>>(
     hasher: &H,
     words: &mut Words,
     answer: &mut Answer,
@@ -169,8 +170,8 @@ pub fn apply<F: Family, H: Hasher<F>>(
     Ok(())
 }
 
-/// What an audit of two proofs of ranges against one root says.
-pub fn pair<F: Family, H: Hasher<F>>(
+// What an audit of two proofs of ranges against one root says.
+fn pair<F: Family, H: Hasher<F>>(
     hasher: &H,
     words: &mut Words,
     answer: &mut Answer,
@@ -197,4 +198,24 @@ pub fn pair<F: Family, H: Hasher<F>>(
         } => write_collision(answer, place, &first, &second),
     }
     Ok(())
+}
+
+/// Does what a call says, and writes the answer. The words are those after the name of the call.
+pub fn answer<F: Family, H: Hasher<F>>(
+    alloc: Global,
+    hasher: &H,
+    call: AuditCall,
+    words: &[&str],
+    answer: &mut Answer,
+) -> Result<(), Refusal> {
+    let mut words = Words::new(alloc, words);
+    let words = &mut words;
+    match call {
+        AuditCall::Apply => apply(hasher, words, answer)?,
+        AuditCall::Multi => multi(hasher, words, answer)?,
+        AuditCall::Pair => pair(hasher, words, answer)?,
+        AuditCall::Pins => pins(hasher, words, answer)?,
+        AuditCall::Range => range(hasher, words, answer)?,
+    }
+    answer.end()
 }

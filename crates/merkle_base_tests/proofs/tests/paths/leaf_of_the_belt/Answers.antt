@@ -1,5 +1,5 @@
-use Rattle.merkle_tests.proofs.PathCases.{over_seven}
-use Rattle.merkle_tests.proofs.tests.paths.leaf_of_the_belt.Goals as goal
+use Rattle.merkle_base_tests.proofs.PathCases.{over_seven}
+use Rattle.merkle_base_tests.proofs.tests.paths.leaf_of_the_belt.Goals as goal
 
 pub new-path-requires : goal.new-path-requires
 new-path-requires g c = rw (c.new-node.ensures, c.new-first.ensures, c.new-target.ensures) over_seven
