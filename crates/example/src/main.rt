@@ -4,10 +4,13 @@
 //! has, and that a newer root extends the one that it keeps. Two answers that it accepts and that differ are evidence.
 #![tactic(auto)]
 
+mod client;
 mod evidence;
+mod following;
 mod keeping;
 
 use crate::evidence::show_evidence;
+use crate::following::{client_of, show_acceptance, show_following};
 use crate::keeping::{show_reasons, show_restart};
 use hex::encode;
 use merkle_core::codec::{Read, Write};
@@ -174,10 +177,13 @@ fn run(rt: &impl Print, alloc: Global) -> Result<(), LogError> {
     let old = log.append(&FIRST)?;
     println!(rt; "root of 5 entries: {}", encode(alloc, old.as_bytes())?)?;
     show_entry(rt, &log, &old)?;
+    let mut client = client_of(&log, old);
+    show_acceptance(rt, &log, &client)?;
 
     let root = log.append(&LATER)?;
     println!(rt; "root of 8 entries: {}", encode(alloc, root.as_bytes())?)?;
     show_growth(rt, &log, &old, &root)?;
+    show_following(rt, &log, &mut client, &root)?;
     show_store(rt, &log, &root)?;
     show_pruning(rt, &mut log, &root)?;
     show_restart(rt, &log, &root)?;

@@ -1,10 +1,9 @@
-//! Values, bytes, added leaves, counts, lines, clients, and proofs over what holds nodes, with values that were worked out by hand.
+//! Values, bytes, added leaves, counts, lines, and proofs over what holds nodes, with values that were worked out by hand.
 //!
 //! A digest of `Xor8` is the exclusive or of the bytes that it hashes.
 
 mod additions;
 mod bytes;
-mod clients;
 mod codec;
 mod counts;
 mod lines;

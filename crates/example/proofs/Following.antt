@@ -14,8 +14,8 @@ use Rattle.merkle_core.proofs.LeafDigests.{length-leaf_digests}
 use Rattle.merkle_core.specs.Check.{RangeInput}
 use Rattle.merkle_core.specs.Range.{ForRootOf}
 use Rattle.merkle_core.specs.CheckAnswers.{GivesRoot}
-use Rattle.example_proved.specs.Log.{leaves_of, IsLogOf, ForLogOf, Extends}
-use Rattle.example_proved.proofs.Entries.{digest_of_entry, entry_or_twin, of_logs}
+use Rattle.example.specs.Log.{leaves_of, IsLogOf, ForLogOf, Extends}
+use Rattle.example.proofs.Entries.{digest_of_entry, entry_or_twin, of_logs}
 
 -- the leaf digests of a log's first entries
 take-leaf_digests : {D : Type 0} (h : Hashing D) (rule : List ℕ → List ℕ) (a : ℕ) (es : List (List ℕ)) (n : ℕ) → take n (leaf_digests h rule a es) ≡ leaf_digests h rule a (take n es)

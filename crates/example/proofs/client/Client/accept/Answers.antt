@@ -1,7 +1,7 @@
 use Rattle.std.proofs.Common.{IsTrue}
 use Rattle.std.proofs.lemmas.Result.{IfOk-weaker}
-use Rattle.example_proved.proofs.Entries.{accepted, honest_accepted}
-use Rattle.example_proved.proofs.Client.accept.Goals as goal
+use Rattle.example.proofs.Entries.{accepted, honest_accepted}
+use Rattle.example.proofs.client.Client.accept.Goals as goal
 
 pub returns-clause-sound : goal.returns-clause-sound
 returns-clause-sound g c =

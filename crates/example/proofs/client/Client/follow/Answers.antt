@@ -1,7 +1,7 @@
 use Rattle.merkle_core.specs.Walk.{bytes_of}
-use Rattle.example_proved.proofs.Entries.{of_logs}
-use Rattle.example_proved.proofs.Following.{followed, pins_give}
-use Rattle.example_proved.proofs.Client.follow.Goals as goal
+use Rattle.example.proofs.Entries.{of_logs}
+use Rattle.example.proofs.Following.{followed, pins_give}
+use Rattle.example.proofs.client.Client.follow.Goals as goal
 
 pub returns-then-is_extended-clause-sound : goal.returns-then-is_extended-clause-sound
 returns-then-is_extended-clause-sound g c = λ is_yes.

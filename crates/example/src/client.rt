@@ -1,15 +1,13 @@
-//! A light client of a log, proved from the contracts of the library's calls alone: an example of a theorem over them.
+//! A light client of a log, with contracts of its own that are proved from those of the library's calls alone.
 //!
 //! The client keeps a root, and no entries. An entry that it accepts is in every log with that root, at the given location,
 //! or else two different inputs with one digest are at hand. A root that it moves on to is that of logs that begin with the
 //! entries so far, or else such inputs are at hand. Honest proofs are accepted.
-#![tactic(auto)]
-
 ghost use Rattle.std.specs.Prelude.{◌≡◌, ◌↔◌, ◌∷◌, [], IsTrue, IfOk, OnErr, false};
 ghost use Rattle.merkle_core.specs.Walk.{bytes_of};
 ghost use Rattle.merkle_core.specs.Input.{input_of};
 ghost use Rattle.merkle_core.specs.CheckAnswers.{GivesRoot};
-ghost use Rattle.example_proved.specs.Log.{IsSoundForLogs, IsCompleteForLogs, IsSoundForGrowth, IsCompleteForGrowth};
+ghost use Rattle.example.specs.Log.{IsSoundForLogs, IsCompleteForLogs, IsSoundForGrowth, IsCompleteForGrowth};
 
 use merkle_core::digest::Digest;
 use merkle_core::error::OutOfMemory;

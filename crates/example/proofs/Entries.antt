@@ -12,7 +12,7 @@ use Rattle.merkle_core.specs.LeafDigests.{leaf_digests, range_input}
 use Rattle.merkle_core.proofs.LeafDigests.{length-leaf_digests}
 use Rattle.merkle_core.specs.Range.{ForRootOf, IsHonestRange, RangeCollides}
 use Rattle.merkle_core.proofs.HonestInputs.{range_of_some, some_of_range}
-use Rattle.example_proved.specs.Log.{leaves_of, ForLogOf, HasEntry, HasTwin, EntryCollides, IsHonestFor}
+use Rattle.example.specs.Log.{leaves_of, ForLogOf, HasEntry, HasTwin, EntryCollides, IsHonestFor}
 
 -- a leaf digest is that of the entry at its location
 entry_of_digest : {D : Type 0} (h : Hashing D) (rule : List ℕ → List ℕ) (a : ℕ) (es : List (List ℕ)) (i : ℕ) (d : D) → slice_get (leaf_digests h rule a es) i ≡ Some d

@@ -1,0 +1,59 @@
+//! A client that keeps a root alone, and follows the log.
+
+use crate::client::Client;
+use crate::{LATER, Log, LogError};
+use merkle_core::digest::Sha256Digest;
+use merkle_core::granted;
+use merkle_core::mmr::{Family, Location};
+
+type LogClient = Client<Family, Sha256Digest>;
+
+/// A client that trusts the root of the log as it is.
+pub(crate) fn client_of(log: &Log, root: Sha256Digest) -> LogClient {
+    Client {
+        leaves: log.tree.leaves(),
+        inactive_peaks: 0,
+        root,
+    }
+}
+
+/// The client accepts an entry at its place, and no other one there.
+pub(crate) fn show_acceptance(
+    rt: &impl Print,
+    log: &Log,
+    client: &LogClient,
+) -> Result<(), LogError> {
+    let location = Location::new(1);
+    let proof = granted!(log.tree.proof(&log.hasher, location, 0));
+    let is_bob = client.accept(&log.hasher, &proof, b"bob", location)?;
+    let is_ann = client.accept(&log.hasher, &proof, b"ann", location)?;
+    println!(rt; "the client accepts bob as entry 1: {is_bob}, ann: {is_ann}")?;
+    Ok(())
+}
+
+/// The client moves on to a newer root if it is shown the entries that follow, and the peaks over those before.
+pub(crate) fn show_following(
+    rt: &impl Print,
+    log: &Log,
+    client: &mut LogClient,
+    root: &Sha256Digest,
+) -> Result<(), LogError> {
+    let start = client.leaves;
+    let proof = granted!(
+        log.tree
+            .range_proof(&log.hasher, start..log.tree.leaves(), 0)
+    );
+    let pins = log.pins(start)?;
+    let others: [&[u8]; 3] = [b"fay", b"ann", b"hal"];
+    let by_others = client.follow(&log.hasher, &proof, &others, &pins, root)?;
+    let by_no_pins = client.follow(&log.hasher, &proof, &LATER, &[], root)?;
+    println!(rt; "it follows other entries: {by_others}, without pins: {by_no_pins}")?;
+    println!(rt; "it stays at {} entries", client.leaves.as_u64())?;
+    let by_all = client.follow(&log.hasher, &proof, &LATER, &pins, root)?;
+    println!(rt;
+        "it follows the log: {by_all}, to {} entries and the new root: {}",
+        client.leaves.as_u64(),
+        client.root == *root
+    )?;
+    Ok(())
+}
