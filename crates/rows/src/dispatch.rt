@@ -36,7 +36,7 @@ fn answer_world<F: Family, H: Hasher<F> + Drop>(
         Call::Leaf(call) => rows_structures::calls::answer_leaf(world, call, words)?,
         Call::Proof(call) => rows_proofs::calls::answer(world, call, words, answer)?,
         Call::Store(call) => rows_proofs::calls::answer_store(world, call, words, answer)?,
-        Call::Check(call) => rows_proofs::calls::answer_check(world, call, words, answer)?,
+        Call::Every(call) => rows_proofs::calls::answer_every(world, call, words, answer)?,
         Call::Claim(call) => rows_proofs::calls::answer_claim(world, call, words, answer)?,
         Call::Audit(_) => return Err(SYNTAX),
     }

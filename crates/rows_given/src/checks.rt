@@ -5,7 +5,7 @@ use merkle_base::location::Location;
 use merkle_hasher::hasher::Hasher;
 use merkle_proof::proof::Proof;
 use rows_text::refusal::{OUT_OF_MEMORY, Refusal};
-use rows_text::words::{LocatedBytes, slices};
+use rows_text::words::LocatedBytes;
 use std::alloc::Global;
 
 /// Whether a proof is accepted with this element.
@@ -22,15 +22,13 @@ pub fn accepts_leaf<F: Family, H: Hasher<F>>(
 
 /// Whether a proof is accepted with these elements, from a location on.
 pub fn accepts_range<F: Family, H: Hasher<F>>(
-    alloc: Global,
     hasher: &H,
     proof: &Proof<F, H::Digest>,
-    elements: &[Vec<u8>],
+    elements: &[&[u8]],
     start: Location<F>,
     root: &H::Digest,
 ) -> Result<bool, Refusal> {
-    let all = slices(alloc, elements)?;
-    let checked = proof.verify_range_inclusion(hasher, &all, start, root);
+    let checked = proof.verify_range_inclusion(hasher, elements, start, root);
     checked.ok().ok_or(OUT_OF_MEMORY)
 }
 

@@ -24,9 +24,9 @@ pub fn check<F: Family, H: Hasher<F>>(
     let start = Location::new(words.number());
     let found = words.elements();
     let root = digest(words);
+    let all = words.slices(&found);
     words.end()?;
-    let is_right = accepts_range(words.alloc(), hasher, &proof, &found, start, &root)?;
-    answer.yes_or_no(is_right);
+    answer.yes_or_no(accepts_range(hasher, &proof, &all, start, &root)?);
     Ok(())
 }
 

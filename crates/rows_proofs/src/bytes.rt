@@ -1,6 +1,6 @@
 //! How many of a structure's ranges have proofs that are accepted as they are written, and refused with a change.
 
-use crate::spans::{Span, spans};
+use crate::spans::{Span, all_spans};
 use merkle_core::codec::{Read, Write};
 use merkle_core::digest::Digest;
 use merkle_core::error::DecodeError;
@@ -9,7 +9,6 @@ use merkle_core::hasher::Hasher;
 use merkle_core::location::Location;
 use merkle_core::mem::Mem;
 use merkle_core::proof::{MAX_PROOF_DIGESTS_PER_ELEMENT, Proof};
-use rows_given::MOST_PEAKS;
 use rows_given::refusal::granted;
 use rows_text::refusal::{OUT_OF_MEMORY, Refusal};
 use std::alloc::Global;
@@ -24,32 +23,14 @@ pub fn written_proved<F: Family, H: Hasher<F>>(
     structure: &Mem<F, H::Digest>,
     elements: &[&[u8]],
 ) -> Result<u64, Refusal> {
-    let all = spans(alloc, elements.len())?;
+    let spans = all_spans(alloc, elements.len())?;
     let mut proved = 0u64;
-    for inactive in 0..=MOST_PEAKS {
-        let count = count_written(alloc, hasher, structure, elements, &all, inactive);
-        proved = proved.saturating_add(count);
-    }
-    Ok(proved)
-}
-
-// How many of these ranges are proved by bytes for a number of inactive peaks.
-fn count_written<F: Family, H: Hasher<F>>(
-    alloc: Global,
-    hasher: &H,
-    structure: &Mem<F, H::Digest>,
-    elements: &[&[u8]],
-    spans: &[Span],
-    inactive: usize,
-) -> u64 {
-    let mut proved = 0u64;
-    for span in spans {
-        let found = span.of(elements);
-        if let Ok(true) = proves_written(alloc, hasher, structure, found, span.start, inactive) {
+    for span in &spans {
+        if let Ok(true) = proves_written(alloc, hasher, structure, elements, span) {
             proved = proved.saturating_add(1);
         }
     }
-    proved
+    Ok(proved)
 }
 
 // Whether the bytes of a range's proof are accepted, and refused with a bit flipped, cut anywhere, or with a byte more.
@@ -58,21 +39,20 @@ fn proves_written<F: Family, H: Hasher<F>>(
     hasher: &H,
     structure: &Mem<F, H::Digest>,
     elements: &[&[u8]],
-    start: usize,
-    inactive: usize,
+    span: &Span,
 ) -> Result<bool, Refusal> {
-    let first = Location::from(start);
-    let end = Location::from(start.saturating_add(elements.len()));
-    let root = granted(structure.root(hasher, inactive))?;
-    let proof = granted(structure.range_proof(hasher, first..end, inactive))?;
+    let start = Location::from(span.start);
+    let end = Location::from(span.end);
+    let root = granted(structure.root(hasher, span.inactive))?;
+    let proof = granted(structure.range_proof(hasher, start..end, span.inactive))?;
     let mut bytes = Vec::new(alloc);
     if proof.write(&mut bytes).is_err() {
         return Err(OUT_OF_MEMORY);
     }
     let mut written = Written {
         alloc,
-        elements,
-        start: first,
+        elements: span.of(elements),
+        start,
         root,
         bytes,
     };

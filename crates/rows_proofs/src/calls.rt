@@ -1,13 +1,18 @@
 //! Which function answers a call.
 
-use crate::{every, proofs, readers, stores};
+use crate::bytes::written_proved;
+use crate::parts::parts_proved;
+use crate::pinned::pinned_ranges_proved;
+use crate::ranges::{leaves_proved, ranges_proved};
+use crate::{claims, proofs, readers, stores};
 use merkle_core::family::Family;
 use merkle_core::hasher::Hasher;
+use rows_given::writing::write_proved;
 use rows_structures::world::World;
 use rows_text::answer::Answer;
-use rows_text::calls::{CheckCall, ClaimCall, ProofCall, StoreCall};
+use rows_text::calls::{ClaimCall, EveryCall, ProofCall, StoreCall};
 use rows_text::refusal::Refusal;
-use rows_text::words::Words;
+use rows_text::words::{Words, named};
 
 /// Does what a call of proofs says, and writes the answer. The words are those after the name of the call.
 pub fn answer<F: Family, H: Hasher<F> + Drop>(
@@ -43,23 +48,30 @@ pub fn answer_store<F: Family, H: Hasher<F> + Drop>(
     }
 }
 
-/// The same for a call of all leaves or ranges.
-pub fn answer_check<F: Family, H: Hasher<F> + Drop>(
+/// The same for a call that proves every leaf or range of a structure for each number of inactive peaks, and counts the proofs.
+pub fn answer_every<F: Family, H: Hasher<F> + Drop>(
     world: &World<F, H>,
-    call: CheckCall,
+    call: EveryCall,
     words: &mut Words,
     answer: &mut Answer,
 ) -> Result<(), Refusal> {
-    match call {
-        CheckCall::Prove => every::prove(world, words, answer),
-        CheckCall::ProveLeaves => every::prove_leaves(world, words, answer),
-        CheckCall::ProveRanges => every::prove_ranges(world, words, answer),
-        CheckCall::ProveStores => every::prove_stores(world, words, answer),
-        CheckCall::ProveWritten => every::prove_written(world, words, answer),
-    }
+    let structure = named(&world.structures, words.word())?;
+    let list = words.elements();
+    let elements = words.slices(&list);
+    words.end()?;
+    let (alloc, hasher) = (world.alloc, &world.hasher);
+    let proved: Result<u64, Refusal> = match call {
+        EveryCall::Leaves => Ok(leaves_proved(alloc, hasher, structure, &elements)),
+        EveryCall::Pins => pinned_ranges_proved(alloc, hasher, structure, &elements),
+        EveryCall::Ranges => ranges_proved(alloc, hasher, structure, &elements),
+        EveryCall::Stores => parts_proved(alloc, hasher, structure, &elements),
+        EveryCall::Written => written_proved(alloc, hasher, structure, &elements),
+    };
+    write_proved(answer, proved?);
+    Ok(())
 }
 
-/// The same for a call of scattered leaves, or of ranges with pins.
+/// The same for a call of one leaf of a structure, or of leaves anywhere in it.
 pub fn answer_claim<F: Family, H: Hasher<F> + Drop>(
     world: &World<F, H>,
     call: ClaimCall,
@@ -67,8 +79,8 @@ pub fn answer_claim<F: Family, H: Hasher<F> + Drop>(
     answer: &mut Answer,
 ) -> Result<(), Refusal> {
     match call {
-        ClaimCall::Multi => every::multi(world, words, answer),
-        ClaimCall::ProvePins => every::prove_pins(world, words, answer),
-        ClaimCall::ProveSubsets => every::prove_subsets(world, words, answer),
+        ClaimCall::Multi => claims::multi(world, words, answer),
+        ClaimCall::Prove => claims::prove(world, words, answer),
+        ClaimCall::ProveSubsets => claims::prove_subsets(world, words, answer),
     }
 }

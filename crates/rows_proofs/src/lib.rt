@@ -4,7 +4,7 @@
 
 mod bytes;
 pub mod calls;
-mod every;
+mod claims;
 mod parts;
 mod pinned;
 mod proofs;

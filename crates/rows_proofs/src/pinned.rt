@@ -1,13 +1,12 @@
 //! How many ranges of a structure are proved with the pins before them.
 
-use crate::spans::{Span, spans};
+use crate::spans::{Span, all_spans};
 use merkle_core::digest::Digest;
 use merkle_core::family::Family;
 use merkle_core::hasher::Hasher;
 use merkle_core::location::Location;
 use merkle_core::mem::Mem;
 use merkle_core::proof::Proof;
-use rows_given::MOST_PEAKS;
 use rows_given::changes::other_digest;
 use rows_given::refusal::granted;
 use rows_text::refusal::{OUT_OF_MEMORY, Refusal};
@@ -20,32 +19,14 @@ pub fn pinned_ranges_proved<F: Family, H: Hasher<F>>(
     structure: &Mem<F, H::Digest>,
     elements: &[&[u8]],
 ) -> Result<u64, Refusal> {
-    let all = spans(alloc, elements.len())?;
+    let spans = all_spans(alloc, elements.len())?;
     let mut proved = 0u64;
-    for inactive in 0..=MOST_PEAKS {
-        let count = count_pinned(alloc, hasher, structure, elements, &all, inactive);
-        proved = proved.saturating_add(count);
-    }
-    Ok(proved)
-}
-
-// How many of these ranges are proved with the pins before them for a number of inactive peaks.
-fn count_pinned<F: Family, H: Hasher<F>>(
-    alloc: Global,
-    hasher: &H,
-    structure: &Mem<F, H::Digest>,
-    elements: &[&[u8]],
-    spans: &[Span],
-    inactive: usize,
-) -> u64 {
-    let mut proved = 0u64;
-    for span in spans {
-        let found = span.of(elements);
-        if let Ok(true) = proves_pins(alloc, hasher, structure, found, span.start, inactive) {
+    for span in &spans {
+        if let Ok(true) = proves_pins(alloc, hasher, structure, elements, span) {
             proved = proved.saturating_add(1);
         }
     }
-    proved
+    Ok(proved)
 }
 
 // Whether the proof of a range is accepted with the pins before it, and refused where a digest, a pin or the number of pins
@@ -55,19 +36,18 @@ fn proves_pins<F: Family, H: Hasher<F>>(
     hasher: &H,
     structure: &Mem<F, H::Digest>,
     elements: &[&[u8]],
-    start: usize,
-    inactive: usize,
+    span: &Span,
 ) -> Result<bool, Refusal> {
-    let first = Location::from(start);
-    let end = Location::from(start.saturating_add(elements.len()));
-    let root = granted(structure.root(hasher, inactive))?;
-    let proof = granted(structure.range_proof(hasher, first..end, inactive))?;
-    let pins = pins_before(alloc, structure, first)?;
+    let start = Location::from(span.start);
+    let end = Location::from(span.end);
+    let root = granted(structure.root(hasher, span.inactive))?;
+    let proof = granted(structure.range_proof(hasher, start..end, span.inactive))?;
+    let pins = pins_before(alloc, structure, start)?;
     let mut claim = PinnedClaim {
         alloc,
         proof,
-        elements,
-        start: first,
+        elements: span.of(elements),
+        start,
         pins,
         root,
     };

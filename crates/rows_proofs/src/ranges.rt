@@ -1,6 +1,6 @@
 //! How many of a structure's leaves and ranges are proved.
 
-use crate::spans::{Span, spans};
+use crate::spans::{Span, all_spans};
 use merkle_core::family::Family;
 use merkle_core::hasher::Hasher;
 use merkle_core::location::Location;
@@ -51,13 +51,12 @@ fn count_leaves<F: Family, H: Hasher<F>>(
     alloc: Global,
     hasher: &H,
     structure: &Mem<F, H::Digest>,
-    elements: &[Vec<u8>],
+    elements: &[&[u8]],
     inactive: usize,
 ) -> u64 {
     let mut proved = 0u64;
     for (leaf, element) in elements.iter().enumerate() {
         let leaf = Location::from(leaf);
-        let element = element.as_slice();
         if let Ok(true) = proves_leaf(alloc, hasher, structure, leaf, element, inactive) {
             proved = proved.saturating_add(1);
         }
@@ -70,7 +69,7 @@ pub fn leaves_proved<F: Family, H: Hasher<F>>(
     alloc: Global,
     hasher: &H,
     structure: &Mem<F, H::Digest>,
-    elements: &[Vec<u8>],
+    elements: &[&[u8]],
 ) -> u64 {
     let mut proved = 0u64;
     for inactive in 0..=MOST_PEAKS {
@@ -81,32 +80,36 @@ pub fn leaves_proved<F: Family, H: Hasher<F>>(
 }
 
 // The elements, with another in the place of the first.
-fn with_another_first(alloc: Global, elements: &[Vec<u8>]) -> Result<Vec<Vec<u8>>, Refusal> {
-    let mut others = Vec::new(alloc);
-    for (index, element) in elements.iter().enumerate() {
-        let other = if index == 0 {
-            changed(alloc, element.as_slice())?
-        } else {
-            element.clone()?
-        };
-        others.push(other)?;
+fn with_first<'a>(
+    alloc: Global,
+    first: &'a [u8],
+    elements: &[&'a [u8]],
+) -> Result<Vec<&'a [u8]>, Refusal> {
+    let mut all: Vec<&[u8]> = Vec::new(alloc);
+    all.push(first)?;
+    for element in elements.iter().skip(1) {
+        all.push(*element)?;
     }
-    Ok(others)
+    Ok(all)
 }
 
 // Whether a proof is accepted with the elements, and refused with another first one.
-fn accept_these_alone<F: Family, H: Hasher<F>>(
+fn accepts_these_alone<F: Family, H: Hasher<F>>(
     alloc: Global,
     hasher: &H,
     proof: &Proof<F, H::Digest>,
-    elements: &[Vec<u8>],
+    elements: &[&[u8]],
     start: Location<F>,
     root: &H::Digest,
 ) -> Result<bool, Refusal> {
-    let is_accepted = accepts_range(alloc, hasher, proof, elements, start, root)?;
-    let others = with_another_first(alloc, elements)?;
-    let are_accepted = accepts_range(alloc, hasher, proof, others.as_slice(), start, root)?;
-    Ok(is_accepted && !are_accepted)
+    let Some(first) = elements.first() else {
+        return Ok(false);
+    };
+    let other = changed(alloc, first)?;
+    let others = with_first(alloc, &other, elements)?;
+    let is_accepted = accepts_range(hasher, proof, elements, start, root)?;
+    let are_others_accepted = accepts_range(hasher, proof, &others, start, root)?;
+    Ok(is_accepted && !are_others_accepted)
 }
 
 // Whether the proof of a range is accepted with its elements, and refused with another first one.
@@ -114,15 +117,14 @@ fn proves_range<F: Family, H: Hasher<F>>(
     alloc: Global,
     hasher: &H,
     structure: &Mem<F, H::Digest>,
-    elements: &[Vec<u8>],
-    start: usize,
-    inactive: usize,
+    elements: &[&[u8]],
+    span: &Span,
 ) -> Result<bool, Refusal> {
-    let first = Location::from(start);
-    let end = Location::from(start.saturating_add(elements.len()));
-    let root = granted(structure.root(hasher, inactive))?;
-    let proof = granted(structure.range_proof(hasher, first..end, inactive))?;
-    accept_these_alone(alloc, hasher, &proof, elements, first, &root)
+    let start = Location::from(span.start);
+    let end = Location::from(span.end);
+    let root = granted(structure.root(hasher, span.inactive))?;
+    let proof = granted(structure.range_proof(hasher, start..end, span.inactive))?;
+    accepts_these_alone(alloc, hasher, &proof, span.of(elements), start, &root)
 }
 
 /// How many ranges are proved, one after another for each number of inactive peaks.
@@ -130,32 +132,14 @@ pub fn ranges_proved<F: Family, H: Hasher<F>>(
     alloc: Global,
     hasher: &H,
     structure: &Mem<F, H::Digest>,
-    elements: &[Vec<u8>],
+    elements: &[&[u8]],
 ) -> Result<u64, Refusal> {
-    let all = spans(alloc, elements.len())?;
+    let spans = all_spans(alloc, elements.len())?;
     let mut proved = 0u64;
-    for inactive in 0..=MOST_PEAKS {
-        let count = count_ranges(alloc, hasher, structure, elements, &all, inactive);
-        proved = proved.saturating_add(count);
-    }
-    Ok(proved)
-}
-
-// How many of these ranges are proved for a number of inactive peaks.
-fn count_ranges<F: Family, H: Hasher<F>>(
-    alloc: Global,
-    hasher: &H,
-    structure: &Mem<F, H::Digest>,
-    elements: &[Vec<u8>],
-    spans: &[Span],
-    inactive: usize,
-) -> u64 {
-    let mut proved = 0u64;
-    for span in spans {
-        let found = span.of(elements);
-        if let Ok(true) = proves_range(alloc, hasher, structure, found, span.start, inactive) {
+    for span in &spans {
+        if let Ok(true) = proves_range(alloc, hasher, structure, elements, span) {
             proved = proved.saturating_add(1);
         }
     }
-    proved
+    Ok(proved)
 }

@@ -11,7 +11,7 @@ pub enum Call {
     Node(NodeCall),
     Batch(BatchCall),
     Leaf(LeafCall),
-    Check(CheckCall),
+    Every(EveryCall),
     Claim(ClaimCall),
     Proof(ProofCall),
     Store(StoreCall),
@@ -129,21 +129,21 @@ pub enum LeafCall {
     UpdateList,
 }
 
-/// The calls that prove and check every leaf or range of a structure.
+/// The calls that prove every leaf or range of a structure, and count the proofs.
 #[derive(Clone, Copy)]
-pub enum CheckCall {
-    Prove,
-    ProveLeaves,
-    ProveRanges,
-    ProveStores,
-    ProveWritten,
+pub enum EveryCall {
+    Leaves,
+    Pins,
+    Ranges,
+    Stores,
+    Written,
 }
 
-/// The calls of scattered leaves of a structure, and those that prove every choice of them or every range with pins.
+/// The calls that prove one leaf of a structure, or leaves anywhere in it.
 #[derive(Clone, Copy)]
 pub enum ClaimCall {
     Multi,
-    ProvePins,
+    Prove,
     ProveSubsets,
 }
 
@@ -260,13 +260,13 @@ const CALLS: [(&str, usize, Call); 96] = [
     ("update_digest", 4, Call::Leaf(LeafCall::UpdateDigest)),
     ("update_digests", 3, Call::Leaf(LeafCall::UpdateDigests)),
     ("update_list", 3, Call::Leaf(LeafCall::UpdateList)),
-    ("prove", 5, Call::Check(CheckCall::Prove)),
-    ("prove_leaves", 3, Call::Check(CheckCall::ProveLeaves)),
-    ("prove_ranges", 3, Call::Check(CheckCall::ProveRanges)),
-    ("prove_stores", 3, Call::Check(CheckCall::ProveStores)),
-    ("prove_written", 3, Call::Check(CheckCall::ProveWritten)),
+    ("prove_leaves", 3, Call::Every(EveryCall::Leaves)),
+    ("prove_pins", 3, Call::Every(EveryCall::Pins)),
+    ("prove_ranges", 3, Call::Every(EveryCall::Ranges)),
+    ("prove_stores", 3, Call::Every(EveryCall::Stores)),
+    ("prove_written", 3, Call::Every(EveryCall::Written)),
     ("multi", 4, Call::Claim(ClaimCall::Multi)),
-    ("prove_pins", 3, Call::Claim(ClaimCall::ProvePins)),
+    ("prove", 5, Call::Claim(ClaimCall::Prove)),
     ("prove_subsets", 4, Call::Claim(ClaimCall::ProveSubsets)),
     ("proof", 4, Call::Proof(ProofCall::Proof)),
     ("proof_over", 5, Call::Proof(ProofCall::ProofOver)),

@@ -101,8 +101,8 @@ fn push_list<T: Drop, R: Fn(Global, &str) -> Result<T, Unread>>(
     Ok(())
 }
 
-/// The elements of a list, lent.
-pub fn slices<'a>(alloc: Global, elements: &'a [Vec<u8>]) -> Result<Vec<&'a [u8]>, Refusal> {
+// The elements of a list, lent.
+fn slices<'a>(alloc: Global, elements: &'a [Vec<u8>]) -> Result<Vec<&'a [u8]>, Refusal> {
     let mut all: Vec<&[u8]> = Vec::new(alloc);
     for element in elements {
         all.push(element.as_slice())?;
