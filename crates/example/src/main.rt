@@ -6,12 +6,12 @@
 
 mod client;
 mod evidence;
-mod following;
 mod keeping;
+mod trusting;
 
 use crate::evidence::show_evidence;
-use crate::following::{client_of, show_acceptance, show_following};
 use crate::keeping::{show_reasons, show_restart};
+use crate::trusting::{client_of, show_acceptance, show_following};
 use hex::encode;
 use merkle_core::codec::{Read, Write};
 use merkle_core::digest::{Digest, Sha256Digest, Sha256Plain};

@@ -1,4 +1,4 @@
-//! A client that keeps a root alone, and follows the log.
+//! A client that trusts a root alone, and follows the log.
 
 use crate::client::Client;
 use crate::{LATER, Log, LogError};
