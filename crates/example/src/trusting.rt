@@ -38,7 +38,7 @@ pub(crate) fn show_following(
     client: &mut LogClient,
     root: &Sha256Digest,
 ) -> Result<(), LogError> {
-    let start = client.leaves;
+    let (start, trusted) = (client.leaves, client.root);
     let proof = granted!(
         log.tree
             .range_proof(&log.hasher, start..log.tree.leaves(), 0)
@@ -48,7 +48,11 @@ pub(crate) fn show_following(
     let by_others = client.follow(&log.hasher, &proof, &others, &pins, root)?;
     let by_no_pins = client.follow(&log.hasher, &proof, &LATER, &[], root)?;
     println!(rt; "it follows other entries: {by_others}, without pins: {by_no_pins}")?;
-    println!(rt; "it stays at {} entries", client.leaves.as_u64())?;
+    println!(rt;
+        "it stays at {} entries and the old root: {}",
+        client.leaves.as_u64(),
+        client.root == trusted
+    )?;
     let by_all = client.follow(&log.hasher, &proof, &LATER, &pins, root)?;
     println!(rt;
         "it follows the log: {by_all}, to {} entries and the new root: {}",
