@@ -6,7 +6,7 @@ ghost use Rattle.merkle_base.specs.Cases.{first_case};
 ghost use Rattle.merkle_base.specs.Forest.{size};
 ghost use Rattle.merkle_base.specs.Places.{peaks_of};
 ghost use Rattle.merkle_proof.specs.Input.{multi_input_of};
-ghost use Rattle.merkle_proof.specs.MultiPositions.{AreLocations};
+ghost use Rattle.merkle_scattered.specs.MultiPositions.{AreLocations};
 ghost use Rattle.merkle_root_theory.specs.Expression as theory;
 ghost use Rattle.merkle_claim_theory.specs.Multiproof.{multi_positions, AcceptsMulti};
 ghost use Rattle.merkle_claim_theory.specs.Order.{node_places};

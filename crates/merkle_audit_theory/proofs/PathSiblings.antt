@@ -7,8 +7,8 @@ use Rattle.std.proofs.lemmas.List.Sorted.{IsPermutation-refl, IsPermutation-sym,
 use Rattle.merkle_base.specs.Tree.{Tree, leaf, join, position, first_leaf, width, IsBuilt}
 use Rattle.merkle_base.specs.Forest.{forest}
 use Rattle.merkle_base.proofs.Nodes.{node_built}
-use Rattle.merkle_hasher.specs.Path.{path}
-use Rattle.merkle_hasher.proofs.PathSteps.{path_left, path_right}
+use Rattle.merkle_leaves.specs.Path.{path}
+use Rattle.merkle_leaves.proofs.PathSteps.{path_left, path_right}
 use Rattle.merkle_root_theory.specs.Plan.{siblings}
 use Rattle.merkle_root_theory.specs.Check.{in_range}
 use Rattle.merkle_root_theory.proofs.PeakGroups.{meets_not, meets_yes}

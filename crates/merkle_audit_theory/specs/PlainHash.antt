@@ -4,7 +4,7 @@ use Rattle.std.specs.Int.{to_be_bytes, w64}
 use Rattle.merkle_base.specs.Hashing.{Hashing}
 use Rattle.merkle_base.specs.Tree.{Tree}
 use Rattle.merkle_base.specs.Digests.{digest_at}
-use Rattle.merkle_hasher.specs.Standard.{standard}
+use Rattle.merkle_leaves.specs.Standard.{standard}
 use Rattle.merkle_root_theory.specs.Expression.{Place, Root, Join, PrefixFold, SuffixFold, Node, Argument, Pair, Bytes, Input}
 use Rattle.merkle_root_theory.specs.Collision.{Collision, Collides}
 use Rattle.merkle_root_theory.specs.RootString.{ByteLaws}

@@ -3,7 +3,7 @@ use Rattle.std.specs.Prelude.{◌≡◌, ℕ, ◌+◌, ◌<◌, ◌≤◌, List,
 use Rattle.std.specs.List.Sorted.{IsPermutation}
 use Rattle.merkle_base.specs.Tree.{Tree, position, first_leaf, width}
 use Rattle.merkle_base.specs.Forest.{forest}
-use Rattle.merkle_hasher.specs.Path.{path}
+use Rattle.merkle_leaves.specs.Path.{path}
 use Rattle.merkle_root_theory.specs.Plan.{siblings}
 use Rattle.merkle_root_theory.specs.Check.{in_range}
 

@@ -7,7 +7,7 @@ ghost use Rattle.merkle_base.specs.declared.family.Bagging.TheVariants.{ForwardF
 ghost use Rattle.merkle_forest_theory.specs.Mmr.{mmr_merges};
 ghost use Rattle.merkle_forest_theory.specs.Mmb.{mmb_merges};
 ghost use Rattle.merkle_forest_theory.specs.Rows.{unmerged};
-ghost use Rattle.merkle_hasher.specs.Standard.{standard};
+ghost use Rattle.merkle_leaves.specs.Standard.{standard};
 ghost use Rattle.merkle_root_theory.specs.Check.{in_range, range_inputs};
 ghost use Rattle.merkle_root_theory.specs.Collision.{Collides};
 ghost use Rattle.merkle_root_theory.specs.Expression.{Root, Join, PrefixFold, SuffixFold, Node, Pair, Bytes, inputs, supplied, computed};

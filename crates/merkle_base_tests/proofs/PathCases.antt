@@ -2,7 +2,7 @@
 use Rattle.std.proofs.Common.{◌≡◌, ℕ, ◌<◌, Some, slice_get, refl, arith}
 use Rattle.merkle_base.specs.Tree.{Tree, leaf, join}
 use Rattle.merkle_base.specs.Forest.{forest}
-use Rattle.merkle_hasher.specs.Path.{IsNodeAbove}
+use Rattle.merkle_leaves.specs.Path.{IsNodeAbove}
 use Rattle.merkle_forest_theory.specs.Mmr.{mmr_merges}
 use Rattle.merkle_forest_theory.specs.Mmb.{mmb_merges}
 use Rattle.merkle_fixtures.specs.Pairs.{pairing}

@@ -23,7 +23,7 @@ use merkle_base::position::Position;
 use merkle_digest::digest::Digest;
 pub use merkle_draft::base::Base;
 use merkle_hasher::hasher::Hasher;
-use merkle_hasher::queue::push_leaf_digests;
+use merkle_leaves::queue::push_leaf_digests;
 use std::collections::BTreeMap;
 use std::marker::Model;
 use std::rc::{Rc, RcSlice};

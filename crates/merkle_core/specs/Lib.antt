@@ -25,8 +25,8 @@ pub use Rattle.merkle_sha256.specs.Together
 pub use Rattle.merkle_sha256.specs.PlainHashings
 pub use Rattle.merkle_topology.specs.BeltIterators
 pub use Rattle.merkle_topology.specs.Perfect
-pub use Rattle.merkle_hasher.specs.Path
-pub use Rattle.merkle_hasher.specs.Standard
+pub use Rattle.merkle_leaves.specs.Path
+pub use Rattle.merkle_leaves.specs.Standard
 pub use Rattle.merkle_hasher.specs.Subtrees
 pub use Rattle.merkle_codec.specs.NumberSpelling
 pub use Rattle.merkle_codec.specs.ProofSpelling
@@ -70,8 +70,8 @@ pub use Rattle.merkle_range.specs.Extracting
 pub use Rattle.merkle_range.specs.Input as LeafDigests
 pub use Rattle.merkle_proof.specs.ElementPlans
 pub use Rattle.merkle_proof.specs.Input
-pub use Rattle.merkle_proof.specs.MultiPositions
-pub use Rattle.merkle_proof.specs.Positions
+pub use Rattle.merkle_scattered.specs.MultiPositions
+pub use Rattle.merkle_scattered.specs.Positions
 pub use Rattle.merkle_proof.specs.ProofRefusals
 pub use Rattle.merkle_proof.specs.RangePlans
 pub use Rattle.merkle_verification.specs.PairReads

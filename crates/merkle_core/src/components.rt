@@ -6,13 +6,13 @@ ghost use Rattle.merkle_base.specs.Places.{IsSize, peak_positions};
 ghost use Rattle.merkle_batch_theory.specs.Components.{made_of, RefusesTooLarge, RefusesNoSize, RefusesPins, ForComponents, AgreesAsGiven};
 ghost use Rattle.merkle_batch_theory.specs.MemModel.{contents};
 
-use crate::held_nodes::HeldNodes;
 use crate::mem::Mem;
 use merkle_base::error::Error;
 use merkle_base::family::Family;
 use merkle_base::location::Location;
 use merkle_base::position::Position;
 use merkle_digest::digest::Digest;
+use merkle_draft::held_nodes::HeldNodes;
 use std::collections::BTreeMap;
 
 /// The components of a structure.

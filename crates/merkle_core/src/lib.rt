@@ -9,18 +9,18 @@ mod components;
 pub mod digest;
 pub mod family;
 mod find;
-mod held_nodes;
+pub mod hasher;
 pub mod laws;
 pub mod mem;
 pub mod mmb;
 pub mod mmr;
 mod prune;
-mod replay;
 
 pub use merkle_base::{error, location, position};
 pub use merkle_batch::batch;
 pub use merkle_codec::codec;
-pub use merkle_hasher::{hasher, leaves, nodes, path, read, subtree};
+pub use merkle_hasher::{nodes, read, subtree};
+pub use merkle_leaves::{leaves, path};
 pub use merkle_proof::{element_plan, proof, range_plan};
 pub use merkle_verification::verification;
 

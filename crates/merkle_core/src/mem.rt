@@ -19,8 +19,6 @@ ghost use Rattle.merkle_batch_theory.specs.ForLists.{ForList, ForHeldLeaf, ForHe
 
 pub use crate::components::Config;
 use crate::find::{find_state, refusal};
-use crate::held_nodes::HeldNodes;
-use crate::replay::{apply_record, apply_records};
 use merkle_base::error::Error;
 use merkle_base::family::Family;
 use merkle_base::location::Location;
@@ -28,7 +26,9 @@ use merkle_base::position::Position;
 use merkle_batch::batch::{MerkleizedBatch, UnmerkleizedBatch};
 use merkle_digest::digest::Digest;
 use merkle_draft::base::Base;
+use merkle_draft::held_nodes::HeldNodes;
 use merkle_draft::record::Record;
+use merkle_draft::replay::{apply_record, apply_records};
 use merkle_hasher::hasher::Hasher;
 use merkle_hasher::read::Readable;
 use merkle_proof::proof::Proof;

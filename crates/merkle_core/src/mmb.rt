@@ -15,7 +15,7 @@ pub type UnmerkleizedBatch<D> = merkle_batch::batch::UnmerkleizedBatch<Family, D
 pub type MerkleizedBatch<D> = merkle_batch::batch::MerkleizedBatch<Family, D>;
 
 /// The hasher over the plain hash function `H`.
-pub type StandardHasher<H> = merkle_hasher::hasher::Standard<H>;
+pub type StandardHasher<H> = merkle_leaves::standard::Standard<H>;
 
 /// A proof of leaves of a Mountain Belt.
 pub type Proof<D> = merkle_proof::proof::Proof<Family, D>;

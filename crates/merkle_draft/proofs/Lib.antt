@@ -17,3 +17,4 @@ pub mod Adding
 pub mod DirtyParents
 pub mod PlannedNodes
 pub mod MarkedPeaks
+pub mod ReplacedPins

@@ -7,7 +7,8 @@ use crate::calls::count;
 use merkle_base::family::{Bagging, Family};
 use merkle_base::position::Position;
 use merkle_digest::digest::{Xor8, Xor8Digest};
-use merkle_hasher::hasher::{Hasher, Standard};
+use merkle_hasher::hasher::Hasher;
+use merkle_leaves::standard::Standard;
 use std::cell::Cell;
 
 /// A hasher that counts the pairs of nodes and the single nodes that it computes. It has the default body of each method that

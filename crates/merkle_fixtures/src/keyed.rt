@@ -7,7 +7,8 @@ ghost use Rattle.merkle_fixtures.specs.Masked.{keyed};
 use merkle_base::family::{Bagging, Family};
 use merkle_base::position::Position;
 use merkle_digest::digest::{Digest, PlainHasher, Xor8, Xor8Digest};
-use merkle_hasher::hasher::{Hasher, Standard};
+use merkle_hasher::hasher::Hasher;
+use merkle_leaves::standard::Standard;
 
 /// The hasher over [`Xor8`] with a key: each digest is the exclusive or of the key and the digest
 /// of [`Standard`].

@@ -8,7 +8,8 @@ use crate::calls::count;
 use merkle_base::family::{Bagging, Family};
 use merkle_base::position::Position;
 use merkle_digest::digest::{Xor8, Xor8Digest};
-use merkle_hasher::hasher::{Hasher, Standard};
+use merkle_hasher::hasher::Hasher;
+use merkle_leaves::standard::Standard;
 use std::cell::Cell;
 
 /// A hasher that notes the position of each leaf whose digest it computes, in the order of its calls. It has the default

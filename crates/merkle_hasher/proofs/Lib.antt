@@ -3,13 +3,7 @@ pub mod Comparisons
 pub mod Spans
 pub mod NodeSteps
 pub mod PeakNodes
-pub mod PathSteps
 pub mod ShortLists
-pub mod MoreLeaves
-pub mod KnownLeaves
 pub mod SubtreeLists
 pub mod PeakWalk
 pub mod LeafDigests
-pub mod CountingSort
-pub mod BlockTimes
-pub mod Indices

@@ -7,11 +7,9 @@ ghost use Rattle.merkle_base.specs.declared.family.Bagging.{Bagging};
 ghost use Rattle.merkle_base.specs.Hashing.{Hashing, IsOver};
 ghost use Rattle.merkle_base.specs.Scheme.{Scheme, scheme_of};
 ghost use Rattle.merkle_base.specs.Root.{HasPeaksRoot, peaks_root};
-ghost use Rattle.merkle_hasher.specs.Standard.{standard};
 
 pub use crate::root::root_string;
 use crate::root::{empty_root, fold_peaks, root_of_folded};
-pub use crate::standard::Standard;
 use merkle_base::error::Error;
 use merkle_base::family::{Bagging, Family};
 use merkle_base::location::Location;
@@ -101,7 +99,7 @@ pub trait Hasher<F: Family>: Clone {
 
     /// Returns the digests of four leaves, each as by [`leaf_digest`](Hasher::leaf_digest). An
     /// implementation may compute them together; without one of its own, they are computed one after
-    /// another. [`leaf_digests`](crate::leaves::leaf_digests) takes any number of leaves.
+    /// another. `leaf_digests` of merkle_leaves takes any number of leaves.
     ///
     /// Requires that there are four leaves.
     fn leaf_digests_four(

@@ -9,7 +9,7 @@ ghost use Rattle.merkle_base.specs.Hashing.{IsOver};
 ghost use Rattle.merkle_base.specs.Scheme.{Scheme, scheme_of};
 ghost use Rattle.merkle_commands.specs.Commands.{optional_words, IsElementWord};
 ghost use Rattle.merkle_commands.specs.Words.{IsHexWord};
-ghost use Rattle.merkle_hasher.specs.Standard.{standard};
+ghost use Rattle.merkle_leaves.specs.Standard.{standard};
 ghost use Rattle.merkle_lines.specs.Answers.{collision_line, error_line, place_words, word_bytes, IsAudited, SaysOfInput};
 ghost use Rattle.merkle_lines.specs.AnswerText.{answer_text, spot_text};
 ghost use Rattle.merkle_lines.specs.StructureState.{StructureState};

@@ -5,7 +5,7 @@ ghost use Rattle.hex.specs.Hex.{decode_of};
 ghost use Rattle.merkle_base.specs.Scheme.{scheme_of};
 ghost use Rattle.merkle_commands.specs.Commands.{optional_words, IsElementWord};
 ghost use Rattle.merkle_commands.specs.Words.{IsHexWord};
-ghost use Rattle.merkle_hasher.specs.Standard.{standard};
+ghost use Rattle.merkle_leaves.specs.Standard.{standard};
 ghost use Rattle.merkle_lines.specs.Answers.{error_line, word_bytes, IsChecked, IsRead};
 ghost use Rattle.merkle_lines.specs.AnswerText.{answer_text};
 ghost use Rattle.merkle_hasher.specs.LeafDigests.{bytes_of};

@@ -3,7 +3,7 @@ ghost use Rattle.std.specs.Prelude.{◌≡◌, ◌<◌, ◌≤◌, ◌+◌, ◌+
 ghost use Rattle.merkle_base.specs.Scheme.{scheme_of};
 ghost use Rattle.merkle_commands.specs.Commands.{IsCommand};
 ghost use Rattle.merkle_commands.specs.Words.{IsHexWord};
-ghost use Rattle.merkle_hasher.specs.Standard.{standard};
+ghost use Rattle.merkle_leaves.specs.Standard.{standard};
 ghost use Rattle.merkle_lines.specs.AnswerText.{answer_text};
 ghost use Rattle.merkle_lines.specs.Answers.{IsRequestAnswered};
 ghost use Rattle.merkle_lines.specs.StructureState.{StructureState, changes, empty_structure};

@@ -17,7 +17,7 @@ use Rattle.merkle_claim_theory.proofs.FewPositions.{no_longer}
 use Rattle.merkle_claim_theory.proofs.ListedDigests.{filtered_member, member_any, distinct_filter, distinct_range}
 use Rattle.merkle_claim_theory.proofs.OneLeaf.{nodes_read-few, range_digests-few}
 use Rattle.merkle_claim_theory.proofs.PlacesOnce.{member_map}
-use Rattle.merkle_proof.specs.Positions.{positions_among, range_positions}
+use Rattle.merkle_scattered.specs.Positions.{positions_among, range_positions}
 use Rattle.merkle_proof.specs.RangePlans.{IsBuiltProof}
 use Rattle.merkle_proof.specs.declared.proof.Proof.{Proof}
 

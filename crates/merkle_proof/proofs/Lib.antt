@@ -3,12 +3,8 @@ pub mod BuiltReads
 pub mod HasherLaws
 pub mod ReadingOrder
 pub mod ReadRuns
-pub mod RisingLists
 pub mod ReadPositions
 pub mod RefusedProofs
 pub mod FewDigests
-pub mod MultiRefusals
-pub mod ReadOnce
-pub mod ScatteredPositions
 pub mod ScatteredRoot
 pub mod LocatedDigests

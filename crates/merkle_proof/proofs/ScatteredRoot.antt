@@ -20,7 +20,7 @@ use Rattle.merkle_claim_theory.proofs.ListedDigests.{EachPeak, each_of, of_each,
 use Rattle.merkle_scattered.specs.Confirmed.{EachHolds, node_checked, nodes_checked, locations_of}
 use Rattle.merkle_range.specs.Input.{range_input}
 use Rattle.merkle_proof.specs.Input.{multi_input, element_leaves}
-use Rattle.merkle_proof.specs.MultiPositions.{AreLocations}
+use Rattle.merkle_scattered.specs.MultiPositions.{AreLocations}
 
 -- the locations of elements, which their leaf digests don't change
 pub locations_given : {D : Type 0} (h : Hashing D) (rule : List ℕ → List ℕ) (es : List (Bor (List ℕ) × ℕ)) → locations_of (element_leaves h rule es) ≡ map (λ e. e.1) es

@@ -1,6 +1,4 @@
 pub mod ElementPlans
 pub mod Input
-pub mod Positions
 pub mod ProofRefusals
 pub mod RangePlans
-pub mod MultiPositions

@@ -3,7 +3,7 @@ ghost use Rattle.std.specs.Prelude.{◌≡◌, ◌≢◌, ◌<◌, ◌≤◌, �
 ghost use Rattle.std.specs.List.Sorted.{IsStrictlyIncreasing};
 ghost use Rattle.merkle_forest_theory.specs.FewPeaks.{FewPeaks};
 ghost use Rattle.merkle_proof.specs.ElementPlans.{IsElementRefusal};
-ghost use Rattle.merkle_proof.specs.Positions.{range_positions};
+ghost use Rattle.merkle_scattered.specs.Positions.{range_positions};
 
 use crate::range_plan::RangePlan;
 use merkle_base::error::Error;

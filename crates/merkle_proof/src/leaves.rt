@@ -8,8 +8,8 @@ use merkle_base::family::Family;
 use merkle_base::location::Location;
 use merkle_digest::digest::Digest;
 use merkle_hasher::hasher::Hasher;
-use merkle_hasher::leaves::leaf_digests;
-use merkle_hasher::queue::queue_leaf;
+use merkle_leaves::leaves::leaf_digests;
+use merkle_leaves::queue::queue_leaf;
 use std::alloc::{AllocError, Global};
 
 // The digests of the leaves with these elements.

@@ -4,11 +4,10 @@
 
 pub mod element_plan;
 mod leaves;
-pub mod multi;
 mod multi_checks;
-mod positions;
 pub mod proof;
 pub mod range_plan;
 mod reading;
 
-pub use merkle_hasher::{hasher, path, read};
+pub use merkle_hasher::{hasher, read};
+pub use merkle_leaves::path;

@@ -6,3 +6,8 @@ pub mod LocatedIndices
 pub mod Rises
 pub mod ScatteredElements
 pub mod ToldTable
+pub mod RisingLists
+pub mod AscendingPositions
+pub mod MultiRefusals
+pub mod ReadOnce
+pub mod ScatteredPositions

@@ -1,2 +1,4 @@
 pub mod Confirmed
 pub mod Searched
+pub mod Positions
+pub mod MultiPositions

@@ -6,7 +6,7 @@ use Rattle.merkle_digest.specs.DigestLaws.{xor_of}
 use Rattle.merkle_sha256.specs.declared.sha256.Sha256Digest.{Sha256Digest}
 use Rattle.merkle_sha256.specs.Sha256Laws.{sha256, length-sha256, no_bytes, length-no_bytes}
 use Rattle.merkle_base.specs.Hashing.{Hashing}
-use Rattle.merkle_hasher.specs.Standard.{standard}
+use Rattle.merkle_leaves.specs.Standard.{standard}
 
 -- SHA-256
 abbrev pub sha256_hashing : Hashing Sha256Digest

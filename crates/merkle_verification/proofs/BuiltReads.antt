@@ -20,7 +20,7 @@ use Rattle.merkle_root_theory.proofs.ReadLayouts.{reads_laid_out}
 use Rattle.merkle_base.specs.Table.{digest_for}
 use Rattle.merkle_claim_theory.proofs.ListedDigests.{any_member, member_filtered, range_member}
 use Rattle.merkle_claim_theory.proofs.Multiproofs.{all_member, member_all}
-use Rattle.merkle_proof.specs.Positions.{range_positions}
+use Rattle.merkle_scattered.specs.Positions.{range_positions}
 use Rattle.merkle_proof.specs.RangePlans.{LeafRange, IsBuildRefusal, IsBuiltProof}
 use Rattle.merkle_proof.specs.declared.proof.Proof.{Proof}
 use Rattle.merkle_proof.proofs.BuiltDigests.{reads_at}

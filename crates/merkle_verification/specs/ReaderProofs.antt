@@ -4,7 +4,7 @@ use Rattle.merkle_base.specs.Hashing.{Hashing}
 use Rattle.merkle_base.specs.Places.{peaks_of}
 use Rattle.merkle_root_theory.specs.Range.{leaf_of}
 use Rattle.merkle_claim_theory.specs.Multiproof.{MultiInput, multi_positions}
-use Rattle.merkle_proof.specs.MultiPositions.{AreLocations}
+use Rattle.merkle_scattered.specs.MultiPositions.{AreLocations}
 use Rattle.merkle_proof.specs.declared.proof.Proof.{Proof}
 
 -- the proof of the leaves at some locations of n has the digests that stand at the positions which it reads

@@ -8,8 +8,8 @@ use Rattle.merkle_base.specs.Refused.{UnlessMemory}
 use Rattle.merkle_base.specs.declared.error.Error.{Error}
 use Rattle.merkle_base.specs.declared.error.Error.TheVariants.{PositionOverflow, NonLeaf, InvalidProof, ElementPruned}
 use Rattle.merkle_claim_theory.specs.Multiproof.{multi_positions}
-use Rattle.merkle_proof.specs.MultiPositions.{AreLocations, multi_refusals}
-use Rattle.merkle_proof.specs.Positions.{range_positions}
+use Rattle.merkle_scattered.specs.MultiPositions.{AreLocations, multi_refusals}
+use Rattle.merkle_scattered.specs.Positions.{range_positions}
 use Rattle.merkle_proof.specs.RangePlans.{IsRefusal, IsFirstMissing}
 
 -- a node is held at each of the positions

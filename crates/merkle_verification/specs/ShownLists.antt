@@ -8,8 +8,8 @@ use Rattle.merkle_base.specs.Shows.{Shows}
 use Rattle.merkle_base.specs.declared.error.Error.{Error}
 use Rattle.merkle_base.specs.declared.error.Error.TheVariants.{OutOfMemory}
 use Rattle.merkle_claim_theory.specs.Multiproof.{IsHonestMulti, multi_positions}
-use Rattle.merkle_proof.specs.MultiPositions.{AreLocations}
-use Rattle.merkle_proof.specs.Positions.{range_positions}
+use Rattle.merkle_scattered.specs.MultiPositions.{AreLocations}
+use Rattle.merkle_scattered.specs.Positions.{range_positions}
 use Rattle.merkle_proof.specs.RangePlans.{IsHonestProof}
 use Rattle.merkle_proof.specs.declared.proof.Proof.{Proof}
 use Rattle.merkle_verification.specs.ReaderProofs.{multi_list_input}

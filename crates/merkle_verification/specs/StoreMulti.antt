@@ -7,7 +7,7 @@ use Rattle.merkle_base.specs.declared.error.Error.{Error}
 use Rattle.merkle_base.specs.declared.error.Error.TheVariants.{CompressedDigest, ElementPruned}
 use Rattle.merkle_claim_theory.specs.Multiproof.{multi_positions}
 use Rattle.merkle_store_theory.specs.StoreValue.{StoreValue}
-use Rattle.merkle_proof.specs.MultiPositions.{AreLocations, multi_refusals}
+use Rattle.merkle_scattered.specs.MultiPositions.{AreLocations, multi_refusals}
 use Rattle.merkle_proof.specs.declared.proof.Proof.{Proof}
 use Rattle.merkle_store_theory.specs.StoreProof.{found_at, first_lacking}
 

@@ -11,7 +11,8 @@ use crate::read::read_proof;
 use merkle_base::family::Family;
 use merkle_base::location::Location;
 use merkle_digest::digest::Digest;
-use merkle_hasher::hasher::{Hasher, Standard};
+use merkle_hasher::hasher::Hasher;
+use merkle_leaves::standard::Standard;
 use merkle_sha256::sha256::{Sha256Digest, Sha256Plain};
 use std::alloc::Global;
 

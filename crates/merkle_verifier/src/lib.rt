@@ -18,7 +18,7 @@ use crate::answer::YES;
 use crate::checks::{Elements, OldRoot, check_element, check_growth, check_range, check_scattered};
 use crate::read::read_proof;
 use merkle_base::family::{Bagging, Family};
-use merkle_hasher::hasher::Standard;
+use merkle_leaves::standard::Standard;
 use merkle_sha256::sha256::Sha256Plain;
 use merkle_topology::{mmb, mmr};
 use std::alloc::Global;

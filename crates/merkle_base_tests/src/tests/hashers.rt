@@ -1,16 +1,17 @@
 //! What hashers answer, by value and behind references.
 
-use super::OF_ABC;
 use merkle_base::family::Bagging;
 use merkle_base::location::Location;
 use merkle_base::position::Position;
 use merkle_digest::digest::{Digest, PlainHasher, Xor8, Xor8Digest};
 use merkle_fixtures::keyed::Keyed;
-use merkle_hasher::hasher::{Hasher, Standard};
+use merkle_hasher::hasher::Hasher;
+use merkle_leaves::standard::Standard;
 use merkle_sha256::sha256::{Sha256Digest, Sha256Plain};
 use merkle_topology::mmr::Family;
 use std::process::Abort;
 use std::test::Fail;
+use super::OF_ABC;
 
 fn byte(digest: &Xor8Digest) -> u8 {
     digest.as_bytes()[0]

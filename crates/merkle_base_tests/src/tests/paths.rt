@@ -5,7 +5,7 @@ use merkle_base::family::Family;
 use merkle_base::location::Location;
 use merkle_base::position::Position;
 use merkle_fixtures::pairs;
-use merkle_hasher::path::Iterator;
+use merkle_leaves::path::Iterator;
 use merkle_topology::{mmb, mmr};
 use std::test::Fail;
 

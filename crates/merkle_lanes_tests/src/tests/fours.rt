@@ -1,16 +1,17 @@
-use super::leaves::leaves_of_lengths;
 use merkle_base::family::Bagging;
 use merkle_digest::digest::{PlainHasher, Xor8};
 use merkle_fixtures::flat::Family;
 use merkle_fixtures::fours::Fours;
 use merkle_fixtures::keyed::Keyed;
 use merkle_fixtures::noting::Noting;
-use merkle_hasher::hasher::{Hasher, Standard};
-use merkle_hasher::leaves::leaf_digests;
+use merkle_hasher::hasher::Hasher;
+use merkle_leaves::leaves::leaf_digests;
+use merkle_leaves::standard::Standard;
 use merkle_sha256::sha256::Sha256Plain;
 use std::cell::Cell;
 use std::process::Abort;
 use std::test::Fail;
+use super::leaves::leaves_of_lengths;
 
 /// Asserts how many groups of four leaves have elements of equal length, how many have not, and how many leaves are
 /// computed one by one, for `count` leaves, whose elements have one of some lengths in turn; and that the digests, and

@@ -2,7 +2,7 @@ use Rattle.std.proofs.Common.{◌≡◌, ◌≤◌, ℕ, [], Vec, Global, map, l
 use Rattle.std.proofs.lemmas.List.{length-map}
 use Rattle.merkle_base.specs.Scheme.{scheme_of}
 use Rattle.merkle_codec.specs.ProofSpelling.{IsProofReadRefusal}
-use Rattle.merkle_hasher.specs.Standard.{standard}
+use Rattle.merkle_leaves.specs.Standard.{standard}
 use Rattle.merkle_proof.proofs.RefusedProofs.{is_memory}
 use Rattle.merkle_core.specs.LeafDigests.{range_input}
 use Rattle.merkle_hasher.proofs.LeafDigests.{length-leaf_digests}

@@ -1,6 +1,6 @@
 use Rattle.std.proofs.Common.{◌≡◌, map, sym, ap, subst, inl, inr, ◌∙◌}
 use Rattle.merkle_base.specs.Scheme.{scheme_of}
-use Rattle.merkle_hasher.specs.Standard.{standard}
+use Rattle.merkle_leaves.specs.Standard.{standard}
 use Rattle.merkle_lines.specs.Answers.{word_bytes, IsRead}
 use Rattle.merkle_lines.specs.AnswerText.{answer_text}
 use Rattle.merkle_lines.proofs.Replies.{read_bytes}

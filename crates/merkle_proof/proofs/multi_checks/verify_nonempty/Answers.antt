@@ -7,7 +7,7 @@ use Rattle.merkle_claim_theory.specs.Multiproof.{multi_positions, locations_in}
 use Rattle.merkle_base.specs.Table.{digest_for}
 use Rattle.merkle_scattered.specs.Confirmed.{EachHolds, locations_of}
 use Rattle.merkle_proof.specs.Input.{multi_input, element_leaves}
-use Rattle.merkle_proof.specs.MultiPositions.{AreLocations}
+use Rattle.merkle_scattered.specs.MultiPositions.{AreLocations}
 use Rattle.merkle_proof.proofs.ScatteredRoot.{PeaksAre, within_limit, locations_given, some_given, accepted_locations, accepted_count, accepted_each, accepted_root, accepts}
 use Rattle.merkle_proof.proofs.multi_checks.verify_nonempty.Goals as goal
 

@@ -1,6 +1,6 @@
 use Rattle.std.proofs.Common.{IfOk, arith, ap, take, subst, inl, inr}
 use Rattle.std.proofs.lemmas.Result.{IfErr-weaker, IfOk-weaker}
-use Rattle.merkle_proof.specs.Positions.{range_positions}
+use Rattle.merkle_scattered.specs.Positions.{range_positions}
 use Rattle.merkle_proof.specs.RangePlans.{LeafRange, IsBuiltProof, list_input}
 use Rattle.merkle_proof.proofs.RefusedProofs.{is_memory, range_planned}
 use Rattle.merkle_root_theory.specs.Range.{IsHonestRange}

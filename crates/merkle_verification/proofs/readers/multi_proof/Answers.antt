@@ -4,7 +4,7 @@ use Rattle.merkle_base.specs.Forest.{size}
 use Rattle.merkle_base.specs.Places.{peaks_of}
 use Rattle.merkle_base.proofs.Nodes.{size_inj}
 use Rattle.merkle_claim_theory.specs.Multiproof.{multi_positions}
-use Rattle.merkle_proof.specs.MultiPositions.{AreLocations}
+use Rattle.merkle_scattered.specs.MultiPositions.{AreLocations}
 use Rattle.merkle_proof.proofs.RefusedProofs.{is_memory}
 use Rattle.merkle_verification.specs.ReaderProofs.{IsBuiltMulti}
 use Rattle.merkle_verification.specs.ReaderRefusals.{AreNodesHeld, IsSizeRefusal}

@@ -3,7 +3,7 @@ use Rattle.std.proofs.lemmas.Result.{IfErr-weaker, IfOk-weaker}
 use Rattle.merkle_base.specs.Forest.{size}
 use Rattle.merkle_base.specs.Places.{peaks_of}
 use Rattle.merkle_base.proofs.Nodes.{size_inj}
-use Rattle.merkle_proof.specs.Positions.{range_positions}
+use Rattle.merkle_scattered.specs.Positions.{range_positions}
 use Rattle.merkle_proof.specs.RangePlans.{IsBuiltProof, list_input}
 use Rattle.merkle_root_theory.specs.Range.{IsHonestRange}
 use Rattle.merkle_root_theory.proofs.Grouping.{if_ok_both}

@@ -2,7 +2,7 @@ use Rattle.std.proofs.Common.{refl, sym, subst, inl, inr, ◌∙◌}
 use Rattle.merkle_base.specs.Scheme.{scheme_of}
 use Rattle.merkle_commands.specs.Commands.{IsCommand}
 use Rattle.merkle_commands.specs.declared.command.Command.TheVariants.{Ask}
-use Rattle.merkle_hasher.specs.Standard.{standard}
+use Rattle.merkle_leaves.specs.Standard.{standard}
 use Rattle.merkle_lines.specs.Answers.{IsRequestAnswered}
 use Rattle.merkle_lines.specs.AnswerText.{answer_text}
 use Rattle.merkle_lines.proofs.structure.Structure.answer.Goals as goal

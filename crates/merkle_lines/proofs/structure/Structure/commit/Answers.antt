@@ -1,7 +1,7 @@
 use Rattle.std.proofs.Common.{refl, sym, ap, subst, ◌∙◌, ◌≡◌, List, length, ◌∷◌, [], ◌++◌, Ok, true, arith, inl, inr}
 use Rattle.merkle_base.specs.Hashing.{Hashing}
 use Rattle.merkle_base.specs.Scheme.{scheme_of}
-use Rattle.merkle_hasher.specs.Standard.{standard}
+use Rattle.merkle_leaves.specs.Standard.{standard}
 use Rattle.merkle_hasher.specs.LeafDigests.{leaf_digests}
 use Rattle.std.specs.Prelude.{is_some}
 use Rattle.merkle_base.specs.Forest.{size}

@@ -5,7 +5,7 @@ use Rattle.merkle_base.specs.Hashing.{Hashing}
 use Rattle.merkle_base.specs.Scheme.{scheme_of}
 use Rattle.std.specs.FinMap.{get}
 use Rattle.merkle_codec.specs.ProofSpelling.{parts_spelling, proof_spelling}
-use Rattle.merkle_hasher.specs.Standard.{standard}
+use Rattle.merkle_leaves.specs.Standard.{standard}
 use Rattle.merkle_hasher.specs.LeafDigests.{leaf_digests}
 use Rattle.merkle_hasher.proofs.LeafDigests.{length-leaf_digests}
 use Rattle.merkle_base.specs.Digests.{node_digests}

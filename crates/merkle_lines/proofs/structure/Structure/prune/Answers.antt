@@ -1,7 +1,7 @@
 use Rattle.std.proofs.Common.{refl, sym, ap, subst, ◌∙◌, ◌≡◌, ◌≤◌, arith, inl, inr}
 use Rattle.merkle_base.specs.Hashing.{Hashing}
 use Rattle.merkle_base.specs.Scheme.{scheme_of}
-use Rattle.merkle_hasher.specs.Standard.{standard}
+use Rattle.merkle_leaves.specs.Standard.{standard}
 use Rattle.std.proofs.lemmas.Bool.{cases_lt}
 use Rattle.merkle_batch_theory.specs.Contents.{pruned}
 use Rattle.merkle_batch_theory.specs.MemModel.{contents}

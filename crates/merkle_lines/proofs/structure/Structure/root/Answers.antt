@@ -1,7 +1,7 @@
 use Rattle.std.proofs.Common.{ap, ◌∙◌}
 use Rattle.merkle_base.specs.Hashing.{Hashing}
 use Rattle.merkle_base.specs.Scheme.{scheme_of}
-use Rattle.merkle_hasher.specs.Standard.{standard}
+use Rattle.merkle_leaves.specs.Standard.{standard}
 use Rattle.hex.specs.Hex.{encode_lower}
 use Rattle.merkle_lines.specs.Answers.{error_line}
 use Rattle.merkle_lines.proofs.Replies.{root_refused, root_told}

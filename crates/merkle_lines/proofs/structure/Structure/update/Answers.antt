@@ -1,7 +1,7 @@
 use Rattle.std.proofs.Common.{[], ◌∷◌, ◌++◌, refl, sym, ap, subst, ◌∙◌, ◌≡◌, ◌≤◌, arith, inr}
 use Rattle.merkle_base.specs.Hashing.{Hashing}
 use Rattle.merkle_base.specs.Scheme.{scheme_of}
-use Rattle.merkle_hasher.specs.Standard.{standard}
+use Rattle.merkle_leaves.specs.Standard.{standard}
 use Rattle.merkle_hasher.proofs.Comparisons.{ge_yes}
 use Rattle.merkle_hasher.specs.LeafDigests.{leaf_digests}
 use Rattle.merkle_base.specs.Forest.{size}

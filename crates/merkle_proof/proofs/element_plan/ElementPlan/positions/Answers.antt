@@ -1,7 +1,7 @@
 use Rattle.std.proofs.Common.{◌≡◌, ◌<◌, ◌≤◌, IfOk, arith, ap, length, ◌∙◌, subst, sym}
 use Rattle.std.proofs.lemmas.Result.{IfOk-weaker}
 use Rattle.merkle_proof.specs.ElementPlans.{leaf_range}
-use Rattle.merkle_proof.specs.Positions.{range_positions}
+use Rattle.merkle_scattered.specs.Positions.{range_positions}
 use Rattle.merkle_proof.specs.RangePlans.{LeafRange}
 use Rattle.merkle_proof.proofs.FewDigests.{leaf_positions_few}
 use Rattle.merkle_proof.proofs.element_plan.ElementPlan.positions.Goals as goal

@@ -1,5 +1,5 @@
 use Rattle.std.proofs.Common.{◌≡◌, ◌<◌, ◌≤◌, ◌∙◌, subst, rules}
-use Rattle.merkle_proof.specs.Positions.{range_positions}
+use Rattle.merkle_scattered.specs.Positions.{range_positions}
 use Rattle.merkle_proof.specs.RangePlans.{LeafRange}
 use Rattle.merkle_proof.proofs.ReadPositions.{range_ascending}
 use Rattle.merkle_proof.proofs.range_plan.RangePlan.positions.Goals as goal

@@ -1,5 +1,0 @@
-use Rattle.std.proofs.Common.{rules}
-use Rattle.merkle_core.proofs.held_nodes.HeldNodes.size.Goals as goal
-
-pub returns : goal.returns
-returns g c = search rules depth 2

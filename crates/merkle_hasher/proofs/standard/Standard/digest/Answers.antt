@@ -1,5 +1,0 @@
-use Rattle.std.proofs.Common.{append-nil}
-use Rattle.merkle_hasher.proofs.standard.Standard.digest.Goals as goal
-
-pub returns : goal.returns
-returns g c = rw append-nil at c.hash.ensures

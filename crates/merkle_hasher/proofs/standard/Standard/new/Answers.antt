@@ -1,5 +1,0 @@
-use Rattle.std.proofs.Common.{refl}
-use Rattle.merkle_hasher.proofs.standard.Standard.new.Goals as goal
-
-pub returns : goal.returns
-returns g c = refl

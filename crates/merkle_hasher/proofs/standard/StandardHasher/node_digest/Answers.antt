@@ -1,5 +1,0 @@
-use Rattle.std.proofs.Common.{append-nil}
-use Rattle.merkle_hasher.proofs.standard.StandardHasher.node_digest.Goals as goal
-
-pub returns : goal.returns
-returns g c = rw (c.to_be_bytes.ensures, c.as_u64.ensures, c.as_bytes.ensures, c.as_bytes-2.ensures, append-nil) at c.hash.ensures

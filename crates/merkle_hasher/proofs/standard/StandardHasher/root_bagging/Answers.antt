@@ -1,4 +1,0 @@
-use Rattle.merkle_hasher.proofs.standard.StandardHasher.root_bagging.Goals as goal
-
-pub returns : goal.returns
-returns g c = c.root_bagging.ensures

@@ -1,0 +1,6 @@
+pub mod PathSteps
+pub mod MoreLeaves
+pub mod KnownLeaves
+pub mod CountingSort
+pub mod BlockTimes
+pub mod Indices

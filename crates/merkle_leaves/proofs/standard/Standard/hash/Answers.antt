@@ -1,0 +1,4 @@
+use Rattle.merkle_leaves.proofs.standard.Standard.hash.Goals as goal
+
+pub returns : goal.returns
+returns g c = c.hash.ensures

@@ -1,0 +1,4 @@
+pub mod Standard
+pub mod Path
+pub mod Known
+pub mod Order
