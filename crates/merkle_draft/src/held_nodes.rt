@@ -61,11 +61,7 @@ impl<F: Family, D: Digest> HeldNodes<F, D> {
     }
 
     /// Holds the nodes from position `start` on, and pins before it.
-    pub fn from_parts(
-        start: Position<F>,
-        pins: BTreeMap<Position<F>, D>,
-        nodes: Vec<D>,
-    ) -> Self
+    pub fn from_parts(start: Position<F>, pins: BTreeMap<Position<F>, D>, nodes: Vec<D>) -> Self
         requires { PinsBefore start pins.entries }
         ensures start { result.start ≡ start }
         ensures size { result.size ≡ start + length nodes.items }

@@ -39,10 +39,7 @@ pub fn apply_record<F: Family, D: Digest>(held: &mut HeldNodes<F, D>, change: &R
 
 /// Applies records to the nodes that are held, one after another. There is room for the nodes that
 /// they append.
-pub fn apply_records<F: Family, D: Digest>(
-    held: &mut HeldNodes<F, D>,
-    changes: &[Rc<Record<F, D>>],
-)
+pub fn apply_records<F: Family, D: Digest>(held: &mut HeldNodes<F, D>, changes: &[Rc<Record<F, D>>])
     requires { held.old.size + total_appended (map (λ r. r.value) changes.now) ≤ held.old.capacity }
     ensures start { held.new.start ≡ held.old.start }
     ensures size { held.new.size ≡ held.old.size + total_appended (map (λ r. r.value) changes.now) }

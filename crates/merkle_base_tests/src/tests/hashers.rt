@@ -1,5 +1,6 @@
 //! What hashers answer, by value and behind references.
 
+use super::OF_ABC;
 use merkle_base::family::Bagging;
 use merkle_base::location::Location;
 use merkle_base::position::Position;
@@ -11,7 +12,6 @@ use merkle_sha256::sha256::{Sha256Digest, Sha256Plain};
 use merkle_topology::mmr::Family;
 use std::process::Abort;
 use std::test::Fail;
-use super::OF_ABC;
 
 fn byte(digest: &Xor8Digest) -> u8 {
     digest.as_bytes()[0]

@@ -1,3 +1,4 @@
+use super::leaves::leaves_of_lengths;
 use merkle_base::family::Bagging;
 use merkle_digest::digest::{PlainHasher, Xor8};
 use merkle_fixtures::flat::Family;
@@ -11,7 +12,6 @@ use merkle_sha256::sha256::Sha256Plain;
 use std::cell::Cell;
 use std::process::Abort;
 use std::test::Fail;
-use super::leaves::leaves_of_lengths;
 
 /// Asserts how many groups of four leaves have elements of equal length, how many have not, and how many leaves are
 /// computed one by one, for `count` leaves, whose elements have one of some lengths in turn; and that the digests, and
