@@ -5,13 +5,12 @@
 
 use crate::LogError;
 use merkle_audit::{PairVerdict, Verdict, audit_pair, audit_range};
-use merkle_core::digest::{Digest, Xor8, Xor8Digest};
-use merkle_core::family::{Bagging, Family as _};
+use merkle_core::digest::Digest;
+use merkle_core::family::Family as _;
 use merkle_core::granted;
-use merkle_core::mmr::{Family, Location, Mmr, Proof, StandardHasher};
+use merkle_core::hasher::Hasher;
+use merkle_core::mmr::{Family, Location, Mmr, Proof};
 use std::alloc::Global;
-
-type ToyHasher = StandardHasher<Xor8>;
 
 const ENTRIES: [&[u8]; 3] = [b"\x01", b"\x02", b"\x04"];
 
@@ -22,13 +21,13 @@ fn start() -> Location {
 
 /// What a server answers about the first entry.
 #[derive(Drop)]
-struct Answer {
+struct Answer<D: Digest> {
     entry: [&'static [u8]; 1],
-    proof: Proof<Xor8Digest>,
+    proof: Proof<D>,
 }
 
 /// The log of the entries.
-fn log(alloc: Global, hasher: &ToyHasher) -> Result<Mmr<Xor8Digest>, LogError> {
+fn log<H: Hasher<Family>>(alloc: Global, hasher: &H) -> Result<Mmr<H::Digest>, LogError> {
     let mut tree = Mmr::new(alloc);
     let mut batch = granted!(tree.new_batch());
     for entry in ENTRIES {
@@ -40,7 +39,7 @@ fn log(alloc: Global, hasher: &ToyHasher) -> Result<Mmr<Xor8Digest>, LogError> {
 }
 
 /// The leaf digests of a log, which an auditor keeps.
-fn leaf_digests(alloc: Global, tree: &Mmr<Xor8Digest>) -> Result<Vec<Xor8Digest>, LogError> {
+fn leaf_digests<D: Digest>(alloc: Global, tree: &Mmr<D>) -> Result<Vec<D>, LogError> {
     let mut list = Vec::new(alloc);
     for index in 0..tree.leaves().as_u64() {
         let location = Location::new(index);
@@ -53,7 +52,10 @@ fn leaf_digests(alloc: Global, tree: &Mmr<Xor8Digest>) -> Result<Vec<Xor8Digest>
 }
 
 /// The answer of the server that is honest.
-fn honest_answer(hasher: &ToyHasher, tree: &Mmr<Xor8Digest>) -> Result<Answer, LogError> {
+fn honest_answer<H: Hasher<Family>>(
+    hasher: &H,
+    tree: &Mmr<H::Digest>,
+) -> Result<Answer<H::Digest>, LogError> {
     Ok(Answer {
         entry: [ENTRIES[0]],
         proof: granted!(tree.proof(hasher, start(), 0)),
@@ -61,10 +63,10 @@ fn honest_answer(hasher: &ToyHasher, tree: &Mmr<Xor8Digest>) -> Result<Answer, L
 }
 
 /// The answer of the other: the second entry is in the place of the first, and the last digest makes up for it.
-fn false_answer(honest: &Answer) -> Result<Answer, LogError> {
+fn false_answer<D: Digest>(honest: &Answer<D>) -> Result<Answer<D>, LogError> {
     let mut proof = honest.proof.clone()?;
     if let Some(sibling) = proof.digests.last_mut() {
-        *sibling = Xor8Digest::EMPTY;
+        *sibling = D::EMPTY;
     }
     Ok(Answer {
         entry: [ENTRIES[1]],
@@ -73,7 +75,11 @@ fn false_answer(honest: &Answer) -> Result<Answer, LogError> {
 }
 
 /// Whether a client accepts an answer.
-fn is_accepted(hasher: &ToyHasher, answer: &Answer, root: &Xor8Digest) -> Result<bool, LogError> {
+fn is_accepted<H: Hasher<Family>>(
+    hasher: &H,
+    answer: &Answer<H::Digest>,
+    root: &H::Digest,
+) -> Result<bool, LogError> {
     Ok(
         answer
             .proof
@@ -82,12 +88,12 @@ fn is_accepted(hasher: &ToyHasher, answer: &Answer, root: &Xor8Digest) -> Result
 }
 
 /// A client holds two answers against each other.
-fn show_pair(
+fn show_pair<H: Hasher<Family>>(
     rt: &impl Print,
-    hasher: &ToyHasher,
-    root: &Xor8Digest,
-    first: &Answer,
-    second: &Answer,
+    hasher: &H,
+    root: &H::Digest,
+    first: &Answer<H::Digest>,
+    second: &Answer<H::Digest>,
 ) -> Result<(), LogError> {
     let verdict = audit_pair(
         hasher,
@@ -104,12 +110,12 @@ fn show_pair(
 }
 
 /// An auditor who has the list says whose answer is honest.
-fn show_verdict(
+fn show_verdict<H: Hasher<Family>>(
     rt: &impl Print,
-    hasher: &ToyHasher,
-    list: &[Xor8Digest],
+    hasher: &H,
+    list: &[H::Digest],
     server: &str,
-    answer: &Answer,
+    answer: &Answer<H::Digest>,
 ) -> Result<(), LogError> {
     match granted!(audit_range(hasher, list, 0, &answer.proof, &answer.entry, start())) {
         Verdict::Rejected => println!(rt; "{server}: rejected")?,
@@ -119,19 +125,23 @@ fn show_verdict(
     Ok(())
 }
 
-/// Two servers answer what the first entry is; a client finds that they collide, and an auditor who of them is honest.
-pub fn show_evidence(rt: &impl Print, alloc: Global) -> Result<(), LogError> {
-    let hasher = ToyHasher::new(Bagging::ForwardFold);
-    let tree = log(alloc, &hasher)?;
-    let root = granted!(tree.root(&hasher, 0));
-    let first = honest_answer(&hasher, &tree)?;
+/// Two servers answer what the first entry is, by a toy hasher; a client finds that they collide, and an auditor who of them is
+/// honest.
+pub fn show_evidence<H: Hasher<Family>>(
+    rt: &impl Print,
+    alloc: Global,
+    hasher: &H,
+) -> Result<(), LogError> {
+    let tree = log(alloc, hasher)?;
+    let root = granted!(tree.root(hasher, 0));
+    let first = honest_answer(hasher, &tree)?;
     let second = false_answer(&first)?;
     println!(rt;
         "both answers are accepted: {}",
-        is_accepted(&hasher, &first, &root)? && is_accepted(&hasher, &second, &root)?
+        is_accepted(hasher, &first, &root)? && is_accepted(hasher, &second, &root)?
     )?;
-    show_pair(rt, &hasher, &root, &first, &second)?;
+    show_pair(rt, hasher, &root, &first, &second)?;
     let list = leaf_digests(alloc, &tree)?;
-    show_verdict(rt, &hasher, &list, "the first server", &first)?;
-    show_verdict(rt, &hasher, &list, "the second server", &second)
+    show_verdict(rt, hasher, &list, "the first server", &first)?;
+    show_verdict(rt, hasher, &list, "the second server", &second)
 }

@@ -2,16 +2,16 @@
 
 use crate::{Log, LogError};
 use merkle_core::codec::{Read, Write};
-use merkle_core::digest::{Digest, Sha256Digest, Sha256Plain};
+use merkle_core::digest::Digest;
 use merkle_core::error::ReconstructionError;
 use merkle_core::family::Family as _;
 use merkle_core::granted;
 use merkle_core::hasher::Hasher;
-use merkle_core::mmr::{Family, Location, Mmr, Position, Proof, StandardHasher};
+use merkle_core::mmr::{Family, Location, Mmr, Position, Proof};
 use std::alloc::Global;
 
 /// The bytes of what a log holds: its boundary, the digests of the peaks over the entries before it, and the nodes from there on.
-fn written(log: &Log) -> Result<Vec<u8>, LogError> {
+fn written<H: Hasher<Family> + Drop>(log: &Log<H>) -> Result<Vec<u8>, LogError> {
     let mut bytes = Vec::new(log.alloc);
     let boundary = log.tree.pruning_boundary();
     boundary.write(&mut bytes)?;
@@ -28,24 +28,24 @@ fn written(log: &Log) -> Result<Vec<u8>, LogError> {
     Ok(bytes)
 }
 
-/// The digests that bytes are, 32 bytes each.
-fn digests(alloc: Global, bytes: &[u8]) -> Result<Vec<Sha256Digest>, LogError> {
+/// The digests that bytes are, one after another.
+fn digests<D: Digest>(alloc: Global, bytes: &[u8]) -> Result<Vec<D>, LogError> {
     let mut all = Vec::new(alloc);
-    for part in bytes.chunks(Sha256Digest::SIZE) {
-        all.push(Sha256Digest::from_bytes(part).ok_or(LogError::Refused)?)?;
+    for part in bytes.chunks(D::SIZE) {
+        all.push(D::from_bytes(part).ok_or(LogError::Refused)?)?;
     }
     Ok(all)
 }
 
 /// The structure that was written down. Its digests are not checked: a root tells whether they are those of the log.
-fn read_back(alloc: Global, bytes: &[u8]) -> Result<Mmr<Sha256Digest>, LogError> {
+fn read_back<D: Digest>(alloc: Global, bytes: &[u8]) -> Result<Mmr<D>, LogError> {
     let mut rest = bytes;
     let boundary = Location::read(alloc, &mut rest, &())?;
     if !boundary.is_valid() {
         return Err(LogError::Refused);
     }
     let pins = Family::nodes_to_pin(boundary).count();
-    let Some((pinned, nodes)) = rest.split_at_checked(pins.saturating_mul(Sha256Digest::SIZE))
+    let Some((pinned, nodes)) = rest.split_at_checked(pins.saturating_mul(D::SIZE))
     else {
         return Err(LogError::Refused);
     };
@@ -54,16 +54,20 @@ fn read_back(alloc: Global, bytes: &[u8]) -> Result<Mmr<Sha256Digest>, LogError>
 }
 
 /// Whether bytes are those of a structure with this root.
-fn has_root(log: &Log, bytes: &[u8], root: &Sha256Digest) -> Result<bool, LogError> {
+fn has_root<H: Hasher<Family> + Drop>(
+    log: &Log<H>,
+    bytes: &[u8],
+    root: &H::Digest,
+) -> Result<bool, LogError> {
     let tree = read_back(log.alloc, bytes)?;
     Ok(granted!(tree.root(&log.hasher, 0)) == *root)
 }
 
 /// The log is written down, and read back after a restart; what was damaged shows by its root.
-pub(crate) fn show_restart(
+pub(crate) fn show_restart<H: Hasher<Family> + Drop>(
     rt: &impl Print,
-    log: &Log,
-    root: &Sha256Digest,
+    log: &Log<H>,
+    root: &H::Digest,
 ) -> Result<(), LogError> {
     let mut bytes = written(log)?;
     println!(rt; "the log is written in {} bytes", bytes.len())?;
@@ -89,12 +93,12 @@ fn no_root(error: &ReconstructionError) -> &'static str {
 }
 
 /// Whether a client accepts a proof of an entry, or why not.
-fn reason(
-    hasher: &StandardHasher<Sha256Plain>,
-    proof: &Proof<Sha256Digest>,
+fn reason<H: Hasher<Family>>(
+    hasher: &H,
+    proof: &Proof<H::Digest>,
     entry: &[u8],
     location: Location,
-    root: &Sha256Digest,
+    root: &H::Digest,
 ) -> &'static str {
     let rebuilt = match proof.reconstruct_root(hasher, &[entry], location) {
         Ok(rebuilt) => rebuilt,
@@ -108,10 +112,10 @@ fn reason(
 }
 
 /// A client tells why it refuses.
-pub(crate) fn show_reasons(
+pub(crate) fn show_reasons<H: Hasher<Family> + Drop>(
     rt: &impl Print,
-    log: &Log,
-    root: &Sha256Digest,
+    log: &Log<H>,
+    root: &H::Digest,
 ) -> Result<(), LogError> {
     let location = Location::new(5);
     let proof = granted!(log.tree.proof(&log.hasher, location, 0));

@@ -14,7 +14,7 @@ use crate::keeping::{show_reasons, show_restart};
 use crate::trusting::{client_of, show_acceptance, show_following};
 use hex::encode;
 use merkle_core::codec::{Read, Write};
-use merkle_core::digest::{Digest, Sha256Digest, Sha256Plain};
+use merkle_core::digest::{Digest, Sha256Plain, Xor8};
 use merkle_core::error::{DecodeError, Error, OutOfMemory};
 use merkle_core::family::{Bagging, Family as _};
 use merkle_core::granted;
@@ -66,15 +66,14 @@ impl From<OutOfMemory> for LogError {
 
 /// A log: its entries are the leaves of a Mountain Range. No peak of it counts as inactive.
 #[derive(Drop)]
-struct Log {
+struct Log<H: Hasher<Family> + Drop> {
     alloc: Global,
-    hasher: StandardHasher<Sha256Plain>,
-    tree: Mmr<Sha256Digest>,
+    hasher: H,
+    tree: Mmr<H::Digest>,
 }
 
-impl Log {
-    fn new(alloc: Global) -> Self {
-        let hasher = StandardHasher::new(Bagging::ForwardFold);
+impl<H: Hasher<Family> + Drop> Log<H> {
+    fn new(alloc: Global, hasher: H) -> Self {
         let tree = Mmr::new(alloc);
         Log {
             alloc,
@@ -84,7 +83,7 @@ impl Log {
     }
 
     /// Appends entries in one batch, and answers the new root.
-    fn append(&mut self, entries: &[&[u8]]) -> Result<Sha256Digest, LogError> {
+    fn append(&mut self, entries: &[&[u8]]) -> Result<H::Digest, LogError> {
         let mut batch = granted!(self.tree.new_batch());
         for entry in entries {
             batch = granted!(batch.add(&self.hasher, entry));
@@ -95,7 +94,7 @@ impl Log {
     }
 
     /// The digests of the peaks over the first `count` entries.
-    fn pins(&self, count: Location) -> Result<Vec<Sha256Digest>, LogError> {
+    fn pins(&self, count: Location) -> Result<Vec<H::Digest>, LogError> {
         let mut pins = Vec::new(self.alloc);
         if count.is_valid() {
             for position in Family::nodes_to_pin(count) {
@@ -107,7 +106,7 @@ impl Log {
 }
 
 /// The log proves an entry, and sends the proof as bytes to a client, who checks it against the root.
-fn show_entry(rt: &impl Print, log: &Log, root: &Sha256Digest) -> Result<(), LogError> {
+fn show_entry<H: Hasher<Family> + Drop>(rt: &impl Print, log: &Log<H>, root: &H::Digest) -> Result<(), LogError> {
     let location = Location::new(2);
     let mut bytes = Vec::new(log.alloc);
     granted!(log.tree.proof(&log.hasher, location, 0)).write(&mut bytes)?;
@@ -125,11 +124,11 @@ fn show_entry(rt: &impl Print, log: &Log, root: &Sha256Digest) -> Result<(), Log
 }
 
 /// The log shows to a client that knows the root of the first entries that a newer root extends it.
-fn show_growth(
+fn show_growth<H: Hasher<Family> + Drop>(
     rt: &impl Print,
-    log: &Log,
-    old: &Sha256Digest,
-    root: &Sha256Digest,
+    log: &Log<H>,
+    old: &H::Digest,
+    root: &H::Digest,
 ) -> Result<(), LogError> {
     let start = Location::new(5);
     let proof = granted!(
@@ -138,7 +137,7 @@ fn show_growth(
     );
     let pins = log.pins(start)?;
 
-    let old_of_pins: Sha256Digest = granted!(log.hasher.root(start, 0, &pins));
+    let old_of_pins: H::Digest = granted!(log.hasher.root(start, 0, &pins));
     let is_new = proof.verify_proof_and_pinned_nodes(&log.hasher, &LATER, start, &pins, root)?;
     println!(rt;
         "the new root extends the old one: {}",
@@ -148,7 +147,7 @@ fn show_growth(
 }
 
 /// Who keeps the proof of a range serves the proofs of its parts, without the log.
-fn show_store(rt: &impl Print, log: &Log, root: &Sha256Digest) -> Result<(), LogError> {
+fn show_store<H: Hasher<Family> + Drop>(rt: &impl Print, log: &Log<H>, root: &H::Digest) -> Result<(), LogError> {
     let start = Location::new(5);
     let proof = granted!(
         log.tree
@@ -162,7 +161,7 @@ fn show_store(rt: &impl Print, log: &Log, root: &Sha256Digest) -> Result<(), Log
 }
 
 /// The log forgets entries. Its root stays, and they have no proofs any more.
-fn show_pruning(rt: &impl Print, log: &mut Log, root: &Sha256Digest) -> Result<(), LogError> {
+fn show_pruning<H: Hasher<Family> + Drop>(rt: &impl Print, log: &mut Log<H>, root: &H::Digest) -> Result<(), LogError> {
     granted!(log.tree.prune(Location::new(4)));
     let is_same = granted!(log.tree.root(&log.hasher, 0)) == *root;
     println!(rt; "the root stays after pruning: {is_same}")?;
@@ -172,8 +171,13 @@ fn show_pruning(rt: &impl Print, log: &mut Log, root: &Sha256Digest) -> Result<(
     Ok(())
 }
 
-fn run(rt: &impl Print, alloc: Global) -> Result<(), LogError> {
-    let mut log = Log::new(alloc);
+/// The log and its clients, by a hasher.
+fn show_log<H: Hasher<Family> + Drop>(
+    rt: &impl Print,
+    alloc: Global,
+    hasher: H,
+) -> Result<(), LogError> {
+    let mut log = Log::new(alloc, hasher);
     let old = log.append(&FIRST)?;
     println!(rt; "root of 5 entries: {}", encode(alloc, old.as_bytes())?)?;
     show_entry(rt, &log, &old)?;
@@ -187,8 +191,14 @@ fn run(rt: &impl Print, alloc: Global) -> Result<(), LogError> {
     show_store(rt, &log, &root)?;
     show_pruning(rt, &mut log, &root)?;
     show_restart(rt, &log, &root)?;
-    show_reasons(rt, &log, &root)?;
-    show_evidence(rt, alloc)
+    show_reasons(rt, &log, &root)
+}
+
+fn run(rt: &impl Print, alloc: Global) -> Result<(), LogError> {
+    let hasher = StandardHasher::<Sha256Plain>::new(Bagging::ForwardFold);
+    show_log(rt, alloc, hasher)?;
+    let toy = StandardHasher::<Xor8>::new(Bagging::ForwardFold);
+    show_evidence(rt, alloc, &toy)
 }
 
 fn main(rt: HostRuntime) -> ExitCode {

@@ -2,14 +2,15 @@
 
 use crate::client::Client;
 use crate::{LATER, Log, LogError};
-use merkle_core::digest::Sha256Digest;
 use merkle_core::granted;
+use merkle_core::hasher::Hasher;
 use merkle_core::mmr::{Family, Location};
 
-type LogClient = Client<Family, Sha256Digest>;
-
 /// A client that trusts the root of the log as it is.
-pub(crate) fn client_of(log: &Log, root: Sha256Digest) -> LogClient {
+pub(crate) fn client_of<H: Hasher<Family> + Drop>(
+    log: &Log<H>,
+    root: H::Digest,
+) -> Client<Family, H::Digest> {
     Client {
         leaves: log.tree.leaves(),
         inactive_peaks: 0,
@@ -18,10 +19,10 @@ pub(crate) fn client_of(log: &Log, root: Sha256Digest) -> LogClient {
 }
 
 /// The client accepts an entry at its place, and no other one there.
-pub(crate) fn show_acceptance(
+pub(crate) fn show_acceptance<H: Hasher<Family> + Drop>(
     rt: &impl Print,
-    log: &Log,
-    client: &LogClient,
+    log: &Log<H>,
+    client: &Client<Family, H::Digest>,
 ) -> Result<(), LogError> {
     let location = Location::new(1);
     let proof = granted!(log.tree.proof(&log.hasher, location, 0));
@@ -32,11 +33,11 @@ pub(crate) fn show_acceptance(
 }
 
 /// The client moves on to a newer root if it is shown the entries that follow, and the peaks over those before.
-pub(crate) fn show_following(
+pub(crate) fn show_following<H: Hasher<Family> + Drop>(
     rt: &impl Print,
-    log: &Log,
-    client: &mut LogClient,
-    root: &Sha256Digest,
+    log: &Log<H>,
+    client: &mut Client<Family, H::Digest>,
+    root: &H::Digest,
 ) -> Result<(), LogError> {
     let (start, trusted) = (client.leaves, client.root);
     let proof = granted!(

@@ -1,10 +1,15 @@
 ghost use Rattle.std.specs.Prelude.{◌+◌, ◌*◌, ◌^◌, ◌≤◌};
 
 mod base;
+mod counting;
+mod fours;
 mod hashers;
+mod lanes;
+mod leaves;
 mod locations;
 mod mmb;
 mod mmr;
+mod nodes;
 mod paths;
 mod room;
 mod words;

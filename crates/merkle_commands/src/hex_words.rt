@@ -39,7 +39,10 @@ pub fn read_hex(alloc: Global, word: &str) -> Result<Vec<u8>, HexError>
     if !is_hex_word(word) {
         return Err(HexError::Syntax);
     }
-    hex::decode(alloc, word).map_err(|_| HexError::OutOfMemory)
+    match hex::decode(alloc, word) {
+        Ok(bytes) => Ok(bytes),
+        Err(_) => Err(HexError::OutOfMemory),
+    }
 }
 
 /// Encodes bytes in lower case digits, two for each byte. [`read_hex`] reads them back.
@@ -51,5 +54,8 @@ pub fn write_hex(alloc: Global, bytes: &[u8]) -> Result<String, OutOfMemory>
     ensures digits { IfOk result (λ text. string_bytes text ≡ encode_lower bytes.now) }
     ensures reads_back { IfOk result (λ text. decode_of (string_bytes text) ≡ Ok bytes.now) }
 {
-    hex::encode(alloc, bytes).map_err(|_| OutOfMemory)
+    match hex::encode(alloc, bytes) {
+        Ok(text) => Ok(text),
+        Err(_) => Err(OutOfMemory),
+    }
 }

@@ -10,7 +10,7 @@ use crate::answer::Answer;
 use crate::session::Session;
 use merkle_base::room::make_room;
 use merkle_commands::command::read_command;
-use std::alloc::Global;
+use std::alloc::{AllocError, Global};
 use std::io;
 use std::str::from_utf8;
 use thiserror::Error;
@@ -27,6 +27,12 @@ pub enum RunError {
     /// A memory request for a line was refused.
     #[error("merkle: out of memory")]
     OutOfMemory,
+}
+
+impl From<AllocError> for RunError {
+    fn from(_error: AllocError) -> Self {
+        RunError::OutOfMemory
+    }
 }
 
 // The present session, and the line that is read and not ended yet.
@@ -62,7 +68,10 @@ impl Answerer {
     {
         let answer = self.answer_line();
         self.line.clear();
-        writeln!(writer, "{answer}").map_err(|_| RunError::WriteFailed)
+        match writeln!(writer, "{answer}") {
+            Ok(()) => Ok(()),
+            Err(_) => Err(RunError::WriteFailed),
+        }
     }
 
     // Takes the first of the next bytes, of which there are some: those up to one that ends a line, which is answered,
@@ -79,10 +88,8 @@ impl Answerer {
             × (first : List ℕ) × (first ++ rest.now ≡ bytes.now) × ContinuesTo told self.old.line.items first output v self.new.line.items) }
     {
         let (begun, rest) = bytes.split_at(begun_length(bytes));
-        make_room(&mut self.line, begun.len()).map_err(|_| RunError::OutOfMemory)?;
-        self.line
-            .extend_from_slice(begun)
-            .map_err(|_| RunError::OutOfMemory)?;
+        make_room(&mut self.line, begun.len())?;
+        self.line.extend_from_slice(begun)?;
         match rest.split_first() {
             Some((_, after)) => {
                 self.end_line(writer)?;
@@ -161,7 +168,10 @@ fn begun_length(bytes: &[u8]) -> usize
 fn flush<W: io::Write>(writer: &mut W) -> Result<(), RunError>
     ensures { Keeps (W.contents writer.old) (W.contents writer.new) }
 {
-    writer.flush().map_err(|_| RunError::WriteFailed)
+    match writer.flush() {
+        Ok(()) => Ok(()),
+        Err(_) => Err(RunError::WriteFailed),
+    }
 }
 
 /// Answers each line of the reader by one line on the writer, up to the end of input.

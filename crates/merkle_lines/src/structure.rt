@@ -110,7 +110,10 @@ impl<F: Family, H: PlainHasher> Structure<F, H> {
         ensures listed { self.new.list.items ≡ self.old.list.items }
         ensures edits { OnOk result (self.new.edits.items ≡ self.old.edits.items ++ (location, digest) ∷ []) }
     {
-        self.edits.push((location, digest)).map_err(|_| OutOfMemory)
+        match self.edits.push((location, digest)) {
+            Ok(()) => Ok(()),
+            Err(_) => Err(OutOfMemory),
+        }
     }
 
     fn add(&mut self, alloc: Global, digits: &str) -> Answer

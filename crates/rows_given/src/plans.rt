@@ -127,13 +127,8 @@ fn write_groups(answer: &mut Answer, groups: Groups) {
         after,
         suffix,
     } = groups;
-    answer.list(
-        &[folded, before, overlapping, after, suffix],
-        ",",
-        write_count,
-    );
-}
-
-fn write_count(answer: &mut Answer, count: &usize) {
-    answer.number(*count as u64);
+    for (index, count) in [folded, before, overlapping, after, suffix].iter().enumerate() {
+        answer.separator(",", index == 0);
+        answer.number(*count as u64);
+    }
 }

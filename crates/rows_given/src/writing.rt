@@ -12,38 +12,42 @@ const SHOWN: u64 = 256;
 
 /// Writes digests as one word.
 pub fn write_digests<D: Digest>(answer: &mut Answer, digests: &[D]) {
-    answer.list(
-        digests,
-        ",",
-        |answer, digest| answer.bytes(digest.as_bytes()),
-    );
+    for (index, digest) in digests.iter().enumerate() {
+        answer.separator(",", index == 0);
+        answer.bytes(digest.as_bytes());
+    }
+    answer.none_if(digests.is_empty());
 }
 
 /// Writes digests, each after its position, as one word.
 pub fn write_pairs<F: Family, D: Digest>(answer: &mut Answer, pairs: &[(Position<F>, D)]) {
-    answer.list(pairs, ",", |answer, pair| {
-        answer.number(pair.0.as_u64());
+    for (index, (position, digest)) in pairs.iter().enumerate() {
+        answer.separator(",", index == 0);
+        answer.number(position.as_u64());
         answer.text(":");
-        answer.bytes(pair.1.as_bytes());
-    });
+        answer.bytes(digest.as_bytes());
+    }
+    answer.none_if(pairs.is_empty());
 }
 
 /// Writes the positions of peaks, each with its height.
 pub fn write_peaks<F: Family>(answer: &mut Answer, peaks: &[(Position<F>, u32)]) {
-    answer.list(peaks, " ", |answer, peak| {
-        answer.number(peak.0.as_u64());
+    for (index, (position, height)) in peaks.iter().enumerate() {
+        answer.separator(" ", index == 0);
+        answer.number(position.as_u64());
         answer.text(":");
-        answer.number(u64::from(peak.1));
-    });
+        answer.number(u64::from(*height));
+    }
+    answer.none_if(peaks.is_empty());
 }
 
 /// Writes positions.
 pub fn write_positions<F: Family>(answer: &mut Answer, positions: &[Position<F>]) {
-    answer.list(
-        positions,
-        " ",
-        |answer, position| answer.number(position.as_u64()),
-    );
+    for (index, position) in positions.iter().enumerate() {
+        answer.separator(" ", index == 0);
+        answer.number(position.as_u64());
+    }
+    answer.none_if(positions.is_empty());
 }
 
 /// Writes the digest of a node, or a dash for none.

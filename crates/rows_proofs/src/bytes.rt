@@ -1,6 +1,6 @@
-//! How many of a structure's ranges have proofs that are accepted as they are written, and refused with a change.
+//! Whether a structure's ranges have proofs that are accepted as they are written, and refused with a change.
 
-use crate::spans::{Span, all_spans};
+use crate::spans::Span;
 use merkle_core::codec::{Read, Write};
 use merkle_core::digest::Digest;
 use merkle_core::error::DecodeError;
@@ -16,25 +16,8 @@ use std::alloc::Global;
 /// The bits of a byte that are flipped: the lowest, and the one that says whether a number goes on.
 const FLIPS: [u8; 2] = [0x01, 0x80];
 
-/// How many ranges are proved by bytes, one after another for each number of inactive peaks.
-pub fn written_proved<F: Family, H: Hasher<F>>(
-    alloc: Global,
-    hasher: &H,
-    structure: &Mem<F, H::Digest>,
-    elements: &[&[u8]],
-) -> Result<u64, Refusal> {
-    let spans = all_spans(alloc, elements.len())?;
-    let mut proved = 0u64;
-    for span in &spans {
-        if let Ok(true) = proves_written(alloc, hasher, structure, elements, span) {
-            proved = proved.saturating_add(1);
-        }
-    }
-    Ok(proved)
-}
-
-// Whether the bytes of a range's proof are accepted, and refused with a bit flipped, cut anywhere, or with a byte more.
-fn proves_written<F: Family, H: Hasher<F>>(
+/// Whether the bytes of a range's proof are accepted, and refused with a bit flipped, cut anywhere, or with a byte more.
+pub fn proves_written<F: Family, H: Hasher<F>>(
     alloc: Global,
     hasher: &H,
     structure: &Mem<F, H::Digest>,

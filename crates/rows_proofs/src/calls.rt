@@ -1,9 +1,6 @@
 //! Which function answers a call.
 
-use crate::bytes::written_proved;
-use crate::parts::parts_proved;
-use crate::pinned::pinned_ranges_proved;
-use crate::ranges::{leaves_proved, ranges_proved};
+use crate::every::count_proved;
 use crate::{claims, proofs, readers, stores};
 use merkle_core::family::Family;
 use merkle_core::hasher::Hasher;
@@ -59,15 +56,8 @@ pub fn answer_every<F: Family, H: Hasher<F> + Drop>(
     let list = words.elements();
     let elements = words.slices(&list);
     words.end()?;
-    let (alloc, hasher) = (world.alloc, &world.hasher);
-    let proved: Result<u64, Refusal> = match call {
-        EveryCall::Leaves => Ok(leaves_proved(alloc, hasher, structure, &elements)),
-        EveryCall::Pins => pinned_ranges_proved(alloc, hasher, structure, &elements),
-        EveryCall::Ranges => ranges_proved(alloc, hasher, structure, &elements),
-        EveryCall::Stores => parts_proved(alloc, hasher, structure, &elements),
-        EveryCall::Written => written_proved(alloc, hasher, structure, &elements),
-    };
-    write_proved(answer, proved?);
+    let proved = count_proved(world.alloc, &world.hasher, structure, &elements, call)?;
+    write_proved(answer, proved);
     Ok(())
 }
 

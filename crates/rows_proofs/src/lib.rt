@@ -5,6 +5,7 @@
 mod bytes;
 pub mod calls;
 mod claims;
+mod every;
 mod parts;
 mod pinned;
 mod proofs;

@@ -1,6 +1,6 @@
 //! How many parts of a structure's ranges are proved by stores.
 
-use crate::spans::{Span, all_spans, push_spans};
+use crate::spans::{Span, push_spans};
 use merkle_core::digest::Digest;
 use merkle_core::family::Family;
 use merkle_core::hasher::Hasher;
@@ -11,25 +11,8 @@ use rows_given::refusal::granted;
 use rows_text::refusal::{OUT_OF_MEMORY, Refusal};
 use std::alloc::Global;
 
-/// How many parts of ranges are proved by the stores of the ranges, one after another for each number of inactive peaks.
-pub fn parts_proved<F: Family, H: Hasher<F>>(
-    alloc: Global,
-    hasher: &H,
-    structure: &Mem<F, H::Digest>,
-    elements: &[&[u8]],
-) -> Result<u64, Refusal> {
-    let spans = all_spans(alloc, elements.len())?;
-    let mut proved = 0u64;
-    for span in &spans {
-        if let Ok(count) = count_parts(alloc, hasher, structure, elements, span) {
-            proved = proved.saturating_add(count);
-        }
-    }
-    Ok(proved)
-}
-
-// How many parts of a range are proved by the store of the range's proof.
-fn count_parts<F: Family, H: Hasher<F>>(
+/// How many parts of a range are proved by the store of the range's proof.
+pub fn count_parts<F: Family, H: Hasher<F>>(
     alloc: Global,
     hasher: &H,
     structure: &Mem<F, H::Digest>,

@@ -1,6 +1,6 @@
-//! How many ranges of a structure are proved with the pins before them.
+//! Whether ranges of a structure are proved with the pins before them.
 
-use crate::spans::{Span, all_spans};
+use crate::spans::Span;
 use merkle_core::digest::Digest;
 use merkle_core::family::Family;
 use merkle_core::hasher::Hasher;
@@ -12,26 +12,9 @@ use rows_given::refusal::granted;
 use rows_text::refusal::{OUT_OF_MEMORY, Refusal};
 use std::alloc::Global;
 
-/// How many ranges are proved with the pins before them, one after another for each number of inactive peaks.
-pub fn pinned_ranges_proved<F: Family, H: Hasher<F>>(
-    alloc: Global,
-    hasher: &H,
-    structure: &Mem<F, H::Digest>,
-    elements: &[&[u8]],
-) -> Result<u64, Refusal> {
-    let spans = all_spans(alloc, elements.len())?;
-    let mut proved = 0u64;
-    for span in &spans {
-        if let Ok(true) = proves_pins(alloc, hasher, structure, elements, span) {
-            proved = proved.saturating_add(1);
-        }
-    }
-    Ok(proved)
-}
-
-// Whether the proof of a range is accepted with the pins before it, and refused where a digest, a pin or the number of pins
-// is changed.
-fn proves_pins<F: Family, H: Hasher<F>>(
+/// Whether the proof of a range is accepted with the pins before it, and refused where a digest, a pin or the number of pins
+/// is changed.
+pub fn proves_pins<F: Family, H: Hasher<F>>(
     alloc: Global,
     hasher: &H,
     structure: &Mem<F, H::Digest>,

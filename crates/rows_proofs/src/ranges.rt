@@ -1,12 +1,11 @@
-//! How many of a structure's leaves and ranges are proved.
+//! Whether a structure's leaves and ranges are proved.
 
-use crate::spans::{Span, all_spans};
+use crate::spans::Span;
 use merkle_core::family::Family;
 use merkle_core::hasher::Hasher;
 use merkle_core::location::Location;
 use merkle_core::mem::Mem;
 use merkle_core::proof::Proof;
-use rows_given::MOST_PEAKS;
 use rows_given::changes::changed;
 use rows_given::checks::{accepts_leaf, accepts_range};
 use rows_given::refusal::granted;
@@ -46,37 +45,19 @@ pub fn proves_leaf<F: Family, H: Hasher<F>>(
     accepts_this_alone(alloc, hasher, &proof, element, leaf, &root)
 }
 
-// How many leaves are proved for a number of inactive peaks.
-fn count_leaves<F: Family, H: Hasher<F>>(
+/// Whether a range is one leaf alone, and the leaf is proved.
+pub fn proves_single<F: Family, H: Hasher<F>>(
     alloc: Global,
     hasher: &H,
     structure: &Mem<F, H::Digest>,
     elements: &[&[u8]],
-    inactive: usize,
-) -> u64 {
-    let mut proved = 0u64;
-    for (leaf, element) in elements.iter().enumerate() {
-        let leaf = Location::from(leaf);
-        if let Ok(true) = proves_leaf(alloc, hasher, structure, leaf, element, inactive) {
-            proved = proved.saturating_add(1);
-        }
+    span: &Span,
+) -> Result<bool, Refusal> {
+    let leaf = Location::from(span.start);
+    match *span.of(elements) {
+        [element] => proves_leaf(alloc, hasher, structure, leaf, element, span.inactive),
+        _ => Ok(false),
     }
-    proved
-}
-
-/// How many leaves are proved, one after another for each number of inactive peaks.
-pub fn leaves_proved<F: Family, H: Hasher<F>>(
-    alloc: Global,
-    hasher: &H,
-    structure: &Mem<F, H::Digest>,
-    elements: &[&[u8]],
-) -> u64 {
-    let mut proved = 0u64;
-    for inactive in 0..=MOST_PEAKS {
-        let count = count_leaves(alloc, hasher, structure, elements, inactive);
-        proved = proved.saturating_add(count);
-    }
-    proved
 }
 
 // The elements, with another in the place of the first.
@@ -112,8 +93,8 @@ fn accepts_these_alone<F: Family, H: Hasher<F>>(
     Ok(is_accepted && !are_others_accepted)
 }
 
-// Whether the proof of a range is accepted with its elements, and refused with another first one.
-fn proves_range<F: Family, H: Hasher<F>>(
+/// Whether the proof of a range is accepted with its elements, and refused with another first one.
+pub fn proves_range<F: Family, H: Hasher<F>>(
     alloc: Global,
     hasher: &H,
     structure: &Mem<F, H::Digest>,
@@ -125,21 +106,4 @@ fn proves_range<F: Family, H: Hasher<F>>(
     let root = granted(structure.root(hasher, span.inactive))?;
     let proof = granted(structure.range_proof(hasher, start..end, span.inactive))?;
     accepts_these_alone(alloc, hasher, &proof, span.of(elements), start, &root)
-}
-
-/// How many ranges are proved, one after another for each number of inactive peaks.
-pub fn ranges_proved<F: Family, H: Hasher<F>>(
-    alloc: Global,
-    hasher: &H,
-    structure: &Mem<F, H::Digest>,
-    elements: &[&[u8]],
-) -> Result<u64, Refusal> {
-    let spans = all_spans(alloc, elements.len())?;
-    let mut proved = 0u64;
-    for span in &spans {
-        if let Ok(true) = proves_range(alloc, hasher, structure, elements, span) {
-            proved = proved.saturating_add(1);
-        }
-    }
-    Ok(proved)
 }

@@ -1,6 +1,6 @@
 //! Calls of batches.
 
-use crate::drafts::{keep_draft, take_draft};
+use crate::drafts::{keep_draft, keep_granted, take_draft};
 use crate::leaves::add;
 use crate::world::World;
 use merkle_core::batch::MerkleizedBatch;
@@ -18,8 +18,8 @@ pub fn fork<F: Family, H: Hasher<F> + Drop>(
     name: &str,
     structure: &str,
 ) -> Result<(), Refusal> {
-    let draft = granted(named(&world.structures, structure)?.new_batch())?;
-    keep_draft(world, name, draft)
+    let draft = named(&world.structures, structure)?.new_batch();
+    keep_granted(world, name, draft)
 }
 
 /// A draft that is forked from a batch.
@@ -28,8 +28,8 @@ pub fn child<F: Family, H: Hasher<F> + Drop>(
     name: &str,
     batch: &str,
 ) -> Result<(), Refusal> {
-    let draft = granted(named(&world.batches, batch)?.new_batch())?;
-    keep_draft(world, name, draft)
+    let draft = named(&world.batches, batch)?.new_batch();
+    keep_granted(world, name, draft)
 }
 
 /// A batch without changes to a structure.

@@ -2,8 +2,10 @@
 
 use crate::world::World;
 use merkle_core::batch::UnmerkleizedBatch;
+use merkle_core::error::Error;
 use merkle_core::family::Family;
 use merkle_core::hasher::Hasher;
+use rows_given::refusal::refused;
 use rows_text::refusal::{Refusal, UNKNOWN};
 use rows_text::words::give_name;
 
@@ -22,4 +24,16 @@ pub fn keep_draft<F: Family, H: Hasher<F> + Drop>(
     draft: UnmerkleizedBatch<F, H::Digest>,
 ) -> Result<(), Refusal> {
     give_name(world.alloc, &mut world.drafts, name, draft)
+}
+
+/// Gives a draft that name, or answers what is written for its error.
+pub fn keep_granted<F: Family, H: Hasher<F> + Drop>(
+    world: &mut World<F, H>,
+    name: &str,
+    draft: Result<UnmerkleizedBatch<F, H::Digest>, Error<F>>,
+) -> Result<(), Refusal> {
+    match draft {
+        Ok(draft) => keep_draft(world, name, draft),
+        Err(error) => Err(refused(&error)),
+    }
 }

@@ -1,6 +1,6 @@
 //! Calls that add and change leaves of batches.
 
-use crate::drafts::{keep_draft, take_draft};
+use crate::drafts::{keep_draft, keep_granted, take_draft};
 use crate::world::World;
 use merkle_core::batch::UnmerkleizedBatch;
 use merkle_core::family::Family;
@@ -89,8 +89,8 @@ fn add_leaves<F: Family, H: Hasher<F> + Drop>(
     name: &str,
     leaves: &[H::Digest],
 ) -> Result<(), Refusal> {
-    let draft = granted(take_draft(world, name)?.add_leaf_digests(leaves))?;
-    keep_draft(world, name, draft)
+    let draft = take_draft(world, name)?;
+    keep_granted(world, name, draft.add_leaf_digests(leaves))
 }
 
 // Updates leaves, all in one call.
@@ -99,8 +99,8 @@ fn update_all<F: Family, H: Hasher<F> + Drop>(
     name: &str,
     updates: &[(Location<F>, H::Digest)],
 ) -> Result<(), Refusal> {
-    let draft = granted(take_draft(world, name)?.update_leaf_batched(updates))?;
-    keep_draft(world, name, draft)
+    let draft = take_draft(world, name)?;
+    keep_granted(world, name, draft.update_leaf_batched(updates))
 }
 
 /// Adds leaves with these elements, one after another.
@@ -125,8 +125,8 @@ pub fn add_all<F: Family, H: Hasher<F> + Drop>(
     let elements = words.elements();
     let all = words.slices(&elements);
     words.end()?;
-    let draft = granted(take_draft(world, name)?.add_all(&world.hasher, &all))?;
-    keep_draft(world, name, draft)
+    let draft = take_draft(world, name)?.add_all(&world.hasher, &all);
+    keep_granted(world, name, draft)
 }
 
 /// Adds leaves of 32 bytes, of which the first 8 are the number of its location, the highest byte first.
@@ -150,8 +150,8 @@ pub fn add_digest<F: Family, H: Hasher<F> + Drop>(
 ) -> Result<(), Refusal> {
     let leaf = digest(words);
     words.end()?;
-    let draft = granted(take_draft(world, name)?.add_leaf_digest(leaf))?;
-    keep_draft(world, name, draft)
+    let draft = take_draft(world, name)?;
+    keep_granted(world, name, draft.add_leaf_digest(leaf))
 }
 
 /// Adds leaves with these digests, all in one call.
@@ -187,9 +187,8 @@ pub fn update<F: Family, H: Hasher<F> + Drop>(
     let leaf = Location::new(words.number());
     let element = words.bytes();
     words.end()?;
-    let draft = take_draft(world, name)?;
-    let draft = granted(draft.update_leaf(&world.hasher, leaf, element.as_slice()))?;
-    keep_draft(world, name, draft)
+    let draft = take_draft(world, name)?.update_leaf(&world.hasher, leaf, element.as_slice());
+    keep_granted(world, name, draft)
 }
 
 /// Updates a leaf to a digest.
@@ -201,8 +200,8 @@ pub fn update_digest<F: Family, H: Hasher<F> + Drop>(
     let leaf = Location::new(words.number());
     let to = digest(words);
     words.end()?;
-    let draft = granted(take_draft(world, name)?.update_leaf_digest(leaf, to))?;
-    keep_draft(world, name, draft)
+    let draft = take_draft(world, name)?;
+    keep_granted(world, name, draft.update_leaf_digest(leaf, to))
 }
 
 /// Updates leaves to elements, all in one call.

@@ -78,15 +78,9 @@ impl Answer {
         }
     }
 
-    /// Writes the items of a list, with a text between each two, or a dash where there is none.
-    pub fn list<T, W: Fn(&mut Answer, &T)>(&mut self, items: &[T], between: &str, write: W)
-        requires { W.IsAlwaysCallable write }
-    {
-        for (index, item) in items.iter().enumerate() {
-            self.separator(between, index == 0);
-            write(self, item);
-        }
-        if items.is_empty() {
+    /// Writes a dash for a list without items.
+    pub fn none_if(&mut self, is_empty: bool) {
+        if is_empty {
             self.text("-");
         }
     }

@@ -10,35 +10,12 @@ fn number(word: &str) -> Option<u64> {
     word.parse::<u64>().ok()
 }
 
-/// Why a word is not read.
-#[derive(Clone, Copy)]
-pub enum Unread {
-    /// It is not spelled as it has to be.
-    Syntax,
-    /// A request for memory was refused.
-    OutOfMemory,
-}
-
-impl From<Unread> for Refusal {
-    fn from(unread: Unread) -> Self {
-        match unread {
-            Unread::Syntax => SYNTAX,
-            Unread::OutOfMemory => OUT_OF_MEMORY,
-        }
-    }
-}
-
-// The number of an item of a list.
-fn listed_number(_alloc: Global, item: &str) -> Result<u64, Unread> {
-    number(item).ok_or(Unread::Syntax)
-}
-
 /// The bytes with these hexadecimal digits.
-pub fn bytes(alloc: Global, word: &str) -> Result<Vec<u8>, Unread> {
+pub fn bytes(alloc: Global, word: &str) -> Result<Vec<u8>, Refusal> {
     match hex::decode(alloc, word) {
         Ok(bytes) => Ok(bytes),
-        Err(FromHexError::OutOfMemory) => Err(Unread::OutOfMemory),
-        Err(_) => Err(Unread::Syntax),
+        Err(FromHexError::OutOfMemory) => Err(OUT_OF_MEMORY),
+        Err(_) => Err(SYNTAX),
     }
 }
 
@@ -49,13 +26,32 @@ pub struct LocatedBytes {
     pub bytes: Vec<u8>,
 }
 
+// What an item of a list is read as.
+trait Item: Drop {
+    fn read(alloc: Global, item: &str) -> Result<Self, Refusal>;
+}
+
+impl Item for u64 {
+    fn read(_alloc: Global, item: &str) -> Result<Self, Refusal> {
+        number(item).ok_or(SYNTAX)
+    }
+}
+
+impl Item for Vec<u8> {
+    fn read(alloc: Global, item: &str) -> Result<Self, Refusal> {
+        bytes(alloc, item)
+    }
+}
+
 // The number before the colon, with the bytes after it.
-fn located_bytes(alloc: Global, item: &str) -> Result<LocatedBytes, Unread> {
-    let (index, spelling) = item.split_once(':').ok_or(Unread::Syntax)?;
-    Ok(LocatedBytes {
-        index: number(index).ok_or(Unread::Syntax)?,
-        bytes: bytes(alloc, spelling)?,
-    })
+impl Item for LocatedBytes {
+    fn read(alloc: Global, item: &str) -> Result<Self, Refusal> {
+        let (index, spelling) = item.split_once(':').ok_or(SYNTAX)?;
+        Ok(LocatedBytes {
+            index: number(index).ok_or(SYNTAX)?,
+            bytes: bytes(alloc, spelling)?,
+        })
+    }
 }
 
 // The item, and how often it stands in its list.
@@ -68,34 +64,19 @@ fn repeated(item: &str) -> Option<(&str, u64)> {
 }
 
 // Adds what an item is read as, as often as it stands in its list.
-fn push_items<T: Drop, R: Fn(Global, &str) -> Result<T, Unread>>(
-    alloc: Global,
-    all: &mut Vec<T>,
-    item: &str,
-    read: &R,
-) -> Result<(), Refusal>
-    requires { R.IsAlwaysCallable read.now }
-{
+fn push_items<T: Item>(alloc: Global, all: &mut Vec<T>, item: &str) -> Result<(), Refusal> {
     let (item, count) = repeated(item).ok_or(SYNTAX)?;
     for _ in 0..count {
-        let value = read(alloc, item)?;
-        all.push(value)?;
+        all.push(T::read(alloc, item)?)?;
     }
     Ok(())
 }
 
 // Adds what the items of a list are read as.
-fn push_list<T: Drop, R: Fn(Global, &str) -> Result<T, Unread>>(
-    alloc: Global,
-    all: &mut Vec<T>,
-    word: &str,
-    read: &R,
-) -> Result<(), Refusal>
-    requires { R.IsAlwaysCallable read.now }
-{
+fn push_list<T: Item>(alloc: Global, all: &mut Vec<T>, word: &str) -> Result<(), Refusal> {
     if word != "-" {
         for item in word.split(',') {
-            push_items(alloc, all, item, read)?;
+            push_items(alloc, all, item)?;
         }
     }
     Ok(())
@@ -190,8 +171,8 @@ impl<'a> Words<'a> {
     pub fn bytes(&mut self) -> Vec<u8> {
         match bytes(self.alloc, self.word()) {
             Ok(bytes) => bytes,
-            Err(unread) => {
-                self.refuse(Refusal::from(unread));
+            Err(refusal) => {
+                self.refuse(refusal);
                 Vec::new(self.alloc)
             }
         }
@@ -205,12 +186,10 @@ impl<'a> Words<'a> {
     }
 
     // What the items of the list that the next word is are read as.
-    fn list<T: Drop, R: Fn(Global, &str) -> Result<T, Unread>>(&mut self, read: R) -> Vec<T>
-        requires { R.IsAlwaysCallable read }
-    {
+    fn list<T: Item>(&mut self) -> Vec<T> {
         let mut all = Vec::new(self.alloc);
         let word = self.word();
-        if let Err(refusal) = push_list(self.alloc, &mut all, word, &read) {
+        if let Err(refusal) = push_list(self.alloc, &mut all, word) {
             self.refuse(refusal);
         }
         all
@@ -218,17 +197,17 @@ impl<'a> Words<'a> {
 
     /// The elements of the list that the next word is.
     pub fn elements(&mut self) -> Vec<Vec<u8>> {
-        self.list(bytes)
+        self.list()
     }
 
     /// The numbers of the list that the next word is.
     pub fn numbers(&mut self) -> Vec<u64> {
-        self.list(listed_number)
+        self.list()
     }
 
     /// The numbers of the list that the next word is, each with its bytes.
     pub fn located(&mut self) -> Vec<LocatedBytes> {
-        self.list(located_bytes)
+        self.list()
     }
 
     /// The elements of a list, lent.

@@ -1,5 +1,0 @@
-mod counting;
-mod fours;
-mod lanes;
-mod leaves;
-mod nodes;
