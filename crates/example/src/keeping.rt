@@ -45,8 +45,7 @@ fn read_back<D: Digest>(alloc: Global, bytes: &[u8]) -> Result<Mmr<D>, LogError>
         return Err(LogError::Refused);
     }
     let pins = Family::nodes_to_pin(boundary).count();
-    let Some((pinned, nodes)) = rest.split_at_checked(pins.saturating_mul(D::SIZE))
-    else {
+    let Some((pinned, nodes)) = rest.split_at_checked(pins.saturating_mul(D::SIZE)) else {
         return Err(LogError::Refused);
     };
     let (pinned, nodes) = (digests(alloc, pinned)?, digests(alloc, nodes)?);

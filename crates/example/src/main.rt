@@ -106,7 +106,11 @@ impl<H: Hasher<Family> + Drop> Log<H> {
 }
 
 /// The log proves an entry, and sends the proof as bytes to a client, who checks it against the root.
-fn show_entry<H: Hasher<Family> + Drop>(rt: &impl Print, log: &Log<H>, root: &H::Digest) -> Result<(), LogError> {
+fn show_entry<H: Hasher<Family> + Drop>(
+    rt: &impl Print,
+    log: &Log<H>,
+    root: &H::Digest,
+) -> Result<(), LogError> {
     let location = Location::new(2);
     let mut bytes = Vec::new(log.alloc);
     granted!(log.tree.proof(&log.hasher, location, 0)).write(&mut bytes)?;
@@ -147,7 +151,11 @@ fn show_growth<H: Hasher<Family> + Drop>(
 }
 
 /// Who keeps the proof of a range serves the proofs of its parts, without the log.
-fn show_store<H: Hasher<Family> + Drop>(rt: &impl Print, log: &Log<H>, root: &H::Digest) -> Result<(), LogError> {
+fn show_store<H: Hasher<Family> + Drop>(
+    rt: &impl Print,
+    log: &Log<H>,
+    root: &H::Digest,
+) -> Result<(), LogError> {
     let start = Location::new(5);
     let proof = granted!(
         log.tree
@@ -161,7 +169,11 @@ fn show_store<H: Hasher<Family> + Drop>(rt: &impl Print, log: &Log<H>, root: &H:
 }
 
 /// The log forgets entries. Its root stays, and they have no proofs any more.
-fn show_pruning<H: Hasher<Family> + Drop>(rt: &impl Print, log: &mut Log<H>, root: &H::Digest) -> Result<(), LogError> {
+fn show_pruning<H: Hasher<Family> + Drop>(
+    rt: &impl Print,
+    log: &mut Log<H>,
+    root: &H::Digest,
+) -> Result<(), LogError> {
     granted!(log.tree.prune(Location::new(4)));
     let is_same = granted!(log.tree.root(&log.hasher, 0)) == *root;
     println!(rt; "the root stays after pruning: {is_same}")?;

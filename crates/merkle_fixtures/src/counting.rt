@@ -1,4 +1,4 @@
-//! A hasher that counts its calls.
+//! A hasher that counts its calls, and notes the leaves whose digests it computes.
 ghost use Rattle.std.specs.Prelude.{◌≡◌, ◌∷◌, []};
 ghost use Rattle.std.proofs.Common.{refl, rules};
 ghost use Rattle.merkle_base.specs.Scheme.{scheme_of};
@@ -11,8 +11,8 @@ use merkle_hasher::hasher::Hasher;
 use merkle_leaves::standard::Standard;
 use std::cell::Cell;
 
-/// A hasher that counts the pairs of nodes and the single nodes that it computes. It has the default body of each method that
-/// has one.
+/// A hasher that counts the pairs of nodes and the single nodes that it computes, and notes the position of each leaf, in the order
+/// of its calls. It has the default body of each method that has one.
 #[derive(Clone, Copy)]
 pub struct Counting<'a> {
     /// How peaks are folded.
@@ -21,6 +21,10 @@ pub struct Counting<'a> {
     pub pairs: &'a Cell<u64>,
     /// The number of nodes that were computed alone.
     pub singles: &'a Cell<u64>,
+    /// The number of leaves.
+    pub leaves: &'a Cell<u64>,
+    /// The positions of the first leaves, as many as there is room for.
+    pub positions: &'a [Cell<u64>],
 }
 
 impl Counting<'_> {
@@ -28,6 +32,14 @@ impl Counting<'_> {
         ensures { result ≡ self.now.bagging }
     {
         Standard::new(self.bagging)
+    }
+
+    // Notes the position of the next leaf, if there is room.
+    fn note(&self, position: u64) {
+        if let Some(next) = self.positions.get(self.leaves.get() as usize) {
+            next.set(position);
+        }
+        count(self.leaves);
     }
 }
 
@@ -74,6 +86,7 @@ impl<F: Family> Hasher<F> for Counting<'_> {
     fn leaf_digest(&self, position: Position<F>, element: &[u8]) -> Xor8Digest
         ensures { result ≡ (⟦<Standard<Xor8> as Hasher<F>>⟧.hashing self.now.bagging).leaf position element.now }
     {
+        self.note(position.as_u64());
         self.plain().leaf_digest(position, element)
     }
 

@@ -127,7 +127,10 @@ fn write_groups(answer: &mut Answer, groups: Groups) {
         after,
         suffix,
     } = groups;
-    for (index, count) in [folded, before, overlapping, after, suffix].iter().enumerate() {
+    for (index, count) in [folded, before, overlapping, after, suffix]
+        .iter()
+        .enumerate()
+    {
         answer.separator(",", index == 0);
         answer.number(*count as u64);
     }

@@ -8,11 +8,13 @@ use std::test::Fail;
 #[test]
 fn pairs_and_single_nodes(rt: HostRuntime) -> Result<(), Fail> {
     for n in 0..10u8 {
-        let (pairs, singles) = (Cell::new(0), Cell::new(0));
+        let (pairs, singles, leaves) = (Cell::new(0), Cell::new(0), Cell::new(0));
         let hasher = Counting {
             bagging: Bagging::ForwardFold,
             pairs: &pairs,
             singles: &singles,
+            leaves: &leaves,
+            positions: &[],
         };
         let nodes = super::nodes::some_nodes(rt.alloc(), &hasher, n)?;
         let mut digests = Vec::new(rt.alloc());

@@ -1,10 +1,10 @@
 use super::leaves::leaves_of_lengths;
 use merkle_base::family::Bagging;
 use merkle_digest::digest::{PlainHasher, Xor8};
+use merkle_fixtures::counting::Counting;
 use merkle_fixtures::flat::Family;
 use merkle_fixtures::fours::Fours;
 use merkle_fixtures::keyed::Keyed;
-use merkle_fixtures::noting::Noting;
 use merkle_hasher::hasher::Hasher;
 use merkle_leaves::leaves::leaf_digests;
 use merkle_leaves::standard::Standard;
@@ -87,10 +87,13 @@ fn assert_own_order(
     for _ in 0..count {
         positions.push(Cell::new(u64::MAX))?;
     }
-    let noted = Cell::new(0);
-    let hasher = Noting {
-        positions: &positions,
+    let (pairs, singles, noted) = (Cell::new(0), Cell::new(0), Cell::new(0));
+    let hasher = Counting {
+        bagging: Bagging::ForwardFold,
+        pairs: &pairs,
+        singles: &singles,
         leaves: &noted,
+        positions: &positions,
     };
     let bytes = [7u8; 1100];
     let leaves = leaves_of_lengths(rt, &bytes, lengths, count)?;

@@ -46,11 +46,13 @@ fn nodes_computed<F: Family, H: Hasher<F>>(
 
 #[test]
 fn calls_of_a_hasher(rt: HostRuntime) -> Result<(), Fail> {
-    let (pairs, singles) = (Cell::new(0), Cell::new(0));
+    let (pairs, singles, leaves) = (Cell::new(0), Cell::new(0), Cell::new(0));
     let hasher = Counting {
         bagging: Bagging::ForwardFold,
         pairs: &pairs,
         singles: &singles,
+        leaves: &leaves,
+        positions: &[],
     };
     let plain = Standard::<Xor8>::new(Bagging::ForwardFold);
     let elements = repeated(rt.alloc(), &[7], 8)?;

@@ -216,11 +216,13 @@ fn nodes_one_by_one(rt: HostRuntime) {
 // The first of these by a hasher with the default body of `hashes_together`.
 #[test]
 fn nodes_one_by_one_by_default(rt: HostRuntime) {
-    let (pairs, singles) = (Cell::new(0), Cell::new(0));
+    let (pairs, singles, leaves) = (Cell::new(0), Cell::new(0), Cell::new(0));
     let hasher = Counting {
         bagging: Bagging::ForwardFold,
         pairs: &pairs,
         singles: &singles,
+        leaves: &leaves,
+        positions: &[],
     };
     assert_found::<mmr::Family, _>(&rt, &hasher, 0, 256);
     assert_eq!(rt; (pairs.get(), singles.get()), (0, 257));
