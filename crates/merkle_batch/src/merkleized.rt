@@ -38,7 +38,7 @@ use std::rc::{Rc, RcSlice};
 ///
 /// Contracts model it as the records that it keeps of its ancestors, oldest first, then its own
 /// record, and its leaf count.
-#[derive(Debug, Drop)]
+#[derive(Debug)]
 pub struct MerkleizedBatch<F: Family, D: Digest> {
     /// What the batch itself changes.
     pub own: Rc<Record<F, D>>,
@@ -51,6 +51,19 @@ pub struct MerkleizedBatch<F: Family, D: Digest> {
     /// The pruning boundary of the structure that the chain of batches was forked from, at that
     /// time.
     pub pruning_boundary: Location<F>,
+}
+
+// Written out, it is proved once; derived, it would be proved again in each crate that drops batches.
+impl<F: Family, D: Digest> Drop for MerkleizedBatch<F, D> {
+    fn drop(self) {
+        let MerkleizedBatch {
+            own: _,
+            ancestors: _,
+            leaves: _,
+            base_size: _,
+            pruning_boundary: _,
+        } = self;
+    }
 }
 
 impl<F: Family, D: Digest> Model for MerkleizedBatch<F, D> {

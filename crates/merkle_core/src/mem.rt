@@ -87,12 +87,23 @@ fn front<D>(digests: &[D; MAX_PEAKS], count: usize) -> &[D]
 /// let checked = proof.verify_element_inclusion(&hasher, b"b", Location::new(1), &root);
 /// assert!(rt; matches!(&checked, Ok(true)));
 /// ```
-#[derive(Debug, Drop)]
+#[derive(Debug)]
 pub struct Mem<F: Family, D: Digest> {
     // all nodes from the boundary's position on, and the peaks of `boundary` leaves
     pub(crate) held: HeldNodes<F, D>,
     pub(crate) boundary: Location<F>,
     pub(crate) leaves: Location<F>,
+}
+
+// Written out, it is proved once; derived, it would be proved again in each crate that drops structures.
+impl<F: Family, D: Digest> Drop for Mem<F, D> {
+    fn drop(self) {
+        let Mem {
+            held: _,
+            boundary: _,
+            leaves: _,
+        } = self;
+    }
 }
 
 impl<F: Family, D: Digest> Model for Mem<F, D> {

@@ -53,7 +53,7 @@ use std::ops::Range;
 /// let checked = part.verify_element_inclusion(&hasher, &[2], Location::new(1), &root);
 /// assert!(rt; matches!(&checked, Ok(true)));
 /// ```
-#[derive(Debug, Drop)]
+#[derive(Debug)]
 pub struct ProofStore<F: Family, D: Digest> {
     leaves: Location<F>,
     inactive_peaks: usize,
@@ -66,6 +66,24 @@ pub struct ProofStore<F: Family, D: Digest> {
     suffix: Option<D>,
     // the number of peaks that are folded in the prefix of the proof
     held: usize,
+}
+
+// Written out, it is proved once; derived, it would be proved again in each crate that drops stores.
+impl<F: Family, D: Digest> Drop for ProofStore<F, D> {
+    fn drop(self) {
+        let ProofStore {
+            leaves: _,
+            inactive_peaks: _,
+            bagging: _,
+            root: _,
+            range: _,
+            pairs: _,
+            suffix_peaks: _,
+            prefix: _,
+            suffix: _,
+            held: _,
+        } = self;
+    }
 }
 
 impl<F: Family, D: Digest> Model for ProofStore<F, D> {

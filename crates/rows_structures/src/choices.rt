@@ -50,10 +50,16 @@ impl Familiar {
 }
 
 /// What the lines so far have made, in each family and with each hasher that the last `new` named.
-#[derive(Drop)]
 pub struct Choices {
     alloc: Global,
     pub all: Vec<Familiar>,
+}
+
+// Written out, it is proved once; derived, it would be proved again in the program.
+impl Drop for Choices {
+    fn drop(self) {
+        let Choices { alloc: _, all: _ } = self;
+    }
 }
 
 impl Choices {
