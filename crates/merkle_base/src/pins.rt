@@ -9,9 +9,15 @@ use std::marker::Model;
 
 /// Iterates over the positions of the nodes to pin, from the oldest peak on. Returned by
 /// [`nodes_to_pin`](Family::nodes_to_pin).
-#[derive(Drop)]
 pub struct NodesToPin<F: Family> {
     pub(crate) peaks: F::Peaks,
+}
+
+// Written out, it is proved once; derived, it would be proved again in each crate that drops such an iterator.
+impl<F: Family> Drop for NodesToPin<F> {
+    fn drop(self) {
+        let NodesToPin { peaks: _ } = self;
+    }
 }
 
 impl<F: Family> Model for NodesToPin<F> {

@@ -12,12 +12,21 @@ use std::alloc::{AllocError, Global};
 use std::marker::Model;
 
 /// Iterates over the peaks of a structure, from the oldest on. Returned by [`peak_subtrees`].
-#[derive(Drop)]
 pub struct PeakSubtrees<F: Family> {
     // the peaks that are left
     peaks: F::Peaks,
     // the location of the first leaf below them
     first_leaf: Location<F>,
+}
+
+// Written out, it is proved once; derived, it would be proved again in each crate that drops such an iterator.
+impl<F: Family> Drop for PeakSubtrees<F> {
+    fn drop(self) {
+        let PeakSubtrees {
+            peaks: _,
+            first_leaf: _,
+        } = self;
+    }
 }
 
 impl<F: Family> Model for PeakSubtrees<F> {
