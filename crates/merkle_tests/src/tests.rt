@@ -18,7 +18,6 @@ use merkle_core::mem::Mem;
 use std::alloc::{AllocError, Global};
 use std::fmt::Debug;
 use std::process::Abort;
-use std::test::Fail;
 
 /// The digest of that byte.
 fn digest(rt: &impl Abort, byte: u8) -> Xor8Digest {
@@ -26,15 +25,9 @@ fn digest(rt: &impl Abort, byte: u8) -> Xor8Digest {
 }
 
 /// Asserts that what is printed of a value for programmers begins so.
-fn assert_prints<T: Debug>(
-    rt: &impl Abort,
-    alloc: Global,
-    value: &T,
-    start: &str,
-) -> Result<(), Fail> {
-    let shown = format!(in alloc; "{value:?}")?;
+fn assert_prints<T: Debug>(rt: &impl Abort, alloc: Global, value: &T, start: &str) {
+    let shown = format!(in alloc; "{value:?}").ok().expect(rt, "memory");
     assert!(rt; shown.as_str().starts_with(start), "{shown}");
-    Ok(())
 }
 
 /// That many times the same element. The digests of its leaves differ, since each has its position.

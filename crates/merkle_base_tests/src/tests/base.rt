@@ -10,7 +10,6 @@ use std::alloc::Global;
 use std::collections::HashMap;
 use std::fmt::{Debug, Display};
 use std::process::Abort;
-use std::test::Fail;
 
 // Stands for a family where nothing is asked of it.
 #[derive(Clone, Copy, Debug)]
@@ -25,40 +24,30 @@ const OF_NOTHING: [u8; 32] = [
 ];
 
 /// Asserts the text of each value.
-fn assert_texts<T: Display>(
-    rt: &impl Abort,
-    alloc: Global,
-    values: &[T],
-    texts: &[&str],
-) -> Result<(), Fail> {
+fn assert_texts<T: Display>(rt: &impl Abort, alloc: Global, values: &[T], texts: &[&str]) {
     let mut texts = texts.iter();
     for value in values {
-        let shown = value.to_string(alloc)?;
+        let shown = value.to_string(alloc).ok().expect(rt, "memory");
         assert!(rt; texts.next().copied() == Some(shown.as_str()), "{shown}");
     }
     assert!(rt; texts.next().is_none());
-    Ok(())
 }
 
 /// Asserts the text of a value, as it is printed for users and then for programmers.
-fn assert_shown<T: Display + Debug>(
-    rt: &impl Abort,
-    alloc: Global,
-    value: &T,
-    text: &str,
-) -> Result<(), Fail> {
-    let shown = format!(in alloc; "{value} {value:?}")?;
+fn assert_shown<T: Display + Debug>(rt: &impl Abort, alloc: Global, value: &T, text: &str) {
+    let shown = format!(in alloc; "{value} {value:?}")
+        .ok()
+        .expect(rt, "memory");
     assert!(rt; shown.as_str() == text, "{text}");
-    Ok(())
 }
 
 #[test]
-fn numbers_as_text(rt: HostRuntime) -> Result<(), Fail> {
+fn numbers_as_text(rt: HostRuntime) {
     let position = Position::<Mark>::new(42);
-    assert_shown(&rt, rt.alloc(), &position, "Position(42) Position(42)")?;
+    assert_shown(&rt, rt.alloc(), &position, "Position(42) Position(42)");
     let location = Location::<Mark>::new(u64::MAX);
     let text = "Location(18446744073709551615) Location(18446744073709551615)";
-    assert_shown(&rt, rt.alloc(), &location, text)
+    assert_shown(&rt, rt.alloc(), &location, text);
 }
 
 const ERRORS: [&str; 21] = [
@@ -86,7 +75,7 @@ const ERRORS: [&str; 21] = [
 ];
 
 #[test]
-fn errors_as_text(rt: HostRuntime) -> Result<(), Fail> {
+fn errors_as_text(rt: HostRuntime) {
     let position = Position::new(42);
     let location = Location::new(7);
     let errors = [
@@ -121,7 +110,7 @@ fn errors_as_text(rt: HostRuntime) -> Result<(), Fail> {
         Error::BitOutOfBounds(9, 8),
         Error::OutOfMemory,
     ];
-    assert_texts(&rt, rt.alloc(), &errors, &ERRORS)
+    assert_texts(&rt, rt.alloc(), &errors, &ERRORS);
 }
 
 const RECONSTRUCTION_ERRORS: [&str; 8] = [
@@ -144,7 +133,7 @@ const DECODE_ERRORS: [&str; 5] = [
 ];
 
 #[test]
-fn other_errors_as_text(rt: HostRuntime) -> Result<(), Fail> {
+fn other_errors_as_text(rt: HostRuntime) {
     let errors = [
         ReconstructionError::InvalidProof,
         ReconstructionError::MissingDigests,
@@ -155,7 +144,7 @@ fn other_errors_as_text(rt: HostRuntime) -> Result<(), Fail> {
         ReconstructionError::InvalidSize,
         ReconstructionError::OutOfMemory,
     ];
-    assert_texts(&rt, rt.alloc(), &errors, &RECONSTRUCTION_ERRORS)?;
+    assert_texts(&rt, rt.alloc(), &errors, &RECONSTRUCTION_ERRORS);
     let errors = [
         DecodeError::EndOfBuffer,
         DecodeError::InvalidVarint,
@@ -163,8 +152,8 @@ fn other_errors_as_text(rt: HostRuntime) -> Result<(), Fail> {
         DecodeError::TooMany,
         DecodeError::OutOfMemory,
     ];
-    assert_texts(&rt, rt.alloc(), &errors, &DECODE_ERRORS)?;
-    assert_texts(&rt, rt.alloc(), &[OutOfMemory], &["out of memory"])
+    assert_texts(&rt, rt.alloc(), &errors, &DECODE_ERRORS);
+    assert_texts(&rt, rt.alloc(), &[OutOfMemory], &["out of memory"]);
 }
 
 /// Asserts the sums and differences of ten and three in a unit.
@@ -214,15 +203,15 @@ fn order(rt: HostRuntime) {
 }
 
 #[test]
-fn keys(rt: HostRuntime) -> Result<(), Fail> {
+fn keys(rt: HostRuntime) {
     let (one, two) = (Position::<Mark>::new(1), Position::<Mark>::new(2));
     let mut numbers = HashMap::new(rt.alloc());
-    numbers.insert(one, 10)?;
-    numbers.insert(two.clone()?, 20)?;
+    assert!(rt; numbers.insert(one, 10).is_ok());
+    let copy = two.clone().ok().expect(&rt, "memory");
+    assert!(rt; numbers.insert(copy, 20).is_ok());
     let second = numbers.get(&two).copied();
     let third = numbers.get(&Position::new(3)).copied();
     assert!(rt; [second, third] == [Some(20), None]);
-    Ok(())
 }
 
 #[test]
@@ -284,7 +273,7 @@ fn exclusive_or_digests_of_bytes(rt: HostRuntime) {
 }
 
 #[test]
-fn debug_texts(rt: HostRuntime) -> Result<(), Fail> {
+fn debug_texts(rt: HostRuntime) {
     let shown = format!(in rt.alloc();
         "{:?} {:?} {:?} {:?} {:?} {:?} {:?} {:?}",
         mmb::Family::default(),
@@ -295,9 +284,10 @@ fn debug_texts(rt: HostRuntime) -> Result<(), Fail> {
         DecodeError::EndOfBuffer,
         Xor8Digest::EMPTY,
         Sha256Digest::EMPTY
-    )?;
+    )
+    .ok()
+    .expect(&rt, "memory");
     let start =
         "Family ForwardFold BackwardFold Sha256Plain Xor8 EndOfBuffer Xor8Digest { byte: 0 } Sha256Digest { bytes: [0, 0, ";
     assert!(rt; shown.as_str().starts_with(start), "{shown}");
-    Ok(())
 }

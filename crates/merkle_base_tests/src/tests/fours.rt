@@ -11,7 +11,6 @@ use merkle_leaves::standard::Standard;
 use merkle_sha256::sha256::Sha256Plain;
 use std::cell::Cell;
 use std::process::Abort;
-use std::test::Fail;
 
 /// Asserts how many groups of four leaves have elements of equal length, how many have not, and how many leaves are
 /// computed one by one, for `count` leaves, whose elements have one of some lengths in turn; and that the digests, and
@@ -22,7 +21,7 @@ fn assert_groups(
     lengths: &[usize],
     count: usize,
     expected: (u64, u64, u64),
-) -> Result<(), Fail> {
+) {
     let (equal, unequal) = (Cell::new(0), Cell::new(0));
     let (single, pairs, nodes) = (Cell::new(0), Cell::new(0), Cell::new(0));
     let hasher = Fours {
@@ -34,9 +33,9 @@ fn assert_groups(
         nodes: &nodes,
     };
     let bytes = [7u8; 1100];
-    let leaves = leaves_of_lengths(rt, &bytes, lengths, count)?;
+    let leaves = leaves_of_lengths(rt, &bytes, lengths, count);
     let mut digests = Vec::new(rt.alloc());
-    leaf_digests::<Family, _>(&hasher, &leaves, &mut digests)?;
+    assert!(rt; leaf_digests::<Family, _>(&hasher, &leaves, &mut digests).is_ok());
     assert_eq!(rt;
         (equal.get(), unequal.get(), single.get()),
         expected,
@@ -44,48 +43,43 @@ fn assert_groups(
     );
     let mut wanted = Vec::new(rt.alloc());
     for leaf in &leaves {
-        wanted.push(hasher.leaf_digest(leaf.0, leaf.1))?;
+        assert!(rt; wanted.push(hasher.leaf_digest(leaf.0, leaf.1)).is_ok());
     }
     assert!(rt; digests == wanted, "{count} leaves");
     assert_eq!(rt; digests.capacity(), wanted.capacity(), "{count} leaves");
-    Ok(())
 }
 
 // Every second element is longer. In the order of the lengths all groups of four but at most one have equal ones.
 #[test]
-fn leaves_of_equal_lengths_together(rt: HostRuntime) -> Result<(), Fail> {
-    assert_groups(&rt, true, &[32, 100], 64, (16, 0, 0))?;
-    assert_groups(&rt, true, &[32, 100], 130, (32, 0, 2))?;
-    assert_groups(&rt, true, &[32, 100], 62, (14, 1, 2))?;
-    assert_groups(&rt, true, &[1100, 32], 64, (16, 0, 0))
+fn leaves_of_equal_lengths_together(rt: HostRuntime) {
+    assert_groups(&rt, true, &[32, 100], 64, (16, 0, 0));
+    assert_groups(&rt, true, &[32, 100], 130, (32, 0, 2));
+    assert_groups(&rt, true, &[32, 100], 62, (14, 1, 2));
+    assert_groups(&rt, true, &[1100, 32], 64, (16, 0, 0));
 }
 
 // In the order of the lengths each of these would have at least one group more with elements of equal length. That is
 // estimated to save no more time than sorting is estimated to take: leaves with 1,100 bytes have too many blocks to be hashed
 // together.
 #[test]
-fn leaves_in_their_own_order(rt: HostRuntime) -> Result<(), Fail> {
-    assert_groups(&rt, true, &[100, 32, 32, 32], 8, (0, 2, 0))?;
-    assert_groups(&rt, true, &[32, 32, 32, 500], 8, (0, 2, 0))?;
-    assert_groups(&rt, true, &[1100, 32], 8, (0, 2, 0))
+fn leaves_in_their_own_order(rt: HostRuntime) {
+    assert_groups(&rt, true, &[100, 32, 32, 32], 8, (0, 2, 0));
+    assert_groups(&rt, true, &[32, 32, 32, 500], 8, (0, 2, 0));
+    assert_groups(&rt, true, &[1100, 32], 8, (0, 2, 0));
 }
 
 // A hasher that computes digests one by one is given the leaves in their own order.
 #[test]
-fn leaves_one_by_one_in_their_own_order(rt: HostRuntime) -> Result<(), Fail> {
-    assert_groups(&rt, false, &[32, 100], 64, (0, 16, 0))
+fn leaves_one_by_one_in_their_own_order(rt: HostRuntime) {
+    assert_groups(&rt, false, &[32, 100], 64, (0, 16, 0));
 }
 
 /// Asserts that a hasher with the default body of `hashes_together` is called with `count` leaves in their own order, each
 /// of them once; their elements have one of some lengths in turn.
-fn assert_own_order(
-    rt: &(impl Abort + AllocGlobal),
-    lengths: &[usize],
-    count: usize,
-) -> Result<(), Fail> {
+fn assert_own_order(rt: &(impl Abort + AllocGlobal), lengths: &[usize], count: usize) {
     let mut positions = Vec::new(rt.alloc());
     for _ in 0..count {
-        positions.push(Cell::new(u64::MAX))?;
+        assert!(rt; positions.push(Cell::new(u64::MAX)).is_ok());
     }
     let (pairs, singles, noted) = (Cell::new(0), Cell::new(0), Cell::new(0));
     let hasher = Counting {
@@ -96,22 +90,21 @@ fn assert_own_order(
         positions: &positions,
     };
     let bytes = [7u8; 1100];
-    let leaves = leaves_of_lengths(rt, &bytes, lengths, count)?;
+    let leaves = leaves_of_lengths(rt, &bytes, lengths, count);
     let mut digests = Vec::new(rt.alloc());
-    leaf_digests::<Family, _>(&hasher, &leaves, &mut digests)?;
+    assert!(rt; leaf_digests::<Family, _>(&hasher, &leaves, &mut digests).is_ok());
     assert_eq!(rt; noted.get(), count as u64);
     for (leaf, position) in leaves.iter().zip(positions.iter()) {
         assert_eq!(rt; position.get(), leaf.0.as_u64(), "{count} leaves");
     }
-    Ok(())
 }
 
 // If the default were true, it would be called with the shorter leaves of each 64 first: 0, 2, 4 and so on.
 #[test]
-fn leaves_in_their_own_order_by_default(rt: HostRuntime) -> Result<(), Fail> {
-    assert_own_order(&rt, &[32, 100], 64)?;
-    assert_own_order(&rt, &[32, 100], 130)?;
-    assert_own_order(&rt, &[32, 100], 7)
+fn leaves_in_their_own_order_by_default(rt: HostRuntime) {
+    assert_own_order(&rt, &[32, 100], 64);
+    assert_own_order(&rt, &[32, 100], 130);
+    assert_own_order(&rt, &[32, 100], 7);
 }
 
 #[test]

@@ -11,7 +11,6 @@ use merkle_leaves::standard::Standard;
 use merkle_sha256::sha256::{Sha256Digest, Sha256Plain};
 use merkle_topology::mmr::Family;
 use std::process::Abort;
-use std::test::Fail;
 
 fn byte(digest: &Xor8Digest) -> u8 {
     digest.as_bytes()[0]
@@ -24,27 +23,22 @@ fn digest(rt: &impl Abort, byte: u8) -> Xor8Digest {
 
 /// Asserts that the standard hasher over a plain one folds peaks as it was told, as does its clone, and that it gives this
 /// digest to `abc`.
-fn assert_standard<H: PlainHasher>(
-    rt: &impl Abort,
-    bagging: Bagging,
-    of_abc: Option<H::Digest>,
-) -> Result<(), Fail> {
+fn assert_standard<H: PlainHasher>(rt: &impl Abort, bagging: Bagging, of_abc: Option<H::Digest>) {
     let hasher = Standard::<H>::new(bagging);
-    let baggings = [hasher.root_bagging(), hasher.clone()?.root_bagging()];
+    let copy = hasher.clone().ok().expect(rt, "memory");
+    let baggings = [hasher.root_bagging(), copy.root_bagging()];
     assert!(rt; baggings == [bagging; 2]);
     assert!(rt; Some(hasher.hash(&[b"a", b"bc"])) == of_abc);
     assert!(rt; Some(hasher.digest(b"abc")) == of_abc);
-    Ok(())
 }
 
 #[test]
-fn standard_hashers(rt: HostRuntime) -> Result<(), Fail> {
+fn standard_hashers(rt: HostRuntime) {
     for bagging in [Bagging::ForwardFold, Bagging::BackwardFold] {
-        assert_standard::<Sha256Plain>(&rt, bagging, Sha256Digest::from_bytes(&OF_ABC))?;
+        assert_standard::<Sha256Plain>(&rt, bagging, Sha256Digest::from_bytes(&OF_ABC));
         // 61 xor 62 xor 63
-        assert_standard::<Xor8>(&rt, bagging, Xor8Digest::from_bytes(&[0x60]))?;
+        assert_standard::<Xor8>(&rt, bagging, Xor8Digest::from_bytes(&[0x60]));
     }
-    Ok(())
 }
 
 /// Asserts how a hasher folds peaks and each of its digests, `key` being what they have in common.
@@ -79,20 +73,19 @@ fn assert_hashers<H: Hasher<Family, Digest = Xor8Digest> + Drop>(
     hasher: H,
     bagging: Bagging,
     key: u8,
-) -> Result<(), Fail> {
+) {
     assert_hasher(rt, &hasher, bagging, key);
     assert_hasher(rt, &&hasher, bagging, key);
-    assert_hasher(rt, &hasher.clone()?, bagging, key);
-    Ok(())
+    let copy = hasher.clone().ok().expect(rt, "memory");
+    assert_hasher(rt, &copy, bagging, key);
 }
 
 #[test]
-fn digests(rt: HostRuntime) -> Result<(), Fail> {
+fn digests(rt: HostRuntime) {
     for bagging in [Bagging::ForwardFold, Bagging::BackwardFold] {
-        assert_hashers(&rt, Standard::<Xor8>::new(bagging), bagging, 0)?;
-        assert_hashers(&rt, Keyed::new(0x50, bagging), bagging, 0x50)?;
+        assert_hashers(&rt, Standard::<Xor8>::new(bagging), bagging, 0);
+        assert_hashers(&rt, Keyed::new(0x50, bagging), bagging, 0x50);
     }
-    Ok(())
 }
 
 /// The root of `leaves` leaves over peaks of which some are folded to the first of these, and the others follow.

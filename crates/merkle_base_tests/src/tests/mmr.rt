@@ -4,7 +4,6 @@ use super::{assert_refusals, assert_sums, has_chunk, root_of};
 use merkle_base::family::Family;
 use merkle_topology::mmr;
 use merkle_topology::mmr::PeakIterator;
-use std::test::Fail;
 
 const MAX_NODES: u64 = 9223372036854775807;
 
@@ -29,10 +28,11 @@ fn peaks(rt: HostRuntime) {
 }
 
 #[test]
-fn parents(rt: HostRuntime) -> Result<(), Fail> {
-    let heights: Vec<u32> = mmr::Family::parent_heights(mmr::Location::new(3)).collect(rt.alloc())?;
+fn parents(rt: HostRuntime) {
+    let heights = mmr::Family::parent_heights(mmr::Location::new(3));
+    let heights: Option<Vec<u32>> = heights.collect(rt.alloc()).ok();
+    let heights = heights.expect(&rt, "memory");
     assert!(rt; heights.as_slice() == [1, 2].as_slice());
-    Ok(())
 }
 
 #[test]

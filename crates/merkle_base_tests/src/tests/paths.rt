@@ -7,7 +7,6 @@ use merkle_base::position::Position;
 use merkle_fixtures::pairs;
 use merkle_leaves::path::Iterator;
 use merkle_topology::{mmb, mmr};
-use std::test::Fail;
 
 /// Whether a path has these items: a node, its other child, and its height.
 fn has_items<F: Family>(path: Iterator<F>, items: &[(u64, u64, u32)]) -> bool {
@@ -68,14 +67,17 @@ fn leaf_of_a_pair(rt: HostRuntime) {
 }
 
 #[test]
-fn rest_of_a_path(rt: HostRuntime) -> Result<(), Fail> {
+fn rest_of_a_path(rt: HostRuntime) {
     let mut path = under_six(2);
-    let whole = format!(in rt.alloc(); "{path:?}")?;
+    let whole = format!(in rt.alloc(); "{path:?}")
+        .ok()
+        .expect(&rt, "memory");
     let is_first = path.next().is_some();
-    let rest = format!(in rt.alloc(); "{path:?}")?;
+    let rest = format!(in rt.alloc(); "{path:?}")
+        .ok()
+        .expect(&rt, "memory");
     assert!(rt; whole.as_str().starts_with(WHOLE), "{whole}");
     assert!(rt; rest.as_str().starts_with(REST) && is_first, "{rest}");
-    Ok(())
 }
 
 const WHOLE: &str =

@@ -2,7 +2,7 @@
 
 use merkle_commands::hex_words::{HexError, is_hex_word, read_hex, write_hex};
 use std::alloc::Global;
-use std::test::Fail;
+use std::process::Abort;
 
 /// Whether a word is refused as no bytes.
 fn is_refused(alloc: Global, word: &str) -> bool {
@@ -32,12 +32,12 @@ fn hex_words(rt: HostRuntime) {
 const NO_DIGITS: [&str; 6] = ["/", ":", "@", "G", "`", "g"];
 
 /// Returns a word of so many bytes, all of them the digit `d` but the one at `place`, if there is one there.
-fn word_with(alloc: Global, length: usize, place: usize, byte: &str) -> Result<String, Fail> {
-    let mut word = String::new(alloc);
+fn word_with(rt: &(impl Abort + AllocGlobal), length: usize, place: usize, byte: &str) -> String {
+    let mut word = String::new(rt.alloc());
     for at in 0..length {
-        word.push_str(if at == place { byte } else { "d" })?;
+        assert!(rt; word.push_str(if at == place { byte } else { "d" }).is_ok());
     }
-    Ok(word)
+    word
 }
 
 /// Whether a word is decoded, and its bytes are encoded as the same word.
@@ -50,18 +50,17 @@ fn is_kept(alloc: Global, word: &str) -> bool {
 
 // A word is tested 64 bytes at a time.
 #[test]
-fn long_hex_words(rt: HostRuntime) -> Result<(), Fail> {
+fn long_hex_words(rt: HostRuntime) {
     for length in [62, 64, 66, 126, 128, 130] {
-        let word = word_with(rt.alloc(), length, length, "")?;
+        let word = word_with(&rt, length, length, "");
         assert!(rt; is_hex_word(word.as_str()), "{length}");
         for place in 0..length {
             for byte in &NO_DIGITS {
-                let word = word_with(rt.alloc(), length, place, byte)?;
+                let word = word_with(&rt, length, place, byte);
                 assert!(rt; is_refused(rt.alloc(), word.as_str()), "{word}");
             }
-            let word = word_with(rt.alloc(), length, place, "0")?;
+            let word = word_with(&rt, length, place, "0");
             assert!(rt; is_kept(rt.alloc(), word.as_str()), "{word}");
         }
     }
-    Ok(())
 }

@@ -6,7 +6,6 @@ use merkle_core::digest::{Digest, Sha256Digest, Xor8Digest};
 use merkle_core::error::DecodeError;
 use merkle_core::family::{PendingChunk, Unused};
 use std::alloc::Global;
-use std::test::Fail;
 
 // The one digest of this type is the byte 07. No other bytes spell one.
 #[derive(Clone, Copy, PartialEq, Eq, Debug)]
@@ -55,41 +54,38 @@ impl Digest for SevenDigest {
 }
 
 /// Whether a chunk is appended as this spelling, and read back with what follows left unread.
-fn is_spelled<D, C: PendingChunk<D>>(
-    alloc: Global,
-    chunk: &C,
-    spelling: &[u8],
-) -> Result<bool, Fail> {
-    let mut out = vec![in alloc; 9]?;
-    if chunk.write(&mut out).is_err() {
-        return Ok(false);
+fn is_spelled<D, C: PendingChunk<D>>(alloc: Global, chunk: &C, spelling: &[u8]) -> bool {
+    let mut out = Vec::new(alloc);
+    if out.push(9).is_err() || chunk.write(&mut out).is_err() {
+        return false;
     }
     let is_counted = chunk.encode_size() == spelling.len();
     let is_appended = out.as_slice().strip_prefix(&[9]) == Some(spelling);
-    out.extend_from_slice(&[1, 2])?;
+    if out.extend_from_slice(&[1, 2]).is_err() {
+        return false;
+    }
     let mut input = &out[1..];
     let is_read = matches!(C::read(alloc, &mut input, &()), Ok(read) if read == *chunk);
     let is_left = input == [1, 2].as_slice();
-    Ok([is_counted, is_appended, is_read, is_left] == [true; 4])
+    [is_counted, is_appended, is_read, is_left] == [true; 4]
 }
 
 #[test]
-fn spellings(rt: HostRuntime) -> Result<(), Fail> {
+fn spellings(rt: HostRuntime) {
     let alloc = rt.alloc();
     let mut long = [5; 33];
     long[0] = 1;
     let xor8 = Xor8Digest::from_bytes(&[7]);
     let sha256 = Sha256Digest::from_bytes(&[5; 32]);
     let found = [
-        is_spelled::<Xor8Digest, _>(alloc, &xor8, &[1, 7])?,
-        is_spelled::<Xor8Digest, _>(alloc, &None::<Xor8Digest>, &[0])?,
-        is_spelled::<Sha256Digest, _>(alloc, &sha256, &long)?,
-        is_spelled::<Sha256Digest, _>(alloc, &None::<Sha256Digest>, &[0])?,
-        is_spelled::<SevenDigest, _>(alloc, &Some(SevenDigest), &[1, 7])?,
-        is_spelled::<Xor8Digest, _>(alloc, &Unused, &[])?,
+        is_spelled::<Xor8Digest, _>(alloc, &xor8, &[1, 7]),
+        is_spelled::<Xor8Digest, _>(alloc, &None::<Xor8Digest>, &[0]),
+        is_spelled::<Sha256Digest, _>(alloc, &sha256, &long),
+        is_spelled::<Sha256Digest, _>(alloc, &None::<Sha256Digest>, &[0]),
+        is_spelled::<SevenDigest, _>(alloc, &Some(SevenDigest), &[1, 7]),
+        is_spelled::<Xor8Digest, _>(alloc, &Unused, &[]),
     ];
     assert!(rt; found == [true; 6]);
-    Ok(())
 }
 
 /// What a caller knows of an option of a digest: each refusal says what is wrong with the bytes.
@@ -149,13 +145,13 @@ fn refused_options(rt: HostRuntime) {
 }
 
 #[test]
-fn held_digests(rt: HostRuntime) -> Result<(), Fail> {
+fn held_digests(rt: HostRuntime) {
     let digest = Xor8Digest::from_bytes(&[7]);
+    let unused = Unused.clone().ok().expect(&rt, "memory");
     let held = [
         PendingChunk::as_ref(&digest).copied(),
         PendingChunk::as_ref(&None).copied(),
-        PendingChunk::as_ref(&Unused.clone()?).copied(),
+        PendingChunk::as_ref(&unused).copied(),
     ];
     assert!(rt; held == [digest, None, None]);
-    Ok(())
 }

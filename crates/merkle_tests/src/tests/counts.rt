@@ -10,7 +10,6 @@ use merkle_core::mem::Mem;
 use merkle_core::mmr;
 use merkle_fixtures::counting::Counting;
 use std::cell::Cell;
-use std::test::Fail;
 
 /// The batch with other elements for some leaves; `None` where a call is refused.
 fn with_changes<F: Family, H: Hasher<F>>(
@@ -45,7 +44,7 @@ fn nodes_computed<F: Family, H: Hasher<F>>(
 }
 
 #[test]
-fn calls_of_a_hasher(rt: HostRuntime) -> Result<(), Fail> {
+fn calls_of_a_hasher(rt: HostRuntime) {
     let (pairs, singles, leaves) = (Cell::new(0), Cell::new(0), Cell::new(0));
     let hasher = Counting {
         bagging: Bagging::ForwardFold,
@@ -55,12 +54,11 @@ fn calls_of_a_hasher(rt: HostRuntime) -> Result<(), Fail> {
         positions: &[],
     };
     let plain = Standard::<Xor8>::new(Bagging::ForwardFold);
-    let elements = repeated(rt.alloc(), &[7], 8)?;
+    let elements = repeated(rt.alloc(), &[7], 8).ok().expect(&rt, "memory");
     let structure = structure_of::<mmr::Family, _>(rt.alloc(), &plain, &elements);
     let structure = structure.expect(&rt, "no refusal");
     // four nodes of height 1 and two of height 2 in pairs, and the peak
     let counted = nodes_computed(&structure, &hasher, &[0, 1, 2, 3, 4, 5, 6, 7]);
     assert_eq!(rt; counted, Some(7));
     assert_eq!(rt; (pairs.get(), singles.get()), (3, 1));
-    Ok(())
 }

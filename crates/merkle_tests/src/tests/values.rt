@@ -17,7 +17,11 @@ use std::alloc::Global;
 use std::fmt::Debug;
 use std::process::Abort;
 use std::rc::Rc;
-use std::test::Fail;
+
+/// These digests.
+fn list(rt: &(impl Abort + AllocGlobal), digests: &[Xor8Digest]) -> Vec<Xor8Digest> {
+    digests.to_vec(rt.alloc()).ok().expect(rt, "memory")
+}
 
 /// The batch without changes to a structure; `None` where it is refused.
 fn without_changes<F: Family, D: Digest>(
@@ -78,50 +82,49 @@ fn nodes_of<R: Readable<Digest = Xor8Digest>>(value: &R) -> (u64, [Option<Xor8Di
 }
 
 #[test]
-fn structure_read_as_any_other(rt: HostRuntime) -> Result<(), Fail> {
+fn structure_read_as_any_other(rt: HostRuntime) {
     let structure = two_leaves(rt.alloc()).expect(&rt, "no refusal");
-    let copy = nodes_of(&structure.clone()?);
-    let shared = nodes_of(&Rc::new(rt.alloc(), structure)?);
+    let copy = structure.clone().ok().expect(&rt, "memory");
+    let shared = Rc::new(rt.alloc(), structure).ok().expect(&rt, "memory");
     let nodes = [
         Some(digest(&rt, 1)),
         Some(digest(&rt, 3)),
         Some(digest(&rt, 0)),
         None,
     ];
-    assert!(rt; copy == (3, nodes));
-    assert!(rt; shared == (3, nodes));
-    Ok(())
+    assert!(rt; nodes_of(&copy) == (3, nodes));
+    assert!(rt; nodes_of(&shared) == (3, nodes));
 }
 
 const STRUCTURE: &str =
     "Mem { held: HeldNodes { start: Position(0), pins: {}, nodes: [Xor8Digest { byte: 1 }, Xor8Digest { byte: 3 }, Xor8Digest { byte: 0 }] }";
 
 #[test]
-fn what_is_printed_of_a_structure(rt: HostRuntime) -> Result<(), Fail> {
+fn what_is_printed_of_a_structure(rt: HostRuntime) {
     let structure = two_leaves(rt.alloc()).expect(&rt, "no refusal");
-    assert_prints(&rt, rt.alloc(), &structure, STRUCTURE)
+    assert_prints(&rt, rt.alloc(), &structure, STRUCTURE);
 }
 
 #[test]
-fn what_is_printed_of_a_batch(rt: HostRuntime) -> Result<(), Fail> {
+fn what_is_printed_of_a_batch(rt: HostRuntime) {
     let structure: Mmr<Xor8Digest> = Mem::new(rt.alloc());
     let batch = without_changes(&structure).expect(&rt, "no refusal");
     let start = "MerkleizedBatch { own: Record { size_before: Position(0)";
-    assert_prints(&rt, rt.alloc(), &batch, start)
+    assert_prints(&rt, rt.alloc(), &batch, start);
 }
 
 const PARTS: &str =
     "Config { nodes: [Xor8Digest { byte: 5 }], pruning_boundary: Location(1), pinned_nodes: [Xor8Digest { byte: 7 }] }";
 
 #[test]
-fn what_is_printed_of_parts(rt: HostRuntime) -> Result<(), Fail> {
+fn what_is_printed_of_parts(rt: HostRuntime) {
     let (five, seven) = (digest(&rt, 5), digest(&rt, 7));
     let parts = Config {
-        nodes: vec![in rt.alloc(); five]?,
+        nodes: list(&rt, &[five]),
         pruning_boundary: Location::new(1),
-        pinned_nodes: vec![in rt.alloc(); seven]?,
+        pinned_nodes: list(&rt, &[seven]),
     };
-    assert_prints(&rt, rt.alloc(), &parts, PARTS)
+    assert_prints(&rt, rt.alloc(), &parts, PARTS);
 }
 
 /// Whether a proof is equal to that of these parts; `None` where there is no memory for that.
@@ -144,18 +147,19 @@ fn has_parts(
 }
 
 #[test]
-fn proofs_and_their_copies(rt: HostRuntime) -> Result<(), Fail> {
+fn proofs_and_their_copies(rt: HostRuntime) {
     let alloc = rt.alloc();
     let (three, seven) = (digest(&rt, 3), digest(&rt, 7));
     let proof = Proof {
         leaves: Location::new(3),
         inactive_peaks: 1,
-        digests: vec![in alloc; seven, three]?,
+        digests: list(&rt, &[seven, three]),
     };
+    let copy = proof.clone().ok().expect(&rt, "memory");
     let same = [
         has_parts(alloc, &Proof::empty(alloc), 0, 0, &[]),
         has_parts(alloc, &proof, 3, 1, &[seven, three]),
-        has_parts(alloc, &proof.clone()?, 3, 1, &[seven, three]),
+        has_parts(alloc, &copy, 3, 1, &[seven, three]),
     ];
     let other = [
         has_parts(alloc, &proof, 4, 1, &[seven, three]),
@@ -165,37 +169,36 @@ fn proofs_and_their_copies(rt: HostRuntime) -> Result<(), Fail> {
     ];
     assert!(rt; same == [Some(true); 3]);
     assert!(rt; other == [Some(false); 4]);
-    Ok(())
 }
 
 #[test]
-fn what_is_printed_of_errors(rt: HostRuntime) -> Result<(), Fail> {
+fn what_is_printed_of_errors(rt: HostRuntime) {
     let alloc = rt.alloc();
     let error = Error::<mmr::Family>::LocationOverflow(Location::new(7));
-    assert_prints(&rt, alloc, &error, "LocationOverflow(Location(7))")?;
-    assert_prints(&rt, alloc, &ReconstructionError::InvalidSize, "InvalidSize")?;
-    assert_prints(&rt, alloc, &OutOfMemory, "OutOfMemory")
+    assert_prints(&rt, alloc, &error, "LocationOverflow(Location(7))");
+    assert_prints(&rt, alloc, &ReconstructionError::InvalidSize, "InvalidSize");
+    assert_prints(&rt, alloc, &OutOfMemory, "OutOfMemory");
 }
 
 #[test]
-fn what_is_printed_of_a_proof(rt: HostRuntime) -> Result<(), Fail> {
+fn what_is_printed_of_a_proof(rt: HostRuntime) {
     let proof = Proof {
         leaves: Location::new(3),
         inactive_peaks: 1,
-        digests: vec![in rt.alloc(); digest(&rt, 7)]?,
+        digests: list(&rt, &[digest(&rt, 7)]),
     };
     let start = "Proof { leaves: Location(3), inactive_peaks: 1, digests: [Xor8Digest { byte: 7 }]";
-    assert_prints(&rt, rt.alloc(), &proof, start)
+    assert_prints(&rt, rt.alloc(), &proof, start);
 }
 
 #[test]
-fn what_is_printed_of_plans(rt: HostRuntime) -> Result<(), Fail> {
+fn what_is_printed_of_plans(rt: HostRuntime) {
     let alloc = rt.alloc();
     let (leaves, first) = (Location::new(3), Location::new(0));
     let range = RangePlan::new(alloc, leaves, first..leaves)
         .ok()
         .expect(&rt, "no refusal");
-    assert_prints(&rt, alloc, &range, "RangePlan { leaves: Location(3)")?;
+    assert_prints(&rt, alloc, &range, "RangePlan { leaves: Location(3)");
     let leaf = ElementPlan::new(alloc, leaves, first)
         .ok()
         .expect(&rt, "no refusal");
@@ -204,24 +207,20 @@ fn what_is_printed_of_plans(rt: HostRuntime) -> Result<(), Fail> {
         alloc,
         &leaf,
         "ElementPlan { plan: RangePlan { leaves: Location(3)",
-    )
+    );
 }
 
 /// Asserts that a marker is equal to its copy, and what is printed of it.
-fn assert_marker<T: Copy + Eq + Debug + Default>(
-    rt: &impl Abort,
-    alloc: Global,
-    text: &str,
-) -> Result<(), Fail> {
+fn assert_marker<T: Copy + Eq + Debug + Default>(rt: &impl Abort, alloc: Global, text: &str) {
     let marker = T::default();
     let copy = marker;
     assert!(rt; marker == copy);
-    assert_prints(rt, alloc, &copy, text)
+    assert_prints(rt, alloc, &copy, text);
 }
 
 #[test]
-fn markers(rt: HostRuntime) -> Result<(), Fail> {
-    assert_marker::<mmr::Family>(&rt, rt.alloc(), "Family")?;
-    assert_marker::<mmb::Family>(&rt, rt.alloc(), "Family")?;
-    assert_marker::<Unused>(&rt, rt.alloc(), "Unused")
+fn markers(rt: HostRuntime) {
+    assert_marker::<mmr::Family>(&rt, rt.alloc(), "Family");
+    assert_marker::<mmb::Family>(&rt, rt.alloc(), "Family");
+    assert_marker::<Unused>(&rt, rt.alloc(), "Unused");
 }

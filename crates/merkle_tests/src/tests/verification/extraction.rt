@@ -13,7 +13,6 @@ use merkle_fixtures::fours::Fours;
 use std::alloc::Global;
 use std::cell::Cell;
 use std::process::Abort;
-use std::test::Fail;
 
 /// How many leaves the structures have.
 const LEAVES: u64 = 1100;
@@ -95,7 +94,7 @@ fn assert_extracted<F: Family, H: Hasher<F>>(
     hasher: &H,
     start: u64,
     count: u64,
-) -> Result<(), Fail> {
+) {
     let end = start.saturating_add(count);
     let pairs = extracted(rt.alloc(), structure, hasher, start, end);
     let pairs = pairs.expect(rt, "no refusal");
@@ -107,34 +106,29 @@ fn assert_extracted<F: Family, H: Hasher<F>>(
     for (position, digest) in &pairs {
         assert!(rt; structure.get_node(*position) == Some(*digest));
     }
-    Ok(())
 }
 
 /// Asserts that of ranges from an even and from an odd leaf on, with lengths next to those from which
 /// on, and up to which, the nodes below a node are computed together.
-fn assert_ranges<F: Family, H: Hasher<F>>(
-    rt: &(impl Abort + AllocGlobal),
-    hasher: &H,
-) -> Result<(), Fail> {
+fn assert_ranges<F: Family, H: Hasher<F>>(rt: &(impl Abort + AllocGlobal), hasher: &H) {
     let structure = structure_of_all(rt.alloc(), hasher).expect(rt, "no refusal");
     for start in [256, 301] {
         for count in &[1, 2, 7, 8, 9, 255, 256, 257, 600] {
-            assert_extracted(rt, &structure, hasher, start, *count)?;
+            assert_extracted(rt, &structure, hasher, start, *count);
         }
     }
-    Ok(())
 }
 
 #[test]
-fn extracted_from_a_mountain_range(rt: HostRuntime) -> Result<(), Fail> {
+fn extracted_from_a_mountain_range(rt: HostRuntime) {
     let sha256 = Standard::<Sha256Plain>::new(Bagging::ForwardFold);
-    assert_ranges::<mmr::Family, _>(&rt, &sha256)
+    assert_ranges::<mmr::Family, _>(&rt, &sha256);
 }
 
 #[test]
-fn extracted_from_a_mountain_belt(rt: HostRuntime) -> Result<(), Fail> {
+fn extracted_from_a_mountain_belt(rt: HostRuntime) {
     let sha256 = Standard::<Sha256Plain>::new(Bagging::ForwardFold);
-    assert_ranges::<mmb::Family, _>(&rt, &sha256)
+    assert_ranges::<mmb::Family, _>(&rt, &sha256);
 }
 
 /// Extracts the leaves from `start` up to `end` of 1,100 by a hasher, and asserts how many pairs they are.

@@ -10,7 +10,6 @@ use merkle_core::mmr::{Error, Family, Location, Position};
 use merkle_core::read::Readable;
 use merkle_core::verification::{multi_proof, range_proof};
 use std::process::Abort;
-use std::test::Fail;
 
 /// The nodes up to position 3, and a size.
 #[derive(Drop)]
@@ -60,7 +59,7 @@ fn three_leaves(rt: &impl Abort) -> Nodes {
 }
 
 #[test]
-fn refusals(rt: HostRuntime) -> Result<(), Fail> {
+fn refusals(rt: HostRuntime) {
     let mut nodes = three_leaves(&rt);
     let hasher = Standard::<Xor8>::new(Bagging::ForwardFold);
     nodes.held[1] = None;
@@ -83,5 +82,4 @@ fn refusals(rt: HostRuntime) -> Result<(), Fail> {
     assert!(rt;
         matches!(&refused, Err(Error::PositionOverflow(size)) if *size == Position::new(u64::MAX))
     );
-    Ok(())
 }
