@@ -253,8 +253,9 @@ fn exclusive_or_of_parts(rt: HostRuntime) {
         first,
         second,
     ];
-    let bytes = found.map(|digest| digest.as_bytes()[0]);
-    assert!(rt; bytes == [7, 255, 0, 7, 0]);
+    for (digest, byte) in found.iter().zip([7, 255, 0, 7, 0].iter()) {
+        assert!(rt; digest.as_bytes() == [*byte].as_slice());
+    }
     let three = Xor8::hash_three(&EMPTY_PARTS, &[&[1, 2], &[4]], &[&[1, 3], &[2, 255]]);
     assert!(rt; three == (found[2], found[0], found[1]));
 }
