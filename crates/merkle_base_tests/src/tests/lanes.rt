@@ -8,7 +8,8 @@ fn assert_digests(
     digests: ([u8; 32], [u8; 32], [u8; 32], [u8; 32]),
     wanted: [&str; 4],
 ) {
-    let digests = [digests.0, digests.1, digests.2, digests.3];
+    let (a, b, c, d) = digests;
+    let digests = [a, b, c, d];
     for (digest, digits) in digests.iter().zip(wanted.iter()) {
         let shown = hex::encode(rt.alloc(), digest).ok().expect(rt, "memory");
         assert_eq!(rt; shown.as_str(), *digits);
