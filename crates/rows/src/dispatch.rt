@@ -3,8 +3,8 @@
 use crate::audits;
 use merkle_core::family::Family;
 use merkle_core::hasher::Hasher;
-use rows_structures::choices::{Familiar, Hashed};
-use rows_structures::world::World;
+use rows_calls::choices::{Familiar, Hashed};
+use rows_calls::world::World;
 use rows_text::answer::Answer;
 use rows_text::calls::Call;
 use rows_text::refusal::{Refusal, SYNTAX};
@@ -20,20 +20,20 @@ fn answer_world<F: Family, H: Hasher<F> + Drop>(
     let mut words = Words::new(world.alloc, words);
     let words = &mut words;
     match call {
-        Call::Family(call) => rows_given::calls::answer_family::<F, H>(call, words, answer)?,
+        Call::Family(call) => rows_calls::calls::answer_family::<F, H>(call, words, answer)?,
         Call::Plan(call) => {
-            rows_given::calls::answer_plan::<F, H>(&world.hasher, call, words, answer)?
+            rows_calls::calls::answer_plan::<F, H>(&world.hasher, call, words, answer)?
         }
         Call::Given(call) => {
-            rows_given::calls::answer::<F, H>(&world.hasher, call, words, answer)?
+            rows_calls::calls::answer_given::<F, H>(&world.hasher, call, words, answer)?
         }
         Call::Bytes(call) => {
-            rows_given::calls::answer_bytes::<F, H>(&world.hasher, call, words, answer)?
+            rows_calls::calls::answer_bytes::<F, H>(&world.hasher, call, words, answer)?
         }
-        Call::Structure(call) => rows_structures::calls::answer(world, call, words, answer)?,
-        Call::Node(call) => rows_structures::calls::answer_node(world, call, words, answer)?,
-        Call::Batch(call) => rows_structures::calls::answer_batch(world, call, words, answer)?,
-        Call::Leaf(call) => rows_structures::calls::answer_leaf(world, call, words)?,
+        Call::Structure(call) => rows_calls::calls::answer_structure(world, call, words, answer)?,
+        Call::Node(call) => rows_calls::calls::answer_node(world, call, words, answer)?,
+        Call::Batch(call) => rows_calls::calls::answer_batch(world, call, words, answer)?,
+        Call::Leaf(call) => rows_calls::calls::answer_leaf(world, call, words)?,
         Call::Proof(call) => rows_proofs::calls::answer(world, call, words, answer)?,
         Call::Store(call) => rows_proofs::calls::answer_store(world, call, words, answer)?,
         Call::Every(call) => rows_proofs::calls::answer_every(world, call, words, answer)?,

@@ -1,7 +1,7 @@
 //! What the lines so far have made, and the answer to a line.
 
 use crate::dispatch;
-use rows_structures::choices::Choices;
+use rows_calls::choices::Choices;
 use rows_text::answer::Answer;
 use rows_text::calls::{Call, find_call};
 use rows_text::refusal::{Refusal, SYNTAX};

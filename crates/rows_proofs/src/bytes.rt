@@ -9,7 +9,7 @@ use merkle_core::hasher::Hasher;
 use merkle_core::location::Location;
 use merkle_core::mem::Mem;
 use merkle_core::proof::{MAX_PROOF_DIGESTS_PER_ELEMENT, Proof};
-use rows_given::refusal::granted;
+use rows_calls::refusal::granted;
 use rows_text::refusal::{OUT_OF_MEMORY, Refusal};
 use std::alloc::Global;
 

@@ -3,10 +3,10 @@
 use merkle_core::family::Family;
 use merkle_core::hasher::Hasher;
 use merkle_core::location::Location;
-use rows_given::refusal::granted;
-use rows_given::values;
-use rows_given::writing::write_proof;
-use rows_structures::world::World;
+use rows_calls::refusal::granted;
+use rows_calls::values;
+use rows_calls::world::World;
+use rows_calls::writing::write_proof;
 use rows_text::answer::Answer;
 use rows_text::refusal::Refusal;
 use rows_text::words::{Words, named};

@@ -6,9 +6,9 @@ use merkle_core::hasher::Hasher;
 use merkle_core::location::Location;
 use merkle_core::mem::Mem;
 use merkle_core::proof::Proof;
-use rows_given::changes::changed;
-use rows_given::checks::{accepts_leaf, accepts_range};
-use rows_given::refusal::granted;
+use rows_calls::changes::changed;
+use rows_calls::checks::{accepts_leaf, accepts_range};
+use rows_calls::refusal::granted;
 use rows_text::refusal::Refusal;
 use std::alloc::Global;
 

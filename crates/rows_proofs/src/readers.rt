@@ -3,8 +3,8 @@
 use merkle_core::batch::MerkleizedBatch;
 use merkle_core::family::Family;
 use merkle_core::hasher::Hasher;
-use rows_given::readers::{history_over, multi_over, range_over};
-use rows_structures::world::World;
+use rows_calls::readers::{history_over, multi_over, range_over};
+use rows_calls::world::World;
 use rows_text::answer::Answer;
 use rows_text::refusal::Refusal;
 use rows_text::words::{Words, named};

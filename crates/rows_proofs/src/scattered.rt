@@ -5,7 +5,7 @@ use merkle_core::family::Family;
 use merkle_core::location::Location;
 use merkle_core::mem::Mem;
 use merkle_core::proof::{Proof, multi_proof_positions};
-use rows_given::refusal::granted;
+use rows_calls::refusal::granted;
 use rows_text::refusal::Refusal;
 use std::alloc::Global;
 

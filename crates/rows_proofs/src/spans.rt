@@ -1,6 +1,6 @@
 //! The ranges of a structure's elements.
 
-use rows_given::MOST_PEAKS;
+use rows_calls::MOST_PEAKS;
 use rows_text::refusal::Refusal;
 use std::alloc::Global;
 

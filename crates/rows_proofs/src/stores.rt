@@ -3,11 +3,11 @@
 use merkle_core::family::Family;
 use merkle_core::hasher::Hasher;
 use merkle_core::position::Position;
-use rows_given::proofs::new_store;
-use rows_given::refusal::granted;
-use rows_given::values::{locations, pairs, range};
-use rows_given::writing::{write_node, write_positions, write_proof};
-use rows_structures::world::World;
+use rows_calls::proofs::new_store;
+use rows_calls::refusal::granted;
+use rows_calls::values::{locations, pairs, range};
+use rows_calls::world::World;
+use rows_calls::writing::{write_node, write_positions, write_proof};
 use rows_text::answer::Answer;
 use rows_text::refusal::Refusal;
 use rows_text::words::{Words, give_name, named};

@@ -1,10 +1,10 @@
 //! Words as digests, locations, ranges and proofs.
 
-use merkle_base::family::Family;
-use merkle_base::location::Location;
-use merkle_base::position::Position;
-use merkle_digest::digest::Digest;
-use merkle_proof::proof::Proof;
+use merkle_core::digest::Digest;
+use merkle_core::family::Family;
+use merkle_core::location::Location;
+use merkle_core::position::Position;
+use merkle_core::proof::Proof;
 use rows_text::words::Words;
 use std::ops::Range;
 

@@ -2,14 +2,14 @@
 
 use crate::values::{digest, proof};
 use crate::writing;
-use merkle_base::error::DecodeError;
-use merkle_base::family::Family;
-use merkle_base::location::Location;
-use merkle_base::position::Position;
-use merkle_codec::codec::{Read, Write};
 use merkle_commands::hex_words::{HexError, read_hex, write_hex};
-use merkle_digest::digest::Digest;
-use merkle_proof::proof::Proof;
+use merkle_core::codec::{Read, Write};
+use merkle_core::digest::Digest;
+use merkle_core::error::DecodeError;
+use merkle_core::family::Family;
+use merkle_core::location::Location;
+use merkle_core::position::Position;
+use merkle_core::proof::Proof;
 use rows_text::answer::Answer;
 use rows_text::refusal::{OUT_OF_MEMORY, Refusal, SYNTAX};
 use rows_text::words::Words;

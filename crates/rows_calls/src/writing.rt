@@ -1,10 +1,10 @@
 //! Values as text.
 
-use merkle_base::family::Family;
-use merkle_base::position::Position;
-use merkle_digest::digest::Digest;
-use merkle_hasher::read::Readable;
-use merkle_proof::proof::Proof;
+use merkle_core::digest::Digest;
+use merkle_core::family::Family;
+use merkle_core::position::Position;
+use merkle_core::proof::Proof;
+use merkle_core::read::Readable;
 use rows_text::answer::Answer;
 
 /// The greatest number of nodes that is written.

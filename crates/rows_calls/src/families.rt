@@ -2,11 +2,11 @@
 ghost use Rattle.std.specs.Prelude.{◌≤◌, IfOk};
 
 use crate::writing::write_positions;
-use merkle_base::family::Family;
-use merkle_base::location::Location;
-use merkle_base::position::Position;
-use merkle_digest::digest::Digest;
-use merkle_proof::proof::Proof;
+use merkle_core::digest::Digest;
+use merkle_core::family::Family;
+use merkle_core::location::Location;
+use merkle_core::position::Position;
+use merkle_core::proof::Proof;
 use rows_text::answer::Answer;
 use rows_text::refusal::Refusal;
 use rows_text::words::Words;

@@ -2,13 +2,12 @@
 
 use crate::values::digests;
 use crate::writing::write_digests;
-use merkle_base::family::Family;
-use merkle_base::location::Location;
-use merkle_base::position::Position;
-use merkle_digest::digest::Digest;
-use merkle_hasher::hasher::{self, Hasher};
-use merkle_hasher::nodes;
-use merkle_leaves::leaves;
+use merkle_core::digest::Digest;
+use merkle_core::family::Family;
+use merkle_core::hasher::{self, Hasher};
+use merkle_core::location::Location;
+use merkle_core::position::Position;
+use merkle_core::{leaves, nodes};
 use rows_text::answer::Answer;
 use rows_text::refusal::{OUT_OF_MEMORY, Refusal, SYNTAX};
 use rows_text::words::Words;

@@ -1,7 +1,7 @@
 //! What is written for the errors of structures.
 
-use merkle_base::error::{Error, ReconstructionError};
-use merkle_base::family::Family;
+use merkle_core::error::{Error, ReconstructionError};
+use merkle_core::family::Family;
 use rows_text::refusal::{OUT_OF_MEMORY, Refusal};
 
 /// What is written for an error of a structure.

@@ -1,9 +1,9 @@
 //! Whether proofs are accepted.
 
-use merkle_base::family::Family;
-use merkle_base::location::Location;
-use merkle_hasher::hasher::Hasher;
-use merkle_proof::proof::Proof;
+use merkle_core::family::Family;
+use merkle_core::hasher::Hasher;
+use merkle_core::location::Location;
+use merkle_core::proof::Proof;
 use rows_text::refusal::{OUT_OF_MEMORY, Refusal};
 use rows_text::words::LocatedBytes;
 use std::alloc::Global;

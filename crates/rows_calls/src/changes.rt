@@ -1,6 +1,6 @@
 //! Elements and digests with a change.
 
-use merkle_digest::digest::Digest;
+use merkle_core::digest::Digest;
 use rows_text::refusal::{Refusal, SYNTAX};
 use std::alloc::Global;
 

@@ -1,0 +1,175 @@
+//! Which function answers a call.
+
+use crate::world::World;
+use crate::{batches, codec, digests, families, leaves, nodes, plans, proofs, readers, structures};
+use merkle_core::family::Family;
+use merkle_core::hasher::Hasher;
+use rows_text::answer::Answer;
+use rows_text::calls::{
+    BatchCall, BytesCall, FamilyCall, GivenCall, LeafCall, NodeCall, PlanCall, StructureCall,
+};
+use rows_text::refusal::Refusal;
+use rows_text::words::Words;
+
+/// Does what a call of the family says, and writes the answer. The words are those after the name of the call.
+pub fn answer_family<F: Family, H: Hasher<F>>(
+    call: FamilyCall,
+    words: &mut Words,
+    answer: &mut Answer,
+) -> Result<(), Refusal> {
+    match call {
+        FamilyCall::Height => families::height::<F>(words, answer),
+        FamilyCall::Inactive => families::inactive::<F>(words, answer),
+        FamilyCall::IsInactive => families::is_inactive::<F, H::Digest>(words, answer),
+        FamilyCall::IsSize => families::is_size::<F>(words, answer),
+        FamilyCall::Location => families::location::<F>(words, answer),
+        FamilyCall::NearestSize => families::nearest_size::<F>(words, answer),
+        FamilyCall::Pins => families::pins::<F>(words, answer),
+        FamilyCall::Position => families::position::<F>(words, answer),
+    }
+}
+
+/// The same for a call of a plan.
+pub fn answer_plan<F: Family, H: Hasher<F>>(
+    hasher: &H,
+    call: PlanCall,
+    words: &mut Words,
+    answer: &mut Answer,
+) -> Result<(), Refusal> {
+    match call {
+        PlanCall::Groups => plans::groups::<F, H>(hasher, words, answer),
+        PlanCall::Plan => plans::plan::<F>(words),
+        PlanCall::PlanAbove => plans::plan_above::<F, H>(hasher, words),
+        PlanCall::PlanLeaf => plans::plan_leaf::<F>(words, answer),
+        PlanCall::PlanLeafAbove => plans::plan_leaf_above::<F, H>(hasher, words),
+        PlanCall::Positions => plans::positions::<F>(words, answer),
+        PlanCall::PositionsLeaf => plans::positions_leaf::<F>(words, answer),
+    }
+}
+
+/// The same for a call of proofs and lists of nodes that the line gives.
+pub fn answer_given<F: Family, H: Hasher<F>>(
+    hasher: &H,
+    call: GivenCall,
+    words: &mut Words,
+    answer: &mut Answer,
+) -> Result<(), Refusal> {
+    match call {
+        GivenCall::Check => proofs::check::<F, H>(hasher, words, answer),
+        GivenCall::CheckLeaf => proofs::check_leaf::<F, H>(hasher, words, answer),
+        GivenCall::CheckMulti => proofs::check_multi::<F, H>(hasher, words, answer),
+        GivenCall::CheckPinned => proofs::check_pinned::<F, H>(hasher, words, answer),
+        GivenCall::Extract => proofs::extract::<F, H>(hasher, words, answer),
+        GivenCall::MultiPositions => proofs::multi_positions::<F>(words, answer),
+        GivenCall::Reconstruct => proofs::reconstruct::<F, H>(hasher, words, answer),
+        GivenCall::SliceHistory => readers::slice_history::<F, H>(hasher, words, answer),
+        GivenCall::SliceMulti => readers::slice_multi::<F, H::Digest>(words, answer),
+        GivenCall::SliceRange => readers::slice_range::<F, H>(hasher, words, answer),
+    }
+}
+
+/// The same for a call of bytes and digests.
+pub fn answer_bytes<F: Family, H: Hasher<F>>(
+    hasher: &H,
+    call: BytesCall,
+    words: &mut Words,
+    answer: &mut Answer,
+) -> Result<(), Refusal> {
+    match call {
+        BytesCall::CopyProof => codec::copy_proof::<F, H::Digest>(words, answer),
+        BytesCall::LeafDigests => digests::leaf_digests::<F, H>(hasher, words, answer),
+        BytesCall::NodeDigests => digests::node_digests::<F, H>(hasher, words, answer),
+        BytesCall::ReadHex => codec::decode(words, answer),
+        BytesCall::ReadProof => codec::read_proof::<F, H::Digest>(words, answer),
+        BytesCall::RootString => digests::root_string::<F, H>(hasher, words, answer),
+        BytesCall::WriteChunk => codec::write_chunk::<H::Digest>(words, answer),
+        BytesCall::WriteHex => codec::encode(words, answer),
+        BytesCall::WriteLocation => codec::write_location::<F>(words, answer),
+        BytesCall::WritePosition => codec::write_position::<F>(words, answer),
+        BytesCall::WriteProof => codec::write_proof::<F, H::Digest>(words, answer),
+    }
+}
+
+/// The same for a call of structures.
+pub fn answer_structure<F: Family, H: Hasher<F> + Drop>(
+    world: &mut World<F, H>,
+    call: StructureCall,
+    words: &mut Words,
+    answer: &mut Answer,
+) -> Result<(), Refusal> {
+    let name = words.word();
+    match call {
+        StructureCall::Bounds => structures::bounds(world, name, answer),
+        StructureCall::Copy => structures::copy(world, name, words.word()),
+        StructureCall::Empty => structures::empty(world, name),
+        StructureCall::FromComponents => structures::from_components(world, name, words),
+        StructureCall::Parts => structures::parts(world, name, words),
+        StructureCall::Peaks => structures::peaks(world, name, answer),
+        StructureCall::Prune => structures::prune(world, name, words),
+        StructureCall::PruneAll => structures::prune_all(world, name),
+        StructureCall::Same => structures::same(world, name, words.word(), answer),
+    }
+}
+
+/// The same for a call of nodes and roots.
+pub fn answer_node<F: Family, H: Hasher<F> + Drop>(
+    world: &World<F, H>,
+    call: NodeCall,
+    words: &mut Words,
+    answer: &mut Answer,
+) -> Result<(), Refusal> {
+    let name = words.word();
+    match call {
+        NodeCall::Leaves => nodes::leaves(world, name, answer),
+        NodeCall::Node => nodes::node(world, name, words, answer),
+        NodeCall::Nodes => nodes::nodes(world, name, answer),
+        NodeCall::Root => nodes::root(world, name, words, answer),
+        NodeCall::SameRoots => nodes::same_roots(world, name, words.word(), answer),
+        NodeCall::Size => nodes::size(world, name, answer),
+    }
+}
+
+/// The same for a call of batches.
+pub fn answer_batch<F: Family, H: Hasher<F> + Drop>(
+    world: &mut World<F, H>,
+    call: BatchCall,
+    words: &mut Words,
+    answer: &mut Answer,
+) -> Result<(), Refusal> {
+    let name = words.word();
+    match call {
+        BatchCall::Apply => batches::apply(world, name, words.word()),
+        BatchCall::Base => batches::base(world, name, answer),
+        BatchCall::Build => batches::build(world, name, words),
+        BatchCall::Child => batches::child(world, name, words.word()),
+        BatchCall::Forget => batches::forget(world, name, words),
+        BatchCall::Fork => batches::fork(world, name, words.word()),
+        BatchCall::FromMem => batches::from_mem(world, name, words.word()),
+        BatchCall::Merkleize => batches::merkleize(world, name, words.word()),
+        BatchCall::MerkleizeCounted => {
+            batches::merkleize_counted(world, name, words.word(), answer)
+        }
+        BatchCall::Pending => batches::pending(world, name, answer),
+    }
+}
+
+/// The same for a call of leaves.
+pub fn answer_leaf<F: Family, H: Hasher<F> + Drop>(
+    world: &mut World<F, H>,
+    call: LeafCall,
+    words: &mut Words,
+) -> Result<(), Refusal> {
+    let name = words.word();
+    match call {
+        LeafCall::Add => leaves::add(world, name, words),
+        LeafCall::AddAll => leaves::add_all(world, name, words),
+        LeafCall::AddDigest => leaves::add_digest(world, name, words),
+        LeafCall::AddDigests => leaves::add_digests(world, name, words),
+        LeafCall::AddList => leaves::add_list(world, name, words),
+        LeafCall::AddNumbers => leaves::add_numbers(world, name, words),
+        LeafCall::Update => leaves::update(world, name, words),
+        LeafCall::UpdateDigest => leaves::update_digest(world, name, words),
+        LeafCall::UpdateDigests => leaves::update_digests(world, name, words),
+        LeafCall::UpdateList => leaves::update_list(world, name, words),
+    }
+}
