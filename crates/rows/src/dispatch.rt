@@ -3,8 +3,10 @@
 use crate::audits;
 use merkle_core::family::Family;
 use merkle_core::hasher::Hasher;
+use rows_calls::calls;
 use rows_calls::choices::{Familiar, Hashed};
 use rows_calls::world::World;
+use rows_proofs::calls as proof_calls;
 use rows_text::answer::Answer;
 use rows_text::calls::Call;
 use rows_text::refusal::{Refusal, SYNTAX};
@@ -19,27 +21,22 @@ fn answer_world<F: Family, H: Hasher<F> + Drop>(
 ) -> Result<(), Refusal> {
     let mut words = Words::new(world.alloc, words);
     let words = &mut words;
-    match call {
-        Call::Family(call) => rows_calls::calls::answer_family::<F, H>(call, words, answer)?,
-        Call::Plan(call) => {
-            rows_calls::calls::answer_plan::<F, H>(&world.hasher, call, words, answer)?
-        }
-        Call::Given(call) => {
-            rows_calls::calls::answer_given::<F, H>(&world.hasher, call, words, answer)?
-        }
-        Call::Bytes(call) => {
-            rows_calls::calls::answer_bytes::<F, H>(&world.hasher, call, words, answer)?
-        }
-        Call::Structure(call) => rows_calls::calls::answer_structure(world, call, words, answer)?,
-        Call::Node(call) => rows_calls::calls::answer_node(world, call, words, answer)?,
-        Call::Batch(call) => rows_calls::calls::answer_batch(world, call, words, answer)?,
-        Call::Leaf(call) => rows_calls::calls::answer_leaf(world, call, words)?,
-        Call::Proof(call) => rows_proofs::calls::answer(world, call, words, answer)?,
-        Call::Store(call) => rows_proofs::calls::answer_store(world, call, words, answer)?,
-        Call::Every(call) => rows_proofs::calls::answer_every(world, call, words, answer)?,
-        Call::Claim(call) => rows_proofs::calls::answer_claim(world, call, words, answer)?,
-        Call::Audit(_) => return Err(SYNTAX),
-    }
+    let answered = match call {
+        Call::Family(call) => calls::answer_family::<F, H>(call, words, answer),
+        Call::Plan(call) => calls::answer_plan::<F, H>(&world.hasher, call, words, answer),
+        Call::Given(call) => calls::answer_given::<F, H>(&world.hasher, call, words, answer),
+        Call::Bytes(call) => calls::answer_bytes::<F, H>(&world.hasher, call, words, answer),
+        Call::Structure(call) => calls::answer_structure(world, call, words, answer),
+        Call::Node(call) => calls::answer_node(world, call, words, answer),
+        Call::Batch(call) => calls::answer_batch(world, call, words, answer),
+        Call::Leaf(call) => calls::answer_leaf(world, call, words),
+        Call::Proof(call) => proof_calls::answer(world, call, words, answer),
+        Call::Store(call) => proof_calls::answer_store(world, call, words, answer),
+        Call::Every(call) => proof_calls::answer_every(world, call, words, answer),
+        Call::Claim(call) => proof_calls::answer_claim(world, call, words, answer),
+        Call::Audit(_) => Err(SYNTAX),
+    };
+    answered?;
     answer.end()
 }
 
