@@ -5,15 +5,16 @@ use merkle_audit::{
     audit_pins, audit_range,
 };
 use merkle_core::digest::Digest;
+use merkle_core::error::Error;
 use merkle_core::family::Family;
 use merkle_core::hasher::Hasher;
 use merkle_core::location::Location;
 use merkle_core::proof::Proof;
-use rows_calls::refusal::granted;
+use rows_calls::refusal::refused;
 use rows_calls::values::{digest, digests, proof};
 use rows_text::answer::Answer;
 use rows_text::calls::AuditCall;
-use rows_text::refusal::{OUT_OF_MEMORY, Refusal};
+use rows_text::refusal::Refusal;
 use rows_text::words::{LocatedBytes, Words};
 use std::alloc::Global;
 
@@ -64,17 +65,24 @@ fn write_collision<F: Family, D: Digest>(
     write_argument(answer, other);
 }
 
-// Writes what an audit of a proof says.
-fn write_verdict<F: Family, D: Digest>(answer: &mut Answer, verdict: Verdict<F, D>) {
+// Writes what an audit of a proof says, or returns what is written for its error.
+fn write_verdict<F: Family, D: Digest>(
+    answer: &mut Answer,
+    verdict: Result<Verdict<F, D>, Error<F>>,
+) -> Result<(), Refusal> {
     match verdict {
-        Verdict::Rejected => answer.text("rejected"),
-        Verdict::Honest => answer.text("honest"),
-        Verdict::Collision {
-            place,
-            claimed,
-            listed,
-        } => write_collision(answer, place, &claimed, &listed),
+        Ok(Verdict::Rejected) => answer.text("rejected"),
+        Ok(Verdict::Honest) => answer.text("honest"),
+        Ok(
+            Verdict::Collision {
+                place,
+                claimed,
+                listed,
+            },
+        ) => write_collision(answer, place, &claimed, &listed),
+        Err(error) => return Err(refused(&error)),
     }
+    Ok(())
 }
 
 // What an audit of a proof of a range says.
@@ -90,9 +98,10 @@ fn range<F: Family, H: Hasher<F>>(
     let found = words.elements();
     let all = words.slices(&found);
     words.end()?;
-    let verdict = granted(audit_range(hasher, &list, inactive, &proof, &all, start))?;
-    write_verdict(answer, verdict);
-    Ok(())
+    write_verdict(
+        answer,
+        audit_range(hasher, &list, inactive, &proof, &all, start),
+    )
 }
 
 // What an audit of a proof says with these elements, each at its location.
@@ -103,15 +112,15 @@ fn audit_scattered<F: Family, H: Hasher<F>>(
     inactive: usize,
     proof: &Proof<F, H::Digest>,
     elements: &[LocatedBytes],
-) -> Result<Verdict<F, H::Digest>, Refusal> {
+) -> Result<Verdict<F, H::Digest>, Error<F>> {
     let mut all: Vec<(&[u8], Location<F>)> = Vec::new(alloc);
     for element in elements {
         let located = (element.bytes.as_slice(), Location::new(element.index));
         if all.push(located).is_err() {
-            return Err(OUT_OF_MEMORY);
+            return Err(Error::OutOfMemory);
         }
     }
-    granted(audit_multi(hasher, list, inactive, proof, &all))
+    audit_multi(hasher, list, inactive, proof, &all)
 }
 
 // What an audit of a proof of leaves anywhere says.
@@ -125,9 +134,8 @@ fn multi<F: Family, H: Hasher<F>>(
     let proof: Proof<F, H::Digest> = proof(words);
     let found = words.located();
     words.end()?;
-    let verdict = audit_scattered(words.alloc(), hasher, &list, inactive, &proof, &found)?;
-    write_verdict(answer, verdict);
-    Ok(())
+    let verdict = audit_scattered(words.alloc(), hasher, &list, inactive, &proof, &found);
+    write_verdict(answer, verdict)
 }
 
 // What an audit of a proof of a range with pins says.
@@ -144,9 +152,8 @@ fn pins<F: Family, H: Hasher<F>>(
     let pinned: Vec<H::Digest> = digests(words);
     let all = words.slices(&found);
     words.end()?;
-    let verdict = granted(audit_pins(hasher, &list, inactive, &proof, &all, start, &pinned))?;
-    write_verdict(answer, verdict);
-    Ok(())
+    let verdict = audit_pins(hasher, &list, inactive, &proof, &all, start, &pinned);
+    write_verdict(answer, verdict)
 }
 
 // What an audit of a batch that was recorded at a list says.
@@ -158,14 +165,17 @@ fn apply<F: Family, H: Hasher<F>>(
     let listed: Vec<H::Digest> = digests(words);
     let claimed: Vec<H::Digest> = digests(words);
     words.end()?;
-    match granted(audit_apply::<F, H>(words.alloc(), hasher, &listed, &claimed))? {
-        ApplyVerdict::Refused => answer.text("refused"),
-        ApplyVerdict::Same => answer.text("same"),
-        ApplyVerdict::Collision {
-            place,
-            claimed,
-            listed,
-        } => write_collision(answer, place, &claimed, &listed),
+    match audit_apply::<F, H>(words.alloc(), hasher, &listed, &claimed) {
+        Ok(ApplyVerdict::Refused) => answer.text("refused"),
+        Ok(ApplyVerdict::Same) => answer.text("same"),
+        Ok(
+            ApplyVerdict::Collision {
+                place,
+                claimed,
+                listed,
+            },
+        ) => write_collision(answer, place, &claimed, &listed),
+        Err(error) => return Err(refused(&error)),
     }
     Ok(())
 }
@@ -188,14 +198,17 @@ fn pair<F: Family, H: Hasher<F>>(
     words.end()?;
     let first = (&one, all.as_slice(), start);
     let second = (&other, other_all.as_slice(), other_start);
-    match granted(audit_pair(hasher, &root, first, second))? {
-        PairVerdict::Rejected => answer.text("rejected"),
-        PairVerdict::Consistent => answer.text("consistent"),
-        PairVerdict::Collision {
-            place,
-            first,
-            second,
-        } => write_collision(answer, place, &first, &second),
+    match audit_pair(hasher, &root, first, second) {
+        Ok(PairVerdict::Rejected) => answer.text("rejected"),
+        Ok(PairVerdict::Consistent) => answer.text("consistent"),
+        Ok(
+            PairVerdict::Collision {
+                place,
+                first,
+                second,
+            },
+        ) => write_collision(answer, place, &first, &second),
+        Err(error) => return Err(refused(&error)),
     }
     Ok(())
 }
@@ -210,12 +223,13 @@ pub fn answer<F: Family, H: Hasher<F>>(
 ) -> Result<(), Refusal> {
     let mut words = Words::new(alloc, words);
     let words = &mut words;
-    match call {
-        AuditCall::Apply => apply(hasher, words, answer)?,
-        AuditCall::Multi => multi(hasher, words, answer)?,
-        AuditCall::Pair => pair(hasher, words, answer)?,
-        AuditCall::Pins => pins(hasher, words, answer)?,
-        AuditCall::Range => range(hasher, words, answer)?,
-    }
+    let answered = match call {
+        AuditCall::Apply => apply(hasher, words, answer),
+        AuditCall::Multi => multi(hasher, words, answer),
+        AuditCall::Pair => pair(hasher, words, answer),
+        AuditCall::Pins => pins(hasher, words, answer),
+        AuditCall::Range => range(hasher, words, answer),
+    };
+    answered?;
     answer.end()
 }

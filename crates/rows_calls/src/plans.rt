@@ -2,7 +2,7 @@
 
 use crate::refusal::granted;
 use crate::values::range;
-use crate::writing::write_positions;
+use crate::writing::write_granted_positions;
 use merkle_core::digest::Digest;
 use merkle_core::family::Family;
 use merkle_core::hasher::Hasher;
@@ -74,15 +74,13 @@ pub fn plan_leaf<F: Family>(words: &mut Words, answer: &mut Answer) -> Result<()
 /// The positions that the plan of the proof of a range reads.
 pub fn positions<F: Family>(words: &mut Words, answer: &mut Answer) -> Result<(), Refusal> {
     let plan = range_plan::<F>(words)?;
-    write_positions(answer, &granted(plan.positions())?);
-    Ok(())
+    write_granted_positions(answer, plan.positions())
 }
 
 /// The positions that the plan of the proof of a leaf reads.
 pub fn positions_leaf<F: Family>(words: &mut Words, answer: &mut Answer) -> Result<(), Refusal> {
     let plan = leaf_plan::<F>(words)?;
-    write_positions(answer, &granted(plan.positions())?);
-    Ok(())
+    write_granted_positions(answer, plan.positions())
 }
 
 /// Whether the plan of the proof of a range gives one over the nodes past a position.

@@ -1,9 +1,9 @@
 //! Calls of given proofs.
 
 use crate::checks::{accepts_leaf, accepts_range, accepts_scattered};
-use crate::refusal::{granted, unreconstructed};
+use crate::refusal::{granted, refused, unreconstructed};
 use crate::values::{digest, digests, locations, proof};
-use crate::writing::{write_pairs, write_positions};
+use crate::writing::{write_accepted, write_granted_positions, write_pairs};
 use merkle_core::digest::Digest;
 use merkle_core::family::Family;
 use merkle_core::hasher::Hasher;
@@ -26,8 +26,7 @@ pub fn check<F: Family, H: Hasher<F>>(
     let root = digest(words);
     let all = words.slices(&found);
     words.end()?;
-    answer.yes_or_no(accepts_range(hasher, &proof, &all, start, &root)?);
-    Ok(())
+    write_accepted(answer, accepts_range(hasher, &proof, &all, start, &root))
 }
 
 /// Whether a proof of a leaf is accepted.
@@ -41,8 +40,7 @@ pub fn check_leaf<F: Family, H: Hasher<F>>(
     let element = words.bytes();
     let root = digest(words);
     words.end()?;
-    answer.yes_or_no(accepts_leaf(hasher, &proof, &element, leaf, &root)?);
-    Ok(())
+    write_accepted(answer, accepts_leaf(hasher, &proof, &element, leaf, &root))
 }
 
 /// Whether a proof of a range is accepted with the pins before it.
@@ -59,8 +57,7 @@ pub fn check_pinned<F: Family, H: Hasher<F>>(
     let all = words.slices(&found);
     words.end()?;
     let checked = proof.verify_proof_and_pinned_nodes(hasher, &all, start, &pins, &root);
-    answer.yes_or_no(checked.ok().ok_or(OUT_OF_MEMORY)?);
-    Ok(())
+    write_accepted(answer, checked.ok().ok_or(OUT_OF_MEMORY))
 }
 
 /// Whether a proof of leaves anywhere is accepted.
@@ -73,9 +70,8 @@ pub fn check_multi<F: Family, H: Hasher<F>>(
     let found = words.located();
     let root = digest(words);
     words.end()?;
-    let is_right = accepts_scattered(words.alloc(), hasher, &proof, &found, &root)?;
-    answer.yes_or_no(is_right);
-    Ok(())
+    let accepted = accepts_scattered(words.alloc(), hasher, &proof, &found, &root);
+    write_accepted(answer, accepted)
 }
 
 /// The positions that a proof of leaves anywhere reads.
@@ -84,8 +80,7 @@ pub fn multi_positions<F: Family>(words: &mut Words, answer: &mut Answer) -> Res
     let list = locations(words);
     words.end()?;
     let positions = multi_proof_positions::<F>(words.alloc(), leaves, &list);
-    write_positions(answer, &granted(positions)?);
-    Ok(())
+    write_granted_positions(answer, positions)
 }
 
 /// The digests that a check of a range computes or is given, each after its position.
@@ -100,9 +95,13 @@ pub fn extract<F: Family, H: Hasher<F>>(
     let root = digest(words);
     let all = words.slices(&found);
     words.end()?;
-    let pairs = proof.verify_range_inclusion_and_extract_digests(hasher, &all, start, &root);
-    write_pairs(answer, &granted(pairs)?);
-    Ok(())
+    match proof.verify_range_inclusion_and_extract_digests(hasher, &all, start, &root) {
+        Ok(pairs) => {
+            write_pairs(answer, &pairs);
+            Ok(())
+        }
+        Err(error) => Err(refused(&error)),
+    }
 }
 
 /// The root that a proof and its elements lead to.

@@ -1,9 +1,8 @@
 //! Calls of proofs over what holds nodes.
 ghost use Rattle.std.specs.Prelude.{◌≡◌, slice_get};
 
-use crate::refusal::granted;
 use crate::values::{digests, locations, range};
-use crate::writing::write_proof;
+use crate::writing::write_granted_proof;
 use merkle_core::digest::Digest;
 use merkle_core::family::Family;
 use merkle_core::hasher::Hasher;
@@ -62,9 +61,8 @@ pub fn range_over<R: Readable, H: Hasher<R::Family, Digest = R::Digest>>(
     let range = range(words);
     let inactive = words.count();
     words.end()?;
-    let proof = granted(range_proof(words.alloc(), hasher, reader, range, inactive))?;
-    write_proof(answer, &proof);
-    Ok(())
+    let proof = range_proof(words.alloc(), hasher, reader, range, inactive);
+    write_granted_proof(answer, proof)
 }
 
 /// The proof of a range of the first leaves over what holds nodes.
@@ -79,8 +77,7 @@ pub fn history_over<R: Readable, H: Hasher<R::Family, Digest = R::Digest>>(
     let inactive = words.count();
     words.end()?;
     let proof = historical_range_proof(words.alloc(), hasher, reader, leaves, range, inactive);
-    write_proof(answer, &granted(proof)?);
-    Ok(())
+    write_granted_proof(answer, proof)
 }
 
 /// The proof of leaves anywhere over what holds nodes.
@@ -92,9 +89,7 @@ pub fn multi_over<R: Readable>(
     let inactive = words.count();
     let list = locations(words);
     words.end()?;
-    let proof = granted(multi_proof(words.alloc(), reader, inactive, &list))?;
-    write_proof(answer, &proof);
-    Ok(())
+    write_granted_proof(answer, multi_proof(words.alloc(), reader, inactive, &list))
 }
 
 /// The proof of a range over a list of nodes.

@@ -1,11 +1,14 @@
 //! Values as text.
 
+use crate::refusal::refused;
 use merkle_core::digest::Digest;
+use merkle_core::error::Error;
 use merkle_core::family::Family;
 use merkle_core::position::Position;
 use merkle_core::proof::Proof;
 use merkle_core::read::Readable;
 use rows_text::answer::Answer;
+use rows_text::refusal::Refusal;
 
 /// The greatest number of nodes that is written.
 const SHOWN: u64 = 256;
@@ -73,6 +76,45 @@ pub fn write_proof<F: Family, D: Digest>(answer: &mut Answer, proof: &Proof<F, D
     answer.number(proof.inactive_peaks as u64);
     answer.text(" ");
     write_digests(answer, proof.digests.as_slice());
+}
+
+/// Writes the proof that a call answers, or returns what is written for its error.
+pub fn write_granted_proof<F: Family, D: Digest>(
+    answer: &mut Answer,
+    proof: Result<Proof<F, D>, Error<F>>,
+) -> Result<(), Refusal> {
+    match proof {
+        Ok(proof) => {
+            write_proof(answer, &proof);
+            Ok(())
+        }
+        Err(error) => Err(refused(&error)),
+    }
+}
+
+/// Writes the positions that a call answers, or returns what is written for its error.
+pub fn write_granted_positions<F: Family>(
+    answer: &mut Answer,
+    positions: Result<Vec<Position<F>>, Error<F>>,
+) -> Result<(), Refusal> {
+    match positions {
+        Ok(positions) => {
+            write_positions(answer, &positions);
+            Ok(())
+        }
+        Err(error) => Err(refused(&error)),
+    }
+}
+
+/// Writes whether a proof is accepted, or returns the refusal.
+pub fn write_accepted(answer: &mut Answer, accepted: Result<bool, Refusal>) -> Result<(), Refusal> {
+    match accepted {
+        Ok(is_accepted) => {
+            answer.yes_or_no(is_accepted);
+            Ok(())
+        }
+        Err(refusal) => Err(refusal),
+    }
 }
 
 /// Writes how many proofs there are.

@@ -8,7 +8,7 @@ use merkle_core::hasher::Hasher;
 use merkle_core::location::Location;
 use rows_calls::values::locations;
 use rows_calls::world::World;
-use rows_calls::writing::{write_proof, write_proved};
+use rows_calls::writing::{write_accepted, write_proof, write_proved};
 use rows_text::answer::Answer;
 use rows_text::refusal::Refusal;
 use rows_text::words::{Words, named};
@@ -25,9 +25,8 @@ pub fn prove<F: Family, H: Hasher<F> + Drop>(
     let inactive = words.count();
     words.end()?;
     let hasher = &world.hasher;
-    let is_proved = proves_leaf(world.alloc, hasher, structure, leaf, &element, inactive)?;
-    answer.yes_or_no(is_proved);
-    Ok(())
+    let proved = proves_leaf(world.alloc, hasher, structure, leaf, &element, inactive);
+    write_accepted(answer, proved)
 }
 
 /// Proves each choice of a limited number of leaves for each number of inactive peaks, and counts the proofs.

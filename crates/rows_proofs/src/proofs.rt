@@ -3,10 +3,9 @@
 use merkle_core::family::Family;
 use merkle_core::hasher::Hasher;
 use merkle_core::location::Location;
-use rows_calls::refusal::granted;
 use rows_calls::values;
 use rows_calls::world::World;
-use rows_calls::writing::write_proof;
+use rows_calls::writing::write_granted_proof;
 use rows_text::answer::Answer;
 use rows_text::refusal::Refusal;
 use rows_text::words::{Words, named};
@@ -21,9 +20,7 @@ pub fn proof<F: Family, H: Hasher<F> + Drop>(
     let leaf = Location::new(words.number());
     let inactive = words.count();
     words.end()?;
-    let proof = granted(structure.proof(&world.hasher, leaf, inactive))?;
-    write_proof(answer, &proof);
-    Ok(())
+    write_granted_proof(answer, structure.proof(&world.hasher, leaf, inactive))
 }
 
 /// The proof of a range of a structure.
@@ -36,9 +33,10 @@ pub fn range<F: Family, H: Hasher<F> + Drop>(
     let range = values::range(words);
     let inactive = words.count();
     words.end()?;
-    let proof = granted(structure.range_proof(&world.hasher, range, inactive))?;
-    write_proof(answer, &proof);
-    Ok(())
+    write_granted_proof(
+        answer,
+        structure.range_proof(&world.hasher, range, inactive),
+    )
 }
 
 /// The proof of a leaf of a batch, over a structure.
@@ -52,9 +50,7 @@ pub fn proof_over<F: Family, H: Hasher<F> + Drop>(
     let leaf = Location::new(words.number());
     let inactive = words.count();
     words.end()?;
-    let proof = granted(batch.proof(base, &world.hasher, leaf, inactive))?;
-    write_proof(answer, &proof);
-    Ok(())
+    write_granted_proof(answer, batch.proof(base, &world.hasher, leaf, inactive))
 }
 
 /// The proof of a range of a batch, over a structure.
@@ -68,7 +64,8 @@ pub fn range_over<F: Family, H: Hasher<F> + Drop>(
     let range = values::range(words);
     let inactive = words.count();
     words.end()?;
-    let proof = granted(batch.range_proof(base, &world.hasher, range, inactive))?;
-    write_proof(answer, &proof);
-    Ok(())
+    write_granted_proof(
+        answer,
+        batch.range_proof(base, &world.hasher, range, inactive),
+    )
 }

@@ -4,10 +4,9 @@ use merkle_core::family::Family;
 use merkle_core::hasher::Hasher;
 use merkle_core::position::Position;
 use rows_calls::proofs::new_store;
-use rows_calls::refusal::granted;
 use rows_calls::values::{locations, pairs, range};
 use rows_calls::world::World;
-use rows_calls::writing::{write_node, write_positions, write_proof};
+use rows_calls::writing::{write_granted_proof, write_node, write_positions};
 use rows_text::answer::Answer;
 use rows_text::refusal::Refusal;
 use rows_text::words::{Words, give_name, named};
@@ -44,9 +43,7 @@ pub fn store_range<F: Family, H: Hasher<F> + Drop>(
     let store = named(&world.stores, words.word())?;
     let range = range(words);
     words.end()?;
-    let proof = granted(store.range_proof(&world.hasher, range))?;
-    write_proof(answer, &proof);
-    Ok(())
+    write_granted_proof(answer, store.range_proof(&world.hasher, range))
 }
 
 /// A store's proof of leaves anywhere, with digests of peaks that are given.
@@ -59,9 +56,7 @@ pub fn store_multi<F: Family, H: Hasher<F> + Drop>(
     let list = locations(words);
     let given = pairs(words);
     words.end()?;
-    let proof = granted(store.multi_proof(&list, &given))?;
-    write_proof(answer, &proof);
-    Ok(())
+    write_granted_proof(answer, store.multi_proof(&list, &given))
 }
 
 /// The positions of the peaks that are folded in the suffix of a store's proof.
