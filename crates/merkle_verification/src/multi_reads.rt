@@ -16,13 +16,7 @@ fn reversed<F: Family, D: Digest>(
 ) -> Result<Vec<(Position<F>, D)>, AllocError>
     ensures { IfOk result (λ v. v.items ≡ reverse pairs.now) }
 {
-    let mut list = Vec::new(alloc);
-    let mut index = pairs.len();
-    while index > 0 {
-        index -= 1;
-        list.push(pairs[index])?;
-    }
-    Ok(list)
+    pairs.iter().rev().copied().collect(alloc)
 }
 
 // Returns the digest of the first table at `position`, or else that of the second.
