@@ -5,6 +5,7 @@ pub mod ReadingOrder
 pub mod ReadRuns
 pub mod ReadPositions
 pub mod RefusedProofs
+pub mod MultiRefusals
 pub mod FewDigests
 pub mod ScatteredRoot
 pub mod LocatedDigests

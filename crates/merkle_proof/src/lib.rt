@@ -4,6 +4,7 @@
 
 pub mod element_plan;
 mod leaves;
+pub mod multi;
 mod multi_checks;
 pub mod proof;
 pub mod range_plan;

@@ -6,6 +6,7 @@ ghost use Rattle.merkle_proof.specs.Input.{multi_input};
 ghost use Rattle.merkle_scattered.specs.MultiPositions.{AreLocations};
 
 use crate::leaves::located_digests;
+use crate::multi::multi_proof_positions;
 use merkle_base::error::{Error, OutOfMemory};
 use merkle_base::family::Family;
 use merkle_base::location::Location;
@@ -13,7 +14,6 @@ use merkle_base::position::Position;
 use merkle_hasher::hasher::Hasher;
 use merkle_range::checks::{ProofParts, reconstruct_empty_root};
 use merkle_scattered::confirm::confirm_peaks;
-use merkle_scattered::multi::multi_proof_positions;
 use merkle_scattered::supplied::SuppliedDigests;
 use std::alloc::{AllocError, Global};
 

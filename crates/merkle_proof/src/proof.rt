@@ -10,6 +10,7 @@ ghost use Rattle.merkle_proof.specs.Input.{input_of, multi_input_of};
 ghost use Rattle.merkle_claim_theory.specs.CheckAnswers.{IsReconstructionRefusal, IsExactForRange, IsCompleteForRange, IsSoundForRange, IsCompleteForMulti, IsSoundForMulti, IsExactForPins, IsCompleteForPins, IsSoundForPins, TellsOldRoot, IsExtraction, AreNodePairs};
 
 pub use crate::element_plan::ElementPlan;
+pub use crate::multi::multi_proof_positions;
 use crate::multi_checks::verify_multi;
 pub use crate::range_plan::RangePlan;
 use merkle_base::error::{Error, OutOfMemory, ReconstructionError};
@@ -21,7 +22,6 @@ use merkle_hasher::hasher::Hasher;
 use merkle_range::checks::{ProofParts, reconstruct_root, verify_range};
 use merkle_range::extraction::verify_and_extract;
 use merkle_range::pins::verify_pinned;
-pub use merkle_scattered::multi::multi_proof_positions;
 use std::alloc::{AllocError, Global};
 
 /// The greatest number of digests of a proof of one element, in the Mountain Range and in the

@@ -8,6 +8,5 @@ pub mod ScatteredElements
 pub mod ToldTable
 pub mod RisingLists
 pub mod AscendingPositions
-pub mod MultiRefusals
 pub mod ReadOnce
 pub mod ScatteredPositions

@@ -13,7 +13,7 @@ use Rattle.merkle_claim_theory.specs.Multiproof.{multi_positions}
 use Rattle.merkle_claim_theory.proofs.Multiproofs.{all_member}
 use Rattle.merkle_scattered.specs.MultiPositions.{AreLocations}
 use Rattle.merkle_proof.specs.RangePlans.{IsFirstMissing}
-use Rattle.merkle_scattered.proofs.MultiRefusals.{refused_are_none}
+use Rattle.merkle_proof.proofs.MultiRefusals.{refused_are_none}
 use Rattle.merkle_verification.specs.ReaderRefusals.{AreNodesHeld, IsLocationsRefusal, IsReadRefusal, IsSizeRefusal}
 
 missing_held : {D : Type 0} (node : ℕ → Option D) (ps : List ℕ) (p : ℕ) → AreNodesHeld node ps → IsFirstMissing (λ q o. o ≡ node q) ps p → ⊥

@@ -21,9 +21,8 @@ use merkle_base::location::Location;
 use merkle_base::position::Position;
 use merkle_hasher::hasher::Hasher;
 use merkle_hasher::read::Readable;
-use merkle_proof::proof::Proof;
+use merkle_proof::proof::{Proof, multi_proof_positions};
 use merkle_proof::range_plan::RangePlan;
-use merkle_scattered::multi::multi_proof_positions;
 use merkle_scattered::supplied::SuppliedDigests;
 use std::alloc::Global;
 use std::ops::Range;
@@ -144,8 +143,7 @@ fn prove_plan<R: Readable, H: Hasher<R::Family, Digest = R::Digest>>(
 /// Generates the proof of the leaves at `locations`, from the nodes of a reader, with `inactive`
 /// inactive peaks.
 ///
-/// The proof has the digests of the nodes at
-/// [`multi_proof_positions`](merkle_scattered::multi::multi_proof_positions), in that order. If the
+/// The proof has the digests of the nodes at [`multi_proof_positions`], in that order. If the
 /// reader shows a list, this is the honest proof of these leaves of the list. The size that the
 /// reader returns need not be true: no loop and no memory request grows with it, only with the
 /// number of positions that the proof reads.
@@ -155,8 +153,7 @@ fn prove_plan<R: Readable, H: Hasher<R::Family, Digest = R::Digest>>(
 /// The first that applies:
 /// - `PositionOverflow` of the size of the reader if it exceeds [`MAX_NODES`](Family::MAX_NODES)
 /// - `NonLeaf` of the size if no leaf count has that many nodes
-/// - the error of [`multi_proof_positions`](merkle_scattered::multi::multi_proof_positions) for that
-///   leaf count and the locations
+/// - the error of [`multi_proof_positions`] for that leaf count and the locations
 /// - `InvalidProof` if `inactive` exceeds the number of peaks
 /// - `ElementPruned` of the least position that the proof reads and the reader has no node for
 ///

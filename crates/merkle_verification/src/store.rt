@@ -25,9 +25,8 @@ use merkle_base::location::Location;
 use merkle_base::position::Position;
 use merkle_digest::digest::Digest;
 use merkle_hasher::hasher::Hasher;
-use merkle_proof::proof::Proof;
+use merkle_proof::proof::{Proof, multi_proof_positions};
 use merkle_proof::range_plan::{RangeCounts, RangePlan};
-use merkle_scattered::multi::multi_proof_positions;
 use std::marker::Model;
 use std::ops::Range;
 

@@ -1,5 +1,5 @@
 use Rattle.std.proofs.Common.{◌≡◌, ◌<◌, length, arith, rules, ap, sym, ◌∙◌}
-use Rattle.merkle_scattered.proofs.MultiRefusals.{refused_are_none}
+use Rattle.merkle_proof.proofs.MultiRefusals.{refused_are_none}
 use Rattle.merkle_range_audit.proofs.Claims.{only_memory}
 use Rattle.merkle_audit.proofs.GivenLeaves.{none_read}
 use Rattle.merkle_audit.proofs.multi.read_positions.Goals as goal

@@ -1,6 +1,6 @@
 use Rattle.std.proofs.Common.{◌∙◌, subst, sym}
 use Rattle.merkle_scattered.specs.MultiPositions.{AreLocations}
-use Rattle.merkle_scattered.proofs.MultiRefusals.{refused_are_none}
+use Rattle.merkle_proof.proofs.MultiRefusals.{refused_are_none}
 use Rattle.merkle_proof.proofs.multi_checks.read_positions.Goals as goal
 
 pub returns : goal.returns

@@ -2,7 +2,7 @@ use Rattle.std.proofs.Common.{◌≤◌, ◌*◌, length, subst, sym}
 use Rattle.merkle_claim_theory.proofs.FewPositions.{positions_few}
 use Rattle.merkle_scattered.proofs.ReadOnce.{multi_ascending}
 use Rattle.merkle_scattered.proofs.ScatteredPositions.{ascends_never_falls}
-use Rattle.merkle_scattered.proofs.multi.multi_proof_positions.Goals as goal
+use Rattle.merkle_proof.proofs.multi.multi_proof_positions.Goals as goal
 
 pub scattered_positions-requires-clause-ascend : goal.scattered_positions-requires-clause-ascend
 scattered_positions-requires-clause-ascend g c = ascends_never_falls 0 c.args.locations.now c.in_default.ensures.ok.ascend

@@ -1,7 +1,7 @@
 use Rattle.std.proofs.Common.{◌≡◌, drop}
 use Rattle.merkle_base.specs.Cases.{first_case}
 use Rattle.merkle_scattered.specs.MultiPositions.{later_refusals}
-use Rattle.merkle_scattered.proofs.multi.check_later_locations.Given as goal
+use Rattle.merkle_proof.proofs.multi.check_later_locations.Given as goal
 
 abbrev pub invariant-loop-location : goal.invariant-loop-location
 invariant-loop-location g l =

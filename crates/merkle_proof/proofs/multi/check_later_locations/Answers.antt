@@ -1,6 +1,6 @@
 use Rattle.std.proofs.Common.{rules, ◌≤◌, length}
-use Rattle.merkle_scattered.proofs.MultiRefusals.{loop_ends}
-use Rattle.merkle_scattered.proofs.multi.check_later_locations.Goals as goal
+use Rattle.merkle_proof.proofs.MultiRefusals.{loop_ends}
+use Rattle.merkle_proof.proofs.multi.check_later_locations.Goals as goal
 
 pub returns-clause-ok : goal.returns-clause-ok
 returns-clause-ok g c =

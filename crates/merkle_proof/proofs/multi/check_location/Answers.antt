@@ -1,6 +1,6 @@
 use Rattle.std.proofs.Common.{rules, arith, ◌<◌}
 use Rattle.merkle_base.proofs.Limits.{lawful_leaves}
-use Rattle.merkle_scattered.proofs.multi.check_location.Goals as goal
+use Rattle.merkle_proof.proofs.multi.check_location.Goals as goal
 
 pub add-requires : goal.add-requires
 add-requires g c =
