@@ -1,6 +1,7 @@
 //! Audits of the proof of a list's last leaves, measured beside computing the list's nodes.
 
 use crate::stopwatch::Stopwatch;
+use merkle_audit::{Verdict, audit_range};
 use merkle_core::digest::{Sha256Plain, Xor8};
 use merkle_core::family::{Bagging, Family};
 use merkle_core::hasher::{Hasher, Standard};
@@ -9,8 +10,6 @@ use merkle_core::mem::Mem;
 use merkle_core::position::Position;
 use merkle_core::proof::Proof;
 use merkle_core::{mmb, mmr};
-use merkle_range_audit::range::audit_range;
-use merkle_range_audit::verdict::Verdict;
 use std::alloc::Global;
 use std::time::CpuClock;
 

@@ -18,6 +18,7 @@ ghost use Rattle.merkle_root_theory.specs.Check.{RangeInput};
 
 use crate::answer::{Answer, Named, Spot, or_fault};
 use crate::checking::{lent, read_elements};
+use merkle_audit::{Argument, Place, Verdict, audit_range};
 use merkle_commands::hex_words::{read_hex, write_hex};
 use merkle_core::codec::Read;
 use merkle_core::digest::{Digest, PlainHasher};
@@ -26,9 +27,6 @@ use merkle_core::family::Family;
 use merkle_core::hasher::Standard;
 use merkle_core::location::Location;
 use merkle_core::proof::{MAX_PROOF_DIGESTS_PER_ELEMENT, Proof};
-use merkle_range_audit::place::{Argument, Place};
-use merkle_range_audit::range::audit_range;
-use merkle_range_audit::verdict::Verdict;
 use std::alloc::Global;
 
 // Returns how a place is printed.

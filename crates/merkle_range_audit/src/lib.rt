@@ -1,5 +1,5 @@
-//! The audit of ranges, and what every audit is made of: places and verdicts, what is hashed for a list and for an
-//! accepted range, and the search for the first difference of two.
+//! What audits are made of: places and verdicts, what is hashed for a list and for an accepted range, and the search for
+//! the first difference of two.
 #![tactic(auto)]
 
 pub mod claim;

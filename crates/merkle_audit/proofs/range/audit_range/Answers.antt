@@ -15,7 +15,7 @@ use Rattle.merkle_range_audit.specs.Claimed.{IsClaim}
 use Rattle.merkle_range_audit.specs.Hashed.{located}
 use Rattle.merkle_range_audit.proofs.Searched.{range_found}
 use Rattle.merkle_range_audit.proofs.Verdicts.{at_none, at_some, found_verdict, no_verdict, range_no, range_yes}
-use Rattle.merkle_range_audit.proofs.range.audit_range.Goals as goal
+use Rattle.merkle_audit.proofs.range.audit_range.Goals as goal
 
 pub returns-in-Ok-None-clause-within : goal.returns-in-Ok-None-clause-within
 returns-in-Ok-None-clause-within g c = c.in-Ok.ensures.within

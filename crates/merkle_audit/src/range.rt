@@ -1,0 +1,85 @@
+//! The audit of a range check.
+ghost use Rattle.std.specs.Prelude.{◌≡◌, ◌≢◌, ◌≤◌, Some, IfOk, IfErr, length};
+ghost use Rattle.merkle_base.specs.Cases.{first_case};
+ghost use Rattle.merkle_base.specs.Places.{peaks_of};
+ghost use Rattle.merkle_proof.specs.Input.{input_of};
+ghost use Rattle.merkle_hasher.specs.LeafDigests.{bytes_of};
+ghost use Rattle.merkle_range_audit.specs.Found.{list_refusals, IsRangeVerdict};
+
+use merkle_core::digest::Digest;
+use merkle_core::error::Error;
+use merkle_core::family::Family;
+use merkle_core::hasher::Hasher;
+use merkle_core::location::Location;
+use merkle_core::proof::Proof;
+use merkle_range_audit::claim::{Claim, accepted};
+use merkle_range_audit::list::HashedList;
+use merkle_range_audit::range::{first_difference, verdict};
+use merkle_range_audit::verdict::Verdict;
+
+/// Audits an input of a range check against the root of a list, of which the leaf digests are at
+/// hand: says whether the check rejects the input, whether it is the honest one of the list, or else
+/// what the check hashed that collides with the list.
+///
+/// The list is hashed once, as by `merkleize`, and the input as by the check and by extraction. The
+/// nodes of the list are kept as long as the audit takes.
+///
+/// # Errors
+///
+/// The first that applies:
+/// - `LocationOverflow` of the length of the list if it exceeds [`MAX_LEAVES`](Family::MAX_LEAVES)
+/// - `InvalidInactivePeaks` if `inactive` exceeds the number of peaks of the list
+///
+/// `OutOfMemory` at any point if a memory request is refused.
+///
+/// # Examples
+///
+/// ```
+/// // `log` has the elements 01, 02 and 04, and `list` their leaf digests.
+/// let start = Location::new(0);
+/// let Ok(proof) = log.range_proof(&hasher, start..Location::new(1), 0) else {
+///     return None;
+/// };
+/// let honest = audit_range(&hasher, &list, 0, &proof, &[&[1]], start);
+/// assert!(rt; matches!(&honest, Ok(Verdict::Honest)));
+/// let other = audit_range(&hasher, &list, 0, &proof, &[&[2]], start);
+/// assert!(rt; matches!(&other, Ok(Verdict::Rejected)));
+/// ```
+pub fn audit_range<F: Family, H: Hasher<F>>(
+    hasher: &H,
+    list: &[H::Digest],
+    inactive: usize,
+    proof: &Proof<F, H::Digest>,
+    elements: &[&[u8]],
+    start: Location<F>,
+) -> Result<Verdict<F, H::Digest>, Error<F>>
+    ensures err { IfErr result (λ e. e ≢ Error.OutOfMemory
+        → first_case (list_refusals F.rule F.MAX_LEAVES (length list.now) inactive) ≡ Some e) }
+    ensures within { IfOk result (λ _. (length list.now ≤ F.MAX_LEAVES) × (inactive ≤ length (peaks_of F.rule (length list.now)))) }
+    ensures judged { let s = H.scheme hasher.now in
+        IfOk result (IsRangeVerdict s list.now inactive (input_of s proof.now start (bytes_of elements.now))) }
+{
+    let alloc = *proof.digests.allocator();
+    let listed = match HashedList::new(alloc, hasher, list, inactive) {
+        Ok(listed) => listed,
+        Err(error) => return Err(error),
+    };
+    let claim = match accepted(hasher, proof, elements, start, &listed.root) {
+        Ok(Some(claim)) => claim,
+        Ok(None) => return Ok(Verdict::Rejected),
+        Err(error) => return Err(error),
+    };
+    let Claim {
+        top: claimed,
+        nodes: claimed_nodes,
+        ..
+    } = claim;
+    let HashedList {
+        top,
+        nodes,
+        peaks,
+        ..
+    } = listed;
+    let found = first_difference(claimed, &claimed_nodes, top, &nodes, &peaks);
+    Ok(verdict(found))
+}
