@@ -16,9 +16,9 @@ use Rattle.merkle_audit_theory.specs.Located.{node_inputs}
 use Rattle.merkle_audit_theory.specs.Searches.{input_at, looked_up}
 use Rattle.merkle_audit_theory.specs.Seen.{children_of, Sees}
 use Rattle.merkle_audit_theory.proofs.ListSearches.{lists_searched}
-use Rattle.merkle_range_audit.specs.Found.{HaveSamePeaks}
-use Rattle.merkle_range_audit.specs.Listed.{digest_in, IsOfList}
-use Rattle.merkle_range_audit.proofs.Lists.{batch_sees}
+use Rattle.merkle_audit_parts.specs.Found.{HaveSamePeaks}
+use Rattle.merkle_audit_parts.specs.Listed.{digest_in, IsOfList}
+use Rattle.merkle_audit_parts.proofs.Lists.{batch_sees}
 
 module _ {D : Type 0} (s : Scheme D) (laws : EqDecides s.hashing) (none : D) (X Z : List D) (b d : MerkleizedModel D) (of : IsOfList s.hashing s.rule b X) (of' : IsOfList s.hashing s.rule d Z) (alike : HaveSamePeaks s.hashing s.rule X Z) where
   -- what a search says, by what stands at the nodes of the peaks

@@ -28,12 +28,12 @@ use Rattle.merkle_audit_theory.proofs.Audited.{audits_pins}
 use Rattle.merkle_audit_theory.proofs.PeakInputs.{inputs_by_peaks}
 use Rattle.merkle_audit_theory.proofs.RootSearches.{pinned_searched}
 use Rattle.merkle_audit_theory.proofs.TieredInputs.{fold_tier, node_tier}
-use Rattle.merkle_audit.specs.declared.pin_nodes.PinnedNodes.{PinnedNodes}
-use Rattle.merkle_range_audit.specs.declared.top.Top.{Top}
-use Rattle.merkle_range_audit.specs.Hashed.{fold_at, top_of}
-use Rattle.merkle_range_audit.specs.Listed.{digest_in, IsOfList}
-use Rattle.merkle_audit.specs.PinnedClaimed.{pinned_pair, IsPinnedClaim}
-use Rattle.merkle_range_audit.proofs.Lists.{batch_sees}
+use Rattle.merkle_audit_parts.specs.declared.pin_nodes.PinnedNodes.{PinnedNodes}
+use Rattle.merkle_audit_parts.specs.declared.top.Top.{Top}
+use Rattle.merkle_audit_parts.specs.Hashed.{fold_at, top_of}
+use Rattle.merkle_audit_parts.specs.Listed.{digest_in, IsOfList}
+use Rattle.merkle_audit_parts.specs.PinnedClaimed.{pinned_pair, IsPinnedClaim}
+use Rattle.merkle_audit_parts.proofs.Lists.{batch_sees}
 
 module _ {F D P Q : Type 0} (s : Scheme D) (size max_nodes : ℕ) (sound : IsLawfulScheme s size max_nodes) (none : D)
     (X : List D) (k : ℕ) (few : length X ≤ s.max_leaves) (low : k ≤ length (peaks_of s.rule (length X))) (r : RangeInput D) (pins : List D) (ok : AcceptsPinned s r pins (list_root s X k))

@@ -6,8 +6,8 @@ use Rattle.merkle_hasher.specs.LeafDigests.{bytes_of}
 use Rattle.merkle_proof.specs.Input.{input_of}
 use Rattle.merkle_proof.specs.declared.proof.Proof.{Proof}
 use Rattle.merkle_root_theory.specs.Check.{RangeInput}
-use Rattle.merkle_range_audit.specs.Found.{IsPinnedVerdict}
-use Rattle.merkle_range_audit.specs.declared.verdict.Verdict.{Verdict}
+use Rattle.merkle_audit_parts.specs.Found.{IsPinnedVerdict}
+use Rattle.merkle_audit_parts.specs.declared.verdict.Verdict.{Verdict}
 
 -- a proof, its elements, and where they begin
 abbrev pub given_input : {F D Peaks Heights : Type 0} → Scheme D → Bor (Proof F D Peaks Heights) × Bor (List (Bor (List ℕ))) × ℕ → RangeInput D

@@ -1,5 +1,3 @@
-pub mod Chosen
-pub mod PinnedClaimed
 pub mod Given
 -- passed on
-pub use Rattle.merkle_range_audit.specs.Found
+pub use Rattle.merkle_audit_parts.specs.Found

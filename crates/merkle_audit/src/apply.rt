@@ -2,17 +2,17 @@
 ghost use Rattle.std.specs.Prelude.{◌≡◌, ◌≢◌, ◌≤◌, ◌↔◌, Some, None, IfOk, IfErr, length, option_map};
 ghost use Rattle.std.specs.Cmp.Lexicographic.{pointwise};
 ghost use Rattle.merkle_base.specs.Cases.{first_case};
-ghost use Rattle.merkle_range_audit.specs.Found.{length_refusals, collision_of_lists, IsApplyVerdict};
-ghost use Rattle.merkle_range_audit.specs.Hashed.{located};
+ghost use Rattle.merkle_audit_parts.specs.Found.{length_refusals, collision_of_lists, IsApplyVerdict};
+ghost use Rattle.merkle_audit_parts.specs.Hashed.{located};
 
+use merkle_audit_parts::list::{ListNodes, leaf_count};
+use merkle_audit_parts::nodes::first_below;
+use merkle_audit_parts::verdict::{ApplyVerdict, Collision};
 use merkle_core::digest::Digest;
 use merkle_core::error::Error;
 use merkle_core::family::Family;
 use merkle_core::hasher::Hasher;
 use merkle_hasher::peaks::list_peaks;
-use merkle_range_audit::list::{ListNodes, leaf_count};
-use merkle_range_audit::nodes::first_below;
-use merkle_range_audit::verdict::{ApplyVerdict, Collision};
 use std::alloc::Global;
 
 /// Audits the list that a structure agrees with, `listed`, and the list at which a batch was

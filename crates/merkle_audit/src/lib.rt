@@ -8,15 +8,13 @@
 mod apply;
 mod multi;
 mod pair;
-mod pin_nodes;
 mod pins;
 mod range;
-mod scattered;
 
 pub use crate::apply::audit_apply;
 pub use crate::multi::audit_multi;
 pub use crate::pair::audit_pair;
 pub use crate::pins::audit_pins;
 pub use crate::range::audit_range;
-pub use merkle_range_audit::place::{Argument, Place};
-pub use merkle_range_audit::verdict::{ApplyVerdict, PairVerdict, Verdict};
+pub use merkle_audit_parts::place::{Argument, Place};
+pub use merkle_audit_parts::verdict::{ApplyVerdict, PairVerdict, Verdict};

@@ -1,18 +1,18 @@
 //! The audit of two range checks against one root.
 ghost use Rattle.std.specs.Prelude.{◌≡◌, ◌≢◌, ◌↔◌, None, IfOk, IfErr, option_map};
-ghost use Rattle.merkle_range_audit.specs.Found.{collision_of_pair, IsPairVerdict};
-ghost use Rattle.merkle_range_audit.specs.Hashed.{located};
+ghost use Rattle.merkle_audit_parts.specs.Found.{collision_of_pair, IsPairVerdict};
+ghost use Rattle.merkle_audit_parts.specs.Hashed.{located};
 ghost use Rattle.merkle_audit.specs.Given.{given_input};
 
+use merkle_audit_parts::claim::{Claim, accepted};
+use merkle_audit_parts::range::first_difference;
+use merkle_audit_parts::verdict::{Collision, PairVerdict};
 use merkle_core::digest::Digest;
 use merkle_core::error::Error;
 use merkle_core::family::Family;
 use merkle_core::hasher::Hasher;
 use merkle_core::location::Location;
 use merkle_core::proof::Proof;
-use merkle_range_audit::claim::{Claim, accepted};
-use merkle_range_audit::range::first_difference;
-use merkle_range_audit::verdict::{Collision, PairVerdict};
 
 /// Audits two inputs of range checks against one root, which may be that of no list: says whether one
 /// of them is rejected, whether they are consistent, or else what both hashed that collides. So who

@@ -4,18 +4,18 @@ ghost use Rattle.merkle_base.specs.Cases.{first_case};
 ghost use Rattle.merkle_base.specs.Places.{peaks_of};
 ghost use Rattle.merkle_proof.specs.Input.{input_of};
 ghost use Rattle.merkle_hasher.specs.LeafDigests.{bytes_of};
-ghost use Rattle.merkle_range_audit.specs.Found.{list_refusals, IsRangeVerdict};
+ghost use Rattle.merkle_audit_parts.specs.Found.{list_refusals, IsRangeVerdict};
 
+use merkle_audit_parts::claim::{Claim, accepted};
+use merkle_audit_parts::list::HashedList;
+use merkle_audit_parts::range::{first_difference, verdict};
+use merkle_audit_parts::verdict::Verdict;
 use merkle_core::digest::Digest;
 use merkle_core::error::Error;
 use merkle_core::family::Family;
 use merkle_core::hasher::Hasher;
 use merkle_core::location::Location;
 use merkle_core::proof::Proof;
-use merkle_range_audit::claim::{Claim, accepted};
-use merkle_range_audit::list::HashedList;
-use merkle_range_audit::range::{first_difference, verdict};
-use merkle_range_audit::verdict::Verdict;
 
 /// Audits an input of a range check against the root of a list, of which the leaf digests are at
 /// hand: says whether the check rejects the input, whether it is the honest one of the list, or else

@@ -8,10 +8,10 @@ use Rattle.merkle_root_theory.specs.Reconstruction.{reconstructed}
 use Rattle.merkle_hasher.specs.LeafDigests.{bytes_of}
 use Rattle.merkle_proof.specs.Input.{input_of}
 use Rattle.merkle_proof.proofs.HasherLaws.{sound}
-use Rattle.merkle_range_audit.specs.Claimed.{IsClaim}
-use Rattle.merkle_range_audit.specs.Hashed.{located}
-use Rattle.merkle_range_audit.proofs.Searched.{pair_found}
-use Rattle.merkle_range_audit.proofs.Verdicts.{at_none, at_some, found_pair, no_pair}
+use Rattle.merkle_audit_parts.specs.Claimed.{IsClaim}
+use Rattle.merkle_audit_parts.specs.Hashed.{located}
+use Rattle.merkle_audit_parts.proofs.Searched.{pair_found}
+use Rattle.merkle_audit_parts.proofs.Verdicts.{at_none, at_some, found_pair, no_pair}
 use Rattle.merkle_audit.proofs.pair.audit_pair.Goals as goal
 
 pub first_difference-found-requires : goal.first_difference-found-requires

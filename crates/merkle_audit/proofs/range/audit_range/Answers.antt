@@ -11,10 +11,10 @@ use Rattle.merkle_root_theory.specs.Reconstruction.{reconstructed}
 use Rattle.merkle_hasher.specs.LeafDigests.{bytes_of}
 use Rattle.merkle_proof.specs.Input.{input_of}
 use Rattle.merkle_proof.proofs.HasherLaws.{sound}
-use Rattle.merkle_range_audit.specs.Claimed.{IsClaim}
-use Rattle.merkle_range_audit.specs.Hashed.{located}
-use Rattle.merkle_range_audit.proofs.Searched.{range_found}
-use Rattle.merkle_range_audit.proofs.Verdicts.{at_none, at_some, found_verdict, no_verdict, range_no, range_yes}
+use Rattle.merkle_audit_parts.specs.Claimed.{IsClaim}
+use Rattle.merkle_audit_parts.specs.Hashed.{located}
+use Rattle.merkle_audit_parts.proofs.Searched.{range_found}
+use Rattle.merkle_audit_parts.proofs.Verdicts.{at_none, at_some, found_verdict, no_verdict, range_no, range_yes}
 use Rattle.merkle_audit.proofs.range.audit_range.Goals as goal
 
 pub returns-in-Ok-None-clause-within : goal.returns-in-Ok-None-clause-within

@@ -1,5 +1,0 @@
-use Rattle.std.proofs.Common.{◌≡◌, take, map}
-use Rattle.merkle_audit.proofs.multi.list_locations.Given as goal
-
-abbrev pub invariant-loop-element : goal.invariant-loop-element
-invariant-loop-element g l = l.locations.items ≡ map (λ e. e.1) (take l.element-index l.elements)

@@ -1,4 +1,0 @@
-use Rattle.merkle_audit.proofs.pin_nodes.+rebuilt_digest.Given as goal
-
-abbrev pub decreases-rebuilt_digest : goal.decreases-rebuilt_digest
-decreases-rebuilt_digest g l = l.subtree.now.height

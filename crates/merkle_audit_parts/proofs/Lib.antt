@@ -1,0 +1,13 @@
+pub mod Claims
+pub mod FoldLists
+pub mod Lists
+pub mod Searched
+pub mod Tops
+pub mod Verdicts
+pub mod Walks
+pub mod GivenLeaves
+pub mod GivenNodes
+pub mod MultiFound
+pub mod PinLookups
+pub mod PinnedClaims
+pub mod PinnedWalks

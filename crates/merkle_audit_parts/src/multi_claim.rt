@@ -1,0 +1,135 @@
+//! What is hashed for an accepted input of a check of scattered leaves.
+ghost use Rattle.std.specs.Prelude.{◌≡◌, ◌≤◌, ◌<◌, Option, IfOk, IsOkUnless, length, map, flat_map, option_map};
+ghost use Rattle.std.specs.List.{AllByRecursion};
+ghost use Rattle.std.specs.List.Sorted.{IsStrictlyIncreasing};
+ghost use Rattle.merkle_base.specs.Forest.{size};
+ghost use Rattle.merkle_base.specs.Places.{peaks_of};
+ghost use Rattle.merkle_proof.specs.Input.{multi_input_of};
+ghost use Rattle.merkle_scattered.specs.MultiPositions.{AreLocations};
+ghost use Rattle.merkle_root_theory.specs.Expression as theory;
+ghost use Rattle.merkle_claim_theory.specs.Multiproof.{multi_positions, AcceptsMulti};
+ghost use Rattle.merkle_claim_theory.specs.Order.{node_places};
+ghost use Rattle.merkle_audit_theory.specs.Differences.{is_difference};
+ghost use Rattle.merkle_audit_theory.specs.Folds.{top_inputs, multi_digest};
+ghost use Rattle.merkle_audit_theory.specs.Searches.{looked_up};
+ghost use Rattle.merkle_audit_theory.specs.Seen.{Sees};
+ghost use Rattle.merkle_audit_parts.specs.Chosen.{multi_pair};
+ghost use Rattle.merkle_audit_parts.specs.Hashed.{located, top_of};
+
+use crate::nodes::Hashes;
+use crate::scattered::{LeafProof, walk_all};
+use crate::top::{Shape, Top, above_peaks};
+use crate::verdict::Collision;
+use merkle_core::error::Error;
+use merkle_core::family::Family;
+use merkle_core::hasher::Hasher;
+use merkle_core::location::Location;
+use merkle_core::position::Position;
+use merkle_core::proof::{Proof, multi_proof_positions};
+use merkle_hasher::peaks::list_peaks;
+use std::alloc::{AllocError, Global};
+
+// Returns the locations of elements.
+fn list_locations<F: Family>(
+    alloc: Global,
+    elements: &[(&[u8], Location<F>)],
+) -> Result<Vec<Location<F>>, AllocError>
+    ensures { IfOk result (λ v. v.items ≡ map (λ e. e.1) elements.now) }
+{
+    let mut locations = Vec::with_capacity(alloc, elements.len())?;
+    for element in elements {
+        locations.push(element.1)?;
+    }
+    Ok(locations)
+}
+
+// Returns the digests of the leaves with these elements.
+fn element_digests<F: Family, H: Hasher<F>>(
+    alloc: Global,
+    hasher: &H,
+    elements: &[(&[u8], Location<F>)],
+) -> Result<Vec<H::Digest>, AllocError>
+    requires { AllByRecursion (λ e. e.1 ≤ F.MAX_LEAVES) elements.now }
+    ensures { IfOk result (λ v. v.items ≡ map (λ e. (H.hashing hasher.now).leaf (size F.rule e.1) e.0.now) elements.now) }
+{
+    let mut digests = Vec::with_capacity(alloc, elements.len())?;
+    for element in elements {
+        let position = F::location_to_position(element.1);
+        digests.push(hasher.leaf_digest(position, element.0))?;
+    }
+    Ok(digests)
+}
+
+// Returns the positions that a proof of the leaves at these locations reads; without locations there
+// are none.
+fn read_positions<F: Family>(
+    alloc: Global,
+    leaves: Location<F>,
+    locations: &[Location<F>],
+) -> Result<Vec<Position<F>>, Error<F>>
+    requires { 0 < length locations.now → AreLocations F.MAX_LEAVES leaves locations.now }
+    ensures positions { IfOk result (λ v. v.items ≡ multi_positions F.rule leaves locations.now) }
+    ensures rises { IfOk result (λ v. IsStrictlyIncreasing v.items) }
+    ensures refused { IsOkUnless result Error.OutOfMemory }
+{
+    if locations.is_empty() {
+        return Ok(Vec::new(alloc));
+    }
+    match multi_proof_positions(alloc, leaves, locations) {
+        Ok(positions) => Ok(positions),
+        Err(error) => Err(error),
+    }
+}
+
+/// Returns what is hashed for an accepted input above the peaks, and the first node where what is
+/// hashed for it differs from what is listed.
+///
+/// Requires that the check accepts the input against some root.
+///
+/// # Errors
+///
+/// - `OutOfMemory` if a memory request is refused
+pub fn accepted<F: Family, H: Hasher<F>, B: Hashes<F, H::Digest>>(
+    hasher: &H,
+    proof: &Proof<F, H::Digest>,
+    elements: &[(&[u8], Location<F>)],
+    listed: &B,
+) -> Result<(Top<F, H::Digest>, Option<Collision<F, H::Digest>>), Error<F>>
+    requires { let s = H.scheme hasher.now in (root : H.Digest) × AcceptsMulti s (multi_input_of s proof.now elements.now) root }
+    ensures top { let s = H.scheme hasher.now in let r = multi_input_of s proof.now elements.now in
+        IfOk result (λ c. top_of c.0 ≡ top_inputs s r.leaves r.inactive (map (multi_digest s r) (peaks_of s.rule r.leaves))) }
+    ensures below { let s = H.scheme hasher.now in let r = multi_input_of s proof.now elements.now in
+        IfOk result (λ c. (f g : theory.Place → Option (theory.Input H.Digest))
+        → AllByRecursion (λ t. Sees (multi_pair s r) f t) (peaks_of s.rule r.leaves)
+        → AllByRecursion (λ t. Sees (B.hashed listed.now) g t) (peaks_of s.rule r.leaves)
+        → option_map located c.1 ≡ looked_up (is_difference s.hashing) (flat_map node_places (peaks_of s.rule r.leaves)) f g) }
+    ensures refused { IsOkUnless result Error.OutOfMemory }
+{
+    let alloc = *proof.digests.allocator();
+    let locations = list_locations(alloc, elements)?;
+    let positions = match read_positions(alloc, proof.leaves, &locations) {
+        Ok(positions) => positions,
+        Err(error) => return Err(error),
+    };
+    let leaves = element_digests(alloc, hasher, elements)?;
+    let given = LeafProof {
+        positions: &positions,
+        digests: &proof.digests,
+        locations: &locations,
+        leaves: &leaves,
+    };
+    let peaks = list_peaks(alloc, proof.leaves)?;
+    let mut digests = Vec::with_capacity(alloc, peaks.len())?;
+    let below = walk_all(hasher, &given, listed, &peaks, &mut digests)?;
+    let inactive = proof.inactive_peaks;
+    let shape = Shape {
+        leaves: proof.leaves,
+        inactive,
+        apart: inactive,
+        number: 1,
+    };
+    let Ok(top) = above_peaks(alloc, hasher, &shape, &digests) else {
+        return Err(Error::OutOfMemory);
+    };
+    Ok((top, below))
+}

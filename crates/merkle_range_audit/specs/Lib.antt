@@ -1,4 +1,0 @@
-pub mod Claimed
-pub mod Found
-pub mod Hashed
-pub mod Listed
