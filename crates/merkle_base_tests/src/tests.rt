@@ -12,9 +12,7 @@ mod mmr;
 mod nodes;
 mod paths;
 mod room;
-mod words;
 
-use merkle_base::error::Error;
 use merkle_base::family::{Family, Graftable};
 use merkle_base::location::Location;
 use merkle_base::position::Position;
@@ -44,30 +42,6 @@ fn assert_sums<F: Family>(rt: &impl Abort, max_nodes: u64) {
         ten.checked_add(u64::MAX).is_none(),
     ];
     assert!(rt; locations == [true; 3]);
-}
-
-/// Asserts that no conversion takes a count past the greatest or a position of no leaf.
-fn assert_refusals<F: Family>(
-    rt: &impl Abort,
-    past_leaves: Location<F>,
-    past_nodes: Position<F>,
-    merged: Position<F>,
-) {
-    let found = [
-        matches!(
-            &Position::try_from(past_leaves),
-            Err(Error::LocationOverflow(refused)) if *refused == past_leaves
-        ),
-        matches!(
-            &Location::try_from(past_nodes),
-            Err(Error::PositionOverflow(refused)) if *refused == past_nodes
-        ),
-        matches!(
-            &Location::try_from(merged),
-            Err(Error::NonLeaf(refused)) if *refused == merged
-        ),
-    ];
-    assert!(rt; found == [true; 3]);
 }
 
 /// Whether these are the positions and heights of the maximal nodes inside a chunk of leaves, left to right.

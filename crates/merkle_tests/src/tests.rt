@@ -1,4 +1,5 @@
-//! Values, bytes, added leaves, counts, lines, and proofs over what holds nodes, with values that were worked out by hand.
+//! Values, bytes, hexadecimal words, added leaves, counts, lines, and proofs over what holds nodes, with values that were worked out
+//! by hand.
 //!
 //! A digest of `Xor8` is the exclusive or of the bytes that it hashes.
 
@@ -10,6 +11,7 @@ mod lines;
 mod pending;
 mod values;
 mod verification;
+mod words;
 
 use merkle_core::digest::{Digest, Xor8Digest};
 use merkle_core::family::Family;

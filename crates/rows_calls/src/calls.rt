@@ -24,6 +24,7 @@ pub fn answer_family<F: Family, H: Hasher<F>>(
         FamilyCall::IsSize => families::is_size::<F>(words, answer),
         FamilyCall::Location => families::location::<F>(words, answer),
         FamilyCall::NearestSize => families::nearest_size::<F>(words, answer),
+        FamilyCall::Parents => families::parents::<F>(words, answer),
         FamilyCall::Pins => families::pins::<F>(words, answer),
         FamilyCall::Position => families::position::<F>(words, answer),
     }

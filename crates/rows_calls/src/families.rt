@@ -1,6 +1,7 @@
 //! Calls of the family alone.
 ghost use Rattle.std.specs.Prelude.{◌≤◌, IfOk};
 
+use crate::refusal::granted;
 use crate::writing::write_positions;
 use merkle_core::digest::Digest;
 use merkle_core::family::Family;
@@ -37,8 +38,8 @@ fn test_position<F: Family>(nodes: Position<F>) -> Result<(), Refusal>
 pub fn position<F: Family>(words: &mut Words, answer: &mut Answer) -> Result<(), Refusal> {
     let leaf = Location::<F>::new(words.number());
     words.end()?;
-    test_location(leaf)?;
-    answer.number(F::location_to_position(leaf).as_u64());
+    let node = granted(Position::try_from(leaf))?;
+    answer.number(node.as_u64());
     Ok(())
 }
 
@@ -46,11 +47,8 @@ pub fn position<F: Family>(words: &mut Words, answer: &mut Answer) -> Result<(),
 pub fn location<F: Family>(words: &mut Words, answer: &mut Answer) -> Result<(), Refusal> {
     let node = Position::<F>::new(words.number());
     words.end()?;
-    test_position(node)?;
-    match F::position_to_location(node) {
-        Some(leaf) => answer.number(leaf.as_u64()),
-        None => return Err(Refusal::Of("NonLeaf", node.as_u64())),
-    }
+    let leaf = granted(Location::try_from(node))?;
+    answer.number(leaf.as_u64());
     Ok(())
 }
 
@@ -79,6 +77,23 @@ pub fn height<F: Family>(words: &mut Words, answer: &mut Answer) -> Result<(), R
         return Err(Refusal::Of("PositionOverflow", node.as_u64()));
     }
     answer.number(u64::from(F::pos_to_height(node)));
+    Ok(())
+}
+
+/// The heights of the parents that come with a leaf.
+pub fn parents<F: Family>(words: &mut Words, answer: &mut Answer) -> Result<(), Refusal> {
+    let leaf = Location::<F>::new(words.number());
+    words.end()?;
+    if !leaf.is_valid_index() {
+        return Err(Refusal::Of("LocationOverflow", leaf.as_u64()));
+    }
+    let mut count = 0;
+    for height in F::parent_heights(leaf) {
+        answer.separator(" ", count == 0);
+        answer.number(u64::from(height));
+        count = 1;
+    }
+    answer.none_if(count == 0);
     Ok(())
 }
 

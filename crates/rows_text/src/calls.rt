@@ -27,6 +27,7 @@ pub enum FamilyCall {
     IsSize,
     Location,
     NearestSize,
+    Parents,
     Pins,
     Position,
 }
@@ -180,13 +181,14 @@ pub enum AuditCall {
 }
 
 /// Each call, with its first word and the number of its words.
-const CALLS: [(&str, usize, Call); 96] = [
+const CALLS: [(&str, usize, Call); 97] = [
     ("height", 2, Call::Family(FamilyCall::Height)),
     ("inactive", 3, Call::Family(FamilyCall::Inactive)),
     ("is_inactive", 4, Call::Family(FamilyCall::IsInactive)),
     ("is_size", 2, Call::Family(FamilyCall::IsSize)),
     ("location", 2, Call::Family(FamilyCall::Location)),
     ("nearest_size", 2, Call::Family(FamilyCall::NearestSize)),
+    ("parents", 2, Call::Family(FamilyCall::Parents)),
     ("pins", 2, Call::Family(FamilyCall::Pins)),
     ("position", 2, Call::Family(FamilyCall::Position)),
     ("groups", 5, Call::Plan(PlanCall::Groups)),

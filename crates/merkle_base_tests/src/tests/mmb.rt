@@ -1,6 +1,6 @@
 //! The Mountain Belt.
 
-use super::{assert_refusals, assert_sums, has_chunk, root_of};
+use super::{assert_sums, has_chunk, root_of};
 use merkle_base::family::{Family, Graftable};
 use merkle_topology::mmb;
 use merkle_topology::mmb::PeakIterator;
@@ -27,13 +27,6 @@ fn sums(rt: HostRuntime) {
     assert_sums::<mmb::Family>(&rt, MAX_NODES);
 }
 
-#[test]
-fn refusals(rt: HostRuntime) {
-    let past_leaves = mmb::Location::new(MAX_LEAVES + 1);
-    let past_nodes = mmb::Position::new(MAX_NODES + 1);
-    assert_refusals(&rt, past_leaves, past_nodes, mmb::Position::new(2));
-}
-
 /// What a peak iterator tells of its rest: the number of peaks, the same as bounds, and the leaf count of all.
 fn told(peaks: &PeakIterator) -> (usize, (usize, Option<usize>), u64) {
     (peaks.len(), peaks.size_hint(), peaks.leaves().as_u64())
@@ -58,27 +51,6 @@ fn no_peaks(rt: HostRuntime) {
     assert!(rt; PeakIterator::to_nearest_size(mmb::Position::new(5)).as_u64() == 4);
     assert!(rt; told(&PeakIterator::default()) == (0, (0, Some(0)), 0));
     assert!(rt; PeakIterator::default().next().is_none());
-}
-
-/// The heights of the first two parents that come with a leaf.
-fn parents_of(location: mmb::Location) -> [Option<u32>; 2] {
-    if !location.is_valid_index() {
-        return [Some(0); 2];
-    }
-    let mut heights = mmb::Family::parent_heights(location);
-    [heights.next(), heights.next()]
-}
-
-#[test]
-fn parents(rt: HostRuntime) {
-    let heights = [0, 1, 0, 1, 2, 1, 0, 1, 2, 1, 3, 1, 2, 1, 0, 1];
-    for (location, height) in heights.iter().enumerate() {
-        let wanted = if *height == 0 { None } else { Some(*height) };
-        let location = mmb::Location::from(location);
-        assert!(rt; parents_of(location) == [wanted, None], "{location}");
-    }
-    assert!(rt; parents_of(mmb::Location::new(MAX_LEAVES - 32)) == [None, None]);
-    assert!(rt; parents_of(mmb::Location::new(MAX_LEAVES - 1)) == [Some(1), None]);
 }
 
 #[test]

@@ -1,6 +1,6 @@
 //! The Mountain Range.
 
-use super::{assert_refusals, assert_sums, has_chunk, root_of};
+use super::{assert_sums, has_chunk, root_of};
 use merkle_base::family::Family;
 use merkle_topology::mmr;
 use merkle_topology::mmr::PeakIterator;
@@ -15,24 +15,9 @@ fn sums(rt: HostRuntime) {
 }
 
 #[test]
-fn refusals(rt: HostRuntime) {
-    let past_leaves = mmr::Location::new(MAX_LEAVES + 1);
-    let past_nodes = mmr::Position::new(MAX_NODES + 1);
-    assert_refusals(&rt, past_leaves, past_nodes, mmr::Position::new(2));
-}
-
-#[test]
 fn peaks(rt: HostRuntime) {
     assert!(rt; PeakIterator::to_nearest_size(mmr::Position::new(6)).as_u64() == 4);
     assert!(rt; PeakIterator::default().next().is_none());
-}
-
-#[test]
-fn parents(rt: HostRuntime) {
-    let heights = mmr::Family::parent_heights(mmr::Location::new(3));
-    let heights: Option<Vec<u32>> = heights.collect(rt.alloc()).ok();
-    let heights = heights.expect(&rt, "memory");
-    assert!(rt; heights.as_slice() == [1, 2].as_slice());
 }
 
 #[test]
