@@ -1,7 +1,7 @@
 //! Calls of the family alone.
 ghost use Rattle.std.specs.Prelude.{◌≤◌, IfOk};
 
-use crate::refusal::granted;
+use crate::refusal::refused;
 use crate::writing::write_positions;
 use merkle_core::digest::Digest;
 use merkle_core::family::Family;
@@ -38,8 +38,10 @@ fn test_position<F: Family>(nodes: Position<F>) -> Result<(), Refusal>
 pub fn position<F: Family>(words: &mut Words, answer: &mut Answer) -> Result<(), Refusal> {
     let leaf = Location::<F>::new(words.number());
     words.end()?;
-    let node = granted(Position::try_from(leaf))?;
-    answer.number(node.as_u64());
+    match Position::try_from(leaf) {
+        Ok(node) => answer.number(node.as_u64()),
+        Err(error) => return Err(refused(&error)),
+    }
     Ok(())
 }
 
@@ -47,8 +49,10 @@ pub fn position<F: Family>(words: &mut Words, answer: &mut Answer) -> Result<(),
 pub fn location<F: Family>(words: &mut Words, answer: &mut Answer) -> Result<(), Refusal> {
     let node = Position::<F>::new(words.number());
     words.end()?;
-    let leaf = granted(Location::try_from(node))?;
-    answer.number(leaf.as_u64());
+    match Location::try_from(node) {
+        Ok(leaf) => answer.number(leaf.as_u64()),
+        Err(error) => return Err(refused(&error)),
+    }
     Ok(())
 }
 
