@@ -55,8 +55,11 @@ fn parents<F: Family, D: Digest>(
     right: &[D],
 ) -> Result<Vec<(Position<F>, D, D)>, Refusal> {
     let mut all = Vec::new(alloc);
-    for (position, (left, right)) in positions.iter().zip(left.iter().zip(right)) {
-        all.push((Position::new(*position), *left, *right))?;
+    for (index, position) in positions.iter().enumerate() {
+        match (left.get(index), right.get(index)) {
+            (Some(left), Some(right)) => all.push((Position::new(*position), *left, *right))?,
+            _ => return Err(SYNTAX),
+        }
     }
     Ok(all)
 }
