@@ -3,7 +3,8 @@
 //! The hash is a toy, the exclusive or of bytes, whose collisions are at hand: the second server has another entry, with a proof
 //! that is accepted. With a hash for which no collisions are known there is no such proof, as far as anyone knows.
 
-use crate::LogError;
+use crate::telling::{say, tell};
+use crate::{Log, LogError};
 use merkle_audit::{PairVerdict, Verdict, audit_pair, audit_range};
 use merkle_core::digest::Digest;
 use merkle_core::family::Family as _;
@@ -24,18 +25,6 @@ fn start() -> Location {
 struct Answer<D: Digest> {
     entry: [&'static [u8]; 1],
     proof: Proof<D>,
-}
-
-/// The log of the entries.
-fn log<H: Hasher<Family>>(alloc: Global, hasher: &H) -> Result<Mmr<H::Digest>, LogError> {
-    let mut tree = Mmr::new(alloc);
-    let mut batch = granted!(tree.new_batch());
-    for entry in ENTRIES {
-        batch = granted!(batch.add(hasher, entry));
-    }
-    let batch = granted!(batch.merkleize(&tree, hasher));
-    granted!(tree.apply_batch(&batch));
-    Ok(tree)
 }
 
 /// The leaf digests of a log, which an auditor keeps.
@@ -102,11 +91,10 @@ fn show_pair<H: Hasher<Family>>(
         (&second.proof, &second.entry, start()),
     );
     match granted!(verdict) {
-        PairVerdict::Rejected => println!(rt; "one answer is rejected")?,
-        PairVerdict::Consistent => println!(rt; "the answers agree")?,
-        PairVerdict::Collision { .. } => println!(rt; "the answers collide: one of them is false")?,
+        PairVerdict::Rejected => tell(rt, "the answers", "one is rejected"),
+        PairVerdict::Consistent => tell(rt, "the answers agree", "none is false"),
+        PairVerdict::Collision { .. } => tell(rt, "the answers collide", "one of them is false"),
     }
-    Ok(())
 }
 
 /// An auditor who has the list says whose answer is honest.
@@ -118,30 +106,28 @@ fn show_verdict<H: Hasher<Family>>(
     answer: &Answer<H::Digest>,
 ) -> Result<(), LogError> {
     match granted!(audit_range(hasher, list, 0, &answer.proof, &answer.entry, start())) {
-        Verdict::Rejected => println!(rt; "{server}: rejected")?,
-        Verdict::Honest => println!(rt; "{server}: honest")?,
-        Verdict::Collision { .. } => println!(rt; "{server}: convicted by a collision")?,
+        Verdict::Rejected => tell(rt, server, "rejected"),
+        Verdict::Honest => tell(rt, server, "honest"),
+        Verdict::Collision { .. } => tell(rt, server, "convicted by a collision"),
     }
-    Ok(())
 }
 
 /// Two servers answer what the first entry is, by a toy hasher; a client finds that they collide, and an auditor who of them is
 /// honest.
-pub fn show_evidence<H: Hasher<Family>>(
+pub fn show_evidence<H: Hasher<Family> + Drop>(
     rt: &impl Print,
     alloc: Global,
-    hasher: &H,
+    hasher: H,
 ) -> Result<(), LogError> {
-    let tree = log(alloc, hasher)?;
-    let root = granted!(tree.root(hasher, 0));
-    let first = honest_answer(hasher, &tree)?;
+    let mut log = Log::new(alloc, hasher);
+    let root = log.append(&ENTRIES)?;
+    let first = honest_answer(&log.hasher, &log.tree)?;
     let second = false_answer(&first)?;
-    println!(rt;
-        "both answers are accepted: {}",
-        is_accepted(hasher, &first, &root)? && is_accepted(hasher, &second, &root)?
-    )?;
-    show_pair(rt, hasher, &root, &first, &second)?;
-    let list = leaf_digests(alloc, &tree)?;
-    show_verdict(rt, hasher, &list, "the first server", &first)?;
-    show_verdict(rt, hasher, &list, "the second server", &second)
+    let are_accepted = is_accepted(&log.hasher, &first, &root)?
+        && is_accepted(&log.hasher, &second, &root)?;
+    say(rt, "both answers are accepted", are_accepted)?;
+    show_pair(rt, &log.hasher, &root, &first, &second)?;
+    let list = leaf_digests(alloc, &log.tree)?;
+    show_verdict(rt, &log.hasher, &list, "the first server", &first)?;
+    show_verdict(rt, &log.hasher, &list, "the second server", &second)
 }

@@ -1,5 +1,6 @@
 //! A log that is written down and read back, and a client that tells why it refuses a proof.
 
+use crate::telling::{say, tell, tell_size};
 use crate::{Log, LogError};
 use merkle_core::codec::{Read, Write};
 use merkle_core::digest::Digest;
@@ -10,14 +11,20 @@ use merkle_core::hasher::Hasher;
 use merkle_core::mmr::{Family, Location, Mmr, Position, Proof};
 use std::alloc::Global;
 
-/// The bytes of what a log holds: its boundary, the digests of the peaks over the entries before it, and the nodes from there on.
-fn written<H: Hasher<Family> + Drop>(log: &Log<H>) -> Result<Vec<u8>, LogError> {
-    let mut bytes = Vec::new(log.alloc);
-    let boundary = log.tree.pruning_boundary();
-    boundary.write(&mut bytes)?;
-    for pin in &log.pins(boundary)? {
-        bytes.extend_from_slice(pin.as_bytes())?;
+/// Appends digests, one after another.
+fn write_digests<D: Digest>(digests: &[D], bytes: &mut Vec<u8>) -> Result<(), LogError> {
+    for digest in digests {
+        bytes.extend_from_slice(digest.as_bytes())?;
     }
+    Ok(())
+}
+
+/// Appends the digests of the nodes that a log holds from its boundary on.
+fn write_nodes<H: Hasher<Family> + Drop>(
+    log: &Log<H>,
+    boundary: Location,
+    bytes: &mut Vec<u8>,
+) -> Result<(), LogError> {
     if boundary.is_valid() {
         let start = Family::location_to_position(boundary);
         for index in start.as_u64()..log.tree.size().as_u64() {
@@ -25,6 +32,17 @@ fn written<H: Hasher<Family> + Drop>(log: &Log<H>) -> Result<Vec<u8>, LogError> 
             bytes.extend_from_slice(digest.ok_or(LogError::Pruned)?.as_bytes())?;
         }
     }
+    Ok(())
+}
+
+/// The bytes of what a log holds: its boundary, the digests of the peaks over the entries before it, and the nodes from there on.
+fn written<H: Hasher<Family> + Drop>(log: &Log<H>) -> Result<Vec<u8>, LogError> {
+    let boundary = log.tree.pruning_boundary();
+    let pins = log.pins(boundary)?;
+    let mut bytes = Vec::new(log.alloc);
+    boundary.write(&mut bytes)?;
+    write_digests(&pins, &mut bytes)?;
+    write_nodes(log, boundary, &mut bytes)?;
     Ok(bytes)
 }
 
@@ -69,16 +87,14 @@ pub(crate) fn show_restart<H: Hasher<Family> + Drop>(
     root: &H::Digest,
 ) -> Result<(), LogError> {
     let mut bytes = written(log)?;
-    println!(rt; "the log is written in {} bytes", bytes.len())?;
-    println!(rt;
-        "read back, it has the same root: {}",
-        has_root(log, &bytes, root)?
-    )?;
+    tell_size(rt, "the log is written in", &bytes)?;
+    let is_same = has_root(log, &bytes, root)?;
+    say(rt, "read back, it has the same root", is_same)?;
     if let Some(byte) = bytes.last_mut() {
         *byte ^= 1;
     }
-    println!(rt; "with a bit changed: {}", has_root(log, &bytes, root)?)?;
-    Ok(())
+    let is_same = has_root(log, &bytes, root)?;
+    say(rt, "with a bit changed", is_same)
 }
 
 /// Why a proof leads to no root.
@@ -118,26 +134,17 @@ pub(crate) fn show_reasons<H: Hasher<Family> + Drop>(
 ) -> Result<(), LogError> {
     let location = Location::new(5);
     let proof = granted!(log.tree.proof(&log.hasher, location, 0));
-    println!(rt;
-        "fay: {}",
-        reason(&log.hasher, &proof, b"fay", location, root)
-    )?;
-    println!(rt;
-        "gus: {}",
-        reason(&log.hasher, &proof, b"gus", location, root)
-    )?;
-    println!(rt;
-        "entry 8: {}",
-        reason(&log.hasher, &proof, b"fay", Location::new(8), root)
-    )?;
+    let said = reason(&log.hasher, &proof, b"fay", location, root);
+    tell(rt, "fay", said)?;
+    let said = reason(&log.hasher, &proof, b"gus", location, root);
+    tell(rt, "gus", said)?;
+    let said = reason(&log.hasher, &proof, b"fay", Location::new(8), root);
+    tell(rt, "entry 8", said)?;
     let short = Proof {
         leaves: proof.leaves,
         inactive_peaks: proof.inactive_peaks,
         digests: Vec::new(log.alloc),
     };
-    println!(rt;
-        "without digests: {}",
-        reason(&log.hasher, &short, b"fay", location, root)
-    )?;
-    Ok(())
+    let said = reason(&log.hasher, &short, b"fay", location, root);
+    tell(rt, "without digests", said)
 }

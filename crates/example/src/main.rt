@@ -7,10 +7,12 @@
 mod client;
 mod evidence;
 mod keeping;
+mod telling;
 mod trusting;
 
 use crate::evidence::show_evidence;
 use crate::keeping::{show_reasons, show_restart};
+use crate::telling::{say, say_both, tell, tell_size};
 use crate::trusting::{client_of, show_acceptance, show_following};
 use hex::encode;
 use merkle_core::codec::{Read, Write};
@@ -114,7 +116,7 @@ fn show_entry<H: Hasher<Family> + Drop>(
     let location = Location::new(2);
     let mut bytes = Vec::new(log.alloc);
     granted!(log.tree.proof(&log.hasher, location, 0)).write(&mut bytes)?;
-    println!(rt; "the proof of entry 2 has {} bytes", bytes.len())?;
+    tell_size(rt, "the proof of entry 2 has", &bytes)?;
 
     let proof = Proof::read(
         log.alloc,
@@ -123,8 +125,7 @@ fn show_entry<H: Hasher<Family> + Drop>(
     )?;
     let is_cleo = proof.verify_element_inclusion(&log.hasher, b"cleo", location, root)?;
     let is_dan = proof.verify_element_inclusion(&log.hasher, b"dan", location, root)?;
-    println!(rt; "entry 2 is cleo: {is_cleo}, is dan: {is_dan}")?;
-    Ok(())
+    say_both(rt, ("entry 2 is cleo", is_cleo), ("is dan", is_dan))
 }
 
 /// The log shows to a client that knows the root of the first entries that a newer root extends it.
@@ -143,11 +144,8 @@ fn show_growth<H: Hasher<Family> + Drop>(
 
     let old_of_pins: H::Digest = granted!(log.hasher.root(start, 0, &pins));
     let is_new = proof.verify_proof_and_pinned_nodes(&log.hasher, &LATER, start, &pins, root)?;
-    println!(rt;
-        "the new root extends the old one: {}",
-        is_new && old_of_pins == *old
-    )?;
-    Ok(())
+    let is_old = old_of_pins == *old;
+    say(rt, "the new root extends the old one", is_new && is_old)
 }
 
 /// Who keeps the proof of a range serves the proofs of its parts, without the log.
@@ -164,8 +162,11 @@ fn show_store<H: Hasher<Family> + Drop>(
     let store = granted!(ProofStore::new(&log.hasher, &proof, &LATER, start, root));
     let part = granted!(store.range_proof(&log.hasher, Location::new(6)..Location::new(8)));
     let is_part = part.verify_range_inclusion(&log.hasher, &LATER[1..], Location::new(6), root)?;
-    println!(rt; "the store's proof of entries 6 and 7 is accepted: {is_part}")?;
-    Ok(())
+    say(
+        rt,
+        "the store's proof of entries 6 and 7 is accepted",
+        is_part,
+    )
 }
 
 /// The log forgets entries. Its root stays, and they have no proofs any more.
@@ -176,7 +177,7 @@ fn show_pruning<H: Hasher<Family> + Drop>(
 ) -> Result<(), LogError> {
     granted!(log.tree.prune(Location::new(4)));
     let is_same = granted!(log.tree.root(&log.hasher, 0)) == *root;
-    println!(rt; "the root stays after pruning: {is_same}")?;
+    say(rt, "the root stays after pruning", is_same)?;
     if let Err(error) = log.tree.proof(&log.hasher, Location::new(2), 0) {
         println!(rt; "entry 2: {}", LogError::from(&error))?;
     }
@@ -191,13 +192,13 @@ fn show_log<H: Hasher<Family> + Drop>(
 ) -> Result<(), LogError> {
     let mut log = Log::new(alloc, hasher);
     let old = log.append(&FIRST)?;
-    println!(rt; "root of 5 entries: {}", encode(alloc, old.as_bytes())?)?;
+    tell(rt, "root of 5 entries", &encode(alloc, old.as_bytes())?)?;
     show_entry(rt, &log, &old)?;
     let mut client = client_of(&log, old);
     show_acceptance(rt, &log, &client)?;
 
     let root = log.append(&LATER)?;
-    println!(rt; "root of 8 entries: {}", encode(alloc, root.as_bytes())?)?;
+    tell(rt, "root of 8 entries", &encode(alloc, root.as_bytes())?)?;
     show_growth(rt, &log, &old, &root)?;
     show_following(rt, &log, &mut client, &root)?;
     show_store(rt, &log, &root)?;
@@ -210,7 +211,7 @@ fn run(rt: &impl Print, alloc: Global) -> Result<(), LogError> {
     let hasher = StandardHasher::<Sha256Plain>::new(Bagging::ForwardFold);
     show_log(rt, alloc, hasher)?;
     let toy = StandardHasher::<Xor8>::new(Bagging::ForwardFold);
-    show_evidence(rt, alloc, &toy)
+    show_evidence(rt, alloc, toy)
 }
 
 fn main(rt: HostRuntime) -> ExitCode {

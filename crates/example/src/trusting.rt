@@ -1,6 +1,7 @@
 //! A client that trusts a root alone, and follows the log.
 
 use crate::client::Client;
+use crate::telling::{say, say_both};
 use crate::{LATER, Log, LogError};
 use merkle_core::granted;
 use merkle_core::hasher::Hasher;
@@ -28,8 +29,11 @@ pub(crate) fn show_acceptance<H: Hasher<Family> + Drop>(
     let proof = granted!(log.tree.proof(&log.hasher, location, 0));
     let is_bob = client.accept(&log.hasher, &proof, b"bob", location)?;
     let is_ann = client.accept(&log.hasher, &proof, b"ann", location)?;
-    println!(rt; "the client accepts bob as entry 1: {is_bob}, ann: {is_ann}")?;
-    Ok(())
+    say_both(
+        rt,
+        ("the client accepts bob as entry 1", is_bob),
+        ("ann", is_ann),
+    )
 }
 
 /// The client moves on to a newer root if it is shown the entries that follow, and the peaks over those before.
@@ -48,17 +52,18 @@ pub(crate) fn show_following<H: Hasher<Family> + Drop>(
     let others: [&[u8]; 3] = [b"fay", b"ann", b"hal"];
     let by_others = client.follow(&log.hasher, &proof, &others, &pins, root)?;
     let by_no_pins = client.follow(&log.hasher, &proof, &LATER, &[], root)?;
-    println!(rt; "it follows other entries: {by_others}, without pins: {by_no_pins}")?;
-    println!(rt;
-        "it stays at {} entries and the old root: {}",
-        client.leaves.as_u64(),
-        client.root == trusted
+    say_both(
+        rt,
+        ("it follows other entries", by_others),
+        ("without pins", by_no_pins),
     )?;
+    let has_stayed = client.leaves == start && client.root == trusted;
+    say(rt, "it stays at 5 entries and the old root", has_stayed)?;
     let by_all = client.follow(&log.hasher, &proof, &LATER, &pins, root)?;
-    println!(rt;
-        "it follows the log: {by_all}, to {} entries and the new root: {}",
-        client.leaves.as_u64(),
-        client.root == *root
-    )?;
-    Ok(())
+    let has_moved = client.leaves == log.tree.leaves() && client.root == *root;
+    say_both(
+        rt,
+        ("it follows the log", by_all),
+        ("to 8 entries and the new root", has_moved),
+    )
 }
