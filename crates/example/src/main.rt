@@ -125,7 +125,7 @@ fn show_entry<H: Hasher<Family> + Drop>(
     )?;
     let is_cleo = proof.verify_element_inclusion(&log.hasher, b"cleo", location, root)?;
     let is_dan = proof.verify_element_inclusion(&log.hasher, b"dan", location, root)?;
-    say_both(rt, ("entry 2 is cleo", is_cleo), ("is dan", is_dan))
+    say_both(rt, "entry 2 is cleo", is_cleo, "is dan", is_dan)
 }
 
 /// The log shows to a client that knows the root of the first entries that a newer root extends it.

@@ -8,13 +8,15 @@ pub(crate) fn say(rt: &impl Print, what: &str, is_so: bool) -> Result<(), LogErr
     Ok(())
 }
 
-/// Tells whether each of two things is so.
+/// Tells whether something is so, and something else.
 pub(crate) fn say_both(
     rt: &impl Print,
-    (first, is_first): (&str, bool),
-    (second, is_second): (&str, bool),
+    what: &str,
+    is_so: bool,
+    other: &str,
+    is_other_so: bool,
 ) -> Result<(), LogError> {
-    println!(rt; "{first}: {is_first}, {second}: {is_second}")?;
+    println!(rt; "{what}: {is_so}, {other}: {is_other_so}")?;
     Ok(())
 }
 

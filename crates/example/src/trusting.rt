@@ -31,8 +31,10 @@ pub(crate) fn show_acceptance<H: Hasher<Family> + Drop>(
     let is_ann = client.accept(&log.hasher, &proof, b"ann", location)?;
     say_both(
         rt,
-        ("the client accepts bob as entry 1", is_bob),
-        ("ann", is_ann),
+        "the client accepts bob as entry 1",
+        is_bob,
+        "ann",
+        is_ann,
     )
 }
 
@@ -54,8 +56,10 @@ pub(crate) fn show_following<H: Hasher<Family> + Drop>(
     let by_no_pins = client.follow(&log.hasher, &proof, &LATER, &[], root)?;
     say_both(
         rt,
-        ("it follows other entries", by_others),
-        ("without pins", by_no_pins),
+        "it follows other entries",
+        by_others,
+        "without pins",
+        by_no_pins,
     )?;
     let has_stayed = client.leaves == start && client.root == trusted;
     say(rt, "it stays at 5 entries and the old root", has_stayed)?;
@@ -63,7 +67,9 @@ pub(crate) fn show_following<H: Hasher<Family> + Drop>(
     let has_moved = client.leaves == log.tree.leaves() && client.root == *root;
     say_both(
         rt,
-        ("it follows the log", by_all),
-        ("to 8 entries and the new root", has_moved),
+        "it follows the log",
+        by_all,
+        "to 8 entries and the new root",
+        has_moved,
     )
 }
