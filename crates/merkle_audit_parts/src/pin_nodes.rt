@@ -193,7 +193,9 @@ pub(crate) fn first_pinned_at<F: Family, H: Hasher<F>, B: Hashes<F, H::Digest>>(
     }
 }
 
-/// The same of several nodes, one after another.
+/// Returns the first node, from each of these on in turn, at which two different pairs are hashed.
+///
+/// Requires that they are nodes of the family's forest.
 pub fn first_pinned_below<F: Family, H: Hasher<F>, B: Hashes<F, H::Digest>>(
     peaks: &[Subtree<F>],
     hasher: &H,
