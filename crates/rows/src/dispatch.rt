@@ -7,6 +7,7 @@ use rows_calls::calls;
 use rows_calls::choices::{Familiar, Hashed};
 use rows_calls::world::World;
 use rows_proofs::calls as proof_calls;
+use rows_structures::calls as structure_calls;
 use rows_text::answer::Answer;
 use rows_text::calls::Call;
 use rows_text::refusal::{Refusal, SYNTAX};
@@ -26,10 +27,10 @@ fn answer_world<F: Family, H: Hasher<F> + Drop>(
         Call::Plan(call) => calls::answer_plan::<F, H>(&world.hasher, call, words, answer),
         Call::Given(call) => calls::answer_given::<F, H>(&world.hasher, call, words, answer),
         Call::Bytes(call) => calls::answer_bytes::<F, H>(&world.hasher, call, words, answer),
-        Call::Structure(call) => calls::answer_structure(world, call, words, answer),
-        Call::Node(call) => calls::answer_node(world, call, words, answer),
-        Call::Batch(call) => calls::answer_batch(world, call, words, answer),
-        Call::Leaf(call) => calls::answer_leaf(world, call, words),
+        Call::Structure(call) => structure_calls::answer_structure(world, call, words, answer),
+        Call::Node(call) => structure_calls::answer_node(world, call, words, answer),
+        Call::Batch(call) => structure_calls::answer_batch(world, call, words, answer),
+        Call::Leaf(call) => structure_calls::answer_leaf(world, call, words),
         Call::Proof(call) => proof_calls::answer(world, call, words, answer),
         Call::Store(call) => proof_calls::answer_store(world, call, words, answer),
         Call::Every(call) => proof_calls::answer_every(world, call, words, answer),

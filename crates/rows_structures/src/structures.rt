@@ -1,15 +1,15 @@
 //! Calls of structures.
 
-use crate::refusal::{granted, refused};
-use crate::values::digests;
-use crate::world::World;
-use crate::writing::write_peaks;
 use merkle_core::digest::Digest;
 use merkle_core::family::Family;
 use merkle_core::hasher::Hasher;
 use merkle_core::location::Location;
 use merkle_core::mem::{Config, Mem};
 use merkle_core::position::Position;
+use rows_calls::refusal::{granted, refused};
+use rows_calls::values::digests;
+use rows_calls::world::World;
+use rows_calls::writing::write_peaks;
 use rows_text::answer::Answer;
 use rows_text::refusal::{Refusal, UNKNOWN};
 use rows_text::words::{Words, give_name, named};

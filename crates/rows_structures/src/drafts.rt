@@ -1,11 +1,11 @@
 //! The batches whose nodes are not computed yet, by their names.
 
-use crate::refusal::refused;
-use crate::world::World;
 use merkle_core::batch::UnmerkleizedBatch;
 use merkle_core::error::Error;
 use merkle_core::family::Family;
 use merkle_core::hasher::Hasher;
+use rows_calls::refusal::refused;
+use rows_calls::world::World;
 use rows_text::refusal::{Refusal, UNKNOWN};
 use rows_text::words::give_name;
 

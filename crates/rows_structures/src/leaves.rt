@@ -1,13 +1,13 @@
 //! Calls that add and change leaves of batches.
 
 use crate::drafts::{keep_draft, keep_granted, take_draft};
-use crate::refusal::granted;
-use crate::values::{digest, digests, updates};
-use crate::world::World;
 use merkle_core::batch::UnmerkleizedBatch;
 use merkle_core::family::Family;
 use merkle_core::hasher::Hasher;
 use merkle_core::location::Location;
+use rows_calls::refusal::granted;
+use rows_calls::values::{digest, digests, updates};
+use rows_calls::world::World;
 use rows_text::refusal::Refusal;
 use rows_text::words::{LocatedBytes, Words, named};
 use std::alloc::Global;

@@ -2,12 +2,12 @@
 
 use crate::drafts::{keep_draft, keep_granted, take_draft};
 use crate::leaves::add;
-use crate::refusal::{granted, refused};
-use crate::world::World;
 use merkle_core::batch::MerkleizedBatch;
 use merkle_core::family::{Family, Work};
 use merkle_core::hasher::Hasher;
 use merkle_core::mem::Mem;
+use rows_calls::refusal::{granted, refused};
+use rows_calls::world::World;
 use rows_text::answer::Answer;
 use rows_text::refusal::{Refusal, UNKNOWN};
 use rows_text::words::{Words, give_name, named};

@@ -1,13 +1,13 @@
 //! Calls of nodes and roots.
 
-use crate::MOST_PEAKS;
-use crate::refusal::granted;
-use crate::world::World;
-use crate::writing::{write_node, write_nodes};
 use merkle_core::digest::Digest;
 use merkle_core::family::Family;
 use merkle_core::hasher::Hasher;
 use merkle_core::position::Position;
+use rows_calls::MOST_PEAKS;
+use rows_calls::refusal::granted;
+use rows_calls::world::World;
+use rows_calls::writing::{write_node, write_nodes};
 use rows_text::answer::Answer;
 use rows_text::refusal::Refusal;
 use rows_text::words::{Words, named};
