@@ -9,7 +9,7 @@ abbrev pub digest_at : {D : Type 0} → Hashing D → List D → Tree → D
 digest_at h X (leaf p n) = slice_index_or X n h.empty
 digest_at h X (join p l r) = h.node p (digest_at h X l) (digest_at h X r)
 
--- the digests of X by position
+-- the digests of X at all nodes of its forest, by position
 abbrev pub node_digests : {D : Type 0} → Hashing D → (List ℕ → List ℕ) → List D → List D
 node_digests h rule X = map (digest_at h X) (forest rule (length X)).nodes
 

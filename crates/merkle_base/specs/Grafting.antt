@@ -14,7 +14,7 @@ abbrev pub maximal_inside : ℕ → ℕ → Tree → List Tree
 maximal_inside a b (leaf p n) = cond (is_inside a b (leaf p n)) (leaf p n ∷ []) []
 maximal_inside a b (join p l r) = cond (is_inside a b (join p l r)) (join p l r ∷ []) (maximal_inside a b l ++ maximal_inside a b r)
 
--- those of the forest of n leaves
+-- the maximal nodes of the forest of n leaves whose leaves all lie in a..b, left to right
 abbrev pub nodes_inside : (List ℕ → List ℕ) → ℕ → ℕ → ℕ → List Tree
 nodes_inside rule n a b = flat_map (maximal_inside a b) (peaks_of rule n)
 
@@ -32,7 +32,7 @@ AreChunkPeaks rule max_leaves nodes i h xs =
 abbrev pub IsNode : (List ℕ → List ℕ) → ℕ → ℕ → ℕ → Tree → Type 0
 IsNode rule max_leaves p h t = (n : ℕ) × (n ≤ max_leaves) × (slice_get (forest rule n).nodes p ≡ Some t) × (height t ≡ h)
 
--- of the leaf counts whose forest has position p the least is n
+-- n is the least leaf count whose forest has position p
 abbrev pub IsBirthSize : (List ℕ → List ℕ) → ℕ → ℕ → Type 0
 IsBirthSize rule p n = (p < size rule n) × ((m : ℕ) → m < n → size rule m ≤ p)
 

@@ -1,7 +1,7 @@
 -- What a hasher computes.
 use Rattle.std.specs.Prelude.{◌≡◌, ℕ, Bool, List, Decides}
 
--- the functions of a hasher and of its digests; `empty` stands where a list has no entry
+-- the functions of a hasher and of its digests; `empty` is the digest where a list has no entry
 pub record Hashing (D : Type 0) : Type 0 where
   pub leaf : ℕ → List ℕ → D  -- of a leaf: its position and its element
   pub node : ℕ → D → D → D  -- of a merged node: its position and its children's digests
@@ -15,7 +15,7 @@ pub record Hashing (D : Type 0) : Type 0 where
 abbrev pub EqDecides : {D : Type 0} → Hashing D → Type 0
 EqDecides {D} h = (a b : D) → Decides (h.same a b) (a ≡ b)
 
--- its digests have these bytes, this equality and this empty one
+-- the digests of a hashing have these bytes, this equality and this empty digest
 pub record IsOver {D : Type 0} (h : Hashing D) (spelled : D → List ℕ) (equal : D → D → Bool) (none : D) : Type 0 where
   pub bytes : h.bytes ≡ spelled
   pub same : h.same ≡ equal

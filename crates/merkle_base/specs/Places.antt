@@ -7,7 +7,7 @@ use Rattle.merkle_base.specs.Forest.{forest, size}
 abbrev pub IsSize : (List ℕ → List ℕ) → ℕ → ℕ → Type 0
 IsSize rule max_leaves p = (n : ℕ) × (n ≤ max_leaves) × (size rule n ≡ p)
 
--- of such numbers of nodes q is the greatest that is not above p
+-- q is the greatest number of nodes of a forest up to the limit that is not above p
 pub record IsNearestSize (rule : List ℕ → List ℕ) (max_leaves p q : ℕ) : Type 0 where
   pub valid : IsSize rule max_leaves q
   pub within : q ≤ p
@@ -17,11 +17,11 @@ pub record IsNearestSize (rule : List ℕ → List ℕ) (max_leaves p q : ℕ) :
 abbrev pub peaks_of : (List ℕ → List ℕ) → ℕ → List Tree
 peaks_of rule n = reverse (forest rule n).peaks
 
--- their positions
+-- the positions of the peaks of n leaves, oldest first
 abbrev pub peak_positions : (List ℕ → List ℕ) → ℕ → List ℕ
 peak_positions rule n = map position (peaks_of rule n)
 
--- of some peaks those whose leaves all lie before a location
+-- the trees all of whose leaves are before location a
 abbrev pub wholly_before : ℕ → List Tree → List Tree
 wholly_before a ts = filter (λ t. nat_le (end_leaf t) a) ts
 
@@ -29,7 +29,7 @@ wholly_before a ts = filter (λ t. nat_le (end_leaf t) a) ts
 abbrev pub inactive_peaks : (List ℕ → List ℕ) → ℕ → ℕ → ℕ
 inactive_peaks rule n floor = length (wholly_before floor (peaks_of rule n))
 
--- where a node stands, and how high it is
+-- the position and the height of a node
 abbrev pub placed : Tree → ℕ × ℕ
 placed t = (position t, height t)
 

@@ -11,6 +11,6 @@ pub record Scheme (D : Type 0) : Type 0 where
   pub max_leaves : ℕ
   pub domain : ℕ
 
--- the scheme of these
+-- the scheme of a hasher's functions and bagging and a family's rule, greatest leaf count and byte
 abbrev pub scheme_of : {D : Type 0} → Hashing D → Bagging → (List ℕ → List ℕ) → (max_leaves domain : ℕ) → Scheme D
 scheme_of h bagging rule max_leaves domain = record { hashing = h; bagging = bagging; rule = rule; max_leaves = max_leaves; domain = domain }

@@ -8,7 +8,8 @@ use Rattle.merkle_batch_theory.specs.Replay.{matched}
 use Rattle.merkle_batch_theory.specs.History.{IsHistory, last_list}
 use Rattle.merkle_base.specs.Collision.{Collide}
 
--- a batch that stands on lists was applied to a structure that agreed with X
+-- a batch with the lists ls as its history was applied to a structure that agreed with X, at one of these lists that has the length and the
+-- peak digests of X
 pub record IsAppliedTo {D : Type 0} (h : Hashing D) (rule : List ℕ → List ℕ)
     (batch : MerkleizedModel D) (ls : List (List D)) (X : List D) (old new : Contents D) : Type 0 where
   pub place : ℕ  -- the state that was matched, and its list
@@ -20,7 +21,7 @@ pub record IsAppliedTo {D : Type 0} (h : Hashing D) (rule : List ℕ → List �
   pub agrees : X ≡ list → Agrees h rule new (last_list ls)  -- if it is X, the structure agrees with the last list
   pub collides : (X ≡ list → ⊥) → Collide h rule X list  -- if it is not, the two collide at a node
 
--- so it is for all lists that the structure agreed with and that the batch stands on
+-- the batch was applied as `IsAppliedTo` says, for each list that the structure agreed with and all lists that the batch has as its history
 abbrev pub IsApplied : {D : Type 0} → (D → D → Bool) → (List ℕ → List ℕ) → MerkleizedModel D → (old new : Contents D) → Type 0
 IsApplied {D} same rule batch old new =
     (h : Hashing D) (X : List D) (ls : List (List D)) → EqDecides h → h.same ≡ same → Agrees h rule old X → IsHistory h rule (records batch) ls

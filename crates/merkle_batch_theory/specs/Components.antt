@@ -14,31 +14,33 @@ abbrev pub made_of : {D : Type 0} → (List ℕ → List ℕ) → (b n : ℕ) �
 made_of rule b n pins nodes =
     record { boundary = b; leaves = n; size = size rule b + length nodes; stored = stored_of (zip (peak_positions rule b) pins) (size rule b) nodes }
 
--- these are the components of the list X at the boundary b
+-- these pins and nodes are the components of the list X at the boundary b
 pub record AreComponents {D : Type 0} (h : Hashing D) (rule : List ℕ → List ℕ) (X : List D) (b : ℕ) (pins nodes : List D) : Type 0 where
   pub within : b ≤ length X
   pub peaks_are : pins ≡ peak_digests h rule (take b X)
   pub nodes_are : nodes ≡ drop (size rule b) (node_digests h rule X)
 
--- the refusals: there are more nodes than any list has, no list has so many, or there is not one pin for each peak of b leaves
+-- components with more nodes than any list has are refused by `InvalidSize` of the greatest number
 abbrev pub RefusesTooLarge : {F D E : Type 0} → (rule : List ℕ → List ℕ) → (max_leaves max_nodes b : ℕ) → List D → Result E (Error F) → Type 0
 RefusesTooLarge rule max_leaves max_nodes b nodes answer =
     b ≤ max_leaves → max_nodes < size rule b + length nodes → answer ≡ Err (InvalidSize (2 ^ 64 - 1))
 
+-- components of which no list has the number of nodes are refused by `InvalidSize` of that number
 abbrev pub RefusesNoSize : {F D E : Type 0} → (rule : List ℕ → List ℕ) → (max_leaves max_nodes b : ℕ) → List D → Result E (Error F) → Type 0
 RefusesNoSize rule max_leaves max_nodes b nodes answer =
     let end = size rule b + length nodes in
     b ≤ max_leaves → end ≤ max_nodes → ((n : ℕ) → size rule n ≢ end) → answer ≡ Err (InvalidSize end)
 
+-- components without exactly one pin for each peak of the b leaves before the boundary are refused by `InvalidPinnedNodes`
 abbrev pub RefusesPins : {F D E : Type 0} → (rule : List ℕ → List ℕ) → (max_leaves b : ℕ) → (pins nodes : List D) → Result E (Error F) → Type 0
 RefusesPins rule max_leaves b pins nodes answer =
     b ≤ max_leaves → IsSize rule max_leaves (size rule b + length nodes) → length pins ≢ length (peak_positions rule b) → answer ≡ Err InvalidPinnedNodes
 
--- P, where none of them applies
+-- P holds for components to which none of the three refusals applies
 abbrev pub ForComponents : {D : Type 0} → (rule : List ℕ → List ℕ) → (max_leaves b : ℕ) → (pins nodes : List D) → Type 0 → Type 0
 ForComponents rule max_leaves b pins nodes P =
     b ≤ max_leaves → IsSize rule max_leaves (size rule b + length nodes) → length pins ≡ length (peak_positions rule b) → P
 
--- it agrees with each list whose components these are
+-- the structure agrees with each list whose components at the boundary b these are
 abbrev pub AgreesAsGiven : {D : Type 0} → (rule : List ℕ → List ℕ) → (b : ℕ) → (pins nodes : List D) → Contents D → Type 0
 AgreesAsGiven {D} rule b pins nodes c = (h : Hashing D) (X : List D) → AreComponents h rule X b pins nodes → Agrees h rule c X

@@ -14,21 +14,21 @@ pub record Contents (D : Type 0) : Type 0 where
   pub size : ℕ  -- the number of nodes, the pruned ones counted
   pub node : ℕ → Option D  -- the node at a position, if it is held
 
--- whether position p is kept when all before location b is pruned: it stands at b or after it, or is a peak of b leaves
+-- whether position p is kept when all before location b is pruned: it is that of leaf b or later, or a peak of b leaves
 abbrev pub is_kept : (List ℕ → List ℕ) → ℕ → ℕ → Bool
 is_kept rule b p = nat_le (size rule b) p || list_any (λ q. p == q) (peak_positions rule b)
 
--- it holds a node exactly where the position is below its size and kept at its boundary
+-- the structure holds a node exactly where the position is below its size and kept at its boundary
 abbrev pub HoldsKept : {D : Type 0} → (List ℕ → List ℕ) → Contents D → Type 0
 HoldsKept rule c = (p : ℕ) → is_some (c.node p) ≡ nat_lt p c.size && is_kept rule c.boundary p
 
--- it has the leaves of X and holds exactly the kept positions, each with its digest
+-- the structure has as many leaves as the list X and holds exactly the kept positions, each with its digest of X
 pub record Agrees {D : Type 0} (h : Hashing D) (rule : List ℕ → List ℕ) (c : Contents D) (X : List D) : Type 0 where
   pub sized : c.size ≡ size rule (length X)
   pub bounded : c.boundary ≤ length X
   pub holds : (p : ℕ) → c.node p ≡ cond (is_kept rule c.boundary p) (slice_get (node_digests h rule X) p) None
 
--- pruned to b; at or below the boundary nothing changes
+-- the structure pruned to b, which changes nothing at or below its boundary
 abbrev pub pruned : {D : Type 0} → (List ℕ → List ℕ) → ℕ → Contents D → Contents D
 pruned rule b c = cond (nat_lt c.boundary b) (record { boundary = b; size = c.size; node = λ p. cond (is_kept rule b p) (c.node p) None }) c
 
@@ -36,6 +36,6 @@ pruned rule b c = cond (nat_lt c.boundary b) (record { boundary = b; size = c.si
 abbrev pub held_peaks : {D : Type 0} → (List ℕ → List ℕ) → ℕ → Contents D → List D
 held_peaks rule n c = flat_map (λ p. option_to_list (c.node p)) (peak_positions rule n)
 
--- it agrees with one of the lists
+-- the structure agrees with one of the lists
 abbrev pub AgreesWithOne : {D : Type 0} → Hashing D → (List ℕ → List ℕ) → Contents D → List (List D) → Type 0
 AgreesWithOne {D} h rule c ls = (i : ℕ) × (X : List D) × (slice_get ls i ≡ Some X) × Agrees h rule c X

@@ -11,31 +11,33 @@ use Rattle.merkle_batch_theory.specs.Contents.{Contents, Agrees, AgreesWithOne}
 use Rattle.merkle_batch_theory.specs.History.{IsHistory, last_list}
 use Rattle.merkle_batch_theory.specs.Records.{MerkleizedModel, records}
 
--- P of each list that a structure agrees with
+-- P holds of each list that a structure agrees with
 abbrev pub ForList : {D : Type 0} → Hashing D → (rule : List ℕ → List ℕ) → Contents D → (List D → Type 0) → Type 0
 ForList {D} h rule c P = (X : List D) → Agrees h rule c X → P X
 
--- P of the last of the lists that a batch has as its history
+-- P holds of the last of the lists that a batch has as its history
 abbrev pub ForHistory : {D : Type 0} → Hashing D → (rule : List ℕ → List ℕ) → MerkleizedModel D → (List D → Type 0) → Type 0
 ForHistory {D} h rule b P = (ls : List (List D)) → IsHistory h rule (records b) ls → P (last_list ls)
 
--- the same where its base agrees with one of them
+-- P holds of the last of the lists that a batch has as its history, where the base agrees with one of these lists
 abbrev pub ForHistoryOver : {D : Type 0} → Hashing D → (rule : List ℕ → List ℕ) → Contents D → MerkleizedModel D → (List D → Type 0) → Type 0
 ForHistoryOver {D} h rule c b P = (ls : List (List D)) → IsHistory h rule (records b) ls → AgreesWithOne h rule c ls → P (last_list ls)
 
--- P where the leaf at i of a list of at least k peaks was not pruned: the list that a structure agrees with, or that a batch ends at
+-- P holds where a structure agrees with a list of at least k peaks that has a leaf at i which was not pruned
 abbrev pub ForHeldLeaf : {D : Type 0} → Hashing D → (rule : List ℕ → List ℕ) → Contents D → (k i : ℕ) → Type 0 → Type 0
 ForHeldLeaf h rule c k i P = ForList h rule c (λ X. c.boundary ≤ i → i < length X → k ≤ length (peaks_of rule (length X)) → P)
 
+-- P holds where a batch ends at a list of at least k peaks that has a leaf at i which its base did not prune
 abbrev pub ForHeldLeafOver : {D : Type 0} → Hashing D → (rule : List ℕ → List ℕ) → Contents D → MerkleizedModel D → (k i : ℕ) → Type 0 → Type 0
 ForHeldLeafOver h rule c b k i P =
     ForHistoryOver h rule c b (λ X. c.boundary ≤ i → i < length X → k ≤ length (peaks_of rule (length X)) → P)
 
--- the same of the leaves from a on up to b
+-- P holds where a structure agrees with a list of at least k peaks that has leaves at a..b, of which none was pruned
 abbrev pub ForHeldRange : {D : Type 0} → Hashing D → (rule : List ℕ → List ℕ) → Contents D → (k a b : ℕ) → Type 0 → Type 0
 ForHeldRange h rule c k a b P =
     ForList h rule c (λ X. c.boundary ≤ a → a < b → b ≤ length X → k ≤ length (peaks_of rule (length X)) → P)
 
+-- P holds where a batch ends at a list of at least k peaks that has leaves at a..b, of which its base pruned none
 abbrev pub ForHeldRangeOver : {D : Type 0} → Hashing D → (rule : List ℕ → List ℕ) → Contents D → MerkleizedModel D → (k a b : ℕ) → Type 0 → Type 0
 ForHeldRangeOver h rule c m k a b P =
     ForHistoryOver h rule c m (λ X. c.boundary ≤ a → a < b → b ≤ length X → k ≤ length (peaks_of rule (length X)) → P)

@@ -8,12 +8,14 @@ use Rattle.std.specs.Ordering.{nat_cmp}
 use Rattle.merkle_batch_theory.specs.Contents.{Contents}
 use Rattle.merkle_batch_theory.specs.Records.{RecordModel}
 
+-- the nodes that a structure holds
 pub record Held (D : Type 0) : Type 0 where
   pub start : ℕ  -- the position from which on no node is missing
   pub size : ℕ  -- the number of nodes, those that are not held counted
   pub stored : FinMap nat_cmp D  -- the nodes held, by position
   pub capacity : ℕ  -- how many nodes there can be before more memory is needed
 
+-- the code of held nodes as a value
 abbrev pub held_code : {D : Type 0} → Coded D → Coded (Held D)
 held_code d =
     code_by _ (coded× coded_ℕ (coded× coded_ℕ (coded× (code coded_ℕ d) coded_ℕ)))
@@ -25,7 +27,7 @@ held_code d =
 abbrev pub overwritten_by : {D : Type 0} → Option D → Option D → Option D
 overwritten_by newer old = option_map (unwrap_or newer) old
 
--- no pin stands at position n or after it
+-- no pin has position n or a later one
 abbrev pub PinsBefore : {D : Type 0} → ℕ → List (ℕ × D) → Type 0
 PinsBefore n pins = (p : ℕ) → n ≤ p → lookup (λ q. p == q) pins ≡ None
 

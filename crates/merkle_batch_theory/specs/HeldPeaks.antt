@@ -7,6 +7,6 @@ use Rattle.merkle_batch_theory.specs.Contents.{Contents}
 abbrev pub held_at : {D : Type 0} → Contents D → List ℕ → List D
 held_at c ps = flat_map (λ p. option_to_list (c.node p)) ps
 
--- with their positions
+-- the positions among these that are held, each with its digest, in their order
 abbrev pub pins_of : {D : Type 0} → Contents D → List ℕ → List (ℕ × D)
 pins_of c ps = flat_map (λ p. elim (c.node p) [ Some d ↦ (p, d) ∷ [] | None ↦ [] ]) ps

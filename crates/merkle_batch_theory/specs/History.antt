@@ -14,7 +14,7 @@ abbrev pub replaced : {D : Type 0} → (List ℕ → List ℕ) → (ℕ → Opti
 replaced rule m n [] = []
 replaced rule m n (d ∷ ds) = unwrap_or (m (size rule n)) d ∷ replaced rule m (suc n) ds
 
--- of the nodes from position p on, those that are leaves, the first of them at location n
+-- the digests of the leaves among the nodes from position p on, the first leaf being at location n
 abbrev pub leaves_among : {D : Type 0} → (List ℕ → List ℕ) → ℕ → ℕ → List D → List D
 leaves_among rule n p [] = []
 leaves_among rule n p (d ∷ ds) = cond (p == size rule n) (d ∷ leaves_among rule (suc n) (suc p) ds) (leaves_among rule n (suc p) ds)
@@ -47,6 +47,6 @@ IsHistory h rule [] (X ∷ []) = Unit {0}
 IsHistory h rule (r ∷ rs) (X ∷ Y ∷ ls) = IsStep h rule r X Y × IsHistory h rule rs (Y ∷ ls)
 IsHistory h rule rs ls = ⊥
 
--- the last list
+-- the last of some lists, or the empty list
 abbrev pub last_list : {D : Type 0} → List (List D) → List D
 last_list ls = unwrap_or (last_or None ls) []

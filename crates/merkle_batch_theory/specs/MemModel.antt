@@ -6,12 +6,14 @@ use Rattle.std.specs.FinMap.{FinMap, get, code, empty, from_entries}
 use Rattle.std.specs.Coded.{Coded, code_by, coded×, coded_ℕ}
 use Rattle.merkle_batch_theory.specs.Contents.{Contents}
 
+-- what a `Mem` is to a contract: its boundary, its counts and the nodes that it holds
 pub record MemModel (D : Type 0) : Type 0 where
   pub boundary : ℕ  -- the location that it was pruned to
   pub leaves : ℕ  -- the number of leaves, the pruned ones counted
   pub size : ℕ  -- the number of nodes, the pruned ones counted
   pub stored : FinMap nat_cmp D  -- the nodes held, by position
 
+-- the code of a `Mem` as a value
 abbrev pub mem_model_code : {D : Type 0} → Coded D → Coded (MemModel D)
 mem_model_code d =
     code_by _ (coded× coded_ℕ (coded× coded_ℕ (coded× coded_ℕ (code coded_ℕ d))))
@@ -19,7 +21,7 @@ mem_model_code d =
     (λ p. record { boundary = p.0; leaves = p.1.0; size = p.1.1.0; stored = p.1.1.1 })
     (λ _. refl)
 
--- with the node at each position as a function
+-- the contents of a `Mem`, its held nodes as a function of the position
 abbrev pub contents : {D : Type 0} → MemModel D → Contents D
 contents s = record { boundary = s.boundary; size = s.size; node = get s.stored }
 

@@ -14,11 +14,11 @@ is_computed rule m n (join p l r) = nat_le (size rule n) p || is_dirty m (join p
 abbrev pub computed_nodes : {D : Type 0} → (List ℕ → List ℕ) → (ℕ → Option D) → ℕ → ℕ → List Tree
 computed_nodes rule m n e = filter (is_computed rule m n) (forest rule e).nodes
 
--- those of height k
+-- the computed nodes of height k of the forest of e leaves
 abbrev pub level : {D : Type 0} → (List ℕ → List ℕ) → (ℕ → Option D) → ℕ → ℕ → ℕ → List Tree
 level rule m n e k = filter (λ t. is_computed rule m n t && (height t == k)) (forest rule e).nodes
 
--- a child of a computed node
+-- t is a child of a computed node
 abbrev pub IsComputedChild : {D : Type 0} → (List ℕ → List ℕ) → (ℕ → Option D) → ℕ → ℕ → Tree → Type 0
 IsComputedChild rule m n e t =
     (p : ℕ) × (l r : Tree) × (slice_get (forest rule e).nodes p ≡ Some (join p l r)) × (is_computed rule m n (join p l r) ≡ true) × ((t ≡ l) ⊎ (t ≡ r))

@@ -5,15 +5,15 @@ use Rattle.std.specs.FinMap.{get}
 use Rattle.merkle_batch_theory.specs.Contents.{Contents}
 use Rattle.merkle_batch_theory.specs.Records.{RecordModel}
 
--- what a record has for a position
+-- what a record has for a position: below its first new node the overwritten node, else the appended one
 abbrev pub written : {D : Type 0} → RecordModel D → ℕ → Option D
 written r p = cond (nat_lt p r.before) (get r.overwritten p) (slice_get r.appended (p - r.before))
 
--- what the newest of the records that has one has, the oldest standing first
+-- the digest for a position of the newest of the records that has one, the oldest record coming first
 abbrev pub newest : {D : Type 0} → List (RecordModel D) → ℕ → Option D
 newest [] p = None
 newest (r ∷ rs) p = option_or (newest rs p) (written r p)
 
--- the same, and else what the base holds
+-- the digest for a position of the newest of the records that has one, or else the one that the base holds
 abbrev pub read_over : {D : Type 0} → List (RecordModel D) → Contents D → ℕ → Option D
 read_over rs base p = option_or (newest rs p) (base.node p)

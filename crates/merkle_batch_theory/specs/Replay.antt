@@ -18,7 +18,7 @@ with_record r c = record {
   node = λ p. cond (nat_lt p c.size) (option_map (unwrap_or (get r.overwritten p)) (c.node p)) (slice_get r.appended (p - c.size));
 }
 
--- record after record
+-- a structure with records laid over it, one after another
 abbrev pub with_records : {D : Type 0} → List (RecordModel D) → Contents D → Contents D
 with_records rs c = fold (λ c r. with_record r c) c rs
 
@@ -41,7 +41,7 @@ matched same size peaks b =
     cond (is_state same size peaks (oldest b).before (oldest b).peaks_before) (Some 0)
     (last_match (λ r. is_state same size peaks (after r) r.peaks_after) b.ancestors)
 
--- how many records a structure is behind
+-- how many of a batch's records a structure is behind, by its size and peak digests
 abbrev pub match_of : {D : Type 0} → (D → D → Bool) → (List ℕ → List ℕ) → MemModel D → MerkleizedModel D → Option ℕ
 match_of same rule m b = matched same m.size (held_peaks rule m.leaves (contents m)) b
 

@@ -4,7 +4,7 @@ use Rattle.std.specs.FinMap.{empty}
 use Rattle.merkle_batch_theory.specs.Contents.{Contents, held_peaks}
 use Rattle.merkle_batch_theory.specs.Records.{RecordModel, MerkleizedModel}
 
--- a batch without changes to what a structure of n leaves holds
+-- the batch without changes over a structure of n leaves
 abbrev pub root_batch : {D : Type 0} → (List ℕ → List ℕ) → ℕ → Contents D → MerkleizedModel D
 root_batch {D} rule n c =
     let peaks = held_peaks rule n c in

@@ -11,7 +11,7 @@ use Rattle.merkle_base.specs.declared.error.Error.TheVariants.{ElementPruned, Le
 use Rattle.merkle_batch_theory.specs.Records.{RecordModel, MerkleizedModel, merkleized_model_code}
 use Rattle.merkle_batch_theory.specs.History.{replaced}
 
--- what it was forked from, and the leaves that it changes and adds
+-- what a batch that isn't merkleized is to a contract: what it was forked from, and the leaves that it changes and adds
 pub record UnmerkleizedModel (D : Type 0) : Type 0 where
   pub parent : MerkleizedModel D  -- the batch that it was forked from
   pub leaves_before : ℕ  -- that batch's number of leaves
@@ -19,6 +19,7 @@ pub record UnmerkleizedModel (D : Type 0) : Type 0 where
   pub overwritten : FinMap nat_cmp D  -- the new digests of leaves that were there before, by position
   pub forgotten : ℕ  -- how many of the parent's ancestors it lets go
 
+-- the code of a batch that isn't merkleized as a value
 abbrev pub unmerkleized_model_code : {D : Type 0} → Coded D → Coded (UnmerkleizedModel D)
 unmerkleized_model_code d =
     code_by _ (coded× (merkleized_model_code d) (coded× coded_ℕ (coded× (coded_list d) (coded× (code coded_ℕ d) coded_ℕ))))
@@ -41,7 +42,7 @@ with_update rule p k d =
     (record p { overwritten = insert p.overwritten (size rule k) d })
     (record p { added = slice_set p.added (k - p.leaves_before) d })
 
--- one update after another
+-- the batch after updates, one after another
 abbrev pub with_updates : {D : Type 0} → (List ℕ → List ℕ) → UnmerkleizedModel D → List (ℕ × D) → UnmerkleizedModel D
 with_updates rule p us = fold (λ p u. with_update rule p u.0 u.1) p us
 
@@ -66,15 +67,15 @@ forked c = record { parent = c; leaves_before = c.leaves; added = []; overwritte
 abbrev pub is_changed : {D : Type 0} → RecordModel D → Bool
 is_changed r = not ((length r.appended == 0) && (len r.overwritten == 0))
 
--- the records that it keeps: those of the ancestors that are not let go, and the parent's own if that has changes
+-- the records that the batch keeps: those of the parent's ancestors that are not let go, and the parent's own if it has changes
 abbrev pub kept : {D : Type 0} → UnmerkleizedModel D → List (RecordModel D)
 kept p = drop p.forgotten p.parent.ancestors ++ cond (is_changed p.parent.own) (p.parent.own ∷ []) []
 
--- of the lists that the parent stands on, those that the kept records stand on: one more than there are records
+-- the lists that the kept records have as their history, of those of the parent: one more than there are records
 abbrev pub kept_lists : {D : Type 0} → UnmerkleizedModel D → List (List D) → List (List D)
 kept_lists p ls = take (suc (length (kept p))) (drop p.forgotten ls)
 
--- what it makes of the parent's last list
+-- the list that the batch makes of the parent's last list
 abbrev pub pending_list : {D : Type 0} → (List ℕ → List ℕ) → UnmerkleizedModel D → List D → List D
 pending_list rule p X = replaced rule (get p.overwritten) 0 X ++ p.added
 

@@ -13,17 +13,17 @@ abbrev pub mmb_merges : List ℕ → List ℕ
 mmb_merges [] = []
 mmb_merges (h ∷ hs) = mmb_merges_from h hs
 
--- the leaf with which the node of height h over the leaves from s on comes
+-- the leaf with which the belt's node of height h over the leaves from s on comes
 abbrev pub birth_leaf : (s h : ℕ) → ℕ
 birth_leaf s zero = s
 birth_leaf s (suc h) = s + 3 * 2 ^ h - 2
 
--- its position: that of the leaf, or the next one
+-- the position of the belt's node of height h over the leaves from s on: that of a leaf, or the next one after the leaf that it comes with
 abbrev pub mmb_position : (s h : ℕ) → ℕ
 mmb_position s zero = size mmb_merges s
 mmb_position s (suc h) = size mmb_merges (s + 3 * 2 ^ h - 2) + 1
 
--- the least leaf count that has it
+-- the least leaf count whose belt has the node of height h over the leaves from s on
 abbrev pub mmb_birth_leaf_count : (s h : ℕ) → ℕ
 mmb_birth_leaf_count s h = birth_leaf s h + 1
 

@@ -18,11 +18,11 @@ unhashed = record {
   empty = [];
 }
 
--- a Mountain Range over it, with 8 for the family's byte
+-- a Mountain Range over digests that list what they were made of, with 8 for the family's byte
 abbrev pub unhashed_scheme : Bagging → Scheme (List ℕ)
 unhashed_scheme bagging = scheme_of unhashed bagging mmr_merges (2 ^ 62) 8
 
--- the rule that merges none
+-- the rule that merges no peaks
 abbrev pub unmerged : List ℕ → List ℕ
 unmerged hs = []
 
@@ -30,6 +30,6 @@ unmerged hs = []
 abbrev pub three_digests : List (List ℕ)
 three_digests = (5 ∷ []) ∷ (6 ∷ []) ∷ (7 ∷ []) ∷ []
 
--- those of four peaks
+-- the digests of four peaks
 abbrev pub four_peaks : List (List ℕ)
 four_peaks = (1 ∷ []) ∷ (2 ∷ []) ∷ (3 ∷ []) ∷ (4 ∷ []) ∷ []

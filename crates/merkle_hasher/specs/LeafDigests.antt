@@ -17,11 +17,11 @@ leaf_digests h rule a (e ∷ es) = h.leaf (size rule a) e ∷ leaf_digests h rul
 abbrev pub positioned_digests : {D : Type 0} → Hashing D → List (ℕ × Bor (List ℕ)) → List D
 positioned_digests h leaves = map (λ l. h.leaf l.0 l.1.now) leaves
 
--- digests, and then those of leaves that wait
+-- digests, followed by those of the leaves that wait to be hashed
 abbrev pub queued : {D : Type 0} → Hashing D → List D → List (ℕ × Bor (List ℕ)) → List D
 queued h digests waiting = digests ++ positioned_digests h waiting
 
--- one more digest is queued
+-- one more digest is queued behind the others
 abbrev pub Queues : {D : Type 0} → Hashing D → (old : List D) → (waiting : List (ℕ × Bor (List ℕ))) → (new : List D)
     → (waiting_new : List (ℕ × Bor (List ℕ))) → D → Type 0
 Queues h old waiting new waiting_new d = queued h new waiting_new ≡ queued h old waiting ++ d ∷ []

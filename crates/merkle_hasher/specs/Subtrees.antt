@@ -5,7 +5,7 @@ use Rattle.merkle_base.specs.Tree.{Tree, join, position, height, first_leaf}
 use Rattle.merkle_base.specs.Forest.{forest}
 use Rattle.merkle_hasher.specs.declared.subtree.Subtree.{Subtree}
 
--- t stands at p in the forest of n leaves, has height h, and its first leaf is s
+-- t is the node at p of the forest of n leaves, has height h, and its first leaf is s
 pub record IsNodeOf (rule : List ℕ → List ℕ) (n p h s : ℕ) (t : Tree) : Type 0 where
   pub at : slice_get (forest rule n).nodes p ≡ Some t
   pub height_is : height t ≡ h
@@ -19,7 +19,7 @@ Denotes rule n s t = IsNodeOf rule n s.position s.height s.first_leaf t
 abbrev pub AreChildSubtrees : {F : Type 0} → (List ℕ → List ℕ) → ℕ → (s a b : Subtree F) → Type 0
 AreChildSubtrees rule n s a b = (p : ℕ) (l r : Tree) → Denotes rule n s (join p l r) → Denotes rule n a l × Denotes rule n b r
 
--- the subtree that means t
+-- the subtree that represents the node t
 abbrev pub subtree_of : {F : Type 0} → Tree → Subtree F
 subtree_of t = record { position = position t; height = height t; first_leaf = first_leaf t }
 
@@ -33,7 +33,7 @@ abbrev pub subtrees_from : {F : Type 0} → ℕ → List (ℕ × ℕ) → List (
 subtrees_from s [] = []
 subtrees_from s (p ∷ ps) = record { position = p.0; height = p.1; first_leaf = s } ∷ subtrees_from (s + 2 ^ p.1) ps
 
--- and each of them is a node of the forest of n leaves
+-- the peaks, given by position and height, are nodes of the forest of n leaves that cover the leaves from s on, one after another
 abbrev pub AreNodesFrom : (List ℕ → List ℕ) → ℕ → ℕ → List (ℕ × ℕ) → Type 0
 AreNodesFrom rule n s [] = Unit {0}
 AreNodesFrom rule n s (p ∷ ps) = ((t : Tree) × IsNodeOf rule n p.0 p.1 s t) × AreNodesFrom rule n (s + 2 ^ p.1) ps

@@ -9,12 +9,12 @@ abbrev pub path : ℕ → Tree → List (ℕ × ℕ × ℕ)
 path k (leaf p n) = []
 path k (join p l r) = cond (nat_lt k (first_leaf r)) ((p, position r, height (join p l r)) ∷ path k l) ((p, position l, height (join p l r)) ∷ path k r)
 
--- the same from the node, where there is one
+-- the path from a node down to the leaf at location k, or none where there is no node
 abbrev pub path_from : ℕ → Option Tree → List (ℕ × ℕ × ℕ)
 path_from k None = []
 path_from k (Some t) = path k t
 
--- a node of height h whose first leaf is s stands at p in some forest up to the limit, and the leaf at location k is under it
+-- the node at p, in some forest up to the limit, has height h and first leaf s, and the leaf at location k is under it
 pub record IsNodeAbove (rule : List ℕ → List ℕ) (max_leaves p h s k : ℕ) : Type 0 where
   pub leaves : ℕ
   pub node : Tree

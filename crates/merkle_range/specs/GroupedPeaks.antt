@@ -13,6 +13,6 @@ pub record HoldsGroups {F : Type 0} (a b : ℕ) (g : PeakGroups F) (ts : List Tr
   pub over : g.overlapping.items ≡ map subtree_of (overlapping a b ts)
   pub outside : g.outside.items ≡ map position (wholly_before a ts ++ wholly_after b ts)
 
--- whichever forest the groups are of, these are the positions of the nodes that a proof of a..b reads
+-- the positions are those of the nodes that a proof of a..b reads, in whichever forest the groups are of
 abbrev pub AreReadsOf : {F : Type 0} → (List ℕ → List ℕ) → (max_leaves : ℕ) → PeakGroups F → (a b : ℕ) → List ℕ → Type 0
 AreReadsOf rule max_leaves g a b ps = (n : ℕ) → n ≤ max_leaves → HoldsGroups a b g (peaks_of rule n) → ps ≡ map position (nodes_read rule n a b)

@@ -8,8 +8,8 @@ use Rattle.merkle_root_theory.specs.Check.{in_range}
 use Rattle.merkle_root_theory.specs.Range.{range_parts, range_siblings}
 use Rattle.merkle_claim_theory.specs.Rebuilt.{AllRebuilt, rebuilt_node, rebuilt_part}
 
--- of a proof of the range a..e under the peaks ts, what lies before the range is rebuilt to the digests at its places;
--- b: the pin at a position
+-- what lies before the range in a proof of a..e under the peaks ts is rebuilt from pins to the digests at its places; b: the pin at a
+-- position
 pub record IsBeforeRebuilt {D : Type 0} (h : Hashing D) (bagging : Bagging) (k a e : ℕ) (ts : List Tree) (b : ℕ → Option D) (ds : List D) : Type 0 where
   pub parts : AllRebuilt h (meets (in_range 0 a)) (rebuilt_part h b) (range_parts bagging k a e ts) ds
   pub nodes : AllRebuilt h (tree_meets (in_range 0 a)) (rebuilt_node h b) (range_siblings a e ts) (drop (length (range_parts bagging k a e ts)) ds)

@@ -15,7 +15,7 @@ use Rattle.merkle_hasher.specs.Subtrees.{Denotes}
 abbrev pub IsInside : {F : Type 0} → (List ℕ → List ℕ) → ℕ → ℕ → ℕ → Subtree F → Tree → Type 0
 IsInside rule n start count s t = Denotes rule n s t × (start ≤ first_leaf t) × (end_leaf t ≤ start + count)
 
--- d is the digest of such a node, the leaves from location start on having these digests
+-- d is the digest of the node that a subtree is, if all its leaves are among those from location start on that have these digests
 abbrev pub IsDigestInside : {F D : Type 0} → Hashing D → (List ℕ → List ℕ) → ℕ → ℕ → List D → Subtree F → D → Type 0
 IsDigestInside h rule n start leaves s d = (t : Tree) → IsInside rule n start (length leaves) s t → d ≡ tree_digest h (leaf_from h start leaves) t
 

@@ -4,7 +4,8 @@ use Rattle.merkle_base.specs.Tree.{Tree, leaf, join, position}
 use Rattle.merkle_base.specs.Hashing.{Hashing}
 use Rattle.merkle_root_theory.specs.Plan.{tree_digest}
 
--- those of its left child, those of its right child, the left child, the right child; X: the digest of each leaf
+-- the positions and digests of the nodes below a node: those below its left child, those below its right child, the left child, the right
+-- child; X: the digest of each leaf
 abbrev pub inside_pairs : {D : Type 0} → Hashing D → (ℕ → D) → Tree → List (ℕ × D)
 inside_pairs h X (leaf p i) = []
 inside_pairs h X (join p l r) = inside_pairs h X l ++ (inside_pairs h X r ++ ((position l, tree_digest h X l) ∷ (position r, tree_digest h X r) ∷ []))

@@ -15,7 +15,7 @@ use Rattle.merkle_root_theory.specs.Claim.{claim_of, InTree}
 abbrev pub string_of : {D : Type 0} → Scheme D → ℕ → ℕ → Option (Expression D) → List ℕ
 string_of s n k e = root_string s.hashing s.domain s.bagging n k (option_map (value s.hashing) e)
 
--- the root over it
+-- the root over the digest of an expression, if there is one
 abbrev pub root_of : {D : Type 0} → Scheme D → ℕ → ℕ → Option (Expression D) → D
 root_of s n k e = s.hashing.hash (string_of s n k e)
 
@@ -23,7 +23,7 @@ root_of s n k e = s.hashing.hash (string_of s n k e)
 abbrev pub all_inputs : {D : Type 0} → Scheme D → ℕ → ℕ → Option (Expression D) → List (Input D)
 all_inputs s n k e = record { place = Root; argument = Bytes (string_of s n k e) } ∷ (elim e [ Some x ↦ inputs s.hashing x | None ↦ [] ])
 
--- those of the expression
+-- the inputs of an expression, or none where there is no expression
 abbrev pub inputs_of : {D : Type 0} → Hashing D → Option (Expression D) → List (Input D)
 inputs_of h None = []
 inputs_of h (Some e) = inputs h e
@@ -80,7 +80,7 @@ abbrev pub HasHonestDigests : {D : Type 0} → Scheme D → (ℕ → D) → Rang
 HasHonestDigests s X r None = ⊥
 HasHonestDigests s X r (Some p) = r.digests ≡ honest_digests s.hashing X (chosen r) p
 
--- the honest proof of a list's leaves, with those leaves
+-- r is the honest proof of a list's leaves, by plans, with the list's digests of these leaves
 pub record IsHonestByPlan {D : Type 0} (s : Scheme D) (X : ℕ → D) (n k : ℕ) (r : RangeInput D) : Type 0 where
   pub leaves : r.leaves ≡ n
   pub inactive : r.inactive ≡ k

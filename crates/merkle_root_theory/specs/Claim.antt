@@ -6,7 +6,7 @@ use Rattle.merkle_base.specs.Tree.{Tree, leaf, join}
 use Rattle.merkle_root_theory.specs.Plan.{Plan, peak, folding, plan_expression, tree_meets, meets, siblings, outside_parts, path_siblings, plan_digest, honest_digests}
 use Rattle.merkle_root_theory.specs.Collision.{Collision, Collides}
 
--- the next digest
+-- the first of the digests that are left, or the empty digest
 abbrev pub next : {D : Type 0} → Hashing D → List D → D
 next h ds = get_or ds 0 h.empty
 
@@ -33,12 +33,12 @@ abbrev pub HonestAccepted : Type 0 → Type 0
 HonestAccepted D = (h : Hashing D) (c : ℕ → Bool) (X Y : ℕ → D) (p : Plan) → ((i : ℕ) → c i ≡ true → Y i ≡ X i)
     → value h (claim_of h c Y p (honest_digests h X c p)) ≡ plan_digest h X p
 
--- a location of a tree
+-- j is the location of a leaf of a tree
 abbrev pub InTree : Tree → ℕ → Type 0
 InTree (leaf p i) j = i ≡ j
 InTree (join p l r) j = InTree l j ⊎ InTree r j
 
--- the same of a plan
+-- j is the location of a leaf under a plan
 abbrev pub InPlan : Plan → ℕ → Type 0
 InPlan (peak t) j = InTree t j
 InPlan (folding place l r) j = InPlan l j ⊎ InPlan r j

@@ -2,17 +2,17 @@
 use Rattle.merkle_base.specs.Hashing.{Hashing}
 use Rattle.std.specs.Prelude.{◌≡◌, ℕ, Bool, true, false, not, List, [], ◌∷◌, ◌++◌, filter}
 
--- where a hash is computed
+-- where the computation of a root hashes
 pub data Place : Type 0 where
   Root Join : Place
   PrefixFold SuffixFold Node : ℕ → Place
 
--- what is hashed there: two digests, or at the root a byte string
+-- what is hashed at a place: two digests, or at the root a byte string
 pub data Argument (D : Type 0) : Type 0 where
   Pair : D → D → Argument D
   Bytes : List ℕ → Argument D
 
--- the digest of two digests at a place
+-- the digest of two digests that are hashed at a place
 abbrev pub hashed_at : {D : Type 0} → Hashing D → Place → D → D → D
 hashed_at h (Node p) l r = h.node p l r
 hashed_at h place l r = h.fold l r
@@ -22,7 +22,7 @@ abbrev pub digest_of_argument : {D : Type 0} → Hashing D → Place → Argumen
 digest_of_argument h place (Pair l r) = hashed_at h place l r
 digest_of_argument h place (Bytes b) = h.hash b
 
--- an argument at its place
+-- what is hashed, with the place where it is hashed
 pub record Input (D : Type 0) : Type 0 where
   pub place : Place
   pub argument : Argument D
@@ -33,7 +33,7 @@ pub data Expression (D : Type 0) : Type 0 where
   computed : Place → Expression D → Expression D → Expression D
   cross_checked : D → Expression D → Expression D
 
--- the digest that comes about
+-- the digest of an expression
 abbrev pub value : {D : Type 0} → Hashing D → Expression D → D
 value h (supplied d) = d
 value h (computed place l r) = hashed_at h place (value h l) (value h r)
@@ -45,18 +45,18 @@ Holds h (supplied d) = Unit {0}
 Holds h (computed place l r) = Holds h l × Holds h r
 Holds h (cross_checked d e) = (d ≡ value h e) × Holds h e
 
--- every input, each before those below it, the left side before the right
+-- every input of an expression, each before those below it, the left side before the right
 abbrev pub visited : {D : Type 0} → Hashing D → Expression D → List (Input D)
 visited h (supplied d) = []
 visited h (computed place l r) = record { place = place; argument = Pair (value h l) (value h r) } ∷ visited h l ++ visited h r
 visited h (cross_checked d e) = visited h e
 
--- whether a node is hashed there
+-- whether a place is that of a merged node
 abbrev pub is_node : Place → Bool
 is_node (Node p) = true
 is_node place = false
 
--- the inputs in order: the folds, and then the nodes
+-- the inputs of an expression in the order in which collisions are looked for: the folds, and then the nodes
 abbrev pub inputs : {D : Type 0} → Hashing D → Expression D → List (Input D)
 inputs h e = filter (λ i. not (is_node i.place)) (visited h e) ++ filter (λ i. is_node i.place) (visited h e)
 

@@ -32,7 +32,8 @@ abbrev pub single_pairs : {D : Type 0} → Hashing D → List Tree → List D �
 single_pairs h [] ds = []
 single_pairs h (t ∷ ts) ds = (position t, next h ds) ∷ single_pairs h ts (drop 1 ds)
 
--- the individual peaks before, the overlapping peaks, the individual peaks after
+-- the positions and digests that an input yields: those of the single peaks before, of the overlapping peaks with what is below them, and
+-- of the single peaks after
 abbrev pub extracted : {D : Type 0} → Scheme D → RangeInput D → List (ℕ × D)
 extracted s r =
     let ts = peaks_of s.rule r.leaves in
@@ -50,7 +51,7 @@ extracted s r =
 abbrev pub IsNodePair : {D : Type 0} → Scheme D → List D → (ℕ × D) → Type 0
 IsNodePair s xs x = slice_get (node_digests s.hashing s.rule xs) x.0 ≡ Some x.1
 
--- each pair of an accepted input is one, or there is a collision
+-- each position and digest that an accepted input yields is that of a node of each list with the root, or there is a collision
 abbrev pub ExtractsNodes : Type 0 → Type 0
 ExtractsNodes D = (s : Scheme D) (size max_nodes : ℕ) → IsLawfulScheme s size max_nodes
     → (xs : List D) (k : ℕ) → length xs ≤ s.max_leaves → k ≤ length (peaks_of s.rule (length xs)) → (r : RangeInput D)

@@ -11,8 +11,8 @@ use Rattle.merkle_root_theory.specs.Outside.{fold_all, bag_all, folded_prefix, s
 abbrev pub count_before : Bagging → ℕ → List Tree → ℕ
 count_before bagging k before = length (fold_all (folded_prefix bagging k before)) + length (single_before bagging k before)
 
--- those for the peaks after it: one for each that stands alone, and one for the others, if there are any;
--- met: the number of peaks before the range and of those that overlap it
+-- how many digests a proof has for the peaks after the range: one for each single one, and one for the others, if there are any; met: the
+-- number of peaks before the range and of those that overlap it
 abbrev pub count_after : Bagging → ℕ → ℕ → List Tree → ℕ
 count_after bagging k met after = length (single_after bagging k met after) + length (bag_all (met + (k - met)) (folded_suffix bagging k met after))
 

@@ -15,22 +15,22 @@ abbrev pub bag_all : ℕ → List Tree → List Plan
 bag_all i [] = []
 bag_all i (t ∷ ts) = right_fold_plan i t ts ∷ []
 
--- the table of the layout; met: the number of peaks before the range and of those that overlap it
+-- the peaks before the range that a proof folds to one digest
 abbrev pub folded_prefix : Bagging → ℕ → List Tree → List Tree
 folded_prefix ForwardFold k before = before
 folded_prefix BackwardFold k before = take k before
 
--- the peaks before the range that stand alone
+-- the peaks before the range whose digests a proof has one by one
 abbrev pub single_before : Bagging → ℕ → List Tree → List Tree
 single_before ForwardFold k before = []
 single_before BackwardFold k before = drop k before
 
--- those after it that do
+-- the peaks after the range whose digests a proof has one by one; met: the number of peaks before the range and of those that overlap it
 abbrev pub single_after : Bagging → ℕ → ℕ → List Tree → List Tree
 single_after ForwardFold k met after = after
 single_after BackwardFold k met after = take (k - met) after
 
--- the peaks after the range that are folded
+-- the peaks after the range that a proof folds to one digest; met: the number of peaks before the range and of those that overlap it
 abbrev pub folded_suffix : Bagging → ℕ → ℕ → List Tree → List Tree
 folded_suffix ForwardFold k met after = []
 folded_suffix BackwardFold k met after = drop (k - met) after
@@ -44,12 +44,12 @@ layout bagging k before over after =
     ++ (map peak (single_after bagging k met after)
     ++ bag_all (met + (k - met)) (folded_suffix bagging k met after)))
 
--- no chosen location lies under any
+-- no chosen location is under any of the trees
 abbrev pub Unmet : (ℕ → Bool) → List Tree → Type 0
 Unmet c [] = Unit {0}
 Unmet c (t ∷ ts) = (tree_meets c t ≡ false) × Unmet c ts
 
--- one lies under each
+-- a chosen location is under each of the trees
 abbrev pub Met : (ℕ → Bool) → List Tree → Type 0
 Met c [] = Unit {0}
 Met c (t ∷ ts) = (tree_meets c t ≡ true) × Met c ts

@@ -16,11 +16,11 @@ use Rattle.merkle_root_theory.specs.Check.{in_range, root_of, all_inputs, list_e
 use Rattle.merkle_base.specs.Scheme.{Scheme}
 use Rattle.merkle_base.specs.Places.{peaks_of, wholly_before}
 
--- of some peaks those that overlap the range a..b
+-- the trees that overlap the range a..b
 abbrev pub overlapping : ℕ → ℕ → List Tree → List Tree
 overlapping a b ts = filter (λ t. nat_lt (first_leaf t) b && nat_lt a (end_leaf t)) ts
 
--- those wholly after it
+-- the trees whose leaves are all at location b or after it
 abbrev pub wholly_after : ℕ → List Tree → List Tree
 wholly_after b ts = filter (λ t. nat_le b (first_leaf t)) ts
 
@@ -28,7 +28,7 @@ wholly_after b ts = filter (λ t. nat_le b (first_leaf t)) ts
 abbrev pub range_parts : Bagging → ℕ → ℕ → ℕ → List Tree → List Plan
 range_parts bagging k a b ts = layout bagging k (wholly_before a ts) (overlapping a b ts) (wholly_after b ts)
 
--- the path siblings that follow
+-- the path siblings of a range a..b: the maximal nodes outside it below the peaks that overlap it
 abbrev pub range_siblings : ℕ → ℕ → List Tree → List Tree
 range_siblings a b ts = flat_map (siblings (in_range a b)) (overlapping a b ts)
 
@@ -36,7 +36,7 @@ range_siblings a b ts = flat_map (siblings (in_range a b)) (overlapping a b ts)
 abbrev pub leaf_of : {D : Type 0} → Hashing D → List D → ℕ → D
 leaf_of h xs i = get_or xs i h.empty
 
--- what a proof of a..b of n leaves has, of what stands at each node; f: what stands for two
+-- what a proof of a..b of n leaves has in its layout, of what `at` gives for each node; f: what two make together
 abbrev pub range_laid_out : {D E : Type 0} → Scheme D → (E → E → E) → (Tree → E) → (n k a b : ℕ) → List E
 range_laid_out s f at n k a b =
     let ts = peaks_of s.rule n in
@@ -51,21 +51,21 @@ range_laid_out s f at n k a b =
 abbrev pub range_digests : {D : Type 0} → Scheme D → List D → ℕ → ℕ → ℕ → List D
 range_digests s xs k a b = range_laid_out s s.hashing.fold (digest_at s.hashing xs) (length xs) k a b
 
--- the same by the parts of a plan
+-- the digests of a proof of a..b of a list, by the parts of its plan
 abbrev pub plan_digests : {D : Type 0} → Scheme D → List D → ℕ → ℕ → ℕ → List D
 plan_digests s xs k a b =
     map (plan_digest s.hashing (leaf_of s.hashing xs)) (range_parts s.bagging k a b (peaks_of s.rule (length xs)))
     ++ map (tree_digest s.hashing (leaf_of s.hashing xs)) (range_siblings a b (peaks_of s.rule (length xs)))
 
--- the location after the last element
+-- the location after the last element of an input
 abbrev pub end_of : {D : Type 0} → RangeInput D → ℕ
 end_of r = r.start + length r.elements
 
--- how many digests a proof of the range has
+-- how many digests a proof of the input's range has
 abbrev pub digest_count : {D : Type 0} → Scheme D → RangeInput D → ℕ
 digest_count s r = length (range_laid_out s (λ t u. t) (λ (t : Tree). t) r.leaves r.inactive r.start (end_of r))
 
--- an accepted input with elements
+-- an input with elements is accepted against a root
 pub record AcceptsNonempty {D : Type 0} (s : Scheme D) (r : RangeInput D) (root : D) : Type 0 where
   pub nonempty : 0 < length r.elements
   pub within : end_of r ≤ r.leaves
@@ -76,7 +76,7 @@ pub record AcceptsNonempty {D : Type 0} (s : Scheme D) (r : RangeInput D) (root 
       + length (range_siblings r.start (end_of r) (peaks_of s.rule r.leaves))
   pub root_is : root_of s r.leaves r.inactive (range_expression s r) ≡ root
 
--- the empty proof of no elements
+-- r is the empty proof with no elements, from location 0 on
 pub record IsEmptyInput {D : Type 0} (r : RangeInput D) : Type 0 where
   pub elements : r.elements ≡ []
   pub start : r.start ≡ 0
@@ -84,11 +84,11 @@ pub record IsEmptyInput {D : Type 0} (r : RangeInput D) : Type 0 where
   pub inactive : r.inactive ≡ 0
   pub digests : r.digests ≡ []
 
--- an accepted input: with elements, or the empty one
+-- an input is accepted against a root: with elements, or the empty one
 abbrev pub Accepts : {D : Type 0} → Scheme D → RangeInput D → D → Type 0
 Accepts s r root = AcceptsNonempty s r root ⊎ (IsEmptyInput r × (root_of s 0 0 None ≡ root))
 
--- P for each list, and number of inactive peaks, with this root
+-- P holds for each list and number of inactive peaks with this root
 abbrev pub ForRootOf : {D : Type 0} → Scheme D → D → (List D → ℕ → Type 0) → Type 0
 ForRootOf {D} s root P =
     (xs : List D) (k : ℕ) → length xs ≤ s.max_leaves → k ≤ length (peaks_of s.rule (length xs)) → list_root s xs k ≡ root → P xs k
@@ -97,11 +97,11 @@ ForRootOf {D} s root P =
 abbrev pub honest_input : {D : Type 0} → Scheme D → List D → ℕ → ℕ → ℕ → RangeInput D
 honest_input s xs k a b = record { leaves = length xs; inactive = k; digests = range_digests s xs k a b; start = a; elements = take (b - a) (drop a xs) }
 
--- r is that of its range, which lies within the list and has elements unless the list is empty
+-- r is the honest input of its range, which is within the list and has elements unless the list is empty
 abbrev pub IsHonestRange : {D : Type 0} → Scheme D → List D → ℕ → RangeInput D → Type 0
 IsHonestRange s xs k r = (end_of r ≤ length xs) × ((0 < length r.elements) ⊎ (xs ≡ [])) × (r ≡ honest_input s xs k r.start (end_of r))
 
--- the same of a range with elements
+-- r is the honest input, with elements, of its range of the list
 pub record IsHonestNonempty {D : Type 0} (s : Scheme D) (xs : List D) (k : ℕ) (r : RangeInput D) : Type 0 where
   pub nonempty : 0 < length r.elements
   pub within : end_of r ≤ length xs
@@ -110,11 +110,11 @@ pub record IsHonestNonempty {D : Type 0} (s : Scheme D) (xs : List D) (k : ℕ) 
   pub digests : r.digests ≡ range_digests s xs k r.start (end_of r)
   pub elements : r.elements ≡ take (length r.elements) (drop r.start xs)
 
--- the same by cases: with elements, or the empty input of the empty list
+-- r is the honest input of its range of the list: with elements, or the empty input of the empty list
 abbrev pub IsHonestByCases : {D : Type 0} → Scheme D → List D → ℕ → RangeInput D → Type 0
 IsHonestByCases s xs k r = IsHonestNonempty s xs k r ⊎ (IsEmptyInput r × (xs ≡ []))
 
--- the root of a list for k
+-- the root of a list for k inactive peaks, by the plan of its peaks
 abbrev pub plan_root : {D : Type 0} → Scheme D → List D → ℕ → D
 plan_root s xs k = root_of s (length xs) k (list_expression s (leaf_of s.hashing xs) (length xs) k)
 
@@ -122,23 +122,23 @@ plan_root s xs k = root_of s (length xs) k (list_expression s (leaf_of s.hashing
 abbrev pub list_inputs : {D : Type 0} → Scheme D → List D → ℕ → List (Input D)
 list_inputs s xs k = all_inputs s (length xs) k (list_expression s (leaf_of s.hashing xs) (length xs) k)
 
--- what the family, the hasher and its digests keep
+-- the laws that the family, the hasher and its digests keep
 pub record IsLawfulScheme {D : Type 0} (s : Scheme D) (size max_nodes : ℕ) : Type 0 where
   pub laws : EqDecides s.hashing
   pub bytes : ByteLaws s.hashing size
   pub lawful : IsLawful s.rule s.max_leaves max_nodes
 
--- a collision of a range input with the list
+-- what a range check hashes for r and what is hashed for the list collide
 abbrev pub RangeCollides : {D : Type 0} → Scheme D → RangeInput D → List D → ℕ → Type 0
 RangeCollides {D = D} s r xs k = (c : Collision D) × Collides s.hashing (range_inputs s r) (list_inputs s xs k) c
 
--- the honest inputs are accepted
+-- each honest input of a list is accepted against the list's root
 abbrev pub HonestIsAccepted : Type 0 → Type 0
 HonestIsAccepted D = (s : Scheme D) (size max_nodes : ℕ) → IsLawfulScheme s size max_nodes
     → (xs : List D) (k : ℕ) → length xs ≤ s.max_leaves → k ≤ length (peaks_of s.rule (length xs)) → (r : RangeInput D)
     → IsHonestRange s xs k r → Accepts s r (plan_root s xs k)
 
--- and no others, but for collisions
+-- each input that is accepted against a list's root is honest, or collides with the list
 abbrev pub RangeSound : Type 0 → Type 0
 RangeSound D = (s : Scheme D) (size max_nodes : ℕ) → IsLawfulScheme s size max_nodes
     → (xs : List D) (k : ℕ) → length xs ≤ s.max_leaves → k ≤ length (peaks_of s.rule (length xs)) → (r : RangeInput D)

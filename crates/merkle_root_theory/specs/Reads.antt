@@ -13,7 +13,8 @@ use Rattle.merkle_root_theory.specs.Range.{overlapping, wholly_after, range_sibl
 abbrev pub nodes_read : (List ℕ → List ℕ) → (n a b : ℕ) → List Tree
 nodes_read rule n a b = wholly_before a (peaks_of rule n) ++ (wholly_after b (peaks_of rule n) ++ range_siblings a b (peaks_of rule n))
 
--- the same in the order in which a proof reads them: of the peaks after the range those that stand alone, and the others from the last one on
+-- the nodes that a proof of a..b reads, in the order in which it reads them: the peaks before the range, the single ones after it, the
+-- folded ones after it from the last one on, and the path siblings
 abbrev pub reading_order : Bagging → (k : ℕ) → (List ℕ → List ℕ) → (n a b : ℕ) → List Tree
 reading_order bagging k rule n a b =
     let before = wholly_before a (peaks_of rule n) in
@@ -21,13 +22,13 @@ reading_order bagging k rule n a b =
     let met = length before + length (overlapping a b (peaks_of rule n)) in
     before ++ (single_after bagging k met after ++ (reverse (folded_suffix bagging k met after) ++ range_siblings a b (peaks_of rule n)))
 
--- a function of two digests, where both are there
+-- a function of two digests, if both are there
 abbrev pub both_read : {D : Type 0} → (D → D → D) → Option D → Option D → Option D
 both_read f None y = None
 both_read f (Some x) None = None
 both_read f (Some x) (Some y) = Some (f x y)
 
--- the digest of a part of a root, over the digests that stand at the positions of its peaks
+-- the digest of a part of a root, over the digests at the positions of its peaks
 abbrev pub part_read : {D : Type 0} → Hashing D → (ℕ → Option D) → Plan → Option D
 part_read h node (peak t) = node (position t)
 part_read h node (folding place l r) = both_read (hashed_at h place) (part_read h node l) (part_read h node r)

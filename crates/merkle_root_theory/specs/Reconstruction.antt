@@ -27,14 +27,14 @@ range_refusals s r =
     ∷ (nat_lt (length r.digests) (digest_count s r), MissingDigests)
     ∷ (nat_lt (digest_count s r) (length r.digests), ExtraDigests) ∷ []
 
--- the first refusal that applies, or else the root
+-- what an input leads to: the first refusal that applies, or else the root
 abbrev pub reconstructed : {D : Type 0} → Scheme D → RangeInput D → Result D ReconstructionError
 reconstructed s r = elim (first_case (cond (nat_lt 0 (length r.elements)) (range_refusals s r) (empty_refusals r))) [
   | Some e ↦ Err e
   | None ↦ Ok (root_of s r.leaves r.inactive (range_expression s r))
 ]
 
--- an input with elements to which no refusal applies
+-- no refusal applies to an input with elements
 pub record HasShape {D : Type 0} (s : Scheme D) (r : RangeInput D) : Type 0 where
   pub nonempty : 0 < length r.elements
   pub within : end_of r ≤ r.leaves

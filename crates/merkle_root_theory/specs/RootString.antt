@@ -10,7 +10,7 @@ pub record ByteLaws {D : Type 0} (h : Hashing D) (size : ℕ) : Type 0 where
   pub nonempty : 0 < size
   pub differ : (a b : D) → h.bytes a ≡ h.bytes b → a ≡ b
 
--- the parts of two root strings
+-- two root strings have one inactive count and one folded digest, or neither has any
 abbrev pub SameFolded : {D : Type 0} → ℕ → Option D → ℕ → Option D → Type 0
 SameFolded k None k' None = Unit {0}
 SameFolded k None k' (Some d') = ⊥

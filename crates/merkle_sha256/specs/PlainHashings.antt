@@ -8,11 +8,11 @@ use Rattle.merkle_sha256.specs.Sha256Laws.{sha256, length-sha256, no_bytes, leng
 use Rattle.merkle_base.specs.Hashing.{Hashing}
 use Rattle.merkle_leaves.specs.Standard.{standard}
 
--- SHA-256
+-- the functions of the standard hasher over SHA-256
 abbrev pub sha256_hashing : Hashing Sha256Digest
 sha256_hashing = standard (λ m. record { bytes = sha256 m; sized = length-sha256 m }) (λ d. d.bytes) (λ a b. pointwise eqb a.bytes b.bytes)
     (record { bytes = no_bytes; sized = length-no_bytes })
 
--- the exclusive or of all bytes
+-- the functions of the standard hasher over the exclusive or of all bytes
 abbrev pub xor8_hashing : Hashing Xor8Digest
 xor8_hashing = standard (λ m. record { byte = xor_of m }) (λ d. d.byte ∷ []) (λ a b. eqb a.byte b.byte) (record { byte = 0 })

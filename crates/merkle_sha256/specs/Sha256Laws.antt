@@ -7,7 +7,7 @@ use Rattle.sha2.proofs.Facts256 as Facts
 pub length-sha256 : (m : List ℕ) → length (sha256 m) ≡ 32
 length-sha256 = Facts.length-sha256
 
--- as many bytes as SHA-256 answers, all zero
+-- 32 zero bytes, as many as SHA-256 answers
 abbrev pub no_bytes : List ℕ
 no_bytes = replicate 32 0
 

@@ -31,6 +31,7 @@ ghost use Rattle.merkle_forest_theory.proofs.RangeLawful.{mmr_lawful};
 use merkle_base::family::Work;
 use merkle_base::listed::Listed;
 use merkle_base::{error, family, location, position};
+use std::cmp::Ordering;
 use std::marker::Model;
 
 /// The greatest size in nodes, 2^63 - 1.
@@ -244,13 +245,10 @@ fn narrow(nodes: u64, low: u64, high: u64, leaves: u64) -> (u64, u64)
     ensures greatest { nodes < size mmr_merges (result.1 + 1) }
     ensures narrowed { (result.1 + leaves ≤ result.0 + high) ⊎ (result.1 + 1 + low ≤ result.0 + leaves) }
 {
-    let count = node_count(leaves);
-    if count == nodes {
-        (leaves, leaves)
-    } else if count < nodes {
-        (leaves, high)
-    } else {
-        (low, leaves - 1)
+    match node_count(leaves).cmp(&nodes) {
+        Ordering::Equal => (leaves, leaves),
+        Ordering::Less => (leaves, high),
+        Ordering::Greater => (low, leaves - 1),
     }
 }
 
@@ -317,18 +315,18 @@ fn location_of(leaves: u64, position: Position) -> Option<Location>
 /// [`position_to_location`](family::Family::position_to_location) does, and counts its comparisons.
 ///
 /// Requires `position` to be at most [`MAX_NODES`](family::Family::MAX_NODES). The probes of `work` are
-/// set to the number of comparisons of `position` with the position of a leaf count: at least 1 and at
-/// most 8.
+/// set to the number of comparisons of `position` with the position of a leaf count, the one that ends
+/// the search included: at least 1 and at most 9.
 pub fn position_to_location_counted(position: Position, work: &mut Work) -> Option<Location>
     requires { position ≤ MAX_NODES }
     ensures found { IfSome result (λ n. (n ≤ MAX_LEAVES) × (size mmr_merges n ≡ position)) }
     ensures none { IfNone result ((n : ℕ) → size mmr_merges n ≢ position) }
     ensures at_least_one { 1 ≤ work.new.probes }
-    ensures at_most_8 { work.new.probes ≤ 8 }
+    ensures at_most_9 { work.new.probes ≤ 9 }
     ensures kept { work.new.node_digests ≡ work.old.node_digests }
 {
     let (leaves, probes) = search(position.as_u64());
-    work.set_probes(probes);
+    work.set_probes(probes + 1);
     location_of(leaves, position)
 }
 
