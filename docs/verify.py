@@ -1,13 +1,15 @@
 #!/usr/bin/env python3
-"""Verifies proofs of ranges with SHA-256, written from docs/FORMATS.md alone.
+"""Verifies proofs of ranges, written from docs/FORMATS.md alone.
 
     docs/verify.py < SESSION
 
-reads a session of the program `merkle`, the lines `new` and `check` of it, and answers each `check` as the program does: `yes`, `no` or
-`error` with a name. It is an example for verifiers in other languages; no proof sees it.
+reads a session of the program `merkle`, of which it takes the lines `new` and `check`, and answers each `check` as the program does: `yes`,
+`no` or `error` with a name. The hash is SHA-256, or the toy hash after `new .. xor8`. It is an example for verifiers in other languages; no
+proof covers it, and `sweep/run` compares it with the program.
 """
 import functools
 import hashlib
+import re
 import sys
 
 MAX_LEAVES = {"mmr": 2**62, "mmb": 2**62 + 30}
@@ -19,6 +21,18 @@ class Refused(Exception):
 
 def sha256(*parts):
     return hashlib.sha256(b"".join(parts)).digest()
+
+
+def xor8(*parts):
+    """The toy hash: the exclusive or of all bytes."""
+    return bytes([functools.reduce(lambda one, other: one ^ other, b"".join(parts), 0)])
+
+
+class Scheme:
+    """A family, a bagging, and a hash with the number of bytes of its digests."""
+
+    def __init__(self, family, bagging, toy=False):
+        self.family, self.bagging, self.hash, self.digest_bytes = family, bagging, xor8 if toy else sha256, 1 if toy else 32
 
 
 def number(value):
@@ -39,16 +53,15 @@ def read_number(data, name="", most=2**64 - 1):
     raise Refused("EndOfBuffer")
 
 
-def read_proof(data, max_leaves, max_digests):
-    """The leaf count, the number of inactive peaks and the digests of the proof that the bytes are."""
-    leaves, data = read_number(data, "Invalid", max_leaves)
+def read_proof(scheme, data, max_digests):
+    """The leaf count, the number of inactive peaks and the digests of the proof that the bytes begin with, and the bytes after it."""
+    leaves, data = read_number(data, "Invalid", MAX_LEAVES[scheme.family])
     inactive, data = read_number(data)
     count, data = read_number(data, "TooMany", max_digests)
-    if len(data) < 32 * count:
+    each = scheme.digest_bytes
+    if len(data) < each * count:
         raise Refused("EndOfBuffer")
-    if len(data) > 32 * count:
-        raise Refused("Trailing")
-    return leaves, inactive, [data[32 * i : 32 * i + 32] for i in range(count)]
+    return leaves, inactive, [data[each * i : each * i + each] for i in range(count)], data[each * count :]
 
 
 def size(family, leaves):
@@ -81,33 +94,33 @@ def peaks(family, leaves):
     return found
 
 
-def fold(digests):
+def fold(scheme, digests):
     """The digests folded from the oldest on."""
-    return functools.reduce(sha256, digests)
+    return functools.reduce(scheme.hash, digests)
 
 
-def fold_back(digests):
+def fold_back(scheme, digests):
     """The digests folded from the newest on."""
-    return functools.reduce(lambda folded, digest: sha256(digest, folded), reversed(digests))
+    return functools.reduce(lambda folded, digest: scheme.hash(digest, folded), reversed(digests))
 
 
-def node(family, first, height, start, elements, siblings):
+def node(scheme, first, height, start, elements, siblings):
     """The digest of a node that overlaps the range, from the elements and the siblings, which are taken in order."""
-    at = number(position(family, first, height))
+    at = number(position(scheme.family, first, height))
     if height == 0:
-        return sha256(at, elements[first - start])
+        return scheme.hash(at, elements[first - start])
     half, end = 2 ** (height - 1), start + len(elements)
-    children = [siblings.pop(0) if left + half <= start or end <= left else node(family, left, height - 1, start, elements, siblings)
+    children = [siblings.pop(0) if left + half <= start or end <= left else node(scheme, left, height - 1, start, elements, siblings)
                 for left in (first, first + half)]
-    return sha256(at, *children)
+    return scheme.hash(at, *children)
 
 
-def root(family, bagging, leaves, inactive, digests, start, elements):
+def root(scheme, leaves, inactive, digests, start, elements):
     """The root that a proof of the elements from `start` on leads to, or None."""
-    tag = bytes([family == "mmb", bagging == "backward"])
+    tag, bagging = bytes([scheme.family == "mmb", scheme.bagging == "backward"]), scheme.bagging
     if not elements:
-        return sha256(tag, number(0)) if (start, leaves, inactive, digests) == (0, 0, 0, []) else None
-    end, all_peaks, digests = start + len(elements), peaks(family, leaves), list(digests)
+        return scheme.hash(tag, number(0)) if (start, leaves, inactive, digests) == (0, 0, 0, []) else None
+    end, all_peaks, digests = start + len(elements), peaks(scheme.family, leaves), list(digests)
     if end > leaves or inactive > len(all_peaks):
         return None
     before = [p for p in all_peaks if p[0] + 2 ** p[1] <= start]
@@ -120,7 +133,7 @@ def root(family, bagging, leaves, inactive, digests, start, elements):
         oldest = [digests.pop(0) for _ in before[folded:]]
         newer = [digests.pop(0) for _ in after[:single]]
         suffix = [digests.pop(0)] if after[single:] else []
-        middle = [node(family, first, height, start, elements, digests) for first, height in over]
+        middle = [node(scheme, first, height, start, elements, digests) for first, height in over]
     except IndexError:
         return None
     if digests:
@@ -128,23 +141,59 @@ def root(family, bagging, leaves, inactive, digests, start, elements):
     known = prefix + oldest + middle + newer  # the peaks, oldest first: the folded ones as one digest at each end
     cut = len(known) if bagging == "forward" else max(inactive, 1) - max(folded - 1, 0)
     later = known[cut:] + suffix
-    whole = fold([fold(known[:cut]), fold_back(later)] if later else known)
-    return sha256(tag, number(leaves), number(inactive) if inactive else b"", whole)
+    whole = fold(scheme, [fold(scheme, known[:cut]), fold_back(scheme, later)] if later else known)
+    return scheme.hash(tag, number(leaves), number(inactive) if inactive else b"", whole)
 
 
-def check(family, bagging, words):
-    """The answer to a line `check A K ROOT PROOF HEX..`."""
-    start, inactive, expected, proof = int(words[1]), int(words[2]), bytes.fromhex(words[3]), bytes.fromhex(words[4])
-    elements = [b"" if word == "-" else bytes.fromhex(word) for word in words[5:]]
-    leaves, named, digests = read_proof(proof, MAX_LEAVES[family], 122 * len(elements))
-    return "yes" if named == inactive and root(family, bagging, leaves, named, digests, start, elements) == expected else "no"
+def check(scheme, start, inactive, expected, proof, elements):
+    """Whether a proof of the elements from `start` on has this number of inactive peaks and leads to the expected root."""
+    leaves, named, digests, rest = read_proof(scheme, proof, 122 * len(elements))
+    if rest:
+        raise Refused("Trailing")
+    return named == inactive and root(scheme, leaves, named, digests, start, elements) == expected
 
 
-for words in map(str.split, sys.stdin):
-    if words[:1] == ["new"]:
-        family, bagging = words[1], words[2]
-    elif words[:1] == ["check"]:
-        try:
-            print(check(family, bagging, words))
-        except Refused as refused:
-            print("error", refused)
+def read_decimal(word):
+    """The number below 2 ^ 64 that a word of decimal digits without leading zeros is."""
+    if not re.fullmatch("0|[1-9][0-9]{0,19}", word) or int(word) >= 2**64:
+        raise Refused("Syntax")
+    return int(word)
+
+
+def read_hex(word):
+    """The bytes that a word of pairs of hexadecimal digits is."""
+    if not re.fullmatch("([0-9A-Fa-f]{2})+", word):
+        raise Refused("Syntax")
+    return bytes.fromhex(word)
+
+
+def answer(scheme, words):
+    """The answer to the words of a line `check A K ROOT PROOF HEX..`."""
+    if len(words) < 5:
+        raise Refused("Syntax")
+    start, inactive, expected, proof = read_decimal(words[1]), read_decimal(words[2]), read_hex(words[3]), read_hex(words[4])
+    elements = [b"" if word == "-" else read_hex(word) for word in words[5:]]
+    if scheme is None:
+        raise Refused("NoStructure")
+    if len(expected) != scheme.digest_bytes:
+        raise Refused("Syntax")
+    return "yes" if check(scheme, start, inactive, expected, proof, elements) else "no"
+
+
+def answers(lines):
+    """The answers to the lines `check` of a session."""
+    scheme = None
+    for line in lines:
+        words = line.split(" ")
+        if re.fullmatch("new (mmr|mmb) (forward|backward)( xor8)?", line):
+            scheme = Scheme(words[1], words[2], len(words) == 4)
+        elif words[0] == "check":
+            try:
+                yield answer(scheme, words)
+            except Refused as refused:
+                yield f"error {refused}"
+
+
+if __name__ == "__main__":
+    for told in answers(sys.stdin.buffer.read().decode("latin-1").removesuffix("\n").split("\n")):
+        print(told)

@@ -37,8 +37,8 @@ def answers(program, lines, text):
 def ample_answers(program, lines, out):
     """The answers of a run in which nothing is refused, and what is wrong with it."""
     found, broken = answers(program, lines, out.text)
-    if broken or out.status or len(found) != len(lines):
-        return found, f"WRONG, nothing refused: status {out.status}, {len(found)} answers to {len(lines)} lines; {broken}"
+    if broken or out.status or out.error or len(found) != len(lines):
+        return found, f"WRONG, nothing refused: status {out.status}, {len(found)} answers to {len(lines)} lines; {broken} {out.error[:60]!r}"
     for line, answer in zip(lines, found):
         if answer.endswith("OutOfMemory"):
             return found, f"WRONG, nothing refused: line {line[:60]!r} answers OutOfMemory"
@@ -69,6 +69,8 @@ def judge(case, number, out):
         if out.status == 1 and out.error == ENDED[case.program] and found == case.ample[:count]:
             return "ended"
         return wrong(f"ended with status {out.status}, {out.error[:60]!r}, after {len(found)} answers")
+    if out.error:
+        return wrong(f"writes {out.error[:60]!r} to standard error, and goes on")
     if len(found) != len(case.lines):
         return wrong(f"{len(found)} answers in place of {len(case.lines)}")
     if found == case.ample:
@@ -121,6 +123,7 @@ TOLD = [
     ("WRONG", "another answer before the end", PRUNE, "no", NO_MEMORY, 1),
     ("WRONG", "no reason for the end", PRUNE, "ok", "", 1),
     ("WRONG", "killed", PRUNE, "ok", NO_MEMORY, -11),
+    ("WRONG", "an error text, and no end", PRUNE, "ok|OutOfMemory|A|ok|B", "heap corrupted\n", 0),
     ("WRONG", "lines missing", PRUNE, "ok|OutOfMemory|A"),
     ("WRONG", "the batch is kept", ADD, "ok|ok 0|error OutOfMemory|ok 1 1"),
     ("WRONG", "its end is no answer", ADD, "ok|ok 1", ENDED["merkle"], 1),

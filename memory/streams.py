@@ -1,6 +1,7 @@
 """Lets each read and each write of the program `merkle` fail, one a run, and gives it input and output that fail by themselves."""
 import os
 import subprocess
+import tempfile
 
 from cases import blocks, filled
 from programs import PATHS, SECONDS, start
@@ -20,7 +21,10 @@ def wrong_end(done, error, ample):
 
 def failing(lines):
     """How many reads and writes failed in the runs of some lines, and what was wrong."""
-    done, (_, reads, writes) = start("merkle", lines)
+    done, counts = start("merkle", lines)
+    if len(counts) != 3 or 0 in counts[1:]:
+        return 0, [f"WRONG: of the lines that begin with {lines[:2]!r} these requests, reads and writes were seen: {counts}"]
+    _, reads, writes = counts
     failures = [("READ_AT", number, READ_FAILED) for number in range(1, reads + 1)]
     failures += [("WRITE_AT", number, WRITE_FAILED) for number in range(1, writes + 1)]
     wrong = []
@@ -44,16 +48,15 @@ def broken(lines):
     if text:
         wrong.append(f"WRONG input from a folder: {text}")
     for name in ("full", "closed"):
-        given, sent = os.pipe()
-        os.write(sent, "".join(line + "\n" for line in lines).encode())
-        os.close(sent)
         if name == "full":
             taken = os.open("/dev/full", os.O_WRONLY)
         else:
             unread, taken = os.pipe()
             os.close(unread)
-        text = wrong_end(merkle(given, taken), WRITE_FAILED, b"")
-        os.close(given)
+        with tempfile.TemporaryFile() as given:
+            given.write("".join(line + "\n" for line in lines).encode())
+            given.seek(0)
+            text = wrong_end(merkle(given, taken), WRITE_FAILED, b"")
         os.close(taken)
         if text:
             wrong.append(f"WRONG output that is {name}: {text}")
