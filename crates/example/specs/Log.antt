@@ -27,7 +27,7 @@ ForLogOf s root P = (entries : List (List ℕ)) (inactive : ℕ) → IsLogOf s r
 abbrev pub HasEntry : List (List ℕ) → ℕ → List ℕ → Type 0
 HasEntry entries location entry = slice_get entries location ≡ Some entry
 
--- the log has another entry there, with the leaf digest of this one
+-- the log has another entry at the location, with the leaf digest of this one
 pub record HasTwin {D : Type 0} (s : Scheme D) (entries : List (List ℕ)) (location : ℕ) (entry : List ℕ) : Type 0 where
   pub other : List ℕ
   pub has_other : HasEntry entries location other
@@ -50,20 +50,21 @@ pub record Extends {D : Type 0} (s : Scheme D) (old_root : D) (leaves inactive :
   pub before : IsLogOf s old_root (take leaves entries) inactive
   pub after : (i : ℕ) (entry : List ℕ) → HasEntry added i entry → HasEntry entries (leaves + i) entry ⊎ HasTwin s entries (leaves + i) entry
 
--- yes only if each log with the root has the entry, or inputs collide; and yes if it has, for honest proofs
+-- a check of one entry says yes only if each log with the root has the entry at its location, or inputs collide
 abbrev pub IsSoundForLogs : {D : Type 0} → Scheme D → D → RangeInput D → (entry : List ℕ) → Bool → Type 0
 IsSoundForLogs s root r entry accepts = IsTrue accepts → ForLogOf s root (λ entries k. HasEntry entries r.start entry ⊎ EntryCollides s r entry entries k)
 
+-- a check of one entry says yes for an honest proof, if a log with the root has the entry at its location
 abbrev pub IsCompleteForLogs : {D : Type 0} → Scheme D → D → RangeInput D → (entry : List ℕ) → Bool → Type 0
 IsCompleteForLogs s root r entry accepts = ForLogOf s root (λ entries k. HasEntry entries r.start entry → IsHonestFor s r entries k → IsTrue accepts)
 
--- yes only if each log with the newer root begins with the old one, and the added entries follow, or inputs collide; and yes if it does, for
--- honest proofs and pins
+-- a check of growth says yes only if each log with the newer root begins with the old one, and the added entries follow, or inputs collide
 abbrev pub IsSoundForGrowth : {D : Type 0} → Scheme D → (old_root : D) → (leaves inactive : ℕ) → D → RangeInput D → (pins : List D)
     → (added : List (List ℕ)) → Bool → Type 0
 IsSoundForGrowth s old_root leaves inactive root r pins added accepts = IsTrue accepts
     → ForLogOf s root (λ entries k. Extends s old_root leaves inactive added entries ⊎ PinnedCollides s r pins (leaves_of s entries) k)
 
+-- a check of growth says yes for an honest proof with honest pins, if a log with the newer root begins with the old one
 abbrev pub IsCompleteForGrowth : {D : Type 0} → Scheme D → (old_root : D) → (leaves inactive : ℕ) → D → RangeInput D → (pins : List D)
     → Bool → Type 0
 IsCompleteForGrowth s old_root leaves inactive root r pins accepts = ForLogOf s root (λ entries k. IsLogOf s old_root (take leaves entries) inactive

@@ -22,22 +22,24 @@ is_among is i = list_any (nat_eq i) is
 abbrev pub digest_by : {D : Type 0} → Hashing D → List ℕ → List D → List ℕ → List D → Tree → D
 digest_by h ps ds is ls t = value h (multi_tree h (digest_for ps ds) (is_among is) (λ i. unwrap_or (digest_for is ls i) h.empty) t)
 
--- the digests that it hashes at a node
+-- the digests of a node's children that a check hashes: ps and ds are the proof's positions and digests, is and ls the locations and
+-- digests of the leaves; none where no proved leaf lies under the node
 abbrev pub pair_by : {D : Type 0} → Hashing D → List ℕ → List D → List ℕ → List D → Tree → Option (D × D)
 pair_by h ps ds is ls t = chosen_children (is_among is) (digest_by h ps ds is ls) t
 
--- both of what a check is given
+-- the digest that a check has at a node, by the positions, digests, locations and leaves that it is given
 abbrev pub digest_given : {F D : Type 0} → Hashing D → LeafProof F D → Tree → D
 digest_given h g t = digest_by h g.positions.now g.digests.now g.locations.now g.leaves.now t
 
+-- the digests of a node's children that a check hashes, by the positions, digests, locations and leaves that it is given
 abbrev pub pair_given : {F D : Type 0} → Hashing D → LeafProof F D → Tree → Option (D × D)
 pair_given h g t = pair_by h g.positions.now g.digests.now g.locations.now g.leaves.now t
 
--- and of an input
+-- the digests of a node's children that the check of an input of scattered leaves hashes
 abbrev pub multi_pair : {D : Type 0} → Scheme D → MultiInput D → Tree → Option (D × D)
 multi_pair s r t = chosen_children (is_among (locations_in r)) (multi_digest s r) t
 
--- the positions and the locations ascend
+-- the positions and the locations of a proof of scattered leaves ascend strictly
 pub record ProofAscends {F D : Type 0} (g : LeafProof F D) : Type 0 where
   pub positions : IsStrictlyIncreasing g.positions.now
   pub locations : IsStrictlyIncreasing g.locations.now

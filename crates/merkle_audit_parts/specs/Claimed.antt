@@ -25,7 +25,7 @@ digest_in_claim none s p = elim s.store [ Some v ↦ unwrap_or (found_at v.pairs
 abbrev pub range_pair : {F D P Q : Type 0} → D → RangeNodes F D P Q → Tree → Option (D × D)
 range_pair none s t = met_children s.start s.end (digest_in_claim none s) t
 
--- first the string of the root and the folds, then what is hashed at the nodes of each peak
+-- what is hashed for an accepted range input: first the string of the root and the folds, then the nodes of each peak
 pub record IsClaim {F D P Q : Type 0} (none : D) (s : Scheme D) (r : RangeInput D) (c : Claim F D P Q) : Type 0 where
   pub nodes : List (Input D)
   pub parts : range_inputs s r ≡ top_of c.top ++ nodes
@@ -35,6 +35,6 @@ pub record IsClaim {F D P Q : Type 0} (none : D) (s : Scheme D) (r : RangeInput 
   pub peaks : c.peaks.items ≡ map subtree_of (peaks_of s.rule r.leaves)
   pub sees : AllByRecursion (λ t. Sees (range_pair none c.nodes) (input_at (range_inputs s r)) t) (peaks_of s.rule r.leaves)
 
--- the input leads to the root, and this is hashed for it
+-- a range input leads to the root, and this is all that is hashed for it
 abbrev pub IsClaimFor : {F D P Q : Type 0} → D → Scheme D → D → RangeInput D → Claim F D P Q → Type 0
 IsClaimFor none s root r c = (reconstructed s r ≡ Ok root) × IsClaim none s r c

@@ -51,13 +51,13 @@ collision_in (verdict.Collision p a b) = Some (collision_of p a b)
 collision_in verdict.Rejected = None
 collision_in verdict.Honest = None
 
--- the same of two lists
+-- the collision of a verdict on two lists, if it is one
 abbrev pub collision_of_lists : {F D : Type 0} → ApplyVerdict F D → Option (Collision D)
 collision_of_lists (applied.Collision p a b) = Some (collision_of p a b)
 collision_of_lists applied.Refused = None
 collision_of_lists applied.Same = None
 
--- the same of two inputs
+-- the collision of a verdict on two inputs, if it is one
 abbrev pub collision_of_pair : {F D : Type 0} → PairVerdict F D → Option (Collision D)
 collision_of_pair (paired.Collision p a b) = Some (collision_of p a b)
 collision_of_pair paired.Rejected = None
@@ -85,14 +85,16 @@ pub record IsVerdict {F D : Type 0} (Accepts Honest : Type 0) (h : Hashing D) (x
   pub honest : (v ≡ verdict.Honest) ↔ Honest
   pub collision : IfSome (collision_in v) (λ c. IsFirstCollision h xs ys c)
 
--- of a range input, of an input of scattered leaves, and of a range input with pins, against the root of a list for k inactive peaks
+-- what an audit says of a range input, against the root of a list for k inactive peaks
 abbrev pub IsRangeVerdict : {F D : Type 0} → Scheme D → List D → (k : ℕ) → RangeInput D → Verdict F D → Type 0
 IsRangeVerdict s X k r v =
     IsVerdict (reconstructed s r ≡ Ok (list_root s X k)) (IsHonestRange s X k r) s.hashing (range_inputs s r) (list_inputs s X k) v
 
+-- what an audit says of an input of scattered leaves, against the root of a list for k inactive peaks
 abbrev pub IsMultiVerdict : {F D : Type 0} → Scheme D → List D → (k : ℕ) → MultiInput D → Verdict F D → Type 0
 IsMultiVerdict s X k r v = IsVerdict (AcceptsMulti s r (list_root s X k)) (IsHonestMulti s X k r) s.hashing (multi_inputs s r) (list_inputs s X k) v
 
+-- what an audit says of a range input with pins, against the root of a list for k inactive peaks
 abbrev pub IsPinnedVerdict : {F D : Type 0} → Scheme D → List D → (k : ℕ) → RangeInput D → (pins : List D) → Verdict F D → Type 0
 IsPinnedVerdict s X k r pins v =
     IsVerdict (AcceptsPinned s r pins (list_root s X k)) (IsHonestPinned s X k r pins) s.hashing (pinned_inputs s r pins) (list_inputs s X k) v

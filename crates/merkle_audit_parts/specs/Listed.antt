@@ -27,24 +27,25 @@ pub record IsOfList {D : Type 0} (h : Hashing D) (rule : List ℕ → List ℕ) 
   pub leaves : b.leaves ≡ length X
   pub history : IsHistory h rule (records b) ([] ∷ X ∷ [])
 
--- P of each list that it has
+-- P of each list that a batch has all leaves of
 abbrev pub ForListed : {D : Type 0} → Scheme D → MerkleizedModel D → (List D → Type 0) → Type 0
 ForListed {D} s b P = (X : List D) → IsOfList s.hashing s.rule b X → P X
 
--- what is answered is a list's root for k inactive peaks, or that it has fewer peaks
+-- where a list has at least k peaks, what is answered is its root for k inactive peaks
 abbrev pub GivesListRoot : {F D : Type 0} → Scheme D → (k : ℕ) → Result D (Error F) → List D → Type 0
 GivesListRoot s k answer X = k ≤ length (peaks_of s.rule (length X)) → answer ≡ Ok (list_root s X k)
 
+-- where a list has fewer than k peaks, what is answered is the refusal that tells both numbers
 abbrev pub RefusesListRoot : {F D : Type 0} → Scheme D → (k : ℕ) → Result D (Error F) → List D → Type 0
 RefusesListRoot s k answer X =
     length (peaks_of s.rule (length X)) < k → answer ≡ Err (InvalidInactivePeaks k (length (peaks_of s.rule (length X))))
 
--- and what is hashed above its peaks
+-- for the peaks of a list, what is answered is the string of its root and its folds, for k inactive peaks
 abbrev pub GivesListTop : {F D E : Type 0} → Scheme D → (k : ℕ) → List (Subtree F) → Result (Top F D) E → List D → Type 0
 GivesListTop s k peaks answer X = peaks ≡ map subtree_of (peaks_of s.rule (length X))
     → IfOk answer (λ t. top_of t ≡ top_inputs s (length X) k (peak_digests s.hashing s.rule X))
 
--- the list's root for k inactive peaks, and all that is hashed for it
+-- a list's root for k inactive peaks, and all that is hashed for it
 pub record IsHashedList {F D P Q : Type 0} (s : Scheme D) (X : List D) (k : ℕ) (l : HashedList F D P Q) : Type 0 where
   pub few : length X ≤ s.max_leaves
   pub low : k ≤ length (peaks_of s.rule (length X))

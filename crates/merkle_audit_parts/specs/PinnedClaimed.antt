@@ -26,11 +26,11 @@ digest_given none s p = elim s.store [ Some v ↦ unwrap_or (found_at v.pairs p)
 abbrev pub pin_in : {F D P Q : Type 0} → PinnedNodes F D P Q → ℕ → Option D
 pin_in s p = digest_for s.positions.items s.pins.items p
 
--- the digests of a node's children, if they are hashed there
+-- the digests of a node's children, if a check with pins hashes them
 abbrev pub pinned_pair : {F D P Q : Type 0} → Hashing D → D → PinnedNodes F D P Q → Tree → Option (D × D)
 pinned_pair h none s t = pinned_children h (pin_in s) s.start s.end (digest_given none s) t
 
--- first the string of the root and the folds, then what is hashed at the nodes of each peak
+-- what is hashed for an accepted range input with pins: first the string of the root and the folds, then the nodes of each peak
 pub record IsPinnedClaim {F D P Q : Type 0} (none : D) (s : Scheme D) (r : RangeInput D) (pins : List D) (t : Top F D) (n : PinnedNodes F D P Q) : Type 0 where
   pub nodes : List (Input D)
   pub parts : pinned_inputs s r pins ≡ top_of t ++ nodes

@@ -6,6 +6,7 @@ use Rattle.merkle_root_theory.specs.Check.{RangeInput, range_inputs}
 use Rattle.merkle_root_theory.specs.Range.{list_inputs}
 use Rattle.merkle_audit_theory.specs.Rows.{toy, paired}
 
+-- the toy hash with up to three leaves, of which the first two are merged
 abbrev pub merged : Scheme ℕ
 merged = record toy { rule = paired }
 
@@ -17,6 +18,6 @@ listed = list_inputs merged (1 ∷ 3 ∷ 7 ∷ []) 0
 abbrev pub proof_of : (leaves start : ℕ) → (digests elements : List ℕ) → RangeInput ℕ
 proof_of leaves start digests elements = record { leaves = leaves; inactive = 0; digests = digests; start = start; elements = elements }
 
--- what is hashed for it
+-- what is hashed for a proof for inactive count 0 with these digests, of these leaves from a location on
 abbrev pub hashed_for : (leaves start : ℕ) → (digests elements : List ℕ) → List (Input ℕ)
 hashed_for leaves start digests elements = range_inputs merged (proof_of leaves start digests elements)

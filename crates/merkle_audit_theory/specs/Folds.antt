@@ -30,7 +30,7 @@ abbrev pub right_value : {D : Type 0} → Hashing D → D → List D → D
 right_value h d [] = d
 right_value h d (e ∷ es) = h.fold d (right_value h e es)
 
--- its folds, the first peak having number i
+-- the folds of the bag of a peak and those after it, the outermost first, the first peak having number i
 abbrev pub right_inputs : {D : Type 0} → Hashing D → ℕ → D → List D → List (Input D)
 right_inputs h i d [] = []
 right_inputs h i d (e ∷ es) = record { place = SuffixFold i; argument = Pair d (right_value h e es) } ∷ right_inputs h (suc i) e es
@@ -46,7 +46,7 @@ fold_inputs h bagging k [] = []
 fold_inputs h ForwardFold k (d ∷ ds) = left_inputs h d 1 ds
 fold_inputs h BackwardFold k (d ∷ ds) = joined_inputs h (fold h.fold d (take (pred k) ds)) (left_inputs h d 1 (take (pred k) ds)) (suc (pred k)) (drop (pred k) ds)
 
--- the same where the first of the digests stands for m peaks; j of the digests are folded left to right
+-- the folds of peaks with these digests, in order, where the first digest stands for m peaks; j of the digests are folded left to right
 abbrev pub numbered_inputs : {D : Type 0} → Hashing D → Bagging → (k j m : ℕ) → List D → List (Input D)
 numbered_inputs h bagging k j m [] = []
 numbered_inputs h ForwardFold k j m (d ∷ ds) = left_inputs h d m ds
@@ -60,7 +60,7 @@ top_inputs s n k ds = record { place = Root; argument = Bytes (root_string s.has
 abbrev pub multi_digest : {D : Type 0} → Scheme D → MultiInput D → Tree → D
 multi_digest s r t = value s.hashing (multi_on s r (peak t))
 
--- first the root and the folds, by the peaks' digests; then the nodes of each peak
+-- what is hashed for a list: first the root and the folds, by the peaks' digests; then the nodes of each peak
 pub record InputsByPeaks (D : Type 0) : Type 0 where
   pub list : (s : Scheme D) (xs : List D) (k : ℕ) → list_inputs s xs k ≡ top_inputs s (length xs) k (peak_digests s.hashing s.rule xs) ++ node_inputs s.hashing s.rule xs
   pub multi : (s : Scheme D) (r : MultiInput D) → multi_inputs s r
@@ -71,8 +71,8 @@ abbrev pub over_inputs : {D : Type 0} → Hashing D → (ℕ → Bool) → (ℕ 
 over_inputs h c X [] ds = []
 over_inputs h c X (t ∷ ts) ds = visited h (tree_claim h c X t ds) ++ over_inputs h c X ts (drop (length (siblings c t)) ds)
 
--- of an accepted range input: the root and the folds by the digests that it has for the parts, and then the nodes of the peaks that
--- overlap the range
+-- what is hashed for an accepted range input: the root and the folds, by the digests that it has for the parts, and then the nodes of the
+-- peaks that overlap the range
 abbrev pub RangeByPeaks : Type 0 → Type 0
 RangeByPeaks D = (s : Scheme D) (r : RangeInput D) (root : D) → AcceptsNonempty s r root
     → let ts = peaks_of s.rule r.leaves in

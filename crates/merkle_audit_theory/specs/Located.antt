@@ -17,7 +17,7 @@ abbrev pub CollideIsLocated : Type 0 → Type 0
 CollideIsLocated D = (h : Hashing D) (rule : List ℕ → List ℕ) (X Z : List D) → length X ≡ length Z → (w : Collide h rule X Z)
     → (c : Collision D) × Collides h (node_inputs h rule X) (node_inputs h rule Z) c × (c.place ≡ Node w.0)
 
--- and where the inputs of their forests collide at a node's place, the lists collide at that node
+-- where the inputs of two lists' forests collide at a node's place, the lists, if of one length, collide at that node
 abbrev pub LocatedIsCollide : Type 0 → Type 0
 LocatedIsCollide D = (h : Hashing D) (rule : List ℕ → List ℕ) (X Z : List D) → length X ≡ length Z
     → (c : Collision D) → Collides h (node_inputs h rule X) (node_inputs h rule Z) c → (p : ℕ) → c.place ≡ Node p

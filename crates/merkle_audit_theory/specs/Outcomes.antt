@@ -21,7 +21,7 @@ pub data Outcome (D : Type 0) : Type 0 where
   rejected clear : Outcome D
   collision : Collision D → Outcome D
 
--- of what the check says, and of what the search for the first collision finds
+-- the outcome of an audit, by what the check says and what the search for the first collision finds
 abbrev pub outcome_of : {D : Type 0} → Bool → Option (Collision D) → Outcome D
 outcome_of false found = rejected
 outcome_of true None = clear
@@ -40,7 +40,8 @@ IsPairOutcome A P h xs ys rejected = A → ⊥
 IsPairOutcome {D} A P h xs ys clear = A × P × ((c : Collision D) → Collides h xs ys c → ⊥)
 IsPairOutcome A P h xs ys (collision c) = A × IsFirstCollision h xs ys c
 
--- of two range inputs that are accepted against one root
+-- two range inputs accepted against one root have a first collision, or share their counts and the leaf digests at locations that both
+-- prove
 abbrev pub AcceptedPairs : Type 0 → Type 0
 AcceptedPairs D = (s : Scheme D) (size max_nodes : ℕ) → IsLawfulScheme s size max_nodes → (root : D) (r q : RangeInput D) → Accepts s r root → Accepts s q root
     → MatchOption (first_collision s.hashing (range_inputs s r) (range_inputs s q))
@@ -55,7 +56,7 @@ AuditsRanges D = (s : Scheme D) (size max_nodes : ℕ) → IsLawfulScheme s size
     → IsOutcome (reconstructed s r ≡ Ok (list_root s xs k)) (IsHonestRange s xs k r) s.hashing (range_inputs s r) (list_inputs s xs k)
     (outcome_of said (first_collision s.hashing (range_inputs s r) (list_inputs s xs k)))
 
--- of scattered leaves
+-- the audit of scattered leaves against a list
 abbrev pub AuditsMultis : Type 0 → Type 0
 AuditsMultis D = (s : Scheme D) (size max_nodes : ℕ) → IsLawfulScheme s size max_nodes
     → (xs : List D) (k : ℕ) → length xs ≤ s.max_leaves → k ≤ length (peaks_of s.rule (length xs)) → (r : MultiInput D)
@@ -63,7 +64,7 @@ AuditsMultis D = (s : Scheme D) (size max_nodes : ℕ) → IsLawfulScheme s size
     → IsOutcome (AcceptsMulti s r (list_root s xs k)) (IsHonestMulti s xs k r) s.hashing (multi_inputs s r) (list_inputs s xs k)
     (outcome_of said (first_collision s.hashing (multi_inputs s r) (list_inputs s xs k)))
 
--- of a range with pins
+-- the audit of a range with pins against a list
 abbrev pub AuditsPins : Type 0 → Type 0
 AuditsPins D = (s : Scheme D) (size max_nodes : ℕ) → IsLawfulScheme s size max_nodes
     → (xs : List D) (k : ℕ) → length xs ≤ s.max_leaves → k ≤ length (peaks_of s.rule (length xs)) → (r : RangeInput D) (pins : List D)
@@ -71,7 +72,7 @@ AuditsPins D = (s : Scheme D) (size max_nodes : ℕ) → IsLawfulScheme s size m
     → IsOutcome (AcceptsPinned s r pins (list_root s xs k)) (IsHonestPinned s xs k r pins) s.hashing (pinned_inputs s r pins) (list_inputs s xs k)
     (outcome_of said (first_collision s.hashing (pinned_inputs s r pins) (list_inputs s xs k)))
 
--- of two range inputs against any root, of a list or of none: where there is no collision they have one leaf count, one inactive
+-- the audit of two range inputs against any root, of a list or of none: where there is no collision they have one leaf count, one inactive
 -- count, and one leaf digest at each location that both prove
 abbrev pub AuditsPairs : Type 0 → Type 0
 AuditsPairs D = (s : Scheme D) (size max_nodes : ℕ) → IsLawfulScheme s size max_nodes → (root : D) (r q : RangeInput D)
@@ -79,7 +80,7 @@ AuditsPairs D = (s : Scheme D) (size max_nodes : ℕ) → IsLawfulScheme s size 
     → IsPairOutcome ((reconstructed s r ≡ Ok root) × (reconstructed s q ≡ Ok root)) (SharesLeaves s.hashing r q) s.hashing (range_inputs s r) (range_inputs s q)
     (outcome_of said (first_collision s.hashing (range_inputs s r) (range_inputs s q)))
 
--- of a list that is claimed and one that is listed: they have one length and the same peak digests, or not; they are equal, or
+-- the audit of a list that is claimed and one that is listed: they have one length and the same peak digests, or not; they are equal, or
 -- collide first at a node
 abbrev pub AuditsLists : Type 0 → Type 0
 AuditsLists D = (h : Hashing D) → EqDecides h → (rule : List ℕ → List ℕ) (X Z : List D)
@@ -87,7 +88,7 @@ AuditsLists D = (h : Hashing D) → EqDecides h → (rule : List ℕ → List �
     → IsOutcome ((length X ≡ length Z) × (peak_digests h rule X ≡ peak_digests h rule Z)) (X ≡ Z) h (node_inputs h rule X) (node_inputs h rule Z)
     (outcome_of said (first_collision h (node_inputs h rule X) (node_inputs h rule Z)))
 
--- whatever collides there is at a node
+-- each collision of what two lists' forests hash is at a node
 abbrev pub ListsCollideAtNodes : Type 0 → Type 0
 ListsCollideAtNodes D = (h : Hashing D) (rule : List ℕ → List ℕ) (X Z : List D)
     → (c : Collision D) → Collides h (node_inputs h rule X) (node_inputs h rule Z) c → (p : ℕ) × (c.place ≡ Node p)

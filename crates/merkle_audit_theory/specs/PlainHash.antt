@@ -38,7 +38,7 @@ pub record IsHashCollision {D : Type 0} (hash : List ℕ → D) (a b : List ℕ)
   pub differ : a ≢ b
   pub one_hash : hash a ≡ hash b
 
--- both arguments are digests, or both are byte strings
+-- two arguments are both digests, or both byte strings
 abbrev pub SameForm : {D : Type 0} → Argument D → Argument D → Type 0
 SameForm (Pair l r) (Pair l' r') = Unit {0}
 SameForm (Pair l r) (Bytes b) = ⊥
@@ -53,37 +53,37 @@ StandardIsPlain D = (hash : List ℕ → D) (bytes : D → List ℕ) (same : D �
 abbrev pub RootCollision : Type 0 → Type 0
 RootCollision D = (h : Hashing D) (xs ys : List (Input D)) → RootsCollide h xs ys → (a b : List ℕ) × IsHashCollision h.hash a b
 
--- where two arguments of one form collide, their byte strings do
+-- where two arguments of one form collide at a place, their byte strings do under the plain hash
 abbrev pub PlainCollision : Type 0 → Type 0
 PlainCollision D = (h : Hashing D) → IsPlain h → (size : ℕ) → ByteLaws h size → (xs ys : List (Input D))
     → (c : Collision D) → SameForm c.claimed c.listed → Collides h xs ys c
     → IsHashCollision h.hash (string_at h.bytes c.place c.claimed) (string_at h.bytes c.place c.listed)
 
--- so does each collision of a range input with a list
+-- each collision of a range input with a list is one of two byte strings under the plain hash
 abbrev pub RangeCollision : Type 0 → Type 0
 RangeCollision D = (s : Scheme D) → IsPlain s.hashing → (size : ℕ) → ByteLaws s.hashing size → (r : RangeInput D) (xs : List D) (k : ℕ)
     → (c : Collision D) → Collides s.hashing (range_inputs s r) (list_inputs s xs k) c
     → IsHashCollision s.hashing.hash (string_at s.hashing.bytes c.place c.claimed) (string_at s.hashing.bytes c.place c.listed)
 
--- of a multi input with a list
+-- each collision of an input of scattered leaves with a list is one of two byte strings under the plain hash
 abbrev pub MultiCollision : Type 0 → Type 0
 MultiCollision D = (s : Scheme D) → IsPlain s.hashing → (size : ℕ) → ByteLaws s.hashing size → (r : MultiInput D) (xs : List D) (k : ℕ)
     → (c : Collision D) → Collides s.hashing (multi_inputs s r) (list_inputs s xs k) c
     → IsHashCollision s.hashing.hash (string_at s.hashing.bytes c.place c.claimed) (string_at s.hashing.bytes c.place c.listed)
 
--- of a pinned input with a list
+-- each collision of a range input with pins with a list is one of two byte strings under the plain hash
 abbrev pub PinnedCollision : Type 0 → Type 0
 PinnedCollision D = (s : Scheme D) → IsPlain s.hashing → (size : ℕ) → ByteLaws s.hashing size → (r : RangeInput D) (pins xs : List D) (k : ℕ)
     → (c : Collision D) → Collides s.hashing (pinned_inputs s r pins) (list_inputs s xs k) c
     → IsHashCollision s.hashing.hash (string_at s.hashing.bytes c.place c.claimed) (string_at s.hashing.bytes c.place c.listed)
 
--- of two range inputs
+-- each collision of two range inputs is one of two byte strings under the plain hash
 abbrev pub PairCollision : Type 0 → Type 0
 PairCollision D = (s : Scheme D) → IsPlain s.hashing → (size : ℕ) → ByteLaws s.hashing size → (r q : RangeInput D)
     → (c : Collision D) → Collides s.hashing (range_inputs s r) (range_inputs s q) c
     → IsHashCollision s.hashing.hash (string_at s.hashing.bytes c.place c.claimed) (string_at s.hashing.bytes c.place c.listed)
 
--- and of two lists at a node
+-- each collision of two lists at a node is one of two byte strings under the plain hash
 abbrev pub NodeCollision : Type 0 → Type 0
 NodeCollision D = (h : Hashing D) → IsPlain h → (size : ℕ) → ByteLaws h size → (X Y : List D) (p : ℕ) (l r : Tree)
     → h.node p (digest_at h X l) (digest_at h X r) ≡ h.node p (digest_at h Y l) (digest_at h Y r)

@@ -11,11 +11,11 @@ use Rattle.merkle_root_theory.specs.Range.{leaf_of}
 use Rattle.merkle_claim_theory.specs.Multiproof.{MultiInput}
 use Rattle.merkle_claim_theory.specs.ThreeLeaves.{xor_hashing}
 
--- of the three peaks of seven leaves in the Mountain Range the oldest one
+-- the oldest of the three peaks of seven leaves in the Mountain Range
 abbrev pub four : Tree
 four = join 6 (join 2 (leaf 0 0) (leaf 1 1)) (join 5 (leaf 3 2) (leaf 4 3))
 
--- all three
+-- the three peaks of seven leaves in the Mountain Range
 abbrev pub seven : List Tree
 seven = four ∷ join 9 (leaf 7 4) (leaf 8 5) ∷ leaf 10 6 ∷ []
 
@@ -23,7 +23,7 @@ seven = four ∷ join 9 (leaf 7 4) (leaf 8 5) ∷ leaf 10 6 ∷ []
 abbrev pub single : ℕ → Tree
 single i = leaf i i
 
--- its plan
+-- the plan of leaf i where none are merged
 abbrev pub alone : ℕ → Plan
 alone i = peak (single i)
 
@@ -37,7 +37,7 @@ paired (h ∷ a ∷ hs) = cond (h == a) (0 ∷ []) []
 abbrev pub toy : Scheme ℕ
 toy = record { hashing = record xor_hashing { hash = fold bit_xor 0 }; rule = λ hs. []; max_leaves = 3; bagging = ForwardFold; domain = 0 }
 
--- the same under another family's byte
+-- the toy hash under another family's byte: up to three leaves, none merged
 abbrev pub other_family : Scheme ℕ
 other_family = record toy { domain = 1 }
 
@@ -57,21 +57,23 @@ no_elements start inactive leaves digests = record { leaves = leaves; inactive =
 abbrev pub bare : Scheme (List ℕ)
 bare = record { hashing = unhashed; rule = unmerged; max_leaves = 3; bagging = BackwardFold; domain = 8 }
 
--- such a root of three leaves with the digest 5
+-- the root of three leaves whose peaks fold to the digest 5, where nothing is hashed: its string
 abbrev pub bare_root : List ℕ
 bare_root = 8 ∷ 1 ∷ 0 ∷ 0 ∷ 0 ∷ 0 ∷ 0 ∷ 0 ∷ 0 ∷ 3 ∷ 5 ∷ []
 
--- the exclusive or of bytes, and the byte of a digest
+-- the exclusive or of bytes
 abbrev pub xor_bytes : List ℕ → ℕ
 xor_bytes = fold bit_xor 0
 
+-- the bytes of a digest that is one byte
 abbrev pub one_byte : ℕ → List ℕ
 one_byte d = d ∷ []
 
--- what is hashed for it with the digests of the leaves 1 and 7 swapped, and what is hashed for the list
+-- what is hashed for a proof of the middle one of three leaves, with the digests 1 and 7 of the others swapped
 abbrev pub swapped_inputs : List (Input ℕ)
 swapped_inputs = all_inputs toy 3 0 (range_expression toy (middle 0 (7 ∷ 1 ∷ [])))
 
+-- what is hashed for the list of the leaves 1, 3 and 7
 abbrev pub three_inputs : List (Input ℕ)
 three_inputs = all_inputs toy 3 0 (list_expression toy (leaf_of toy.hashing (1 ∷ 3 ∷ 7 ∷ [])) 3 0)
 

@@ -11,7 +11,7 @@ abbrev pub children_of : {D : Type 0} → (ℕ → D) → Tree → Option (D × 
 children_of f (leaf p i) = None
 children_of f (join p l r) = Some (f (position l), f (position r))
 
--- the same, if the node overlaps a..b
+-- the digests of a node's children, if it has some and overlaps a..b
 abbrev pub met_children : {D : Type 0} → (a b : ℕ) → (ℕ → D) → Tree → Option (D × D)
 met_children a b f (leaf p i) = None
 met_children a b f (join p l r) = cond (nat_lt (first_leaf l) b && nat_lt a (end_leaf r)) (Some (f (position l), f (position r))) None

@@ -22,18 +22,20 @@ digests_after h rule p elements = leaf_digests h rule (leaf_total p) elements
 abbrev pub node_over : {D : Type 0} → Contents D → MerkleizedModel D → ℕ → Option D
 node_over c b = read_over (records b) c
 
--- the proof of a leaf, or of the leaves from a on up to b, is built from these
+-- the proof of leaf i is built from the nodes of a batch and of what it lies on
 abbrev pub IsBuiltLeafOver : {F D Peaks Heights : Type 0} → Scheme D → Contents D → MerkleizedModel D → (k i : ℕ) → Proof F D Peaks Heights → Type 0
 IsBuiltLeafOver s c m k i = IsBuiltLeaf s (node_over c m) k m.leaves i
 
+-- the proof of the leaves from a on up to b is built from the nodes of a batch and of what it lies on
 abbrev pub IsBuiltRangeOver : {F D Peaks Heights : Type 0} → Scheme D → Contents D → MerkleizedModel D → (k a b : ℕ) → Proof F D Peaks Heights → Type 0
 IsBuiltRangeOver s c m k a b = IsBuiltRange s (node_over c m) k m.leaves a b
 
--- why there is none
+-- why a batch gives no proof of leaf i, memory aside
 abbrev pub RefusesLeafOver : {F D : Type 0} → Bagging → (rule : List ℕ → List ℕ) → (max_leaves : ℕ) → Contents D → MerkleizedModel D
     → (i k : ℕ) → Error F → Type 0
 RefusesLeafOver bagging rule max_leaves c m i k = RefusesLeaf bagging rule max_leaves m.leaves i k (node_over c m)
 
+-- why a batch gives no proof of the leaves from a on up to b, memory aside
 abbrev pub RefusesRangeOver : {F D : Type 0} → Bagging → (rule : List ℕ → List ℕ) → (max_leaves : ℕ) → Contents D → MerkleizedModel D
     → (a b k : ℕ) → Error F → Type 0
 RefusesRangeOver bagging rule max_leaves c m a b k = RefusesRange bagging rule max_leaves m.leaves a b k (node_over c m)

@@ -8,7 +8,7 @@ use Rattle.merkle_base.specs.Places.{peaks_of}
 use Rattle.merkle_claim_theory.specs.FirstCollision.{first_collision, IsFirstCollision}
 use Rattle.merkle_root_theory.specs.RootString.{ByteLaws}
 
--- of an accepted range input: no collision is found only if it is honest, and what is found is the first
+-- an accepted range input has no collision only if it is honest, and what the search finds is the first collision
 abbrev pub AuditsRange : Type 0 → Type 0
 AuditsRange D = (s : Scheme D) (size : ℕ) → EqDecides s.hashing → ByteLaws s.hashing size → CoversEachLeaf (peaks_of s.rule)
     → (X : ℕ → D) (n k : ℕ) → n < 2 ^ 64 → k < 2 ^ 64 → (r : RangeInput D) → AcceptsByPlan s r (root_of s n k (list_expression s X n k))
@@ -16,7 +16,7 @@ AuditsRange D = (s : Scheme D) (size : ℕ) → EqDecides s.hashing → ByteLaws
     (IsHonestByPlan s X n k r)
     (λ c. IsFirstCollision s.hashing (range_inputs s r) (all_inputs s n k (list_expression s X n k)) c)
 
--- of two inputs that are accepted against one root
+-- two range inputs accepted against one root have no collision only if they share counts and leaves, and what the search finds is the first
 abbrev pub AuditsPair : Type 0 → Type 0
 AuditsPair D = (s : Scheme D) (size : ℕ) → EqDecides s.hashing → ByteLaws s.hashing size → CoversEachLeaf (peaks_of s.rule)
     → (root : D) (r q : RangeInput D) → AcceptsByPlan s r root → AcceptsByPlan s q root

@@ -20,17 +20,17 @@ same_argument h (Bytes a) (Bytes b) = bytes_eq a b
 same_argument h (Pair a b) (Bytes c) = false
 same_argument h (Bytes c) (Pair a b) = false
 
--- one place, two arguments, one digest
+-- whether two inputs are at one place, with two arguments and one digest
 abbrev pub is_collision : {D : Type 0} → Hashing D → Input D → Input D → Bool
 is_collision h x y = same_place x.place y.place && not (same_argument h x.argument y.argument)
     && h.same (digest_of_argument h x.place x.argument) (digest_of_argument h y.place y.argument)
 
--- the first answer
+-- the first of two answers, or else the second
 abbrev pub or_else : {X : Type 0} → Option X → Option X → Option X
 or_else None y = y
 or_else (Some x) y = Some x
 
--- the first input that collides with y
+-- the first of the claimed inputs that collides with y
 abbrev pub first_for : {D : Type 0} → Hashing D → List (Input D) → Input D → Option (Collision D)
 first_for h [] y = None
 first_for h (x ∷ xs) y = cond (is_collision h x y) (Some (record { place = y.place; claimed = x.argument; listed = y.argument })) (first_for h xs y)

@@ -20,12 +20,12 @@ abbrev pub up : ℕ → ℕ → List Place
 up i zero = []
 up i (suc n) = SuffixFold i ∷ up (suc i) n
 
--- the folds over m peaks: f is the greater of k and 1
+-- the places of the folds over m peaks, in order: f is the greater of k and 1
 abbrev pub fold_places : Bagging → ℕ → ℕ → List Place
 fold_places ForwardFold k m = down (pred m)
 fold_places BackwardFold k m = let f = suc (pred k) in cond (nat_lt f m) (Join ∷ (down (pred f) ++ up f (pred (m - f)))) (down (pred m))
 
--- a node before its children, the left child before the right
+-- the places of a tree's nodes: a node before its children, the left child before the right
 abbrev pub node_places : Tree → List Place
 node_places (leaf p i) = []
 node_places (join p l r) = Node p ∷ node_places l ++ node_places r
@@ -41,7 +41,7 @@ abbrev pub Distinct : {A : Type 0} → List A → Type 0
 Distinct [] = Unit {0}
 Distinct (x ∷ xs) = (Member xs x → ⊥) × Distinct xs
 
--- where no position stands twice in the peaks, no place stands with two arguments
+-- if no position stands twice in the peaks of a list, no place stands with two arguments among its inputs
 abbrev pub PlacesOnce : Type 0 → Type 0
 PlacesOnce D = (h : Hashing D) (X : ℕ → D) (bagging : Bagging) (k : ℕ) (t : Tree) (ts : List Tree) → Distinct (flat_map node_places (t ∷ ts))
     → IsMap (inputs_of h (option_map (plan_expression X) (root_plan bagging k (t ∷ ts))))

@@ -23,11 +23,11 @@ abbrev pub pin_plan : {D : Type 0} → Hashing D → (ℕ → Option D) → Plan
 pin_plan h b (peak t) = pin_tree h b t
 pin_plan h b (folding place l r) = computed place (pin_plan h b l) (pin_plan h b r)
 
--- w: whether a location lies before the range. A part given by the proof, rebuilt from the pins if it lies before the range
+-- a node given by the proof, rebuilt from the pins if it lies before the range; w: whether a location lies before the range
 abbrev pub outside_tree : {D : Type 0} → Hashing D → (ℕ → Option D) → (ℕ → Bool) → Tree → D → Expression D
 outside_tree h b w t d = cond (tree_meets w t) (cross_checked d (pin_tree h b t)) (supplied d)
 
--- the same of a part of a plan
+-- a part of a plan given by the proof, rebuilt from the pins if it lies before the range; w: whether a location lies before the range
 abbrev pub outside_plan : {D : Type 0} → Hashing D → (ℕ → Option D) → (ℕ → Bool) → Plan → D → Expression D
 outside_plan h b w p d = cond (meets w p) (cross_checked d (pin_plan h b p)) (supplied d)
 
@@ -54,17 +54,17 @@ abbrev pub PinsTree : {D : Type 0} → Hashing D → (ℕ → Option D) → (ℕ
 PinsTree h b X (leaf p i) = or_empty h (b p) ≡ X i
 PinsTree h b X (join p l r) = MatchOption (b p) (PinsTree h b X l × PinsTree h b X r) (λ d. d ≡ tree_digest h X (join p l r))
 
--- the same of each peak
+-- in each peak of a plan, the pins at its nodes, down to the first on each way, are the nodes' digests
 abbrev pub PinsPlan : {D : Type 0} → Hashing D → (ℕ → Option D) → (ℕ → D) → Plan → Type 0
 PinsPlan h b X (peak t) = PinsTree h b X t
 PinsPlan h b X (folding place l r) = PinsPlan h b X l × PinsPlan h b X r
 
--- the same of each of some parts that lies before the range
+-- in each of some parts that lies before the range, the pins at its nodes, down to the first on each way, are the nodes' digests
 abbrev pub PinsAll : {D : Type 0} → Hashing D → (ℕ → Option D) → (ℕ → Bool) → (ℕ → D) → List Plan → Type 0
 PinsAll h b w X [] = Unit {0}
 PinsAll h b w X (p ∷ ps) = (meets w p ≡ true → PinsPlan h b X p) × PinsAll h b w X ps
 
--- the same of each of some nodes that lies before the range
+-- in each of some trees that lies before the range, the pins at its nodes, down to the first on each way, are the nodes' digests
 abbrev pub PinsTrees : {D : Type 0} → Hashing D → (ℕ → Option D) → (ℕ → Bool) → (ℕ → D) → List Tree → Type 0
 PinsTrees h b w X [] = Unit {0}
 PinsTrees h b w X (t ∷ ts) = (tree_meets w t ≡ true → PinsTree h b X t) × PinsTrees h b w X ts

@@ -14,16 +14,16 @@ use Rattle.merkle_claim_theory.specs.PinnedClaim.{pin_tree, pin_plan}
 use Rattle.merkle_base.specs.Table.{digest_for}
 use Rattle.merkle_claim_theory.specs.Pinned.{pin_positions, AcceptsPinnedSome, IsHonestPinned}
 
--- each of the marked ones has the digest at its place that f gives it
+-- each of the marked parts, or of the marked nodes, has the digest at its place that f gives it
 abbrev pub AllRebuilt : {A D : Type 0} → Hashing D → (A → Bool) → (A → D) → List A → List D → Type 0
 AllRebuilt h marked f [] ds = Unit {0}
 AllRebuilt h marked f (x ∷ xs) ds = (marked x ≡ true → next h ds ≡ f x) × AllRebuilt h marked f xs (drop 1 ds)
 
--- a node rebuilt from the pins
+-- the digest of a node, rebuilt from the pins
 abbrev pub rebuilt_node : {D : Type 0} → Hashing D → (ℕ → Option D) → Tree → D
 rebuilt_node h b t = value h (pin_tree h b t)
 
--- a part of a plan rebuilt from them
+-- the digest of a part of a plan, rebuilt from the pins
 abbrev pub rebuilt_part : {D : Type 0} → Hashing D → (ℕ → Option D) → Plan → D
 rebuilt_part h b p = value h (pin_plan h b p)
 

@@ -14,21 +14,21 @@ use Rattle.merkle_claim_theory.specs.Order.{Distinct}
 use Rattle.merkle_base.specs.Table.{digest_for}
 use Rattle.merkle_root_theory.specs.Extract.{inner_pairs}
 
--- the values, in the claim for c, of the maximal nodes under which no location of d lies; ds: the digests for the siblings for c
+-- the values, in the claim of a tree for c, of the maximal nodes under which no location of d lies; ds: the digests for the siblings for c
 abbrev pub sub_siblings : {D : Type 0} → Hashing D → (ℕ → Bool) → (ℕ → Bool) → (ℕ → D) → Tree → List D → List D
 sub_siblings h c d X (leaf p i) ds = cond (d i) [] (value h (tree_claim h c X (leaf p i) ds) ∷ [])
 sub_siblings h c d X (join p l r) ds = cond (tree_meets d l || tree_meets d r)
     (sub_siblings h c d X l ds ++ sub_siblings h c d X r (drop (length (siblings c l)) ds))
     (value h (tree_claim h c X (join p l r) ds) ∷ [])
 
--- the same of the maximal parts of a plan
+-- the values, in the claim of a plan for c, of its maximal parts that hold no location of d
 abbrev pub sub_outside_parts : {D : Type 0} → Hashing D → (ℕ → Bool) → (ℕ → Bool) → (ℕ → D) → Plan → List D → List D → List D
 sub_outside_parts h c d X (peak t) os is = cond (tree_meets d t) [] (value h (claim h c X (peak t) os is) ∷ [])
 sub_outside_parts h c d X (folding place l r) os is = cond (meets d l || meets d r)
     (sub_outside_parts h c d X l os is ++ sub_outside_parts h c d X r (drop (length (outside_parts c l)) os) (drop (length (path_siblings c l)) is))
     (value h (claim h c X (folding place l r) os is) ∷ [])
 
--- the same of the nodes within its peaks
+-- the values, in the claim of a plan for c, of the maximal nodes without a location of d within the peaks that hold one
 abbrev pub sub_inner : {D : Type 0} → Hashing D → (ℕ → Bool) → (ℕ → Bool) → (ℕ → D) → Plan → List D → List D → List D
 sub_inner h c d X (peak t) os is = cond (tree_meets d t) (sub_siblings h c d X t is) []
 sub_inner h c d X (folding place l r) os is = cond (meets d l || meets d r)

@@ -7,7 +7,7 @@ use Rattle.merkle_root_theory.specs.Plan.{Plan, plan_expression, peak, honest_di
 use Rattle.merkle_root_theory.specs.Claim.{claim_of}
 use Rattle.merkle_claim_theory.specs.FirstCollision.{first_collision}
 
--- the exclusive or of what is hashed
+-- a toy hash: the exclusive or of what is hashed
 abbrev pub xor_hashing : Hashing ℕ
 xor_hashing = record {
   leaf = λ p e. 0;
@@ -23,11 +23,11 @@ xor_hashing = record {
 abbrev pub three : ℕ → ℕ
 three i = get_or (1 ∷ 3 ∷ 7 ∷ []) i 0
 
--- their peaks, folded
+-- the plan of three leaves: their two peaks, folded left to right
 abbrev pub plan_of_three : Plan
 plan_of_three = left_fold_plan (peak (join 2 (leaf 0 0) (leaf 1 1))) 1 (leaf 3 2 ∷ [])
 
--- the honest digests, and the collision of the swapped ones
+-- the honest digests that prove the first of the leaves 1, 3 and 7, and the first collision of a proof that swaps them
 abbrev pub ThreeLeaves : Type 0
 ThreeLeaves = record {
   honest : honest_digests xor_hashing three (λ i. nat_lt i 1) plan_of_three ≡ 7 ∷ 3 ∷ [];

@@ -16,11 +16,11 @@ use Rattle.merkle_claim_theory.specs.Pinned.{honest_pins, pinned_expression, Acc
 abbrev pub multi_inputs : {D : Type 0} → Scheme D → MultiInput D → List (Input D)
 multi_inputs s r = all_inputs s r.leaves r.inactive (multi_expression s r)
 
--- for a pinned input
+-- all that is hashed for a range input with pins
 abbrev pub pinned_inputs : {D : Type 0} → Scheme D → RangeInput D → List D → List (Input D)
 pinned_inputs s r pins = all_inputs s r.leaves r.inactive (pinned_expression s r pins)
 
--- of accepted inputs: where no collision is found they are honest, and what is found is the first
+-- accepted inputs are honest where no collision is found, and what is found is the first; and an honest range input has none
 pub record Verdicts (D : Type 0) : Type 0 where
   pub range : (s : Scheme D) (size max_nodes : ℕ) → IsLawfulScheme s size max_nodes
       → (xs : List D) (k : ℕ) → length xs ≤ s.max_leaves → k ≤ length (peaks_of s.rule (length xs))
@@ -59,7 +59,7 @@ range_check s r root =
     && (nat_eq (length r.digests) 0
     && s.hashing.same (root_of s 0 0 None) root)))))
 
--- it answers yes exactly of what is accepted
+-- the range check as a test answers yes exactly of what is accepted
 abbrev pub CheckDecides : Type 0 → Type 0
 CheckDecides D = (s : Scheme D) → EqDecides s.hashing → (r : RangeInput D) (root : D) → Decides (range_check s r root) (Accepts s r root)
 
@@ -67,12 +67,12 @@ CheckDecides D = (s : Scheme D) → EqDecides s.hashing → (r : RangeInput D) (
 abbrev pub ExtractsOnce : Type 0 → Type 0
 ExtractsOnce D = (s : Scheme D) (r : RangeInput D) → 0 < length r.elements → end_of r ≤ r.leaves → Distinct (map (λ x. x.0) (extracted s r))
 
--- an honest multi input has no collision
+-- an honest input of scattered leaves has no collision with its list
 abbrev pub HonestMultiHasNoCollision : Type 0 → Type 0
 HonestMultiHasNoCollision D = (s : Scheme D) → EqDecides s.hashing → (xs : List D) (k : ℕ) (r : MultiInput D) → IsHonestMultiSome s xs k r
     → first_collision s.hashing (multi_inputs s r) (list_inputs s xs k) ≡ None
 
--- nor has an honest pinned input
+-- an honest range input with honest pins has no collision with its list
 abbrev pub HonestPinnedHasNoCollision : Type 0 → Type 0
 HonestPinnedHasNoCollision D = (s : Scheme D) → EqDecides s.hashing
     → (xs : List D) (k : ℕ) (r : RangeInput D) (pins : List D) → IsHonestNonempty s xs k r → pins ≡ honest_pins s xs r.start

@@ -33,6 +33,6 @@ BeginsWithNumber P b = (n : ℕ) × (rest : List ℕ) × (n < 2 ^ 64) × (b ≡ 
 abbrev pub IsRefusalUpTo : (greatest : ℕ) → (above : DecodeError) → List ℕ → DecodeError → Type 0
 IsRefusalUpTo greatest above b e = IsNumberRefusal b e ⊎ (BeginsWithNumber (λ n _. greatest < n) b × (e ≡ above))
 
--- bytes are refused at such a number, or else after it
+-- bytes are refused where they should begin with a number up to a greatest one, or else after it
 abbrev pub IsRefusalFrom : (greatest : ℕ) → (above : DecodeError) → (after : ℕ → List ℕ → DecodeError → Type 0) → List ℕ → DecodeError → Type 0
 IsRefusalFrom greatest above after b e = IsRefusalUpTo greatest above b e ⊎ BeginsWithNumber (λ n rest. (n ≤ greatest) × after n rest e) b

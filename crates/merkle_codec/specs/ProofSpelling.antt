@@ -6,10 +6,11 @@ use Rattle.merkle_base.specs.declared.error.DecodeError.TheVariants.{EndOfBuffer
 use Rattle.merkle_codec.specs.NumberSpelling.{number_spelling, IsRefusalFrom}
 use Rattle.merkle_proof.specs.declared.proof.Proof.{Proof}
 
--- the number of leaves, the number of inactive peaks, the number of digests, and the bytes of the digests
+-- the bytes of a proof's parts: the number of leaves, that of inactive peaks, that of digests, and the bytes of the digests
 abbrev pub parts_spelling : {D : Type 0} → (D → List ℕ) → (leaves inactive : ℕ) → List D → List ℕ
 parts_spelling bytes leaves inactive digests = number_spelling leaves ++ number_spelling inactive ++ number_spelling (length digests) ++ flat_map bytes digests
 
+-- the bytes of a proof: the number of leaves, that of inactive peaks, that of digests, and the bytes of the digests
 abbrev pub proof_spelling : {F D Peaks Heights : Type 0} → (D → List ℕ) → Proof F D Peaks Heights → List ℕ
 proof_spelling bytes p = parts_spelling bytes p.leaves p.inactive_peaks p.digests.items
 

@@ -14,15 +14,17 @@ use Rattle.merkle_commands.specs.declared.command.HashName.TheVariants.{Sha256, 
 use Rattle.merkle_commands.specs.declared.command.Request.TheVariants.{Add, Update, Commit, Prune, Root, Prove, Check, Audit}
 use Rattle.merkle_commands.specs.Words.{IsHexWord}
 
+-- the word of a family
 abbrev pub family_word : FamilyName → List ℕ
 family_word Mmr = codes "mmr"
 family_word Mmb = codes "mmb"
 
+-- the word of a bagging
 abbrev pub bagging_word : Bagging → List ℕ
 bagging_word ForwardFold = codes "forward"
 bagging_word BackwardFold = codes "backward"
 
--- SHA-256 is the hash where no word names one
+-- the words of a hash; SHA-256 is the hash where no word names one
 abbrev pub hash_words : HashName → List (List ℕ)
 hash_words Sha256 = []
 hash_words Xor8 = codes "xor8" ∷ []
@@ -36,11 +38,12 @@ element_word (digit ∷ digits) = digit ∷ digits
 abbrev pub words_in : List ℕ → List (List ℕ)
 words_in row = slice_split (λ b. b == 32) row
 
--- those of an optional row
+-- the words that stand in a row, if there is a row, and else none
 abbrev pub optional_words : Option (Bor (List ℕ)) → List (List ℕ)
 optional_words None = []
 optional_words (Some row) = words_in row.now
 
+-- the words of a command
 abbrev pub words_of : Command → List (List ℕ)
 words_of (New family bagging hash) = codes "new" ∷ family_word family ∷ bagging_word bagging ∷ hash_words hash
 words_of (Ask (Add digits)) = codes "add" ∷ element_word digits.now ∷ []
@@ -52,7 +55,7 @@ words_of (Ask (Prove start end inactive)) = codes "prove" ∷ decimal start ∷ 
 words_of (Ask (Check start inactive root proof elements)) = codes "check" ∷ decimal start ∷ decimal inactive ∷ root.now ∷ proof.now ∷ optional_words elements
 words_of (Ask (Audit start inactive proof elements)) = codes "audit" ∷ decimal start ∷ decimal inactive ∷ proof.now ∷ optional_words elements
 
--- one space stands between each two words
+-- a row of words, with one space between each two
 abbrev pub joined : List (List ℕ) → List ℕ
 joined words = join_with_byte 32 words
 
@@ -64,7 +67,8 @@ IsDigitsWord word = IsHexWord word × (word ≢ [])
 abbrev pub IsElementWord : List ℕ → Type 0
 IsElementWord word = (word ≡ codes "-") ⊎ IsDigitsWord word
 
--- the digits of elements, of the root and of the proof are hexadecimal words, and numbers are below 2^64
+-- a command that can stand in a line: the digits of elements, of the root and of the proof are hexadecimal words, and numbers are below
+-- 2^64
 abbrev pub IsCommand : Command → Type 0
 IsCommand (New family bagging hash) = ⊤
 IsCommand (Ask (Add digits)) = IsHexWord digits.now

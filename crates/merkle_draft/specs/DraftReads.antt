@@ -24,6 +24,7 @@ pub record DraftModel (D : Type 0) : Type 0 where
   -- the nodes from position `before` on
   pub appended : List D
 
+-- how the prover writes a batch in the making as numbers
 abbrev pub drafted_code : {D : Type 0} → Coded D → Coded (DraftModel D)
 drafted_code d =
     code_by _ (coded× coded_ℕ (coded× (coded_list (record_model_code d)) (coded× (code coded_ℕ d) (coded_list d))))
@@ -31,19 +32,19 @@ drafted_code d =
     (λ p. record { before = p.0; kept = p.1.0; overwritten = p.1.1.0; appended = p.1.1.1 })
     (λ _. refl)
 
--- below its own nodes: what the newest kept record has, or else the base
+-- what a draft reads below its own nodes: what the newest kept record has, or else the base
 abbrev pub below : {D : Type 0} → DraftModel D → Contents D → ℕ → Option D
 below d base p = read_over d.kept base p
 
--- at a position before those that it appends
+-- what a draft reads at a position before the nodes that it appends
 abbrev pub old_node : {D : Type 0} → DraftModel D → Contents D → ℕ → Option D
 old_node d base p = option_or (get d.overwritten p) (below d base p)
 
--- the digest that it stores for position p: an overwritten one before those that it appends, or one of these
+-- the digest that a draft stores for position p: an overwritten one before the nodes that it appends, or one of these
 abbrev pub stored_node : {D : Type 0} → DraftModel D → ℕ → Option D
 stored_node d p = cond (nat_lt p d.before) (get d.overwritten p) (slice_get d.appended (p - d.before))
 
--- P of each assignment of digests to positions that what it reads of old nodes, and what it appends, agree with
+-- P of each assignment of digests to positions that what a draft reads of old nodes, and what it appends, agree with
 abbrev pub ForTruth : {D : Type 0} → DraftModel D → Contents D → ((ℕ → D) → Type 0) → Type 0
 ForTruth {D} d base P = (truth : ℕ → D) → ReadsAgree (old_node d base) d.before truth
     → d.appended ≡ digests_from truth d.before (length d.appended) → P truth
@@ -60,6 +61,6 @@ OnlyOverwrites old new = (new.before ≡ old.before) × (new.kept ≡ old.kept) 
 abbrev pub ArePeaksRead : {D : Type 0} → (List ℕ → List ℕ) → ℕ → ℕ → (ℕ → Option D) → Type 0
 ArePeaksRead rule n s read = (i : ℕ) (t : Tree) → slice_get (peaks_of rule n) i ≡ Some t → position t < s → is_some (read (position t)) ≡ true
 
--- one of them is not there
+-- the error names a peak of n leaves, before position s, at which nothing is read
 abbrev pub IsMissingPeak : {F D : Type 0} → (List ℕ → List ℕ) → ℕ → ℕ → (ℕ → Option D) → NodeError F → Type 0
 IsMissingPeak rule n s read e = (i : ℕ) × (t : Tree) × (slice_get (peaks_of rule n) i ≡ Some t) × (position t < s) × IsGapAt read (position t) e

@@ -15,13 +15,14 @@ level_at ls h = elim (slice_get ls h) [ Some l ↦ l | None ↦ [] ]
 abbrev pub from_height : {X : Type 0} → List (List X) → ℕ → List X
 from_height ls h = flat_map (λ l. l) (drop h ls)
 
--- for each height positions of computed nodes of that height are listed, among them those of all from position a on
+-- the positions listed for each height are of computed nodes of that height, and among them are those of all from position a on
 abbrev pub ArePlanned : {D : Type 0} → (List ℕ → List ℕ) → (ℕ → Option D) → ℕ → ℕ → ℕ → List (List ℕ) → Type 0
 ArePlanned rule m n a e ls = (h p : ℕ) →
     (Contains (level_at ls h) p → (t : Tree) × (slice_get (forest rule e).nodes p ≡ Some t) × (height t ≡ h) × (is_computed rule m n t ≡ true))
     × ((t : Tree) → slice_get (forest rule e).nodes p ≡ Some t → height t ≡ h → is_computed rule m n t ≡ true → a ≤ p → Contains (level_at ls h) p)
 
 -- ---- dirty parents
+
 -- whether the node is a parent above a leaf that m has a digest for
 abbrev pub is_dirty_parent : {D : Type 0} → (ℕ → Option D) → Tree → Bool
 is_dirty_parent m (leaf p n) = false
@@ -37,7 +38,7 @@ abbrev pub dirty_count : {D : Type 0} → (ℕ → Option D) → Tree → ℕ
 dirty_count m (leaf p n) = 0
 dirty_count m (join p l r) = (dirty_count m l + dirty_count m r) + cond (is_dirty m (join p l r)) 1 0
 
--- how many some trees have
+-- how many dirty parents some trees have
 abbrev pub all_dirty_count : {D : Type 0} → (ℕ → Option D) → List Tree → ℕ
 all_dirty_count m [] = 0
 all_dirty_count m (t ∷ ts) = dirty_count m t + all_dirty_count m ts
@@ -48,6 +49,7 @@ pub record AreMarked {D : Type 0} (m : ℕ → Option D) (ts : List Tree) (old n
   pub counted : length (from_height new 0) ≡ length (from_height old 0) + all_dirty_count m ts
 
 -- ---- new parents
+
 -- from the lists old to the lists new, exactly the parents at positions from a on and before b are added, each at its height
 pub record AreAdded (rule : List ℕ → List ℕ) (max_leaves a b : ℕ) (old new : List (List ℕ)) : Type 0 where
   pub sound : (h p : ℕ) → Contains (level_at new h) p → Contains (level_at old h) p ⊎ ((a ≤ p) × (p < b) × HasInner rule max_leaves p h)

@@ -11,7 +11,7 @@ use Rattle.merkle_batch_theory.specs.Needed.{IsComputedChild, IsNeeded}
 use Rattle.merkle_draft.specs.NodeErrors.{IsGapAt}
 use Rattle.merkle_draft.specs.declared.node_error.NodeError.{NodeError}
 
--- f of two, where there are both
+-- f of two values, where there are both
 abbrev pub of_both : {D : Type 0} → (D → D → D) → Option D → Option D → Option D
 of_both f (Some a) (Some b) = Some (f a b)
 of_both f (Some a) None = None
@@ -34,16 +34,16 @@ IsStoredAfter h rule m below n ds stored p t =
     (stored p ≡ cond (is_written rule m n t) (new_digest h rule m below n ds t) None)
     × (is_written rule m n t ≡ true → is_some (new_digest h rule m below n ds t) ≡ true)
 
--- of the forest of the n leaves and the added ones exactly the written nodes are stored, each with its digest after the changes
+-- exactly the written nodes of the forest of the n leaves and the added ones are stored, each with its digest after the changes
 abbrev pub AreNewDigests : {D : Type 0} → Hashing D → (List ℕ → List ℕ) → (m below : ℕ → Option D) → ℕ → List D → (ℕ → Option D) → Type 0
 AreNewDigests h rule m below n ds stored =
     (p : ℕ) (t : Tree) → slice_get (forest rule (n + length ds)).nodes p ≡ Some t → IsStoredAfter h rule m below n ds stored p t
 
--- it names a needed node that is not there
+-- the error names a node that the changes need and that is not there
 abbrev pub LacksNeeded : {F D : Type 0} → (List ℕ → List ℕ) → (m below : ℕ → Option D) → ℕ → ℕ → NodeError F → Type 0
 LacksNeeded rule m below n e g = (t : Tree) × IsNeeded rule m n e t × IsGapAt below (position t) g
 
--- it names a child of a computed node that is old, has no leaf with a new digest, and is not there
+-- the error names a child of a computed node that is old, has no leaf with a new digest, and is not there
 abbrev pub LacksChild : {F D : Type 0} → (List ℕ → List ℕ) → (m below : ℕ → Option D) → ℕ → ℕ → NodeError F → Type 0
 LacksChild rule m below n e g =
     (t : Tree) × IsComputedChild rule m n e t × (position t < size rule n) × (is_dirty m t ≡ false) × IsGapAt below (position t) g

@@ -49,7 +49,7 @@ pub record IsStage {D : Type 0} (h : Hashing D) (rule : List ℕ → List ℕ) (
 abbrev pub AreInner : (List ℕ → List ℕ) → ℕ → ℕ → List ℕ → Type 0
 AreInner rule max_leaves k ps = (p : ℕ) → Contains ps p → HasInner rule max_leaves p k
 
--- they are before the draft's end
+-- the positions are before the draft's end
 abbrev pub AreStored : {D : Type 0} → DraftModel D → List ℕ → Type 0
 AreStored d ps = (p : ℕ) → Contains ps p → p < d.before + length d.appended
 
@@ -59,7 +59,7 @@ SettlesLevel h rule max_leaves base k ps old new = (m : ℕ → Option _) (n : �
     → IsStage h rule max_leaves m (below old base) n ds old.before k ps later (stored_node old)
     → AreSettled h rule m (below old base) n ds later (stored_node new)
 
--- whatever the changes, the error names a child of theirs that is not there
+-- whatever the changes, the error names a child of one of a level's nodes that is not there
 abbrev pub LacksForLevel : {F D : Type 0} → Hashing D → (List ℕ → List ℕ) → ℕ → Contents D → ℕ → List ℕ → DraftModel D → NodeError F → Type 0
 LacksForLevel h rule max_leaves base k ps old e = (m : ℕ → Option _) (n : ℕ) (ds : List _) (later : List ℕ)
     → IsStage h rule max_leaves m (below old base) n ds old.before k ps later (stored_node old)
@@ -92,6 +92,6 @@ AreAnswers h rule m below n ds ps xs =
 abbrev pub StoresChanges : {D : Type 0} → Hashing D → (List ℕ → List ℕ) → Contents D → ℕ → List (ℕ × D) → List D → DraftModel D → DraftModel D → Type 0
 StoresChanges h rule base n entries ds old new = AreNewDigests h rule (updates_of entries) (below old base) n ds (stored_node new)
 
--- the error names a node that is needed for that, up to e leaves, and is not there, unless memory was refused
+-- the error names a node that the changes need, up to e leaves, and that is not there, unless memory was refused
 abbrev pub LacksForChanges : {F D : Type 0} → (List ℕ → List ℕ) → Contents D → (n e : ℕ) → List (ℕ × D) → DraftModel D → NodeError F → Type 0
 LacksForChanges rule base n e entries old error = error ≢ OutOfMemory → LacksNeeded rule (updates_of entries) (below old base) n e error

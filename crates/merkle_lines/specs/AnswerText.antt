@@ -8,7 +8,7 @@ use Rattle.merkle_lines.specs.declared.answer.Spot.{Spot}
 use Rattle.merkle_lines.specs.declared.answer.Spot.TheVariants as spot
 use Rattle.merkle_lines.specs.Answers.{error_line}
 
--- those of a place
+-- the bytes of a place's words
 abbrev pub spot_text : Spot → List ℕ
 spot_text spot.Root = codes "root"
 spot_text spot.Join = codes "join"

@@ -7,7 +7,7 @@ use Rattle.merkle_base.specs.declared.error.Error.TheVariants as error
 use Rattle.merkle_commands.specs.declared.hex_words.HexError.{HexError}
 use Rattle.merkle_commands.specs.declared.hex_words.HexError.TheVariants as hex
 
--- that of the variant
+-- the name of a variant of `Error`
 abbrev pub error_name : {F : Type 0} → Error F → List ℕ
 error_name (error.NonLeaf p) = codes "NonLeaf"
 error_name (error.PositionOverflow p) = codes "PositionOverflow"
@@ -31,10 +31,12 @@ error_name (error.DataCorrupted what) = codes "DataCorrupted"
 error_name (error.BitOutOfBounds bit size) = codes "BitOutOfBounds"
 error_name error.OutOfMemory = codes "OutOfMemory"
 
+-- the name of a variant of `HexError`
 abbrev pub hex_error_name : HexError → List ℕ
 hex_error_name hex.Syntax = codes "Syntax"
 hex_error_name hex.OutOfMemory = codes "OutOfMemory"
 
+-- the name of a variant of `DecodeError`
 abbrev pub decode_error_name : DecodeError → List ℕ
 decode_error_name decode.EndOfBuffer = codes "EndOfBuffer"
 decode_error_name decode.InvalidVarint = codes "InvalidVarint"

@@ -11,7 +11,7 @@ use Rattle.merkle_core.specs.PlainHashings.{sha256_hashing, xor8_hashing}
 use Rattle.merkle_lines.specs.Held.{IsStructureHeld}
 use Rattle.merkle_lines.specs.Transcript.{SessionState}
 
--- the structure of the session holds what was told
+-- the structure of the session holds what was told by the lines
 abbrev pub HoldsState : Session → Option SessionState → Type 0
 HoldsState Absent told = told ≡ None
 HoldsState (MmrSha256 s) told =

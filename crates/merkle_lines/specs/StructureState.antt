@@ -17,6 +17,7 @@ pub record StructureState : Type 0 where
   pub boundary : ℕ
   pub pending : Option Changes
 
+-- a structure that was just begun: no elements, nothing pruned, nothing pending
 abbrev pub empty_structure : StructureState
 empty_structure = record { committed = []; boundary = 0; pending = None }
 
@@ -28,31 +29,31 @@ count g = length g.committed
 abbrev pub changes : StructureState → Changes
 changes g = unwrap_or g.pending (record { elements = g.committed; updated = []; boundary = g.boundary })
 
--- with these changes pending
+-- the structure with these changes pending
 abbrev pub with_changes : StructureState → Changes → StructureState
 with_changes g c = record { committed = g.committed; boundary = g.boundary; pending = Some c }
 
--- without pending changes
+-- the structure without pending changes
 abbrev pub without_changes : StructureState → StructureState
 without_changes g = record { committed = g.committed; boundary = g.boundary; pending = None }
 
--- with the changes committed
+-- the structure with its pending changes committed
 abbrev pub all_committed : StructureState → StructureState
 all_committed g = record { committed = (changes g).elements; boundary = g.boundary; pending = None }
 
--- pruned to a location; at the boundary and below it nothing happens
+-- the structure pruned to a location; at the boundary and below it nothing happens
 abbrev pub pruned_to : StructureState → ℕ → StructureState
 pruned_to g location = record { committed = g.committed; boundary = max g.boundary location; pending = g.pending }
 
--- with one element more
+-- the changes with one element more
 abbrev pub with_element : Changes → List ℕ → Changes
 with_element c element = record { elements = c.elements ++ element ∷ []; updated = c.updated; boundary = c.boundary }
 
--- with another element at a location, where n were committed
+-- the changes with another element at a location, where n elements were committed
 abbrev pub with_changed_element : (n : ℕ) → Changes → ℕ → List ℕ → Changes
 with_changed_element n c location element =
     record { elements = slice_set c.elements location element; updated = cond (nat_lt location n) (location ∷ c.updated) c.updated; boundary = c.boundary }
 
--- something at the positions of the updated leaves
+-- at a position, something if it is that of an updated leaf, and else none
 abbrev pub at_updated : (List ℕ → List ℕ) → List ℕ → ℕ → Option ⊤
 at_updated rule locations p = cond (list_any (λ k. p == size rule k) locations) (Some tt) None

@@ -57,6 +57,7 @@ abbrev pub lines_after : (bytes begun : List ℕ) → List (List ℕ)
 lines_after [] begun = cond (length begun == 0) [] (begun ∷ [])
 lines_after (b ∷ bytes) begun = cond (b == 10) (begun ∷ lines_after bytes []) (lines_after bytes (begun ++ b ∷ []))
 
+-- the lines of bytes; each byte 10 ends one, and the last may lack it
 abbrev pub lines_of : List ℕ → List (List ℕ)
 lines_of bytes = lines_after bytes []
 

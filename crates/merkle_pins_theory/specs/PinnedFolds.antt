@@ -21,7 +21,7 @@ abbrev pub pinned_over_inputs : {D : Type 0} → Hashing D → (ℕ → Option D
 pinned_over_inputs h b w c X [] ds = []
 pinned_over_inputs h b w c X (t ∷ ts) ds = visited h (pinned_tree h b w c X t ds) ++ pinned_over_inputs h b w c X ts (drop (length (siblings c t)) ds)
 
--- of an accepted range input with pins: the root and the folds, by the digests of the peaks, and then the nodes. Those of the peaks
+-- what is hashed for an accepted range input with pins: the root and the folds, by the digests of the peaks, and then the nodes. The peaks
 -- before the range are rebuilt from the pins, each apart; the last of the digests may stand for the bag of several peaks after it
 abbrev pub PinnedByPeaks : Type 0 → Type 0
 PinnedByPeaks D = (s : Scheme D) (r : RangeInput D) (pins : List D) (root : D) → AcceptsPinnedSome s r pins root

@@ -39,7 +39,7 @@ SeesDown e f (leaf p i) = Unit {0}
 SeesDown e f (join p l r) = MatchOption (e (join p l r)) (NothingAt f (node_places (join p l r)))
     (λ x. (f (Node p) ≡ Some (node_at (join p l r) x)) × SeesDown e f l × SeesDown e f r)
 
--- of an accepted range input with pins, whose extracted digests f has
+-- what is hashed at the nodes, for an accepted range input with pins, is what `pinned_children` says by f, which has the extracted digests
 abbrev pub PinnedIsSeen : Type 0 → Type 0
 PinnedIsSeen D = (s : Scheme D) (r : RangeInput D) (pins : List D) (root : D) → AcceptsPinnedSome s r pins root
     → (f : ℕ → D) → ((p : ℕ) (d : D) → Member (extracted s r) (p, d) → f p ≡ d)

@@ -27,29 +27,32 @@ pub record LeafRange : Type 0 where
 abbrev pub FitsLeaves : (rule : List ℕ → List ℕ) → (max_leaves k : ℕ) → LeafRange → Type 0
 FitsLeaves rule max_leaves k r = (r.start < r.end) × (r.end ≤ r.leaves) × (r.leaves ≤ max_leaves) × (k ≤ length (peaks_of rule r.leaves))
 
--- the peaks by their parts in a proof: those before the range that are folded, and those that stand alone
+-- the peaks before a range that are folded into one digest of its proof
 abbrev pub peaks_folded : Bagging → (rule : List ℕ → List ℕ) → (k : ℕ) → LeafRange → List Tree
 peaks_folded bagging rule k r = folded_prefix bagging k (wholly_before r.start (peaks_of rule r.leaves))
 
+-- the peaks before a range whose digests stand alone in its proof
 abbrev pub peaks_before : Bagging → (rule : List ℕ → List ℕ) → (k : ℕ) → LeafRange → List Tree
 peaks_before bagging rule k r = single_before bagging k (wholly_before r.start (peaks_of rule r.leaves))
 
--- those that overlap it, and how many there are with those before it
+-- the peaks that overlap a range
 abbrev pub peaks_over : (rule : List ℕ → List ℕ) → LeafRange → List Tree
 peaks_over rule r = overlapping r.start r.end (peaks_of rule r.leaves)
 
+-- how many peaks lie before a range or overlap it
 abbrev pub peaks_met : (rule : List ℕ → List ℕ) → LeafRange → ℕ
 peaks_met rule r = length (wholly_before r.start (peaks_of rule r.leaves)) + length (overlapping r.start r.end (peaks_of rule r.leaves))
 
--- those after it that stand alone, and those that are folded
+-- the peaks after a range whose digests stand alone in its proof
 abbrev pub peaks_after : Bagging → (rule : List ℕ → List ℕ) → (k : ℕ) → LeafRange → List Tree
 peaks_after bagging rule k r = single_after bagging k (peaks_met rule r) (wholly_after r.end (peaks_of rule r.leaves))
 
+-- the peaks after a range that are folded into one digest of its proof
 abbrev pub peaks_suffix : Bagging → (rule : List ℕ → List ℕ) → (k : ℕ) → LeafRange → List Tree
 peaks_suffix bagging rule k r = folded_suffix bagging k (peaks_met rule r) (wholly_after r.end (peaks_of rule r.leaves))
 
--- the range has leaves, the counts are those of the list and of its peaks, and these nodes are read: first the `before` peaks before the
--- range, then the `after` peaks after it
+-- a plan of a range: the range has leaves, the counts are those of the list and of its peaks, and these nodes are read: first the `before`
+-- peaks before the range, then the `after` peaks after it
 pub record IsPlan (rule : List ℕ → List ℕ) (max_leaves n a b peaks before after : ℕ) (reads : List ℕ) : Type 0 where
   pub nonempty : a < b
   pub within : b ≤ n
@@ -59,13 +62,13 @@ pub record IsPlan (rule : List ℕ → List ℕ) (max_leaves n a b peaks before 
   pub after_are : after ≡ length (wholly_after b (peaks_of rule n))
   pub reads_are : reads ≡ map position (nodes_read rule n a b)
 
--- why there is no plan: the range is empty, or ends past the leaves, or these are too many
+-- why a range has no plan: it is empty, or ends past the leaves, or these are too many
 abbrev pub IsRefusal : {F : Type 0} → (max_leaves n a b : ℕ) → Error F → Type 0
 IsRefusal max_leaves n a b e =
     ((b ≤ a) × (e ≡ Empty))
     ⊎ (((a < b) × (n < b) × (e ≡ RangeOutOfBounds b)) ⊎ ((a < b) × (b ≤ n) × (max_leaves < n) × (e ≡ LocationOverflow n)))
 
--- these digests are answered at these positions, one at each
+-- the digests are answered at the positions, one at each
 abbrev pub AreAnswered : {D : Type 0} → (ℕ → Option D → Type 0) → List ℕ → List D → Type 0
 AreAnswered answered ps ds = AllZip (λ p d. answered p (Some d)) ps ds
 
@@ -123,40 +126,43 @@ AnswersList {D} h rule xs answered = (p : ℕ) (t : Tree) (d : D) → slice_get 
 abbrev pub list_input : {F D Peaks Heights : Type 0} → Proof F D Peaks Heights → List D → (a b : ℕ) → RangeInput D
 list_input p xs a b = record { leaves = p.leaves; inactive = p.inactive_peaks; digests = p.digests.items; start = a; elements = take (b - a) (drop a xs) }
 
--- it is the honest proof of these leaves
+-- a proof is the honest one of a list's leaves from a on up to b, for k inactive peaks
 abbrev pub IsHonestProof : {F D Peaks Heights : Type 0} → Scheme D → List D → (k a b : ℕ) → Proof F D Peaks Heights → Type 0
 IsHonestProof s xs k a b p = IsHonestRange s xs k (list_input p xs a b)
 
--- the list has leaves from a on up to b, or one at i, and it is the honest proof of these
+-- the list has leaves from a on up to b, and the proof is the honest one of these
 abbrev pub ProvesRange : {F D Peaks Heights : Type 0} → Scheme D → List D → (k a b : ℕ) → Proof F D Peaks Heights → Type 0
 ProvesRange s xs k a b p = (a < b) × (b ≤ length xs) × IsHonestProof s xs k a b p
 
+-- the list has a leaf at i, and the proof is the honest one of it
 abbrev pub ProvesLeaf : {F D Peaks Heights : Type 0} → Scheme D → List D → (k i : ℕ) → Proof F D Peaks Heights → Type 0
 ProvesLeaf s xs k i p = (i < length xs) × IsHonestProof s xs k i (i + 1) p
 
--- the same of what is answered, for a list
+-- where a proof is answered, the list has leaves from a on up to b, and it is the honest proof of these
 abbrev pub IsProvedRange : {F D E Peaks Heights : Type 0} → Scheme D → (k a b : ℕ) → Result (Proof F D Peaks Heights) E → List D → Type 0
 IsProvedRange s k a b answer xs = IfOk answer (λ p. ProvesRange s xs k a b p)
 
+-- where a proof is answered, the list has a leaf at i, and it is the honest proof of that leaf
 abbrev pub IsProvedLeaf : {F D E Peaks Heights : Type 0} → Scheme D → (k i : ℕ) → Result (Proof F D Peaks Heights) E → List D → Type 0
 IsProvedLeaf s k i answer xs = IfOk answer (λ p. ProvesLeaf s xs k i p)
 
--- what is answered for a range of leaves is the honest proof of these, of a list
+-- where a proof is answered, it is the honest one of a list's leaves in the range
 abbrev pub IsHonestBuilt : {F D E Peaks Heights : Type 0} → Scheme D → (k : ℕ) → LeafRange → Result (Proof F D Peaks Heights) E → List D → Type 0
 IsHonestBuilt s k r answer xs = IfOk answer (λ p. IsHonestProof s xs k r.start r.end p)
 
--- it is built for the leaves from a on up to b of n
+-- a proof is built, from the nodes, for the leaves from a on up to b of n
 abbrev pub IsBuiltFor : {F D Peaks Heights : Type 0} → Scheme D → (ℕ → Option D) → (k n a b : ℕ) → Proof F D Peaks Heights → Type 0
 IsBuiltFor s node k n a b p = IsBuiltProof s node k (record { leaves = n; start = a; end = b }) p
 
--- there are such leaves, or there is one at i, and it is built for these
+-- there are leaves from a on up to b among n, and the proof is built for them from the nodes
 abbrev pub IsBuiltRange : {F D Peaks Heights : Type 0} → Scheme D → (ℕ → Option D) → (k n a b : ℕ) → Proof F D Peaks Heights → Type 0
 IsBuiltRange s node k n a b p = (a < b) × (b ≤ n) × IsBuiltFor s node k n a b p
 
+-- there is a leaf at i among n, and the proof is built for it from the nodes
 abbrev pub IsBuiltLeaf : {F D Peaks Heights : Type 0} → Scheme D → (ℕ → Option D) → (k n i : ℕ) → Proof F D Peaks Heights → Type 0
 IsBuiltLeaf s node k n i p = (i < n) × IsBuiltFor s node k n i (i + 1) p
 
--- each answer is what stands at the position
+-- each answer is what the node at the position is, or that there is none
 abbrev pub AnswersBy : {D : Type 0} → (ℕ → Option D) → (ℕ → Option D → Type 0) → Type 0
 AnswersBy {D} node answered = (p : ℕ) (r : Option D) → answered p r → r ≡ node p
 

@@ -43,11 +43,11 @@ nodes_checked h a es ts = map (λ t. value h (node_checked h a es t)) ts
 abbrev pub checked_node : {F D : Type 0} → List (ℕ × D) → Tree → CheckedNode F
 checked_node es t = record { subtree = subtree_of t; from = located_before (first_leaf t) es; to = located_before (end_leaf t) es }
 
--- code represents this node of a forest
+-- what code holds represents this node of a forest, with the elements below it
 abbrev pub IsChecked : {F D : Type 0} → (List ℕ → List ℕ) → ℕ → List (ℕ × D) → CheckedNode F → Tree → Type 0
 IsChecked rule m es n t = (n ≡ checked_node es t) × AreNodes rule m (t ∷ [])
 
--- and these nodes, in order
+-- what code holds represents these nodes of a forest, in order, each with the elements below it
 abbrev pub AreChecked : {F D : Type 0} → (List ℕ → List ℕ) → ℕ → List (ℕ × D) → List (CheckedNode F) → List Tree → Type 0
 AreChecked rule m es ns ts = (ns ≡ map (checked_node es) ts) × AreNodes rule m ts
 
@@ -56,17 +56,17 @@ abbrev pub children_met : {D : Type 0} → List (ℕ × D) → Tree → List Tre
 children_met es (leaf p i) = []
 children_met es (join p l r) = cond (tree_meets (is_located es) l || tree_meets (is_located es) r) (l ∷ r ∷ []) []
 
--- the children of all such nodes
+-- the children of all nodes, of some, under which elements are
 abbrev pub all_children_met : {D : Type 0} → List (ℕ × D) → List Tree → List Tree
 all_children_met es ts = flat_map (children_met es) ts
 
--- the position of such a node with the digests of its children
+-- the position of a node under which elements are, with the digests of its children
 abbrev pub parent_met : {D : Type 0} → Hashing D → (ℕ → Option D) → List (ℕ × D) → Tree → List (ℕ × D × D)
 parent_met h a es (leaf p i) = []
 parent_met h a es (join p l r) = cond (tree_meets (is_located es) l || tree_meets (is_located es) r)
     ((p, value h (node_checked h a es l), value h (node_checked h a es r)) ∷ []) []
 
--- the positions of all such nodes with the digests of their children
+-- the positions of all nodes, of some, under which elements are, with the digests of their children
 abbrev pub all_parents_met : {D : Type 0} → Hashing D → (ℕ → Option D) → List (ℕ × D) → List Tree → List (ℕ × D × D)
 all_parents_met h a es ts = flat_map (parent_met h a es) ts
 
@@ -75,10 +75,11 @@ abbrev pub tallest : {F : Type 0} → List (CheckedNode F) → ℕ
 tallest [] = 0
 tallest (n ∷ ns) = cond (nat_lt n.subtree.height (tallest ns)) (tallest ns) n.subtree.height
 
--- of n leaves, where a proof supplies the digests ds at ps: each agrees, and these are the digests of the peaks; or one does not agree
+-- each digest that a proof supplies at ps for n leaves agrees with the computed one, and these are the digests of the peaks
 abbrev pub ConfirmsPeaks : {D A : Type 0} → Hashing D → (List ℕ → List ℕ) → (n : ℕ) → (ps : List ℕ) → (ds : List D) → List (ℕ × D) → Vec D A → Type 0
 ConfirmsPeaks h rule n ps ds es digests =
     EachHolds h (digest_for ps ds) es (peaks_of rule n) × (digests.items ≡ nodes_checked h (digest_for ps ds) es (peaks_of rule n))
 
+-- one of the digests that a proof supplies at ps for n leaves does not agree with the computed one
 abbrev pub RefutesPeaks : {D : Type 0} → Hashing D → (List ℕ → List ℕ) → (n : ℕ) → (ps : List ℕ) → (ds : List D) → List (ℕ × D) → Type 0
 RefutesPeaks h rule n ps ds es = ¬ EachHolds h (digest_for ps ds) es (peaks_of rule n)

@@ -14,7 +14,7 @@ pub record AreLocations (max_leaves n : ℕ) (locations : List ℕ) : Type 0 whe
   pub below : AllByRecursion (λ i. i < n) locations
   pub leaves : n ≤ max_leaves
 
--- why a location is none of n leaves
+-- why a location is refused among n leaves: no list has it, or these leaves end before it
 abbrev pub location_refusals : {F : Type 0} → (max_leaves n i : ℕ) → List (Bool × Error F)
 location_refusals max_leaves n i = (nat_le max_leaves i, LocationOverflow i) ∷ (nat_le n i, RangeOutOfBounds (i + 1)) ∷ []
 
@@ -26,28 +26,28 @@ later_refusals max_leaves n before (i ∷ is) =
     ∷ (nat_lt i before, UnsortedLocation i)
     ∷ location_refusals max_leaves n i ++ later_refusals max_leaves n i is
 
--- why locations are refused
+-- why locations are refused among n leaves, in the order in which that is tried
 abbrev pub multi_refusals : {F : Type 0} → (max_leaves n : ℕ) → List ℕ → List (Bool × Error F)
 multi_refusals max_leaves n [] = (true, Empty) ∷ []
 multi_refusals max_leaves n (i ∷ is) = location_refusals max_leaves n i ++ (nat_lt max_leaves n, LocationOverflow n) ∷ later_refusals max_leaves n i is
 
--- of some locations those before another
+-- the locations, of some, that are before e
 abbrev pub those_before : ℕ → List ℕ → List ℕ
 those_before e is = filter (λ i. nat_lt i e) is
 
--- and those from it on
+-- the locations, of some, that are e or after it
 abbrev pub those_from : ℕ → List ℕ → List ℕ
 those_from e is = filter (λ i. nat_le e i) is
 
--- those of leaves under a node
+-- the locations, of some, whose leaves lie under a node
 abbrev pub under : Tree → List ℕ → List ℕ
 under t is = those_before (end_leaf t) (those_from (first_leaf t) is)
 
--- whether there are some
+-- whether there are any locations
 abbrev pub are_some : List ℕ → Bool
 are_some is = not (nat_eq (length is) 0)
 
--- a node, where it is read
+-- a list of a node, if it is read, and else of none
 abbrev pub node_if : Bool → Tree → List Tree
 node_if b t = cond b (t ∷ []) []
 
@@ -58,7 +58,8 @@ read_below is (join p l r) =
     read_below (those_before (first_leaf r) is) l ++ node_if (are_some (those_from (first_leaf r) is)) l
     ++ read_below (those_from (first_leaf r) is) r ++ node_if (are_some (those_before (first_leaf r) is)) r
 
--- and those of a peak: it is read itself where some location is not under it
+-- the nodes of a peak that the proofs of the leaves at some locations read, each once: those below it, and itself where some location is
+-- not under it
 abbrev pub read_in : List ℕ → Tree → List Tree
 read_in is t = read_below (under t is) t ++ node_if (nat_lt (length (under t is)) (length is)) t
 

@@ -16,6 +16,6 @@ pub record IsAscendingOf (xs zs : List ℕ) : Type 0 where
 abbrev pub positions_among : ℕ → List Tree → List ℕ
 positions_among m ts = filter (λ p. list_any (λ t. nat_eq (position t) p) ts) (range_with_len 0 m)
 
--- those of the peaks outside a..b and of its path siblings
+-- the positions of what a proof of a..b reads: of the peaks outside a..b and of the path siblings, ascending, each once
 abbrev pub range_positions : (List ℕ → List ℕ) → (n a b : ℕ) → List ℕ
 range_positions rule n a b = positions_among (size rule n) (nodes_read rule n a b)

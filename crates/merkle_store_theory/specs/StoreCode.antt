@@ -5,12 +5,12 @@ use Rattle.merkle_base.specs.declared.family.Bagging.{Bagging}
 use Rattle.merkle_base.specs.declared.family.Bagging.TheVariants.{ForwardFold, BackwardFold}
 use Rattle.merkle_store_theory.specs.StoreValue.{StoreValue}
 
--- whether all peaks are folded left to right
+-- whether a bagging folds all peaks left to right
 abbrev pub is_forward : Bagging → Bool
 is_forward ForwardFold = true
 is_forward BackwardFold = false
 
--- the bagging that is so, or isn't
+-- the bagging that folds all peaks left to right, or the one that doesn't
 abbrev pub forward_if : Bool → Bagging
 forward_if true = ForwardFold
 forward_if false = BackwardFold
@@ -19,11 +19,11 @@ pub forward_if-is_forward : (b : Bagging) → forward_if (is_forward b) ≡ b
 forward_if-is_forward ForwardFold = refl
 forward_if-is_forward BackwardFold = refl
 
--- a bagging is a flag
+-- how the prover writes a bagging: as a flag
 abbrev pub bagging_code : Coded Bagging
 bagging_code = code_by Bool coded_bool is_forward forward_if forward_if-is_forward
 
--- and what a store holds is its fields
+-- how the prover writes what a store holds: by its fields
 abbrev pub store_value_code : {D : Type 0} → Coded D → Coded (StoreValue D)
 store_value_code d =
     code_by _

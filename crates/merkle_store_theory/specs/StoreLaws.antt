@@ -12,7 +12,7 @@ use Rattle.merkle_claim_theory.specs.Store.{sub_digests}
 use Rattle.merkle_store_theory.specs.StoreValue.{StoreValue, store_of}
 use Rattle.merkle_store_theory.specs.StoreProof.{held_prefix, asked_prefix, asked_single, asked_suffix, suffix_front, store_proof, store_refusal}
 
--- the store's proof has the digests that stand in the claim
+-- the proof that a store answers has the digests that stand in the claim of the store's own proof
 abbrev pub StoreReadsClaim : Type 0 → Type 0
 StoreReadsClaim D = (s : Scheme D) (r q : RangeInput D) (root : D) → AcceptsNonempty s r root → 0 < length q.elements → r.start ≤ q.start → end_of q ≤ end_of r
     → store_proof s (store_of s r root) q.start (end_of q) ≡ sub_digests s r q (root_plan s.bagging r.inactive (peaks_of s.rule r.leaves))
@@ -32,7 +32,7 @@ pub record IsStoreProof {D : Type 0} (s : Scheme D) (r q : RangeInput D) (root :
   pub digests : q.digests ≡ store_proof s (store_of s r root) q.start (end_of q)
   pub elements : q.elements ≡ take (length q.elements) (drop (q.start - r.start) r.elements)
 
--- and is accepted, whatever the hash
+-- the proof that a store answers for a part of an accepted range is accepted, whatever the hash
 abbrev pub StoreIsAccepted : Type 0 → Type 0
 StoreIsAccepted D = (s : Scheme D) (r q : RangeInput D) (root : D) → AcceptsNonempty s r root → IsStoreProof s r q root → AcceptsNonempty s q root
 
@@ -50,7 +50,7 @@ pub record ReadsHeld {D : Type 0} (s : Scheme D) (v : StoreValue D) (a b : ℕ) 
   pub begins : (asked_prefix s v a ≡ []) ⊎ (asked_prefix s v a ≡ held_prefix s v ++ drop (length (held_prefix s v)) (asked_prefix s v a))
   pub ends : (asked_suffix s v a b ≡ []) ⊎ (map position (asked_suffix s v a b) ≡ map position (suffix_front v (asked_suffix s v a b)) ++ v.suffix_peaks)
 
--- so it is wherever nothing is refused, for any store and any range
+-- wherever a store refuses nothing, each node that the proof of a..b reads is held, for any store and any range
 abbrev pub AnsweredIsHeld : Type 0 → Type 0
 AnsweredIsHeld D = (s : Scheme D) (v : StoreValue D) (a b : ℕ) → store_refusal s v a b ≡ None → ReadsHeld s v a b
 
@@ -69,7 +69,7 @@ abbrev pub ShorterIsRefused : Type 0 → Type 0
 ShorterIsRefused D = (s : Scheme D) (v : StoreValue D) (a b : ℕ) → 0 < length (asked_prefix s v a) → length (asked_prefix s v a) < length (held_prefix s v)
     → (p : ℕ) × (store_refusal s v a b ≡ Some p) × IsFirstReaching a (held_prefix s v) p
 
--- of all peaks too that is the first that isn't wholly before a
+-- a nonempty prefix that is shorter than the store's is refused by the first of all peaks that isn't wholly before a
 abbrev pub ShorterIsNext : Type 0 → Type 0
 ShorterIsNext D = (s : Scheme D) (v : StoreValue D) (a b : ℕ) → 0 < length (asked_prefix s v a) → length (asked_prefix s v a) < length (held_prefix s v)
     → store_refusal s v a b ≡ slice_get (peak_positions s.rule v.leaves) (length (wholly_before a (peaks_of s.rule v.leaves)))

@@ -21,7 +21,7 @@ found_at pairs p = digest_for (map (λ x. x.0) pairs) (map (λ x. x.1) pairs) p
 abbrev pub held_prefix : {D : Type 0} → Scheme D → StoreValue D → List Tree
 held_prefix s v = folded_prefix v.bagging v.inactive (wholly_before v.start (peaks_of s.rule v.leaves))
 
--- those folded in the prefix of a proof from a on
+-- the peaks folded in the prefix of a proof from a on
 abbrev pub asked_prefix : {D : Type 0} → Scheme D → StoreValue D → (a : ℕ) → List Tree
 asked_prefix s v a = folded_prefix v.bagging v.inactive (wholly_before a (peaks_of s.rule v.leaves))
 
@@ -29,16 +29,16 @@ asked_prefix s v a = folded_prefix v.bagging v.inactive (wholly_before a (peaks_
 abbrev pub asked_met : {D : Type 0} → Scheme D → StoreValue D → (a b : ℕ) → ℕ
 asked_met s v a b = length (wholly_before a (peaks_of s.rule v.leaves)) + length (overlapping a b (peaks_of s.rule v.leaves))
 
--- those that stand alone, before the range and after it
+-- the peaks whose digests stand alone in the proof of a..b, before the range and after it
 abbrev pub asked_single : {D : Type 0} → Scheme D → StoreValue D → (a b : ℕ) → List Tree
 asked_single s v a b = single_before v.bagging v.inactive (wholly_before a (peaks_of s.rule v.leaves))
     ++ single_after v.bagging v.inactive (asked_met s v a b) (wholly_after b (peaks_of s.rule v.leaves))
 
--- those folded in the suffix
+-- the peaks folded in the suffix of the proof of a..b
 abbrev pub asked_suffix : {D : Type 0} → Scheme D → StoreValue D → (a b : ℕ) → List Tree
 asked_suffix s v a b = folded_suffix v.bagging v.inactive (asked_met s v a b) (wholly_after b (peaks_of s.rule v.leaves))
 
--- of the peaks of a suffix those that stand before the store's own
+-- the peaks of a suffix that stand before those of the store's own suffix
 abbrev pub suffix_front : {D : Type 0} → StoreValue D → List Tree → List Tree
 suffix_front v ts = take (length ts - length v.suffix_peaks) ts
 
@@ -69,7 +69,7 @@ abbrev pub first_reaching : ℕ → List Tree → Option ℕ
 first_reaching a [] = None
 first_reaching a (t ∷ ts) = cond (nat_le (end_leaf t) a) (first_reaching a ts) (Some (position t))
 
--- the first of some positions at which there is none
+-- the first of some positions at which there is no node
 abbrev pub first_lacking : {D : Type 0} → (ℕ → Option D) → List ℕ → Option ℕ
 first_lacking node [] = None
 first_lacking {D} node (p ∷ ps) = option_map_or (λ (d : D). first_lacking node ps) (node p) (Some p)
@@ -83,7 +83,8 @@ prefix_refusal a held (t ∷ ts) = cond (nat_lt (length (t ∷ ts)) (length held
 abbrev pub ends_with : List ℕ → List ℕ → Bool
 ends_with ps qs = nat_le (length qs) (length ps) && pointwise nat_eq (drop (length ps - length qs) ps) qs
 
--- that of a suffix with peaks: it doesn't end with the given positions, the store's own, or a node before those is lacking, the last one first
+-- the refusal of a suffix with peaks: it doesn't end with the given positions, the store's own, or a node before those is lacking, the last
+-- one first
 abbrev pub suffix_lacking : {D : Type 0} → StoreValue D → List ℕ → List Tree → Option ℕ
 suffix_lacking v [] ts = first_lacking (found_at v.pairs) (map position (reverse ts))
 suffix_lacking v (p ∷ ps) ts =

@@ -14,8 +14,8 @@ use Rattle.merkle_claim_theory.specs.Store.{read_pair}
 use Rattle.merkle_store_theory.specs.StoreValue.{StoreValue}
 use Rattle.merkle_store_theory.specs.StoreProof.{found_at, held_prefix, asked_prefix, asked_met, first_lacking, ends_with, store_proof, store_refusal}
 
--- how many of the positions that are read are of peaks before the range, and of peaks after it; how many of the former are folded,
--- and how many of the latter stand alone; and how many are folded in the store's own prefix
+-- how many positions that are read are of peaks before the range, and how many of peaks after it; how many of the former are folded, and
+-- how many of the latter stand alone; and how many peaks are folded in the store's own prefix
 pub record Counts : Type 0 where
   pub before : ℕ
   pub after : ℕ
@@ -31,28 +31,28 @@ pub record AreCounts {D : Type 0} (s : Scheme D) (v : StoreValue D) (a b : ℕ) 
   pub single : n.single ≡ length (single_after v.bagging v.inactive (asked_met s v a b) (wholly_after b (peaks_of s.rule v.leaves)))
   pub held : n.held ≡ length (held_prefix s v)
 
--- of the positions those of the peaks that stand alone
+-- the positions, of those that are read, of the peaks whose digests stand alone
 abbrev pub single_reads : Counts → List ℕ → List ℕ
 single_reads n ps = drop n.folded (take n.before ps) ++ take n.single (drop n.before ps)
 
--- those of the peaks folded in the suffix
+-- the positions, of those that are read, of the peaks folded in the suffix
 abbrev pub suffix_reads : Counts → List ℕ → List ℕ
 suffix_reads n ps = drop n.single (take n.after (drop n.before ps))
 
--- those of the path siblings
+-- the positions, of those that are read, of the path siblings
 abbrev pub sibling_reads : Counts → List ℕ → List ℕ
 sibling_reads n ps = drop (n.before + n.after) ps
 
--- the digests at positions
+-- the digests at positions, read from a store's pairs
 abbrev pub read_at : {D : Type 0} → Hashing D → StoreValue D → List ℕ → List D
 read_at h v ps = map (λ p. read_pair h v.pairs p) ps
 
--- the fold of the asked prefix, if there is one
+-- the fold of the asked prefix, if there is one, read by positions
 abbrev pub prefix_at : {D : Type 0} → Hashing D → StoreValue D → (held : ℕ) → List ℕ → List D
 prefix_at h v held [] = []
 prefix_at h v held (p ∷ ps) = option_to_list (folded h.fold ForwardFold 0 (option_to_list v.prefix ++ read_at h v (drop held (p ∷ ps))))
 
--- that of the asked suffix
+-- the fold of the asked suffix, if there is one, read by positions
 abbrev pub suffix_at : {D : Type 0} → Hashing D → StoreValue D → List ℕ → List D
 suffix_at h v [] = []
 suffix_at h v (p ∷ ps) = option_to_list (right_fold h.fold (read_at h v (take (length (p ∷ ps) - length v.suffix_peaks) (p ∷ ps)) ++ option_to_list v.suffix))
@@ -81,7 +81,7 @@ refusal_at v n peaks ps =
     (option_or (suffix_refusal_at v (suffix_reads n ps))
     (first_lacking (found_at v.pairs) (sibling_reads n ps)))))
 
--- by these counts both are what they are by the peaks
+-- a store's proof and its refusal are the same by positions and counts as by the peaks
 abbrev pub ReadsByPosition : Type 0 → Type 0
 ReadsByPosition D = (s : Scheme D) (v : StoreValue D) (a b : ℕ) (n : Counts) → AreCounts s v a b n
     → (store_proof s v a b ≡ proof_at s.hashing v n (map position (nodes_read s.rule v.leaves a b)))

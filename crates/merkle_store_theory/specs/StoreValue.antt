@@ -10,8 +10,8 @@ use Rattle.merkle_root_theory.specs.Outside.{fold_all, bag_all, folded_prefix, s
 use Rattle.merkle_root_theory.specs.Layouts.{count_before}
 use Rattle.merkle_root_theory.specs.Range.{end_of, overlapping, wholly_after}
 
--- the counts, bagging, root and range of the proof, the pairs extracted from it, the positions of the peaks folded in its suffix, oldest first,
--- and its two folds, which have no position
+-- what a store keeps: the counts, bagging, root and range of the proof, the pairs extracted from it, the positions of the peaks folded in
+-- its suffix, oldest first, and its two folds, which have no position
 pub record StoreValue (D : Type 0) : Type 0 where
   pub leaves : ℕ
   pub inactive : ℕ
@@ -36,7 +36,7 @@ met_by s r = length (wholly_before r.start (peaks_of s.rule r.leaves)) + length 
 abbrev pub suffix_of : {D : Type 0} → Scheme D → RangeInput D → List Tree
 suffix_of s r = folded_suffix s.bagging r.inactive (met_by s r) (wholly_after (end_of r) (peaks_of s.rule r.leaves))
 
--- their digest: the one after those of the peaks that stand alone, if peaks are folded there
+-- the digest of the folded suffix: in the proof the one after those of the peaks that stand alone, if peaks are folded there
 abbrev pub suffix_given : {D : Type 0} → Scheme D → RangeInput D → Option D
 suffix_given s r =
     slice_get (take (length (bag_all 0 (suffix_of s r)))

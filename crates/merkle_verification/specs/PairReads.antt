@@ -11,10 +11,10 @@ use Rattle.merkle_store_theory.specs.StoreProof.{found_at}
 abbrev pub AnswersPairs : {D : Type 0} → List (ℕ × D) → List (ℕ × D) → Type 0
 AnswersPairs entries pairs = (p : ℕ) → lookup (nat_eq p) entries ≡ found_at pairs p
 
--- the digests at positions
+-- the digests at positions, read from pairs
 abbrev pub read_all : {D : Type 0} → Hashing D → List (ℕ × D) → List ℕ → List D
 read_all h pairs ps = map (λ p. read_pair h pairs p) ps
 
--- there is such a position, and the refusal names it as pruned
+-- a position is given, and the refusal names it as pruned
 abbrev pub IsPrunedAt : {F : Type 0} → Option ℕ → Error F → Type 0
 IsPrunedAt o e = (p : ℕ) × (e ≡ ElementPruned p) × (o ≡ Some p)

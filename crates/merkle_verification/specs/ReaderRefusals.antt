@@ -33,7 +33,7 @@ IsHistoricalRefusal rule max_leaves n a b k node e =
     IsRefusal max_leaves n a b e
     ⊎ ((a < b) × (b ≤ n) × (n ≤ max_leaves) × IsReadRefusal rule n k node (range_positions rule n a b) e)
 
--- the same over the leaves that m nodes have, and before that these are the nodes of no leaf count
+-- m nodes are those of no leaf count, or what a proof of a..b reads is refused over the leaves that they have
 abbrev pub IsReaderRefusal : {F D : Type 0} → (rule : List ℕ → List ℕ) → (max_nodes max_leaves m a b k : ℕ) → (ℕ → Option D)
     → Error F → Type 0
 IsReaderRefusal rule max_nodes max_leaves m a b k node e =
@@ -47,14 +47,14 @@ IsLocationsRefusal rule max_leaves n k locations node e =
     (first_case (multi_refusals max_leaves n locations) ≡ Some e)
     ⊎ (AreLocations max_leaves n locations × IsReadRefusal rule n k node (multi_positions rule n locations) e)
 
--- the same over the leaves that m nodes have, and before that these are the nodes of no leaf count
+-- m nodes are those of no leaf count, or the locations are refused, or what their proof reads is, over the leaves that the nodes have
 abbrev pub IsMultiRefusal : {F D : Type 0} → (rule : List ℕ → List ℕ) → (max_nodes max_leaves m k : ℕ) → List ℕ → (ℕ → Option D)
     → Error F → Type 0
 IsMultiRefusal rule max_nodes max_leaves m k locations node e =
     IsSizeRefusal rule max_nodes m e
     ⊎ ((n : ℕ) × (m ≤ max_nodes) × (size rule n ≡ m) × IsLocationsRefusal rule max_leaves n k locations node e)
 
--- memory aside
+-- why a reader with m nodes gives no proof of the leaves at some locations, memory aside
 abbrev pub RefusesMulti : {F D : Type 0} → (rule : List ℕ → List ℕ) → (max_nodes max_leaves m k : ℕ) → List ℕ → (ℕ → Option D)
     → Error F → Type 0
 RefusesMulti rule max_nodes max_leaves m k locations node = UnlessMemory (IsMultiRefusal rule max_nodes max_leaves m k locations node)

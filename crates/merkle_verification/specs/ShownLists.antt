@@ -19,11 +19,11 @@ use Rattle.merkle_verification.specs.ReaderRefusals.{AreNodesHeld}
 abbrev pub ForShown : {D : Type 0} → Hashing D → (rule : List ℕ → List ℕ) → (m : ℕ) → (ℕ → Option D) → (List D → Type 0) → Type 0
 ForShown {D} h rule m node P = (X : List D) → Shows h rule m node X → P X
 
--- what is answered for a range of a list is the honest proof
+-- where a proof of a range is answered, it is the honest one of a list
 abbrev pub IsHonestAnswer : {F D E Peaks Heights : Type 0} → Scheme D → (k a b : ℕ) → Result (Proof F D Peaks Heights) E → List D → Type 0
 IsHonestAnswer s k a b answer X = IfOk answer (λ p. IsHonestProof s X k a b p)
 
--- the same for locations
+-- where a proof of locations is answered, it is the honest one of a list
 abbrev pub IsHonestMultiAnswer : {F D E Peaks Heights : Type 0} → Scheme D → (k : ℕ) → List ℕ → Result (Proof F D Peaks Heights) E → List D → Type 0
 IsHonestMultiAnswer s k locations answer X = IfOk answer (λ p. IsHonestMulti s X k (multi_list_input p s.hashing X locations))
 
@@ -32,38 +32,46 @@ abbrev pub ForHistoricalRange : {D : Type 0} → (rule : List ℕ → List ℕ) 
 ForHistoricalRange rule max_leaves node n a b k P =
     a < b → b ≤ n → n ≤ max_leaves → k ≤ length (peaks_of rule n) → AreNodesHeld node (range_positions rule n a b) → P
 
--- the same, where these are the leaves of m nodes
+-- P, where a..b is a range of the leaves that m nodes have, a list may have as many with k inactive peaks, and each node that its proof
+-- reads is held
 abbrev pub ForReadRange : {D : Type 0} → (rule : List ℕ → List ℕ) → (max_leaves m : ℕ) → (ℕ → Option D) → (a b k : ℕ) → Type 0 → Type 0
 ForReadRange rule max_leaves m node a b k P = (n : ℕ) → size rule n ≡ m → ForHistoricalRange rule max_leaves node n a b k P
 
--- the same of locations
+-- P, where these are locations of leaves that m nodes have, a list may have as many with k inactive peaks, and each node that their proof
+-- reads is held
 abbrev pub ForReadLocations : {D : Type 0} → (rule : List ℕ → List ℕ) → (max_leaves m : ℕ) → (ℕ → Option D) → List ℕ → (k : ℕ) → Type 0 → Type 0
 ForReadLocations rule max_leaves m node locations k P = (n : ℕ) → size rule n ≡ m → AreLocations max_leaves n locations
     → k ≤ length (peaks_of rule n) → AreNodesHeld node (multi_positions rule n locations) → P
 
--- what is answered for a range is the honest proof of each list that a reader with m nodes shows, or of the first n leaves of it
+-- where a proof of a range is answered, it is the honest one of each list that a reader with m nodes shows
 abbrev pub IsHonestFor : {F D E Peaks Heights : Type 0} → Hashing D → Scheme D → (rule : List ℕ → List ℕ) → (m : ℕ) → (ℕ → Option D)
     → (k a b : ℕ) → Result (Proof F D Peaks Heights) E → Type 0
 IsHonestFor h s rule m node k a b answer = ForShown h rule m node (IsHonestAnswer s k a b answer)
 
+-- where a proof of a range is answered, it is the honest one of the first n leaves of each list that a reader with m nodes shows and that
+-- has as many
 abbrev pub IsHonestPast : {F D E Peaks Heights : Type 0} → Hashing D → Scheme D → (rule : List ℕ → List ℕ) → (m : ℕ) → (ℕ → Option D)
     → (n k a b : ℕ) → Result (Proof F D Peaks Heights) E → Type 0
 IsHonestPast h s rule m node n k a b answer = ForShown h rule m node (λ xs. n ≤ length xs → IsHonestAnswer s k a b answer (take n xs))
 
--- and for locations
+-- where a proof of locations is answered, it is the honest one of each list that a reader with m nodes shows
 abbrev pub IsHonestMultiFor : {F D E Peaks Heights : Type 0} → Scheme D → (m : ℕ) → (ℕ → Option D) → (k : ℕ) → List ℕ
     → Result (Proof F D Peaks Heights) E → Type 0
 IsHonestMultiFor s m node k locations answer = ForShown s.hashing s.rule m node (IsHonestMultiAnswer s k locations answer)
 
--- a proof is answered, unless memory is refused: of a range of the n leaves, of one of those of m nodes, of locations of these
+-- a proof of a range of n leaves is answered, unless memory is refused, where the range fits and each node that it reads is held
 abbrev pub GrantsHistorical : {F T D : Type 0} → (rule : List ℕ → List ℕ) → (max_leaves : ℕ) → (ℕ → Option D) → (n a b k : ℕ)
     → Result T (Error F) → Type 0
 GrantsHistorical rule max_leaves node n a b k answer = ForHistoricalRange rule max_leaves node n a b k (IsOkUnless answer OutOfMemory)
 
+-- a proof of a range of the leaves that m nodes have is answered, unless memory is refused, where the range fits and each node that it
+-- reads is held
 abbrev pub GrantsRange : {F T D : Type 0} → (rule : List ℕ → List ℕ) → (max_leaves m : ℕ) → (ℕ → Option D) → (a b k : ℕ)
     → Result T (Error F) → Type 0
 GrantsRange rule max_leaves m node a b k answer = ForReadRange rule max_leaves m node a b k (IsOkUnless answer OutOfMemory)
 
+-- a proof of locations of the leaves that m nodes have is answered, unless memory is refused, where the locations fit and each node that it
+-- reads is held
 abbrev pub GrantsLocations : {F T D : Type 0} → (rule : List ℕ → List ℕ) → (max_leaves m : ℕ) → (ℕ → Option D) → List ℕ → (k : ℕ)
     → Result T (Error F) → Type 0
 GrantsLocations rule max_leaves m node locations k answer = ForReadLocations rule max_leaves m node locations k (IsOkUnless answer OutOfMemory)

@@ -22,14 +22,15 @@ abbrev pub RefusesStore : {F D E : Type 0} → Scheme D → RangeInput D → D �
 RefusesStore s r root elements =
     UnlessMemory (λ e. IsExtractionRefusal s r root e ⊎ ((reconstructed s r ≡ Ok root) × (elements ≡ []) × (e ≡ Empty)))
 
--- P of each accepted input that it is the store of
+-- P of each accepted input whose store this is
 abbrev pub ForStored : {D : Type 0} → Scheme D → StoreValue D → (RangeInput D → D → Type 0) → Type 0
 ForStored {D} s v P = (r : RangeInput D) (root : D) → v ≡ store_of s r root → AcceptsNonempty s r root → P r root
 
--- P, where a..b is a part of the input's range, or one with leaves
+-- P, where a..b lies within the input's range
 abbrev pub ForPart : {D : Type 0} → RangeInput D → (a b : ℕ) → Type 0 → Type 0
 ForPart r a b P = r.start ≤ a → b ≤ end_of r → P
 
+-- P, where a..b has leaves and lies within the input's range
 abbrev pub ForNonemptyPart : {D : Type 0} → RangeInput D → (a b : ℕ) → Type 0 → Type 0
 ForNonemptyPart r a b P = a < b → ForPart r a b P
 
@@ -47,7 +48,7 @@ abbrev pub IsStoreRefusal : {F D : Type 0} → Scheme D → StoreValue D → (a 
 IsStoreRefusal s v a b e = IsRefusal s.max_leaves v.leaves a b e
     ⊎ ((a < b) × (b ≤ v.leaves) × ((p : ℕ) × (e ≡ ElementPruned p) × (store_refusal s v a b ≡ Some p)))
 
--- p is the proof that it answers
+-- the proof of a..b that a store answers, where it names no node as pruned
 pub record IsPartProof {F D Peaks Heights : Type 0} (s : Scheme D) (v : StoreValue D) (a b : ℕ) (p : Proof F D Peaks Heights) : Type 0 where
   pub nonempty : a < b
   pub within : b ≤ v.leaves
@@ -56,11 +57,11 @@ pub record IsPartProof {F D Peaks Heights : Type 0} (s : Scheme D) (v : StoreVal
   pub digests : p.digests.items ≡ store_proof s v a b
   pub unrefused : store_refusal s v a b ≡ None
 
--- of elements from location start on those that lie in a..b
+-- the elements that lie in a..b, of elements from location start on
 abbrev pub elements_within : (start a b : ℕ) → List (List ℕ) → List (List ℕ)
 elements_within start a b es = take (b - a) (drop (a - start) es)
 
--- their leaf digests are those of all the elements that lie there
+-- the leaf digests of the elements in a..b are the part in a..b of the leaf digests of all elements
 abbrev pub PartHasPartDigests : Type 0 → Type 0
 PartHasPartDigests D = (h : Hashing D) (rule : List ℕ → List ℕ) (start a b : ℕ) (es : List (List ℕ)) → start ≤ a
     → leaf_digests h rule a (elements_within start a b es) ≡ take (b - a) (drop (a - start) (leaf_digests h rule start es))
@@ -70,7 +71,7 @@ abbrev pub NoPartIsRefused : Type 0 → Type 0 → Type 0
 NoPartIsRefused F D = (s : Scheme D) (r : RangeInput D) (root : D) (a b : ℕ) (e : Error F)
     → AcceptsNonempty s r root → a < b → r.start ≤ a → b ≤ end_of r → IsStoreRefusal s (store_of s r root) a b e → ⊥
 
--- and what it answers for it is accepted
+-- the proof that the store of an accepted input answers for a part of its range is accepted
 abbrev pub AnsweredIsAccepted : (F D Peaks Heights : Type 0) → Type 0
 AnsweredIsAccepted F D Peaks Heights = (s : Scheme D) (r : RangeInput D) (root : D) (a b : ℕ) (p : Proof F D Peaks Heights)
     → AcceptsNonempty s r root → r.start ≤ a → b ≤ end_of r → IsPartProof s (store_of s r root) a b p → AcceptsNonempty s (part_input p r a b) root

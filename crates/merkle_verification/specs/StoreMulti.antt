@@ -15,11 +15,11 @@ use Rattle.merkle_store_theory.specs.StoreProof.{found_at, first_lacking}
 abbrev pub either_at : {D : Type 0} → (first second : List (ℕ × D)) → ℕ → Option D
 either_at first second p = option_or (found_at first p) (found_at second p)
 
--- that of the pairs, or else the last one given there
+-- the digest at a position: that of the pairs, or else the last one given there
 abbrev pub known_at : {D : Type 0} → (pairs given : List (ℕ × D)) → ℕ → Option D
 known_at pairs given = either_at pairs (reverse given)
 
--- it is known only folded with others, or it isn't known
+-- the error that names a position where no digest is known: `CompressedDigest` for a peak folded in the suffix, and else `ElementPruned`
 abbrev pub unknown_error : {F : Type 0} → (suffix_peaks : List ℕ) → ℕ → Error F
 unknown_error suffix_peaks p = cond (list_any (λ q. nat_eq q p) suffix_peaks) (CompressedDigest p) (ElementPruned p)
 
@@ -35,7 +35,7 @@ pub record IsMultiAnswered {F D Peaks Heights : Type 0} (rule : List ℕ → Lis
   pub within : AreLocations max_leaves v.leaves locations
   pub digests : map Some p.digests.items ≡ map (known_at v.pairs given) (multi_positions rule v.leaves locations)
 
--- why it answers none: there are no such leaves, or a node is unknown
+-- why a store answers no proof of the leaves at some locations: there are no such leaves, or a node is unknown
 abbrev pub IsStoreMultiRefusal : {F D : Type 0} → (List ℕ → List ℕ) → (max_leaves : ℕ) → StoreValue D
     → (locations : List ℕ) → (given : List (ℕ × D)) → Error F → Type 0
 IsStoreMultiRefusal rule max_leaves v locations given e =

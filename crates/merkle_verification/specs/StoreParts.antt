@@ -19,7 +19,7 @@ use Rattle.merkle_proof.specs.declared.range_plan.RangeCounts.{RangeCounts}
 abbrev pub counts_with : RangeCounts → ℕ → Counts
 counts_with c held = record { before = c.before; after = c.after; folded = c.folded; single = c.single; held = held }
 
--- as many peaks are folded in the prefix of a proof from a location on
+-- `held` is the number of peaks folded in the prefix of a proof from location `start` on
 abbrev pub IsFoldedCount : (List ℕ → List ℕ) → Bagging → (leaves inactive start held : ℕ) → Type 0
 IsFoldedCount rule bagging leaves inactive start held = held ≡ length (folded_prefix bagging inactive (wholly_before start (peaks_of rule leaves)))
 
@@ -27,7 +27,7 @@ IsFoldedCount rule bagging leaves inactive start held = held ≡ length (folded_
 abbrev pub shorter_refusal : (List ℕ → List ℕ) → (leaves : ℕ) → Counts → Option ℕ
 shorter_refusal rule leaves n = cond (nat_lt 0 n.folded && nat_lt n.folded n.held) (slice_get (peak_positions rule leaves) n.before) None
 
--- the position named where it isn't, if one is lacking
+-- the position named as pruned if a node is lacking, prefixes shorter than the store's aside
 abbrev pub parts_refusal : {D : Type 0} → StoreValue D → Counts → List ℕ → Option ℕ
 parts_refusal v n ps =
     option_or (first_lacking (found_at v.pairs) (drop n.held (take n.folded ps)))
@@ -35,7 +35,7 @@ parts_refusal v n ps =
     (option_or (suffix_refusal_at v (suffix_reads n ps))
     (first_lacking (found_at v.pairs) (sibling_reads n ps))))
 
--- no more are folded or stand alone than there are, and all are read
+-- no more peaks are folded or stand alone than there are, and all are among the positions that are read
 pub record FitReads (c : RangeCounts) (ps : List ℕ) : Type 0 where
   pub folded : c.folded ≤ c.before
   pub single : c.single ≤ c.after
@@ -45,7 +45,7 @@ pub record FitReads (c : RangeCounts) (ps : List ℕ) : Type 0 where
 abbrev pub IsOtherSuffix : {F : Type 0} → (positions own : List ℕ) → Error F → Type 0
 IsOtherSuffix positions own e = (q : ℕ) × (qs : List ℕ) × (own ≡ q ∷ qs) × (ends_with positions own ≡ false) × (e ≡ ElementPruned q)
 
--- an input with these parts, whose pairs are these
+-- an input with these parts, of whose accepted proof these pairs are extracted
 pub record IsInput {D : Type 0} (s : Scheme D) (r : RangeInput D)
     (rule : List ℕ → List ℕ) (bagging : Bagging) (leaves inactive : ℕ) (digests : List D) (start end : ℕ) (pairs : List (ℕ × D)) : Type 0 where
   pub rule_is : rule ≡ s.rule
