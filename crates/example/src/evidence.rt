@@ -92,7 +92,7 @@ fn show_pair<H: Hasher<Family>>(
     );
     match granted!(verdict) {
         PairVerdict::Rejected => tell(rt, "the answers", "one is rejected"),
-        PairVerdict::Consistent => tell(rt, "the answers agree", "none is false"),
+        PairVerdict::Consistent => tell(rt, "the answers agree", "nothing here contradicts them"),
         PairVerdict::Collision { .. } => tell(rt, "the answers collide", "one of them is false"),
     }
 }

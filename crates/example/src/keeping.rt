@@ -55,7 +55,7 @@ fn digests<D: Digest>(alloc: Global, bytes: &[u8]) -> Result<Vec<D>, LogError> {
     Ok(all)
 }
 
-/// The structure that was written down. Its digests are not checked: a root tells whether they are those of the log.
+/// The structure that was written down. Nothing is hashed here: the digests are taken as they are.
 fn read_back<D: Digest>(alloc: Global, bytes: &[u8]) -> Result<Mmr<D>, LogError> {
     let mut rest = bytes;
     let boundary = Location::read(alloc, &mut rest, &())?;
@@ -70,7 +70,7 @@ fn read_back<D: Digest>(alloc: Global, bytes: &[u8]) -> Result<Mmr<D>, LogError>
     Ok(granted!(Mmr::from_components(nodes, boundary, pinned)))
 }
 
-/// Whether bytes are those of a structure with this root.
+/// Whether bytes are those of a structure with this root. The root covers the peaks alone, and says nothing of the nodes below them.
 fn has_root<H: Hasher<Family> + Drop>(
     log: &Log<H>,
     bytes: &[u8],
@@ -80,7 +80,15 @@ fn has_root<H: Hasher<Family> + Drop>(
     Ok(granted!(tree.root(&log.hasher, 0)) == *root)
 }
 
-/// The log is written down, and read back after a restart; what was damaged shows by its root.
+/// Changes a bit of the byte at an index.
+fn flip(bytes: &mut [u8], index: usize) {
+    if let Some(byte) = bytes.get_mut(index) {
+        *byte ^= 1;
+    }
+}
+
+/// The log is written down, and read back after a restart. Its root does not notice a node that was damaged below a peak, and
+/// notices a peak.
 pub(crate) fn show_restart<H: Hasher<Family> + Drop>(
     rt: &impl Print,
     log: &Log<H>,
@@ -90,11 +98,19 @@ pub(crate) fn show_restart<H: Hasher<Family> + Drop>(
     tell_size(rt, "the log is written in", &bytes)?;
     let is_same = has_root(log, &bytes, root)?;
     say(rt, "read back, it has the same root", is_same)?;
-    if let Some(byte) = bytes.last_mut() {
-        *byte ^= 1;
-    }
+    // The peak is written last, and before it a node below it.
+    let (peak, inner) = (
+        bytes.len().saturating_sub(1),
+        bytes
+            .len()
+            .saturating_sub(H::Digest::SIZE.saturating_add(1)),
+    );
+    flip(&mut bytes, inner);
     let is_same = has_root(log, &bytes, root)?;
-    say(rt, "with a bit changed", is_same)
+    say(rt, "with a bit of an inner node changed", is_same)?;
+    flip(&mut bytes, peak);
+    let is_same = has_root(log, &bytes, root)?;
+    say(rt, "with a bit of the peak changed", is_same)
 }
 
 /// Why a proof leads to no root.

@@ -1,7 +1,8 @@
 //! A transparency log and its clients: an example to copy.
 //!
-//! The log keeps all entries and publishes a root. A client keeps the root alone, and is shown by proofs which entries the log
-//! has, and that a newer root extends the one that it keeps. Two answers that it accepts and that differ are evidence.
+//! The log keeps the nodes of the tree and publishes the root. A client keeps a root with its leaf count, and is shown by proofs
+//! which entries the log has, and that a newer root extends the one that it keeps. Two answers that it accepts and that differ are
+//! evidence.
 #![tactic(auto)]
 
 mod client;

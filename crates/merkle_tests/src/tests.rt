@@ -1,9 +1,10 @@
-//! Values, bytes, hexadecimal words, added leaves, counts, lines, and proofs over what holds nodes, with values that were worked out
+//! Values, bytes, hexadecimal words, added leaves, audits, counts, lines, and proofs over what holds nodes, with values that were worked out
 //! by hand.
 //!
 //! A digest of `Xor8` is the exclusive or of the bytes that it hashes.
 
 mod additions;
+mod audits;
 mod bytes;
 mod codec;
 mod counts;

@@ -75,8 +75,8 @@ fn probes<F: Counted>(position: u64) -> Option<u64> {
 
 #[test]
 fn first_positions(rt: HostRuntime) {
-    let last = (1 << 20) - 1;
-    assert!(rt; leaves_between::<mmr::Family>(0, last, 0, 8) == Some(524289));
+    let last = 1 << 20;
+    assert!(rt; leaves_between::<mmr::Family>(0, last, 0, 8) == Some(524290));
     assert!(rt; leaves_between::<mmb::Family>(0, last, 0, 2) == Some(524298));
 }
 

@@ -10,6 +10,16 @@ const MAX_NODES: u64 = 9223372036854775807;
 const MAX_LEAVES: u64 = 4611686018427387904;
 
 #[test]
+fn limits(rt: HostRuntime) {
+    let found = [mmr::Family::MAX_NODES, mmr::Family::MAX_LEAVES];
+    assert!(rt; found == [MAX_NODES, MAX_LEAVES]);
+    assert!(rt; mmr::Family::DOMAIN == 0);
+    let family = mmr::Family::default();
+    let copy = family;
+    assert!(rt; copy == family);
+}
+
+#[test]
 fn sums(rt: HostRuntime) {
     assert_sums::<mmr::Family>(&rt, MAX_NODES);
 }

@@ -22,8 +22,8 @@ const RUNS: [(&[u8], &str); 10] = [
         "error NoStructure\nerror NoStructure\nerror NoStructure\nerror Syntax\nok\nok 0 0\n",
     ),
     (
-        b"prune 0\nprove 0 1 0\ncheck 0 0 01 00\nupdate 0 00\nnew mmb forward xor8\nadd 01\n",
-        "error NoStructure\nerror NoStructure\nerror NoStructure\nerror NoStructure\nok\nok 0\n",
+        b"prune 0\nprove 0 1 0\ncheck 0 0 01 00\naudit 0 0 00\nupdate 0 00\nnew mmb forward xor8\nadd 01\n",
+        "error NoStructure\nerror NoStructure\nerror NoStructure\nerror NoStructure\nerror NoStructure\nok\nok 0\n",
     ),
     (b"new mmr forward xor8\ncommit\nroot 0", "ok\nok 0 0\n00\n"),
     (b"new mmr backward xor8\nroot 0", "ok\n01\n"),
