@@ -159,7 +159,8 @@ def parts(text):
     one = r"^    ([A-Z]\w*(?:\([^\n]*\))?)(?: \{(.*?)^    \})?,$" if is_enum else r"^    pub (\w+: [^\n]*?),$"
     for found in re.finditer(one, text, re.M | re.S):
         fields = re.finditer(r"^        (\w+: [^\n]*),$", found[2], re.M) if is_enum and found[2] else ()
-        inner = [f"`{field[1]}`: {first_sentence(doc_above(found[2], field.start())).rstrip('.').lower()}" for field in fields]
+        said = ((field[1], first_sentence(doc_above(found[2], field.start())).rstrip(".")) for field in fields)
+        inner = [f"`{field}`: {doc[:1].lower()}{doc[1:]}" for field, doc in said]
         yield f"| `{cell(found[1])}` | {cell(plain(doc_above(text, found.start())))}{' Fields: ' * bool(inner)}{'; '.join(inner)} |"
 
 
