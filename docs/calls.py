@@ -173,8 +173,14 @@ def constants(source, kind, name):
     for found in re.finditer(rf"^impl(?:<[^{{]*?>)? [\w:<> ,]+ for {name}\b[^{{]*\{{\n(.*?)^\}}", source.text, re.M | re.S):
         for const in re.finditer(r"^    const (\w+: [^=]*) = (.*);$", found[1], re.M):
             named = re.search(rf"^const {re.escape(const[2])}: [^=]* = ([^;]*);", source.text, re.M)
-            doc = plain(doc_above(source.text, named.start())) if named else ""
+            doc = plain(doc_above(source.text, named.start())) if named else said_by_traits().get(const[1].split(":")[0], "")
             yield f"| `{const[1]}` | `{named[1] if named else const[2]}` | {cell(doc)} |"
+
+
+def said_by_traits():
+    """What the constants of traits are, by their names."""
+    texts = [path.read_text() for path in sorted(TOP.glob("crates/merkle_*/src/*.rt"))]
+    return {found[1]: plain(doc_above(text, found.start())) for text in texts for found in re.finditer(r"^    const (\w+): [^=;]*;", text, re.M)}
 
 
 def head(kind, name, where, at):
