@@ -159,7 +159,8 @@ def parts(text):
     one = r"^    ([A-Z]\w*(?:\([^\n]*\))?)(?: \{(.*?)^    \})?,$" if is_enum else r"^    pub (\w+: [^\n]*?),$"
     for found in re.finditer(one, text, re.M | re.S):
         fields = re.finditer(r"^        (\w+: [^\n]*),$", found[2], re.M) if is_enum and found[2] else ()
-        inner = [f"`{field[1]}`: {first_sentence(doc_above(found[2], field.start())).rstrip('.').lower()}" for field in fields]
+        said = ((field[1], first_sentence(doc_above(found[2], field.start())).rstrip(".")) for field in fields)
+        inner = [f"`{field}`: {doc[:1].lower()}{doc[1:]}" for field, doc in said]
         yield f"| `{cell(found[1])}` | {cell(plain(doc_above(text, found.start())))}{' Fields: ' * bool(inner)}{'; '.join(inner)} |"
 
 
@@ -172,8 +173,14 @@ def constants(source, kind, name):
     for found in re.finditer(rf"^impl(?:<[^{{]*?>)? [\w:<> ,]+ for {name}\b[^{{]*\{{\n(.*?)^\}}", source.text, re.M | re.S):
         for const in re.finditer(r"^    const (\w+: [^=]*) = (.*);$", found[1], re.M):
             named = re.search(rf"^const {re.escape(const[2])}: [^=]* = ([^;]*);", source.text, re.M)
-            doc = plain(doc_above(source.text, named.start())) if named else ""
+            doc = plain(doc_above(source.text, named.start())) if named else said_by_traits().get(const[1].split(":")[0], "")
             yield f"| `{const[1]}` | `{named[1] if named else const[2]}` | {cell(doc)} |"
+
+
+def said_by_traits():
+    """What the constants of traits are, by their names."""
+    texts = [path.read_text() for path in sorted(TOP.glob("crates/merkle_*/src/*.rt"))]
+    return {found[1]: plain(doc_above(text, found.start())) for text in texts for found in re.finditer(r"^    const (\w+): [^=;]*;", text, re.M)}
 
 
 def head(kind, name, where, at):

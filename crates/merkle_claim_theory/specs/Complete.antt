@@ -7,14 +7,14 @@ use Rattle.merkle_root_theory.specs.Plan.{Plan, peak, folding, tree_meets, outsi
 use Rattle.merkle_claim_theory.specs.MultiClaim.{or_empty, multi_claim}
 use Rattle.merkle_claim_theory.specs.PinnedClaim.{PinsAll, PinsTrees, pinned_of}
 
--- in a tree, a has the digest of each maximal node under which no chosen location lies, and no wrong digest above them
+-- in a tree, `a` has the digest of each maximal node under which no chosen location lies, and no wrong digest above them
 abbrev pub HonestTree : {D : Type 0} → Hashing D → (ℕ → Option D) → (ℕ → Bool) → (ℕ → D) → Tree → Type 0
 HonestTree h a c X (leaf p i) = cond (c i) (IfSome (a p) (λ d. d ≡ X i)) (or_empty h (a p) ≡ X i)
 HonestTree h a c X (join p l r) = cond (tree_meets c l || tree_meets c r)
     (IfSome (a p) (λ d. d ≡ tree_digest h X (join p l r)) × HonestTree h a c X l × HonestTree h a c X r)
     (or_empty h (a p) ≡ tree_digest h X (join p l r))
 
--- in each peak of a plan, a has the digest of each maximal node under which no chosen location lies, and no wrong digest above them
+-- in each peak of a plan, `a` has the digest of each maximal node under which no chosen location lies, and no wrong digest above them
 abbrev pub HonestPlan : {D : Type 0} → Hashing D → (ℕ → Option D) → (ℕ → Bool) → (ℕ → D) → Plan → Type 0
 HonestPlan h a c X (peak t) = HonestTree h a c X t
 HonestPlan h a c X (folding place l r) = HonestPlan h a c X l × HonestPlan h a c X r
