@@ -14,7 +14,7 @@ use Rattle.merkle_audit_theory.specs.Folds.{multi_digest}
 use Rattle.merkle_audit_theory.specs.Seen.{chosen_children}
 use Rattle.merkle_audit_parts.specs.declared.scattered.LeafProof.{LeafProof}
 
--- whether a location is one of these
+-- whether a location is one of some
 abbrev pub is_among : List ℕ → ℕ → Bool
 is_among is i = list_any (nat_eq i) is
 

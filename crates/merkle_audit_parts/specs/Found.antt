@@ -69,7 +69,7 @@ list_refusals rule max_leaves n k =
     (nat_lt max_leaves n, LocationOverflow n)
     ∷ (nat_lt (length (peaks_of rule n)) k, InvalidInactivePeaks k (length (peaks_of rule n))) ∷ []
 
--- why two lists of these lengths are refused
+-- why two lists are refused by their lengths
 abbrev pub length_refusals : {F : Type 0} → (max_leaves listed claimed : ℕ) → List (Bool × Error F)
 length_refusals max_leaves listed claimed =
     (nat_lt max_leaves listed, LocationOverflow listed) ∷ (nat_lt max_leaves claimed, LocationOverflow claimed) ∷ []

@@ -137,7 +137,8 @@ MultiSound D = (s : Scheme D) (size max_nodes : ℕ) → IsLawfulScheme s size m
     → (xs : List D) (k : ℕ) → length xs ≤ s.max_leaves → k ≤ length (peaks_of s.rule (length xs)) → (r : MultiInput D)
     → AcceptsMultiCases s r (plan_root s xs k) → IsHonestMulti s xs k r ⊎ MultiCollides s r xs k
 
--- a proof of scattered leaves has at most 122 positions for each location
+-- a proof of scattered leaves has at most 122 positions for each location, if the height of each peak and the number of peaks are together
+-- at most 123
 abbrev pub MultiSizeBound : Type 0 → Type 0
 MultiSizeBound D = (s : Scheme D) (max_nodes : ℕ) → IsLawful s.rule s.max_leaves max_nodes → (n : ℕ) → n ≤ s.max_leaves
     → ((i : ℕ) → i < length (peak_heights s.rule n) → slice_index (peak_heights s.rule n) i + length (peak_heights s.rule n) ≤ 123)
