@@ -7,7 +7,7 @@ use Rattle.merkle_claim_theory.specs.Pinned.{honest_pins, AcceptsPinned, IsHones
 use Rattle.merkle_base.specs.Places.{peaks_of}
 use Rattle.merkle_base.specs.Scheme.{Scheme}
 use Rattle.merkle_claim_theory.specs.CheckAnswers.{GivesRoot}
-use Rattle.merkle_verifier.specs.Answers.{no, yes, BeginsWith, Judges, JudgesGrowth}
+use Rattle.merkle_verifier.specs.Answers.{accepted, rejected, BeginsWith, Judges, JudgesGrowth}
 
 module _ {D : Type 0} (s : Scheme D) (xs : List D) (k : ℕ) (r : RangeInput D) (pins : List D) (honest : IsHonestPinned s xs k r pins) (j : ℕ) (old : D) where
   there : r.start ≤ length xs
@@ -38,14 +38,14 @@ JudgesPinned s pins root r = Judges s root (AcceptsPinned s r pins root) (λ xs 
 
 module _ {D : Type 0} (s : Scheme D) (old : D) (j : ℕ) (pins : List D) (root : D) (r : RangeInput D) where
   -- with pins that give the old root it is what is said of growth
-  pub grown_yes : GivesRoot s old r.start j pins → JudgesPinned s pins root r yes → JudgesGrowth s old j pins root r yes
-  grown_yes given (inl w) = inl (refl, (given, w.1), λ xs k few enough is. elim (w.2 xs k few enough is) [ inl honest ↦ inl (begins s xs k r pins honest j old given, honest) | inr collide ↦ inr collide ])
-  grown_yes given (inr w) = absurd (search (rules, w.0))
+  pub grown_accepted : GivesRoot s old r.start j pins → JudgesPinned s pins root r accepted → JudgesGrowth s old j pins root r accepted
+  grown_accepted given (inl w) = inl (refl, (given, w.1), λ xs k few enough is. elim (w.2 xs k few enough is) [ inl honest ↦ inl (begins s xs k r pins honest j old given, honest) | inr collide ↦ inr collide ])
+  grown_accepted given (inr w) = absurd (search (rules, w.0))
 
-  pub grown_no : JudgesPinned s pins root r no → JudgesGrowth s old j pins root r no
-  grown_no (inl w) = absurd (search (rules, w.0))
-  grown_no (inr w) = inr (refl, (λ both. w.1 both.1), λ xs k few enough is honest. w.2 xs k few enough is honest.1)
+  pub grown_rejected : JudgesPinned s pins root r rejected → JudgesGrowth s old j pins root r rejected
+  grown_rejected (inl w) = absurd (search (rules, w.0))
+  grown_rejected (inr w) = inr (refl, (λ both. w.1 both.1), λ xs k few enough is honest. w.2 xs k few enough is honest.1)
 
-  -- with others it is no
-  pub not_grown : ¬ (GivesRoot s old r.start j pins) → JudgesGrowth s old j pins root r no
+  -- with others it is rejected
+  pub not_grown : ¬ (GivesRoot s old r.start j pins) → JudgesGrowth s old j pins root r rejected
   not_grown not = inr (refl, (λ both. not both.0), λ xs k few enough is honest. not (gives s xs k r pins honest.1 j old honest.0))

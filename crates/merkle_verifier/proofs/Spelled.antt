@@ -1,9 +1,10 @@
 -- Bytes that are read as a proof, or refused.
-use Rattle.std.proofs.Common.{Bool, true, false, ◌≡◌, ◌≢◌, ◌⊎◌, ℕ, ◌+◌, ◌*◌, ◌-◌, ◌^◌, ◌<◌, ◌≤◌, List, [], ◌∷◌, ◌++◌, length, take, drop, arith, rules, refl, sym, ap, subst, ◌∙◌, inl, inr, append-nil, length-append}
+use Rattle.std.proofs.Common.{Bool, true, false, ◌≡◌, ◌≢◌, ◌⊎◌, ℕ, suc, ◌+◌, ◌*◌, ◌-◌, ◌^◌, ◌<◌, ◌≤◌, List, [], ◌∷◌, ◌++◌, length, take, drop, arith, rules, refl, sym, ap, subst, ◌∙◌, inl, inr, append-nil, length-append}
 use Rattle.std.specs.Prelude.{◌==◌}
 use Rattle.std.proofs.lemmas.List.{length-take-le, length-drop}
 use Rattle.merkle_base.specs.declared.error.DecodeError.{DecodeError}
 use Rattle.merkle_base.specs.declared.error.DecodeError.TheVariants.{EndOfBuffer, InvalidVarint, Invalid, TooMany, OutOfMemory}
+use Rattle.merkle_codec.specs.NumberSpelling.{IsGroupRefusal, IsNumberRefusal, IsRefusalUpTo}
 use Rattle.merkle_codec.specs.NumberLaws.{number_spelling_once, IsRefusalFrom_after}
 use Rattle.merkle_codec.specs.NumberSpelling.{number_spelling, IsRefusalFrom}
 use Rattle.merkle_codec.specs.ProofLaws.{length-digests, parts}
@@ -11,9 +12,9 @@ use Rattle.merkle_codec.specs.ProofSpelling.{parts_spelling, IsDigestsRefusal, I
 use Rattle.merkle_sha256.specs.declared.sha256.Sha256Digest.{Sha256Digest}
 use Rattle.merkle_verifier.specs.Answers.{malformed, out_of_memory, OfProof}
 use Rattle.merkle_verifier.specs.Inputs.{digest_bytes, joined_digests, IsSpelled}
-use Rattle.merkle_verifier.specs.Unread.{IsUnread, refused_answer}
+use Rattle.merkle_verifier.specs.Unread.{IsRefused, IsUnread, refused_answer}
 use Rattle.merkle_verifier.specs.declared.read.ReadError.{ReadError}
-use Rattle.merkle_verifier.specs.declared.read.ReadError.TheVariants.{Decode, Trailing}
+use Rattle.merkle_verifier.specs.declared.read.ReadError.TheVariants as reading
 
 -- a digest has 32 bytes
 sized : (d : Sha256Digest) → length (digest_bytes d) ≡ 32
@@ -65,12 +66,50 @@ module _ (max_leaves : ℕ) (fits : max_leaves < 2 ^ 64) (proof : List ℕ) wher
   -- what is answered of bytes that are not read as a proof
   pub unread : (e : ReadError) → IsUnread max_leaves proof e → (P : (n k : ℕ) → List Sha256Digest → ℕ → Type 0) (answer : ℕ) → answer ≡ refused_answer e
       → (answer ≡ out_of_memory) ⊎ OfProof max_leaves proof P answer
-  unread (Decode EndOfBuffer) h P answer a = inr (inl (a, refused_none EndOfBuffer (λ e. search (rules, e)) h))
-  unread (Decode InvalidVarint) h P answer a = inr (inl (a, refused_none InvalidVarint (λ e. search (rules, e)) h))
-  unread (Decode Invalid) h P answer a = inr (inl (a, refused_none Invalid (λ e. search (rules, e)) h))
-  unread (Decode TooMany) h P answer a = inr (inl (a, refused_none TooMany (λ e. search (rules, e)) h))
-  unread (Decode OutOfMemory) h P answer a = inl a
-  unread Trailing h P answer a = let (n, k, ds, rest, x, y, some, e) = h in inr (inl (a, trailing_none n k ds rest some e))
+  unread reading.EndOfBuffer h P answer a = inr (inl (a, refused_none EndOfBuffer (λ e. search (rules, e)) h))
+  unread reading.InvalidVarint h P answer a = inr (inl (a, refused_none InvalidVarint (λ e. search (rules, e)) h))
+  unread reading.Invalid h P answer a = inr (inl (a, refused_none Invalid (λ e. search (rules, e)) h))
+  unread reading.OutOfMemory h P answer a = inl a
+  unread reading.Trailing h P answer a = let (n, k, ds, rest, x, y, some, e) = h in inr (inl (a, trailing_none n k ds rest some e))
+
+-- a number is never refused as too many
+group_refusal : (before : ℕ) (b : List ℕ) (e : DecodeError) → IsGroupRefusal before b e → e ≢ TooMany
+group_refusal before [] e is many = search (rules, is, many)
+group_refusal before (group ∷ rest) e (inl is) many = search (rules, is.2, many)
+group_refusal before (group ∷ rest) e (inr (inl is)) many = search (rules, is.2, many)
+group_refusal before (group ∷ rest) e (inr (inr is)) many = group_refusal (suc before) rest e is.2 many
+
+number_refusal : (b : List ℕ) (e : DecodeError) → IsNumberRefusal b e → e ≢ TooMany
+unfolding IsNumberRefusal
+number_refusal b e is many = group_refusal 0 b e is many
+
+-- nor is one past a greatest number, which is refused as invalid
+refusal_up_to : (greatest : ℕ) (b : List ℕ) (e : DecodeError) → IsRefusalUpTo greatest Invalid b e → e ≢ TooMany
+refusal_up_to greatest b e (inl is) many = number_refusal b e is many
+refusal_up_to greatest b e (inr is) many = search (rules, is.1, many)
+
+-- nor are digests
+digests_refusal : (n : ℕ) (b : List ℕ) (e : DecodeError) → IsDigestsRefusal 32 (λ d. length d ≡ 32) n b e → e ≢ TooMany
+digests_refusal n b e (inl is) many = search (rules, is.1, many)
+digests_refusal n b e (inr (inl is)) many = search (rules, is.1, many)
+digests_refusal n b e (inr (inr is)) many = search (rules, is.2, many)
+
+-- nor is a number of digests: none of 64 bits exceeds the greatest
+count_refusal : (b : List ℕ) (e : DecodeError) → IsRefusalFrom (2 ^ 64 - 1) TooMany (IsDigestsRefusal 32 (λ d. length d ≡ 32)) b e → e ≢ TooMany
+count_refusal b e (inl (inl is)) many = number_refusal b e is many
+count_refusal b e (inl (inr is)) many = let (n, rest, small, spelled, above) = is.0 in absurd (omega (arith, small, above))
+count_refusal b e (inr is) many = let (n, rest, small, spelled, after) = is in digests_refusal n rest e after.1 many
+
+-- nor is what follows the leaf count: a number of inactive peaks, and the digests after it
+inactive_refusal : (b : List ℕ) (e : DecodeError)
+    → IsRefusalFrom (2 ^ 64 - 1) Invalid (λ _. IsRefusalFrom (2 ^ 64 - 1) TooMany (IsDigestsRefusal 32 (λ d. length d ≡ 32))) b e → e ≢ TooMany
+inactive_refusal b e (inl is) many = refusal_up_to (2 ^ 64 - 1) b e is many
+inactive_refusal b e (inr is) many = let (k, rest, small, spelled, after) = is in count_refusal rest e after.1 many
+
+-- bytes of a proof are never refused because of too many digests
+pub never_too_many : (max_leaves : ℕ) (proof : List ℕ) → ¬ (IsRefused max_leaves proof TooMany)
+never_too_many max_leaves proof (inl is) = refusal_up_to max_leaves proof TooMany is refl
+never_too_many max_leaves proof (inr is) = let (n, rest, small, spelled, after) = is in inactive_refusal rest TooMany after.1 refl
 
 -- bytes that are tested for being none
 pub no_bytes : (bytes : List ℕ) (test : Bool) → test ≡ (length bytes == 0) → test ≡ true → bytes ≡ []

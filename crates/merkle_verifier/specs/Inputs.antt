@@ -17,7 +17,7 @@ digest_bytes d = d.bytes
 abbrev pub joined_digests : List Sha256Digest → List ℕ
 joined_digests digests = flat_map digest_bytes digests
 
--- bytes encode a proof of this leaf count, this number of inactive peaks and these digests, and nothing follows; the numbers have 64 bits
+-- bytes encode a proof of this leaf count, this number of inactive peaks and these digests, and nothing follows; the numbers fit 64 bits
 pub record IsSpelled (max_leaves : ℕ) (proof : List ℕ) (leaves inactive : ℕ) (digests : List Sha256Digest) : Type 0 where
   pub leaves_fit : leaves ≤ max_leaves
   pub inactive_fits : inactive < 2 ^ 64
@@ -28,7 +28,7 @@ pub record IsSpelled (max_leaves : ℕ) (proof : List ℕ) (leaves inactive : �
 abbrev pub IsCut : (lengths bytes : List ℕ) → (parts : List (List ℕ)) → Type 0
 IsCut lengths bytes parts = (map length parts ≡ lengths) × (flat_map (λ p. p) parts ≡ bytes)
 
--- each part with its location
+-- each part of a buffer, paired with its location
 abbrev pub located : List ℕ → List (Bor (List ℕ)) → List (Bor (List ℕ) × ℕ)
 located [] parts = []
 located (i ∷ is) [] = []
@@ -40,7 +40,7 @@ located_leaves h rule [] elements = []
 located_leaves h rule (i ∷ is) [] = []
 located_leaves h rule (i ∷ is) (element ∷ elements) = (i, h.leaf (size rule i) element) ∷ located_leaves h rule is elements
 
--- a proof with the elements at these locations
+-- the input of the check of scattered leaves: the numbers and digests of a proof, and elements at these locations
 abbrev pub located_input : {D : Type 0} → Scheme D → (locations : List ℕ) → (elements : List (List ℕ)) → (leaves inactive : ℕ) → List D → MultiInput D
 located_input s locations elements leaves inactive digests = record {
   leaves = leaves;

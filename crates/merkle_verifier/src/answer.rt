@@ -1,10 +1,11 @@
-//! The numbers that the calls answer, as `merkle_verifier.h` names them.
-
-/// The proof is not accepted.
-pub(crate) const NO: u32 = 0;
+//! The numbers that the calls answer, as `verifier/merkle_verifier.h` names them: 0 is accepted, or read, and every other number
+//! is not.
 
 /// The proof is accepted.
-pub(crate) const YES: u32 = 1;
+pub(crate) const ACCEPTED: u32 = 0;
+
+/// The proof is not accepted.
+pub(crate) const REJECTED: u32 = 1;
 
 /// The bytes of the proof encode none, or others follow.
 pub(crate) const MALFORMED: u32 = 2;
@@ -18,6 +19,9 @@ pub(crate) const WRONG_LENGTHS: u32 = 4;
 /// A request for memory was refused.
 pub(crate) const OUT_OF_MEMORY: u32 = 5;
 
+/// The bytes are read as a proof, which says nothing of whether it is accepted.
+pub(crate) const READ: u32 = 0;
+
 /// The bytes of the proof end too early.
 pub(crate) const END_OF_BUFFER: u32 = 16;
 
@@ -26,9 +30,6 @@ pub(crate) const INVALID_VARINT: u32 = 17;
 
 /// The leaf count of the proof exceeds that of its family.
 pub(crate) const INVALID: u32 = 18;
-
-/// The proof has too many digests.
-pub(crate) const TOO_MANY: u32 = 19;
 
 /// Bytes follow those of the proof.
 pub(crate) const TRAILING: u32 = 20;

@@ -5,7 +5,7 @@ ghost use Rattle.merkle_claim_theory.specs.CheckAnswers.{GivesRoot};
 ghost use Rattle.merkle_verifier.specs.Answers.{IsElementAnswer, IsRangeAnswer, IsScatteredAnswer, IsPinnedAnswer, IsGrowthAnswer};
 ghost use Rattle.merkle_sha256.specs.PlainHashings.{sha256_hashing};
 
-use crate::answer::{NO, NOT_A_DIGEST, OUT_OF_MEMORY, WRONG_LENGTHS, YES};
+use crate::answer::{ACCEPTED, NOT_A_DIGEST, OUT_OF_MEMORY, REJECTED, WRONG_LENGTHS};
 use crate::parts::{cut, locate, read_digests};
 use crate::read::read_proof;
 use merkle_base::family::Family;
@@ -58,8 +58,8 @@ pub(crate) fn check_element<F: Family>(
         Err(error) => return error.answer(),
     };
     match proof.verify_element_inclusion(hasher, element, Location::new(location), &root) {
-        Ok(true) => YES,
-        Ok(false) => NO,
+        Ok(true) => ACCEPTED,
+        Ok(false) => REJECTED,
         Err(_) => OUT_OF_MEMORY,
     }
 }
@@ -89,8 +89,8 @@ pub(crate) fn check_range<F: Family>(
         Err(error) => return error.answer(),
     };
     match proof.verify_range_inclusion(hasher, &elements, Location::new(start), &root) {
-        Ok(true) => YES,
-        Ok(false) => NO,
+        Ok(true) => ACCEPTED,
+        Ok(false) => REJECTED,
         Err(_) => OUT_OF_MEMORY,
     }
 }
@@ -126,8 +126,8 @@ pub(crate) fn check_scattered<F: Family>(
         Err(error) => return error.answer(),
     };
     match proof.verify_multi_inclusion(hasher, &located, &root) {
-        Ok(true) => YES,
-        Ok(false) => NO,
+        Ok(true) => ACCEPTED,
+        Ok(false) => REJECTED,
         Err(_) => OUT_OF_MEMORY,
     }
 }
@@ -180,11 +180,11 @@ fn check_pinned<F: Family>(
     };
     let leaves = Location::new(old.leaves);
     if !gives_root(hasher, &old_root, leaves, old.inactive_peaks, &pins) {
-        return NO;
+        return REJECTED;
     }
     match proof.verify_proof_and_pinned_nodes(hasher, &elements, leaves, &pins, root) {
-        Ok(true) => YES,
-        Ok(false) => NO,
+        Ok(true) => ACCEPTED,
+        Ok(false) => REJECTED,
         Err(_) => OUT_OF_MEMORY,
     }
 }

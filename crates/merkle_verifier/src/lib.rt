@@ -1,7 +1,8 @@
 //! Checks of proofs for programs in other languages: a static library with a C interface.
 //!
-//! The digests are those of SHA-256. Each call answers a number, of which `verifier/merkle_verifier.h` has the names; it keeps no
-//! memory and no state, so that any number of threads may call it. What C gives as a pointer and a length is a slice here.
+//! The digests are those of SHA-256. Each call answers a number, of which `verifier/merkle_verifier.h` has the names: 0 is accepted,
+//! and every other number is not. A call keeps no memory and no state, so that any number of threads may call it. What C gives as a
+//! pointer and a length is a slice here. `verifier/calls.c` has the names that programs call, without `proved_`.
 #![tactic(auto)]
 
 mod answer;
@@ -10,11 +11,11 @@ mod parts;
 mod read;
 
 ghost use Rattle.std.specs.Prelude.{◌≡◌, ◌≢◌};
-ghost use Rattle.merkle_verifier.specs.Answers.{IsElementAnswer, IsRangeAnswer, IsScatteredAnswer, IsGrowthAnswer, yes};
+ghost use Rattle.merkle_verifier.specs.Answers.{IsElementAnswer, IsRangeAnswer, IsScatteredAnswer, IsGrowthAnswer};
 ghost use Rattle.merkle_verifier.specs.Schemes.{bagging_of, max_leaves_of, sha256_scheme};
-ghost use Rattle.merkle_verifier.specs.Unread.{IsReadAnswer};
+ghost use Rattle.merkle_verifier.specs.Unread.{IsReadAnswer, was_read};
 
-use crate::answer::YES;
+use crate::answer::READ;
 use crate::checks::{Elements, OldRoot, check_element, check_growth, check_range, check_scattered};
 use crate::read::read_proof;
 use merkle_base::family::{Bagging, Family};
@@ -36,7 +37,7 @@ fn hasher_of(is_backward: bool) -> Standard<Sha256Plain>
 
 /// Answers whether `element` is the leaf at `location` of the list behind `root`.
 #[unsafe(no_mangle)]
-pub extern "C" fn merkle_verify_element(
+pub extern "C" fn merkle_proved_verify_element(
     alloc: Global,
     is_belt: bool,
     is_backward: bool,
@@ -59,7 +60,7 @@ pub extern "C" fn merkle_verify_element(
 ///
 /// `elements` has their bytes, one after another, and `lengths` the length of each.
 #[unsafe(no_mangle)]
-pub extern "C" fn merkle_verify_range(
+pub extern "C" fn merkle_proved_verify_range(
     alloc: Global,
     is_belt: bool,
     is_backward: bool,
@@ -87,7 +88,7 @@ pub extern "C" fn merkle_verify_range(
 ///
 /// `elements` has their bytes, one after another, and `lengths` the length of each.
 #[unsafe(no_mangle)]
-pub extern "C" fn merkle_verify_scattered(
+pub extern "C" fn merkle_proved_verify_scattered(
     alloc: Global,
     is_belt: bool,
     is_backward: bool,
@@ -116,12 +117,12 @@ pub extern "C" fn merkle_verify_scattered(
 /// `old_root` was made for `old_inactive_peaks` inactive peaks. `pins` has the bytes of the digests of the peaks over the old
 /// leaves, the oldest first. `elements` has the bytes of the elements, one after another, and `lengths` the length of each.
 #[unsafe(no_mangle)]
-pub extern "C" fn merkle_verify_growth(
+pub extern "C" fn merkle_proved_verify_growth(
     alloc: Global,
     is_belt: bool,
     is_backward: bool,
     old_leaves: u64,
-    old_inactive_peaks: usize,
+    old_inactive_peaks: u64,
     old_root: &[u8],
     pins: &[u8],
     root: &[u8],
@@ -135,7 +136,7 @@ pub extern "C" fn merkle_verify_growth(
     let hasher = hasher_of(is_backward);
     let old = OldRoot {
         leaves: old_leaves,
-        inactive_peaks: old_inactive_peaks,
+        inactive_peaks: old_inactive_peaks as usize,
         root: old_root,
         pins,
     };
@@ -158,22 +159,22 @@ fn read_counts<F: Family>(
     inactive_peaks: &mut u64,
 ) -> u32
     ensures answer { IsReadAnswer F.MAX_LEAVES proof.now leaves.new inactive_peaks.new result }
-    ensures unread { result ≢ yes → (leaves.new ≡ leaves.old) × (inactive_peaks.new ≡ inactive_peaks.old) }
+    ensures unread { result ≢ was_read → (leaves.new ≡ leaves.old) × (inactive_peaks.new ≡ inactive_peaks.old) }
 {
     match read_proof::<F>(alloc, proof) {
         Ok(proof) => {
             *leaves = proof.leaves.as_u64();
             *inactive_peaks = proof.inactive_peaks as u64;
-            YES
+            READ
         }
         Err(error) => error.reason(),
     }
 }
 
-/// Writes the leaf count and the number of inactive peaks of the proof that the bytes encode, and answers yes; or answers the
+/// Writes the leaf count and the number of inactive peaks of the proof that the bytes encode, and answers 0; or answers the
 /// number of the reason why they encode none, and writes nothing.
 #[unsafe(no_mangle)]
-pub extern "C" fn merkle_read_proof(
+pub extern "C" fn merkle_proved_read_proof(
     alloc: Global,
     is_belt: bool,
     proof: &[u8],
@@ -181,7 +182,7 @@ pub extern "C" fn merkle_read_proof(
     inactive_peaks: &mut u64,
 ) -> u32
     ensures answer { IsReadAnswer (max_leaves_of is_belt) proof.now leaves.new inactive_peaks.new result }
-    ensures unread { result ≢ yes → (leaves.new ≡ leaves.old) × (inactive_peaks.new ≡ inactive_peaks.old) }
+    ensures unread { result ≢ was_read → (leaves.new ≡ leaves.old) × (inactive_peaks.new ≡ inactive_peaks.old) }
 {
     if is_belt {
         read_counts::<mmb::Family>(alloc, proof, leaves, inactive_peaks)

@@ -3,9 +3,7 @@ ghost use Rattle.std.specs.Prelude.{◌≡◌, IfOk, IfErr};
 ghost use Rattle.merkle_verifier.specs.Inputs.{IsSpelled};
 ghost use Rattle.merkle_verifier.specs.Unread.{IsUnread, refused_answer, reason};
 
-use crate::answer::{
-    END_OF_BUFFER, INVALID, INVALID_VARINT, MALFORMED, OUT_OF_MEMORY, TOO_MANY, TRAILING,
-};
+use crate::answer::{END_OF_BUFFER, INVALID, INVALID_VARINT, MALFORMED, OUT_OF_MEMORY, TRAILING};
 use merkle_base::error::DecodeError;
 use merkle_base::family::Family;
 use merkle_codec::codec::Read;
@@ -16,8 +14,14 @@ use std::alloc::Global;
 /// Why bytes are not read as a proof.
 #[derive(Drop)]
 pub(crate) enum ReadError {
-    /// They begin with no proof, or a request for memory was refused.
-    Decode(DecodeError),
+    /// They end before the proof does.
+    EndOfBuffer,
+    /// One of the three numbers of the proof is not in its shortest form, or exceeds 64 bits.
+    InvalidVarint,
+    /// The leaf count of the proof exceeds that of its family.
+    Invalid,
+    /// A request for memory was refused.
+    OutOfMemory,
     /// They begin with a proof, and others follow.
     Trailing,
 }
@@ -28,7 +32,7 @@ impl ReadError {
         ensures { result ≡ refused_answer self.now }
     {
         match self {
-            ReadError::Decode(DecodeError::OutOfMemory) => OUT_OF_MEMORY,
+            ReadError::OutOfMemory => OUT_OF_MEMORY,
             _ => MALFORMED,
         }
     }
@@ -38,11 +42,10 @@ impl ReadError {
         ensures { result ≡ reason self.now }
     {
         match self {
-            ReadError::Decode(DecodeError::EndOfBuffer) => END_OF_BUFFER,
-            ReadError::Decode(DecodeError::InvalidVarint) => INVALID_VARINT,
-            ReadError::Decode(DecodeError::Invalid) => INVALID,
-            ReadError::Decode(DecodeError::TooMany) => TOO_MANY,
-            ReadError::Decode(DecodeError::OutOfMemory) => OUT_OF_MEMORY,
+            ReadError::EndOfBuffer => END_OF_BUFFER,
+            ReadError::InvalidVarint => INVALID_VARINT,
+            ReadError::Invalid => INVALID,
+            ReadError::OutOfMemory => OUT_OF_MEMORY,
             ReadError::Trailing => TRAILING,
         }
     }
@@ -50,7 +53,8 @@ impl ReadError {
 
 /// Decodes the proof whose encoding the bytes are.
 ///
-/// The number of its digests is limited by the bytes alone.
+/// The number of its digests is limited by the bytes alone. The decoder asks for a limit, and is given the greatest number of 64
+/// bits: it refuses a greater one as a number that does not fit, so it never answers that there are too many digests.
 pub(crate) fn read_proof<F: Family>(
     alloc: Global,
     bytes: &[u8],
@@ -61,7 +65,13 @@ pub(crate) fn read_proof<F: Family>(
     let mut rest = bytes;
     let proof = match Proof::read(alloc, &mut rest, &usize::MAX) {
         Ok(proof) => proof,
-        Err(error) => return Err(ReadError::Decode(error)),
+        Err(error) => match error {
+            DecodeError::EndOfBuffer => return Err(ReadError::EndOfBuffer),
+            DecodeError::InvalidVarint => return Err(ReadError::InvalidVarint),
+            DecodeError::Invalid => return Err(ReadError::Invalid),
+            DecodeError::OutOfMemory => return Err(ReadError::OutOfMemory),
+            DecodeError::TooMany => unreachable!(),
+        },
     };
     if rest.is_empty() {
         Ok(proof)

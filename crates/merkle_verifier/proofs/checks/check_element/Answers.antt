@@ -3,7 +3,7 @@ use Rattle.merkle_codec.specs.NumberLaws.{lawful_locations}
 use Rattle.merkle_range.specs.Input.{range_input}
 use Rattle.merkle_base.specs.Scheme.{scheme_of}
 use Rattle.merkle_sha256.specs.declared.sha256.Sha256Digest.{Sha256Digest}
-use Rattle.merkle_verifier.specs.Answers.{JudgesRange, no, yes}
+use Rattle.merkle_verifier.specs.Answers.{JudgesRange, accepted, rejected}
 use Rattle.merkle_sha256.specs.PlainHashings.{sha256_hashing}
 use Rattle.merkle_verifier.proofs.Spelled.{unread}
 use Rattle.merkle_verifier.proofs.checks.check_element.Goals as goal
@@ -33,7 +33,7 @@ returns-in-Ok-true g c =
         p.inactive_peaks,
         p.digests.items,
         c.in-Ok.ensures.ok,
-        subst (λ a. JudgesRange s c.in-Some.root (range_input s p.leaves p.inactive_peaks p.digests.items a (c.args.element.now ∷ [])) yes) c.new.ensures (inl (refl, checks.exact.0 is, checks.sound is)),
+        subst (λ a. JudgesRange s c.in-Some.root (range_input s p.leaves p.inactive_peaks p.digests.items a (c.args.element.now ∷ [])) accepted) c.new.ensures (inl (refl, checks.exact.0 is, checks.sound is)),
       ),
     ))
 
@@ -52,7 +52,7 @@ returns-in-Ok-false g c =
         p.inactive_peaks,
         p.digests.items,
         c.in-Ok.ensures.ok,
-        subst (λ a. JudgesRange s c.in-Some.root (range_input s p.leaves p.inactive_peaks p.digests.items a (c.args.element.now ∷ [])) no) c.new.ensures
+        subst (λ a. JudgesRange s c.in-Some.root (range_input s p.leaves p.inactive_peaks p.digests.items a (c.args.element.now ∷ [])) rejected) c.new.ensures
             (inr (refl, (λ leads. search (rules, checks.exact.1 leads, not)), λ xs k few enough root-is honest. search (rules, checks.honest xs k few enough root-is honest, not))),
       ),
     ))

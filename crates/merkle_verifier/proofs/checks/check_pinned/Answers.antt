@@ -5,8 +5,8 @@ use Rattle.merkle_range.specs.Input.{range_input}
 use Rattle.merkle_base.specs.Scheme.{scheme_of}
 use Rattle.merkle_root_theory.specs.Walk.{bytes_of}
 use Rattle.merkle_claim_theory.specs.CheckAnswers.{GivesRoot}
-use Rattle.merkle_verifier.specs.Answers.{no, yes, JudgesGrowth}
-use Rattle.merkle_verifier.proofs.Grown.{JudgesPinned, grown_yes, grown_no, not_grown}
+use Rattle.merkle_verifier.specs.Answers.{accepted, rejected, JudgesGrowth}
+use Rattle.merkle_verifier.proofs.Grown.{JudgesPinned, grown_accepted, grown_rejected, not_grown}
 use Rattle.merkle_verifier.specs.Inputs.{IsCut, joined_digests}
 use Rattle.merkle_sha256.specs.PlainHashings.{sha256_hashing}
 use Rattle.merkle_verifier.proofs.Spelled.{unread}
@@ -83,10 +83,10 @@ returns-in-Ok-true g c =
     (subst (λ a. IsTrue c.gives_root.result ↔ GivesRoot s c.in-Some.old_root a c.args.old.now.inactive_peaks c.deref.result.now) c.new-leaves.ensures c.gives_root.ensures) in
     let checks = c.in-Ok-true.ensures in
     let is = c.in-Ok-true.field-0-test in
-    let judged : JudgesPinned s c.in-Ok-Some.pins.items c.args.root.now r yes =
-    subst (λ e. JudgesPinned s c.in-Ok-Some.pins.items c.args.root.now (range_input s p.leaves p.inactive_peaks p.digests.items c.args.old.now.leaves e) yes) (ap bytes_of c.deref-2.ensures.value)
-    (subst (λ a. JudgesPinned s c.in-Ok-Some.pins.items c.args.root.now (range_input s p.leaves p.inactive_peaks p.digests.items a (bytes_of c.deref-2.result.now)) yes) c.new-leaves.ensures
-    (subst (λ ps. JudgesPinned s ps c.args.root.now (range_input s p.leaves p.inactive_peaks p.digests.items c.new-leaves.result (bytes_of c.deref-2.result.now)) yes) c.deref-3.ensures.value
+    let judged : JudgesPinned s c.in-Ok-Some.pins.items c.args.root.now r accepted =
+    subst (λ e. JudgesPinned s c.in-Ok-Some.pins.items c.args.root.now (range_input s p.leaves p.inactive_peaks p.digests.items c.args.old.now.leaves e) accepted) (ap bytes_of c.deref-2.ensures.value)
+    (subst (λ a. JudgesPinned s c.in-Ok-Some.pins.items c.args.root.now (range_input s p.leaves p.inactive_peaks p.digests.items a (bytes_of c.deref-2.result.now)) accepted) c.new-leaves.ensures
+    (subst (λ ps. JudgesPinned s ps c.args.root.now (range_input s p.leaves p.inactive_peaks p.digests.items c.new-leaves.result (bytes_of c.deref-2.result.now)) accepted) c.deref-3.ensures.value
     (inl (refl, checks.exact.0 is, checks.sound is)))) in
     inr (inr (
       c.in-Some.old_root,
@@ -102,7 +102,7 @@ returns-in-Ok-true g c =
             p.inactive_peaks,
             p.digests.items,
             c.in-Ok.ensures.ok,
-            grown_yes s c.in-Some.old_root c.args.old.now.inactive_peaks c.in-Ok-Some.pins.items c.args.root.now r (given.0 (search (rules, c.if-not-gives_root.false))) judged,
+            grown_accepted s c.in-Some.old_root c.args.old.now.inactive_peaks c.in-Ok-Some.pins.items c.args.root.now r (given.0 (search (rules, c.if-not-gives_root.false))) judged,
           ),
         ),
       ),
@@ -119,10 +119,10 @@ returns-in-Ok-false g c =
     let r = range_input s p.leaves p.inactive_peaks p.digests.items c.args.old.now.leaves es in
     let checks = c.in-Ok-false.ensures in
     let not = c.in-Ok-false.field-0-test in
-    let judged : JudgesPinned s c.in-Ok-Some.pins.items c.args.root.now r no =
-    subst (λ e. JudgesPinned s c.in-Ok-Some.pins.items c.args.root.now (range_input s p.leaves p.inactive_peaks p.digests.items c.args.old.now.leaves e) no) (ap bytes_of c.deref-2.ensures.value)
-    (subst (λ a. JudgesPinned s c.in-Ok-Some.pins.items c.args.root.now (range_input s p.leaves p.inactive_peaks p.digests.items a (bytes_of c.deref-2.result.now)) no) c.new-leaves.ensures
-    (subst (λ ps. JudgesPinned s ps c.args.root.now (range_input s p.leaves p.inactive_peaks p.digests.items c.new-leaves.result (bytes_of c.deref-2.result.now)) no) c.deref-3.ensures.value
+    let judged : JudgesPinned s c.in-Ok-Some.pins.items c.args.root.now r rejected =
+    subst (λ e. JudgesPinned s c.in-Ok-Some.pins.items c.args.root.now (range_input s p.leaves p.inactive_peaks p.digests.items c.args.old.now.leaves e) rejected) (ap bytes_of c.deref-2.ensures.value)
+    (subst (λ a. JudgesPinned s c.in-Ok-Some.pins.items c.args.root.now (range_input s p.leaves p.inactive_peaks p.digests.items a (bytes_of c.deref-2.result.now)) rejected) c.new-leaves.ensures
+    (subst (λ ps. JudgesPinned s ps c.args.root.now (range_input s p.leaves p.inactive_peaks p.digests.items c.new-leaves.result (bytes_of c.deref-2.result.now)) rejected) c.deref-3.ensures.value
     (inr (refl, (λ accepts. search (rules, checks.exact.1 accepts, not)), λ xs k few enough root-is honest. search (rules, checks.honest xs k few enough root-is honest, not))))) in
     inr (inr (
       c.in-Some.old_root,
@@ -138,7 +138,7 @@ returns-in-Ok-false g c =
             p.inactive_peaks,
             p.digests.items,
             c.in-Ok.ensures.ok,
-            grown_no s c.in-Some.old_root c.args.old.now.inactive_peaks c.in-Ok-Some.pins.items c.args.root.now r judged,
+            grown_rejected s c.in-Some.old_root c.args.old.now.inactive_peaks c.in-Ok-Some.pins.items c.args.root.now r judged,
           ),
         ),
       ),

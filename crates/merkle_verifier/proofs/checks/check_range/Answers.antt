@@ -4,7 +4,7 @@ use Rattle.merkle_codec.specs.NumberLaws.{lawful_locations}
 use Rattle.merkle_range.specs.Input.{range_input}
 use Rattle.merkle_base.specs.Scheme.{scheme_of}
 use Rattle.merkle_root_theory.specs.Walk.{bytes_of}
-use Rattle.merkle_verifier.specs.Answers.{JudgesRange, no, yes}
+use Rattle.merkle_verifier.specs.Answers.{JudgesRange, accepted, rejected}
 use Rattle.merkle_verifier.specs.Inputs.{IsCut}
 use Rattle.merkle_sha256.specs.PlainHashings.{sha256_hashing}
 use Rattle.merkle_verifier.proofs.Spelled.{unread}
@@ -45,8 +45,8 @@ returns-in-Ok-true g c =
           p.inactive_peaks,
           p.digests.items,
           c.in-Ok.ensures.ok,
-          subst (λ e. JudgesRange s c.in-Some.root (range_input s p.leaves p.inactive_peaks p.digests.items c.args.start e) yes) (ap bytes_of c.deref.ensures.value)
-              (subst (λ a. JudgesRange s c.in-Some.root (range_input s p.leaves p.inactive_peaks p.digests.items a (bytes_of c.deref.result.now)) yes) c.new.ensures (inl (refl, checks.exact.0 is, checks.sound is))),
+          subst (λ e. JudgesRange s c.in-Some.root (range_input s p.leaves p.inactive_peaks p.digests.items c.args.start e) accepted) (ap bytes_of c.deref.ensures.value)
+              (subst (λ a. JudgesRange s c.in-Some.root (range_input s p.leaves p.inactive_peaks p.digests.items a (bytes_of c.deref.result.now)) accepted) c.new.ensures (inl (refl, checks.exact.0 is, checks.sound is))),
         ),
       ),
     ))
@@ -71,8 +71,8 @@ returns-in-Ok-false g c =
           p.inactive_peaks,
           p.digests.items,
           c.in-Ok.ensures.ok,
-          subst (λ e. JudgesRange s c.in-Some.root (range_input s p.leaves p.inactive_peaks p.digests.items c.args.start e) no) (ap bytes_of c.deref.ensures.value)
-              (subst (λ a. JudgesRange s c.in-Some.root (range_input s p.leaves p.inactive_peaks p.digests.items a (bytes_of c.deref.result.now)) no) c.new.ensures
+          subst (λ e. JudgesRange s c.in-Some.root (range_input s p.leaves p.inactive_peaks p.digests.items c.args.start e) rejected) (ap bytes_of c.deref.ensures.value)
+              (subst (λ a. JudgesRange s c.in-Some.root (range_input s p.leaves p.inactive_peaks p.digests.items a (bytes_of c.deref.result.now)) rejected) c.new.ensures
               (inr (refl, (λ leads. search (rules, checks.exact.1 leads, not)), λ xs k few enough root-is honest. search (rules, checks.honest xs k few enough root-is honest, not)))),
         ),
       ),

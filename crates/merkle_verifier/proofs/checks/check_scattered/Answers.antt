@@ -4,7 +4,7 @@ use Rattle.merkle_codec.specs.NumberLaws.{lawful_locations}
 use Rattle.merkle_proof.specs.Input.{element_leaves}
 use Rattle.merkle_base.specs.Scheme.{scheme_of}
 use Rattle.merkle_root_theory.specs.Walk.{bytes_of}
-use Rattle.merkle_verifier.specs.Answers.{JudgesMulti, no, yes}
+use Rattle.merkle_verifier.specs.Answers.{JudgesMulti, accepted, rejected}
 use Rattle.merkle_verifier.specs.Inputs.{IsCut, located, located_input, located_leaves}
 use Rattle.merkle_sha256.specs.PlainHashings.{sha256_hashing}
 use Rattle.merkle_verifier.proofs.Located.{element_leaves-located, input_with}
@@ -57,7 +57,7 @@ returns-in-Ok-true g c =
             p.inactive_peaks,
             p.digests.items,
             c.in-Ok-read_proof.ensures.ok,
-            subst (λ ls. JudgesMulti s c.in-Some.root (input_with p.leaves p.inactive_peaks p.digests.items ls) yes) leaves (inl (refl, checks.exact.0 is, checks.sound is)),
+            subst (λ ls. JudgesMulti s c.in-Some.root (input_with p.leaves p.inactive_peaks p.digests.items ls) accepted) leaves (inl (refl, checks.exact.0 is, checks.sound is)),
           ),
         ),
       ),
@@ -88,7 +88,7 @@ returns-in-Ok-false g c =
             p.inactive_peaks,
             p.digests.items,
             c.in-Ok-read_proof.ensures.ok,
-            subst (λ ls. JudgesMulti s c.in-Some.root (input_with p.leaves p.inactive_peaks p.digests.items ls) no) leaves
+            subst (λ ls. JudgesMulti s c.in-Some.root (input_with p.leaves p.inactive_peaks p.digests.items ls) rejected) leaves
                 (inr (refl, (λ accepts. search (rules, checks.exact.1 accepts, not)), λ xs k few enough root-is honest. search (rules, checks.honest xs k few enough root-is honest, not))),
           ),
         ),

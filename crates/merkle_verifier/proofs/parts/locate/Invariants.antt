@@ -1,4 +1,4 @@
-use Rattle.std.proofs.Common.{◌≡◌, ◌≤◌, ◌++◌, length, drop}
+use Rattle.std.proofs.Common.{◌≡◌, ◌++◌, drop}
 use Rattle.merkle_verifier.specs.Inputs.{located}
 use Rattle.merkle_verifier.proofs.parts.locate.Given as goal
 

@@ -1,6 +1,6 @@
 use Rattle.merkle_verifier.specs.Answers.{IsScatteredAnswer}
 use Rattle.merkle_verifier.proofs.Flags.{by_belt, by_range}
-use Rattle.merkle_verifier.proofs.merkle_verify_scattered.Goals as goal
+use Rattle.merkle_verifier.proofs.merkle_proved_verify_scattered.Goals as goal
 
 pub returns-then-is_belt : goal.returns-then-is_belt
 returns-then-is_belt c =
