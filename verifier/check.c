@@ -1,8 +1,8 @@
 /* Checks proofs that are given as lines, by the proved library: an example of its calls, and what the tests run.
  *
- *     cc -o check check.c $(PKG_CONFIG_PATH=PREFIX/lib/pkgconfig pkg-config --cflags --libs merkle_verifier)
+ *     cc -o check check.c $(PKG_CONFIG_PATH=PREFIX/lib/pkgconfig pkg-config --cflags --libs merkle_verifier) -Wl,-rpath,PREFIX/lib
  *
- * A line is one of these, with bytes as hexadecimal digits, `-` for none:
+ * A line is one of these, with bytes as lower case hexadecimal digits, `-` for none:
  *
  *     element FAMILY BAGGING ROOT PROOF LOCATION ELEMENT
  *     range FAMILY BAGGING ROOT PROOF START ELEMENT..
@@ -11,15 +11,16 @@
  *     read FAMILY PROOF
  *
  * FAMILY is mmr or mmb, BAGGING forward or backward. It answers each by a line: the name of the answer, and for `read` the two numbers.
+ * ELEMENT may end with /LENGTH, which is given in the place of its length, or with /-, so that none is given, and LOCATION may be left out:
+ * so lines can tell of lengths that do not add up. What is no such line ends the program with the status 2.
  */
 #include "merkle_verifier.h"
 
+#include <errno.h>
 #include <inttypes.h>
 #include <stdio.h>
 #include <stdlib.h>
 #include <string.h>
-
-enum { MOST_WORDS = 4096 };
 
 struct bytes {
     uint8_t *at;
@@ -29,87 +30,134 @@ struct bytes {
 /* The elements of a line, in one buffer, with their lengths and locations. */
 struct elements {
     struct bytes joined;
-    size_t lengths[MOST_WORDS];
-    uint64_t locations[MOST_WORDS];
+    size_t *lengths;
     size_t count;
+    uint64_t *locations;
+    size_t location_count;
 };
-
-static int digit(char c) { return c >= '0' && c <= '9' ? c - '0' : c >= 'a' && c <= 'f' ? c - 'a' + 10 : -1; }
 
 static void give_up(const char *why) {
     fprintf(stderr, "check: %s\n", why);
     exit(2);
 }
 
-/* Writes the bytes that a word spells to `out`, and returns how many they are. */
-static size_t put_bytes(const char *word, uint8_t *out) {
-    if (strcmp(word, "-") == 0) return 0;
-    size_t count = strlen(word) / 2;
-    for (size_t i = 0; i < count; i++) {
-        int high = digit(word[2 * i]), low = digit(word[2 * i + 1]);
-        if (high < 0 || low < 0) give_up("a word is not hexadecimal");
-        out[i] = (uint8_t)(high * 16 + low);
-    }
-    return count;
+/* Memory for some items; null for none. */
+static void *room_for(size_t count, size_t size) {
+    void *room = count ? calloc(count, size) : NULL;
+    if (count && !room) give_up("no memory");
+    return room;
 }
 
-/* The bytes that a word spells, in memory of their own; of no bytes the address is not null either. */
+static unsigned digit(char c) {
+    if (c >= '0' && c <= '9') return (unsigned)(c - '0');
+    if (c >= 'a' && c <= 'f') return (unsigned)(c - 'a') + 10;
+    give_up("a word is not hexadecimal");
+    return 0;
+}
+
+static uint64_t number(const char *word) {
+    char *end;
+    errno = 0;
+    uint64_t value = strtoull(word, &end, 10);
+    if (*word < '0' || *word > '9' || *end || errno) give_up("a word is not a number of 64 bits");
+    return value;
+}
+
+/* Which of two words a word is. */
+static bool is_second(const char *word, const char *first, const char *second) {
+    if (strcmp(word, first) != 0 && strcmp(word, second) != 0) give_up("a family or a bagging is unknown");
+    return strcmp(word, second) == 0;
+}
+
+/* How many bytes a word spells. */
+static size_t spelled(const char *word) {
+    size_t digits = strlen(word);
+    if (strcmp(word, "-") == 0) return 0;
+    if (digits == 0 || digits % 2 != 0) give_up("a word has an odd number of digits");
+    return digits / 2;
+}
+
+static void put_bytes(const char *word, size_t count, uint8_t *out) {
+    for (size_t i = 0; i < count; i++) out[i] = (uint8_t)(digit(word[2 * i]) * 16 + digit(word[2 * i + 1]));
+}
+
+/* The bytes that a word spells, in memory of their own; of no bytes the address is null. */
 static struct bytes to_bytes(const char *word) {
-    struct bytes bytes = {malloc(strlen(word) / 2 + 1), 0};
-    if (!bytes.at) give_up("no memory");
-    bytes.length = put_bytes(word, bytes.at);
+    size_t length = spelled(word);
+    struct bytes bytes = {room_for(length, 1), length};
+    put_bytes(word, length, bytes.at);
     return bytes;
 }
 
+/* Cuts what follows a sign off a word; null if the sign is not there. */
+static char *cut(char *word, char sign) {
+    char *at = strchr(word, sign);
+    if (at) *at++ = 0;
+    return at;
+}
+
 static struct elements to_elements(char **words, size_t count, bool are_located) {
-    struct elements elements = {.count = count};
-    size_t room = 1;
-    for (size_t i = 0; i < count; i++) room += strlen(words[i]) / 2;
-    elements.joined.at = malloc(room);
-    if (!elements.joined.at) give_up("no memory");
+    struct elements elements = {.lengths = room_for(count, sizeof(size_t)), .locations = room_for(count, sizeof(uint64_t))};
     for (size_t i = 0; i < count; i++) {
-        char *word = words[i];
-        if (are_located) {
-            elements.locations[i] = strtoull(word, &word, 10);
-            if (*word++ != ':') give_up("an element has no location");
-        }
-        elements.lengths[i] = put_bytes(word, elements.joined.at + elements.joined.length);
-        elements.joined.length += elements.lengths[i];
+        char *element = are_located ? cut(words[i], ':') : words[i];
+        if (!element) give_up("an element has no location");
+        if (are_located && *words[i]) elements.locations[elements.location_count++] = number(words[i]);
+        words[i] = element;
+        char *length = cut(element, '/');
+        size_t size = spelled(element);
+        if (!length) elements.lengths[elements.count++] = size;
+        else if (strcmp(length, "-") != 0) elements.lengths[elements.count++] = (size_t)number(length);
+        elements.joined.length += size;
     }
+    elements.joined.at = room_for(elements.joined.length, 1);
+    size_t done = 0;
+    for (size_t i = 0; i < count; done += spelled(words[i++])) put_bytes(words[i], spelled(words[i]), elements.joined.at + done);
     return elements;
 }
 
 static const char *name(uint32_t answer) {
     switch (answer) {
-    case MERKLE_NO: return "no";
-    case MERKLE_YES: return "yes";
+    case MERKLE_ACCEPTED: return "accepted";
+    case MERKLE_REJECTED: return "rejected";
     case MERKLE_MALFORMED: return "malformed";
     case MERKLE_NOT_A_DIGEST: return "not_a_digest";
     case MERKLE_WRONG_LENGTHS: return "wrong_lengths";
     case MERKLE_OUT_OF_MEMORY: return "out_of_memory";
+    case MERKLE_UNSUPPORTED: return "unsupported";
+    default: return "unknown";
+    }
+}
+
+static const char *reason(uint32_t answer) {
+    switch (answer) {
+    case MERKLE_READ: return "read";
     case MERKLE_END_OF_BUFFER: return "end_of_buffer";
     case MERKLE_INVALID_VARINT: return "invalid_varint";
     case MERKLE_INVALID: return "invalid";
-    case MERKLE_TOO_MANY: return "too_many";
     case MERKLE_TRAILING: return "trailing";
-    default: return "unknown";
+    default: return answer == MERKLE_OUT_OF_MEMORY || answer == MERKLE_UNSUPPORTED ? name(answer) : "unknown";
     }
 }
 
 static void read_proof(char **words) {
     struct bytes proof = to_bytes(words[2]);
-    uint64_t leaves = 0, inactive = 0;
-    uint32_t answer = merkle_read_proof(strcmp(words[1], "mmb") == 0, proof.at, proof.length, &leaves, &inactive);
-    if (answer == MERKLE_YES) printf("yes %" PRIu64 " %" PRIu64 "\n", leaves, inactive);
-    else printf("%s\n", name(answer));
+    const uint64_t unwritten = UINT64_MAX;
+    uint64_t leaves = unwritten, inactive_peaks = unwritten;
+    uint32_t answer = merkle_read_proof(is_second(words[1], "mmr", "mmb"), proof.at, proof.length, &leaves, &inactive_peaks);
+    if (answer == MERKLE_READ) {
+        printf("read %" PRIu64 " %" PRIu64 "\n", leaves, inactive_peaks);
+    } else {
+        if (leaves != unwritten || inactive_peaks != unwritten) give_up("numbers were written of a proof that is not read");
+        printf("%s\n", reason(answer));
+    }
     free(proof.at);
 }
 
-static uint32_t grown(bool is_belt, bool is_backward, char **words, const struct elements *added) {
+static uint32_t checked_growth(bool is_belt, bool is_backward, char **words, const struct elements *added) {
     struct bytes old = to_bytes(words[5]), pins = to_bytes(words[6]), root = to_bytes(words[7]), proof = to_bytes(words[8]);
-    uint32_t answer = merkle_verify_growth(is_belt, is_backward, strtoull(words[3], NULL, 10), (size_t)strtoull(words[4], NULL, 10), old.at,
-                                           old.length, pins.at, pins.length, root.at, root.length, proof.at, proof.length,
-                                           added->joined.at, added->joined.length, added->lengths, added->count);
+    uint32_t answer = merkle_verify_growth(is_belt, is_backward, number(words[3]), number(words[4]), old.at, old.length, pins.at,
+                                           pins.length, root.at, root.length, proof.at, proof.length, added->joined.at,
+                                           added->joined.length, added->lengths, added->count);
     free(old.at);
     free(pins.at);
     free(root.at);
@@ -119,42 +167,53 @@ static uint32_t grown(bool is_belt, bool is_backward, char **words, const struct
 
 static uint32_t checked(bool is_belt, bool is_backward, char **words, const struct elements *elements) {
     struct bytes root = to_bytes(words[3]), proof = to_bytes(words[4]), all = elements->joined;
-    uint64_t location = strtoull(words[5], NULL, 10);
     uint32_t answer;
     if (strcmp(words[0], "element") == 0)
-        answer = merkle_verify_element(is_belt, is_backward, root.at, root.length, proof.at, proof.length, location, all.at, all.length);
+        answer = merkle_verify_element(is_belt, is_backward, root.at, root.length, proof.at, proof.length, number(words[5]), all.at,
+                                       all.length);
     else if (strcmp(words[0], "range") == 0)
-        answer = merkle_verify_range(is_belt, is_backward, root.at, root.length, proof.at, proof.length, location, all.at, all.length,
-                                     elements->lengths, elements->count);
+        answer = merkle_verify_range(is_belt, is_backward, root.at, root.length, proof.at, proof.length, number(words[5]), all.at,
+                                     all.length, elements->lengths, elements->count);
     else
         answer = merkle_verify_scattered(is_belt, is_backward, root.at, root.length, proof.at, proof.length, elements->locations,
-                                         elements->count, all.at, all.length, elements->lengths, elements->count);
+                                         elements->location_count, all.at, all.length, elements->lengths, elements->count);
     free(root.at);
     free(proof.at);
     return answer;
 }
 
-static void answer_line(char *line) {
-    static char *words[MOST_WORDS];
-    size_t count = 0;
-    for (char *word = strtok(line, " \n"); word && count < MOST_WORDS; word = strtok(NULL, " \n")) words[count++] = word;
-    if (count == 3 && strcmp(words[0], "read") == 0) {
+static void answer_words(char **words, size_t count) {
+    const char *kind = count ? words[0] : "";
+    if (count == 3 && strcmp(kind, "read") == 0) {
         read_proof(words);
         return;
     }
-    bool is_growth = count > 0 && strcmp(words[0], "growth") == 0, is_scattered = count > 0 && strcmp(words[0], "scattered") == 0;
+    bool is_element = strcmp(kind, "element") == 0, is_range = strcmp(kind, "range") == 0;
+    bool is_growth = strcmp(kind, "growth") == 0, is_scattered = strcmp(kind, "scattered") == 0;
     size_t before = is_growth ? 9 : is_scattered ? 5 : 6;
-    if (count < before) give_up("a line has too few words");
-    bool is_belt = strcmp(words[1], "mmb") == 0, is_backward = strcmp(words[2], "backward") == 0;
+    if (!(is_element || is_range || is_growth || is_scattered) || count < before || (is_element && count != 7)) give_up("a line is none of these");
+    bool is_belt = is_second(words[1], "mmr", "mmb"), is_backward = is_second(words[2], "forward", "backward");
     struct elements elements = to_elements(words + before, count - before, is_scattered);
-    printf("%s\n", name(is_growth ? grown(is_belt, is_backward, words, &elements) : checked(is_belt, is_backward, words, &elements)));
+    printf("%s\n", name(is_growth ? checked_growth(is_belt, is_backward, words, &elements) : checked(is_belt, is_backward, words, &elements)));
     free(elements.joined.at);
+    free(elements.lengths);
+    free(elements.locations);
+}
+
+static void answer_line(char *line) {
+    size_t most = strlen(line) / 2 + 1, count = 0;
+    char **words = room_for(most, sizeof(char *));
+    for (char *word = strtok(line, " \n"); word; word = strtok(NULL, " \n")) words[count++] = word;
+    answer_words(words, count);
+    free(words);
 }
 
 int main(void) {
     char *line = NULL;
     size_t room = 0;
+    if (merkle_version() != MERKLE_VERSION) give_up("the library has another version than the header");
     while (getline(&line, &room, stdin) > 0) answer_line(line);
     free(line);
+    if (!feof(stdin) || ferror(stdin) || fflush(stdout) != 0 || ferror(stdout)) give_up("no memory");
     return 0;
 }
