@@ -80,11 +80,24 @@ fn has_root<H: Hasher<Family> + Drop>(
     Ok(granted!(tree.root(&log.hasher, 0)) == *root)
 }
 
-/// Changes a bit of the byte at an index.
+/// Changes a bit of the byte at an index, or changes it back.
 fn flip(bytes: &mut [u8], index: usize) {
     if let Some(byte) = bytes.get_mut(index) {
         *byte ^= 1;
     }
+}
+
+/// Whether bytes are those of a structure with this root, if a bit of the byte at an index is changed.
+fn has_root_with_change<H: Hasher<Family> + Drop>(
+    log: &Log<H>,
+    bytes: &mut [u8],
+    index: usize,
+    root: &H::Digest,
+) -> Result<bool, LogError> {
+    flip(bytes, index);
+    let is_same = has_root(log, bytes, root)?;
+    flip(bytes, index);
+    Ok(is_same)
 }
 
 /// The log is written down, and read back after a restart. Its root does not notice a node that was damaged below a peak, and
@@ -99,17 +112,11 @@ pub(crate) fn show_restart<H: Hasher<Family> + Drop>(
     let is_same = has_root(log, &bytes, root)?;
     say(rt, "read back, it has the same root", is_same)?;
     // The peak is written last, and before it a node below it.
-    let (peak, inner) = (
-        bytes.len().saturating_sub(1),
-        bytes
-            .len()
-            .saturating_sub(H::Digest::SIZE.saturating_add(1)),
-    );
-    flip(&mut bytes, inner);
-    let is_same = has_root(log, &bytes, root)?;
+    let last = bytes.len().saturating_sub(1);
+    let inner = last.saturating_sub(H::Digest::SIZE);
+    let is_same = has_root_with_change(log, &mut bytes, inner, root)?;
     say(rt, "with a bit of an inner node changed", is_same)?;
-    flip(&mut bytes, peak);
-    let is_same = has_root(log, &bytes, root)?;
+    let is_same = has_root_with_change(log, &mut bytes, last, root)?;
     say(rt, "with a bit of the peak changed", is_same)
 }
 

@@ -12,7 +12,7 @@ ghost use Rattle.merkle_claim_theory.specs.CheckAnswers.{IsReconstructionRefusal
 pub use crate::element_plan::ElementPlan;
 pub use crate::multi::multi_proof_positions;
 use crate::multi_checks::verify_multi;
-pub use crate::range_plan::RangePlan;
+pub use crate::range_plan::{Groups, RangeCounts, RangePlan};
 use merkle_base::error::{Error, OutOfMemory, ReconstructionError};
 use merkle_base::family::Family;
 use merkle_base::location::Location;
