@@ -80,9 +80,9 @@ def files(prefix):
     shared = subprocess.run(["nm", "-D", "--defined-only", f"{prefix}/lib/libmerkle_verifier.so"], capture_output=True, text=True, check=True).stdout
     exported = sorted(line.split()[-1].split("@")[0] for line in shared.split("\n") if line)
     wrong = compared("exports of the shared library", exported, PUBLIC)
-    named = re.findall(r"^.*:([^:]+):\S* ([A-Za-z]) (\S+)$", subprocess.run(
+    named = re.findall(r"^.*:([^:\n]+):[0-9a-f]* ([A-Za-z]) (\S+)$", subprocess.run(
         ["nm", "-A", "--defined-only", f"{prefix}/lib/libmerkle_verifier.a"], capture_output=True, text=True, check=True).stdout, re.M)
-    written = [f"{name} of {member}" for member, kind, name in named if kind in "BbCcDdGgSs" and member not in ("heap.o", "calls.o")]
-    if not named or written:
+    written = [f"{name} of {member}" for member, kind, name in named if kind in "BbCcDdGgSs"]
+    if not named or len(written) != 1 or not re.search(r"\bnone\b.* of heap.o", written[0]):
         wrong.append(f"the archive has {len(named)} names, and can write to {', '.join(written)}")
     return wrong
