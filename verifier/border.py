@@ -65,7 +65,8 @@ def sources():
         wrong += compared(f"header and export of {name}", declared.get(name), proved.get(name))
     for name, types in merkle_verifier._CALLS.items():
         given = [part for part in declared[name][1] if part != "void"]
-        wrong += compared(f"the module's {name} and the header's", list(types), [IN_PYTHON[re.sub(r"\w+$", "", part).strip()] for part in given])
+        kinds = [re.sub(r"\w+$", "", part).strip() for part in given]
+        wrong += compared(f"the module's {name} and the header's", list(types), [IN_PYTHON.get(kind, kind) for kind in kinds])
     answers = numbers_of(text_of(SOURCES, "answer.rt"), r"^pub\(crate\) const (\w+): u32 = (\d+);$")
     named = numbers_of(header, r"^ +MERKLE_(\w+) = (\d+)")
     wrong += compared("numbers in the header and in answer.rt", named, {**answers, "UNSUPPORTED": 6})
