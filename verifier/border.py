@@ -65,7 +65,8 @@ def sources():
         wrong += compared(f"header and export of {name}", declared.get(name), proved.get(name))
     for name, types in merkle_verifier._CALLS.items():
         given = [part for part in declared[name][1] if part != "void"]
-        wrong += compared(f"the module's {name} and the header's", list(types), [IN_PYTHON[re.sub(r"\w+$", "", part).strip()] for part in given])
+        kinds = [re.sub(r"\w+$", "", part).strip() for part in given]
+        wrong += compared(f"the module's {name} and the header's", list(types), [IN_PYTHON.get(kind, kind) for kind in kinds])
     answers = numbers_of(text_of(SOURCES, "answer.rt"), r"^pub\(crate\) const (\w+): u32 = (\d+);$")
     named = numbers_of(header, r"^ +MERKLE_(\w+) = (\d+)")
     wrong += compared("numbers in the header and in answer.rt", named, {**answers, "UNSUPPORTED": 6})
@@ -80,9 +81,9 @@ def files(prefix):
     shared = subprocess.run(["nm", "-D", "--defined-only", f"{prefix}/lib/libmerkle_verifier.so"], capture_output=True, text=True, check=True).stdout
     exported = sorted(line.split()[-1].split("@")[0] for line in shared.split("\n") if line)
     wrong = compared("exports of the shared library", exported, PUBLIC)
-    named = re.findall(r"^.*:([^:]+):\S* ([A-Za-z]) (\S+)$", subprocess.run(
+    named = re.findall(r"^.*:([^:\n]+):[0-9a-f]* ([A-Za-z]) (\S+)$", subprocess.run(
         ["nm", "-A", "--defined-only", f"{prefix}/lib/libmerkle_verifier.a"], capture_output=True, text=True, check=True).stdout, re.M)
-    written = [f"{name} of {member}" for member, kind, name in named if kind in "BbCcDdGgSs" and member not in ("heap.o", "calls.o")]
-    if not named or written:
+    written = [f"{name} of {member}" for member, kind, name in named if kind in "BbCcDdGgSs"]
+    if not named or len(written) != 1 or not re.search(r"\bnone\b.* of heap.o", written[0]):
         wrong.append(f"the archive has {len(named)} names, and can write to {', '.join(written)}")
     return wrong

@@ -40,7 +40,7 @@ class Case:
         except merkle_verifier.Malformed as error:
             return error.reason.name.lower() if self.kind == "read" else "malformed"
         except merkle_verifier.MerkleError as error:
-            return ERRORS[type(error)]
+            return ERRORS.get(type(error), repr(error))
         return "read %d %d" % answer if self.kind == "read" else "accepted" if answer is True else "rejected" if answer is False else repr(answer)
 
     def joined(self, verifier):

@@ -110,8 +110,12 @@ static struct elements to_elements(char **words, size_t count, bool are_located)
         elements.joined.length += size;
     }
     elements.joined.at = room_for(elements.joined.length, 1);
-    size_t done = 0;
-    for (size_t i = 0; i < count; done += spelled(words[i++])) put_bytes(words[i], spelled(words[i]), elements.joined.at + done);
+    uint8_t *to = elements.joined.at;
+    for (size_t i = 0; i < count; i++) {
+        size_t size = spelled(words[i]);
+        put_bytes(words[i], size, to);
+        if (size) to += size;
+    }
     return elements;
 }
 
