@@ -33,7 +33,7 @@ not_a_digest = 3
 abbrev pub wrong_lengths : ℕ
 wrong_lengths = 4
 
--- the answer where a request for memory is refused
+-- the answer where a request for memory is refused; that it comes there alone is not said here
 abbrev pub out_of_memory : ℕ
 out_of_memory = 5
 
@@ -52,7 +52,7 @@ JudgesRange s root r = Judges s root (reconstructed s r ≡ Ok root) (λ xs k. I
 abbrev pub JudgesMulti : {D : Type 0} → Scheme D → D → MultiInput D → ℕ → Type 0
 JudgesMulti s root r = Judges s root (AcceptsMulti s r root) (λ xs k. IsHonestMulti s xs k r) (λ xs k. MultiCollides s r xs k)
 
--- the first n leaves of a list have this root for j inactive peaks, and the list has so many
+-- a list has at least n leaves, and the first n have this root for j inactive peaks
 pub record BeginsWith {D : Type 0} (s : Scheme D) (xs : List D) (n j : ℕ) (old : D) : Type 0 where
   pub long : n ≤ length xs
   pub enough : j ≤ length (peaks_of s.rule n)
@@ -108,7 +108,8 @@ IsRangeAnswer s root proof start elements lengths answer =
     ⊎ OfDigest root (λ d. OfElements lengths elements (λ es. OfProof s.max_leaves proof (λ n k ds.
     JudgesRange s d (range_input s n k ds start es)))) answer
 
--- the answer of the check of scattered leaves, by the bytes that it is given: root, then locations and elements, then proof
+-- the answer of the check of scattered leaves, by the bytes that it is given: first the root's are judged, then how many locations and
+-- elements there are, then the elements', then the proof's
 abbrev pub IsScatteredAnswer : Scheme Sha256Digest → (root proof locations elements lengths : List ℕ) → ℕ → Type 0
 IsScatteredAnswer s root proof locations elements lengths answer =
     (answer ≡ out_of_memory)
