@@ -1,6 +1,8 @@
 -- What is hashed for an accepted input, from the digests that its store has.
-use Rattle.std.proofs.Common.{◌≡◌, ◌≢◌, ◌⊎◌, inl, inr, Ok, ℕ, suc, pred, ◌<◌, ◌≤◌, ◌+◌, ◌-◌, List, [], ◌∷◌, ◌++◌, map, take, drop, length, length-append, refl, ap, ap₂, sym, ◌∙◌, subst, arith, min, max, zero, Some, None}
+use Rattle.std.proofs.Common.{◌≡◌, ◌≢◌, ◌⊎◌, inl, inr, Ok, Bool, true, false, IsTrue, nat_eq, ℕ, suc, pred, ◌<◌, ◌≤◌, ◌+◌, ◌-◌, List, [], ◌∷◌, ◌++◌, map, take, drop, length, length-append, refl, ap, ap₂, sym, ◌∙◌, subst, arith, min, max, zero, Some, None}
+use Rattle.std.proofs.lemmas.Bool.{eqb-false, false≢true}
 use Rattle.std.proofs.lemmas.List.{length-map, length-take}
+use Rattle.std.specs.Prelude.{not}
 use Rattle.std.specs.List.{AllByRecursion}
 use Rattle.std.specs.Option.{unwrap_or}
 use Rattle.merkle_base.specs.Forest.{forest}
@@ -19,11 +21,13 @@ use Rattle.merkle_root_theory.specs.Expression.{Root, Bytes}
 use Rattle.merkle_root_theory.specs.Extract.{extracted}
 use Rattle.merkle_root_theory.specs.Layouts.{count_before, count_after, count_inactive}
 use Rattle.merkle_root_theory.specs.Outside.{folded_prefix, single_before, single_after, folded_suffix}
-use Rattle.merkle_root_theory.specs.Range.{end_of, overlapping, wholly_after, AcceptsNonempty, IsEmptyInput}
+use Rattle.merkle_root_theory.specs.Range.{end_of, overlapping, range_siblings, wholly_after, AcceptsNonempty, IsEmptyInput}
+use Rattle.merkle_root_theory.specs.Reads.{nodes_read}
 use Rattle.merkle_root_theory.specs.Reconstruction.{reconstructed}
 use Rattle.merkle_root_theory.specs.Walk.{peak_values}
 use Rattle.merkle_root_theory.proofs.LayoutCounts.{length-fold_all, length-bag_all, length-single_before, length-folded_suffix, length-layout}
 use Rattle.merkle_root_theory.proofs.PeakGroups.{length-peaks_of}
+use Rattle.merkle_root_theory.proofs.Reconstruction.{leads_is_accepted}
 use Rattle.merkle_range.specs.Extracting.{IsExtractionRefusal}
 use Rattle.merkle_proof.specs.RangePlans.{LeafRange, IsRefusal}
 use Rattle.merkle_store_theory.specs.StoreProof.{found_at}
@@ -114,6 +118,34 @@ module _ {D : Type 0} (s : Scheme D) (r : RangeInput D) (root : D) (ok : Accepts
     length-bag_all ((length b + length o) + (r.inactive - (length b + length o))) (folded_suffix s.bagging r.inactive (length b + length o) a),
   )
 
+  -- as many digests as nodes are read, but for those that are folded with another one
+  pub digests_counted : length r.digests ≡ (length (nodes_read s.rule r.leaves r.start (end_of r)) - (folded - 1)) - (suffix - 1)
+  digests_counted = omega (
+    arith,
+    e1,
+    e2,
+    e4,
+    e5,
+    ok.counts,
+    length-layout s.bagging r.inactive b o a,
+    length-fold_all (folded_prefix s.bagging r.inactive b),
+    length-bag_all ((length b + length o) + (r.inactive - (length b + length o))) (folded_suffix s.bagging r.inactive (length b + length o) a),
+    length-single_before s.bagging r.inactive b,
+    prefix_within s.bagging r.inactive b,
+    length-folded_suffix s.bagging r.inactive (length b + length o) a,
+    after_within s.bagging r.inactive (length b + length o) a,
+    length-append b (a ++ range_siblings r.start (end_of r) (peaks_of s.rule r.leaves)),
+    length-append a (range_siblings r.start (end_of r) (peaks_of s.rule r.leaves)),
+  )
+    where
+      prefix_within : (bagging : Bagging) (k : ℕ) (us : List Tree) → length (folded_prefix bagging k us) ≤ length us
+      prefix_within ForwardFold k us = omega arith
+      prefix_within BackwardFold k us = omega (arith, length-take k us)
+
+      after_within : (bagging : Bagging) (k met : ℕ) (us : List Tree) → length (single_after bagging k met us) ≤ length us
+      after_within ForwardFold k met us = omega arith
+      after_within BackwardFold k met us = omega (arith, length-take (k - met) us)
+
   pub all_fit : ((folded + alone) + count) + (single + suffix) ≤ length (peaks_of s.rule r.leaves)
   all_fit = omega (
     arith,
@@ -185,6 +217,21 @@ pub no_refusal : {F : Type 0} (max_leaves n a b : ℕ) (e : Error F) → a < b �
 no_refusal max_leaves n a b e some within fits (inl w) = omega (arith, w.0, some)
 no_refusal max_leaves n a b e some within fits (inr (inl w)) = omega (arith, w.1, within)
 no_refusal max_leaves n a b e some within fits (inr (inr w)) = omega (arith, w.2, fits)
+
+-- an input with elements that leads to a root is accepted
+pub led_nonempty : {D : Type 0} (s : Scheme D) (r : RangeInput D) (d : D) → 0 < length r.elements → reconstructed s r ≡ Ok d → AcceptsNonempty s r d
+led_nonempty s r d some led = elim ((leads_is_accepted s r d).0 led) [
+  | inl ok ↦ ok
+  | inr w ↦ absurd (let none : length r.elements ≡ 0 = ap length w.0.elements in omega (arith, none, some))
+]
+
+-- two numbers that a test tells apart
+pub told_apart : (a b : ℕ) → IsTrue (not (nat_eq a b)) → a ≡ b → ⊥
+told_apart a b t e = eqb-false a b (not_true (nat_eq a b) t) e
+  where
+    not_true : (b : Bool) → not b ≡ true → b ≡ false
+    not_true true e = absurd (false≢true e)
+    not_true false e = refl
 
 -- a store is refused as empty only where the check accepts no elements
 pub empty_led : {F D E : Type 0} (s : Scheme D) (r : RangeInput D) (root : D) (e : Error F) (es : List E) → e ≡ Empty

@@ -1,11 +1,12 @@
 //! What is hashed for an accepted input of a range check.
-ghost use Rattle.std.specs.Prelude.{◌≡◌, ◌≢◌, ◌≤◌, ◌<◌, ◌+◌, ◌++◌, ◌&&◌, nat_lt, Ok, OnOk, IfOk, IfSome, IfNone, IsOkUnless};
+ghost use Rattle.std.specs.Prelude.{◌≡◌, ◌≢◌, ◌≤◌, ◌<◌, ◌+◌, ◌++◌, ◌&&◌, ◌-◌, nat_lt, IsTrue, Ok, OnOk, IfOk, IfSome, IfNone, IsOkUnless};
 ghost use Rattle.std.specs.Prelude.{length, map, min, take, drop};
 ghost use Rattle.merkle_base.specs.Tree.{Tree, first_leaf, end_leaf};
 ghost use Rattle.merkle_hasher.specs.Subtrees.{Denotes};
 ghost use Rattle.merkle_hasher.specs.declared.subtree.Subtree.{Subtree};
 ghost use Rattle.merkle_proof.specs.Input.{input_of};
 ghost use Rattle.merkle_root_theory.specs.Range.{AcceptsNonempty, IsEmptyInput};
+ghost use Rattle.merkle_root_theory.specs.Reads.{nodes_read};
 ghost use Rattle.merkle_root_theory.specs.Reconstruction.{reconstructed};
 ghost use Rattle.merkle_hasher.specs.LeafDigests.{bytes_of};
 ghost use Rattle.merkle_store_theory.specs.StoreValue.{store_of};
@@ -14,7 +15,7 @@ ghost use Rattle.merkle_audit_parts.specs.Claimed.{digest_in_claim, range_pair, 
 use crate::nodes::Hashes;
 use crate::top::{Shape, Top, above_peaks};
 use merkle_core::digest::Digest;
-use merkle_core::error::Error;
+use merkle_core::error::{Error, ReconstructionError};
 use merkle_core::family::Family;
 use merkle_core::hasher::Hasher;
 use merkle_core::location::Location;
@@ -201,6 +202,74 @@ fn empty_claim<F: Family, H: Hasher<F>>(
         nodes,
         peaks: Vec::new(alloc),
     })
+}
+
+// Whether an input of a range check leads to no root.
+fn leads_nowhere<F: Family, H: Hasher<F>>(
+    hasher: &H,
+    proof: &Proof<F, H::Digest>,
+    elements: &[&[u8]],
+    start: Location<F>,
+) -> Result<bool, AllocError>
+    ensures { let s = H.scheme hasher.now in
+        let r = input_of s proof.now start (bytes_of elements.now) in
+        IfOk result (λ yes. IsTrue yes → (d : H.Digest) → reconstructed s r ≢ Ok d) }
+{
+    match proof.reconstruct_root(hasher, elements, start) {
+        Ok(_) => Ok(false),
+        Err(error) => match error {
+            ReconstructionError::OutOfMemory => Err(AllocError),
+            _ => Ok(true),
+        },
+    }
+}
+
+// Returns the number of digests of a proof of a plan's range, of which the peaks are in these groups.
+fn digest_count<F: Family>(plan: &RangePlan<F>, groups: &Groups) -> usize
+    ensures { let nodes = nodes_read F.rule plan.now.leaves plan.now.start plan.now.end in
+        result ≡ (length nodes - (groups.now.folded - 1)) - (groups.now.suffix - 1) }
+{
+    let folded = groups.folded.saturating_sub(1);
+    let suffix = groups.suffix.saturating_sub(1);
+    plan.reads()
+        .len()
+        .saturating_sub(folded)
+        .saturating_sub(suffix)
+}
+
+/// Whether the shape of an input of a range check is refused, so that it leads to no root. No element
+/// and no node is hashed.
+///
+/// # Errors
+///
+/// - `AllocError` if a memory request is refused
+pub fn is_shape_refused<F: Family, H: Hasher<F>>(
+    hasher: &H,
+    proof: &Proof<F, H::Digest>,
+    elements: &[&[u8]],
+    start: Location<F>,
+) -> Result<bool, AllocError>
+    ensures { let s = H.scheme hasher.now in
+        let r = input_of s proof.now start (bytes_of elements.now) in
+        IfOk result (λ yes. IsTrue yes → (d : H.Digest) → reconstructed s r ≢ Ok d) }
+{
+    if elements.is_empty() {
+        return leads_nowhere(hasher, proof, elements, start);
+    }
+    let Some(end) = start.checked_add(elements.len() as u64) else {
+        return Ok(true);
+    };
+    let plan = match RangePlan::new(*proof.digests.allocator(), proof.leaves, start..end) {
+        Ok(plan) => plan,
+        Err(error) => match error {
+            Error::OutOfMemory => return Err(AllocError),
+            _ => return Ok(true),
+        },
+    };
+    let Some(groups) = plan.groups(hasher.root_bagging(), proof.inactive_peaks) else {
+        return Ok(true);
+    };
+    Ok(proof.digests.len() != digest_count(&plan, &groups))
 }
 
 /// Returns all that is hashed for an input of a range check, if it is accepted.

@@ -46,6 +46,42 @@ pub fn leaf_count<F: Family>(length: usize) -> Result<Location<F>, Error<F>>
     }
 }
 
+/// Returns the number of peaks of a list of `leaves` leaves.
+///
+/// Requires `leaves` to be at most [`MAX_LEAVES`](Family::MAX_LEAVES).
+pub(crate) fn peak_count<F: Family>(leaves: Location<F>) -> usize
+    requires { leaves ≤ F.MAX_LEAVES }
+    ensures { result ≡ length (peaks_of F.rule leaves) }
+{
+    F::nodes_to_pin(leaves).count()
+}
+
+/// Returns the leaf count of a list of `count` leaves, which has at least `inactive` peaks. It hashes
+/// nothing.
+///
+/// # Errors
+///
+/// The first that applies:
+/// - `LocationOverflow` of the leaf count if it exceeds [`MAX_LEAVES`](Family::MAX_LEAVES)
+/// - `InvalidInactivePeaks` if `inactive` exceeds the number of peaks
+pub fn allowed_count<F: Family>(count: usize, inactive: usize) -> Result<Location<F>, Error<F>>
+    ensures ok { IfOk result (λ n. (n ≡ count) × (n ≤ F.MAX_LEAVES) × (inactive ≤ length (peaks_of F.rule n))) }
+    ensures err { IfErr result (λ e. first_case (list_refusals F.rule F.MAX_LEAVES count inactive) ≡ Some e) }
+{
+    let leaves = match leaf_count(count) {
+        Ok(leaves) => leaves,
+        Err(error) => return Err(error),
+    };
+    let peaks = peak_count(leaves);
+    if inactive > peaks {
+        return Err(Error::InvalidInactivePeaks {
+            requested: inactive,
+            peaks,
+        });
+    }
+    Ok(leaves)
+}
+
 impl<F: Family, D: Digest> ListNodes<F, D> {
     /// Computes the nodes of a list.
     ///
@@ -162,7 +198,8 @@ pub struct HashedList<F: Family, D: Digest> {
 }
 
 impl<F: Family, D: Digest> HashedList<F, D> {
-    /// Computes all that is hashed for a list and a number of inactive peaks.
+    /// Computes all that is hashed for a list and a number of inactive peaks. A list that is refused costs
+    /// no hash.
     ///
     /// # Errors
     ///
@@ -182,10 +219,11 @@ impl<F: Family, D: Digest> HashedList<F, D> {
         ensures within { IfOk result (λ _. (length list.now ≤ F.MAX_LEAVES) × (inactive ≤ length (peaks_of F.rule (length list.now)))) }
         ensures hashed { let s = H.scheme hasher.now in IfOk result (λ l. IsHashedList s list.now inactive l) }
     {
-        let leaves = match leaf_count(list.len()) {
+        let leaves = match allowed_count(list.len(), inactive) {
             Ok(leaves) => leaves,
             Err(error) => return Err(error),
         };
+        let peaks = list_peaks(alloc, leaves)?;
         let nodes = match ListNodes::new(alloc, hasher, list) {
             Ok(nodes) => nodes,
             Err(error) => return Err(error),
@@ -194,7 +232,6 @@ impl<F: Family, D: Digest> HashedList<F, D> {
             Ok(root) => root,
             Err(error) => return Err(error),
         };
-        let peaks = list_peaks(alloc, leaves)?;
         let Ok(top) = nodes.top(alloc, hasher, inactive, &peaks) else {
             return Err(Error::OutOfMemory);
         };

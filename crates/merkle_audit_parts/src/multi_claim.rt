@@ -1,9 +1,10 @@
 //! What is hashed for an accepted input of a check of scattered leaves.
-ghost use Rattle.std.specs.Prelude.{◌≡◌, ◌≤◌, ◌<◌, Option, IfOk, IsOkUnless, length, map, flat_map, option_map};
+ghost use Rattle.std.specs.Prelude.{◌≡◌, ◌≢◌, ◌≤◌, ◌<◌, Option, IfOk, IsOkUnless, IsTrue, length, map, flat_map, option_map};
 ghost use Rattle.std.specs.List.{AllByRecursion};
 ghost use Rattle.std.specs.List.Sorted.{IsStrictlyIncreasing};
 ghost use Rattle.merkle_base.specs.Forest.{size};
 ghost use Rattle.merkle_base.specs.Places.{peaks_of};
+ghost use Rattle.merkle_base.specs.Scheme.{Scheme};
 ghost use Rattle.merkle_proof.specs.Input.{multi_input_of};
 ghost use Rattle.merkle_scattered.specs.MultiPositions.{AreLocations};
 ghost use Rattle.merkle_root_theory.specs.Expression as theory;
@@ -16,10 +17,12 @@ ghost use Rattle.merkle_audit_theory.specs.Seen.{Sees};
 ghost use Rattle.merkle_audit_parts.specs.Chosen.{multi_pair};
 ghost use Rattle.merkle_audit_parts.specs.Hashed.{located, top_of};
 
+use crate::list::peak_count;
 use crate::nodes::Hashes;
 use crate::scattered::{LeafProof, walk_all};
 use crate::top::{Shape, Top, above_peaks};
 use crate::verdict::Collision;
+use merkle_core::digest::Digest;
 use merkle_core::error::Error;
 use merkle_core::family::Family;
 use merkle_core::hasher::Hasher;
@@ -79,6 +82,49 @@ fn read_positions<F: Family>(
         Ok(positions) => Ok(positions),
         Err(error) => Err(error),
     }
+}
+
+// Whether locations are refused, or a proof of these leaves has another number of digests.
+fn are_places_refused<F: Family>(
+    alloc: Global,
+    leaves: Location<F>,
+    locations: &[Location<F>],
+    digests: usize,
+) -> Result<bool, AllocError>
+    ensures { IfOk result (λ yes. IsTrue yes → AreLocations F.MAX_LEAVES leaves locations.now
+        → length (multi_positions F.rule leaves locations.now) ≢ digests) }
+{
+    match multi_proof_positions(alloc, leaves, locations) {
+        Ok(positions) => Ok(positions.len() != digests),
+        Err(error) => match error {
+            Error::OutOfMemory => Err(AllocError),
+            _ => Ok(true),
+        },
+    }
+}
+
+/// Whether the shape of an input of a check of scattered leaves is refused, so that it is accepted
+/// against no root. Nothing is hashed.
+///
+/// # Errors
+///
+/// - `AllocError` if a memory request is refused
+pub fn is_shape_refused<F: Family, D: Digest>(
+    proof: &Proof<F, D>,
+    elements: &[(&[u8], Location<F>)],
+) -> Result<bool, AllocError>
+    ensures { IfOk result (λ yes. IsTrue yes → (s : Scheme D) (root : D) → s.rule ≡ F.rule → s.max_leaves ≡ F.MAX_LEAVES
+        → ¬ (AcceptsMulti s (multi_input_of s proof.now elements.now) root)) }
+{
+    if proof.leaves.is_valid() && proof.inactive_peaks > peak_count(proof.leaves) {
+        return Ok(true);
+    }
+    if elements.is_empty() {
+        return Ok(proof.leaves.as_u64() > 0 || !proof.digests.is_empty());
+    }
+    let alloc = *proof.digests.allocator();
+    let locations = list_locations(alloc, elements)?;
+    are_places_refused(alloc, proof.leaves, &locations, proof.digests.len())
 }
 
 /// Returns what is hashed for an accepted input above the peaks, and the first node where what is

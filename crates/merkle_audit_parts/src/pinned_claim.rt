@@ -1,5 +1,5 @@
 //! What is hashed for an accepted input of a check of a range with pins.
-ghost use Rattle.std.specs.Prelude.{◌≡◌, ◌≤◌, ◌<◌, ◌+◌, ◌++◌, List, IfOk, IfSome, IfNone, OnOk, IsOkUnless};
+ghost use Rattle.std.specs.Prelude.{◌≡◌, ◌≤◌, ◌<◌, ◌+◌, ◌++◌, List, IfOk, IfSome, IfNone, OnOk, IsOkUnless, IsTrue};
 ghost use Rattle.std.specs.Prelude.{length, map, min, take, drop};
 ghost use Rattle.merkle_base.specs.Tree.{Tree};
 ghost use Rattle.merkle_hasher.specs.Subtrees.{AreNodes, subtree_of};
@@ -11,6 +11,7 @@ ghost use Rattle.merkle_store_theory.specs.StoreValue.{store_of};
 ghost use Rattle.merkle_pins_theory.specs.PinnedNodes.{pinned_value};
 ghost use Rattle.merkle_audit_parts.specs.PinnedClaimed.{digest_given, pin_in, IsPinnedClaim};
 
+use crate::claim::is_shape_refused;
 use crate::pin_nodes::{PinnedNodes, pin_positions, pinned_digest};
 use crate::top::{Shape, Top, above_peaks};
 use merkle_core::digest::Digest;
@@ -195,6 +196,29 @@ fn pinned_claim<F: Family, H: Hasher<F>>(
             _ => unreachable!(),
         },
     }
+}
+
+/// Whether the shape of an input of a range check with pins is refused, so that it is accepted against
+/// no root. No element and no node is hashed.
+///
+/// # Errors
+///
+/// - `AllocError` if a memory request is refused
+pub fn is_pinned_shape_refused<F: Family, H: Hasher<F>>(
+    hasher: &H,
+    proof: &Proof<F, H::Digest>,
+    elements: &[&[u8]],
+    start: Location<F>,
+    pinned_nodes: &[H::Digest],
+) -> Result<bool, AllocError>
+    ensures { let s = H.scheme hasher.now in
+        let r = input_of s proof.now start (bytes_of elements.now) in
+        IfOk result (λ yes. IsTrue yes → (root : H.Digest) → ¬ (AcceptsPinned s r pinned_nodes.now root)) }
+{
+    if is_shape_refused(hasher, proof, elements, start)? {
+        return Ok(true);
+    }
+    Ok(start.is_valid() && pinned_nodes.len() != F::nodes_to_pin(start).count())
 }
 
 /// Returns all that is hashed for an input, if it is accepted.

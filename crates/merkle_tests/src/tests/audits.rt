@@ -1,4 +1,4 @@
-//! Audits by SHA-256 and by a hasher with a key, and audits that hash no node of the list.
+//! Audits by SHA-256 and by a hasher with a key, and audits that hash nothing.
 //!
 //! The list is of the elements 01, 02 and 04 in a Mountain Range. Its digests by SHA-256 were computed by another program.
 
@@ -163,7 +163,7 @@ fn by_a_key(rt: HostRuntime) {
     );
 }
 
-// A list that is refused, and an input whose shape is, cost no hash of a node.
+// A list that is refused, and an input whose shape is, cost no hash of a node or of a leaf.
 #[test]
 fn without_a_hash(rt: HostRuntime) {
     let (pairs, singles, leaves) = (Cell::new(0), Cell::new(0), Cell::new(0));
@@ -221,7 +221,7 @@ fn without_a_hash(rt: HostRuntime) {
     let newest = proof(&rt, &[digest(&rt, 0)]);
     let said = audit_pins::<Family, _>(&hasher, &list, 0, &newest, &[&[4]], last, &list);
     assert!(rt; matches!(&said, Ok(Verdict::Rejected)));
-    assert_eq!(rt; (pairs.get(), singles.get()), (0, 0));
+    assert_eq!(rt; (pairs.get(), singles.get(), leaves.get()), (0, 0, 0));
 
     let said = audit_range::<Family, _>(&hasher, &list, 0, &leaf, &[&[1]], first);
     assert!(rt; matches!(&said, Ok(Verdict::Honest)));
