@@ -19,6 +19,9 @@ use std::alloc::Global;
 /// recorded, `claimed`: says whether the batch is refused, since its list has another length or other
 /// peaks, whether both are one list, or else which nodes of the two collide.
 ///
+/// Lists that are refused, and lists of two lengths, cost no hash. Else each list is hashed once, as by
+/// `merkleize`, and the nodes of both are kept as long as the audit takes.
+///
 /// # Errors
 ///
 /// The first that applies:
@@ -26,6 +29,16 @@ use std::alloc::Global;
 /// - `LocationOverflow` of the length of `claimed` if it exceeds [`MAX_LEAVES`](Family::MAX_LEAVES)
 ///
 /// `OutOfMemory` at any point if a memory request is refused.
+///
+/// # Examples
+///
+/// ```
+/// // `list` has the leaf digests of the elements 01, 02 and 04.
+/// let same = audit_apply::<mmr::Family, _>(alloc, &hasher, &list, &list);
+/// assert!(rt; matches!(&same, Ok(ApplyVerdict::Same)));
+/// let shorter = audit_apply::<mmr::Family, _>(alloc, &hasher, &list, &list[..2]);
+/// assert!(rt; matches!(&shorter, Ok(ApplyVerdict::Refused)));
+/// ```
 pub fn audit_apply<F: Family, H: Hasher<F>>(
     alloc: Global,
     hasher: &H,

@@ -5,8 +5,8 @@ ghost use Rattle.merkle_base.specs.Places.{peaks_of};
 ghost use Rattle.merkle_proof.specs.Input.{multi_input_of};
 ghost use Rattle.merkle_audit_parts.specs.Found.{list_refusals, IsMultiVerdict};
 
-use merkle_audit_parts::list::HashedList;
-use merkle_audit_parts::multi_claim::accepted;
+use merkle_audit_parts::list::{HashedList, allowed_count};
+use merkle_audit_parts::multi_claim::{accepted, is_shape_refused};
 use merkle_audit_parts::nodes::first_of;
 use merkle_audit_parts::range::verdict;
 use merkle_audit_parts::top::first_above;
@@ -23,6 +23,11 @@ use merkle_core::proof::Proof;
 ///
 /// Where the proof has a digest that is computed too, it is hashed as it is computed.
 ///
+/// A list that is refused, and an input whose shape is refused, by its locations or by its numbers of
+/// digests and of inactive peaks, cost no hash. Else the list is hashed once, as by `merkleize`, and
+/// the input by the check and, if it is accepted, once more; of each node that is hashed then, its
+/// place among the positions of the proof and among the locations is found by binary search.
+///
 /// # Errors
 ///
 /// The first that applies:
@@ -30,6 +35,22 @@ use merkle_core::proof::Proof;
 /// - `InvalidInactivePeaks` if `inactive` exceeds the number of peaks of the list
 ///
 /// `OutOfMemory` at any point if a memory request is refused.
+///
+/// # Examples
+///
+/// ```
+/// // `log` has the elements 01, 02 and 04, and `list` their leaf digests.
+/// let locations = [Location::new(0), Location::new(2)];
+/// let Ok(proof) = verification::multi_proof(alloc, &log, 0, &locations) else {
+///     return None;
+/// };
+/// let elements: [(&[u8], mmr::Location); 2] = [(&[1], locations[0]), (&[4], locations[1])];
+/// let honest = audit_multi(&hasher, &list, 0, &proof, &elements);
+/// assert!(rt; matches!(&honest, Ok(Verdict::Honest)));
+/// let others: [(&[u8], mmr::Location); 2] = [(&[1], locations[0]), (&[5], locations[1])];
+/// let other = audit_multi(&hasher, &list, 0, &proof, &others);
+/// assert!(rt; matches!(&other, Ok(Verdict::Rejected)));
+/// ```
 pub fn audit_multi<F: Family, H: Hasher<F>>(
     hasher: &H,
     list: &[H::Digest],
@@ -43,6 +64,13 @@ pub fn audit_multi<F: Family, H: Hasher<F>>(
     ensures judged { let s = H.scheme hasher.now in IfOk result (IsMultiVerdict s list.now inactive (multi_input_of s proof.now elements.now)) }
 {
     let alloc = *proof.digests.allocator();
+    match allowed_count::<F>(list.len(), inactive) {
+        Ok(_) => {}
+        Err(error) => return Err(error),
+    }
+    if is_shape_refused(proof, elements)? {
+        return Ok(Verdict::Rejected);
+    }
     let listed = match HashedList::new(alloc, hasher, list, inactive) {
         Ok(listed) => listed,
         Err(error) => return Err(error),

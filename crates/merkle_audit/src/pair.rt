@@ -18,9 +18,27 @@ use merkle_core::proof::Proof;
 /// of them is rejected, whether they are consistent, or else what both hashed that collides. So who
 /// holds two answers that contradict each other, and no list, has evidence against one of them.
 ///
+/// Each input is hashed once, as by the check and by extraction.
+///
 /// # Errors
 ///
 /// - `OutOfMemory` if a memory request is refused
+///
+/// # Examples
+///
+/// ```
+/// // `root` is that of the elements 01, 02 and 04 by `Xor8`, and `log` has them.
+/// let start = Location::new(0);
+/// let Ok(proof) = log.range_proof(&hasher, start..Location::new(1), 0) else {
+///     return None;
+/// };
+/// let mut other = proof.clone().ok()?;
+/// *other.digests.last_mut()? = Xor8Digest::EMPTY;
+/// let answers: [&[u8]; 2] = [&[1], &[2]];
+/// let (one, two) = ((&proof, &answers[..1], start), (&other, &answers[1..], start));
+/// let found = audit_pair(&hasher, &root, one, two);
+/// assert!(rt; matches!(&found, Ok(PairVerdict::Collision { .. })));
+/// ```
 pub fn audit_pair<F: Family, H: Hasher<F>>(
     hasher: &H,
     root: &H::Digest,

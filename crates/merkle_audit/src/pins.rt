@@ -5,10 +5,10 @@ ghost use Rattle.merkle_base.specs.Places.{peaks_of};
 ghost use Rattle.merkle_audit_parts.specs.Found.{list_refusals};
 ghost use Rattle.merkle_audit.specs.Given.{IsVerdictOnPins};
 
-use merkle_audit_parts::list::HashedList;
+use merkle_audit_parts::list::{HashedList, allowed_count};
 use merkle_audit_parts::nodes::first_of;
 use merkle_audit_parts::pin_nodes::first_pinned_below;
-use merkle_audit_parts::pinned_claim::{PinnedClaim, accepted_pins};
+use merkle_audit_parts::pinned_claim::{PinnedClaim, accepted_pins, is_pinned_shape_refused};
 use merkle_audit_parts::range::verdict;
 use merkle_audit_parts::top::first_above;
 use merkle_audit_parts::verdict::Verdict;
@@ -27,6 +27,10 @@ use merkle_core::proof::Proof;
 /// The nodes and folds that the check rebuilds from the pins count as hashed. Each such node is
 /// hashed once for each node over it.
 ///
+/// A list that is refused, and an input whose shape is refused, by its number of pins too, cost no hash
+/// of the list. Else the list is hashed once, as by `merkleize`, and the input by the check and, if it is
+/// accepted, once more.
+///
 /// # Errors
 ///
 /// The first that applies:
@@ -34,6 +38,21 @@ use merkle_core::proof::Proof;
 /// - `InvalidInactivePeaks` if `inactive` exceeds the number of peaks of the list
 ///
 /// `OutOfMemory` at any point if a memory request is refused.
+///
+/// # Examples
+///
+/// ```
+/// // `log` has the elements 01, 02 and 04, and `list` their leaf digests. The node at position 2 is over the first two.
+/// let start = Location::new(2);
+/// let Ok(proof) = log.range_proof(&hasher, start..log.leaves(), 0) else {
+///     return None;
+/// };
+/// let pins = [log.get_node(Position::new(2))?];
+/// let honest = audit_pins(&hasher, &list, 0, &proof, &[&[4]], start, &pins);
+/// assert!(rt; matches!(&honest, Ok(Verdict::Honest)));
+/// let without = audit_pins(&hasher, &list, 0, &proof, &[&[4]], start, &[]);
+/// assert!(rt; matches!(&without, Ok(Verdict::Rejected)));
+/// ```
 pub fn audit_pins<F: Family, H: Hasher<F>>(
     hasher: &H,
     list: &[H::Digest],
@@ -50,6 +69,13 @@ pub fn audit_pins<F: Family, H: Hasher<F>>(
         IsVerdictOnPins (H.scheme hasher.now) list.now inactive proof.now start elements.now pinned_nodes.now) }
 {
     let alloc = *proof.digests.allocator();
+    match allowed_count::<F>(list.len(), inactive) {
+        Ok(_) => {}
+        Err(error) => return Err(error),
+    }
+    if is_pinned_shape_refused(hasher, proof, elements, start, pinned_nodes)? {
+        return Ok(Verdict::Rejected);
+    }
     let listed = match HashedList::new(alloc, hasher, list, inactive) {
         Ok(listed) => listed,
         Err(error) => return Err(error),

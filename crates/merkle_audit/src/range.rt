@@ -6,8 +6,8 @@ ghost use Rattle.merkle_proof.specs.Input.{input_of};
 ghost use Rattle.merkle_hasher.specs.LeafDigests.{bytes_of};
 ghost use Rattle.merkle_audit_parts.specs.Found.{list_refusals, IsRangeVerdict};
 
-use merkle_audit_parts::claim::{Claim, accepted};
-use merkle_audit_parts::list::HashedList;
+use merkle_audit_parts::claim::{Claim, accepted, is_shape_refused};
+use merkle_audit_parts::list::{HashedList, allowed_count};
 use merkle_audit_parts::range::{first_difference, verdict};
 use merkle_audit_parts::verdict::Verdict;
 use merkle_core::digest::Digest;
@@ -21,8 +21,9 @@ use merkle_core::proof::Proof;
 /// hand: says whether the check rejects the input, whether it is the honest one of the list, or else
 /// what the check hashed that collides with the list.
 ///
-/// The list is hashed once, as by `merkleize`, and the input as by the check and by extraction. The
-/// nodes of the list are kept as long as the audit takes.
+/// A list that is refused, and an input whose shape is refused, so that it leads to no root, cost no
+/// hash of the list. Else the list is hashed once, as by `merkleize`, and the input once, as by the
+/// check and by extraction. The nodes of the list are kept as long as the audit takes.
 ///
 /// # Errors
 ///
@@ -60,6 +61,13 @@ pub fn audit_range<F: Family, H: Hasher<F>>(
         IfOk result (IsRangeVerdict s list.now inactive (input_of s proof.now start (bytes_of elements.now))) }
 {
     let alloc = *proof.digests.allocator();
+    match allowed_count::<F>(list.len(), inactive) {
+        Ok(_) => {}
+        Err(error) => return Err(error),
+    }
+    if is_shape_refused(hasher, proof, elements, start)? {
+        return Ok(Verdict::Rejected);
+    }
     let listed = match HashedList::new(alloc, hasher, list, inactive) {
         Ok(listed) => listed,
         Err(error) => return Err(error),

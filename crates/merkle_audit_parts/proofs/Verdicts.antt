@@ -1,6 +1,6 @@
 -- What audits say, by what their search finds.
-use Rattle.std.proofs.Common.{◌≡◌, ◌≢◌, ◌↔◌, ℕ, ◌≤◌, ◌<◌, ⊎_elim, Bool, true, false, List, length, Option, Some, None, IfSome, IfNone, Result, Ok, Err, IfOk, Decides, refl, sym, ◌∙◌, subst}
-use Rattle.std.proofs.lemmas.Bool.{false≢true, cases_lt}
+use Rattle.std.proofs.Common.{◌≡◌, ◌≢◌, ◌↔◌, ℕ, ◌≤◌, Bool, true, false, List, length, Option, Some, None, IfSome, IfNone, Result, Ok, Err, IfOk, Decides, refl, sym, ◌∙◌, subst}
+use Rattle.std.proofs.lemmas.Bool.{false≢true}
 use Rattle.std.specs.Cmp.Lexicographic.{pointwise, pointwise_decides}
 use Rattle.merkle_base.specs.Hashing.{Hashing, EqDecides}
 use Rattle.merkle_base.specs.Places.{peaks_of}
@@ -37,13 +37,7 @@ alike same decides r ps qs xs zs e a b = (
   λ z. e ∙ (pointwise_decides decides ps qs).1 (a ∙ sym z ∙ sym b),
 )
 
--- a root that is computed has no more inactive peaks than there are
-pub low_of : {A E : Type 0} (n k : ℕ) (a : A) (e : E) → (n < k → ◌≡◌ {A = Result A E} (Ok a) (Err e)) → k ≤ n
-low_of n k a e f = ⊎_elim (λ l. absurd (ok_err a e (f l))) (λ l. l) (cases_lt n k)
-  where
-    ok_err : {A E : Type 0} (a : A) (e : E) → ◌≡◌ {A = Result A E} (Ok a) (Err e) → ⊥
-    ok_err a e q = cc
-
+-- the value of a result
 pub one_ok : {A E : Type 0} (a b : A) → ◌≡◌ {A = Result A E} (Ok a) (Ok b) → a ≡ b
 one_ok a b e = cc
 
