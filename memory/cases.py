@@ -2,7 +2,8 @@
 
 A file is made of blocks with an empty line after each, of which each stands for itself:
     refuse NAME..              the calls whose requests are refused; without this line all are
-    quiet NAME..               in its place: the calls that have to make no request
+    quiet NAME..               in its place: the calls that have to make no request; of `rows` none beside the program's own, which are those of
+                               the same line with a word that is an error before the library requests memory
     new mmr|mmb forward xor8   the block is run for each choice
     {root m 0}                 what the program answers to that line at that place, so that proofs and roots needn't be written out
     02^1100                    that byte 1,100 times
@@ -127,8 +128,16 @@ def loud(task):
     program, path, rows, at = task
     lines = filled(program, rows)
     check_answers(program, path, rows, lines, at)
-    count = requests(program, lines[:at + 1]) - requests(program, lines[:at])
+    none = lines[:at] + (early_line(program, lines[at]),) if program == "rows" else lines[:at]
+    count = requests(program, lines[:at + 1]) - requests(program, none)
     return [f"WRONG {path}: line {rows[at][0]} {lines[at][:60]!r} makes {count} requests"] if count else []
+
+
+def early_line(program, line):
+    """The line of a call of `rows` with a word that is an error before the library requests memory."""
+    words = line.split(" ")
+    index, early = EARLY.get(call_of(program, line), (1, "?"))
+    return " ".join(words[:index] + [early] + words[index + 1:])
 
 
 def before_pending(lines, found, at):
@@ -153,9 +162,7 @@ def left_behind(program, lines, at):
 
 def own_requests(program, lines, at, before):
     """How many requests for a call of `rows`, which come after so many, the program makes for its words and its answer, about."""
-    words, name, answer = lines[at].split(" "), call_of(program, lines[at]), ample(program, lines)[at]
-    index, early = EARLY.get(name, (1, "?"))
-    bare = " ".join(words[:index] + [early] + words[index + 1:])
+    name, answer, bare = call_of(program, lines[at]), ample(program, lines)[at], early_line(program, lines[at])
     own = requests(program, lines[:at] + (bare,)) - before + (name in NAMING) + name.startswith("write_")
     if ample(program, lines[:at] + (bare,))[at] != "no":
         own += 1 + max(1, len(answer).bit_length() - 3) + len(re.findall(r"\b[0-9a-f]+\b", answer))
