@@ -76,7 +76,8 @@ fn by_sha256(rt: HostRuntime) {
     let answer: (&Proof<Sha256Digest>, &[&[u8]], Location) = (&leaf, &[&[1]], first);
     let said = audit_pair::<Family, _>(&hasher, &root, answer, (&newest, &[&[4]], last));
     assert!(rt; matches!(&said, Ok(PairVerdict::Consistent)));
-    let said = audit_pair::<Family, _>(&hasher, &root, answer, (&newest, &[&[5]], last));
+    let again: (&Proof<Sha256Digest>, &[&[u8]], Location) = (&leaf, &[&[1]], first);
+    let said = audit_pair::<Family, _>(&hasher, &root, again, (&newest, &[&[5]], last));
     assert!(rt; matches!(&said, Ok(PairVerdict::Rejected)));
 }
 
