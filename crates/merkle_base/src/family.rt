@@ -17,7 +17,7 @@ use std::fmt::Debug;
 /// An upper bound of the number of nodes to pin, for every family and location.
 pub const MAX_PINNED_NODES: usize = 64;
 
-/// A family of append-only Merkle structures.
+/// A family of Merkle structures: the forests of one merge rule.
 ///
 /// A family is defined by its merge rule. Adding leaf `n` stores the leaf at the next position;
 /// then the rule chooses which peaks to merge, and each merge creates one parent node at the next

@@ -164,9 +164,9 @@ fn by_a_key(rt: HostRuntime) {
     );
 }
 
-// A list that is refused, and an input whose shape is, cost no hash of a node or of a leaf.
+// A list that is refused costs no hash of a node or of a leaf.
 #[test]
-fn without_a_hash(rt: HostRuntime) {
+fn refused_list_without_a_hash(rt: HostRuntime) {
     let (pairs, singles, leaves) = (Cell::new(0), Cell::new(0), Cell::new(0));
     let hasher = Counting {
         bagging: Bagging::ForwardFold,
@@ -210,6 +210,23 @@ fn without_a_hash(rt: HostRuntime) {
             })
         )
     );
+    assert_eq!(rt; (pairs.get(), singles.get(), leaves.get()), (0, 0, 0));
+}
+
+// An input whose shape is refused costs no hash of a node or of a leaf, and one whose shape is not does.
+#[test]
+fn refused_shape_without_a_hash(rt: HostRuntime) {
+    let (pairs, singles, leaves) = (Cell::new(0), Cell::new(0), Cell::new(0));
+    let hasher = Counting {
+        bagging: Bagging::ForwardFold,
+        pairs: &pairs,
+        singles: &singles,
+        leaves: &leaves,
+        positions: &[],
+    };
+    let list = [digest(&rt, 1), digest(&rt, 3), digest(&rt, 7)];
+    let (first, last) = (Location::new(0), Location::new(2));
+    let ends: [(&[u8], Location); 2] = [(&[1], first), (&[4], last)];
 
     let short = proof::<Xor8Digest>(&rt, &[]);
     let said = audit_range::<Family, _>(&hasher, &list, 0, &short, &[&[1]], first);
@@ -224,6 +241,7 @@ fn without_a_hash(rt: HostRuntime) {
     assert!(rt; matches!(&said, Ok(Verdict::Rejected)));
     assert_eq!(rt; (pairs.get(), singles.get(), leaves.get()), (0, 0, 0));
 
+    let leaf = proof(&rt, &[list[2], list[1]]);
     let said = audit_range::<Family, _>(&hasher, &list, 0, &leaf, &[&[1]], first);
     assert!(rt; matches!(&said, Ok(Verdict::Honest)));
     assert!(rt; singles.get() > 0);
