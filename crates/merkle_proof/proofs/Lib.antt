@@ -9,3 +9,4 @@ pub mod MultiRefusals
 pub mod FewDigests
 pub mod ScatteredRoot
 pub mod LocatedDigests
+pub mod Verdicts

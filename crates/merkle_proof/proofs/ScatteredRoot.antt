@@ -1,5 +1,5 @@
 -- What a check of scattered leaves accepts, by what it computes of the peaks.
-use Rattle.std.proofs.Common.{◌≡◌, ◌↔◌, ℕ, ◌<◌, ◌≤◌, List, [], ◌∷◌, length, map, Option, Ok, option_map, inl, inr, refl, ap, ap₂, sym, ◌∙◌, subst, ⊎_elim, arith}
+use Rattle.std.proofs.Common.{◌≡◌, ◌≢◌, ◌↔◌, ℕ, ◌<◌, ◌≤◌, List, [], ◌∷◌, length, map, Option, Ok, option_map, inl, inr, refl, ap, ap₂, sym, ◌∙◌, subst, ⊎_elim, arith}
 use Rattle.std.specs.List.{AllByRecursion}
 use Rattle.std.specs.Borrow.{Bor}
 use Rattle.std.proofs.lemmas.List.{length-map}
@@ -19,13 +19,18 @@ use Rattle.merkle_base.specs.Table.{digest_for}
 use Rattle.merkle_claim_theory.proofs.ListedDigests.{EachPeak, each_of, of_each, plan_for}
 use Rattle.merkle_scattered.specs.Confirmed.{EachHolds, node_checked, nodes_checked, locations_of}
 use Rattle.merkle_range.specs.Input.{range_input}
-use Rattle.merkle_proof.specs.Input.{multi_input, element_leaves}
+use Rattle.merkle_proof.specs.Input.{by_location, element_leaves, located_input}
 use Rattle.merkle_scattered.specs.MultiPositions.{AreLocations}
 
 -- the locations of elements, which their leaf digests don't change
 pub locations_given : {D : Type 0} (h : Hashing D) (rule : List ℕ → List ℕ) (es : List (Bor (List ℕ) × ℕ)) → locations_of (element_leaves h rule es) ≡ map (λ e. e.1) es
 locations_given h rule [] = refl
 locations_given h rule (e ∷ es) = ap (λ is. e.1 ∷ is) (locations_given h rule es)
+
+-- the locations of leaves, which are given with them
+pub locations_by : {D : Type 0} (ls : List (D × ℕ)) → locations_of (by_location ls) ≡ map (λ l. l.1) ls
+locations_by [] = refl
+locations_by (l ∷ ls) = ap (λ is. l.1 ∷ is) (locations_by ls)
 
 -- leaves are within the limit that their locations keep
 pub within_limit : {A : Type 0} {m n : ℕ} (es : List (A × ℕ)) → AreLocations m n (map (λ e. e.1) es) → AllByRecursion (λ e. e.1 ≤ m) es
@@ -38,6 +43,10 @@ within_limit {A = A} {m = m} {n = n} es at = each_below es at.below
 -- what a check that tells digests at positions finds of the peaks
 abbrev pub PeaksAre : {D : Type 0} → Hashing D → List ℕ → List D → List (ℕ × D) → List Tree → List D → Type 0
 PeaksAre h ps ds es ts found = EachHolds h (digest_for ps ds) es ts × (found ≡ nodes_checked h (digest_for ps ds) es ts)
+
+pub some_by : {D : Type 0} (ls : List (D × ℕ)) → 0 < length ls → 0 < length (by_location ls)
+some_by [] l = absurd (omega (arith, l))
+some_by (k ∷ ls) l = omega arith
 
 pub some_given : {D : Type 0} (h : Hashing D) (rule : List ℕ → List ℕ) (es : List (Bor (List ℕ) × ℕ)) → 0 < length es → 0 < length (element_leaves h rule es)
 some_given h rule [] l = absurd (omega (arith, l))
@@ -62,6 +71,10 @@ module _ {D : Type 0} (s : Scheme D) (r : MultiInput D) where
   each_holds (peak t) w = w
   each_holds (folding place l q) w = (each_holds l w.0, each_holds q w.1)
 
+  -- there are leaves if there are locations
+  pub some_located_given : 0 < length (locations_in r) → 0 < length r.elements
+  some_located_given l = omega (arith, l, length-map r.elements (λ e. e.0))
+
   module _ (some : 0 < length r.elements) (root : D) where
     accepted_some : AcceptsMultiCases s r root → AcceptsMultiSome s r root
     accepted_some (inl w) = w
@@ -80,6 +93,10 @@ module _ {D : Type 0} (s : Scheme D) (r : MultiInput D) where
 
     pub accepted_count : AcceptsMultiCases s r root → length (multi_positions s.rule r.leaves (locations_in r)) ≡ length r.digests
     accepted_count ok = sym (accepted_some ok).counts
+
+    -- none is accepted of which no positions are read
+    pub never_read : (locations : List ℕ) → locations_in r ≡ locations → (AreLocations s.max_leaves r.leaves locations → length (multi_positions s.rule r.leaves locations) ≢ length r.digests) → AcceptsMultiCases s r root → ⊥
+    never_read locations same none ok = none (subst (AreLocations s.max_leaves r.leaves) same (accepted_locations ok)) (ap (λ is. length (multi_positions s.rule r.leaves is)) (sym same) ∙ accepted_count ok)
 
     pub accepted_each : AcceptsMultiCases s r root → EachIn
     accepted_each ok =
@@ -115,7 +132,7 @@ module _ {D : Type 0} (s : Scheme D) (r : MultiInput D) where
           })
 
 -- without elements the inputs that are accepted are those of a range
-pub empty_accepted : {D : Type 0} (s : Scheme D) (leaves inactive : ℕ) (digests : List D) (root : D) → (reconstructed s (range_input s leaves inactive digests 0 []) ≡ Ok root) ↔ AcceptsMultiCases s (multi_input s leaves inactive digests []) root
+pub empty_accepted : {D : Type 0} (s : Scheme D) (leaves inactive : ℕ) (digests : List D) (root : D) → (reconstructed s (range_input s leaves inactive digests 0 []) ≡ Ok root) ↔ AcceptsMultiCases s (located_input leaves inactive digests []) root
 empty_accepted s leaves inactive digests root =
     let r = range_input s leaves inactive digests 0 [] in
     let w = leads_is_accepted s r root in (
@@ -124,5 +141,5 @@ empty_accepted s leaves inactive digests root =
     )
 
 -- an input is known by the parts of its proof
-pub same_multi_input : {D : Type 0} (s : Scheme D) (es : List (Bor (List ℕ) × ℕ)) (n m k j : ℕ) (ds fs : List D) → n ≡ m → k ≡ j → ds ≡ fs → multi_input s n k ds es ≡ multi_input s m j fs es
-same_multi_input s es n m k j ds fs p q r = ap₂ (λ x y. multi_input s x y ds es) p q ∙ ap (λ z. multi_input s m j z es) r
+pub same_located_input : {D : Type 0} (located : List (ℕ × D)) (n m k j : ℕ) (ds fs : List D) → n ≡ m → k ≡ j → ds ≡ fs → located_input n k ds located ≡ located_input m j fs located
+same_located_input located n m k j ds fs p q r = ap₂ (λ x y. located_input x y ds located) p q ∙ ap (λ z. located_input m j z located) r

@@ -6,12 +6,12 @@ ghost use Rattle.merkle_root_theory.specs.Reconstruction.{reconstructed};
 ghost use Rattle.merkle_root_theory.specs.RootNames.{NamesRoot};
 ghost use Rattle.merkle_hasher.specs.LeafDigests.{bytes_of};
 ghost use Rattle.merkle_range.specs.Extracting.{RefusesExtraction};
-ghost use Rattle.merkle_proof.specs.Input.{input_of, multi_input_of};
+ghost use Rattle.merkle_proof.specs.Input.{digest_input_of, input_of, multi_digest_input_of, multi_input_of};
 ghost use Rattle.merkle_claim_theory.specs.CheckAnswers.{IsReconstructionRefusal, IsExactForRange, IsCompleteForRange, IsSoundForRange, IsCompleteForMulti, IsSoundForMulti, IsExactForPins, IsCompleteForPins, IsSoundForPins, TellsOldRoot, IsExtraction, AreNodePairs};
 
 pub use crate::element_plan::ElementPlan;
 pub use crate::multi::multi_proof_positions;
-use crate::multi_checks::verify_multi;
+use crate::multi_checks::{verify_multi, verify_multi_leaf_digests};
 pub use crate::range_plan::{Groups, RangeCounts, RangePlan};
 use merkle_base::error::{Error, OutOfMemory, ReconstructionError};
 use merkle_base::family::Family;
@@ -19,9 +19,9 @@ use merkle_base::location::Location;
 use merkle_base::position::Position;
 use merkle_digest::digest::Digest;
 use merkle_hasher::hasher::Hasher;
-use merkle_range::checks::{ProofParts, reconstruct_root, verify_range};
+use merkle_range::checks::{ProofParts, reconstruct_root, verify_leaf_digests, verify_range};
 use merkle_range::extraction::verify_and_extract;
-use merkle_range::pins::verify_pinned;
+use merkle_range::pins::{verify_pinned, verify_pinned_leaf_digests};
 use std::alloc::{AllocError, Global};
 
 /// The greatest number of digests of a proof of one element, in the Mountain Range and in the
@@ -350,5 +350,171 @@ impl<F: Family, D: Digest> Proof<F, D> {
         ensures sound { let s = H.scheme hasher.now in IfOk result (IsSoundForMulti s root.now (multi_input_of s self.now elements.now)) }
     {
         verify_multi(&self.parts(), hasher, elements, root)
+    }
+
+    /// Whether the leaves from location `start` on of the list behind `root` have these digests.
+    ///
+    /// This is [`verify_range_inclusion`](Proof::verify_range_inclusion) for those who have the
+    /// digests of leaves in place of the elements: each is to be what
+    /// [`leaf_digest`](Hasher::leaf_digest) gives for the leaf's position and its element, so that
+    /// the caller vouches for what was hashed. The check over elements is this one over their
+    /// digests. Only nodes, folds and the root are hashed.
+    ///
+    /// The result depends only on the arguments and the proof. `true` means that the proof is the
+    /// honest one of these leaves, or else that the computation and the list hash different inputs
+    /// to the same digest at the same place. An honest proof never gives `false`. If the result is
+    /// `true`, the root is the hash of a string that begins with the family's byte, the hasher's
+    /// bagging and the leaf count of the proof. Without digests of leaves the result is `true` for
+    /// the empty proof, from location 0 on and against the root of no leaves, and `false`
+    /// otherwise.
+    ///
+    /// # Errors
+    ///
+    /// - `OutOfMemory` if a memory request is refused
+    pub fn verify_leaf_digests_inclusion<H: Hasher<F, Digest = D>>(
+        &self,
+        hasher: &H,
+        digests: &[D],
+        start: Location<F>,
+        root: &D,
+    ) -> Result<bool, OutOfMemory>
+        ensures exact { let s = H.scheme hasher.now in IfOk result (IsExactForRange s root.now (digest_input_of self.now start digests.now)) }
+        ensures names { let s = H.scheme hasher.now in
+            IfOk result (λ yes. IsTrue yes → NamesRoot s self.now.leaves root.now) }
+        ensures honest { let s = H.scheme hasher.now in IfOk result (IsCompleteForRange s root.now (digest_input_of self.now start digests.now)) }
+        ensures sound { let s = H.scheme hasher.now in IfOk result (IsSoundForRange s root.now (digest_input_of self.now start digests.now)) }
+    {
+        verify_leaf_digests(&self.parts(), hasher, digests, start, root)
+    }
+
+    /// Whether the leaf at `location` of the list behind `root` has the digest `digest`.
+    ///
+    /// This is [`verify_element_inclusion`](Proof::verify_element_inclusion) for those who have the
+    /// digest of the leaf in place of the element: it is to be what
+    /// [`leaf_digest`](Hasher::leaf_digest) gives for the leaf's position and its element, so that
+    /// the caller vouches for what was hashed. Only nodes, folds and the root are hashed.
+    ///
+    /// The result depends only on the arguments and the proof. `true` means that the proof is the
+    /// honest one of that leaf, or else that the computation and the list hash different inputs to
+    /// the same digest at the same place. An honest proof never gives `false`. If the result is
+    /// `true`, the root is the hash of a string that begins with the family's byte, the hasher's
+    /// bagging and the leaf count of the proof.
+    ///
+    /// # Errors
+    ///
+    /// - `OutOfMemory` if a memory request is refused
+    ///
+    /// # Examples
+    ///
+    /// ```
+    /// // `log` has the elements 01, 02 and 04.
+    /// let location = Location::new(1);
+    /// let Ok(proof) = log.proof(&hasher, location, 0) else {
+    ///     return None;
+    /// };
+    /// let digest = hasher.leaf_digest(mmr::Family::location_to_position(location), &[2]);
+    /// let checked = proof.verify_leaf_digest_inclusion(&hasher, &digest, location, &root);
+    /// assert!(rt; matches!(&checked, Ok(true)));
+    /// ```
+    pub fn verify_leaf_digest_inclusion<H: Hasher<F, Digest = D>>(
+        &self,
+        hasher: &H,
+        digest: &D,
+        location: Location<F>,
+        root: &D,
+    ) -> Result<bool, OutOfMemory>
+        ensures exact { let s = H.scheme hasher.now in IfOk result (IsExactForRange s root.now (digest_input_of self.now location (digest.now ∷ []))) }
+        ensures names { let s = H.scheme hasher.now in
+            IfOk result (λ yes. IsTrue yes → NamesRoot s self.now.leaves root.now) }
+        ensures honest { let s = H.scheme hasher.now in IfOk result (IsCompleteForRange s root.now (digest_input_of self.now location (digest.now ∷ []))) }
+        ensures sound { let s = H.scheme hasher.now in IfOk result (IsSoundForRange s root.now (digest_input_of self.now location (digest.now ∷ []))) }
+    {
+        self.verify_leaf_digests_inclusion(hasher, &[*digest], location, root)
+    }
+
+    /// Whether the leaves, each at its location, of the list behind `root` have these digests.
+    ///
+    /// This is [`verify_multi_inclusion`](Proof::verify_multi_inclusion) for those who have the
+    /// digests of leaves in place of the elements: each is to be what
+    /// [`leaf_digest`](Hasher::leaf_digest) gives for the leaf's position and its element, so that
+    /// the caller vouches for what was hashed. The check over elements is this one over their
+    /// digests. Only nodes, folds and the root are hashed.
+    ///
+    /// The result depends only on the arguments and the proof. `true` means that the proof is the
+    /// honest one of these leaves, or else that the computation and the list hash different inputs
+    /// to the same digest at the same place. An honest proof never gives `false`. If the result is
+    /// `true`, the root is the hash of a string that begins with the family's byte, the hasher's
+    /// bagging and the leaf count of the proof.
+    ///
+    /// The proof has the digests of the nodes at [`multi_proof_positions`], in that order. The
+    /// result is `false` if the leaves do not strictly ascend by location, or if a location is not
+    /// below the leaf count. If the proof has a redundant digest, of a node that is computed from
+    /// the leaves too, the two must be equal. Without leaves the result is `true` for the empty
+    /// proof against the root of no leaves, and `false` otherwise.
+    ///
+    /// # Errors
+    ///
+    /// - `OutOfMemory` if a memory request is refused
+    pub fn verify_multi_leaf_digests_inclusion<H: Hasher<F, Digest = D>>(
+        &self,
+        hasher: &H,
+        leaves: &[(D, Location<F>)],
+        root: &D,
+    ) -> Result<bool, OutOfMemory>
+        ensures exact { let s = H.scheme hasher.now in
+            IfOk result (λ yes. IsTrue yes ↔ AcceptsMulti s (multi_digest_input_of self.now leaves.now) root.now) }
+        ensures names { let s = H.scheme hasher.now in
+            IfOk result (λ yes. IsTrue yes → NamesRoot s self.now.leaves root.now) }
+        ensures honest { let s = H.scheme hasher.now in IfOk result (IsCompleteForMulti s root.now (multi_digest_input_of self.now leaves.now)) }
+        ensures sound { let s = H.scheme hasher.now in IfOk result (IsSoundForMulti s root.now (multi_digest_input_of self.now leaves.now)) }
+    {
+        verify_multi_leaf_digests(&self.parts(), hasher, leaves, root)
+    }
+
+    /// Whether the leaves from location `start` on of the list behind `root` have these digests, and
+    /// `pinned_nodes` are the digests of the peaks over the leaves before `start`.
+    ///
+    /// This is [`verify_proof_and_pinned_nodes`](Proof::verify_proof_and_pinned_nodes) for those who
+    /// have the digests of leaves in place of the elements: each is to be what
+    /// [`leaf_digest`](Hasher::leaf_digest) gives for the leaf's position and its element, so that
+    /// the caller vouches for what was hashed. The check over elements is this one over their
+    /// digests. Only nodes, folds and the root are hashed.
+    ///
+    /// The pinned digests are those of the peaks of the first `start` leaves, oldest first; a
+    /// different number of them gives `false`. Every part of the proof that lies before the range
+    /// is rebuilt from them and compared.
+    ///
+    /// The result depends only on the arguments and the proof. `true` means that the proof is the
+    /// honest one of these leaves and the pins are honest, or else that the computation and the
+    /// list hash different inputs to the same digest at the same place. So the pins give the root
+    /// that the list had at `start` leaves, for any number of inactive peaks. An honest proof with
+    /// honest pins never gives `false`. If the result is `true`, the root is the hash of a string
+    /// that begins with the family's byte, the hasher's bagging and the leaf count of the proof.
+    /// Without digests of leaves the result is `true` for the empty proof without pins, from
+    /// location 0 on and against the root of no leaves, and `false` otherwise.
+    ///
+    /// # Errors
+    ///
+    /// - `OutOfMemory` if a memory request is refused
+    pub fn verify_leaf_digests_and_pinned_nodes<H: Hasher<F, Digest = D>>(
+        &self,
+        hasher: &H,
+        digests: &[D],
+        start: Location<F>,
+        pinned_nodes: &[D],
+        root: &D,
+    ) -> Result<bool, OutOfMemory>
+        ensures exact { let s = H.scheme hasher.now in
+            IfOk result (IsExactForPins s root.now (digest_input_of self.now start digests.now) pinned_nodes.now) }
+        ensures names { let s = H.scheme hasher.now in
+            IfOk result (λ yes. IsTrue yes → NamesRoot s self.now.leaves root.now) }
+        ensures honest { let s = H.scheme hasher.now in
+            IfOk result (IsCompleteForPins s root.now (digest_input_of self.now start digests.now) pinned_nodes.now) }
+        ensures sound { let s = H.scheme hasher.now in
+            IfOk result (IsSoundForPins s root.now (digest_input_of self.now start digests.now) pinned_nodes.now) }
+        ensures old_root { let s = H.scheme hasher.now in
+            IfOk result (TellsOldRoot s root.now (digest_input_of self.now start digests.now) pinned_nodes.now) }
+    {
+        verify_pinned_leaf_digests(&self.parts(), hasher, digests, start, pinned_nodes, root)
     }
 }

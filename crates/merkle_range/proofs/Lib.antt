@@ -3,6 +3,7 @@ pub mod IndividualPeaks
 pub mod PinWalks
 pub mod PinParts
 pub mod PinChecks
+pub mod Answered
 -- passed on
 pub use Rattle.merkle_reconstruction.proofs.ExtractionWalks
 pub use Rattle.merkle_reconstruction.proofs.InsideNodes

@@ -1,6 +1,5 @@
 -- The answers of the pinned check from those of the range check and of the comparison with the pins.
 use Rattle.std.proofs.Common.{◌≡◌, ℕ, ◌<◌, ◌≤◌, ◌+◌, Bool, List, [], length, IsTrue, ◌↔◌, inl, inr, ap, sym, subst, ◌∙◌, arith}
-use Rattle.std.specs.Borrow.{Bor}
 use Rattle.std.proofs.lemmas.List.{length-map}
 use Rattle.merkle_base.specs.Hashing.{Hashing}
 use Rattle.merkle_base.specs.Places.{peaks_of, peak_positions}
@@ -9,14 +8,12 @@ use Rattle.merkle_base.specs.Tree.{position}
 use Rattle.merkle_base.specs.declared.family.Bagging.{Bagging}
 use Rattle.merkle_root_theory.specs.Check.{RangeInput}
 use Rattle.merkle_root_theory.specs.Range.{Accepts, AcceptsNonempty, end_of, range_parts, range_siblings}
-use Rattle.merkle_hasher.specs.LeafDigests.{bytes_of}
 use Rattle.merkle_claim_theory.specs.Pinned.{AcceptsPinnedCases}
 use Rattle.merkle_claim_theory.specs.Rebuilt.{IsRebuilt}
 use Rattle.merkle_base.specs.Table.{digest_for}
 use Rattle.merkle_claim_theory.proofs.RebuiltPins.{pinned_is_rebuilt}
-use Rattle.merkle_range.specs.Input.{range_input}
+use Rattle.merkle_range.specs.Input.{digest_input}
 use Rattle.merkle_range.specs.PinnedParts.{IsBeforeRebuilt}
-use Rattle.merkle_hasher.proofs.LeafDigests.{length-leaf_digests}
 
 module _ {D : Type 0} (s : Scheme D) (r : RangeInput D) (pins : List D) (root : D) where
   -- what is accepted with pins is accepted without
@@ -59,41 +56,35 @@ pub record IsFitting (bagging : Bagging) (rule : List ℕ → List ℕ) (max_lea
   pub inactive_few : inactive ≤ length (peaks_of rule leaves)
   pub counted : count ≡ length (range_parts bagging inactive a e (peaks_of rule leaves)) + length (range_siblings a e (peaks_of rule leaves))
 
-module _ {D : Type 0} (h : Hashing D) (bagging : Bagging) (rule : List ℕ → List ℕ) (max_leaves domain leaves inactive a : ℕ) (ds : List D) (es : List (Bor (List ℕ))) where
-  abbrev input : Scheme D → RangeInput D
-  input s = range_input s leaves inactive ds a (bytes_of es)
+module _ {D : Type 0} (h : Hashing D) (bagging : Bagging) (rule : List ℕ → List ℕ) (max_leaves domain leaves inactive a : ℕ) (ds ls : List D) where
+  abbrev input : RangeInput D
+  input = digest_input leaves inactive ds a ls
 
   abbrev hasher_scheme : Scheme D
   hasher_scheme = scheme_of h bagging rule max_leaves domain
 
-  pub input_count : (s : Scheme D) → length (input s).elements ≡ length es
-  input_count s = length-leaf_digests s.hashing s.rule a (bytes_of es) ∙ length-map es (λ e. e.now)
-
-  end_same : (e : ℕ) → e ≡ a + length es → end_of (input hasher_scheme) ≡ e
-  end_same e e_is = omega (arith, e_is, input_count hasher_scheme)
-
-  pub fitting : (s : Scheme D) → s ≡ hasher_scheme → (root : D) → AcceptsNonempty s (input s) root → (e : ℕ) → e ≡ a + length es → IsFitting bagging rule max_leaves leaves inactive (length ds) a e
-  fitting s is root ok e e_is = step (subst (λ z. AcceptsNonempty z (input z) root) is ok)
+  pub fitting : (s : Scheme D) → s ≡ hasher_scheme → (root : D) → AcceptsNonempty s input root → (e : ℕ) → e ≡ a + length ls → IsFitting bagging rule max_leaves leaves inactive (length ds) a e
+  fitting s is root ok e e_is = step (subst (λ z. AcceptsNonempty z input root) is ok)
     where
-      step : AcceptsNonempty hasher_scheme (input hasher_scheme) root → IsFitting bagging rule max_leaves leaves inactive (length ds) a e
+      step : AcceptsNonempty hasher_scheme input root → IsFitting bagging rule max_leaves leaves inactive (length ds) a e
       step ok = record {
-        within = omega (arith, ok.within, end_same e e_is);
+        within = omega (arith, ok.within, e_is);
         leaves_fit = ok.leaves;
         inactive_few = ok.inactive;
-        counted = subst (λ z. length ds ≡ length (range_parts bagging inactive a z (peaks_of rule leaves)) + length (range_siblings a z (peaks_of rule leaves))) (end_same e e_is) ok.counts;
+        counted = subst (λ z. length ds ≡ length (range_parts bagging inactive a z (peaks_of rule leaves)) + length (range_siblings a z (peaks_of rule leaves))) (sym e_is) ok.counts;
       }
 
   -- what lies before the range is what is compared
-  before_is : (pins : List D) → length pins ≡ length (peaks_of rule a) → IsBeforeRebuilt h bagging inactive a (end_of (input hasher_scheme)) (peaks_of rule leaves) (digest_for (peak_positions rule a) pins) ds ↔ IsRebuilt hasher_scheme (input hasher_scheme) pins
+  before_is : (pins : List D) → length pins ≡ length (peaks_of rule a) → IsBeforeRebuilt h bagging inactive a (end_of input) (peaks_of rule leaves) (digest_for (peak_positions rule a) pins) ds ↔ IsRebuilt hasher_scheme input pins
   before_is pins long = ((λ v. record { pinned = long; parts = v.parts; nodes = v.nodes }), (λ v. record { parts = v.parts; nodes = v.nodes }))
 
-  pub before_rebuilt : (s : Scheme D) → s ≡ hasher_scheme → (pins qs : List D) (ps : List ℕ) → ps ≡ peak_positions rule a → qs ≡ pins → length ps ≡ length pins → (e : ℕ) → e ≡ a + length es
-      → IsBeforeRebuilt h bagging inactive a e (peaks_of rule leaves) (digest_for ps qs) ds ↔ IsRebuilt s (input s) pins
+  pub before_rebuilt : (s : Scheme D) → s ≡ hasher_scheme → (pins qs : List D) (ps : List ℕ) → ps ≡ peak_positions rule a → qs ≡ pins → length ps ≡ length pins → (e : ℕ) → e ≡ a + length ls
+      → IsBeforeRebuilt h bagging inactive a e (peaks_of rule leaves) (digest_for ps qs) ds ↔ IsRebuilt s input pins
   before_rebuilt s is pins qs ps ps_is qs_is same e e_is =
       let long : length pins ≡ length (peaks_of rule a) = omega (arith, same, ap length ps_is, length-peak_positions rule a) in
       let Before = λ (z : ℕ) (us : List ℕ) (vs : List D). IsBeforeRebuilt h bagging inactive a z (peaks_of rule leaves) (digest_for us vs) ds in
       let x = before_is pins long in
-      let y = subst (λ z. Before z (peak_positions rule a) pins ↔ IsRebuilt hasher_scheme (input hasher_scheme) pins) (end_same e e_is) x in
-      let z = subst (λ us. Before e us pins ↔ IsRebuilt hasher_scheme (input hasher_scheme) pins) (sym ps_is) y in
-      let v = subst (λ vs. Before e ps vs ↔ IsRebuilt hasher_scheme (input hasher_scheme) pins) (sym qs_is) z in
-      subst (λ w. Before e ps qs ↔ IsRebuilt w (input w) pins) (sym is) v
+      let y = subst (λ z. Before z (peak_positions rule a) pins ↔ IsRebuilt hasher_scheme input pins) (sym e_is) x in
+      let z = subst (λ us. Before e us pins ↔ IsRebuilt hasher_scheme input pins) (sym ps_is) y in
+      let v = subst (λ vs. Before e ps vs ↔ IsRebuilt hasher_scheme input pins) (sym qs_is) z in
+      subst (λ w. Before e ps qs ↔ IsRebuilt w input pins) (sym is) v

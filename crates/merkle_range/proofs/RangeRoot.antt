@@ -1,7 +1,6 @@
 -- The root that a proof and elements lead to.
 use Rattle.std.proofs.Common.{◌≡◌, ℕ, ◌+◌, ◌<◌, ◌≤◌, Bool, List, [], ◌∷◌, ◌++◌, length, length-append, take, drop, drop-drop, refl, ap, ap₂, sym, ◌∙◌, subst, arith}
 use Rattle.std.specs.List.{flat_map}
-use Rattle.std.specs.Borrow.{Bor}
 use Rattle.std.proofs.lemmas.List.{length-map, length-reverse}
 use Rattle.merkle_base.specs.Tree.{Tree, height, position}
 use Rattle.merkle_base.specs.Forest.{forest}
@@ -20,15 +19,13 @@ use Rattle.merkle_root_theory.specs.Check.{in_range, RangeInput, chosen, leaf_gi
 use Rattle.merkle_base.specs.Scheme.{Scheme, scheme_of}
 use Rattle.merkle_root_theory.specs.Range.{overlapping, wholly_after, end_of, range_parts}
 use Rattle.merkle_root_theory.specs.Range.{digest_count}
-use Rattle.merkle_hasher.specs.LeafDigests.{bytes_of}
 use Rattle.merkle_root_theory.specs.Walk.{peak_values, ArePeakDigests}
-use Rattle.merkle_range.specs.Input.{range_input, IsComputed}
+use Rattle.merkle_range.specs.Input.{digest_input, range_input, leaf_digests, IsComputed}
 use Rattle.merkle_hasher.specs.Subtrees.{subtree_of}
 use Rattle.merkle_range.specs.GroupedPeaks.{HoldsGroups}
 use Rattle.merkle_range.specs.declared.groups.PeakGroups.{PeakGroups}
 use Rattle.merkle_root_theory.proofs.PeakGroups.{length-peaks_of, some_over}
 use Rattle.merkle_base.proofs.PeakLists.{covers_spans}
-use Rattle.merkle_hasher.proofs.LeafDigests.{length-leaf_digests}
 use Rattle.merkle_root_theory.proofs.RangeDigests.{digest_count_is}
 use Rattle.merkle_root_theory.proofs.LayoutRoot.{layout_counts, layout_root, inactive_fits}
 
@@ -55,18 +52,15 @@ no_peaks : {D : Type 0} (h : Hashing D) (c : ℕ → Bool) (X : ℕ → D) (ts :
 no_peaks h c X [] ds e = refl
 no_peaks h c X (t ∷ ts) ds e = absurd (omega arith)
 
-module _ {D : Type 0} (h : Hashing D) (bagging : Bagging) (rule : List ℕ → List ℕ) (max_leaves domain : ℕ) (leaves inactive : ℕ) (given : List D) (a b : ℕ) (es : List (Bor (List ℕ))) (some : 0 < length es) (end_is : b ≡ a + length es) where
+module _ {D : Type 0} (h : Hashing D) (bagging : Bagging) (rule : List ℕ → List ℕ) (max_leaves domain : ℕ) (leaves inactive : ℕ) (given : List D) (a b : ℕ) (ls : List D) (some : 0 < length ls) (end_is : b ≡ a + length ls) where
   abbrev scheme : Scheme D
   scheme = scheme_of h bagging rule max_leaves domain
 
   abbrev input : RangeInput D
-  input = range_input scheme leaves inactive given a (bytes_of es)
-
-  pub element_count : length input.elements ≡ length es
-  element_count = length-leaf_digests h rule a (bytes_of es) ∙ length-map es (λ e. e.now)
+  input = digest_input leaves inactive given a ls
 
   end_same : b ≡ end_of input
-  end_same = omega (arith, end_is, element_count)
+  end_same = end_is
 
   -- how many digests of a proof are for the peaks before the range, and for those after its end
   abbrev pub digests_before : ℕ
@@ -79,9 +73,6 @@ module _ {D : Type 0} (h : Hashing D) (bagging : Bagging) (rule : List ℕ → L
   module _ (within : b ≤ leaves) (m n : ℕ) (m_is : m ≡ digests_before) (n_is : n ≡ digests_after b) where
     abbrev AreDigests : ℕ → (ℕ → D) → ℕ → ℕ → List D → Type 0
     AreDigests z X i j all = ArePeakDigests h (in_range a z) X (overlapping a z (peaks_of rule leaves)) i j given all
-
-    some_given : 0 < length input.elements
-    some_given = omega (arith, some, element_count)
 
     within_given : end_of input ≤ leaves
     within_given = omega (arith, within, end_same)
@@ -97,13 +88,13 @@ module _ {D : Type 0} (h : Hashing D) (bagging : Bagging) (rule : List ℕ → L
     computed few low all w j j_is d is =
         let v = as_input all w in (
           record {
-            nonempty = some_given;
+            nonempty = some;
             within = within_given;
             leaves = few;
             inactive = low;
             counts = v.count ∙ ap (λ z. z + length (flat_map (siblings (chosen input)) (overlapping a (end_of input) (peaks_of rule leaves)))) (sym (layout_counts scheme input)) ∙ sym (digest_count_is scheme input);
           },
-          is ∙ ap (λ i. peaks_root scheme leaves i inactive all) j_is ∙ layout_root scheme input some_given within_given all v,
+          is ∙ ap (λ i. peaks_root scheme leaves i inactive all) j_is ∙ layout_root scheme input some within_given all v,
         )
 
     -- as many digests are asked for as a proof of the input has
@@ -122,7 +113,7 @@ module _ {D : Type 0} (h : Hashing D) (bagging : Bagging) (rule : List ℕ → L
     -- there are as many as are folded apart
     pub folds_given : inactive ≤ length (peaks_of rule leaves) → (all : List D) → AreDigests b (leaf_given h input) m n all
         → (j : ℕ) → j ≡ count_inactive bagging inactive (wholly_before a (peaks_of rule leaves)) → j ≤ length all
-    folds_given low all w j j_is = omega (arith, j_is, inactive_fits scheme input some_given all (as_input all w) low)
+    folds_given low all w j j_is = omega (arith, j_is, inactive_fits scheme input some all (as_input all w) low)
 
     -- the pairs of the individual peaks before the range, of those that overlap it and of the individual ones after it are those of the input
     module _ {C : Type 0} (Took : C → List (ℕ × D) → C → Type 0) (both : (s t u : C) (x y : List (ℕ × D)) → Took s x t → Took t y u → Took s (x ++ y) u) where
@@ -148,5 +139,8 @@ module _ {D : Type 0} (h : Hashing D) (bagging : Bagging) (rule : List ℕ → L
           both s0 s1 s3 _ _ x (both s1 s2 s3 _ _ y2 z2)
 
 -- an input is known by the parts of its proof
+pub same_digest_input : {D : Type 0} (a : ℕ) (ls : List D) (n m k j : ℕ) (ds fs : List D) → n ≡ m → k ≡ j → ds ≡ fs → digest_input n k ds a ls ≡ digest_input m j fs a ls
+same_digest_input a ls n m k j ds fs p q r = ap₂ (λ x y. digest_input x y ds a ls) p q ∙ ap (λ z. digest_input m j z a ls) r
+
 pub same_input : {D : Type 0} (s : Scheme D) (a : ℕ) (es : List (List ℕ)) (n m k j : ℕ) (ds fs : List D) → n ≡ m → k ≡ j → ds ≡ fs → range_input s n k ds a es ≡ range_input s m j fs a es
-same_input s a es n m k j ds fs p q r = ap₂ (λ x y. range_input s x y ds a es) p q ∙ ap (λ z. range_input s m j z a es) r
+same_input s a es n m k j ds fs p q r = same_digest_input a (leaf_digests s.hashing s.rule a es) n m k j ds fs p q r

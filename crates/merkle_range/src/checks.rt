@@ -1,7 +1,9 @@
 //! Checks of ranges of leaves against a root.
-ghost use Rattle.std.specs.Prelude.{◌≡◌, ◌≢◌, ◌+◌, ◌<◌, ◌≤◌, ◌⊎◌, [], List, Some, Ok, Err, IfOk, IfErr, length, map, drop};
+ghost use Rattle.std.specs.Prelude.{◌≡◌, ◌≢◌, ◌↔◌, ◌+◌, ◌<◌, ◌≤◌, ◌⊎◌, [], List, Some, Ok, Err, IfOk, IfErr, IsTrue, length, map, drop};
 ghost use Rattle.std.specs.List.{flat_map};
 ghost use Rattle.merkle_base.specs.Tree.{Tree};
+ghost use Rattle.merkle_base.specs.Places.{peaks_of};
+ghost use Rattle.merkle_base.specs.Scheme.{Scheme};
 ghost use Rattle.merkle_root_theory.specs.Plan.{siblings};
 ghost use Rattle.merkle_base.specs.Cases.{first_case};
 ghost use Rattle.merkle_root_theory.specs.Extract.{over_pairs, extracted};
@@ -10,7 +12,8 @@ ghost use Rattle.merkle_root_theory.specs.Reconstruction.{range_refusals, recons
 ghost use Rattle.merkle_hasher.specs.Subtrees.{AreNodes, subtree_of};
 ghost use Rattle.merkle_hasher.specs.LeafDigests.{bytes_of};
 ghost use Rattle.merkle_root_theory.specs.Walk.{leaf_from, ArePeaksWalked, ArePeakDigests};
-ghost use Rattle.merkle_range.specs.Input.{IsComputed, input_of_parts};
+ghost use Rattle.merkle_range.specs.GroupedPeaks.{HoldsGroups};
+ghost use Rattle.merkle_range.specs.Input.{IsComputed, input_of_parts, digest_input_of_parts};
 ghost use Rattle.merkle_range.specs.Inside.{AreKnown};
 ghost use Rattle.merkle_claim_theory.specs.CheckAnswers.{IsExactForRange, IsReconstructionRefusal};
 
@@ -19,6 +22,7 @@ use crate::groups::PeakGroups;
 use merkle_base::error::{OutOfMemory, ReconstructionError};
 use merkle_base::family::Family;
 use merkle_base::location::Location;
+use merkle_digest::digest::Digest;
 use merkle_hasher::hasher::Hasher;
 use merkle_hasher::subtree::Subtree;
 use merkle_leaves::queue::push_leaf_digests;
@@ -56,7 +60,35 @@ pub fn verify_range<F: Family, H: Hasher<F>>(
 ) -> Result<bool, OutOfMemory>
     ensures { let s = H.scheme hasher.now in IfOk result (IsExactForRange s root.now (input_of_parts s parts.now start (bytes_of elements.now))) }
 {
-    match reconstruct_root(parts, hasher, elements, start) {
+    is_root(reconstruct_root(parts, hasher, elements, start), root)
+}
+
+/// Whether the leaves with these digests, which are those from location `start` on, lead to `root`.
+///
+/// # Errors
+///
+/// - `OutOfMemory` if a memory request is refused
+pub fn verify_leaf_digests<F: Family, H: Hasher<F>>(
+    parts: &ProofParts<'_, F, H::Digest>,
+    hasher: &H,
+    leaves: &[H::Digest],
+    start: Location<F>,
+    root: &H::Digest,
+) -> Result<bool, OutOfMemory>
+    ensures { let s = H.scheme hasher.now in IfOk result (IsExactForRange s root.now (digest_input_of_parts parts.now start leaves.now)) }
+{
+    is_root(root_of_leaf_digests(parts, hasher, leaves, start), root)
+}
+
+// Whether what was computed is `root`; a refusal of the input is not.
+fn is_root<D: Digest>(
+    outcome: Result<D, ReconstructionError>,
+    root: &D,
+) -> Result<bool, OutOfMemory>
+    ensures exact { IfOk result (λ yes. IsTrue yes ↔ (outcome ≡ Ok root.now)) }
+    ensures memory { IfOk result (λ _. outcome ≢ Err ReconstructionError.OutOfMemory) }
+{
+    match outcome {
         Ok(computed) => Ok(computed == *root),
         Err(error) => match error {
             ReconstructionError::OutOfMemory => Err(OutOfMemory),
@@ -95,6 +127,27 @@ pub fn reconstruct_root<F: Family, H: Hasher<F>>(
     reconstruct_nonempty_root(parts, hasher, elements, start)
 }
 
+/// Computes the root that the leaves with these digests, which are those from location `start` on,
+/// lead to.
+///
+/// Fails as [`reconstruct_root`], with leaves for elements.
+pub fn root_of_leaf_digests<F: Family, H: Hasher<F>>(
+    parts: &ProofParts<'_, F, H::Digest>,
+    hasher: &H,
+    leaves: &[H::Digest],
+    start: Location<F>,
+) -> Result<H::Digest, ReconstructionError>
+    ensures ok { let s = H.scheme hasher.now in
+        IfOk result (λ d. reconstructed s (digest_input_of_parts parts.now start leaves.now) ≡ Ok d) }
+    ensures err { let s = H.scheme hasher.now in IfErr result (IsReconstructionRefusal s (digest_input_of_parts parts.now start leaves.now)) }
+{
+    if leaves.is_empty() {
+        return reconstruct_empty_root(parts, hasher, start);
+    }
+    let (range, groups) = grouped_range(parts, start, leaves.len())?;
+    root_over_range(parts, hasher, &range, &groups, leaves, &mut Discard)
+}
+
 /// Computes the root that the elements, which are at least one, lead to.
 pub(crate) fn reconstruct_nonempty_root<F: Family, H: Hasher<F>>(
     parts: &ProofParts<'_, F, H::Digest>,
@@ -114,10 +167,7 @@ pub(crate) fn reconstruct_nonempty_root<F: Family, H: Hasher<F>>(
 }
 
 /// Computes the root that the elements, which are at least one, lead to, and passes every node
-/// digest that is computed or given to `collector`.
-///
-/// The order is: the individual peaks before the range; each peak that overlaps it, after the nodes
-/// below that peak; the individual peaks after the range.
+/// digest that is computed or given to `collector`, in the order of [`root_over_range`].
 pub(crate) fn reconstruct_root_into<F: Family, H: Hasher<F>, C: Collector<F, H::Digest>>(
     parts: &ProofParts<'_, F, H::Digest>,
     hasher: &H,
@@ -136,33 +186,57 @@ pub(crate) fn reconstruct_root_into<F: Family, H: Hasher<F>, C: Collector<F, H::
         let r = input_of_parts s parts.now start (bytes_of elements.now) in
         IfErr result (λ e. e ≢ ReconstructionError.OutOfMemory → first_case (range_refusals s r) ≡ Some e) }
 {
-    let end = end_from(parts.leaves, start, elements.len())?;
-    let range = start..end;
-    let Ok(groups) = PeakGroups::of_peaks(parts.alloc, parts.leaves, &range) else {
-        return Err(ReconstructionError::OutOfMemory);
-    };
-    if parts.inactive > groups.count() {
-        return Err(ReconstructionError::InvalidSize);
-    }
+    let (range, groups) = grouped_range(parts, start, elements.len())?;
     let mut leaves = Vec::new(parts.alloc);
     let Ok(()) = push_leaf_digests(parts.alloc, hasher, start, elements, &mut leaves) else {
         return Err(ReconstructionError::OutOfMemory);
     };
+    root_over_range(parts, hasher, &range, &groups, &leaves, collector)
+}
+
+/// Computes the root that the leaves of a range, which have the digests `leaves`, lead to, and
+/// passes every node digest that is computed or given to `collector`.
+///
+/// The order is: the individual peaks before the range; each peak that overlaps it, after the nodes
+/// below that peak; the individual peaks after the range.
+fn root_over_range<F: Family, H: Hasher<F>, C: Collector<F, H::Digest>>(
+    parts: &ProofParts<'_, F, H::Digest>,
+    hasher: &H,
+    range: &Range<Location<F>>,
+    groups: &PeakGroups<F>,
+    leaves: &[H::Digest],
+    collector: &mut C,
+) -> Result<H::Digest, ReconstructionError>
+    requires nonempty { 0 < length leaves.now }
+    requires end { range.now.end ≡ range.now.start + length leaves.now }
+    requires within { range.now.end ≤ parts.now.leaves }
+    requires within_max_leaves { parts.now.leaves ≤ F.MAX_LEAVES }
+    requires inactive { parts.now.inactive ≤ length (peaks_of F.rule parts.now.leaves) }
+    requires groups { HoldsGroups range.now.start range.now.end groups.now (peaks_of F.rule parts.now.leaves) }
+    ensures ok { let s = H.scheme hasher.now in
+        IfOk result (λ d. IsComputed s (digest_input_of_parts parts.now range.now.start leaves.now) d) }
+    ensures taken { let s = H.scheme hasher.now in
+        let r = digest_input_of_parts parts.now range.now.start leaves.now in
+        IfOk result (λ _. C.Took collector.old (extracted s r) collector.new) }
+    ensures err { let s = H.scheme hasher.now in
+        let r = digest_input_of_parts parts.now range.now.start leaves.now in
+        IfErr result (λ e. e ≢ ReconstructionError.OutOfMemory → first_case (range_refusals s r) ≡ Some e) }
+{
     let layout = groups.layout(hasher.root_bagging(), parts.inactive);
-    let Ok(()) = put_before(&groups, layout, parts.digests, collector) else {
+    let Ok(()) = put_before(groups, layout, parts.digests, collector) else {
         return Err(ReconstructionError::OutOfMemory);
     };
     let peaks = peak_digests(
         parts,
         hasher,
-        &range,
-        &leaves,
+        range,
+        leaves,
         &groups.overlapping,
         layout.before,
         layout.after,
         collector,
     )?;
-    let Ok(()) = put_after(&groups, layout, parts.digests, collector) else {
+    let Ok(()) = put_after(groups, layout, parts.digests, collector) else {
         return Err(ReconstructionError::OutOfMemory);
     };
     match hasher.root_with_folded_peaks(parts.leaves, layout.inactive, parts.inactive, &peaks) {
@@ -233,6 +307,32 @@ fn end_from<F: Family>(
         return Err(ReconstructionError::InvalidSize);
     }
     Ok(end)
+}
+
+// Returns the range of the `count` leaves from `start` on, with the peaks grouped by it.
+fn grouped_range<F: Family, D: Digest>(
+    parts: &ProofParts<'_, F, D>,
+    start: Location<F>,
+    count: usize,
+) -> Result<(Range<Location<F>>, PeakGroups<F>), ReconstructionError>
+    requires nonempty { 0 < count }
+    ensures range { IfOk result (λ found. (found.0.start ≡ start) × (found.0.end ≡ start + count)) }
+    ensures within { IfOk result (λ found. (found.0.end ≤ parts.now.leaves) × (parts.now.leaves ≤ F.MAX_LEAVES)) }
+    ensures inactive { IfOk result (λ _. parts.now.inactive ≤ length (peaks_of F.rule parts.now.leaves)) }
+    ensures groups { IfOk result (λ found. HoldsGroups found.0.start found.0.end found.1 (peaks_of F.rule parts.now.leaves)) }
+    ensures err { IfErr result (λ e. e ≢ ReconstructionError.OutOfMemory
+        → (s : Scheme D) (leaves : List D) → s.rule ≡ F.rule → s.max_leaves ≡ F.MAX_LEAVES → length leaves ≡ count
+        → first_case (range_refusals s (digest_input_of_parts parts.now start leaves)) ≡ Some e) }
+{
+    let end = end_from(parts.leaves, start, count)?;
+    let range = start..end;
+    let Ok(groups) = PeakGroups::of_peaks(parts.alloc, parts.leaves, &range) else {
+        return Err(ReconstructionError::OutOfMemory);
+    };
+    if parts.inactive > groups.count() {
+        return Err(ReconstructionError::InvalidSize);
+    }
+    Ok((range, groups))
 }
 
 // Returns all digests that the root folds: the given ones before the range, those of the peaks that

@@ -1,5 +1,5 @@
 //! The check that pinned digests are those of the peaks over the leaves before a range.
-ghost use Rattle.std.specs.Prelude.{◌≡◌, ◌+◌, ◌<◌, ◌≤◌, ◌↔◌, ℕ, true, List, IsTrue, IfOk, length, map, take, drop};
+ghost use Rattle.std.specs.Prelude.{◌≡◌, ◌+◌, ◌<◌, ◌≤◌, ◌↔◌, ℕ, true, List, IsTrue, Ok, IfOk, length, map, take, drop};
 ghost use Rattle.merkle_base.specs.Places.{peaks_of, peak_positions};
 ghost use Rattle.merkle_base.specs.Tree.{Tree, end_leaf};
 ghost use Rattle.merkle_hasher.specs.Subtrees.{Denotes, AreNodes, subtree_of};
@@ -11,10 +11,11 @@ ghost use Rattle.merkle_hasher.specs.LeafDigests.{bytes_of};
 ghost use Rattle.merkle_claim_theory.specs.CheckAnswers.{DecidesPins};
 ghost use Rattle.merkle_claim_theory.specs.Rebuilt.{AllRebuilt, rebuilt_node, rebuilt_part};
 ghost use Rattle.merkle_base.specs.Table.{digest_for};
-ghost use Rattle.merkle_range.specs.Input.{input_of_parts};
+ghost use Rattle.merkle_root_theory.specs.Reconstruction.{reconstructed};
+ghost use Rattle.merkle_range.specs.Input.{input_of_parts, digest_input_of_parts};
 ghost use Rattle.merkle_range.specs.PinnedParts.{IsBeforeRebuilt};
 
-use crate::checks::{ProofParts, verify_range};
+use crate::checks::{ProofParts, verify_leaf_digests, verify_range};
 use crate::groups::PeakGroups;
 use merkle_base::error::OutOfMemory;
 use merkle_base::family::Family;
@@ -260,13 +261,55 @@ pub fn verify_pinned<F: Family, H: Hasher<F>>(
     if !verify_range(parts, hasher, elements, start, root)? {
         return Ok(false);
     }
-    if elements.is_empty() {
+    is_rebuilt_from_pins(parts, hasher, start, elements.len(), pinned_nodes)
+}
+
+/// Whether the leaves with these digests, which are those from location `start` on, lead to `root`,
+/// and every digest of the proof for the leaves before them is the one that is rebuilt from
+/// `pinned_nodes`, the digests of the peaks of `start` leaves.
+///
+/// # Errors
+///
+/// - `OutOfMemory` if a memory request is refused
+pub fn verify_pinned_leaf_digests<F: Family, H: Hasher<F>>(
+    parts: &ProofParts<'_, F, H::Digest>,
+    hasher: &H,
+    leaves: &[H::Digest],
+    start: Location<F>,
+    pinned_nodes: &[H::Digest],
+    root: &H::Digest,
+) -> Result<bool, OutOfMemory>
+    ensures { let s = H.scheme hasher.now in
+        IfOk result (DecidesPins s root.now (digest_input_of_parts parts.now start leaves.now) pinned_nodes.now) }
+{
+    if !verify_leaf_digests(parts, hasher, leaves, start, root)? {
+        return Ok(false);
+    }
+    is_rebuilt_from_pins(parts, hasher, start, leaves.len(), pinned_nodes)
+}
+
+// Whether every digest of a proof for the leaves before `start` is the one that is rebuilt from
+// `pinned_nodes`; the proof leads `count` leaves from `start` on to a root.
+fn is_rebuilt_from_pins<F: Family, H: Hasher<F>>(
+    parts: &ProofParts<'_, F, H::Digest>,
+    hasher: &H,
+    start: Location<F>,
+    count: usize,
+    pinned_nodes: &[H::Digest],
+) -> Result<bool, OutOfMemory>
+    requires accepted { let s = H.scheme hasher.now in
+        (leaves : List H.Digest) × (root : H.Digest) × (length leaves ≡ count) × (reconstructed s (digest_input_of_parts parts.now start leaves) ≡ Ok root) }
+    ensures { let s = H.scheme hasher.now in (leaves : List H.Digest) (root : H.Digest) → length leaves ≡ count
+        → reconstructed s (digest_input_of_parts parts.now start leaves) ≡ Ok root
+        → IfOk result (DecidesPins s root (digest_input_of_parts parts.now start leaves) pinned_nodes.now) }
+{
+    if count == 0 {
         return Ok(pinned_nodes.is_empty());
     }
     let pins = Pins::new(parts.alloc, start, pinned_nodes)?;
     if pins.positions.len() != pinned_nodes.len() {
         return Ok(false);
     }
-    let range = start..start + elements.len() as u64;
+    let range = start..start + count as u64;
     is_before_rebuilt(parts, hasher, &range, &pins)
 }
