@@ -1,0 +1,4 @@
+pub mod Damage
+pub mod HeldRoot
+pub mod DamageRows
+pub mod OneStructure
