@@ -6,5 +6,6 @@ pub mod ListedReads
 pub mod MultiReads
 pub mod StoreCallLaws
 pub mod PartReads
+pub mod PeakReads
 pub mod KeptStores
 pub mod AnsweredProofs

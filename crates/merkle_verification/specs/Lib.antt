@@ -5,3 +5,4 @@ pub mod StoreCalls
 pub mod StoreParts
 pub mod StoreMulti
 pub mod ShownLists
+pub mod HistoricalRoots

@@ -5,6 +5,7 @@ pub mod laws;
 mod multi_reads;
 mod pair_table;
 pub mod readers;
+pub mod roots;
 pub mod store;
 mod store_reads;
 pub mod verification;

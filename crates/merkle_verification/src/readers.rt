@@ -226,7 +226,7 @@ fn leaf_count<F: Family>(nodes: Position<F>) -> Result<Location<F>, Error<F>>
 }
 
 // Returns the number of peaks of `leaves` leaves.
-fn peak_count<F: Family>(leaves: Location<F>) -> usize
+pub(crate) fn peak_count<F: Family>(leaves: Location<F>) -> usize
     requires { leaves ≤ F.MAX_LEAVES }
     ensures { result ≡ length (peaks_of F.rule leaves) }
 {
