@@ -5,3 +5,5 @@ pub mod MerkleizeFacts
 pub mod PeakCounts
 pub mod KeptReads
 pub mod BatchReads
+pub mod LeafReads
+pub mod AppendedReads

@@ -1,2 +1,3 @@
 pub mod Finished
 pub mod BatchProofs
+pub mod HeldLeaves

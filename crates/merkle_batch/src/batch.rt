@@ -15,6 +15,7 @@ ghost use Rattle.merkle_hasher.specs.LeafDigests.{bytes_of};
 ghost use Rattle.merkle_batch_theory.specs.Changes.{AddsLeaves, SetsLeaf, SetsLeaves, IsLeafRefusal, IsLeavesRefusal, IsForkOf, BeginsAfter, HasCounts, IsMerkleizeRefusal, ForUpdatesHeld, GoesOn, computed_count};
 ghost use Rattle.merkle_batch.specs.BatchProofs.{digests_after};
 
+pub use crate::leaf_digests::LeafDigests;
 pub use crate::merkleized::MerkleizedBatch;
 use merkle_base::error::Error;
 use merkle_base::family::{Family, Work};

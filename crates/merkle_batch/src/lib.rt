@@ -5,6 +5,8 @@
 //! merkleized.
 #![tactic(auto)]
 
+mod appended;
 pub mod batch;
 mod batch_proofs;
+pub mod leaf_digests;
 mod merkleized;

@@ -1,5 +1,9 @@
+pub mod HeldReads
 pub mod HonestReads
 pub mod PinMaps
+pub mod WholeMem
+pub mod ConfigSizes
+pub mod KeptLeaves
 -- Lemmas of the crates below that theorems over the public contracts need.
 pub use Rattle.merkle_base.proofs.Cases
 pub use Rattle.merkle_claim_theory.proofs.RebuiltPins

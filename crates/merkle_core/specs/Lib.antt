@@ -21,6 +21,8 @@ pub use Rattle.merkle_forest_theory.specs.Mmb
 pub use Rattle.merkle_forest_theory.specs.Mmr
 pub use Rattle.merkle_digest.specs.Bytes
 pub mod DigestLaws
+pub mod ConfigBytes
+pub mod ConfigLaws
 pub use Rattle.merkle_sha256.specs.Together
 pub use Rattle.merkle_sha256.specs.PlainHashings
 pub use Rattle.merkle_topology.specs.BeltIterators
@@ -66,6 +68,8 @@ pub use Rattle.merkle_batch_theory.specs.Records
 pub use Rattle.merkle_batch_theory.specs.Replay
 pub use Rattle.merkle_batch_theory.specs.Roots
 pub use Rattle.merkle_batch_theory.specs.Unmerkleized
+pub use Rattle.merkle_restore_theory.specs.Damage
+pub use Rattle.merkle_restore_theory.specs.HeldRoot
 pub use Rattle.merkle_range.specs.Extracting
 pub use Rattle.merkle_range.specs.Input as LeafDigests
 pub use Rattle.merkle_proof.specs.ElementPlans
@@ -80,5 +84,6 @@ pub use Rattle.merkle_verification.specs.ReaderRefusals
 pub use Rattle.merkle_verification.specs.StoreCalls
 pub use Rattle.merkle_verification.specs.StoreMulti
 pub use Rattle.merkle_batch.specs.BatchProofs
+pub use Rattle.merkle_batch.specs.HeldLeaves
 pub use Rattle.merkle_claim_theory.specs.CheckAnswers
 pub use Rattle.merkle_verification.specs.ShownLists

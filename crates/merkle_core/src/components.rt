@@ -1,10 +1,12 @@
-//! Structures created from given components.
+//! Structures created from given components, and the components of a structure.
 ghost use Rattle.std.specs.Prelude.{◌≡◌, ◌≢◌, ◌+◌, ◌<◌, ◌≤◌, ◌^◌, ◌-◌, ℕ, Err, length, zip, IfOk, IsOk, IsOkUnless, ◌==◌};
 ghost use Rattle.std.specs.Map.{lookup};
 ghost use Rattle.merkle_base.specs.Forest.{size};
 ghost use Rattle.merkle_base.specs.Places.{IsSize, peak_positions};
 ghost use Rattle.merkle_batch_theory.specs.Components.{made_of, RefusesTooLarge, RefusesNoSize, RefusesPins, ForComponents, AgreesAsGiven};
+ghost use Rattle.merkle_batch_theory.specs.HeldPeaks.{held_at};
 ghost use Rattle.merkle_batch_theory.specs.MemModel.{contents};
+ghost use Rattle.std.specs.List.{range_with_len};
 
 use crate::mem::Mem;
 use merkle_base::error::Error;
@@ -13,6 +15,7 @@ use merkle_base::location::Location;
 use merkle_base::position::Position;
 use merkle_digest::digest::Digest;
 use merkle_draft::held_nodes::HeldNodes;
+use std::alloc::AllocError;
 use std::collections::BTreeMap;
 
 /// The components of a structure.
@@ -98,6 +101,54 @@ impl<F: Family, D: Digest> Mem<F, D> {
             }),
             Err(error) => Err(error),
         }
+    }
+
+    /// Returns a copy of the components: the pruning boundary, the digests of the peaks over the
+    /// leaves before it, and those of the nodes from its position on. [`init`](Mem::init) makes the
+    /// same structure of them again.
+    ///
+    /// # Errors
+    ///
+    /// - `AllocError` if a memory request is refused
+    pub fn to_config(&self) -> Result<Config<F, D>, AllocError>
+        ensures boundary { IfOk result (λ c. c.pruning_boundary ≡ self.now.boundary) }
+        ensures made { IfOk result (λ c. self.now ≡ made_of F.rule c.pruning_boundary self.now.leaves c.pinned_nodes.items c.nodes.items) }
+        ensures pinned { IfOk result (λ c. length c.pinned_nodes.items ≡ length (peak_positions F.rule self.now.boundary)) }
+    {
+        Ok(Config {
+            nodes: self.nodes()?,
+            pruning_boundary: self.boundary,
+            pinned_nodes: self.pinned_nodes()?,
+        })
+    }
+
+    // Returns the digests that are held of the peaks over the leaves before the boundary.
+    fn pinned_nodes(&self) -> Result<Vec<D>, AllocError>
+        ensures { IfOk result (λ v. v.items ≡ held_at (contents self.now) (peak_positions F.rule self.now.boundary)) }
+    {
+        let mut digests = Vec::new(self.allocator());
+        for position in F::nodes_to_pin(self.boundary) {
+            if let Some(digest) = self.get_node(position) {
+                digests.push(digest)?;
+            }
+        }
+        Ok(digests)
+    }
+
+    // Returns the digests that are held of the nodes from the boundary's position on.
+    fn nodes(&self) -> Result<Vec<D>, AllocError>
+        ensures { let start = size F.rule self.now.boundary in
+            IfOk result (λ v. v.items ≡ held_at (contents self.now) (range_with_len start (self.now.size - start))) }
+    {
+        let mut digests = Vec::new(self.allocator());
+        let start = F::location_to_position(self.boundary);
+        let end = self.size();
+        for index in start.as_u64()..end.as_u64() {
+            if let Some(digest) = self.get_node(Position::new(index)) {
+                digests.push(digest)?;
+            }
+        }
+        Ok(digests)
     }
 }
 

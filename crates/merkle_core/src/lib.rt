@@ -6,10 +6,13 @@
 #![tactic(auto)]
 
 mod components;
+mod config_codec;
+mod damage;
 pub mod digest;
 pub mod family;
 mod find;
 pub mod hasher;
+mod held_leaves;
 pub mod laws;
 pub mod mem;
 pub mod mmb;

@@ -18,12 +18,14 @@ ghost use Rattle.merkle_proof.specs.RangePlans.{IsBuildRefusal, IsBuiltProof, li
 ghost use Rattle.merkle_batch_theory.specs.ForLists.{ForList, ForHeldLeaf, ForHeldRange, BeginsAt, IsPeaksRoot, IsListRoot, IsPeaksRefusal};
 
 pub use crate::components::Config;
+pub use crate::config_codec::ConfigLimits;
 use crate::find::{find_state, refusal};
 use merkle_base::error::Error;
 use merkle_base::family::Family;
 use merkle_base::location::Location;
 use merkle_base::position::Position;
 use merkle_batch::batch::{MerkleizedBatch, UnmerkleizedBatch};
+pub use merkle_batch::leaf_digests::LeafDigests;
 use merkle_digest::digest::Digest;
 use merkle_draft::base::Base;
 use merkle_draft::held_nodes::HeldNodes;
