@@ -28,7 +28,7 @@ module _ {D : Type 0} (bytes : D → List ℕ) (size : ℕ) (sized : (x : D) →
   length-digests (d ∷ ds) = length-append (bytes d) (flat_map bytes ds) ∙ omega (arith, sized d, length-digests ds)
 
   -- as many digests are known by their bytes
-  digests_once : ((x y : D) → bytes x ≡ bytes y → x ≡ y) → (ds es : List D) (r s : List ℕ) → length ds ≡ length es
+  pub digests_once : ((x y : D) → bytes x ≡ bytes y → x ≡ y) → (ds es : List D) (r s : List ℕ) → length ds ≡ length es
       → flat_map bytes ds ++ r ≡ flat_map bytes es ++ s → (ds ≡ es) × (r ≡ s)
   digests_once decide [] [] r s n e = (refl, e)
   digests_once decide [] (y ∷ es) r s n e = absurd (omega (arith, n))
@@ -60,7 +60,7 @@ module _ {D : Type 0} (bytes : D → List ℕ) (size : ℕ) (sized : (x : D) →
       (x, ap (take size) skip ∙ e)
 
   -- bytes that begin with n digests are refused as n with `OutOfMemory` alone
-  digests_not_refused : (Spells : List ℕ → Type 0) → ((x : D) → Spells (bytes x))
+  pub digests_not_refused : (Spells : List ℕ → Type 0) → ((x : D) → Spells (bytes x))
       → (ds : List D) (rest : List ℕ) (e : DecodeError) → IsDigestsRefusal size Spells (length ds) (flat_map bytes ds ++ rest) e → e ≡ OutOfMemory
   digests_not_refused Spells spell ds rest e (inl few) = absurd (omega (arith, few.0, length-append (flat_map bytes ds) rest, length-digests ds))
   digests_not_refused Spells spell ds rest e (inr (inl full)) = full.1
@@ -104,7 +104,7 @@ module _ {D : Type 0} (bytes : D → List ℕ) (size : ℕ) (sized : (x : D) →
       (record { leaves = first.0; inactive = second.0; digests = last.0 }, last.1)
 
 -- digests are refused with one error, `OutOfMemory` aside
-IsDigestsRefusal_once : (size : ℕ) (Spells : List ℕ → Type 0) (n : ℕ) (b : List ℕ) (e f : DecodeError) → e ≢ OutOfMemory → f ≢ OutOfMemory
+pub IsDigestsRefusal_once : (size : ℕ) (Spells : List ℕ → Type 0) (n : ℕ) (b : List ℕ) (e f : DecodeError) → e ≢ OutOfMemory → f ≢ OutOfMemory
     → IsDigestsRefusal size Spells n b e → IsDigestsRefusal size Spells n b f → e ≡ f
 IsDigestsRefusal_once size Spells n b e f x y (inl h) (inl k) = h.1 ∙ sym k.1
 IsDigestsRefusal_once size Spells n b e f x y (inl h) (inr (inl k)) = absurd (y k.1)

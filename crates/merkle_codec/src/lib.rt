@@ -2,6 +2,6 @@
 #![tactic(auto)]
 
 pub mod codec;
-mod number;
+pub mod number;
 pub mod pending;
-mod proof;
+pub mod proof;

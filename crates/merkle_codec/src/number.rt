@@ -58,9 +58,11 @@ pub(crate) fn read_number(bytes: &[u8]) -> Result<(u64, &[u8]), DecodeError>
 ///
 /// # Errors
 ///
-/// - those of [`read_number`]
+/// - `EndOfBuffer` if the bytes end before the number does
+/// - `InvalidVarint` if the last byte of the number is `00` and not its only one, or its tenth byte
+///   is not `01`
 /// - `above` if the number exceeds `greatest`
-pub(crate) fn read_up_to(
+pub fn read_up_to(
     bytes: &[u8],
     greatest: u64,
     above: DecodeError,
@@ -95,7 +97,7 @@ fn groups_of(number: u64) -> ([u8; 10], usize)
 }
 
 /// Returns the number of bytes of a number's encoding.
-pub(crate) fn number_size(number: u64) -> usize
+pub fn number_size(number: u64) -> usize
     ensures size { result ≡ length (number_spelling number) }
     ensures at_most_10 { result ≤ 10 }
 {
@@ -104,9 +106,12 @@ pub(crate) fn number_size(number: u64) -> usize
 
 /// Appends a number's encoding.
 ///
-/// `OutOfMemory` if `out` has no room for it and a memory request is refused; `out` is unchanged
-/// then.
-pub(crate) fn write_number(number: u64, out: &mut Vec<u8>) -> Result<(), OutOfMemory>
+/// # Errors
+///
+/// - `OutOfMemory` if `out` has no room for it and a memory request is refused
+///
+/// The contents of `out` are unchanged on error.
+pub fn write_number(number: u64, out: &mut Vec<u8>) -> Result<(), OutOfMemory>
     ensures ok { OnOk result (out.new.items ≡ out.old.items ++ number_spelling number) }
     ensures len { OnOk result (vec_len out.new ≡ vec_len out.old + length (number_spelling number)) }
     ensures err { OnErr result (out.new.items ≡ out.old.items) }

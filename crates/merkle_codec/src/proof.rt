@@ -42,9 +42,17 @@ fn read_digests<D: Digest>(
     Ok((digests, rest))
 }
 
-// Decodes a number of digests, at most `max_digests`, and these digests, and returns them with the
-// bytes after them.
-fn read_counted_digests<D: Digest>(
+/// Decodes a number of digests, at most `max_digests`, and these digests, and returns them with the
+/// bytes after them.
+///
+/// # Errors
+///
+/// - `EndOfBuffer` or `InvalidVarint` if the bytes do not begin with a number
+/// - `TooMany` if the number exceeds `max_digests`
+/// - `EndOfBuffer` if fewer bytes follow than that number of digests has
+/// - `OutOfMemory` if the memory request for the digests is refused
+/// - `Invalid` if the bytes of a digest are not those of any
+pub fn read_counted_digests<D: Digest>(
     alloc: Global,
     bytes: &[u8],
     max_digests: usize,
@@ -86,12 +94,16 @@ fn read_proof<F: Family, D: Digest>(
     }
 }
 
-// Appends the bytes of `digests`.
-//
-// `OutOfMemory` only if `out` has no room for them and a memory request is refused.
-fn write_digests<D: Digest>(digests: &[D], out: &mut Vec<u8>) -> Result<(), OutOfMemory>
+/// Appends the bytes of `digests`.
+///
+/// # Errors
+///
+/// - `OutOfMemory` if `out` has no room for them and a memory request is refused; some of them may
+///   be appended then
+pub fn write_digests<D: Digest>(digests: &[D], out: &mut Vec<u8>) -> Result<(), OutOfMemory>
     ensures ok { OnOk result (out.new.items ≡ out.old.items ++ flat_map D.bytes digests.now) }
     ensures no_room { OnErr result (vec_capacity out.old < vec_len out.old + length digests.now * D.SIZE) }
+    ensures capacity { vec_capacity out.old ≤ vec_capacity out.new }
 {
     for digest in digests {
         out.extend_from_slice(digest.as_bytes())?;
