@@ -36,12 +36,15 @@ PENDING = ("add", "update", "commit")
 MOST = str(2 ** 64 - 1)
 EARLY_WORDS = {
     "fork child from_mem copy": (2, "?"),
-    "parts from_components read_range": (2, MOST),
+    "parts from_components read_range read_root": (2, MOST),
+    "components first_damaged": (1, "?"),
     "leaf_digests slice_range slice_multi": (1, MOST),
     "read_history": (2, "0"),
     "slice_history": (3, "0"),
-    "check check_leaf check_pinned reconstruct extract store": (4, MOST),
-    "plan plan+build plan_leaf plan_leaf+build positions positions_leaf groups multi_positions check_multi read_proof read_hex": (1, "0"),
+    "check check_leaf check_pinned check_digests check_leaf_digest check_pinned_digests reconstruct extract store": (4, MOST),
+    "read_config": (2, "0"),
+    "plan plan+build plan_leaf plan_leaf+build positions positions_leaf groups multi_positions check_multi check_multi_digests read_proof read_hex":
+        (1, "0"),
     "node_digests": (2, "-"),
     "audit_apply": (2, "?"),
     "audit_range audit_multi": (6, "?"),

@@ -5,119 +5,91 @@ use crate::{Log, LogError};
 use merkle_core::codec::{Read, Write};
 use merkle_core::digest::Digest;
 use merkle_core::error::ReconstructionError;
-use merkle_core::family::Family as _;
+use merkle_core::family::MAX_PINNED_NODES;
 use merkle_core::granted;
 use merkle_core::hasher::Hasher;
-use merkle_core::mmr::{Family, Location, Mmr, Position, Proof};
+use merkle_core::mem::{Config, ConfigLimits};
+use merkle_core::mmr::{Family, Location, Mmr, Proof};
 use std::alloc::Global;
-
-/// Appends digests, one after another.
-fn write_digests<D: Digest>(digests: &[D], bytes: &mut Vec<u8>) -> Result<(), LogError> {
-    for digest in digests {
-        bytes.extend_from_slice(digest.as_bytes())?;
-    }
-    Ok(())
-}
-
-/// Appends the digests of the nodes that a log holds from its boundary on.
-fn write_nodes<H: Hasher<Family> + Drop>(
-    log: &Log<H>,
-    boundary: Location,
-    bytes: &mut Vec<u8>,
-) -> Result<(), LogError> {
-    if boundary.is_valid() {
-        let start = Family::location_to_position(boundary);
-        for index in start.as_u64()..log.tree.size().as_u64() {
-            let digest = log.tree.get_node(Position::new(index));
-            bytes.extend_from_slice(digest.ok_or(LogError::Pruned)?.as_bytes())?;
-        }
-    }
-    Ok(())
-}
 
 /// The bytes of what a log holds: its boundary, the digests of the peaks over the entries before it, and the nodes from there on.
 fn written<H: Hasher<Family> + Drop>(log: &Log<H>) -> Result<Vec<u8>, LogError> {
-    let boundary = log.tree.pruning_boundary();
-    let pins = log.pins(boundary)?;
     let mut bytes = Vec::new(log.alloc);
-    boundary.write(&mut bytes)?;
-    write_digests(&pins, &mut bytes)?;
-    write_nodes(log, boundary, &mut bytes)?;
+    log.tree.to_config()?.write(&mut bytes)?;
     Ok(bytes)
 }
 
-/// The digests that bytes are, one after another.
-fn digests<D: Digest>(alloc: Global, bytes: &[u8]) -> Result<Vec<D>, LogError> {
-    let mut all = Vec::new(alloc);
-    for part in bytes.chunks(D::SIZE) {
-        all.push(D::from_bytes(part).ok_or(LogError::Refused)?)?;
-    }
-    Ok(all)
-}
-
-/// The structure that was written down. Nothing is hashed here: the digests are taken as they are.
-fn read_back<D: Digest>(alloc: Global, bytes: &[u8]) -> Result<Mmr<D>, LogError> {
-    let mut rest = bytes;
-    let boundary = Location::read(alloc, &mut rest, &())?;
-    if !boundary.is_valid() {
-        return Err(LogError::Refused);
-    }
-    let pins = Family::nodes_to_pin(boundary).count();
-    let Some((pinned, nodes)) = rest.split_at_checked(pins.saturating_mul(D::SIZE)) else {
-        return Err(LogError::Refused);
+/// What was written down. No more digests are asked for than there are bytes.
+fn read_back<D: Digest>(alloc: Global, bytes: &[u8]) -> Result<Config<Family, D>, LogError> {
+    let limits = ConfigLimits {
+        pinned_nodes: MAX_PINNED_NODES,
+        nodes: bytes.len(),
     };
-    let (pinned, nodes) = (digests(alloc, pinned)?, digests(alloc, nodes)?);
-    Ok(granted!(Mmr::from_components(nodes, boundary, pinned)))
+    let mut rest = bytes;
+    let config = Config::read(alloc, &mut rest, &limits)?;
+    if !rest.is_empty() {
+        return Err(LogError::Refused);
+    }
+    Ok(config)
 }
 
-/// Whether bytes are those of a structure with this root. The root covers the peaks alone, and says nothing of the nodes below them.
+/// What becomes of bytes that are read back, in the place of the log with this root.
+///
+/// The root covers the peaks alone, and says nothing of the nodes below them: these are checked first.
+fn outcome<H: Hasher<Family> + Drop>(
+    log: &Log<H>,
+    bytes: &[u8],
+    root: &H::Digest,
+) -> Result<&'static str, LogError> {
+    let tree = granted!(Mmr::init(read_back(log.alloc, bytes)?));
+    if tree.first_damaged(&log.hasher).is_some() {
+        return Ok("a damaged node");
+    }
+    if granted!(tree.root(&log.hasher, 0)) != *root {
+        return Ok("another root");
+    }
+    Ok("the log")
+}
+
+/// Whether bytes are those of a structure with this root, whatever nodes are below its peaks.
 fn has_root<H: Hasher<Family> + Drop>(
     log: &Log<H>,
     bytes: &[u8],
     root: &H::Digest,
 ) -> Result<bool, LogError> {
-    let tree = read_back(log.alloc, bytes)?;
+    let tree = granted!(Mmr::init(read_back(log.alloc, bytes)?));
     Ok(granted!(tree.root(&log.hasher, 0)) == *root)
 }
 
-/// Changes a bit of the byte at an index, or changes it back.
+/// Changes a bit of the byte at an index.
 fn flip(bytes: &mut [u8], index: usize) {
     if let Some(byte) = bytes.get_mut(index) {
         *byte ^= 1;
     }
 }
 
-/// Whether bytes are those of a structure with this root, if a bit of the byte at an index is changed.
-fn has_root_with_change<H: Hasher<Family> + Drop>(
-    log: &Log<H>,
-    bytes: &mut [u8],
-    index: usize,
-    root: &H::Digest,
-) -> Result<bool, LogError> {
-    flip(bytes, index);
-    let is_same = has_root(log, bytes, root)?;
-    flip(bytes, index);
-    Ok(is_same)
-}
-
-/// The log is written down, and read back after a restart. Its root does not notice a node that was damaged below a peak, and
-/// notices a peak.
+/// The log is written down, and read back after a restart. Its root does not notice a node that was damaged below a peak; the
+/// search for a damaged node does.
 pub(crate) fn show_restart<H: Hasher<Family> + Drop>(
     rt: &impl Print,
     log: &Log<H>,
+    old: &H::Digest,
     root: &H::Digest,
 ) -> Result<(), LogError> {
     let mut bytes = written(log)?;
     tell_size(rt, "the log is written in", &bytes)?;
-    let is_same = has_root(log, &bytes, root)?;
-    say(rt, "read back, it has the same root", is_same)?;
+    tell(rt, "read back, it is", outcome(log, &bytes, root)?)?;
+    tell(rt, "with the root of 5 entries", outcome(log, &bytes, old)?)?;
     // The peak is written last, and before it a node below it.
-    let last = bytes.len().saturating_sub(1);
-    let inner = last.saturating_sub(H::Digest::SIZE);
-    let is_same = has_root_with_change(log, &mut bytes, inner, root)?;
-    say(rt, "with a bit of an inner node changed", is_same)?;
-    let is_same = has_root_with_change(log, &mut bytes, last, root)?;
-    say(rt, "with a bit of the peak changed", is_same)
+    let inner = bytes.len().saturating_sub(1 + H::Digest::SIZE);
+    flip(&mut bytes, inner);
+    let is_same = has_root(log, &bytes, root)?;
+    say(
+        rt,
+        "with a bit of an inner node changed, its root is the same",
+        is_same,
+    )?;
+    tell(rt, "read back so, it has", outcome(log, &bytes, root)?)
 }
 
 /// Why a proof leads to no root.

@@ -41,8 +41,8 @@ enum LogError {
     Pruned,
     #[error("refused by the log")]
     Refused,
-    #[error("no proof: {0}")]
-    NoProof(#[from] DecodeError),
+    #[error("not decoded: {0}")]
+    NotDecoded(#[from] DecodeError),
     #[error("out of memory")]
     OutOfMemory(#[from(alloc)] AllocError),
     #[error("no output: {0}")]
@@ -204,7 +204,7 @@ fn show_log<H: Hasher<Family> + Drop>(
     show_following(rt, &log, &mut client, &root)?;
     show_store(rt, &log, &root)?;
     show_pruning(rt, &mut log, &root)?;
-    show_restart(rt, &log, &root)?;
+    show_restart(rt, &log, &old, &root)?;
     show_reasons(rt, &log, &root)
 }
 

@@ -108,6 +108,15 @@ impl<F: Family, H: Hasher<F>> Trees<'_, F, H> {
         Some(())
     }
 
+    // The search for a damaged node, of which there is none.
+    fn search_damage<C: CpuClock>(&self, watch: &mut Stopwatch<C>) {
+        let start = watch.now();
+        let found = self.structure.first_damaged(&self.hashers.forward);
+        let units = self.elements.len() as u64;
+        watch.note(self.name, "first_damaged", units, start);
+        watch.is_whole &= found.is_none();
+    }
+
     // A batch for each leaf.
     fn append_one_by_one<C: CpuClock>(&self, watch: &mut Stopwatch<C>) -> Option<()> {
         let mut structure: Mem<F, H::Digest> = Mem::new(self.alloc);
@@ -229,6 +238,7 @@ impl<F: Family, H: Hasher<F>> Trees<'_, F, H> {
         self.add_together(watch)?;
         let batch = self.add_each(watch)?;
         self.commit(watch, &APPEND_ROWS, self.elements.len(), batch)?;
+        self.search_damage(watch);
         self.append_one_by_one(watch)?;
         self.roots(watch);
         self.proofs(watch)?;

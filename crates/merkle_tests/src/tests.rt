@@ -1,4 +1,4 @@
-//! Values, bytes, hexadecimal words, added leaves, audits, counts, lines, and proofs over what holds nodes, with values that were worked out
+//! Values, bytes, hexadecimal words, added leaves, audits, counts, checks by digests of leaves, lines, and proofs over what holds nodes, with values that were worked out
 //! by hand.
 //!
 //! A digest of `Xor8` is the exclusive or of the bytes that it hashes.
@@ -8,6 +8,8 @@ mod audits;
 mod bytes;
 mod codec;
 mod counts;
+mod held;
+mod leaf_digests;
 mod lines;
 mod pending;
 mod values;

@@ -54,9 +54,17 @@ pub fn answer_given<F: Family, H: Hasher<F>>(
 ) -> Result<(), Refusal> {
     match call {
         GivenCall::Check => proofs::check::<F, H>(hasher, words, answer),
+        GivenCall::CheckDigests => proofs::check_digests::<F, H>(hasher, words, answer),
         GivenCall::CheckLeaf => proofs::check_leaf::<F, H>(hasher, words, answer),
+        GivenCall::CheckLeafDigest => proofs::check_leaf_digest::<F, H>(hasher, words, answer),
         GivenCall::CheckMulti => proofs::check_multi::<F, H>(hasher, words, answer),
+        GivenCall::CheckMultiDigests => {
+            proofs::check_multi_digests::<F, H>(hasher, words, answer)
+        }
         GivenCall::CheckPinned => proofs::check_pinned::<F, H>(hasher, words, answer),
+        GivenCall::CheckPinnedDigests => {
+            proofs::check_pinned_digests::<F, H>(hasher, words, answer)
+        }
         GivenCall::Extract => proofs::extract::<F, H>(hasher, words, answer),
         GivenCall::MultiPositions => proofs::multi_positions::<F>(words, answer),
         GivenCall::Reconstruct => proofs::reconstruct::<F, H>(hasher, words, answer),
@@ -77,10 +85,12 @@ pub fn answer_bytes<F: Family, H: Hasher<F>>(
         BytesCall::CopyProof => codec::copy_proof::<F, H::Digest>(words, answer),
         BytesCall::LeafDigests => digests::leaf_digests::<F, H>(hasher, words, answer),
         BytesCall::NodeDigests => digests::node_digests::<F, H>(hasher, words, answer),
+        BytesCall::ReadConfig => codec::read_config::<F, H::Digest>(words, answer),
         BytesCall::ReadHex => codec::decode(words, answer),
         BytesCall::ReadProof => codec::read_proof::<F, H::Digest>(words, answer),
         BytesCall::RootString => digests::root_string::<F, H>(hasher, words, answer),
         BytesCall::WriteChunk => codec::write_chunk::<H::Digest>(words, answer),
+        BytesCall::WriteConfig => codec::write_config::<F, H::Digest>(words, answer),
         BytesCall::WriteHex => codec::encode(words, answer),
         BytesCall::WriteLocation => codec::write_location::<F>(words, answer),
         BytesCall::WritePosition => codec::write_position::<F>(words, answer),

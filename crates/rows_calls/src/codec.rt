@@ -1,6 +1,6 @@
 //! Calls that encode and decode.
 
-use crate::values::{digest, proof};
+use crate::values::{digest, digests, proof};
 use crate::writing;
 use merkle_commands::hex_words::{HexError, read_hex, write_hex};
 use merkle_core::codec::{Read, Write};
@@ -8,6 +8,7 @@ use merkle_core::digest::Digest;
 use merkle_core::error::DecodeError;
 use merkle_core::family::Family;
 use merkle_core::location::Location;
+use merkle_core::mem::{Config, ConfigLimits};
 use merkle_core::position::Position;
 use merkle_core::proof::Proof;
 use rows_text::answer::Answer;
@@ -77,6 +78,16 @@ pub fn write_chunk<D: Digest>(words: &mut Words, answer: &mut Answer) -> Result<
     append(words, &Some(chunk), answer)
 }
 
+// Writes the bytes after an encoding.
+fn write_rest(answer: &mut Answer, rest: &[u8]) {
+    answer.text(" rest ");
+    if rest.is_empty() {
+        answer.text("-");
+    } else {
+        answer.bytes(rest);
+    }
+}
+
 /// The proof of at most so many digests that bytes begin with, and the bytes after it.
 pub fn read_proof<F: Family, D: Digest>(
     words: &mut Words,
@@ -89,12 +100,47 @@ pub fn read_proof<F: Family, D: Digest>(
     match Proof::<F, D>::read(words.alloc(), &mut input, &most) {
         Ok(proof) => {
             writing::write_proof(answer, &proof);
-            answer.text(" rest ");
-            if input.is_empty() {
-                answer.text("-");
-            } else {
-                answer.bytes(input);
-            }
+            write_rest(answer, input);
+            Ok(())
+        }
+        Err(_) if input.len() != bytes.len() => Err(CHANGED),
+        Err(error) => Err(undecoded(&error)),
+    }
+}
+
+/// The encoding of the components of a structure, appended to the byte 77.
+pub fn write_config<F: Family, D: Digest>(
+    words: &mut Words,
+    answer: &mut Answer,
+) -> Result<(), Refusal> {
+    let pruning_boundary = Location::new(words.number());
+    let nodes = digests(words);
+    let pinned_nodes = digests(words);
+    words.end()?;
+    let config: Config<F, D> = Config {
+        nodes,
+        pruning_boundary,
+        pinned_nodes,
+    };
+    append(words, &config, answer)
+}
+
+/// The components within two limits that bytes begin with, and the bytes after them.
+pub fn read_config<F: Family, D: Digest>(
+    words: &mut Words,
+    answer: &mut Answer,
+) -> Result<(), Refusal> {
+    let limits = ConfigLimits {
+        nodes: words.count(),
+        pinned_nodes: words.count(),
+    };
+    let bytes = words.bytes();
+    words.end()?;
+    let mut input = bytes.as_slice();
+    match Config::<F, D>::read(words.alloc(), &mut input, &limits) {
+        Ok(config) => {
+            writing::write_config(answer, &config);
+            write_rest(answer, input);
             Ok(())
         }
         Err(_) if input.len() != bytes.len() => Err(CHANGED),

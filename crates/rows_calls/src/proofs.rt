@@ -2,7 +2,7 @@
 
 use crate::checks::{accepts_leaf, accepts_range, accepts_scattered};
 use crate::refusal::{granted, refused, unreconstructed};
-use crate::values::{digest, digests, locations, proof};
+use crate::values::{digest, digests, located_digests, locations, proof};
 use crate::writing::{write_accepted, write_granted_positions, write_pairs};
 use merkle_core::digest::Digest;
 use merkle_core::family::Family;
@@ -72,6 +72,66 @@ pub fn check_multi<F: Family, H: Hasher<F>>(
     words.end()?;
     let accepted = accepts_scattered(words.alloc(), hasher, &proof, &found, &root);
     write_accepted(answer, accepted)
+}
+
+/// Whether a proof of a range is accepted with the digests of its leaves.
+pub fn check_digests<F: Family, H: Hasher<F>>(
+    hasher: &H,
+    words: &mut Words,
+    answer: &mut Answer,
+) -> Result<(), Refusal> {
+    let proof: Proof<F, H::Digest> = proof(words);
+    let start = Location::new(words.number());
+    let leaves = digests(words);
+    let root = digest(words);
+    words.end()?;
+    let checked = proof.verify_leaf_digests_inclusion(hasher, &leaves, start, &root);
+    write_accepted(answer, checked.ok().ok_or(OUT_OF_MEMORY))
+}
+
+/// Whether a proof of a leaf is accepted with its digest.
+pub fn check_leaf_digest<F: Family, H: Hasher<F>>(
+    hasher: &H,
+    words: &mut Words,
+    answer: &mut Answer,
+) -> Result<(), Refusal> {
+    let proof: Proof<F, H::Digest> = proof(words);
+    let location = Location::new(words.number());
+    let leaf = digest(words);
+    let root = digest(words);
+    words.end()?;
+    let checked = proof.verify_leaf_digest_inclusion(hasher, &leaf, location, &root);
+    write_accepted(answer, checked.ok().ok_or(OUT_OF_MEMORY))
+}
+
+/// Whether a proof of a range is accepted with the digests of its leaves and the pins before it.
+pub fn check_pinned_digests<F: Family, H: Hasher<F>>(
+    hasher: &H,
+    words: &mut Words,
+    answer: &mut Answer,
+) -> Result<(), Refusal> {
+    let proof: Proof<F, H::Digest> = proof(words);
+    let start = Location::new(words.number());
+    let leaves = digests(words);
+    let pins = digests(words);
+    let root = digest(words);
+    words.end()?;
+    let checked = proof.verify_leaf_digests_and_pinned_nodes(hasher, &leaves, start, &pins, &root);
+    write_accepted(answer, checked.ok().ok_or(OUT_OF_MEMORY))
+}
+
+/// Whether a proof of leaves anywhere is accepted with their digests.
+pub fn check_multi_digests<F: Family, H: Hasher<F>>(
+    hasher: &H,
+    words: &mut Words,
+    answer: &mut Answer,
+) -> Result<(), Refusal> {
+    let proof: Proof<F, H::Digest> = proof(words);
+    let leaves = located_digests(words);
+    let root = digest(words);
+    words.end()?;
+    let checked = proof.verify_multi_leaf_digests_inclusion(hasher, &leaves, &root);
+    write_accepted(answer, checked.ok().ok_or(OUT_OF_MEMORY))
 }
 
 /// The positions that a proof of leaves anywhere reads.

@@ -1,6 +1,7 @@
 //! Calls of proofs over what holds nodes.
 ghost use Rattle.std.specs.Prelude.{◌≡◌, slice_get};
 
+use crate::refusal::refused;
 use crate::values::{digests, locations, range};
 use crate::writing::write_granted_proof;
 use merkle_core::digest::Digest;
@@ -9,7 +10,9 @@ use merkle_core::hasher::Hasher;
 use merkle_core::location::Location;
 use merkle_core::position::Position;
 use merkle_core::read::Readable;
-use merkle_core::verification::{historical_range_proof, multi_proof, range_proof};
+use merkle_core::verification::{
+    historical_range_proof, historical_root, multi_proof, range_proof,
+};
 use rows_text::answer::Answer;
 use rows_text::refusal::Refusal;
 use rows_text::words::Words;
@@ -48,6 +51,25 @@ fn node_list<F: Family, D: Digest>(words: &mut Words) -> NodeList<F, D> {
     NodeList {
         size: Position::new(words.number()),
         nodes: digests(words),
+    }
+}
+
+/// The root of the first leaves over what holds nodes.
+pub fn root_over<R: Readable, H: Hasher<R::Family, Digest = R::Digest>>(
+    hasher: &H,
+    reader: &R,
+    words: &mut Words,
+    answer: &mut Answer,
+) -> Result<(), Refusal> {
+    let leaves = Location::new(words.number());
+    let inactive = words.count();
+    words.end()?;
+    match historical_root(hasher, reader, leaves, inactive) {
+        Ok(root) => {
+            answer.bytes(root.as_bytes());
+            Ok(())
+        }
+        Err(error) => Err(refused(&error)),
     }
 }
 

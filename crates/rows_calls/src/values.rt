@@ -51,6 +51,17 @@ pub fn updates<F: Family, D: Digest>(words: &mut Words) -> Vec<(Location<F>, D)>
     all
 }
 
+/// The digests of the list that the next word is, each with its location.
+pub fn located_digests<F: Family, D: Digest>(words: &mut Words) -> Vec<(D, Location<F>)> {
+    let list = words.located();
+    let mut all = Vec::new(words.alloc());
+    for item in &list {
+        let digest = spelled(words, item.bytes.as_slice());
+        words.push(&mut all, (digest, Location::new(item.index)));
+    }
+    all
+}
+
 /// The positions of the list that the next word is, each with its digest.
 pub fn pairs<F: Family, D: Digest>(words: &mut Words) -> Vec<(Position<F>, D)> {
     let list = words.located();

@@ -4,6 +4,7 @@ use crate::refusal::refused;
 use merkle_core::digest::Digest;
 use merkle_core::error::Error;
 use merkle_core::family::Family;
+use merkle_core::mem::Config;
 use merkle_core::position::Position;
 use merkle_core::proof::Proof;
 use merkle_core::read::Readable;
@@ -20,6 +21,15 @@ pub fn write_digests<D: Digest>(answer: &mut Answer, digests: &[D]) {
         answer.bytes(digest.as_bytes());
     }
     answer.none_if(digests.is_empty());
+}
+
+/// Writes the components of a structure: the boundary, the nodes and the pins.
+pub fn write_config<F: Family, D: Digest>(answer: &mut Answer, config: &Config<F, D>) {
+    answer.number(config.pruning_boundary.as_u64());
+    answer.text(" ");
+    write_digests(answer, &config.nodes);
+    answer.text(" ");
+    write_digests(answer, &config.pinned_nodes);
 }
 
 /// Writes digests, each after its position, as one word.

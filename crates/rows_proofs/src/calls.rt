@@ -37,6 +37,7 @@ pub fn answer_store<F: Family, H: Hasher<F> + Drop>(
         StoreCall::ReadHistory => readers::read_history(world, words, answer),
         StoreCall::ReadMulti => readers::read_multi(world, words, answer),
         StoreCall::ReadRange => readers::read_range(world, words, answer),
+        StoreCall::ReadRoot => readers::read_root(world, words, answer),
         StoreCall::Store => stores::store(world, words),
         StoreCall::StoreMulti => stores::store_multi(world, words, answer),
         StoreCall::StoreNode => stores::store_node(world, words, answer),

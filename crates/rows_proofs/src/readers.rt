@@ -3,7 +3,7 @@
 use merkle_core::batch::MerkleizedBatch;
 use merkle_core::family::Family;
 use merkle_core::hasher::Hasher;
-use rows_calls::readers::{history_over, multi_over, range_over};
+use rows_calls::readers::{history_over, multi_over, range_over, root_over};
 use rows_calls::world::World;
 use rows_text::answer::Answer;
 use rows_text::refusal::Refusal;
@@ -35,6 +35,20 @@ pub fn read_history<F: Family, H: Hasher<F> + Drop>(
     }
     let batch: &MerkleizedBatch<F, H::Digest> = named(&world.batches, name)?;
     history_over(&world.hasher, batch, words, answer)
+}
+
+/// The root of the first leaves, over a structure or over a batch.
+pub fn read_root<F: Family, H: Hasher<F> + Drop>(
+    world: &World<F, H>,
+    words: &mut Words,
+    answer: &mut Answer,
+) -> Result<(), Refusal> {
+    let name = words.word();
+    if let Some(structure) = world.structures.get(name) {
+        return root_over(&world.hasher, structure, words, answer);
+    }
+    let batch: &MerkleizedBatch<F, H::Digest> = named(&world.batches, name)?;
+    root_over(&world.hasher, batch, words, answer)
 }
 
 /// The proof of leaves anywhere over a structure, or else over a shared batch.

@@ -19,8 +19,10 @@ pub fn answer_structure<F: Family, H: Hasher<F> + Drop>(
     let name = words.word();
     match call {
         StructureCall::Bounds => structures::bounds(world, name, answer),
+        StructureCall::Components => structures::components(world, name, answer),
         StructureCall::Copy => structures::copy(world, name, words.word()),
         StructureCall::Empty => structures::empty(world, name),
+        StructureCall::FirstDamaged => structures::first_damaged(world, name, answer),
         StructureCall::FromComponents => structures::from_components(world, name, words),
         StructureCall::Parts => structures::parts(world, name, words),
         StructureCall::Peaks => structures::peaks(world, name, answer),
@@ -39,6 +41,7 @@ pub fn answer_node<F: Family, H: Hasher<F> + Drop>(
 ) -> Result<(), Refusal> {
     let name = words.word();
     match call {
+        NodeCall::HeldLeaves => nodes::held_leaves(world, name, answer),
         NodeCall::Leaves => nodes::leaves(world, name, answer),
         NodeCall::Node => nodes::node(world, name, words, answer),
         NodeCall::Nodes => nodes::nodes(world, name, answer),

@@ -7,7 +7,7 @@ use merkle_core::position::Position;
 use rows_calls::MOST_PEAKS;
 use rows_calls::refusal::granted;
 use rows_calls::world::World;
-use rows_calls::writing::{write_node, write_nodes};
+use rows_calls::writing::{write_digests, write_node, write_nodes};
 use rows_text::answer::Answer;
 use rows_text::refusal::Refusal;
 use rows_text::words::{Words, named};
@@ -37,6 +37,18 @@ pub fn leaves<F: Family, H: Hasher<F> + Drop>(
         None => named(&world.batches, name)?.leaves(),
     };
     answer.number(leaves.as_u64());
+    Ok(())
+}
+
+/// The digests of the leaves that a structure holds.
+pub fn held_leaves<F: Family, H: Hasher<F> + Drop>(
+    world: &World<F, H>,
+    name: &str,
+    answer: &mut Answer,
+) -> Result<(), Refusal> {
+    let structure = named(&world.structures, name)?;
+    let digests: Vec<H::Digest> = structure.leaf_digests().collect(world.alloc)?;
+    write_digests(answer, &digests);
     Ok(())
 }
 

@@ -9,7 +9,7 @@ use merkle_core::position::Position;
 use rows_calls::refusal::{granted, refused};
 use rows_calls::values::digests;
 use rows_calls::world::World;
-use rows_calls::writing::write_peaks;
+use rows_calls::writing::{write_config, write_peaks};
 use rows_text::answer::Answer;
 use rows_text::refusal::{Refusal, UNKNOWN};
 use rows_text::words::{Words, give_name, named};
@@ -67,6 +67,31 @@ pub fn from_components<F: Family, H: Hasher<F> + Drop>(
     words.end()?;
     let structure = granted(Mem::from_components(nodes, boundary, pins))?;
     give_name(world.alloc, &mut world.structures, name, structure)
+}
+
+/// The components of a structure.
+pub fn components<F: Family, H: Hasher<F> + Drop>(
+    world: &World<F, H>,
+    name: &str,
+    answer: &mut Answer,
+) -> Result<(), Refusal> {
+    let config = named(&world.structures, name)?.to_config()?;
+    write_config(answer, &config);
+    Ok(())
+}
+
+/// The position of the first damaged node of a structure.
+pub fn first_damaged<F: Family, H: Hasher<F> + Drop>(
+    world: &World<F, H>,
+    name: &str,
+    answer: &mut Answer,
+) -> Result<(), Refusal> {
+    let structure = named(&world.structures, name)?;
+    match structure.first_damaged(&world.hasher) {
+        Some(position) => answer.number(position.as_u64()),
+        None => answer.text("none"),
+    }
+    Ok(())
 }
 
 /// Prunes a structure before a location.

@@ -48,9 +48,13 @@ pub enum PlanCall {
 #[derive(Clone, Copy)]
 pub enum GivenCall {
     Check,
+    CheckDigests,
     CheckLeaf,
+    CheckLeafDigest,
     CheckMulti,
+    CheckMultiDigests,
     CheckPinned,
+    CheckPinnedDigests,
     Extract,
     MultiPositions,
     Reconstruct,
@@ -65,10 +69,12 @@ pub enum BytesCall {
     CopyProof,
     LeafDigests,
     NodeDigests,
+    ReadConfig,
     ReadHex,
     ReadProof,
     RootString,
     WriteChunk,
+    WriteConfig,
     WriteHex,
     WriteLocation,
     WritePosition,
@@ -81,6 +87,8 @@ pub enum StructureCall {
     Bounds,
     Copy,
     Empty,
+    FirstDamaged,
+    Components,
     FromComponents,
     Parts,
     Peaks,
@@ -92,6 +100,7 @@ pub enum StructureCall {
 /// The calls of the nodes and roots of structures and batches.
 #[derive(Clone, Copy)]
 pub enum NodeCall {
+    HeldLeaves,
     Leaves,
     Node,
     Nodes,
@@ -163,6 +172,7 @@ pub enum StoreCall {
     ReadHistory,
     ReadMulti,
     ReadRange,
+    ReadRoot,
     Store,
     StoreMulti,
     StoreNode,
@@ -181,7 +191,7 @@ pub enum AuditCall {
 }
 
 /// Each call, with its first word and the number of its words.
-const CALLS: [(&str, usize, Call); 97] = [
+const CALLS: [(&str, usize, Call); 107] = [
     ("height", 2, Call::Family(FamilyCall::Height)),
     ("inactive", 3, Call::Family(FamilyCall::Inactive)),
     ("is_inactive", 4, Call::Family(FamilyCall::IsInactive)),
@@ -199,9 +209,25 @@ const CALLS: [(&str, usize, Call); 97] = [
     ("positions", 4, Call::Plan(PlanCall::Positions)),
     ("positions_leaf", 3, Call::Plan(PlanCall::PositionsLeaf)),
     ("check", 7, Call::Given(GivenCall::Check)),
+    ("check_digests", 7, Call::Given(GivenCall::CheckDigests)),
     ("check_leaf", 7, Call::Given(GivenCall::CheckLeaf)),
+    (
+        "check_leaf_digest",
+        7,
+        Call::Given(GivenCall::CheckLeafDigest),
+    ),
     ("check_multi", 6, Call::Given(GivenCall::CheckMulti)),
+    (
+        "check_multi_digests",
+        6,
+        Call::Given(GivenCall::CheckMultiDigests),
+    ),
     ("check_pinned", 8, Call::Given(GivenCall::CheckPinned)),
+    (
+        "check_pinned_digests",
+        8,
+        Call::Given(GivenCall::CheckPinnedDigests),
+    ),
     ("extract", 7, Call::Given(GivenCall::Extract)),
     ("multi_positions", 3, Call::Given(GivenCall::MultiPositions)),
     ("reconstruct", 6, Call::Given(GivenCall::Reconstruct)),
@@ -211,17 +237,25 @@ const CALLS: [(&str, usize, Call); 97] = [
     ("copy_proof", 4, Call::Bytes(BytesCall::CopyProof)),
     ("leaf_digests", 3, Call::Bytes(BytesCall::LeafDigests)),
     ("node_digests", 4, Call::Bytes(BytesCall::NodeDigests)),
+    ("read_config", 4, Call::Bytes(BytesCall::ReadConfig)),
     ("read_hex", 2, Call::Bytes(BytesCall::ReadHex)),
     ("read_proof", 3, Call::Bytes(BytesCall::ReadProof)),
     ("root_string", 4, Call::Bytes(BytesCall::RootString)),
     ("write_chunk", 2, Call::Bytes(BytesCall::WriteChunk)),
+    ("write_config", 4, Call::Bytes(BytesCall::WriteConfig)),
     ("write_hex", 2, Call::Bytes(BytesCall::WriteHex)),
     ("write_location", 2, Call::Bytes(BytesCall::WriteLocation)),
     ("write_position", 2, Call::Bytes(BytesCall::WritePosition)),
     ("write_proof", 4, Call::Bytes(BytesCall::WriteProof)),
     ("bounds", 2, Call::Structure(StructureCall::Bounds)),
+    ("components", 2, Call::Structure(StructureCall::Components)),
     ("copy", 3, Call::Structure(StructureCall::Copy)),
     ("empty", 2, Call::Structure(StructureCall::Empty)),
+    (
+        "first_damaged",
+        2,
+        Call::Structure(StructureCall::FirstDamaged),
+    ),
     (
         "from_components",
         5,
@@ -232,6 +266,7 @@ const CALLS: [(&str, usize, Call); 97] = [
     ("prune", 3, Call::Structure(StructureCall::Prune)),
     ("prune_all", 2, Call::Structure(StructureCall::PruneAll)),
     ("same", 3, Call::Structure(StructureCall::Same)),
+    ("held_leaves", 2, Call::Node(NodeCall::HeldLeaves)),
     ("leaves", 2, Call::Node(NodeCall::Leaves)),
     ("node", 3, Call::Node(NodeCall::Node)),
     ("nodes", 2, Call::Node(NodeCall::Nodes)),
@@ -277,6 +312,7 @@ const CALLS: [(&str, usize, Call); 97] = [
     ("read_history", 6, Call::Store(StoreCall::ReadHistory)),
     ("read_multi", 4, Call::Store(StoreCall::ReadMulti)),
     ("read_range", 5, Call::Store(StoreCall::ReadRange)),
+    ("read_root", 4, Call::Store(StoreCall::ReadRoot)),
     ("store", 8, Call::Store(StoreCall::Store)),
     ("store_multi", 4, Call::Store(StoreCall::StoreMulti)),
     ("store_node", 3, Call::Store(StoreCall::StoreNode)),

@@ -18,7 +18,7 @@ use std::cell::Cell;
 use std::process::Abort;
 
 /// By SHA-256: the digests of the leaves 0 and 1, of the node over them, of leaf 2, and the root.
-const SHA256: [&str; 5] = [
+pub(super) const SHA256: [&str; 5] = [
     "2ae1c19c0cbd378e46c927a9f3611923ec07cc1ae357502a09536d455275cf21",
     "57371aca58aaf804a0eb0fad7039c80a1cd53f85d29bf276a21388ec1be58fce",
     "bf7c63680c5908e65cc9aa2385bf7cfc24e5c78a3a28babb28ce26700e479b71",
@@ -27,13 +27,13 @@ const SHA256: [&str; 5] = [
 ];
 
 /// The digest that is written so.
-fn sha256(rt: &(impl Abort + AllocGlobal), word: &str) -> Sha256Digest {
+pub(super) fn sha256(rt: &(impl Abort + AllocGlobal), word: &str) -> Sha256Digest {
     let bytes = read_hex(rt.alloc(), word).ok().expect(rt, "a word");
     Sha256Digest::from_bytes(bytes.as_slice()).expect(rt, "32 bytes")
 }
 
 /// The proof of some of three leaves.
-fn proof<D: Digest>(rt: &(impl Abort + AllocGlobal), digests: &[D]) -> Proof<D> {
+pub(super) fn proof<D: Digest>(rt: &(impl Abort + AllocGlobal), digests: &[D]) -> Proof<D> {
     Proof {
         leaves: Location::new(3),
         inactive_peaks: 0,

@@ -2,3 +2,4 @@
 
 mod extraction;
 mod readers;
+mod roots;
