@@ -81,7 +81,8 @@ pub(crate) fn show_restart<H: Hasher<Family> + Drop>(
     tell(rt, "read back, it is", outcome(log, &bytes, root)?)?;
     tell(rt, "with the root of 5 entries", outcome(log, &bytes, old)?)?;
     // The peak is written last, and before it a node below it.
-    let inner = bytes.len().saturating_sub(1 + H::Digest::SIZE);
+    let last = bytes.len().saturating_sub(1);
+    let inner = last.saturating_sub(H::Digest::SIZE);
     flip(&mut bytes, inner);
     let is_same = has_root(log, &bytes, root)?;
     say(
