@@ -23,6 +23,7 @@ pub use Rattle.merkle_digest.specs.Bytes
 pub mod DigestLaws
 pub mod ConfigBytes
 pub mod ConfigLaws
+pub mod Restored
 pub use Rattle.merkle_sha256.specs.Together
 pub use Rattle.merkle_sha256.specs.PlainHashings
 pub use Rattle.merkle_topology.specs.BeltIterators

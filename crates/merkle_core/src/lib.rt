@@ -18,6 +18,7 @@ pub mod mem;
 pub mod mmb;
 pub mod mmr;
 mod prune;
+pub mod restore;
 
 pub use merkle_base::{error, location, position};
 pub use merkle_batch::batch;
