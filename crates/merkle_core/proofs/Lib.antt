@@ -2,6 +2,7 @@ pub mod HeldReads
 pub mod HonestReads
 pub mod PinMaps
 pub mod WholeMem
+pub mod RestoredMem
 pub mod ConfigSizes
 pub mod KeptLeaves
 -- Lemmas of the crates below that theorems over the public contracts need.
