@@ -2,11 +2,11 @@
 ghost use Rattle.std.specs.Prelude.{◌≡◌, ◌≢◌, ◌≤◌, Some, IfOk, IfErr, length};
 ghost use Rattle.merkle_base.specs.Cases.{first_case};
 ghost use Rattle.merkle_base.specs.Places.{peaks_of};
-ghost use Rattle.merkle_proof.specs.Input.{multi_input_of};
+ghost use Rattle.merkle_proof.specs.Input.{multi_digest_input_of, multi_input_of};
 ghost use Rattle.merkle_audit_parts.specs.Found.{list_refusals, IsMultiVerdict};
 
 use merkle_audit_parts::list::{HashedList, allowed_count};
-use merkle_audit_parts::multi_claim::{accepted, is_shape_refused};
+use merkle_audit_parts::multi_claim::{accepted, is_shape_refused, located_digests};
 use merkle_audit_parts::nodes::first_of;
 use merkle_audit_parts::range::verdict;
 use merkle_audit_parts::top::first_above;
@@ -63,7 +63,6 @@ pub fn audit_multi<F: Family, H: Hasher<F>>(
     ensures within { IfOk result (λ _. (length list.now ≤ F.MAX_LEAVES) × (inactive ≤ length (peaks_of F.rule (length list.now)))) }
     ensures judged { let s = H.scheme hasher.now in IfOk result (IsMultiVerdict s list.now inactive (multi_input_of s proof.now elements.now)) }
 {
-    let alloc = *proof.digests.allocator();
     match allowed_count::<F>(list.len(), inactive) {
         Ok(_) => {}
         Err(error) => return Err(error),
@@ -71,17 +70,78 @@ pub fn audit_multi<F: Family, H: Hasher<F>>(
     if is_shape_refused(proof, elements)? {
         return Ok(Verdict::Rejected);
     }
+    let alloc = *proof.digests.allocator();
+    let Some(leaves) = located_digests(alloc, hasher, elements)? else {
+        return Ok(Verdict::Rejected);
+    };
+    judge(hasher, list, inactive, proof, &leaves)
+}
+
+/// Audits an input of a check of scattered leaves by leaf digests, `digests` each with its location,
+/// against the root of a list, of which the leaf digests are at hand: says whether the check rejects the
+/// input, whether it is the honest one of the list, or else what the check hashed that collides with the
+/// list.
+///
+/// This is [`audit_multi`] for those who have the digests of leaves in place of the elements. No leaf is
+/// hashed.
+///
+/// # Errors
+///
+/// The first that applies:
+/// - `LocationOverflow` of the length of the list if it exceeds [`MAX_LEAVES`](Family::MAX_LEAVES)
+/// - `InvalidInactivePeaks` if `inactive` exceeds the number of peaks of the list
+///
+/// `OutOfMemory` at any point if a memory request is refused.
+pub fn audit_multi_leaf_digests<F: Family, H: Hasher<F>>(
+    hasher: &H,
+    list: &[H::Digest],
+    inactive: usize,
+    proof: &Proof<F, H::Digest>,
+    digests: &[(H::Digest, Location<F>)],
+) -> Result<Verdict<F, H::Digest>, Error<F>>
+    ensures err { IfErr result (λ e. e ≢ Error.OutOfMemory
+        → first_case (list_refusals F.rule F.MAX_LEAVES (length list.now) inactive) ≡ Some e) }
+    ensures within { IfOk result (λ _. (length list.now ≤ F.MAX_LEAVES) × (inactive ≤ length (peaks_of F.rule (length list.now)))) }
+    ensures judged { let s = H.scheme hasher.now in
+        IfOk result (IsMultiVerdict s list.now inactive (multi_digest_input_of proof.now digests.now)) }
+{
+    match allowed_count::<F>(list.len(), inactive) {
+        Ok(_) => {}
+        Err(error) => return Err(error),
+    }
+    if is_shape_refused(proof, digests)? {
+        return Ok(Verdict::Rejected);
+    }
+    judge(hasher, list, inactive, proof, digests)
+}
+
+// Audits an input whose shape is not refused: the list is hashed.
+fn judge<F: Family, H: Hasher<F>>(
+    hasher: &H,
+    list: &[H::Digest],
+    inactive: usize,
+    proof: &Proof<F, H::Digest>,
+    leaves: &[(H::Digest, Location<F>)],
+) -> Result<Verdict<F, H::Digest>, Error<F>>
+    ensures err { IfErr result (λ e. e ≢ Error.OutOfMemory
+        → first_case (list_refusals F.rule F.MAX_LEAVES (length list.now) inactive) ≡ Some e) }
+    ensures within { IfOk result (λ _. (length list.now ≤ F.MAX_LEAVES) × (inactive ≤ length (peaks_of F.rule (length list.now)))) }
+    ensures judged { let s = H.scheme hasher.now in
+        IfOk result (IsMultiVerdict s list.now inactive (multi_digest_input_of proof.now leaves.now)) }
+{
+    let alloc = *proof.digests.allocator();
     let listed = match HashedList::new(alloc, hasher, list, inactive) {
         Ok(listed) => listed,
         Err(error) => return Err(error),
     };
-    let Ok(is_accepted) = proof.verify_multi_inclusion(hasher, elements, &listed.root) else {
+    let Ok(is_accepted) = proof.verify_multi_leaf_digests_inclusion(hasher, leaves, &listed.root)
+    else {
         return Err(Error::OutOfMemory);
     };
     if !is_accepted {
         return Ok(Verdict::Rejected);
     }
-    let claim = match accepted(hasher, proof, elements, &listed.nodes) {
+    let claim = match accepted(hasher, proof, leaves, &listed.nodes) {
         Ok(claim) => claim,
         Err(error) => return Err(error),
     };

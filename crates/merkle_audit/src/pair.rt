@@ -2,9 +2,9 @@
 ghost use Rattle.std.specs.Prelude.{◌≡◌, ◌≢◌, ◌↔◌, None, IfOk, IfErr, option_map};
 ghost use Rattle.merkle_audit_parts.specs.Found.{collision_of_pair, IsPairVerdict};
 ghost use Rattle.merkle_audit_parts.specs.Hashed.{located};
-ghost use Rattle.merkle_audit.specs.Given.{given_input};
+ghost use Rattle.merkle_audit.specs.Given.{given_digest_input, given_input};
 
-use merkle_audit_parts::claim::{Claim, accepted};
+use merkle_audit_parts::claim::{Claim, accepted, shaped_digests};
 use merkle_audit_parts::range::first_difference;
 use merkle_audit_parts::verdict::{Collision, PairVerdict};
 use merkle_core::digest::Digest;
@@ -47,6 +47,35 @@ pub fn audit_pair<F: Family, H: Hasher<F>>(
 ) -> Result<PairVerdict<F, H::Digest>, Error<F>>
     ensures err { IfErr result (λ e. e ≡ Error.OutOfMemory) }
     ensures judged { let s = H.scheme hasher.now in IfOk result (IsPairVerdict s root.now (given_input s first.entry) (given_input s second.entry)) }
+{
+    let Some(one) = shaped_digests(hasher, first.0, first.1, first.2)? else {
+        return Ok(PairVerdict::Rejected);
+    };
+    let Some(other) = shaped_digests(hasher, second.0, second.1, second.2)? else {
+        return Ok(PairVerdict::Rejected);
+    };
+    let one = (first.0, one.as_slice(), first.2);
+    let other = (second.0, other.as_slice(), second.2);
+    audit_pair_leaf_digests(hasher, root, one, other)
+}
+
+/// Audits two inputs of range checks by leaf digests against one root: says whether one of them is
+/// rejected, whether the two are consistent, or else what they hashed that collides.
+///
+/// This is [`audit_pair`] for those who have the digests of leaves in place of the elements, for each of
+/// the two. No leaf is hashed.
+///
+/// # Errors
+///
+/// - `OutOfMemory` if a memory request is refused
+pub fn audit_pair_leaf_digests<F: Family, H: Hasher<F>>(
+    hasher: &H,
+    root: &H::Digest,
+    first: (&Proof<F, H::Digest>, &[H::Digest], Location<F>),
+    second: (&Proof<F, H::Digest>, &[H::Digest], Location<F>),
+) -> Result<PairVerdict<F, H::Digest>, Error<F>>
+    ensures err { IfErr result (λ e. e ≡ Error.OutOfMemory) }
+    ensures judged { let s = H.scheme hasher.now in IfOk result (IsPairVerdict s root.now (given_digest_input first.entry) (given_digest_input second.entry)) }
 {
     let one = match accepted(hasher, first.0, first.1, first.2, root) {
         Ok(Some(claim)) => claim,

@@ -2,9 +2,11 @@
 ghost use Rattle.std.specs.Prelude.{◌≡◌, ◌≢◌, ◌≤◌, Some, IfOk, IfErr, length};
 ghost use Rattle.merkle_base.specs.Cases.{first_case};
 ghost use Rattle.merkle_base.specs.Places.{peaks_of};
-ghost use Rattle.merkle_audit_parts.specs.Found.{list_refusals};
+ghost use Rattle.merkle_proof.specs.Input.{digest_input_of};
+ghost use Rattle.merkle_audit_parts.specs.Found.{list_refusals, IsPinnedVerdict};
 ghost use Rattle.merkle_audit.specs.Given.{IsVerdictOnPins};
 
+use merkle_audit_parts::claim::digests_from;
 use merkle_audit_parts::list::{HashedList, allowed_count};
 use merkle_audit_parts::nodes::first_of;
 use merkle_audit_parts::pin_nodes::first_pinned_below;
@@ -68,19 +70,81 @@ pub fn audit_pins<F: Family, H: Hasher<F>>(
     ensures judged { IfOk result (
         IsVerdictOnPins (H.scheme hasher.now) list.now inactive proof.now start elements.now pinned_nodes.now) }
 {
-    let alloc = *proof.digests.allocator();
     match allowed_count::<F>(list.len(), inactive) {
         Ok(_) => {}
         Err(error) => return Err(error),
     }
-    if is_pinned_shape_refused(hasher, proof, elements, start, pinned_nodes)? {
+    if is_pinned_shape_refused(hasher, proof, elements.len(), start, pinned_nodes)? {
         return Ok(Verdict::Rejected);
     }
+    let alloc = *proof.digests.allocator();
+    let Some(digests) = digests_from(alloc, hasher, elements, start)? else {
+        return Ok(Verdict::Rejected);
+    };
+    judge(hasher, list, inactive, proof, &digests, start, pinned_nodes)
+}
+
+/// Audits an input of a check by leaf digests of a range with pins against the root of a list, of which
+/// the leaf digests are at hand: says whether the check rejects the input, whether it is the honest one
+/// of the list, or else what the check hashed that collides with the list.
+///
+/// This is [`audit_pins`] for those who have the digests of leaves in place of the elements. No leaf is
+/// hashed.
+///
+/// # Errors
+///
+/// The first that applies:
+/// - `LocationOverflow` of the length of the list if it exceeds [`MAX_LEAVES`](Family::MAX_LEAVES)
+/// - `InvalidInactivePeaks` if `inactive` exceeds the number of peaks of the list
+///
+/// `OutOfMemory` at any point if a memory request is refused.
+pub fn audit_pins_leaf_digests<F: Family, H: Hasher<F>>(
+    hasher: &H,
+    list: &[H::Digest],
+    inactive: usize,
+    proof: &Proof<F, H::Digest>,
+    digests: &[H::Digest],
+    start: Location<F>,
+    pinned_nodes: &[H::Digest],
+) -> Result<Verdict<F, H::Digest>, Error<F>>
+    ensures err { IfErr result (λ e. e ≢ Error.OutOfMemory
+        → first_case (list_refusals F.rule F.MAX_LEAVES (length list.now) inactive) ≡ Some e) }
+    ensures within { IfOk result (λ _. (length list.now ≤ F.MAX_LEAVES) × (inactive ≤ length (peaks_of F.rule (length list.now)))) }
+    ensures judged { let s = H.scheme hasher.now in
+        IfOk result (IsPinnedVerdict s list.now inactive (digest_input_of proof.now start digests.now) pinned_nodes.now) }
+{
+    match allowed_count::<F>(list.len(), inactive) {
+        Ok(_) => {}
+        Err(error) => return Err(error),
+    }
+    if is_pinned_shape_refused(hasher, proof, digests.len(), start, pinned_nodes)? {
+        return Ok(Verdict::Rejected);
+    }
+    judge(hasher, list, inactive, proof, digests, start, pinned_nodes)
+}
+
+// Audits an input whose shape is not refused: the list is hashed.
+fn judge<F: Family, H: Hasher<F>>(
+    hasher: &H,
+    list: &[H::Digest],
+    inactive: usize,
+    proof: &Proof<F, H::Digest>,
+    digests: &[H::Digest],
+    start: Location<F>,
+    pinned_nodes: &[H::Digest],
+) -> Result<Verdict<F, H::Digest>, Error<F>>
+    ensures err { IfErr result (λ e. e ≢ Error.OutOfMemory
+        → first_case (list_refusals F.rule F.MAX_LEAVES (length list.now) inactive) ≡ Some e) }
+    ensures within { IfOk result (λ _. (length list.now ≤ F.MAX_LEAVES) × (inactive ≤ length (peaks_of F.rule (length list.now)))) }
+    ensures judged { let s = H.scheme hasher.now in
+        IfOk result (IsPinnedVerdict s list.now inactive (digest_input_of proof.now start digests.now) pinned_nodes.now) }
+{
+    let alloc = *proof.digests.allocator();
     let listed = match HashedList::new(alloc, hasher, list, inactive) {
         Ok(listed) => listed,
         Err(error) => return Err(error),
     };
-    let claim = match accepted_pins(hasher, proof, elements, start, pinned_nodes, &listed.root) {
+    let claim = match accepted_pins(hasher, proof, digests, start, pinned_nodes, &listed.root) {
         Ok(Some(claim)) => claim,
         Ok(None) => return Ok(Verdict::Rejected),
         Err(error) => return Err(error),

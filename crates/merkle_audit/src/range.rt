@@ -2,11 +2,11 @@
 ghost use Rattle.std.specs.Prelude.{◌≡◌, ◌≢◌, ◌≤◌, Some, IfOk, IfErr, length};
 ghost use Rattle.merkle_base.specs.Cases.{first_case};
 ghost use Rattle.merkle_base.specs.Places.{peaks_of};
-ghost use Rattle.merkle_proof.specs.Input.{input_of};
+ghost use Rattle.merkle_proof.specs.Input.{digest_input_of, input_of};
 ghost use Rattle.merkle_hasher.specs.LeafDigests.{bytes_of};
 ghost use Rattle.merkle_audit_parts.specs.Found.{list_refusals, IsRangeVerdict};
 
-use merkle_audit_parts::claim::{Claim, accepted, is_shape_refused};
+use merkle_audit_parts::claim::{Claim, accepted, is_shape_refused, shaped_digests};
 use merkle_audit_parts::list::{HashedList, allowed_count};
 use merkle_audit_parts::range::{first_difference, verdict};
 use merkle_audit_parts::verdict::Verdict;
@@ -60,19 +60,75 @@ pub fn audit_range<F: Family, H: Hasher<F>>(
     ensures judged { let s = H.scheme hasher.now in
         IfOk result (IsRangeVerdict s list.now inactive (input_of s proof.now start (bytes_of elements.now))) }
 {
-    let alloc = *proof.digests.allocator();
     match allowed_count::<F>(list.len(), inactive) {
         Ok(_) => {}
         Err(error) => return Err(error),
     }
-    if is_shape_refused(hasher, proof, elements, start)? {
+    let Some(digests) = shaped_digests(hasher, proof, elements, start)? else {
+        return Ok(Verdict::Rejected);
+    };
+    judge(hasher, list, inactive, proof, &digests, start)
+}
+
+/// Audits an input of a range check by leaf digests against the root of a list, of which the leaf
+/// digests are at hand: says whether the check rejects the input, whether it is the honest one of the
+/// list, or else what the check hashed that collides with the list.
+///
+/// This is [`audit_range`] for those who have the digests of leaves in place of the elements. No leaf
+/// is hashed.
+///
+/// # Errors
+///
+/// The first that applies:
+/// - `LocationOverflow` of the length of the list if it exceeds [`MAX_LEAVES`](Family::MAX_LEAVES)
+/// - `InvalidInactivePeaks` if `inactive` exceeds the number of peaks of the list
+///
+/// `OutOfMemory` at any point if a memory request is refused.
+pub fn audit_range_leaf_digests<F: Family, H: Hasher<F>>(
+    hasher: &H,
+    list: &[H::Digest],
+    inactive: usize,
+    proof: &Proof<F, H::Digest>,
+    digests: &[H::Digest],
+    start: Location<F>,
+) -> Result<Verdict<F, H::Digest>, Error<F>>
+    ensures err { IfErr result (λ e. e ≢ Error.OutOfMemory
+        → first_case (list_refusals F.rule F.MAX_LEAVES (length list.now) inactive) ≡ Some e) }
+    ensures within { IfOk result (λ _. (length list.now ≤ F.MAX_LEAVES) × (inactive ≤ length (peaks_of F.rule (length list.now)))) }
+    ensures judged { let s = H.scheme hasher.now in
+        IfOk result (IsRangeVerdict s list.now inactive (digest_input_of proof.now start digests.now)) }
+{
+    match allowed_count::<F>(list.len(), inactive) {
+        Ok(_) => {}
+        Err(error) => return Err(error),
+    }
+    if is_shape_refused(hasher, proof, digests.len(), start)? {
         return Ok(Verdict::Rejected);
     }
+    judge(hasher, list, inactive, proof, digests, start)
+}
+
+// Audits an input whose shape is not refused: the list is hashed.
+fn judge<F: Family, H: Hasher<F>>(
+    hasher: &H,
+    list: &[H::Digest],
+    inactive: usize,
+    proof: &Proof<F, H::Digest>,
+    digests: &[H::Digest],
+    start: Location<F>,
+) -> Result<Verdict<F, H::Digest>, Error<F>>
+    ensures err { IfErr result (λ e. e ≢ Error.OutOfMemory
+        → first_case (list_refusals F.rule F.MAX_LEAVES (length list.now) inactive) ≡ Some e) }
+    ensures within { IfOk result (λ _. (length list.now ≤ F.MAX_LEAVES) × (inactive ≤ length (peaks_of F.rule (length list.now)))) }
+    ensures judged { let s = H.scheme hasher.now in
+        IfOk result (IsRangeVerdict s list.now inactive (digest_input_of proof.now start digests.now)) }
+{
+    let alloc = *proof.digests.allocator();
     let listed = match HashedList::new(alloc, hasher, list, inactive) {
         Ok(listed) => listed,
         Err(error) => return Err(error),
     };
-    let claim = match accepted(hasher, proof, elements, start, &listed.root) {
+    let claim = match accepted(hasher, proof, digests, start, &listed.root) {
         Ok(Some(claim)) => claim,
         Ok(None) => return Ok(Verdict::Rejected),
         Err(error) => return Err(error),

@@ -241,6 +241,18 @@ led_nonempty s r d some led = elim ((leads_is_accepted s r d).0 led) [
   | inr w ↦ absurd (let none : length r.elements ≡ 0 = ap length w.0.elements in omega (arith, none, some))
 ]
 
+-- what holds where there is nothing, and what follows from it
+pub none_then : {A : Type 0} (o : Option A) (P Q : Type 0) → IfNone o P → (P → Q) → IfNone o Q
+none_then None P Q w f = f w
+none_then (Some a) P Q w f = w
+
+-- an input that leads to a root ends within the greatest leaf count
+pub led_within : {D : Type 0} (s : Scheme D) (r : RangeInput D) (d : D) → reconstructed s r ≡ Ok d → end_of r ≤ s.max_leaves
+led_within s r d led = elim ((leads_is_accepted s r d).0 led) [
+  | inl a ↦ omega (arith, a.within, a.leaves)
+  | inr a ↦ omega (arith, a.0.start, ap length a.0.elements)
+]
+
 -- two numbers that a test tells apart
 pub told_apart : (a b : ℕ) → IsTrue (not (nat_eq a b)) → a ≡ b → ⊥
 told_apart a b t e = eqb-false a b (not_true (nat_eq a b) t) e

@@ -17,8 +17,7 @@ use Rattle.merkle_scattered.specs.Searched.{IsFirstFrom}
 use Rattle.merkle_scattered.proofs.Rises.{Rises}
 use Rattle.merkle_scattered.proofs.ScatteredElements.{met_at}
 use Rattle.merkle_scattered.proofs.ToldTable.{rises_weakly}
-use Rattle.merkle_proof.specs.Input.{element_leaves}
-use Rattle.merkle_proof.proofs.LocatedDigests.{hashed}
+use Rattle.merkle_proof.specs.Input.{by_location, digested}
 use Rattle.merkle_audit_theory.proofs.PeakInputs.{filter_none}
 use Rattle.merkle_audit_parts.specs.Chosen.{is_among}
 
@@ -83,21 +82,29 @@ none_read rule n [] e = filter_none (λ p. list_any (is_one_leaf_position (peaks
 none_read rule n (i ∷ is) e = absurd (omega (arith, e))
 
 -- ---- elements
-pub each_within : {A : Type 0} (n m : ℕ) → n ≤ m → (es : List (A × ℕ)) → AllByRecursion (λ i. i < n) (map (λ e. e.1) es) → AllByRecursion (λ e. e.1 ≤ m) es
-each_within n m l [] b = tt
-each_within n m l (e ∷ es) b = (omega (arith, l, b.0), each_within n m l es b.1)
+-- the digests of leaves, which are given with their locations
+pub digests_by : {D : Type 0} (ls : List (D × ℕ)) → map (λ e. e.1) (by_location ls) ≡ map (λ l. l.0) ls
+digests_by [] = refl
+digests_by (l ∷ ls) = ap (λ ds. l.0 ∷ ds) (digests_by ls)
 
 module _ {D : Type 0} (h : Hashing D) (rule : List ℕ → List ℕ) where
-  pub leaves_given : (es : List (Bor (List ℕ) × ℕ)) → map (λ e. e.1) (element_leaves h rule es) ≡ hashed h rule es
-  leaves_given [] = refl
-  leaves_given (e ∷ es) = ap (λ ds. h.leaf (size rule e.1) e.0.now ∷ ds) (leaves_given es)
-
   -- the digest of one leaf more
-  pub next_hashed : (es : List (Bor (List ℕ) × ℕ)) (i : ℕ) (e : Bor (List ℕ) × ℕ) (p : ℕ) (before after : List D) → i < length es → e ≡ get_or es i e → p ≡ size rule e.1
-      → before ≡ hashed h rule (take i es) → after ≡ before ++ h.leaf p e.0.now ∷ [] → after ≡ hashed h rule (take (i + 1) es)
-  next_hashed es i e p before after below e_is at held step =
+  pub next_digested : (es : List (Bor (List ℕ) × ℕ)) (i : ℕ) (e : Bor (List ℕ) × ℕ) (p : ℕ) (before after : List (D × ℕ)) → i < length es → e ≡ get_or es i e → p ≡ size rule e.1
+      → before ≡ digested h rule (take i es) → after ≡ before ++ (h.leaf p e.0.now, e.1) ∷ [] → after ≡ digested h rule (take (i + 1) es)
+  next_digested es i e p before after below e_is at held step =
       step
-      ∙ ap (λ ds. ds ++ h.leaf p e.0.now ∷ []) held
-      ∙ ap (λ q. hashed h rule (take i es) ++ h.leaf q e.0.now ∷ []) at
-      ∙ ap (λ x. hashed h rule (take i es) ++ h.leaf (size rule x.1) x.0.now ∷ []) e_is
-      ∙ sym (ap (hashed h rule) (take_more es i e below) ∙ map-append (λ x. h.leaf (size rule x.1) x.0.now) (take i es) (get_or es i e ∷ []))
+      ∙ ap (λ ds. ds ++ (h.leaf p e.0.now, e.1) ∷ []) held
+      ∙ ap (λ q. digested h rule (take i es) ++ (h.leaf q e.0.now, e.1) ∷ []) at
+      ∙ ap (λ x. digested h rule (take i es) ++ (h.leaf (size rule x.1) x.0.now, x.1) ∷ []) e_is
+      ∙ sym (ap (digested h rule) (take_more es i e below) ∙ map-append (λ x. (h.leaf (size rule x.1) x.0.now, x.1)) (take i es) (get_or es i e ∷ []))
+
+  -- the locations of elements, which their digests don't change
+  pub digested_locations : (es : List (Bor (List ℕ) × ℕ)) → map (λ l. l.1) (digested h rule es) ≡ map (λ e. e.1) es
+  digested_locations [] = refl
+  digested_locations (e ∷ es) = ap (λ is. e.1 ∷ is) (digested_locations es)
+
+  -- elements at locations below a count are within what the count is within
+  pub within_leaves : (n m : ℕ) → n ≤ m → (es : List (Bor (List ℕ) × ℕ)) → AllByRecursion (λ i. i < n) (map (λ e. e.0) (by_location (digested h rule es)))
+      → AllByRecursion (λ e. e.1 ≤ m) es
+  within_leaves n m l [] b = tt
+  within_leaves n m l (e ∷ es) b = (omega (arith, l, b.0), within_leaves n m l es b.1)

@@ -1,14 +1,14 @@
 //! What is hashed for an accepted input of a range check.
-ghost use Rattle.std.specs.Prelude.{◌≡◌, ◌≢◌, ◌≤◌, ◌<◌, ◌+◌, ◌++◌, ◌&&◌, ◌-◌, nat_lt, IsTrue, Ok, OnOk, IfOk, IfSome, IfNone, IsOkUnless};
+ghost use Rattle.std.specs.Prelude.{◌≡◌, ◌≢◌, ◌≤◌, ◌<◌, ◌+◌, ◌++◌, ◌&&◌, ◌-◌, nat_lt, List, [], IsTrue, Ok, OnOk, IfOk, IfSome, IfNone, IsOkUnless};
 ghost use Rattle.std.specs.Prelude.{length, map, min, take, drop};
 ghost use Rattle.merkle_base.specs.Tree.{Tree, first_leaf, end_leaf};
 ghost use Rattle.merkle_hasher.specs.Subtrees.{Denotes};
 ghost use Rattle.merkle_hasher.specs.declared.subtree.Subtree.{Subtree};
-ghost use Rattle.merkle_proof.specs.Input.{input_of};
+ghost use Rattle.merkle_proof.specs.Input.{digest_input_of, input_of};
+ghost use Rattle.merkle_hasher.specs.LeafDigests.{bytes_of, leaf_digests};
 ghost use Rattle.merkle_root_theory.specs.Range.{AcceptsNonempty, IsEmptyInput};
 ghost use Rattle.merkle_root_theory.specs.Reads.{nodes_read};
 ghost use Rattle.merkle_root_theory.specs.Reconstruction.{reconstructed};
-ghost use Rattle.merkle_hasher.specs.LeafDigests.{bytes_of};
 ghost use Rattle.merkle_store_theory.specs.StoreValue.{store_of};
 ghost use Rattle.merkle_audit_parts.specs.Claimed.{digest_in_claim, range_pair, IsClaim, IsClaimFor};
 
@@ -25,6 +25,7 @@ use merkle_core::range_plan::{Groups, RangePlan};
 use merkle_core::subtree::Subtree;
 use merkle_core::verification::ProofStore;
 use merkle_hasher::peaks::list_peaks;
+use merkle_leaves::queue::push_leaf_digests;
 use std::alloc::{AllocError, Global};
 use std::ops::Range;
 
@@ -126,19 +127,19 @@ fn parts<F: Family, D: Digest>(
 fn claim_of<F: Family, H: Hasher<F>>(
     hasher: &H,
     proof: &Proof<F, H::Digest>,
-    elements: &[&[u8]],
+    digests: &[H::Digest],
     range: Range<Location<F>>,
     store: ProofStore<F, H::Digest>,
 ) -> Result<Claim<F, H::Digest>, Error<F>>
     requires nonempty { range.start < range.end }
     requires within { range.end ≤ proof.now.leaves }
     requires within_max_leaves { proof.now.leaves ≤ F.MAX_LEAVES }
-    requires ends { range.end ≡ range.start + length elements.now }
+    requires ends { range.end ≡ range.start + length digests.now }
     requires accepted { let s = H.scheme hasher.now in
-        let r = input_of s proof.now range.start (bytes_of elements.now) in
+        let r = digest_input_of proof.now range.start digests.now in
         (root : H.Digest) × AcceptsNonempty s r root × (store ≡ store_of s r root) }
     ensures claim { let s = H.scheme hasher.now in
-        let r = input_of s proof.now range.start (bytes_of elements.now) in
+        let r = digest_input_of proof.now range.start digests.now in
         IfOk result (λ c. IsClaim H.Digest.EMPTY s r c) }
     ensures refused { IsOkUnless result Error.OutOfMemory }
 {
@@ -204,18 +205,17 @@ fn empty_claim<F: Family, H: Hasher<F>>(
     })
 }
 
-// Whether an input of a range check leads to no root.
+// Whether an input of a range check without leaves leads to no root.
 fn leads_nowhere<F: Family, H: Hasher<F>>(
     hasher: &H,
     proof: &Proof<F, H::Digest>,
-    elements: &[&[u8]],
     start: Location<F>,
 ) -> Result<bool, AllocError>
     ensures { let s = H.scheme hasher.now in
-        let r = input_of s proof.now start (bytes_of elements.now) in
+        let r = digest_input_of proof.now start [] in
         IfOk result (λ yes. IsTrue yes → (d : H.Digest) → reconstructed s r ≢ Ok d) }
 {
-    match proof.reconstruct_root(hasher, elements, start) {
+    match proof.reconstruct_root(hasher, &[], start) {
         Ok(_) => Ok(false),
         Err(error) => match error {
             ReconstructionError::OutOfMemory => Err(AllocError),
@@ -237,8 +237,8 @@ fn digest_count<F: Family>(plan: &RangePlan<F>, groups: &Groups) -> usize
         .saturating_sub(suffix)
 }
 
-/// Whether the shape of an input of a range check is refused, so that it leads to no root. No element
-/// and no node is hashed.
+/// Whether the shape of an input of a range check of `count` leaves is refused, so that it leads to no
+/// root, whatever their digests are. No element and no node is hashed.
 ///
 /// # Errors
 ///
@@ -246,17 +246,17 @@ fn digest_count<F: Family>(plan: &RangePlan<F>, groups: &Groups) -> usize
 pub fn is_shape_refused<F: Family, H: Hasher<F>>(
     hasher: &H,
     proof: &Proof<F, H::Digest>,
-    elements: &[&[u8]],
+    count: usize,
     start: Location<F>,
 ) -> Result<bool, AllocError>
     ensures { let s = H.scheme hasher.now in
-        let r = input_of s proof.now start (bytes_of elements.now) in
-        IfOk result (λ yes. IsTrue yes → (d : H.Digest) → reconstructed s r ≢ Ok d) }
+        IfOk result (λ yes. IsTrue yes → (leaves : List H.Digest) → length leaves ≡ count
+        → (d : H.Digest) → reconstructed s (digest_input_of proof.now start leaves) ≢ Ok d) }
 {
-    if elements.is_empty() {
-        return leads_nowhere(hasher, proof, elements, start);
+    if count == 0 {
+        return leads_nowhere(hasher, proof, start);
     }
-    let Some(end) = start.checked_add(elements.len() as u64) else {
+    let Some(end) = start.checked_add(count as u64) else {
         return Ok(true);
     };
     let plan = match RangePlan::new(*proof.digests.allocator(), proof.leaves, start..end) {
@@ -272,7 +272,54 @@ pub fn is_shape_refused<F: Family, H: Hasher<F>>(
     Ok(proof.digests.len() != digest_count(&plan, &groups))
 }
 
-/// Returns all that is hashed for an input of a range check, if it is accepted.
+/// Returns the digests of the leaves with these elements, which are those from location `start` on, or
+/// `None` if they go past the greatest leaf count.
+///
+/// # Errors
+///
+/// - `AllocError` if a memory request is refused
+pub fn digests_from<F: Family, H: Hasher<F>>(
+    alloc: Global,
+    hasher: &H,
+    elements: &[&[u8]],
+    start: Location<F>,
+) -> Result<Option<Vec<H::Digest>>, AllocError>
+    ensures some { IfOk result (λ o. IfSome o (λ v. v.items ≡ leaf_digests (H.hashing hasher.now) F.rule start (bytes_of elements.now))) }
+    ensures none { IfOk result (λ o. IfNone o (F.MAX_LEAVES < start + length elements.now)) }
+{
+    let Some(_) = start.checked_add(elements.len() as u64) else {
+        return Ok(None);
+    };
+    let mut digests = Vec::new(alloc);
+    push_leaf_digests(alloc, hasher, start, elements, &mut digests)?;
+    Ok(Some(digests))
+}
+
+/// Returns the digests of the leaves with these elements, which are those from location `start` on, or
+/// `None` if the shape of the input of a range check with them is refused, so that it leads to no root;
+/// then nothing is hashed.
+///
+/// # Errors
+///
+/// - `AllocError` if a memory request is refused
+pub fn shaped_digests<F: Family, H: Hasher<F>>(
+    hasher: &H,
+    proof: &Proof<F, H::Digest>,
+    elements: &[&[u8]],
+    start: Location<F>,
+) -> Result<Option<Vec<H::Digest>>, AllocError>
+    ensures some { IfOk result (λ o. IfSome o (λ v. v.items ≡ leaf_digests (H.hashing hasher.now) F.rule start (bytes_of elements.now))) }
+    ensures none { let s = H.scheme hasher.now in
+        IfOk result (λ o. IfNone o ((d : H.Digest) → reconstructed s (input_of s proof.now start (bytes_of elements.now)) ≢ Ok d)) }
+{
+    if is_shape_refused(hasher, proof, elements.len(), start)? {
+        return Ok(None);
+    }
+    digests_from(*proof.digests.allocator(), hasher, elements, start)
+}
+
+/// Returns all that is hashed for an input of a range check of leaves with these digests, if it is
+/// accepted.
 ///
 /// # Errors
 ///
@@ -280,20 +327,20 @@ pub fn is_shape_refused<F: Family, H: Hasher<F>>(
 pub fn accepted<F: Family, H: Hasher<F>>(
     hasher: &H,
     proof: &Proof<F, H::Digest>,
-    elements: &[&[u8]],
+    digests: &[H::Digest],
     start: Location<F>,
     root: &H::Digest,
 ) -> Result<Option<Claim<F, H::Digest>>, Error<F>>
     ensures none { let s = H.scheme hasher.now in
-        IfOk result (λ o. IfNone o (reconstructed s (input_of s proof.now start (bytes_of elements.now)) ≢ Ok root.now)) }
+        IfOk result (λ o. IfNone o (reconstructed s (digest_input_of proof.now start digests.now) ≢ Ok root.now)) }
     ensures some { let s = H.scheme hasher.now in
-        IfOk result (λ o. IfSome o (IsClaimFor H.Digest.EMPTY s root.now (input_of s proof.now start (bytes_of elements.now)))) }
+        IfOk result (λ o. IfSome o (IsClaimFor H.Digest.EMPTY s root.now (digest_input_of proof.now start digests.now))) }
     ensures refused { IsOkUnless result Error.OutOfMemory }
 {
-    let claim = match ProofStore::new(hasher, proof, elements, start, root) {
+    let claim = match ProofStore::from_leaf_digests(hasher, proof, digests, start, root) {
         Ok(store) => {
-            let end = start + elements.len() as u64;
-            claim_of(hasher, proof, elements, start..end, store)
+            let end = start + digests.len() as u64;
+            claim_of(hasher, proof, digests, start..end, store)
         }
         Err(error) => match error {
             Error::OutOfMemory => return Err(Error::OutOfMemory),

@@ -1,11 +1,11 @@
 //! What is hashed for an accepted input of a check of scattered leaves.
-ghost use Rattle.std.specs.Prelude.{◌≡◌, ◌≢◌, ◌≤◌, ◌<◌, Option, IfOk, IsOkUnless, IsTrue, length, map, flat_map, option_map};
+ghost use Rattle.std.specs.Prelude.{◌≡◌, ◌≢◌, ◌≤◌, ◌<◌, ℕ, List, Option, IfOk, IfSome, IfNone, IsOkUnless, IsTrue, length, map, flat_map, option_map};
 ghost use Rattle.std.specs.List.{AllByRecursion};
 ghost use Rattle.std.specs.List.Sorted.{IsStrictlyIncreasing};
 ghost use Rattle.merkle_base.specs.Forest.{size};
 ghost use Rattle.merkle_base.specs.Places.{peaks_of};
 ghost use Rattle.merkle_base.specs.Scheme.{Scheme};
-ghost use Rattle.merkle_proof.specs.Input.{multi_input_of};
+ghost use Rattle.merkle_proof.specs.Input.{digested, multi_digest_input_of};
 ghost use Rattle.merkle_scattered.specs.MultiPositions.{AreLocations};
 ghost use Rattle.merkle_root_theory.specs.Expression as theory;
 ghost use Rattle.merkle_claim_theory.specs.Multiproof.{multi_positions, AcceptsMulti};
@@ -32,33 +32,30 @@ use merkle_core::proof::{Proof, multi_proof_positions};
 use merkle_hasher::peaks::list_peaks;
 use std::alloc::{AllocError, Global};
 
-// Returns the locations of elements.
-fn list_locations<F: Family>(
+// Returns the locations of leaves.
+fn list_locations<F: Family, T>(
     alloc: Global,
-    elements: &[(&[u8], Location<F>)],
+    leaves: &[(T, Location<F>)],
 ) -> Result<Vec<Location<F>>, AllocError>
-    ensures { IfOk result (λ v. v.items ≡ map (λ e. e.1) elements.now) }
+    ensures { IfOk result (λ v. v.items ≡ map (λ l. l.1) leaves.now) }
 {
-    let mut locations = Vec::with_capacity(alloc, elements.len())?;
-    for element in elements {
-        locations.push(element.1)?;
+    let mut locations = Vec::with_capacity(alloc, leaves.len())?;
+    for leaf in leaves {
+        locations.push(leaf.1)?;
     }
     Ok(locations)
 }
 
-// Returns the digests of the leaves with these elements.
-fn element_digests<F: Family, H: Hasher<F>>(
+// Returns the digests of leaves.
+fn list_digests<F: Family, D: Digest>(
     alloc: Global,
-    hasher: &H,
-    elements: &[(&[u8], Location<F>)],
-) -> Result<Vec<H::Digest>, AllocError>
-    requires { AllByRecursion (λ e. e.1 ≤ F.MAX_LEAVES) elements.now }
-    ensures { IfOk result (λ v. v.items ≡ map (λ e. (H.hashing hasher.now).leaf (size F.rule e.1) e.0.now) elements.now) }
+    leaves: &[(D, Location<F>)],
+) -> Result<Vec<D>, AllocError>
+    ensures { IfOk result (λ v. v.items ≡ map (λ l. l.0) leaves.now) }
 {
-    let mut digests = Vec::with_capacity(alloc, elements.len())?;
-    for element in elements {
-        let position = F::location_to_position(element.1);
-        digests.push(hasher.leaf_digest(position, element.0))?;
+    let mut digests = Vec::with_capacity(alloc, leaves.len())?;
+    for leaf in leaves {
+        digests.push(leaf.0)?;
     }
     Ok(digests)
 }
@@ -109,22 +106,47 @@ fn are_places_refused<F: Family>(
 /// # Errors
 ///
 /// - `AllocError` if a memory request is refused
-pub fn is_shape_refused<F: Family, D: Digest>(
+pub fn is_shape_refused<F: Family, D: Digest, T>(
     proof: &Proof<F, D>,
-    elements: &[(&[u8], Location<F>)],
+    leaves: &[(T, Location<F>)],
 ) -> Result<bool, AllocError>
-    ensures { IfOk result (λ yes. IsTrue yes → (s : Scheme D) (root : D) → s.rule ≡ F.rule → s.max_leaves ≡ F.MAX_LEAVES
-        → ¬ (AcceptsMulti s (multi_input_of s proof.now elements.now) root)) }
+    ensures { IfOk result (λ yes. IsTrue yes → (s : Scheme D) (ls : List (D × ℕ)) (root : D) → s.rule ≡ F.rule → s.max_leaves ≡ F.MAX_LEAVES
+        → map (λ l. l.1) ls ≡ map (λ l. l.1) leaves.now → ¬ (AcceptsMulti s (multi_digest_input_of proof.now ls) root)) }
 {
     if proof.leaves.is_valid() && proof.inactive_peaks > peak_count(proof.leaves) {
         return Ok(true);
     }
-    if elements.is_empty() {
+    if leaves.is_empty() {
         return Ok(proof.leaves.as_u64() > 0 || !proof.digests.is_empty());
     }
     let alloc = *proof.digests.allocator();
-    let locations = list_locations(alloc, elements)?;
+    let locations = list_locations(alloc, leaves)?;
     are_places_refused(alloc, proof.leaves, &locations, proof.digests.len())
+}
+
+/// Returns the digests of the leaves with these elements, each with its location, or `None` if a
+/// location is past the greatest leaf count.
+///
+/// # Errors
+///
+/// - `AllocError` if a memory request is refused
+pub fn located_digests<F: Family, H: Hasher<F>>(
+    alloc: Global,
+    hasher: &H,
+    elements: &[(&[u8], Location<F>)],
+) -> Result<Option<Vec<(H::Digest, Location<F>)>>, AllocError>
+    ensures some { IfOk result (λ o. IfSome o (λ v. v.items ≡ digested (H.hashing hasher.now) F.rule elements.now)) }
+    ensures none { IfOk result (λ o. IfNone o (¬ (AllByRecursion (λ e. e.1 ≤ F.MAX_LEAVES) elements.now))) }
+{
+    let mut leaves = Vec::with_capacity(alloc, elements.len())?;
+    for element in elements {
+        if !element.1.is_valid() {
+            return Ok(None);
+        }
+        let position = F::location_to_position(element.1);
+        leaves.push((hasher.leaf_digest(position, element.0), element.1))?;
+    }
+    Ok(Some(leaves))
 }
 
 /// Returns what is hashed for an accepted input above the peaks, and the first node where what is
@@ -138,13 +160,13 @@ pub fn is_shape_refused<F: Family, D: Digest>(
 pub fn accepted<F: Family, H: Hasher<F>, B: Hashes<F, H::Digest>>(
     hasher: &H,
     proof: &Proof<F, H::Digest>,
-    elements: &[(&[u8], Location<F>)],
+    leaves: &[(H::Digest, Location<F>)],
     listed: &B,
 ) -> Result<(Top<F, H::Digest>, Option<Collision<F, H::Digest>>), Error<F>>
-    requires { let s = H.scheme hasher.now in (root : H.Digest) × AcceptsMulti s (multi_input_of s proof.now elements.now) root }
-    ensures top { let s = H.scheme hasher.now in let r = multi_input_of s proof.now elements.now in
+    requires { let s = H.scheme hasher.now in (root : H.Digest) × AcceptsMulti s (multi_digest_input_of proof.now leaves.now) root }
+    ensures top { let s = H.scheme hasher.now in let r = multi_digest_input_of proof.now leaves.now in
         IfOk result (λ c. top_of c.0 ≡ top_inputs s r.leaves r.inactive (map (multi_digest s r) (peaks_of s.rule r.leaves))) }
-    ensures below { let s = H.scheme hasher.now in let r = multi_input_of s proof.now elements.now in
+    ensures below { let s = H.scheme hasher.now in let r = multi_digest_input_of proof.now leaves.now in
         IfOk result (λ c. (f g : theory.Place → Option (theory.Input H.Digest))
         → AllByRecursion (λ t. Sees (multi_pair s r) f t) (peaks_of s.rule r.leaves)
         → AllByRecursion (λ t. Sees (B.hashed listed.now) g t) (peaks_of s.rule r.leaves)
@@ -152,17 +174,17 @@ pub fn accepted<F: Family, H: Hasher<F>, B: Hashes<F, H::Digest>>(
     ensures refused { IsOkUnless result Error.OutOfMemory }
 {
     let alloc = *proof.digests.allocator();
-    let locations = list_locations(alloc, elements)?;
+    let locations = list_locations(alloc, leaves)?;
     let positions = match read_positions(alloc, proof.leaves, &locations) {
         Ok(positions) => positions,
         Err(error) => return Err(error),
     };
-    let leaves = element_digests(alloc, hasher, elements)?;
+    let leaf_digests = list_digests(alloc, leaves)?;
     let given = LeafProof {
         positions: &positions,
         digests: &proof.digests,
         locations: &locations,
-        leaves: &leaves,
+        leaves: &leaf_digests,
     };
     let peaks = list_peaks(alloc, proof.leaves)?;
     let mut digests = Vec::with_capacity(alloc, peaks.len())?;

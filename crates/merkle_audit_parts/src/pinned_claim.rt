@@ -3,9 +3,8 @@ ghost use Rattle.std.specs.Prelude.{◌≡◌, ◌≤◌, ◌<◌, ◌+◌, ◌+
 ghost use Rattle.std.specs.Prelude.{length, map, min, take, drop};
 ghost use Rattle.merkle_base.specs.Tree.{Tree};
 ghost use Rattle.merkle_hasher.specs.Subtrees.{AreNodes, subtree_of};
-ghost use Rattle.merkle_proof.specs.Input.{input_of};
+ghost use Rattle.merkle_proof.specs.Input.{digest_input_of};
 ghost use Rattle.merkle_root_theory.specs.Range.{AcceptsNonempty, IsEmptyInput};
-ghost use Rattle.merkle_hasher.specs.LeafDigests.{bytes_of};
 ghost use Rattle.merkle_claim_theory.specs.Pinned.{AcceptsPinned};
 ghost use Rattle.merkle_store_theory.specs.StoreValue.{store_of};
 ghost use Rattle.merkle_pins_theory.specs.PinnedNodes.{pinned_value};
@@ -87,7 +86,7 @@ fn pinned_parts<F: Family, H: Hasher<F>>(
 fn pinned_claim_of<F: Family, H: Hasher<F>>(
     hasher: &H,
     proof: &Proof<F, H::Digest>,
-    elements: &[&[u8]],
+    digests: &[H::Digest],
     range: Range<Location<F>>,
     pinned_nodes: &[H::Digest],
     store: ProofStore<F, H::Digest>,
@@ -95,12 +94,12 @@ fn pinned_claim_of<F: Family, H: Hasher<F>>(
     requires nonempty { range.start < range.end }
     requires within { range.end ≤ proof.now.leaves }
     requires within_max_leaves { proof.now.leaves ≤ F.MAX_LEAVES }
-    requires ends { range.end ≡ range.start + length elements.now }
+    requires ends { range.end ≡ range.start + length digests.now }
     requires accepted { let s = H.scheme hasher.now in
-        let r = input_of s proof.now range.start (bytes_of elements.now) in
+        let r = digest_input_of proof.now range.start digests.now in
         (root : H.Digest) × AcceptsNonempty s r root × AcceptsPinned s r pinned_nodes.now root × (store ≡ store_of s r root) }
     ensures claim { let s = H.scheme hasher.now in
-        let r = input_of s proof.now range.start (bytes_of elements.now) in
+        let r = digest_input_of proof.now range.start digests.now in
         IfOk result (λ c. IsPinnedClaim H.Digest.EMPTY s r pinned_nodes.now c.top c.nodes) }
     ensures refused { IsOkUnless result Error.OutOfMemory }
 {
@@ -172,23 +171,23 @@ fn empty_pinned_claim<F: Family, H: Hasher<F>>(
 fn pinned_claim<F: Family, H: Hasher<F>>(
     hasher: &H,
     proof: &Proof<F, H::Digest>,
-    elements: &[&[u8]],
+    digests: &[H::Digest],
     start: Location<F>,
     pinned_nodes: &[H::Digest],
     root: &H::Digest,
 ) -> Result<PinnedClaim<F, H::Digest>, Error<F>>
     requires accepted { let s = H.scheme hasher.now in
-        let r = input_of s proof.now start (bytes_of elements.now) in
+        let r = digest_input_of proof.now start digests.now in
         AcceptsPinned s r pinned_nodes.now root.now }
     ensures claim { let s = H.scheme hasher.now in
-        let r = input_of s proof.now start (bytes_of elements.now) in
+        let r = digest_input_of proof.now start digests.now in
         IfOk result (λ c. IsPinnedClaim H.Digest.EMPTY s r pinned_nodes.now c.top c.nodes) }
     ensures refused { IsOkUnless result Error.OutOfMemory }
 {
-    match ProofStore::new(hasher, proof, elements, start, root) {
+    match ProofStore::from_leaf_digests(hasher, proof, digests, start, root) {
         Ok(store) => {
-            let end = start + elements.len() as u64;
-            pinned_claim_of(hasher, proof, elements, start..end, pinned_nodes, store)
+            let end = start + digests.len() as u64;
+            pinned_claim_of(hasher, proof, digests, start..end, pinned_nodes, store)
         }
         Err(error) => match error {
             Error::OutOfMemory => Err(Error::OutOfMemory),
@@ -198,8 +197,8 @@ fn pinned_claim<F: Family, H: Hasher<F>>(
     }
 }
 
-/// Whether the shape of an input of a range check with pins is refused, so that it is accepted against
-/// no root. No element and no node is hashed.
+/// Whether the shape of an input of a range check of `count` leaves with pins is refused, so that it is
+/// accepted against no root, whatever their digests are. No element and no node is hashed.
 ///
 /// # Errors
 ///
@@ -207,15 +206,15 @@ fn pinned_claim<F: Family, H: Hasher<F>>(
 pub fn is_pinned_shape_refused<F: Family, H: Hasher<F>>(
     hasher: &H,
     proof: &Proof<F, H::Digest>,
-    elements: &[&[u8]],
+    count: usize,
     start: Location<F>,
     pinned_nodes: &[H::Digest],
 ) -> Result<bool, AllocError>
     ensures { let s = H.scheme hasher.now in
-        let r = input_of s proof.now start (bytes_of elements.now) in
-        IfOk result (λ yes. IsTrue yes → (root : H.Digest) → ¬ (AcceptsPinned s r pinned_nodes.now root)) }
+        IfOk result (λ yes. IsTrue yes → (leaves : List H.Digest) → length leaves ≡ count
+        → (root : H.Digest) → ¬ (AcceptsPinned s (digest_input_of proof.now start leaves) pinned_nodes.now root)) }
 {
-    if is_shape_refused(hasher, proof, elements, start)? {
+    if is_shape_refused(hasher, proof, count, start)? {
         return Ok(true);
     }
     Ok(start.is_valid() && pinned_nodes.len() != F::nodes_to_pin(start).count())
@@ -229,28 +228,34 @@ pub fn is_pinned_shape_refused<F: Family, H: Hasher<F>>(
 pub fn accepted_pins<F: Family, H: Hasher<F>>(
     hasher: &H,
     proof: &Proof<F, H::Digest>,
-    elements: &[&[u8]],
+    digests: &[H::Digest],
     start: Location<F>,
     pinned_nodes: &[H::Digest],
     root: &H::Digest,
 ) -> Result<Option<PinnedClaim<F, H::Digest>>, Error<F>>
     ensures none { let s = H.scheme hasher.now in
-        let r = input_of s proof.now start (bytes_of elements.now) in
+        let r = digest_input_of proof.now start digests.now in
         IfOk result (λ o. IfNone o (¬ (AcceptsPinned s r pinned_nodes.now root.now))) }
     ensures some { let s = H.scheme hasher.now in
-        let r = input_of s proof.now start (bytes_of elements.now) in
+        let r = digest_input_of proof.now start digests.now in
         IfOk result (λ o. IfSome o (λ c. AcceptsPinned s r pinned_nodes.now root.now
         × IsPinnedClaim H.Digest.EMPTY s r pinned_nodes.now c.top c.nodes)) }
     ensures refused { IsOkUnless result Error.OutOfMemory }
 {
-    let checked = proof.verify_proof_and_pinned_nodes(hasher, elements, start, pinned_nodes, root);
+    let checked = proof.verify_leaf_digests_and_pinned_nodes(
+        hasher,
+        digests,
+        start,
+        pinned_nodes,
+        root,
+    );
     let Ok(said) = checked else {
         return Err(Error::OutOfMemory);
     };
     if !said {
         return Ok(None);
     }
-    match pinned_claim(hasher, proof, elements, start, pinned_nodes, root) {
+    match pinned_claim(hasher, proof, digests, start, pinned_nodes, root) {
         Ok(claim) => Ok(Some(claim)),
         Err(error) => Err(error),
     }

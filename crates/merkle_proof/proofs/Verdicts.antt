@@ -1,16 +1,19 @@
 -- What follows for a check's answer from what it accepts.
-use Rattle.std.proofs.Common.{◌↔◌, ℕ, Bool, List, IsTrue, IfOk, Result, inl, inr, ⊎_elim, sym, subst, ◌∙◌}
+use Rattle.std.proofs.Common.{◌↔◌, ◌⊎◌, ℕ, Bool, List, IsTrue, IfOk, Result, inl, inr, ⊎_elim, sym, subst, ◌∙◌}
+use Rattle.std.specs.List.{AllByRecursion}
 use Rattle.merkle_base.specs.Scheme.{Scheme}
 use Rattle.merkle_root_theory.specs.Check.{RangeInput}
-use Rattle.merkle_root_theory.specs.Range.{Accepts, IsLawfulScheme}
+use Rattle.merkle_root_theory.specs.Extract.{extracted, IsNodePair}
+use Rattle.merkle_root_theory.specs.Range.{Accepts, AcceptsNonempty, IsLawfulScheme, RangeCollides}
 use Rattle.merkle_root_theory.specs.RootNames.{NamesRoot}
+use Rattle.merkle_root_theory.proofs.Extraction.{extracts_nodes, extracted-no_leaves}
 use Rattle.merkle_root_theory.proofs.Grouping.{if_ok}
 use Rattle.merkle_root_theory.proofs.ListRoots.{roots_agree}
 use Rattle.merkle_root_theory.proofs.NamedRoots.{yes_names_root}
 use Rattle.merkle_root_theory.proofs.RangeChecks.{honest_is_accepted, accepted_is_honest}
 use Rattle.merkle_root_theory.proofs.Reconstruction.{leads_is_accepted}
 use Rattle.merkle_claim_theory.specs.CheckAnswers.{IsExactForRange, IsCompleteForRange, IsSoundForRange, IsCompleteForMulti, IsSoundForMulti, DecidesPins}
-use Rattle.merkle_claim_theory.specs.CheckAnswers.{IsExactForPins, IsCompleteForPins, IsSoundForPins, TellsOldRoot}
+use Rattle.merkle_claim_theory.specs.CheckAnswers.{IsExactForPins, IsCompleteForPins, IsSoundForPins, TellsOldRoot, IsExtraction, AreNodePairs}
 use Rattle.merkle_claim_theory.specs.Multiproof.{MultiInput, AcceptsMulti, AcceptsMultiCases}
 use Rattle.merkle_claim_theory.specs.Pinned.{AcceptsPinnedCases}
 use Rattle.merkle_claim_theory.proofs.AcceptedInputs.{multi_cases, pinned_cases}
@@ -74,3 +77,14 @@ module _ {D E : Type 0} (s : Scheme D) (root : D) (result : Result Bool E) where
       pub pins_tell : IfOk result (TellsOldRoot s root r pins)
       pins_tell =
           if_ok result (λ b f yes xs k l m is. ⊎_elim (λ honest. inl (pins_give_old_root s xs k r pins honest)) (λ other. inr other) (f yes xs k l m is)) pins_sound
+
+-- the pairs of an extraction are nodes of each list with the root, or what is hashed collides
+pub extraction_nodes : {D V E : Type 0} (s : Scheme D) (size max_nodes : ℕ) → IsLawfulScheme s size max_nodes → (root : D) (r : RangeInput D)
+    (pairs : V → List (ℕ × D)) (result : Result V E) → IfOk result (λ v. IsExtraction s root r (pairs v))
+    → IfOk result (λ v. AreNodePairs s root r (pairs v))
+extraction_nodes s size max_nodes kept root r pairs result = if_ok result (λ v w xs k l m is.
+    let right : AllByRecursion (IsNodePair s xs) (extracted s r) ⊎ RangeCollides s r xs k = elim ((leads_is_accepted s r root).0 w.0) [
+      | inl a ↦ extracts_nodes s size max_nodes kept xs k l m r (subst (AcceptsNonempty s r) (sym (roots_agree s xs k ∙ is)) a)
+      | inr a ↦ inl (subst (AllByRecursion (IsNodePair s xs)) (sym (extracted-no_leaves s r a.0.leaves)) tt)
+    ] in
+    subst (λ ps. AllByRecursion (IsNodePair s xs) ps ⊎ RangeCollides s r xs k) (sym w.1) right)

@@ -20,7 +20,7 @@ use merkle_base::position::Position;
 use merkle_digest::digest::Digest;
 use merkle_hasher::hasher::Hasher;
 use merkle_range::checks::{ProofParts, reconstruct_root, verify_leaf_digests, verify_range};
-use merkle_range::extraction::verify_and_extract;
+use merkle_range::extraction::{verify_and_extract, verify_leaf_digests_and_extract};
 use merkle_range::pins::{verify_pinned, verify_pinned_leaf_digests};
 use std::alloc::{AllocError, Global};
 
@@ -385,6 +385,41 @@ impl<F: Family, D: Digest> Proof<F, D> {
         ensures sound { let s = H.scheme hasher.now in IfOk result (IsSoundForRange s root.now (digest_input_of self.now start digests.now)) }
     {
         verify_leaf_digests(&self.parts(), hasher, digests, start, root)
+    }
+
+    /// Checks that the leaves from location `start` on of the list behind `root` have these digests,
+    /// and returns the digests of the nodes that the check computes or is given, with their
+    /// positions.
+    ///
+    /// This is
+    /// [`verify_range_inclusion_and_extract_digests`](Proof::verify_range_inclusion_and_extract_digests)
+    /// for those who have the digests of leaves in place of the elements: each is to be what
+    /// [`leaf_digest`](Hasher::leaf_digest) gives for the leaf's position and its element, so that
+    /// the caller vouches for what was hashed. The order is the same.
+    ///
+    /// Each is a node of the list behind `root` with its digest, or else the computation and the
+    /// list hash different inputs to the same digest at the same place.
+    ///
+    /// # Errors
+    ///
+    /// The first that applies:
+    /// - `InvalidProof` if [`reconstruct_root`](Proof::reconstruct_root) returns an error for
+    ///   elements with these digests
+    /// - `RootMismatch` if the computed root differs from `root`
+    ///
+    /// `OutOfMemory` at any point if a memory request is refused.
+    pub fn verify_leaf_digests_inclusion_and_extract_digests<H: Hasher<F, Digest = D>>(
+        &self,
+        hasher: &H,
+        digests: &[D],
+        start: Location<F>,
+        root: &D,
+    ) -> Result<Vec<(Position<F>, D)>, Error<F>>
+        ensures ok { let s = H.scheme hasher.now in IfOk result (λ v. IsExtraction s root.now (digest_input_of self.now start digests.now) v.items) }
+        ensures nodes { let s = H.scheme hasher.now in IfOk result (λ v. AreNodePairs s root.now (digest_input_of self.now start digests.now) v.items) }
+        ensures err { let s = H.scheme hasher.now in IfErr result (RefusesExtraction s (digest_input_of self.now start digests.now) root.now) }
+    {
+        verify_leaf_digests_and_extract(&self.parts(), hasher, digests, start, root)
     }
 
     /// Whether the leaf at `location` of the list behind `root` has the digest `digest`.

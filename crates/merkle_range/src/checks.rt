@@ -144,8 +144,7 @@ pub fn root_of_leaf_digests<F: Family, H: Hasher<F>>(
     if leaves.is_empty() {
         return reconstruct_empty_root(parts, hasher, start);
     }
-    let (range, groups) = grouped_range(parts, start, leaves.len())?;
-    root_over_range(parts, hasher, &range, &groups, leaves, &mut Discard)
+    root_of_leaf_digests_into(parts, hasher, leaves, start, &mut Discard)
 }
 
 /// Computes the root that the elements, which are at least one, lead to.
@@ -192,6 +191,30 @@ pub(crate) fn reconstruct_root_into<F: Family, H: Hasher<F>, C: Collector<F, H::
         return Err(ReconstructionError::OutOfMemory);
     };
     root_over_range(parts, hasher, &range, &groups, &leaves, collector)
+}
+
+/// Computes the root that the leaves with these digests, which are at least one and those from
+/// location `start` on, lead to, and passes every node digest that is computed or given to
+/// `collector`, in the order of [`root_over_range`].
+pub(crate) fn root_of_leaf_digests_into<F: Family, H: Hasher<F>, C: Collector<F, H::Digest>>(
+    parts: &ProofParts<'_, F, H::Digest>,
+    hasher: &H,
+    leaves: &[H::Digest],
+    start: Location<F>,
+    collector: &mut C,
+) -> Result<H::Digest, ReconstructionError>
+    requires nonempty { 0 < length leaves.now }
+    ensures ok { let s = H.scheme hasher.now in
+        IfOk result (λ d. IsComputed s (digest_input_of_parts parts.now start leaves.now) d) }
+    ensures taken { let s = H.scheme hasher.now in
+        let r = digest_input_of_parts parts.now start leaves.now in
+        IfOk result (λ _. C.Took collector.old (extracted s r) collector.new) }
+    ensures err { let s = H.scheme hasher.now in
+        let r = digest_input_of_parts parts.now start leaves.now in
+        IfErr result (λ e. e ≢ ReconstructionError.OutOfMemory → first_case (range_refusals s r) ≡ Some e) }
+{
+    let (range, groups) = grouped_range(parts, start, leaves.len())?;
+    root_over_range(parts, hasher, &range, &groups, leaves, collector)
 }
 
 /// Computes the root that the leaves of a range, which have the digests `leaves`, lead to, and

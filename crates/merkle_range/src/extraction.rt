@@ -1,5 +1,5 @@
 //! The node digests that a check of a range computes or is given.
-ghost use Rattle.std.specs.Prelude.{◌≡◌, ◌+◌, ◌<◌, ◌≤◌, ◌≢◌, ℕ, List, Some, Ok, Err, IfOk, IfErr, length, map, drop, take, min};
+ghost use Rattle.std.specs.Prelude.{◌≡◌, ◌+◌, ◌<◌, ◌≤◌, ◌≢◌, ◌⊎◌, ℕ, List, Some, Ok, Err, IfOk, IfErr, IsOkAnd, length, map, drop, take, min};
 ghost use Rattle.merkle_base.specs.Tree.{Tree, position};
 ghost use Rattle.merkle_base.specs.Hashing.{Hashing};
 ghost use Rattle.merkle_base.specs.Places.{wholly_before};
@@ -10,10 +10,12 @@ ghost use Rattle.merkle_range.specs.Extracting.{RefusesExtraction};
 ghost use Rattle.merkle_base.specs.Cases.{first_case};
 ghost use Rattle.merkle_hasher.specs.LeafDigests.{bytes_of};
 ghost use Rattle.merkle_range.specs.GroupedPeaks.{HoldsGroups};
-ghost use Rattle.merkle_range.specs.Input.{IsComputed, input_of_parts};
+ghost use Rattle.merkle_range.specs.Input.{IsComputed, digest_input_of_parts, input_of_parts};
 ghost use Rattle.merkle_claim_theory.specs.CheckAnswers.{IsExtraction};
 
-use crate::checks::{ProofParts, reconstruct_empty_root, reconstruct_root_into};
+use crate::checks::{
+    ProofParts, reconstruct_empty_root, reconstruct_root_into, root_of_leaf_digests_into,
+};
 use crate::groups::PeakGroups;
 use crate::layout::Layout;
 use merkle_base::error::{Error, ReconstructionError};
@@ -45,7 +47,37 @@ pub fn verify_and_extract<F: Family, H: Hasher<F>>(
     ensures ok { let s = H.scheme hasher.now in IfOk result (λ v. IsExtraction s root.now (input_of_parts s parts.now start (bytes_of elements.now)) v.items) }
     ensures err { let s = H.scheme hasher.now in IfErr result (RefusesExtraction s (input_of_parts s parts.now start (bytes_of elements.now)) root.now) }
 {
-    match reconstruct_or_extract(parts, hasher, elements, start) {
+    pairs_for(reconstruct_or_extract(parts, hasher, elements, start), root)
+}
+
+/// Checks that the leaves with these digests lead to `root`, and returns the digests of the nodes
+/// that the check computes or is given, with their positions.
+///
+/// Fails as [`verify_and_extract`], with leaves for elements.
+pub fn verify_leaf_digests_and_extract<F: Family, H: Hasher<F>>(
+    parts: &ProofParts<'_, F, H::Digest>,
+    hasher: &H,
+    leaves: &[H::Digest],
+    start: Location<F>,
+    root: &H::Digest,
+) -> Result<Vec<(Position<F>, H::Digest)>, Error<F>>
+    ensures ok { let s = H.scheme hasher.now in IfOk result (λ v. IsExtraction s root.now (digest_input_of_parts parts.now start leaves.now) v.items) }
+    ensures err { let s = H.scheme hasher.now in IfErr result (RefusesExtraction s (digest_input_of_parts parts.now start leaves.now) root.now) }
+{
+    pairs_for(extract_leaf_digests(parts, hasher, leaves, start), root)
+}
+
+// The pairs of an outcome whose root is `root`.
+fn pairs_for<F: Family, D: Digest>(
+    outcome: Result<(D, Vec<(Position<F>, D)>), ReconstructionError>,
+    root: &D,
+) -> Result<Vec<(Position<F>, D)>, Error<F>>
+    ensures ok { IfOk result (λ v. outcome ≡ Ok (root.now, v)) }
+    ensures err { IfErr result (λ e. e ≢ Error.OutOfMemory
+        → ((x : ReconstructionError) × (x ≢ ReconstructionError.OutOfMemory) × (outcome ≡ Err x) × (e ≡ Error.InvalidProof))
+        ⊎ IsOkAnd outcome (λ found. (found.0 ≢ root.now) × (e ≡ Error.RootMismatch))) }
+{
+    match outcome {
         Ok((computed, pairs)) => {
             if computed != *root {
                 return Err(Error::RootMismatch);
@@ -79,6 +111,30 @@ fn reconstruct_or_extract<F: Family, H: Hasher<F>>(
         return Ok((root, Vec::new(parts.alloc)));
     }
     reconstruct_and_extract(parts, hasher, elements, start)
+}
+
+// Computes the root that the leaves with these digests lead to, and the pairs; without leaves, the
+// root of no leaves and no pairs.
+fn extract_leaf_digests<F: Family, H: Hasher<F>>(
+    parts: &ProofParts<'_, F, H::Digest>,
+    hasher: &H,
+    leaves: &[H::Digest],
+    start: Location<F>,
+) -> Result<(H::Digest, Vec<(Position<F>, H::Digest)>), ReconstructionError>
+    ensures ok { let s = H.scheme hasher.now in
+        let r = digest_input_of_parts parts.now start leaves.now in
+        IfOk result (λ found. (reconstructed s r ≡ Ok found.0) × (found.1.items ≡ extracted s r)) }
+    ensures err { let s = H.scheme hasher.now in
+        let r = digest_input_of_parts parts.now start leaves.now in
+        IfErr result (λ e. e ≢ ReconstructionError.OutOfMemory → reconstructed s r ≡ Err e) }
+{
+    let mut pairs = Vec::new(parts.alloc);
+    if leaves.is_empty() {
+        let root = reconstruct_empty_root(parts, hasher, start)?;
+        return Ok((root, pairs));
+    }
+    let root = root_of_leaf_digests_into(parts, hasher, leaves, start, &mut pairs)?;
+    Ok((root, pairs))
 }
 
 /// Computes the root that the elements, which are at least one, lead to, and the digests of the

@@ -8,7 +8,7 @@ ghost use Rattle.merkle_hasher.specs.LeafDigests.{bytes_of};
 ghost use Rattle.merkle_store_theory.specs.StoreProof.{found_at, first_lacking};
 ghost use Rattle.merkle_store_theory.specs.StoreReads.{prefix_at, suffix_at, suffix_refusal_at, proof_at};
 ghost use Rattle.merkle_store_theory.specs.StoreValue.{store_of};
-ghost use Rattle.merkle_proof.specs.Input.{input_of};
+ghost use Rattle.merkle_proof.specs.Input.{digest_input_of, input_of};
 ghost use Rattle.merkle_verification.specs.PairReads.{IsPrunedAt};
 ghost use Rattle.merkle_verification.specs.StoreCalls.{IsPartProof, IsStoreRefusal, RefusesStore, ForStored, ForNonemptyPart, AcceptsPart, IsPartChecked};
 ghost use Rattle.merkle_verification.specs.StoreMulti.{IsMultiAnswered, IsStoreMultiRefusal};
@@ -146,6 +146,48 @@ impl<F: Family, D: Digest> ProofStore<F, D> {
             return Err(Error::Empty);
         }
         let end = start + elements.len() as u64;
+        Self::keep(hasher.root_bagging(), proof, start..end, root, pairs)
+    }
+
+    /// Checks the proof of the leaves with these digests, which are those from location `start` on,
+    /// against `root`, and keeps what it proves.
+    ///
+    /// This is [`new`](ProofStore::new) for those who have the digests of leaves in place of the
+    /// elements: each is to be what [`leaf_digest`](Hasher::leaf_digest) gives for the leaf's
+    /// position and its element, so that the caller vouches for what was hashed.
+    ///
+    /// # Errors
+    ///
+    /// The first that applies:
+    /// - `InvalidProof` if [`reconstruct_root`](Proof::reconstruct_root) returns an error for
+    ///   elements with these digests
+    /// - `RootMismatch` if the computed root differs from `root`
+    /// - `Empty` if there are no leaves
+    ///
+    /// `OutOfMemory` at any point if a memory request is refused.
+    pub fn from_leaf_digests<H: Hasher<F, Digest = D>>(
+        hasher: &H,
+        proof: &Proof<F, D>,
+        digests: &[D],
+        start: Location<F>,
+        root: &D,
+    ) -> Result<Self, Error<F>>
+        ensures ok { let s = H.scheme hasher.now in
+            IfOk result (λ v. v ≡ store_of s (digest_input_of proof.now start digests.now) root.now) }
+        ensures accepted { let s = H.scheme hasher.now in
+            IfOk result (λ _. AcceptsNonempty s (digest_input_of proof.now start digests.now) root.now) }
+        ensures err { let s = H.scheme hasher.now in IfErr result (RefusesStore s (digest_input_of proof.now start digests.now) root.now digests.now) }
+    {
+        let pairs = match proof.verify_leaf_digests_inclusion_and_extract_digests(
+            hasher, digests, start, root,
+        ) {
+            Ok(pairs) => pairs,
+            Err(error) => return Err(error),
+        };
+        if digests.is_empty() {
+            return Err(Error::Empty);
+        }
+        let end = start + digests.len() as u64;
         Self::keep(hasher.root_bagging(), proof, start..end, root, pairs)
     }
 

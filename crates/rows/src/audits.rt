@@ -1,8 +1,9 @@
 //! Calls of audits.
 
 use merkle_audit::{
-    ApplyVerdict, Argument, PairVerdict, Place, Verdict, audit_apply, audit_multi, audit_pair,
-    audit_pins, audit_range,
+    ApplyVerdict, Argument, PairVerdict, Place, Verdict, audit_apply, audit_multi,
+    audit_multi_leaf_digests, audit_pair, audit_pair_leaf_digests, audit_pins,
+    audit_pins_leaf_digests, audit_range, audit_range_leaf_digests,
 };
 use merkle_core::digest::Digest;
 use merkle_core::error::Error;
@@ -11,7 +12,7 @@ use merkle_core::hasher::Hasher;
 use merkle_core::location::Location;
 use merkle_core::proof::Proof;
 use rows_calls::refusal::refused;
-use rows_calls::values::{digest, digests, proof};
+use rows_calls::values::{digest, digests, located_digests, proof};
 use rows_text::answer::Answer;
 use rows_text::calls::AuditCall;
 use rows_text::refusal::Refusal;
@@ -85,6 +86,26 @@ fn write_verdict<F: Family, D: Digest>(
     Ok(())
 }
 
+// Writes what an audit of two proofs says, or returns what is written for its error.
+fn write_pair_verdict<F: Family, D: Digest>(
+    answer: &mut Answer,
+    verdict: Result<PairVerdict<F, D>, Error<F>>,
+) -> Result<(), Refusal> {
+    match verdict {
+        Ok(PairVerdict::Rejected) => answer.text("rejected"),
+        Ok(PairVerdict::Consistent) => answer.text("consistent"),
+        Ok(
+            PairVerdict::Collision {
+                place,
+                first,
+                second,
+            },
+        ) => write_collision(answer, place, &first, &second),
+        Err(error) => return Err(refused(&error)),
+    }
+    Ok(())
+}
+
 // What an audit of a proof of a range says.
 fn range<F: Family, H: Hasher<F>>(
     hasher: &H,
@@ -102,6 +123,22 @@ fn range<F: Family, H: Hasher<F>>(
         answer,
         audit_range(hasher, &list, inactive, &proof, &all, start),
     )
+}
+
+// What an audit of a proof of a range says of the digests of its leaves.
+fn range_digests<F: Family, H: Hasher<F>>(
+    hasher: &H,
+    words: &mut Words,
+    answer: &mut Answer,
+) -> Result<(), Refusal> {
+    let list = digests(words);
+    let inactive = words.count();
+    let proof: Proof<F, H::Digest> = proof(words);
+    let start = Location::new(words.number());
+    let leaves = digests(words);
+    words.end()?;
+    let verdict = audit_range_leaf_digests(hasher, &list, inactive, &proof, &leaves, start);
+    write_verdict(answer, verdict)
 }
 
 // What an audit of a proof says with these elements, each at its location.
@@ -138,6 +175,21 @@ fn multi<F: Family, H: Hasher<F>>(
     write_verdict(answer, verdict)
 }
 
+// What an audit of a proof of leaves anywhere says of their digests.
+fn multi_digests<F: Family, H: Hasher<F>>(
+    hasher: &H,
+    words: &mut Words,
+    answer: &mut Answer,
+) -> Result<(), Refusal> {
+    let list = digests(words);
+    let inactive = words.count();
+    let proof: Proof<F, H::Digest> = proof(words);
+    let leaves = located_digests(words);
+    words.end()?;
+    let verdict = audit_multi_leaf_digests(hasher, &list, inactive, &proof, &leaves);
+    write_verdict(answer, verdict)
+}
+
 // What an audit of a proof of a range with pins says.
 fn pins<F: Family, H: Hasher<F>>(
     hasher: &H,
@@ -153,6 +205,23 @@ fn pins<F: Family, H: Hasher<F>>(
     let all = words.slices(&found);
     words.end()?;
     let verdict = audit_pins(hasher, &list, inactive, &proof, &all, start, &pinned);
+    write_verdict(answer, verdict)
+}
+
+// What an audit of a proof of a range with pins says of the digests of its leaves.
+fn pins_digests<F: Family, H: Hasher<F>>(
+    hasher: &H,
+    words: &mut Words,
+    answer: &mut Answer,
+) -> Result<(), Refusal> {
+    let list = digests(words);
+    let inactive = words.count();
+    let proof: Proof<F, H::Digest> = proof(words);
+    let start = Location::new(words.number());
+    let leaves = digests(words);
+    let pinned: Vec<H::Digest> = digests(words);
+    words.end()?;
+    let verdict = audit_pins_leaf_digests(hasher, &list, inactive, &proof, &leaves, start, &pinned);
     write_verdict(answer, verdict)
 }
 
@@ -198,19 +267,29 @@ fn pair<F: Family, H: Hasher<F>>(
     words.end()?;
     let first = (&one, all.as_slice(), start);
     let second = (&other, other_all.as_slice(), other_start);
-    match audit_pair(hasher, &root, first, second) {
-        Ok(PairVerdict::Rejected) => answer.text("rejected"),
-        Ok(PairVerdict::Consistent) => answer.text("consistent"),
-        Ok(
-            PairVerdict::Collision {
-                place,
-                first,
-                second,
-            },
-        ) => write_collision(answer, place, &first, &second),
-        Err(error) => return Err(refused(&error)),
-    }
-    Ok(())
+    write_pair_verdict(answer, audit_pair(hasher, &root, first, second))
+}
+
+// What an audit of two proofs of ranges against one root says of the digests of their leaves.
+fn pair_digests<F: Family, H: Hasher<F>>(
+    hasher: &H,
+    words: &mut Words,
+    answer: &mut Answer,
+) -> Result<(), Refusal> {
+    let root: H::Digest = digest(words);
+    let one: Proof<F, H::Digest> = proof(words);
+    let start = Location::new(words.number());
+    let leaves: Vec<H::Digest> = digests(words);
+    let other: Proof<F, H::Digest> = proof(words);
+    let other_start = Location::new(words.number());
+    let other_leaves: Vec<H::Digest> = digests(words);
+    words.end()?;
+    let first = (&one, leaves.as_slice(), start);
+    let second = (&other, other_leaves.as_slice(), other_start);
+    write_pair_verdict(
+        answer,
+        audit_pair_leaf_digests(hasher, &root, first, second),
+    )
 }
 
 /// Does what a call says, and writes the answer. The words are those after the name of the call.
@@ -226,9 +305,13 @@ pub fn answer<F: Family, H: Hasher<F>>(
     let answered = match call {
         AuditCall::Apply => apply(hasher, words, answer),
         AuditCall::Multi => multi(hasher, words, answer),
+        AuditCall::MultiDigests => multi_digests(hasher, words, answer),
         AuditCall::Pair => pair(hasher, words, answer),
+        AuditCall::PairDigests => pair_digests(hasher, words, answer),
         AuditCall::Pins => pins(hasher, words, answer),
+        AuditCall::PinsDigests => pins_digests(hasher, words, answer),
         AuditCall::Range => range(hasher, words, answer),
+        AuditCall::RangeDigests => range_digests(hasher, words, answer),
     };
     answered?;
     answer.end()

@@ -185,13 +185,17 @@ pub enum StoreCall {
 pub enum AuditCall {
     Apply,
     Multi,
+    MultiDigests,
     Pair,
+    PairDigests,
     Pins,
+    PinsDigests,
     Range,
+    RangeDigests,
 }
 
 /// Each call, with its first word and the number of its words.
-const CALLS: [(&str, usize, Call); 107] = [
+const CALLS: [(&str, usize, Call); 111] = [
     ("height", 2, Call::Family(FamilyCall::Height)),
     ("inactive", 3, Call::Family(FamilyCall::Inactive)),
     ("is_inactive", 4, Call::Family(FamilyCall::IsInactive)),
@@ -320,9 +324,25 @@ const CALLS: [(&str, usize, Call); 107] = [
     ("suffix_peaks", 2, Call::Store(StoreCall::SuffixPeaks)),
     ("audit_apply", 3, Call::Audit(AuditCall::Apply)),
     ("audit_multi", 7, Call::Audit(AuditCall::Multi)),
+    (
+        "audit_multi_digests",
+        7,
+        Call::Audit(AuditCall::MultiDigests),
+    ),
     ("audit_pair", 12, Call::Audit(AuditCall::Pair)),
+    (
+        "audit_pair_digests",
+        12,
+        Call::Audit(AuditCall::PairDigests),
+    ),
     ("audit_pins", 9, Call::Audit(AuditCall::Pins)),
+    ("audit_pins_digests", 9, Call::Audit(AuditCall::PinsDigests)),
     ("audit_range", 8, Call::Audit(AuditCall::Range)),
+    (
+        "audit_range_digests",
+        8,
+        Call::Audit(AuditCall::RangeDigests),
+    ),
 ];
 
 /// The call with this first word and this number of words.

@@ -1,14 +1,11 @@
-use Rattle.std.proofs.Common.{◌≡◌, ◌+◌, length, inl, inr, arith, ap, sym, ◌∙◌}
-use Rattle.std.proofs.lemmas.List.{length-map}
+use Rattle.std.proofs.Common.{refl, ◌≡◌, ◌+◌, length, inl, inr, arith, ap, sym, ◌∙◌}
 use Rattle.std.proofs.lemmas.Result.{IfOk-at_ok}
 use Rattle.merkle_base.proofs.Limits.{lawful_leaves}
 use Rattle.merkle_base.specs.Scheme.{Scheme}
 use Rattle.merkle_root_theory.specs.Check.{RangeInput}
 use Rattle.merkle_root_theory.specs.Range.{IsEmptyInput}
-use Rattle.merkle_hasher.specs.LeafDigests.{bytes_of}
 use Rattle.merkle_root_theory.proofs.Reconstruction.{leads_is_accepted}
-use Rattle.merkle_hasher.proofs.LeafDigests.{length-leaf_digests}
-use Rattle.merkle_proof.specs.Input.{input_of}
+use Rattle.merkle_proof.specs.Input.{digest_input_of}
 use Rattle.merkle_audit_parts.specs.Claimed.{IsClaim}
 use Rattle.merkle_audit_parts.proofs.Claims.{empty_led}
 use Rattle.merkle_audit_parts.proofs.claim.accepted.Goals as goal
@@ -17,9 +14,9 @@ use Rattle.merkle_audit_parts.proofs.claim.accepted.Goals.{in-Ok, in-Err+in-Empt
 pub add-end-requires : goal.add-end-requires
 add-end-requires g c =
     let s = g.H.Hasher.scheme c.args.hasher.now in
-    let es = c.args.elements.now in
-    let r = input_of s c.args.proof.now c.args.start (bytes_of es) in
-    let count : length r.elements ≡ length es = length-leaf_digests s.hashing s.rule c.args.start (bytes_of es) ∙ length-map es (λ e. e.now) in
+    let es = c.args.digests.now in
+    let r = digest_input_of c.args.proof.now c.args.start es in
+    let count : length r.elements ≡ length es = refl in
     let ok = c.in-Ok.ensures.accepted in
     let most = ap (λ (z : Scheme g.row.H-Digest.Denot). z.max_leaves) (g.met.H.Hasher.scheme_is c.args.hasher.now) in
     omega (arith, ok.within, ok.leaves, count, most, lawful_leaves _ _ _ g.met.F.Family.lawful)
@@ -27,9 +24,9 @@ add-end-requires g c =
 pub claim_of-claim-requires-clause-within : goal.claim_of-claim-requires-clause-within
 claim_of-claim-requires-clause-within g c =
     let s = g.H.Hasher.scheme c.args.hasher.now in
-    let es = c.args.elements.now in
-    let r = input_of s c.args.proof.now c.args.start (bytes_of es) in
-    let count : length r.elements ≡ length es = length-leaf_digests s.hashing s.rule c.args.start (bytes_of es) ∙ length-map es (λ e. e.now) in
+    let es = c.args.digests.now in
+    let r = digest_input_of c.args.proof.now c.args.start es in
+    let count : length r.elements ≡ length es = refl in
     let ok = c.in-Ok.ensures.accepted in
     let most = ap (λ (z : Scheme g.row.H-Digest.Denot). z.max_leaves) (g.met.H.Hasher.scheme_is c.args.hasher.now) in
     omega (arith, ok.within, count, c.add-end.ensures)
@@ -37,9 +34,9 @@ claim_of-claim-requires-clause-within g c =
 pub returns-in-Ok-claim-clause-some : goal.returns-in-Ok-claim-clause-some
 returns-in-Ok-claim-clause-some g c =
     let s = g.H.Hasher.scheme c.args.hasher.now in
-    let es = c.args.elements.now in
-    let r = input_of s c.args.proof.now c.args.start (bytes_of es) in
-    let count : length r.elements ≡ length es = length-leaf_digests s.hashing s.rule c.args.start (bytes_of es) ∙ length-map es (λ e. e.now) in
+    let es = c.args.digests.now in
+    let r = digest_input_of c.args.proof.now c.args.start es in
+    let count : length r.elements ≡ length es = refl in
     elim c.match-new.branch [
       | in-Ok w ↦ (
         (leads_is_accepted s r c.args.root.now).1 (inl w.in-Ok.ensures.accepted),

@@ -8,10 +8,8 @@ use Rattle.merkle_hasher.specs.Subtrees.{subtree_of}
 use Rattle.merkle_hasher.specs.declared.subtree.Subtree.{Subtree}
 use Rattle.merkle_root_theory.specs.Outside.{folded_prefix, single_before, single_after, folded_suffix}
 use Rattle.merkle_root_theory.specs.Range.{end_of, overlapping, wholly_after}
-use Rattle.merkle_hasher.specs.LeafDigests.{bytes_of}
 use Rattle.merkle_root_theory.proofs.LayoutCounts.{length-fold_all}
-use Rattle.merkle_hasher.proofs.LeafDigests.{length-leaf_digests}
-use Rattle.merkle_proof.specs.Input.{input_of}
+use Rattle.merkle_proof.specs.Input.{digest_input_of}
 use Rattle.merkle_audit_theory.proofs.ClaimParts.{claim_digests}
 use Rattle.merkle_audit_parts.specs.Claimed.{digest_in_claim}
 use Rattle.merkle_audit_parts.specs.declared.claim.RangeNodes.{RangeNodes}
@@ -27,10 +25,10 @@ pub unreachable-requires : goal.unreachable-requires
 unreachable-requires g c =
     let s = g.H.Hasher.scheme c.args.hasher.now in
     let is = g.met.H.Hasher.scheme_is c.args.hasher.now in
-    let es = c.args.elements.now in
-    let r = input_of s c.args.proof.now c.args.range.start (bytes_of es) in
+    let es = c.args.digests.now in
+    let r = digest_input_of c.args.proof.now c.args.range.start es in
     let w = c.requires.accepted in
-    let count = length-leaf_digests s.hashing s.rule c.args.range.start (bytes_of es) ∙ length-map es (λ e. e.now) in
+    let count : length r.elements ≡ length es = refl in
     let ends = c.requires.ends ∙ ap (λ n. c.args.range.start + n) (sym count) in
     let plan = c.in-Ok.ensures.ok in
     let rule_is = sym (ap (λ (z : Scheme g.row.H-Digest.Denot). z.rule) is) in
@@ -44,10 +42,10 @@ pub parts-requires-clause-given : goal.parts-requires-clause-given
 parts-requires-clause-given g c =
     let s = g.H.Hasher.scheme c.args.hasher.now in
     let is = g.met.H.Hasher.scheme_is c.args.hasher.now in
-    let es = c.args.elements.now in
-    let r = input_of s c.args.proof.now c.args.range.start (bytes_of es) in
+    let es = c.args.digests.now in
+    let r = digest_input_of c.args.proof.now c.args.range.start es in
     let w = c.requires.accepted in
-    let count = length-leaf_digests s.hashing s.rule c.args.range.start (bytes_of es) ∙ length-map es (λ e. e.now) in
+    let count : length r.elements ≡ length es = refl in
     let ends = c.requires.ends ∙ ap (λ n. c.args.range.start + n) (sym count) in
     let plan = c.in-Ok.ensures.ok in
     let rule_is = sym (ap (λ (z : Scheme g.row.H-Digest.Denot). z.rule) is) in
@@ -71,10 +69,10 @@ pub parts-requires-clause-peaks : goal.parts-requires-clause-peaks
 parts-requires-clause-peaks g c =
     let s = g.H.Hasher.scheme c.args.hasher.now in
     let is = g.met.H.Hasher.scheme_is c.args.hasher.now in
-    let es = c.args.elements.now in
-    let r = input_of s c.args.proof.now c.args.range.start (bytes_of es) in
+    let es = c.args.digests.now in
+    let r = digest_input_of c.args.proof.now c.args.range.start es in
     let w = c.requires.accepted in
-    let count = length-leaf_digests s.hashing s.rule c.args.range.start (bytes_of es) ∙ length-map es (λ e. e.now) in
+    let count : length r.elements ≡ length es = refl in
     let ends = c.requires.ends ∙ ap (λ n. c.args.range.start + n) (sym count) in
     let plan = c.in-Ok.ensures.ok in
     let rule_is = sym (ap (λ (z : Scheme g.row.H-Digest.Denot). z.rule) is) in
@@ -104,10 +102,10 @@ pub above_peaks-requires : goal.above_peaks-requires
 above_peaks-requires g c =
     let s = g.H.Hasher.scheme c.args.hasher.now in
     let is = g.met.H.Hasher.scheme_is c.args.hasher.now in
-    let es = c.args.elements.now in
-    let r = input_of s c.args.proof.now c.args.range.start (bytes_of es) in
+    let es = c.args.digests.now in
+    let r = digest_input_of c.args.proof.now c.args.range.start es in
     let w = c.requires.accepted in
-    let count = length-leaf_digests s.hashing s.rule c.args.range.start (bytes_of es) ∙ length-map es (λ e. e.now) in
+    let count : length r.elements ≡ length es = refl in
     let ends = c.requires.ends ∙ ap (λ n. c.args.range.start + n) (sym count) in
     let plan = c.in-Ok.ensures.ok in
     let rule_is = sym (ap (λ (z : Scheme g.row.H-Digest.Denot). z.rule) is) in
@@ -145,10 +143,10 @@ pub returns-clause-claim : goal.returns-clause-claim
 returns-clause-claim g c =
     let s = g.H.Hasher.scheme c.args.hasher.now in
     let is = g.met.H.Hasher.scheme_is c.args.hasher.now in
-    let es = c.args.elements.now in
-    let r = input_of s c.args.proof.now c.args.range.start (bytes_of es) in
+    let es = c.args.digests.now in
+    let r = digest_input_of c.args.proof.now c.args.range.start es in
     let w = c.requires.accepted in
-    let count = length-leaf_digests s.hashing s.rule c.args.range.start (bytes_of es) ∙ length-map es (λ e. e.now) in
+    let count : length r.elements ≡ length es = refl in
     let ends = c.requires.ends ∙ ap (λ n. c.args.range.start + n) (sym count) in
     let plan = c.in-Ok.ensures.ok in
     let rule_is = sym (ap (λ (z : Scheme g.row.H-Digest.Denot). z.rule) is) in

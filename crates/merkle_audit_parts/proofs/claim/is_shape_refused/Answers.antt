@@ -1,11 +1,8 @@
 use Rattle.std.proofs.Common.{rules, ◌≡◌, ◌<◌, ◌+◌, ◌-◌, ℕ, List, length, ap, sym, arith, ◌∙◌}
-use Rattle.std.proofs.lemmas.List.{length-map}
 use Rattle.merkle_base.specs.Places.{peaks_of, wholly_before}
 use Rattle.merkle_base.specs.Scheme.{Scheme}
 use Rattle.merkle_base.specs.declared.family.Bagging.{Bagging}
-use Rattle.merkle_hasher.specs.LeafDigests.{bytes_of}
-use Rattle.merkle_hasher.proofs.LeafDigests.{length-leaf_digests}
-use Rattle.merkle_proof.specs.Input.{input_of}
+use Rattle.merkle_proof.specs.Input.{digest_input_of}
 use Rattle.merkle_root_theory.specs.Outside.{folded_prefix, single_before, single_after, folded_suffix}
 use Rattle.merkle_root_theory.specs.Range.{end_of, overlapping, wholly_after}
 use Rattle.merkle_root_theory.specs.Reads.{nodes_read}
@@ -13,43 +10,40 @@ use Rattle.merkle_audit_parts.proofs.Claims.{digests_counted, led_nonempty, no_r
 use Rattle.merkle_audit_parts.proofs.claim.is_shape_refused.Goals as goal
 
 pub returns-in_default : goal.returns-in_default
-returns-in_default g c = λ _ d led.
+returns-in_default g c = λ _ leaves many d led.
     let s = g.H.Hasher.scheme c.args.hasher.now in
     let is = g.met.H.Hasher.scheme_is c.args.hasher.now in
-    let es = c.args.elements.now in
-    let r = input_of s c.args.proof.now c.args.start (bytes_of es) in
-    let count : length r.elements ≡ length es = length-leaf_digests s.hashing s.rule c.args.start (bytes_of es) ∙ length-map es (λ e. e.now) in
-    let some : 0 < length es = search rules in
+    let r = digest_input_of c.args.proof.now c.args.start leaves in
+    let count : length r.elements ≡ c.args.count = many in
+    let some : 0 < c.args.count = search rules in
     let ok = led_nonempty s r d (omega (arith, some, count)) led in
     let most = ap (λ (z : Scheme g.row.H-Digest.Denot). z.max_leaves) is in
     c.in_default.ensures (omega (arith, ok.within, ok.leaves, count, most))
 
 pub returns-in_default-error : goal.returns-in_default-error
-returns-in_default-error g c = λ _ d led.
+returns-in_default-error g c = λ _ leaves many d led.
     let s = g.H.Hasher.scheme c.args.hasher.now in
     let is = g.met.H.Hasher.scheme_is c.args.hasher.now in
-    let es = c.args.elements.now in
-    let r = input_of s c.args.proof.now c.args.start (bytes_of es) in
-    let count : length r.elements ≡ length es = length-leaf_digests s.hashing s.rule c.args.start (bytes_of es) ∙ length-map es (λ e. e.now) in
-    let some : 0 < length es = search rules in
+    let r = digest_input_of c.args.proof.now c.args.start leaves in
+    let count : length r.elements ≡ c.args.count = many in
+    let some : 0 < c.args.count = search rules in
     let ok = led_nonempty s r d (omega (arith, some, count)) led in
     let most = ap (λ (z : Scheme g.row.H-Digest.Denot). z.max_leaves) is in
-    let end : c.in-Some.end ≡ c.args.start + length es = search rules in
+    let end : c.in-Some.end ≡ c.args.start + c.args.count = search rules in
     no_refusal g.F.Family.MAX_LEAVES c.args.proof.now.leaves c.args.start c.in-Some.end c.in-Err.error (omega (arith, end, some))
     (omega (arith, end, ok.within, count)) (omega (arith, ok.leaves, most))
     (c.in-Err.ensures.err c.in_default-error.not-OutOfMemory)
 
 pub returns : goal.returns
-returns g c = λ yes d led.
+returns g c = λ yes leaves size d led.
     let s = g.H.Hasher.scheme c.args.hasher.now in
     let is = g.met.H.Hasher.scheme_is c.args.hasher.now in
-    let es = c.args.elements.now in
-    let r = input_of s c.args.proof.now c.args.start (bytes_of es) in
-    let count : length r.elements ≡ length es = length-leaf_digests s.hashing s.rule c.args.start (bytes_of es) ∙ length-map es (λ e. e.now) in
-    let some : 0 < length es = search rules in
+    let r = digest_input_of c.args.proof.now c.args.start leaves in
+    let count : length r.elements ≡ c.args.count = size in
+    let some : 0 < c.args.count = search rules in
     let ok = led_nonempty s r d (omega (arith, some, count)) led in
     let most = ap (λ (z : Scheme g.row.H-Digest.Denot). z.max_leaves) is in
-    let end : c.in-Some.end ≡ c.args.start + length es = search rules in
+    let end : c.in-Some.end ≡ c.args.start + c.args.count = search rules in
     let plan = c.in-Ok.ensures.ok in
     let rule_is = sym (ap (λ (z : Scheme g.row.H-Digest.Denot). z.rule) is) in
     let bagging_is = c.root_bagging.ensures ∙ sym (ap (λ (z : Scheme g.row.H-Digest.Denot). z.bagging) is) in

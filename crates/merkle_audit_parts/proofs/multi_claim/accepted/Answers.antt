@@ -10,15 +10,14 @@ use Rattle.merkle_hasher.proofs.PeakNodes.{peaks_at}
 use Rattle.merkle_forest_theory.specs.Ascending.{AscendsFrom}
 use Rattle.merkle_claim_theory.specs.Multiproof.{multi_positions, locations_in, leaves_in}
 use Rattle.merkle_claim_theory.specs.Order.{node_places}
-use Rattle.merkle_proof.specs.Input.{multi_input_of}
-use Rattle.merkle_proof.proofs.LocatedDigests.{hashed}
-use Rattle.merkle_proof.proofs.ScatteredRoot.{locations_given}
+use Rattle.merkle_proof.specs.Input.{multi_digest_input_of}
+use Rattle.merkle_proof.proofs.ScatteredRoot.{locations_by}
 use Rattle.merkle_audit_theory.specs.Differences.{is_difference}
 use Rattle.merkle_audit_theory.specs.Folds.{multi_digest}
 use Rattle.merkle_audit_theory.specs.Searches.{looked_up}
 use Rattle.merkle_audit_parts.specs.declared.scattered.LeafProof.{LeafProof}
 use Rattle.merkle_audit_parts.specs.Chosen.{digest_given}
-use Rattle.merkle_audit_parts.proofs.GivenLeaves.{ascends_strictly, each_within, leaves_given}
+use Rattle.merkle_audit_parts.proofs.GivenLeaves.{ascends_strictly, digests_by}
 use Rattle.merkle_audit_parts.proofs.MultiFound.{all_same, sees_given, top_of_peaks}
 use Rattle.merkle_audit_parts.proofs.multi_claim.accepted.Goals as goal
 
@@ -26,37 +25,25 @@ pub read_positions-requires : goal.read_positions-requires
 read_positions-requires g c = λ some.
     let s = g.H.Hasher.scheme c.args.hasher.now in
     let is = g.met.H.Hasher.scheme_is c.args.hasher.now in
-    let es = c.args.elements.now in
+    let es = c.args.leaves.now in
     let n = c.args.proof.now.leaves in
-    let r = multi_input_of s c.args.proof.now es in
+    let r = multi_digest_input_of c.args.proof.now es in
     let ok = c.requires.1 in
     let few : n ≤ g.F.Family.MAX_LEAVES = omega (arith, ok.leaves, ap (λ (z : Scheme g.row.H-Digest.Denot). z.max_leaves) is) in
-    let located = locations_given s.hashing s.rule es in
+    let located = locations_by es in
     let same = sym (c.deref.ensures.value ∙ c.in_ok-locations.ensures ∙ sym located) in
     record { nonempty = some; ascend = subst (AscendsFrom 0) same ok.ascend; below = subst (AllByRecursion (λ i. i < n)) same ok.below; leaves = few }
-
-pub element_digests-requires : goal.element_digests-requires
-element_digests-requires g c =
-    let s = g.H.Hasher.scheme c.args.hasher.now in
-    let is = g.met.H.Hasher.scheme_is c.args.hasher.now in
-    let es = c.args.elements.now in
-    let n = c.args.proof.now.leaves in
-    let r = multi_input_of s c.args.proof.now es in
-    let ok = c.requires.1 in
-    let few : n ≤ g.F.Family.MAX_LEAVES = omega (arith, ok.leaves, ap (λ (z : Scheme g.row.H-Digest.Denot). z.max_leaves) is) in
-    let located = locations_given s.hashing s.rule es in
-    each_within n g.F.Family.MAX_LEAVES few es (subst (AllByRecursion (λ i. i < n)) located ok.below)
 
 pub walk_all-requires-clause-ascends : goal.walk_all-requires-clause-ascends
 walk_all-requires-clause-ascends g c =
     let s = g.H.Hasher.scheme c.args.hasher.now in
     let is = g.met.H.Hasher.scheme_is c.args.hasher.now in
-    let es = c.args.elements.now in
+    let es = c.args.leaves.now in
     let n = c.args.proof.now.leaves in
-    let r = multi_input_of s c.args.proof.now es in
+    let r = multi_digest_input_of c.args.proof.now es in
     let ok = c.requires.1 in
     let few : n ≤ g.F.Family.MAX_LEAVES = omega (arith, ok.leaves, ap (λ (z : Scheme g.row.H-Digest.Denot). z.max_leaves) is) in
-    let located = locations_given s.hashing s.rule es in
+    let located = locations_by es in
     record {
       positions = subst IsStrictlyIncreasing (sym c.deref-2.ensures.value) c.in-Ok.ensures.rises;
       locations = subst IsStrictlyIncreasing (sym (c.deref-4.ensures.value ∙ c.in_ok-locations.ensures ∙ sym located)) (ascends_strictly 0 (locations_in r) ok.ascend);
@@ -66,24 +53,24 @@ pub walk_all-requires-clause-nodes : goal.walk_all-requires-clause-nodes
 walk_all-requires-clause-nodes g c =
     let s = g.H.Hasher.scheme c.args.hasher.now in
     let is = g.met.H.Hasher.scheme_is c.args.hasher.now in
-    let es = c.args.elements.now in
+    let es = c.args.leaves.now in
     let n = c.args.proof.now.leaves in
-    let r = multi_input_of s c.args.proof.now es in
+    let r = multi_digest_input_of c.args.proof.now es in
     let ok = c.requires.1 in
     let few : n ≤ g.F.Family.MAX_LEAVES = omega (arith, ok.leaves, ap (λ (z : Scheme g.row.H-Digest.Denot). z.max_leaves) is) in
-    let located = locations_given s.hashing s.rule es in
+    let located = locations_by es in
     (peaks_of g.F.Family.rule n, c.deref-6.ensures.value ∙ c.in_ok-peaks.ensures, peaks_at g.F.Family.rule g.F.Family.MAX_LEAVES n few)
 
 pub above_peaks-requires : goal.above_peaks-requires
 above_peaks-requires g c =
     let s = g.H.Hasher.scheme c.args.hasher.now in
     let is = g.met.H.Hasher.scheme_is c.args.hasher.now in
-    let es = c.args.elements.now in
+    let es = c.args.leaves.now in
     let n = c.args.proof.now.leaves in
-    let r = multi_input_of s c.args.proof.now es in
+    let r = multi_digest_input_of c.args.proof.now es in
     let ok = c.requires.1 in
     let few : n ≤ g.F.Family.MAX_LEAVES = omega (arith, ok.leaves, ap (λ (z : Scheme g.row.H-Digest.Denot). z.max_leaves) is) in
-    let located = locations_given s.hashing s.rule es in
+    let located = locations_by es in
     let rule_is = sym (ap (λ (z : Scheme g.row.H-Digest.Denot). z.rule) is) in
     let h = g.H.Hasher.hashing c.args.hasher.now in
     let h_is = sym (ap (λ (z : Scheme g.row.H-Digest.Denot). z.hashing) is) in
@@ -91,7 +78,7 @@ above_peaks-requires g c =
     let positions : given.positions.now ≡ multi_positions s.rule r.leaves (locations_in r) =
     c.deref-2.ensures.value ∙ c.in-Ok.ensures.positions ∙ ap₂ (λ rule is. multi_positions rule n is) rule_is (c.deref.ensures.value ∙ c.in_ok-locations.ensures ∙ sym located) in
     let locations : given.locations.now ≡ locations_in r = c.deref-4.ensures.value ∙ c.in_ok-locations.ensures ∙ sym located in
-    let leaves : given.leaves.now ≡ leaves_in r = c.deref-5.ensures.value ∙ c.in_ok-leaves.ensures ∙ ap₂ (λ z rule. hashed z rule es) h_is rule_is ∙ sym (leaves_given s.hashing s.rule es) in
+    let leaves : given.leaves.now ≡ leaves_in r = c.deref-5.ensures.value ∙ c.in_ok-leaf_digests.ensures ∙ sym (digests_by es) in
     let ts = peaks_of g.F.Family.rule n in
     let peaks = c.deref-6.ensures.value ∙ c.in_ok-peaks.ensures in
     let nodes = peaks_at g.F.Family.rule g.F.Family.MAX_LEAVES n few in
@@ -110,12 +97,12 @@ pub returns-clause-top : goal.returns-clause-top
 returns-clause-top g c =
     let s = g.H.Hasher.scheme c.args.hasher.now in
     let is = g.met.H.Hasher.scheme_is c.args.hasher.now in
-    let es = c.args.elements.now in
+    let es = c.args.leaves.now in
     let n = c.args.proof.now.leaves in
-    let r = multi_input_of s c.args.proof.now es in
+    let r = multi_digest_input_of c.args.proof.now es in
     let ok = c.requires.1 in
     let few : n ≤ g.F.Family.MAX_LEAVES = omega (arith, ok.leaves, ap (λ (z : Scheme g.row.H-Digest.Denot). z.max_leaves) is) in
-    let located = locations_given s.hashing s.rule es in
+    let located = locations_by es in
     let rule_is = sym (ap (λ (z : Scheme g.row.H-Digest.Denot). z.rule) is) in
     let h = g.H.Hasher.hashing c.args.hasher.now in
     let h_is = sym (ap (λ (z : Scheme g.row.H-Digest.Denot). z.hashing) is) in
@@ -123,7 +110,7 @@ returns-clause-top g c =
     let positions : given.positions.now ≡ multi_positions s.rule r.leaves (locations_in r) =
     c.deref-2.ensures.value ∙ c.in-Ok.ensures.positions ∙ ap₂ (λ rule is. multi_positions rule n is) rule_is (c.deref.ensures.value ∙ c.in_ok-locations.ensures ∙ sym located) in
     let locations : given.locations.now ≡ locations_in r = c.deref-4.ensures.value ∙ c.in_ok-locations.ensures ∙ sym located in
-    let leaves : given.leaves.now ≡ leaves_in r = c.deref-5.ensures.value ∙ c.in_ok-leaves.ensures ∙ ap₂ (λ z rule. hashed z rule es) h_is rule_is ∙ sym (leaves_given s.hashing s.rule es) in
+    let leaves : given.leaves.now ≡ leaves_in r = c.deref-5.ensures.value ∙ c.in_ok-leaf_digests.ensures ∙ sym (digests_by es) in
     let ts = peaks_of g.F.Family.rule n in
     let peaks = c.deref-6.ensures.value ∙ c.in_ok-peaks.ensures in
     let nodes = peaks_at g.F.Family.rule g.F.Family.MAX_LEAVES n few in
@@ -137,12 +124,12 @@ pub returns-clause-below : goal.returns-clause-below
 returns-clause-below g c = λ f k sees sees'.
     let s = g.H.Hasher.scheme c.args.hasher.now in
     let is = g.met.H.Hasher.scheme_is c.args.hasher.now in
-    let es = c.args.elements.now in
+    let es = c.args.leaves.now in
     let n = c.args.proof.now.leaves in
-    let r = multi_input_of s c.args.proof.now es in
+    let r = multi_digest_input_of c.args.proof.now es in
     let ok = c.requires.1 in
     let few : n ≤ g.F.Family.MAX_LEAVES = omega (arith, ok.leaves, ap (λ (z : Scheme g.row.H-Digest.Denot). z.max_leaves) is) in
-    let located = locations_given s.hashing s.rule es in
+    let located = locations_by es in
     let rule_is = sym (ap (λ (z : Scheme g.row.H-Digest.Denot). z.rule) is) in
     let h = g.H.Hasher.hashing c.args.hasher.now in
     let h_is = sym (ap (λ (z : Scheme g.row.H-Digest.Denot). z.hashing) is) in
@@ -150,7 +137,7 @@ returns-clause-below g c = λ f k sees sees'.
     let positions : given.positions.now ≡ multi_positions s.rule r.leaves (locations_in r) =
     c.deref-2.ensures.value ∙ c.in-Ok.ensures.positions ∙ ap₂ (λ rule is. multi_positions rule n is) rule_is (c.deref.ensures.value ∙ c.in_ok-locations.ensures ∙ sym located) in
     let locations : given.locations.now ≡ locations_in r = c.deref-4.ensures.value ∙ c.in_ok-locations.ensures ∙ sym located in
-    let leaves : given.leaves.now ≡ leaves_in r = c.deref-5.ensures.value ∙ c.in_ok-leaves.ensures ∙ ap₂ (λ z rule. hashed z rule es) h_is rule_is ∙ sym (leaves_given s.hashing s.rule es) in
+    let leaves : given.leaves.now ≡ leaves_in r = c.deref-5.ensures.value ∙ c.in_ok-leaf_digests.ensures ∙ sym (digests_by es) in
     let ts = peaks_of g.F.Family.rule n in
     let peaks = c.deref-6.ensures.value ∙ c.in_ok-peaks.ensures in
     let nodes = peaks_at g.F.Family.rule g.F.Family.MAX_LEAVES n few in

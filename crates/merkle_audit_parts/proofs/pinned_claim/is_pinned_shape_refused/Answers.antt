@@ -8,7 +8,7 @@ use Rattle.merkle_audit_parts.proofs.Claims.{told_apart}
 use Rattle.merkle_audit_parts.proofs.pinned_claim.is_pinned_shape_refused.Goals as goal
 
 pub returns-then-is_valid : goal.returns-then-is_valid
-returns-then-is_valid g c = λ yes _ ok.
+returns-then-is_valid g c = λ yes _ _ _ ok.
     let rule = g.F.Family.rule in
     let start = c.args.start in
     let is = g.met.H.Hasher.scheme_is c.args.hasher.now in

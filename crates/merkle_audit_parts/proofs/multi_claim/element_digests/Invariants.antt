@@ -1,8 +1,0 @@
-use Rattle.std.proofs.Common.{◌≡◌, take}
-use Rattle.merkle_proof.proofs.LocatedDigests.{hashed}
-use Rattle.merkle_audit_parts.proofs.multi_claim.element_digests.Given as goal
-
-abbrev pub invariant-loop-element : goal.invariant-loop-element
-invariant-loop-element g l =
-    let h = g.H.Hasher.hashing l.hasher in
-    l.digests.items ≡ hashed h g.F.Family.rule (take l.element-index l.elements)
