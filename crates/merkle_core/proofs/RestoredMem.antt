@@ -1,6 +1,7 @@
 -- What follows for a structure that components make, and for one whose nodes and root were looked at.
-use Rattle.std.proofs.Common.{◌≡◌, ◌≢◌, ℕ, ◌+◌, ◌<◌, ◌≤◌, List, length, Result, Ok, Err, inl, inr, sym, ap, ◌∙◌, subst}
+use Rattle.std.proofs.Common.{◌≡◌, Bool, true, false, refl, ℕ, ◌+◌, ◌<◌, ◌≤◌, List, length, Result, Ok, Err, inl, inr, sym, ap, ◌∙◌, subst}
 use Rattle.std.specs.FinMap.{get}
+use Rattle.std.specs.Prelude.{not}
 use Rattle.std.proofs.lemmas.Bool.{cases_lt}
 use Rattle.merkle_base.proofs.Nodes.{size_inj}
 use Rattle.merkle_base.specs.Forest.{size}
@@ -14,14 +15,29 @@ use Rattle.merkle_batch_theory.specs.Contents.{held_peaks}
 use Rattle.merkle_batch_theory.specs.MemModel.{MemModel, contents}
 use Rattle.merkle_restore_theory.specs.Damage.{IsWhole}
 use Rattle.merkle_core.specs.Restored.{HasRootAndIsWhole, held_root}
+use Rattle.merkle_core.specs.declared.restore.RestoreError.{RestoreError}
+use Rattle.merkle_core.specs.declared.restore.RestoreError.TheVariants.{DamagedNode}
 
 -- a result is not both a value and an error
 pub ok_is_no_error : {A E : Type 0} (a : A) (e : E) → ◌≡◌ {A = Result A E} (Ok a) (Err e) → ⊥
 ok_is_no_error a e x = cc
 
+-- one error of results of one type is one of results of another
+pub same_error : {T U E : Type 0} (a b : E) → ◌≡◌ {A = Result T E} (Err a) (Err b) → ◌≡◌ {A = Result U E} (Err a) (Err b)
+same_error a b x = let e : a ≡ b = cc in ap Err e
+
 -- two values of one result are one
 pub ok_once : {A E : Type 0} (a b : A) → ◌≡◌ {A = Result A E} (Ok a) (Ok b) → a ≡ b
 ok_once a b x = cc
+
+-- the same position is named
+pub one_node : {F : Type 0} (p q : ℕ) → p ≡ q → ◌≡◌ {A = Result Unit (RestoreError F)} (Err (DamagedNode p)) (Err (DamagedNode q))
+one_node p q e = ap (λ n. Err (DamagedNode n)) e
+
+-- what is not false
+pub not_false : (b : Bool) → not b ≡ false → b ≡ true
+not_false true e = refl
+not_false false e = cc
 
 -- where a value is given, there is not what would refuse it
 pub enough : {A E : Type 0} (answer : Result A E) (a : A) (e : E) (k count : ℕ) → answer ≡ Ok a → (count < k → answer ≡ Err e) → k ≤ count
