@@ -11,7 +11,7 @@ use Rattle.merkle_root_theory.specs.Reconstruction.{range_refusals, reconstructe
 use Rattle.merkle_root_theory.proofs.Reconstruction.{root_unless, reconstructed-some, refusal-none}
 use Rattle.merkle_range.specs.Input.{IsComputed}
 
-err_is_no_ok : {A E : Type 0} (a : A) (e : E) → ◌≡◌ {A = Result A E} (Err e) (Ok a) → ⊥
+pub err_is_no_ok : {A E : Type 0} (a : A) (e : E) → ◌≡◌ {A = Result A E} (Err e) (Ok a) → ⊥
 err_is_no_ok a e f = cc
 
 module _ {D : Type 0} (s : Scheme D) (r : RangeInput D) where
