@@ -2,6 +2,8 @@
 import re
 from pathlib import Path
 
+import crates
+
 TOP = Path(__file__).resolve().parent.parent
 ITEM = re.compile(r"^pub (?:const (?=fn))?(struct|enum|trait|type|fn|const) (\w+)", re.M)
 WORDS = """# The calls
@@ -133,7 +135,7 @@ def blocks(source, kind, name):
 
 def methods(source, kind, name):
     """The calls of a type or a trait: source and place of each."""
-    public = r"^    (?:pub |final )*fn \w+" if kind == "trait" else r"^    pub fn \w+"
+    public = r"^    (?:pub |final |const )*fn \w+" if kind == "trait" else r"^    pub (?:const )?fn \w+"
     for own, start, block in blocks(source, kind, name):
         for call in re.finditer(public, block, re.M):
             yield own, start + call.start() + 4
@@ -179,7 +181,7 @@ def constants(source, kind, name):
 
 def said_by_traits():
     """What the constants of traits are, by their names."""
-    texts = [path.read_text() for path in sorted(TOP.glob("crates/merkle_*/src/*.rt"))]
+    texts = [path.read_text() for crate in sorted(crates.libraries()) for path in crates.sources(crate)]
     return {found[1]: plain(doc_above(text, found.start())) for text in texts for found in re.finditer(r"^    const (\w+): [^=;]*;", text, re.M)}
 
 

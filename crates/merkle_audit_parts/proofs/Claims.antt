@@ -6,7 +6,6 @@ use Rattle.std.proofs.lemmas.List.{length-map, length-take}
 use Rattle.std.specs.Prelude.{not}
 use Rattle.std.specs.List.{AllByRecursion}
 use Rattle.std.specs.Option.{unwrap_or}
-use Rattle.merkle_base.specs.Forest.{forest}
 use Rattle.merkle_base.specs.Places.{peaks_of, wholly_before}
 use Rattle.merkle_base.specs.Root.{folded, root_string}
 use Rattle.merkle_base.specs.Scheme.{Scheme}
@@ -26,6 +25,7 @@ use Rattle.merkle_root_theory.specs.Range.{end_of, overlapping, range_siblings, 
 use Rattle.merkle_root_theory.specs.Reads.{nodes_read}
 use Rattle.merkle_root_theory.specs.Reconstruction.{reconstructed}
 use Rattle.merkle_root_theory.specs.Walk.{peak_values}
+use Rattle.merkle_root_theory.proofs.HonestInputs.{no_peaks_of}
 use Rattle.merkle_root_theory.proofs.LayoutCounts.{length-fold_all, length-bag_all, length-single_before, length-folded_suffix, length-layout}
 use Rattle.merkle_root_theory.proofs.PeakGroups.{length-peaks_of}
 use Rattle.merkle_root_theory.proofs.Reconstruction.{leads_is_accepted}
@@ -280,15 +280,11 @@ empty_led s r root e es is f = elim (f (λ q. empty≢memory (sym is ∙ q))) [
     empty≢mismatch e = cc
 
 -- ---- without elements
-none_there : (rule : List ℕ → List ℕ) → peaks_of rule 0 ≡ []
-unfolding forest
-none_there rule = refl
-
 module _ {F D P Q : Type 0} (s : Scheme D) (none : D) where
   pub empty_is : (c : Claim F D P Q) → c.top.root.items ≡ root_string s.hashing s.domain s.bagging 0 0 None → map fold_at c.top.folds.items ≡ []
       → c.peaks.items ≡ [] → (r : RangeInput D) → IsEmptyInput r → IsClaim none s r c
   empty_is c string folds peaks r e =
-      let no_peaks : peaks_of s.rule r.leaves ≡ [] = ap (λ m. peaks_of s.rule m) e.leaves ∙ none_there s.rule in
+      let no_peaks : peaks_of s.rule r.leaves ≡ [] = ap (λ m. peaks_of s.rule m) e.leaves ∙ no_peaks_of s.rule in
       record {
         nodes = [];
         parts = empty_inputs s r e ∙ sym (ap₂ (λ b fs. record { place = Root; argument = Bytes b } ∷ fs ++ []) string folds);

@@ -1,10 +1,9 @@
 -- What is hashed for an accepted range input with pins, from the digests that its store has and from the pins.
-use Rattle.std.proofs.Common.{◌≡◌, ◌≢◌, ◌⊎◌, inl, inr, Result, Ok, Err, ℕ, ◌+◌, ◌-◌, ◌≤◌, List, [], ◌∷◌, ◌++◌, map, flat_map, take, drop, length, refl, ap, ap₂}
+use Rattle.std.proofs.Common.{◌≡◌, ◌≢◌, ◌⊎◌, inl, inr, Result, Ok, Err, ℕ, ◌+◌, ◌-◌, ◌≤◌, List, [], ◌∷◌, ◌++◌, map, flat_map, take, drop, length, ap, ap₂}
 use Rattle.std.proofs.Common.{sym, ◌∙◌, subst, ⊎_elim, arith, min, Option, Some, None, append_assoc}
 use Rattle.std.proofs.lemmas.List.{length-take}
 use Rattle.std.specs.List.{AllByRecursion}
 use Rattle.std.specs.Option.{unwrap_or}
-use Rattle.merkle_base.specs.Forest.{forest}
 use Rattle.merkle_base.specs.Places.{peaks_of, wholly_before}
 use Rattle.merkle_base.specs.Root.{folded, root_string}
 use Rattle.merkle_base.specs.Scheme.{Scheme}
@@ -23,6 +22,7 @@ use Rattle.merkle_root_theory.specs.Outside.{folded_prefix, single_before, singl
 use Rattle.merkle_root_theory.specs.Range.{end_of, overlapping, wholly_after, AcceptsNonempty, IsEmptyInput}
 use Rattle.merkle_root_theory.specs.Reconstruction.{reconstructed}
 use Rattle.merkle_root_theory.specs.Walk.{peak_values}
+use Rattle.merkle_root_theory.proofs.HonestInputs.{no_peaks_of}
 use Rattle.merkle_root_theory.proofs.Reconstruction.{leads_is_accepted}
 use Rattle.merkle_range.specs.Extracting.{IsExtractionRefusal}
 use Rattle.merkle_root_theory.proofs.LayoutCounts.{length-fold_all, length-bag_all, length-single_before}
@@ -158,15 +158,11 @@ module _ {F D P Q : Type 0} (s : Scheme D) (r : RangeInput D) (pins : List D) (r
       }
 
 -- ---- without elements
-none_there : (rule : List ℕ → List ℕ) → peaks_of rule 0 ≡ []
-unfolding forest
-none_there rule = refl
-
 module _ {F D P Q : Type 0} (s : Scheme D) (none : D) where
   pub empty_pinned : (t : Top F D) (n : PinnedNodes F D P Q) → t.root.items ≡ root_string s.hashing s.domain s.bagging 0 0 None → map fold_at t.folds.items ≡ []
       → (r : RangeInput D) (pins : List D) → IsEmptyInput r → IsPinnedClaim none s r pins t n
   empty_pinned t n string folds r pins e =
-      let no_peaks : peaks_of s.rule r.leaves ≡ [] = ap (λ m. peaks_of s.rule m) e.leaves ∙ none_there s.rule in
+      let no_peaks : peaks_of s.rule r.leaves ≡ [] = ap (λ m. peaks_of s.rule m) e.leaves ∙ no_peaks_of s.rule in
       let alone : pinned_inputs s r pins ≡ all_inputs s 0 0 None =
       ap (λ x. all_inputs s r.leaves r.inactive x) (no_expression s (pinned_on s r pins) r.leaves r.inactive e.leaves) ∙ ap₂ (λ n k. all_inputs s n k None) e.leaves e.inactive in
       record {

@@ -28,6 +28,7 @@ use Rattle.merkle_claim_theory.specs.Verdict.{multi_inputs, pinned_inputs}
 use Rattle.merkle_claim_theory.proofs.AcceptedInputs.{multi_cases, pinned_cases}
 use Rattle.merkle_claim_theory.proofs.FirstCollisions.{finds_first}
 use Rattle.merkle_claim_theory.proofs.HonestClaims.{member_split, only_nodes}
+use Rattle.merkle_claim_theory.proofs.RangeNoCollision.{found_none}
 use Rattle.merkle_audit_theory.proofs.LocatedNodes.{collide_is_located, located_is_collide}
 use Rattle.merkle_claim_theory.proofs.Multiproofs.{honest_multi_is_accepted, accepted_multi_is_honest}
 use Rattle.merkle_claim_theory.proofs.PinnedChecks.{honest_pinned_is_accepted, accepted_pinned_is_honest}
@@ -200,14 +201,9 @@ never h rule X Z e w = w.5 (ap (λ Y. digest_at h Y w.1) e, ap (λ Y. digest_at 
 equal_clear : {D : Type 0} (h : Hashing D) (rule : List ℕ → List ℕ) (X Z : List D) → X ≡ Z → (c : Collision D) → Collides h (node_inputs h rule X) (node_inputs h rule Z) c → ⊥
 equal_clear h rule X Z e c w = let p = lists_collide_at_nodes h rule X Z c w in never h rule X Z e (located_is_collide h rule X Z (ap length e) c w p.0 p.1).0
 
-none_there : {D : Type 0} (h : Hashing D) (xs ys : List (Input D)) (o : Option (Collision D))
-    → MatchOption o ((c : Collision D) → Collides h xs ys c → ⊥) (λ c. IsFirstCollision h xs ys c) → ((c : Collision D) → Collides h xs ys c → ⊥) → o ≡ None
-none_there h xs ys None m f = refl
-none_there h xs ys (Some c) m f = absurd (f c m.collides)
-
 pub audits_lists : {D : Type 0} → AuditsLists D
 audits_lists h laws rule X Z said exact =
     outcome_is h (node_inputs h rule X) (node_inputs h rule Z) laws said exact
     (λ a. ⊎_elim inl (λ w. let c = collide_is_located h rule X Z a.0 w in inr (c.0, c.1)) (same_or_collide h rule laws X Z a.0 a.1))
     (λ e. (ap length e, ap (peak_digests h rule) e))
-    (λ e. none_there h (node_inputs h rule X) (node_inputs h rule Z) _ (finds_first h laws (node_inputs h rule X) (node_inputs h rule Z)) (equal_clear h rule X Z e))
+    (λ e. found_none h (node_inputs h rule X) (node_inputs h rule Z) _ (finds_first h laws (node_inputs h rule X) (node_inputs h rule Z)) (equal_clear h rule X Z e))

@@ -7,7 +7,7 @@ use Rattle.merkle_base.specs.declared.family.Bagging.{Bagging}
 use Rattle.merkle_root_theory.specs.Expression.{Place, Pair, hashed_at, Input, Expression, supplied, computed, cross_checked, value, visited, inputs, is_node}
 use Rattle.merkle_root_theory.specs.Collision.{Member}
 use Rattle.merkle_root_theory.specs.Plan.{Plan, peak, folding, root_plan, plan_expression, node_expression}
-use Rattle.merkle_root_theory.proofs.Collisions.{member_left, member_right, member_ordered, decided}
+use Rattle.merkle_root_theory.proofs.Collisions.{member_left, member_right, member_ordered, decided, left_same, right_same}
 use Rattle.merkle_claim_theory.specs.Order.{Distinct}
 use Rattle.merkle_claim_theory.proofs.HonestClaims.{member_split, member_unordered}
 use Rattle.merkle_claim_theory.proofs.PlacesOnce.{member_map}
@@ -18,12 +18,6 @@ use Rattle.merkle_audit_theory.proofs.SublistFacts.{sub_member}
 use Rattle.merkle_audit_theory.proofs.ClaimCuts.{seen, seen_both, cut_seen, ordered}
 use Rattle.merkle_audit_theory.proofs.Precedence.{Before, before_left, before_right, before_across, before_filter, before_first, before_last, member_filter, distinct_parts, distinct_parted}
 use Rattle.merkle_audit_theory.proofs.FirstDifferences.{digest_of, Differ, Explained}
-
-left_same : {D : Type 0} (a b c d : D) → Pair a b ≡ Pair c d → a ≡ c
-left_same a b c d e = cc
-
-right_same : {D : Type 0} (a b c d : D) → Pair a b ≡ Pair c d → b ≡ d
-right_same a b c d e = cc
 
 module _ {D : Type 0} (h : Hashing D) (laws : EqDecides h) where
   -- below a node there are only nodes

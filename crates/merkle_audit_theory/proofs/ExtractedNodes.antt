@@ -25,7 +25,7 @@ use Rattle.merkle_claim_theory.proofs.HonestClaims.{member_unordered}
 use Rattle.merkle_claim_theory.proofs.ListedDigests.{plan_for}
 use Rattle.merkle_claim_theory.proofs.Multiproofs.{all_member}
 use Rattle.merkle_claim_theory.proofs.PlacesOnce.{member_map}
-use Rattle.merkle_audit_theory.proofs.LocatedNodes.{member_reverse, above}
+use Rattle.merkle_audit_theory.proofs.LocatedNodes.{member_reverse, above, one_node}
 use Rattle.merkle_audit_theory.specs.Cuts.{places_in}
 use Rattle.merkle_audit_theory.specs.NodePairs.{NodesAreExtracted}
 use Rattle.merkle_audit_theory.proofs.Precedence.{member_filter}
@@ -36,9 +36,6 @@ pub member_unmap : {D : Type 0} (xs : List (Input D)) (p : Place) → Member (pl
 member_unmap [] p m = elim m [ ]
 member_unmap {D = D} (x ∷ xs) p (inl e) = (x.argument, inl (λ i. record { place = e i; argument = x.argument }))
 member_unmap (x ∷ xs) p (inr m) = let w = member_unmap xs p m in (w.0, inr w.1)
-
-pub one_node : (p : ℕ) (l r l' r' : Tree) → Some (join p l r) ≡ Some (join p l' r') → (l ≡ l') × (r ≡ r')
-one_node p l r l' r' e = (cc, cc)
 
 module _ {D : Type 0} (s : Scheme D) (r : RangeInput D) (some : 0 < length r.elements) (within : end_of r ≤ r.leaves) where
   abbrev ts : List Tree

@@ -74,7 +74,7 @@ module _ {D : Type 0} (h : Hashing D) (xs : List D) where
 two_parts : {D : Type 0} (a b c d : D) → ◌≡◌ {A = Argument D} (Pair a b) (Pair c d) → (a ≡ c) × (b ≡ d)
 two_parts a b c d e = (cc, cc)
 
-one_node : (p : ℕ) (l r l' r' : Tree) → Some (join p l r) ≡ Some (join p l' r') → (l ≡ l') × (r ≡ r')
+pub one_node : (p : ℕ) (l r l' r' : Tree) → Some (join p l r) ≡ Some (join p l' r') → (l ≡ l') × (r ≡ r')
 one_node p l r l' r' e = (cc, cc)
 
 pub collide_is_located : {D : Type 0} → CollideIsLocated D

@@ -28,8 +28,8 @@ use Rattle.merkle_audit_theory.specs.Cuts.{places_in}
 use Rattle.merkle_audit_theory.specs.Folds.{left_inputs, right_inputs, joined_inputs, fold_inputs, top_inputs, multi_digest}
 use Rattle.merkle_audit_theory.specs.NodePairs.{MultiNodes}
 use Rattle.merkle_audit_theory.proofs.ClaimCuts.{seen_both}
-use Rattle.merkle_audit_theory.proofs.ExtractedNodes.{member_unmap, one_node}
-use Rattle.merkle_audit_theory.proofs.LocatedNodes.{member_reverse, above}
+use Rattle.merkle_audit_theory.proofs.ExtractedNodes.{member_unmap}
+use Rattle.merkle_audit_theory.proofs.LocatedNodes.{member_reverse, above, one_node}
 use Rattle.merkle_audit_theory.proofs.NodeReads.{meets_up, its_position}
 use Rattle.merkle_audit_theory.proofs.PeakInputs.{inputs_by_peaks}
 

@@ -28,8 +28,8 @@ use Rattle.merkle_audit_theory.specs.Searches.{input_at}
 use Rattle.merkle_audit_theory.specs.Seen.{children_of, met_children, chosen_children, node_at, NothingAt, Sees}
 use Rattle.merkle_audit_theory.proofs.ClaimCuts.{claim_places}
 use Rattle.merkle_audit_theory.proofs.Cursors.{is_false, at_none}
-use Rattle.merkle_audit_theory.proofs.ExtractedNodes.{member_unmap, one_node, nodes_are_extracted}
-use Rattle.merkle_audit_theory.proofs.LocatedNodes.{list_node}
+use Rattle.merkle_audit_theory.proofs.ExtractedNodes.{member_unmap, nodes_are_extracted}
+use Rattle.merkle_audit_theory.proofs.LocatedNodes.{list_node, one_node}
 use Rattle.merkle_audit_theory.proofs.PeakInputs.{inputs_by_peaks}
 use Rattle.merkle_audit_theory.proofs.ScatteredNodes.{multi_nodes}
 

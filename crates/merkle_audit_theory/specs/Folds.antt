@@ -44,17 +44,21 @@ joined_inputs h acc left i (e ∷ es) = record { place = Join; argument = Pair a
 abbrev pub fold_inputs : {D : Type 0} → Hashing D → Bagging → ℕ → List D → List (Input D)
 fold_inputs h bagging k [] = []
 fold_inputs h ForwardFold k (d ∷ ds) = left_inputs h d 1 ds
-fold_inputs h BackwardFold k (d ∷ ds) = joined_inputs h (fold h.fold d (take (pred k) ds)) (left_inputs h d 1 (take (pred k) ds)) (suc (pred k)) (drop (pred k) ds)
+fold_inputs h BackwardFold k (d ∷ ds) =
+    joined_inputs h (fold h.fold d (take (pred k) ds)) (left_inputs h d 1 (take (pred k) ds)) (suc (pred k)) (drop (pred k) ds)
 
 -- the folds of peaks with these digests, in order, where the first digest stands for m peaks; j of the digests are folded left to right
 abbrev pub numbered_inputs : {D : Type 0} → Hashing D → Bagging → (k j m : ℕ) → List D → List (Input D)
 numbered_inputs h bagging k j m [] = []
 numbered_inputs h ForwardFold k j m (d ∷ ds) = left_inputs h d m ds
-numbered_inputs h BackwardFold k j m (d ∷ ds) = joined_inputs h (fold h.fold d (take (j - 1) ds)) (left_inputs h d m (take (j - 1) ds)) (suc (pred k)) (drop (j - 1) ds)
+numbered_inputs h BackwardFold k j m (d ∷ ds) =
+    joined_inputs h (fold h.fold d (take (j - 1) ds)) (left_inputs h d m (take (j - 1) ds)) (suc (pred k)) (drop (j - 1) ds)
 
 -- the root's string and the folds, of peaks with these digests
 abbrev pub top_inputs : {D : Type 0} → Scheme D → (leaves inactive : ℕ) → List D → List (Input D)
-top_inputs s n k ds = record { place = Root; argument = Bytes (root_string s.hashing s.domain s.bagging n k (folded s.hashing.fold s.bagging k ds)) } ∷ fold_inputs s.hashing s.bagging k ds
+top_inputs s n k ds =
+    record { place = Root; argument = Bytes (root_string s.hashing s.domain s.bagging n k (folded s.hashing.fold s.bagging k ds)) }
+    ∷ fold_inputs s.hashing s.bagging k ds
 
 -- the digest that a check of scattered leaves has at a peak
 abbrev pub multi_digest : {D : Type 0} → Scheme D → MultiInput D → Tree → D
@@ -62,9 +66,11 @@ multi_digest s r t = value s.hashing (multi_on s r (peak t))
 
 -- what is hashed for a list: first the root and the folds, by the peaks' digests; then the nodes of each peak
 pub record InputsByPeaks (D : Type 0) : Type 0 where
-  pub list : (s : Scheme D) (xs : List D) (k : ℕ) → list_inputs s xs k ≡ top_inputs s (length xs) k (peak_digests s.hashing s.rule xs) ++ node_inputs s.hashing s.rule xs
+  pub list : (s : Scheme D) (xs : List D) (k : ℕ) → list_inputs s xs k
+      ≡ top_inputs s (length xs) k (peak_digests s.hashing s.rule xs) ++ node_inputs s.hashing s.rule xs
   pub multi : (s : Scheme D) (r : MultiInput D) → multi_inputs s r
-      ≡ top_inputs s r.leaves r.inactive (map (multi_digest s r) (peaks_of s.rule r.leaves)) ++ flat_map (λ t. visited s.hashing (multi_on s r (peak t))) (peaks_of s.rule r.leaves)
+      ≡ top_inputs s r.leaves r.inactive (map (multi_digest s r) (peaks_of s.rule r.leaves))
+      ++ flat_map (λ t. visited s.hashing (multi_on s r (peak t))) (peaks_of s.rule r.leaves)
 
 -- the nodes that are hashed under peaks that overlap a range; ds: the digests for their siblings
 abbrev pub over_inputs : {D : Type 0} → Hashing D → (ℕ → Bool) → (ℕ → D) → List Tree → List D → List (Input D)

@@ -7,10 +7,16 @@ use Rattle.merkle_forest_theory.specs.Mmr.{mmr_merges}
 use Rattle.merkle_forest_theory.specs.Mmb.{mmb_merges}
 use Rattle.merkle_fixtures.specs.Pairs.{pairing}
 
-abbrev six : Tree
-six = join 6 (join 2 (leaf 0 0) (leaf 1 1)) (join 5 (leaf 3 2) (leaf 4 3))
+abbrev first_pair : Tree
+first_pair = join 2 (leaf 0 0) (leaf 1 1)
 
-six_at : slice_get (forest mmr_merges 4).nodes 6 ≡ Some six
+abbrev pub second_pair : Tree
+second_pair = join 5 (leaf 3 2) (leaf 4 3)
+
+abbrev pub six : Tree
+six = join 6 first_pair second_pair
+
+pub six_at : slice_get (forest mmr_merges 4).nodes 6 ≡ Some six
 unfolding forest
 six_at = refl
 
@@ -34,9 +40,6 @@ thirteen_at = refl
 pub over_thirteen : IsNodeAbove mmr_merges 4611686018427387904 13 2 4 6
 over_thirteen = record { leaves = 8; node = thirteen; bounded = omega arith; stands = record { at = thirteen_at; height_is = refl; first_is = refl }; after = omega arith; before = omega arith }
 
-abbrev second_pair : Tree
-second_pair = join 5 (leaf 3 2) (leaf 4 3)
-
 pair_at : slice_get (forest pairing 4).nodes 5 ≡ Some second_pair
 unfolding forest
 pair_at = refl
@@ -44,10 +47,10 @@ pair_at = refl
 pub over_pair : IsNodeAbove pairing 100 5 1 2 3
 over_pair = record { leaves = 4; node = second_pair; bounded = omega arith; stands = record { at = pair_at; height_is = refl; first_is = refl }; after = omega arith; before = omega arith }
 
-abbrev seven : Tree
-seven = join 7 (join 2 (leaf 0 0) (leaf 1 1)) (join 5 (leaf 3 2) (leaf 4 3))
+abbrev pub seven : Tree
+seven = join 7 first_pair second_pair
 
-seven_at : slice_get (forest mmb_merges 5).nodes 7 ≡ Some seven
+pub seven_at : slice_get (forest mmb_merges 5).nodes 7 ≡ Some seven
 unfolding forest
 seven_at = refl
 

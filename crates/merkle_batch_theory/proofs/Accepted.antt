@@ -1,7 +1,6 @@
 -- The list at which a batch is accepted.
-use Rattle.std.proofs.Common.{◌≡◌, ℕ, zero, suc, ◌+◌, List, [], ◌∷◌, ◌++◌, length, map, drop, reverse, Option, Some, None, Bool, true, cond, slice_get, refl, sym, ap, inl, inr, ◌∙◌, subst}
+use Rattle.std.proofs.Common.{◌≡◌, ℕ, zero, suc, ◌+◌, List, [], ◌∷◌, ◌++◌, length, drop, reverse, Option, Some, None, Bool, true, cond, slice_get, refl, sym, ap, inl, inr, ◌∙◌, subst}
 use Rattle.std.specs.Prelude.{◌&&◌, ◌==◌}
-use Rattle.std.specs.List.{flat_map}
 use Rattle.std.specs.Option.{option_to_list}
 use Rattle.std.specs.Cmp.Lexicographic.{pointwise, pointwise_decides}
 use Rattle.std.proofs.lemmas.Bool.{eqb-true, and_parts}
@@ -19,14 +18,11 @@ use Rattle.merkle_batch_theory.specs.History.{IsStep, IsHistory, last_list}
 use Rattle.merkle_base.specs.Collision.{Collide}
 use Rattle.merkle_base.proofs.Reversed.{get_reversed}
 use Rattle.merkle_batch_theory.proofs.Kept.{kept_before, kept_peak}
+use Rattle.merkle_batch_theory.proofs.ListFacts.{flat_single}
 use Rattle.merkle_batch_theory.proofs.Steps.{node_digest_at, step_size}
 use Rattle.merkle_batch_theory.proofs.Agreed.{agree_all}
 use Rattle.merkle_base.proofs.Colliding.{same_or_collide}
 use Rattle.merkle_base.proofs.Cases.{by_test}
-
-flat_single : {A B C : Type 0} (f : B → List C) (g : A → B) (k : A → C) (xs : List A) → ((i : ℕ) (x : A) → slice_get xs i ≡ Some x → f (g x) ≡ k x ∷ []) → flat_map f (map g xs) ≡ map k xs
-flat_single f g k [] e = refl
-flat_single f g k (x ∷ xs) e = ap (λ ys. ys ++ flat_map f (map g xs)) (e 0 x refl) ∙ ap (λ ys. k x ∷ ys) (flat_single f g k xs (λ i y d. e (suc i) y d))
 
 abbrev Found : {X : Type 0} → (X → Bool) → List X → ℕ → Type 0
 Found {X} test xs i = (j : ℕ) × (x : X) × (i ≡ suc j) × (slice_get xs j ≡ Some x) × (test x ≡ true)

@@ -332,7 +332,8 @@ pub fn worked_rows()
     // Of several updates of one leaf the last one is kept, for an old leaf and for an added one.
     ensures updates { pending_list mmr_merges (with_updates mmr_merges fourth ((2, 5) ∷ (3, 6) ∷ (2, 8) ∷ (3, 4) ∷ [])) (3 ∷ 1 ∷ 7 ∷ []) ≡ 3 ∷ 1 ∷ 8 ∷ 4 ∷ [] }
     ensures sets { with_entries {D = ℕ} (3 ∷ 1 ∷ 7 ∷ []) ((2, 5) ∷ (0, 6) ∷ (2, 8) ∷ []) ≡ 6 ∷ 1 ∷ 8 ∷ [] }
-    ensures errors { map (update_error {F = ℕ} mmr_merges (over_pruned 5)) (0 ∷ 3 ∷ 4 ∷ 5 ∷ []) ≡ Some (ElementPruned 0) ∷ Some (ElementPruned 4) ∷ None ∷ Some (LeafOutOfBounds 5) ∷ [] }
+    ensures errors { map (update_error {F = ℕ} mmr_merges (over_pruned 5)) (0 ∷ 3 ∷ 4 ∷ 5 ∷ [])
+        ≡ Some (ElementPruned 0) ∷ Some (ElementPruned 4) ∷ None ∷ Some (LeafOutOfBounds 5) ∷ [] }
     ensures first_of_errors { first_error {F = ℕ} mmr_merges (over_pruned 5) ((4, 1) ∷ (5, 1) ∷ (3, 1) ∷ []) ≡ Some (LeafOutOfBounds 5) }
 
     // With fewer leaves than were pruned, which no sequence of calls leads to, both errors apply,

@@ -24,7 +24,7 @@ use Rattle.merkle_commands.proofs.WordRows.{no_space}
 abbrev pub Spaceless : List ℕ → Type 0
 Spaceless word = (i : ℕ) → i < length word → get_or word i 0 ≢ 32
 
-numerals : IsNumeralModel (AllDigits 10) (digits_value 10)
+pub numerals : IsNumeralModel (AllDigits 10) (digits_value 10)
 numerals = numerals_by_value (AllDigits 10) tells_digits
 
 pub decimal_spaceless : (n : ℕ) → n < 2 ^ 64 → Spaceless (decimal n)

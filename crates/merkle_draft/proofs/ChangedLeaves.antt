@@ -4,6 +4,7 @@ use Rattle.std.proofs.Common.{refl, sym, ap, inl, inr, ◌∙◌, ap₂, subst, 
 use Rattle.std.specs.Prelude.{is_some}
 use Rattle.std.specs.List.{AllByRecursion, flat_map}
 use Rattle.std.specs.List.Sorted.{IsStrictlySortedBy}
+use Rattle.std.specs.Map.{keys_of}
 use Rattle.std.specs.Option.{option_or}
 use Rattle.std.specs.FinMap.{FinMap, get, insert, from_entries, find, get-from_entries, from_entries_push, nat_cmp-IsAntisymmetric}
 use Rattle.std.specs.Cmp.{nat_cmp_total, unsigned_tied}
@@ -39,9 +40,6 @@ cond_yes b x y e = ap (λ z. cond z x y) e
 
 cond_no : {A : Type 0} (b : Bool) (x y : A) → b ≡ false → cond b x y ≡ y
 cond_no b x y e = ap (λ z. cond z x y) e
-
-abbrev keys : {D : Type 0} → List (ℕ × D) → List ℕ
-keys es = map (λ e. e.0) es
 
 -- ---- entries in ascending order of their positions
 pub Rising : {D : Type 0} → List (ℕ × D) → Type 0
@@ -135,7 +133,7 @@ dirty_pairs m (leaf p n) = elim (m p) [ Some d ↦ (p, d) ∷ [] | None ↦ [] ]
 dirty_pairs m (join p l r) = dirty_pairs m l ++ dirty_pairs m r
 
 -- what holds of the positions
-all_keys : {D : Type 0} (P : ℕ → Type 0) (es : List (ℕ × D)) → AllByRecursion P (keys es) → AllByRecursion (λ e. P e.0) es
+all_keys : {D : Type 0} (P : ℕ → Type 0) (es : List (ℕ × D)) → AllByRecursion P (keys_of es) → AllByRecursion (λ e. P e.0) es
 all_keys P [] all = tt
 all_keys P (e ∷ es) all = (all.0, all_keys P es all.1)
 
@@ -149,14 +147,14 @@ module _ {D : Type 0} (m : ℕ → Option D) where
   pair_untouched : (p n : ℕ) → m p ≡ None → dirty_pairs m (leaf p n) ≡ []
   pair_untouched p n e = ap (leaf_pairs p) e
 
-  pair_keys : (t : Tree) → keys (dirty_pairs m t) ≡ dirty_leaves m t
+  pair_keys : (t : Tree) → keys_of (dirty_pairs m t) ≡ dirty_leaves m t
   pair_keys (leaf p n) = elim (none_or_some (m p)) [
-    | inl o ↦ ap keys (pair_untouched p n o) ∙ sym (leaf_untouched m p n (ap is_some o))
-    | inr o ↦ ap keys (pair_dirty p n o.0 o.1) ∙ sym (leaf_dirty m p n (ap is_some o.1))
+    | inl o ↦ ap keys_of (pair_untouched p n o) ∙ sym (leaf_untouched m p n (ap is_some o))
+    | inr o ↦ ap keys_of (pair_dirty p n o.0 o.1) ∙ sym (leaf_dirty m p n (ap is_some o.1))
   ]
   pair_keys (join p l r) = map-append (λ e. e.0) (dirty_pairs m l) (dirty_pairs m r) ∙ ap₂ (λ a b. a ++ b) (pair_keys l) (pair_keys r)
 
-  all_pair_keys : (ts : List Tree) → keys (flat_map (dirty_pairs m) ts) ≡ flat_map (dirty_leaves m) ts
+  all_pair_keys : (ts : List Tree) → keys_of (flat_map (dirty_pairs m) ts) ≡ flat_map (dirty_leaves m) ts
   all_pair_keys [] = refl
   all_pair_keys (t ∷ ts) = map-append (λ e. e.0) (dirty_pairs m t) (flat_map (dirty_pairs m) ts) ∙ ap₂ (λ a b. a ++ b) (pair_keys t) (all_pair_keys ts)
 
@@ -251,7 +249,7 @@ entries_of rule n es leaves h = changed_leaves (get {R = nat_cmp} (from_entries 
 
 pub entries_are : {D : Type 0} (rule : List ℕ → List ℕ) (n : ℕ) (es : List (ℕ × D)) → HasLeavesOf rule n (get {R = nat_cmp} (from_entries es)) → IsStrictlySortedBy nat_cmp (map (λ e. e.0) es)
     → map (λ e. e.0) es ≡ flat_map (dirty_leaves (get {R = nat_cmp} (from_entries es))) (peaks_of rule n)
-entries_are rule n es leaves h = ap keys (entries_of rule n es leaves h) ∙ all_pair_keys (get {R = nat_cmp} (from_entries es)) (peaks_of rule n)
+entries_are rule n es leaves h = ap keys_of (entries_of rule n es leaves h) ∙ all_pair_keys (get {R = nat_cmp} (from_entries es)) (peaks_of rule n)
 
 -- ---- taking the entries one by one
 -- the entries that are taken are inserted, and their positions are listed
@@ -261,7 +259,7 @@ pub record Taken {D : Type 0} (es rest : List (ℕ × D)) (inserted : FinMap nat
   pub inserted_is : inserted ≡ from_entries done
   pub listed_is : listed ≡ map (λ e. e.0) done
 
-pub taken_more : {D : Type 0} (es rest next : List (ℕ × D)) (k : ℕ) (d : D) (old new : FinMap nat_cmp D) (listed longer : List ℕ) → IsStrictlySortedBy nat_cmp (keys es)
+pub taken_more : {D : Type 0} (es rest next : List (ℕ × D)) (k : ℕ) (d : D) (old new : FinMap nat_cmp D) (listed longer : List ℕ) → IsStrictlySortedBy nat_cmp (keys_of es)
     → rest ≡ (k, d) ∷ next → new ≡ insert old k d → longer ≡ listed ++ k ∷ [] → Taken es rest old listed → Taken es next new longer
 taken_more es rest next k d old new listed longer h e i l w = record {
   done = w.done ++ (k, d) ∷ [];
@@ -274,4 +272,4 @@ pub taken_all : {D : Type 0} (es rest : List (ℕ × D)) (inserted : FinMap nat_
     → (inserted ≡ from_entries es) × (listed ≡ map (λ e. e.0) es)
 taken_all es rest inserted listed e w =
     let all : w.done ≡ es = sym (append-nil w.done) ∙ ap (λ z. w.done ++ z) (sym e) ∙ w.parts in
-    (w.inserted_is ∙ ap (λ z. from_entries z) all, w.listed_is ∙ ap keys all)
+    (w.inserted_is ∙ ap (λ z. from_entries z) all, w.listed_is ∙ ap keys_of all)

@@ -1,6 +1,6 @@
 -- What is said of a proof that comes in words.
-use Rattle.std.proofs.Common.{◌≡◌, ◌≢◌, ℕ, ◌^◌, ◌<◌, ◌≤◌, ◌⊎◌, List, [], ◌∷◌, ◌++◌, length, Bool, true, false, Ok, cond, rules, refl, inl, inr}
-use Rattle.std.specs.Prelude.{◌↔◌, ◌==◌, IsTrue, codes}
+use Rattle.std.proofs.Common.{◌≡◌, ◌≢◌, ℕ, ◌^◌, ◌<◌, ◌≤◌, ◌⊎◌, List, [], ◌++◌, length, Bool, true, false, Ok, cond, rules, refl, inl, inr}
+use Rattle.std.specs.Prelude.{◌↔◌, IsTrue, codes}
 use Rattle.merkle_base.specs.Scheme.{Scheme}
 use Rattle.merkle_base.specs.declared.error.DecodeError.{DecodeError}
 use Rattle.merkle_base.specs.declared.error.DecodeError.TheVariants.{EndOfBuffer, InvalidVarint, Invalid, TooMany, OutOfMemory}
@@ -14,12 +14,6 @@ use Rattle.merkle_lines.specs.ErrorNames.{decode_error_name}
 pub says_which : (yes : Bool) (P : Type 0) → IsTrue yes ↔ P → Says P (cond yes (codes "yes") (codes "no"))
 says_which true P f = inl (f.0 refl, refl)
 says_which false P f = inr (λ p. absurd (search (rules, f.1 p)), refl)
-
--- bytes that are tested for being none
-pub no_bytes : (bytes : List ℕ) (test : Bool) → test ≡ (length bytes == 0) → test ≡ true → bytes ≡ []
-no_bytes [] test is none = refl
-no_bytes (b ∷ bytes) true is none = absurd (search (rules, is))
-no_bytes (b ∷ bytes) false is none = absurd (search (rules, none))
 
 module _ {D : Type 0} (s : Scheme D) (size : ℕ) (Spells : List ℕ → Type 0) (a k : ℕ) (root : D) (bytes : List ℕ) (elements : List (List ℕ)) (text : List ℕ) where
   -- bytes that begin with no proof, or want of memory

@@ -43,4 +43,5 @@ SeesDown e f (join p l r) = MatchOption (e (join p l r)) (NothingAt f (node_plac
 abbrev pub PinnedIsSeen : Type 0 → Type 0
 PinnedIsSeen D = (s : Scheme D) (r : RangeInput D) (pins : List D) (root : D) → AcceptsPinnedSome s r pins root
     → (f : ℕ → D) → ((p : ℕ) (d : D) → Member (extracted s r) (p, d) → f p ≡ d)
-    → AllByRecursion (SeesDown (pinned_children s.hashing (pin_at s r.start pins) r.start (end_of r) f) (input_at (pinned_inputs s r pins))) (peaks_of s.rule r.leaves)
+    → AllByRecursion (SeesDown (pinned_children s.hashing (pin_at s r.start pins) r.start (end_of r) f) (input_at (pinned_inputs s r pins)))
+    (peaks_of s.rule r.leaves)

@@ -17,7 +17,7 @@ use Rattle.merkle_root_theory.proofs.Reconstruction.{root_unless, reconstructed-
 use Rattle.merkle_range.specs.Extracting.{RefusesExtraction}
 use Rattle.merkle_range.specs.Input.{IsComputed}
 
-err_is_no_ok : {A E : Type 0} (a : A) (e : E) → ◌≡◌ {A = Result A E} (Err e) (Ok a) → ⊥
+pub err_is_no_ok : {A E : Type 0} (a : A) (e : E) → ◌≡◌ {A = Result A E} (Err e) (Ok a) → ⊥
 err_is_no_ok a e f = cc
 
 -- what holds of a value, and what holds of the value that is there

@@ -1,5 +1,5 @@
 -- The digests that follow from what is held, where nothing is damaged.
-use Rattle.std.proofs.Common.{◌≡◌, ℕ, suc, ◌≤◌, true, cond, List, [], ◌∷◌, ◌++◌, map, Option, Some, None, slice_get, refl, sym, ap, ap₂, ◌∙◌, ⊎_elim, flat_map}
+use Rattle.std.proofs.Common.{◌≡◌, ℕ, ◌≤◌, true, cond, List, [], ◌∷◌, map, Option, Some, None, slice_get, refl, sym, ap, ap₂, ◌∙◌, ⊎_elim}
 use Rattle.std.specs.Prelude.{is_some, ◌&&◌}
 use Rattle.std.specs.Option.{option_to_list}
 use Rattle.std.proofs.lemmas.Bool.{and_parts}
@@ -21,6 +21,7 @@ use Rattle.merkle_root_theory.proofs.Collisions.{decided}
 use Rattle.merkle_root_theory.proofs.ListRoots.{folded_values}
 use Rattle.merkle_claim_theory.specs.MultiClaim.{or_empty}
 use Rattle.merkle_batch_theory.specs.Contents.{Contents, HoldsKept, held_peaks}
+use Rattle.merkle_batch_theory.proofs.ListFacts.{flat_single}
 use Rattle.merkle_batch_theory.proofs.NeededNodes.{peaks_kept}
 use Rattle.merkle_restore_theory.specs.Damage.{IsWhole}
 use Rattle.merkle_restore_theory.specs.HeldRoot.{held_tree, held_plan, held_expression}
@@ -29,10 +30,6 @@ use Rattle.merkle_restore_theory.proofs.HeldBelow.{built_there, kept_is_held}
 pub some_of : {A : Type 0} (o : Option A) → is_some o ≡ true → (x : A) × (o ≡ Some x)
 some_of None e = absurd (cc)
 some_of (Some x) e = (x, refl)
-
-single : {A B C : Type 0} (f : B → List C) (g : A → B) (k : A → C) (xs : List A) → ((i : ℕ) (x : A) → slice_get xs i ≡ Some x → f (g x) ≡ k x ∷ []) → flat_map f (map g xs) ≡ map k xs
-single f g k [] e = refl
-single f g k (x ∷ xs) e = ap (λ ys. ys ++ flat_map f (map g xs)) (e 0 x refl) ∙ ap (λ ys. k x ∷ ys) (single f g k xs (λ i y d. e (suc i) y d))
 
 module _ {D : Type 0} (h : Hashing D) (node : ℕ → Option D) where
   -- nothing is told that is also computed
@@ -79,7 +76,7 @@ module _ {D : Type 0} (s : Scheme D) (laws : EqDecides s.hashing) (c : Contents 
       ap option_to_list d.1 ∙ ap (λ x. x ∷ []) (sym (held_value s.hashing c.node laws s.rule n whole t d.0 built d.1))
 
   peaks_are : held_peaks s.rule n c ≡ map (λ t. value s.hashing (held_plan s.hashing c.node (peak t))) (peaks_of s.rule n)
-  peaks_are = single (λ p. option_to_list (c.node p)) position (λ t. value s.hashing (held_tree s.hashing c.node t)) (peaks_of s.rule n) peak_held
+  peaks_are = flat_single (λ p. option_to_list (c.node p)) position (λ t. value s.hashing (held_tree s.hashing c.node t)) (peaks_of s.rule n) peak_held
 
   pub held_root : (k : ℕ) → root_of s n k (held_expression s c.node n k) ≡ peaks_root s n k k (held_peaks s.rule n c)
   held_root k = ap (λ o. s.hashing.hash (root_string s.hashing s.domain s.bagging n k o))

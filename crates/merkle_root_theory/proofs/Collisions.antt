@@ -46,10 +46,10 @@ right_of : {D : Type 0} → D → Argument D → D
 right_of d (Pair l r) = r
 right_of d (Bytes b) = d
 
-left_same : {D : Type 0} (a b c d : D) → Pair a b ≡ Pair c d → a ≡ c
+pub left_same : {D : Type 0} (a b c d : D) → Pair a b ≡ Pair c d → a ≡ c
 left_same a b c d e = cc
 
-right_same : {D : Type 0} (a b c d : D) → Pair a b ≡ Pair c d → b ≡ d
+pub right_same : {D : Type 0} (a b c d : D) → Pair a b ≡ Pair c d → b ≡ d
 right_same a b c d e = cc
 
 module _ {D : Type 0} (h : Hashing D) (laws : EqDecides h) where

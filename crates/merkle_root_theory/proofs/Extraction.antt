@@ -23,6 +23,7 @@ use Rattle.merkle_root_theory.specs.Range.{overlapping, wholly_after, range_part
 use Rattle.merkle_root_theory.specs.Extract.{inner_pairs, over_pairs, single_pairs, extracted, IsNodePair, ExtractsNodes}
 use Rattle.merkle_base.proofs.Cases.{by_test}
 use Rattle.merkle_root_theory.proofs.Claims.{split_left, split_right, tree_honest}
+use Rattle.merkle_root_theory.proofs.HonestInputs.{no_peaks_of}
 use Rattle.merkle_root_theory.proofs.ListRoots.{node_digest_is}
 use Rattle.merkle_root_theory.proofs.RangeChecks.{some_honest, honest_leaves}
 use Rattle.merkle_root_theory.proofs.RangeDigests.{range_digests_are}
@@ -145,10 +146,6 @@ no_single_before BackwardFold k = drop-nil k
 no_single_after : (b : Bagging) (k met : ℕ) → single_after b k met [] ≡ []
 no_single_after ForwardFold k met = refl
 no_single_after BackwardFold k met = take-nil (k - met)
-
-no_peaks_of : (rule : List ℕ → List ℕ) → peaks_of rule 0 ≡ []
-unfolding forest
-no_peaks_of rule = refl
 
 module _ {D : Type 0} (s : Scheme D) (r : RangeInput D) where
   abbrev pairs_over : List Tree → List (ℕ × D)

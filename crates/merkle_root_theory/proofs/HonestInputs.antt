@@ -14,7 +14,7 @@ use Rattle.merkle_root_theory.specs.Outside.{folded_prefix, single_before, singl
 use Rattle.merkle_root_theory.specs.Layouts.{laid_out}
 use Rattle.merkle_root_theory.specs.Range.{overlapping, wholly_after, range_siblings, range_digests, end_of, IsEmptyInput, IsHonestRange, IsHonestNonempty, IsHonestByCases}
 
-no_peaks_of : (rule : List ℕ → List ℕ) → peaks_of rule 0 ≡ []
+pub no_peaks_of : (rule : List ℕ → List ℕ) → peaks_of rule 0 ≡ []
 unfolding forest
 no_peaks_of rule = refl
 

@@ -3,7 +3,6 @@ use Rattle.std.proofs.Common.{◌≡◌, ℕ, List, [], ◌∷◌, ◌++◌, Opt
 use Rattle.std.proofs.lemmas.List.{append-nil}
 use Rattle.std.specs.Int.{to_be_bytes}
 use Rattle.merkle_base.specs.declared.family.Bagging.{Bagging}
-use Rattle.merkle_base.specs.declared.family.Bagging.TheVariants.{ForwardFold, BackwardFold}
 use Rattle.merkle_base.specs.Bagging.{bagging_byte}
 use Rattle.merkle_base.specs.Hashing.{Hashing}
 use Rattle.merkle_base.specs.Places.{peaks_of}
@@ -17,6 +16,7 @@ use Rattle.merkle_base.specs.Scheme.{Scheme}
 use Rattle.merkle_root_theory.specs.Range.{Accepts, IsEmptyInput}
 use Rattle.merkle_root_theory.specs.RootNames.{NamesRoot, RootIsNamed, YesNamesRoot, EqualRootsCollide, OtherYesCollides}
 use Rattle.merkle_root_theory.proofs.RangeChecks.{no_plan}
+use Rattle.merkle_root_theory.proofs.RootStrings.{same_bagging}
 
 -- ---- the root that is accepted is the one that is computed
 nothing : {D : Type 0} (s : Scheme D) (r : RangeInput D) → IsEmptyInput r → range_expression s r ≡ None
@@ -50,12 +50,6 @@ pub yes_names_root : {D : Type 0} → YesNamesRoot D
 yes_names_root s r root a = named s r.leaves r.inactive (range_expression s r) root (accepted_root s r root a)
 
 -- ---- two strings that begin otherwise
-same_bagging : (x y : Bagging) → bagging_byte x ≡ bagging_byte y → x ≡ y
-same_bagging ForwardFold ForwardFold e = refl
-same_bagging ForwardFold BackwardFold e = absurd (cc)
-same_bagging BackwardFold ForwardFold e = absurd (cc)
-same_bagging BackwardFold BackwardFold e = refl
-
 one_string : {D : Type 0} (x y : List ℕ) → ◌≡◌ {A = Argument D} (Bytes x) (Bytes y) → x ≡ y
 one_string x y e = cc
 

@@ -54,7 +54,7 @@ module _ {D : Type 0} (h : Hashing D) (size : ℕ) (laws : ByteLaws h size) wher
       no_room : length (to_be_bytes w64 n) ≡ length (to_be_bytes w64 n' ++ (inactive_bytes k' ++ h.bytes d')) → ⊥
       no_room l = omega (arith, l, long n, long n', length-append (to_be_bytes w64 n') (inactive_bytes k' ++ h.bytes d'), length-append (inactive_bytes k') (h.bytes d'), laws.length d', laws.nonempty)
 
-same_bagging : (x y : Bagging) → bagging_byte x ≡ bagging_byte y → x ≡ y
+pub same_bagging : (x y : Bagging) → bagging_byte x ≡ bagging_byte y → x ≡ y
 same_bagging ForwardFold ForwardFold e = refl
 same_bagging ForwardFold BackwardFold e = absurd (cc)
 same_bagging BackwardFold ForwardFold e = absurd (cc)

@@ -1,5 +1,6 @@
-use Rattle.std.proofs.Common.{◌≡◌, ◌≤◌, ℕ, [], Vec, Global, map, length, arith, refl, ap, subst, inl, inr, ◌∙◌}
-use Rattle.std.proofs.lemmas.List.{length-map}
+use Rattle.std.proofs.Common.{◌≡◌, ◌≤◌, ℕ, [], Vec, Global, map, length, arith, refl, sym, ap, subst, inl, inr, ◌∙◌}
+use Rattle.std.proofs.lemmas.Bool.{eqb-true}
+use Rattle.std.proofs.lemmas.List.{length-map, nil_from_length}
 use Rattle.merkle_base.specs.Scheme.{scheme_of}
 use Rattle.merkle_codec.specs.ProofSpelling.{IsProofReadRefusal}
 use Rattle.merkle_leaves.specs.Standard.{standard}
@@ -11,7 +12,6 @@ use Rattle.merkle_lines.specs.Answers.{error_line, most_digests, SaysOfInput}
 use Rattle.merkle_lines.specs.AnswerText.{answer_text}
 use Rattle.merkle_lines.specs.ErrorNames.{error_name}
 use Rattle.merkle_lines.proofs.Audits.{alone, followed, not_read, peaks_refused, peaks_within, some_bytes, too_many_peaks}
-use Rattle.merkle_lines.proofs.Verdicts.{no_bytes}
 use Rattle.merkle_lines.proofs.auditing.audited.Goals as goal
 
 pub returns-in-Err-read : goal.returns-in-Err-read
@@ -40,7 +40,7 @@ pub returns-in-Err-audit_range : goal.returns-in-Err-audit_range
 returns-in-Err-audit_range g c = λ given is few.
     let counted : length (map (λ (bytes : Vec ℕ Global). bytes.items) c.args.elements.now) ≡ length c.args.elements.now = length-map c.args.elements.now _ in
     let most : c.saturating_mul-most.result ≡ most_digests (length (map (λ (bytes : Vec ℕ Global). bytes.items) c.args.elements.now)) = omega (arith, c.saturating_mul-most.ensures, counted) in
-    let none : c.read.new.input.now ≡ [] = no_bytes c.read.new.input.now c.is_empty.result c.is_empty.ensures c.if-not-is_empty.false in
+    let none : c.read.new.input.now ≡ [] = nil_from_length c.read.new.input.now (eqb-true (length c.read.new.input.now) 0 (sym c.is_empty.ensures ∙ c.if-not-is_empty.false)) in
     let s = (scheme_of (standard g.H.PlainHasher.digest_of g.H.Digest.Digest.bytes g.H.Digest.PartialEq.eq g.H.Digest.Digest.EMPTY) c.args.hasher.now
     g.F.Family.rule g.F.Family.MAX_LEAVES g.F.Family.DOMAIN) in
     let p = c.in-Ok-read.value in
@@ -64,7 +64,7 @@ pub returns : goal.returns
 returns g c = λ given is few.
     let counted : length (map (λ (bytes : Vec ℕ Global). bytes.items) c.args.elements.now) ≡ length c.args.elements.now = length-map c.args.elements.now _ in
     let most : c.saturating_mul-most.result ≡ most_digests (length (map (λ (bytes : Vec ℕ Global). bytes.items) c.args.elements.now)) = omega (arith, c.saturating_mul-most.ensures, counted) in
-    let none : c.read.new.input.now ≡ [] = no_bytes c.read.new.input.now c.is_empty.result c.is_empty.ensures c.if-not-is_empty.false in
+    let none : c.read.new.input.now ≡ [] = nil_from_length c.read.new.input.now (eqb-true (length c.read.new.input.now) 0 (sym c.is_empty.ensures ∙ c.if-not-is_empty.false)) in
     let s = (scheme_of (standard g.H.PlainHasher.digest_of g.H.Digest.Digest.bytes g.H.Digest.PartialEq.eq g.H.Digest.Digest.EMPTY) c.args.hasher.now
     g.F.Family.rule g.F.Family.MAX_LEAVES g.F.Family.DOMAIN) in
     let p = c.in-Ok-read.value in

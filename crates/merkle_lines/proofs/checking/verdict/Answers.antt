@@ -1,6 +1,7 @@
-use Rattle.std.proofs.Common.{◌≡◌, ◌≢◌, ℕ, [], Vec, Global, map, length, Ok, arith, rules, refl, ap, subst, inl, ◌∙◌}
+use Rattle.std.proofs.Common.{◌≡◌, ◌≢◌, ℕ, [], Vec, Global, map, length, Ok, arith, rules, refl, sym, ap, subst, inl, ◌∙◌}
 use Rattle.std.specs.Prelude.{◌↔◌, IsTrue}
-use Rattle.std.proofs.lemmas.List.{length-map}
+use Rattle.std.proofs.lemmas.Bool.{eqb-true}
+use Rattle.std.proofs.lemmas.List.{length-map, nil_from_length}
 use Rattle.merkle_base.specs.Scheme.{scheme_of}
 use Rattle.merkle_codec.specs.ProofSpelling.{IsProofReadRefusal}
 use Rattle.merkle_leaves.specs.Standard.{standard}
@@ -8,7 +9,7 @@ use Rattle.merkle_core.specs.LeafDigests.{range_input}
 use Rattle.merkle_root_theory.specs.Reconstruction.{reconstructed}
 use Rattle.merkle_hasher.specs.LeafDigests.{bytes_of}
 use Rattle.merkle_lines.specs.Answers.{error_line, most_digests}
-use Rattle.merkle_lines.proofs.Verdicts.{judged, no_bytes, other_peaks, says_which, unread}
+use Rattle.merkle_lines.proofs.Verdicts.{judged, other_peaks, says_which, unread}
 use Rattle.merkle_lines.proofs.checking.verdict.Goals as goal
 
 pub returns-in-Err-read : goal.returns-in-Err-read
@@ -25,7 +26,7 @@ pub returns-then-proof-inactive : goal.returns-then-proof-inactive
 returns-then-proof-inactive g c =
     let counted : length (map (λ (bytes : Vec ℕ Global). bytes.items) c.args.elements.now) ≡ length c.args.elements.now = length-map c.args.elements.now _ in
     let most : c.saturating_mul-most.result ≡ most_digests (length (map (λ (bytes : Vec ℕ Global). bytes.items) c.args.elements.now)) = omega (arith, c.saturating_mul-most.ensures, counted) in
-    let none : c.read.new.input.now ≡ [] = no_bytes c.read.new.input.now c.is_empty.result c.is_empty.ensures c.if-not-is_empty.false in
+    let none : c.read.new.input.now ≡ [] = nil_from_length c.read.new.input.now (eqb-true (length c.read.new.input.now) 0 (sym c.is_empty.ensures ∙ c.if-not-is_empty.false)) in
     let other : c.in-Ok-read.value.inactive_peaks ≢ c.args.inactive = search (rules, c.if-proof-inactive.true) in
     inl (judged (scheme_of (standard g.H.PlainHasher.digest_of g.H.Digest.Digest.bytes g.H.Digest.PartialEq.eq g.H.Digest.Digest.EMPTY)
     c.args.hasher.now g.F.Family.rule g.F.Family.MAX_LEAVES g.F.Family.DOMAIN) g.H.Digest.Digest.SIZE g.H.Digest.Digest.Spells c.args.start
@@ -41,7 +42,7 @@ pub returns : goal.returns
 returns g c =
     let counted : length (map (λ (bytes : Vec ℕ Global). bytes.items) c.args.elements.now) ≡ length c.args.elements.now = length-map c.args.elements.now _ in
     let most : c.saturating_mul-most.result ≡ most_digests (length (map (λ (bytes : Vec ℕ Global). bytes.items) c.args.elements.now)) = omega (arith, c.saturating_mul-most.ensures, counted) in
-    let none : c.read.new.input.now ≡ [] = no_bytes c.read.new.input.now c.is_empty.result c.is_empty.ensures c.if-not-is_empty.false in
+    let none : c.read.new.input.now ≡ [] = nil_from_length c.read.new.input.now (eqb-true (length c.read.new.input.now) 0 (sym c.is_empty.ensures ∙ c.if-not-is_empty.false)) in
     let peaks : c.in-Ok-read.value.inactive_peaks ≡ c.args.inactive = search (rules, c.if-proof-inactive.false) in
     let start : c.new-first.result ≡ c.args.start = c.new-first.ensures in
     let s = scheme_of (standard g.H.PlainHasher.digest_of g.H.Digest.Digest.bytes g.H.Digest.PartialEq.eq g.H.Digest.Digest.EMPTY) c.args.hasher.now

@@ -1,14 +1,12 @@
-use Rattle.std.proofs.Common.{◌≡◌, [], false, IsTrue, Result, Ok, Err, ap, sym, ◌∙◌}
+use Rattle.std.proofs.Common.{◌≡◌, [], false, IsTrue, Result, Ok, ap, sym, ◌∙◌}
 use Rattle.merkle_root_theory.specs.Reconstruction.{reconstructed}
 use Rattle.merkle_range.specs.Input.{range_input}
+use Rattle.merkle_range.proofs.Answered.{err_is_no_ok}
 use Rattle.merkle_proof.proofs.ScatteredRoot.{empty_accepted}
 use Rattle.merkle_proof.proofs.multi_checks.verify_empty.Goals as goal
 
 never : IsTrue false → ⊥
 never e = cc
-
-err_is_no_ok : {A E : Type 0} (a : A) (e : E) → ◌≡◌ {A = Result A E} (Err e) (Ok a) → ⊥
-err_is_no_ok a e f = cc
 
 ok_inj : {A E : Type 0} (a b : A) → ◌≡◌ {A = Result A E} (Ok a) (Ok b) → a ≡ b
 ok_inj a b f = cc

@@ -1,5 +1,5 @@
-use Rattle.std.proofs.Common.{◌≡◌, ◌<◌, List, length, Ok, [], ◌∷◌, refl, rules, arith, ap, sym, ◌∙◌}
-use Rattle.std.proofs.lemmas.List.{length-map}
+use Rattle.std.proofs.Common.{◌≡◌, ◌<◌, length, Ok, [], rules, arith, ap, sym, ◌∙◌}
+use Rattle.std.proofs.lemmas.List.{length-map, nil_from_length}
 use Rattle.std.proofs.lemmas.Result.{IfErr-weaker}
 use Rattle.merkle_root_theory.specs.Reconstruction.{reconstructed}
 use Rattle.merkle_hasher.specs.LeafDigests.{bytes_of}
@@ -8,10 +8,6 @@ use Rattle.merkle_root_theory.proofs.Reconstruction.{root_unless, reconstructed-
 use Rattle.merkle_range.specs.Input.{range_input}
 use Rattle.merkle_hasher.proofs.LeafDigests.{length-leaf_digests}
 use Rattle.merkle_range.proofs.extraction.reconstruct_or_extract.Goals as goal
-
-nothing_given : {A : Type 0} (xs : List A) → length xs ≡ 0 → xs ≡ []
-nothing_given [] e = refl
-nothing_given (x ∷ xs) e = absurd (omega (arith, e))
 
 pub returns-then-is_empty-clause-ok : goal.returns-then-is_empty-clause-ok
 returns-then-is_empty-clause-ok g c =
@@ -22,7 +18,7 @@ returns-then-is_empty-clause-ok g c =
     let none : length r.elements ≡ 0 = omega (arith, given, length-leaf_digests s.hashing s.rule c.args.start (bytes_of es), length-map es (λ e. e.now)) in
     let answered : c.reconstruct_empty_root.result ≡ Ok c.in_ok-root.root = search rules in
     let led : reconstructed s r ≡ Ok c.in_ok-root.root =
-    ap (λ z. reconstructed s (range_input s c.args.parts.now.leaves c.args.parts.now.inactive c.args.parts.now.digests.now c.args.start (bytes_of z))) (nothing_given es given)
+    ap (λ z. reconstructed s (range_input s c.args.parts.now.leaves c.args.parts.now.inactive c.args.parts.now.digests.now c.args.start (bytes_of z))) (nil_from_length es given)
     ∙ sym c.reconstruct_empty_root.ensures ∙ answered in
     let pairs : c.new.result.items ≡ [] = search rules in
     (led, pairs ∙ sym (extracted-no_leaves s r (leaves_of_empty s r c.in_ok-root.root none led)))
