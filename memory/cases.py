@@ -24,7 +24,7 @@ PROGRAMS = {".rows": "rows", ".lines": "merkle"}
 # a number to tell; that only read.
 TAKING = """add add_all add_digest add_digests add_list add_numbers update update_digest update_digests update_list forget merkleize
     merkleize_counted""".split()
-NAMING = TAKING + "fork child from_mem copy parts from_components store".split()
+NAMING = TAKING + "fork child from_mem copy parts from_components restore store".split()
 CHANGING = NAMING + "prune prune_all apply".split()
 TELLING = ["merkleize_counted"]
 READING = "bounds size leaves node nodes peaks root same pending base suffix_peaks".split()
@@ -36,7 +36,7 @@ PENDING = ("add", "update", "commit")
 MOST = str(2 ** 64 - 1)
 EARLY_WORDS = {
     "fork child from_mem copy": (2, "?"),
-    "parts from_components read_range read_root": (2, MOST),
+    "parts from_components restore read_range read_root": (2, MOST),
     "components first_damaged": (1, "?"),
     "leaf_digests slice_range slice_multi": (1, MOST),
     "read_history": (2, "0"),

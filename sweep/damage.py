@@ -1,8 +1,10 @@
-"""Damages components of structures by SHA-256, one digest at a time, and looks at whether the search for a damaged node tells where.
+"""Damages components of structures by SHA-256, one digest at a time, and looks at whether the search for a damaged node tells where, and
+whether a structure is restored of them.
 
 The structures have 1 to 12 leaves, are in both families and with both baggings, and are pruned to each boundary. What is expected comes from
 verifier/model.py: the damaged node itself is named, if it is held with both its children, or else its parent; without a parent none is, and
-the root is another one.
+the root is another one. Only components without a damaged digest are restored with the root of the list; else the refusal is by the node that
+is named, or by the root where none is.
 """
 import os
 import sys
@@ -41,7 +43,7 @@ def words(digests):
 
 
 def lines_of(forest, bagging, leaves, boundary):
-    """Lines that search the components of a structure, whole and with each digest damaged, and the answers that are expected."""
+    """Lines that search and restore the components of a structure, whole and with each digest damaged, and the answers that are expected."""
     start = sum(2 ** (peak.height + 1) - 1 for peak in forest.peaks_after[boundary])
     pins = [peak.position for peak in forest.peaks_after[boundary]]
     every = nodes_below(forest.peaks_after[leaves])
@@ -57,6 +59,8 @@ def lines_of(forest, bagging, leaves, boundary):
         yield "first_damaged m", "none" if position is None else str(position)
         hashes = [digests[peak.position] for peak in forest.peaks_after[leaves]]
         now = root_of(forest.family, bagging, leaves, inactive, hashes).hex()
+        told = "RootMismatch" if position is None else f"DamagedNode {position}"
+        yield f"restore r {parts} {inactive} {root}", "ok" if damaged is None else told
         yield f"root m {inactive}", "missed" if damaged is not None and position is None and now == root else now
 
 

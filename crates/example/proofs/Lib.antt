@@ -1,2 +1,3 @@
+mod Appending
 mod Entries
 mod Following

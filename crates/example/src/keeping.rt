@@ -1,7 +1,8 @@
-//! A log that is written down and read back, and a client that tells why it refuses a proof.
+//! A log that is written down and read back, one without its nodes, and a client that tells why it refuses a proof.
 
+use crate::frontier::Frontier;
 use crate::telling::{say, tell, tell_size};
-use crate::{Log, LogError};
+use crate::{FIRST, LATER, Log, LogError};
 use merkle_core::codec::{Read, Write};
 use merkle_core::digest::Digest;
 use merkle_core::error::ReconstructionError;
@@ -10,12 +11,13 @@ use merkle_core::granted;
 use merkle_core::hasher::Hasher;
 use merkle_core::mem::{Config, ConfigLimits};
 use merkle_core::mmr::{Family, Location, Mmr, Proof};
+use merkle_core::restore::RestoreError;
 use std::alloc::Global;
 
 /// The bytes of what a log holds: its boundary, the digests of the peaks over the entries before it, and the nodes from there on.
 fn written<H: Hasher<Family> + Drop>(log: &Log<H>) -> Result<Vec<u8>, LogError> {
     let mut bytes = Vec::new(log.alloc);
-    log.tree.to_config()?.write(&mut bytes)?;
+    log.tree.write(&mut bytes)?;
     Ok(bytes)
 }
 
@@ -35,20 +37,19 @@ fn read_back<D: Digest>(alloc: Global, bytes: &[u8]) -> Result<Config<Family, D>
 
 /// What becomes of bytes that are read back, in the place of the log with this root.
 ///
-/// The root covers the peaks alone, and says nothing of the nodes below them: these are checked first.
+/// The root covers the peaks alone, and says nothing of the nodes below them; these are checked by their parents.
 fn outcome<H: Hasher<Family> + Drop>(
     log: &Log<H>,
     bytes: &[u8],
     root: &H::Digest,
 ) -> Result<&'static str, LogError> {
-    let tree = granted!(Mmr::init(read_back(log.alloc, bytes)?));
-    if tree.first_damaged(&log.hasher).is_some() {
-        return Ok("a damaged node");
+    let config = read_back(log.alloc, bytes)?;
+    match Mmr::restore(config, &log.hasher, 0, root) {
+        Ok(_) => Ok("the log"),
+        Err(RestoreError::DamagedNode(_)) => Ok("a damaged node"),
+        Err(RestoreError::RootMismatch) => Ok("another root"),
+        Err(error) => Err(LogError::from(&error)),
     }
-    if granted!(tree.root(&log.hasher, 0)) != *root {
-        return Ok("another root");
-    }
-    Ok("the log")
 }
 
 /// Whether bytes are those of a structure with this root, whatever nodes are below its peaks.
@@ -68,8 +69,8 @@ fn flip(bytes: &mut [u8], index: usize) {
     }
 }
 
-/// The log is written down, and read back after a restart. Its root does not notice a node that was damaged below a peak; the
-/// search for a damaged node does.
+/// The log is written down, and restored after a restart. Its root does not notice a node that was damaged below a peak; `restore`
+/// does.
 pub(crate) fn show_restart<H: Hasher<Family> + Drop>(
     rt: &impl Print,
     log: &Log<H>,
@@ -91,6 +92,42 @@ pub(crate) fn show_restart<H: Hasher<Family> + Drop>(
         is_same,
     )?;
     tell(rt, "read back so, it has", outcome(log, &bytes, root)?)
+}
+
+/// Appends entries to a frontier, one by one, and answers whether the last root is this one.
+fn ends_at<H: Hasher<Family>>(
+    hasher: &H,
+    frontier: &mut Frontier<Family, H::Digest>,
+    entries: &[&[u8]],
+    root: &H::Digest,
+) -> Result<bool, LogError> {
+    let mut is_last = false;
+    for entry in entries {
+        is_last = frontier.append(hasher, entry)? == *root;
+    }
+    Ok(is_last)
+}
+
+/// Who keeps the peaks alone gives the same roots, writes them down in few bytes, and goes on from these.
+pub(crate) fn show_frontier<H: Hasher<Family> + Drop>(
+    rt: &impl Print,
+    log: &Log<H>,
+    old: &H::Digest,
+    root: &H::Digest,
+) -> Result<(), LogError> {
+    let mut frontier = Frontier::new(log.alloc);
+    let is_old = ends_at(&log.hasher, &mut frontier, &FIRST, old)?;
+    say(rt, "the frontier has the root of 5 entries", is_old)?;
+    let mut bytes = Vec::new(log.alloc);
+    frontier.save()?.write(&mut bytes)?;
+    tell_size(rt, "the frontier is written in", &bytes)?;
+
+    let config = read_back(log.alloc, &bytes)?;
+    let mut frontier = Frontier {
+        peaks: granted!(Mmr::restore(config, &log.hasher, 0, old)),
+    };
+    let is_new = ends_at(&log.hasher, &mut frontier, &LATER, root)?;
+    say(rt, "read back, it goes on to the root of 8 entries", is_new)
 }
 
 /// Why a proof leads to no root.

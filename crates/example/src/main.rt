@@ -7,24 +7,26 @@
 
 mod client;
 mod evidence;
+mod frontier;
 mod keeping;
 mod telling;
 mod trusting;
 
 use crate::evidence::show_evidence;
-use crate::keeping::{show_reasons, show_restart};
+use crate::keeping::{show_frontier, show_reasons, show_restart};
 use crate::telling::{say, say_both, tell, tell_size};
 use crate::trusting::{client_of, show_acceptance, show_following};
 use hex::encode;
 use merkle_core::codec::{Read, Write};
 use merkle_core::digest::{Digest, Sha256Plain, Xor8};
 use merkle_core::error::{DecodeError, Error, OutOfMemory};
-use merkle_core::family::{Bagging, Family as _};
+use merkle_core::family::{self, Bagging, Family as _};
 use merkle_core::granted;
 use merkle_core::hasher::Hasher;
 use merkle_core::mmr::{
     Family, Location, MAX_PROOF_DIGESTS_PER_ELEMENT, Mmr, Proof, StandardHasher,
 };
+use merkle_core::restore::RestoreError;
 use merkle_core::verification::ProofStore;
 use std::alloc::{AllocError, Global};
 use std::io;
@@ -50,11 +52,21 @@ enum LogError {
 }
 
 /// `granted!` passes the errors of the log on by this.
-impl From<&Error<Family>> for LogError {
-    fn from(error: &Error<Family>) -> Self {
+impl<F: family::Family> From<&Error<F>> for LogError {
+    fn from(error: &Error<F>) -> Self {
         match error {
             Error::ElementPruned(_) => LogError::Pruned,
             Error::OutOfMemory => LogError::OutOfMemory(AllocError),
+            _ => LogError::Refused,
+        }
+    }
+}
+
+/// `granted!` passes the refusals to restore a log on by this.
+impl From<&RestoreError<Family>> for LogError {
+    fn from(error: &RestoreError<Family>) -> Self {
+        match error {
+            RestoreError::OutOfMemory => LogError::OutOfMemory(AllocError),
             _ => LogError::Refused,
         }
     }
@@ -205,6 +217,7 @@ fn show_log<H: Hasher<Family> + Drop>(
     show_store(rt, &log, &root)?;
     show_pruning(rt, &mut log, &root)?;
     show_restart(rt, &log, &old, &root)?;
+    show_frontier(rt, &log, &old, &root)?;
     show_reasons(rt, &log, &root)
 }
 

@@ -1,10 +1,11 @@
 -- What follows for a structure from the nodes that it holds.
-use Rattle.std.proofs.Common.{◌≡◌, ℕ, ◌≤◌, List, length, Option, Some, None, sym, subst}
+use Rattle.std.proofs.Common.{◌≡◌, ℕ, ◌+◌, ◌≤◌, List, length, Option, Some, None, arith, sym, subst}
 use Rattle.std.specs.Option.{IfNone}
 use Rattle.merkle_base.specs.Forest.{size}
 use Rattle.merkle_base.specs.Hashing.{Hashing}
-use Rattle.merkle_base.specs.Places.{peaks_of}
+use Rattle.merkle_base.specs.Places.{peaks_of, peak_positions}
 use Rattle.merkle_base.specs.Scheme.{Scheme, scheme_of}
+use Rattle.merkle_base.proofs.Nodes.{size_le}
 use Rattle.merkle_base.specs.declared.family.Bagging.{Bagging}
 use Rattle.merkle_root_theory.specs.Range.{IsLawfulScheme}
 use Rattle.merkle_batch_theory.specs.Contents.{HoldsKept}
@@ -13,7 +14,9 @@ use Rattle.merkle_batch_theory.specs.MemModel.{MemModel, contents}
 use Rattle.merkle_batch_theory.specs.MemValid.{IsMemValid}
 use Rattle.merkle_restore_theory.specs.Damage.{IsWhole}
 use Rattle.merkle_restore_theory.specs.HeldRoot.{AgreesByRoot}
+use Rattle.merkle_restore_theory.proofs.CopiedComponents.{nodes_many, pins_many}
 use Rattle.merkle_restore_theory.proofs.WholeStructures.{whole_agrees}
+use Rattle.merkle_core.specs.MemBytes.{held_nodes, held_pins}
 
 pub if_none_then : {A : Type 0} (o : Option A) (P Q : Type 0) → IfNone o P → (P → Q) → IfNone o Q
 if_none_then None P Q x f = f x
@@ -33,6 +36,16 @@ module _ {D : Type 0} (rule : List ℕ → List ℕ) (max_leaves boundary leaves
 
   pub sized_by_leaves : size rule m.leaves ≡ m.size
   sized_by_leaves = subst (λ (s : MemModel D). size rule s.leaves ≡ s.size) view valid.counted.sized
+
+  pub starts_within : size rule m.boundary ≤ m.size
+  starts_within = omega (arith, size_le rule m.boundary m.leaves within_leaves, sized_by_leaves)
+
+  -- its pins and its nodes are all held
+  pub pins_held : length (held_pins rule m) ≡ length (peak_positions rule m.boundary)
+  pins_held = pins_many rule (contents m) holds_kept starts_within
+
+  pub nodes_held : size rule m.boundary + length (held_nodes rule m) ≡ m.size
+  nodes_held = nodes_many rule (contents m) holds_kept starts_within
 
   -- a whole structure agrees with each list that has its root, or what is hashed collides
   pub whole_by_root : (h : Hashing D) (s : Scheme D) (bagging : Bagging) (domain digest_size max_nodes : ℕ) → s ≡ scheme_of h bagging rule max_leaves domain → IsLawfulScheme s digest_size max_nodes

@@ -1,5 +1,5 @@
 -- The bytes that spell the components of a structure, and what is wrong with bytes that begin with no spelling of them.
-use Rattle.std.specs.Prelude.{◌≡◌, ℕ, ◌^◌, ◌<◌, ◌≤◌, ◌⊎◌, List, ◌++◌, length}
+use Rattle.std.specs.Prelude.{◌≡◌, ℕ, ◌+◌, ◌*◌, ◌^◌, ◌<◌, ◌≤◌, ◌⊎◌, List, ◌++◌, length}
 use Rattle.std.specs.List.{flat_map}
 use Rattle.merkle_base.specs.declared.error.DecodeError.{DecodeError}
 use Rattle.merkle_base.specs.declared.error.DecodeError.TheVariants.{Invalid, TooMany}
@@ -14,6 +14,14 @@ counted_spelling bytes ds = number_spelling (length ds) ++ flat_map bytes ds
 -- the bytes of the components of a structure: the pruning boundary, the counted pinned digests, and the counted nodes
 abbrev pub components_spelling : {D : Type 0} → (D → List ℕ) → (boundary : ℕ) → (pins nodes : List D) → List ℕ
 components_spelling bytes boundary pins nodes = number_spelling boundary ++ counted_spelling bytes pins ++ counted_spelling bytes nodes
+
+-- the number of bytes of n counted digests of `size` bytes
+abbrev pub counted_length : (size n : ℕ) → ℕ
+counted_length size n = length (number_spelling n) + n * size
+
+-- the number of bytes of components with this many pinned digests and nodes
+abbrev pub components_length : (size boundary pins nodes : ℕ) → ℕ
+components_length size boundary pins nodes = length (number_spelling boundary) + counted_length size pins + counted_length size nodes
 
 -- the bytes of a configuration: its pruning boundary, its counted pinned digests, and its counted nodes
 abbrev pub config_spelling : {F D Peaks Heights : Type 0} → (D → List ℕ) → Config F D Peaks Heights → List ℕ

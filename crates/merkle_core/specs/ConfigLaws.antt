@@ -24,16 +24,24 @@ module _ {D : Type 0} (bytes : D → List ℕ) (size : ℕ) (sized : (x : D) →
       let counts = number_spelling_once (length ds) (length es) (flat_map bytes ds ++ r) (flat_map bytes es ++ s) e in
       digests_once bytes size sized decide ds es r s counts.0 counts.1
 
+  -- components have one spelling, and no spelling begins another
+  pub components_once : ((x y : D) → bytes x ≡ bytes y → x ≡ y) → (b c : ℕ) (pins others nodes more : List D) (r s : List ℕ)
+      → components_spelling bytes b pins nodes ++ r ≡ components_spelling bytes c others more ++ s
+      → (b ≡ c) × (pins ≡ others) × (nodes ≡ more) × (r ≡ s)
+  components_once decide b c pins others nodes more r s e =
+      let whole = sym (components bytes b pins nodes r) ∙ e ∙ components bytes c others more s in
+      let first = number_spelling_once b c _ _ whole in
+      let second = counted_once decide pins others _ _ first.1 in
+      let third = counted_once decide nodes more r s second.1 in
+      (first.0, second.0, third.0, third.1)
+
   -- a configuration has one spelling, and no spelling begins another
   pub config_spelling_once : ((x y : D) → bytes x ≡ bytes y → x ≡ y)
       → {F Peaks Heights : Type 0} (c d : Config F D Peaks Heights) (r s : List ℕ)
       → config_spelling bytes c ++ r ≡ config_spelling bytes d ++ s → SameConfig c d × (r ≡ s)
   config_spelling_once decide c d r s e =
-      let whole = sym (components bytes c.pruning_boundary c.pinned_nodes.items c.nodes.items r) ∙ e ∙ components bytes d.pruning_boundary d.pinned_nodes.items d.nodes.items s in
-      let first = number_spelling_once c.pruning_boundary d.pruning_boundary _ _ whole in
-      let second = counted_once decide c.pinned_nodes.items d.pinned_nodes.items _ _ first.1 in
-      let third = counted_once decide c.nodes.items d.nodes.items r s second.1 in
-      (record { boundary = first.0; pins = second.0; nodes = third.0 }, third.1)
+      let same = components_once decide c.pruning_boundary d.pruning_boundary c.pinned_nodes.items d.pinned_nodes.items c.nodes.items d.nodes.items r s e in
+      (record { boundary = same.0; pins = same.1; nodes = same.2 }, same.3)
 
 module _ {D : Type 0} (bytes : D → List ℕ) (size : ℕ) (sized : (x : D) → length (bytes x) ≡ size) (Spells : List ℕ → Type 0) (spell : (x : D) → Spells (bytes x)) where
   -- bytes that begin with digests and are refused with another error than `OutOfMemory` are refused after them

@@ -24,6 +24,8 @@ pub mod DigestLaws
 pub mod ConfigBytes
 pub mod ConfigLaws
 pub mod Restored
+pub mod MemBytes
+pub mod MemLaws
 pub use Rattle.merkle_sha256.specs.Together
 pub use Rattle.merkle_sha256.specs.PlainHashings
 pub use Rattle.merkle_topology.specs.BeltIterators
@@ -60,6 +62,7 @@ pub use Rattle.merkle_batch_theory.specs.Components
 pub use Rattle.merkle_batch_theory.specs.Changes
 pub use Rattle.merkle_batch_theory.specs.Contents
 pub use Rattle.merkle_batch_theory.specs.ForLists
+pub use Rattle.merkle_batch_theory.specs.HeldPeaks
 pub use Rattle.merkle_batch_theory.specs.History
 pub use Rattle.merkle_batch_theory.specs.MemModel
 pub use Rattle.merkle_batch_theory.specs.Missing

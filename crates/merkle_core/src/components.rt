@@ -7,6 +7,8 @@ ghost use Rattle.merkle_batch_theory.specs.Components.{made_of, RefusesTooLarge,
 ghost use Rattle.merkle_batch_theory.specs.HeldPeaks.{held_at};
 ghost use Rattle.merkle_batch_theory.specs.MemModel.{contents};
 ghost use Rattle.std.specs.List.{range_with_len};
+ghost use Rattle.merkle_core.specs.ConfigBytes.{config_spelling};
+ghost use Rattle.merkle_core.specs.MemBytes.{mem_spelling};
 
 use crate::mem::Mem;
 use merkle_base::error::Error;
@@ -114,6 +116,9 @@ impl<F: Family, D: Digest> Mem<F, D> {
         ensures boundary { IfOk result (λ c. c.pruning_boundary ≡ self.now.boundary) }
         ensures made { IfOk result (λ c. self.now ≡ made_of F.rule c.pruning_boundary self.now.leaves c.pinned_nodes.items c.nodes.items) }
         ensures pinned { IfOk result (λ c. length c.pinned_nodes.items ≡ length (peak_positions F.rule self.now.boundary)) }
+
+        // The bytes of the two are the same.
+        ensures spelled { IfOk result (λ c. config_spelling D.bytes c ≡ mem_spelling F.rule D.bytes self.now) }
     {
         Ok(Config {
             nodes: self.nodes()?,

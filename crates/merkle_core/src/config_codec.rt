@@ -2,7 +2,7 @@
 ghost use Rattle.std.specs.Prelude.{◌≡◌, ◌+◌, ◌^◌, ◌<◌, ◌≤◌, ◌++◌, ℕ, List, IfOk, IfErr, OnOk, OnErr, length, vec_len, vec_capacity};
 ghost use Rattle.std.specs.Option.{SomeIff};
 ghost use Rattle.merkle_codec.specs.NumberLaws.{lawful_locations};
-ghost use Rattle.merkle_core.specs.ConfigBytes.{counted_spelling, config_spelling, SameConfig, IsReadableConfig, IsConfigRefusal};
+ghost use Rattle.merkle_core.specs.ConfigBytes.{counted_spelling, counted_length, components_length, config_spelling, SameConfig, IsReadableConfig, IsConfigRefusal};
 ghost use Rattle.merkle_core.specs.ConfigLaws.{config_spelling_once, IsConfigRefusal_of_spelling, IsConfigRefusal_once};
 
 use crate::components::Config;
@@ -25,31 +25,54 @@ pub struct ConfigLimits {
     pub nodes: usize,
 }
 
-// Returns the number of bytes of counted digests.
-fn counted_size<D: Digest>(digests: &[D]) -> usize
-    requires { length (counted_spelling D.bytes digests.now) < 2 ^ 64 }
-    ensures { result ≡ length (counted_spelling D.bytes digests.now) }
+// Returns the number of bytes of `count` counted digests.
+fn counted_size<D: Digest>(count: usize) -> usize
+    requires { counted_length D.SIZE count < 2 ^ 64 }
+    ensures { result ≡ counted_length D.SIZE count }
 {
-    let count = digests.len();
     number_size(count as u64) + count * D::SIZE
 }
 
-// Returns the number of bytes of counted digests, or `None` if it does not fit a `usize`.
-fn checked_counted_size<D: Digest>(digests: &[D]) -> Option<usize>
-    ensures { SomeIff result (length (counted_spelling D.bytes digests.now) < 2 ^ 64) (length (counted_spelling D.bytes digests.now)) }
+// Returns the number of bytes of `count` counted digests, or `None` if it does not fit a `usize`.
+fn checked_counted_size<D: Digest>(count: usize) -> Option<usize>
+    ensures { SomeIff result (counted_length D.SIZE count < 2 ^ 64) (counted_length D.SIZE count) }
 {
-    let bytes = digests.len().checked_mul(D::SIZE)?;
-    bytes.checked_add(number_size(digests.len() as u64))
+    let bytes = count.checked_mul(D::SIZE)?;
+    bytes.checked_add(number_size(count as u64))
+}
+
+// Returns the number of bytes of the components of a structure: of its boundary, of `pins` pinned
+// digests and of `nodes` nodes.
+pub(crate) fn components_size<D: Digest>(boundary: u64, pins: usize, nodes: usize) -> usize
+    requires { components_length D.SIZE boundary pins nodes < 2 ^ 64 }
+    ensures { result ≡ components_length D.SIZE boundary pins nodes }
+{
+    number_size(boundary) + counted_size::<D>(pins) + counted_size::<D>(nodes)
+}
+
+// Returns that number, or `None` if it does not fit a `usize`.
+pub(crate) fn checked_components_size<D: Digest>(
+    boundary: u64,
+    pins: usize,
+    nodes: usize,
+) -> Option<usize>
+    ensures { let n = components_length D.SIZE boundary pins nodes in SomeIff result (n < 2 ^ 64) n }
+{
+    let pins = checked_counted_size::<D>(pins)?;
+    let nodes = checked_counted_size::<D>(nodes)?;
+    let digests = pins.checked_add(nodes)?;
+    digests.checked_add(number_size(boundary))
 }
 
 // Returns the number of bytes of a configuration's encoding, or `None` if it does not fit a `usize`.
 fn checked_size<F: Family, D: Digest>(config: &Config<F, D>) -> Option<usize>
     ensures { SomeIff result (length (config_spelling D.bytes config.now) < 2 ^ 64) (length (config_spelling D.bytes config.now)) }
 {
-    let pins = checked_counted_size(&config.pinned_nodes)?;
-    let nodes = checked_counted_size(&config.nodes)?;
-    let digests = pins.checked_add(nodes)?;
-    digests.checked_add(number_size(config.pruning_boundary.as_u64()))
+    checked_components_size::<D>(
+        config.pruning_boundary.as_u64(),
+        config.pinned_nodes.len(),
+        config.nodes.len(),
+    )
 }
 
 // Appends the number of `digests`, and their bytes.
@@ -102,9 +125,11 @@ impl<F: Family, D: Digest> EncodeSize for Config<F, D> {
     ghost same = { SameConfig };
 
     fn encode_size(&self) -> usize {
-        number_size(self.pruning_boundary.as_u64())
-            + counted_size(&self.pinned_nodes)
-            + counted_size(&self.nodes)
+        components_size::<D>(
+            self.pruning_boundary.as_u64(),
+            self.pinned_nodes.len(),
+            self.nodes.len(),
+        )
     }
 
     ghost one_spelling = { λ c d r s e. config_spelling_once D.bytes D.SIZE (λ x. D.one_length (D.bytes x) (D.bytes_spell x)) D.bytes_decide c d r s e };

@@ -15,6 +15,7 @@ pub mod hasher;
 mod held_leaves;
 pub mod laws;
 pub mod mem;
+mod mem_codec;
 pub mod mmb;
 pub mod mmr;
 mod prune;

@@ -1,9 +1,9 @@
 //! Calls that encode and decode.
 
-use crate::values::{digest, digests, proof};
-use crate::writing;
+use crate::values::{config, digest, proof};
+use crate::writing::{self, write_encoding};
 use merkle_commands::hex_words::{HexError, read_hex, write_hex};
-use merkle_core::codec::{Read, Write};
+use merkle_core::codec::Read;
 use merkle_core::digest::Digest;
 use merkle_core::error::DecodeError;
 use merkle_core::family::Family;
@@ -12,14 +12,8 @@ use merkle_core::mem::{Config, ConfigLimits};
 use merkle_core::position::Position;
 use merkle_core::proof::Proof;
 use rows_text::answer::Answer;
-use rows_text::refusal::{OUT_OF_MEMORY, Refusal, SYNTAX};
+use rows_text::refusal::{CHANGED, OUT_OF_MEMORY, Refusal, SYNTAX};
 use rows_text::words::Words;
-
-// What stands in a vector before an encoding is appended.
-const BEFORE: u8 = 0x77;
-
-// What a refused call answers that has changed what it was to leave as it is.
-const CHANGED: Refusal = Refusal::Plain("changed");
 
 // What is written for bytes that are not decoded.
 fn undecoded(error: &DecodeError) -> Refusal {
@@ -32,21 +26,6 @@ fn undecoded(error: &DecodeError) -> Refusal {
     }
 }
 
-// Appends the encoding of a value to a vector of one byte, which has no room for it, and writes all its bytes.
-fn append<V: Write>(words: &Words, value: &V, answer: &mut Answer) -> Result<(), Refusal> {
-    let mut bytes = Vec::with_capacity(words.alloc(), 1)?;
-    bytes.push(BEFORE)?;
-    let result = value.write(&mut bytes);
-    match (result, bytes.as_slice()) {
-        (Ok(()), _) => {
-            answer.bytes(&bytes);
-            Ok(())
-        }
-        (Err(_), [BEFORE]) => Err(OUT_OF_MEMORY),
-        (Err(_), _) => Err(CHANGED),
-    }
-}
-
 /// A proof's encoding, appended to the byte 77.
 pub fn write_proof<F: Family, D: Digest>(
     words: &mut Words,
@@ -54,28 +33,28 @@ pub fn write_proof<F: Family, D: Digest>(
 ) -> Result<(), Refusal> {
     let proof: Proof<F, D> = proof(words);
     words.end()?;
-    append(words, &proof, answer)
+    write_encoding(words.alloc(), &proof, answer)
 }
 
 /// A position's encoding, appended to the byte 77.
 pub fn write_position<F: Family>(words: &mut Words, answer: &mut Answer) -> Result<(), Refusal> {
     let position = Position::<F>::new(words.number());
     words.end()?;
-    append(words, &position, answer)
+    write_encoding(words.alloc(), &position, answer)
 }
 
 /// A location's encoding, appended to the byte 77.
 pub fn write_location<F: Family>(words: &mut Words, answer: &mut Answer) -> Result<(), Refusal> {
     let location = Location::<F>::new(words.number());
     words.end()?;
-    append(words, &location, answer)
+    write_encoding(words.alloc(), &location, answer)
 }
 
 /// The encoding of a pending chunk's digest, appended to the byte 77.
 pub fn write_chunk<D: Digest>(words: &mut Words, answer: &mut Answer) -> Result<(), Refusal> {
     let chunk: D = digest(words);
     words.end()?;
-    append(words, &Some(chunk), answer)
+    write_encoding(words.alloc(), &Some(chunk), answer)
 }
 
 // Writes the bytes after an encoding.
@@ -113,16 +92,9 @@ pub fn write_config<F: Family, D: Digest>(
     words: &mut Words,
     answer: &mut Answer,
 ) -> Result<(), Refusal> {
-    let pruning_boundary = Location::new(words.number());
-    let nodes = digests(words);
-    let pinned_nodes = digests(words);
+    let config: Config<F, D> = config(words);
     words.end()?;
-    let config: Config<F, D> = Config {
-        nodes,
-        pruning_boundary,
-        pinned_nodes,
-    };
-    append(words, &config, answer)
+    write_encoding(words.alloc(), &config, answer)
 }
 
 /// The components within two limits that bytes begin with, and the bytes after them.

@@ -2,6 +2,7 @@
 
 use merkle_core::error::{Error, ReconstructionError};
 use merkle_core::family::Family;
+use merkle_core::restore::RestoreError;
 use rows_text::refusal::{OUT_OF_MEMORY, Refusal};
 
 /// What is written for an error of a structure.
@@ -40,6 +41,24 @@ pub fn refused<F: Family>(error: &Error<F>) -> Refusal {
         Error::MissingNode(position) => Refusal::Of("MissingNode", position.as_u64()),
         Error::OutOfMemory => OUT_OF_MEMORY,
         _ => Refusal::Plain("other"),
+    }
+}
+
+/// What is written for components of which no structure is restored.
+pub fn unrestored<F: Family>(error: &RestoreError<F>) -> Refusal {
+    match error {
+        RestoreError::LocationOverflow(location) => {
+            Refusal::Of("LocationOverflow", location.as_u64())
+        }
+        RestoreError::InvalidSize(size) => Refusal::Of("InvalidSize", *size),
+        RestoreError::InvalidPinnedNodes => Refusal::Plain("InvalidPinnedNodes"),
+        RestoreError::InvalidInactivePeaks { requested, peaks } => Refusal::InactivePeaks {
+            requested: *requested,
+            peaks: *peaks,
+        },
+        RestoreError::DamagedNode(position) => Refusal::Of("DamagedNode", position.as_u64()),
+        RestoreError::RootMismatch => Refusal::Plain("RootMismatch"),
+        RestoreError::OutOfMemory => OUT_OF_MEMORY,
     }
 }
 

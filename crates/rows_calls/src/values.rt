@@ -3,6 +3,7 @@
 use merkle_core::digest::Digest;
 use merkle_core::family::Family;
 use merkle_core::location::Location;
+use merkle_core::mem::Config;
 use merkle_core::position::Position;
 use merkle_core::proof::Proof;
 use rows_text::words::Words;
@@ -78,6 +79,18 @@ pub fn range<F: Family>(words: &mut Words) -> Range<Location<F>> {
     let start = Location::new(words.number());
     let end = Location::new(words.number());
     start..end
+}
+
+/// The components of a structure that the next three words spell: its boundary, the nodes and the pins.
+pub fn config<F: Family, D: Digest>(words: &mut Words) -> Config<F, D> {
+    let pruning_boundary = Location::new(words.number());
+    let nodes = digests(words);
+    let pinned_nodes = digests(words);
+    Config {
+        nodes,
+        pruning_boundary,
+        pinned_nodes,
+    }
 }
 
 /// The proof that the next three words spell.

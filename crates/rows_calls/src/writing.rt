@@ -1,6 +1,7 @@
 //! Values as text.
 
 use crate::refusal::refused;
+use merkle_core::codec::Write;
 use merkle_core::digest::Digest;
 use merkle_core::error::Error;
 use merkle_core::family::Family;
@@ -9,10 +10,33 @@ use merkle_core::position::Position;
 use merkle_core::proof::Proof;
 use merkle_core::read::Readable;
 use rows_text::answer::Answer;
-use rows_text::refusal::Refusal;
+use rows_text::refusal::{CHANGED, OUT_OF_MEMORY, Refusal};
+use std::alloc::Global;
 
 /// The greatest number of nodes that is written.
 const SHOWN: u64 = 256;
+
+// What stands in a vector before an encoding is appended.
+const BEFORE: u8 = 0x77;
+
+/// Appends the encoding of a value to a vector of one byte, which has no room for it, and writes all its bytes.
+pub fn write_encoding<V: Write>(
+    alloc: Global,
+    value: &V,
+    answer: &mut Answer,
+) -> Result<(), Refusal> {
+    let mut bytes = Vec::with_capacity(alloc, 1)?;
+    bytes.push(BEFORE)?;
+    let result = value.write(&mut bytes);
+    match (result, bytes.as_slice()) {
+        (Ok(()), _) => {
+            answer.bytes(&bytes);
+            Ok(())
+        }
+        (Err(_), [BEFORE]) => Err(OUT_OF_MEMORY),
+        (Err(_), _) => Err(CHANGED),
+    }
+}
 
 /// Writes digests as one word.
 pub fn write_digests<D: Digest>(answer: &mut Answer, digests: &[D]) {

@@ -28,7 +28,9 @@ pub fn answer_structure<F: Family, H: Hasher<F> + Drop>(
         StructureCall::Peaks => structures::peaks(world, name, answer),
         StructureCall::Prune => structures::prune(world, name, words),
         StructureCall::PruneAll => structures::prune_all(world, name),
+        StructureCall::Restore => structures::restore(world, name, words),
         StructureCall::Same => structures::same(world, name, words.word(), answer),
+        StructureCall::WriteMem => structures::write_mem(world, name, answer),
     }
 }
 

@@ -4,12 +4,12 @@ use merkle_core::digest::Digest;
 use merkle_core::family::Family;
 use merkle_core::hasher::Hasher;
 use merkle_core::location::Location;
-use merkle_core::mem::{Config, Mem};
+use merkle_core::mem::Mem;
 use merkle_core::position::Position;
-use rows_calls::refusal::{granted, refused};
-use rows_calls::values::digests;
+use rows_calls::refusal::{granted, refused, unrestored};
+use rows_calls::values::{config, digest, digests};
 use rows_calls::world::World;
-use rows_calls::writing::{write_config, write_peaks};
+use rows_calls::writing::{write_config, write_encoding, write_peaks};
 use rows_text::answer::Answer;
 use rows_text::refusal::{Refusal, UNKNOWN};
 use rows_text::words::{Words, give_name, named};
@@ -43,15 +43,9 @@ pub fn parts<F: Family, H: Hasher<F> + Drop>(
     name: &str,
     words: &mut Words,
 ) -> Result<(), Refusal> {
-    let pruning_boundary = Location::new(words.number());
-    let nodes = digests(words);
-    let pinned_nodes = digests(words);
+    let config = config(words);
     words.end()?;
-    let structure = granted(Mem::init(Config {
-        nodes,
-        pruning_boundary,
-        pinned_nodes,
-    }))?;
+    let structure = granted(Mem::init(config))?;
     give_name(world.alloc, &mut world.structures, name, structure)
 }
 
@@ -67,6 +61,31 @@ pub fn from_components<F: Family, H: Hasher<F> + Drop>(
     words.end()?;
     let structure = granted(Mem::from_components(nodes, boundary, pins))?;
     give_name(world.alloc, &mut world.structures, name, structure)
+}
+
+/// The structure with a pruning boundary, nodes and pins, if none is damaged and they have the root for a number of inactive peaks.
+pub fn restore<F: Family, H: Hasher<F> + Drop>(
+    world: &mut World<F, H>,
+    name: &str,
+    words: &mut Words,
+) -> Result<(), Refusal> {
+    let config = config(words);
+    let inactive = words.count();
+    let root = digest(words);
+    words.end()?;
+    match Mem::restore(config, &world.hasher, inactive, &root) {
+        Ok(structure) => give_name(world.alloc, &mut world.structures, name, structure),
+        Err(error) => Err(unrestored(&error)),
+    }
+}
+
+/// The encoding of a structure, appended to the byte 77.
+pub fn write_mem<F: Family, H: Hasher<F> + Drop>(
+    world: &World<F, H>,
+    name: &str,
+    answer: &mut Answer,
+) -> Result<(), Refusal> {
+    write_encoding(world.alloc, named(&world.structures, name)?, answer)
 }
 
 /// The components of a structure.

@@ -94,7 +94,9 @@ pub enum StructureCall {
     Peaks,
     Prune,
     PruneAll,
+    Restore,
     Same,
+    WriteMem,
 }
 
 /// The calls of the nodes and roots of structures and batches.
@@ -195,7 +197,7 @@ pub enum AuditCall {
 }
 
 /// Each call, with its first word and the number of its words.
-const CALLS: [(&str, usize, Call); 111] = [
+const CALLS: [(&str, usize, Call); 113] = [
     ("height", 2, Call::Family(FamilyCall::Height)),
     ("inactive", 3, Call::Family(FamilyCall::Inactive)),
     ("is_inactive", 4, Call::Family(FamilyCall::IsInactive)),
@@ -269,7 +271,9 @@ const CALLS: [(&str, usize, Call); 111] = [
     ("peaks", 2, Call::Structure(StructureCall::Peaks)),
     ("prune", 3, Call::Structure(StructureCall::Prune)),
     ("prune_all", 2, Call::Structure(StructureCall::PruneAll)),
+    ("restore", 7, Call::Structure(StructureCall::Restore)),
     ("same", 3, Call::Structure(StructureCall::Same)),
+    ("write_mem", 2, Call::Structure(StructureCall::WriteMem)),
     ("held_leaves", 2, Call::Node(NodeCall::HeldLeaves)),
     ("leaves", 2, Call::Node(NodeCall::Leaves)),
     ("node", 3, Call::Node(NodeCall::Node)),

@@ -32,6 +32,9 @@ pub const UNKNOWN: Refusal = Refusal::Plain("unknown");
 /// A request for memory was refused.
 pub const OUT_OF_MEMORY: Refusal = Refusal::Plain("OutOfMemory");
 
+/// A refused call has changed what it was to leave as it is.
+pub const CHANGED: Refusal = Refusal::Plain("changed");
+
 impl fmt::Display for Refusal {
     fn fmt<W: fmt::Write>(&self, f: &mut fmt::Formatter<W>) -> fmt::Result {
         match self {

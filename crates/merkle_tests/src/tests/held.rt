@@ -1,4 +1,4 @@
-//! The digests of the leaves that a structure holds, and its components as bytes, at the leaves with the element 08.
+//! The digests of the leaves that a structure holds, and its components and itself as bytes, at the leaves with the element 08.
 
 use super::{digest, repeated, structure_of};
 use merkle_core::codec::{EncodeSize, Read, Write};
@@ -7,7 +7,7 @@ use merkle_core::error::DecodeError;
 use merkle_core::family::{Bagging, Family};
 use merkle_core::hasher::Standard;
 use merkle_core::location::Location;
-use merkle_core::mem::{Config, ConfigLimits};
+use merkle_core::mem::{Config, ConfigLimits, Mem};
 use merkle_core::{mmb, mmr};
 use std::alloc::Global;
 use std::process::Abort;
@@ -90,4 +90,20 @@ fn components_as_bytes(rt: HostRuntime) {
     let mut overlong: &[u8] = &[2, 1, 3, 128, 0];
     let refused = read(rt.alloc(), &mut overlong, 5);
     assert!(rt; matches!(refused, Err(DecodeError::InvalidVarint)) && overlong.len() == 5);
+}
+
+/// The bytes of the structure with these components; `None` where a call is refused, or if they are not as many as it says.
+fn written(alloc: Global, config: Config<mmr::Family, Xor8Digest>) -> Option<Vec<u8>> {
+    let Ok(structure) = Mem::init(config) else {
+        return None;
+    };
+    let mut out = Vec::new(alloc);
+    let is_whole = structure.write(&mut out).is_ok() && structure.encode_size() == out.len();
+    is_whole.then_some(out)
+}
+
+#[test]
+fn structure_as_bytes(rt: HostRuntime) {
+    let out = written(rt.alloc(), components(&rt)).expect(&rt, "memory");
+    assert!(rt; out.as_slice() == [2, 1, 3, 5, 11, 12, 2, 7, 15].as_slice());
 }

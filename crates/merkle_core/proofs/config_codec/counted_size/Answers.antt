@@ -1,26 +1,17 @@
-use Rattle.std.proofs.Common.{arith, length, refl}
-use Rattle.merkle_core.proofs.ConfigSizes.{counted_sum}
+use Rattle.std.proofs.Common.{◌≡◌, ◌*◌, arith, ap}
 use Rattle.merkle_core.proofs.config_codec.counted_size.Goals as goal
 
 pub overflow_mul-result : goal.overflow_mul-result
 overflow_mul-result g c =
-    let D = g.met.D.Digest in
-    let bytes = g.D.Digest.bytes in
-    let ds = c.args.digests.now in
-    let sum = counted_sum bytes g.D.Digest.SIZE (λ x. D.one_length (bytes x) (D.bytes_spell x)) ds c.number_size.result (length ds) c.SIZE.result c.number_size.ensures.size refl c.SIZE.ensures in
-    omega (arith, sum, c.requires)
+    let product : c.args.count * c.SIZE.result ≡ c.args.count * g.D.Digest.SIZE = ap (λ s. c.args.count * s) c.SIZE.ensures in
+    omega (arith, product, c.requires)
 
 pub overflow_add-result : goal.overflow_add-result
 overflow_add-result g c =
-    let D = g.met.D.Digest in
-    let bytes = g.D.Digest.bytes in
-    let ds = c.args.digests.now in
-    let sum = counted_sum bytes g.D.Digest.SIZE (λ x. D.one_length (bytes x) (D.bytes_spell x)) ds c.number_size.result (length ds) c.SIZE.result c.number_size.ensures.size refl c.SIZE.ensures in
-    omega (arith, sum, c.requires)
+    let product : c.args.count * c.SIZE.result ≡ c.args.count * g.D.Digest.SIZE = ap (λ s. c.args.count * s) c.SIZE.ensures in
+    omega (arith, product, c.number_size.ensures.size, c.requires)
 
 pub returns : goal.returns
 returns g c =
-    let D = g.met.D.Digest in
-    let bytes = g.D.Digest.bytes in
-    let ds = c.args.digests.now in
-    counted_sum bytes g.D.Digest.SIZE (λ x. D.one_length (bytes x) (D.bytes_spell x)) ds c.number_size.result (length ds) c.SIZE.result c.number_size.ensures.size refl c.SIZE.ensures
+    let product : c.args.count * c.SIZE.result ≡ c.args.count * g.D.Digest.SIZE = ap (λ s. c.args.count * s) c.SIZE.ensures in
+    omega (arith, product, c.number_size.ensures.size)

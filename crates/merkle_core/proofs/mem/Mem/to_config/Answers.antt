@@ -5,6 +5,7 @@ use Rattle.merkle_batch_theory.specs.Components.{made_of}
 use Rattle.merkle_batch_theory.specs.Contents.{HoldsKept}
 use Rattle.merkle_batch_theory.specs.MemModel.{MemModel, contents}
 use Rattle.merkle_restore_theory.proofs.CopiedComponents.{made_again, pins_many}
+use Rattle.merkle_core.specs.ConfigBytes.{components_spelling}
 use Rattle.merkle_core.proofs.mem.Mem.to_config.Goals as goal
 
 pub returns-clause-made : goal.returns-clause-made
@@ -27,3 +28,8 @@ returns-clause-pinned g c =
     let starts : size rule i.boundary ≤ i.held.size = omega (arith, size_le rule i.boundary i.leaves c.self.invariant.within, c.self.invariant.counted.sized) in
     let within : size rule s.boundary ≤ s.size = subst (λ (m : MemModel _). size rule m.boundary ≤ m.size) c.self.view_is starts in
     ap length c.in_ok-pinned_nodes.ensures ∙ pins_many rule (contents s) kept within
+
+pub returns-clause-spelled : goal.returns-clause-spelled
+returns-clause-spelled g c =
+    let boundary = ap (λ (m : MemModel _). m.boundary) c.self.view_is in
+    λ j. components_spelling g.D.Digest.bytes (boundary j) (c.in_ok-pinned_nodes.ensures j) (c.in_ok-nodes.ensures j)
