@@ -32,8 +32,8 @@ impl Work {
         }
     }
 
-    /// The number of digests of merged nodes that were computed. `merkleize_counted` of a batch sets
-    /// it.
+    /// The number of digests of merged nodes that were computed. `merkleize_counted` of a batch and
+    /// `first_damaged_counted` of a structure set it.
     pub fn node_digests(&self) -> u64
         ensures { result ≡ self.now.node_digests }
     {

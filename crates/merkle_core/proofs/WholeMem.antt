@@ -1,5 +1,5 @@
 -- What follows for a structure from the nodes that it holds.
-use Rattle.std.proofs.Common.{◌≡◌, ℕ, ◌≤◌, List, length, Option, Some, None, sym, subst, MatchOption}
+use Rattle.std.proofs.Common.{◌≡◌, ℕ, ◌≤◌, List, length, Option, Some, None, sym, subst}
 use Rattle.std.specs.Option.{IfNone}
 use Rattle.merkle_base.specs.Forest.{size}
 use Rattle.merkle_base.specs.Hashing.{Hashing}
@@ -7,7 +7,7 @@ use Rattle.merkle_base.specs.Places.{peaks_of}
 use Rattle.merkle_base.specs.Scheme.{Scheme, scheme_of}
 use Rattle.merkle_base.specs.declared.family.Bagging.{Bagging}
 use Rattle.merkle_root_theory.specs.Range.{IsLawfulScheme}
-use Rattle.merkle_batch_theory.specs.Contents.{Contents, HoldsKept}
+use Rattle.merkle_batch_theory.specs.Contents.{HoldsKept}
 use Rattle.merkle_batch_theory.specs.Held.{Held}
 use Rattle.merkle_batch_theory.specs.MemModel.{MemModel, contents}
 use Rattle.merkle_batch_theory.specs.MemValid.{IsMemValid}

@@ -8,7 +8,7 @@ use Rattle.merkle_base.specs.declared.family.Bagging.{Bagging}
 use Rattle.merkle_base.proofs.Nodes.{all_append}
 use Rattle.merkle_root_theory.specs.Outside.{folded_prefix, single_before, single_after, folded_suffix}
 use Rattle.merkle_root_theory.specs.Range.{overlapping, wholly_after, range_siblings}
-use Rattle.merkle_proof.specs.RangePlans.{LeafRange, IsAnsweredProof, IsLaidOut, IsPlan}
+use Rattle.merkle_proof.specs.RangePlans.{IsAnsweredProof, IsLaidOut, IsPlan}
 use Rattle.merkle_root_theory.specs.Reads.{nodes_read, reading_order}
 use Rattle.merkle_root_theory.proofs.BuiltLayouts.{map-append_four, folded_prefix_rest, single_after_rest}
 use Rattle.merkle_root_theory.proofs.PeakGroups.{length-peaks_of}

@@ -1,5 +1,5 @@
 -- What follows for a check's answer from what it accepts.
-use Rattle.std.proofs.Common.{◌≡◌, ◌↔◌, ℕ, Bool, List, IsTrue, IfOk, Result, inl, inr, ⊎_elim, sym, subst, ◌∙◌}
+use Rattle.std.proofs.Common.{◌↔◌, ℕ, Bool, List, IsTrue, IfOk, Result, inl, inr, ⊎_elim, sym, subst, ◌∙◌}
 use Rattle.merkle_base.specs.Scheme.{Scheme}
 use Rattle.merkle_root_theory.specs.Check.{RangeInput}
 use Rattle.merkle_root_theory.specs.Range.{Accepts, IsLawfulScheme}

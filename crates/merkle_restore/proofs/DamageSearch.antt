@@ -1,5 +1,5 @@
 -- The first wrong one of the parents is the first damaged node.
-use Rattle.std.proofs.Common.{◌≡◌, ◌≢◌, ℕ, zero, suc, ◌+◌, ◌-◌, ◌<◌, ◌≤◌, List, [], ◌∷◌, ◌++◌, length, drop, Bool, true, false, cond, not, Decides, Option, Some, None, slice_get, arith, refl, sym, ap, ap₂, ◌∙◌, subst, flat_map}
+use Rattle.std.proofs.Common.{◌≡◌, ◌≢◌, ℕ, zero, suc, ◌+◌, ◌-◌, ◌<◌, List, [], ◌∷◌, ◌++◌, drop, Bool, true, false, cond, not, Decides, Option, Some, None, slice_get, arith, refl, sym, ap, ap₂, ◌∙◌, subst, flat_map}
 use Rattle.std.proofs.lemmas.Bool.{false≢true}
 use Rattle.merkle_base.specs.Tree.{Tree, leaf, join, position}
 use Rattle.merkle_base.specs.Forest.{forest, size}

@@ -1,5 +1,5 @@
 -- Four nodes that are hashed together.
-use Rattle.std.proofs.Common.{◌≡◌, ℕ, List, [], ◌∷◌, Bool, true, false, Option, Some, None, map, get_or, refl, sym, ap, ap₂, ◌∙◌, subst}
+use Rattle.std.proofs.Common.{◌≡◌, ℕ, List, [], ◌∷◌, Bool, true, false, Option, Some, None, map, get_or, refl, sym, ap, ap₂, ◌∙◌}
 use Rattle.merkle_base.specs.Hashing.{Hashing}
 use Rattle.merkle_restore.specs.HeldParents.{is_other, first_wrong}
 use Rattle.merkle_restore.proofs.FirstWrong.{is_wrong, not_wrong}

@@ -1,5 +1,5 @@
 -- What a hasher's functions keep, from the laws of its digests.
-use Rattle.std.proofs.Common.{◌≡◌, ◌↔◌, ℕ, List, Bool, IsTrue, Decides, Option, sym, ap, ◌∙◌, subst}
+use Rattle.std.proofs.Common.{◌≡◌, ◌↔◌, ℕ, List, Bool, IsTrue, Decides, Option, sym, ap, subst}
 use Rattle.merkle_base.specs.Hashing.{Hashing, IsOver, EqDecides}
 use Rattle.merkle_restore.specs.HeldParents.{is_other}
 

@@ -1,6 +1,5 @@
 -- The parents that are held with their children, from one position to the next.
-use Rattle.std.proofs.Common.{◌≡◌, ℕ, zero, suc, ◌+◌, ◌<◌, ◌≤◌, List, [], ◌∷◌, ◌++◌, length, drop, Option, Some, None, slice_get, arith, refl, sym, ap, ◌∙◌, subst, flat_map}
-use Rattle.std.specs.Option.{option_to_list}
+use Rattle.std.proofs.Common.{◌≡◌, ℕ, zero, suc, ◌+◌, ◌<◌, ◌≤◌, List, [], ◌∷◌, ◌++◌, drop, Option, Some, None, slice_get, arith, refl, sym, ap, ◌∙◌, subst, flat_map}
 use Rattle.std.proofs.Math.ListN.{drop_of_length-le}
 use Rattle.merkle_base.specs.Tree.{Tree, leaf, join, position, height}
 use Rattle.merkle_base.specs.Forest.{forest, size}

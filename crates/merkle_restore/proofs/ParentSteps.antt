@@ -1,12 +1,11 @@
 -- One parent further, and one leaf further.
-use Rattle.std.proofs.Common.{◌≡◌, ℕ, suc, ◌+◌, ◌<◌, ◌≤◌, List, [], ◌∷◌, ◌++◌, length, length-append, Option, Some, None, slice_get, arith, refl, sym, ap, ◌∙◌, subst}
+use Rattle.std.proofs.Common.{◌≡◌, ℕ, suc, ◌+◌, ◌<◌, List, ◌∷◌, ◌++◌, Option, Some, None, slice_get, ap, ◌∙◌}
 use Rattle.std.specs.Option.{option_to_list}
 use Rattle.merkle_base.specs.Tree.{Tree}
 use Rattle.merkle_base.specs.Forest.{forest, size}
-use Rattle.merkle_base.specs.Hashing.{Hashing}
 use Rattle.merkle_base.specs.Places.{HasInner}
 use Rattle.merkle_base.proofs.Nodes.{node_anywhere}
-use Rattle.merkle_restore.specs.HeldParents.{first_wrong, parent_of, parents_from, Finds}
+use Rattle.merkle_restore.specs.HeldParents.{parent_of, parents_from}
 use Rattle.merkle_restore.proofs.ParentLists.{parents_there}
 
 -- the parents from a parent's position on, with what is read of it

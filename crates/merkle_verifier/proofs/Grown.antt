@@ -1,9 +1,9 @@
 -- Lists that begin with the leaves behind an older root.
-use Rattle.std.proofs.Common.{◌≡◌, ℕ, ◌+◌, ◌≤◌, List, length, take, arith, rules, refl, sym, ap, ◌∙◌, inl, inr}
+use Rattle.std.proofs.Common.{◌≡◌, ℕ, ◌≤◌, List, length, take, arith, rules, refl, sym, ap, ◌∙◌, inl, inr}
 use Rattle.std.proofs.lemmas.List.{length-map, length-take-le}
 use Rattle.merkle_claim_theory.proofs.RebuiltPins.{pins_give_old_root}
 use Rattle.merkle_root_theory.specs.Check.{RangeInput}
-use Rattle.merkle_claim_theory.specs.Pinned.{honest_pins, AcceptsPinned, IsHonestPinned, PinnedCollides}
+use Rattle.merkle_claim_theory.specs.Pinned.{AcceptsPinned, IsHonestPinned, PinnedCollides}
 use Rattle.merkle_base.specs.Places.{peaks_of}
 use Rattle.merkle_base.specs.Scheme.{Scheme}
 use Rattle.merkle_claim_theory.specs.CheckAnswers.{GivesRoot}

@@ -1,5 +1,5 @@
 -- Bytes that are read as a proof, or refused.
-use Rattle.std.proofs.Common.{Bool, true, false, ◌≡◌, ◌≢◌, ◌⊎◌, ℕ, suc, ◌+◌, ◌*◌, ◌-◌, ◌^◌, ◌<◌, ◌≤◌, List, [], ◌∷◌, ◌++◌, length, take, drop, arith, rules, refl, sym, ap, subst, ◌∙◌, inl, inr, append-nil, length-append}
+use Rattle.std.proofs.Common.{Bool, true, false, ◌≡◌, ◌≢◌, ◌⊎◌, ℕ, suc, ◌+◌, ◌*◌, ◌-◌, ◌^◌, ◌<◌, ◌≤◌, List, [], ◌∷◌, ◌++◌, length, take, drop, arith, rules, refl, sym, ap, ◌∙◌, inl, inr, append-nil, length-append}
 use Rattle.std.specs.Prelude.{◌==◌}
 use Rattle.std.proofs.lemmas.List.{length-take-le, length-drop}
 use Rattle.merkle_base.specs.declared.error.DecodeError.{DecodeError}
@@ -10,7 +10,7 @@ use Rattle.merkle_codec.specs.NumberSpelling.{number_spelling, IsRefusalFrom}
 use Rattle.merkle_codec.specs.ProofLaws.{length-digests, parts}
 use Rattle.merkle_codec.specs.ProofSpelling.{parts_spelling, IsDigestsRefusal, IsProofReadRefusal}
 use Rattle.merkle_sha256.specs.declared.sha256.Sha256Digest.{Sha256Digest}
-use Rattle.merkle_verifier.specs.Answers.{malformed, out_of_memory, OfProof}
+use Rattle.merkle_verifier.specs.Answers.{out_of_memory, OfProof}
 use Rattle.merkle_verifier.specs.Inputs.{digest_bytes, joined_digests, IsSpelled}
 use Rattle.merkle_verifier.specs.Unread.{IsRefused, IsUnread, refused_answer}
 use Rattle.merkle_verifier.specs.declared.read.ReadError.{ReadError}

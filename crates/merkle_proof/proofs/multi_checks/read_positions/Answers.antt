@@ -1,4 +1,3 @@
-use Rattle.std.proofs.Common.{◌∙◌, sym}
 use Rattle.merkle_proof.proofs.MultiRefusals.{refused_are_none}
 use Rattle.merkle_proof.proofs.multi_checks.read_positions.Goals as goal
 

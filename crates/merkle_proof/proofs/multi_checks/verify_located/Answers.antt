@@ -1,4 +1,4 @@
-use Rattle.std.proofs.Common.{◌≡◌, ◌<◌, length, false, IsTrue, IsNone, rules, ap, sym, subst, ◌∙◌}
+use Rattle.std.proofs.Common.{◌<◌, length, false, IsTrue, IsNone, rules, ap, sym, subst, ◌∙◌}
 use Rattle.merkle_base.specs.Places.{peaks_of}
 use Rattle.merkle_base.specs.Root.{peaks_root}
 use Rattle.merkle_base.specs.Scheme.{scheme_of}

@@ -1,4 +1,4 @@
-use Rattle.std.proofs.Common.{◌≡◌, ℕ, suc, ◌+◌, ◌∷◌, ◌++◌, length, arith, sym, ap, ◌∙◌, subst}
+use Rattle.std.proofs.Common.{suc, ◌+◌, ◌++◌, length, arith, sym, ap, subst}
 use Rattle.merkle_restore.specs.HeldParents.{first_wrong, parents_from, Finds}
 use Rattle.merkle_restore.proofs.ParentSteps.{none_read, some_read}
 use Rattle.merkle_restore.proofs.damage.compare_parent.Goals as goal

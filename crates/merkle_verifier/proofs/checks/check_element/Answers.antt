@@ -1,8 +1,7 @@
-use Rattle.std.proofs.Common.{[], ◌∷◌, ℕ, List, subst, refl, inl, inr, rules}
+use Rattle.std.proofs.Common.{[], ◌∷◌, subst, refl, inl, inr, rules}
 use Rattle.merkle_codec.specs.NumberLaws.{lawful_locations}
 use Rattle.merkle_range.specs.Input.{range_input}
 use Rattle.merkle_base.specs.Scheme.{scheme_of}
-use Rattle.merkle_sha256.specs.declared.sha256.Sha256Digest.{Sha256Digest}
 use Rattle.merkle_verifier.specs.Answers.{JudgesRange, accepted, rejected}
 use Rattle.merkle_sha256.specs.PlainHashings.{sha256_hashing}
 use Rattle.merkle_verifier.proofs.Spelled.{unread}

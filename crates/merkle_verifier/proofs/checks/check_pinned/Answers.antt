@@ -1,4 +1,4 @@
-use Rattle.std.proofs.Common.{◌≡◌, List, ℕ, sym, ap, subst, refl, inl, inr, rules}
+use Rattle.std.proofs.Common.{◌≡◌, sym, ap, subst, refl, inl, inr, rules}
 use Rattle.std.specs.Prelude.{◌↔◌, IsTrue, IfSome, IsNone}
 use Rattle.merkle_codec.specs.NumberLaws.{lawful_locations}
 use Rattle.merkle_range.specs.Input.{range_input}

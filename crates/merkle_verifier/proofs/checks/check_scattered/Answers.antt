@@ -1,4 +1,4 @@
-use Rattle.std.proofs.Common.{◌≡◌, List, ℕ, length, sym, ap, subst, refl, inl, inr, rules, ◌∙◌}
+use Rattle.std.proofs.Common.{◌≡◌, length, sym, ap, subst, refl, inl, inr, rules, ◌∙◌}
 use Rattle.std.specs.Prelude.{IfSome, IsNone}
 use Rattle.merkle_codec.specs.NumberLaws.{lawful_locations}
 use Rattle.merkle_proof.specs.Input.{element_leaves}
