@@ -20,7 +20,8 @@ use Rattle.merkle_audit_parts.specs.Found.{HaveSamePeaks}
 use Rattle.merkle_audit_parts.specs.Listed.{digest_in, IsOfList}
 use Rattle.merkle_audit_parts.proofs.Lists.{batch_sees}
 
-module _ {D : Type 0} (s : Scheme D) (laws : EqDecides s.hashing) (none : D) (X Z : List D) (b d : MerkleizedModel D) (of : IsOfList s.hashing s.rule b X) (of' : IsOfList s.hashing s.rule d Z) (alike : HaveSamePeaks s.hashing s.rule X Z) where
+module _ {D : Type 0} (s : Scheme D) (laws : EqDecides s.hashing) (none : D) (X Z : List D) (b d : MerkleizedModel D)
+    (of : IsOfList s.hashing s.rule b X) (of' : IsOfList s.hashing s.rule d Z) (alike : HaveSamePeaks s.hashing s.rule X Z) where
   -- what a search says, by what stands at the nodes of the peaks
   abbrev pub SaysOfNodes : Option (Collision D) → Type 0
   SaysOfNodes o = (f g : Place → Option (Input D)) → AllByRecursion (λ t. Sees (children_of (digest_in none b)) f t) (peaks_of s.rule (length Z))

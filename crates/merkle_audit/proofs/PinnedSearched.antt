@@ -62,7 +62,8 @@ module _ {F D P Q : Type 0} (s : Scheme D) (size max_nodes : ℕ) (sound : IsLaw
       (subst (λ l. AllByRecursion (λ u. SeesDown (pinned_pair s.hashing none n) (input_at (pinned_inputs s r pins)) u) (peaks_of s.rule l)) m claim.sees)
       (batch_sees s X k none b of)))
 
-module _ {D : Type 0} (s : Scheme D) (size max_nodes : ℕ) (sound : IsLawfulScheme s size max_nodes) (X : List D) (k : ℕ) (few : length X ≤ s.max_leaves) (low : k ≤ length (peaks_of s.rule (length X))) (r : RangeInput D) (pins : List D) where
+module _ {D : Type 0} (s : Scheme D) (size max_nodes : ℕ) (sound : IsLawfulScheme s size max_nodes) (X : List D) (k : ℕ)
+    (few : length X ≤ s.max_leaves) (low : k ≤ length (peaks_of s.rule (length X))) (r : RangeInput D) (pins : List D) where
   abbrev Leads : Type 0
   Leads = AcceptsPinned s r pins (list_root s X k)
 

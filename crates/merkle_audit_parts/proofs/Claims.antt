@@ -1,5 +1,6 @@
 -- What is hashed for an accepted input, from the digests that its store has.
-use Rattle.std.proofs.Common.{◌≡◌, ◌≢◌, ◌⊎◌, inl, inr, Ok, Bool, true, false, IsTrue, nat_eq, ℕ, suc, pred, ◌<◌, ◌≤◌, ◌+◌, ◌-◌, List, [], ◌∷◌, ◌++◌, map, take, drop, length, length-append, refl, ap, ap₂, sym, ◌∙◌, subst, arith, min, max, zero, Some, None}
+use Rattle.std.proofs.Common.{◌≡◌, ◌≢◌, ◌⊎◌, inl, inr, Ok, Bool, true, false, IsTrue, nat_eq, ℕ, suc, pred, ◌<◌, ◌≤◌, ◌+◌, ◌-◌, List, [], ◌∷◌, ◌++◌, map, take}
+use Rattle.std.proofs.Common.{drop, length, length-append, refl, ap, ap₂, sym, ◌∙◌, subst, arith, min, max, zero, Some, None}
 use Rattle.std.proofs.lemmas.Bool.{eqb-false, false≢true}
 use Rattle.std.proofs.lemmas.List.{length-map, length-take}
 use Rattle.std.specs.Prelude.{not}
@@ -56,11 +57,15 @@ module _ {F D P Q : Type 0} (s : Scheme D) (r : RangeInput D) (root : D) (none :
   before = count_before s.bagging r.inactive (wholly_before r.start (peaks_of s.rule r.leaves))
 
   abbrev after : ℕ
-  after = count_after s.bagging r.inactive (length (wholly_before r.start (peaks_of s.rule r.leaves)) + length (overlapping r.start (end_of r) (peaks_of s.rule r.leaves))) (wholly_after (end_of r) (peaks_of s.rule r.leaves))
+  after = count_after s.bagging r.inactive
+      (length (wholly_before r.start (peaks_of s.rule r.leaves)) + length (overlapping r.start (end_of r) (peaks_of s.rule r.leaves)))
+      (wholly_after (end_of r) (peaks_of s.rule r.leaves))
 
   -- the digests that are folded to the root
   abbrev pub folded_digests : List D
-  folded_digests = take before r.digests ++ (peak_values s.hashing (chosen r) (leaf_given s.hashing r) (overlapping r.start (end_of r) (peaks_of s.rule r.leaves)) (drop (before + after) r.digests) ++ take after (drop before r.digests))
+  folded_digests = take before r.digests
+      ++ (peak_values s.hashing (chosen r) (leaf_given s.hashing r) (overlapping r.start (end_of r) (peaks_of s.rule r.leaves))
+      (drop (before + after) r.digests) ++ take after (drop before r.digests))
 
   pub claim_is : (c : Claim F D P Q) → c.nodes ≡ n → n.start ≡ r.start → n.end ≡ end_of r → (apart number : ℕ) (all : List D)
       → apart ≡ count_inactive s.bagging r.inactive (wholly_before r.start (peaks_of s.rule r.leaves))
@@ -72,10 +77,17 @@ module _ {F D P Q : Type 0} (s : Scheme D) (r : RangeInput D) (root : D) (none :
       → IsClaim none s r c
   claim_is c of first last apart number all apart_is number_is all_is string folds peaks =
       let over = over_inputs s.hashing (chosen r) (leaf_given s.hashing r) (overlapping r.start (end_of r) (peaks_of s.rule r.leaves)) (drop (before + after) r.digests) in
-      let string' : c.top.root.items ≡ root_string s.hashing s.domain s.bagging r.leaves r.inactive (folded s.hashing.fold s.bagging (count_inactive s.bagging r.inactive (wholly_before r.start (peaks_of s.rule r.leaves))) folded_digests) =
+      let string' : c.top.root.items
+      ≡ root_string s.hashing s.domain s.bagging r.leaves r.inactive
+      (folded s.hashing.fold s.bagging (count_inactive s.bagging r.inactive (wholly_before r.start (peaks_of s.rule r.leaves))) folded_digests) =
       string ∙ ap₂ (λ j l. root_string s.hashing s.domain s.bagging r.leaves r.inactive (folded s.hashing.fold s.bagging j l)) apart_is all_is in
-      let folds' : map fold_at c.top.folds.items ≡ numbered_inputs s.hashing s.bagging r.inactive (count_inactive s.bagging r.inactive (wholly_before r.start (peaks_of s.rule r.leaves))) (suc (pred (length (folded_prefix s.bagging r.inactive (wholly_before r.start (peaks_of s.rule r.leaves)))))) folded_digests =
-      folds ∙ ap₂ (λ j m. numbered_inputs s.hashing s.bagging r.inactive j m all) apart_is number_is ∙ ap (λ l. numbered_inputs s.hashing s.bagging r.inactive (count_inactive s.bagging r.inactive (wholly_before r.start (peaks_of s.rule r.leaves))) (suc (pred (length (folded_prefix s.bagging r.inactive (wholly_before r.start (peaks_of s.rule r.leaves)))))) l) all_is in
+      let folds' : map fold_at c.top.folds.items
+      ≡ numbered_inputs s.hashing s.bagging r.inactive (count_inactive s.bagging r.inactive (wholly_before r.start (peaks_of s.rule r.leaves)))
+      (suc (pred (length (folded_prefix s.bagging r.inactive (wholly_before r.start (peaks_of s.rule r.leaves)))))) folded_digests =
+      folds ∙ ap₂ (λ j m. numbered_inputs s.hashing s.bagging r.inactive j m all) apart_is number_is
+      ∙ ap (λ l. numbered_inputs s.hashing s.bagging r.inactive
+      (count_inactive s.bagging r.inactive (wholly_before r.start (peaks_of s.rule r.leaves)))
+      (suc (pred (length (folded_prefix s.bagging r.inactive (wholly_before r.start (peaks_of s.rule r.leaves)))))) l) all_is in
       record {
         nodes = over;
         parts = range_by_peaks s r root ok ∙ sym (ap₂ (λ b fs. record { place = Root; argument = Bytes b } ∷ fs ++ over) string' folds');
@@ -94,8 +106,12 @@ module _ {D : Type 0} (s : Scheme D) (r : RangeInput D) (root : D) (ok : Accepts
     (e1 : folded ≡ length (folded_prefix s.bagging r.inactive (wholly_before r.start (peaks_of s.rule r.leaves))))
     (e2 : alone ≡ length (single_before s.bagging r.inactive (wholly_before r.start (peaks_of s.rule r.leaves))))
     (e3 : count ≡ length (overlapping r.start (end_of r) (peaks_of s.rule r.leaves)))
-    (e4 : single ≡ length (single_after s.bagging r.inactive (length (wholly_before r.start (peaks_of s.rule r.leaves)) + length (overlapping r.start (end_of r) (peaks_of s.rule r.leaves))) (wholly_after (end_of r) (peaks_of s.rule r.leaves))))
-    (e5 : suffix ≡ length (folded_suffix s.bagging r.inactive (length (wholly_before r.start (peaks_of s.rule r.leaves)) + length (overlapping r.start (end_of r) (peaks_of s.rule r.leaves))) (wholly_after (end_of r) (peaks_of s.rule r.leaves)))) where
+    (e4 : single ≡ length (single_after s.bagging r.inactive
+    (length (wholly_before r.start (peaks_of s.rule r.leaves)) + length (overlapping r.start (end_of r) (peaks_of s.rule r.leaves)))
+    (wholly_after (end_of r) (peaks_of s.rule r.leaves))))
+    (e5 : suffix ≡ length (folded_suffix s.bagging r.inactive
+    (length (wholly_before r.start (peaks_of s.rule r.leaves)) + length (overlapping r.start (end_of r) (peaks_of s.rule r.leaves)))
+    (wholly_after (end_of r) (peaks_of s.rule r.leaves)))) where
   abbrev b : List Tree
   b = wholly_before r.start (peaks_of s.rule r.leaves)
 
@@ -257,7 +273,8 @@ unfolding forest
 none_there rule = refl
 
 module _ {F D P Q : Type 0} (s : Scheme D) (none : D) where
-  pub empty_is : (c : Claim F D P Q) → c.top.root.items ≡ root_string s.hashing s.domain s.bagging 0 0 None → map fold_at c.top.folds.items ≡ [] → c.peaks.items ≡ [] → (r : RangeInput D) → IsEmptyInput r → IsClaim none s r c
+  pub empty_is : (c : Claim F D P Q) → c.top.root.items ≡ root_string s.hashing s.domain s.bagging 0 0 None → map fold_at c.top.folds.items ≡ []
+      → c.peaks.items ≡ [] → (r : RangeInput D) → IsEmptyInput r → IsClaim none s r c
   empty_is c string folds peaks r e =
       let no_peaks : peaks_of s.rule r.leaves ≡ [] = ap (λ m. peaks_of s.rule m) e.leaves ∙ none_there s.rule in
       record {

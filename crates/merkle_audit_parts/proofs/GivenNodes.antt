@@ -81,6 +81,7 @@ module _ {F D : Type 0} (f : Tree → D) where
   no_digests subs [] old l e = sym (append-nil old)
   no_digests subs (t ∷ ts) old l e = absurd (omega (arith, l, ap length e))
 
-pub more_digests : {D : Type 0} (f : Tree → D) (ts : List Tree) (t : Tree) (us : List Tree) → ts ≡ t ∷ us → (old mid new : List D) (d : D) → d ≡ f t → mid ≡ old ++ d ∷ [] → new ≡ mid ++ map f us → new ≡ old ++ map f ts
+pub more_digests : {D : Type 0} (f : Tree → D) (ts : List Tree) (t : Tree) (us : List Tree) → ts ≡ t ∷ us → (old mid new : List D) (d : D) → d ≡ f t
+    → mid ≡ old ++ d ∷ [] → new ≡ mid ++ map f us → new ≡ old ++ map f ts
 more_digests f ts t us same old mid new d is pushed step =
     step ∙ ap (λ z. z ++ map f us) (pushed ∙ ap (λ x. old ++ x ∷ []) is) ∙ append_assoc old (f t ∷ []) (map f us) ∙ ap (λ z. old ++ map f z) (sym same)

@@ -1,5 +1,6 @@
 -- The batch of all leaves of a list, over the structure without leaves.
-use Rattle.std.proofs.Common.{◌≡◌, ℕ, ◌-◌, pred, suc, zero, Bool, false, not, cond, ◌&&◌, ◌==◌, nat_lt, le-ltb, List, [], ◌∷◌, ◌++◌, map, take, drop, length, fold, refl, ap, ap₂, sym, ◌∙◌, subst, arith, Some, option_map, slice_get}
+use Rattle.std.proofs.Common.{◌≡◌, ℕ, ◌-◌, pred, suc, zero, Bool, false, not, cond, ◌&&◌, ◌==◌, nat_lt, le-ltb, List, [], ◌∷◌, ◌++◌, map, take, drop, length}
+use Rattle.std.proofs.Common.{fold, refl, ap, ap₂, sym, ◌∙◌, subst, arith, Some, option_map, slice_get}
 use Rattle.std.proofs.lemmas.Option.{slice_get-map}
 use Rattle.std.specs.FinMap.{get, len-empty}
 use Rattle.std.specs.Ordering.{nat_cmp}
@@ -52,7 +53,9 @@ module _ {D : Type 0} (h : Hashing D) (rule : List ℕ → List ℕ) (c : Conten
       agreed : AgreesWithOne h rule c (kept_lists (with_leaves (forked (root_batch rule 0 c)) X) ([] ∷ [] ∷ []))
       agreed = subst (AgreesWithOne h rule c) (sym lists) (0, [], refl, agrees)
 
-      rebased : IsHistory h rule (records b) (kept_lists (with_leaves (forked (root_batch rule 0 c)) X) ([] ∷ [] ∷ []) ++ pending_list rule (with_leaves (forked (root_batch rule 0 c)) X) (last_list {D = D} ([] ∷ [] ∷ [])) ∷ [])
+      rebased : IsHistory h rule (records b)
+          (kept_lists (with_leaves (forked (root_batch rule 0 c)) X) ([] ∷ [] ∷ [])
+          ++ pending_list rule (with_leaves (forked (root_batch rule 0 c)) X) (last_list {D = D} ([] ∷ [] ∷ [])) ∷ [])
           → IsHistory h rule (records b) ([] ∷ X ∷ [])
       rebased = subst (λ ls. IsHistory h rule (records b) (ls ++ X ∷ [])) lists
 
@@ -77,7 +80,8 @@ module _ {D : Type 0} (h : Hashing D) (rule : List ℕ → List ℕ) (X : List D
         at (leaf p i) w = w
         at (join p l r) w = w.0
 
-    digests_are : (F : Type 0) (ts : List Tree) → AllByRecursion (IsBuilt (forest rule (length X)).nodes) ts → map (λ (q : Subtree F). digest_in none b q.position) (map subtree_of ts) ≡ map (digest_at h X) ts
+    digests_are : (F : Type 0) (ts : List Tree) → AllByRecursion (IsBuilt (forest rule (length X)).nodes) ts
+        → map (λ (q : Subtree F). digest_in none b q.position) (map subtree_of ts) ≡ map (digest_at h X) ts
     digests_are F [] w = refl
     digests_are F (t ∷ ts) w = ap₂ (λ x xs. x ∷ xs) (digest_is t w.0) (digests_are F ts w.1)
 

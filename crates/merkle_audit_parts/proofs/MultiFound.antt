@@ -36,7 +36,8 @@ use Rattle.merkle_audit_parts.specs.Listed.{digest_in, IsOfList}
 use Rattle.merkle_audit_parts.proofs.Lists.{batch_sees, numbered_whole}
 
 -- ---- what is given is the input
-module _ {F D : Type 0} (s : Scheme D) (r : MultiInput D) (h : Hashing D) (h_is : h ≡ s.hashing) (given : LeafProof F D) (positions : given.positions.now ≡ multi_positions s.rule r.leaves (locations_in r))
+module _ {F D : Type 0} (s : Scheme D) (r : MultiInput D) (h : Hashing D) (h_is : h ≡ s.hashing) (given : LeafProof F D)
+    (positions : given.positions.now ≡ multi_positions s.rule r.leaves (locations_in r))
     (digests : given.digests.now ≡ r.digests) (locations : given.locations.now ≡ locations_in r) (leaves : given.leaves.now ≡ leaves_in r) where
   abbrev told : List ℕ
   told = multi_positions s.rule r.leaves (locations_in r)
@@ -75,12 +76,14 @@ top_of_peaks s n k all ds t given x y =
     (y ∙ ap (λ es. numbered_inputs s.hashing s.bagging k k 1 es) given ∙ numbered_whole s.hashing s.bagging k ds)
 
 -- ---- the first collision
-module _ {F D : Type 0} (s : Scheme D) (size max_nodes : ℕ) (sound : IsLawfulScheme s size max_nodes) (none : D) (X : List D) (k : ℕ) (few : length X ≤ s.max_leaves) (low : k ≤ length (peaks_of s.rule (length X)))
+module _ {F D : Type 0} (s : Scheme D) (size max_nodes : ℕ) (sound : IsLawfulScheme s size max_nodes) (none : D) (X : List D) (k : ℕ)
+    (few : length X ≤ s.max_leaves) (low : k ≤ length (peaks_of s.rule (length X)))
     (r : MultiInput D) (ok : AcceptsMulti s r (list_root s X k)) (x : Top F D) (claimed_is : top_of x ≡ top_inputs s r.leaves r.inactive (map (multi_digest s r) (peaks_of s.rule r.leaves)))
     (b : MerkleizedModel D) (of : IsOfList s.hashing s.rule b X) (y : Top F D) (listed_is : top_of y ≡ top_inputs s (length X) k (peak_digests s.hashing s.rule X)) where
   -- what a search below the peaks says, by what stands at their nodes
   abbrev pub SaysUnder : Option (Collision D) → Type 0
-  SaysUnder o = (f g : Place → Option (Input D)) → AllByRecursion (λ t. Sees (multi_pair s r) f t) (peaks_of s.rule r.leaves) → AllByRecursion (λ t. Sees (children_of (digest_in none b)) g t) (peaks_of s.rule r.leaves)
+  SaysUnder o = (f g : Place → Option (Input D)) → AllByRecursion (λ t. Sees (multi_pair s r) f t) (peaks_of s.rule r.leaves)
+      → AllByRecursion (λ t. Sees (children_of (digest_in none b)) g t) (peaks_of s.rule r.leaves)
       → o ≡ looked_up (is_difference s.hashing) (flat_map node_places (peaks_of s.rule r.leaves)) f g
 
   abbrev lows : List (Input D)

@@ -1,5 +1,6 @@
 -- What is hashed for an accepted range input with pins, from the digests that its store has and from the pins.
-use Rattle.std.proofs.Common.{◌≡◌, ◌≢◌, ◌⊎◌, inl, inr, Result, Ok, Err, ℕ, ◌+◌, ◌-◌, ◌≤◌, List, [], ◌∷◌, ◌++◌, map, flat_map, take, drop, length, refl, ap, ap₂, sym, ◌∙◌, subst, ⊎_elim, arith, min, Option, Some, None, append_assoc}
+use Rattle.std.proofs.Common.{◌≡◌, ◌≢◌, ◌⊎◌, inl, inr, Result, Ok, Err, ℕ, ◌+◌, ◌-◌, ◌≤◌, List, [], ◌∷◌, ◌++◌, map, flat_map, take, drop, length, refl, ap, ap₂}
+use Rattle.std.proofs.Common.{sym, ◌∙◌, subst, ⊎_elim, arith, min, Option, Some, None, append_assoc}
 use Rattle.std.proofs.lemmas.List.{length-take}
 use Rattle.std.specs.List.{AllByRecursion}
 use Rattle.std.specs.Option.{unwrap_or}
@@ -56,8 +57,12 @@ module _ {D : Type 0} (s : Scheme D) (r : RangeInput D) (folded alone count sing
     (e1 : folded ≡ length (folded_prefix s.bagging r.inactive (wholly_before r.start (peaks_of s.rule r.leaves))))
     (e2 : alone ≡ length (single_before s.bagging r.inactive (wholly_before r.start (peaks_of s.rule r.leaves))))
     (e3 : count ≡ length (overlapping r.start (end_of r) (peaks_of s.rule r.leaves)))
-    (e4 : single ≡ length (single_after s.bagging r.inactive (length (wholly_before r.start (peaks_of s.rule r.leaves)) + length (overlapping r.start (end_of r) (peaks_of s.rule r.leaves))) (wholly_after (end_of r) (peaks_of s.rule r.leaves))))
-    (e5 : suffix ≡ length (folded_suffix s.bagging r.inactive (length (wholly_before r.start (peaks_of s.rule r.leaves)) + length (overlapping r.start (end_of r) (peaks_of s.rule r.leaves))) (wholly_after (end_of r) (peaks_of s.rule r.leaves)))) where
+    (e4 : single ≡ length (single_after s.bagging r.inactive
+    (length (wholly_before r.start (peaks_of s.rule r.leaves)) + length (overlapping r.start (end_of r) (peaks_of s.rule r.leaves)))
+    (wholly_after (end_of r) (peaks_of s.rule r.leaves))))
+    (e5 : suffix ≡ length (folded_suffix s.bagging r.inactive
+    (length (wholly_before r.start (peaks_of s.rule r.leaves)) + length (overlapping r.start (end_of r) (peaks_of s.rule r.leaves)))
+    (wholly_after (end_of r) (peaks_of s.rule r.leaves)))) where
   abbrev b : List Tree
   b = wholly_before r.start (peaks_of s.rule r.leaves)
 
@@ -115,7 +120,9 @@ module _ {F D P Q : Type 0} (s : Scheme D) (r : RangeInput D) (pins : List D) (r
 
   -- the digests that are folded
   pub all_are : (front back count : ℕ) → front ≡ count_before s.bagging r.inactive (wholly_before r.start (peaks_of s.rule r.leaves))
-      → back ≡ count_after s.bagging r.inactive (length (wholly_before r.start (peaks_of s.rule r.leaves)) + length (overlapping r.start (end_of r) (peaks_of s.rule r.leaves))) (wholly_after (end_of r) (peaks_of s.rule r.leaves))
+      → back ≡ count_after s.bagging r.inactive
+      (length (wholly_before r.start (peaks_of s.rule r.leaves)) + length (overlapping r.start (end_of r) (peaks_of s.rule r.leaves)))
+      (wholly_after (end_of r) (peaks_of s.rule r.leaves))
       → count ≡ length (wholly_before r.start (peaks_of s.rule r.leaves)) + length (overlapping r.start (end_of r) (peaks_of s.rule r.leaves))
       → map (pinned_value s.hashing (pin_in n) n.start (digest_given none n)) (take count (peaks_of s.rule r.leaves)) ++ take back (drop front r.digests) ≡ all
   all_are front back count f k c =
@@ -136,7 +143,8 @@ module _ {F D P Q : Type 0} (s : Scheme D) (r : RangeInput D) (pins : List D) (r
       let us = flat_map (λ t. visited s.hashing (pin_tree s.hashing b t)) before in
       let vs = pinned_over_inputs s.hashing b w (chosen r) (leaf_given s.hashing r) over rest in
       let string' = string ∙ ap (λ l. root_string s.hashing s.domain s.bagging r.leaves r.inactive (folded s.hashing.fold s.bagging r.inactive l)) all_is in
-      let folds' : map fold_at t.folds.items ≡ fold_inputs s.hashing s.bagging r.inactive all = folds ∙ numbered_whole s.hashing s.bagging r.inactive ds ∙ ap (fold_inputs s.hashing s.bagging r.inactive) all_is in
+      let folds' : map fold_at t.folds.items ≡ fold_inputs s.hashing s.bagging r.inactive all = folds
+      ∙ numbered_whole s.hashing s.bagging r.inactive ds ∙ ap (fold_inputs s.hashing s.bagging r.inactive) all_is in
       let g = digest_given none n in
       record {
         nodes = us ++ vs;

@@ -1,5 +1,6 @@
 -- The search down a tree, of which one side says nothing below the pins.
-use Rattle.std.proofs.Common.{◌≡◌, ◌≢◌, ℕ, ◌==◌, Bool, true, false, not, cond, ◌&&◌, nat_lt, ◌<◌, ◌≤◌, List, [], ◌∷◌, ◌++◌, length, map, Option, Some, None, option_map, MatchOption, refl, ap, ap₂, sym, ◌∙◌, subst, arith, append-nil, le-leb, lt-ltb, le-ltb}
+use Rattle.std.proofs.Common.{◌≡◌, ◌≢◌, ℕ, ◌==◌, Bool, true, false, not, cond, ◌&&◌, nat_lt, ◌<◌, ◌≤◌, List, [], ◌∷◌, ◌++◌, length, map, Option, Some, None}
+use Rattle.std.proofs.Common.{option_map, MatchOption, refl, ap, ap₂, sym, ◌∙◌, subst, arith, append-nil, le-leb, lt-ltb, le-ltb}
 use Rattle.std.proofs.lemmas.Bool.{lt-leb}
 use Rattle.std.proofs.lemmas.Bool.Decides.{Decides-eqb}
 use Rattle.merkle_base.specs.Hashing.{Hashing}
@@ -79,7 +80,8 @@ module _ {D : Type 0} (h : Hashing D) (b : ℕ → Option D) (start stop : ℕ) 
   pub children_after : start < end_leaf (join p l r) → stop ≤ first_leaf l → None ≡ pinned_children h b start stop g (join p l r)
   children_after x y = sym (not_before x ∙ ap (λ z. cond z (Some (pinned_value h b start g l, pinned_value h b start g r)) None) (le-ltb (first_leaf l) stop y))
 
-  pub children_over : (x y : D) → start < end_leaf (join p l r) → first_leaf l < stop → x ≡ pinned_value h b start g l → y ≡ pinned_value h b start g r → Some (x, y) ≡ pinned_children h b start stop g (join p l r)
+  pub children_over : (x y : D) → start < end_leaf (join p l r) → first_leaf l < stop → x ≡ pinned_value h b start g l
+      → y ≡ pinned_value h b start g r → Some (x, y) ≡ pinned_children h b start stop g (join p l r)
   children_over x y z w u v = ap₂ (λ c d. Some (c, d)) u v ∙ sym (not_before z ∙ ap (λ y. cond y (Some (pinned_value h b start g l, pinned_value h b start g r)) None) (lt-ltb (first_leaf l) stop w))
 
 -- the digest of a node, by the place of its leaves

@@ -76,7 +76,8 @@ module _ {F D : Type 0} (A P : Type 0) (h : Hashing D) (xs ys : List (Input D)) 
   }
 
 -- ---- a range input against a list
-module _ {D : Type 0} (s : Scheme D) (size max_nodes : ℕ) (sound : IsLawfulScheme s size max_nodes) (X : List D) (k : ℕ) (few : length X ≤ s.max_leaves) (low : k ≤ length (peaks_of s.rule (length X))) (r : RangeInput D) where
+module _ {D : Type 0} (s : Scheme D) (size max_nodes : ℕ) (sound : IsLawfulScheme s size max_nodes) (X : List D) (k : ℕ)
+    (few : length X ≤ s.max_leaves) (low : k ≤ length (peaks_of s.rule (length X))) (r : RangeInput D) where
   abbrev Leads : Type 0
   Leads = reconstructed s r ≡ Ok (list_root s X k)
 
@@ -89,7 +90,8 @@ module _ {D : Type 0} (s : Scheme D) (size max_nodes : ℕ) (sound : IsLawfulSch
       (audits_ranges s size max_nodes sound X k few low r true ((λ _. a), (λ _. refl)))
 
 -- ---- scattered leaves against a list
-module _ {D : Type 0} (s : Scheme D) (size max_nodes : ℕ) (sound : IsLawfulScheme s size max_nodes) (X : List D) (k : ℕ) (few : length X ≤ s.max_leaves) (low : k ≤ length (peaks_of s.rule (length X))) (r : MultiInput D) where
+module _ {D : Type 0} (s : Scheme D) (size max_nodes : ℕ) (sound : IsLawfulScheme s size max_nodes) (X : List D) (k : ℕ)
+    (few : length X ≤ s.max_leaves) (low : k ≤ length (peaks_of s.rule (length X))) (r : MultiInput D) where
   abbrev Accepted : Type 0
   Accepted = AcceptsMulti s r (list_root s X k)
 

@@ -1,5 +1,6 @@
 -- What audits say is right.
-use Rattle.std.proofs.Common.{◌≡◌, ◌↔◌, ◌⊎◌, ℕ, Bool, true, false, List, [], ◌∷◌, length, flat_map, Option, Some, None, MatchOption, IsTrue, Ok, inl, inr, refl, ap, ap₂, sym, ◌∙◌, subst, ⊎_elim, arith}
+use Rattle.std.proofs.Common.{◌≡◌, ◌↔◌, ◌⊎◌, ℕ, Bool, true, false, List, [], ◌∷◌, length, flat_map, Option, Some, None, MatchOption, IsTrue, Ok, inl, inr, refl}
+use Rattle.std.proofs.Common.{ap, ap₂, sym, ◌∙◌, subst, ⊎_elim, arith}
 use Rattle.std.proofs.lemmas.Bool.{false≢true}
 use Rattle.merkle_base.specs.Hashing.{Hashing, EqDecides}
 use Rattle.merkle_base.specs.Digests.{digest_at, peak_digests}
@@ -30,7 +31,8 @@ use Rattle.merkle_claim_theory.proofs.HonestClaims.{member_split, only_nodes}
 use Rattle.merkle_audit_theory.proofs.LocatedNodes.{collide_is_located, located_is_collide}
 use Rattle.merkle_claim_theory.proofs.Multiproofs.{honest_multi_is_accepted, accepted_multi_is_honest}
 use Rattle.merkle_claim_theory.proofs.PinnedChecks.{honest_pinned_is_accepted, accepted_pinned_is_honest}
-use Rattle.merkle_audit_theory.specs.Outcomes.{Outcome, rejected, clear, collision, outcome_of, AcceptedPairs, IsOutcome, IsPairOutcome, AuditsRanges, AuditsMultis, AuditsPins, AuditsPairs, AuditsLists, ListsCollideAtNodes}
+use Rattle.merkle_audit_theory.specs.Outcomes.{Outcome, rejected, clear, collision, outcome_of, AcceptedPairs, IsOutcome, IsPairOutcome, AuditsRanges}
+use Rattle.merkle_audit_theory.specs.Outcomes.{AuditsMultis, AuditsPins, AuditsPairs, AuditsLists, ListsCollideAtNodes}
 use Rattle.merkle_audit_theory.proofs.HonestClear.{no_expression, honest_range_is_clear, honest_multi_is_clear, honest_pinned_is_clear}
 
 found_some : {A : Type 0} (c : A) → Some c ≡ None → ⊥
@@ -45,23 +47,27 @@ module _ {D : Type 0} (h : Hashing D) (xs ys : List (Input D)) where
   none_of (inl p) none = p
   none_of (inr c) none = absurd (none c.0 c.1)
 
-  says : {A P : Type 0} → (said : Bool) → IsTrue said ↔ A → (o : Option (Collision D)) → Found o → (A → P ⊎ ((c : Collision D) × Collides h xs ys c)) → (P → A) → (P → o ≡ None) → IsOutcome A P h xs ys (outcome_of said o)
+  says : {A P : Type 0} → (said : Bool) → IsTrue said ↔ A → (o : Option (Collision D)) → Found o → (A → P ⊎ ((c : Collision D) × Collides h xs ys c))
+      → (P → A) → (P → o ≡ None) → IsOutcome A P h xs ys (outcome_of said o)
   unfolding Found
   says {A = A} false exact o found sound honest quiet = let no : A → ⊥ = λ a. false≢true (exact.1 a) in (no, λ p. no (honest p))
   says {A = A} true exact None found sound honest quiet = let a : A = exact.0 refl in (a, none_of (sound a) found, found)
   says true exact (Some c) found sound honest quiet = (exact.0 refl, (λ p. found_some c (quiet p)), found)
 
-  pub outcome_is : {A P : Type 0} → EqDecides h → (said : Bool) → IsTrue said ↔ A → (A → P ⊎ ((c : Collision D) × Collides h xs ys c)) → (P → A) → (P → first_collision h xs ys ≡ None) → IsOutcome A P h xs ys (outcome_of said (first_collision h xs ys))
+  pub outcome_is : {A P : Type 0} → EqDecides h → (said : Bool) → IsTrue said ↔ A → (A → P ⊎ ((c : Collision D) × Collides h xs ys c)) → (P → A)
+      → (P → first_collision h xs ys ≡ None) → IsOutcome A P h xs ys (outcome_of said (first_collision h xs ys))
   unfolding Found
   outcome_is laws said exact sound honest quiet = says said exact (first_collision h xs ys) (finds_first h laws xs ys) sound honest quiet
 
-  pair_says : {A P : Type 0} → (said : Bool) → IsTrue said ↔ A → (o : Option (Collision D)) → Found o → (A → P ⊎ ((c : Collision D) × Collides h xs ys c)) → IsPairOutcome A P h xs ys (outcome_of said o)
+  pair_says : {A P : Type 0} → (said : Bool) → IsTrue said ↔ A → (o : Option (Collision D)) → Found o
+      → (A → P ⊎ ((c : Collision D) × Collides h xs ys c)) → IsPairOutcome A P h xs ys (outcome_of said o)
   unfolding Found
   pair_says false exact o found sound = λ a. false≢true (exact.1 a)
   pair_says {A = A} true exact None found sound = let a : A = exact.0 refl in (a, none_of (sound a) found, found)
   pair_says true exact (Some c) found sound = (exact.0 refl, found)
 
-  pub pair_outcome_is : {A P : Type 0} → EqDecides h → (said : Bool) → IsTrue said ↔ A → (A → P ⊎ ((c : Collision D) × Collides h xs ys c)) → IsPairOutcome A P h xs ys (outcome_of said (first_collision h xs ys))
+  pub pair_outcome_is : {A P : Type 0} → EqDecides h → (said : Bool) → IsTrue said ↔ A → (A → P ⊎ ((c : Collision D) × Collides h xs ys c))
+      → IsPairOutcome A P h xs ys (outcome_of said (first_collision h xs ys))
   unfolding Found
   pair_outcome_is laws said exact sound = pair_says said exact (first_collision h xs ys) (finds_first h laws xs ys) sound
 
@@ -106,7 +112,11 @@ module _ {D : Type 0} (A P : Type 0) (h : Hashing D) (xs ys : List (Input D)) wh
   pub tells : (o : Outcome D) → IsOutcome A P h xs ys o → (o ≡ rejected ↔ (A → ⊥)) × (o ≡ clear ↔ P) × ((c : Collision D) → o ≡ collision c → IsFirstCollision h xs ys c)
   tells rejected w = (((λ _. w.0), λ _. refl), ((λ e. absurd (rejected≢clear e)), λ p. absurd (w.1 p)), λ c e. absurd (rejected≢collision c e))
   tells clear w = (((λ e. absurd (rejected≢clear (sym e))), λ n. absurd (n w.0)), ((λ _. w.1), λ _. refl), λ c e. absurd (clear≢collision c e))
-  tells (collision d) w = (((λ e. absurd (rejected≢collision d (sym e))), λ n. absurd (n w.0)), ((λ e. absurd (clear≢collision d (sym e))), λ p. absurd (w.1 p)), λ c e. subst (IsFirstCollision h xs ys) (one_collision d c e) w.2)
+  tells (collision d) w = (
+    ((λ e. absurd (rejected≢collision d (sym e))), λ n. absurd (n w.0)),
+    ((λ e. absurd (clear≢collision d (sym e))), λ p. absurd (w.1 p)),
+    λ c e. subst (IsFirstCollision h xs ys) (one_collision d c e) w.2,
+  )
 
   pub pair_tells : (o : Outcome D) → IsPairOutcome A P h xs ys o
       → (o ≡ rejected ↔ (A → ⊥)) × (o ≡ clear ↔ A × ((c : Collision D) → Collides h xs ys c → ⊥)) × (o ≡ clear → P) × ((c : Collision D) → o ≡ collision c → IsFirstCollision h xs ys c)
@@ -153,9 +163,12 @@ module _ {D : Type 0} (s : Scheme D) (size max_nodes : ℕ) (sound : IsLawfulSch
   )
 
 pub accepted_pairs : {D : Type 0} → AcceptedPairs D
-accepted_pairs {D = D} s size max_nodes sound root r q a b = at_found (first_collision s.hashing (range_inputs s r) (range_inputs s q)) (finds_first s.hashing sound.laws (range_inputs s r) (range_inputs s q))
+accepted_pairs {D = D} s size max_nodes sound root r q a b =
+    at_found (first_collision s.hashing (range_inputs s r) (range_inputs s q)) (finds_first s.hashing sound.laws (range_inputs s r) (range_inputs s q))
   where
-    at_found : (o : Option (Collision D)) → MatchOption o ((c : Collision D) → Collides s.hashing (range_inputs s r) (range_inputs s q) c → ⊥) (λ c. IsFirstCollision s.hashing (range_inputs s r) (range_inputs s q) c)
+    at_found : (o : Option (Collision D))
+        → MatchOption o ((c : Collision D) → Collides s.hashing (range_inputs s r) (range_inputs s q) c → ⊥)
+        (λ c. IsFirstCollision s.hashing (range_inputs s r) (range_inputs s q) c)
         → MatchOption o (SharesLeaves s.hashing r q) (λ c. IsFirstCollision s.hashing (range_inputs s r) (range_inputs s q) c)
     at_found None w = none_of s.hashing (range_inputs s r) (range_inputs s q) (meets s size max_nodes sound root r q a b) w
     at_found (Some c) w = w
@@ -187,7 +200,8 @@ never h rule X Z e w = w.5 (ap (λ Y. digest_at h Y w.1) e, ap (λ Y. digest_at 
 equal_clear : {D : Type 0} (h : Hashing D) (rule : List ℕ → List ℕ) (X Z : List D) → X ≡ Z → (c : Collision D) → Collides h (node_inputs h rule X) (node_inputs h rule Z) c → ⊥
 equal_clear h rule X Z e c w = let p = lists_collide_at_nodes h rule X Z c w in never h rule X Z e (located_is_collide h rule X Z (ap length e) c w p.0 p.1).0
 
-none_there : {D : Type 0} (h : Hashing D) (xs ys : List (Input D)) (o : Option (Collision D)) → MatchOption o ((c : Collision D) → Collides h xs ys c → ⊥) (λ c. IsFirstCollision h xs ys c) → ((c : Collision D) → Collides h xs ys c → ⊥) → o ≡ None
+none_there : {D : Type 0} (h : Hashing D) (xs ys : List (Input D)) (o : Option (Collision D))
+    → MatchOption o ((c : Collision D) → Collides h xs ys c → ⊥) (λ c. IsFirstCollision h xs ys c) → ((c : Collision D) → Collides h xs ys c → ⊥) → o ≡ None
 none_there h xs ys None m f = refl
 none_there h xs ys (Some c) m f = absurd (f c m.collides)
 

@@ -1,5 +1,6 @@
 -- Claims are the full expression with some parts supplied, so their places are some of its places, in its order.
-use Rattle.std.proofs.Common.{◌≡◌, ℕ, suc, Bool, not, cond, ◌||◌, nat_eq, unwrap_or, ◌-◌, List, [], ◌∷◌, ◌++◌, length, flat_map, filter, drop, get_or, Option, Some, None, option_map, refl, ap, ap₂, sym, ◌∙◌, subst, ⊎_elim}
+use Rattle.std.proofs.Common.{◌≡◌, ℕ, suc, Bool, not, cond, ◌||◌, nat_eq, unwrap_or, ◌-◌, List, [], ◌∷◌, ◌++◌, length, flat_map, filter, drop, get_or, Option}
+use Rattle.std.proofs.Common.{Some, None, option_map, refl, ap, ap₂, sym, ◌∙◌, subst, ⊎_elim}
 use Rattle.std.specs.List.{list_any}
 use Rattle.std.proofs.lemmas.List.{map-append}
 use Rattle.std.proofs.lemmas.Bool.{true≢false}
@@ -35,13 +36,16 @@ module _ {D : Type 0} (h : Hashing D) (X : ℕ → D) where
   tree_cut : (c : ℕ → Bool) (Y : ℕ → D) (t : Tree) (ds : List D) → IsCutOf (tree_claim h c Y t ds) (node_expression X t)
   tree_cut c Y (leaf p i) ds = by_test (λ b. IsCutOf (cond b (supplied (Y i)) (supplied (next h ds))) (supplied (X i))) (c i) (λ _. tt) (λ _. tt)
   tree_cut c Y (join p l r) ds = let u = tree_cut c Y l ds in let v = tree_cut c Y r (drop (length (siblings c l)) ds) in
-      by_test (λ b. IsCutOf (cond b (computed (Node p) (tree_claim h c Y l ds) (tree_claim h c Y r (drop (length (siblings c l)) ds))) (supplied (next h ds))) (computed (Node p) (node_expression X l) (node_expression X r)))
+      by_test (λ b. IsCutOf (cond b (computed (Node p) (tree_claim h c Y l ds) (tree_claim h c Y r (drop (length (siblings c l)) ds)))
+      (supplied (next h ds))) (computed (Node p) (node_expression X l) (node_expression X r)))
       (tree_meets c l || tree_meets c r) (λ _. (refl, u, v)) (λ _. tt)
 
   pub claim_cut : (c : ℕ → Bool) (Y : ℕ → D) (p : Plan) (os is : List D) → IsCutOf (claim h c Y p os is) (plan_expression X p)
   claim_cut c Y (peak t) os is = by_test (λ b. IsCutOf (cond b (tree_claim h c Y t is) (supplied (next h os))) (node_expression X t)) (tree_meets c t) (λ _. tree_cut c Y t is) (λ _. tt)
   claim_cut c Y (folding place l r) os is = let u = claim_cut c Y l os is in let v = claim_cut c Y r (drop (length (outside_parts c l)) os) (drop (length (path_siblings c l)) is) in
-      by_test (λ b. IsCutOf (cond b (computed place (claim h c Y l os is) (claim h c Y r (drop (length (outside_parts c l)) os) (drop (length (path_siblings c l)) is))) (supplied (next h os))) (computed place (plan_expression X l) (plan_expression X r)))
+      by_test (λ b. IsCutOf (cond b
+      (computed place (claim h c Y l os is) (claim h c Y r (drop (length (outside_parts c l)) os) (drop (length (path_siblings c l)) is)))
+      (supplied (next h os))) (computed place (plan_expression X l) (plan_expression X r)))
       (meets c l || meets c r) (λ _. (refl, u, v)) (λ _. tt)
 
   -- ---- of scattered leaves
@@ -53,7 +57,8 @@ module _ {D : Type 0} (h : Hashing D) (X : ℕ → D) where
   multi_tree_cut a c Y (leaf p i) = by_test (λ b. IsCutOf (cond b (also (a p) (supplied (Y i))) (supplied (or_empty h (a p)))) (supplied (X i))) (c i)
       (λ _. also_cut (a p) (supplied (Y i)) (supplied (X i)) tt) (λ _. tt)
   multi_tree_cut a c Y (join p l r) = let u = multi_tree_cut a c Y l in let v = multi_tree_cut a c Y r in
-      by_test (λ b. IsCutOf (cond b (also (a p) (computed (Node p) (multi_tree h a c Y l) (multi_tree h a c Y r))) (supplied (or_empty h (a p)))) (computed (Node p) (node_expression X l) (node_expression X r)))
+      by_test (λ b. IsCutOf (cond b (also (a p) (computed (Node p) (multi_tree h a c Y l) (multi_tree h a c Y r))) (supplied (or_empty h (a p))))
+      (computed (Node p) (node_expression X l) (node_expression X r)))
       (tree_meets c l || tree_meets c r)
       (λ _. also_cut (a p) (computed (Node p) (multi_tree h a c Y l) (multi_tree h a c Y r)) (computed (Node p) (node_expression X l) (node_expression X r)) (refl, u, v)) (λ _. tt)
 
@@ -69,7 +74,8 @@ module _ {D : Type 0} (h : Hashing D) (X : ℕ → D) where
   module _ (b : ℕ → Option D) where
     pub pin_tree_cut : (t : Tree) → IsCutOf (pin_tree h b t) (node_expression X t)
     pin_tree_cut (leaf p i) = tt
-    pin_tree_cut (join p l r) = pinned_cut_or (b p) (computed (Node p) (pin_tree h b l) (pin_tree h b r)) (computed (Node p) (node_expression X l) (node_expression X r)) (refl, pin_tree_cut l, pin_tree_cut r)
+    pin_tree_cut (join p l r) = pinned_cut_or (b p) (computed (Node p) (pin_tree h b l) (pin_tree h b r))
+        (computed (Node p) (node_expression X l) (node_expression X r)) (refl, pin_tree_cut l, pin_tree_cut r)
 
     pin_plan_cut : (p : Plan) → IsCutOf (pin_plan h b p) (plan_expression X p)
     pin_plan_cut (peak t) = pin_tree_cut t
@@ -82,16 +88,22 @@ module _ {D : Type 0} (h : Hashing D) (X : ℕ → D) where
     outside_plan_cut w p d = by_test (λ y. IsCutOf (cond y (cross_checked d (pin_plan h b p)) (supplied d)) (plan_expression X p)) (meets w p) (λ _. pin_plan_cut p) (λ _. tt)
 
     pub pinned_tree_cut : (w c : ℕ → Bool) (Y : ℕ → D) (t : Tree) (ds : List D) → IsCutOf (pinned_tree h b w c Y t ds) (node_expression X t)
-    pinned_tree_cut w c Y (leaf p i) ds = by_test (λ y. IsCutOf (cond y (supplied (Y i)) (outside_tree h b w (leaf p i) (next h ds))) (supplied (X i))) (c i) (λ _. tt) (λ _. outside_tree_cut w (leaf p i) (next h ds))
+    pinned_tree_cut w c Y (leaf p i) ds =
+        by_test (λ y. IsCutOf (cond y (supplied (Y i)) (outside_tree h b w (leaf p i) (next h ds))) (supplied (X i))) (c i) (λ _. tt)
+        (λ _. outside_tree_cut w (leaf p i) (next h ds))
     pinned_tree_cut w c Y (join p l r) ds = let u = pinned_tree_cut w c Y l ds in let v = pinned_tree_cut w c Y r (drop (length (siblings c l)) ds) in
-        by_test (λ y. IsCutOf (cond y (computed (Node p) (pinned_tree h b w c Y l ds) (pinned_tree h b w c Y r (drop (length (siblings c l)) ds))) (outside_tree h b w (join p l r) (next h ds))) (computed (Node p) (node_expression X l) (node_expression X r)))
+        by_test (λ y. IsCutOf (cond y (computed (Node p) (pinned_tree h b w c Y l ds) (pinned_tree h b w c Y r (drop (length (siblings c l)) ds)))
+        (outside_tree h b w (join p l r) (next h ds))) (computed (Node p) (node_expression X l) (node_expression X r)))
         (tree_meets c l || tree_meets c r) (λ _. (refl, u, v)) (λ _. outside_tree_cut w (join p l r) (next h ds))
 
     pub pinned_cut : (w c : ℕ → Bool) (Y : ℕ → D) (p : Plan) (os is : List D) → IsCutOf (pinned_claim h b w c Y p os is) (plan_expression X p)
     pinned_cut w c Y (peak t) os is = by_test (λ y. IsCutOf (cond y (pinned_tree h b w c Y t is) (outside_plan h b w (peak t) (next h os))) (node_expression X t)) (tree_meets c t)
         (λ _. pinned_tree_cut w c Y t is) (λ _. outside_plan_cut w (peak t) (next h os))
     pinned_cut w c Y (folding place l r) os is = let u = pinned_cut w c Y l os is in let v = pinned_cut w c Y r (drop (length (outside_parts c l)) os) (drop (length (path_siblings c l)) is) in
-        by_test (λ y. IsCutOf (cond y (computed place (pinned_claim h b w c Y l os is) (pinned_claim h b w c Y r (drop (length (outside_parts c l)) os) (drop (length (path_siblings c l)) is))) (outside_plan h b w (folding place l r) (next h os))) (computed place (plan_expression X l) (plan_expression X r)))
+        by_test (λ y. IsCutOf (cond y
+        (computed place (pinned_claim h b w c Y l os is)
+        (pinned_claim h b w c Y r (drop (length (outside_parts c l)) os) (drop (length (path_siblings c l)) is)))
+        (outside_plan h b w (folding place l r) (next h os))) (computed place (plan_expression X l) (plan_expression X r)))
         (meets c l || meets c r) (λ _. (refl, u, v)) (λ _. outside_plan_cut w (folding place l r) (next h os))
 
 -- ---- places
@@ -109,7 +121,8 @@ module _ {D : Type 0} (h : Hashing D) where
   cut_seen (computed p l r) (cross_checked d f) w = elim w [ ]
   cut_seen (computed p l r) (computed q l' r') w =
       subst (λ z. IsSublist (p ∷ places_in (visited h l ++ visited h r)) (z ∷ places_in (visited h l' ++ visited h r'))) w.0
-      (kept p (subst (λ z. IsSublist z (places_in (visited h l' ++ visited h r'))) (sym (seen_both l r)) (subst (λ z. IsSublist (seen l ++ seen r) z) (sym (seen_both l' r')) (sub_append (cut_seen l l' w.1) (cut_seen r r' w.2)))))
+      (kept p (subst (λ z. IsSublist z (places_in (visited h l' ++ visited h r'))) (sym (seen_both l r))
+      (subst (λ z. IsSublist (seen l ++ seen r) z) (sym (seen_both l' r')) (sub_append (cut_seen l l' w.1) (cut_seen r r' w.2)))))
 
   -- in the order of the inputs
   pub ordered : (e : Expression D) → places_in (inputs h e) ≡ filter (λ p. not (is_node p)) (seen e) ++ filter is_node (seen e)
@@ -117,7 +130,8 @@ module _ {D : Type 0} (h : Hashing D) where
       ∙ ap₂ ◌++◌ (map-filter (λ (i : Input D). i.place) (λ p. not (is_node p)) (visited h e)) (map-filter (λ (i : Input D). i.place) is_node (visited h e))
 
   pub cut_ordered : (e f : Expression D) → IsCutOf e f → IsSublist (places_in (inputs h e)) (places_in (inputs h f))
-  cut_ordered e f w = subst (λ z. IsSublist z (places_in (inputs h f))) (sym (ordered e)) (subst (λ z. IsSublist (filter (λ p. not (is_node p)) (seen e) ++ filter is_node (seen e)) z) (sym (ordered f))
+  cut_ordered e f w = subst (λ z. IsSublist z (places_in (inputs h f))) (sym (ordered e))
+      (subst (λ z. IsSublist (filter (λ p. not (is_node p)) (seen e) ++ filter is_node (seen e)) z) (sym (ordered f))
       (sub_append (sub_filter (λ p. not (is_node p)) (cut_seen e f w)) (sub_filter is_node (cut_seen e f w))))
 
 -- ---- all places of a leaf count and an inactive count
@@ -133,7 +147,8 @@ module _ {D : Type 0} (s : Scheme D) where
   pub full_once : (n k : ℕ) → Distinct (full_places s n k)
   full_once n k = once_peaks k (peaks_of s.rule n) (distinct_nodes s n)
 
-  pub places_of : (X : ℕ → D) (bagging : Bagging) (n k : ℕ) (ts : List Tree) → bagging ≡ s.bagging → places_in (all_inputs s n k (option_map (plan_expression X) (root_plan bagging k ts))) ≡ Root ∷ peak_places s k ts
+  pub places_of : (X : ℕ → D) (bagging : Bagging) (n k : ℕ) (ts : List Tree) → bagging ≡ s.bagging
+      → places_in (all_inputs s n k (option_map (plan_expression X) (root_plan bagging k ts))) ≡ Root ∷ peak_places s k ts
   places_of X ForwardFold n k [] e = refl
   places_of X BackwardFold n k [] e = refl
   places_of X bagging n k (t ∷ ts) e = ap (λ z. Root ∷ z) (in_order bagging e)
@@ -141,7 +156,8 @@ module _ {D : Type 0} (s : Scheme D) where
       in_order : (b : Bagging) → b ≡ s.bagging → places_in (inputs_of s.hashing (option_map (plan_expression X) (root_plan b k (t ∷ ts)))) ≡ peak_places s k (t ∷ ts)
       in_order b q = places_in_order s.hashing X b k t ts ∙ ap (λ z. fold_places z k (suc (length ts)) ++ flat_map node_places (t ∷ ts)) q
 
-  cut_all : (E F : Plan → Expression D) (o : Option Plan) (n k n' k' : ℕ) → ((p : Plan) → IsCutOf (E p) (F p)) → IsSublist (places_in (all_inputs s n k (option_map E o))) (places_in (all_inputs s n' k' (option_map F o)))
+  cut_all : (E F : Plan → Expression D) (o : Option Plan) (n k n' k' : ℕ) → ((p : Plan) → IsCutOf (E p) (F p))
+      → IsSublist (places_in (all_inputs s n k (option_map E o))) (places_in (all_inputs s n' k' (option_map F o)))
   cut_all E F None n k n' k' w = sub_all (Root ∷ [])
   cut_all E F (Some p) n k n' k' w = kept Root (cut_ordered s.hashing (E p) (F p) (w p))
 

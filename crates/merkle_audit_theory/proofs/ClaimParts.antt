@@ -104,10 +104,15 @@ module _ {D : Type 0} (s : Scheme D) (r : RangeInput D) (some : 0 < length r.ele
       → (folded alone count single suffix : ℕ) → folded ≡ length (folded_prefix s.bagging r.inactive (wholly_before r.start (peaks_of s.rule r.leaves)))
       → alone ≡ length (single_before s.bagging r.inactive (wholly_before r.start (peaks_of s.rule r.leaves)))
       → count ≡ length (overlapping r.start (end_of r) (peaks_of s.rule r.leaves))
-      → single ≡ length (single_after s.bagging r.inactive (length (wholly_before r.start (peaks_of s.rule r.leaves)) + length (overlapping r.start (end_of r) (peaks_of s.rule r.leaves))) (wholly_after (end_of r) (peaks_of s.rule r.leaves)))
-      → suffix ≡ length (folded_suffix s.bagging r.inactive (length (wholly_before r.start (peaks_of s.rule r.leaves)) + length (overlapping r.start (end_of r) (peaks_of s.rule r.leaves))) (wholly_after (end_of r) (peaks_of s.rule r.leaves)))
+      → single ≡ length (single_after s.bagging r.inactive
+      (length (wholly_before r.start (peaks_of s.rule r.leaves)) + length (overlapping r.start (end_of r) (peaks_of s.rule r.leaves)))
+      (wholly_after (end_of r) (peaks_of s.rule r.leaves)))
+      → suffix ≡ length (folded_suffix s.bagging r.inactive
+      (length (wholly_before r.start (peaks_of s.rule r.leaves)) + length (overlapping r.start (end_of r) (peaks_of s.rule r.leaves)))
+      (wholly_after (end_of r) (peaks_of s.rule r.leaves)))
       → (subs : List (Subtree F)) → subs ≡ map subtree_of (peaks_of s.rule r.leaves)
-      → take (min folded 1 + alone) r.digests ++ (map (λ (q : Subtree F). f q.position) (take count (drop (folded + alone) subs)) ++ take (single + min suffix 1) (drop (min folded 1 + alone) r.digests))
+      → take (min folded 1 + alone) r.digests
+      ++ (map (λ (q : Subtree F). f q.position) (take count (drop (folded + alone) subs)) ++ take (single + min suffix 1) (drop (min folded 1 + alone) r.digests))
       ≡ take i r.digests ++ (peak_values s.hashing (chosen r) (leaf_given s.hashing r) over (drop (i + j) r.digests) ++ take j (drop i r.digests))
   claim_digests {F = F} f is folded alone count single suffix e1 e2 e3 e4 e5 subs e6 =
       let front : min folded 1 + alone ≡ i = omega (arith, e1, e2, length-fold_all (folded_prefix s.bagging r.inactive before)) in

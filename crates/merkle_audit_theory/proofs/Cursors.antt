@@ -32,7 +32,9 @@ module _ {D : Type 0} where
   step_of : (p : Place) (ps : List Place) (xs : List (Input D)) → IsSublist (places_in xs) (p ∷ ps) → Step p ps xs
   unfolding Step
   step_of p ps [] w = ⊎_elim (λ v. absurd (let e : ◌≡◌ {A = List Place} [] (p ∷ v.0) = v.1 in cc)) inr (sub_cases [] ps p w)
-  step_of p ps (x ∷ us) w = ⊎_elim (λ v. let e = cons_parts x.place p (places_in us) v.0 v.1 in inl (x, us, refl, e.0, subst (λ z. IsSublist z ps) (sym e.1) v.2)) inr (sub_cases (places_in (x ∷ us)) ps p w)
+  step_of p ps (x ∷ us) w = ⊎_elim
+      (λ v. let e = cons_parts x.place p (places_in us) v.0 v.1 in inl (x, us, refl, e.0, subst (λ z. IsSublist z ps) (sym e.1) v.2)) inr
+      (sub_cases (places_in (x ∷ us)) ps p w)
 
   next_there : (p : Place) (x : Input D) (us : List (Input D)) → x.place ≡ p → next_at p (x ∷ us) ≡ Some x
   next_there p x us e = ap (λ b. cond b (Some x) None) ((Decides-place x.place p).1 e)
@@ -67,11 +69,14 @@ module _ {D : Type 0} where
 
     for_none : (xs : List (Input D)) (y : Input D) → (Member (places_in xs) y.place → ⊥) → by_for xs y ≡ None
     for_none [] y n = refl
-    for_none (x ∷ xs) y n = ap (λ b. cond b (Some (record { place = y.place; claimed = x.argument; listed = y.argument })) (by_for xs y)) (is_false (t x y) (λ q. n (inl (local x y q)))) ∙ for_none xs y (λ m. n (inr m))
+    for_none (x ∷ xs) y n = ap (λ b. cond b (Some (record { place = y.place; claimed = x.argument; listed = y.argument })) (by_for xs y))
+        (is_false (t x y) (λ q. n (inl (local x y q)))) ∙ for_none xs y (λ m. n (inr m))
 
     first_rest : (x : Input D) (xs ys : List (Input D)) → (Member (places_in ys) x.place → ⊥) → by_first (x ∷ xs) ys ≡ by_first xs ys
     first_rest x xs [] n = refl
-    first_rest x xs (y ∷ ys) n = ap₂ or_else (ap (λ b. cond b (Some (record { place = y.place; claimed = x.argument; listed = y.argument })) (by_for xs y)) (is_false (t x y) (λ q. n (inl (sym (local x y q))))))
+    first_rest x xs (y ∷ ys) n = ap₂ or_else
+        (ap (λ b. cond b (Some (record { place = y.place; claimed = x.argument; listed = y.argument })) (by_for xs y))
+        (is_false (t x y) (λ q. n (inl (sym (local x y q))))))
         (first_rest x xs ys (λ m. n (inr m)))
 
     first_nothing : (ys : List (Input D)) → by_first [] ys ≡ None
@@ -100,7 +105,8 @@ module _ {D : Type 0} where
             ap₂ (λ f g. or_else (found_of t (next_at p f) (next_at p g)) (along t ps (past p f) (past p g))) a.2 b.2
             ∙ ap₂ (λ f g. or_else (found_of t f g) (along t ps (past p (a.0 ∷ a.1)) (past p (b.0 ∷ b.1)))) (next_there p a.0 a.1 a.3) (next_there p b.0 b.1 b.3)
             ∙ ap₂ (λ f g. or_else (found_of t (Some a.0) (Some b.0)) (along t ps f g)) (past_there p a.0 a.1 a.3) (past_there p b.0 b.1 b.3)
-            ∙ ap₂ or_else (sym (ap (λ o. cond (t a.0 b.0) (Some (record { place = b.0.place; claimed = a.0.argument; listed = b.0.argument })) o) (for_none a.1 b.0 (λ m. gone a.1 a.4 (subst (Member (places_in a.1)) b.3 m)))))
+            ∙ ap₂ or_else (sym (ap (λ o. cond (t a.0 b.0) (Some (record { place = b.0.place; claimed = a.0.argument; listed = b.0.argument })) o)
+            (for_none a.1 b.0 (λ m. gone a.1 a.4 (subst (Member (places_in a.1)) b.3 m)))))
             (next a.1 b.1 a.4 b.4 ∙ sym (first_rest a.0 a.1 b.1 (λ m. gone b.1 b.4 (subst (Member (places_in b.1)) a.3 m))))
             ∙ sym (ap₂ by_first a.2 b.2)
         at_steps (inl a) (inr b) next =
@@ -124,7 +130,8 @@ module _ {D : Type 0} where
     at_there p x us e = ap (λ b. cond b (Some x) (input_at us p)) ((Decides-place x.place p).1 e)
 
     -- a search looks only at its places
-    same_look : (ps : List Place) (f f' g g' : Place → Option (Input D)) → ((p : Place) → Member ps p → f p ≡ f' p) → ((p : Place) → Member ps p → g p ≡ g' p) → looked_up t ps f g ≡ looked_up t ps f' g'
+    same_look : (ps : List Place) (f f' g g' : Place → Option (Input D)) → ((p : Place) → Member ps p → f p ≡ f' p)
+        → ((p : Place) → Member ps p → g p ≡ g' p) → looked_up t ps f g ≡ looked_up t ps f' g'
     same_look [] f f' g g' u v = refl
     same_look (p ∷ ps) f f' g g' u v = ap₂ or_else (ap₂ (found_of t) (u p (inl refl)) (v p (inl refl))) (same_look ps f f' g g' (λ q m. u q (inr m)) (λ q m. v q (inr m)))
 
@@ -147,7 +154,8 @@ module _ {D : Type 0} where
     rest_sub p ps zs n (inl a) = subst (λ f. IsSublist (places_in f) ps) (sym (ap (past p) a.2 ∙ past_there p a.0 a.1 a.3)) a.4
     rest_sub p ps zs n (inr b) = subst (λ f. IsSublist (places_in f) ps) (sym (past_none p zs (λ k. n (sub_member b p k)))) b
 
-    looks_as_cursors : (ps : List Place) → Distinct ps → (xs ys : List (Input D)) → IsSublist (places_in xs) ps → IsSublist (places_in ys) ps → looked_up t ps (input_at xs) (input_at ys) ≡ along t ps xs ys
+    looks_as_cursors : (ps : List Place) → Distinct ps → (xs ys : List (Input D)) → IsSublist (places_in xs) ps → IsSublist (places_in ys) ps
+        → looked_up t ps (input_at xs) (input_at ys) ≡ along t ps xs ys
     looks_as_cursors [] d xs ys u v = refl
     looks_as_cursors (p ∷ ps) d xs ys u v =
         let a = step_of p ps xs u in

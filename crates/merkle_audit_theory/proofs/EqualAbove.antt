@@ -94,8 +94,10 @@ module _ {D : Type 0} (h : Hashing D) (laws : EqDecides h) where
 
       equal : Pair (value h l) (value h r) ≡ Pair (value h l') (value h r') → Goal
       equal d = ⊎_elim
-          (λ a. ⊎_elim (λ b. raised_left p q l r l' r' x y (left (left_same _ _ _ _ d) a b)) (λ b. absurd (apart y.place (subst (Member (seen h L)) same (seen_in l L cl x a)) (seen_in r' R cr' y b))) (member_split (visited h l') (visited h r') y n))
-          (λ a. ⊎_elim (λ b. absurd (apart y.place (seen_in l' L cl' y b) (subst (Member (seen h R)) same (seen_in r R cr x a)))) (λ b. raised_right p q l r l' r' x y (right (right_same _ _ _ _ d) a b)) (member_split (visited h l') (visited h r') y n))
+          (λ a. ⊎_elim (λ b. raised_left p q l r l' r' x y (left (left_same _ _ _ _ d) a b))
+          (λ b. absurd (apart y.place (subst (Member (seen h L)) same (seen_in l L cl x a)) (seen_in r' R cr' y b))) (member_split (visited h l') (visited h r') y n))
+          (λ a. ⊎_elim (λ b. absurd (apart y.place (seen_in l' L cl' y b) (subst (Member (seen h R)) same (seen_in r R cr x a))))
+          (λ b. raised_right p q l r l' r' x y (right (right_same _ _ _ _ d) a b)) (member_split (visited h l') (visited h r') y n))
           (member_split (visited h l) (visited h r) x m)
 
   explained_at : (e f F : Expression D) → IsCutOf e F → IsCutOf f F → Distinct (seen h F) → Tiered F → value h e ≡ value h f

@@ -1,5 +1,6 @@
 -- What a range check hashes at nodes, by the pairs that are extracted.
-use Rattle.std.proofs.Common.{◌≡◌, ℕ, Bool, true, ◌&&◌, nat_lt, ◌+◌, ◌≤◌, ◌<◌, List, [], ◌∷◌, inl, inr, ap, sym, ◌∙◌, subst, arith, length, filter, drop, Some, IfSome, option_map, slice_get, lt-ltb, ltb-true}
+use Rattle.std.proofs.Common.{◌≡◌, ℕ, Bool, true, ◌&&◌, nat_lt, ◌+◌, ◌≤◌, ◌<◌, List, [], ◌∷◌, inl, inr, ap, sym, ◌∙◌, subst, arith, length, filter, drop, Some}
+use Rattle.std.proofs.Common.{IfSome, option_map, slice_get, lt-ltb, ltb-true}
 use Rattle.std.specs.List.{AllByRecursion}
 use Rattle.std.proofs.lemmas.Bool.{and_from, and_parts}
 use Rattle.merkle_base.specs.Forest.{forest}
@@ -82,7 +83,8 @@ module _ {D : Type 0} (s : Scheme D) (r : RangeInput D) (some : 0 < length r.ele
       let folded = length (fold_all (folded_prefix s.bagging r.inactive before)) in
       let single = single_before s.bagging r.inactive before in
       member_right (single_pairs s.hashing single (drop folded r.digests)) _ z
-      (member_left (over_pairs s.hashing c (leaf_given s.hashing r) over rest) (single_pairs s.hashing (single_after s.bagging r.inactive (length before + length over) after) (drop (length single) (drop folded r.digests))) z
+      (member_left (over_pairs s.hashing c (leaf_given s.hashing r) over rest)
+      (single_pairs s.hashing (single_after s.bagging r.inactive (length before + length over) after) (drop (length single) (drop folded r.digests))) z
       (subst (λ us. Member (over_pairs s.hashing c (leaf_given s.hashing r) us rest) z) met_are
       (subst (λ ds. Member (over_pairs s.hashing c (leaf_given s.hashing r) (met_peaks c plan.0) ds) z) rest_is m)))
 
@@ -122,11 +124,13 @@ module _ {D : Type 0} (s : Scheme D) (r : RangeInput D) (some : 0 < length r.ele
     all w =
         let met : tree_meets c (join q l u) ≡ true = overlap ∙ and_from _ _ (lt-ltb (first_leaf l) (end_of r) w.0) (lt-ltb r.start (end_leaf u) w.1) in
         let E = λ (p : Plan). claim_of s.hashing c (leaf_given s.hashing r) p r.digests in
-        let here : Member (met_peaks c plan.0) peak_over.0 = subst (λ us. Member us peak_over.0) (sym (subst (λ o. IfSome o (λ p. met_peaks c p ≡ filter (tree_meets c) ts)) plan.1 (root_met c s.bagging r.inactive ts)))
+        let here : Member (met_peaks c plan.0) peak_over.0 =
+        subst (λ us. Member us peak_over.0) (sym (subst (λ o. IfSome o (λ p. met_peaks c p ≡ filter (tree_meets c) ts)) plan.1 (root_met c s.bagging r.inactive ts)))
         (member_filter (tree_meets c) ts peak_over.0 (meets_up s.hashing c (leaf_given s.hashing r) ns (join q l u) peak_over.0 peak_over.2 met) peak_over.1) in
         let seen = plan_hashes s.hashing c (leaf_given s.hashing r) ns plan.0 r.digests (drop (length (outside_parts c plan.0)) r.digests) peak_over.0 here q l u peak_over.2 met in
         let i = member_unmap (visited s.hashing (E plan.0)) (Node q) seen in
-        inr (subst (λ o. Member (places_in (inputs_of s.hashing (option_map E o))) (Node q)) (sym plan.1) (member_map (λ (x : Input D). x.place) (inputs s.hashing (E plan.0)) (record { place = Node q; argument = i.0 }) (member_ordered s.hashing (E plan.0) _ i.1)))
+        inr (subst (λ o. Member (places_in (inputs_of s.hashing (option_map E o))) (Node q)) (sym plan.1)
+        (member_map (λ (x : Input D). x.place) (inputs s.hashing (E plan.0)) (record { place = Node q; argument = i.0 }) (member_ordered s.hashing (E plan.0) _ i.1)))
 
 pub nodes_are_extracted : {D : Type 0} → NodesAreExtracted D
 unfolding Reads

@@ -43,7 +43,8 @@ module _ {D : Type 0} (h : Hashing D) (laws : EqDecides h) where
   finds [] y = λ x m w. m
   finds (x ∷ xs) y = at_test (is_difference h x y) (Decides-difference x y) (difference_for h xs y) (finds xs y)
     where
-      at_test : (b : Bool) → Decides b (Differ x y) → (o : Option (Collision D)) → Finds xs y o → Finds (x ∷ xs) y (cond b (Some (record { place = y.place; claimed = x.argument; listed = y.argument })) o)
+      at_test : (b : Bool) → Decides b (Differ x y) → (o : Option (Collision D)) → Finds xs y o
+          → Finds (x ∷ xs) y (cond b (Some (record { place = y.place; claimed = x.argument; listed = y.argument })) o)
       at_test true d o f = tt
       at_test false d None f = λ z. elim [ inl e ↦ λ w. false≢true (d.1 (subst (λ v. Differ v y) (sym e) w)) | inr m ↦ λ w. f z m w ]
       at_test false d (Some c) f = tt
@@ -60,7 +61,8 @@ module _ {D : Type 0} (h : Hashing D) (laws : EqDecides h) where
       (next (λ x z m n v. ⊎_elim inl (λ b. inr (b.0, b.1, b.2, ⊎_elim (λ t. absurd (none b.0 b.2 (subst (Differ b.0) (sym t.0) b.4))) (λ t. t) b.3, b.4)) (w x z m (inr n) v)))
   step xs ys y d w next (Some c) e f =
       let once : Member ys y → ⊥ = λ m. d.0 (member_map (λ (i : Input D). i.place) ys y m) in
-      let same : difference_for h xs y ≡ first_for h xs y = same_for xs y (λ x m v. ⊎_elim (λ g. g) (λ b. absurd (⊎_elim (λ t. once t.1) (λ t. once (before_last ys b.1 y t)) b.3)) (w x y m (inl refl) v)) in
+      let same : difference_for h xs y ≡ first_for h xs y =
+      same_for xs y (λ x m v. ⊎_elim (λ g. g) (λ b. absurd (⊎_elim (λ t. once t.1) (λ t. once (before_last ys b.1 y t)) b.3)) (w x y m (inl refl) v)) in
       ap (λ o. or_else o (first_difference h xs ys)) e ∙ sym (ap (λ o. or_else o (first_collision h xs ys)) (sym same ∙ e))
 
   pub first_is_collision : (xs ys : List (Input D)) → Distinct (places_in ys) → Explained xs ys → first_difference h xs ys ≡ first_collision h xs ys

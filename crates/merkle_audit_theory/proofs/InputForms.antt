@@ -7,7 +7,8 @@ use Rattle.merkle_base.specs.Tree.{Tree, leaf, join}
 use Rattle.merkle_base.specs.Places.{peaks_of}
 use Rattle.merkle_root_theory.specs.Expression.{Place, Root, Join, PrefixFold, SuffixFold, Node, Argument, Pair, Bytes, Input, Expression, supplied, computed, cross_checked, visited, inputs, is_node}
 use Rattle.merkle_root_theory.specs.Collision.{Member}
-use Rattle.merkle_root_theory.specs.Plan.{Plan, peak, folding, left_fold_plan, right_fold_plan, with_right_fold_plan, root_plan, plan_expression, node_expression, tree_meets, meets, siblings, outside_parts, path_siblings}
+use Rattle.merkle_root_theory.specs.Plan.{Plan, peak, folding, left_fold_plan, right_fold_plan, with_right_fold_plan, root_plan, plan_expression}
+use Rattle.merkle_root_theory.specs.Plan.{node_expression, tree_meets, meets, siblings, outside_parts, path_siblings}
 use Rattle.merkle_root_theory.specs.Claim.{tree_claim, claim}
 use Rattle.merkle_root_theory.specs.Check.{in_range, RangeInput, string_of, inputs_of, all_inputs, list_expression, chosen, leaf_given, range_expression}
 use Rattle.merkle_base.specs.Scheme.{Scheme}
@@ -121,14 +122,16 @@ same_pairs (Pair l r) (Bytes b) v w = w
 same_pairs (Bytes a) b v w = absurd v
 
 module _ {D : Type 0} (s t : Scheme D) (n m k j : ℕ) (e f : Option (Expression D)) (v : AllRootless s.hashing e) (w : AllRootless t.hashing f) where
-  pub one_form : (place : Place) (a b : Argument D) → Member (all_inputs s n k e) (record { place = place; argument = a }) → Member (all_inputs t m j f) (record { place = place; argument = b }) → SameForm a b
+  pub one_form : (place : Place) (a b : Argument D) → Member (all_inputs s n k e) (record { place = place; argument = a })
+      → Member (all_inputs t m j f) (record { place = place; argument = b }) → SameForm a b
   one_form place a b (inl x) (inl y) = subst (λ (z : Input D). SameForm z.argument b) x (subst (λ (z : Input D). SameForm (Bytes (string_of s n k e)) z.argument) y tt)
   one_form place a b (inl x) (inr y) = absurd (subst IsBelow (sym (ap (λ (z : Input D). z.place) x)) (inputs_of_inner t.hashing f w _ y).0)
   one_form place a b (inr x) (inl y) = absurd (subst IsBelow (sym (ap (λ (z : Input D). z.place) y)) (inputs_of_inner s.hashing e v _ x).0)
   one_form place a b (inr x) (inr y) = same_pairs a b (inputs_of_inner s.hashing e v _ x).1 (inputs_of_inner t.hashing f w _ y).1
 
 pub range_rootless : {D : Type 0} (s : Scheme D) (r : RangeInput D) → AllRootless s.hashing (range_expression s r)
-range_rootless s r = mapped_rootless s.hashing _ (λ p w. claim_rootless s.hashing (leaf_given s.hashing r) (chosen r) p w r.digests _) (root_plan s.bagging r.inactive (peaks_of s.rule r.leaves)) (whole_below s.bagging r.inactive (peaks_of s.rule r.leaves))
+range_rootless s r = mapped_rootless s.hashing _ (λ p w. claim_rootless s.hashing (leaf_given s.hashing r) (chosen r) p w r.digests _)
+    (root_plan s.bagging r.inactive (peaks_of s.rule r.leaves)) (whole_below s.bagging r.inactive (peaks_of s.rule r.leaves))
 
 pub list_rootless : {D : Type 0} (s : Scheme D) (X : ℕ → D) (n k : ℕ) → AllRootless s.hashing (list_expression s X n k)
 list_rootless s X n k = mapped_rootless s.hashing (plan_expression X) (full_rootless s.hashing X) (root_plan s.bagging k (peaks_of s.rule n)) (whole_below s.bagging k (peaks_of s.rule n))
@@ -141,7 +144,9 @@ module _ {D : Type 0} (h : Hashing D) (a : ℕ → Option D) (c : ℕ → Bool) 
 
   multi_rootless : (t : Tree) → Rootless (multi_tree h a c X t)
   multi_rootless (leaf p i) = either_rootless h X (c i) _ _ (also_rootless (a p) (supplied (X i)) tt) tt
-  multi_rootless (join p l r) = either_rootless h X (tree_meets c l || tree_meets c r) _ _ (also_rootless (a p) (computed (Node p) (multi_tree h a c X l) (multi_tree h a c X r)) (tt, multi_rootless l, multi_rootless r)) tt
+  multi_rootless (join p l r) =
+      either_rootless h X (tree_meets c l || tree_meets c r) _ _
+      (also_rootless (a p) (computed (Node p) (multi_tree h a c X l) (multi_tree h a c X r)) (tt, multi_rootless l, multi_rootless r)) tt
 
   multi_claim_rootless : (p : Plan) → FoldsBelow p → Rootless (multi_claim h a c X p)
   multi_claim_rootless (peak t) w = multi_rootless t
@@ -174,12 +179,17 @@ module _ {D : Type 0} (h : Hashing D) (b : ℕ → Option D) (w c : ℕ → Bool
   pinned_claim_rootless : (p : Plan) → FoldsBelow p → (os is : List D) → Rootless (pinned_claim h b w c X p os is)
   pinned_claim_rootless (peak t) v os is = either_rootless h X (tree_meets c t) _ _ (pinned_rootless t is) (outside_plan_rootless (peak t) v _)
   pinned_claim_rootless (folding place l r) v os is =
-      either_rootless h X (meets c l || meets c r) _ _ (v.0, pinned_claim_rootless l v.1 os is, pinned_claim_rootless r v.2 (drop (length (outside_parts c l)) os) (drop (length (path_siblings c l)) is))
+      either_rootless h X (meets c l || meets c r) _ _
+      (v.0, pinned_claim_rootless l v.1 os is, pinned_claim_rootless r v.2 (drop (length (outside_parts c l)) os) (drop (length (path_siblings c l)) is))
       (outside_plan_rootless (folding place l r) v _)
 
 pub multi_inputs_rootless : {D : Type 0} (s : Scheme D) (r : MultiInput D) → AllRootless s.hashing (multi_expression s r)
-multi_inputs_rootless s r = mapped_rootless s.hashing (multi_on s r) (λ p v. multi_claim_rootless s.hashing _ _ _ p v) (root_plan s.bagging r.inactive (peaks_of s.rule r.leaves)) (whole_below s.bagging r.inactive (peaks_of s.rule r.leaves))
+multi_inputs_rootless s r = mapped_rootless s.hashing (multi_on s r) (λ p v. multi_claim_rootless s.hashing _ _ _ p v)
+    (root_plan s.bagging r.inactive (peaks_of s.rule r.leaves)) (whole_below s.bagging r.inactive (peaks_of s.rule r.leaves))
 
 pub pinned_inputs_rootless : {D : Type 0} (s : Scheme D) (r : RangeInput D) (pins : List D) → AllRootless s.hashing (pinned_expression s r pins)
 pinned_inputs_rootless s r pins =
-    mapped_rootless s.hashing (pinned_on s r pins) (λ p v. pinned_claim_rootless s.hashing (digest_for (pin_positions s r.start) pins) (in_range 0 r.start) (chosen r) (leaf_given s.hashing r) p v r.digests (drop (length (outside_parts (chosen r) p)) r.digests)) (root_plan s.bagging r.inactive (peaks_of s.rule r.leaves)) (whole_below s.bagging r.inactive (peaks_of s.rule r.leaves))
+    mapped_rootless s.hashing (pinned_on s r pins)
+    (λ p v. pinned_claim_rootless s.hashing (digest_for (pin_positions s r.start) pins) (in_range 0 r.start) (chosen r) (leaf_given s.hashing r) p
+    v r.digests (drop (length (outside_parts (chosen r) p)) r.digests)) (root_plan s.bagging r.inactive (peaks_of s.rule r.leaves))
+    (whole_below s.bagging r.inactive (peaks_of s.rule r.leaves))

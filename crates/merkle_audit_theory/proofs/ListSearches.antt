@@ -135,7 +135,8 @@ module _ {D : Type 0} (s : Scheme D) (laws : EqDecides s.hashing) (n : ℕ) wher
         ∙ sym (looked_parts (is_collision s.hashing) f g (node_places l) (node_places r)))
         ∙ sym (ap₂ (λ u v. or_else (found_of (is_collision s.hashing) u v) (collides below)) (there X long p l r b) (there Z long' p l r b))
 
-    under_all : (ts : List Tree) → AllByRecursion (IsBuilt ns) ts → map (digest_at s.hashing X) ts ≡ map (digest_at s.hashing Z) ts → differs (flat_map node_places ts) ≡ collides (flat_map node_places ts)
+    under_all : (ts : List Tree) → AllByRecursion (IsBuilt ns) ts → map (digest_at s.hashing X) ts ≡ map (digest_at s.hashing Z) ts
+        → differs (flat_map node_places ts) ≡ collides (flat_map node_places ts)
     under_all [] b e = refl
     under_all (t ∷ ts) b e =
         looked_parts (is_difference s.hashing) f g (node_places t) (flat_map node_places ts)

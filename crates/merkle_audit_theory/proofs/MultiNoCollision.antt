@@ -33,11 +33,14 @@ module _ {D : Type 0} (h : Hashing D) (a : ℕ → Option D) (c : ℕ → Bool) 
   also_within (Some d) e f w = w
 
   tree_in_list : (t : Tree) → HonestTree h a c X t → IncludedIn h (multi_tree h a c Y t) (node_expression X t)
-  tree_in_list (leaf p i) = by_test (λ b. cond b (IfSome (a p) (λ d. d ≡ X i)) (or_empty h (a p) ≡ X i) → IncludedIn h (cond b (also (a p) (supplied (Y i))) (supplied (or_empty h (a p)))) (supplied (X i))) (c i)
+  tree_in_list (leaf p i) = by_test
+      (λ b. cond b (IfSome (a p) (λ d. d ≡ X i)) (or_empty h (a p) ≡ X i)
+      → IncludedIn h (cond b (also (a p) (supplied (Y i))) (supplied (or_empty h (a p)))) (supplied (X i))) (c i)
       (λ q s. also_within (a p) _ _ (given_within h _ _ (agrees i q))) (λ _ s. given_within h _ _ s)
   tree_in_list (join p l r) = let u = tree_in_list l in let v = tree_in_list r in
       by_test (λ b. cond b (IfSome (a p) (λ d. d ≡ tree_digest h X (join p l r)) × HonestTree h a c X l × HonestTree h a c X r) (or_empty h (a p) ≡ tree_digest h X (join p l r))
-      → IncludedIn h (cond b (also (a p) (computed (Node p) (multi_tree h a c Y l) (multi_tree h a c Y r))) (supplied (or_empty h (a p)))) (computed (Node p) (node_expression X l) (node_expression X r))) (tree_meets c l || tree_meets c r)
+      → IncludedIn h (cond b (also (a p) (computed (Node p) (multi_tree h a c Y l) (multi_tree h a c Y r))) (supplied (or_empty h (a p))))
+      (computed (Node p) (node_expression X l) (node_expression X r))) (tree_meets c l || tree_meets c r)
       (λ _ s. also_within (a p) _ _ (hashed_within h (Node p) _ _ _ _ (u s.1) (v s.2))) (λ _ s. given_within h _ _ s)
 
   pub plan_in_list : (p : Plan) → HonestPlan h a c X p → IncludedIn h (multi_claim h a c Y p) (plan_expression X p)
@@ -45,8 +48,10 @@ module _ {D : Type 0} (h : Hashing D) (a : ℕ → Option D) (c : ℕ → Bool) 
   plan_in_list (folding place l r) s = hashed_within h place _ _ _ _ (plan_in_list l s.0) (plan_in_list r s.1)
 
 -- what hashes only what the list does has no collision with it
-module _ {D : Type 0} (s : Scheme D) (laws : EqDecides s.hashing) (X : ℕ → D) (E : Plan → Expression D) (n n' k k' : ℕ) (e : n ≡ n') (f : k ≡ k') (p : Plan) (q : root_plan s.bagging k (peaks_of s.rule n) ≡ Some p) where
-  pub clear_of : IncludedIn s.hashing (E p) (plan_expression X p) → first_collision s.hashing (all_inputs s n k (option_map E (root_plan s.bagging k (peaks_of s.rule n)))) (all_inputs s n' k' (list_expression s X n' k')) ≡ None
+module _ {D : Type 0} (s : Scheme D) (laws : EqDecides s.hashing) (X : ℕ → D) (E : Plan → Expression D) (n n' k k' : ℕ) (e : n ≡ n') (f : k ≡ k')
+    (p : Plan) (q : root_plan s.bagging k (peaks_of s.rule n) ≡ Some p) where
+  pub clear_of : IncludedIn s.hashing (E p) (plan_expression X p)
+      → first_collision s.hashing (all_inputs s n k (option_map E (root_plan s.bagging k (peaks_of s.rule n)))) (all_inputs s n' k' (list_expression s X n' k')) ≡ None
   unfolding IncludedIn
   clear_of w =
       let q' : root_plan s.bagging k' (peaks_of s.rule n') ≡ Some p = ap₂ (λ x y. root_plan s.bagging x (peaks_of s.rule y)) (sym f) (sym e) ∙ q in
@@ -66,12 +71,16 @@ honest_multi_has_no_collision {D = D} s laws xs k r w =
     let back : length xs ≡ r.leaves = sym w.leaves in
     let pos : 0 < r.leaves = omega (arith, some_leaves_of, back) in
     let p = plan_for s r.leaves r.inactive pos in
-    let trees : AllByRecursion (HonestTree s.hashing (digest_for (multi_positions s.rule r.leaves (locations_in r)) r.digests) (λ i. list_any (nat_eq i) (locations_in r)) (leaf_of s.hashing xs)) (peaks_of s.rule r.leaves) =
-    subst (λ m. AllByRecursion (HonestTree s.hashing (digest_for (multi_positions s.rule m (locations_in r)) r.digests) (λ i. list_any (nat_eq i) (locations_in r)) (leaf_of s.hashing xs)) (peaks_of s.rule m)) back
-    (subst (λ ds. AllByRecursion (HonestTree s.hashing (digest_for (multi_positions s.rule (length xs) (locations_in r)) ds) (λ i. list_any (nat_eq i) (locations_in r)) (leaf_of s.hashing xs)) (peaks_of s.rule (length xs))) (sym w.digests)
+    let trees : AllByRecursion (HonestTree s.hashing (digest_for (multi_positions s.rule r.leaves (locations_in r)) r.digests)
+    (λ i. list_any (nat_eq i) (locations_in r)) (leaf_of s.hashing xs)) (peaks_of s.rule r.leaves) =
+    subst (λ m. AllByRecursion (HonestTree s.hashing (digest_for (multi_positions s.rule m (locations_in r)) r.digests)
+    (λ i. list_any (nat_eq i) (locations_in r)) (leaf_of s.hashing xs)) (peaks_of s.rule m)) back
+    (subst (λ ds. AllByRecursion (HonestTree s.hashing (digest_for (multi_positions s.rule (length xs) (locations_in r)) ds)
+    (λ i. list_any (nat_eq i) (locations_in r)) (leaf_of s.hashing xs)) (peaks_of s.rule (length xs))) (sym w.digests)
     (needs_peaks s xs (locations_in r) one.0 one.1)) in
     let agrees : (i : ℕ) → list_any (nat_eq i) (locations_in r) ≡ true → unwrap_or (digest_for (locations_in r) (leaves_in r) i) s.hashing.empty ≡ leaf_of s.hashing xs i =
-    λ i q. ap (λ ds. unwrap_or (digest_for (locations_in r) ds i) s.hashing.empty) w.elements ∙ ap (λ o. unwrap_or o s.hashing.empty) (listed_some (locations_in r) (leaf_of s.hashing xs) i (chosen_in s xs (locations_in r) i q)) in
+    λ i q. ap (λ ds. unwrap_or (digest_for (locations_in r) ds i) s.hashing.empty) w.elements
+    ∙ ap (λ o. unwrap_or o s.hashing.empty) (listed_some (locations_in r) (leaf_of s.hashing xs) i (chosen_in s xs (locations_in r) i q)) in
     clear_of s laws (leaf_of s.hashing xs) (multi_on s r) r.leaves (length xs) r.inactive k w.leaves w.inactive p.0 p.1
     (plan_in_list s.hashing _ _ (leaf_of s.hashing xs) _ agrees p.0 (each_honest s.hashing _ _ _ p.0 (of_each _ s.bagging r.inactive (peaks_of s.rule r.leaves) p.0 p.1 trees)))
   where

@@ -11,7 +11,8 @@ use Rattle.merkle_base.specs.Scheme.{Scheme}
 use Rattle.merkle_root_theory.specs.Range.{leaf_of, list_inputs}
 use Rattle.merkle_claim_theory.specs.Multiproof.{multi_expression}
 use Rattle.merkle_claim_theory.specs.Pinned.{pinned_expression}
-use Rattle.merkle_audit_theory.specs.PlainHash.{IsPlain, joined_at, string_at, IsHashCollision, SameForm, StandardIsPlain, RootCollision, PlainCollision, RangeCollision, MultiCollision, PinnedCollision, PairCollision, NodeCollision}
+use Rattle.merkle_audit_theory.specs.PlainHash.{IsPlain, joined_at, string_at, IsHashCollision, SameForm, StandardIsPlain, RootCollision, PlainCollision}
+use Rattle.merkle_audit_theory.specs.PlainHash.{RangeCollision, MultiCollision, PinnedCollision, PairCollision, NodeCollision}
 use Rattle.merkle_audit_theory.proofs.InputForms.{AllRootless, one_form, range_rootless, list_rootless, multi_inputs_rootless, pinned_inputs_rootless}
 
 pub standard_is_plain : {D : Type 0} → StandardIsPlain D
@@ -69,7 +70,8 @@ node_collision h plain size laws X Y p l r one differ = record {
 
 -- ---- of what is hashed for the checks
 module _ {D : Type 0} (s : Scheme D) (plain : IsPlain s.hashing) (size : ℕ) (laws : ByteLaws s.hashing size) where
-  computed_collision : (n m k j : ℕ) (e f : Option (Expression D)) → AllRootless s.hashing e → AllRootless s.hashing f → (c : Collision D) → Collides s.hashing (all_inputs s n k e) (all_inputs s m j f) c
+  computed_collision : (n m k j : ℕ) (e f : Option (Expression D)) → AllRootless s.hashing e → AllRootless s.hashing f → (c : Collision D)
+      → Collides s.hashing (all_inputs s n k e) (all_inputs s m j f) c
       → IsHashCollision s.hashing.hash (string_at s.hashing.bytes c.place c.claimed) (string_at s.hashing.bytes c.place c.listed)
   computed_collision n m k j e f v w c d = plain_collision s.hashing plain size laws _ _ c (one_form s s n m k j e f v w c.place c.claimed c.listed d.claimed d.listed) d
 

@@ -1,5 +1,6 @@
 -- What a range check hashes at folds, by the digests of the parts.
-use Rattle.std.proofs.Common.{◌≡◌, ℕ, zero, suc, pred, ◌+◌, ◌-◌, ◌<◌, ◌≤◌, Bool, true, ◌||◌, List, [], ◌∷◌, ◌++◌, ⊎_elim, length, map, take, drop, fold, refl, ap, ap₂, sym, ◌∙◌, arith, append-nil, append_assoc, Option, Some, None, drop_of_length-le}
+use Rattle.std.proofs.Common.{◌≡◌, ℕ, zero, suc, pred, ◌+◌, ◌-◌, ◌<◌, ◌≤◌, Bool, true, ◌||◌, List, [], ◌∷◌, ◌++◌, ⊎_elim, length, map, take, drop, fold, refl}
+use Rattle.std.proofs.Common.{ap, ap₂, sym, ◌∙◌, arith, append-nil, append_assoc, Option, Some, None, drop_of_length-le}
 use Rattle.std.proofs.lemmas.Bool.{or_left, or_right, cases_lt}
 use Rattle.std.proofs.Math.Seq.{take-append-add, drop-append-add}
 use Rattle.std.proofs.lemmas.List.{length-take, map-append, take_all, take-append-le, drop-append-le}
@@ -33,7 +34,8 @@ module _ {D : Type 0} (h : Hashing D) (c : ℕ → Bool) (Y : ℕ → D) where
       let es = after_part acc ps os is in
       joined_inputs h (fold h.fold (val acc os is) (take n es)) (left_inputs h (val acc os is) g (take n es) ++ folds h c Y acc os is) i (drop n es)
 
-  more : (n g i : ℕ) (acc : Plan) (t : Tree) (ps : List Plan) (os is : List D) → meets c acc || tree_meets c t ≡ true → inputs_from (suc n) g i acc (peak t ∷ ps) os is ≡ inputs_from n (suc g) i (folding (PrefixFold g) acc (peak t)) ps os is
+  more : (n g i : ℕ) (acc : Plan) (t : Tree) (ps : List Plan) (os is : List D) → meets c acc || tree_meets c t ≡ true
+      → inputs_from (suc n) g i acc (peak t ∷ ps) os is ≡ inputs_from n (suc g) i (folding (PrefixFold g) acc (peak t)) ps os is
   more n g i acc t ps os is m =
       let nacc = folding (PrefixFold g) acc (peak t) in
       let a = val acc os is in
@@ -42,7 +44,8 @@ module _ {D : Type 0} (h : Hashing D) (c : ℕ → Bool) (Y : ℕ → D) where
       let x : Input D = record { place = PrefixFold g; argument = Pair a b } in
       let F = folds h c Y acc os is in
       let L = left_inputs h (h.fold a b) (suc g) (take n es) in
-      let here : folds h c Y nacc os is ≡ x ∷ F = met_at h c Y (PrefixFold g) acc (peak t) os is m refl ∙ ap (λ z. x ∷ (F ++ z)) (folds_peak h c Y t (outer h c Y acc os) (inner h c Y acc is)) ∙ ap (λ z. x ∷ z) (append-nil F) in
+      let here : folds h c Y nacc os is ≡ x ∷ F = met_at h c Y (PrefixFold g) acc (peak t) os is m refl
+      ∙ ap (λ z. x ∷ (F ++ z)) (folds_peak h c Y t (outer h c Y acc os) (inner h c Y acc is)) ∙ ap (λ z. x ∷ z) (append-nil F) in
       ap (λ z. joined_inputs h (fold h.fold (h.fold a b) (take n es)) z i (drop n es)) (append_assoc L (x ∷ []) F ∙ ap (λ z. L ++ z) (sym here))
       ∙ ap₂ (λ v ds. joined_inputs h (fold h.fold v (take n ds)) (left_inputs h v (suc g) (take n ds) ++ folds h c Y nacc os is) i (drop n ds))
       (sym (value_folding h c Y (PrefixFold g) acc (peak t) os is m)) (sym (values_folding h c Y (PrefixFold g) acc (peak t) ps os is m))
@@ -64,7 +67,8 @@ module _ {D : Type 0} (h : Hashing D) (c : ℕ → Bool) (Y : ℕ → D) where
       ∙ ap (λ z. folds h c Y (with_right_fold_plan acc i (b ∷ z)) os is) (append_assoc bs (t ∷ over) after)
 
   join_left : (acc : Plan) (g i j n m : ℕ) (over after : List Tree) (os is : List D) → meets c acc ≡ true → Met c over → Unmet c after → m ≡ n - length over
-      → inputs_from n g i acc (map peak over ++ (map peak (take m after) ++ bag_all j (drop m after))) os is ≡ folds h c Y (with_right_fold_plan (left_fold_plan acc g (take n (over ++ after))) i (drop n (over ++ after))) os is
+      → inputs_from n g i acc (map peak over ++ (map peak (take m after) ++ bag_all j (drop m after))) os is
+      ≡ folds h c Y (with_right_fold_plan (left_fold_plan acc g (take n (over ++ after))) i (drop n (over ++ after))) os is
   join_left acc g i j zero zero over after os is e w u l = join_met acc g i j over after os is e w u
   join_left acc g i j zero (suc m) over after os is e w u l = absurd (omega (arith, l))
   join_left acc g i j (suc n) zero [] after os is e w u l = absurd (omega (arith, l))
@@ -90,7 +94,8 @@ module _ {D : Type 0} (h : Hashing D) (c : ℕ → Bool) (Y : ℕ → D) where
 
     -- the folds are those of the parts' digests
     unfoldable pub IsHashed : Bagging → List Tree → Type 0
-    IsHashed bagging before = numbered_inputs h bagging k (count_inactive bagging k before) (first_stands bagging before) (part_values h c Y (parts bagging before) os is) ≡ folds_of (root_plan bagging k (before ++ (t ∷ over ++ after)))
+    IsHashed bagging before = numbered_inputs h bagging k (count_inactive bagging k before) (first_stands bagging before)
+        (part_values h c Y (parts bagging before) os is) ≡ folds_of (root_plan bagging k (before ++ (t ∷ over ++ after)))
 
     all_single : map peak over ++ (map peak after ++ []) ≡ map peak (over ++ after)
     all_single = ap (λ z. map peak over ++ z) (append-nil (map peak after)) ∙ sym (map-append peak over after)
@@ -116,7 +121,8 @@ module _ {D : Type 0} (h : Hashing D) (c : ℕ → Bool) (Y : ℕ → D) where
         → numbered_inputs h BackwardFold k j st (part_values h c Y ps os is) ≡ inputs_from n g (suc (pred k)) p qs os is
     backward_as j n g st ps p qs e w f none =
         ap (λ z. numbered_inputs h BackwardFold k j st (part_values h c Y z os is)) f
-        ∙ ap₂ (λ a b. joined_inputs h (fold h.fold (val p os is) (take a (after_part p qs os is))) (left_inputs h (val p os is) b (take a (after_part p qs os is))) (suc (pred k)) (drop a (after_part p qs os is))) e w
+        ∙ ap₂ (λ a b. joined_inputs h (fold h.fold (val p os is) (take a (after_part p qs os is)))
+        (left_inputs h (val p os is) b (take a (after_part p qs os is))) (suc (pred k)) (drop a (after_part p qs os is))) e w
         ∙ ap (λ z. joined_inputs h (fold h.fold (val p os is) (take n (after_part p qs os is))) z (suc (pred k)) (drop n (after_part p qs os is)))
         (sym (ap (λ z. left_inputs h (val p os is) g (take n (after_part p qs os is)) ++ z) none ∙ append-nil (left_inputs h (val p os is) g (take n (after_part p qs os is)))))
 
@@ -127,12 +133,14 @@ module _ {D : Type 0} (h : Hashing D) (c : ℕ → Bool) (Y : ℕ → D) where
         let met = suc (length bs) + suc (length over) in
         let acc = left_fold_plan (peak b) 1 (take (pred k) bs) in
         let none : k - met ≡ 0 = omega arith in
-        backward_as (count_inactive BackwardFold k (b ∷ bs)) 0 (first_stands BackwardFold (b ∷ bs)) (first_stands BackwardFold (b ∷ bs)) _ acc (map peak (drop (pred k) bs) ++ (map peak (t ∷ over) ++ bag_all (met + (k - met)) after))
+        backward_as (count_inactive BackwardFold k (b ∷ bs)) 0 (first_stands BackwardFold (b ∷ bs)) (first_stands BackwardFold (b ∷ bs)) _ acc
+        (map peak (drop (pred k) bs) ++ (map peak (t ∷ over) ++ bag_all (met + (k - met)) after))
         (omega (arith, length-fold_all (take k (b ∷ bs)), length-take k (b ∷ bs))) refl
         (ap₂ (λ z n. z ++ (map peak (t ∷ over) ++ (map peak (take n after) ++ bag_all (met + (k - met)) (drop n after)))) (parts_before_cons k b bs) none)
         (no_folds b (take (pred k) bs) (u.0, unmet_take c (pred k) bs u.1))
         ∙ join_reaches acc (suc (pred k)) (met + (k - met)) (drop (pred k) bs) t over after os is m v
-        ∙ ap₂ (λ x y. folds h c Y (with_right_fold_plan (left_fold_plan (peak b) 1 x) (suc (pred k)) y) os is) (sym (take-append-le (pred k) bs (t ∷ over ++ after) l)) (sym (drop-append-le (pred k) bs (t ∷ over ++ after) l))
+        ∙ ap₂ (λ x y. folds h c Y (with_right_fold_plan (left_fold_plan (peak b) 1 x) (suc (pred k)) y) os is)
+        (sym (take-append-le (pred k) bs (t ∷ over ++ after) l)) (sym (drop-append-le (pred k) bs (t ∷ over ++ after) l))
 
     -- or reaches all peaks before it
     goes_past : (b : Tree) (bs : List Tree) → Unmet c (b ∷ bs) → length bs < pred k → IsHashed BackwardFold (b ∷ bs)
@@ -152,7 +160,8 @@ module _ {D : Type 0} (h : Hashing D) (c : ℕ → Bool) (Y : ℕ → D) where
         ∙ join_left (folding q acc (peak t)) (suc (1 + length bs)) (suc (pred k)) (met + (k - met)) n (k - met) over after os is reached m.1 v (omega arith)
         ∙ ap (λ z. folds h c Y (with_right_fold_plan z (suc (pred k)) (drop n (over ++ after))) os is) (sym (left_fold_append c (peak b) 1 bs (t ∷ take n (over ++ after))))
         ∙ ap₂ (λ x y. folds h c Y (with_right_fold_plan (left_fold_plan (peak b) 1 x) (suc (pred k)) y) os is)
-        (sym (ap (λ z. take z (bs ++ (t ∷ over ++ after))) far ∙ take-append-add bs (t ∷ over ++ after) (suc n))) (sym (ap (λ z. drop z (bs ++ (t ∷ over ++ after))) far ∙ drop-append-add bs (t ∷ over ++ after) (suc n)))
+        (sym (ap (λ z. take z (bs ++ (t ∷ over ++ after))) far ∙ take-append-add bs (t ∷ over ++ after) (suc n)))
+        (sym (ap (λ z. drop z (bs ++ (t ∷ over ++ after))) far ∙ drop-append-add bs (t ∷ over ++ after) (suc n)))
 
     -- or there is none before it
     none_before : IsHashed BackwardFold []
@@ -161,7 +170,8 @@ module _ {D : Type 0} (h : Hashing D) (c : ℕ → Bool) (Y : ℕ → D) where
         let met = 0 + suc (length over) in
         let later = map peak over ++ parts_after BackwardFold k met after in
         backward_as (count_inactive BackwardFold k []) (pred k) 1 (first_stands BackwardFold []) _ (peak t) later
-        (omega (arith, length-fold_all (take k []), length-take {A = Tree} k [])) (omega (arith, length-take {A = Tree} k [])) (ap (λ z. z ++ peak t ∷ later) (parts_before_nil k)) (folds_peak h c Y t os is)
+        (omega (arith, length-fold_all (take k []), length-take {A = Tree} k [])) (omega (arith, length-take {A = Tree} k []))
+        (ap (λ z. z ++ peak t ∷ later) (parts_before_nil k)) (folds_peak h c Y t os is)
         ∙ join_left (peak t) 1 (suc (pred k)) (met + (k - met)) (pred k) (k - met) over after os is m.0 m.1 v (omega arith)
 
     pub parts_hashed : (bagging : Bagging) (before : List Tree) → Unmet c before → IsHashed bagging before

@@ -1,5 +1,6 @@
 -- What a range check hashes, by the digests of the parts.
-use Rattle.std.proofs.Common.{◌≡◌, ℕ, suc, pred, ◌+◌, ◌-◌, ◌<◌, ◌≤◌, Bool, true, false, cond, ◌||◌, List, [], ◌∷◌, ◌++◌, length, map, flat_map, filter, take, drop, refl, ap, ap₂, sym, ◌∙◌, subst, arith, Some, IfSome, option_map, length-append, append_assoc, append-nil}
+use Rattle.std.proofs.Common.{◌≡◌, ℕ, suc, pred, ◌+◌, ◌-◌, ◌<◌, ◌≤◌, Bool, true, false, cond, ◌||◌, List, [], ◌∷◌, ◌++◌, length, map, flat_map, filter, take}
+use Rattle.std.proofs.Common.{drop, refl, ap, ap₂, sym, ◌∙◌, subst, arith, Some, IfSome, option_map, length-append, append_assoc, append-nil}
 use Rattle.std.proofs.lemmas.Bool.{false≢true}
 use Rattle.std.proofs.lemmas.List.Elements.{filter-append}
 use Rattle.std.specs.List.{AllByRecursion}
@@ -52,12 +53,14 @@ module _ {D : Type 0} (h : Hashing D) (c : ℕ → Bool) (Y : ℕ → D) where
   peak_nodes t os is =
       let X = λ (i : ℕ). h.empty in
       filter_all (λ (i : Input D). is_node i.place) (visited h (claim h c Y (peak t) os is)) (λ i m.
-      places_only h X t i.place (sub_member (cut_seen h (claim h c Y (peak t) os is) (node_expression X t) (claim_cut h X c Y (peak t) os is)) i.place (member_map (λ (x : Input D). x.place) (visited h (claim h c Y (peak t) os is)) i m)))
+      places_only h X t i.place (sub_member (cut_seen h (claim h c Y (peak t) os is) (node_expression X t) (claim_cut h X c Y (peak t) os is)) i.place
+      (member_map (λ (x : Input D). x.place) (visited h (claim h c Y (peak t) os is)) i m)))
 
   claim_nodes : (p : Plan) (os is : List D) → FoldsApart p → nodes_in (claim h c Y p os is) ≡ over_inputs h c Y (met_peaks c p) is
   unfolding FoldsApart
   claim_nodes (peak t) os is f = peak_nodes t os is
-      ∙ by_test (λ z. visited h (cond z (tree_claim h c Y t is) (supplied (next h os))) ≡ over_inputs h c Y (cond z (t ∷ []) []) is) (tree_meets c t) (λ _. sym (append-nil (visited h (tree_claim h c Y t is)))) (λ _. refl)
+      ∙ by_test (λ z. visited h (cond z (tree_claim h c Y t is) (supplied (next h os))) ≡ over_inputs h c Y (cond z (t ∷ []) []) is) (tree_meets c t)
+      (λ _. sym (append-nil (visited h (tree_claim h c Y t is)))) (λ _. refl)
   claim_nodes (folding place l r) os is f =
       let os' = drop (length (outside_parts c l)) os in
       let is' = drop (length (path_siblings c l)) is in
@@ -119,7 +122,9 @@ module _ {D : Type 0} (h : Hashing D) (c : ℕ → Bool) (Y : ℕ → D) where
       )
 
 pub range_by_peaks : {D : Type 0} → RangeByPeaks D
-range_by_peaks {D = D} s r root ok = at (wholly_before a ts) (overlapping a b ts) (wholly_after b ts) (some_over a b 0 r.leaves ts less (peaks_spans s.rule r.leaves) (omega arith) (omega (arith, ok.within, less)))
+range_by_peaks {D = D} s r root ok =
+    at (wholly_before a ts) (overlapping a b ts) (wholly_after b ts)
+    (some_over a b 0 r.leaves ts less (peaks_spans s.rule r.leaves) (omega arith) (omega (arith, ok.within, less)))
     (unmet_before a b _ ts built) (met_over a b _ ts less built) (unmet_after a b _ ts built) (groups a b 0 r.leaves ts less (peaks_spans s.rule r.leaves))
     (omega (arith, ok.counts, layout_counts s r)) met_are parts_are
   where
@@ -148,8 +153,11 @@ range_by_peaks {D = D} s r root ok = at (wholly_before a ts) (overlapping a b ts
     met_are = subst (λ o. IfSome o (λ p. met_peaks (chosen r) p ≡ filter (tree_meets (chosen r)) ts)) plan.1 (root_met (chosen r) s.bagging r.inactive ts)
         ∙ met_overlap a b less (forest s.rule r.leaves).nodes ts built
 
-    parts_are : length (outside_parts (chosen r) plan.0) ≡ count_before s.bagging r.inactive (wholly_before a ts) + count_after s.bagging r.inactive (length (wholly_before a ts) + length (overlapping a b ts)) (wholly_after b ts)
-    parts_are = ap length (subst (HasLayout (chosen r) (range_parts s.bagging r.inactive a b ts) (range_siblings a b ts)) plan.1 (range_layout s r.leaves r.inactive a b less ok.within)).0 ∙ layout_counts s r
+    parts_are : length (outside_parts (chosen r) plan.0)
+        ≡ count_before s.bagging r.inactive (wholly_before a ts) + count_after s.bagging r.inactive
+        (length (wholly_before a ts) + length (overlapping a b ts)) (wholly_after b ts)
+    parts_are = ap length (subst (HasLayout (chosen r) (range_parts s.bagging r.inactive a b ts) (range_siblings a b ts)) plan.1
+        (range_layout s r.leaves r.inactive a b less ok.within)).0 ∙ layout_counts s r
 
     at : (before over after : List Tree) → (over ≡ [] → ⊥) → Unmet (chosen r) before → Met (chosen r) over → Unmet (chosen r) after → ts ≡ before ++ (over ++ after)
         → count_before s.bagging r.inactive before + count_after s.bagging r.inactive (length before + length over) after ≤ length r.digests
@@ -159,13 +167,18 @@ range_by_peaks {D = D} s r root ok = at (wholly_before a ts) (overlapping a b ts
         ≡ record {
           place = Root;
           argument = Bytes (root_string s.hashing s.domain s.bagging r.leaves r.inactive (folded s.hashing.fold s.bagging (count_inactive s.bagging r.inactive before)
-              (take (count_before s.bagging r.inactive before) r.digests ++ (peak_values s.hashing (chosen r) (leaf_given s.hashing r) over (drop (count_before s.bagging r.inactive before + count_after s.bagging r.inactive (length before + length over) after) r.digests)
+              (take (count_before s.bagging r.inactive before) r.digests
+              ++ (peak_values s.hashing (chosen r) (leaf_given s.hashing r) over
+              (drop (count_before s.bagging r.inactive before + count_after s.bagging r.inactive (length before + length over) after) r.digests)
               ++ take (count_after s.bagging r.inactive (length before + length over) after) (drop (count_before s.bagging r.inactive before) r.digests)))));
         }
         ∷ numbered_inputs s.hashing s.bagging r.inactive (count_inactive s.bagging r.inactive before) (suc (pred (length (folded_prefix s.bagging r.inactive before))))
-        (take (count_before s.bagging r.inactive before) r.digests ++ (peak_values s.hashing (chosen r) (leaf_given s.hashing r) over (drop (count_before s.bagging r.inactive before + count_after s.bagging r.inactive (length before + length over) after) r.digests)
+        (take (count_before s.bagging r.inactive before) r.digests
+        ++ (peak_values s.hashing (chosen r) (leaf_given s.hashing r) over
+        (drop (count_before s.bagging r.inactive before + count_after s.bagging r.inactive (length before + length over) after) r.digests)
         ++ take (count_after s.bagging r.inactive (length before + length over) after) (drop (count_before s.bagging r.inactive before) r.digests)))
-        ++ over_inputs s.hashing (chosen r) (leaf_given s.hashing r) over (drop (count_before s.bagging r.inactive before + count_after s.bagging r.inactive (length before + length over) after) r.digests)
+        ++ over_inputs s.hashing (chosen r) (leaf_given s.hashing r) over
+        (drop (count_before s.bagging r.inactive before + count_after s.bagging r.inactive (length before + length over) after) r.digests)
     at before [] after x u m v split l met parts = absurd (x refl)
     at before (t ∷ over) after x u m v split l met parts =
         let Y = leaf_given s.hashing r in
@@ -177,4 +190,5 @@ range_by_peaks {D = D} s r root ok = at (wholly_before a ts) (overlapping a b ts
         ap (λ o. all_inputs s r.leaves r.inactive (option_map E o)) plan.1
         ∙ ap (λ e. all_inputs s r.leaves r.inactive (Some e)) here
         ∙ ap₂ (λ o xs. record { place = Root; argument = Bytes (root_string s.hashing s.domain s.bagging r.leaves r.inactive o) } ∷ xs) w.1
-        (ap₂ ◌++◌ w.0 (claim_nodes s.hashing c Y plan.0 r.digests rest (subst (λ o. IfSome o FoldsApart) plan.1 (root_apart s.bagging r.inactive ts)) ∙ ap (λ us. over_inputs s.hashing c Y us rest) met))
+        (ap₂ ◌++◌ w.0 (claim_nodes s.hashing c Y plan.0 r.digests rest (subst (λ o. IfSome o FoldsApart) plan.1 (root_apart s.bagging r.inactive ts))
+        ∙ ap (λ us. over_inputs s.hashing c Y us rest) met))

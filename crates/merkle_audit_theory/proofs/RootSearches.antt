@@ -1,5 +1,6 @@
 -- The search of two lists of inputs, each of them for one root.
-use Rattle.std.proofs.Common.{◌≡◌, ◌≢◌, ℕ, ◌≤◌, ◌<◌, ◌^◌, Bool, true, false, not, cond, List, [], ◌∷◌, ◌++◌, flat_map, get_or, ◌+◌, ◌-◌, length, inl, inr, refl, ap, ap₂, sym, ◌∙◌, subst, ⊎_elim, arith, bytes_eq, Option, Some, None, option_map, Ok}
+use Rattle.std.proofs.Common.{◌≡◌, ◌≢◌, ℕ, ◌≤◌, ◌<◌, ◌^◌, Bool, true, false, not, cond, List, [], ◌∷◌, ◌++◌, flat_map, get_or, ◌+◌, ◌-◌, length, inl, inr, refl}
+use Rattle.std.proofs.Common.{ap, ap₂, sym, ◌∙◌, subst, ⊎_elim, arith, bytes_eq, Option, Some, None, option_map, Ok}
 use Rattle.std.proofs.lemmas.Slice.Eq.{bytes_eq-Decides}
 use Rattle.merkle_base.specs.Hashing.{Hashing}
 use Rattle.merkle_base.specs.Places.{peaks_of}
@@ -56,7 +57,8 @@ module _ {D : Type 0} (s : Scheme D) where
     one_order q =
         let w = tells_all s.hashing size bytes s.domain s.domain s.bagging s.bagging n n' k k' _ _ a a' b b' q in
         let same : n ≡ n' = w.2 in
-        let folded = subst (λ m. SameFolded k (option_map (value s.hashing) (option_map E (root_plan s.bagging k (peaks_of s.rule m)))) k' (option_map (value s.hashing) (option_map E' (root_plan s.bagging k' (peaks_of s.rule n'))))) same w.3 in
+        let folded = subst (λ m. SameFolded k (option_map (value s.hashing) (option_map E (root_plan s.bagging k (peaks_of s.rule m)))) k'
+        (option_map (value s.hashing) (option_map E' (root_plan s.bagging k' (peaks_of s.rule n'))))) same w.3 in
         (same, ap (λ m. full_places s m k) same ∙ ap (λ l. Root ∷ l) (at_plans n' k k' (peaks_of s.rule n') E E' folded))
 
 -- ---- the answer of a search in parts
@@ -81,7 +83,8 @@ module _ {D : Type 0} (h : Hashing D) (p q : List ℕ) where
   none_at_root e = ap (λ b. cond (not b) (Some (record { place = Root; claimed = Bytes p; listed = Bytes q })) None) (equal_strings e)
 
   first_at_root : (xs ys : List (Input D)) → p ≢ q → first_difference h (x ∷ xs) (y ∷ ys) ≡ Some (record { place = Root; claimed = Bytes p; listed = Bytes q })
-  first_at_root xs ys n = ap (λ b. or_else (cond (not b) (Some (record { place = Root; claimed = Bytes p; listed = Bytes q })) (difference_for h xs y)) (first_difference h (x ∷ xs) ys)) (other_strings n)
+  first_at_root xs ys n = ap (λ b. or_else
+      (cond (not b) (Some (record { place = Root; claimed = Bytes p; listed = Bytes q })) (difference_for h xs y)) (first_difference h (x ∷ xs) ys)) (other_strings n)
 
 module _ {D : Type 0} (s : Scheme D) (n n' k k' : ℕ) (xs ys : List (Input D)) (p q : List ℕ) (fx nx fy ny : List (Input D))
     (left : xs ≡ record { place = Root; argument = Bytes p } ∷ fx ++ nx) (right : ys ≡ record { place = Root; argument = Bytes q } ∷ fy ++ ny)
@@ -98,7 +101,8 @@ module _ {D : Type 0} (s : Scheme D) (n n' k k' : ℕ) (xs ys : List (Input D)) 
 
       equal : p ≡ q → o ≡ first_difference s.hashing xs ys
       equal e =
-          let found = λ (us vs : List (Input D)). or_else (first_difference s.hashing fx fy) (looked_up (is_difference s.hashing) (flat_map node_places (peaks_of s.rule n')) (input_at us) (input_at vs)) in
+          let found = λ (us vs : List (Input D)). or_else (first_difference s.hashing fx fy)
+          (looked_up (is_difference s.hashing) (flat_map node_places (peaks_of s.rule n')) (input_at us) (input_at vs)) in
           let vx = subst (λ zs. IsSublist (places_in zs) (full_places s n' k')) left (subst (IsSublist (places_in xs)) (one e) sx) in
           let vy = subst (λ zs. IsSublist (places_in zs) (full_places s n' k')) right sy in
           same e ∙ ap₂ found left right
@@ -125,14 +129,17 @@ module _ {D : Type 0} (s : Scheme D) (size max_nodes : ℕ) (sound : IsLawfulSch
       (tfx : AreOfTier 1 fx) (tnx : AreOfTier 2 nx) (tfy : AreOfTier 1 fy) (tny : AreOfTier 2 ny) (o : Option (Collision D)) where
     pub range_searched : (p ≢ q → o ≡ Some (record { place = Root; claimed = Bytes p; listed = Bytes q }))
         → (p ≡ q → r.leaves ≡ length X
-        → o ≡ or_else (first_difference s.hashing fx fy) (looked_up (is_difference s.hashing) (flat_map node_places (peaks_of s.rule (length X))) (input_at (range_inputs s r)) (input_at (list_inputs s X k))))
+        → o ≡ or_else (first_difference s.hashing fx fy)
+        (looked_up (is_difference s.hashing) (flat_map node_places (peaks_of s.rule (length X))) (input_at (range_inputs s r)) (input_at (list_inputs s X k))))
         → o ≡ first_collision s.hashing (range_inputs s r) (list_inputs s X k)
     range_searched apart same =
         let c = small_counts r (list_root s X k) ((leads_is_accepted s r (list_root s X k)).0 ok) in
         let order : p ≡ q → (r.leaves ≡ length X) × (full_places s r.leaves r.inactive ≡ full_places s (length X) k) = λ e.
         one_order s size sound.bytes r.leaves (length X) r.inactive k c.0 (small_leaves s max_nodes (length X) sound.lawful few) c.1 (small_inactive s max_nodes (length X) k sound.lawful few low)
         (claimed r) (plan_expression (leaf_of s.hashing X))
-        (head_string (range_expression s r) r.leaves r.inactive p (fx ++ nx) left ∙ e ∙ sym (head_string (option_map (plan_expression (leaf_of s.hashing X)) (root_plan s.bagging k (peaks_of s.rule (length X)))) (length X) k q (fy ++ ny) right)) in
+        (head_string (range_expression s r) r.leaves r.inactive p (fx ++ nx) left ∙ e
+        ∙ sym (head_string (option_map (plan_expression (leaf_of s.hashing X)) (root_plan s.bagging k (peaks_of s.rule (length X)))) (length X) k
+        q (fy ++ ny) right)) in
         parted_search s r.leaves (length X) r.inactive k (range_inputs s r) (list_inputs s X k) p q fx nx fy ny left right tfx tnx tfy tny
         (claim_places.range s r) (subst (λ ps. IsSublist ps (full_places s (length X) k)) (sym (claim_places.listed s X k)) (sub_all (full_places s (length X) k)))
         (λ e. (order e).1) o apart (λ e. same e (order e).0)
@@ -145,7 +152,8 @@ module _ {D : Type 0} (s : Scheme D) (size max_nodes : ℕ) (sound : IsLawfulSch
       (tfx : AreOfTier 1 fx) (tnx : AreOfTier 2 nx) (tfy : AreOfTier 1 fy) (tny : AreOfTier 2 ny) (o : Option (Collision D)) where
     pub pair_searched : (p ≢ q → o ≡ Some (record { place = Root; claimed = Bytes p; listed = Bytes q }))
         → (p ≡ q → r.leaves ≡ t.leaves
-        → o ≡ or_else (first_difference s.hashing fx fy) (looked_up (is_difference s.hashing) (flat_map node_places (peaks_of s.rule t.leaves)) (input_at (range_inputs s r)) (input_at (range_inputs s t))))
+        → o ≡ or_else (first_difference s.hashing fx fy)
+        (looked_up (is_difference s.hashing) (flat_map node_places (peaks_of s.rule t.leaves)) (input_at (range_inputs s r)) (input_at (range_inputs s t))))
         → o ≡ first_collision s.hashing (range_inputs s r) (range_inputs s t)
     pair_searched apart same =
         let c = small_counts r root ((leads_is_accepted s r root).0 ok) in
@@ -164,14 +172,17 @@ module _ {D : Type 0} (s : Scheme D) (size max_nodes : ℕ) (sound : IsLawfulSch
       (tfx : AreOfTier 1 fx) (tnx : AreOfTier 2 nx) (tfy : AreOfTier 1 fy) (tny : AreOfTier 2 ny) (o : Option (Collision D)) where
     pub multi_searched : (p ≢ q → o ≡ Some (record { place = Root; claimed = Bytes p; listed = Bytes q }))
         → (p ≡ q → r.leaves ≡ length X
-        → o ≡ or_else (first_difference s.hashing fx fy) (looked_up (is_difference s.hashing) (flat_map node_places (peaks_of s.rule (length X))) (input_at (multi_inputs s r)) (input_at (list_inputs s X k))))
+        → o ≡ or_else (first_difference s.hashing fx fy)
+        (looked_up (is_difference s.hashing) (flat_map node_places (peaks_of s.rule (length X))) (input_at (multi_inputs s r)) (input_at (list_inputs s X k))))
         → o ≡ first_collision s.hashing (multi_inputs s r) (list_inputs s X k)
     multi_searched apart same =
         let order : p ≡ q → (r.leaves ≡ length X) × (full_places s r.leaves r.inactive ≡ full_places s (length X) k) = λ e.
         one_order s size sound.bytes r.leaves (length X) r.inactive k (small_leaves s max_nodes r.leaves sound.lawful ok.leaves) (small_leaves s max_nodes (length X) sound.lawful few)
         (small_inactive s max_nodes r.leaves r.inactive sound.lawful ok.leaves ok.inactive) (small_inactive s max_nodes (length X) k sound.lawful few low)
         (multi_on s r) (plan_expression (leaf_of s.hashing X))
-        (head_string (multi_expression s r) r.leaves r.inactive p (fx ++ nx) left ∙ e ∙ sym (head_string (option_map (plan_expression (leaf_of s.hashing X)) (root_plan s.bagging k (peaks_of s.rule (length X)))) (length X) k q (fy ++ ny) right)) in
+        (head_string (multi_expression s r) r.leaves r.inactive p (fx ++ nx) left ∙ e
+        ∙ sym (head_string (option_map (plan_expression (leaf_of s.hashing X)) (root_plan s.bagging k (peaks_of s.rule (length X)))) (length X) k
+        q (fy ++ ny) right)) in
         parted_search s r.leaves (length X) r.inactive k (multi_inputs s r) (list_inputs s X k) p q fx nx fy ny left right tfx tnx tfy tny
         (claim_places.multi s r) (subst (λ ps. IsSublist ps (full_places s (length X) k)) (sym (claim_places.listed s X k)) (sub_all (full_places s (length X) k)))
         (λ e. (order e).1) o apart (λ e. same e (order e).0)
@@ -184,14 +195,17 @@ module _ {D : Type 0} (s : Scheme D) (size max_nodes : ℕ) (sound : IsLawfulSch
       (tfx : AreOfTier 1 fx) (tnx : AreOfTier 2 nx) (tfy : AreOfTier 1 fy) (tny : AreOfTier 2 ny) (o : Option (Collision D)) where
     pub pinned_searched : (p ≢ q → o ≡ Some (record { place = Root; claimed = Bytes p; listed = Bytes q }))
         → (p ≡ q → r.leaves ≡ length X
-        → o ≡ or_else (first_difference s.hashing fx fy) (looked_up (is_difference s.hashing) (flat_map node_places (peaks_of s.rule (length X))) (input_at (pinned_inputs s r pins)) (input_at (list_inputs s X k))))
+        → o ≡ or_else (first_difference s.hashing fx fy)
+        (looked_up (is_difference s.hashing) (flat_map node_places (peaks_of s.rule (length X))) (input_at (pinned_inputs s r pins)) (input_at (list_inputs s X k))))
         → o ≡ first_collision s.hashing (pinned_inputs s r pins) (list_inputs s X k)
     pinned_searched apart same =
         let c = small_counts r (list_root s X k) ((leads_is_accepted s r (list_root s X k)).0 ok.0) in
         let order : p ≡ q → (r.leaves ≡ length X) × (full_places s r.leaves r.inactive ≡ full_places s (length X) k) = λ e.
         one_order s size sound.bytes r.leaves (length X) r.inactive k c.0 (small_leaves s max_nodes (length X) sound.lawful few) c.1 (small_inactive s max_nodes (length X) k sound.lawful few low)
         (pinned_on s r pins) (plan_expression (leaf_of s.hashing X))
-        (head_string (pinned_expression s r pins) r.leaves r.inactive p (fx ++ nx) left ∙ e ∙ sym (head_string (option_map (plan_expression (leaf_of s.hashing X)) (root_plan s.bagging k (peaks_of s.rule (length X)))) (length X) k q (fy ++ ny) right)) in
+        (head_string (pinned_expression s r pins) r.leaves r.inactive p (fx ++ nx) left ∙ e
+        ∙ sym (head_string (option_map (plan_expression (leaf_of s.hashing X)) (root_plan s.bagging k (peaks_of s.rule (length X)))) (length X) k
+        q (fy ++ ny) right)) in
         parted_search s r.leaves (length X) r.inactive k (pinned_inputs s r pins) (list_inputs s X k) p q fx nx fy ny left right tfx tnx tfy tny
         (claim_places.pinned s r pins) (subst (λ ps. IsSublist ps (full_places s (length X) k)) (sym (claim_places.listed s X k)) (sub_all (full_places s (length X) k)))
         (λ e. (order e).1) o apart (λ e. same e (order e).0)

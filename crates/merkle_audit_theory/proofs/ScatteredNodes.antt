@@ -1,5 +1,6 @@
 -- What a check of scattered leaves hashes at nodes.
-use Rattle.std.proofs.Common.{◌≡◌, ℕ, suc, pred, Bool, true, false, cond, ◌||◌, nat_eq, List, [], ◌∷◌, ◌++◌, ◌⊎◌, inl, inr, refl, ap, sym, ◌∙◌, subst, ⊎_elim, map, flat_map, take, drop, fold, Option, Some, None, slice_get, unwrap_or}
+use Rattle.std.proofs.Common.{◌≡◌, ℕ, suc, pred, Bool, true, false, cond, ◌||◌, nat_eq, List, [], ◌∷◌, ◌++◌, ◌⊎◌, inl, inr, refl, ap, sym, ◌∙◌, subst, ⊎_elim}
+use Rattle.std.proofs.Common.{map, flat_map, take, drop, fold, Option, Some, None, slice_get, unwrap_or}
 use Rattle.std.specs.List.{list_any}
 use Rattle.std.proofs.lemmas.Bool.{false≢true}
 use Rattle.merkle_base.specs.Forest.{forest}
@@ -44,7 +45,8 @@ module _ {D : Type 0} (h : Hashing D) where
   right_none i d (e ∷ es) x (inl q) = sym (ap (λ (y : Input D). is_node y.place) q)
   right_none i d (e ∷ es) x (inr m) = right_none (suc i) e es x m
 
-  joined_none : (acc : D) (us : List (Input D)) (i : ℕ) (ds : List D) → ((x : Input D) → Member us x → is_node x.place ≡ false) → (x : Input D) → Member (joined_inputs h acc us i ds) x → is_node x.place ≡ false
+  joined_none : (acc : D) (us : List (Input D)) (i : ℕ) (ds : List D) → ((x : Input D) → Member us x → is_node x.place ≡ false) → (x : Input D)
+      → Member (joined_inputs h acc us i ds) x → is_node x.place ≡ false
   joined_none acc us i [] f x m = f x m
   joined_none acc us i (e ∷ es) f x (inl q) = sym (ap (λ (y : Input D). is_node y.place) q)
   joined_none acc us i (e ∷ es) f x (inr m) = ⊎_elim (λ w. f x w) (λ w. right_none i e es x w) (member_split us (right_inputs h i e es) x m)
@@ -52,7 +54,8 @@ module _ {D : Type 0} (h : Hashing D) where
   folds_none : (b : Bagging) (k : ℕ) (ds : List D) (x : Input D) → Member (fold_inputs h b k ds) x → is_node x.place ≡ false
   folds_none b k [] x m = elim m [ ]
   folds_none ForwardFold k (d ∷ ds) x m = left_none d 1 ds x m
-  folds_none BackwardFold k (d ∷ ds) x m = joined_none (fold h.fold d (take (pred k) ds)) (left_inputs h d 1 (take (pred k) ds)) (suc (pred k)) (drop (pred k) ds) (left_none d 1 (take (pred k) ds)) x m
+  folds_none BackwardFold k (d ∷ ds) x m =
+      joined_none (fold h.fold d (take (pred k) ds)) (left_inputs h d 1 (take (pred k) ds)) (suc (pred k)) (drop (pred k) ds) (left_none d 1 (take (pred k) ds)) x m
 
 top_none : {D : Type 0} (s : Scheme D) (n k : ℕ) (ds : List D) (x : Input D) → Member (top_inputs s n k ds) x → is_node x.place ≡ false
 top_none s n k ds x (inl e) = sym (ap (λ (y : Input _). is_node y.place) e)
@@ -90,7 +93,8 @@ module _ {D : Type 0} (h : Hashing D) (a : ℕ → Option D) (c : ℕ → Bool) 
   pub tree_seen : (t : Tree) (q : ℕ) (l u : Tree) → IsUnder (join q l u) t → tree_meets c (join q l u) ≡ true → Member (places_in (visited h (at_tree t))) (Node q)
   tree_seen (leaf p i) q l u w m = absurd (cc)
   tree_seen (join p L R) q l u w m =
-      subst (λ z. Member (places_in (visited h (cond z (also (a p) (computed (Node p) (at_tree L) (at_tree R))) (supplied (or_empty h (a p)))))) (Node q)) (sym (meets_up h c Y ns (join q l u) (join p L R) w m))
+      subst (λ z. Member (places_in (visited h (cond z (also (a p) (computed (Node p) (at_tree L) (at_tree R))) (supplied (or_empty h (a p))))))
+      (Node q)) (sym (meets_up h c Y ns (join q l u) (join p L R) w m))
       (subst (λ us. Member (places_in us) (Node q)) (sym (also_visited (a p) (computed (Node p) (at_tree L) (at_tree R))))
       (at_side w (λ k. tree_seen L q l u k m) (λ k. tree_seen R q l u k m)))
     where
@@ -128,7 +132,8 @@ module _ {D : Type 0} (s : Scheme D) (r : MultiInput D) where
   digests q x m =
       let i : Input D = record { place = Node q; argument = x } in
       ⊎_elim (λ w. let e : true ≡ false = top_none s r.leaves r.inactive (map (multi_digest s r) ts) i w in absurd (false≢true (sym e)))
-      (λ w. let v = flat_member (λ t. visited s.hashing (multi_on s r (peak t))) ts i w in tree_digests s.hashing a c Y ns v.0 (all_member (IsBuilt ns) ts v.0 (peaks_built s.rule r.leaves) v.1) q x v.2)
+      (λ w. let v = flat_member (λ t. visited s.hashing (multi_on s r (peak t))) ts i w in
+      tree_digests s.hashing a c Y ns v.0 (all_member (IsBuilt ns) ts v.0 (peaks_built s.rule r.leaves) v.1) q x v.2)
       (member_split tops lows i (subst (λ us. Member us i) (inputs_by_peaks.multi s r) m))
 
   only : (q : ℕ) (l u : Tree) → slice_get ns q ≡ Some (join q l u) → Member (places_in (multi_inputs s r)) (Node q) → tree_meets c (join q l u) ≡ true

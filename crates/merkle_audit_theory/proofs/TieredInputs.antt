@@ -1,5 +1,6 @@
 -- Of what is hashed for a root, the folds and the nodes; and the search in these parts.
-use Rattle.std.proofs.Common.{◌≡◌, ℕ, zero, suc, pred, ◌-◌, nat_lt, Bool, true, false, cond, ◌||◌, List, [], ◌∷◌, ◌++◌, filter, flat_map, take, drop, fold, length, refl, ap, ap₂, sym, ◌∙◌, subst, Option, None, Some}
+use Rattle.std.proofs.Common.{◌≡◌, ℕ, zero, suc, pred, ◌-◌, nat_lt, Bool, true, false, cond, ◌||◌, List, [], ◌∷◌, ◌++◌, filter, flat_map, take, drop, fold}
+use Rattle.std.proofs.Common.{length, refl, ap, ap₂, sym, ◌∙◌, subst, Option, None, Some}
 use Rattle.std.specs.List.{AllByRecursion}
 use Rattle.merkle_base.specs.Hashing.{Hashing}
 use Rattle.merkle_base.specs.Places.{peaks_of}
@@ -70,7 +71,8 @@ module _ {D : Type 0} (h : Hashing D) where
 
   pub over_tier : (c : ℕ → Bool) (X : ℕ → D) (ts : List Tree) (ds : List D) → AreOfTier 2 (over_inputs h c X ts ds)
   over_tier c X [] ds = tt
-  over_tier c X (t ∷ ts) ds = tiers_joined 2 (visited h (tree_claim h c X t ds)) (over_inputs h c X ts (drop (length (siblings c t)) ds)) (tree_tier c X t ds) (over_tier c X ts (drop (length (siblings c t)) ds))
+  over_tier c X (t ∷ ts) ds = tiers_joined 2 (visited h (tree_claim h c X t ds)) (over_inputs h c X ts (drop (length (siblings c t)) ds))
+      (tree_tier c X t ds) (over_tier c X ts (drop (length (siblings c t)) ds))
 
   also_tier : (o : Option D) (e : Expression D) → AreOfTier 2 (visited h e) → AreOfTier 2 (visited h (also o e))
   also_tier None e a = a
@@ -120,7 +122,8 @@ nodes_joined : (ps qs : List Place) → filter is_node (ps ++ qs) ≡ filter is_
 nodes_joined [] qs = refl
 nodes_joined (p ∷ ps) qs =
     let w = nodes_joined ps qs in
-    by_test (λ b. cond b (p ∷ filter is_node (ps ++ qs)) (filter is_node (ps ++ qs)) ≡ cond b (p ∷ filter is_node ps) (filter is_node ps) ++ filter is_node qs) (is_node p) (λ _. ap (λ z. p ∷ z) w) (λ _. w)
+    by_test (λ b. cond b (p ∷ filter is_node (ps ++ qs)) (filter is_node (ps ++ qs)) ≡ cond b (p ∷ filter is_node ps) (filter is_node ps)
+    ++ filter is_node qs) (is_node p) (λ _. ap (λ z. p ∷ z) w) (λ _. w)
 
 no_downs : (n : ℕ) → filter is_node (down n) ≡ []
 no_downs zero = refl
@@ -223,8 +226,12 @@ pub searched : {D : Type 0} (s : Scheme D) (n k : ℕ) (a b : Input D) (fx nx fy
     (looked_up (is_difference s.hashing) (flat_map node_places (peaks_of s.rule n)) (input_at (a ∷ fx ++ nx)) (input_at (b ∷ fy ++ ny))))
 searched s n k a b fx nx fy ny ta tb tfx tnx tfy tny sx sy =
     let ps = flat_map node_places (peaks_of s.rule n) in
-    let ux : IsSublist (places_in nx) ps = subst (λ qs. IsSublist qs ps) (nodes_among a fx nx ta tfx tnx) (subst (λ qs. IsSublist (filter is_node (places_in (a ∷ fx ++ nx))) qs) (full_nodes s n k) (sub_filter is_node sx)) in
-    let uy : IsSublist (places_in ny) ps = subst (λ qs. IsSublist qs ps) (nodes_among b fy ny tb tfy tny) (subst (λ qs. IsSublist (filter is_node (places_in (b ∷ fy ++ ny))) qs) (full_nodes s n k) (sub_filter is_node sy)) in
+    let ux : IsSublist (places_in nx) ps =
+    subst (λ qs. IsSublist qs ps) (nodes_among a fx nx ta tfx tnx)
+    (subst (λ qs. IsSublist (filter is_node (places_in (a ∷ fx ++ nx))) qs) (full_nodes s n k) (sub_filter is_node sx)) in
+    let uy : IsSublist (places_in ny) ps =
+    subst (λ qs. IsSublist qs ps) (nodes_among b fy ny tb tfy tny)
+    (subst (λ qs. IsSublist (filter is_node (places_in (b ∷ fy ++ ny))) qs) (full_nodes s n k) (sub_filter is_node sy)) in
     let once : Distinct ps = subst Distinct (full_nodes s n k) (sub_distinct (filtered (full_places s n k)) (claim_places.once s n k)) in
     in_parts s.hashing a b fx nx fy ny ta tb tfx tnx tfy tny
     ∙ ap (λ o. or_else (difference_for s.hashing (a ∷ []) b) (or_else (first_difference s.hashing fx fy) o))

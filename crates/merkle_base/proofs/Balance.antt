@@ -101,7 +101,8 @@ same_under ns a b (join p l r) k h u v f e = elim u [
   ]
 ]
 
-pub same_under_one : (ns : List Tree) (n : ℕ) (a b : Tree) (ts : List Tree) → Covers n ts → AllByRecursion (IsBuilt ns) ts → AllByRecursion IsBalanced ts → IsUnderOne a ts → IsUnderOne b ts → first_leaf a ≡ first_leaf b → height a ≡ height b → a ≡ b
+pub same_under_one : (ns : List Tree) (n : ℕ) (a b : Tree) (ts : List Tree) → Covers n ts → AllByRecursion (IsBuilt ns) ts
+    → AllByRecursion IsBalanced ts → IsUnderOne a ts → IsUnderOne b ts → first_leaf a ≡ first_leaf b → height a ≡ height b → a ≡ b
 same_under_one ns n a b [] c k h u v f e = absurd u
 same_under_one ns n a b (t ∷ ts) c k h u v f e = elim u [
   | inl x ↦ elim v [
@@ -114,7 +115,8 @@ same_under_one ns n a b (t ∷ ts) c k h u v f e = elim u [
   ]
 ]
 
-pub same_node : (rule : List ℕ → List ℕ) (max_leaves : ℕ) → MergesEqual rule max_leaves → (n p q : ℕ) (a b : Tree) → n ≤ max_leaves → slice_get (forest rule n).nodes p ≡ Some a → slice_get (forest rule n).nodes q ≡ Some b → first_leaf a ≡ first_leaf b → height a ≡ height b → a ≡ b
+pub same_node : (rule : List ℕ → List ℕ) (max_leaves : ℕ) → MergesEqual rule max_leaves → (n p q : ℕ) (a b : Tree) → n ≤ max_leaves
+    → slice_get (forest rule n).nodes p ≡ Some a → slice_get (forest rule n).nodes q ≡ Some b → first_leaf a ≡ first_leaf b → height a ≡ height b → a ≡ b
 same_node rule max_leaves equal n p q a b h d e f g =
     let k : IsGrown n (forest rule n) = forest_grown rule n in
     same_under_one (forest rule n).nodes n a b (forest rule n).peaks k.covers k.built (peaks_balanced rule max_leaves equal n h) (k.under p a d) (k.under q b e) f g

@@ -1,5 +1,6 @@
 -- The nodes that come with a leaf.
-use Rattle.std.proofs.Common.{◌≡◌, ℕ, zero, suc, ◌+◌, ◌*◌, ◌<◌, ◌⊎◌, List, [], ◌∷◌, ◌++◌, length, map, take, append_assoc, append-nil, Some, slice_get, slice_index, arith, refl, sym, ap, inl, inr, ◌∙◌, subst}
+use Rattle.std.proofs.Common.{◌≡◌, ℕ, zero, suc, ◌+◌, ◌*◌, ◌<◌, ◌⊎◌, List, [], ◌∷◌, ◌++◌, length, map, take, append_assoc, append-nil, Some, slice_get}
+use Rattle.std.proofs.Common.{slice_index, arith, refl, sym, ap, inl, inr, ◌∙◌, subst}
 use Rattle.std.specs.List.{AllByRecursion}
 use Rattle.std.proofs.lemmas.List.{length-map}
 use Rattle.merkle_base.specs.Tree.{Tree, leaf, join, position, height, first_leaf, IsBalanced}
@@ -30,7 +31,8 @@ pub map-append : (xs ys : List Tree) → map height (xs ++ ys) ≡ map height xs
 map-append [] ys = refl
 map-append (x ∷ xs) ys = ap (λ (hs : List ℕ). height x ∷ hs) (map-append xs ys)
 
-pub merges_born : (is : List ℕ) (f : Forest) → AreEqualMerges is (map height f.peaks) → (js : List Tree) × ((all_merged is f).nodes ≡ f.nodes ++ js) × (map height js ≡ born_heights is (map height f.peaks))
+pub merges_born : (is : List ℕ) (f : Forest) → AreEqualMerges is (map height f.peaks) → (js : List Tree) × ((all_merged is f).nodes ≡ f.nodes ++ js)
+    × (map height js ≡ born_heights is (map height f.peaks))
 merges_born [] f e = ([], sym (append-nil f.nodes), refl)
 merges_born (i ∷ is) f e =
     let one : List Tree = parent_of_peaks (length f.nodes) i f.peaks in
@@ -49,8 +51,12 @@ unfolding forest
 forest_born rule max_leaves equal n b =
     let f : Forest = append_leaf n (forest rule n) in
     let k : map height (forest rule n).peaks ≡ peak_heights rule n = heights_forest rule n in
-    let h = merges_born (rule (map height f.peaks)) f (subst (λ (hs : List ℕ). AreEqualMerges (rule (0 ∷ hs)) (0 ∷ hs)) (sym k) (equal n b)) in
-    (h.0, ap (λ (g : Forest). g.nodes) (merge_all-parts (rule (map height f.peaks)) f) ∙ h.1 ∙ append_assoc (forest rule n).nodes (leaf (size rule n) n ∷ []) h.0, h.2 ∙ ap (λ (hs : List ℕ). born_heights (rule (0 ∷ hs)) (0 ∷ hs)) k)
+    let h = merges_born (rule (map height f.peaks)) f (subst (λ (hs : List ℕ). AreEqualMerges (rule (0 ∷ hs)) (0 ∷ hs)) (sym k) (equal n b)) in (
+      h.0,
+      ap (λ (g : Forest). g.nodes) (merge_all-parts (rule (map height f.peaks)) f) ∙ h.1
+          ∙ append_assoc (forest rule n).nodes (leaf (size rule n) n ∷ []) h.0,
+      h.2 ∙ ap (λ (hs : List ℕ). born_heights (rule (0 ∷ hs)) (0 ∷ hs)) k,
+    )
 
 -- ---- where leaves stand
 pub all_get : {X : Type 0} (P : X → Type 0) (xs : List X) (i : ℕ) (x : X) → AllByRecursion P xs → slice_get xs i ≡ Some x → P x

@@ -1,5 +1,7 @@
 -- The maximal nodes inside a chunk of leaves: the chunk's own node, or those of its two halves.
-use Rattle.std.proofs.Common.{◌≡◌, ℕ, zero, suc, ◌+◌, ◌-◌, ◌*◌, ◌^◌, ◌<◌, ◌≤◌, ◌⊎◌, Bool, true, false, ◌&&◌, cond, nat_le, List, [], ◌∷◌, ◌++◌, map, reverse, flat_map, append_assoc, append-nil, Some, slice_get, arith, refl, sym, ap, inl, inr, ◌∙◌, subst, pow-suc, pow_pos, pow_mono, le-leb}
+use Rattle.std.proofs.Common.{◌≡◌, ℕ, zero, suc, ◌+◌, ◌-◌, ◌*◌, ◌^◌, ◌<◌, ◌≤◌, ◌⊎◌, Bool, true, false, ◌&&◌, cond, nat_le, List, [], ◌∷◌, ◌++◌, map, reverse}
+use Rattle.std.proofs.Common.{flat_map, append_assoc, append-nil, Some, slice_get, arith, refl, sym, ap, inl, inr, ◌∙◌, subst, pow-suc, pow_pos, pow_mono}
+use Rattle.std.proofs.Common.{le-leb}
 use Rattle.std.specs.List.{AllByRecursion}
 use Rattle.std.proofs.Math.Bool.{and-false}
 use Rattle.std.proofs.Math.Nat.{mul-le-mul_right}
@@ -89,7 +91,8 @@ spans_first : (ns : List Tree) (u : Tree) (o n : ℕ) (ts : List Tree) → Spans
 spans_first ns u o n [] c h e = absurd e
 spans_first ns u o n (t ∷ ts) c h e = elim e [ inl w ↦ omega (arith, c.0, first_under ns u t w h.0) | inr w ↦ omega (arith, spans_first ns u (o + width t) n ts c.1 h.1 w) ]
 
-flat_under : (ns : List Tree) (u : Tree) (o n : ℕ) (ts : List Tree) → Spans o n ts → AllByRecursion (IsBuilt ns) ts → IsUnderOne u ts → flat_map (maximal_inside (first_leaf u) (end_leaf u)) ts ≡ u ∷ []
+flat_under : (ns : List Tree) (u : Tree) (o n : ℕ) (ts : List Tree) → Spans o n ts → AllByRecursion (IsBuilt ns) ts → IsUnderOne u ts
+    → flat_map (maximal_inside (first_leaf u) (end_leaf u)) ts ≡ u ∷ []
 flat_under ns u o n [] c h e = absurd e
 flat_under ns u o n (t ∷ ts) c h e = elim e [
   | inl w ↦
@@ -248,7 +251,8 @@ module _ (rule : List ℕ → List ℕ) (max_leaves : ℕ) (equal : MergesEqual 
             elim (multiple_seam k.0 j.0 (2 ^ height u)) [ inl z ↦ inl (omega (arith, w, k.1, j.1)) | inr z ↦ inr (omega (arith, k.1, j.1)) ])
       ]
 
-  halves_kept_all : (n s a h : ℕ) → n ≤ max_leaves → s ≡ a * 2 ^ suc h → n < birth s (suc h) → (ts : List Tree) → AllByRecursion (IsBuilt (forest rule n).nodes) ts → AllByRecursion (KeepsSeam s (s + 2 ^ h) (s + 2 ^ suc h)) ts
+  halves_kept_all : (n s a h : ℕ) → n ≤ max_leaves → s ≡ a * 2 ^ suc h → n < birth s (suc h) → (ts : List Tree)
+      → AllByRecursion (IsBuilt (forest rule n).nodes) ts → AllByRecursion (KeepsSeam s (s + 2 ^ h) (s + 2 ^ suc h)) ts
   halves_kept_all n s a h l e b [] g = tt
   halves_kept_all n s a h l e b (t ∷ ts) g = (
     λ u v x y. halves_kept n s a h (position u) u l e b (built_at (forest rule n).nodes u (built_under (forest rule n).nodes u t v g.0)) x y,
@@ -267,7 +271,8 @@ module _ (rule : List ℕ → List ℕ) (max_leaves : ℕ) (equal : MergesEqual 
         | inr w ↦ rw w.0 (
             ap (map placed) (nodes_inside_split rule n s (s + 2 ^ h) (s + 2 ^ suc h) (omega arith) (omega arith) (halves_kept_all n s a h l e w.1 (peaks_of rule n) (peaks_built rule n)))
             ∙ map-append placed (nodes_inside rule n s (s + 2 ^ h)) (nodes_inside rule n (s + 2 ^ h) (s + 2 ^ suc h))
-            ∙ ap (λ (xs : List (ℕ × ℕ)). xs ++ map placed (nodes_inside rule n (s + 2 ^ h) (s + 2 ^ suc h))) (nodes_inside_born n s (2 * a) h l (omega arith) (omega (arith, formulas.born_before_end s h)))
+            ∙ ap (λ (xs : List (ℕ × ℕ)). xs ++ map placed (nodes_inside rule n (s + 2 ^ h) (s + 2 ^ suc h)))
+            (nodes_inside_born n s (2 * a) h l (omega arith) (omega (arith, formulas.born_before_end s h)))
             ∙ ap (λ (x : ℕ). (root s h, h) ∷ map placed (nodes_inside rule n (s + 2 ^ h) x)) (sym end)
             ∙ ap (λ (xs : List (ℕ × ℕ)). (root s h, h) ∷ xs) (nodes_inside_stretch n (s + 2 ^ h) (2 * a + 1) h l (omega arith) (omega arith)))
       ]

@@ -41,7 +41,8 @@ module _ {D : Type 0} (h : Hashing D) (rule : List ℕ → List ℕ) (law : EqDe
       (λ t. inr (p, l, r, b.0, e, λ d. false≢true (sym t ∙ (law (digest_at h X r) (digest_at h Y r)).1 d.1))))
       (λ s. inr (p, l, r, b.0, e, λ d. false≢true (sym s ∙ (law (digest_at h X l) (digest_at h Y l)).1 d.0)))
 
-  trees_same : (ts : List Tree) → AllByRecursion (IsBuilt (forest rule (length X)).nodes) ts → ((i : ℕ) (t : Tree) → slice_get ts i ≡ Some t → digest_at h X t ≡ digest_at h Y t) → ((i : ℕ) (t : Tree) → slice_get ts i ≡ Some t → Same t) ⊎ Collide h rule X Y
+  trees_same : (ts : List Tree) → AllByRecursion (IsBuilt (forest rule (length X)).nodes) ts
+      → ((i : ℕ) (t : Tree) → slice_get ts i ≡ Some t → digest_at h X t ≡ digest_at h Y t) → ((i : ℕ) (t : Tree) → slice_get ts i ≡ Some t → Same t) ⊎ Collide h rule X Y
   trees_same [] b e = inl (λ i t d. absurd (cc))
   trees_same (t ∷ ts) b e = elim (tree_same t b.0 (e 0 t refl)) [
     | inl x ↦ elim (trees_same ts b.1 (λ i s d. e (suc i) s d)) [ inl y ↦ inl (both t ts x y) | inr c ↦ inr c ]
@@ -54,8 +55,11 @@ module _ {D : Type 0} (h : Hashing D) (rule : List ℕ → List ℕ) (law : EqDe
 
   pub same_or_collide : length X ≡ length Y → peak_digests h rule X ≡ peak_digests h rule Y → (X ≡ Y) ⊎ Collide h rule X Y
   same_or_collide l e =
-      let f : map (digest_at h X) (reverse (forest rule (length X)).peaks) ≡ map (digest_at h Y) (reverse (forest rule (length X)).peaks) = subst (λ n. peak_digests h rule X ≡ map (digest_at h Y) (reverse (forest rule n).peaks)) (sym l) e in
-      elim (trees_same (forest rule (length X)).peaks (forest_grown rule (length X)).built (λ i t d. (let k = get_reverse (forest rule (length X)).peaks i t d in map_here (digest_at h X) (digest_at h Y) (reverse (forest rule (length X)).peaks) k.0 t f k.1))) [
+      let f : map (digest_at h X) (reverse (forest rule (length X)).peaks) ≡ map (digest_at h Y) (reverse (forest rule (length X)).peaks) =
+      subst (λ n. peak_digests h rule X ≡ map (digest_at h Y) (reverse (forest rule n).peaks)) (sym l) e in
+      elim (trees_same (forest rule (length X)).peaks (forest_grown rule (length X)).built
+      (λ i t d. (let k = get_reverse (forest rule (length X)).peaks i t d in
+      map_here (digest_at h X) (digest_at h Y) (reverse (forest rule (length X)).peaks) k.0 t f k.1))) [
         | inl s ↦ inl (same_list h.empty X Y l (λ k b.
             (let w = peak_holding rule (length X) k b in
             s w.0 w.1 w.2 (size rule k) k (leaf_under rule (length X) (position w.1) k w.1 (peak_node rule (length X) w.0 w.1 w.2) w.3 w.4))))

@@ -13,7 +13,8 @@ merges_keep P m n [] f h = h
 merges_keep P m n (i ∷ is) f h = merges_keep P m n is (merged i f) (m n i f h)
 
 -- what holds of the empty forest, and is preserved by an appended leaf and by a merge, holds of each forest
-pub forest_induct : (P : ℕ → Forest → Type 0) → P 0 empty_forest → ((n : ℕ) (f : Forest) → P n f → P (suc n) (append_leaf n f)) → ((n i : ℕ) (f : Forest) → P n f → P n (merged i f)) → (rule : List ℕ → List ℕ) (n : ℕ) → P n (forest rule n)
+pub forest_induct : (P : ℕ → Forest → Type 0) → P 0 empty_forest → ((n : ℕ) (f : Forest) → P n f → P (suc n) (append_leaf n f))
+    → ((n i : ℕ) (f : Forest) → P n f → P n (merged i f)) → (rule : List ℕ → List ℕ) (n : ℕ) → P n (forest rule n)
 unfolding forest
 forest_induct P z p m rule zero = z
 forest_induct P z p m rule (suc n) =
@@ -50,7 +51,8 @@ covers_joined p zero n (b ∷ []) h = h
 covers_joined p zero n (b ∷ a ∷ ts) h = (omega (arith, h.0, h.1.0), h.1.1)
 covers_joined p (suc i) n (t ∷ ts) h = (h.0, covers_joined p i (first_leaf t) ts h.1)
 
-pub built_joined : (ns : List Tree) (i n : ℕ) (ts : List Tree) → Covers n ts → AllByRecursion (IsBuilt ns) ts → AllByRecursion (IsBuilt (ns ++ parent_of_peaks (length ns) i ts)) (merge_peaks (length ns) i ts)
+pub built_joined : (ns : List Tree) (i n : ℕ) (ts : List Tree) → Covers n ts → AllByRecursion (IsBuilt ns) ts
+    → AllByRecursion (IsBuilt (ns ++ parent_of_peaks (length ns) i ts)) (merge_peaks (length ns) i ts)
 built_joined ns i n [] c h = tt
 built_joined ns zero n (b ∷ []) c h = all_built_front ns [] (b ∷ []) h
 built_joined ns zero n (b ∷ a ∷ ts) c h =
@@ -81,7 +83,8 @@ length-joined p zero (b ∷ a ∷ ts) = omega arith
 length-joined p (suc i) (t ∷ ts) = omega (arith, length-joined p i ts)
 
 -- a node of the list after a merge was there before, or is the new one
-pub get_joined_cases : (ns : List Tree) (i p : ℕ) (ts : List Tree) (t : Tree) → slice_get (ns ++ parent_of_peaks (length ns) i ts) p ≡ Some t → (slice_get ns p ≡ Some t) ⊎ ((p ≡ length ns) × (position t ≡ length ns) × IsUnderOne t (merge_peaks (length ns) i ts))
+pub get_joined_cases : (ns : List Tree) (i p : ℕ) (ts : List Tree) (t : Tree) → slice_get (ns ++ parent_of_peaks (length ns) i ts) p ≡ Some t
+    → (slice_get ns p ≡ Some t) ⊎ ((p ≡ length ns) × (position t ≡ length ns) × IsUnderOne t (merge_peaks (length ns) i ts))
 get_joined_cases ns i p ts t e = elim (joined_cases (length ns) i ts) [
   | inl none ↦ inl (rw (none, append-nil) at e)
   | inr one ↦ elim (get_push_cases ns one.0 p t (rw one.1 at e)) [

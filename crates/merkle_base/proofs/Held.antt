@@ -19,7 +19,8 @@ held_joined b old p zero (x ∷ []) l h = h
 held_joined b old p zero (x ∷ y ∷ ts) l h = (inl l, h.1.1)
 held_joined b old p (suc i) (x ∷ ts) l h = (h.0, held_joined b old p i ts l h.1)
 
-children_joined : (b : ℕ) (old : List Tree) (p i : ℕ) (ts : List Tree) → AllByRecursion (IsHeld b old) ts → (parent_of_peaks p i ts ≡ []) ⊎ ((t : Tree) × (parent_of_peaks p i ts ≡ t ∷ []) × ChildrenHeld b old t)
+children_joined : (b : ℕ) (old : List Tree) (p i : ℕ) (ts : List Tree) → AllByRecursion (IsHeld b old) ts → (parent_of_peaks p i ts ≡ [])
+    ⊎ ((t : Tree) × (parent_of_peaks p i ts ≡ t ∷ []) × ChildrenHeld b old t)
 children_joined b old p i [] h = inl refl
 children_joined b old p zero (x ∷ []) h = inl refl
 children_joined b old p zero (x ∷ y ∷ ts) h = inr (join p y x, refl, (h.1.0, h.0))

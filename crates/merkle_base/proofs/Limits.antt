@@ -15,7 +15,8 @@ log_below a b n low high = elim (cases_lt a b) [
 ]
 
 -- a node's height is below 63
-pub lawful_height : (rule : List ℕ → List ℕ) (max_leaves max_nodes : ℕ) → IsLawful rule max_leaves max_nodes → (n p : ℕ) (t : Tree) → n ≤ max_leaves → slice_get (forest rule n).nodes p ≡ Some t → height t < 63
+pub lawful_height : (rule : List ℕ → List ℕ) (max_leaves max_nodes : ℕ) → IsLawful rule max_leaves max_nodes → (n p : ℕ) (t : Tree) → n ≤ max_leaves
+    → slice_get (forest rule n).nodes p ≡ Some t → height t < 63
 lawful_height rule max_leaves max_nodes law n p t l e =
     let equal : MergesEqual rule n = λ m b. law.equal m (omega arith) in
     let high : 2 ^ height t ≤ n = omega (arith, height_bound rule n equal p t e) in
@@ -23,7 +24,8 @@ lawful_height rule max_leaves max_nodes law n p t l e =
     log_below (height t) 63 n high small
 
 -- and its position is below the limit
-pub lawful_position : (rule : List ℕ → List ℕ) (max_leaves max_nodes : ℕ) → IsLawful rule max_leaves max_nodes → (n p : ℕ) (t : Tree) → n ≤ max_leaves → slice_get (forest rule n).nodes p ≡ Some t → p < max_nodes
+pub lawful_position : (rule : List ℕ → List ℕ) (max_leaves max_nodes : ℕ) → IsLawful rule max_leaves max_nodes → (n p : ℕ) (t : Tree) → n ≤ max_leaves
+    → slice_get (forest rule n).nodes p ≡ Some t → p < max_nodes
 lawful_position rule max_leaves max_nodes law n p t l e =
     omega (arith, get_below (forest rule n).nodes p t e, size_le rule n max_leaves l, law.size_at_limit)
 

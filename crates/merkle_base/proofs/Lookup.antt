@@ -28,7 +28,8 @@ size_suc rule m equal n l =
     omega (arith, ap length b.1, length-append (forest rule n).nodes (leaf (size rule n) n ∷ b.0), ap length b.2, length-map b.0 height)
 
 -- the height of the node that comes k-th with leaf n
-pub height_at : (rule : List ℕ → List ℕ) (m : ℕ) → MergesEqual rule m → (n k w : ℕ) (t : Tree) → n < m → size rule n + k < size rule (suc n) → slice_get (forest rule w).nodes (size rule n + k) ≡ Some t → height t ≡ slice_index (0 ∷ parent_heights rule n) k
+pub height_at : (rule : List ℕ → List ℕ) (m : ℕ) → MergesEqual rule m → (n k w : ℕ) (t : Tree) → n < m → size rule n + k < size rule (suc n)
+    → slice_get (forest rule w).nodes (size rule n + k) ≡ Some t → height t ≡ slice_index (0 ∷ parent_heights rule n) k
 height_at rule m equal n k w t l b e =
     let f = forest_born rule m equal n l in
     let here : slice_get (forest rule (suc n)).nodes (size rule n + k) ≡ Some t = node_anywhere rule w (suc n) (size rule n + k) t e b in
@@ -57,7 +58,8 @@ covers_at n (suc i) (x ∷ ts) t c b e = omega (arith, c.0, covers_at (first_lea
 pub peak_first : (rule : List ℕ → List ℕ) (n : ℕ) → MergesEqual rule n → (i : ℕ) (t : Tree) → slice_get (forest rule n).peaks i ≡ Some t →
     (first_leaf t + weight (take (suc i) (peak_heights rule n)) ≡ n) × (height t ≡ slice_index (peak_heights rule n) i)
 peak_first rule n equal i t e = (
-  ap (λ (hs : List ℕ). first_leaf t + weight (take (suc i) hs)) (sym (heights_forest rule n)) ∙ covers_at n i (forest rule n).peaks t (forest_grown rule n).covers (peaks_balanced rule n equal n (omega arith)) e,
+  ap (λ (hs : List ℕ). first_leaf t + weight (take (suc i) hs)) (sym (heights_forest rule n))
+      ∙ covers_at n i (forest rule n).peaks t (forest_grown rule n).covers (peaks_balanced rule n equal n (omega arith)) e,
   index_map (forest rule n).peaks i t e ∙ ap (λ (hs : List ℕ). slice_index hs i) (heights_forest rule n),
 )
 

@@ -1,5 +1,6 @@
 -- The nodes of a forest: where they stand, how they grow, and that each stands under one peak.
-use Rattle.std.proofs.Common.{◌≡◌, ℕ, zero, suc, ◌+◌, ◌-◌, ◌<◌, ◌≤◌, List, [], ◌∷◌, ◌++◌, length, map, reverse, flat_map, length-append, append_assoc, append-nil, Some, slice_get, arith, refl, sym, ap, inl, inr, ◌∙◌, subst}
+use Rattle.std.proofs.Common.{◌≡◌, ℕ, zero, suc, ◌+◌, ◌-◌, ◌<◌, ◌≤◌, List, [], ◌∷◌, ◌++◌, length, map, reverse, flat_map, length-append, append_assoc}
+use Rattle.std.proofs.Common.{append-nil, Some, slice_get, arith, refl, sym, ap, inl, inr, ◌∙◌, subst}
 use Rattle.std.specs.List.{AllByRecursion, range_with_len}
 use Rattle.std.proofs.lemmas.List.{reverse-append}
 use Rattle.std.proofs.lemmas.Bool.{cases_lt}
@@ -74,7 +75,8 @@ under_get a [] i t e u = absurd (cc)
 under_get a (s ∷ ts) zero t e u = inl (let d : s ≡ t = cc in subst (IsUnder a) (sym d) u)
 under_get a (s ∷ ts) (suc i) t e u = inr (under_get a ts i t e u)
 
-pub peak_unique : (ns : List Tree) (n : ℕ) (a : Tree) (ts : List Tree) → Covers n ts → AllByRecursion (IsBuilt ns) ts → (i j : ℕ) (s t : Tree) → slice_get ts i ≡ Some s → slice_get ts j ≡ Some t → IsUnder a s → IsUnder a t → i ≡ j
+pub peak_unique : (ns : List Tree) (n : ℕ) (a : Tree) (ts : List Tree) → Covers n ts → AllByRecursion (IsBuilt ns) ts → (i j : ℕ) (s t : Tree)
+    → slice_get ts i ≡ Some s → slice_get ts j ≡ Some t → IsUnder a s → IsUnder a t → i ≡ j
 peak_unique ns n a [] c h i j s t d e u v = absurd (cc)
 peak_unique ns n a (x ∷ ts) c h zero zero s t d e u v = refl
 peak_unique ns n a (x ∷ ts) c h zero (suc j) s t d e u v =

@@ -25,7 +25,8 @@ inner_above rule n p (leaf q k) e above =
 inner_above rule n p (join q l r) e above = omega arith
 
 -- the node that comes after the leaf and some parents has the next of their heights
-pub parent_there : (rule : List ℕ → List ℕ) (max_leaves : ℕ) → MergesEqual rule max_leaves → (n : ℕ) → n < max_leaves → (done : List ℕ) (h : ℕ) (rest : List ℕ) → done ++ h ∷ rest ≡ parent_heights rule n →
+pub parent_there : (rule : List ℕ → List ℕ) (max_leaves : ℕ) → MergesEqual rule max_leaves → (n : ℕ) → n < max_leaves
+    → (done : List ℕ) (h : ℕ) (rest : List ℕ) → done ++ h ∷ rest ≡ parent_heights rule n →
     HasInner rule max_leaves (size rule n + 1 + length done) h
 parent_there rule max_leaves equal n l done h rest e =
     let b = forest_born rule max_leaves equal n l in

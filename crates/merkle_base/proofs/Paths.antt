@@ -10,7 +10,12 @@ use Rattle.merkle_base.proofs.Births.{leaf_at}
 -- an ancestor does not stand before what is under it
 pub position_under : (ns : List Tree) (a t : Tree) → IsUnder a t → IsBuilt ns t → position a ≤ position t
 position_under ns a (leaf p n) u h = rw u (omega arith)
-position_under ns a (join p l r) u h = elim u [ inl e ↦ rw e (omega arith) | inr v ↦ elim v [ inl w ↦ omega (arith, position_under ns a l w h.4, h.1) | inr w ↦ omega (arith, position_under ns a r w h.5, h.2) ] ]
+position_under ns a (join p l r) u h =
+    elim u [
+      | inl e ↦ rw e (omega arith)
+      | inr v ↦
+          elim v [ inl w ↦ omega (arith, position_under ns a l w h.4, h.1) | inr w ↦ omega (arith, position_under ns a r w h.5, h.2) ]
+    ]
 
 -- a tree has a leaf for each location of its span
 leaf_in : (ns : List Tree) (k : ℕ) (t : Tree) → IsBuilt ns t → first_leaf t ≤ k → k < first_leaf t + width t → (q : ℕ) × IsUnder (leaf q k) t

@@ -92,10 +92,12 @@ pub record Next (rule : List ℕ → List ℕ) (n floor h : ℕ) (more : List (�
   pub below : end ≤ floor → Counted rule n floor more end (count + 1)
   pub above : floor < end → count ≡ inactive_peaks rule n floor
 
-pub next_counted : (rule : List ℕ → List ℕ) (m k : ℕ) → IsLawful rule m k → (n floor : ℕ) → n ≤ m → (left : List (ℕ × ℕ)) (begin count : ℕ) → Counted rule n floor left begin count → (p h : ℕ) (more : List (ℕ × ℕ)) → left ≡ (p, h) ∷ more → Next rule n floor h more (begin + 1 * 2 ^ h % 2 ^ 64) count
+pub next_counted : (rule : List ℕ → List ℕ) (m k : ℕ) → IsLawful rule m k → (n floor : ℕ) → n ≤ m → (left : List (ℕ × ℕ)) (begin count : ℕ)
+    → Counted rule n floor left begin count → (p h : ℕ) (more : List (ℕ × ℕ)) → left ≡ (p, h) ∷ more → Next rule n floor h more (begin + 1 * 2 ^ h % 2 ^ 64) count
 next_counted rule m k law n floor l left begin count w p h more e = step w.rest (sym e ∙ w.left_is) w.spans w.balanced w.counted
   where
-    step : (rest : List Tree) → (p, h) ∷ more ≡ map placed rest → Spans begin n rest → AllByRecursion IsBalanced rest → count + length (wholly_before floor rest) ≡ inactive_peaks rule n floor → Next rule n floor h more (begin + 1 * 2 ^ h % 2 ^ 64) count
+    step : (rest : List Tree) → (p, h) ∷ more ≡ map placed rest → Spans begin n rest → AllByRecursion IsBalanced rest
+        → count + length (wholly_before floor rest) ≡ inactive_peaks rule n floor → Next rule n floor h more (begin + 1 * 2 ^ h % 2 ^ 64) count
     step [] e s b c = absurd (cc)
     step (t ∷ ts) e s b c =
         let first : (p, h) ≡ placed t = cc in
@@ -116,7 +118,12 @@ next_counted rule m k law n floor l left begin count w p h more e = step w.rest 
             at_most_begin = omega (arith, w.at_most_begin, width_pos t, ends);
             counted = omega (arith, c, ap length (filter_yes (λ (v : Tree). nat_le (end_leaf v) floor) t ts (le-leb (end_leaf t) floor (omega (arith, u, here, ends)))));
           };
-          above = λ u. omega (arith, c, ap length (filter_no (λ (v : Tree). nat_le (end_leaf v) floor) t ts (lt-leb (end_leaf t) floor (omega (arith, u, here, ends))) ∙ none_before floor (begin + width t) n ts s.1 (omega (arith, u, ends))));
+          above = λ u. omega (
+            arith,
+            c,
+            ap length (filter_no (λ (v : Tree). nat_le (end_leaf v) floor) t ts (lt-leb (end_leaf t) floor (omega (arith, u, here, ends)))
+                ∙ none_before floor (begin + width t) n ts s.1 (omega (arith, u, ends))),
+          );
         }
 
 pub all_counted : (rule : List ℕ → List ℕ) (n floor : ℕ) (left : List (ℕ × ℕ)) (begin count : ℕ) → Counted rule n floor left begin count → left ≡ [] → count ≡ inactive_peaks rule n floor

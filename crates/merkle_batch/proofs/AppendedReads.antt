@@ -66,7 +66,8 @@ module _ {D : Type 0} where
     held = λ i above below. absurd (omega (arith, above, below));
   }
 
-module _ {D : Type 0} (h : Hashing D) (rule : List ℕ → List ℕ) (max_leaves : ℕ) (c : MerkleizedModel D) (valid : IsBatchValid rule max_leaves c) (X : List D) (ls : List (List D)) (history : IsHistory h rule (records c) (X ∷ ls)) where
+module _ {D : Type 0} (h : Hashing D) (rule : List ℕ → List ℕ) (max_leaves : ℕ) (c : MerkleizedModel D) (valid : IsBatchValid rule max_leaves c)
+    (X : List D) (ls : List (List D)) (history : IsHistory h rule (records c) (X ∷ ls)) where
   -- the first list has the nodes before the oldest record
   pub begins_at : size rule (length X) ≡ (oldest c).before
   begins_at =

@@ -35,5 +35,6 @@ module _ {D : Type 0} (h : Hashing D) (rule : List ℕ → List ℕ) (rs : List 
       (digest_at h (last_list (X ∷ ls)) t, read_kept h rule rs X ls base agrees.0 agrees.1 stands agrees.2 agrees.3 p kept ∙ node_digest_at h rule (last_list (X ∷ ls)) p t at)
 
 -- a batch that stands on lists has the leaves of the last one
-pub leaves_of_last : {D : Type 0} (h : Hashing D) (rule : List ℕ → List ℕ) (c : MerkleizedModel D) (ls : List (List D)) → IsHistory h rule (records c) ls → (n : ℕ) → size rule n ≡ after c.own → n ≡ length (last_list ls)
+pub leaves_of_last : {D : Type 0} (h : Hashing D) (rule : List ℕ → List ℕ) (c : MerkleizedModel D) (ls : List (List D))
+    → IsHistory h rule (records c) ls → (n : ℕ) → size rule n ≡ after c.own → n ≡ length (last_list ls)
 leaves_of_last h rule c ls stands n sized = size_inj rule n (length (last_list ls)) (sized ∙ (last_size h rule c ls stands).0)

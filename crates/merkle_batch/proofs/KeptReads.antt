@@ -61,7 +61,8 @@ module _ (rule : List ℕ → List ℕ) (boundary n : ℕ) (within : boundary �
       let ts = peaks_of rule n in
       all_append IsKeptTree (wholly_before a ts) (wholly_after b ts ++ range_siblings a b ts) (all_filter IsKeptTree _ ts peaks_all_kept)
       (all_append IsKeptTree (wholly_after b ts) (range_siblings a b ts) (all_filter IsKeptTree _ ts peaks_all_kept)
-      (all_siblings_kept (in_range a b) (λ k e. let f : a ≤ k = leb-true a k (and_parts (leb a k) (ltb k b) e).0 in omega (arith, f, low)) (overlapping a b ts) (all_filter (IsBuilt (forest rule n).nodes) _ ts (peaks_built rule n)) (all_filter IsKeptTree _ ts peaks_all_kept)))
+      (all_siblings_kept (in_range a b) (λ k e. let f : a ≤ k = leb-true a k (and_parts (leb a k) (ltb k b) e).0 in omega (arith, f, low))
+      (overlapping a b ts) (all_filter (IsBuilt (forest rule n).nodes) _ ts (peaks_built rule n)) (all_filter IsKeptTree _ ts peaks_all_kept)))
 
   pub position_kept : (ts : List Tree) → AllByRecursion IsKeptTree ts → (done rest : List ℕ) (p : ℕ) → map position ts ≡ done ++ p ∷ rest → is_kept rule boundary p ≡ true
   position_kept [] k [] rest p e = absurd (cc)

@@ -1,5 +1,6 @@
 -- What merkleizing a batch makes, from what its steps promise.
-use Rattle.std.proofs.Common.{◌≡◌, ◌≢◌, ℕ, zero, suc, false, cond, nat_eq, ◌+◌, ◌<◌, ◌≤◌, ◌⊎◌, List, [], ◌∷◌, ◌++◌, length, drop, map, Option, Some, None, true, slice_get, arith, refl, sym, ap, inl, inr, ◌∙◌, subst, append-nil}
+use Rattle.std.proofs.Common.{◌≡◌, ◌≢◌, ℕ, zero, suc, false, cond, nat_eq, ◌+◌, ◌<◌, ◌≤◌, ◌⊎◌, List, [], ◌∷◌, ◌++◌, length, drop, map, Option, Some, None, true}
+use Rattle.std.proofs.Common.{slice_get, arith, refl, sym, ap, inl, inr, ◌∙◌, subst, append-nil}
 use Rattle.std.specs.Prelude.{is_some, ◌==◌}
 use Rattle.std.specs.Option.{option_or}
 use Rattle.std.specs.FinMap.{from_entries, get, get-from_entries}
@@ -48,7 +49,8 @@ NamesMissing rule p base g = (t : Tree) × (g ≡ Missing (position t)) × IsMis
 pub unchanged_list : {D : Type 0} (rule : List ℕ → List ℕ) (p : UnmerkleizedModel D) (X : List D) → p.added ≡ [] → ((q : ℕ) → get p.overwritten q ≡ None) → pending_list rule p X ≡ X
 unchanged_list rule p X none same =
     ap (λ ds. replaced rule (get p.overwritten) 0 X ++ ds) none ∙ append-nil (replaced rule (get p.overwritten) 0 X)
-    ∙ same_gets (replaced rule (get p.overwritten) 0 X) X (λ k. replaced_get rule (get p.overwritten) 0 X k ∙ ap (λ o. overwritten_by o (slice_get X k)) (same (size rule (0 + k))) ∙ over_none (slice_get X k))
+    ∙ same_gets (replaced rule (get p.overwritten) 0 X) X
+    (λ k. replaced_get rule (get p.overwritten) 0 X k ∙ ap (λ o. overwritten_by o (slice_get X k)) (same (size rule (0 + k))) ∙ over_none (slice_get X k))
 
 -- a draft of the batch, without nodes of its own
 pub record IsDraft {D : Type 0} (rule : List ℕ → List ℕ) (max_leaves : ℕ) (p : UnmerkleizedModel D) (d : DraftModel D) : Type 0 where

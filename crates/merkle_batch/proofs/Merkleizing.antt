@@ -59,7 +59,8 @@ module _ {D : Type 0} (h : Hashing D) (rule : List ℕ → List ℕ) (m : ℕ �
   pub added_digest : (k : ℕ) (d : D) → slice_get added k ≡ Some d → d ≡ digest_at h (changed h rule m X added) (leaf (size rule (length X + k)) (length X + k))
   added_digest k d e = sym (get_or_from_slice_get (changed h rule m X added) (length X + k) d h.empty (changed_new h rule m X added k ∙ e))
 
-module _ {D : Type 0} (h : Hashing D) (rule : List ℕ → List ℕ) (max_leaves : ℕ) (p : UnmerkleizedModel D) (pending : IsUnmerkleizedValid rule max_leaves p) (ls : List (List D)) (stands : IsHistory h rule (records p.parent) ls) where
+module _ {D : Type 0} (h : Hashing D) (rule : List ℕ → List ℕ) (max_leaves : ℕ) (p : UnmerkleizedModel D)
+    (pending : IsUnmerkleizedValid rule max_leaves p) (ls : List (List D)) (stands : IsHistory h rule (records p.parent) ls) where
   abbrev last : List D
   last = last_list ls
 
@@ -82,11 +83,13 @@ module _ {D : Type 0} (h : Hashing D) (rule : List ℕ → List ℕ) (max_leaves
 
   module _ (base : Contents D) (agrees : AgreesWithOne h rule base (kept_lists p ls)) where
     -- an untouched node that is read has its digest of the new list
-    below_right : (q : ℕ) (t : Tree) (d : D) → slice_get (forest rule p.leaves_before).nodes q ≡ Some t → is_dirty (get p.overwritten) t ≡ false → read_over (kept p) base q ≡ Some d → d ≡ digest_at h list t
+    below_right : (q : ℕ) (t : Tree) (d : D) → slice_get (forest rule p.leaves_before).nodes q ≡ Some t → is_dirty (get p.overwritten) t ≡ false
+        → read_over (kept p) base q ≡ Some d → d ≡ digest_at h list t
     below_right q t d e u g =
         (let k = kept_stands h rule p ls pending.forgotten stands in
         let there : slice_get (k.0 ∷ k.1) agrees.0 ≡ Some agrees.1 = ap (λ xs. slice_get xs agrees.0) (sym k.2) ∙ agrees.2 in
-        let read : slice_get (node_digests h rule last) q ≡ Some d = ap (λ X. slice_get (node_digests h rule X) q) (sym k.4) ∙ read_right h rule (kept p) k.0 k.1 base agrees.0 agrees.1 k.3 there agrees.3 q d g in
+        let read : slice_get (node_digests h rule last) q ≡ Some d = ap (λ X. slice_get (node_digests h rule X) q) (sym k.4)
+        ∙ read_right h rule (kept p) k.0 k.1 base agrees.0 agrees.1 k.3 there agrees.3 q d g in
         let node : slice_get (forest rule (length last)).nodes q ≡ Some t = ap (λ (n : ℕ). slice_get (forest rule n).nodes q) (sym leaves_are) ∙ e in
         let same : Some d ≡ Some (digest_at h last t) = sym read ∙ node_digest_at h rule last q t node in
         let digest : d ≡ digest_at h last t = cc in

@@ -30,5 +30,7 @@ module _ {D : Type 0} (read : ℕ → Option D) (before : ℕ) (appended : List 
       ∙ ap (λ (k : ℕ). unwrap_or (slice_get appended k) none) z ∙ ap (λ o. unwrap_or o none) is))
 
   -- digests that are those at the peaks, whatever those read are, are as many
-  pub as_many : (rule : List ℕ → List ℕ) (n : ℕ) (peaks : List D) → ((truth : ℕ → D) → ReadsAgree read before truth → appended ≡ digests_from truth before (length appended) → peaks ≡ map truth (peak_positions rule n)) → length peaks ≡ length (peaks_of rule n)
+  pub as_many : (rule : List ℕ → List ℕ) (n : ℕ) (peaks : List D)
+      → ((truth : ℕ → D) → ReadsAgree read before truth → appended ≡ digests_from truth before (length appended)
+      → peaks ≡ map truth (peak_positions rule n)) → length peaks ≡ length (peaks_of rule n)
   as_many rule n peaks right = ap length (right told reads_told appended_told) ∙ length-map (peak_positions rule n) told ∙ length-map (peaks_of rule n) position

@@ -31,7 +31,8 @@ flat_single f g k (x ∷ xs) e = ap (λ ys. ys ++ flat_map f (map g xs)) (e 0 x 
 abbrev Found : {X : Type 0} → (X → Bool) → List X → ℕ → Type 0
 Found {X} test xs i = (j : ℕ) × (x : X) × (i ≡ suc j) × (slice_get xs j ≡ Some x) × (test x ≡ true)
 
-found_step : {X : Type 0} (test : X → Bool) (x : X) (xs : List X) (i : ℕ) (o : Option ℕ) → ((j : ℕ) → o ≡ Some j → Found test xs j) → elim o [ Some j ↦ Some (suc j) | None ↦ cond (test x) (Some 1) None ] ≡ Some i → Found test (x ∷ xs) i
+found_step : {X : Type 0} (test : X → Bool) (x : X) (xs : List X) (i : ℕ) (o : Option ℕ) → ((j : ℕ) → o ≡ Some j → Found test xs j)
+    → elim o [ Some j ↦ Some (suc j) | None ↦ cond (test x) (Some 1) None ] ≡ Some i → Found test (x ∷ xs) i
 found_step test x xs i (Some j) w f = (let k = w j refl in let s : suc j ≡ i = cc in (j, k.1, sym s, ap (slice_get (x ∷ xs)) k.2 ∙ k.3, k.4))
 found_step test x xs i None w f =
     by_test (λ t. cond t (Some 1) None ≡ Some i → (test x ≡ t) → Found test (x ∷ xs) i) (test x) (λ t s u. (let z : 1 ≡ i = cc in (0, x, sym z, refl, u))) (λ t s u. absurd (cc)) f refl
@@ -54,7 +55,8 @@ module _ {D : Type 0} (h : Hashing D) (rule : List ℕ → List ℕ) where
       (node_digest_at h rule X (position t) t (peak_node rule (length X) j.0 t j.1))))
 
   -- the record at a place changes the list there to the next
-  pub stands_at : (rs : List (RecordModel D)) (ls : List (List D)) (j : ℕ) (r : RecordModel D) → IsHistory h rule rs ls → slice_get rs j ≡ Some r → (X Y : List D) × (slice_get ls j ≡ Some X) × (slice_get ls (suc j) ≡ Some Y) × IsStep h rule r X Y
+  pub stands_at : (rs : List (RecordModel D)) (ls : List (List D)) (j : ℕ) (r : RecordModel D) → IsHistory h rule rs ls → slice_get rs j ≡ Some r
+      → (X Y : List D) × (slice_get ls j ≡ Some X) × (slice_get ls (suc j) ≡ Some Y) × IsStep h rule r X Y
   stands_at rs [] j r s e = absurd s
   stands_at [] (X ∷ ls) j r s e = absurd (cc)
   stands_at (q ∷ rs) (X ∷ []) j r s e = absurd s
@@ -62,7 +64,8 @@ module _ {D : Type 0} (h : Hashing D) (rule : List ℕ → List ℕ) where
   stands_at (q ∷ rs) (X ∷ Y ∷ ls) (suc j) r s e = stands_at rs (Y ∷ ls) j r s.1 e
 
   -- the records from there on stand on the lists from there on
-  pub stands_from : (rs : List (RecordModel D)) (ls : List (List D)) (i : ℕ) (X : List D) → IsHistory h rule rs ls → slice_get ls i ≡ Some X → (more : List (List D)) × IsHistory h rule (drop i rs) (X ∷ more) × (last_list (X ∷ more) ≡ last_list ls)
+  pub stands_from : (rs : List (RecordModel D)) (ls : List (List D)) (i : ℕ) (X : List D) → IsHistory h rule rs ls → slice_get ls i ≡ Some X
+      → (more : List (List D)) × IsHistory h rule (drop i rs) (X ∷ more) × (last_list (X ∷ more) ≡ last_list ls)
   stands_from rs [] i X s e = absurd s
   stands_from rs (Y ∷ ls) zero X s e = (let d : Y ≡ X = cc in (ls, subst (λ z. IsHistory h rule rs (z ∷ ls)) d s, ap (λ z. last_list (z ∷ ls)) (sym d)))
   stands_from [] (Y ∷ []) (suc i) X s e = absurd (cc)
@@ -76,7 +79,8 @@ module _ {D : Type 0} (h : Hashing D) (rule : List ℕ → List ℕ) where
   matches : EqDecides h → (n : ℕ) (ps qs : List D) (m : ℕ) → (n == m) && pointwise h.same ps qs ≡ true → (n ≡ m) × (ps ≡ qs)
   matches law n ps qs m e = (let k = and_parts (n == m) (pointwise h.same ps qs) e in (eqb-true n m k.0, (pointwise_decides law ps qs).0 k.1))
 
-  pub head_stands : (k : MerkleizedModel D) (ls : List (List D)) → IsHistory h rule (records k) ls → (X Y : List D) × (slice_get ls 0 ≡ Some X) × (slice_get ls 1 ≡ Some Y) × IsStep h rule (oldest k) X Y
+  pub head_stands : (k : MerkleizedModel D) (ls : List (List D)) → IsHistory h rule (records k) ls → (X Y : List D) × (slice_get ls 0 ≡ Some X)
+      × (slice_get ls 1 ≡ Some Y) × IsStep h rule (oldest k) X Y
   head_stands k ls s = stands_at (records k) ls 0 (oldest k) s (first k.ancestors k.own)
     where
       first : (rs : List (RecordModel D)) (own : RecordModel D) → slice_get (rs ++ own ∷ []) 0 ≡ Some (elim rs [ [] ↦ own | r ∷ rs ↦ r ])
@@ -84,8 +88,12 @@ module _ {D : Type 0} (h : Hashing D) (rule : List ℕ → List ℕ) where
       first (r ∷ rs) own = refl
 
   -- the state that is matched is the one of a list of that size and those peak digests
-  pub matched_list : EqDecides h → (k : MerkleizedModel D) (ls : List (List D)) (n : ℕ) (ps : List D) (i : ℕ) → IsHistory h rule (records k) ls → matched h.same n ps k ≡ Some i → (Z : List D) × (slice_get ls i ≡ Some Z) × Accepts n ps Z
-  matched_list law k ls n ps i s e = by_test (λ t. is_state h.same n ps (oldest k).before (oldest k).peaks_before ≡ t → cond t (Some 0) (last_match (λ r. is_state h.same n ps (after r) r.peaks_after) k.ancestors) ≡ Some i → (Z : List D) × (slice_get ls i ≡ Some Z) × Accepts n ps Z) (is_state h.same n ps (oldest k).before (oldest k).peaks_before)
+  pub matched_list : EqDecides h → (k : MerkleizedModel D) (ls : List (List D)) (n : ℕ) (ps : List D) (i : ℕ) → IsHistory h rule (records k) ls
+      → matched h.same n ps k ≡ Some i → (Z : List D) × (slice_get ls i ≡ Some Z) × Accepts n ps Z
+  matched_list law k ls n ps i s e =
+      by_test (λ t. is_state h.same n ps (oldest k).before (oldest k).peaks_before ≡ t
+      → cond t (Some 0) (last_match (λ r. is_state h.same n ps (after r) r.peaks_after) k.ancestors) ≡ Some i → (Z : List D)
+      × (slice_get ls i ≡ Some Z) × Accepts n ps Z) (is_state h.same n ps (oldest k).before (oldest k).peaks_before)
       (λ t u f. (let z : 0 ≡ i = cc in
       let w = head_stands k ls s in
       let m = matches law n ps (oldest k).peaks_before (oldest k).before u in
@@ -97,8 +105,10 @@ module _ {D : Type 0} (h : Hashing D) (rule : List ℕ → List ℕ) where
       refl e
 
   -- an accepted batch: the `Mem` agrees with the last list after it, or its list and the one of the matched state collide
-  pub accepted : EqDecides h → (k : MerkleizedModel D) (ls : List (List D)) (c : Contents D) (X : List D) (i : ℕ) → IsHistory h rule (records k) ls → Agrees h rule c X → matched h.same c.size (held_peaks rule (length X) c) k ≡ Some i →
-      (Z : List D) × (slice_get ls i ≡ Some Z) × (length X ≡ length Z) × (peak_digests h rule X ≡ peak_digests h rule Z) × (X ≡ Z → Agrees h rule (with_records (drop i (records k)) c) (last_list ls)) × ((X ≡ Z → ⊥) → Collide h rule X Z)
+  pub accepted : EqDecides h → (k : MerkleizedModel D) (ls : List (List D)) (c : Contents D) (X : List D) (i : ℕ) → IsHistory h rule (records k) ls
+      → Agrees h rule c X → matched h.same c.size (held_peaks rule (length X) c) k ≡ Some i →
+      (Z : List D) × (slice_get ls i ≡ Some Z) × (length X ≡ length Z) × (peak_digests h rule X ≡ peak_digests h rule Z)
+      × (X ≡ Z → Agrees h rule (with_records (drop i (records k)) c) (last_list ls)) × ((X ≡ Z → ⊥) → Collide h rule X Z)
   accepted law k ls c X i s a e =
       let w = matched_list law k ls c.size (held_peaks rule (length X) c) i s e in
       let l : length X ≡ length w.0 = size_inj rule (length X) (length w.0) (sym a.sized ∙ w.2.0) in

@@ -28,22 +28,27 @@ module _ {D : Type 0} (h : Hashing D) (rule : List ℕ → List ℕ) where
     sized = ap (λ n. n + length r.appended) a.sized ∙ step_size h rule r X Y s;
     bounded = omega (arith, a.bounded, s.longer);
     holds = λ p. elim (cases_lt p c.size) [
-      | inl l ↦ rw (lt-ltb p c.size l, a.holds p, step_old h rule r X Y s p (omega (arith, l, a.sized))) (over_cond (get r.overwritten p) (is_kept rule c.boundary p) (slice_get (node_digests h rule X) p))
-      | inr l ↦ rw (le-ltb p c.size l, kept_from rule c.boundary p (omega (arith, l, a.sized, size_le rule c.boundary (length X) a.bounded)), a.sized) (sym (step_new h rule r X Y s p (omega (arith, l, a.sized))))
+      | inl l ↦ rw (lt-ltb p c.size l, a.holds p, step_old h rule r X Y s p (omega (arith, l, a.sized)))
+          (over_cond (get r.overwritten p) (is_kept rule c.boundary p) (slice_get (node_digests h rule X) p))
+      | inr l ↦ rw (le-ltb p c.size l, kept_from rule c.boundary p (omega (arith, l, a.sized, size_le rule c.boundary (length X) a.bounded)), a.sized)
+          (sym (step_new h rule r X Y s p (omega (arith, l, a.sized))))
     ];
   }
 
-  pub agree_all : (rs : List (RecordModel D)) (X : List D) (ls : List (List D)) (c : Contents D) → IsHistory h rule rs (X ∷ ls) → Agrees h rule c X → Agrees h rule (with_records rs c) (last_list (X ∷ ls))
+  pub agree_all : (rs : List (RecordModel D)) (X : List D) (ls : List (List D)) (c : Contents D) → IsHistory h rule rs (X ∷ ls) → Agrees h rule c X
+      → Agrees h rule (with_records rs c) (last_list (X ∷ ls))
   agree_all [] X [] c s a = a
   agree_all [] X (Y ∷ ls) c s a = absurd s
   agree_all (r ∷ rs) X [] c s a = absurd s
   agree_all (r ∷ rs) X (Y ∷ ls) c s a = agree_all rs Y ls (with_record r c) s.1 (agree_with_record r X Y c s.0 a)
 
-  pub agree_kept : (b : ℕ) (X : List D) (c : Contents D) → c.boundary < b → b ≤ length X → Agrees h rule c X → Agrees h rule (record { boundary = b; size = c.size; node = λ p. cond (is_kept rule b p) (c.node p) None }) X
+  pub agree_kept : (b : ℕ) (X : List D) (c : Contents D) → c.boundary < b → b ≤ length X → Agrees h rule c X
+      → Agrees h rule (record { boundary = b; size = c.size; node = λ p. cond (is_kept rule b p) (c.node p) None }) X
   agree_kept b X c l m a = record {
     sized = a.sized;
     bounded = m;
-    holds = λ p. rw (a.holds p) (cond_and (is_kept rule c.boundary p) (is_kept rule b p) (slice_get (node_digests h rule X) p) (kept_before rule c.boundary b p (omega (arith, l)) (size_le rule c.boundary b (omega (arith, l)))));
+    holds = λ p. rw (a.holds p) (cond_and (is_kept rule c.boundary p) (is_kept rule b p) (slice_get (node_digests h rule X) p)
+        (kept_before rule c.boundary b p (omega (arith, l)) (size_le rule c.boundary b (omega (arith, l)))));
   }
 
   pub agree_pruned : (b : ℕ) (X : List D) (c : Contents D) → b ≤ length X → Agrees h rule c X → Agrees h rule (pruned rule b c) X

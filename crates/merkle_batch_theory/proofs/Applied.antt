@@ -13,7 +13,8 @@ answered : {D E : Type 0} (o : Option ℕ) (f : ℕ → Contents D) (r : E) (d :
 answered None f r d e = absurd (cc)
 answered (Some i) f r d e = (i, refl, cc)
 
-pub applied_at : {F D : Type 0} (h : Hashing D) (rule : List ℕ → List ℕ) → EqDecides h → (k : MerkleizedModel D) (ls : List (List D)) (c d : Contents D) (X : List D) → IsHistory h rule (records k) ls → Agrees h rule c X
+pub applied_at : {F D : Type 0} (h : Hashing D) (rule : List ℕ → List ℕ) → EqDecides h
+    → (k : MerkleizedModel D) (ls : List (List D)) (c d : Contents D) (X : List D) → IsHistory h rule (records k) ls → Agrees h rule c X
     → applied {F = F} h.same rule (length X) k c ≡ Ok d → IsAppliedTo h rule k ls X c d
 applied_at {F = F} h rule law k ls c d X s a e =
     let m = answered (matched h.same c.size (held_peaks rule (length X) c) k) (λ i. with_records (drop i (records k)) c) (apply_error {F = F} c.size k) d e in

@@ -53,7 +53,8 @@ exchanged_step = record { edit = sym exchanged_edit; before = refl; longer = ome
     there : (p : ℕ) (t : Tree) → slice_get (forest mmr_merges 2).nodes p ≡ Some t → Right p t
     there zero t e = (let d : leaf 0 0 ≡ t = cc in subst (Right 0) d (rw at_zero refl))
     there (suc zero) t e = (let d : leaf 1 1 ≡ t = cc in subst (Right 1) d (rw at_one refl))
-    there (suc (suc zero)) t e = (let d : join 2 (leaf 0 0) (leaf 1 1) ≡ t = cc in subst (Right 2) d (at_both ∙ sym (ap (λ o. cond (is_some o || is_some (get exchange.overwritten 1)) (Some 0) None) at_zero)))
+    there (suc (suc zero)) t e = (let d : join 2 (leaf 0 0) (leaf 1 1) ≡ t = cc in
+        subst (Right 2) d (at_both ∙ sym (ap (λ o. cond (is_some o || is_some (get exchange.overwritten 1)) (Some 0) None) at_zero)))
     there (suc (suc (suc p))) t e = absurd (cc)
 
 pub stands_exchange : IsHistory xor mmr_merges (exchange ∷ []) ((1 ∷ 3 ∷ []) ∷ (3 ∷ 1 ∷ []) ∷ [])

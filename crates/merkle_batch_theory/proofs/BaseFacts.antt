@@ -24,12 +24,19 @@ module _ {D : Type 0} (h : Hashing D) (rule : List ℕ → List ℕ) (rs : List 
   pub based_answered : (p : ℕ) → is_kept rule base.boundary p ≡ true → read_over rs base p ≡ slice_get (node_digests h rule (last_list (X ∷ ls))) p
   based_answered = read_kept h rule rs X ls base b.place b.list b.stands b.listed b.agrees
 
-  pub based_needed : (r : RecordModel D) (e : ℕ) (t : Tree) (d : D) → IsNeeded rule (get r.overwritten) (length (last_list (X ∷ ls))) e t → read_over rs base (position t) ≡ Some d → slice_get (node_digests h rule (edited rule r (last_list (X ∷ ls)))) (position t) ≡ Some d
+  pub based_needed : (r : RecordModel D) (e : ℕ) (t : Tree) (d : D) → IsNeeded rule (get r.overwritten) (length (last_list (X ∷ ls))) e t
+      → read_over rs base (position t) ≡ Some d → slice_get (node_digests h rule (edited rule r (last_list (X ∷ ls)))) (position t) ≡ Some d
   based_needed = needed_right h rule rs X ls base b.place b.list b.stands b.listed b.agrees
 
-  pub based_missing : (r : RecordModel D) (e : ℕ) → length (last_list (X ∷ ls)) ≤ e → ((k : ℕ) → is_some (get r.overwritten (size rule k)) ≡ true → base.boundary ≤ k) → (t : Tree) → IsNeeded rule (get r.overwritten) (length (last_list (X ∷ ls))) e t → (d : D) × (read_over rs base (position t) ≡ Some d)
+  pub based_missing : (r : RecordModel D) (e : ℕ) → length (last_list (X ∷ ls)) ≤ e
+      → ((k : ℕ) → is_some (get r.overwritten (size rule k)) ≡ true → base.boundary ≤ k) → (t : Tree)
+      → IsNeeded rule (get r.overwritten) (length (last_list (X ∷ ls))) e t → (d : D) × (read_over rs base (position t) ≡ Some d)
   based_missing = none_missing h rule rs X ls base b.place b.list b.stands b.listed b.agrees
 
-  pub based_used : (r : RecordModel D) (e : ℕ) (own : ℕ → Option D) → ((p : ℕ) (d : D) → own p ≡ Some d → slice_get (node_digests h rule (edited rule r (last_list (X ∷ ls)))) p ≡ Some d) → (t : Tree) → IsUsed rule (get r.overwritten) (length (last_list (X ∷ ls))) e t →
-      ((size rule (length (last_list (X ∷ ls))) ≤ position t) ⊎ (is_dirty (get r.overwritten) t ≡ true) → is_some (own (position t)) ≡ true) → (d : D) → option_or (own (position t)) (read_over rs base (position t)) ≡ Some d → slice_get (node_digests h rule (edited rule r (last_list (X ∷ ls)))) (position t) ≡ Some d
+  pub based_used : (r : RecordModel D) (e : ℕ) (own : ℕ → Option D)
+      → ((p : ℕ) (d : D) → own p ≡ Some d → slice_get (node_digests h rule (edited rule r (last_list (X ∷ ls)))) p ≡ Some d) → (t : Tree)
+      → IsUsed rule (get r.overwritten) (length (last_list (X ∷ ls))) e t →
+      ((size rule (length (last_list (X ∷ ls))) ≤ position t) ⊎ (is_dirty (get r.overwritten) t ≡ true) → is_some (own (position t)) ≡ true) → (d : D)
+      → option_or (own (position t)) (read_over rs base (position t)) ≡ Some d
+      → slice_get (node_digests h rule (edited rule r (last_list (X ∷ ls)))) (position t) ≡ Some d
   based_used = used_right h rule rs X ls base b.place b.list b.stands b.listed b.agrees

@@ -37,7 +37,8 @@ module _ {D : Type 0} (h : Hashing D) (rule : List ℕ → List ℕ) where
   ])
 
   -- a record without changes, as a `Mem` gives it
-  pub still : (r : RecordModel D) (X : List D) → r.before ≡ size rule (length X) → r.appended ≡ [] → ((p : ℕ) → get r.overwritten p ≡ None) → r.peaks_before ≡ peak_digests h rule X → r.peaks_after ≡ peak_digests h rule X → IsStep h rule r X X
+  pub still : (r : RecordModel D) (X : List D) → r.before ≡ size rule (length X) → r.appended ≡ [] → ((p : ℕ) → get r.overwritten p ≡ None)
+      → r.peaks_before ≡ peak_digests h rule X → r.peaks_after ≡ peak_digests h rule X → IsStep h rule r X X
   still r X b a o u v = record {
     edit = sym (edited_none r X b a o);
     before = b;
@@ -50,7 +51,8 @@ module _ {D : Type 0} (h : Hashing D) (rule : List ℕ → List ℕ) where
   }
 
   -- the last record taken off
-  pub splits : (rs : List (RecordModel D)) (r : RecordModel D) (X : List D) (ls : List (List D)) → IsHistory h rule (rs ++ r ∷ []) (X ∷ ls) → (ms : List (List D)) × IsHistory h rule rs (X ∷ ms) × IsStep h rule r (last_list (X ∷ ms)) (last_list (X ∷ ls))
+  pub splits : (rs : List (RecordModel D)) (r : RecordModel D) (X : List D) (ls : List (List D)) → IsHistory h rule (rs ++ r ∷ []) (X ∷ ls)
+      → (ms : List (List D)) × IsHistory h rule rs (X ∷ ms) × IsStep h rule r (last_list (X ∷ ms)) (last_list (X ∷ ls))
   splits [] r X [] s = absurd s
   splits [] r X (Y ∷ []) s = ([], tt, s.0)
   splits [] r X (Y ∷ Z ∷ ls) s = absurd s.1

@@ -18,7 +18,8 @@ use Rattle.merkle_batch_theory.proofs.Complete.{needed_right}
 use Rattle.merkle_batch_theory.proofs.OptionFacts.{none_or_some}
 
 -- a used node that the batch has nothing for is needed, where the batch has each new and each dirty one
-pub left_needed : {D : Type 0} (rule : List ℕ → List ℕ) (m : ℕ → Option D) (n e : ℕ) (own : ℕ → Option D) (t : Tree) → IsUsed rule m n e t → ((size rule n ≤ position t) ⊎ (is_dirty m t ≡ true) → is_some (own (position t)) ≡ true) → own (position t) ≡ None → IsNeeded rule m n e t
+pub left_needed : {D : Type 0} (rule : List ℕ → List ℕ) (m : ℕ → Option D) (n e : ℕ) (own : ℕ → Option D) (t : Tree) → IsUsed rule m n e t
+    → ((size rule n ≤ position t) ⊎ (is_dirty m t ≡ true) → is_some (own (position t)) ≡ true) → own (position t) ≡ None → IsNeeded rule m n e t
 left_needed rule m n e own t u fresh o = elim (sources rule m n e t u) [
   | inl l ↦ absurd (false≢true (sym (ap is_some o) ∙ fresh (inl l)))
   | inr v ↦ elim v [ inl w ↦ absurd (false≢true (sym (ap is_some o) ∙ fresh (inr w))) | inr w ↦ w ]
@@ -32,6 +33,7 @@ module _ {D : Type 0} (h : Hashing D) (rule : List ℕ → List ℕ) (rs : List 
   -- what is read is right
   pub used_right : (d : D) → option_or (own (position t)) (read_over rs base (position t)) ≡ Some d → slice_get (node_digests h rule (edited rule r (last_list (X ∷ ls)))) (position t) ≡ Some d
   used_right d g = elim (none_or_some (own (position t))) [
-    | inl o ↦ needed_right h rule rs X ls base j W stands there agrees r e t d (left_needed rule (get r.overwritten) (length (last_list (X ∷ ls))) e own t used fresh o) (ap (λ x. option_or x (read_over rs base (position t))) (sym o) ∙ g)
+    | inl o ↦ needed_right h rule rs X ls base j W stands there agrees r e t d
+        (left_needed rule (get r.overwritten) (length (last_list (X ∷ ls))) e own t used fresh o) (ap (λ x. option_or x (read_over rs base (position t))) (sym o) ∙ g)
     | inr o ↦ right (position t) d (o.1 ∙ sym (ap (λ x. option_or x (read_over rs base (position t))) o.1) ∙ g)
   ]

@@ -29,7 +29,8 @@ use Rattle.merkle_batch_theory.proofs.OptionFacts.{over_none}
 use Rattle.merkle_base.proofs.Lists.{get_exists}
 
 -- the same leaves touch the same trees
-pub same_touch : {D : Type 0} (rule : List ℕ → List ℕ) (m w : ℕ → Option D) (n : ℕ) → ((k : ℕ) → k < n → is_some (m (size rule k)) ≡ is_some (w (size rule k))) → (t : Tree) → IsBuilt (forest rule n).nodes t → is_dirty m t ≡ is_dirty w t
+pub same_touch : {D : Type 0} (rule : List ℕ → List ℕ) (m w : ℕ → Option D) (n : ℕ)
+    → ((k : ℕ) → k < n → is_some (m (size rule k)) ≡ is_some (w (size rule k))) → (t : Tree) → IsBuilt (forest rule n).nodes t → is_dirty m t ≡ is_dirty w t
 same_touch rule m w n e (leaf q k) b = (let a = leaf_at rule n q q k b in ap (λ p. is_some (m p)) a.0 ∙ e k a.1 ∙ ap (λ p. is_some (w p)) (sym a.0))
 same_touch rule m w n e (join q x y) b = (λ i. same_touch rule m w n e x b.4 i || same_touch rule m w n e y b.5 i)
 
@@ -43,12 +44,14 @@ module _ {D : Type 0} (h : Hashing D) (rule : List ℕ → List ℕ) where
   entry_read (y ∷ ys) zero = refl
   entry_read (y ∷ ys) (suc k) = entry_read ys k
 
-  module _ (r s : RecordModel D) (X : List D) (n : ℕ) (before : r.before ≡ size rule (length X)) (longer : length X ≤ n) (sized : r.before + length r.appended ≡ size rule n) (done : IsCompleted h rule r s X) where
+  module _ (r s : RecordModel D) (X : List D) (n : ℕ) (before : r.before ≡ size rule (length X)) (longer : length X ≤ n)
+      (sized : r.before + length r.appended ≡ size rule n) (done : IsCompleted h rule r s X) where
     same_overwritten : (k : ℕ) → k < length X → get r.overwritten (size rule k) ≡ get s.overwritten (size rule k)
     same_overwritten k l =
         (let x = get_exists X k l in
         leaf_same (get r.overwritten (size rule k)) (get s.overwritten (size rule k)) (slice_get X k) (slice_get (edited rule r X) k) x.0 h.empty x.1 (old_entry rule r X k l)
-        (done.overwritten (size rule k) (leaf (size rule k) k) (leaf_here rule k (length X) l) ∙ ap (λ d. cond (is_some (get r.overwritten (size rule k))) (Some d) None) (entry_read (edited rule r X) k)))
+        (done.overwritten (size rule k) (leaf (size rule k) k) (leaf_here rule k (length X) l)
+        ∙ ap (λ d. cond (is_some (get r.overwritten (size rule k))) (Some d) None) (entry_read (edited rule r X) k)))
 
     same_appended : (k : ℕ) → length X ≤ k → slice_get r.appended (size rule k - r.before) ≡ slice_get s.appended (size rule k - s.before)
     same_appended k l =
@@ -68,18 +71,22 @@ module _ {D : Type 0} (h : Hashing D) (rule : List ℕ → List ℕ) where
       peaks_before = done.peaks_before;
       peaks_after = done.peaks_after;
       appended = done.appended;
-      overwritten = λ p t e. done.overwritten p t e ∙ ap (λ b. cond b (Some (digest_at h (edited rule r X) t)) None) (same_touch rule (get r.overwritten) (get s.overwritten) (length X) (λ k l. ap is_some (same_overwritten k l)) t (node_built rule (length X) p t e));
+      overwritten = λ p t e. done.overwritten p t e
+          ∙ ap (λ b. cond b (Some (digest_at h (edited rule r X) t)) None)
+          (same_touch rule (get r.overwritten) (get s.overwritten) (length X) (λ k l. ap is_some (same_overwritten k l)) t (node_built rule (length X) p t e));
       old = done.old;
     }
 
   -- ---- chains of lists
-  pub stands_push : (rs : List (RecordModel D)) (X : List D) (ls : List (List D)) (r : RecordModel D) (Y : List D) → IsHistory h rule rs (X ∷ ls) → IsStep h rule r (last_list (X ∷ ls)) Y → IsHistory h rule (rs ++ r ∷ []) (X ∷ ls ++ Y ∷ []) × (last_list (X ∷ ls ++ Y ∷ []) ≡ Y)
+  pub stands_push : (rs : List (RecordModel D)) (X : List D) (ls : List (List D)) (r : RecordModel D) (Y : List D) → IsHistory h rule rs (X ∷ ls)
+      → IsStep h rule r (last_list (X ∷ ls)) Y → IsHistory h rule (rs ++ r ∷ []) (X ∷ ls ++ Y ∷ []) × (last_list (X ∷ ls ++ Y ∷ []) ≡ Y)
   stands_push [] X [] r Y s t = ((t, tt), refl)
   stands_push [] X (Z ∷ ls) r Y s t = absurd s
   stands_push (q ∷ rs) X [] r Y s t = absurd s
   stands_push (q ∷ rs) X (Z ∷ ls) r Y s t = (let k = stands_push rs Z ls r Y s.1 t in ((s.0, k.0), k.1))
 
-  pub stands_longer : (rs : List (RecordModel D)) (X : List D) (ls : List (List D)) (j : ℕ) (W : List D) → IsHistory h rule rs (X ∷ ls) → slice_get (X ∷ ls) j ≡ Some W → length W ≤ length (last_list (X ∷ ls))
+  pub stands_longer : (rs : List (RecordModel D)) (X : List D) (ls : List (List D)) (j : ℕ) (W : List D) → IsHistory h rule rs (X ∷ ls)
+      → slice_get (X ∷ ls) j ≡ Some W → length W ≤ length (last_list (X ∷ ls))
   stands_longer [] X [] zero W s e = (let d : X ≡ W = cc in rw d (omega arith))
   stands_longer [] X [] (suc j) W s e = absurd (cc)
   stands_longer [] X (Z ∷ ls) j W s e = absurd s
@@ -97,21 +104,27 @@ module _ {D : Type 0} (h : Hashing D) (rule : List ℕ → List ℕ) where
   used_node : (m : ℕ → Option D) (n e : ℕ) (t : Tree) → IsUsed rule m n e t → slice_get (forest rule e).nodes (position t) ≡ Some t
   used_node m n e t u = elim u [
     | inl x ↦ (let b = node_built rule e x.0 (join x.0 x.1 x.2) x.3 in
-        elim x.5 [ inl d ↦ subst (λ s. slice_get (forest rule e).nodes (position s) ≡ Some s) (sym d) (built_at (forest rule e).nodes x.1 b.4) | inr d ↦ subst (λ s. slice_get (forest rule e).nodes (position s) ≡ Some s) (sym d) (built_at (forest rule e).nodes x.2 b.5) ])
+        elim x.5 [
+          | inl d ↦ subst (λ s. slice_get (forest rule e).nodes (position s) ≡ Some s) (sym d) (built_at (forest rule e).nodes x.1 b.4)
+          | inr
+              d ↦ subst (λ s. slice_get (forest rule e).nodes (position s) ≡ Some s) (sym d) (built_at (forest rule e).nodes x.2 b.5)
+        ])
     | inr x ↦ peak_node rule e x.1.0 t x.1.1
   ]
 
   module _ (rs : List (RecordModel D)) (X : List D) (ls : List (List D)) (base : Contents D) (j : ℕ) (W : List D)
       (stands : IsHistory h rule rs (X ∷ ls)) (there : slice_get (X ∷ ls) j ≡ Some W) (agrees : Agrees h rule base W) (r : RecordModel D) (e : ℕ) where
     -- a needed node that is read has its digest of the edited list
-    pub needed_right : (t : Tree) (d : D) → IsNeeded rule (get r.overwritten) (length (last_list (X ∷ ls))) e t → read_over rs base (position t) ≡ Some d → slice_get (node_digests h rule (edited rule r (last_list (X ∷ ls)))) (position t) ≡ Some d
+    pub needed_right : (t : Tree) (d : D) → IsNeeded rule (get r.overwritten) (length (last_list (X ∷ ls))) e t
+        → read_over rs base (position t) ≡ Some d → slice_get (node_digests h rule (edited rule r (last_list (X ∷ ls)))) (position t) ≡ Some d
     needed_right t d n g =
         (let Z : List D = last_list (X ∷ ls) in
         unchanged h rule r Z (position t) t (node_anywhere rule e (length Z) (position t) t (used_node (get r.overwritten) (length Z) e t n.0) n.1) n.2
         ∙ read_right h rule rs X ls base j W stands there agrees (position t) d g)
 
     -- no needed node is missing where all overwritten leaves stand at the base's boundary or after it
-    pub none_missing : length (last_list (X ∷ ls)) ≤ e → ((k : ℕ) → is_some (get r.overwritten (size rule k)) ≡ true → base.boundary ≤ k) → (t : Tree) → IsNeeded rule (get r.overwritten) (length (last_list (X ∷ ls))) e t → (d : D) × (read_over rs base (position t) ≡ Some d)
+    pub none_missing : length (last_list (X ∷ ls)) ≤ e → ((k : ℕ) → is_some (get r.overwritten (size rule k)) ≡ true → base.boundary ≤ k) → (t : Tree)
+        → IsNeeded rule (get r.overwritten) (length (last_list (X ∷ ls))) e t → (d : D) × (read_over rs base (position t) ≡ Some d)
     none_missing l above t n =
         (let Z : List D = last_list (X ∷ ls) in
         let k = used_kept rule (get r.overwritten) base.boundary (length Z) e (omega (arith, agrees.bounded, stands_longer rs X ls j W stands there)) l above t n.0 in

@@ -33,7 +33,8 @@ module _ (q : Tree → Bool) where
   not_before : (n : ℕ) (ts : List Tree) (p : ℕ) → Placed n ts → p < n → list_any (nat_eq p) (positions ts) ≡ false
   not_before n [] p h l = refl
   not_before n (t ∷ ts) p h l = by_test (λ c. list_any (nat_eq p) (map position (cond c (t ∷ filter q ts) (filter q ts))) ≡ false) (q t)
-      (λ c. ap (λ d. d || list_any (nat_eq p) (positions ts)) (ne_eqb p (position t) (λ e. absurd (omega (arith, e, l, placed_first n t ts h)))) ∙ not_before (suc n) ts p (placed_rest n t ts h) (omega arith))
+      (λ c. ap (λ d. d || list_any (nat_eq p) (positions ts)) (ne_eqb p (position t) (λ e. absurd (omega (arith, e, l, placed_first n t ts h))))
+      ∙ not_before (suc n) ts p (placed_rest n t ts h) (omega arith))
       (λ c. not_before (suc n) ts p (placed_rest n t ts h) (omega arith))
 
   member_at : (n : ℕ) (ts : List Tree) (p : ℕ) → Placed n ts → n ≤ p → list_any (nat_eq p) (positions ts) ≡ passes q (slice_get ts (p - n))
@@ -56,15 +57,21 @@ module _ (q : Tree → Bool) where
   unfolding IsDistinct
   distinct n [] h = tt
   distinct n (t ∷ ts) h = by_test (λ c. IsDistinct nat_eq (map position (cond c (t ∷ filter q ts) (filter q ts)))) (q t)
-      (λ c. (all_other (nat_eq (position t)) (positions ts) (not_before (suc n) ts (position t) (placed_rest n t ts h) (omega (arith, placed_first n t ts h))), distinct (suc n) ts (placed_rest n t ts h)))
+      (λ c. (
+        all_other (nat_eq (position t)) (positions ts)
+            (not_before (suc n) ts (position t) (placed_rest n t ts h) (omega (arith, placed_first n t ts h))),
+        distinct (suc n) ts (placed_rest n t ts h),
+      ))
       (λ c. distinct (suc n) ts (placed_rest n t ts h))
 
   -- a list without repetition of exactly the positions whose nodes pass is as long as the list of these nodes
-  pub listed : (rule : List ℕ → List ℕ) (e : ℕ) (ps : List ℕ) → IsDistinct nat_eq ps → ((p : ℕ) → list_any (nat_eq p) ps ≡ passes q (slice_get (forest rule e).nodes p)) → length ps ≡ length (filter q (forest rule e).nodes)
+  pub listed : (rule : List ℕ → List ℕ) (e : ℕ) (ps : List ℕ) → IsDistinct nat_eq ps
+      → ((p : ℕ) → list_any (nat_eq p) ps ≡ passes q (slice_get (forest rule e).nodes p)) → length ps ≡ length (filter q (forest rule e).nodes)
   listed rule e ps d m =
       let ts : List Tree = (forest rule e).nodes in
       let placed : Placed 0 ts = (λ i t g. omega (arith, (forest_grown rule e).placed i t g)) in
-      let same : (p : ℕ) → list_any (nat_eq p) ps ≡ list_any (nat_eq p) (positions ts) = (λ p. let z : p - 0 ≡ p = omega arith in m p ∙ ap (λ i. passes q (slice_get ts i)) (sym z) ∙ sym (member_at 0 ts p placed (omega arith))) in
+      let same : (p : ℕ) → list_any (nat_eq p) ps ≡ list_any (nat_eq p) (positions ts) =
+      (λ p. let z : p - 0 ≡ p = omega arith in m p ∙ ap (λ i. passes q (slice_get ts i)) (sym z) ∙ sym (member_at 0 ts p placed (omega arith))) in
       omega (
         arith,
         length-le_from_is_member nat_eq_equiv ps (positions ts) d (λ p g. sym (same p) ∙ g),
@@ -100,11 +107,13 @@ step_count : (t : Tree) (b : Bool) (ts : List Tree) → length (cond b (t ∷ ts
 step_count t true ts = omega arith
 step_count t false ts = omega arith
 
-pub by_height : (q : Tree → Bool) (k : ℕ) (ts : List Tree) → ((i : ℕ) (t : Tree) → slice_get ts i ≡ Some t → q t ≡ true → height t < k) → total (λ h. length (filter (λ t. q t && (height t == h)) ts)) k ≡ length (filter q ts)
+pub by_height : (q : Tree → Bool) (k : ℕ) (ts : List Tree) → ((i : ℕ) (t : Tree) → slice_get ts i ≡ Some t → q t ≡ true → height t < k)
+    → total (λ h. length (filter (λ t. q t && (height t == h)) ts)) k ≡ length (filter q ts)
 by_height q k [] b = total_zero k
 by_height q k (t ∷ ts) b =
     total_same (λ h. length (filter (λ s. q s && (height s == h)) (t ∷ ts))) (λ h. cond (q t && (height t == h)) 1 0 + length (filter (λ s. q s && (height s == h)) ts)) k
     (λ h. step_count t (q t && (height t == h)) (filter (λ s. q s && (height s == h)) ts))
     ∙ total_add (λ h. cond (q t && (height t == h)) 1 0) (λ h. length (filter (λ s. q s && (height s == h)) ts)) k
-    ∙ (λ i. by_test (λ c. (c ≡ true → height t < k) → total (λ h. cond (c && (height t == h)) 1 0) k ≡ cond c 1 0) (q t) (λ e l. total_one (height t) k (l refl)) (λ e l. total_zero k) (b 0 t refl) i + by_height q k ts (λ j s e. b (suc j) s e) i)
+    ∙ (λ i. by_test (λ c. (c ≡ true → height t < k) → total (λ h. cond (c && (height t == h)) 1 0) k ≡ cond c 1 0) (q t)
+    (λ e l. total_one (height t) k (l refl)) (λ e l. total_zero k) (b 0 t refl) i + by_height q k ts (λ j s e. b (suc j) s e) i)
     ∙ sym (step_count t (q t) (filter q ts))

@@ -62,7 +62,9 @@ module _ {D : Type 0} (rule : List ℕ → List ℕ) where
 
   pub leaves_get : (n p : ℕ) (ds : List D) (j : ℕ) → p ≤ size rule n → slice_get (leaves_among rule n p ds) j ≡ slice_get ds (size rule (n + j) - p)
   leaves_get n p [] j l = refl
-  leaves_get n p (d ∷ ds) j l = by_test (λ t. slice_get (cond t (d ∷ leaves_among rule (suc n) (suc p) ds) (leaves_among rule n (suc p) ds)) j ≡ slice_get (d ∷ ds) (size rule (n + j) - p)) (p == size rule n)
+  leaves_get n p (d ∷ ds) j l =
+      by_test (λ t. slice_get (cond t (d ∷ leaves_among rule (suc n) (suc p) ds) (leaves_among rule n (suc p) ds)) j
+      ≡ slice_get (d ∷ ds) (size rule (n + j) - p)) (p == size rule n)
       (λ t. leaf_here_or_later n p j d ds (eqb-true p (size rule n) t) (λ i. leaves_get (suc n) (suc p) ds i (omega (arith, l, size_step rule n))))
       (λ t. (let b : suc p ≤ size rule n = less p (size rule n) l (eqb-false p (size rule n) t) in
       let y : size rule (n + j) - p ≡ suc (size rule (n + j) - suc p) = omega (arith, b, size_le rule n (n + j) (omega arith)) in
@@ -88,7 +90,8 @@ module _ {D : Type 0} (rule : List ℕ → List ℕ) where
       ∙ leaves_get (length X) r.before r.appended (k - length X) (omega (arith, e)) ∙ ap (λ i. slice_get r.appended (size rule i - r.before)) z
 
   -- records with the same leaves make the same edit
-  pub edited_same : (r s : RecordModel D) (X : List D) → r.before ≡ size rule (length X) → s.before ≡ size rule (length X) → ((k : ℕ) → k < length X → get r.overwritten (size rule k) ≡ get s.overwritten (size rule k)) →
+  pub edited_same : (r s : RecordModel D) (X : List D) → r.before ≡ size rule (length X) → s.before ≡ size rule (length X)
+      → ((k : ℕ) → k < length X → get r.overwritten (size rule k) ≡ get s.overwritten (size rule k)) →
       ((k : ℕ) → length X ≤ k → slice_get r.appended (size rule k - r.before) ≡ slice_get s.appended (size rule k - s.before)) → edited rule r X ≡ edited rule s X
   edited_same r s X e f old new = same_gets (edited rule r X) (edited rule s X) (λ k. elim (cases_lt k (length X)) [
     | inl l ↦ old_entry r X k l ∙ ap (λ o. overwritten_by o (slice_get X k)) (old k l) ∙ sym (old_entry s X k l)
@@ -106,7 +109,8 @@ module _ {D : Type 0} (rule : List ℕ → List ℕ) where
         | inl s ↦ (let n = get_exists X (length (edited rule r X)) s in
             let v = over_some (get r.overwritten (size rule (length (edited rule r X)))) (slice_get X (length (edited rule r X))) n.0 n.1 in
             (v.0, old_entry r X (length (edited rule r X)) s ∙ v.1))
-        | inr s ↦ (let n = get_exists r.appended (size rule (length (edited rule r X)) - r.before) (omega (arith, f, e, size_lt rule (length (edited rule r X)) m b, size_le rule (length X) (length (edited rule r X)) s)) in
+        | inr s ↦ (let n = get_exists r.appended (size rule (length (edited rule r X)) - r.before)
+            (omega (arith, f, e, size_lt rule (length (edited rule r X)) m b, size_le rule (length X) (length (edited rule r X)) s)) in
             (n.0, new_entry r X (length (edited rule r X)) e s ∙ n.1))
       ]))
     where
@@ -118,14 +122,16 @@ module _ {D : Type 0} (rule : List ℕ → List ℕ) where
 
   -- ---- the edits of a batch
   -- a leaf and its parents are appended
-  pub added : (r s : RecordModel D) (X : List D) (m : ℕ) (d : D) (more : List D) → r.before ≡ size rule (length X) → length X ≤ m → r.before + length r.appended ≡ size rule m → size rule m + 1 + length more ≡ size rule (suc m) →
+  pub added : (r s : RecordModel D) (X : List D) (m : ℕ) (d : D) (more : List D) → r.before ≡ size rule (length X) → length X ≤ m
+      → r.before + length r.appended ≡ size rule m → size rule m + 1 + length more ≡ size rule (suc m) →
       s.before ≡ r.before → s.overwritten ≡ r.overwritten → s.appended ≡ r.appended ++ d ∷ more → edited rule s X ≡ edited rule r X ++ d ∷ []
   added r s X m d more e l f g sb so sa =
       let n : length (edited rule r X) ≡ m = edited_length r X m e l f in
       same_gets (edited rule s X) (edited rule r X ++ d ∷ []) (λ k. elim (cases_lt k (length X)) [
         | inl a ↦ old_entry s X k a ∙ ap (λ o. overwritten_by (get o (size rule k)) (slice_get X k)) so ∙ sym (old_entry r X k a) ∙ sym (get_left (edited rule r X) (d ∷ []) k (omega (arith, a, n, l)))
         | inr a ↦ new_entry s X k (sb ∙ e) a ∙ (λ i. slice_get (sa i) (size rule k - sb i)) ∙ elim (cases_lt k m) [
-          | inl b ↦ get_left r.appended (d ∷ more) (size rule k - r.before) (omega (arith, f, e, size_lt rule k m b, size_le rule (length X) k a)) ∙ sym (new_entry r X k e a) ∙ sym (get_left (edited rule r X) (d ∷ []) k (omega (arith, b, n)))
+          | inl b ↦ get_left r.appended (d ∷ more) (size rule k - r.before) (omega (arith, f, e, size_lt rule k m b, size_le rule (length X) k a))
+              ∙ sym (new_entry r X k e a) ∙ sym (get_left (edited rule r X) (d ∷ []) k (omega (arith, b, n)))
           | inr b ↦ elim (cases_lt m k) [
             | inl c ↦
                 slice_get_past (r.appended ++ d ∷ more) (size rule k - r.before) (omega (arith, f, g, size_le rule (suc m) k c, length-append r.appended (d ∷ more)))
@@ -142,16 +148,26 @@ module _ {D : Type 0} (rule : List ℕ → List ℕ) where
   pub overwritten : (r s : RecordModel D) (X : List D) (k : ℕ) (d : D) → r.before ≡ size rule (length X) → k < length X → s.before ≡ r.before → s.appended ≡ r.appended →
       ((p : ℕ) → get s.overwritten p ≡ cond (p == size rule k) (Some d) (get r.overwritten p)) → edited rule s X ≡ set (edited rule r X) k d
   overwritten r s X k d e l sb sa so =
-      let n : k < length (edited rule r X) = omega (arith, l, length-append (replaced rule (get r.overwritten) 0 X) (leaves_among rule (length X) r.before r.appended), replaced_length rule (get r.overwritten) 0 X) in
+      let n : k < length (edited rule r X) =
+      omega (
+        arith,
+        l,
+        length-append (replaced rule (get r.overwritten) 0 X) (leaves_among rule (length X) r.before r.appended),
+        replaced_length rule (get r.overwritten) 0 X,
+      ) in
       same_gets (edited rule s X) (set (edited rule r X) k d) (λ i. elim (cases_lt i (length X)) [
         | inl a ↦ old_entry s X i a ∙ ap (λ o. overwritten_by o (slice_get X i)) (so (size rule i)) ∙ here r X k d i l a n
-        | inr a ↦ new_entry s X i (sb ∙ e) a ∙ (λ x. slice_get (sa x) (size rule i - sb x)) ∙ sym (new_entry r X i e a) ∙ sym (get_set_other (edited rule r X) k i d (λ q. absurd (omega (arith, q, a, l))))
+        | inr a ↦ new_entry s X i (sb ∙ e) a ∙ (λ x. slice_get (sa x) (size rule i - sb x)) ∙ sym (new_entry r X i e a)
+            ∙ sym (get_set_other (edited rule r X) k i d (λ q. absurd (omega (arith, q, a, l))))
       ])
     where
-      here : (r : RecordModel D) (X : List D) (k : ℕ) (d : D) (i : ℕ) → k < length X → i < length X → k < length (edited rule r X) → overwritten_by (cond (size rule i == size rule k) (Some d) (get r.overwritten (size rule i))) (slice_get X i) ≡ slice_get (set (edited rule r X) k d) i
+      here : (r : RecordModel D) (X : List D) (k : ℕ) (d : D) (i : ℕ) → k < length X → i < length X → k < length (edited rule r X)
+          → overwritten_by (cond (size rule i == size rule k) (Some d) (get r.overwritten (size rule i))) (slice_get X i) ≡ slice_get (set (edited rule r X) k d) i
       here r X k d i l a n = elim (cases_order i k) [
         | inl q ↦ (let v = get_exists X i a in
-            ap (λ t. overwritten_by (cond t (Some d) (get r.overwritten (size rule i))) (slice_get X i)) (eq-eqb (size rule i) (size rule k) (ap (size rule) q)) ∙ ap (overwritten_by (Some d)) v.1 ∙ sym (ap (slice_get (set (edited rule r X) k d)) q ∙ get_set_same (edited rule r X) k d n))
+            ap (λ t. overwritten_by (cond t (Some d) (get r.overwritten (size rule i))) (slice_get X i))
+            (eq-eqb (size rule i) (size rule k) (ap (size rule) q)) ∙ ap (overwritten_by (Some d)) v.1
+            ∙ sym (ap (slice_get (set (edited rule r X) k d)) q ∙ get_set_same (edited rule r X) k d n))
         | inr q ↦
             ap (λ t. overwritten_by (cond t (Some d) (get r.overwritten (size rule i))) (slice_get X i)) (ne_eqb (size rule i) (size rule k) (apart i k q))
             ∙ sym (old_entry r X i a) ∙ sym (get_set_other (edited rule r X) k i d (λ f. absurd (elim q [ inl x ↦ omega (arith, x, f) | inr x ↦ omega (arith, x, f) ])))
@@ -161,12 +177,14 @@ module _ {D : Type 0} (rule : List ℕ → List ℕ) where
           apart i k q e = elim q [ inl x ↦ absurd (omega (arith, e, size_lt rule i k x)) | inr x ↦ absurd (omega (arith, e, size_lt rule k i x)) ]
 
   -- an appended leaf is replaced
-  pub replaced_new : (r s : RecordModel D) (X : List D) (m k : ℕ) (d : D) → r.before ≡ size rule (length X) → length X ≤ k → k < m → r.before + length r.appended ≡ size rule m → s.before ≡ r.before → s.overwritten ≡ r.overwritten →
+  pub replaced_new : (r s : RecordModel D) (X : List D) (m k : ℕ) (d : D) → r.before ≡ size rule (length X) → length X ≤ k → k < m
+      → r.before + length r.appended ≡ size rule m → s.before ≡ r.before → s.overwritten ≡ r.overwritten →
       s.appended ≡ set r.appended (size rule k - r.before) d → edited rule s X ≡ set (edited rule r X) k d
   replaced_new r s X m k d e l b f sb so sa =
       let n : length (edited rule r X) ≡ m = edited_length r X m e (omega (arith, l, b)) f in
       same_gets (edited rule s X) (set (edited rule r X) k d) (λ i. elim (cases_lt i (length X)) [
-        | inl a ↦ old_entry s X i a ∙ ap (λ o. overwritten_by (get o (size rule i)) (slice_get X i)) so ∙ sym (old_entry r X i a) ∙ sym (get_set_other (edited rule r X) k i d (λ q. absurd (omega (arith, q, a, l))))
+        | inl a ↦ old_entry s X i a ∙ ap (λ o. overwritten_by (get o (size rule i)) (slice_get X i)) so ∙ sym (old_entry r X i a)
+            ∙ sym (get_set_other (edited rule r X) k i d (λ q. absurd (omega (arith, q, a, l))))
         | inr a ↦ new_entry s X i (sb ∙ e) a ∙ (λ x. slice_get (sa x) (size rule i - sb x)) ∙ elim (cases_order i k) [
           | inl q ↦
               ap (λ x. slice_get (set r.appended (size rule k - r.before) d) (size rule x - r.before)) q
@@ -179,4 +197,8 @@ module _ {D : Type 0} (rule : List ℕ → List ℕ) where
       ])
     where
       apart : (i : ℕ) → length X ≤ i → (i < k) ⊎ (k < i) → size rule i - r.before ≡ size rule k - r.before → ⊥
-      apart i a q g = elim q [ inl x ↦ absurd (omega (arith, g, e, size_lt rule i k x, size_le rule (length X) i a)) | inr x ↦ absurd (omega (arith, g, e, size_lt rule k i x, size_le rule (length X) k l)) ]
+      apart i a q g = elim q [
+        | inl x ↦ absurd (omega (arith, g, e, size_lt rule i k x, size_le rule (length X) i a))
+        | inr x ↦
+            absurd (omega (arith, g, e, size_lt rule k i x, size_le rule (length X) k l))
+      ]

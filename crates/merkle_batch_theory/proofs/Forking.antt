@@ -78,16 +78,24 @@ module _ {D : Type 0} (h : Hashing D) (rule : List ℕ → List ℕ) where
       let k = tail_stands p.parent.ancestors own p.forgotten ls l s in
       by_test (λ b. KeptStands (rs ++ cond b (own ∷ []) []) (take (suc (length (rs ++ cond b (own ∷ []) []))) (drop p.forgotten ls)) (last_list ls)) (is_changed own)
       (λ e. (k.0, k.1, ap (take (suc (length (rs ++ own ∷ [])))) k.2 ∙ whole (rs ++ own ∷ []) (k.0 ∷ k.1) k.3, k.3, k.4))
-      (λ e. (let m = off_last rs own k.0 k.1 k.3 (appends_nothing own e) (overwrites_nothing own e) in
-      (k.0, m.0, ap (take (suc (length (rs ++ [])))) k.2 ∙ ap (λ qs. take (suc (length qs)) (k.0 ∷ k.1)) (append-nil rs) ∙ m.1, subst (λ qs. IsHistory h rule qs (k.0 ∷ m.0)) (sym (append-nil rs)) m.2, m.3 ∙ k.4)))
+      (λ e. (let m = off_last rs own k.0 k.1 k.3 (appends_nothing own e) (overwrites_nothing own e) in (
+        k.0,
+        m.0,
+        ap (take (suc (length (rs ++ [])))) k.2 ∙ ap (λ qs. take (suc (length qs)) (k.0 ∷ k.1)) (append-nil rs)
+            ∙ m.1,
+        subst (λ qs. IsHistory h rule qs (k.0 ∷ m.0)) (sym (append-nil rs)) m.2,
+        m.3 ∙ k.4,
+      )))
 
   -- a step more
-  pub stands_more : (rs : List (RecordModel D)) (ls : List (List D)) (r : RecordModel D) (Y : List D) → IsHistory h rule rs ls → IsStep h rule r (last_list ls) Y → IsHistory h rule (rs ++ r ∷ []) (ls ++ Y ∷ [])
+  pub stands_more : (rs : List (RecordModel D)) (ls : List (List D)) (r : RecordModel D) (Y : List D) → IsHistory h rule rs ls
+      → IsStep h rule r (last_list ls) Y → IsHistory h rule (rs ++ r ∷ []) (ls ++ Y ∷ [])
   stands_more rs [] r Y s t = absurd s
   stands_more rs (X ∷ ls) r Y s t = (stands_push h rule rs X ls r Y s t).0
 
   -- after the own record there is what the last list has
-  pub last_size : (c : MerkleizedModel D) (ls : List (List D)) → IsHistory h rule (records c) ls → (after c.own ≡ size rule (length (last_list ls))) × (c.own.peaks_after ≡ peak_digests h rule (last_list ls))
+  pub last_size : (c : MerkleizedModel D) (ls : List (List D)) → IsHistory h rule (records c) ls → (after c.own ≡ size rule (length (last_list ls)))
+      × (c.own.peaks_after ≡ peak_digests h rule (last_list ls))
   last_size c [] s = absurd s
   last_size c (X ∷ ls) s =
       let k = splits h rule c.ancestors c.own X ls s in
@@ -115,7 +123,8 @@ module _ {D : Type 0} where
   first_runs base_size boundary leaves (q ∷ rs) r m s = (refl, s.1)
 
   -- the records of a batch that is forked from a linked one follow one another
-  pub kept_runs : (rule : List ℕ → List ℕ) (max_leaves base_size boundary leaves : ℕ) (p : UnmerkleizedModel D) (r : RecordModel D) → IsBatchValid rule max_leaves p.parent → p.forgotten ≤ length p.parent.ancestors → r.before ≡ after p.parent.own →
+  pub kept_runs : (rule : List ℕ → List ℕ) (max_leaves base_size boundary leaves : ℕ) (p : UnmerkleizedModel D) (r : RecordModel D)
+      → IsBatchValid rule max_leaves p.parent → p.forgotten ≤ length p.parent.ancestors → r.before ≡ after p.parent.own →
       RunsFrom (oldest (record { base_size = base_size; boundary = boundary; ancestors = kept p; own = r; leaves = leaves })).before (kept p ++ r ∷ [])
   kept_runs rule max_leaves base_size boundary leaves p r linked l e =
       let rs : List (RecordModel D) = drop p.forgotten p.parent.ancestors in

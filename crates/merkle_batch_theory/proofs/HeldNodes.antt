@@ -54,7 +54,8 @@ module _ {D : Type 0} (at : ℕ) (digest : D) where
     replaced_reads pins' nodes' before' put p = stored_reads pins' start nodes' before' p ∙ put p ∙ sym (ap (replaced p) (stored_reads pins start nodes before p))
 
     -- a pin takes a digest
-    pub put_reads : (pins' : List (ℕ × D)) → at < start → ((p : ℕ) → lookup (nat_eq p) pins' ≡ replaced p (lookup (nat_eq p) pins)) → (p : ℕ) → get (stored_of pins' start nodes) p ≡ replaced p (get (stored_of pins start nodes) p)
+    pub put_reads : (pins' : List (ℕ × D)) → at < start → ((p : ℕ) → lookup (nat_eq p) pins' ≡ replaced p (lookup (nat_eq p) pins)) → (p : ℕ)
+        → get (stored_of pins' start nodes) p ≡ replaced p (get (stored_of pins start nodes) p)
     put_reads pins' below put = replaced_reads pins' nodes (λ p l. put p ∙ ap (replaced p) (before p l) ∙ none_replaced (p == at)) (λ p. elim (cases_lt p start) [
       | inl h ↦ rw (lt-ltb p start h) (put p)
       | inr h ↦ rw (le-ltb p start h, ne_eqb p at (λ e. absurd (omega (arith, e, h, below)))) refl
@@ -64,7 +65,9 @@ module _ {D : Type 0} (at : ℕ) (digest : D) where
     pub set_reads : (k : ℕ) → start ≤ at → k ≡ at - start → k < length nodes → (p : ℕ) → get (stored_of pins start (slice_set nodes k digest)) p ≡ replaced p (get (stored_of pins start nodes) p)
     set_reads k from is l = replaced_reads pins (slice_set nodes k digest) before (λ p. elim (cases_lt p start) [
       | inl h ↦ rw (lt-ltb p start h, ne_eqb p at (λ e. absurd (omega (arith, e, h, from)))) refl
-      | inr h ↦ rw (le-ltb p start h) (by_test (λ b. slice_get (slice_set nodes k digest) (p - start) ≡ cond b (overwritten_by (Some digest) (slice_get nodes (p - start))) (slice_get nodes (p - start))) (p == at)
+      | inr h ↦ rw (le-ltb p start h)
+          (by_test (λ b. slice_get (slice_set nodes k digest) (p - start)
+          ≡ cond b (overwritten_by (Some digest) (slice_get nodes (p - start))) (slice_get nodes (p - start))) (p == at)
           (λ e. let same : p - start ≡ k = omega (arith, is, eqb-true p at e) in
           ap (slice_get (slice_set nodes k digest)) same ∙ get_set_same nodes k digest l ∙ ap (overwritten_by (Some digest)) (sym (ap (slice_get nodes) same ∙ slice_get-get_or nodes k digest l)))
           (λ e. get_set_other nodes k (p - start) digest (λ same. eqb-false p at e (omega (arith, is, same, h, from)))))
@@ -72,16 +75,21 @@ module _ {D : Type 0} (at : ℕ) (digest : D) where
 
     -- there is no such node
     pub unset_reads : start ≤ at → length nodes ≤ at - start → (p : ℕ) → get (stored_of pins start nodes) p ≡ replaced p (get (stored_of pins start nodes) p)
-    unset_reads from past p = by_test (λ b. get (stored_of pins start nodes) p ≡ cond b (overwritten_by (Some digest) (get (stored_of pins start nodes) p)) (get (stored_of pins start nodes) p)) (p == at)
+    unset_reads from past p = by_test
+        (λ b. get (stored_of pins start nodes) p
+        ≡ cond b (overwritten_by (Some digest) (get (stored_of pins start nodes) p)) (get (stored_of pins start nodes) p)) (p == at)
         (λ e. let here : p ≡ at = eqb-true p at e in
-        let none : get (stored_of pins start nodes) p ≡ None = held_from pins start nodes p (omega (arith, here, from)) (before p (omega (arith, here, from))) ∙ slice_get_past nodes (p - start) (omega (arith, here, past)) in
+        let none : get (stored_of pins start nodes) p ≡ None =
+        held_from pins start nodes p (omega (arith, here, from)) (before p (omega (arith, here, from)))
+        ∙ slice_get_past nodes (p - start) (omega (arith, here, past)) in
         none ∙ sym (ap (overwritten_by (Some digest)) none))
         (λ e. refl)
 
 -- ---- nodes come or go
 module _ {D : Type 0} (pins : List (ℕ × D)) (start : ℕ) (nodes : List D) (before : PinsBefore start pins) where
   -- nodes are appended
-  stored_append : (digests : List D) (p : ℕ) → stored_at pins start (nodes ++ digests) p ≡ cond (nat_lt p (start + length nodes)) (stored_at pins start nodes p) (slice_get digests (p - (start + length nodes)))
+  stored_append : (digests : List D) (p : ℕ)
+      → stored_at pins start (nodes ++ digests) p ≡ cond (nat_lt p (start + length nodes)) (stored_at pins start nodes p) (slice_get digests (p - (start + length nodes)))
   stored_append digests p = elim (cases_lt p (start + length nodes)) [
     | inl l ↦ rw (lt-ltb p (start + length nodes) l) (elim (cases_lt p start) [
       | inl h ↦ rw (lt-ltb p start h) refl
@@ -91,7 +99,9 @@ module _ {D : Type 0} (pins : List (ℕ × D)) (start : ℕ) (nodes : List D) (b
         rw (le-ltb p (start + length nodes) l, le-ltb p start (omega (arith, l))) (ap (slice_get (nodes ++ digests)) at ∙ get_append_add nodes digests (p - (start + length nodes))))
   ]
 
-  pub append_reads : (digests : List D) (p : ℕ) → get (stored_of pins start (nodes ++ digests)) p ≡ cond (nat_lt p (start + length nodes)) (get (stored_of pins start nodes) p) (slice_get digests (p - (start + length nodes)))
+  pub append_reads : (digests : List D) (p : ℕ)
+      → get (stored_of pins start (nodes ++ digests)) p
+      ≡ cond (nat_lt p (start + length nodes)) (get (stored_of pins start nodes) p) (slice_get digests (p - (start + length nodes)))
   append_reads digests p =
       stored_reads pins start (nodes ++ digests) before p ∙ stored_append digests p
       ∙ sym (ap (λ o. cond (nat_lt p (start + length nodes)) o (slice_get digests (p - (start + length nodes)))) (stored_reads pins start nodes before p))
@@ -112,7 +122,8 @@ pub counted_nodes : (rule : List ℕ → List ℕ) (max_leaves max_nodes leaves 
 counted_nodes rule max_leaves max_nodes leaves n law k = omega (arith, size_le rule leaves max_leaves k.bounded, k.sized, law.size_at_limit)
 
 -- the boundary is not past the leaves where its position is not past the nodes
-pub kept_counted : {D : Type 0} (rule : List ℕ → List ℕ) (max_leaves boundary leaves : ℕ) (held : Held D) → HasLeafCount rule max_leaves leaves held.size → held.start ≡ size rule boundary → held.start ≤ held.size
+pub kept_counted : {D : Type 0} (rule : List ℕ → List ℕ) (max_leaves boundary leaves : ℕ) (held : Held D)
+    → HasLeafCount rule max_leaves leaves held.size → held.start ≡ size rule boundary → held.start ≤ held.size
     → HoldsKept rule (held_contents boundary held) → IsMemValid rule max_leaves boundary leaves held
 kept_counted rule max_leaves boundary leaves held counted starts l holds = record {
   starts = starts;

@@ -51,7 +51,8 @@ module _ {D : Type 0} (rule : List ℕ → List ℕ) (b : ℕ) (pins nodes : Lis
   part_held : (p : ℕ) → is_some (stored_at (zip (peak_positions rule b) pins) (size rule b) nodes p) ≡ nat_lt p (size rule b + length nodes) && is_kept rule b p
   part_held p = elim (cases_lt p (size rule b)) [
     | inl h ↦ rw (lt-ltb p (size rule b) h, lt-ltb p (size rule b + length nodes) (omega (arith, h)), lt-leb (size rule b) p h) (lookup_zip p (peak_positions rule b) pins as_many)
-    | inr h ↦ rw (le-ltb p (size rule b) h, kept_from rule b p h) (some_below nodes (p - size rule b) ∙ shifted (size rule b) (length nodes) p h ∙ sym (and-true (nat_lt p (size rule b + length nodes))))
+    | inr h ↦ rw (le-ltb p (size rule b) h, kept_from rule b p h)
+        (some_below nodes (p - size rule b) ∙ shifted (size rule b) (length nodes) p h ∙ sym (and-true (nat_lt p (size rule b + length nodes))))
   ]
 
   -- a structure that is made of pins and nodes holds what is kept
@@ -74,7 +75,8 @@ module _ {D : Type 0} (rule : List ℕ → List ℕ) where
   -- ---- records laid over what is held
   with_record_held : (r : RecordModel D) (c : Contents D) → size rule c.boundary ≤ c.size → HoldsKept rule c → HoldsKept rule (with_record r c)
   with_record_held r c above held p = elim (cases_lt p c.size) [
-    | inl h ↦ rw (lt-ltb p c.size h, lt-ltb p (c.size + length r.appended) (omega (arith, h))) (some_over (get r.overwritten p) (c.node p) ∙ held p ∙ ap (λ b. b && is_kept rule c.boundary p) (lt-ltb p c.size h))
+    | inl h ↦ rw (lt-ltb p c.size h, lt-ltb p (c.size + length r.appended) (omega (arith, h)))
+        (some_over (get r.overwritten p) (c.node p) ∙ held p ∙ ap (λ b. b && is_kept rule c.boundary p) (lt-ltb p c.size h))
     | inr h ↦ rw (le-ltb p c.size h, kept_from rule c.boundary p (omega (arith, h, above)))
         (some_below r.appended (p - c.size) ∙ shifted c.size (length r.appended) p h ∙ sym (and-true (nat_lt p (c.size + length r.appended))))
   ]

@@ -1,5 +1,6 @@
 -- A structure that is made of a list's digests agrees with the list.
-use Rattle.std.proofs.Common.{◌≡◌, ℕ, suc, ◌+◌, ◌-◌, ◌≤◌, List, [], ◌∷◌, length, length-take, length-drop, map, take, drop, Some, None, cond, slice_get, arith, refl, sym, ap, inl, inr, ◌∙◌, subst, nat_eq}
+use Rattle.std.proofs.Common.{◌≡◌, ℕ, suc, ◌+◌, ◌-◌, ◌≤◌, List, [], ◌∷◌, length, length-take, length-drop, map, take, drop, Some, None, cond, slice_get, arith}
+use Rattle.std.proofs.Common.{refl, sym, ap, inl, inr, ◌∙◌, subst, nat_eq}
 use Rattle.std.specs.Prelude.{◌||◌}
 use Rattle.std.specs.List.{list_any, zip}
 use Rattle.std.specs.Map.{lookup}
@@ -66,9 +67,12 @@ module _ {D : Type 0} (h : Hashing D) (rule : List ℕ → List ℕ) (X : List D
     ]
 
 -- a structure that is made of the digests of X agrees with X
-pub honest_agrees : {D : Type 0} (h : Hashing D) (rule : List ℕ → List ℕ) (X : List D) (b n : ℕ) (pins nodes : List D) → AreComponents h rule X b pins nodes → Agrees h rule (contents (made_of rule b n pins nodes)) X
+pub honest_agrees : {D : Type 0} (h : Hashing D) (rule : List ℕ → List ℕ) (X : List D) (b n : ℕ) (pins nodes : List D)
+    → AreComponents h rule X b pins nodes → Agrees h rule (contents (made_of rule b n pins nodes)) X
 honest_agrees h rule X b n pins nodes of = record {
   sized = counts h rule X b of.within pins nodes of.nodes_are of.peaks_are;
   bounded = of.within;
-  holds = λ p. stored_reads (zip (peak_positions rule b) pins) (size rule b) nodes (zip_before rule b pins (as_many h rule X b of.within pins nodes of.nodes_are of.peaks_are)) p ∙ held_at h rule X b of.within pins nodes of.nodes_are of.peaks_are p;
+  holds = λ p. stored_reads (zip (peak_positions rule b) pins) (size rule b) nodes
+      (zip_before rule b pins (as_many h rule X b of.within pins nodes of.nodes_are of.peaks_are)) p
+      ∙ held_at h rule X b of.within pins nodes of.nodes_are of.peaks_are p;
 }

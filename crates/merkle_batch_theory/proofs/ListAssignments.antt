@@ -25,7 +25,8 @@ module _ {D : Type 0} (h : Hashing D) (rule : List ℕ → List ℕ) (max_leaves
   truth_at n p t l e = ap (λ o. option_map_or (digest_at h Y) o h.empty) (node_stays rule n max_leaves p t l e)
 
   -- the nodes of a forest are what they must be
-  digests_from_of : (p : ℕ) (ns : List Tree) → ((i : ℕ) (t : Tree) → slice_get ns i ≡ Some t → truth_of h rule max_leaves Y (p + i) ≡ digest_at h Y t) → digests_from (truth_of h rule max_leaves Y) p (length ns) ≡ map (digest_at h Y) ns
+  digests_from_of : (p : ℕ) (ns : List Tree) → ((i : ℕ) (t : Tree) → slice_get ns i ≡ Some t → truth_of h rule max_leaves Y (p + i) ≡ digest_at h Y t)
+      → digests_from (truth_of h rule max_leaves Y) p (length ns) ≡ map (digest_at h Y) ns
   digests_from_of p [] e = refl
   digests_from_of p (t ∷ ns) e =
       let here : truth_of h rule max_leaves Y p ≡ digest_at h Y t = (let z : p ≡ p + 0 = omega arith in ap (truth_of h rule max_leaves Y) z ∙ e 0 t refl) in
@@ -40,12 +41,15 @@ module _ {D : Type 0} (h : Hashing D) (rule : List ℕ → List ℕ) (max_leaves
   appended_whole b ds counted same =
       let f = truth_of h rule max_leaves Y in
       let parts : digests_from f 0 b ++ digests_from f b (length ds) ≡ digests_from f 0 (b + length ds) =
-      (let z : 0 + b ≡ b = omega arith in ap (λ (k : ℕ). digests_from f 0 b ++ digests_from f k (length ds)) (sym z) ∙ sym (map-append f (range_with_len 0 b) (range_with_len (0 + b) (length ds))) ∙ ap (map f) (range-add 0 b (length ds))) in
+      (let z : 0 + b ≡ b = omega arith in ap (λ (k : ℕ). digests_from f 0 b ++ digests_from f k (length ds)) (sym z)
+      ∙ sym (map-append f (range_with_len 0 b) (range_with_len (0 + b) (length ds))) ∙ ap (map f) (range-add 0 b (length ds))) in
       let whole : digests_from f 0 b ++ digests_from f b (length ds) ≡ node_digests h rule Y = parts ∙ ap (digests_from f 0) counted ∙ digests_from_whole in
-      same ∙ sym (drop-append_seam (digests_from f 0 b) (digests_from f b (length ds))) ∙ ap (λ (k : ℕ). drop k (digests_from f 0 b ++ digests_from f b (length ds))) (length-map-range_with_len f 0 b) ∙ ap (drop b) whole
+      same ∙ sym (drop-append_seam (digests_from f 0 b) (digests_from f b (length ds)))
+      ∙ ap (λ (k : ℕ). drop k (digests_from f 0 b ++ digests_from f b (length ds))) (length-map-range_with_len f 0 b) ∙ ap (drop b) whole
 
   -- the peaks
-  peaks_each : (ts : List Tree) → ((i : ℕ) (t : Tree) → slice_get ts i ≡ Some t → truth_of h rule max_leaves Y (position t) ≡ digest_at h Y t) → map (truth_of h rule max_leaves Y) (map position ts) ≡ map (digest_at h Y) ts
+  peaks_each : (ts : List Tree) → ((i : ℕ) (t : Tree) → slice_get ts i ≡ Some t → truth_of h rule max_leaves Y (position t) ≡ digest_at h Y t)
+      → map (truth_of h rule max_leaves Y) (map position ts) ≡ map (digest_at h Y) ts
   peaks_each [] e = refl
   peaks_each (t ∷ ts) e = ap (λ d. d ∷ map (truth_of h rule max_leaves Y) (map position ts)) (e 0 t refl) ∙ ap (λ ds. digest_at h Y t ∷ ds) (peaks_each ts (λ i u f. e (suc i) u f))
 

@@ -53,4 +53,6 @@ module _ {D : Type 0} where
   -- an entry put into the list is put into the map
   pub put_entry : (m n : List (ℕ × D)) (k : ℕ) (v : D) → ((q : ℕ) → lookup (nat_eq q) n ≡ cond (nat_eq k q) (Some v) (lookup (nat_eq q) m)) → from_entries {R = nat_cmp} n ≡ insert (from_entries m) k v
   put_entry m n k v h =
-      same_map nat_cmp_total nat_cmp-IsAntisymmetric _ _ (λ q. get_entries n q ∙ h q ∙ ap (λ b. cond b (Some v) (lookup (nat_eq q) m)) (eqb_comm k q ∙ sym (unsigned_tied q k)) ∙ ap (cond (eq_by_cmp nat_cmp q k) (Some v)) (sym (get_entries m q)) ∙ sym (get-insert nat_cmp_total (from_entries m) k v q))
+      same_map nat_cmp_total nat_cmp-IsAntisymmetric _ _
+      (λ q. get_entries n q ∙ h q ∙ ap (λ b. cond b (Some v) (lookup (nat_eq q) m)) (eqb_comm k q ∙ sym (unsigned_tied q k))
+      ∙ ap (cond (eq_by_cmp nat_cmp q k) (Some v)) (sym (get_entries m q)) ∙ sym (get-insert nat_cmp_total (from_entries m) k v q))

@@ -31,7 +31,8 @@ module _ {D : Type 0} (h : Hashing D) (rule : List ℕ → List ℕ) where
   both_true : EqDecides h → (n m : ℕ) (ps qs : List D) → n ≡ m → ps ≡ qs → (n == m) && pointwise h.same ps qs ≡ true
   both_true law n m ps qs e f = ap (λ b. b && pointwise h.same ps qs) (eq-eqb n m e) ∙ (pointwise_decides law ps qs).1 f
 
-  pub accepts : EqDecides h → (k : MerkleizedModel D) (ls : List (List D)) (c : Contents D) (X : List D) (i : ℕ) → IsHistory h rule (records k) ls → slice_get ls i ≡ Some X → i ≤ length k.ancestors → Agrees h rule c X →
+  pub accepts : EqDecides h → (k : MerkleizedModel D) (ls : List (List D)) (c : Contents D) (X : List D) (i : ℕ) → IsHistory h rule (records k) ls
+      → slice_get ls i ≡ Some X → i ≤ length k.ancestors → Agrees h rule c X →
       is_some (matched h.same c.size (held_peaks rule (length X) c) k) ≡ true
   accepts law k ls c X zero s g l a =
       (let w = head_stands h rule k ls s in
@@ -46,8 +47,11 @@ module _ {D : Type 0} (h : Hashing D) (rule : List ℕ → List ℕ) where
       let d : w.1 ≡ X = (let m : Some w.1 ≡ Some X = sym w.3 ∙ g in cc) in
       let b : is_state h.same c.size (held_peaks rule (length X) c) (after r.0) r.0.peaks_after ≡ true =
       both_true law c.size (after r.0) (held_peaks rule (length X) c) r.0.peaks_after
-      (a.sized ∙ ap (λ Z. size rule (length Z)) (sym d) ∙ sym (ap (λ n. n + length r.0.appended) w.4.before ∙ step_size h rule r.0 w.0 w.1 w.4)) (peaks_agree h rule c X a ∙ ap (peak_digests h rule) (sym d) ∙ sym w.4.peaks_after) in
-      either (is_state h.same c.size (held_peaks rule (length X) c) (oldest k).before (oldest k).peaks_before) (last_match (λ r. is_state h.same c.size (held_peaks rule (length X) c) (after r) r.peaks_after) k.ancestors) (last_some (λ r. is_state h.same c.size (held_peaks rule (length X) c) (after r) r.peaks_after) k.ancestors i r.0 r.1 b))
+      (a.sized ∙ ap (λ Z. size rule (length Z)) (sym d) ∙ sym (ap (λ n. n + length r.0.appended) w.4.before ∙ step_size h rule r.0 w.0 w.1 w.4))
+      (peaks_agree h rule c X a ∙ ap (peak_digests h rule) (sym d) ∙ sym w.4.peaks_after) in
+      either (is_state h.same c.size (held_peaks rule (length X) c) (oldest k).before (oldest k).peaks_before)
+      (last_match (λ r. is_state h.same c.size (held_peaks rule (length X) c) (after r) r.peaks_after) k.ancestors)
+      (last_some (λ r. is_state h.same c.size (held_peaks rule (length X) c) (after r) r.peaks_after) k.ancestors i r.0 r.1 b))
     where
       either : (b : Bool) (o : Option ℕ) → is_some o ≡ true → is_some {T = ℕ} (cond b (Some 0) o) ≡ true
       either true o e = refl

@@ -44,12 +44,17 @@ module _ {D : Type 0} (rule : List ℕ → List ℕ) (m : ℕ → Option D) (b n
   pub used_kept : (t : Tree) → IsUsed rule m n e t → is_kept rule b (position t) ≡ true
   used_kept t u = elim u [
     | inl x ↦ (let c = children_held rule b e x.0 (join x.0 x.1 x.2) (omega (arith, low, more)) x.3 (computed_after x.0 x.1 x.2 x.3 x.4) in
-        elim x.5 [ inl d ↦ subst (λ s. is_kept rule b (position s) ≡ true) (sym d) (kept_held rule b x.1 c.0) | inr d ↦ subst (λ s. is_kept rule b (position s) ≡ true) (sym d) (kept_held rule b x.2 c.1) ])
+        elim x.5 [
+          | inl d ↦ subst (λ s. is_kept rule b (position s) ≡ true) (sym d) (kept_held rule b x.1 c.0)
+          | inr d ↦
+              subst (λ s. is_kept rule b (position s) ≡ true) (sym d) (kept_held rule b x.2 c.1)
+        ])
     | inr x ↦ kept_held rule b t (all_get (IsHeld (size rule b) (forest rule b).peaks) (forest rule e).peaks x.1.0 t (peaks_held rule b e (omega (arith, low, more))) x.1.1)
   ]
 
 -- ---- what a proof of leaves at or after the boundary reads is kept
-pub sibling_kept : (rule : List ℕ → List ℕ) (b n p q k : ℕ) (l r : Tree) → b ≤ n → slice_get (forest rule n).nodes p ≡ Some (join p l r) → IsUnder (leaf q k) (join p l r) → b ≤ k → (is_kept rule b (position l) ≡ true) × (is_kept rule b (position r) ≡ true)
+pub sibling_kept : (rule : List ℕ → List ℕ) (b n p q k : ℕ) (l r : Tree) → b ≤ n → slice_get (forest rule n).nodes p ≡ Some (join p l r)
+    → IsUnder (leaf q k) (join p l r) → b ≤ k → (is_kept rule b (position l) ≡ true) × (is_kept rule b (position r) ≡ true)
 sibling_kept rule b n p q k l r low e u above =
     (let t = node_built rule n p (join p l r) e in
     let f = leaf_at rule n q q k (built_under (forest rule n).nodes (leaf q k) (join p l r) u t) in

@@ -19,7 +19,8 @@ module _ {D : Type 0} where
   newest_last [] r p = sym (or_nothing (written r p))
   newest_last (q ∷ rs) r p = ap (λ o. option_or o (written q p)) (newest_last rs r p) ∙ or_assoc (written r p) (newest rs p) (written q p)
 
-  pub newest_taken : {A : Type 0} (f : A → RecordModel D) (xs : List A) (i p : ℕ) (x : A) → i < length xs → x ≡ get_or xs i x → newest (take (suc i) (map f xs)) p ≡ option_or (written (f x) p) (newest (take i (map f xs)) p)
+  pub newest_taken : {A : Type 0} (f : A → RecordModel D) (xs : List A) (i p : ℕ) (x : A) → i < length xs → x ≡ get_or xs i x
+      → newest (take (suc i) (map f xs)) p ≡ option_or (written (f x) p) (newest (take i (map f xs)) p)
   newest_taken f [] i p x l e = absurd (omega arith)
   newest_taken f (y ∷ ys) zero p x l e = ap (λ z. written (f z) p) (sym e) ∙ sym (or_nothing (written (f x) p))
   newest_taken f (y ∷ ys) (suc i) p x l e =
@@ -33,6 +34,7 @@ module _ {D : Type 0} where
   own_lacks k p e = newest_last k.ancestors k.own p ∙ ap (λ o. option_or o (newest k.ancestors p)) e
 
   -- what it has is the last list's
-  pub has_last : (h : Hashing D) (rule : List ℕ → List ℕ) (k : MerkleizedModel D) (p : ℕ) (d : D) (ls : List (List D)) → IsHistory h rule (records k) ls → newest (records k) p ≡ Some d → slice_get (node_digests h rule (last_list ls)) p ≡ Some d
+  pub has_last : (h : Hashing D) (rule : List ℕ → List ℕ) (k : MerkleizedModel D) (p : ℕ) (d : D) (ls : List (List D))
+      → IsHistory h rule (records k) ls → newest (records k) p ≡ Some d → slice_get (node_digests h rule (last_list ls)) p ≡ Some d
   has_last h rule k p d [] s e = absurd s
   has_last h rule k p d (X ∷ ls) s e = (batch_shows h rule k X ls s).right p d e

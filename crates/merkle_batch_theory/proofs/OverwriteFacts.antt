@@ -35,7 +35,8 @@ latest_push ys y p =
     ap (λ es. update_all nat_eq (λ _. None) es p) (map_last deref_pair ys y) ∙ sym (update_all_push nat_eq (λ _. None) (latest ys) (map deref_pair ys) (deref_pair y) p refl)
     ∙ ap (λ b. cond b (Some y.1.now) (latest ys p)) (eqb_comm y.0.now p)
 
-pub over_push : {D : Type 0} (ys : List (Bor ℕ × Bor D)) (y : Bor ℕ × Bor D) (p : ℕ) (now then x : Option D) → then ≡ overwritten_by (latest ys p) x → now ≡ cond (nat_eq p y.0.now) (overwritten_by (Some y.1.now) then) then → now ≡ overwritten_by (latest (ys ++ y ∷ []) p) x
+pub over_push : {D : Type 0} (ys : List (Bor ℕ × Bor D)) (y : Bor ℕ × Bor D) (p : ℕ) (now then x : Option D) → then ≡ overwritten_by (latest ys p) x
+    → now ≡ cond (nat_eq p y.0.now) (overwritten_by (Some y.1.now) then) then → now ≡ overwritten_by (latest (ys ++ y ∷ []) p) x
 over_push ys y p now then x before step =
     step ∙ ap (λ t. cond (nat_eq p y.0.now) (overwritten_by (Some y.1.now) t) t) before ∙ over_both (nat_eq p y.0.now) y.1.now (latest ys p) x ∙ ap (λ u. overwritten_by u x) (sym (latest_push ys y p))
 
@@ -43,7 +44,8 @@ pub latest_all : {D : Type 0} (ys : List (Bor ℕ × Bor D)) (es : List (ℕ × 
 latest_all ys es p e distinct = ap (λ fs. update_all nat_eq (λ _. None) fs p) e ∙ update_all_distinct nat_eq_equiv nat_eq (λ x y. refl) (λ _. None) es p distinct ∙ or_nothing (lookup (nat_eq p) es)
 
 -- one item moves from what is left to what came
-pub moved : {K X : Type 0} (ys : List (Bor K × Bor X)) (y : Bor K × Bor X) (rest after es : List (K × X)) → rest ≡ deref_pair y ∷ after → map deref_pair ys ++ rest ≡ es → map deref_pair (ys ++ y ∷ []) ++ after ≡ es
+pub moved : {K X : Type 0} (ys : List (Bor K × Bor X)) (y : Bor K × Bor X) (rest after es : List (K × X)) → rest ≡ deref_pair y ∷ after
+    → map deref_pair ys ++ rest ≡ es → map deref_pair (ys ++ y ∷ []) ++ after ≡ es
 moved ys y rest after es e h = ap (λ zs. zs ++ after) (map_last deref_pair ys y) ∙ append_assoc (map deref_pair ys) (deref_pair y ∷ []) after ∙ sym (ap (λ zs. map deref_pair ys ++ zs) e) ∙ h
 
 pub all_came : {K X : Type 0} (ys : List (Bor K × Bor X)) (rest es : List (K × X)) → rest ≡ [] → map deref_pair ys ++ rest ≡ es → map deref_pair ys ≡ es

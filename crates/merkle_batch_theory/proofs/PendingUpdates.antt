@@ -1,5 +1,6 @@
 -- Updates of a batch that is not merkleized yet, and why one is refused.
-use Rattle.std.proofs.Common.{◌≡◌, ℕ, suc, ◌+◌, ◌-◌, ◌<◌, ◌≤◌, List, [], ◌∷◌, ◌++◌, length, set, drop, get_or, Some, None, true, cond, slice_get, arith, refl, sym, ap, inl, inr, ◌∙◌, ltb, add-one, append_assoc}
+use Rattle.std.proofs.Common.{◌≡◌, ℕ, suc, ◌+◌, ◌-◌, ◌<◌, ◌≤◌, List, [], ◌∷◌, ◌++◌, length, set, drop, get_or, Some, None, true, cond, slice_get, arith, refl}
+use Rattle.std.proofs.Common.{sym, ap, inl, inr, ◌∙◌, ltb, add-one, append_assoc}
 use Rattle.std.proofs.Math.Seq.{drop-cons}
 use Rattle.std.specs.Prelude.{is_some, ◌==◌}
 use Rattle.std.specs.Option.{option_or}
@@ -31,7 +32,9 @@ turned p q = unsigned_tied p q ∙ same ∙ sym (unsigned_tied q p)
     same = grind (arith, nat_tests)
 
 -- a map that was put into, by position
-pub entries_inserted : {D : Type 0} (es fs : List (ℕ × D)) (k : ℕ) (d : D) → ((q : ℕ) → lookup (is_at (nat_cmp q)) fs ≡ cond (is_at (nat_cmp k) q) (Some d) (lookup (is_at (nat_cmp q)) es)) → from_entries {R = nat_cmp} fs ≡ insert (from_entries es) k d
+pub entries_inserted : {D : Type 0} (es fs : List (ℕ × D)) (k : ℕ) (d : D)
+    → ((q : ℕ) → lookup (is_at (nat_cmp q)) fs ≡ cond (is_at (nat_cmp k) q) (Some d) (lookup (is_at (nat_cmp q)) es))
+    → from_entries {R = nat_cmp} fs ≡ insert (from_entries es) k d
 entries_inserted es fs k d e = same_map nat_cmp_total nat_cmp-IsAntisymmetric (from_entries fs) (insert (from_entries es) k d) (λ q.
     get-from_entries nat_cmp_total fs q ∙ find_lookup q fs ∙ sym (lookup_at q fs) ∙ e q
     ∙ ap (λ o. cond (is_eq (nat_cmp k q)) (Some d) o) (lookup_at q es ∙ sym (find_lookup q es) ∙ sym (get-from_entries nat_cmp_total es q))
@@ -52,7 +55,8 @@ module _ {D : Type 0} (rule : List ℕ → List ℕ) where
   updated_new p k d l = ap (λ b. cond b (over_old p (insert p.overwritten (size rule k) d)) (over_new p (set p.added (k - p.leaves_before) d))) (le-ltb k p.leaves_before l)
 
   -- an old leaf's update keeps the invariant
-  pub old_kept : (max_leaves : ℕ) (p : UnmerkleizedModel D) (k : ℕ) (d : D) (m : FinMap nat_cmp D) → IsUnmerkleizedValid rule max_leaves p → k < p.leaves_before → m ≡ insert p.overwritten (size rule k) d → IsUnmerkleizedValid rule max_leaves (over_old p m)
+  pub old_kept : (max_leaves : ℕ) (p : UnmerkleizedModel D) (k : ℕ) (d : D) (m : FinMap nat_cmp D) → IsUnmerkleizedValid rule max_leaves p
+      → k < p.leaves_before → m ≡ insert p.overwritten (size rule k) d → IsUnmerkleizedValid rule max_leaves (over_old p m)
   old_kept max_leaves p k d m is l e = record {
     bounded = is.bounded;
     sized = is.sized;
@@ -116,16 +120,20 @@ module _ {D : Type 0} (rule : List ℕ → List ℕ) where
       (λ _. refl) (λ _. refl)
 
   before_kept : (p : UnmerkleizedModel D) (k : ℕ) (d : D) → (with_update rule p k d).leaves_before ≡ p.leaves_before
-  before_kept p k d = by_test (λ b. (cond b (over_old p (insert p.overwritten (size rule k) d)) (over_new p (set p.added (k - p.leaves_before) d))).leaves_before ≡ p.leaves_before) (ltb k p.leaves_before)
+  before_kept p k d = by_test (λ b.
+      (cond b (over_old p (insert p.overwritten (size rule k) d)) (over_new p (set p.added (k - p.leaves_before) d))).leaves_before ≡ p.leaves_before)
+      (ltb k p.leaves_before)
       (λ _. refl) (λ _. refl)
 
   -- ---- several updates
-  pub error_next : {F : Type 0} (p : UnmerkleizedModel D) (us : List (ℕ × D)) (i : ℕ) (u : ℕ × D) → i < length us → u ≡ get_or us i u → first_error {F = F} rule p (drop i us) ≡ option_or (update_error rule p u.0) (first_error rule p (drop (i + 1) us))
+  pub error_next : {F : Type 0} (p : UnmerkleizedModel D) (us : List (ℕ × D)) (i : ℕ) (u : ℕ × D) → i < length us → u ≡ get_or us i u
+      → first_error {F = F} rule p (drop i us) ≡ option_or (update_error rule p u.0) (first_error rule p (drop (i + 1) us))
   error_next {F = F} p us i u l e =
       ap (first_error {F = F} rule p) (drop-cons us i u l) ∙ ap (λ v. option_or (update_error rule p v.0) (first_error rule p (drop (suc i) us))) (sym e)
       ∙ ap (λ (n : ℕ). option_or (update_error rule p u.0) (first_error rule p (drop n us))) (sym (add-one i))
 
-  pub updates_next : (p : UnmerkleizedModel D) (us : List (ℕ × D)) (i : ℕ) (u : ℕ × D) → i < length us → u ≡ get_or us i u → with_updates rule p (drop i us) ≡ with_updates rule (with_update rule p u.0 u.1) (drop (i + 1) us)
+  pub updates_next : (p : UnmerkleizedModel D) (us : List (ℕ × D)) (i : ℕ) (u : ℕ × D) → i < length us → u ≡ get_or us i u
+      → with_updates rule p (drop i us) ≡ with_updates rule (with_update rule p u.0 u.1) (drop (i + 1) us)
   updates_next p us i u l e =
       ap (with_updates rule p) (drop-cons us i u l) ∙ ap (λ v. with_updates rule (with_update rule p v.0 v.1) (drop (suc i) us)) (sym e)
       ∙ ap (λ (n : ℕ). with_updates rule (with_update rule p u.0 u.1) (drop n us)) (sym (add-one i))

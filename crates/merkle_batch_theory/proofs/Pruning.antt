@@ -1,5 +1,6 @@
 -- Pruning before or after a batch.
-use Rattle.std.proofs.Common.{◌≡◌, ℕ, suc, ◌+◌, ◌≤◌, List, [], ◌∷◌, ◌++◌, length, drop, reverse, Option, Some, None, Ok, Err, Result, Bool, true, cond, slice_get, arith, refl, sym, ap, inl, inr, ◌∙◌, subst, ltb}
+use Rattle.std.proofs.Common.{◌≡◌, ℕ, suc, ◌+◌, ◌≤◌, List, [], ◌∷◌, ◌++◌, length, drop, reverse, Option, Some, None, Ok, Err, Result, Bool, true, cond}
+use Rattle.std.proofs.Common.{slice_get, arith, refl, sym, ap, inl, inr, ◌∙◌, subst, ltb}
 use Rattle.std.specs.FinMap.{get}
 use Rattle.std.specs.List.{flat_map}
 use Rattle.std.specs.Option.{ok_or, option_map, option_to_list}
@@ -21,7 +22,8 @@ pub flat_same : {A B : Type 0} (f g : A → List B) (xs : List A) → ((i : ℕ)
 flat_same f g [] e = refl
 flat_same f g (x ∷ xs) e = ap (λ ys. ys ++ flat_map f xs) (e 0 x refl) ∙ ap (λ ys. g x ++ ys) (flat_same f g xs (λ i y d. e (suc i) y d))
 
-pub same_contents : {D : Type 0} (b s t : ℕ) (f g : ℕ → Option D) → s ≡ t → ((p : ℕ) → f p ≡ g p) → ◌≡◌ {A = Contents D} (record { boundary = b; size = s; node = f }) (record { boundary = b; size = t; node = g })
+pub same_contents : {D : Type 0} (b s t : ℕ) (f g : ℕ → Option D) → s ≡ t → ((p : ℕ) → f p ≡ g p)
+    → ◌≡◌ {A = Contents D} (record { boundary = b; size = s; node = f }) (record { boundary = b; size = t; node = g })
 same_contents b s t f g e k = λ i. record { boundary = b; size = e i; node = λ p. k p i }
 
 -- the peaks of n leaves are kept at each earlier boundary
@@ -43,7 +45,8 @@ module _ {D : Type 0} (rule : List ℕ → List ℕ) where
       ])
 
   with_record_pruned : (b : ℕ) (r : RecordModel D) (c : Contents D) → size rule b ≤ c.size → with_record r (pruned rule b c) ≡ pruned rule b (with_record r c)
-  with_record_pruned b r c l = by_test (λ t. with_record r (cond t (kept_of b c) c) ≡ cond t (kept_of b (with_record r c)) (with_record r c)) (ltb c.boundary b) (λ e. with_record_kept b r c l) (λ e. refl)
+  with_record_pruned b r c l = by_test (λ t. with_record r (cond t (kept_of b c) c) ≡ cond t (kept_of b (with_record r c)) (with_record r c))
+      (ltb c.boundary b) (λ e. with_record_kept b r c l) (λ e. refl)
 
   pub with_records_pruned : (b : ℕ) (rs : List (RecordModel D)) (c : Contents D) → size rule b ≤ c.size → with_records rs (pruned rule b c) ≡ pruned rule b (with_records rs c)
   with_records_pruned b [] c l = refl

@@ -47,7 +47,8 @@ module _ {D : Type 0} (h : Hashing D) (rule : List ℕ → List ℕ) where
   newest_read (r ∷ rs) X (Y ∷ ls) p s = newest_read rs Y ls p s.1 ∙ ap (λ o. option_or (newest rs p) o) (step_read r X Y s.0 p) ∙ sym (or_assoc (newest rs p) (written r p) (at_node X p))
 
   -- what no record has a digest for is the same in each list
-  pub unwritten : (rs : List (RecordModel D)) (X : List D) (ls : List (List D)) (p j : ℕ) (W : List D) → IsHistory h rule rs (X ∷ ls) → newest rs p ≡ None → slice_get (X ∷ ls) j ≡ Some W → at_node W p ≡ at_node X p
+  pub unwritten : (rs : List (RecordModel D)) (X : List D) (ls : List (List D)) (p j : ℕ) (W : List D) → IsHistory h rule rs (X ∷ ls)
+      → newest rs p ≡ None → slice_get (X ∷ ls) j ≡ Some W → at_node W p ≡ at_node X p
   unwritten rs X ls p zero W s e g = (let d : X ≡ W = cc in ap (λ Z. at_node Z p) (sym d))
   unwritten [] X [] p (suc j) W s e g = absurd (cc)
   unwritten [] X (Y ∷ ls) p (suc j) W s e g = absurd s
@@ -66,7 +67,8 @@ module _ {D : Type 0} (h : Hashing D) (rule : List ℕ → List ℕ) where
     pub read_right : (p : ℕ) (d : D) → read_over rs base p ≡ Some d → at_node (last_list (X ∷ ls)) p ≡ Some d
     read_right p d e = elim (none_or_some (newest rs p)) [
       | inl n ↦ (let f : base.node p ≡ Some d = ap (λ o. option_or o (base.node p)) (sym n) ∙ e in
-          newest_read rs X ls p stands ∙ ap (λ o. option_or o (at_node X p)) n ∙ sym (unwritten rs X ls p j W stands n there) ∙ from_kept (is_kept rule base.boundary p) (at_node W p) d (sym (agrees.holds p) ∙ f))
+          newest_read rs X ls p stands ∙ ap (λ o. option_or o (at_node X p)) n ∙ sym (unwritten rs X ls p j W stands n there)
+          ∙ from_kept (is_kept rule base.boundary p) (at_node W p) d (sym (agrees.holds p) ∙ f))
       | inr k ↦ newest_read rs X ls p stands ∙ ap (λ o. option_or o (at_node X p)) k.1 ∙ sym (ap (λ o. option_or o (base.node p)) k.1) ∙ e
     ]
 
@@ -80,7 +82,8 @@ module _ {D : Type 0} (h : Hashing D) (rule : List ℕ → List ℕ) where
 
   -- ---- what is computed
   -- the digest of a merged node is made of those of its children
-  pub made : (Y : List D) (p : ℕ) (l r : Tree) (a b : D) → slice_get (forest rule (length Y)).nodes p ≡ Some (join p l r) → at_node Y (position l) ≡ Some a → at_node Y (position r) ≡ Some b → at_node Y p ≡ Some (h.node p a b)
+  pub made : (Y : List D) (p : ℕ) (l r : Tree) (a b : D) → slice_get (forest rule (length Y)).nodes p ≡ Some (join p l r)
+      → at_node Y (position l) ≡ Some a → at_node Y (position r) ≡ Some b → at_node Y p ≡ Some (h.node p a b)
   made Y p l r a b e x y =
       let t = node_built rule (length Y) p (join p l r) e in
       let f : digest_at h Y l ≡ a = (let m : Some (digest_at h Y l) ≡ Some a = sym (node_digest_at h rule Y (position l) l (built_at (forest rule (length Y)).nodes l t.4)) ∙ x in cc) in
@@ -91,7 +94,8 @@ module _ {D : Type 0} (h : Hashing D) (rule : List ℕ → List ℕ) where
   edited_longer r X = omega (arith, length-append (replaced rule (get r.overwritten) 0 X) (leaves_among rule (length X) r.before r.appended), replaced_length rule (get r.overwritten) 0 X)
 
   -- an old node that is neither overwritten nor an ancestor of an overwritten leaf keeps its digest
-  pub unchanged : (r : RecordModel D) (X : List D) (p : ℕ) (t : Tree) → slice_get (forest rule (length X)).nodes p ≡ Some t → is_dirty (get r.overwritten) t ≡ false → at_node (edited rule r X) p ≡ at_node X p
+  pub unchanged : (r : RecordModel D) (X : List D) (p : ℕ) (t : Tree) → slice_get (forest rule (length X)).nodes p ≡ Some t
+      → is_dirty (get r.overwritten) t ≡ false → at_node (edited rule r X) p ≡ at_node X p
   unchanged r X p t e u =
       node_digest_at h rule (edited rule r X) p t (node_stays rule (length X) (length (edited rule r X)) p t (edited_longer r X) e)
       ∙ ap Some (digest_kept h rule r X t (node_built rule (length X) p t e) u) ∙ sym (node_digest_at h rule X p t e)

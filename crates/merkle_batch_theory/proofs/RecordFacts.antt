@@ -9,10 +9,12 @@ use Rattle.merkle_batch_theory.specs.Replay.{with_record, with_records}
 use Rattle.merkle_batch_theory.proofs.Chains.{same_contents}
 
 -- the overwrites first, and then the new nodes
-pub with_record_by : {D : Type 0} (b : ℕ) (old mid new : Held D) (r : RecordModel D) → mid.size ≡ old.size → ((p : ℕ) → get mid.stored p ≡ overwritten_by (get r.overwritten p) (get old.stored p)) → new.size ≡ mid.size + length r.appended →
+pub with_record_by : {D : Type 0} (b : ℕ) (old mid new : Held D) (r : RecordModel D) → mid.size ≡ old.size
+    → ((p : ℕ) → get mid.stored p ≡ overwritten_by (get r.overwritten p) (get old.stored p)) → new.size ≡ mid.size + length r.appended →
     ((p : ℕ) → get new.stored p ≡ cond (nat_lt p mid.size) (get mid.stored p) (slice_get r.appended (p - mid.size))) → held_contents b new ≡ with_record r (held_contents b old)
 with_record_by b old mid new r same replaced longer added =
-    same_contents (held_contents b new) (with_record r (held_contents b old)) refl (omega (arith, same, longer)) (λ p. added p ∙ (λ i. cond (nat_lt p (same i)) (replaced p i) (slice_get r.appended (p - same i))))
+    same_contents (held_contents b new) (with_record r (held_contents b old)) refl (omega (arith, same, longer))
+    (λ p. added p ∙ (λ i. cond (nat_lt p (same i)) (replaced p i) (slice_get r.appended (p - same i))))
 
 -- the list from i on begins with its i-th element
 pub drop_here : {A B : Type 0} (v : A → B) (xs : List A) (i : ℕ) (x : A) → i < length xs → x ≡ get_or xs i x → drop i (map v xs) ≡ v x ∷ drop (suc i) (map v xs)

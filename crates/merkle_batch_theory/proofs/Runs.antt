@@ -40,10 +40,13 @@ module _ {D : Type 0} where
     IsFound rs own i = (i ≤ length rs) × (n + total_appended (drop i (rs ++ own ∷ [])) ≡ after own)
 
     -- the last record that ends at a size: the rest go on from it
-    ends_from : (rs : List (RecordModel D)) (own : RecordModel D) (m i : ℕ) → RunsFrom m (rs ++ own ∷ []) → last_match (λ r. is_state same n peaks (after r) r.peaks_after) rs ≡ Some i → IsFound rs own i
+    ends_from : (rs : List (RecordModel D)) (own : RecordModel D) (m i : ℕ) → RunsFrom m (rs ++ own ∷ [])
+        → last_match (λ r. is_state same n peaks (after r) r.peaks_after) rs ≡ Some i → IsFound rs own i
     ends_from [] own m i h e = absurd (cc)
     ends_from (r ∷ rs) own m i h e =
-        elim (last_match (λ r. is_state same n peaks (after r) r.peaks_after) rs) as (λ o. last_match (λ r. is_state same n peaks (after r) r.peaks_after) rs ≡ o → elim o [ Some j ↦ Some (suc j) | None ↦ cond (is_state same n peaks (after r) r.peaks_after) (Some 1) None ] ≡ Some i → IsFound (r ∷ rs) own i) [
+        elim (last_match (λ r. is_state same n peaks (after r) r.peaks_after) rs) as
+        (λ o. last_match (λ r. is_state same n peaks (after r) r.peaks_after) rs ≡ o
+        → elim o [ Some j ↦ Some (suc j) | None ↦ cond (is_state same n peaks (after r) r.peaks_after) (Some 1) None ] ≡ Some i → IsFound (r ∷ rs) own i) [
           | Some j ↦ λ was is. (let k = ends_from rs own (after r) j h.1 was in let at : suc j ≡ i = cc in subst (IsFound (r ∷ rs) own) at (omega (arith, k.0), k.1))
           | None ↦ λ was is. by_test (λ b. is_state same n peaks (after r) r.peaks_after ≡ b → cond b (Some 1) None ≡ Some i → IsFound (r ∷ rs) own i) (is_state same n peaks (after r) r.peaks_after)
               (λ _ t is'. let at : 1 ≡ i = cc in subst (IsFound (r ∷ rs) own) at (omega arith, omega (arith, same_size n (after r) (pointwise same peaks r.peaks_after) t, ends (after r) rs own h.1)))
@@ -52,8 +55,12 @@ module _ {D : Type 0} where
 
     -- what follows the state that is matched leads to the end
     found : (c : MerkleizedModel D) (i : ℕ) → RunsFrom (oldest c).before (records c) → matched same n peaks c ≡ Some i → IsFound c.ancestors c.own i
-    found c i runs e = by_test (λ b. is_state same n peaks (oldest c).before (oldest c).peaks_before ≡ b → cond b (Some 0) (last_match (λ r. is_state same n peaks (after r) r.peaks_after) c.ancestors) ≡ Some i → IsFound c.ancestors c.own i) (is_state same n peaks (oldest c).before (oldest c).peaks_before)
-        (λ _ t is. let at : 0 ≡ i = cc in subst (IsFound c.ancestors c.own) at (omega arith, omega (arith, same_size n (oldest c).before (pointwise same peaks (oldest c).peaks_before) t, ends (oldest c).before c.ancestors c.own runs)))
+    found c i runs e = by_test (λ b. is_state same n peaks (oldest c).before (oldest c).peaks_before ≡ b
+        → cond b (Some 0) (last_match (λ r. is_state same n peaks (after r) r.peaks_after) c.ancestors) ≡ Some i → IsFound c.ancestors c.own i)
+        (is_state same n peaks (oldest c).before (oldest c).peaks_before)
+        (λ _ t is. let at : 0 ≡ i = cc in
+        subst (IsFound c.ancestors c.own) at
+        (omega arith, omega (arith, same_size n (oldest c).before (pointwise same peaks (oldest c).peaks_before) t, ends (oldest c).before c.ancestors c.own runs)))
         (λ _ t is. ends_from c.ancestors c.own (oldest c).before i runs is) refl e
 
   total_last : (rs : List (RecordModel D)) (r : RecordModel D) → total_appended (rs ++ r ∷ []) ≡ total_appended rs + length r.appended
@@ -66,7 +73,8 @@ module _ {D : Type 0} where
   all_last (s ∷ rs) r c = all_last rs r (with_record s c)
 
 -- the kept records, as they lie in a vector
-module _ {D X : Type 0} (rule : List ℕ → List ℕ) (max_leaves : ℕ) (same : D → D → Bool) (c : MerkleizedModel D) (linked : IsBatchValid rule max_leaves c) (value : X → RecordModel D) (xs : List X) (are : map value xs ≡ c.ancestors)
+module _ {D X : Type 0} (rule : List ℕ → List ℕ) (max_leaves : ℕ) (same : D → D → Bool) (c : MerkleizedModel D)
+    (linked : IsBatchValid rule max_leaves c) (value : X → RecordModel D) (xs : List X) (are : map value xs ≡ c.ancestors)
     (n first : ℕ) (peaks : List D) (m : matched same n peaks c ≡ Some first) where
   abbrev kept_part : List (RecordModel D)
   kept_part = map value (take (length xs - first) (drop first xs))
@@ -106,5 +114,6 @@ module _ {D X : Type 0} (rule : List ℕ → List ℕ) (max_leaves : ℕ) (same 
         (with_records_held rule (drop first (records c)) (held_contents boundary old) within kept.holds))
 
   -- and the batch is applied
-  pub applied_after : {F : Type 0} (k : ℕ) (old mid new : Contents D) → mid ≡ with_records kept_part old → new ≡ with_record c.own mid → matched same old.size (held_peaks rule k old) c ≡ Some first → applied {F = F} same rule k c old ≡ Ok new
+  pub applied_after : {F : Type 0} (k : ℕ) (old mid new : Contents D) → mid ≡ with_records kept_part old → new ≡ with_record c.own mid
+      → matched same old.size (held_peaks rule k old) c ≡ Some first → applied {F = F} same rule k c old ≡ Ok new
   applied_after k old mid new laid1 laid2 at = rw (applied, at) (ap Ok (sym (all_records old mid new laid1 laid2)))

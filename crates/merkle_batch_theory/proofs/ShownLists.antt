@@ -1,5 +1,6 @@
 -- What a `Mem`, a batch and a shorter list show.
-use Rattle.std.proofs.Common.{◌≡◌, ℕ, ◌+◌, ◌≤◌, ◌⊎◌, List, [], ◌∷◌, ◌++◌, length, length-take, take, Option, Some, None, Bool, true, false, cond, slice_get, get_or-take, arith, refl, sym, ap, inl, inr, ◌∙◌, subst}
+use Rattle.std.proofs.Common.{◌≡◌, ℕ, ◌+◌, ◌≤◌, ◌⊎◌, List, [], ◌∷◌, ◌++◌, length, length-take, take, Option, Some, None, Bool, true, false, cond, slice_get}
+use Rattle.std.proofs.Common.{get_or-take, arith, refl, sym, ap, inl, inr, ◌∙◌, subst}
 use Rattle.std.specs.Prelude.{is_some}
 use Rattle.std.specs.Option.{option_or}
 use Rattle.std.proofs.lemmas.Bool.{cases_lt, or_left, or_right}

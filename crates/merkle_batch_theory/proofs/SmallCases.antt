@@ -69,7 +69,8 @@ abbrev twice : FinMap nat_cmp ℕ
 twice = insert (insert empty 3 5) 3 8
 
 twice_at : (q : ℕ) → get twice q ≡ cond (eq_by_cmp nat_cmp q 3) (Some 8) (cond (eq_by_cmp nat_cmp q 3) (Some 5) None)
-twice_at q = get-insert nat_cmp_total (insert empty 3 5) 3 8 q ∙ ap (cond (eq_by_cmp nat_cmp q 3) (Some 8)) (get-insert nat_cmp_total empty 3 5 q ∙ ap (cond (eq_by_cmp nat_cmp q 3) (Some 5)) (get-empty nat_cmp q))
+twice_at q = get-insert nat_cmp_total (insert empty 3 5) 3 8 q
+    ∙ ap (cond (eq_by_cmp nat_cmp q 3) (Some 8)) (get-insert nat_cmp_total empty 3 5 q ∙ ap (cond (eq_by_cmp nat_cmp q 3) (Some 5)) (get-empty nat_cmp q))
 
 pub updated_row : pending_list mmr_merges (with_updates mmr_merges fourth ((2, 5) ∷ (3, 6) ∷ (2, 8) ∷ (3, 4) ∷ [])) (3 ∷ 1 ∷ 7 ∷ []) ≡ 3 ∷ 1 ∷ 8 ∷ 4 ∷ []
 unfolding forest
@@ -99,7 +100,8 @@ second_step = record { edit = sym edit_row; before = refl; longer = omega arith;
     there : (p : ℕ) (t : Tree) → slice_get (forest mmr_merges 2).nodes p ≡ Some t → Right p t
     there zero t e = (let d : leaf 0 0 ≡ t = cc in subst (Right 0) d (rw at_zero refl))
     there (suc zero) t e = (let d : leaf 1 1 ≡ t = cc in subst (Right 1) d (rw at_one refl))
-    there (suc (suc zero)) t e = (let d : join 2 (leaf 0 0) (leaf 1 1) ≡ t = cc in subst (Right 2) d (at_both ∙ sym (ap (λ o. cond (is_some o || is_some (get second_record.overwritten 1)) (Some 16) None) at_zero)))
+    there (suc (suc zero)) t e = (let d : join 2 (leaf 0 0) (leaf 1 1) ≡ t = cc in
+        subst (Right 2) d (at_both ∙ sym (ap (λ o. cond (is_some o || is_some (get second_record.overwritten 1)) (Some 16) None) at_zero)))
     there (suc (suc (suc p))) t e = absurd (cc)
 
 pub stands_row : IsHistory xor mmr_merges (first_record ∷ second_record ∷ []) ([] ∷ (1 ∷ 3 ∷ []) ∷ (17 ∷ 3 ∷ 7 ∷ []) ∷ [])

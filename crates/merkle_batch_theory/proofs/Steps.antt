@@ -1,5 +1,6 @@
 -- What a recorded change leaves, and what it makes.
-use Rattle.std.proofs.Common.{◌≡◌, ℕ, zero, suc, ◌+◌, ◌-◌, ◌<◌, ◌≤◌, List, [], ◌∷◌, length, drop, Option, Some, None, Bool, true, false, cond, slice_get, get_or, arith, refl, sym, ap, ◌∙◌, length-drop}
+use Rattle.std.proofs.Common.{◌≡◌, ℕ, zero, suc, ◌+◌, ◌-◌, ◌<◌, ◌≤◌, List, [], ◌∷◌, length, drop, Option, Some, None, Bool, true, false, cond, slice_get}
+use Rattle.std.proofs.Common.{get_or, arith, refl, sym, ap, ◌∙◌, length-drop}
 use Rattle.std.specs.Prelude.{is_some}
 use Rattle.std.specs.Option.{unwrap_or}
 use Rattle.std.specs.FinMap.{get}
@@ -60,7 +61,8 @@ module _ {D : Type 0} (h : Hashing D) (rule : List ℕ → List ℕ) where
   newer false o c d e k = rw (e, k refl) refl
 
   -- a node that was there before: its digest is the one that the record has for it, else the old one
-  pub step_old : (r : RecordModel D) (X Y : List D) → IsStep h rule r X Y → (p : ℕ) → p < size rule (length X) → slice_get (node_digests h rule Y) p ≡ overwritten_by (get r.overwritten p) (slice_get (node_digests h rule X) p)
+  pub step_old : (r : RecordModel D) (X Y : List D) → IsStep h rule r X Y → (p : ℕ) → p < size rule (length X)
+      → slice_get (node_digests h rule Y) p ≡ overwritten_by (get r.overwritten p) (slice_get (node_digests h rule X) p)
   step_old r X Y s p l =
       let k = get_exists (forest rule (length X)).nodes p l in
       let t : Tree = k.0 in
@@ -72,7 +74,8 @@ module _ {D : Type 0} (h : Hashing D) (rule : List ℕ → List ℕ) where
   pub step_new : (r : RecordModel D) (X Y : List D) → IsStep h rule r X Y → (p : ℕ) → size rule (length X) ≤ p → slice_get (node_digests h rule Y) p ≡ slice_get r.appended (p - size rule (length X))
   step_new r X Y s p l =
       let z : size rule (length X) + (p - size rule (length X)) ≡ p = omega arith in
-      sym (ap (λ ds. slice_get ds (p - size rule (length X))) (s.appended ∙ ap (λ n. drop n (node_digests h rule Y)) s.before) ∙ get_drop (size rule (length X)) (p - size rule (length X)) (node_digests h rule Y) ∙ ap (slice_get (node_digests h rule Y)) z)
+      sym (ap (λ ds. slice_get ds (p - size rule (length X))) (s.appended ∙ ap (λ n. drop n (node_digests h rule Y)) s.before)
+      ∙ get_drop (size rule (length X)) (p - size rule (length X)) (node_digests h rule Y) ∙ ap (slice_get (node_digests h rule Y)) z)
 
   pub step_size : (r : RecordModel D) (X Y : List D) → IsStep h rule r X Y → size rule (length X) + length r.appended ≡ size rule (length Y)
   step_size r X Y s = omega (arith, ap length s.appended, length-drop r.before (node_digests h rule Y), digests_length Y, s.before, size_le rule (length X) (length Y) s.longer)

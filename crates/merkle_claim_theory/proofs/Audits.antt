@@ -21,10 +21,12 @@ pub audits_range : {D : Type 0} → AuditsRange D
 audits_range s size laws bytes covers X n k a b r ok =
     let xs = all_inputs s r.leaves r.inactive (range_expression s r) in
     let ys = all_inputs s n k (list_expression s X n k) in
-    none_shows (λ c. IsFirstCollision s.hashing xs ys c) (first_collision s.hashing xs ys) (no_collision s.hashing xs ys (no_other_range s size laws bytes covers X n k a b r ok)) (finds_first s.hashing laws xs ys)
+    none_shows (λ c. IsFirstCollision s.hashing xs ys c) (first_collision s.hashing xs ys)
+    (no_collision s.hashing xs ys (no_other_range s size laws bytes covers X n k a b r ok)) (finds_first s.hashing laws xs ys)
 
 pub audits_pair : {D : Type 0} → AuditsPair D
 audits_pair s size laws bytes covers root r q ok ok' =
     let xs = all_inputs s r.leaves r.inactive (range_expression s r) in
     let ys = all_inputs s q.leaves q.inactive (range_expression s q) in
-    none_shows (λ c. IsFirstCollision s.hashing xs ys c) (first_collision s.hashing xs ys) (no_collision s.hashing xs ys (pair_consistent s size laws bytes covers root r q ok ok')) (finds_first s.hashing laws xs ys)
+    none_shows (λ c. IsFirstCollision s.hashing xs ys c) (first_collision s.hashing xs ys)
+    (no_collision s.hashing xs ys (pair_consistent s size laws bytes covers root r q ok ok')) (finds_first s.hashing laws xs ys)

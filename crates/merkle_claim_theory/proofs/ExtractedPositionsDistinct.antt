@@ -1,5 +1,6 @@
 -- No position stands twice among the extracted pairs.
-use Rattle.std.proofs.Common.{◌≡◌, ℕ, zero, suc, Bool, cond, ◌||◌, ◌+◌, ◌-◌, ◌≤◌, ◌<◌, List, [], ◌∷◌, ◌++◌, inl, inr, refl, ap, sym, ◌∙◌, subst, ⊎_elim, arith, length, map, take, drop, Some, slice_get}
+use Rattle.std.proofs.Common.{◌≡◌, ℕ, zero, suc, Bool, cond, ◌||◌, ◌+◌, ◌-◌, ◌≤◌, ◌<◌, List, [], ◌∷◌, ◌++◌, inl, inr, refl, ap, sym, ◌∙◌, subst, ⊎_elim, arith}
+use Rattle.std.proofs.Common.{length, map, take, drop, Some, slice_get}
 use Rattle.std.specs.List.{AllByRecursion}
 use Rattle.std.proofs.lemmas.List.{map-append}
 use Rattle.merkle_base.specs.Tree.{Tree, leaf, join, position, first_leaf, width, IsUnder, IsBuilt, end_leaf}
@@ -38,7 +39,9 @@ module _ {D : Type 0} (ns : List Tree) (h : Hashing D) (c : ℕ → Bool) (Y : �
 
   -- a node under a tree with the position of one under a tree after it
   clash : (a b u v : Tree) → IsBuilt ns a → IsBuilt ns b → IsUnder u a → IsUnder v b → position u ≡ position v → end_leaf a ≤ first_leaf b → ⊥
-  clash a b u v ha hb p q e l = apart_under ns a b u v ha hb p q (one_there (subst (λ z. slice_get ns z ≡ Some u) e (built_at ns u (built_under ns u a p ha))) (built_at ns v (built_under ns v b q hb))) l
+  clash a b u v ha hb p q e l =
+      apart_under ns a b u v ha hb p q
+      (one_there (subst (λ z. slice_get ns z ≡ Some u) e (built_at ns u (built_under ns u a p ha))) (built_at ns v (built_under ns v b q hb))) l
 
   -- a position of a node strictly under t
   Below : Tree → ℕ → Type 0
@@ -58,7 +61,8 @@ module _ {D : Type 0} (ns : List Tree) (h : Hashing D) (c : ℕ → Bool) (Y : �
       let dr = value h (tree_claim h c Y r rest) in
       let u = inner_below l ds b.4 p in
       let v = inner_below r rest b.5 p in
-      by_test (λ z. Member (spots (cond z (xs ++ (ys ++ ((position l, dl) ∷ (position r, dr) ∷ []))) [])) p → (u : Tree) × IsUnder u (join q l r) × (position u ≡ p) × (position u < q)) (tree_meets c l || tree_meets c r)
+      by_test (λ z. Member (spots (cond z (xs ++ (ys ++ ((position l, dl) ∷ (position r, dr) ∷ []))) [])) p → (u : Tree) × IsUnder u (join q l r)
+      × (position u ≡ p) × (position u < q)) (tree_meets c l || tree_meets c r)
       (λ _ w. ⊎_elim (λ x. let y = u x in (y.0, inr (inl y.1), y.2, omega (arith, y.3, b.1)))
       (λ x. ⊎_elim (λ x. let y = v x in (y.0, inr (inr y.1), y.2, omega (arith, y.3, b.2)))
       (λ x. ⊎_elim (λ e. (l, inr (inl (under_itself l)), e, b.1)) (λ x. ⊎_elim (λ e. (r, inr (inr (under_itself r)), e, b.2)) (λ z. elim z [ ]) x) x)
@@ -119,15 +123,22 @@ module _ {D : Type 0} (ns : List Tree) (h : Hashing D) (c : ℕ → Bool) (Y : �
   over_once [] ds b o = tt
   over_once (t ∷ ts) ds b o = let xs = inner_pairs h c Y t ds in let rest = over_pairs h c Y ts (drop (length (siblings c t)) ds) in
       subst Distinct (sym (map-append (λ (x : ℕ × D). x.0) xs ((position t, value h (tree_claim h c Y t ds)) ∷ rest)))
-      (distinct_append (spots xs) (position t ∷ spots rest) (inner_once t ds b.0)
-      ((λ m. let y = over_of ts (drop (length (siblings c t)) ds) b.1 (position t) m in clash t y.0 t y.2.0 b.0 (all_member (IsBuilt ns) ts y.0 b.1 y.1) (under_itself t) y.2.1 (sym y.2.2) (o.0 y.0 y.1)), over_once ts (drop (length (siblings c t)) ds) b.1 o.1)
+      (distinct_append (spots xs) (position t ∷ spots rest) (inner_once t ds b.0) (
+        (λ m. let y = over_of ts (drop (length (siblings c t)) ds) b.1 (position t) m in
+            clash t y.0 t y.2.0 b.0 (all_member (IsBuilt ns) ts y.0 b.1 y.1) (under_itself t) y.2.1 (sym y.2.2) (o.0 y.0 y.1)),
+        over_once ts (drop (length (siblings c t)) ds) b.1 o.1,
+      )
       (λ p m w. let x = inner_below t ds b.0 p m in ⊎_elim (λ e. absurd (omega (arith, x.3, x.2, e)))
       (λ w. let y = over_of ts (drop (length (siblings c t)) ds) b.1 p w in clash t y.0 x.0 y.2.0 b.0 (all_member (IsBuilt ns) ts y.0 b.1 y.1) x.1 y.2.1 (x.2 ∙ sym y.2.2) (o.0 y.0 y.1)) w))
 
   single_once : (ts : List Tree) (ds : List D) → AllByRecursion (IsBuilt ns) ts → Ordered ts → Distinct (spots (single_pairs h ts ds))
   unfolding Of
   single_once [] ds b o = tt
-  single_once (t ∷ ts) ds b o = ((λ m. let y = single_of ts (drop 1 ds) (position t) m in clash t y.0 t y.2.0 b.0 (all_member (IsBuilt ns) ts y.0 b.1 y.1) (under_itself t) y.2.1 (sym y.2.2) (o.0 y.0 y.1)), single_once ts (drop 1 ds) b.1 o.1)
+  single_once (t ∷ ts) ds b o = (
+    (λ m. let y = single_of ts (drop 1 ds) (position t) m in
+        clash t y.0 t y.2.0 b.0 (all_member (IsBuilt ns) ts y.0 b.1 y.1) (under_itself t) y.2.1 (sym y.2.2) (o.0 y.0 y.1)),
+    single_once ts (drop 1 ds) b.1 o.1,
+  )
 
   spans_ordered : (o n : ℕ) (ts : List Tree) → Spans o n ts → Ordered ts
   spans_ordered o n [] k = tt
@@ -188,7 +199,8 @@ module _ {D : Type 0} (ns : List Tree) (h : Hashing D) (c : ℕ → Bool) (Y : �
   in_after ForwardFold k met ts u m = m
   in_after BackwardFold k met ts u m = take_member ns h c Y (k - met) ts u m
 
-  all_once : (b : Bagging) (k : ℕ) (before over after : List Tree) (ds es fs : List D) → AllByRecursion (IsBuilt ns) before → AllByRecursion (IsBuilt ns) over → AllByRecursion (IsBuilt ns) after → Ordered ns h c Y (before ++ (over ++ after))
+  all_once : (b : Bagging) (k : ℕ) (before over after : List Tree) (ds es fs : List D) → AllByRecursion (IsBuilt ns) before
+      → AllByRecursion (IsBuilt ns) over → AllByRecursion (IsBuilt ns) after → Ordered ns h c Y (before ++ (over ++ after))
       → Distinct (map (λ (x : ℕ × D). x.0) (single_pairs h (single_before b k before) ds ++ (over_pairs h c Y over es ++ single_pairs h (single_after b k (length before + length over) after) fs)))
   unfolding Of
   all_once b k before over after ds es fs hb ho ha o =
@@ -204,13 +216,16 @@ module _ {D : Type 0} (ns : List Tree) (h : Hashing D) (c : ℕ → Bool) (Y : �
       (distinct_append (map (λ (x : ℕ × D). x.0) two) (map (λ (x : ℕ × D). x.0) three) (over_once ns h c Y over es ho (ordered_left ns h c Y over after o2))
       (single_once ns h c Y (single_after b k met after) fs b3 (ord_after b k met after (ordered_right ns h c Y over after o2)))
       (λ p m w. let x = over_of ns h c Y over es ho p m in let y = single_of ns h c Y (single_after b k met after) fs p w in let ym = in_after b k met after y.0 y.1 in
-      clash ns h c Y x.0 y.0 x.2.0 y.2.0 (all_member (IsBuilt ns) over x.0 ho x.1) (all_member (IsBuilt ns) after y.0 ha ym) x.2.1 y.2.1 (x.2.2 ∙ sym y.2.2) (ordered_across ns h c Y over after o2 x.0 y.0 x.1 ym)))
+      clash ns h c Y x.0 y.0 x.2.0 y.2.0 (all_member (IsBuilt ns) over x.0 ho x.1) (all_member (IsBuilt ns) after y.0 ha ym) x.2.1 y.2.1
+      (x.2.2 ∙ sym y.2.2) (ordered_across ns h c Y over after o2 x.0 y.0 x.1 ym)))
       (λ p m w. let x = single_of ns h c Y (single_before b k before) ds p m in let xm = in_before b k before x.0 x.1 in
       ⊎_elim
       (λ w. let y = over_of ns h c Y over es ho p w in
-      clash ns h c Y x.0 y.0 x.2.0 y.2.0 (all_member (IsBuilt ns) before x.0 hb xm) (all_member (IsBuilt ns) over y.0 ho y.1) x.2.1 y.2.1 (x.2.2 ∙ sym y.2.2) (ordered_across ns h c Y before (over ++ after) o x.0 y.0 xm (member_left over after y.0 y.1)))
+      clash ns h c Y x.0 y.0 x.2.0 y.2.0 (all_member (IsBuilt ns) before x.0 hb xm) (all_member (IsBuilt ns) over y.0 ho y.1) x.2.1 y.2.1
+      (x.2.2 ∙ sym y.2.2) (ordered_across ns h c Y before (over ++ after) o x.0 y.0 xm (member_left over after y.0 y.1)))
       (λ w. let y = single_of ns h c Y (single_after b k met after) fs p w in let ym = in_after b k met after y.0 y.1 in
-      clash ns h c Y x.0 y.0 x.2.0 y.2.0 (all_member (IsBuilt ns) before x.0 hb xm) (all_member (IsBuilt ns) after y.0 ha ym) x.2.1 y.2.1 (x.2.2 ∙ sym y.2.2) (ordered_across ns h c Y before (over ++ after) o x.0 y.0 xm (member_right over after y.0 ym)))
+      clash ns h c Y x.0 y.0 x.2.0 y.2.0 (all_member (IsBuilt ns) before x.0 hb xm) (all_member (IsBuilt ns) after y.0 ha ym) x.2.1 y.2.1
+      (x.2.2 ∙ sym y.2.2) (ordered_across ns h c Y before (over ++ after) o x.0 y.0 xm (member_right over after y.0 ym)))
       (member_split (map (λ (x : ℕ × D). x.0) two) (map (λ (x : ℕ × D). x.0) three) p w)))
 
 pub extracts_once : {D : Type 0} → ExtractsOnce D
@@ -220,5 +235,7 @@ extracts_once s r l m =
     let c = in_range r.start (end_of r) in
     let Y = leaf_given s.hashing r in
     let built = peaks_built s.rule r.leaves in
-    let o = subst (Ordered ns s.hashing c Y) (groups r.start (end_of r) 0 r.leaves ts (omega (arith, l)) (peaks_spans s.rule r.leaves)) (spans_ordered ns s.hashing c Y 0 r.leaves ts (peaks_spans s.rule r.leaves)) in
-    all_once ns s.hashing c Y s.bagging r.inactive (wholly_before r.start ts) (overlapping r.start (end_of r) ts) (wholly_after (end_of r) ts) _ _ _ (all_filter _ _ ts built) (all_filter _ _ ts built) (all_filter _ _ ts built) o
+    let o = subst (Ordered ns s.hashing c Y) (groups r.start (end_of r) 0 r.leaves ts (omega (arith, l)) (peaks_spans s.rule r.leaves))
+    (spans_ordered ns s.hashing c Y 0 r.leaves ts (peaks_spans s.rule r.leaves)) in
+    all_once ns s.hashing c Y s.bagging r.inactive (wholly_before r.start ts) (overlapping r.start (end_of r) ts) (wholly_after (end_of r) ts) _ _ _
+    (all_filter _ _ ts built) (all_filter _ _ ts built) (all_filter _ _ ts built) o

@@ -1,5 +1,6 @@
 -- A multi-proof has at most 122 positions for each location.
-use Rattle.std.proofs.Common.{◌≡◌, ℕ, suc, true, false, cond, ◌||◌, nat_eq, ◌+◌, ◌*◌, ◌≤◌, ◌<◌, List, [], ◌∷◌, ◌++◌, ◌⊎◌, inl, inr, refl, ap, ap₂, sym, ◌∙◌, subst, ⊎_elim, arith, length, map, flat_map, length-append, slice_get, slice_index, Some, reverse}
+use Rattle.std.proofs.Common.{◌≡◌, ℕ, suc, true, false, cond, ◌||◌, nat_eq, ◌+◌, ◌*◌, ◌≤◌, ◌<◌, List, [], ◌∷◌, ◌++◌, ◌⊎◌, inl, inr, refl, ap, ap₂, sym, ◌∙◌}
+use Rattle.std.proofs.Common.{subst, ⊎_elim, arith, length, map, flat_map, length-append, slice_get, slice_index, Some, reverse}
 use Rattle.std.specs.List.{AllByRecursion, list_any, range_with_len}
 use Rattle.std.proofs.lemmas.Bool.{eqb-true, ne_eqb, eq-eqb, or_right, cases_lt}
 use Rattle.std.proofs.lemmas.List.{length-map, length-reverse, reverse-append}
@@ -32,7 +33,9 @@ pub no_longer : {A : Type 0} (xs ys : List A) → Distinct xs → ((x : A) → M
 no_longer [] ys d f = omega arith
 no_longer (x ∷ xs) ys d f =
     let w = parted ys x (f x (inl refl)) in
-    let r = no_longer xs (w.0 ++ w.1) d.1 (λ z m. ⊎_elim (λ a. member_left w.0 w.1 z a) (⊎_elim (λ e. absurd (d.0 (subst (Member xs) (sym e) m))) (λ b. member_right w.0 w.1 z b)) (member_split w.0 (x ∷ w.1) z (subst (λ l. Member l z) w.2 (f z (inr m))))) in
+    let r = no_longer xs (w.0 ++ w.1) d.1
+    (λ z m. ⊎_elim (λ a. member_left w.0 w.1 z a) (⊎_elim (λ e. absurd (d.0 (subst (Member xs) (sym e) m))) (λ b. member_right w.0 w.1 z b))
+    (member_split w.0 (x ∷ w.1) z (subst (λ l. Member l z) w.2 (f z (inr m))))) in
     omega (arith, r, ap length w.2, length-append w.0 (x ∷ w.1), length-append w.0 w.1)
 
 -- one location in a tree, and out of it
@@ -44,7 +47,9 @@ only_not ns i (join p l r) b (inr x) = ap₂ ◌||◌ (only_not ns i l b.4 (inr 
 
 only_in : (ns : List Tree) (i : ℕ) (t : Tree) → IsBuilt ns t → first_leaf t ≤ i → i < end_leaf t → tree_meets (only i) t ≡ true
 only_in ns i (leaf p j) b x y = eq-eqb j i (omega arith)
-only_in ns i (join p l r) b x y = ⊎_elim (λ z. ap (λ q. q || tree_meets (only i) r) (only_in ns i l b.4 x z)) (λ z. or_right (tree_meets (only i) l) _ (only_in ns i r b.5 (omega (arith, z, b.3)) (omega (arith, y, b.3)))) (cases_lt i (end_leaf l))
+only_in ns i (join p l r) b x y =
+    ⊎_elim (λ z. ap (λ q. q || tree_meets (only i) r) (only_in ns i l b.4 x z))
+    (λ z. or_right (tree_meets (only i) l) _ (only_in ns i r b.5 (omega (arith, z, b.3)) (omega (arith, y, b.3)))) (cases_lt i (end_leaf l))
 
 path_count : (ns : List Tree) (i : ℕ) (t : Tree) → IsBuilt ns t → IsBalanced t → first_leaf t ≤ i → i < end_leaf t → length (siblings (only i) t) ≡ height t
 path_count ns i (leaf p j) b h x y = ap (λ z. length (cond z [] (leaf p j ∷ []))) (only_in ns i (leaf p j) b x y)
@@ -54,12 +59,24 @@ path_count ns i (join p l r) b h x y = ap length (siblings_join (only i) p l r (
 
 others : (ns : List Tree) (i o n : ℕ) (ts : List Tree) → Spans o n ts → AllByRecursion (IsBuilt ns) ts → i < o → length (one_leaf_nodes i ts) ≡ length ts
 others ns i o n [] c b x = refl
-others ns i o n (t ∷ ts) c b x = length-append (siblings (only i) t) (one_leaf_nodes i ts) ∙ ap₂ ◌+◌ (ap length (siblings_unmet (only i) t (only_not ns i t b.0 (inl (omega (arith, x, c.0)))))) (others ns i (o + width t) n ts c.1 b.1 (omega (arith, x))) ∙ omega arith
+others ns i o n (t ∷ ts) c b x = length-append (siblings (only i) t) (one_leaf_nodes i ts)
+    ∙ ap₂ ◌+◌ (ap length (siblings_unmet (only i) t (only_not ns i t b.0 (inl (omega (arith, x, c.0))))))
+    (others ns i (o + width t) n ts c.1 b.1 (omega (arith, x))) ∙ omega arith
 
-leaf_nodes_count : (ns : List Tree) (i o n : ℕ) (ts : List Tree) → Spans o n ts → AllByRecursion (IsBuilt ns) ts → AllByRecursion IsBalanced ts → o ≤ i → i < n → (t : Tree) × Member ts t × (length (one_leaf_nodes i ts) + 1 ≡ length ts + height t)
+leaf_nodes_count : (ns : List Tree) (i o n : ℕ) (ts : List Tree) → Spans o n ts → AllByRecursion (IsBuilt ns) ts → AllByRecursion IsBalanced ts
+    → o ≤ i → i < n → (t : Tree) × Member ts t × (length (one_leaf_nodes i ts) + 1 ≡ length ts + height t)
 leaf_nodes_count ns i o n [] c b h x y = absurd (omega (arith, c, x, y))
 leaf_nodes_count ns i o n (t ∷ ts) c b h x y = ⊎_elim
-    (λ z. (t, inl refl, omega (arith, length-append (siblings (only i) t) (one_leaf_nodes i ts), path_count ns i t b.0 h.0 (omega (arith, x, c.0)) z, others ns i (o + width t) n ts c.1 b.1 (omega (arith, z, c.0)))))
+    (λ z. (
+      t,
+      inl refl,
+      omega (
+        arith,
+        length-append (siblings (only i) t) (one_leaf_nodes i ts),
+        path_count ns i t b.0 h.0 (omega (arith, x, c.0)) z,
+        others ns i (o + width t) n ts c.1 b.1 (omega (arith, z, c.0)),
+      ),
+    ))
     (λ z. let w = leaf_nodes_count ns i (o + width t) n ts c.1 b.1 h.1 (omega (arith, z, c.0)) y in
     (w.0, inr w.1, omega (arith, w.2, length-append (siblings (only i) t) (one_leaf_nodes i ts), ap length (siblings_unmet (only i) t (only_not ns i t b.0 (inr z)))))) (cases_lt i (end_leaf t))
 
@@ -96,7 +113,13 @@ positions_few rule max_leaves max_nodes law n few bound locations below = all_be
 
     sums : (is : List ℕ) → AllByRecursion (λ i. i < n) is → length (flat_map (λ i. map position (one_leaf_nodes i (peaks_of rule n))) is) ≤ 122 * length is
     sums [] h = omega arith
-    sums (i ∷ is) h = omega (arith, length-append (map position (one_leaf_nodes i (peaks_of rule n))) (flat_map (λ i. map position (one_leaf_nodes i (peaks_of rule n))) is), length-map (one_leaf_nodes i (peaks_of rule n)) position, one i h.0, sums is h.1)
+    sums (i ∷ is) h = omega (
+      arith,
+      length-append (map position (one_leaf_nodes i (peaks_of rule n))) (flat_map (λ i. map position (one_leaf_nodes i (peaks_of rule n))) is),
+      length-map (one_leaf_nodes i (peaks_of rule n)) position,
+      one i h.0,
+      sums is h.1,
+    )
 
     inside : (p : ℕ) → Member (multi_positions rule n locations) p → Member (flat_map (λ i. map position (one_leaf_nodes i (peaks_of rule n))) locations) p
     inside p m =

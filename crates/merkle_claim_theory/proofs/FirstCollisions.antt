@@ -18,7 +18,8 @@ Decides-place _ _ = (λ e. cc, λ e. cc)
 
 module _ {D : Type 0} (h : Hashing D) (laws : EqDecides h) where
   pub Decides-argument : (a b : Argument D) → Decides (same_argument h a b) (a ≡ b)
-  Decides-argument (Pair a b) (Pair c d) = let e : Decides (h.same a c && h.same b d) ((a ≡ c) × (b ≡ d)) = Decides-and _ _ (laws a c) (laws b d) in (λ t. ap₂ Pair (e.0 t).0 (e.0 t).1, λ p. e.1 (cc, cc))
+  Decides-argument (Pair a b) (Pair c d) = let e : Decides (h.same a c && h.same b d) ((a ≡ c) × (b ≡ d)) = Decides-and _ _ (laws a c) (laws b d) in
+      (λ t. ap₂ Pair (e.0 t).0 (e.0 t).1, λ p. e.1 (cc, cc))
   Decides-argument (Bytes a) (Bytes b) = let e : Decides (bytes_eq a b) (a ≡ b) = bytes_eq-Decides a b in (λ t. ap Bytes (e.0 t), λ p. e.1 cc)
   Decides-argument (Pair a b) (Bytes c) = (λ e. cc, λ e. cc)
   Decides-argument (Bytes c) (Pair a b) = (λ e. cc, λ e. cc)
@@ -52,7 +53,9 @@ module _ {D : Type 0} (h : Hashing D) (laws : EqDecides h) where
   unfolding Hits
   at_head xs ys y c w = at_member w.listed
     where
-      at_member : ((y ≡ record { place = c.place; argument = c.listed }) ⊎ Member ys (record { place = c.place; argument = c.listed })) → ((x : Input D) × Member xs x × ((x.place ≡ y.place) × (x.argument ≢ y.argument) × (digest_of_argument h x.place x.argument ≡ digest_of_argument h y.place y.argument))) ⊎ Collides h xs ys c
+      at_member : ((y ≡ record { place = c.place; argument = c.listed }) ⊎ Member ys (record { place = c.place; argument = c.listed }))
+          → ((x : Input D) × Member xs x
+          × ((x.place ≡ y.place) × (x.argument ≢ y.argument) × (digest_of_argument h x.place x.argument ≡ digest_of_argument h y.place y.argument))) ⊎ Collides h xs ys c
       at_member (inl e) = inl (
         record { place = c.place; argument = c.claimed },
         w.claimed,

@@ -45,10 +45,20 @@ same_peaks {D = D} h laws X Y (t ∷ ts) e =
     here g w u (inr m) i n = w u m i n
 
     before : {c : Collision D} → Collides h (visited h (node_expression X t)) (visited h (node_expression Y t)) c → Collides h (forest_inputs h X (t ∷ ts)) (forest_inputs h Y (t ∷ ts)) c
-    before c = record { claimed = member_left (visited h (node_expression X t)) _ _ c.claimed; listed = member_left (visited h (node_expression Y t)) _ _ c.listed; differ = c.differ; one_digest = c.one_digest }
+    before c = record {
+      claimed = member_left (visited h (node_expression X t)) _ _ c.claimed;
+      listed = member_left (visited h (node_expression Y t)) _ _ c.listed;
+      differ = c.differ;
+      one_digest = c.one_digest;
+    }
 
     after : {c : Collision D} → Collides h (forest_inputs h X ts) (forest_inputs h Y ts) c → Collides h (forest_inputs h X (t ∷ ts)) (forest_inputs h Y (t ∷ ts)) c
-    after c = record { claimed = member_right (visited h (node_expression X t)) _ _ c.claimed; listed = member_right (visited h (node_expression Y t)) _ _ c.listed; differ = c.differ; one_digest = c.one_digest }
+    after c = record {
+      claimed = member_right (visited h (node_expression X t)) _ _ c.claimed;
+      listed = member_right (visited h (node_expression Y t)) _ _ c.listed;
+      differ = c.differ;
+      one_digest = c.one_digest;
+    }
 
 -- Each input of one is one of the other, and their values are one
 unfoldable pub IncludedIn : {D : Type 0} → Hashing D → Expression D → Expression D → Type 0
@@ -71,23 +81,30 @@ module _ {D : Type 0} (h : Hashing D) where
 
   module _ (c : ℕ → Bool) (X Y : ℕ → D) (agrees : (i : ℕ) → c i ≡ true → Y i ≡ X i) where
     tree_within : (t : Tree) (ds rest : List D) → ds ≡ map (tree_digest h X) (siblings c t) ++ rest → IncludedIn h (tree_claim h c Y t ds) (node_expression X t)
-    tree_within (leaf p j) ds rest = by_test (λ b. ds ≡ map (tree_digest h X) (cond b [] (leaf p j ∷ [])) ++ rest → IncludedIn h (cond b (supplied (Y j)) (supplied (next h ds))) (supplied (X j))) (c j)
+    tree_within (leaf p j) ds rest =
+        by_test (λ b. ds ≡ map (tree_digest h X) (cond b [] (leaf p j ∷ [])) ++ rest
+        → IncludedIn h (cond b (supplied (Y j)) (supplied (next h ds))) (supplied (X j))) (c j)
         (λ q e. given_within _ _ (agrees j q)) (λ o e. given_within _ _ (ap (next h) e))
     tree_within (join p l r) ds rest = let u = tree_within l ds (map (tree_digest h X) (siblings c r) ++ rest) in let v = tree_within r (drop (length (siblings c l)) ds) rest in
         by_test (λ b. ds ≡ map (tree_digest h X) (cond b (siblings c l ++ siblings c r) (join p l r ∷ [])) ++ rest
-        → IncludedIn h (cond b (computed (Node p) (tree_claim h c Y l ds) (tree_claim h c Y r (drop (length (siblings c l)) ds))) (supplied (next h ds))) (computed (Node p) (node_expression X l) (node_expression X r))) (tree_meets c l || tree_meets c r)
+        → IncludedIn h (cond b (computed (Node p) (tree_claim h c Y l ds) (tree_claim h c Y r (drop (length (siblings c l)) ds)))
+        (supplied (next h ds))) (computed (Node p) (node_expression X l) (node_expression X r))) (tree_meets c l || tree_meets c r)
         (λ _ e. hashed_within (Node p) _ _ _ _ (u (split_left _ (siblings c l) (siblings c r) ds rest e)) (v (split_right _ (siblings c l) (siblings c r) ds rest e)))
         (λ _ e. given_within _ _ (ap (next h) e))
 
-    plan_within : (p : Plan) (os is ro ri : List D) → os ≡ map (plan_digest h X) (outside_parts c p) ++ ro → is ≡ map (tree_digest h X) (path_siblings c p) ++ ri → IncludedIn h (claim h c Y p os is) (plan_expression X p)
+    plan_within : (p : Plan) (os is ro ri : List D) → os ≡ map (plan_digest h X) (outside_parts c p) ++ ro
+        → is ≡ map (tree_digest h X) (path_siblings c p) ++ ri → IncludedIn h (claim h c Y p os is) (plan_expression X p)
     plan_within (peak t) os is ro ri = by_test (λ b. os ≡ map (plan_digest h X) (cond b [] (peak t ∷ [])) ++ ro → is ≡ map (tree_digest h X) (cond b (siblings c t) []) ++ ri
         → IncludedIn h (cond b (tree_claim h c Y t is) (supplied (next h os))) (node_expression X t)) (tree_meets c t)
         (λ _ e f. tree_within t is ri f) (λ _ e f. given_within _ _ (ap (next h) e))
     plan_within (folding place l r) os is ro ri =
         let u = plan_within l os is (map (plan_digest h X) (outside_parts c r) ++ ro) (map (tree_digest h X) (path_siblings c r) ++ ri) in
         let v = plan_within r (drop (length (outside_parts c l)) os) (drop (length (path_siblings c l)) is) ro ri in
-        by_test (λ b. os ≡ map (plan_digest h X) (cond b (outside_parts c l ++ outside_parts c r) (folding place l r ∷ [])) ++ ro → is ≡ map (tree_digest h X) (cond b (path_siblings c l ++ path_siblings c r) []) ++ ri
-        → IncludedIn h (cond b (computed place (claim h c Y l os is) (claim h c Y r (drop (length (outside_parts c l)) os) (drop (length (path_siblings c l)) is))) (supplied (next h os))) (computed place (plan_expression X l) (plan_expression X r))) (meets c l || meets c r)
+        by_test (λ b. os ≡ map (plan_digest h X) (cond b (outside_parts c l ++ outside_parts c r) (folding place l r ∷ [])) ++ ro
+        → is ≡ map (tree_digest h X) (cond b (path_siblings c l ++ path_siblings c r) []) ++ ri
+        → IncludedIn h (cond b (computed place (claim h c Y l os is)
+        (claim h c Y r (drop (length (outside_parts c l)) os) (drop (length (path_siblings c l)) is))) (supplied (next h os)))
+        (computed place (plan_expression X l) (plan_expression X r))) (meets c l || meets c r)
         (λ _ e f. hashed_within place _ _ _ _
         (u (split_left _ (outside_parts c l) (outside_parts c r) os ro e) (split_left _ (path_siblings c l) (path_siblings c r) is ri f))
         (v (split_right _ (outside_parts c l) (outside_parts c r) os ro e) (split_right _ (path_siblings c l) (path_siblings c r) is ri f)))
@@ -104,7 +121,8 @@ member_unfilter t (y ∷ xs) x m = at_test (t y) m (λ w. member_unfilter t xs x
     at_test false m f = inr (f m)
 
 pub member_unordered : {D : Type 0} (h : Hashing D) (e : Expression D) (i : Input D) → Member (inputs h e) i → Member (visited h e) i
-member_unordered h e i m = ⊎_elim (λ w. member_unfilter _ (visited h e) i w) (λ w. member_unfilter _ (visited h e) i w) (member_split (filter (λ (i : Input _). not (is_node i.place)) (visited h e)) _ i m)
+member_unordered h e i m = ⊎_elim (λ w. member_unfilter _ (visited h e) i w) (λ w. member_unfilter _ (visited h e) i w)
+    (member_split (filter (λ (i : Input _). not (is_node i.place)) (visited h e)) _ i m)
 
 pub honest_never_collides : {D : Type 0} → HonestNeverCollides D
 unfolding IncludedIn
@@ -116,7 +134,8 @@ honest_never_collides h c X Y p agrees one k w =
     w.differ (ap (λ (i : Input _). i.argument) e)
 
 -- an honest claim's inputs are the list's
-pub honest_inputs : {D : Type 0} (h : Hashing D) (c : ℕ → Bool) (X Y : ℕ → D) (p : Plan) → ((i : ℕ) → c i ≡ true → Y i ≡ X i) → (i : Input D) → Member (inputs h (claim_of h c Y p (honest_digests h X c p))) i → Member (inputs h (plan_expression X p)) i
+pub honest_inputs : {D : Type 0} (h : Hashing D) (c : ℕ → Bool) (X Y : ℕ → D) (p : Plan) → ((i : ℕ) → c i ≡ true → Y i ≡ X i) → (i : Input D)
+    → Member (inputs h (claim_of h c Y p (honest_digests h X c p))) i → Member (inputs h (plan_expression X p)) i
 unfolding IncludedIn
 honest_inputs h c X Y p agrees i m =
     let ds = honest_digests h X c p in

@@ -32,11 +32,14 @@ module _ {D : Type 0} (h : Hashing D) where
 
   module _ (a : ℕ → Option D) (c : ℕ → Bool) (X Y : ℕ → D) (agrees : (i : ℕ) → c i ≡ true → Y i ≡ X i) where
     multi_tree_gives : (t : Tree) → HonestTree h a c X t → Gives h (multi_tree h a c Y t) (tree_digest h X t)
-    multi_tree_gives (leaf p i) = by_test (λ b. cond b (IfSome (a p) (λ d. d ≡ X i)) (or_empty h (a p) ≡ X i) → Gives h (cond b (also (a p) (supplied (Y i))) (supplied (or_empty h (a p)))) (X i)) (c i)
+    multi_tree_gives (leaf p i) =
+        by_test (λ b. cond b (IfSome (a p) (λ d. d ≡ X i)) (or_empty h (a p) ≡ X i)
+        → Gives h (cond b (also (a p) (supplied (Y i))) (supplied (or_empty h (a p)))) (X i)) (c i)
         (λ q s. also_gives (a p) _ _ s (given_gives _ _ (agrees i q))) (λ _ s. given_gives _ _ s)
     multi_tree_gives (join p l r) = let u = multi_tree_gives l in let v = multi_tree_gives r in
         by_test (λ b. cond b (IfSome (a p) (λ d. d ≡ tree_digest h X (join p l r)) × HonestTree h a c X l × HonestTree h a c X r) (or_empty h (a p) ≡ tree_digest h X (join p l r))
-        → Gives h (cond b (also (a p) (computed (Node p) (multi_tree h a c Y l) (multi_tree h a c Y r))) (supplied (or_empty h (a p)))) (tree_digest h X (join p l r))) (tree_meets c l || tree_meets c r)
+        → Gives h (cond b (also (a p) (computed (Node p) (multi_tree h a c Y l) (multi_tree h a c Y r))) (supplied (or_empty h (a p))))
+        (tree_digest h X (join p l r))) (tree_meets c l || tree_meets c r)
         (λ _ s. also_gives (a p) _ _ s.0 (hashed_gives (Node p) _ _ _ _ (u s.1) (v s.2))) (λ _ s. given_gives _ _ s)
 
     multi_gives : (p : Plan) → HonestPlan h a c X p → Gives h (multi_claim h a c Y p) (plan_digest h X p)
@@ -50,7 +53,9 @@ module _ {D : Type 0} (h : Hashing D) where
 
     pin_tree_gives : (t : Tree) → PinsTree h b X t → Gives h (pin_tree h b t) (tree_digest h X t)
     pin_tree_gives (leaf p i) s = given_gives _ _ s
-    pin_tree_gives (join p l r) s = pinned_gives (b p) _ (tree_digest h X (join p l r)) (PinsTree h b X l × PinsTree h b X r) (λ z. hashed_gives (Node p) _ _ _ _ (pin_tree_gives l z.0) (pin_tree_gives r z.1)) s
+    pin_tree_gives (join p l r) s =
+        pinned_gives (b p) _ (tree_digest h X (join p l r)) (PinsTree h b X l × PinsTree h b X r)
+        (λ z. hashed_gives (Node p) _ _ _ _ (pin_tree_gives l z.0) (pin_tree_gives r z.1)) s
 
     pin_plan_gives : (p : Plan) → PinsPlan h b X p → Gives h (pin_plan h b p) (plan_digest h X p)
     pin_plan_gives (peak t) s = pin_tree_gives t s
@@ -78,25 +83,35 @@ module _ {D : Type 0} (h : Hashing D) where
 
     module _ (w c : ℕ → Bool) (Y : ℕ → D) (agrees : (i : ℕ) → c i ≡ true → Y i ≡ X i) where
       tree_gives : (t : Tree) (ds rest : List D) → ds ≡ map (tree_digest h X) (siblings c t) ++ rest → PinsTrees h b w X (siblings c t) → Gives h (pinned_tree h b w c Y t ds) (tree_digest h X t)
-      tree_gives (leaf p j) ds rest = by_test (λ y. ds ≡ map (tree_digest h X) (cond y [] (leaf p j ∷ [])) ++ rest → PinsTrees h b w X (cond y [] (leaf p j ∷ [])) → Gives h (cond y (supplied (Y j)) (outside_tree h b w (leaf p j) (next h ds))) (X j)) (c j)
+      tree_gives (leaf p j) ds rest =
+          by_test (λ y. ds ≡ map (tree_digest h X) (cond y [] (leaf p j ∷ [])) ++ rest → PinsTrees h b w X (cond y [] (leaf p j ∷ []))
+          → Gives h (cond y (supplied (Y j)) (outside_tree h b w (leaf p j) (next h ds))) (X j)) (c j)
           (λ q e s. given_gives _ _ (agrees j q)) (λ o e s. outside_tree_gives w (leaf p j) (next h ds) (ap (next h) e) s.0)
       tree_gives (join p l r) ds rest = let u = tree_gives l ds (map (tree_digest h X) (siblings c r) ++ rest) in let v = tree_gives r (drop (length (siblings c l)) ds) rest in
           by_test (λ y. ds ≡ map (tree_digest h X) (cond y (siblings c l ++ siblings c r) (join p l r ∷ [])) ++ rest → PinsTrees h b w X (cond y (siblings c l ++ siblings c r) (join p l r ∷ []))
-          → Gives h (cond y (computed (Node p) (pinned_tree h b w c Y l ds) (pinned_tree h b w c Y r (drop (length (siblings c l)) ds))) (outside_tree h b w (join p l r) (next h ds))) (tree_digest h X (join p l r))) (tree_meets c l || tree_meets c r)
+          → Gives h (cond y (computed (Node p) (pinned_tree h b w c Y l ds) (pinned_tree h b w c Y r (drop (length (siblings c l)) ds)))
+          (outside_tree h b w (join p l r) (next h ds))) (tree_digest h X (join p l r))) (tree_meets c l || tree_meets c r)
           (λ _ e s. let z = trees_left w (siblings c l) (siblings c r) s in
           hashed_gives (Node p) _ _ _ _ (u (split_left _ (siblings c l) (siblings c r) ds rest e) z.0) (v (split_right _ (siblings c l) (siblings c r) ds rest e) z.1))
           (λ _ e s. outside_tree_gives w (join p l r) (next h ds) (ap (next h) e) s.0)
 
-      plan_gives : (p : Plan) (os is ro ri : List D) → os ≡ map (plan_digest h X) (outside_parts c p) ++ ro → is ≡ map (tree_digest h X) (path_siblings c p) ++ ri → PinsAll h b w X (outside_parts c p) → PinsTrees h b w X (path_siblings c p) → Gives h (pinned_claim h b w c Y p os is) (plan_digest h X p)
-      plan_gives (peak t) os is ro ri = by_test (λ y. os ≡ map (plan_digest h X) (cond y [] (peak t ∷ [])) ++ ro → is ≡ map (tree_digest h X) (cond y (siblings c t) []) ++ ri → PinsAll h b w X (cond y [] (peak t ∷ [])) → PinsTrees h b w X (cond y (siblings c t) [])
+      plan_gives : (p : Plan) (os is ro ri : List D) → os ≡ map (plan_digest h X) (outside_parts c p) ++ ro
+          → is ≡ map (tree_digest h X) (path_siblings c p) ++ ri → PinsAll h b w X (outside_parts c p) → PinsTrees h b w X (path_siblings c p)
+          → Gives h (pinned_claim h b w c Y p os is) (plan_digest h X p)
+      plan_gives (peak t) os is ro ri =
+          by_test (λ y. os ≡ map (plan_digest h X) (cond y [] (peak t ∷ [])) ++ ro → is ≡ map (tree_digest h X) (cond y (siblings c t) []) ++ ri
+          → PinsAll h b w X (cond y [] (peak t ∷ [])) → PinsTrees h b w X (cond y (siblings c t) [])
           → Gives h (cond y (pinned_tree h b w c Y t is) (outside_plan h b w (peak t) (next h os))) (tree_digest h X t)) (tree_meets c t)
           (λ _ e f s z. tree_gives t is ri f z) (λ _ e f s z. outside_plan_gives w (peak t) (next h os) (ap (next h) e) s.0)
       plan_gives (folding place l r) os is ro ri =
           let u = plan_gives l os is (map (plan_digest h X) (outside_parts c r) ++ ro) (map (tree_digest h X) (path_siblings c r) ++ ri) in
           let v = plan_gives r (drop (length (outside_parts c l)) os) (drop (length (path_siblings c l)) is) ro ri in
-          by_test (λ y. os ≡ map (plan_digest h X) (cond y (outside_parts c l ++ outside_parts c r) (folding place l r ∷ [])) ++ ro → is ≡ map (tree_digest h X) (cond y (path_siblings c l ++ path_siblings c r) []) ++ ri
+          by_test (λ y. os ≡ map (plan_digest h X) (cond y (outside_parts c l ++ outside_parts c r) (folding place l r ∷ [])) ++ ro
+          → is ≡ map (tree_digest h X) (cond y (path_siblings c l ++ path_siblings c r) []) ++ ri
           → PinsAll h b w X (cond y (outside_parts c l ++ outside_parts c r) (folding place l r ∷ [])) → PinsTrees h b w X (cond y (path_siblings c l ++ path_siblings c r) [])
-          → Gives h (cond y (computed place (pinned_claim h b w c Y l os is) (pinned_claim h b w c Y r (drop (length (outside_parts c l)) os) (drop (length (path_siblings c l)) is))) (outside_plan h b w (folding place l r) (next h os))) (plan_digest h X (folding place l r))) (meets c l || meets c r)
+          → Gives h (cond y (computed place (pinned_claim h b w c Y l os is)
+          (pinned_claim h b w c Y r (drop (length (outside_parts c l)) os) (drop (length (path_siblings c l)) is)))
+          (outside_plan h b w (folding place l r) (next h os))) (plan_digest h X (folding place l r))) (meets c l || meets c r)
           (λ _ e f s z. let x = plans_left w (outside_parts c l) (outside_parts c r) s in let y = trees_left w (path_siblings c l) (path_siblings c r) z in hashed_gives place _ _ _ _
           (u (split_left _ (outside_parts c l) (outside_parts c r) os ro e) (split_left _ (path_siblings c l) (path_siblings c r) is ri f) x.0 y.0)
           (v (split_right _ (outside_parts c l) (outside_parts c r) os ro e) (split_right _ (path_siblings c l) (path_siblings c r) is ri f) x.1 y.1))

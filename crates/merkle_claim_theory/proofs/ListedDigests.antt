@@ -1,5 +1,6 @@
 -- Digests listed by position; what holds of each peak of a plan; roots of plans.
-use Rattle.std.proofs.Common.{◌≡◌, ℕ, zero, suc, pred, Bool, true, cond, ◌||◌, nat_eq, ◌+◌, ◌≤◌, ◌<◌, ◌^◌, List, [], ◌∷◌, ◌⊎◌, inl, inr, refl, ap, ap₂, sym, ◌∙◌, subst, ⊎_elim, arith, length, map, take, drop, filter, Option, Some, None, option_map, IfSome}
+use Rattle.std.proofs.Common.{◌≡◌, ℕ, zero, suc, pred, Bool, true, cond, ◌||◌, nat_eq, ◌+◌, ◌≤◌, ◌<◌, ◌^◌, List, [], ◌∷◌, ◌⊎◌, inl, inr, refl, ap, ap₂, sym}
+use Rattle.std.proofs.Common.{◌∙◌, subst, ⊎_elim, arith, length, map, take, drop, filter, Option, Some, None, option_map, IfSome}
 use Rattle.std.specs.List.{AllByRecursion, list_any, range_with_len}
 use Rattle.std.proofs.lemmas.Bool.{eqb-true, eq-eqb, ne_eqb, or_right, false≢true}
 use Rattle.std.proofs.lemmas.List.{nil_from_length}
@@ -63,7 +64,9 @@ distinct_range a (suc n) = ((λ m. let w = member_range (a + 1) n a m in absurd 
 
 pub distinct_filter : {A : Type 0} (t : A → Bool) (xs : List A) → Distinct xs → Distinct (filter t xs)
 distinct_filter t [] d = tt
-distinct_filter t (x ∷ xs) d = by_test (λ z. Distinct (cond z (x ∷ filter t xs) (filter t xs))) (t x) (λ _. ((λ m. d.0 (filtered_member t xs x m).0), distinct_filter t xs d.1)) (λ _. distinct_filter t xs d.1)
+distinct_filter t (x ∷ xs) d =
+    by_test (λ z. Distinct (cond z (x ∷ filter t xs) (filter t xs))) (t x) (λ _. ((λ m. d.0 (filtered_member t xs x m).0), distinct_filter t xs d.1))
+    (λ _. distinct_filter t xs d.1)
 
 pub ascends_member : (a : ℕ) (ps : List ℕ) (p : ℕ) → AscendsFrom a ps → Member ps p → a ≤ p
 ascends_member a [] p u m = elim m [ ]
@@ -164,22 +167,27 @@ pub same_plan : (b : Bagging) (k : ℕ) (ts : List Tree) (p q : Plan) → root_p
 same_plan b k ts p q d e = cc
 
 -- one root: one leaf count, one inactive count, one value of the plan, or the root's strings collide
-module _ {D : Type 0} (s : Scheme D) (size : ℕ) (bytes : ByteLaws s.hashing size) (X : ℕ → D) (E : Plan → Expression D) (n n' k k' : ℕ) (a : n < 2 ^ 64) (a' : n' < 2 ^ 64) (b : k < 2 ^ 64) (b' : k' < 2 ^ 64) where
-  pub roots : 0 < n → (p : Plan) → root_plan s.bagging k (peaks_of s.rule n) ≡ Some p → root_of s n k (option_map E (root_plan s.bagging k (peaks_of s.rule n))) ≡ root_of s n' k' (list_expression s X n' k')
+module _ {D : Type 0} (s : Scheme D) (size : ℕ) (bytes : ByteLaws s.hashing size) (X : ℕ → D) (E : Plan → Expression D) (n n' k k' : ℕ)
+    (a : n < 2 ^ 64) (a' : n' < 2 ^ 64) (b : k < 2 ^ 64) (b' : k' < 2 ^ 64) where
+  pub roots : 0 < n → (p : Plan) → root_plan s.bagging k (peaks_of s.rule n) ≡ Some p
+      → root_of s n k (option_map E (root_plan s.bagging k (peaks_of s.rule n))) ≡ root_of s n' k' (list_expression s X n' k')
       → ((n ≡ n') × (k ≡ k') × (value s.hashing (E p) ≡ plan_digest s.hashing X p))
       ⊎ ((c : Collision D) × Collides s.hashing (all_inputs s n k (option_map E (root_plan s.bagging k (peaks_of s.rule n)))) (all_inputs s n' k' (list_expression s X n' k')) c)
   roots l p e same = ⊎_elim (λ w. inl (told w)) inr (root_tells s size bytes n n' k k' (option_map E (root_plan s.bagging k (peaks_of s.rule n))) (list_expression s X n' k') a a' b b' same)
     where
-      told : (n ≡ n') × SameFolded k (option_map (value s.hashing) (option_map E (root_plan s.bagging k (peaks_of s.rule n)))) k' (option_map (value s.hashing) (list_expression s X n' k')) → (n ≡ n') × (k ≡ k') × (value s.hashing (E p) ≡ plan_digest s.hashing X p)
+      told : (n ≡ n') × SameFolded k (option_map (value s.hashing) (option_map E (root_plan s.bagging k (peaks_of s.rule n)))) k'
+          (option_map (value s.hashing) (list_expression s X n' k')) → (n ≡ n') × (k ≡ k') × (value s.hashing (E p) ≡ plan_digest s.hashing X p)
       told w =
           let q = plan_for s n' k' (omega (arith, l, w.0)) in
           let v : SameFolded k (Some (value s.hashing (E p))) k' (Some (plan_digest s.hashing X q.0)) =
-          subst (λ z. SameFolded k (Some (value s.hashing (E p))) k' (option_map (value s.hashing) (option_map (plan_expression X) z))) q.1 (subst (λ z. SameFolded k (option_map (value s.hashing) (option_map E z)) k' (option_map (value s.hashing) (list_expression s X n' k'))) e w.1) in
+          subst (λ z. SameFolded k (Some (value s.hashing (E p))) k' (option_map (value s.hashing) (option_map (plan_expression X) z))) q.1
+          (subst (λ z. SameFolded k (option_map (value s.hashing) (option_map E z)) k' (option_map (value s.hashing) (list_expression s X n' k'))) e w.1) in
           let f : q.0 ≡ p = same_plan s.bagging k (peaks_of s.rule n) q.0 p (ap₂ (λ x y. root_plan s.bagging x (peaks_of s.rule y)) v.0 w.0 ∙ q.1) e in
           (w.0, v.0, v.1 ∙ ap (plan_digest s.hashing X) f)
 
   -- a collision below the root
-  pub below_root : (p : Plan) → root_plan s.bagging k (peaks_of s.rule n) ≡ Some p → n ≡ n' → k ≡ k' → ((c : Collision D) × Collides s.hashing (inputs s.hashing (E p)) (inputs s.hashing (plan_expression X p)) c)
+  pub below_root : (p : Plan) → root_plan s.bagging k (peaks_of s.rule n) ≡ Some p → n ≡ n' → k ≡ k'
+      → ((c : Collision D) × Collides s.hashing (inputs s.hashing (E p)) (inputs s.hashing (plan_expression X p)) c)
       → (c : Collision D) × Collides s.hashing (all_inputs s n k (option_map E (root_plan s.bagging k (peaks_of s.rule n)))) (all_inputs s n' k' (list_expression s X n' k')) c
   below_root p e f g c =
       let e' : root_plan s.bagging k' (peaks_of s.rule n') ≡ Some p = ap₂ (λ x y. root_plan s.bagging x (peaks_of s.rule y)) (sym g) (sym f) ∙ e in (
@@ -193,17 +201,25 @@ module _ {D : Type 0} (s : Scheme D) (size : ℕ) (bytes : ByteLaws s.hashing si
       )
 
 -- a plan with the list's value has the list's root
-pub roots_same : {D : Type 0} (s : Scheme D) (X : ℕ → D) (E : Plan → Expression D) (n k : ℕ) (p : Plan) → root_plan s.bagging k (peaks_of s.rule n) ≡ Some p → value s.hashing (E p) ≡ plan_digest s.hashing X p
+pub roots_same : {D : Type 0} (s : Scheme D) (X : ℕ → D) (E : Plan → Expression D) (n k : ℕ) (p : Plan)
+    → root_plan s.bagging k (peaks_of s.rule n) ≡ Some p → value s.hashing (E p) ≡ plan_digest s.hashing X p
     → root_of s n k (option_map E (root_plan s.bagging k (peaks_of s.rule n))) ≡ root_of s n k (list_expression s X n k)
 roots_same s X E n k p e v = ap (λ o. s.hashing.hash (root_string s.hashing s.domain s.bagging n k o))
     (ap (λ o. option_map (value s.hashing) (option_map E o)) e ∙ ap Some v ∙ ap (λ o. option_map (value s.hashing) (option_map (plan_expression X) o)) (sym e))
 
 -- the root of no leaves is the root of no list that has some, but for collisions
-module _ {D : Type 0} (s : Scheme D) (size max_nodes : ℕ) (sound : IsLawfulScheme s size max_nodes) (xs : List D) (k : ℕ) (few : length xs ≤ s.max_leaves) (low : k ≤ length (peaks_of s.rule (length xs))) where
+module _ {D : Type 0} (s : Scheme D) (size max_nodes : ℕ) (sound : IsLawfulScheme s size max_nodes) (xs : List D) (k : ℕ)
+    (few : length xs ≤ s.max_leaves) (low : k ≤ length (peaks_of s.rule (length xs))) where
   pub no_other_list : (E : Plan → Expression D) (n j : ℕ) → n ≡ 0 → j ≡ 0 → root_of s 0 0 None ≡ plan_root s xs k
-      → (xs ≡ []) ⊎ ((c : Collision D) × Collides s.hashing (all_inputs s n j (option_map E (root_plan s.bagging j (peaks_of s.rule n)))) (all_inputs s (length xs) k (list_expression s (leaf_of s.hashing xs) (length xs) k)) c)
-  no_other_list E n j e f same = ⊎_elim (λ w. inl (nil_from_length xs (sym w.0))) (λ c. inr (subst (λ z. (c : Collision D) × Collides s.hashing z (all_inputs s (length xs) k (list_expression s (leaf_of s.hashing xs) (length xs) k)) c) (sym inputs) c))
-      (root_tells s size sound.bytes 0 (length xs) 0 k None (list_expression s (leaf_of s.hashing xs) (length xs) k) (omega arith) (small_leaves s max_nodes (length xs) sound.lawful few) (omega arith) (small_inactive s max_nodes (length xs) k sound.lawful few low) same)
+      → (xs ≡ []) ⊎ ((c : Collision D)
+      × Collides s.hashing (all_inputs s n j (option_map E (root_plan s.bagging j (peaks_of s.rule n))))
+      (all_inputs s (length xs) k (list_expression s (leaf_of s.hashing xs) (length xs) k)) c)
+  no_other_list E n j e f same =
+      ⊎_elim (λ w. inl (nil_from_length xs (sym w.0)))
+      (λ c. inr (subst (λ z. (c : Collision D)
+      × Collides s.hashing z (all_inputs s (length xs) k (list_expression s (leaf_of s.hashing xs) (length xs) k)) c) (sym inputs) c))
+      (root_tells s size sound.bytes 0 (length xs) 0 k None (list_expression s (leaf_of s.hashing xs) (length xs) k) (omega arith)
+      (small_leaves s max_nodes (length xs) sound.lawful few) (omega arith) (small_inactive s max_nodes (length xs) k sound.lawful few low) same)
     where
       inputs : all_inputs s n j (option_map E (root_plan s.bagging j (peaks_of s.rule n))) ≡ all_inputs s 0 0 None
       inputs = ap (λ o. all_inputs s n j (option_map E o)) (ap (λ m. root_plan s.bagging j (peaks_of s.rule m)) e ∙ no_plan s s.bagging j) ∙ ap₂ (λ a b. all_inputs s a b None) e f

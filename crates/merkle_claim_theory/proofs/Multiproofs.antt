@@ -1,5 +1,6 @@
 -- The multi check: the honest inputs are accepted, and no others, but for collisions.
-use Rattle.std.proofs.Common.{◌≡◌, ℕ, Bool, true, false, cond, ◌||◌, nat_eq, ◌≤◌, ◌<◌, List, [], ◌∷◌, ◌++◌, ◌⊎◌, inl, inr, refl, ap, ap₂, sym, ◌∙◌, subst, ⊎_elim, arith, length, map, flat_map, Option, Some, None, option_map, IfSome, unwrap_or}
+use Rattle.std.proofs.Common.{◌≡◌, ℕ, Bool, true, false, cond, ◌||◌, nat_eq, ◌≤◌, ◌<◌, List, [], ◌∷◌, ◌++◌, ◌⊎◌, inl, inr, refl, ap, ap₂, sym, ◌∙◌, subst}
+use Rattle.std.proofs.Common.{⊎_elim, arith, length, map, flat_map, Option, Some, None, option_map, IfSome, unwrap_or}
 use Rattle.std.specs.List.{AllByRecursion, list_any, range_with_len}
 use Rattle.std.proofs.lemmas.Bool.{eqb-true, eq-eqb, or_right, cases_Bool, or_cases, false≢true}
 use Rattle.std.proofs.lemmas.List.{length-map}
@@ -21,7 +22,8 @@ use Rattle.merkle_base.specs.Scheme.{Scheme}
 use Rattle.merkle_base.specs.Places.{peaks_of}
 use Rattle.merkle_root_theory.specs.Range.{leaf_of, plan_root, IsLawfulScheme}
 use Rattle.merkle_base.specs.Table.{digest_for, digest_at_position}
-use Rattle.merkle_claim_theory.specs.Multiproof.{one_leaf_nodes, is_one_leaf_position, multi_positions, MultiInput, locations_in, leaves_in, multi_on, AllHolds, AcceptsMultiSome, IsHonestMultiSome, MultiCollides, HonestMultiIsAccepted, MultiSound}
+use Rattle.merkle_claim_theory.specs.Multiproof.{one_leaf_nodes, is_one_leaf_position, multi_positions, MultiInput, locations_in, leaves_in, multi_on, AllHolds}
+use Rattle.merkle_claim_theory.specs.Multiproof.{AcceptsMultiSome, IsHonestMultiSome, MultiCollides, HonestMultiIsAccepted, MultiSound}
 use Rattle.merkle_root_theory.proofs.Collisions.{member_left, member_right}
 use Rattle.merkle_claim_theory.proofs.HonestClaims.{member_split}
 use Rattle.merkle_base.proofs.Cases.{by_test}
@@ -30,7 +32,9 @@ use Rattle.merkle_claim_theory.proofs.HonestMultis.{multi_of_some, multi_of_case
 use Rattle.merkle_claim_theory.proofs.HonestTold.{honest_multi_accepted}
 use Rattle.merkle_root_theory.proofs.ListRoots.{node_digest_is}
 use Rattle.merkle_root_theory.proofs.RangeChecks.{covers, small_leaves, small_inactive, empty_root}
-use Rattle.merkle_claim_theory.proofs.ListedDigests.{any_member, member_any, member_filtered, filtered_member, range_member, distinct_range, distinct_filter, ascends_distinct, listed, listed_is, listed_some, EachPeak, each_of, of_each, plan_for, roots, below_root, roots_same, no_other_list}
+use Rattle.merkle_claim_theory.proofs.ListedDigests.{any_member, member_any, member_filtered, filtered_member, range_member, distinct_range, distinct_filter}
+use Rattle.merkle_claim_theory.proofs.ListedDigests.{ascends_distinct, listed, listed_is, listed_some, EachPeak, each_of, of_each, plan_for, roots, below_root}
+use Rattle.merkle_claim_theory.proofs.ListedDigests.{roots_same, no_other_list}
 use Rattle.merkle_base.proofs.PeakLists.{peaks_built}
 
 pub all_member : {A : Type 0} (P : A → Type 0) (xs : List A) (x : A) → AllByRecursion P xs → Member xs x → P x
@@ -68,7 +72,9 @@ meets_more c i e (join p l r) m = ⊎_elim (λ w. ap (λ z. z || tree_meets c r)
 
 meets_some : (c : ℕ → Bool) (t : Tree) → tree_meets c t ≡ true → (i : ℕ) × (c i ≡ true) × (tree_meets (only i) t ≡ true)
 meets_some c (leaf p j) m = (j, m, eq-eqb j j refl)
-meets_some c (join p l r) m = ⊎_elim (λ w. let v = meets_some c l w in (v.0, v.1, ap (λ z. z || tree_meets (only v.0) r) v.2)) (λ w. let v = meets_some c r w in (v.0, v.1, or_right (tree_meets (only v.0) l) _ v.2)) (or_cases (tree_meets c l) _ m)
+meets_some c (join p l r) m =
+    ⊎_elim (λ w. let v = meets_some c l w in (v.0, v.1, ap (λ z. z || tree_meets (only v.0) r) v.2))
+    (λ w. let v = meets_some c r w in (v.0, v.1, or_right (tree_meets (only v.0) l) _ v.2)) (or_cases (tree_meets c l) _ m)
 
 same_in : {D : Type 0} (c : ℕ → Bool) (X Y : ℕ → D) (t : Tree) (i : ℕ) → SameTree c X Y t → InTree t i → c i ≡ true → Y i ≡ X i
 same_in c X Y (leaf p j) i s e q = subst (λ z. c z ≡ true → Y z ≡ X z) e s q
@@ -80,7 +86,9 @@ module _ {D : Type 0} (h : Hashing D) (a : ℕ → Option D) (c : ℕ → Bool) 
   tells_sibling : (i : ℕ) → c i ≡ true → (u t : Tree) → TellsTree h a c X u → Member (siblings (only i) u) t → IfSome (a (position t)) (λ d. d ≡ tree_digest h X t)
   tells_sibling i q (leaf p j) t w = by_test (λ z. Member (cond z [] (leaf p j ∷ [])) t → IfSome (a (position t)) (λ d. d ≡ tree_digest h X t)) (only i j)
       (λ _ m. elim m [ ]) (λ _ m. ⊎_elim (λ e. subst (λ t. IfSome (a (position t)) (λ d. d ≡ tree_digest h X t)) e w) (λ n. elim n [ ]) m)
-  tells_sibling i q (join p l r) t w = by_test (λ z. tree_meets (only i) (join p l r) ≡ z → Member (cond z (siblings (only i) l ++ siblings (only i) r) (join p l r ∷ [])) t → IfSome (a (position t)) (λ d. d ≡ tree_digest h X t)) (tree_meets (only i) (join p l r))
+  tells_sibling i q (join p l r) t w =
+      by_test (λ z. tree_meets (only i) (join p l r) ≡ z → Member (cond z (siblings (only i) l ++ siblings (only i) r) (join p l r ∷ [])) t
+      → IfSome (a (position t)) (λ d. d ≡ tree_digest h X t)) (tree_meets (only i) (join p l r))
       (λ _ e m. let v : TellsTree h a c X l × TellsTree h a c X r = subst (λ z. cond z (TellsTree h a c X l × TellsTree h a c X r) (Unit {0})) (meets_more c i q (join p l r) e) w.1 in
       ⊎_elim (λ y. tells_sibling i q l t v.0 y) (λ y. tells_sibling i q r t v.1 y) (member_split (siblings (only i) l) (siblings (only i) r) t m))
       (λ _ _ m. ⊎_elim (λ e. subst (λ t. IfSome (a (position t)) (λ d. d ≡ tree_digest h X t)) e w.0) (λ n. elim n [ ]) m) refl
@@ -127,7 +135,8 @@ module _ {D : Type 0} (s : Scheme D) (xs : List D) (locations : List ℕ) where
   c i = list_any (nat_eq i) locations
 
   pub node_digest : (t : Tree) → IsBuilt ns t → f (position t) ≡ tree_digest s.hashing X t
-  node_digest t b = get_or_from_slice_get (node_digests s.hashing s.rule xs) (position t) (tree_digest s.hashing X t) s.hashing.empty (node_digest_is s.hashing s.rule xs (position t) t (built_at ns t b))
+  node_digest t b = get_or_from_slice_get (node_digests s.hashing s.rule xs) (position t) (tree_digest s.hashing X t) s.hashing.empty
+      (node_digest_is s.hashing s.rule xs (position t) t (built_at ns t b))
 
   pub chosen_in : (i : ℕ) → c i ≡ true → Member locations i
   chosen_in i e = let w = member_any (nat_eq i) locations e in subst (Member locations) (sym (eqb-true i w.0 w.2)) w.1
@@ -144,7 +153,8 @@ module _ {D : Type 0} (s : Scheme D) (xs : List D) (locations : List ℕ) where
       let b : IsBuilt ns u = sibling_built ns (only i) t u (all_member (IsBuilt ns) (peaks_of s.rule (length xs)) t (peaks_built s.rule (length xs)) v) w in
       member_filtered _ (range_with_len 0 (size s.rule (length xs))) (position u) (range_member 0 (size s.rule (length xs)) (position u) (omega arith) (omega (arith, built_below ns u b)))
       (any_member (is_one_leaf_position (peaks_of s.rule (length xs)) (position u)) locations i m
-      (any_member (λ t. nat_eq (position t) (position u)) (one_leaf_nodes i (peaks_of s.rule (length xs))) u (member_flat (siblings (only i)) (peaks_of s.rule (length xs)) t u v w) (eq-eqb (position u) (position u) refl)))
+      (any_member (λ t. nat_eq (position t) (position u)) (one_leaf_nodes i (peaks_of s.rule (length xs))) u
+      (member_flat (siblings (only i)) (peaks_of s.rule (length xs)) t u v w) (eq-eqb (position u) (position u) refl)))
 
   -- where the told digests of the peaks' nodes are the list's, so are the listed ones
   told_listed : (a : ℕ → Option D) → AllByRecursion (TellsTree s.hashing a c X) (peaks_of s.rule (length xs)) → (p : ℕ) → Member ps p → IfSome (a p) (λ d. d ≡ f p)
@@ -193,7 +203,10 @@ module _ {D : Type 0} (s : Scheme D) (xs : List D) (locations : List ℕ) where
   unfolding Needs
   needs_tree (leaf p j) b w = by_test (λ z. c j ≡ z → cond z (IfSome (a p) (λ d. d ≡ X j)) (or_empty s.hashing (a p) ≡ X j)) (c j)
       (λ _ _. told_is (leaf p j) b) (λ _ e. given_is (leaf p j) b (sub_leaf w.1.0 p j (not_met (leaf p j) w.1.0 w.1.1 e) w.1.2)) refl
-  needs_tree (join p l r) b w = by_test (λ z. tree_meets c (join p l r) ≡ z → cond z (IfSome (a p) (λ d. d ≡ tree_digest s.hashing X (join p l r)) × HonestTree s.hashing a c X l × HonestTree s.hashing a c X r) (or_empty s.hashing (a p) ≡ tree_digest s.hashing X (join p l r))) (tree_meets c (join p l r))
+  needs_tree (join p l r) b w =
+      by_test (λ z. tree_meets c (join p l r) ≡ z
+      → cond z (IfSome (a p) (λ d. d ≡ tree_digest s.hashing X (join p l r)) × HonestTree s.hashing a c X l × HonestTree s.hashing a c X r)
+      (or_empty s.hashing (a p) ≡ tree_digest s.hashing X (join p l r))) (tree_meets c (join p l r))
       (λ _ e. let m = meets_some c (join p l r) e in let v = sub_left m.0 p l r m.2 (w.0 m.0 m.1 m.2) in (
         told_is (join p l r) b,
         needs_tree l b.4 ((λ i q x. (let y : tree_meets (only i) (join p l r) ≡ true = ap (λ z. z || tree_meets (only i) r) x in (sub_left i p l r y (w.0 i q y)).0)), (m.0, m.1, v.0)),
@@ -215,7 +228,8 @@ pub first_location : {D : Type 0} (es : List (ℕ × D)) → 0 < length es → (
 first_location [] l = absurd (omega arith)
 first_location (e ∷ es) l = (e.0, inl refl)
 
-module _ {D : Type 0} (s : Scheme D) (size max_nodes : ℕ) (sound : IsLawfulScheme s size max_nodes) (xs : List D) (k : ℕ) (few : length xs ≤ s.max_leaves) (low : k ≤ length (peaks_of s.rule (length xs))) (r : MultiInput D) where
+module _ {D : Type 0} (s : Scheme D) (size max_nodes : ℕ) (sound : IsLawfulScheme s size max_nodes) (xs : List D) (k : ℕ)
+    (few : length xs ≤ s.max_leaves) (low : k ≤ length (peaks_of s.rule (length xs))) (r : MultiInput D) where
   same_length : length (leaves_in r) ≡ length (locations_in r)
   same_length = length-map r.elements _ ∙ sym (length-map r.elements _)
 
@@ -232,8 +246,10 @@ module _ {D : Type 0} (s : Scheme D) (size max_nodes : ℕ) (sound : IsLawfulSch
       let b1 = small_inactive s max_nodes r.leaves r.inactive sound.lawful ok.leaves ok.inactive in
       let b2 = small_inactive s max_nodes (length xs) k sound.lawful few low in
       let holds : Holds s.hashing (multi_on s r p.0) = subst (λ o. AllHolds s (option_map (multi_on s r) o)) p.1 ok.redundant in
-      ⊎_elim (λ w. ⊎_elim (λ v. inl (honest w.0 w.1 p.0 p.1 v.0 v.1 ok)) (λ v. inr (below_root s size sound.bytes (leaf_of s.hashing xs) (multi_on s r) r.leaves (length xs) r.inactive k a1 a2 b1 b2 p.0 p.1 w.0 w.1 v))
-      (no_other_multi s.hashing sound.laws (digest_for (multi_positions s.rule r.leaves (locations_in r)) r.digests) (λ i. list_any (nat_eq i) (locations_in r)) (leaf_of s.hashing xs) Y p.0 holds w.2)) inr
+      ⊎_elim (λ w. ⊎_elim (λ v. inl (honest w.0 w.1 p.0 p.1 v.0 v.1 ok))
+      (λ v. inr (below_root s size sound.bytes (leaf_of s.hashing xs) (multi_on s r) r.leaves (length xs) r.inactive k a1 a2 b1 b2 p.0 p.1 w.0 w.1 v))
+      (no_other_multi s.hashing sound.laws (digest_for (multi_positions s.rule r.leaves (locations_in r)) r.digests)
+      (λ i. list_any (nat_eq i) (locations_in r)) (leaf_of s.hashing xs) Y p.0 holds w.2)) inr
       (roots s size sound.bytes (leaf_of s.hashing xs) (multi_on s r) r.leaves (length xs) r.inactive k a1 a2 b1 b2 pos p.0 p.1 ok.root_is)
     where
       honest : r.leaves ≡ length xs → r.inactive ≡ k → (p : Plan) → root_plan s.bagging r.inactive (peaks_of s.rule r.leaves) ≡ Some p
@@ -251,11 +267,13 @@ module _ {D : Type 0} (s : Scheme D) (size max_nodes : ℕ) (sound : IsLawfulSch
             digests = listed (multi_positions s.rule (length xs) (locations_in r)) r.digests (digest_at_position s xs) (distinct_positions s xs (locations_in r))
                 (subst (λ m. length r.digests ≡ length (multi_positions s.rule m (locations_in r))) e ok.counts)
                 (told_listed s xs (locations_in r) (digest_for (multi_positions s.rule (length xs) (locations_in r)) r.digests)
-                (subst (λ m. AllByRecursion (TellsTree s.hashing (digest_for (multi_positions s.rule m (locations_in r)) r.digests) (λ i. list_any (nat_eq i) (locations_in r)) (leaf_of s.hashing xs)) (peaks_of s.rule m)) e peaks));
+                (subst (λ m. AllByRecursion (TellsTree s.hashing (digest_for (multi_positions s.rule m (locations_in r)) r.digests)
+                (λ i. list_any (nat_eq i) (locations_in r)) (leaf_of s.hashing xs)) (peaks_of s.rule m)) e peaks));
             elements = listed (locations_in r) (leaves_in r) (leaf_of s.hashing xs) (ascends_distinct 0 (locations_in r) ok.ascend) same_length
                 (λ i m. (let v = covers s r.leaves i (all_member (λ i. i < r.leaves) (locations_in r) i ok.below m) in
                 told_some s.hashing.empty (digest_for (locations_in r) (leaves_in r) i) (leaf_of s.hashing xs i)
-                (same_in (λ i. list_any (nat_eq i) (locations_in r)) (leaf_of s.hashing xs) Y v.0 i (all_member _ (peaks_of s.rule r.leaves) v.0 trees v.1) v.2 (in_chosen s xs (locations_in r) i m))));
+                (same_in (λ i. list_any (nat_eq i) (locations_in r)) (leaf_of s.hashing xs) Y v.0 i
+                (all_member _ (peaks_of s.rule r.leaves) v.0 trees v.1) v.2 (in_chosen s xs (locations_in r) i m))));
           }
 
   honest_multi : IsHonestMultiSome s xs k r → AcceptsMultiSome s r (plan_root s xs k)
@@ -265,12 +283,16 @@ module _ {D : Type 0} (s : Scheme D) (size max_nodes : ℕ) (sound : IsLawfulSch
       let pos : 0 < r.leaves = omega (arith, some_leaves (length xs) r.elements w.nonempty w.below, back) in
       let p = plan_for s r.leaves r.inactive pos in
       let one = first_location r.elements w.nonempty in
-      let trees : AllByRecursion (HonestTree s.hashing (digest_for (multi_positions s.rule r.leaves (locations_in r)) r.digests) (λ i. list_any (nat_eq i) (locations_in r)) (leaf_of s.hashing xs)) (peaks_of s.rule r.leaves) =
-      subst (λ m. AllByRecursion (HonestTree s.hashing (digest_for (multi_positions s.rule m (locations_in r)) r.digests) (λ i. list_any (nat_eq i) (locations_in r)) (leaf_of s.hashing xs)) (peaks_of s.rule m)) back
-      (subst (λ ds. AllByRecursion (HonestTree s.hashing (digest_for (multi_positions s.rule (length xs) (locations_in r)) ds) (λ i. list_any (nat_eq i) (locations_in r)) (leaf_of s.hashing xs)) (peaks_of s.rule (length xs))) (sym w.digests)
+      let trees : AllByRecursion (HonestTree s.hashing (digest_for (multi_positions s.rule r.leaves (locations_in r)) r.digests)
+      (λ i. list_any (nat_eq i) (locations_in r)) (leaf_of s.hashing xs)) (peaks_of s.rule r.leaves) =
+      subst (λ m. AllByRecursion (HonestTree s.hashing (digest_for (multi_positions s.rule m (locations_in r)) r.digests)
+      (λ i. list_any (nat_eq i) (locations_in r)) (leaf_of s.hashing xs)) (peaks_of s.rule m)) back
+      (subst (λ ds. AllByRecursion (HonestTree s.hashing (digest_for (multi_positions s.rule (length xs) (locations_in r)) ds)
+      (λ i. list_any (nat_eq i) (locations_in r)) (leaf_of s.hashing xs)) (peaks_of s.rule (length xs))) (sym w.digests)
       (needs_peaks s xs (locations_in r) one.0 one.1)) in
       let agrees : (i : ℕ) → list_any (nat_eq i) (locations_in r) ≡ true → Y i ≡ leaf_of s.hashing xs i =
-      λ i q. ap (λ ds. unwrap_or (digest_for (locations_in r) ds i) s.hashing.empty) w.elements ∙ ap (λ o. unwrap_or o s.hashing.empty) (listed_some (locations_in r) (leaf_of s.hashing xs) i (chosen_in s xs (locations_in r) i q)) in
+      λ i q. ap (λ ds. unwrap_or (digest_for (locations_in r) ds i) s.hashing.empty) w.elements
+      ∙ ap (λ o. unwrap_or o s.hashing.empty) (listed_some (locations_in r) (leaf_of s.hashing xs) i (chosen_in s xs (locations_in r) i q)) in
       let v = honest_multi_accepted s.hashing (digest_for (multi_positions s.rule r.leaves (locations_in r)) r.digests) (λ i. list_any (nat_eq i) (locations_in r)) (leaf_of s.hashing xs) Y p.0 agrees
       (each_honest s.hashing _ _ _ p.0 (of_each _ s.bagging r.inactive (peaks_of s.rule r.leaves) p.0 p.1 trees)) in
       record {

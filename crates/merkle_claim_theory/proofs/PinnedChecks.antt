@@ -1,5 +1,7 @@
 -- The pinned check: the honest inputs are accepted, and no others, but for collisions.
-use Rattle.std.proofs.Common.{◌≡◌, ℕ, zero, suc, Bool, true, false, cond, ◌||◌, nat_le, leb-true, ◌+◌, ◌-◌, ◌≤◌, ◌<◌, List, [], ◌∷◌, ◌++◌, ◌⊎◌, inl, inr, refl, ap, ap₂, sym, ◌∙◌, subst, ⊎_elim, arith, length, map, flat_map, take, drop, reverse, Option, Some, None, option_map, IfSome, MatchOption, slice_get}
+use Rattle.std.proofs.Common.{◌≡◌, ℕ, zero, suc, Bool, true, false, cond, ◌||◌, nat_le, leb-true, ◌+◌, ◌-◌, ◌≤◌, ◌<◌, List, [], ◌∷◌, ◌++◌, ◌⊎◌, inl, inr, refl}
+use Rattle.std.proofs.Common.{ap, ap₂, sym, ◌∙◌, subst, ⊎_elim, arith, length, map, flat_map, take, drop, reverse, Option, Some, None, option_map, IfSome}
+use Rattle.std.proofs.Common.{MatchOption, slice_get}
 use Rattle.std.specs.List.{AllByRecursion}
 use Rattle.std.proofs.lemmas.Bool.{ne_eqb, cases_Bool, cases_lt, false≢true}
 use Rattle.std.proofs.Math.Seq.{take-nil}
@@ -39,7 +41,8 @@ use Rattle.merkle_root_theory.proofs.ListRoots.{digests_are}
 use Rattle.merkle_root_theory.proofs.HonestInputs.{range_of_some, range_of_cases, cases_of_range}
 use Rattle.merkle_root_theory.proofs.RangeDigests.{range_digests_are, digest_count_is}
 use Rattle.merkle_claim_theory.specs.Multiproof.{AllHolds}
-use Rattle.merkle_claim_theory.proofs.ListedDigests.{filtered_member, EachPeak, each_left_fold, left_fold_each, all_cut, listed, listed_is, listed_some, each_of, plan_for, roots, below_root, roots_same, no_other_list}
+use Rattle.merkle_claim_theory.proofs.ListedDigests.{filtered_member, EachPeak, each_left_fold, left_fold_each, all_cut, listed, listed_is, listed_some}
+use Rattle.merkle_claim_theory.proofs.ListedDigests.{each_of, plan_for, roots, below_root, roots_same, no_other_list}
 use Rattle.merkle_claim_theory.proofs.Multiproofs.{all_member, member_all, told_some, if_some}
 use Rattle.merkle_claim_theory.proofs.ToldDigests.{pins_trees_append, pins_all_append, no_other_pins}
 use Rattle.merkle_claim_theory.proofs.HonestTold.{trees_left, plans_left, honest_pins_accepted}
@@ -118,7 +121,8 @@ module _ {D : Type 0} (s : Scheme D) (n start : ℕ) (l : start ≤ n) where
       let u' : IsUnder u (join p a b) = inr under in
       let f1 = first_under ns u (join p a b) u' built in
       let f2 = end_under ns u (join p a b) u' built in
-      let e : u ≡ v.0 = same_at 0 start (first_leaf u) (peaks_of s.rule start) u v.0 (peaks_spans s.rule start) m v.1 (omega arith) (omega (arith, width_pos u)) (omega (arith, f1, ap first_leaf same)) (omega (arith, f2, width_pos u, ap end_leaf same)) in
+      let e : u ≡ v.0 = same_at 0 start (first_leaf u) (peaks_of s.rule start) u v.0 (peaks_spans s.rule start) m v.1 (omega arith)
+      (omega (arith, width_pos u)) (omega (arith, f1, ap first_leaf same)) (omega (arith, f2, width_pos u, ap end_leaf same)) in
       let q : position u ≡ p = ap position e ∙ v.2 in
       ⊎_elim (λ x. absurd (omega (arith, position_under ns u a x built.4, built.1, q))) (λ x. absurd (omega (arith, position_under ns u b x built.5, built.2, q))) under
 
@@ -201,7 +205,9 @@ module _ {D : Type 0} (s : Scheme D) (n start e : ℕ) (l : start ≤ n) (more :
         pins_below t u (one.0 (old_met t built (omega (arith, first_under nodes u t x built, pin_end u m, width_pos u)))) built x m
 
     pub walk : (t u : Tree) → PinsTrees s.hashing b w X (siblings c t) → IsBuilt nodes t → IsUnder u t → Member (peaks_of s.rule start) u → Right u
-    walk (leaf p i) u v built x m = ⊎_elim (λ q. absurd (old_unmet (leaf p i) built (subst (λ z. end_leaf z ≤ start) x (pin_end u m)) q)) (λ q. walk_unmet (leaf p i) u v built x m q) (cases_Bool (tree_meets c (leaf p i)))
+    walk (leaf p i) u v built x m =
+        ⊎_elim (λ q. absurd (old_unmet (leaf p i) built (subst (λ z. end_leaf z ≤ start) x (pin_end u m)) q))
+        (λ q. walk_unmet (leaf p i) u v built x m q) (cases_Bool (tree_meets c (leaf p i)))
     walk (join p a a') u v built x m = ⊎_elim
         (λ q. let z = trees_left s.hashing b X w (siblings c a) (siblings c a') (subst (PinsTrees s.hashing b w X) (siblings_join c p a a' q) v) in
         ⊎_elim (λ y. absurd (old_unmet (join p a a') built (subst (λ z. end_leaf z ≤ start) y (pin_end u m)) q))
@@ -227,7 +233,8 @@ module _ {D : Type 0} (s : Scheme D) (n start e : ℕ) (l : start ≤ n) (more :
 
   pin_left : (p : ℕ) (a a' : Tree) (i : ℕ) → IsBuilt nodes (join p a a') → InTree a i → (v : PinAt (join p a a') i) → (v.0 ≡ join p a a' → ⊥) → PinAt a i
   pin_left p a a' i built m v other = ⊎_elim (λ x. absurd (other x)) (⊎_elim (λ x. (v.0, v.1, x, v.3))
-      (λ x. let i1 = tree_in nodes v.0 i (pin_built s n start l v.0 v.1) v.3 in let i2 = tree_in nodes a i built.4 m in absurd (omega (arith, first_under nodes v.0 a' x built.5, i1.0, i2.1, built.3)))) v.2
+      (λ x. let i1 = tree_in nodes v.0 i (pin_built s n start l v.0 v.1) v.3 in let i2 = tree_in nodes a i built.4 m in
+      absurd (omega (arith, first_under nodes v.0 a' x built.5, i1.0, i2.1, built.3)))) v.2
 
   pin_right : (p : ℕ) (a a' : Tree) (i : ℕ) → IsBuilt nodes (join p a a') → InTree a' i → (v : PinAt (join p a a') i) → (v.0 ≡ join p a a' → ⊥) → PinAt a' i
   pin_right p a a' i built m v other = ⊎_elim (λ x. absurd (other x)) (⊎_elim
@@ -248,15 +255,20 @@ module _ {D : Type 0} (s : Scheme D) (n start e : ℕ) (l : start ≤ n) (more :
   honest_unmet t built v q = subst (PinsTrees s.hashing hb w X) (sym (siblings_unmet c t q)) ((λ z. pins_tree t built (λ i m. v i (before z i m) m)), tt)
     where
       before : tree_meets w t ≡ true → (i : ℕ) → InTree t i → i < start
-      before z i m = ⊎_elim (λ x. ⊎_elim (λ y. absurd (false≢true (sym q ∙ meets_yes start e nodes t built (omega (arith, y, more)) x more))) (λ y. absurd (false≢true (sym (meets_not 0 start nodes t built (inr y)) ∙ z))) (cases_lt (first_leaf t) start))
+      before z i m = ⊎_elim (λ x. ⊎_elim (λ y. absurd (false≢true (sym q ∙ meets_yes start e nodes t built (omega (arith, y, more)) x more)))
+          (λ y. absurd (false≢true (sym (meets_not 0 start nodes t built (inr y)) ∙ z))) (cases_lt (first_leaf t) start))
           (λ x. omega (arith, x, (tree_in nodes t i built m).1)) (cases_lt start (end_leaf t))
 
   honest_walk : (t : Tree) → IsBuilt nodes t → ((i : ℕ) → i < start → InTree t i → PinAt t i) → PinsTrees s.hashing hb w X (siblings c t)
-  honest_walk (leaf p i) built v = ⊎_elim (λ q. subst (λ z. PinsTrees s.hashing hb w X (cond z [] (leaf p i ∷ []))) (sym q) tt) (λ q. honest_unmet (leaf p i) built v q) (cases_Bool (tree_meets c (leaf p i)))
+  honest_walk (leaf p i) built v =
+      ⊎_elim (λ q. subst (λ z. PinsTrees s.hashing hb w X (cond z [] (leaf p i ∷ []))) (sym q) tt) (λ q. honest_unmet (leaf p i) built v q)
+      (cases_Bool (tree_meets c (leaf p i)))
   honest_walk (join p a a') built v = ⊎_elim
       (λ q. subst (PinsTrees s.hashing hb w X) (sym (siblings_join c p a a' q)) (pins_trees_append s.hashing hb X w (siblings c a) (siblings c a')
-      (honest_walk a built.4 (λ i x m. pin_left p a a' i built m (v i x (inl m)) (λ z. old_unmet (join p a a') built (subst (λ y. end_leaf y ≤ start) z (pin_end (v i x (inl m)).0 (v i x (inl m)).1)) q)))
-      (honest_walk a' built.5 (λ i x m. pin_right p a a' i built m (v i x (inr m)) (λ z. old_unmet (join p a a') built (subst (λ y. end_leaf y ≤ start) z (pin_end (v i x (inr m)).0 (v i x (inr m)).1)) q)))))
+      (honest_walk a built.4 (λ i x m. pin_left p a a' i built m (v i x (inl m))
+      (λ z. old_unmet (join p a a') built (subst (λ y. end_leaf y ≤ start) z (pin_end (v i x (inl m)).0 (v i x (inl m)).1)) q)))
+      (honest_walk a' built.5 (λ i x m. pin_right p a a' i built m (v i x (inr m))
+      (λ z. old_unmet (join p a a') built (subst (λ y. end_leaf y ≤ start) z (pin_end (v i x (inr m)).0 (v i x (inr m)).1)) q)))))
       (λ q. honest_unmet (join p a a') built v q) (cases_Bool (tree_meets c (join p a a')))
 
   -- each peak of the whole forest
@@ -296,7 +308,8 @@ module _ {D : Type 0} (h : Hashing D) (b : ℕ → Option D) (X : ℕ → D) whe
     unpack ForwardFold k before over after m v = unpack_folded before m (plans_left h b X w (fold_all before) _ v).0
     unpack BackwardFold k before over after m v =
         let z = plans_left h b X w (fold_all (take k before)) _ v in
-        all_cut (PinsTree h b X) k before (unpack_folded (take k before) (all_take IsMet k before m) z.0) (unpack_single (drop k before) (all_drop IsMet k before m) (plans_left h b X w (map peak (drop k before)) _ z.1).0)
+        all_cut (PinsTree h b X) k before (unpack_folded (take k before) (all_take IsMet k before m) z.0)
+        (unpack_single (drop k before) (all_drop IsMet k before m) (plans_left h b X w (map peak (drop k before)) _ z.1).0)
 
     pack_folded : (ts : List Tree) → AllByRecursion (PinsTree h b X) ts → PinsAll h b w X (fold_all ts)
     pack_folded [] v = tt
@@ -341,7 +354,9 @@ module _ {D : Type 0} (s : Scheme D) (n start e : ℕ) (l : start ≤ n) (more :
   before_end t m = leb-true (end_leaf t) start (filtered_member (λ t. nat_le (end_leaf t) start) ts t m).1
 
   before_met : AllByRecursion (λ t. tree_meets (in_range 0 start) t ≡ true) (wholly_before start ts)
-  before_met = member_all _ (wholly_before start ts) (λ t m. old_met s n start e l more X t (all_member _ ts t (peaks_built s.rule n) (filtered_member (λ t. nat_le (end_leaf t) start) ts t m).0) (omega (arith, before_end t m, width_pos t)))
+  before_met = member_all _ (wholly_before start ts)
+      (λ t m. old_met s n start e l more X t (all_member _ ts t (peaks_built s.rule n) (filtered_member (λ t. nat_le (end_leaf t) start) ts t m).0)
+      (omega (arith, before_end t m, width_pos t)))
 
   after_unmet : (us : List Tree) → AllByRecursion (IsBuilt (forest s.rule n).nodes) us → Unmet (in_range 0 start) (wholly_after e us)
   after_unmet [] h = tt
@@ -354,9 +369,12 @@ module _ {D : Type 0} (s : Scheme D) (n start e : ℕ) (l : start ≤ n) (more :
 
   -- where the parts before the range are rebuilt to the list's digests the pins are the list's
   pub pins_are : (bagging : Bagging) (k : ℕ) (pins : List D) → e ≤ n → length pins ≡ length (peaks_of s.rule start)
-      → PinsAll s.hashing (digest_for (pin_positions s start) pins) (in_range 0 start) X (range_parts bagging k start e ts) → PinsTrees s.hashing (digest_for (pin_positions s start) pins) (in_range 0 start) X (range_siblings start e ts)
+      → PinsAll s.hashing (digest_for (pin_positions s start) pins) (in_range 0 start) X (range_parts bagging k start e ts)
+      → PinsTrees s.hashing (digest_for (pin_positions s start) pins) (in_range 0 start) X (range_siblings start e ts)
       → pins ≡ map (tree_digest s.hashing X) (peaks_of s.rule start)
-  pins_are bagging k pins far long v z = listed (pin_positions s start) pins (f s n start e l more X) (distinct_pins s n start l) (long ∙ sym (length-map (peaks_of s.rule start) position)) right ∙ map_positions (peaks_of s.rule start) (λ u m. pin_built s n start l u m)
+  pins_are bagging k pins far long v z =
+      listed (pin_positions s start) pins (f s n start e l more X) (distinct_pins s n start l)
+      (long ∙ sym (length-map (peaks_of s.rule start) position)) right ∙ map_positions (peaks_of s.rule start) (λ u m. pin_built s n start l u m)
     where
       b : ℕ → Option D
       b = digest_for (pin_positions s start) pins
@@ -368,12 +386,21 @@ module _ {D : Type 0} (s : Scheme D) (n start e : ℕ) (l : start ≤ n) (more :
       trees = unpack s.hashing (digest_for (pin_positions s start) pins) X (in_range 0 start) bagging k (wholly_before start ts) (overlapping start e ts) (wholly_after e ts) before_met v
 
       -- of a peak with a pin under it
-      part : (t u : Tree) → Member ts t → Member (peaks_of s.rule start) u → IsUnder u t → PinsTrees s.hashing (digest_for (pin_positions s start) pins) (in_range 0 start) X (siblings (in_range start e) t)
+      part : (t u : Tree) → Member ts t → Member (peaks_of s.rule start) u → IsUnder u t
+          → PinsTrees s.hashing (digest_for (pin_positions s start) pins) (in_range 0 start) X (siblings (in_range start e) t)
       part t u m q x = ⊎_elim
-          (λ y. subst (PinsTrees s.hashing (digest_for (pin_positions s start) pins) (in_range 0 start) X) (sym (siblings_unmet (in_range start e) t (meets_not start e _ t built (inl (before_end t y)))))
+          (λ y. subst (PinsTrees s.hashing (digest_for (pin_positions s start) pins) (in_range 0 start) X)
+          (sym (siblings_unmet (in_range start e) t (meets_not start e _ t built (inl (before_end t y)))))
           ((λ _. all_member _ (wholly_before start ts) t trees y), tt))
           (λ y. ⊎_elim (λ o. siblings_of s.hashing (digest_for (pin_positions s start) pins) X (in_range 0 start) (in_range start e) (overlapping start e ts) t o z)
-          (λ o. absurd (omega (arith, leb-true e (first_leaf t) (filtered_member (λ t. nat_le e (first_leaf t)) ts t o).1, first_under _ u t x built, pin_end s n start e l more X u q, width_pos u, more)))
+          (λ o. absurd (omega (
+            arith,
+            leb-true e (first_leaf t) (filtered_member (λ t. nat_le e (first_leaf t)) ts t o).1,
+            first_under _ u t x built,
+            pin_end s n start e l more X u q,
+            width_pos u,
+            more,
+          )))
           (member_split (overlapping start e ts) (wholly_after e ts) t y))
           (member_split (wholly_before start ts) (overlapping start e ts ++ wholly_after e ts) t (subst (λ us. Member us t) split m))
         where
@@ -395,14 +422,19 @@ module _ {D : Type 0} (s : Scheme D) (n start e : ℕ) (l : start ≤ n) (more :
 
   -- the list's pins rebuild them
   pub pins_rebuild : (bagging : Bagging) (k : ℕ) (pins : List D) → e ≤ n → pins ≡ map (tree_digest s.hashing X) (peaks_of s.rule start)
-      → PinsAll s.hashing (digest_for (pin_positions s start) pins) (in_range 0 start) X (range_parts bagging k start e ts) × PinsTrees s.hashing (digest_for (pin_positions s start) pins) (in_range 0 start) X (range_siblings start e ts)
+      → PinsAll s.hashing (digest_for (pin_positions s start) pins) (in_range 0 start) X (range_parts bagging k start e ts)
+      × PinsTrees s.hashing (digest_for (pin_positions s start) pins) (in_range 0 start) X (range_siblings start e ts)
   pins_rebuild bagging k pins far q =
       let same : map (f s n start e l more X) (pin_positions s start) ≡ pins = map_positions (peaks_of s.rule start) (λ u m. pin_built s n start l u m) ∙ sym q in
       let all : AllByRecursion (λ t. PinsTrees s.hashing (digest_for (pin_positions s start) pins) (in_range 0 start) X (siblings (in_range start e) t)) ts =
-      subst (λ ds. AllByRecursion (λ t. PinsTrees s.hashing (digest_for (pin_positions s start) ds) (in_range 0 start) X (siblings (in_range start e) t)) ts) same (honest_peaks s n start e l more X) in (
+      subst (λ ds. AllByRecursion (λ t. PinsTrees s.hashing (digest_for (pin_positions s start) ds) (in_range 0 start) X
+      (siblings (in_range start e) t)) ts) same (honest_peaks s n start e l more X) in (
         pack s.hashing (digest_for (pin_positions s start) pins) X (in_range 0 start) bagging k (wholly_before start ts) (overlapping start e ts) (wholly_after e ts)
-            (member_all _ (wholly_before start ts) (λ t m. let m' = (filtered_member (λ t. nat_le (end_leaf t) start) ts t m).0 in let built = all_member (IsBuilt (forest s.rule n).nodes) ts t (peaks_built s.rule n) m' in
-            (subst (PinsTrees s.hashing (digest_for (pin_positions s start) pins) (in_range 0 start) X) (siblings_unmet (in_range start e) t (meets_not start e _ t built (inl (before_end t m)))) (all_member _ ts t all m')).0
+            (member_all _ (wholly_before start ts)
+            (λ t m. let m' = (filtered_member (λ t. nat_le (end_leaf t) start) ts t m).0 in let built =
+            all_member (IsBuilt (forest s.rule n).nodes) ts t (peaks_built s.rule n) m' in
+            (subst (PinsTrees s.hashing (digest_for (pin_positions s start) pins) (in_range 0 start) X)
+            (siblings_unmet (in_range start e) t (meets_not start e _ t built (inl (before_end t m)))) (all_member _ ts t all m')).0
             (all_member _ (wholly_before start ts) t before_met m))) (after_unmet ts (peaks_built s.rule n)),
         of_siblings s.hashing (digest_for (pin_positions s start) pins) X (in_range 0 start) (in_range start e) (overlapping start e ts) (all_filter _ _ ts all),
       )
@@ -413,7 +445,8 @@ module _ {D : Type 0} (s : Scheme D) (xs : List D) (start : ℕ) (l : start ≤ 
   same_tree (leaf p i) b e = get_or-take start xs i s.hashing.empty (omega arith)
   same_tree (join p a a') b e = ap₂ (s.hashing.node p) (same_tree a b.4 (omega (arith, e, b.3))) (same_tree a' b.5 (omega (arith, e, b.3)))
 
-  same_map : (us : List Tree) → AllByRecursion (IsBuilt (forest s.rule start).nodes) us → ((u : Tree) → Member us u → end_leaf u ≤ start) → map (tree_digest s.hashing (leaf_of s.hashing (take start xs))) us ≡ map (tree_digest s.hashing (leaf_of s.hashing xs)) us
+  same_map : (us : List Tree) → AllByRecursion (IsBuilt (forest s.rule start).nodes) us → ((u : Tree) → Member us u → end_leaf u ≤ start)
+      → map (tree_digest s.hashing (leaf_of s.hashing (take start xs))) us ≡ map (tree_digest s.hashing (leaf_of s.hashing xs)) us
   same_map [] b f = refl
   same_map (u ∷ us) b f = ap₂ (λ x y. x ∷ y) (same_tree u b.0 (f u (inl refl))) (same_map us b.1 (λ v m. f v (inr m)))
 
@@ -440,7 +473,8 @@ each_in_plan : (P : ℕ → Type 0) (p : Plan) → ((i : ℕ) → InPlan p i →
 each_in_plan P (peak t) g = g
 each_in_plan P (folding place l r) g = (each_in_plan P l (λ i m. g i (inl m)), each_in_plan P r (λ i m. g i (inr m)))
 
-module _ {D : Type 0} (s : Scheme D) (size max_nodes : ℕ) (sound : IsLawfulScheme s size max_nodes) (xs : List D) (k : ℕ) (few : length xs ≤ s.max_leaves) (low : k ≤ length (peaks_of s.rule (length xs))) (r : RangeInput D) (pins : List D) where
+module _ {D : Type 0} (s : Scheme D) (size max_nodes : ℕ) (sound : IsLawfulScheme s size max_nodes) (xs : List D) (k : ℕ)
+    (few : length xs ≤ s.max_leaves) (low : k ≤ length (peaks_of s.rule (length xs))) (r : RangeInput D) (pins : List D) where
   abbrev Z : ℕ → D
   Z = leaf_of s.hashing xs
 
@@ -456,7 +490,8 @@ module _ {D : Type 0} (s : Scheme D) (size max_nodes : ℕ) (sound : IsLawfulSch
   layout_at ok p q = subst (HasLayout (chosen r) (range_parts s.bagging r.inactive r.start (end_of r) (peaks_of s.rule r.leaves)) (range_siblings r.start (end_of r) (peaks_of s.rule r.leaves))) q
       (range_layout s r.leaves r.inactive r.start (end_of r) (omega (arith, ok.nonempty)) ok.within)
 
-  known_honest : (ok : AcceptsPinnedSome s r pins (plan_root s xs k)) → r.leaves ≡ length xs → r.inactive ≡ k → (p : Plan) → root_plan s.bagging r.inactive (peaks_of s.rule r.leaves) ≡ Some p → Known r p → IsHonestNonempty s xs k r × (pins ≡ honest_pins s xs r.start)
+  known_honest : (ok : AcceptsPinnedSome s r pins (plan_root s xs k)) → r.leaves ≡ length xs → r.inactive ≡ k → (p : Plan)
+      → root_plan s.bagging r.inactive (peaks_of s.rule r.leaves) ≡ Some p → Known r p → IsHonestNonempty s xs k r × (pins ≡ honest_pins s xs r.start)
   unfolding Known
   known_honest ok d g p q w =
       let lay = layout_at ok p q in
@@ -469,9 +504,11 @@ module _ {D : Type 0} (s : Scheme D) (size max_nodes : ℕ) (sound : IsLawfulSch
           leaves = d;
           inactive = g;
           digests = w.0 ∙ ap₂ (λ x y. map (plan_digest s.hashing Z) x ++ map (tree_digest s.hashing Z) y) lay.0 lay.1
-              ∙ ap₂ (λ x y. map (plan_digest s.hashing Z) (range_parts s.bagging x r.start (end_of r) (peaks_of s.rule y)) ++ map (tree_digest s.hashing Z) (range_siblings r.start (end_of r) (peaks_of s.rule y))) g d
+              ∙ ap₂ (λ x y. map (plan_digest s.hashing Z) (range_parts s.bagging x r.start (end_of r) (peaks_of s.rule y))
+              ++ map (tree_digest s.hashing Z) (range_siblings r.start (end_of r) (peaks_of s.rule y))) g d
               ∙ sym (range_digests_are s xs k r.start (end_of r));
-          elements = elements_are s xs r within (λ i a b. (let t = covers s r.leaves i (omega (arith, b, ok.within)) in all_member _ (peaks_of s.rule r.leaves) t.0 leaves t.1 i t.2 (is_chosen r i a b)));
+          elements = elements_are s xs r within
+              (λ i a b. (let t = covers s r.leaves i (omega (arith, b, ok.within)) in all_member _ (peaks_of s.rule r.leaves) t.0 leaves t.1 i t.2 (is_chosen r i a b)));
         },
         pins_are s r.leaves r.start (end_of r) (omega (arith, ok.within)) more Z s.bagging r.inactive pins ok.within ok.pinned
             (subst (PinsAll s.hashing bb (in_range 0 r.start) Z) lay.0 w.2) (subst (PinsTrees s.hashing bb (in_range 0 r.start) Z) lay.1 w.3)
@@ -489,8 +526,10 @@ module _ {D : Type 0} (s : Scheme D) (size max_nodes : ℕ) (sound : IsLawfulSch
       let b2 = small_inactive s max_nodes (length xs) k sound.lawful few low in
       let lay = layout_at ok p.0 p.1 in
       let holds : Holds s.hashing (pinned_on s r pins p.0) = subst (λ o. AllHolds s (option_map (pinned_on s r pins) o)) p.1 ok.rebuilt in
-      ⊎_elim (λ w. ⊎_elim (λ v. inl (known_honest ok w.0 w.1 p.0 p.1 v)) (λ v. inr (below_root s size sound.bytes Z (pinned_on s r pins) r.leaves (length xs) r.inactive k a1 a2 b1 b2 p.0 p.1 w.0 w.1 v))
-      (no_other_pins s.hashing sound.laws bb (in_range 0 r.start) (chosen r) Z (leaf_given s.hashing r) p.0 r.digests (ok.counts ∙ digest_count_is s r ∙ sym (ap₂ (λ x y. length x + length y) lay.0 lay.1)) holds w.2)) inr
+      ⊎_elim (λ w. ⊎_elim (λ v. inl (known_honest ok w.0 w.1 p.0 p.1 v))
+      (λ v. inr (below_root s size sound.bytes Z (pinned_on s r pins) r.leaves (length xs) r.inactive k a1 a2 b1 b2 p.0 p.1 w.0 w.1 v))
+      (no_other_pins s.hashing sound.laws bb (in_range 0 r.start) (chosen r) Z (leaf_given s.hashing r) p.0 r.digests
+      (ok.counts ∙ digest_count_is s r ∙ sym (ap₂ (λ x y. length x + length y) lay.0 lay.1)) holds w.2)) inr
       (roots s size sound.bytes Z (pinned_on s r pins) r.leaves (length xs) r.inactive k a1 a2 b1 b2 pos p.0 p.1 ok.root_is)
 
   honest_pinned : IsHonestNonempty s xs k r → pins ≡ honest_pins s xs r.start → AcceptsPinnedSome s r pins (plan_root s xs k)
@@ -499,14 +538,17 @@ module _ {D : Type 0} (s : Scheme D) (size max_nodes : ℕ) (sound : IsLawfulSch
       let more : r.start < end_of r = omega (arith, w.nonempty) in
       let pos : 0 < r.leaves = omega (arith, plain.nonempty, plain.within) in
       let p = plan_for s r.leaves r.inactive pos in
-      let lay = subst (HasLayout (chosen r) (range_parts s.bagging r.inactive r.start (end_of r) (peaks_of s.rule r.leaves)) (range_siblings r.start (end_of r) (peaks_of s.rule r.leaves))) p.1 (range_layout s r.leaves r.inactive r.start (end_of r) more plain.within) in
+      let lay = subst (HasLayout (chosen r) (range_parts s.bagging r.inactive r.start (end_of r) (peaks_of s.rule r.leaves))
+      (range_siblings r.start (end_of r) (peaks_of s.rule r.leaves))) p.1 (range_layout s r.leaves r.inactive r.start (end_of r) more plain.within) in
       let ds : r.digests ≡ honest_digests s.hashing Z (chosen r) p.0 = w.digests ∙ range_digests_are s xs k r.start (end_of r)
-      ∙ ap₂ (λ x y. map (plan_digest s.hashing Z) (range_parts s.bagging x r.start (end_of r) (peaks_of s.rule y)) ++ map (tree_digest s.hashing Z) (range_siblings r.start (end_of r) (peaks_of s.rule y))) (sym w.inactive) (sym w.leaves)
+      ∙ ap₂ (λ x y. map (plan_digest s.hashing Z) (range_parts s.bagging x r.start (end_of r) (peaks_of s.rule y))
+      ++ map (tree_digest s.hashing Z) (range_siblings r.start (end_of r) (peaks_of s.rule y))) (sym w.inactive) (sym w.leaves)
       ∙ sym (ap₂ (λ x y. map (plan_digest s.hashing Z) x ++ map (tree_digest s.hashing Z) y) lay.0 lay.1) in
       let old = q ∙ honest_pins_are s xs r.start (omega (arith, w.within)) in
       let z = pins_rebuild s r.leaves r.start (end_of r) (omega (arith, plain.within)) more Z s.bagging r.inactive pins plain.within old in
       let v : Holds s.hashing (pinned_on s r pins p.0) × (value s.hashing (pinned_on s r pins p.0) ≡ plan_digest s.hashing Z p.0) =
-      subst (λ x. Holds s.hashing (pinned_of s.hashing bb (in_range 0 r.start) (chosen r) (leaf_given s.hashing r) p.0 x) × (value s.hashing (pinned_of s.hashing bb (in_range 0 r.start) (chosen r) (leaf_given s.hashing r) p.0 x) ≡ plan_digest s.hashing Z p.0)) (sym ds)
+      subst (λ x. Holds s.hashing (pinned_of s.hashing bb (in_range 0 r.start) (chosen r) (leaf_given s.hashing r) p.0 x)
+      × (value s.hashing (pinned_of s.hashing bb (in_range 0 r.start) (chosen r) (leaf_given s.hashing r) p.0 x) ≡ plan_digest s.hashing Z p.0)) (sym ds)
       (honest_pins_accepted s.hashing bb (in_range 0 r.start) (chosen r) Z (leaf_given s.hashing r) p.0 (honest_leaves s xs k r w)
       (subst (PinsAll s.hashing bb (in_range 0 r.start) Z) (sym lay.0) z.0) (subst (PinsTrees s.hashing bb (in_range 0 r.start) Z) (sym lay.1) z.1)) in
       record {

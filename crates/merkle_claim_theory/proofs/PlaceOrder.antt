@@ -1,5 +1,6 @@
 -- The places of a list's inputs are those of the table, in its order.
-use Rattle.std.proofs.Common.{◌≡◌, ℕ, suc, zero, pred, Bool, true, false, not, cond, nat_lt, ◌+◌, ◌-◌, List, [], ◌∷◌, ◌++◌, refl, ap, ap₂, sym, ◌∙◌, arith, length, map, take, drop, flat_map, filter, append_assoc, append-nil, lt-ltb, le-ltb, take-append-drop}
+use Rattle.std.proofs.Common.{◌≡◌, ℕ, suc, zero, pred, Bool, true, false, not, cond, nat_lt, ◌+◌, ◌-◌, List, [], ◌∷◌, ◌++◌, refl, ap, ap₂, sym, ◌∙◌, arith}
+use Rattle.std.proofs.Common.{length, map, take, drop, flat_map, filter, append_assoc, append-nil, lt-ltb, le-ltb, take-append-drop}
 use Rattle.std.proofs.lemmas.List.{map-append, length-drop, take_all, length-take-le}
 use Rattle.merkle_root_theory.specs.Expression.{Place, Join, PrefixFold, SuffixFold, Node, Input, Expression, computed, visited, inputs, is_node}
 use Rattle.merkle_base.specs.Hashing.{Hashing}
@@ -24,7 +25,8 @@ module _ {D : Type 0} (h : Hashing D) (X : ℕ → D) where
   nodes : Expression D → List Place
   nodes e = map (λ (i : Input D). i.place) (filter (λ (i : Input D). is_node i.place) (visited h e))
 
-  places_both : (t : Input D → Bool) (xs ys : List (Input D)) → map (λ (i : Input D). i.place) (filter t (xs ++ ys)) ≡ map (λ (i : Input D). i.place) (filter t xs) ++ map (λ (i : Input D). i.place) (filter t ys)
+  places_both : (t : Input D → Bool) (xs ys : List (Input D))
+      → map (λ (i : Input D). i.place) (filter t (xs ++ ys)) ≡ map (λ (i : Input D). i.place) (filter t xs) ++ map (λ (i : Input D). i.place) (filter t ys)
   places_both t xs ys = ap (map (λ (i : Input D). i.place)) (filter_append t xs ys) ∙ map-append (λ (i : Input D). i.place) (filter t xs) (filter t ys)
 
   folds_tree : (t : Tree) → folds (node_expression X t) ≡ []
@@ -63,7 +65,9 @@ module _ {D : Type 0} (h : Hashing D) (X : ℕ → D) where
 
   nodes_left_fold : (acc : Plan) (i : ℕ) (ts : List Tree) → nodes (plan_expression X (left_fold_plan acc i ts)) ≡ nodes (plan_expression X acc) ++ flat_map node_places ts
   nodes_left_fold acc i [] = sym (append-nil _)
-  nodes_left_fold acc i (t ∷ ts) = nodes_left_fold (folding (PrefixFold i) acc (peak t)) (suc i) ts ∙ ap (λ z. z ++ flat_map node_places ts) (nodes_prefix i _ _ ∙ ap (λ z. nodes (plan_expression X acc) ++ z) (nodes_tree t)) ∙ append_assoc _ (node_places t) (flat_map node_places ts)
+  nodes_left_fold acc i (t ∷ ts) = nodes_left_fold (folding (PrefixFold i) acc (peak t)) (suc i) ts
+      ∙ ap (λ z. z ++ flat_map node_places ts) (nodes_prefix i _ _ ∙ ap (λ z. nodes (plan_expression X acc) ++ z) (nodes_tree t))
+      ∙ append_assoc _ (node_places t) (flat_map node_places ts)
 
   nodes_right_fold : (i : ℕ) (t : Tree) (ts : List Tree) → nodes (plan_expression X (right_fold_plan i t ts)) ≡ flat_map node_places (t ∷ ts)
   nodes_right_fold i t [] = nodes_tree t ∙ sym (append-nil _)
@@ -112,7 +116,8 @@ flat_both (x ∷ xs) ys = ap (λ z. node_places x ++ z) (flat_both xs ys) ∙ sy
 module _ {D : Type 0} (h : Hashing D) (X : ℕ → D) (t : Tree) (n : ℕ) (ts : List Tree) where
   -- the order, with what is left of the peaks after the accumulator
   InOrder : List Tree → Type 0
-  InOrder rest = folds h X (plan_expression X (with_right_fold_plan (left_fold_plan (peak t) 1 (take n ts)) (suc n) rest)) ++ nodes h X (plan_expression X (with_right_fold_plan (left_fold_plan (peak t) 1 (take n ts)) (suc n) rest))
+  InOrder rest = folds h X (plan_expression X (with_right_fold_plan (left_fold_plan (peak t) 1 (take n ts)) (suc n) rest))
+      ++ nodes h X (plan_expression X (with_right_fold_plan (left_fold_plan (peak t) 1 (take n ts)) (suc n) rest))
       ≡ cond (nat_lt (suc n) (suc (length ts))) (Join ∷ (down n ++ up (suc n) (pred (suc (length ts) - suc n)))) (down (length ts)) ++ flat_map node_places (t ∷ ts)
 
   in_order : (rest : List Tree) → rest ≡ drop n ts → InOrder rest
@@ -128,10 +133,13 @@ module _ {D : Type 0} (h : Hashing D) (X : ℕ → D) (t : Tree) (n : ℕ) (ts :
       let rest : length us ≡ pred (suc (length ts) - suc n) = omega arith in
       ap₂ ◌++◌
       (folds_join h X _ _ ∙ ap₂ (λ a b. Join ∷ (a ++ b)) (folds_peaks h X t (take n ts) ∙ ap down short) (folds_right_fold h X (suc n) u us ∙ ap (up (suc n)) rest))
-      (nodes_join h X _ _ ∙ ap₂ ◌++◌ (nodes_peaks h X t (take n ts)) (nodes_right_fold h X (suc n) u us) ∙ sym (flat_both (t ∷ take n ts) (u ∷ us)) ∙ ap (λ z. flat_map node_places (t ∷ take n ts ++ z)) e ∙ ap (λ z. flat_map node_places (t ∷ z)) (take-append-drop n ts))
+      (nodes_join h X _ _ ∙ ap₂ ◌++◌ (nodes_peaks h X t (take n ts)) (nodes_right_fold h X (suc n) u us) ∙ sym (flat_both (t ∷ take n ts) (u ∷ us))
+      ∙ ap (λ z. flat_map node_places (t ∷ take n ts ++ z)) e ∙ ap (λ z. flat_map node_places (t ∷ z)) (take-append-drop n ts))
       ∙ ap (λ b. cond b (Join ∷ (down n ++ up (suc n) (pred (suc (length ts) - suc n)))) (down (length ts)) ++ flat_map node_places (t ∷ ts)) (sym (lt-ltb (suc n) (suc (length ts)) (omega arith)))
 
 pub places_in_order : {D : Type 0} → PlacesInOrder D
 unfolding InOrder
 places_in_order h X ForwardFold k t ts = places_inputs h X (plan_expression X (left_fold_plan (peak t) 1 ts)) ∙ ap₂ ◌++◌ (folds_peaks h X t ts) (nodes_peaks h X t ts)
-places_in_order h X BackwardFold k t ts = places_inputs h X (plan_expression X (with_right_fold_plan (left_fold_plan (peak t) 1 (take (pred k) ts)) (suc (pred k)) (drop (pred k) ts))) ∙ in_order h X t (pred k) ts (drop (pred k) ts) refl
+places_in_order h X BackwardFold k t ts =
+    places_inputs h X (plan_expression X (with_right_fold_plan (left_fold_plan (peak t) 1 (take (pred k) ts)) (suc (pred k)) (drop (pred k) ts)))
+    ∙ in_order h X t (pred k) ts (drop (pred k) ts) refl

@@ -1,5 +1,6 @@
 -- An honest range input has no collision.
-use Rattle.std.proofs.Common.{◌≡◌, ℕ, suc, zero, pred, Bool, true, false, cond, nat_lt, ◌-◌, List, [], ◌∷◌, ◌++◌, ◌⊎◌, inl, inr, refl, ap, ap₂, sym, ◌∙◌, subst, ⊎_elim, flat_map, Option, Some, None, option_map, MatchOption, length}
+use Rattle.std.proofs.Common.{◌≡◌, ℕ, suc, zero, pred, Bool, true, false, cond, nat_lt, ◌-◌, List, [], ◌∷◌, ◌++◌, ◌⊎◌, inl, inr, refl, ap, ap₂, sym, ◌∙◌, subst}
+use Rattle.std.proofs.Common.{⊎_elim, flat_map, Option, Some, None, option_map, MatchOption, length}
 use Rattle.merkle_root_theory.specs.Expression.{Place, Root, Join, Argument, Bytes, Input, Expression, value, inputs}
 use Rattle.merkle_base.specs.Hashing.{Hashing}
 use Rattle.merkle_root_theory.specs.Collision.{Member, Collision, Collides}
@@ -55,19 +56,22 @@ root_no_fold bagging k m w = let e : true ≡ false = folds_no_root bagging k m 
 pub root_no_node : (ts : List Tree) → Member (flat_map node_places ts) Root → ⊥
 root_no_node ts m = let e : false ≡ true = all_nodes_in ts Root m in cc
 
-pub no_root : {D : Type 0} (h : Hashing D) (X : ℕ → D) (bagging : Bagging) (k : ℕ) (ts : List Tree) (a : Argument D) → Member (inputs_of h (option_map (plan_expression X) (root_plan bagging k ts))) (record { place = Root; argument = a }) → ⊥
+pub no_root : {D : Type 0} (h : Hashing D) (X : ℕ → D) (bagging : Bagging) (k : ℕ) (ts : List Tree) (a : Argument D)
+    → Member (inputs_of h (option_map (plan_expression X) (root_plan bagging k ts))) (record { place = Root; argument = a }) → ⊥
 no_root h X ForwardFold k [] a m = m
 no_root h X BackwardFold k [] a m = m
 no_root h X bagging k (t ∷ ts) a m =
     let w = subst (λ z. Member z Root) (places_in_order h X bagging k t ts) (member_map (λ (i : Input _). i.place) _ _ m) in
     ⊎_elim (root_no_fold bagging k (suc (length ts))) (λ v. root_no_node (t ∷ ts) v) (member_split (fold_places bagging k (suc (length ts))) _ Root w)
 
-pub once_in : {D : Type 0} (h : Hashing D) (X : ℕ → D) (bagging : Bagging) (k : ℕ) (ts : List Tree) → Distinct (flat_map node_places ts) → IsMap (inputs_of h (option_map (plan_expression X) (root_plan bagging k ts)))
+pub once_in : {D : Type 0} (h : Hashing D) (X : ℕ → D) (bagging : Bagging) (k : ℕ) (ts : List Tree) → Distinct (flat_map node_places ts)
+    → IsMap (inputs_of h (option_map (plan_expression X) (root_plan bagging k ts)))
 once_in h X ForwardFold k [] d x y m n e = elim m [ ]
 once_in h X BackwardFold k [] d x y m n e = elim m [ ]
 once_in h X bagging k (t ∷ ts) d x y m n e = places_once h X bagging k t ts d x y m n e
 
-pub found_none : {D : Type 0} (h : Hashing D) (xs ys : List (Input D)) (o : Option (Collision D)) → MatchOption o ((c : Collision D) → Collides h xs ys c → ⊥) (λ c. IsFirstCollision h xs ys c) → ((c : Collision D) → Collides h xs ys c → ⊥) → o ≡ None
+pub found_none : {D : Type 0} (h : Hashing D) (xs ys : List (Input D)) (o : Option (Collision D))
+    → MatchOption o ((c : Collision D) → Collides h xs ys c → ⊥) (λ c. IsFirstCollision h xs ys c) → ((c : Collision D) → Collides h xs ys c → ⊥) → o ≡ None
 found_none h xs ys None m f = refl
 found_none h xs ys (Some c) m f = absurd (f c m.collides)
 
@@ -82,7 +86,8 @@ module _ {D : Type 0} (s : Scheme D) (X : ℕ → D) (r : RangeInput D) (same : 
       (subst (λ ds. Member (inputs s.hashing (claim_of s.hashing (chosen r) (leaf_given s.hashing r) p ds)) i) w m)
 
 -- a root and inputs below it against the same root string and a list's inputs
-pub no_collision : {D : Type 0} (h : Hashing D) (a b : List ℕ) (xs ys : List (Input D)) → a ≡ b → ((i : Input D) → Member xs i → Member ys i) → IsMap ys → ((z : Argument D) → Member ys (record { place = Root; argument = z }) → ⊥)
+pub no_collision : {D : Type 0} (h : Hashing D) (a b : List ℕ) (xs ys : List (Input D)) → a ≡ b → ((i : Input D) → Member xs i → Member ys i)
+    → IsMap ys → ((z : Argument D) → Member ys (record { place = Root; argument = z }) → ⊥)
     → (c : Collision D) → Collides h (record { place = Root; argument = Bytes a } ∷ xs) (record { place = Root; argument = Bytes b } ∷ ys) c → ⊥
 no_collision {D = D} h a b xs ys e sub once none c w = at_members w.claimed w.listed
   where
@@ -97,7 +102,8 @@ pub honest_has_no_collision : {D : Type 0} → HonestHasNoCollision D
 unfolding claim_for
 honest_has_no_collision s laws X n k once r honest =
     let same : (i : ℕ) → chosen r i ≡ true → leaf_given s.hashing r i ≡ X i = honest_leaf s X n k r honest in
-    let e : root_plan s.bagging r.inactive (peaks_of s.rule r.leaves) ≡ root_plan s.bagging k (peaks_of s.rule n) = ap₂ (λ x y. root_plan s.bagging x (peaks_of s.rule y)) honest.inactive honest.leaves in
+    let e : root_plan s.bagging r.inactive (peaks_of s.rule r.leaves) ≡ root_plan s.bagging k (peaks_of s.rule n) =
+    ap₂ (λ x y. root_plan s.bagging x (peaks_of s.rule y)) honest.inactive honest.leaves in
     let text : string_of s r.leaves r.inactive (range_expression s r) ≡ string_of s n k (list_expression s X n k) =
     ap (λ z. string_of s r.leaves r.inactive (claim_for s X r same z)) e
     ∙ ap (root_string s.hashing s.domain s.bagging r.leaves r.inactive) (honest_value s X r (root_plan s.bagging k (peaks_of s.rule n)) same honest.digests)

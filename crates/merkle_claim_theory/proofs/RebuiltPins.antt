@@ -1,5 +1,6 @@
 -- The pinned check is the range check and a comparison of what lies before the range with what the pins give.
-use Rattle.std.proofs.Common.{◌≡◌, ℕ, Bool, true, false, cond, ◌||◌, ◌+◌, ◌<◌, ◌≤◌, suc, List, [], ◌∷◌, ◌++◌, take, refl, ap, ap₂, sym, ◌∙◌, subst, arith, length, drop, Option, Some, None, option_map, drop-drop}
+use Rattle.std.proofs.Common.{◌≡◌, ℕ, Bool, true, false, cond, ◌||◌, ◌+◌, ◌<◌, ◌≤◌, suc, List, [], ◌∷◌, ◌++◌, take, refl, ap, ap₂, sym, ◌∙◌, subst, arith}
+use Rattle.std.proofs.Common.{length, drop, Option, Some, None, option_map, drop-drop}
 use Rattle.std.proofs.lemmas.Bool.{false≢true}
 use Rattle.std.proofs.lemmas.List.{length-take-le}
 use Rattle.merkle_base.proofs.Cases.{by_test}
@@ -92,12 +93,14 @@ module _ {D : Type 0} (h : Hashing D) (b : ℕ → Option D) (w : ℕ → Bool) 
     rebuilt_pinned_tree (join p l r) ds =
         let u = rebuilt_pinned_tree l ds in let v = rebuilt_pinned_tree r (drop (length (siblings c l)) ds) in
         by_test (λ y. Nodes (cond y (siblings c l ++ siblings c r) (join p l r ∷ [])) ds
-        → Holds h (cond y (computed (Node p) (pinned_tree h b w c X l ds) (pinned_tree h b w c X r (drop (length (siblings c l)) ds))) (outside_tree h b w (join p l r) (next h ds)))) (tree_meets c l || tree_meets c r)
+        → Holds h (cond y (computed (Node p) (pinned_tree h b w c X l ds) (pinned_tree h b w c X r (drop (length (siblings c l)) ds)))
+        (outside_tree h b w (join p l r) (next h ds)))) (tree_meets c l || tree_meets c r)
         (λ _ x. let y = rebuilt_split h (tree_meets w) (rebuilt_node h b) (siblings c l) (siblings c r) ds x in (u y.0, v y.1))
         (λ _ x. holds_given (tree_meets w (join p l r)) (next h ds) (pin_tree h b (join p l r)) (pin_tree_holds (join p l r)) x.0)
 
     -- ---- plans
-    pinned_rebuilt : (p : Plan) (os is : List D) → Holds h (pinned_claim h b w c X p os is) → Parts (outside_parts c p) os × Nodes (path_siblings c p) is × (value h (pinned_claim h b w c X p os is) ≡ value h (claim h c X p os is))
+    pinned_rebuilt : (p : Plan) (os is : List D) → Holds h (pinned_claim h b w c X p os is) → Parts (outside_parts c p) os
+        × Nodes (path_siblings c p) is × (value h (pinned_claim h b w c X p os is) ≡ value h (claim h c X p os is))
     pinned_rebuilt (peak t) os is =
         let u = pinned_tree_rebuilt t is in
         by_test (λ y. Holds h (cond y (pinned_tree h b w c X t is) (outside_plan h b w (peak t) (next h os))) → Parts (cond y [] (peak t ∷ [])) os × Nodes (cond y (siblings c t) []) is
@@ -106,10 +109,16 @@ module _ {D : Type 0} (h : Hashing D) (b : ℕ → Option D) (w : ℕ → Bool) 
         (λ _ x. let g = given_holds (meets w (peak t)) (next h os) (pin_plan h b (peak t)) x in ((g.0, tt), tt, g.1))
     pinned_rebuilt (folding place l r) os is =
         let u = pinned_rebuilt l os is in let v = pinned_rebuilt r (drop (length (outside_parts c l)) os) (drop (length (path_siblings c l)) is) in
-        by_test (λ y. Holds h (cond y (computed place (pinned_claim h b w c X l os is) (pinned_claim h b w c X r (drop (length (outside_parts c l)) os) (drop (length (path_siblings c l)) is))) (outside_plan h b w (folding place l r) (next h os)))
+        by_test (λ y. Holds h (cond y
+        (computed place (pinned_claim h b w c X l os is)
+        (pinned_claim h b w c X r (drop (length (outside_parts c l)) os) (drop (length (path_siblings c l)) is)))
+        (outside_plan h b w (folding place l r) (next h os)))
         → Parts (cond y (outside_parts c l ++ outside_parts c r) (folding place l r ∷ [])) os × Nodes (cond y (path_siblings c l ++ path_siblings c r) []) is
-        × (value h (cond y (computed place (pinned_claim h b w c X l os is) (pinned_claim h b w c X r (drop (length (outside_parts c l)) os) (drop (length (path_siblings c l)) is))) (outside_plan h b w (folding place l r) (next h os)))
-        ≡ value h (cond y (computed place (claim h c X l os is) (claim h c X r (drop (length (outside_parts c l)) os) (drop (length (path_siblings c l)) is))) (supplied (next h os))))) (meets c l || meets c r)
+        × (value h (cond y (computed place (pinned_claim h b w c X l os is)
+        (pinned_claim h b w c X r (drop (length (outside_parts c l)) os) (drop (length (path_siblings c l)) is)))
+        (outside_plan h b w (folding place l r) (next h os)))
+        ≡ value h (cond y (computed place (claim h c X l os is)
+        (claim h c X r (drop (length (outside_parts c l)) os) (drop (length (path_siblings c l)) is))) (supplied (next h os))))) (meets c l || meets c r)
         (λ _ x. let y = u x.0 in let z = v x.1 in (
           rebuilt_append h (meets w) (rebuilt_part h b) (outside_parts c l) (outside_parts c r) os y.0 z.0,
           rebuilt_append h (tree_meets w) (rebuilt_node h b) (path_siblings c l) (path_siblings c r) is y.1 z.1,
@@ -120,19 +129,24 @@ module _ {D : Type 0} (h : Hashing D) (b : ℕ → Option D) (w : ℕ → Bool) 
     rebuilt_pinned : (p : Plan) (os is : List D) → Parts (outside_parts c p) os → Nodes (path_siblings c p) is → Holds h (pinned_claim h b w c X p os is)
     rebuilt_pinned (peak t) os is =
         let u = rebuilt_pinned_tree t is in
-        by_test (λ y. Parts (cond y [] (peak t ∷ [])) os → Nodes (cond y (siblings c t) []) is → Holds h (cond y (pinned_tree h b w c X t is) (outside_plan h b w (peak t) (next h os)))) (tree_meets c t)
+        by_test (λ y. Parts (cond y [] (peak t ∷ [])) os → Nodes (cond y (siblings c t) []) is
+        → Holds h (cond y (pinned_tree h b w c X t is) (outside_plan h b w (peak t) (next h os)))) (tree_meets c t)
         (λ _ x y. u y)
         (λ _ x y. holds_given (meets w (peak t)) (next h os) (pin_plan h b (peak t)) (pin_plan_holds (peak t)) x.0)
     rebuilt_pinned (folding place l r) os is =
         let u = rebuilt_pinned l os is in let v = rebuilt_pinned r (drop (length (outside_parts c l)) os) (drop (length (path_siblings c l)) is) in
         by_test (λ y. Parts (cond y (outside_parts c l ++ outside_parts c r) (folding place l r ∷ [])) os → Nodes (cond y (path_siblings c l ++ path_siblings c r) []) is
-        → Holds h (cond y (computed place (pinned_claim h b w c X l os is) (pinned_claim h b w c X r (drop (length (outside_parts c l)) os) (drop (length (path_siblings c l)) is))) (outside_plan h b w (folding place l r) (next h os)))) (meets c l || meets c r)
-        (λ _ x y. let a = rebuilt_split h (meets w) (rebuilt_part h b) (outside_parts c l) (outside_parts c r) os x in let z = rebuilt_split h (tree_meets w) (rebuilt_node h b) (path_siblings c l) (path_siblings c r) is y in (u a.0 z.0, v a.1 z.1))
+        → Holds h (cond y (computed place (pinned_claim h b w c X l os is)
+        (pinned_claim h b w c X r (drop (length (outside_parts c l)) os) (drop (length (path_siblings c l)) is)))
+        (outside_plan h b w (folding place l r) (next h os)))) (meets c l || meets c r)
+        (λ _ x y. let a = rebuilt_split h (meets w) (rebuilt_part h b) (outside_parts c l) (outside_parts c r) os x in let z =
+        rebuilt_split h (tree_meets w) (rebuilt_node h b) (path_siblings c l) (path_siblings c r) is y in (u a.0 z.0, v a.1 z.1))
         (λ _ x y. holds_given (meets w (folding place l r)) (next h os) (pin_plan h b (folding place l r)) (pin_plan_holds (folding place l r)) x.0)
 
 -- ---- the check
 module _ {D : Type 0} (s : Scheme D) (r : RangeInput D) (pins : List D) (root : D) where
-  same_root : (f g : Plan → Expression D) (o : Option Plan) (p : Plan) → o ≡ Some p → value s.hashing (f p) ≡ value s.hashing (g p) → root_of s r.leaves r.inactive (option_map f o) ≡ root_of s r.leaves r.inactive (option_map g o)
+  same_root : (f g : Plan → Expression D) (o : Option Plan) (p : Plan) → o ≡ Some p → value s.hashing (f p) ≡ value s.hashing (g p)
+      → root_of s r.leaves r.inactive (option_map f o) ≡ root_of s r.leaves r.inactive (option_map g o)
   same_root f g o p e v = subst (λ z. root_of s r.leaves r.inactive (option_map f z) ≡ root_of s r.leaves r.inactive (option_map g z)) (sym e)
       (ap (λ d. s.hashing.hash (root_string s.hashing s.domain s.bagging r.leaves r.inactive (Some d))) v)
 
@@ -191,7 +205,8 @@ module _ {D : Type 0} (s : Scheme D) (r : RangeInput D) (pins : List D) (root : 
   rebuilt_accepted ok v =
       let p = plan_is ok.nonempty ok.within in
       let m = moved given_parts (outside_parts (chosen r) p.0) given_nodes (path_siblings (chosen r) p.0) (sym p.1.1) (sym p.1.2) (v.parts, v.nodes) in
-      let holds : Holds s.hashing (pinned_on s r pins p.0) = rebuilt_pinned s.hashing b before (chosen r) (leaf_given s.hashing r) p.0 r.digests (drop (length (outside_parts (chosen r) p.0)) r.digests) m.0 m.1 in
+      let holds : Holds s.hashing (pinned_on s r pins p.0) =
+      rebuilt_pinned s.hashing b before (chosen r) (leaf_given s.hashing r) p.0 r.digests (drop (length (outside_parts (chosen r) p.0)) r.digests) m.0 m.1 in
       let z = pinned_rebuilt s.hashing b before (chosen r) (leaf_given s.hashing r) p.0 r.digests (drop (length (outside_parts (chosen r) p.0)) r.digests) holds in
       record {
         nonempty = ok.nonempty;

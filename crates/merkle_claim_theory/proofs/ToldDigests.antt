@@ -1,5 +1,6 @@
 -- The claims of the multi-check and of the pinned check.
-use Rattle.std.proofs.Common.{◌≡◌, ℕ, Bool, true, false, cond, ◌||◌, ◌+◌, ◌≤◌, List, [], ◌∷◌, ◌++◌, ◌⊎◌, inl, inr, ap, sym, ◌∙◌, subst, ⊎_elim, arith, length, map, drop, Option, Some, None, IfSome, MatchOption, length-append, drop_of_length-le, append-nil}
+use Rattle.std.proofs.Common.{◌≡◌, ℕ, Bool, true, false, cond, ◌||◌, ◌+◌, ◌≤◌, List, [], ◌∷◌, ◌++◌, ◌⊎◌, inl, inr, ap, sym, ◌∙◌, subst, ⊎_elim, arith, length}
+use Rattle.std.proofs.Common.{map, drop, Option, Some, None, IfSome, MatchOption, length-append, drop_of_length-le, append-nil}
 use Rattle.std.proofs.lemmas.List.{length-drop}
 use Rattle.std.proofs.lemmas.Bool.{false≢true, or_parts}
 use Rattle.merkle_root_theory.specs.Expression.{Node, Expression, supplied, computed, cross_checked, value, Alike, cut_left, both, cross_checked_left, Agree}
@@ -36,8 +37,10 @@ module _ {D : Type 0} (h : Hashing D) where
         (λ o. (cut_left _ _, λ g. (given_told (a p) (X i) g, λ q. absurd (false≢true (sym o ∙ q)))))
     multi_tree_told (join p l r) = let v = multi_tree_told l in let w = multi_tree_told r in
         let u = also_alike (a p) (computed (Node p) (multi_tree h a c Y l) (multi_tree h a c Y r)) (computed (Node p) (node_expression X l) (node_expression X r)) (both (Node p) v.0 w.0) in
-        by_test (λ b. (k : Alike (cond b (also (a p) (computed (Node p) (multi_tree h a c Y l) (multi_tree h a c Y r))) (supplied (or_empty h (a p)))) (computed (Node p) (node_expression X l) (node_expression X r)))
-        × (Agree h k → (IfSome (a p) (λ d. d ≡ tree_digest h X (join p l r)) × cond b (TellsTree h a c X l × TellsTree h a c X r) (Unit {0})) × (SameTree c X Y l × SameTree c X Y r))) (tree_meets c l || tree_meets c r)
+        by_test (λ b. (k : Alike (cond b (also (a p) (computed (Node p) (multi_tree h a c Y l) (multi_tree h a c Y r))) (supplied (or_empty h (a p))))
+        (computed (Node p) (node_expression X l) (node_expression X r)))
+        × (Agree h k → (IfSome (a p) (λ d. d ≡ tree_digest h X (join p l r)) × cond b (TellsTree h a c X l × TellsTree h a c X r) (Unit {0}))
+        × (SameTree c X Y l × SameTree c X Y r))) (tree_meets c l || tree_meets c r)
         (λ _. (u.0, λ g. let z = u.1 g in let x = v.1 z.0.0 in let y = w.1 z.0.1 in ((z.1, (x.0, y.0)), (x.1, y.1))))
         (λ o. (cut_left _ _, λ g. ((given_told (a p) (tree_digest h X (join p l r)) g, tt), (let w = or_parts (tree_meets c l) (tree_meets c r) o in (unmet_same l w.0, unmet_same r w.1)))))
 
@@ -64,15 +67,18 @@ module _ {D : Type 0} (h : Hashing D) (b : ℕ → Option D) (X : ℕ → D) whe
   pin_plan_told (peak t) = pin_tree_told t
   pin_plan_told (folding place l r) = let v = pin_plan_told l in let w = pin_plan_told r in (both place v.0 w.0, λ g. (v.1 g.0, w.1 g.1))
 
-  outside_tree_told : (w : ℕ → Bool) (t : Tree) (d : D) → (k : Alike (outside_tree h b w t d) (node_expression X t)) × (Agree h k → (d ≡ tree_digest h X t) × (tree_meets w t ≡ true → PinsTree h b X t))
+  outside_tree_told : (w : ℕ → Bool) (t : Tree) (d : D) → (k : Alike (outside_tree h b w t d) (node_expression X t))
+      × (Agree h k → (d ≡ tree_digest h X t) × (tree_meets w t ≡ true → PinsTree h b X t))
   outside_tree_told w t d = let u = pin_tree_told t in
-      by_test (λ y. (k : Alike (cond y (cross_checked d (pin_tree h b t)) (supplied d)) (node_expression X t)) × (Agree h k → (d ≡ tree_digest h X t) × (tree_meets w t ≡ true → PinsTree h b X t))) (tree_meets w t)
+      by_test (λ y. (k : Alike (cond y (cross_checked d (pin_tree h b t)) (supplied d)) (node_expression X t))
+      × (Agree h k → (d ≡ tree_digest h X t) × (tree_meets w t ≡ true → PinsTree h b X t))) (tree_meets w t)
       (λ _. (cross_checked_left d u.0, λ g. (g.0, λ _. u.1 g.1)))
       (λ o. (cut_left _ _, λ g. (g, λ q. absurd (false≢true (sym o ∙ q)))))
 
   outside_plan_told : (w : ℕ → Bool) (p : Plan) (d : D) → (k : Alike (outside_plan h b w p d) (plan_expression X p)) × (Agree h k → (d ≡ plan_digest h X p) × (meets w p ≡ true → PinsPlan h b X p))
   outside_plan_told w p d = let u = pin_plan_told p in
-      by_test (λ y. (k : Alike (cond y (cross_checked d (pin_plan h b p)) (supplied d)) (plan_expression X p)) × (Agree h k → (d ≡ plan_digest h X p) × (meets w p ≡ true → PinsPlan h b X p))) (meets w p)
+      by_test (λ y. (k : Alike (cond y (cross_checked d (pin_plan h b p)) (supplied d)) (plan_expression X p))
+      × (Agree h k → (d ≡ plan_digest h X p) × (meets w p ≡ true → PinsPlan h b X p))) (meets w p)
       (λ _. (cross_checked_left d u.0, λ g. (g.0, λ _. u.1 g.1)))
       (λ o. (cut_left _ _, λ g. (g, λ q. absurd (false≢true (sym o ∙ q)))))
 
@@ -89,11 +95,13 @@ module _ {D : Type 0} (h : Hashing D) (b : ℕ → Option D) (X : ℕ → D) whe
         × (Agree h k → length (siblings c t) ≤ length ds → Begins (tree_digest h X) (siblings c t) ds × ((i : ℕ) → InTree t i → c i ≡ true → Y i ≡ X i) × PinsTrees h b w X (siblings c t))
     pinned_tree_told (leaf p j) ds = let z = outside_tree_told w (leaf p j) (next h ds) in
         by_test (λ y. (k : Alike (cond y (supplied (Y j)) (outside_tree h b w (leaf p j) (next h ds))) (supplied (X j)))
-        × (Agree h k → length (cond y [] (leaf p j ∷ [])) ≤ length ds → Begins (tree_digest h X) (cond y [] (leaf p j ∷ [])) ds × ((i : ℕ) → j ≡ i → c i ≡ true → Y i ≡ X i) × PinsTrees h b w X (cond y [] (leaf p j ∷ [])))) (c j)
+        × (Agree h k → length (cond y [] (leaf p j ∷ [])) ≤ length ds → Begins (tree_digest h X) (cond y [] (leaf p j ∷ [])) ds
+        × ((i : ℕ) → j ≡ i → c i ≡ true → Y i ≡ X i) × PinsTrees h b w X (cond y [] (leaf p j ∷ [])))) (c j)
         (λ _. (cut_left _ _, λ g n. (begins_none _ ds, (λ i e _. subst (λ i. Y i ≡ X i) e g), tt)))
         (λ o. (z.0, λ g n. let v = z.1 g in (begins_one _ (leaf p j) h.empty ds n v.0, (λ i e q. absurd (false≢true (sym o ∙ ap c e ∙ q))), (v.1, tt))))
     pinned_tree_told (join p l r) ds = let u = pinned_tree_told l ds in let v = pinned_tree_told r (drop (length (siblings c l)) ds) in let z = outside_tree_told w (join p l r) (next h ds) in
-        by_test (λ y. (k : Alike (cond y (computed (Node p) (pinned_tree h b w c Y l ds) (pinned_tree h b w c Y r (drop (length (siblings c l)) ds))) (outside_tree h b w (join p l r) (next h ds))) (computed (Node p) (node_expression X l) (node_expression X r)))
+        by_test (λ y. (k : Alike (cond y (computed (Node p) (pinned_tree h b w c Y l ds) (pinned_tree h b w c Y r (drop (length (siblings c l)) ds)))
+        (outside_tree h b w (join p l r) (next h ds))) (computed (Node p) (node_expression X l) (node_expression X r)))
         × (Agree h k → length (cond y (siblings c l ++ siblings c r) (join p l r ∷ [])) ≤ length ds → Begins (tree_digest h X) (cond y (siblings c l ++ siblings c r) (join p l r ∷ [])) ds
         × ((i : ℕ) → InTree l i ⊎ InTree r i → c i ≡ true → Y i ≡ X i) × PinsTrees h b w X (cond y (siblings c l ++ siblings c r) (join p l r ∷ [])))) (tree_meets c l || tree_meets c r)
         (λ _. (
@@ -108,17 +116,25 @@ module _ {D : Type 0} (h : Hashing D) (b : ℕ → Option D) (X : ℕ → D) whe
 
     pinned_told : (p : Plan) (os is : List D) → (k : Alike (pinned_claim h b w c Y p os is) (plan_expression X p))
         × (Agree h k → length (outside_parts c p) ≤ length os → length (path_siblings c p) ≤ length is
-        → Begins (plan_digest h X) (outside_parts c p) os × Begins (tree_digest h X) (path_siblings c p) is × ((i : ℕ) → InPlan p i → c i ≡ true → Y i ≡ X i) × PinsAll h b w X (outside_parts c p) × PinsTrees h b w X (path_siblings c p))
+        → Begins (plan_digest h X) (outside_parts c p) os × Begins (tree_digest h X) (path_siblings c p) is
+        × ((i : ℕ) → InPlan p i → c i ≡ true → Y i ≡ X i) × PinsAll h b w X (outside_parts c p) × PinsTrees h b w X (path_siblings c p))
     pinned_told (peak t) os is = let u = pinned_tree_told t is in let z = outside_plan_told w (peak t) (next h os) in
         by_test (λ y. (k : Alike (cond y (pinned_tree h b w c Y t is) (outside_plan h b w (peak t) (next h os))) (node_expression X t))
         × (Agree h k → length (cond y [] (peak t ∷ [])) ≤ length os → length (cond y (siblings c t) []) ≤ length is
-        → Begins (plan_digest h X) (cond y [] (peak t ∷ [])) os × Begins (tree_digest h X) (cond y (siblings c t) []) is × ((i : ℕ) → InTree t i → c i ≡ true → Y i ≡ X i) × PinsAll h b w X (cond y [] (peak t ∷ [])) × PinsTrees h b w X (cond y (siblings c t) []))) (tree_meets c t)
+        → Begins (plan_digest h X) (cond y [] (peak t ∷ [])) os × Begins (tree_digest h X) (cond y (siblings c t) []) is
+        × ((i : ℕ) → InTree t i → c i ≡ true → Y i ≡ X i) × PinsAll h b w X (cond y [] (peak t ∷ []))
+        × PinsTrees h b w X (cond y (siblings c t) []))) (tree_meets c t)
         (λ _. (u.0, λ g n m. let x = u.1 g m in (begins_none _ os, x.0, x.1, tt, x.2)))
         (λ o. (z.0, λ g n m. let v = z.1 g in (begins_one _ (peak t) h.empty os n v.0, begins_none _ is, (λ i m q. absurd (unmet_tree c t o i m q)), (v.1, tt), tt)))
-    pinned_told (folding place l r) os is = let u = pinned_told l os is in let v = pinned_told r (drop (length (outside_parts c l)) os) (drop (length (path_siblings c l)) is) in let z = outside_plan_told w (folding place l r) (next h os) in
-        by_test (λ y. (k : Alike (cond y (computed place (pinned_claim h b w c Y l os is) (pinned_claim h b w c Y r (drop (length (outside_parts c l)) os) (drop (length (path_siblings c l)) is))) (outside_plan h b w (folding place l r) (next h os))) (computed place (plan_expression X l) (plan_expression X r)))
+    pinned_told (folding place l r) os is = let u = pinned_told l os is in let v =
+        pinned_told r (drop (length (outside_parts c l)) os) (drop (length (path_siblings c l)) is) in let z = outside_plan_told w (folding place l r) (next h os) in
+        by_test (λ y. (k : Alike (cond y
+        (computed place (pinned_claim h b w c Y l os is)
+        (pinned_claim h b w c Y r (drop (length (outside_parts c l)) os) (drop (length (path_siblings c l)) is)))
+        (outside_plan h b w (folding place l r) (next h os))) (computed place (plan_expression X l) (plan_expression X r)))
         × (Agree h k → length (cond y (outside_parts c l ++ outside_parts c r) (folding place l r ∷ [])) ≤ length os → length (cond y (path_siblings c l ++ path_siblings c r) []) ≤ length is
-        → Begins (plan_digest h X) (cond y (outside_parts c l ++ outside_parts c r) (folding place l r ∷ [])) os × Begins (tree_digest h X) (cond y (path_siblings c l ++ path_siblings c r) []) is × ((i : ℕ) → InPlan l i ⊎ InPlan r i → c i ≡ true → Y i ≡ X i)
+        → Begins (plan_digest h X) (cond y (outside_parts c l ++ outside_parts c r) (folding place l r ∷ [])) os
+        × Begins (tree_digest h X) (cond y (path_siblings c l ++ path_siblings c r) []) is × ((i : ℕ) → InPlan l i ⊎ InPlan r i → c i ≡ true → Y i ≡ X i)
         × PinsAll h b w X (cond y (outside_parts c l ++ outside_parts c r) (folding place l r ∷ [])) × PinsTrees h b w X (cond y (path_siblings c l ++ path_siblings c r) []))) (meets c l || meets c r)
         (λ _. (
           both place u.0 v.0,
@@ -144,5 +160,12 @@ no_other_pins h laws b w c X Y p ds long holds same =
     let n : length (path_siblings c p) ≤ length is = rw length-drop (omega arith) in
     let most : length is ≤ length (path_siblings c p) = rw length-drop (omega arith) in
     let none_left : drop (length (path_siblings c p)) is ≡ [] = drop_of_length-le is most in
-    ⊎_elim (λ g. let x = u.1 g (omega arith) n in inl (x.0 ∙ ap (λ t. map (plan_digest h X) (outside_parts c p) ++ t) (x.1 ∙ ap (λ t. map (tree_digest h X) (path_siblings c p) ++ t) none_left ∙ append-nil _), x.2, x.3, x.4))
+    ⊎_elim (λ g. let x = u.1 g (omega arith) n in
+    inl (
+      x.0 ∙ ap (λ t. map (plan_digest h X) (outside_parts c p) ++ t)
+          (x.1 ∙ ap (λ t. map (tree_digest h X) (path_siblings c p) ++ t) none_left ∙ append-nil _),
+      x.2,
+      x.3,
+      x.4,
+    ))
     inr (main h laws _ _ u.0 holds same)

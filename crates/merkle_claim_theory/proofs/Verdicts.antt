@@ -1,5 +1,6 @@
 -- Verdicts, and that the check's test decides.
-use Rattle.std.proofs.Common.{◌≡◌, ℕ, nat_le, nat_eq, ◌+◌, ◌≤◌, List, [], ◌∷◌, ◌⊎◌, inl, inr, refl, ap, sym, ◌∙◌, subst, ⊎_elim, arith, length, flat_map, Some, MatchOption, slice_get, Decides, le-leb, leb-true}
+use Rattle.std.proofs.Common.{◌≡◌, ℕ, nat_le, nat_eq, ◌+◌, ◌≤◌, List, [], ◌∷◌, ◌⊎◌, inl, inr, refl, ap, sym, ◌∙◌, subst, ⊎_elim, arith, length, flat_map, Some}
+use Rattle.std.proofs.Common.{MatchOption, slice_get, Decides, le-leb, leb-true}
 use Rattle.std.specs.List.{AllByRecursion}
 use Rattle.std.proofs.lemmas.Bool.{eqb-true, eq-eqb}
 use Rattle.std.proofs.lemmas.Bool.Decides.{Decides-and, Decides-or, Decides-like, Decides-ltb, Decides-eqb}
@@ -33,7 +34,9 @@ use Rattle.merkle_base.proofs.Lists.{one_there}
 node_in : (t : Tree) (x : Place) → Member (node_places t) x → (u : Tree) × IsUnder u t × (x ≡ Node (position u))
 node_in (leaf p i) x m = elim m [ ]
 node_in (join p l r) x (inl e) = (join p l r, inl refl, sym e)
-node_in (join p l r) x (inr m) = ⊎_elim (λ w. let v = node_in l x w in (v.0, inr (inl v.1), v.2)) (λ w. let v = node_in r x w in (v.0, inr (inr v.1), v.2)) (member_split (node_places l) (node_places r) x m)
+node_in (join p l r) x (inr m) =
+    ⊎_elim (λ w. let v = node_in l x w in (v.0, inr (inl v.1), v.2)) (λ w. let v = node_in r x w in (v.0, inr (inr v.1), v.2))
+    (member_split (node_places l) (node_places r) x m)
 
 nodes_in : (ts : List Tree) (x : Place) → Member (flat_map node_places ts) x → (t : Tree) × Member ts t × Member (node_places t) x
 nodes_in [] x m = elim m [ ]
@@ -45,7 +48,9 @@ same_number p q e = cc
 module _ (ns : List Tree) where
   -- nodes under two built trees with one place are one
   under_both : (a b u v : Tree) (x : Place) → IsBuilt ns a → IsBuilt ns b → IsUnder u a → IsUnder v b → x ≡ Node (position u) → x ≡ Node (position v) → u ≡ v
-  under_both a b u v x ha hb p q d e = one_there (subst (λ z. slice_get ns z ≡ Some u) (same_number (position u) (position v) (sym d ∙ e)) (built_at ns u (built_under ns u a p ha))) (built_at ns v (built_under ns v b q hb))
+  under_both a b u v x ha hb p q d e =
+      one_there (subst (λ z. slice_get ns z ≡ Some u) (same_number (position u) (position v) (sym d ∙ e)) (built_at ns u (built_under ns u a p ha)))
+      (built_at ns v (built_under ns v b q hb))
 
   pub apart_under : (a b u v : Tree) → IsBuilt ns a → IsBuilt ns b → IsUnder u a → IsUnder v b → u ≡ v → end_leaf a ≤ first_leaf b → ⊥
   apart_under a b u v ha hb p q e l = absurd (omega (arith, end_under ns u a p ha, first_under ns v b q hb, ap first_leaf e, width_pos u, l))
@@ -72,7 +77,8 @@ pub distinct_nodes : {D : Type 0} (s : Scheme D) (n : ℕ) → Distinct (flat_ma
 distinct_nodes s n = distinct_peaks (forest s.rule n).nodes 0 n (peaks_of s.rule n) (peaks_spans s.rule n) (peaks_built s.rule n)
 
 -- ---- verdicts
-verdict : {D P : Type 0} (h : Hashing D) → EqDecides h → (xs ys : List (Input D)) → P ⊎ ((c : Collision D) × Collides h xs ys c) → MatchOption (first_collision h xs ys) P (λ c. IsFirstCollision h xs ys c)
+verdict : {D P : Type 0} (h : Hashing D) → EqDecides h → (xs ys : List (Input D)) → P ⊎ ((c : Collision D) × Collides h xs ys c)
+    → MatchOption (first_collision h xs ys) P (λ c. IsFirstCollision h xs ys c)
 verdict h laws xs ys w = none_shows (λ c. IsFirstCollision h xs ys c) (first_collision h xs ys) (no_collision h xs ys w) (finds_first h laws xs ys)
 
 pub verdicts : {D : Type 0} → Verdicts D
@@ -92,7 +98,17 @@ empty_decides xs = ((λ e. nil_from_length xs (eqb-true (length xs) 0 e)), (λ e
 
 pub check_decides : {D : Type 0} → CheckDecides D
 check_decides s laws r root = Decides-or _ _
-    (Decides-like _ (λ w. record { nonempty = w.0; within = w.1.0; leaves = w.1.1.0; inactive = w.1.1.1.0; counts = w.1.1.1.1.0; root_is = w.1.1.1.1.1 }) (λ w. (w.nonempty, (w.within, (w.leaves, (w.inactive, (w.counts, w.root_is))))))
+    (Decides-like _ (λ w. record {
+      nonempty = w.0;
+      within = w.1.0;
+      leaves = w.1.1.0;
+      inactive = w.1.1.1.0;
+      counts = w.1.1.1.1.0;
+      root_is = w.1.1.1.1.1;
+    }) (λ w. (w.nonempty, (w.within, (w.leaves, (w.inactive, (w.counts, w.root_is))))))
     (Decides-and _ _ (Decides-ltb _ _) (Decides-and _ _ (le_decides _ _) (Decides-and _ _ (le_decides _ _) (Decides-and _ _ (le_decides _ _) (Decides-and _ _ (Decides-eqb _ _) (laws _ _)))))))
-    (Decides-like _ (λ w. (record { elements = w.0; start = w.1.0; leaves = w.1.1.0; inactive = w.1.1.1.0; digests = w.1.1.1.1.0 }, w.1.1.1.1.1)) (λ w. (w.0.elements, (w.0.start, (w.0.leaves, (w.0.inactive, (w.0.digests, w.1))))))
-    (Decides-and _ _ (empty_decides r.elements) (Decides-and _ _ (Decides-eqb _ _) (Decides-and _ _ (Decides-eqb _ _) (Decides-and _ _ (Decides-eqb _ _) (Decides-and _ _ (empty_decides r.digests) (laws _ _)))))))
+    (Decides-like _ (λ w. (record { elements = w.0; start = w.1.0; leaves = w.1.1.0; inactive = w.1.1.1.0; digests = w.1.1.1.1.0 }, w.1.1.1.1.1))
+    (λ w. (w.0.elements, (w.0.start, (w.0.leaves, (w.0.inactive, (w.0.digests, w.1))))))
+    (Decides-and _ _ (empty_decides r.elements)
+    (Decides-and _ _ (Decides-eqb _ _)
+    (Decides-and _ _ (Decides-eqb _ _) (Decides-and _ _ (Decides-eqb _ _) (Decides-and _ _ (empty_decides r.digests) (laws _ _)))))))

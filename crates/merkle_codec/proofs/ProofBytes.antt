@@ -18,7 +18,11 @@ some_groups (suc more) n = elim (leb_tells 128 n) [ inl h ↦ omega (arith, ap l
 
 few_groups : (more n : ℕ) → length (number_groups more n) ≤ suc more
 few_groups zero n = omega arith
-few_groups (suc more) n = elim (leb_tells 128 n) [ inl h ↦ omega (arith, ap length (number_groups-more more n h.1), few_groups more (n / 128)) | inr h ↦ omega (arith, ap length (number_groups-last (suc more) n h.1)) ]
+few_groups (suc more) n = elim (leb_tells 128 n) [
+  | inl h ↦ omega (arith, ap length (number_groups-more more n h.1), few_groups more (n / 128))
+  | inr h ↦
+      omega (arith, ap length (number_groups-last (suc more) n h.1))
+]
 
 -- a greater number has no fewer groups
 groups_ascend : (more m n : ℕ) → m ≤ n → length (number_groups more m) ≤ length (number_groups more n)
@@ -40,7 +44,9 @@ bytes_ascend m n le = groups_ascend 9 m n le
 
 module _ {D : Type 0} (bytes : D → List ℕ) (size : ℕ) (sized : (x : D) → length (bytes x) ≡ size) where
   -- how many bytes a proof has
-  pub length-parts : (leaves inactive : ℕ) (ds : List D) → length (parts_spelling bytes leaves inactive ds) ≡ length (number_spelling leaves) + length (number_spelling inactive) + length (number_spelling (length ds)) + length ds * size
+  pub length-parts : (leaves inactive : ℕ) (ds : List D)
+      → length (parts_spelling bytes leaves inactive ds)
+      ≡ length (number_spelling leaves) + length (number_spelling inactive) + length (number_spelling (length ds)) + length ds * size
   length-parts leaves inactive ds =
       let l = number_spelling leaves in
       let i = number_spelling inactive in

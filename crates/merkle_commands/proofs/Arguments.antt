@@ -131,7 +131,8 @@ pub joined_cut : (row first : List ℕ) (rest : Option (Bor (List ℕ))) → wor
 joined_cut row first rest e = sym (join_with_byte-slice_split 32 row) ∙ ap joined (e ∙ ap (λ words. first ∷ words) (optional_row rest))
 
 -- which are those that it was joined of
-pub cut_joined : (row first word : List ℕ) (rest words : Option (Bor (List ℕ))) → words_in row ≡ first ∷ option_map_or (λ r. words_in r.now) rest [] → row ≡ joined (word ∷ optional_words words) → Spaceless word
+pub cut_joined : (row first word : List ℕ) (rest words : Option (Bor (List ℕ))) → words_in row ≡ first ∷ option_map_or (λ r. words_in r.now) rest []
+    → row ≡ joined (word ∷ optional_words words) → Spaceless word
     → (first ≡ word) × (optional_words rest ≡ optional_words words)
 cut_joined row first word rest words e f free =
     let same : first ∷ optional_words rest ≡ word ∷ optional_words words = ap (λ ws. first ∷ ws) (sym (optional_row rest)) ∙ sym e ∙ ap words_in f ∙ words_in_joined word words free in

@@ -57,7 +57,8 @@ command_ascii (New Mmb BackwardFold Sha256) i = ascii_of (codes "new mmb backwar
 command_ascii (New Mmb BackwardFold Xor8) i = ascii_of (codes "new mmb backward xor8") refl
 command_ascii (Ask (Add digits)) i = two_words (codes "add") (element_word digits.now) (ascii_of (codes "add") refl) (element_ascii digits.now i)
 command_ascii (Ask (Update k digits)) i =
-    two_words (codes "update") (decimal k ++ 32 ∷ element_word digits.now) (ascii_of (codes "update") refl) (two_words (decimal k) (element_word digits.now) (IsAscii-decimal k i.0) (element_ascii digits.now i.1))
+    two_words (codes "update") (decimal k ++ 32 ∷ element_word digits.now) (ascii_of (codes "update") refl)
+    (two_words (decimal k) (element_word digits.now) (IsAscii-decimal k i.0) (element_ascii digits.now i.1))
 command_ascii (Ask Commit) i = ascii_of (codes "commit") refl
 command_ascii (Ask (Prune k)) i = two_words (codes "prune") (decimal k) (ascii_of (codes "prune") refl) (IsAscii-decimal k i)
 command_ascii (Ask (Root count)) i = two_words (codes "root") (decimal count) (ascii_of (codes "root") refl) (IsAscii-decimal count i)

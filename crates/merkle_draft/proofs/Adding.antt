@@ -55,7 +55,9 @@ module _ (rule : List ℕ → List ℕ) (max : ℕ) where
     kept = λ h p c. c;
     complete = λ h p l u i.
         (let here : p ≡ size rule n = omega (arith, l, u) in
-        let same : i.1 ≡ leaf (size rule n) n = same_position rule i.0 (suc n) (size rule n) i.1 (leaf (size rule n) n) (subst (λ (q : ℕ). slice_get (forest rule i.0).nodes q ≡ Some i.1) here i.3) (leaf_here rule n (suc n) (omega arith)) in
+        let same : i.1 ≡ leaf (size rule n) n =
+        same_position rule i.0 (suc n) (size rule n) i.1 (leaf (size rule n) n)
+        (subst (λ (q : ℕ). slice_get (forest rule i.0).nodes q ≡ Some i.1) here i.3) (leaf_here rule n (suc n) (omega arith)) in
         absurd (omega (arith, ap height same, i.4, i.5)));
   }
 
@@ -72,7 +74,8 @@ module _ (rule : List ℕ → List ℕ) (max : ℕ) where
         (let here : p ≡ q = omega (arith, l, u) in
         let same : h ≡ k = one_height rule max q h k (subst (λ (x : ℕ). HasInner rule max x h) here j) i in
         subst (λ xs. Contains xs p) (sym (e h))
-        (Contains-append_right (level_at old h) (cond (h == k) (q ∷ []) []) p (subst (λ b. Contains (cond b (q ∷ []) []) p) (sym (eq-eqb h k same)) (subst (λ (x : ℕ). Contains (q ∷ []) x) (sym here) (contains_one q)))));
+        (Contains-append_right (level_at old h) (cond (h == k) (q ∷ []) []) p
+        (subst (λ b. Contains (cond b (q ∷ []) []) p) (sym (eq-eqb h k same)) (subst (λ (x : ℕ). Contains (q ∷ []) x) (sym here) (contains_one q)))));
   }
     where
       found : (h : ℕ) → (h == k) ≡ true → k ≡ h

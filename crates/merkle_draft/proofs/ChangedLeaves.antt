@@ -1,5 +1,6 @@
 -- New digests of leaves by position: the entries of a map are those of the peaks' leaves, left to right.
-use Rattle.std.proofs.Common.{◌≡◌, ◌≢◌, ℕ, zero, suc, ◌+◌, ◌<◌, ◌≤◌, List, [], ◌∷◌, ◌++◌, map, Option, Some, None, Bool, true, false, cond, slice_get, arith, refl, sym, ap, inl, inr, ◌∙◌, ap₂, subst, append-nil, append_assoc}
+use Rattle.std.proofs.Common.{◌≡◌, ◌≢◌, ℕ, zero, suc, ◌+◌, ◌<◌, ◌≤◌, List, [], ◌∷◌, ◌++◌, map, Option, Some, None, Bool, true, false, cond, slice_get, arith}
+use Rattle.std.proofs.Common.{refl, sym, ap, inl, inr, ◌∙◌, ap₂, subst, append-nil, append_assoc}
 use Rattle.std.specs.Prelude.{is_some}
 use Rattle.std.specs.List.{AllByRecursion, flat_map}
 use Rattle.std.specs.List.Sorted.{IsStrictlySortedBy}
@@ -72,7 +73,8 @@ module _ {D : Type 0} where
   find_append q [] ys = refl
   find_append q (x ∷ xs) ys = by (eq_by_cmp nat_cmp q x.0) (find_append q xs ys)
     where
-      by : (b : Bool) → find nat_cmp q (xs ++ ys) ≡ option_or (find nat_cmp q xs) (find nat_cmp q ys) → cond b (Some x.1) (find nat_cmp q (xs ++ ys)) ≡ option_or (cond b (Some x.1) (find nat_cmp q xs)) (find nat_cmp q ys)
+      by : (b : Bool) → find nat_cmp q (xs ++ ys) ≡ option_or (find nat_cmp q xs) (find nat_cmp q ys)
+          → cond b (Some x.1) (find nat_cmp q (xs ++ ys)) ≡ option_or (cond b (Some x.1) (find nat_cmp q xs)) (find nat_cmp q ys)
       by true e = refl
       by false e = e
 
@@ -197,9 +199,12 @@ module _ {D : Type 0} (m : ℕ → Option D) where
   found_in : (ts : List Tree) (i : ℕ) (t : Tree) (q : ℕ) → slice_get ts i ≡ Some t → is_some (find nat_cmp q (dirty_pairs m t)) ≡ true → is_some (find nat_cmp q (flat_map (dirty_pairs m) ts)) ≡ true
   found_in [] i t q e s = absurd (cc)
   found_in (x ∷ ts) zero t q e s = (let c : t ≡ x = cc in
-      ap (λ o. is_some o) (find_append q (dirty_pairs m x) (flat_map (dirty_pairs m) ts)) ∙ or_left_some (find nat_cmp q (dirty_pairs m x)) (find nat_cmp q (flat_map (dirty_pairs m) ts)) (subst (λ z. is_some (find nat_cmp q (dirty_pairs m z)) ≡ true) c s))
+      ap (λ o. is_some o) (find_append q (dirty_pairs m x) (flat_map (dirty_pairs m) ts))
+      ∙ or_left_some (find nat_cmp q (dirty_pairs m x)) (find nat_cmp q (flat_map (dirty_pairs m) ts))
+      (subst (λ z. is_some (find nat_cmp q (dirty_pairs m z)) ≡ true) c s))
   found_in (x ∷ ts) (suc i) t q e s =
-      ap (λ o. is_some o) (find_append q (dirty_pairs m x) (flat_map (dirty_pairs m) ts)) ∙ or_right_some (find nat_cmp q (dirty_pairs m x)) (find nat_cmp q (flat_map (dirty_pairs m) ts)) (found_in ts i t q e s)
+      ap (λ o. is_some o) (find_append q (dirty_pairs m x) (flat_map (dirty_pairs m) ts))
+      ∙ or_right_some (find nat_cmp q (dirty_pairs m x)) (find nat_cmp q (flat_map (dirty_pairs m) ts)) (found_in ts i t q e s)
 
   module _ (rule : List ℕ → List ℕ) (n : ℕ) where
     peaks_find : HasLeavesOf rule n m → (q : ℕ) → find nat_cmp q (flat_map (dirty_pairs m) (peaks_of rule n)) ≡ m q
@@ -220,24 +225,28 @@ module _ {D : Type 0} (m : ℕ → Option D) where
     unfolding Rising
     rising_tree (leaf p k) b = elim (none_or_some (m p)) [ inl o ↦ subst Rising (sym (pair_untouched m p k o)) tt | inr o ↦ subst Rising (sym (pair_dirty m p k o.0 o.1)) (tt, tt) ]
     rising_tree (join p l r) b = rising_append (dirty_pairs m l) (dirty_pairs m r) (size rule (first_leaf r)) (rising_tree l b.4) (rising_tree r b.5)
-        (all_imply (λ u. Between rule (first_leaf l) (first_leaf l + width l) u.0) (λ u. u.0 < size rule (first_leaf r)) (λ u w. omega (arith, w.1, ap (size rule) b.3)) (dirty_pairs m l) (pairs_between m rule n l b.4))
+        (all_imply (λ u. Between rule (first_leaf l) (first_leaf l + width l) u.0) (λ u. u.0 < size rule (first_leaf r))
+        (λ u w. omega (arith, w.1, ap (size rule) b.3)) (dirty_pairs m l) (pairs_between m rule n l b.4))
         (all_imply (λ u. Between rule (first_leaf r) (first_leaf r + width r) u.0) (λ u. size rule (first_leaf r) ≤ u.0) (λ u w. w.0) (dirty_pairs m r) (pairs_between m rule n r b.5))
 
     rising_trees : (o e : ℕ) (ts : List Tree) → Spans o e ts → AllByRecursion (IsBuilt (forest rule n).nodes) ts → Rising (flat_map (dirty_pairs m) ts)
     unfolding Rising
     rising_trees o e [] c b = tt
     rising_trees o e (t ∷ ts) c b = rising_append (dirty_pairs m t) (flat_map (dirty_pairs m) ts) (size rule (o + width t)) (rising_tree t b.0) (rising_trees (o + width t) e ts c.1 b.1)
-        (all_imply (λ u. Between rule (first_leaf t) (first_leaf t + width t) u.0) (λ u. u.0 < size rule (o + width t)) (λ u w. omega (arith, w.1, ap (λ (z : ℕ). size rule (z + width t)) c.0)) (dirty_pairs m t) (pairs_between m rule n t b.0))
+        (all_imply (λ u. Between rule (first_leaf t) (first_leaf t + width t) u.0) (λ u. u.0 < size rule (o + width t))
+        (λ u w. omega (arith, w.1, ap (λ (z : ℕ). size rule (z + width t)) c.0)) (dirty_pairs m t) (pairs_between m rule n t b.0))
         (pairs_after m rule n (o + width t) e ts c.1 b.1)
 
     -- entries in order, in which m finds what it has
     pub changed_leaves : HasLeavesOf rule n m → (es : List (ℕ × D)) → Rising es → ((q : ℕ) → m q ≡ find nat_cmp q es) → es ≡ flat_map (dirty_pairs m) (peaks_of rule n)
     changed_leaves leaves es h f = same_rising es (flat_map (dirty_pairs m) (peaks_of rule n)) h
-        (rising_trees 0 n (peaks_of rule n) (covers_spans n (forest rule n).peaks (forest_grown rule n).covers) (all_reverse (IsBuilt (forest rule n).nodes) (forest rule n).peaks (forest_grown rule n).built))
+        (rising_trees 0 n (peaks_of rule n) (covers_spans n (forest rule n).peaks (forest_grown rule n).covers)
+        (all_reverse (IsBuilt (forest rule n).nodes) (forest rule n).peaks (forest_grown rule n).built))
         (λ q. sym (f q) ∙ sym (peaks_find leaves q))
 
 -- the entries of a map of changed leaves
-entries_of : {D : Type 0} (rule : List ℕ → List ℕ) (n : ℕ) (es : List (ℕ × D)) → HasLeavesOf rule n (get {R = nat_cmp} (from_entries es)) → IsStrictlySortedBy nat_cmp (map (λ e. e.0) es) → es ≡ flat_map (dirty_pairs (get {R = nat_cmp} (from_entries es))) (peaks_of rule n)
+entries_of : {D : Type 0} (rule : List ℕ → List ℕ) (n : ℕ) (es : List (ℕ × D)) → HasLeavesOf rule n (get {R = nat_cmp} (from_entries es))
+    → IsStrictlySortedBy nat_cmp (map (λ e. e.0) es) → es ≡ flat_map (dirty_pairs (get {R = nat_cmp} (from_entries es))) (peaks_of rule n)
 entries_of rule n es leaves h = changed_leaves (get {R = nat_cmp} (from_entries es)) rule n leaves es (keys_rise es h) (λ q. get-from_entries nat_cmp_total es q)
 
 pub entries_are : {D : Type 0} (rule : List ℕ → List ℕ) (n : ℕ) (es : List (ℕ × D)) → HasLeavesOf rule n (get {R = nat_cmp} (from_entries es)) → IsStrictlySortedBy nat_cmp (map (λ e. e.0) es)

@@ -1,5 +1,6 @@
 -- What a plan leaves to be computed, and what is stored when all is computed.
-use Rattle.std.proofs.Common.{◌≡◌, ℕ, zero, suc, ◌+◌, ◌-◌, ◌<◌, ◌≤◌, ◌^◌, ◌⊎◌, List, [], ◌∷◌, ◌++◌, length, length-append, Option, Some, None, Bool, true, false, cond, slice_get, arith, refl, sym, ap, subst, inl, inr, ◌∙◌, Result, Ok, Err}
+use Rattle.std.proofs.Common.{◌≡◌, ℕ, zero, suc, ◌+◌, ◌-◌, ◌<◌, ◌≤◌, ◌^◌, ◌⊎◌, List, [], ◌∷◌, ◌++◌, length, length-append, Option, Some, None, Bool, true}
+use Rattle.std.proofs.Common.{false, cond, slice_get, arith, refl, sym, ap, subst, inl, inr, ◌∙◌, Result, Ok, Err}
 use Rattle.std.specs.Prelude.{is_some, nat_le, nat_lt, ◌||◌, OnOk}
 use Rattle.std.specs.List.{Contains, filter}
 use Rattle.std.specs.Option.{option_or}
@@ -35,7 +36,8 @@ listed_in_all (v ∷ ls) zero p c = Contains-append_left v (from_height ls 0) p 
 listed_in_all (v ∷ ls) (suc k) p c = Contains-append_right v (from_height ls 0) p (listed_in_all ls k p c)
 
 -- a map of leaves has nothing for a merged node, and nothing past them
-pub no_leaf_there : {D : Type 0} (rule : List ℕ → List ℕ) (n e : ℕ) (m : ℕ → Option D) → HasLeavesOf rule n m → n ≤ e → (p q : ℕ) (l r : Tree) → slice_get (forest rule e).nodes p ≡ Some (join q l r) → m p ≡ None
+pub no_leaf_there : {D : Type 0} (rule : List ℕ → List ℕ) (n e : ℕ) (m : ℕ → Option D) → HasLeavesOf rule n m → n ≤ e → (p q : ℕ) (l r : Tree)
+    → slice_get (forest rule e).nodes p ≡ Some (join q l r) → m p ≡ None
 no_leaf_there rule n e m of within p q l r at = by_test (λ b. is_some (m p) ≡ b → m p ≡ None) (is_some (m p))
     (λ b c. (let k = of p b in
     let f : slice_get (forest rule e).nodes p ≡ Some (leaf (size rule k.0) k.0) = ap (slice_get (forest rule e).nodes) k.2 ∙ leaf_here rule k.0 e (omega (arith, k.1, within)) in
@@ -60,7 +62,8 @@ module _ {D : Type 0} (rule : List ℕ → List ℕ) (max_leaves : ℕ) (m : ℕ
   listed_below k p c = (let w = (planned k p).0 c in get_below (forest rule e).nodes p w.0 w.1)
 
 -- ---- before the dirty parents are computed
-module _ {D : Type 0} (h : Hashing D) (rule : List ℕ → List ℕ) (max_leaves : ℕ) (m under : ℕ → Option D) (n : ℕ) (before : ℕ) (ls : List (List ℕ)) (within : n ≤ max_leaves) (sized : size rule n ≡ before) (planned : ArePlanned rule m n 0 n ls)
+module _ {D : Type 0} (h : Hashing D) (rule : List ℕ → List ℕ) (max_leaves : ℕ) (m under : ℕ → Option D) (n : ℕ) (before : ℕ) (ls : List (List ℕ))
+    (within : n ≤ max_leaves) (sized : size rule n ≡ before) (planned : ArePlanned rule m n 0 n ls)
     (of : HasLeavesOf rule n m) (stored : ℕ → Option D) (old : (q : ℕ) → q < size rule n → stored q ≡ m q) where
   -- the old leaves have their digests
   old_leaf_settled : (p q k : ℕ) → slice_get (forest rule n).nodes p ≡ Some (leaf q k) → IsStoredAfter h rule m under n [] stored p (leaf q k)
@@ -79,8 +82,11 @@ module _ {D : Type 0} (h : Hashing D) (rule : List ℕ → List ℕ) (max_leaves
   -- and nothing is stored for old merged nodes without dirty leaves
   old_join_settled : (p q : ℕ) (l r : Tree) → slice_get (forest rule n).nodes p ≡ Some (join q l r) → is_written rule m n (join q l r) ≡ false →
       IsStoredAfter h rule m under n [] stored p (join q l r)
-  old_join_settled p q l r at e =
-      (old p (get_below (forest rule n).nodes p (join q l r) at) ∙ no_leaf_there rule n n m of (omega arith) p q l r at ∙ ap (λ b. cond b (new_digest h rule m under n [] (join q l r)) None) (sym e), (λ y. absurd (let f : false ≡ true = sym e ∙ y in cc)))
+  old_join_settled p q l r at e = (
+    old p (get_below (forest rule n).nodes p (join q l r) at) ∙ no_leaf_there rule n n m of (omega arith) p q l r at
+        ∙ ap (λ b. cond b (new_digest h rule m under n [] (join q l r)) None) (sym e),
+    (λ y. absurd (let f : false ≡ true = sym e ∙ y in cc)),
+  )
 
   old_settled : (p : ℕ) (t : Tree) → slice_get (forest rule n).nodes p ≡ Some t → Contains (from_height ls 0) p ⊎ IsStoredAfter h rule m under n [] stored p t
   old_settled p (leaf q k) at = inr (old_leaf_settled p q k at)
@@ -118,7 +124,8 @@ module _ {D : Type 0} (h : Hashing D) (rule : List ℕ → List ℕ) (m under : 
       λ i. cond (is_written rule m n (join q l r)) (of_both (h.node q) (left i) (right i)) (under q)
 
   module _ (max_leaves before : ℕ) (ls : List (List ℕ)) (old now : ℕ → Option D) (within : n + length (ds ++ more) ≤ max_leaves) (sized : size rule n ≡ before)
-      (planned : ArePlanned rule m n (size rule (n + length ds)) (n + length (ds ++ more)) ls) (held : AreNewDigests h rule m under n ds old) (same : (p : ℕ) → p < size rule (n + length ds) → now p ≡ old p)
+      (planned : ArePlanned rule m n (size rule (n + length ds)) (n + length (ds ++ more)) ls) (held : AreNewDigests h rule m under n ds old)
+      (same : (p : ℕ) → p < size rule (n + length ds) → now p ≡ old p)
       (new : (i : ℕ) (d : D) → slice_get more i ≡ Some d → now (size rule (n + length ds + i)) ≡ Some d) where
     held_settled : (p : ℕ) (t : Tree) → p < size rule (n + length ds) → slice_get (forest rule (n + length (ds ++ more))).nodes p ≡ Some t → IsStoredAfter h rule m under n (ds ++ more) now p t
     held_settled p t less at =
@@ -127,7 +134,8 @@ module _ {D : Type 0} (h : Hashing D) (rule : List ℕ → List ℕ) (m under : 
         let digest = digest_stays t p here in
         (same p less ∙ w.0 ∙ ap (λ d. cond (is_written rule m n t) d None) (sym digest), (λ b. ap is_some digest ∙ w.1 b))
 
-    new_leaf_settled : (p q k : ℕ) → size rule (n + length ds) ≤ p → slice_get (forest rule (n + length (ds ++ more))).nodes p ≡ Some (leaf q k) → IsStoredAfter h rule m under n (ds ++ more) now p (leaf q k)
+    new_leaf_settled : (p q k : ℕ) → size rule (n + length ds) ≤ p → slice_get (forest rule (n + length (ds ++ more))).nodes p ≡ Some (leaf q k)
+        → IsStoredAfter h rule m under n (ds ++ more) now p (leaf q k)
     new_leaf_settled p q k past at =
         let here = leaf_at rule (n + length (ds ++ more)) p q k at in
         let place : q ≡ p = (forest_grown rule (n + length (ds ++ more))).placed p (leaf q k) at in
@@ -141,7 +149,8 @@ module _ {D : Type 0} (h : Hashing D) (rule : List ℕ → List ℕ) (m under : 
         let is : now p ≡ Some x.0 = ap now (sym place ∙ here.0 ∙ ap (size rule) (sym i)) ∙ new (k - (n + length ds)) x.0 x.1 in
         (is ∙ sym digest ∙ ap (λ b. cond b (new_digest h rule m under n (ds ++ more) (leaf q k)) None) (sym (or_left (nat_le (size rule n) q) (is_some (m q)) yes)), (λ _. ap is_some digest))
 
-    new_settled : (p : ℕ) (t : Tree) → size rule (n + length ds) ≤ p → slice_get (forest rule (n + length (ds ++ more))).nodes p ≡ Some t → Contains (from_height ls 0) p ⊎ IsStoredAfter h rule m under n (ds ++ more) now p t
+    new_settled : (p : ℕ) (t : Tree) → size rule (n + length ds) ≤ p → slice_get (forest rule (n + length (ds ++ more))).nodes p ≡ Some t
+        → Contains (from_height ls 0) p ⊎ IsStoredAfter h rule m under n (ds ++ more) now p t
     new_settled p (leaf q k) past at = inr (new_leaf_settled p q k past at)
     new_settled p (join q l r) past at =
         let place : q ≡ p = (forest_grown rule (n + length (ds ++ more))).placed p (join q l r) at in
@@ -168,9 +177,11 @@ pub child_needed : {F D : Type 0} (rule : List ℕ → List ℕ) (m under : ℕ 
 child_needed rule m under n e g w = (w.0, (inl w.1, w.2, w.3), w.4)
 
 -- ---- what is stored, when nodes are appended
-pub stored_kept : {D : Type 0} (old new : DraftModel D) (more : List D) → OnlyAppends old new → new.appended ≡ old.appended ++ more → (p : ℕ) → p < old.before + length old.appended → stored_node new p ≡ stored_node old p
+pub stored_kept : {D : Type 0} (old new : DraftModel D) (more : List D) → OnlyAppends old new → new.appended ≡ old.appended ++ more → (p : ℕ)
+    → p < old.before + length old.appended → stored_node new p ≡ stored_node old p
 stored_kept old new more only grown p less =
-    let start : cond (nat_lt p new.before) (get new.overwritten p) (slice_get new.appended (p - new.before)) ≡ cond (nat_lt p old.before) (get old.overwritten p) (slice_get (old.appended ++ more) (p - old.before)) =
+    let start : cond (nat_lt p new.before) (get new.overwritten p) (slice_get new.appended (p - new.before))
+    ≡ cond (nat_lt p old.before) (get old.overwritten p) (slice_get (old.appended ++ more) (p - old.before)) =
     λ i. cond (nat_lt p (only.0 i)) (get (only.2 i) p) (slice_get (grown i) (p - only.0 i)) in
     elim (cases_lt p old.before) [
       | inl l ↦ start ∙ ap (λ b. cond b (get old.overwritten p) (slice_get (old.appended ++ more) (p - old.before))) (lt-ltb p old.before l)
@@ -183,7 +194,8 @@ pub stored_later : {D : Type 0} (d : DraftModel D) (p : ℕ) (x : D) → d.befor
 stored_later d p x past at = ap (λ b. cond b (get d.overwritten p) (slice_get d.appended (p - d.before))) (le-ltb p d.before past) ∙ at
 
 -- when nothing is left, all written nodes have their digests
-pub all_settled : {D : Type 0} (h : Hashing D) (rule : List ℕ → List ℕ) (m under : ℕ → Option D) (n : ℕ) (ds : List D) (stored : ℕ → Option D) → AreSettled h rule m under n ds [] stored → AreNewDigests h rule m under n ds stored
+pub all_settled : {D : Type 0} (h : Hashing D) (rule : List ℕ → List ℕ) (m under : ℕ → Option D) (n : ℕ) (ds : List D) (stored : ℕ → Option D)
+    → AreSettled h rule m under n ds [] stored → AreNewDigests h rule m under n ds stored
 all_settled h rule m under n ds stored settled p t at = elim (settled p t at) [ inl c ↦ absurd (omega (arith, c.1)) | inr w ↦ w ]
 
 -- fewer nodes are computed than there are
@@ -193,10 +205,12 @@ filter_within f (x ∷ xs) = by_test (λ b. length (cond b (x ∷ filter f xs) (
     (λ b. omega (arith, filter_within f xs))
     (λ b. omega (arith, filter_within f xs))
 
-pub few_computed : {D : Type 0} (rule : List ℕ → List ℕ) (max_leaves most : ℕ) (law : IsLawful rule max_leaves most) (m : ℕ → Option D) (n e : ℕ) → e ≤ max_leaves → length (computed_nodes rule m n e) < 2 ^ 64
+pub few_computed : {D : Type 0} (rule : List ℕ → List ℕ) (max_leaves most : ℕ) (law : IsLawful rule max_leaves most) (m : ℕ → Option D) (n e : ℕ)
+    → e ≤ max_leaves → length (computed_nodes rule m n e) < 2 ^ 64
 few_computed rule max_leaves most law m n e within = omega (arith, filter_within (is_computed rule m n) (forest rule e).nodes, size_le rule e max_leaves within, law.size_at_limit, law.limit_fits)
 
-pub dirty_few : {D : Type 0} (rule : List ℕ → List ℕ) (max_leaves most : ℕ) (law : IsLawful rule max_leaves most) (m : ℕ → Option D) (n : ℕ) → n ≤ max_leaves → all_dirty_count m (peaks_of rule n) < 2 ^ 64
+pub dirty_few : {D : Type 0} (rule : List ℕ → List ℕ) (max_leaves most : ℕ) (law : IsLawful rule max_leaves most) (m : ℕ → Option D) (n : ℕ)
+    → n ≤ max_leaves → all_dirty_count m (peaks_of rule n) < 2 ^ 64
 dirty_few rule max_leaves most law m n within =
     let e : n + 0 ≡ n = omega arith in
     omega (arith, all_counted rule m n 0 (all_dirty_count m (peaks_of rule n)) 0 refl (omega (arith, ap (size rule) e)), few_computed rule max_leaves most law m n (n + 0) (omega (arith, within)))

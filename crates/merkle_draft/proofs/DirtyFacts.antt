@@ -62,8 +62,12 @@ module _ {D : Type 0} (rule : List ℕ → List ℕ) (n : ℕ) (m : ℕ → Opti
   ]
   dirty_between (join p l r) b =
       all_append (Between rule (first_leaf l) (first_leaf l + (width l + width r))) (dirty_leaves m l) (dirty_leaves m r)
-      (all_imply (Between rule (first_leaf l) (first_leaf l + width l)) _ (wider (first_leaf l) (first_leaf l + width l) (first_leaf l) (first_leaf l + (width l + width r)) (omega arith) (omega arith)) (dirty_leaves m l) (dirty_between l b.4))
-      (all_imply (Between rule (first_leaf r) (first_leaf r + width r)) _ (wider (first_leaf r) (first_leaf r + width r) (first_leaf l) (first_leaf l + (width l + width r)) (omega (arith, b.3)) (omega (arith, b.3))) (dirty_leaves m r) (dirty_between r b.5))
+      (all_imply (Between rule (first_leaf l) (first_leaf l + width l)) _
+      (wider (first_leaf l) (first_leaf l + width l) (first_leaf l) (first_leaf l + (width l + width r)) (omega arith) (omega arith))
+      (dirty_leaves m l) (dirty_between l b.4))
+      (all_imply (Between rule (first_leaf r) (first_leaf r + width r)) _
+      (wider (first_leaf r) (first_leaf r + width r) (first_leaf l) (first_leaf l + (width l + width r)) (omega (arith, b.3))
+      (omega (arith, b.3))) (dirty_leaves m r) (dirty_between r b.5))
 
   -- those of the left child stand before the first leaf of the right one, the others don't
   pub before_right : (p : ℕ) (l r : Tree) → IsBuilt (forest rule n).nodes (join p l r) → are_before (dirty_leaves m (join p l r)) (size rule (first_leaf r)) ≡ length (dirty_leaves m l)
@@ -77,7 +81,8 @@ module _ {D : Type 0} (rule : List ℕ → List ℕ) (n : ℕ) (m : ℕ → Opti
   after_start o e (t ∷ ts) c b =
       all_append (λ u. size rule o ≤ u) (dirty_leaves m t) (flat_map (dirty_leaves m) ts)
       (all_imply (Between rule (first_leaf t) (first_leaf t + width t)) (λ u. size rule o ≤ u) (λ u w. omega (arith, w.0, ap (size rule) c.0)) (dirty_leaves m t) (dirty_between t b.0))
-      (all_imply (λ u. size rule (o + width t) ≤ u) (λ u. size rule o ≤ u) (λ u w. omega (arith, w, size_le rule o (o + width t) (omega arith))) (flat_map (dirty_leaves m) ts) (after_start (o + width t) e ts c.1 b.1))
+      (all_imply (λ u. size rule (o + width t) ≤ u) (λ u. size rule o ≤ u) (λ u w. omega (arith, w, size_le rule o (o + width t) (omega arith)))
+      (flat_map (dirty_leaves m) ts) (after_start (o + width t) e ts c.1 b.1))
 
 -- ---- a list in two parts
 pub split_parts : {X : Type 0} (us xs ys front back : List X) (c : ℕ) → us ≡ xs ++ ys → c ≡ length xs → front ≡ take c us → back ≡ drop c us → (front ≡ xs) × (back ≡ ys)

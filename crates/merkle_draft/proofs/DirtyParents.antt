@@ -1,5 +1,6 @@
 -- Which dirty parents are listed, and how many there are.
-use Rattle.std.proofs.Common.{◌≡◌, ℕ, zero, suc, ◌+◌, List, [], ◌∷◌, ◌++◌, length, length-append, append-nil, reverse, Option, Some, Bool, true, false, cond, slice_get, arith, refl, sym, ap, subst, inl, inr, ◌∙◌}
+use Rattle.std.proofs.Common.{◌≡◌, ℕ, zero, suc, ◌+◌, List, [], ◌∷◌, ◌++◌, length, length-append, append-nil, reverse, Option, Some, Bool, true, false, cond}
+use Rattle.std.proofs.Common.{slice_get, arith, refl, sym, ap, subst, inl, inr, ◌∙◌}
 use Rattle.std.specs.Prelude.{◌==◌, ◌&&◌}
 use Rattle.std.specs.List.{Contains, filter, flat_map}
 use Rattle.std.proofs.lemmas.Bool.{and_parts, eq-eqb}
@@ -71,14 +72,16 @@ module _ {D : Type 0} (m : ℕ → Option D) where
       own e = ap (λ b. b && (suc (height l) == suc (height l))) e ∙ eq-eqb (suc (height l)) (suc (height l)) refl
 
   -- ---- those of a forest
-  pub parents_sound : (rule : List ℕ → List ℕ) (n h p : ℕ) → Contains (flat_map (dirty_at m h) (peaks_of rule n)) p → (a : Tree) × (slice_get (forest rule n).nodes p ≡ Some a) × (height a ≡ h) × (is_dirty_parent m a ≡ true)
+  pub parents_sound : (rule : List ℕ → List ℕ) (n h p : ℕ) → Contains (flat_map (dirty_at m h) (peaks_of rule n)) p → (a : Tree)
+      × (slice_get (forest rule n).nodes p ≡ Some a) × (height a ≡ h) × (is_dirty_parent m a ≡ true)
   parents_sound rule n h p c =
       let w = contains_flat (dirty_at m h) (peaks_of rule n) p c in
       let k = sound_under h p w.1 w.3 in
       let b = built_under (forest rule n).nodes k.0 w.1 k.1 (all_get (IsBuilt (forest rule n).nodes) (peaks_of rule n) w.0 w.1 (peaks_built rule n) w.2) in
       (k.0, ap (slice_get (forest rule n).nodes) (sym k.2) ∙ built_at (forest rule n).nodes k.0 b, k.3, k.4)
 
-  pub parents_complete : (rule : List ℕ → List ℕ) (n p : ℕ) (a : Tree) → slice_get (forest rule n).nodes p ≡ Some a → is_dirty_parent m a ≡ true → Contains (flat_map (dirty_at m (height a)) (peaks_of rule n)) p
+  pub parents_complete : (rule : List ℕ → List ℕ) (n p : ℕ) (a : Tree) → slice_get (forest rule n).nodes p ≡ Some a → is_dirty_parent m a ≡ true
+      → Contains (flat_map (dirty_at m (height a)) (peaks_of rule n)) p
   parents_complete rule n p a e d =
       let g = forest_grown rule n in
       let w = peak_of a (forest rule n).peaks (g.under p a e) in

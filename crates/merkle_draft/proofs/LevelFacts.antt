@@ -36,10 +36,12 @@ listed_somewhere (v ∷ ls) zero p c = elim (Contains-append_cases v (from_heigh
 ]
 listed_somewhere (v ∷ ls) (suc k) p c = (let w = listed_somewhere ls k p c in (suc w.0, omega (arith, w.1), w.2))
 
-module _ {D : Type 0} (h : Hashing D) (rule : List ℕ → List ℕ) (max_leaves most : ℕ) (law : IsLawful rule max_leaves most) (m under : ℕ → Option D) (n : ℕ) (ds : List D) (before a : ℕ) (ls : List (List ℕ)) (start : ℕ → Option D)
+module _ {D : Type 0} (h : Hashing D) (rule : List ℕ → List ℕ) (max_leaves most : ℕ) (law : IsLawful rule max_leaves most) (m under : ℕ → Option D)
+    (n : ℕ) (ds : List D) (before a : ℕ) (ls : List (List ℕ)) (start : ℕ → Option D)
     (all : IsReadyToCompute h rule max_leaves m under n ds before a ls start) where
   -- a listed node is a written parent
-  listed_join : (k p : ℕ) (t : Tree) → slice_get (forest rule (n + length ds)).nodes p ≡ Some t → height t ≡ k → is_computed rule m n t ≡ true → (todo : List ℕ) → ((u : Tree) → IsBuilt (forest rule (n + length ds)).nodes u → height u < k → Contains todo (position u) → ⊥) →
+  listed_join : (k p : ℕ) (t : Tree) → slice_get (forest rule (n + length ds)).nodes p ≡ Some t → height t ≡ k → is_computed rule m n t ≡ true
+      → (todo : List ℕ) → ((u : Tree) → IsBuilt (forest rule (n + length ds)).nodes u → height u < k → Contains todo (position u) → ⊥) →
       IsReady rule m n (n + length ds) k todo p
   listed_join k p (leaf q i) at tall c todo free = absurd (cc)
   listed_join k p (join q l r) at tall c todo free =
@@ -57,7 +59,8 @@ module _ {D : Type 0} (h : Hashing D) (rule : List ℕ → List ℕ) (max_leaves
       let same : t.0 ≡ u = one_there t.1 (built_at (forest rule (n + length ds)).nodes u built) in
       omega (arith, low, j.1, t.2, ap height same)
 
-  pub level_stage : (k : ℕ) (now : ℕ → Option D) → k < length ls → AreSettled h rule m under n ds (from_height ls k) now → IsStage h rule max_leaves m under n ds before k (level_at ls k) (from_height ls (k + 1)) now
+  pub level_stage : (k : ℕ) (now : ℕ → Option D) → k < length ls → AreSettled h rule m under n ds (from_height ls k) now
+      → IsStage h rule max_leaves m under n ds before k (level_at ls k) (from_height ls (k + 1)) now
   level_stage k now low settled = record {
     within = all.within;
     sized = all.sized;

@@ -1,5 +1,6 @@
 -- Listing the dirty parents of a subtree.
-use Rattle.std.proofs.Common.{◌≡◌, ◌≢◌, ℕ, suc, ◌+◌, List, [], ◌∷◌, ◌++◌, length, append-nil, append_assoc, take, drop, Option, Bool, true, false, cond, arith, refl, sym, ap, inl, inr, ◌∙◌, Result, Ok, Err}
+use Rattle.std.proofs.Common.{◌≡◌, ◌≢◌, ℕ, suc, ◌+◌, List, [], ◌∷◌, ◌++◌, length, append-nil, append_assoc, take, drop, Option, Bool, true, false, cond, arith}
+use Rattle.std.proofs.Common.{refl, sym, ap, inl, inr, ◌∙◌, Result, Ok, Err}
 use Rattle.std.specs.Prelude.{OnOk, ◌==◌, ◌&&◌}
 use Rattle.std.specs.List.{flat_map}
 use Rattle.std.proofs.lemmas.Grind.{flat_map-append}
@@ -96,7 +97,8 @@ module _ {F D : Type 0} (rule : List ℕ → List ℕ) (n : ℕ) (s : Subtree F)
   mark_leaf ls low (join p l r) m w u = absurd (omega (arith, w.height_is, low))
 
   module _ (some : us ≢ []) (high : s.height ≢ 0) (l r : Subtree F) (kids : (p : ℕ) (a b : Tree) → Denotes rule n s (join p a b) → Denotes rule n l a × Denotes rule n r b)
-      (middle count : ℕ) (front back : List ℕ) (middle_is : middle ≡ size rule r.first_leaf) (count_is : count ≡ are_before us middle) (front_is : front ≡ take count us) (back_is : back ≡ drop count us) where
+      (middle count : ℕ) (front back : List ℕ) (middle_is : middle ≡ size rule r.first_leaf) (count_is : count ≡ are_before us middle)
+      (front_is : front ≡ take count us) (back_is : back ≡ drop count us) where
     halves : (m : ℕ → Option D) (q : ℕ) (a b : Tree) → Denotes rule n s (join q a b) → us ≡ dirty_leaves m (join q a b) → (front ≡ dirty_leaves m a) × (back ≡ dirty_leaves m b)
     halves m q a b w e =
         let c : count ≡ length (dirty_leaves m a) =

@@ -19,7 +19,8 @@ if_some (Some x) P f = f x refl
 if_some None P f = tt
 
 -- what isn't read before the end of the appended nodes is one of the older ones
-pub gap_below : {F D : Type 0} (node : ℕ → Option D) (before count p : ℕ) (e : NodeError F) → (e ≡ Missing p) × ((p < before → node p ≡ None) × (before ≤ p → before + count ≤ p)) → p < before + count → (p < before) × IsGapAt node p e
+pub gap_below : {F D : Type 0} (node : ℕ → Option D) (before count p : ℕ) (e : NodeError F) → (e ≡ Missing p)
+    × ((p < before → node p ≡ None) × (before ≤ p → before + count ≤ p)) → p < before + count → (p < before) × IsGapAt node p e
 gap_below node before count p e missing below = elim (cases_lt p before) [
   | inl l ↦ (l, (missing.0, missing.1.0 l))
   | inr l ↦ absurd (let no : before + count ≤ p = missing.1.1 l in omega (arith, no, below))

@@ -33,21 +33,30 @@ listed_at : (ps : List ℕ) (i p : ℕ) → slice_get ps i ≡ Some p → Contai
 listed_at ps i p e = (i, get_below ps i p e, get_or_from_slice_get ps i p p e)
 
 -- the i-th
-parent_at : {D : Type 0} (rule : List ℕ → List ℕ) (read : ℕ → Option D) (ps : List ℕ) (gs : List (ℕ × D × D)) (f : ℕ × D × D → D) (i p : ℕ) (d : D) → AreParents rule read ps gs → slice_get ps i ≡ Some p → slice_get (map f gs) i ≡ Some d →
+parent_at : {D : Type 0} (rule : List ℕ → List ℕ) (read : ℕ → Option D) (ps : List ℕ) (gs : List (ℕ × D × D)) (f : ℕ × D × D → D) (i p : ℕ) (d : D)
+    → AreParents rule read ps gs → slice_get ps i ≡ Some p → slice_get (map f gs) i ≡ Some d →
     (g : ℕ × D × D) × (g.0 ≡ p) × (d ≡ f g) × ((e : ℕ) (l r : Tree) → slice_get (forest rule e).nodes p ≡ Some (join p l r) → (read (position l) ≡ Some g.1) × (read (position r) ≡ Some g.2))
 parent_at rule read [] gs f i p d all e k = absurd (cc)
 parent_at rule read (q ∷ ps) [] f i p d all e k = absurd (cc)
 parent_at rule read (q ∷ ps) (g ∷ gs) f zero p d all e k =
     let same : q ≡ p = cc in
-    let is : f g ≡ d = cc in
-    (g, all.0 ∙ same, sym is, subst (λ (x : ℕ). (e : ℕ) (l r : Tree) → slice_get (forest rule e).nodes x ≡ Some (join x l r) → (read (position l) ≡ Some g.1) × (read (position r) ≡ Some g.2)) same all.1)
+    let is : f g ≡ d = cc in (
+      g,
+      all.0 ∙ same,
+      sym is,
+      subst
+          (λ (x : ℕ). (e : ℕ) (l r : Tree) → slice_get (forest rule e).nodes x ≡ Some (join x l r) → (read (position l) ≡ Some g.1)
+          × (read (position r) ≡ Some g.2)) same all.1,
+    )
 parent_at rule read (q ∷ ps) (g ∷ gs) f (suc i) p d all e k = parent_at rule read ps gs f i p d all.2 e k
 
 module _ {D : Type 0} (h : Hashing D) (rule : List ℕ → List ℕ) (m under : ℕ → Option D) (n : ℕ) (ds : List D) where
   -- what is made of the children of a ready node is its digest after the changes
-  pub made_right : (d : DraftModel D) (base : Contents D) (k : ℕ) (ps todo : List ℕ) (gs : List (ℕ × D × D)) (xs : List D) → under ≡ below d base → size rule n ≡ d.before → AreSettled h rule m under n ds todo (stored_node d) →
+  pub made_right : (d : DraftModel D) (base : Contents D) (k : ℕ) (ps todo : List ℕ) (gs : List (ℕ × D × D)) (xs : List D) → under ≡ below d base
+      → size rule n ≡ d.before → AreSettled h rule m under n ds todo (stored_node d) →
       ((p : ℕ) → Contains ps p → IsReady rule m n (n + length ds) k todo p) → AreParents rule (draft_node d base) ps gs → xs ≡ map (λ g. h.node g.0 g.1 g.2) gs →
-      (i p : ℕ) (x : D) (t : Tree) → slice_get ps i ≡ Some p → slice_get xs i ≡ Some x → slice_get (forest rule (n + length ds)).nodes p ≡ Some t → (is_written rule m n t ≡ true) × (new_digest h rule m under n ds t ≡ Some x)
+      (i p : ℕ) (x : D) (t : Tree) → slice_get ps i ≡ Some p → slice_get xs i ≡ Some x → slice_get (forest rule (n + length ds)).nodes p ≡ Some t
+      → (is_written rule m n t ≡ true) × (new_digest h rule m under n ds t ≡ Some x)
   made_right d base k ps todo gs xs same sized settled ready parents made i p x t at is node =
       let w = ready p (listed_at ps i p at) in
       let here : join p w.0 w.1 ≡ t = one_there w.2 node in

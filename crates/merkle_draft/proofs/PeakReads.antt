@@ -29,7 +29,8 @@ module _ {D : Type 0} (s : ℕ) (read : ℕ → Option D) where
   all_read rule n done same all i t e less = all i (placed t) (ap (λ xs. slice_get xs i) same ∙ get_map placed (peaks_of rule n) i t e) less
 
 -- a peak that is not there
-pub peak_lacks : {F D : Type 0} (rule : List ℕ → List ℕ) (n s : ℕ) (read : ℕ → Option D) (done more : List (ℕ × ℕ)) (q : ℕ × ℕ) (e : NodeError F) → done ++ q ∷ more ≡ map placed (peaks_of rule n) → (q.0 < s) × IsGapAt read q.0 e → IsMissingPeak rule n s read e
+pub peak_lacks : {F D : Type 0} (rule : List ℕ → List ℕ) (n s : ℕ) (read : ℕ → Option D) (done more : List (ℕ × ℕ)) (q : ℕ × ℕ) (e : NodeError F)
+    → done ++ q ∷ more ≡ map placed (peaks_of rule n) → (q.0 < s) × IsGapAt read q.0 e → IsMissingPeak rule n s read e
 peak_lacks rule n s read done more q e listed gap =
     let t = get_mapped placed (peaks_of rule n) (length done) q (ap (λ xs. slice_get xs (length done)) (sym listed) ∙ get_push done more q) in
     let here : q.0 ≡ position t.0 = ap (λ x. x.0) t.2 in

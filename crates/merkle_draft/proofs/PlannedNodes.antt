@@ -1,5 +1,6 @@
 -- What is listed when the dirty parents, or the new ones, are added to empty lists.
-use Rattle.std.proofs.Common.{◌≡◌, ℕ, zero, suc, ◌+◌, ◌<◌, ◌≤◌, List, [], ◌∷◌, ◌++◌, length, length-append, Option, Some, Bool, true, cond, slice_get, arith, refl, sym, ap, subst, inl, inr, ◌∙◌, le-leb}
+use Rattle.std.proofs.Common.{◌≡◌, ℕ, zero, suc, ◌+◌, ◌<◌, ◌≤◌, List, [], ◌∷◌, ◌++◌, length, length-append, Option, Some, Bool, true, cond, slice_get, arith}
+use Rattle.std.proofs.Common.{refl, sym, ap, subst, inl, inr, ◌∙◌, le-leb}
 use Rattle.std.specs.Prelude.{◌||◌}
 use Rattle.std.specs.List.{Contains, filter, flat_map}
 use Rattle.std.proofs.lemmas.Bool.{lt-leb}
@@ -43,7 +44,8 @@ module _ {D : Type 0} (rule : List ℕ → List ℕ) (m : ℕ → Option D) (n :
   computed_counted : (k : ℕ) → length (computed_nodes rule m n (k + n)) + k + size rule n ≡ length (filter (is_dirty_parent m) (forest rule n).nodes) + size rule (k + n)
   computed_counted zero =
       (let e : 0 + n ≡ n = omega arith in
-      let same = filter_same (is_computed rule m n) (is_dirty_parent m) (forest rule n).nodes (λ i t f. old_computed t (omega (arith, (forest_grown rule n).placed i t f, get_below (forest rule n).nodes i t f))) in
+      let same = filter_same (is_computed rule m n) (is_dirty_parent m) (forest rule n).nodes
+      (λ i t f. old_computed t (omega (arith, (forest_grown rule n).placed i t f, get_below (forest rule n).nodes i t f))) in
       subst (λ (x : ℕ). length (computed_nodes rule m n x) + 0 + size rule n ≡ length (filter (is_dirty_parent m) (forest rule n).nodes) + size rule x) (sym e) (omega (arith, ap length same)))
   computed_counted (suc k) =
       (let e : suc k + n ≡ suc (k + n) = omega arith in
@@ -51,7 +53,8 @@ module _ {D : Type 0} (rule : List ℕ → List ℕ) (m : ℕ → Option D) (n :
       let old : List Tree = (forest rule (k + n)).nodes in
       let first : Tree = leaf (size rule (k + n)) (k + n) in
       let fresh : filter (is_computed rule m n) s.0 ≡ s.0 = filter_all (is_computed rule m n) s.0 (λ i t f.
-      (let there : slice_get (forest rule (suc (k + n))).nodes (size rule (k + n) + suc i) ≡ Some t = ap (λ ns. slice_get ns (size rule (k + n) + suc i)) s.1 ∙ get_append_add old (first ∷ s.0) (suc i) ∙ f in
+      (let there : slice_get (forest rule (suc (k + n))).nodes (size rule (k + n) + suc i) ≡ Some t =
+      ap (λ ns. slice_get ns (size rule (k + n) + suc i)) s.1 ∙ get_append_add old (first ∷ s.0) (suc i) ∙ f in
       new_computed t (omega (arith, (forest_grown rule (suc (k + n))).placed (size rule (k + n) + suc i) t there, size_le rule n (k + n) (omega arith))) (all_get IsJoin s.0 i t s.2 f))) in
       let grown : computed_nodes rule m n (suc (k + n)) ≡ computed_nodes rule m n (k + n) ++ s.0 =
       ap (filter (is_computed rule m n)) s.1 ∙ filter-append (is_computed rule m n) old (first ∷ s.0) ∙ ap (λ xs. computed_nodes rule m n (k + n) ++ xs) fresh in
@@ -62,7 +65,14 @@ module _ {D : Type 0} (rule : List ℕ → List ℕ) (m : ℕ → Option D) (n :
   pub all_counted : (k dirty new : ℕ) → dirty ≡ all_dirty_count m (peaks_of rule n) → new + k + size rule n ≡ size rule (n + k) → dirty + new ≡ length (computed_nodes rule m n (n + k))
   all_counted k dirty new is sized =
       (let same : k + n ≡ n + k = omega arith in
-      omega (arith, subst (λ (x : ℕ). length (computed_nodes rule m n x) + k + size rule n ≡ length (filter (is_dirty_parent m) (forest rule n).nodes) + size rule x) same (computed_counted k), is, sized, parents_counted m rule n))
+      omega (
+        arith,
+        subst (λ (x : ℕ). length (computed_nodes rule m n x) + k + size rule n
+            ≡ length (filter (is_dirty_parent m) (forest rule n).nodes) + size rule x) same (computed_counted k),
+        is,
+        sized,
+        parents_counted m rule n,
+      ))
 
   -- ---- which positions
   module _ (ls : List (List ℕ)) (marked : AreMarked m (peaks_of rule n) [] ls) where
@@ -75,12 +85,14 @@ module _ {D : Type 0} (rule : List ℕ → List ℕ) (m : ℕ → Option D) (n :
     dirty_complete : (h p : ℕ) (t : Tree) → slice_get (forest rule n).nodes p ≡ Some t → height t ≡ h → is_computed rule m n t ≡ true → Contains (level_at ls h) p
     dirty_complete h p t there tall c =
         (let low : position t < size rule n = omega (arith, (forest_grown rule n).placed p t there, get_below (forest rule n).nodes p t there) in
-        subst (λ xs. Contains xs p) (sym (marked.listed h)) (subst (λ (k : ℕ). Contains (flat_map (dirty_at m k) (peaks_of rule n)) p) tall (parents_complete m rule n p t there (sym (old_computed t low) ∙ c))))
+        subst (λ xs. Contains xs p) (sym (marked.listed h))
+        (subst (λ (k : ℕ). Contains (flat_map (dirty_at m k) (peaks_of rule n)) p) tall (parents_complete m rule n p t there (sym (old_computed t low) ∙ c))))
 
     pub dirty_planned : ArePlanned rule m n 0 n ls
     dirty_planned h p = (dirty_sound h p, λ t there tall c from. dirty_complete h p t there tall c)
 
-  module _ (max start e : ℕ) (after : n ≤ start) (within : e ≤ max) (old new : List (List ℕ)) (none : (h : ℕ) → level_at old h ≡ []) (added : AreAdded rule max (size rule start) (size rule e) old new) where
+  module _ (max start e : ℕ) (after : n ≤ start) (within : e ≤ max) (old new : List (List ℕ)) (none : (h : ℕ) → level_at old h ≡ [])
+      (added : AreAdded rule max (size rule start) (size rule e) old new) where
     added_sound : (h p : ℕ) → Contains (level_at new h) p → (t : Tree) × (slice_get (forest rule e).nodes p ≡ Some t) × (height t ≡ h) × (is_computed rule m n t ≡ true)
     added_sound h p c = elim (added.sound h p c) [
       | inl o ↦ absurd (contains_none p (subst (λ xs. Contains xs p) (none h) o))

@@ -53,8 +53,10 @@ module _ {D : Type 0} (h : Hashing D) (rule : List ℕ → List ℕ) (m under : 
   ]
 
   -- a child of a ready node that is not read is a child that is not there
-  pub ready_missing : {F : Type 0} (d : DraftModel D) (base : Contents D) (k : ℕ) (todo : List ℕ) → under ≡ below d base → size rule n ≡ d.before → AreSettled h rule m under n ds todo (stored_node d) →
-      (p q l r : ℕ) → IsReady rule m n (n + length ds) k todo p → AreChildren rule p l r → (q ≡ l) ⊎ (q ≡ r) → draft_node d base q ≡ None → (e : NodeError F) → e ≡ Missing q → LacksChild rule m under n (n + length ds) e
+  pub ready_missing : {F : Type 0} (d : DraftModel D) (base : Contents D) (k : ℕ) (todo : List ℕ) → under ≡ below d base → size rule n ≡ d.before
+      → AreSettled h rule m under n ds todo (stored_node d) →
+      (p q l r : ℕ) → IsReady rule m n (n + length ds) k todo p → AreChildren rule p l r → (q ≡ l) ⊎ (q ≡ r) → draft_node d base q ≡ None
+      → (e : NodeError F) → e ≡ Missing q → LacksChild rule m under n (n + length ds) e
   ready_missing {F} d base k todo same sized settled p q l r ready children which none e error =
       let a : Tree = ready.0 in
       let b : Tree = ready.1 in
@@ -63,7 +65,8 @@ module _ {D : Type 0} (h : Hashing D) (rule : List ℕ → List ℕ) (m under : 
       let kids = children (n + length ds) a b at in
       let of_child : (u : Tree) → IsBuilt (forest rule (n + length ds)).nodes u → (Contains todo (position u) → ⊥) → (u ≡ a) ⊎ (u ≡ b) → q ≡ position u → LacksChild rule m under n (n + length ds) e =
       λ u there free child place.
-      (let read : None ≡ new_digest h rule m under n ds u = sym none ∙ ap (draft_node d base) place ∙ settled_read d base todo same sized settled (position u) u (built_at (forest rule (n + length ds)).nodes u there) free in
+      (let read : None ≡ new_digest h rule m under n ds u = sym none ∙ ap (draft_node d base) place
+      ∙ settled_read d base todo same sized settled (position u) u (built_at (forest rule (n + length ds)).nodes u there) free in
       let unwritten : is_written rule m n u ≡ false = by_test (λ c. is_written rule m n u ≡ c → c ≡ false) (is_written rule m n u)
       (λ c i. elim (settled (position u) u (built_at (forest rule (n + length ds)).nodes u there)) [
         | inl x ↦ absurd (free x)

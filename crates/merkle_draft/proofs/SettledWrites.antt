@@ -22,7 +22,8 @@ single x y c = (let z : c.0 ≡ 0 = omega (arith, c.1) in sym (sym (ap (λ k. ge
 module _ {D : Type 0} (h : Hashing D) (rule : List ℕ → List ℕ) (m under : ℕ → Option D) (n : ℕ) (ds : List D) where
   -- one node is computed
   pub settle_one : (todo : List ℕ) (before after : ℕ → Option D) (p : ℕ) (d : D) → AreSettled h rule m under n ds (p ∷ todo) before →
-      ((t : Tree) → slice_get (forest rule (n + length ds)).nodes p ≡ Some t → (is_written rule m n t ≡ true) × (new_digest h rule m under n ds t ≡ Some d)) → ((q : ℕ) → after q ≡ cond (q == p) (Some d) (before q)) →
+      ((t : Tree) → slice_get (forest rule (n + length ds)).nodes p ≡ Some t → (is_written rule m n t ≡ true)
+      × (new_digest h rule m under n ds t ≡ Some d)) → ((q : ℕ) → after q ≡ cond (q == p) (Some d) (before q)) →
       AreSettled h rule m under n ds todo after
   settle_one todo before after p d settled right set q t at = elim (eqb_tells q p) [
     | inl s ↦ (let here : slice_get (forest rule (n + length ds)).nodes p ≡ Some t = ap (slice_get (forest rule (n + length ds)).nodes) (sym s.1) ∙ at in
@@ -38,10 +39,13 @@ module _ {D : Type 0} (h : Hashing D) (rule : List ℕ → List ℕ) (m under : 
 -- ---- what a draft stores, after one of its nodes is set
 module _ {D : Type 0} (before p : ℕ) (ow : FinMap nat_cmp D) (xs : List D) (d : D) where
   -- an old node
-  pub stored_overwritten : p < before → (q : ℕ) → cond (nat_lt q before) (get (insert ow p d) q) (slice_get xs (q - before)) ≡ cond (q == p) (Some d) (cond (nat_lt q before) (get ow q) (slice_get xs (q - before)))
+  pub stored_overwritten : p < before → (q : ℕ)
+      → cond (nat_lt q before) (get (insert ow p d) q) (slice_get xs (q - before))
+      ≡ cond (q == p) (Some d) (cond (nat_lt q before) (get ow q) (slice_get xs (q - before)))
   stored_overwritten less q = elim (eqb_tells q p) [
     | inl s ↦ (let l : nat_lt q before ≡ true = lt-ltb q before (omega (arith, less, s.1)) in
-        ap (λ b. cond b (get (insert ow p d) q) (slice_get xs (q - before))) l ∙ inserted_at ow p d q ∙ ap (λ b. cond b (Some d) (get ow q)) s.0 ∙ sym (ap (λ b. cond b (Some d) (cond (nat_lt q before) (get ow q) (slice_get xs (q - before)))) s.0))
+        ap (λ b. cond b (get (insert ow p d) q) (slice_get xs (q - before))) l ∙ inserted_at ow p d q ∙ ap (λ b. cond b (Some d) (get ow q)) s.0
+        ∙ sym (ap (λ b. cond b (Some d) (cond (nat_lt q before) (get ow q) (slice_get xs (q - before)))) s.0))
     | inr s ↦ ap (λ o. cond (nat_lt q before) o (slice_get xs (q - before))) (inserted_at ow p d q ∙ ap (λ b. cond b (Some d) (get ow q)) s.0)
         ∙ sym (ap (λ b. cond b (Some d) (cond (nat_lt q before) (get ow q) (slice_get xs (q - before)))) s.0)
   ]

@@ -33,7 +33,9 @@ module _ {D : Type 0} (h : Hashing D) (rule : List ℕ → List ℕ) (max_leaves
     ready = λ p c.
         (let w = stage.ready p (in_chunk done chunk rest ps p parts c) in
         let more : (q : ℕ) → Contains (chunk ++ (rest ++ later)) q → Contains (ps ++ later) q =
-        λ q x. subst (λ xs. Contains (xs ++ later) q) parts (subst (λ xs. Contains xs q) (sym (append_assoc done (chunk ++ rest) later)) (Contains-append_right done ((chunk ++ rest) ++ later) q (subst (λ xs. Contains xs q) (sym (append_assoc chunk rest later)) x))) in
+        λ q x. subst (λ xs. Contains (xs ++ later) q) parts
+        (subst (λ xs. Contains xs q) (sym (append_assoc done (chunk ++ rest) later))
+        (Contains-append_right done ((chunk ++ rest) ++ later) q (subst (λ xs. Contains xs q) (sym (append_assoc chunk rest later)) x))) in
         (w.0, w.1, w.2, w.3, w.4, (λ x. w.5 (more (position w.0) x)), (λ x. w.6 (more (position w.1) x))));
     settled = subst (λ xs. AreSettled h rule m under n ds xs now) (append_assoc chunk rest later) settled;
   }

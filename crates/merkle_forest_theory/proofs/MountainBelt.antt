@@ -1,5 +1,6 @@
 -- The formulas of the Mountain Belt.
-use Rattle.std.proofs.Common.{◌≡◌, ℕ, zero, suc, ◌+◌, ◌*◌, ◌^◌, ◌-◌, ◌/◌, ◌<◌, ◌≤◌, ◌⊎◌, Bool, true, false, List, [], ◌∷◌, ◌++◌, length, map, take, length-append, Some, slice_get, slice_index, arith, refl, ap, inl, inr, ◌∙◌, subst, pow-suc, pow_pos}
+use Rattle.std.proofs.Common.{◌≡◌, ℕ, zero, suc, ◌+◌, ◌*◌, ◌^◌, ◌-◌, ◌/◌, ◌<◌, ◌≤◌, ◌⊎◌, Bool, true, false, List, [], ◌∷◌, ◌++◌, length, map, take}
+use Rattle.std.proofs.Common.{length-append, Some, slice_get, slice_index, arith, refl, ap, inl, inr, ◌∙◌, subst, pow-suc, pow_pos}
 use Rattle.std.specs.Int.{bit_at}
 use Rattle.std.proofs.lemmas.Nat.Bits.{bit_at-suc, bit_at_lowest, bit_at-lt}
 use Rattle.std.proofs.lemmas.Bool.{cases_lt}
@@ -119,7 +120,8 @@ placed_leaf n p t l e d = rw d record { position = e; present = l; aligned = (n,
 multiple_of : (first power a n : ℕ) → first + 3 * power ≡ n + 2 → n + 2 ≡ (2 * (a + 1) + 1) * power → first ≡ a * (power * 2)
 multiple_of first power a n e d = omega arith
 
-placed_join : (n p j rest : ℕ) (t : Tree) → p < size mmb_merges (suc n) → p ≡ size mmb_merges n + 1 → height t ≡ suc j → first_leaf t + 3 * 2 ^ j ≡ n + 2 → n + 2 ≡ (2 * rest + 1) * 2 ^ j → 0 < rest → IsPlaced p t
+placed_join : (n p j rest : ℕ) (t : Tree) → p < size mmb_merges (suc n) → p ≡ size mmb_merges n + 1 → height t ≡ suc j
+    → first_leaf t + 3 * 2 ^ j ≡ n + 2 → n + 2 ≡ (2 * rest + 1) * 2 ^ j → 0 < rest → IsPlaced p t
 placed_join n p j rest t l e h f g r =
     let x : first_leaf t + 3 * 2 ^ j - 2 ≡ n = omega arith in
     record {
@@ -152,9 +154,11 @@ mmb_placed (suc n) p t e =
           (let m = h.1 in let j : ℕ = h.0 in
           let hs : List ℕ = map height (forest mmb_merges n).peaks in
           let q : mmb_merges_from 0 hs ≡ j ∷ [] = ap (mmb_merges_from 0) k ∙ m.rule in
-          let d : slice_get (f.nodes ++ parent_of_peaks (length f.nodes) j f.peaks) p ≡ Some t = subst (λ (g : Forest). slice_get g.nodes p ≡ Some t) (merge_at-parts j f) (subst (λ (is : List ℕ). slice_get (merge_all is f).nodes p ≡ Some t) q e) in
+          let d : slice_get (f.nodes ++ parent_of_peaks (length f.nodes) j f.peaks) p ≡ Some t =
+          subst (λ (g : Forest). slice_get g.nodes p ≡ Some t) (merge_at-parts j f) (subst (λ (is : List ℕ). slice_get (merge_all is f).nodes p ≡ Some t) q e) in
           let equal : EqualAt j (0 ∷ hs) = (subst (λ (is : List ℕ). AreEqualMerges is (0 ∷ hs)) q (pair_equal 0 hs)).0 in
-          let b = joined_born (length f.nodes) j (suc n) f.peaks equal (grown-append_leaf n (forest mmb_merges n) (forest_grown mmb_merges n)).covers (tt, peaks_balanced mmb_merges n (mmb_equal n) n (omega arith)) in
+          let b = joined_born (length f.nodes) j (suc n) f.peaks equal (grown-append_leaf n (forest mmb_merges n) (forest_grown mmb_merges n)).covers
+          (tt, peaks_balanced mmb_merges n (mmb_equal n) n (omega arith)) in
           elim (get_push_cases f.nodes b.0 p t (rw b.1 at d)) [
             | inl o ↦ old o
             | inr o ↦ rw o.1 (placed_join n p j m.rest b.0 l

@@ -1,5 +1,6 @@
 -- The formulas of the Mountain Range.
-use Rattle.std.proofs.Common.{◌≡◌, ℕ, zero, suc, ◌+◌, ◌*◌, ◌^◌, ◌<◌, ◌≤◌, List, [], ◌∷◌, ◌++◌, length, map, length-append, append_assoc, append-nil, Some, slice_get, arith, refl, sym, ap, inl, inr, ◌∙◌, subst, pow-suc}
+use Rattle.std.proofs.Common.{◌≡◌, ℕ, zero, suc, ◌+◌, ◌*◌, ◌^◌, ◌<◌, ◌≤◌, List, [], ◌∷◌, ◌++◌, length, map, length-append, append_assoc, append-nil, Some}
+use Rattle.std.proofs.Common.{slice_get, arith, refl, sym, ap, inl, inr, ◌∙◌, subst, pow-suc}
 use Rattle.std.specs.List.{AllByRecursion, range_with_len}
 use Rattle.std.proofs.lemmas.Bool.Decides.{eqb_tells}
 use Rattle.merkle_base.specs.Tree.{Tree, leaf, join, position, height, first_leaf, width, IsUnder, IsBuilt, IsBalanced}
@@ -61,7 +62,8 @@ stacked_merge ns (b ∷ a ∷ ts) e s =
       (older.2.0, omega (arith, l, older.2.1, s.2.1, same, pow-suc 2 (suc (height a))), older.2.2),
     )
 
-stacked_merges : (is : List ℕ) → AllByRecursion (λ i. i ≡ 0) is → (f : Forest) → AreEqualMerges is (map height f.peaks) → Stacked (length f.nodes) f.peaks → Stacked (length (all_merged is f).nodes) (all_merged is f).peaks
+stacked_merges : (is : List ℕ) → AllByRecursion (λ i. i ≡ 0) is → (f : Forest) → AreEqualMerges is (map height f.peaks)
+    → Stacked (length f.nodes) f.peaks → Stacked (length (all_merged is f).nodes) (all_merged is f).peaks
 stacked_merges [] z f e s = s
 stacked_merges (zero ∷ is) z f e s =
     stacked_merges is z.1 (merged 0 f) (subst (AreEqualMerges is) (sym (heights_joined (length f.nodes) 0 f.peaks)) e.1) (stacked_merge f.nodes f.peaks e.0 s)

@@ -1,5 +1,6 @@
 -- Odd multiples of powers of two.
-use Rattle.std.proofs.Common.{◌≡◌, ◌≢◌, ℕ, suc, ◌+◌, ◌*◌, ◌^◌, ◌-◌, ◌<◌, ◌≤◌, arith, sym, ap, inl, inr, ◌∙◌, pow-suc, pow_pos, pow_mono, mul-le-mul_right, le_of_mul-le-mul_right, le_antisymm, le_of_eq}
+use Rattle.std.proofs.Common.{◌≡◌, ◌≢◌, ℕ, suc, ◌+◌, ◌*◌, ◌^◌, ◌-◌, ◌<◌, ◌≤◌, arith, sym, ap, inl, inr, ◌∙◌, pow-suc, pow_pos, pow_mono, mul-le-mul_right}
+use Rattle.std.proofs.Common.{le_of_mul-le-mul_right, le_antisymm, le_of_eq}
 use Rattle.std.specs.Int.RustNames.{count_ones}
 use Rattle.std.proofs.lemmas.Nat.{ones_cat, zero_from_ones}
 use Rattle.std.proofs.lemmas.Bool.{cases_lt}

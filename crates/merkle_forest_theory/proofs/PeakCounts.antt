@@ -22,7 +22,14 @@ weight_at (h ∷ hs) (suc i) l = omega (arith, weight_at hs i (omega arith))
 pub mmr_few : FewPeaks mmr_merges (2 ^ 62)
 mmr_few n i l b = elim (either n) [
   | inl h ↦ omega (arith, log_below (slice_index (peak_heights mmr_merges n) i) 62 n (omega (arith, weight_at (peak_heights mmr_merges n) i b, mmr_weight n)) h, ones-le 62 n h, mmr_peak_count n)
-  | inr h ↦ omega (arith, log_below (slice_index (peak_heights mmr_merges n) i) 63 n (omega (arith, weight_at (peak_heights mmr_merges n) i b, mmr_weight n)) (omega arith), mmr_peak_count n, ap count_ones (eq n l h), ones_pow 62)
+  | inr h ↦ omega (
+    arith,
+    log_below (slice_index (peak_heights mmr_merges n) i) 63 n
+        (omega (arith, weight_at (peak_heights mmr_merges n) i b, mmr_weight n)) (omega arith),
+    mmr_peak_count n,
+    ap count_ones (eq n l h),
+    ones_pow 62,
+  )
 ]
   where
     either : (n : ℕ) → (n < 2 ^ 62) ⊎ (2 ^ 62 ≤ n)

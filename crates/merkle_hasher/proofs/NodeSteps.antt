@@ -9,6 +9,7 @@ module _ (rule : List ℕ → List ℕ) (m p s : ℕ) (tall : ℕ) where
   inner_node (join q a b) w e = (q, a, b, w)
 
 -- a child is lower than its parent
-pub lower : (rule : List ℕ → List ℕ) (m p s tall q p' s' tall' : ℕ) (l r t : Tree) → IsNodeOf rule m p tall s (join q l r) → IsNodeOf rule m p' tall' s' t → (t ≡ l) ⊎ (height t ≡ height l) → tall' < tall
+pub lower : (rule : List ℕ → List ℕ) (m p s tall q p' s' tall' : ℕ) (l r t : Tree) → IsNodeOf rule m p tall s (join q l r)
+    → IsNodeOf rule m p' tall' s' t → (t ≡ l) ⊎ (height t ≡ height l) → tall' < tall
 lower rule m p s tall q p' s' tall' l r t w v (inl e) = omega (arith, w.height_is, v.height_is, ap height e)
 lower rule m p s tall q p' s' tall' l r t w v (inr e) = omega (arith, w.height_is, v.height_is, e)

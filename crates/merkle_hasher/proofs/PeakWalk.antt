@@ -53,10 +53,12 @@ module _ {F : Type 0} (rule : List ℕ → List ℕ) (n : ℕ) where
   }
 
   -- the next peak
-  pub next_peak : (m : ℕ) → n ≤ m → (left : List (Subtree F)) (P : ℕ → List Tree → List Tree → Type 0) → Walked rule n left P → (peak : Subtree F) (more : List (Subtree F)) → left ≡ peak ∷ more → Next rule m n peak more P
+  pub next_peak : (m : ℕ) → n ≤ m → (left : List (Subtree F)) (P : ℕ → List Tree → List Tree → Type 0) → Walked rule n left P
+      → (peak : Subtree F) (more : List (Subtree F)) → left ≡ peak ∷ more → Next rule m n peak more P
   next_peak m l left P w peak more e = step w.rest w.all (sym e ∙ w.left_is) w.after w.built w.holds
     where
-      step : (rest : List Tree) → peaks_of rule n ≡ w.done ++ rest → peak ∷ more ≡ map subtree_of rest → Spans w.begin n rest → AllByRecursion (IsBuilt (forest rule n).nodes) rest → P w.begin w.done rest → Next rule m n peak more P
+      step : (rest : List Tree) → peaks_of rule n ≡ w.done ++ rest → peak ∷ more ≡ map subtree_of rest → Spans w.begin n rest
+          → AllByRecursion (IsBuilt (forest rule n).nodes) rest → P w.begin w.done rest → Next rule m n peak more P
       step [] all is after built holds = absurd (cc)
       step (t ∷ ts) all is after built holds =
           let one : peak ≡ subtree_of t = cons_head peak (subtree_of t) more (map subtree_of ts) is in
@@ -77,7 +79,8 @@ module _ {F : Type 0} (rule : List ℕ → List ℕ) (n : ℕ) where
           }
 
   -- on to the peaks after it
-  pub walk_on : (m : ℕ) (peak : Subtree F) (more : List (Subtree F)) (P Q : ℕ → List Tree → List Tree → Type 0) → (w : Next rule m n peak more P) → Q (end_leaf w.tree) (w.done ++ w.tree ∷ []) w.rest → Walked rule n more Q
+  pub walk_on : (m : ℕ) (peak : Subtree F) (more : List (Subtree F)) (P Q : ℕ → List Tree → List Tree → Type 0) → (w : Next rule m n peak more P)
+      → Q (end_leaf w.tree) (w.done ++ w.tree ∷ []) w.rest → Walked rule n more Q
   walk_on m peak more P Q w h = record {
     begin = end_leaf w.tree;
     done = w.done ++ w.tree ∷ [];

@@ -47,7 +47,8 @@ module _ (rule : List ℕ → List ℕ) (m k : ℕ) (law : IsLawful rule m k) wh
         first_is = sym u.3 ∙ sym (end_is (position a) (h - 1) s a l);
       }
 
-  pub children_stand : (p h s q l r : ℕ) (a b : Tree) → IsNodeOf rule m p h s (join q a b) → AreChildren rule p l r → IsNodeOf rule m l (h - 1) s a × IsNodeOf rule m r (h - 1) (s + 1 * 2 ^ (h - 1) % 2 ^ 64) b
+  pub children_stand : (p h s q l r : ℕ) (a b : Tree) → IsNodeOf rule m p h s (join q a b) → AreChildren rule p l r → IsNodeOf rule m l (h - 1) s a
+      × IsNodeOf rule m r (h - 1) (s + 1 * 2 ^ (h - 1) % 2 ^ 64) b
   children_stand p h s q l r a b w c =
       let e : q ≡ p = (forest_grown rule m).placed p (join q a b) w.at in
       let at : slice_get (forest rule m).nodes p ≡ Some (join p a b) = subst (λ (x : ℕ). slice_get (forest rule m).nodes p ≡ Some (join x a b)) e w.at in

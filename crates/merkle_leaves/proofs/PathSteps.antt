@@ -65,7 +65,8 @@ module _ (rule : List ℕ → List ℕ) (m : ℕ) where
       rw (top, other, ← w.height_is) refl
 
   -- a step from the node at p to one of its children, which stand at x and y
-  module _ (p h s k x xh xs y yh ys : ℕ) (w : IsNodeAbove rule m p h s k) (inner : h ≢ 0) (children : (q : ℕ) (a b : Tree) → IsNodeOf rule m p h s (join q a b) → IsNodeOf rule m x xh xs a × IsNodeOf rule m y yh ys b) where
+  module _ (p h s k x xh xs y yh ys : ℕ) (w : IsNodeAbove rule m p h s k) (inner : h ≢ 0)
+      (children : (q : ℕ) (a b : Tree) → IsNodeOf rule m p h s (join q a b) → IsNodeOf rule m x xh xs a × IsNodeOf rule m y yh ys b) where
     pub left_step : k < ys → IsNodeAbove rule m x xh xs k × (path_from k (slice_get (forest rule m).nodes p) ≡ (p, y, h) ∷ path_from k (slice_get (forest rule m).nodes x))
     left_step low =
         let (q, a, b, v, high) = inner_over p h s k w inner in

@@ -114,7 +114,8 @@ module _ {D : Type 0} (s : Scheme D) (g : StructureState) (X : List D) (k : ℕ)
   counted : length X ≡ count g
   counted = ap length is ∙ length-leaf_digests s.hashing s.rule 0 g.committed
 
-  pub peaks_refused : {F : Type 0} (e : Error F) → (length (peaks_of s.rule (length X)) < k) × (e ≡ error.InvalidInactivePeaks k (length (peaks_of s.rule (length X)))) → text ≡ error_line (error_name e) → IsAuditedInput s g k r text
+  pub peaks_refused : {F : Type 0} (e : Error F) → (length (peaks_of s.rule (length X)) < k)
+      × (e ≡ error.InvalidInactivePeaks k (length (peaks_of s.rule (length X)))) → text ≡ error_line (error_name e) → IsAuditedInput s g k r text
   peaks_refused e over t = inl (subst (λ n. length (peaks_of s.rule n) < k) counted over.0, t ∙ ap (λ x. error_line (error_name x)) over.1)
 
   pub peaks_within : k ≤ length (peaks_of s.rule (length X)) → SaysOfInput s X k r text → IsAuditedInput s g k r text

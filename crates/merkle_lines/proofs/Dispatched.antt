@@ -14,5 +14,6 @@ pub dispatched : (family : FamilyName) (hash : HashName) (b c : Bagging) (g u : 
     → IsCommandAnswered told command (Some (record { family = family; bagging = c; hash = hash; structure = u })) text
 dispatched family hash b c g u told command request text t k same answered =
     subst (λ x. IsCommandAnswered x command (Some (record { family = family; bagging = c; hash = hash; structure = u })) text) (sym t)
-    (subst (λ x. IsCommandAnswered (Some (record { family = family; bagging = b; hash = hash; structure = g })) x (Some (record { family = family; bagging = c; hash = hash; structure = u })) text) (sym k)
+    (subst (λ x. IsCommandAnswered (Some (record { family = family; bagging = b; hash = hash; structure = g })) x
+    (Some (record { family = family; bagging = c; hash = hash; structure = u })) text) (sym k)
     (u, ap (λ x. Some (record { family = family; bagging = x; hash = hash; structure = u })) same, answered))

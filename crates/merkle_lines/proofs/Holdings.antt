@@ -83,16 +83,19 @@ module _ {D : Type 0} (h : Hashing D) (rule : List ℕ → List ℕ) (max_leaves
       none_of (Some c) m = absurd m
 
   -- without pending changes
-  pub held_without : (t : MemModel D) (q : Option (UnmerkleizedModel D)) (ys : List D) (fs : List (ℕ × D)) → t ≡ s → q ≡ None → ys ≡ xs → IsStructureHeld h rule max_leaves t q ys fs (without_changes g)
-  held_without t q ys fs e f same = subst (λ x. IsStructureHeld h rule max_leaves x q ys fs (without_changes g)) (sym e) (subst (λ x. IsStructureHeld h rule max_leaves s x ys fs (without_changes g)) (sym f) (record {
-    agrees = held.agrees;
-    counted = held.counted;
-    bounded = held.bounded;
-    boundary = held.boundary;
-    makes = tt;
-    listed = same ∙ held.listed;
-    edits_are = tt;
-  }))
+  pub held_without : (t : MemModel D) (q : Option (UnmerkleizedModel D)) (ys : List D) (fs : List (ℕ × D)) → t ≡ s → q ≡ None → ys ≡ xs
+      → IsStructureHeld h rule max_leaves t q ys fs (without_changes g)
+  held_without t q ys fs e f same =
+      subst (λ x. IsStructureHeld h rule max_leaves x q ys fs (without_changes g)) (sym e)
+      (subst (λ x. IsStructureHeld h rule max_leaves s x ys fs (without_changes g)) (sym f) (record {
+        agrees = held.agrees;
+        counted = held.counted;
+        bounded = held.bounded;
+        boundary = held.boundary;
+        makes = tt;
+        listed = same ∙ held.listed;
+        edits_are = tt;
+      }))
 
   -- with others
   pub held_with : (t : MemModel D) (b : UnmerkleizedModel D) (ys : List D) (fs : List (ℕ × D)) (c : Changes) → t ≡ s → Makes h rule list b c → ys ≡ xs → edited ys fs ≡ leaf_digests h rule 0 c.elements
@@ -108,7 +111,8 @@ module _ {D : Type 0} (h : Hashing D) (rule : List ℕ → List ℕ) (max_leaves
   })
 
   -- with all changes committed
-  pub held_all : (t : MemModel D) (q : Option (UnmerkleizedModel D)) (ys : List D) (fs : List (ℕ × D)) → q ≡ None → t.leaves ≡ length (changes g).elements → t.leaves ≤ max_leaves → Agrees h rule (contents t) (leaf_digests h rule 0 (changes g).elements) → t.boundary ≡ s.boundary
+  pub held_all : (t : MemModel D) (q : Option (UnmerkleizedModel D)) (ys : List D) (fs : List (ℕ × D)) → q ≡ None
+      → t.leaves ≡ length (changes g).elements → t.leaves ≤ max_leaves → Agrees h rule (contents t) (leaf_digests h rule 0 (changes g).elements) → t.boundary ≡ s.boundary
       → ys ≡ leaf_digests h rule 0 (changes g).elements → IsStructureHeld h rule max_leaves t q ys fs (all_committed g)
   held_all t q ys fs e n few a same is = subst (λ x. IsStructureHeld h rule max_leaves t x ys fs (all_committed g)) (sym e) (record {
     agrees = a;
@@ -121,7 +125,8 @@ module _ {D : Type 0} (h : Hashing D) (rule : List ℕ → List ℕ) (max_leaves
   })
 
   -- pruned
-  pub held_pruned : (t : MemModel D) (k : ℕ) → contents t ≡ pruned rule k (contents s) → t.leaves ≡ s.leaves → Agrees h rule (contents t) list → IsStructureHeld h rule max_leaves t p xs es (pruned_to g k)
+  pub held_pruned : (t : MemModel D) (k : ℕ) → contents t ≡ pruned rule k (contents s) → t.leaves ≡ s.leaves → Agrees h rule (contents t) list
+      → IsStructureHeld h rule max_leaves t p xs es (pruned_to g k)
   held_pruned t k e n a = record {
     agrees = a;
     counted = n ∙ held.counted;

@@ -1,5 +1,6 @@
 -- A pending batch makes changes, and what it is merkleized to is accepted.
-use Rattle.std.proofs.Common.{◌≡◌, ℕ, zero, suc, ◌+◌, ◌<◌, List, [], ◌∷◌, ◌++◌, length, take, drop, set, slice_get, Option, None, Some, Bool, true, false, Ok, Result, cond, arith, refl, sym, ap, inl, inr, ◌∙◌, subst, length-append}
+use Rattle.std.proofs.Common.{◌≡◌, ℕ, zero, suc, ◌+◌, ◌<◌, List, [], ◌∷◌, ◌++◌, length, take, drop, set, slice_get, Option, None, Some, Bool, true, false, Ok}
+use Rattle.std.proofs.Common.{Result, cond, arith, refl, sym, ap, inl, inr, ◌∙◌, subst, length-append}
 use Rattle.std.specs.Prelude.{◌==◌, ◌||◌, not, is_some, nat_le, ⊤}
 use Rattle.std.specs.List.{list_any}
 use Rattle.std.specs.Option.{ok_or, option_map}
@@ -147,7 +148,8 @@ module _ {D : Type 0} (h : Hashing D) (rule : List ℕ → List ℕ) (X : List D
 
   pub made_keeps : kept b ≡ []
   made_keeps =
-      ap (λ q. drop b.forgotten q.ancestors ++ cond (is_changed q.own) (q.own ∷ []) []) m.forked ∙ ap (λ n. drop n [] ++ cond (is_changed (root_batch rule (length X) m.origin).own) ((root_batch rule (length X) m.origin).own ∷ []) []) m.none_forgotten
+      ap (λ q. drop b.forgotten q.ancestors ++ cond (is_changed q.own) (q.own ∷ []) []) m.forked
+      ∙ ap (λ n. drop n [] ++ cond (is_changed (root_batch rule (length X) m.origin).own) ((root_batch rule (length X) m.origin).own ∷ []) []) m.none_forgotten
       ∙ ap (λ t. cond t ((root_batch rule (length X) m.origin).own ∷ []) []) (root_unchanged rule (length X) m.origin)
 
   made_lists : kept_lists b (X ∷ X ∷ []) ≡ X ∷ []
@@ -164,7 +166,8 @@ module _ {D : Type 0} (h : Hashing D) (rule : List ℕ → List ℕ) (X : List D
   made_needed : (t : Tree) → IsNeeded rule (get b.overwritten) b.leaves_before (leaf_total b) t → IsNeeded rule (at_updated rule c.updated) (length X) (length c.elements) t
   made_needed t needed =
       subst (λ n. IsNeeded rule (at_updated rule c.updated) n (length c.elements) t) m.before
-      (subst (λ e. IsNeeded rule (at_updated rule c.updated) b.leaves_before e t) made_total (needed_same rule (get b.overwritten) (at_updated rule c.updated) made_same b.leaves_before (leaf_total b) t needed))
+      (subst (λ e. IsNeeded rule (at_updated rule c.updated) b.leaves_before e t) made_total
+      (needed_same rule (get b.overwritten) (at_updated rule c.updated) made_same b.leaves_before (leaf_total b) t needed))
 
   given_needed : (t : Tree) → IsNeeded rule (at_updated rule c.updated) (length X) (length c.elements) t → IsNeeded rule (get b.overwritten) b.leaves_before (leaf_total b) t
   given_needed t needed =
@@ -188,7 +191,8 @@ module _ {D : Type 0} (h : Hashing D) (rule : List ℕ → List ℕ) (X : List D
       where
         gone : (k : Bool) → is_kept rule s.boundary (position t) ≡ k → k ≡ false
         gone false e = refl
-        gone true e = absurd (held_not_none (node_digests h rule X) (position t) (needed_old t needed) (sym (agrees.holds (position t) ∙ ap (λ k. cond k (slice_get (node_digests h rule X) (position t)) None) e) ∙ sym (read_alone t) ∙ none))
+        gone true e = absurd (held_not_none (node_digests h rule X) (position t) (needed_old t needed)
+            (sym (agrees.holds (position t) ∙ ap (λ k. cond k (slice_get (node_digests h rule X) (position t)) None) e) ∙ sym (read_alone t) ∙ none))
 
     pub lost_missing : (t : Tree) → IsNeeded rule (at_updated rule c.updated) (length X) (length c.elements) t → is_kept rule s.boundary (position t) ≡ false → IsMissing rule b (contents s) t
     lost_missing t needed lost = (given_needed t needed, read_alone t ∙ agrees.holds (position t) ∙ ap (λ k. cond k (slice_get (node_digests h rule X) (position t)) None) lost)
@@ -201,13 +205,23 @@ module _ {D : Type 0} (h : Hashing D) (rule : List ℕ → List ℕ) (X : List D
       pub made_accepted : EqDecides h → is_some (matched h.same s.size (held_peaks rule (length X) (contents s)) k) ≡ true
       made_accepted law = accepts h rule law k (X ∷ leaf_digests h rule 0 c.elements ∷ []) (contents s) X 0 two_lists refl (omega arith) agrees
 
-      pub made_applied : {F : Type 0} (d : Contents D) → k.ancestors ≡ kept b → applied {F = F} h.same rule (length X) k (contents s) ≡ Ok d → Agrees h rule d (leaf_digests h rule 0 c.elements) × (d.boundary ≡ s.boundary)
+      pub made_applied : {F : Type 0} (d : Contents D) → k.ancestors ≡ kept b → applied {F = F} h.same rule (length X) k (contents s) ≡ Ok d
+          → Agrees h rule d (leaf_digests h rule 0 c.elements) × (d.boundary ≡ s.boundary)
       made_applied {F = F} d alone done =
           let peaks = held_peaks rule (length X) (contents s) in
-          let is : with_records (records k) (contents s) ≡ d = taken (contents s) d (is_state h.same s.size peaks (oldest k).before (oldest k).peaks_before) (last_match (λ r. is_state h.same s.size peaks (after r) r.peaks_after) k.ancestors) (ap (last_match (λ r. is_state h.same s.size peaks (after r) r.peaks_after)) (alone ∙ made_keeps)) done in
-          (subst (λ x. Agrees h rule x (leaf_digests h rule 0 c.elements)) is (agree_all h rule (records k) X (leaf_digests h rule 0 c.elements ∷ []) (contents s) two_lists agrees), sym (ap (λ x. x.boundary) is) ∙ with_record_boundary (records k) (contents s))
+          let is : with_records (records k) (contents s) ≡ d =
+          taken (contents s) d (is_state h.same s.size peaks (oldest k).before (oldest k).peaks_before)
+          (last_match (λ r. is_state h.same s.size peaks (after r) r.peaks_after) k.ancestors)
+          (ap (last_match (λ r. is_state h.same s.size peaks (after r) r.peaks_after)) (alone ∙ made_keeps)) done in (
+            subst (λ x. Agrees h rule x (leaf_digests h rule 0 c.elements)) is
+                (agree_all h rule (records k) X (leaf_digests h rule 0 c.elements ∷ []) (contents s) two_lists agrees),
+            sym (ap (λ x. x.boundary) is)
+                ∙ with_record_boundary (records k) (contents s),
+          )
         where
-          taken : (c d : Contents D) (b : Bool) (o : Option ℕ) → o ≡ None → ◌≡◌ {A = Result (Contents D) (Error F)} (ok_or (option_map (λ i. with_records (drop i (records k)) c) (cond b (Some 0) o)) (apply_error c.size k)) (Ok d) → with_records (records k) c ≡ d
+          taken : (c d : Contents D) (b : Bool) (o : Option ℕ) → o ≡ None
+              → ◌≡◌ {A = Result (Contents D) (Error F)}
+              (ok_or (option_map (λ i. with_records (drop i (records k)) c) (cond b (Some 0) o)) (apply_error c.size k)) (Ok d) → with_records (records k) c ≡ d
           taken c d true o n e = (cc)
           taken c d false None n e = absurd (cc)
           taken c d false (Some i) n e = absurd (cc)

@@ -1,5 +1,6 @@
 -- Bytes are answered line by line.
-use Rattle.std.proofs.Common.{◌≡◌, ℕ, zero, suc, ◌<◌, List, [], ◌∷◌, ◌++◌, length, drop, slice_index, arith, Option, None, Some, Result, Ok, Err, false, cond, refl, sym, ap, ◌∙◌, subst, append_assoc, append-nil}
+use Rattle.std.proofs.Common.{◌≡◌, ℕ, zero, suc, ◌<◌, List, [], ◌∷◌, ◌++◌, length, drop, slice_index, arith, Option, None, Some, Result, Ok, Err, false, cond}
+use Rattle.std.proofs.Common.{refl, sym, ap, ◌∙◌, subst, append_assoc, append-nil}
 use Rattle.std.specs.Prelude.{◌==◌, OnOk}
 use Rattle.std.specs.List.{AllByRecursion}
 use Rattle.std.specs.Io.KnownBytes.{Appends, Consumes, Keeps}
@@ -18,17 +19,20 @@ pub leads_end : (told v : Option SessionState) (begun text : List ℕ) → IsLin
 leads_end told v begun text answered more rest t = (v, text, rest, answered, append_assoc text (10 ∷ []) rest, t)
 
 -- bytes after bytes
-pub leads_then : (told u v : Option SessionState) (begun next last xs ys out more : List ℕ) → ContinuesTo told begun xs out u next → ContinuesTo u next ys more v last → ContinuesTo told begun (xs ++ ys) (out ++ more) v last
+pub leads_then : (told u v : Option SessionState) (begun next last xs ys out more : List ℕ) → ContinuesTo told begun xs out u next
+    → ContinuesTo u next ys more v last → ContinuesTo told begun (xs ++ ys) (out ++ more) v last
 leads_then told u v begun next last xs ys out more first second zs rest t =
     let w = first (ys ++ zs) (more ++ rest) (second zs rest t) in
-    subst (λ bs. IsTranscript told (lines_after bs begun) ((out ++ more) ++ rest)) (sym (append_assoc xs ys zs)) (subst (IsTranscript told (lines_after (xs ++ (ys ++ zs)) begun)) (sym (append_assoc out more rest)) w)
+    subst (λ bs. IsTranscript told (lines_after bs begun) ((out ++ more) ++ rest)) (sym (append_assoc xs ys zs))
+    (subst (IsTranscript told (lines_after (xs ++ (ys ++ zs)) begun)) (sym (append_assoc out more rest)) w)
 
 -- a last line that nothing ends
 pub last_line : (told v : Option SessionState) (begun text : List ℕ) → (length begun == 0) ≡ false → IsLineAnswered told begun v text → IsTranscript told (lines_after [] begun) (text ++ 10 ∷ [])
 last_line told v begun text e answered = subst (λ c. IsTranscript told (cond c [] (begun ∷ [])) (text ++ 10 ∷ [])) (sym e) (v, text, [], answered, refl, refl)
 
 -- all bytes
-pub leads_all : (told v : Option SessionState) (begun next bytes out rest : List ℕ) → ContinuesTo told begun bytes out v next → IsTranscript v (lines_after [] next) rest → IsTranscript told (lines_after bytes begun) (out ++ rest)
+pub leads_all : (told v : Option SessionState) (begun next bytes out rest : List ℕ) → ContinuesTo told begun bytes out v next
+    → IsTranscript v (lines_after [] next) rest → IsTranscript told (lines_after bytes begun) (out ++ rest)
 leads_all told v begun next bytes out rest l t = subst (λ bs. IsTranscript told (lines_after bs begun) (out ++ rest)) (append-nil bytes) (l [] rest t)
 
 -- known bytes that grow twice

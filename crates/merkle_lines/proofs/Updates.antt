@@ -16,7 +16,8 @@ use Rattle.merkle_lines.specs.Held.{Makes}
 use Rattle.merkle_lines.proofs.Making.{made_total}
 use Rattle.merkle_lines.proofs.Replies.{update_out, update_pruned, wanting}
 
-module _ {D : Type 0} (s : Scheme D) (size_of : ℕ) (Spells : List ℕ → Type 0) (g : StructureState) (b : UnmerkleizedModel D) (m : Makes s.hashing s.rule (committed_list s g) b (changes g)) (location : ℕ) where
+module _ {D : Type 0} (s : Scheme D) (size_of : ℕ) (Spells : List ℕ → Type 0) (g : StructureState) (b : UnmerkleizedModel D)
+    (m : Makes s.hashing s.rule (committed_list s g) b (changes g)) (location : ℕ) where
   made_boundary : b.parent.boundary ≡ (changes g).boundary
   made_boundary = ap (λ p. p.boundary) m.forked ∙ m.boundary
 
@@ -35,7 +36,8 @@ module _ {D : Type 0} (s : Scheme D) (size_of : ℕ) (Spells : List ℕ → Type
     ]
   ]
 
-  pub update_failed : {F : Type 0} (digits : Bor (List ℕ)) (e : Error F) (text : List ℕ) → ((other : Error F) → update_error s.rule b location ≡ Some other → e ≡ other) → (update_error {F = F} s.rule b location ≡ None → e ≡ error.OutOfMemory)
+  pub update_failed : {F : Type 0} (digits : Bor (List ℕ)) (e : Error F) (text : List ℕ)
+      → ((other : Error F) → update_error s.rule b location ≡ Some other → e ≡ other) → (update_error {F = F} s.rule b location ≡ None → e ≡ error.OutOfMemory)
       → text ≡ error_line (error_name e) → IsRequestAnswered s size_of Spells g (Update location digits) (without_changes g) text
   update_failed digits e text refused allowed t = elim (cases_lt location (leaf_total b)) [
     | inr past ↦ update_out s size_of Spells g location digits e text (omega (arith, past, total)) (refused (error.LeafOutOfBounds location) (out_of_bounds s.rule b location past)) t

@@ -32,7 +32,8 @@ module _ {D : Type 0} (s : Scheme D) (size : ℕ) (Spells : List ℕ → Type 0)
   unread OutOfMemory r t = inr t
 
   -- bytes that are a proof
-  pub judged : (leaves peaks : ℕ) (digests : List D) (rest : List ℕ) → leaves ≤ s.max_leaves → peaks < 2 ^ 64 → length digests ≤ most_digests (length elements) → bytes ≡ parts_spelling s.hashing.bytes leaves peaks digests ++ rest → rest ≡ []
+  pub judged : (leaves peaks : ℕ) (digests : List D) (rest : List ℕ) → leaves ≤ s.max_leaves → peaks < 2 ^ 64
+      → length digests ≤ most_digests (length elements) → bytes ≡ parts_spelling s.hashing.bytes leaves peaks digests ++ rest → rest ≡ []
       → Says ((peaks ≡ k) × (reconstructed s (range_input s leaves peaks digests a elements) ≡ Ok root)) text → IsRead s size Spells a k root bytes elements text
   judged leaves peaks digests rest few small most spelled none says = inr (leaves, peaks, digests, rest, few, small, most, spelled, inr (none, says))
 

@@ -1,5 +1,6 @@
 -- Expressions that are folded as the peaks of a root are.
-use Rattle.std.proofs.Common.{◌≡◌, ℕ, suc, pred, ◌+◌, ◌-◌, false, not, cond, List, [], ◌∷◌, ◌++◌, refl, ap, ap₂, sym, ◌∙◌, arith, length, map, flat_map, filter, take, drop, fold, Option, Some, None, option_map, append_assoc, append-nil, take-append-drop}
+use Rattle.std.proofs.Common.{◌≡◌, ℕ, suc, pred, ◌+◌, ◌-◌, false, not, cond, List, [], ◌∷◌, ◌++◌, refl, ap, ap₂, sym, ◌∙◌, arith, length, map, flat_map, filter}
+use Rattle.std.proofs.Common.{take, drop, fold, Option, Some, None, option_map, append_assoc, append-nil, take-append-drop}
 use Rattle.std.specs.List.{AllByRecursion}
 use Rattle.std.specs.Option.{option_map_or}
 use Rattle.std.proofs.lemmas.List.{take-map, drop-map}
@@ -172,6 +173,7 @@ module _ {D : Type 0} (h : Hashing D) where
       let v = with_parts acc (suc (pred k)) vs (all_drop HasNodes (pred k) es o.1) in
       ap₂ ◌++◌
       (v.0 ∙ ap₂ (λ x ys. joined_inputs h x ys (suc (pred k)) (map (value h) vs)) (left_value e 1 us) (w.0 ∙ ap (λ z. L ++ z) o.0.0 ∙ append-nil L)
-      ∙ ap₂ (λ (ds zs : List D). joined_inputs h (fold h.fold (value h e) ds) (left_inputs h (value h e) 1 ds) (suc (pred k)) zs) (sym (take-map (value h) (pred k) es)) (sym (drop-map (value h) (pred k) es)))
+      ∙ ap₂ (λ (ds zs : List D). joined_inputs h (fold h.fold (value h e) ds) (left_inputs h (value h e) 1 ds) (suc (pred k)) zs)
+      (sym (take-map (value h) (pred k) es)) (sym (drop-map (value h) (pred k) es)))
       (v.1 ∙ ap (λ z. z ++ flat_map (visited h) vs) (w.1 ∙ ap (λ z. z ++ flat_map (visited h) us) o.0.1)
       ∙ sym (flat_map-append (visited h) (e ∷ us) vs) ∙ ap (λ z. flat_map (visited h) (e ∷ z)) (take-append-drop (pred k) es))

@@ -1,5 +1,6 @@
 -- What a check of a range with pins computes is folded as the peaks are: those before the range rebuilt from the pins, each apart.
-use Rattle.std.proofs.Common.{◌≡◌, ℕ, zero, suc, pred, ◌+◌, ◌-◌, ◌≤◌, Bool, true, false, cond, ◌||◌, List, [], ◌∷◌, ◌++◌, refl, ap, ap₂, sym, ◌∙◌, arith, length, map, take, drop, Option, Some, option_map, append_assoc, append-nil, length-append, drop-drop}
+use Rattle.std.proofs.Common.{◌≡◌, ℕ, zero, suc, pred, ◌+◌, ◌-◌, ◌≤◌, Bool, true, false, cond, ◌||◌, List, [], ◌∷◌, ◌++◌, refl, ap, ap₂, sym, ◌∙◌, arith}
+use Rattle.std.proofs.Common.{length, map, take, drop, Option, Some, option_map, append_assoc, append-nil, length-append, drop-drop}
 use Rattle.std.proofs.lemmas.Bool.{or_left, or_right}
 use Rattle.std.proofs.lemmas.List.{length-map, length-take, length-drop, map-append}
 use Rattle.merkle_base.specs.Hashing.{Hashing}
@@ -64,8 +65,10 @@ module _ {D : Type 0} (h : Hashing D) (b : ℕ → Option D) (w c : ℕ → Bool
   all_folding : (q : Place) (l r : Plan) (ps : List Plan) (os is : List D) → meets c l || meets c r ≡ true
       → all_claimed ps (outer (folding q l r) os) (inner (folding q l r) is) ≡ all_claimed ps (outer r (outer l os)) (inner r (inner l is))
   all_folding q l r ps os is m = ap₂ (all_claimed ps)
-      (ap (λ z. drop (length (cond z (outside_parts c l ++ outside_parts c r) (folding q l r ∷ []))) os) m ∙ ap (λ n. drop n os) (length-append (outside_parts c l) (outside_parts c r)) ∙ sym (drop-drop (length (outside_parts c r)) (length (outside_parts c l)) os))
-      (ap (λ z. drop (length (cond z (path_siblings c l ++ path_siblings c r) [])) is) m ∙ ap (λ n. drop n is) (length-append (path_siblings c l) (path_siblings c r)) ∙ sym (drop-drop (length (path_siblings c r)) (length (path_siblings c l)) is))
+      (ap (λ z. drop (length (cond z (outside_parts c l ++ outside_parts c r) (folding q l r ∷ []))) os) m
+      ∙ ap (λ n. drop n os) (length-append (outside_parts c l) (outside_parts c r)) ∙ sym (drop-drop (length (outside_parts c r)) (length (outside_parts c l)) os))
+      (ap (λ z. drop (length (cond z (path_siblings c l ++ path_siblings c r) [])) is) m
+      ∙ ap (λ n. drop n is) (length-append (path_siblings c l) (path_siblings c r)) ∙ sym (drop-drop (length (path_siblings c r)) (length (path_siblings c l)) is))
 
   -- ---- parts that are given, one after another
   outer_unmet : (p : Plan) (os : List D) → meets c p ≡ false → outer p os ≡ drop 1 os
@@ -211,7 +214,8 @@ module _ {D : Type 0} (h : Hashing D) (b : ℕ → Option D) (w c : ℕ → Bool
       let none : q ≡ 0 = omega (arith, k) in
       let reached : meets c acc || tree_meets c t ≡ true = or_right (meets c acc) (tree_meets c t) x.0 in
       ap (λ o. with_of (left_of (claimed acc os is) g (take (suc n) (all_claimed (peak t ∷ qs) (drop o (drop 1 os)) is))) i (drop (suc n) (all_claimed (peak t ∷ qs) (drop o (drop 1 os)) is))) none
-      ∙ ap₂ (λ o s. with_of (left_of (claimed acc os is) g (take (suc n) (all_claimed (peak t ∷ qs) o s))) i (drop (suc n) (all_claimed (peak t ∷ qs) o s))) (sym (outer_unmet acc os e)) (sym (inner_same acc is e))
+      ∙ ap₂ (λ o s. with_of (left_of (claimed acc os is) g (take (suc n) (all_claimed (peak t ∷ qs) o s))) i
+      (drop (suc n) (all_claimed (peak t ∷ qs) o s))) (sym (outer_unmet acc os e)) (sym (inner_same acc is e))
       ∙ more n g i acc t qs os is reached
       ∙ join_left (folding (PrefixFold g) acc (peak t)) (suc g) i j n m over after os is reached x.1 v a (omega (arith, l))
   from_before acc g i j (suc n) m q (d ∷ bs) t over after os is e f u y x v a l k =
@@ -271,7 +275,8 @@ module _ {D : Type 0} (h : Hashing D) (b : ℕ → Option D) (w c : ℕ → Bool
         let count : 1 + q ≡ count_before BackwardFold k (d ∷ bs) = omega (arith, length-fold_all (take k (d ∷ bs)), length-take k (d ∷ bs), length-drop k (d ∷ bs)) in
         let given : drop (count_before BackwardFold k (d ∷ bs)) ds ≡ drop q (drop 1 ds) = sym (drop-drop q 1 ds ∙ ap (λ n. drop n ds) count) in
         ap (λ o. folded_of BackwardFold k (map pin (d ∷ bs) ++ all_claimed ps o is)) given
-        ∙ ap Some (ap (λ z. with_of (left_of z 1 (take (pred k) (map pin bs ++ all_claimed ps (drop q (drop 1 ds)) is))) (suc (pred k)) (drop (pred k) (map pin bs ++ all_claimed ps (drop q (drop 1 ds)) is))) (sym (before_given (peak d) ds is u.0 y.0))
+        ∙ ap Some (ap (λ z. with_of (left_of z 1 (take (pred k) (map pin bs ++ all_claimed ps (drop q (drop 1 ds)) is))) (suc (pred k))
+        (drop (pred k) (map pin bs ++ all_claimed ps (drop q (drop 1 ds)) is))) (sym (before_given (peak d) ds is u.0 y.0))
         ∙ from_before (peak d) 1 (suc (pred k)) (met + (k - met)) (pred k) (k - met) q bs t over after ds is u.0 y.0 u.1 y.1 m v a (omega arith) refl)
 
     pub parts_folded : (bagging : Bagging) (before : List Tree) → Unmet c before → Met w before → IsFolded bagging before

@@ -1,5 +1,6 @@
 -- What a check of a range with pins hashes, by the digests of the peaks.
-use Rattle.std.proofs.Common.{◌≡◌, ℕ, suc, ◌+◌, ◌<◌, ◌≤◌, Bool, true, false, not, cond, ◌||◌, nat_le, List, [], ◌∷◌, ◌++◌, refl, ap, ap₂, sym, ◌∙◌, subst, arith, inr, length, map, flat_map, filter, take, drop, Option, Some, option_map, append-nil, leb-true}
+use Rattle.std.proofs.Common.{◌≡◌, ℕ, suc, ◌+◌, ◌<◌, ◌≤◌, Bool, true, false, not, cond, ◌||◌, nat_le, List, [], ◌∷◌, ◌++◌, refl, ap, ap₂, sym, ◌∙◌, subst}
+use Rattle.std.proofs.Common.{arith, inr, length, map, flat_map, filter, take, drop, Option, Some, option_map, append-nil, leb-true}
 use Rattle.std.proofs.lemmas.List.{map-append, length-drop}
 use Rattle.std.proofs.lemmas.Grind.{flat_map-append}
 use Rattle.std.specs.List.{AllByRecursion}
@@ -146,7 +147,8 @@ module _ {D : Type 0} (h : Hashing D) (b : ℕ → Option D) (w c : ℕ → Bool
     all_visited =
         flat_map-append (visited h) (map (pin h b w c X) before) (over_claimed h b w c X over rest ++ map supplied given)
         ∙ ap₂ ◌++◌ (pin_visited before)
-        (flat_map-append (visited h) (over_claimed h b w c X over rest) (map supplied given) ∙ ap₂ ◌++◌ (over_visited over rest) (given_visited given) ∙ append-nil (pinned_over_inputs h b w c X over rest))
+        (flat_map-append (visited h) (over_claimed h b w c X over rest) (map supplied given) ∙ ap₂ ◌++◌ (over_visited over rest) (given_visited given)
+        ∙ append-nil (pinned_over_inputs h b w c X over rest))
 
     pub all_nodes : AllByRecursion (λ (e : Expression D). AreNodes h (visited h e)) (map (pin h b w c X) before ++ (over_claimed h b w c X over rest ++ map supplied given))
     all_nodes =
@@ -198,21 +200,28 @@ pinned_by_peaks {D = D} s r pins root ok = at (wholly_before r.start ts) (overla
     plan : (p : Plan) × (root_plan s.bagging r.inactive ts ≡ Some p)
     plan = plan_for s r.leaves r.inactive (omega (arith, ok.within, ok.nonempty))
 
-    parts_are : length (outside_parts (chosen r) plan.0) ≡ count_before s.bagging r.inactive (wholly_before r.start ts) + count_after s.bagging r.inactive (length (wholly_before r.start ts) + length (overlapping r.start (end_of r) ts)) (wholly_after (end_of r) ts)
-    parts_are = ap length (subst (HasLayout (chosen r) (range_parts s.bagging r.inactive r.start (end_of r) ts) (range_siblings r.start (end_of r) ts)) plan.1 (range_layout s r.leaves r.inactive r.start (end_of r) less ok.within)).0 ∙ layout_counts s r
+    parts_are : length (outside_parts (chosen r) plan.0)
+        ≡ count_before s.bagging r.inactive (wholly_before r.start ts) + count_after s.bagging r.inactive
+        (length (wholly_before r.start ts) + length (overlapping r.start (end_of r) ts)) (wholly_after (end_of r) ts)
+    parts_are = ap length (subst (HasLayout (chosen r) (range_parts s.bagging r.inactive r.start (end_of r) ts)
+        (range_siblings r.start (end_of r) ts)) plan.1 (range_layout s r.leaves r.inactive r.start (end_of r) less ok.within)).0 ∙ layout_counts s r
 
     at : (before over after : List Tree) → (over ≡ [] → ⊥) → Unmet (chosen r) before → Met (chosen r) over → Unmet (chosen r) after
         → Met (in_range 0 r.start) before → Unmet (in_range 0 r.start) after → peaks_of s.rule r.leaves ≡ before ++ (over ++ after)
         → count_before s.bagging r.inactive before + count_after s.bagging r.inactive (length before + length over) after ≤ length r.digests
         → length (outside_parts (chosen r) plan.0) ≡ count_before s.bagging r.inactive before + count_after s.bagging r.inactive (length before + length over) after
-        → drop (length (range_parts s.bagging r.inactive r.start (end_of r) (peaks_of s.rule r.leaves))) r.digests ≡ drop (count_before s.bagging r.inactive before + count_after s.bagging r.inactive (length before + length over) after) r.digests
-        → AllRebuilt s.hashing (tree_meets (in_range 0 r.start)) (rebuilt_node s.hashing (pin_at s r.start pins)) (flat_map (siblings (chosen r)) over) (drop (length (range_parts s.bagging r.inactive r.start (end_of r) (peaks_of s.rule r.leaves))) r.digests)
+        → drop (length (range_parts s.bagging r.inactive r.start (end_of r) (peaks_of s.rule r.leaves))) r.digests
+        ≡ drop (count_before s.bagging r.inactive before + count_after s.bagging r.inactive (length before + length over) after) r.digests
+        → AllRebuilt s.hashing (tree_meets (in_range 0 r.start)) (rebuilt_node s.hashing (pin_at s r.start pins))
+        (flat_map (siblings (chosen r)) over) (drop (length (range_parts s.bagging r.inactive r.start (end_of r) (peaks_of s.rule r.leaves))) r.digests)
         → pinned_inputs s r pins
         ≡ top_inputs s r.leaves r.inactive (map (rebuilt_node s.hashing (pin_at s r.start pins)) before
-        ++ (peak_values s.hashing (chosen r) (leaf_given s.hashing r) over (drop (count_before s.bagging r.inactive before + count_after s.bagging r.inactive (length before + length over) after) r.digests)
+        ++ (peak_values s.hashing (chosen r) (leaf_given s.hashing r) over
+        (drop (count_before s.bagging r.inactive before + count_after s.bagging r.inactive (length before + length over) after) r.digests)
         ++ take (count_after s.bagging r.inactive (length before + length over) after) (drop (count_before s.bagging r.inactive before) r.digests)))
         ++ (flat_map (λ t. visited s.hashing (pin_tree s.hashing (pin_at s r.start pins) t)) before
-        ++ pinned_over_inputs s.hashing (pin_at s r.start pins) (in_range 0 r.start) (chosen r) (leaf_given s.hashing r) over (drop (count_before s.bagging r.inactive before + count_after s.bagging r.inactive (length before + length over) after) r.digests))
+        ++ pinned_over_inputs s.hashing (pin_at s r.start pins) (in_range 0 r.start) (chosen r) (leaf_given s.hashing r) over
+        (drop (count_before s.bagging r.inactive before + count_after s.bagging r.inactive (length before + length over) after) r.digests))
     at before [] after x u m v y z split enough parts moved rebuilt = absurd (x refl)
     at before (t ∷ over) after x u m v y z split enough parts moved rebuilt =
         let b = pin_at s r.start pins in

@@ -1,5 +1,6 @@
 -- What stands at the nodes' places among the inputs of a check of a range with pins.
-use Rattle.std.proofs.Common.{◌≡◌, ℕ, ◌+◌, ◌<◌, ◌≤◌, Bool, true, false, cond, nat_lt, List, [], ◌∷◌, ◌++◌, ◌⊎◌, inl, inr, refl, ap, ap₂, sym, ◌∙◌, subst, ⊎_elim, arith, length, map, flat_map, take, drop, Option, Some, None, MatchOption, append-nil, le-leb, lt-ltb, le-ltb, ltb-true}
+use Rattle.std.proofs.Common.{◌≡◌, ℕ, ◌+◌, ◌<◌, ◌≤◌, Bool, true, false, cond, nat_lt, List, [], ◌∷◌, ◌++◌, ◌⊎◌, inl, inr, refl, ap, ap₂, sym, ◌∙◌, subst}
+use Rattle.std.proofs.Common.{⊎_elim, arith, length, map, flat_map, take, drop, Option, Some, None, MatchOption, append-nil, le-leb, lt-ltb, le-ltb, ltb-true}
 use Rattle.std.proofs.lemmas.Bool.{lt-leb, and_from, and_parts, cases_Bool, cases_lt, false≢true}
 use Rattle.std.proofs.lemmas.Grind.{flat_map-append}
 use Rattle.std.proofs.lemmas.List.{map-append}
@@ -201,12 +202,15 @@ module _ {D : Type 0} (h : Hashing D) (b : ℕ → Option D) (start stop : ℕ) 
         → ((q : ℕ) (d : D) → Member (inner_pairs h c X (join p l r) ds) (q, d) → g q ≡ d)
         → (Shows f (node_places l) (visited h (pinned_tree h b w c X l ds)) → AllRebuilt h (tree_meets w) (rebuilt_node h b) (siblings c l) ds
         → ((q : ℕ) (d : D) → Member (inner_pairs h c X l ds) (q, d) → g q ≡ d) → Sees l)
-        → (Shows f (node_places r) (visited h (pinned_tree h b w c X r (drop (length (siblings c l)) ds))) → AllRebuilt h (tree_meets w) (rebuilt_node h b) (siblings c r) (drop (length (siblings c l)) ds)
+        → (Shows f (node_places r) (visited h (pinned_tree h b w c X r (drop (length (siblings c l)) ds)))
+        → AllRebuilt h (tree_meets w) (rebuilt_node h b) (siblings c r) (drop (length (siblings c l)) ds)
         → ((q : ℕ) (d : D) → Member (inner_pairs h c X r (drop (length (siblings c l)) ds)) (q, d) → g q ≡ d) → Sees r)
         → (tree_meets c (join p l r) ≡ true) ⊎ (tree_meets c (join p l r) ≡ false) → Sees (join p l r)
     by_meets p l r ds built dis sh again told left right (inr e) =
         outside_sees (join p l r) (next h ds) built e dis
-        (subst (λ z. Shows f (node_places (join p l r)) (visited h (cond z (computed (Node p) (pinned_tree h b w c X l ds) (pinned_tree h b w c X r (drop (length (siblings c l)) ds))) (outside_tree h b w (join p l r) (next h ds))))) e sh)
+        (subst (λ z. Shows f (node_places (join p l r))
+        (visited h (cond z (computed (Node p) (pinned_tree h b w c X l ds) (pinned_tree h b w c X r (drop (length (siblings c l)) ds)))
+        (outside_tree h b w (join p l r) (next h ds))))) e sh)
     by_meets p l r ds built dis sh again told left right (inl e) =
         let es = drop (length (siblings c l)) ds in
         let L = pinned_tree h b w c X l ds in
@@ -221,7 +225,8 @@ module _ {D : Type 0} (h : Hashing D) (b : ℕ → Option D) (start stop : ℕ) 
         let rs = inner_pairs h c X r es in
         let ends : List (ℕ × D) = (position l, value h (tree_claim h c X l ds)) ∷ (position r, value h (tree_claim h c X r es)) ∷ [] in
         let known : (q : ℕ) (d : D) → Member (ls ++ (rs ++ ends)) (q, d) → g q ≡ d = subst (λ z. (q : ℕ) (d : D) → Member (cond z (ls ++ (rs ++ ends)) []) (q, d) → g q ≡ d) e told in
-        let v = rebuilt_split h (tree_meets w) (rebuilt_node h b) (siblings c l) (siblings c r) ds (subst (λ us. AllRebuilt h (tree_meets w) (rebuilt_node h b) us ds) (siblings_join c p l r e) again) in
+        let v = rebuilt_split h (tree_meets w) (rebuilt_node h b) (siblings c l) (siblings c r) ds
+        (subst (λ us. AllRebuilt h (tree_meets w) (rebuilt_node h b) us ds) (siblings_join c p l r e) again) in
         let one = child_value l ds built.4 v.0 (known (position l) (value h (tree_claim h c X l ds)) (member_right ls (rs ++ ends) _ (member_right rs ends _ (inl refl)))) in
         let two = child_value r es built.5 v.1 (known (position r) (value h (tree_claim h c X r es)) (member_right ls (rs ++ ends) _ (member_right rs ends _ (inr (inl refl))))) in
         let y = and_parts (nat_lt (first_leaf l) stop) (nat_lt start (end_leaf (join p l r))) (sym (meets_is start stop less ns (join p l r) built) ∙ e) in
@@ -253,7 +258,8 @@ module _ {D : Type 0} (h : Hashing D) (b : ℕ → Option D) (start stop : ℕ) 
     over_inside (t ∷ ts) ds p m =
         let xs = visited h (pinned_tree h b w c X t ds) in
         let ys = pinned_over_inputs h b w c X ts (drop (length (siblings c t)) ds) in
-        ⊎_elim (λ n. member_left (node_places t) (flat_map node_places ts) p (inside_pinned h b w c X t ds p n)) (λ n. member_right (node_places t) (flat_map node_places ts) p (over_inside ts (drop (length (siblings c t)) ds) p n))
+        ⊎_elim (λ n. member_left (node_places t) (flat_map node_places ts) p (inside_pinned h b w c X t ds p n))
+        (λ n. member_right (node_places t) (flat_map node_places ts) p (over_inside ts (drop (length (siblings c t)) ds) p n))
         (member_split (places_in xs) (places_in ys) p (subst (λ z. Member z p) (joined_places xs ys) m))
 
     before_see : (ts : List Tree) → AllByRecursion (IsBuilt ns) ts → AllByRecursion (λ t. end_leaf t ≤ start) ts → Distinct (flat_map node_places ts)
@@ -279,7 +285,8 @@ module _ {D : Type 0} (h : Hashing D) (b : ℕ → Option D) (start stop : ℕ) 
         let v = rebuilt_split h (tree_meets w) (rebuilt_node h b) (siblings c t) (flat_map (siblings c) ts) ds again in
         let ps = inner_pairs h c X t ds in
         let q : ℕ × D = (position t, value h (tree_claim h c X t ds)) in (
-          tree_sees t ds built.0 parts.0 (shows_left f (node_places t) (flat_map node_places ts) xs ys dis (over_inside ts es) sh) v.0 (λ p d m. told p d (member_left ps (q ∷ over_pairs h c X ts es) _ m)),
+          tree_sees t ds built.0 parts.0 (shows_left f (node_places t) (flat_map node_places ts) xs ys dis (over_inside ts es) sh) v.0
+              (λ p d m. told p d (member_left ps (q ∷ over_pairs h c X ts es) _ m)),
           over_see ts es built.1 parts.1 (shows_right f (node_places t) (flat_map node_places ts) xs ys dis (inside_pinned h b w c X t ds) sh) v.1
               (λ p d m. told p d (member_right ps (q ∷ over_pairs h c X ts es) _ (inr m))),
         )

@@ -1,5 +1,6 @@
 -- The digests that an accepted range input with pins has for the peaks up to the end of the range, by the digests of nodes.
-use Rattle.std.proofs.Common.{◌≡◌, ℕ, Option, ◌+◌, ◌<◌, ◌≤◌, nat_lt, ◌&&◌, cond, List, [], ◌∷◌, ◌++◌, length, map, take, drop, refl, ap, ap₂, sym, ◌∙◌, arith, append_assoc, length-append, le-leb, ltb-true}
+use Rattle.std.proofs.Common.{◌≡◌, ℕ, Option, ◌+◌, ◌<◌, ◌≤◌, nat_lt, ◌&&◌, cond, List, [], ◌∷◌, ◌++◌, length, map, take, drop, refl, ap, ap₂, sym, ◌∙◌, arith}
+use Rattle.std.proofs.Common.{append_assoc, length-append, le-leb, ltb-true}
 use Rattle.std.proofs.lemmas.Bool.{lt-leb, and_parts}
 use Rattle.std.proofs.lemmas.List.{map-append, take_all, take-append-le}
 use Rattle.std.specs.List.{AllByRecursion}
@@ -32,7 +33,9 @@ module _ {D : Type 0} (h : Hashing D) (b : ℕ → Option D) (start : ℕ) (f : 
 
 all_over : (a b : ℕ) (ts : List Tree) → AllByRecursion (λ t. a < end_leaf t) (overlapping a b ts)
 all_over a b [] = tt
-all_over a b (t ∷ ts) = by_test (λ z. (nat_lt (first_leaf t) b && nat_lt a (end_leaf t)) ≡ z → AllByRecursion (λ t. a < end_leaf t) (cond z (t ∷ overlapping a b ts) (overlapping a b ts))) (nat_lt (first_leaf t) b && nat_lt a (end_leaf t))
+all_over a b (t ∷ ts) = by_test
+    (λ z. (nat_lt (first_leaf t) b && nat_lt a (end_leaf t)) ≡ z
+    → AllByRecursion (λ t. a < end_leaf t) (cond z (t ∷ overlapping a b ts) (overlapping a b ts))) (nat_lt (first_leaf t) b && nat_lt a (end_leaf t))
     (λ _ q. (ltb-true a (end_leaf t) (and_parts (nat_lt (first_leaf t) b) (nat_lt a (end_leaf t)) q).1, all_over a b ts)) (λ _ q. all_over a b ts) refl
 
 module _ {D : Type 0} (s : Scheme D) (r : RangeInput D) (some : 0 < length r.elements) where

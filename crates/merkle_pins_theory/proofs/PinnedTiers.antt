@@ -42,7 +42,8 @@ module _ {D : Type 0} (h : Hashing D) where
 
     pub pin_tier : (t : Tree) → AreOfTier 2 (visited h (pin_tree h b t))
     pin_tier (leaf p i) = tt
-    pin_tier (join p l r) = or_tier (b p) (computed (Node p) (pin_tree h b l) (pin_tree h b r)) (refl, tiers_joined 2 (visited h (pin_tree h b l)) (visited h (pin_tree h b r)) (pin_tier l) (pin_tier r))
+    pin_tier (join p l r) = or_tier (b p) (computed (Node p) (pin_tree h b l) (pin_tree h b r))
+        (refl, tiers_joined 2 (visited h (pin_tree h b l)) (visited h (pin_tree h b r)) (pin_tier l) (pin_tier r))
 
     pub pins_tier : (ts : List Tree) → AreOfTier 2 (flat_map (λ t. visited h (pin_tree h b t)) ts)
     pins_tier [] = tt
@@ -56,17 +57,22 @@ module _ {D : Type 0} (h : Hashing D) where
       outside_tier t d = by_test (λ y. AreOfTier 2 (visited h (cond y (cross_checked d (pin_tree h b t)) (supplied d)))) (tree_meets w t) (λ _. pin_tier t) (λ _. tt)
 
       pub pinned_tier : (t : Tree) (ds : List D) → AreOfTier 2 (visited h (pinned_tree h b w c X t ds))
-      pinned_tier (leaf p i) ds = by_test (λ y. AreOfTier 2 (visited h (cond y (supplied (X i)) (outside_tree h b w (leaf p i) (next h ds))))) (c i) (λ _. tt) (λ _. outside_tier (leaf p i) (next h ds))
+      pinned_tier (leaf p i) ds = by_test (λ y. AreOfTier 2 (visited h (cond y (supplied (X i)) (outside_tree h b w (leaf p i) (next h ds))))) (c i)
+          (λ _. tt) (λ _. outside_tier (leaf p i) (next h ds))
       pinned_tier (join p l r) ds =
           let es = drop (length (siblings c l)) ds in
           let u = pinned_tier l ds in
           let v = pinned_tier r es in
-          by_test (λ y. AreOfTier 2 (visited h (cond y (computed (Node p) (pinned_tree h b w c X l ds) (pinned_tree h b w c X r es)) (outside_tree h b w (join p l r) (next h ds))))) (tree_meets c l || tree_meets c r)
+          by_test (λ y. AreOfTier 2 (visited h
+          (cond y (computed (Node p) (pinned_tree h b w c X l ds) (pinned_tree h b w c X r es)) (outside_tree h b w (join p l r) (next h ds)))))
+          (tree_meets c l || tree_meets c r)
           (λ _. (refl, tiers_joined 2 (visited h (pinned_tree h b w c X l ds)) (visited h (pinned_tree h b w c X r es)) u v)) (λ _. outside_tier (join p l r) (next h ds))
 
       pub pinned_over_tier : (ts : List Tree) (ds : List D) → AreOfTier 2 (pinned_over_inputs h b w c X ts ds)
       pinned_over_tier [] ds = tt
-      pinned_over_tier (t ∷ ts) ds = tiers_joined 2 (visited h (pinned_tree h b w c X t ds)) (pinned_over_inputs h b w c X ts (drop (length (siblings c t)) ds)) (pinned_tier t ds) (pinned_over_tier ts (drop (length (siblings c t)) ds))
+      pinned_over_tier (t ∷ ts) ds =
+          tiers_joined 2 (visited h (pinned_tree h b w c X t ds)) (pinned_over_inputs h b w c X ts (drop (length (siblings c t)) ds))
+          (pinned_tier t ds) (pinned_over_tier ts (drop (length (siblings c t)) ds))
 
       pub inside_pinned : (t : Tree) (ds : List D) (p : Place) → Member (places_in (visited h (pinned_tree h b w c X t ds))) p → Member (node_places t) p
       inside_pinned t ds p m = inside_tree X t (pinned_tree h b w c X t ds) (pinned_tree_cut h X b w c X t ds) p m

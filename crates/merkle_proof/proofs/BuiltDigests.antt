@@ -27,7 +27,8 @@ use Rattle.merkle_root_theory.proofs.BuiltLayouts.{StandFor, at_node, nodes_stan
 use Rattle.merkle_proof.proofs.ReadingOrder.{AreRuns, met_count, all_runs}
 
 -- answers that agree with a function
-agreed : {D : Type 0} (node : ℕ → Option D) (answered : ℕ → Option D → Type 0) → ((p : ℕ) (r : Option D) → answered p r → r ≡ node p) → (ts : List Tree) (ds : List D) → AllZip (λ p d. answered p (Some d)) (map position ts) ds → map (at_node node) ts ≡ map Some ds
+agreed : {D : Type 0} (node : ℕ → Option D) (answered : ℕ → Option D → Type 0) → ((p : ℕ) (r : Option D) → answered p r → r ≡ node p)
+    → (ts : List Tree) (ds : List D) → AllZip (λ p d. answered p (Some d)) (map position ts) ds → map (at_node node) ts ≡ map Some ds
 agreed node answered agree [] [] z = refl
 agreed node answered agree [] (d ∷ ds) z = absurd z
 agreed node answered agree (t ∷ ts) [] z = absurd z
@@ -51,9 +52,11 @@ reads_at rule n a b =
     let P : Tree → Type 0 = λ u. slice_get (forest rule n).nodes (position u) ≡ Some u in
     let at = peaks_at rule n n (omega arith) in
     all_append P (wholly_before a ts) (wholly_after b ts ++ range_siblings a b ts) (all_filter P _ ts at)
-    (all_append P (wholly_after b ts) (range_siblings a b ts) (all_filter P _ ts at) (all_siblings_at (forest rule n).nodes (in_range a b) (overlapping a b ts) (all_filter (IsBuilt (forest rule n).nodes) _ ts (peaks_built rule n))))
+    (all_append P (wholly_after b ts) (range_siblings a b ts) (all_filter P _ ts at)
+    (all_siblings_at (forest rule n).nodes (in_range a b) (overlapping a b ts) (all_filter (IsBuilt (forest rule n).nodes) _ ts (peaks_built rule n))))
 
-list_answers : {D : Type 0} (h : Hashing D) (rule : List ℕ → List ℕ) (xs : List D) (answered : ℕ → Option D → Type 0) → AnswersList h rule xs answered → (ts : List Tree) → AreNodes rule (length xs) ts → (ds : List D)
+list_answers : {D : Type 0} (h : Hashing D) (rule : List ℕ → List ℕ) (xs : List D) (answered : ℕ → Option D → Type 0) → AnswersList h rule xs answered
+    → (ts : List Tree) → AreNodes rule (length xs) ts → (ds : List D)
     → AllZip (λ p d. answered p (Some d)) (map position ts) ds → ds ≡ map (tree_digest h (leaf_of h xs)) ts
 list_answers h rule xs answered right [] at [] z = refl
 list_answers h rule xs answered right [] at (d ∷ ds) z = absurd z
@@ -81,7 +84,8 @@ module _ {F D P Q : Type 0} (s : Scheme D) (answered : ℕ → Option D → Type
       let g : (ts : List Tree) (ps : List ℕ) (ds : List D) → AreNodes s.rule n ts → ps ≡ map position ts → AreAnswered answered ps ds → map at ts ≡ map told ds =
       λ ts ps ds w e r. f ts ds w (subst (λ z. AreAnswered answered z ds) e r) in
       ap (map told) laid.digests_are
-      ∙ laid_out_read s.hashing.fold told at part stand (met + (k - met)) (folded_prefix s.bagging k before) (single_before s.bagging k before) (single_after s.bagging k met after) (folded_suffix s.bagging k met after)
+      ∙ laid_out_read s.hashing.fold told at part stand (met + (k - met)) (folded_prefix s.bagging k before) (single_before s.bagging k before)
+      (single_after s.bagging k met after) (folded_suffix s.bagging k met after)
       (range_siblings a b (peaks_of s.rule n)) laid.of_prefix laid.of_single laid.of_suffix laid.of_siblings
       (g _ prefix laid.of_prefix there.0 runs.prefix_is laid.prefix_read) (g _ single laid.of_single there.1 runs.single_is laid.single_read)
       (g _ suffix laid.of_suffix there.2 runs.suffix_is laid.suffix_read) (g _ siblings laid.of_siblings there.3 runs.siblings_is laid.siblings_read)

@@ -89,7 +89,8 @@ module _ {D : Type 0} (s : Scheme D) (node : ℕ → Option D) where
       let three = all_parts IsThere last (map at inside) two.1 in
       let singles = all_parts IsHeld olds news (all_at (olds ++ news) two.0) in
       let old = subst (AllByRecursion IsHeld) (folded_prefix_rest s.bagging k before) (all_append IsHeld prefix olds (all_at prefix (prefix_there s.hashing.fold (map at prefix) one.0)) singles.0) in
-      let new = subst (AllByRecursion IsHeld) (single_after_rest s.bagging k met after) (all_append IsHeld news suffix singles.1 (all_at suffix (suffix_there s.hashing.fold (map at suffix) three.0))) in
+      let new = subst (AllByRecursion IsHeld) (single_after_rest s.bagging k met after)
+      (all_append IsHeld news suffix singles.1 (all_at suffix (suffix_there s.hashing.fold (map at suffix) three.0))) in
       all_append IsHeld before (after ++ inside) old (all_append IsHeld after inside new (all_at inside three.1))
 
   pub built_reads_all : {F Peaks Heights : Type 0} (k : ℕ) (r : LeafRange) (p : Proof F D Peaks Heights) → IsBuiltProof s node k r p

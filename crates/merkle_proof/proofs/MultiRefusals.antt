@@ -1,5 +1,6 @@
 -- Why locations of leaves are refused, and what is known of those that aren't.
-use Rattle.std.proofs.Common.{◌≡◌, ℕ, suc, Bool, true, false, ◌+◌, ◌≤◌, ◌<◌, List, [], ◌∷◌, ◌++◌, length, drop, get_or, nat_eq, nat_lt, nat_le, Option, None, Some, refl, ap, sym, ◌∙◌, subst, arith, add-one, drop-cons, drop_of_length-le}
+use Rattle.std.proofs.Common.{◌≡◌, ℕ, suc, Bool, true, false, ◌+◌, ◌≤◌, ◌<◌, List, [], ◌∷◌, ◌++◌, length, drop, get_or, nat_eq, nat_lt, nat_le, Option, None}
+use Rattle.std.proofs.Common.{Some, refl, ap, sym, ◌∙◌, subst, arith, add-one, drop-cons, drop_of_length-le}
 use Rattle.std.specs.List.{AllByRecursion}
 use Rattle.std.proofs.lemmas.Bool.{lt-leb, le-ltb, ltb-false, leb-false, ne_eqb, eqb-false}
 use Rattle.std.proofs.lemmas.Bool.Decides.{nat_tests}
@@ -86,12 +87,14 @@ module _ (F : Type 0) (m n : ℕ) where
         subst (AreLocations m n) (sym at) (record { nonempty = omega arith; ascend = (omega arith, subst (λ (a : ℕ). AscendsFrom a others) (add-one first) w.0); below = (b, w.1); leaves = l })
 
   -- a loop over the locations after the first
-  pub loop_refused : (first : ℕ) (others : List ℕ) (k before i : ℕ) (e : Error F) → first_case (later_refusals {F = F} m n first others) ≡ first_case (later_refusals m n before (drop k others)) → k < length others → i ≡ get_or others k i
+  pub loop_refused : (first : ℕ) (others : List ℕ) (k before i : ℕ) (e : Error F)
+      → first_case (later_refusals {F = F} m n first others) ≡ first_case (later_refusals m n before (drop k others)) → k < length others → i ≡ get_or others k i
       → ((is : List ℕ) → first_case (later_refusals m n before (i ∷ is)) ≡ Some e) → first_case (later_refusals m n first others) ≡ Some e
   loop_refused first others k before i e same l is h =
       same ∙ ap (λ ls. first_case (later_refusals m n before ls)) (drop-cons others k i l ∙ ap (λ j. j ∷ drop (suc k) others) (sym is)) ∙ h (drop (suc k) others)
 
-  pub loop_passed : (first : ℕ) (others : List ℕ) (k before i : ℕ) → first_case (later_refusals {F = F} m n first others) ≡ first_case (later_refusals m n before (drop k others)) → k < length others → i ≡ get_or others k i
+  pub loop_passed : (first : ℕ) (others : List ℕ) (k before i : ℕ)
+      → first_case (later_refusals {F = F} m n first others) ≡ first_case (later_refusals m n before (drop k others)) → k < length others → i ≡ get_or others k i
       → before < i → i < m → i < n → first_case (later_refusals {F = F} m n first others) ≡ first_case (later_refusals m n i (drop (k + 1) others))
   loop_passed first others k before i same l is a b c =
       same ∙ ap (λ ls. first_case (later_refusals m n before ls)) (drop-cons others k i l ∙ ap (λ j. j ∷ drop (suc k) others) (sym is)) ∙ later_passed before i (drop (suc k) others) a b c

@@ -66,7 +66,8 @@ module _ (P : Tree → Type 0) (bagging : Bagging) (k : ℕ) (rule : List ℕ �
       (all_append P singles (reverse suffix ++ inside) third.0 (all_append P (reverse suffix) inside (all_reverse P suffix third.1) second.1))
 
 -- what is laid out of the answers at the runs is laid out of those at the nodes
-pub laid_by_runs : {D : Type 0} (f : D → D → D) (bagging : Bagging) (k : ℕ) (rule : List ℕ → List ℕ) (n a b : ℕ) (answered : ℕ → Option D → Type 0) (prefix single suffix siblings : List ℕ) (digests : List D)
+pub laid_by_runs : {D : Type 0} (f : D → D → D) (bagging : Bagging) (k : ℕ) (rule : List ℕ → List ℕ) (n a b : ℕ) (answered : ℕ → Option D → Type 0)
+    (prefix single suffix siblings : List ℕ) (digests : List D)
     → AreRuns bagging k rule n a b prefix single suffix siblings → IsLaidOut f answered prefix single suffix siblings digests
     → IsAnsweredProof f bagging rule k (record { leaves = n; start = a; end = b }) answered digests
 laid_by_runs f bagging k rule n a b answered prefix single suffix siblings digests runs laid =
@@ -93,7 +94,8 @@ order_of_runs bagging k rule n a b prefix single suffix siblings runs =
 
 -- four parts of a list, by where they end
 four_parts : {X : Type 0} (xs ys zs us : List X) (i j k : ℕ) → length xs ≡ i → i + length ys ≡ j → j + length zs ≡ k
-    → (take i (xs ++ (ys ++ (zs ++ us))) ≡ xs) × (take (j - i) (drop i (xs ++ (ys ++ (zs ++ us)))) ≡ ys) × (take (k - j) (drop j (xs ++ (ys ++ (zs ++ us)))) ≡ zs) × (drop k (xs ++ (ys ++ (zs ++ us))) ≡ us)
+    → (take i (xs ++ (ys ++ (zs ++ us))) ≡ xs) × (take (j - i) (drop i (xs ++ (ys ++ (zs ++ us)))) ≡ ys)
+    × (take (k - j) (drop j (xs ++ (ys ++ (zs ++ us)))) ≡ zs) × (drop k (xs ++ (ys ++ (zs ++ us))) ≡ us)
 four_parts xs ys zs us i j k u v w =
     let two : xs ++ (ys ++ (zs ++ us)) ≡ (xs ++ ys) ++ (zs ++ us) = sym (append_assoc xs ys (zs ++ us)) in
     let three : xs ++ (ys ++ (zs ++ us)) ≡ ((xs ++ ys) ++ zs) ++ us = two ∙ sym (append_assoc (xs ++ ys) zs us) in (
@@ -104,10 +106,12 @@ four_parts xs ys zs us i j k u v w =
     )
 
 -- the runs of a plan, from its numbers
-pub runs_of_plan : (rule : List ℕ → List ℕ) (max_leaves n a b peaks before after : ℕ) (reads : List ℕ) → IsPlan rule max_leaves n a b peaks before after reads → (bagging own : Bagging) → own ≡ bagging → (k prefix single : ℕ)
+pub runs_of_plan : (rule : List ℕ → List ℕ) (max_leaves n a b peaks before after : ℕ) (reads : List ℕ)
+    → IsPlan rule max_leaves n a b peaks before after reads → (bagging own : Bagging) → own ≡ bagging → (k prefix single : ℕ)
     → ((ts : List Tree) → length ts ≡ before → prefix ≡ length (folded_prefix own k ts)) → ((ts : List Tree) → length ts ≡ after → single ≡ length (single_after own k (peaks - after) ts))
     → (one two three four : List ℕ) → one ≡ reads → two ≡ reads → three ≡ reads → four ≡ reads
-    → AreRuns bagging k rule n a b (take prefix one) (take (before + single - prefix) (drop prefix two)) (take (before + after - (before + single)) (drop (before + single) three)) (take (length four - (before + after)) (drop (before + after) four))
+    → AreRuns bagging k rule n a b (take prefix one) (take (before + single - prefix) (drop prefix two))
+    (take (before + after - (before + single)) (drop (before + single) three)) (take (length four - (before + after)) (drop (before + after) four))
 runs_of_plan rule max_leaves n a b peaks before after reads plan bagging own same k prefix single p s one two three four d e f g =
     let ts = peaks_of rule n in let olds = wholly_before a ts in let news = wholly_after b ts in let inside = range_siblings a b ts in
     let met = met_count rule n a b in

@@ -2,7 +2,10 @@
 use Rattle.std.proofs.Common.{inl, inr, ◌≡◌, ℕ, ◌<◌, ◌≤◌, ◌⊎◌, List, [], ◌∷◌, Option, Some, None, refl, arith}
 use Rattle.std.specs.List.{AllZip}
 use Rattle.merkle_base.specs.declared.error.Error.{Error}
-use Rattle.merkle_base.specs.declared.error.Error.TheVariants.{NonLeaf, PositionOverflow, LocationOverflow, Empty, RangeOutOfBounds, InvalidSize, LeafOutOfBounds, DuplicateLocation, UnsortedLocation, ElementPruned, CompressedDigest, InvalidPinnedNodes, StaleBatch, AncestorDropped, InvalidProof, InvalidInactivePeaks, RootMismatch, MissingNode, DataCorrupted, BitOutOfBounds, OutOfMemory}
+use Rattle.merkle_base.specs.declared.error.Error.TheVariants.{NonLeaf, PositionOverflow, LocationOverflow, Empty, RangeOutOfBounds, InvalidSize}
+use Rattle.merkle_base.specs.declared.error.Error.TheVariants.{LeafOutOfBounds, DuplicateLocation, UnsortedLocation, ElementPruned, CompressedDigest}
+use Rattle.merkle_base.specs.declared.error.Error.TheVariants.{InvalidPinnedNodes, StaleBatch, AncestorDropped, InvalidProof, InvalidInactivePeaks}
+use Rattle.merkle_base.specs.declared.error.Error.TheVariants.{RootMismatch, MissingNode, DataCorrupted, BitOutOfBounds, OutOfMemory}
 use Rattle.merkle_base.specs.declared.family.Bagging.{Bagging}
 use Rattle.merkle_proof.specs.RangePlans.{LeafRange, IsRefusal, IsBuildRefusal}
 
@@ -44,7 +47,8 @@ zip_weaker P Q weaker (a ∷ xs) [] z = absurd z
 zip_weaker P Q weaker (a ∷ xs) (b ∷ ys) z = (weaker a b z.0, zip_weaker P Q weaker xs ys z.1)
 
 -- refusals over answers that say more
-pub refused_by : {F D : Type 0} (bagging : Bagging) (rule : List ℕ → List ℕ) (r : LeafRange) (k : ℕ) (A B : ℕ → Option D → Type 0) → (e : Error F) → IsBuildRefusal bagging rule r k A e → ((p : ℕ) (o : Option D) → A p o → B p o) → IsBuildRefusal bagging rule r k B e
+pub refused_by : {F D : Type 0} (bagging : Bagging) (rule : List ℕ → List ℕ) (r : LeafRange) (k : ℕ) (A B : ℕ → Option D → Type 0) → (e : Error F)
+    → IsBuildRefusal bagging rule r k A e → ((p : ℕ) (o : Option D) → A p o → B p o) → IsBuildRefusal bagging rule r k B e
 refused_by bagging rule r k A B e refused means = elim refused [
   | inl x ↦ inl x
   | inr x ↦ (let m = x.1.2 in inr (

@@ -95,8 +95,11 @@ module _ {D : Type 0} (s : Scheme D) (r : MultiInput D) where
     accepted_count ok = sym (accepted_some ok).counts
 
     -- none is accepted of which no positions are read
-    pub never_read : (locations : List ℕ) → locations_in r ≡ locations → (AreLocations s.max_leaves r.leaves locations → length (multi_positions s.rule r.leaves locations) ≢ length r.digests) → AcceptsMultiCases s r root → ⊥
-    never_read locations same none ok = none (subst (AreLocations s.max_leaves r.leaves) same (accepted_locations ok)) (ap (λ is. length (multi_positions s.rule r.leaves is)) (sym same) ∙ accepted_count ok)
+    pub never_read : (locations : List ℕ) → locations_in r ≡ locations
+        → (AreLocations s.max_leaves r.leaves locations → length (multi_positions s.rule r.leaves locations) ≢ length r.digests) → AcceptsMultiCases s r root → ⊥
+    never_read locations same none ok =
+        none (subst (AreLocations s.max_leaves r.leaves) same (accepted_locations ok))
+        (ap (λ is. length (multi_positions s.rule r.leaves is)) (sym same) ∙ accepted_count ok)
 
     pub accepted_each : AcceptsMultiCases s r root → EachIn
     accepted_each ok =
@@ -116,7 +119,8 @@ module _ {D : Type 0} (s : Scheme D) (r : MultiInput D) where
       pub accepted_root : AcceptsMultiCases s r root → computed ≡ root
       accepted_root ok = root_is ∙ (accepted_some ok).root_is
 
-      pub accepts : AreLocations s.max_leaves r.leaves (locations_in r) → length (multi_positions s.rule r.leaves (locations_in r)) ≡ length r.digests → EachIn → r.inactive ≤ length ds → computed ≡ root → AcceptsMultiCases s r root
+      pub accepts : AreLocations s.max_leaves r.leaves (locations_in r) → length (multi_positions s.rule r.leaves (locations_in r)) ≡ length r.digests
+          → EachIn → r.inactive ≤ length ds → computed ≡ root → AcceptsMultiCases s r root
       accepts at count each low e =
           let p = plan_for s r.leaves r.inactive (some_leaves (locations_in r) some_located at.below) in
           inl (record {
@@ -132,7 +136,8 @@ module _ {D : Type 0} (s : Scheme D) (r : MultiInput D) where
           })
 
 -- without elements the inputs that are accepted are those of a range
-pub empty_accepted : {D : Type 0} (s : Scheme D) (leaves inactive : ℕ) (digests : List D) (root : D) → (reconstructed s (range_input s leaves inactive digests 0 []) ≡ Ok root) ↔ AcceptsMultiCases s (located_input leaves inactive digests []) root
+pub empty_accepted : {D : Type 0} (s : Scheme D) (leaves inactive : ℕ) (digests : List D) (root : D)
+    → (reconstructed s (range_input s leaves inactive digests 0 []) ≡ Ok root) ↔ AcceptsMultiCases s (located_input leaves inactive digests []) root
 empty_accepted s leaves inactive digests root =
     let r = range_input s leaves inactive digests 0 [] in
     let w = leads_is_accepted s r root in (

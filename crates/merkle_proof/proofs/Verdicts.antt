@@ -9,7 +9,8 @@ use Rattle.merkle_root_theory.proofs.ListRoots.{roots_agree}
 use Rattle.merkle_root_theory.proofs.NamedRoots.{yes_names_root}
 use Rattle.merkle_root_theory.proofs.RangeChecks.{honest_is_accepted, accepted_is_honest}
 use Rattle.merkle_root_theory.proofs.Reconstruction.{leads_is_accepted}
-use Rattle.merkle_claim_theory.specs.CheckAnswers.{IsExactForRange, IsCompleteForRange, IsSoundForRange, IsCompleteForMulti, IsSoundForMulti, DecidesPins, IsExactForPins, IsCompleteForPins, IsSoundForPins, TellsOldRoot}
+use Rattle.merkle_claim_theory.specs.CheckAnswers.{IsExactForRange, IsCompleteForRange, IsSoundForRange, IsCompleteForMulti, IsSoundForMulti, DecidesPins}
+use Rattle.merkle_claim_theory.specs.CheckAnswers.{IsExactForPins, IsCompleteForPins, IsSoundForPins, TellsOldRoot}
 use Rattle.merkle_claim_theory.specs.Multiproof.{MultiInput, AcceptsMulti, AcceptsMultiCases}
 use Rattle.merkle_claim_theory.specs.Pinned.{AcceptsPinnedCases}
 use Rattle.merkle_claim_theory.proofs.AcceptedInputs.{multi_cases, pinned_cases}
@@ -28,11 +29,13 @@ module _ {D E : Type 0} (s : Scheme D) (root : D) (result : Result Bool E) where
     module _ (size max_nodes : ℕ) (kept : IsLawfulScheme s size max_nodes) where
       pub range_honest : IfOk result (IsCompleteForRange s root r)
       range_honest =
-          if_ok result (λ b e xs k l m is honest. e.1 ((leads_is_accepted s r root).1 (subst (Accepts s r) (roots_agree s xs k ∙ is) (honest_is_accepted s size max_nodes kept xs k l m r honest)))) exact
+          if_ok result (λ b e xs k l m is honest. e.1
+          ((leads_is_accepted s r root).1 (subst (Accepts s r) (roots_agree s xs k ∙ is) (honest_is_accepted s size max_nodes kept xs k l m r honest)))) exact
 
       pub range_sound : IfOk result (IsSoundForRange s root r)
       range_sound =
-          if_ok result (λ b e yes xs k l m is. accepted_is_honest s size max_nodes kept xs k l m r (subst (Accepts s r) (sym (roots_agree s xs k ∙ is)) ((leads_is_accepted s r root).0 (e.0 yes)))) exact
+          if_ok result (λ b e yes xs k l m is. accepted_is_honest s size max_nodes kept xs k l m r
+          (subst (Accepts s r) (sym (roots_agree s xs k ∙ is)) ((leads_is_accepted s r root).0 (e.0 yes)))) exact
 
   -- of scattered leaves
   module _ (r : MultiInput D) (cases : IfOk result (λ yes. IsTrue yes ↔ AcceptsMultiCases s r root)) where

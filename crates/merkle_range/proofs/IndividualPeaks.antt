@@ -70,25 +70,33 @@ after_positions [] ys n = taken_positions n ys
 after_positions (x ∷ xs) ys n = after_positions xs ys n
 
 -- the position at a place of a list of positions
-pub position_at : (ps : List ℕ) (ts : List Tree) → ps ≡ map position ts → (i : ℕ) → i < length ps → (d : ℕ) → (t : Tree) × (position t ≡ get_or ps i d) × (take (i + 1) ts ≡ take i ts ++ t ∷ []) × (length (take i ts) ≡ i) × (i < length ts)
-position_at ps ts e i l d = subst (λ qs. i < length qs → (t : Tree) × (position t ≡ get_or qs i d) × (take (i + 1) ts ≡ take i ts ++ t ∷ []) × (length (take i ts) ≡ i) × (i < length ts)) (sym e) (step ts i) l
+pub position_at : (ps : List ℕ) (ts : List Tree) → ps ≡ map position ts → (i : ℕ) → i < length ps → (d : ℕ) → (t : Tree)
+    × (position t ≡ get_or ps i d) × (take (i + 1) ts ≡ take i ts ++ t ∷ []) × (length (take i ts) ≡ i) × (i < length ts)
+position_at ps ts e i l d = subst
+    (λ qs. i < length qs → (t : Tree) × (position t ≡ get_or qs i d) × (take (i + 1) ts ≡ take i ts ++ t ∷ []) × (length (take i ts) ≡ i)
+    × (i < length ts)) (sym e) (step ts i) l
   where
     one : (t : Tree) (ts : List Tree) → take (0 + 1) (t ∷ ts) ≡ take 0 (t ∷ ts) ++ t ∷ []
     one t ts = refl
 
-    step : (ts : List Tree) (i : ℕ) → i < length (map position ts) → (t : Tree) × (position t ≡ get_or (map position ts) i d) × (take (i + 1) ts ≡ take i ts ++ t ∷ []) × (length (take i ts) ≡ i) × (i < length ts)
+    step : (ts : List Tree) (i : ℕ) → i < length (map position ts) → (t : Tree) × (position t ≡ get_or (map position ts) i d)
+        × (take (i + 1) ts ≡ take i ts ++ t ∷ []) × (length (take i ts) ≡ i) × (i < length ts)
     step [] i l = absurd (omega arith)
     step (t ∷ ts) zero l = (t, refl, one t ts, refl, omega arith)
-    step (t ∷ ts) (suc i) l = let w = step ts i (omega arith) in (w.0, w.1, ap (λ n. take n (t ∷ ts)) (add-one (suc i)) ∙ ap (λ z. t ∷ z) (ap (λ n. take n ts) (sym (add-one i)) ∙ w.2), ap suc w.3, omega (arith, w.4))
+    step (t ∷ ts) (suc i) l = let w = step ts i (omega arith) in
+        (w.0, w.1, ap (λ n. take n (t ∷ ts)) (add-one (suc i)) ∙ ap (λ z. t ∷ z) (ap (λ n. take n ts) (sym (add-one i)) ∙ w.2), ap suc w.3, omega (arith, w.4))
 
 module _ {D : Type 0} (h : Hashing D) where
   single_push : (ts : List Tree) (t : Tree) (ds : List D) → single_pairs h (ts ++ t ∷ []) ds ≡ single_pairs h ts ds ++ (position t, next h (drop (length ts) ds)) ∷ []
   single_push [] t ds = refl
-  single_push (u ∷ ts) t ds = let e : 1 + length ts ≡ suc (length ts) = omega arith in ap (λ z. (position u, next h ds) ∷ z) (single_push ts t (drop 1 ds) ∙ ap (λ z. single_pairs h ts (drop 1 ds) ++ (position t, next h z) ∷ []) (drop-drop (length ts) 1 ds ∙ ap (λ n. drop n ds) e))
+  single_push (u ∷ ts) t ds = let e : 1 + length ts ≡ suc (length ts) = omega arith in
+      ap (λ z. (position u, next h ds) ∷ z)
+      (single_push ts t (drop 1 ds) ∙ ap (λ z. single_pairs h ts (drop 1 ds) ++ (position t, next h z) ∷ []) (drop-drop (length ts) 1 ds ∙ ap (λ n. drop n ds) e))
 
   module _ {C : Type 0} (Took : C → List (ℕ × D) → C → Type 0) (both : (s t u : C) (a b : List (ℕ × D)) → Took s a t → Took t b u → Took s (a ++ b) u) where
     -- one more of them is put
-    pub put_single : (i : ℕ) (ts : List Tree) (t : Tree) (p : ℕ) (ds rest others : List D) (d : D) (s0 s1 s2 : C) → take (i + 1) ts ≡ take i ts ++ t ∷ [] → length (take i ts) ≡ i → position t ≡ p → rest ≡ drop i ds → rest ≡ d ∷ others
+    pub put_single : (i : ℕ) (ts : List Tree) (t : Tree) (p : ℕ) (ds rest others : List D) (d : D) (s0 s1 s2 : C) → take (i + 1) ts ≡ take i ts
+        ++ t ∷ [] → length (take i ts) ≡ i → position t ≡ p → rest ≡ drop i ds → rest ≡ d ∷ others
         → Took s0 (single_pairs h (take i ts) ds) s1 → Took s1 ((p, d) ∷ []) s2 → Took s0 (single_pairs h (take (i + 1) ts) ds) s2
     put_single i ts t p ds rest others d s0 s1 s2 u long at r first a b =
         let same : d ≡ next h (drop (length (take i ts)) ds) = ap (next h) (sym first ∙ r ∙ ap (λ n. drop n ds) (sym long)) in

@@ -75,7 +75,8 @@ module _ {D : Type 0} (h : Hashing D) (bagging : Bagging) (rule : List ℕ → L
       }
 
   -- what lies before the range is what is compared
-  before_is : (pins : List D) → length pins ≡ length (peaks_of rule a) → IsBeforeRebuilt h bagging inactive a (end_of input) (peaks_of rule leaves) (digest_for (peak_positions rule a) pins) ds ↔ IsRebuilt hasher_scheme input pins
+  before_is : (pins : List D) → length pins ≡ length (peaks_of rule a)
+      → IsBeforeRebuilt h bagging inactive a (end_of input) (peaks_of rule leaves) (digest_for (peak_positions rule a) pins) ds ↔ IsRebuilt hasher_scheme input pins
   before_is pins long = ((λ v. record { pinned = long; parts = v.parts; nodes = v.nodes }), (λ v. record { parts = v.parts; nodes = v.nodes }))
 
   pub before_rebuilt : (s : Scheme D) → s ≡ hasher_scheme → (pins qs : List D) (ps : List ℕ) → ps ≡ peak_positions rule a → qs ≡ pins → length ps ≡ length pins → (e : ℕ) → e ≡ a + length ls

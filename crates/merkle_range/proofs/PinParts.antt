@@ -1,5 +1,6 @@
 -- What the pinned check compares of a layout: the parts before the range, and the siblings before it under one peak.
-use Rattle.std.proofs.Common.{◌≡◌, ℕ, zero, suc, Bool, true, cond, ◌||◌, ◌&&◌, nat_le, nat_lt, ◌+◌, ◌-◌, ◌<◌, ◌≤◌, List, [], ◌∷◌, ◌++◌, map, take, drop, length, length-append, flat_map, Option, ◌↔◌, inr, refl, ap, ap₂, sym, ◌∙◌, subst, arith, leb-true, ltb-true}
+use Rattle.std.proofs.Common.{◌≡◌, ℕ, zero, suc, Bool, true, cond, ◌||◌, ◌&&◌, nat_le, nat_lt, ◌+◌, ◌-◌, ◌<◌, ◌≤◌, List, [], ◌∷◌, ◌++◌, map, take, drop, length}
+use Rattle.std.proofs.Common.{length-append, flat_map, Option, ◌↔◌, inr, refl, ap, ap₂, sym, ◌∙◌, subst, arith, leb-true, ltb-true}
 use Rattle.std.specs.List.{AllByRecursion}
 use Rattle.std.proofs.lemmas.Bool.{false≢true, and_parts}
 use Rattle.std.proofs.lemmas.List.{length-take}
@@ -113,7 +114,9 @@ module _ {D : Type 0} (h : Hashing D) (b : ℕ → Option D) (w : ℕ → Bool) 
 module _ {D : Type 0} (h : Hashing D) (f : Tree → D) (w c : ℕ → Bool) where
   siblings_unmarked : (ts : List Tree) → Unmet w ts → (ds : List D) → AllRebuilt h (tree_meets w) f (flat_map (siblings c) ts) ds
   siblings_unmarked [] u ds = tt
-  siblings_unmarked (t ∷ ts) u ds = rebuilt_append h (tree_meets w) f (siblings c t) (flat_map (siblings c) ts) ds (unmet_rebuilt h f w c t ds u.0) (siblings_unmarked ts u.1 (drop (length (siblings c t)) ds))
+  siblings_unmarked (t ∷ ts) u ds =
+      rebuilt_append h (tree_meets w) f (siblings c t) (flat_map (siblings c) ts) ds (unmet_rebuilt h f w c t ds u.0)
+      (siblings_unmarked ts u.1 (drop (length (siblings c t)) ds))
 
   -- of all siblings those under the first peak are compared
   pub siblings_rebuilt : (t : Tree) (ts : List Tree) → Unmet w ts → (ds : List D) → AllRebuilt h (tree_meets w) f (siblings c t) ds ↔ AllRebuilt h (tree_meets w) f (flat_map (siblings c) (t ∷ ts)) ds
@@ -128,7 +131,9 @@ module _ (a e : ℕ) where
   pub met_before : (ns ts : List Tree) → AllByRecursion (IsBuilt ns) ts → Met (in_range 0 a) (wholly_before a ts)
   met_before ns [] h = tt
   met_before ns (t ∷ ts) h = by_test (λ z. nat_le (end_leaf t) a ≡ z → Met (in_range 0 a) (cond z (t ∷ wholly_before a ts) (wholly_before a ts))) (nat_le (end_leaf t) a)
-      (λ _ q. let l = leb-true (end_leaf t) a q in (meets_yes 0 a ns t h.0 (omega (arith, l, width_pos t)) (omega (arith, width_pos t)) (omega (arith, l, width_pos t)), met_before ns ts h.1)) (λ _ q. met_before ns ts h.1) refl
+      (λ _ q. let l = leb-true (end_leaf t) a q in
+      (meets_yes 0 a ns t h.0 (omega (arith, l, width_pos t)) (omega (arith, width_pos t)) (omega (arith, l, width_pos t)), met_before ns ts h.1))
+      (λ _ q. met_before ns ts h.1) refl
 
   -- those after it don't
   pub unmet_after_end : (ns ts : List Tree) → a ≤ e → AllByRecursion (IsBuilt ns) ts → Unmet (in_range 0 a) (wholly_after e ts)
@@ -171,13 +176,15 @@ module _ {F : Type 0} where
   front_subtrees (x ∷ xs) ys = ap (λ z. subtree_of x ∷ z) (front_subtrees xs ys)
 
   -- of the subtrees of peaks the first are those before the range
-  pub peaks_before : (rule : List ℕ → List ℕ) (n a e m : ℕ) (xs : List (Subtree F)) → a < e → xs ≡ map subtree_of (peaks_of rule n) → m ≡ length (wholly_before a (peaks_of rule n)) → take m xs ≡ map subtree_of (wholly_before a (peaks_of rule n))
+  pub peaks_before : (rule : List ℕ → List ℕ) (n a e m : ℕ) (xs : List (Subtree F)) → a < e → xs ≡ map subtree_of (peaks_of rule n)
+      → m ≡ length (wholly_before a (peaks_of rule n)) → take m xs ≡ map subtree_of (wholly_before a (peaks_of rule n))
   peaks_before rule n a e m xs less is m_is =
       let ts = peaks_of rule n in
       let before = wholly_before a ts in let others = overlapping a e ts ++ wholly_after e ts in
       ap (take m) (is ∙ ap (map subtree_of) (groups a e 0 n ts less (peaks_spans rule n))) ∙ ap (λ j. take j (map subtree_of (before ++ others))) m_is ∙ front_subtrees before others
 
-module _ {D : Type 0} (h : Hashing D) (b : ℕ → Option D) (rule : List ℕ → List ℕ) (bagging : Bagging) (k n a e p : ℕ) (less : a < e) (p_is : p ≡ length (folded_prefix bagging k (wholly_before a (peaks_of rule n)))) where
+module _ {D : Type 0} (h : Hashing D) (b : ℕ → Option D) (rule : List ℕ → List ℕ) (bagging : Bagging) (k n a e p : ℕ) (less : a < e)
+    (p_is : p ≡ length (folded_prefix bagging k (wholly_before a (peaks_of rule n)))) where
   abbrev peaks : List Tree
   peaks = peaks_of rule n
 
@@ -200,9 +207,13 @@ module _ {D : Type 0} (h : Hashing D) (b : ℕ → Option D) (rule : List ℕ �
   pub parts_rebuilt : (ds : List D) → (FoldRebuilt h b (take p early) ds × EachRebuilt h b (drop p early) (drop (length (fold_all (take p early))) ds))
       ↔ AllRebuilt h (meets (in_range 0 a)) (rebuilt_part h b) (range_parts bagging k a e peaks) ds
   parts_rebuilt ds =
-      subst (λ xs. (FoldRebuilt h b xs ds × EachRebuilt h b (drop p early) (drop (length (fold_all xs)) ds)) ↔ AllRebuilt h (meets (in_range 0 a)) (rebuilt_part h b) (range_parts bagging k a e peaks) ds) first_folded
-      (subst (λ ys. (FoldRebuilt h b (folded_prefix bagging k early) ds × EachRebuilt h b ys (drop (length (fold_all (folded_prefix bagging k early))) ds)) ↔ AllRebuilt h (meets (in_range 0 a)) (rebuilt_part h b) (range_parts bagging k a e peaks) ds) others_single
-      (layout_rebuilt h b (in_range 0 a) bagging k early (overlapping a e peaks) (wholly_after e peaks) (met_before a e _ peaks (peaks_built rule n)) (unmet_after_end a e _ peaks (omega (arith, less)) (peaks_built rule n)) ds))
+      subst (λ xs. (FoldRebuilt h b xs ds × EachRebuilt h b (drop p early) (drop (length (fold_all xs)) ds))
+      ↔ AllRebuilt h (meets (in_range 0 a)) (rebuilt_part h b) (range_parts bagging k a e peaks) ds) first_folded
+      (subst (λ ys. (FoldRebuilt h b (folded_prefix bagging k early) ds
+      × EachRebuilt h b ys (drop (length (fold_all (folded_prefix bagging k early))) ds))
+      ↔ AllRebuilt h (meets (in_range 0 a)) (rebuilt_part h b) (range_parts bagging k a e peaks) ds) others_single
+      (layout_rebuilt h b (in_range 0 a) bagging k early (overlapping a e peaks) (wholly_after e peaks) (met_before a e _ peaks (peaks_built rule n))
+      (unmet_after_end a e _ peaks (omega (arith, less)) (peaks_built rule n)) ds))
 
   -- and the siblings if those under the first peak that overlaps the range are
   module _ (u : Tree) (us : List Tree) (over : overlapping a e peaks ≡ u ∷ us) where
@@ -212,7 +223,10 @@ module _ {D : Type 0} (h : Hashing D) (b : ℕ → Option D) (rule : List ℕ �
     pub siblings_within : length (siblings (in_range a e) u) ≤ length (range_siblings a e peaks)
     siblings_within = omega (arith, ap (λ xs. length (flat_map (siblings (in_range a e)) xs)) over, length-append (siblings (in_range a e) u) (flat_map (siblings (in_range a e)) us))
 
-    pub nodes_rebuilt : (ds : List D) → AllRebuilt h (tree_meets (in_range 0 a)) (rebuilt_node h b) (siblings (in_range a e) u) ds ↔ AllRebuilt h (tree_meets (in_range 0 a)) (rebuilt_node h b) (range_siblings a e peaks) ds
+    pub nodes_rebuilt : (ds : List D)
+        → AllRebuilt h (tree_meets (in_range 0 a)) (rebuilt_node h b) (siblings (in_range a e) u) ds
+        ↔ AllRebuilt h (tree_meets (in_range 0 a)) (rebuilt_node h b) (range_siblings a e peaks) ds
     nodes_rebuilt ds =
-        subst (λ xs. AllRebuilt h (tree_meets (in_range 0 a)) (rebuilt_node h b) (siblings (in_range a e) u) ds ↔ AllRebuilt h (tree_meets (in_range 0 a)) (rebuilt_node h b) (flat_map (siblings (in_range a e)) xs) ds) (sym over)
+        subst (λ xs. AllRebuilt h (tree_meets (in_range 0 a)) (rebuilt_node h b) (siblings (in_range a e) u) ds
+        ↔ AllRebuilt h (tree_meets (in_range 0 a)) (rebuilt_node h b) (flat_map (siblings (in_range a e)) xs) ds) (sym over)
         (siblings_rebuilt h (rebuilt_node h b) (in_range 0 a) (in_range a e) u us (first_crosses a e 0 n _ peaks us u (peaks_spans rule n) (peaks_built rule n) over).1 ds)

@@ -36,7 +36,8 @@ outside_count a b g ts held =
     ap length held.outside ∙ length-map (before ++ after) position ∙ length-append before after
 
 -- and as many in all as there are
-pub group_count : {F : Type 0} (rule : List ℕ → List ℕ) (a b n : ℕ) (g : PeakGroups F) → a < b → HoldsGroups a b g (peaks_of rule n) → length g.overlapping.items + length g.outside.items ≡ length (peaks_of rule n)
+pub group_count : {F : Type 0} (rule : List ℕ → List ℕ) (a b n : ℕ) (g : PeakGroups F) → a < b → HoldsGroups a b g (peaks_of rule n)
+    → length g.overlapping.items + length g.outside.items ≡ length (peaks_of rule n)
 group_count {F} rule a b n g l held =
     let ts = peaks_of rule n in
     omega (arith, ap length held.over, length-map (overlapping a b ts) (subtree_of {F = F}), outside_count a b g ts held, length-peaks_of rule n a b l)
@@ -52,7 +53,8 @@ no_peaks : {D : Type 0} (h : Hashing D) (c : ℕ → Bool) (X : ℕ → D) (ts :
 no_peaks h c X [] ds e = refl
 no_peaks h c X (t ∷ ts) ds e = absurd (omega arith)
 
-module _ {D : Type 0} (h : Hashing D) (bagging : Bagging) (rule : List ℕ → List ℕ) (max_leaves domain : ℕ) (leaves inactive : ℕ) (given : List D) (a b : ℕ) (ls : List D) (some : 0 < length ls) (end_is : b ≡ a + length ls) where
+module _ {D : Type 0} (h : Hashing D) (bagging : Bagging) (rule : List ℕ → List ℕ) (max_leaves domain : ℕ) (leaves inactive : ℕ) (given : List D)
+    (a b : ℕ) (ls : List D) (some : 0 < length ls) (end_is : b ≡ a + length ls) where
   abbrev scheme : Scheme D
   scheme = scheme_of h bagging rule max_leaves domain
 
@@ -92,7 +94,8 @@ module _ {D : Type 0} (h : Hashing D) (bagging : Bagging) (rule : List ℕ → L
             within = within_given;
             leaves = few;
             inactive = low;
-            counts = v.count ∙ ap (λ z. z + length (flat_map (siblings (chosen input)) (overlapping a (end_of input) (peaks_of rule leaves)))) (sym (layout_counts scheme input)) ∙ sym (digest_count_is scheme input);
+            counts = v.count ∙ ap (λ z. z + length (flat_map (siblings (chosen input)) (overlapping a (end_of input) (peaks_of rule leaves))))
+                (sym (layout_counts scheme input)) ∙ sym (digest_count_is scheme input);
           },
           is ∙ ap (λ i. peaks_root scheme leaves i inactive all) j_is ∙ layout_root scheme input some within_given all v,
         )
@@ -107,7 +110,8 @@ module _ {D : Type 0} (h : Hashing D) (bagging : Bagging) (rule : List ℕ → L
 
     pub never_empty : (all : List D) → AreDigests b (leaf_given h input) m n all → length all ≡ 0 → ⊥
     never_empty all w e =
-        some_over a b 0 leaves (peaks_of rule leaves) (omega (arith, some, end_is)) (covers_spans leaves (forest rule leaves).peaks (forest_grown rule leaves).covers) (omega arith) (omega (arith, some, end_is, within))
+        some_over a b 0 leaves (peaks_of rule leaves) (omega (arith, some, end_is))
+        (covers_spans leaves (forest rule leaves).peaks (forest_grown rule leaves).covers) (omega arith) (omega (arith, some, end_is, within))
         (no_peaks h (in_range a b) (leaf_given h input) _ _ (none_joined (take m given) _ _ (sym (ap length w.digests) ∙ e)))
 
     -- there are as many as are folded apart
@@ -117,9 +121,13 @@ module _ {D : Type 0} (h : Hashing D) (bagging : Bagging) (rule : List ℕ → L
 
     -- the pairs of the individual peaks before the range, of those that overlap it and of the individual ones after it are those of the input
     module _ {C : Type 0} (Took : C → List (ℕ × D) → C → Type 0) (both : (s t u : C) (x y : List (ℕ × D)) → Took s x t → Took t y u → Took s (x ++ y) u) where
-      pub all_put : (s0 s1 s2 s3 : C) → Took s0 (single_pairs h (single_before bagging inactive (wholly_before a (peaks_of rule leaves))) (drop (length (fold_all (folded_prefix bagging inactive (wholly_before a (peaks_of rule leaves))))) given)) s1
+      pub all_put : (s0 s1 s2 s3 : C)
+          → Took s0 (single_pairs h (single_before bagging inactive (wholly_before a (peaks_of rule leaves)))
+          (drop (length (fold_all (folded_prefix bagging inactive (wholly_before a (peaks_of rule leaves))))) given)) s1
           → Took s1 (over_pairs h (in_range a b) (leaf_given h input) (overlapping a b (peaks_of rule leaves)) (drop (m + n) given)) s2
-          → Took s2 (single_pairs h (single_after bagging inactive (length (wholly_before a (peaks_of rule leaves)) + length (overlapping a b (peaks_of rule leaves))) (wholly_after b (peaks_of rule leaves))) (drop m given)) s3
+          → Took s2 (single_pairs h (single_after bagging inactive
+          (length (wholly_before a (peaks_of rule leaves)) + length (overlapping a b (peaks_of rule leaves)))
+          (wholly_after b (peaks_of rule leaves))) (drop m given)) s3
           → Took s0 (extracted scheme input) s3
       all_put s0 s1 s2 s3 x y z =
           let ts = peaks_of rule leaves in
@@ -128,7 +136,8 @@ module _ {D : Type 0} (h : Hashing D) (bagging : Bagging) (rule : List ℕ → L
           let front = length (fold_all (folded_prefix bagging inactive before)) in
           let X = leaf_given h input in
           let e = end_of input in
-          let y1 : Took s1 (over_pairs h (in_range a e) X (overlapping a e ts) (drop (m + n) given)) s2 = subst (λ v. Took s1 (over_pairs h (in_range a v) X (overlapping a v ts) (drop (m + n) given)) s2) end_same y in
+          let y1 : Took s1 (over_pairs h (in_range a e) X (overlapping a e ts) (drop (m + n) given)) s2 =
+          subst (λ v. Took s1 (over_pairs h (in_range a v) X (overlapping a v ts) (drop (m + n) given)) s2) end_same y in
           let count : m + n ≡ length (range_parts bagging inactive a e ts) = ap₂ (λ i j. i + j) m_is (n_is ∙ ap digests_after end_same) ∙ sym (layout_counts scheme input) in
           let y2 : Took s1 (over_pairs h (in_range a e) (leaf_given h input) (overlapping a e ts) (drop (length (range_parts bagging inactive a e ts)) given)) s2 =
           subst (λ v. Took s1 v s2) (ap (λ v. over_pairs h (in_range a e) X (overlapping a e ts) (drop v given)) count) y1 in

@@ -55,7 +55,9 @@ module _ {D : Type 0} (h : Hashing D) (c : ℕ → Bool) (X : ℕ → D) where
   inner_inside (join p l r) none ds =
       let rest = drop (length (siblings c l)) ds in
       by_test (λ b. cond b (siblings c l ++ siblings c r) (join p l r ∷ []) ≡ []
-      → cond b (inner_pairs h c X l ds ++ (inner_pairs h c X r rest ++ ((position l, value h (tree_claim h c X l ds)) ∷ (position r, value h (tree_claim h c X r rest)) ∷ []))) [] ≡ inside_pairs h X (join p l r)) (tree_meets c l || tree_meets c r)
+      → cond b (inner_pairs h c X l ds
+      ++ (inner_pairs h c X r rest ++ ((position l, value h (tree_claim h c X l ds)) ∷ (position r, value h (tree_claim h c X r rest)) ∷ []))) []
+      ≡ inside_pairs h X (join p l r)) (tree_meets c l || tree_meets c r)
       (λ _ e. let s = neither (siblings c l) (siblings c r) e in
       ap₂ (λ a b. a ++ b) (inner_inside l s.0 ds) (ap₂ (λ a b. a ++ b) (inner_inside r s.1 rest)
       (ap₂ (λ a b. (position l, a) ∷ (position r, b) ∷ []) (honest_value l s.0 ds) (honest_value r s.1 rest))))
@@ -80,17 +82,21 @@ module _ {D : Type 0} (h : Hashing D) (c : ℕ → Bool) (X : ℕ → D) where
 
   module _ {C : Type 0} (Took : C → List (ℕ × D) → C → Type 0) (both : (s t u : C) (a b : List (ℕ × D)) → Took s a t → Took t b u → Took s (a ++ b) u) where
     -- a node's walk puts its pairs, where those of its children do, and then these two are put
-    pub put_inner : (rule : List ℕ → List ℕ) (m p s tall : ℕ) (t : Tree) → IsNodeOf rule m p tall s t → tall ≢ 0 → tree_meets c t ≡ true → (pl pr : ℕ) (ds mid rest : List D) (x y : D) (s0 s1 s2 s3 : C)
-        → ((q : ℕ) (l r : Tree) → IsNodeOf rule m p tall s (join q l r) → (position l ≡ pl) × (position r ≡ pr) × IsWalked h c X l ds x mid × IsWalked h c X r mid y rest × Took s0 (inner_pairs h c X l ds) s1 × Took s1 (inner_pairs h c X r mid) s2)
+    pub put_inner : (rule : List ℕ → List ℕ) (m p s tall : ℕ) (t : Tree) → IsNodeOf rule m p tall s t → tall ≢ 0 → tree_meets c t ≡ true
+        → (pl pr : ℕ) (ds mid rest : List D) (x y : D) (s0 s1 s2 s3 : C)
+        → ((q : ℕ) (l r : Tree) → IsNodeOf rule m p tall s (join q l r) → (position l ≡ pl) × (position r ≡ pr) × IsWalked h c X l ds x mid
+        × IsWalked h c X r mid y rest × Took s0 (inner_pairs h c X l ds) s1 × Took s1 (inner_pairs h c X r mid) s2)
         → Took s2 ((pl, x) ∷ (pr, y) ∷ []) s3 → Took s0 (inner_pairs h c X t ds) s3
     put_inner rule m p s tall (leaf q i) w e k pl pr ds mid rest x y s0 s1 s2 s3 f last = absurd (e (omega (arith, w.height_is)))
     put_inner rule m p s tall (join q l r) w e k pl pr ds mid rest x y s0 s1 s2 s3 f last =
         let u = f q l r w in
-        let two : Took s2 ((position l, x) ∷ (position r, y) ∷ []) s3 = subst (λ z. Took s2 ((z, x) ∷ (position r, y) ∷ []) s3) (sym u.0) (subst (λ z. Took s2 ((pl, x) ∷ (z, y) ∷ []) s3) (sym u.1) last) in
+        let two : Took s2 ((position l, x) ∷ (position r, y) ∷ []) s3 =
+        subst (λ z. Took s2 ((z, x) ∷ (position r, y) ∷ []) s3) (sym u.0) (subst (λ z. Took s2 ((pl, x) ∷ (z, y) ∷ []) s3) (sym u.1) last) in
         subst (λ z. Took s0 z s3) (sym (inner_join q l r ds mid rest x y k u.2 u.3)) (both s0 s1 s3 _ _ u.4 (both s1 s2 s3 _ _ u.5 two))
 
     -- the walks over peaks put their pairs, one peak more
-    pub put_more : (ts us : List Tree) (t : Tree) (p : ℕ) (before out new after : List D) (d : D) (after' : List D) (s0 s1 s2 s3 : C) → us ≡ ts ++ t ∷ [] → position t ≡ p → ArePeaksWalked h c X ts before out new after → IsWalked h c X t after d after'
+    pub put_more : (ts us : List Tree) (t : Tree) (p : ℕ) (before out new after : List D) (d : D) (after' : List D) (s0 s1 s2 s3 : C) → us ≡ ts
+        ++ t ∷ [] → position t ≡ p → ArePeaksWalked h c X ts before out new after → IsWalked h c X t after d after'
         → Took s0 (over_pairs h c X ts before) s1 → Took s1 (inner_pairs h c X t after) s2 → Took s2 ((p, d) ∷ []) s3 → Took s0 (over_pairs h c X us before) s3
     put_more ts us t p before out new after d after' s0 s1 s2 s3 u at w v a b last =
         let rest = drop (length (flat_map (siblings c) ts)) before in

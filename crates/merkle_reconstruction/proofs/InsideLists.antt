@@ -1,5 +1,6 @@
 -- Lists of nodes that have all their leaves among those whose digests are given.
-use Rattle.std.proofs.Common.{◌≡◌, ℕ, zero, suc, ◌+◌, ◌<◌, ◌≤◌, Bool, true, false, cond, nat_eq, List, [], ◌∷◌, ◌++◌, length, map, drop, get_or, slice_get, ◌⊎◌, inl, inr, Option, Some, None, arith, refl, ap, sym, ◌∙◌, subst, append_assoc, rules, Result, Ok, Err, OnOk, IfSome}
+use Rattle.std.proofs.Common.{◌≡◌, ℕ, zero, suc, ◌+◌, ◌<◌, ◌≤◌, Bool, true, false, cond, nat_eq, List, [], ◌∷◌, ◌++◌, length, map, drop, get_or, slice_get, ◌⊎◌}
+use Rattle.std.proofs.Common.{inl, inr, Option, Some, None, arith, refl, ap, sym, ◌∙◌, subst, append_assoc, rules, Result, Ok, Err, OnOk, IfSome}
 use Rattle.std.specs.Borrow.{Bor}
 use Rattle.std.specs.List.{AllByRecursion}
 use Rattle.std.specs.Option.{option_copied}

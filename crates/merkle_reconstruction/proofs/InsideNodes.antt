@@ -57,7 +57,8 @@ module _ {F : Type 0} (rule : List ℕ → List ℕ) (m : ℕ) where
     digest_leaf s flat d here (leaf q i) w = sym (get_or_from_slice_get leaves (s.first_leaf - start) d h.empty here) ∙ ap (leaf_from h start leaves) (sym w.0.first_is)
     digest_leaf s flat d here (join q l r) w = absurd (omega (arith, w.0.height_is, flat))
 
-    pub digest_join : (s a b : Subtree F) → AreChildrenOf s a b → s.height ≢ 0 → (x y d : D) → IsDigestInside h rule m start leaves a x → IsDigestInside h rule m start leaves b y → d ≡ h.node s.position x y
+    pub digest_join : (s a b : Subtree F) → AreChildrenOf s a b → s.height ≢ 0 → (x y d : D) → IsDigestInside h rule m start leaves a x
+        → IsDigestInside h rule m start leaves b y → d ≡ h.node s.position x y
         → IsDigestInside h rule m start leaves s d
     digest_join s a b f tall x y d u v is (leaf q i) w = absurd (tall (omega (arith, w.0.height_is)))
     digest_join s a b f tall x y d u v is (join q l r) w =
@@ -67,7 +68,8 @@ module _ {F : Type 0} (rule : List ℕ → List ℕ) (m : ℕ) where
 
     -- a node of height 1 over the digests of two leaves
     pub digest_parent : (limit : ℕ) → IsLawful rule m limit → (s a b : Subtree F) → AreChildrenOf s a b → HasInside start (length leaves) s → s.height ≡ 1
-        → (x y : D) → slice_get leaves (a.first_leaf - start) ≡ Some x → slice_get leaves (b.first_leaf - start) ≡ Some y → IsDigestAt h rule m (leaf_from h start leaves) s.position (h.node s.position x y)
+        → (x y : D) → slice_get leaves (a.first_leaf - start) ≡ Some x → slice_get leaves (b.first_leaf - start) ≡ Some y
+        → IsDigestAt h rule m (leaf_from h start leaves) s.position (h.node s.position x y)
     digest_parent limit law s a b f (t, w) one x y u v p at =
         let tall : s.height ≢ 0 = omega (arith, one) in
         let both = inside_children start (length leaves) limit law s a b f (t, w) tall in
@@ -93,7 +95,8 @@ module _ {F : Type 0} (rule : List ℕ → List ℕ) (m : ℕ) where
 pub walked_inside : {D : Type 0} (h : Hashing D) (start : ℕ) (leaves : List D) (end : ℕ) (t : Tree) → siblings (in_range start end) t ≡ []
     → (d : D) → d ≡ tree_digest h (leaf_from h start leaves) t → (ds : List D) → IsWalked h (in_range start end) (leaf_from h start leaves) t ds d ds
 walked_inside h start leaves end t none d is ds = record {
-  digest = is ∙ sym (tree_honest h (in_range start end) (leaf_from h start leaves) (leaf_from h start leaves) (λ i e. refl) t ds ds (ap (λ z. map (tree_digest h (leaf_from h start leaves)) z ++ ds) (sym none)));
+  digest = is ∙ sym (tree_honest h (in_range start end) (leaf_from h start leaves) (leaf_from h start leaves) (λ i e. refl) t ds ds
+      (ap (λ z. map (tree_digest h (leaf_from h start leaves)) z ++ ds) (sym none)));
   enough = omega (arith, ap length none);
   rest = ap (λ z. drop (length z) ds) (sym none);
 }

@@ -12,7 +12,8 @@ element_means {F = F} rule m xs ts e h i l d = subst (λ ys. (i < length ys) →
     one : (t : Tree) (ts : List Tree) → take (0 + 1) (t ∷ ts) ≡ take 0 (t ∷ ts) ++ t ∷ []
     one t ts = refl
 
-    step : (ts : List Tree) (i : ℕ) → AreNodes rule m ts → i < length (map (subtree_of {F = F}) ts) → (t : Tree) × Denotes rule m (get_or (map subtree_of ts) i d) t × (take (i + 1) ts ≡ take i ts ++ t ∷ [])
+    step : (ts : List Tree) (i : ℕ) → AreNodes rule m ts → i < length (map (subtree_of {F = F}) ts) → (t : Tree)
+        × Denotes rule m (get_or (map subtree_of ts) i d) t × (take (i + 1) ts ≡ take i ts ++ t ∷ [])
     step [] i h l = absurd (omega arith)
     step (t ∷ ts) zero h l = (t, record { at = h.0; height_is = refl; first_is = refl }, one t ts)
     step (t ∷ ts) (suc i) h l = let w = step ts i h.1 (omega arith) in (w.0, w.1, ap (λ n. take n (t ∷ ts)) (add-one (suc i)) ∙ ap (λ z. t ∷ z) (ap (λ n. take n ts) (sym (add-one i)) ∙ w.2))

@@ -1,5 +1,6 @@
 -- The first wrong one of the parents is the first damaged node.
-use Rattle.std.proofs.Common.{◌≡◌, ◌≢◌, ℕ, zero, suc, ◌+◌, ◌-◌, ◌<◌, List, [], ◌∷◌, ◌++◌, drop, Bool, true, false, cond, not, Decides, Option, Some, None, slice_get, arith, refl, sym, ap, ap₂, ◌∙◌, subst, flat_map}
+use Rattle.std.proofs.Common.{◌≡◌, ◌≢◌, ℕ, zero, suc, ◌+◌, ◌-◌, ◌<◌, List, [], ◌∷◌, ◌++◌, drop, Bool, true, false, cond, not, Decides, Option, Some, None}
+use Rattle.std.proofs.Common.{slice_get, arith, refl, sym, ap, ap₂, ◌∙◌, subst, flat_map}
 use Rattle.std.proofs.lemmas.Bool.{false≢true}
 use Rattle.merkle_base.specs.Tree.{Tree, leaf, join, position}
 use Rattle.merkle_base.specs.Forest.{forest, size}
@@ -51,8 +52,19 @@ module _ {D : Type 0} (h : Hashing D) (node : ℕ → Option D) where
     damaged_there p (join q l r) e w =
         let here : q ≡ p = (forest_grown rule n).placed p (join q l r) e in
         let both = both_are q (node (position l)) (node (position r)) w in
-        let x = other_is h laws (node q) (h.node q both.0 both.1) both.4 in
-        (l, r, x.0, both.0, both.1, subst (λ z. slice_get (forest rule n).nodes p ≡ Some (join z l r)) here e, ap node (sym here) ∙ x.1, both.2, both.3, λ same. x.2 (same ∙ ap (λ z. h.node z both.0 both.1) (sym here)))
+        let x = other_is h laws (node q) (h.node q both.0 both.1) both.4 in (
+          l,
+          r,
+          x.0,
+          both.0,
+          both.1,
+          subst (λ z. slice_get (forest rule n).nodes p ≡ Some (join z l r)) here e,
+          ap node (sym here)
+              ∙ x.1,
+          both.2,
+          both.3,
+          λ same. x.2 (same ∙ ap (λ z. h.node z both.0 both.1) (sym here)),
+        )
 
     wrong_where : (p : ℕ) → IsDamaged h rule n node p → (t : Tree) × (slice_get (forest rule n).nodes p ≡ Some t) × (wrong_at t ≡ true)
     wrong_where p w = (

@@ -60,24 +60,29 @@ module _ {D : Type 0} (h : Hashing D) (node : ℕ → Option D) where
   refused_found None w later new x e t = absurd (cc)
   refused_found (Some p) w later new x e t = wrong_before w (x ∷ later) p (sym e)
 
-  pub refused : (found last : Option ℕ) (w later new : List (ℕ × D × D)) (x : ℕ × D × D) → found ≡ first_wrong h node w → is_some found ≡ false → last ≡ first_wrong h node (x ∷ []) → new ≡ [] → Finds h node last (w ++ x ∷ later) (new ++ later)
+  pub refused : (found last : Option ℕ) (w later new : List (ℕ × D × D)) (x : ℕ × D × D) → found ≡ first_wrong h node w → is_some found ≡ false
+      → last ≡ first_wrong h node (x ∷ []) → new ≡ [] → Finds h node last (w ++ x ∷ later) (new ++ later)
   refused found last w later new x e t f none =
-      subst (λ ys. Finds h node last (w ++ x ∷ later) (ys ++ later)) (sym none) (finds_after last (w ++ x ∷ later) (x ∷ later) later (none_then found w (x ∷ later) e t) (finds_before last (x ∷ []) later f))
+      subst (λ ys. Finds h node last (w ++ x ∷ later) (ys ++ later)) (sym none)
+      (finds_after last (w ++ x ∷ later) (x ∷ later) later (none_then found w (x ∷ later) e t) (finds_before last (x ∷ []) later f))
 
   pub waits : (w later new : List (ℕ × D × D)) (x : ℕ × D × D) → new ≡ w ++ x ∷ [] → Finds h node None (w ++ x ∷ later) (new ++ later)
   waits w later new x e = ap (first_wrong h node) (sym (ap (λ ys. ys ++ later) e ∙ append_assoc w (x ∷ []) later))
 
-  pub full : (found : Option ℕ) (w later all new : List (ℕ × D × D)) (x : ℕ × D × D) → all ≡ w ++ x ∷ [] → found ≡ first_wrong h node all → new ≡ [] → Finds h node found (w ++ x ∷ later) (new ++ later)
+  pub full : (found : Option ℕ) (w later all new : List (ℕ × D × D)) (x : ℕ × D × D) → all ≡ w ++ x ∷ [] → found ≡ first_wrong h node all → new ≡ []
+      → Finds h node found (w ++ x ∷ later) (new ++ later)
   full found w later all new x e f none =
       let one : w ++ x ∷ later ≡ all ++ later = sym (ap (λ ys. ys ++ later) e ∙ append_assoc w (x ∷ []) later) in
-      subst (λ ys. Finds h node found (w ++ x ∷ later) (ys ++ later)) (sym none) (finds_after found (w ++ x ∷ later) (all ++ later) later (ap (first_wrong h node) one) (finds_before found all later f))
+      subst (λ ys. Finds h node found (w ++ x ∷ later) (ys ++ later)) (sym none)
+      (finds_after found (w ++ x ∷ later) (all ++ later) later (ap (first_wrong h node) one) (finds_before found all later f))
 
   -- ---- after parents that were passed
   pub finds_any : (found : Option ℕ) (xs ys zs us : List (ℕ × D × D)) → is_some found ≡ true → first_wrong h node xs ≡ first_wrong h node ys → Finds h node found ys zs → Finds h node found xs us
   finds_any None xs ys zs us t e f = absurd (cc)
   finds_any (Some p) xs ys zs us t e f = e ∙ f
 
-  pub finds_on : (found : Option ℕ) (xs ys zs : List (ℕ × D × D)) → is_some found ≡ false → first_wrong h node xs ≡ first_wrong h node ys → Finds h node found ys zs → first_wrong h node xs ≡ first_wrong h node zs
+  pub finds_on : (found : Option ℕ) (xs ys zs : List (ℕ × D × D)) → is_some found ≡ false → first_wrong h node xs ≡ first_wrong h node ys
+      → Finds h node found ys zs → first_wrong h node xs ≡ first_wrong h node zs
   finds_on None xs ys zs t e f = e ∙ f
   finds_on (Some p) xs ys zs t e f = absurd (cc)
 

@@ -40,7 +40,8 @@ module _ {D : Type 0} (h : Hashing D) (node : ℕ → Option D) (xs : List (ℕ 
     same_first = x-is ∙ ap (λ ys. get_or ys 0 x) k.listed
 
     pub first_found : is_other h.same (node x.0) a ≡ true → first_wrong h node xs ≡ Some x.0
-    first_found t = ap (first_wrong h node) k.listed ∙ is_wrong h node k.first (k.second ∷ k.third ∷ k.fourth ∷ []) (tested x k.first a true same_first k.value_first t) ∙ ap (λ e. Some e.0) (sym same_first)
+    first_found t = ap (first_wrong h node) k.listed
+        ∙ is_wrong h node k.first (k.second ∷ k.third ∷ k.fourth ∷ []) (tested x k.first a true same_first k.value_first t) ∙ ap (λ e. Some e.0) (sym same_first)
 
     pub first_passed : is_other h.same (node x.0) a ≡ false → first_wrong h node xs ≡ first_wrong h node (k.second ∷ k.third ∷ k.fourth ∷ [])
     first_passed t = ap (first_wrong h node) k.listed ∙ not_wrong h node k.first (k.second ∷ k.third ∷ k.fourth ∷ []) (tested x k.first a false same_first k.value_first t)

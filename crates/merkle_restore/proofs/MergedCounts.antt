@@ -1,5 +1,6 @@
 -- How many parents are held with their children.
-use Rattle.std.proofs.Common.{◌≡◌, ℕ, zero, suc, ◌+◌, ◌-◌, ◌≤◌, List, [], ◌∷◌, ◌++◌, length, drop, length-append, true, Option, Some, None, slice_get, arith, refl, sym, ap, ◌∙◌, subst, inl, inr, flat_map}
+use Rattle.std.proofs.Common.{◌≡◌, ℕ, zero, suc, ◌+◌, ◌-◌, ◌≤◌, List, [], ◌∷◌, ◌++◌, length, drop, length-append, true, Option, Some, None, slice_get, arith}
+use Rattle.std.proofs.Common.{refl, sym, ap, ◌∙◌, subst, inl, inr, flat_map}
 use Rattle.std.specs.Prelude.{is_some}
 use Rattle.std.specs.List.{AllByRecursion}
 use Rattle.std.proofs.Math.ListN.{drop_of_length-le}
@@ -34,7 +35,8 @@ joins_all (join p l r ∷ ts) a = omega (arith, joins_all ts a.1)
 joins_after : (rule : List ℕ → List ℕ) (b k : ℕ) → joins (drop (size rule b) (forest rule (k + b)).nodes) + k + size rule b ≡ size rule (k + b)
 joins_after rule b zero =
     let e : 0 + b ≡ b = omega arith in
-    let none : joins (drop (size rule b) (forest rule (0 + b)).nodes) ≡ 0 = ap (λ m. joins (drop (size rule b) (forest rule m).nodes)) e ∙ ap joins (drop_of_length-le (forest rule b).nodes (omega arith)) in
+    let none : joins (drop (size rule b) (forest rule (0 + b)).nodes) ≡ 0 = ap (λ m. joins (drop (size rule b) (forest rule m).nodes)) e
+    ∙ ap joins (drop_of_length-le (forest rule b).nodes (omega arith)) in
     omega (arith, none, ap (size rule) e)
 joins_after rule b (suc k) =
     let e : suc k + b ≡ suc (k + b) = omega arith in
@@ -58,7 +60,8 @@ joins_from rule b n = elim (cases_lt n b) [
   | inl less ↦ (let none : joins (drop (size rule b) (forest rule n).nodes) ≡ 0 = ap joins (drop_of_length-le (forest rule n).nodes (size_le rule n b (omega (arith, less)))) in
       omega (arith, none, size_le rule n b (omega (arith, less)), less))
   | inr more ↦ (let e : n - b + b ≡ n = omega (arith, more) in
-      let w : joins (drop (size rule b) (forest rule n).nodes) + (n - b) + size rule b ≡ size rule n = subst (λ m. joins (drop (size rule b) (forest rule m).nodes) + (n - b) + size rule b ≡ size rule m) e (joins_after rule b (n - b)) in
+      let w : joins (drop (size rule b) (forest rule n).nodes) + (n - b) + size rule b ≡ size rule n =
+      subst (λ m. joins (drop (size rule b) (forest rule m).nodes) + (n - b) + size rule b ≡ size rule m) e (joins_after rule b (n - b)) in
       omega (arith, w))
 ]
 
@@ -85,15 +88,22 @@ module _ {D : Type 0} (node : ℕ → Option D) where
   all_parents (leaf p k ∷ ts) f = all_parents ts (λ i t e. f (suc i) t e)
   all_parents (join p l r ∷ ts) f =
       let w = f 0 (join p l r) refl in
-      omega (arith, all_parents ts (λ i t e. f (suc i) t e), one_held p (node (position l)) (node (position r)) w.0 w.1, length-append (with_both p (node (position l)) (node (position r))) (flat_map (parent_of node) ts))
+      omega (
+        arith,
+        all_parents ts (λ i t e. f (suc i) t e),
+        one_held p (node (position l)) (node (position r)) w.0 w.1,
+        length-append (with_both p (node (position l)) (node (position r))) (flat_map (parent_of node) ts),
+      )
 
 pub at_most_merged : {D : Type 0} (rule : List ℕ → List ℕ) (b n : ℕ) (node : ℕ → Option D) → length (parents_from rule n node (size rule b)) ≤ merged_from rule b n
 at_most_merged rule b n node = omega (arith, few_parents node (drop (size rule b) (forest rule n).nodes), joins_from rule b n)
 
 -- with the children held of all nodes that are kept, they are the merged nodes
-pub all_merged : {D : Type 0} (rule : List ℕ → List ℕ) (c : Contents D) (n : ℕ) → HoldsKept rule c → size rule n ≡ c.size → length (parents_from rule n c.node (size rule c.boundary)) ≡ merged_from rule c.boundary n
+pub all_merged : {D : Type 0} (rule : List ℕ → List ℕ) (c : Contents D) (n : ℕ) → HoldsKept rule c → size rule n ≡ c.size
+    → length (parents_from rule n c.node (size rule c.boundary)) ≡ merged_from rule c.boundary n
 all_merged rule c n held sized = elim (cases_lt n c.boundary) [
-  | inl less ↦ (let none : length (parents_from rule n c.node (size rule c.boundary)) ≡ 0 = ap (λ ts. length (flat_map (parent_of c.node) ts)) (drop_of_length-le (forest rule n).nodes (size_le rule n c.boundary (omega (arith, less)))) in
+  | inl less ↦ (let none : length (parents_from rule n c.node (size rule c.boundary)) ≡ 0 =
+      ap (λ ts. length (flat_map (parent_of c.node) ts)) (drop_of_length-le (forest rule n).nodes (size_le rule n c.boundary (omega (arith, less)))) in
       omega (arith, none, size_le rule n c.boundary (omega (arith, less)), less))
   | inr more ↦ all_parents c.node (drop (size rule c.boundary) (forest rule n).nodes) (λ i t e.
       children_there rule c n held sized more (size rule c.boundary + i) t (sym (get_drop (size rule c.boundary) i (forest rule n).nodes) ∙ e) (omega arith)) ∙ joins_from rule c.boundary n

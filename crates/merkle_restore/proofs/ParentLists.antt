@@ -25,14 +25,16 @@ module _ {D : Type 0} (rule : List ℕ → List ℕ) (n : ℕ) (node : ℕ → O
   parents_leaf k l = parents_there (size rule k) (leaf (size rule k) k) (leaf_here rule k n l)
 
 -- what is read of the children at their positions is the parent
-parent_read : {D : Type 0} (rule : List ℕ → List ℕ) (node : ℕ → Option D) (n p l r : ℕ) (t : Tree) → slice_get (forest rule n).nodes p ≡ Some t → 0 < height t → AreChildren rule p l r → parent_of node t ≡ with_both p (node l) (node r)
+parent_read : {D : Type 0} (rule : List ℕ → List ℕ) (node : ℕ → Option D) (n p l r : ℕ) (t : Tree) → slice_get (forest rule n).nodes p ≡ Some t
+    → 0 < height t → AreChildren rule p l r → parent_of node t ≡ with_both p (node l) (node r)
 parent_read rule node n p l r (leaf q k) e tall c = absurd (omega (arith, tall))
 parent_read rule node n p l r (join q a b) e tall c =
     let here : q ≡ p = (forest_grown rule n).placed p (join q a b) e in
     let w = c n a b (subst (λ x. slice_get (forest rule n).nodes p ≡ Some (join x a b)) here e) in
     ap (λ x. with_both x (node (position a)) (node (position b))) here ∙ ap (λ x. with_both p (node x) (node (position b))) (sym w.0) ∙ ap (λ x. with_both p (node l) (node x)) (sym w.1)
 
-pub inner_parent : {D : Type 0} (rule : List ℕ → List ℕ) (max_leaves : ℕ) (node : ℕ → Option D) (n p k l r : ℕ) (t : Tree) → HasInner rule max_leaves p k → slice_get (forest rule n).nodes p ≡ Some t → AreChildren rule p l r
+pub inner_parent : {D : Type 0} (rule : List ℕ → List ℕ) (max_leaves : ℕ) (node : ℕ → Option D) (n p k l r : ℕ) (t : Tree)
+    → HasInner rule max_leaves p k → slice_get (forest rule n).nodes p ≡ Some t → AreChildren rule p l r
     → parent_of node t ≡ with_both p (node l) (node r)
 inner_parent rule max_leaves node n p k l r t inner e c =
     let same : inner.1 ≡ t = same_position rule inner.0 n p inner.1 t inner.3 e in

@@ -18,7 +18,8 @@ module _ {D : Type 0} (h : Hashing D) (laws : EqDecides h) (rule : List ℕ → 
   whole_when None e = λ held. whole_of_none h laws rule c n held sized (sym e)
   whole_when (Some p) e = tt
 
-pub counted_when : {D : Type 0} (rule : List ℕ → List ℕ) (c : Contents D) (n count counted : ℕ) → size rule n ≡ c.size → counted ≡ count → (found : Option ℕ) → IfNone found (count ≡ length (parents_from rule n c.node (size rule c.boundary)))
+pub counted_when : {D : Type 0} (rule : List ℕ → List ℕ) (c : Contents D) (n count counted : ℕ) → size rule n ≡ c.size → counted ≡ count
+    → (found : Option ℕ) → IfNone found (count ≡ length (parents_from rule n c.node (size rule c.boundary)))
     → IfNone found (HoldsKept rule c → counted ≡ merged_from rule c.boundary n)
 counted_when rule c n count counted sized same None e = λ held. same ∙ e ∙ all_merged rule c n held sized
 counted_when rule c n count counted sized same (Some p) e = tt

@@ -23,12 +23,14 @@ IsTold {D} h c X t = (u : Tree) → IsUnder u t → (d : D) → c.node (position
 module _ {D : Type 0} (h : Hashing D) (laws : EqDecides h) (rule : List ℕ → List ℕ) (c : Contents D) (n : ℕ) (held : HoldsKept rule c) (within : c.boundary ≤ n) (sized : size rule n ≡ c.size)
     (whole : IsWhole h rule n c.node) (X : ℕ → D) where
   -- with a held node under it, a merged node has both children held
-  both_there : (p : ℕ) (l r u : Tree) → IsBuilt (forest rule n).nodes (join p l r) → IsUnder u l ⊎ IsUnder u r → is_some (c.node (position u)) ≡ true → is_some (c.node (position l)) && is_some (c.node (position r)) ≡ true
+  both_there : (p : ℕ) (l r u : Tree) → IsBuilt (forest rule n).nodes (join p l r) → IsUnder u l ⊎ IsUnder u r → is_some (c.node (position u)) ≡ true
+      → is_some (c.node (position l)) && is_some (c.node (position r)) ≡ true
   both_there p l r u built below e =
       let w = children_there rule c n held sized within p (join p l r) built.0 (from_boundary rule c n held sized p l r u built.0 below e) in
       ap₂ (λ x y. x && y) w.0 w.1
 
-  joined : (p : ℕ) (l r : Tree) → IsBuilt (forest rule n).nodes (join p l r) → is_some (c.node (position l)) && is_some (c.node (position r)) ≡ true → IsTold h c X l → IsTold h c X r → IsTold h c X (join p l r)
+  joined : (p : ℕ) (l r : Tree) → IsBuilt (forest rule n).nodes (join p l r) → is_some (c.node (position l)) && is_some (c.node (position r)) ≡ true
+      → IsTold h c X l → IsTold h c X r → IsTold h c X (join p l r)
   joined p l r built there x y u under d e = elim under [
     | inl same ↦ subst (λ v. c.node (position v) ≡ Some d → d ≡ tree_digest h X v) (sym same) (λ f.
         let w = and_parts (is_some (c.node (position l))) (is_some (c.node (position r))) there in
@@ -38,7 +40,8 @@ module _ {D : Type 0} (h : Hashing D) (laws : EqDecides h) (rule : List ℕ → 
     | inr below ↦ elim below [ inl v ↦ x u v d e | inr v ↦ y u v d e ]
   ]
 
-  taken : (p : ℕ) (l r : Tree) → IsBuilt (forest rule n).nodes (join p l r) → is_some (c.node (position l)) && is_some (c.node (position r)) ≡ false → or_empty h (c.node p) ≡ tree_digest h X (join p l r) → IsTold h c X (join p l r)
+  taken : (p : ℕ) (l r : Tree) → IsBuilt (forest rule n).nodes (join p l r) → is_some (c.node (position l)) && is_some (c.node (position r)) ≡ false
+      → or_empty h (c.node p) ≡ tree_digest h X (join p l r) → IsTold h c X (join p l r)
   taken p l r built apart g u under d e = elim under [
     | inl same ↦ subst (λ v. c.node (position v) ≡ Some d → d ≡ tree_digest h X v) (sym same) (λ f. sym (ap (or_empty h) f) ∙ g) e
     | inr below ↦ absurd (false≢true (sym apart ∙ both_there p l r u built below (ap is_some e)))
@@ -53,7 +56,8 @@ module _ {D : Type 0} (h : Hashing D) (laws : EqDecides h) (rule : List ℕ → 
       let u = tree_told l built.4 in
       let v = tree_told r built.5 in
       by_test (λ y. is_some (c.node (position l)) && is_some (c.node (position r)) ≡ y
-      → (a : Alike (cond y (computed (Node p) (held_tree h c.node l) (held_tree h c.node r)) (supplied (or_empty h (c.node p)))) (computed (Node p) (node_expression X l) (node_expression X r))) × (Agree h a → IsTold h c X (join p l r)))
+      → (a : Alike (cond y (computed (Node p) (held_tree h c.node l) (held_tree h c.node r)) (supplied (or_empty h (c.node p))))
+      (computed (Node p) (node_expression X l) (node_expression X r))) × (Agree h a → IsTold h c X (join p l r)))
       (is_some (c.node (position l)) && is_some (c.node (position r)))
       (λ _ there. (both (Node p) u.0 v.0, λ g. joined p l r built there (u.1 g.0) (v.1 g.1)))
       (λ _ apart. (cut_left (or_empty h (c.node p)) (computed (Node p) (node_expression X l) (node_expression X r)), λ g. taken p l r built apart g))

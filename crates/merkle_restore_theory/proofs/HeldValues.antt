@@ -48,14 +48,16 @@ module _ {D : Type 0} (h : Hashing D) (node : ℕ → Option D) where
 
   module _ (laws : EqDecides h) (rule : List ℕ → List ℕ) (n : ℕ) (whole : IsWhole h rule n node) where
     -- the digest of a node with both children held is that of theirs
-    pub made_of_children : (p : ℕ) (l r : Tree) (d a b : D) → slice_get (forest rule n).nodes p ≡ Some (join p l r) → node p ≡ Some d → node (position l) ≡ Some a → node (position r) ≡ Some b → d ≡ h.node p a b
+    pub made_of_children : (p : ℕ) (l r : Tree) (d a b : D) → slice_get (forest rule n).nodes p ≡ Some (join p l r) → node p ≡ Some d
+        → node (position l) ≡ Some a → node (position r) ≡ Some b → d ≡ h.node p a b
     made_of_children p l r d a b e x y z = ⊎_elim (λ same. same) (λ other. absurd (whole p (l, r, d, a, b, e, x, y, z, other))) (decided (h.same d (h.node p a b)) (laws d (h.node p a b)))
 
     -- a held node has the digest that follows from what is held below it
     pub held_value : (t : Tree) (d : D) → IsBuilt (forest rule n).nodes t → node (position t) ≡ Some d → value h (held_tree h node t) ≡ d
     held_value (leaf p k) d built e = ap (or_empty h) e
     held_value (join p l r) d built e =
-        by_test (λ y. is_some (node (position l)) && is_some (node (position r)) ≡ y → value h (cond y (computed (Node p) (held_tree h node l) (held_tree h node r)) (supplied (or_empty h (node p)))) ≡ d)
+        by_test (λ y. is_some (node (position l)) && is_some (node (position r)) ≡ y
+        → value h (cond y (computed (Node p) (held_tree h node l) (held_tree h node r)) (supplied (or_empty h (node p)))) ≡ d)
         (is_some (node (position l)) && is_some (node (position r)))
         (λ _ both.
         let w = and_parts (is_some (node (position l))) (is_some (node (position r))) both in

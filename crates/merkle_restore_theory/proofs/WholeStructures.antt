@@ -37,7 +37,8 @@ use Rattle.merkle_restore_theory.proofs.HeldValues.{held_root, plan_holds}
 use Rattle.merkle_restore_theory.proofs.HeldTold.{IsTold, plan_told}
 
 -- ---- what is held of each peak is the list's: the structure agrees
-module _ {D : Type 0} (h : Hashing D) (rule : List ℕ → List ℕ) (c : Contents D) (n : ℕ) (held : HoldsKept rule c) (within : c.boundary ≤ n) (sized : size rule n ≡ c.size) (X : List D) (same : n ≡ length X) where
+module _ {D : Type 0} (h : Hashing D) (rule : List ℕ → List ℕ) (c : Contents D) (n : ℕ) (held : HoldsKept rule c) (within : c.boundary ≤ n)
+    (sized : size rule n ≡ c.size) (X : List D) (same : n ≡ length X) where
   nothing_there : (p : ℕ) → c.node p ≡ None → c.node p ≡ cond (is_kept rule c.boundary p) (slice_get (node_digests h rule X) p) None
   nothing_there p none =
       by_test (λ y. is_kept rule c.boundary p ≡ y → c.node p ≡ cond y (slice_get (node_digests h rule X) p) None) (is_kept rule c.boundary p)
@@ -72,7 +73,8 @@ unfolding forest
 none_told P rule n e = rw e tt
 
 -- ---- the root
-module _ {D : Type 0} (s : Scheme D) (digest_size max_nodes : ℕ) (sound : IsLawfulScheme s digest_size max_nodes) (c : Contents D) (n : ℕ) (held : HoldsKept s.rule c) (within : c.boundary ≤ n) (limit : n ≤ s.max_leaves)
+module _ {D : Type 0} (s : Scheme D) (digest_size max_nodes : ℕ) (sound : IsLawfulScheme s digest_size max_nodes) (c : Contents D) (n : ℕ)
+    (held : HoldsKept s.rule c) (within : c.boundary ≤ n) (limit : n ≤ s.max_leaves)
     (sized : size s.rule n ≡ c.size) (whole : IsWhole s.hashing s.rule n c.node) (k : ℕ) (low : k ≤ length (peaks_of s.rule n))
     (X : List D) (j : ℕ) (few : length X ≤ s.max_leaves) (low' : j ≤ length (peaks_of s.rule (length X))) (same : list_root s X j ≡ peaks_root s n k k (held_peaks s.rule n c)) where
   abbrev E : Plan → Expression D

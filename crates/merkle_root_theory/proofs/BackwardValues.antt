@@ -34,22 +34,28 @@ right_fold_met c i t (u ∷ us) after m = or_right (tree_meets c t) (meets c (ri
 
 module _ {D : Type 0} (h : Hashing D) (c : ℕ → Bool) (X : ℕ → D) where
   -- a bag that isn't met is the next digest, whatever its number
-  right_fold_given : (i j : ℕ) (v : Tree) (vs : List Tree) (os is : List D) → Unmet c (v ∷ vs) → value h (claim h c X (right_fold_plan i v vs) os is) ≡ value h (claim h c X (right_fold_plan j v vs) os is)
-  right_fold_given i j v vs os is u = ap (value h) (claim_unmet h c X (right_fold_plan i v vs) os is (right_fold_unmet c i v vs u) ∙ sym (claim_unmet h c X (right_fold_plan j v vs) os is (right_fold_unmet c j v vs u)))
+  right_fold_given : (i j : ℕ) (v : Tree) (vs : List Tree) (os is : List D) → Unmet c (v ∷ vs)
+      → value h (claim h c X (right_fold_plan i v vs) os is) ≡ value h (claim h c X (right_fold_plan j v vs) os is)
+  right_fold_given i j v vs os is u =
+      ap (value h) (claim_unmet h c X (right_fold_plan i v vs) os is (right_fold_unmet c i v vs u)
+      ∙ sym (claim_unmet h c X (right_fold_plan j v vs) os is (right_fold_unmet c j v vs u)))
 
   -- the bag of peaks, the last of them met, and of others after them, which have one digest
   pub right_fold_values : (i j : ℕ) (t : Tree) (ts after : List Tree) (os is : List D) → LastMet c t ts → Unmet c after
       → root.right_fold h.fold (part_values h c X (map peak (t ∷ ts) ++ bag_all j after) os is) ≡ Some (value h (claim h c X (right_fold_plan i t (ts ++ after)) os is))
   right_fold_values i j t [] [] os is m u = refl
   right_fold_values i j t [] (v ∷ vs) os is m u =
-      ap Some (ap (h.fold (value h (claim h c X (peak t) os is))) (right_fold_given j (suc i) v vs _ _ u) ∙ sym (value_folding h c X (SuffixFold i) (peak t) (right_fold_plan (suc i) v vs) os is (right_fold_met c i t [] (v ∷ vs) m)))
+      ap Some (ap (h.fold (value h (claim h c X (peak t) os is))) (right_fold_given j (suc i) v vs _ _ u)
+      ∙ sym (value_folding h c X (SuffixFold i) (peak t) (right_fold_plan (suc i) v vs) os is (right_fold_met c i t [] (v ∷ vs) m)))
   right_fold_values i j t (s ∷ ts) after os is m u =
-      ap (λ o. option_map_or (λ b. Some (h.fold (value h (claim h c X (peak t) os is)) b)) o (Some (value h (claim h c X (peak t) os is)))) (right_fold_values (suc i) j s ts after (drop (length (outside_parts c (peak t))) os) (drop (length (path_siblings c (peak t))) is) m u)
+      ap (λ o. option_map_or (λ b. Some (h.fold (value h (claim h c X (peak t) os is)) b)) o (Some (value h (claim h c X (peak t) os is))))
+      (right_fold_values (suc i) j s ts after (drop (length (outside_parts c (peak t))) os) (drop (length (path_siblings c (peak t))) is) m u)
       ∙ ap Some (sym (value_folding h c X (SuffixFold i) (peak t) (right_fold_plan (suc i) s (ts ++ after)) os is (right_fold_met c i t (s ∷ ts) after m)))
 
   -- joined to what stands before them
   join_values : (acc : Plan) (i j : ℕ) (t : Tree) (ts after : List Tree) (os is : List D) → LastMet c t ts → Unmet c after
-      → with_right_fold h.fold (value h (claim h c X acc os is)) (part_values h c X (map peak (t ∷ ts) ++ bag_all j after) (drop (length (outside_parts c acc)) os) (drop (length (path_siblings c acc)) is))
+      → with_right_fold h.fold (value h (claim h c X acc os is))
+      (part_values h c X (map peak (t ∷ ts) ++ bag_all j after) (drop (length (outside_parts c acc)) os) (drop (length (path_siblings c acc)) is))
       ≡ value h (claim h c X (with_right_fold_plan acc i (t ∷ ts ++ after)) os is)
   join_values acc i j t ts after os is m u =
       let a = value h (claim h c X acc os is) in
@@ -58,7 +64,8 @@ module _ {D : Type 0} (h : Hashing D) (c : ℕ → Bool) (X : ℕ → D) where
 
   -- where unmet peaks may stand before them
   pub join_reaches : (acc : Plan) (i j : ℕ) (bs : List Tree) (t : Tree) (over after : List Tree) (os is : List D) → Met c (t ∷ over) → Unmet c after
-      → with_right_fold h.fold (value h (claim h c X acc os is)) (part_values h c X (map peak bs ++ (map peak (t ∷ over) ++ bag_all j after)) (drop (length (outside_parts c acc)) os) (drop (length (path_siblings c acc)) is))
+      → with_right_fold h.fold (value h (claim h c X acc os is))
+      (part_values h c X (map peak bs ++ (map peak (t ∷ over) ++ bag_all j after)) (drop (length (outside_parts c acc)) os) (drop (length (path_siblings c acc)) is))
       ≡ value h (claim h c X (with_right_fold_plan acc i (bs ++ (t ∷ over ++ after))) os is)
   join_reaches acc i j [] t over after os is m u = join_values acc i j t over after os is (last_met c t over m) u
   join_reaches acc i j (b ∷ bs) t over after os is m u =
@@ -69,10 +76,12 @@ module _ {D : Type 0} (h : Hashing D) (c : ℕ → Bool) (X : ℕ → D) where
 
   -- and where a met part does
   join_met : (acc : Plan) (i j : ℕ) (over after : List Tree) (os is : List D) → meets c acc ≡ true → Met c over → Unmet c after
-      → with_right_fold h.fold (value h (claim h c X acc os is)) (part_values h c X (map peak over ++ bag_all j after) (drop (length (outside_parts c acc)) os) (drop (length (path_siblings c acc)) is))
+      → with_right_fold h.fold (value h (claim h c X acc os is))
+      (part_values h c X (map peak over ++ bag_all j after) (drop (length (outside_parts c acc)) os) (drop (length (path_siblings c acc)) is))
       ≡ value h (claim h c X (with_right_fold_plan acc i (over ++ after)) os is)
   join_met acc i j [] [] os is e m u = refl
-  join_met acc i j [] (v ∷ vs) os is e m u = ap (h.fold (value h (claim h c X acc os is))) (right_fold_given j i v vs _ _ u) ∙ sym (value_folding h c X Join acc (right_fold_plan i v vs) os is (or_left (meets c acc) _ e))
+  join_met acc i j [] (v ∷ vs) os is e m u = ap (h.fold (value h (claim h c X acc os is))) (right_fold_given j i v vs _ _ u)
+      ∙ sym (value_folding h c X Join acc (right_fold_plan i v vs) os is (or_left (meets c acc) _ e))
   join_met acc i j (t ∷ over) after os is e m u = join_values acc i j t over after os is (last_met c t over m) u
 
   -- the first n digests after a met part are folded left to right onto its own, and the others are bagged
@@ -81,13 +90,16 @@ module _ {D : Type 0} (h : Hashing D) (c : ℕ → Bool) (X : ℕ → D) where
       let es = part_values h c X ps (drop (length (outside_parts c acc)) os) (drop (length (path_siblings c acc)) is) in
       with_right_fold h.fold (fold h.fold (value h (claim h c X acc os is)) (take n es)) (drop n es)
 
-  pub folded_more : (n g : ℕ) (acc : Plan) (t : Tree) (ps : List Plan) (os is : List D) → meets c acc || tree_meets c t ≡ true → folded_from (suc n) acc (peak t ∷ ps) os is ≡ folded_from n (folding (PrefixFold g) acc (peak t)) ps os is
+  pub folded_more : (n g : ℕ) (acc : Plan) (t : Tree) (ps : List Plan) (os is : List D) → meets c acc || tree_meets c t ≡ true
+      → folded_from (suc n) acc (peak t ∷ ps) os is ≡ folded_from n (folding (PrefixFold g) acc (peak t)) ps os is
   folded_more n g acc t ps os is m =
-      ap₂ (λ x es. with_right_fold h.fold (fold h.fold x (take n es)) (drop n es)) (sym (value_folding h c X (PrefixFold g) acc (peak t) os is m)) (sym (values_folding h c X (PrefixFold g) acc (peak t) ps os is m))
+      ap₂ (λ x es. with_right_fold h.fold (fold h.fold x (take n es)) (drop n es)) (sym (value_folding h c X (PrefixFold g) acc (peak t) os is m))
+      (sym (values_folding h c X (PrefixFold g) acc (peak t) ps os is m))
 
   -- as a claim does where n peaks after a met part are folded so; m: how many of those after the range stand alone
   pub join_left_fold : (acc : Plan) (g i j n m : ℕ) (over after : List Tree) (os is : List D) → meets c acc ≡ true → Met c over → Unmet c after → m ≡ n - length over
-      → folded_from n acc (map peak over ++ (map peak (take m after) ++ bag_all j (drop m after))) os is ≡ value h (claim h c X (with_right_fold_plan (left_fold_plan acc g (take n (over ++ after))) i (drop n (over ++ after))) os is)
+      → folded_from n acc (map peak over ++ (map peak (take m after) ++ bag_all j (drop m after))) os is
+      ≡ value h (claim h c X (with_right_fold_plan (left_fold_plan acc g (take n (over ++ after))) i (drop n (over ++ after))) os is)
   join_left_fold acc g i j zero zero over after os is e w u l = join_met acc i j over after os is e w u
   join_left_fold acc g i j zero (suc m) over after os is e w u l = absurd (omega (arith, l))
   join_left_fold acc g i j (suc n) zero [] after os is e w u l = absurd (omega (arith, l))

@@ -49,7 +49,8 @@ module _ {D E : Type 0} (f : D → D → D) (told : D → E) (at : Tree → E) (
   folded_read (t ∷ ts) [] e = absurd (cc)
   folded_read (t ∷ ts) (d ∷ ds) e = ap (λ z. z ∷ []) (sym (left_fold_read (peak t) d 1 ts ds (stand.alone t ∙ cons_head _ _ _ _ e) (cons_tail _ _ _ _ e)))
 
-  right_fold_is : (i : ℕ) (t : Tree) (ts : List Tree) (d : D) (ds : List D) → at t ≡ told d → map at ts ≡ map told ds → (v : D) × (root.right_fold f (d ∷ ds) ≡ Some v) × (part (right_fold_plan i t ts) ≡ told v)
+  right_fold_is : (i : ℕ) (t : Tree) (ts : List Tree) (d : D) (ds : List D) → at t ≡ told d → map at ts ≡ map told ds → (v : D)
+      × (root.right_fold f (d ∷ ds) ≡ Some v) × (part (right_fold_plan i t ts) ≡ told v)
   right_fold_is i t [] d [] e g = (d, refl, stand.alone t ∙ e)
   right_fold_is i t [] d (x ∷ xs) e g = absurd (cc)
   right_fold_is i t (u ∷ us) d [] e g = absurd (cc)

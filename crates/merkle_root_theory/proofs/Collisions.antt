@@ -1,7 +1,8 @@
 -- If two alike expressions have one value, what they are given agrees, or they collide.
 use Rattle.std.proofs.Common.{◌≡◌, ◌≢◌, Bool, true, false, not, cond, List, [], ◌∷◌, ◌++◌, ◌⊎◌, inl, inr, refl, ap, ◌∙◌, filter, Decides, ⊎_elim}
 use Rattle.std.proofs.lemmas.Bool.{false≢true}
-use Rattle.merkle_root_theory.specs.Expression.{Place, Argument, Pair, Bytes, Input, Expression, computed, value, Holds, visited, inputs, is_node, Alike, cut_left, cut_right, both, cross_checked_left, Agree}
+use Rattle.merkle_root_theory.specs.Expression.{Place, Argument, Pair, Bytes, Input, Expression, computed, value, Holds, visited, inputs, is_node, Alike}
+use Rattle.merkle_root_theory.specs.Expression.{cut_left, cut_right, both, cross_checked_left, Agree}
 use Rattle.merkle_base.specs.Hashing.{Hashing, EqDecides}
 use Rattle.merkle_root_theory.specs.Collision.{Member, Collision, Collides, AgreeOrCollide}
 
@@ -56,7 +57,8 @@ module _ {D : Type 0} (h : Hashing D) (laws : EqDecides h) where
   Collides_in e f = (c : Collision D) × Collides h (visited h e) (visited h f) c
 
   -- a collision below is one above
-  raised : (e f e' f' : Expression D) → ((i : Input D) → Member (visited h e) i → Member (visited h e') i) → ((i : Input D) → Member (visited h f) i → Member (visited h f') i) → Collides_in e f → Collides_in e' f'
+  raised : (e f e' f' : Expression D) → ((i : Input D) → Member (visited h e) i → Member (visited h e') i)
+      → ((i : Input D) → Member (visited h f) i → Member (visited h f') i) → Collides_in e f → Collides_in e' f'
   unfolding Collides_in
   raised e f e' f' up up' c = (c.0, record { claimed = up _ c.1.claimed; listed = up' _ c.1.listed; differ = c.1.differ; one_digest = c.1.one_digest })
 
@@ -71,11 +73,13 @@ module _ {D : Type 0} (h : Hashing D) (laws : EqDecides h) where
         record { claimed = inl refl; listed = inl refl; differ = n; one_digest = e },
       )
 
-      at_right : value h l ≡ value h l' → ((value h r ≡ value h r') ⊎ (value h r ≡ value h r' → ⊥)) → ((value h l ≡ value h l') × (value h r ≡ value h r')) ⊎ ((c : Collision D) × Collides h (visited h (computed place l r)) (visited h (computed place l' r')) c)
+      at_right : value h l ≡ value h l' → ((value h r ≡ value h r') ⊎ (value h r ≡ value h r' → ⊥))
+          → ((value h l ≡ value h l') × (value h r ≡ value h r')) ⊎ ((c : Collision D) × Collides h (visited h (computed place l r)) (visited h (computed place l' r')) c)
       at_right p (inl q) = inl (p, q)
       at_right p (inr n) = inr (collision (λ q. n (right_same _ _ _ _ q)))
 
-      at_left : ((value h l ≡ value h l') ⊎ (value h l ≡ value h l' → ⊥)) → ((value h l ≡ value h l') × (value h r ≡ value h r')) ⊎ ((c : Collision D) × Collides h (visited h (computed place l r)) (visited h (computed place l' r')) c)
+      at_left : ((value h l ≡ value h l') ⊎ (value h l ≡ value h l' → ⊥)) → ((value h l ≡ value h l') × (value h r ≡ value h r'))
+          ⊎ ((c : Collision D) × Collides h (visited h (computed place l r)) (visited h (computed place l' r')) c)
       at_left (inl p) = at_right p (decided _ (laws (value h r) (value h r')))
       at_left (inr n) = inr (collision (λ q. n (left_same _ _ _ _ q)))
 
@@ -93,4 +97,13 @@ module _ {D : Type 0} (h : Hashing D) (laws : EqDecides h) where
 
 pub main : {D : Type 0} → AgreeOrCollide D
 unfolding Collides_in
-main h laws e f a ok same = ⊎_elim inl (λ c. inr (c.0, record { claimed = member_ordered h e _ c.1.claimed; listed = member_ordered h f _ c.1.listed; differ = c.1.differ; one_digest = c.1.one_digest })) (main_visited h laws a ok same)
+main h laws e f a ok same = ⊎_elim inl
+    (λ c. inr (
+      c.0,
+      record {
+        claimed = member_ordered h e _ c.1.claimed;
+        listed = member_ordered h f _ c.1.listed;
+        differ = c.1.differ;
+        one_digest = c.1.one_digest;
+      },
+    )) (main_visited h laws a ok same)

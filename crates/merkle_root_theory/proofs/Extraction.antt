@@ -1,5 +1,6 @@
 -- Each extracted pair is a node with its digest.
-use Rattle.std.proofs.Common.{◌≡◌, ℕ, zero, suc, Bool, true, cond, ◌||◌, ◌+◌, List, [], ◌∷◌, ◌++◌, inl, inr, refl, ap, ap₂, sym, ◌∙◌, subst, ⊎_elim, length, map, flat_map, take, drop, filter, slice_get, Some, append-nil, drop_at, ◌-◌}
+use Rattle.std.proofs.Common.{◌≡◌, ℕ, zero, suc, Bool, true, cond, ◌||◌, ◌+◌, List, [], ◌∷◌, ◌++◌, inl, inr, refl, ap, ap₂, sym, ◌∙◌, subst, ⊎_elim, length}
+use Rattle.std.proofs.Common.{map, flat_map, take, drop, filter, slice_get, Some, append-nil, drop_at, ◌-◌}
 use Rattle.std.specs.List.{AllByRecursion}
 use Rattle.std.proofs.Math.Seq.{drop-nil, take-nil}
 use Rattle.std.proofs.lemmas.List.{length-map}
@@ -86,7 +87,8 @@ module _ {D : Type 0} (s : Scheme D) (X : ℕ → D) (r : RangeInput D) (agrees 
       → AllByRecursion (IsPair s.hashing (chosen r) X (leaf_given s.hashing r) agrees ns)
       (single_pairs s.hashing (single_before s.bagging k before) (drop (length (fold_all (folded_prefix s.bagging k before))) ds)
       ++ (over_pairs s.hashing (chosen r) (leaf_given s.hashing r) over (drop (length (layout s.bagging k before over after)) ds)
-      ++ single_pairs s.hashing (single_after s.bagging k (length before + length over) after) (drop (length (single_before s.bagging k before)) (drop (length (fold_all (folded_prefix s.bagging k before))) ds))))
+      ++ single_pairs s.hashing (single_after s.bagging k (length before + length over) after)
+      (drop (length (single_before s.bagging k before)) (drop (length (fold_all (folded_prefix s.bagging k before))) ds))))
   pairs_right k before over after u v w ds e =
       let h = s.hashing in
       let f = plan_digest h X in
@@ -97,10 +99,14 @@ module _ {D : Type 0} (s : Scheme D) (X : ℕ → D) (r : RangeInput D) (agrees 
       let four = bag_all (met + (k - met)) (folded_suffix s.bagging k met after) in
       let last = map (tree_digest h X) (flat_map (siblings (chosen r)) over) in
       let e1 : drop (length one) ds ≡ map f (map peak two ++ (map peak three ++ four)) ++ last = split_right f one (map peak two ++ (map peak three ++ four)) ds last e in
-      let e2 : drop (length one) ds ≡ map (tree_digest h X) two ++ (map f (map peak three ++ four) ++ last) = split_left f (map peak two) (map peak three ++ four) _ last e1 ∙ ap (λ z. z ++ (map f (map peak three ++ four) ++ last)) (map_peak h X two) in
-      let e3 : drop (length two) (drop (length one) ds) ≡ map f (map peak three ++ four) ++ last = ap (λ n. drop n (drop (length one) ds)) (sym (length-map two peak)) ∙ split_right f (map peak two) (map peak three ++ four) _ last e1 in
-      let e4 : drop (length two) (drop (length one) ds) ≡ map (tree_digest h X) three ++ (map f four ++ last) = split_left f (map peak three) four _ last e3 ∙ ap (λ z. z ++ (map f four ++ last)) (map_peak h X three) in
-      let e5 : drop (length (layout s.bagging k before over after)) ds ≡ last ++ [] = ap (drop (length (layout s.bagging k before over after))) e ∙ drop_at (map f (layout s.bagging k before over after)) last _ (length-map (layout s.bagging k before over after) f) ∙ sym (append-nil last) in
+      let e2 : drop (length one) ds ≡ map (tree_digest h X) two ++ (map f (map peak three ++ four) ++ last) =
+      split_left f (map peak two) (map peak three ++ four) _ last e1 ∙ ap (λ z. z ++ (map f (map peak three ++ four) ++ last)) (map_peak h X two) in
+      let e3 : drop (length two) (drop (length one) ds) ≡ map f (map peak three ++ four) ++ last =
+      ap (λ n. drop n (drop (length one) ds)) (sym (length-map two peak)) ∙ split_right f (map peak two) (map peak three ++ four) _ last e1 in
+      let e4 : drop (length two) (drop (length one) ds) ≡ map (tree_digest h X) three ++ (map f four ++ last) =
+      split_left f (map peak three) four _ last e3 ∙ ap (λ z. z ++ (map f four ++ last)) (map_peak h X three) in
+      let e5 : drop (length (layout s.bagging k before over after)) ds ≡ last ++ [] = ap (drop (length (layout s.bagging k before over after))) e
+      ∙ drop_at (map f (layout s.bagging k before over after)) last _ (length-map (layout s.bagging k before over after) f) ∙ sym (append-nil last) in
       all_append _ _ _ (single_right h (chosen r) X (leaf_given h r) agrees ns two _ _ (all_single_before _ s.bagging k before u) e2)
       (all_append _ _ _ (over_right h (chosen r) X (leaf_given h r) agrees ns over _ [] v e5)
       (single_right h (chosen r) X (leaf_given h r) agrees ns three _ _ (all_single_after _ s.bagging k met after w) e4))
@@ -118,8 +124,11 @@ extracts_nodes {D = D} s size max_nodes sound xs k few low r ok = ⊎_elim (λ w
         let ts = peaks_of s.rule r.leaves in
         let ns = (forest s.rule r.leaves).nodes in
         let built = peaks_built s.rule r.leaves in
-        let e : r.digests ≡ map (plan_digest s.hashing (leaf_of s.hashing xs)) (range_parts s.bagging r.inactive r.start (end_of r) ts) ++ map (tree_digest s.hashing (leaf_of s.hashing xs)) (range_siblings r.start (end_of r) ts) =
-        w.digests ∙ range_digests_are s xs k r.start (end_of r) ∙ ap₂ (λ x y. map (plan_digest s.hashing (leaf_of s.hashing xs)) (range_parts s.bagging x r.start (end_of r) (peaks_of s.rule y)) ++ map (tree_digest s.hashing (leaf_of s.hashing xs)) (range_siblings r.start (end_of r) (peaks_of s.rule y))) (sym w.inactive) (sym w.leaves) in
+        let e : r.digests ≡ map (plan_digest s.hashing (leaf_of s.hashing xs)) (range_parts s.bagging r.inactive r.start (end_of r) ts)
+        ++ map (tree_digest s.hashing (leaf_of s.hashing xs)) (range_siblings r.start (end_of r) ts) =
+        w.digests ∙ range_digests_are s xs k r.start (end_of r)
+        ∙ ap₂ (λ x y. map (plan_digest s.hashing (leaf_of s.hashing xs)) (range_parts s.bagging x r.start (end_of r) (peaks_of s.rule y))
+        ++ map (tree_digest s.hashing (leaf_of s.hashing xs)) (range_siblings r.start (end_of r) (peaks_of s.rule y))) (sym w.inactive) (sym w.leaves) in
         subst (λ n. AllByRecursion (λ (x : ℕ × D). (t : Tree) × (slice_get (forest s.rule n).nodes x.0 ≡ Some t) × (x.1 ≡ tree_digest s.hashing (leaf_of s.hashing xs) t)) (extracted s r)) w.leaves
         (pairs_right s (leaf_of s.hashing xs) r (honest_leaves s xs k r w) ns r.inactive (wholly_before r.start ts) (overlapping r.start (end_of r) ts) (wholly_after (end_of r) ts)
         (all_filter _ _ ts built) (all_filter _ _ ts built) (all_filter _ _ ts built) r.digests e)

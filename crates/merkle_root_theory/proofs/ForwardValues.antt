@@ -10,7 +10,9 @@ use Rattle.merkle_root_theory.proofs.PartValues.{part_values, value_folding, val
 
 -- the fold that goes on after a met part
 pub value_left_fold : {D : Type 0} (h : Hashing D) (c : ℕ → Bool) (X : ℕ → D) (acc : Plan) (i : ℕ) (ts : List Tree) (os is : List D) → meets c acc ≡ true
-    → value h (claim h c X (left_fold_plan acc i ts) os is) ≡ fold h.fold (value h (claim h c X acc os is)) (part_values h c X (map peak ts) (drop (length (outside_parts c acc)) os) (drop (length (path_siblings c acc)) is))
+    → value h (claim h c X (left_fold_plan acc i ts) os is)
+    ≡ fold h.fold (value h (claim h c X acc os is))
+    (part_values h c X (map peak ts) (drop (length (outside_parts c acc)) os) (drop (length (path_siblings c acc)) is))
 value_left_fold h c X acc i [] os is e = refl
 value_left_fold h c X acc i (t ∷ ts) os is e =
     let m = or_left (meets c acc) (tree_meets c t) e in

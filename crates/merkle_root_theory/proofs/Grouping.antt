@@ -1,5 +1,6 @@
 -- Peaks fall into groups one after another.
-use Rattle.std.proofs.Common.{◌≡◌, ℕ, Bool, true, false, cond, ◌&&◌, nat_le, nat_lt, ◌<◌, ◌≤◌, List, [], ◌∷◌, ◌++◌, map, filter, ap, ap₂, sym, ◌∙◌, append-nil, append_assoc, arith, le-leb, lt-ltb, le-ltb, Result, Ok, Err, IfOk}
+use Rattle.std.proofs.Common.{◌≡◌, ℕ, Bool, true, false, cond, ◌&&◌, nat_le, nat_lt, ◌<◌, ◌≤◌, List, [], ◌∷◌, ◌++◌, map, filter, ap, ap₂, sym, ◌∙◌, append-nil}
+use Rattle.std.proofs.Common.{append_assoc, arith, le-leb, lt-ltb, le-ltb, Result, Ok, Err, IfOk}
 use Rattle.std.proofs.lemmas.Bool.{lt-leb, and_left, and_right, and_from}
 use Rattle.std.proofs.lemmas.List.{map-append}
 use Rattle.merkle_base.specs.Tree.{Tree, position, height, first_leaf, end_leaf}
@@ -81,11 +82,14 @@ module _ (a b : ℕ) (done : List Tree) (t : Tree) where
 pub subtree_is : {F : Type 0} (rule : List ℕ → List ℕ) (m : ℕ) (s : Subtree F) (t : Tree) → Denotes rule m s t → s ≡ subtree_of t
 subtree_is {F = F} rule m s t w =
     let make : ℕ → ℕ → ℕ → Subtree F = λ p h n. record { position = p; height = h; first_leaf = n } in
-    ap (λ p. make p s.height s.first_leaf) (sym ((forest_grown rule m).placed s.position t w.at)) ∙ ap (λ h. make (position t) h s.first_leaf) (sym w.height_is) ∙ ap (make (position t) (height t)) (sym w.first_is)
+    ap (λ p. make p s.height s.first_leaf) (sym ((forest_grown rule m).placed s.position t w.at))
+    ∙ ap (λ h. make (position t) h s.first_leaf) (sym w.height_is) ∙ ap (make (position t) (height t)) (sym w.first_is)
 
 -- one more subtree, one more position
-pub push_subtree : {F : Type 0} (rule : List ℕ → List ℕ) (m : ℕ) (s : Subtree F) (t : Tree) → Denotes rule m s t → (xs ys : List (Subtree F)) (ts us : List Tree) → ys ≡ xs ++ s ∷ [] → xs ≡ map subtree_of ts → us ≡ ts ++ t ∷ [] → ys ≡ map subtree_of us
+pub push_subtree : {F : Type 0} (rule : List ℕ → List ℕ) (m : ℕ) (s : Subtree F) (t : Tree) → Denotes rule m s t
+    → (xs ys : List (Subtree F)) (ts us : List Tree) → ys ≡ xs ++ s ∷ [] → xs ≡ map subtree_of ts → us ≡ ts ++ t ∷ [] → ys ≡ map subtree_of us
 push_subtree rule m s t w xs ys ts us e h u = e ∙ ap₂ (λ z x. z ++ x ∷ []) h (subtree_is rule m s t w) ∙ sym (map-append subtree_of ts (t ∷ [])) ∙ ap (map subtree_of) (sym u)
 
-pub push_position : {F : Type 0} (rule : List ℕ → List ℕ) (m : ℕ) (s : Subtree F) (t : Tree) → Denotes rule m s t → (xs ys : List ℕ) (ts us : List Tree) → ys ≡ xs ++ s.position ∷ [] → xs ≡ map position ts → us ≡ ts ++ t ∷ [] → ys ≡ map position us
+pub push_position : {F : Type 0} (rule : List ℕ → List ℕ) (m : ℕ) (s : Subtree F) (t : Tree) → Denotes rule m s t
+    → (xs ys : List ℕ) (ts us : List Tree) → ys ≡ xs ++ s.position ∷ [] → xs ≡ map position ts → us ≡ ts ++ t ∷ [] → ys ≡ map position us
 push_position rule m s t w xs ys ts us e h u = e ∙ ap₂ (λ z x. z ++ x ∷ []) h (sym ((forest_grown rule m).placed s.position t w.at)) ∙ sym (map-append position ts (t ∷ [])) ∙ ap (map position) (sym u)

@@ -26,7 +26,8 @@ pub length-folded_suffix : (bagging : Bagging) (k met : ℕ) (ts : List Tree) �
 length-folded_suffix ForwardFold k met ts = omega arith
 length-folded_suffix BackwardFold k met ts = omega (arith, length-drop (k - met) ts, length-take (k - met) ts)
 
-pub length-layout : (bagging : Bagging) (k : ℕ) (before over after : List Tree) → length (layout bagging k before over after) ≡ count_before bagging k before + count_after bagging k (length before + length over) after
+pub length-layout : (bagging : Bagging) (k : ℕ) (before over after : List Tree)
+    → length (layout bagging k before over after) ≡ count_before bagging k before + count_after bagging k (length before + length over) after
 length-layout bagging k before over after =
     let met = length before + length over in
     let first = fold_all (folded_prefix bagging k before) in

@@ -1,5 +1,6 @@
 -- The parts of a layout are folded as the plan folds its peaks.
-use Rattle.std.proofs.Common.{◌≡◌, ℕ, zero, suc, pred, ◌+◌, ◌-◌, ◌<◌, ◌≤◌, Bool, true, ◌||◌, List, [], ◌∷◌, ◌++◌, ⊎_elim, length, map, take, drop, fold, refl, ap, ap₂, sym, ◌∙◌, arith, append-nil, Some, option_map, drop_of_length-le}
+use Rattle.std.proofs.Common.{◌≡◌, ℕ, zero, suc, pred, ◌+◌, ◌-◌, ◌<◌, ◌≤◌, Bool, true, ◌||◌, List, [], ◌∷◌, ◌++◌, ⊎_elim, length, map, take, drop, fold, refl}
+use Rattle.std.proofs.Common.{ap, ap₂, sym, ◌∙◌, arith, append-nil, Some, option_map, drop_of_length-le}
 use Rattle.std.proofs.lemmas.Bool.{or_right, cases_lt}
 use Rattle.std.proofs.Math.Seq.{take-append-add, drop-append-add}
 use Rattle.std.proofs.lemmas.List.{length-take, map-append, take_all, take-append-le, drop-append-le}
@@ -41,7 +42,8 @@ module _ {D : Type 0} (h : Hashing D) (c : ℕ → Bool) (X : ℕ → D) (k : �
   -- the digests of the parts are folded to the claim's
   abbrev pub IsFolded : Bagging → List Tree → Type 0
   IsFolded bagging before =
-      folded h.fold bagging (count_inactive bagging k before) (part_values h c X (parts_before bagging k before ++ (map peak (t ∷ over) ++ parts_after bagging k (length before + suc (length over)) after)) os is)
+      folded h.fold bagging (count_inactive bagging k before)
+      (part_values h c X (parts_before bagging k before ++ (map peak (t ∷ over) ++ parts_after bagging k (length before + suc (length over)) after)) os is)
       ≡ option_map digest_of (root_plan bagging k (before ++ (t ∷ over ++ after)))
 
   all_single : map peak over ++ (map peak after ++ []) ≡ map peak (over ++ after)
@@ -49,12 +51,15 @@ module _ {D : Type 0} (h : Hashing D) (c : ℕ → Bool) (X : ℕ → D) (k : �
 
   folded_left_fold : (before : List Tree) → IsFolded ForwardFold before
   folded_left_fold [] =
-      ap Some (ap (λ ps. fold h.fold (digest_of (peak t)) (part_values h c X ps (drop (length (outside_parts c (peak t))) os) (drop (length (path_siblings c (peak t))) is))) all_single ∙ sym (value_left_fold h c X (peak t) 1 (over ++ after) os is m.0))
+      ap Some (ap (λ ps. fold h.fold (digest_of (peak t))
+      (part_values h c X ps (drop (length (outside_parts c (peak t))) os) (drop (length (path_siblings c (peak t))) is))) all_single
+      ∙ sym (value_left_fold h c X (peak t) 1 (over ++ after) os is m.0))
   folded_left_fold (b ∷ bs) =
       let acc = left_fold_plan (peak b) 1 bs in let q = PrefixFold (1 + length bs) in
       let met : meets c acc || tree_meets c t ≡ true = or_right (meets c acc) (tree_meets c t) m.0 in
       ap Some (ap₂ (fold h.fold) (sym (value_folding h c X q acc (peak t) os is met)) (sym (values_folding h c X q acc (peak t) (map peak over ++ (map peak after ++ [])) os is met))
-      ∙ ap (λ ps. fold h.fold (digest_of (folding q acc (peak t))) (part_values h c X ps (drop (length (outside_parts c (folding q acc (peak t)))) os) (drop (length (path_siblings c (folding q acc (peak t)))) is))) all_single
+      ∙ ap (λ ps. fold h.fold (digest_of (folding q acc (peak t)))
+      (part_values h c X ps (drop (length (outside_parts c (folding q acc (peak t)))) os) (drop (length (path_siblings c (folding q acc (peak t)))) is))) all_single
       ∙ sym (value_left_fold h c X (folding q acc (peak t)) (suc (1 + length bs)) (over ++ after) os is met)
       ∙ ap digest_of (sym (left_fold_append c (peak b) 1 bs (t ∷ (over ++ after)))))
 
@@ -71,7 +76,8 @@ module _ {D : Type 0} (h : Hashing D) (c : ℕ → Bool) (X : ℕ → D) (k : �
       (omega (arith, length-fold_all (take k (b ∷ bs)), length-take k (b ∷ bs)))
       (ap₂ (λ z n. z ++ (map peak (t ∷ over) ++ (map peak (take n after) ++ bag_all (met + (k - met)) (drop n after)))) (parts_before_cons k b bs) none)
       ∙ ap Some (join_reaches h c X acc (suc (pred k)) (met + (k - met)) (drop (pred k) bs) t over after os is m v
-      ∙ ap₂ (λ x y. digest_of (with_right_fold_plan (left_fold_plan (peak b) 1 x) (suc (pred k)) y)) (sym (take-append-le (pred k) bs (t ∷ over ++ after) l)) (sym (drop-append-le (pred k) bs (t ∷ over ++ after) l)))
+      ∙ ap₂ (λ x y. digest_of (with_right_fold_plan (left_fold_plan (peak b) 1 x) (suc (pred k)) y))
+      (sym (take-append-le (pred k) bs (t ∷ over ++ after) l)) (sym (drop-append-le (pred k) bs (t ∷ over ++ after) l)))
 
   -- or reaches all peaks before it
   folded_past : (b : Tree) (bs : List Tree) → length bs < pred k → IsFolded BackwardFold (b ∷ bs)
@@ -89,14 +95,16 @@ module _ {D : Type 0} (h : Hashing D) (c : ℕ → Bool) (X : ℕ → D) (k : �
       ∙ join_left_fold h c X (folding q acc (peak t)) (suc (1 + length bs)) (suc (pred k)) (met + (k - met)) n (k - met) over after os is reached m.1 v (omega arith)
       ∙ ap (λ z. digest_of (with_right_fold_plan z (suc (pred k)) (drop n (over ++ after)))) (sym (left_fold_append c (peak b) 1 bs (t ∷ take n (over ++ after))))
       ∙ ap₂ (λ x y. digest_of (with_right_fold_plan (left_fold_plan (peak b) 1 x) (suc (pred k)) y))
-      (sym (ap (λ z. take z (bs ++ (t ∷ over ++ after))) far ∙ take-append-add bs (t ∷ over ++ after) (suc n))) (sym (ap (λ z. drop z (bs ++ (t ∷ over ++ after))) far ∙ drop-append-add bs (t ∷ over ++ after) (suc n))))
+      (sym (ap (λ z. take z (bs ++ (t ∷ over ++ after))) far ∙ take-append-add bs (t ∷ over ++ after) (suc n)))
+      (sym (ap (λ z. drop z (bs ++ (t ∷ over ++ after))) far ∙ drop-append-add bs (t ∷ over ++ after) (suc n))))
 
   -- or there is none before it
   folded_none : IsFolded BackwardFold []
   folded_none =
       let met = 0 + suc (length over) in
       let later = map peak over ++ parts_after BackwardFold k met after in
-      folded_backward (count_inactive BackwardFold k []) (pred k) _ (peak t) later (omega (arith, length-fold_all (take k []), length-take {A = Tree} k [])) (ap (λ z. z ++ peak t ∷ later) (parts_before_nil k))
+      folded_backward (count_inactive BackwardFold k []) (pred k) _ (peak t) later
+      (omega (arith, length-fold_all (take k []), length-take {A = Tree} k [])) (ap (λ z. z ++ peak t ∷ later) (parts_before_nil k))
       ∙ ap Some (join_left_fold h c X (peak t) 1 (suc (pred k)) (met + (k - met)) (pred k) (k - met) over after os is m.0 m.1 v (omega arith))
 
   pub parts_folded : (bagging : Bagging) (before : List Tree) → IsFolded bagging before

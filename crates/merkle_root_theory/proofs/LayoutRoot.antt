@@ -41,13 +41,20 @@ module _ (c : ℕ → Bool) where
   unmet_parts_after ForwardFold k met after u = unmet_append c (map peak after) [] (unmet_peaks c after u) tt
   unmet_parts_after BackwardFold k met after u =
       let n = k - met in
-      unmet_append c (map peak (take n after)) (bag_all (met + n) (drop n after)) (unmet_peaks c (take n after) (unmet_take c n after u)) (unmet_right_fold (met + n) (drop n after) (unmet_drop c n after u))
+      unmet_append c (map peak (take n after)) (bag_all (met + n) (drop n after)) (unmet_peaks c (take n after) (unmet_take c n after u))
+      (unmet_right_fold (met + n) (drop n after) (unmet_drop c n after u))
 
 pub length-parts_before : (bagging : Bagging) (k : ℕ) (before : List Tree) → length (parts_before bagging k before) ≡ count_before bagging k before
-length-parts_before bagging k before = omega (arith, length-append (fold_all (folded_prefix bagging k before)) (map peak (single_before bagging k before)), length-map (single_before bagging k before) peak)
+length-parts_before bagging k before =
+    omega (arith, length-append (fold_all (folded_prefix bagging k before)) (map peak (single_before bagging k before)), length-map (single_before bagging k before) peak)
 
 pub length-parts_after : (bagging : Bagging) (k met : ℕ) (after : List Tree) → length (parts_after bagging k met after) ≡ count_after bagging k met after
-length-parts_after bagging k met after = omega (arith, length-append (map peak (single_after bagging k met after)) (bag_all (met + (k - met)) (folded_suffix bagging k met after)), length-map (single_after bagging k met after) peak)
+length-parts_after bagging k met after =
+    omega (
+      arith,
+      length-append (map peak (single_after bagging k met after)) (bag_all (met + (k - met)) (folded_suffix bagging k met after)),
+      length-map (single_after bagging k met after) peak,
+    )
 
 module _ {D : Type 0} (h : Hashing D) (c : ℕ → Bool) (X : ℕ → D) (bagging : Bagging) (k : ℕ) (ds : List D) where
   -- all digests that are folded, and the claim that they are folded to
@@ -57,7 +64,8 @@ module _ {D : Type 0} (h : Hashing D) (c : ℕ → Bool) (X : ℕ → D) (baggin
       folded h.fold bagging (count_inactive bagging k before) (take i ds ++ (peak_values h c X over (drop (i + j) ds) ++ take j (drop i ds)))
       ≡ option_map (λ p. value h (claim_of h c X p ds)) (root_plan bagging k (before ++ (over ++ after)))
 
-  claim_counted : (n : ℕ) (os : List Plan) (is : List Tree) (o : Option Plan) → HasLayout c os is o → n ≡ length os → option_map (λ p. value h (claim h c X p ds (drop n ds))) o ≡ option_map (λ p. value h (claim_of h c X p ds)) o
+  claim_counted : (n : ℕ) (os : List Plan) (is : List Tree) (o : Option Plan) → HasLayout c os is o → n ≡ length os
+      → option_map (λ p. value h (claim h c X p ds (drop n ds))) o ≡ option_map (λ p. value h (claim_of h c X p ds)) o
   claim_counted n os is None w e = absurd w
   claim_counted n os is (Some p) w e = ap (λ i. Some (value h (claim h c X p ds (drop i ds)))) (e ∙ ap length (sym w.0))
 
@@ -72,7 +80,8 @@ module _ {D : Type 0} (h : Hashing D) (c : ℕ → Bool) (X : ℕ → D) (baggin
       (unmet_parts_before c bagging k before u) m (unmet_parts_after c bagging k met after v) (omega (arith, l, i_is, j_is))
       ∙ ap₂ (λ x y. take x ds ++ (peak_values h c X (t ∷ over) (drop (i + j) ds) ++ take y (drop x ds))) i_is j_is))
       ∙ parts_folded h c X k t over after m v ds (drop (i + j) ds) bagging before
-      ∙ claim_counted (i + j) _ _ (root_plan bagging k (before ++ (t ∷ over ++ after))) (outside_is_layout c bagging k before t over after u m v) (sym (length-layout bagging k before (t ∷ over) after))
+      ∙ claim_counted (i + j) _ _ (root_plan bagging k (before ++ (t ∷ over ++ after))) (outside_is_layout c bagging k before t over after u m v)
+      (sym (length-layout bagging k before (t ∷ over) after))
 
 module _ {D : Type 0} (s : Scheme D) (r : RangeInput D) where
   abbrev all_peaks : List Tree
@@ -118,12 +127,14 @@ module _ {D : Type 0} (s : Scheme D) (r : RangeInput D) where
 
     module _ (within : end_of r ≤ r.leaves) where
       input_folded : input_before + input_after ≤ length r.digests
-          → IsFoldedTo s.hashing (chosen r) (leaf_given s.hashing r) s.bagging r.inactive r.digests (wholly_before r.start all_peaks) (overlapping r.start (end_of r) all_peaks) (wholly_after (end_of r) all_peaks)
+          → IsFoldedTo s.hashing (chosen r) (leaf_given s.hashing r) s.bagging r.inactive r.digests (wholly_before r.start all_peaks)
+          (overlapping r.start (end_of r) all_peaks) (wholly_after (end_of r) all_peaks)
       input_folded enough =
           let a = r.start in let b = end_of r in
           let less : a < b = omega (arith, some) in
           let built = peaks_built s.rule r.leaves in
-          at (wholly_before a all_peaks) (overlapping a b all_peaks) (wholly_after b all_peaks) (some_over a b 0 r.leaves all_peaks less (peaks_spans s.rule r.leaves) (omega arith) (omega (arith, within, less)))
+          at (wholly_before a all_peaks) (overlapping a b all_peaks) (wholly_after b all_peaks)
+          (some_over a b 0 r.leaves all_peaks less (peaks_spans s.rule r.leaves) (omega arith) (omega (arith, within, less)))
           (unmet_before a b _ all_peaks built) (met_over a b _ all_peaks less built) (unmet_after a b _ all_peaks built) enough
         where
           at : (before over after : List Tree) → (over ≡ [] → ⊥) → Unmet (chosen r) before → Met (chosen r) over → Unmet (chosen r) after

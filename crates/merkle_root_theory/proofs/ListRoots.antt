@@ -52,7 +52,8 @@ module _ {D : Type 0} (h : Hashing D) (E : Plan → Expression D) (folds : (plac
       ∙ ap (λ z. with_right_fold h.fold z (map peak_value (drop (pred k) ts))) (fold_values h E folds (peak t) 1 (take (pred k) ts))
       ∙ join_is (left_fold_plan (peak t) 1 (take (pred k) ts)) (suc (pred k)) (drop (pred k) ts))
 
-folded_is : {D : Type 0} (h : Hashing D) (X : ℕ → D) (bagging : Bagging) (k : ℕ) (ts : List Tree) → folded h.fold bagging k (map (tree_digest h X) ts) ≡ option_map (value h) (option_map (plan_expression X) (root_plan bagging k ts))
+folded_is : {D : Type 0} (h : Hashing D) (X : ℕ → D) (bagging : Bagging) (k : ℕ) (ts : List Tree)
+    → folded h.fold bagging k (map (tree_digest h X) ts) ≡ option_map (value h) (option_map (plan_expression X) (root_plan bagging k ts))
 folded_is h X bagging k ts = folded_values h (plan_expression X) (λ place l r. refl) bagging k ts
 
 pub digests_are : {D : Type 0} (h : Hashing D) (xs : List D) (ts : List Tree) → map (digest_at h xs) ts ≡ map (tree_digest h (leaf_of h xs)) ts

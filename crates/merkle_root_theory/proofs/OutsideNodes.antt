@@ -1,5 +1,7 @@
 -- The maximal parts outside the range are those that the layout lists.
-use Rattle.std.proofs.Common.{◌≡◌, ℕ, suc, zero, Bool, true, false, cond, ◌||◌, ◌+◌, ◌-◌, ◌≤◌, ◌<◌, List, [], ◌∷◌, ◌++◌, ◌⊎◌, inl, inr, refl, ap, ap₂, sym, ◌∙◌, subst, ⊎_elim, arith, length, map, take, drop, flat_map, length-append, append-nil, append_assoc, add-zero, add-one, take_at, drop_at, pred, drop_of_length-le}
+use Rattle.std.proofs.Common.{◌≡◌, ℕ, suc, zero, Bool, true, false, cond, ◌||◌, ◌+◌, ◌-◌, ◌≤◌, ◌<◌, List, [], ◌∷◌, ◌++◌, ◌⊎◌, inl, inr, refl, ap, ap₂, sym, ◌∙◌}
+use Rattle.std.proofs.Common.{subst, ⊎_elim, arith, length, map, take, drop, flat_map, length-append, append-nil, append_assoc, add-zero, add-one, take_at}
+use Rattle.std.proofs.Common.{drop_at, pred, drop_of_length-le}
 use Rattle.std.proofs.Math.Seq.{take-append-add, drop-append-add}
 use Rattle.std.proofs.lemmas.List.{length-drop, take-append-le, drop-append-le, take_all}
 use Rattle.std.proofs.lemmas.Bool.{or_right, cases_lt}
@@ -31,13 +33,21 @@ module _ (c : ℕ → Bool) where
 
   parts_left : (place : Place) (l r : Plan) (os : List Plan) (is : List Tree) → Parts l os is → Parts (folding place l r) (os ++ outside_parts c r) (is ++ path_siblings c r)
   unfolding Parts
-  parts_left place l r os is w = let m : meets c l || meets c r ≡ true = ap (λ b. b || meets c r) w.0 in
-      (m, ap (λ b. cond b (outside_parts c l ++ outside_parts c r) (folding place l r ∷ [])) m ∙ ap (λ x. x ++ outside_parts c r) w.1, ap (λ b. cond b (path_siblings c l ++ path_siblings c r) []) m ∙ ap (λ x. x ++ path_siblings c r) w.2)
+  parts_left place l r os is w = let m : meets c l || meets c r ≡ true = ap (λ b. b || meets c r) w.0 in (
+    m,
+    ap (λ b. cond b (outside_parts c l ++ outside_parts c r) (folding place l r ∷ [])) m
+        ∙ ap (λ x. x ++ outside_parts c r) w.1,
+    ap (λ b. cond b (path_siblings c l ++ path_siblings c r) []) m ∙ ap (λ x. x ++ path_siblings c r) w.2,
+  )
 
   parts_right : (place : Place) (l r : Plan) (os : List Plan) (is : List Tree) → Parts r os is → Parts (folding place l r) (outside_parts c l ++ os) (path_siblings c l ++ is)
   unfolding Parts
-  parts_right place l r os is w = let m : meets c l || meets c r ≡ true = or_right (meets c l) (meets c r) w.0 in
-      (m, ap (λ b. cond b (outside_parts c l ++ outside_parts c r) (folding place l r ∷ [])) m ∙ ap (λ x. outside_parts c l ++ x) w.1, ap (λ b. cond b (path_siblings c l ++ path_siblings c r) []) m ∙ ap (λ x. path_siblings c l ++ x) w.2)
+  parts_right place l r os is w = let m : meets c l || meets c r ≡ true = or_right (meets c l) (meets c r) w.0 in (
+    m,
+    ap (λ b. cond b (outside_parts c l ++ outside_parts c r) (folding place l r ∷ [])) m
+        ∙ ap (λ x. outside_parts c l ++ x) w.1,
+    ap (λ b. cond b (path_siblings c l ++ path_siblings c r) []) m ∙ ap (λ x. path_siblings c l ++ x) w.2,
+  )
 
   parts_peak : (t : Tree) → tree_meets c t ≡ true → Parts (peak t) [] (siblings c t)
   unfolding Parts
@@ -103,29 +113,39 @@ module _ (c : ℕ → Bool) where
   fold_met : (t : Tree) (ts : List Tree) → tree_meets c t ≡ true → Parts (left_fold_plan (peak t) 1 ts) (peaks_out ts) (siblings c t ++ peaks_in ts)
   fold_met t ts e = left_fold_met (peak t) 1 ts [] (siblings c t) (parts_peak t e)
 
-  fold_reaches : (b : Tree) (bs : List Tree) (t : Tree) (ts : List Tree) → Unmet c (b ∷ bs) → tree_meets c t ≡ true → Parts (left_fold_plan (peak b) 1 (bs ++ t ∷ ts)) (left_fold_plan (peak b) 1 bs ∷ peaks_out ts) (siblings c t ++ peaks_in ts)
+  fold_reaches : (b : Tree) (bs : List Tree) (t : Tree) (ts : List Tree) → Unmet c (b ∷ bs) → tree_meets c t ≡ true
+      → Parts (left_fold_plan (peak b) 1 (bs ++ t ∷ ts)) (left_fold_plan (peak b) 1 bs ∷ peaks_out ts) (siblings c t ++ peaks_in ts)
   fold_reaches b bs t ts u e =
       let acc = left_fold_plan (peak b) 1 bs in
       let low : meets c acc ≡ false = left_fold_unmet (peak b) 1 bs u.0 u.1 in
       subst (λ p. Parts p (acc ∷ peaks_out ts) (siblings c t ++ peaks_in ts)) (sym (left_fold_append (peak b) 1 bs (t ∷ ts)))
       (left_fold_met (folding (PrefixFold (1 + length bs)) acc (peak t)) (suc (1 + length bs)) ts (acc ∷ []) (siblings c t)
-      (parts_as _ _ _ _ _ (ap (λ x. x ++ []) (outside_parts_unmet acc low)) (ap (λ x. x ++ siblings c t) (inner_unmet acc low)) (parts_right (PrefixFold (1 + length bs)) acc (peak t) [] (siblings c t) (parts_peak t e))))
+      (parts_as _ _ _ _ _ (ap (λ x. x ++ []) (outside_parts_unmet acc low)) (ap (λ x. x ++ siblings c t) (inner_unmet acc low))
+      (parts_right (PrefixFold (1 + length bs)) acc (peak t) [] (siblings c t) (parts_peak t e))))
 
   -- a bag of met peaks and unmet ones after them
-  right_fold_met : (i : ℕ) (t : Tree) (ts after : List Tree) → Met c (t ∷ ts) → Unmet c after → Parts (right_fold_plan i t (ts ++ after)) (bag_all (i + suc (length ts)) after) (siblings c t ++ flat_map (siblings c) ts)
+  right_fold_met : (i : ℕ) (t : Tree) (ts after : List Tree) → Met c (t ∷ ts) → Unmet c after
+      → Parts (right_fold_plan i t (ts ++ after)) (bag_all (i + suc (length ts)) after) (siblings c t ++ flat_map (siblings c) ts)
   right_fold_met i t [] [] m u = parts_as (peak t) [] [] (siblings c t) (siblings c t ++ []) refl (sym (append-nil _)) (parts_peak t m.0)
   right_fold_met i t [] (v ∷ vs) m u =
       let low : meets c (right_fold_plan (suc i) v vs) ≡ false = right_fold_unmet (suc i) v vs u in
-      parts_as _ _ _ _ _ (outside_parts_unmet (right_fold_plan (suc i) v vs) low ∙ ap (λ n. bag_all n (v ∷ vs)) (sym (add-one i))) (ap (λ x. siblings c t ++ x) (inner_unmet (right_fold_plan (suc i) v vs) low))
+      parts_as _ _ _ _ _ (outside_parts_unmet (right_fold_plan (suc i) v vs) low ∙ ap (λ n. bag_all n (v ∷ vs)) (sym (add-one i)))
+      (ap (λ x. siblings c t ++ x) (inner_unmet (right_fold_plan (suc i) v vs) low))
       (parts_left (SuffixFold i) (peak t) (right_fold_plan (suc i) v vs) [] (siblings c t) (parts_peak t m.0))
-  right_fold_met i t (v ∷ vs) after m u = parts_as _ _ _ _ _ (ap₂ ◌++◌ (outside_parts_peak t m.0) (ap (λ n. bag_all n after) (omega arith))) (ap (λ x. x ++ (siblings c v ++ flat_map (siblings c) vs)) (inner_peak t m.0))
+  right_fold_met i t (v ∷ vs) after m u =
+      parts_as _ _ _ _ _ (ap₂ ◌++◌ (outside_parts_peak t m.0) (ap (λ n. bag_all n after) (omega arith)))
+      (ap (λ x. x ++ (siblings c v ++ flat_map (siblings c) vs)) (inner_peak t m.0))
       (parts_right (SuffixFold i) (peak t) (right_fold_plan (suc i) v (vs ++ after)) _ _ (right_fold_met (suc i) v vs after m.1 u))
 
   right_fold_reaches : (i : ℕ) (b : Tree) (bs : List Tree) (t : Tree) (ts after : List Tree) → Unmet c (b ∷ bs) → Met c (t ∷ ts) → Unmet c after
       → Parts (right_fold_plan i b (bs ++ (t ∷ ts ++ after))) (map peak (b ∷ bs) ++ bag_all (i + suc (length bs) + suc (length ts)) after) (siblings c t ++ flat_map (siblings c) ts)
-  right_fold_reaches i b [] t ts after u m v = parts_as _ _ _ _ _ (ap₂ ◌++◌ (outside_parts_unmet (peak b) u.0) (ap (λ n. bag_all n after) (omega arith))) (ap (λ x. x ++ (siblings c t ++ flat_map (siblings c) ts)) (inner_unmet (peak b) u.0))
+  right_fold_reaches i b [] t ts after u m v =
+      parts_as _ _ _ _ _ (ap₂ ◌++◌ (outside_parts_unmet (peak b) u.0) (ap (λ n. bag_all n after) (omega arith)))
+      (ap (λ x. x ++ (siblings c t ++ flat_map (siblings c) ts)) (inner_unmet (peak b) u.0))
       (parts_right (SuffixFold i) (peak b) (right_fold_plan (suc i) t (ts ++ after)) _ _ (right_fold_met (suc i) t ts after m v))
-  right_fold_reaches i b (d ∷ bs) t ts after u m v = parts_as _ _ _ _ _ (ap₂ ◌++◌ (outside_parts_unmet (peak b) u.0) (ap (λ n. map peak (d ∷ bs) ++ bag_all n after) (omega arith))) (ap (λ x. x ++ (siblings c t ++ flat_map (siblings c) ts)) (inner_unmet (peak b) u.0))
+  right_fold_reaches i b (d ∷ bs) t ts after u m v =
+      parts_as _ _ _ _ _ (ap₂ ◌++◌ (outside_parts_unmet (peak b) u.0) (ap (λ n. map peak (d ∷ bs) ++ bag_all n after) (omega arith)))
+      (ap (λ x. x ++ (siblings c t ++ flat_map (siblings c) ts)) (inner_unmet (peak b) u.0))
       (parts_right (SuffixFold i) (peak b) (right_fold_plan (suc i) d (bs ++ (t ∷ ts ++ after))) _ _ (right_fold_reaches (suc i) d bs t ts after u.1 m v))
 
   flat_map_append : (xs ys : List Tree) → flat_map (siblings c) (xs ++ ys) ≡ flat_map (siblings c) xs ++ flat_map (siblings c) ys
@@ -155,7 +175,8 @@ module _ (c : ℕ → Bool) where
   join_unmet acc i [] os is u w = parts_as acc os (os ++ []) is is (sym (append-nil os)) refl w
   join_unmet acc i (t ∷ ts) os is u w =
       let low : meets c (right_fold_plan i t ts) ≡ false = right_fold_unmet i t ts u in
-      parts_as _ _ _ _ _ (ap (λ x. os ++ x) (outside_parts_unmet (right_fold_plan i t ts) low)) (ap (λ x. is ++ x) (inner_unmet (right_fold_plan i t ts) low) ∙ append-nil is) (parts_left Join acc (right_fold_plan i t ts) os is w)
+      parts_as _ _ _ _ _ (ap (λ x. os ++ x) (outside_parts_unmet (right_fold_plan i t ts) low))
+      (ap (λ x. is ++ x) (inner_unmet (right_fold_plan i t ts) low) ∙ append-nil is) (parts_left Join acc (right_fold_plan i t ts) os is w)
 
   outside_parts_of : (p : Plan) (os : List Plan) (is : List Tree) → Parts p os is → outside_parts c p ≡ os
   unfolding Parts
@@ -174,9 +195,13 @@ module _ (c : ℕ → Bool) where
   -- unmet peaks bagged onto an unmet accumulator, with met ones among them
   join_reaches : (acc : Plan) (i : ℕ) (bs : List Tree) (t : Tree) (ts after : List Tree) → meets c acc ≡ false → Unmet c bs → Met c (t ∷ ts) → Unmet c after
       → Parts (with_right_fold_plan acc i (bs ++ (t ∷ ts ++ after))) (acc ∷ (map peak bs ++ bag_all (i + length bs + suc (length ts)) after)) (siblings c t ++ flat_map (siblings c) ts)
-  join_reaches acc i [] t ts after e u m v = parts_as _ _ _ _ _ (ap₂ ◌++◌ (outside_parts_unmet acc e) (ap (λ n. bag_all n after) (omega arith))) (ap (λ x. x ++ (siblings c t ++ flat_map (siblings c) ts)) (inner_unmet acc e))
+  join_reaches acc i [] t ts after e u m v =
+      parts_as _ _ _ _ _ (ap₂ ◌++◌ (outside_parts_unmet acc e) (ap (λ n. bag_all n after) (omega arith)))
+      (ap (λ x. x ++ (siblings c t ++ flat_map (siblings c) ts)) (inner_unmet acc e))
       (parts_right Join acc (right_fold_plan i t (ts ++ after)) _ _ (right_fold_met i t ts after m v))
-  join_reaches acc i (b ∷ bs) t ts after e u m v = parts_as _ _ _ _ _ (ap (λ x. x ++ (map peak (b ∷ bs) ++ bag_all (i + suc (length bs) + suc (length ts)) after)) (outside_parts_unmet acc e)) (ap (λ x. x ++ (siblings c t ++ flat_map (siblings c) ts)) (inner_unmet acc e))
+  join_reaches acc i (b ∷ bs) t ts after e u m v =
+      parts_as _ _ _ _ _ (ap (λ x. x ++ (map peak (b ∷ bs) ++ bag_all (i + suc (length bs) + suc (length ts)) after)) (outside_parts_unmet acc e))
+      (ap (λ x. x ++ (siblings c t ++ flat_map (siblings c) ts)) (inner_unmet acc e))
       (parts_right Join acc (right_fold_plan i b (bs ++ (t ∷ ts ++ after))) _ _ (right_fold_reaches i b bs t ts after u m v))
 
   -- a list is cut within, or it isn't so long
@@ -197,7 +222,9 @@ module _ (c : ℕ → Bool) where
 
   -- the accumulator reaches n peaks into those that overlap and those after them
   Joined : Plan → ℕ → ℕ → List Tree → List Tree → List Plan → List Tree → List Tree → Type 0
-  Joined acc i n over after os is rest = Parts (with_right_fold_plan acc i rest) (os ++ (map peak (take (n - length over) after) ++ bag_all (i + (length over - n)) (drop (n - length over) after))) (is ++ flat_map (siblings c) over)
+  Joined acc i n over after os is rest =
+      Parts (with_right_fold_plan acc i rest)
+      (os ++ (map peak (take (n - length over) after) ++ bag_all (i + (length over - n)) (drop (n - length over) after))) (is ++ flat_map (siblings c) over)
 
   joins_within : (acc : Plan) (i n : ℕ) (over after : List Tree) (os : List Plan) (is : List Tree) → Met c over → Unmet c after
       → Parts acc (os ++ peaks_out (take n (over ++ after))) (is ++ peaks_in (take n (over ++ after)))
@@ -214,7 +241,9 @@ module _ (c : ℕ → Bool) where
       let w' : Parts acc os (is ++ flat_map (siblings c) ys) = parts_as acc _ os _ (is ++ flat_map (siblings c) ys)
       (ap (λ x. os ++ peaks_out x) eqA ∙ ap (λ x. os ++ x) (out_met ys (met_left ys (z ∷ zs) m')) ∙ append-nil os)
       (ap (λ x. is ++ peaks_in x) eqA ∙ ap (λ x. is ++ x) (in_met ys (met_left ys (z ∷ zs) m'))) w in
-      subst (λ x. Parts (with_right_fold_plan acc i x) (os ++ (map peak (take (n - length over) after) ++ bag_all (i + (length over - n)) (drop (n - length over) after))) (is ++ flat_map (siblings c) over)) (sym eqB)
+      subst (λ x. Parts (with_right_fold_plan acc i x)
+      (os ++ (map peak (take (n - length over) after) ++ bag_all (i + (length over - n)) (drop (n - length over) after)))
+      (is ++ flat_map (siblings c) over)) (sym eqB)
       (parts_as _ _ _ _ _ (ap (λ x. os ++ x) (ap₂ (λ a b. map peak (take a after) ++ bag_all (i + b) (drop a after)) none more))
       (append_assoc is (flat_map (siblings c) ys) (flat_map (siblings c) (z ∷ zs)) ∙ ap (λ x. is ++ x) (sym (flat_map_append ys (z ∷ zs)) ∙ ap (flat_map (siblings c)) (sym e)))
       (join_met acc i z zs after os (is ++ flat_map (siblings c) ys) (met_right ys (z ∷ zs) m') u w'))
@@ -231,14 +260,20 @@ module _ (c : ℕ → Bool) where
       let v : Unmet c (take (n - length over) after) = unmet_take (n - length over) after u in
       let w' : Parts acc (os ++ map peak (take (n - length over) after)) (is ++ flat_map (siblings c) over) = parts_as acc _ _ _ _
       (ap (λ x. os ++ peaks_out x) eqA ∙ ap (λ x. os ++ x) (peaks_out_met over (take (n - length over) after) m ∙ peaks_out_unmet (take (n - length over) after) v))
-      (ap (λ x. is ++ peaks_in x) eqA ∙ ap (λ x. is ++ x) (peaks_in_met over (take (n - length over) after) m ∙ ap (λ x. flat_map (siblings c) over ++ x) (peaks_in_unmet (take (n - length over) after) v) ∙ append-nil _)) w in
-      subst (λ x. Parts (with_right_fold_plan acc i x) (os ++ (map peak (take (n - length over) after) ++ bag_all (i + (length over - n)) (drop (n - length over) after))) (is ++ flat_map (siblings c) over)) (sym eqB)
-      (parts_as _ _ _ _ _ (append_assoc os (map peak (take (n - length over) after)) (bag_all i (drop (n - length over) after)) ∙ ap (λ x. os ++ (map peak (take (n - length over) after) ++ bag_all x (drop (n - length over) after))) (omega arith)) refl
+      (ap (λ x. is ++ peaks_in x) eqA
+      ∙ ap (λ x. is ++ x) (peaks_in_met over (take (n - length over) after) m
+      ∙ ap (λ x. flat_map (siblings c) over ++ x) (peaks_in_unmet (take (n - length over) after) v) ∙ append-nil _)) w in
+      subst (λ x. Parts (with_right_fold_plan acc i x)
+      (os ++ (map peak (take (n - length over) after) ++ bag_all (i + (length over - n)) (drop (n - length over) after)))
+      (is ++ flat_map (siblings c) over)) (sym eqB)
+      (parts_as _ _ _ _ _ (append_assoc os (map peak (take (n - length over) after)) (bag_all i (drop (n - length over) after))
+      ∙ ap (λ x. os ++ (map peak (take (n - length over) after) ++ bag_all x (drop (n - length over) after))) (omega arith)) refl
       (join_unmet acc i (drop (n - length over) after) _ _ (unmet_drop (n - length over) after u) w'))
 
   joins : (acc : Plan) (i n : ℕ) (over after : List Tree) (os : List Plan) (is : List Tree) → Met c over → Unmet c after
       → Parts acc (os ++ peaks_out (take n (over ++ after))) (is ++ peaks_in (take n (over ++ after)))
-      → Parts (with_right_fold_plan acc i (drop n (over ++ after))) (os ++ (map peak (take (n - length over) after) ++ bag_all (i + (length over - n)) (drop (n - length over) after))) (is ++ flat_map (siblings c) over)
+      → Parts (with_right_fold_plan acc i (drop n (over ++ after)))
+      (os ++ (map peak (take (n - length over) after) ++ bag_all (i + (length over - n)) (drop (n - length over) after))) (is ++ flat_map (siblings c) over)
   unfolding Joined
   joins acc i n over after os is m u w = ⊎_elim (λ q. joins_within acc i n over after os is m u w q.0 q.1 q.2 q.3 q.4) (λ l. joins_past acc i n over after os is m u w l) (cut_within n over)
 
@@ -256,7 +291,8 @@ last_parts after n i = map peak (take n after) ++ bag_all i (drop n after)
 
 -- what the layout is where the folded prefix ends before the range
 layout_before : (k : ℕ) (b : Tree) (bs : List Tree) (t : Tree) (over after : List Tree) → pred k ≤ length bs
-    → left_fold_plan (peak b) 1 (take (pred k) bs) ∷ (map peak (drop (pred k) bs) ++ bag_all (suc (pred k) + length (drop (pred k) bs) + suc (length over)) after) ≡ layout BackwardFold k (b ∷ bs) (t ∷ over) after
+    → left_fold_plan (peak b) 1 (take (pred k) bs) ∷
+    (map peak (drop (pred k) bs) ++ bag_all (suc (pred k) + length (drop (pred k) bs) + suc (length over)) after) ≡ layout BackwardFold k (b ∷ bs) (t ∷ over) after
 unfolding last_parts
 layout_before zero b bs t over after l =
     let met = suc (length bs) + suc (length over) in
@@ -271,7 +307,8 @@ layout_before (suc n) b bs t over after l =
 
 -- and where it reaches all peaks before the range
 layout_past : (k : ℕ) (b : Tree) (bs : List Tree) (t : Tree) (over after : List Tree) → length bs < pred k
-    → left_fold_plan (peak b) 1 bs ∷ last_parts after (pred k - suc (length bs) - length over) (suc (pred k) + (length over - (pred k - suc (length bs)))) ≡ layout BackwardFold k (b ∷ bs) (t ∷ over) after
+    → left_fold_plan (peak b) 1 bs ∷ last_parts after (pred k - suc (length bs) - length over)
+    (suc (pred k) + (length over - (pred k - suc (length bs)))) ≡ layout BackwardFold k (b ∷ bs) (t ∷ over) after
 unfolding last_parts
 layout_past zero b bs t over after l = absurd (omega arith)
 layout_past (suc n) b bs t over after l =
@@ -305,7 +342,8 @@ module _ (c : ℕ → Bool) (k : ℕ) (b : Tree) (bs : List Tree) (t : Tree) (ov
       let far : pred k ≡ length bs + suc (pred k - suc (length bs)) = omega arith in
       let x : take (pred k) (bs ++ (t ∷ over ++ after)) ≡ bs ++ t ∷ take n (over ++ after) = ap (λ z. take z (bs ++ (t ∷ over ++ after))) far ∙ take-append-add bs (t ∷ over ++ after) (suc n) in
       let y : drop (pred k) (bs ++ (t ∷ over ++ after)) ≡ drop n (over ++ after) = ap (λ z. drop z (bs ++ (t ∷ over ++ after))) far ∙ drop-append-add bs (t ∷ over ++ after) (suc n) in
-      let w = joins c (left_fold_plan (peak b) 1 (bs ++ t ∷ take n (over ++ after))) (suc (pred k)) n over after (left_fold_plan (peak b) 1 bs ∷ []) (siblings c t) m.1 v (fold_reaches c b bs t (take n (over ++ after)) u m.0) in (
+      let w = joins c (left_fold_plan (peak b) 1 (bs ++ t ∷ take n (over ++ after))) (suc (pred k)) n over after (left_fold_plan (peak b) 1 bs ∷ [])
+      (siblings c t) m.1 v (fold_reaches c b bs t (take n (over ++ after)) u m.0) in (
         ap₂ (λ x y. outside_parts c (with_right_fold_plan (left_fold_plan (peak b) 1 x) (suc (pred k)) y)) x y ∙ w.1 ∙ layout_past k b bs t over after l,
         ap₂ (λ x y. path_siblings c (with_right_fold_plan (left_fold_plan (peak b) 1 x) (suc (pred k)) y)) x y ∙ w.2,
       )
@@ -313,15 +351,25 @@ module _ (c : ℕ → Bool) (k : ℕ) (b : Tree) (bs : List Tree) (t : Tree) (ov
 pub outside_is_layout : OutsideIsLayout
 unfolding Parts last_parts IsLaid
 outside_is_layout c ForwardFold k [] t over after u m v =
-    let w = fold_met c t (over ++ after) m.0 in
-    (w.1 ∙ peaks_out_met c over after m.1 ∙ peaks_out_unmet c after v ∙ sym (append-nil _), w.2 ∙ ap (λ x. siblings c t ++ x) (peaks_in_met c over after m.1 ∙ ap (λ x. flat_map (siblings c) over ++ x) (peaks_in_unmet c after v) ∙ append-nil _))
+    let w = fold_met c t (over ++ after) m.0 in (
+      w.1 ∙ peaks_out_met c over after m.1 ∙ peaks_out_unmet c after v ∙ sym (append-nil _),
+      w.2
+          ∙ ap (λ x. siblings c t ++ x) (peaks_in_met c over after m.1 ∙ ap (λ x. flat_map (siblings c) over ++ x) (peaks_in_unmet c after v) ∙ append-nil _),
+    )
 outside_is_layout c ForwardFold k (b ∷ bs) t over after u m v =
-    let w = fold_reaches c b bs t (over ++ after) u m.0 in
-    (w.1 ∙ ap (λ x. left_fold_plan (peak b) 1 bs ∷ x) (peaks_out_met c over after m.1 ∙ peaks_out_unmet c after v ∙ sym (append-nil _)), w.2 ∙ ap (λ x. siblings c t ++ x) (peaks_in_met c over after m.1 ∙ ap (λ x. flat_map (siblings c) over ++ x) (peaks_in_unmet c after v) ∙ append-nil _))
+    let w = fold_reaches c b bs t (over ++ after) u m.0 in (
+      w.1 ∙ ap (λ x. left_fold_plan (peak b) 1 bs ∷ x) (peaks_out_met c over after m.1 ∙ peaks_out_unmet c after v ∙ sym (append-nil _)),
+      w.2
+          ∙ ap (λ x. siblings c t ++ x) (peaks_in_met c over after m.1 ∙ ap (λ x. flat_map (siblings c) over ++ x) (peaks_in_unmet c after v) ∙ append-nil _),
+    )
 outside_is_layout c BackwardFold k [] t over after u m v =
     let w = joins c (left_fold_plan (peak t) 1 (take (pred k) (over ++ after))) (suc (pred k)) (pred k) over after [] (siblings c t) m.1 v (fold_met c t (take (pred k) (over ++ after)) m.0) in
     let most : pred k - length over ≡ k - (0 + suc (length over)) = omega arith in
-    let first : suc (pred k) + (length over - pred k) ≡ 0 + suc (length over) + (k - (0 + suc (length over))) = omega arith in
-    (w.1 ∙ ap₂ (last_parts after) most first ∙ ap₂ (λ x y. fold_all x ++ (map peak y ++ last_parts after (k - (0 + suc (length over))) (0 + suc (length over) + (k - (0 + suc (length over)))))) (sym (take_nil k)) (sym (drop_nil k)), w.2)
+    let first : suc (pred k) + (length over - pred k) ≡ 0 + suc (length over) + (k - (0 + suc (length over))) = omega arith in (
+      w.1 ∙ ap₂ (last_parts after) most first
+          ∙ ap₂ (λ x y. fold_all x ++ (map peak y
+          ++ last_parts after (k - (0 + suc (length over))) (0 + suc (length over) + (k - (0 + suc (length over)))))) (sym (take_nil k)) (sym (drop_nil k)),
+      w.2,
+    )
 outside_is_layout c BackwardFold k (b ∷ bs) t over after u m v =
     ⊎_elim (λ l. with_record_past c k b bs t over after u m v l) (λ l. with_record_before c k b bs t over after u m v l) (cases_lt (length bs) (pred k))

@@ -31,20 +31,27 @@ module _ (c : ℕ → Bool) where
 module _ {D : Type 0} (h : Hashing D) (c : ℕ → Bool) (X : ℕ → D) where
   pub claim_unmet : (p : Plan) (os is : List D) → meets c p ≡ false → claim h c X p os is ≡ supplied (next h os)
   claim_unmet (peak t) os is e = ap (λ z. cond z (tree_claim h c X t is) (supplied (next h os))) e
-  claim_unmet (folding q l r) os is e = ap (λ z. cond z (computed q (claim h c X l os is) (claim h c X r (drop (length (outside_parts c l)) os) (drop (length (path_siblings c l)) is))) (supplied (next h os))) e
+  claim_unmet (folding q l r) os is e =
+      ap (λ z. cond z (computed q (claim h c X l os is) (claim h c X r (drop (length (outside_parts c l)) os) (drop (length (path_siblings c l)) is)))
+      (supplied (next h os))) e
 
   -- a met folding hashes the digests of its sides
   pub value_folding : (q : Place) (l r : Plan) (os is : List D) → meets c l || meets c r ≡ true
-      → value h (claim h c X (folding q l r) os is) ≡ hashed_at h q (value h (claim h c X l os is)) (value h (claim h c X r (drop (length (outside_parts c l)) os) (drop (length (path_siblings c l)) is)))
-  value_folding q l r os is m = ap (λ z. value h (cond z (computed q (claim h c X l os is) (claim h c X r (drop (length (outside_parts c l)) os) (drop (length (path_siblings c l)) is))) (supplied (next h os)))) m
+      → value h (claim h c X (folding q l r) os is)
+      ≡ hashed_at h q (value h (claim h c X l os is)) (value h (claim h c X r (drop (length (outside_parts c l)) os) (drop (length (path_siblings c l)) is)))
+  value_folding q l r os is m =
+      ap (λ z. value h (cond z (computed q (claim h c X l os is)
+      (claim h c X r (drop (length (outside_parts c l)) os) (drop (length (path_siblings c l)) is))) (supplied (next h os)))) m
 
   -- and the parts after it take what the sides leave
   pub values_folding : (q : Place) (l r : Plan) (ps : List Plan) (os is : List D) → meets c l || meets c r ≡ true
       → part_values h c X ps (drop (length (outside_parts c (folding q l r))) os) (drop (length (path_siblings c (folding q l r))) is)
       ≡ part_values h c X ps (drop (length (outside_parts c r)) (drop (length (outside_parts c l)) os)) (drop (length (path_siblings c r)) (drop (length (path_siblings c l)) is))
   values_folding q l r ps os is m = ap₂ (part_values h c X ps)
-      (ap (λ z. drop (length (cond z (outside_parts c l ++ outside_parts c r) (folding q l r ∷ []))) os) m ∙ ap (λ n. drop n os) (length-append (outside_parts c l) (outside_parts c r)) ∙ sym (drop-drop (length (outside_parts c r)) (length (outside_parts c l)) os))
-      (ap (λ z. drop (length (cond z (path_siblings c l ++ path_siblings c r) [])) is) m ∙ ap (λ n. drop n is) (length-append (path_siblings c l) (path_siblings c r)) ∙ sym (drop-drop (length (path_siblings c r)) (length (path_siblings c l)) is))
+      (ap (λ z. drop (length (cond z (outside_parts c l ++ outside_parts c r) (folding q l r ∷ []))) os) m
+      ∙ ap (λ n. drop n os) (length-append (outside_parts c l) (outside_parts c r)) ∙ sym (drop-drop (length (outside_parts c r)) (length (outside_parts c l)) os))
+      (ap (λ z. drop (length (cond z (path_siblings c l ++ path_siblings c r) [])) is) m
+      ∙ ap (λ n. drop n is) (length-append (path_siblings c l) (path_siblings c r)) ∙ sym (drop-drop (length (path_siblings c r)) (length (path_siblings c l)) is))
 
   -- a part that isn't met takes the next digest
   values_unmet : (p : Plan) (ps : List Plan) (d : D) (os is : List D) → meets c p ≡ false → part_values h c X (p ∷ ps) (d ∷ os) is ≡ d ∷ part_values h c X ps os is

@@ -1,5 +1,6 @@
 -- A location range splits the peaks into those before it, those that overlap it and those after it.
-use Rattle.std.proofs.Common.{◌≡◌, ℕ, Bool, true, false, cond, ◌&&◌, ◌||◌, nat_le, nat_lt, ◌+◌, ◌≤◌, ◌<◌, List, [], ◌∷◌, ◌++◌, ◌⊎◌, inl, inr, refl, ap, ap₂, sym, ◌∙◌, subst, ⊎_elim, arith, flat_map, le-leb, lt-ltb, le-ltb, leb-true, ltb-true, length, length-append}
+use Rattle.std.proofs.Common.{◌≡◌, ℕ, Bool, true, false, cond, ◌&&◌, ◌||◌, nat_le, nat_lt, ◌+◌, ◌≤◌, ◌<◌, List, [], ◌∷◌, ◌++◌, ◌⊎◌, inl, inr, refl, ap, ap₂}
+use Rattle.std.proofs.Common.{sym, ◌∙◌, subst, ⊎_elim, arith, flat_map, le-leb, lt-ltb, le-ltb, leb-true, ltb-true, length, length-append}
 use Rattle.std.specs.List.{AllByRecursion}
 use Rattle.std.proofs.lemmas.Bool.{lt-leb, or_right, and_parts, and_left, and_right, and_from, cases_lt}
 use Rattle.merkle_base.specs.Tree.{Tree, leaf, join, first_leaf, width, IsBuilt, end_leaf}
@@ -52,7 +53,8 @@ module _ (a b : ℕ) where
       after : b ≤ first_leaf t → t ∷ ts ≡ wholly_before a (t ∷ ts) ++ (overlapping a b (t ∷ ts) ++ wholly_after b (t ∷ ts))
       after x = sym (ap₂ ◌++◌ (none_before a o n (t ∷ ts) c (omega (arith, c.0))) (ap₂ ◌++◌ (none_over o n (t ∷ ts) c (omega (arith, c.0))) (all_after o n (t ∷ ts) c (omega (arith, c.0)))))
 
-      over : ts ≡ wholly_before a ts ++ (overlapping a b ts ++ wholly_after b ts) → a < end_leaf t → first_leaf t < b → t ∷ ts ≡ wholly_before a (t ∷ ts) ++ (overlapping a b (t ∷ ts) ++ wholly_after b (t ∷ ts))
+      over : ts ≡ wholly_before a ts ++ (overlapping a b ts ++ wholly_after b ts) → a < end_leaf t → first_leaf t < b
+          → t ∷ ts ≡ wholly_before a (t ∷ ts) ++ (overlapping a b (t ∷ ts) ++ wholly_after b (t ∷ ts))
       over e y x = ap (λ z. t ∷ z) (e ∙ ap (λ z. z ++ (overlapping a b ts ++ wholly_after b ts)) (none_before a (o + width t) n ts c.1 (omega (arith, c.0, y))))
           ∙ sym (ap₂ ◌++◌ (filter_no is_before t ts (lt-leb (end_leaf t) a y) ∙ none_before a (o + width t) n ts c.1 (omega (arith, c.0, y)))
           (ap₂ ◌++◌ (filter_yes is_over t ts (and_from _ _ (lt-ltb (first_leaf t) b x) (lt-ltb a (end_leaf t) y))) (filter_no is_after t ts (lt-leb b (first_leaf t) x))))
@@ -93,10 +95,12 @@ module _ (a b : ℕ) where
   pub met_over : (ns : List Tree) (ts : List Tree) → a < b → AllByRecursion (IsBuilt ns) ts → Met (in_range a b) (overlapping a b ts)
   met_over ns [] l h = tt
   met_over ns (t ∷ ts) l h = by_test (λ z. is_over t ≡ z → Met (in_range a b) (cond z (t ∷ overlapping a b ts) (overlapping a b ts))) (is_over t)
-      (λ _ e. let w = and_parts (nat_lt (first_leaf t) b) (nat_lt a (end_leaf t)) e in (meets_yes ns t h.0 (ltb-true (first_leaf t) b w.0) (ltb-true a (end_leaf t) w.1) l, met_over ns ts l h.1)) (λ _ e. met_over ns ts l h.1) refl
+      (λ _ e. let w = and_parts (nat_lt (first_leaf t) b) (nat_lt a (end_leaf t)) e in
+      (meets_yes ns t h.0 (ltb-true (first_leaf t) b w.0) (ltb-true a (end_leaf t) w.1) l, met_over ns ts l h.1)) (λ _ e. met_over ns ts l h.1) refl
 
 -- the parts outside a range are those of the table
-pub range_layout : {D : Type 0} (s : Scheme D) (n k a b : ℕ) → a < b → b ≤ n → HasLayout (in_range a b) (range_parts s.bagging k a b (peaks_of s.rule n)) (range_siblings a b (peaks_of s.rule n)) (root_plan s.bagging k (peaks_of s.rule n))
+pub range_layout : {D : Type 0} (s : Scheme D) (n k a b : ℕ) → a < b → b ≤ n
+    → HasLayout (in_range a b) (range_parts s.bagging k a b (peaks_of s.rule n)) (range_siblings a b (peaks_of s.rule n)) (root_plan s.bagging k (peaks_of s.rule n))
 range_layout s n k a b l m =
     let ts = peaks_of s.rule n in
     subst (λ z. HasLayout (in_range a b) (range_parts s.bagging k a b ts) (range_siblings a b ts) (root_plan s.bagging k z)) (sym (groups a b 0 n ts l (peaks_spans s.rule n)))

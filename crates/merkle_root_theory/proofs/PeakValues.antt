@@ -13,18 +13,30 @@ use Rattle.merkle_root_theory.specs.Walk.{ArePeaksWalked, ArePeakDigests}
 use Rattle.merkle_root_theory.proofs.Walks.{flat_push}
 
 module _ {D : Type 0} (h : Hashing D) (c : ℕ → Bool) (X : ℕ → D) where
-  values_push : (ts : List Tree) (t : Tree) (ds : List D) → peak_values h c X (ts ++ t ∷ []) ds ≡ peak_values h c X ts ds ++ value h (tree_claim h c X t (drop (length (flat_map (siblings c) ts)) ds)) ∷ []
+  values_push : (ts : List Tree) (t : Tree) (ds : List D) → peak_values h c X (ts ++ t ∷ []) ds ≡ peak_values h c X ts ds
+      ++ value h (tree_claim h c X t (drop (length (flat_map (siblings c) ts)) ds)) ∷ []
   values_push [] t ds = refl
   values_push (u ∷ ts) t ds =
       ap (λ z. value h (tree_claim h c X u ds) ∷ z) (values_push ts t (drop (length (siblings c u)) ds)
       ∙ ap (λ z. peak_values h c X ts (drop (length (siblings c u)) ds) ++ value h (tree_claim h c X t z) ∷ [])
       (drop-drop (length (flat_map (siblings c) ts)) (length (siblings c u)) ds ∙ ap (λ n. drop n ds) (sym (length-append (siblings c u) (flat_map (siblings c) ts)))))
 
-  pub walk_more : (ts us : List Tree) (t : Tree) (before out new after : List D) (d : D) (new' after' : List D) → us ≡ ts ++ t ∷ [] → ArePeaksWalked h c X ts before out new after → IsWalked h c X t after d after' → new' ≡ new ++ d ∷ [] → ArePeaksWalked h c X us before out new' after'
+  pub walk_more : (ts us : List Tree) (t : Tree) (before out new after : List D) (d : D) (new' after' : List D) → us ≡ ts ++ t ∷ []
+      → ArePeaksWalked h c X ts before out new after → IsWalked h c X t after d after' → new' ≡ new ++ d ∷ [] → ArePeaksWalked h c X us before out new' after'
   walk_more ts us t before out new after d new' after' u w v e = subst (λ z. ArePeaksWalked h c X z before out new' after') (sym u) (record {
-    digests = e ∙ ap₂ (λ x y. x ++ y ∷ []) w.digests (v.digest ∙ ap (λ z. value h (tree_claim h c X t z)) w.rest) ∙ append_assoc out (peak_values h c X ts before) _ ∙ ap (λ z. out ++ z) (sym (values_push ts t before));
-    enough = omega (arith, ap length (flat_push c ts t), length-append (flat_map (siblings c) ts) (siblings c t), ap length w.rest, length-drop (length (flat_map (siblings c) ts)) before, w.enough, v.enough);
-    rest = v.rest ∙ ap (drop (length (siblings c t))) w.rest ∙ drop-drop (length (siblings c t)) (length (flat_map (siblings c) ts)) before ∙ ap (λ n. drop n before) (sym (ap length (flat_push c ts t) ∙ length-append (flat_map (siblings c) ts) (siblings c t)));
+    digests = e ∙ ap₂ (λ x y. x ++ y ∷ []) w.digests (v.digest ∙ ap (λ z. value h (tree_claim h c X t z)) w.rest)
+        ∙ append_assoc out (peak_values h c X ts before) _ ∙ ap (λ z. out ++ z) (sym (values_push ts t before));
+    enough = omega (
+      arith,
+      ap length (flat_push c ts t),
+      length-append (flat_map (siblings c) ts) (siblings c t),
+      ap length w.rest,
+      length-drop (length (flat_map (siblings c) ts)) before,
+      w.enough,
+      v.enough,
+    );
+    rest = v.rest ∙ ap (drop (length (siblings c t))) w.rest ∙ drop-drop (length (siblings c t)) (length (flat_map (siblings c) ts)) before
+        ∙ ap (λ n. drop n before) (sym (ap length (flat_push c ts t) ∙ length-append (flat_map (siblings c) ts) (siblings c t)));
   })
 
 flat_bound : (f : Tree → List Tree) (n : ℕ) (ts : List Tree) → length (flat_map f (take n ts)) ≤ length (flat_map f ts)

@@ -1,5 +1,6 @@
 -- The range check by the table: the honest inputs are accepted, and no others, but for collisions.
-use Rattle.std.proofs.Common.{◌≡◌, ℕ, true, ◌+◌, ◌-◌, ◌≤◌, ◌<◌, ◌^◌, add-sub_of_le, List, [], ◌∷◌, ◌++◌, ◌⊎◌, inl, inr, refl, ap, ap₂, sym, ◌∙◌, subst, ⊎_elim, arith, length, map, take, drop, get_or, Option, Some, None, option_map}
+use Rattle.std.proofs.Common.{◌≡◌, ℕ, true, ◌+◌, ◌-◌, ◌≤◌, ◌<◌, ◌^◌, add-sub_of_le, List, [], ◌∷◌, ◌++◌, ◌⊎◌, inl, inr, refl, ap, ap₂, sym, ◌∙◌, subst, ⊎_elim}
+use Rattle.std.proofs.Common.{arith, length, map, take, drop, get_or, Option, Some, None, option_map}
 use Rattle.std.specs.List.{AllByRecursion}
 use Rattle.std.proofs.Math.Nat.{add-sub_cancel_left}
 use Rattle.std.proofs.lemmas.List.{length-map, length-reverse, get_or-take, get_or-drop, length-take-le, length-drop, nil_from_length}
@@ -17,10 +18,12 @@ use Rattle.merkle_base.specs.declared.family.Bagging.{Bagging}
 use Rattle.merkle_base.specs.declared.family.Bagging.TheVariants.{ForwardFold, BackwardFold}
 use Rattle.merkle_root_theory.specs.Claim.{InTree, claim_of}
 use Rattle.merkle_root_theory.specs.Outside.{HasLayout}
-use Rattle.merkle_root_theory.specs.Check.{root_of, all_inputs, list_expression, RangeInput, chosen, leaf_given, range_expression, HasDigestCount, HasHonestDigests, AcceptsByPlan, IsHonestByPlan, CoversEachLeaf}
+use Rattle.merkle_root_theory.specs.Check.{root_of, all_inputs, list_expression, RangeInput, chosen, leaf_given, range_expression, HasDigestCount}
+use Rattle.merkle_root_theory.specs.Check.{HasHonestDigests, AcceptsByPlan, IsHonestByPlan, CoversEachLeaf}
 use Rattle.merkle_base.specs.Scheme.{Scheme}
 use Rattle.merkle_base.specs.Places.{peaks_of}
-use Rattle.merkle_root_theory.specs.Range.{end_of, range_parts, range_siblings, leaf_of, AcceptsNonempty, IsEmptyInput, IsHonestNonempty, plan_root, IsLawfulScheme, RangeCollides, HonestIsAccepted, RangeSound}
+use Rattle.merkle_root_theory.specs.Range.{end_of, range_parts, range_siblings, leaf_of, AcceptsNonempty, IsEmptyInput, IsHonestNonempty, plan_root}
+use Rattle.merkle_root_theory.specs.Range.{IsLawfulScheme, RangeCollides, HonestIsAccepted, RangeSound}
 use Rattle.merkle_root_theory.proofs.ListChecks.{was_chosen, no_other_range, honest_range_accepted, root_tells}
 use Rattle.merkle_root_theory.proofs.PeakGroups.{range_layout}
 use Rattle.merkle_root_theory.proofs.HonestInputs.{range_of_some, range_of_cases, cases_of_range}
@@ -30,7 +33,9 @@ use Rattle.merkle_base.proofs.PeakLists.{Spans, peaks_built, peaks_spans}
 -- a tree has the locations of its span, and no others
 pub in_tree : (ns : List Tree) (t : Tree) (i : ℕ) → IsBuilt ns t → first_leaf t ≤ i → i < end_leaf t → InTree t i
 in_tree ns (leaf p n) i h a b = omega arith
-in_tree ns (join p l r) i h a b = ⊎_elim (λ x. inl (in_tree ns l i h.4 a (omega (arith, h.3, x)))) (λ x. inr (in_tree ns r i h.5 (omega (arith, h.3, x)) (omega (arith, h.3)))) (cases_lt i (end_leaf l))
+in_tree ns (join p l r) i h a b =
+    ⊎_elim (λ x. inl (in_tree ns l i h.4 a (omega (arith, h.3, x)))) (λ x. inr (in_tree ns r i h.5 (omega (arith, h.3, x)) (omega (arith, h.3))))
+    (cases_lt i (end_leaf l))
 
 pub tree_in : (ns : List Tree) (t : Tree) (i : ℕ) → IsBuilt ns t → InTree t i → (first_leaf t ≤ i) × (i < end_leaf t)
 tree_in ns (leaf p n) i h e = (omega (arith, e), omega (arith, e))
@@ -75,7 +80,8 @@ module _ {D : Type 0} (s : Scheme D) (xs : List D) (r : RangeInput D) where
   counts_of os is None w e = w
   counts_of os is (Some p) w e = e ∙ sym (ap₂ (λ x y. length x + length y) w.0 w.1)
 
-  honest_of : (os : List Plan) (is : List Tree) (o : Option Plan) → HasLayout (chosen r) os is o → r.digests ≡ map (plan_digest s.hashing (leaf_of s.hashing xs)) os ++ map (tree_digest s.hashing (leaf_of s.hashing xs)) is
+  honest_of : (os : List Plan) (is : List Tree) (o : Option Plan) → HasLayout (chosen r) os is o
+      → r.digests ≡ map (plan_digest s.hashing (leaf_of s.hashing xs)) os ++ map (tree_digest s.hashing (leaf_of s.hashing xs)) is
       → HasHonestDigests s (leaf_of s.hashing xs) r o
   honest_of os is None w e = w
   honest_of os is (Some p) w e = e ∙ sym (ap₂ (λ x y. map (plan_digest s.hashing (leaf_of s.hashing xs)) x ++ map (tree_digest s.hashing (leaf_of s.hashing xs)) y) w.0 w.1)
@@ -95,7 +101,8 @@ old_accepts s max_nodes law r root ok = record {
 }
 
 -- elements that are a list's at each location of their range
-pub elements_are : {D : Type 0} (s : Scheme D) (xs : List D) (r : RangeInput D) → end_of r ≤ length xs → ((i : ℕ) → r.start ≤ i → i < end_of r → leaf_given s.hashing r i ≡ leaf_of s.hashing xs i) → r.elements ≡ take (length r.elements) (drop r.start xs)
+pub elements_are : {D : Type 0} (s : Scheme D) (xs : List D) (r : RangeInput D) → end_of r ≤ length xs
+    → ((i : ℕ) → r.start ≤ i → i < end_of r → leaf_given s.hashing r i ≡ leaf_of s.hashing xs i) → r.elements ≡ take (length r.elements) (drop r.start xs)
 elements_are s xs r within g =
     let long : length r.elements ≡ length (take (length r.elements) (drop r.start xs)) = sym (length-take-le (length r.elements) (drop r.start xs) (omega (arith, within, length-drop r.start xs))) in
     same_list s.hashing.empty r.elements _ long (λ j m. ap (λ z. get_or r.elements z s.hashing.empty) (sym (add-sub_cancel_left r.start j)) ∙ g (r.start + j) (omega arith) (omega arith)
@@ -106,7 +113,8 @@ pub honest_leaves : {D : Type 0} (s : Scheme D) (xs : List D) (k : ℕ) (r : Ran
 honest_leaves s xs k r honest i q =
     let v = was_chosen r i q in
     let m : i - r.start < length r.elements = omega (arith, v.0, v.1) in
-    ap (λ z. get_or z (i - r.start) s.hashing.empty) honest.elements ∙ get_or-take (length r.elements) (drop r.start xs) (i - r.start) s.hashing.empty m ∙ get_or-drop r.start xs (i - r.start) s.hashing.empty
+    ap (λ z. get_or z (i - r.start) s.hashing.empty) honest.elements
+    ∙ get_or-take (length r.elements) (drop r.start xs) (i - r.start) s.hashing.empty m ∙ get_or-drop r.start xs (i - r.start) s.hashing.empty
     ∙ ap (leaf_of s.hashing xs) (add-sub_of_le v.0)
 
 pub old_honest : {D : Type 0} (s : Scheme D) (xs : List D) (k : ℕ) (r : RangeInput D) → IsHonestNonempty s xs k r → IsHonestByPlan s (leaf_of s.hashing xs) (length xs) k r
@@ -117,44 +125,56 @@ old_honest s xs k r honest = record {
   elements = λ j m. ap (λ z. get_or z j s.hashing.empty) honest.elements ∙ get_or-take (length r.elements) (drop r.start xs) j s.hashing.empty m ∙ get_or-drop r.start xs j s.hashing.empty;
 }
 
-module _ {D : Type 0} (s : Scheme D) (size max_nodes : ℕ) (sound : IsLawfulScheme s size max_nodes) (xs : List D) (k : ℕ) (few : length xs ≤ s.max_leaves) (low : k ≤ length (peaks_of s.rule (length xs))) (r : RangeInput D) where
+module _ {D : Type 0} (s : Scheme D) (size max_nodes : ℕ) (sound : IsLawfulScheme s size max_nodes) (xs : List D) (k : ℕ)
+    (few : length xs ≤ s.max_leaves) (low : k ≤ length (peaks_of s.rule (length xs))) (r : RangeInput D) where
   pub honest_some : IsHonestNonempty s xs k r → AcceptsNonempty s r (plan_root s xs k)
   honest_some honest =
       let e : length xs ≡ r.leaves = sym honest.leaves in
       let old = old_honest s xs k r honest in
-      let ok = honest_range_accepted s (leaf_of s.hashing xs) (length xs) k (small_leaves s max_nodes (length xs) sound.lawful few) (small_inactive s max_nodes (length xs) k sound.lawful few low) r honest.within old in
+      let ok = honest_range_accepted s (leaf_of s.hashing xs) (length xs) k (small_leaves s max_nodes (length xs) sound.lawful few)
+      (small_inactive s max_nodes (length xs) k sound.lawful few low) r honest.within old in
       record {
         nonempty = honest.nonempty;
         within = omega (arith, honest.within, e);
         leaves = omega (arith, few, e);
         inactive = subst (λ z. z ≤ length (peaks_of s.rule r.leaves)) (sym honest.inactive) (subst (λ z. k ≤ length (peaks_of s.rule z)) e low);
-        counts = ap length honest.digests ∙ length-range_digests s xs k r.start (end_of r) ∙ ap₂ (λ x y. length (range_parts s.bagging x r.start (end_of r) (peaks_of s.rule y)) + length (range_siblings r.start (end_of r) (peaks_of s.rule y))) (sym honest.inactive) e;
+        counts = ap length honest.digests ∙ length-range_digests s xs k r.start (end_of r)
+            ∙ ap₂ (λ x y. length (range_parts s.bagging x r.start (end_of r) (peaks_of s.rule y)) + length
+            (range_siblings r.start (end_of r) (peaks_of s.rule y))) (sym honest.inactive) e;
         root_is = ok.root_is;
       }
 
   pub some_honest : AcceptsNonempty s r (plan_root s xs k) → IsHonestNonempty s xs k r ⊎ RangeCollides s r xs k
   some_honest ok = ⊎_elim (λ w. inl (honest w)) inr
-      (no_other_range s size sound.laws sound.bytes (covers s) (leaf_of s.hashing xs) (length xs) k (small_leaves s max_nodes (length xs) sound.lawful few) (small_inactive s max_nodes (length xs) k sound.lawful few low) r (old_accepts s max_nodes sound.lawful r _ ok))
+      (no_other_range s size sound.laws sound.bytes (covers s) (leaf_of s.hashing xs) (length xs) k
+      (small_leaves s max_nodes (length xs) sound.lawful few) (small_inactive s max_nodes (length xs) k sound.lawful few low) r
+      (old_accepts s max_nodes sound.lawful r _ ok))
     where
       honest : IsHonestByPlan s (leaf_of s.hashing xs) (length xs) k r → IsHonestNonempty s xs k r
       honest w =
           let within : end_of r ≤ length xs = omega (arith, ok.within, w.leaves) in
-          let long : length r.elements ≡ length (take (length r.elements) (drop r.start xs)) = sym (length-take-le (length r.elements) (drop r.start xs) (omega (arith, within, length-drop r.start xs))) in
+          let long : length r.elements ≡ length (take (length r.elements) (drop r.start xs)) =
+          sym (length-take-le (length r.elements) (drop r.start xs) (omega (arith, within, length-drop r.start xs))) in
           record {
             nonempty = ok.nonempty;
             within = within;
             leaves = w.leaves;
             inactive = w.inactive;
             digests = digests_of s xs r _ _ _ (range_layout s (length xs) k r.start (end_of r) (omega (arith, ok.nonempty)) within) w.digests ∙ sym (range_digests_are s xs k r.start (end_of r));
-            elements = same_list s.hashing.empty r.elements _ long (λ j m. w.elements j m ∙ sym (get_or-take (length r.elements) (drop r.start xs) j s.hashing.empty m ∙ get_or-drop r.start xs j s.hashing.empty));
+            elements = same_list s.hashing.empty r.elements _ long
+                (λ j m. w.elements j m ∙ sym (get_or-take (length r.elements) (drop r.start xs) j s.hashing.empty m ∙ get_or-drop r.start xs j s.hashing.empty));
           }
 
   none_honest : IsEmptyInput r → root_of s 0 0 None ≡ plan_root s xs k → (IsEmptyInput r × (xs ≡ [])) ⊎ RangeCollides s r xs k
-  none_honest empty same = ⊎_elim (λ w. inl (empty, nil_from_length xs (sym w.0))) (λ c. inr (subst (λ z. (c : Collision D) × Collides s.hashing z (all_inputs s (length xs) k (list_expression s (leaf_of s.hashing xs) (length xs) k)) c) (sym inputs) c))
-      (root_tells s size sound.bytes 0 (length xs) 0 k None (list_expression s (leaf_of s.hashing xs) (length xs) k) (omega arith) (small_leaves s max_nodes (length xs) sound.lawful few) (omega arith) (small_inactive s max_nodes (length xs) k sound.lawful few low) same)
+  none_honest empty same = ⊎_elim (λ w. inl (empty, nil_from_length xs (sym w.0)))
+      (λ c. inr (subst (λ z. (c : Collision D)
+      × Collides s.hashing z (all_inputs s (length xs) k (list_expression s (leaf_of s.hashing xs) (length xs) k)) c) (sym inputs) c))
+      (root_tells s size sound.bytes 0 (length xs) 0 k None (list_expression s (leaf_of s.hashing xs) (length xs) k) (omega arith)
+      (small_leaves s max_nodes (length xs) sound.lawful few) (omega arith) (small_inactive s max_nodes (length xs) k sound.lawful few low) same)
     where
       nothing : range_expression s r ≡ None
-      nothing = ap (λ (o : Option Plan). option_map (λ p. claim_of s.hashing (chosen r) (leaf_given s.hashing r) p r.digests) o) (ap (λ n. root_plan s.bagging r.inactive (peaks_of s.rule n)) empty.leaves ∙ no_plan s s.bagging r.inactive)
+      nothing = ap (λ (o : Option Plan). option_map (λ p. claim_of s.hashing (chosen r) (leaf_given s.hashing r) p r.digests) o)
+          (ap (λ n. root_plan s.bagging r.inactive (peaks_of s.rule n)) empty.leaves ∙ no_plan s s.bagging r.inactive)
 
       inputs : all_inputs s r.leaves r.inactive (range_expression s r) ≡ all_inputs s 0 0 None
       inputs = ap (λ e. all_inputs s r.leaves r.inactive e) nothing ∙ ap₂ (λ n j. all_inputs s n j None) empty.leaves empty.inactive

@@ -1,5 +1,6 @@
 -- The refusals of an input, and the root that it leads to.
-use Rattle.std.proofs.Common.{◌≡◌, ◌⊎◌, ℕ, zero, suc, ◌<◌, ◌≤◌, Bool, List, [], ◌∷◌, length, nat_lt, nat_le, cond, Option, Some, None, Result, Ok, Err, option_map, refl, ap, ap₂, sym, ◌∙◌, arith, inl, inr, le-leb, lt-ltb}
+use Rattle.std.proofs.Common.{◌≡◌, ◌⊎◌, ℕ, zero, suc, ◌<◌, ◌≤◌, Bool, List, [], ◌∷◌, length, nat_lt, nat_le, cond, Option, Some, None, Result, Ok, Err}
+use Rattle.std.proofs.Common.{option_map, refl, ap, ap₂, sym, ◌∙◌, arith, inl, inr, le-leb, lt-ltb}
 use Rattle.std.proofs.lemmas.Bool.{lt-leb, le-ltb, ltb-false}
 use Rattle.merkle_base.proofs.FirstCases.{first_case-true, first_case-false, first_case-none}
 use Rattle.merkle_base.specs.Cases.{first_case}
@@ -67,7 +68,8 @@ module _ {D : Type 0} (s : Scheme D) (r : RangeInput D) where
 
   module _ (some : 0 < length r.elements) (within : end_of r ≤ r.leaves) (fits : r.leaves ≤ s.max_leaves) where
     after_leaves : refusal ≡ first_case inactive
-    after_leaves = after_ends (omega (arith, some, within, fits)) (omega (arith, within, fits)) within ∙ first_case-false (nat_lt s.max_leaves r.leaves) InvalidSize inactive (le-ltb s.max_leaves r.leaves fits)
+    after_leaves = after_ends (omega (arith, some, within, fits)) (omega (arith, within, fits)) within
+        ∙ first_case-false (nat_lt s.max_leaves r.leaves) InvalidSize inactive (le-ltb s.max_leaves r.leaves fits)
 
     pub refusal-inactive : length (peaks_of s.rule r.leaves) < r.inactive → refusal ≡ Some InvalidSize
     refusal-inactive many = after_leaves ∙ first_case-true (nat_lt (length (peaks_of s.rule r.leaves)) r.inactive) InvalidSize missing (lt-ltb (length (peaks_of s.rule r.leaves)) r.inactive many)
@@ -87,7 +89,8 @@ module _ {D : Type 0} (s : Scheme D) (r : RangeInput D) where
 
   -- none applies exactly to inputs of the right shape
   pub refusal-none : HasShape s r → refusal ≡ None
-  refusal-none h = after_missing h.nonempty h.within h.leaves h.inactive (omega (arith, h.counts)) ∙ first_case-false (nat_lt (digest_count s r) (length r.digests)) ExtraDigests [] (le-ltb (digest_count s r) (length r.digests) (omega (arith, h.counts)))
+  refusal-none h = after_missing h.nonempty h.within h.leaves h.inactive (omega (arith, h.counts))
+      ∙ first_case-false (nat_lt (digest_count s r) (length r.digests)) ExtraDigests [] (le-ltb (digest_count s r) (length r.digests) (omega (arith, h.counts)))
 
   pub shape_of_none : 0 < length r.elements → refusal ≡ None → HasShape s r
   shape_of_none some e =
@@ -164,7 +167,8 @@ module _ {D : Type 0} (s : Scheme D) (r : RangeInput D) where
 
   -- its root
   no_expression : r.leaves ≡ 0 → range_expression s r ≡ None
-  no_expression e = ap (option_map (λ p. claim_of s.hashing (chosen r) (leaf_given s.hashing r) p r.digests)) (ap (λ n. root_plan s.bagging r.inactive (peaks_of s.rule n)) e ∙ no_plan s s.bagging r.inactive)
+  no_expression e = ap (option_map (λ p. claim_of s.hashing (chosen r) (leaf_given s.hashing r) p r.digests))
+      (ap (λ n. root_plan s.bagging r.inactive (peaks_of s.rule n)) e ∙ no_plan s s.bagging r.inactive)
 
   pub empty_root_of : r.leaves ≡ 0 → r.inactive ≡ 0 → root_of s r.leaves r.inactive (range_expression s r) ≡ root_of s 0 0 None
   empty_root_of e f = ap (root_of s r.leaves r.inactive) (no_expression e) ∙ ap₂ (λ n k. root_of s n k None) e f

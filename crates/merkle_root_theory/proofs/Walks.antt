@@ -1,5 +1,6 @@
 -- Walks over a tree, step by step.
-use Rattle.std.proofs.Common.{◌≡◌, ℕ, Bool, true, false, cond, nat_le, nat_lt, Some, slice_get, ◌+◌, ◌-◌, ◌<◌, ◌≤◌, ◌≢◌, List, [], ◌∷◌, ◌++◌, length, drop, get_or, arith, refl, ap, ap₂, sym, ◌∙◌, length-append, drop-drop, leb-true, ltb-true, append-nil}
+use Rattle.std.proofs.Common.{◌≡◌, ℕ, Bool, true, false, cond, nat_le, nat_lt, Some, slice_get, ◌+◌, ◌-◌, ◌<◌, ◌≤◌, ◌≢◌, List, [], ◌∷◌, ◌++◌, length, drop}
+use Rattle.std.proofs.Common.{get_or, arith, refl, ap, ap₂, sym, ◌∙◌, length-append, drop-drop, leb-true, ltb-true, append-nil}
 use Rattle.std.proofs.lemmas.List.{length-drop}
 use Rattle.std.proofs.lemmas.Option.{get_or_from_slice_get, slice_get_read}
 use Rattle.std.proofs.Common.{map, append_assoc, le-leb, lt-ltb}
@@ -41,7 +42,8 @@ pub flat_push : (c : ℕ → Bool) (ts : List Tree) (t : Tree) → flat_map (sib
 flat_push c ts t = flat_map-append (siblings c) ts (t ∷ []) ∙ ap (λ z. flat_map (siblings c) ts ++ z) (append-nil (siblings c t))
 
 -- the positions of the siblings of one more tree, after others
-pub more_siblings : (c : ℕ → Bool) (ts us : List Tree) (t : Tree) (out xs ys : List ℕ) → us ≡ ts ++ t ∷ [] → xs ≡ out ++ map position (flat_map (siblings c) ts) → ys ≡ xs ++ map position (siblings c t) → ys ≡ out ++ map position (flat_map (siblings c) us)
+pub more_siblings : (c : ℕ → Bool) (ts us : List Tree) (t : Tree) (out xs ys : List ℕ) → us ≡ ts ++ t ∷ [] → xs ≡ out
+    ++ map position (flat_map (siblings c) ts) → ys ≡ xs ++ map position (siblings c t) → ys ≡ out ++ map position (flat_map (siblings c) us)
 more_siblings c ts us t out xs ys u e f =
     f ∙ ap (λ z. z ++ map position (siblings c t)) e ∙ append_assoc out (map position (flat_map (siblings c) ts)) (map position (siblings c t))
     ∙ ap (λ z. out ++ z) (sym (map-append position (flat_map (siblings c) ts) (siblings c t)) ∙ ap (map position) (sym (flat_push c ts t)) ∙ ap (λ z. map position (flat_map (siblings c) z)) (sym u))
@@ -51,7 +53,8 @@ module _ {D : Type 0} (h : Hashing D) (c : ℕ → Bool) (X : ℕ → D) where
   claim_unmet (leaf p i) ds e = ap (λ z. cond z (supplied (X i)) (supplied (next h ds))) e
   claim_unmet (join p l r) ds e = ap (λ z. cond z (computed (Node p) (tree_claim h c X l ds) (tree_claim h c X r (drop (length (siblings c l)) ds))) (supplied (next h ds))) e
 
-  claim_join : (p : ℕ) (l r : Tree) (ds : List D) → tree_meets c (join p l r) ≡ true → tree_claim h c X (join p l r) ds ≡ computed (Node p) (tree_claim h c X l ds) (tree_claim h c X r (drop (length (siblings c l)) ds))
+  claim_join : (p : ℕ) (l r : Tree) (ds : List D) → tree_meets c (join p l r) ≡ true
+      → tree_claim h c X (join p l r) ds ≡ computed (Node p) (tree_claim h c X l ds) (tree_claim h c X r (drop (length (siblings c l)) ds))
   claim_join p l r ds e = ap (λ z. cond z (computed (Node p) (tree_claim h c X l ds) (tree_claim h c X r (drop (length (siblings c l)) ds))) (supplied (next h ds))) e
 
   pub walk_outside : (t : Tree) (ds : List D) (d : D) (rest : List D) → tree_meets c t ≡ false → ds ≡ d ∷ rest → IsWalked h c X t ds d rest
@@ -71,17 +74,21 @@ module _ {D : Type 0} (h : Hashing D) (c : ℕ → Bool) (X : ℕ → D) where
     rest = sym (ap (λ n. drop n ds) (ap length (siblings_leaf c p i e)));
   }
 
-  pub walk_join : (p : ℕ) (l r : Tree) (ds mid rest : List D) (x y d : D) → tree_meets c (join p l r) ≡ true → IsWalked h c X l ds x mid → IsWalked h c X r mid y rest → d ≡ h.node p x y → IsWalked h c X (join p l r) ds d rest
+  pub walk_join : (p : ℕ) (l r : Tree) (ds mid rest : List D) (x y d : D) → tree_meets c (join p l r) ≡ true → IsWalked h c X l ds x mid
+      → IsWalked h c X r mid y rest → d ≡ h.node p x y → IsWalked h c X (join p l r) ds d rest
   walk_join p l r ds mid rest x y d e u v s = record {
     digest = s ∙ ap₂ (h.node p) u.digest (v.digest ∙ ap (λ z. value h (tree_claim h c X r z)) u.rest) ∙ ap (value h) (sym (claim_join p l r ds e));
-    enough = let k = ap length (siblings_join c p l r e) in let n = length-append (siblings c l) (siblings c r) in let w = ap length u.rest in let q = length-drop (length (siblings c l)) ds in omega (arith, k, n, w, q, u.enough, v.enough);
-    rest = v.rest ∙ ap (drop (length (siblings c r))) u.rest ∙ drop-drop (length (siblings c r)) (length (siblings c l)) ds ∙ ap (λ n. drop n ds) (sym (ap length (siblings_join c p l r e) ∙ length-append (siblings c l) (siblings c r)));
+    enough = let k = ap length (siblings_join c p l r e) in let n = length-append (siblings c l) (siblings c r) in let w = ap length u.rest in let q =
+        length-drop (length (siblings c l)) ds in omega (arith, k, n, w, q, u.enough, v.enough);
+    rest = v.rest ∙ ap (drop (length (siblings c r))) u.rest ∙ drop-drop (length (siblings c r)) (length (siblings c l)) ds
+        ∙ ap (λ n. drop n ds) (sym (ap length (siblings_join c p l r e) ∙ length-append (siblings c l) (siblings c r)));
   }
 
   pub short_left : (p : ℕ) (l r : Tree) (ds : List D) → tree_meets c (join p l r) ≡ true → length ds < length (siblings c l) → length ds < length (siblings c (join p l r))
   short_left p l r ds e s = omega (arith, ap length (siblings_join c p l r e), length-append (siblings c l) (siblings c r))
 
-  pub short_right : (p : ℕ) (l r : Tree) (ds mid : List D) (x : D) → tree_meets c (join p l r) ≡ true → IsWalked h c X l ds x mid → length mid < length (siblings c r) → length ds < length (siblings c (join p l r))
+  pub short_right : (p : ℕ) (l r : Tree) (ds mid : List D) (x : D) → tree_meets c (join p l r) ≡ true → IsWalked h c X l ds x mid
+      → length mid < length (siblings c r) → length ds < length (siblings c (join p l r))
   short_right p l r ds mid x e u s = omega (arith, ap length (siblings_join c p l r e), length-append (siblings c l) (siblings c r), ap length u.rest, length-drop (length (siblings c l)) ds, u.enough)
 
 module _ (rule : List ℕ → List ℕ) (m p s : ℕ) (tall : ℕ) where

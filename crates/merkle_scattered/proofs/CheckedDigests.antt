@@ -1,5 +1,6 @@
 -- The digests of the nodes that a check of scattered leaves computes, step by step.
-use Rattle.std.proofs.Common.{◌≡◌, ◌↔◌, ℕ, zero, suc, true, false, cond, ◌+◌, ◌<◌, List, [], ◌∷◌, ◌++◌, map, drop, get_or, length, Option, None, Some, IfSome, refl, ap, ap₂, sym, ◌∙◌, subst, arith, append_assoc, add-one}
+use Rattle.std.proofs.Common.{◌≡◌, ◌↔◌, ℕ, zero, suc, true, false, cond, ◌+◌, ◌<◌, List, [], ◌∷◌, ◌++◌, map, drop, get_or, length, Option, None, Some, IfSome}
+use Rattle.std.proofs.Common.{refl, ap, ap₂, sym, ◌∙◌, subst, arith, append_assoc, add-one}
 use Rattle.std.specs.List.{AllByRecursion}
 use Rattle.std.proofs.lemmas.List.{map-append, length-append}
 use Rattle.merkle_base.specs.Hashing.{Hashing}
@@ -21,7 +22,8 @@ one_left [] (suc n) a rest e d = absurd (cc)
 one_left (x ∷ xs) zero a rest e d = (cc, cc, omega arith)
 one_left (x ∷ xs) (suc n) a rest e d = let w = one_left xs n a rest e d in (w.0, ap (λ k. drop k (x ∷ xs)) (add-one (suc n)) ∙ ap (λ k. drop k xs) (sym (add-one n)) ∙ w.1, omega (arith, w.2))
 
-pub two_left : {A : Type 0} (xs : List A) (n : ℕ) (a b : A) (rest : List A) → drop n xs ≡ a ∷ b ∷ rest → (d : A) → (get_or xs n d ≡ a) × (get_or xs (n + 1) d ≡ b) × (drop (n + 2) xs ≡ rest) × (n + 1 < length xs)
+pub two_left : {A : Type 0} (xs : List A) (n : ℕ) (a b : A) (rest : List A) → drop n xs ≡ a ∷ b ∷ rest → (d : A) → (get_or xs n d ≡ a)
+    × (get_or xs (n + 1) d ≡ b) × (drop (n + 2) xs ≡ rest) × (n + 1 < length xs)
 two_left xs n a b rest e d =
     let v = one_left xs n a (b ∷ rest) e d in
     let w = one_left xs (n + 1) b rest v.1 d in
@@ -36,7 +38,8 @@ piece_left xs n (a ∷ piece) rest e =
 
 -- ---- children
 module _ {F D : Type 0} (es : List (ℕ × D)) where
-  pub children_more : (xs ys zs whole : List (CheckedNode F)) (a b : CheckedNode F) (t l r : Tree) (rest us : List Tree) → rest ≡ t ∷ us → children_met es t ≡ l ∷ r ∷ [] → a ≡ checked_node es l → b ≡ checked_node es r
+  pub children_more : (xs ys zs whole : List (CheckedNode F)) (a b : CheckedNode F) (t l r : Tree) (rest us : List Tree) → rest ≡ t ∷ us
+      → children_met es t ≡ l ∷ r ∷ [] → a ≡ checked_node es l → b ≡ checked_node es r
       → ys ≡ xs ++ a ∷ [] → zs ≡ ys ++ b ∷ [] → xs ++ map (checked_node es) (all_children_met es rest) ≡ whole → zs ++ map (checked_node es) (all_children_met es us) ≡ whole
   children_more xs ys zs whole a b t l r rest us e met a_is b_is first second all =
       take_piece xs zs (a ∷ b ∷ []) (map (checked_node es) (all_children_met es us)) whole

@@ -1,5 +1,6 @@
 -- Nodes as a check of scattered leaves represents them, and what it computes of them.
-use Rattle.std.proofs.Common.{◌≡◌, ◌≢◌, ℕ, zero, suc, Bool, true, false, cond, ◌||◌, ◌&&◌, ◌+◌, ◌<◌, ◌≤◌, nat_lt, List, [], ◌∷◌, map, drop, get_or, length, Option, inl, inr, refl, ap, ap₂, sym, ◌∙◌, subst, arith, lt-ltb, add-one}
+use Rattle.std.proofs.Common.{◌≡◌, ◌≢◌, ℕ, zero, suc, Bool, true, false, cond, ◌||◌, ◌&&◌, ◌+◌, ◌<◌, ◌≤◌, nat_lt, List, [], ◌∷◌, map, drop, get_or, length}
+use Rattle.std.proofs.Common.{Option, inl, inr, refl, ap, ap₂, sym, ◌∙◌, subst, arith, lt-ltb, add-one}
 use Rattle.std.proofs.lemmas.Bool.{ltb-true, and_parts, cases_lt}
 use Rattle.std.proofs.lemmas.List.{length-map}
 use Rattle.merkle_base.specs.Hashing.{Hashing}
@@ -19,7 +20,8 @@ use Rattle.merkle_scattered.proofs.ScatteredElements.{met_at}
 use Rattle.merkle_scattered.proofs.LocatedIndices.{located_before-within, located_before-later, located_before-drop, none_between, some_between}
 
 -- item i of the nodes, and those from it on
-pub checked_item : {F D : Type 0} (rule : List ℕ → List ℕ) (m : ℕ) (es : List (ℕ × D)) (ns : List (CheckedNode F)) (ts : List Tree) → AreChecked rule m es ns ts → (i : ℕ) → i < length ns → (d : CheckedNode F)
+pub checked_item : {F D : Type 0} (rule : List ℕ → List ℕ) (m : ℕ) (es : List (ℕ × D)) (ns : List (CheckedNode F)) (ts : List Tree)
+    → AreChecked rule m es ns ts → (i : ℕ) → i < length ns → (d : CheckedNode F)
     → (t : Tree) × (get_or ns i d ≡ checked_node es t) × AreNodes rule m (t ∷ []) × (drop i ts ≡ t ∷ drop (i + 1) ts)
 checked_item {F = F} {D = D} rule m es ns ts w i l d =
     subst (λ xs. i < length xs → (t : Tree) × (get_or xs i d ≡ checked_node es t) × AreNodes rule m (t ∷ []) × (drop i ts ≡ t ∷ drop (i + 1) ts)) (sym w.0) (step ts i w.1) l
@@ -32,7 +34,8 @@ checked_item {F = F} {D = D} rule m es ns ts w i l d =
         (w.0, w.1, w.2, w.3 ∙ ap (λ us. w.0 ∷ us) (ap (λ n. drop n ts) (add-one i) ∙ sym (ap (λ n. drop n (t ∷ ts)) (add-one (suc i)))))
 
 -- after the last node there are no others
-pub none_after : {F D : Type 0} (rule : List ℕ → List ℕ) (m : ℕ) (es : List (ℕ × D)) (ns : List (CheckedNode F)) (ts : List Tree) → AreChecked rule m es ns ts → (i : ℕ) → length ns ≤ i → drop i ts ≡ []
+pub none_after : {F D : Type 0} (rule : List ℕ → List ℕ) (m : ℕ) (es : List (ℕ × D)) (ns : List (CheckedNode F)) (ts : List Tree)
+    → AreChecked rule m es ns ts → (i : ℕ) → length ns ≤ i → drop i ts ≡ []
 none_after {F = F} rule m es ns ts w i l = drop_past ts i (omega (arith, l, ap length w.0, length-map ts (checked_node {F = F} es)))
   where
     drop_past : (ts : List Tree) (i : ℕ) → length ts ≤ i → drop i ts ≡ []
@@ -95,7 +98,8 @@ module _ (rule : List ℕ → List ℕ) (m : ℕ) {F D : Type 0} (es : List (ℕ
     no_children x (leaf p i) e w b = refl
     no_children x (join p l r) e w b = ap (λ z. cond z (l ∷ r ∷ []) []) (unmet_inner x p l r e w b)
 
-    pub no_parent : (h : Hashing D) (a : ℕ → Option D) (x : CheckedNode F) (t : Tree) → x ≡ checked_node es t → AreNodes rule m (t ∷ []) → (nat_lt x.from x.to && nat_lt 0 x.subtree.height) ≡ false → parent_met h a es t ≡ []
+    pub no_parent : (h : Hashing D) (a : ℕ → Option D) (x : CheckedNode F) (t : Tree) → x ≡ checked_node es t → AreNodes rule m (t ∷ [])
+        → (nat_lt x.from x.to && nat_lt 0 x.subtree.height) ≡ false → parent_met h a es t ≡ []
     no_parent h a x (leaf p i) e w b = refl
     no_parent h a x (join p l r) e w b = ap (λ z. cond z ((p, value h (node_checked h a es l), value h (node_checked h a es r)) ∷ []) []) (unmet_inner x p l r e w b)
 
@@ -130,7 +134,8 @@ module _ {F D : Type 0} (es : List (ℕ × D)) (x : CheckedNode F) where
 
 module _ {F D : Type 0} (rule : List ℕ → List ℕ) (m : ℕ) (es : List (ℕ × D)) (up : AscendsFrom 0 (locations_of es)) (x : CheckedNode F) (some : x.from < x.to) where
   -- a node above elements is one of their leaves, or has children
-  pub leaf_is : (t : Tree) → IsChecked rule m es x t → x.subtree.height ≡ 0 → (p : ℕ) × (i : ℕ) × (t ≡ leaf p i) × (is_located es i ≡ true) × (x.from ≡ located_before i es) × (located_before i es < located_before (i + 1) es)
+  pub leaf_is : (t : Tree) → IsChecked rule m es x t → x.subtree.height ≡ 0 → (p : ℕ) × (i : ℕ) × (t ≡ leaf p i) × (is_located es i ≡ true)
+      × (x.from ≡ located_before i es) × (located_before i es < located_before (i + 1) es)
   leaf_is (leaf p i) w flat =
       let from_is : x.from ≡ located_before i es = ap (λ x. x.from) w.0 in
       let to_is : x.to ≡ located_before (i + 1) es = ap (λ x. x.to) w.0 in

@@ -18,7 +18,8 @@ use Rattle.merkle_scattered.proofs.CheckedNodes.{left_node, right_node}
 use Rattle.merkle_scattered.proofs.CheckedDigests.{met_holds}
 
 -- where no child is listed there is none
-pub no_children_left : {F D : Type 0} (es : List (ℕ × D)) (ts : List Tree) (xs : List (CheckedNode F)) → xs ≡ map (checked_node es) (all_children_met es ts) → length xs ≡ 0 → all_children_met es ts ≡ []
+pub no_children_left : {F D : Type 0} (es : List (ℕ × D)) (ts : List Tree) (xs : List (CheckedNode F))
+    → xs ≡ map (checked_node es) (all_children_met es ts) → length xs ≡ 0 → all_children_met es ts ≡ []
 no_children_left {F = F} es ts xs e none = of_empty (all_children_met es ts) (sym (ap length e) ∙ none)
   where
     of_empty : (us : List Tree) → length (map (checked_node {F = F} es) us) ≡ 0 → us ≡ []
@@ -91,7 +92,8 @@ module _ {D : Type 0} (es : List (ℕ × D)) where
               | inr x ↦ omega (arith, ap (λ z. cond z rest (height t)) (le-ltb (height t) rest x), w.0)
             ]
 
-      pub children_are_lower : {F : Type 0} (ns cs : List (CheckedNode F)) (ts : List Tree) → AreChecked rule m es ns ts → cs ≡ map (checked_node es) (all_children_met es ts) → length cs ≢ 0 → tallest cs < tallest ns
+      pub children_are_lower : {F : Type 0} (ns cs : List (CheckedNode F)) (ts : List Tree) → AreChecked rule m es ns ts
+          → cs ≡ map (checked_node es) (all_children_met es ts) → length cs ≢ 0 → tallest cs < tallest ns
       children_are_lower {F = F} ns cs ts w e some =
           let b = tallest ns in
           let low : AllByRecursion (λ t. height t < b) (all_children_met es ts) = children_lower b ts w.1 (heights_within F b ts (omega (arith, ap tallest w.0))) in

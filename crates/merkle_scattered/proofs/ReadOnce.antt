@@ -1,5 +1,6 @@
 -- A walk that reads each node once reads what the proofs of single leaves read, one after another.
-use Rattle.std.proofs.Common.{◌≡◌, ℕ, suc, Bool, true, false, cond, not, ◌&&◌, ◌||◌, ◌+◌, ◌<◌, ◌≤◌, nat_eq, nat_le, nat_lt, List, [], ◌∷◌, ◌++◌, length, filter, flat_map, Some, slice_get, inl, inr, refl, ap, ap₂, sym, ◌∙◌, subst, arith, leb-true, ltb-true}
+use Rattle.std.proofs.Common.{◌≡◌, ℕ, suc, Bool, true, false, cond, not, ◌&&◌, ◌||◌, ◌+◌, ◌<◌, ◌≤◌, nat_eq, nat_le, nat_lt, List, [], ◌∷◌, ◌++◌, length, filter}
+use Rattle.std.proofs.Common.{flat_map, Some, slice_get, inl, inr, refl, ap, ap₂, sym, ◌∙◌, subst, arith, leb-true, ltb-true}
 use Rattle.std.specs.List.{AllByRecursion, list_any}
 use Rattle.std.proofs.lemmas.Bool.Decides.{nat_tests}
 use Rattle.std.proofs.lemmas.Bool.{cases_lt, eq-eqb, ne_eqb, le-ltb, le-leb, lt-ltb, and_parts, false≢true}
@@ -99,13 +100,15 @@ any_others q f b e (i ∷ is) =
 
 all_kept : (P : ℕ → Type 0) (q : ℕ → Bool) (is : List ℕ) → AllByRecursion P is → AllByRecursion (λ i. P i × (q i ≡ true)) (filter q is)
 all_kept P q [] h = tt
-all_kept P q (i ∷ is) h = by_test (λ z. q i ≡ z → AllByRecursion (λ i. P i × (q i ≡ true)) (cond z (i ∷ filter q is) (filter q is))) (q i) (λ _ e. ((h.0, e), all_kept P q is h.1)) (λ _ _. all_kept P q is h.1) refl
+all_kept P q (i ∷ is) h = by_test (λ z. q i ≡ z → AllByRecursion (λ i. P i × (q i ≡ true)) (cond z (i ∷ filter q is) (filter q is))) (q i)
+    (λ _ e. ((h.0, e), all_kept P q is h.1)) (λ _ _. all_kept P q is h.1) refl
 
 twice_kept : (q r : ℕ → Bool) (is : List ℕ) → filter q (filter r is) ≡ filter (λ i. r i && q i) is
 twice_kept q r [] = refl
 twice_kept q r (i ∷ is) = both (r i) (q i) (twice_kept q r is) refl
   where
-    both : (a b : Bool) → filter q (filter r is) ≡ filter (λ i. r i && q i) is → q i ≡ b → filter q (cond a (i ∷ filter r is) (filter r is)) ≡ cond (a && b) (i ∷ filter (λ i. r i && q i) is) (filter (λ i. r i && q i) is)
+    both : (a b : Bool) → filter q (filter r is) ≡ filter (λ i. r i && q i) is → q i ≡ b
+        → filter q (cond a (i ∷ filter r is) (filter r is)) ≡ cond (a && b) (i ∷ filter (λ i. r i && q i) is) (filter (λ i. r i && q i) is)
     both true b h e = ap (λ z. cond z (i ∷ filter q (filter r is)) (filter q (filter r is))) e ∙ ap (λ z. cond b (i ∷ z) z) h
     both false b h e = h
 
@@ -125,7 +128,8 @@ unmet ns c (join p l r) h f =
 siblings_not : (ns : List Tree) (i : ℕ) (t : Tree) → IsBuilt ns t → ((j : ℕ) → IsBetween (first_leaf t) (end_leaf t) j → ¬ (j ≡ i)) → siblings (only i) t ≡ t ∷ []
 siblings_not ns i t h f = siblings_unmet (only i) t (unmet ns (only i) t h (λ j w. ne_eqb j i (f j w)))
 
-siblings_both : (ns : List Tree) (i p : ℕ) (l r : Tree) → IsBuilt ns (join p l r) → IsBetween (first_leaf l) (end_leaf (join p l r)) i → siblings (only i) (join p l r) ≡ siblings (only i) l ++ siblings (only i) r
+siblings_both : (ns : List Tree) (i p : ℕ) (l r : Tree) → IsBuilt ns (join p l r) → IsBetween (first_leaf l) (end_leaf (join p l r)) i
+    → siblings (only i) (join p l r) ≡ siblings (only i) l ++ siblings (only i) r
 siblings_both ns i p l r h w = siblings_join (only i) p l r (met_at ns (only i) i (join p l r) h w.0 w.1 (eq-eqb i i refl))
 
 -- ---- whether a node at p is read
@@ -146,12 +150,14 @@ module _ (ns : List Tree) (p : ℕ) where
 
   read_left : (q i : ℕ) (l r : Tree) → IsBuilt ns (join q l r) → IsBetween (first_leaf l) (end_leaf l) i → is_read (join q l r) i ≡ (is_read l i || stands_there r)
   read_left q i l r h w =
-      ap (list_any stands_there) (siblings_both ns i q l r h (w.0, omega (arith, w.1, h.3)) ∙ ap (λ z. siblings (only i) l ++ z) (siblings_not ns i r h.5 (λ j v e. absurd (omega (arith, v.0, w.1, h.3, e)))))
+      ap (list_any stands_there) (siblings_both ns i q l r h (w.0, omega (arith, w.1, h.3))
+      ∙ ap (λ z. siblings (only i) l ++ z) (siblings_not ns i r h.5 (λ j v e. absurd (omega (arith, v.0, w.1, h.3, e)))))
       ∙ list_any-append stands_there (siblings (only i) l) (r ∷ []) ∙ ap (λ z. is_read l i || z) (any_node true r)
 
   read_right : (q i : ℕ) (l r : Tree) → IsBuilt ns (join q l r) → IsBetween (first_leaf r) (end_leaf r) i → is_read (join q l r) i ≡ (is_read r i || stands_there l)
   read_right q i l r h w =
-      ap (list_any stands_there) (siblings_both ns i q l r h (omega (arith, w.0, h.3), omega (arith, w.1, h.3)) ∙ ap (λ z. z ++ siblings (only i) r) (siblings_not ns i l h.4 (λ j v e. absurd (omega (arith, v.1, w.0, h.3, e)))))
+      ap (list_any stands_there) (siblings_both ns i q l r h (omega (arith, w.0, h.3), omega (arith, w.1, h.3))
+      ∙ ap (λ z. z ++ siblings (only i) r) (siblings_not ns i l h.4 (λ j v e. absurd (omega (arith, v.1, w.0, h.3, e)))))
       ∙ swapped (stands_there l) (is_read r i)
     where
       swapped : (a b : Bool) → (a || b) ≡ (b || a)
@@ -161,7 +167,8 @@ module _ (ns : List Tree) (p : ℕ) where
       swapped false false = refl
 
   -- by the leaves of one child, and the other child with it
-  child_same : (is : List ℕ) (f : ℕ → Bool) (u v : Tree) (P : ℕ → Type 0) → AllByRecursion P is → ((i : ℕ) → P i → f i ≡ (is_read u i || stands_there v)) → list_any (is_read u) is ≡ list_any stands_there (read_below is u)
+  child_same : (is : List ℕ) (f : ℕ → Bool) (u v : Tree) (P : ℕ → Type 0) → AllByRecursion P is
+      → ((i : ℕ) → P i → f i ≡ (is_read u i || stands_there v)) → list_any (is_read u) is ≡ list_any stands_there (read_below is u)
       → list_any f is ≡ (list_any stands_there (read_below is u) || list_any stands_there (node_if (are_some is) v))
   child_same is f u v P h e same =
       any_alike P f (λ i. is_read u i || stands_there v) e is h ∙ any_both (is_read u) (λ _. stands_there v) is ∙ ap₂ ◌||◌ same (some_any (stands_there v) is ∙ sym (any_node (are_some is) v))
@@ -177,7 +184,8 @@ module _ (ns : List Tree) (p : ℕ) where
   ordered false false false true = refl
   ordered false false false false = refl
 
-  any_four : (ts us vs ws : List Tree) → list_any stands_there (ts ++ us ++ vs ++ ws) ≡ (((list_any stands_there ts || list_any stands_there us) || list_any stands_there vs) || list_any stands_there ws)
+  any_four : (ts us vs ws : List Tree)
+      → list_any stands_there (ts ++ us ++ vs ++ ws) ≡ (((list_any stands_there ts || list_any stands_there us) || list_any stands_there vs) || list_any stands_there ws)
   any_four ts us vs ws =
       list_any-append stands_there (ts ++ us ++ vs) ws
       ∙ ap (λ z. z || list_any stands_there ws) (list_any-append stands_there (ts ++ us) vs ∙ ap (λ z. z || list_any stands_there vs) (list_any-append stands_there ts us))
@@ -189,14 +197,17 @@ module _ (ns : List Tree) (p : ℕ) where
       let m = first_leaf r in
       let first = those_before m is in
       let second = those_from m is in
-      let under_left : AllByRecursion (IsBetween (first_leaf l) (end_leaf l)) first = all_imply (λ i. IsBetween (first_leaf l) (end_leaf (join q l r)) i × (nat_lt i m ≡ true)) (IsBetween (first_leaf l) (end_leaf l))
+      let under_left : AllByRecursion (IsBetween (first_leaf l) (end_leaf l)) first =
+      all_imply (λ i. IsBetween (first_leaf l) (end_leaf (join q l r)) i × (nat_lt i m ≡ true)) (IsBetween (first_leaf l) (end_leaf l))
       (λ i v. (v.0.0, omega (arith, ltb-true i m v.1, h.3))) first (all_kept (IsBetween (first_leaf l) (end_leaf (join q l r))) (λ i. nat_lt i m) is w) in
-      let under_right : AllByRecursion (IsBetween (first_leaf r) (end_leaf r)) second = all_imply (λ i. IsBetween (first_leaf l) (end_leaf (join q l r)) i × (nat_le m i ≡ true)) (IsBetween (first_leaf r) (end_leaf r))
+      let under_right : AllByRecursion (IsBetween (first_leaf r) (end_leaf r)) second =
+      all_imply (λ i. IsBetween (first_leaf l) (end_leaf (join q l r)) i × (nat_le m i ≡ true)) (IsBetween (first_leaf r) (end_leaf r))
       (λ i v. (leb-true m i v.1, omega (arith, v.0.1, h.3))) second (all_kept (IsBetween (first_leaf l) (end_leaf (join q l r))) (λ i. nat_le m i) is w) in
       any_parted m (is_read (join q l r)) is
       ∙ ap₂ ◌||◌ (child_same first (is_read (join q l r)) l r (IsBetween (first_leaf l) (end_leaf l)) under_left (λ i v. read_left q i l r h v) (below_same l h.4 first under_left))
       (child_same second (is_read (join q l r)) r l (IsBetween (first_leaf r) (end_leaf r)) under_right (λ i v. read_right q i l r h v) (below_same r h.5 second under_right))
-      ∙ ordered (list_any stands_there (read_below first l)) (list_any stands_there (node_if (are_some first) r)) (list_any stands_there (read_below second r)) (list_any stands_there (node_if (are_some second) l))
+      ∙ ordered (list_any stands_there (read_below first l)) (list_any stands_there (node_if (are_some first) r))
+      (list_any stands_there (read_below second r)) (list_any stands_there (node_if (are_some second) l))
       ∙ sym (any_four (read_below first l) (node_if (are_some second) l) (read_below second r) (node_if (are_some first) r))
 
   -- ---- peaks
@@ -205,7 +216,8 @@ module _ (ns : List Tree) (p : ℕ) where
       let q : ℕ → Bool = λ i. nat_le (first_leaf t) i && nat_lt i (end_leaf t) in
       let same : under t is ≡ filter q is = twice_kept (λ i. nat_lt i (end_leaf t)) (λ i. nat_le (first_leaf t) i) is in
       let inside : AllByRecursion (IsBetween (first_leaf t) (end_leaf t)) (filter q is) = all_imply (λ i. Unit {0} × (q i ≡ true)) (IsBetween (first_leaf t) (end_leaf t))
-      (λ i v. let b = and_parts (nat_le (first_leaf t) i) (nat_lt i (end_leaf t)) v.1 in (leb-true (first_leaf t) i b.0, ltb-true i (end_leaf t) b.1)) (filter q is) (all_kept (λ _. Unit {0}) q is (all_units is)) in
+      (λ i v. let b = and_parts (nat_le (first_leaf t) i) (nat_lt i (end_leaf t)) v.1 in (leb-true (first_leaf t) i b.0, ltb-true i (end_leaf t) b.1))
+      (filter q is) (all_kept (λ _. Unit {0}) q is (all_units is)) in
       any_others q (is_read t) (stands_there t) (λ i e. ap (list_any stands_there) (siblings_not ns i t h (λ j v w. false≢true (sym e ∙ passes i j v w))) ∙ any_node true t) is
       ∙ ap (λ z. z || (nat_lt (length (filter q is)) (length is) && stands_there t)) (below_same t h (filter q is) inside)
       ∙ ap (λ us. list_any stands_there (read_below us t) || (nat_lt (length us) (length is) && stands_there t)) (sym same)
@@ -258,7 +270,8 @@ module _ (ns : List Tree) where
   all_there [] h is = tt
   all_there (t ∷ ts) h is =
       all_append IsThere (read_in is t) (flat_map (read_in is) ts)
-      (all_append IsThere (read_below (under t is) t) (node_if (nat_lt (length (under t is)) (length is)) t) (below_there t h.0 (under t is)) (if_there (nat_lt (length (under t is)) (length is)) t h.0))
+      (all_append IsThere (read_below (under t is) t) (node_if (nat_lt (length (under t is)) (length is)) t) (below_there t h.0 (under t is))
+      (if_there (nat_lt (length (under t is)) (length is)) t h.0))
       (all_there ts h.1 is)
 
 -- the ascending list

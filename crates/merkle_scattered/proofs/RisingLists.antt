@@ -68,7 +68,8 @@ rises_range m i j d l within =
     omega (arith, l, get_or-range_with_len 0 m i d (omega (arith, l, inside)), get_or-range_with_len 0 m j d inside)
 
 -- a rising list is the filter that has its elements
-pub rises_filter : (t : ℕ → Bool) (m : ℕ) (xs : List ℕ) → IsStrictlyIncreasing xs → ((p : ℕ) → Contains xs p → (p < m) × (t p ≡ true)) → ((p : ℕ) → t p ≡ true → Contains xs p) → xs ≡ filter t (range_with_len 0 m)
+pub rises_filter : (t : ℕ → Bool) (m : ℕ) (xs : List ℕ) → IsStrictlyIncreasing xs → ((p : ℕ) → Contains xs p → (p < m) × (t p ≡ true))
+    → ((p : ℕ) → t p ≡ true → Contains xs p) → xs ≡ filter t (range_with_len 0 m)
 rises_filter t m xs h f g = rises_same xs (filter t (range_with_len 0 m)) (AllPairs-from_increasing xs h) (AllPairs-filter (λ x y. x < y) t (range_with_len 0 m) (rises_range m))
     (λ p w. contains_filter t (range_with_len 0 m) p (contains_range m p (f p w).0) (f p w).1)
     (λ p w. g p (filter_passes t (range_with_len 0 m) p w))

@@ -1,5 +1,6 @@
 -- A walk that reads the nodes beside scattered leaves, each once, step by step.
-use Rattle.std.proofs.Common.{◌≡◌, ◌≢◌, ℕ, zero, suc, Bool, true, false, cond, ◌<◌, ◌≤◌, nat_le, nat_lt, List, [], ◌∷◌, ◌++◌, length, map, filter, flat_map, take, drop, get_or, refl, ap, ap₂, sym, ◌∙◌, arith, append-nil, append_assoc}
+use Rattle.std.proofs.Common.{◌≡◌, ◌≢◌, ℕ, zero, suc, Bool, true, false, cond, ◌<◌, ◌≤◌, nat_le, nat_lt, List, [], ◌∷◌, ◌++◌, length, map, filter, flat_map}
+use Rattle.std.proofs.Common.{take, drop, get_or, refl, ap, ap₂, sym, ◌∙◌, arith, append-nil, append_assoc}
 use Rattle.std.specs.List.{AllWithin}
 use Rattle.std.specs.List.Sorted.{IsNonDecreasing}
 use Rattle.std.proofs.lemmas.Bool.Decides.{nat_tests}
@@ -65,7 +66,8 @@ if_position false p t e = refl
 two_more : (o a z : List ℕ) (ts us : List Tree) → a ≡ o ++ map position ts → z ≡ a ++ map position us → z ≡ o ++ map position (ts ++ us)
 two_more o a z ts us x y = y ∙ ap (λ q. q ++ map position us) x ∙ append_assoc o (map position ts) (map position us) ∙ ap (λ q. o ++ q) (sym (map-append position ts us))
 
-four_more : (o a f z e : List ℕ) (ts us vs ws : List Tree) → a ≡ o ++ map position ts → f ≡ a ++ map position us → z ≡ f ++ map position vs → e ≡ z ++ map position ws → e ≡ o ++ map position (ts ++ us ++ vs ++ ws)
+four_more : (o a f z e : List ℕ) (ts us vs ws : List Tree) → a ≡ o ++ map position ts → f ≡ a ++ map position us → z ≡ f ++ map position vs → e ≡ z
+    ++ map position ws → e ≡ o ++ map position (ts ++ us ++ vs ++ ws)
 four_more o a f z e ts us vs ws x y u v = two_more o z e (ts ++ us ++ vs) ws (two_more o f z (ts ++ us) vs (two_more o a f ts us x y) u) v
 
 module _ (rule : List ℕ → List ℕ) (m p s tall : ℕ) where
@@ -106,7 +108,8 @@ from_later : (a e : ℕ) → a ≤ e → (is : List ℕ) → those_from e (those
 from_later a e l [] = refl
 from_later a e l (i ∷ is) = both (nat_le a i) (nat_le e i) refl refl (from_later a e l is)
   where
-    both : (b c : Bool) → nat_le a i ≡ b → nat_le e i ≡ c → those_from e (those_from a is) ≡ those_from e is → those_from e (cond b (i ∷ those_from a is) (those_from a is)) ≡ cond c (i ∷ those_from e is) (those_from e is)
+    both : (b c : Bool) → nat_le a i ≡ b → nat_le e i ≡ c → those_from e (those_from a is) ≡ those_from e is
+        → those_from e (cond b (i ∷ those_from a is) (those_from a is)) ≡ cond c (i ∷ those_from e is) (those_from e is)
     both true true x y h = kept (λ i. nat_le e i) i (those_from a is) y ∙ ap (λ z. i ∷ z) h
     both true false x y h = dropped (λ i. nat_le e i) i (those_from a is) y ∙ h
     both false false x y h = h
@@ -114,7 +117,8 @@ from_later a e l (i ∷ is) = both (nat_le a i) (nat_le e i) refl refl (from_lat
 
 module _ {F : Type 0} (peak : Subtree F) (t : Tree) (is_tree : peak ≡ subtree_of t) (is rest : List ℕ) (e : ℕ) (end : e ≡ end_leaf t) where
   pub collected_more : (first second : List ℕ) → (first ≡ those_before e rest) × (second ≡ those_from e rest) → (b : Bool) → b ≡ nat_lt (length first) (length is) → (out middle new : List ℕ)
-      → middle ≡ out ++ map position (read_below first t) → new ≡ middle ++ cond b (peak.position ∷ []) [] → (done : List Tree) → Collected is out rest (first_leaf t) done → Collected is new second (end_leaf t) (done ++ t ∷ [])
+      → middle ≡ out ++ map position (read_below first t) → new ≡ middle ++ cond b (peak.position ∷ []) [] → (done : List Tree)
+      → Collected is out rest (first_leaf t) done → Collected is new second (end_leaf t) (done ++ t ∷ [])
   collected_more first second parts b bs out middle new x y done c =
       let first_is : first ≡ under t is = parts.0 ∙ ap₂ (λ (n : ℕ) z. those_before n z) end c.1 in
       let own : cond b (peak.position ∷ []) [] ≡ map position (node_if (nat_lt (length first) (length is)) t) =

@@ -1,5 +1,6 @@
 -- A plan as the list of its parts: those that a range doesn't meet, and the peaks that it meets.
-use Rattle.std.proofs.Common.{◌≡◌, ℕ, zero, suc, pred, Bool, true, false, cond, ◌||◌, ◌+◌, ◌-◌, ◌≤◌, ◌<◌, List, [], ◌∷◌, ◌++◌, refl, ap, ap₂, sym, ◌∙◌, ⊎_elim, arith, length, map, take, drop, Some, append_assoc, append-nil, drop_of_length-le, length-append}
+use Rattle.std.proofs.Common.{◌≡◌, ℕ, zero, suc, pred, Bool, true, false, cond, ◌||◌, ◌+◌, ◌-◌, ◌≤◌, ◌<◌, List, [], ◌∷◌, ◌++◌, refl, ap, ap₂, sym, ◌∙◌, ⊎_elim}
+use Rattle.std.proofs.Common.{arith, length, map, take, drop, Some, append_assoc, append-nil, drop_of_length-le, length-append}
 use Rattle.std.proofs.Math.Seq.{take-append-add, drop-append-add}
 use Rattle.std.proofs.lemmas.Bool.{or_right, or_left, cases_lt}
 use Rattle.std.proofs.lemmas.List.{map-append, length-drop, take_all, take-append-le, drop-append-le}
@@ -33,7 +34,8 @@ module _ (d : ℕ → Bool) where
       ∙ ap (λ z. z ++ map peak ts) (flat_met (PrefixFold i) acc (peak t) (or_left (meets d acc) (tree_meets d t) e))
       ∙ append_assoc (flat d acc) (peak t ∷ []) (map peak ts)
 
-  flat_right_fold : (i j : ℕ) (t : Tree) (ts after : List Tree) → LastMet d t ts → Unmet d after → j ≡ i + suc (length ts) → flat d (right_fold_plan i t (ts ++ after)) ≡ map peak (t ∷ ts) ++ bag_all j after
+  flat_right_fold : (i j : ℕ) (t : Tree) (ts after : List Tree) → LastMet d t ts → Unmet d after → j ≡ i + suc (length ts)
+      → flat d (right_fold_plan i t (ts ++ after)) ≡ map peak (t ∷ ts) ++ bag_all j after
   flat_right_fold i j t [] [] m u e = refl
   flat_right_fold i j t [] (v ∷ vs) m u e =
       flat_met (SuffixFold i) (peak t) (right_fold_plan (suc i) v vs) (or_left (tree_meets d t) (meets d (right_fold_plan (suc i) v vs)) m)
@@ -44,16 +46,19 @@ module _ (d : ℕ → Bool) where
       ∙ ap (λ z. peak t ∷ z) (flat_right_fold (suc i) j s ts after m u (omega (arith, e)))
 
   -- a bag joined to a met part
-  flat_join : (acc : Plan) (i j : ℕ) (over after : List Tree) → meets d acc ≡ true → Met d over → Unmet d after → j ≡ i + length over → flat d (with_right_fold_plan acc i (over ++ after)) ≡ flat d acc ++ (map peak over ++ bag_all j after)
+  flat_join : (acc : Plan) (i j : ℕ) (over after : List Tree) → meets d acc ≡ true → Met d over → Unmet d after → j ≡ i + length over
+      → flat d (with_right_fold_plan acc i (over ++ after)) ≡ flat d acc ++ (map peak over ++ bag_all j after)
   flat_join acc i j [] [] e m u f = sym (append-nil (flat d acc))
   flat_join acc i j [] (v ∷ vs) e m u f =
-      flat_met Join acc (right_fold_plan i v vs) (or_left (meets d acc) _ e) ∙ ap (λ z. flat d acc ++ z) (flat_unmet (right_fold_plan i v vs) (right_fold_unmet d i v vs u) ∙ ap (λ n. right_fold_plan n v vs ∷ []) (omega (arith, f)))
+      flat_met Join acc (right_fold_plan i v vs) (or_left (meets d acc) _ e)
+      ∙ ap (λ z. flat d acc ++ z) (flat_unmet (right_fold_plan i v vs) (right_fold_unmet d i v vs u) ∙ ap (λ n. right_fold_plan n v vs ∷ []) (omega (arith, f)))
   flat_join acc i j (t ∷ over) after e m u f =
       flat_met Join acc (right_fold_plan i t (over ++ after)) (or_left (meets d acc) _ e) ∙ ap (λ z. flat d acc ++ z) (flat_right_fold i j t over after (last_met d t over m) u (omega (arith, f)))
 
   -- joined where n peaks are folded onto a met part first; m: how many of those after the range stand alone
   flat_on : (acc : Plan) (g i j n m : ℕ) (over after : List Tree) → meets d acc ≡ true → Met d over → Unmet d after → m ≡ n - length over → j ≡ i + (length over - n)
-      → flat d (with_right_fold_plan (left_fold_plan acc g (take n (over ++ after))) i (drop n (over ++ after))) ≡ flat d acc ++ (map peak over ++ (map peak (take m after) ++ bag_all j (drop m after)))
+      → flat d (with_right_fold_plan (left_fold_plan acc g (take n (over ++ after))) i (drop n (over ++ after))) ≡ flat d acc
+      ++ (map peak over ++ (map peak (take m after) ++ bag_all j (drop m after)))
   flat_on acc g i j zero zero over after e w u l f = flat_join acc i j over after e w u (omega (arith, f))
   flat_on acc g i j zero (suc m) over after e w u l f = absurd (omega (arith, l))
   flat_on acc g i j (suc n) zero [] after e w u l f = absurd (omega (arith, l))
@@ -80,7 +85,8 @@ module _ (d : ℕ → Bool) where
       ∙ ap (λ z. peak b ∷ (z ++ bag_all j after)) (map-append peak bs (t ∷ over)) ∙ ap (λ z. peak b ∷ z) (append_assoc (map peak bs) (map peak (t ∷ over)) (bag_all j after)))
 
   -- a fold whose first peaks are unmet
-  left_fold_reach : (b : Tree) (bs : List Tree) (t : Tree) → Unmet d (b ∷ bs) → tree_meets d t ≡ true → flat d (folding (PrefixFold (1 + length bs)) (left_fold_plan (peak b) 1 bs) (peak t)) ≡ left_fold_plan (peak b) 1 bs ∷ peak t ∷ []
+  left_fold_reach : (b : Tree) (bs : List Tree) (t : Tree) → Unmet d (b ∷ bs) → tree_meets d t ≡ true
+      → flat d (folding (PrefixFold (1 + length bs)) (left_fold_plan (peak b) 1 bs) (peak t)) ≡ left_fold_plan (peak b) 1 bs ∷ peak t ∷ []
   left_fold_reach b bs t u m =
       flat_met (PrefixFold (1 + length bs)) (left_fold_plan (peak b) 1 bs) (peak t) (or_right (meets d (left_fold_plan (peak b) 1 bs)) (tree_meets d t) m)
       ∙ ap (λ z. z ++ peak t ∷ []) (flat_unmet (left_fold_plan (peak b) 1 bs) (left_fold_unmet d (peak b) 1 bs u.0 u.1))
@@ -88,7 +94,8 @@ module _ (d : ℕ → Bool) where
 module _ (d : ℕ → Bool) (k : ℕ) (t : Tree) (over after : List Tree) (m : Met d (t ∷ over)) (v : Unmet d after) where
   -- the whole plan has the parts of the layout, with the met peaks in their place
   abbrev pub IsFlat : Bagging → List Tree → Type 0
-  IsFlat bagging before = (p : Plan) → root_plan bagging k (before ++ (t ∷ over ++ after)) ≡ Some p → flat d p ≡ parts_before bagging k before ++ (map peak (t ∷ over) ++ parts_after bagging k (length before + suc (length over)) after)
+  IsFlat bagging before = (p : Plan) → root_plan bagging k (before ++ (t ∷ over ++ after)) ≡ Some p → flat d p ≡ parts_before bagging k before
+      ++ (map peak (t ∷ over) ++ parts_after bagging k (length before + suc (length over)) after)
 
   all_single : map peak over ++ map peak after ≡ map peak over ++ (map peak after ++ [])
   all_single = ap (λ z. map peak over ++ z) (sym (append-nil (map peak after)))
@@ -103,7 +110,8 @@ module _ (d : ℕ → Bool) (k : ℕ) (t : Tree) (over after : List Tree) (m : M
   flat_fore [] u p e = flat_some p (left_fold_plan (peak t) 1 (over ++ after)) _ e (flat_left_fold d (peak t) 1 (over ++ after) m.0 ∙ ap (λ z. peak t ∷ z) (map-append peak over after ∙ all_single))
   flat_fore (b ∷ bs) u p e = flat_some p (left_fold_plan (peak b) 1 (bs ++ (t ∷ over ++ after))) _ e
       (ap (flat d) (left_fold_append d (peak b) 1 bs (t ∷ (over ++ after)))
-      ∙ flat_left_fold d (folding (PrefixFold (1 + length bs)) (left_fold_plan (peak b) 1 bs) (peak t)) (suc (1 + length bs)) (over ++ after) (or_right (meets d (left_fold_plan (peak b) 1 bs)) (tree_meets d t) m.0)
+      ∙ flat_left_fold d (folding (PrefixFold (1 + length bs)) (left_fold_plan (peak b) 1 bs) (peak t)) (suc (1 + length bs)) (over ++ after)
+      (or_right (meets d (left_fold_plan (peak b) 1 bs)) (tree_meets d t) m.0)
       ∙ ap₂ ◌++◌ (left_fold_reach d b bs t u m.0) (map-append peak over after ∙ all_single))
 
   before_cons : (b : Tree) (bs : List Tree) → parts_before BackwardFold k (b ∷ bs) ≡ left_fold_plan (peak b) 1 (take (pred k) bs) ∷ map peak (drop (pred k) bs)
@@ -142,9 +150,11 @@ module _ (d : ℕ → Bool) (k : ℕ) (t : Tree) (over after : List Tree) (m : M
       let acc = folding (PrefixFold (1 + length bs)) (left_fold_plan (peak b) 1 bs) (peak t) in
       flat_some p (with_right_fold_plan (left_fold_plan (peak b) 1 (take (pred k) (bs ++ (t ∷ over ++ after)))) (suc (pred k)) (drop (pred k) (bs ++ (t ∷ over ++ after)))) _ e
       (ap₂ (λ x y. flat d (with_right_fold_plan (left_fold_plan (peak b) 1 x) (suc (pred k)) y))
-      (ap (λ z. take z (bs ++ (t ∷ over ++ after))) far ∙ take-append-add bs (t ∷ over ++ after) (suc n)) (ap (λ z. drop z (bs ++ (t ∷ over ++ after))) far ∙ drop-append-add bs (t ∷ over ++ after) (suc n))
+      (ap (λ z. take z (bs ++ (t ∷ over ++ after))) far ∙ take-append-add bs (t ∷ over ++ after) (suc n))
+      (ap (λ z. drop z (bs ++ (t ∷ over ++ after))) far ∙ drop-append-add bs (t ∷ over ++ after) (suc n))
       ∙ ap (λ z. flat d (with_right_fold_plan z (suc (pred k)) (drop n (over ++ after)))) (left_fold_append d (peak b) 1 bs (t ∷ take n (over ++ after)))
-      ∙ flat_on d acc (suc (1 + length bs)) (suc (pred k)) (met + (k - met)) n (k - met) over after (or_right (meets d (left_fold_plan (peak b) 1 bs)) (tree_meets d t) m.0) m.1 v (omega (arith, l)) (omega (arith, l))
+      ∙ flat_on d acc (suc (1 + length bs)) (suc (pred k)) (met + (k - met)) n (k - met) over after
+      (or_right (meets d (left_fold_plan (peak b) 1 bs)) (tree_meets d t) m.0) m.1 v (omega (arith, l)) (omega (arith, l))
       ∙ ap (λ z. z ++ (map peak over ++ rest_of (k - met) (met + (k - met)))) (left_fold_reach d b bs t u m.0)
       ∙ ap (λ z. z ++ (map peak (t ∷ over) ++ rest_of (k - met) (met + (k - met))))
       (sym (before_cons b bs ∙ ap₂ (λ x y. left_fold_plan (peak b) 1 x ∷ map peak y) (take_all (pred k) bs (omega (arith, l))) (drop_of_length-le bs (omega (arith, l))))))

@@ -1,5 +1,6 @@
 -- What the parts of a plan give, one after another.
-use Rattle.std.proofs.Common.{◌≡◌, ℕ, suc, Bool, true, false, cond, ◌||◌, ◌+◌, ◌≤◌, List, [], ◌∷◌, ◌++◌, refl, ap, ap₂, sym, ◌∙◌, ⊎_elim, arith, length, map, flat_map, take, drop, append_assoc, append-nil, length-append, drop-drop, fold, take_at}
+use Rattle.std.proofs.Common.{◌≡◌, ℕ, suc, Bool, true, false, cond, ◌||◌, ◌+◌, ◌≤◌, List, [], ◌∷◌, ◌++◌, refl, ap, ap₂, sym, ◌∙◌, ⊎_elim, arith, length, map}
+use Rattle.std.proofs.Common.{flat_map, take, drop, append_assoc, append-nil, length-append, drop-drop, fold, take_at}
 use Rattle.std.specs.Option.{option_to_list}
 use Rattle.std.proofs.lemmas.Bool.{or_right, or_left, or_cases}
 use Rattle.merkle_base.specs.Tree.{Tree, leaf, join}
@@ -35,17 +36,21 @@ module _ (c d : ℕ → Bool) (within : (i : ℕ) → d i ≡ true → c i ≡ t
 
 -- what sides give stands in what a met folding gives
 abbrev pub Splits : {D : Type 0} → (c d : ℕ → Bool) → (Plan → List D → List D → List D) → Type 0
-Splits {D} c d sub = (q : Place) (l r : Plan) (os is : List D) → meets d l || meets d r ≡ true → sub (folding q l r) os is ≡ sub l os is ++ sub r (drop (length (outside_parts c l)) os) (drop (length (path_siblings c l)) is)
+Splits {D} c d sub = (q : Place) (l r : Plan) (os is : List D) → meets d l || meets d r ≡ true → sub (folding q l r) os is ≡ sub l os is
+    ++ sub r (drop (length (outside_parts c l)) os) (drop (length (path_siblings c l)) is)
 
 module _ {D : Type 0} (c d : ℕ → Bool) (within : (i : ℕ) → d i ≡ true → c i ≡ true) (sub : Plan → List D → List D → List D) (splits : Splits c d sub) where
   after_folding : (q : Place) (l r : Plan) (qs : List Plan) (os is : List D) → meets c l || meets c r ≡ true
       → gathered c sub qs (drop (length (outside_parts c (folding q l r))) os) (drop (length (path_siblings c (folding q l r))) is)
       ≡ gathered c sub qs (drop (length (outside_parts c r)) (drop (length (outside_parts c l)) os)) (drop (length (path_siblings c r)) (drop (length (path_siblings c l)) is))
   after_folding q l r qs os is m = ap₂ (gathered c sub qs)
-      (ap (λ z. drop (length (cond z (outside_parts c l ++ outside_parts c r) (folding q l r ∷ []))) os) m ∙ ap (λ n. drop n os) (length-append (outside_parts c l) (outside_parts c r)) ∙ sym (drop-drop (length (outside_parts c r)) (length (outside_parts c l)) os))
-      (ap (λ z. drop (length (cond z (path_siblings c l ++ path_siblings c r) [])) is) m ∙ ap (λ n. drop n is) (length-append (path_siblings c l) (path_siblings c r)) ∙ sym (drop-drop (length (path_siblings c r)) (length (path_siblings c l)) is))
+      (ap (λ z. drop (length (cond z (outside_parts c l ++ outside_parts c r) (folding q l r ∷ []))) os) m
+      ∙ ap (λ n. drop n os) (length-append (outside_parts c l) (outside_parts c r)) ∙ sym (drop-drop (length (outside_parts c r)) (length (outside_parts c l)) os))
+      (ap (λ z. drop (length (cond z (path_siblings c l ++ path_siblings c r) [])) is) m
+      ∙ ap (λ n. drop n is) (length-append (path_siblings c l) (path_siblings c r)) ∙ sym (drop-drop (length (path_siblings c r)) (length (path_siblings c l)) is))
 
-  gathered_under : (ps qs rs : List Plan) → ((os is : List D) → gathered c sub qs os is ≡ gathered c sub rs os is) → (os is : List D) → gathered c sub (ps ++ qs) os is ≡ gathered c sub (ps ++ rs) os is
+  gathered_under : (ps qs rs : List Plan) → ((os is : List D) → gathered c sub qs os is ≡ gathered c sub rs os is) → (os is : List D)
+      → gathered c sub (ps ++ qs) os is ≡ gathered c sub (ps ++ rs) os is
   gathered_under [] qs rs e os is = e os is
   gathered_under (p ∷ ps) qs rs e os is = ap (λ z. sub p os is ++ z) (gathered_under ps qs rs e (drop (length (outside_parts c p)) os) (drop (length (path_siblings c p)) is))
 
@@ -66,10 +71,12 @@ abbrev pub Gives : {D : Type 0} → (ℕ → Bool) → (Plan → List D → List
 Gives c sub ps os is vs os' is' = (qs : List Plan) → gathered c sub (ps ++ qs) os is ≡ vs ++ gathered c sub qs os' is'
 
 module _ {D : Type 0} (c : ℕ → Bool) (sub : Plan → List D → List D → List D) where
-  pub gives_both : (ps ps' : List Plan) (os is vs os' is' vs' os'' is'' : List D) → Gives c sub ps os is vs os' is' → Gives c sub ps' os' is' vs' os'' is'' → Gives c sub (ps ++ ps') os is (vs ++ vs') os'' is''
+  pub gives_both : (ps ps' : List Plan) (os is vs os' is' vs' os'' is'' : List D) → Gives c sub ps os is vs os' is'
+      → Gives c sub ps' os' is' vs' os'' is'' → Gives c sub (ps ++ ps') os is (vs ++ vs') os'' is''
   gives_both ps ps' os is vs os' is' vs' os'' is'' u v = λ qs. ap (λ z. gathered c sub z os is) (append_assoc ps ps' qs) ∙ u (ps' ++ qs) ∙ ap (λ z. vs ++ z) (v qs) ∙ sym (append_assoc vs vs' _)
 
-  pub gives_one : (p : Plan) (os is vs os' is' : List D) → sub p os is ≡ vs → drop (length (outside_parts c p)) os ≡ os' → drop (length (path_siblings c p)) is ≡ is' → Gives c sub (p ∷ []) os is vs os' is'
+  pub gives_one : (p : Plan) (os is vs os' is' : List D) → sub p os is ≡ vs → drop (length (outside_parts c p)) os ≡ os'
+      → drop (length (path_siblings c p)) is ≡ is' → Gives c sub (p ∷ []) os is vs os' is'
   gives_one p os is vs os' is' e f g = λ qs. ap₂ ◌++◌ e (ap₂ (gathered c sub qs) f g)
 
 -- the state after met peaks
@@ -110,7 +117,9 @@ module _ {D : Type 0} (h : Hashing D) (c d : ℕ → Bool) (X : ℕ → D) (sub 
 
   met_values : (ts : List Tree) (os is : List D) → Met c ts → part_values h c X (map peak ts) os is ≡ peak_values h c X ts is
   met_values [] os is m = refl
-  met_values (t ∷ ts) os is m = ap₂ (λ x y. x ∷ y) (value_peak t os is m.0) (ap₂ (part_values h c X (map peak ts)) (outside_parts_met t os m.0) (inner_met t is m.0) ∙ met_values ts os (drop (length (siblings c t)) is) m.1)
+  met_values (t ∷ ts) os is m =
+      ap₂ (λ x y. x ∷ y) (value_peak t os is m.0)
+      (ap₂ (part_values h c X (map peak ts)) (outside_parts_met t os m.0) (inner_met t is m.0) ∙ met_values ts os (drop (length (siblings c t)) is) m.1)
 
   -- ---- the folded prefix
   outside_parts_fold : (acc : Plan) (i : ℕ) (ts : List Tree) → meets c acc ≡ true → Met c ts → outside_parts c (left_fold_plan acc i ts) ≡ outside_parts c acc
@@ -121,18 +130,23 @@ module _ {D : Type 0} (h : Hashing D) (c d : ℕ → Bool) (X : ℕ → D) (sub 
       ∙ ap (λ z. cond z (outside_parts c acc ++ outside_parts c (peak t)) (folding (PrefixFold i) acc (peak t) ∷ [])) w
       ∙ ap (λ z. outside_parts c acc ++ cond z [] (peak t ∷ [])) m.0 ∙ append-nil (outside_parts c acc)
 
-  past_fold : (acc : Plan) (i : ℕ) (ts : List Tree) (is : List D) → meets c acc ≡ true → Met c ts → drop (length (path_siblings c (left_fold_plan acc i ts))) is ≡ past c ts (drop (length (path_siblings c acc)) is)
+  past_fold : (acc : Plan) (i : ℕ) (ts : List Tree) (is : List D) → meets c acc ≡ true → Met c ts
+      → drop (length (path_siblings c (left_fold_plan acc i ts))) is ≡ past c ts (drop (length (path_siblings c acc)) is)
   past_fold acc i [] is e m = refl
   past_fold acc i (t ∷ ts) is e m =
       let w = or_left (meets c acc) (tree_meets c t) e in
       past_fold (folding (PrefixFold i) acc (peak t)) (suc i) ts is w m.1
-      ∙ ap (past c ts) (ap (λ z. drop (length (cond z (path_siblings c acc ++ path_siblings c (peak t)) [])) is) w ∙ ap (λ n. drop n is) (length-append (path_siblings c acc) (path_siblings c (peak t))) ∙ sym (drop-drop (length (path_siblings c (peak t))) (length (path_siblings c acc)) is)
+      ∙ ap (past c ts) (ap (λ z. drop (length (cond z (path_siblings c acc ++ path_siblings c (peak t)) [])) is) w
+      ∙ ap (λ n. drop n is) (length-append (path_siblings c acc) (path_siblings c (peak t)))
+      ∙ sym (drop-drop (length (path_siblings c (peak t))) (length (path_siblings c acc)) is)
       ∙ inner_met t (drop (length (path_siblings c acc)) is) m.0)
 
   fold_given : (b : Tree) (bs : List Tree) (e : D) (os is : List D) → Unmet c (b ∷ bs) → Unmet d (b ∷ bs) → Gives c sub (left_fold_plan (peak b) 1 bs ∷ []) (e ∷ os) is (g e) os is
   fold_given b bs e os is u w =
       let low = left_fold_unmet c (peak b) 1 bs u.0 u.1 in
-      gives_one c sub (left_fold_plan (peak b) 1 bs) (e ∷ os) is (g e) os is (apart (left_fold_plan (peak b) 1 bs) (e ∷ os) is (left_fold_unmet d (peak b) 1 bs w.0 w.1) ∙ ap (λ z. g (value h z)) (claim_unmet h c X (left_fold_plan (peak b) 1 bs) (e ∷ os) is low))
+      gives_one c sub (left_fold_plan (peak b) 1 bs) (e ∷ os) is (g e) os is
+      (apart (left_fold_plan (peak b) 1 bs) (e ∷ os) is (left_fold_unmet d (peak b) 1 bs w.0 w.1)
+      ∙ ap (λ z. g (value h z)) (claim_unmet h c X (left_fold_plan (peak b) 1 bs) (e ∷ os) is low))
       (ap (λ z. drop (length z) (e ∷ os)) (outside_parts_unmet c (left_fold_plan (peak b) 1 bs) low)) (ap (λ z. drop (length z) is) (inner_unmet c (left_fold_plan (peak b) 1 bs) low))
 
   fold_own : (t : Tree) (ts : List Tree) (os is : List D) → Met c (t ∷ ts) → Unmet d (t ∷ ts)
@@ -140,12 +154,15 @@ module _ {D : Type 0} (h : Hashing D) (c d : ℕ → Bool) (X : ℕ → D) (sub 
   fold_own t ts os is m w =
       gives_one c sub (left_fold_plan (peak t) 1 ts) os is (g (fold h.fold (value h (tree_claim h c X t is)) (peak_values h c X ts (drop (length (siblings c t)) is)))) os (past c (t ∷ ts) is)
       (apart (left_fold_plan (peak t) 1 ts) os is (left_fold_unmet d (peak t) 1 ts w.0 w.1)
-      ∙ ap g (value_left_fold h c X (peak t) 1 ts os is m.0 ∙ ap₂ (fold h.fold) (value_peak t os is m.0) (ap₂ (part_values h c X (map peak ts)) (outside_parts_met t os m.0) (inner_met t is m.0) ∙ met_values ts os (drop (length (siblings c t)) is) m.1)))
+      ∙ ap g (value_left_fold h c X (peak t) 1 ts os is m.0
+      ∙ ap₂ (fold h.fold) (value_peak t os is m.0)
+      (ap₂ (part_values h c X (map peak ts)) (outside_parts_met t os m.0) (inner_met t is m.0) ∙ met_values ts os (drop (length (siblings c t)) is) m.1)))
       (ap (λ z. drop (length z) os) (outside_parts_fold (peak t) 1 ts m.0 m.1) ∙ outside_parts_met t os m.0)
       (past_fold (peak t) 1 ts is m.0 m.1 ∙ ap (past c ts) (inner_met t is m.0))
 
   fold_more : (b : Tree) (bs : List Tree) (t : Tree) (ts : List Tree) (e : D) (os is : List D) → Unmet c (b ∷ bs) → Met c (t ∷ ts) → Unmet d (b ∷ bs) → Unmet d (t ∷ ts)
-      → Gives c sub (left_fold_plan (peak b) 1 (bs ++ t ∷ ts) ∷ []) (e ∷ os) is (g (fold h.fold (h.fold e (value h (tree_claim h c X t is))) (peak_values h c X ts (drop (length (siblings c t)) is)))) os (past c (t ∷ ts) is)
+      → Gives c sub (left_fold_plan (peak b) 1 (bs ++ t ∷ ts) ∷ []) (e ∷ os) is
+      (g (fold h.fold (h.fold e (value h (tree_claim h c X t is))) (peak_values h c X ts (drop (length (siblings c t)) is)))) os (past c (t ∷ ts) is)
   fold_more b bs t ts e os is u m w x =
       let q = PrefixFold (1 + length bs) in
       let acc = left_fold_plan (peak b) 1 bs in
@@ -158,7 +175,8 @@ module _ {D : Type 0} (h : Hashing D) (c d : ℕ → Bool) (X : ℕ → D) (sub 
       let two : value h (claim h c X (folding q acc (peak t)) (e ∷ os) is) ≡ h.fold e (value h (tree_claim h c X t is)) =
       value_folding h c X q acc (peak t) (e ∷ os) is met
       ∙ ap₂ h.fold (ap (value h) (claim_unmet h c X acc (e ∷ os) is low)) (ap₂ (λ y z. value h (claim h c X (peak t) y z)) out inn ∙ value_peak t os is m.0) in
-      let rest : part_values h c X (map peak ts) (drop (length (outside_parts c (folding q acc (peak t)))) (e ∷ os)) (drop (length (path_siblings c (folding q acc (peak t)))) is) ≡ peak_values h c X ts is' =
+      let rest : part_values h c X (map peak ts) (drop (length (outside_parts c (folding q acc (peak t)))) (e ∷ os))
+      (drop (length (path_siblings c (folding q acc (peak t)))) is) ≡ peak_values h c X ts is' =
       values_folding h c X q acc (peak t) (map peak ts) (e ∷ os) is met
       ∙ ap₂ (λ y z. part_values h c X (map peak ts) (drop (length (outside_parts c (peak t))) y) (drop (length (path_siblings c (peak t))) z)) out inn
       ∙ ap₂ (part_values h c X (map peak ts)) (outside_parts_met t os m.0) (inner_met t is m.0) ∙ met_values ts os is' m.1 in
@@ -169,7 +187,8 @@ module _ {D : Type 0} (h : Hashing D) (c d : ℕ → Bool) (X : ℕ → D) (sub 
       (ap (λ z. drop (length z) (e ∷ os)) (outside_parts_fold (folding q acc (peak t)) n ts met m.1
       ∙ ap (λ z. cond z (outside_parts c acc ++ outside_parts c (peak t)) (folding q acc (peak t) ∷ [])) met ∙ ap₂ ◌++◌ (outside_parts_unmet c acc low) (ap (λ z. cond z [] (peak t ∷ [])) m.0)))
       (past_fold (folding q acc (peak t)) n ts is met m.1
-      ∙ ap (past c ts) (ap (λ z. drop (length (cond z (path_siblings c acc ++ path_siblings c (peak t)) [])) is) met ∙ ap₂ (λ y z. drop (length (y ++ z)) is) (inner_unmet c acc low) (ap (λ z. cond z (siblings c t) []) m.0)))
+      ∙ ap (past c ts) (ap (λ z. drop (length (cond z (path_siblings c acc ++ path_siblings c (peak t)) [])) is) met
+      ∙ ap₂ (λ y z. drop (length (y ++ z)) is) (inner_unmet c acc low) (ap (λ z. cond z (siblings c t) []) m.0)))
       qs
 
   -- the fold of unmet peaks, of which es has the digest, and of met ones after them
@@ -180,7 +199,8 @@ module _ {D : Type 0} (h : Hashing D) (c d : ℕ → Bool) (X : ℕ → D) (sub 
   gives_fold [] ts (e ∷ es) os is u m w x l = absurd (omega (arith, l))
   gives_fold (b ∷ bs) ts [] os is u m w x l = absurd (omega (arith, l))
   gives_fold (b ∷ bs) ts (e ∷ f ∷ es) os is u m w x l = absurd (omega (arith, l))
-  gives_fold (b ∷ bs) [] (e ∷ []) os is u m w x l = λ qs. ap (λ z. gathered c sub (left_fold_plan (peak b) 1 z ∷ qs) (e ∷ os) is) (append-nil bs) ∙ fold_given b bs e os is u w qs ∙ ap (λ z. z ++ gathered c sub qs os is) (sym (append-nil (g e)))
+  gives_fold (b ∷ bs) [] (e ∷ []) os is u m w x l = λ qs. ap (λ z. gathered c sub (left_fold_plan (peak b) 1 z ∷ qs) (e ∷ os) is) (append-nil bs)
+      ∙ fold_given b bs e os is u w qs ∙ ap (λ z. z ++ gathered c sub qs os is) (sym (append-nil (g e)))
   gives_fold (b ∷ bs) (t ∷ ts) (e ∷ []) os is u m w x l = λ qs. fold_more b bs t ts e os is u m w x qs ∙ ap (λ z. z ++ gathered c sub qs os (past c (t ∷ ts) is)) (sym (append-nil _))
 
   -- ---- the suffix
@@ -195,7 +215,9 @@ module _ {D : Type 0} (h : Hashing D) (c d : ℕ → Bool) (X : ℕ → D) (sub 
   gives_right_fold j [] [] (e ∷ es) os is m u w l = absurd (omega (arith, l))
   gives_right_fold j [] (v ∷ vs) [] os is m u w l = absurd (omega (arith, l))
   gives_right_fold j [] (v ∷ vs) (e ∷ f ∷ es) os is m u w l = absurd (omega (arith, l))
-  gives_right_fold j [] (v ∷ vs) (e ∷ []) os is m u w l = ap (λ z. z ++ []) (apart (right_fold_plan j v vs) (e ∷ os) is (right_fold_unmet d j v vs w) ∙ ap (λ z. g (value h z)) (claim_unmet h c X (right_fold_plan j v vs) (e ∷ os) is (right_fold_unmet c j v vs u)))
+  gives_right_fold j [] (v ∷ vs) (e ∷ []) os is m u w l =
+      ap (λ z. z ++ []) (apart (right_fold_plan j v vs) (e ∷ os) is (right_fold_unmet d j v vs w)
+      ∙ ap (λ z. g (value h z)) (claim_unmet h c X (right_fold_plan j v vs) (e ∷ os) is (right_fold_unmet c j v vs u)))
   gives_right_fold j (t ∷ ts) us es os is m u w l =
       let qs = bag_all (suc j) us in
       let count : length (bag_all (suc j) us) ≡ length es = length-bag_all (suc j) us ∙ sym (length-bag_all 0 us) ∙ sym l in

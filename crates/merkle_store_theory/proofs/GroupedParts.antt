@@ -70,7 +70,8 @@ module _ (c : ℕ → Bool) where
   met_right (x ∷ xs) ys u = met_right xs ys u.1
 
 -- ---- what the parts give
-module _ {D : Type 0} (h : Hashing D) (c d : ℕ → Bool) (within : (i : ℕ) → d i ≡ true → c i ≡ true) (X : ℕ → D) (sub : Plan → List D → List D → List D) (splits : Splits c d sub) (g : D → List D) (m : Tree → List D → List D)
+module _ {D : Type 0} (h : Hashing D) (c d : ℕ → Bool) (within : (i : ℕ) → d i ≡ true → c i ≡ true) (X : ℕ → D)
+    (sub : Plan → List D → List D → List D) (splits : Splits c d sub) (g : D → List D) (m : Tree → List D → List D)
     (apart : (p : Plan) (os is : List D) → meets d p ≡ false → sub p os is ≡ g (value h (claim h c X p os is)))
     (within_met : (t : Tree) (os is : List D) → tree_meets d t ≡ true → sub (peak t) os is ≡ m t is) where
   gives_over : (ts : List Tree) (os is : List D) → Met d ts → Gives c sub (map peak ts) os is (over_given c m ts is) os (past c ts is)

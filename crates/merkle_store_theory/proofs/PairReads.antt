@@ -1,5 +1,6 @@
 -- What is read from the pairs of an accepted input.
-use Rattle.std.proofs.Common.{◌≡◌, ℕ, Bool, true, cond, ◌||◌, List, [], ◌∷◌, ◌++◌, inl, inr, refl, ap, ap₂, sym, ◌∙◌, subst, ⊎_elim, arith, length, map, flat_map, drop, Some, None, unwrap_or, append_assoc}
+use Rattle.std.proofs.Common.{◌≡◌, ℕ, Bool, true, cond, ◌||◌, List, [], ◌∷◌, ◌++◌, inl, inr, refl, ap, ap₂, sym, ◌∙◌, subst, ⊎_elim, arith, length, map}
+use Rattle.std.proofs.Common.{flat_map, drop, Some, None, unwrap_or, append_assoc}
 use Rattle.std.specs.List.{AllByRecursion}
 use Rattle.std.specs.Option.{option_map_or}
 use Rattle.std.proofs.lemmas.List.{map-append}
@@ -49,7 +50,8 @@ module _ {D : Type 0} (h : Hashing D) (pairs : List (ℕ × D)) (once : Distinct
 
   pub none_lacking : (ts : List Tree) → AllByRecursion IsHeld ts → first_lacking (found_at pairs) (map position ts) ≡ None
   none_lacking [] a = refl
-  none_lacking (t ∷ ts) a = ap (λ o. option_map_or (λ (d : D). first_lacking (found_at pairs) (map position ts)) o (Some (position t))) (found pairs (position t, a.0.0) once a.0.1) ∙ none_lacking ts a.1
+  none_lacking (t ∷ ts) a = ap (λ o. option_map_or (λ (d : D). first_lacking (found_at pairs) (map position ts)) o (Some (position t)))
+      (found pairs (position t, a.0.0) once a.0.1) ∙ none_lacking ts a.1
 
   -- ---- peaks that stand alone
   pub given_read : (ts : List Tree) (es rest : List D) → length es ≡ length ts → Among (single_pairs h ts (es ++ rest)) → es ≡ map read ts
@@ -98,7 +100,8 @@ module _ {D : Type 0} (h : Hashing D) (pairs : List (ℕ × D)) (once : Distinct
   -- ---- the siblings under them
   module _ (d : ℕ → Bool) (within : (i : ℕ) → d i ≡ true → c i ≡ true) where
     own_inner : (t : Tree) (ts : List Tree) (is : List D) → Own (t ∷ ts) is → Among h pairs once (inner_pairs h c X t is ++ (position t, value h (tree_claim h c X t is)) ∷ [])
-    own_inner t ts is f = λ x m. ⊎_elim (λ w. f x (member_left (inner_pairs h c X t is) _ x w)) (λ w. ⊎_elim (λ e. f x (member_right (inner_pairs h c X t is) _ x (inl e))) (λ z. elim z [ ]) w) (member_split (inner_pairs h c X t is) _ x m)
+    own_inner t ts is f = λ x m. ⊎_elim (λ w. f x (member_left (inner_pairs h c X t is) _ x w))
+        (λ w. ⊎_elim (λ e. f x (member_right (inner_pairs h c X t is) _ x (inl e))) (λ z. elim z [ ]) w) (member_split (inner_pairs h c X t is) _ x m)
 
     pub siblings_read : (ts : List Tree) (is : List D) → Own ts is → over_given c (sub_siblings h c d X) ts is ≡ map (read h pairs once) (flat_map (siblings d) ts)
     siblings_read [] is f = refl
@@ -116,8 +119,10 @@ module _ {D : Type 0} (h : Hashing D) (pairs : List (ℕ × D)) (once : Distinct
         by_test (λ b. AllByRecursion (IsHeld h pairs once) (cond b (siblings d l ++ siblings d r) (join p l r ∷ []))) (tree_meets d l || tree_meets d r)
         (λ q. let g = subst (λ z. Among h pairs once (cond z (inner_pairs h c X l ds ++ (inner_pairs h c X r rest ++ last)) [])) (meets_within c d within (join p l r) q) f in
         all_append (IsHeld h pairs once) (siblings d l) (siblings d r)
-        (tree_held l ds (λ x m. g x (member_left (inner_pairs h c X l ds) _ x m)) (vl, g (position l, vl) (member_right (inner_pairs h c X l ds) _ _ (member_right (inner_pairs h c X r rest) last _ (inl refl)))))
-        (tree_held r rest (λ x m. g x (member_right (inner_pairs h c X l ds) _ x (member_left (inner_pairs h c X r rest) last x m))) (vr, g (position r, vr) (member_right (inner_pairs h c X l ds) _ _ (member_right (inner_pairs h c X r rest) last _ (inr (inl refl)))))))
+        (tree_held l ds (λ x m. g x (member_left (inner_pairs h c X l ds) _ x m))
+        (vl, g (position l, vl) (member_right (inner_pairs h c X l ds) _ _ (member_right (inner_pairs h c X r rest) last _ (inl refl)))))
+        (tree_held r rest (λ x m. g x (member_right (inner_pairs h c X l ds) _ x (member_left (inner_pairs h c X r rest) last x m)))
+        (vr, g (position r, vr) (member_right (inner_pairs h c X l ds) _ _ (member_right (inner_pairs h c X r rest) last _ (inr (inl refl)))))))
         (λ _. (e, tt))
 
     pub siblings_held : (ts : List Tree) (is : List D) → Own ts is → AllByRecursion (IsHeld h pairs once) (flat_map (siblings d) ts)

@@ -1,5 +1,6 @@
 -- A store's proof and its refusals by positions.
-use Rattle.std.proofs.Common.{◌≡◌, ℕ, ◌+◌, ◌-◌, ◌&&◌, ◌<◌, ⊎_elim, nat_lt, cond, List, [], ◌∷◌, ◌++◌, refl, ap, ap₂, sym, ◌∙◌, subst, arith, length, map, reverse, take, drop, Some, None, slice_get, append_assoc, length-append, lt-ltb, le-ltb}
+use Rattle.std.proofs.Common.{◌≡◌, ℕ, ◌+◌, ◌-◌, ◌&&◌, ◌<◌, ⊎_elim, nat_lt, cond, List, [], ◌∷◌, ◌++◌, refl, ap, ap₂, sym, ◌∙◌, subst, arith, length, map}
+use Rattle.std.proofs.Common.{reverse, take, drop, Some, None, slice_get, append_assoc, length-append, lt-ltb, le-ltb}
 use Rattle.std.specs.Option.{option_to_list, option_or}
 use Rattle.std.proofs.lemmas.Bool.{cases_lt, and_right}
 use Rattle.std.proofs.lemmas.List.{take-map, drop-map, map-append, length-map, reverse-append}
@@ -16,8 +17,11 @@ use Rattle.merkle_root_theory.specs.Range.{wholly_after, range_siblings}
 use Rattle.merkle_root_theory.specs.Reads.{nodes_read}
 use Rattle.merkle_claim_theory.specs.Store.{read_pair}
 use Rattle.merkle_store_theory.specs.StoreValue.{StoreValue}
-use Rattle.merkle_store_theory.specs.StoreProof.{found_at, held_prefix, asked_prefix, asked_met, asked_suffix, suffix_front, read_nodes, prefix_part, suffix_part, prefix_refusal, first_reaching, first_lacking, ends_with, suffix_lacking, suffix_refusal, store_proof, store_refusal}
-use Rattle.merkle_store_theory.specs.StoreReads.{Counts, AreCounts, single_reads, suffix_reads, sibling_reads, read_at, prefix_at, suffix_at, proof_at, lacking_at, suffix_refusal_at, refusal_at, ReadsByPosition}
+use Rattle.merkle_store_theory.specs.StoreProof.{found_at, held_prefix, asked_prefix, asked_met, asked_suffix, suffix_front, read_nodes, prefix_part}
+use Rattle.merkle_store_theory.specs.StoreProof.{suffix_part, prefix_refusal, first_reaching, first_lacking, ends_with, suffix_lacking, suffix_refusal}
+use Rattle.merkle_store_theory.specs.StoreProof.{store_proof, store_refusal}
+use Rattle.merkle_store_theory.specs.StoreReads.{Counts, AreCounts, single_reads, suffix_reads, sibling_reads, read_at, prefix_at, suffix_at, proof_at}
+use Rattle.merkle_store_theory.specs.StoreReads.{lacking_at, suffix_refusal_at, refusal_at, ReadsByPosition}
 use Rattle.merkle_store_theory.proofs.GroupedParts.{before_whole, after_whole}
 use Rattle.merkle_store_theory.proofs.StoreHolds.{prefix_reach}
 
@@ -35,7 +39,8 @@ module _ {D : Type 0} (h : Hashing D) (v : StoreValue D) where
 
   prefix_by : (held : ℕ) (ts : List Tree) → prefix_part h v held ts ≡ prefix_at h v held (map position ts)
   prefix_by held [] = refl
-  prefix_by held (t ∷ ts) = ap (λ z. option_to_list (root.folded h.fold ForwardFold 0 (option_to_list v.prefix ++ z))) (read_all (drop held (t ∷ ts)) ∙ ap (read_at h v) (sym (drop-map position held (t ∷ ts))))
+  prefix_by held (t ∷ ts) = ap (λ z. option_to_list (root.folded h.fold ForwardFold 0 (option_to_list v.prefix ++ z)))
+      (read_all (drop held (t ∷ ts)) ∙ ap (read_at h v) (sym (drop-map position held (t ∷ ts))))
 
   front_by : (ts : List Tree) → map position (suffix_front v ts) ≡ take (length (map position ts) - length v.suffix_peaks) (map position ts)
   front_by ts = sym (take-map position (length ts - length v.suffix_peaks) ts) ∙ ap (λ z. take (z - length v.suffix_peaks) (map position ts)) (sym (length-map ts position))
@@ -140,13 +145,16 @@ module _ {D : Type 0} (s : Scheme D) (v : StoreValue D) (a b : ℕ) (n : Counts)
   prefix_refusal_by : prefix_refusal a (held_prefix s v) us ≡ cond (nat_lt 0 n.folded && nat_lt n.folded n.held) (slice_get (peak_positions s.rule v.leaves) n.before) None
   prefix_refusal_by = by_asked us refl ∙ ap₂ (λ x y. cond x (slice_get (peak_positions s.rule v.leaves) y) None) (ap₂ (λ x y. nat_lt 0 x && nat_lt x y) (sym c.folded) (sym c.held)) (sym c.before)
     where
-      by_asked : (ps : List Tree) → us ≡ ps → prefix_refusal a (held_prefix s v) ps ≡ cond (nat_lt 0 (length us) && nat_lt (length us) (length (held_prefix s v))) (slice_get (peak_positions s.rule v.leaves) (length (wholly_before a ts))) None
+      by_asked : (ps : List Tree) → us ≡ ps
+          → prefix_refusal a (held_prefix s v) ps
+          ≡ cond (nat_lt 0 (length us) && nat_lt (length us) (length (held_prefix s v))) (slice_get (peak_positions s.rule v.leaves) (length (wholly_before a ts))) None
       by_asked [] e = ap (λ z. cond (nat_lt 0 (length z) && nat_lt (length z) (length (held_prefix s v))) (slice_get (peak_positions s.rule v.leaves) (length (wholly_before a ts))) None) (sym e)
       by_asked (p ∷ ps) e = ⊎_elim
           (λ l. ap (λ z. cond z (first_reaching a (held_prefix s v)) None) (lt-ltb (length (p ∷ ps)) (length (held_prefix s v)) l)
           ∙ prefix_reach v.bagging v.inactive a v.start v.leaves ts (peaks_spans s.rule v.leaves) (subst (λ z. length z < length (held_prefix s v)) (sym e) l)
           ∙ sym (ap (λ z. cond z (slice_get (peak_positions s.rule v.leaves) (length (wholly_before a ts))) None)
-          (ap (λ z. nat_lt 0 (length z) && nat_lt (length z) (length (held_prefix s v))) e ∙ ap₂ ◌&&◌ (lt-ltb 0 (length (p ∷ ps)) (omega arith)) (lt-ltb (length (p ∷ ps)) (length (held_prefix s v)) l))))
+          (ap (λ z. nat_lt 0 (length z) && nat_lt (length z) (length (held_prefix s v))) e
+          ∙ ap₂ ◌&&◌ (lt-ltb 0 (length (p ∷ ps)) (omega arith)) (lt-ltb (length (p ∷ ps)) (length (held_prefix s v)) l))))
           (λ l. ap (λ z. cond z (first_reaching a (held_prefix s v)) None) (le-ltb (length (p ∷ ps)) (length (held_prefix s v)) l)
           ∙ sym (ap (λ z. cond z (slice_get (peak_positions s.rule v.leaves) (length (wholly_before a ts))) None)
           (ap (λ z. nat_lt 0 (length z) && nat_lt (length z) (length (held_prefix s v))) e ∙ and_right _ _ (le-ltb (length (p ∷ ps)) (length (held_prefix s v)) l))))

@@ -1,5 +1,6 @@
 -- The peaks of a range within another.
-use Rattle.std.proofs.Common.{◌≡◌, ℕ, Bool, true, false, cond, ◌&&◌, nat_le, nat_lt, ◌≤◌, ◌<◌, List, [], ◌∷◌, ◌++◌, refl, ap, ap₂, sym, ◌∙◌, arith, filter, le-leb, le-ltb, leb-true, append_assoc, append-nil}
+use Rattle.std.proofs.Common.{◌≡◌, ℕ, Bool, true, false, cond, ◌&&◌, nat_le, nat_lt, ◌≤◌, ◌<◌, List, [], ◌∷◌, ◌++◌, refl, ap, ap₂, sym, ◌∙◌, arith, filter}
+use Rattle.std.proofs.Common.{le-leb, le-ltb, leb-true, append_assoc, append-nil}
 use Rattle.std.proofs.lemmas.Bool.{lt-leb, and_left, and_right}
 use Rattle.std.proofs.lemmas.List.{append_cancel_left, append_cancel_right}
 use Rattle.std.proofs.lemmas.List.Elements.{filter-append}
@@ -56,8 +57,10 @@ module _ (x y a b n : ℕ) (ts : List Tree) (low : x ≤ a) (some : a < b) (high
   pub over_more : overlapping a b ts ≡ still_over
   over_more = in_three (λ t. nat_lt (first_leaf t) b && nat_lt a (end_leaf t))
       ∙ ap₂ (λ u v. u ++ (still_over ++ v))
-      (filter_none (λ t. nat_le (end_leaf t) x) (λ t. nat_lt (first_leaf t) b && nat_lt a (end_leaf t)) ts (λ t e. let l = leb-true (end_leaf t) x e in and_right _ _ (le-ltb a (end_leaf t) (omega (arith, l)))))
-      (filter_none (λ t. nat_le y (first_leaf t)) (λ t. nat_lt (first_leaf t) b && nat_lt a (end_leaf t)) ts (λ t e. let l = leb-true y (first_leaf t) e in and_left _ _ (le-ltb (first_leaf t) b (omega (arith, l)))))
+      (filter_none (λ t. nat_le (end_leaf t) x) (λ t. nat_lt (first_leaf t) b && nat_lt a (end_leaf t)) ts
+      (λ t e. let l = leb-true (end_leaf t) x e in and_right _ _ (le-ltb a (end_leaf t) (omega (arith, l)))))
+      (filter_none (λ t. nat_le y (first_leaf t)) (λ t. nat_lt (first_leaf t) b && nat_lt a (end_leaf t)) ts
+      (λ t e. let l = leb-true y (first_leaf t) e in and_left _ _ (le-ltb (first_leaf t) b (omega (arith, l)))))
       ∙ append-nil still_over
 
   pub after_more : wholly_after b ts ≡ more_after ++ held_after

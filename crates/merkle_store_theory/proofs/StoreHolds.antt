@@ -1,5 +1,7 @@
 -- Where a store refuses nothing, it holds each node that it reads.
-use Rattle.std.proofs.Common.{◌≡◌, ℕ, zero, suc, ◌+◌, ◌-◌, ◌≤◌, ◌<◌, ◌⊎◌, inl, inr, ⊎_elim, Bool, true, false, cond, nat_le, List, [], ◌∷◌, ◌++◌, refl, ap, ap₂, sym, ◌∙◌, subst, arith, length, map, reverse, take, drop, Option, Some, None, slice_get, min, append-nil, length-append, le-leb, lt-ltb}
+use Rattle.std.proofs.Common.{◌≡◌, ℕ, zero, suc, ◌+◌, ◌-◌, ◌≤◌, ◌<◌, ◌⊎◌, inl, inr, ⊎_elim, Bool, true, false, cond, nat_le, List, [], ◌∷◌, ◌++◌, refl, ap, ap₂}
+use Rattle.std.proofs.Common.{sym, ◌∙◌, subst, arith, length, map, reverse, take, drop, Option, Some, None, slice_get, min, append-nil, length-append, le-leb}
+use Rattle.std.proofs.Common.{lt-ltb}
 use Rattle.std.specs.List.{AllByRecursion}
 use Rattle.std.specs.Option.{option_map_or, option_or}
 use Rattle.std.specs.Cmp.Lexicographic.{same_text}
@@ -18,7 +20,8 @@ use Rattle.merkle_root_theory.specs.Outside.{folded_prefix}
 use Rattle.merkle_root_theory.specs.Range.{range_siblings}
 use Rattle.merkle_base.specs.Table.{digest_for}
 use Rattle.merkle_store_theory.specs.StoreValue.{StoreValue}
-use Rattle.merkle_store_theory.specs.StoreProof.{found_at, held_prefix, asked_prefix, asked_single, asked_suffix, suffix_front, prefix_refusal, first_reaching, suffix_lacking, suffix_refusal, first_lacking, ends_with}
+use Rattle.merkle_store_theory.specs.StoreProof.{found_at, held_prefix, asked_prefix, asked_single, asked_suffix, suffix_front, prefix_refusal, first_reaching}
+use Rattle.merkle_store_theory.specs.StoreProof.{suffix_lacking, suffix_refusal, first_lacking, ends_with}
 use Rattle.merkle_store_theory.specs.StoreLaws.{AreHeld, AnsweredIsHeld, IsFirstReaching, ShorterIsRefused, ShorterIsNext}
 use Rattle.merkle_store_theory.proofs.GroupedParts.{prefix_split}
 
@@ -49,7 +52,9 @@ module _ {D : Type 0} (v : StoreValue D) where
     where
       all : length ts - length v.suffix_peaks ≡ length ts
       all = omega (arith, ap length f)
-  suffix_held (p ∷ ps) ts f e = by_test (λ b. cond b (first_lacking (found_at v.pairs) (map position (reverse (suffix_front v ts)))) (Some p) ≡ None → AreHeld v (suffix_front v ts)) (ends_with (map position ts) (p ∷ ps))
+  suffix_held (p ∷ ps) ts f e =
+      by_test (λ b. cond b (first_lacking (found_at v.pairs) (map position (reverse (suffix_front v ts)))) (Some p) ≡ None
+      → AreHeld v (suffix_front v ts)) (ends_with (map position ts) (p ∷ ps))
       (λ _ e. held_back (suffix_front v ts) e) (λ _ e. absurd (nothing e)) e
     where
       nothing : Some p ≡ None → ⊥
@@ -72,7 +77,10 @@ module _ {D : Type 0} (v : StoreValue D) where
   suffix_ends [] ts f e =
       let all : length ts ≡ length ts - length v.suffix_peaks = omega (arith, ap length f) in
       sym (append-nil (map position ts)) ∙ ap₂ (λ y z. map position y ++ z) (sym (take-length ts) ∙ ap (λ n. take n ts) all) (sym f)
-  suffix_ends (p ∷ ps) ts f e = by_test (λ b. ends_with (map position ts) (p ∷ ps) ≡ b → cond b (first_lacking (found_at v.pairs) (map position (reverse (suffix_front v ts)))) (Some p) ≡ None → map position ts ≡ map position (suffix_front v ts) ++ v.suffix_peaks) (ends_with (map position ts) (p ∷ ps))
+  suffix_ends (p ∷ ps) ts f e =
+      by_test (λ b. ends_with (map position ts) (p ∷ ps) ≡ b
+      → cond b (first_lacking (found_at v.pairs) (map position (reverse (suffix_front v ts)))) (Some p) ≡ None
+      → map position ts ≡ map position (suffix_front v ts) ++ v.suffix_peaks) (ends_with (map position ts) (p ∷ ps))
       (λ _ g _. ends_as ts (p ∷ ps) f g) (λ _ _ e. absurd (nothing e)) refl e
     where
       nothing : Some p ≡ None → ⊥
@@ -86,7 +94,11 @@ module _ {D : Type 0} (v : StoreValue D) where
 module _ (a : ℕ) where
   reach_or : (ts : List Tree) → AllByRecursion (λ t. end_leaf t ≤ a) ts ⊎ ((p : ℕ) × (first_reaching a ts ≡ Some p) × IsFirstReaching a ts p)
   reach_or [] = inl tt
-  reach_or (t ∷ ts) = ⊎_elim (λ l. inr (position t, ap (λ b. cond b (first_reaching a ts) (Some (position t))) (lt-leb (end_leaf t) a l), record { before = []; node = t; after = ts; split = refl; wholly = tt; reaches = l; stands = refl }))
+  reach_or (t ∷ ts) = ⊎_elim (λ l. inr (
+    position t,
+    ap (λ b. cond b (first_reaching a ts) (Some (position t))) (lt-leb (end_leaf t) a l),
+    record { before = []; node = t; after = ts; split = refl; wholly = tt; reaches = l; stands = refl },
+  ))
       (λ l. ⊎_elim (λ w. inl (l, w)) (λ w. inr (
         w.0,
         ap (λ b. cond b (first_reaching a ts) (Some (position t))) (le-leb (end_leaf t) a l) ∙ w.1,
@@ -98,7 +110,8 @@ module _ (a : ℕ) where
   counted x zero ts w = omega arith
   counted x (suc n) [] w = omega arith
   counted x (suc n) (t ∷ ts) w =
-      by_test (λ b. AllByRecursion (λ t. end_leaf t ≤ a) (take (suc n) (cond b (t ∷ wholly_before x ts) (wholly_before x ts))) → length (take (suc n) (cond b (t ∷ wholly_before x ts) (wholly_before x ts))) ≤ length (wholly_before a (t ∷ ts))) (nat_le (end_leaf t) x)
+      by_test (λ b. AllByRecursion (λ t. end_leaf t ≤ a) (take (suc n) (cond b (t ∷ wholly_before x ts) (wholly_before x ts)))
+      → length (take (suc n) (cond b (t ∷ wholly_before x ts) (wholly_before x ts))) ≤ length (wholly_before a (t ∷ ts))) (nat_le (end_leaf t) x)
       (λ _ w. let r = counted x n ts w.1 in let e = ap length (filter_yes (λ u. nat_le (end_leaf u) a) t ts (le-leb (end_leaf t) a w.0)) in omega (arith, r, e))
       (λ _ w. let r = counted x (suc n) ts w in let e = longer (nat_le (end_leaf t) a) in omega (arith, r, e)) w
     where
@@ -107,13 +120,17 @@ module _ (a : ℕ) where
       longer false = omega arith
 
 -- where the folded prefix before a is shorter than that before x, a peak of the latter isn't before a
-too_few : (bagging : Bagging) (k a x : ℕ) (ts : List Tree) → length (folded_prefix bagging k (wholly_before a ts)) < length (folded_prefix bagging k (wholly_before x ts)) → AllByRecursion (λ t. end_leaf t ≤ a) (folded_prefix bagging k (wholly_before x ts)) → ⊥
+too_few : (bagging : Bagging) (k a x : ℕ) (ts : List Tree)
+    → length (folded_prefix bagging k (wholly_before a ts)) < length (folded_prefix bagging k (wholly_before x ts))
+    → AllByRecursion (λ t. end_leaf t ≤ a) (folded_prefix bagging k (wholly_before x ts)) → ⊥
 too_few ForwardFold k a x ts l w =
     let whole = take-length (wholly_before x ts) in
     let c = counted a x (length (wholly_before x ts)) ts (subst (AllByRecursion (λ t. end_leaf t ≤ a)) (sym whole) w) in absurd (omega (arith, l, c, ap length whole))
 too_few BackwardFold k a x ts l w = let c = counted a x k ts w in absurd (omega (arith, l, c, length-take k (wholly_before a ts), length-take k (wholly_before x ts)))
 
-shorter_reaches : (bagging : Bagging) (k a x : ℕ) (ts : List Tree) → length (folded_prefix bagging k (wholly_before a ts)) < length (folded_prefix bagging k (wholly_before x ts)) → first_reaching a (folded_prefix bagging k (wholly_before x ts)) ≡ None → ⊥
+shorter_reaches : (bagging : Bagging) (k a x : ℕ) (ts : List Tree)
+    → length (folded_prefix bagging k (wholly_before a ts)) < length (folded_prefix bagging k (wholly_before x ts))
+    → first_reaching a (folded_prefix bagging k (wholly_before x ts)) ≡ None → ⊥
 shorter_reaches bagging k a x ts l e = ⊎_elim (too_few bagging k a x ts l) (λ w. nothing w.0 (sym w.1 ∙ e)) (reach_or a (folded_prefix bagging k (wholly_before x ts)))
   where
     nothing : (p : ℕ) → Some p ≡ None → ⊥
@@ -124,7 +141,9 @@ begin_so : (a x o n : ℕ) (ts : List Tree) → Spans o n ts → length (wholly_
 begin_so a x o n [] c l = ([], refl)
 begin_so a x o n (t ∷ ts) c l = ⊎_elim
     (λ y. (wholly_before a (t ∷ ts), sym (ap (λ z. z ++ wholly_before a (t ∷ ts)) (none_x y))))
-    (λ y. ⊎_elim (λ z. absurd (omega (arith, l, ap length (none_a z), ap length (yes_x y)))) (λ z. let w = begin_so a x (o + width t) n ts c.1 (omega (arith, l, ap length (yes_x y), ap length (yes_a z))) in (w.0, yes_a z ∙ ap (λ u. t ∷ u) w.1 ∙ ap (λ u. u ++ w.0) (sym (yes_x y)))) (cases_lt a (end_leaf t)))
+    (λ y. ⊎_elim (λ z. absurd (omega (arith, l, ap length (none_a z), ap length (yes_x y))))
+    (λ z. let w = begin_so a x (o + width t) n ts c.1 (omega (arith, l, ap length (yes_x y), ap length (yes_a z))) in
+    (w.0, yes_a z ∙ ap (λ u. t ∷ u) w.1 ∙ ap (λ u. u ++ w.0) (sym (yes_x y)))) (cases_lt a (end_leaf t)))
     (cases_lt x (end_leaf t))
   where
     none_x : x < end_leaf t → wholly_before x (t ∷ ts) ≡ []
@@ -140,7 +159,8 @@ begin_so a x o n (t ∷ ts) c l = ⊎_elim
     yes_a y = filter_yes (λ u. nat_le (end_leaf u) a) t ts (le-leb (end_leaf t) a y)
 
 -- one of two lists of them begins with the other
-either_begins : (a x o n : ℕ) (ts : List Tree) → Spans o n ts → ((us : List Tree) × (wholly_before a ts ≡ wholly_before x ts ++ us)) ⊎ ((us : List Tree) × (wholly_before x ts ≡ wholly_before a ts ++ us))
+either_begins : (a x o n : ℕ) (ts : List Tree) → Spans o n ts → ((us : List Tree) × (wholly_before a ts ≡ wholly_before x ts ++ us))
+    ⊎ ((us : List Tree) × (wholly_before x ts ≡ wholly_before a ts ++ us))
 either_begins a x o n ts c = ⊎_elim (λ l. inr (begin_so x a o n ts c (omega (arith, l)))) (λ l. inl (begin_so a x o n ts c l)) (cases_lt (length (wholly_before a ts)) (length (wholly_before x ts)))
 
 goes_on : (us ws vs : List Tree) → us ≡ ws ++ vs → us ≡ ws ++ drop (length ws) us
@@ -150,22 +170,34 @@ same_long : (us ws vs : List Tree) → ws ≡ us ++ vs → length ws ≤ length 
 same_long us ws [] e l = sym (append-nil ws ∙ e ∙ append-nil us)
 same_long us ws (v ∷ vs) e l = absurd (omega (arith, l, ap length e, length-append us (v ∷ vs)))
 
-prefix_begins : (bagging : Bagging) (k a x n : ℕ) (ts : List Tree) → Spans 0 n ts → prefix_refusal a (folded_prefix bagging k (wholly_before x ts)) (folded_prefix bagging k (wholly_before a ts)) ≡ None
-    → (folded_prefix bagging k (wholly_before a ts) ≡ []) ⊎ (folded_prefix bagging k (wholly_before a ts) ≡ folded_prefix bagging k (wholly_before x ts) ++ drop (length (folded_prefix bagging k (wholly_before x ts))) (folded_prefix bagging k (wholly_before a ts)))
+prefix_begins : (bagging : Bagging) (k a x n : ℕ) (ts : List Tree) → Spans 0 n ts
+    → prefix_refusal a (folded_prefix bagging k (wholly_before x ts)) (folded_prefix bagging k (wholly_before a ts)) ≡ None
+    → (folded_prefix bagging k (wholly_before a ts) ≡ [])
+    ⊎ (folded_prefix bagging k (wholly_before a ts) ≡ folded_prefix bagging k (wholly_before x ts)
+    ++ drop (length (folded_prefix bagging k (wholly_before x ts))) (folded_prefix bagging k (wholly_before a ts)))
 prefix_begins bagging k a x n ts c e = by_asked (folded_prefix bagging k (wholly_before a ts)) refl e
   where
-    begins : (us : List Tree) → folded_prefix bagging k (wholly_before a ts) ≡ us → length (folded_prefix bagging k (wholly_before x ts)) ≤ length us → us ≡ (folded_prefix bagging k (wholly_before x ts)) ++ drop (length (folded_prefix bagging k (wholly_before x ts))) us
+    begins : (us : List Tree) → folded_prefix bagging k (wholly_before a ts) ≡ us → length (folded_prefix bagging k (wholly_before x ts)) ≤ length us
+        → us ≡ (folded_prefix bagging k (wholly_before x ts)) ++ drop (length (folded_prefix bagging k (wholly_before x ts))) us
     begins us f l = ⊎_elim
-        (λ w. goes_on us (folded_prefix bagging k (wholly_before x ts)) (folded_prefix bagging (k - length (wholly_before x ts)) w.0) (sym f ∙ ap (folded_prefix bagging k) w.1 ∙ prefix_split bagging k (wholly_before x ts) w.0))
-        (λ w. goes_on us (folded_prefix bagging k (wholly_before x ts)) [] (same_long us (folded_prefix bagging k (wholly_before x ts)) (folded_prefix bagging (k - length (wholly_before a ts)) w.0) (ap (folded_prefix bagging k) w.1 ∙ prefix_split bagging k (wholly_before a ts) w.0 ∙ ap (λ z. z ++ folded_prefix bagging (k - length (wholly_before a ts)) w.0) f) l))
+        (λ w. goes_on us (folded_prefix bagging k (wholly_before x ts)) (folded_prefix bagging (k - length (wholly_before x ts)) w.0)
+        (sym f ∙ ap (folded_prefix bagging k) w.1 ∙ prefix_split bagging k (wholly_before x ts) w.0))
+        (λ w. goes_on us (folded_prefix bagging k (wholly_before x ts)) []
+        (same_long us (folded_prefix bagging k (wholly_before x ts)) (folded_prefix bagging (k - length (wholly_before a ts)) w.0)
+        (ap (folded_prefix bagging k) w.1 ∙ prefix_split bagging k (wholly_before a ts) w.0
+        ∙ ap (λ z. z ++ folded_prefix bagging (k - length (wholly_before a ts)) w.0) f) l))
         (either_begins a x 0 n ts c)
 
-    by_asked : (us : List Tree) → folded_prefix bagging k (wholly_before a ts) ≡ us → prefix_refusal a (folded_prefix bagging k (wholly_before x ts)) us ≡ None → (us ≡ []) ⊎ (us ≡ (folded_prefix bagging k (wholly_before x ts)) ++ drop (length (folded_prefix bagging k (wholly_before x ts))) us)
+    by_asked : (us : List Tree) → folded_prefix bagging k (wholly_before a ts) ≡ us
+        → prefix_refusal a (folded_prefix bagging k (wholly_before x ts)) us ≡ None → (us ≡ [])
+        ⊎ (us ≡ (folded_prefix bagging k (wholly_before x ts)) ++ drop (length (folded_prefix bagging k (wholly_before x ts))) us)
     by_asked [] f e = inl refl
     by_asked (u ∷ us) f e = inr (begins (u ∷ us) f (⊎_elim (λ l. absurd (unrefused l)) (λ l. l) (cases_lt (length (u ∷ us)) (length (folded_prefix bagging k (wholly_before x ts))))))
       where
         unrefused : length (u ∷ us) < length (folded_prefix bagging k (wholly_before x ts)) → ⊥
-        unrefused l = shorter_reaches bagging k a x ts (subst (λ z. length z < length (folded_prefix bagging k (wholly_before x ts))) (sym f) l) (sym (ap (λ b. cond b (first_reaching a (folded_prefix bagging k (wholly_before x ts))) None) (lt-ltb (length (u ∷ us)) (length (folded_prefix bagging k (wholly_before x ts))) l)) ∙ e)
+        unrefused l = shorter_reaches bagging k a x ts (subst (λ z. length z < length (folded_prefix bagging k (wholly_before x ts))) (sym f) l)
+            (sym (ap (λ b. cond b (first_reaching a (folded_prefix bagging k (wholly_before x ts))) None)
+            (lt-ltb (length (u ∷ us)) (length (folded_prefix bagging k (wholly_before x ts))) l)) ∙ e)
 
 pub answered_is_held : {D : Type 0} → AnsweredIsHeld D
 answered_is_held s v a b e =
@@ -221,7 +253,8 @@ reach_at a o n zero ts c l = absurd (omega (arith, l))
 reach_at a o n (suc j) [] c l = refl
 reach_at a o n (suc j) (t ∷ ts) c l = ⊎_elim
     (λ y. ap (λ b. cond b (first_reaching a (take j ts)) (Some (position t))) (lt-leb (end_leaf t) a y)
-    ∙ ap (λ z. slice_get (map position (t ∷ ts)) (length z)) (sym (filter_no (λ u. nat_le (end_leaf u) a) t ts (lt-leb (end_leaf t) a y) ∙ none_before a (o + width t) n ts c.1 (omega (arith, c.0, y)))))
+    ∙ ap (λ z. slice_get (map position (t ∷ ts)) (length z))
+    (sym (filter_no (λ u. nat_le (end_leaf u) a) t ts (lt-leb (end_leaf t) a y) ∙ none_before a (o + width t) n ts c.1 (omega (arith, c.0, y)))))
     (λ y. ap (λ b. cond b (first_reaching a (take j ts)) (Some (position t))) (le-leb (end_leaf t) a y)
     ∙ reach_at a (o + width t) n j ts c.1 (omega (arith, l, ap length (yes_so y)))
     ∙ ap (λ z. slice_get (map position (t ∷ ts)) (length z)) (sym (yes_so y)))

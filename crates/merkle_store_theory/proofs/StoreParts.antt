@@ -1,5 +1,6 @@
 -- What a store reads, by the groups of peaks.
-use Rattle.std.proofs.Common.{◌≡◌, ℕ, true, cond, ◌-◌, ◌≤◌, nat_eq, List, [], ◌∷◌, ◌++◌, refl, ap, ap₂, ◌∙◌, arith, length, map, reverse, take, drop, Some, None, slice_get, append-nil, length-append, le-leb, le-ltb}
+use Rattle.std.proofs.Common.{◌≡◌, ℕ, true, cond, ◌-◌, ◌≤◌, nat_eq, List, [], ◌∷◌, ◌++◌, refl, ap, ap₂, ◌∙◌, arith, length, map, reverse, take, drop, Some}
+use Rattle.std.proofs.Common.{None, slice_get, append-nil, length-append, le-leb, le-ltb}
 use Rattle.std.specs.Option.{option_to_list}
 use Rattle.std.specs.Cmp.Lexicographic.{pointwise}
 use Rattle.std.proofs.lemmas.Bool.{and_from, eq-eqb}
@@ -29,7 +30,8 @@ module _ {D : Type 0} (h : Hashing D) (v : StoreValue D) where
   prefix_is (u ∷ us) ts es e l = ap₂ (λ y z. option_to_list (root.folded h.fold ForwardFold 0 (y ++ read_nodes h v z))) e (drop-append_seam (u ∷ us) ts)
 
   front_is : (ts us : List Tree) → v.suffix_peaks ≡ map position us → suffix_front v (ts ++ us) ≡ ts
-  front_is ts us e = let n : length (ts ++ us) - length v.suffix_peaks ≡ length ts = omega (arith, length-append ts us, ap length e, length-map us position) in ap (λ n. take n (ts ++ us)) n ∙ take-append_seam ts us
+  front_is ts us e = let n : length (ts ++ us) - length v.suffix_peaks ≡ length ts =
+      omega (arith, length-append ts us, ap length e, length-map us position) in ap (λ n. take n (ts ++ us)) n ∙ take-append_seam ts us
 
   -- the asked suffix is further peaks and the store's
   pub suffix_is : (ts us : List Tree) (es : List D) → v.suffix_peaks ≡ map position us → option_to_list v.suffix ≡ es → length es ≡ length (bag_all 0 us)
@@ -56,7 +58,8 @@ module _ {D : Type 0} (h : Hashing D) (v : StoreValue D) where
       and_from _ _ (le-leb (length (map position us)) (length (map position (ts ++ us))) (omega (arith, ap length e, length-append (map position ts) (map position us))))
       (ap (λ z. pointwise nat_eq z (map position us)) (ap₂ drop n e ∙ drop-append_seam (map position ts) (map position us)) ∙ same_all (map position us))
 
-  no_lacking : (ts us : List Tree) (ps : List ℕ) → v.suffix_peaks ≡ map position us → ps ≡ map position us → first_lacking (found_at v.pairs) (map position (reverse ts)) ≡ None → suffix_lacking v ps (ts ++ us) ≡ None
+  no_lacking : (ts us : List Tree) (ps : List ℕ) → v.suffix_peaks ≡ map position us → ps ≡ map position us
+      → first_lacking (found_at v.pairs) (map position (reverse ts)) ≡ None → suffix_lacking v ps (ts ++ us) ≡ None
   no_lacking ts [] [] e f w = ap (λ z. first_lacking (found_at v.pairs) (map position (reverse z))) (append-nil ts) ∙ w
   no_lacking ts [] (p ∷ ps) e f w = cc
   no_lacking ts (u ∷ us) [] e f w = cc

@@ -1,5 +1,7 @@
 -- A store of an accepted input answers what the claim gives.
-use Rattle.std.proofs.Common.{◌≡◌, ℕ, suc, Bool, true, ◌+◌, ◌-◌, ◌≤◌, ◌<◌, nat_le, nat_lt, List, [], ◌∷◌, ◌++◌, refl, ap, ap₂, sym, ◌∙◌, subst, arith, length, map, flat_map, reverse, take, drop, Option, Some, None, slice_get, append_assoc, length-append, leb-true, ltb-true, le-leb, lt-ltb, drop-drop}
+use Rattle.std.proofs.Common.{◌≡◌, ℕ, suc, Bool, true, ◌+◌, ◌-◌, ◌≤◌, ◌<◌, nat_le, nat_lt, List, [], ◌∷◌, ◌++◌, refl, ap, ap₂, sym, ◌∙◌, subst, arith, length}
+use Rattle.std.proofs.Common.{map, flat_map, reverse, take, drop, Option, Some, None, slice_get, append_assoc, length-append, leb-true, ltb-true, le-leb}
+use Rattle.std.proofs.Common.{lt-ltb, drop-drop}
 use Rattle.std.specs.List.{AllByRecursion}
 use Rattle.std.specs.Option.{option_to_list, option_or}
 use Rattle.std.proofs.lemmas.Bool.{and_from, and_parts}
@@ -31,7 +33,8 @@ use Rattle.merkle_store_theory.specs.StoreValue.{StoreValue, store_of}
 use Rattle.merkle_store_theory.specs.StoreProof.{found_at, store_proof, store_refusal, read_nodes, prefix_part, suffix_part, prefix_refusal, suffix_refusal, first_lacking}
 use Rattle.merkle_store_theory.specs.StoreLaws.{StoreReadsClaim, StoreAnswers, StoreIsAccepted}
 use Rattle.merkle_store_theory.proofs.Gathered.{past}
-use Rattle.merkle_store_theory.proofs.PairReads.{Among, among_left, among_right, read, IsHeld, none_lacking, given_read, given_held, Own, own_left, own_right, own_read, own_held, siblings_read, siblings_held}
+use Rattle.merkle_store_theory.proofs.PairReads.{Among, among_left, among_right, read, IsHeld, none_lacking, given_read, given_held, Own, own_left, own_right}
+use Rattle.merkle_store_theory.proofs.PairReads.{own_read, own_held, siblings_read, siblings_held}
 use Rattle.merkle_store_theory.proofs.GroupedParts.{prefix_split, before_split, after_split, suffix_split}
 use Rattle.merkle_store_theory.proofs.ClaimedParts.{outside_parts_given, inner_given, all_met}
 use Rattle.merkle_store_theory.proofs.RangeSplits.{before_more, over_more, after_more, split_over}
@@ -59,7 +62,8 @@ refusal_by v d a before over after held =
 -- ---- by the groups of peaks; more_before, more_after: of those that overlap the store's range the ones before the part, and those after it
 module _ {D : Type 0} (s : Scheme D) (v : StoreValue D) (c d : ℕ → Bool) (within : (i : ℕ) → d i ≡ true → c i ≡ true) (X : ℕ → D) (once : Distinct (map (λ (x : ℕ × D). x.0) v.pairs))
     (before more_before : List Tree) (t : Tree) (over more_after after : List Tree)
-    (cu : Unmet c before) (cm : Met c (more_before ++ (t ∷ over ++ more_after))) (cv : Unmet c after) (du : Unmet d (before ++ more_before)) (dm : Met d (t ∷ over)) (dv : Unmet d (more_after ++ after))
+    (cu : Unmet c before) (cm : Met c (more_before ++ (t ∷ over ++ more_after))) (cv : Unmet c after) (du : Unmet d (before ++ more_before))
+    (dm : Met d (t ∷ over)) (dv : Unmet d (more_after ++ after))
     (ds is : List D) where
   abbrev h : Hashing D
   h = s.hashing
@@ -135,9 +139,12 @@ module _ {D : Type 0} (s : Scheme D) (v : StoreValue D) (c d : ℕ → Bool) (wi
 
   -- the digests fall into these
   ds_are : ds ≡ e1 ++ (e2 ++ (e3 ++ (e4 ++ rest)))
-  ds_are = sym (ap (λ z. e1 ++ z) (ap (λ z. e2 ++ z) (ap (λ z. e3 ++ z) (take-append-drop n4 r3) ∙ take-append-drop (length own_after) r2) ∙ take-append-drop (length own_single) r1) ∙ take-append-drop n1 ds)
+  ds_are = sym (ap (λ z. e1 ++ z)
+      (ap (λ z. e2 ++ z) (ap (λ z. e3 ++ z) (take-append-drop n4 r3) ∙ take-append-drop (length own_after) r2)
+      ∙ take-append-drop (length own_single) r1) ∙ take-append-drop n1 ds)
 
-  module _ (among1 : Among h v.pairs once (single_pairs h own_single r1)) (among2 : Among h v.pairs once (over_pairs h c X (more_before ++ (t ∷ over ++ more_after)) is)) (among3 : Among h v.pairs once (single_pairs h own_after r2)) where
+  module _ (among1 : Among h v.pairs once (single_pairs h own_single r1))
+      (among2 : Among h v.pairs once (over_pairs h c X (more_before ++ (t ∷ over ++ more_after)) is)) (among3 : Among h v.pairs once (single_pairs h own_after r2)) where
     owned : Own h v.pairs once c X (new_prefix ++ (new_single ++ (t ∷ over ++ (new_after ++ new_suffix)))) is
     owned = subst (λ z. Own h v.pairs once c X z is) (all_met h c d within X v.bagging k before more_before t over more_after after cu cm cv du dm dv) among2
 
@@ -158,19 +165,25 @@ module _ {D : Type 0} (s : Scheme D) (v : StoreValue D) (c d : ℕ → Bool) (wi
     held_single =
         subst (AllByRecursion (IsHeld h v.pairs once)) (sym (ap₂ ◌++◌ (before_split v.bagging k before more_before) (after_split v.bagging k part_met whole_met more_after after more)))
         (all_append (IsHeld h v.pairs once) (own_single ++ new_single) (new_after ++ own_after)
-        (all_append (IsHeld h v.pairs once) own_single new_single (given_held h v.pairs once own_single r1 among1) (own_held h v.pairs once c X new_single _ (own_left h v.pairs once c X new_single _ _ owned1)))
-        (all_append (IsHeld h v.pairs once) new_after own_after (own_held h v.pairs once c X new_after _ (own_left h v.pairs once c X new_after new_suffix _ owned3)) (given_held h v.pairs once own_after r2 among3)))
+        (all_append (IsHeld h v.pairs once) own_single new_single (given_held h v.pairs once own_single r1 among1)
+        (own_held h v.pairs once c X new_single _ (own_left h v.pairs once c X new_single _ _ owned1)))
+        (all_append (IsHeld h v.pairs once) new_after own_after
+        (own_held h v.pairs once c X new_after _ (own_left h v.pairs once c X new_after new_suffix _ owned3)) (given_held h v.pairs once own_after r2 among3)))
 
     refusal_none : v.suffix_peaks ≡ map position own_suffix → (a : ℕ) → refusal_by v d a (before ++ more_before) (t ∷ over) (more_after ++ after) own_prefix ≡ None
     refusal_none ends a =
-        let one : prefix_refusal a own_prefix (folded_prefix v.bagging k (before ++ more_before)) ≡ None = ap (prefix_refusal a own_prefix) (prefix_split v.bagging k before more_before) ∙ no_prefix_refusal h v a own_prefix new_prefix in
+        let one : prefix_refusal a own_prefix (folded_prefix v.bagging k (before ++ more_before)) ≡ None =
+        ap (prefix_refusal a own_prefix) (prefix_split v.bagging k before more_before) ∙ no_prefix_refusal h v a own_prefix new_prefix in
         let two : first_lacking (found_at v.pairs) (map position (drop (length own_prefix) (folded_prefix v.bagging k (before ++ more_before)))) ≡ None =
         ap (λ z. first_lacking (found_at v.pairs) (map position z)) (ap (drop (length own_prefix)) (prefix_split v.bagging k before more_before) ∙ drop-append_seam own_prefix new_prefix)
         ∙ none_lacking h v.pairs once new_prefix (own_held h v.pairs once c X new_prefix is (own_left h v.pairs once c X new_prefix _ is owned)) in
         let four : suffix_refusal v (folded_suffix v.bagging k part_met (more_after ++ after)) ≡ None =
         ap (suffix_refusal v) (suffix_split v.bagging k part_met whole_met more_after after more)
-        ∙ no_suffix_refusal h v new_suffix own_suffix ends (none_lacking h v.pairs once (reverse new_suffix) (all_reverse (IsHeld h v.pairs once) new_suffix (own_held h v.pairs once c X new_suffix _ owned4))) in
-        let five : first_lacking (found_at v.pairs) (map position (flat_map (siblings d) (t ∷ over))) ≡ None = none_lacking h v.pairs once (flat_map (siblings d) (t ∷ over)) (siblings_held h v.pairs once c X d within (t ∷ over) _ (own_left h v.pairs once c X (t ∷ over) _ _ owned2)) in
+        ∙ no_suffix_refusal h v new_suffix own_suffix ends
+        (none_lacking h v.pairs once (reverse new_suffix) (all_reverse (IsHeld h v.pairs once) new_suffix (own_held h v.pairs once c X new_suffix _ owned4))) in
+        let five : first_lacking (found_at v.pairs) (map position (flat_map (siblings d) (t ∷ over))) ≡ None =
+        none_lacking h v.pairs once (flat_map (siblings d) (t ∷ over))
+        (siblings_held h v.pairs once c X d within (t ∷ over) _ (own_left h v.pairs once c X (t ∷ over) _ _ owned2)) in
         ap₂ option_or one (ap₂ option_or two (ap₂ option_or (none_lacking h v.pairs once _ held_single) (ap₂ option_or four five)))
 
     -- ---- and what is read is the claim's
@@ -214,16 +227,20 @@ module _ {D : Type 0} (s : Scheme D) (v : StoreValue D) (c d : ℕ → Bool) (wi
           (given_read h v.pairs once own_after e3 r3 l3 (subst (λ z. Among h v.pairs once (single_pairs h own_after z)) (sym (take-append-drop (length own_after) r2)) among3))
           ∙ sym (map-append (read h v.pairs once) new_after own_after)
 
-      proof_is : v.suffix_peaks ≡ map position own_suffix → v.prefix ≡ slice_get e1 0 → v.suffix ≡ slice_get e4 0 → (p : Plan) → root_plan v.bagging k ((before ++ more_before) ++ (t ∷ over ++ (more_after ++ after))) ≡ Some p
+      proof_is : v.suffix_peaks ≡ map position own_suffix → v.prefix ≡ slice_get e1 0 → v.suffix ≡ slice_get e4 0 → (p : Plan)
+          → root_plan v.bagging k ((before ++ more_before) ++ (t ∷ over ++ (more_after ++ after))) ≡ Some p
           → proof_by s v d (before ++ more_before) (t ∷ over) (more_after ++ after) own_prefix ≡ sub_outside_parts h c d X p ds is ++ sub_inner h c d X p ds is
       proof_is ends pre suf p whole_is =
-          let one : prefix_part h v (length own_prefix) (folded_prefix v.bagging k (before ++ more_before)) ≡ option_to_list (root.folded h.fold ForwardFold 0 (e1 ++ peak_values h c X new_prefix is)) =
+          let one : prefix_part h v (length own_prefix) (folded_prefix v.bagging k (before ++ more_before))
+          ≡ option_to_list (root.folded h.fold ForwardFold 0 (e1 ++ peak_values h c X new_prefix is)) =
           ap (prefix_part h v (length own_prefix)) (prefix_split v.bagging k before more_before)
           ∙ prefix_is h v own_prefix new_prefix e1 (ap option_to_list pre ∙ first_of e1 (omega (arith, l1, length-fold_all own_prefix))) l1
           ∙ ap (λ z. option_to_list (root.folded h.fold ForwardFold 0 (e1 ++ z))) (sym value_prefix) in
-          let two : read_nodes h v (single_before v.bagging k (before ++ more_before) ++ single_after v.bagging k part_met (more_after ++ after)) ≡ (e2 ++ peak_values h c X new_single is1) ++ (peak_values h c X new_after is3 ++ e3) =
+          let two : read_nodes h v (single_before v.bagging k (before ++ more_before) ++ single_after v.bagging k part_met (more_after ++ after))
+          ≡ (e2 ++ peak_values h c X new_single is1) ++ (peak_values h c X new_after is3 ++ e3) =
           map-append (read h v.pairs once) (single_before v.bagging k (before ++ more_before)) (single_after v.bagging k part_met (more_after ++ after))
-          ∙ ap₂ ◌++◌ (ap (read_nodes h v) (before_split v.bagging k before more_before) ∙ sym value_single) (ap (read_nodes h v) (after_split v.bagging k part_met whole_met more_after after more) ∙ sym value_after) in
+          ∙ ap₂ ◌++◌ (ap (read_nodes h v) (before_split v.bagging k before more_before) ∙ sym value_single)
+          (ap (read_nodes h v) (after_split v.bagging k part_met whole_met more_after after more) ∙ sym value_after) in
           let three : suffix_part h v (folded_suffix v.bagging k part_met (more_after ++ after)) ≡ option_to_list (root.right_fold h.fold (peak_values h c X new_suffix is4 ++ e4)) =
           ap (suffix_part h v) (suffix_split v.bagging k part_met whole_met more_after after more)
           ∙ suffix_is h v new_suffix own_suffix e4 ends (ap option_to_list suf ∙ first_of e4 (omega (arith, l4, length-bag_all 0 own_suffix))) l4
@@ -232,14 +249,18 @@ module _ {D : Type 0} (s : Scheme D) (v : StoreValue D) (c d : ℕ → Bool) (wi
           ap (λ z. sub_inner h c d X p z is) ds_are
           ∙ inner_given h c d within X v.bagging k before more_before t over more_after after cu cm cv du dm dv e1 e2 e3 e4 rest is l1 l2 l3 l4 p whole_is
           ∙ siblings_read h v.pairs once c X d within (t ∷ over) is2 (own_left h v.pairs once c X (t ∷ over) _ is2 owned2) in
-          let five : sub_outside_parts h c d X p ds is ≡ option_to_list (root.folded h.fold ForwardFold 0 (e1 ++ peak_values h c X new_prefix is)) ++ ((e2 ++ peak_values h c X new_single is1) ++ ((peak_values h c X new_after is3 ++ e3) ++ option_to_list (root.right_fold h.fold (peak_values h c X new_suffix is4 ++ e4)))) =
-          ap (λ z. sub_outside_parts h c d X p z is) ds_are ∙ outside_parts_given h c d within X v.bagging k before more_before t over more_after after cu cm cv du dm dv e1 e2 e3 e4 rest is l1 l2 l3 l4 p whole_is in
+          let five : sub_outside_parts h c d X p ds is ≡ option_to_list (root.folded h.fold ForwardFold 0 (e1 ++ peak_values h c X new_prefix is))
+          ++ ((e2 ++ peak_values h c X new_single is1)
+          ++ ((peak_values h c X new_after is3 ++ e3) ++ option_to_list (root.right_fold h.fold (peak_values h c X new_suffix is4 ++ e4)))) =
+          ap (λ z. sub_outside_parts h c d X p z is) ds_are
+          ∙ outside_parts_given h c d within X v.bagging k before more_before t over more_after after cu cm cv du dm dv e1 e2 e3 e4 rest is l1 l2 l3 l4 p whole_is in
           let a = option_to_list (root.folded h.fold ForwardFold 0 (e1 ++ peak_values h c X new_prefix is)) in
           let b = e2 ++ peak_values h c X new_single is1 in
           let f = peak_values h c X new_after is3 ++ e3 in
           let z = option_to_list (root.right_fold h.fold (peak_values h c X new_suffix is4 ++ e4)) in
           ap₂ ◌++◌ one (ap₂ ◌++◌ two (ap₂ ◌++◌ three (sym four)))
-          ∙ ap (λ y. a ++ y) (append_assoc b f (z ++ sub_inner h c d X p ds is) ∙ ap (λ y. b ++ y) (sym (append_assoc f z (sub_inner h c d X p ds is))) ∙ sym (append_assoc b (f ++ z) (sub_inner h c d X p ds is)))
+          ∙ ap (λ y. a ++ y) (append_assoc b f (z ++ sub_inner h c d X p ds is)
+          ∙ ap (λ y. b ++ y) (sym (append_assoc f z (sub_inner h c d X p ds is))) ∙ sym (append_assoc b (f ++ z) (sub_inner h c d X p ds is)))
           ∙ sym (append_assoc a (b ++ (f ++ z)) (sub_inner h c d X p ds is))
           ∙ ap (λ y. y ++ sub_inner h c d X p ds is) (sym five)
 
@@ -399,14 +420,17 @@ module _ {D : Type 0} (s : Scheme D) (r : RangeInput D) (root_digest : D) (ok : 
     refuses_none : refusal_by v d a (before ++ more_before) (t ∷ over) (more_after ++ after) (folded_prefix s.bagging r.inactive before) ≡ None
     refuses_none =
         refusal_none s v c d within X once before more_before t over more_after after cu (subst (Met c) split_so cm) cv du (subst (Met d) e dm) dv r.digests is
-        among1 (subst (λ z. Among s.hashing v.pairs once (over_pairs s.hashing c X z is)) split_so among2) (subst (λ z. Among s.hashing v.pairs once (single_pairs s.hashing (single_of z) d2)) split_so among3)
+        among1 (subst (λ z. Among s.hashing v.pairs once (over_pairs s.hashing c X z is)) split_so among2)
+        (subst (λ z. Among s.hashing v.pairs once (single_pairs s.hashing (single_of z) d2)) split_so among3)
         (ap (λ z. map position (suffix_of_held z)) split_so) a
 
     reads_claim : (p : Plan) → root_plan s.bagging r.inactive ts ≡ Some p
-        → proof_by s v d (before ++ more_before) (t ∷ over) (more_after ++ after) (folded_prefix s.bagging r.inactive before) ≡ sub_outside_parts s.hashing c d X p r.digests is ++ sub_inner s.hashing c d X p r.digests is
+        → proof_by s v d (before ++ more_before) (t ∷ over) (more_after ++ after) (folded_prefix s.bagging r.inactive before)
+        ≡ sub_outside_parts s.hashing c d X p r.digests is ++ sub_inner s.hashing c d X p r.digests is
     reads_claim p w =
         proof_is s v c d within X once before more_before t over more_after after cu (subst (Met c) split_so cm) cv du (subst (Met d) e dm) dv r.digests is
-        among1 (subst (λ z. Among s.hashing v.pairs once (over_pairs s.hashing c X z is)) split_so among2) (subst (λ z. Among s.hashing v.pairs once (single_pairs s.hashing (single_of z) d2)) split_so among3)
+        among1 (subst (λ z. Among s.hashing v.pairs once (over_pairs s.hashing c X z is)) split_so among2)
+        (subst (λ z. Among s.hashing v.pairs once (single_pairs s.hashing (single_of z) d2)) split_so among3)
         (subst IsEnough split_so enough) (ap (λ z. map position (suffix_of_held z)) split_so) refl (suffix_there ∙ ap suffix_digest split_so) p
         (ap (root_plan s.bagging r.inactive) (sym (ts_are ∙ ap (λ z. (before ++ more_before) ++ (z ++ (more_after ++ after))) e)) ∙ w)
 
@@ -420,7 +444,9 @@ module _ {D : Type 0} (s : Scheme D) (r : RangeInput D) (root_digest : D) (ok : 
   pub answers_claim : (p : Plan) → root_plan s.bagging r.inactive ts ≡ Some p → store_proof s v a b ≡ sub_outside_parts s.hashing c d X p r.digests is ++ sub_inner s.hashing c d X p r.digests is
   answers_claim p w = as_groups ∙ by_cases still refl
     where
-      by_cases : (over : List Tree) → still ≡ over → proof_by s v d (before ++ more_before) over (more_after ++ after) (folded_prefix s.bagging r.inactive before) ≡ sub_outside_parts s.hashing c d X p r.digests is ++ sub_inner s.hashing c d X p r.digests is
+      by_cases : (over : List Tree) → still ≡ over
+          → proof_by s v d (before ++ more_before) over (more_after ++ after) (folded_prefix s.bagging r.inactive before)
+          ≡ sub_outside_parts s.hashing c d X p r.digests is ++ sub_inner s.hashing c d X p r.digests is
       by_cases [] e = absurd (reached e)
       by_cases (t ∷ over) e = reads_claim t over e p w
 
@@ -435,7 +461,8 @@ store_reads_claim s r q root ok some low high =
     (subst (HasLayout c (range_parts s.bagging r.inactive r.start (end_of r) (peaks_of s.rule r.leaves)) (range_siblings r.start (end_of r) (peaks_of s.rule r.leaves))) plan.1
     (peaks.range_layout s r.leaves r.inactive r.start (end_of r) (omega (arith, ok.nonempty)) ok.within)).0 in
     answers_claim s r root ok q.start (end_of q) (omega (arith, some)) low high plan.0 plan.1
-    ∙ ap (λ z. sub_outside_parts s.hashing c (chosen q) (leaf_given s.hashing r) plan.0 r.digests (drop (length z) r.digests) ++ sub_inner s.hashing c (chosen q) (leaf_given s.hashing r) plan.0 r.digests (drop (length z) r.digests)) (sym lay)
+    ∙ ap (λ z. sub_outside_parts s.hashing c (chosen q) (leaf_given s.hashing r) plan.0 r.digests (drop (length z) r.digests)
+    ++ sub_inner s.hashing c (chosen q) (leaf_given s.hashing r) plan.0 r.digests (drop (length z) r.digests)) (sym lay)
     ∙ ap (sub_digests s r q) (sym plan.1)
 
 pub store_is_accepted : {D : Type 0} → StoreIsAccepted D

@@ -24,7 +24,8 @@ size_past_log nodes log high =
     let n : ℕ = (nodes + log - 1) / 2 + 1 + 1 in
     let double : 2 ^ suc log ≡ 2 ^ log * 2 = pow-suc 2 log in
     let again : 2 ^ suc (suc log) ≡ 2 ^ suc log * 2 = pow-suc 2 (suc log) in
-    let few : length (peak_heights mmb_merges n) < suc (suc log) = log_below (length (peak_heights mmb_merges n)) (suc (suc log)) (n + 1) (mmb_peak_count n).0 (omega (arith, double, again, high, pow_large log)) in
+    let few : length (peak_heights mmb_merges n) < suc (suc log) =
+    log_below (length (peak_heights mmb_merges n)) (suc (suc log)) (n + 1) (mmb_peak_count n).0 (omega (arith, double, again, high, pow_large log)) in
     omega (arith, size_peaks mmb_merges n, few)
 
 -- after the greatest leaf count come more nodes than the limit

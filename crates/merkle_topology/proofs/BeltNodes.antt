@@ -1,5 +1,6 @@
 -- A node of the Mountain Belt, by the leaf with which it comes.
-use Rattle.std.proofs.Common.{◌≡◌, ◌≢◌, Bool, true, false, eqb, ℕ, zero, suc, ◌+◌, ◌*◌, ◌^◌, ◌-◌, ◌%◌, ◌<◌, ◌≤◌, List, [], ◌∷◌, length, Some, slice_get, slice_index, arith, refl, sym, ap, inl, inr, ◌∙◌, subst, pow_pos, w64}
+use Rattle.std.proofs.Common.{◌≡◌, ◌≢◌, Bool, true, false, eqb, ℕ, zero, suc, ◌+◌, ◌*◌, ◌^◌, ◌-◌, ◌%◌, ◌<◌, ◌≤◌, List, [], ◌∷◌, length, Some, slice_get}
+use Rattle.std.proofs.Common.{slice_index, arith, refl, sym, ap, inl, inr, ◌∙◌, subst, pow_pos, w64}
 use Rattle.std.specs.Int.{trailing_ones, is_power_of_two}
 use Rattle.std.specs.Int.RustNames.{count_ones}
 use Rattle.std.proofs.lemmas.Bool.{eq-eqb, eqb-true}

@@ -1,5 +1,6 @@
 -- The peaks of the Mountain Belt, counted from the newest: where each has its leaves, and so where it stands.
-use Rattle.std.proofs.Common.{◌≡◌, ℕ, zero, suc, ◌+◌, ◌*◌, ◌^◌, ◌-◌, ◌/◌, ◌%◌, ◌<◌, ◌≤◌, Bool, true, false, List, [], ◌∷◌, ◌++◌, length, map, reverse, take, Some, slice_get, slice_index, unwrap_or, Option, arith, sym, ap, ◌∙◌, pow-suc}
+use Rattle.std.proofs.Common.{◌≡◌, ℕ, zero, suc, ◌+◌, ◌*◌, ◌^◌, ◌-◌, ◌/◌, ◌%◌, ◌<◌, ◌≤◌, Bool, true, false, List, [], ◌∷◌, ◌++◌, length, map, reverse, take}
+use Rattle.std.proofs.Common.{Some, slice_get, slice_index, unwrap_or, Option, arith, sym, ap, ◌∙◌, pow-suc}
 use Rattle.std.proofs.Math.Nat.{div-one}
 use Rattle.std.proofs.Math.Seq.{take-suc, take-length}
 use Rattle.std.proofs.lemmas.List.{length-map, length-reverse, length-take-le, reverse-append}
@@ -33,17 +34,20 @@ weight_spread k (suc i) [] l = absurd (omega arith)
 weight_spread k (suc i) (true ∷ bs) l =
     let e : k + suc i ≡ suc k + i = omega arith in
     let h : (1 + 2 * number_of_digits bs) / 2 ≡ number_of_digits bs = omega arith in
-    rw (e, half_shr (1 + 2 * number_of_digits bs) (number_of_digits bs) i h) (omega (arith, weight_spread (suc k) i bs (omega arith), pow-suc 2 k, ap (λ (x : ℕ). number_of_digits bs * x) (pow-suc 2 k)))
+    rw (e, half_shr (1 + 2 * number_of_digits bs) (number_of_digits bs) i h)
+    (omega (arith, weight_spread (suc k) i bs (omega arith), pow-suc 2 k, ap (λ (x : ℕ). number_of_digits bs * x) (pow-suc 2 k)))
 weight_spread k (suc i) (false ∷ bs) l =
     let e : k + suc i ≡ suc k + i = omega arith in
     let h : (0 + 2 * number_of_digits bs) / 2 ≡ number_of_digits bs = omega arith in
-    rw (e, half_shr (0 + 2 * number_of_digits bs) (number_of_digits bs) i h) (omega (arith, weight_spread (suc k) i bs (omega arith), pow-suc 2 k, ap (λ (x : ℕ). number_of_digits bs * x) (pow-suc 2 k)))
+    rw (e, half_shr (0 + 2 * number_of_digits bs) (number_of_digits bs) i h)
+    (omega (arith, weight_spread (suc k) i bs (omega arith), pow-suc 2 k, ap (λ (x : ℕ). number_of_digits bs * x) (pow-suc 2 k)))
 
 weight_newest : (n i : ℕ) → i ≤ length (peak_heights mmb_merges n) → weight (take i (peak_heights mmb_merges n)) + (n + 1) / 2 ^ i * 2 ^ i ≡ n + 2 ^ i
 weight_newest n i l =
     let e : length (peak_heights mmb_merges n) ≡ length (digits_after n) = ap length (mmb_heights n) ∙ length-spread 0 (digits_after n) in
     let z : 0 + i ≡ i = omega arith in
-    let w : weight (take i (spread 0 (digits_after n))) + number_of_digits (digits_after n) / 2 ^ i * 2 ^ (0 + i) + 2 ^ 0 ≡ number_of_digits (digits_after n) * 2 ^ 0 + 2 ^ (0 + i) = weight_spread 0 i (digits_after n) (omega (arith, e)) in
+    let w : weight (take i (spread 0 (digits_after n))) + number_of_digits (digits_after n) / 2 ^ i * 2 ^ (0 + i) + 2 ^ 0
+    ≡ number_of_digits (digits_after n) * 2 ^ 0 + 2 ^ (0 + i) = weight_spread 0 i (digits_after n) (omega (arith, e)) in
     let v : weight (take i (spread 0 (digits_after n))) + (n + 1) / 2 ^ i * 2 ^ i + 1 ≡ (n + 1) * 1 + 2 ^ i = rw (z, number_of_digits-digits_after n) at w in
     omega (arith, v, ap (λ (hs : List ℕ). weight (take i hs)) (mmb_heights n))
 

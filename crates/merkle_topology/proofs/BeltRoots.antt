@@ -57,7 +57,8 @@ stretch_halved n s (suc k) l w b =
       first = rw z (halves n s k b);
     }
   where
-    halves : (n s k : ℕ) → n ≤ birth_leaf s (suc k) → stretch_nodes mmb_position mmb_birth_leaf_count n s (suc k) ≡ (mmb_position s k, k) ∷ stretch_nodes mmb_position mmb_birth_leaf_count n (s + 2 ^ k) k
+    halves : (n s k : ℕ) → n ≤ birth_leaf s (suc k)
+        → stretch_nodes mmb_position mmb_birth_leaf_count n s (suc k) ≡ (mmb_position s k, k) ∷ stretch_nodes mmb_position mmb_birth_leaf_count n (s + 2 ^ k) k
     halves n s k b = elim (leb_tells (mmb_birth_leaf_count s (suc k)) n) [
       | inl w ↦ absurd (omega (arith, b, w.1))
       | inr w ↦ rw w.0 refl

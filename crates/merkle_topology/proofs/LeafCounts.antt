@@ -37,7 +37,8 @@ pub size_of_half : (rule : List ℕ → List ℕ) (nodes : ℕ) → size rule (n
 size_of_half rule nodes = omega (arith, size_peaks rule (nodes / 2))
 
 -- with 32 leaves more, or with the most leaves, one more leaf has more nodes, since there are at most 64 peaks
-pub size_past_half : (rule : List ℕ → List ℕ) (max_leaves max_nodes : ℕ) → IsLawful rule max_leaves max_nodes → (nodes : ℕ) → nodes ≤ max_nodes → nodes < size rule (min (nodes / 2 + 32) max_leaves + 1)
+pub size_past_half : (rule : List ℕ → List ℕ) (max_leaves max_nodes : ℕ) → IsLawful rule max_leaves max_nodes → (nodes : ℕ) → nodes ≤ max_nodes
+    → nodes < size rule (min (nodes / 2 + 32) max_leaves + 1)
 size_past_half rule max_leaves max_nodes law nodes l = elim (cases_lt max_leaves (nodes / 2 + 33)) [
   | inl b ↦
       let last : min (nodes / 2 + 32) max_leaves + 1 ≡ suc max_leaves = omega (arith, min-eq_right {n = max_leaves} {m = nodes / 2 + 32} (omega (arith, b))) in
@@ -82,7 +83,8 @@ mmr_height_below n p l a b =
     )
 
 -- how far a node of the Mountain Range stands after the leaf with which it comes is its height, and it is below 63
-pub mmr_height : (n p : ℕ) → p < 9223372036854775807 → n ≤ 4611686018427387904 → size mmr_merges n ≤ p → p < size mmr_merges (n + 1) → (p - size mmr_merges n < 63) × IsHeightAt mmr_merges p (p - size mmr_merges n)
+pub mmr_height : (n p : ℕ) → p < 9223372036854775807 → n ≤ 4611686018427387904 → size mmr_merges n ≤ p → p < size mmr_merges (n + 1)
+    → (p - size mmr_merges n < 63) × IsHeightAt mmr_merges p (p - size mmr_merges n)
 mmr_height n p low l a b = mmr_height_below n p (below n l a) a b
   where
     below : (n : ℕ) → n ≤ 4611686018427387904 → size mmr_merges n ≤ p → n < 4611686018427387904

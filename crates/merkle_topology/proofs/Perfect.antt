@@ -1,5 +1,6 @@
 -- The trees of a Mountain Range, oldest first, are each the highest that the nodes left hold.
-use Rattle.std.proofs.Common.{◌≡◌, ◌≢◌, ℕ, zero, suc, ◌+◌, ◌*◌, ◌^◌, ◌-◌, ◌%◌, ◌<◌, ◌≤◌, List, [], ◌∷◌, ◌++◌, map, reverse, append_assoc, append-nil, arith, refl, sym, ap, inl, inr, ◌∙◌, pow-suc, pow_pos, pow_mono, subst}
+use Rattle.std.proofs.Common.{◌≡◌, ◌≢◌, ℕ, zero, suc, ◌+◌, ◌*◌, ◌^◌, ◌-◌, ◌%◌, ◌<◌, ◌≤◌, List, [], ◌∷◌, ◌++◌, map, reverse, append_assoc, append-nil, arith}
+use Rattle.std.proofs.Common.{refl, sym, ap, inl, inr, ◌∙◌, pow-suc, pow_pos, pow_mono, subst}
 use Rattle.std.proofs.lemmas.Bool.Decides.{leb_tells}
 use Rattle.std.proofs.lemmas.List.{map-append, reverse-append}
 use Rattle.merkle_base.specs.Tree.{Tree, position, height}

@@ -22,4 +22,10 @@ doubled_pos h =
 -- a chunk's own node stands within the limit
 pub chunk_root : (n i h : ℕ) → n ≤ 4611686018427387904 → (i + 1) * 2 ^ h ≤ n → mmr_position (i * 2 ^ h) h ≤ 9223372036854775807
 chunk_root n i h l w =
-    omega (arith, root_below mmr_merges 4611686018427387904 (mmr_equal 4611686018427387904) mmr_position mmr_birth_leaf_count mmr_coordinates n (i * 2 ^ h) i h l refl (omega (arith, w)), size_le mmr_merges n 4611686018427387904 l, mmr_lawful.size_at_limit)
+    omega (
+      arith,
+      root_below mmr_merges 4611686018427387904 (mmr_equal 4611686018427387904) mmr_position mmr_birth_leaf_count mmr_coordinates n
+          (i * 2 ^ h) i h l refl (omega (arith, w)),
+      size_le mmr_merges n 4611686018427387904 l,
+      mmr_lawful.size_at_limit,
+    )

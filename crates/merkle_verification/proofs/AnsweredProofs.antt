@@ -27,7 +27,9 @@ pub record IsAsked {D : Type 0} (s : Scheme D) (v : StoreValue D) (a b : ℕ) (c
 pub asked : {D : Type 0} (s : Scheme D) (v w : StoreValue D) (a b : ℕ) (q : LeafRange) (c : RangeCounts) (held : ℕ) (reads : List ℕ) → v ≡ w → q ≡ record { leaves = v.leaves; start = a; end = b }
     → c.before ≡ length (wholly_before q.start (peaks_of s.rule q.leaves)) → c.after ≡ length (wholly_after q.end (peaks_of s.rule q.leaves))
     → c.folded ≡ length (folded_prefix v.bagging v.inactive (wholly_before q.start (peaks_of s.rule q.leaves)))
-    → c.single ≡ length (single_after v.bagging v.inactive (length (wholly_before q.start (peaks_of s.rule q.leaves)) + length (overlapping q.start q.end (peaks_of s.rule q.leaves))) (wholly_after q.end (peaks_of s.rule q.leaves)))
+    → c.single ≡ length (single_after v.bagging v.inactive
+    (length (wholly_before q.start (peaks_of s.rule q.leaves)) + length (overlapping q.start q.end (peaks_of s.rule q.leaves)))
+    (wholly_after q.end (peaks_of s.rule q.leaves)))
     → IsFoldedCount s.rule v.bagging v.leaves v.inactive v.start held → reads ≡ map position (nodes_read s.rule q.leaves q.start q.end) → a < b → b ≤ v.leaves
     → IsAsked s w a b c held reads
 asked s v w a b q c held reads same e before after folded single holds is some within = subst (λ z. IsAsked s z a b c held reads) same (record {
@@ -35,7 +37,10 @@ asked s v w a b q c held reads same e before after folded single holds is some w
     before = before ∙ ap (λ (z : LeafRange). length (wholly_before z.start (peaks_of s.rule z.leaves))) e;
     after = after ∙ ap (λ (z : LeafRange). length (wholly_after z.end (peaks_of s.rule z.leaves))) e;
     folded = folded ∙ ap (λ (z : LeafRange). length (folded_prefix v.bagging v.inactive (wholly_before z.start (peaks_of s.rule z.leaves)))) e;
-    single = single ∙ ap (λ (z : LeafRange). length (single_after v.bagging v.inactive (length (wholly_before z.start (peaks_of s.rule z.leaves)) + length (overlapping z.start z.end (peaks_of s.rule z.leaves))) (wholly_after z.end (peaks_of s.rule z.leaves)))) e;
+    single = single ∙ ap (λ (z : LeafRange). length
+        (single_after v.bagging v.inactive
+        (length (wholly_before z.start (peaks_of s.rule z.leaves)) + length (overlapping z.start z.end (peaks_of s.rule z.leaves)))
+        (wholly_after z.end (peaks_of s.rule z.leaves)))) e;
     held = holds;
   };
   reads_is = is ∙ ap (λ (z : LeafRange). map position (nodes_read s.rule z.leaves z.start z.end)) e;

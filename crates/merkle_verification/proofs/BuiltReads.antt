@@ -59,7 +59,8 @@ module _ {D : Type 0} (f g : ℕ → Option D) (more : (p : ℕ) (d : D) → f p
     inactive = built.inactive;
     enough_peaks = built.enough_peaks;
     digests = both_more (part_read s.hashing f) (part_read s.hashing g) (λ t. f (position t)) (λ t. g (position t)) (part_more s.hashing) (λ t. more (position t))
-        (range_parts s.bagging k r.start r.end (peaks_of s.rule r.leaves)) (range_siblings r.start r.end (peaks_of s.rule r.leaves)) p.digests.items (built.digests ∙ reads_laid_out s f r.leaves k r.start r.end)
+        (range_parts s.bagging k r.start r.end (peaks_of s.rule r.leaves)) (range_siblings r.start r.end (peaks_of s.rule r.leaves)) p.digests.items
+        (built.digests ∙ reads_laid_out s f r.leaves k r.start r.end)
         ∙ sym (reads_laid_out s g r.leaves k r.start r.end);
   }
 
@@ -74,7 +75,8 @@ module _ (rule : List ℕ → List ℕ) (n a b : ℕ) where
       (any_member (λ u. nat_eq (position u) (position t)) ts t m (eq-eqb (position t) (position t) refl))
 
   -- so over digests that were read at the positions none is missing
-  pub none_refused : {F D : Type 0} (node : ℕ → Option D) (ps : List ℕ) (ds : List D) → ps ≡ range_positions rule n a b → map Some ds ≡ map node ps → (bagging : Bagging) (k : ℕ) → k ≤ length (peaks_of rule n) → (e : Error F)
+  pub none_refused : {F D : Type 0} (node : ℕ → Option D) (ps : List ℕ) (ds : List D) → ps ≡ range_positions rule n a b → map Some ds ≡ map node ps
+      → (bagging : Bagging) (k : ℕ) → k ≤ length (peaks_of rule n) → (e : Error F)
       → IsBuildRefusal bagging rule (record { leaves = n; start = a; end = b }) k (λ p o. o ≡ digest_for ps ds p) e → ⊥
   none_refused {D = D} node ps ds listed read bagging k few e refused =
       let P : Tree → Type 0 = λ t. (d : D) × (digest_for ps ds (position t) ≡ Some d) in

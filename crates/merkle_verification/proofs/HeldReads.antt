@@ -22,14 +22,16 @@ missing_held node ps p held w =
     absurd (false≢true (ap is_some w.missing ∙ all_member (λ q. is_some (node q) ≡ true) ps p held m))
 
 -- no read of held nodes is refused
-pub read_held : {F D : Type 0} (rule : List ℕ → List ℕ) (n k : ℕ) (node : ℕ → Option D) (ps : List ℕ) → k ≤ length (peaks_of rule n) → AreNodesHeld node ps → (e : Error F) → IsReadRefusal rule n k node ps e → ⊥
+pub read_held : {F D : Type 0} (rule : List ℕ → List ℕ) (n k : ℕ) (node : ℕ → Option D) (ps : List ℕ) → k ≤ length (peaks_of rule n)
+    → AreNodesHeld node ps → (e : Error F) → IsReadRefusal rule n k node ps e → ⊥
 read_held rule n k node ps few held e refused = elim refused [
   | inl x ↦ absurd (let many : length (peaks_of rule n) < k = x.0 in omega (arith, many, few))
   | inr x ↦ missing_held node ps x.1.0 held x.1.2
 ]
 
 -- the nodes of a leaf count are its own
-pub sized_held : {F : Type 0} (rule : List ℕ → List ℕ) (max_leaves max_nodes : ℕ) → IsLawful rule max_leaves max_nodes → (n m : ℕ) → n ≤ max_leaves → size rule n ≡ m → (e : Error F) → IsSizeRefusal rule max_nodes m e → ⊥
+pub sized_held : {F : Type 0} (rule : List ℕ → List ℕ) (max_leaves max_nodes : ℕ) → IsLawful rule max_leaves max_nodes → (n m : ℕ) → n ≤ max_leaves
+    → size rule n ≡ m → (e : Error F) → IsSizeRefusal rule max_nodes m e → ⊥
 sized_held rule max_leaves max_nodes law n m l at e refused = elim refused [
   | inl x ↦ absurd (let many : max_nodes < m = x.0 in omega (arith, many, at, size_le rule n max_leaves l, law.size_at_limit))
   | inr x ↦ x.1 n at

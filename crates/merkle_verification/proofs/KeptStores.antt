@@ -66,7 +66,8 @@ module _ (rule : List ℕ → List ℕ) (bagging : Bagging) (n k a b : ℕ) (c :
 slice_of : {D : Type 0} (ds : List D) (i j k l : ℕ) → i ≡ k → j ≡ l → slice_get (take i (drop j ds)) 0 ≡ slice_get (take k (drop l ds)) 0
 slice_of ds i j k l e f = ap₂ (λ x y. slice_get (take x (drop y ds)) 0) e f
 
-module _ {D : Type 0} (s : Scheme D) (r : RangeInput D) (c : RangeCounts) (reads : List ℕ) (plan : ArePlanned s.rule s.bagging r.leaves r.inactive r.start (end_of r) c reads) (fit : FitReads c reads) where
+module _ {D : Type 0} (s : Scheme D) (r : RangeInput D) (c : RangeCounts) (reads : List ℕ)
+    (plan : ArePlanned s.rule s.bagging r.leaves r.inactive r.start (end_of r) c reads) (fit : FitReads c reads) where
   abbrev ts : List Tree
   ts = peaks_of s.rule r.leaves
 
@@ -108,7 +109,8 @@ same_store : {D : Type 0} (n n' k k' : ℕ) (b b' : Bagging) (root : D) (a a' e 
 same_store {D} n n' k k' b b' root a a' e e' ps ps' qs qs' x x' y y' f g i j l m o p q = rw (f, g, i, j, l, m, o, p, q) refl
 
 -- what is kept of an input is its store
-pub kept : {D : Type 0} (s : Scheme D) (r : RangeInput D) (rule : List ℕ → List ℕ) (bagging : Bagging) (n k : ℕ) (digests : List D) (a b : ℕ) (pairs : List (ℕ × D)) → IsInput s r rule bagging n k digests a b pairs
+pub kept : {D : Type 0} (s : Scheme D) (r : RangeInput D) (rule : List ℕ → List ℕ) (bagging : Bagging) (n k : ℕ) (digests : List D) (a b : ℕ)
+    (pairs : List (ℕ × D)) → IsInput s r rule bagging n k digests a b pairs
     → (c : RangeCounts) (reads : List ℕ) → ArePlanned rule bagging n k a b c reads → FitReads c reads → (root : D) (index peaks : ℕ) (qs : List ℕ) (x y : Option D)
     → qs ≡ drop c.single (take c.after (drop c.before reads)) → index ≡ min c.folded 1 + length (drop c.folded (take c.before reads)) + length (take c.single (drop c.before reads)) → peaks ≡ length qs
     → x ≡ slice_get (take (min c.folded 1) (drop 0 digests)) 0 → y ≡ slice_get (take (min peaks 1) (drop index digests)) 0
@@ -132,7 +134,9 @@ kept {D} s r rule bagging n k digests a b pairs w c reads plan fit root index pe
 pub planned : (rule : List ℕ → List ℕ) (bagging : Bagging) (n k a b : ℕ) (q : LeafRange) (c : RangeCounts) (reads : List ℕ) → q ≡ record { leaves = n; start = a; end = b }
     → c.before ≡ length (wholly_before q.start (peaks_of rule q.leaves)) → c.after ≡ length (wholly_after q.end (peaks_of rule q.leaves))
     → c.folded ≡ length (folded_prefix bagging k (wholly_before q.start (peaks_of rule q.leaves)))
-    → c.single ≡ length (single_after bagging k (length (wholly_before q.start (peaks_of rule q.leaves)) + length (overlapping q.start q.end (peaks_of rule q.leaves))) (wholly_after q.end (peaks_of rule q.leaves)))
+    → c.single ≡ length (single_after bagging k
+    (length (wholly_before q.start (peaks_of rule q.leaves)) + length (overlapping q.start q.end (peaks_of rule q.leaves)))
+    (wholly_after q.end (peaks_of rule q.leaves)))
     → reads ≡ map position (nodes_read rule q.leaves q.start q.end) → ArePlanned rule bagging n k a b c reads
 planned rule bagging n k a b q c reads e before after folded single is =
     subst (λ (z : LeafRange). ArePlanned rule bagging z.leaves k z.start z.end c reads) e (record { before_is = before; after_is = after; folded_is = folded; single_is = single; reads_is = is })

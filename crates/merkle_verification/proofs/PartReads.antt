@@ -37,7 +37,8 @@ module _ {D : Type 0} (v : StoreValue D) where
   lacking_front (q ∷ qs) ps e w = ap (λ b. cond b (first_lacking (found_at v.pairs) (reverse (take (length ps - length v.suffix_peaks) ps))) (Some q)) w
 
   -- a suffix that ends with the store's own lacks what those before it lack
-  pub suffix_lacks : (ps front : List ℕ) → 0 < length ps → front ≡ take (length ps - length v.suffix_peaks) ps → ends_with ps v.suffix_peaks ≡ true → suffix_refusal_at v ps ≡ first_lacking (found_at v.pairs) (reverse front)
+  pub suffix_lacks : (ps front : List ℕ) → 0 < length ps → front ≡ take (length ps - length v.suffix_peaks) ps → ends_with ps v.suffix_peaks ≡ true
+      → suffix_refusal_at v ps ≡ first_lacking (found_at v.pairs) (reverse front)
   suffix_lacks [] front some e w = absurd (omega (arith, some))
   suffix_lacks (p ∷ ps) front some e w = lacking_front v.suffix_peaks (p ∷ ps) refl w ∙ ap (λ z. first_lacking (found_at v.pairs) (reverse z)) (sym e)
 
@@ -58,7 +59,9 @@ or_take x y p e = ap (λ w. option_or w y) e
 
 module _ {D : Type 0} (v : StoreValue D) where
   -- what two lists lack together
-  lacking_append : (ps qs : List ℕ) (rest : Option ℕ) → option_or (first_lacking (found_at v.pairs) (ps ++ qs)) rest ≡ option_or (first_lacking (found_at v.pairs) ps) (option_or (first_lacking (found_at v.pairs) qs) rest)
+  lacking_append : (ps qs : List ℕ) (rest : Option ℕ)
+      → option_or (first_lacking (found_at v.pairs) (ps ++ qs)) rest
+      ≡ option_or (first_lacking (found_at v.pairs) ps) (option_or (first_lacking (found_at v.pairs) qs) rest)
   lacking_append [] qs rest = refl
   lacking_append (p ∷ ps) qs rest = by_found (lacking_append ps qs rest) (found_at v.pairs p)
     where
@@ -70,8 +73,12 @@ module _ {D : Type 0} (v : StoreValue D) where
 
   -- what the parts lack, one after another
   pub parts_lack : (c : RangeCounts) (held : ℕ) (ps prefix before after suffix siblings : List ℕ)
-      → prefix ≡ take c.folded ps → before ≡ drop c.folded (take c.before ps) → after ≡ take c.single (drop c.before ps) → suffix ≡ drop c.single (take c.after (drop c.before ps)) → siblings ≡ drop (c.before + c.after) ps
-      → parts_refusal v (counts_with c held) ps ≡ option_or (first_lacking (found_at v.pairs) (drop held prefix)) (option_or (first_lacking (found_at v.pairs) before) (option_or (first_lacking (found_at v.pairs) after) (option_or (suffix_refusal_at v suffix) (first_lacking (found_at v.pairs) siblings))))
+      → prefix ≡ take c.folded ps → before ≡ drop c.folded (take c.before ps) → after ≡ take c.single (drop c.before ps)
+      → suffix ≡ drop c.single (take c.after (drop c.before ps)) → siblings ≡ drop (c.before + c.after) ps
+      → parts_refusal v (counts_with c held) ps
+      ≡ option_or (first_lacking (found_at v.pairs) (drop held prefix))
+      (option_or (first_lacking (found_at v.pairs) before)
+      (option_or (first_lacking (found_at v.pairs) after) (option_or (suffix_refusal_at v suffix) (first_lacking (found_at v.pairs) siblings))))
   parts_lack c held ps prefix before after suffix siblings e1 e2 e3 e4 e5 =
       ap₂ option_or (ap (λ z. first_lacking (found_at v.pairs) (drop held z)) (sym e1))
       (ap₂ option_or (ap (first_lacking (found_at v.pairs)) (ap₂ ◌++◌ (sym e2) (sym e3))) (ap₂ option_or (ap (suffix_refusal_at v) (sym e4)) (ap (first_lacking (found_at v.pairs)) (sym e5)))
@@ -82,13 +89,17 @@ module _ {D : Type 0} (v : StoreValue D) where
 
   -- the digests of the parts, appended one after another
   pub parts_read : (h : Hashing D) (c : RangeCounts) (held : ℕ) (ps prefix before after suffix siblings : List ℕ) (one two three four five six : List D) (x y : List D)
-      → prefix ≡ take c.folded ps → before ≡ drop c.folded (take c.before ps) → after ≡ take c.single (drop c.before ps) → suffix ≡ drop c.single (take c.after (drop c.before ps)) → siblings ≡ drop (c.before + c.after) ps
+      → prefix ≡ take c.folded ps → before ≡ drop c.folded (take c.before ps) → after ≡ take c.single (drop c.before ps)
+      → suffix ≡ drop c.single (take c.after (drop c.before ps)) → siblings ≡ drop (c.before + c.after) ps
       → x ≡ prefix_at h v held prefix → y ≡ suffix_at h v suffix
       → one ≡ [] → two ≡ one ++ x → three ≡ two ++ read_at h v before → four ≡ three ++ read_at h v after → five ≡ four ++ y → six ≡ five ++ read_at h v siblings
       → six ≡ proof_at h v (counts_with c held) ps
   parts_read h c held ps prefix before after suffix siblings one two three four five six x y e1 e2 e3 e4 e5 u w a b d f i j =
       let first : two ≡ x = b ∙ ap (λ z. z ++ x) a in
-      let third : four ≡ x ++ (read_at h v before ++ read_at h v after) = f ∙ ap (λ z. z ++ read_at h v after) (d ∙ ap (λ z. z ++ read_at h v before) first) ∙ append_assoc x (read_at h v before) (read_at h v after) in
+      let third : four ≡ x ++ (read_at h v before ++ read_at h v after) = f
+      ∙ ap (λ z. z ++ read_at h v after) (d ∙ ap (λ z. z ++ read_at h v before) first) ∙ append_assoc x (read_at h v before) (read_at h v after) in
       let last : six ≡ x ++ ((read_at h v before ++ read_at h v after) ++ (y ++ read_at h v siblings)) =
-      j ∙ ap (λ z. z ++ read_at h v siblings) (i ∙ ap (λ z. z ++ y) third) ∙ append_assoc (x ++ (read_at h v before ++ read_at h v after)) y (read_at h v siblings) ∙ append_assoc x (read_at h v before ++ read_at h v after) (y ++ read_at h v siblings) in
+      j ∙ ap (λ z. z ++ read_at h v siblings) (i ∙ ap (λ z. z ++ y) third)
+      ∙ append_assoc (x ++ (read_at h v before ++ read_at h v after)) y (read_at h v siblings)
+      ∙ append_assoc x (read_at h v before ++ read_at h v after) (y ++ read_at h v siblings) in
       last ∙ ap₂ ◌++◌ (u ∙ ap (prefix_at h v held) e1) (ap₂ ◌++◌ (sym (read_append h before after) ∙ ap (read_at h v) (ap₂ ◌++◌ e2 e3)) (ap₂ ◌++◌ (w ∙ ap (suffix_at h v) e4) (ap (read_at h v) e5)))

@@ -1,5 +1,6 @@
 -- What is read at the positions of the peaks, and why nothing is.
-use Rattle.std.proofs.Common.{◌≡◌, ℕ, zero, suc, ◌+◌, ◌<◌, ◌≤◌, List, [], ◌∷◌, ◌++◌, length, length-take, map, take, drop, set, Option, Some, None, Ok, Err, slice_get, arith, refl, ap, ap₂, sym, ◌∙◌, subst, inl, inr}
+use Rattle.std.proofs.Common.{◌≡◌, ℕ, zero, suc, ◌+◌, ◌<◌, ◌≤◌, List, [], ◌∷◌, ◌++◌, length, length-take, map, take, drop, set, Option, Some, None, Ok, Err}
+use Rattle.std.proofs.Common.{slice_get, arith, refl, ap, ap₂, sym, ◌∙◌, subst, inl, inr}
 use Rattle.std.specs.Prelude.{is_some}
 use Rattle.std.specs.List.{AllByRecursion}
 use Rattle.std.proofs.lemmas.List.{length-map, map-append, take_more_set}
@@ -107,7 +108,8 @@ module _ {D : Type 0} (node : ℕ → Option D) where
       sym (length-map ds Some) ∙ ap length read ∙ length-map (peak_positions rule n) node ∙ length-map (peaks_of rule n) position
 
   -- where each peak is held, the root of an older state isn't refused
-  pub root_held : {F : Type 0} (rule : List ℕ → List ℕ) (max_leaves n k : ℕ) → n ≤ max_leaves → k ≤ length (peaks_of rule n) → AreNodesHeld node (peak_positions rule n) → (e : Error F) → IsRootRefusal rule max_leaves n k node e → ⊥
+  pub root_held : {F : Type 0} (rule : List ℕ → List ℕ) (max_leaves n k : ℕ) → n ≤ max_leaves → k ≤ length (peaks_of rule n)
+      → AreNodesHeld node (peak_positions rule n) → (e : Error F) → IsRootRefusal rule max_leaves n k node e → ⊥
   root_held rule max_leaves n k le few held e (inl x) = absurd (omega (arith, le, x.0))
   root_held rule max_leaves n k le few held e (inr x) = read_held rule n k node (peak_positions rule n) few held e x.1
 

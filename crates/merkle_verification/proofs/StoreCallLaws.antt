@@ -21,7 +21,8 @@ no_part_is_refused s r root a b e ok some low high (inr w) = nothing w.2.0 (sym 
 pub answered_is_accepted : {F D Peaks Heights : Type 0} → AnsweredIsAccepted F D Peaks Heights
 answered_is_accepted s r root a b p ok low high w =
     let q = part_input p r a b in
-    let count : length (take (b - a) (drop (a - r.start) r.elements)) ≡ b - a = omega (arith, length-take (b - a) (drop (a - r.start) r.elements), length-drop (a - r.start) r.elements, high, low, w.nonempty) in
+    let count : length (take (b - a) (drop (a - r.start) r.elements)) ≡ b - a =
+    omega (arith, length-take (b - a) (drop (a - r.start) r.elements), length-drop (a - r.start) r.elements, high, low, w.nonempty) in
     let stop : b ≡ end_of (part_input p r a b) = omega (arith, count, w.nonempty) in
     store_is_accepted s r q root ok (record {
       nonempty = omega (arith, count, w.nonempty);

@@ -20,7 +20,9 @@ returns-then-branch-clause-judged g c =
     let s = g.H.Hasher.scheme c.args.hasher.now in
     let is = g.met.H.Hasher.scheme_is c.args.hasher.now in
     let d = g.met.H.Digest.Digest in
-    let kept = sound _ _ _ _ (g.met.H.Hasher.over_digest c.args.hasher.now) s (g.H.Hasher.bagging_of c.args.hasher.now) g.F.Family.rule g.F.Family.MAX_LEAVES g.F.Family.MAX_NODES g.F.Family.DOMAIN g.H.Digest.Digest.SIZE is d.eq_decides g.H.Digest.Digest.Spells d.nonempty d.bytes_spell d.one_length d.bytes_decide g.met.F.Family.lawful in
+    let kept = sound _ _ _ _ (g.met.H.Hasher.over_digest c.args.hasher.now) s (g.H.Hasher.bagging_of c.args.hasher.now) g.F.Family.rule
+    g.F.Family.MAX_LEAVES g.F.Family.MAX_NODES g.F.Family.DOMAIN g.H.Digest.Digest.SIZE is d.eq_decides g.H.Digest.Digest.Spells d.nonempty
+    d.bytes_spell d.one_length d.bytes_decide g.met.F.Family.lawful in
     let X = c.args.list.now in
     let k = c.args.inactive in
     let ok = c.in-Ok.ensures.ok in
@@ -40,7 +42,9 @@ returns-then-not-is_accepted-clause-judged g c =
     let s = g.H.Hasher.scheme c.args.hasher.now in
     let is = g.met.H.Hasher.scheme_is c.args.hasher.now in
     let d = g.met.H.Digest.Digest in
-    let kept = sound _ _ _ _ (g.met.H.Hasher.over_digest c.args.hasher.now) s (g.H.Hasher.bagging_of c.args.hasher.now) g.F.Family.rule g.F.Family.MAX_LEAVES g.F.Family.MAX_NODES g.F.Family.DOMAIN g.H.Digest.Digest.SIZE is d.eq_decides g.H.Digest.Digest.Spells d.nonempty d.bytes_spell d.one_length d.bytes_decide g.met.F.Family.lawful in
+    let kept = sound _ _ _ _ (g.met.H.Hasher.over_digest c.args.hasher.now) s (g.H.Hasher.bagging_of c.args.hasher.now) g.F.Family.rule
+    g.F.Family.MAX_LEAVES g.F.Family.MAX_NODES g.F.Family.DOMAIN g.H.Digest.Digest.SIZE is d.eq_decides g.H.Digest.Digest.Spells d.nonempty
+    d.bytes_spell d.one_length d.bytes_decide g.met.F.Family.lawful in
     let X = c.args.list.now in
     let k = c.args.inactive in
     let r = multi_input_of s c.args.proof.now c.args.elements.now in
@@ -61,18 +65,22 @@ returns-clause-judged g c =
     let s = g.H.Hasher.scheme c.args.hasher.now in
     let is = g.met.H.Hasher.scheme_is c.args.hasher.now in
     let d = g.met.H.Digest.Digest in
-    let kept = sound _ _ _ _ (g.met.H.Hasher.over_digest c.args.hasher.now) s (g.H.Hasher.bagging_of c.args.hasher.now) g.F.Family.rule g.F.Family.MAX_LEAVES g.F.Family.MAX_NODES g.F.Family.DOMAIN g.H.Digest.Digest.SIZE is d.eq_decides g.H.Digest.Digest.Spells d.nonempty d.bytes_spell d.one_length d.bytes_decide g.met.F.Family.lawful in
+    let kept = sound _ _ _ _ (g.met.H.Hasher.over_digest c.args.hasher.now) s (g.H.Hasher.bagging_of c.args.hasher.now) g.F.Family.rule
+    g.F.Family.MAX_LEAVES g.F.Family.MAX_NODES g.F.Family.DOMAIN g.H.Digest.Digest.SIZE is d.eq_decides g.H.Digest.Digest.Spells d.nonempty
+    d.bytes_spell d.one_length d.bytes_decide g.met.F.Family.lawful in
     let X = c.args.list.now in
     let k = c.args.inactive in
     let r = multi_input_of s c.args.proof.now c.args.elements.now in
     let list = c.in-Ok-new.ensures.hashed in
     let exact = c.in-Ok-verify_multi_inclusion.ensures.exact in
-    let over = subst (λ h. IsOver h g.H.Digest.Digest.bytes g.H.Digest.PartialEq.eq g.H.Digest.Digest.EMPTY) (sym (ap (λ (z : Scheme g.row.H-Digest.Denot). z.hashing) is)) (g.met.H.Hasher.over_digest c.args.hasher.now) in
+    let over = subst (λ h. IsOver h g.H.Digest.Digest.bytes g.H.Digest.PartialEq.eq g.H.Digest.Digest.EMPTY)
+    (sym (ap (λ (z : Scheme g.row.H-Digest.Denot). z.hashing) is)) (g.met.H.Hasher.over_digest c.args.hasher.now) in
     let ok = subst (AcceptsMulti s r) list.root (exact.0 c.if-not-is_accepted.false) in
     let claim = c.in-Ok-accepted.claim in
     let o = option_map located c.first_of-found.result in
     let under = option_map located claim.1 in
     let found = multi_found s _ _ kept g.H.Digest.Digest.EMPTY X k list.few list.low r ok claim.0 c.in-Ok-accepted.ensures.top _ list.nodes c.in-Ok-new.listed.top list.top o under
-    (λ q. c.first_of-found.ensures ∙ ap (λ z. or_else z under) (c.first_above.ensures.apart q)) (λ q. c.first_of-found.ensures ∙ ap (λ z. or_else z under) (c.first_above.ensures.same s.hashing over q)) c.in-Ok-accepted.ensures.below in
+    (λ q. c.first_of-found.ensures ∙ ap (λ z. or_else z under) (c.first_above.ensures.apart q))
+    (λ q. c.first_of-found.ensures ∙ ap (λ z. or_else z under) (c.first_above.ensures.same s.hashing over q)) c.in-Ok-accepted.ensures.below in
     found_verdict (AcceptsMulti s r (list_root s X k)) (IsHonestMulti s X k r) s.hashing (multi_inputs s r) (list_inputs s X k) c.verdict.result
     o (multi_yes s _ _ kept X k list.few list.low r ok o found) c.verdict.ensures.accepted c.verdict.ensures.honest c.verdict.ensures.collision

@@ -19,7 +19,8 @@ first_difference-found-requires g c =
     let s = g.H.Hasher.scheme c.args.hasher.now in
     let is = g.met.H.Hasher.scheme_is c.args.hasher.now in
     let q = input_of s c.args.second.0.now c.args.second.2 (bytes_of c.args.second.1.now) in
-    let other = at_some c.in-Ok-Some-accepted.field-0 (λ k. (reconstructed s q ≡ Ok c.args.root.now) × IsClaim g.H.Digest.Digest.EMPTY s q k) c.in-Ok-Some-accepted.claim c.in-Ok-Some-accepted.field-0-is c.in-Ok-Some-accepted.ensures.some in
+    let other = at_some c.in-Ok-Some-accepted.field-0 (λ k. (reconstructed s q ≡ Ok c.args.root.now) × IsClaim g.H.Digest.Digest.EMPTY s q k)
+    c.in-Ok-Some-accepted.claim c.in-Ok-Some-accepted.field-0-is c.in-Ok-Some-accepted.ensures.some in
     let rule_is = sym (ap (λ (z : Scheme g.row.H-Digest.Denot). z.rule) is) in
     let few : q.leaves ≤ g.F.Family.MAX_LEAVES = omega (arith, other.1.bounded, ap (λ (z : Scheme g.row.H-Digest.Denot). z.max_leaves) is) in
     let peaks = c.deref.ensures.value ∙ other.1.peaks in
@@ -45,17 +46,23 @@ returns-clause-judged g c =
     let s = g.H.Hasher.scheme c.args.hasher.now in
     let is = g.met.H.Hasher.scheme_is c.args.hasher.now in
     let d = g.met.H.Digest.Digest in
-    let kept = sound _ _ _ _ (g.met.H.Hasher.over_digest c.args.hasher.now) s (g.H.Hasher.bagging_of c.args.hasher.now) g.F.Family.rule g.F.Family.MAX_LEAVES g.F.Family.MAX_NODES g.F.Family.DOMAIN g.H.Digest.Digest.SIZE is d.eq_decides g.H.Digest.Digest.Spells d.nonempty d.bytes_spell d.one_length d.bytes_decide g.met.F.Family.lawful in
+    let kept = sound _ _ _ _ (g.met.H.Hasher.over_digest c.args.hasher.now) s (g.H.Hasher.bagging_of c.args.hasher.now) g.F.Family.rule
+    g.F.Family.MAX_LEAVES g.F.Family.MAX_NODES g.F.Family.DOMAIN g.H.Digest.Digest.SIZE is d.eq_decides g.H.Digest.Digest.Spells d.nonempty
+    d.bytes_spell d.one_length d.bytes_decide g.met.F.Family.lawful in
     let r = input_of s c.args.first.0.now c.args.first.2 (bytes_of c.args.first.1.now) in
     let q = input_of s c.args.second.0.now c.args.second.2 (bytes_of c.args.second.1.now) in
-    let one = at_some c.in-Ok-Some.field-0 (λ k. (reconstructed s r ≡ Ok c.args.root.now) × IsClaim g.H.Digest.Digest.EMPTY s r k) c.in-Ok-Some.claim c.in-Ok-Some.field-0-is c.in-Ok-Some.ensures.some in
-    let other = at_some c.in-Ok-Some-accepted.field-0 (λ k. (reconstructed s q ≡ Ok c.args.root.now) × IsClaim g.H.Digest.Digest.EMPTY s q k) c.in-Ok-Some-accepted.claim c.in-Ok-Some-accepted.field-0-is c.in-Ok-Some-accepted.ensures.some in
+    let one = at_some c.in-Ok-Some.field-0 (λ k. (reconstructed s r ≡ Ok c.args.root.now) × IsClaim g.H.Digest.Digest.EMPTY s r k) c.in-Ok-Some.claim
+    c.in-Ok-Some.field-0-is c.in-Ok-Some.ensures.some in
+    let other = at_some c.in-Ok-Some-accepted.field-0 (λ k. (reconstructed s q ≡ Ok c.args.root.now) × IsClaim g.H.Digest.Digest.EMPTY s q k)
+    c.in-Ok-Some-accepted.claim c.in-Ok-Some-accepted.field-0-is c.in-Ok-Some-accepted.ensures.some in
     let rule_is = sym (ap (λ (z : Scheme g.row.H-Digest.Denot). z.rule) is) in
     let few : q.leaves ≤ g.F.Family.MAX_LEAVES = omega (arith, other.1.bounded, ap (λ (z : Scheme g.row.H-Digest.Denot). z.max_leaves) is) in
     let peaks = c.deref.ensures.value ∙ other.1.peaks in
     let nodes = subst (λ rule. AreNodes g.F.Family.rule g.F.Family.MAX_LEAVES (peaks_of rule q.leaves)) rule_is (peaks_at g.F.Family.rule g.F.Family.MAX_LEAVES q.leaves few) in
-    let over = subst (λ h. IsOver h g.H.Digest.Digest.bytes g.H.Digest.PartialEq.eq g.H.Digest.Digest.EMPTY) (sym (ap (λ (z : Scheme g.row.H-Digest.Denot). z.hashing) is)) (g.met.H.Hasher.over_digest c.args.hasher.now) in
+    let over = subst (λ h. IsOver h g.H.Digest.Digest.bytes g.H.Digest.PartialEq.eq g.H.Digest.Digest.EMPTY)
+    (sym (ap (λ (z : Scheme g.row.H-Digest.Denot). z.hashing) is)) (g.met.H.Hasher.over_digest c.args.hasher.now) in
     let o = option_map located c.first_difference-found.result in
-    let found = pair_found s _ _ kept g.H.Digest.Digest.EMPTY c.args.root.now r q one.0 other.0 c.in-Ok-Some.claim c.in-Ok-Some-accepted.claim one.1 other.1 o c.first_difference-found.ensures.apart (λ e f k x y.
+    let found = pair_found s _ _ kept g.H.Digest.Digest.EMPTY c.args.root.now r q one.0 other.0 c.in-Ok-Some.claim c.in-Ok-Some-accepted.claim one.1
+    other.1 o c.first_difference-found.ensures.apart (λ e f k x y.
     c.first_difference-found.ensures.same s.hashing (peaks_of s.rule q.leaves) f k over e peaks nodes x y) in
     found_pair s c.args.root.now r q c.verdict.result _ _ kept (one.0, other.0) o found c.verdict.ensures.accepted c.verdict.ensures.consistent c.verdict.ensures.collision

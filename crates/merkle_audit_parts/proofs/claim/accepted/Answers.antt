@@ -41,10 +41,16 @@ returns-in-Ok-claim-clause-some g c =
     let r = input_of s c.args.proof.now c.args.start (bytes_of es) in
     let count : length r.elements ≡ length es = length-leaf_digests s.hashing s.rule c.args.start (bytes_of es) ∙ length-map es (λ e. e.now) in
     elim c.match-new.branch [
-      | in-Ok w ↦ ((leads_is_accepted s r c.args.root.now).1 (inl w.in-Ok.ensures.accepted), IfOk-at_ok (IsClaim g.H.Digest.Digest.EMPTY s r) (sym w.claim-is ∙ c.in-Ok-claim.is) w.claim_of-claim.ensures.claim)
+      | in-Ok w ↦ (
+        (leads_is_accepted s r c.args.root.now).1 (inl w.in-Ok.ensures.accepted),
+        IfOk-at_ok (IsClaim g.H.Digest.Digest.EMPTY s r) (sym w.claim-is ∙ c.in-Ok-claim.is) w.claim_of-claim.ensures.claim,
+      )
       | in-Err+in-Empty w ↦
           (let led = empty_led s r c.args.root.now w.in-Err.error es w.in-Empty.is w.in-Err.ensures.err in
           let empty = (let none : length es ≡ 0 = ap length led.1 in
-          let accepted : IsEmptyInput r = elim ((leads_is_accepted s r c.args.root.now).0 led.0) [ inl a ↦ absurd (omega (arith, a.nonempty, count, none)) | inr a ↦ a.0 ] in accepted) in
-          (led.0, IfOk-at_ok (λ k. (q : RangeInput g.row.H-Digest.Denot) → IsEmptyInput q → IsClaim g.H.Digest.Digest.EMPTY s q k) (sym w.claim-is ∙ c.in-Ok-claim.is) w.empty_claim.ensures.claim r empty))
+          let accepted : IsEmptyInput r = elim ((leads_is_accepted s r c.args.root.now).0 led.0) [ inl a ↦ absurd (omega (arith, a.nonempty, count, none)) | inr a ↦ a.0 ] in accepted) in (
+            led.0,
+            IfOk-at_ok (λ k. (q : RangeInput g.row.H-Digest.Denot) → IsEmptyInput q → IsClaim g.H.Digest.Digest.EMPTY s q k)
+                (sym w.claim-is ∙ c.in-Ok-claim.is) w.empty_claim.ensures.claim r empty,
+          ))
     ]

@@ -20,7 +20,8 @@ use Rattle.merkle_audit_parts.proofs.claim.claim_of.Goals as goal
 
 pub returns-in-Err-clause-refused : goal.returns-in-Err-clause-refused
 returns-in-Err-clause-refused g c = only_memory c.in-Err.error (λ f.
-    no_refusal g.F.Family.MAX_LEAVES c.args.proof.now.leaves c.args.range.start c.args.range.end c.in-Err.error c.requires.nonempty c.requires.within c.requires.within_max_leaves (c.in-Err.ensures.err f))
+    no_refusal g.F.Family.MAX_LEAVES c.args.proof.now.leaves c.args.range.start c.args.range.end c.in-Err.error c.requires.nonempty c.requires.within
+    c.requires.within_max_leaves (c.in-Err.ensures.err f))
 
 pub unreachable-requires : goal.unreachable-requires
 unreachable-requires g c =
@@ -34,7 +35,8 @@ unreachable-requires g c =
     let plan = c.in-Ok.ensures.ok in
     let rule_is = sym (ap (λ (z : Scheme g.row.H-Digest.Denot). z.rule) is) in
     let bagging_is = c.root_bagging.ensures ∙ sym (ap (λ (z : Scheme g.row.H-Digest.Denot). z.bagging) is) in
-    let part : (f : (List ℕ → List ℕ) → Bagging → (n a b : ℕ) → ℕ) → f g.F.Family.rule c.root_bagging.result c.in-Ok.plan.leaves c.in-Ok.plan.start c.in-Ok.plan.end ≡ f s.rule s.bagging r.leaves r.start (end_of r) =
+    let part : (f : (List ℕ → List ℕ) → Bagging → (n a b : ℕ) → ℕ)
+    → f g.F.Family.rule c.root_bagging.result c.in-Ok.plan.leaves c.in-Ok.plan.start c.in-Ok.plan.end ≡ f s.rule s.bagging r.leaves r.start (end_of r) =
     part_is s r g.F.Family.rule c.root_bagging.result c.in-Ok.plan rule_is bagging_is (ap (λ z. z.leaves) plan) (ap (λ z. z.start) plan) (ap (λ z. z.end) plan ∙ ends) in
     omega (arith, c.in-None.ensures.none, w.1.inactive, part (λ rule b n a e. length (peaks_of rule n)))
 
@@ -50,14 +52,19 @@ parts-requires-clause-given g c =
     let plan = c.in-Ok.ensures.ok in
     let rule_is = sym (ap (λ (z : Scheme g.row.H-Digest.Denot). z.rule) is) in
     let bagging_is = c.root_bagging.ensures ∙ sym (ap (λ (z : Scheme g.row.H-Digest.Denot). z.bagging) is) in
-    let part : (f : (List ℕ → List ℕ) → Bagging → (n a b : ℕ) → ℕ) → f g.F.Family.rule c.root_bagging.result c.in-Ok.plan.leaves c.in-Ok.plan.start c.in-Ok.plan.end ≡ f s.rule s.bagging r.leaves r.start (end_of r) =
+    let part : (f : (List ℕ → List ℕ) → Bagging → (n a b : ℕ) → ℕ)
+    → f g.F.Family.rule c.root_bagging.result c.in-Ok.plan.leaves c.in-Ok.plan.start c.in-Ok.plan.end ≡ f s.rule s.bagging r.leaves r.start (end_of r) =
     part_is s r g.F.Family.rule c.root_bagging.result c.in-Ok.plan rule_is bagging_is (ap (λ z. z.leaves) plan) (ap (λ z. z.start) plan) (ap (λ z. z.end) plan ∙ ends) in
     let k = c.args.proof.now.inactive_peaks in
     let n1 = c.in-Some.ensures.folded ∙ part (λ rule b n a e. length (folded_prefix b k (wholly_before a (peaks_of rule n)))) in
     let n2 = c.in-Some.ensures.before ∙ part (λ rule b n a e. length (single_before b k (wholly_before a (peaks_of rule n)))) in
     let n3 = c.in-Some.ensures.overlapping ∙ part (λ rule b n a e. length (overlapping a e (peaks_of rule n))) in
-    let n4 = c.in-Some.ensures.after ∙ part (λ rule b n a e. length (single_after b k (length (wholly_before a (peaks_of rule n)) + length (overlapping a e (peaks_of rule n))) (wholly_after e (peaks_of rule n)))) in
-    let n5 = c.in-Some.ensures.suffix ∙ part (λ rule b n a e. length (folded_suffix b k (length (wholly_before a (peaks_of rule n)) + length (overlapping a e (peaks_of rule n))) (wholly_after e (peaks_of rule n)))) in
+    let n4 = c.in-Some.ensures.after
+    ∙ part (λ rule b n a e. length
+    (single_after b k (length (wholly_before a (peaks_of rule n)) + length (overlapping a e (peaks_of rule n))) (wholly_after e (peaks_of rule n)))) in
+    let n5 = c.in-Some.ensures.suffix
+    ∙ part (λ rule b n a e. length
+    (folded_suffix b k (length (wholly_before a (peaks_of rule n)) + length (overlapping a e (peaks_of rule n))) (wholly_after e (peaks_of rule n)))) in
     omega (arith, digests_fit s r w.0 w.1 _ _ _ _ _ n1 n2 n3 n4 n5, ap length c.deref.ensures.value)
 
 pub parts-requires-clause-peaks : goal.parts-requires-clause-peaks
@@ -72,15 +79,26 @@ parts-requires-clause-peaks g c =
     let plan = c.in-Ok.ensures.ok in
     let rule_is = sym (ap (λ (z : Scheme g.row.H-Digest.Denot). z.rule) is) in
     let bagging_is = c.root_bagging.ensures ∙ sym (ap (λ (z : Scheme g.row.H-Digest.Denot). z.bagging) is) in
-    let part : (f : (List ℕ → List ℕ) → Bagging → (n a b : ℕ) → ℕ) → f g.F.Family.rule c.root_bagging.result c.in-Ok.plan.leaves c.in-Ok.plan.start c.in-Ok.plan.end ≡ f s.rule s.bagging r.leaves r.start (end_of r) =
+    let part : (f : (List ℕ → List ℕ) → Bagging → (n a b : ℕ) → ℕ)
+    → f g.F.Family.rule c.root_bagging.result c.in-Ok.plan.leaves c.in-Ok.plan.start c.in-Ok.plan.end ≡ f s.rule s.bagging r.leaves r.start (end_of r) =
     part_is s r g.F.Family.rule c.root_bagging.result c.in-Ok.plan rule_is bagging_is (ap (λ z. z.leaves) plan) (ap (λ z. z.start) plan) (ap (λ z. z.end) plan ∙ ends) in
     let k = c.args.proof.now.inactive_peaks in
     let n1 = c.in-Some.ensures.folded ∙ part (λ rule b n a e. length (folded_prefix b k (wholly_before a (peaks_of rule n)))) in
     let n2 = c.in-Some.ensures.before ∙ part (λ rule b n a e. length (single_before b k (wholly_before a (peaks_of rule n)))) in
     let n3 = c.in-Some.ensures.overlapping ∙ part (λ rule b n a e. length (overlapping a e (peaks_of rule n))) in
-    let n4 = c.in-Some.ensures.after ∙ part (λ rule b n a e. length (single_after b k (length (wholly_before a (peaks_of rule n)) + length (overlapping a e (peaks_of rule n))) (wholly_after e (peaks_of rule n)))) in
-    let n5 = c.in-Some.ensures.suffix ∙ part (λ rule b n a e. length (folded_suffix b k (length (wholly_before a (peaks_of rule n)) + length (overlapping a e (peaks_of rule n))) (wholly_after e (peaks_of rule n)))) in
-    omega (arith, peaks_fit s r w.0 w.1 _ _ _ _ _ n1 n2 n3 n4 n5, ap length (c.deref-2.ensures.value ∙ c.in_ok-peaks.ensures), length-map (peaks_of g.F.Family.rule c.args.proof.now.leaves) (subtree_of {F = g.row.F.Denot}), ap (λ rule. length (peaks_of rule c.args.proof.now.leaves)) rule_is)
+    let n4 = c.in-Some.ensures.after
+    ∙ part (λ rule b n a e. length
+    (single_after b k (length (wholly_before a (peaks_of rule n)) + length (overlapping a e (peaks_of rule n))) (wholly_after e (peaks_of rule n)))) in
+    let n5 = c.in-Some.ensures.suffix
+    ∙ part (λ rule b n a e. length
+    (folded_suffix b k (length (wholly_before a (peaks_of rule n)) + length (overlapping a e (peaks_of rule n))) (wholly_after e (peaks_of rule n)))) in
+    omega (
+      arith,
+      peaks_fit s r w.0 w.1 _ _ _ _ _ n1 n2 n3 n4 n5,
+      ap length (c.deref-2.ensures.value ∙ c.in_ok-peaks.ensures),
+      length-map (peaks_of g.F.Family.rule c.args.proof.now.leaves) (subtree_of {F = g.row.F.Denot}),
+      ap (λ rule. length (peaks_of rule c.args.proof.now.leaves)) rule_is,
+    )
 
 pub above_peaks-requires : goal.above_peaks-requires
 above_peaks-requires g c =
@@ -94,14 +112,19 @@ above_peaks-requires g c =
     let plan = c.in-Ok.ensures.ok in
     let rule_is = sym (ap (λ (z : Scheme g.row.H-Digest.Denot). z.rule) is) in
     let bagging_is = c.root_bagging.ensures ∙ sym (ap (λ (z : Scheme g.row.H-Digest.Denot). z.bagging) is) in
-    let part : (f : (List ℕ → List ℕ) → Bagging → (n a b : ℕ) → ℕ) → f g.F.Family.rule c.root_bagging.result c.in-Ok.plan.leaves c.in-Ok.plan.start c.in-Ok.plan.end ≡ f s.rule s.bagging r.leaves r.start (end_of r) =
+    let part : (f : (List ℕ → List ℕ) → Bagging → (n a b : ℕ) → ℕ)
+    → f g.F.Family.rule c.root_bagging.result c.in-Ok.plan.leaves c.in-Ok.plan.start c.in-Ok.plan.end ≡ f s.rule s.bagging r.leaves r.start (end_of r) =
     part_is s r g.F.Family.rule c.root_bagging.result c.in-Ok.plan rule_is bagging_is (ap (λ z. z.leaves) plan) (ap (λ z. z.start) plan) (ap (λ z. z.end) plan ∙ ends) in
     let k = c.args.proof.now.inactive_peaks in
     let n1 = c.in-Some.ensures.folded ∙ part (λ rule b n a e. length (folded_prefix b k (wholly_before a (peaks_of rule n)))) in
     let n2 = c.in-Some.ensures.before ∙ part (λ rule b n a e. length (single_before b k (wholly_before a (peaks_of rule n)))) in
     let n3 = c.in-Some.ensures.overlapping ∙ part (λ rule b n a e. length (overlapping a e (peaks_of rule n))) in
-    let n4 = c.in-Some.ensures.after ∙ part (λ rule b n a e. length (single_after b k (length (wholly_before a (peaks_of rule n)) + length (overlapping a e (peaks_of rule n))) (wholly_after e (peaks_of rule n)))) in
-    let n5 = c.in-Some.ensures.suffix ∙ part (λ rule b n a e. length (folded_suffix b k (length (wholly_before a (peaks_of rule n)) + length (overlapping a e (peaks_of rule n))) (wholly_after e (peaks_of rule n)))) in
+    let n4 = c.in-Some.ensures.after
+    ∙ part (λ rule b n a e. length
+    (single_after b k (length (wholly_before a (peaks_of rule n)) + length (overlapping a e (peaks_of rule n))) (wholly_after e (peaks_of rule n)))) in
+    let n5 = c.in-Some.ensures.suffix
+    ∙ part (λ rule b n a e. length
+    (folded_suffix b k (length (wholly_before a (peaks_of rule n)) + length (overlapping a e (peaks_of rule n))) (wholly_after e (peaks_of rule n)))) in
     let few = few_peaks g.F.Family.rule g.F.Family.MAX_LEAVES g.F.Family.MAX_NODES g.met.F.Family.lawful c.args.proof.now.leaves c.requires.within_max_leaves in
     let n : RangeNodes g.row.F.Denot g.row.H-Digest.Denot g.row.F-Peaks.Denot g.row.F-ParentHeights.Denot = record { start = c.args.range.start; end = c.args.range.end; store = Some c.args.store } in
     omega (
@@ -112,7 +135,10 @@ above_peaks-requires g c =
       w.1.inactive,
       c.max.ensures,
       ap length (c.deref-3.ensures.value ∙ c.in_ok-digests.ensures),
-      short (λ (q : Subtree g.row.F.Denot). digest_in_claim g.H.Digest.Digest.EMPTY n q.position) (min c.in-Some.groups.folded 1 + c.in-Some.groups.before) c.in-Some.groups.overlapping (c.in-Some.groups.after + min c.in-Some.groups.suffix 1) (min c.in-Some.groups.folded 1 + c.in-Some.groups.before) c.deref.result.now (drop (c.in-Some.groups.folded + c.in-Some.groups.before) c.deref-2.result.now),
+      short (λ (q : Subtree g.row.F.Denot). digest_in_claim g.H.Digest.Digest.EMPTY n q.position)
+          (min c.in-Some.groups.folded 1 + c.in-Some.groups.before) c.in-Some.groups.overlapping
+          (c.in-Some.groups.after + min c.in-Some.groups.suffix 1) (min c.in-Some.groups.folded 1 + c.in-Some.groups.before) c.deref.result.now
+          (drop (c.in-Some.groups.folded + c.in-Some.groups.before) c.deref-2.result.now),
     )
 
 pub returns-clause-claim : goal.returns-clause-claim
@@ -127,21 +153,29 @@ returns-clause-claim g c =
     let plan = c.in-Ok.ensures.ok in
     let rule_is = sym (ap (λ (z : Scheme g.row.H-Digest.Denot). z.rule) is) in
     let bagging_is = c.root_bagging.ensures ∙ sym (ap (λ (z : Scheme g.row.H-Digest.Denot). z.bagging) is) in
-    let part : (f : (List ℕ → List ℕ) → Bagging → (n a b : ℕ) → ℕ) → f g.F.Family.rule c.root_bagging.result c.in-Ok.plan.leaves c.in-Ok.plan.start c.in-Ok.plan.end ≡ f s.rule s.bagging r.leaves r.start (end_of r) =
+    let part : (f : (List ℕ → List ℕ) → Bagging → (n a b : ℕ) → ℕ)
+    → f g.F.Family.rule c.root_bagging.result c.in-Ok.plan.leaves c.in-Ok.plan.start c.in-Ok.plan.end ≡ f s.rule s.bagging r.leaves r.start (end_of r) =
     part_is s r g.F.Family.rule c.root_bagging.result c.in-Ok.plan rule_is bagging_is (ap (λ z. z.leaves) plan) (ap (λ z. z.start) plan) (ap (λ z. z.end) plan ∙ ends) in
     let k = c.args.proof.now.inactive_peaks in
     let n1 = c.in-Some.ensures.folded ∙ part (λ rule b n a e. length (folded_prefix b k (wholly_before a (peaks_of rule n)))) in
     let n2 = c.in-Some.ensures.before ∙ part (λ rule b n a e. length (single_before b k (wholly_before a (peaks_of rule n)))) in
     let n3 = c.in-Some.ensures.overlapping ∙ part (λ rule b n a e. length (overlapping a e (peaks_of rule n))) in
-    let n4 = c.in-Some.ensures.after ∙ part (λ rule b n a e. length (single_after b k (length (wholly_before a (peaks_of rule n)) + length (overlapping a e (peaks_of rule n))) (wholly_after e (peaks_of rule n)))) in
-    let n5 = c.in-Some.ensures.suffix ∙ part (λ rule b n a e. length (folded_suffix b k (length (wholly_before a (peaks_of rule n)) + length (overlapping a e (peaks_of rule n))) (wholly_after e (peaks_of rule n)))) in
+    let n4 = c.in-Some.ensures.after
+    ∙ part (λ rule b n a e. length
+    (single_after b k (length (wholly_before a (peaks_of rule n)) + length (overlapping a e (peaks_of rule n))) (wholly_after e (peaks_of rule n)))) in
+    let n5 = c.in-Some.ensures.suffix
+    ∙ part (λ rule b n a e. length
+    (folded_suffix b k (length (wholly_before a (peaks_of rule n)) + length (overlapping a e (peaks_of rule n))) (wholly_after e (peaks_of rule n)))) in
     let n : RangeNodes g.row.F.Denot g.row.H-Digest.Denot g.row.F-Peaks.Denot g.row.F-ParentHeights.Denot = record { start = c.args.range.start; end = c.args.range.end; store = Some c.args.store } in
     let f = digest_in_claim g.H.Digest.Digest.EMPTY n in
     let groups = c.in-Some.groups in
     let peaks = c.in_ok-peaks.ensures ∙ ap (λ rule. map subtree_of (peaks_of rule c.args.proof.now.leaves)) rule_is in
     let all = c.deref-3.ensures.value ∙ c.in_ok-digests.ensures
-    ∙ ap (λ ds. take (min groups.folded 1 + groups.before) ds ++ (map (λ (q : Subtree g.row.F.Denot). f q.position) (take groups.overlapping (drop (groups.folded + groups.before) c.deref-2.result.now)) ++ take (groups.after + min groups.suffix 1) (drop (min groups.folded 1 + groups.before) ds))) c.deref.ensures.value
-    ∙ claim_digests s r w.1.nonempty {F = g.row.F.Denot} f (told s r w.0 g.H.Digest.Digest.EMPTY w.1 n (ap Some w.2)) groups.folded groups.before groups.overlapping groups.after groups.suffix n1 n2 n3 n4 n5 c.deref-2.result.now (c.deref-2.ensures.value ∙ peaks) in
+    ∙ ap (λ ds. take (min groups.folded 1 + groups.before) ds
+    ++ (map (λ (q : Subtree g.row.F.Denot). f q.position) (take groups.overlapping (drop (groups.folded + groups.before) c.deref-2.result.now))
+    ++ take (groups.after + min groups.suffix 1) (drop (min groups.folded 1 + groups.before) ds))) c.deref.ensures.value
+    ∙ claim_digests s r w.1.nonempty {F = g.row.F.Denot} f (told s r w.0 g.H.Digest.Digest.EMPTY w.1 n (ap Some w.2)) groups.folded groups.before
+    groups.overlapping groups.after groups.suffix n1 n2 n3 n4 n5 c.deref-2.result.now (c.deref-2.ensures.value ∙ peaks) in
     claim_is s r w.0 g.H.Digest.Digest.EMPTY w.1 n (ap Some w.2) _ refl refl ends _ _ c.deref-3.result.now
     (omega (arith, c.min.ensures, c.saturating_sub.ensures, n1, length-fold_all (folded_prefix s.bagging k (wholly_before r.start (peaks_of s.rule r.leaves)))))
     (c.max.ensures ∙ ap (λ m. max m 1) n1 ∙ one_more _)

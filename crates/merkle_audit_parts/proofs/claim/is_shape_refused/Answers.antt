@@ -35,7 +35,8 @@ returns-in_default-error g c = λ _ d led.
     let ok = led_nonempty s r d (omega (arith, some, count)) led in
     let most = ap (λ (z : Scheme g.row.H-Digest.Denot). z.max_leaves) is in
     let end : c.in-Some.end ≡ c.args.start + length es = search rules in
-    no_refusal g.F.Family.MAX_LEAVES c.args.proof.now.leaves c.args.start c.in-Some.end c.in-Err.error (omega (arith, end, some)) (omega (arith, end, ok.within, count)) (omega (arith, ok.leaves, most))
+    no_refusal g.F.Family.MAX_LEAVES c.args.proof.now.leaves c.args.start c.in-Some.end c.in-Err.error (omega (arith, end, some))
+    (omega (arith, end, ok.within, count)) (omega (arith, ok.leaves, most))
     (c.in-Err.ensures.err c.in_default-error.not-OutOfMemory)
 
 pub returns : goal.returns
@@ -52,15 +53,18 @@ returns g c = λ yes d led.
     let plan = c.in-Ok.ensures.ok in
     let rule_is = sym (ap (λ (z : Scheme g.row.H-Digest.Denot). z.rule) is) in
     let bagging_is = c.root_bagging.ensures ∙ sym (ap (λ (z : Scheme g.row.H-Digest.Denot). z.bagging) is) in
-    let part : (f : (List ℕ → List ℕ) → Bagging → (n a b : ℕ) → ℕ) → f g.F.Family.rule c.root_bagging.result c.in-Ok.plan.leaves c.in-Ok.plan.start c.in-Ok.plan.end ≡ f s.rule s.bagging r.leaves r.start (end_of r) =
-    part_is s r g.F.Family.rule c.root_bagging.result c.in-Ok.plan rule_is bagging_is (ap (λ z. z.leaves) plan) (ap (λ z. z.start) plan) (ap (λ z. z.end) plan ∙ end ∙ ap (λ n. c.args.start + n) (sym count)) in
+    let part : (f : (List ℕ → List ℕ) → Bagging → (n a b : ℕ) → ℕ)
+    → f g.F.Family.rule c.root_bagging.result c.in-Ok.plan.leaves c.in-Ok.plan.start c.in-Ok.plan.end ≡ f s.rule s.bagging r.leaves r.start (end_of r) =
+    part_is s r g.F.Family.rule c.root_bagging.result c.in-Ok.plan rule_is bagging_is (ap (λ z. z.leaves) plan) (ap (λ z. z.start) plan)
+    (ap (λ z. z.end) plan ∙ end ∙ ap (λ n. c.args.start + n) (sym count)) in
     let k = c.args.proof.now.inactive_peaks in
     let of = c.in-Some-groups.ensures in
     let n1 = of.folded ∙ part (λ rule b n a e. length (folded_prefix b k (wholly_before a (peaks_of rule n)))) in
     let n2 = of.before ∙ part (λ rule b n a e. length (single_before b k (wholly_before a (peaks_of rule n)))) in
     let n3 = of.overlapping ∙ part (λ rule b n a e. length (overlapping a e (peaks_of rule n))) in
     let n4 = of.after ∙ part (λ rule b n a e. length (single_after b k (length (wholly_before a (peaks_of rule n)) + length (overlapping a e (peaks_of rule n))) (wholly_after e (peaks_of rule n)))) in
-    let n5 = of.suffix ∙ part (λ rule b n a e. length (folded_suffix b k (length (wholly_before a (peaks_of rule n)) + length (overlapping a e (peaks_of rule n))) (wholly_after e (peaks_of rule n)))) in
+    let n5 = of.suffix ∙ part (λ rule b n a e. length
+    (folded_suffix b k (length (wholly_before a (peaks_of rule n)) + length (overlapping a e (peaks_of rule n))) (wholly_after e (peaks_of rule n)))) in
     let many : c.len.result ≡ length c.args.proof.now.digests.items = search rules in
     let groups = c.in-Some-groups.groups in
     let counted = c.digest_count.ensures ∙ ap (λ (m : ℕ). (m - (groups.folded - 1)) - (groups.suffix - 1)) (part (λ rule b n a e. length (nodes_read rule n a e))) in

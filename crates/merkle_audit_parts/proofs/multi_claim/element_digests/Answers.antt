@@ -11,7 +11,8 @@ loop-element-preserved g c =
     let i = c.loop-element.element-index in
     let e = c.element-item.result in
     let e_is : e ≡ get_or es i e = search rules in
-    next_hashed h g.F.Family.rule es i e c.location_to_position-position.result c.loop-element.digests.items _ c.loop-element-test.true e_is c.location_to_position-position.ensures c.loop-element.invariant
+    next_hashed h g.F.Family.rule es i e c.location_to_position-position.result c.loop-element.digests.items _ c.loop-element-test.true e_is
+    c.location_to_position-position.ensures c.loop-element.invariant
     (c.in_ok-push.ensures.items ∙ ap (λ d. c.loop-element.digests.items ++ d ∷ []) c.leaf_digest.ensures)
 
 pub returns : goal.returns

@@ -10,7 +10,8 @@ use Rattle.merkle_audit_parts.proofs.pin_nodes.+first_pinned_at.Goals as goal
 
 pub returns-then-node-eq0 : goal.returns-then-node-eq0
 returns-then-node-eq0 g t c = λ h u f k over den sees sees'.
-    at_leaf h g.F.Family.rule g.F.Family.MAX_LEAVES _ _ _ (pinned_pair (g.H.Hasher.hashing c.args.hasher.now) g.H.Digest.Digest.EMPTY c.args.claimed.now) (g.B.Hashes.hashed c.args.listed.now) f k u den c.if-node-eq0.true
+    at_leaf h g.F.Family.rule g.F.Family.MAX_LEAVES _ _ _
+    (pinned_pair (g.H.Hasher.hashing c.args.hasher.now) g.H.Digest.Digest.EMPTY c.args.claimed.now) (g.B.Hashes.hashed c.args.listed.now) f k u den c.if-node-eq0.true
 
 pub children-left-requires : goal.children-left-requires
 children-left-requires g t c = let n = c.requires.node in inner_node _ _ _ _ _ n.0 n.1 c.if-node-eq0.false
@@ -24,7 +25,8 @@ pinned_digests-requires g t c =
 
 pub returns-in_default : goal.returns-in_default
 returns-in_default g t c = λ h u f k over den sees sees'.
-    claimed_silent h g.F.Family.rule g.F.Family.MAX_LEAVES _ _ _ (pinned_pair (g.H.Hasher.hashing c.args.hasher.now) g.H.Digest.Digest.EMPTY c.args.claimed.now) (g.B.Hashes.hashed c.args.listed.now) f k u den sees
+    claimed_silent h g.F.Family.rule g.F.Family.MAX_LEAVES _ _ _
+    (pinned_pair (g.H.Hasher.hashing c.args.hasher.now) g.H.Digest.Digest.EMPTY c.args.claimed.now) (g.B.Hashes.hashed c.args.listed.now) f k u den sees
     (λ q a b w. let v = c.children-left.ensures q a b w in sym (c.in_default.ensures q a b w v.0 v.1))
 
 pub pair-requires : goal.pair-requires
@@ -36,7 +38,8 @@ pair-requires g t c =
 
 pub returns-in_default-pair : goal.returns-in_default-pair
 returns-in_default-pair g t c = λ h u f k over den sees sees'.
-    other_silent h g.F.Family.rule g.F.Family.MAX_LEAVES _ _ _ (pinned_pair (g.H.Hasher.hashing c.args.hasher.now) g.H.Digest.Digest.EMPTY c.args.claimed.now) (g.B.Hashes.hashed c.args.listed.now) f k u den sees'
+    other_silent h g.F.Family.rule g.F.Family.MAX_LEAVES _ _ _
+    (pinned_pair (g.H.Hasher.hashing c.args.hasher.now) g.H.Digest.Digest.EMPTY c.args.claimed.now) (g.B.Hashes.hashed c.args.listed.now) f k u den sees'
     (λ q a b w. let v = c.children-left.ensures q a b w in sym (c.in_default-pair.ensures q a b v.0 v.1))
 
 pub first_pinned_at-requires : goal.first_pinned_at-requires
@@ -50,26 +53,34 @@ pub first_pinned_at-requires-in-None : goal.first_pinned_at-requires-in-None
 first_pinned_at-requires-in-None g t c κs within =
     let n = c.requires.node in
     let i = inner_node _ _ _ _ _ n.0 n.1 c.if-node-eq0.false in
-    let k = c.children-left.ensures i.0 i.1 i.2 i.3 in
-    (omega (arith, lower _ _ _ _ _ _ _ _ _ _ _ _ i.3 k.1 (inr (heights_same _ _ _ g.met.F.Family.lawful _ _ _ _ _ _ i.3)), c.decreases), (within.0, (within.1.0, (within.1.1.0, (within.1.1.1.0, (within.1.1.1.1.0, (within.1.1.1.1.1, (i.2, k.1))))))))
+    let k = c.children-left.ensures i.0 i.1 i.2 i.3 in (
+      omega (arith, lower _ _ _ _ _ _ _ _ _ _ _ _ i.3 k.1 (inr (heights_same _ _ _ g.met.F.Family.lawful _ _ _ _ _ _ i.3)), c.decreases),
+      (within.0, (within.1.0, (within.1.1.0, (within.1.1.1.0, (within.1.1.1.1.0, (within.1.1.1.1.1, (i.2, k.1))))))),
+    )
 
 pub returns-then-not-are_same : goal.returns-then-not-are_same
 returns-then-not-are_same g t c = λ h u f k over den sees sees'.
-    at_pinned h g.F.Family.rule g.F.Family.MAX_LEAVES _ _ _ (pinned_pair (g.H.Hasher.hashing c.args.hasher.now) g.H.Digest.Digest.EMPTY c.args.claimed.now) (g.B.Hashes.hashed c.args.listed.now) f k u den c.if-node-eq0.false sees sees' c.in-Some.one c.in-Some-pair.other false
+    at_pinned h g.F.Family.rule g.F.Family.MAX_LEAVES _ _ _
+    (pinned_pair (g.H.Hasher.hashing c.args.hasher.now) g.H.Digest.Digest.EMPTY c.args.claimed.now) (g.B.Hashes.hashed c.args.listed.now) f k u
+    den c.if-node-eq0.false sees sees' c.in-Some.one c.in-Some-pair.other false
     (tested over _ _ _ _ _ c.are_same.ensures ∙ c.if-not-are_same.true)
     (λ q a b w. let v = c.children-left.ensures q a b w in (sym (c.in-Some.ensures q a b w v.0 v.1), sym (c.in-Some-pair.ensures q a b v.0 v.1)))
     None (λ e. absurd (false≢true e))
 
 pub returns-in-Some-first_pinned_at : goal.returns-in-Some-first_pinned_at
 returns-in-Some-first_pinned_at g t c = λ h u f k over den sees sees'.
-    at_pinned h g.F.Family.rule g.F.Family.MAX_LEAVES _ _ _ (pinned_pair (g.H.Hasher.hashing c.args.hasher.now) g.H.Digest.Digest.EMPTY c.args.claimed.now) (g.B.Hashes.hashed c.args.listed.now) f k u den c.if-node-eq0.false sees sees' c.in-Some.one c.in-Some-pair.other true
+    at_pinned h g.F.Family.rule g.F.Family.MAX_LEAVES _ _ _
+    (pinned_pair (g.H.Hasher.hashing c.args.hasher.now) g.H.Digest.Digest.EMPTY c.args.claimed.now) (g.B.Hashes.hashed c.args.listed.now) f k u
+    den c.if-node-eq0.false sees sees' c.in-Some.one c.in-Some-pair.other true
     (tested over _ _ _ _ _ c.are_same.ensures ∙ c.if-not-are_same.false)
     (λ q a b w. let v = c.children-left.ensures q a b w in (sym (c.in-Some.ensures q a b w v.0 v.1), sym (c.in-Some-pair.ensures q a b v.0 v.1)))
     _ (λ e q a b w l l' r r'. let v = c.children-left.ensures q a b w in ap (λ o. or_else o (search_below h f k b)) (c.in-Some-first_pinned_at.ensures h a f k over v.0 l l'))
 
 pub returns-in-None : goal.returns-in-None
 returns-in-None g t c = λ h u f k over den sees sees'.
-    at_pinned h g.F.Family.rule g.F.Family.MAX_LEAVES _ _ _ (pinned_pair (g.H.Hasher.hashing c.args.hasher.now) g.H.Digest.Digest.EMPTY c.args.claimed.now) (g.B.Hashes.hashed c.args.listed.now) f k u den c.if-node-eq0.false sees sees' c.in-Some.one c.in-Some-pair.other true
+    at_pinned h g.F.Family.rule g.F.Family.MAX_LEAVES _ _ _
+    (pinned_pair (g.H.Hasher.hashing c.args.hasher.now) g.H.Digest.Digest.EMPTY c.args.claimed.now) (g.B.Hashes.hashed c.args.listed.now) f k u
+    den c.if-node-eq0.false sees sees' c.in-Some.one c.in-Some-pair.other true
     (tested over _ _ _ _ _ c.are_same.ensures ∙ c.if-not-are_same.false)
     (λ q a b w. let v = c.children-left.ensures q a b w in (sym (c.in-Some.ensures q a b w v.0 v.1), sym (c.in-Some-pair.ensures q a b v.0 v.1)))
     _ (λ e q a b w l l' r r'. let v = c.children-left.ensures q a b w in

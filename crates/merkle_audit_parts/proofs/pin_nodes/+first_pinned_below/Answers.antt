@@ -26,7 +26,8 @@ returns-in-Some-first_pinned_at g t c = λ h ts f k over same nodes sees sees'.
     let w = first_peak g.F.Family.rule g.F.Family.MAX_LEAVES c.args.peaks.now _ _ ts c.in-Some.ensures.cases.0 same nodes in
     searched_first h f k ts w.0 w.1 w.2 _ (all h f k w.1)
     (c.in-Some-first_pinned_at.ensures h w.0 f k over w.3
-    (subst (AllByRecursion (SeesDown (pinned_pair (g.H.Hasher.hashing c.args.hasher.now) g.H.Digest.Digest.EMPTY c.args.claimed.now) f)) w.2 sees).0 (subst (AllByRecursion (Sees (g.B.Hashes.hashed c.args.listed.now) k)) w.2 sees').0) refl
+    (subst (AllByRecursion (SeesDown (pinned_pair (g.H.Hasher.hashing c.args.hasher.now) g.H.Digest.Digest.EMPTY c.args.claimed.now) f)) w.2 sees).0
+    (subst (AllByRecursion (Sees (g.B.Hashes.hashed c.args.listed.now) k)) w.2 sees').0) refl
 
 pub returns-in-None : goal.returns-in-None
 returns-in-None g t c = λ h ts f k over same nodes sees sees'.

@@ -7,11 +7,13 @@ use Rattle.merkle_audit_parts.proofs.pin_nodes.+rebuilt_digest.Goals as goal
 
 pub returns-in-Some : goal.returns-in-Some
 returns-in-Some g t c = λ u w.
-    pinned_node g.F.Family.rule g.F.Family.MAX_LEAVES _ _ _ (g.H.Hasher.hashing c.args.hasher.now) (digest_for c.args.nodes.now.positions.items c.args.nodes.now.pins.items) u w c.in-Some.digest (sym c.in-Some.ensures)
+    pinned_node g.F.Family.rule g.F.Family.MAX_LEAVES _ _ _ (g.H.Hasher.hashing c.args.hasher.now)
+    (digest_for c.args.nodes.now.positions.items c.args.nodes.now.pins.items) u w c.in-Some.digest (sym c.in-Some.ensures)
 
 pub returns-then-subtree-eq0 : goal.returns-then-subtree-eq0
 returns-then-subtree-eq0 g t c = λ u w.
-    unpinned_leaf g.F.Family.rule g.F.Family.MAX_LEAVES _ _ _ (g.H.Hasher.hashing c.args.hasher.now) (digest_for c.args.nodes.now.positions.items c.args.nodes.now.pins.items) u w c.if-subtree-eq0.true (sym c.in_default.ensures) _
+    unpinned_leaf g.F.Family.rule g.F.Family.MAX_LEAVES _ _ _ (g.H.Hasher.hashing c.args.hasher.now)
+    (digest_for c.args.nodes.now.positions.items c.args.nodes.now.pins.items) u w c.if-subtree-eq0.true (sym c.in_default.ensures) _
     (c.EMPTY.ensures ∙ sym (g.met.H.Hasher.over_digest c.args.hasher.now).empty)
 
 pub children-left-requires : goal.children-left-requires
@@ -28,10 +30,13 @@ pub rebuilt_digest-second-requires : goal.rebuilt_digest-second-requires
 rebuilt_digest-second-requires g t c κs within =
     let n = c.requires.node in
     let i = inner_node _ _ _ _ _ n.0 n.1 c.if-subtree-eq0.false in
-    let k = c.children-left.ensures i.0 i.1 i.2 i.3 in
-    (omega (arith, lower _ _ _ _ _ _ _ _ _ _ _ _ i.3 k.1 (inr (heights_same _ _ _ g.met.F.Family.lawful _ _ _ _ _ _ i.3)), c.decreases), (within.0, (within.1.0, (within.1.1.0, (within.1.1.1.0, (within.1.1.1.1, (i.2, k.1)))))))
+    let k = c.children-left.ensures i.0 i.1 i.2 i.3 in (
+      omega (arith, lower _ _ _ _ _ _ _ _ _ _ _ _ i.3 k.1 (inr (heights_same _ _ _ g.met.F.Family.lawful _ _ _ _ _ _ i.3)), c.decreases),
+      (within.0, (within.1.0, (within.1.1.0, (within.1.1.1.0, (within.1.1.1.1, (i.2, k.1)))))),
+    )
 
 pub returns : goal.returns
 returns g t c = λ u w.
-    unpinned_inner g.F.Family.rule g.F.Family.MAX_LEAVES _ _ _ (g.H.Hasher.hashing c.args.hasher.now) (digest_for c.args.nodes.now.positions.items c.args.nodes.now.pins.items) u w c.if-subtree-eq0.false (sym c.in_default.ensures) _ _ _
+    unpinned_inner g.F.Family.rule g.F.Family.MAX_LEAVES _ _ _ (g.H.Hasher.hashing c.args.hasher.now)
+    (digest_for c.args.nodes.now.positions.items c.args.nodes.now.pins.items) u w c.if-subtree-eq0.false (sym c.in_default.ensures) _ _ _
     (λ q l r v. let k = c.children-left.ensures q l r v in (c.rebuilt_digest-first.ensures l k.0, c.rebuilt_digest-second.ensures r k.1)) c.node_digest.ensures

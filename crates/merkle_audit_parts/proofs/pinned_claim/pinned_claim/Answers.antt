@@ -46,4 +46,5 @@ returns-in-Empty-clause-claim g c =
     let count : length r.elements ≡ length es = length-leaf_digests s.hashing s.rule c.args.start (bytes_of es) ∙ length-map es (λ e. e.now) in
     let w = empty_led s r c.args.root.now c.in-Err.error es c.in-Empty.is c.in-Err.ensures.err in
     let none : length r.elements ≡ 0 = count ∙ ap length w.1 in
-    IfOk-weaker c.empty_pinned_claim.result _ _ (λ k f. f r c.args.pinned_nodes.now (empty_accepted s r c.args.pinned_nodes.now c.args.root.now c.requires.accepted none)) c.empty_pinned_claim.ensures.claim
+    IfOk-weaker c.empty_pinned_claim.result _ _
+    (λ k f. f r c.args.pinned_nodes.now (empty_accepted s r c.args.pinned_nodes.now c.args.root.now c.requires.accepted none)) c.empty_pinned_claim.ensures.claim

@@ -16,5 +16,7 @@ returns-clause-hashed g t c =
     ∙ written old c.fold_right.new.folds.items _ (fold_at c.new.result) c.new-2.result
     (c.in_ok-right.ensures.hashed ∙ ap (λ l. l ++ right_inputs h (c.args.number + 1) c.in-Some.next.now c.in-Some.rest.now) pushed ∙ append_assoc (map fold_at old) (fold_at c.new.result ∷ []) _)
     ∙ ap (λ l. map fold_at old ++ l)
-    (ap₂ (λ x l. x ∷ l) (c.new-2.ensures ∙ ap (λ d. record { place = SuffixFold c.args.number; argument = Pair c.args.digest d }) c.in_ok-right.ensures.digest) (ap (λ i. right_inputs h i c.in-Some.next.now c.in-Some.rest.now) one_more)
+    (ap₂ (λ x l. x ∷ l) (c.new-2.ensures
+    ∙ ap (λ d. record { place = SuffixFold c.args.number; argument = Pair c.args.digest d }) c.in_ok-right.ensures.digest)
+    (ap (λ i. right_inputs h i c.in-Some.next.now c.in-Some.rest.now) one_more)
     ∙ sym (ap (λ ds. right_inputs h c.args.number c.args.digest ds) c.in-Some.ensures.cases.0))

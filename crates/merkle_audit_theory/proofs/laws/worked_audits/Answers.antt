@@ -47,7 +47,8 @@ returns c = record {
   peak_digest = refl;
   equal_arguments = λ w. w.2.collides.differ refl;
   other_digests = λ w. absurd (omega (arith, w.2.collides.one_digest));
-  silent = λ w. w.2 (record { place = PrefixFold 2; claimed = Pair 4 1; listed = Pair 2 7 }) (record { claimed = inr (inl refl); listed = inr (inl refl); differ = λ e. absurd (cc); one_digest = refl });
+  silent = λ w. w.2 (record { place = PrefixFold 2; claimed = Pair 4 1; listed = Pair 2 7 })
+      (record { claimed = inr (inl refl); listed = inr (inl refl); differ = λ e. absurd (cc); one_digest = refl });
   refused_yes = λ w. w.0 tt;
   in_order = kept Root (left_out (PrefixFold 1) (kept (Node 2) no_more));
   out_of_order = no_root_after;

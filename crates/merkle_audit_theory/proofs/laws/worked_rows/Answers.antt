@@ -9,7 +9,8 @@ use Rattle.merkle_audit_theory.proofs.laws.worked_rows.Goals as goal
 
 -- of the inputs of three peaks, whatever is folded, the root's argument is this string
 one_root : (x y u v : ℕ) (a : List ℕ)
-    → Member {X = Input ℕ} (record { place = Root; argument = Bytes (0 ∷ 0 ∷ 0 ∷ 0 ∷ 0 ∷ 0 ∷ 0 ∷ 0 ∷ 0 ∷ 3 ∷ 5 ∷ []) } ∷ record { place = PrefixFold 2; argument = Pair x y } ∷ record { place = PrefixFold 1; argument = Pair u v } ∷ [])
+    → Member {X = Input ℕ} (record { place = Root; argument = Bytes (0 ∷ 0 ∷ 0 ∷ 0 ∷ 0 ∷ 0 ∷ 0 ∷ 0 ∷ 0 ∷ 3 ∷ 5 ∷ []) } ∷ record
+    { place = PrefixFold 2; argument = Pair x y } ∷ record { place = PrefixFold 1; argument = Pair u v } ∷ [])
     (record { place = Root; argument = Bytes a })
     → ◌≡◌ {A = Argument ℕ} (Bytes a) (Bytes (0 ∷ 0 ∷ 0 ∷ 0 ∷ 0 ∷ 0 ∷ 0 ∷ 0 ∷ 0 ∷ 3 ∷ 5 ∷ []))
 one_root x y u v a (inl e) = sym (ap (λ (i : Input ℕ). i.argument) e)
@@ -58,7 +59,16 @@ returns c = record {
   pin_other = λ a. absurd (omega (arith, a.2.0.0.0));
   honest_multi = ((omega arith, (omega arith, tt)), (omega arith, (omega arith, tt)), inl (omega arith), refl);
   honest_multi_other = λ r. absurd (let e : 1 ∷ 2 ∷ 7 ∷ [] ≡ 1 ∷ 3 ∷ 7 ∷ [] = ap (λ i. i.digests) r.3 in cc);
-  accepts_multi = record { nonempty = inl (omega arith); ascend = (omega arith, (omega arith, tt)); below = (omega arith, (omega arith, tt)); leaves = omega arith; inactive = omega arith; counts = refl; redundant = (((refl, tt), tt), (refl, tt)); root_is = refl };
+  accepts_multi = record {
+    nonempty = inl (omega arith);
+    ascend = (omega arith, (omega arith, tt));
+    below = (omega arith, (omega arith, tt));
+    leaves = omega arith;
+    inactive = omega arith;
+    counts = refl;
+    redundant = (((refl, tt), tt), (refl, tt));
+    root_is = refl;
+  };
   multi_other_redundant = λ a. absurd (omega (arith, a.redundant.0.0.0));
   multi_other_digest = λ a. absurd (omega (arith, a.root_is));
   multi_digest_missing = λ a. absurd (omega (arith, a.counts));

@@ -13,7 +13,9 @@ loop-i-preserved g c =
     let last = newest_taken (λ r. r.value) c.args.records.now (c.loop-i.i - 1) c.args.position c.index-records-i.result within c.index-records-i.is in (
       omega arith,
       c.loop-i.invariant.1 ∙ ap (λ n. newest (take n (map (λ r. r.value) c.args.records.now)) c.args.position) next ∙ last
-          ∙ or_later (written c.index-records-i.result.value c.args.position) (newest (take (c.loop-i.i - 1) (map (λ r. r.value) c.args.records.now)) c.args.position) (ap is_some (sym found) ∙ sym c.is_some.ensures ∙ c.if-is_some.false),
+          ∙ or_later (written c.index-records-i.result.value c.args.position)
+          (newest (take (c.loop-i.i - 1) (map (λ r. r.value) c.args.records.now)) c.args.position)
+          (ap is_some (sym found) ∙ sym c.is_some.ensures ∙ c.if-is_some.false),
     )
 
 pub returns-then-is_some : goal.returns-then-is_some
@@ -23,4 +25,5 @@ returns-then-is_some g c =
     let found : c.get_node-found.result ≡ written c.index-records-i.result.value c.args.position = c.get_node-found.ensures ∙ ap (λ r. written r c.args.position) c.deref.ensures in
     let last = newest_taken (λ r. r.value) c.args.records.now (c.loop-i.i - 1) c.args.position c.index-records-i.result within c.index-records-i.is in
     found ∙ sym (c.loop-i.invariant.1 ∙ ap (λ n. newest (take n (map (λ r. r.value) c.args.records.now)) c.args.position) next ∙ last
-    ∙ or_some (written c.index-records-i.result.value c.args.position) (newest (take (c.loop-i.i - 1) (map (λ r. r.value) c.args.records.now)) c.args.position) (ap is_some (sym found) ∙ sym c.is_some.ensures ∙ c.if-is_some.true))
+    ∙ or_some (written c.index-records-i.result.value c.args.position)
+    (newest (take (c.loop-i.i - 1) (map (λ r. r.value) c.args.records.now)) c.args.position) (ap is_some (sym found) ∙ sym c.is_some.ensures ∙ c.if-is_some.true))

@@ -27,5 +27,6 @@ returns-clause-bytes c =
     let m : List ℕ = joined_parts (take c.loop-part.part-index parts) in
     let held = c.loop-part.invariant in
     let fits : 64 * ((used + 8) / 64 + 1) ≤ length c.args.bytes.now = omega (arith, held.1, c.requires.whole) in
-    written_padding (length c.args.bytes.now) m c.loop-part.bytes c.copy_from_slice-2.new.self used _ _ held.0 refl fits c.requires.room.1 held.2 (c.copy_from_slice-2.ensures.after ∙ c.to_be_bytes.ensures)
+    written_padding (length c.args.bytes.now) m c.loop-part.bytes c.copy_from_slice-2.new.self used _ _ held.0 refl fits c.requires.room.1 held.2
+    (c.copy_from_slice-2.ensures.after ∙ c.to_be_bytes.ensures)
     ∙ ap (λ ps. padded_message (joined_parts ps)) all

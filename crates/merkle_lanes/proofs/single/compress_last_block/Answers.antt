@@ -15,6 +15,8 @@ returns c = λ m long at at'.
     let zero' = c.splat-2.ensures in
     c.compress_words.ensures block
     (below_four _ (word 0 (omega arith)) (word 1 (omega arith)) (word 2 (omega arith)) (word 3 (omega arith)))
-    (below_four _ (zero 0 (omega arith) ∙ word 4 (omega arith)) (zero 1 (omega arith) ∙ word 5 (omega arith)) (zero 2 (omega arith) ∙ word 6 (omega arith)) (zero 3 (omega arith) ∙ word 7 (omega arith)))
-    (below_four _ (zero' 0 (omega arith) ∙ word 8 (omega arith)) (zero' 1 (omega arith) ∙ word 9 (omega arith)) (zero' 2 (omega arith) ∙ word 10 (omega arith)) (zero' 3 (omega arith) ∙ word 11 (omega arith)))
+    (below_four _ (zero 0 (omega arith) ∙ word 4 (omega arith)) (zero 1 (omega arith) ∙ word 5 (omega arith))
+    (zero 2 (omega arith) ∙ word 6 (omega arith)) (zero 3 (omega arith) ∙ word 7 (omega arith)))
+    (below_four _ (zero' 0 (omega arith) ∙ word 8 (omega arith)) (zero' 1 (omega arith) ∙ word 9 (omega arith))
+    (zero' 2 (omega arith) ∙ word 10 (omega arith)) (zero' 3 (omega arith) ∙ word 11 (omega arith)))
     (below_four _ (word 12 (omega arith)) (word 13 (omega arith)) (word 14 (omega arith)) (word 15 (omega arith)))

@@ -9,5 +9,6 @@ returns-then-len-lt-LEAVES_AT_ONCE g c =
 pub returns : goal.returns
 returns g c =
     let h = g.T.Hasher.hashing c.args.hasher.now in
-    positioned_digests-hashed h c.args.digests.now.items c.leaf_digests.new.digests.items c.push.new.self.items c.deref.result.now c.clear.new.self.items c.clear.ensures.items c.deref.ensures.value c.in_ok-leaf_digests.ensures
+    positioned_digests-hashed h c.args.digests.now.items c.leaf_digests.new.digests.items c.push.new.self.items c.deref.result.now
+    c.clear.new.self.items c.clear.ensures.items c.deref.ensures.value c.in_ok-leaf_digests.ensures
     ∙ positioned_digests-push h c.args.digests.now.items c.args.waiting.now.items c.push.new.self.items c.args.position c.args.element c.in-Ok.ensures.items

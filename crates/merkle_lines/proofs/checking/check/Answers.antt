@@ -17,7 +17,13 @@ returns g c = λ root-word proof-word words.
           inl (inr (
             c.in-Some.root,
             root,
-            subst (λ es. IsRead (scheme_of (standard g.H.PlainHasher.digest_of g.H.Digest.Digest.bytes g.H.Digest.PartialEq.eq g.H.Digest.Digest.EMPTY) c.args.hasher.now g.F.Family.rule g.F.Family.MAX_LEAVES g.F.Family.DOMAIN) g.H.Digest.Digest.SIZE g.H.Digest.Digest.Spells c.args.start c.args.inactive c.in-Some.root (word_bytes c.args.proof.now) es (answer_text c.verdict.result)) elements
-                (subst (λ b. IsRead (scheme_of (standard g.H.PlainHasher.digest_of g.H.Digest.Digest.bytes g.H.Digest.PartialEq.eq g.H.Digest.Digest.EMPTY) c.args.hasher.now g.F.Family.rule g.F.Family.MAX_LEAVES g.F.Family.DOMAIN) g.H.Digest.Digest.SIZE g.H.Digest.Digest.Spells c.args.start c.args.inactive c.in-Some.root b (map (λ bytes. bytes.items) c.as_slice-3.result.now) (answer_text c.verdict.result)) bytes read),
+            subst (λ es. IsRead (scheme_of
+                (standard g.H.PlainHasher.digest_of g.H.Digest.Digest.bytes g.H.Digest.PartialEq.eq g.H.Digest.Digest.EMPTY) c.args.hasher.now
+                g.F.Family.rule g.F.Family.MAX_LEAVES g.F.Family.DOMAIN) g.H.Digest.Digest.SIZE g.H.Digest.Digest.Spells c.args.start c.args.inactive
+                c.in-Some.root (word_bytes c.args.proof.now) es (answer_text c.verdict.result)) elements
+                (subst (λ b. IsRead (scheme_of
+                (standard g.H.PlainHasher.digest_of g.H.Digest.Digest.bytes g.H.Digest.PartialEq.eq g.H.Digest.Digest.EMPTY) c.args.hasher.now
+                g.F.Family.rule g.F.Family.MAX_LEAVES g.F.Family.DOMAIN) g.H.Digest.Digest.SIZE g.H.Digest.Digest.Spells c.args.start
+                c.args.inactive c.in-Some.root b (map (λ bytes. bytes.items) c.as_slice-3.result.now) (answer_text c.verdict.result)) bytes read),
           ))
     ]

@@ -11,7 +11,8 @@ loop-element-preserved g c =
     let i = c.loop-element.element-index in
     let e = c.element-item.result in
     let e_is : e ≡ get_or es i e = search rules in
-    hashed-queued h g.F.Family.rule es i e _ c.loop-element.digests.items (positioned_digests h c.loop-element.waiting.items) c.queue_leaf.new.digests.items (positioned_digests h c.queue_leaf.new.waiting.items)
+    hashed-queued h g.F.Family.rule es i e _ c.loop-element.digests.items (positioned_digests h c.loop-element.waiting.items)
+    c.queue_leaf.new.digests.items (positioned_digests h c.queue_leaf.new.waiting.items)
     c.loop-element-test.true e_is c.location_to_position-position.ensures c.loop-element.invariant c.in_ok-queue_leaf.ensures
 
 pub returns : goal.returns

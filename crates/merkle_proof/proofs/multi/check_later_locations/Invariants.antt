@@ -5,4 +5,5 @@ use Rattle.merkle_proof.proofs.multi.check_later_locations.Given as goal
 
 abbrev pub invariant-loop-location : goal.invariant-loop-location
 invariant-loop-location g l =
-    first_case (later_refusals {F = g.row.F.Denot} g.F.Family.MAX_LEAVES l.fn.leaves l.fn.first l.others) ≡ first_case (later_refusals g.F.Family.MAX_LEAVES l.fn.leaves l.before (drop l.location-index l.others))
+    first_case (later_refusals {F = g.row.F.Denot} g.F.Family.MAX_LEAVES l.fn.leaves l.fn.first l.others)
+    ≡ first_case (later_refusals g.F.Family.MAX_LEAVES l.fn.leaves l.before (drop l.location-index l.others))

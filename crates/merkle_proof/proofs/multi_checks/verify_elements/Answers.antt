@@ -21,8 +21,12 @@ returns-in_default-2 g c =
     let s = scheme_of h (g.H.Hasher.bagging_of c.args.hasher.now) rule g.F.Family.MAX_LEAVES g.F.Family.DOMAIN in
     let r = multi_input s n c.args.parts.now.inactive c.args.parts.now.digests.now ls in
     let none : IsNone c.in_ok-positions.field-0 = search rules in
-    rw (g.met.H.Hasher.scheme_is c.args.hasher.now)
-    (λ e. absurd (never e), λ ok. absurd (never_read s r (some_given h rule ls c.requires.nonempty) c.args.root.now c.deref.result.now (locations_given h rule ls ∙ sym read) (c.in_ok-positions.ensures.none none) ok))
+    rw (g.met.H.Hasher.scheme_is c.args.hasher.now) (
+      λ e. absurd (never e),
+      λ ok. absurd
+          (never_read s r (some_given h rule ls c.requires.nonempty) c.args.root.now c.deref.result.now (locations_given h rule ls ∙ sym read)
+          (c.in_ok-positions.ensures.none none) ok),
+    )
 
 pub located_digests-requires : goal.located_digests-requires
 located_digests-requires g c =
@@ -70,4 +74,6 @@ returns g c =
     let ls = c.args.elements.now in
     let p = c.args.parts.now in
     subst (λ located. IfOk c.verify_located.result (λ yes. IsTrue yes ↔ AcceptsMultiCases s (located_input p.leaves p.inactive p.digests.now located) c.args.root.now))
-    (c.deref-3.ensures.value ∙ c.in-Ok-located_digests.ensures ∙ ap₂ (λ h rule. element_leaves h rule ls) (sym (ap (λ (z : Scheme g.row.H-Digest.Denot). z.hashing) is)) (sym (ap (λ (z : Scheme g.row.H-Digest.Denot). z.rule) is))) c.verify_located.ensures
+    (c.deref-3.ensures.value ∙ c.in-Ok-located_digests.ensures
+    ∙ ap₂ (λ h rule. element_leaves h rule ls) (sym (ap (λ (z : Scheme g.row.H-Digest.Denot). z.hashing) is))
+    (sym (ap (λ (z : Scheme g.row.H-Digest.Denot). z.rule) is))) c.verify_located.ensures

@@ -51,6 +51,7 @@ returns-in-Some-root_with_folded_peaks g c =
     let is = c.in-Some-root_with_folded_peaks.ensures.1 ∙ ap (λ z. peaks_root z n k k all) (g.met.H.Hasher.scheme_is c.args.hasher.now) in
     let equal = g.met.H.Digest.Digest.eq_decides computed root in
     rw (g.met.H.Hasher.scheme_is c.args.hasher.now) (
-      λ t. accepts s r some root all computed are is c.requires.within (sym (ap length c.requires.positions) ∙ c.requires.count) given.0 c.in-Some-root_with_folded_peaks.ensures.0.0 (equal.0 (sym c.eq.ensures ∙ t)),
+      λ t. accepts s r some root all computed are is c.requires.within (sym (ap length c.requires.positions) ∙ c.requires.count) given.0
+          c.in-Some-root_with_folded_peaks.ensures.0.0 (equal.0 (sym c.eq.ensures ∙ t)),
       λ ok. c.eq.ensures ∙ equal.1 (accepted_root s r some root all computed are is ok),
     )

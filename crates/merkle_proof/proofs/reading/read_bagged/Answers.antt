@@ -47,7 +47,14 @@ returns-clause-room g c =
     let long = AllZip-long _ (drop i ps) w.1 w.2 in
     elim c.match-bagged-2.branch [
       | in-Some-bagged-2 v ↦ (
-        ap vec_len v.out-is ∙ omega (arith, v.push_reserved.ensures.len, long, length-drop i ps, c.loop-index-test.false, right_fold_some f w.1 v.in-Some-bagged-2.digest (sym w.3 ∙ v.in-Some-bagged-2.is)),
+        ap vec_len v.out-is ∙ omega (
+          arith,
+          v.push_reserved.ensures.len,
+          long,
+          length-drop i ps,
+          c.loop-index-test.false,
+          right_fold_some f w.1 v.in-Some-bagged-2.digest (sym w.3 ∙ v.in-Some-bagged-2.is),
+        ),
         ap vec_capacity v.out-is ∙ v.push_reserved.ensures.capacity,
       )
       | in_default-bagged v ↦ (

@@ -58,5 +58,6 @@ returns-clause-ok g c =
       single_read = single.1;
       suffix_read = suffix.1;
       siblings_read = siblings.1;
-      digests_are = appended_four (option_to_list (folded f ForwardFold 0 prefix.0)) single.0 (option_to_list (right_fold f suffix.0)) siblings.0 _ _ _ _ (prefix.2 ∙ ap (λ z. z ++ option_to_list (folded f ForwardFold 0 prefix.0)) c.in_ok-digests.ensures.items) single.2 suffix.2 siblings.2;
+      digests_are = appended_four (option_to_list (folded f ForwardFold 0 prefix.0)) single.0 (option_to_list (right_fold f suffix.0)) siblings.0 _ _
+          _ _ (prefix.2 ∙ ap (λ z. z ++ option_to_list (folded f ForwardFold 0 prefix.0)) c.in_ok-digests.ensures.items) single.2 suffix.2 siblings.2;
     }

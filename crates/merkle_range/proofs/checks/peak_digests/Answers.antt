@@ -20,7 +20,8 @@ returns-clause-ok g c = λ ts e h.
     let s = c.in-Some.ensures.cases in
     let split : IsSplitAt c.args.parts.now.digests.now c.args.before c.in-Ok.all.items c.in-Some.others.now = (s.0, front ∙ s.1, s.2, ap length front ∙ s.3, s.4) in
     let pushed = c.in-Ok-extend_from_slice.ensures.items in
-    all_digests (g.H.Hasher.hashing c.args.hasher.now) _ _ ts c.args.before c.args.after c.args.parts.now.digests.now c.in-Ok.all.items c.in-Some.others.now c.in-Some-split_at_checked.after.now c.in-Some-split_at_checked.siblings.now _ _ _
+    all_digests (g.H.Hasher.hashing c.args.hasher.now) _ _ ts c.args.before c.args.after c.args.parts.now.digests.now c.in-Ok.all.items
+    c.in-Some.others.now c.in-Some-split_at_checked.after.now c.in-Some-split_at_checked.siblings.now _ _ _
     split c.in-Some-split_at_checked.ensures.cases (c.in_ok-reconstruct_peaks.ensures.ok ts e h) empty pushed
 
 pub returns-clause-taken : goal.returns-clause-taken
@@ -28,6 +29,9 @@ returns-clause-taken g c = λ ts e h.
     let h0 = g.H.Hasher.hashing c.args.hasher.now in
     let s = c.in-Some.ensures.cases in
     let r = c.in-Some-split_at_checked.ensures.cases in
-    let back : c.in-Some-split_at_checked.siblings.now ≡ drop (c.args.before + c.args.after) c.args.parts.now.digests.now = r.2 ∙ ap (drop c.args.after) s.2 ∙ drop-drop c.args.after c.args.before c.args.parts.now.digests.now in
-    subst (λ z. g.C.Collector.Took c.args.collector.now (over_pairs h0 (in_range c.args.range.now.start c.args.range.now.end) (leaf_from h0 c.args.range.now.start c.args.leaves.now) ts z) c.reconstruct_peaks.new.collector) back
+    let back : c.in-Some-split_at_checked.siblings.now ≡ drop (c.args.before + c.args.after) c.args.parts.now.digests.now = r.2
+    ∙ ap (drop c.args.after) s.2 ∙ drop-drop c.args.after c.args.before c.args.parts.now.digests.now in
+    subst (λ z. g.C.Collector.Took c.args.collector.now
+    (over_pairs h0 (in_range c.args.range.now.start c.args.range.now.end) (leaf_from h0 c.args.range.now.start c.args.leaves.now) ts z)
+    c.reconstruct_peaks.new.collector) back
     (c.in_ok-reconstruct_peaks.ensures.taken ts e h)

@@ -19,7 +19,8 @@ loop-peak-preserved g c = λ ts e h.
     let m = subst (λ s. Denotes g.F.Family.rule g.F.Family.MAX_LEAVES s w.0) (sym c.peak-item.is) w.1 in (
       walk_more (g.H.Hasher.hashing c.args.hasher.now) _ _ (take c.loop-peak.peak-index ts) _ w.0 _ _ _ _ _ _ _ w.2 (c.loop-peak.invariant ts e h).0
           (c.in_ok-digest.ensures.ok w.0 m) pushed,
-      put_more (g.H.Hasher.hashing c.args.hasher.now) _ _ g.C.Collector.Took g.met.C.Collector.took_both (take c.loop-peak.peak-index ts) _ w.0 _ _ _ _ _ _ _ _ _ _ _ w.2 (stands_at _ _ _ _ _ w.0 m) (c.loop-peak.invariant ts e h).0
+      put_more (g.H.Hasher.hashing c.args.hasher.now) _ _ g.C.Collector.Took g.met.C.Collector.took_both (take c.loop-peak.peak-index ts) _ w.0 _ _ _
+          _ _ _ _ _ _ _ _ w.2 (stands_at _ _ _ _ _ w.0 m) (c.loop-peak.invariant ts e h).0
           (c.in_ok-digest.ensures.ok w.0 m) (c.loop-peak.invariant ts e h).1 (c.in_ok-digest.ensures.taken w.0 m) (search rules),
     )
 

@@ -18,14 +18,16 @@ returns-in_err-range-clause-err g c =
     let is = g.met.H.Hasher.scheme_is c.args.hasher.now in
     let es = c.args.elements.now in
     rw (p.1, p.2) (λ n.
-    c.in_err-range.ensures.err n s (leaf_digests s.hashing s.rule c.args.start (bytes_of es)) (ap (λ (z : Scheme g.row.H-Digest.Denot). z.rule) is) (ap (λ (z : Scheme g.row.H-Digest.Denot). z.max_leaves) is)
+    c.in_err-range.ensures.err n s (leaf_digests s.hashing s.rule c.args.start (bytes_of es)) (ap (λ (z : Scheme g.row.H-Digest.Denot). z.rule) is)
+    (ap (λ (z : Scheme g.row.H-Digest.Denot). z.max_leaves) is)
     (length-leaf_digests s.hashing s.rule c.args.start (bytes_of es) ∙ length-map es (λ e. e.now)))
 
 pub root_over_range-requires-clause-nonempty : goal.root_over_range-requires-clause-nonempty
 root_over_range-requires-clause-nonempty g c =
     let h = g.H.Hasher.hashing c.args.hasher.now in
     let es = c.args.elements.now in
-    let leaves_are = leaves_given h g.F.Family.rule c.args.start es c.new-leaves.result.items c.push_leaf_digests.new.digests.items c.deref.result.now c.new-leaves.ensures.items c.in-Ok.ensures c.deref.ensures.value in
+    let leaves_are = leaves_given h g.F.Family.rule c.args.start es c.new-leaves.result.items c.push_leaf_digests.new.digests.items c.deref.result.now
+    c.new-leaves.ensures.items c.in-Ok.ensures c.deref.ensures.value in
     let count = ap length leaves_are ∙ length-leaf_digests h g.F.Family.rule c.args.start (bytes_of es) ∙ length-map es (λ e. e.now) in
     omega (arith, c.requires.nonempty, count)
 
@@ -33,7 +35,8 @@ pub root_over_range-requires-clause-end : goal.root_over_range-requires-clause-e
 root_over_range-requires-clause-end g c =
     let h = g.H.Hasher.hashing c.args.hasher.now in
     let es = c.args.elements.now in
-    let leaves_are = leaves_given h g.F.Family.rule c.args.start es c.new-leaves.result.items c.push_leaf_digests.new.digests.items c.deref.result.now c.new-leaves.ensures.items c.in-Ok.ensures c.deref.ensures.value in
+    let leaves_are = leaves_given h g.F.Family.rule c.args.start es c.new-leaves.result.items c.push_leaf_digests.new.digests.items c.deref.result.now
+    c.new-leaves.ensures.items c.in-Ok.ensures c.deref.ensures.value in
     let count = ap length leaves_are ∙ length-leaf_digests h g.F.Family.rule c.args.start (bytes_of es) ∙ length-map es (λ e. e.now) in
     omega (arith, c.in_ok-range.ensures.range.0, c.in_ok-range.ensures.range.1, count)
 
@@ -44,10 +47,12 @@ returns-clause-ok g c =
     let h = g.H.Hasher.hashing c.args.hasher.now in
     let es = c.args.elements.now in
     let p = c.args.parts.now in
-    let leaves_are = leaves_given h g.F.Family.rule c.args.start es c.new-leaves.result.items c.push_leaf_digests.new.digests.items c.deref.result.now c.new-leaves.ensures.items c.in-Ok.ensures c.deref.ensures.value in
+    let leaves_are = leaves_given h g.F.Family.rule c.args.start es c.new-leaves.result.items c.push_leaf_digests.new.digests.items c.deref.result.now
+    c.new-leaves.ensures.items c.in-Ok.ensures c.deref.ensures.value in
     let input_is : digest_input_of_parts p c.in_ok-range.range.start c.deref.result.now ≡ input_of_parts s p c.args.start (bytes_of es) =
     ap₂ (λ a ls. digest_input_of_parts p a ls) c.in_ok-range.ensures.range.0
-    (leaves_are ∙ ap₂ (λ h rule. leaf_digests h rule c.args.start (bytes_of es)) (sym (ap (λ (z : Scheme g.row.H-Digest.Denot). z.hashing) is)) (sym (ap (λ (z : Scheme g.row.H-Digest.Denot). z.rule) is))) in
+    (leaves_are ∙ ap₂ (λ h rule. leaf_digests h rule c.args.start (bytes_of es)) (sym (ap (λ (z : Scheme g.row.H-Digest.Denot). z.hashing) is))
+    (sym (ap (λ (z : Scheme g.row.H-Digest.Denot). z.rule) is))) in
     subst (λ r. IfOk c.root_over_range.result (λ d. IsComputed s r d)) input_is c.root_over_range.ensures.ok
 
 pub returns-clause-taken : goal.returns-clause-taken
@@ -57,10 +62,12 @@ returns-clause-taken g c =
     let h = g.H.Hasher.hashing c.args.hasher.now in
     let es = c.args.elements.now in
     let p = c.args.parts.now in
-    let leaves_are = leaves_given h g.F.Family.rule c.args.start es c.new-leaves.result.items c.push_leaf_digests.new.digests.items c.deref.result.now c.new-leaves.ensures.items c.in-Ok.ensures c.deref.ensures.value in
+    let leaves_are = leaves_given h g.F.Family.rule c.args.start es c.new-leaves.result.items c.push_leaf_digests.new.digests.items c.deref.result.now
+    c.new-leaves.ensures.items c.in-Ok.ensures c.deref.ensures.value in
     let input_is : digest_input_of_parts p c.in_ok-range.range.start c.deref.result.now ≡ input_of_parts s p c.args.start (bytes_of es) =
     ap₂ (λ a ls. digest_input_of_parts p a ls) c.in_ok-range.ensures.range.0
-    (leaves_are ∙ ap₂ (λ h rule. leaf_digests h rule c.args.start (bytes_of es)) (sym (ap (λ (z : Scheme g.row.H-Digest.Denot). z.hashing) is)) (sym (ap (λ (z : Scheme g.row.H-Digest.Denot). z.rule) is))) in
+    (leaves_are ∙ ap₂ (λ h rule. leaf_digests h rule c.args.start (bytes_of es)) (sym (ap (λ (z : Scheme g.row.H-Digest.Denot). z.hashing) is))
+    (sym (ap (λ (z : Scheme g.row.H-Digest.Denot). z.rule) is))) in
     subst (λ r. IfOk c.root_over_range.result (λ _. g.C.Collector.Took c.args.collector.now (extracted s r) c.root_over_range.new.collector)) input_is c.root_over_range.ensures.taken
 
 pub returns-clause-err : goal.returns-clause-err
@@ -70,8 +77,10 @@ returns-clause-err g c =
     let h = g.H.Hasher.hashing c.args.hasher.now in
     let es = c.args.elements.now in
     let p = c.args.parts.now in
-    let leaves_are = leaves_given h g.F.Family.rule c.args.start es c.new-leaves.result.items c.push_leaf_digests.new.digests.items c.deref.result.now c.new-leaves.ensures.items c.in-Ok.ensures c.deref.ensures.value in
+    let leaves_are = leaves_given h g.F.Family.rule c.args.start es c.new-leaves.result.items c.push_leaf_digests.new.digests.items c.deref.result.now
+    c.new-leaves.ensures.items c.in-Ok.ensures c.deref.ensures.value in
     let input_is : digest_input_of_parts p c.in_ok-range.range.start c.deref.result.now ≡ input_of_parts s p c.args.start (bytes_of es) =
     ap₂ (λ a ls. digest_input_of_parts p a ls) c.in_ok-range.ensures.range.0
-    (leaves_are ∙ ap₂ (λ h rule. leaf_digests h rule c.args.start (bytes_of es)) (sym (ap (λ (z : Scheme g.row.H-Digest.Denot). z.hashing) is)) (sym (ap (λ (z : Scheme g.row.H-Digest.Denot). z.rule) is))) in
+    (leaves_are ∙ ap₂ (λ h rule. leaf_digests h rule c.args.start (bytes_of es)) (sym (ap (λ (z : Scheme g.row.H-Digest.Denot). z.hashing) is))
+    (sym (ap (λ (z : Scheme g.row.H-Digest.Denot). z.rule) is))) in
     subst (λ r. IfErr c.root_over_range.result (λ e. e ≢ OutOfMemory → first_case (range_refusals s r) ≡ Some e)) input_is c.root_over_range.ensures.err

@@ -59,15 +59,18 @@ returns-in_err-peaks-clause-err g c =
     let held = c.requires.groups in
     let laid = c.layout-layout.result in
     let m_is = subst (λ z. laid.before ≡ count_before z k (wholly_before a ts)) c.root_bagging.ensures (c.layout-layout.ensures.before a b ts held) in
-    let n_is = subst (λ z. laid.after ≡ count_after z k (length (wholly_before a ts) + length (overlapping a b ts)) (wholly_after b ts)) c.root_bagging.ensures (c.layout-layout.ensures.after a b ts held) in
+    let n_is = subst (λ z. laid.after ≡ count_after z k (length (wholly_before a ts) + length (overlapping a b ts)) (wholly_after b ts))
+    c.root_bagging.ensures (c.layout-layout.ensures.after a b ts held) in
     let s = scheme_of h bagging g.F.Family.rule g.F.Family.MAX_LEAVES g.F.Family.DOMAIN in
     let r = digest_input c.args.parts.now.leaves k c.args.parts.now.digests.now a c.args.leaves.now in
-    let asked = digests_asked h bagging g.F.Family.rule g.F.Family.MAX_LEAVES g.F.Family.DOMAIN c.args.parts.now.leaves k c.args.parts.now.digests.now a b c.args.leaves.now c.requires.nonempty c.requires.end c.requires.within laid.before laid.after m_is n_is in
+    let asked = digests_asked h bagging g.F.Family.rule g.F.Family.MAX_LEAVES g.F.Family.DOMAIN c.args.parts.now.leaves k c.args.parts.now.digests.now
+    a b c.args.leaves.now c.requires.nonempty c.requires.end c.requires.within laid.before laid.after m_is n_is in
     let some : 0 < length r.elements = c.requires.nonempty in
     let within : end_of r ≤ r.leaves = omega (arith, c.requires.end, c.requires.within) in
     let low : k ≤ length ts = c.requires.inactive in
     rw (p.1, p.2, g.met.H.Hasher.scheme_is c.args.hasher.now) (λ n.
-    elim (c.in_err-peaks.ensures.err n (overlapping a b ts) (c.deref.ensures.value ∙ held.over) (all_filter _ _ _ (peaks_at g.F.Family.rule g.F.Family.MAX_LEAVES c.args.parts.now.leaves c.requires.within_max_leaves))) [
+    elim (c.in_err-peaks.ensures.err n (overlapping a b ts) (c.deref.ensures.value ∙ held.over)
+    (all_filter _ _ _ (peaks_at g.F.Family.rule g.F.Family.MAX_LEAVES c.args.parts.now.leaves c.requires.within_max_leaves))) [
       | inl x ↦ refusal-missing s r some within c.requires.within_max_leaves low (omega (arith, x.0, asked)) ∙ ap Some (sym x.1)
       | inr x ↦ refusal-extra s r some within c.requires.within_max_leaves low (omega (arith, x.0, asked)) ∙ ap Some (sym x.1)
     ])
@@ -81,20 +84,24 @@ unreachable-requires g c =
     let held = c.requires.groups in
     let laid = c.layout-layout.result in
     let m_is = subst (λ z. laid.before ≡ count_before z k (wholly_before a ts)) c.root_bagging.ensures (c.layout-layout.ensures.before a b ts held) in
-    let n_is = subst (λ z. laid.after ≡ count_after z k (length (wholly_before a ts) + length (overlapping a b ts)) (wholly_after b ts)) c.root_bagging.ensures (c.layout-layout.ensures.after a b ts held) in
+    let n_is = subst (λ z. laid.after ≡ count_after z k (length (wholly_before a ts) + length (overlapping a b ts)) (wholly_after b ts))
+    c.root_bagging.ensures (c.layout-layout.ensures.after a b ts held) in
     let j_is = subst (λ z. laid.inactive ≡ count_inactive z k (wholly_before a ts)) c.root_bagging.ensures (c.layout-layout.ensures.inactive a b ts held) in
     let all = c.in_ok-peaks.peaks.items in
     let low : k ≤ length ts = c.requires.inactive in
-    let w = c.in_ok-peaks.ensures.ok (overlapping a b ts) (c.deref.ensures.value ∙ held.over) (all_filter _ _ _ (peaks_at g.F.Family.rule g.F.Family.MAX_LEAVES c.args.parts.now.leaves c.requires.within_max_leaves)) in
+    let w = c.in_ok-peaks.ensures.ok (overlapping a b ts) (c.deref.ensures.value ∙ held.over)
+    (all_filter _ _ _ (peaks_at g.F.Family.rule g.F.Family.MAX_LEAVES c.args.parts.now.leaves c.requires.within_max_leaves)) in
     let same = ap length c.deref-2.ensures.value in
     c.in-None.ensures (
       omega (
         arith,
         same,
-        folds_given h bagging g.F.Family.rule g.F.Family.MAX_LEAVES g.F.Family.DOMAIN c.args.parts.now.leaves k c.args.parts.now.digests.now a b c.args.leaves.now c.requires.nonempty c.requires.end c.requires.within laid.before laid.after m_is n_is low all w laid.inactive j_is,
+        folds_given h bagging g.F.Family.rule g.F.Family.MAX_LEAVES g.F.Family.DOMAIN c.args.parts.now.leaves k c.args.parts.now.digests.now a b
+            c.args.leaves.now c.requires.nonempty c.requires.end c.requires.within laid.before laid.after m_is n_is low all w laid.inactive j_is,
       ),
       λ e. absurd (
-          never_empty h bagging g.F.Family.rule g.F.Family.MAX_LEAVES g.F.Family.DOMAIN c.args.parts.now.leaves k c.args.parts.now.digests.now a b c.args.leaves.now c.requires.nonempty c.requires.end c.requires.within laid.before laid.after m_is n_is all w (sym same ∙ e)),
+          never_empty h bagging g.F.Family.rule g.F.Family.MAX_LEAVES g.F.Family.DOMAIN c.args.parts.now.leaves k c.args.parts.now.digests.now a b
+          c.args.leaves.now c.requires.nonempty c.requires.end c.requires.within laid.before laid.after m_is n_is all w (sym same ∙ e)),
     )
 
 pub returns-clause-ok : goal.returns-clause-ok
@@ -106,14 +113,20 @@ returns-clause-ok g c =
     let held = c.requires.groups in
     let laid = c.layout-layout.result in
     let m_is = subst (λ z. laid.before ≡ count_before z k (wholly_before a ts)) c.root_bagging.ensures (c.layout-layout.ensures.before a b ts held) in
-    let n_is = subst (λ z. laid.after ≡ count_after z k (length (wholly_before a ts) + length (overlapping a b ts)) (wholly_after b ts)) c.root_bagging.ensures (c.layout-layout.ensures.after a b ts held) in
+    let n_is = subst (λ z. laid.after ≡ count_after z k (length (wholly_before a ts) + length (overlapping a b ts)) (wholly_after b ts))
+    c.root_bagging.ensures (c.layout-layout.ensures.after a b ts held) in
     let j_is = subst (λ z. laid.inactive ≡ count_inactive z k (wholly_before a ts)) c.root_bagging.ensures (c.layout-layout.ensures.inactive a b ts held) in
     let all = c.in_ok-peaks.peaks.items in
     let low : k ≤ length ts = c.requires.inactive in
-    let w = c.in_ok-peaks.ensures.ok (overlapping a b ts) (c.deref.ensures.value ∙ held.over) (all_filter _ _ _ (peaks_at g.F.Family.rule g.F.Family.MAX_LEAVES c.args.parts.now.leaves c.requires.within_max_leaves)) in
-    rw (g.met.H.Hasher.scheme_is c.args.hasher.now) (computed h bagging g.F.Family.rule g.F.Family.MAX_LEAVES g.F.Family.DOMAIN c.args.parts.now.leaves k c.args.parts.now.digests.now a b c.args.leaves.now c.requires.nonempty c.requires.end c.requires.within laid.before laid.after m_is n_is
+    let w = c.in_ok-peaks.ensures.ok (overlapping a b ts) (c.deref.ensures.value ∙ held.over)
+    (all_filter _ _ _ (peaks_at g.F.Family.rule g.F.Family.MAX_LEAVES c.args.parts.now.leaves c.requires.within_max_leaves)) in
+    rw (g.met.H.Hasher.scheme_is c.args.hasher.now)
+    (computed h bagging g.F.Family.rule g.F.Family.MAX_LEAVES g.F.Family.DOMAIN c.args.parts.now.leaves k c.args.parts.now.digests.now a b
+    c.args.leaves.now c.requires.nonempty c.requires.end c.requires.within laid.before laid.after m_is n_is
     c.requires.within_max_leaves low all w laid.inactive j_is c.in-Some.root
-    (c.in-Some.ensures.1 ∙ ap (λ s. peaks_root s c.args.parts.now.leaves laid.inactive k c.deref-2.result.now) (g.met.H.Hasher.scheme_is c.args.hasher.now) ∙ ap (peaks_root (scheme_of h bagging g.F.Family.rule g.F.Family.MAX_LEAVES g.F.Family.DOMAIN) c.args.parts.now.leaves laid.inactive k) c.deref-2.ensures.value))
+    (c.in-Some.ensures.1 ∙ ap (λ s. peaks_root s c.args.parts.now.leaves laid.inactive k c.deref-2.result.now)
+    (g.met.H.Hasher.scheme_is c.args.hasher.now)
+    ∙ ap (peaks_root (scheme_of h bagging g.F.Family.rule g.F.Family.MAX_LEAVES g.F.Family.DOMAIN) c.args.parts.now.leaves laid.inactive k) c.deref-2.ensures.value))
 
 pub returns-clause-taken : goal.returns-clause-taken
 returns-clause-taken g c =
@@ -124,8 +137,10 @@ returns-clause-taken g c =
     let held = c.requires.groups in
     let laid = c.layout-layout.result in
     let m_is = subst (λ z. laid.before ≡ count_before z k (wholly_before a ts)) c.root_bagging.ensures (c.layout-layout.ensures.before a b ts held) in
-    let n_is = subst (λ z. laid.after ≡ count_after z k (length (wholly_before a ts) + length (overlapping a b ts)) (wholly_after b ts)) c.root_bagging.ensures (c.layout-layout.ensures.after a b ts held) in
-    let w = c.in_ok-peaks.ensures.ok (overlapping a b ts) (c.deref.ensures.value ∙ held.over) (all_filter _ _ _ (peaks_at g.F.Family.rule g.F.Family.MAX_LEAVES c.args.parts.now.leaves c.requires.within_max_leaves)) in
+    let n_is = subst (λ z. laid.after ≡ count_after z k (length (wholly_before a ts) + length (overlapping a b ts)) (wholly_after b ts))
+    c.root_bagging.ensures (c.layout-layout.ensures.after a b ts held) in
+    let w = c.in_ok-peaks.ensures.ok (overlapping a b ts) (c.deref.ensures.value ∙ held.over)
+    (all_filter _ _ _ (peaks_at g.F.Family.rule g.F.Family.MAX_LEAVES c.args.parts.now.leaves c.requires.within_max_leaves)) in
     let before = wholly_before a ts in
     let after = wholly_after b ts in
     let met = length before + length (overlapping a b ts) in
@@ -135,7 +150,10 @@ returns-clause-taken g c =
     let front : min laid.prefix 1 ≡ length (fold_all (folded_prefix bagging k before)) = ap (λ n. min n 1) p_is ∙ sym (length-fold_all (folded_prefix bagging k before)) in
     let x = subst (λ z. g.C.Collector.Took c.args.collector.now (single_pairs h (single_before bagging k before) (drop z given)) c.put_before.new.collector) front
     (c.in-Ok.ensures h a b ts (single_before bagging k before) held (before_dropped bagging k before ∙ ap (λ n. drop n before) (sym p_is)) (omega (arith, front, w.count, m_is))) in
-    let y = c.in_ok-peaks.ensures.taken (overlapping a b ts) (c.deref.ensures.value ∙ held.over) (all_filter _ _ _ (peaks_at g.F.Family.rule g.F.Family.MAX_LEAVES c.args.parts.now.leaves c.requires.within_max_leaves)) in
+    let y = c.in_ok-peaks.ensures.taken (overlapping a b ts) (c.deref.ensures.value ∙ held.over)
+    (all_filter _ _ _ (peaks_at g.F.Family.rule g.F.Family.MAX_LEAVES c.args.parts.now.leaves c.requires.within_max_leaves)) in
     let z = c.in-Ok-put_after.ensures h a b ts (single_after bagging k met after) held (after_taken bagging k met after ∙ ap (λ n. take n after) (sym q_is)) (omega (arith, w.count, n_is)) in
-    rw (g.met.H.Hasher.scheme_is c.args.hasher.now) (all_put h bagging g.F.Family.rule g.F.Family.MAX_LEAVES g.F.Family.DOMAIN c.args.parts.now.leaves k given a b c.args.leaves.now c.requires.nonempty c.requires.end c.requires.within laid.before laid.after m_is n_is
+    rw (g.met.H.Hasher.scheme_is c.args.hasher.now)
+    (all_put h bagging g.F.Family.rule g.F.Family.MAX_LEAVES g.F.Family.DOMAIN c.args.parts.now.leaves k given a b c.args.leaves.now
+    c.requires.nonempty c.requires.end c.requires.within laid.before laid.after m_is n_is
     g.C.Collector.Took g.met.C.Collector.took_both _ _ _ _ x y z)

@@ -11,7 +11,8 @@ loop-position-preserved g c =
       drop_next c.loop-position.position-index c.args.digests.now c.loop-position.rest.now _ _ c.loop-position.invariant.0 first,
       λ h ts e l.
           let w = position_at c.args.positions.now ts e c.loop-position.position-index c.loop-position-test.true c.position-item.result in
-          put_single h g.C.Collector.Took g.met.C.Collector.took_both c.loop-position.position-index ts w.0 _ c.args.digests.now c.loop-position.rest.now _ _ _ _ _ w.2 w.3 (w.1 ∙ sym c.position-item.is) c.loop-position.invariant.0 first
+          put_single h g.C.Collector.Took g.met.C.Collector.took_both c.loop-position.position-index ts w.0 _ c.args.digests.now
+          c.loop-position.rest.now _ _ _ _ _ w.2 w.3 (w.1 ∙ sym c.position-item.is) c.loop-position.invariant.0 first
           (c.loop-position.invariant.1 h ts e l) c.in_ok-put.ensures,
     )
 

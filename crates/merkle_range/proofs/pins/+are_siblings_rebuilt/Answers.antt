@@ -13,7 +13,8 @@ use Rattle.merkle_range.proofs.pins.+are_siblings_rebuilt.Goals as goal
 
 pub returns-then-ge : goal.returns-then-ge
 returns-then-ge g t c = λ u end w less long. (
-  (λ _. before_none g.F.Family.rule g.F.Family.MAX_LEAVES _ _ _ c.args.start end less (g.H.Hasher.hashing c.args.hasher.now) _ u w (ge_yes c.args.subtree.now.first_leaf c.args.start (sym c.ge.ensures ∙ c.if-ge.true)) c.args.digests.now),
+  (λ _. before_none g.F.Family.rule g.F.Family.MAX_LEAVES _ _ _ c.args.start end less (g.H.Hasher.hashing c.args.hasher.now) _ u w
+      (ge_yes c.args.subtree.now.first_leaf c.args.start (sym c.ge.ensures ∙ c.if-ge.true)) c.args.digests.now),
   (λ _. refl),
 )
 
@@ -46,7 +47,9 @@ returns-then-lt g t c = λ u end w less long.
     let f = rebuilt_node h (digest_for c.args.pins.now.positions.items c.args.pins.now.digests.now) in
     let a = c.args.start in let ds = c.args.digests.now in
     let low = ge_no c.args.subtree.now.first_leaf a (sym c.ge.ensures ∙ c.if-ge.false) in
-    by_children g.F.Family.rule g.F.Family.MAX_LEAVES _ _ _ a (λ z. length (siblings (in_range a end) z) ≤ length ds → IsTrue c.are_siblings_rebuilt.result ↔ AllRebuilt h (tree_meets (in_range 0 a)) f (siblings (in_range a end) z) ds) u w low
+    by_children g.F.Family.rule g.F.Family.MAX_LEAVES _ _ _ a
+    (λ z. length (siblings (in_range a end) z) ≤ length ds
+    → IsTrue c.are_siblings_rebuilt.result ↔ AllRebuilt h (tree_meets (in_range 0 a)) f (siblings (in_range a end) z) ds) u w low
     (past_start g.F.Family.rule g.F.Family.MAX_LEAVES _ _ _ a n.0 u n.1 n.2 w)
     (λ q l r v past.
     let k = c.children-left.ensures q l r v in
@@ -60,7 +63,8 @@ returns-in_default g t c = λ u end w less long.
     let f = rebuilt_node h (digest_for c.args.pins.now.positions.items c.args.pins.now.digests.now) in
     let a = c.args.start in let ds = c.args.digests.now in
     let low = ge_no c.args.subtree.now.first_leaf a (sym c.ge.ensures ∙ c.if-ge.false) in
-    by_children g.F.Family.rule g.F.Family.MAX_LEAVES _ _ _ a (λ z. length (siblings (in_range a end) z) ≤ length ds → IsTrue false ↔ AllRebuilt h (tree_meets (in_range 0 a)) f (siblings (in_range a end) z) ds) u w low
+    by_children g.F.Family.rule g.F.Family.MAX_LEAVES _ _ _ a
+    (λ z. length (siblings (in_range a end) z) ≤ length ds → IsTrue false ↔ AllRebuilt h (tree_meets (in_range 0 a)) f (siblings (in_range a end) z) ds) u w low
     (past_start g.F.Family.rule g.F.Family.MAX_LEAVES _ _ _ a n.0 u n.1 n.2 w)
     (λ q l r v past.
     let k = c.children-left.ensures q l r v in
@@ -83,14 +87,16 @@ returns-then-ne g t c = λ u end w less long.
     let low = ge_no c.args.subtree.now.first_leaf a (sym c.ge.ensures ∙ c.if-ge.false) in
     let equal = g.met.H.Digest.Digest.eq_decides c.rebuilt_digest.result c.in-Some.digest.now in
     let differs = not-true _ (sym c.ne.ensures ∙ c.if-ne.true) in
-    by_children g.F.Family.rule g.F.Family.MAX_LEAVES _ _ _ a (λ z. length (siblings (in_range a end) z) ≤ length ds → IsTrue false ↔ AllRebuilt h (tree_meets (in_range 0 a)) f (siblings (in_range a end) z) ds) u w low
+    by_children g.F.Family.rule g.F.Family.MAX_LEAVES _ _ _ a
+    (λ z. length (siblings (in_range a end) z) ≤ length ds → IsTrue false ↔ AllRebuilt h (tree_meets (in_range 0 a)) f (siblings (in_range a end) z) ds) u w low
     (past_start g.F.Family.rule g.F.Family.MAX_LEAVES _ _ _ a n.0 u n.1 n.2 w)
     (λ q l r v past.
     let k = c.children-left.ensures q l r v in
     let under : end_leaf l ≤ a = omega (arith, lt_no a c.leaf_end.result (sym c.lt.ensures ∙ c.if-lt.false), c.leaf_end.ensures l k.0) in
     (λ most. (
       (λ x. absurd (false≢true x)),
-      (λ x. sym differs ∙ equal.1 (before_other g.F.Family.rule g.F.Family.MAX_LEAVES _ _ _ a end less h f q l r v low under past ds c.in-Some.others.now c.in-Some.digest.now c.rebuilt_digest.result c.in-Some.ensures.cases.0 (c.rebuilt_digest.ensures l k.0) x)),
+      (λ x. sym differs ∙ equal.1 (before_other g.F.Family.rule g.F.Family.MAX_LEAVES _ _ _ a end less h f q l r v low under past ds
+          c.in-Some.others.now c.in-Some.digest.now c.rebuilt_digest.result c.in-Some.ensures.cases.0 (c.rebuilt_digest.ensures l k.0) x)),
     ))) long
 
 pub are_siblings_rebuilt-requires-2 : goal.are_siblings_rebuilt-requires-2
@@ -99,8 +105,11 @@ are_siblings_rebuilt-requires-2 g t c κs within =
     let low = ge_no c.args.subtree.now.first_leaf c.args.start (sym c.ge.ensures ∙ c.if-ge.false) in
     let i = inner_node _ _ _ _ _ n.0 n.1 (crossed_node g.F.Family.rule g.F.Family.MAX_LEAVES _ _ _ c.args.start n.0 n.1 low n.2) in
     let k = c.children-left.ensures i.0 i.1 i.2 i.3 in
-    let past = right_past g.F.Family.rule g.F.Family.MAX_LEAVES _ _ _ c.args.start i.0 i.1 i.2 i.3 (past_start g.F.Family.rule g.F.Family.MAX_LEAVES _ _ _ c.args.start n.0 (join i.0 i.1 i.2) n.1 n.2 i.3) in
-    (omega (arith, lower _ _ _ _ _ _ _ _ _ _ _ _ i.3 k.1 (inr (heights_same _ _ _ g.met.F.Family.lawful _ _ _ _ _ _ i.3)), c.decreases), (within.0, (within.1.0, (within.1.1.0, (within.1.1.1.0, (within.1.1.1.1, (i.2, k.1, past)))))))
+    let past = right_past g.F.Family.rule g.F.Family.MAX_LEAVES _ _ _ c.args.start i.0 i.1 i.2 i.3
+    (past_start g.F.Family.rule g.F.Family.MAX_LEAVES _ _ _ c.args.start n.0 (join i.0 i.1 i.2) n.1 n.2 i.3) in (
+      omega (arith, lower _ _ _ _ _ _ _ _ _ _ _ _ i.3 k.1 (inr (heights_same _ _ _ g.met.F.Family.lawful _ _ _ _ _ _ i.3)), c.decreases),
+      (within.0, (within.1.0, (within.1.1.0, (within.1.1.1.0, (within.1.1.1.1, (i.2, k.1, past)))))),
+    )
 
 pub returns : goal.returns
 returns g t c = λ u end w less long.
@@ -111,10 +120,13 @@ returns g t c = λ u end w less long.
     let low = ge_no c.args.subtree.now.first_leaf a (sym c.ge.ensures ∙ c.if-ge.false) in
     let equal = g.met.H.Digest.Digest.eq_decides c.rebuilt_digest.result c.in-Some.digest.now in
     let same = equal.0 (not-false _ (sym c.ne.ensures ∙ c.if-ne.false)) in
-    by_children g.F.Family.rule g.F.Family.MAX_LEAVES _ _ _ a (λ z. length (siblings (in_range a end) z) ≤ length ds → IsTrue c.are_siblings_rebuilt-2.result ↔ AllRebuilt h (tree_meets (in_range 0 a)) f (siblings (in_range a end) z) ds) u w low
+    by_children g.F.Family.rule g.F.Family.MAX_LEAVES _ _ _ a
+    (λ z. length (siblings (in_range a end) z) ≤ length ds
+    → IsTrue c.are_siblings_rebuilt-2.result ↔ AllRebuilt h (tree_meets (in_range 0 a)) f (siblings (in_range a end) z) ds) u w low
     (past_start g.F.Family.rule g.F.Family.MAX_LEAVES _ _ _ a n.0 u n.1 n.2 w)
     (λ q l r v past.
     let k = c.children-left.ensures q l r v in
     let under : end_leaf l ≤ a = omega (arith, lt_no a c.leaf_end.result (sym c.lt.ensures ∙ c.if-lt.false), c.leaf_end.ensures l k.0) in
-    before_right g.F.Family.rule g.F.Family.MAX_LEAVES _ _ _ a end less h f q l r v low under past ds c.in-Some.others.now c.in-Some.digest.now c.rebuilt_digest.result _ c.in-Some.ensures.cases.0 (c.rebuilt_digest.ensures l k.0) same
+    before_right g.F.Family.rule g.F.Family.MAX_LEAVES _ _ _ a end less h f q l r v low under past ds c.in-Some.others.now c.in-Some.digest.now
+    c.rebuilt_digest.result _ c.in-Some.ensures.cases.0 (c.rebuilt_digest.ensures l k.0) same
     (c.are_siblings_rebuilt-2.ensures r end k.1 less)) long

@@ -23,7 +23,17 @@ returns-then-not-is_fold_rebuilt g c = λ ts e h long.
 pub returns-in_default : goal.returns-in_default
 returns-in_default g c = λ ts e h long.
     let k = c.args.folded in
-    absurd (omega (arith, long, c.in_default.ensures.cases, c.min.ensures, length-fold_all (take k ts), length-take k ts, c.requires.folded, ap length e, length-map ts (subtree_of {F = g.row.F.Denot})))
+    absurd (omega (
+      arith,
+      long,
+      c.in_default.ensures.cases,
+      c.min.ensures,
+      length-fold_all (take k ts),
+      length-take k ts,
+      c.requires.folded,
+      ap length e,
+      length-map ts (subtree_of {F = g.row.F.Denot}),
+    ))
 
 pub are_rebuilt-requires : goal.are_rebuilt-requires
 are_rebuilt-requires g c =
@@ -33,7 +43,8 @@ are_rebuilt-requires g c =
 pub returns : goal.returns
 returns g c = λ ts e h long.
     let k = c.args.folded in let ds = c.args.digests.now in
-    let count : c.min.result ≡ length (fold_all (take k ts)) = omega (arith, c.min.ensures, length-fold_all (take k ts), length-take k ts, c.requires.folded, ap length e, length-map ts (subtree_of {F = g.row.F.Denot})) in
+    let count : c.min.result ≡ length (fold_all (take k ts)) =
+    omega (arith, c.min.ensures, length-fold_all (take k ts), length-take k ts, c.requires.folded, ap length e, length-map ts (subtree_of {F = g.row.F.Denot})) in
     let back : c.in-Some.rest.now ≡ drop (length (fold_all (take k ts))) ds = c.in-Some.ensures.cases.2 ∙ ap (λ n. drop n ds) count in
     let v = c.is_fold_rebuilt.ensures (take k ts) (c.split_at.ensures.front ∙ ap (take k) e ∙ take-map subtree_of k ts) (all_take _ k ts h) (omega (arith, long)) in
     let z = c.are_rebuilt.ensures (drop k ts) (c.split_at.ensures.back ∙ ap (drop k) e ∙ drop-map subtree_of k ts) (all_drop _ k ts h) (omega (arith, long, count, c.in-Some.ensures.cases.4)) in

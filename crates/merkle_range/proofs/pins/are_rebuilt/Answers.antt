@@ -12,7 +12,16 @@ use Rattle.merkle_range.proofs.pins.are_rebuilt.Goals as goal
 pub returns-in_default : goal.returns-in_default
 returns-in_default g c = λ ts e h long.
     let i = c.loop-peak.peak-index in
-    absurd (omega (arith, long, c.in_default.ensures.cases, ap length c.loop-peak.invariant.0, length-drop i c.args.digests.now, c.loop-peak-test.true, ap length e, length-map ts (subtree_of {F = g.row.F.Denot})))
+    absurd (omega (
+      arith,
+      long,
+      c.in_default.ensures.cases,
+      ap length c.loop-peak.invariant.0,
+      length-drop i c.args.digests.now,
+      c.loop-peak-test.true,
+      ap length e,
+      length-map ts (subtree_of {F = g.row.F.Denot}),
+    ))
 
 pub rebuilt_digest-requires : goal.rebuilt_digest-requires
 rebuilt_digest-requires g c =
@@ -30,7 +39,8 @@ returns-then-ne g c = λ ts e h long.
     let equal = g.met.H.Digest.Digest.eq_decides c.rebuilt_digest.result c.in-Some.digest.now in
     let differs = not-true _ (sym c.ne.ensures ∙ c.if-ne.true) in (
       (λ x. absurd (false≢true x)),
-      (λ v. sym differs ∙ equal.1 (each_other (g.H.Hasher.hashing c.args.hasher.now) f i ts w.0 c.args.digests.now c.loop-peak.rest.now _ _ _ w.2 l c.loop-peak.invariant.0 c.in-Some.ensures.cases.0 is v)),
+      (λ v. sym differs ∙ equal.1 (each_other (g.H.Hasher.hashing c.args.hasher.now) f i ts w.0 c.args.digests.now c.loop-peak.rest.now _ _ _ w.2 l
+          c.loop-peak.invariant.0 c.in-Some.ensures.cases.0 is v)),
     )
 
 pub loop-peak-preserved : goal.loop-peak-preserved

@@ -147,7 +147,8 @@ returns g c =
     let w = first_node g.F.Family.rule g.F.Family.MAX_LEAVES c.deref-2.result.now c.in-Some.field-0-1.now c.in-Some.crossed.now (overlapping a e ts) (c.deref-2.ensures.value ∙ held.over)
     (all_filter _ _ _ (peaks_at g.F.Family.rule g.F.Family.MAX_LEAVES n c.requires.within_max_leaves)) c.in-Some.ensures.cases.0 in
     let ds = c.args.parts.now.digests.now in
-    let back : c.split_at-3.result.1.now ≡ drop (length (range_parts bagging k a e ts)) ds = c.split_at-3.ensures.back ∙ ap (drop laid.after) c.split_at-2.ensures.back ∙ drop-drop laid.after laid.before ds ∙ ap (λ j. drop j ds) (omega (arith, m_is, n_is, long)) in
+    let back : c.split_at-3.result.1.now ≡ drop (length (range_parts bagging k a e ts)) ds = c.split_at-3.ensures.back
+    ∙ ap (drop laid.after) c.split_at-2.ensures.back ∙ drop-drop laid.after laid.before ds ∙ ap (λ j. drop j ds) (omega (arith, m_is, n_is, long)) in
     let most = siblings_within h b g.F.Family.rule bagging k n a e laid.prefix c.requires.nonempty p_is w.0 w.1 w.2 in
     let last = subst (λ zs. IsTrue c.are_siblings_rebuilt.result ↔ AllRebuilt h (tree_meets (in_range 0 a)) (rebuilt_node h b) (siblings (in_range a e) w.0) zs) back
     (c.are_siblings_rebuilt.ensures w.0 e w.3 c.requires.nonempty (omega (arith, most, m_is, n_is, long, c.requires.count, c.split_at-2.ensures.back_len, c.split_at-3.ensures.back_len))) in

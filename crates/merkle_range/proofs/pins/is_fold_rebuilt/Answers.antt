@@ -26,5 +26,6 @@ pub returns : goal.returns
 returns g c = λ ts e h long.
     let w = first_node g.F.Family.rule g.F.Family.MAX_LEAVES c.args.peaks.now c.in-Some.others.now c.in-Some.oldest.now ts e h c.in-Some.ensures.cases.0 in
     let equal = g.met.H.Digest.Digest.eq_decides c.rebuilt_fold.result c.in-Some-split_first.digest.now in
-    fold_decided (g.H.Hasher.hashing c.args.hasher.now) (digest_for c.args.pins.now.positions.items c.args.pins.now.digests.now) w.0 w.1 ts c.args.digests.now _ c.in-Some-split_first.digest.now c.rebuilt_fold.result _
+    fold_decided (g.H.Hasher.hashing c.args.hasher.now) (digest_for c.args.pins.now.positions.items c.args.pins.now.digests.now) w.0 w.1 ts
+    c.args.digests.now _ c.in-Some-split_first.digest.now c.rebuilt_fold.result _
     w.2 c.in-Some-split_first.ensures.cases.0 (c.rebuilt_fold.ensures w.0 w.1 w.3 w.4 w.5) ((λ t. equal.0 (sym c.eq.ensures ∙ t)), (λ a. c.eq.ensures ∙ equal.1 a))

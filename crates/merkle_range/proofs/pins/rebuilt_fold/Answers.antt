@@ -21,7 +21,8 @@ rebuilt_digest-digest-requires g c =
 pub loop-peak-preserved : goal.loop-peak-preserved
 loop-peak-preserved g c = λ t ts w e h.
     let v = element_means g.F.Family.rule g.F.Family.MAX_LEAVES c.args.others.now ts e h c.loop-peak.peak-index c.loop-peak-test.true c.peak-item.result in
-    fold_more (g.H.Hasher.hashing c.args.hasher.now) (digest_for c.args.pins.now.positions.items c.args.pins.now.digests.now) (peak t) 1 (take (c.loop-peak.peak-index + 1) ts) (take c.loop-peak.peak-index ts) v.0 _ _ _ v.2
+    fold_more (g.H.Hasher.hashing c.args.hasher.now) (digest_for c.args.pins.now.positions.items c.args.pins.now.digests.now) (peak t) 1
+    (take (c.loop-peak.peak-index + 1) ts) (take c.loop-peak.peak-index ts) v.0 _ _ _ v.2
     (c.loop-peak.invariant t ts w e h) (c.rebuilt_digest-digest.ensures v.0 (subst (λ s. Denotes g.F.Family.rule g.F.Family.MAX_LEAVES s v.0) (sym c.peak-item.is) v.1)) c.fold-folded.ensures
 
 pub returns : goal.returns

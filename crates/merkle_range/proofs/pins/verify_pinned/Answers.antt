@@ -32,4 +32,5 @@ pub returns : goal.returns
 returns g c =
     let s = g.H.Hasher.scheme c.args.hasher.now in
     let es = bytes_of c.args.elements.now in
-    c.is_rebuilt_from_pins.ensures (leaf_digests s.hashing s.rule c.args.start es) c.args.root.now (length-leaf_digests s.hashing s.rule c.args.start es ∙ length-map c.args.elements.now (λ e. e.now)) (c.in_ok-verify_range.ensures.0 c.if-not-branch.false)
+    c.is_rebuilt_from_pins.ensures (leaf_digests s.hashing s.rule c.args.start es) c.args.root.now
+    (length-leaf_digests s.hashing s.rule c.args.start es ∙ length-map c.args.elements.now (λ e. e.now)) (c.in_ok-verify_range.ensures.0 c.if-not-branch.false)

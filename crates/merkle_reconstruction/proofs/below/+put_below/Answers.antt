@@ -10,7 +10,8 @@ leaf_inside-requires g t c = inside_leaf _ _ _ _ c.args.subtree.now c.requires.n
 pub returns-then-subtree-eq0-clause-digest : goal.returns-then-subtree-eq0-clause-digest
 returns-then-subtree-eq0-clause-digest g t c =
     let h = g.H.Hasher.hashing c.args.hasher.now in
-    digest_at_node _ _ h c.args.start c.args.leaves.now c.args.subtree.now c.requires.node _ (digest_leaf _ _ h c.args.start c.args.leaves.now c.args.subtree.now c.if-subtree-eq0.true _ c.leaf_inside.ensures)
+    digest_at_node _ _ h c.args.start c.args.leaves.now c.args.subtree.now c.requires.node _
+    (digest_leaf _ _ h c.args.start c.args.leaves.now c.args.subtree.now c.if-subtree-eq0.true _ c.leaf_inside.ensures)
 
 pub returns-then-subtree-eq0-clause-taken : goal.returns-then-subtree-eq0-clause-taken
 returns-then-subtree-eq0-clause-taken g t c = λ u w.
@@ -39,21 +40,34 @@ pub returns-in-Some-clause-taken : goal.returns-in-Some-clause-taken
 returns-in-Some-clause-taken g t c = λ u w.
     let h = g.H.Hasher.hashing c.args.hasher.now in
     put_over h (leaf_from h c.args.start c.args.leaves.now) g.C.Collector.Took g.met.C.Collector.took_both _ _ _ _ _ u w c.if-subtree-eq0.false _ _ _ _ _ _ _ _
-    (λ q l r v. let k = c.children-left.ensures q l r v in
-    (stands_at _ _ _ _ _ l k.0, stands_at _ _ _ _ _ r k.1, c.in_ok-first.ensures.digest l k.0.at, c.in_ok-second.ensures.digest r k.1.at, c.in_ok-first.ensures.taken l k.0, c.in_ok-second.ensures.taken r k.1))
+    (λ q l r v. let k = c.children-left.ensures q l r v in (
+      stands_at _ _ _ _ _ l k.0,
+      stands_at _ _ _ _ _ r k.1,
+      c.in_ok-first.ensures.digest l k.0.at,
+      c.in_ok-second.ensures.digest r k.1.at,
+      c.in_ok-first.ensures.taken l k.0,
+      c.in_ok-second.ensures.taken r k.1,
+    ))
     c.in_ok-put_both.ensures
 
 pub returns-clause-digest : goal.returns-clause-digest
 returns-clause-digest g t c =
     let h = g.H.Hasher.hashing c.args.hasher.now in
     let n = c.requires.node in
-    let over = digest_over _ _ h (leaf_from h c.args.start c.args.leaves.now) c.args.subtree.now c.children-left.result.0 c.children-left.result.1 c.children-left.ensures n.0 n.1.0 c.if-subtree-eq0.false _ _ c.in_ok-first.ensures.digest c.in_ok-second.ensures.digest in
+    let over = digest_over _ _ h (leaf_from h c.args.start c.args.leaves.now) c.args.subtree.now c.children-left.result.0 c.children-left.result.1
+    c.children-left.ensures n.0 n.1.0 c.if-subtree-eq0.false _ _ c.in_ok-first.ensures.digest c.in_ok-second.ensures.digest in
     λ u at. c.node_digest.ensures ∙ over u at
 
 pub returns-clause-taken : goal.returns-clause-taken
 returns-clause-taken g t c = λ u w.
     let h = g.H.Hasher.hashing c.args.hasher.now in
     put_over h (leaf_from h c.args.start c.args.leaves.now) g.C.Collector.Took g.met.C.Collector.took_both _ _ _ _ _ u w c.if-subtree-eq0.false _ _ _ _ _ _ _ _
-    (λ q l r v. let k = c.children-left.ensures q l r v in
-    (stands_at _ _ _ _ _ l k.0, stands_at _ _ _ _ _ r k.1, c.in_ok-first.ensures.digest l k.0.at, c.in_ok-second.ensures.digest r k.1.at, c.in_ok-first.ensures.taken l k.0, c.in_ok-second.ensures.taken r k.1))
+    (λ q l r v. let k = c.children-left.ensures q l r v in (
+      stands_at _ _ _ _ _ l k.0,
+      stands_at _ _ _ _ _ r k.1,
+      c.in_ok-first.ensures.digest l k.0.at,
+      c.in_ok-second.ensures.digest r k.1.at,
+      c.in_ok-first.ensures.taken l k.0,
+      c.in_ok-second.ensures.taken r k.1,
+    ))
     c.in_ok-put_both.ensures

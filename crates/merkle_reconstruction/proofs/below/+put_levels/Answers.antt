@@ -13,7 +13,9 @@ returns-then-height-eq1 g t c =
     let leaf = leaf_from h c.args.start c.args.leaves.now in
     let same = c.deref.ensures.value in
     on_ok_both c.put_parents.result
-    (λ x y. are_listed h g.F.Family.rule g.F.Family.MAX_LEAVES leaf _ _ _ _ c.in_ok-parents.parents.items (x ∙ ap (λ z. c.args.known.now.positions.items ++ map (λ n. n.0) z) same) (y ∙ ap (λ z. c.args.known.now.digests.items ++ map (λ n. h.node n.0 n.1 n.2) z) same) c.requires.known (c.in_ok-parents.ensures h))
+    (λ x y. are_listed h g.F.Family.rule g.F.Family.MAX_LEAVES leaf _ _ _ _ c.in_ok-parents.parents.items
+    (x ∙ ap (λ z. c.args.known.now.positions.items ++ map (λ n. n.0) z) same)
+    (y ∙ ap (λ z. c.args.known.now.digests.items ++ map (λ n. h.node n.0 n.1 n.2) z) same) c.requires.known (c.in_ok-parents.ensures h))
     c.put_parents.ensures.positions c.put_parents.ensures.digests
 
 pub children_of-requires : goal.children_of-requires
@@ -36,5 +38,7 @@ returns g t c =
     let same = c.deref-3.ensures.value in
     let known = c.put_levels.new.known in
     on_ok_both c.put_parents-2.result
-    (λ x y. are_listed h g.F.Family.rule g.F.Family.MAX_LEAVES leaf _ _ _ _ c.in_ok-parents-2.parents.items (x ∙ ap (λ z. known.positions.items ++ map (λ n. n.0) z) same) (y ∙ ap (λ z. known.digests.items ++ map (λ n. h.node n.0 n.1 n.2) z) same) c.in_ok-put_levels.ensures (c.in_ok-parents-2.ensures h leaf c.in_ok-put_levels.ensures))
+    (λ x y. are_listed h g.F.Family.rule g.F.Family.MAX_LEAVES leaf _ _ _ _ c.in_ok-parents-2.parents.items
+    (x ∙ ap (λ z. known.positions.items ++ map (λ n. n.0) z) same) (y ∙ ap (λ z. known.digests.items ++ map (λ n. h.node n.0 n.1 n.2) z) same)
+    c.in_ok-put_levels.ensures (c.in_ok-parents-2.ensures h leaf c.in_ok-put_levels.ensures))
     c.put_parents-2.ensures.positions c.put_parents-2.ensures.digests

@@ -14,4 +14,6 @@ loop-node-preserved g c = λ start count height tall level.
     let w = all_item _ c.args.nodes.now level c.loop-node.node-index c.loop-node-test.true c.node-item.result c.node-item.is in
     let parent : c.node-item.result.height ≢ 0 = omega (arith, w.1, tall) in
     let both = inside_children _ _ start count _ g.met.F.Family.lawful c.node-item.result c.children-left.result.0 c.children-left.result.1 c.children-left.ensures w.0 parent in
-    all_pushed _ _ _ _ c.in_ok-push-2.ensures.items (all_pushed _ _ _ _ c.in_ok-push.ensures.items (c.loop-node.invariant start count height tall level) (both.0, omega (arith, both.2, w.1))) (both.1, omega (arith, both.3, w.1))
+    all_pushed _ _ _ _ c.in_ok-push-2.ensures.items
+    (all_pushed _ _ _ _ c.in_ok-push.ensures.items (c.loop-node.invariant start count height tall level) (both.0, omega (arith, both.2, w.1)))
+    (both.1, omega (arith, both.3, w.1))

@@ -15,4 +15,5 @@ loop-node-preserved g c = λ h leaf listed.
     let w = all_item _ c.args.nodes.now n.4 c.loop-node.node-index c.loop-node-test.true c.node-item.result c.node-item.is in
     let parent : c.node-item.result.height ≢ 0 = omega (arith, w.1, n.3) in
     all_pushed _ _ _ _ c.in_ok-push.ensures.items (c.loop-node.invariant h leaf listed)
-    (digest_over _ _ h leaf c.node-item.result c.children-left.result.0 c.children-left.result.1 c.children-left.ensures w.0.0 w.0.1.0 parent _ _ (c.in-Some.ensures h leaf listed) (c.in-Some-get_numbered.ensures h leaf listed))
+    (digest_over _ _ h leaf c.node-item.result c.children-left.result.0 c.children-left.result.1 c.children-left.ensures w.0.0 w.0.1.0 parent _ _
+    (c.in-Some.ensures h leaf listed) (c.in-Some-get_numbered.ensures h leaf listed))

@@ -13,7 +13,8 @@ leaf_parent-first-requires-clause-node g t c =
 
 pub leaf_parent-first-requires-clause-parent : goal.leaf_parent-first-requires-clause-parent
 leaf_parent-first-requires-clause-parent g t c =
-    let both = inside_children _ _ _ _ _ g.met.F.Family.lawful c.args.subtree.now c.children-left.result.0 c.children-left.result.1 c.children-left.ensures c.requires.node (omega (arith, c.requires.tall)) in
+    let both = inside_children _ _ _ _ _ g.met.F.Family.lawful c.args.subtree.now c.children-left.result.0 c.children-left.result.1
+    c.children-left.ensures c.requires.node (omega (arith, c.requires.tall)) in
     omega (arith, both.2, c.if-subtree-eq2.true)
 
 pub leaf_parent-second-requires-clause-node : goal.leaf_parent-second-requires-clause-node
@@ -22,7 +23,8 @@ leaf_parent-second-requires-clause-node g t c =
 
 pub leaf_parent-second-requires-clause-parent : goal.leaf_parent-second-requires-clause-parent
 leaf_parent-second-requires-clause-parent g t c =
-    let both = inside_children _ _ _ _ _ g.met.F.Family.lawful c.args.subtree.now c.children-left.result.0 c.children-left.result.1 c.children-left.ensures c.requires.node (omega (arith, c.requires.tall)) in
+    let both = inside_children _ _ _ _ _ g.met.F.Family.lawful c.args.subtree.now c.children-left.result.0 c.children-left.result.1
+    c.children-left.ensures c.requires.node (omega (arith, c.requires.tall)) in
     omega (arith, both.3, c.if-subtree-eq2.true)
 
 pub returns-then-subtree-eq2 : goal.returns-then-subtree-eq2
@@ -35,17 +37,20 @@ returns-then-subtree-eq2 g t c =
     let second = c.leaf_parent-second.result in
     let left = subst (λ (p : ℕ). IsDigestAt h rule max leaf p (h.node first.0 first.1 first.2)) c.leaf_parent-first.ensures.position (c.leaf_parent-first.ensures.digest h) in
     let right = subst (λ (p : ℕ). IsDigestAt h rule max leaf p (h.node second.0 second.1 second.2)) c.leaf_parent-second.ensures.position (c.leaf_parent-second.ensures.digest h) in
-    digest_over rule max h leaf c.args.subtree.now c.children-left.result.0 c.children-left.result.1 c.children-left.ensures c.requires.node.0 c.requires.node.1.0 (omega (arith, c.requires.tall)) _ _ left right
+    digest_over rule max h leaf c.args.subtree.now c.children-left.result.0 c.children-left.result.1 c.children-left.ensures c.requires.node.0
+    c.requires.node.1.0 (omega (arith, c.requires.tall)) _ _ left right
 
 pub children_inside-requires : goal.children_inside-requires
 children_inside-requires g t c κs within =
-    let both = inside_children _ _ _ _ _ g.met.F.Family.lawful c.args.subtree.now c.children-left.result.0 c.children-left.result.1 c.children-left.ensures c.requires.node (omega (arith, c.requires.tall)) in
+    let both = inside_children _ _ _ _ _ g.met.F.Family.lawful c.args.subtree.now c.children-left.result.0 c.children-left.result.1
+    c.children-left.ensures c.requires.node (omega (arith, c.requires.tall)) in
     let tall : 2 ≤ c.children-left.result.0.height = omega (arith, both.2, c.requires.tall, c.if-subtree-eq2.false) in
     (omega (arith, both.2, c.decreases), (within.0, (within.1.0, (within.1.1.0, (within.1.1.1.0, (within.1.1.1.1, (both.0, tall)))))))
 
 pub children_inside-requires-2 : goal.children_inside-requires-2
 children_inside-requires-2 g t c κs within =
-    let both = inside_children _ _ _ _ _ g.met.F.Family.lawful c.args.subtree.now c.children-left.result.0 c.children-left.result.1 c.children-left.ensures c.requires.node (omega (arith, c.requires.tall)) in
+    let both = inside_children _ _ _ _ _ g.met.F.Family.lawful c.args.subtree.now c.children-left.result.0 c.children-left.result.1
+    c.children-left.ensures c.requires.node (omega (arith, c.requires.tall)) in
     let tall : 2 ≤ c.children-left.result.1.height = omega (arith, both.3, c.requires.tall, c.if-subtree-eq2.false) in
     (omega (arith, both.3, c.decreases), (within.0, (within.1.0, (within.1.1.0, (within.1.1.1.0, (within.1.1.1.1, (both.1, tall)))))))
 

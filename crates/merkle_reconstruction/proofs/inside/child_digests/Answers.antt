@@ -13,7 +13,8 @@ children_inside-requires-clause-tall g c = (all_item _ c.args.nodes.now c.requir
 pub loop-node-preserved : goal.loop-node-preserved
 loop-node-preserved g c =
     let h = g.H.Hasher.hashing c.args.hasher.now in
-    let more : c.push-in-loop-node.new.self.items ≡ (c.loop-node.children.items ++ c.in_ok-left.left ∷ []) ++ c.in_ok-left.right ∷ [] = c.in_ok-push-2.ensures.items ∙ ap (λ z. z ++ c.in_ok-left.right ∷ []) c.in_ok-push.ensures.items in
+    let more : c.push-in-loop-node.new.self.items ≡ (c.loop-node.children.items ++ c.in_ok-left.left ∷ []) ++ c.in_ok-left.right ∷ [] =
+    c.in_ok-push-2.ensures.items ∙ ap (λ z. z ++ c.in_ok-left.right ∷ []) c.in_ok-push.ensures.items in
     children_more h g.F.Family.rule g.F.Family.MAX_LEAVES (leaf_from h c.args.start c.args.leaves.now) c.args.nodes.now c.loop-node.node-index c.node-item.result c.loop-node-test.true c.node-item.is
     c.loop-node.children.items c.push-in-loop-node.new.self.items c.in_ok-left.left c.in_ok-left.right more c.in_ok-left.ensures c.loop-node.invariant
 

@@ -19,5 +19,6 @@ leaf_inside-second-requires g c =
 
 pub returns-clause-digest : goal.returns-clause-digest
 returns-clause-digest g c = λ h.
-    digest_parent _ _ h c.args.start c.args.leaves.now _ g.met.F.Family.lawful c.args.subtree.now c.children-left.result.0 c.children-left.result.1 c.children-left.ensures c.requires.node c.requires.parent _ _
+    digest_parent _ _ h c.args.start c.args.leaves.now _ g.met.F.Family.lawful c.args.subtree.now c.children-left.result.0 c.children-left.result.1
+    c.children-left.ensures c.requires.node c.requires.parent _ _
     c.leaf_inside-first.ensures c.leaf_inside-second.ensures

@@ -8,7 +8,8 @@ use Rattle.merkle_reconstruction.proofs.walk.+collect_siblings.Goals as goal
 use Rattle.merkle_reconstruction.proofs.walk.+collect_siblings.Goals.{then-subtree-eq0-via-then-subtree-eq0, then-subtree-eq0-via-else-subtree-eq0+then-is_inside}
 
 pub returns-then-is_outside : goal.returns-then-is_outside
-returns-then-is_outside g t c = λ u w. c.in_ok-push.ensures.items ∙ ap (λ z. c.args.out.now.items ++ z) (outside_positions _ _ _ _ _ _ u w (not-true _ (sym (c.is_outside.ensures u w) ∙ c.if-is_outside.true)))
+returns-then-is_outside g t c = λ u w. c.in_ok-push.ensures.items
+    ∙ ap (λ z. c.args.out.now.items ++ z) (outside_positions _ _ _ _ _ _ u w (not-true _ (sym (c.is_outside.ensures u w) ∙ c.if-is_outside.true)))
 
 pub returns-then-subtree-eq0 : goal.returns-then-subtree-eq0
 returns-then-subtree-eq0 g t c = λ u w. none_more c.args.out.now.items _ (
@@ -31,8 +32,10 @@ pub collect_siblings-requires-2 : goal.collect_siblings-requires-2
 collect_siblings-requires-2 g t c κs within =
     let n = c.requires.node in
     let i = inner_node _ _ _ _ _ n.0 n.1 c.if-subtree-eq0.false in
-    let k = c.children-left.ensures i.0 i.1 i.2 i.3 in
-    (omega (arith, lower _ _ _ _ _ _ _ _ _ _ _ _ i.3 k.1 (inr (heights_same _ _ _ g.met.F.Family.lawful _ _ _ _ _ _ i.3)), c.decreases), (within.0, (within.1.0, (within.1.1, ((i.2, k.1), c.requires.nonempty)))))
+    let k = c.children-left.ensures i.0 i.1 i.2 i.3 in (
+      omega (arith, lower _ _ _ _ _ _ _ _ _ _ _ _ i.3 k.1 (inr (heights_same _ _ _ g.met.F.Family.lawful _ _ _ _ _ _ i.3)), c.decreases),
+      (within.0, (within.1.0, (within.1.1, ((i.2, k.1), c.requires.nonempty)))),
+    )
 
 pub returns : goal.returns
 returns g t c = if_ok c.collect_siblings-2.result (λ _ f u w.

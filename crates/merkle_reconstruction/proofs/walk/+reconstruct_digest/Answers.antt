@@ -15,7 +15,8 @@ pub returns-in_default-clause-err : goal.returns-in_default-clause-err
 returns-in_default-clause-err g t c = λ _. (
   refl,
   λ u w.
-      short_outside (g.H.Hasher.hashing c.args.hasher.now) (in_range c.args.range.now.start c.args.range.now.end) (leaf_from (g.H.Hasher.hashing c.args.hasher.now) c.args.range.now.start c.args.leaves.now) u c.args.digests.now.now
+      short_outside (g.H.Hasher.hashing c.args.hasher.now) (in_range c.args.range.now.start c.args.range.now.end)
+      (leaf_from (g.H.Hasher.hashing c.args.hasher.now) c.args.range.now.start c.args.leaves.now) u c.args.digests.now.now
       (not-true _ (sym (c.is_outside.ensures u w) ∙ c.if-is_outside.true)) (nil_from_length _ c.in_default.ensures.cases),
 )
 
@@ -41,7 +42,8 @@ pub returns-then-subtree-eq0-clause-ok : goal.returns-then-subtree-eq0-clause-ok
 returns-then-subtree-eq0-clause-ok g t c = λ u w.
     let met = not-false _ (sym (c.is_outside.ensures u w) ∙ c.if-is_outside.false) in
     let l = leaf_in_range _ _ _ _ _ _ _ u w c.if-subtree-eq0.true met in
-    walked_leaf _ _ _ _ _ (g.H.Hasher.hashing c.args.hasher.now) _ _ c.args.leaves.now u w c.if-subtree-eq0.true met _ _ _ (omega (arith, c.as_u64.ensures, c.sub-index.ensures, c.requires.covered, l.0, l.1)) c.index-leaves-as_u64.is (c.as_u64.ensures ∙ c.sub-index.ensures)
+    walked_leaf _ _ _ _ _ (g.H.Hasher.hashing c.args.hasher.now) _ _ c.args.leaves.now u w c.if-subtree-eq0.true met _ _ _
+    (omega (arith, c.as_u64.ensures, c.sub-index.ensures, c.requires.covered, l.0, l.1)) c.index-leaves-as_u64.is (c.as_u64.ensures ∙ c.sub-index.ensures)
 
 pub children-left-requires : goal.children-left-requires
 children-left-requires g t c = let n = c.requires.node in inner_node _ _ _ _ _ n.0 n.1 c.if-subtree-eq0.false
@@ -50,8 +52,19 @@ pub reconstruct_digest-requires : goal.reconstruct_digest-requires
 reconstruct_digest-requires g t c κs within =
     let n = c.requires.node in
     let i = inner_node _ _ _ _ _ n.0 n.1 c.if-subtree-eq0.false in
-    let k = c.children-left.ensures i.0 i.1 i.2 i.3 in
-    (omega (arith, lower _ _ _ _ _ _ _ _ _ _ _ _ i.3 k.0 (inl refl), c.decreases), (within.0, (within.1.0, (within.1.1.0, (within.1.1.1.0, (within.1.1.1.1.0, (within.1.1.1.1.1, ((i.1, k.0), (c.requires.nonempty, (c.requires.covered, c.requires.known))))))))))
+    let k = c.children-left.ensures i.0 i.1 i.2 i.3 in (
+      omega (arith, lower _ _ _ _ _ _ _ _ _ _ _ _ i.3 k.0 (inl refl), c.decreases),
+      (
+        within.0,
+        (
+          within.1.0,
+          (
+            within.1.1.0,
+            (within.1.1.1.0, (within.1.1.1.1.0, (within.1.1.1.1.1, ((i.1, k.0), (c.requires.nonempty, (c.requires.covered, c.requires.known)))))),
+          ),
+        ),
+      ),
+    )
 
 pub returns-in_err-first-clause-err : goal.returns-in_err-first-clause-err
 returns-in_err-first-clause-err g t c =
@@ -59,7 +72,9 @@ returns-in_err-first-clause-err g t c =
     rw (p.1, p.2) (λ n. (
       (c.in_err-first.ensures.err n).0,
       λ u w.
-          short_inner_left _ _ _ _ _ (g.H.Hasher.hashing c.args.hasher.now) _ (leaf_from (g.H.Hasher.hashing c.args.hasher.now) c.args.range.now.start c.args.leaves.now) u w c.if-subtree-eq0.false (not-false _ (sym (c.is_outside.ensures u w) ∙ c.if-is_outside.false)) _
+          short_inner_left _ _ _ _ _ (g.H.Hasher.hashing c.args.hasher.now) _
+          (leaf_from (g.H.Hasher.hashing c.args.hasher.now) c.args.range.now.start c.args.leaves.now) u w c.if-subtree-eq0.false
+          (not-false _ (sym (c.is_outside.ensures u w) ∙ c.if-is_outside.false)) _
           (λ q l r v. (c.in_err-first.ensures.err n).1 l (c.children-left.ensures q l r v).0),
     ))
 
@@ -67,8 +82,19 @@ pub reconstruct_digest-requires-2 : goal.reconstruct_digest-requires-2
 reconstruct_digest-requires-2 g t c κs within =
     let n = c.requires.node in
     let i = inner_node _ _ _ _ _ n.0 n.1 c.if-subtree-eq0.false in
-    let k = c.children-left.ensures i.0 i.1 i.2 i.3 in
-    (omega (arith, lower _ _ _ _ _ _ _ _ _ _ _ _ i.3 k.1 (inr (heights_same _ _ _ g.met.F.Family.lawful _ _ _ _ _ _ i.3)), c.decreases), (within.0, (within.1.0, (within.1.1.0, (within.1.1.1.0, (within.1.1.1.1.0, (within.1.1.1.1.1, ((i.2, k.1), (c.requires.nonempty, (c.requires.covered, c.requires.known))))))))))
+    let k = c.children-left.ensures i.0 i.1 i.2 i.3 in (
+      omega (arith, lower _ _ _ _ _ _ _ _ _ _ _ _ i.3 k.1 (inr (heights_same _ _ _ g.met.F.Family.lawful _ _ _ _ _ _ i.3)), c.decreases),
+      (
+        within.0,
+        (
+          within.1.0,
+          (
+            within.1.1.0,
+            (within.1.1.1.0, (within.1.1.1.1.0, (within.1.1.1.1.1, ((i.2, k.1), (c.requires.nonempty, (c.requires.covered, c.requires.known)))))),
+          ),
+        ),
+      ),
+    )
 
 pub returns-in_err-second-clause-err : goal.returns-in_err-second-clause-err
 returns-in_err-second-clause-err g t c =
@@ -76,7 +102,9 @@ returns-in_err-second-clause-err g t c =
     rw (p.1, p.2) (λ n. (
       (c.in_err-second.ensures.err n).0,
       λ u w.
-          short_inner_right _ _ _ _ _ (g.H.Hasher.hashing c.args.hasher.now) _ (leaf_from (g.H.Hasher.hashing c.args.hasher.now) c.args.range.now.start c.args.leaves.now) u w c.if-subtree-eq0.false (not-false _ (sym (c.is_outside.ensures u w) ∙ c.if-is_outside.false)) _ _ _
+          short_inner_right _ _ _ _ _ (g.H.Hasher.hashing c.args.hasher.now) _
+          (leaf_from (g.H.Hasher.hashing c.args.hasher.now) c.args.range.now.start c.args.leaves.now) u w c.if-subtree-eq0.false
+          (not-false _ (sym (c.is_outside.ensures u w) ∙ c.if-is_outside.false)) _ _ _
           (λ q l r v. let k = c.children-left.ensures q l r v in (c.in_ok-first.ensures.ok l k.0, (c.in_err-second.ensures.err n).1 r k.1)),
     ))
 
@@ -94,8 +122,16 @@ returns-then-is_outside-clause-taken g t c = λ u w.
 
 pub returns-clause-taken : goal.returns-clause-taken
 returns-clause-taken g t c = λ u w.
-    put_inner (g.H.Hasher.hashing c.args.hasher.now) _ _ g.C.Collector.Took g.met.C.Collector.took_both _ _ _ _ _ u w c.if-subtree-eq0.false (not-false _ (sym (c.is_outside.ensures u w) ∙ c.if-is_outside.false)) _ _ _ _ _ _ _ _ _ _ _
-    (λ q l r v. let k = c.children-left.ensures q l r v in (stands_at _ _ _ _ _ l k.0, stands_at _ _ _ _ _ r k.1, c.in_ok-first.ensures.ok l k.0, c.in_ok-second.ensures.ok r k.1, c.in_ok-first.ensures.taken l k.0, c.in_ok-second.ensures.taken r k.1))
+    put_inner (g.H.Hasher.hashing c.args.hasher.now) _ _ g.C.Collector.Took g.met.C.Collector.took_both _ _ _ _ _ u w c.if-subtree-eq0.false
+    (not-false _ (sym (c.is_outside.ensures u w) ∙ c.if-is_outside.false)) _ _ _ _ _ _ _ _ _ _ _
+    (λ q l r v. let k = c.children-left.ensures q l r v in (
+      stands_at _ _ _ _ _ l k.0,
+      stands_at _ _ _ _ _ r k.1,
+      c.in_ok-first.ensures.ok l k.0,
+      c.in_ok-second.ensures.ok r k.1,
+      c.in_ok-first.ensures.taken l k.0,
+      c.in_ok-second.ensures.taken r k.1,
+    ))
     (search rules)
 
 pub returns-then-subtree-eq0-clause-taken : goal.returns-then-subtree-eq0-clause-taken
@@ -111,11 +147,13 @@ returns-in-Some-get-clause-ok g t c = λ u w.
 
 pub returns-then-is_inside-2-clause-ok : goal.returns-then-is_inside-2-clause-ok
 returns-then-is_inside-2-clause-ok g t c = λ u w.
-    walked_inside (g.H.Hasher.hashing c.args.hasher.now) c.args.range.now.start c.args.leaves.now c.args.range.now.end u (c.is_inside-then-is_extracted_by_levels.ensures.none u w c.if-is_inside-2.true)
+    walked_inside (g.H.Hasher.hashing c.args.hasher.now) c.args.range.now.start c.args.leaves.now c.args.range.now.end u
+    (c.is_inside-then-is_extracted_by_levels.ensures.none u w c.if-is_inside-2.true)
     c.in-Ok.digest (c.in-Ok.ensures.digest u w.at) c.args.digests.now.now
 
 pub returns-then-is_inside-2-clause-taken : goal.returns-then-is_inside-2-clause-taken
 returns-then-is_inside-2-clause-taken g t c = λ u w.
     let h = g.H.Hasher.hashing c.args.hasher.now in
-    let same = inner_inside h (in_range c.args.range.now.start c.args.range.now.end) (leaf_from h c.args.range.now.start c.args.leaves.now) u (c.is_inside-then-is_extracted_by_levels.ensures.none u w c.if-is_inside-2.true) c.args.digests.now.now in
+    let same = inner_inside h (in_range c.args.range.now.start c.args.range.now.end) (leaf_from h c.args.range.now.start c.args.leaves.now) u
+    (c.is_inside-then-is_extracted_by_levels.ensures.none u w c.if-is_inside-2.true) c.args.digests.now.now in
     subst (λ z. g.C.Collector.Took c.args.out.now z c.extract_by_levels.new.out) (sym same) (c.in-Ok.ensures.taken u w)

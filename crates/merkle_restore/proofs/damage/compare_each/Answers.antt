@@ -13,7 +13,8 @@ loop-node-preserved g c =
     let i = c.loop-node.node-index in
     let x = c.node-item.result in
     let more : drop i xs ≡ x ∷ drop (i + 1) xs = drop_more xs i x c.loop-node-test.true ∙ ap (λ y. y ∷ drop (i + 1) xs) (sym c.node-item.is) in
-    c.loop-node.invariant ∙ ap (first_wrong h held) more ∙ none_then h held c.compare_node-found.result (x ∷ []) (drop (i + 1) xs) c.compare_node-found.ensures (sym c.is_some.ensures ∙ c.if-is_some.false)
+    c.loop-node.invariant ∙ ap (first_wrong h held) more
+    ∙ none_then h held c.compare_node-found.result (x ∷ []) (drop (i + 1) xs) c.compare_node-found.ensures (sym c.is_some.ensures ∙ c.if-is_some.false)
 
 pub returns-then-is_some : goal.returns-then-is_some
 returns-then-is_some g c =
@@ -23,7 +24,8 @@ returns-then-is_some g c =
     let i = c.loop-node.node-index in
     let x = c.node-item.result in
     let more : drop i xs ≡ x ∷ drop (i + 1) xs = drop_more xs i x c.loop-node-test.true ∙ ap (λ y. y ∷ drop (i + 1) xs) (sym c.node-item.is) in
-    sym (c.loop-node.invariant ∙ ap (first_wrong h held) more ∙ some_then h held c.compare_node-found.result (x ∷ []) (drop (i + 1) xs) c.compare_node-found.ensures (sym c.is_some.ensures ∙ c.if-is_some.true))
+    sym (c.loop-node.invariant ∙ ap (first_wrong h held) more
+    ∙ some_then h held c.compare_node-found.result (x ∷ []) (drop (i + 1) xs) c.compare_node-found.ensures (sym c.is_some.ensures ∙ c.if-is_some.true))
 
 pub returns : goal.returns
 returns g c =

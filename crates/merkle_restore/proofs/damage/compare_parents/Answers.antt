@@ -62,7 +62,8 @@ returns-then-is_some-clause-found g c =
     let within = λ (n : ℕ) (l : leaf < n). (let w : c.add_assign.new.self < size rule n = omega (arith, fit, step, k.2, size_le rule (suc leaf) n (omega (arith, l))) in w) in
     let found = c.compare_parent-found in
     λ n l.
-    finds_any h held found.result (c.args.waiting.now.items ++ parents_from rule n held (size rule leaf)) (c.loop-height.waiting.items ++ parents_from rule n held c.add_assign.new.self) (found.new.waiting.items ++ parents_from rule n held (suc c.add_assign.new.self))
+    finds_any h held found.result (c.args.waiting.now.items ++ parents_from rule n held (size rule leaf))
+    (c.loop-height.waiting.items ++ parents_from rule n held c.add_assign.new.self) (found.new.waiting.items ++ parents_from rule n held (suc c.add_assign.new.self))
     (found.new.waiting.items ++ parents_from rule n held (size rule (suc leaf))) (sym c.is_some.ensures ∙ c.if-is_some.true)
     ((c.loop-height.invariant.4 n l).0 ∙ ap (λ p. first_wrong h held (c.loop-height.waiting.items ++ parents_from rule n held p)) step) (found.ensures.found n (within n l))
 
@@ -114,8 +115,12 @@ loop-height-preserved g c =
       (k.0 ++ c.in-Some.height ∷ [], append_assoc k.0 (c.in-Some.height ∷ []) left ∙ heights, omega (arith, k.2, step, length-append k.0 (c.in-Some.height ∷ []))),
       found.ensures.fits,
       λ n l. (
-        finds_on h held found.result (c.args.waiting.now.items ++ parents_from rule n held (size rule leaf)) (c.loop-height.waiting.items ++ parents_from rule n held c.add_assign.new.self) (found.new.waiting.items ++ parents_from rule n held (suc c.add_assign.new.self))
-            (sym c.is_some.ensures ∙ c.if-is_some.false) ((c.loop-height.invariant.4 n l).0 ∙ ap (λ p. first_wrong h held (c.loop-height.waiting.items ++ parents_from rule n held p)) step) (found.ensures.found n (within n l)),
+        finds_on h held found.result (c.args.waiting.now.items ++ parents_from rule n held (size rule leaf))
+            (c.loop-height.waiting.items ++ parents_from rule n held c.add_assign.new.self)
+            (found.new.waiting.items ++ parents_from rule n held (suc c.add_assign.new.self))
+            (sym c.is_some.ensures ∙ c.if-is_some.false)
+            ((c.loop-height.invariant.4 n l).0 ∙ ap (λ p. first_wrong h held (c.loop-height.waiting.items ++ parents_from rule n held p)) step)
+            (found.ensures.found n (within n l)),
         omega (arith, found.ensures.counted n (within n l), (c.loop-height.invariant.4 n l).1, ap (λ p. length (parents_from rule n held p)) step),
       ),
     )

@@ -17,7 +17,8 @@ returns-then-is_err g c = λ later.
     let held = (g.B.Base.contents c.args.base.now).node in
     let before = c.args.waiting.now.items in
     let same : c.deref.result.now ≡ before = search rules in
-    refused h held c.compare-found.result c.compare_node.result before later c.clear.new.self.items c.args.node (c.compare-found.ensures ∙ ap (first_wrong h held) same) (sym c.is_some.ensures ∙ c.if-is_some.false)
+    refused h held c.compare-found.result c.compare_node.result before later c.clear.new.self.items c.args.node
+    (c.compare-found.ensures ∙ ap (first_wrong h held) same) (sym c.is_some.ensures ∙ c.if-is_some.false)
     c.compare_node.ensures c.clear.ensures.items
 
 pub returns : goal.returns

@@ -30,7 +30,8 @@ loop-leaf-preserved g c =
     let test = sym c.is_some.ensures ∙ c.if-is_some.false in
     let counted = MatchOption-at_none _ _ (none_of found.result test) found.ensures.counted in (
       omega (arith, found.ensures.fits, ap (size rule) next),
-      finds_on h held found.result (parents_from rule n held from) (c.loop-leaf.waiting.items ++ parents_from rule n held (size rule c.new.result)) (found.new.waiting.items ++ parents_from rule n held (size rule (suc c.new.result))) test
+      finds_on h held found.result (parents_from rule n held from) (c.loop-leaf.waiting.items ++ parents_from rule n held (size rule c.new.result))
+          (found.new.waiting.items ++ parents_from rule n held (size rule (suc c.new.result))) test
           (c.loop-leaf.invariant.1 ∙ ap (λ k. first_wrong h held (c.loop-leaf.waiting.items ++ parents_from rule n held (size rule k))) (sym c.new.ensures)) (found.ensures.found n below)
           ∙ ap (λ k. first_wrong h held (found.new.waiting.items ++ parents_from rule n held (size rule k))) next,
       omega (

@@ -89,7 +89,8 @@ push_parents-requires g t c =
     let es = c.args.located.now in
     let n = c.requires.nodes in
     let listed = c.deref-2.ensures.value ∙ c.in_ok-push_children.ensures n.0 n.1 ∙ ap (λ z. z ++ map (checked_node es) (all_children_met es n.0)) c.in_ok-children.ensures.items in
-    let each : (us : List Tree) → AreChecked g.F.Family.rule g.F.Family.MAX_LEAVES es c.deref-2.result.now us → EachHolds h a es us × (c.in-Some.below.items ≡ nodes_checked h a es us) = search rules in
+    let each : (us : List Tree) → AreChecked g.F.Family.rule g.F.Family.MAX_LEAVES es c.deref-2.result.now us → EachHolds h a es us
+    × (c.in-Some.below.items ≡ nodes_checked h a es us) = search rules in
     let below = each (all_children_met es n.0) (listed, children_nodes es g.F.Family.rule g.F.Family.MAX_LEAVES n.0 n.1.1) in
     record { nodes = (es, n.0, c.requires.ascend, n.1, ap length (c.deref-3.ensures.value ∙ below.1) ∙ length-map (all_children_met es n.0) (λ t. value h (node_checked h a es t))) }
 
@@ -100,7 +101,8 @@ confirm_over-requires-2-clause-nodes g t c =
     let es = c.args.located.now in
     let n = c.requires.nodes in
     let listed = c.deref-2.ensures.value ∙ c.in_ok-push_children.ensures n.0 n.1 ∙ ap (λ z. z ++ map (checked_node es) (all_children_met es n.0)) c.in_ok-children.ensures.items in
-    let each : (us : List Tree) → AreChecked g.F.Family.rule g.F.Family.MAX_LEAVES es c.deref-2.result.now us → EachHolds h a es us × (c.in-Some.below.items ≡ nodes_checked h a es us) = search rules in
+    let each : (us : List Tree) → AreChecked g.F.Family.rule g.F.Family.MAX_LEAVES es c.deref-2.result.now us → EachHolds h a es us
+    × (c.in-Some.below.items ≡ nodes_checked h a es us) = search rules in
     let below = each (all_children_met es n.0) (listed, children_nodes es g.F.Family.rule g.F.Family.MAX_LEAVES n.0 n.1.1) in (
       n.0,
       n.1,
@@ -113,7 +115,8 @@ returns-clause-some g t c =
     let h = g.H.Hasher.hashing c.args.hasher.now in
     let a = digest_for c.args.told.now.positions.now c.args.told.now.digests.now in
     let es = c.args.located.now in
-    let each : (us : List Tree) → AreChecked g.F.Family.rule g.F.Family.MAX_LEAVES es c.deref-2.result.now us → EachHolds h a es us × (c.in-Some.below.items ≡ nodes_checked h a es us) = search rules in
+    let each : (us : List Tree) → AreChecked g.F.Family.rule g.F.Family.MAX_LEAVES es c.deref-2.result.now us → EachHolds h a es us
+    × (c.in-Some.below.items ≡ nodes_checked h a es us) = search rules in
     if_ok c.confirm_over-2.result (λ o s. IfSome_then o s (λ v f ts w.
     let listed = c.deref-2.ensures.value ∙ c.in_ok-push_children.ensures ts w ∙ ap (λ z. z ++ map (checked_node es) (all_children_met es ts)) c.in_ok-children.ensures.items in
     let below = each (all_children_met es ts) (listed, children_nodes es g.F.Family.rule g.F.Family.MAX_LEAVES ts w.1) in
@@ -125,7 +128,8 @@ returns-clause-none g t c =
     let h = g.H.Hasher.hashing c.args.hasher.now in
     let a = digest_for c.args.told.now.positions.now c.args.told.now.digests.now in
     let es = c.args.located.now in
-    let each : (us : List Tree) → AreChecked g.F.Family.rule g.F.Family.MAX_LEAVES es c.deref-2.result.now us → EachHolds h a es us × (c.in-Some.below.items ≡ nodes_checked h a es us) = search rules in
+    let each : (us : List Tree) → AreChecked g.F.Family.rule g.F.Family.MAX_LEAVES es c.deref-2.result.now us → EachHolds h a es us
+    × (c.in-Some.below.items ≡ nodes_checked h a es us) = search rules in
     if_ok c.confirm_over-2.result (λ o f is_none ts w.
     let listed = c.deref-2.ensures.value ∙ c.in_ok-push_children.ensures ts w ∙ ap (λ z. z ++ map (checked_node es) (all_children_met es ts)) c.in_ok-children.ensures.items in
     let below = each (all_children_met es ts) (listed, children_nodes es g.F.Family.rule g.F.Family.MAX_LEAVES ts w.1) in

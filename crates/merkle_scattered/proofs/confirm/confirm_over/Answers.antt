@@ -21,5 +21,6 @@ pub returns-clause-some : goal.returns-clause-some
 returns-clause-some g c = λ ts w parents_are below.
     let h = g.H.Hasher.hashing c.args.hasher.now in
     let computed : c.deref.result.now ≡ map (λ n. h.node n.0 n.1 n.2) c.args.parents.now = search rules in
-    let z = c.in_ok-push_digests.ensures.confirmed c.if-not-branch.false h ts (g.met.H.Hasher.over_digest c.args.hasher.now).empty w below (computed ∙ ap (map (λ n. h.node n.0 n.1 n.2)) parents_are) in
+    let z = c.in_ok-push_digests.ensures.confirmed c.if-not-branch.false h ts (g.met.H.Hasher.over_digest c.args.hasher.now).empty w below
+    (computed ∙ ap (map (λ n. h.node n.0 n.1 n.2)) parents_are) in
     (z.0, z.1 ∙ ap (λ xs. xs ++ nodes_checked h (digest_for c.args.told.now.positions.now c.args.told.now.digests.now) c.args.located.now ts) c.in_ok-digests.ensures.items)

@@ -21,7 +21,8 @@ returns-then-not-agrees-clause-refuted g c = λ _ h ts empty w computed_is all.
     let a = digest_for c.args.told.now.positions.now c.args.told.now.digests.now in
     let v = checked_item g.F.Family.rule g.F.Family.MAX_LEAVES es c.args.nodes.now ts w i c.loop-node-test.true c.node-item.result in
     let e = c.node-item.is ∙ v.1 in
-    let left = subst (λ us. IsLeft h a es ts us (drop c.loop-node.next c.args.computed.now) c.args.digests.now.items c.loop-node.digests.items) v.3 (c.loop-node.invariant.1 h ts empty w computed_is) in
+    let left = subst (λ us. IsLeft h a es ts us (drop c.loop-node.next c.args.computed.now) c.args.digests.now.items c.loop-node.digests.items) v.3
+    (c.loop-node.invariant.1 h ts empty w computed_is) in
     let met = is_met g.F.Family.rule g.F.Family.MAX_LEAVES es c.requires.ascend c.node-item.result v.0 e v.2 (leb-false _ _ (sym c.is_unmet.ensures ∙ c.if-is_unmet.false)) in
     let digest = c.digest_met-digest.ensures.digest h a v.0 _ (e, v.2) (left_parents h a es ts (drop (i + 1) ts) v.0 _ _ _ left) in
     let d = c.digest_met-digest.result in
@@ -79,5 +80,6 @@ returns-clause-confirmed g c = λ _ h ts empty w below computed_is.
     let es = c.args.located.now in
     let a = digest_for c.args.told.now.positions.now c.args.told.now.digests.now in
     let none = none_after g.F.Family.rule g.F.Family.MAX_LEAVES es c.args.nodes.now ts w c.loop-node.node-index (omega (arith, c.loop-node-test.false)) in
-    let left = subst (λ us. IsLeft h a es ts us (drop c.loop-node.next c.args.computed.now) c.args.digests.now.items c.loop-node.digests.items) none (c.loop-node.invariant.1 h ts empty w computed_is) in
+    let left = subst (λ us. IsLeft h a es ts us (drop c.loop-node.next c.args.computed.now) c.args.digests.now.items c.loop-node.digests.items) none
+    (c.loop-node.invariant.1 h ts empty w computed_is) in
     ((left.below below).1 tt, sym (append-nil c.loop-node.digests.items) ∙ left.digests_are)

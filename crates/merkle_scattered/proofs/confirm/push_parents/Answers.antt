@@ -29,7 +29,8 @@ overflow_add-next g c =
     let i = c.loop-node.node-index in
     let v = checked_item g.F.Family.rule g.F.Family.MAX_LEAVES n.0 c.args.nodes.now n.1 n.3 i c.loop-node-test.true c.node-item.result in
     let p = parent_is g.F.Family.rule g.F.Family.MAX_LEAVES n.0 n.2 c.node-item.result v.0 (c.node-item.is ∙ v.1) v.2 (sym c.is_parent.ensures ∙ c.if-is_parent.true) in
-    let l : c.loop-node.next + 1 ≤ length c.args.below.now = omega (arith, c.loop-node.invariant.0 n.0 n.1 n.2 n.3 n.4, ap length (two_children n.0 v.0 (drop i n.1) (drop (i + 1) n.1) v.3 p.1 p.2 p.4)) in
+    let l : c.loop-node.next + 1 ≤ length c.args.below.now =
+    omega (arith, c.loop-node.invariant.0 n.0 n.1 n.2 n.3 n.4, ap length (two_children n.0 v.0 (drop i n.1) (drop (i + 1) n.1) v.3 p.1 p.2 p.4)) in
     search rules
 
 pub offset_bounds-below-next-then-is_parent : goal.offset_bounds-below-next-then-is_parent
@@ -46,7 +47,8 @@ overflow_add-next-then-is_parent g c =
     let i = c.loop-node.node-index in
     let v = checked_item g.F.Family.rule g.F.Family.MAX_LEAVES n.0 c.args.nodes.now n.1 n.3 i c.loop-node-test.true c.node-item.result in
     let p = parent_is g.F.Family.rule g.F.Family.MAX_LEAVES n.0 n.2 c.node-item.result v.0 (c.node-item.is ∙ v.1) v.2 (sym c.is_parent.ensures ∙ c.if-is_parent.true) in
-    let l : c.loop-node.next + 2 ≤ length c.args.below.now = omega (arith, c.loop-node.invariant.0 n.0 n.1 n.2 n.3 n.4, ap length (two_children n.0 v.0 (drop i n.1) (drop (i + 1) n.1) v.3 p.1 p.2 p.4)) in
+    let l : c.loop-node.next + 2 ≤ length c.args.below.now =
+    omega (arith, c.loop-node.invariant.0 n.0 n.1 n.2 n.3 n.4, ap length (two_children n.0 v.0 (drop i n.1) (drop (i + 1) n.1) v.3 p.1 p.2 p.4)) in
     search rules
 
 pub loop-node-preserved : goal.loop-node-preserved

@@ -16,7 +16,8 @@ returns-then-low-ge-MAX_LEAVES-clause-greatest c = size_past_limit c.args.nodes 
 pub returns-then-node_count-nodes-clause-greatest : goal.returns-then-node_count-nodes-clause-greatest
 returns-then-node_count-nodes-clause-greatest c =
     let double : 2 ^ suc c.ilog2.result ≡ 2 ^ c.ilog2.result * 2 = pow-suc 2 c.ilog2.result in
-    subst (λ (n : ℕ). c.args.nodes < size mmb_merges ((c.args.nodes + n - 1) / 2 + 1 + 1)) (sym c.from.ensures) (size_past_log c.args.nodes c.ilog2.result (omega (arith, double, c.ilog2.ensures.next_power_gt)))
+    subst (λ (n : ℕ). c.args.nodes < size mmb_merges ((c.args.nodes + n - 1) / 2 + 1 + 1)) (sym c.from.ensures)
+    (size_past_log c.args.nodes c.ilog2.result (omega (arith, double, c.ilog2.ensures.next_power_gt)))
 
 pub returns-else-node_count-nodes-clause-within : goal.returns-else-node_count-nodes-clause-within
 returns-else-node_count-nodes-clause-within c = within c.args.nodes c.from.result c.ilog2.result c.from.ensures c.ilog2.ensures.power_le

@@ -8,5 +8,6 @@ pub returns-clause-root : goal.returns-clause-root
 returns-clause-root c =
     let k = c.requires.is_root in
     let f = c.leaf_count_within.ensures in
-    let same = size_only mmr_merges c.leaf_count_within.result k.0 (c.args.position - c.nodes_below.result) f.within f.greatest (omega (arith, k.1, c.nodes_below.ensures, doubled_pos c.args.height)) in
+    let same = size_only mmr_merges c.leaf_count_within.result k.0 (c.args.position - c.nodes_below.result) f.within f.greatest
+    (omega (arith, k.1, c.nodes_below.ensures, doubled_pos c.args.height)) in
     ap (λ s. mmr_position s c.args.height) (sym same) ∙ k.1

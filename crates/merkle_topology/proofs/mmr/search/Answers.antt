@@ -31,7 +31,8 @@ loop-low-preserved c =
       greatest = c.narrow.ensures.greatest;
       halved = elim c.if-probes-lt2.branch [
         | then-probes-lt2 w ↦ narrowed_kept c.loop-low.low c.loop-low.high c.narrow.result.0 c.narrow.result.1 c.loop-low.probes w.if-probes-lt2.true kept i.halved
-        | else-probes-lt2 w ↦ narrowed_halved c.loop-low.low c.loop-low.high c.if-probes-lt2.leaves c.narrow.result.0 c.narrow.result.1 c.loop-low.probes w.if-probes-lt2.false w.leaves-is c.loop-low-test.true kept c.narrow.ensures.narrowed i.halved
+        | else-probes-lt2 w ↦ narrowed_halved c.loop-low.low c.loop-low.high c.if-probes-lt2.leaves c.narrow.result.0 c.narrow.result.1
+            c.loop-low.probes w.if-probes-lt2.false w.leaves-is c.loop-low-test.true kept c.narrow.ensures.narrowed i.halved
       ];
       begun = inr (omega arith);
       counted = omega (arith, left);

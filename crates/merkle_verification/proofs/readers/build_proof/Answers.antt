@@ -10,4 +10,6 @@ returns-clause-honest g c = λ xs long answers. c.build.ensures.honest xs long (
 pub returns-clause-err : goal.returns-clause-err
 returns-clause-err g c =
     let told = digest_for c.args.positions.now c.args.digests.now in
-    IfErr-weaker c.build.result _ _ (λ e refused other. refused_by (g.H.Hasher.bagging_of c.args.hasher.now) g.F.Family.rule c.args.plan c.args.inactive _ (λ p r. r ≡ told p) e (refused other) (λ p r answered. search rules)) c.build.ensures.err
+    IfErr-weaker c.build.result _ _
+    (λ e refused other. refused_by (g.H.Hasher.bagging_of c.args.hasher.now) g.F.Family.rule c.args.plan c.args.inactive _ (λ p r. r ≡ told p) e
+    (refused other) (λ p r answered. search rules)) c.build.ensures.err

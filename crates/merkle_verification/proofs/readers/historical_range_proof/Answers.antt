@@ -13,7 +13,8 @@ returns-in-Ok-clause-within g c = IfOk-weaker c.prove_plan.result _ _ (λ p _. c
 
 pub returns-in-Ok-clause-built : goal.returns-in-Ok-clause-built
 returns-in-Ok-clause-built g c =
-    subst (λ (r : LeafRange). IfOk c.prove_plan.result (λ p. IsBuiltProof (g.H.Hasher.scheme c.args.hasher.now) (g.R.Readable.node c.args.reader.now) c.args.inactive r p)) c.in-Ok.ensures.ok c.prove_plan.ensures.built
+    subst (λ (r : LeafRange). IfOk c.prove_plan.result
+    (λ p. IsBuiltProof (g.H.Hasher.scheme c.args.hasher.now) (g.R.Readable.node c.args.reader.now) c.args.inactive r p)) c.in-Ok.ensures.ok c.prove_plan.ensures.built
 
 pub returns-in-Ok-clause-honest : goal.returns-in-Ok-clause-honest
 returns-in-Ok-clause-honest g c = λ X shows within.

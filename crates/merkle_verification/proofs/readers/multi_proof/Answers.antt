@@ -44,11 +44,19 @@ returns-in-Ok-clause-held g c = λ n at within few held.
 
 pub returns-in-Ok-clause-err : goal.returns-in-Ok-clause-err
 returns-in-Ok-clause-err g c =
-    IfErr-weaker c.prove_locations.result _ _ (λ e refused other. inr (c.in-Ok.leaves, omega (arith, c.in-Ok.ensures.ok.1, c.size.ensures), c.in-Ok.ensures.ok.0 ∙ c.size.ensures, refused other)) c.prove_locations.ensures.err
+    IfErr-weaker c.prove_locations.result _ _
+    (λ e refused other. inr (
+      c.in-Ok.leaves,
+      omega (arith, c.in-Ok.ensures.ok.1, c.size.ensures),
+      c.in-Ok.ensures.ok.0
+          ∙ c.size.ensures,
+      refused other,
+    )) c.prove_locations.ensures.err
 
 pub returns-in-Err-clause-held : goal.returns-in-Err-clause-held
 returns-in-Err-clause-held g c = λ n at within few held.
-    absurd (sized_held g.R.Family.Family.rule g.R.Family.Family.MAX_LEAVES g.R.Family.Family.MAX_NODES g.met.R.Family.Family.lawful n c.size.result within.leaves (at ∙ sym c.size.ensures) c.in-Err.error c.in-Err.ensures.err)
+    absurd (sized_held g.R.Family.Family.rule g.R.Family.Family.MAX_LEAVES g.R.Family.Family.MAX_NODES g.met.R.Family.Family.lawful n c.size.result
+    within.leaves (at ∙ sym c.size.ensures) c.in-Err.error c.in-Err.ensures.err)
 
 pub returns-in-Err-clause-err : goal.returns-in-Err-clause-err
 returns-in-Err-clause-err g c = λ _. inl (subst (λ m. IsSizeRefusal g.R.Family.Family.rule g.R.Family.Family.MAX_NODES m c.in-Err.error) c.size.ensures c.in-Err.ensures.err)

@@ -91,4 +91,5 @@ pub returns-in-Err-clause-err : goal.returns-in-Err-clause-err
 returns-in-Err-clause-err g c =
     let rule = g.R.Family.Family.rule in
     let few : c.args.inactive ≤ length (peaks_of rule c.args.leaves) = omega (arith, c.if-inactive-peak_count.false, c.peak_count.ensures) in
-    refused_root (g.R.Readable.node c.args.reader.now) rule g.R.Family.Family.MAX_LEAVES c.args.leaves c.args.inactive c.in-Err.error (inr (c.if-not-is_valid.ensures.0 refl, inr (few, c.in-Err.ensures.missing)))
+    refused_root (g.R.Readable.node c.args.reader.now) rule g.R.Family.Family.MAX_LEAVES c.args.leaves c.args.inactive c.in-Err.error
+    (inr (c.if-not-is_valid.ensures.0 refl, inr (few, c.in-Err.ensures.missing)))

@@ -15,4 +15,5 @@ returns-then-lt-clause-err g c =
     let less : c.args.location < c.leaves.result = ge_no c.args.location c.leaves.result (sym c.ge.ensures ∙ c.if-ge.false) in
     let below : c.args.location < c.pruning_boundary.result = lt_yes c.args.location c.pruning_boundary.result (sym c.lt.ensures ∙ c.if-lt.true) in
     let boundary : c.pruning_boundary.result ≡ c.args.self.now.parent.boundary = c.pruning_boundary.ensures ∙ ap (λ b. b.boundary) c.deref.ensures ∙ ap (λ p. p.parent.boundary) c.self.view_is in
-    pruned_error rule c.args.self.now c.args.location (omega (arith, less, c.leaves.ensures.count)) (omega (arith, below, boundary)) ∙ ap (λ (n : ℕ). Some (ElementPruned n)) (sym c.location_to_position.ensures)
+    pruned_error rule c.args.self.now c.args.location (omega (arith, less, c.leaves.ensures.count)) (omega (arith, below, boundary))
+    ∙ ap (λ (n : ℕ). Some (ElementPruned n)) (sym c.location_to_position.ensures)

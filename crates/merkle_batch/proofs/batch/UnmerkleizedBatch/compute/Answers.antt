@@ -21,9 +21,14 @@ use Rattle.merkle_draft.specs.DraftReads.{ArePeaksRead, below, IsMissingPeak, ol
 use Rattle.merkle_draft.specs.NewDigests.{AreNewDigests, LacksNeeded}
 use Rattle.merkle_batch.specs.Finished.{finished}
 use Rattle.merkle_batch.proofs.Merkleizing.{list_given}
-use Rattle.merkle_batch.proofs.MerkleizeFacts.{ArePeaks, batch_stands, changed_by_leaves, changed_by_updates, finished_linked, is_positive, IsDraft, IsFilled, named_given, named_refused, NamesMissing, needed_missing, none_is_missing, of_fields, peak_missing, some_entry}
+use Rattle.merkle_batch.proofs.MerkleizeFacts.{ArePeaks, batch_stands, changed_by_leaves, changed_by_updates, finished_linked, is_positive, IsDraft, IsFilled}
+use Rattle.merkle_batch.proofs.MerkleizeFacts.{named_given, named_refused, NamesMissing, needed_missing, none_is_missing, of_fields, peak_missing, some_entry}
 use Rattle.merkle_batch.proofs.batch.UnmerkleizedBatch.compute.Given.{Over}
-use Rattle.merkle_batch.proofs.batch.UnmerkleizedBatch.compute.Goals.{After-compute, After-deref-3, After-deref-5, After-drop-draft-inside-in_err-count-2, After-drop-draft-inside-in_err-read_peaks-3, then-is_empty+then-is_empty-2+in_ok-peaks_after, else-is_empty+in_ok-read_peaks+in_ok-peaks_after-2, else-is_empty-via-then-is_empty+else-is_empty-2, else-is_empty-via-else-is_empty}
+use Rattle.merkle_batch.proofs.batch.UnmerkleizedBatch.compute.Goals.{After-compute, After-deref-3, After-deref-5, After-drop-draft-inside-in_err-count-2}
+use Rattle.merkle_batch.proofs.batch.UnmerkleizedBatch.compute.Goals.{After-drop-draft-inside-in_err-read_peaks-3}
+use Rattle.merkle_batch.proofs.batch.UnmerkleizedBatch.compute.Goals.{then-is_empty+then-is_empty-2+in_ok-peaks_after}
+use Rattle.merkle_batch.proofs.batch.UnmerkleizedBatch.compute.Goals.{else-is_empty+in_ok-read_peaks+in_ok-peaks_after-2}
+use Rattle.merkle_batch.proofs.batch.UnmerkleizedBatch.compute.Goals.{else-is_empty-via-then-is_empty+else-is_empty-2, else-is_empty-via-else-is_empty}
 use Rattle.merkle_batch.proofs.batch.UnmerkleizedBatch.compute.Goals as goal
 
 -- ---- the draft

@@ -18,7 +18,8 @@ loop-location-2-preserved g c =
     let u = c.loop-location-2-item.result in
     let made : c.in-Ok-update_leaf_digest.batch ≡ with_update rule now u.0 u.1 = c.in-Ok-update_leaf_digest.ensures.updated in (
       c.loop-location-2.invariant.0 ∙ updates_next rule now us i u c.loop-location-2-test.true c.loop-location-2-item.is ∙ ap (λ p. with_updates rule p (drop (i + 1) us)) (sym made),
-      (both_none (update_error {F = g.row.F.Denot} rule c.args.self u.0) (first_error {F = g.row.F.Denot} rule c.args.self (drop (i + 1) us)) (sym (error_next rule c.args.self us i u c.loop-location-2-test.true c.loop-location-2-item.is) ∙ c.loop-location-2.invariant.1)).1,
+      (both_none (update_error {F = g.row.F.Denot} rule c.args.self u.0) (first_error {F = g.row.F.Denot} rule c.args.self (drop (i + 1) us))
+          (sym (error_next rule c.args.self us i u c.loop-location-2-test.true c.loop-location-2-item.is) ∙ c.loop-location-2.invariant.1)).1,
       ap leaf_total made ∙ total_kept rule now u.0 u.1 ∙ c.loop-location-2.invariant.2,
       ap (λ p. p.parent) made ∙ parent_kept rule now u.0 u.1 ∙ c.loop-location-2.invariant.3,
     )
@@ -30,7 +31,8 @@ loop-location-preserved g c =
     let i = c.loop-location.location-index in
     let u = c.loop-location-item.result in
     let none : update_error {F = g.row.F.Denot} rule c.args.self u.0 ≡ None = c.in-Ok.ensures.ok in
-    c.loop-location.invariant ∙ error_next rule c.args.self us i u c.loop-location-test.true c.loop-location-item.is ∙ ap (λ o. option_or o (first_error {F = g.row.F.Denot} rule c.args.self (drop (i + 1) us))) none
+    c.loop-location.invariant ∙ error_next rule c.args.self us i u c.loop-location-test.true c.loop-location-item.is
+    ∙ ap (λ o. option_or o (first_error {F = g.row.F.Denot} rule c.args.self (drop (i + 1) us))) none
 
 pub loop-location-2-init : goal.loop-location-2-init
 loop-location-2-init g c =
@@ -55,7 +57,9 @@ returns-in-Err-clause-refused g c = λ e is.
     let i = c.loop-location.location-index in
     let u = c.loop-location-item.result in
     let found = c.in-Err.ensures.err in
-    let first : first_error {F = g.row.F.Denot} rule c.args.self us ≡ option_or (update_error {F = g.row.F.Denot} rule c.args.self u.0) (first_error {F = g.row.F.Denot} rule c.args.self (drop (i + 1) us)) = c.loop-location.invariant ∙ error_next rule c.args.self us i u c.loop-location-test.true c.loop-location-item.is in
+    let first : first_error {F = g.row.F.Denot} rule c.args.self us
+    ≡ option_or (update_error {F = g.row.F.Denot} rule c.args.self u.0) (first_error {F = g.row.F.Denot} rule c.args.self (drop (i + 1) us)) =
+    c.loop-location.invariant ∙ error_next rule c.args.self us i u c.loop-location-test.true c.loop-location-item.is in
     let same : Some c.in-Err.error ≡ Some e = sym (first ∙ ap (λ o. option_or o (first_error {F = g.row.F.Denot} rule c.args.self (drop (i + 1) us))) found) ∙ is in
     let error_is : c.in-Err.error ≡ e = cc in
     ap (λ e. Err e) error_is
@@ -67,13 +71,16 @@ returns-in-Err-clause-allowed g c = λ none.
     let i = c.loop-location.location-index in
     let u = c.loop-location-item.result in
     let found = c.in-Err.ensures.err in
-    let first : first_error {F = g.row.F.Denot} rule c.args.self us ≡ option_or (update_error {F = g.row.F.Denot} rule c.args.self u.0) (first_error {F = g.row.F.Denot} rule c.args.self (drop (i + 1) us)) = c.loop-location.invariant ∙ error_next rule c.args.self us i u c.loop-location-test.true c.loop-location-item.is in
+    let first : first_error {F = g.row.F.Denot} rule c.args.self us
+    ≡ option_or (update_error {F = g.row.F.Denot} rule c.args.self u.0) (first_error {F = g.row.F.Denot} rule c.args.self (drop (i + 1) us)) =
+    c.loop-location.invariant ∙ error_next rule c.args.self us i u c.loop-location-test.true c.loop-location-item.is in
     let same : Some c.in-Err.error ≡ None = sym (first ∙ ap (λ o. option_or o (first_error {F = g.row.F.Denot} rule c.args.self (drop (i + 1) us))) found) ∙ none in
     absurd (cc)
 
 pub returns-in-Err-update_leaf_digest-clause-refused : goal.returns-in-Err-update_leaf_digest-clause-refused
 returns-in-Err-update_leaf_digest-clause-refused g c = λ e is.
-    let none : first_error {F = g.row.F.Denot} g.F.Family.rule c.args.self c.args.updates.now ≡ None = c.loop-location.invariant ∙ at_drop_all (first_error {F = g.row.F.Denot} g.F.Family.rule c.args.self) c.args.updates.now c.loop-location.location-index c.loop-location-test.false in
+    let none : first_error {F = g.row.F.Denot} g.F.Family.rule c.args.self c.args.updates.now ≡ None = c.loop-location.invariant
+    ∙ at_drop_all (first_error {F = g.row.F.Denot} g.F.Family.rule c.args.self) c.args.updates.now c.loop-location.location-index c.loop-location-test.false in
     let same : Some e ≡ None = sym is ∙ none in
     absurd (cc)
 
@@ -83,7 +90,9 @@ returns-in-Err-update_leaf_digest-clause-allowed g c = λ _.
     let us = c.args.updates.now in
     let i = c.loop-location-2.location-index in
     let u = c.loop-location-2-item.result in
-    let none = (both_none (update_error {F = g.row.F.Denot} rule c.args.self u.0) (first_error {F = g.row.F.Denot} rule c.args.self (drop (i + 1) us)) (sym (error_next rule c.args.self us i u c.loop-location-2-test.true c.loop-location-2-item.is) ∙ c.loop-location-2.invariant.1)).0 in
+    let none = (both_none (update_error {F = g.row.F.Denot} rule c.args.self u.0) (first_error {F = g.row.F.Denot} rule c.args.self (drop (i + 1) us))
+    (sym (error_next rule c.args.self us i u c.loop-location-2-test.true c.loop-location-2-item.is) ∙ c.loop-location-2.invariant.1)).0 in
     let kept : update_error {F = g.row.F.Denot} rule c.loop-location-2.self u.0 ≡ update_error {F = g.row.F.Denot} rule c.args.self u.0 =
-    λ j. cond (nat_le (c.loop-location-2.invariant.2 j) u.0) (Some (error.LeafOutOfBounds u.0)) (cond (nat_lt u.0 (c.loop-location-2.invariant.3 j).boundary) (Some (error.ElementPruned (size rule u.0))) None) in
+    λ j. cond (nat_le (c.loop-location-2.invariant.2 j) u.0) (Some (error.LeafOutOfBounds u.0))
+    (cond (nat_lt u.0 (c.loop-location-2.invariant.3 j).boundary) (Some (error.ElementPruned (size rule u.0))) None) in
     c.in-Err-update_leaf_digest.ensures.allowed (kept ∙ none)

@@ -16,14 +16,28 @@ invariant_of-self g c =
     let put : from_entries {R = nat_cmp} c.insert.new.self.entries ≡ insert old (size rule c.args.location) c.args.digest =
     entries_inserted c.self.inside.updates.entries c.insert.new.self.entries c.location_to_position-position.result c.args.digest c.in_ok-insert.ensures.updates.0
     ∙ ap (λ (n : ℕ). insert old n c.args.digest) c.location_to_position-position.ensures in
-    old_kept rule g.F.Family.MAX_LEAVES (record { parent = c.self.inside.parent.value; leaves_before = c.self.inside.leaves_before; added = c.self.inside.added.items; overwritten = old; forgotten = c.self.inside.forgotten })
+    old_kept rule g.F.Family.MAX_LEAVES
+    (record {
+      parent = c.self.inside.parent.value;
+      leaves_before = c.self.inside.leaves_before;
+      added = c.self.inside.added.items;
+      overwritten = old;
+      forgotten = c.self.inside.forgotten;
+    })
     c.args.location c.args.digest (from_entries {R = nat_cmp} c.insert.new.self.entries) c.self.invariant less put
 
 pub returns-clause-updated : goal.returns-clause-updated
 returns-clause-updated g c =
     let rule = g.F.Family.rule in
     let old = from_entries {R = nat_cmp} c.self.inside.updates.entries in
-    let before : UnmerkleizedModel g.row.D.Denot = record { parent = c.self.inside.parent.value; leaves_before = c.self.inside.leaves_before; added = c.self.inside.added.items; overwritten = old; forgotten = c.self.inside.forgotten } in
+    let before : UnmerkleizedModel g.row.D.Denot =
+    record {
+      parent = c.self.inside.parent.value;
+      leaves_before = c.self.inside.leaves_before;
+      added = c.self.inside.added.items;
+      overwritten = old;
+      forgotten = c.self.inside.forgotten;
+    } in
     elim c.if-lt.branch [
       | then-lt+in_ok-insert w ↦ (let less : c.args.location < c.self.inside.leaves_before = lt_yes c.args.location c.self.inside.leaves_before (sym c.lt.ensures ∙ w.if-lt.true) in
           let put : from_entries {R = nat_cmp} w.insert.new.self.entries ≡ insert old (size rule c.args.location) c.args.digest =

@@ -7,7 +7,8 @@ overflow_mul-result g c =
     let D = g.met.D.Digest in
     let bytes = g.D.Digest.bytes in
     let p = c.args.self.now in
-    let sum = parts_sum bytes g.D.Digest.SIZE (λ x. D.one_length (bytes x) (D.bytes_spell x)) p.leaves p.inactive_peaks p.digests.items c.numbers_size.result c.len.result c.SIZE.result c.numbers_size.ensures.size (c.len.ensures ∙ p.digests.ok.0) c.SIZE.ensures in
+    let sum = parts_sum bytes g.D.Digest.SIZE (λ x. D.one_length (bytes x) (D.bytes_spell x)) p.leaves p.inactive_peaks p.digests.items
+    c.numbers_size.result c.len.result c.SIZE.result c.numbers_size.ensures.size (c.len.ensures ∙ p.digests.ok.0) c.SIZE.ensures in
     omega (arith, sum, c.requires)
 
 pub overflow_add-result : goal.overflow_add-result
@@ -15,7 +16,8 @@ overflow_add-result g c =
     let D = g.met.D.Digest in
     let bytes = g.D.Digest.bytes in
     let p = c.args.self.now in
-    let sum = parts_sum bytes g.D.Digest.SIZE (λ x. D.one_length (bytes x) (D.bytes_spell x)) p.leaves p.inactive_peaks p.digests.items c.numbers_size.result c.len.result c.SIZE.result c.numbers_size.ensures.size (c.len.ensures ∙ p.digests.ok.0) c.SIZE.ensures in
+    let sum = parts_sum bytes g.D.Digest.SIZE (λ x. D.one_length (bytes x) (D.bytes_spell x)) p.leaves p.inactive_peaks p.digests.items
+    c.numbers_size.result c.len.result c.SIZE.result c.numbers_size.ensures.size (c.len.ensures ∙ p.digests.ok.0) c.SIZE.ensures in
     omega (arith, sum, c.requires)
 
 pub returns : goal.returns
@@ -23,5 +25,6 @@ returns g c =
     let D = g.met.D.Digest in
     let bytes = g.D.Digest.bytes in
     let p = c.args.self.now in
-    let sum = parts_sum bytes g.D.Digest.SIZE (λ x. D.one_length (bytes x) (D.bytes_spell x)) p.leaves p.inactive_peaks p.digests.items c.numbers_size.result c.len.result c.SIZE.result c.numbers_size.ensures.size (c.len.ensures ∙ p.digests.ok.0) c.SIZE.ensures in
+    let sum = parts_sum bytes g.D.Digest.SIZE (λ x. D.one_length (bytes x) (D.bytes_spell x)) p.leaves p.inactive_peaks p.digests.items
+    c.numbers_size.result c.len.result c.SIZE.result c.numbers_size.ensures.size (c.len.ensures ∙ p.digests.ok.0) c.SIZE.ensures in
     sum

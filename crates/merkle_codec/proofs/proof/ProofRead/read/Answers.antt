@@ -10,7 +10,9 @@ returns-in-Err-clause-written g c p rest within e =
     let F = g.F.Family in
     let bytes = g.D.Digest.bytes in
     let fits = lawful_locations F.rule F.MAX_LEAVES F.MAX_NODES g.met.F.Family.lawful in
-    let memory : c.in-Err.error ≡ OutOfMemory = IsProofReadRefusal_of_spelling bytes g.D.Digest.SIZE (λ x. D.one_length (bytes x) (D.bytes_spell x)) g.D.Digest.Spells D.bytes_spell F.MAX_LEAVES c.args.max_digests.now fits c.args.input.now.now c.in-Err.error c.in-Err.ensures.refused p rest within e in
+    let memory : c.in-Err.error ≡ OutOfMemory =
+    IsProofReadRefusal_of_spelling bytes g.D.Digest.SIZE (λ x. D.one_length (bytes x) (D.bytes_spell x)) g.D.Digest.Spells D.bytes_spell
+    F.MAX_LEAVES c.args.max_digests.now fits c.args.input.now.now c.in-Err.error c.in-Err.ensures.refused p rest within e in
     (tt, memory)
 
 pub returns-in-Ok-clause-written : goal.returns-in-Ok-clause-written

@@ -48,7 +48,8 @@ add-requires g t c = omega (arith, is_small _ _ _ g.met.F.Family.lawful _ _ _ c.
 pub returns : goal.returns
 returns g t c =
     on_ok_both c.add.result
-    (mark_parent g.F.Family.rule g.F.Family.MAX_LEAVES c.args.subtree.now c.args.updated.now (empty_no c.args.updated.now c.is_empty.result c.is_empty.ensures c.if-is_empty.false) c.if-subtree-eq0.false
+    (mark_parent g.F.Family.rule g.F.Family.MAX_LEAVES c.args.subtree.now c.args.updated.now
+    (empty_no c.args.updated.now c.is_empty.result c.is_empty.ensures c.if-is_empty.false) c.if-subtree-eq0.false
     c.children.result.0 c.children.result.1 c.children.ensures c.location_to_position-middle.result c.count_before.result c.split_at.result.0.now c.split_at.result.1.now
     c.location_to_position-middle.ensures c.count_before.ensures c.split_at.ensures.front c.split_at.ensures.back
     c.args.levels.now c.mark.new.levels c.mark-2.new.levels c.add.new.self c.in_ok-mark.ensures c.in_ok-mark-2.ensures)

@@ -20,7 +20,8 @@ loop-height-init g c =
       g.met.F.ParentHeights.Listed.ends c.into_iter-height-iterator.result,
       c.push.ensures.only,
       ([], ap g.F.ParentHeights.Listed.left c.into_iter-height-iterator.ensures.into_iter_gives ∙ c.parent_heights-height-items.ensures, omega (arith, end)),
-      subst (λ (q : ℕ). AreAdded rule g.F.Family.MAX_LEAVES (size rule c.args.leaf) q c.args.levels.now c.args.levels.now) (sym end) (added_leaf rule g.F.Family.MAX_LEAVES c.args.leaf c.args.levels.now),
+      subst (λ (q : ℕ). AreAdded rule g.F.Family.MAX_LEAVES (size rule c.args.leaf) q c.args.levels.now c.args.levels.now) (sym end)
+          (added_leaf rule g.F.Family.MAX_LEAVES c.args.leaf c.args.levels.now),
       ([], items),
       omega (arith, longer),
     )
@@ -31,7 +32,8 @@ size-requires g c =
     let law = g.met.F.Family.lawful in
     let k = c.loop-height.invariant.3 in
     let y = g.met.F.ParentHeights.Listed.gives_first _ _ _ c.in-Some.ensures.steps in
-    let fit = parents_fit rule g.F.Family.MAX_LEAVES law.equal c.args.leaf c.requires.below k.0 (c.in-Some.height ∷ g.F.ParentHeights.Listed.left c.next.new.self) (ap (λ xs. k.0 ++ xs) (sym y) ∙ k.1) in
+    let fit = parents_fit rule g.F.Family.MAX_LEAVES law.equal c.args.leaf c.requires.below k.0
+    (c.in-Some.height ∷ g.F.ParentHeights.Listed.left c.next.new.self) (ap (λ xs. k.0 ++ xs) (sym y) ∙ k.1) in
     omega (arith, fit, k.2, size_le rule (suc c.args.leaf) g.F.Family.MAX_LEAVES (omega (arith, c.requires.below)), law.size_at_limit, law.limit_fits)
 
 pub add-requires : goal.add-requires
@@ -39,7 +41,8 @@ add-requires g c =
     let rule = g.F.Family.rule in
     let k = c.loop-height.invariant.3 in
     let y = g.met.F.ParentHeights.Listed.gives_first _ _ _ c.in-Some.ensures.steps in
-    let i = parent_there rule g.F.Family.MAX_LEAVES g.met.F.Family.lawful.equal c.args.leaf c.requires.below k.0 c.in-Some.height (g.F.ParentHeights.Listed.left c.next.new.self) (ap (λ xs. k.0 ++ xs) (sym y) ∙ k.1) in
+    let i = parent_there rule g.F.Family.MAX_LEAVES g.met.F.Family.lawful.equal c.args.leaf c.requires.below k.0 c.in-Some.height
+    (g.F.ParentHeights.Listed.left c.next.new.self) (ap (λ xs. k.0 ++ xs) (sym y) ∙ k.1) in
     omega (arith, lawful_height rule g.F.Family.MAX_LEAVES g.F.Family.MAX_NODES g.met.F.Family.lawful i.0 _ i.1 i.2 i.3, i.4)
 
 pub loop-height-preserved : goal.loop-height-preserved
@@ -55,7 +58,9 @@ loop-height-preserved g c =
     let left = g.F.ParentHeights.Listed.left c.next.new.self in
     let heights = ap (λ xs. k.0 ++ xs) (sym y) ∙ k.1 in
     let place : self.before + length self.appended ≡ c.size.result = sym c.size.ensures in
-    let there : HasInner rule max c.size.result c.in-Some.height = subst (λ (p : ℕ). HasInner rule max p c.in-Some.height) (sym k.2 ∙ place) (parent_there rule max g.met.F.Family.lawful.equal c.args.leaf c.requires.below k.0 c.in-Some.height left heights) in
+    let there : HasInner rule max c.size.result c.in-Some.height =
+    subst (λ (p : ℕ). HasInner rule max p c.in-Some.height) (sym k.2 ∙ place)
+    (parent_there rule max g.met.F.Family.lawful.equal c.args.leaf c.requires.below k.0 c.in-Some.height left heights) in
     let items = c.in_ok-push-2.ensures.pushed in
     let longer : length new.appended ≡ length self.appended + 1 = ap length items ∙ length-append self.appended (c.args.digest ∷ []) in
     let end : new.before + length new.appended ≡ suc c.size.result = omega (arith, more.0, longer, place) in
@@ -68,7 +73,8 @@ loop-height-preserved g c =
         append_assoc k.0 (c.in-Some.height ∷ []) left ∙ heights,
         omega (arith, k.2, end, place, length-append k.0 (c.in-Some.height ∷ [])),
       ),
-      added_append rule max (size rule c.args.leaf) c.size.result (new.before + length new.appended) (omega (arith, k.2, place)) (omega (arith, end)) c.args.levels.now c.loop-height.levels c.add.new.self
+      added_append rule max (size rule c.args.leaf) c.size.result (new.before + length new.appended) (omega (arith, k.2, place)) (omega (arith, end))
+          c.args.levels.now c.loop-height.levels c.add.new.self
           (subst (λ (q : ℕ). AreAdded rule max (size rule c.args.leaf) q c.args.levels.now c.loop-height.levels) place c.loop-height.invariant.4)
           (subst (λ (q : ℕ). AreAdded rule max c.size.result q c.loop-height.levels c.add.new.self) (sym end)
           (added_parent rule max c.size.result c.in-Some.height there c.loop-height.levels c.add.new.self c.in_ok-add.ensures.pushed)),

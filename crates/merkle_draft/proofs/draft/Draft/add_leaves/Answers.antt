@@ -50,7 +50,8 @@ loop-digest-preserved g c =
       c.in_ok-add_leaf.ensures.counted ∙ ap (size rule) (sym next),
       λ j d l. places_kept rule c.args.leaves start.before i c.args.added.now self.appended new.appended placed.0 digest there placed.1 stands c.loop-digest.invariant.3 j d (omega (arith, l)),
       subst (λ (n : ℕ). AreAdded rule max (size rule c.args.leaves) (size rule n) c.args.levels.now c.add_leaf.new.levels) (sym next)
-          (added_append rule max (size rule c.args.leaves) (size rule leaf) (size rule (suc leaf)) (size_le rule c.args.leaves leaf (omega (arith, c.loop-digest.invariant.0))) (size_le rule leaf (suc leaf) (omega arith))
+          (added_append rule max (size rule c.args.leaves) (size rule leaf) (size rule (suc leaf))
+          (size_le rule c.args.leaves leaf (omega (arith, c.loop-digest.invariant.0))) (size_le rule leaf (suc leaf) (omega arith))
           c.args.levels.now c.loop-digest.levels c.add_leaf.new.levels c.loop-digest.invariant.4 c.in_ok-add_leaf.ensures.listed),
       omega (arith, c.in_ok-add_leaf.ensures.total, c.loop-digest.invariant.5),
       (before.0 ++ digest ∷ placed.0, placed.1 ∙ ap (λ xs. xs ++ digest ∷ placed.0) before.1 ∙ append_assoc start.appended before.0 (digest ∷ placed.0)),
@@ -78,7 +79,8 @@ returns-clause-leaves g c = λ i d e.
 pub returns-clause-listed : goal.returns-clause-listed
 returns-clause-listed g c =
     let total : c.loop-digest.leaf ≡ c.args.leaves + length c.args.added.now = search rules in
-    subst (λ (n : ℕ). AreAdded g.F.Family.rule g.F.Family.MAX_LEAVES (size g.F.Family.rule c.args.leaves) (size g.F.Family.rule n) c.args.levels.now c.loop-digest.levels) total c.loop-digest.invariant.4
+    subst (λ (n : ℕ). AreAdded g.F.Family.rule g.F.Family.MAX_LEAVES (size g.F.Family.rule c.args.leaves) (size g.F.Family.rule n) c.args.levels.now
+    c.loop-digest.levels) total c.loop-digest.invariant.4
 
 pub returns-clause-total : goal.returns-clause-total
 returns-clause-total g c =

@@ -66,9 +66,12 @@ returns-clause-settled g c =
     held
     (λ p less. stored_kept old mid c.in_ok-add_leaves.ensures.kept.0 only c.in_ok-add_leaves.ensures.kept.1 p (omega (arith, less, c.requires.counted, ap (size rule) start)))
     (λ i d at. stored_later mid (size rule (n + length ds + i)) d (omega (arith, only.0, sized, size_le rule n (n + length ds + i) (omega arith)))
-    (subst (λ (s : ℕ). slice_get mid.appended (size rule (s + i) - mid.before) ≡ Some d) (sym start) (subst (λ (b : ℕ). slice_get mid.appended (size rule (leaves + i) - b) ≡ Some d) (sym only.0) (c.in_ok-add_leaves.ensures.leaves i d at)))) in
+    (subst (λ (s : ℕ). slice_get mid.appended (size rule (s + i) - mid.before) ≡ Some d) (sym start)
+    (subst (λ (b : ℕ). slice_get mid.appended (size rule (leaves + i) - b) ≡ Some d) (sym only.0) (c.in_ok-add_leaves.ensures.leaves i d at)))) in
     subst (λ u. AreNewDigests h rule m u n (ds ++ more) (stored_node c.compute_levels.new.self)) same
-    (all_settled h rule m (below mid base) n (ds ++ more) (stored_node c.compute_levels.new.self) (settled m n (ds ++ more) (size rule (n + length ds)) (subst (λ u. IsReadyToCompute h rule max m u n (ds ++ more) mid.before (size rule (n + length ds)) ls (stored_node mid)) (sym same) ready)))))
+    (all_settled h rule m (below mid base) n (ds ++ more) (stored_node c.compute_levels.new.self)
+    (settled m n (ds ++ more) (size rule (n + length ds))
+    (subst (λ u. IsReadyToCompute h rule max m u n (ds ++ more) mid.before (size rule (n + length ds)) ls (stored_node mid)) (sym same) ready)))))
     c.compute_levels.ensures.settled
 
 pub returns-clause-missing : goal.returns-clause-missing
@@ -95,9 +98,11 @@ returns-clause-missing g c =
     held
     (λ p less. stored_kept old mid c.in_ok-add_leaves.ensures.kept.0 only c.in_ok-add_leaves.ensures.kept.1 p (omega (arith, less, c.requires.counted, ap (size rule) start)))
     (λ i d at. stored_later mid (size rule (n + length ds + i)) d (omega (arith, only.0, sized, size_le rule n (n + length ds + i) (omega arith)))
-    (subst (λ (s : ℕ). slice_get mid.appended (size rule (s + i) - mid.before) ≡ Some d) (sym start) (subst (λ (b : ℕ). slice_get mid.appended (size rule (leaves + i) - b) ≡ Some d) (sym only.0) (c.in_ok-add_leaves.ensures.leaves i d at)))) in
+    (subst (λ (s : ℕ). slice_get mid.appended (size rule (s + i) - mid.before) ≡ Some d) (sym start)
+    (subst (λ (b : ℕ). slice_get mid.appended (size rule (leaves + i) - b) ≡ Some d) (sym only.0) (c.in_ok-add_leaves.ensures.leaves i d at)))) in
     subst (λ (e : ℕ). LacksChild rule m under n e error) (sym end) (subst (λ u. LacksChild rule m u n (n + length (ds ++ more)) error) same
-    (lacks other m n (ds ++ more) (size rule (n + length ds)) (subst (λ u. IsReadyToCompute h rule max m u n (ds ++ more) mid.before (size rule (n + length ds)) ls (stored_node mid)) (sym same) ready)))))
+    (lacks other m n (ds ++ more) (size rule (n + length ds))
+    (subst (λ u. IsReadyToCompute h rule max m u n (ds ++ more) mid.before (size rule (n + length ds)) ls (stored_node mid)) (sym same) ready)))))
     c.compute_levels.ensures.missing
 
 pub returns-clause-work : goal.returns-clause-work

@@ -21,7 +21,14 @@ pub append_chunk-requires-clause-within : goal.append_chunk-requires-clause-with
 append_chunk-requires-clause-within g c =
     let done = c.loop-chunk.invariant.6 in
     let parts = ap (λ xs. done ++ xs) (sym c.in-Some.ensures.steps.1.0) ∙ c.loop-chunk.invariant.7 in
-    omega (arith, c.requires.within, c.loop-chunk.invariant.8, ap length parts, length-append done (c.in-Some.chunk.now ++ chunks_rest c.next.new.self), length-append c.in-Some.chunk.now (chunks_rest c.next.new.self))
+    omega (
+      arith,
+      c.requires.within,
+      c.loop-chunk.invariant.8,
+      ap length parts,
+      length-append done (c.in-Some.chunk.now ++ chunks_rest c.next.new.self),
+      length-append c.in-Some.chunk.now (chunks_rest c.next.new.self),
+    )
 
 pub loop-chunk-preserved : goal.loop-chunk-preserved
 loop-chunk-preserved g c =
@@ -95,7 +102,8 @@ returns-clause-settled g c = λ m held.
     let none = nil_from_length (chunks_rest c.loop-chunk.chunk-iterator) c.in-None.ensures.steps.1.0 in
     let done = c.loop-chunk.invariant.6 in
     let whole : done ≡ c.args.added.now = sym (append-nil done) ∙ ap (λ xs. done ++ xs) (sym none) ∙ c.loop-chunk.invariant.7 in
-    subst (λ ds. AreNewDigests (g.H.Hasher.hashing c.args.hasher.now) g.F.Family.rule m (below c.args.self.now (g.B.Base.contents c.args.base.now)) c.args.leaves ds (stored_node c.loop-chunk.self)) whole (c.loop-chunk.invariant.10 m held)
+    subst (λ ds. AreNewDigests (g.H.Hasher.hashing c.args.hasher.now) g.F.Family.rule m (below c.args.self.now (g.B.Base.contents c.args.base.now))
+    c.args.leaves ds (stored_node c.loop-chunk.self)) whole (c.loop-chunk.invariant.10 m held)
 
 pub returns-clause-work : goal.returns-clause-work
 returns-clause-work g c =
@@ -121,4 +129,12 @@ add_assign-requires g c =
     let done = c.loop-chunk.invariant.6 in
     let chunk = c.in-Some.chunk.now in
     let parts = ap (λ xs. done ++ xs) (sym c.in-Some.ensures.steps.1.0) ∙ c.loop-chunk.invariant.7 in
-    omega (arith, c.requires.within, c.loop-chunk.invariant.8, ap length parts, length-append done (chunk ++ chunks_rest c.next.new.self), length-append chunk (chunks_rest c.next.new.self), lawful_leaves g.F.Family.rule g.F.Family.MAX_LEAVES g.F.Family.MAX_NODES g.met.F.Family.lawful)
+    omega (
+      arith,
+      c.requires.within,
+      c.loop-chunk.invariant.8,
+      ap length parts,
+      length-append done (chunk ++ chunks_rest c.next.new.self),
+      length-append chunk (chunks_rest c.next.new.self),
+      lawful_leaves g.F.Family.rule g.F.Family.MAX_LEAVES g.F.Family.MAX_NODES g.met.F.Family.lawful,
+    )

@@ -11,8 +11,12 @@ use Rattle.merkle_draft.proofs.PlannedNodes.{all_counted}
 use Rattle.merkle_draft.proofs.draft.Draft.compute.Goals as goal
 
 pub compute_dirty-requires-clause-updates_are_leaves : goal.compute_dirty-requires-clause-updates_are_leaves
-compute_dirty-requires-clause-updates_are_leaves g c =
-    (get {R = nat_cmp} (from_entries c.args.updates.now.entries), c.requires.updates_are_leaves, (λ q. ap (λ w. get w q) c.in_ok-updated.ensures.set), c.deref.ensures.value ∙ c.in_ok-updated.ensures.listed c.args.leaves c.requires.updates_are_leaves)
+compute_dirty-requires-clause-updates_are_leaves g c = (
+  get {R = nat_cmp} (from_entries c.args.updates.now.entries),
+  c.requires.updates_are_leaves,
+  (λ q. ap (λ w. get w q) c.in_ok-updated.ensures.set),
+  c.deref.ensures.value ∙ c.in_ok-updated.ensures.listed c.args.leaves c.requires.updates_are_leaves,
+)
 
 pub append_leaves-requires-clause-nothing : goal.append_leaves-requires-clause-nothing
 append_leaves-requires-clause-nothing g c =
@@ -53,7 +57,8 @@ returns-in_err-dirty-clause-missing g c =
     let p = err_from_is_err_and c.from_residual-in_err-dirty.result c.from_residual-in_err-dirty.ensures.1 in
     rw p.1 (λ other. subst (λ e. LacksNeeded rule m (below c.args.self.now base) n end e) (sym p.2)
     (child_needed rule m (below c.args.self.now base) n end error (child_later rule m (below c.args.self.now base) n n end error (omega arith)
-    (subst (λ u. LacksChild rule m u n n error) mid (c.in_err-dirty.ensures.missing (λ z. other (p.2 ∙ z)) m c.requires.updates_are_leaves (λ q. ap (λ w. get w q) c.in_ok-updated.ensures.set) listed)))))
+    (subst (λ u. LacksChild rule m u n n error) mid
+    (c.in_err-dirty.ensures.missing (λ z. other (p.2 ∙ z)) m c.requires.updates_are_leaves (λ q. ap (λ w. get w q) c.in_ok-updated.ensures.set) listed)))))
 
 pub returns-in_err-new-clause-missing : goal.returns-in_err-new-clause-missing
 returns-in_err-new-clause-missing g c =

@@ -12,8 +12,15 @@ pub loop-chunk-init : goal.loop-chunk-init
 loop-chunk-init g c =
     let rest : chunks_rest c.into_iter-chunk-iterator.result ≡ c.args.positions.now = search rules in
     let h = g.H.Hasher.hashing c.args.hasher.now in
-    let under = below c.args.self.now (g.B.Base.contents c.args.base.now) in
-    (search rules, tt, (refl, refl, refl), (λ p past. refl), [], rest, (λ m n ds later stage. subst (λ xs. AreSettled h g.F.Family.rule m under n ds (xs ++ later) (stored_node c.args.self.now)) (sym rest) stage.settled))
+    let under = below c.args.self.now (g.B.Base.contents c.args.base.now) in (
+      search rules,
+      tt,
+      (refl, refl, refl),
+      (λ p past. refl),
+      [],
+      rest,
+      (λ m n ds later stage. subst (λ xs. AreSettled h g.F.Family.rule m under n ds (xs ++ later) (stored_node c.args.self.now)) (sym rest) stage.settled),
+    )
 
 pub compute_nodes-requires-clause-inner : goal.compute_nodes-requires-clause-inner
 compute_nodes-requires-clause-inner g c = λ p listed.
@@ -26,7 +33,13 @@ compute_nodes-requires-clause-stored g c = λ p listed.
     let done = c.loop-chunk.invariant.4 in
     let listed_parts = c.loop-chunk.invariant.5 in
     let shape = c.loop-chunk.invariant.2 in
-    omega (arith, shape.0, shape.2, c.requires.stored p (in_chunk done c.in-Some.chunk.now (chunks_rest c.next.new.self) c.args.positions.now p (ap (λ xs. done ++ xs) (sym c.in-Some.ensures.steps.1.0) ∙ listed_parts) listed))
+    omega (
+      arith,
+      shape.0,
+      shape.2,
+      c.requires.stored p (in_chunk done c.in-Some.chunk.now (chunks_rest c.next.new.self) c.args.positions.now p
+          (ap (λ xs. done ++ xs) (sym c.in-Some.ensures.steps.1.0) ∙ listed_parts) listed),
+    )
 
 pub loop-chunk-preserved : goal.loop-chunk-preserved
 loop-chunk-preserved g c =
@@ -54,7 +67,8 @@ loop-chunk-preserved g c =
       (λ m n ds later stage.
           (let settled = subst (λ xs. AreSettled h rule m (below start base) n ds (xs ++ later) (stored_node self)) c.in-Some.ensures.steps.1.0 (c.loop-chunk.invariant.6 m n ds later stage) in
           let part = chunk_stage h rule max m (below start base) n ds start.before c.args.height done chunk rest ps later (stored_node start) (stored_node self) parts stage settled in
-          subst (λ u. IsStage h rule max m u n ds self.before c.args.height chunk (rest ++ later) (stored_node self) → AreSettled h rule m u n ds (rest ++ later) (stored_node new)) (below_same start self base shape)
+          subst (λ u. IsStage h rule max m u n ds self.before c.args.height chunk (rest ++ later) (stored_node self)
+          → AreSettled h rule m u n ds (rest ++ later) (stored_node new)) (below_same start self base shape)
           (c.in_ok-compute_nodes.ensures.settled m n ds (rest ++ later))
           (subst (λ (b : ℕ). IsStage h rule max m (below start base) n ds b c.args.height chunk (rest ++ later) (stored_node self)) (sym shape.0) part))),
     )
@@ -85,4 +99,5 @@ returns-in_err-compute_nodes-clause-missing g c =
 pub returns-clause-settled : goal.returns-clause-settled
 returns-clause-settled g c = λ m n ds later stage.
     let none = nil_from_length (chunks_rest c.loop-chunk.chunk-iterator) c.in-None.ensures.steps.1.0 in
-    subst (λ xs. AreSettled (g.H.Hasher.hashing c.args.hasher.now) g.F.Family.rule m (below c.args.self.now (g.B.Base.contents c.args.base.now)) n ds (xs ++ later) (stored_node c.loop-chunk.self)) none (c.loop-chunk.invariant.6 m n ds later stage)
+    subst (λ xs. AreSettled (g.H.Hasher.hashing c.args.hasher.now) g.F.Family.rule m (below c.args.self.now (g.B.Base.contents c.args.base.now)) n ds
+    (xs ++ later) (stored_node c.loop-chunk.self)) none (c.loop-chunk.invariant.6 m n ds later stage)

@@ -13,5 +13,6 @@ invariant-loop-chunk g l =
     × ((p : ℕ) → l.fn.self.before ≤ p → get l.self.overwritten p ≡ get l.fn.self.overwritten p)
     × (done : List ℕ) × (done ++ chunks_rest l.chunk-iterator ≡ l.positions)
     × ((m : ℕ → Option g.row.D.Denot) (n : ℕ) (ds : List g.row.D.Denot) (later : List ℕ)
-    → IsStage (g.H.Hasher.hashing l.hasher) g.F.Family.rule g.F.Family.MAX_LEAVES m (below l.fn.self (g.B.Base.contents l.base)) n ds l.fn.self.before l.height l.positions later (stored_node l.fn.self)
+    → IsStage (g.H.Hasher.hashing l.hasher) g.F.Family.rule g.F.Family.MAX_LEAVES m (below l.fn.self (g.B.Base.contents l.base)) n ds l.fn.self.before
+    l.height l.positions later (stored_node l.fn.self)
     → AreSettled (g.H.Hasher.hashing l.hasher) g.F.Family.rule m (below l.fn.self (g.B.Base.contents l.base)) n ds (chunks_rest l.chunk-iterator ++ later) (stored_node l.self))

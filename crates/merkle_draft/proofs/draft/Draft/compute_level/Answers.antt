@@ -22,7 +22,9 @@ returns-in-len1-clause-settled g c =
     let self = c.args.self.now in
     let under = below self (g.B.Base.contents c.args.base.now) in
     let one = one_listed c.args.positions.now c.position-item.result c.in-len1.len_at_least c.in-len1.len_below c.position-item.is in
-    subst (λ (ps : List ℕ). OnOk c.compute_node.result ((m : ℕ → Option g.row.D.Denot) (n : ℕ) (ds : List g.row.D.Denot) (later : List ℕ) → IsStage h rule max m under n ds self.before c.args.height ps later (stored_node self)
+    subst (λ (ps : List ℕ). OnOk c.compute_node.result
+    ((m : ℕ → Option g.row.D.Denot) (n : ℕ) (ds : List g.row.D.Denot) (later : List ℕ)
+    → IsStage h rule max m under n ds self.before c.args.height ps later (stored_node self)
     → AreSettled h rule m under n ds later (stored_node c.compute_node.new.self))) (sym one) c.compute_node.ensures.settled
 
 pub returns-in-len1-clause-missing : goal.returns-in-len1-clause-missing
@@ -33,5 +35,7 @@ returns-in-len1-clause-missing g c =
     let self = c.args.self.now in
     let under = below self (g.B.Base.contents c.args.base.now) in
     let one = one_listed c.args.positions.now c.position-item.result c.in-len1.len_at_least c.in-len1.len_below c.position-item.is in
-    subst (λ (ps : List ℕ). IfErr c.compute_node.result (λ e. e ≢ OutOfMemory → (m : ℕ → Option g.row.D.Denot) (n : ℕ) (ds : List g.row.D.Denot) (later : List ℕ) → IsStage h rule max m under n ds self.before c.args.height ps later (stored_node self)
+    subst (λ (ps : List ℕ). IfErr c.compute_node.result
+    (λ e. e ≢ OutOfMemory → (m : ℕ → Option g.row.D.Denot) (n : ℕ) (ds : List g.row.D.Denot) (later : List ℕ)
+    → IsStage h rule max m under n ds self.before c.args.height ps later (stored_node self)
     → LacksChild rule m under n (n + length ds) e)) (sym one) c.compute_node.ensures.missing

@@ -41,11 +41,13 @@ loop-height-preserved g c =
       omega (arith, c.loop-height.invariant.2, total, ap length items),
       (λ m n ds a all.
           (let under = below start base in
-          let stage = level_stage h rule max g.F.Family.MAX_NODES g.met.F.Family.lawful m under n ds start.before a ls (stored_node start) all k (stored_node self) listed (c.loop-height.invariant.3 m n ds a all) in
+          let stage = level_stage h rule max g.F.Family.MAX_NODES g.met.F.Family.lawful m under n ds start.before a ls (stored_node start) all k
+          (stored_node self) listed (c.loop-height.invariant.3 m n ds a all) in
           let mine : IsStage h rule max m under n ds self.before k c.at-positions.result.now (from_height ls (k + 1)) (stored_node self) =
           subst (λ (b : ℕ). IsStage h rule max m under n ds b k c.at-positions.result.now (from_height ls (k + 1)) (stored_node self)) (sym shape.0)
           (subst (λ (xs : List ℕ). IsStage h rule max m under n ds start.before k xs (from_height ls (k + 1)) (stored_node self)) items stage) in
-          subst (λ u. IsStage h rule max m u n ds self.before k c.at-positions.result.now (from_height ls (k + 1)) (stored_node self) → AreSettled h rule m u n ds (from_height ls (k + 1)) (stored_node new)) (below_same start self base shape)
+          subst (λ u. IsStage h rule max m u n ds self.before k c.at-positions.result.now (from_height ls (k + 1)) (stored_node self)
+          → AreSettled h rule m u n ds (from_height ls (k + 1)) (stored_node new)) (below_same start self base shape)
           (c.in_ok-compute_level.ensures.settled m n ds (from_height ls (k + 1))) mine)),
     )
 
@@ -66,17 +68,21 @@ returns-in_err-compute_level-clause-missing g c =
     let p = err_from_is_err_and c.from_residual.result c.from_residual.ensures.1 in
     rw p.1 (λ other m n ds a all. subst (λ e. LacksChild rule m (below start base) n (n + length ds) e) (sym p.2)
     (let under = below start base in
-    let stage = level_stage h rule max g.F.Family.MAX_NODES g.met.F.Family.lawful m under n ds start.before a ls (stored_node start) all k (stored_node self) listed (c.loop-height.invariant.3 m n ds a all) in
+    let stage = level_stage h rule max g.F.Family.MAX_NODES g.met.F.Family.lawful m under n ds start.before a ls (stored_node start) all k
+    (stored_node self) listed (c.loop-height.invariant.3 m n ds a all) in
     let mine : IsStage h rule max m under n ds self.before k c.at-positions.result.now (from_height ls (k + 1)) (stored_node self) =
     subst (λ (b : ℕ). IsStage h rule max m under n ds b k c.at-positions.result.now (from_height ls (k + 1)) (stored_node self)) (sym shape.0)
     (subst (λ (xs : List ℕ). IsStage h rule max m under n ds start.before k xs (from_height ls (k + 1)) (stored_node self)) items stage) in
-    subst (λ u. IsStage h rule max m u n ds self.before k c.at-positions.result.now (from_height ls (k + 1)) (stored_node self) → LacksChild rule m u n (n + length ds) error) (below_same start self base shape)
+    subst (λ u. IsStage h rule max m u n ds self.before k c.at-positions.result.now (from_height ls (k + 1)) (stored_node self)
+    → LacksChild rule m u n (n + length ds) error) (below_same start self base shape)
     (c.in_err-compute_level.ensures.missing (λ z. other (p.2 ∙ z)) m n ds (from_height ls (k + 1))) mine))
 
 pub returns-clause-settled : goal.returns-clause-settled
 returns-clause-settled g c = λ m n ds a all.
     let past : length c.args.levels.now ≤ c.loop-height.height = omega (arith, c.loop-height-test.false, c.count-height-end.ensures) in
-    subst (λ (xs : List ℕ). AreSettled (g.H.Hasher.hashing c.args.hasher.now) g.F.Family.rule m (below c.args.self.now (g.B.Base.contents c.args.base.now)) n ds xs (stored_node c.loop-height.self)) (from_past c.args.levels.now c.loop-height.height past) (c.loop-height.invariant.3 m n ds a all)
+    subst (λ (xs : List ℕ). AreSettled (g.H.Hasher.hashing c.args.hasher.now) g.F.Family.rule m
+    (below c.args.self.now (g.B.Base.contents c.args.base.now)) n ds xs (stored_node c.loop-height.self))
+    (from_past c.args.levels.now c.loop-height.height past) (c.loop-height.invariant.3 m n ds a all)
 
 pub overflow_add-count : goal.overflow_add-count
 overflow_add-count g c =

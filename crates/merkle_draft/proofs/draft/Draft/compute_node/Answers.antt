@@ -12,7 +12,8 @@ returns-in_default-clause-missing g c = λ _ m n ds later stage.
     let h = g.H.Hasher.hashing c.args.hasher.now in
     let base = g.B.Base.contents c.args.base.now in
     let p = c.args.position in
-    ready_missing h g.F.Family.rule m (below c.args.self.now base) n ds c.args.self.now base c.args.height (p ∷ later) refl stage.sized stage.settled p c.children-left.result.0 c.children-left.result.0 c.children-left.result.1
+    ready_missing h g.F.Family.rule m (below c.args.self.now base) n ds c.args.self.now base c.args.height (p ∷ later) refl stage.sized stage.settled
+    p c.children-left.result.0 c.children-left.result.0 c.children-left.result.1
     (stage.ready p (contains_one p)) c.children-left.ensures (inl refl) (sym c.in_default.ensures.value) _ refl
 
 pub returns-in_default-read_node-clause-missing : goal.returns-in_default-read_node-clause-missing
@@ -20,7 +21,8 @@ returns-in_default-read_node-clause-missing g c = λ _ m n ds later stage.
     let h = g.H.Hasher.hashing c.args.hasher.now in
     let base = g.B.Base.contents c.args.base.now in
     let p = c.args.position in
-    ready_missing h g.F.Family.rule m (below c.args.self.now base) n ds c.args.self.now base c.args.height (p ∷ later) refl stage.sized stage.settled p c.children-left.result.1 c.children-left.result.0 c.children-left.result.1
+    ready_missing h g.F.Family.rule m (below c.args.self.now base) n ds c.args.self.now base c.args.height (p ∷ later) refl stage.sized stage.settled
+    p c.children-left.result.1 c.children-left.result.0 c.children-left.result.1
     (stage.ready p (contains_one p)) c.children-left.ensures (inr refl) (sym c.in_default-read_node.ensures.value) _ refl
 
 pub returns-clause-settled : goal.returns-clause-settled
@@ -32,7 +34,9 @@ returns-clause-settled g c = λ m n ds later stage.
     let p = c.args.position in
     let a = c.in-Some.left_digest in
     let b = c.in-Some-read_node.right_digest in
-    let parents = parents_more rule (draft_node c.args.self.now base) [] [] p c.children-left.result.0 c.children-left.result.1 a b tt c.children-left.ensures (sym c.in-Some.ensures.value) (sym c.in-Some-read_node.ensures.value) in
+    let parents = parents_more rule (draft_node c.args.self.now base) [] [] p c.children-left.result.0 c.children-left.result.1 a b tt
+    c.children-left.ensures (sym c.in-Some.ensures.value) (sym c.in-Some-read_node.ensures.value) in
     settle_one h rule m under n ds later (stored_node c.args.self.now) (stored_node c.set_node.new.self) p c.node_digest-digest.result stage.settled
-    (λ t at. made_right h rule m under n ds c.args.self.now base c.args.height (p ∷ []) (p ∷ later) ((p, a, b) ∷ []) (c.node_digest-digest.result ∷ []) refl stage.sized stage.settled stage.ready parents
+    (λ t at. made_right h rule m under n ds c.args.self.now base c.args.height (p ∷ []) (p ∷ later) ((p, a, b) ∷ [])
+    (c.node_digest-digest.result ∷ []) refl stage.sized stage.settled stage.ready parents
     (ap (λ z. z ∷ []) c.node_digest-digest.ensures) 0 p c.node_digest-digest.result t refl refl at) c.in_ok-set_node.ensures.set

@@ -12,14 +12,18 @@ returns-in_err-read_children-clause-missing g c =
     let h = g.H.Hasher.hashing c.args.hasher.now in
     let under = below c.args.self.now (g.B.Base.contents c.args.base.now) in
     let p = err_from_is_err_and c.from_residual.result c.from_residual.ensures.1 in
-    rw p.1 (λ other m n ds later stage. subst (λ e. LacksChild g.F.Family.rule m under n (n + length ds) e) (sym p.2) (c.in_err-read_children.ensures.missing (λ z. other (p.2 ∙ z)) h m n ds later stage))
+    rw p.1 (λ other m n ds later stage. subst (λ e. LacksChild g.F.Family.rule m under n (n + length ds) e) (sym p.2)
+    (c.in_err-read_children.ensures.missing (λ z. other (p.2 ∙ z)) h m n ds later stage))
 
 pub set_nodes-requires-clause-many : goal.set_nodes-requires-clause-many
 set_nodes-requires-clause-many g c =
     let node = (g.H.Hasher.hashing c.args.hasher.now).node in
     let made : c.deref-2.result.now ≡ map (λ n. node n.0 n.1 n.2) c.read_children.new.parents.items =
-    c.deref-2.ensures.value ∙ c.in_ok-node_digests.ensures ∙ ap (λ xs. xs ++ map (λ n. node n.0 n.1 n.2) c.deref.result.now) c.clear-2.ensures.items ∙ ap (map (λ n. node n.0 n.1 n.2)) c.deref.ensures.value in
-    ap length made ∙ length-map c.read_children.new.parents.items _ ∙ parents_length g.F.Family.rule (draft_node c.args.self.now (g.B.Base.contents c.args.base.now)) c.args.positions.now c.read_children.new.parents.items c.in_ok-read_children.ensures.read
+    c.deref-2.ensures.value ∙ c.in_ok-node_digests.ensures ∙ ap (λ xs. xs ++ map (λ n. node n.0 n.1 n.2) c.deref.result.now) c.clear-2.ensures.items
+    ∙ ap (map (λ n. node n.0 n.1 n.2)) c.deref.ensures.value in
+    ap length made ∙ length-map c.read_children.new.parents.items _
+    ∙ parents_length g.F.Family.rule (draft_node c.args.self.now (g.B.Base.contents c.args.base.now)) c.args.positions.now
+    c.read_children.new.parents.items c.in_ok-read_children.ensures.read
 
 pub returns-clause-settled : goal.returns-clause-settled
 returns-clause-settled g c = λ m n ds later stage.
@@ -27,7 +31,9 @@ returns-clause-settled g c = λ m n ds later stage.
     let base = g.B.Base.contents c.args.base.now in
     let under = below c.args.self.now base in
     let made : c.deref-2.result.now ≡ map (λ n. h.node n.0 n.1 n.2) c.read_children.new.parents.items =
-    c.deref-2.ensures.value ∙ c.in_ok-node_digests.ensures ∙ ap (λ xs. xs ++ map (λ n. h.node n.0 n.1 n.2) c.deref.result.now) c.clear-2.ensures.items ∙ ap (map (λ n. h.node n.0 n.1 n.2)) c.deref.ensures.value in
+    c.deref-2.ensures.value ∙ c.in_ok-node_digests.ensures ∙ ap (λ xs. xs ++ map (λ n. h.node n.0 n.1 n.2) c.deref.result.now) c.clear-2.ensures.items
+    ∙ ap (map (λ n. h.node n.0 n.1 n.2)) c.deref.ensures.value in
     c.in_ok-set_nodes.ensures.settled h m under n ds later
-    (made_right h g.F.Family.rule m under n ds c.args.self.now base c.args.height c.args.positions.now (c.args.positions.now ++ later) c.read_children.new.parents.items c.deref-2.result.now refl stage.sized stage.settled stage.ready c.in_ok-read_children.ensures.read made)
+    (made_right h g.F.Family.rule m under n ds c.args.self.now base c.args.height c.args.positions.now (c.args.positions.now ++ later)
+    c.read_children.new.parents.items c.deref-2.result.now refl stage.sized stage.settled stage.ready c.in_ok-read_children.ensures.read made)
     stage.settled

@@ -11,15 +11,19 @@ use Rattle.merkle_draft.proofs.draft.Draft.read_children.Goals as goal
 pub returns-in_default-clause-missing : goal.returns-in_default-clause-missing
 returns-in_default-clause-missing g c = λ _ h m n ds later stage.
     let base = g.B.Base.contents c.args.base.now in
-    let listed = subst (Contains c.args.positions.now) (sym c.position-item.is) (Contains-get_or c.args.positions.now c.loop-position.position-index c.position-item.result c.loop-position-test.true) in
-    ready_missing h g.F.Family.rule m (below c.args.self.now base) n ds c.args.self.now base c.args.height (c.args.positions.now ++ later) refl stage.sized stage.settled c.position-item.result c.children-left.result.0 c.children-left.result.0 c.children-left.result.1
+    let listed = subst (Contains c.args.positions.now) (sym c.position-item.is)
+    (Contains-get_or c.args.positions.now c.loop-position.position-index c.position-item.result c.loop-position-test.true) in
+    ready_missing h g.F.Family.rule m (below c.args.self.now base) n ds c.args.self.now base c.args.height (c.args.positions.now ++ later) refl
+    stage.sized stage.settled c.position-item.result c.children-left.result.0 c.children-left.result.0 c.children-left.result.1
     (stage.ready c.position-item.result listed) c.children-left.ensures (inl refl) (sym c.in_default.ensures.value) _ refl
 
 pub returns-in_default-read_node-clause-missing : goal.returns-in_default-read_node-clause-missing
 returns-in_default-read_node-clause-missing g c = λ _ h m n ds later stage.
     let base = g.B.Base.contents c.args.base.now in
-    let listed = subst (Contains c.args.positions.now) (sym c.position-item.is) (Contains-get_or c.args.positions.now c.loop-position.position-index c.position-item.result c.loop-position-test.true) in
-    ready_missing h g.F.Family.rule m (below c.args.self.now base) n ds c.args.self.now base c.args.height (c.args.positions.now ++ later) refl stage.sized stage.settled c.position-item.result c.children-left.result.1 c.children-left.result.0 c.children-left.result.1
+    let listed = subst (Contains c.args.positions.now) (sym c.position-item.is)
+    (Contains-get_or c.args.positions.now c.loop-position.position-index c.position-item.result c.loop-position-test.true) in
+    ready_missing h g.F.Family.rule m (below c.args.self.now base) n ds c.args.self.now base c.args.height (c.args.positions.now ++ later) refl
+    stage.sized stage.settled c.position-item.result c.children-left.result.1 c.children-left.result.0 c.children-left.result.1
     (stage.ready c.position-item.result listed) c.children-left.ensures (inr refl) (sym c.in_default-read_node.ensures.value) _ refl
 
 pub loop-position-preserved : goal.loop-position-preserved

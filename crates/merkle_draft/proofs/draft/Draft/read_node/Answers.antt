@@ -35,5 +35,6 @@ returns-else-lt-clause-right g c = if_some c.copied.result _ (λ d found truth r
     let index : start + c.as_u64.result ≡ p = omega (arith, before, c.as_u64.ensures, c.sub.ensures, (let s : c.self.inside.size_before ≤ p = search rules in s)) in
     let items : c.self.inside.appended.items ≡ c.args.self.now.appended = ap (λ (r : _). r.appended) c.self.view_is in
     let got : slice_get c.args.self.now.appended c.as_u64.result ≡ Some d =
-    ap (λ xs. slice_get xs c.as_u64.result) (sym items ∙ sym c.deref.ensures.value) ∙ sym (get_reads c.deref.result.now c.as_u64.result c.get-else-lt.result c.get-else-lt.ensures.lookup) ∙ sym c.copied.ensures ∙ found in
+    ap (λ xs. slice_get xs c.as_u64.result) (sym items ∙ sym c.deref.ensures.value)
+    ∙ sym (get_reads c.deref.result.now c.as_u64.result c.get-else-lt.result c.get-else-lt.ensures.lookup) ∙ sym c.copied.ensures ∙ found in
     digests_from_get truth start (length c.args.self.now.appended) c.as_u64.result d (sym (ap (λ xs. slice_get xs c.as_u64.result) same) ∙ got) ∙ ap truth index)

@@ -9,6 +9,7 @@ abbrev pub invariant-loop-position : goal.invariant-loop-position
 invariant-loop-position g l =
     (goal.iterator-loop-position g).can_next l.position-iterator
     × (goal.iterator-loop-position g).is_finite l.position-iterator
-    × ((done : List (ℕ × ℕ)) × (done ++ g.F.Peaks.Listed.left l.position-iterator ≡ map placed (peaks_of g.F.Family.rule l.fn.leaves)) × AreFirstRead done l.self.before (old_node l.self (g.B.Base.contents l.base)))
+    × ((done : List (ℕ × ℕ)) × (done ++ g.F.Peaks.Listed.left l.position-iterator ≡ map placed (peaks_of g.F.Family.rule l.fn.leaves))
+    × AreFirstRead done l.self.before (old_node l.self (g.B.Base.contents l.base)))
     × ((truth : ℕ → g.row.D.Denot) → ReadsAgree (old_node l.self (g.B.Base.contents l.base)) l.self.before truth → l.self.appended ≡ digests_from truth l.self.before (length l.self.appended)
     → l.digests.items ++ map truth (map (λ q. q.0) (g.F.Peaks.Listed.left l.position-iterator)) ≡ map truth (peak_positions g.F.Family.rule l.fn.leaves))

@@ -28,11 +28,14 @@ loop-i-preserved g c =
           (let here : drop i ps ≡ p ∷ drop (i + 1) ps = drop_more ps i p c.loop-i-test.true ∙ ap (λ x. x ∷ drop (i + 1) ps) (sym c.index-positions-i.is) in
           let before = subst (λ xs. AreSettled h g.F.Family.rule m under n ds (xs ++ later) (stored_node c.loop-i.self)) here (c.loop-i.invariant.2 h m under n ds later answers start) in
           let at : slice_get ps i ≡ Some p = slice_get_read ps (length ps) i p refl c.loop-i-test.true c.index-positions-i.is in
-          let digest : slice_get c.args.digests.now i ≡ Some d = slice_get_read c.args.digests.now (length c.args.digests.now) i d refl (omega (arith, c.loop-i-test.true, c.requires.many)) c.index-digests-i.is in
-          settle_one h g.F.Family.rule m under n ds (drop (i + 1) ps ++ later) (stored_node c.loop-i.self) (stored_node c.set_node.new.self) p d before (λ t node. answers i p d t at digest node) c.in_ok-set_node.ensures.set),
+          let digest : slice_get c.args.digests.now i ≡ Some d =
+          slice_get_read c.args.digests.now (length c.args.digests.now) i d refl (omega (arith, c.loop-i-test.true, c.requires.many)) c.index-digests-i.is in
+          settle_one h g.F.Family.rule m under n ds (drop (i + 1) ps ++ later) (stored_node c.loop-i.self) (stored_node c.set_node.new.self) p d
+          before (λ t node. answers i p d t at digest node) c.in_ok-set_node.ensures.set),
     )
 
 pub returns-clause-settled : goal.returns-clause-settled
 returns-clause-settled g c = λ h m under n ds later answers start.
     let past : length c.args.positions.now ≤ c.loop-i.i = search rules in
-    subst (λ xs. AreSettled h g.F.Family.rule m under n ds (xs ++ later) (stored_node c.loop-i.self)) (drop_all c.loop-i.i c.args.positions.now past) (c.loop-i.invariant.2 h m under n ds later answers start)
+    subst (λ xs. AreSettled h g.F.Family.rule m under n ds (xs ++ later) (stored_node c.loop-i.self)) (drop_all c.loop-i.i c.args.positions.now past)
+    (c.loop-i.invariant.2 h m under n ds later answers start)

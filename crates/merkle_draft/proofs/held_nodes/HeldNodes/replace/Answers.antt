@@ -32,7 +32,8 @@ returns-in_default-clause-stored g c =
     let below : at < i.start = search rules in
     let none : lookup (is_at (nat_cmp at)) i.pins.entries ≡ None = search rules in
     subst (λ (h : Held _). (p : ℕ) → get (stored_of c.get_mut.follows.lender-at-none.entries i.start i.nodes.items) p ≡ replaced at d p (get h.stored p)) c.self.view_is
-    (subst (λ es. (p : ℕ) → get (stored_of es i.start i.nodes.items) p ≡ replaced at d p (get (stored_of i.pins.entries i.start i.nodes.items) p)) (sym (ap (λ m. m.entries) c.get_mut.follows.holds-at-none))
+    (subst (λ es. (p : ℕ) → get (stored_of es i.start i.nodes.items) p ≡ replaced at d p (get (stored_of i.pins.entries i.start i.nodes.items) p))
+    (sym (ap (λ m. m.entries) c.get_mut.follows.holds-at-none))
     (unset_pin at d i.pins.entries i.start i.nodes.items below none))
 
 pub returns-in-Some-get_mut-clause-stored : goal.returns-in-Some-get_mut-clause-stored

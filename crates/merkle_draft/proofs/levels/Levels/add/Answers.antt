@@ -15,12 +15,14 @@ loop-self-preserved g c =
 
 pub returns-clause-pushed : goal.returns-clause-pushed
 returns-clause-pushed g c = λ h.
-    level_pushed c.loop-self.self-inside.lists.items c.args.height c.index_mut.result.now c.push-2.new.self c.args.position (omega (arith, c.len.ensures, c.loop-self-test.false)) c.index_mut.ensures.value c.in_ok-push-2.ensures.items h
+    level_pushed c.loop-self.self-inside.lists.items c.args.height c.index_mut.result.now c.push-2.new.self c.args.position
+    (omega (arith, c.len.ensures, c.loop-self-test.false)) c.index_mut.ensures.value c.in_ok-push-2.ensures.items h
     ∙ ap (λ xs. xs ++ cond (h == c.args.height) (c.args.position ∷ []) []) (c.loop-self.invariant.0 h)
 
 pub returns-clause-more : goal.returns-clause-more
 returns-clause-more g c = omega (
   arith,
-  length_pushed c.loop-self.self-inside.lists.items c.args.height c.index_mut.result.now c.push-2.new.self c.args.position (omega (arith, c.len.ensures, c.loop-self-test.false)) c.index_mut.ensures.value c.in_ok-push-2.ensures.items,
+  length_pushed c.loop-self.self-inside.lists.items c.args.height c.index_mut.result.now c.push-2.new.self c.args.position
+      (omega (arith, c.len.ensures, c.loop-self-test.false)) c.index_mut.ensures.value c.in_ok-push-2.ensures.items,
   c.loop-self.invariant.1,
 )

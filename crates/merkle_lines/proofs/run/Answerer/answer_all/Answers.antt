@@ -42,7 +42,8 @@ loop-preserved g c =
             subst (λ a. HoldsState a.session t.0) (sym w.self-is) t.2,
             consumes_then _ _ _ i.1 _ i.5 w.in-Ok.ensures.bytes.0,
             subst (λ x. Appends held (g.W.Write.contents x) (i.2 ++ t.1)) (sym w.writer-is) (appends_then _ _ _ i.2 t.1 i.6 t.3),
-            subst (λ a. ContinuesTo None [] (i.1 ++ take w.in-Ok.count c.read.new.buf) (i.2 ++ t.1) t.0 a.line.items) (sym w.self-is) (leads_then None i.3 t.0 [] c.loop.self.line.items w.take.new.self.line.items i.1 _ i.2 t.1 i.7 t.4),
+            subst (λ a. ContinuesTo None [] (i.1 ++ take w.in-Ok.count c.read.new.buf) (i.2 ++ t.1) t.0 a.line.items) (sym w.self-is)
+                (leads_then None i.3 t.0 [] c.loop.self.line.items w.take.new.self.line.items i.1 _ i.2 t.1 i.7 t.4),
           ))
       | in-Err+else-ne w ↦ (
         c.read.auto.buf ∙ i.0,

@@ -28,8 +28,15 @@ returns-in-Err g c = λ given held.
     let here : (p : ℕ) → get old.committed.stored p ≡ kept_node (scheme_of h c.args.self.now.hasher g.F.Family.rule g.F.Family.MAX_LEAVES g.F.Family.DOMAIN) given p =
     (λ p. held.agrees.holds p ∙ ap (λ b. cond (is_kept rule b p) (slice_get (node_digests h rule (leaf_digests h rule 0 given.committed)) p) None) held.boundary) in
     elim (is_memory c.in-Err.error) [
-      | inl other ↦ prove_refused (scheme_of h c.args.self.now.hasher g.F.Family.rule g.F.Family.MAX_LEAVES g.F.Family.DOMAIN) g.H.Digest.Digest.SIZE g.H.Digest.Digest.Spells given (get old.committed.stored) here old.committed.leaves held.counted (omega (arith, held.counted, held.bounded)) c.args.start c.args.end c.args.inactive c.in-Err.error _ (subst (λ a. IsRangeRefusal c.args.self.now.hasher rule most old.committed.leaves a c.args.end c.args.inactive (get old.committed.stored) c.in-Err.error) c.new.ensures (subst (λ b. IsRangeRefusal c.args.self.now.hasher rule most old.committed.leaves c.new.result b c.args.inactive (get old.committed.stored) c.in-Err.error) c.new-2.ensures (c.in-Err.ensures.err other))) (ap error_line c.name.ensures)
-      | inr memory ↦ wanting (scheme_of h c.args.self.now.hasher g.F.Family.rule g.F.Family.MAX_LEAVES g.F.Family.DOMAIN) g.H.Digest.Digest.SIZE g.H.Digest.Digest.Spells given (Prove c.args.start c.args.end c.args.inactive) c.in-Err.error _ memory (ap error_line c.name.ensures)
+      | inl other ↦ prove_refused (scheme_of h c.args.self.now.hasher g.F.Family.rule g.F.Family.MAX_LEAVES g.F.Family.DOMAIN) g.H.Digest.Digest.SIZE
+          g.H.Digest.Digest.Spells given (get old.committed.stored) here old.committed.leaves held.counted (omega (arith, held.counted, held.bounded))
+          c.args.start c.args.end c.args.inactive c.in-Err.error _
+          (subst (λ a. IsRangeRefusal c.args.self.now.hasher rule most old.committed.leaves a c.args.end c.args.inactive (get old.committed.stored)
+          c.in-Err.error) c.new.ensures
+          (subst (λ b. IsRangeRefusal c.args.self.now.hasher rule most old.committed.leaves c.new.result b c.args.inactive (get old.committed.stored)
+          c.in-Err.error) c.new-2.ensures (c.in-Err.ensures.err other))) (ap error_line c.name.ensures)
+      | inr memory ↦ wanting (scheme_of h c.args.self.now.hasher g.F.Family.rule g.F.Family.MAX_LEAVES g.F.Family.DOMAIN) g.H.Digest.Digest.SIZE
+          g.H.Digest.Digest.Spells given (Prove c.args.start c.args.end c.args.inactive) c.in-Err.error _ memory (ap error_line c.name.ensures)
     ]
 
 pub returns : goal.returns
@@ -49,7 +56,12 @@ returns g c = λ given held.
     let parts = honest_parts s list c.args.inactive c.new.result c.new-2.result p.leaves p.inactive_peaks p.digests.items honest.0 honest.1 honest.2 in
     let text : string_bytes c.in-Ok-write_hex.value ≡ encode_lower (parts_spelling h.bytes p.leaves p.inactive_peaks p.digests.items) =
     c.in-Ok-write_hex.ensures.digits ∙ ap encode_lower (c.as_slice.ensures.value ∙ c.in-Ok-write.ensures.ok ∙ ap (λ bytes. bytes ++ proof_spelling h.bytes p) fresh) in
-    subst (λ a. IsRequestAnswered (scheme_of h c.args.self.now.hasher g.F.Family.rule g.F.Family.MAX_LEAVES g.F.Family.DOMAIN) g.H.Digest.Digest.SIZE g.H.Digest.Digest.Spells given (Prove a c.args.end c.args.inactive) given (string_bytes c.in-Ok-write_hex.value)) c.new.ensures
-    (subst (λ b. IsRequestAnswered (scheme_of h c.args.self.now.hasher g.F.Family.rule g.F.Family.MAX_LEAVES g.F.Family.DOMAIN) g.H.Digest.Digest.SIZE g.H.Digest.Digest.Spells given (Prove c.new.result b c.args.inactive) given (string_bytes c.in-Ok-write_hex.value)) c.new-2.ensures
-    (prove_told (scheme_of h c.args.self.now.hasher g.F.Family.rule g.F.Family.MAX_LEAVES g.F.Family.DOMAIN) g.H.Digest.Digest.SIZE g.H.Digest.Digest.Spells given (get old.committed.stored) here old.committed.leaves held.counted (omega (arith, held.counted, held.bounded)) c.new.result c.new-2.result c.args.inactive
-    (λ q gap. built_reads_all s (get old.committed.stored) c.args.inactive _ p c.in-Ok.ensures.built.2 q gap) p.leaves p.inactive_peaks p.digests.items _ honest.0 (omega (arith, honest.1, counted)) (parts.0 ∙ counted ∙ sym held.counted) parts.1 c.in-Ok.ensures.built.2.enough_peaks parts.2 text))
+    subst (λ a. IsRequestAnswered (scheme_of h c.args.self.now.hasher g.F.Family.rule g.F.Family.MAX_LEAVES g.F.Family.DOMAIN) g.H.Digest.Digest.SIZE
+    g.H.Digest.Digest.Spells given (Prove a c.args.end c.args.inactive) given (string_bytes c.in-Ok-write_hex.value)) c.new.ensures
+    (subst (λ b. IsRequestAnswered (scheme_of h c.args.self.now.hasher g.F.Family.rule g.F.Family.MAX_LEAVES g.F.Family.DOMAIN) g.H.Digest.Digest.SIZE
+    g.H.Digest.Digest.Spells given (Prove c.new.result b c.args.inactive) given (string_bytes c.in-Ok-write_hex.value)) c.new-2.ensures
+    (prove_told (scheme_of h c.args.self.now.hasher g.F.Family.rule g.F.Family.MAX_LEAVES g.F.Family.DOMAIN) g.H.Digest.Digest.SIZE
+    g.H.Digest.Digest.Spells given (get old.committed.stored) here old.committed.leaves held.counted (omega (arith, held.counted, held.bounded))
+    c.new.result c.new-2.result c.args.inactive
+    (λ q gap. built_reads_all s (get old.committed.stored) c.args.inactive _ p c.in-Ok.ensures.built.2 q gap) p.leaves p.inactive_peaks
+    p.digests.items _ honest.0 (omega (arith, honest.1, counted)) (parts.0 ∙ counted ∙ sym held.counted) parts.1 c.in-Ok.ensures.built.2.enough_peaks parts.2 text))

@@ -24,8 +24,12 @@ returns-in-Err-clause-answered g c = λ given held.
       subst (λ x. IsStructureHeld h rule most x old.pending old.list.items old.edits.items given) (sym c.in-Err.ensures.unchanged) held,
       elim (cases_lt (count given) c.args.location) [
         | inl past ↦
-            prune_out (scheme_of h c.args.self.now.hasher g.F.Family.rule g.F.Family.MAX_LEAVES g.F.Family.DOMAIN) g.H.Digest.Digest.SIZE g.H.Digest.Digest.Spells given c.args.location c.in-Err.error _ past (let e = c.in-Err.ensures.refused (omega (arith, past, held.counted, there)) in let f = there in (cc)) (ap error_line c.name.ensures)
-        | inr within ↦ wanting (scheme_of h c.args.self.now.hasher g.F.Family.rule g.F.Family.MAX_LEAVES g.F.Family.DOMAIN) g.H.Digest.Digest.SIZE g.H.Digest.Digest.Spells given (Prune c.args.location) c.in-Err.error _ (c.in-Err.ensures.allowed (omega (arith, within, held.counted, there))) (ap error_line c.name.ensures)
+            prune_out (scheme_of h c.args.self.now.hasher g.F.Family.rule g.F.Family.MAX_LEAVES g.F.Family.DOMAIN) g.H.Digest.Digest.SIZE
+            g.H.Digest.Digest.Spells given c.args.location c.in-Err.error _ past
+            (let e = c.in-Err.ensures.refused (omega (arith, past, held.counted, there)) in let f = there in (cc)) (ap error_line c.name.ensures)
+        | inr within ↦ wanting (scheme_of h c.args.self.now.hasher g.F.Family.rule g.F.Family.MAX_LEAVES g.F.Family.DOMAIN) g.H.Digest.Digest.SIZE
+            g.H.Digest.Digest.Spells given (Prune c.args.location) c.in-Err.error _
+            (c.in-Err.ensures.allowed (omega (arith, within, held.counted, there))) (ap error_line c.name.ensures)
       ],
     )
 
@@ -40,8 +44,12 @@ returns-clause-answered g c = λ given held.
     let within : c.args.location ≤ count given =
     elim (cases_lt (count given) c.args.location) [ inl past ↦ absurd (let e = c.in-Ok.ensures.refused (omega (arith, past, held.counted, there)) in (cc)) | inr within ↦ within ] in
     let all : IsStructureHeld h rule most next old.pending old.list.items old.edits.items (pruned_to given c.args.location) =
-    held_pruned h rule most old.committed old.pending old.list.items old.edits.items given held next c.args.location (subst (λ k. contents next ≡ pruned rule k (contents old.committed)) there c.in-Ok.ensures.pruned) c.prune.ensures.counted (c.in-Ok.ensures.agrees h _ held.agrees) in (
+    held_pruned h rule most old.committed old.pending old.list.items old.edits.items given held next c.args.location
+    (subst (λ k. contents next ≡ pruned rule k (contents old.committed)) there c.in-Ok.ensures.pruned) c.prune.ensures.counted
+    (c.in-Ok.ensures.agrees h _ held.agrees) in (
       pruned_to given c.args.location,
       all,
-      prune_done (scheme_of h c.args.self.now.hasher g.F.Family.rule g.F.Family.MAX_LEAVES g.F.Family.DOMAIN) g.H.Digest.Digest.SIZE g.H.Digest.Digest.Spells given c.args.location c.as_u64.result c.as_u64-2.result _ within (c.as_u64.ensures ∙ c.pruning_boundary.ensures.boundary ∙ all.boundary) (c.as_u64-2.ensures ∙ c.leaves.ensures.count ∙ all.counted) refl,
+      prune_done (scheme_of h c.args.self.now.hasher g.F.Family.rule g.F.Family.MAX_LEAVES g.F.Family.DOMAIN) g.H.Digest.Digest.SIZE
+          g.H.Digest.Digest.Spells given c.args.location c.as_u64.result c.as_u64-2.result _ within
+          (c.as_u64.ensures ∙ c.pruning_boundary.ensures.boundary ∙ all.boundary) (c.as_u64-2.ensures ∙ c.leaves.ensures.count ∙ all.counted) refl,
     )

@@ -13,7 +13,9 @@ returns-in-Err g c = λ given held.
     let rule = g.F.Family.rule in
     let most = g.F.Family.MAX_LEAVES in
     let old = c.args.self.now in
-    root_refused (scheme_of h c.args.self.now.hasher g.F.Family.rule g.F.Family.MAX_LEAVES g.F.Family.DOMAIN) g.H.Digest.Digest.SIZE g.H.Digest.Digest.Spells given c.args.inactive c.root.result _ (c.root.ensures.listed _ held.agrees) (c.root.ensures.too_many _ held.agrees) c.in-Err.error c.in-Err.is (ap error_line c.name.ensures)
+    root_refused (scheme_of h c.args.self.now.hasher g.F.Family.rule g.F.Family.MAX_LEAVES g.F.Family.DOMAIN) g.H.Digest.Digest.SIZE
+    g.H.Digest.Digest.Spells given c.args.inactive c.root.result _ (c.root.ensures.listed _ held.agrees) (c.root.ensures.too_many _ held.agrees)
+    c.in-Err.error c.in-Err.is (ap error_line c.name.ensures)
 
 pub returns : goal.returns
 returns g c = λ given held.
@@ -21,4 +23,6 @@ returns g c = λ given held.
     let rule = g.F.Family.rule in
     let most = g.F.Family.MAX_LEAVES in
     let old = c.args.self.now in
-    root_told (scheme_of h c.args.self.now.hasher g.F.Family.rule g.F.Family.MAX_LEAVES g.F.Family.DOMAIN) g.H.Digest.Digest.SIZE g.H.Digest.Digest.Spells given c.args.inactive c.root.result _ (c.root.ensures.listed _ held.agrees) (c.root.ensures.too_many _ held.agrees) c.in-Ok.value c.in-Ok.is (c.in-Ok-write_hex.ensures.digits ∙ ap encode_lower c.as_bytes.ensures)
+    root_told (scheme_of h c.args.self.now.hasher g.F.Family.rule g.F.Family.MAX_LEAVES g.F.Family.DOMAIN) g.H.Digest.Digest.SIZE
+    g.H.Digest.Digest.Spells given c.args.inactive c.root.result _ (c.root.ensures.listed _ held.agrees) (c.root.ensures.too_many _ held.agrees)
+    c.in-Ok.value c.in-Ok.is (c.in-Ok-write_hex.ensures.digits ∙ ap encode_lower c.as_bytes.ensures)

@@ -11,7 +11,9 @@ returns-in-None-clause-edits g c = λ given held.
 
 pub returns-in-None-clause-batch : goal.returns-in-None-clause-batch
 returns-in-None-clause-batch g c =
-    IfOk-weaker c.new_batch.result _ _ (λ b forked given held. new_makes _ g.F.Family.rule g.F.Family.MAX_LEAVES _ _ _ _ given held b (let e = c.in-None.is in let f = c.take.ensures in cc) forked) c.new_batch.ensures.forked
+    IfOk-weaker c.new_batch.result _ _
+    (λ b forked given held. new_makes _ g.F.Family.rule g.F.Family.MAX_LEAVES _ _ _ _ given held b
+    (let e = c.in-None.is in let f = c.take.ensures in cc) forked) c.new_batch.ensures.forked
 
 pub returns-in-Some-clause-edits : goal.returns-in-Some-clause-edits
 returns-in-Some-clause-edits g c =

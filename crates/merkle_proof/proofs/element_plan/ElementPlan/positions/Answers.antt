@@ -7,7 +7,8 @@ use Rattle.merkle_proof.proofs.FewDigests.{leaf_positions_few}
 use Rattle.merkle_proof.proofs.element_plan.ElementPlan.positions.Goals as goal
 
 pub returns-clause-ok : goal.returns-clause-ok
-returns-clause-ok g c = subst (λ (r : LeafRange). IfOk c.positions.result (λ v. v.items ≡ range_positions g.F.Family.rule r.leaves r.start r.end)) (c.self.invariant ∙ ap leaf_range c.self.view_is) c.positions.ensures.ok
+returns-clause-ok g c = subst (λ (r : LeafRange). IfOk c.positions.result (λ v. v.items ≡ range_positions g.F.Family.rule r.leaves r.start r.end))
+    (c.self.invariant ∙ ap leaf_range c.self.view_is) c.positions.ensures.ok
 
 pub returns-clause-at_most_122 : goal.returns-clause-at_most_122
 returns-clause-at_most_122 g c = λ few.

@@ -9,7 +9,9 @@ use Rattle.merkle_proof.proofs.proof.Proof.verify_leaf_digests_inclusion.Goals a
 pub returns-clause-exact : goal.returns-clause-exact
 returns-clause-exact g c =
     let s = g.H.Hasher.scheme c.args.hasher.now in
-    subst (λ r. IfOk c.verify_leaf_digests.result (IsExactForRange s c.args.root.now r)) (same_digest_input c.args.start c.args.digests.now _ _ _ _ _ _ c.parts.ensures.leaves c.parts.ensures.inactive c.parts.ensures.digests) c.verify_leaf_digests.ensures
+    subst (λ r. IfOk c.verify_leaf_digests.result (IsExactForRange s c.args.root.now r))
+    (same_digest_input c.args.start c.args.digests.now _ _ _ _ _ _ c.parts.ensures.leaves c.parts.ensures.inactive c.parts.ensures.digests)
+    c.verify_leaf_digests.ensures
 
 pub returns-clause-names : goal.returns-clause-names
 returns-clause-names g c =
@@ -22,7 +24,9 @@ returns-clause-honest g c =
     let s = g.H.Hasher.scheme c.args.hasher.now in
     let r = digest_input_of c.args.self.now c.args.start c.args.digests.now in
     let d = g.met.D.Digest in
-    let kept = sound _ _ _ _ (g.met.H.Hasher.over_digest c.args.hasher.now) s (g.H.Hasher.bagging_of c.args.hasher.now) g.F.Family.rule g.F.Family.MAX_LEAVES g.F.Family.MAX_NODES g.F.Family.DOMAIN g.D.Digest.SIZE (g.met.H.Hasher.scheme_is c.args.hasher.now) d.eq_decides g.D.Digest.Spells d.nonempty d.bytes_spell d.one_length d.bytes_decide g.met.F.Family.lawful in
+    let kept = sound _ _ _ _ (g.met.H.Hasher.over_digest c.args.hasher.now) s (g.H.Hasher.bagging_of c.args.hasher.now) g.F.Family.rule
+    g.F.Family.MAX_LEAVES g.F.Family.MAX_NODES g.F.Family.DOMAIN g.D.Digest.SIZE (g.met.H.Hasher.scheme_is c.args.hasher.now) d.eq_decides
+    g.D.Digest.Spells d.nonempty d.bytes_spell d.one_length d.bytes_decide g.met.F.Family.lawful in
     range_honest s c.args.root.now c.verify_leaf_digests.result r (returns-clause-exact g c) _ _ kept
 
 pub returns-clause-sound : goal.returns-clause-sound
@@ -30,5 +34,7 @@ returns-clause-sound g c =
     let s = g.H.Hasher.scheme c.args.hasher.now in
     let r = digest_input_of c.args.self.now c.args.start c.args.digests.now in
     let d = g.met.D.Digest in
-    let kept = sound _ _ _ _ (g.met.H.Hasher.over_digest c.args.hasher.now) s (g.H.Hasher.bagging_of c.args.hasher.now) g.F.Family.rule g.F.Family.MAX_LEAVES g.F.Family.MAX_NODES g.F.Family.DOMAIN g.D.Digest.SIZE (g.met.H.Hasher.scheme_is c.args.hasher.now) d.eq_decides g.D.Digest.Spells d.nonempty d.bytes_spell d.one_length d.bytes_decide g.met.F.Family.lawful in
+    let kept = sound _ _ _ _ (g.met.H.Hasher.over_digest c.args.hasher.now) s (g.H.Hasher.bagging_of c.args.hasher.now) g.F.Family.rule
+    g.F.Family.MAX_LEAVES g.F.Family.MAX_NODES g.F.Family.DOMAIN g.D.Digest.SIZE (g.met.H.Hasher.scheme_is c.args.hasher.now) d.eq_decides
+    g.D.Digest.Spells d.nonempty d.bytes_spell d.one_length d.bytes_decide g.met.F.Family.lawful in
     range_sound s c.args.root.now c.verify_leaf_digests.result r (returns-clause-exact g c) _ _ kept

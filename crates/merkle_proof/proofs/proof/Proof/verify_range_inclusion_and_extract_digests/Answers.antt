@@ -32,7 +32,9 @@ returns-clause-nodes g c =
     let s = g.H.Hasher.scheme c.args.hasher.now in
     let r = input_of s c.args.self.now c.args.start (bytes_of c.args.elements.now) in
     let d = g.met.D.Digest in
-    let kept = sound _ _ _ _ (g.met.H.Hasher.over_digest c.args.hasher.now) s (g.H.Hasher.bagging_of c.args.hasher.now) g.F.Family.rule g.F.Family.MAX_LEAVES g.F.Family.MAX_NODES g.F.Family.DOMAIN g.D.Digest.SIZE (g.met.H.Hasher.scheme_is c.args.hasher.now) d.eq_decides g.D.Digest.Spells d.nonempty d.bytes_spell d.one_length d.bytes_decide g.met.F.Family.lawful in
+    let kept = sound _ _ _ _ (g.met.H.Hasher.over_digest c.args.hasher.now) s (g.H.Hasher.bagging_of c.args.hasher.now) g.F.Family.rule
+    g.F.Family.MAX_LEAVES g.F.Family.MAX_NODES g.F.Family.DOMAIN g.D.Digest.SIZE (g.met.H.Hasher.scheme_is c.args.hasher.now) d.eq_decides
+    g.D.Digest.Spells d.nonempty d.bytes_spell d.one_length d.bytes_decide g.met.F.Family.lawful in
     IfOk-weaker c.verify_and_extract.result _ _ (λ pairs w xs k l m is.
     let right : AllByRecursion (IsNodePair s xs) (extracted s r) ⊎ RangeCollides s r xs k = elim ((leads_is_accepted s r c.args.root.now).0 w.0) [
       | inl a ↦ extracts_nodes s _ _ kept xs k l m r (subst (AcceptsNonempty s r) (sym (roots_agree s xs k ∙ is)) a)

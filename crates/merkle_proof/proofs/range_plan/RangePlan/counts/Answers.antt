@@ -23,7 +23,10 @@ returns g c =
       after = subst (λ (r : LeafRange). c.self.inside.after ≡ length (wholly_after r.end (peaks_of rule r.leaves))) c.self.view_is i.after_are;
       folded = subst (λ (r : LeafRange). c.prefix_count.result ≡ length (folded_prefix c.args.bagging c.args.inactive (wholly_before r.start (peaks_of rule r.leaves)))) c.self.view_is
           (c.prefix_count.ensures.exact olds (sym i.before_are));
-      single = subst (λ (r : LeafRange). c.single_count.result ≡ length (single_after c.args.bagging c.args.inactive (length (wholly_before r.start (peaks_of rule r.leaves)) + length (overlapping r.start r.end (peaks_of rule r.leaves))) (wholly_after r.end (peaks_of rule r.leaves)))) c.self.view_is
+      single = subst (λ (r : LeafRange). c.single_count.result
+          ≡ length (single_after c.args.bagging c.args.inactive
+          (length (wholly_before r.start (peaks_of rule r.leaves)) + length (overlapping r.start r.end (peaks_of rule r.leaves)))
+          (wholly_after r.end (peaks_of rule r.leaves)))) c.self.view_is
           (c.single_count.ensures.exact news (sym i.after_are) ∙ ap (λ m. length (single_after c.args.bagging c.args.inactive m news)) met_is);
       within = (c.prefix_count.ensures.within, c.single_count.ensures.within);
       read = subst (λ (r : LeafRange). c.self.inside.before + c.self.inside.after ≤ length (nodes_read rule r.leaves r.start r.end)) c.self.view_is

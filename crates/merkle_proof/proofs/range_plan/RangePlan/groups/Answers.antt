@@ -43,7 +43,10 @@ returns-clause-after g c =
     let n = c.self.inside.leaves in let a = c.self.inside.range.start in let b = c.self.inside.range.end in
     let ts = peaks_of rule n in let olds = wholly_before a ts in let news = wholly_after b ts in
     let met_is : c.self.inside.peaks - c.self.inside.after ≡ length olds + length (overlapping a b ts) = omega (arith, i.peaks_are, i.after_are, length-peaks_of rule n a b i.nonempty) in
-    subst (λ (r : LeafRange). c.single_count-single.result ≡ length (single_after c.args.bagging c.args.inactive (length (wholly_before r.start (peaks_of rule r.leaves)) + length (overlapping r.start r.end (peaks_of rule r.leaves))) (wholly_after r.end (peaks_of rule r.leaves)))) c.self.view_is
+    subst (λ (r : LeafRange). c.single_count-single.result
+    ≡ length (single_after c.args.bagging c.args.inactive
+    (length (wholly_before r.start (peaks_of rule r.leaves)) + length (overlapping r.start r.end (peaks_of rule r.leaves)))
+    (wholly_after r.end (peaks_of rule r.leaves)))) c.self.view_is
     (c.single_count-single.ensures.exact news (sym i.after_are) ∙ ap (λ m. length (single_after c.args.bagging c.args.inactive m news)) met_is)
 
 pub returns-clause-suffix : goal.returns-clause-suffix
@@ -55,5 +58,8 @@ returns-clause-suffix g c =
     let met_is : c.self.inside.peaks - c.self.inside.after ≡ met = omega (arith, i.peaks_are, i.after_are, length-peaks_of rule n a b i.nonempty) in
     let single_is : c.single_count-single.result ≡ length (single_after c.args.bagging c.args.inactive met news) =
     c.single_count-single.ensures.exact news (sym i.after_are) ∙ ap (λ m. length (single_after c.args.bagging c.args.inactive m news)) met_is in
-    subst (λ (r : LeafRange). c.self.inside.after - c.single_count-single.result ≡ length (folded_suffix c.args.bagging c.args.inactive (length (wholly_before r.start (peaks_of rule r.leaves)) + length (overlapping r.start r.end (peaks_of rule r.leaves))) (wholly_after r.end (peaks_of rule r.leaves)))) c.self.view_is
+    subst (λ (r : LeafRange). c.self.inside.after - c.single_count-single.result
+    ≡ length (folded_suffix c.args.bagging c.args.inactive
+    (length (wholly_before r.start (peaks_of rule r.leaves)) + length (overlapping r.start r.end (peaks_of rule r.leaves)))
+    (wholly_after r.end (peaks_of rule r.leaves)))) c.self.view_is
     (omega (arith, i.after_are, single_is, apart c.args.bagging c.args.inactive met news))

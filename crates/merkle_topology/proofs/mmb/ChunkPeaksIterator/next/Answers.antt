@@ -11,17 +11,20 @@ birth_leaf-requires c = stretch_birth c.self.inside.leaves c.self.inside.first c
 
 pub root_position-root-requires-2 : goal.root_position-root-requires-2
 root_position-root-requires-2 c =
-    let k = halved c.self.inside.leaves c.self.inside.first c.self.inside.height c.birth_leaf.result c.self.inside.valid c.self.inside.within (omega (arith, c.if-birth_leaf-self.false, c.self.inside.valid)) c.birth_leaf.ensures in
+    let k = halved c.self.inside.leaves c.self.inside.first c.self.inside.height c.birth_leaf.result c.self.inside.valid c.self.inside.within
+    (omega (arith, c.if-birth_leaf-self.false, c.self.inside.valid)) c.birth_leaf.ensures in
     omega (arith, k.birth, c.self.inside.valid)
 
 pub overflow_shl-self : goal.overflow_shl-self
 overflow_shl-self c =
-    let k = halved c.self.inside.leaves c.self.inside.first c.self.inside.height c.birth_leaf.result c.self.inside.valid c.self.inside.within (omega (arith, c.if-birth_leaf-self.false, c.self.inside.valid)) c.birth_leaf.ensures in
+    let k = halved c.self.inside.leaves c.self.inside.first c.self.inside.height c.birth_leaf.result c.self.inside.valid c.self.inside.within
+    (omega (arith, c.if-birth_leaf-self.false, c.self.inside.valid)) c.birth_leaf.ensures in
     omega (arith, k.low)
 
 pub returns-clause-goes : goal.returns-clause-goes
 returns-clause-goes c =
-    let k = halved c.self.inside.leaves c.self.inside.first c.self.inside.height c.birth_leaf.result c.self.inside.valid c.self.inside.within (omega (arith, c.if-birth_leaf-self.false, c.self.inside.valid)) c.birth_leaf.ensures in
+    let k = halved c.self.inside.leaves c.self.inside.first c.self.inside.height c.birth_leaf.result c.self.inside.valid c.self.inside.within
+    (omega (arith, c.if-birth_leaf-self.false, c.self.inside.valid)) c.birth_leaf.ensures in
     let first = sym c.self.view_is ∙ stretch_first c.self.inside.left c.self.inside.leaves c.self.inside.first c.self.inside.height c.if-not-self.false k in
     record { on = λ _. (tt, tt, omega (arith, ap length first)); keeps = tt; rests = λ _. tt }
 

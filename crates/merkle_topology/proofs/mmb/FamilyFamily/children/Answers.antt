@@ -8,7 +8,8 @@ use Rattle.merkle_forest_theory.proofs.BeltLawful.{mmb_lawful}
 use Rattle.merkle_topology.proofs.BeltNodes.{mmb_inner, IsInner}
 use Rattle.merkle_topology.proofs.mmb.FamilyFamily.children.Goals as goal
 
-inner : (p h nodes birth : ℕ) → HasInner mmb_merges 4611686018427387934 p h → nodes ≡ p → birth ≤ 4611686018427387934 → size mmb_merges birth ≤ nodes → nodes < size mmb_merges (birth + 1) → IsInner p h birth
+inner : (p h nodes birth : ℕ) → HasInner mmb_merges 4611686018427387934 p h → nodes ≡ p → birth ≤ 4611686018427387934 → size mmb_merges birth ≤ nodes
+    → nodes < size mmb_merges (birth + 1) → IsInner p h birth
 inner p h nodes birth k e small a b = mmb_inner p h birth k small (omega arith) (omega arith)
 
 pub leaf_count_within-birth-requires : goal.leaf_count_within-birth-requires

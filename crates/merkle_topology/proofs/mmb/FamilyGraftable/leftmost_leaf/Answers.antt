@@ -7,4 +7,5 @@ use Rattle.merkle_topology.proofs.mmb.FamilyGraftable.leftmost_leaf.Goals as goa
 
 pub returns-clause-node : goal.returns-clause-node
 returns-clause-node c = λ t k.
-    c.new.ensures ∙ first_leaf_once mmb_merges 4611686018427387934 (mmb_equal 4611686018427387934) mmb_position mmb_birth_leaf_count mmb_coordinates c.first_below.result c.args.position c.args.height t (c.first_below.ensures ∙ c.as_u64.ensures) k
+    c.new.ensures ∙ first_leaf_once mmb_merges 4611686018427387934 (mmb_equal 4611686018427387934) mmb_position mmb_birth_leaf_count mmb_coordinates
+    c.first_below.result c.args.position c.args.height t (c.first_below.ensures ∙ c.as_u64.ensures) k

@@ -11,4 +11,6 @@ returns-clause-node c = λ t k.
     let s = c.requires.is_root in
     let told = c.birth_leaf_of.ensures.birth s.0 (s.1 ∙ sym c.as_u64.ensures) in
     let same : mmb_birth_leaf_count s.0 c.args.height ≡ c.birth_leaf_of.result + 1 = omega (arith, told) in
-    subst (IsBirthSize mmb_merges c.args.position) same (birth_least mmb_merges 4611686018427387934 (mmb_equal 4611686018427387934) mmb_position mmb_birth_leaf_count mmb_coordinates s.0 c.args.position c.args.height t s.1 k)
+    subst (IsBirthSize mmb_merges c.args.position) same
+    (birth_least mmb_merges 4611686018427387934 (mmb_equal 4611686018427387934) mmb_position mmb_birth_leaf_count mmb_coordinates s.0
+    c.args.position c.args.height t s.1 k)

@@ -11,4 +11,6 @@ root_position-requires c = rw (c.as_u64.ensures) (birth_within c.args.leaf_start
 
 pub returns-clause-node : goal.returns-clause-node
 returns-clause-node c = λ p t k e.
-    c.new.ensures ∙ c.root_position.ensures ∙ root_node mmb_merges 4611686018427387934 (mmb_equal 4611686018427387934) mmb_position mmb_birth_leaf_count mmb_coordinates c.as_u64.result p c.args.height t k (e ∙ sym c.as_u64.ensures)
+    c.new.ensures ∙ c.root_position.ensures
+    ∙ root_node mmb_merges 4611686018427387934 (mmb_equal 4611686018427387934) mmb_position mmb_birth_leaf_count mmb_coordinates c.as_u64.result p
+    c.args.height t k (e ∙ sym c.as_u64.ensures)

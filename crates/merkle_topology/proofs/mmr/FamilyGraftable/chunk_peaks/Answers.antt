@@ -29,7 +29,8 @@ returns c = λ n l e.
     let k = c.requires in
     let same : n ≡ k.0 = size_inj mmr_merges n k.0 (e ∙ sym k.2) in
     let end : i * 2 ^ h + 2 ^ h ≡ (i + 1) * 2 ^ h = omega arith in
-    let root : mmr_position (i * 2 ^ h) h ≡ c.new.result = ap (λ (s : ℕ). mmr_position s h) (sym (chunk_within k.0 i h (omega (arith, k.1)) k.3).first) ∙ sym (c.new.ensures ∙ c.root_position-root.ensures) in
+    let root : mmr_position (i * 2 ^ h) h ≡ c.new.result =
+    ap (λ (s : ℕ). mmr_position s h) (sym (chunk_within k.0 i h (omega (arith, k.1)) k.3).first) ∙ sym (c.new.ensures ∙ c.root_position-root.ensures) in
     sym (ap (λ (b : ℕ). map placed (nodes_inside mmr_merges n (i * 2 ^ h) b)) (sym end)
     ∙ nodes_inside_born mmr_merges 4611686018427387904 (mmr_equal 4611686018427387904) mmr_position mmr_birth_leaf_count mmr_coordinates n (i * 2 ^ h) i h l refl (omega (arith, end, same, k.3))
     ∙ ap (λ (p : ℕ). (p, h) ∷ []) root)

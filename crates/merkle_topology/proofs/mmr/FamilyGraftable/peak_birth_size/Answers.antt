@@ -14,6 +14,8 @@ returns-clause-formula c = λ s e.
 
 pub returns-clause-node : goal.returns-clause-node
 returns-clause-node c = λ t k.
-    let wide : mmr_birth_leaf_count c.first_below.result c.args.height ≡ c.first_below.result + 1 * 2 ^ c.args.height % 2 ^ 64 = omega (arith, one_shl c.args.height 64 (omega (arith, c.requires.low))) in
+    let wide : mmr_birth_leaf_count c.first_below.result c.args.height ≡ c.first_below.result + 1 * 2 ^ c.args.height % 2 ^ 64 =
+    omega (arith, one_shl c.args.height 64 (omega (arith, c.requires.low))) in
     subst (IsBirthSize mmr_merges c.args.position) wide
-    (birth_least mmr_merges 4611686018427387904 (mmr_equal 4611686018427387904) mmr_position mmr_birth_leaf_count mmr_coordinates c.first_below.result c.args.position c.args.height t (c.first_below.ensures.root ∙ c.as_u64.ensures) k)
+    (birth_least mmr_merges 4611686018427387904 (mmr_equal 4611686018427387904) mmr_position mmr_birth_leaf_count mmr_coordinates c.first_below.result
+    c.args.position c.args.height t (c.first_below.ensures.root ∙ c.as_u64.ensures) k)

@@ -35,7 +35,9 @@ overflow_sub-self-inside c =
 pub returns-clause-steps : goal.returns-clause-steps
 returns-clause-steps c =
     let k = first_tree c.self.inside.next c.self.inside.left c.ilog2-height.result c.if-self-eq0.false c.self.inside.bounded c.ilog2-height.ensures.power_le c.ilog2-height.ensures.next_power_gt in
-    sym c.self.view_is ∙ k.first ∙ ap (λ (x : ℕ). (x, c.ilog2-height.result - 1) ∷ trees_from (c.self.inside.next + (doubled c.ilog2-height.result - 1)) (c.self.inside.left - (doubled c.ilog2-height.result - 1))) (sym c.new.ensures)
+    sym c.self.view_is ∙ k.first ∙ ap
+    (λ (x : ℕ). (x, c.ilog2-height.result - 1) ∷ trees_from (c.self.inside.next + (doubled c.ilog2-height.result - 1))
+    (c.self.inside.left - (doubled c.ilog2-height.result - 1))) (sym c.new.ensures)
 
 pub returns-clause-goes : goal.returns-clause-goes
 returns-clause-goes c =

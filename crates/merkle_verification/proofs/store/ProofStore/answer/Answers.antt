@@ -34,7 +34,8 @@ returns-in-Some-clause-err g c = λ other.
     let w = asked s v c.args.self.now a b c.in-Ok.plan c.counts-counts.result i.held _ c.self.view_is c.in-Ok.ensures.ok n.before n.after n.folded n.single c.self.invariant.0 refl
     c.in-Ok.ensures.within.0 c.in-Ok.ensures.within.1 in
     let count = subst (λ (z : StoreValue g.row.D.Denot). IsFoldedCount g.F.Family.rule z.bagging z.leaves z.inactive z.start i.held) c.self.view_is c.self.invariant.0 in
-    rw (g.met.H.Hasher.scheme_is c.args.hasher.now) (shorter_refused s c.args.self.now a b c.counts-counts.result i.held _ w c.in-Some.position (sym c.in-Some.is ∙ c.lacking_prefix.ensures i.held count))
+    rw (g.met.H.Hasher.scheme_is c.args.hasher.now)
+    (shorter_refused s c.args.self.now a b c.counts-counts.result i.held _ w c.in-Some.position (sym c.in-Some.is ∙ c.lacking_prefix.ensures i.held count))
 
 pub returns-in-Ok-digests-clause-ok : goal.returns-in-Ok-digests-clause-ok
 returns-in-Ok-digests-clause-ok g c =
@@ -53,7 +54,8 @@ returns-in-Ok-digests-clause-ok g c =
       prefix = i.prefix;
       suffix = i.suffix;
     } in
-    let w = asked s v c.args.self.now a b c.in-Ok.plan c.counts-counts.result i.held c.reads.result.now c.self.view_is c.in-Ok.ensures.ok n.before n.after n.folded n.single c.self.invariant.0 c.reads.ensures
+    let w = asked s v c.args.self.now a b c.in-Ok.plan c.counts-counts.result i.held c.reads.result.now c.self.view_is c.in-Ok.ensures.ok n.before
+    n.after n.folded n.single c.self.invariant.0 c.reads.ensures
     c.in-Ok.ensures.within.0 c.in-Ok.ensures.within.1 in
     let count = subst (λ (z : StoreValue g.row.D.Denot). IsFoldedCount g.F.Family.rule z.bagging z.leaves z.inactive z.start i.held) c.self.view_is c.self.invariant.0 in
     let p : Proof g.row.F.Denot g.row.D.Denot g.row.F-Peaks.Denot g.row.F-ParentHeights.Denot = record { leaves = i.leaves; inactive_peaks = i.inactive_peaks; digests = c.in-Ok-digests.digests } in
@@ -78,7 +80,8 @@ returns-clause-err g c = λ other.
       prefix = i.prefix;
       suffix = i.suffix;
     } in
-    let w = asked s v c.args.self.now a b c.in-Ok.plan c.counts-counts.result i.held c.reads.result.now c.self.view_is c.in-Ok.ensures.ok n.before n.after n.folded n.single c.self.invariant.0 c.reads.ensures
+    let w = asked s v c.args.self.now a b c.in-Ok.plan c.counts-counts.result i.held c.reads.result.now c.self.view_is c.in-Ok.ensures.ok n.before
+    n.after n.folded n.single c.self.invariant.0 c.reads.ensures
     c.in-Ok.ensures.within.0 c.in-Ok.ensures.within.1 in
     let count = subst (λ (z : StoreValue g.row.D.Denot). IsFoldedCount g.F.Family.rule z.bagging z.leaves z.inactive z.start i.held) c.self.view_is c.self.invariant.0 in
     let x = c.in-Err-digests.ensures.err other in
