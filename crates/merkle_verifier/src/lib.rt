@@ -22,7 +22,9 @@ ghost use Rattle.merkle_verifier.specs.Unread.{IsReadAnswer, was_read};
 
 use crate::answer::{HASHED, NO_LOCATION, READ};
 use crate::checks::{Elements, OldRoot, check_element, check_growth, check_range, check_scattered};
-use crate::digest_checks::{check_growth_digests, check_leaf_digest, check_range_digests, check_scattered_digests};
+use crate::digest_checks::{
+    check_growth_digests, check_leaf_digest, check_range_digests, check_scattered_digests,
+};
 use crate::read::read_proof;
 use merkle_base::family::{Bagging, Family};
 use merkle_base::location::Location;

@@ -1,4 +1,4 @@
-use Rattle.std.proofs.Common.{[], ◌∷◌, subst, refl, inl, inr, rules}
+use Rattle.std.proofs.Common.{[], ◌∷◌, length, sym, ap, subst, refl, inl, inr, rules, ◌∙◌}
 use Rattle.merkle_codec.specs.NumberLaws.{lawful_locations}
 use Rattle.merkle_range.specs.Input.{digest_input}
 use Rattle.merkle_base.specs.Scheme.{scheme_of}
@@ -6,6 +6,9 @@ use Rattle.merkle_verifier.specs.Answers.{JudgesRange, accepted, rejected}
 use Rattle.merkle_sha256.specs.PlainHashings.{sha256_hashing}
 use Rattle.merkle_verifier.proofs.Spelled.{unread}
 use Rattle.merkle_verifier.proofs.digest_checks.check_leaf_digest.Goals as goal
+
+pub returns-in_default-from_bytes : goal.returns-in_default-from_bytes
+returns-in_default-from_bytes g c = inr (inr (c.in-Some.root, c.in-Some.ensures, inl (refl, λ d e. c.in_default-from_bytes.ensures (ap length (sym e) ∙ d.sized))))
 
 pub returns-in-Err : goal.returns-in-Err
 returns-in-Err g c =

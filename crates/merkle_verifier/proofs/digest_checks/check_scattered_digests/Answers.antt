@@ -1,4 +1,4 @@
-use Rattle.std.proofs.Common.{◌≡◌, length, sym, ap, subst, refl, inl, inr, rules, ◌∙◌}
+use Rattle.std.proofs.Common.{◌≡◌, length, sym, subst, refl, inl, inr, rules}
 use Rattle.std.specs.Prelude.{IfSome, IsNone}
 use Rattle.merkle_codec.specs.NumberLaws.{lawful_locations}
 use Rattle.merkle_proof.specs.Input.{multi_digest_input}
@@ -12,11 +12,11 @@ use Rattle.merkle_verifier.proofs.digest_checks.check_scattered_digests.Goals as
 pub returns-in-Ok-None : goal.returns-in-Ok-None
 returns-in-Ok-None g c = inr (inr (c.in-Some.root, c.in-Some.ensures, inl (refl, c.in-Ok-None.ensures.none (subst IsNone (sym c.in-Ok-None.field-0-is) refl))))
 
-pub returns-then-locations-leaves : goal.returns-then-locations-leaves
-returns-then-locations-leaves g c =
+pub returns-then-locations-len : goal.returns-then-locations-len
+returns-then-locations-len g c =
     let ls = c.in-Ok-Some.leaves.items in
     let joined : joined_digests ls ≡ c.args.digests.now = subst (λ o. IfSome o (λ all. joined_digests all.items ≡ c.args.digests.now)) c.in-Ok-Some.field-0-is c.in-Ok-Some.ensures.some in
-    inr (inr (c.in-Some.root, c.in-Some.ensures, inr (ls, joined, inl (refl, λ same. search (rules, c.if-locations-leaves.true, same)))))
+    inr (inr (c.in-Some.root, c.in-Some.ensures, inr (ls, joined, inl (refl, λ same. search (rules, c.if-locations-len.true, c.len.ensures, same)))))
 
 pub returns-in-Err-read_proof : goal.returns-in-Err-read_proof
 returns-in-Err-read_proof g c =
@@ -24,7 +24,7 @@ returns-in-Err-read_proof g c =
     let s = scheme_of sha256_hashing c.args.hasher.now F.rule F.MAX_LEAVES F.DOMAIN in
     let ls = c.in-Ok-Some.leaves.items in
     let joined : joined_digests ls ≡ c.args.digests.now = subst (λ o. IfSome o (λ all. joined_digests all.items ≡ c.args.digests.now)) c.in-Ok-Some.field-0-is c.in-Ok-Some.ensures.some in
-    let same : length c.args.locations.now ≡ length ls = search (rules, c.if-locations-leaves.false) in
+    let same : length c.args.locations.now ≡ length ls = search (rules, c.if-locations-len.false, c.len.ensures) in
     let fits = lawful_locations F.rule F.MAX_LEAVES F.MAX_NODES g.met.F.Family.lawful in
     elim (unread F.MAX_LEAVES fits c.args.proof.now c.in-Err-read_proof.error c.in-Err-read_proof.ensures.err (λ n k ds. JudgesMulti s c.in-Some.root (multi_digest_input n k ds (located c.args.locations.now ls))) c.answer.result c.answer.ensures) [
       | inl memory ↦ inl memory
@@ -37,8 +37,9 @@ returns-in-Ok-true g c =
     let s = scheme_of sha256_hashing c.args.hasher.now F.rule F.MAX_LEAVES F.DOMAIN in
     let ls = c.in-Ok-Some.leaves.items in
     let joined : joined_digests ls ≡ c.args.digests.now = subst (λ o. IfSome o (λ all. joined_digests all.items ≡ c.args.digests.now)) c.in-Ok-Some.field-0-is c.in-Ok-Some.ensures.some in
-    let same : length c.args.locations.now ≡ length ls = search (rules, c.if-locations-leaves.false) in
-    let lent : c.deref-2.result.now ≡ located c.args.locations.now ls = c.deref-2.ensures.value ∙ c.in-Ok.ensures ∙ ap (located c.args.locations.now) c.deref.ensures.value in
+    let same : length c.args.locations.now ≡ length ls = search (rules, c.if-locations-len.false, c.len.ensures) in
+    let paired : c.in-Ok.located.items ≡ located c.args.locations.now ls = subst (λ all. c.in-Ok.located.items ≡ located c.args.locations.now all) c.deref.ensures.value c.in-Ok.ensures in
+    let lent : c.deref-2.result.now ≡ located c.args.locations.now ls = subst (λ all. all ≡ located c.args.locations.now ls) (sym c.deref-2.ensures.value) paired in
     let p = c.in-Ok-read_proof.proof in
     let checks = c.in-Ok-true.ensures in
     let is = c.in-Ok-true.field-0-test in
@@ -67,8 +68,9 @@ returns-in-Ok-false g c =
     let s = scheme_of sha256_hashing c.args.hasher.now F.rule F.MAX_LEAVES F.DOMAIN in
     let ls = c.in-Ok-Some.leaves.items in
     let joined : joined_digests ls ≡ c.args.digests.now = subst (λ o. IfSome o (λ all. joined_digests all.items ≡ c.args.digests.now)) c.in-Ok-Some.field-0-is c.in-Ok-Some.ensures.some in
-    let same : length c.args.locations.now ≡ length ls = search (rules, c.if-locations-leaves.false) in
-    let lent : c.deref-2.result.now ≡ located c.args.locations.now ls = c.deref-2.ensures.value ∙ c.in-Ok.ensures ∙ ap (located c.args.locations.now) c.deref.ensures.value in
+    let same : length c.args.locations.now ≡ length ls = search (rules, c.if-locations-len.false, c.len.ensures) in
+    let paired : c.in-Ok.located.items ≡ located c.args.locations.now ls = subst (λ all. c.in-Ok.located.items ≡ located c.args.locations.now all) c.deref.ensures.value c.in-Ok.ensures in
+    let lent : c.deref-2.result.now ≡ located c.args.locations.now ls = subst (λ all. all ≡ located c.args.locations.now ls) (sym c.deref-2.ensures.value) paired in
     let p = c.in-Ok-read_proof.proof in
     let checks = c.in-Ok-false.ensures in
     let not = c.in-Ok-false.field-0-test in
