@@ -8,14 +8,15 @@ import merkle_verifier
 
 HERE = os.path.dirname(os.path.abspath(__file__))
 SOURCES = os.path.join(HERE, "..", "crates", "merkle_verifier", "src")
-PUBLIC = ["merkle_is_supported", "merkle_read_proof", "merkle_verify_element", "merkle_verify_growth", "merkle_verify_range",
-          "merkle_verify_scattered", "merkle_version"]
+PUBLIC = ["merkle_is_supported", "merkle_leaf_digest", "merkle_read_proof", "merkle_verify_element", "merkle_verify_growth",
+          "merkle_verify_growth_digests", "merkle_verify_leaf_digest", "merkle_verify_range", "merkle_verify_range_digests",
+          "merkle_verify_scattered", "merkle_verify_scattered_digests", "merkle_version"]
 NUMBERS = {"bool": "bool", "u64": "uint64_t", "usize": "size_t", "u32": "uint32_t"}
 ITEMS = {"u8": "uint8_t", "u64": "uint64_t", "usize": "size_t"}
 COUNTS = {"lengths": "count", "locations": "location_count"}
 IN_PYTHON = {"bool": ctypes.c_bool, "uint64_t": ctypes.c_uint64, "size_t": ctypes.c_size_t, "const uint8_t *": ctypes.c_char_p,
              "const size_t *": ctypes.POINTER(ctypes.c_size_t), "const uint64_t *": ctypes.POINTER(ctypes.c_uint64),
-             "uint64_t *": ctypes.POINTER(ctypes.c_uint64)}
+             "uint64_t *": ctypes.POINTER(ctypes.c_uint64), "uint8_t [MERKLE_DIGEST_SIZE]": ctypes.POINTER(merkle_verifier._DIGEST)}
 
 
 def text_of(*path):
@@ -29,6 +30,8 @@ def in_c(name, kind):
         return []
     if kind in NUMBERS:
         return [f"{NUMBERS[kind]} {name}"]
+    if kind == f"&mut [u8; {merkle_verifier.DIGEST_SIZE}]":
+        return [f"uint8_t {name}[MERKLE_DIGEST_SIZE]"]
     if kind.startswith("&mut "):
         return [f"{NUMBERS[kind[5:]]} *{name}"]
     return [f"const {ITEMS[kind[2:-1]]} *{name}", f"size_t {COUNTS.get(name, name + '_length')}"]
@@ -65,13 +68,14 @@ def sources():
         wrong += compared(f"header and export of {name}", declared.get(name), proved.get(name))
     for name, types in merkle_verifier._CALLS.items():
         given = [part for part in declared[name][1] if part != "void"]
-        kinds = [re.sub(r"\w+$", "", part).strip() for part in given]
+        kinds = [re.sub(r"\w+(\[\w+\])?$", r"\1", part).strip() for part in given]
         wrong += compared(f"the module's {name} and the header's", list(types), [IN_PYTHON.get(kind, kind) for kind in kinds])
     answers = numbers_of(text_of(SOURCES, "answer.rt"), r"^pub\(crate\) const (\w+): u32 = (\d+);$")
     named = numbers_of(header, r"^ +MERKLE_(\w+) = (\d+)")
     wrong += compared("numbers in the header and in answer.rt", named, {**answers, "UNSUPPORTED": 6})
     python = {one.name: one.value for one in [*merkle_verifier.Answer, *merkle_verifier.Reason]}
-    wrong += compared("numbers in the header and in merkle_verifier.py", named, {**python, "READ": 0})
+    written = {"READ": 0, "HASHED": 0, "NO_LOCATION": merkle_verifier.NO_LOCATION}
+    wrong += compared("numbers in the header and in merkle_verifier.py", named, {**python, **written})
     version = numbers_of(header, r"^#define MERKLE_(VERSION|DIGEST_SIZE) (\d+)$")
     return wrong + compared("versions", version, {"VERSION": merkle_verifier.VERSION, "DIGEST_SIZE": merkle_verifier.DIGEST_SIZE})
 

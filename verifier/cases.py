@@ -2,11 +2,14 @@
 import ctypes
 
 import merkle_verifier
-from model import BAGGINGS, FAMILIES, List, TallList, digest, spelled, varint
+from model import BAGGINGS, FAMILIES, List, TallList, digest, number, spelled, varint
 
 # Of elements: with the 8 bytes of the position before them they end around the ends of blocks of SHA-256.
 SIZES = [0, 1, 2, 46, 47, 48, 55, 56, 57, 63, 64, 65, 111, 112, 119, 120, 121, 175, 176, 255, 256, 300]
 MOST = 2**64 - 1
+
+# The checks, and beside each the one over leaf digests.
+OVER_DIGESTS = {"element": "verify_leaf_digest", "range": "range_digests", "scattered": "scattered_digests", "growth": "growth_digests"}
 
 
 def hexed(value):
@@ -16,16 +19,17 @@ def hexed(value):
 class Case:
     """A call: its kind, the family and the bagging, the arguments as the Python module takes them, and its answer.
 
-    Of `read` this is `read` with the two numbers or the name of a reason, of the others the name of an answer. `lengths` are given in the
-    place of those of the elements, by the names of the library: the Python module has no such call."""
+    Of `read` this is `read` with the two numbers or the name of a reason, of `leaf_digest` it is `hashed` with the digest or the name of an
+    answer, and of the others the name of an answer. `lengths` are given in the place of those of the elements, by the names of the library:
+    the Python module has no such call. Nor has it one of digests that are `bare`: of any lengths, or with "" for a location that is left out."""
 
-    def __init__(self, answer, kind, family, bagging, *arguments, lengths=None):
+    def __init__(self, answer, kind, family, bagging, *arguments, lengths=None, bare=False):
         self.answer, self.kind, self.family, self.bagging = answer, kind, family, bagging
-        self.arguments, self.lengths = arguments, lengths
+        self.arguments, self.lengths, self.is_bare = arguments, lengths, bare or lengths is not None
 
     def proof(self):
         """Which of the arguments is the proof."""
-        return {"read": 0, "growth": 5}.get(self.kind, 1)
+        return {"read": 0, "growth": 5, "growth_digests": 5}.get(self.kind, 1)
 
     def but(self, answer, proof):
         """The same with another proof."""
@@ -36,21 +40,25 @@ class Case:
         """What the Python module answers."""
         verifier = verifiers[self.family, self.bagging]
         try:
-            answer = getattr(verifier, self.kind)(*self.arguments) if self.lengths is None else self.joined(verifier)
+            answer = self.joined(verifier) if self.is_bare else getattr(verifier, self.kind)(*self.arguments)
         except merkle_verifier.Malformed as error:
             return error.reason.name.lower() if self.kind == "read" else "malformed"
         except merkle_verifier.MerkleError as error:
             return ERRORS.get(type(error), repr(error))
+        if self.kind == "leaf_digest":
+            return f"hashed {answer.hex()}"
         return "read %d %d" % answer if self.kind == "read" else "accepted" if answer is True else "rejected" if answer is False else repr(answer)
 
     def joined(self, verifier):
-        """What the library answers to the elements with other lengths."""
+        """What the library answers to the elements with other lengths, or to digests that are bare."""
         *before, given = self.arguments
-        elements = [one[1] if isinstance(one, tuple) else one for one in given]
+        parts = [one[1] if isinstance(one, tuple) else one for one in given]
         words = [word for one in before for word in given_to_c(b"".join(one) if isinstance(one, list) else one)]
-        if self.kind == "scattered":
-            words += merkle_verifier._array(ctypes.c_uint64, [location for location, _ in given])
-        words += [*given_to_c(b"".join(elements)), *merkle_verifier._array(ctypes.c_size_t, self.lengths)]
+        if self.kind.startswith("scattered"):
+            words += merkle_verifier._array(ctypes.c_uint64, [location for location, _ in given if location != ""])
+        words += given_to_c(b"".join(parts))
+        if self.lengths is not None:
+            words += merkle_verifier._array(ctypes.c_size_t, self.lengths)
         answer = getattr(verifier._library, f"merkle_verify_{self.kind}")(*verifier._flags, *words)
         return verifier._accepted(answer, given_to_c(self.arguments[self.proof()]))
 
@@ -59,7 +67,8 @@ class Case:
         *before, given = self.arguments
         words = [hexed(b"".join(one)) if isinstance(one, list) else hexed(one) if isinstance(one, bytes) else str(one) for one in before]
         if not isinstance(given, list):
-            return " ".join([self.kind, self.family, *([self.bagging] if self.kind != "read" else []), *words, hexed(given)])
+            bagging = [] if self.kind in ("read", "leaf_digest") else [self.bagging]
+            return " ".join([self.kind, self.family, *bagging, *words, hexed(given)])
         located = [one if isinstance(one, tuple) else (None, one) for one in given]
         count = max(len(located), len(self.lengths or []))
         located += [("" if self.kind == "scattered" else None, b"")] * (count - len(located))
@@ -68,7 +77,7 @@ class Case:
         return " ".join([self.kind, self.family, self.bagging, *words])
 
 
-ERRORS = {merkle_verifier.NotADigest: "not_a_digest", merkle_verifier.WrongLengths: "wrong_lengths",
+ERRORS = {merkle_verifier.NotADigest: "not_a_digest", merkle_verifier.WrongLengths: "wrong_lengths", merkle_verifier.NoLocation: "no_location",
           merkle_verifier.OutOfMemory: "out_of_memory", merkle_verifier.Unsupported: "unsupported"}
 
 
@@ -83,6 +92,11 @@ def some_elements(chance, count):
 
 def others(name, names):
     return names[1 - names.index(name)]
+
+
+def changed(kind, part):
+    """Another element, or another digest where the call is over digests."""
+    return digest(part) if kind in OVER_DIGESTS.values() else part + b"\1"
 
 
 def false_ones(kind, family, bagging, root, proof, *rest):
@@ -117,48 +131,88 @@ def wrong_lengths(kind, family, bagging, *arguments):
         yield Case("rejected", kind, family, bagging, *arguments, lengths=[own[1], own[0], *own[2:]])
 
 
-def range_cases(family, bagging, root, proof, start, proved):
-    """An accepted range, and false ones; of one element as an element too."""
-    changed = [*proved[:-1], proved[-1] + b"\1"]
-    yield Case("accepted", "range", family, bagging, root, proof, start, proved)
-    yield Case("rejected", "range", family, bagging, root, proof, start + 1, proved)
-    yield Case("rejected", "range", family, bagging, root, proof, start + 2**32, proved)
-    yield Case("rejected", "range", family, bagging, root, proof, start, changed)
-    yield Case("rejected", "range", family, bagging, root, proof, start, [])
-    yield from false_ones("range", family, bagging, root, proof, start, proved)
+def false_digests(kind, family, bagging, *arguments):
+    """An accepted call over some digests with bytes that are those of none, and of scattered leaves with more or fewer locations."""
+    *before, given = arguments
+    at = 5 if kind == "growth_digests" else 1
+    malformed = [*before[:at], b"", *before[at + 1 :]]
+    if kind == "verify_leaf_digest":
+        for other in (given[:31], given + b"\0", given + given, b""):
+            yield Case("not_a_digest", kind, family, bagging, *before, other)
+            yield Case("not_a_digest", kind, family, bagging, *malformed, other)
+        return
+    located = kind == "scattered_digests"
+    place, last = given[-1] if located else (None, given[-1])
+    for other in (last[:31], last + b"\0", b"\0"):
+        one = (place, other) if located else other
+        yield Case("not_a_digest", kind, family, bagging, *before, [*given[:-1], one])
+        yield Case("not_a_digest", kind, family, bagging, *malformed, [*given[:-1], one], bare=True)
+    yield Case("accepted", kind, family, bagging, *arguments, bare=True)
+    if located:
+        for other in ([*given[:-1], ("", last)], [*given, (place + 1, b"")], [*given, ("", last)], [("", one) for _, one in given]):
+            yield Case("wrong_lengths", kind, family, bagging, *before, other, bare=True)
+            yield Case("wrong_lengths", kind, family, bagging, *malformed, other, bare=True)
+        yield Case("not_a_digest", kind, family, bagging, *before, [*given[:-1], ("", last[:31])], bare=True)
+        yield Case("not_a_digest", kind, family, bagging, before[0][:31], *before[1:], [*given[:-1], ("", last)], bare=True)
+
+
+def range_cases(family, bagging, root, proof, start, proved, kinds=("range", "element")):
+    """An accepted range, and false ones; of one element as an element too. With other kinds it is one of digests."""
+    kind, of_one = kinds
+    false = [*proved[:-1], changed(kind, proved[-1])]
+    yield Case("accepted", kind, family, bagging, root, proof, start, proved)
+    yield Case("rejected", kind, family, bagging, root, proof, start + 1, proved)
+    yield Case("rejected", kind, family, bagging, root, proof, start + 2**32, proved)
+    yield Case("rejected", kind, family, bagging, root, proof, start, false)
+    yield Case("rejected", kind, family, bagging, root, proof, start, [])
+    yield from false_ones(kind, family, bagging, root, proof, start, proved)
     if len(proved) == 1:
-        yield Case("accepted", "element", family, bagging, root, proof, start, proved[0])
-        yield Case("rejected", "element", family, bagging, root, proof, start, changed[0])
-        yield Case("rejected", "element", family, bagging, root, proof, start + 2**32, proved[0])
-        yield from false_ones("element", family, bagging, root, proof, start, proved[0])
+        yield Case("accepted", of_one, family, bagging, root, proof, start, proved[0])
+        yield Case("rejected", of_one, family, bagging, root, proof, start, false[0])
+        yield Case("rejected", of_one, family, bagging, root, proof, start + 2**32, proved[0])
+        yield from false_ones(of_one, family, bagging, root, proof, start, proved[0])
 
 
-def scattered_cases(family, bagging, root, proof, located):
+def range_digests_cases(family, bagging, root, proof, start, digests):
+    """The same over the digests of the leaves."""
+    yield from range_cases(family, bagging, root, proof, start, digests, ("range_digests", "verify_leaf_digest"))
+    yield from false_digests("range_digests", family, bagging, root, proof, start, digests)
+    if len(digests) == 1:
+        yield from false_digests("verify_leaf_digest", family, bagging, root, proof, start, digests[0])
+
+
+def scattered_cases(family, bagging, root, proof, located, kind="scattered"):
     """Accepted scattered leaves, and false ones."""
-    yield Case("accepted", "scattered", family, bagging, root, proof, located)
-    yield Case("rejected", "scattered", family, bagging, root, proof, located + located[-1:])
-    yield Case("rejected", "scattered", family, bagging, root, proof, [(location, element + b"\1") for location, element in located])
-    yield Case("rejected", "scattered", family, bagging, root, proof, [*located[:-1], (located[-1][0] + 2**32, located[-1][1])])
-    yield Case("rejected", "scattered", family, bagging, root, proof, [])
+    yield Case("accepted", kind, family, bagging, root, proof, located)
+    yield Case("rejected", kind, family, bagging, root, proof, located + located[-1:])
+    yield Case("rejected", kind, family, bagging, root, proof, [(location, changed(kind, part)) for location, part in located])
+    yield Case("rejected", kind, family, bagging, root, proof, [*located[:-1], (located[-1][0] + 2**32, located[-1][1])])
+    yield Case("rejected", kind, family, bagging, root, proof, [])
     if len(located) > 1:
-        yield Case("rejected", "scattered", family, bagging, root, proof, located[::-1])
-        yield Case("rejected", "scattered", family, bagging, root, proof, [located[1], located[0], *located[2:]])
-        yield Case("rejected", "scattered", family, bagging, root, proof, located[1:])
-    yield from false_ones("scattered", family, bagging, root, proof, located)
+        yield Case("rejected", kind, family, bagging, root, proof, located[::-1])
+        yield Case("rejected", kind, family, bagging, root, proof, [located[1], located[0], *located[2:]])
+        yield Case("rejected", kind, family, bagging, root, proof, located[1:])
+    yield from false_ones(kind, family, bagging, root, proof, located)
 
 
-def growth_cases(family, bagging, old, before, old_root, pins, root, proof, added):
+def scattered_digests_cases(family, bagging, root, proof, located):
+    """The same over the digests of the leaves."""
+    yield from scattered_cases(family, bagging, root, proof, located, "scattered_digests")
+    yield from false_digests("scattered_digests", family, bagging, root, proof, located)
+
+
+def growth_cases(family, bagging, old, before, old_root, pins, root, proof, added, kind="growth"):
     """An accepted growth, and false ones."""
-    def case(answer, **changed):
-        call = dict(old=old, before=before, old_root=old_root, pins=pins, root=root, proof=proof, added=added) | changed
-        return Case(answer, "growth", family, bagging, *call.values())
+    def case(answer, **other):
+        call = dict(old=old, before=before, old_root=old_root, pins=pins, root=root, proof=proof, added=added) | other
+        return Case(answer, kind, family, bagging, *call.values())
 
     yield case("accepted")
     yield from (case("rejected", old=old + more) for more in (1, 2**32))
     yield from (case("rejected", before=before + more) for more in (1, 256, 2**32, 2**63))
     yield case("rejected", old_root=digest(old_root))
     yield case("rejected", root=digest(root))
-    yield case("rejected", added=[*added[:-1], added[-1] + b"\1"])
+    yield case("rejected", added=[*added[:-1], changed(kind, added[-1])])
     yield case("rejected", added=[])
     for other in (old_root[:31], old_root + b"\0", b""):
         yield case("not_a_digest", old_root=other, proof=b"")
@@ -176,19 +230,43 @@ def growth_cases(family, bagging, old, before, old_root, pins, root, proof, adde
         yield case("rejected", pins=pins[::-1])
 
 
+def growth_digests_cases(family, bagging, *call):
+    """The same over the digests of the leaves that follow."""
+    yield from growth_cases(family, bagging, *call, "growth_digests")
+    yield from false_digests("growth_digests", family, bagging, *call)
+
+
 def empty_lists(family, bagging):
     """Calls without elements: all are accepted of the empty list alone."""
     root, none = List(family, []).root(bagging, 0, 0), spelled(0, 0, [])
     for other, proof, answer in ((root, none, "accepted"), (digest(root), none, "rejected"), (root, spelled(0, 1, []), "rejected"),
                                  (root, spelled(1, 0, []), "rejected"), (root, spelled(0, 0, [root]), "rejected")):
-        yield Case(answer, "range", family, bagging, other, proof, 0, [])
-        yield Case(answer, "scattered", family, bagging, other, proof, [])
-        yield Case(answer, "growth", family, bagging, 0, 0, root, [], other, proof, [])
+        for kind in ("", "_digests"):
+            yield Case(answer, f"range{kind}", family, bagging, other, proof, 0, [])
+            yield Case(answer, f"scattered{kind}", family, bagging, other, proof, [])
+            yield Case(answer, f"growth{kind}", family, bagging, 0, 0, root, [], other, proof, [])
         yield Case("rejected", "element", family, bagging, other, proof, 0, b"")
-    yield Case("rejected", "range", family, bagging, root, none, 1, [])
-    yield Case("wrong_lengths", "range", family, bagging, root, none, 0, [], lengths=[1])
+        yield Case("rejected", "verify_leaf_digest", family, bagging, other, proof, 0, root)
     one = List(family, [b""])
-    yield Case("rejected", "growth", family, bagging, 1, 0, one.root(bagging, 1, 0), one.pins(1), one.root(bagging, 1, 0), spelled(1, 0, []), [])
+    only = one.root(bagging, 1, 0)
+    for kind in ("", "_digests"):
+        yield Case("rejected", f"range{kind}", family, bagging, root, none, 1, [])
+        yield Case("rejected", f"growth{kind}", family, bagging, 1, 0, only, one.pins(1), only, spelled(1, 0, []), [])
+    yield Case("wrong_lengths", "range", family, bagging, root, none, 0, [], lengths=[1])
+    yield Case("not_a_digest", "range_digests", family, bagging, root, none, 0, [b"\0"], bare=True)
+    yield Case("wrong_lengths", "scattered_digests", family, bagging, root, none, [(0, b"")], bare=True)
+
+
+def hashings(family, bagging, chance):
+    """Leaves that are hashed, and locations that no leaf has."""
+    most, of = 2**62 + (30 if family == "mmb" else 0), TallList(family, 0, {})
+    places = [*range(9), 126, 127, 128, 2**31, 2**32, 2**32 + 1, 2**61, 2**62 - 1, most - 1]
+    places += [chance.randrange(most) for _ in range(len(SIZES) - len(places))]
+    for place, size in zip(places, SIZES):
+        element = chance.randbytes(size)
+        yield Case(f"hashed {digest(number(of.position(place, 0)), element).hex()}", "leaf_digest", family, bagging, place, element)
+    for place in (most, most + 1, 2**63, MOST):
+        yield from (Case("no_location", "leaf_digest", family, bagging, place, element) for element in (b"", b"ann"))
 
 
 def readings(family, bagging):
@@ -222,34 +300,45 @@ def tall_lists(family, bagging, chance):
         of = TallList(family, leaves, elements, old)
         inactive, before = chance.randrange(len(of.peaks(leaves)) + 1), chance.randrange(len(of.peaks(old)) + 1)
         root, two = of.root(bagging, leaves, inactive), [elements[old], elements[old + 1]]
+        digests = {place: of.hash(place, 0) for place in places}
         for start, proved in ((old, two), (places[-1], [elements[places[-1]]])):
             proof = of.range(bagging, inactive, start, len(proved))
             yield from range_cases(family, bagging, root, proof, start, proved)
+            yield from range_digests_cases(family, bagging, root, proof, start, [digests[start + i] for i in range(len(proved))])
+            yield from (Case(f"hashed {digests[start + i].hex()}", "leaf_digest", family, bagging, start + i, one) for i, one in enumerate(proved))
             yield Case(f"read {leaves} {inactive}", "read", family, bagging, proof)
-        yield from scattered_cases(family, bagging, root, of.scattered(inactive, places), list(elements.items()))
-        proof = of.range(bagging, inactive, old, 2)
-        yield from growth_cases(family, bagging, old, before, of.root(bagging, old, before), of.pins(old), root, proof, two)
+        proof = of.scattered(inactive, places)
+        yield from scattered_cases(family, bagging, root, proof, list(elements.items()))
+        yield from scattered_digests_cases(family, bagging, root, proof, list(digests.items()))
+        call = old, before, of.root(bagging, old, before), of.pins(old), root, of.range(bagging, inactive, old, 2)
+        yield from growth_cases(family, bagging, *call, two)
+        yield from growth_digests_cases(family, bagging, *call, [digests[old], digests[old + 1]])
 
 
 def long_lists(family, bagging, chance):
     """A list of 300 leaves: proofs with many elements, and of many digests; some of its proofs with lengths that are wrong."""
     elements = some_elements(chance, 300)
     of, grown = TallList(family, 300, dict(enumerate(elements))), TallList(family, 300, dict(enumerate(elements)), 41)
-    root = of.root(bagging, 300, 2)
+    root, digests = of.root(bagging, 300, 2), [of.hash(place, 0) for place in range(300)]
     for start, count in ((0, 300), (1, 299), (127, 130), (299, 1), (5, 3)):
         proof = of.range(bagging, 2, start, count)
         yield Case("accepted", "range", family, bagging, root, proof, start, elements[start : start + count])
         yield Case("read 300 2", "read", family, bagging, proof)
         yield from wrong_lengths("range", family, bagging, root, proof, start, elements[start : start + count])
+        yield from false_digests("range_digests", family, bagging, root, proof, start, digests[start : start + count])
     for places in (range(0, 300, 2), range(0, 300, 9), range(298, 300), range(300)):
         located = [(place, elements[place]) for place in places]
         yield Case("accepted", "scattered", family, bagging, root, of.scattered(2, places), located)
         yield from wrong_lengths("scattered", family, bagging, root, of.scattered(2, places), located)
+        at = [(place, digests[place]) for place in places]
+        yield from false_digests("scattered_digests", family, bagging, root, of.scattered(2, places), at)
     call = 41, 1, grown.root(bagging, 41, 1), grown.pins(41), root, grown.range(bagging, 2, 41, 259), elements[41:]
     yield Case("accepted", "growth", family, bagging, *call)
     part = 41, 1, grown.root(bagging, 41, 1), grown.pins(41), root, grown.range(bagging, 2, 41, 7), elements[41:48]
     yield Case("accepted", "growth", family, bagging, *part)
     yield from wrong_lengths("growth", family, bagging, *part)
+    yield from false_digests("growth_digests", family, bagging, *call[:-1], digests[41:])
+    yield from false_digests("growth_digests", family, bagging, *part[:-1], digests[41:48])
 
 
 def borders(chance):
@@ -257,6 +346,7 @@ def borders(chance):
     for family in FAMILIES:
         for bagging in BAGGINGS:
             yield from empty_lists(family, bagging)
+            yield from hashings(family, bagging, chance)
             yield from readings(family, bagging)
             yield from tall_lists(family, bagging, chance)
             yield from long_lists(family, bagging, chance)

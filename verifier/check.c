@@ -8,11 +8,16 @@
  *     range FAMILY BAGGING ROOT PROOF START ELEMENT..
  *     scattered FAMILY BAGGING ROOT PROOF LOCATION:ELEMENT..
  *     growth FAMILY BAGGING OLD_LEAVES OLD_INACTIVE OLD_ROOT PINS ROOT PROOF ELEMENT..
+ *     verify_leaf_digest FAMILY BAGGING ROOT PROOF LOCATION DIGEST
+ *     range_digests FAMILY BAGGING ROOT PROOF START DIGEST..
+ *     scattered_digests FAMILY BAGGING ROOT PROOF LOCATION:DIGEST..
+ *     growth_digests FAMILY BAGGING OLD_LEAVES OLD_INACTIVE OLD_ROOT PINS ROOT PROOF DIGEST..
+ *     leaf_digest FAMILY LOCATION ELEMENT
  *     read FAMILY PROOF
  *
- * FAMILY is mmr or mmb, BAGGING forward or backward. It answers each by a line: the name of the answer, and for `read` the two numbers.
- * ELEMENT may end with /LENGTH, which is given in the place of its length, or with /-, so that none is given, and LOCATION may be left out:
- * so lines can tell of lengths that do not add up. What is no such line ends the program with the status 2.
+ * FAMILY is mmr or mmb, BAGGING forward or backward. It answers each by a line: the name of the answer, for `leaf_digest` the digest too, and
+ * for `read` the two numbers. ELEMENT may end with /LENGTH, which is given in the place of its length, or with /-, so that none is given, and
+ * LOCATION may be left out: so lines can tell of lengths that do not add up. What is no such line ends the program with the status 2.
  */
 #include "merkle_verifier.h"
 
@@ -27,7 +32,7 @@ struct bytes {
     size_t length;
 };
 
-/* The elements of a line, in one buffer, with their lengths and locations. */
+/* The elements or leaf digests of a line, in one buffer, with their lengths and locations. */
 struct elements {
     struct bytes joined;
     size_t *lengths;
@@ -63,16 +68,18 @@ static uint64_t number(const char *word) {
     return value;
 }
 
+static bool is(const char *word, const char *other) { return strcmp(word, other) == 0; }
+
 /* Which of two words a word is. */
 static bool is_second(const char *word, const char *first, const char *second) {
-    if (strcmp(word, first) != 0 && strcmp(word, second) != 0) give_up("a family or a bagging is unknown");
-    return strcmp(word, second) == 0;
+    if (!is(word, first) && !is(word, second)) give_up("a family or a bagging is unknown");
+    return is(word, second);
 }
 
 /* How many bytes a word spells. */
 static size_t spelled(const char *word) {
     size_t digits = strlen(word);
-    if (strcmp(word, "-") == 0) return 0;
+    if (is(word, "-")) return 0;
     if (digits == 0 || digits % 2 != 0) give_up("a word has an odd number of digits");
     return digits / 2;
 }
@@ -106,7 +113,7 @@ static struct elements to_elements(char **words, size_t count, bool are_located)
         char *length = cut(element, '/');
         size_t size = spelled(element);
         if (!length) elements.lengths[elements.count++] = size;
-        else if (strcmp(length, "-") != 0) elements.lengths[elements.count++] = (size_t)number(length);
+        else if (!is(length, "-")) elements.lengths[elements.count++] = (size_t)number(length);
         elements.joined.length += size;
     }
     elements.joined.at = room_for(elements.joined.length, 1);
@@ -157,11 +164,34 @@ static void read_proof(char **words) {
     free(proof.at);
 }
 
-static uint32_t checked_growth(bool is_belt, bool is_backward, char **words, const struct elements *added) {
+static void hash_leaf(char **words) {
+    struct bytes element = to_bytes(words[3]);
+    uint8_t digest[MERKLE_DIGEST_SIZE], unwritten[MERKLE_DIGEST_SIZE];
+    memset(digest, 0xa5, sizeof digest);
+    memset(unwritten, 0xa5, sizeof unwritten);
+    uint32_t answer = merkle_leaf_digest(is_second(words[1], "mmr", "mmb"), number(words[2]), element.at, element.length, digest);
+    if (answer == MERKLE_HASHED) {
+        printf("hashed ");
+        for (size_t i = 0; i < sizeof digest; i++) printf("%02x", digest[i]);
+        printf("\n");
+    } else {
+        if (memcmp(digest, unwritten, sizeof digest) != 0) give_up("a digest was written of a leaf that is not hashed");
+        printf("%s\n", answer == MERKLE_NO_LOCATION ? "no_location" : answer == MERKLE_UNSUPPORTED ? name(answer) : "unknown");
+    }
+    free(element.at);
+}
+
+static uint32_t checked_growth(bool is_belt, bool is_backward, char **words, bool are_digests, const struct elements *added) {
     struct bytes old = to_bytes(words[5]), pins = to_bytes(words[6]), root = to_bytes(words[7]), proof = to_bytes(words[8]);
-    uint32_t answer = merkle_verify_growth(is_belt, is_backward, number(words[3]), number(words[4]), old.at, old.length, pins.at,
-                                           pins.length, root.at, root.length, proof.at, proof.length, added->joined.at,
-                                           added->joined.length, added->lengths, added->count);
+    struct bytes all = added->joined;
+    uint64_t leaves = number(words[3]), inactive_peaks = number(words[4]);
+    uint32_t answer;
+    if (are_digests)
+        answer = merkle_verify_growth_digests(is_belt, is_backward, leaves, inactive_peaks, old.at, old.length, pins.at, pins.length, root.at,
+                                              root.length, proof.at, proof.length, all.at, all.length);
+    else
+        answer = merkle_verify_growth(is_belt, is_backward, leaves, inactive_peaks, old.at, old.length, pins.at, pins.length, root.at,
+                                      root.length, proof.at, proof.length, all.at, all.length, added->lengths, added->count);
     free(old.at);
     free(pins.at);
     free(root.at);
@@ -172,15 +202,24 @@ static uint32_t checked_growth(bool is_belt, bool is_backward, char **words, con
 static uint32_t checked(bool is_belt, bool is_backward, char **words, const struct elements *elements) {
     struct bytes root = to_bytes(words[3]), proof = to_bytes(words[4]), all = elements->joined;
     uint32_t answer;
-    if (strcmp(words[0], "element") == 0)
+    if (is(words[0], "element"))
         answer = merkle_verify_element(is_belt, is_backward, root.at, root.length, proof.at, proof.length, number(words[5]), all.at,
                                        all.length);
-    else if (strcmp(words[0], "range") == 0)
+    else if (is(words[0], "verify_leaf_digest"))
+        answer = merkle_verify_leaf_digest(is_belt, is_backward, root.at, root.length, proof.at, proof.length, number(words[5]), all.at,
+                                           all.length);
+    else if (is(words[0], "range"))
         answer = merkle_verify_range(is_belt, is_backward, root.at, root.length, proof.at, proof.length, number(words[5]), all.at,
                                      all.length, elements->lengths, elements->count);
-    else
+    else if (is(words[0], "range_digests"))
+        answer = merkle_verify_range_digests(is_belt, is_backward, root.at, root.length, proof.at, proof.length, number(words[5]), all.at,
+                                             all.length);
+    else if (is(words[0], "scattered"))
         answer = merkle_verify_scattered(is_belt, is_backward, root.at, root.length, proof.at, proof.length, elements->locations,
                                          elements->location_count, all.at, all.length, elements->lengths, elements->count);
+    else
+        answer = merkle_verify_scattered_digests(is_belt, is_backward, root.at, root.length, proof.at, proof.length, elements->locations,
+                                                 elements->location_count, all.at, all.length);
     free(root.at);
     free(proof.at);
     return answer;
@@ -188,17 +227,23 @@ static uint32_t checked(bool is_belt, bool is_backward, char **words, const stru
 
 static void answer_words(char **words, size_t count) {
     const char *kind = count ? words[0] : "";
-    if (count == 3 && strcmp(kind, "read") == 0) {
+    if (count == 3 && is(kind, "read")) {
         read_proof(words);
         return;
     }
-    bool is_element = strcmp(kind, "element") == 0, is_range = strcmp(kind, "range") == 0;
-    bool is_growth = strcmp(kind, "growth") == 0, is_scattered = strcmp(kind, "scattered") == 0;
+    if (count == 4 && is(kind, "leaf_digest")) {
+        hash_leaf(words);
+        return;
+    }
+    bool is_one = is(kind, "element") || is(kind, "verify_leaf_digest"), is_range = is(kind, "range") || is(kind, "range_digests");
+    bool is_growth = is(kind, "growth") || is(kind, "growth_digests"), is_scattered = is(kind, "scattered") || is(kind, "scattered_digests");
     size_t before = is_growth ? 9 : is_scattered ? 5 : 6;
-    if (!(is_element || is_range || is_growth || is_scattered) || count < before || (is_element && count != 7)) give_up("a line is none of these");
+    if (!(is_one || is_range || is_growth || is_scattered) || count < before || (is_one && count != 7)) give_up("a line is none of these");
     bool is_belt = is_second(words[1], "mmr", "mmb"), is_backward = is_second(words[2], "forward", "backward");
     struct elements elements = to_elements(words + before, count - before, is_scattered);
-    printf("%s\n", name(is_growth ? checked_growth(is_belt, is_backward, words, &elements) : checked(is_belt, is_backward, words, &elements)));
+    bool are_digests = is(kind, "growth_digests");
+    printf("%s\n", name(is_growth ? checked_growth(is_belt, is_backward, words, are_digests, &elements)
+                                  : checked(is_belt, is_backward, words, &elements)));
     free(elements.joined.at);
     free(elements.lengths);
     free(elements.locations);

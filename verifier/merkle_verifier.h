@@ -1,19 +1,23 @@
 /* Checks of Merkle proofs with SHA-256, proved: where memory is granted, the answer is MERKLE_ACCEPTED exactly for the proofs that
  * Ruvtsake's checks accept.
  *
- * Answers. Each call answers a number: 0 is accepted, or read, and every other number is not, so a check is asked in this form, and never
- * as a truth value:
+ * Answers. Each call answers a number: 0 is accepted, read or hashed, and every other number is not, so a check is asked in this form, and
+ * never as a truth value:
  *
  *     if (merkle_verify_element(..) == MERKLE_ACCEPTED)
  *
  * Where several numbers apply, it is that of the first thing that is wrong: the processor; the root, then of growth the old root and the
- * pins; the lengths; the bytes of the proof; and then what the check itself says. MERKLE_OUT_OF_MEMORY can come in the place of each after
- * the first.
+ * pins; the lengths, or the leaf digests and then how many there are; the bytes of the proof; and then what the check itself says.
+ * MERKLE_OUT_OF_MEMORY can come in the place of each after the first.
  *
  * A proof shows that elements are leaves of the list behind a root. Its bytes are those that `Proof::write` of the library and the
  * program `merkle` write (docs/FORMATS.md). Two flags say what the root was made with: `is_belt` is false for a Merkle Mountain Range
  * and true for a Mountain Belt; `is_backward` is false for forward and true for backward folding of the peaks. From a language without
  * `bool` a flag is a byte, 0 or 1, and no other.
+ *
+ * Leaf digests. Each check of elements has one beside it for those who keep the digests of leaves in the place of the elements. They are
+ * given as bytes, 32 each, one after another. A leaf's digest is what merkle_leaf_digest writes. These checks hash nodes and peaks alone, so
+ * the caller vouches for what was hashed to a digest.
  *
  * Pointers. What is given as a pointer and a length is read only, and may be anything. The length of bytes is in bytes, that of other
  * arrays in their items. Where the length is 0 the pointer may be null; else it is aligned for its type. What is written through a pointer
@@ -23,8 +27,8 @@
  * signal handler nor from the forked child of a process with threads. It requests memory by malloc and realloc, and frees it; where a
  * request is refused, it answers MERKLE_OUT_OF_MEMORY.
  *
- * Bytes from strangers. Time and memory grow linearly with the bytes of the proof and of the elements, and have no other limit. The honest
- * proof of one element has at most 30 + 32 * 122 bytes, and that of n elements, one after another or scattered, at most
+ * Bytes from strangers. Time and memory grow linearly with the bytes of the proof, the elements and the digests, and have no other limit.
+ * The honest proof of one element has at most 30 + 32 * 122 bytes, and that of n elements, one after another or scattered, at most
  * 30 + 32 * 122 * n: whoever reads proofs from others refuses longer ones unread.
  *
  * Platform. Linux on x86-64, with SSE4.2 (x86-64-v2: most processors from 2011 on, but virtual ones may lack it), and 32 KB of stack. On
@@ -57,8 +61,9 @@ enum merkle_answer {
     MERKLE_ACCEPTED = 0,       /* the proof is accepted */
     MERKLE_REJECTED = 1,       /* the proof is not accepted */
     MERKLE_MALFORMED = 2,      /* the bytes of the proof encode none, or others follow: merkle_read_proof tells why */
-    MERKLE_NOT_A_DIGEST = 3,   /* a root has not 32 bytes, or pins have not 32 bytes each */
-    MERKLE_WRONG_LENGTHS = 4,  /* the lengths of the elements do not add up to that of their buffer, or are not as many as the locations */
+    MERKLE_NOT_A_DIGEST = 3,   /* a root or a leaf digest has not 32 bytes, or pins or leaf digests have not 32 bytes each */
+    MERKLE_WRONG_LENGTHS = 4,  /* the lengths of the elements do not add up to that of their buffer, or they, or the leaf digests, are not
+                                * as many as the locations */
     MERKLE_OUT_OF_MEMORY = 5,  /* a request for memory was refused: nothing is known of the proof */
     MERKLE_UNSUPPORTED = 6     /* the processor lacks instructions that the library needs: nothing is known of the proof */
 };
@@ -70,6 +75,12 @@ enum merkle_reading {
     MERKLE_INVALID_VARINT = 17,  /* one of the three numbers is not in its shortest form, or exceeds 64 bits */
     MERKLE_INVALID = 18,         /* the leaf count exceeds that of the family */
     MERKLE_TRAILING = 20         /* bytes follow those of the proof */
+};
+
+/* What merkle_leaf_digest answers, beside MERKLE_UNSUPPORTED. */
+enum merkle_hashing {
+    MERKLE_HASHED = 0,       /* the digest is written */
+    MERKLE_NO_LOCATION = 32  /* no leaf of the family has that location */
 };
 
 /* Whether `element` is the leaf at `location`, from 0 on, of the list behind `root`.
@@ -110,6 +121,37 @@ MERKLE_CALL uint32_t merkle_verify_growth(bool is_belt, bool is_backward, uint64
                                           const uint8_t *old_root, size_t old_root_length, const uint8_t *pins, size_t pins_length,
                                           const uint8_t *root, size_t root_length, const uint8_t *proof, size_t proof_length,
                                           const uint8_t *elements, size_t elements_length, const size_t *lengths, size_t count);
+
+/* Whether `digest` is that of the leaf at `location` of the list behind `root`.
+ *
+ * This and the three checks below answer what those above answer of elements with these digests, with MERKLE_NOT_A_DIGEST in the place of
+ * MERKLE_WRONG_LENGTHS where the digests have not 32 bytes each. What MERKLE_ACCEPTED means is the same, of the digests. */
+MERKLE_CALL uint32_t merkle_verify_leaf_digest(bool is_belt, bool is_backward, const uint8_t *root, size_t root_length, const uint8_t *proof,
+                                               size_t proof_length, uint64_t location, const uint8_t *digest, size_t digest_length);
+
+/* Whether the digests are those of the leaves from `start` on, one after another, of the list behind `root`. */
+MERKLE_CALL uint32_t merkle_verify_range_digests(bool is_belt, bool is_backward, const uint8_t *root, size_t root_length,
+                                                 const uint8_t *proof, size_t proof_length, uint64_t start, const uint8_t *digests,
+                                                 size_t digests_length);
+
+/* Whether the digests are those of leaves, each at its location, of the list behind `root`. The locations ascend, each once, and there are
+ * as many as digests. */
+MERKLE_CALL uint32_t merkle_verify_scattered_digests(bool is_belt, bool is_backward, const uint8_t *root, size_t root_length,
+                                                     const uint8_t *proof, size_t proof_length, const uint64_t *locations,
+                                                     size_t location_count, const uint8_t *digests, size_t digests_length);
+
+/* Whether the list behind `root` begins with the `old_leaves` leaves behind `old_root`, followed by leaves with these digests. */
+MERKLE_CALL uint32_t merkle_verify_growth_digests(bool is_belt, bool is_backward, uint64_t old_leaves, uint64_t old_inactive_peaks,
+                                                  const uint8_t *old_root, size_t old_root_length, const uint8_t *pins, size_t pins_length,
+                                                  const uint8_t *root, size_t root_length, const uint8_t *proof, size_t proof_length,
+                                                  const uint8_t *digests, size_t digests_length);
+
+/* Writes the digest of the leaf at `location`, from 0 on, with this element, and answers MERKLE_HASHED; or answers MERKLE_NO_LOCATION where
+ * no leaf of the family has that location, and writes nothing. It is the same with both ways of folding.
+ *
+ * `digest` is a place of 32 bytes, and not null. */
+MERKLE_CALL uint32_t merkle_leaf_digest(bool is_belt, uint64_t location, const uint8_t *element, size_t element_length,
+                                        uint8_t digest[MERKLE_DIGEST_SIZE]);
 
 /* Writes the leaf count and the number of inactive peaks that the bytes of a proof name, and answers MERKLE_READ; or answers why the bytes
  * encode no proof, and writes nothing. Nothing is checked against a root: what a proof names is the list's once a check has accepted it.

@@ -7,14 +7,17 @@
         ...     # the second leaf behind the root is `bob`
 
 A Verifier is for one family and one folding of the peaks: those that the roots were made with. Any number of threads may use one. Roots,
-proofs, pins and elements are bytes, bytearrays or memoryviews, with what docs/FORMATS.md says; where several are given, any iterable.
+proofs, pins, elements and digests are bytes, bytearrays or memoryviews, with what docs/FORMATS.md says; where several are given, any
+iterable. Who keeps the digests of leaves, as leaf_digest hashes them, and not the elements, has each check over digests too.
 
 Each check returns True for a proof that is accepted: it is the honest one of each list with that root, or else the check and the list hash
 two different inputs to the same digest. It returns False for one that is rejected. Where there is nothing to check it raises
 
     Malformed       the bytes of the proof encode none; its `reason` is a Reason
-    NotADigest      a root or a pin has not 32 bytes
-    WrongLengths    the library was given lengths of elements that do not add up, which this module never does
+    NotADigest      a root, a pin or a leaf digest has not 32 bytes
+    WrongLengths    the library was given lengths of elements that do not add up, or more or fewer locations than digests, which this module
+                    never does
+    NoLocation      no leaf of the family has the location that is to be hashed
     OutOfMemory     a request for memory was refused
     Unsupported     the processor lacks SSE4.2
 
@@ -27,16 +30,23 @@ import typing
 
 VERSION = 1
 DIGEST_SIZE = 32
+NO_LOCATION = 32  # what the library answers where no leaf of the family has a location
 
 _BYTES = (ctypes.c_char_p, ctypes.c_size_t)
 _FLAGS = (ctypes.c_bool, ctypes.c_bool)
 _SIZES = (ctypes.POINTER(ctypes.c_size_t), ctypes.c_size_t)
 _WORDS = (ctypes.POINTER(ctypes.c_uint64), ctypes.c_size_t)
+_DIGEST = ctypes.c_uint8 * DIGEST_SIZE
 _CALLS = {
     "merkle_verify_element": (*_FLAGS, *_BYTES, *_BYTES, ctypes.c_uint64, *_BYTES),
     "merkle_verify_range": (*_FLAGS, *_BYTES, *_BYTES, ctypes.c_uint64, *_BYTES, *_SIZES),
     "merkle_verify_scattered": (*_FLAGS, *_BYTES, *_BYTES, *_WORDS, *_BYTES, *_SIZES),
     "merkle_verify_growth": (*_FLAGS, ctypes.c_uint64, ctypes.c_uint64, *_BYTES, *_BYTES, *_BYTES, *_BYTES, *_BYTES, *_SIZES),
+    "merkle_verify_leaf_digest": (*_FLAGS, *_BYTES, *_BYTES, ctypes.c_uint64, *_BYTES),
+    "merkle_verify_range_digests": (*_FLAGS, *_BYTES, *_BYTES, ctypes.c_uint64, *_BYTES),
+    "merkle_verify_scattered_digests": (*_FLAGS, *_BYTES, *_BYTES, *_WORDS, *_BYTES),
+    "merkle_verify_growth_digests": (*_FLAGS, ctypes.c_uint64, ctypes.c_uint64, *_BYTES, *_BYTES, *_BYTES, *_BYTES, *_BYTES),
+    "merkle_leaf_digest": (ctypes.c_bool, ctypes.c_uint64, *_BYTES, ctypes.POINTER(_DIGEST)),
     "merkle_read_proof": (ctypes.c_bool, *_BYTES, ctypes.POINTER(ctypes.c_uint64), ctypes.POINTER(ctypes.c_uint64)),
     "merkle_version": (),
 }
@@ -90,11 +100,15 @@ class Malformed(MerkleError):
 
 
 class NotADigest(MerkleError):
-    """A root or a pin has not 32 bytes."""
+    """A root, a pin or a leaf digest has not 32 bytes."""
 
 
 class WrongLengths(MerkleError):
-    """The lengths of the elements do not add up to that of their buffer, or are not as many as the locations."""
+    """The lengths of the elements do not add up to that of their buffer, or they, or the digests, are not as many as the locations."""
+
+
+class NoLocation(MerkleError):
+    """No leaf of the family has that location."""
 
 
 class OutOfMemory(MerkleError, MemoryError):
@@ -150,9 +164,45 @@ class Verifier:
         Others may follow the elements: these are all that was added exactly if `read(proof).leaves` is `old_leaves` and their count.
         There is at least one element: who asks again and again compares the roots first.
         """
-        old = _number(old_leaves), _number(old_inactive_peaks), *_bytes(old_root), *_pins(pins)
+        old = _number(old_leaves), _number(old_inactive_peaks), *_bytes(old_root), *_digests(pins)
         root, proof = _bytes(root), _bytes(proof)
         return self._accepted(self._library.merkle_verify_growth(*self._flags, *old, *root, *proof, *_joined(elements)), proof)
+
+    def leaf_digest(self, location, element):
+        """The digest of the leaf at `location`, from 0 on, with this element: what the checks below are given."""
+        digest = _DIGEST()
+        answer = self._library.merkle_leaf_digest(self._flags[0], _number(location), *_bytes(element), ctypes.byref(digest))
+        if answer != 0:
+            raise self._refusal(answer)
+        return bytes(digest)
+
+    def verify_leaf_digest(self, root, proof, location, digest):
+        """Whether `digest` is that of the leaf at `location` of the list behind `root`."""
+        root, proof = _bytes(root), _bytes(proof)
+        answer = self._library.merkle_verify_leaf_digest(*self._flags, *root, *proof, _number(location), *_bytes(digest))
+        return self._accepted(answer, proof)
+
+    def range_digests(self, root, proof, start, digests):
+        """Whether `digests` are those of the leaves from `start` on, one after another, of the list behind `root`."""
+        root, proof = _bytes(root), _bytes(proof)
+        answer = self._library.merkle_verify_range_digests(*self._flags, *root, *proof, _number(start), *_digests(digests))
+        return self._accepted(answer, proof)
+
+    def scattered_digests(self, root, proof, located):
+        """Whether the digests are those of leaves of the list behind `root`; `located` has pairs of a location and a digest, ascending."""
+        root, proof, located = _bytes(root), _bytes(proof), [(location, digest) for location, digest in located]
+        locations = _array(ctypes.c_uint64, [location for location, _ in located])
+        digests = _digests(digest for _, digest in located)
+        return self._accepted(self._library.merkle_verify_scattered_digests(*self._flags, *root, *proof, *locations, *digests), proof)
+
+    def growth_digests(self, old_leaves, old_inactive_peaks, old_root, pins, root, proof, digests):
+        """Whether the list behind `root` begins with the `old_leaves` leaves behind `old_root`, followed by leaves with these digests.
+
+        All else is as `growth` says.
+        """
+        old = _number(old_leaves), _number(old_inactive_peaks), *_bytes(old_root), *_digests(pins)
+        root, proof = _bytes(root), _bytes(proof)
+        return self._accepted(self._library.merkle_verify_growth_digests(*self._flags, *old, *root, *proof, *_digests(digests)), proof)
 
     def read(self, proof):
         """The leaf count and the number of inactive peaks that a proof's bytes name; nothing is checked against a root."""
@@ -182,9 +232,11 @@ class Verifier:
         if answer in [reason.value for reason in Reason]:
             return Malformed(Reason(answer))
         if answer == Answer.NOT_A_DIGEST.value:
-            return NotADigest(f"a root or a pin has not {DIGEST_SIZE} bytes")
+            return NotADigest(f"a root, a pin or a leaf digest has not {DIGEST_SIZE} bytes")
         if answer == Answer.WRONG_LENGTHS.value:
             return WrongLengths("the lengths of the elements do not add up")
+        if answer == NO_LOCATION:
+            return NoLocation("no leaf of the family has that location")
         if answer == Answer.OUT_OF_MEMORY.value:
             return OutOfMemory("a request for memory was refused")
         if answer == Answer.UNSUPPORTED.value:
@@ -221,9 +273,9 @@ def _joined(elements):
     return *_bytes(b"".join(elements)), *_array(ctypes.c_size_t, map(len, elements))
 
 
-def _pins(pins):
-    """The pins in one buffer."""
-    pins = [_copied(pin) for pin in pins]
-    if any(len(pin) != DIGEST_SIZE for pin in pins):
-        raise NotADigest(f"a pin has not {DIGEST_SIZE} bytes")
-    return _bytes(b"".join(pins))
+def _digests(digests):
+    """Pins, or leaf digests, in one buffer."""
+    digests = [_copied(digest) for digest in digests]
+    if any(len(digest) != DIGEST_SIZE for digest in digests):
+        raise NotADigest(f"a pin or a leaf digest has not {DIGEST_SIZE} bytes")
+    return _bytes(b"".join(digests))

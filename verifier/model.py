@@ -67,10 +67,11 @@ class List:
     the newest pair of equal height, if there is one, once a leaf."""
 
     def __init__(self, family, elements):
-        self.family, self.elements, self.size, self.peaks_after = family, elements, 0, [[]]
+        self.family, self.elements, self.size, self.peaks_after, self.leaf_digests = family, elements, 0, [[]], []
         for location, element in enumerate(elements):
             peaks = list(self.peaks_after[-1])
             peaks.append(self.node(0, location, element))
+            self.leaf_digests.append(peaks[-1].hash)
             while pairs := [i for i in range(len(peaks) - 1) if peaks[i].height == peaks[i + 1].height]:
                 i = pairs[-1]
                 left, right = peaks[i : i + 2]

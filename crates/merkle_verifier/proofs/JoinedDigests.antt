@@ -1,7 +1,6 @@
 -- Digests that are read one after another.
 use Rattle.std.proofs.Common.{◌≡◌, ℕ, ◌+◌, ◌<◌, List, [], ◌∷◌, ◌++◌, length, arith, sym, ap, ◌∙◌, append-nil, append_assoc, length-append}
 use Rattle.std.proofs.lemmas.Grind.{flat_map-append}
-use Rattle.std.specs.List.{flat_map}
 use Rattle.merkle_codec.specs.ProofLaws.{length-digests}
 use Rattle.merkle_sha256.specs.declared.sha256.Sha256Digest.{Sha256Digest}
 use Rattle.merkle_verifier.specs.Inputs.{digest_bytes, joined_digests}

@@ -1,12 +1,9 @@
 -- What is given to a check as bytes.
-use Rattle.std.specs.Prelude.{◌≡◌, ℕ, suc, ◌^◌, ◌<◌, ◌≤◌, List, [], ◌∷◌, length, map}
-use Rattle.std.specs.Borrow.{Bor}
+use Rattle.std.specs.Prelude.{◌≡◌, ℕ, ◌^◌, ◌<◌, ◌≤◌, List, [], ◌∷◌, length, map}
 use Rattle.std.specs.List.{flat_map}
 use Rattle.merkle_base.specs.Forest.{size}
 use Rattle.merkle_base.specs.Hashing.{Hashing}
-use Rattle.merkle_claim_theory.specs.Multiproof.{MultiInput}
 use Rattle.merkle_codec.specs.ProofSpelling.{parts_spelling}
-use Rattle.merkle_base.specs.Scheme.{Scheme}
 use Rattle.merkle_sha256.specs.declared.sha256.Sha256Digest.{Sha256Digest}
 
 -- the bytes of a digest
@@ -28,23 +25,14 @@ pub record IsSpelled (max_leaves : ℕ) (proof : List ℕ) (leaves inactive : �
 abbrev pub IsCut : (lengths bytes : List ℕ) → (parts : List (List ℕ)) → Type 0
 IsCut lengths bytes parts = (map length parts ≡ lengths) × (flat_map (λ p. p) parts ≡ bytes)
 
--- each part of a buffer, paired with its location
-abbrev pub located : List ℕ → List (Bor (List ℕ)) → List (Bor (List ℕ) × ℕ)
+-- each part, paired with its location
+abbrev pub located : {A : Type 0} → List ℕ → List A → List (A × ℕ)
 located [] parts = []
 located (i ∷ is) [] = []
 located (i ∷ is) (part ∷ parts) = (part, i) ∷ located is parts
 
--- the leaf digest of each element with its location
-abbrev pub located_leaves : {D : Type 0} → Hashing D → (List ℕ → List ℕ) → List ℕ → List (List ℕ) → List (ℕ × D)
-located_leaves h rule [] elements = []
-located_leaves h rule (i ∷ is) [] = []
-located_leaves h rule (i ∷ is) (element ∷ elements) = (i, h.leaf (size rule i) element) ∷ located_leaves h rule is elements
-
--- the input of the check of scattered leaves: the numbers and digests of a proof, and elements at these locations
-abbrev pub located_input : {D : Type 0} → Scheme D → (locations : List ℕ) → (elements : List (List ℕ)) → (leaves inactive : ℕ) → List D → MultiInput D
-located_input s locations elements leaves inactive digests = record {
-  leaves = leaves;
-  inactive = inactive;
-  digests = digests;
-  elements = located_leaves s.hashing s.rule locations elements;
-}
+-- the leaf digest of each element, at its location
+abbrev pub leaf_digests_at : {D : Type 0} → Hashing D → (List ℕ → List ℕ) → List ℕ → List (List ℕ) → List D
+leaf_digests_at h rule [] elements = []
+leaf_digests_at h rule (i ∷ is) [] = []
+leaf_digests_at h rule (i ∷ is) (element ∷ elements) = h.leaf (size rule i) element ∷ leaf_digests_at h rule is elements

@@ -1,5 +1,5 @@
-//! The numbers that the calls answer, as `verifier/merkle_verifier.h` names them: 0 is accepted, or read, and every other number
-//! is not.
+//! The numbers that the calls answer, as `verifier/merkle_verifier.h` names them: 0 is accepted, read or hashed, and every other
+//! number is not.
 
 /// The proof is accepted.
 pub(crate) const ACCEPTED: u32 = 0;
@@ -10,10 +10,11 @@ pub(crate) const REJECTED: u32 = 1;
 /// The bytes of the proof encode none, or others follow.
 pub(crate) const MALFORMED: u32 = 2;
 
-/// The bytes of a root, or of pins, are not those of digests.
+/// The bytes of a root, of pins, or of the digests of leaves, are not those of digests.
 pub(crate) const NOT_A_DIGEST: u32 = 3;
 
-/// The lengths of the elements do not add up to the length of their buffer, or there are not as many as locations.
+/// The lengths of the elements do not add up to the length of their buffer, or there are not as many of them, or of the digests
+/// of leaves, as locations.
 pub(crate) const WRONG_LENGTHS: u32 = 4;
 
 /// A request for memory was refused.
@@ -33,3 +34,9 @@ pub(crate) const INVALID: u32 = 18;
 
 /// Bytes follow those of the proof.
 pub(crate) const TRAILING: u32 = 20;
+
+/// The digest of a leaf is written.
+pub(crate) const HASHED: u32 = 0;
+
+/// No leaf of the family has that location.
+pub(crate) const NO_LOCATION: u32 = 32;

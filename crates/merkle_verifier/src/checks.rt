@@ -132,8 +132,8 @@ pub(crate) fn check_scattered<F: Family>(
     }
 }
 
-// Whether the digests of the peaks give this root.
-fn gives_root<F: Family, H: Hasher<F>>(
+/// Whether the digests of the peaks give this root.
+pub(crate) fn gives_root<F: Family, H: Hasher<F>>(
     hasher: &H,
     root: &H::Digest,
     leaves: Location<F>,

@@ -61,11 +61,11 @@ pub(crate) fn read_digests(
 }
 
 /// Pairs each part with its location. There are as many of both.
-pub(crate) fn locate<'a, F>(
+pub(crate) fn locate<T: Copy, F>(
     alloc: Global,
-    parts: &[&'a [u8]],
+    parts: &[T],
     locations: &[u64],
-) -> Result<Vec<(&'a [u8], Location<F>)>, AllocError>
+) -> Result<Vec<(T, Location<F>)>, AllocError>
     requires { length locations.now ≡ length parts.now }
     ensures { IfOk result (λ all. all.items ≡ located locations.now parts.now) }
 {

@@ -1,13 +1,13 @@
 use Rattle.std.proofs.Common.{◌≡◌, length, sym, ap, subst, refl, inl, inr, rules, ◌∙◌}
 use Rattle.std.specs.Prelude.{IfSome, IsNone}
 use Rattle.merkle_codec.specs.NumberLaws.{lawful_locations}
-use Rattle.merkle_proof.specs.Input.{element_leaves}
+use Rattle.merkle_proof.specs.Input.{digested, multi_digest_input}
 use Rattle.merkle_base.specs.Scheme.{scheme_of}
 use Rattle.merkle_root_theory.specs.Walk.{bytes_of}
 use Rattle.merkle_verifier.specs.Answers.{JudgesMulti, accepted, rejected}
-use Rattle.merkle_verifier.specs.Inputs.{IsCut, located, located_input, located_leaves}
+use Rattle.merkle_verifier.specs.Inputs.{IsCut, leaf_digests_at, located}
 use Rattle.merkle_sha256.specs.PlainHashings.{sha256_hashing}
-use Rattle.merkle_verifier.proofs.Located.{element_leaves-located, input_with}
+use Rattle.merkle_verifier.proofs.Located.{digested-located}
 use Rattle.merkle_verifier.proofs.Spelled.{unread}
 use Rattle.merkle_verifier.proofs.checks.check_scattered.Goals as goal
 
@@ -27,7 +27,7 @@ returns-in-Err-read_proof g c =
     let es = bytes_of c.in-Ok-Some.elements.items in
     let cut : IsCut c.args.elements.now.lengths.now c.args.elements.now.bytes.now es = subst (λ o. IfSome o (λ parts. IsCut c.args.elements.now.lengths.now c.args.elements.now.bytes.now (bytes_of parts.items))) c.in-Ok-Some.field-0-is c.in-Ok-Some.ensures.some in
     let fits = lawful_locations F.rule F.MAX_LEAVES F.MAX_NODES g.met.F.Family.lawful in
-    elim (unread F.MAX_LEAVES fits c.args.proof.now c.in-Err-read_proof.error c.in-Err-read_proof.ensures.err (λ n k ds. JudgesMulti s c.in-Some.root (located_input s c.args.locations.now es n k ds)) c.answer.result c.answer.ensures) [
+    elim (unread F.MAX_LEAVES fits c.args.proof.now c.in-Err-read_proof.error c.in-Err-read_proof.ensures.err (λ n k ds. JudgesMulti s c.in-Some.root (multi_digest_input n k ds (located c.args.locations.now (leaf_digests_at s.hashing s.rule c.args.locations.now es)))) c.answer.result c.answer.ensures) [
       | inl memory ↦ inl memory
       | inr refused ↦ inr (inr (c.in-Some.root, c.in-Some.ensures, inr (same, inr (es, cut, refused))))
     ]
@@ -40,7 +40,7 @@ returns-in-Ok-true g c =
     let es = bytes_of c.in-Ok-Some.elements.items in
     let cut : IsCut c.args.elements.now.lengths.now c.args.elements.now.bytes.now es = subst (λ o. IfSome o (λ parts. IsCut c.args.elements.now.lengths.now c.args.elements.now.bytes.now (bytes_of parts.items))) c.in-Ok-Some.field-0-is c.in-Ok-Some.ensures.some in
     let lent : c.deref-2.result.now ≡ located c.args.locations.now c.in-Ok-Some.elements.items = c.deref-2.ensures.value ∙ c.in-Ok.ensures ∙ ap (located c.args.locations.now) c.deref.ensures.value in
-    let leaves : element_leaves s.hashing s.rule c.deref-2.result.now ≡ located_leaves s.hashing s.rule c.args.locations.now es = ap (element_leaves s.hashing s.rule) lent ∙ element_leaves-located s.hashing s.rule c.args.locations.now c.in-Ok-Some.elements.items in
+    let leaves : digested s.hashing s.rule c.deref-2.result.now ≡ located c.args.locations.now (leaf_digests_at s.hashing s.rule c.args.locations.now es) = ap (digested s.hashing s.rule) lent ∙ digested-located s.hashing s.rule c.args.locations.now c.in-Ok-Some.elements.items in
     let p = c.in-Ok-read_proof.proof in
     let checks = c.in-Ok-true.ensures in
     let is = c.in-Ok-true.field-0-test in
@@ -57,7 +57,7 @@ returns-in-Ok-true g c =
             p.inactive_peaks,
             p.digests.items,
             c.in-Ok-read_proof.ensures.ok,
-            subst (λ ls. JudgesMulti s c.in-Some.root (input_with p.leaves p.inactive_peaks p.digests.items ls) accepted) leaves (inl (refl, checks.exact.0 is, checks.sound is)),
+            subst (λ ls. JudgesMulti s c.in-Some.root (multi_digest_input p.leaves p.inactive_peaks p.digests.items ls) accepted) leaves (inl (refl, checks.exact.0 is, checks.sound is)),
           ),
         ),
       ),
@@ -71,7 +71,7 @@ returns-in-Ok-false g c =
     let es = bytes_of c.in-Ok-Some.elements.items in
     let cut : IsCut c.args.elements.now.lengths.now c.args.elements.now.bytes.now es = subst (λ o. IfSome o (λ parts. IsCut c.args.elements.now.lengths.now c.args.elements.now.bytes.now (bytes_of parts.items))) c.in-Ok-Some.field-0-is c.in-Ok-Some.ensures.some in
     let lent : c.deref-2.result.now ≡ located c.args.locations.now c.in-Ok-Some.elements.items = c.deref-2.ensures.value ∙ c.in-Ok.ensures ∙ ap (located c.args.locations.now) c.deref.ensures.value in
-    let leaves : element_leaves s.hashing s.rule c.deref-2.result.now ≡ located_leaves s.hashing s.rule c.args.locations.now es = ap (element_leaves s.hashing s.rule) lent ∙ element_leaves-located s.hashing s.rule c.args.locations.now c.in-Ok-Some.elements.items in
+    let leaves : digested s.hashing s.rule c.deref-2.result.now ≡ located c.args.locations.now (leaf_digests_at s.hashing s.rule c.args.locations.now es) = ap (digested s.hashing s.rule) lent ∙ digested-located s.hashing s.rule c.args.locations.now c.in-Ok-Some.elements.items in
     let p = c.in-Ok-read_proof.proof in
     let checks = c.in-Ok-false.ensures in
     let not = c.in-Ok-false.field-0-test in
@@ -88,7 +88,7 @@ returns-in-Ok-false g c =
             p.inactive_peaks,
             p.digests.items,
             c.in-Ok-read_proof.ensures.ok,
-            subst (λ ls. JudgesMulti s c.in-Some.root (input_with p.leaves p.inactive_peaks p.digests.items ls) rejected) leaves
+            subst (λ ls. JudgesMulti s c.in-Some.root (multi_digest_input p.leaves p.inactive_peaks p.digests.items ls) rejected) leaves
                 (inr (refl, (λ accepts. search (rules, checks.exact.1 accepts, not)), λ xs k few enough root-is honest. search (rules, checks.honest xs k few enough root-is honest, not))),
           ),
         ),
