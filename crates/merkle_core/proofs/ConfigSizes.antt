@@ -34,6 +34,7 @@ module _ {D : Type 0} (bytes : D → List ℕ) where
     refused_at b e (inr (n, rest, fits, at, h)) = inr (n, rest, fits, at, (h.0, inl h.1))
 
     -- and after them
-    pub refused_after : (b : List ℕ) (e : DecodeError) (ds : List D) (rest : List ℕ) → length ds ≤ limit → length ds < 2 ^ 64 → b ≡ number_spelling (length ds) ++ (flat_map bytes ds ++ rest) → after rest e
+    pub refused_after : (b : List ℕ) (e : DecodeError) (ds : List D) (rest : List ℕ) → length ds ≤ limit → length ds < 2 ^ 64
+        → b ≡ number_spelling (length ds) ++ (flat_map bytes ds ++ rest) → after rest e
         → IsRefusalFrom limit above (IsRefusalFromDigests bytes size Spells after) b e
     refused_after b e ds rest few fits at h = inr (length ds, flat_map bytes ds ++ rest, fits, at, (few, inr (ds, rest, refl, refl, h)))

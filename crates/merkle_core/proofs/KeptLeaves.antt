@@ -11,7 +11,8 @@ use Rattle.merkle_batch_theory.specs.Held.{Held}
 use Rattle.merkle_batch_theory.specs.MemValid.{IsMemValid}
 use Rattle.merkle_batch_theory.proofs.Kept.{kept_from}
 
-pub kept_leaves : {D : Type 0} (rule : List ℕ → List ℕ) (max_leaves boundary leaves : ℕ) (held : Held D) → IsMemValid rule max_leaves boundary leaves held → AreLeavesHeld rule max_leaves (get held.stored) boundary leaves
+pub kept_leaves : {D : Type 0} (rule : List ℕ → List ℕ) (max_leaves boundary leaves : ℕ) (held : Held D)
+    → IsMemValid rule max_leaves boundary leaves held → AreLeavesHeld rule max_leaves (get held.stored) boundary leaves
 kept_leaves rule max_leaves boundary leaves held valid = record {
   bounded = valid.counted.bounded;
   ordered = valid.within;

@@ -36,9 +36,11 @@ pub same_stored : {D : Type 0} (es fs : List (ℕ × D)) (start : ℕ) (nodes : 
 same_stored es fs start nodes e = same_map nat_cmp_total nat_cmp-IsAntisymmetric (stored_of es start nodes) (stored_of fs start nodes)
     (λ q. held es start nodes q ∙ ap (λ o. option_or o (lookup (nat_eq q) (numbered start nodes))) (e q) ∙ sym (held fs start nodes q))
 
-pub stored_made : {D : Type 0} (rule : List ℕ → List ℕ) (b start : ℕ) (pins nodes : List D) (es : List (ℕ × D)) (stored : FinMap nat_cmp D) → ((p : ℕ) → lookup (nat_eq p) es ≡ lookup (nat_eq p) (zip (peak_positions rule b) pins))
+pub stored_made : {D : Type 0} (rule : List ℕ → List ℕ) (b start : ℕ) (pins nodes : List D) (es : List (ℕ × D)) (stored : FinMap nat_cmp D)
+    → ((p : ℕ) → lookup (nat_eq p) es ≡ lookup (nat_eq p) (zip (peak_positions rule b) pins))
     → start ≡ size rule b → stored ≡ stored_of es start nodes → stored ≡ stored_of (zip (peak_positions rule b) pins) (size rule b) nodes
-stored_made rule b start pins nodes es stored made starts is = is ∙ same_stored es (zip (peak_positions rule b) pins) start nodes made ∙ ap (λ (n : ℕ). stored_of (zip (peak_positions rule b) pins) n nodes) starts
+stored_made rule b start pins nodes es stored made starts is = is ∙ same_stored es (zip (peak_positions rule b) pins) start nodes made
+    ∙ ap (λ (n : ℕ). stored_of (zip (peak_positions rule b) pins) n nodes) starts
 
 -- ---- what is held at positions is put in, one by one
 module _ {D : Type 0} (c : Contents D) (p : ℕ) where
@@ -46,7 +48,8 @@ module _ {D : Type 0} (c : Contents D) (p : ℕ) where
   pin_over d e [] = refl
   pin_over d e (q ∷ ps) = one (c.node q) refl (pin_over d e ps)
     where
-      one : (o : Option D) → c.node q ≡ o → option_or (lookup (nat_eq p) (pins_of c ps)) (Some d) ≡ Some d → option_or (lookup (nat_eq p) (elim o as (λ _. List (ℕ × D)) [ Some x ↦ (q, x) ∷ [] | None ↦ [] ] ++ pins_of c ps)) (Some d) ≡ Some d
+      one : (o : Option D) → c.node q ≡ o → option_or (lookup (nat_eq p) (pins_of c ps)) (Some d) ≡ Some d
+          → option_or (lookup (nat_eq p) (elim o as (λ _. List (ℕ × D)) [ Some x ↦ (q, x) ∷ [] | None ↦ [] ] ++ pins_of c ps)) (Some d) ≡ Some d
       one None is more = more
       one (Some x) is more = by_test (λ b. option_or (cond b (Some x) (lookup (nat_eq p) (pins_of c ps))) (Some d) ≡ Some d) (nat_eq p q)
           (λ t. sym is ∙ ap c.node (sym (eqb-true p q t)) ∙ e)
@@ -59,7 +62,8 @@ module _ {D : Type 0} (c : Contents D) (p : ℕ) where
       → option_or (lookup (nat_eq p) (pins_of c ps)) (lookup (nat_eq p) fs) ≡ option_or (lookup (nat_eq p) (pins_of c (q ∷ ps))) (lookup (nat_eq p) es)
   pin_some q d ps es fs e put =
       ap (option_or (lookup (nat_eq p) (pins_of c ps))) put
-      ∙ by_test (λ b. option_or (lookup (nat_eq p) (pins_of c ps)) (cond b (Some d) (lookup (nat_eq p) es)) ≡ option_or (cond b (Some d) (lookup (nat_eq p) (pins_of c ps))) (lookup (nat_eq p) es)) (nat_eq p q)
+      ∙ by_test (λ b. option_or (lookup (nat_eq p) (pins_of c ps)) (cond b (Some d) (lookup (nat_eq p) es))
+      ≡ option_or (cond b (Some d) (lookup (nat_eq p) (pins_of c ps))) (lookup (nat_eq p) es)) (nat_eq p q)
       (λ t. pin_over d (ap c.node (eqb-true p q t) ∙ e) ps)
       (λ t. refl)
       ∙ sym (ap (λ (o : Option D). option_or (lookup (nat_eq p) (elim o as (λ _. List (ℕ × D)) [ Some x ↦ (q, x) ∷ [] | None ↦ [] ] ++ pins_of c ps)) (lookup (nat_eq p) es)) e)
@@ -130,7 +134,8 @@ module _ {D : Type 0} where
     other : (p : ℕ) → list_any (nat_eq p) qs ≡ true → nat_eq p q ≡ false
     other p e = not_true (nat_eq p q) (λ t. false≢true (sym (later w.apart).0 ∙ ap (λ k. list_any (nat_eq k) qs) (sym (eqb-true p q t)) ∙ e))
 
-    module _ (fs : List (ℕ × D)) (d : D) (here : drop (length es) ds ≡ d ∷ drop (suc (length es)) ds) (put : (p : ℕ) → lookup (nat_eq p) fs ≡ cond (nat_eq p q) (Some d) (lookup (nat_eq p) es)) (longer : length fs ≡ suc (length es)) where
+    module _ (fs : List (ℕ × D)) (d : D) (here : drop (length es) ds ≡ d ∷ drop (suc (length es)) ds)
+        (put : (p : ℕ) → lookup (nat_eq p) fs ≡ cond (nat_eq p q) (Some d) (lookup (nat_eq p) es)) (longer : length fs ≡ suc (length es)) where
       reads_on : (p : ℕ) → option_or (lookup (nat_eq p) fs) (lookup (nat_eq p) (zip qs (drop (length fs) ds))) ≡ lookup (nat_eq p) (zip all ds)
       reads_on p =
           let left = lookup (nat_eq p) (zip qs (drop (suc (length es)) ds)) in
@@ -152,8 +157,10 @@ module _ {D : Type 0} where
   one_longer None n m e l = omega (arith, l)
   one_longer (Some d) n m e l = absurd (cc)
 
-  pub pair_next : (all : List ℕ) (ds : List D) (rest : List ℕ) (q : ℕ) (qs : List ℕ) (es fs : List (ℕ × D)) (d : D) (old : Option D) → Pairing all ds rest es → rest ≡ q ∷ qs → d ≡ get_or ds (length es) d
-      → ((p : ℕ) → lookup (is_at (nat_cmp p)) fs ≡ cond (is_at (nat_cmp q) p) (Some d) (lookup (is_at (nat_cmp p)) es)) → old ≡ lookup (is_at (nat_cmp q)) es → length fs ≡ length es + cond (is_some old) 0 1 → Pairing all ds qs fs
+  pub pair_next : (all : List ℕ) (ds : List D) (rest : List ℕ) (q : ℕ) (qs : List ℕ) (es fs : List (ℕ × D)) (d : D) (old : Option D)
+      → Pairing all ds rest es → rest ≡ q ∷ qs → d ≡ get_or ds (length es) d
+      → ((p : ℕ) → lookup (is_at (nat_cmp p)) fs ≡ cond (is_at (nat_cmp q) p) (Some d) (lookup (is_at (nat_cmp p)) es))
+      → old ≡ lookup (is_at (nat_cmp q)) es → length fs ≡ length es + cond (is_some old) 0 1 → Pairing all ds qs fs
   pair_next all ds rest q qs es fs d old w r is put was len =
       let w' : Pairing all ds (q ∷ qs) es = subst (λ ps. Pairing all ds ps es) r w in
       pair_on all ds q qs es w' fs d (dropped (length es) ds d (omega (arith, w'.as_many)) is) (lookup_put_in es fs q d put)

@@ -43,7 +43,18 @@ module _ {D : Type 0} (bytes : D → List ℕ) (c : Contents D) where
   pub no_room_on : (old out more : List ℕ) (q : ℕ) (ps : List ℕ) (len capacity later larger : ℕ) → len ≡ length old → later ≡ length out → out ++ held_bytes (q ∷ ps) ≡ old ++ more
       → capacity ≤ larger → larger < later + length (node_bytes q) → capacity < len + length more
   no_room_on old out more q ps len capacity later larger first now whole grown few =
-      omega (arith, first, now, grown, few, ap length whole, length-append out (held_bytes (q ∷ ps)), ap length (first_bytes q ps), length-append (node_bytes q) (held_bytes ps), length-append old more)
+      omega (
+        arith,
+        first,
+        now,
+        grown,
+        few,
+        ap length whole,
+        length-append out (held_bytes (q ∷ ps)),
+        ap length (first_bytes q ps),
+        length-append (node_bytes q) (held_bytes ps),
+        length-append old more,
+      )
 
 -- without room for the number of digests there is none for all
 pub no_room_first : {D : Type 0} (bytes : D → List ℕ) (ds : List D) (len capacity count : ℕ) → count ≡ length ds → capacity < len + length (number_spelling count)

@@ -43,7 +43,8 @@ module _ {D : Type 0} (bytes : D → List ℕ) (size : ℕ) (sized : (x : D) →
       let same = components_once decide c.pruning_boundary d.pruning_boundary c.pinned_nodes.items d.pinned_nodes.items c.nodes.items d.nodes.items r s e in
       (record { boundary = same.0; pins = same.1; nodes = same.2 }, same.3)
 
-module _ {D : Type 0} (bytes : D → List ℕ) (size : ℕ) (sized : (x : D) → length (bytes x) ≡ size) (Spells : List ℕ → Type 0) (spell : (x : D) → Spells (bytes x)) where
+module _ {D : Type 0} (bytes : D → List ℕ) (size : ℕ) (sized : (x : D) → length (bytes x) ≡ size) (Spells : List ℕ → Type 0)
+    (spell : (x : D) → Spells (bytes x)) where
   -- bytes that begin with digests and are refused with another error than `OutOfMemory` are refused after them
   after_digests : ((x y : D) → bytes x ≡ bytes y → x ≡ y) → (after : List ℕ → DecodeError → Type 0) (ds : List D) (rest : List ℕ) (e : DecodeError)
       → IsRefusalFromDigests bytes size Spells after (length ds) (flat_map bytes ds ++ rest) e → (e ≡ OutOfMemory) ⊎ after rest e
@@ -65,8 +66,10 @@ module _ {D : Type 0} (bytes : D → List ℕ) (size : ℕ) (sized : (x : D) →
       let at_nodes = IsRefusalFrom most_nodes TooMany (IsDigestsRefusal size Spells) in
       let at_pins = IsRefusalFrom most_pins TooMany (IsRefusalFromDigests bytes size Spells at_nodes) in
       let whole = k ∙ components bytes c.pruning_boundary pins nodes rest in
-      let first = IsRefusalFrom_after max_leaves Invalid (λ _. at_pins) b e h fits c.pruning_boundary (number_spelling (length pins) ++ (flat_map bytes pins ++ later)) within.boundary whole in
-      let second = IsRefusalFrom_after most_pins TooMany (IsRefusalFromDigests bytes size Spells at_nodes) (number_spelling (length pins) ++ (flat_map bytes pins ++ later)) e first
+      let first = IsRefusalFrom_after max_leaves Invalid (λ _. at_pins) b e h fits c.pruning_boundary
+      (number_spelling (length pins) ++ (flat_map bytes pins ++ later)) within.boundary whole in
+      let second = IsRefusalFrom_after most_pins TooMany (IsRefusalFromDigests bytes size Spells at_nodes)
+      (number_spelling (length pins) ++ (flat_map bytes pins ++ later)) e first
       within.most_pins_fits (length pins) (flat_map bytes pins ++ later) within.pins refl in
       elim (after_digests decide at_nodes pins later e second) [
         | inl memory ↦ memory
@@ -79,9 +82,11 @@ module _ {D : Type 0} (bytes : D → List ℕ) (size : ℕ) (sized : (x : D) →
       → IsRefusalFromDigests bytes size Spells after n b e → IsRefusalFromDigests bytes size Spells after n b f → e ≡ f
   from_digests_once decide after e f x y once n b (inl h) (inl k) = IsDigestsRefusal_once size Spells n b e f x y h k
   from_digests_once decide after e f x y once n b (inl h) (inr (ds, s, count, at, more)) =
-      absurd (x (digests_not_refused bytes size sized Spells spell ds s e (subst (λ l. IsDigestsRefusal size Spells (length ds) l e) at (subst (λ m. IsDigestsRefusal size Spells m b e) (sym count) h))))
+      absurd (x (digests_not_refused bytes size sized Spells spell ds s e
+      (subst (λ l. IsDigestsRefusal size Spells (length ds) l e) at (subst (λ m. IsDigestsRefusal size Spells m b e) (sym count) h))))
   from_digests_once decide after e f x y once n b (inr (ds, s, count, at, more)) (inl k) =
-      absurd (y (digests_not_refused bytes size sized Spells spell ds s f (subst (λ l. IsDigestsRefusal size Spells (length ds) l f) at (subst (λ m. IsDigestsRefusal size Spells m b f) (sym count) k))))
+      absurd (y (digests_not_refused bytes size sized Spells spell ds s f
+      (subst (λ l. IsDigestsRefusal size Spells (length ds) l f) at (subst (λ m. IsDigestsRefusal size Spells m b f) (sym count) k))))
   from_digests_once decide after e f x y once n b (inr (ds, s, count, at, more)) (inr (es, t, many, there, later)) =
       let same = digests_once bytes size sized decide ds es s t (count ∙ sym many) (sym at ∙ there) in
       once s more (subst (λ l. after l f) (sym same.1) later)

@@ -39,7 +39,13 @@ JudgesPinned s pins root r = Judges s root (AcceptsPinned s r pins root) (λ xs 
 module _ {D : Type 0} (s : Scheme D) (old : D) (j : ℕ) (pins : List D) (root : D) (r : RangeInput D) where
   -- with pins that give the old root it is what is said of growth
   pub grown_accepted : GivesRoot s old r.start j pins → JudgesPinned s pins root r accepted → JudgesGrowth s old j pins root r accepted
-  grown_accepted given (inl w) = inl (refl, (given, w.1), λ xs k few enough is. elim (w.2 xs k few enough is) [ inl honest ↦ inl (begins s xs k r pins honest j old given, honest) | inr collide ↦ inr collide ])
+  grown_accepted given (inl w) =
+      inl (
+        refl,
+        (given, w.1),
+        λ xs k few enough is. elim (w.2 xs k few enough is)
+            [ inl honest ↦ inl (begins s xs k r pins honest j old given, honest) | inr collide ↦ inr collide ],
+      )
   grown_accepted given (inr w) = absurd (search (rules, w.0))
 
   pub grown_rejected : JudgesPinned s pins root r rejected → JudgesGrowth s old j pins root r rejected

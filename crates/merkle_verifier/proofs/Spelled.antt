@@ -1,5 +1,6 @@
 -- Bytes that are read as a proof, or refused.
-use Rattle.std.proofs.Common.{Bool, true, false, ◌≡◌, ◌≢◌, ◌⊎◌, ℕ, suc, ◌*◌, ◌-◌, ◌^◌, ◌<◌, ◌≤◌, List, [], ◌∷◌, ◌++◌, length, drop, arith, rules, refl, sym, ap, ◌∙◌, inl, inr, append-nil, length-append}
+use Rattle.std.proofs.Common.{Bool, true, false, ◌≡◌, ◌≢◌, ◌⊎◌, ℕ, suc, ◌*◌, ◌-◌, ◌^◌, ◌<◌, ◌≤◌, List, [], ◌∷◌, ◌++◌, length, drop, arith, rules, refl, sym, ap}
+use Rattle.std.proofs.Common.{◌∙◌, inl, inr, append-nil, length-append}
 use Rattle.std.specs.Prelude.{◌==◌}
 use Rattle.std.proofs.lemmas.List.{length-take-le, length-drop}
 use Rattle.merkle_base.specs.declared.error.DecodeError.{DecodeError}
@@ -57,7 +58,15 @@ module _ (max_leaves : ℕ) (fits : max_leaves < 2 ^ 64) (proof : List ℕ) wher
       let second = number_spelling_once inactive k _ _ first.1 in
       let third = number_spelling_once (length digests) (length ds) _ _ second.1 in
       let same : length (joined_digests digests ++ rest) ≡ length (joined_digests ds ++ []) = ap length third.1 in
-      nothing rest some (omega (arith, same, length-append (joined_digests digests) rest, length-append (joined_digests ds) [], length-digests digest_bytes 32 sized digests, length-digests digest_bytes 32 sized ds, third.0))
+      nothing rest some (omega (
+        arith,
+        same,
+        length-append (joined_digests digests) rest,
+        length-append (joined_digests ds) [],
+        length-digests digest_bytes 32 sized digests,
+        length-digests digest_bytes 32 sized ds,
+        third.0,
+      ))
     where
       nothing : (rest : List ℕ) → rest ≢ [] → ¬ (length rest ≡ 0)
       nothing [] some e = some refl

@@ -4,8 +4,10 @@ use Rattle.merkle_verifier.proofs.merkle_proved_verify_element.Goals as goal
 
 pub returns-then-is_belt : goal.returns-then-is_belt
 returns-then-is_belt c =
-    by_belt (λ s. IsElementAnswer s c.args.root.now c.args.proof.now c.args.location c.args.element.now c.check_element.result) c.args.is_belt c.args.is_backward c.hasher_of-hasher.result c.hasher_of-hasher.ensures c.if-is_belt.true c.check_element.ensures
+    by_belt (λ s. IsElementAnswer s c.args.root.now c.args.proof.now c.args.location c.args.element.now c.check_element.result) c.args.is_belt
+    c.args.is_backward c.hasher_of-hasher.result c.hasher_of-hasher.ensures c.if-is_belt.true c.check_element.ensures
 
 pub returns : goal.returns
 returns c =
-    by_range (λ s. IsElementAnswer s c.args.root.now c.args.proof.now c.args.location c.args.element.now c.check_element-else-is_belt.result) c.args.is_belt c.args.is_backward c.hasher_of-hasher.result c.hasher_of-hasher.ensures c.if-is_belt.false c.check_element-else-is_belt.ensures
+    by_range (λ s. IsElementAnswer s c.args.root.now c.args.proof.now c.args.location c.args.element.now c.check_element-else-is_belt.result)
+    c.args.is_belt c.args.is_backward c.hasher_of-hasher.result c.hasher_of-hasher.ensures c.if-is_belt.false c.check_element-else-is_belt.ensures

@@ -4,8 +4,12 @@ use Rattle.merkle_verifier.proofs.merkle_proved_verify_growth.Goals as goal
 
 pub returns-then-is_belt : goal.returns-then-is_belt
 returns-then-is_belt c =
-    by_belt (λ s. IsGrowthAnswer s c.args.old_leaves c.args.old_inactive_peaks c.args.old_root.now c.args.pins.now c.args.root.now c.args.proof.now c.args.elements.now c.args.lengths.now c.check_growth.result) c.args.is_belt c.args.is_backward c.hasher_of-hasher.result c.hasher_of-hasher.ensures c.if-is_belt.true c.check_growth.ensures
+    by_belt (λ s. IsGrowthAnswer s c.args.old_leaves c.args.old_inactive_peaks c.args.old_root.now c.args.pins.now c.args.root.now c.args.proof.now
+    c.args.elements.now c.args.lengths.now c.check_growth.result) c.args.is_belt c.args.is_backward c.hasher_of-hasher.result
+    c.hasher_of-hasher.ensures c.if-is_belt.true c.check_growth.ensures
 
 pub returns : goal.returns
 returns c =
-    by_range (λ s. IsGrowthAnswer s c.args.old_leaves c.args.old_inactive_peaks c.args.old_root.now c.args.pins.now c.args.root.now c.args.proof.now c.args.elements.now c.args.lengths.now c.check_growth-else-is_belt.result) c.args.is_belt c.args.is_backward c.hasher_of-hasher.result c.hasher_of-hasher.ensures c.if-is_belt.false c.check_growth-else-is_belt.ensures
+    by_range (λ s. IsGrowthAnswer s c.args.old_leaves c.args.old_inactive_peaks c.args.old_root.now c.args.pins.now c.args.root.now c.args.proof.now
+    c.args.elements.now c.args.lengths.now c.check_growth-else-is_belt.result) c.args.is_belt c.args.is_backward c.hasher_of-hasher.result
+    c.hasher_of-hasher.ensures c.if-is_belt.false c.check_growth-else-is_belt.ensures

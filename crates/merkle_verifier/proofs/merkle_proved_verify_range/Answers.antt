@@ -4,8 +4,11 @@ use Rattle.merkle_verifier.proofs.merkle_proved_verify_range.Goals as goal
 
 pub returns-then-is_belt : goal.returns-then-is_belt
 returns-then-is_belt c =
-    by_belt (λ s. IsRangeAnswer s c.args.root.now c.args.proof.now c.args.start c.args.elements.now c.args.lengths.now c.check_range.result) c.args.is_belt c.args.is_backward c.hasher_of-hasher.result c.hasher_of-hasher.ensures c.if-is_belt.true c.check_range.ensures
+    by_belt (λ s. IsRangeAnswer s c.args.root.now c.args.proof.now c.args.start c.args.elements.now c.args.lengths.now c.check_range.result)
+    c.args.is_belt c.args.is_backward c.hasher_of-hasher.result c.hasher_of-hasher.ensures c.if-is_belt.true c.check_range.ensures
 
 pub returns : goal.returns
 returns c =
-    by_range (λ s. IsRangeAnswer s c.args.root.now c.args.proof.now c.args.start c.args.elements.now c.args.lengths.now c.check_range-else-is_belt.result) c.args.is_belt c.args.is_backward c.hasher_of-hasher.result c.hasher_of-hasher.ensures c.if-is_belt.false c.check_range-else-is_belt.ensures
+    by_range (λ s. IsRangeAnswer s c.args.root.now c.args.proof.now c.args.start c.args.elements.now c.args.lengths.now
+    c.check_range-else-is_belt.result) c.args.is_belt c.args.is_backward c.hasher_of-hasher.result c.hasher_of-hasher.ensures c.if-is_belt.false
+    c.check_range-else-is_belt.ensures

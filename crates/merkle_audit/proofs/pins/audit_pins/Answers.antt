@@ -33,7 +33,8 @@ returns-then-branch-clause-judged g c =
     let r = input_of s c.args.proof.now c.args.start (bytes_of c.args.elements.now) in
     let pins = c.args.pinned_nodes.now in
     let no = λ (a : AcceptsPinned s r pins (list_root s X k)). c.in_ok-is_pinned_shape_refused.ensures c.if-branch.true
-    (leaf_digests s.hashing s.rule c.args.start (bytes_of c.args.elements.now)) (length-leaf_digests s.hashing s.rule c.args.start (bytes_of c.args.elements.now) ∙ length-map c.args.elements.now (λ e. e.now)) (list_root s X k) a in
+    (leaf_digests s.hashing s.rule c.args.start (bytes_of c.args.elements.now))
+    (length-leaf_digests s.hashing s.rule c.args.start (bytes_of c.args.elements.now) ∙ length-map c.args.elements.now (λ e. e.now)) (list_root s X k) a in
     no_verdict (AcceptsPinned s r pins (list_root s X k)) (IsHonestPinned s X k r pins) s.hashing (pinned_inputs s r pins) (list_inputs s X k) _ refl (pinned_no s _ _ kept X k few low r pins no)
 
 pub returns-in_default-clause-judged : goal.returns-in_default-clause-judged

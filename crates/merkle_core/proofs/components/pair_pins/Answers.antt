@@ -24,9 +24,14 @@ loop-position-preserved g c =
     let es = c.loop-position.pins.entries in
     let d = c.index-digest.result.now in
     let is : d ≡ get_or ds (length es) d = search rules in
-    let i = c.in_ok-insert.ensures in
-    (tt, tt, pair_next all ds c.loop-position.position-iterator c.in-Some.position c.next.new.self es c.insert.new.self.entries d c.in_ok-insert.field-0 c.loop-position.invariant.2 c.in-Some.ensures.steps is i.updates.0 i.old i.len)
+    let i = c.in_ok-insert.ensures in (
+      tt,
+      tt,
+      pair_next all ds c.loop-position.position-iterator c.in-Some.position c.next.new.self es c.insert.new.self.entries d
+          c.in_ok-insert.field-0 c.loop-position.invariant.2 c.in-Some.ensures.steps is i.updates.0 i.old i.len,
+    )
 
 pub returns-clause-made : goal.returns-clause-made
 returns-clause-made g c =
-    paired (peak_positions g.F.Family.rule c.args.boundary) c.args.digests.now.items c.loop-position.position-iterator c.loop-position.pins.entries c.loop-position.invariant.2 c.in-None.ensures.steps.0
+    paired (peak_positions g.F.Family.rule c.args.boundary) c.args.digests.now.items c.loop-position.position-iterator c.loop-position.pins.entries
+    c.loop-position.invariant.2 c.in-None.ensures.steps.0

@@ -32,5 +32,9 @@ returns-in-Err-read_counted_digests-clause-refused g c =
       b.rest.now,
       fits,
       b.ensures.read,
-      (first, refused_after D.bytes D.SIZE D.Spells after c.args.most_pins TooMany b.rest.now c.in-Err-read_counted_digests.error pins.0.items pins.1.now few small c.in-Ok.ensures.read c.in-Err-read_counted_digests.ensures.refused),
+      (
+        first,
+        refused_after D.bytes D.SIZE D.Spells after c.args.most_pins TooMany b.rest.now c.in-Err-read_counted_digests.error pins.0.items
+            pins.1.now few small c.in-Ok.ensures.read c.in-Err-read_counted_digests.ensures.refused,
+      ),
     )

@@ -8,8 +8,11 @@ use Rattle.merkle_core.proofs.find.last_end.Goals as goal
 
 pub loop-i-init : goal.loop-i-init
 loop-i-init g c =
-    let rs = map (λ r. r.value) c.args.records.now in
-    (omega arith, ap (last_match (λ r. is_state g.D.PartialEq.eq c.args.size c.args.peaks.now (after r) r.peaks_after)) (sym (take_all (length c.args.records.now) rs (omega (arith, length-map c.args.records.now (λ r. r.value))))))
+    let rs = map (λ r. r.value) c.args.records.now in (
+      omega arith,
+      ap (last_match (λ r. is_state g.D.PartialEq.eq c.args.size c.args.peaks.now (after r) r.peaks_after))
+          (sym (take_all (length c.args.records.now) rs (omega (arith, length-map c.args.records.now (λ r. r.value))))),
+    )
 
 pub loop-i-preserved : goal.loop-i-preserved
 loop-i-preserved g c =
@@ -21,8 +24,12 @@ loop-i-preserved g c =
     c.is_at.ensures ∙ ap (λ n. is_state g.D.PartialEq.eq c.args.size c.args.peaks.now n c.as_slice.result.now) c.size.ensures
     ∙ ap (λ ds. is_state g.D.PartialEq.eq c.args.size c.args.peaks.now (after c.deref-record.result.now) ds) (c.as_slice.ensures.value ∙ ap (λ r. r.peaks_after) c.record.view_is)
     ∙ ap test c.deref-record.ensures in
-    let at = get_or_map (λ r. r.value) c.args.records.now (c.loop-i.i - 1) c.index-records-i.result within c.index-records-i.is in
-    (omega arith, c.loop-i.invariant.1 ∙ ap (λ n. last_match test (take n rs)) next ∙ last_match_no test rs (c.loop-i.i - 1) c.index-records-i.result.value (omega (arith, within, length-map c.args.records.now (λ r. r.value))) at (sym same ∙ c.if-is_at.false))
+    let at = get_or_map (λ r. r.value) c.args.records.now (c.loop-i.i - 1) c.index-records-i.result within c.index-records-i.is in (
+      omega arith,
+      c.loop-i.invariant.1 ∙ ap (λ n. last_match test (take n rs)) next
+          ∙ last_match_no test rs (c.loop-i.i - 1) c.index-records-i.result.value (omega (arith, within, length-map c.args.records.now (λ r. r.value)))
+          at (sym same ∙ c.if-is_at.false),
+    )
 
 pub returns-then-is_at : goal.returns-then-is_at
 returns-then-is_at g c =
@@ -35,4 +42,6 @@ returns-then-is_at g c =
     ∙ ap (λ ds. is_state g.D.PartialEq.eq c.args.size c.args.peaks.now (after c.deref-record.result.now) ds) (c.as_slice.ensures.value ∙ ap (λ r. r.peaks_after) c.record.view_is)
     ∙ ap test c.deref-record.ensures in
     let at = get_or_map (λ r. r.value) c.args.records.now (c.loop-i.i - 1) c.index-records-i.result within c.index-records-i.is in
-    sym (c.loop-i.invariant.1 ∙ ap (λ n. last_match test (take n rs)) next ∙ last_match_yes test rs (c.loop-i.i - 1) c.index-records-i.result.value (omega (arith, within, length-map c.args.records.now (λ r. r.value))) at (sym same ∙ c.if-is_at.true) ∙ ap Some (sym (add-one (c.loop-i.i - 1))))
+    sym (c.loop-i.invariant.1 ∙ ap (λ n. last_match test (take n rs)) next
+    ∙ last_match_yes test rs (c.loop-i.i - 1) c.index-records-i.result.value (omega (arith, within, length-map c.args.records.now (λ r. r.value)))
+    at (sym same ∙ c.if-is_at.true) ∙ ap Some (sym (add-one (c.loop-i.i - 1))))

@@ -12,7 +12,8 @@ returns-in-Err g c =
     let F = g.F.Family in
     let s = scheme_of sha256_hashing c.args.hasher.now F.rule F.MAX_LEAVES F.DOMAIN in
     let fits = lawful_locations F.rule F.MAX_LEAVES F.MAX_NODES g.met.F.Family.lawful in
-    elim (unread F.MAX_LEAVES fits c.args.proof.now c.in-Err.error c.in-Err.ensures.err (λ n k ds. JudgesRange s c.in-Some.root (range_input s n k ds c.args.location (c.args.element.now ∷ []))) c.answer.result c.answer.ensures) [
+    elim (unread F.MAX_LEAVES fits c.args.proof.now c.in-Err.error c.in-Err.ensures.err
+    (λ n k ds. JudgesRange s c.in-Some.root (range_input s n k ds c.args.location (c.args.element.now ∷ []))) c.answer.result c.answer.ensures) [
       | inl memory ↦ inl memory
       | inr refused ↦ inr (inr (c.in-Some.root, c.in-Some.ensures, refused))
     ]
@@ -32,7 +33,8 @@ returns-in-Ok-true g c =
         p.inactive_peaks,
         p.digests.items,
         c.in-Ok.ensures.ok,
-        subst (λ a. JudgesRange s c.in-Some.root (range_input s p.leaves p.inactive_peaks p.digests.items a (c.args.element.now ∷ [])) accepted) c.new.ensures (inl (refl, checks.exact.0 is, checks.sound is)),
+        subst (λ a. JudgesRange s c.in-Some.root (range_input s p.leaves p.inactive_peaks p.digests.items a (c.args.element.now ∷ [])) accepted)
+            c.new.ensures (inl (refl, checks.exact.0 is, checks.sound is)),
       ),
     ))
 

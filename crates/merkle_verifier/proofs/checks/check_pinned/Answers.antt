@@ -17,7 +17,8 @@ returns-in-Ok-None g c = inr (inr (c.in-Some.old_root, c.in-Some.ensures, inl (r
 
 pub returns-in-Ok-None-cut : goal.returns-in-Ok-None-cut
 returns-in-Ok-None-cut g c =
-    let joined : joined_digests c.in-Ok-Some.pins.items ≡ c.args.old.now.pins.now = subst (λ o. IfSome o (λ digests. joined_digests digests.items ≡ c.args.old.now.pins.now)) c.in-Ok-Some.field-0-is c.in-Ok-Some.ensures.some in
+    let joined : joined_digests c.in-Ok-Some.pins.items ≡ c.args.old.now.pins.now =
+    subst (λ o. IfSome o (λ digests. joined_digests digests.items ≡ c.args.old.now.pins.now)) c.in-Ok-Some.field-0-is c.in-Ok-Some.ensures.some in
     inr (inr (
       c.in-Some.old_root,
       c.in-Some.ensures,
@@ -28,11 +29,16 @@ pub returns-in-Err-read_proof : goal.returns-in-Err-read_proof
 returns-in-Err-read_proof g c =
     let F = g.F.Family in
     let s = scheme_of sha256_hashing c.args.hasher.now F.rule F.MAX_LEAVES F.DOMAIN in
-    let joined : joined_digests c.in-Ok-Some.pins.items ≡ c.args.old.now.pins.now = subst (λ o. IfSome o (λ digests. joined_digests digests.items ≡ c.args.old.now.pins.now)) c.in-Ok-Some.field-0-is c.in-Ok-Some.ensures.some in
+    let joined : joined_digests c.in-Ok-Some.pins.items ≡ c.args.old.now.pins.now =
+    subst (λ o. IfSome o (λ digests. joined_digests digests.items ≡ c.args.old.now.pins.now)) c.in-Ok-Some.field-0-is c.in-Ok-Some.ensures.some in
     let es = bytes_of c.in-Ok-Some-cut.elements.items in
-    let cut : IsCut c.args.elements.now.lengths.now c.args.elements.now.bytes.now es = subst (λ o. IfSome o (λ parts. IsCut c.args.elements.now.lengths.now c.args.elements.now.bytes.now (bytes_of parts.items))) c.in-Ok-Some-cut.field-0-is c.in-Ok-Some-cut.ensures.some in
+    let cut : IsCut c.args.elements.now.lengths.now c.args.elements.now.bytes.now es =
+    subst (λ o. IfSome o (λ parts. IsCut c.args.elements.now.lengths.now c.args.elements.now.bytes.now (bytes_of parts.items)))
+    c.in-Ok-Some-cut.field-0-is c.in-Ok-Some-cut.ensures.some in
     let fits = lawful_locations F.rule F.MAX_LEAVES F.MAX_NODES g.met.F.Family.lawful in
-    elim (unread F.MAX_LEAVES fits c.args.proof.now c.in-Err-read_proof.error c.in-Err-read_proof.ensures.err (λ n k ds. JudgesGrowth s c.in-Some.old_root c.args.old.now.inactive_peaks c.in-Ok-Some.pins.items c.args.root.now (range_input s n k ds c.args.old.now.leaves es)) c.answer.result c.answer.ensures) [
+    elim (unread F.MAX_LEAVES fits c.args.proof.now c.in-Err-read_proof.error c.in-Err-read_proof.ensures.err
+    (λ n k ds. JudgesGrowth s c.in-Some.old_root c.args.old.now.inactive_peaks c.in-Ok-Some.pins.items c.args.root.now
+    (range_input s n k ds c.args.old.now.leaves es)) c.answer.result c.answer.ensures) [
       | inl memory ↦ inl memory
       | inr refused ↦ inr (inr (c.in-Some.old_root, c.in-Some.ensures, inr (c.in-Ok-Some.pins.items, joined, inr (es, cut, refused))))
     ]
@@ -41,9 +47,12 @@ pub returns-then-not-gives_root : goal.returns-then-not-gives_root
 returns-then-not-gives_root g c =
     let F = g.F.Family in
     let s = scheme_of sha256_hashing c.args.hasher.now F.rule F.MAX_LEAVES F.DOMAIN in
-    let joined : joined_digests c.in-Ok-Some.pins.items ≡ c.args.old.now.pins.now = subst (λ o. IfSome o (λ digests. joined_digests digests.items ≡ c.args.old.now.pins.now)) c.in-Ok-Some.field-0-is c.in-Ok-Some.ensures.some in
+    let joined : joined_digests c.in-Ok-Some.pins.items ≡ c.args.old.now.pins.now =
+    subst (λ o. IfSome o (λ digests. joined_digests digests.items ≡ c.args.old.now.pins.now)) c.in-Ok-Some.field-0-is c.in-Ok-Some.ensures.some in
     let es = bytes_of c.in-Ok-Some-cut.elements.items in
-    let cut : IsCut c.args.elements.now.lengths.now c.args.elements.now.bytes.now es = subst (λ o. IfSome o (λ parts. IsCut c.args.elements.now.lengths.now c.args.elements.now.bytes.now (bytes_of parts.items))) c.in-Ok-Some-cut.field-0-is c.in-Ok-Some-cut.ensures.some in
+    let cut : IsCut c.args.elements.now.lengths.now c.args.elements.now.bytes.now es =
+    subst (λ o. IfSome o (λ parts. IsCut c.args.elements.now.lengths.now c.args.elements.now.bytes.now (bytes_of parts.items)))
+    c.in-Ok-Some-cut.field-0-is c.in-Ok-Some-cut.ensures.some in
     let p = c.in-Ok.proof in
     let r = range_input s p.leaves p.inactive_peaks p.digests.items c.args.old.now.leaves es in
     let given : IsTrue c.gives_root.result ↔ GivesRoot s c.in-Some.old_root c.args.old.now.leaves c.args.old.now.inactive_peaks c.in-Ok-Some.pins.items =
@@ -73,9 +82,12 @@ pub returns-in-Ok-true : goal.returns-in-Ok-true
 returns-in-Ok-true g c =
     let F = g.F.Family in
     let s = scheme_of sha256_hashing c.args.hasher.now F.rule F.MAX_LEAVES F.DOMAIN in
-    let joined : joined_digests c.in-Ok-Some.pins.items ≡ c.args.old.now.pins.now = subst (λ o. IfSome o (λ digests. joined_digests digests.items ≡ c.args.old.now.pins.now)) c.in-Ok-Some.field-0-is c.in-Ok-Some.ensures.some in
+    let joined : joined_digests c.in-Ok-Some.pins.items ≡ c.args.old.now.pins.now =
+    subst (λ o. IfSome o (λ digests. joined_digests digests.items ≡ c.args.old.now.pins.now)) c.in-Ok-Some.field-0-is c.in-Ok-Some.ensures.some in
     let es = bytes_of c.in-Ok-Some-cut.elements.items in
-    let cut : IsCut c.args.elements.now.lengths.now c.args.elements.now.bytes.now es = subst (λ o. IfSome o (λ parts. IsCut c.args.elements.now.lengths.now c.args.elements.now.bytes.now (bytes_of parts.items))) c.in-Ok-Some-cut.field-0-is c.in-Ok-Some-cut.ensures.some in
+    let cut : IsCut c.args.elements.now.lengths.now c.args.elements.now.bytes.now es =
+    subst (λ o. IfSome o (λ parts. IsCut c.args.elements.now.lengths.now c.args.elements.now.bytes.now (bytes_of parts.items)))
+    c.in-Ok-Some-cut.field-0-is c.in-Ok-Some-cut.ensures.some in
     let p = c.in-Ok.proof in
     let r = range_input s p.leaves p.inactive_peaks p.digests.items c.args.old.now.leaves es in
     let given : IsTrue c.gives_root.result ↔ GivesRoot s c.in-Some.old_root c.args.old.now.leaves c.args.old.now.inactive_peaks c.in-Ok-Some.pins.items =
@@ -112,9 +124,12 @@ pub returns-in-Ok-false : goal.returns-in-Ok-false
 returns-in-Ok-false g c =
     let F = g.F.Family in
     let s = scheme_of sha256_hashing c.args.hasher.now F.rule F.MAX_LEAVES F.DOMAIN in
-    let joined : joined_digests c.in-Ok-Some.pins.items ≡ c.args.old.now.pins.now = subst (λ o. IfSome o (λ digests. joined_digests digests.items ≡ c.args.old.now.pins.now)) c.in-Ok-Some.field-0-is c.in-Ok-Some.ensures.some in
+    let joined : joined_digests c.in-Ok-Some.pins.items ≡ c.args.old.now.pins.now =
+    subst (λ o. IfSome o (λ digests. joined_digests digests.items ≡ c.args.old.now.pins.now)) c.in-Ok-Some.field-0-is c.in-Ok-Some.ensures.some in
     let es = bytes_of c.in-Ok-Some-cut.elements.items in
-    let cut : IsCut c.args.elements.now.lengths.now c.args.elements.now.bytes.now es = subst (λ o. IfSome o (λ parts. IsCut c.args.elements.now.lengths.now c.args.elements.now.bytes.now (bytes_of parts.items))) c.in-Ok-Some-cut.field-0-is c.in-Ok-Some-cut.ensures.some in
+    let cut : IsCut c.args.elements.now.lengths.now c.args.elements.now.bytes.now es =
+    subst (λ o. IfSome o (λ parts. IsCut c.args.elements.now.lengths.now c.args.elements.now.bytes.now (bytes_of parts.items)))
+    c.in-Ok-Some-cut.field-0-is c.in-Ok-Some-cut.ensures.some in
     let p = c.in-Ok.proof in
     let r = range_input s p.leaves p.inactive_peaks p.digests.items c.args.old.now.leaves es in
     let checks = c.in-Ok-false.ensures in

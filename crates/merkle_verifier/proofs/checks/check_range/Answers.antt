@@ -18,9 +18,12 @@ returns-in-Err-read_proof g c =
     let F = g.F.Family in
     let s = scheme_of sha256_hashing c.args.hasher.now F.rule F.MAX_LEAVES F.DOMAIN in
     let es = bytes_of c.in-Ok-Some.elements.items in
-    let cut : IsCut c.args.elements.now.lengths.now c.args.elements.now.bytes.now es = subst (λ o. IfSome o (λ parts. IsCut c.args.elements.now.lengths.now c.args.elements.now.bytes.now (bytes_of parts.items))) c.in-Ok-Some.field-0-is c.in-Ok-Some.ensures.some in
+    let cut : IsCut c.args.elements.now.lengths.now c.args.elements.now.bytes.now es =
+    subst (λ o. IfSome o (λ parts. IsCut c.args.elements.now.lengths.now c.args.elements.now.bytes.now (bytes_of parts.items)))
+    c.in-Ok-Some.field-0-is c.in-Ok-Some.ensures.some in
     let fits = lawful_locations F.rule F.MAX_LEAVES F.MAX_NODES g.met.F.Family.lawful in
-    elim (unread F.MAX_LEAVES fits c.args.proof.now c.in-Err-read_proof.error c.in-Err-read_proof.ensures.err (λ n k ds. JudgesRange s c.in-Some.root (range_input s n k ds c.args.start es)) c.answer.result c.answer.ensures) [
+    elim (unread F.MAX_LEAVES fits c.args.proof.now c.in-Err-read_proof.error c.in-Err-read_proof.ensures.err
+    (λ n k ds. JudgesRange s c.in-Some.root (range_input s n k ds c.args.start es)) c.answer.result c.answer.ensures) [
       | inl memory ↦ inl memory
       | inr refused ↦ inr (inr (c.in-Some.root, c.in-Some.ensures, inr (es, cut, refused)))
     ]
@@ -30,7 +33,9 @@ returns-in-Ok-true g c =
     let F = g.F.Family in
     let s = scheme_of sha256_hashing c.args.hasher.now F.rule F.MAX_LEAVES F.DOMAIN in
     let es = bytes_of c.in-Ok-Some.elements.items in
-    let cut : IsCut c.args.elements.now.lengths.now c.args.elements.now.bytes.now es = subst (λ o. IfSome o (λ parts. IsCut c.args.elements.now.lengths.now c.args.elements.now.bytes.now (bytes_of parts.items))) c.in-Ok-Some.field-0-is c.in-Ok-Some.ensures.some in
+    let cut : IsCut c.args.elements.now.lengths.now c.args.elements.now.bytes.now es =
+    subst (λ o. IfSome o (λ parts. IsCut c.args.elements.now.lengths.now c.args.elements.now.bytes.now (bytes_of parts.items)))
+    c.in-Ok-Some.field-0-is c.in-Ok-Some.ensures.some in
     let p = c.in-Ok.proof in
     let checks = c.in-Ok-true.ensures in
     let is = c.in-Ok-true.field-0-test in
@@ -46,7 +51,8 @@ returns-in-Ok-true g c =
           p.digests.items,
           c.in-Ok.ensures.ok,
           subst (λ e. JudgesRange s c.in-Some.root (range_input s p.leaves p.inactive_peaks p.digests.items c.args.start e) accepted) (ap bytes_of c.deref.ensures.value)
-              (subst (λ a. JudgesRange s c.in-Some.root (range_input s p.leaves p.inactive_peaks p.digests.items a (bytes_of c.deref.result.now)) accepted) c.new.ensures (inl (refl, checks.exact.0 is, checks.sound is))),
+              (subst (λ a. JudgesRange s c.in-Some.root (range_input s p.leaves p.inactive_peaks p.digests.items a (bytes_of c.deref.result.now))
+              accepted) c.new.ensures (inl (refl, checks.exact.0 is, checks.sound is))),
         ),
       ),
     ))
@@ -56,7 +62,9 @@ returns-in-Ok-false g c =
     let F = g.F.Family in
     let s = scheme_of sha256_hashing c.args.hasher.now F.rule F.MAX_LEAVES F.DOMAIN in
     let es = bytes_of c.in-Ok-Some.elements.items in
-    let cut : IsCut c.args.elements.now.lengths.now c.args.elements.now.bytes.now es = subst (λ o. IfSome o (λ parts. IsCut c.args.elements.now.lengths.now c.args.elements.now.bytes.now (bytes_of parts.items))) c.in-Ok-Some.field-0-is c.in-Ok-Some.ensures.some in
+    let cut : IsCut c.args.elements.now.lengths.now c.args.elements.now.bytes.now es =
+    subst (λ o. IfSome o (λ parts. IsCut c.args.elements.now.lengths.now c.args.elements.now.bytes.now (bytes_of parts.items)))
+    c.in-Ok-Some.field-0-is c.in-Ok-Some.ensures.some in
     let p = c.in-Ok.proof in
     let checks = c.in-Ok-false.ensures in
     let not = c.in-Ok-false.field-0-test in

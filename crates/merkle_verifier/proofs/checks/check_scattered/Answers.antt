@@ -25,9 +25,13 @@ returns-in-Err-read_proof g c =
     let s = scheme_of sha256_hashing c.args.hasher.now F.rule F.MAX_LEAVES F.DOMAIN in
     let same : length c.args.locations.now ≡ length c.args.elements.now.lengths.now = search (rules, c.if-locations-elements.false) in
     let es = bytes_of c.in-Ok-Some.elements.items in
-    let cut : IsCut c.args.elements.now.lengths.now c.args.elements.now.bytes.now es = subst (λ o. IfSome o (λ parts. IsCut c.args.elements.now.lengths.now c.args.elements.now.bytes.now (bytes_of parts.items))) c.in-Ok-Some.field-0-is c.in-Ok-Some.ensures.some in
+    let cut : IsCut c.args.elements.now.lengths.now c.args.elements.now.bytes.now es =
+    subst (λ o. IfSome o (λ parts. IsCut c.args.elements.now.lengths.now c.args.elements.now.bytes.now (bytes_of parts.items)))
+    c.in-Ok-Some.field-0-is c.in-Ok-Some.ensures.some in
     let fits = lawful_locations F.rule F.MAX_LEAVES F.MAX_NODES g.met.F.Family.lawful in
-    elim (unread F.MAX_LEAVES fits c.args.proof.now c.in-Err-read_proof.error c.in-Err-read_proof.ensures.err (λ n k ds. JudgesMulti s c.in-Some.root (multi_digest_input n k ds (located c.args.locations.now (leaf_digests_at s.hashing s.rule c.args.locations.now es)))) c.answer.result c.answer.ensures) [
+    elim (unread F.MAX_LEAVES fits c.args.proof.now c.in-Err-read_proof.error c.in-Err-read_proof.ensures.err
+    (λ n k ds. JudgesMulti s c.in-Some.root
+    (multi_digest_input n k ds (located c.args.locations.now (leaf_digests_at s.hashing s.rule c.args.locations.now es)))) c.answer.result c.answer.ensures) [
       | inl memory ↦ inl memory
       | inr refused ↦ inr (inr (c.in-Some.root, c.in-Some.ensures, inr (same, inr (es, cut, refused))))
     ]
@@ -38,9 +42,13 @@ returns-in-Ok-true g c =
     let s = scheme_of sha256_hashing c.args.hasher.now F.rule F.MAX_LEAVES F.DOMAIN in
     let same : length c.args.locations.now ≡ length c.args.elements.now.lengths.now = search (rules, c.if-locations-elements.false) in
     let es = bytes_of c.in-Ok-Some.elements.items in
-    let cut : IsCut c.args.elements.now.lengths.now c.args.elements.now.bytes.now es = subst (λ o. IfSome o (λ parts. IsCut c.args.elements.now.lengths.now c.args.elements.now.bytes.now (bytes_of parts.items))) c.in-Ok-Some.field-0-is c.in-Ok-Some.ensures.some in
+    let cut : IsCut c.args.elements.now.lengths.now c.args.elements.now.bytes.now es =
+    subst (λ o. IfSome o (λ parts. IsCut c.args.elements.now.lengths.now c.args.elements.now.bytes.now (bytes_of parts.items)))
+    c.in-Ok-Some.field-0-is c.in-Ok-Some.ensures.some in
     let lent : c.deref-2.result.now ≡ located c.args.locations.now c.in-Ok-Some.elements.items = c.deref-2.ensures.value ∙ c.in-Ok.ensures ∙ ap (located c.args.locations.now) c.deref.ensures.value in
-    let leaves : digested s.hashing s.rule c.deref-2.result.now ≡ located c.args.locations.now (leaf_digests_at s.hashing s.rule c.args.locations.now es) = ap (digested s.hashing s.rule) lent ∙ digested-located s.hashing s.rule c.args.locations.now c.in-Ok-Some.elements.items in
+    let leaves : digested s.hashing s.rule c.deref-2.result.now
+    ≡ located c.args.locations.now (leaf_digests_at s.hashing s.rule c.args.locations.now es) = ap (digested s.hashing s.rule) lent
+    ∙ digested-located s.hashing s.rule c.args.locations.now c.in-Ok-Some.elements.items in
     let p = c.in-Ok-read_proof.proof in
     let checks = c.in-Ok-true.ensures in
     let is = c.in-Ok-true.field-0-test in
@@ -69,9 +77,13 @@ returns-in-Ok-false g c =
     let s = scheme_of sha256_hashing c.args.hasher.now F.rule F.MAX_LEAVES F.DOMAIN in
     let same : length c.args.locations.now ≡ length c.args.elements.now.lengths.now = search (rules, c.if-locations-elements.false) in
     let es = bytes_of c.in-Ok-Some.elements.items in
-    let cut : IsCut c.args.elements.now.lengths.now c.args.elements.now.bytes.now es = subst (λ o. IfSome o (λ parts. IsCut c.args.elements.now.lengths.now c.args.elements.now.bytes.now (bytes_of parts.items))) c.in-Ok-Some.field-0-is c.in-Ok-Some.ensures.some in
+    let cut : IsCut c.args.elements.now.lengths.now c.args.elements.now.bytes.now es =
+    subst (λ o. IfSome o (λ parts. IsCut c.args.elements.now.lengths.now c.args.elements.now.bytes.now (bytes_of parts.items)))
+    c.in-Ok-Some.field-0-is c.in-Ok-Some.ensures.some in
     let lent : c.deref-2.result.now ≡ located c.args.locations.now c.in-Ok-Some.elements.items = c.deref-2.ensures.value ∙ c.in-Ok.ensures ∙ ap (located c.args.locations.now) c.deref.ensures.value in
-    let leaves : digested s.hashing s.rule c.deref-2.result.now ≡ located c.args.locations.now (leaf_digests_at s.hashing s.rule c.args.locations.now es) = ap (digested s.hashing s.rule) lent ∙ digested-located s.hashing s.rule c.args.locations.now c.in-Ok-Some.elements.items in
+    let leaves : digested s.hashing s.rule c.deref-2.result.now
+    ≡ located c.args.locations.now (leaf_digests_at s.hashing s.rule c.args.locations.now es) = ap (digested s.hashing s.rule) lent
+    ∙ digested-located s.hashing s.rule c.args.locations.now c.in-Ok-Some.elements.items in
     let p = c.in-Ok-read_proof.proof in
     let checks = c.in-Ok-false.ensures in
     let not = c.in-Ok-false.field-0-test in

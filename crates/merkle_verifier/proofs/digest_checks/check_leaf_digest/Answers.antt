@@ -15,7 +15,8 @@ returns-in-Err g c =
     let F = g.F.Family in
     let s = scheme_of sha256_hashing c.args.hasher.now F.rule F.MAX_LEAVES F.DOMAIN in
     let fits = lawful_locations F.rule F.MAX_LEAVES F.MAX_NODES g.met.F.Family.lawful in
-    elim (unread F.MAX_LEAVES fits c.args.proof.now c.in-Err.error c.in-Err.ensures.err (λ n k ds. JudgesRange s c.in-Some.root (digest_input n k ds c.args.location (c.in-Some-from_bytes.leaf ∷ []))) c.answer.result c.answer.ensures) [
+    elim (unread F.MAX_LEAVES fits c.args.proof.now c.in-Err.error c.in-Err.ensures.err
+    (λ n k ds. JudgesRange s c.in-Some.root (digest_input n k ds c.args.location (c.in-Some-from_bytes.leaf ∷ []))) c.answer.result c.answer.ensures) [
       | inl memory ↦ inl memory
       | inr refused ↦ inr (inr (c.in-Some.root, c.in-Some.ensures, inr (c.in-Some-from_bytes.leaf, c.in-Some-from_bytes.ensures, refused)))
     ]
@@ -38,7 +39,8 @@ returns-in-Ok-true g c =
           p.inactive_peaks,
           p.digests.items,
           c.in-Ok.ensures.ok,
-          subst (λ a. JudgesRange s c.in-Some.root (digest_input p.leaves p.inactive_peaks p.digests.items a (c.in-Some-from_bytes.leaf ∷ [])) accepted) c.new.ensures (inl (refl, checks.exact.0 is, checks.sound is)),
+          subst (λ a. JudgesRange s c.in-Some.root (digest_input p.leaves p.inactive_peaks p.digests.items a (c.in-Some-from_bytes.leaf ∷ []))
+              accepted) c.new.ensures (inl (refl, checks.exact.0 is, checks.sound is)),
         ),
       ),
     ))

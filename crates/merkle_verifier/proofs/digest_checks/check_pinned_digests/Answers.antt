@@ -16,7 +16,8 @@ returns-in-Ok-None g c = inr (inr (c.in-Some.old_root, c.in-Some.ensures, inl (r
 
 pub returns-in-Ok-None-read_digests : goal.returns-in-Ok-None-read_digests
 returns-in-Ok-None-read_digests g c =
-    let joined : joined_digests c.in-Ok-Some.pins.items ≡ c.args.old.now.pins.now = subst (λ o. IfSome o (λ digests. joined_digests digests.items ≡ c.args.old.now.pins.now)) c.in-Ok-Some.field-0-is c.in-Ok-Some.ensures.some in
+    let joined : joined_digests c.in-Ok-Some.pins.items ≡ c.args.old.now.pins.now =
+    subst (λ o. IfSome o (λ digests. joined_digests digests.items ≡ c.args.old.now.pins.now)) c.in-Ok-Some.field-0-is c.in-Ok-Some.ensures.some in
     inr (inr (
       c.in-Some.old_root,
       c.in-Some.ensures,
@@ -27,11 +28,15 @@ pub returns-in-Err-read_proof : goal.returns-in-Err-read_proof
 returns-in-Err-read_proof g c =
     let F = g.F.Family in
     let s = scheme_of sha256_hashing c.args.hasher.now F.rule F.MAX_LEAVES F.DOMAIN in
-    let joined : joined_digests c.in-Ok-Some.pins.items ≡ c.args.old.now.pins.now = subst (λ o. IfSome o (λ digests. joined_digests digests.items ≡ c.args.old.now.pins.now)) c.in-Ok-Some.field-0-is c.in-Ok-Some.ensures.some in
+    let joined : joined_digests c.in-Ok-Some.pins.items ≡ c.args.old.now.pins.now =
+    subst (λ o. IfSome o (λ digests. joined_digests digests.items ≡ c.args.old.now.pins.now)) c.in-Ok-Some.field-0-is c.in-Ok-Some.ensures.some in
     let ls = c.in-Ok-Some-read_digests.leaves.items in
-    let added : joined_digests ls ≡ c.args.digests.now = subst (λ o. IfSome o (λ all. joined_digests all.items ≡ c.args.digests.now)) c.in-Ok-Some-read_digests.field-0-is c.in-Ok-Some-read_digests.ensures.some in
+    let added : joined_digests ls ≡ c.args.digests.now =
+    subst (λ o. IfSome o (λ all. joined_digests all.items ≡ c.args.digests.now)) c.in-Ok-Some-read_digests.field-0-is c.in-Ok-Some-read_digests.ensures.some in
     let fits = lawful_locations F.rule F.MAX_LEAVES F.MAX_NODES g.met.F.Family.lawful in
-    elim (unread F.MAX_LEAVES fits c.args.proof.now c.in-Err-read_proof.error c.in-Err-read_proof.ensures.err (λ n k ds. JudgesGrowth s c.in-Some.old_root c.args.old.now.inactive_peaks c.in-Ok-Some.pins.items c.args.root.now (digest_input n k ds c.args.old.now.leaves ls)) c.answer.result c.answer.ensures) [
+    elim (unread F.MAX_LEAVES fits c.args.proof.now c.in-Err-read_proof.error c.in-Err-read_proof.ensures.err
+    (λ n k ds. JudgesGrowth s c.in-Some.old_root c.args.old.now.inactive_peaks c.in-Ok-Some.pins.items c.args.root.now
+    (digest_input n k ds c.args.old.now.leaves ls)) c.answer.result c.answer.ensures) [
       | inl memory ↦ inl memory
       | inr refused ↦ inr (inr (c.in-Some.old_root, c.in-Some.ensures, inr (c.in-Ok-Some.pins.items, joined, inr (ls, added, refused))))
     ]
@@ -40,9 +45,11 @@ pub returns-then-not-gives_root : goal.returns-then-not-gives_root
 returns-then-not-gives_root g c =
     let F = g.F.Family in
     let s = scheme_of sha256_hashing c.args.hasher.now F.rule F.MAX_LEAVES F.DOMAIN in
-    let joined : joined_digests c.in-Ok-Some.pins.items ≡ c.args.old.now.pins.now = subst (λ o. IfSome o (λ digests. joined_digests digests.items ≡ c.args.old.now.pins.now)) c.in-Ok-Some.field-0-is c.in-Ok-Some.ensures.some in
+    let joined : joined_digests c.in-Ok-Some.pins.items ≡ c.args.old.now.pins.now =
+    subst (λ o. IfSome o (λ digests. joined_digests digests.items ≡ c.args.old.now.pins.now)) c.in-Ok-Some.field-0-is c.in-Ok-Some.ensures.some in
     let ls = c.in-Ok-Some-read_digests.leaves.items in
-    let added : joined_digests ls ≡ c.args.digests.now = subst (λ o. IfSome o (λ all. joined_digests all.items ≡ c.args.digests.now)) c.in-Ok-Some-read_digests.field-0-is c.in-Ok-Some-read_digests.ensures.some in
+    let added : joined_digests ls ≡ c.args.digests.now =
+    subst (λ o. IfSome o (λ all. joined_digests all.items ≡ c.args.digests.now)) c.in-Ok-Some-read_digests.field-0-is c.in-Ok-Some-read_digests.ensures.some in
     let p = c.in-Ok.proof in
     let r = digest_input p.leaves p.inactive_peaks p.digests.items c.args.old.now.leaves ls in
     let given : IsTrue c.gives_root.result ↔ GivesRoot s c.in-Some.old_root c.args.old.now.leaves c.args.old.now.inactive_peaks c.in-Ok-Some.pins.items =
@@ -72,9 +79,11 @@ pub returns-in-Ok-true : goal.returns-in-Ok-true
 returns-in-Ok-true g c =
     let F = g.F.Family in
     let s = scheme_of sha256_hashing c.args.hasher.now F.rule F.MAX_LEAVES F.DOMAIN in
-    let joined : joined_digests c.in-Ok-Some.pins.items ≡ c.args.old.now.pins.now = subst (λ o. IfSome o (λ digests. joined_digests digests.items ≡ c.args.old.now.pins.now)) c.in-Ok-Some.field-0-is c.in-Ok-Some.ensures.some in
+    let joined : joined_digests c.in-Ok-Some.pins.items ≡ c.args.old.now.pins.now =
+    subst (λ o. IfSome o (λ digests. joined_digests digests.items ≡ c.args.old.now.pins.now)) c.in-Ok-Some.field-0-is c.in-Ok-Some.ensures.some in
     let ls = c.in-Ok-Some-read_digests.leaves.items in
-    let added : joined_digests ls ≡ c.args.digests.now = subst (λ o. IfSome o (λ all. joined_digests all.items ≡ c.args.digests.now)) c.in-Ok-Some-read_digests.field-0-is c.in-Ok-Some-read_digests.ensures.some in
+    let added : joined_digests ls ≡ c.args.digests.now =
+    subst (λ o. IfSome o (λ all. joined_digests all.items ≡ c.args.digests.now)) c.in-Ok-Some-read_digests.field-0-is c.in-Ok-Some-read_digests.ensures.some in
     let p = c.in-Ok.proof in
     let r = digest_input p.leaves p.inactive_peaks p.digests.items c.args.old.now.leaves ls in
     let given : IsTrue c.gives_root.result ↔ GivesRoot s c.in-Some.old_root c.args.old.now.leaves c.args.old.now.inactive_peaks c.in-Ok-Some.pins.items =
@@ -111,9 +120,11 @@ pub returns-in-Ok-false : goal.returns-in-Ok-false
 returns-in-Ok-false g c =
     let F = g.F.Family in
     let s = scheme_of sha256_hashing c.args.hasher.now F.rule F.MAX_LEAVES F.DOMAIN in
-    let joined : joined_digests c.in-Ok-Some.pins.items ≡ c.args.old.now.pins.now = subst (λ o. IfSome o (λ digests. joined_digests digests.items ≡ c.args.old.now.pins.now)) c.in-Ok-Some.field-0-is c.in-Ok-Some.ensures.some in
+    let joined : joined_digests c.in-Ok-Some.pins.items ≡ c.args.old.now.pins.now =
+    subst (λ o. IfSome o (λ digests. joined_digests digests.items ≡ c.args.old.now.pins.now)) c.in-Ok-Some.field-0-is c.in-Ok-Some.ensures.some in
     let ls = c.in-Ok-Some-read_digests.leaves.items in
-    let added : joined_digests ls ≡ c.args.digests.now = subst (λ o. IfSome o (λ all. joined_digests all.items ≡ c.args.digests.now)) c.in-Ok-Some-read_digests.field-0-is c.in-Ok-Some-read_digests.ensures.some in
+    let added : joined_digests ls ≡ c.args.digests.now =
+    subst (λ o. IfSome o (λ all. joined_digests all.items ≡ c.args.digests.now)) c.in-Ok-Some-read_digests.field-0-is c.in-Ok-Some-read_digests.ensures.some in
     let p = c.in-Ok.proof in
     let r = digest_input p.leaves p.inactive_peaks p.digests.items c.args.old.now.leaves ls in
     let checks = c.in-Ok-false.ensures in

@@ -19,7 +19,8 @@ returns-in-Err-read_proof g c =
     let ls = c.in-Ok-Some.leaves.items in
     let joined : joined_digests ls ≡ c.args.digests.now = subst (λ o. IfSome o (λ all. joined_digests all.items ≡ c.args.digests.now)) c.in-Ok-Some.field-0-is c.in-Ok-Some.ensures.some in
     let fits = lawful_locations F.rule F.MAX_LEAVES F.MAX_NODES g.met.F.Family.lawful in
-    elim (unread F.MAX_LEAVES fits c.args.proof.now c.in-Err-read_proof.error c.in-Err-read_proof.ensures.err (λ n k ds. JudgesRange s c.in-Some.root (digest_input n k ds c.args.start ls)) c.answer.result c.answer.ensures) [
+    elim (unread F.MAX_LEAVES fits c.args.proof.now c.in-Err-read_proof.error c.in-Err-read_proof.ensures.err
+    (λ n k ds. JudgesRange s c.in-Some.root (digest_input n k ds c.args.start ls)) c.answer.result c.answer.ensures) [
       | inl memory ↦ inl memory
       | inr refused ↦ inr (inr (c.in-Some.root, c.in-Some.ensures, inr (ls, joined, refused)))
     ]
@@ -45,7 +46,8 @@ returns-in-Ok-true g c =
           p.digests.items,
           c.in-Ok.ensures.ok,
           subst (λ all. JudgesRange s c.in-Some.root (digest_input p.leaves p.inactive_peaks p.digests.items c.args.start all) accepted) c.deref.ensures.value
-              (subst (λ a. JudgesRange s c.in-Some.root (digest_input p.leaves p.inactive_peaks p.digests.items a c.deref.result.now) accepted) c.new.ensures (inl (refl, checks.exact.0 is, checks.sound is))),
+              (subst (λ a. JudgesRange s c.in-Some.root (digest_input p.leaves p.inactive_peaks p.digests.items a c.deref.result.now) accepted)
+              c.new.ensures (inl (refl, checks.exact.0 is, checks.sound is))),
         ),
       ),
     ))

@@ -26,7 +26,8 @@ returns-in-Err-read_proof g c =
     let joined : joined_digests ls ≡ c.args.digests.now = subst (λ o. IfSome o (λ all. joined_digests all.items ≡ c.args.digests.now)) c.in-Ok-Some.field-0-is c.in-Ok-Some.ensures.some in
     let same : length c.args.locations.now ≡ length ls = search (rules, c.if-locations-len.false, c.len.ensures) in
     let fits = lawful_locations F.rule F.MAX_LEAVES F.MAX_NODES g.met.F.Family.lawful in
-    elim (unread F.MAX_LEAVES fits c.args.proof.now c.in-Err-read_proof.error c.in-Err-read_proof.ensures.err (λ n k ds. JudgesMulti s c.in-Some.root (multi_digest_input n k ds (located c.args.locations.now ls))) c.answer.result c.answer.ensures) [
+    elim (unread F.MAX_LEAVES fits c.args.proof.now c.in-Err-read_proof.error c.in-Err-read_proof.ensures.err
+    (λ n k ds. JudgesMulti s c.in-Some.root (multi_digest_input n k ds (located c.args.locations.now ls))) c.answer.result c.answer.ensures) [
       | inl memory ↦ inl memory
       | inr refused ↦ inr (inr (c.in-Some.root, c.in-Some.ensures, inr (ls, joined, inr (same, refused))))
     ]

@@ -22,7 +22,8 @@ loop-size-preserved c =
     let lengths = c.args.lengths.now in
     let below : l.size-index < length lengths = omega (arith, c.loop-size-test.true, l.invariant.2) in
     let next : suc l.size-index ≡ l.size-index + 1 = omega arith in
-    let grown : bytes_of c.push.new.self.items ≡ bytes_of l.parts.items ++ c.in-Some.part.now ∷ [] = ap bytes_of c.in_ok-push.ensures.items ∙ map-append (λ e. e.now) l.parts.items (c.in-Some.part ∷ []) in
+    let grown : bytes_of c.push.new.self.items ≡ bytes_of l.parts.items ++ c.in-Some.part.now ∷ [] = ap bytes_of c.in_ok-push.ensures.items
+    ∙ map-append (λ e. e.now) l.parts.items (c.in-Some.part ∷ []) in
     let cut = cut_goes lengths c.args.bytes.now (drop (suc l.size-index) lengths) l.rest.now c.in-Some.part.now c.in-Some.after.now (get_or lengths l.size-index 0) (bytes_of l.parts.items)
     (subst (λ ns. CutSoFar lengths c.args.bytes.now ns l.rest.now (bytes_of l.parts.items)) (drop-cons lengths l.size-index 0 below) l.invariant.3)
     c.in-Some.ensures.cases in (

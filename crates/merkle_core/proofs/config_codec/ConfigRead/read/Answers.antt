@@ -17,6 +17,7 @@ returns-in-Err-clause-written g c x rest within e =
     let limits = c.args.limits.now in
     let fits = lawful_locations F.rule F.MAX_LEAVES F.MAX_NODES g.met.F.Family.lawful in (
       tt,
-      IsConfigRefusal_of_spelling bytes g.D.Digest.SIZE (λ y. D.one_length (bytes y) (D.bytes_spell y)) g.D.Digest.Spells D.bytes_spell D.bytes_decide F.MAX_LEAVES limits.pinned_nodes limits.nodes fits
+      IsConfigRefusal_of_spelling bytes g.D.Digest.SIZE (λ y. D.one_length (bytes y) (D.bytes_spell y)) g.D.Digest.Spells D.bytes_spell D.bytes_decide
+          F.MAX_LEAVES limits.pinned_nodes limits.nodes fits
           c.args.input.now.now c.in-Err.error c.in-Err.ensures.refused x rest within e,
     )

@@ -14,4 +14,5 @@ returns g c =
     let s = c.args.self.now in
     let whole = length-components bytes g.D.Digest.SIZE (λ x. D.one_length (bytes x) (D.bytes_spell x)) s.boundary (held_pins rule s) (held_nodes rule s) in
     let boundary = c.as_u64.ensures ∙ ap (λ (m : MemModel _). m.boundary) c.self.view_is in
-    subst (λ n. SomeIff c.checked_components_size.result (n < 2 ^ 64) n) ((λ i. components_length g.D.Digest.SIZE (boundary i) (c.pin_count.ensures i) (c.node_count.ensures i)) ∙ sym whole) c.checked_components_size.ensures
+    subst (λ n. SomeIff c.checked_components_size.result (n < 2 ^ 64) n)
+    ((λ i. components_length g.D.Digest.SIZE (boundary i) (c.pin_count.ensures i) (c.node_count.ensures i)) ∙ sym whole) c.checked_components_size.ensures

@@ -22,11 +22,13 @@ returns-clause-agrees g c =
     let bagging = g.H.Hasher.bagging_of hasher in
     let is = g.met.H.Hasher.scheme_is hasher in
     let d = g.met.D.Digest in
-    let lawful = sound _ _ _ _ (g.met.H.Hasher.over_digest hasher) scheme bagging rule max g.F.Family.MAX_NODES g.F.Family.DOMAIN g.D.Digest.SIZE is d.eq_decides g.D.Digest.Spells d.nonempty d.bytes_spell d.one_length d.bytes_decide g.met.F.Family.lawful in
+    let lawful = sound _ _ _ _ (g.met.H.Hasher.over_digest hasher) scheme bagging rule max g.F.Family.MAX_NODES g.F.Family.DOMAIN g.D.Digest.SIZE is
+    d.eq_decides g.D.Digest.Spells d.nonempty d.bytes_spell d.one_length d.bytes_decide g.met.F.Family.lawful in
     let i = c.self.inside in
     let held = holds_kept rule max i.boundary i.leaves i.held c.args.self.now c.self.invariant c.self.view_is in
     if_none_then c.first_damaged_counted.result _ _ c.first_damaged_counted.ensures.whole (λ told.
-    whole_by_root rule max i.boundary i.leaves i.held c.args.self.now c.self.invariant c.self.view_is (g.H.Hasher.hashing hasher) scheme bagging g.F.Family.DOMAIN g.D.Digest.SIZE g.F.Family.MAX_NODES is lawful (told held))
+    whole_by_root rule max i.boundary i.leaves i.held c.args.self.now c.self.invariant c.self.view_is (g.H.Hasher.hashing hasher) scheme bagging
+    g.F.Family.DOMAIN g.D.Digest.SIZE g.F.Family.MAX_NODES is lawful (told held))
 
 pub returns-clause-work : goal.returns-clause-work
 returns-clause-work g c =

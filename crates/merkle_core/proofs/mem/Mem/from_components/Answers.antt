@@ -31,7 +31,9 @@ invariant_of-result g c =
     let start : held.start ≡ size rule b = c.from_parts.ensures.start ∙ c.in-Ok.ensures.start in
     let sized : held.size ≡ size rule b + length nodes = omega (arith, c.from_parts.ensures.size, c.in-Ok.ensures.start) in
     kept_counted rule g.F.Family.MAX_LEAVES b c.in-Ok.extent.1 held (record { bounded = found.0; sized = found.1 ∙ sym sized }) start (omega (arith, start, sized))
-    (made_held rule b pins nodes counted held sized (stored_made rule b c.in-Ok.extent.0 pins nodes c.in-Ok-pair_pins.pins.entries held.stored c.in-Ok-pair_pins.ensures.made c.in-Ok.ensures.start c.from_parts.ensures.stored))
+    (made_held rule b pins nodes counted held sized
+    (stored_made rule b c.in-Ok.extent.0 pins nodes c.in-Ok-pair_pins.pins.entries held.stored c.in-Ok-pair_pins.ensures.made
+    c.in-Ok.ensures.start c.from_parts.ensures.stored))
 
 pub returns-in-Ok-pair_pins-clause-made : goal.returns-in-Ok-pair_pins-clause-made
 returns-in-Ok-pair_pins-clause-made g c =

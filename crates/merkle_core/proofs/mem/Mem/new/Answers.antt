@@ -23,4 +23,6 @@ invariant_of-result g c =
 pub returns-clause-agrees : goal.returns-clause-agrees
 returns-clause-agrees g c = λ h.
     let rule = g.F.Family.rule in
-    subst (λ s. Agrees h rule s []) (sym (contents_none _ (λ i. record { boundary = c.new-2.ensures i; leaves = c.new-3.ensures i; size = c.new.ensures.size i; stored = c.new.ensures.stored i }))) (agrees_empty h rule)
+    subst (λ s. Agrees h rule s [])
+    (sym (contents_none _ (λ i. record
+    { boundary = c.new-2.ensures i; leaves = c.new-3.ensures i; size = c.new.ensures.size i; stored = c.new.ensures.stored i }))) (agrees_empty h rule)

@@ -10,4 +10,5 @@ abbrev pub invariant-loop-position : goal.invariant-loop-position
 invariant-loop-position g l =
     (goal.iterator-loop-position g).can_next l.position-iterator
     × (goal.iterator-loop-position g).is_finite l.position-iterator
-    × ((p : ℕ) → option_or (lookup (nat_eq p) (pins_of (contents l.self) l.position-iterator)) (lookup (nat_eq p) l.pins.entries) ≡ lookup (nat_eq p) (pins_of (contents l.self) (peak_positions g.F.Family.rule l.fn.location)))
+    × ((p : ℕ) → option_or (lookup (nat_eq p) (pins_of (contents l.self) l.position-iterator)) (lookup (nat_eq p) l.pins.entries)
+    ≡ lookup (nat_eq p) (pins_of (contents l.self) (peak_positions g.F.Family.rule l.fn.location)))

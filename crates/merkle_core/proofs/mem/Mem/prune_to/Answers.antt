@@ -36,7 +36,9 @@ invariant_of-self g c =
     let leaves = ap (λ s. s.leaves) c.self.view_is in
     let pins : (p : ℕ) → lookup (nat_eq p) c.in_ok-pins.pins.entries ≡ lookup (nat_eq p) (pins_of (held_contents i.boundary i.held) (peak_positions rule c.args.location)) =
     λ p. c.in_ok-pins.ensures p ∙ ap (λ s. lookup (nat_eq p) (pins_of (contents s) (peak_positions rule c.args.location))) (sym c.self.view_is) in
-    let new = pruned_contents rule i.boundary c.args.location i.held c.drop_before.new.self (λ p. c.drop_before.ensures.stored p ∙ (λ j. cond (nat_lt p (c.location_to_position.ensures j)) (pins p j) (get i.held.stored p))) later c.drop_before.ensures.size in
+    let new = pruned_contents rule i.boundary c.args.location i.held c.drop_before.new.self
+    (λ p. c.drop_before.ensures.stored p ∙ (λ j. cond (nat_lt p (c.location_to_position.ensures j)) (pins p j) (get i.held.stored p))) later
+    c.drop_before.ensures.size in
     record {
       starts = c.drop_before.ensures.start ∙ c.location_to_position.ensures;
       within = omega (arith, leaves, c.requires);
@@ -54,7 +56,9 @@ returns-clause-pruned g c =
     let later : i.boundary < c.args.location = search rules in
     let pins : (p : ℕ) → lookup (nat_eq p) c.in_ok-pins.pins.entries ≡ lookup (nat_eq p) (pins_of (held_contents i.boundary i.held) (peak_positions rule c.args.location)) =
     λ p. c.in_ok-pins.ensures p ∙ ap (λ s. lookup (nat_eq p) (pins_of (contents s) (peak_positions rule c.args.location))) (sym c.self.view_is) in
-    pruned_contents rule i.boundary c.args.location i.held c.drop_before.new.self (λ p. c.drop_before.ensures.stored p ∙ (λ j. cond (nat_lt p (c.location_to_position.ensures j)) (pins p j) (get i.held.stored p))) later c.drop_before.ensures.size
+    pruned_contents rule i.boundary c.args.location i.held c.drop_before.new.self
+    (λ p. c.drop_before.ensures.stored p ∙ (λ j. cond (nat_lt p (c.location_to_position.ensures j)) (pins p j) (get i.held.stored p))) later
+    c.drop_before.ensures.size
     ∙ ap (λ s. pruned rule c.args.location (contents s)) c.self.view_is
 
 pub returns-then-le-clause-pruned : goal.returns-then-le-clause-pruned

@@ -26,11 +26,13 @@ returns-clause-ok g c = λ enough.
 
 pub returns-clause-err : goal.returns-clause-err
 returns-clause-err g c = λ many.
-    let count : length c.front.result.now ≡ length (peaks_of g.F.Family.rule c.args.self.now.leaves) = ap length (c.front.ensures ∙ c.write_peaks-count.ensures.held) ∙ c.write_peaks-count.ensures.many in
+    let count : length c.front.result.now ≡ length (peaks_of g.F.Family.rule c.args.self.now.leaves) =
+    ap length (c.front.ensures ∙ c.write_peaks-count.ensures.held) ∙ c.write_peaks-count.ensures.many in
     c.root.ensures.err (omega (arith, count, many)) ∙ ap (λ (n : ℕ). Err (InvalidInactivePeaks c.args.inactive n)) count
 
 -- the list that the structure agrees with has its number of leaves
-listed_length : {D : Type 0} (h : Hashing D) (rule : List ℕ → List ℕ) (s : MemModel D) (X : List D) (leaves : ℕ) → Agrees h rule (contents s) X → leaves ≡ s.leaves → size rule leaves ≡ s.size → s.leaves ≡ length X
+listed_length : {D : Type 0} (h : Hashing D) (rule : List ℕ → List ℕ) (s : MemModel D) (X : List D) (leaves : ℕ) → Agrees h rule (contents s) X
+    → leaves ≡ s.leaves → size rule leaves ≡ s.size → s.leaves ≡ length X
 listed_length h rule s X leaves agrees same sized = sym same ∙ size_inj rule leaves (length X) (sized ∙ agrees.sized)
 
 pub returns-clause-listed : goal.returns-clause-listed

@@ -50,7 +50,9 @@ returns-in_err-write_node-clause-no_room g c =
     let rest = range_with_len (i + 1) (held.size - (i + 1)) in
     let here = ap (λ ps. now.items ++ held_bytes bytes held ps) (sym (next_range i held.size below)) ∙ c.loop-index.invariant.items in
     let few = subst (λ p. vec_capacity now < vec_len now + length (node_bytes bytes held p)) c.new.ensures c.in_err-write_node.ensures.no_room in
-    on_err c.from_residual-in_err-write_node.result _ (no_room_on bytes held old.items now.items _ i rest (vec_len old) (vec_capacity old) (vec_len now) (vec_capacity now) old.ok.0 now.ok.0 here c.loop-index.invariant.room few)
+    on_err c.from_residual-in_err-write_node.result _
+    (no_room_on bytes held old.items now.items _ i rest (vec_len old) (vec_capacity old) (vec_len now) (vec_capacity now) old.ok.0 now.ok.0 here
+    c.loop-index.invariant.room few)
 
 pub returns-clause-ok : goal.returns-clause-ok
 returns-clause-ok g c = search rules

@@ -9,6 +9,7 @@ use Rattle.merkle_core.proofs.mem.Mem.write_nodes.Given as goal
 -- what is written, and the bytes of the nodes that are left
 abbrev pub invariant-loop-index : goal.invariant-loop-index
 invariant-loop-index g l = record {
-  items : l.out.items ++ held_bytes g.D.Digest.bytes (contents l.self) (range_with_len l.index (l.self.size - l.index)) ≡ l.fn.out.items ++ counted_spelling g.D.Digest.bytes (held_nodes g.F.Family.rule l.self);
+  items : l.out.items ++ held_bytes g.D.Digest.bytes (contents l.self) (range_with_len l.index (l.self.size - l.index)) ≡ l.fn.out.items
+      ++ counted_spelling g.D.Digest.bytes (held_nodes g.F.Family.rule l.self);
   room : vec_capacity l.fn.out ≤ vec_capacity l.out;
 }

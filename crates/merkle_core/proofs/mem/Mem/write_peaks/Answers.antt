@@ -21,7 +21,8 @@ loop-position-init g c =
       g.met.F.Peaks.Listed.ends c.into_iter-position-iterator.result,
       search rules,
       omega (arith, ap length told, length-map (peaks_of rule leaves) placed, few_peaks rule g.F.Family.MAX_LEAVES g.F.Family.MAX_NODES g.met.F.Family.lawful leaves counted.bounded),
-      ap (λ qs. held_at (contents c.args.self.now) (map (λ q. q.0) qs)) told ∙ ap (held_at (contents c.args.self.now)) (first-placed (peaks_of rule leaves)) ∙ ap (λ s. held_peaks rule s.leaves (contents c.args.self.now)) c.self.view_is,
+      ap (λ qs. held_at (contents c.args.self.now) (map (λ q. q.0) qs)) told
+          ∙ ap (held_at (contents c.args.self.now)) (first-placed (peaks_of rule leaves)) ∙ ap (λ s. held_peaks rule s.leaves (contents c.args.self.now)) c.self.view_is,
     )
 
 pub size-requires : goal.size-requires

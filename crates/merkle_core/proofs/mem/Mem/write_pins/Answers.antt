@@ -30,8 +30,12 @@ loop-position-preserved g c =
     let bytes = g.D.Digest.bytes in
     let held = contents c.args.self.now in
     let out = c.loop-position.out.items in
-    let here = ap (λ ps. out ++ held_bytes bytes held ps) (sym c.in-Some.ensures.steps) ∙ c.loop-position.invariant.2 in
-    (tt, tt, write_on bytes held out c.write_node.new.out.items _ c.in-Some.position c.next.new.self here c.in_ok-write_node.ensures.ok, omega (arith, c.loop-position.invariant.3, c.write_node.ensures.capacity))
+    let here = ap (λ ps. out ++ held_bytes bytes held ps) (sym c.in-Some.ensures.steps) ∙ c.loop-position.invariant.2 in (
+      tt,
+      tt,
+      write_on bytes held out c.write_node.new.out.items _ c.in-Some.position c.next.new.self here c.in_ok-write_node.ensures.ok,
+      omega (arith, c.loop-position.invariant.3, c.write_node.ensures.capacity),
+    )
 
 pub returns-in_err-write_node-clause-no_room : goal.returns-in_err-write_node-clause-no_room
 returns-in_err-write_node-clause-no_room g c =

@@ -13,7 +13,9 @@ components_size-requires g c =
     let s = c.args.self.now in
     let whole = length-components bytes g.D.Digest.SIZE (λ x. D.one_length (bytes x) (D.bytes_spell x)) s.boundary (held_pins rule s) (held_nodes rule s) in
     let boundary = c.as_u64.ensures ∙ ap (λ (m : MemModel _). m.boundary) c.self.view_is in
-    let parts : components_length g.D.Digest.SIZE c.as_u64.result c.pin_count.result c.node_count.result ≡ components_length g.D.Digest.SIZE s.boundary (length (held_pins rule s)) (length (held_nodes rule s)) = λ i. components_length g.D.Digest.SIZE (boundary i) (c.pin_count.ensures i) (c.node_count.ensures i) in
+    let parts : components_length g.D.Digest.SIZE c.as_u64.result c.pin_count.result c.node_count.result
+    ≡ components_length g.D.Digest.SIZE s.boundary (length (held_pins rule s)) (length (held_nodes rule s)) =
+    λ i. components_length g.D.Digest.SIZE (boundary i) (c.pin_count.ensures i) (c.node_count.ensures i) in
     omega (arith, whole, parts, c.requires)
 
 pub returns : goal.returns
