@@ -156,6 +156,12 @@ def false_digests(kind, family, bagging, *arguments):
         yield Case("not_a_digest", kind, family, bagging, before[0][:31], *before[1:], [*given[:-1], ("", last)], bare=True)
 
 
+def accepted_digests(kind, family, bagging, *arguments):
+    """An accepted call over some digests, and false ones."""
+    yield Case("accepted", kind, family, bagging, *arguments)
+    yield from false_digests(kind, family, bagging, *arguments)
+
+
 def range_cases(family, bagging, root, proof, start, proved, kinds=("range", "element")):
     """An accepted range, and false ones; of one element as an element too. With other kinds it is one of digests."""
     kind, of_one = kinds
@@ -325,20 +331,20 @@ def long_lists(family, bagging, chance):
         yield Case("accepted", "range", family, bagging, root, proof, start, elements[start : start + count])
         yield Case("read 300 2", "read", family, bagging, proof)
         yield from wrong_lengths("range", family, bagging, root, proof, start, elements[start : start + count])
-        yield from false_digests("range_digests", family, bagging, root, proof, start, digests[start : start + count])
+        yield from accepted_digests("range_digests", family, bagging, root, proof, start, digests[start : start + count])
     for places in (range(0, 300, 2), range(0, 300, 9), range(298, 300), range(300)):
         located = [(place, elements[place]) for place in places]
         yield Case("accepted", "scattered", family, bagging, root, of.scattered(2, places), located)
         yield from wrong_lengths("scattered", family, bagging, root, of.scattered(2, places), located)
         at = [(place, digests[place]) for place in places]
-        yield from false_digests("scattered_digests", family, bagging, root, of.scattered(2, places), at)
+        yield from accepted_digests("scattered_digests", family, bagging, root, of.scattered(2, places), at)
     call = 41, 1, grown.root(bagging, 41, 1), grown.pins(41), root, grown.range(bagging, 2, 41, 259), elements[41:]
     yield Case("accepted", "growth", family, bagging, *call)
     part = 41, 1, grown.root(bagging, 41, 1), grown.pins(41), root, grown.range(bagging, 2, 41, 7), elements[41:48]
     yield Case("accepted", "growth", family, bagging, *part)
     yield from wrong_lengths("growth", family, bagging, *part)
-    yield from false_digests("growth_digests", family, bagging, *call[:-1], digests[41:])
-    yield from false_digests("growth_digests", family, bagging, *part[:-1], digests[41:48])
+    yield from accepted_digests("growth_digests", family, bagging, *call[:-1], digests[41:])
+    yield from accepted_digests("growth_digests", family, bagging, *part[:-1], digests[41:48])
 
 
 def borders(chance):
