@@ -1,11 +1,11 @@
 -- What is hashed for an accepted input, from the digests that its store has.
 use Rattle.std.proofs.Common.{◌≡◌, ◌≢◌, ◌⊎◌, inl, inr, Ok, Bool, true, false, IsTrue, nat_eq, ℕ, suc, pred, ◌<◌, ◌≤◌, ◌+◌, ◌-◌, List, [], ◌∷◌, ◌++◌, map, take}
-use Rattle.std.proofs.Common.{drop, length, length-append, refl, ap, ap₂, sym, ◌∙◌, subst, arith, min, max, zero, Some, None}
+use Rattle.std.proofs.Common.{drop, length, length-append, refl, ap, ap₂, sym, ◌∙◌, subst, arith, min, max, zero, Option, Some, None}
 use Rattle.std.proofs.lemmas.Bool.{eqb-false, false≢true}
 use Rattle.std.proofs.lemmas.List.{length-map, length-take}
 use Rattle.std.specs.Prelude.{not}
 use Rattle.std.specs.List.{AllByRecursion}
-use Rattle.std.specs.Option.{unwrap_or}
+use Rattle.std.specs.Option.{unwrap_or, IfNone}
 use Rattle.merkle_base.specs.Places.{peaks_of, wholly_before}
 use Rattle.merkle_base.specs.Root.{folded, root_string}
 use Rattle.merkle_base.specs.Scheme.{Scheme}

@@ -37,7 +37,7 @@ returns-in-Ok-claim-clause-some g c =
     let es = c.args.digests.now in
     let r = digest_input_of c.args.proof.now c.args.start es in
     let count : length r.elements ≡ length es = refl in
-    elim c.match-new.branch [
+    elim c.match-from_leaf_digests.branch [
       | in-Ok w ↦ (
         (leads_is_accepted s r c.args.root.now).1 (inl w.in-Ok.ensures.accepted),
         IfOk-at_ok (IsClaim g.H.Digest.Digest.EMPTY s r) (sym w.claim-is ∙ c.in-Ok-claim.is) w.claim_of-claim.ensures.claim,

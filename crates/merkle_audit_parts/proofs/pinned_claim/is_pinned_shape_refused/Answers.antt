@@ -7,6 +7,9 @@ use Rattle.merkle_base.specs.Tree.{position}
 use Rattle.merkle_audit_parts.proofs.Claims.{told_apart}
 use Rattle.merkle_audit_parts.proofs.pinned_claim.is_pinned_shape_refused.Goals as goal
 
+pub returns-then-branch : goal.returns-then-branch
+returns-then-branch g c = λ _ leaves many root ok. c.in_ok-is_shape_refused.ensures c.if-branch.true leaves many root ok.0
+
 pub returns-then-is_valid : goal.returns-then-is_valid
 returns-then-is_valid g c = λ yes _ _ _ ok.
     let rule = g.F.Family.rule in
