@@ -15,7 +15,7 @@ use Rattle.merkle_audit_parts.proofs.Verdicts.{found_verdict, no_verdict, multi_
 use Rattle.merkle_audit.proofs.multi.judge.Goals as goal
 
 pub returns-then-not-is_accepted-clause-within : goal.returns-then-not-is_accepted-clause-within
-returns-then-not-is_accepted-clause-within g c = c.in-Ok-new.ensures.within
+returns-then-not-is_accepted-clause-within g c = c.in-Ok.ensures.within
 
 pub returns-then-not-is_accepted-clause-judged : goal.returns-then-not-is_accepted-clause-judged
 returns-then-not-is_accepted-clause-judged g c =
@@ -28,17 +28,17 @@ returns-then-not-is_accepted-clause-judged g c =
     let X = c.args.list.now in
     let k = c.args.inactive in
     let r = multi_digest_input_of c.args.proof.now c.args.leaves.now in
-    let list = c.in-Ok-new.ensures.hashed in
+    let list = c.in-Ok.ensures.hashed in
     let exact = c.in-Ok-verify_multi_leaf_digests_inclusion.ensures.exact in
     let no = λ (a : AcceptsMulti s r (list_root s X k)). false≢true (sym c.if-not-is_accepted.true ∙ exact.1 (subst (AcceptsMulti s r) (sym list.root) a)) in
     no_verdict (AcceptsMulti s r (list_root s X k)) (IsHonestMulti s X k r) s.hashing (multi_inputs s r) (list_inputs s X k) _ refl (multi_no s _ _ kept X k list.few list.low r no)
 
 pub accepted-requires : goal.accepted-requires
 accepted-requires g c =
-    (c.in-Ok-new.listed.root, c.in-Ok-verify_multi_leaf_digests_inclusion.ensures.exact.0 c.if-not-is_accepted.false)
+    (c.in-Ok.listed.root, c.in-Ok-verify_multi_leaf_digests_inclusion.ensures.exact.0 c.if-not-is_accepted.false)
 
 pub returns-clause-within : goal.returns-clause-within
-returns-clause-within g c = c.in-Ok-new.ensures.within
+returns-clause-within g c = c.in-Ok.ensures.within
 
 pub returns-clause-judged : goal.returns-clause-judged
 returns-clause-judged g c =
@@ -51,7 +51,7 @@ returns-clause-judged g c =
     let X = c.args.list.now in
     let k = c.args.inactive in
     let r = multi_digest_input_of c.args.proof.now c.args.leaves.now in
-    let list = c.in-Ok-new.ensures.hashed in
+    let list = c.in-Ok.ensures.hashed in
     let exact = c.in-Ok-verify_multi_leaf_digests_inclusion.ensures.exact in
     let over = subst (λ h. IsOver h g.H.Digest.Digest.bytes g.H.Digest.PartialEq.eq g.H.Digest.Digest.EMPTY)
     (sym (ap (λ (z : Scheme g.row.H-Digest.Denot). z.hashing) is)) (g.met.H.Hasher.over_digest c.args.hasher.now) in
@@ -59,7 +59,7 @@ returns-clause-judged g c =
     let claim = c.in-Ok-accepted.claim in
     let o = option_map located c.first_of-found.result in
     let under = option_map located claim.1 in
-    let found = multi_found s _ _ kept g.H.Digest.Digest.EMPTY X k list.few list.low r ok claim.0 c.in-Ok-accepted.ensures.top _ list.nodes c.in-Ok-new.listed.top list.top o under
+    let found = multi_found s _ _ kept g.H.Digest.Digest.EMPTY X k list.few list.low r ok claim.0 c.in-Ok-accepted.ensures.top _ list.nodes c.in-Ok.listed.top list.top o under
     (λ q. c.first_of-found.ensures ∙ ap (λ z. or_else z under) (c.first_above.ensures.apart q))
     (λ q. c.first_of-found.ensures ∙ ap (λ z. or_else z under) (c.first_above.ensures.same s.hashing over q)) c.in-Ok-accepted.ensures.below in
     found_verdict (AcceptsMulti s r (list_root s X k)) (IsHonestMulti s X k r) s.hashing (multi_inputs s r) (list_inputs s X k) c.verdict.result

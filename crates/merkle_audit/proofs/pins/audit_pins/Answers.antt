@@ -1,4 +1,4 @@
-use Rattle.std.proofs.Common.{IfOk, ap₂, ◌≤◌, arith, length, refl, ap, sym, subst, ◌∙◌}
+use Rattle.std.proofs.Common.{IfOk, ap₂, ◌≡◌, ◌<◌, ◌+◌, ◌≤◌, arith, length, refl, ap, sym, subst, ◌∙◌}
 use Rattle.merkle_base.specs.Places.{peaks_of}
 use Rattle.merkle_base.specs.Root.{list_root}
 use Rattle.merkle_base.specs.Scheme.{Scheme}
@@ -13,7 +13,7 @@ use Rattle.merkle_proof.proofs.HasherLaws.{sound}
 use Rattle.merkle_audit.proofs.PinnedSearched.{pinned_no}
 use Rattle.merkle_audit_parts.specs.Found.{IsPinnedVerdict}
 use Rattle.merkle_audit_parts.proofs.Claims.{led_within}
-use Rattle.merkle_audit_parts.proofs.Verdicts.{no_verdict}
+use Rattle.merkle_audit_parts.proofs.Verdicts.{at_none, at_some, no_verdict}
 use Rattle.merkle_audit.proofs.pins.audit_pins.Goals as goal
 
 pub returns-then-branch-clause-judged : goal.returns-then-branch-clause-judged
@@ -56,7 +56,7 @@ returns-in_default-clause-judged g c =
     let many = length-leaf_digests s.hashing s.rule c.args.start (bytes_of c.args.elements.now) ∙ length-map c.args.elements.now (λ e. e.now) in
     let most = ap (λ (z : Scheme g.row.H-Digest.Denot). z.max_leaves) is in
     let no = λ (a : AcceptsPinned s r pins (list_root s X k)).
-    absurd (omega (arith, led_within s r (list_root s X k) a.0, many, most, c.in_default.ensures)) in
+    absurd (omega (arith, led_within s r (list_root s X k) a.0, many, most, at_none c.in_ok-digests.field-0 (g.F.Family.MAX_LEAVES < c.args.start + length c.args.elements.now) c.in_default.is c.in_ok-digests.ensures.none)) in
     no_verdict (AcceptsPinned s r pins (list_root s X k)) (IsHonestPinned s X k r pins) s.hashing (pinned_inputs s r pins) (list_inputs s X k) _ refl (pinned_no s _ _ kept X k few low r pins no)
 
 pub returns-clause-judged : goal.returns-clause-judged
@@ -65,7 +65,8 @@ returns-clause-judged g c =
     let is = g.met.H.Hasher.scheme_is c.args.hasher.now in
     let es = c.args.elements.now in
     let leaves_are : c.deref.result.now ≡ leaf_digests s.hashing s.rule c.args.start (bytes_of es) =
-    c.deref.ensures.value ∙ c.in-Some.ensures ∙ ap₂ (λ h rule. leaf_digests h rule c.args.start (bytes_of es))
+    c.deref.ensures.value ∙ at_some c.in_ok-digests.field-0 (λ v. v.items ≡ leaf_digests (g.H.Hasher.hashing c.args.hasher.now) g.F.Family.rule c.args.start (bytes_of es))
+    c.in-Some.digests c.in-Some.is c.in_ok-digests.ensures.some ∙ ap₂ (λ h rule. leaf_digests h rule c.args.start (bytes_of es))
     (sym (ap (λ (z : Scheme g.row.H-Digest.Denot). z.hashing) is)) (sym (ap (λ (z : Scheme g.row.H-Digest.Denot). z.rule) is)) in
     subst (λ ls. IfOk c.judge.result
     (IsPinnedVerdict s c.args.list.now c.args.inactive (digest_input_of c.args.proof.now c.args.start ls) c.args.pinned_nodes.now))

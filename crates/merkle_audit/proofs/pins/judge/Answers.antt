@@ -20,7 +20,7 @@ use Rattle.merkle_audit_parts.proofs.Verdicts.{at_none, at_some, found_verdict, 
 use Rattle.merkle_audit.proofs.pins.judge.Goals as goal
 
 pub returns-in-Ok-None-clause-within : goal.returns-in-Ok-None-clause-within
-returns-in-Ok-None-clause-within g c = c.in-Ok-new.ensures.within
+returns-in-Ok-None-clause-within g c = c.in-Ok.ensures.within
 
 pub returns-in-Ok-None-clause-judged : goal.returns-in-Ok-None-clause-judged
 returns-in-Ok-None-clause-judged g c =
@@ -34,9 +34,9 @@ returns-in-Ok-None-clause-judged g c =
     let k = c.args.inactive in
     let r = digest_input_of c.args.proof.now c.args.start c.args.digests.now in
     let pins = c.args.pinned_nodes.now in
-    let list = c.in-Ok-new.ensures.hashed in
+    let list = c.in-Ok.ensures.hashed in
     let no = λ (a : AcceptsPinned s r pins (list_root s X k)).
-    at_none c.in-Ok-None.field-0 (¬ (AcceptsPinned s r pins c.in-Ok-new.listed.root)) c.in-Ok-None.field-0-is c.in-Ok-None.ensures.none (subst (AcceptsPinned s r pins) (sym list.root) a) in
+    at_none c.in-Ok-None.field-0 (¬ (AcceptsPinned s r pins c.in-Ok.listed.root)) c.in-Ok-None.field-0-is c.in-Ok-None.ensures.none (subst (AcceptsPinned s r pins) (sym list.root) a) in
     no_verdict (AcceptsPinned s r pins (list_root s X k)) (IsHonestPinned s X k r pins) s.hashing (pinned_inputs s r pins) (list_inputs s X k) _ refl
     (pinned_no s _ _ kept X k list.few list.low r pins no)
 
@@ -46,11 +46,11 @@ first_pinned_below-below-requires g c =
     let is = g.met.H.Hasher.scheme_is c.args.hasher.now in
     let X = c.args.list.now in
     let nodes = subst (λ rule. AreNodes g.F.Family.rule g.F.Family.MAX_LEAVES (peaks_of rule (length X)))
-    (sym (ap (λ (z : Scheme g.row.H-Digest.Denot). z.rule) is)) (peaks_at g.F.Family.rule g.F.Family.MAX_LEAVES (length X) c.in-Ok-new.ensures.within.0) in
-    record { nodes = (peaks_of s.rule (length X), c.deref.ensures.value ∙ c.in-Ok-new.ensures.hashed.peaks, nodes) }
+    (sym (ap (λ (z : Scheme g.row.H-Digest.Denot). z.rule) is)) (peaks_at g.F.Family.rule g.F.Family.MAX_LEAVES (length X) c.in-Ok.ensures.within.0) in
+    record { nodes = (peaks_of s.rule (length X), c.deref.ensures.value ∙ c.in-Ok.ensures.hashed.peaks, nodes) }
 
 pub returns-clause-within : goal.returns-clause-within
-returns-clause-within g c = c.in-Ok-new.ensures.within
+returns-clause-within g c = c.in-Ok.ensures.within
 
 pub returns-clause-judged : goal.returns-clause-judged
 returns-clause-judged g c =
@@ -64,19 +64,19 @@ returns-clause-judged g c =
     let k = c.args.inactive in
     let r = digest_input_of c.args.proof.now c.args.start c.args.digests.now in
     let pins = c.args.pinned_nodes.now in
-    let list = c.in-Ok-new.ensures.hashed in
+    let list = c.in-Ok.ensures.hashed in
     let nodes = subst (λ rule. AreNodes g.F.Family.rule g.F.Family.MAX_LEAVES (peaks_of rule (length X)))
-    (sym (ap (λ (z : Scheme g.row.H-Digest.Denot). z.rule) is)) (peaks_at g.F.Family.rule g.F.Family.MAX_LEAVES (length X) c.in-Ok-new.ensures.within.0) in
+    (sym (ap (λ (z : Scheme g.row.H-Digest.Denot). z.rule) is)) (peaks_at g.F.Family.rule g.F.Family.MAX_LEAVES (length X) c.in-Ok.ensures.within.0) in
     let over = subst (λ h. IsOver h g.H.Digest.Digest.bytes g.H.Digest.PartialEq.eq g.H.Digest.Digest.EMPTY)
     (sym (ap (λ (z : Scheme g.row.H-Digest.Denot). z.hashing) is)) (g.met.H.Hasher.over_digest c.args.hasher.now) in
     let claim = at_some c.in-Ok-Some.field-0
-    (λ k. AcceptsPinned s r pins c.in-Ok-new.listed.root × IsPinnedClaim g.H.Digest.Digest.EMPTY s r pins k.top k.nodes) c.in-Ok-Some.claim
+    (λ k. AcceptsPinned s r pins c.in-Ok.listed.root × IsPinnedClaim g.H.Digest.Digest.EMPTY s r pins k.top k.nodes) c.in-Ok-Some.claim
     c.in-Ok-Some.field-0-is c.in-Ok-Some.ensures.some in
     let ok = subst (AcceptsPinned s r pins) list.root claim.0 in
     let o = option_map located c.first_of-found.result in
     let under = option_map located c.first_pinned_below-below.result in
     let found = pinned_found s _ _ kept g.H.Digest.Digest.EMPTY X k list.few list.low r pins ok c.in-Ok-Some.claim.top c.in-Ok-Some.claim.nodes
-    claim.1 _ list.nodes c.in-Ok-new.listed.top list.top o under
+    claim.1 _ list.nodes c.in-Ok.listed.top list.top o under
     (λ q. c.first_of-found.ensures ∙ ap (λ z. or_else z under) (c.first_above.ensures.apart q))
     (λ q. c.first_of-found.ensures ∙ ap (λ z. or_else z under) (c.first_above.ensures.same s.hashing over q))
     (λ f u x y. c.first_pinned_below-below.ensures s.hashing (peaks_of s.rule (length X)) f u over (c.deref.ensures.value ∙ list.peaks) nodes
