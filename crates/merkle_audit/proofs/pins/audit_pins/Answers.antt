@@ -56,7 +56,13 @@ returns-in_default-clause-judged g c =
     let many = length-leaf_digests s.hashing s.rule c.args.start (bytes_of c.args.elements.now) ∙ length-map c.args.elements.now (λ e. e.now) in
     let most = ap (λ (z : Scheme g.row.H-Digest.Denot). z.max_leaves) is in
     let no = λ (a : AcceptsPinned s r pins (list_root s X k)).
-    absurd (omega (arith, led_within s r (list_root s X k) a.0, many, most, at_none c.in_ok-digests.field-0 (g.F.Family.MAX_LEAVES < c.args.start + length c.args.elements.now) c.in_default.is c.in_ok-digests.ensures.none)) in
+    absurd (omega (
+      arith,
+      led_within s r (list_root s X k) a.0,
+      many,
+      most,
+      at_none c.in_ok-digests.field-0 (g.F.Family.MAX_LEAVES < c.args.start + length c.args.elements.now) c.in_default.is c.in_ok-digests.ensures.none,
+    )) in
     no_verdict (AcceptsPinned s r pins (list_root s X k)) (IsHonestPinned s X k r pins) s.hashing (pinned_inputs s r pins) (list_inputs s X k) _ refl (pinned_no s _ _ kept X k few low r pins no)
 
 pub returns-clause-judged : goal.returns-clause-judged
