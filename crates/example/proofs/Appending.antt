@@ -1,25 +1,30 @@
 -- A leaf that is appended to a structure, from what the calls say of which a batch is made and applied.
-use Rattle.std.proofs.Common.{◌≡◌, ◌↔◌, ℕ, zero, suc, ◌+◌, ◌≤◌, List, [], ◌∷◌, ◌++◌, length, length-append, take, Option, Some, None, slice_get, Bool, true}
-use Rattle.std.proofs.Common.{false, IsTrue, Decides, cond, not, arith, refl, sym, ap, ◌∙◌, subst}
-use Rattle.std.specs.Prelude.{nat_lt, ◌==◌, ◌&&◌}
-use Rattle.std.proofs.lemmas.Bool.{ltb-false}
-use Rattle.std.proofs.lemmas.List.{nil_from_length}
+use Rattle.std.proofs.Common.{◌≡◌, ◌↔◌, ℕ, zero, suc, ◌+◌, List, [], ◌∷◌, ◌++◌, length, length-append, take, Option, Some, None, slice_get, Bool}
+use Rattle.std.proofs.Common.{IsTrue, Decides, cond, not, arith, refl, sym, ap, ◌∙◌, subst}
+use Rattle.std.specs.Prelude.{Result, Ok, Err, OnErr, ◌==◌, ◌&&◌}
 use Rattle.std.specs.FinMap.{empty, get, get-empty, len-empty}
 use Rattle.std.specs.Option.{unwrap_or}
 use Rattle.std.specs.Ordering.{nat_cmp}
 use Rattle.merkle_core.specs.Applying.{IsApplied}
 use Rattle.merkle_core.specs.Changes.{GoesOn}
-use Rattle.merkle_core.specs.Components.{made_of}
-use Rattle.merkle_core.specs.Contents.{Contents, Agrees, is_kept, pruned}
+use Rattle.merkle_core.specs.Contents.{Contents, Agrees}
 use Rattle.merkle_core.specs.ForLists.{BeginsAt}
 use Rattle.merkle_core.specs.Forest.{size}
 use Rattle.merkle_core.specs.Hashing.{Hashing, EqDecides}
 use Rattle.merkle_core.specs.History.{IsHistory, replaced}
-use Rattle.merkle_core.specs.MemModel.{MemModel, contents}
 use Rattle.merkle_core.specs.Records.{MerkleizedModel, RecordModel, records}
 use Rattle.merkle_core.specs.Roots.{root_batch}
 use Rattle.merkle_core.specs.Unmerkleized.{UnmerkleizedModel, forked, kept, kept_lists, pending_list, with_leaves}
 use Rattle.example.specs.Appended.{ExtendsBy}
+
+-- what holds, holds after an error
+pub on_err : {T E : Type 0} (r : Result T E) (P : Type 0) → P → OnErr r P
+on_err (Ok x) P p = tt
+on_err (Err e) P p = p
+
+-- a value that is answered is the one that is said
+pub ok_is : {T E : Type 0} (x y : T) (r : Result T E) → r ≡ Ok x → r ≡ Ok y → x ≡ y
+ok_is x y r e f = let both : Ok x ≡ Ok y = sym e ∙ f in cc
 
 -- a list without new digests is as it was
 unreplaced : {D : Type 0} (rule : List ℕ → List ℕ) (m : ℕ → Option D) → ((q : ℕ) → m q ≡ None) → (n : ℕ) (X : List D) → replaced rule m n X ≡ X
@@ -67,18 +72,3 @@ agrees_with_leaf h rule same decides equal old new d b extends applied X agrees 
 -- a hashing's equality decides, where that of its digests does
 pub decides_of : {D : Type 0} (h : Hashing D) (equal : D → D → Bool) → h.same ≡ equal → ((x y : D) → IsTrue (equal x y) ↔ (x ≡ y)) → EqDecides h
 decides_of {D} h equal same decides = λ a b. subst (λ (f : D → D → Bool). Decides (f a b) (a ≡ b)) (sym same) (decides a b)
-
--- ---- a structure that is pruned to its end has no nodes
-pruned_to : {D : Type 0} (c : Contents D) (b : ℕ) (node : ℕ → Option D) (is_less : Bool) → nat_lt c.boundary b ≡ is_less → c.boundary ≤ b
-    → let cut : Contents D = cond is_less (record { boundary = b; size = c.size; node = node }) c in (cut.boundary ≡ b) × (cut.size ≡ c.size)
-pruned_to c b node true e below = (refl, refl)
-pruned_to c b node false e below = (omega (arith, below, ltb-false c.boundary b e), refl)
-
-pub no_nodes : {D : Type 0} (rule : List ℕ → List ℕ) (old new : MemModel D) (end b n : ℕ) (pins nodes : List D) → contents new ≡ pruned rule end (contents old) → old.boundary ≤ end
-    → size rule end ≡ old.size → new ≡ made_of rule b n pins nodes → nodes ≡ []
-no_nodes {D} rule old new end b n pins nodes cut below sized made =
-    let c = contents old in
-    let at = pruned_to c end (λ p. cond (is_kept rule end p) (c.node p) None) (nat_lt c.boundary end) refl below in
-    let boundary : b ≡ end = sym (ap (λ (m : MemModel D). m.boundary) made) ∙ ap (λ (d : Contents D). d.boundary) cut ∙ at.0 in
-    let whole : size rule b + length nodes ≡ old.size = sym (ap (λ (m : MemModel D). m.size) made) ∙ ap (λ (d : Contents D). d.size) cut ∙ at.1 in
-    nil_from_length nodes (omega (arith, whole, sized, ap (size rule) boundary))

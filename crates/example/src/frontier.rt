@@ -48,9 +48,18 @@ impl<F: Family, D: Digest> Frontier<F, D> {
     ) -> Result<Rc<MerkleizedBatch<F, D>>, LogError>
         ensures { IfOk result (λ b. ExtendsBy (H.hashing hasher.now) F.rule (contents self.now.peaks) leaf b.value) }
     {
-        let batch = granted!(self.peaks.new_batch());
-        let batch = granted!(batch.add_leaf_digest(leaf));
-        Ok(granted!(batch.merkleize(&self.peaks, hasher)))
+        let fork = match self.peaks.new_batch() {
+            Ok(fork) => fork,
+            Err(error) => return Err(LogError::from(&error)),
+        };
+        let longer = match fork.add_leaf_digest(leaf) {
+            Ok(longer) => longer,
+            Err(error) => return Err(LogError::from(&error)),
+        };
+        match longer.merkleize(&self.peaks, hasher) {
+            Ok(batch) => Ok(batch),
+            Err(error) => Err(LogError::from(&error)),
+        }
     }
 
     /// Appends an entry, and answers the new root, for no inactive peaks.
@@ -70,12 +79,19 @@ impl<F: Family, D: Digest> Frontier<F, D> {
             IfOk result (IsAppended (H.hashing hasher.now) F.rule s (contents self.old.peaks) (contents self.new.peaks) entry.now) }
         ensures err { OnErr result (StillAgrees (H.hashing hasher.now) F.rule (contents self.old.peaks) (contents self.new.peaks)) }
     {
-        granted!(self.peaks.prune_all());
+        if let Err(error) = self.peaks.prune_all() {
+            return Err(LogError::from(&error));
+        }
         // The next leaf comes after all nodes.
         let leaf = hasher.leaf_digest(self.peaks.size(), entry);
         let batch = self.extended(hasher, leaf)?;
-        granted!(self.peaks.apply_batch(&batch));
-        Ok(granted!(self.peaks.root(hasher, 0)))
+        if let Err(error) = self.peaks.apply_batch(&batch) {
+            return Err(LogError::from(&error));
+        }
+        match self.peaks.root(hasher, 0) {
+            Ok(root) => Ok(root),
+            Err(error) => Err(LogError::from(&error)),
+        }
     }
 
     /// The peaks alone, to be written down: components without nodes, of which [`restore`](Mem::restore) makes the structure
