@@ -1,7 +1,7 @@
 -- A leaf that is appended to a structure, from what the calls say of which a batch is made and applied.
 use Rattle.std.proofs.Common.{◌≡◌, ◌↔◌, ℕ, zero, suc, ◌+◌, List, [], ◌∷◌, ◌++◌, length, length-append, take, Option, Some, None, slice_get, Bool}
 use Rattle.std.proofs.Common.{IsTrue, Decides, cond, not, arith, refl, sym, ap, ◌∙◌, subst}
-use Rattle.std.specs.Prelude.{Result, Ok, Err, OnErr, ◌==◌, ◌&&◌}
+use Rattle.std.specs.Prelude.{Result, Ok, ◌==◌, ◌&&◌}
 use Rattle.std.specs.FinMap.{empty, get, get-empty, len-empty}
 use Rattle.std.specs.Option.{unwrap_or}
 use Rattle.std.specs.Ordering.{nat_cmp}
@@ -16,11 +16,6 @@ use Rattle.merkle_core.specs.Records.{MerkleizedModel, RecordModel, records}
 use Rattle.merkle_core.specs.Roots.{root_batch}
 use Rattle.merkle_core.specs.Unmerkleized.{UnmerkleizedModel, forked, kept, kept_lists, pending_list, with_leaves}
 use Rattle.example.specs.Appended.{ExtendsBy}
-
--- what holds, holds after an error
-pub on_err : {T E : Type 0} (r : Result T E) (P : Type 0) → P → OnErr r P
-on_err (Ok x) P p = tt
-on_err (Err e) P p = p
 
 -- a value that is answered is the one that is said
 pub ok_is : {T E : Type 0} (x y : T) (r : Result T E) → r ≡ Ok x → r ≡ Ok y → x ≡ y

@@ -1,10 +1,11 @@
-use Rattle.std.proofs.Common.{◌≡◌, ◌++◌, ◌∷◌, [], length, arith, refl, ap, sym, ◌∙◌, subst}
+use Rattle.std.proofs.Common.{◌≡◌, ◌++◌, ◌∷◌, [], length, arith, ap, sym, ◌∙◌, subst}
 use Rattle.merkle_core.specs.Applying.{IsApplied}
 use Rattle.merkle_core.specs.Contents.{Agrees}
 use Rattle.merkle_core.specs.Forest.{size}
 use Rattle.merkle_core.specs.MemModel.{contents}
 use Rattle.example.specs.Appended.{with_entry}
-use Rattle.example.proofs.Appending.{agrees_with_leaf, decides_of, ok_is, on_err}
+use Rattle.merkle_core.proofs.WrittenNodes.{on_err}
+use Rattle.example.proofs.Appending.{agrees_with_leaf, decides_of, ok_is}
 use Rattle.example.proofs.frontier.Frontier.append.Goals as goal
 
 pub returns-in_err-batch-clause-err : goal.returns-in_err-batch-clause-err
