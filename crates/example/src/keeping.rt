@@ -35,6 +35,15 @@ fn read_back<D: Digest>(alloc: Global, bytes: &[u8]) -> Result<Config<Family, D>
     Ok(config)
 }
 
+/// Why nothing is restored of what was read back.
+fn refusal(error: &RestoreError<Family>) -> Result<&'static str, LogError> {
+    match error {
+        RestoreError::DamagedNode(_) => Ok("a damaged node"),
+        RestoreError::RootMismatch => Ok("another root"),
+        _ => Err(LogError::from(error)),
+    }
+}
+
 /// What becomes of bytes that are read back, in the place of the log with this root.
 ///
 /// The root covers the peaks alone, and says nothing of the nodes below them; these are checked by their parents.
@@ -44,11 +53,10 @@ fn outcome<H: Hasher<Family> + Drop>(
     root: &H::Digest,
 ) -> Result<&'static str, LogError> {
     let config = read_back(log.alloc, bytes)?;
-    match Mmr::restore(config, &log.hasher, 0, root) {
+    let restored = Mmr::restore(config, &log.hasher, 0, root);
+    match &restored {
         Ok(_) => Ok("the log"),
-        Err(RestoreError::DamagedNode(_)) => Ok("a damaged node"),
-        Err(RestoreError::RootMismatch) => Ok("another root"),
-        Err(error) => Err(LogError::from(&error)),
+        Err(error) => refusal(error),
     }
 }
 
