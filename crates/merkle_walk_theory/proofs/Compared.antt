@@ -1,8 +1,6 @@
 -- What a walk over a claim's nodes finds is the first difference from what is listed.
-use Rattle.std.proofs.Common.{◌≡◌, ℕ, Bool, true, false, not, cond, ◌&&◌, ◌==◌, List, [], ◌∷◌, ◌++◌, map, inl, inr, refl, ap, ap₂, sym, ◌∙◌, subst, Option, Some, None, option_map}
-use Rattle.std.specs.List.{AllByRecursion}
+use Rattle.std.proofs.Common.{◌≡◌, ℕ, Bool, true, false, not, cond, ◌&&◌, ◌==◌, List, [], ◌∷◌, ◌++◌, inl, inr, refl, ap, ap₂, sym, ◌∙◌, subst, Option, Some, None, option_map}
 use Rattle.std.proofs.lemmas.Bool.Decides.{Decides-eqb}
-use Rattle.std.proofs.lemmas.List.{map-append}
 use Rattle.merkle_base.specs.Hashing.{Hashing}
 use Rattle.merkle_base.specs.Tree.{Tree, leaf, join}
 use Rattle.merkle_root_theory.specs.Expression.{Place, Node, Pair, Input, Expression, supplied, computed, cross_checked, value, visited}
@@ -15,7 +13,6 @@ use Rattle.merkle_walk_theory.specs.Compared.{found_over, found_in, found_among,
 use Rattle.merkle_audit_theory.specs.Cuts.{IsCutOf, IsSublist, no_more, kept, left_out, places_in}
 use Rattle.merkle_audit_theory.specs.Differences.{is_difference}
 use Rattle.merkle_audit_theory.specs.Searches.{found_of, input_at, looked_up}
-use Rattle.merkle_audit_theory.specs.Seen.{node_at}
 use Rattle.merkle_audit_theory.proofs.Cursors.{is_false, at_none}
 use Rattle.merkle_audit_theory.proofs.PartedInputs.{or_assoc}
 use Rattle.merkle_audit_theory.proofs.SublistFacts.{sub_member}

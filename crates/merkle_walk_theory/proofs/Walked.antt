@@ -1,5 +1,5 @@
 -- A walk over what a check claims finds the first difference at a node.
-use Rattle.std.proofs.Common.{◌≡◌, ℕ, Bool, cond, ◌||◌, ◌+◌, List, [], ◌∷◌, ◌++◌, map, flat_map, filter, length, drop, refl, ap, ap₂, sym, ◌∙◌, subst, Option, unwrap_or, append_assoc}
+use Rattle.std.proofs.Common.{◌≡◌, ℕ, Bool, cond, ◌||◌, List, [], ◌∷◌, ◌++◌, map, flat_map, filter, length, drop, refl, ap, ap₂, sym, ◌∙◌, subst, Option, append_assoc}
 use Rattle.std.specs.List.{AllByRecursion}
 use Rattle.merkle_base.specs.Hashing.{Hashing}
 use Rattle.merkle_base.specs.Places.{peaks_of, wholly_before}
@@ -7,13 +7,13 @@ use Rattle.merkle_base.specs.Scheme.{Scheme}
 use Rattle.merkle_base.specs.Table.{digest_for}
 use Rattle.merkle_base.specs.Tree.{Tree, leaf, join}
 use Rattle.merkle_base.proofs.Cases.{by_test}
-use Rattle.merkle_root_theory.specs.Check.{RangeInput, chosen, leaf_given, range_inputs, in_range}
+use Rattle.merkle_root_theory.specs.Check.{chosen, leaf_given, range_inputs, in_range}
 use Rattle.merkle_root_theory.specs.Claim.{next, tree_claim}
 use Rattle.merkle_root_theory.specs.Expression.{Place, Node, Input, Expression, supplied, computed, visited, is_node}
 use Rattle.merkle_root_theory.specs.Plan.{peak, siblings, node_expression, tree_meets}
 use Rattle.merkle_root_theory.specs.Range.{end_of, overlapping}
 use Rattle.merkle_root_theory.proofs.Extraction.{all_filter}
-use Rattle.merkle_claim_theory.specs.Multiproof.{MultiInput, multi_on, multi_positions, locations_in, leaves_in}
+use Rattle.merkle_claim_theory.specs.Multiproof.{multi_on, multi_positions, locations_in}
 use Rattle.merkle_claim_theory.specs.Order.{node_places, Distinct}
 use Rattle.merkle_claim_theory.specs.PinnedClaim.{pin_tree, pinned_tree}
 use Rattle.merkle_claim_theory.specs.Rebuilt.{pin_at}

@@ -7,7 +7,7 @@ use Rattle.merkle_root_theory.specs.Expression.{Place, Node, Pair, Input, Expres
 use Rattle.merkle_root_theory.specs.Collision.{Collision}
 use Rattle.merkle_root_theory.specs.Plan.{node_expression}
 use Rattle.merkle_claim_theory.specs.FirstCollision.{or_else}
-use Rattle.merkle_claim_theory.specs.Order.{node_places, Distinct}
+use Rattle.merkle_claim_theory.specs.Order.{Distinct}
 use Rattle.merkle_audit_theory.specs.Cuts.{IsCutOf, IsSublist, places_in}
 use Rattle.merkle_audit_theory.specs.Differences.{is_difference}
 use Rattle.merkle_audit_theory.specs.Searches.{input_at, looked_up}
