@@ -29,8 +29,8 @@ use Rattle.merkle_audit_theory.proofs.PeakInputs.{inputs_by_peaks}
 use Rattle.merkle_audit_theory.proofs.RootSearches.{pinned_searched}
 use Rattle.merkle_audit_theory.proofs.TieredInputs.{fold_tier, node_tier}
 use Rattle.merkle_audit_parts.specs.declared.pin_nodes.PinnedNodes.{PinnedNodes}
-use Rattle.merkle_audit_parts.specs.declared.top.Top.{Top}
-use Rattle.merkle_audit_parts.specs.Hashed.{fold_at, top_of}
+use Rattle.merkle_walks.specs.declared.top.Top.{Top}
+use Rattle.merkle_walks.specs.Hashed.{fold_at, top_of}
 use Rattle.merkle_audit_parts.specs.Listed.{digest_in, IsOfList}
 use Rattle.merkle_audit_parts.specs.PinnedClaimed.{pinned_pair, IsPinnedClaim}
 use Rattle.merkle_audit_parts.proofs.Lists.{batch_sees}

@@ -3,10 +3,10 @@ ghost use Rattle.std.specs.Prelude.{◌≡◌, ◌≢◌, ◌≤◌, ◌↔◌, 
 ghost use Rattle.std.specs.Cmp.Lexicographic.{pointwise};
 ghost use Rattle.merkle_base.specs.Cases.{first_case};
 ghost use Rattle.merkle_audit_parts.specs.Found.{length_refusals, collision_of_lists, IsApplyVerdict};
-ghost use Rattle.merkle_audit_parts.specs.Hashed.{located};
+ghost use Rattle.merkle_walks.specs.Hashed.{located};
 
 use merkle_audit_parts::list::{ListNodes, leaf_count};
-use merkle_audit_parts::nodes::first_below;
+use merkle_walks::nodes::first_below;
 use merkle_audit_parts::verdict::{ApplyVerdict, Collision};
 use merkle_core::digest::Digest;
 use merkle_core::error::Error;

@@ -7,9 +7,9 @@ ghost use Rattle.merkle_audit_parts.specs.Found.{list_refusals, IsMultiVerdict};
 
 use merkle_audit_parts::list::{HashedList, allowed_count};
 use merkle_audit_parts::multi_claim::{accepted, is_shape_refused, located_digests};
-use merkle_audit_parts::nodes::first_of;
+use merkle_walks::nodes::first_of;
 use merkle_audit_parts::range::verdict;
-use merkle_audit_parts::top::first_above;
+use merkle_walks::top::first_above;
 use merkle_audit_parts::verdict::Verdict;
 use merkle_core::error::Error;
 use merkle_core::family::Family;

@@ -1,7 +1,7 @@
 //! The audit of two range checks against one root.
 ghost use Rattle.std.specs.Prelude.{◌≡◌, ◌≢◌, ◌↔◌, None, IfOk, IfErr, option_map};
 ghost use Rattle.merkle_audit_parts.specs.Found.{collision_of_pair, IsPairVerdict};
-ghost use Rattle.merkle_audit_parts.specs.Hashed.{located};
+ghost use Rattle.merkle_walks.specs.Hashed.{located};
 ghost use Rattle.merkle_audit.specs.Given.{given_digest_input, given_input};
 
 use merkle_audit_parts::claim::{Claim, accepted, shaped_digests};

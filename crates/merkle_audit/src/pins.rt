@@ -8,11 +8,11 @@ ghost use Rattle.merkle_audit.specs.Given.{IsVerdictOnPins};
 
 use merkle_audit_parts::claim::digests_from;
 use merkle_audit_parts::list::{HashedList, allowed_count};
-use merkle_audit_parts::nodes::first_of;
+use merkle_walks::nodes::first_of;
 use merkle_audit_parts::pin_nodes::first_pinned_below;
 use merkle_audit_parts::pinned_claim::{PinnedClaim, accepted_pins, is_pinned_shape_refused};
 use merkle_audit_parts::range::verdict;
-use merkle_audit_parts::top::first_above;
+use merkle_walks::top::first_above;
 use merkle_audit_parts::verdict::Verdict;
 use merkle_core::digest::Digest;
 use merkle_core::error::Error;

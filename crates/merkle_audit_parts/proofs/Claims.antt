@@ -45,7 +45,7 @@ use Rattle.merkle_audit_theory.proofs.TieredInputs.{numbered_tier, over_tier}
 use Rattle.merkle_audit_parts.specs.declared.claim.Claim.{Claim}
 use Rattle.merkle_audit_parts.specs.declared.claim.RangeNodes.{RangeNodes}
 use Rattle.merkle_audit_parts.specs.Claimed.{digest_in_claim, range_pair, IsClaim}
-use Rattle.merkle_audit_parts.specs.Hashed.{fold_at}
+use Rattle.merkle_walks.specs.Hashed.{fold_at}
 
 -- ---- with elements
 module _ {F D P Q : Type 0} (s : Scheme D) (r : RangeInput D) (root : D) (none : D) (ok : AcceptsNonempty s r root) (n : RangeNodes F D P Q) (stored : n.store ≡ Some (store_of s r root)) where

@@ -1,12 +1,8 @@
 pub mod Claims
-pub mod FoldLists
 pub mod Lists
 pub mod Searched
-pub mod Tops
 pub mod Verdicts
-pub mod Walks
-pub mod GivenLeaves
-pub mod GivenNodes
+pub mod GivenElements
 pub mod MultiFound
 pub mod PinLookups
 pub mod PinnedClaims

@@ -28,10 +28,10 @@ use Rattle.merkle_audit_theory.proofs.PeakInputs.{inputs_by_peaks}
 use Rattle.merkle_audit_theory.proofs.RootSearches.{multi_searched}
 use Rattle.merkle_audit_theory.proofs.SeenNodes.{multi_sees}
 use Rattle.merkle_audit_theory.proofs.TieredInputs.{fold_tier, multi_tier, node_tier}
-use Rattle.merkle_audit_parts.specs.declared.scattered.LeafProof.{LeafProof}
-use Rattle.merkle_audit_parts.specs.declared.top.Top.{Top}
-use Rattle.merkle_audit_parts.specs.Chosen.{is_among, digest_by, pair_by, digest_given, pair_given, multi_pair}
-use Rattle.merkle_audit_parts.specs.Hashed.{fold_at, top_of}
+use Rattle.merkle_walks.specs.declared.scattered.LeafProof.{LeafProof}
+use Rattle.merkle_walks.specs.declared.top.Top.{Top}
+use Rattle.merkle_walks.specs.Chosen.{is_among, digest_by, pair_by, digest_given, pair_given, multi_pair}
+use Rattle.merkle_walks.specs.Hashed.{fold_at, top_of}
 use Rattle.merkle_audit_parts.specs.Listed.{digest_in, IsOfList}
 use Rattle.merkle_audit_parts.proofs.Lists.{batch_sees, numbered_whole}
 

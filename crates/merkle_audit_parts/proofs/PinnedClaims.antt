@@ -46,8 +46,8 @@ use Rattle.merkle_pins_theory.proofs.PinnedParts.{pinned_digests}
 use Rattle.merkle_pins_theory.proofs.PinnedTiers.{pins_tier, pinned_over_tier}
 use Rattle.merkle_audit_theory.proofs.TieredInputs.{tiers_joined, fold_tier}
 use Rattle.merkle_audit_parts.specs.declared.pin_nodes.PinnedNodes.{PinnedNodes}
-use Rattle.merkle_audit_parts.specs.declared.top.Top.{Top}
-use Rattle.merkle_audit_parts.specs.Hashed.{fold_at}
+use Rattle.merkle_walks.specs.declared.top.Top.{Top}
+use Rattle.merkle_walks.specs.Hashed.{fold_at}
 use Rattle.merkle_audit_parts.specs.PinnedClaimed.{digest_given, pin_in, pinned_pair, IsPinnedClaim}
 use Rattle.merkle_audit_parts.proofs.Lists.{numbered_whole}
 use Rattle.merkle_audit_parts.proofs.Verdicts.{one_ok}

@@ -18,7 +18,7 @@ use Rattle.merkle_claim_theory.specs.Rebuilt.{rebuilt_node}
 use Rattle.merkle_pins_theory.specs.PinnedNodes.{pinned_value, unless_pinned, pinned_children, SeesDown}
 use Rattle.merkle_audit_theory.specs.Searches.{found_of, looked_up}
 use Rattle.merkle_audit_theory.specs.Seen.{node_at, NothingAt, Sees}
-use Rattle.merkle_audit_parts.proofs.Walks.{nothing_left}
+use Rattle.merkle_walks.proofs.Walks.{nothing_left}
 
 module _ {D : Type 0} (h : Hashing D) (rule : List ℕ → List ℕ) (m p s tall : ℕ) (e e' : Tree → Option (D × D)) (f g : Place → Option (Input D)) where
   abbrev search : Tree → Option (Collision D)

@@ -25,9 +25,9 @@ use Rattle.merkle_audit_theory.proofs.PeakInputs.{inputs_by_peaks}
 use Rattle.merkle_audit_theory.proofs.RootSearches.{range_searched, pair_searched}
 use Rattle.merkle_audit_theory.proofs.TieredInputs.{fold_tier, node_tier}
 use Rattle.merkle_audit_parts.specs.declared.claim.Claim.{Claim}
-use Rattle.merkle_audit_parts.specs.declared.top.Top.{Top}
+use Rattle.merkle_walks.specs.declared.top.Top.{Top}
 use Rattle.merkle_audit_parts.specs.Claimed.{range_pair, IsClaim}
-use Rattle.merkle_audit_parts.specs.Hashed.{fold_at, top_of}
+use Rattle.merkle_walks.specs.Hashed.{fold_at, top_of}
 use Rattle.merkle_audit_parts.specs.Listed.{digest_in, IsOfList}
 use Rattle.merkle_audit_parts.proofs.Lists.{batch_sees}
 

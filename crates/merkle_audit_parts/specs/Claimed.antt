@@ -15,7 +15,7 @@ use Rattle.merkle_audit_theory.specs.Seen.{met_children, Sees}
 use Rattle.merkle_audit_theory.specs.Tiers.{AreOfTier}
 use Rattle.merkle_audit_parts.specs.declared.claim.Claim.{Claim}
 use Rattle.merkle_audit_parts.specs.declared.claim.RangeNodes.{RangeNodes}
-use Rattle.merkle_audit_parts.specs.Hashed.{fold_at, top_of}
+use Rattle.merkle_walks.specs.Hashed.{fold_at, top_of}
 
 -- the digest of a node that the check has, or `none` where it has none
 abbrev pub digest_in_claim : {F D P Q : Type 0} → D → RangeNodes F D P Q → ℕ → D

@@ -15,8 +15,8 @@ use Rattle.merkle_hasher.specs.Subtrees.{subtree_of}
 use Rattle.merkle_hasher.specs.declared.subtree.Subtree.{Subtree}
 use Rattle.merkle_audit_theory.specs.Folds.{top_inputs}
 use Rattle.merkle_audit_parts.specs.declared.list.HashedList.{HashedList}
-use Rattle.merkle_audit_parts.specs.declared.top.Top.{Top}
-use Rattle.merkle_audit_parts.specs.Hashed.{top_of}
+use Rattle.merkle_walks.specs.declared.top.Top.{Top}
+use Rattle.merkle_walks.specs.Hashed.{top_of}
 
 -- the digest of a node of a batch, or `none` where it has no such node
 abbrev pub digest_in : {D : Type 0} → D → MerkleizedModel D → ℕ → D

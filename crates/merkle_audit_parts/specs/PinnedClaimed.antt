@@ -15,8 +15,8 @@ use Rattle.merkle_pins_theory.specs.PinnedNodes.{pinned_children, SeesDown}
 use Rattle.merkle_audit_theory.specs.Searches.{input_at}
 use Rattle.merkle_audit_theory.specs.Tiers.{AreOfTier}
 use Rattle.merkle_audit_parts.specs.declared.pin_nodes.PinnedNodes.{PinnedNodes}
-use Rattle.merkle_audit_parts.specs.declared.top.Top.{Top}
-use Rattle.merkle_audit_parts.specs.Hashed.{fold_at, top_of}
+use Rattle.merkle_walks.specs.declared.top.Top.{Top}
+use Rattle.merkle_walks.specs.Hashed.{fold_at, top_of}
 
 -- the digest of a node that the range check has, or `none` where it has none
 abbrev pub digest_given : {F D P Q : Type 0} → D → PinnedNodes F D P Q → ℕ → D

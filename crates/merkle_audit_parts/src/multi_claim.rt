@@ -14,8 +14,8 @@ ghost use Rattle.merkle_audit_theory.specs.Differences.{is_difference};
 ghost use Rattle.merkle_audit_theory.specs.Folds.{top_inputs, multi_digest};
 ghost use Rattle.merkle_audit_theory.specs.Searches.{looked_up};
 ghost use Rattle.merkle_audit_theory.specs.Seen.{Sees};
-ghost use Rattle.merkle_audit_parts.specs.Chosen.{multi_pair};
-ghost use Rattle.merkle_audit_parts.specs.Hashed.{located, top_of};
+ghost use Rattle.merkle_walks.specs.Chosen.{multi_pair};
+ghost use Rattle.merkle_walks.specs.Hashed.{located, top_of};
 
 use crate::list::peak_count;
 use crate::nodes::Hashes;

@@ -12,7 +12,7 @@ ghost use Rattle.merkle_audit_theory.specs.Differences.{is_difference};
 ghost use Rattle.merkle_pins_theory.specs.PinnedNodes.{pinned_value, SeesDown};
 ghost use Rattle.merkle_audit_theory.specs.Searches.{looked_up};
 ghost use Rattle.merkle_audit_theory.specs.Seen.{Sees};
-ghost use Rattle.merkle_audit_parts.specs.Hashed.{located};
+ghost use Rattle.merkle_walks.specs.Hashed.{located};
 ghost use Rattle.merkle_audit_parts.specs.PinnedClaimed.{digest_given, pin_in, pinned_pair};
 
 use crate::nodes::{Hashes, are_same};

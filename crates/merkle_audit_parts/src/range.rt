@@ -11,7 +11,7 @@ ghost use Rattle.merkle_audit_theory.specs.Differences.{is_difference, first_dif
 ghost use Rattle.merkle_audit_theory.specs.Searches.{looked_up};
 ghost use Rattle.merkle_audit_theory.specs.Seen.{Sees};
 ghost use Rattle.merkle_audit_parts.specs.Found.{collision_in};
-ghost use Rattle.merkle_audit_parts.specs.Hashed.{fold_at, located, roots_apart};
+ghost use Rattle.merkle_walks.specs.Hashed.{fold_at, located, roots_apart};
 
 use crate::nodes::{Hashes, first_below};
 use crate::top::{Top, first_above};

@@ -1,15 +1,7 @@
 //! What audits find.
 
-use crate::place::{Argument, Place};
+use merkle_walks::place::{Argument, Place};
 use merkle_core::digest::Digest;
-
-/// Two different arguments that are hashed at one place to one digest.
-#[derive(Drop)]
-pub struct Collision<F, D: Digest> {
-    pub place: Place<F>,
-    pub claimed: Argument<D>,
-    pub listed: Argument<D>,
-}
 
 /// What an audit of an input of a check against a list finds.
 #[derive(Debug, Drop)]

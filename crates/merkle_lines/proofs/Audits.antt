@@ -2,9 +2,10 @@
 use Rattle.std.proofs.Common.{◌≡◌, ◌≢◌, ℕ, ◌^◌, ◌<◌, ◌≤◌, ◌⊎◌, List, [], ◌∷◌, ◌++◌, length, Bool, true, false, Some, Ok, Err, Result, Decides, rules, refl, sym, ap, subst, ◌∙◌, inl, inr}
 use Rattle.std.specs.Prelude.{nat_lt, codes, ◌==◌}
 use Rattle.std.proofs.lemmas.Bool.{false≢true, le-ltb, cases_lt, lt-ltb}
-use Rattle.merkle_audit_parts.specs.Found.{collision_of, list_refusals, IsVerdict}
-use Rattle.merkle_audit_parts.specs.declared.place.Argument.{Argument}
-use Rattle.merkle_audit_parts.specs.declared.place.Place.{Place}
+use Rattle.merkle_walks.specs.Places.{collision_of}
+use Rattle.merkle_audit_parts.specs.Found.{list_refusals, IsVerdict}
+use Rattle.merkle_walks.specs.declared.place.Argument.{Argument}
+use Rattle.merkle_walks.specs.declared.place.Place.{Place}
 use Rattle.merkle_audit_parts.specs.declared.verdict.Verdict.{Verdict}
 use Rattle.merkle_audit_parts.specs.declared.verdict.Verdict.TheVariants as verdict
 use Rattle.merkle_base.specs.Cases.{first_case}

@@ -3,7 +3,8 @@ ghost use Rattle.std.specs.Prelude.{◌≡◌, ◌≤◌, ◌⊎◌, ◌++◌, �
 ghost use Rattle.std.specs.List.{AllByRecursion};
 ghost use Rattle.std.specs.String.{string_bytes};
 ghost use Rattle.hex.specs.Hex.{encode_lower};
-ghost use Rattle.merkle_audit_parts.specs.Found.{argument_of, collision_of, place_of, IsRangeVerdict};
+ghost use Rattle.merkle_walks.specs.Places.{argument_of, collision_of, place_of};
+ghost use Rattle.merkle_audit_parts.specs.Found.{IsRangeVerdict};
 ghost use Rattle.merkle_audit_theory.specs.PlainHash.{joined_at, string_at};
 ghost use Rattle.merkle_base.specs.Hashing.{IsOver};
 ghost use Rattle.merkle_base.specs.Scheme.{Scheme, scheme_of};

@@ -7,7 +7,7 @@ use Rattle.merkle_hasher.specs.Subtrees.{AreNodes, subtree_of}
 use Rattle.merkle_hasher.proofs.PeakNodes.{peaks_at}
 use Rattle.merkle_proof.proofs.HasherLaws.{sound}
 use Rattle.merkle_audit_parts.specs.Found.{HaveSamePeaks}
-use Rattle.merkle_audit_parts.specs.Hashed.{located}
+use Rattle.merkle_walks.specs.Hashed.{located}
 use Rattle.merkle_audit_parts.proofs.Lists.{peaks_are}
 use Rattle.merkle_audit.proofs.ListsFound.{lists_found}
 use Rattle.merkle_audit_parts.proofs.Verdicts.{alike, found_lists, no_lists}

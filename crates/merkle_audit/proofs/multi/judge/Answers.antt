@@ -9,7 +9,7 @@ use Rattle.merkle_claim_theory.specs.Multiproof.{AcceptsMulti, IsHonestMulti}
 use Rattle.merkle_claim_theory.specs.Verdict.{multi_inputs}
 use Rattle.merkle_proof.specs.Input.{multi_digest_input_of}
 use Rattle.merkle_proof.proofs.HasherLaws.{sound}
-use Rattle.merkle_audit_parts.specs.Hashed.{located}
+use Rattle.merkle_walks.specs.Hashed.{located}
 use Rattle.merkle_audit_parts.proofs.MultiFound.{multi_found}
 use Rattle.merkle_audit_parts.proofs.Verdicts.{found_verdict, no_verdict, multi_no, multi_yes}
 use Rattle.merkle_audit.proofs.multi.judge.Goals as goal

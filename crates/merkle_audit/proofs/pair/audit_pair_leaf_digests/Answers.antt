@@ -8,7 +8,7 @@ use Rattle.merkle_root_theory.specs.Reconstruction.{reconstructed}
 use Rattle.merkle_proof.specs.Input.{digest_input_of}
 use Rattle.merkle_proof.proofs.HasherLaws.{sound}
 use Rattle.merkle_audit_parts.specs.Claimed.{IsClaim}
-use Rattle.merkle_audit_parts.specs.Hashed.{located}
+use Rattle.merkle_walks.specs.Hashed.{located}
 use Rattle.merkle_audit_parts.proofs.Searched.{pair_found}
 use Rattle.merkle_audit_parts.proofs.Verdicts.{at_none, at_some, found_pair, no_pair}
 use Rattle.merkle_audit.proofs.pair.audit_pair_leaf_digests.Goals as goal

@@ -13,7 +13,7 @@ use Rattle.merkle_claim_theory.specs.Verdict.{pinned_inputs}
 use Rattle.merkle_proof.specs.Input.{digest_input_of}
 use Rattle.merkle_proof.proofs.HasherLaws.{sound}
 use Rattle.merkle_pins_theory.specs.PinnedNodes.{SeesDown}
-use Rattle.merkle_audit_parts.specs.Hashed.{located}
+use Rattle.merkle_walks.specs.Hashed.{located}
 use Rattle.merkle_audit_parts.specs.PinnedClaimed.{pinned_pair, IsPinnedClaim}
 use Rattle.merkle_audit.proofs.PinnedSearched.{pinned_found, pinned_no, pinned_yes}
 use Rattle.merkle_audit_parts.proofs.Verdicts.{at_none, at_some, found_verdict, no_verdict}

@@ -11,7 +11,7 @@ use Rattle.merkle_root_theory.specs.Reconstruction.{reconstructed}
 use Rattle.merkle_proof.specs.Input.{digest_input_of}
 use Rattle.merkle_proof.proofs.HasherLaws.{sound}
 use Rattle.merkle_audit_parts.specs.Claimed.{IsClaim}
-use Rattle.merkle_audit_parts.specs.Hashed.{located}
+use Rattle.merkle_walks.specs.Hashed.{located}
 use Rattle.merkle_audit_parts.proofs.Searched.{range_found}
 use Rattle.merkle_audit_parts.proofs.Verdicts.{at_none, at_some, found_verdict, no_verdict, range_no, range_yes}
 use Rattle.merkle_audit.proofs.range.judge.Goals as goal

@@ -15,9 +15,10 @@ use Rattle.merkle_proof.proofs.ScatteredRoot.{locations_by}
 use Rattle.merkle_audit_theory.specs.Differences.{is_difference}
 use Rattle.merkle_audit_theory.specs.Folds.{multi_digest}
 use Rattle.merkle_audit_theory.specs.Searches.{looked_up}
-use Rattle.merkle_audit_parts.specs.declared.scattered.LeafProof.{LeafProof}
-use Rattle.merkle_audit_parts.specs.Chosen.{digest_given}
-use Rattle.merkle_audit_parts.proofs.GivenLeaves.{ascends_strictly, digests_by}
+use Rattle.merkle_walks.specs.declared.scattered.LeafProof.{LeafProof}
+use Rattle.merkle_walks.specs.Chosen.{digest_given}
+use Rattle.merkle_walks.proofs.GivenLeaves.{ascends_strictly}
+use Rattle.merkle_audit_parts.proofs.GivenElements.{digests_by}
 use Rattle.merkle_audit_parts.proofs.MultiFound.{all_same, sees_given, top_of_peaks}
 use Rattle.merkle_audit_parts.proofs.multi_claim.accepted.Goals as goal
 

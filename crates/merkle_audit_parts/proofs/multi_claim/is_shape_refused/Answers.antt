@@ -9,7 +9,7 @@ use Rattle.merkle_claim_theory.specs.Multiproof.{multi_positions, locations_in}
 use Rattle.merkle_proof.specs.Input.{multi_digest_input_of}
 use Rattle.merkle_proof.proofs.ScatteredRoot.{locations_by}
 use Rattle.merkle_audit_parts.proofs.Claims.{told_apart}
-use Rattle.merkle_audit_parts.proofs.GivenLeaves.{none_read}
+use Rattle.merkle_audit_parts.proofs.GivenElements.{none_read}
 use Rattle.merkle_audit_parts.proofs.multi_claim.is_shape_refused.Goals as goal
 
 pub returns-else-as_u64-gt0 : goal.returns-else-as_u64-gt0

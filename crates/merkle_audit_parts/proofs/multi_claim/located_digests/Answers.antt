@@ -1,7 +1,7 @@
 use Rattle.std.proofs.Common.{◌≡◌, ◌++◌, ◌∷◌, [], get_or, rules, ap, ◌∙◌}
 use Rattle.std.proofs.lemmas.List.{take_all}
 use Rattle.merkle_proof.specs.Input.{digested}
-use Rattle.merkle_audit_parts.proofs.GivenLeaves.{next_digested}
+use Rattle.merkle_audit_parts.proofs.GivenElements.{next_digested}
 use Rattle.merkle_audit_parts.proofs.multi_claim.located_digests.Goals as goal
 
 pub loop-element-preserved : goal.loop-element-preserved

@@ -1,7 +1,7 @@
 use Rattle.std.proofs.Common.{◌≡◌, ◌<◌, length, arith, rules, ap, sym, ◌∙◌}
 use Rattle.merkle_proof.proofs.MultiRefusals.{refused_are_none}
 use Rattle.merkle_audit_parts.proofs.Claims.{only_memory}
-use Rattle.merkle_audit_parts.proofs.GivenLeaves.{none_read}
+use Rattle.merkle_audit_parts.proofs.GivenElements.{none_read}
 use Rattle.merkle_audit_parts.proofs.multi_claim.read_positions.Goals as goal
 
 pub returns-then-is_empty-clause-positions : goal.returns-then-is_empty-clause-positions

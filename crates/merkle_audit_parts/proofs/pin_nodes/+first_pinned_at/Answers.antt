@@ -5,7 +5,7 @@ use Rattle.merkle_hasher.proofs.NodeSteps.{inner_node, lower}
 use Rattle.merkle_claim_theory.specs.FirstCollision.{or_else}
 use Rattle.merkle_audit_parts.specs.PinnedClaimed.{pinned_pair}
 use Rattle.merkle_audit_parts.proofs.PinnedWalks.{claimed_silent, at_pinned}
-use Rattle.merkle_audit_parts.proofs.Walks.{at_leaf, other_silent, search_below, tested}
+use Rattle.merkle_walks.proofs.Walks.{at_leaf, other_silent, search_below, tested}
 use Rattle.merkle_audit_parts.proofs.pin_nodes.+first_pinned_at.Goals as goal
 
 pub returns-then-node-eq0 : goal.returns-then-node-eq0

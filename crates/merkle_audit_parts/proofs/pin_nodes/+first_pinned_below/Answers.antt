@@ -3,7 +3,7 @@ use Rattle.std.specs.List.{AllByRecursion}
 use Rattle.merkle_pins_theory.specs.PinnedNodes.{SeesDown}
 use Rattle.merkle_audit_theory.specs.Seen.{Sees}
 use Rattle.merkle_audit_parts.specs.PinnedClaimed.{pinned_pair}
-use Rattle.merkle_audit_parts.proofs.Walks.{no_peaks, searched_first, first_peak, all}
+use Rattle.merkle_walks.proofs.Walks.{no_peaks, searched_first, first_peak, all}
 use Rattle.merkle_audit_parts.proofs.pin_nodes.+first_pinned_below.Goals as goal
 
 pub returns-in_default : goal.returns-in_default

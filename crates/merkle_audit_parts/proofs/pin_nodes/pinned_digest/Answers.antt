@@ -2,7 +2,7 @@ use Rattle.std.proofs.Common.{arith, ap, sym, ◌∙◌}
 use Rattle.merkle_hasher.proofs.Comparisons.{le_yes, le_no}
 use Rattle.merkle_audit_parts.specs.PinnedClaimed.{digest_given, pin_in}
 use Rattle.merkle_audit_parts.proofs.PinnedWalks.{value_before, value_other}
-use Rattle.merkle_audit_parts.proofs.Walks.{stands}
+use Rattle.merkle_walks.proofs.Walks.{stands}
 use Rattle.merkle_audit_parts.proofs.pin_nodes.pinned_digest.Goals as goal
 
 pub returns-then-le : goal.returns-then-le

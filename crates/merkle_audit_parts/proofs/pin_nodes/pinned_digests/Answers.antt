@@ -3,7 +3,7 @@ use Rattle.merkle_base.specs.Tree.{join, first_leaf}
 use Rattle.merkle_hasher.proofs.Comparisons.{le_yes, le_no, ge_yes, ge_no}
 use Rattle.merkle_audit_parts.specs.PinnedClaimed.{digest_given, pin_in}
 use Rattle.merkle_audit_parts.proofs.PinnedWalks.{children_pinned, children_rebuilt, children_after, children_over}
-use Rattle.merkle_audit_parts.proofs.Walks.{stands}
+use Rattle.merkle_walks.proofs.Walks.{stands}
 use Rattle.merkle_audit_parts.proofs.pin_nodes.pinned_digests.Goals as goal
 
 pub returns-in-Some : goal.returns-in-Some

@@ -2,7 +2,7 @@ use Rattle.std.proofs.Common.{◌∷◌, [], ◌++◌, arith, map, ap, sym, ◌�
 use Rattle.std.proofs.lemmas.Result.{on_ok_weaker}
 use Rattle.merkle_audit_parts.specs.PinnedClaimed.{digest_given, pin_in}
 use Rattle.merkle_pins_theory.specs.PinnedNodes.{pinned_value}
-use Rattle.merkle_audit_parts.proofs.Walks.{first_peak}
+use Rattle.merkle_walks.proofs.Walks.{first_peak}
 use Rattle.merkle_audit_parts.proofs.PinnedWalks.{none_pushed}
 use Rattle.merkle_audit_parts.proofs.pinned_claim.+push_pinned.Goals as goal
 

@@ -3,7 +3,8 @@ use Rattle.merkle_base.specs.Root.{list_root}
 use Rattle.merkle_root_theory.specs.Check.{range_inputs}
 use Rattle.merkle_root_theory.specs.Range.{IsHonestRange, list_inputs}
 use Rattle.merkle_root_theory.specs.Reconstruction.{reconstructed}
-use Rattle.merkle_audit_parts.specs.Found.{collision_of, IsVerdict}
+use Rattle.merkle_walks.specs.Places.{collision_of}
+use Rattle.merkle_audit_parts.specs.Found.{IsVerdict}
 use Rattle.merkle_lines.specs.Answers.{collision_line}
 use Rattle.merkle_lines.proofs.Audits.{says_collision, says_honest, says_rejected}
 use Rattle.merkle_lines.proofs.auditing.said.Goals as goal

@@ -1,7 +1,7 @@
 use Rattle.std.proofs.Common.{ap, ap₂, sym, cond, ◌∙◌, Some, None}
 use Rattle.merkle_base.specs.Tree.{position}
 use Rattle.merkle_audit_parts.specs.Claimed.{digest_in_claim}
-use Rattle.merkle_audit_parts.proofs.Walks.{stands}
+use Rattle.merkle_walks.proofs.Walks.{stands}
 use Rattle.merkle_audit_parts.proofs.claim.RangeNodesHashes.pair.Goals as goal
 
 pub returns-then-not-meets : goal.returns-then-not-meets

@@ -1,6 +1,6 @@
 use Rattle.std.proofs.Common.{ap, ap₂, ◌∙◌, Some}
 use Rattle.merkle_audit_parts.specs.Listed.{digest_in}
-use Rattle.merkle_audit_parts.proofs.Walks.{stands}
+use Rattle.merkle_walks.proofs.Walks.{stands}
 use Rattle.merkle_audit_parts.proofs.list.ListNodesHashes.pair.Goals as goal
 
 pub returns : goal.returns

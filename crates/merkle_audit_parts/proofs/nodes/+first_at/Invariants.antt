@@ -1,4 +1,0 @@
-use Rattle.merkle_audit_parts.proofs.nodes.+first_at.Given as goal
-
-abbrev pub decreases-first_at : goal.decreases-first_at
-decreases-first_at g l = l.node.now.height

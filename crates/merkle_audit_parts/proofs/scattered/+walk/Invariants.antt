@@ -1,4 +1,0 @@
-use Rattle.merkle_audit_parts.proofs.scattered.+walk.Given as goal
-
-abbrev pub decreases-walk : goal.decreases-walk
-decreases-walk g l = l.node.now.height

@@ -1,0 +1,3 @@
+pub mod Chosen
+pub mod Hashed
+pub mod Places
