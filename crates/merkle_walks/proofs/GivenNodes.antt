@@ -14,7 +14,6 @@ use Rattle.merkle_claim_theory.specs.MultiClaim.{also, or_empty, multi_tree}
 use Rattle.merkle_scattered.proofs.ScatteredElements.{given_unmet}
 use Rattle.merkle_audit_theory.specs.Seen.{Sees}
 use Rattle.merkle_walks.specs.Chosen.{is_among, digest_by, pair_by}
-use Rattle.merkle_walks.specs.Hashed.{found_over}
 use Rattle.merkle_walks.proofs.Walks.{other_silent, at_both, search_below}
 
 -- ---- at one node
@@ -63,17 +62,6 @@ module _ {D : Type 0} (h : Hashing D) (ps : List ℕ) (ds : List D) (is : List �
         let v = k q a b w in
         ap₂ (λ c d. h.node p c d) v.0 v.1 ∙ ap (λ n. h.node n (digest a) (digest b)) (sym at)
         ∙ sym (ap (λ v. value h (cond v (also (told q) (computed (Node q) (tree a) (tree b))) (supplied (or_empty h (told q))))) met ∙ also_value (told q) (computed (Node q) (tree a) (tree b)))
-
--- ---- what is found from a node on
-module _ {D : Type 0} (h : Hashing D) (rule : List ℕ → List ℕ) (m p s tall : ℕ) (e e' : Tree → Option (D × D)) (f g : Place → Option (Input D)) where
-  pub found_from : (t : Tree) → IsNodeOf rule m p tall s t → tall ≢ 0 → Sees e f t → Sees e' g t → (x : D × D) (o : Option (D × D)) (l r : Option (Collision D))
-      → ((q : ℕ) (a b : Tree) → IsNodeOf rule m p tall s (join q a b) → (e (join q a b) ≡ Some x) × (e' (join q a b) ≡ o))
-      → ((q : ℕ) (a b : Tree) → IsNodeOf rule m p tall s (join q a b) → Sees e f a → Sees e' g a → Sees e f b → Sees e' g b → (l ≡ search_below h f g a) × (r ≡ search_below h f g b))
-      → found_over h p x o l r ≡ search_below h f g t
-  found_from t w tall_is sees sees' x None l r k below = other_silent h rule m p s tall e e' f g t w sees' (λ q a b v. (k q a b v).1)
-  found_from t w tall_is sees sees' x (Some y) l r k below =
-      at_both h rule m p s tall e e' f g t w tall_is sees sees' x y (h.same x.0 y.0 && h.same x.1 y.1) refl k (or_else l r)
-      (λ _ q a b v i i' j j'. let z = below q a b v i i' j j' in ap₂ or_else z.0 z.1)
 
 -- ---- of several nodes
 module _ {F D : Type 0} (f : Tree → D) where

@@ -29,13 +29,6 @@ located c = collision_of c.place c.claimed c.listed
 abbrev pub roots_apart : {F D : Type 0} → Top F D → Top F D → theory.Collision D
 roots_apart x y = record { place = Root; claimed = Bytes x.root.items; listed = Bytes y.root.items }
 
--- the first difference from the node at p on, where x is claimed there: it is at the node, or the first below the left child, l, or
--- else the first below the right one, r; and none where nothing is listed
-abbrev pub found_over : {D : Type 0} → Hashing D → ℕ → D × D → Option (D × D) → (left right : Option (theory.Collision D)) → Option (theory.Collision D)
-found_over h p x None l r = None
-found_over h p x (Some y) l r =
-    cond (h.same x.0 y.0 && h.same x.1 y.1) (or_else l r) (Some (record { place = Node p; claimed = Pair x.0 x.1; listed = Pair y.0 y.1 }))
-
 -- the string of the root over the digests that are folded, of a list of n leaves with k inactive peaks, of which the first `apart` are folded
 -- left to right
 abbrev pub HasRootString : {F D : Type 0} → Scheme D → (n k apart : ℕ) → List D → Top F D → Type 0

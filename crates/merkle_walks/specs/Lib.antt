@@ -1,3 +1,4 @@
 pub mod Chosen
 pub mod Hashed
 pub mod Places
+pub mod Ranged

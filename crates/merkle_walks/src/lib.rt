@@ -5,5 +5,6 @@
 pub mod collision;
 pub mod nodes;
 pub mod place;
+pub mod range;
 pub mod scattered;
 pub mod top;
