@@ -1,11 +1,10 @@
 -- What audits search, in the words of the theory.
-use Rattle.std.specs.Prelude.{◌≡◌, ℕ, ◌&&◌, cond, List, ◌∷◌, map, Option, option_map, Some, None}
+use Rattle.std.specs.Prelude.{◌≡◌, ℕ, List, ◌∷◌, map, Option, option_map}
 use Rattle.merkle_base.specs.Hashing.{Hashing}
 use Rattle.merkle_base.specs.Root.{folded, root_string}
 use Rattle.merkle_base.specs.Scheme.{Scheme}
 use Rattle.merkle_root_theory.specs.Collision as theory
-use Rattle.merkle_root_theory.specs.Expression.{Root, Node, Pair, Bytes, Input}
-use Rattle.merkle_claim_theory.specs.FirstCollision.{or_else}
+use Rattle.merkle_root_theory.specs.Expression.{Root, Pair, Bytes, Input}
 use Rattle.merkle_audit_theory.specs.Differences.{first_difference}
 use Rattle.merkle_audit_theory.specs.Folds.{numbered_inputs}
 use Rattle.merkle_walks.specs.declared.top.Fold.{Fold}
@@ -28,13 +27,6 @@ located c = collision_of c.place c.claimed c.listed
 -- the strings of two roots
 abbrev pub roots_apart : {F D : Type 0} → Top F D → Top F D → theory.Collision D
 roots_apart x y = record { place = Root; claimed = Bytes x.root.items; listed = Bytes y.root.items }
-
--- the first difference from the node at p on, where x is claimed there: it is at the node, or the first below the left child, l, or
--- else the first below the right one, r; and none where nothing is listed
-abbrev pub found_over : {D : Type 0} → Hashing D → ℕ → D × D → Option (D × D) → (left right : Option (theory.Collision D)) → Option (theory.Collision D)
-found_over h p x None l r = None
-found_over h p x (Some y) l r =
-    cond (h.same x.0 y.0 && h.same x.1 y.1) (or_else l r) (Some (record { place = Node p; claimed = Pair x.0 x.1; listed = Pair y.0 y.1 }))
 
 -- the string of the root over the digests that are folded, of a list of n leaves with k inactive peaks, of which the first `apart` are folded
 -- left to right

@@ -10,13 +10,14 @@ ghost use Rattle.merkle_claim_theory.specs.Order.{node_places};
 ghost use Rattle.merkle_audit_theory.specs.Differences.{is_difference};
 ghost use Rattle.merkle_audit_theory.specs.Searches.{looked_up};
 ghost use Rattle.merkle_audit_theory.specs.Seen.{Sees};
-ghost use Rattle.merkle_walks.specs.Hashed.{located, found_over};
+ghost use Rattle.merkle_walk_theory.specs.Compared.{found_over};
+ghost use Rattle.merkle_walks.specs.Hashed.{located};
 
-use crate::place::{Argument, Place};
 use crate::collision::Collision;
-use merkle_digest::digest::Digest;
+use crate::place::{Argument, Place};
 use merkle_base::family::Family;
 use merkle_base::position::Position;
+use merkle_digest::digest::Digest;
 use merkle_hasher::subtree::Subtree;
 
 /// What is hashed at nodes.
@@ -57,7 +58,7 @@ pub fn first_of<F: Family, D: Digest>(
 /// Returns the first node, from the one at `position` on, at which two different pairs are hashed: the
 /// node itself, by the pair that is claimed there and the one that is listed, or else what is found
 /// below its left child, or else what is found below its right one. Where nothing is listed at the
-/// node, nothing is below it.
+/// node, what is found below it is the first.
 pub fn first_over<F: Family, D: Digest>(
     position: Position<F>,
     claimed: (D, D),
@@ -69,7 +70,7 @@ pub fn first_over<F: Family, D: Digest>(
         → option_map located result ≡ found_over h position claimed listed (option_map located left) (option_map located right) }
 {
     let Some(pair) = listed else {
-        return None;
+        return first_of(left, right);
     };
     if !are_same(&claimed, &pair) {
         return Some(Collision {
