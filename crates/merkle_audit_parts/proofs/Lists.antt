@@ -1,6 +1,6 @@
 -- The batch of all leaves of a list, over the structure without leaves.
 use Rattle.std.proofs.Common.{◌≡◌, ℕ, ◌-◌, pred, suc, zero, Bool, false, not, cond, ◌&&◌, ◌==◌, nat_lt, le-ltb, List, [], ◌∷◌, ◌++◌, map, take, drop, length}
-use Rattle.std.proofs.Common.{fold, refl, ap, ap₂, sym, ◌∙◌, subst, arith, Some, option_map, slice_get}
+use Rattle.std.proofs.Common.{fold, refl, ap, ap₂, sym, ◌∙◌, subst, arith, Option, Some, option_map, slice_get}
 use Rattle.std.proofs.lemmas.Option.{slice_get-map}
 use Rattle.std.specs.FinMap.{get, len-empty}
 use Rattle.std.specs.Ordering.{nat_cmp}
@@ -24,11 +24,13 @@ use Rattle.merkle_batch_theory.specs.Roots.{root_batch}
 use Rattle.merkle_batch_theory.specs.Unmerkleized.{UnmerkleizedModel, is_changed, forked, with_leaves, kept_lists, pending_list}
 use Rattle.merkle_hasher.specs.Subtrees.{subtree_of}
 use Rattle.merkle_hasher.specs.declared.subtree.Subtree.{Subtree}
+use Rattle.merkle_root_theory.specs.Expression.{Place, Input}
 use Rattle.merkle_root_theory.specs.Range.{list_inputs}
 use Rattle.merkle_audit_theory.specs.Folds.{left_inputs, joined_inputs, fold_inputs, numbered_inputs}
 use Rattle.merkle_audit_theory.specs.Searches.{input_at}
 use Rattle.merkle_audit_theory.specs.Seen.{children_of, Sees}
 use Rattle.merkle_audit_theory.proofs.SeenNodes.{list_sees}
+use Rattle.merkle_walk_theory.specs.Compared.{Lists}
 use Rattle.merkle_audit_parts.specs.Listed.{digest_in, IsOfList}
 
 -- ---- the history of a batch that adds a list to no leaves
@@ -91,6 +93,20 @@ module _ {D : Type 0} (h : Hashing D) (rule : List ℕ → List ℕ) (X : List D
 pub batch_sees : {D : Type 0} (s : Scheme D) (X : List D) (k : ℕ) (none : D) (b : MerkleizedModel D) → IsOfList s.hashing s.rule b X
     → AllByRecursion (λ t. Sees (children_of (digest_in none b)) (input_at (list_inputs s X k)) t) (peaks_of s.rule (length X))
 batch_sees s X k none b of = list_sees s X k (digest_in none b) (digest_is s.hashing s.rule X none b of)
+
+module _ {D : Type 0} (e : Tree → Option (D × D)) (f : Place → Option (Input D)) where
+  seen_listed : (t : Tree) → Sees e f t → Lists e f t
+  seen_listed (leaf p i) w = tt
+  seen_listed (join p l r) w = (w.0, seen_listed l w.2, seen_listed r w.3)
+
+  all_listed : (ts : List Tree) → AllByRecursion (λ t. Sees e f t) ts → AllByRecursion (Lists e f) ts
+  all_listed [] w = tt
+  all_listed (t ∷ ts) w = (seen_listed t w.0, all_listed ts w.1)
+
+pub batch_lists : {D : Type 0} (s : Scheme D) (X : List D) (k : ℕ) (none : D) (b : MerkleizedModel D) → IsOfList s.hashing s.rule b X
+    → AllByRecursion (Lists (children_of (digest_in none b)) (input_at (list_inputs s X k))) (peaks_of s.rule (length X))
+batch_lists s X k none b of =
+    all_listed (children_of (digest_in none b)) (input_at (list_inputs s X k)) (peaks_of s.rule (length X)) (batch_sees s X k none b of)
 
 -- ---- its folds
 pred_is : (k : ℕ) → k - 1 ≡ pred k

@@ -11,10 +11,11 @@ use Rattle.merkle_base.specs.Tree.{Tree}
 use Rattle.merkle_base.proofs.Lists.{cons_tail}
 use Rattle.merkle_batch_theory.specs.Records.{MerkleizedModel}
 use Rattle.merkle_root_theory.specs.Collision.{Collision}
-use Rattle.merkle_root_theory.specs.Expression.{Place, Root, Bytes, Input, visited}
+use Rattle.merkle_root_theory.specs.Expression.{Place, Root, Bytes, Input, Expression, value, visited}
 use Rattle.merkle_root_theory.specs.Plan.{peak}
 use Rattle.merkle_root_theory.specs.Range.{list_inputs, IsLawfulScheme}
 use Rattle.merkle_claim_theory.specs.FirstCollision.{or_else, first_collision}
+use Rattle.merkle_claim_theory.specs.MultiClaim.{multi_tree}
 use Rattle.merkle_claim_theory.specs.Multiproof.{MultiInput, multi_positions, locations_in, leaves_in, multi_on, AcceptsMulti}
 use Rattle.merkle_claim_theory.specs.Order.{node_places}
 use Rattle.merkle_claim_theory.specs.Verdict.{multi_inputs}
@@ -22,18 +23,19 @@ use Rattle.merkle_audit_theory.specs.Differences.{is_difference, first_differenc
 use Rattle.merkle_audit_theory.specs.Folds.{numbered_inputs, top_inputs, multi_digest}
 use Rattle.merkle_audit_theory.specs.Located.{node_inputs}
 use Rattle.merkle_audit_theory.specs.Searches.{input_at, looked_up}
-use Rattle.merkle_audit_theory.specs.Seen.{children_of, Sees}
+use Rattle.merkle_audit_theory.specs.Seen.{children_of}
 use Rattle.merkle_audit_theory.specs.Tiers.{AreOfTier}
 use Rattle.merkle_audit_theory.proofs.PeakInputs.{inputs_by_peaks}
 use Rattle.merkle_audit_theory.proofs.RootSearches.{multi_searched}
-use Rattle.merkle_audit_theory.proofs.SeenNodes.{multi_sees}
 use Rattle.merkle_audit_theory.proofs.TieredInputs.{fold_tier, multi_tier, node_tier}
+use Rattle.merkle_walk_theory.specs.Compared.{found_among, Lists}
+use Rattle.merkle_walk_theory.specs.Walked.{multi_claims}
 use Rattle.merkle_walks.specs.declared.scattered.LeafProof.{LeafProof}
 use Rattle.merkle_walks.specs.declared.top.Top.{Top}
-use Rattle.merkle_walks.specs.Chosen.{is_among, digest_by, pair_by, digest_given, pair_given, multi_pair}
+use Rattle.merkle_walks.specs.Chosen.{is_among, digest_given, claims_given}
 use Rattle.merkle_walks.specs.Hashed.{fold_at, top_of}
 use Rattle.merkle_audit_parts.specs.Listed.{digest_in, IsOfList}
-use Rattle.merkle_audit_parts.proofs.Lists.{batch_sees, numbered_whole}
+use Rattle.merkle_audit_parts.proofs.Lists.{batch_lists, numbered_whole}
 
 -- ---- what is given is the input
 module _ {F D : Type 0} (s : Scheme D) (r : MultiInput D) (h : Hashing D) (h_is : h ≡ s.hashing) (given : LeafProof F D)
@@ -42,29 +44,28 @@ module _ {F D : Type 0} (s : Scheme D) (r : MultiInput D) (h : Hashing D) (h_is 
   abbrev told : List ℕ
   told = multi_positions s.rule r.leaves (locations_in r)
 
-  pub digests_same : (t : Tree) → digest_given h given t ≡ multi_digest s r t
-  digests_same t =
-      ap (λ z. digest_by z given.positions.now given.digests.now given.locations.now given.leaves.now t) h_is
-      ∙ ap₂ (λ ps ds. digest_by s.hashing ps ds given.locations.now given.leaves.now t) positions digests
-      ∙ ap₂ (λ is ls. digest_by s.hashing told r.digests is ls t) locations leaves
+  abbrev claim_by : Hashing D → (ps : List ℕ) (ds : List D) (is : List ℕ) (ls : List D) → Tree → Expression D
+  claim_by z ps ds is ls t = multi_tree z (digest_for ps ds) (is_among is) (λ i. unwrap_or (digest_for is ls i) z.empty) t
+
+  abbrev digests_by : Hashing D → (ps : List ℕ) (ds : List D) (is : List ℕ) (ls : List D) → List Tree → List D
+  digests_by z ps ds is ls ts = map (λ t. value z (claim_by z ps ds is ls t)) ts
 
   pub all_same : (ts : List Tree) → map (digest_given h given) ts ≡ map (multi_digest s r) ts
   all_same ts =
-      ap (λ z. map (λ t. digest_by z given.positions.now given.digests.now given.locations.now given.leaves.now t) ts) h_is
-      ∙ ap₂ (λ ps ds. map (λ t. digest_by s.hashing ps ds given.locations.now given.leaves.now t) ts) positions digests
-      ∙ ap₂ (λ is ls. map (λ t. digest_by s.hashing told r.digests is ls t) ts) locations leaves
+      ap (λ z. digests_by z given.positions.now given.digests.now given.locations.now given.leaves.now ts) h_is
+      ∙ ap₂ (λ ps ds. digests_by s.hashing ps ds given.locations.now given.leaves.now ts) positions digests
+      ∙ ap₂ (λ is ls. digests_by s.hashing told r.digests is ls ts) locations leaves
 
-  -- so it sees the same
-  abbrev See : (Place → Option (Input D)) → List Tree → (Tree → Option (D × D)) → Type 0
-  See f ts e = AllByRecursion (λ t. Sees e f t) ts
+  -- so a walk finds the same
+  module _ (f : Tree → Option (D × D)) where
+    abbrev found_by : Hashing D → (ps : List ℕ) (ds : List D) (is : List ℕ) (ls : List D) → Option (Collision D)
+    found_by z ps ds is ls = found_among z f (map (λ t. (t, claim_by z ps ds is ls t)) (peaks_of s.rule r.leaves))
 
-  pub sees_given : (f : Place → Option (Input D)) (ts : List Tree) → AllByRecursion (λ t. Sees (multi_pair s r) f t) ts → AllByRecursion (λ t. Sees (pair_given h given) f t) ts
-  sees_given f ts w =
-      subst (λ z. See f ts (λ t. pair_by z given.positions.now given.digests.now given.locations.now given.leaves.now t)) (sym h_is)
-      (subst (λ ps. See f ts (λ t. pair_by s.hashing ps given.digests.now given.locations.now given.leaves.now t)) (sym positions)
-      (subst (λ ds. See f ts (λ t. pair_by s.hashing told ds given.locations.now given.leaves.now t)) (sym digests)
-      (subst (λ is. See f ts (λ t. pair_by s.hashing told r.digests is given.leaves.now t)) (sym locations)
-      (subst (λ ls. See f ts (λ t. pair_by s.hashing told r.digests (locations_in r) ls t)) (sym leaves) w))))
+    pub found_same : found_among h f (claims_given h given (peaks_of s.rule r.leaves)) ≡ found_among s.hashing f (multi_claims s r)
+    found_same =
+        ap (λ z. found_by z given.positions.now given.digests.now given.locations.now given.leaves.now) h_is
+        ∙ ap₂ (λ ps ds. found_by s.hashing ps ds given.locations.now given.leaves.now) positions digests
+        ∙ ap₂ (λ is ls. found_by s.hashing told r.digests is ls) locations leaves
 
 -- ---- above the peaks
 pub top_of_peaks : {F D : Type 0} (s : Scheme D) (n k : ℕ) (all ds : List D) (t : Top F D) → all ≡ ds
@@ -80,11 +81,10 @@ module _ {F D : Type 0} (s : Scheme D) (size max_nodes : ℕ) (sound : IsLawfulS
     (few : length X ≤ s.max_leaves) (low : k ≤ length (peaks_of s.rule (length X)))
     (r : MultiInput D) (ok : AcceptsMulti s r (list_root s X k)) (x : Top F D) (claimed_is : top_of x ≡ top_inputs s r.leaves r.inactive (map (multi_digest s r) (peaks_of s.rule r.leaves)))
     (b : MerkleizedModel D) (of : IsOfList s.hashing s.rule b X) (y : Top F D) (listed_is : top_of y ≡ top_inputs s (length X) k (peak_digests s.hashing s.rule X)) where
-  -- what a search below the peaks says, by what stands at their nodes
+  -- what a search below the peaks says, by what is listed at their nodes
   abbrev pub SaysUnder : Option (Collision D) → Type 0
-  SaysUnder o = (f g : Place → Option (Input D)) → AllByRecursion (λ t. Sees (multi_pair s r) f t) (peaks_of s.rule r.leaves)
-      → AllByRecursion (λ t. Sees (children_of (digest_in none b)) g t) (peaks_of s.rule r.leaves)
-      → o ≡ looked_up (is_difference s.hashing) (flat_map node_places (peaks_of s.rule r.leaves)) f g
+  SaysUnder o = (g : Place → Option (Input D)) → AllByRecursion (Lists (children_of (digest_in none b)) g) (peaks_of s.rule r.leaves)
+      → o ≡ looked_up (is_difference s.hashing) (flat_map node_places (peaks_of s.rule r.leaves)) (input_at (multi_inputs s r)) g
 
   abbrev lows : List (Input D)
   lows = flat_map (λ t. visited s.hashing (multi_on s r (peak t))) (peaks_of s.rule r.leaves)
@@ -104,6 +104,6 @@ module _ {F D : Type 0} (s : Scheme D) (size max_nodes : ℕ) (sound : IsLawfulS
       (subst (λ fs. AreOfTier 1 fs) (sym (cons_tail _ _ _ _ listed_is)) (fold_tier s.hashing s.bagging k (peak_digests s.hashing s.rule X))) (node_tier s.hashing s.rule X) o apart
       (λ e n. same e
       ∙ ap (or_else (first_difference s.hashing (map fold_at x.folds.items) (map fold_at y.folds.items)))
-      (says (input_at (multi_inputs s r)) (input_at (list_inputs s X k)) (multi_sees s r)
-      (subst (λ m. AllByRecursion (λ u. Sees (children_of (digest_in none b)) (input_at (list_inputs s X k)) u) (peaks_of s.rule m)) (sym n) (batch_sees s X k none b of))
+      (says (input_at (list_inputs s X k))
+      (subst (λ m. AllByRecursion (Lists (children_of (digest_in none b)) (input_at (list_inputs s X k))) (peaks_of s.rule m)) (sym n) (batch_lists s X k none b of))
       ∙ ap (λ m. looked_up (is_difference s.hashing) (flat_map node_places (peaks_of s.rule m)) (input_at (multi_inputs s r)) (input_at (list_inputs s X k))) n))

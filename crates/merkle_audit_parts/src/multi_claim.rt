@@ -10,11 +10,11 @@ ghost use Rattle.merkle_scattered.specs.MultiPositions.{AreLocations};
 ghost use Rattle.merkle_root_theory.specs.Expression as theory;
 ghost use Rattle.merkle_claim_theory.specs.Multiproof.{multi_positions, AcceptsMulti};
 ghost use Rattle.merkle_claim_theory.specs.Order.{node_places};
+ghost use Rattle.merkle_claim_theory.specs.Verdict.{multi_inputs};
 ghost use Rattle.merkle_audit_theory.specs.Differences.{is_difference};
 ghost use Rattle.merkle_audit_theory.specs.Folds.{top_inputs, multi_digest};
-ghost use Rattle.merkle_audit_theory.specs.Searches.{looked_up};
-ghost use Rattle.merkle_audit_theory.specs.Seen.{Sees};
-ghost use Rattle.merkle_walks.specs.Chosen.{multi_pair};
+ghost use Rattle.merkle_audit_theory.specs.Searches.{input_at, looked_up};
+ghost use Rattle.merkle_walk_theory.specs.Compared.{Lists};
 ghost use Rattle.merkle_walks.specs.Hashed.{located, top_of};
 
 use crate::list::peak_count;
@@ -167,10 +167,8 @@ pub fn accepted<F: Family, H: Hasher<F>, B: Hashes<F, H::Digest>>(
     ensures top { let s = H.scheme hasher.now in let r = multi_digest_input_of proof.now leaves.now in
         IfOk result (λ c. top_of c.0 ≡ top_inputs s r.leaves r.inactive (map (multi_digest s r) (peaks_of s.rule r.leaves))) }
     ensures below { let s = H.scheme hasher.now in let r = multi_digest_input_of proof.now leaves.now in
-        IfOk result (λ c. (f g : theory.Place → Option (theory.Input H.Digest))
-        → AllByRecursion (λ t. Sees (multi_pair s r) f t) (peaks_of s.rule r.leaves)
-        → AllByRecursion (λ t. Sees (B.hashed listed.now) g t) (peaks_of s.rule r.leaves)
-        → option_map located c.1 ≡ looked_up (is_difference s.hashing) (flat_map node_places (peaks_of s.rule r.leaves)) f g) }
+        IfOk result (λ c. (g : theory.Place → Option (theory.Input H.Digest)) → AllByRecursion (Lists (B.hashed listed.now) g) (peaks_of s.rule r.leaves)
+        → option_map located c.1 ≡ looked_up (is_difference s.hashing) (flat_map node_places (peaks_of s.rule r.leaves)) (input_at (multi_inputs s r)) g) }
     ensures refused { IsOkUnless result Error.OutOfMemory }
 {
     let alloc = *proof.digests.allocator();

@@ -1,5 +1,5 @@
 -- The folds that are appended, one of which is written after those below it.
-use Rattle.std.proofs.Common.{◌≡◌, ◌+◌, List, [], ◌∷◌, ◌++◌, length, map, slice_set, refl, ap, ap₂}
+use Rattle.std.proofs.Common.{◌≡◌, List, [], ◌∷◌, ◌++◌, length, map, slice_set, refl, ap, ap₂}
 use Rattle.merkle_base.proofs.Lists.{cons_head, cons_tail}
 use Rattle.merkle_root_theory.specs.Expression.{Input}
 use Rattle.merkle_walks.specs.declared.top.Fold.{Fold}

@@ -1,11 +1,10 @@
 -- What audits search, in the words of the theory.
-use Rattle.std.specs.Prelude.{◌≡◌, ℕ, ◌&&◌, cond, List, ◌∷◌, map, Option, option_map, Some, None}
+use Rattle.std.specs.Prelude.{◌≡◌, ℕ, List, ◌∷◌, map, Option, option_map}
 use Rattle.merkle_base.specs.Hashing.{Hashing}
 use Rattle.merkle_base.specs.Root.{folded, root_string}
 use Rattle.merkle_base.specs.Scheme.{Scheme}
 use Rattle.merkle_root_theory.specs.Collision as theory
-use Rattle.merkle_root_theory.specs.Expression.{Root, Node, Pair, Bytes, Input}
-use Rattle.merkle_claim_theory.specs.FirstCollision.{or_else}
+use Rattle.merkle_root_theory.specs.Expression.{Root, Pair, Bytes, Input}
 use Rattle.merkle_audit_theory.specs.Differences.{first_difference}
 use Rattle.merkle_audit_theory.specs.Folds.{numbered_inputs}
 use Rattle.merkle_walks.specs.declared.top.Fold.{Fold}

@@ -13,11 +13,11 @@ ghost use Rattle.merkle_audit_theory.specs.Seen.{Sees};
 ghost use Rattle.merkle_walk_theory.specs.Compared.{found_over};
 ghost use Rattle.merkle_walks.specs.Hashed.{located};
 
-use crate::place::{Argument, Place};
 use crate::collision::Collision;
-use merkle_digest::digest::Digest;
+use crate::place::{Argument, Place};
 use merkle_base::family::Family;
 use merkle_base::position::Position;
+use merkle_digest::digest::Digest;
 use merkle_hasher::subtree::Subtree;
 
 /// What is hashed at nodes.

@@ -1,27 +1,23 @@
 //! The walk over the nodes that a check of scattered leaves has, in search of the first difference from a list.
-ghost use Rattle.std.specs.Prelude.{◌≡◌, ◌++◌, List, Option, OnOk, IfOk, map, flat_map, option_map, slice_get};
-ghost use Rattle.std.specs.List.{AllByRecursion};
+ghost use Rattle.std.specs.Prelude.{◌≡◌, ◌++◌, List, OnOk, IfOk, map, option_map, slice_get};
 ghost use Rattle.std.specs.Option.{unwrap_or};
 ghost use Rattle.merkle_base.specs.Table.{digest_for};
 ghost use Rattle.merkle_base.specs.Tree.{Tree};
 ghost use Rattle.merkle_hasher.specs.Subtrees.{Denotes, AreNodes, subtree_of};
-ghost use Rattle.merkle_root_theory.specs.Expression as theory;
+ghost use Rattle.merkle_root_theory.specs.Expression.{value};
 ghost use Rattle.merkle_root_theory.specs.Plan.{tree_meets};
 ghost use Rattle.merkle_scattered.specs.Searched.{IsFirstFrom};
-ghost use Rattle.merkle_claim_theory.specs.Order.{node_places};
-ghost use Rattle.merkle_audit_theory.specs.Differences.{is_difference};
-ghost use Rattle.merkle_audit_theory.specs.Searches.{looked_up};
-ghost use Rattle.merkle_audit_theory.specs.Seen.{Sees};
-ghost use Rattle.merkle_walks.specs.Chosen.{is_among, digest_given, pair_given, ProofAscends};
+ghost use Rattle.merkle_walk_theory.specs.Compared.{found_in, found_among};
+ghost use Rattle.merkle_walks.specs.Chosen.{is_among, tree_given, digest_given, claims_given, ProofAscends};
 ghost use Rattle.merkle_walks.specs.Hashed.{located};
 
-use crate::nodes::{Hashes, first_of, first_over};
 use crate::collision::Collision;
-use merkle_digest::digest::Digest;
+use crate::nodes::{Hashes, first_of, first_over};
 use merkle_base::family::Family;
-use merkle_hasher::hasher::Hasher;
 use merkle_base::location::Location;
 use merkle_base::position::Position;
+use merkle_digest::digest::Digest;
+use merkle_hasher::hasher::Hasher;
 use merkle_hasher::subtree::Subtree;
 use std::alloc::AllocError;
 
@@ -107,11 +103,10 @@ fn walk<F: Family, H: Hasher<F>, B: Hashes<F, H::Digest>>(
     requires ascends { ProofAscends given.now }
     requires node { (t : Tree) × Denotes F.rule F.MAX_LEAVES node.now t }
     ensures digest { let h = H.hashing hasher.now in
-        (t : Tree) → Denotes F.rule F.MAX_LEAVES node.now t → result.0 ≡ digest_given h given.now t }
+        (t : Tree) → Denotes F.rule F.MAX_LEAVES node.now t → result.0 ≡ value h (tree_given h given.now t) }
     ensures found { let h = H.hashing hasher.now in
-        (t : Tree) (f g : theory.Place → Option (theory.Input H.Digest)) → Denotes F.rule F.MAX_LEAVES node.now t
-        → Sees (pair_given h given.now) f t → Sees (B.hashed listed.now) g t
-        → option_map located result.1 ≡ looked_up (is_difference h) (node_places t) f g }
+        (t : Tree) → Denotes F.rule F.MAX_LEAVES node.now t
+        → option_map located result.1 ≡ found_in h (B.hashed listed.now) t (tree_given h given.now t) }
 {
     if !given.meets(node) {
         return (given.told(node.position), None);
@@ -147,10 +142,8 @@ pub fn walk_all<F: Family, H: Hasher<F>, B: Hashes<F, H::Digest>>(
         OnOk result ((ts : List Tree) → nodes.now ≡ map subtree_of ts → AreNodes F.rule F.MAX_LEAVES ts
         → digests.new.items ≡ digests.old.items ++ map (digest_given h given.now) ts) }
     ensures found { let h = H.hashing hasher.now in
-        IfOk result (λ o. (ts : List Tree) (f g : theory.Place → Option (theory.Input H.Digest))
-        → nodes.now ≡ map subtree_of ts → AreNodes F.rule F.MAX_LEAVES ts
-        → AllByRecursion (λ t. Sees (pair_given h given.now) f t) ts → AllByRecursion (λ t. Sees (B.hashed listed.now) g t) ts
-        → option_map located o ≡ looked_up (is_difference h) (flat_map node_places ts) f g) }
+        IfOk result (λ o. (ts : List Tree) → nodes.now ≡ map subtree_of ts → AreNodes F.rule F.MAX_LEAVES ts
+        → option_map located o ≡ found_among h (B.hashed listed.now) (claims_given h given.now ts)) }
 {
     let Some((node, others)) = nodes.split_first() else {
         return Ok(None);

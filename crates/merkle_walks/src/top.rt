@@ -9,14 +9,13 @@ ghost use Rattle.merkle_root_theory.specs.Expression.{Pair};
 ghost use Rattle.merkle_walks.specs.Places.{place_of};
 ghost use Rattle.merkle_walks.specs.Hashed.{fold_at, located, roots_apart, HasRootString, HasFolds, FindsFold};
 
-use crate::place::{Argument, Place};
 use crate::collision::Collision;
-use merkle_digest::digest::Digest;
+use crate::place::{Argument, Place};
 use merkle_base::error::OutOfMemory;
 use merkle_base::family::{Bagging, Family};
-use merkle_hasher::hasher::Hasher;
-use merkle_hasher::hasher::root_string;
 use merkle_base::location::Location;
+use merkle_digest::digest::Digest;
+use merkle_hasher::hasher::{Hasher, root_string};
 use std::alloc::{AllocError, Global};
 
 /// Two digests that are folded.

@@ -1,4 +1,4 @@
-use Rattle.std.proofs.Common.{◌≡◌, ◌≤◌, ◌<◌, ◌++◌, length, map, flat_map, subst, arith, ap, ap₂, sym, ◌∙◌}
+use Rattle.std.proofs.Common.{◌≡◌, ◌≤◌, ◌<◌, ◌++◌, length, map, subst, arith, ap, ap₂, sym, ◌∙◌}
 use Rattle.std.specs.List.{AllByRecursion}
 use Rattle.std.specs.List.Sorted.{IsStrictlyIncreasing}
 use Rattle.std.proofs.lemmas.List.{length-map}
@@ -9,17 +9,15 @@ use Rattle.merkle_hasher.specs.Subtrees.{AreNodes, subtree_of}
 use Rattle.merkle_hasher.proofs.PeakNodes.{peaks_at}
 use Rattle.merkle_forest_theory.specs.Ascending.{AscendsFrom}
 use Rattle.merkle_claim_theory.specs.Multiproof.{multi_positions, locations_in, leaves_in}
-use Rattle.merkle_claim_theory.specs.Order.{node_places}
 use Rattle.merkle_proof.specs.Input.{multi_digest_input_of}
 use Rattle.merkle_proof.proofs.ScatteredRoot.{locations_by}
-use Rattle.merkle_audit_theory.specs.Differences.{is_difference}
 use Rattle.merkle_audit_theory.specs.Folds.{multi_digest}
-use Rattle.merkle_audit_theory.specs.Searches.{looked_up}
+use Rattle.merkle_walk_theory.proofs.Walked.{walks_find_first}
 use Rattle.merkle_walks.specs.declared.scattered.LeafProof.{LeafProof}
 use Rattle.merkle_walks.specs.Chosen.{digest_given}
 use Rattle.merkle_walks.proofs.GivenLeaves.{ascends_strictly}
 use Rattle.merkle_audit_parts.proofs.GivenElements.{digests_by}
-use Rattle.merkle_audit_parts.proofs.MultiFound.{all_same, sees_given, top_of_peaks}
+use Rattle.merkle_audit_parts.proofs.MultiFound.{all_same, found_same, top_of_peaks}
 use Rattle.merkle_audit_parts.proofs.multi_claim.accepted.Goals as goal
 
 pub read_positions-requires : goal.read_positions-requires
@@ -122,7 +120,7 @@ returns-clause-top g c =
     c.in-Ok-above_peaks.ensures.root c.in-Ok-above_peaks.ensures.folds
 
 pub returns-clause-below : goal.returns-clause-below
-returns-clause-below g c = λ f k sees sees'.
+returns-clause-below g c = λ k lists.
     let s = g.H.Hasher.scheme c.args.hasher.now in
     let is = g.met.H.Hasher.scheme_is c.args.hasher.now in
     let es = c.args.leaves.now in
@@ -143,6 +141,6 @@ returns-clause-below g c = λ f k sees sees'.
     let peaks = c.deref-6.ensures.value ∙ c.in_ok-peaks.ensures in
     let nodes = peaks_at g.F.Family.rule g.F.Family.MAX_LEAVES n few in
     let same = ap (λ rule. peaks_of rule n) rule_is in
-    c.in_ok-below.ensures.found (peaks_of s.rule n) f k (peaks ∙ ap (map subtree_of) same) (subst (AreNodes g.F.Family.rule g.F.Family.MAX_LEAVES) same nodes)
-    (sees_given s r h h_is given positions c.deref-3.ensures.value locations leaves f (peaks_of s.rule n) sees) sees'
-    ∙ ap (λ z. looked_up (is_difference z) (flat_map node_places (peaks_of s.rule n)) f k) h_is
+    c.in_ok-below.ensures.found (peaks_of s.rule n) (peaks ∙ ap (map subtree_of) same) (subst (AreNodes g.F.Family.rule g.F.Family.MAX_LEAVES) same nodes)
+    ∙ found_same s r h h_is given positions c.deref-3.ensures.value locations leaves (g.B.Hashes.hashed c.args.listed.now)
+    ∙ walks_find_first.multi s r (g.B.Hashes.hashed c.args.listed.now) k lists

@@ -1,9 +1,8 @@
 use Rattle.std.proofs.Common.{arith, inl, inr, sym, refl, ◌∙◌}
 use Rattle.merkle_hasher.proofs.Spans.{heights_same}
 use Rattle.merkle_hasher.proofs.NodeSteps.{inner_node, lower}
-use Rattle.merkle_walks.specs.Chosen.{pair_given}
-use Rattle.merkle_walks.proofs.GivenNodes.{digest_unmet, digest_leaf, digest_parent, pair_unmet, pair_met, found_from}
-use Rattle.merkle_walks.proofs.Walks.{at_leaf, one_silent, stands}
+use Rattle.merkle_walks.proofs.GivenNodes.{digest_unmet, digest_leaf, digest_parent, found_unmet, found_leaf, found_parent}
+use Rattle.merkle_walks.proofs.Walks.{stands}
 use Rattle.merkle_walks.proofs.scattered.+walk.Goals as goal
 
 pub returns-then-not-meets-clause-digest : goal.returns-then-not-meets-clause-digest
@@ -14,11 +13,10 @@ returns-then-not-meets-clause-digest g t c = λ u w.
     (stands g.F.Family.rule g.F.Family.MAX_LEAVES c.args.node.now u w) g.H.Digest.Digest.EMPTY (g.met.H.Hasher.over_digest c.args.hasher.now).empty
 
 pub returns-then-not-meets-clause-found : goal.returns-then-not-meets-clause-found
-returns-then-not-meets-clause-found g t c = λ u f k w sees sees'.
+returns-then-not-meets-clause-found g t c = λ u w.
     let h = g.H.Hasher.hashing c.args.hasher.now in
     let gv = c.args.given.now in
-    one_silent h g.F.Family.rule g.F.Family.MAX_LEAVES _ _ _ (pair_given h gv) (g.B.Hashes.hashed c.args.listed.now) f k u w sees
-    (λ q a b v. pair_unmet h gv.positions.now gv.digests.now gv.locations.now gv.leaves.now q a b (sym (c.meets.ensures _ v) ∙ c.if-not-meets.true))
+    found_unmet h gv.positions.now gv.digests.now gv.locations.now gv.leaves.now (g.B.Hashes.hashed c.args.listed.now) u (sym (c.meets.ensures u w) ∙ c.if-not-meets.true)
 
 pub returns-then-node-eq0-clause-digest : goal.returns-then-node-eq0-clause-digest
 returns-then-node-eq0-clause-digest g t c = λ u w.
@@ -29,10 +27,11 @@ returns-then-node-eq0-clause-digest g t c = λ u w.
     g.H.Digest.Digest.EMPTY (g.met.H.Hasher.over_digest c.args.hasher.now).empty
 
 pub returns-then-node-eq0-clause-found : goal.returns-then-node-eq0-clause-found
-returns-then-node-eq0-clause-found g t c = λ u f k w sees sees'.
+returns-then-node-eq0-clause-found g t c = λ u w.
     let h = g.H.Hasher.hashing c.args.hasher.now in
     let gv = c.args.given.now in
-    at_leaf h g.F.Family.rule g.F.Family.MAX_LEAVES _ _ _ (pair_given h gv) (g.B.Hashes.hashed c.args.listed.now) f k u w c.if-node-eq0.true
+    found_leaf h gv.positions.now gv.digests.now gv.locations.now gv.leaves.now g.F.Family.rule g.F.Family.MAX_LEAVES _ _ _ (g.B.Hashes.hashed c.args.listed.now) u w
+    c.if-node-eq0.true (sym (c.meets.ensures u w) ∙ c.if-not-meets.false)
 
 pub children-left-requires : goal.children-left-requires
 children-left-requires g t c = let n = c.requires.node in inner_node _ _ _ _ _ n.0 n.1 c.if-node-eq0.false
@@ -71,15 +70,16 @@ returns-clause-digest g t c = λ u w.
     c.walk-one.result.0 c.walk-other.result.0 (λ q a b v. let k = c.children-left.ensures q a b v in (c.walk-one.ensures.digest a k.0, c.walk-other.ensures.digest b k.1))
 
 pub returns-clause-found : goal.returns-clause-found
-returns-clause-found g t c = λ u f k w sees sees'.
+returns-clause-found g t c = λ u w.
     let h = g.H.Hasher.hashing c.args.hasher.now in
     let gv = c.args.given.now in
     c.first_over-found.ensures h (g.met.H.Hasher.over_digest c.args.hasher.now)
-    ∙ found_from h g.F.Family.rule g.F.Family.MAX_LEAVES _ _ _ (pair_given h gv) (g.B.Hashes.hashed c.args.listed.now) f k u w c.if-node-eq0.false
-    sees sees' (c.walk-one.result.0, c.walk-other.result.0) c.pair.result _ _
+    ∙ found_parent h gv.positions.now gv.digests.now gv.locations.now gv.leaves.now g.F.Family.rule g.F.Family.MAX_LEAVES _ _ _ (g.B.Hashes.hashed c.args.listed.now)
+    u w c.if-node-eq0.false (sym (c.meets.ensures u w) ∙ c.if-not-meets.false) c.walk-one.result.0 c.walk-other.result.0 c.pair.result _ _
     (λ q a b v. let n = c.children-left.ensures q a b v in (
-      pair_met h gv.positions.now gv.digests.now gv.locations.now gv.leaves.now q a b (sym (c.meets.ensures _ v) ∙ c.if-not-meets.false)
-          c.walk-one.result.0 c.walk-other.result.0 (c.walk-one.ensures.digest a n.0) (c.walk-other.ensures.digest b n.1),
-      sym (c.pair.ensures q a b n.0 n.1),
+      c.walk-one.ensures.digest a n.0,
+      c.walk-other.ensures.digest b n.1,
+      c.pair.ensures q a b n.0 n.1,
+      c.walk-one.ensures.found a n.0,
+      c.walk-other.ensures.found b n.1,
     ))
-    (λ q a b v i i' j j'. let n = c.children-left.ensures q a b v in (c.walk-one.ensures.found a f k n.0 i i', c.walk-other.ensures.found b f k n.1 j j'))
