@@ -6,13 +6,14 @@ ghost use Rattle.merkle_audit_parts.specs.Found.{length_refusals, collision_of_l
 ghost use Rattle.merkle_walks.specs.Hashed.{located};
 
 use merkle_audit_parts::list::{ListNodes, leaf_count};
-use merkle_walks::nodes::first_below;
-use merkle_audit_parts::verdict::{ApplyVerdict, Collision};
+use merkle_audit_parts::verdict::ApplyVerdict;
 use merkle_core::digest::Digest;
 use merkle_core::error::Error;
 use merkle_core::family::Family;
 use merkle_core::hasher::Hasher;
 use merkle_hasher::peaks::list_peaks;
+use merkle_walks::collision::Collision;
+use merkle_walks::nodes::first_below;
 use std::alloc::Global;
 
 /// Audits the list that a structure agrees with, `listed`, and the list at which a batch was

@@ -16,5 +16,5 @@ pub use crate::multi::{audit_multi, audit_multi_leaf_digests};
 pub use crate::pair::{audit_pair, audit_pair_leaf_digests};
 pub use crate::pins::{audit_pins, audit_pins_leaf_digests};
 pub use crate::range::{audit_range, audit_range_leaf_digests};
-pub use merkle_walks::place::{Argument, Place};
 pub use merkle_audit_parts::verdict::{ApplyVerdict, PairVerdict, Verdict};
+pub use merkle_walks::place::{Argument, Place};

@@ -7,15 +7,15 @@ ghost use Rattle.merkle_audit_parts.specs.Found.{list_refusals, IsMultiVerdict};
 
 use merkle_audit_parts::list::{HashedList, allowed_count};
 use merkle_audit_parts::multi_claim::{accepted, is_shape_refused, located_digests};
-use merkle_walks::nodes::first_of;
 use merkle_audit_parts::range::verdict;
-use merkle_walks::top::first_above;
 use merkle_audit_parts::verdict::Verdict;
 use merkle_core::error::Error;
 use merkle_core::family::Family;
 use merkle_core::hasher::Hasher;
 use merkle_core::location::Location;
 use merkle_core::proof::Proof;
+use merkle_walks::nodes::first_of;
+use merkle_walks::top::first_above;
 
 /// Audits an input of a check of scattered leaves, `elements` each with its location, against the root
 /// of a list, of which the leaf digests are at hand: says whether the check rejects the input, whether

@@ -6,13 +6,14 @@ ghost use Rattle.merkle_audit.specs.Given.{given_digest_input, given_input};
 
 use merkle_audit_parts::claim::{Claim, accepted, shaped_digests};
 use merkle_audit_parts::range::first_difference;
-use merkle_audit_parts::verdict::{Collision, PairVerdict};
+use merkle_audit_parts::verdict::PairVerdict;
 use merkle_core::digest::Digest;
 use merkle_core::error::Error;
 use merkle_core::family::Family;
 use merkle_core::hasher::Hasher;
 use merkle_core::location::Location;
 use merkle_core::proof::Proof;
+use merkle_walks::collision::Collision;
 
 /// Audits two inputs of range checks against one root, which may be that of no list: says whether one
 /// of them is rejected, whether they are consistent, or else what both hashed that collides. So who

@@ -8,11 +8,9 @@ ghost use Rattle.merkle_audit.specs.Given.{IsVerdictOnPins};
 
 use merkle_audit_parts::claim::digests_from;
 use merkle_audit_parts::list::{HashedList, allowed_count};
-use merkle_walks::nodes::first_of;
 use merkle_audit_parts::pin_nodes::first_pinned_below;
 use merkle_audit_parts::pinned_claim::{PinnedClaim, accepted_pins, is_pinned_shape_refused};
 use merkle_audit_parts::range::verdict;
-use merkle_walks::top::first_above;
 use merkle_audit_parts::verdict::Verdict;
 use merkle_core::digest::Digest;
 use merkle_core::error::Error;
@@ -20,6 +18,8 @@ use merkle_core::family::Family;
 use merkle_core::hasher::Hasher;
 use merkle_core::location::Location;
 use merkle_core::proof::Proof;
+use merkle_walks::nodes::first_of;
+use merkle_walks::top::first_above;
 
 /// Audits an input of a check of a range with pins against the root of a list, of which the leaf
 /// digests are at hand: says whether the check rejects the input, whether it is the honest one of the

@@ -107,15 +107,3 @@ pub batch_lists : {D : Type 0} (s : Scheme D) (X : List D) (k : ℕ) (none : D) 
     → AllByRecursion (Lists (children_of (digest_in none b)) (input_at (list_inputs s X k))) (peaks_of s.rule (length X))
 batch_lists s X k none b of =
     all_listed (children_of (digest_in none b)) (input_at (list_inputs s X k)) (peaks_of s.rule (length X)) (batch_sees s X k none b of)
-
--- ---- its folds
-pred_is : (k : ℕ) → k - 1 ≡ pred k
-pred_is zero = refl
-pred_is (suc k) = omega arith
-
-pub numbered_whole : {D : Type 0} (h : Hashing D) (bagging : Bagging) (k : ℕ) (ds : List D) → numbered_inputs h bagging k k 1 ds ≡ fold_inputs h bagging k ds
-numbered_whole h ForwardFold k [] = refl
-numbered_whole h BackwardFold k [] = refl
-numbered_whole h ForwardFold k (d ∷ ds) = refl
-numbered_whole h BackwardFold k (d ∷ ds) =
-    ap (λ j. joined_inputs h (fold h.fold d (take j ds)) (left_inputs h d 1 (take j ds)) (suc (pred k)) (drop j ds)) (pred_is k)

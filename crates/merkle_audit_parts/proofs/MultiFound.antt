@@ -35,7 +35,8 @@ use Rattle.merkle_walks.specs.declared.top.Top.{Top}
 use Rattle.merkle_walks.specs.Chosen.{is_among, digest_given, claims_given}
 use Rattle.merkle_walks.specs.Hashed.{fold_at, top_of}
 use Rattle.merkle_audit_parts.specs.Listed.{digest_in, IsOfList}
-use Rattle.merkle_audit_parts.proofs.Lists.{batch_lists, numbered_whole}
+use Rattle.merkle_audit_parts.proofs.Lists.{batch_lists}
+use Rattle.merkle_walks.proofs.Tops.{numbered_whole}
 
 -- ---- what is given is the input
 module _ {F D : Type 0} (s : Scheme D) (r : MultiInput D) (h : Hashing D) (h_is : h ≡ s.hashing) (given : LeafProof F D)

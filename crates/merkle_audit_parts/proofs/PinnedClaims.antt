@@ -49,7 +49,7 @@ use Rattle.merkle_audit_parts.specs.declared.pin_nodes.PinnedNodes.{PinnedNodes}
 use Rattle.merkle_walks.specs.declared.top.Top.{Top}
 use Rattle.merkle_walks.specs.Hashed.{fold_at}
 use Rattle.merkle_audit_parts.specs.PinnedClaimed.{digest_given, pin_in, pinned_pair, IsPinnedClaim}
-use Rattle.merkle_audit_parts.proofs.Lists.{numbered_whole}
+use Rattle.merkle_walks.proofs.Tops.{numbered_whole}
 use Rattle.merkle_audit_parts.proofs.Verdicts.{one_ok}
 
 -- the digests given before the range, and those after it, by numbers of peaks

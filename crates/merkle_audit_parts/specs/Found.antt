@@ -17,10 +17,7 @@ use Rattle.merkle_claim_theory.specs.Multiproof.{MultiInput, AcceptsMulti, IsHon
 use Rattle.merkle_claim_theory.specs.Pinned.{AcceptsPinned, IsHonestPinned}
 use Rattle.merkle_claim_theory.specs.Verdict.{multi_inputs, pinned_inputs}
 use Rattle.merkle_audit_theory.specs.Located.{node_inputs}
-use Rattle.merkle_walks.specs.declared.place.Place.{Place}
-use Rattle.merkle_walks.specs.declared.place.Place.TheVariants as place
-use Rattle.merkle_walks.specs.declared.place.Argument.{Argument}
-use Rattle.merkle_walks.specs.declared.place.Argument.TheVariants as argument
+use Rattle.merkle_walks.specs.Places.{collision_of}
 use Rattle.merkle_audit_parts.specs.declared.verdict.Verdict.{Verdict}
 use Rattle.merkle_audit_parts.specs.declared.verdict.Verdict.TheVariants as verdict
 use Rattle.merkle_audit_parts.specs.declared.verdict.ApplyVerdict.{ApplyVerdict}

@@ -12,8 +12,6 @@ ghost use Rattle.merkle_root_theory.specs.Reconstruction.{reconstructed};
 ghost use Rattle.merkle_store_theory.specs.StoreValue.{store_of};
 ghost use Rattle.merkle_audit_parts.specs.Claimed.{digest_in_claim, range_pair, IsClaim, IsClaimFor};
 
-use crate::nodes::Hashes;
-use crate::top::{Shape, Top, above_peaks};
 use merkle_core::digest::Digest;
 use merkle_core::error::{Error, ReconstructionError};
 use merkle_core::family::Family;
@@ -26,6 +24,8 @@ use merkle_core::subtree::Subtree;
 use merkle_core::verification::ProofStore;
 use merkle_hasher::peaks::list_peaks;
 use merkle_leaves::queue::push_leaf_digests;
+use merkle_walks::nodes::Hashes;
+use merkle_walks::top::{Shape, Top, above_peaks};
 use std::alloc::{AllocError, Global};
 use std::ops::Range;
 

@@ -7,8 +7,6 @@ ghost use Rattle.merkle_audit_theory.specs.Seen.{children_of};
 ghost use Rattle.merkle_audit_parts.specs.Found.{list_refusals};
 ghost use Rattle.merkle_audit_parts.specs.Listed.{digest_in, IsOfList, ForListed, GivesListRoot, RefusesListRoot, GivesListTop, IsHashedList};
 
-use crate::nodes::Hashes;
-use crate::top::{Shape, Top, above_peaks};
 use merkle_core::batch::MerkleizedBatch;
 use merkle_core::digest::Digest;
 use merkle_core::error::{Error, OutOfMemory};
@@ -19,6 +17,8 @@ use merkle_core::mem::Mem;
 use merkle_core::position::Position;
 use merkle_core::subtree::Subtree;
 use merkle_hasher::peaks::list_peaks;
+use merkle_walks::nodes::Hashes;
+use merkle_walks::top::{Shape, Top, above_peaks};
 use std::alloc::{AllocError, Global};
 use std::rc::Rc;
 

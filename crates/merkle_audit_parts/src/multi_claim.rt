@@ -18,10 +18,6 @@ ghost use Rattle.merkle_walk_theory.specs.Compared.{Lists};
 ghost use Rattle.merkle_walks.specs.Hashed.{located, top_of};
 
 use crate::list::peak_count;
-use crate::nodes::Hashes;
-use crate::scattered::{LeafProof, walk_all};
-use crate::top::{Shape, Top, above_peaks};
-use crate::verdict::Collision;
 use merkle_core::digest::Digest;
 use merkle_core::error::Error;
 use merkle_core::family::Family;
@@ -30,6 +26,10 @@ use merkle_core::location::Location;
 use merkle_core::position::Position;
 use merkle_core::proof::{Proof, multi_proof_positions};
 use merkle_hasher::peaks::list_peaks;
+use merkle_walks::collision::Collision;
+use merkle_walks::nodes::Hashes;
+use merkle_walks::scattered::{LeafProof, walk_all};
+use merkle_walks::top::{Shape, Top, above_peaks};
 use std::alloc::{AllocError, Global};
 
 // Returns the locations of leaves.

@@ -15,9 +15,6 @@ ghost use Rattle.merkle_audit_theory.specs.Seen.{Sees};
 ghost use Rattle.merkle_walks.specs.Hashed.{located};
 ghost use Rattle.merkle_audit_parts.specs.PinnedClaimed.{digest_given, pin_in, pinned_pair};
 
-use crate::nodes::{Hashes, are_same};
-use crate::place::{Argument, Place};
-use crate::verdict::Collision;
 use merkle_core::digest::Digest;
 use merkle_core::family::Family;
 use merkle_core::hasher::Hasher;
@@ -25,6 +22,9 @@ use merkle_core::location::Location;
 use merkle_core::position::Position;
 use merkle_core::subtree::Subtree;
 use merkle_core::verification::ProofStore;
+use merkle_walks::collision::Collision;
+use merkle_walks::nodes::{Hashes, are_same};
+use merkle_walks::place::{Argument, Place};
 use std::alloc::{AllocError, Global};
 
 /// The digests of the nodes that a check of a range with pins rebuilds, computes or is given.

@@ -12,7 +12,6 @@ ghost use Rattle.merkle_audit_parts.specs.PinnedClaimed.{digest_given, pin_in, I
 
 use crate::claim::is_shape_refused;
 use crate::pin_nodes::{PinnedNodes, pin_positions, pinned_digest};
-use crate::top::{Shape, Top, above_peaks};
 use merkle_core::digest::Digest;
 use merkle_core::error::Error;
 use merkle_core::family::Family;
@@ -23,6 +22,7 @@ use merkle_core::range_plan::{Groups, RangePlan};
 use merkle_core::subtree::Subtree;
 use merkle_core::verification::ProofStore;
 use merkle_hasher::peaks::list_peaks;
+use merkle_walks::top::{Shape, Top, above_peaks};
 use std::alloc::{AllocError, Global};
 use std::ops::Range;
 

@@ -13,12 +13,13 @@ ghost use Rattle.merkle_audit_theory.specs.Seen.{Sees};
 ghost use Rattle.merkle_audit_parts.specs.Found.{collision_in};
 ghost use Rattle.merkle_walks.specs.Hashed.{fold_at, located, roots_apart};
 
-use crate::nodes::{Hashes, first_below};
-use crate::top::{Top, first_above};
-use crate::verdict::{Collision, Verdict};
+use crate::verdict::Verdict;
 use merkle_core::digest::Digest;
 use merkle_core::family::Family;
 use merkle_core::subtree::Subtree;
+use merkle_walks::collision::Collision;
+use merkle_walks::nodes::{Hashes, first_below};
+use merkle_walks::top::{Top, first_above};
 
 /// Returns the first place where what is hashed for two equal roots differs. `peaks` are those of
 /// the listed side.

@@ -1,7 +1,7 @@
 //! What audits find.
 
-use merkle_walks::place::{Argument, Place};
 use merkle_core::digest::Digest;
+use merkle_walks::place::{Argument, Place};
 
 /// What an audit of an input of a check against a list finds.
 #[derive(Debug, Drop)]

@@ -1,8 +1,7 @@
 -- What a check of a range claims of nodes, as a walk over them computes it.
-use Rattle.std.proofs.Common.{◌≡◌, ◌≢◌, ℕ, ◌+◌, ◌-◌, ◌<◌, ◌≤◌, Bool, true, false, cond, ◌||◌, List, [], ◌∷◌, ◌++◌, length, map, drop, get_or, slice_get, Option, None, Some}
+use Rattle.std.proofs.Common.{◌≡◌, ◌≢◌, ℕ, ◌+◌, ◌-◌, ◌<◌, ◌≤◌, Bool, true, false, cond, ◌||◌, List, [], ◌∷◌, ◌++◌, length, map, drop, get_or, slice_get, zero, suc, unwrap_or, Option, None, Some}
 use Rattle.std.proofs.Common.{refl, ap, ap₂, sym, ◌∙◌, arith, inr, append-nil, append_assoc, length-append, drop-drop}
 use Rattle.std.proofs.Math.Seq.{drop-nil}
-use Rattle.std.proofs.lemmas.Option.{get_or_from_slice_get, slice_get_read}
 use Rattle.merkle_base.specs.Hashing.{Hashing}
 use Rattle.merkle_base.specs.Forest.{forest}
 use Rattle.merkle_base.specs.Tree.{Tree, leaf, join}
@@ -128,11 +127,11 @@ module _ (rule : List ℕ → List ℕ) (m p s tall : ℕ) (t : Tree) (v : IsNod
   pub some_before : s < start → tree_meets (in_range 0 start) t ≡ true
   some_before l = meets_yes 0 start (forest rule m).nodes t (node_built rule m p t v.at) (omega (arith, v.first_is, l)) (omega (arith, width_pos t)) (omega (arith, l))
 
--- the digest of the leaf at location s
-pub leaf_read : {D : Type 0} (h : Hashing D) (a s : ℕ) (xs : List D) (j : ℕ) (d : D) → j < length xs → d ≡ get_or xs j d → j ≡ s - a → d ≡ leaf_from h a xs s
-leaf_read h a s xs j d there is at =
-    let here : slice_get xs j ≡ Some d = slice_get_read xs (length xs) j d refl there is in
-    sym (get_or_from_slice_get xs j d h.empty here) ∙ ap (λ n. get_or xs n h.empty) at
+-- what is read of a list, or else something
+pub read_or : {D : Type 0} (xs : List D) (j : ℕ) (d : D) → unwrap_or (slice_get xs j) d ≡ get_or xs j d
+read_or [] j d = refl
+read_or (x ∷ xs) zero d = refl
+read_or (x ∷ xs) (suc j) d = read_or xs j d
 
 -- the digests that are left after a node's siblings
 module _ {D : Type 0} (c : ℕ → Bool) where

@@ -1,12 +1,13 @@
 -- Digests that are folded in two parts, and the inputs of these folds.
-use Rattle.std.proofs.Common.{◌≡◌, ℕ, suc, pred, ◌-◌, min, List, [], ◌∷◌, take, drop, fold, length, refl, ap, ap₂, sym, ◌∙◌, arith, Some, drop_of_length-le}
+use Rattle.std.proofs.Common.{◌≡◌, ℕ, zero, suc, pred, ◌-◌, min, List, [], ◌∷◌, take, drop, fold, length, refl, ap, ap₂, sym, ◌∙◌, arith, Some, drop_of_length-le}
 use Rattle.std.proofs.lemmas.List.{length-drop, take_all}
 use Rattle.std.specs.Option.{option_map_or}
 use Rattle.merkle_base.specs.Hashing.{Hashing}
+use Rattle.merkle_base.specs.declared.family.Bagging.{Bagging}
 use Rattle.merkle_base.specs.Root.{folded, right_fold}
-use Rattle.merkle_base.specs.declared.family.Bagging.TheVariants.{BackwardFold}
+use Rattle.merkle_base.specs.declared.family.Bagging.TheVariants.{ForwardFold, BackwardFold}
 use Rattle.merkle_root_theory.specs.Expression.{Input}
-use Rattle.merkle_audit_theory.specs.Folds.{left_inputs, right_value, joined_inputs, numbered_inputs}
+use Rattle.merkle_audit_theory.specs.Folds.{fold_inputs, left_inputs, right_value, joined_inputs, numbered_inputs}
 
 bag_is : {D : Type 0} (h : Hashing D) (d : D) (ds : List D) → right_fold h.fold (d ∷ ds) ≡ Some (right_value h d ds)
 bag_is h d [] = refl
@@ -52,3 +53,15 @@ module _ {D : Type 0} (h : Hashing D) (apart : ℕ) (first : D) (others : List D
 
     pub inputs_apart : (next : D) (rest : List D) → drop count others ≡ next ∷ rest → numbered_inputs h BackwardFold k apart m (first ∷ others) ≡ inputs_at (take count others) (next ∷ rest)
     inputs_apart next rest e = ap (λ n. inputs_at (take n others) (drop n others)) (sym (some_left next rest e)) ∙ ap (inputs_at (take count others)) e
+
+-- ---- where the first digest stands for one peak
+pred_is : (k : ℕ) → k - 1 ≡ pred k
+pred_is zero = refl
+pred_is (suc k) = omega arith
+
+pub numbered_whole : {D : Type 0} (h : Hashing D) (bagging : Bagging) (k : ℕ) (ds : List D) → numbered_inputs h bagging k k 1 ds ≡ fold_inputs h bagging k ds
+numbered_whole h ForwardFold k [] = refl
+numbered_whole h BackwardFold k [] = refl
+numbered_whole h ForwardFold k (d ∷ ds) = refl
+numbered_whole h BackwardFold k (d ∷ ds) =
+    ap (λ j. joined_inputs h (fold h.fold d (take j ds)) (left_inputs h d 1 (take j ds)) (suc (pred k)) (drop j ds)) (pred_is k)

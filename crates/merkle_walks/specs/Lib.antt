@@ -1,4 +1,5 @@
 pub mod Chosen
+pub mod Compared
 pub mod Hashed
 pub mod Places
 pub mod Ranged

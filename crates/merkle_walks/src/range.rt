@@ -1,5 +1,5 @@
 //! The walk over the nodes that a check of a range has, with pins or without, in search of the first difference from a list.
-ghost use Rattle.std.specs.Prelude.{◌≡◌, ◌+◌, ◌<◌, ◌≤◌, ◌++◌, not, List, OnOk, IfOk, length, map, drop, option_map};
+ghost use Rattle.std.specs.Prelude.{◌≡◌, ◌-◌, ◌<◌, ◌≤◌, ◌++◌, not, List, OnOk, IfOk, length, map, drop, get_or, option_map};
 ghost use Rattle.std.specs.List.{flat_map};
 ghost use Rattle.merkle_base.specs.Tree.{Tree};
 ghost use Rattle.merkle_hasher.specs.Subtrees.{Denotes, AreNodes, subtree_of};
@@ -14,6 +14,7 @@ ghost use Rattle.merkle_walks.specs.Ranged.{pin_in, outside_given, tree_given, t
 
 use crate::collision::Collision;
 use crate::nodes::{Hashes, first_of, first_over};
+use crate::scattered::digest_at;
 use merkle_base::family::Family;
 use merkle_base::location::Location;
 use merkle_base::position::Position;
@@ -62,6 +63,15 @@ impl<F: Family, D: Digest> GivenRange<'_, F, D> {
         ensures { (t : Tree) → Denotes F.rule F.MAX_LEAVES node.now t → result ≡ not (tree_meets (in_range self.now.start self.now.end) t) }
     {
         node.leaf_end() <= self.start || node.first_leaf >= self.end
+    }
+
+    // Returns the digest of the leaf at a location from the first one on, or the empty digest.
+    fn leaf(&self, location: Location<F>) -> D
+        requires { self.now.start ≤ location }
+        ensures { result ≡ get_or self.now.leaves.now (location - self.now.start) D.EMPTY }
+    {
+        let index = location - self.start;
+        digest_at(self.leaves, index.as_u64() as usize)
     }
 }
 
@@ -165,7 +175,6 @@ fn walk<F: Family, H: Hasher<F>, B: Hashes<F, H::Digest>>(
 ) -> (H::Digest, Option<Collision<F, H::Digest>>)
     requires node { (t : Tree) × Denotes F.rule F.MAX_LEAVES node.now t }
     requires nonempty { given.now.start < given.now.end }
-    requires covered { given.now.end ≤ given.now.start + length given.now.leaves.now }
     ensures digest { let h = H.hashing hasher.now in
         (t : Tree) → Denotes F.rule F.MAX_LEAVES node.now t → result.0 ≡ value h (tree_given h given.now t rest.old.now) }
     ensures found { let h = H.hashing hasher.now in (t : Tree) → Denotes F.rule F.MAX_LEAVES node.now t
@@ -181,8 +190,7 @@ fn walk<F: Family, H: Hasher<F>, B: Hashes<F, H::Digest>>(
         return walk_outside(hasher, given, listed, node, *first);
     }
     if node.height == 0 {
-        let index = node.first_leaf - given.start;
-        return (given.leaves[index.as_u64() as usize], None);
+        return (given.leaf(node.first_leaf), None);
     }
     let (left, right) = node.children();
     let (one, before) = walk(hasher, given, listed, &left, rest);
@@ -214,7 +222,6 @@ pub fn walk_all<F: Family, H: Hasher<F>, B: Hashes<F, H::Digest>>(
 ) -> Result<Option<Collision<F, H::Digest>>, AllocError>
     requires nodes { (ts : List Tree) × (nodes.now ≡ map subtree_of ts) × AreNodes F.rule F.MAX_LEAVES ts }
     requires nonempty { given.now.start < given.now.end }
-    requires covered { given.now.end ≤ given.now.start + length given.now.leaves.now }
     ensures digests { let h = H.hashing hasher.now in
         OnOk result ((ts : List Tree) → nodes.now ≡ map subtree_of ts → AreNodes F.rule F.MAX_LEAVES ts
         → digests.new.items ≡ digests.old.items ++ map (λ c. value h c.1) (trees_given h given.now ts rest.old.now)) }

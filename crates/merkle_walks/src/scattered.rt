@@ -34,8 +34,8 @@ pub struct LeafProof<'a, F, D> {
     pub leaves: &'a [D],
 }
 
-// Returns the digest at an index, or the empty one.
-fn digest_at<D: Digest>(digests: &[D], index: usize) -> D
+/// Returns the digest at an index, or the empty one.
+pub(crate) fn digest_at<D: Digest>(digests: &[D], index: usize) -> D
     ensures { result ≡ unwrap_or (slice_get digests.now index) D.EMPTY }
 {
     match digests.get(index).copied() {

@@ -1,4 +1,4 @@
-use Rattle.std.proofs.Common.{[], arith, sym, ap, refl, inl, inr, ◌∙◌}
+use Rattle.std.proofs.Common.{◌-◌, arith, sym, ap, get_or, refl, inl, inr, ◌∙◌}
 use Rattle.std.proofs.lemmas.Bool.{not-true, not-false}
 use Rattle.std.proofs.lemmas.List.{nil_from_length}
 use Rattle.merkle_hasher.proofs.Spans.{heights_same}
@@ -10,7 +10,7 @@ use Rattle.merkle_root_theory.specs.Walk.{leaf_from}
 use Rattle.merkle_root_theory.proofs.Walks.{leaf_in_range}
 use Rattle.merkle_walk_theory.specs.Compared.{found_in}
 use Rattle.merkle_walks.specs.Ranged.{pins_in, outside_given, tree_given}
-use Rattle.merkle_walks.proofs.RangeWalks.{supplied_value, supplied_none, parent_met, found_met, claim_unmet, claim_leaf, leaf_read, left_unmet, left_none, left_leaf, left_parent, left_then}
+use Rattle.merkle_walks.proofs.RangeWalks.{supplied_value, supplied_none, parent_met, found_met, claim_unmet, claim_leaf, left_unmet, left_none, left_leaf, left_parent, left_then}
 use Rattle.merkle_walks.proofs.range.+walk.Goals as goal
 
 pub children-left-requires : goal.children-left-requires
@@ -72,28 +72,16 @@ returns-then-is_outside-clause-left g t c = λ u w.
     left_unmet (in_range c.args.given.now.start c.args.given.now.end) u c.args.rest.now.now c.in-Some.others.now c.in-Some.first.now
     (not-true _ (sym (c.is_outside.ensures u w) ∙ c.if-is_outside.true)) c.in-Some.ensures.cases.0
 
-pub sub-index-requires : goal.sub-index-requires
-sub-index-requires g t c = let n = c.requires.node in
+pub leaf-requires : goal.leaf-requires
+leaf-requires g t c = let n = c.requires.node in
     (leaf_in_range _ _ _ _ _ _ _ n.0 n.1 c.if-node-eq0.true (not-false _ (sym (c.is_outside.ensures n.0 n.1) ∙ c.if-is_outside.false))).0
-
-pub offset_bounds-given-as_u64 : goal.offset_bounds-given-as_u64
-offset_bounds-given-as_u64 g t c = let n = c.requires.node in
-    let l = leaf_in_range _ _ _ _ _ _ _ n.0 n.1 c.if-node-eq0.true (not-false _ (sym (c.is_outside.ensures n.0 n.1) ∙ c.if-is_outside.false)) in
-    omega (arith, c.as_u64.ensures, c.sub-index.ensures, c.requires.covered, l.0, l.1)
-
-pub bounds-given-as_u64 : goal.bounds-given-as_u64
-bounds-given-as_u64 g t c = let n = c.requires.node in
-    let l = leaf_in_range _ _ _ _ _ _ _ n.0 n.1 c.if-node-eq0.true (not-false _ (sym (c.is_outside.ensures n.0 n.1) ∙ c.if-is_outside.false)) in
-    omega (arith, c.as_u64.ensures, c.sub-index.ensures, c.requires.covered, l.0, l.1)
 
 pub returns-then-node-eq0-clause-digest : goal.returns-then-node-eq0-clause-digest
 returns-then-node-eq0-clause-digest g t c = λ u w.
     let h = g.H.Hasher.hashing c.args.hasher.now in
     let gv = c.args.given.now in
     let met = not-false _ (sym (c.is_outside.ensures u w) ∙ c.if-is_outside.false) in
-    let l = leaf_in_range _ _ _ _ _ _ _ u w c.if-node-eq0.true met in
-    leaf_read h gv.start c.args.node.now.first_leaf gv.leaves.now c.as_u64.result _
-    (omega (arith, c.as_u64.ensures, c.sub-index.ensures, c.requires.covered, l.0, l.1)) c.index-given-as_u64.is (c.as_u64.ensures ∙ c.sub-index.ensures)
+    c.leaf.ensures ∙ ap (get_or gv.leaves.now (c.args.node.now.first_leaf - gv.start)) (sym (g.met.H.Hasher.over_digest c.args.hasher.now).empty)
     ∙ supplied_value h (g.B.Hashes.hashed c.args.listed.now) (tree_given h gv u c.args.rest.now.now) _
     (claim_leaf h (pins_in gv.pins) (in_range 0 gv.start) (in_range gv.start gv.end) (leaf_from h gv.start gv.leaves.now)
     g.F.Family.rule g.F.Family.MAX_LEAVES _ _ _ u c.args.rest.now.now w c.if-node-eq0.true met)
@@ -122,7 +110,7 @@ walk-one-requires g t c κs within =
         within.0,
         (
           within.1.0,
-          (within.1.1.0, (within.1.1.1.0, (within.1.1.1.1.0, (within.1.1.1.1.1, ((i.1, k.0), (c.requires.nonempty, c.requires.covered)))))),
+          (within.1.1.0, (within.1.1.1.0, (within.1.1.1.1.0, (within.1.1.1.1.1, ((i.1, k.0), c.requires.nonempty))))),
         ),
       ),
     )
@@ -137,7 +125,7 @@ walk-other-requires g t c κs within =
         within.0,
         (
           within.1.0,
-          (within.1.1.0, (within.1.1.1.0, (within.1.1.1.1.0, (within.1.1.1.1.1, ((i.2, k.1), (c.requires.nonempty, c.requires.covered)))))),
+          (within.1.1.0, (within.1.1.1.0, (within.1.1.1.1.0, (within.1.1.1.1.1, ((i.2, k.1), c.requires.nonempty))))),
         ),
       ),
     )

@@ -35,7 +35,7 @@ walk_all-requires g t c κs within =
         within.0,
         (
           within.1.0,
-          (within.1.1.0, (within.1.1.1.0, (within.1.1.1.1.0, (within.1.1.1.1.1, ((w.1, w.4, w.5), (c.requires.nonempty, c.requires.covered)))))),
+          (within.1.1.0, (within.1.1.1.0, (within.1.1.1.1.0, (within.1.1.1.1.1, ((w.1, w.4, w.5), c.requires.nonempty))))),
         ),
       ),
     )

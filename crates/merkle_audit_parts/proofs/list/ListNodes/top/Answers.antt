@@ -3,7 +3,8 @@ use Rattle.merkle_base.specs.Root.{folded, root_string}
 use Rattle.merkle_base.specs.Digests.{peak_digests}
 use Rattle.merkle_root_theory.specs.Expression.{Root, Bytes}
 use Rattle.merkle_audit_theory.specs.Folds.{numbered_inputs}
-use Rattle.merkle_audit_parts.proofs.Lists.{peaks_are, numbered_whole}
+use Rattle.merkle_audit_parts.proofs.Lists.{peaks_are}
+use Rattle.merkle_walks.proofs.Tops.{numbered_whole}
 use Rattle.merkle_audit_parts.proofs.Verdicts.{if_both}
 use Rattle.merkle_audit_parts.proofs.list.ListNodes.top.Goals as goal
 
