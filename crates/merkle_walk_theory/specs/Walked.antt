@@ -63,7 +63,7 @@ abbrev pub WalkFindsFirstOf : {D : Type 0} → Scheme D → (n : ℕ) → List (
 WalkFindsFirstOf {D} s n cs xs = (f : Tree → Option (D × D)) (g : Place → Option (Input D)) → AllByRecursion (Lists f g) (peaks_of s.rule n)
     → found_among s.hashing f cs ≡ looked_up (is_difference s.hashing) (flat_map node_places (peaks_of s.rule n)) (input_at xs) g
 
--- of an accepted input of each check, a walk over what it claims finds the first difference at a node
+-- a walk over what an accepted input claims finds the first difference at a node, for the check of a range, of scattered leaves, and with pins
 pub record WalksFindFirst (D : Type 0) : Type 0 where
   pub range : (s : Scheme D) (r : RangeInput D) (root : D) → AcceptsNonempty s r root → WalkFindsFirstOf s r.leaves (range_claims s r) (range_inputs s r)
   pub multi : (s : Scheme D) (r : MultiInput D) → WalkFindsFirstOf s r.leaves (multi_claims s r) (multi_inputs s r)

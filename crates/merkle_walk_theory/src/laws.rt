@@ -43,7 +43,8 @@ pub fn worked_rows()
         (cross_checked 9 (computed (Node 2) (supplied 1) (supplied 0)))
         ≡ Some (record { place = Node 2; claimed = Pair 1 0; listed = Pair 0 1 }) }
     ensures in_given { found_in xor_hashing (children_of (λ p. p)) (join 2 (leaf 0 0) (leaf 1 1)) (supplied 9) ≡ None }
-    ensures among { found_among xor_hashing (children_of (λ p. p)) ((leaf 3 2, supplied 3) ∷ (join 2 (leaf 0 0) (leaf 1 1), computed (Node 2) (supplied 1) (supplied 0)) ∷ [])
+    ensures among { found_among xor_hashing (children_of (λ p. p))
+        ((leaf 3 2, supplied 3) ∷ (join 2 (leaf 0 0) (leaf 1 1), computed (Node 2) (supplied 1) (supplied 0)) ∷ [])
         ≡ Some (record { place = Node 2; claimed = Pair 1 0; listed = Pair 0 1 }) }
 
     // What is listed for the leaves 1, 3 and 7, the first two merged.

@@ -1,6 +1,6 @@
 -- What a walk over an accepted range input with pins computes and finds, in comparison with what is listed.
 use Rattle.std.proofs.Common.{◌≡◌, ℕ, ◌+◌, Bool, cond, ◌||◌, List, [], ◌∷◌, ◌++◌, map, flat_map, take, drop, length, refl, ap, ap₂, sym, ◌∙◌, subst, drop-drop}
-use Rattle.std.proofs.Common.{⊎_elim, arith, append_assoc, Option, Some, option_map}
+use Rattle.std.proofs.Common.{⊎_elim, arith, Option, Some, option_map}
 use Rattle.std.proofs.Math.Seq.{take-append_seam, drop-append_seam}
 use Rattle.merkle_base.specs.Hashing.{Hashing}
 use Rattle.merkle_base.specs.Places.{peaks_of, wholly_before}
@@ -10,7 +10,7 @@ use Rattle.merkle_base.specs.Tree.{Tree, leaf, join}
 use Rattle.merkle_base.proofs.PeakLists.{peaks_spans}
 use Rattle.merkle_root_theory.specs.Check.{RangeInput, chosen, leaf_given, in_range}
 use Rattle.merkle_root_theory.specs.Claim.{next}
-use Rattle.merkle_root_theory.specs.Expression.{Root, Bytes, Node, Expression, supplied, computed, value, visited}
+use Rattle.merkle_root_theory.specs.Expression.{Root, Bytes, Node, Expression, computed, value, visited}
 use Rattle.merkle_root_theory.specs.Layouts.{count_before, count_after}
 use Rattle.merkle_root_theory.specs.Plan.{siblings, tree_meets}
 use Rattle.merkle_root_theory.specs.Range.{end_of, overlapping, wholly_after, AcceptsNonempty}
@@ -32,7 +32,7 @@ use Rattle.merkle_pins_theory.specs.PinnedFolds.{pinned_over_inputs}
 use Rattle.merkle_pins_theory.proofs.PinnedInputs.{pinned_by_peaks, tree_value}
 use Rattle.merkle_pins_theory.proofs.PinnedTiers.{pins_tier, pinned_over_tier}
 use Rattle.merkle_walk_theory.specs.Compared.{found_among}
-use Rattle.merkle_walk_theory.specs.Walked.{pinned_over_claims, pinned_claims, sibling_digests}
+use Rattle.merkle_walk_theory.specs.Walked.{pinned_over_claims, pinned_claims}
 use Rattle.merkle_walk_theory.proofs.Walked.{walks_find_first}
 use Rattle.merkle_walks.specs.Compared.{IsCompared}
 use Rattle.merkle_walks.specs.Hashed.{fold_at, located}

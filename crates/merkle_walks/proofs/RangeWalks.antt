@@ -1,5 +1,5 @@
 -- What a check of a range claims of nodes, as a walk over them computes it.
-use Rattle.std.proofs.Common.{◌≡◌, ◌≢◌, ℕ, ◌+◌, ◌-◌, ◌<◌, ◌≤◌, Bool, true, false, cond, ◌||◌, List, [], ◌∷◌, ◌++◌, length, map, drop, get_or, slice_get, zero, suc, unwrap_or, Option, None, Some}
+use Rattle.std.proofs.Common.{◌≡◌, ◌≢◌, ℕ, ◌<◌, ◌≤◌, Bool, true, false, cond, List, [], ◌∷◌, ◌++◌, length, map, drop, get_or, slice_get, zero, suc, unwrap_or, Option, None, Some}
 use Rattle.std.proofs.Common.{refl, ap, ap₂, sym, ◌∙◌, arith, inr, append-nil, append_assoc, length-append, drop-drop}
 use Rattle.std.proofs.Math.Seq.{drop-nil}
 use Rattle.merkle_base.specs.Hashing.{Hashing}
@@ -14,12 +14,11 @@ use Rattle.merkle_root_theory.specs.Claim.{next}
 use Rattle.merkle_root_theory.specs.Collision.{Collision}
 use Rattle.merkle_root_theory.specs.Expression.{Node, Expression, supplied, computed, cross_checked, value}
 use Rattle.merkle_root_theory.specs.Plan.{siblings, tree_meets}
-use Rattle.merkle_root_theory.specs.Walk.{leaf_from}
 use Rattle.merkle_root_theory.proofs.PeakGroups.{meets_not, meets_yes}
 use Rattle.merkle_root_theory.proofs.Walks.{siblings_unmet, siblings_join}
 use Rattle.merkle_claim_theory.specs.FirstCollision.{or_else}
 use Rattle.merkle_claim_theory.specs.MultiClaim.{or_empty}
-use Rattle.merkle_claim_theory.specs.PinnedClaim.{pinned_or, pin_tree, outside_tree}
+use Rattle.merkle_claim_theory.specs.PinnedClaim.{pinned_or, pin_tree}
 use Rattle.merkle_walk_theory.specs.Compared.{found_over, found_in, found_among}
 use Rattle.merkle_walks.specs.Ranged.{outside_claim, claim_tree, claim_trees}
 

@@ -16,7 +16,8 @@ use Rattle.merkle_walks.specs.declared.top.Top.{Top}
 
 -- the top and the nodes are what is hashed for a claim on n leaves, xs, and what was found is its first difference at a node from the digests of
 -- children that f lists
-pub record IsCompared {F D : Type 0} (s : Scheme D) (n : ℕ) (xs : List (Input D)) (f : Tree → Option (D × D)) (t : Top F D) (found : Option (Collision F D)) : Type 0 where
+pub record IsCompared {F D : Type 0} (s : Scheme D) (n : ℕ) (xs : List (Input D)) (f : Tree → Option (D × D))
+    (t : Top F D) (found : Option (Collision F D)) : Type 0 where
   pub nodes : List (Input D)
   pub parts : xs ≡ top_of t ++ nodes
   pub above : AreOfTier 1 (map fold_at t.folds.items)

@@ -1,5 +1,5 @@
 -- What a check of a range claims of nodes, with pins or without.
-use Rattle.std.specs.Prelude.{ℕ, Bool, ◌||◌, cond, List, [], ◌∷◌, length, drop, Option, Some, None, option_map}
+use Rattle.std.specs.Prelude.{ℕ, Bool, ◌||◌, cond, List, [], ◌∷◌, length, drop, Option, Some, None}
 use Rattle.merkle_base.specs.Hashing.{Hashing}
 use Rattle.merkle_base.specs.Table.{digest_for}
 use Rattle.merkle_base.specs.Tree.{Tree, leaf, join}

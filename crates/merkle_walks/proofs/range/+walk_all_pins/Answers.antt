@@ -1,4 +1,4 @@
-use Rattle.std.proofs.Common.{arith, map, ◌∙◌}
+use Rattle.std.proofs.Common.{arith, ◌∙◌}
 use Rattle.merkle_root_theory.specs.Expression.{value}
 use Rattle.merkle_claim_theory.specs.PinnedClaim.{pin_tree}
 use Rattle.merkle_walks.specs.Ranged.{pin_in}

@@ -1,4 +1,4 @@
-use Rattle.std.proofs.Common.{Some, ap, sym, ◌∙◌}
+use Rattle.std.proofs.Common.{ap, sym, ◌∙◌}
 use Rattle.merkle_hasher.proofs.Comparisons.{ge_yes, ge_no}
 use Rattle.merkle_root_theory.specs.Check.{in_range}
 use Rattle.merkle_walks.specs.Ranged.{pin_in, pins_in, outside_given}
