@@ -1,25 +1,14 @@
 -- Leaves that are given with their elements.
-use Rattle.std.proofs.Common.{◌≡◌, ℕ, zero, suc, Bool, true, false, ◌||◌, ◌+◌, ◌<◌, ◌≤◌, nat_eq, List, [], ◌∷◌, ◌++◌, length, map, take, get_or, inl, inr, refl, ap, ap₂, sym, ◌∙◌, arith}
+use Rattle.std.proofs.Common.{◌≡◌, ℕ, ◌+◌, ◌<◌, ◌≤◌, List, [], ◌∷◌, ◌++◌, length, map, take, get_or, refl, ap, sym, ◌∙◌, arith}
 use Rattle.std.specs.Borrow.{Bor}
 use Rattle.std.specs.List.{AllByRecursion, list_any, range_with_len}
-use Rattle.std.specs.List.Sorted.{IsStrictlyIncreasing}
-use Rattle.std.proofs.lemmas.Bool.{eq-eqb, ne_eqb, or_right, cases_lt}
 use Rattle.std.proofs.lemmas.List.{map-append, take_more}
 use Rattle.merkle_base.specs.Forest.{size}
 use Rattle.merkle_base.specs.Hashing.{Hashing}
 use Rattle.merkle_base.specs.Places.{peaks_of}
-use Rattle.merkle_base.specs.Tree.{Tree, leaf, join, first_leaf, end_leaf, IsBuilt}
-use Rattle.merkle_base.proofs.Nodes.{width_pos}
-use Rattle.merkle_root_theory.specs.Plan.{tree_meets}
-use Rattle.merkle_forest_theory.specs.Ascending.{AscendsFrom}
 use Rattle.merkle_claim_theory.specs.Multiproof.{is_one_leaf_position, multi_positions}
-use Rattle.merkle_scattered.specs.Searched.{IsFirstFrom}
-use Rattle.merkle_scattered.proofs.Rises.{Rises}
-use Rattle.merkle_scattered.proofs.ScatteredElements.{met_at}
-use Rattle.merkle_scattered.proofs.ToldTable.{rises_weakly}
 use Rattle.merkle_proof.specs.Input.{by_location, digested}
 use Rattle.merkle_audit_theory.proofs.PeakInputs.{filter_none}
-use Rattle.merkle_walks.specs.Chosen.{is_among}
 
 -- ---- positions
 pub none_read : (rule : List ℕ → List ℕ) (n : ℕ) (is : List ℕ) → length is ≡ 0 → multi_positions rule n is ≡ []

@@ -1,6 +1,6 @@
 -- The batch of all leaves of a list, over the structure without leaves.
-use Rattle.std.proofs.Common.{◌≡◌, ℕ, ◌-◌, pred, suc, zero, Bool, false, not, cond, ◌&&◌, ◌==◌, nat_lt, le-ltb, List, [], ◌∷◌, ◌++◌, map, take, drop, length}
-use Rattle.std.proofs.Common.{fold, refl, ap, ap₂, sym, ◌∙◌, subst, arith, Option, Some, option_map, slice_get}
+use Rattle.std.proofs.Common.{◌≡◌, ℕ, ◌-◌, suc, Bool, false, not, cond, ◌&&◌, ◌==◌, nat_lt, le-ltb, List, [], ◌∷◌, ◌++◌, map, take, drop, length}
+use Rattle.std.proofs.Common.{refl, ap, ap₂, sym, ◌∙◌, subst, arith, Option, Some, option_map, slice_get}
 use Rattle.std.proofs.lemmas.Option.{slice_get-map}
 use Rattle.std.specs.FinMap.{get, len-empty}
 use Rattle.std.specs.Ordering.{nat_cmp}
@@ -12,8 +12,6 @@ use Rattle.merkle_base.specs.Hashing.{Hashing}
 use Rattle.merkle_base.specs.Places.{peaks_of}
 use Rattle.merkle_base.specs.Scheme.{Scheme}
 use Rattle.merkle_base.specs.Tree.{Tree, leaf, join, position, IsBuilt}
-use Rattle.merkle_base.specs.declared.family.Bagging.{Bagging}
-use Rattle.merkle_base.specs.declared.family.Bagging.TheVariants.{ForwardFold, BackwardFold}
 use Rattle.merkle_base.proofs.Lookup.{size_zero}
 use Rattle.merkle_base.proofs.PeakLists.{peaks_built}
 use Rattle.merkle_batch_theory.specs.Contents.{Contents, Agrees, AgreesWithOne}
@@ -26,7 +24,6 @@ use Rattle.merkle_hasher.specs.Subtrees.{subtree_of}
 use Rattle.merkle_hasher.specs.declared.subtree.Subtree.{Subtree}
 use Rattle.merkle_root_theory.specs.Expression.{Place, Input}
 use Rattle.merkle_root_theory.specs.Range.{list_inputs}
-use Rattle.merkle_audit_theory.specs.Folds.{left_inputs, joined_inputs, fold_inputs, numbered_inputs}
 use Rattle.merkle_audit_theory.specs.Searches.{input_at}
 use Rattle.merkle_audit_theory.specs.Seen.{children_of, Sees}
 use Rattle.merkle_audit_theory.proofs.SeenNodes.{list_sees}

@@ -9,7 +9,7 @@ use Rattle.merkle_claim_theory.specs.Verdict.{multi_inputs}
 use Rattle.merkle_proof.specs.Input.{digested, multi_digest_input_of, multi_input_of}
 use Rattle.merkle_proof.proofs.HasherLaws.{sound}
 use Rattle.merkle_audit_parts.specs.Found.{IsMultiVerdict}
-use Rattle.merkle_walks.proofs.GivenLeaves.{digested_locations, within_leaves}
+use Rattle.merkle_audit_parts.proofs.GivenElements.{digested_locations, within_leaves}
 use Rattle.merkle_audit_parts.proofs.Verdicts.{at_none, at_some, no_verdict, multi_no}
 use Rattle.merkle_audit.proofs.multi.audit_multi.Goals as goal
 

@@ -1,1 +1,0 @@
-use Rattle.merkle_audit.proofs.pair.audit_pair.Goals as goal

@@ -1,4 +1,4 @@
-use Rattle.std.proofs.Common.{◌≡◌, ◌≢◌, Ok, length, arith, ap, ◌∙◌}
+use Rattle.std.proofs.Common.{◌≢◌, Ok, arith, ap, ◌∙◌}
 use Rattle.std.proofs.lemmas.List.{length-map}
 use Rattle.std.proofs.lemmas.Result.{IfOk-weaker}
 use Rattle.merkle_base.specs.Scheme.{Scheme}

@@ -1,5 +1,5 @@
 use Rattle.std.proofs.Common.{arith, ap, sym, ◌∙◌}
-use Rattle.merkle_base.specs.Tree.{join, first_leaf}
+use Rattle.merkle_base.specs.Tree.{join}
 use Rattle.merkle_hasher.proofs.Comparisons.{le_yes, le_no, ge_yes, ge_no}
 use Rattle.merkle_audit_parts.specs.PinnedClaimed.{digest_given, pin_in}
 use Rattle.merkle_audit_parts.proofs.PinnedWalks.{children_pinned, children_rebuilt, children_after, children_over}
