@@ -1,12 +1,13 @@
 //! The structure that the lines work on.
 ghost use Rattle.std.specs.Prelude.{◌≡◌, ◌<◌, ◌≤◌, ◌+◌, ◌++◌, ◌∷◌, [], ℕ, List, Option, None, length, vec_len, vec_capacity, IfOk, OnOk, IsOkUnless};
+ghost use Rattle.merkle_base.specs.Scheme.{scheme_of};
 ghost use Rattle.merkle_commands.specs.Commands.{IsCommand};
 ghost use Rattle.merkle_commands.specs.Words.{IsHexWord};
 ghost use Rattle.merkle_leaves.specs.Standard.{standard};
 ghost use Rattle.merkle_lines.specs.AnswerText.{answer_text};
-ghost use Rattle.merkle_lines.specs.Answering.{Holds, AnswersRequest, AnswersUnchanged};
+ghost use Rattle.merkle_lines.specs.Answers.{IsRequestAnswered};
 ghost use Rattle.merkle_lines.specs.StructureState.{StructureState, changes, empty_structure};
-ghost use Rattle.merkle_lines.specs.Held.{Makes, edited};
+ghost use Rattle.merkle_lines.specs.Held.{IsStructureHeld, Makes, edited};
 ghost use Rattle.merkle_hasher.specs.LeafDigests.{leaf_digests};
 
 use crate::answer::{Answer, Named, or_fault};
@@ -65,7 +66,8 @@ impl<F: Family, H: PlainHasher> Structure<F, H> {
     // Creates an empty structure without a pending batch.
     pub(crate) fn new(alloc: Global, bagging: Bagging) -> Self
         ensures kind { result.hasher ≡ bagging }
-        ensures held { Holds (standard H.digest_of H.Digest.bytes H.Digest.eq H.Digest.EMPTY) F.rule F.MAX_LEAVES result empty_structure }
+        ensures held { IsStructureHeld (standard H.digest_of H.Digest.bytes H.Digest.eq H.Digest.EMPTY)
+            F.rule F.MAX_LEAVES result.committed result.pending result.list.items result.edits.items empty_structure }
     {
         Structure {
             hasher: Standard::new(bagging),
@@ -83,11 +85,11 @@ impl<F: Family, H: PlainHasher> Structure<F, H> {
         ensures kept { self.new.committed ≡ self.old.committed }
         ensures gone { self.new.pending ≡ None }
         ensures listed { self.new.list.items ≡ self.old.list.items }
-        ensures edits { let h = standard H.digest_of H.Digest.bytes H.Digest.eq H.Digest.EMPTY in
-            (g : StructureState) → Holds h F.rule F.MAX_LEAVES self.old g
+        ensures edits { let h = standard H.digest_of H.Digest.bytes H.Digest.eq H.Digest.EMPTY in (g : StructureState)
+            → IsStructureHeld h F.rule F.MAX_LEAVES self.old.committed self.old.pending self.old.list.items self.old.edits.items g
             → edited self.new.list.items self.new.edits.items ≡ leaf_digests h F.rule 0 (changes g).elements }
-        ensures batch { let h = standard H.digest_of H.Digest.bytes H.Digest.eq H.Digest.EMPTY in
-            IfOk result (λ b. (g : StructureState) → Holds h F.rule F.MAX_LEAVES self.old g
+        ensures batch { let h = standard H.digest_of H.Digest.bytes H.Digest.eq H.Digest.EMPTY in IfOk result (λ b. (g : StructureState)
+            → IsStructureHeld h F.rule F.MAX_LEAVES self.old.committed self.old.pending self.old.list.items self.old.edits.items g
             → Makes h F.rule (leaf_digests h F.rule 0 g.committed) b (changes g)) }
         ensures refused { IsOkUnless result Error.OutOfMemory }
     {
@@ -116,9 +118,11 @@ impl<F: Family, H: PlainHasher> Structure<F, H> {
 
     fn add(&mut self, alloc: Global, digits: &str) -> Answer
         ensures kind { self.new.hasher ≡ self.old.hasher }
-        ensures answered { let h = standard H.digest_of H.Digest.bytes H.Digest.eq H.Digest.EMPTY in IsHexWord digits.entry.now
-            → AnswersRequest h F.rule F.MAX_LEAVES F.DOMAIN H.Digest.SIZE H.Digest.Spells
-            self.old (Request.Add digits.entry) self.new (answer_text result) }
+        ensures answered { let h = standard H.digest_of H.Digest.bytes H.Digest.eq H.Digest.EMPTY in (g : StructureState) → IsHexWord digits.entry.now
+            → IsStructureHeld h F.rule F.MAX_LEAVES self.old.committed self.old.pending self.old.list.items self.old.edits.items g → (u : StructureState)
+            × IsStructureHeld h F.rule F.MAX_LEAVES self.new.committed self.new.pending self.new.list.items self.new.edits.items u
+            × IsRequestAnswered (scheme_of h self.old.hasher F.rule F.MAX_LEAVES F.DOMAIN) H.Digest.SIZE H.Digest.Spells
+            g (Request.Add digits.entry) u (answer_text result) }
     {
         let batch = or_fault!(self.take_pending());
         let element = or_fault!(read_hex(alloc, digits));
@@ -133,9 +137,11 @@ impl<F: Family, H: PlainHasher> Structure<F, H> {
 
     fn update(&mut self, alloc: Global, location: u64, digits: &str) -> Answer
         ensures kind { self.new.hasher ≡ self.old.hasher }
-        ensures answered { let h = standard H.digest_of H.Digest.bytes H.Digest.eq H.Digest.EMPTY in IsHexWord digits.entry.now
-            → AnswersRequest h F.rule F.MAX_LEAVES F.DOMAIN H.Digest.SIZE H.Digest.Spells
-            self.old (Request.Update location digits.entry) self.new (answer_text result) }
+        ensures answered { let h = standard H.digest_of H.Digest.bytes H.Digest.eq H.Digest.EMPTY in (g : StructureState) → IsHexWord digits.entry.now
+            → IsStructureHeld h F.rule F.MAX_LEAVES self.old.committed self.old.pending self.old.list.items self.old.edits.items g → (u : StructureState)
+            × IsStructureHeld h F.rule F.MAX_LEAVES self.new.committed self.new.pending self.new.list.items self.new.edits.items u
+            × IsRequestAnswered (scheme_of h self.old.hasher F.rule F.MAX_LEAVES F.DOMAIN) H.Digest.SIZE H.Digest.Spells
+            g (Request.Update location digits.entry) u (answer_text result) }
     {
         let batch = or_fault!(self.take_pending());
         let element = or_fault!(read_hex(alloc, digits));
@@ -153,9 +159,11 @@ impl<F: Family, H: PlainHasher> Structure<F, H> {
 
     fn commit(&mut self) -> Answer
         ensures kind { self.new.hasher ≡ self.old.hasher }
-        ensures answered { let h = standard H.digest_of H.Digest.bytes H.Digest.eq H.Digest.EMPTY in
-            AnswersRequest h F.rule F.MAX_LEAVES F.DOMAIN H.Digest.SIZE H.Digest.Spells
-            self.old Request.Commit self.new (answer_text result) }
+        ensures answered { let h = standard H.digest_of H.Digest.bytes H.Digest.eq H.Digest.EMPTY in (g : StructureState)
+            → IsStructureHeld h F.rule F.MAX_LEAVES self.old.committed self.old.pending self.old.list.items self.old.edits.items g → (u : StructureState)
+            × IsStructureHeld h F.rule F.MAX_LEAVES self.new.committed self.new.pending self.new.list.items self.new.edits.items u
+            × IsRequestAnswered (scheme_of h self.old.hasher F.rule F.MAX_LEAVES F.DOMAIN) H.Digest.SIZE H.Digest.Spells
+            g Request.Commit u (answer_text result) }
     {
         let batch = or_fault!(self.take_pending());
         let merkleized = or_fault!(batch.merkleize(&self.committed, &self.hasher));
@@ -172,9 +180,11 @@ impl<F: Family, H: PlainHasher> Structure<F, H> {
 
     fn prune(&mut self, location: u64) -> Answer
         ensures kind { self.new.hasher ≡ self.old.hasher }
-        ensures answered { let h = standard H.digest_of H.Digest.bytes H.Digest.eq H.Digest.EMPTY in
-            AnswersRequest h F.rule F.MAX_LEAVES F.DOMAIN H.Digest.SIZE H.Digest.Spells
-            self.old (Request.Prune location) self.new (answer_text result) }
+        ensures answered { let h = standard H.digest_of H.Digest.bytes H.Digest.eq H.Digest.EMPTY in (g : StructureState)
+            → IsStructureHeld h F.rule F.MAX_LEAVES self.old.committed self.old.pending self.old.list.items self.old.edits.items g → (u : StructureState)
+            × IsStructureHeld h F.rule F.MAX_LEAVES self.new.committed self.new.pending self.new.list.items self.new.edits.items u
+            × IsRequestAnswered (scheme_of h self.old.hasher F.rule F.MAX_LEAVES F.DOMAIN) H.Digest.SIZE H.Digest.Spells
+            g (Request.Prune location) u (answer_text result) }
     {
         or_fault!(self.committed.prune(Location::new(location)));
         Answer::Pruned {
@@ -184,18 +194,20 @@ impl<F: Family, H: PlainHasher> Structure<F, H> {
     }
 
     fn root(&self, alloc: Global, inactive: usize) -> Answer
-        ensures { let h = standard H.digest_of H.Digest.bytes H.Digest.eq H.Digest.EMPTY in
-            AnswersUnchanged h F.rule F.MAX_LEAVES F.DOMAIN H.Digest.SIZE H.Digest.Spells
-            self.now (Request.Root inactive) (answer_text result) }
+        ensures { let h = standard H.digest_of H.Digest.bytes H.Digest.eq H.Digest.EMPTY in (g : StructureState)
+            → IsStructureHeld h F.rule F.MAX_LEAVES self.now.committed self.now.pending self.now.list.items self.now.edits.items g
+            → IsRequestAnswered (scheme_of h self.now.hasher F.rule F.MAX_LEAVES F.DOMAIN) H.Digest.SIZE H.Digest.Spells
+            g (Request.Root inactive) g (answer_text result) }
     {
         let root = or_fault!(self.committed.root(&self.hasher, inactive));
         Answer::Digits(or_fault!(write_hex(alloc, root.as_bytes())))
     }
 
     fn prove(&self, alloc: Global, start: u64, end: u64, inactive: usize) -> Answer
-        ensures { let h = standard H.digest_of H.Digest.bytes H.Digest.eq H.Digest.EMPTY in
-            AnswersUnchanged h F.rule F.MAX_LEAVES F.DOMAIN H.Digest.SIZE H.Digest.Spells
-            self.now (Request.Prove start end inactive) (answer_text result) }
+        ensures { let h = standard H.digest_of H.Digest.bytes H.Digest.eq H.Digest.EMPTY in (g : StructureState)
+            → IsStructureHeld h F.rule F.MAX_LEAVES self.now.committed self.now.pending self.now.list.items self.now.edits.items g
+            → IsRequestAnswered (scheme_of h self.now.hasher F.rule F.MAX_LEAVES F.DOMAIN) H.Digest.SIZE H.Digest.Spells
+            g (Request.Prove start end inactive) g (answer_text result) }
     {
         let range = Location::new(start)..Location::new(end);
         let proof = or_fault!(self.committed.range_proof(&self.hasher, range, inactive));
@@ -207,9 +219,12 @@ impl<F: Family, H: PlainHasher> Structure<F, H> {
     // Carries out a request, and returns its answer.
     pub(crate) fn answer(&mut self, alloc: Global, request: Request<'_>) -> Answer
         ensures kind { self.new.hasher ≡ self.old.hasher }
-        ensures answered { let h = standard H.digest_of H.Digest.bytes H.Digest.eq H.Digest.EMPTY in IsCommand (Command.Ask request.entry)
-            → AnswersRequest h F.rule F.MAX_LEAVES F.DOMAIN H.Digest.SIZE H.Digest.Spells
-            self.old request.entry self.new (answer_text result) }
+        ensures answered { let h = standard H.digest_of H.Digest.bytes H.Digest.eq H.Digest.EMPTY in (g : StructureState)
+            → IsCommand (Command.Ask request.entry)
+            → IsStructureHeld h F.rule F.MAX_LEAVES self.old.committed self.old.pending self.old.list.items self.old.edits.items g → (u : StructureState)
+            × IsStructureHeld h F.rule F.MAX_LEAVES self.new.committed self.new.pending self.new.list.items self.new.edits.items u
+            × IsRequestAnswered (scheme_of h self.old.hasher F.rule F.MAX_LEAVES F.DOMAIN) H.Digest.SIZE H.Digest.Spells
+            g request.entry u (answer_text result) }
     {
         match request {
             Request::Add(digits) => self.add(alloc, digits),

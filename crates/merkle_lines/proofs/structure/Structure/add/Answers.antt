@@ -16,7 +16,7 @@ use Rattle.merkle_commands.specs.declared.command.Request.TheVariants.{Add}
 use Rattle.merkle_lines.proofs.structure.Structure.add.Goals as goal
 
 pub returns-in-Err-clause-answered : goal.returns-in-Err-clause-answered
-returns-in-Err-clause-answered g c = λ word given held.
+returns-in-Err-clause-answered g c = λ given word held.
     let h : Hashing g.row.H-Digest.Denot = standard g.H.PlainHasher.digest_of g.H.Digest.Digest.bytes g.H.Digest.PartialEq.eq g.H.Digest.Digest.EMPTY in
     let rule = g.F.Family.rule in
     let most = g.F.Family.MAX_LEAVES in
@@ -29,7 +29,7 @@ returns-in-Err-clause-answered g c = λ word given held.
     )
 
 pub returns-in-Err-read_hex-clause-answered : goal.returns-in-Err-read_hex-clause-answered
-returns-in-Err-read_hex-clause-answered g c = λ word given held.
+returns-in-Err-read_hex-clause-answered g c = λ given word held.
     let h : Hashing g.row.H-Digest.Denot = standard g.H.PlainHasher.digest_of g.H.Digest.Digest.bytes g.H.Digest.PartialEq.eq g.H.Digest.Digest.EMPTY in
     let rule = g.F.Family.rule in
     let most = g.F.Family.MAX_LEAVES in
@@ -43,7 +43,7 @@ returns-in-Err-read_hex-clause-answered g c = λ word given held.
     )
 
 pub returns-in-Err-add_leaf_digest-clause-answered : goal.returns-in-Err-add_leaf_digest-clause-answered
-returns-in-Err-add_leaf_digest-clause-answered g c = λ word given held.
+returns-in-Err-add_leaf_digest-clause-answered g c = λ given word held.
     let h : Hashing g.row.H-Digest.Denot = standard g.H.PlainHasher.digest_of g.H.Digest.Digest.bytes g.H.Digest.PartialEq.eq g.H.Digest.Digest.EMPTY in
     let rule = g.F.Family.rule in
     let most = g.F.Family.MAX_LEAVES in
@@ -62,7 +62,7 @@ returns-in-Err-add_leaf_digest-clause-answered g c = λ word given held.
     )
 
 pub returns-in-Err-keep-clause-answered : goal.returns-in-Err-keep-clause-answered
-returns-in-Err-keep-clause-answered g c = λ word given held.
+returns-in-Err-keep-clause-answered g c = λ given word held.
     let h : Hashing g.row.H-Digest.Denot = standard g.H.PlainHasher.digest_of g.H.Digest.Digest.bytes g.H.Digest.PartialEq.eq g.H.Digest.Digest.EMPTY in
     let rule = g.F.Family.rule in
     let most = g.F.Family.MAX_LEAVES in
@@ -75,7 +75,7 @@ returns-in-Err-keep-clause-answered g c = λ word given held.
     )
 
 pub returns-clause-answered : goal.returns-clause-answered
-returns-clause-answered g c = λ word given held.
+returns-clause-answered g c = λ given word held.
     let h : Hashing g.row.H-Digest.Denot = standard g.H.PlainHasher.digest_of g.H.Digest.Digest.bytes g.H.Digest.PartialEq.eq g.H.Digest.Digest.EMPTY in
     let rule = g.F.Family.rule in
     let most = g.F.Family.MAX_LEAVES in

@@ -8,7 +8,7 @@ use Rattle.merkle_lines.specs.AnswerText.{answer_text}
 use Rattle.merkle_lines.proofs.structure.Structure.answer.Goals as goal
 
 pub returns-in-Prove-clause-answered : goal.returns-in-Prove-clause-answered
-returns-in-Prove-clause-answered g c = λ allowed given held. (
+returns-in-Prove-clause-answered g c = λ given allowed held. (
   given,
   held,
   subst (λ r. IsRequestAnswered
@@ -18,7 +18,7 @@ returns-in-Prove-clause-answered g c = λ allowed given held. (
 )
 
 pub returns-in-Check-clause-answered : goal.returns-in-Check-clause-answered
-returns-in-Check-clause-answered g c = λ allowed given held.
+returns-in-Check-clause-answered g c = λ given allowed held.
     let a = subst (λ r. IsCommand (Ask r)) c.in-Check.is allowed in
     let checked = c.check.ensures a.2.0 a.3.0 a.4 in (
       given,
@@ -30,7 +30,7 @@ returns-in-Check-clause-answered g c = λ allowed given held.
     )
 
 pub returns-in-Audit-clause-answered : goal.returns-in-Audit-clause-answered
-returns-in-Audit-clause-answered g c = λ allowed given held.
+returns-in-Audit-clause-answered g c = λ given allowed held.
     let a = subst (λ r. IsCommand (Ask r)) c.in-Audit.is allowed in
     let audited = c.audit.ensures given (c.deref.ensures.value ∙ held.listed) held.bounded a.2.0 a.3 in (
       given,
